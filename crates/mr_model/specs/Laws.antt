@@ -1,0 +1,315 @@
+-- The laws of the definitions, as statements.
+use Rattle.std.specs.Prelude.{◌≡◌, ℕ, ◌+◌, ◌≤◌, ◌<◌, length, true, ◌↔◌, ◌⊎◌, List, [], ◌∷◌, ◌++◌, take, map, filter_map, Some, None, Ok, Err, slice_get, IsTrue}
+use Rattle.mr_model.specs.Texts.{Text, lines_text, whole_lines}
+use Rattle.mr_model.specs.Calendar.{Date, is_date, next_date, number_of_day}
+use Rattle.mr_model.specs.Slots.{Slot, Overlap, overlaps}
+use Rattle.mr_model.specs.Writes.{Id, Write, is_server, is_write, same_write}
+use Rattle.mr_model.specs.Refusals.{BadLine, NoSuchRequest, first_refusal}
+use Rattle.mr_model.specs.Replay.{Place, IsReplay, place_among, replay_among, replay}
+use Rattle.mr_model.specs.Replica.{Replica, opening, count_of, committed_count, order_of, knows_room, IsReplica}
+use Rattle.mr_model.specs.Exchange.{Batch, is_batch, batch_lines, batch_text, ReadsAs, IsFirstBadLine, read_batch, lines_within, front_of}
+use Rattle.mr_model.specs.Positions.{Position, position_of, is_position, position_text, read_position}
+use Rattle.mr_model.specs.Replies.{Reply, OutcomeIs, Refused}
+use Rattle.mr_model.specs.View.{Question, of_room, view_of, whole_list, committed_list, entries, logging_of, told_of, outcome_reply, answer}
+use Rattle.mr_model.specs.Step.{Command, Ask, Submission, submit_faults, next_stamp, write_of, outcome_at, batch_of, step, IsStep, IsOfMachine, IsRun, BatchFor, batch_reply}
+use Rattle.mr_model.specs.Tables.{Tables, BookingRow, ErrorRow, booking_row, error_row, place_of, tables_of}
+use Rattle.mr_model.specs.Dropped.{Has, DifferInDropped}
+use Rattle.mr_model.specs.Board.{RoomBooking, after, bookings_in, place_on, booked_on, replay_on, board_replay, board_after, places_of_room}
+use Rattle.mr_model.specs.Kept.{KeptIsTheLog}
+use Rattle.mr_model.specs.Queries.{row_entry, row_logging, booking_id, error_id, booked_outcome, logged_outcome, AreInStartOrder, AreInLogOrder, AreBookingsOf, AreCommittedBookingsOf, AreErrorsOf}
+use Rattle.mr_model.specs.Changes.{AreInKeyOrder, HasRowsOfKnown, HaveSameRows, AreSameTables, IsNext, WriteInserted, CommitMoved, SubmitChanges, CommitChanges, TruncateChanges}
+
+-- two slots overlap exactly where the test says so
+abbrev pub OverlapIsTested : Type 0
+OverlapIsTested = (a : Slot) (m : ℕ) (b : Slot) (n : ℕ) → (overlaps a m b n ≡ true) ↔ Overlap a m b n
+
+-- for each list of writes exactly one list of places is its replay: the one that the function gives
+abbrev pub OneReplay : Type 0
+OneReplay = (writes : List Write) (places : List Place) → IsReplay writes places ↔ (places ≡ replay writes)
+
+-- the places of a front of a list are a front of its places
+abbrev pub FrontsReplayToFronts : Type 0
+FrontsReplayToFronts = (n : ℕ) (writes : List Write) → replay (take n writes) ≡ take n (replay writes)
+
+-- a reply about a room is the answer of the replica's view of it, unless memory or the store failed
+abbrev pub RepliesAreAnswers : Type 0
+RepliesAreAnswers =
+    (old new : Replica) (room : Text) (question : Question) (reply : Reply)
+    → IsStep old (Ask room question) reply new → (reply ≡ answer room (view_of old room) question) ⊎ IsOfMachine reply
+
+-- replicas with the same view of a room answer alike about it, whatever else they know
+abbrev pub EqualViewsAnswerAlike : Type 0
+EqualViewsAnswerAlike =
+    (a b : Replica) (room : Text) (question : Question)
+    → view_of a room ≡ view_of b room → (step a (Ask room question)).reply ≡ (step b (Ask room question)).reply
+
+-- an opening replica holds what every replica holds, and so does each that steps lead to
+abbrev pub OpeningsAreReplicas : Type 0
+OpeningsAreReplicas = (server primary : ℕ) → IsTrue (is_server server) → IsTrue (is_server primary) → IsReplica (opening server primary)
+
+abbrev pub StepsKeepReplicas : Type 0
+StepsKeepReplicas = (old new : Replica) (command : Command) (reply : Reply) → IsReplica old → IsStep old command reply new → IsReplica new
+
+abbrev pub RunsKeepReplicas : Type 0
+RunsKeepReplicas =
+    (old new : Replica) (commands : List Command) (replies : List Reply)
+    → IsReplica old → IsRun old commands replies new → IsReplica new
+
+-- in a run, each reply about a room is the answer of the view at the replica that the commands before have led to
+abbrev pub RunsAnswer : Type 0
+RunsAnswer =
+    (old new : Replica) (commands : List Command) (replies : List Reply) (i : ℕ) (room : Text) (question : Question) (reply : Reply)
+    → IsRun old commands replies new → slice_get commands i ≡ Some (Ask room question) → slice_get replies i ≡ Some reply
+    → (at : Replica) × IsRun old (take i commands) (take i replies) at
+    × ((reply ≡ answer room (view_of at room) question) ⊎ IsOfMachine reply)
+
+-- no text is that of two batches
+abbrev pub OneBatchAText : Type 0
+OneBatchAText = (a b : Batch) → is_batch a ≡ true → is_batch b ≡ true → batch_text a ≡ batch_text b → a ≡ b
+
+-- reading gives a batch exactly where the bytes read as it
+abbrev pub ReadingIsExact : Type 0
+ReadingIsExact = (bytes : Text) (b : Batch) → (read_batch bytes ≡ Ok b) ↔ ReadsAs bytes b
+
+-- it answers a bad line exactly where that is the first that is not of its place
+abbrev pub BadLineIsFirst : Type 0
+BadLineIsFirst = (bytes : Text) (i : ℕ) → (read_batch bytes ≡ Err (BadLine i)) ↔ IsFirstBadLine bytes i
+
+-- writes are told apart by all their parts
+abbrev pub SameWriteIsTested : Type 0
+SameWriteIsTested = (a b : Write) → (same_write a b ≡ true) ↔ (a ≡ b)
+
+-- 1990-01-01 is day 0, and each day has the number after that of the day before
+abbrev pub DaysAreNumbered : Type 0
+DaysAreNumbered =
+    (number_of_day (record { year = 1990; month = 1; day = 1 }) ≡ 0)
+    × ((d : Date) → is_date d ≡ true → number_of_day (next_date d) ≡ number_of_day d + 1)
+
+-- ---- tables
+
+-- replicas have the same tables exactly where they differ in dropped writes alone, in what no table keeps of these
+abbrev pub TablesKeepAllButDropped : Type 0
+TablesKeepAllButDropped = (a b : Replica) → IsReplica a → IsReplica b → (tables_of a ≡ tables_of b) ↔ DifferInDropped a b
+
+-- replicas with the same tables reply alike to every command
+abbrev pub EqualTablesEqualReplies : Type 0
+EqualTablesEqualReplies =
+    (a b : Replica) (command : Command) → IsReplica a → IsReplica b
+    → tables_of a ≡ tables_of b → (step a command).reply ≡ (step b command).reply
+
+-- and have the same tables after it
+abbrev pub EqualTablesStayEqual : Type 0
+EqualTablesStayEqual =
+    (a b : Replica) (command : Command) → IsReplica a → IsReplica b
+    → tables_of a ≡ tables_of b → tables_of (step a command).replica ≡ tables_of (step b command).replica
+
+-- what one run of commands replies, another replica with the same tables may reply too, and the tables are the same at the end
+abbrev pub EqualTablesEqualRuns : Type 0
+EqualTablesEqualRuns =
+    (a b end : Replica) (commands : List Command) (replies : List Reply) → IsReplica a → IsReplica b
+    → tables_of a ≡ tables_of b → IsRun a commands replies end
+    → (other : Replica) × IsRun b commands replies other × (tables_of end ≡ tables_of other)
+
+-- the rows of each table of requests stand by rising id, none twice
+abbrev pub TablesStandInKeyOrder : Type 0
+TablesStandInKeyOrder = (r : Replica) → IsReplica r → AreInKeyOrder (tables_of r)
+
+-- its rows are those of the known writes
+abbrev pub TablesHaveRowsOfKnown : Type 0
+TablesHaveRowsOfKnown = (r : Replica) → IsReplica r → HasRowsOfKnown r
+
+-- tables in the order of their keys are the same where they have the same rows
+abbrev pub SameRowsSameTables : Type 0
+SameRowsSameTables = (a b : Tables) → AreInKeyOrder a → AreInKeyOrder b → HaveSameRows a b → AreSameTables a b
+
+-- the log, sorted, is the kept writes in their order
+abbrev pub LogsKeepTheOrder : Type 0
+LogsKeepTheOrder = (r : Replica) → IsReplica r → KeptIsTheLog r
+
+-- ---- the board
+
+-- executing writes of all rooms one after the other and taking a room's part is replaying that part alone
+abbrev pub RoomsReplayApart : Type 0
+RoomsReplayApart = (room : Text) (writes : List Write) → places_of_room room writes (board_replay writes) ≡ replay (of_room room writes)
+
+-- and the board then has of the room what its own writes booked
+abbrev pub RoomsAreBookedApart : Type 0
+RoomsAreBookedApart = (room : Text) (writes : List Write) → bookings_in room (board_after [] writes) ≡ after [] (of_room room writes)
+
+-- from any board on
+abbrev pub RoomsReplayApartOnBoards : Type 0
+RoomsReplayApartOnBoards =
+    (room : Text) (board : List RoomBooking) (writes : List Write)
+    → (places_of_room room writes (replay_on board writes) ≡ replay_among (bookings_in room board) (of_room room writes))
+    × (bookings_in room (board_after board writes) ≡ after (bookings_in room board) (of_room room writes))
+
+-- the places of a replica's writes are those that its order has on the board
+abbrev pub PlacesAreTheBoards : Type 0
+PlacesAreTheBoards = (r : Replica) → IsReplica r → map (place_of r) (order_of r) ≡ board_replay (order_of r)
+
+-- one write more goes to its first free choice among the bookings of those before, which stay
+abbrev pub OneWriteMore : Type 0
+OneWriteMore = (writes : List Write) (w : Write) → replay (writes ++ w ∷ []) ≡ replay writes ++ place_among (after [] writes) w ∷ []
+
+abbrev pub OneMoreOnTheBoard : Type 0
+OneMoreOnTheBoard =
+    (board : List RoomBooking) (writes : List Write) (w : Write)
+    → (replay_on board (writes ++ w ∷ []) ≡ replay_on board writes ++ place_on (board_after board writes) w ∷ [])
+    × (board_after board (writes ++ w ∷ []) ≡ booked_on (board_after board writes) w (place_on (board_after board writes) w))
+
+-- writes that are executed behind others find these others' board
+abbrev pub MoreOnTheBoard : Type 0
+MoreOnTheBoard =
+    (board : List RoomBooking) (before more : List Write)
+    → (replay_on board (before ++ more) ≡ replay_on board before ++ replay_on (board_after board before) more)
+    × (board_after board (before ++ more) ≡ board_after (board_after board before) more)
+
+-- with the last writes undone the others keep their places
+abbrev pub FrontsOnTheBoard : Type 0
+FrontsOnTheBoard = (n : ℕ) (board : List RoomBooking) (writes : List Write) → replay_on board (take n writes) ≡ take n (replay_on board writes)
+
+-- ---- changes
+
+-- the next write of a replica becomes the last of its order, and moves no other
+abbrev pub SubmissionsComeLast : Type 0
+SubmissionsComeLast =
+    (r : Replica) (w : Write) → IsReplica r → IsTrue (is_write w) → w.stamp ≡ next_stamp r → knows_room r w.room ≡ true → SubmitChanges r w
+
+-- the next write of a server comes among the tentative ones by its stamp
+abbrev pub WritesAreInserted : Type 0
+WritesAreInserted = (r : Replica) (w : Write) → IsReplica r → IsNext r w → WriteInserted r w
+
+-- the next commit takes its write from the tentative ones to the end of the committed
+abbrev pub CommitsMoveOne : Type 0
+CommitsMoveOne =
+    (r : Replica) (id : Id) → IsReplica r → id.n ≡ committed_count r id.server + 1 → id.n ≤ count_of r id.server → CommitMoved r id
+
+-- a commit of the first tentative writes moves none
+abbrev pub CommitsMoveNothing : Type 0
+CommitsMoveNothing = (r : Replica) (k : ℕ) → IsReplica r → CommitChanges r k
+
+-- a truncation takes rows of log and undo away, and nothing else
+abbrev pub TruncationsTakeRows : Type 0
+TruncationsTakeRows = (r : Replica) (n : ℕ) → IsReplica r → TruncateChanges r n
+
+-- ---- positions and batches of a replica
+
+-- a position is read exactly of its own text
+abbrev pub PositionsAreReadExactly : Type 0
+PositionsAreReadExactly =
+    (bytes : Text) (p : Position) → (read_position bytes ≡ Some p) ↔ ((is_position p ≡ true) × (bytes ≡ position_text p))
+
+-- a replica's position is within the limits, and read back
+abbrev pub OwnPositionIsReadBack : Type 0
+OwnPositionIsReadBack =
+    (r : Replica) → IsReplica r
+    → (is_position (position_of r) ≡ true) × (read_position (position_text (position_of r)) ≡ Some (position_of r))
+
+-- so is each batch that a replica makes, for any position
+abbrev pub OwnBatchIsReadBack : Type 0
+OwnBatchIsReadBack =
+    (r : Replica) (p : Position) (max_lines : ℕ) → IsReplica r
+    → (is_batch (batch_of r p max_lines) ≡ true) × (read_batch (batch_text (batch_of r p max_lines)) ≡ Ok (batch_of r p max_lines))
+
+-- ---- fronts of a batch's text
+
+-- the first n bytes read as the lines that are whole in them
+abbrev pub FrontsReadAsWholeLines : Type 0
+FrontsReadAsWholeLines =
+    (n : ℕ) (b : Batch) → is_batch b ≡ true
+    → (whole_lines (take n (batch_text b)) ≡ take (lines_within n (batch_lines b)) (batch_lines b))
+    × (read_batch (take n (batch_text b)) ≡ Ok (front_of (lines_within n (batch_lines b)) b))
+
+-- the first lines of a batch are those of a batch with a front of its items
+abbrev pub FrontsAreBatches : Type 0
+FrontsAreBatches =
+    (n : ℕ) (b : Batch) → is_batch b ≡ true
+    → (is_batch (front_of n b) ≡ true) × (batch_lines (front_of n b) ≡ take n (batch_lines b))
+    × ((k : ℕ) × ((front_of n b).items ≡ take k b.items))
+
+-- these lines fit into n bytes, and one more does not
+abbrev pub WholeLinesFit : Type 0
+WholeLinesFit =
+    (n : ℕ) (ls : List Text)
+    → (length (lines_text (take (lines_within n ls) ls)) ≤ n)
+    × (lines_within n ls < length ls → n < length (lines_text (take (lines_within n ls + 1) ls)))
+
+-- ---- answers read off the rows
+
+-- each known write has one row in booking or in errorlog, and not in both
+abbrev pub EachWriteHasOneRow : Type 0
+EachWriteHasOneRow =
+    (r : Replica) (w : Write) → IsReplica r → Has w r.known
+    → ((row : BookingRow) × (booking_row r w ≡ Some row) × (error_row r w ≡ None))
+    ⊎ ((row : ErrorRow) × (error_row r w ≡ Some row) × (booking_row r w ≡ None))
+
+-- the full calendar of a room: its booking rows, by day and start
+abbrev pub CalendarsAreBookingRows : Type 0
+CalendarsAreBookingRows =
+    (r : Replica) (room : Text) (rows : List BookingRow) → IsReplica r → AreInStartOrder rows → AreBookingsOf r room rows
+    → entries (whole_list (view_of r room)) ≡ map row_entry rows
+
+-- the committed one: those of them that have the mark
+abbrev pub CommittedCalendarsAreMarkedRows : Type 0
+CommittedCalendarsAreMarkedRows =
+    (r : Replica) (room : Text) (rows : List BookingRow) → IsReplica r → AreInStartOrder rows → AreCommittedBookingsOf r room rows
+    → entries (committed_list (view_of r room)) ≡ map row_entry rows
+
+-- the error log of a room: its error rows, in their order
+abbrev pub ErrorLogsAreErrorRows : Type 0
+ErrorLogsAreErrorRows =
+    (r : Replica) (room : Text) (rows : List ErrorRow) → IsReplica r → AreInLogOrder rows → AreErrorsOf r room rows
+    → filter_map logging_of (whole_list (view_of r room)) ≡ map row_logging rows
+
+-- an outcome: the row of the id, if one of this room has it
+abbrev pub OutcomesOfBookedAreRows : Type 0
+OutcomesOfBookedAreRows =
+    (r : Replica) (room : Text) (row : BookingRow) → IsReplica r → Has row (tables_of r).booking → row.room ≡ room
+    → outcome_reply (told_of (booking_id row) (whole_list (view_of r room))) ≡ OutcomeIs (booked_outcome row)
+
+abbrev pub OutcomesOfLoggedAreRows : Type 0
+OutcomesOfLoggedAreRows =
+    (r : Replica) (room : Text) (row : ErrorRow) → IsReplica r → Has row (tables_of r).errorlog → row.room ≡ room
+    → outcome_reply (told_of (error_id row) (whole_list (view_of r room))) ≡ OutcomeIs (logged_outcome row)
+
+abbrev pub NoRowNoSuchRequest : Type 0
+NoRowNoSuchRequest =
+    (r : Replica) (room : Text) (id : Id) → IsReplica r
+    → ((row : BookingRow) → Has row (tables_of r).booking → row.room ≡ room → ¬ (booking_id row ≡ id))
+    → ((row : ErrorRow) → Has row (tables_of r).errorlog → row.room ≡ room → ¬ (error_id row ≡ id))
+    → outcome_reply (told_of id (whole_list (view_of r room))) ≡ Refused NoSuchRequest
+
+-- the reply to a submission is told by the row of its write
+abbrev pub RepliesToSubmissionsAreRows : Type 0
+RepliesToSubmissionsAreRows =
+    (r : Replica) (w : Write) → IsReplica r → Has w r.known
+    → ((row : BookingRow) → booking_row r w ≡ Some row → outcome_at r w ≡ OutcomeIs (booked_outcome row))
+    × ((row : ErrorRow) → error_row r w ≡ Some row → outcome_at r w ≡ OutcomeIs (logged_outcome row))
+
+-- a submission that nothing refuses makes the next write of the replica, of a room that it knows
+abbrev pub AcceptedSubmissionsAreNext : Type 0
+AcceptedSubmissionsAreNext =
+    (r : Replica) (s : Submission) → IsReplica r → first_refusal (submit_faults r s) ≡ None
+    → IsTrue (is_write (write_of r s)) × ((write_of r s).stamp ≡ next_stamp r) × (knows_room r s.room ≡ true)
+
+-- ---- positions and fronts, as a world needs them
+
+-- any front of a batch's text reads as the whole lines in it, which are a front of the batch's
+abbrev pub FrontsReadAsFronts : Type 0
+FrontsReadAsFronts =
+    (b : Batch) (j : ℕ) → is_batch b ≡ true
+    → (c : Batch) × (n : ℕ) × ReadsAs (take j (batch_text b)) c × (batch_lines c ≡ take n (batch_lines b))
+
+-- a replica's position is within the limits, and exactly the texts of such positions are read
+abbrev pub PositionsAreWithin : Type 0
+PositionsAreWithin = (r : Replica) → IsReplica r → is_position (position_of r) ≡ true
+
+abbrev pub ReadingPositionsIsExact : Type 0
+ReadingPositionsIsExact =
+    (bytes : Text) (p : Position) → (read_position bytes ≡ Some p) ↔ ((is_position p ≡ true) × (bytes ≡ position_text p))
+
+-- so a replica that is asked by another's position text gives the batch that is made for it
+abbrev pub PositionTextsAsk : Type 0
+PositionTextsAsk =
+    (r asker : Replica) (max_lines : ℕ) → IsReplica asker
+    → (step r (BatchFor (position_text (position_of asker)) max_lines)).reply ≡ batch_reply r (position_of asker) max_lines
