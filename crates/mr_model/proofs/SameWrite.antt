@@ -18,7 +18,7 @@ same_slot-true a b h =
 same_slot_refl : (a : Slot) → same_slot a a ≡ true
 same_slot_refl a = and_from (same_date a.day a.day) (eqb a.start a.start) (same_date_refl a.day) (eq-eqb a.start a.start refl)
 
-same_slots-true : (a b : List Slot) → same_slots a b ≡ true → a ≡ b
+pub same_slots-true : (a b : List Slot) → same_slots a b ≡ true → a ≡ b
 same_slots-true [] [] h = refl
 same_slots-true [] (t ∷ ts) h = absurd (true≢false (sym h))
 same_slots-true (s ∷ ss) [] h = absurd (true≢false (sym h))
@@ -28,7 +28,7 @@ same_slots-true (s ∷ ss) (t ∷ ts) h =
     let xs = same_slots-true ss ts p.1 in
     λ i. x i ∷ xs i
 
-same_slots_refl : (a : List Slot) → same_slots a a ≡ true
+pub same_slots_refl : (a : List Slot) → same_slots a a ≡ true
 same_slots_refl [] = refl
 same_slots_refl (s ∷ ss) = and_from (same_slot s s) (same_slots ss ss) (same_slot_refl s) (same_slots_refl ss)
 

@@ -1,0 +1,24 @@
+-- Batches of the program as those of the definitions.
+use Rattle.std.specs.Prelude.{ℕ, List, map, Option, option_map}
+use Rattle.mr_model.specs.Exchange as model
+use Rattle.mr_base.specs.declared.batches.Item.{Item}
+use Rattle.mr_base.specs.declared.batches.Item.TheVariants.{W, C}
+use Rattle.mr_base.specs.declared.batches.Ending.{Ending}
+use Rattle.mr_base.specs.declared.batches.Ending.TheVariants.{Complete, More, Cut}
+
+abbrev pub item_of : Item → model.Item
+item_of (W write) = model.W write
+item_of (C seq id) = model.C seq id
+
+abbrev pub ending_of : Ending → model.Ending
+ending_of Complete = model.Complete
+ending_of More = model.More
+ending_of Cut = model.Cut
+
+-- who made a batch, and the primary
+abbrev pub header_of : Option (ℕ × ℕ) → Option model.Header
+header_of header = option_map (λ h. record { from = h.0; primary = h.1 }) header
+
+abbrev pub batch_of : Option (ℕ × ℕ) → List Item → Ending → model.Batch
+batch_of header items ending =
+    record { header = header_of header; items = map item_of items; ending = ending_of ending }

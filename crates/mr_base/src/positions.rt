@@ -1,0 +1,110 @@
+ghost use Rattle.std.specs.Prelude.{◌≡◌, ◌&&◌, IsTrue};
+ghost use Rattle.std.specs.List.{list_all};
+ghost use Rattle.mr_model.specs.Texts.{only_if};
+ghost use Rattle.mr_model.specs.Writes.{is_server, is_count};
+ghost use Rattle.mr_model.specs.Positions.{Position as PositionOfReplica, is_position, are_rising};
+ghost use Rattle.mr_base.specs.Positions.{counts_of, are_rising_above};
+
+use crate::ServerId;
+use std::marker::Model;
+
+/// What a replica has: how many commits, and how many writes of each server of which it has one, by rising server.
+#[derive(Debug, Drop)]
+pub struct Position {
+    pub server: ServerId,
+    pub primary: ServerId,
+    pub commits: u64,
+    pub counts: Vec<(ServerId, u32)>,
+}
+
+impl Model for Position {
+    ghost Value = { PositionOfReplica };
+
+    ghost view = { λ p. record {
+      server = p.server;
+      primary = p.primary;
+      commits = p.commits;
+      counts = counts_of p.counts.items;
+    } };
+
+    ghost invariant = { λ p. IsTrue (is_position (record {
+      server = p.server;
+      primary = p.primary;
+      commits = p.commits;
+      counts = counts_of p.counts.items;
+    })) };
+}
+
+impl Position {
+    /// The position, where the number of commits and the counts are within the limits and the servers rise.
+    pub fn new(
+        server: ServerId,
+        primary: ServerId,
+        commits: u64,
+        counts: Vec<(ServerId, u32)>,
+    ) -> Option<Position>
+        ensures { let p : PositionOfReplica = record {
+          server = server;
+          primary = primary;
+          commits = commits;
+          counts = counts_of counts.items;
+        } in result ≡ only_if (is_position p) p }
+    {
+        server.number();
+        primary.number();
+        if commits > 999_999_999_999
+            || !counts_are_within_limits(counts.as_slice())
+            || !servers_rise(counts.as_slice())
+        {
+            return None;
+        }
+        Some(Position {
+            server,
+            primary,
+            commits,
+            counts,
+        })
+    }
+
+    /// Says to proofs that every position is within the limits. It does nothing.
+    pub fn is_within_limits(&self)
+        ensures { IsTrue (is_position self.now) }
+    {
+        let _commits = self.commits;
+    }
+}
+
+fn counts_are_within_limits(counts: &[(ServerId, u32)]) -> bool
+    ensures { result ≡ list_all (λ c. is_server c.server && is_count c.count) (counts_of counts.now) }
+{
+    for (server, n) in counts {
+        server.number();
+        if *n < 1 || *n > 999_999_999 {
+            return false;
+        }
+    }
+    true
+}
+
+fn servers_rise(counts: &[(ServerId, u32)]) -> bool
+    ensures { result ≡ are_rising (counts_of counts.now) }
+{
+    match counts.split_first() {
+        Some((first, others)) => rise_from(first.0, others),
+        None => true,
+    }
+}
+
+// Whether the servers rise, the first of them above this one.
+fn rise_from(first: ServerId, counts: &[(ServerId, u32)]) -> bool
+    ensures { result ≡ are_rising_above first (counts_of counts.now) }
+{
+    let mut last = first;
+    for (server, _) in counts {
+        if *server <= last {
+            return false;
+        }
+        last = *server;
+    }
+    true
+}
