@@ -2,7 +2,7 @@
 use Rattle.std.proofs.Common.{◌≡◌, ◌↔◌, Bool, true, false, List, IsTrue, refl, sym, ◌∙◌, subst}
 use Rattle.mr_model.specs.Slots.{Slot}
 use Rattle.mr_model.specs.Writes.{same_slots}
-use Rattle.mr_model.proofs.SameWrite.{same_slots-true, same_slots_refl}
+use Rattle.mr_model.proofs.WriteTest.{same_slots-true, same_slots_refl}
 
 same_as_itself : (a b : List Slot) → a ≡ b → same_slots a b ≡ true
 same_as_itself a b e = subst (λ (x : List Slot). same_slots a x ≡ true) e (same_slots_refl a)

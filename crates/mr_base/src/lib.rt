@@ -4,22 +4,30 @@
 //! files of `specs` say how the program's refusals, items and words are those of the definitions.
 #![tactic(auto)]
 
+mod alternatives;
 mod batches;
 mod commits;
 mod days;
-mod names;
+mod line_counts;
 mod positions;
 mod refusals;
+mod requests;
+mod room_names;
 mod slots;
 mod stamps;
+mod titles;
 mod writes;
 
+pub use alternatives::Alternatives;
 pub use batches::{Batch, Ending, Item};
 pub use commits::CommitNumber;
 pub use days::{Day, TwoDigits};
-pub use names::{RoomName, Title, is_room_text, is_title_text};
+pub use line_counts::LineCount;
 pub use positions::Position;
 pub use refusals::Refusal;
+pub use requests::Request;
+pub use room_names::{RoomName, is_room_text};
 pub use slots::{Slot, overlaps};
-pub use stamps::{LineCount, ServerId, Stamp, WriteId};
-pub use writes::{Alternatives, Request, Write, stamp_before};
+pub use stamps::{ServerId, Stamp, WriteId};
+pub use titles::{Title, is_title_text};
+pub use writes::{Write, stamp_before};

@@ -1,7 +1,6 @@
 ghost use Rattle.std.specs.Prelude.{◌≡◌, ℕ, Some, IsTrue};
 ghost use Rattle.mr_model.specs.Texts.{only_if};
 ghost use Rattle.mr_model.specs.Writes.{Id, Stamp as StampOfWrite, is_server, is_count, is_time, is_id, is_stamp, id_text};
-ghost use Rattle.mr_base.specs.Limits.{is_line_count};
 
 use std::fmt;
 use std::marker::Model;
@@ -49,7 +48,7 @@ impl fmt::Display for ServerId {
     ghost output = { λ s. Some (decimal s) };
 
     fn fmt<W: fmt::Write>(&self, f: &mut fmt::Formatter<W>) -> fmt::Result {
-        let number = self.number;
+        let number = self.number();
         write!(f, "{number}")
     }
 }
@@ -89,7 +88,7 @@ impl fmt::Display for WriteId {
     ghost output = { λ id. Some (id_text id) };
 
     fn fmt<W: fmt::Write>(&self, f: &mut fmt::Formatter<W>) -> fmt::Result {
-        let (server, n) = (self.server.number, self.n);
+        let (server, n) = (self.server, self.n);
         write!(f, "{server}-{n}")
     }
 }
@@ -133,42 +132,5 @@ impl Stamp {
             server: self.server,
             n: self.n,
         }
-    }
-}
-
-/// How many item lines a batch may have, from 1 to 100,000.
-#[derive(Clone, Copy, Debug, PartialEq, Eq)]
-pub struct LineCount {
-    number: u32,
-}
-
-impl Model for LineCount {
-    ghost Value = { ℕ };
-
-    ghost view = { λ l. l.number };
-
-    ghost invariant = { λ l. IsTrue (is_line_count l.number) };
-
-    ghost inverse = { λ n. record { number = n } };
-}
-
-impl LineCount {
-    /// That many lines, where the number is in range.
-    pub fn new(number: u32) -> Option<LineCount>
-        ensures { result ≡ only_if (is_line_count number) number }
-    {
-        if number >= 1 && number <= 100_000 {
-            Some(LineCount { number })
-        } else {
-            None
-        }
-    }
-
-    /// The number of lines.
-    pub fn number(self) -> u32
-        ensures value { result ≡ self }
-        ensures in_range { IsTrue (is_line_count result) }
-    {
-        self.number
     }
 }

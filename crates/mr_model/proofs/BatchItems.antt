@@ -1,21 +1,21 @@
 -- The items that a replica puts into a batch are its own, and within the limits.
-use Rattle.std.proofs.Common.{◌≡◌, refl, sym, ap, ◌∙◌, subst, ℕ, zero, suc, ◌+◌, ◌-◌, ◌<◌, ◌≤◌, Bool, true, false, not, cond, ◌&&◌, eqb, leb, List, [], ◌∷◌, ◌++◌, length, map, take, drop, ◌⊎◌, inl, inr, arith, IsTrue, lit≤, eqb-true, eq-eqb, ne_eqb, leb-true, leb-false, le-leb, Option, Some, None}
-use Rattle.std.proofs.lemmas.Bool.{and_parts, and_from, cond-true, cond-false, cases_lt, true≢false}
-use Rattle.std.specs.List.{AllByRecursion, filter, flat_map, slice_get, find, enumerate_from, list_all}
-use Rattle.mr_model.specs.Texts.{within}
-use Rattle.mr_model.specs.Writes.{Id, Write, id_of, same_id, is_write, is_id, is_server, is_count, is_commit_number, is_stamp, is_time, greatest_count}
+use Rattle.std.proofs.Common.{◌≡◌, refl, sym, ap, ◌∙◌, subst, ℕ, zero, suc, ◌+◌, ◌-◌, ◌≤◌, Bool, true, false, not, cond, ◌&&◌, eqb, leb, List, [], ◌∷◌, length, map, take, drop, arith, IsTrue, lit≤, eqb-true, eq-eqb, leb-true, leb-false, le-leb, Option, Some, None}
+use Rattle.std.proofs.lemmas.Bool.{and_parts, and_from, cond-true, cond-false, true≢false}
+use Rattle.std.specs.List.{AllByRecursion, filter, flat_map, slice_get, enumerate_from, list_all}
+use Rattle.mr_model.specs.Writes.{Id, Write, id_of, same_id, is_write, is_id, is_server, is_count, is_commit_number, is_time, greatest_count}
 use Rattle.mr_model.specs.Replica.{Replica, writes_of, count_of, commits_of, committed_count, write_with, is_committed, tentative, IsReplica}
-use Rattle.mr_model.specs.Exchange.{Item, W, C, Header, Batch, is_item, is_header, is_batch, Complete, More}
-use Rattle.mr_model.specs.Positions.{Position, count_among}
-use Rattle.mr_model.specs.Step.{lacks, item_if_lacked, commit_items, items_for, ending_of, batch_of}
-use Rattle.mr_model.proofs.Fronts.{get_below, below_get, some_inj, all_get, get_all, get-map, find_passes}
-use Rattle.mr_model.proofs.HistoryLaws.{IsOf, counted_at, known_found}
-use Rattle.mr_model.proofs.SetLaws.{all_map}
-use Rattle.mr_model.proofs.TextLaws.{all_append}
-use Rattle.mr_model.proofs.CommitLaws.{filter-all}
-use Rattle.mr_model.proofs.ReplicaLaws as replica_laws
-use Rattle.mr_model.proofs.StepLaws.{IsItem}
-use Rattle.mr_model.proofs.SubmitLaws.{count_within, within_from}
+use Rattle.mr_model.specs.Exchange.{Item, W, C, is_item, is_header, is_batch}
+use Rattle.mr_model.specs.Positions.{Position}
+use Rattle.mr_model.specs.Step.{lacks, item_if_lacked, commit_items, items_for, batch_of}
+use Rattle.mr_model.proofs.Fronts.{all_take, get_below, below_get, all_get, get_all, get-map, find_passes}
+use Rattle.mr_model.proofs.Histories.{IsOf, counted_at, known_found}
+use Rattle.mr_model.proofs.OrderedSets.{all_map}
+use Rattle.mr_model.proofs.WordsReadBack.{all_append}
+use Rattle.mr_model.proofs.CommitsKeep.{filter-all}
+use Rattle.mr_model.proofs.ChangesKeep as replica_laws
+use Rattle.mr_model.proofs.TakingKeeps.{IsItem}
+use Rattle.mr_model.proofs.StepsKeep.{count_within, within_from}
+use Rattle.mr_model.proofs.UniqueReplay.{some_inj}
 
 -- ---- elements that pass a test are in the filter
 
@@ -42,11 +42,6 @@ filter_get p (y ∷ xs) k x e = go (p y) refl k e (λ i. filter_get p xs i x)
 pub all_flat_map : {A B : Type 0} (P : A → Type 0) (Q : B → Type 0) (f : A → List B) → ((x : A) → P x → AllByRecursion Q (f x)) → (xs : List A) → AllByRecursion P xs → AllByRecursion Q (flat_map f xs)
 all_flat_map P Q f g [] h = tt
 all_flat_map P Q f g (x ∷ xs) h = all_append Q (f x) (flat_map f xs) (g x h.0) (all_flat_map P Q f g xs h.1)
-
-pub all_take : {A : Type 0} (P : A → Type 0) (n : ℕ) (xs : List A) → AllByRecursion P xs → AllByRecursion P (take n xs)
-all_take P zero xs h = tt
-all_take P (suc n) [] h = tt
-all_take P (suc n) (x ∷ xs) h = (h.0, all_take P n xs h.1)
 
 pub all_of_list : (xs : List Item) → list_all is_item xs ≡ true → AllByRecursion IsItem xs
 all_of_list [] h = tt

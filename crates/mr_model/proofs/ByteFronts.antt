@@ -4,9 +4,10 @@ use Rattle.std.proofs.lemmas.Bool.{cond-false}
 use Rattle.std.specs.List.{AllByRecursion}
 use Rattle.mr_model.specs.Texts.{Text, line, lines_text, in_first_line, whole_lines}
 use Rattle.mr_model.specs.Exchange.{Header, Batch, front_under, is_batch, batch_lines, batch_text, read_batch, lines_within, front_of}
-use Rattle.mr_model.proofs.TextLaws.{OneLine, whole_line, append_line}
-use Rattle.mr_model.proofs.BatchLaws.{batch-one_line, reads-lines}
-use Rattle.mr_model.proofs.FrontLaws.{take-batch_lines, is_batch-front}
+use Rattle.mr_model.proofs.WordsReadBack.{OneLine, whole_line, append_line}
+use Rattle.mr_model.proofs.BatchesReadBack.{batch-one_line, reads-lines}
+use Rattle.mr_model.proofs.Fronts.{all_take, take-front}
+use Rattle.mr_model.proofs.LineFronts.{take-batch_lines, is_batch-front}
 
 -- without a LF there is no whole line
 no_line : (t : Text) → OneLine t → whole_lines t ≡ []
@@ -15,20 +16,11 @@ no_line (c ∷ cs) h =
     cond-false (eqb c 10) ([] ∷ whole_lines cs) (in_first_line c (whole_lines cs)) (ne_eqb c 10 (λ e. let t : 11 ≤ c = h.0 in omega arith))
     ∙ ap (in_first_line c) (no_line cs h.1)
 
-all_take : {A : Type 0} (P : A → Type 0) (n : ℕ) (xs : List A) → AllByRecursion P xs → AllByRecursion P (take n xs)
-all_take P zero xs h = tt
-all_take P (suc n) [] h = tt
-all_take P (suc n) (x ∷ xs) h = (h.0, all_take P n xs h.1)
-
-take_within : {A : Type 0} (n : ℕ) (xs ys : List A) → n ≤ length xs → take n (xs ++ ys) ≡ take n xs
-take_within zero xs ys l = refl
-take_within (suc n) [] ys l = absurd (Rattle.std.proofs.Common.not-suc-le-zero l)
-take_within (suc n) (x ∷ xs) ys l = ap (λ zs. x ∷ zs) (take_within n xs ys (Rattle.std.proofs.Common.le_of_suc-le-suc l))
-
 take_beyond : {A : Type 0} (n : ℕ) (xs ys : List A) → take (length xs + n) (xs ++ ys) ≡ xs ++ take n ys
 take_beyond n [] ys = let e : 0 + n ≡ n = omega arith in ap (λ m. take m ys) e
 take_beyond n (x ∷ xs) ys = let e : suc (length xs) + n ≡ suc (length xs + n) = omega arith in ap (λ m. take m (x ∷ (xs ++ ys))) e ∙ ap (λ zs. x ∷ zs) (take_beyond n xs ys)
 
+-- the whole lines of the first n bytes are the lines that are whole in them
 pub front_lines : (n : ℕ) (ls : List Text) → AllByRecursion OneLine ls → whole_lines (take n (lines_text ls)) ≡ take (lines_within n ls) ls
 front_lines n [] h = ap whole_lines (none n)
   where
@@ -48,16 +40,22 @@ front_lines n (l ∷ ls) h = go (ltb (length l) n) refl (λ m. front_lines m ls 
         ∙ ap (λ ms. l ∷ ms) (ih (n - (length l + 1)))
     go false e ih =
         ap (λ t. whole_lines (take n t)) (append_line l (lines_text ls))
-        ∙ ap whole_lines (take_within n l (10 ∷ lines_text ls) (ltb-false (length l) n e)) ∙ no_line (take n l) (all_take (λ c. 11 ≤ c) n l h.0)
+        ∙ ap whole_lines (take-front n l (10 ∷ lines_text ls) (ltb-false (length l) n e)) ∙ no_line (take n l) (all_take (λ c. 11 ≤ c) n l h.0)
 
+-- the first n bytes of a batch's text read as the batch of these lines
 pub front_reads : (n : ℕ) (b : Batch) → is_batch b ≡ true → read_batch (take n (batch_text b)) ≡ Ok (front_of (lines_within n (batch_lines b)) b)
 front_reads n b ok =
     let m = lines_within n (batch_lines b) in
     reads-lines (take n (batch_text b)) (front_of m b) (is_batch-front m b ok)
     (front_lines n (batch_lines b) (batch-one_line b ok) ∙ take-batch_lines m b)
 
+-- some front of the batch is what a front of its bytes reads as
+pub read_front : (b : Batch) (j : ℕ) → is_batch b ≡ true → (n : ℕ) × (read_batch (take j (batch_text b)) ≡ Ok (front_of n b))
+read_front b j ok = (lines_within j (batch_lines b), front_reads j b ok)
+
 -- ---- how many lines are whole
 
+-- the lines that are whole in n bytes fit into n bytes
 pub within_fit : (n : ℕ) (ls : List Text) → length (lines_text (take (lines_within n ls) ls)) ≤ n
 within_fit n [] = omega arith
 within_fit n (l ∷ ls) = go (ltb (length l) n) refl (within_fit (n - (length l + 1)) ls)
@@ -72,6 +70,7 @@ within_fit n (l ∷ ls) = go (ltb (length l) n) refl (within_fit (n - (length l 
         omega (arith, low, long, all, fit)
     go false e ih = omega arith
 
+-- one more does not
 pub more_unfit : (n : ℕ) (ls : List Text) → lines_within n ls < length ls → n < length (lines_text (take (suc (lines_within n ls)) ls))
 more_unfit n [] h = absurd (Rattle.std.proofs.Common.not-suc-le-zero h)
 more_unfit n (l ∷ ls) h = go (ltb (length l) n) refl h (more_unfit (n - (length l + 1)) ls)
@@ -91,6 +90,7 @@ more_unfit n (l ∷ ls) h = go (ltb (length l) n) refl h (more_unfit (n - (lengt
         let all : length (line l ++ []) ≡ length (line l) + 0 = length-append (line l) [] in
         omega (arith, high, long, all)
 
+-- the items of a front are a front of the items
 pub front_items : (n : ℕ) (b : Batch) → (k : ℕ) × ((front_of n b).items ≡ take k b.items)
 front_items n b = go n b.header
   where

@@ -1,16 +1,16 @@
 -- Replicas with equal tables reply alike to every command, and have equal tables after it.
-use Rattle.std.proofs.Common.{◌≡◌, refl, sym, ap, ◌∙◌, subst, List, [], ◌∷◌, ◌⊎◌, inl, inr}
+use Rattle.std.proofs.Common.{◌≡◌, refl, sym, ap, ◌∙◌, subst, List, inl, inr}
 use Rattle.mr_model.specs.Replica.{Replica, IsReplica}
 use Rattle.mr_model.specs.Positions.{read_position}
 use Rattle.mr_model.specs.Replies.{Reply, PositionIs}
 use Rattle.mr_model.specs.Tables.{tables_of}
 use Rattle.mr_model.specs.Step.{Command, AddRoom, Submit, Receive, Commit, Truncate, AskPosition, BatchFor, Ask, After, step, IsStep, IsRun, ended, stepped}
-use Rattle.mr_model.specs.Dropped.{DifferInDropped}
-use Rattle.mr_model.proofs.SubmitLaws.{step_keeps}
-use Rattle.mr_model.proofs.SameLaws.{from_tables}
-use Rattle.mr_model.proofs.TwinLaws.{to_tables}
-use Rattle.mr_model.proofs.TwinSteps.{Twins, TwinAfter, twin_add_room_step, twin_submit, twin_receive, twin_commit_step, twin_truncate_step, same_position, same_to_position}
-use Rattle.mr_model.proofs.EntryLaws.{same_answer, same_outcome_at}
+use Rattle.mr_model.proofs.StepsKeep.{step_keeps}
+use Rattle.mr_model.proofs.TablesTell.{from_tables}
+use Rattle.mr_model.proofs.TwinTables.{to_tables}
+use Rattle.mr_model.proofs.TwinTaking.{Twins}
+use Rattle.mr_model.proofs.TwinSteps.{TwinAfter, twin_add_room_step, twin_submit, twin_receive, twin_commit_step, twin_truncate_step, same_position, same_to_position}
+use Rattle.mr_model.proofs.RoomEntries.{same_answer, same_outcome_at}
 
 pub twin_step : (a b : Replica) (c : Command) → Twins a b → TwinAfter (step a c) (step b c)
 twin_step a b (AddRoom room) t = twin_add_room_step a b room t
@@ -25,9 +25,11 @@ twin_step a b (Ask room q) t = record { reply = same_answer a b room q t; replic
 twins : (a b : Replica) → IsReplica a → IsReplica b → tables_of a ≡ tables_of b → Twins a b
 twins a b ha hb e = record { first = ha; second = hb; alike = from_tables a b ha hb e }
 
+-- replicas with equal tables reply alike
 pub equal_replies : (a b : Replica) (c : Command) → IsReplica a → IsReplica b → tables_of a ≡ tables_of b → (step a c).reply ≡ (step b c).reply
 equal_replies a b c ha hb e = (twin_step a b c (twins a b ha hb e)).reply
 
+-- and have equal tables after the command
 pub equal_after : (a b : Replica) (c : Command) → IsReplica a → IsReplica b → tables_of a ≡ tables_of b → tables_of (step a c).replica ≡ tables_of (step b c).replica
 equal_after a b c ha hb e = to_tables (step a c).replica (step b c).replica (step_keeps a c ha) (step_keeps b c hb) (twin_step a b c (twins a b ha hb e)).replicas
 
@@ -52,6 +54,7 @@ over_run b t (stepped {old = a} {middle = m} {new = n} {c = c} {cs = cs} {reply 
     let (y, ry, ty) = over_run x tx rest in
     (y, stepped sx ry, ty)
 
+-- a run of one is a run of the other, with the same replies, to equal tables
 pub equal_runs : (a b a' : Replica) (cs : List Command) (replies : List Reply) → IsReplica a → IsReplica b → tables_of a ≡ tables_of b → IsRun a cs replies a' → (b' : Replica) × IsRun b cs replies b' × (tables_of a' ≡ tables_of b')
 equal_runs a b a' cs replies ha hb e run =
     let (b', rb, t) = over_run b (twins a b ha hb e) run in

@@ -1,4 +1,4 @@
--- The script language of the worked rows, over the model's worlds.
+-- A script of world steps and its printed lines, in which the rows of examples are written.
 use Rattle.std.specs.Prelude.{◌≡◌, ℕ, zero, suc, ◌+◌, ◌*◌, Bool, if◌then◌else◌, List, [], ◌∷◌, ◌++◌, map, flat_map, codes, decimal, bytes_eq}
 use Prim.Native.String.{String}
 use Rattle.mr_model.specs.Texts.{Text, words, word_at, number_at, behind, lines_text}

@@ -1,20 +1,18 @@
 -- What an honest world tells of its replicas, and what a replica put in another's place leaves of it.
-use Rattle.std.proofs.Common.{◌≡◌, refl, sym, ap, ◌∙◌, subst, ℕ, zero, suc, ◌+◌, ◌<◌, ◌≤◌, Bool, true, false, cond, ◌&&◌, eqb, List, [], ◌∷◌, ◌++◌, length, map, take, drop, ◌⊎◌, inl, inr, arith, IsTrue, eqb-true, eq-eqb, ne_eqb, Option, Some, None, le_refl}
-use Rattle.std.proofs.lemmas.Bool.{cases_eq, cond_both, cond-true, cond-false, true≢false, eqb-false}
-use Rattle.std.specs.List.{AllByRecursion, filter, slice_get, find}
-use Rattle.std.specs.Prelude.{◌≢◌, Contains}
+use Rattle.std.proofs.Common.{◌≡◌, refl, sym, ap, ◌∙◌, subst, ℕ, Bool, true, false, cond, eqb, List, [], ◌∷◌, map, ◌⊎◌, inl, inr, eqb-true, eq-eqb, ne_eqb, Option, Some, None}
+use Rattle.std.proofs.lemmas.Bool.{cond_both, cond-true, cond-false, eqb-false}
+use Rattle.std.specs.List.{AllByRecursion, find}
+use Rattle.std.specs.Prelude.{◌≢◌}
 use Rattle.mr_model.specs.Texts.{Text}
-use Rattle.mr_model.specs.Writes.{Id, Write}
 use Rattle.mr_model.specs.Replica.{Replica, writes_of, count_of, IsReplica}
-use Rattle.mr_model.specs.Exchange.{Item, W, C, Header, Batch}
-use Rattle.mr_model.specs.World.{World, replica_of, put_replica, primary_among}
+use Rattle.mr_model.specs.Exchange.{Item, W, C, Header}
+use Rattle.mr_model.specs.World.{World, replica_of, put_replica}
 use Rattle.mr_model.specs.Honest.{IsFront, own_writes, accepted, commits_among, commit_list, IsHonestItem, NamesPrimary, IsHonestText, IsHonestReplica, OnePrimary, HaveDifferentServers, IsHonest}
-use Rattle.mr_model.proofs.SetLaws.{all_map}
-use Rattle.mr_model.proofs.Fronts.{front_refl, front_same, front_trans, front_length, front_compare, front_get, front_contains, contains_get, some_inj, all_get, get_all, find_passes}
-use Rattle.mr_model.proofs.HistoryLaws.{IsHistory, Agrees, IsOf, Extends, extends_refl, extends_trans, order_filter, own_counts}
-
-pub with_server : ℕ → Replica → Bool
-with_server s r = eqb r.server s
+use Rattle.mr_model.proofs.OrderedSets.{all_map}
+use Rattle.mr_model.proofs.Fronts.{front_refl, front_trans, front_get, front_contains, all_get, find_passes}
+use Rattle.mr_model.proofs.Histories.{IsHistory, Agrees, Extends, extends_refl, extends_trans, filter_servers}
+use Rattle.mr_model.proofs.KnownById.{order-filter}
+use Rattle.mr_model.proofs.UniqueReplay.{some_inj}
 
 -- ---- one replica of an honest world
 
@@ -24,6 +22,7 @@ found_server w s r e = eqb-true r.server s (find_passes (λ (x : Replica). eqb x
 pub found_all : (P : Replica → Type 0) (rs : List Replica) (s : ℕ) (r : Replica) → AllByRecursion P rs → find (λ x. eqb x.server s) rs ≡ Some r → P r
 found_all P rs s r h e = let p = find_passes (λ (x : Replica). eqb x.server s) rs r e in all_get P rs p.1.0 r h p.1.1
 
+-- a replica of an honest world is an honest one
 pub honest_replica : (w : World) (s : ℕ) (r : Replica) → IsHonest w → replica_of w s ≡ Some r → IsHonestReplica w r
 honest_replica w s r h e = found_all (IsHonestReplica w) w.replicas s r h.replicas e
 
@@ -78,7 +77,7 @@ history_of w h =
   where
     servers : (s : ℕ) (o : Option Replica) → AllByRecursion (λ x. x.stamp.server ≡ s) (own_writes o s)
     servers s None = tt
-    servers s (Some r) = own_counts s r.known
+    servers s (Some r) = filter_servers s r.known
 
     counts : (s : ℕ) (o : Option Replica) → replica_of w s ≡ o → Rattle.mr_model.specs.Replica.IsCountedUp (map (λ x. x.stamp.n) (own_writes o s))
     counts s None e = refl
@@ -86,7 +85,7 @@ history_of w h =
 
     order : (s : ℕ) (o : Option Replica) → replica_of w s ≡ o → Rattle.mr_model.specs.Replica.AreInStampOrder (own_writes o s)
     order s None e = tt
-    order s (Some r) e = order_filter (λ x. eqb x.stamp.server s) r.known (honest_replica w s r h e).sound.in_stamp_order
+    order s (Some r) e = order-filter (λ x. eqb x.stamp.server s) r.known (honest_replica w s r h e).sound.in_stamp_order
 
     commits : (s : ℕ) (rs : List Replica) → AllByRecursion (IsHonestReplica w) rs → Rattle.mr_model.specs.Replica.IsCountedUp (map (λ i. i.n) (Rattle.mr_model.specs.Replica.commits_of s (commits_among rs)))
     commits s [] all = refl

@@ -1,11 +1,11 @@
 -- What commands change of the order, the places and the rows.
-use Rattle.std.specs.Prelude.{◌≡◌, ℕ, ◌+◌, ◌<◌, max, Bool, false, ◌||◌, ◌↔◌, ◌⊎◌, List, [], ◌∷◌, ◌++◌, length, take, map, Option, Some, slice_get, IsTrue}
+use Rattle.std.specs.Prelude.{◌≡◌, ℕ, ◌+◌, ◌<◌, max, false, ◌||◌, ◌↔◌, ◌⊎◌, List, [], ◌∷◌, ◌++◌, length, take, map, Some, slice_get, IsTrue}
 use Rattle.std.specs.List.{AllByRecursion}
 use Rattle.mr_model.specs.Texts.{within}
 use Rattle.mr_model.specs.Writes.{Id, Write, id_of, is_write, stamp_before}
 use Rattle.mr_model.specs.Replica.{Replica, writes_of, committed_count, committed, tentative, order_of, is_committed, is_dropped, is_among, count_of, last_time, add_write, add_commit}
 use Rattle.mr_model.specs.Board.{place_on, replay_on, board_after}
-use Rattle.mr_model.specs.Tables.{MetaRow, VectorRow, LogRow, UndoRow, BookingRow, ErrorRow, Tables, seq_of, place_of, log_row, undo_row, booking_row, error_row, tables_of}
+use Rattle.mr_model.specs.Tables.{VectorRow, LogRow, UndoRow, BookingRow, ErrorRow, Tables, seq_of, place_of, log_row, undo_row, booking_row, error_row, tables_of}
 use Rattle.mr_model.specs.Dropped.{Has}
 
 -- ---- keys

@@ -1,5 +1,5 @@
 -- The kept writes in the order in which a replica executes them: what a desk's log holds.
-use Rattle.std.specs.Prelude.{◌≡◌, ℕ, ◌<◌, ◌⊎◌, List, [], ◌∷◌, ◌++◌, take, drop, map, filter_map}
+use Rattle.std.specs.Prelude.{◌≡◌, ◌<◌, ◌⊎◌, List, [], ◌∷◌, ◌++◌, take, drop, map, filter_map}
 use Rattle.std.specs.List.{AllByRecursion}
 use Rattle.mr_model.specs.Writes.{Write}
 use Rattle.mr_model.specs.Replica.{Replica, write_with, tentative, order_of}

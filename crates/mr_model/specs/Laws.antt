@@ -1,5 +1,5 @@
 -- The laws of the definitions, as statements.
-use Rattle.std.specs.Prelude.{◌≡◌, ℕ, ◌+◌, ◌≤◌, ◌<◌, length, true, ◌↔◌, ◌⊎◌, List, [], ◌∷◌, ◌++◌, take, map, filter_map, Some, None, Ok, Err, slice_get, IsTrue}
+use Rattle.std.specs.Prelude.{◌≡◌, ℕ, ◌+◌, ◌≤◌, ◌<◌, length, true, ◌↔◌, ◌⊎◌, List, [], ◌∷◌, ◌++◌, take, map, filter_map, Some, None, Ok, Err, IsTrue}
 use Rattle.mr_model.specs.Texts.{Text, lines_text, whole_lines}
 use Rattle.mr_model.specs.Calendar.{Date, is_date, next_date, number_of_day}
 use Rattle.mr_model.specs.Slots.{Slot, Overlap, overlaps}
@@ -12,7 +12,8 @@ use Rattle.mr_model.specs.Positions.{Position, position_of, is_position, positio
 use Rattle.mr_model.specs.Replies.{Reply, OutcomeIs, Refused}
 use Rattle.mr_model.specs.View.{Question, of_room, view_of, whole_list, committed_list, entries, logging_of, told_of, outcome_reply, answer}
 use Rattle.mr_model.specs.Step.{Command, Ask, Submission, submit_faults, next_stamp, write_of, outcome_at, batch_of, step, IsStep, IsOfMachine, IsRun, BatchFor, batch_reply}
-use Rattle.mr_model.specs.Tables.{Tables, BookingRow, ErrorRow, booking_row, error_row, place_of, tables_of}
+use Rattle.mr_model.specs.Tables.{Tables, BookingRow, ErrorRow, booking_row, error_row, place_of, tables_of, Stands}
+use Rattle.mr_model.specs.Serving.{TakesStep, TakesRun, Answered, Serves, Reaches}
 use Rattle.mr_model.specs.Dropped.{Has, DifferInDropped}
 use Rattle.mr_model.specs.Board.{RoomBooking, after, bookings_in, place_on, booked_on, replay_on, board_replay, board_after, places_of_room}
 use Rattle.mr_model.specs.Kept.{KeptIsTheLog}
@@ -58,10 +59,8 @@ RunsKeepReplicas =
 -- in a run, each reply about a room is the answer of the view at the replica that the commands before have led to
 abbrev pub RunsAnswer : Type 0
 RunsAnswer =
-    (old new : Replica) (commands : List Command) (replies : List Reply) (i : ℕ) (room : Text) (question : Question) (reply : Reply)
-    → IsRun old commands replies new → slice_get commands i ≡ Some (Ask room question) → slice_get replies i ≡ Some reply
-    → (at : Replica) × IsRun old (take i commands) (take i replies) at
-    × ((reply ≡ answer room (view_of at room) question) ⊎ IsOfMachine reply)
+    (old new : Replica) (commands : List Command) (replies : List Reply)
+    → IsRun old commands replies new → Answered old commands replies new
 
 -- no text is that of two batches
 abbrev pub OneBatchAText : Type 0
@@ -109,6 +108,50 @@ EqualTablesEqualRuns =
     (a b end : Replica) (commands : List Command) (replies : List Reply) → IsReplica a → IsReplica b
     → tables_of a ≡ tables_of b → IsRun a commands replies end
     → (other : Replica) × IsRun b commands replies other × (tables_of end ≡ tables_of other)
+
+-- ---- tables that are served
+
+-- no command leaves the tables as they are
+abbrev pub NoCommandsTakeNothing : Type 0
+NoCommandsTakeNothing = (t : Tables) → TakesRun t [] [] t
+
+-- a run of tables grows by a step at its end
+abbrev pub TakenRunsGrow : Type 0
+TakenRunsGrow =
+    (before middle after : Tables) (commands : List Command) (replies : List Reply) (command : Command) (reply : Reply)
+    → TakesRun before commands replies middle → TakesStep middle command reply after
+    → TakesRun before (commands ++ command ∷ []) (replies ++ reply ∷ []) after
+
+-- each run of tables is served, with the answers to its questions
+abbrev pub TakenRunsServe : Type 0
+TakenRunsServe =
+    (before after : Tables) (commands : List Command) (replies : List Reply)
+    → TakesRun before commands replies after → Serves before commands replies after
+
+-- a step of one replica that the tables stand for is a step of each
+abbrev pub OneStepIsEachs : Type 0
+OneStepIsEachs =
+    (before after : Tables) (command : Command) (reply : Reply) (a b : Replica)
+    → Stands before a → IsStep a command reply b → Stands after b → TakesStep before command reply after
+
+-- where nothing fails, the tables of one replica after the command are what is reached from each
+abbrev pub OneAfterIsEachs : Type 0
+OneAfterIsEachs =
+    (before after : Tables) (command : Command) (a : Replica)
+    → Stands before a → Stands after (step a command).replica → Reaches before command after
+
+-- what a command reaches from the tables, with its own reply, is a step
+abbrev pub ReachingIsAStep : Type 0
+ReachingIsAStep =
+    (before after : Tables) (command : Command) (reply : Reply)
+    → ((a : Replica) → Stands before a → reply ≡ (step a command).reply) → Reaches before command after
+    → TakesStep before command reply after
+
+-- a failure of memory or of the store is a step that leaves the tables
+abbrev pub FailuresAreSteps : Type 0
+FailuresAreSteps = (t : Tables) (command : Command) (reply : Reply) → IsOfMachine reply → TakesStep t command reply t
+
+-- ---- the rows of tables
 
 -- the rows of each table of requests stand by rising id, none twice
 abbrev pub TablesStandInKeyOrder : Type 0
@@ -205,7 +248,13 @@ OwnPositionIsReadBack =
     (r : Replica) → IsReplica r
     → (is_position (position_of r) ≡ true) × (read_position (position_text (position_of r)) ≡ Some (position_of r))
 
--- so is each batch that a replica makes, for any position
+-- so a replica that is asked by another's position text gives the batch that is made for it
+abbrev pub PositionTextsAsk : Type 0
+PositionTextsAsk =
+    (r asker : Replica) (max_lines : ℕ) → IsReplica asker
+    → (step r (BatchFor (position_text (position_of asker)) max_lines)).reply ≡ batch_reply r (position_of asker) max_lines
+
+-- each batch that a replica makes, for any position, is within the limits, and read back
 abbrev pub OwnBatchIsReadBack : Type 0
 OwnBatchIsReadBack =
     (r : Replica) (p : Position) (max_lines : ℕ) → IsReplica r
@@ -291,25 +340,3 @@ abbrev pub AcceptedSubmissionsAreNext : Type 0
 AcceptedSubmissionsAreNext =
     (r : Replica) (s : Submission) → IsReplica r → first_refusal (submit_faults r s) ≡ None
     → IsTrue (is_write (write_of r s)) × ((write_of r s).stamp ≡ next_stamp r) × (knows_room r s.room ≡ true)
-
--- ---- positions and fronts, as a world needs them
-
--- any front of a batch's text reads as the whole lines in it, which are a front of the batch's
-abbrev pub FrontsReadAsFronts : Type 0
-FrontsReadAsFronts =
-    (b : Batch) (j : ℕ) → is_batch b ≡ true
-    → (c : Batch) × (n : ℕ) × ReadsAs (take j (batch_text b)) c × (batch_lines c ≡ take n (batch_lines b))
-
--- a replica's position is within the limits, and exactly the texts of such positions are read
-abbrev pub PositionsAreWithin : Type 0
-PositionsAreWithin = (r : Replica) → IsReplica r → is_position (position_of r) ≡ true
-
-abbrev pub ReadingPositionsIsExact : Type 0
-ReadingPositionsIsExact =
-    (bytes : Text) (p : Position) → (read_position bytes ≡ Some p) ↔ ((is_position p ≡ true) × (bytes ≡ position_text p))
-
--- so a replica that is asked by another's position text gives the batch that is made for it
-abbrev pub PositionTextsAsk : Type 0
-PositionTextsAsk =
-    (r asker : Replica) (max_lines : ℕ) → IsReplica asker
-    → (step r (BatchFor (position_text (position_of asker)) max_lines)).reply ≡ batch_reply r (position_of asker) max_lines

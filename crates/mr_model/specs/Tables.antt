@@ -5,7 +5,7 @@ use Rattle.mr_model.specs.Calendar.{Date}
 use Rattle.mr_model.specs.Slots.{Slot, slot_words}
 use Rattle.mr_model.specs.Writes.{Id, Write, id_of, same_id, choices}
 use Rattle.mr_model.specs.Replay.{Place, Taken, Logged, slot_at}
-use Rattle.mr_model.specs.Replica.{Replica, count_of, clock_of, last_time, committed_count, is_committed, is_dropped, writes_of}
+use Rattle.mr_model.specs.Replica.{Replica, count_of, clock_of, last_time, committed_count, is_committed, is_dropped, writes_of, IsReplica}
 use Rattle.mr_model.specs.View.{Told, view_of, whole_list, told_of}
 
 pub record MetaRow : Type 0 where
@@ -83,7 +83,7 @@ seq_among k (x ∷ xs) id = if same_id x id then k else seq_among (k + 1) xs id
 abbrev pub seq_of : Replica → Write → ℕ
 seq_of r w = seq_among 1 r.commits (id_of w)
 
--- the commit list with the writes of one room, at the places of that room's replay; a write that is not known has none
+-- the place of a write in the replay of its room, dropped writes counted in; that of a write that is not known is of no use
 abbrev pub place_or_logged : Option Told → Place
 place_or_logged None = Logged
 place_or_logged (Some t) = t.place
@@ -166,6 +166,7 @@ tables_of r =
       errorlog = filter_map (error_row r) (by_id r.known);
     }
 
--- the tables stand for the replica. After a truncation they stand for several, which differ in dropped writes alone
-abbrev pub Stands : Tables → Replica → Type 0
-Stands t r = t ≡ tables_of r
+-- The tables stand for the replica. After a truncation they stand for several, which differ in dropped writes alone.
+pub record Stands (t : Tables) (r : Replica) : Type 0 where
+  pub sound : IsReplica r
+  pub are : t ≡ tables_of r

@@ -1,6 +1,6 @@
 use Rattle.std.proofs.Common.{◌≡◌, true, subst}
 use Rattle.mr_model.specs.Writes.{Write, same_write}
-use Rattle.mr_model.proofs.SameWrite.{same_write-true, same_write_refl}
+use Rattle.mr_model.proofs.WriteTest.{same_write-true, same_write_refl}
 use Rattle.mr_base.proofs.writes.Write.is_same.Goals as goal
 
 pub returns-clause-meaning : goal.returns-clause-meaning

@@ -1,0 +1,79 @@
+ghost use Rattle.std.specs.Prelude.{◌≡◌, ℕ, List, IsTrue, IfOk, Ok};
+ghost use Rattle.std.specs.List.{list_all};
+ghost use Rattle.std.specs.String.{string_bytes};
+ghost use Rattle.mr_model.specs.Texts.{within};
+ghost use Rattle.mr_model.specs.Writes.{is_title};
+ghost use Rattle.mr_base.specs.Answers.{OrOutOfMemory, ok_if};
+
+use crate::Refusal;
+use std::alloc::{AllocError, Global};
+use std::marker::Model;
+
+/// What a meeting is called: 1 to 60 printable ASCII bytes, with no space at either end. In contracts it is the
+/// list of these bytes.
+#[derive(Debug, Drop)]
+pub struct Title {
+    text: String,
+}
+
+impl Model for Title {
+    ghost Value = { List ℕ };
+
+    ghost view = { λ t. string_bytes t.text };
+
+    ghost invariant = { λ t. IsTrue (is_title (string_bytes t.text)) };
+}
+
+impl Title {
+    /// The title with this text.
+    pub fn new(alloc: Global, text: &str) -> Result<Title, Refusal>
+        ensures { OrOutOfMemory result (ok_if (is_title text.now) text.now Refusal.BadTitle) }
+    {
+        if !is_title_text(text.as_bytes()) {
+            return Err(Refusal::BadTitle);
+        }
+        Ok(Title::make(alloc, text)?)
+    }
+
+    /// Makes it of a text that passes the test.
+    pub fn make(alloc: Global, text: &str) -> Result<Title, AllocError>
+        requires { IsTrue (is_title text.now) }
+        ensures { IfOk result (λ made. made ≡ text.now) }
+    {
+        let text = String::from_str(alloc, text)?;
+        Ok(Title { text })
+    }
+
+    /// Its text.
+    pub fn as_str(&self) -> &str
+        ensures text { result.now ≡ self.now }
+        ensures is_title { IsTrue (is_title self.now) }
+    {
+        self.text.as_str()
+    }
+
+    /// An equal title.
+    pub fn copy(&self, alloc: Global) -> Result<Title, Refusal>
+        ensures { OrOutOfMemory result (Ok self.now) }
+    {
+        let text = String::from_str(alloc, self.as_str())?;
+        Ok(Title { text })
+    }
+}
+
+/// Whether the bytes are a title.
+pub fn is_title_text(text: &[u8]) -> bool
+    ensures { result ≡ is_title text.now }
+{
+    text.len() >= 1
+        && text.len() <= 60
+        && has_title_bytes(text)
+        && text[0] != b' '
+        && text[text.len() - 1] != b' '
+}
+
+fn has_title_bytes(text: &[u8]) -> bool
+    ensures { result ≡ list_all (λ c. within 32 126 c) text.now }
+{
+    text.iter().all(|byte| *byte >= 32 && *byte <= 126)
+}

@@ -1,0 +1,45 @@
+//! Laws of slots, days and writes, and of the replay of a room's writes: by itself, and on one board with those of other rooms.
+
+ghost use Rattle.mr_model.specs.Laws.{OverlapIsTested};
+ghost use Rattle.mr_model.specs.Laws.{DaysAreNumbered};
+ghost use Rattle.mr_model.specs.Laws.{SameWriteIsTested};
+ghost use Rattle.mr_model.specs.Laws.{OneReplay, FrontsReplayToFronts};
+ghost use Rattle.mr_model.specs.Laws.{RoomsReplayApart, RoomsAreBookedApart, RoomsReplayApartOnBoards, PlacesAreTheBoards};
+ghost use Rattle.mr_model.specs.Laws.{OneWriteMore, OneMoreOnTheBoard, MoreOnTheBoard, FrontsOnTheBoard};
+
+/// The test of an overlap says what an overlap is.
+pub fn overlap_is_tested()
+    ensures { OverlapIsTested }
+{}
+
+/// The days are numbered one after the other, from a Monday on.
+pub fn calendar_law()
+    ensures { DaysAreNumbered }
+{}
+
+/// The test of equal writes says that they are equal.
+pub fn same_write_is_tested()
+    ensures { SameWriteIsTested }
+{}
+
+/// A list of writes has one replay, and a front of it a front of that.
+pub fn replay_law()
+    ensures one { OneReplay }
+    ensures fronts { FrontsReplayToFronts }
+{}
+
+/// On a board of all rooms each room's part is its own replay, and a replica's places are those of its order.
+pub fn board_law()
+    ensures apart { RoomsReplayApart }
+    ensures booked { RoomsAreBookedApart }
+    ensures boards { RoomsReplayApartOnBoards }
+    ensures places { PlacesAreTheBoards }
+{}
+
+/// One write more, more of them, and the last ones undone.
+pub fn next_write_law()
+    ensures one { OneWriteMore }
+    ensures one_on_board { OneMoreOnTheBoard }
+    ensures more_on_board { MoreOnTheBoard }
+    ensures fronts { FrontsOnTheBoard }
+{}
