@@ -20,10 +20,10 @@ impl Model for Alternatives {
 
 impl Alternatives {
     /// The alternatives of this list.
-    pub fn from_vec(slots: Vec<Slot>) -> Alternatives
-        ensures { result ≡ slots.items }
+    pub fn from_vec(list: Vec<Slot>) -> Alternatives
+        ensures { result ≡ list.items }
     {
-        Alternatives { slots }
+        Alternatives { slots: list }
     }
 
     /// Them as a list.
@@ -45,7 +45,7 @@ impl Alternatives {
     pub fn copy(&self, alloc: Global) -> Result<Alternatives, Refusal>
         ensures { OrOutOfMemory result (Ok self.now) }
     {
-        let slots = Vec::from_slice(alloc, self.slots.as_slice())?;
+        let slots = Vec::from_slice(alloc, self.as_slice())?;
         Ok(Alternatives { slots })
     }
 }

@@ -6,28 +6,42 @@
 
 mod alternatives;
 mod batches;
+#[cfg(test)]
+mod calendar_tests;
 mod commits;
 mod days;
+mod digits;
+mod ids;
 mod line_counts;
+mod numbers;
 mod positions;
+#[cfg(test)]
+mod reading_tests;
 mod refusals;
 mod requests;
 mod room_names;
 mod slots;
 mod stamps;
+mod times;
 mod titles;
+#[cfg(test)]
+mod value_tests;
 mod writes;
 
 pub use alternatives::Alternatives;
 pub use batches::{Batch, Ending, Item};
 pub use commits::CommitNumber;
-pub use days::{Day, TwoDigits};
+pub use days::{Day, weekday_name};
+pub use digits::TwoDigits;
+pub use jiff::civil::Weekday;
 pub use line_counts::LineCount;
+pub use numbers::read_number;
 pub use positions::Position;
 pub use refusals::Refusal;
 pub use requests::Request;
 pub use room_names::{RoomName, is_room_text};
 pub use slots::{Slot, overlaps};
 pub use stamps::{ServerId, Stamp, WriteId};
+pub use times::{TimeOfDay, read_minute};
 pub use titles::{Title, is_title_text};
 pub use writes::{Write, stamp_before};

@@ -1,7 +1,7 @@
-ghost use Rattle.std.specs.Prelude.{◌≡◌, ◌∷◌, ◌&&◌, IsTrue};
+ghost use Rattle.std.specs.Prelude.{◌≡◌, ◌∷◌, ◌&&◌, nat_lt, length, IsTrue};
 ghost use Rattle.std.specs.List.{list_all};
 ghost use Rattle.mr_model.specs.Slots.{is_slot};
-ghost use Rattle.mr_model.specs.Writes.{fits_day};
+ghost use Rattle.mr_model.specs.Writes.{fits_day, greatest_alternatives};
 ghost use Rattle.mr_model.specs.Requests.{Request as RequestForRoom, is_request, is_length_for};
 ghost use Rattle.mr_base.specs.Answers.{OrOutOfMemory};
 ghost use Rattle.mr_base.specs.Limits.{limited, request_of};
@@ -60,7 +60,7 @@ impl Request {
         if !fits(length, wish, alternatives.as_slice()) {
             return Err(Refusal::BadLength);
         }
-        if alternatives.as_slice().len() > 8 {
+        if are_too_many(alternatives.as_slice()) {
             return Err(Refusal::TooManyAlternatives);
         }
         room.as_str();
@@ -94,7 +94,7 @@ impl Request {
         if !is_title_text(title.as_bytes()) {
             return Err(Refusal::BadTitle);
         }
-        if alternatives.as_slice().len() > 8 {
+        if are_too_many(alternatives.as_slice()) {
             return Err(Refusal::TooManyAlternatives);
         }
         let room = RoomName::make(alloc, room)?;
@@ -107,6 +107,12 @@ impl Request {
             alternatives,
         })
     }
+}
+
+fn are_too_many(alternatives: &[Slot]) -> bool
+    ensures { result ≡ nat_lt greatest_alternatives (length alternatives.now) }
+{
+    alternatives.len() > 8
 }
 
 fn fits(length: u32, wish: Slot, alternatives: &[Slot]) -> bool

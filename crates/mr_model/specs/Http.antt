@@ -230,7 +230,7 @@ Serves (Faulty f) old response new = (response ≡ f) × (new ≡ old)
 Serves (Runs c) old response new = (reply : Reply) × IsStep old c reply new × (response ≡ response_of reply)
 
 -- the input is answered by this output, and the replica is then new
-pub record IsServed (reads : Readings) (input : Text) (old : Replica) (output : Text) (status : ℕ) (new : Replica) : Type 0 where
+pub record Served (reads : Readings) (input : Text) (old : Replica) (output : Text) (status : ℕ) (new : Replica) : Type 0 where
   pub response : Response
   pub served : Serves (asked reads input) old response new
   pub is_output : output ≡ response_text response

@@ -1,4 +1,3 @@
-use Rattle.std.proofs.Common.{◌≡◌, true, Bool, subst, sym}
 use Rattle.mr_model.proofs.SlotTests.{overlaps-true, overlaps_from}
 use Rattle.mr_base.proofs.slots.overlaps.Goals as goal
 
