@@ -65,6 +65,15 @@ impl RoomName {
     }
 }
 
+impl Clone for RoomName {
+    ghost is_clone = { λ s r. r ≡ s };
+
+    fn clone(&self) -> Result<RoomName, AllocError> {
+        let text = self.text.clone()?;
+        Ok(RoomName { text })
+    }
+}
+
 impl PartialEq for RoomName {
     ghost eq = { pointwise ◌==◌ };
 

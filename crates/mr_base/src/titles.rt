@@ -61,6 +61,15 @@ impl Title {
     }
 }
 
+impl Clone for Title {
+    ghost is_clone = { λ s r. r ≡ s };
+
+    fn clone(&self) -> Result<Title, AllocError> {
+        let text = self.text.clone()?;
+        Ok(Title { text })
+    }
+}
+
 /// Whether the bytes are a title.
 pub fn is_title_text(text: &[u8]) -> bool
     ensures { result ≡ is_title text.now }

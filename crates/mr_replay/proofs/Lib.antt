@@ -1,0 +1,10 @@
+pub mod Ids
+pub mod Entries
+pub mod Lists
+pub mod Placing
+pub mod Checking
+pub mod OneRoom
+pub mod Holding
+pub mod Redoing
+pub mod OneBoard
+pub mod Places

@@ -1,0 +1,215 @@
+ghost use Rattle.std.specs.Prelude.{◌≡◌, ℕ, ◌↔◌, List, [], ◌∷◌, ◌++◌, None, Ok, OnOk, OnErr, IfOk, IfErr, IsTrue, bytes_eq, false};
+ghost use Rattle.std.specs.BTreeMap.{insert_entry};
+ghost use Rattle.std.specs.List.{list_any};
+ghost use Rattle.std.specs.Map.{values_of};
+ghost use Rattle.std.specs.Option.{option_copied};
+ghost use Rattle.mr_model.specs.Texts.{Text};
+ghost use Rattle.mr_model.specs.Writes.{Id, Write, id_of};
+ghost use Rattle.mr_model.specs.Replay.{is_free};
+ghost use Rattle.mr_base.specs.Answers.{OrOutOfMemory};
+ghost use Rattle.mr_base.specs.Ids.{id_cmp};
+ghost use Rattle.mr_replay.specs.Places.{place_of};
+ghost use Rattle.mr_replay.specs.Rows.{row_at, bookings_of, is_in_the_way, IsFree, place_on, executed, undo_row_of, undone, executed_all, undo_rows_of, undone_all};
+ghost use Rattle.mr_replay.specs.Holds.{HaveDistinctIds, AreNew, if_of, HoldsEach, Holds, with_list, undo_row_after, CanReplay};
+
+use crate::{Place, Row, UndoRow};
+use mr_base::{Refusal, RoomName, Slot, Write, WriteId};
+use std::alloc::{AllocError, Global};
+use std::collections::BTreeMap;
+use std::marker::Model;
+
+/// The bookings and the error log of all rooms: one row for each write that was executed and not undone.
+#[derive(Drop)]
+pub struct Board {
+    alloc: Global,
+    rows: BTreeMap<WriteId, Row>,
+}
+
+impl Model for Board {
+    ghost use Rattle.std.specs.Prelude.{List};
+    ghost use Rattle.mr_model.specs.Writes.{Id};
+    ghost use Rattle.mr_replay.specs.declared.rows.Row.{Row};
+
+    ghost Value = { List (Id × Row) };
+
+    ghost view = { λ b. b.rows.entries };
+}
+
+impl Board {
+    /// The empty board. It takes its memory from this allocator later, as it grows.
+    pub fn new(alloc: Global) -> Board
+        ensures value { result ≡ [] }
+        ensures holds { Holds [] result }
+    {
+        Board {
+            alloc,
+            rows: BTreeMap::new(alloc),
+        }
+    }
+
+    /// An equal board.
+    pub fn copy(&self) -> Result<Board, Refusal>
+        ensures { OrOutOfMemory result (Ok self.now) }
+    {
+        let rows = self.rows.clone()?;
+        Ok(Board {
+            alloc: self.alloc,
+            rows,
+        })
+    }
+
+    /// The row of the write with this id.
+    pub fn row(&self, id: WriteId) -> Option<&Row>
+        ensures { option_copied result ≡ row_at self.now id }
+    {
+        self.rows.get(&id)
+    }
+
+    /// Puts a row under this id, in the place of the one that it has.
+    pub fn put(&mut self, id: WriteId, row: Row) -> Result<(), Refusal>
+        ensures ok { OnOk result (self.new ≡ insert_entry id_cmp self.old id row) }
+        ensures err { OnErr result (self.new ≡ self.old) }
+        ensures only { IfErr result (λ e. e ≡ Refusal.OutOfMemory) }
+    {
+        self.rows.insert(id, row)?;
+        Ok(())
+    }
+
+    /// Whether no booking of the room overlaps the slot with this length in minutes.
+    pub fn check(&self, room: &RoomName, slot: Slot, length: u32) -> bool
+        ensures test { result ≡ is_free (bookings_of room.now self.now) length slot }
+        ensures meaning { IsTrue result ↔ IsFree room.now slot length self.now }
+    {
+        !self.is_taken(room, slot, length)
+    }
+
+    /// Where the write would go: to its first choice that is free in its room, else into the error log.
+    pub fn merge(&self, write: &Write) -> Place
+        ensures { place_of result ≡ place_on self.now write.now }
+    {
+        if self.check(&write.room, write.wish, write.length) {
+            return Place::Taken(0);
+        }
+        let mut k = 0;
+        for slot in write.alternatives.as_slice() {
+            k += 1;
+            if self.check(&write.room, *slot, write.length) {
+                return Place::Taken(k);
+            }
+        }
+        Place::Logged
+    }
+
+    /// Executes the write: puts its row at the place that `merge` finds.
+    pub fn execute(&mut self, write: &Write) -> Result<UndoRow, Refusal>
+        ensures row { IfOk result (λ row. row ≡ undo_row_of self.old write.now) }
+        ensures board { OnOk result (self.new ≡ executed self.old write.now) }
+        ensures holds { OnOk result ((ws : List Write) → HaveDistinctIds (ws ++ write.now ∷ [])
+            → Holds ws self.old → Holds (ws ++ write.now ∷ []) self.new) }
+        ensures err { OnErr result (self.new ≡ self.old) }
+        ensures only { IfErr result (λ e. e ≡ Refusal.OutOfMemory) }
+    {
+        let id = write.stamp.id();
+        let place = self.merge(write);
+        let row = Row::new(self.alloc, write, place)?;
+        self.put(id, row)?;
+        Ok(UndoRow { id, place })
+    }
+
+    /// Undoes the last execution, which this row is of.
+    pub fn undo(&mut self, row: UndoRow)
+        ensures board { self.new ≡ undone self.old row }
+        ensures holds { (ws : List Write) (w : Write) → HaveDistinctIds (ws ++ w ∷ [])
+            → row ≡ undo_row_after ws w → Holds (ws ++ w ∷ []) self.old → Holds ws self.new }
+    {
+        self.rows.remove(&row.id);
+    }
+
+    /// Executes the writes in order. Their undo rows stand in the same order.
+    pub fn redo_from(&mut self, writes: &[Write]) -> Result<Vec<UndoRow>, Refusal>
+        ensures rows { IfOk result (λ rows. rows.items ≡ undo_rows_of self.old writes.now) }
+        ensures board { OnOk result (self.new ≡ executed_all self.old writes.now) }
+        ensures holds { OnOk result ((ws : List Write) → HaveDistinctIds (ws ++ writes.now)
+            → Holds ws self.old → Holds (ws ++ writes.now) self.new) }
+        ensures err { AreNew self.old writes.now → OnErr result (self.new ≡ self.old) }
+        ensures only { IfErr result (λ e. e ≡ Refusal.OutOfMemory) }
+    {
+        let mut rows = Vec::new(self.alloc);
+        for write in writes {
+            match self.execute_next(write, &mut rows) {
+                Ok(()) => {}
+                Err(refusal) => {
+                    self.undo_all(&mut rows);
+                    return Err(refusal);
+                }
+            }
+        }
+        Ok(rows)
+    }
+
+    /// Undoes the room's last executions, which `undone` names in the order in which they were done, and executes other
+    /// writes of the room in their place. Other rooms keep what they have. The answer has the undo rows of these writes.
+    pub fn replay_room(
+        &mut self,
+        room: &RoomName,
+        undone: &[UndoRow],
+        again: &[Write],
+    ) -> Result<Vec<UndoRow>, Refusal>
+        ensures rows { IfOk result (λ rows. rows.items ≡ undo_rows_of (undone_all self.old undone.now) again.now) }
+        ensures board { OnOk result (self.new ≡ executed_all (undone_all self.old undone.now) again.now) }
+        ensures holds { OnOk result ((lists : Text → List Write) (front tail : List Write)
+            → CanReplay lists room.now front tail self.old undone.now again.now
+            → HoldsEach (with_list room.now (front ++ again.now) lists) self.new) }
+        ensures others { OnOk result ((lists : Text → List Write) (front tail : List Write)
+            → CanReplay lists room.now front tail self.old undone.now again.now
+            → (other : Text) → bytes_eq other room.now ≡ false → (id : Id)
+            → if_of other (row_at self.new id) ≡ if_of other (row_at self.old id)) }
+        ensures err { OnErr result (self.new ≡ self.old) }
+        ensures only { IfErr result (λ e. e ≡ Refusal.OutOfMemory) }
+    {
+        let _ = room;
+        let mut board = self.copy()?;
+        let mut rows = undone.to_vec(self.alloc)?;
+        board.undo_all(&mut rows);
+        let rows = board.redo_from(again)?;
+        *self = board;
+        Ok(rows)
+    }
+
+    /// Whether some booking of the room overlaps the slot.
+    fn is_taken(&self, room: &RoomName, slot: Slot, length: u32) -> bool
+        ensures { result ≡ list_any (is_in_the_way room.now slot length) (values_of self.now) }
+    {
+        for row in self.rows.values() {
+            if row.is_in_the_way(room, slot, length) {
+                return true;
+            }
+        }
+        false
+    }
+
+    /// Undoes these executions, the last of them first.
+    fn undo_all(&mut self, rows: &mut Vec<UndoRow>)
+        ensures { self.new ≡ undone_all self.old rows.old.items }
+    {
+        while let Some(row) = rows.pop() {
+            self.undo(row);
+        }
+    }
+
+    /// Executes the write and notes its undo row.
+    fn execute_next(&mut self, write: &Write, rows: &mut Vec<UndoRow>) -> Result<(), Refusal>
+        ensures rows { OnOk result (rows.new.items ≡ rows.old.items ++ undo_row_of self.old write.now ∷ []) }
+        ensures board { OnOk result (self.new ≡ executed self.old write.now) }
+        ensures rows_err { OnErr result (rows.new.items ≡ rows.old.items) }
+        ensures board_err { row_at self.old (id_of write.now) ≡ None → OnErr result (self.new ≡ self.old) }
+        ensures only { IfErr result (λ e. e ≡ Refusal.OutOfMemory) }
+    {
+        let row = self.execute(write)?;
+        if let Err(failed) = rows.push(row) {
+            self.undo(failed.value);
+            return Err(Refusal::OutOfMemory);
+        }
+        Ok(())
+    }
+}

@@ -1,0 +1,36 @@
+//! The board: the bookings and the error log of all rooms. It executes writes, undoes them and executes them anew.
+//!
+//! It stands on `mr_base`; `mr_replica` keeps a board beside its log of writes. Contracts see a board as the list of its
+//! rows in the order of their ids (specs/Rows.antt); that it holds, room by room, what the replay of a list of writes gives
+//! is `Holds` (specs/Holds.antt).
+#![tactic(auto)]
+
+mod board;
+mod rows;
+#[cfg(test)]
+mod tests;
+
+ghost use Rattle.mr_replay.specs.Laws.{OneBoard, ExecutingHolds, UndoingHolds, AnotherOrderHolds, UndoIsExact, OthersAreNew, UndoRowsAreOfTheList, UndoRowsAreOfTheRoom, PlacesAreOfTheBoard, RoomsReplayApart};
+
+pub use board::Board;
+pub use rows::{Place, Row, Standing, UndoRow};
+
+/// A list of writes has one board. Executing writes leads from the board of a list to that of a longer one, undoing them
+/// leads back, and undoing an execution gives just the board from before it.
+pub fn board_law()
+    ensures one { OneBoard }
+    ensures executed { ExecutingHolds }
+    ensures undone { UndoingHolds }
+    ensures replaced { AnotherOrderHolds }
+    ensures exact { UndoIsExact }
+    ensures new { OthersAreNew }
+{}
+
+/// What executing writes notes of them is what their list says: their ids, and the places that the replay gives them. So
+/// executing a whole order and taking a room's places is replaying that room's part of it.
+pub fn undo_row_law()
+    ensures list { UndoRowsAreOfTheList }
+    ensures room { UndoRowsAreOfTheRoom }
+    ensures places { PlacesAreOfTheBoard }
+    ensures apart { RoomsReplayApart }
+{}
