@@ -1,0 +1,11 @@
+pub mod PlacedLaws
+pub mod ToldPlaced
+pub mod SheetLaws
+pub mod NameLaws
+pub mod CountLaws
+pub mod StepLemmas
+pub mod WordsRead
+pub mod SheetOrder
+pub mod SubmitSteps
+pub mod SheetSteps
+pub mod Lines

@@ -1,0 +1,75 @@
+-- What the answer of a reader says of the bytes.
+use Rattle.std.proofs.Common.{◌≡◌, refl, sym, ap, ◌∙◌, ℕ, ◌+◌, List, [], ◌∷◌, Result, Ok, Err, ◌⊎◌, inl, inr, Option, Some, None}
+use Rattle.std.specs.Prelude.{IfOk, IfErr, ok_or}
+use Rattle.mr_model.specs.Positions.{Position, read_position, position_text}
+use Rattle.mr_model.proofs.PositionsReadBack.{read_position_text}
+use Rattle.mr_model.specs.Texts.{Text, whole_lines}
+use Rattle.mr_model.specs.Refusals as model
+use Rattle.mr_model.specs.Exchange.{Item, Ending, Header, Batch, BodyLine, ItemLine, LastLine, read_header, read_body_line, with_item, read_end, read_line, read_body, under_header, read_lines, read_batch, ReadsAs, IsFirstBadLine}
+use Rattle.mr_model.proofs.BatchesReadBack.{read_reads}
+use Rattle.mr_model.proofs.FirstBadLine.{bad_line_is_first}
+use Rattle.mr_base.specs.Refusals.{refusal_of}
+use Rattle.mr_base.specs.Answers.{Gives}
+use Rattle.mr_base.specs.declared.refusals.Refusal.{Refusal}
+use Rattle.mr_base.specs.declared.refusals.Refusal.TheVariants.{OutOfMemory}
+use Rattle.mr_wire.specs.Answers.{IsRefusedFor}
+
+pub ok_reads : (bytes : Text) (r : Result Batch Refusal) → Gives r (read_batch bytes) → IfOk r (λ b. ReadsAs bytes b)
+ok_reads bytes (Ok b) e = read_reads bytes b e
+ok_reads bytes (Err e) h = tt
+
+-- reading refuses for bad lines alone
+IsBadLine : model.Refusal → Type 0
+IsBadLine e = (i : ℕ) × (e ≡ model.BadLine i)
+
+err_inj : {A E : Type 0} (x y : E) → ◌≡◌ {A = Result A E} (Err x) (Err y) → x ≡ y
+err_inj x y e = cc
+
+ok_err : {A E : Type 0} (x : A) (e : E) → ◌≡◌ {A = Result A E} (Ok x) (Err e) → ⊥
+ok_err x e h = cc
+
+bad_body : (k : ℕ) (ls : List Text) (e : model.Refusal) → read_body k ls ≡ Err e → IsBadLine e
+unfolding IsBadLine
+bad_body k [] e h = absurd (ok_err _ e h)
+bad_body k (l ∷ ls) e h = go (read_body_line l) (read_body (k + 1) ls) (λ d. bad_body (k + 1) ls d) h
+  where
+    ended : (ending : Ending) (ms : List Text) → read_end ending k ms ≡ Err e → (i : ℕ) × (e ≡ model.BadLine i)
+    ended ending [] q = absurd (ok_err _ e q)
+    ended ending (m ∷ ms) q = (k + 1, sym (err_inj (model.BadLine (k + 1)) e q))
+
+    go : (o : Option BodyLine) (rest : Result (List Item × Ending) model.Refusal) → ((d : model.Refusal) → rest ≡ Err d → (i : ℕ) × (d ≡ model.BadLine i)) → read_line k o ls rest ≡ Err e → (i : ℕ) × (e ≡ model.BadLine i)
+    go None rest ih q = (k, sym (err_inj (model.BadLine k) e q))
+    go (Some (ItemLine x)) (Ok body) ih q = absurd (ok_err _ e q)
+    go (Some (ItemLine x)) (Err d) ih q = ih e q
+    go (Some (LastLine ending)) rest ih q = ended ending ls q
+
+bad_lines : (ls : List Text) (e : model.Refusal) → read_lines ls ≡ Err e → IsBadLine e
+unfolding IsBadLine
+bad_lines [] e h = absurd (ok_err _ e h)
+bad_lines (l ∷ ls) e h = go (read_header l) (read_body 2 ls) (λ d. bad_body 2 ls d) h
+  where
+    go : (o : Option Header) (body : Result (List Item × Ending) model.Refusal) → ((d : model.Refusal) → body ≡ Err d → (i : ℕ) × (d ≡ model.BadLine i)) → under_header o body ≡ Err e → (i : ℕ) × (e ≡ model.BadLine i)
+    go None body f q = (1, sym (err_inj (model.BadLine 1) e q))
+    go (Some d) (Ok body) f q = absurd (ok_err _ e q)
+    go (Some d) (Err x) f q = f e (ap Err (err_inj x e q))
+
+first_bad_of : (bytes : Text) (e : model.Refusal) → read_batch bytes ≡ Err e → (i : ℕ) × (e ≡ model.BadLine i) × IsFirstBadLine bytes i
+unfolding IsBadLine
+first_bad_of bytes e h =
+    let (i, is) = bad_lines (whole_lines bytes) e h in
+    (i, is, bad_line_is_first bytes i (h ∙ ap Err is))
+
+pub err_refuses : (bytes : Text) (r : Result Batch Refusal) → Gives r (read_batch bytes) → IfErr r (λ e. IsRefusedFor bytes e)
+err_refuses bytes (Ok b) h = tt
+err_refuses bytes (Err e) (inl h) = inl (first_bad_of bytes (refusal_of e) h)
+err_refuses bytes (Err e) (inr h) = inr h
+
+-- ---- positions
+
+pub ok_position : (bytes : Text) (r : Result Position Refusal) → Gives r (ok_or (read_position bytes) model.BadPosition) → IfOk r (λ p. bytes ≡ position_text p)
+ok_position bytes (Ok p) e = go (read_position bytes) refl e
+  where
+    go : (o : Option Position) → read_position bytes ≡ o → ok_or o model.BadPosition ≡ Ok p → bytes ≡ position_text p
+    go (Some q) h is = (read_position_text bytes p (h ∙ (let same : q ≡ p = cc in ap (λ (x : Position). Some x) same))).1
+    go None h is = absurd (cc)
+ok_position bytes (Err e) h = tt

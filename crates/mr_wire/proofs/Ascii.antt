@@ -1,0 +1,163 @@
+-- Each line of a batch and of a position is ASCII, and so it is text.
+use Rattle.std.proofs.Common.{◌≡◌, refl, sym, ap, subst, ℕ, suc, ◌+◌, ◌-◌, ◌/◌, ◌%◌, ◌^◌, ◌<◌, ◌≤◌, Bool, true, false, not, ◌&&◌, ◌||◌, eqb, leb, List, [], ◌∷◌, ◌++◌, length, ◌⊎◌, inl, inr, Option, Some, None, arith, IsTrue, lit<, lit≤, leb-true, eqb-true}
+use Rattle.std.proofs.lemmas.Bool.{and_parts, or_cases}
+use Rattle.std.proofs.lemmas.Fmt.{decimal_by_steps}
+use Rattle.std.proofs.lemmas.Str.{IsUtf8-from_ascii}
+use Rattle.std.proofs.lemmas.Str.Ascii.{IsAscii-nil, IsAscii-cons}
+use Rattle.std.specs.Prelude.{flat_map, codes, slice_index}
+use Rattle.std.specs.Str.{IsAscii, IsUtf8}
+use Rattle.std.specs.Fmt.{decimal}
+use Rattle.std.specs.List.{AllByRecursion, list_all}
+use Rattle.mr_model.specs.Texts.{Text, words, within, two_digits}
+use Rattle.mr_model.specs.Calendar.{Date, is_date, date_text, time_text}
+use Rattle.mr_model.specs.Slots.{Slot, is_slot, slot_words}
+use Rattle.mr_model.specs.Writes.{Id, Write, is_write, is_id, is_server, is_count, is_commit_number, is_room_byte, is_room_name, is_title, choices, greatest_count, greatest_time}
+use Rattle.mr_model.specs.Exchange.{Header, Item, W, C, BodyLine, ItemLine, LastLine, Complete, More, Cut, Ending, is_header, is_item, header_line, write_words, write_line, item_line, ending_lines, read_header, read_body_line}
+use Rattle.mr_model.proofs.WordsReadBack.{all_append, DateFacts, date_facts}
+use Rattle.mr_model.proofs.LinesReadBack.{within-high, small, WriteFacts, write_facts, slots_all}
+use Rattle.mr_model.proofs.BatchesReadBack.{own_text, IsLineOf, body_line_of}
+
+abbrev pub Low : Text → Type 0
+Low t = AllByRecursion (λ c. c < 128) t
+
+is_ascii : (t : Text) → Low t → IsAscii t
+is_ascii [] h = IsAscii-nil
+is_ascii (c ∷ cs) h = IsAscii-cons c cs h.0 (is_ascii cs h.1)
+
+pub is_text : (t : Text) → Low t → IsUtf8 t
+is_text t h = IsUtf8-from_ascii t (is_ascii t h)
+
+decimal_low : (n : ℕ) → n < 2 ^ 64 → Low (decimal n)
+decimal_low = decimal_by_steps (λ n ds. Low ds) (λ n low. (omega (arith, low), tt)) (λ n ds high h. all_append (λ c. c < 128) ds ((48 + n % 10) ∷ []) h (omega arith, tt))
+
+pub number_low : (n g : ℕ) → n ≤ g → g < 2 ^ 64 → Low (decimal n)
+number_low n g a b = decimal_low n (small n g a b)
+
+two_low : (n : ℕ) → n < 100 → Low (two_digits n)
+two_low n h = (omega (arith, h), (omega (arith, h), tt))
+
+date_low : (d : Date) → is_date d ≡ true → Low (date_text d)
+date_low d ok =
+    let f = date_facts d ok in
+    let y : d.year < 2100 = f.to_2099 in
+    let century = two_low (d.year / 100) (omega (arith, y)) in
+    let year = two_low (d.year % 100) (omega arith) in
+    let month = two_low d.month f.month in
+    let day = two_low d.day f.day in
+    (century.0, (century.1.0, (year.0, (year.1.0, (lit< tt, (month.0, (month.1.0, (lit< tt, (day.0, (day.1.0, tt))))))))))
+
+time_low : (n : ℕ) → n ≤ 1439 → Low (time_text n)
+time_low n h =
+    let hour = two_low (n / 60) (omega (arith, h)) in
+    let minute = two_low (n % 60) (omega arith) in
+    (hour.0, (hour.1.0, (lit< tt, (minute.0, (minute.1.0, tt)))))
+
+room_byte_low : (c : ℕ) → is_room_byte c ≡ true → c < 128
+room_byte_low c h = go (or_cases (within 97 122 c || within 48 57 c) (eqb c 45) h)
+  where
+    letter_or_digit : (within 97 122 c ≡ true) ⊎ (within 48 57 c ≡ true) → c < 128
+    letter_or_digit (inl e) = let m = within-high 97 122 c e in omega (arith, m)
+    letter_or_digit (inr e) = let m = within-high 48 57 c e in omega (arith, m)
+
+    go : ((within 97 122 c || within 48 57 c) ≡ true) ⊎ (eqb c 45 ≡ true) → c < 128
+    go (inl e) = letter_or_digit (or_cases (within 97 122 c) (within 48 57 c) e)
+    go (inr e) = let m = eqb-true c 45 e in omega (arith, m)
+
+all_low : (test : ℕ → Bool) → ((c : ℕ) → test c ≡ true → c < 128) → (t : Text) → list_all test t ≡ true → Low t
+all_low test f [] h = tt
+all_low test f (c ∷ cs) h = let p = and_parts (test c) (list_all test cs) h in (f c p.0, all_low test f cs p.1)
+
+room_low : (t : Text) → is_room_name t ≡ true → Low t
+room_low t h = all_low is_room_byte room_byte_low t (and_parts (within 1 16 (length t)) (list_all is_room_byte t) h).1
+
+title_low : (t : Text) → is_title t ≡ true → Low t
+title_low t h =
+    let a = and_parts _ (not (eqb (slice_index t (length t - 1)) 32)) h in
+    let b = and_parts _ (not (eqb (slice_index t 0) 32)) a.0 in
+    all_low (λ c. within 32 126 c) (λ c e. let m = within-high 32 126 c e in omega (arith, m)) t (and_parts (within 1 60 (length t)) (list_all (λ c. within 32 126 c) t) b.0).1
+
+pub words_low : (ws : List Text) → AllByRecursion Low ws → Low (words ws)
+words_low [] h = tt
+words_low (w ∷ []) h = h.0
+words_low (w ∷ v ∷ ws) h = all_append (λ c. c < 128) w (32 ∷ words (v ∷ ws)) h.0 (lit< tt, words_low (v ∷ ws) h.1)
+
+slot_low : (s : Slot) → is_slot s ≡ true → Low (date_text s.day) × Low (time_text s.start)
+slot_low s ok = let p = and_parts (is_date s.day) (leb s.start 1439) ok in (date_low s.day p.0, time_low s.start (leb-true s.start 1439 p.1))
+
+slots_low : (ss : List Slot) → AllByRecursion (λ s. is_slot s ≡ true) ss → AllByRecursion Low (flat_map slot_words ss)
+slots_low [] h = tt
+slots_low (s ∷ ss) h = let p = slot_low s h.0 in (p.0, (p.1, slots_low ss h.1))
+
+write_low : (w : Write) → is_write w ≡ true → Low (write_line w)
+write_low w ok =
+    let f = write_facts w ok in
+    let all : AllByRecursion (λ s. is_slot s ≡ true) (choices w) = slots_all w.length (choices w) f.slots in
+    let wish = slot_low w.wish all.0 in
+    words_low (write_words w) (
+      (lit< tt, tt),
+      (
+        number_low w.stamp.server 99 f.server (lit< tt),
+        (
+          number_low w.stamp.n greatest_count f.n (lit< tt),
+          (
+            number_low w.stamp.time greatest_time f.time (lit< tt),
+            (
+              room_low w.room f.room,
+              (
+                number_low w.length 1440 f.long (lit< tt),
+                (
+                  wish.0,
+                  (
+                    wish.1,
+                    (
+                      number_low (length w.alternatives) 8 f.few (lit< tt),
+                      all_append Low (flat_map slot_words w.alternatives) (w.title ∷ []) (slots_low w.alternatives all.1) (title_low w.title f.title, tt),
+                    ),
+                  ),
+                ),
+              ),
+            ),
+          ),
+        ),
+      ),
+    )
+
+pub servers_low : (a b g : ℕ) → IsTrue (is_server a) → IsTrue (within 1 g b) → g < 2 ^ 64 → Low (words (decimal a ∷ decimal b ∷ []))
+servers_low a b g ha hb top = words_low (decimal a ∷ decimal b ∷ []) (number_low a 99 (within-high 1 99 a ha) (lit< tt), (number_low b g (within-high 1 g b hb) top, tt))
+
+item_low : (x : Item) → is_item x ≡ true → Low (item_line x)
+item_low (W w) ok = write_low w ok
+item_low (C q id) ok =
+    let a = and_parts (is_commit_number q) (is_id id) ok in
+    let b = and_parts (is_server id.server) (is_count id.n) a.1 in
+    words_low (codes "C" ∷ decimal q ∷ decimal id.server ∷ decimal id.n ∷ [])
+    ((lit< tt, tt), (number_low q 999_999_999_999 (within-high 1 999_999_999_999 q a.0) (lit< tt), (number_low id.server 99 (within-high 1 99 id.server b.0) (lit< tt), (number_low id.n 999_999_999 (within-high 1 999_999_999 id.n b.1) (lit< tt), tt))))
+
+header_low : (h : Header) → is_header h ≡ true → Low (header_line h)
+header_low h ok =
+    let a = and_parts (is_server h.from) (is_server h.primary) ok in
+    words_low (codes "mr1" ∷ decimal h.from ∷ decimal h.primary ∷ [])
+    ((lit< tt, (lit< tt, (lit< tt, tt))), (number_low h.from 99 (within-high 1 99 h.from a.0) (lit< tt), (number_low h.primary 99 (within-high 1 99 h.primary a.1) (lit< tt), tt)))
+
+-- what isn't text is no header, and no line below it
+pub no_header : (bytes : Text) → (IsUtf8 bytes → ⊥) → read_header bytes ≡ None
+no_header bytes bad = go (read_header bytes) refl
+  where
+    go : (o : Option Header) → read_header bytes ≡ o → read_header bytes ≡ None
+    go None e = e
+    go (Some h) e =
+        let own = own_text is_header header_line (record { from = Rattle.mr_model.specs.Texts.number_at 1 bytes; primary = Rattle.mr_model.specs.Texts.number_at 2 bytes }) h bytes e in
+        absurd (bad (subst IsUtf8 own.1 (is_text (header_line h) (header_low h own.0))))
+
+pub no_body_line : (bytes : Text) → (IsUtf8 bytes → ⊥) → read_body_line bytes ≡ None
+no_body_line bytes bad = go (read_body_line bytes) refl (body_line_of bytes)
+  where
+    only_line : (t u : Text) → t ∷ [] ≡ u ∷ [] → t ≡ u
+    only_line t u e = cc
+
+    go : (o : Option BodyLine) → read_body_line bytes ≡ o → IsLineOf bytes (read_body_line bytes) → read_body_line bytes ≡ None
+    go None e t = e
+    go (Some (ItemLine x)) e t = let own = subst (λ o. IsLineOf bytes o) e t in absurd (bad (subst IsUtf8 (sym own.1) (is_text (item_line x) (item_low x own.0))))
+    go (Some (LastLine Complete)) e t = let own : bytes ∷ [] ≡ codes "E" ∷ [] = subst (λ o. IsLineOf bytes o) e t in absurd (bad (subst IsUtf8 (sym (only_line bytes (codes "E") own)) (is_text (codes "E") (lit< tt, tt))))
+    go (Some (LastLine More)) e t = let own : bytes ∷ [] ≡ codes "M" ∷ [] = subst (λ o. IsLineOf bytes o) e t in absurd (bad (subst IsUtf8 (sym (only_line bytes (codes "M") own)) (is_text (codes "M") (lit< tt, tt))))
+    go (Some (LastLine Cut)) e t = let own : ◌≡◌ {A = List Text} (bytes ∷ []) [] = subst (λ o. IsLineOf bytes o) e t in absurd (cc)

@@ -1,0 +1,164 @@
+-- The fields of a line, each taken off the front of a text, and the lines that are made of them.
+use Rattle.std.specs.Prelude.{ℕ, zero, suc, Bool, not, ◌&&◌, nat_lt, if◌then◌else◌, List, [], ◌∷◌, ◌++◌, length, codes, bytes_eq, Option, Some, None}
+use Rattle.std.specs.List.{list_all}
+use Rattle.mr_model.specs.Texts.{Text, whole_lines, only_if}
+use Rattle.mr_model.specs.Calendar.{read_date, read_time}
+use Rattle.mr_model.specs.Slots.{Slot}
+use Rattle.mr_model.specs.Writes.{Id, Stamp, Write, is_room_name, is_title, greatest_alternatives, greatest_count, greatest_time}
+use Rattle.mr_model.specs.Requests.{is_length_for}
+use Rattle.mr_model.specs.Exchange.{Header, Item, W, C, BodyLine, ItemLine, LastLine, Complete, More}
+use Rattle.mr_model.specs.Positions.{Count, Position, is_position}
+use Rattle.mr_wire.specs.Words.{cut}
+use Rattle.mr_base.specs.Readings.{number_from_to}
+
+infixl 10 ◌>>=◌
+abbrev pub ◌>>=◌ : {A B : Type 0} → Option A → (A → Option B) → Option B
+(Some x) >>= f = f x
+None >>= f = None
+
+-- a number and its space
+unfoldable pub number_off : ℕ → ℕ → Text → Option (ℕ × Text)
+number_off low high text = do
+  word ← cut 32 text
+  n ← number_from_to low high word.0
+  Some (n, word.1)
+
+-- the day and the time of a slot, each with its space
+unfoldable pub slot_off : Text → Option (Slot × Text)
+slot_off text = do
+  word ← cut 32 text
+  day ← read_date word.0
+  next ← cut 32 word.1
+  start ← read_time next.0
+  Some (record { day = day; start = start }, next.1)
+
+-- so many slots
+unfoldable pub slots_off : ℕ → Text → Option (List Slot × Text)
+slots_off zero text = Some ([], text)
+slots_off (suc k) text = do
+  slot ← slot_off text
+  others ← slots_off k slot.1
+  Some (slot.0 ∷ others.0, others.1)
+
+unfoldable pub stamp_off : Text → Option (Stamp × Text)
+stamp_off text = do
+  server ← number_off 1 99 text
+  n ← number_off 1 999_999_999 server.1
+  time ← number_off 1 999_999_999_999 n.1
+  Some (record { server = server.0; n = n.0; time = time.0 }, time.1)
+
+-- the wish, the number of alternatives and the alternatives
+unfoldable pub choices_off : Text → Option ((Slot × List Slot) × Text)
+choices_off text = do
+  wish ← slot_off text
+  few ← number_off 0 8 wish.1
+  others ← slots_off few.0 few.1
+  Some ((wish.0, others.0), others.1)
+
+-- the write of these parts, where they are within the limits
+unfoldable pub write_with : Stamp → Text → ℕ → Slot → List Slot → Text → Option Write
+write_with stamp room minutes wish others title =
+    only_if
+    (is_room_name room && (is_title title && (is_length_for minutes (wish ∷ others) && not (nat_lt greatest_alternatives (length others)))))
+    (record { stamp = stamp; room = room; title = title; length = minutes; wish = wish; alternatives = others })
+
+-- what stands behind the W of a write's line
+unfoldable pub write_of : Text → Option Write
+write_of text = do
+  stamp ← stamp_off text
+  room ← cut 32 stamp.1
+  minutes ← number_off 1 1440 room.1
+  choices ← choices_off minutes.1
+  write_with stamp.0 room.0 minutes.0 choices.0.0 choices.0.1 choices.1
+
+-- what stands behind the word, where a text begins with it
+unfoldable pub behind_word : Text → Text → Option Text
+behind_word word text = do
+  first ← cut 32 text
+  only_if (bytes_eq first.0 word) first.1
+
+-- a server, and a number that ends the line
+unfoldable pub server_and : ℕ → Text → Option (ℕ × ℕ)
+server_and high text = do
+  server ← number_off 1 99 text
+  n ← number_from_to 1 high server.1
+  Some (server.0, n)
+
+-- what stands behind the C of a commit's line
+unfoldable pub commit_of : Text → Option Item
+commit_of text = do
+  seq ← number_off 1 999_999_999_999 text
+  id ← server_and 999_999_999 seq.1
+  Some (C seq.0 (record { server = id.0; n = id.1 }))
+
+unfoldable pub header_of : Text → Option Header
+header_of text = do
+  rest ← behind_word (codes "mr1") text
+  servers ← server_and 99 rest
+  Some (record { from = servers.0; primary = servers.1 })
+
+-- a line by its first word
+unfoldable pub worded_line : Text → Text → Option BodyLine
+worded_line word rest =
+    if bytes_eq word (codes "W") then (write_of rest >>= λ w. Some (ItemLine (W w)))
+    else (if bytes_eq word (codes "C") then (commit_of rest >>= λ c. Some (ItemLine c)) else None)
+
+-- a line of one word
+unfoldable pub bare_line : Text → Option BodyLine
+bare_line text =
+    if bytes_eq text (codes "E") then Some (LastLine Complete)
+    else (if bytes_eq text (codes "M") then Some (LastLine More) else None)
+
+abbrev pub line_by : Text → Option (Text × Text) → Option BodyLine
+line_by text (Some (word, rest)) = worded_line word rest
+line_by text None = bare_line text
+
+-- a line below the header
+abbrev pub line_of : Text → Option BodyLine
+line_of text = line_by text (cut 32 text)
+
+-- ---- positions
+
+unfoldable pub servers_of : Text → Option (ℕ × ℕ)
+servers_of text = do
+  rest ← behind_word (codes "mp1") text
+  server_and 99 rest
+
+unfoldable pub commits_of : Text → Option ℕ
+commits_of text = do
+  rest ← behind_word (codes "K") text
+  number_from_to 0 999_999_999_999 rest
+
+unfoldable pub count_of : Text → Option Count
+count_of text = do
+  rest ← behind_word (codes "V") text
+  c ← server_and 999_999_999 rest
+  Some (record { server = c.0; count = c.1 })
+
+abbrev pub no_more : List Text → Option (List Count)
+no_more [] = Some []
+no_more (l ∷ ls) = None
+
+-- these counts, and those that are read behind them
+abbrev pub with_counts : List Count → Option (List Count) → Option (List Count)
+with_counts front read = read >>= λ cs. Some (front ++ cs)
+
+-- the counts up to the last line
+abbrev pub counts_until_end : List Text → Option (List Count)
+counts_until_end [] = None
+counts_until_end (l ∷ ls) =
+    if bytes_eq l (codes "E") then no_more ls
+    else (count_of l >>= λ c. (counts_until_end ls >>= λ cs. Some (c ∷ cs)))
+
+abbrev pub if_position : Position → Option Position
+if_position p = only_if (is_position p) p
+
+-- all lines of a position
+unfoldable pub position_on : Text → Option Position
+position_on text = do
+  first ← cut 10 text
+  second ← cut 10 first.1
+  servers ← servers_of first.0
+  commits ← commits_of second.0
+  counts ← counts_until_end (whole_lines second.1)
+  if_position (record { server = servers.0; primary = servers.1; commits = commits; counts = counts })

@@ -1,0 +1,91 @@
+ghost use Rattle.std.specs.Prelude.{◌≡◌, ℕ, ◌+◌, ◌<◌, ◌^◌, true, length, take, map, Ok, Err, IfOk, IfErr};
+ghost use Rattle.mr_model.specs.Texts.{whole_lines};
+ghost use Rattle.mr_model.specs.Refusals.{BadLine};
+ghost use Rattle.mr_model.specs.Exchange.{Batch as BatchOfLines, is_batch, batch_text, batch_lines, read_body, read_end, read_batch, ReadsAs, IsFirstBadLine, front_of, lines_within};
+ghost use Rattle.mr_base.specs.Answers.{Gives};
+ghost use Rattle.mr_base.specs.Batches.{item_of, ending_of};
+ghost use Rattle.mr_wire.specs.Answers.{GivesSeen, IsRefusedFor, body_seen, with_front, refusal_at};
+
+use crate::fault::Fault;
+use crate::lines::{Line, read_header, read_line};
+use crate::words::first_line;
+use mr_base::{Batch, Ending, Item, Refusal};
+use std::alloc::Global;
+
+/// The batch that the bytes read as. A last piece without LF is dropped, and bytes without a whole line are the batch
+/// without a header. `BadLine(i)` where line i, counted from 1, is the first whole line that isn't of its place.
+pub fn read_batch(alloc: Global, bytes: &[u8]) -> Result<Batch, Refusal>
+    ensures exact { Gives result (read_batch bytes.now) }
+    // What is read is what the bytes read as.
+    ensures reads { IfOk result (λ b. ReadsAs bytes.now b) }
+    // What the bytes read as is read, unless memory runs out.
+    ensures all_read { (b : BatchOfLines) → ReadsAs bytes.now b → Gives result (Ok b) }
+    // What is refused has a first bad line, or memory ran out.
+    ensures refuses { IfErr result (IsRefusedFor bytes.now) }
+    // Where there is a bad line, the first is told, unless memory runs out.
+    ensures all_refused { (i : ℕ) → IsFirstBadLine bytes.now i → Gives result (Err (BadLine i)) }
+    // The first bytes of a written batch read as the whole lines in them.
+    ensures fronts { (n : ℕ) (b : BatchOfLines) → is_batch b ≡ true → bytes.now ≡ take n (batch_text b)
+        → Gives result (Ok (front_of (lines_within n (batch_lines b)) b)) }
+{
+    batch_of(alloc, bytes)
+}
+
+fn batch_of(alloc: Global, bytes: &[u8]) -> Result<Batch, Refusal>
+    ensures { Gives result (read_batch bytes.now) }
+{
+    let Some((line, rest)) = first_line(bytes) else {
+        return Ok(Batch::without_header(Vec::new(alloc)));
+    };
+    let Some((from, primary)) = read_header(line) else {
+        return Err(Refusal::BadLine(1));
+    };
+    let (items, ending) = read_body(alloc, rest)?;
+    Ok(Batch::new(from, primary, items, ending))
+}
+
+/// The items and the ending on the lines below the header. The first of these lines has the number 2.
+fn read_body(alloc: Global, bytes: &[u8]) -> Result<(Vec<Item>, Ending), Refusal>
+    requires { length bytes.now + 1 < 2 ^ 64 }
+    ensures { GivesSeen (λ x. body_seen x.0.items x.1) result (read_body 2 (whole_lines bytes.now)) }
+{
+    let mut items = Vec::new(alloc);
+    let mut rest = bytes;
+    let mut before = 1u64;
+    while let Some((line, behind)) = first_line(rest) {
+        let number = before + 1;
+        match read_line(alloc, line) {
+            Ok(Line::Item(item)) => items.push(item)?,
+            Ok(Line::Last(ending)) => return end_body(items, ending, number, behind),
+            Err(fault) => return Err(refuse(fault, number)),
+        }
+        before = number;
+        rest = behind;
+    }
+    Ok((items, Ending::Cut))
+}
+
+/// The items, where no line stands behind the last one, which has this number.
+fn end_body(
+    items: Vec<Item>,
+    ending: Ending,
+    number: u64,
+    behind: &[u8],
+) -> Result<(Vec<Item>, Ending), Refusal>
+    requires { number + length behind.now < 2 ^ 64 }
+    ensures { GivesSeen (λ x. body_seen x.0.items x.1) result (with_front (map item_of items.items) (read_end (ending_of ending) number (whole_lines behind.now))) }
+{
+    match first_line(behind) {
+        None => Ok((items, ending)),
+        Some(_) => Err(Refusal::BadLine(number + 1)),
+    }
+}
+
+fn refuse(fault: Fault, number: u64) -> Refusal
+    ensures { result ≡ refusal_at number fault }
+{
+    match fault {
+        Fault::NotALine => Refusal::BadLine(number),
+        Fault::OutOfMemory => Refusal::OutOfMemory,
+    }
+}

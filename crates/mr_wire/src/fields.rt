@@ -1,0 +1,134 @@
+ghost use Rattle.std.specs.Prelude.{◌≡◌, ◌≤◌, ℕ, IsTrue, IfSome, option_map};
+ghost use Rattle.std.specs.Str.{IsUtf8};
+ghost use Rattle.mr_model.specs.Texts.{within};
+ghost use Rattle.mr_model.specs.Calendar.{read_date, read_time};
+ghost use Rattle.mr_wire.specs.Fields.{number_off, stamp_off, slot_off, slots_off, choices_off, server_and, behind_word};
+ghost use Rattle.mr_wire.specs.Reading.{Reads};
+
+use crate::fault::Fault;
+use crate::words::first_word;
+use mr_base::{Alternatives, Day, ServerId, Slot, Stamp, read_minute, read_number};
+use std::alloc::Global;
+
+/// A number from `low` to `high` in front of a space, and what stands behind that.
+#[tactic(auto, unfolding(crate::specs::Fields::number_off))]
+pub fn number_off(text: &str, low: u64, high: u64) -> Option<(u64, &str)>
+    ensures value { option_map (λ x. (x.0, x.1.now)) result ≡ number_off low high text.now }
+    ensures in_range { IfSome result (λ x. IsTrue (within low high x.0)) }
+{
+    let (word, rest) = first_word(text)?;
+    let number = read_number(word, low, high)?;
+    Some((number, rest))
+}
+
+/// A server's number in front of a space.
+#[tactic(auto, using(std::proofs::lemmas::Bool::Decides::nat_tests))]
+pub fn server_off(text: &str) -> Option<(ServerId, &str)>
+    ensures { option_map (λ x. (x.0, x.1.now)) result ≡ number_off 1 99 text.now }
+{
+    let (number, rest) = number_off(text, 1, 99)?;
+    let server = ServerId::new(number as u32)?;
+    Some((server, rest))
+}
+
+/// A write's stamp, each of its three numbers in front of a space.
+#[tactic(auto, using(std::proofs::lemmas::Bool::Decides::nat_tests), unfolding(crate::specs::Fields::stamp_off))]
+pub fn stamp_off(text: &str) -> Option<(Stamp, &str)>
+    ensures { option_map (λ x. (x.0, x.1.now)) result ≡ stamp_off text.now }
+{
+    let Some((server, rest)) = server_off(text) else {
+        return None;
+    };
+    let (n, rest) = number_off(rest, 1, 999_999_999)?;
+    let (time, rest) = number_off(rest, 1, 999_999_999_999)?;
+    Some((
+        Stamp {
+            server,
+            n: n as u32,
+            time,
+        },
+        rest,
+    ))
+}
+
+fn day_of(word: &str) -> Option<Day>
+    ensures { result ≡ read_date word.now }
+{
+    Day::read(word).ok()
+}
+
+fn minute_of(word: &str) -> Option<u32>
+    ensures { result ≡ read_time word.now }
+{
+    read_minute(word).ok()
+}
+
+/// A slot: a day and a time, each in front of a space.
+#[tactic(auto, unfolding(crate::specs::Fields::slot_off))]
+pub fn slot_off(text: &str) -> Option<(Slot, &str)>
+    ensures value { option_map (λ x. (x.0, x.1.now)) result ≡ slot_off text.now }
+    ensures utf8 { IfSome result (λ x. IsUtf8 x.1.now) }
+{
+    let (word, rest) = first_word(text)?;
+    let day = day_of(word)?;
+    let (word, rest) = first_word(rest)?;
+    let start = minute_of(word)?;
+    Some((Slot { day, start }, rest))
+}
+
+/// So many slots.
+pub fn slots_off(alloc: Global, count: u64, text: &str) -> Result<(Alternatives, &str), Fault>
+    ensures { Reads (λ x. (x.0, x.1.now)) result (slots_off count text.now) }
+{
+    let mut slots = Vec::new(alloc);
+    let mut rest = text;
+    for _ in 0..count {
+        match slot_off(rest) {
+            Some(taken) => {
+                slots.push(taken.0)?;
+                rest = taken.1;
+            }
+            None => return Err(Fault::NotALine),
+        }
+    }
+    Ok((Alternatives::from_vec(slots), rest))
+}
+
+/// The wish, the number of alternatives and the alternatives, and the title behind them.
+#[tactic(auto, unfolding(crate::specs::Fields::choices_off))]
+pub fn choices_off(alloc: Global, text: &str) -> Result<((Slot, Alternatives), &str), Fault>
+    ensures { Reads (λ x. (x.0, x.1.now)) result (choices_off text.now) }
+{
+    let Some((wish, rest)) = slot_off(text) else {
+        return Err(Fault::NotALine);
+    };
+    let Some((count, rest)) = number_off(rest, 0, 8) else {
+        return Err(Fault::NotALine);
+    };
+    let (alternatives, title) = slots_off(alloc, count, rest)?;
+    Ok(((wish, alternatives), title))
+}
+
+/// A server in front of a space, and a number up to `high` that ends the line.
+#[tactic(auto, unfolding(crate::specs::Fields::server_and))]
+pub fn server_and(text: &str, high: u64) -> Option<(ServerId, u64)>
+    ensures value { result ≡ server_and high text.now }
+    ensures in_range { IfSome result (λ x. IsTrue (within 1 high x.1)) }
+{
+    let Some((server, rest)) = server_off(text) else {
+        return None;
+    };
+    let number = read_number(rest, 1, high)?;
+    Some((server, number))
+}
+
+/// What stands behind the word and a space, where the text begins with these.
+#[tactic(auto, unfolding(crate::specs::Fields::behind_word))]
+pub fn behind_word<'a>(word: &str, text: &'a str) -> Option<&'a str>
+    ensures { option_map (λ x. x.now) result ≡ behind_word word.now text.now }
+{
+    match first_word(text) {
+        Some((first, rest)) if first == word => Some(rest),
+        _ => None,
+    }
+}

@@ -1,0 +1,135 @@
+ghost use Rattle.std.specs.Prelude.{◌≡◌, ◌==◌, ◌-◌, true, length, slice_index, option_map, ok_or, IfOk, IfErr, Ok, Err};
+ghost use Rattle.std.specs.Str.{IsUtf8};
+ghost use Rattle.mr_model.specs.Texts.{whole_lines};
+ghost use Rattle.mr_model.specs.Refusals.{BadPosition};
+ghost use Rattle.mr_model.specs.Positions.{Position as PositionOfReplica, is_position, position_text, read_position};
+ghost use Rattle.mr_base.specs.Answers.{Gives};
+ghost use Rattle.mr_base.specs.Positions.{counts_of};
+ghost use Rattle.mr_wire.specs.Fields.{servers_of as servers_read, commits_of as commits_read, count_of as count_read, counts_until_end, no_more, with_counts, position_on};
+ghost use Rattle.mr_wire.specs.Reading.{Reads};
+
+use crate::fault::Fault;
+use crate::fields::{behind_word, server_and};
+use crate::lines::servers_of;
+use crate::words::first_line_of_text;
+use mr_base::{Position, Refusal, ServerId, read_number};
+use std::alloc::Global;
+
+/// The position whose text the bytes are, all of them; `BadPosition` for anything else, a cut text too.
+pub fn read_position(alloc: Global, bytes: &[u8]) -> Result<Position, Refusal>
+    ensures exact { Gives result (ok_or (read_position bytes.now) BadPosition) }
+    // What is read has these bytes as its text.
+    ensures reads { IfOk result (λ p. bytes.now ≡ position_text p) }
+    // The text of each position is read, unless memory runs out.
+    ensures all_read { (p : PositionOfReplica) → is_position p ≡ true → bytes.now ≡ position_text p → Gives result (Ok p) }
+{
+    position_or_refusal(alloc, bytes)
+}
+
+fn position_or_refusal(alloc: Global, bytes: &[u8]) -> Result<Position, Refusal>
+    ensures { Gives result (ok_or (read_position bytes.now) BadPosition) }
+{
+    match position_of(alloc, bytes) {
+        Ok(position) => Ok(position),
+        Err(Fault::NotALine) => Err(Refusal::BadPosition),
+        Err(Fault::OutOfMemory) => Err(Refusal::OutOfMemory),
+    }
+}
+
+fn position_of(alloc: Global, bytes: &[u8]) -> Result<Position, Fault>
+    ensures { Reads (λ p. p) result (read_position bytes.now) }
+{
+    let Ok(text) = str::from_utf8(bytes) else {
+        return Err(Fault::NotALine);
+    };
+    if ends_in_line(text) {
+        position_of_lines(alloc, text)
+    } else {
+        Err(Fault::NotALine)
+    }
+}
+
+// Whether the last line is whole.
+fn ends_in_line(text: &str) -> bool
+    ensures { result ≡ (slice_index text.now (length text.now - 1) == 10) }
+{
+    text.ends_with('\n')
+}
+
+/// The position on the lines of a text.
+#[tactic(auto, unfolding(crate::specs::Fields::position_on))]
+fn position_of_lines(alloc: Global, text: &str) -> Result<Position, Fault>
+    ensures { Reads (λ p. p) result (position_on text.now) }
+{
+    let Some((servers, rest)) = first_line_of_text(text) else {
+        return Err(Fault::NotALine);
+    };
+    let Some((commits, rest)) = first_line_of_text(rest) else {
+        return Err(Fault::NotALine);
+    };
+    let Some((server, primary)) = servers_in(servers) else {
+        return Err(Fault::NotALine);
+    };
+    let Some(commits) = commits_in(commits) else {
+        return Err(Fault::NotALine);
+    };
+    let counts = counts_in(alloc, rest)?;
+    match Position::new(server, primary, commits, counts) {
+        Some(position) => Ok(position),
+        None => Err(Fault::NotALine),
+    }
+}
+
+#[tactic(auto, unfolding(crate::specs::Fields::servers_of))]
+fn servers_in(line: &str) -> Option<(ServerId, ServerId)>
+    ensures { result ≡ servers_read line.now }
+{
+    let rest = behind_word("mp1", line)?;
+    servers_of(rest)
+}
+
+#[tactic(auto, unfolding(crate::specs::Fields::commits_of))]
+fn commits_in(line: &str) -> Option<u64>
+    ensures { result ≡ commits_read line.now }
+{
+    let rest = behind_word("K", line)?;
+    read_number(rest, 0, 999_999_999_999)
+}
+
+#[tactic(auto, using(std::proofs::lemmas::Bool::Decides::nat_tests), unfolding(crate::specs::Fields::count_of))]
+fn count_in(line: &str) -> Option<(ServerId, u32)>
+    ensures { option_map (λ c. record { server = c.0; count = c.1 }) result ≡ count_read line.now }
+{
+    let rest = behind_word("V", line)?;
+    let (server, count) = server_and(rest, 999_999_999)?;
+    Some((server, count as u32))
+}
+
+/// The counts on the lines up to the last, which is `E`.
+fn counts_in(alloc: Global, text: &str) -> Result<Vec<(ServerId, u32)>, Fault>
+    ensures { Reads (λ v. counts_of v.items) result (counts_until_end (whole_lines text.now)) }
+{
+    let mut counts = Vec::new(alloc);
+    let mut rest = text;
+    while let Some((line, behind)) = first_line_of_text(rest) {
+        if line == "E" {
+            return if_last(counts, behind);
+        }
+        match count_in(line) {
+            Some(count) => counts.push(count)?,
+            None => return Err(Fault::NotALine),
+        }
+        rest = behind;
+    }
+    Err(Fault::NotALine)
+}
+
+/// The counts, where no line is left.
+fn if_last(counts: Vec<(ServerId, u32)>, behind: &str) -> Result<Vec<(ServerId, u32)>, Fault>
+    ensures { Reads (λ v. counts_of v.items) result (with_counts (counts_of counts.items) (no_more (whole_lines behind.now))) }
+{
+    match first_line_of_text(behind) {
+        None => Ok(counts),
+        Some(_) => Err(Fault::NotALine),
+    }
+}

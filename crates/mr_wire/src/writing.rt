@@ -1,0 +1,134 @@
+ghost use Rattle.std.specs.Prelude.{◌≡◌, ◌++◌, List, [], flat_map, map, OnOk, Ok};
+ghost use Rattle.std.specs.String.{string_bytes};
+ghost use Rattle.mr_model.specs.Texts.{line, lines_text};
+ghost use Rattle.mr_model.specs.Exchange.{batch_text, item_line, ending_lines};
+ghost use Rattle.mr_model.specs.Positions.{position_text, count_line};
+ghost use Rattle.mr_base.specs.Batches.{item_of, ending_of};
+ghost use Rattle.mr_base.specs.Positions.{counts_of};
+ghost use Rattle.mr_wire.specs.Answers.{GivesSeen};
+ghost use Rattle.mr_wire.specs.Writing.{slot_front, slots_front, front_text, choices_text, write_text};
+
+use mr_base::{Batch, Ending, Item, Position, Refusal, ServerId, Slot, TimeOfDay, Write};
+use std::alloc::{AllocError, Global};
+use std::fmt;
+
+/// The exchange text of a batch.
+pub fn write_batch(alloc: Global, batch: &Batch) -> Result<Vec<u8>, Refusal>
+    ensures { GivesSeen (λ v. v.items) result (Ok (batch_text batch.now)) }
+{
+    let mut text = String::new(alloc);
+    if let Some((from, primary)) = batch.header {
+        write!(text, "mr1 {from} {primary}\n")?;
+        push_items(&mut text, batch.items.as_slice())?;
+        push_ending(&mut text, batch.ending)?;
+    }
+    Ok(text.into_bytes())
+}
+
+/// The position text of a position.
+pub fn write_position(alloc: Global, position: &Position) -> Result<Vec<u8>, Refusal>
+    ensures { GivesSeen (λ v. v.items) result (Ok (position_text position.now)) }
+{
+    let mut text = String::new(alloc);
+    let (server, primary, commits) = (position.server, position.primary, position.commits);
+    write!(text, "mp1 {server} {primary}\nK {commits}\n")?;
+    push_counts(&mut text, position.counts.as_slice())?;
+    text.push_str("E\n")?;
+    Ok(text.into_bytes())
+}
+
+/// A slot's day and time, each with a space behind it.
+#[tactic(auto, unfolding(crate::specs::Writing::slot_front))]
+fn push_slot(text: &mut String, slot: Slot) -> Result<(), AllocError>
+    ensures { OnOk result (string_bytes text.new ≡ string_bytes text.old ++ slot_front slot) }
+{
+    let day = slot.day;
+    let time = TimeOfDay::new(slot.start);
+    write!(text, "{day} {time} ")
+}
+
+fn push_slots(text: &mut String, slots: &[Slot]) -> Result<(), AllocError>
+    ensures { OnOk result (string_bytes text.new ≡ string_bytes text.old ++ slots_front slots.now) }
+{
+    for slot in slots {
+        push_slot(text, *slot)?;
+    }
+    Ok(())
+}
+
+/// The wish, the number of alternatives and the alternatives.
+#[tactic(auto, unfolding(crate::specs::Writing::choices_text))]
+fn push_choices(text: &mut String, wish: Slot, alternatives: &[Slot]) -> Result<(), AllocError>
+    ensures { OnOk result (string_bytes text.new ≡ string_bytes text.old ++ choices_text wish alternatives.now) }
+{
+    push_slot(text, wish)?;
+    let count = alternatives.len();
+    write!(text, "{count} ")?;
+    push_slots(text, alternatives)
+}
+
+#[tactic(auto, unfolding(crate::specs::Writing::front_text))]
+fn push_front(text: &mut String, write: &Write) -> Result<(), AllocError>
+    ensures { OnOk result (string_bytes text.new ≡ string_bytes text.old ++ front_text write.now) }
+{
+    let (server, n, time) = (write.stamp.server, write.stamp.n, write.stamp.time);
+    let room = write.room.as_str();
+    let length = write.length;
+    write!(text, "W {server} {n} {time} {room} {length} ")
+}
+
+#[tactic(auto, unfolding(crate::specs::Writing::write_text))]
+fn push_write(text: &mut String, write: &Write) -> Result<(), AllocError>
+    ensures { OnOk result (string_bytes text.new ≡ string_bytes text.old ++ write_text write.now) }
+{
+    push_front(text, write)?;
+    push_choices(text, write.wish, write.alternatives.as_slice())?;
+    let title = write.title.as_str();
+    write!(text, "{title}\n")
+}
+
+fn push_item(text: &mut String, item: &Item) -> Result<(), AllocError>
+    ensures { OnOk result (string_bytes text.new ≡ string_bytes text.old ++ line (item_line (item_of item.now))) }
+{
+    match item {
+        Item::W(write) => push_write(text, write),
+        Item::C { seq, id } => {
+            let (seq, server, n) = (seq.number(), id.server, id.n);
+            write!(text, "C {seq} {server} {n}\n")
+        }
+    }
+}
+
+fn push_items(text: &mut String, items: &[Item]) -> Result<(), AllocError>
+    ensures { OnOk result (string_bytes text.new ≡ string_bytes text.old ++ lines_text (map item_line (map item_of items.now))) }
+{
+    for item in items {
+        push_item(text, item)?;
+    }
+    Ok(())
+}
+
+fn push_ending(text: &mut String, ending: Ending) -> Result<(), AllocError>
+    ensures { OnOk result (string_bytes text.new ≡ string_bytes text.old ++ lines_text (ending_lines (ending_of ending))) }
+{
+    match ending {
+        Ending::Complete => text.push_str("E\n"),
+        Ending::More => text.push_str("M\n"),
+        Ending::Cut => Ok(()),
+    }
+}
+
+fn push_counts(text: &mut String, counts: &[(ServerId, u32)]) -> Result<(), AllocError>
+    ensures { OnOk result (string_bytes text.new ≡ string_bytes text.old ++ lines_text (map count_line (counts_of counts.now))) }
+{
+    for (server, count) in counts {
+        push_count(text, *server, *count)?;
+    }
+    Ok(())
+}
+
+fn push_count(text: &mut String, server: ServerId, count: u32) -> Result<(), AllocError>
+    ensures { OnOk result (string_bytes text.new ≡ string_bytes text.old ++ line (count_line (record { server = server; count = count }))) }
+{
+    write!(text, "V {server} {count}\n")
+}
