@@ -6,6 +6,7 @@ use Rattle.std.specs.List.{AllByRecursion, IsDistinct}
 use Rattle.std.specs.List.Sorted.{IsStrictlySortedBy}
 use Rattle.std.specs.Map.{lookup, keys_of, remove_entry}
 use Rattle.std.specs.BTreeMap.{insert_entry}
+use Rattle.std.proofs.lemmas.Bool.{true≢false}
 use Rattle.std.proofs.lemmas.Map.{lookup-remove_entry}
 use Rattle.std.proofs.lemmas.Map.Keys.{IsDistinct-from_sorted}
 use Rattle.mr_model.specs.Writes.{Id, same_id}
@@ -40,7 +41,7 @@ lookup-put (e ∷ es) i row q =
       | Greater ↦ λ p. ap (cond (at q e.0) (Some e.1)) (lookup-put es i row q) ∙ swapped (at q e.0) (at q i) (Some e.1) (Some row) (lookup (at q) es) (λ a c.
           let one : i ≡ e.0 = sym (at_one q i c) ∙ at_one q e.0 a in
           let tie : is_eq (id_cmp i e.0) ≡ true = ap (λ k. at i k) (sym one) ∙ at_equivalence.refl i in
-          let never : ⊥ = cc (p, tie, ap is_eq p) in never)
+          true≢false (sym tie ∙ ap is_eq p))
     ] refl
 
 pub row_at-put : (b : Rows) (i : Id) (row : Row) (q : Id) → row_at (insert_entry id_cmp b i row) q ≡ cond (same_id q i) (Some row) (row_at b q)

@@ -1,0 +1,7 @@
+mod WordLaws
+mod LineLaws
+mod CutSlots
+mod ScriptLaws
+mod RehearsalLaws
+mod RunLaws
+mod UniqueReading

@@ -1,0 +1,4 @@
+pub mod Script
+pub mod LineSteps
+pub mod Reading
+pub mod Rehearsed

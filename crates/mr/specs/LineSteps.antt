@@ -1,0 +1,74 @@
+-- How a line of a script is read, word for word.
+use Rattle.std.specs.Prelude.{ℕ, zero, suc, ◌&&◌, if◌then◌else◌, List, [], ◌∷◌, codes, bytes_eq, Option, Some, None, option_and_then}
+use Rattle.std.specs.List.{list_any}
+use Rattle.mr_model.specs.Texts.{Text, is_space, first_word, after_word, only_if}
+use Rattle.mr_model.specs.View.{AskSheet}
+use Rattle.mr_model.specs.Step.{AddRoom, Submit, Ask, Submission, SlotWords}
+use Rattle.mr_model.specs.World.{Step, Add}
+use Rattle.mr_base.specs.Readings.{number_from_to}
+use Rattle.mr.specs.Script.{is_word}
+
+infixl 10 ◌>>=◌
+abbrev pub ◌>>=◌ : {A B : Type 0} → Option A → (A → Option B) → Option B
+o >>= f = option_and_then f o
+
+-- the first word, and what follows the space behind it
+abbrev pub cut : Text → Option (Text × Text)
+cut t = only_if (is_word (first_word t) && list_any is_space t) (first_word t, after_word t)
+
+abbrev pub server_in : Text → Option ℕ
+server_in t = number_from_to 1 99 t
+
+-- a server's word, and what follows
+abbrev pub cut_server : Text → Option (ℕ × Text)
+cut_server t = cut t >>= λ p. (server_in p.0 >>= λ s. Some (s, p.1))
+
+-- two words, and what follows
+abbrev pub cut_slot : Text → Option (SlotWords × Text)
+cut_slot t = cut t >>= λ p. (cut p.1 >>= λ q. Some (record { day = p.0; time = q.0 }, q.1))
+
+abbrev pub with_slot : SlotWords → Option (List SlotWords × Text) → Option (List SlotWords × Text)
+with_slot s o = o >>= λ p. Some (s ∷ p.0, p.1)
+
+-- that many slots, and what follows
+abbrev pub cut_slots : ℕ → Text → Option (List SlotWords × Text)
+cut_slots zero t = Some ([], t)
+cut_slots (suc k) t = cut_slot t >>= λ p. with_slot p.0 (cut_slots k p.1)
+
+abbrev pub number_of_slots : Text → Option (ℕ × Text)
+number_of_slots t = cut t >>= λ p. (number_from_to 0 99 p.0 >>= λ k. Some (k, p.1))
+
+abbrev pub booking_in : Text → Option Submission
+booking_in t =
+    cut t >>= λ room. (cut room.1 >>= λ minutes. (cut_slot minutes.1 >>= λ wish. (number_of_slots wish.1 >>= λ k.
+    (cut_slots k.0 k.1 >>= λ others.
+    Some (record { room = room.0; title = others.1; length = minutes.0; wish = wish.0; alternatives = others.0 })))))
+
+abbrev pub room_step : ℕ → Text → Option Step
+room_step server t = only_if (is_word t) (Step.Do server (AddRoom t))
+
+abbrev pub sheet_step : ℕ → Text → Option Step
+sheet_step server t = cut t >>= λ room. only_if (is_word room.1) (Step.Do server (Ask room.0 (AskSheet room.1)))
+
+abbrev pub book_step : ℕ → Text → Option Step
+book_step server t = booking_in t >>= λ booking. Some (Step.Do server (Submit booking))
+
+abbrev pub replica_step : Text → Option Step
+replica_step t = server_in t >>= λ server. Some (Add server)
+
+-- the step of a line that begins with a server, from that and what follows it
+abbrev pub at_server : (ℕ → Text → Option Step) → Text → Option Step
+at_server f t = cut_server t >>= λ p. f p.0 p.1
+
+-- the step of a line that begins with this word
+abbrev pub step_by : Text → Text → Option Step
+step_by verb t =
+    if bytes_eq verb (codes "replica") then replica_step t
+    else (if bytes_eq verb (codes "room") then at_server room_step t
+    else (if bytes_eq verb (codes "book") then at_server book_step t
+    else (if bytes_eq verb (codes "sheet") then at_server sheet_step t
+    else None)))
+
+-- the step of a line, if it is of the table
+abbrev pub step_in : Text → Option Step
+step_in line = cut line >>= λ p. step_by p.0 p.1

@@ -1,0 +1,130 @@
+-- The rehearsal script: the line of each step, and which steps a script stands for.
+use Rattle.std.specs.Prelude.{◌≡◌, ℕ, ◌+◌, Bool, true, false, not, ◌&&◌, ◌==◌, nat_le, List, [], ◌∷◌, ◌++◌, length, flat_map, codes, decimal, ◌⊎◌, Option, Some, None, Result, Ok, Err}
+use Rattle.std.specs.List.{list_all, slice_split}
+use Rattle.std.specs.Option.{option_or}
+use Rattle.mr_model.specs.Texts.{Text, within, is_space, words}
+use Rattle.mr_model.specs.Writes.{is_server}
+use Rattle.mr_model.specs.View.{AskSheet}
+use Rattle.mr_model.specs.Step.{AddRoom, Submit, Ask, Submission, SlotWords}
+use Rattle.mr_model.specs.World.{Step, Add}
+
+-- ---- lines
+
+-- what stands between the LFs of a script; behind the last LF there may be one more line, or nothing
+abbrev pub script_lines : Text → List Text
+script_lines bytes = slice_split (λ c. c == 10) bytes
+
+-- an empty line and one that begins with # say nothing
+abbrev pub is_passed_over : Text → Bool
+is_passed_over [] = true
+is_passed_over (c ∷ cs) = c == 35
+
+-- bytes from 0x20 to 0x7E alone
+abbrev pub is_plain : Text → Bool
+is_plain t = list_all (λ c. within 32 126 c) t
+
+-- one byte at least, and no space
+abbrev pub is_word : Text → Bool
+is_word [] = false
+is_word (c ∷ cs) = list_all (λ d. not (is_space d)) (c ∷ cs)
+
+-- ---- the line of a step
+
+abbrev pub slot_words : SlotWords → List Text
+slot_words s = s.day ∷ s.time ∷ []
+
+-- the number of the alternatives stands before them, and the title behind them
+abbrev pub booking_words : Submission → List Text
+booking_words b =
+    b.room ∷ b.length ∷ b.wish.day ∷ b.wish.time ∷ decimal (length b.alternatives) ∷ (flat_map slot_words b.alternatives ++ b.title ∷ [])
+
+abbrev pub step_words : Step → List Text
+step_words (Add server) = codes "replica" ∷ decimal server ∷ []
+step_words (Step.Do server (AddRoom room)) = codes "room" ∷ decimal server ∷ room ∷ []
+step_words (Step.Do server (Submit booking)) = codes "book" ∷ decimal server ∷ booking_words booking
+step_words (Step.Do server (Ask room (AskSheet day))) = codes "sheet" ∷ decimal server ∷ room ∷ day ∷ []
+step_words _ = []
+
+abbrev pub step_line : Step → Text
+step_line s = words (step_words s)
+
+-- ---- the steps that have a line
+
+abbrev pub are_slot_words : SlotWords → Bool
+are_slot_words s = is_word s.day && is_word s.time
+
+-- any title, an empty one too
+abbrev pub is_booking : Submission → Bool
+is_booking b =
+    is_word b.room && is_word b.length && are_slot_words b.wish && nat_le (length b.alternatives) 99
+    && list_all are_slot_words b.alternatives
+
+abbrev pub has_line : Step → Bool
+has_line (Add server) = is_server server
+has_line (Step.Do server (AddRoom room)) = is_server server && is_word room
+has_line (Step.Do server (Submit booking)) = is_server server && is_booking booking
+has_line (Step.Do server (Ask room (AskSheet day))) = is_server server && (is_word room && is_word day)
+has_line _ = false
+
+-- the line is of the table, and this is its step
+pub record IsLineOf (line : Text) (step : Step) : Type 0 where
+  pub spelled : line ≡ step_line step
+  pub of_table : has_line step ≡ true
+  pub plain : is_plain line ≡ true
+
+-- ---- a whole script
+
+-- the server of the replica that the step adds
+abbrev pub added_by : Step → Option ℕ
+added_by (Add server) = Some server
+added_by _ = None
+
+-- the server of the first replica
+abbrev pub first_server : List Step → Option ℕ
+first_server [] = None
+first_server (step ∷ steps) = option_or (added_by step) (first_server steps)
+
+-- a replica of another server than the first; a script has one replica, which may be added again
+abbrev pub is_another : Option ℕ → Option ℕ → Bool
+is_another (Some first) (Some server) = not (server == first)
+is_another _ _ = false
+
+-- the line stands for this step, the first replica, if any, having this server
+pub record IsNext (first : Option ℕ) (line : Text) (step : Step) : Type 0 where
+  pub stands : IsLineOf line step
+  pub same_server : is_another first (added_by step) ≡ false
+
+-- the line is neither passed over nor of the table
+pub record IsBad (first : Option ℕ) (line : Text) : Type 0 where
+  pub not_passed : is_passed_over line ≡ false
+  pub not_of_table : (step : Step) → ¬ IsNext first line step
+
+-- the steps before a line and after it
+abbrev pub TakesLine : List Step → Text → List Step → Type 0
+TakesLine before line after =
+    ((is_passed_over line ≡ true) × (after ≡ before)) ⊎ ((step : Step) × IsNext (first_server before) line step × (after ≡ before ++ step ∷ []))
+
+-- the lines of a script as far as it was read, and the steps that they stand for
+pub data IsRead : List Text → List Step → Type 0 where
+  begun : IsRead [] []
+  taken : {lines : List Text} {before after : List Step} {line : Text} → IsRead lines before → TakesLine before line after → IsRead (lines ++ line ∷ []) after
+
+-- the first bad line, counted from 1
+pub record IsBadLine (lines : List Text) (number : ℕ) : Type 0 where
+  pub before : List Text
+  pub line : Text
+  pub behind : List Text
+  pub steps : List Step
+  pub stands_at : lines ≡ before ++ line ∷ behind
+  pub counted : length before + 1 ≡ number
+  pub read_before : IsRead before steps
+  pub bad : IsBad (first_server steps) line
+
+-- the steps that a script stands for, or the number of its first bad line
+abbrev pub ReadsAs : Text → Result (List Step) ℕ → Type 0
+ReadsAs bytes (Ok steps) = IsRead (script_lines bytes) steps
+ReadsAs bytes (Err number) = IsBadLine (script_lines bytes) number
+
+-- a script is read in one way
+abbrev pub ReadsOneWay : Type 0
+ReadsOneWay = (bytes : Text) (x y : Result (List Step) ℕ) → ReadsAs bytes x → ReadsAs bytes y → x ≡ y

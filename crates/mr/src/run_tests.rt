@@ -1,0 +1,377 @@
+use crate::{command, rehearse};
+use std::alloc::{AllocError, Global};
+use std::fs;
+use std::io::{self, ErrorKind, Read, Write};
+use std::test::Fail;
+
+/// What a script prints, and its status.
+fn rehearsed(rt: &HostRuntime, script: &str) -> Result<(u8, Vec<u8>), AllocError> {
+    let mut out = Vec::new(rt.alloc());
+    let status = rehearse(rt.alloc(), script.as_bytes(), &mut out);
+    Ok((status, out))
+}
+
+fn line_of(alloc: Global, texts: &[&str]) -> Result<Vec<String>, AllocError> {
+    let mut all = Vec::new(alloc);
+    for text in texts {
+        all.push(String::from_str(alloc, text)?)?;
+    }
+    Ok(all)
+}
+
+/// Scripts with what they print; each is run to its end.
+static RUN: [(&str, &str); 9] = [
+    // a booking on its sheet
+    (
+        "replica 1\nroom 1 oak\nbook 1 oak 60 1995-12-18 13:30 0 Budget Meeting\nsheet 1 oak 1995-12-18\n",
+        "ok\nok\n1-1 T 1995-12-18 13:30-14:30\noak 1995-12-18 Monday\n13:30-14:30 T 1-1 Budget Meeting\n",
+    ),
+    // an empty sheet, a day that no year has, an unknown room
+    (
+        "replica 1\nroom 1 elm\nsheet 1 elm 2024-02-29\nsheet 1 elm 2023-02-29\nsheet 1 ash 2024-02-29\n",
+        "ok\nok\nelm 2024-02-29 Thursday\n(no bookings)\nrefused 1 BadDay\nrefused 7 UnknownRoom\n",
+    ),
+    // meetings that touch
+    (
+        "replica 1\nroom 1 oak\nbook 1 oak 60 1995-12-18 13:30 0 Audit\nbook 1 oak 30 1995-12-18 14:30 0 Brief\n",
+        "ok\nok\n1-1 T 1995-12-18 13:30-14:30\n1-2 T 1995-12-18 14:30-15:00\n",
+    ),
+    // the ends of a day
+    (
+        "replica 1\nroom 1 oak\nbook 1 oak 1440 1995-12-18 00:00 0 Closed\nbook 1 oak 1440 1995-12-18 00:01 0 Late\n\
+         book 1 oak 1 1995-12-18 24:00 0 Late\nbook 1 oak 2 1995-12-18 23:59 0 Late\nsheet 1 oak 1995-12-18\n",
+        "ok\nok\n1-1 T 1995-12-18 00:00-24:00\nrefused 3 BadLength\nrefused 2 BadTime\nrefused 3 BadLength\n\
+         oak 1995-12-18 Monday\n00:00-24:00 T 1-1 Closed\n",
+    ),
+    // an alternative is taken where the wish is not free, and the error log where none is
+    (
+        "replica 7\nroom 7 oak\nbook 7 oak 60 1995-12-18 09:00 0 Alpha\n\
+         book 7 oak 60 1995-12-18 09:30 2 1995-12-18 08:30 1995-12-18 10:00 Beta\n\
+         book 7 oak 60 1995-12-18 09:30 0 Gamma\nsheet 7 oak 1995-12-18\n",
+        "ok\nok\n7-1 T 1995-12-18 09:00-10:00\n7-2 T 1995-12-18 10:00-11:00\n7-3 T logged\n\
+         oak 1995-12-18 Monday\n09:00-10:00 T 7-1 Alpha\n10:00-11:00 T 7-2 Beta\n",
+    ),
+    // the same replica again, and commands without a replica or at another one
+    (
+        "room 1 oak\nreplica 1\nreplica 1\nroom 2 oak\nroom 1 oak\nroom 1 oak\n",
+        "no replica\nok\nthere\nno replica\nok\nrefused 8 RoomThere\n",
+    ),
+    // an empty title
+    (
+        "replica 1\nroom 1 oak\nbook 1 oak 60 1995-12-18 13:30 0 \n",
+        "ok\nok\nrefused 5 BadTitle\n",
+    ),
+    // the smallest refusal of several
+    (
+        "replica 1\nbook 1 Oak 0 1995-13-18 24:00 0 \nbook 1 Oak 0 1995-12-18 24:00 0 \nbook 1 Oak 060 1995-12-18 13:30 0 \n\
+         book 1 Oak 60 1995-12-18 13:30 0 \nbook 1 oak 60 1995-12-18 13:30 0  Brief\nbook 1 oak 60 1995-12-18 13:30 0 Brief\n",
+        "ok\nrefused 1 BadDay\nrefused 2 BadTime\nrefused 3 BadLength\nrefused 4 BadRoomName\nrefused 5 BadTitle\n\
+         refused 7 UnknownRoom\n",
+    ),
+    // nine alternatives
+    (
+        "replica 1\nroom 1 oak\nbook 1 oak 60 1995-12-18 08:00 9 1995-12-18 09:00 1995-12-18 10:00 1995-12-18 11:00 \
+         1995-12-18 12:00 1995-12-18 13:00 1995-12-18 14:00 1995-12-18 15:00 1995-12-18 16:00 1995-12-18 17:00 Full\n",
+        "ok\nok\nrefused 6 TooManyAlternatives\n",
+    ),
+];
+
+#[test]
+fn scripts_are_run(rt: HostRuntime) -> Result<(), Fail> {
+    for (script, printed) in &RUN {
+        let (status, out) = rehearsed(&rt, script)?;
+        assert_eq!(rt; out.as_slice(), printed.as_bytes(), "at {script}");
+        assert_eq!(rt; status, 0, "at {script}");
+    }
+    Ok(())
+}
+
+// comments, empty lines and the last LF: nothing is printed for them
+#[test]
+fn lines_are_passed_over(rt: HostRuntime) -> Result<(), Fail> {
+    for (script, printed) in [
+        ("", ""),
+        ("\n\n", ""),
+        ("# one\n#two\n#\n", ""),
+        ("# one", ""),
+        ("# r\u{e9}union\tof\u{1}\r\nreplica 1\n", "ok\n"),
+        ("\n# one\n\nreplica 1\n\n#two\nroom 1 oak", "ok\nok\n"),
+    ] {
+        let (status, out) = rehearsed(&rt, script)?;
+        assert_eq!(rt; out.as_slice(), printed.as_bytes(), "at {script:?}");
+        assert_eq!(rt; status, 0, "at {script:?}");
+    }
+    Ok(())
+}
+
+/// Lines that are not of the table.
+static BAD: [&str; 47] = [
+    "replica",
+    "replica ",
+    "replica 0",
+    "replica 01",
+    "replica 100",
+    "replica +1",
+    "replica -1",
+    "replica 1 ",
+    "replica 1 1",
+    " replica 1",
+    "replica  1",
+    "Replica 1",
+    "replica\t1",
+    "replica 1\r",
+    "replica one",
+    "replica 99999999999999999999",
+    "replicas 1",
+    "room",
+    "room 1",
+    "room 1 ",
+    "room oak",
+    "room 01 oak",
+    "room 0 oak",
+    "room 1 oak ",
+    "room 1 oak elm",
+    "room 1  oak",
+    "room 1 \u{f6}ak",
+    "room 1 o\u{1}k",
+    "room 1 o\u{7f}k",
+    "sheet 1 oak",
+    "sheet 1 oak ",
+    "sheet 1  1995-12-18",
+    "sheet 1 oak 1995-12-18 ",
+    "sheet 1 oak 1995-12-18 13:30",
+    "book 1 oak 60 1995-12-18 13:30",
+    "book 1 oak 60 1995-12-18 13:30 0",
+    "book 1 oak 60 1995-12-18 13:30 1 1995-12-18 14:30",
+    "book 1 oak 60 1995-12-18 13:30 1 1995-12-18",
+    "book 1 oak 60 1995-12-18 13:30 00 Brief",
+    "book 1 oak 60 1995-12-18 13:30 100 Brief",
+    "book 1 oak 60 1995-12-18 13:30 x Brief",
+    "book 1 oak 60 1995-12-18 13:30 99 Brief",
+    "book 1 oak 60 1995-12-18 13:30 0 Bri\u{e9}f",
+    "book 1 oak 60 1995-12-18 13:30 0 Brief\r",
+    "book 1  60 1995-12-18 13:30 0 Brief",
+    "calendar 1 oak full",
+    "commit 1 1",
+];
+
+// nothing is run where a line is bad, wherever it stands
+#[test]
+fn bad_lines_are_told(rt: HostRuntime) -> Result<(), Fail> {
+    let alloc = rt.alloc();
+    for line in &BAD {
+        let script = format!(in alloc; "replica 1\n\n# two\n{line}\nroom 1 oak\nreplica 1 1\n")?;
+        let (status, out) = rehearsed(&rt, script.as_str())?;
+        assert_eq!(rt;
+            out.as_slice(),
+            b"bad script line 4\n".as_slice(),
+            "at {line:?}"
+        );
+        assert_eq!(rt; status, 1, "at {line:?}");
+        let (status, out) = rehearsed(&rt, line)?;
+        assert_eq!(rt;
+            out.as_slice(),
+            b"bad script line 1\n".as_slice(),
+            "at {line:?}"
+        );
+        assert_eq!(rt; status, 1, "at {line:?}");
+    }
+    Ok(())
+}
+
+#[test]
+fn a_script_has_one_replica(rt: HostRuntime) -> Result<(), Fail> {
+    let (status, out) = rehearsed(&rt, "replica 1\nroom 1 oak\nreplica 1\nreplica 2\n")?;
+    assert_eq!(rt; out.as_slice(), b"bad script line 4\n".as_slice());
+    assert_eq!(rt; status, 1);
+    Ok(())
+}
+
+#[test]
+fn bytes_that_are_no_text(rt: HostRuntime) -> Result<(), Fail> {
+    let mut out = Vec::new(rt.alloc());
+    let status = rehearse(rt.alloc(), b"replica 1\nroom 1 \xff\n".as_slice(), &mut out);
+    assert_eq!(rt; out.as_slice(), b"bad script line 2\n".as_slice());
+    assert_eq!(rt; status, 1);
+    Ok(())
+}
+
+// 99 alternatives are of the table
+#[test]
+fn ninety_nine_alternatives(rt: HostRuntime) -> Result<(), Fail> {
+    let alloc = rt.alloc();
+    let mut script = String::from_str(
+        alloc,
+        "replica 1\nroom 1 oak\nbook 1 oak 60 1995-12-18 13:30 99",
+    )?;
+    for _ in 0..99 {
+        script.push_str(" 1995-12-18 14:30")?;
+    }
+    let cut = format!(in alloc; "{script}\n")?;
+    script.push_str(" Full\n")?;
+    let (status, out) = rehearsed(&rt, script.as_str())?;
+    assert_eq!(rt;
+        out.as_slice(),
+        b"ok\nok\nrefused 6 TooManyAlternatives\n".as_slice()
+    );
+    assert_eq!(rt; status, 0);
+    let (status, out) = rehearsed(&rt, cut.as_str())?;
+    assert_eq!(rt; out.as_slice(), b"bad script line 3\n".as_slice());
+    assert_eq!(rt; status, 1);
+    Ok(())
+}
+
+/// A reader that gives one byte a call, and fails after some.
+#[derive(Drop)]
+struct FailingReader<'a> {
+    text: &'a [u8],
+    left: usize,
+}
+
+impl<'a> Read for FailingReader<'a> {
+    fn read(&mut self, buf: &mut [u8]) -> io::Result<usize> {
+        if self.left == 0 {
+            return Err(ErrorKind::Other.into());
+        }
+        self.left -= 1;
+        match (self.text.split_first(), buf.first_mut()) {
+            (Some((byte, rest)), Some(place)) => {
+                *place = *byte;
+                self.text = rest;
+                Ok(1)
+            }
+            _ => Ok(0),
+        }
+    }
+}
+
+/// A writer that takes one byte a call, and fails after some.
+#[derive(Drop)]
+struct FailingWriter {
+    taken: Vec<u8>,
+    left: usize,
+}
+
+impl Write for FailingWriter {
+    fn write(&mut self, buf: &[u8]) -> io::Result<usize> {
+        if self.left == 0 {
+            return Err(ErrorKind::Other.into());
+        }
+        self.left -= 1;
+        match buf.first() {
+            Some(byte) => {
+                self.taken.push(*byte)?;
+                Ok(1)
+            }
+            None => Ok(0),
+        }
+    }
+
+    fn flush(&mut self) -> io::Result<()> {
+        Ok(())
+    }
+}
+
+// a read that fails at any place is a fault, and no line is run
+#[test]
+fn reads_that_fail(rt: HostRuntime) -> Result<(), Fail> {
+    let text = b"replica 1\nroom 1 oak\n".as_slice();
+    for left in 0..=text.len() {
+        let mut out = Vec::new(rt.alloc());
+        let status = rehearse(rt.alloc(), FailingReader { text, left }, &mut out);
+        assert_eq!(rt; out.as_slice(), b"fault file\n".as_slice(), "after {left}");
+        assert_eq!(rt; status, 3, "after {left}");
+    }
+    let mut out = Vec::new(rt.alloc());
+    let status = rehearse(rt.alloc(), FailingReader { text, left: 1000 }, &mut out);
+    assert_eq!(rt; out.as_slice(), b"ok\nok\n".as_slice());
+    assert_eq!(rt; status, 0);
+    Ok(())
+}
+
+// a write that fails at any place is status 3, and a front of the replies went out
+#[test]
+fn writes_that_fail(rt: HostRuntime) -> Result<(), Fail> {
+    let whole = b"ok\nok\n".as_slice();
+    for left in 0..=whole.len() {
+        let mut out = FailingWriter {
+            taken: Vec::new(rt.alloc()),
+            left,
+        };
+        let status = rehearse(rt.alloc(), b"replica 1\nroom 1 oak\n".as_slice(), &mut out);
+        assert_eq!(rt;
+            out.taken.as_slice(),
+            whole.get(..left).unwrap_or(whole),
+            "after {left}"
+        );
+        assert_eq!(rt;
+            status,
+            if left < whole.len() { 3 } else { 0 },
+            "after {left}"
+        );
+    }
+    let mut out = FailingWriter {
+        taken: Vec::new(rt.alloc()),
+        left: 3,
+    };
+    let status = rehearse(rt.alloc(), b"replica\n".as_slice(), &mut out);
+    assert_eq!(rt; out.taken.as_slice(), b"bad".as_slice());
+    assert_eq!(rt; status, 3);
+    Ok(())
+}
+
+// each command line, its status and what it prints
+#[test]
+fn command_lines(rt: HostRuntime) -> Result<(), Fail> {
+    let alloc = rt.alloc();
+    fs::write(&rt, "command_lines.script", "replica 1\nroom 1 oak\n")?;
+    fs::write(&rt, "bad.script", "replica 1\nroom 1\n")?;
+    for (texts, status, printed) in [
+        (&["rehearse", "command_lines.script"][..], 0u8, "ok\nok\n"),
+        (&["rehearse", "bad.script"][..], 1, "bad script line 2\n"),
+        (&["rehearse", "absent.script"][..], 3, "fault file\n"),
+        (&["rehearse", "."][..], 3, "fault file\n"),
+        (&["rehearse", ""][..], 3, "fault file\n"),
+        (&["rehearse"][..], 2, "bad command line\n"),
+        (
+            &["rehearse", "command_lines.script", "b"][..],
+            2,
+            "bad command line\n",
+        ),
+        (&["--help"][..], 2, "bad command line\n"),
+        (&["help"][..], 2, "bad command line\n"),
+        (
+            &["Rehearse", "command_lines.script"][..],
+            2,
+            "bad command line\n",
+        ),
+        (&[""][..], 2, "bad command line\n"),
+        (
+            &["sheet", "command_lines.script"][..],
+            2,
+            "bad command line\n",
+        ),
+    ] {
+        let line = line_of(alloc, texts)?;
+        let mut out = Vec::new(alloc);
+        let answered = command(&rt, alloc, line.as_slice(), &mut out);
+        assert_eq!(rt; answered, status, "at {texts:?}");
+        assert_eq!(rt; out.as_slice(), printed.as_bytes(), "at {texts:?}");
+    }
+    fs::remove_file(&rt, "command_lines.script")?;
+    fs::remove_file(&rt, "bad.script")?;
+    Ok(())
+}
+
+// 16 MiB are taken, one byte more is not
+#[test]
+fn the_greatest_script(rt: HostRuntime) -> Result<(), Fail> {
+    let mut out = Vec::new(rt.alloc());
+    let status = rehearse(rt.alloc(), io::repeat(b'#').take(16_777_216), &mut out);
+    assert_eq!(rt; out.as_slice(), b"".as_slice());
+    assert_eq!(rt; status, 0);
+    let status = rehearse(rt.alloc(), io::repeat(b'#').take(16_777_217), &mut out);
+    assert_eq!(rt; out.as_slice(), b"fault file\n".as_slice());
+    assert_eq!(rt; status, 3);
+    Ok(())
+}

@@ -1,0 +1,151 @@
+ghost use Rattle.std.specs.Prelude.{◌≡◌, List, ℕ, not, MatchOption, IfOk, Some, None, map};
+ghost use Rattle.std.specs.List.{list_all};
+ghost use Rattle.mr_model.specs.Texts.{is_space};
+ghost use Rattle.mr_service.specs.Asked.{words_of, submission_of};
+ghost use Rattle.mr.specs.Script.{is_word};
+ghost use Rattle.mr.specs.LineSteps.{cut, server_in, cut_server, cut_slot, cut_slots, number_of_slots, booking_in};
+
+use mr_base::{ServerId, read_number};
+use mr_service::{SlotWords, Submission};
+use std::alloc::{AllocError, Global};
+use std::marker::Model;
+
+/// What is left of a line, to be read word by word.
+#[derive(Drop)]
+pub(crate) struct Words<'a> {
+    rest: &'a str,
+}
+
+impl<'a> Model for Words<'a> {
+    ghost Value = { List ℕ };
+
+    ghost view = { λ w. w.rest.now };
+}
+
+impl<'a> Words<'a> {
+    pub(crate) fn new(line: &'a str) -> Words<'a>
+        ensures { result ≡ line.now }
+    {
+        Words { rest: line }
+    }
+
+    /// The next word, where a space follows it. Where there is none, what is left is not read any more.
+    pub(crate) fn next(&mut self) -> Option<&'a str>
+        ensures { MatchOption result (cut self.old ≡ None) (λ word. cut self.old ≡ Some (word.now, self.new)) }
+    {
+        match self.rest.split_once(' ') {
+            None => None,
+            Some((word, rest)) => {
+                if word.is_empty() {
+                    return None;
+                }
+                self.rest = rest;
+                Some(word)
+            }
+        }
+    }
+
+    /// All that is left.
+    pub(crate) fn rest(self) -> &'a str
+        ensures { result.now ≡ self.entry }
+    {
+        self.rest
+    }
+
+    /// The next word, where it is a server's number.
+    pub(crate) fn server(&mut self) -> Option<ServerId>
+        ensures { MatchOption result (cut_server self.old ≡ None) (λ server. cut_server self.old ≡ Some (server, self.new)) }
+    {
+        let word = self.next()?;
+        read_server(word)
+    }
+
+    /// The next word, where it is a number of alternatives.
+    fn count(&mut self) -> Option<u64>
+        ensures { MatchOption result (number_of_slots self.old ≡ None) (λ count. number_of_slots self.old ≡ Some (count, self.new)) }
+    {
+        let word = self.next()?;
+        read_number(word, 0, 99)
+    }
+
+    /// The next two words.
+    fn slot(&mut self, alloc: Global) -> Result<Option<SlotWords>, AllocError>
+        ensures { IfOk result (λ found. MatchOption found (cut_slot self.old ≡ None) (λ slot. cut_slot self.old ≡ Some (words_of slot, self.new))) }
+    {
+        let Some(day) = self.next() else {
+            return Ok(None);
+        };
+        let Some(time) = self.next() else {
+            return Ok(None);
+        };
+        Ok(Some(SlotWords {
+            day: String::from_str(alloc, day)?,
+            time: String::from_str(alloc, time)?,
+        }))
+    }
+
+    /// That many slots, of two words each.
+    fn slots(&mut self, alloc: Global, count: u64) -> Result<Option<Vec<SlotWords>>, AllocError>
+        ensures { IfOk result (λ found. MatchOption found (cut_slots count self.old ≡ None)
+            (λ slots. cut_slots count self.old ≡ Some (map words_of slots.items, self.new))) }
+    {
+        let mut slots = Vec::new(alloc);
+        for i in 0..count {
+            match self.slot(alloc)? {
+                Some(slot) => slots.push(slot)?,
+                None => return Ok(None),
+            }
+        }
+        Ok(Some(slots))
+    }
+
+    /// A request, whose title is all that is left.
+    pub(crate) fn booking(mut self, alloc: Global) -> Result<Option<Submission>, AllocError>
+        ensures { IfOk result (λ found. MatchOption found (booking_in self.entry ≡ None)
+            (λ booking. booking_in self.entry ≡ Some (submission_of booking))) }
+    {
+        let Some(room) = self.next() else {
+            return Ok(None);
+        };
+        let Some(length) = self.next() else {
+            return Ok(None);
+        };
+        let Some(wish) = self.slot(alloc)? else {
+            return Ok(None);
+        };
+        let Some(count) = self.count() else {
+            return Ok(None);
+        };
+        let Some(alternatives) = self.slots(alloc, count)? else {
+            return Ok(None);
+        };
+        Ok(Some(Submission {
+            room: String::from_str(alloc, room)?,
+            title: String::from_str(alloc, self.rest())?,
+            length: String::from_str(alloc, length)?,
+            wish,
+            alternatives,
+        }))
+    }
+}
+
+/// Whether the text has one byte at least, and no space.
+pub(crate) fn is_word(text: &str) -> bool
+    ensures { result ≡ is_word text.now }
+{
+    !text.is_empty() && has_no_space(text.as_bytes())
+}
+
+fn has_no_space(text: &[u8]) -> bool
+    ensures { result ≡ list_all (λ c. not (is_space c)) text.now }
+{
+    text.iter().all(|byte| *byte != b' ')
+}
+
+/// The server with the number that the text writes.
+pub(crate) fn read_server(text: &str) -> Option<ServerId>
+    ensures { result ≡ server_in text.now }
+{
+    let number = read_number(text, 1, 99)?;
+    ServerId::new(number as u32)
+}
