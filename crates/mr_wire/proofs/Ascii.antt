@@ -122,9 +122,6 @@ write_low w ok =
       ),
     )
 
-pub servers_low : (a b g : ℕ) → IsTrue (is_server a) → IsTrue (within 1 g b) → g < 2 ^ 64 → Low (words (decimal a ∷ decimal b ∷ []))
-servers_low a b g ha hb top = words_low (decimal a ∷ decimal b ∷ []) (number_low a 99 (within-high 1 99 a ha) (lit< tt), (number_low b g (within-high 1 g b hb) top, tt))
-
 item_low : (x : Item) → is_item x ≡ true → Low (item_line x)
 item_low (W w) ok = write_low w ok
 item_low (C q id) ok =

@@ -1,8 +1,8 @@
-ghost use Rattle.std.specs.Prelude.{◌≡◌, ◌++◌, List, [], flat_map, map, OnOk, Ok};
+ghost use Rattle.std.specs.Prelude.{◌≡◌, ◌++◌, List, [], flat_map, map, true, IfOk, OnOk, Ok};
 ghost use Rattle.std.specs.String.{string_bytes};
 ghost use Rattle.mr_model.specs.Texts.{line, lines_text};
-ghost use Rattle.mr_model.specs.Exchange.{batch_text, item_line, ending_lines};
-ghost use Rattle.mr_model.specs.Positions.{position_text, count_line};
+ghost use Rattle.mr_model.specs.Exchange.{Batch as BatchOfLines, is_batch, batch_text, item_line, ending_lines};
+ghost use Rattle.mr_model.specs.Positions.{Position as PositionOfReplica, is_position, position_text, count_line};
 ghost use Rattle.mr_base.specs.Batches.{item_of, ending_of};
 ghost use Rattle.mr_base.specs.Positions.{counts_of};
 ghost use Rattle.mr_wire.specs.Answers.{GivesSeen};
@@ -12,8 +12,17 @@ use mr_base::{Batch, Ending, Item, Position, Refusal, ServerId, Slot, TimeOfDay,
 use std::alloc::{AllocError, Global};
 use std::fmt;
 
-/// The exchange text of a batch.
+/// The exchange text of a batch: its header, a line for each item, and the last line where it wasn't cut.
 pub fn write_batch(alloc: Global, batch: &Batch) -> Result<Vec<u8>, Refusal>
+    ensures exact { GivesSeen (λ v. v.items) result (Ok (batch_text batch.now)) }
+    // No other batch has this text.
+    ensures one { (b : BatchOfLines) → is_batch b ≡ true → IfOk result (λ v. v.items ≡ batch_text b → b ≡ batch.now) }
+{
+    batch.is_within_limits();
+    batch_bytes(alloc, batch)
+}
+
+fn batch_bytes(alloc: Global, batch: &Batch) -> Result<Vec<u8>, Refusal>
     ensures { GivesSeen (λ v. v.items) result (Ok (batch_text batch.now)) }
 {
     let mut text = String::new(alloc);
@@ -25,8 +34,17 @@ pub fn write_batch(alloc: Global, batch: &Batch) -> Result<Vec<u8>, Refusal>
     Ok(text.into_bytes())
 }
 
-/// The position text of a position.
+/// The position text of a position: its servers, its commits, each count, and `E`.
 pub fn write_position(alloc: Global, position: &Position) -> Result<Vec<u8>, Refusal>
+    ensures exact { GivesSeen (λ v. v.items) result (Ok (position_text position.now)) }
+    // No other position has this text.
+    ensures one { (p : PositionOfReplica) → is_position p ≡ true → IfOk result (λ v. v.items ≡ position_text p → p ≡ position.now) }
+{
+    position.is_within_limits();
+    position_bytes(alloc, position)
+}
+
+fn position_bytes(alloc: Global, position: &Position) -> Result<Vec<u8>, Refusal>
     ensures { GivesSeen (λ v. v.items) result (Ok (position_text position.now)) }
 {
     let mut text = String::new(alloc);
