@@ -140,20 +140,61 @@ fn the_first_free_choice_is_taken(rt: HostRuntime) -> Result<(), Fail> {
     let mut oak = with_oak(&rt, alloc)?;
     check(&rt, alloc, &mut oak, &add_room(alloc, "elm")?, "ok\n")?;
     let cases = [
-        ("oak", "09:00", "10:00", "11:00", "1-1 T 1995-12-18 09:00-10:00\n"),
-        ("oak", "09:30", "08:30", "12:00", "1-2 T 1995-12-18 12:00-13:00\n"),
-        ("oak", "09:30", "16:00", "08:00", "1-3 T 1995-12-18 16:00-17:00\n"),
+        (
+            "oak",
+            "09:00",
+            "10:00",
+            "11:00",
+            "1-1 T 1995-12-18 09:00-10:00\n",
+        ),
+        (
+            "oak",
+            "09:30",
+            "08:30",
+            "12:00",
+            "1-2 T 1995-12-18 12:00-13:00\n",
+        ),
+        (
+            "oak",
+            "09:30",
+            "16:00",
+            "08:00",
+            "1-3 T 1995-12-18 16:00-17:00\n",
+        ),
         ("oak", "09:30", "09:30", "11:01", "1-4 T logged\n"),
-        ("elm", "09:30", "08:00", "10:30", "1-5 T 1995-12-18 09:30-10:30\n"),
-        ("oak", "08:00", "07:00", "06:00", "1-6 T 1995-12-18 08:00-09:00\n"),
+        (
+            "elm",
+            "09:30",
+            "08:00",
+            "10:30",
+            "1-5 T 1995-12-18 09:30-10:30\n",
+        ),
+        (
+            "oak",
+            "08:00",
+            "07:00",
+            "06:00",
+            "1-6 T 1995-12-18 08:00-09:00\n",
+        ),
     ];
     for (room, time, first, second, want) in cases {
         let others = [(DAY, first), (DAY, second)];
         let command = book(alloc, (room, "60", "Meeting"), (DAY, time), &others)?;
         check(&rt, alloc, &mut oak, &command, want)?;
     }
-    let command = book(alloc, ("oak", "60", "Meeting"), (DAY, "09:30"), &[("1995-12-19", "09:30")])?;
-    check(&rt, alloc, &mut oak, &command, "1-7 T 1995-12-19 09:30-10:30\n")?;
+    let command = book(
+        alloc,
+        ("oak", "60", "Meeting"),
+        (DAY, "09:30"),
+        &[("1995-12-19", "09:30")],
+    )?;
+    check(
+        &rt,
+        alloc,
+        &mut oak,
+        &command,
+        "1-7 T 1995-12-19 09:30-10:30\n",
+    )?;
     let want =
         "oak 1995-12-18 Monday\n08:00-09:00 T 1-6 Meeting\n09:00-10:00 T 1-1 Meeting\n12:00-13:00 T 1-2 Meeting\n16:00-17:00 T 1-3 Meeting\n";
     check(&rt, alloc, &mut oak, &sheet(alloc, "oak", DAY)?, want)

@@ -1,17 +1,16 @@
 -- What the answer of a reader says of the bytes.
-use Rattle.std.proofs.Common.{◌≡◌, true, Vec, Global, refl, sym, ap, ◌∙◌, ℕ, ◌+◌, List, [], ◌∷◌, Result, Ok, Err, ◌⊎◌, inl, inr, Option, Some, None}
+use Rattle.std.proofs.Common.{◌≡◌, true, Vec, Global, refl, sym, ap, ◌∙◌, ℕ, ◌+◌, List, [], ◌∷◌, Result, Ok, Err, inl, inr, Option, Some, None}
 use Rattle.std.specs.Prelude.{IfOk, IfErr, ok_or}
 use Rattle.mr_model.specs.Positions.{Position, is_position, read_position, position_text}
 use Rattle.mr_model.proofs.PositionsReadBack.{read-position_text, read_position_text}
 use Rattle.mr_model.specs.Texts.{Text, whole_lines}
 use Rattle.mr_model.specs.Refusals as model
-use Rattle.mr_model.specs.Exchange.{Item, Ending, Header, Batch, is_batch, batch_text, BodyLine, ItemLine, LastLine, read_header, read_body_line, with_item, read_end, read_line, read_body, under_header, read_lines, read_batch, ReadsAs, IsFirstBadLine}
+use Rattle.mr_model.specs.Exchange.{Item, Ending, Header, Batch, is_batch, batch_text, BodyLine, ItemLine, LastLine, read_header, read_body_line, read_end, read_line, read_body, under_header, read_lines, read_batch, ReadsAs, IsFirstBadLine}
 use Rattle.mr_model.proofs.BatchesReadBack.{one_text, read_reads}
 use Rattle.mr_model.proofs.FirstBadLine.{bad_line_is_first}
 use Rattle.mr_base.specs.Refusals.{refusal_of}
 use Rattle.mr_base.specs.Answers.{Gives}
 use Rattle.mr_base.specs.declared.refusals.Refusal.{Refusal}
-use Rattle.mr_base.specs.declared.refusals.Refusal.TheVariants.{OutOfMemory}
 use Rattle.mr_wire.specs.Answers.{IsRefusedFor, GivesSeen}
 use Rattle.mr_wire.proofs.FieldLaws.{some_inj}
 

@@ -1,5 +1,5 @@
 -- Each line of a batch and of a position is ASCII, and so it is text.
-use Rattle.std.proofs.Common.{◌≡◌, refl, sym, ap, subst, ℕ, suc, ◌+◌, ◌-◌, ◌/◌, ◌%◌, ◌^◌, ◌<◌, ◌≤◌, Bool, true, false, not, ◌&&◌, ◌||◌, eqb, leb, List, [], ◌∷◌, ◌++◌, length, ◌⊎◌, inl, inr, Option, Some, None, arith, IsTrue, lit<, lit≤, leb-true, eqb-true}
+use Rattle.std.proofs.Common.{◌≡◌, refl, sym, subst, ℕ, ◌+◌, ◌-◌, ◌/◌, ◌%◌, ◌^◌, ◌<◌, ◌≤◌, Bool, true, not, ◌||◌, eqb, leb, List, [], ◌∷◌, length, ◌⊎◌, inl, inr, Option, Some, None, arith, lit<, leb-true, eqb-true}
 use Rattle.std.proofs.lemmas.Bool.{and_parts, or_cases}
 use Rattle.std.proofs.lemmas.Fmt.{decimal_by_steps}
 use Rattle.std.proofs.lemmas.Str.{IsUtf8-from_ascii}
@@ -11,10 +11,10 @@ use Rattle.std.specs.List.{AllByRecursion, list_all}
 use Rattle.mr_model.specs.Texts.{Text, words, within, two_digits}
 use Rattle.mr_model.specs.Calendar.{Date, is_date, date_text, time_text}
 use Rattle.mr_model.specs.Slots.{Slot, is_slot, slot_words}
-use Rattle.mr_model.specs.Writes.{Id, Write, is_write, is_id, is_server, is_count, is_commit_number, is_room_byte, is_room_name, is_title, choices, greatest_count, greatest_time}
-use Rattle.mr_model.specs.Exchange.{Header, Item, W, C, BodyLine, ItemLine, LastLine, Complete, More, Cut, Ending, is_header, is_item, header_line, write_words, write_line, item_line, ending_lines, read_header, read_body_line}
-use Rattle.mr_model.proofs.WordsReadBack.{all_append, DateFacts, date_facts}
-use Rattle.mr_model.proofs.LinesReadBack.{within-high, small, WriteFacts, write_facts, slots_all}
+use Rattle.mr_model.specs.Writes.{Write, is_write, is_id, is_server, is_count, is_commit_number, is_room_byte, is_room_name, is_title, choices, greatest_count, greatest_time}
+use Rattle.mr_model.specs.Exchange.{Header, Item, W, C, BodyLine, ItemLine, LastLine, Complete, More, Cut, is_header, is_item, header_line, write_words, write_line, item_line, read_header, read_body_line}
+use Rattle.mr_model.proofs.WordsReadBack.{all_append, date_facts}
+use Rattle.mr_model.proofs.LinesReadBack.{within-high, small, write_facts, slots_all}
 use Rattle.mr_model.proofs.BatchesReadBack.{own_text, IsLineOf, body_line_of}
 
 abbrev pub Low : Text → Type 0

@@ -1,12 +1,11 @@
 -- A field that is taken off a text is the field that was written, and what was written is taken off again.
-use Rattle.std.proofs.Common.{◌≡◌, refl, sym, ap, ◌∙◌, subst, ℕ, zero, suc, ◌+◌, ◌^◌, ◌<◌, ◌≤◌, Bool, true, false, cond, ◌&&◌, eqb, leb, List, [], ◌∷◌, ◌++◌, length, arith, IsTrue, Option, Some, None, eq-eqb, eqb-true, ne_eqb, append_assoc, le-leb, leb-true, ltb, lt-ltb, ltb-true, lit<}
+use Rattle.std.proofs.Common.{◌≡◌, refl, sym, ap, ◌∙◌, subst, ℕ, zero, suc, ◌^◌, ◌<◌, ◌≤◌, Bool, true, false, cond, ◌&&◌, eqb, leb, List, [], ◌∷◌, ◌++◌, length, arith, Option, Some, None, eq-eqb, eqb-true, ne_eqb, le-leb, leb-true, ltb, lt-ltb, ltb-true, lit<}
 use Rattle.std.proofs.lemmas.Bool.{and_parts, and_from, cond-false, cond-true}
-use Rattle.std.proofs.lemmas.Slice.Eq.{bytes_eq-Decides}
-use Rattle.std.specs.Prelude.{option_map, flat_map, codes, ok_or}
+use Rattle.std.specs.Prelude.{option_map, flat_map, ok_or}
 use Rattle.std.specs.Result.{result_ok}
 use Rattle.std.specs.Str.{bytes_eq}
 use Rattle.std.specs.Fmt.{decimal}
-use Rattle.std.specs.List.{AllByRecursion, list_all}
+use Rattle.std.specs.List.{AllByRecursion}
 use Rattle.mr_model.specs.Texts.{Text, within, number_in, only_if, words}
 use Rattle.mr_model.specs.Calendar.{Date, is_date, date_text, time_text, read_date, read_time, date_in, time_in}
 use Rattle.mr_model.specs.Slots.{Slot, is_slot, slot_words}

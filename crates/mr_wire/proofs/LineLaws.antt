@@ -1,5 +1,5 @@
 -- A line is read as the fields on it exactly where it is their line.
-use Rattle.std.proofs.Common.{◌≡◌, refl, sym, ap, ◌∙◌, subst, ℕ, zero, suc, ◌+◌, ◌^◌, ◌<◌, ◌≤◌, Bool, true, false, not, cond, ◌&&◌, leb, ltb, List, [], ◌∷◌, ◌++◌, length, arith, IsTrue, Option, Some, None, Result, Ok, Err, lit<, lit≤, le-leb, leb-true}
+use Rattle.std.proofs.Common.{◌≡◌, refl, sym, ap, ◌∙◌, subst, ℕ, ◌^◌, ◌<◌, ◌≤◌, Bool, true, false, not, cond, ◌&&◌, leb, ltb, List, [], ◌∷◌, ◌++◌, length, arith, Option, Some, None, Ok, Err, lit<, lit≤, le-leb, leb-true}
 use Rattle.std.proofs.lemmas.Bool.{and_parts, and_from, le-ltb}
 use Rattle.std.proofs.lemmas.Slice.Eq.{bytes_eq-Decides}
 use Rattle.std.specs.Prelude.{flat_map, codes}
@@ -11,7 +11,7 @@ use Rattle.mr_model.specs.Calendar.{date_text, time_text}
 use Rattle.mr_model.specs.Slots.{Slot, is_slot, slot_words}
 use Rattle.mr_model.specs.Writes.{Id, Stamp, Write, is_write, is_stamp, is_server, is_count, is_id, is_commit_number, is_room_name, is_title, is_length, fits_day, choices, greatest_alternatives}
 use Rattle.mr_model.specs.Requests.{is_length_for}
-use Rattle.mr_model.specs.Exchange.{Header, Item, W, C, BodyLine, ItemLine, LastLine, Complete, More, Cut, Ending, is_header, is_item, header_line, write_line, item_line, ending_lines, read_header, read_body_line}
+use Rattle.mr_model.specs.Exchange.{Header, Item, W, C, BodyLine, ItemLine, LastLine, Complete, More, Cut, is_header, is_item, header_line, write_line, item_line, read_header, read_body_line}
 use Rattle.mr_model.proofs.WordsReadBack.{Plain}
 use Rattle.mr_model.proofs.LinesReadBack.{words-cons, slots_all, room_plain}
 use Rattle.mr_model.proofs.BatchesReadBack.{own_text, IsLineOf, body_line_of, read-item_line, read-header_line}

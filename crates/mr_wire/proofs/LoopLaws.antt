@@ -1,15 +1,15 @@
 -- What is read one after the other, as a loop does.
-use Rattle.std.proofs.Common.{◌≡◌, refl, sym, ap, ◌∙◌, subst, ℕ, suc, ◌+◌, ◌-◌, ◌<◌, ◌≤◌, Bool, true, false, cond, eqb, List, [], ◌∷◌, ◌++◌, length, map, append_assoc, arith, Option, Some, None, Result, Ok, Err, ◌⊎◌, inl, inr}
+use Rattle.std.proofs.Common.{◌≡◌, refl, sym, ap, ◌∙◌, ℕ, suc, ◌+◌, ◌-◌, ◌<◌, ◌≤◌, Bool, true, false, cond, eqb, List, [], ◌∷◌, ◌++◌, append_assoc, arith, Option, Some, None, Result, Ok, Err, ◌⊎◌, inl, inr}
 use Rattle.std.proofs.lemmas.List.{append-nil}
 use Rattle.std.specs.Prelude.{option_map, codes}
 use Rattle.std.specs.Str.{bytes_eq}
 use Rattle.mr_model.specs.Texts.{Text, whole_lines, in_first_line}
 use Rattle.mr_model.specs.Slots.{Slot}
 use Rattle.mr_model.specs.Refusals as model
-use Rattle.mr_model.specs.Exchange.{Item, Ending, Cut, Header, Batch, BodyLine, ItemLine, LastLine, read_header, read_body_line, with_item, read_end, read_line, read_body, under_header, read_lines, read_batch, no_lines}
+use Rattle.mr_model.specs.Exchange.{Item, Ending, Cut, Header, BodyLine, ItemLine, LastLine, read_header, read_body_line, with_item, read_end, read_line, read_body, under_header, read_lines, read_batch, no_lines}
 use Rattle.mr_base.specs.Refusals.{refusal_of}
 use Rattle.mr_base.specs.declared.refusals.Refusal.{Refusal}
-use Rattle.mr_base.specs.declared.refusals.Refusal.TheVariants.{BadLine, OutOfMemory}
+use Rattle.mr_base.specs.declared.refusals.Refusal.TheVariants.{OutOfMemory}
 use Rattle.mr_wire.specs.declared.fault.Fault.{Fault}
 use Rattle.mr_wire.specs.declared.fault.Fault.TheVariants as faults
 use Rattle.mr_wire.specs.Words.{cut}

@@ -1,5 +1,5 @@
 -- A text is read as a position exactly where it is the text of it.
-use Rattle.std.proofs.Common.{◌≡◌, refl, sym, ap, ◌∙◌, subst, ℕ, suc, ◌+◌, ◌-◌, ◌^◌, ◌<◌, ◌≤◌, Bool, true, false, cond, ◌&&◌, eqb, leb, List, [], ◌∷◌, ◌++◌, length, map, append_assoc, arith, IsTrue, Option, Some, None, Result, Ok, Err, lit<, lit≤, le-leb, leb-true, eqb-true, length-append}
+use Rattle.std.proofs.Common.{◌≡◌, refl, sym, ap, ◌∙◌, subst, ℕ, suc, ◌-◌, ◌<◌, ◌≤◌, Bool, true, false, cond, ◌&&◌, eqb, leb, List, [], ◌∷◌, ◌++◌, length, map, append_assoc, arith, Option, Some, None, lit<, lit≤, le-leb, leb-true, eqb-true, length-append}
 use Rattle.std.proofs.lemmas.Bool.{and_parts, and_from, eqb-false}
 use Rattle.std.proofs.lemmas.List.{append-nil}
 use Rattle.std.proofs.Math.Seq.{get_or-append_seam}
@@ -10,7 +10,7 @@ use Rattle.std.specs.Fmt.{decimal}
 use Rattle.std.specs.List.{AllByRecursion, list_all}
 use Rattle.mr_model.specs.Texts.{Text, within, only_if, words, line, lines_text, in_first_line, whole_lines}
 use Rattle.mr_model.specs.Writes.{is_server, is_count, greatest_count}
-use Rattle.mr_model.specs.Positions.{Count, Position, are_rising, is_position, count_line, position_lines, position_text, position_in, read_position}
+use Rattle.mr_model.specs.Positions.{Count, Position, are_rising, is_position, count_line, position_lines, position_text, read_position}
 use Rattle.mr_model.proofs.WordsReadBack.{OneLine, all_append, lines-text}
 use Rattle.mr_model.proofs.LinesReadBack.{within-high}
 use Rattle.mr_model.proofs.BatchesReadBack.{words-one_line, number-one_line}

@@ -1,10 +1,9 @@
 -- The fields of a line, each taken off the front of a text, and the lines that are made of them.
-use Rattle.std.specs.Prelude.{ℕ, zero, suc, Bool, not, ◌&&◌, nat_lt, if◌then◌else◌, List, [], ◌∷◌, ◌++◌, length, codes, bytes_eq, Option, Some, None}
-use Rattle.std.specs.List.{list_all}
+use Rattle.std.specs.Prelude.{ℕ, zero, suc, not, ◌&&◌, nat_lt, if◌then◌else◌, List, [], ◌∷◌, ◌++◌, length, codes, bytes_eq, Option, Some, None}
 use Rattle.mr_model.specs.Texts.{Text, whole_lines, only_if}
 use Rattle.mr_model.specs.Calendar.{read_date, read_time}
 use Rattle.mr_model.specs.Slots.{Slot}
-use Rattle.mr_model.specs.Writes.{Id, Stamp, Write, is_room_name, is_title, greatest_alternatives, greatest_count, greatest_time}
+use Rattle.mr_model.specs.Writes.{Stamp, Write, is_room_name, is_title, greatest_alternatives}
 use Rattle.mr_model.specs.Requests.{is_length_for}
 use Rattle.mr_model.specs.Exchange.{Header, Item, W, C, BodyLine, ItemLine, LastLine, Complete, More}
 use Rattle.mr_model.specs.Positions.{Count, Position, is_position}

@@ -1,5 +1,5 @@
 -- A text cut at a byte.
-use Rattle.std.specs.Prelude.{ℕ, ◌==◌, if◌then◌else◌, List, [], ◌∷◌, Option, Some, None, option_map}
+use Rattle.std.specs.Prelude.{ℕ, ◌==◌, if◌then◌else◌, [], ◌∷◌, Option, Some, None, option_map}
 use Rattle.mr_model.specs.Texts.{Text}
 
 -- what stands before the first such byte, and what stands behind it

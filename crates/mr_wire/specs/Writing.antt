@@ -1,5 +1,5 @@
 -- What writers append, piece by piece.
-use Rattle.std.specs.Prelude.{ℕ, List, [], ◌∷◌, ◌++◌, length, codes, decimal, flat_map}
+use Rattle.std.specs.Prelude.{List, [], ◌∷◌, ◌++◌, length, codes, decimal, flat_map}
 use Rattle.mr_model.specs.Texts.{Text}
 use Rattle.mr_model.specs.Calendar.{date_text, time_text}
 use Rattle.mr_model.specs.Slots.{Slot}

@@ -1,4 +1,4 @@
-use Rattle.std.proofs.Common.{sym, ◌∙◌, ap, inl, Ok, Some}
+use Rattle.std.proofs.Common.{sym, ◌∙◌, ap, inl, Ok}
 use Rattle.std.proofs.lemmas.Result.{err_from_is_err_and}
 use Rattle.mr_wire.proofs.LoopLaws.{no_header_line, bad_header, bad_body, whole_batch}
 use Rattle.mr_wire.proofs.batches.batch_of.Goals as goal

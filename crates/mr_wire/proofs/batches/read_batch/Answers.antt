@@ -1,4 +1,4 @@
-use Rattle.std.proofs.Common.{subst, ap, sym, ◌∙◌}
+use Rattle.std.proofs.Common.{subst, ap, ◌∙◌}
 use Rattle.mr_model.proofs.BatchesReadBack.{reads_read}
 use Rattle.mr_model.proofs.FirstBadLine.{first_is_bad_line}
 use Rattle.mr_model.proofs.ByteFronts.{front_reads}

@@ -1,7 +1,5 @@
-use Rattle.std.proofs.Common.{map, Some, subst, ap, ◌∙◌, ◌≡◌, ◌++◌, ◌∷◌, [], length, arith, ◌+◌, ◌<◌, ◌≤◌}
+use Rattle.std.proofs.Common.{map, Some, subst, ap, ◌∙◌, arith}
 use Rattle.std.proofs.lemmas.List.{map_push}
-use Rattle.mr_model.specs.Texts.{whole_lines}
-use Rattle.mr_model.specs.Exchange.{read_body}
 use Rattle.mr_base.specs.Batches.{item_of, ending_of}
 use Rattle.mr_wire.specs.Answers.{GivesSeen, body_seen}
 use Rattle.mr_wire.specs.Lines.{line_seen}

@@ -1,7 +1,6 @@
-use Rattle.std.proofs.Common.{◌≡◌, ℕ, ◌-◌, ◌+◌, List, [], ◌∷◌, ◌++◌, Some, Bor, rules, ap, sym, subst, ◌∙◌}
-use Rattle.mr_model.specs.Slots.{Slot}
+use Rattle.std.proofs.Common.{Some, rules, ap, sym, ◌∙◌}
 use Rattle.mr_wire.specs.Fields.{slots_off}
-use Rattle.mr_wire.proofs.LoopLaws.{with_slots, slots_go_on, slots_end, slots_are_done}
+use Rattle.mr_wire.proofs.LoopLaws.{slots_go_on, slots_end, slots_are_done}
 use Rattle.mr_wire.proofs.fields.slots_off.Goals as goal
 
 pub returns-in-None : goal.returns-in-None

@@ -1,4 +1,4 @@
-use Rattle.std.proofs.Common.{◌≡◌, sym, ap, ◌∙◌}
+use Rattle.std.proofs.Common.{sym, ap, ◌∙◌}
 use Rattle.mr_wire.proofs.LineLaws.{header_is}
 use Rattle.mr_wire.proofs.Ascii.{no_header}
 use Rattle.mr_wire.specs.Fields.{header_of}

@@ -1,4 +1,4 @@
-use Rattle.std.proofs.Common.{◌≡◌, sym, ap, ◌∙◌, subst}
+use Rattle.std.proofs.Common.{ap, ◌∙◌, subst}
 use Rattle.mr_wire.proofs.LineLaws.{line_is}
 use Rattle.mr_wire.proofs.Ascii.{no_body_line}
 use Rattle.mr_wire.specs.Fields.{line_of}

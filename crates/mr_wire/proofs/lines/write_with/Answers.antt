@@ -1,4 +1,4 @@
-use Rattle.std.proofs.Common.{◌≡◌, sym, rules}
+use Rattle.std.proofs.Common.{sym, rules}
 use Rattle.mr_wire.proofs.LineLaws.{made_write, no_write}
 use Rattle.mr_wire.proofs.lines.write_with.Goals as goal
 

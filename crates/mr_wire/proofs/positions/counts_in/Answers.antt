@@ -1,4 +1,4 @@
-use Rattle.std.proofs.Common.{◌≡◌, rules, sym, subst}
+use Rattle.std.proofs.Common.{rules, sym, subst}
 use Rattle.std.proofs.lemmas.List.{map_push}
 use Rattle.mr_base.specs.Positions.{counts_of}
 use Rattle.mr_wire.specs.Reading.{Reads}

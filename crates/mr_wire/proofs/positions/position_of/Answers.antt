@@ -1,4 +1,4 @@
-use Rattle.std.proofs.Common.{◌≡◌, sym, ap, ◌∙◌, subst}
+use Rattle.std.proofs.Common.{sym, ap, ◌∙◌, subst}
 use Rattle.mr_model.specs.Positions.{read_position}
 use Rattle.mr_wire.specs.Reading.{Reads}
 use Rattle.mr_wire.proofs.PositionTexts.{position_is, no_text, no_end}

@@ -1,4 +1,4 @@
-use Rattle.std.proofs.Common.{◌≡◌, ap, ◌∙◌, subst, ok_or, Ok}
+use Rattle.std.proofs.Common.{ap, ◌∙◌, subst, ok_or}
 use Rattle.mr_model.specs.Refusals.{BadPosition}
 use Rattle.mr_model.proofs.PositionsReadBack.{read-position_text}
 use Rattle.mr_base.specs.Answers.{Gives}
