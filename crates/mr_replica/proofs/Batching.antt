@@ -1,0 +1,111 @@
+-- The items of a batch that is made.
+use Rattle.std.proofs.Common.{◌≡◌, ℕ, zero, suc, ◌+◌, ◌-◌, ◌<◌, ◌≤◌, ◌==◌, min, nat_lt, not, Bool, true, false, cond, List, [], ◌∷◌, ◌++◌, length, map, take, drop, get_or, Option, Some, None, ap, refl, sym, ◌∙◌, subst, append_assoc, append-nil, inl, inr, arith}
+use Rattle.std.specs.Prelude.{flat_map}
+use Rattle.std.specs.List.{filter_map, cons_option, enumerate_from}
+use Rattle.std.proofs.Math.Seq.{take-append_seam}
+use Rattle.std.proofs.lemmas.Bool.{true≢false}
+use Rattle.std.proofs.lemmas.Bool.Decides.{nat_tests}
+use Rattle.std.proofs.lemmas.List.{length-append, length-map, length-take, length-drop, map-append, take_all, take-append-le, take-append-drop}
+use Rattle.mr_model.specs.Texts.{only_if}
+use Rattle.mr_model.specs.Writes.{Id, Write, id_of}
+use Rattle.mr_model.specs.Exchange as model
+use Rattle.mr_model.specs.Positions.{Position}
+use Rattle.mr_model.specs.Replica.{Replica, IsReplica, write_with, tentative}
+use Rattle.mr_model.specs.Refusals.{WrongPrimary, Truncated, first_refusal}
+use Rattle.mr_model.specs.Replies.{BatchIs}
+use Rattle.mr_model.specs.Kept.{kept_in_order}
+use Rattle.mr_model.specs.Dropped.{Has}
+use Rattle.mr_model.specs.Step.{item_if_lacked, commit_items, items_for, batch_of, batch_unless, batch_reply}
+use Rattle.mr_model.proofs.Members.{has_right}
+use Rattle.mr_model.proofs.KnownById.{known_with, commit_found}
+use Rattle.mr_model.proofs.RoomPlaces.{kept_committed}
+use Rattle.mr_model.proofs.TwinChanges.{drop-add}
+use Rattle.mr_model.proofs.UniqueReplay.{some_inj, none_some}
+use Rattle.mr_base.specs.declared.batches.Item.{Item}
+use Rattle.mr_base.specs.Batches as base
+use Rattle.mr_base.specs.Batches.{item_of}
+use Rattle.mr_replica.specs.Outgoing.{Offers, committed_items, lacked_items, kept_items, ending_by}
+use Rattle.mr_replica.specs.Summary.{summary_of, committed_len}
+use Rattle.mr_replica.proofs.Desks.{committed_kept, tentative_kept}
+
+-- one item more, where there is room
+pub Offers-more : (limit : ℕ) (items : List model.Item) (there new : List Item) (more : Bool) (x : Item) (y : model.Item) → Offers limit items there more → length there < limit → new ≡ there ++ x ∷ [] → item_of x ≡ y → Offers limit (items ++ y ∷ []) new more
+Offers-more limit items there new more x y o room e same =
+    let size : length there ≡ min limit (length items) = sym (length-map there item_of) ∙ ap length o.first ∙ length-take limit items in
+    let short : length items < limit = omega arith in
+    let all : map item_of there ≡ items = o.first ∙ take_all limit items (let s : length items ≤ limit = omega arith in s) in
+    let longer = length-append items (y ∷ []) in
+    record {
+      first = ap (map item_of) e ∙ map-append item_of there (x ∷ []) ∙ (λ t. all t ++ same t ∷ []) ∙ sym (take_all limit (items ++ y ∷ []) (let s : length (items ++ y ∷ []) ≤ limit = omega arith in s));
+      rest = o.rest ∙ not_above limit (length items) (length (items ++ y ∷ [])) (let s : length items ≤ limit = omega arith in s) (let s : length (items ++ y ∷ []) ≤ limit = omega arith in s);
+    }
+  where
+    not_above : (l m n : ℕ) → m ≤ l → n ≤ l → nat_lt l m ≡ nat_lt l n
+    not_above l m n p q = grind (arith, nat_tests)
+
+pub only_if_some : (b : Bool) (n s : ℕ) → only_if b n ≡ Some s → (b ≡ true) × (n ≡ s)
+only_if_some true n s e = (refl, some_inj n s e)
+only_if_some false n s e = absurd (none_some s e)
+
+-- ---- more writes
+
+pub lacked_items-append : (p : Position) (ws vs : List Write) → lacked_items p (ws ++ vs) ≡ lacked_items p ws ++ lacked_items p vs
+lacked_items-append p [] vs = refl
+lacked_items-append p (w ∷ ws) vs = ap (λ xs. item_if_lacked p (Some w) ++ xs) (lacked_items-append p ws vs) ∙ sym (append_assoc (item_if_lacked p (Some w)) (lacked_items p ws) (lacked_items p vs))
+
+pub committed_items-more : (p : Position) (seq : ℕ) (ws : List Write) (w : Write) → committed_items p seq (ws ++ w ∷ []) ≡ committed_items p seq ws ++ (item_if_lacked p (Some w) ++ model.C (seq + length ws) (id_of w) ∷ [])
+committed_items-more p seq [] w = append-nil (item_if_lacked p (Some w) ++ model.C seq (id_of w) ∷ []) ∙ ap (λ n. item_if_lacked p (Some w) ++ model.C n (id_of w) ∷ []) (same seq)
+  where
+    same : (n : ℕ) → n ≡ n + 0
+    same n = omega arith
+committed_items-more p seq (v ∷ vs) w =
+    let n : seq + 1 + length vs ≡ seq + suc (length vs) = omega arith in
+    ap (λ xs. (item_if_lacked p (Some v) ++ model.C seq (id_of v) ∷ []) ++ xs) (committed_items-more p (seq + 1) vs w ∙ ap (λ m. committed_items p (seq + 1) vs ++ (item_if_lacked p (Some w) ++ model.C m (id_of w) ∷ [])) n)
+    ∙ sym (append_assoc (item_if_lacked p (Some v) ++ model.C seq (id_of v) ∷ []) (committed_items p (seq + 1) vs) (item_if_lacked p (Some w) ++ model.C (seq + suc (length vs)) (id_of w) ∷ []))
+
+-- ---- those of the definitions
+
+commits-found : (r : Replica) (p : Position) (seq : ℕ) (ids : List Id) → ((id : Id) → Has id ids → (w : Write) × (write_with r id ≡ Some w)) → flat_map (commit_items r p) (enumerate_from seq ids) ≡ committed_items p seq (filter_map (write_with r) ids)
+commits-found r p seq [] found = refl
+commits-found r p seq (id ∷ ids) found =
+    let (w, e) = found id (inl refl) in
+    let is = (known_with r id w e).1 in
+    (λ t. (item_if_lacked p (e t) ++ model.C seq (sym is t) ∷ []) ++ commits-found r p (seq + 1) ids (λ i h. found i (inr h)) t)
+    ∙ ap (λ o. committed_items p seq (cons_option o (filter_map (write_with r) ids))) (sym e)
+
+tentative-lacked : (p : Position) (ws : List Write) → flat_map (λ w. item_if_lacked p (Some w)) ws ≡ lacked_items p ws
+tentative-lacked p [] = refl
+tentative-lacked p (w ∷ ws) = ap (λ xs. item_if_lacked p (Some w) ++ xs) (tentative-lacked p ws)
+
+drop_found : (r : Replica) (n : ℕ) (ids : List Id) → ((id : Id) → Has id ids → (w : Write) × (write_with r id ≡ Some w)) → filter_map (write_with r) (drop n ids) ≡ drop n (filter_map (write_with r) ids)
+drop_found r zero ids found = refl
+drop_found r (suc n) [] found = refl
+drop_found r (suc n) (id ∷ ids) found =
+    let (w, e) = found id (inl refl) in
+    drop_found r n ids (λ i h. found i (inr h)) ∙ ap (λ o. drop (suc n) (cons_option o (filter_map (write_with r) ids))) (sym e)
+
+pub items-made : (r : Replica) (p : Position) → IsReplica r → r.dropped ≤ p.commits → items_for r p ≡ committed_items p (p.commits + 1) (drop (p.commits - r.dropped) (kept_committed r)) ++ lacked_items p (tentative r)
+items-made r p sound low =
+    let n = p.commits - r.dropped in
+    let sum : p.commits ≡ r.dropped + n = omega arith in
+    let all = λ (id : Id) (h : Has id (drop r.dropped r.commits)). commit_found r id sound (subst (Has id) (take-append-drop r.dropped r.commits) (has_right id (take r.dropped r.commits) (drop r.dropped r.commits) h)) in
+    let later = λ (id : Id) (h : Has id (drop n (drop r.dropped r.commits))). all id (subst (Has id) (take-append-drop n (drop r.dropped r.commits)) (has_right id (take n (drop r.dropped r.commits)) (drop n (drop r.dropped r.commits)) h)) in
+    let ids : drop p.commits r.commits ≡ drop n (drop r.dropped r.commits) = ap (λ m. drop m r.commits) sum ∙ drop-add r.dropped n r.commits in
+    let commits = ap (λ is. flat_map (commit_items r p) (enumerate_from (p.commits + 1) is)) ids ∙ commits-found r p (p.commits + 1) (drop n (drop r.dropped r.commits)) later ∙ ap (committed_items p (p.commits + 1)) (drop_found r n (drop r.dropped r.commits) all) in
+    λ t. commits t ++ tentative-lacked p (tentative r) t
+
+pub items-kept : (a : Replica) (p : Position) → IsReplica a → a.dropped ≤ p.commits → kept_items p (summary_of a) (kept_in_order a) ≡ items_for a p
+items-kept a p sound low =
+    let front : take (committed_len (summary_of a) (kept_in_order a)) (kept_in_order a) ≡ kept_committed a = ap (λ n. take n (kept_in_order a)) (committed_kept a sound) ∙ take-append_seam (kept_committed a) (tentative a) in
+    (λ t. committed_items p (p.commits + 1) (drop (p.commits - a.dropped) (front t)) ++ lacked_items p (tentative_kept a sound t)) ∙ sym (items-made a p sound low)
+
+-- the batch that is made of them
+pub batch_made : (a : Replica) (p : Position) (m : ℕ) (there : List Item) (more : Bool) → (p.primary == a.primary) ≡ true → nat_lt p.commits a.dropped ≡ false → Offers m (items_for a p) there more → BatchIs (base.batch_of (Some (a.server, a.primary)) there (ending_by more)) ≡ batch_reply a p m
+batch_made a p m there more own whole o =
+    let e = ending more ∙ ap (λ b. cond b model.More model.Complete) o.rest in
+    (λ t. BatchIs (record { header = Some (record { from = a.server; primary = a.primary }); items = o.first t; ending = e t }))
+    ∙ (λ t. batch_unless (first_refusal ((not (sym own t), WrongPrimary) ∷ (sym whole t, Truncated) ∷ [])) (batch_of a p m))
+  where
+    ending : (b : Bool) → base.ending_of (ending_by b) ≡ cond b model.More model.Complete
+    ending true = refl
+    ending false = refl

@@ -1,0 +1,250 @@
+-- Taking all items of a batch.
+use Rattle.std.proofs.Common.{◌≡◌, ℕ, zero, suc, ◌+◌, ◌-◌, ◌<◌, ◌≤◌, min, ◌==◌, ◌&&◌, cond, not, Some, ◌⊎◌, Bool, true, false, List, [], ◌∷◌, ◌++◌, length, map, take, drop, get_or, Result, Ok, Err, ap, refl, sym, ◌∙◌, subst, inl, inr, arith, IsTrue}
+use Rattle.std.specs.List.{list_all, filter_map}
+use Rattle.std.specs.Result.{is_ok}
+use Rattle.std.proofs.lemmas.Bool.{true≢false, and_parts}
+use Rattle.std.proofs.lemmas.Bool.Decides.{nat_tests}
+use Rattle.std.proofs.lemmas.List.{length-append, map-append}
+use Rattle.mr_model.specs.Texts.{only_if}
+use Rattle.mr_model.specs.Writes.{Id, Write, id_of, is_write, is_id, stamp_before}
+use Rattle.mr_model.specs.Refusals as model
+use Rattle.mr_model.specs.Exchange.{Item, W, C, Header, Batch, is_item}
+use Rattle.mr_model.specs.Replica.{Replica, IsReplica, write_with, with_write, tentative, committed, order_of, add_write, add_commit}
+use Rattle.mr_model.specs.Kept.{dropped_in_order, kept_in_order}
+use Rattle.mr_model.specs.Taking.{Progress, take_item, take_items, take_write, take_commit, with_new_write, with_new_commit}
+use Rattle.mr_model.specs.Replies.{Took}
+use Rattle.mr_model.specs.Step.{After, after_items, step_unless, receive_under, receive_batch}
+use Rattle.mr_model.proofs.Members.{Distinct}
+use Rattle.mr_model.proofs.KnownById.{distinct_order}
+use Rattle.mr_model.proofs.TakingKeeps.{IsItem, KeepsReplica, item_keeps}
+use Rattle.mr_model.proofs.TwinChanges.{dropped-add_write}
+use Rattle.mr_model.proofs.Fronts.{take-front}
+use Rattle.mr_model.proofs.LogOrder.{order-parts}
+use Rattle.mr_model.proofs.RoomPlaces.{kept_committed}
+use Rattle.mr_model.proofs.BatchesReadBack.{ok_inj}
+use Rattle.mr_model.proofs.ReceivedPlaces.{commit_moved}
+use Rattle.mr_base.specs.declared.refusals.Refusal.{Refusal}
+use Rattle.mr_base.specs.declared.refusals.Refusal.TheVariants.{OutOfMemory}
+use Rattle.mr_base.specs.Refusals.{refusal_of}
+use Rattle.mr_replay.specs.Holds.{AreDistinct, HaveDistinctIds}
+use Rattle.mr_replica.specs.Log.{replaced, log_of}
+use Rattle.mr_replica.specs.Summary.{summary_of}
+use Rattle.mr_replica.specs.Candidate.{CandidateView, Shows, Takes, KeepsFront, write_verdict, commit_verdict}
+use Rattle.mr_replica.specs.declared.summary.Summary.{Summary}
+use Rattle.mr_replica.specs.Desk.{DeskView, desk_of, old_errors_of, nothing_taken, adopted, reply_with}
+use Rattle.mr_replica.proofs.Logs.{log-replaced}
+use Rattle.mr_replica.proofs.Desks.{summary_in, desk_with}
+use Rattle.mr_replica.proofs.Judging.{JudgedWrite, judged_write, JudgedCommit, judged_commit}
+use Rattle.mr_replica.proofs.Learning.{kept-learned, kept-moved}
+
+-- ---- fronts
+
+take-take : {A : Type 0} (n m : ℕ) (xs : List A) → n ≤ m → take n (take m xs) ≡ take n xs
+take-take zero m xs h = refl
+take-take (suc n) zero xs h = absurd (omega arith)
+take-take (suc n) (suc m) [] h = refl
+take-take (suc n) (suc m) (x ∷ xs) h = ap (λ ys. x ∷ ys) (take-take n m xs (omega arith))
+
+pub front-trans : (a b c : CandidateView) → KeepsFront a b → KeepsFront b c → KeepsFront a c
+front-trans a b c f g =
+    let p = f.fewer in
+    let q = g.fewer in
+    record {
+      fewer = omega arith;
+      front = g.front ∙ sym (take-take c.same b.same b.kept g.fewer) ∙ ap (take c.same) f.front ∙ take-take c.same b.same a.kept g.fewer;
+    }
+
+pub front-same : (a : CandidateView) → KeepsFront a a
+front-same a = record { fewer = (let s : a.same ≤ a.same = omega arith in s); front = refl }
+
+-- ---- what items bring
+
+-- the same is dropped; the new writes are those that are kept more, the new commits those that there are more
+pub record Brings (p q : Progress) : Type 0 where
+  pub dropped : dropped_in_order q.replica ≡ dropped_in_order p.replica
+  pub writes : q.writes + length (kept_in_order p.replica) ≡ p.writes + length (kept_in_order q.replica)
+  pub commits : q.commits + length p.replica.commits ≡ p.commits + length q.replica.commits
+  pub primary : q.replica.primary ≡ p.replica.primary
+
+brings-none : (p : Progress) → Brings p p
+brings-none p = record { dropped = refl; writes = refl; commits = refl; primary = refl }
+
+brings-more : (p q r : Progress) → Brings p q → Brings q r → Brings p r
+brings-more p q r f g =
+    let a = f.writes in
+    let b = g.writes in
+    let c = f.commits in
+    let d = g.commits in
+    record { dropped = g.dropped ∙ f.dropped; writes = omega arith; commits = omega arith; primary = g.primary ∙ f.primary }
+
+length-with_write : (w : Write) (ws : List Write) → length (with_write w ws) ≡ suc (length ws)
+length-with_write w [] = refl
+length-with_write w (v ∷ vs) = go (stamp_before w v) (length-with_write w vs)
+  where
+    go : (b : Bool) → length (with_write w vs) ≡ suc (length vs) → length (cond b (w ∷ v ∷ vs) (v ∷ with_write w vs)) ≡ suc (suc (length vs))
+    go true e = refl
+    go false e = ap (λ n. suc n) e
+
+err≢ok : (x : model.Refusal) (q : Progress) → ◌≡◌ {A = Result Progress model.Refusal} (Err x) (Ok q) → ⊥
+err≢ok x q e = true≢false (ap is_ok (sym e))
+
+-- what a write brings
+write-brings : (line : ℕ) (p q : Progress) (w : Write) → IsReplica p.replica → IsTrue (is_write w) → take_write line p w ≡ Ok q → Brings p q
+write-brings line p q w sound good e = go (write_verdict line (summary_of p.replica) (kept_in_order p.replica) w) (judged_write line p w sound good)
+  where
+    go : (v : Result Bool Refusal) → JudgedWrite line p w v → Brings p q
+    go (Ok true) j =
+        let same : with_new_write p w ≡ q = ok_inj (with_new_write p w) q (sym j.0 ∙ e) in
+        let r = p.replica in
+        let before = length-append (kept_committed r) (tentative r) in
+        let after = ap length (kept-learned r w sound j.1) ∙ length-append (kept_committed r) (with_write w (tentative r)) in
+        let one = length-with_write w (tentative r) in
+        subst (Brings p) same (record { dropped = dropped-add_write r w sound j.1; writes = omega arith; commits = refl; primary = refl })
+    go (Ok false) j = subst (Brings p) (ok_inj p q (sym j ∙ e)) (brings-none p)
+    go (Err x) j = absurd (err≢ok (refusal_of x) q (sym j ∙ e))
+
+-- what a commit brings
+commit-brings : (line : ℕ) (p q : Progress) (n : ℕ) (id : Id) → IsReplica p.replica → id.server < 100 → take_commit line p n id ≡ Ok q → Brings p q
+commit-brings line p q n id sound small e = go (commit_verdict line (summary_of p.replica) (kept_in_order p.replica) n id) (judged_commit line p n id sound small)
+  where
+    go : (v : Result Bool Refusal) → JudgedCommit line p n id v → Brings p q
+    go (Ok true) j =
+        let same : with_new_commit p id ≡ q = ok_inj (with_new_commit p id) q (sym j.0 ∙ e) in
+        let r = p.replica in
+        let m = commit_moved r id sound j.1 j.2 in
+        let before = length-append (kept_committed r) (tentative r) in
+        let was = ap length m.was ∙ length-append m.before (m.moved ∷ m.behind) in
+        let after = ap length (kept-moved r id sound m) ∙ length-append (kept_committed r) (m.moved ∷ (m.before ++ m.behind)) in
+        let rest = length-append m.before m.behind in
+        let more = length-append r.commits (id ∷ []) in
+        subst (Brings p) same (record {
+          dropped = ap (filter_map (write_with r)) (take-front r.dropped r.commits (id ∷ []) sound.dropped_committed);
+          writes = omega arith;
+          commits = omega arith;
+          primary = refl;
+        })
+    go (Ok false) j = subst (Brings p) (ok_inj p q (sym j ∙ e)) (brings-none p)
+    go (Err x) j = absurd (err≢ok (refusal_of x) q (sym j ∙ e))
+
+item-brings : (line : ℕ) (p q : Progress) (x : Item) → IsReplica p.replica → IsTrue (is_item x) → take_item line p x ≡ Ok q → Brings p q
+item-brings line p q (W w) sound good e = write-brings line p q w sound good e
+item-brings line p q (C n id) sound good e = commit-brings line p q n id sound (let g = good in grind (arith, nat_tests)) e
+
+item-within : (x : Item) → IsTrue (is_item x) → IsItem x
+item-within (W w) h = h
+item-within (C n id) h = h
+
+-- what items bring one after the other
+pub items-bring : (items : List Item) (line : ℕ) (p q : Progress) → IsReplica p.replica → list_all is_item items ≡ true → take_items items line (Ok p) ≡ Ok q → Brings p q
+items-bring [] line p q sound good e = subst (Brings p) (ok_inj p q e) (brings-none p)
+items-bring (x ∷ xs) line p q sound good e = go (take_item line p x) refl e (λ m. items-bring xs (line + 1) m q)
+  where
+    parts : (is_item x ≡ true) × (list_all is_item xs ≡ true)
+    parts = and_parts (is_item x) (list_all is_item xs) good
+
+    go : (o : Result Progress model.Refusal) → take_item line p x ≡ o → take_items xs (line + 1) o ≡ Ok q → ((m : Progress) → IsReplica m.replica → list_all is_item xs ≡ true → take_items xs (line + 1) (Ok m) ≡ Ok q → Brings m q) → Brings p q
+    go (Ok m) t f rest = brings-more p m q (item-brings line p m x sound parts.0 t) (rest m (subst KeepsReplica t (item_keeps line p x sound (item-within x parts.0))) parts.1 f)
+    go (Err r) t f rest = absurd (err≢ok r q f)
+
+-- ---- the items one after the other
+
+-- after k items there is a progress that the candidate shows, and the rest leads from it to what all lead to
+pub record IsAt (items : List Item) (k : ℕ) (start : Progress) (c : CandidateView) : Type 0 where
+  pub progress : Progress
+  pub sound : IsReplica progress.replica
+  pub rest : take_items items 2 (Ok start) ≡ take_items (drop k items) (2 + k) (Ok progress)
+  pub shows : Shows c progress.replica
+
+pub at-start : (items : List Item) (p : Progress) (c : CandidateView) → IsReplica p.replica → Shows c p.replica → IsAt items 0 p c
+at-start items p c sound shows = record { progress = p; sound = sound; rest = refl; shows = shows }
+
+drop_at : (xs : List Item) (k : ℕ) (x : Item) → k < length xs → x ≡ get_or xs k x → drop k xs ≡ x ∷ drop (suc k) xs
+drop_at [] k x h e = absurd (omega arith)
+drop_at (y ∷ ys) zero x h e = ap (λ z. z ∷ ys) (sym e)
+drop_at (y ∷ ys) (suc k) x h e = drop_at ys k x (omega arith) e
+
+all_at : (xs : List Item) (k : ℕ) (x : Item) → k < length xs → x ≡ get_or xs k x → list_all is_item xs ≡ true → is_item x ≡ true
+all_at [] k x h e all = absurd (omega arith)
+all_at (y ∷ ys) zero x h e all = ap is_item e ∙ (and_parts (is_item y) (list_all is_item ys) all).0
+all_at (y ∷ ys) (suc k) x h e all = all_at ys k x (omega arith) e (and_parts (is_item y) (list_all is_item ys) all).1
+
+pub at-next : (items : List Item) (k : ℕ) (x : Item) (p : Progress) (c new : CandidateView) → k < length items → x ≡ get_or items k x → IsTrue (list_all is_item items) → (a : IsAt items k p c) → Takes (take_item (2 + k) a.progress x) (Ok tt) new → IsAt items (suc k) p new
+at-next items k x p c new h e all a t =
+    let good = all_at items k x h e all in
+    let line : 2 + k + 1 ≡ 2 + suc k = omega arith in
+    record {
+      progress = t.0;
+      sound = subst KeepsReplica t.1 (item_keeps (2 + k) a.progress x a.sound (item-within x good));
+      rest = a.rest ∙ ap (λ xs. take_items xs (2 + k) (Ok a.progress)) (drop_at items k x h e) ∙ ap (take_items (drop (suc k) items) (2 + k + 1)) t.1 ∙ ap (λ n. take_items (drop (suc k) items) n (Ok t.0)) line;
+      shows = t.2;
+    }
+
+pub at-failed : (items : List Item) (k : ℕ) (x : Item) (p : Progress) (c new : CandidateView) (r : Refusal) → k < length items → x ≡ get_or items k x → (a : IsAt items k p c) → Takes (take_item (2 + k) a.progress x) (Err r) new → Takes (take_items items 2 (Ok p)) (Err r) new
+at-failed items k x p c new r h e a (inl t) = inl (a.rest ∙ ap (λ xs. take_items xs (2 + k) (Ok a.progress)) (drop_at items k x h e) ∙ ap (take_items (drop (suc k) items) (2 + k + 1)) t)
+at-failed items k x p c new r h e a (inr t) = inr t
+
+-- at the end
+pub at-end : (items : List Item) (k : ℕ) (p : Progress) (c : CandidateView) → length items ≤ k → (a : IsAt items k p c) → take_items items 2 (Ok p) ≡ Ok a.progress
+at-end items k p c h a = a.rest ∙ ap (λ xs. take_items xs (2 + k) (Ok a.progress)) (drop_none items k h)
+  where
+    drop_none : (xs : List Item) (n : ℕ) → length xs ≤ n → drop n xs ≡ []
+    drop_none [] zero g = refl
+    drop_none [] (suc n) g = refl
+    drop_none (y ∷ ys) zero g = absurd (omega arith)
+    drop_none (y ∷ ys) (suc n) g = drop_none ys n (omega arith)
+
+-- ---- the desk
+
+distinct-are : (ids : List Id) → Distinct ids → AreDistinct ids
+distinct-are [] h = tt
+distinct-are (i ∷ is) h = (h.0, distinct-are is h.1)
+
+pub distinct_log : (a : Replica) → IsReplica a → HaveDistinctIds (dropped_in_order a ++ kept_in_order a)
+distinct_log a sound =
+    distinct-are (map id_of (dropped_in_order a ++ kept_in_order a))
+    (subst Distinct (sym (map-append id_of (committed a) (tentative a)) ∙ ap (map id_of) (order-parts a)) (distinct_order a sound))
+
+-- a desk that adopts what a candidate shows stands for the replica that has taken the items
+pub desk-received : (a b : Replica) (c : CandidateView) → IsReplica a → dropped_in_order b ≡ dropped_in_order a → Shows c b → take c.same c.kept ≡ take c.same (kept_in_order a) → desk_with c.summary c.rooms (replaced (desk_of a).log c.same c.kept) (desk_of a).old_errors ≡ desk_of b
+desk-received a b c sound same shows front =
+    let log = log-replaced (dropped_in_order a) (kept_in_order a) c.kept c.same (distinct_log a sound) front ∙ (λ t. log_of (sym same t) (shows.kept t)) in
+    λ t. desk_with (shows.summary t) (shows.rooms t) (log t) (old_errors_of (sym same t))
+
+-- before the first item a candidate of the desk shows its replica
+pub new_shows : (a : Replica) (d : DeskView) (c : CandidateView) (same : ℕ) → d ≡ desk_of a → c ≡ record { summary = summary_in d; rooms = d.rooms; kept = d.log.kept; same = same } → Shows c a
+new_shows a d c same e n = record { summary = ap (λ (v : CandidateView). v.summary) n ∙ ap summary_in e; rooms = ap (λ (v : CandidateView). v.rooms) n ∙ ap (λ (v : DeskView). v.rooms) e; kept = ap (λ (v : CandidateView). v.kept) n ∙ ap (λ (v : DeskView). v.log.kept) e }
+
+-- ---- all items of a desk
+
+-- the answer is what the items give, and the desk stands for the replica that has taken them
+pub all_taken : (a : Replica) (d : DeskView) (start c : CandidateView) (new : DeskView) (items : List Item) → IsReplica a → d ≡ desk_of a → start ≡ record { summary = summary_in d; rooms = d.rooms; kept = d.log.kept; same = length d.log.kept } → list_all is_item items ≡ true → KeepsFront start c → Takes (take_items items 2 (Ok (nothing_taken a))) (Ok tt) c → new ≡ adopted d c
+    → (Took (length c.kept - length d.log.kept) (c.summary.commits - d.commits) ≡ (after_items a (take_items items 2 (Ok (nothing_taken a)))).reply) × (new ≡ desk_of (after_items a (take_items items 2 (Ok (nothing_taken a)))).replica)
+all_taken a d start c new items sound e s good f t n =
+    let q = t.0 in
+    let brings = items-bring items 2 (nothing_taken a) q sound good t.1 in
+    let step = ap (after_items a) t.1 in
+    let shows = t.2 in
+    let kept : d.log.kept ≡ kept_in_order a = ap (λ (v : DeskView). v.log.kept) e in
+    let more = ap length shows.kept in
+    let was = ap length kept in
+    let writes = brings.writes in
+    let commits = brings.commits in
+    let there : c.summary.commits ≡ length q.replica.commits = ap (λ (x : Summary). x.commits) shows.summary in
+    let before : d.commits ≡ length a.commits = ap (λ (v : DeskView). v.commits) e in
+    let w : length c.kept - length d.log.kept ≡ q.writes = omega arith in
+    let m : c.summary.commits - d.commits ≡ q.commits = omega arith in
+    let front : take c.same c.kept ≡ take c.same (kept_in_order a) = f.front ∙ ap (λ (v : CandidateView). take c.same v.kept) s ∙ ap (take c.same) kept in
+    ((λ i. Took (w i) (m i)) ∙ ap (λ (x : After). x.reply) (sym step), n ∙ ap (λ v. adopted v c) e ∙ desk-received a q.replica c sound brings.dropped shows front ∙ ap (λ (x : After). desk_of x.replica) (sym step))
+
+-- a batch that is refused changes nothing
+pub none_taken : (a : Replica) (d : DeskView) (c : CandidateView) (items : List Item) (r : Result (ℕ × ℕ) Refusal) (e : Refusal) → r ≡ Err e → d ≡ desk_of a → Takes (take_items items 2 (Ok (nothing_taken a))) (Err e) c
+    → ((reply_with (λ (counts : ℕ × ℕ). Took counts.0 counts.1) r ≡ (after_items a (take_items items 2 (Ok (nothing_taken a)))).reply) × (d ≡ desk_of (after_items a (take_items items 2 (Ok (nothing_taken a)))).replica))
+    ⊎ ((r ≡ Err OutOfMemory) × (d ≡ d))
+none_taken a d c items r e p stands (inl t) =
+    let step = ap (after_items a) t in
+    inl (ap (reply_with (λ (counts : ℕ × ℕ). Took counts.0 counts.1)) p ∙ ap (λ (x : After). x.reply) (sym step), stands ∙ ap (λ (x : After). desk_of x.replica) (sym step))
+none_taken a d c items r e p stands (inr t) = inr (p ∙ ap Err t, refl)
+
+-- the step, where nothing refuses the batch as a whole
+pub receive_done : (a : Replica) (b : Batch) (h : Header) → b.header ≡ Some h → (h.primary == a.primary) ≡ true → receive_batch a b ≡ after_items a (take_items b.items 2 (Ok (nothing_taken a)))
+receive_done a b h header own = ap (λ o. receive_under a o b.items) header ∙ (λ t. step_unless a (only_if (not (own t)) model.WrongPrimary) (after_items a (take_items b.items 2 (Ok (nothing_taken a)))))

@@ -1,0 +1,40 @@
+use Rattle.std.proofs.Common.{◌≡◌, ◌+◌, ◌<◌, min, suc, Ok, Err, map, length, get_or, ap, sym, ◌∙◌, subst, inl, inr, arith}
+use Rattle.std.proofs.lemmas.List.{get_or-map, length-map}
+use Rattle.std.proofs.lemmas.Result.{err_from_is_err_and}
+use Rattle.mr_model.specs.Taking.{Progress, take_item, take_items}
+use Rattle.mr_base.specs.Batches.{item_of}
+use Rattle.mr_replica.specs.Candidate.{Shows, Takes, KeepsFront}
+use Rattle.mr_replica.proofs.Receiving.{IsAt, at-next, at-failed, front-trans}
+use Rattle.mr_replica.proofs.candidate.Candidate.take_all.Goals as goal
+
+pub loop-k-preserved : goal.loop-k-preserved
+loop-k-preserved c =
+    let k = c.loop-k.k in
+    let items = c.args.items.now in
+    let below = c.loop-k-test.true in (
+      front-trans c.args.self.now c.loop-k.self c.take.new.self c.loop-k.invariant.0 c.in_ok-take.ensures.front,
+      λ p sound good short shows.
+          let at = c.loop-k.invariant.1 p sound good short shows in
+          let line : c.saturating_add.result ≡ 2 + k = c.saturating_add.ensures ∙ (let m : min (k + 2) 18446744073709551615 ≡ 2 + k = omega arith in m) in
+          let item = c.index-items-k.result in
+          let is = ap item_of c.index-items-k.is ∙ sym (get_or-map item_of items k item (item_of item) below) in
+          let inside = subst (λ n. k < n) (sym (length-map items item_of)) below in
+          let took = subst (λ n. Takes (take_item n at.progress (item_of item)) (Ok tt) c.take.new.self) line (c.in_ok-take.ensures.takes at.progress at.sound at.shows) in
+          let next : suc k ≡ k + 1 = omega arith in
+          subst (λ n. IsAt (map item_of items) n p c.take.new.self) next (at-next (map item_of items) k (item_of item) p c.loop-k.self c.take.new.self inside is good at took),
+    )
+
+pub returns-in_err-take-clause-takes : goal.returns-in_err-take-clause-takes
+returns-in_err-take-clause-takes c = λ p sound good short shows.
+    let x = err_from_is_err_and c.from_residual.result c.from_residual.ensures.1 in
+    let k = c.loop-k.k in
+    let items = c.args.items.now in
+    let below = c.loop-k-test.true in
+    let at = c.loop-k.invariant.1 p sound good short shows in
+    let line : c.saturating_add.result ≡ 2 + k = c.saturating_add.ensures ∙ (let m : min (k + 2) 18446744073709551615 ≡ 2 + k = omega arith in m) in
+    let item = c.index-items-k.result in
+    let is = ap item_of c.index-items-k.is ∙ sym (get_or-map item_of items k item (item_of item) below) in
+    let inside = subst (λ n. k < n) (sym (length-map items item_of)) below in
+    let took = subst (λ n. Takes (take_item n at.progress (item_of item)) (Err c.in_err-take.field-0.0) c.take.new.self) line (c.in_err-take.ensures.takes at.progress at.sound at.shows) in
+    subst (λ r. Takes (take_items (map item_of items) 2 (Ok p)) r c.take.new.self) (sym (x.1 ∙ ap Err x.2))
+    (at-failed (map item_of items) k (item_of item) p c.loop-k.self c.take.new.self c.in_err-take.field-0.0 inside is at took)

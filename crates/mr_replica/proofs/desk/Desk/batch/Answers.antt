@@ -1,0 +1,44 @@
+use Rattle.std.proofs.Common.{◌≡◌, ℕ, ◌<◌, ◌≤◌, ◌==◌, nat_lt, true, false, Some, Ok, Err, sym, ap, ◌∙◌, subst, inl, inr, arith}
+use Rattle.std.proofs.lemmas.Bool.Decides.{nat_tests}
+use Rattle.std.proofs.lemmas.Result.{err_from_is_err_and}
+use Rattle.mr_model.specs.Positions.{Position}
+use Rattle.mr_model.specs.Replies.{BatchIs}
+use Rattle.mr_replica.proofs.Limits.{few_commits}
+use Rattle.mr_base.specs.Batches.{batch_of}
+use Rattle.mr_replica.specs.Outgoing.{Offers, kept_items, ending_by}
+use Rattle.mr_replica.specs.Desk.{DeskView, desk_of}
+use Rattle.mr_replica.proofs.Desks.{summary_in}
+use Rattle.mr_replica.proofs.Batching.{items-kept, batch_made}
+use Rattle.mr_replica.proofs.desk.Desk.batch.Goals as goal
+
+pub returns-in_err-outgoing : goal.returns-in_err-outgoing
+returns-in_err-outgoing c = λ a sound stands.
+    let x = err_from_is_err_and c.from_residual.result c.from_residual.ensures.1 in
+    let e = c.self.view_is ∙ stands in
+    let is : c.position.inside.commits ≡ c.args.position.now.commits = ap (λ (p : Position). p.commits) c.position.view_is in
+    let commits : c.self.inside.summary.commits ≡ _ = ap (λ (d : DeskView). d.commits) e in
+    let few = few_commits a sound in
+    let whole = c.if-position-self.false in
+    inr (x.1 ∙ ap Err (x.2 ∙ c.in_err-outgoing.ensures.only (omega arith) (omega arith)), λ _. c.args.self.now)
+
+pub returns : goal.returns
+returns c = λ a sound stands.
+    let p = c.args.position.now in
+    let there = c.in_ok-outgoing.outgoing.items.items in
+    let more = c.in_ok-outgoing.outgoing.more in
+    let e = c.self.view_is ∙ stands in
+    let primary : c.self.inside.summary.primary ≡ a.primary = ap (λ (d : DeskView). d.primary) e in
+    let dropped : c.self.inside.summary.dropped ≡ a.dropped = ap (λ (d : DeskView). d.dropped) e in
+    let asked : c.position.inside.primary ≡ p.primary = ap (λ (q : Position). q.primary) c.position.view_is in
+    let commits : c.position.inside.commits ≡ p.commits = ap (λ (q : Position). q.commits) c.position.view_is in
+    let ne = c.ne.ensures in
+    let same = c.if-ne.false in
+    let own : (p.primary == a.primary) ≡ true = grind (arith, nat_tests) in
+    let enough = c.if-position-self.false in
+    let low : a.dropped ≤ p.commits = omega arith in
+    let whole : nat_lt p.commits a.dropped ≡ false = grind (arith, nat_tests) in
+    let kept = c.kept.ensures in
+    let items = (λ t. kept_items p c.self.inside.summary (kept t)) ∙ (λ t. kept_items p (summary_in (e t)) (e t).log.kept) ∙ items-kept a p sound low in
+    let offers = subst (λ xs. Offers c.args.max_lines xs there more) items c.in_ok-outgoing.ensures.items in
+    let made = batch_made a p c.args.max_lines there more own whole offers in
+    inl (ap BatchIs (c.into_batch.ensures ∙ (λ t. batch_of (Some ((e t).server, (e t).primary)) there (ending_by more))) ∙ made, stands)

@@ -1,0 +1,15 @@
+pub mod Log
+pub mod Summary
+pub mod Desk
+pub mod Steps
+pub mod Rooms
+pub mod Outgoing
+pub mod Candidate
+pub mod Change
+pub mod Rows
+pub mod DeskTables
+pub mod Written
+pub mod Choices
+pub mod Tallied
+pub mod ChangeLaws
+pub mod Boards

@@ -1,0 +1,107 @@
+ghost use Rattle.std.specs.Prelude.{◌≡◌, [], ◌++◌, map, OnOk, IfOk, IfErr};
+ghost use Rattle.mr_model.specs.Replica.{Replica, IsReplica};
+ghost use Rattle.mr_model.specs.Tables.{tables_of};
+ghost use Rattle.mr_replica.specs.Desk.{desk_of};
+ghost use Rattle.std.specs.List.{AllByRecursion};
+ghost use Rattle.std.specs.BTreeMap.{insert_entry};
+ghost use Rattle.mr_base.specs.Ids.{id_cmp};
+ghost use Rattle.mr_replica.specs.Boards.{booking_entry, error_entry, put_entries, IsRowWithin};
+
+use crate::{BookingRow, ErrorRow, Tables};
+use mr_base::{Refusal, Slot, WriteId};
+use mr_replay::{Board, Row, Standing};
+use std::alloc::Global;
+
+/// The board that the tables tell. Refused where a row is out of the limits.
+pub(crate) fn board_of(alloc: Global, tables: &Tables) -> Result<Board, Refusal>
+    ensures board { (a : Replica) → IsReplica a → tables.now ≡ tables_of a → IfOk result (λ board. board ≡ (desk_of a).log.board) }
+    ensures only { (a : Replica) → IsReplica a → tables.now ≡ tables_of a → IfErr result (λ e. e ≡ Refusal.OutOfMemory) }
+{
+    board_with(alloc, &tables.booking, &tables.errorlog)
+}
+
+fn board_with(alloc: Global, bookings: &[BookingRow], errors: &[ErrorRow]) -> Result<Board, Refusal>
+    ensures board { AllByRecursion (λ r. IsRowWithin r.n r.start) bookings.now → AllByRecursion (λ r. IsRowWithin r.n r.start) errors.now
+        → IfOk result (λ board. board ≡ put_entries (map error_entry errors.now) (put_entries (map booking_entry bookings.now) [])) }
+    ensures only { AllByRecursion (λ r. IsRowWithin r.n r.start) bookings.now → AllByRecursion (λ r. IsRowWithin r.n r.start) errors.now
+        → IfErr result (λ e. e ≡ Refusal.OutOfMemory) }
+{
+    let mut board = Board::new(alloc);
+    put_bookings(&mut board, alloc, bookings)?;
+    put_errors(&mut board, alloc, errors)?;
+    Ok(board)
+}
+
+/// Puts the rows of `booking` on the board. Refused where one is out of the limits.
+pub(crate) fn put_bookings(
+    board: &mut Board,
+    alloc: Global,
+    rows: &[BookingRow],
+) -> Result<(), Refusal>
+    ensures put { AllByRecursion (λ r. IsRowWithin r.n r.start) rows.now → OnOk result (board.new ≡ put_entries (map booking_entry rows.now) board.old) }
+    ensures only { AllByRecursion (λ r. IsRowWithin r.n r.start) rows.now → IfErr result (λ e. e ≡ Refusal.OutOfMemory) }
+{
+    for row in rows {
+        put_booking(board, alloc, row)?;
+    }
+    Ok(())
+}
+
+fn put_booking(board: &mut Board, alloc: Global, row: &BookingRow) -> Result<(), Refusal>
+    ensures put { IsRowWithin row.now.n row.now.start → OnOk result (board.new ≡ insert_entry id_cmp board.old (booking_entry row.now).0 (booking_entry row.now).1) }
+    ensures only { IsRowWithin row.now.n row.now.start → IfErr result (λ e. e ≡ Refusal.OutOfMemory) }
+{
+    let Some(id) = WriteId::new(row.server, row.n) else {
+        return Err(Refusal::Store);
+    };
+    let Ok(slot) = Slot::new(row.day, row.start) else {
+        return Err(Refusal::Store);
+    };
+    let room = row.room.copy(alloc)?;
+    let title = row.title.copy(alloc)?;
+    board.put(
+        id,
+        Row {
+            room,
+            slot,
+            length: row.stop.saturating_sub(row.start),
+            title,
+            standing: Standing::Booked,
+        },
+    )
+}
+
+/// Puts the rows of `errorlog` on the board. Refused where one is out of the limits.
+pub(crate) fn put_errors(board: &mut Board, alloc: Global, rows: &[ErrorRow]) -> Result<(), Refusal>
+    ensures put { AllByRecursion (λ r. IsRowWithin r.n r.start) rows.now → OnOk result (board.new ≡ put_entries (map error_entry rows.now) board.old) }
+    ensures only { AllByRecursion (λ r. IsRowWithin r.n r.start) rows.now → IfErr result (λ e. e ≡ Refusal.OutOfMemory) }
+{
+    for row in rows {
+        put_error(board, alloc, row)?;
+    }
+    Ok(())
+}
+
+fn put_error(board: &mut Board, alloc: Global, row: &ErrorRow) -> Result<(), Refusal>
+    ensures put { IsRowWithin row.now.n row.now.start → OnOk result (board.new ≡ insert_entry id_cmp board.old (error_entry row.now).0 (error_entry row.now).1) }
+    ensures only { IsRowWithin row.now.n row.now.start → IfErr result (λ e. e ≡ Refusal.OutOfMemory) }
+{
+    let Some(id) = WriteId::new(row.server, row.n) else {
+        return Err(Refusal::Store);
+    };
+    let Ok(slot) = Slot::new(row.day, row.start) else {
+        return Err(Refusal::Store);
+    };
+    let room = row.room.copy(alloc)?;
+    let title = row.title.copy(alloc)?;
+    board.put(
+        id,
+        Row {
+            room,
+            slot,
+            length: row.stop.saturating_sub(row.start),
+            title,
+            standing: Standing::InErrorLog,
+        },
+    )
+}

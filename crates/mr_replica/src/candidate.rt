@@ -1,0 +1,286 @@
+ghost use Rattle.std.specs.Prelude.{◌≡◌, ℕ, ◌≤◌, ◌<◌, ◌+◌, ◌^◌, IsTrue, Ok, map, Bool, nat_lt, true, false, slice_get, length, take, drop, find, Some, OnOk, IfOk, IfErr};
+ghost use Rattle.std.specs.Option.{option_copied};
+ghost use Rattle.std.specs.List.{remove};
+ghost use Rattle.std.specs.List.{slice_index_or, list_all};
+ghost use Rattle.mr_model.specs.Exchange.{is_item};
+ghost use Rattle.mr_model.specs.Writes.{Write as WriteOfRoom, id_of};
+ghost use Rattle.mr_model.specs.Replica.{IsReplica};
+ghost use Rattle.mr_model.specs.Taking.{Progress, take_item, take_items, take_write, take_commit};
+ghost use Rattle.mr_base.specs.Batches.{item_of};
+ghost use Rattle.mr_replica.specs.Candidate.{Shows, Takes, KeepsFront, write_in, known_verdict, there_verdict, write_verdict, commit_verdict, front_len as front_len_of, write_place, with_learned, id_place as place_of_id, commit_place, with_moved};
+
+use crate::Summary;
+use crate::rooms::{copies_of, learn_room};
+use mr_base::{CommitNumber, Item, Refusal, RoomName, Write, WriteId, stamp_before};
+use std::alloc::Global;
+use std::marker::Model;
+
+/// A desk's numbers, rooms and kept writes with the items of a batch that are taken so far. The log itself is not touched:
+/// a batch is taken whole or not at all.
+#[derive(Drop)]
+pub struct Candidate {
+    pub(crate) alloc: Global,
+    pub(crate) summary: Summary,
+    pub(crate) rooms: Vec<RoomName>,
+    pub(crate) kept: Vec<Write>,
+    /// In front of this place the kept writes are as they were.
+    pub(crate) same: usize,
+}
+
+impl Model for Candidate {
+    ghost use Rattle.std.specs.Prelude.{◌≤◌, length};
+    ghost use Rattle.mr_replica.specs.Candidate.{CandidateView};
+
+    ghost Value = { CandidateView };
+
+    ghost view = { λ c. record { summary = c.summary; rooms = c.rooms.items; kept = c.kept.items; same = c.same } };
+
+    ghost invariant = { λ c. c.same ≤ length c.kept.items };
+}
+
+impl Candidate {
+    /// What these numbers, rooms and kept writes are before the first item.
+    pub fn new(
+        alloc: Global,
+        summary: Summary,
+        rooms: &[RoomName],
+        kept: &[Write],
+    ) -> Result<Candidate, Refusal>
+        ensures candidate { IfOk result (λ c. c ≡ record { summary = summary; rooms = rooms.now; kept = kept.now; same = length kept.now }) }
+        ensures only { IfErr result (λ e. e ≡ Refusal.OutOfMemory) }
+    {
+        let rooms = copies_of(alloc, rooms)?;
+        let mut copies = Vec::new(alloc);
+        for write in kept {
+            copies.push(write.copy(alloc)?)?;
+        }
+        let same = copies.len();
+        Ok(Candidate {
+            alloc,
+            summary,
+            rooms,
+            kept: copies,
+            same,
+        })
+    }
+
+    /// Takes these items, the first of which stands in line 2, or tells why the batch is refused.
+    pub fn take_all(&mut self, items: &[Item]) -> Result<(), Refusal>
+        ensures takes { (p : Progress) → IsReplica p.replica → IsTrue (list_all is_item (map item_of items.now))
+            → length items.now + 2 < 2 ^ 64 → Shows self.old p.replica
+            → Takes (take_items (map item_of items.now) 2 (Ok p)) result self.new }
+        ensures front { OnOk result (KeepsFront self.old self.new) }
+    {
+        for (k, item) in items.iter().enumerate() {
+            self.take((k as u64).saturating_add(2), item)?;
+        }
+        Ok(())
+    }
+
+    /// Whether a write in this line is new, and not one that is known or dropped.
+    pub fn judge_write(&self, line: u64, write: &Write) -> Result<bool, Refusal>
+        ensures { result ≡ write_verdict line self.now.summary self.now.kept write.now }
+    {
+        let stamp = write.stamp;
+        let tally = self.summary.tally(stamp.server);
+        if stamp.n <= tally.count {
+            return judge_known(line, write, find_write(&self.kept, stamp.id()));
+        }
+        if stamp.server == self.summary.server {
+            return Err(Refusal::OwnWrite(line));
+        }
+        if stamp.n - 1 > tally.count {
+            return Err(Refusal::Gap(line));
+        }
+        if stamp.time <= tally.last_time {
+            return Err(Refusal::OutOfOrder(line));
+        }
+        Ok(true)
+    }
+
+    /// Whether a commit in this line is new, and not one that is known or dropped.
+    pub fn judge_commit(&self, line: u64, seq: CommitNumber, id: WriteId) -> Result<bool, Refusal>
+        ensures verdict { result ≡ commit_verdict line self.now.summary self.now.kept seq id }
+        ensures in_range { id.server < 100 }
+    {
+        let q = seq.number();
+        let summary = self.summary;
+        let tally = summary.tally(id.server);
+        if q <= summary.dropped {
+            return Ok(false);
+        }
+        if q <= summary.commits {
+            let place = (q - 1 - summary.dropped) as usize;
+            return judge_there(line, id, write_at(&self.kept, place));
+        }
+        if summary.server == summary.primary {
+            return Err(Refusal::PrimaryOnly(line));
+        }
+        if q - 1 > summary.commits {
+            return Err(Refusal::Gap(line));
+        }
+        if id.n > tally.count {
+            return Err(Refusal::Gap(line));
+        }
+        if id.n - 1 != tally.committed {
+            return Err(Refusal::OutOfOrder(line));
+        }
+        Ok(true)
+    }
+
+    /// Takes an item that stands in this line, or tells why the batch is refused.
+    pub fn take(&mut self, line: u64, item: &Item) -> Result<(), Refusal>
+        ensures takes { (p : Progress) → IsReplica p.replica → Shows self.old p.replica
+            → Takes (take_item line p (item_of item.now)) result self.new }
+        ensures front { OnOk result (KeepsFront self.old self.new) }
+    {
+        match item {
+            Item::W(write) => self.take_write(line, write),
+            Item::C { seq, id } => self.take_commit(line, *seq, *id),
+        }
+    }
+
+    fn take_write(&mut self, line: u64, write: &Write) -> Result<(), Refusal>
+        ensures takes { (p : Progress) → IsReplica p.replica → Shows self.old p.replica
+            → Takes (take_write line p write.now) result self.new }
+        ensures front { OnOk result (KeepsFront self.old self.new) }
+    {
+        write.is_within_limits();
+        if !self.judge_write(line, write)? {
+            return Ok(());
+        }
+        self.add_write(write)?;
+        Ok(())
+    }
+
+    fn take_commit(&mut self, line: u64, seq: CommitNumber, id: WriteId) -> Result<(), Refusal>
+        ensures takes { (p : Progress) → IsReplica p.replica → Shows self.old p.replica
+            → Takes (take_commit line p seq id) result self.new }
+        ensures front { OnOk result (KeepsFront self.old self.new) }
+    {
+        if !self.judge_commit(line, seq, id)? {
+            return Ok(());
+        }
+        if !self.add_commit(id)? {
+            return Err(Refusal::Gap(line));
+        }
+        Ok(())
+    }
+
+    /// Adds the write at its place among the tentative ones.
+    pub fn add_write(&mut self, write: &Write) -> Result<(), Refusal>
+        ensures ok { OnOk result (self.new ≡ with_learned self.old write.now) }
+        ensures front { OnOk result (KeepsFront self.old self.new) }
+        ensures only { IfErr result (λ e. e ≡ Refusal.OutOfMemory) }
+    {
+        let committed = self.summary.committed_len(&self.kept);
+        let place = committed + front_len(&self.kept[committed..], write);
+        learn_room(self.alloc, &mut self.rooms, &write.room)?;
+        let copy = write.copy(self.alloc)?;
+        self.kept.insert(place, copy)?;
+        self.summary.note_write(write.stamp);
+        self.same = self.same.min(place);
+        Ok(())
+    }
+
+    /// Moves the tentative write of this id behind the committed ones. It answers whether there is one.
+    pub fn add_commit(&mut self, id: WriteId) -> Result<bool, Refusal>
+        ensures found { IfOk result (λ found. found ≡ nat_lt (commit_place self.old id) (length self.old.kept)) }
+        ensures ok { IfOk result (λ found. found ≡ true → (w : WriteOfRoom) → w ≡ slice_index_or self.old.kept (commit_place self.old id) w
+            → self.new ≡ with_moved self.old id w (remove self.old.kept (commit_place self.old id))) }
+        ensures front { OnOk result (KeepsFront self.old self.new) }
+        ensures only { IfErr result (λ e. e ≡ Refusal.OutOfMemory) }
+    {
+        let committed = self.summary.committed_len(&self.kept);
+        let place = committed + id_place(&self.kept[committed..], id);
+        if place >= self.kept.len() {
+            return Ok(false);
+        }
+        let write = self.kept.remove(place);
+        self.kept.insert(committed, write)?;
+        self.summary.note_commit(id);
+        self.same = self.same.min(committed);
+        Ok(true)
+    }
+}
+
+/// The write of this id.
+fn find_write(writes: &[Write], id: WriteId) -> Option<&Write>
+    ensures { option_copied result ≡ write_in writes.now id }
+{
+    for write in writes {
+        if write.stamp.id() == id {
+            return Some(write);
+        }
+    }
+    None
+}
+
+/// The write at this place.
+fn write_at(writes: &[Write], place: usize) -> Option<&Write>
+    ensures { option_copied result ≡ slice_get writes.now place }
+{
+    if place < writes.len() {
+        Some(&writes[place])
+    } else {
+        None
+    }
+}
+
+/// How many of the writes stand before this one in the order of stamps.
+fn front_len(writes: &[Write], write: &Write) -> usize
+    ensures value { result ≡ front_len_of writes.now write.now }
+    ensures bound { result ≤ length writes.now }
+{
+    for (k, other) in writes.iter().enumerate() {
+        if stamp_before(write, other) {
+            return k;
+        }
+    }
+    writes.len()
+}
+
+/// How many of the writes stand before the one of this id.
+fn id_place(writes: &[Write], id: WriteId) -> usize
+    ensures value { result ≡ place_of_id writes.now id }
+    ensures bound { result ≤ length writes.now }
+{
+    for (k, write) in writes.iter().enumerate() {
+        if write.stamp.id() == id {
+            return k;
+        }
+    }
+    writes.len()
+}
+
+/// Whether a known write is to be skipped: it is where it is kept just so, or dropped.
+fn judge_known(line: u64, write: &Write, kept: Option<&Write>) -> Result<bool, Refusal>
+    ensures { result ≡ known_verdict line write.now (option_copied kept.entry) }
+{
+    match kept {
+        None => Ok(false),
+        Some(kept) => {
+            if kept.is_same(write) {
+                Ok(false)
+            } else {
+                Err(Refusal::Forged(line))
+            }
+        }
+    }
+}
+
+/// Whether a known commit is to be skipped: it is where it is of this id.
+fn judge_there(line: u64, id: WriteId, kept: Option<&Write>) -> Result<bool, Refusal>
+    ensures { result ≡ there_verdict line id (option_copied kept.entry) }
+{
+    match kept {
+        None => Err(Refusal::Forged(line)),
+        Some(kept) => {
+            if kept.stamp.id() == id {
+                Ok(false)
+            } else {
+                Err(Refusal::Forged(line))
+            }
+        }
+    }
+}

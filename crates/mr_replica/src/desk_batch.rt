@@ -1,0 +1,30 @@
+ghost use Rattle.mr_model.specs.Replies.{BatchIs};
+ghost use Rattle.mr_model.specs.Step.{leave, batch_reply};
+ghost use Rattle.mr_replica.specs.Desk.{TakesStep};
+
+use crate::Desk;
+use crate::outgoing::outgoing_for;
+use mr_base::{Batch, LineCount, Position, Refusal};
+
+impl Desk {
+    /// What a replica at this position lacks: the commits above its own, each behind its write where that is lacked, then
+    /// the tentative writes that it lacks, so many lines at most. It is refused where one of the commits is dropped.
+    pub fn batch(&self, position: &Position, max_lines: LineCount) -> Result<Batch, Refusal>
+        ensures { TakesStep (λ a. leave a (batch_reply a position.now max_lines)) (λ _ batch. BatchIs batch) self.now result self.now }
+    {
+        if position.primary != self.summary.primary {
+            return Err(Refusal::WrongPrimary);
+        }
+        if position.commits < self.summary.dropped {
+            return Err(Refusal::Truncated);
+        }
+        let outgoing = outgoing_for(
+            self.alloc,
+            &self.summary,
+            self.log.kept(),
+            position,
+            max_lines,
+        )?;
+        Ok(outgoing.into_batch(self.summary.server, self.summary.primary))
+    }
+}

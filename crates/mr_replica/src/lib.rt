@@ -1,0 +1,59 @@
+//! One replica's working value: the log of its kept writes with the board that they lead to, its version vector, its rooms
+//! and its commits.
+//!
+//! It stands on `mr_replay`, the board; keepers and services of tables stand above it. Contracts see a desk as a record
+//! (specs/Desk.antt); each call of it is one step of the definitions, for every replica that the desk stands for
+//! (`TakesStep`).
+#![tactic(auto)]
+
+mod boards;
+mod candidate;
+mod change;
+mod choices;
+mod desk;
+mod desk_batch;
+mod desk_commit;
+mod desk_position;
+mod desk_receive;
+mod desk_rooms;
+mod desk_submit;
+mod desk_truncate;
+mod log;
+mod old_errors;
+mod outgoing;
+mod reading;
+mod rooms;
+mod rows;
+mod summary;
+mod tables;
+#[cfg(test)]
+mod tests;
+mod vector;
+mod written;
+
+ghost use Rattle.mr_replica.specs.ChangeLaws.{DesksHaveTheTables, RoomsArePut, SubmissionsArePut, TailsArePut, CommitsArePut, TruncationsForget};
+ghost use Rattle.mr_replica.specs.Steps.{SubmissionsAreRequests};
+
+pub use change::Change;
+pub use desk::Desk;
+pub use log::Log;
+pub use old_errors::OldError;
+pub use rows::{BookingRow, ErrorRow, LogRow, MetaRow, VectorRow, WriteUndoRow};
+pub use summary::{Summary, Tally};
+pub use tables::Tables;
+
+/// A submission in words, where nothing is at fault with these, is the request that they make.
+pub fn submission_law()
+    ensures { SubmissionsAreRequests }
+{}
+
+/// The tables of a desk are those of each replica that it stands for, and what each call puts and takes away makes the tables
+/// of the desk before it those of the desk after it. It does nothing.
+pub fn change_law()
+    ensures tables { DesksHaveTheTables }
+    ensures rooms { RoomsArePut }
+    ensures submissions { SubmissionsArePut }
+    ensures tails { TailsArePut }
+    ensures commits { CommitsArePut }
+    ensures truncations { TruncationsForget }
+{}

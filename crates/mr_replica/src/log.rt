@@ -1,0 +1,173 @@
+ghost use Rattle.std.specs.Prelude.{◌≡◌, [], take, drop, length, ◌≤◌, ◌<◌, ◌+◌, ◌^◌, OnOk, OnErr, IfOk, IfErr};
+ghost use Rattle.mr_replay.specs.Rows.{undone_all};
+ghost use Rattle.mr_replica.specs.Log.{pushed, replaced, without_front, errors_in, is_logged as is_logged_at};
+
+use crate::OldError;
+use mr_base::{Refusal, Write};
+use mr_replay::{Board, Place, UndoRow};
+use std::alloc::Global;
+use std::marker::Model;
+
+/// The kept writes in the order of their execution, what undoes each, and the board that all executions led to.
+#[derive(Drop)]
+pub struct Log {
+    kept: Vec<Write>,
+    undo: Vec<UndoRow>,
+    board: Board,
+}
+
+impl Model for Log {
+    ghost use Rattle.std.specs.Prelude.{◌≡◌, length};
+    ghost use Rattle.mr_replica.specs.Log.{KeptLog};
+
+    ghost Value = { KeptLog };
+
+    ghost view = { λ l. record { kept = l.kept.items; undo = l.undo.items; board = l.board } };
+
+    ghost invariant = { λ l. length l.kept.items ≡ length l.undo.items };
+}
+
+impl Log {
+    /// The empty log.
+    pub fn new(alloc: Global) -> Log
+        ensures { result ≡ record { kept = []; undo = []; board = [] } }
+    {
+        Log {
+            kept: Vec::new(alloc),
+            undo: Vec::new(alloc),
+            board: Board::new(alloc),
+        }
+    }
+
+    /// The kept writes, the first executed first.
+    pub fn kept(&self) -> &[Write]
+        ensures { result.now ≡ self.now.kept }
+    {
+        self.kept.as_slice()
+    }
+
+    /// What undoes each of them.
+    pub fn undo(&self) -> &[UndoRow]
+        ensures { result.now ≡ self.now.undo }
+    {
+        self.undo.as_slice()
+    }
+
+    /// The board.
+    pub fn board(&self) -> &Board
+        ensures { result.now ≡ self.now.board }
+    {
+        &self.board
+    }
+
+    /// Executes one write more, behind all others.
+    pub fn push(&mut self, write: Write) -> Result<(), Refusal>
+        ensures ok { OnOk result (self.new ≡ pushed self.old write) }
+        ensures err { OnErr result (self.new ≡ self.old) }
+        ensures only { IfErr result (λ e. e ≡ Refusal.OutOfMemory) }
+    {
+        self.kept.reserve(1)?;
+        self.undo.reserve(1)?;
+        let row = self.board.execute(&write)?;
+        let _ = self.undo.push(row);
+        let _ = self.kept.push(write);
+        Ok(())
+    }
+
+    /// Undoes the writes from this place on, and executes those of another list from there on, which is kept in their stead.
+    /// In front of the place the two lists are to be the same.
+    pub fn replace_from(&mut self, place: usize, kept: Vec<Write>) -> Result<(), Refusal>
+        requires old { place ≤ length self.old.kept }
+        requires new { place ≤ length kept.items }
+        ensures ok { OnOk result (self.new ≡ replaced self.old place kept.items) }
+        ensures err { OnErr result (self.new ≡ self.old) }
+        ensures only { IfErr result (λ e. e ≡ Refusal.OutOfMemory) }
+    {
+        let mut board = self.board.copy()?;
+        undo_all(&mut board, &self.undo[place..]);
+        let rows = board.redo_from(&kept[place..])?;
+        self.undo.reserve(rows.len())?;
+        self.undo.truncate(place);
+        let _ = self.undo.extend_from_slice(&rows);
+        self.kept = kept;
+        self.board = board;
+        Ok(())
+    }
+
+    /// The dropped errors that dropping the first `count` writes makes, numbered from `first` on.
+    pub fn errors_in_front(
+        &self,
+        alloc: Global,
+        first: u64,
+        count: usize,
+    ) -> Result<Vec<OldError>, Refusal>
+        ensures errors { IfOk result (λ errors. first + count < 2 ^ 64
+            → errors.items ≡ errors_in first (take count self.now.kept) (take count self.now.undo)) }
+        ensures only { IfErr result (λ e. e ≡ Refusal.OutOfMemory) }
+    {
+        let count = count.min(self.kept.len());
+        errors_of(alloc, first, &self.kept[..count], &self.undo[..count])
+    }
+
+    /// Keeps the first writes no longer. What they did stays on the board.
+    pub fn drop_front(&mut self, count: usize)
+        ensures { self.new ≡ without_front self.old count }
+    {
+        drop_first(&mut self.kept, count);
+        drop_first(&mut self.undo, count);
+    }
+}
+
+/// Undoes these executions, the last of them first.
+fn undo_all(board: &mut Board, rows: &[UndoRow])
+    ensures { board.new ≡ undone_all board.old rows.now }
+{
+    let mut left = rows.len();
+    while left > 0 {
+        left -= 1;
+        board.undo(rows[left]);
+    }
+}
+
+/// What the error log keeps of those of these writes that were logged, the first of them having that commit number.
+fn errors_of(
+    alloc: Global,
+    first: u64,
+    writes: &[Write],
+    rows: &[UndoRow],
+) -> Result<Vec<OldError>, Refusal>
+    requires { length writes.now ≤ length rows.now }
+    ensures errors { IfOk result (λ errors. first + length writes.now < 2 ^ 64
+        → errors.items ≡ errors_in first writes.now rows.now) }
+    ensures only { IfErr result (λ e. e ≡ Refusal.OutOfMemory) }
+{
+    let mut errors = Vec::new(alloc);
+    for (k, write) in writes.iter().enumerate() {
+        if is_logged(rows[k]) {
+            errors.push(OldError::of_write(write, first.saturating_add(k as u64)))?;
+        }
+    }
+    Ok(errors)
+}
+
+fn is_logged(row: UndoRow) -> bool
+    ensures { result ≡ is_logged_at row.place }
+{
+    match row.place {
+        Place::Taken(_) => false,
+        Place::Logged => true,
+    }
+}
+
+/// Takes the first elements away, or all where there are fewer.
+fn drop_first<T: Drop>(items: &mut Vec<T>, count: usize)
+    ensures { items.new.items ≡ drop count items.old.items }
+{
+    let len = items.len();
+    if len <= count {
+        items.clear();
+        return;
+    }
+    items.as_mut_slice().rotate_left(count);
+    items.truncate(len - count);
+}

@@ -1,0 +1,246 @@
+ghost use Rattle.std.specs.Prelude.{◌≡◌, Ok};
+ghost use Rattle.mr_base.specs.Answers.{OrOutOfMemory};
+
+use mr_base::{Day, Refusal, RoomName, ServerId, Title};
+use mr_replay::Place;
+use std::alloc::Global;
+use std::marker::Model;
+
+/// The one row of `meta`: the replica's server and its primary, how many commits there are and how many of them are dropped,
+/// and the greatest time known.
+#[derive(Clone, Copy, Debug)]
+pub struct MetaRow {
+    pub server: ServerId,
+    pub primary: ServerId,
+    pub commits: u64,
+    pub dropped: u64,
+    pub clock: u64,
+}
+
+impl Model for MetaRow {
+    ghost use Rattle.mr_model.specs.Tables as tables;
+
+    ghost Value = { tables.MetaRow };
+
+    ghost view = { λ r. record {
+      server = r.server;
+      primary = r.primary;
+      commits = r.commits;
+      dropped = r.dropped;
+      clock = r.clock;
+    } };
+
+    ghost inverse = { λ v. record {
+      server = v.server;
+      primary = v.primary;
+      commits = v.commits;
+      dropped = v.dropped;
+      clock = v.clock;
+    } };
+}
+
+/// A row of `vector`: how many writes of a server are known, the time of the last, and how many are committed.
+#[derive(Clone, Copy, Debug)]
+pub struct VectorRow {
+    pub server: ServerId,
+    pub count: u32,
+    pub last_time: u64,
+    pub committed: u32,
+}
+
+impl Model for VectorRow {
+    ghost use Rattle.mr_model.specs.Tables as tables;
+
+    ghost Value = { tables.VectorRow };
+
+    ghost view = { λ r. record {
+      server = r.server;
+      count = r.count;
+      last_time = r.last_time;
+      committed = r.committed;
+    } };
+
+    ghost inverse = { λ v. record {
+      server = v.server;
+      count = v.count;
+      last_time = v.last_time;
+      committed = v.committed;
+    } };
+}
+
+/// A row of `write_log`: a kept write. `choices` is `<day> <HH:MM>` for the wish and each alternative, parted by one space;
+/// `seq` is its commit number, 0 where it is tentative.
+#[derive(Debug, Drop)]
+pub struct LogRow {
+    pub server: ServerId,
+    pub n: u32,
+    pub time: u64,
+    pub room: RoomName,
+    pub length: u32,
+    pub choices: String,
+    pub title: Title,
+    pub seq: u64,
+}
+
+impl Model for LogRow {
+    ghost use Rattle.std.specs.String.{string_bytes};
+    ghost use Rattle.mr_model.specs.Tables as tables;
+
+    ghost Value = { tables.LogRow };
+
+    ghost view = { λ r. record {
+      server = r.server;
+      n = r.n;
+      time = r.time;
+      room = r.room;
+      length = r.length;
+      choices = string_bytes r.choices;
+      title = r.title;
+      seq = r.seq;
+    } };
+}
+
+impl LogRow {
+    /// An equal row.
+    pub fn copy(&self, alloc: Global) -> Result<LogRow, Refusal>
+        ensures { OrOutOfMemory result (Ok self.now) }
+    {
+        let room = self.room.copy(alloc)?;
+        let choices = String::from_str(alloc, self.choices.as_str())?;
+        let title = self.title.copy(alloc)?;
+        Ok(LogRow {
+            server: self.server,
+            n: self.n,
+            time: self.time,
+            room,
+            length: self.length,
+            choices,
+            title,
+            seq: self.seq,
+        })
+    }
+}
+
+/// A row of `undo`: the place that a kept write has.
+#[derive(Clone, Copy, Debug)]
+pub struct WriteUndoRow {
+    pub server: ServerId,
+    pub n: u32,
+    pub place: Place,
+}
+
+impl Model for WriteUndoRow {
+    ghost use Rattle.mr_model.specs.Tables as tables;
+    ghost use Rattle.mr_replay.specs.Places.{place_of, place_from};
+
+    ghost Value = { tables.UndoRow };
+
+    ghost view = { λ r. record { server = r.server; n = r.n; place = place_of r.place } };
+
+    ghost inverse = { λ v. record { server = v.server; n = v.n; place = place_from v.place } };
+}
+
+/// A row of `booking`: a request that has its slot. `start` and `stop` are minutes of the day.
+#[derive(Debug, Drop)]
+pub struct BookingRow {
+    pub room: RoomName,
+    pub day: Day,
+    pub start: u32,
+    pub stop: u32,
+    pub server: ServerId,
+    pub n: u32,
+    pub title: Title,
+    pub committed: bool,
+}
+
+impl Model for BookingRow {
+    ghost use Rattle.mr_model.specs.Tables as tables;
+
+    ghost Value = { tables.BookingRow };
+
+    ghost view = { λ r. record {
+      room = r.room;
+      day = r.day;
+      start = r.start;
+      stop = r.stop;
+      server = r.server;
+      n = r.n;
+      title = r.title;
+      committed = r.committed;
+    } };
+}
+
+impl BookingRow {
+    /// An equal row.
+    pub fn copy(&self, alloc: Global) -> Result<BookingRow, Refusal>
+        ensures { OrOutOfMemory result (Ok self.now) }
+    {
+        let room = self.room.copy(alloc)?;
+        let title = self.title.copy(alloc)?;
+        Ok(BookingRow {
+            room,
+            day: self.day,
+            start: self.start,
+            stop: self.stop,
+            server: self.server,
+            n: self.n,
+            title,
+            committed: self.committed,
+        })
+    }
+}
+
+/// A row of `errorlog`: a request that found no free choice, with its wished slot. `start` and `stop` are minutes of the day,
+/// `seq` is the commit number, 0 where the request is tentative.
+#[derive(Debug, Drop)]
+pub struct ErrorRow {
+    pub room: RoomName,
+    pub day: Day,
+    pub start: u32,
+    pub stop: u32,
+    pub server: ServerId,
+    pub n: u32,
+    pub title: Title,
+    pub time: u64,
+    pub seq: u64,
+}
+
+impl Model for ErrorRow {
+    ghost use Rattle.mr_model.specs.Tables as tables;
+
+    ghost Value = { tables.ErrorRow };
+
+    ghost view = { λ r. record {
+      room = r.room;
+      day = r.day;
+      start = r.start;
+      stop = r.stop;
+      server = r.server;
+      n = r.n;
+      title = r.title;
+      time = r.time;
+      seq = r.seq;
+    } };
+}
+
+impl ErrorRow {
+    /// An equal row.
+    pub fn copy(&self, alloc: Global) -> Result<ErrorRow, Refusal>
+        ensures { OrOutOfMemory result (Ok self.now) }
+    {
+        let room = self.room.copy(alloc)?;
+        let title = self.title.copy(alloc)?;
+        let (time, seq) = (self.time, self.seq);
+        Ok(ErrorRow {
+            room,
+            day: self.day,
+            start: self.start,
+            stop: self.stop,
+            server: self.server,
+            n: self.n,
+            title,
+            time,
+            seq,
+        })
+    }
+}
