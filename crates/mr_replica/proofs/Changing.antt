@@ -80,7 +80,7 @@ tail_moves a b shared x y ha hb ea eb d l inside seqs =
       seqs w h,
     )
 
-has_slice : {A : Type 0} (x : A) (xs : List A) → Has x xs → (i : ℕ) × (slice_get xs i ≡ Some x)
+pub has_slice : {A : Type 0} (x : A) (xs : List A) → Has x xs → (i : ℕ) × (slice_get xs i ≡ Some x)
 has_slice x [] h = absurd h
 has_slice x (y ∷ ys) (inl e) = (zero, ap Some (sym e))
 has_slice x (y ∷ ys) (inr h) = let (i, e) = has_slice x ys h in (suc i, e)
@@ -135,7 +135,7 @@ with_room_has t u (x ∷ xs) h = go (text_before t x) (bytes_eq t x) h (with_roo
         over (inl e) = inl e
         over (inr k) = inr (inr k)
 
-has_with_room : (t u : Text) (ts : List Text) → (u ≡ t) ⊎ Has u ts → Has u (with_room t ts)
+pub has_with_room : (t u : Text) (ts : List Text) → (u ≡ t) ⊎ Has u ts → Has u (with_room t ts)
 has_with_room t u [] (inl e) = inl e
 has_with_room t u [] (inr h) = absurd h
 has_with_room t u (x ∷ xs) h = go (text_before t x) (bytes_eq t x) refl h (has_with_room t u xs)
@@ -173,7 +173,7 @@ room_changes a room ha hb =
 -- ---- a submission
 
 -- orders that begin alike drop the same writes, where they drop as many
-same_dropped : (a b : Replica) (x : List Write) → IsReplica a → IsReplica b → a.dropped ≡ b.dropped → order_of b ≡ order_of a ++ x → (dropped_in_order a ≡ dropped_in_order b) × (kept_in_order b ≡ kept_in_order a ++ x)
+pub same_dropped : (a b : Replica) (x : List Write) → IsReplica a → IsReplica b → a.dropped ≡ b.dropped → order_of b ≡ order_of a ++ x → (dropped_in_order a ≡ dropped_in_order b) × (kept_in_order b ≡ kept_in_order a ++ x)
 same_dropped a b x ha hb d e =
     let p = append_split (dropped_in_order b) (dropped_in_order a) (kept_in_order b) (kept_in_order a ++ x) (dropped_long b hb ∙ sym d ∙ sym (dropped_long a ha))
     (sym (order-parts b) ∙ e ∙ ap (λ ws. ws ++ x) (order-parts a) ∙ append_assoc (dropped_in_order a) (kept_in_order a) x) in
@@ -203,7 +203,7 @@ submit_changes a w ha hb e known =
 
 -- ---- a commit
 
-kept_committed_long : (r : Replica) → IsReplica r → r.dropped + length (kept_committed r) ≡ length r.commits
+pub kept_committed_long : (r : Replica) → IsReplica r → r.dropped + length (kept_committed r) ≡ length r.commits
 kept_committed_long r h =
     let all : length (committed r) ≡ length (dropped_in_order r) + length (kept_committed r) = ap length (committed-parts r) ∙ length-append (dropped_in_order r) (kept_committed r) in
     let ids : length (committed r) ≡ length r.commits = sym (length-map (committed r) id_of) ∙ ap length (committed_ids r h) in
@@ -263,7 +263,7 @@ commit_changes a k ha hb =
 
 -- ---- a truncation
 
-without_none : {R : Type 0} (key : R → Id) (rows : List R) → without key [] rows ≡ rows
+pub without_none : {R : Type 0} (key : R → Id) (rows : List R) → without key [] rows ≡ rows
 without_none key [] = refl
 without_none key (x ∷ xs) = ap (λ ys. x ∷ ys) (without_none key xs)
 

@@ -312,11 +312,11 @@ booking_table r h =
 -- ---- errorlog
 
 -- what the error log notes of a write
-abbrev note : Replica → Write → OldError
+abbrev pub note : Replica → Write → OldError
 note r w = record { id = id_of w; time = w.stamp.time; seq = seq_of r w }
 
 -- of dropped writes those that were logged are noted
-old_noted : (r : Replica) (k : ℕ) (ws : List Write) (us : List UndoRow) → map (λ u. u.place) us ≡ map (place_of r) ws → ((i : ℕ) (w : Write) → slice_get ws i ≡ Some w → seq_of r w ≡ k + i) → (w : Write) → Has w ws → place_of r w ≡ Logged → Has (note r w) (errors_in k ws us)
+pub old_noted : (r : Replica) (k : ℕ) (ws : List Write) (us : List UndoRow) → map (λ u. u.place) us ≡ map (place_of r) ws → ((i : ℕ) (w : Write) → slice_get ws i ≡ Some w → seq_of r w ≡ k + i) → (w : Write) → Has w ws → place_of r w ≡ Logged → Has (note r w) (errors_in k ws us)
 old_noted r k [] us p f w h l = absurd h
 old_noted r k (v ∷ vs) [] p f w h l = absurd (let t : ◌≡◌ {A = List Place} [] (place_of r v ∷ map (place_of r) vs) = p in cc)
 old_noted r k (v ∷ vs) (u ∷ us) p f w (inl s) l =

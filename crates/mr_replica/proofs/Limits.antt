@@ -1,14 +1,18 @@
 -- Limits of positions, of commits and of lists.
-use Rattle.std.proofs.Common.{◌≡◌, ℕ, zero, suc, ◌+◌, ◌<◌, ◌≤◌, ◌&&◌, nat_le, Bool, true, false, List, [], ◌∷◌, ◌++◌, length, ap, refl, sym, ◌∙◌, arith}
+use Rattle.std.proofs.Common.{◌≡◌, ℕ, zero, suc, ◌+◌, ◌≤◌, ◌&&◌, nat_le, true, false, [], ◌∷◌, ◌++◌, length, map, ap, sym, subst, ◌∙◌, arith}
 use Rattle.std.specs.List.{list_all}
 use Rattle.std.proofs.lemmas.Bool.{and_parts, false_from_ne_true}
 use Rattle.std.proofs.lemmas.Bool.Decides.{nat_tests}
+use Rattle.std.proofs.lemmas.List.Elements.{All-from_recursion}
 use Rattle.mr_model.specs.Texts.{numbers_on}
 use Rattle.mr_model.specs.Writes.{Id, same_id, is_server, is_count}
 use Rattle.mr_model.specs.Positions.{Position, Count, position_of, is_position, are_rising}
 use Rattle.mr_model.specs.Replica.{Replica, IsReplica}
-use Rattle.mr_model.proofs.Members.{same_id-true}
+use Rattle.mr_model.proofs.Members.{has_all, map_has, same_id-true}
+use Rattle.mr_model.proofs.StepsKeep.{count_within}
 use Rattle.mr_model.proofs.PositionsReadBack.{position_within}
+use Rattle.mr_replica.specs.declared.summary.Tally.{Tally}
+use Rattle.mr_replica.specs.Summary.{IsWithin, tally_of, summary_of}
 
 -- a position has no more commits than there can be
 pub few_asked : (p : Position) → is_position p ≡ true → p.commits ≤ 999_999_999_999
@@ -23,6 +27,16 @@ few_asked p h =
 
 pub few_commits : (a : Replica) → IsReplica a → length a.commits ≤ 999_999_999_999
 few_commits a sound = few_asked (position_of a) (position_within a sound)
+
+-- the numbers of a replica are within the limits
+pub numbers_within : (a : Replica) → IsReplica a → IsWithin (summary_of a)
+numbers_within a sound = record {
+  commits = few_commits a sound;
+  counts =
+      All-from_recursion (λ (t : Tally). t.count ≤ 999_999_999) (map (tally_of a) (numbers_on 0 100))
+      (has_all (λ (t : Tally). t.count ≤ 999_999_999) (map (tally_of a) (numbers_on 0 100))
+      (λ t h. let (s, g, e) = map_has (tally_of a) t (numbers_on 0 100) h in subst (λ (x : Tally). x.count ≤ 999_999_999) (sym e) (count_within a s sound)));
+}
 
 -- other ids are told apart
 pub other_id : (a b : Id) → (a ≡ b → ⊥) → same_id a b ≡ false

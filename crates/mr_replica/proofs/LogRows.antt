@@ -35,3 +35,8 @@ refused x u e (inr p) = inr p
 
 pub answered : {T : Type 0} (x y : T) → OrOutOfMemory {T = T} (Ok x) (Ok y) → x ≡ y
 answered {T} x y p = let q : ◌≡◌ {A = Result T Refusal} (Ok y) (Ok x) = p in cc
+
+-- where a value is the answer, a refusal is want of memory
+pub never_refused : {T : Type 0} (x : T) (e : Refusal) → OrOutOfMemory (Err e) (Ok x) → e ≡ Refusal.OutOfMemory
+never_refused {T} x e (inl p) = absurd (let q : ◌≡◌ {A = Result T Refusal} (Ok x) (Err e) = p in let never : ⊥ = cc in never)
+never_refused x e (inr p) = p

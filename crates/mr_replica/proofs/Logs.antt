@@ -1,6 +1,7 @@
 -- Laws of the kept log.
 use Rattle.std.proofs.Common.{◌≡◌, ℕ, zero, suc, ◌+◌, ◌<◌, ◌≤◌, List, [], ◌∷◌, ◌++◌, length, get_or, take, drop, map, ap, refl, sym, ◌∙◌, subst, append_assoc, append-nil, arith}
-use Rattle.std.proofs.lemmas.List.{take_more, take-append-drop}
+use Rattle.std.proofs.Math.Seq.{drop-append_seam}
+use Rattle.std.proofs.lemmas.List.{take_more, length-append, length-drop, take-append-drop}
 use Rattle.mr_model.specs.Writes.{Write}
 use Rattle.mr_replay.specs.Places.{UndoRow}
 use Rattle.mr_replay.specs.Rows.{Rows, executed, undo_row_of, undone, executed_all, undo_rows_of, undone_all}
@@ -30,13 +31,15 @@ undone_all-executed_all : (b : Rows) (ws : List Write) → AreNew b ws → undon
 undone_all-executed_all b [] new = refl
 undone_all-executed_all b (w ∷ ws) new = ap (λ r. undone r (undo_row_of b w)) (undone_all-executed_all (executed b w) ws (AreNew-rest b w ws new)) ∙ undone-executed b w new.1.0
 
-drop-undo_rows_of : (b : Rows) (ws : List Write) (k : ℕ) → drop k (undo_rows_of b ws) ≡ undo_rows_of (executed_all b (take k ws)) (drop k ws)
+-- what undoes the last writes
+pub drop-undo_rows_of : (b : Rows) (ws : List Write) (k : ℕ) → drop k (undo_rows_of b ws) ≡ undo_rows_of (executed_all b (take k ws)) (drop k ws)
 drop-undo_rows_of b [] zero = refl
 drop-undo_rows_of b [] (suc k) = refl
 drop-undo_rows_of b (w ∷ ws) zero = refl
 drop-undo_rows_of b (w ∷ ws) (suc k) = drop-undo_rows_of (executed b w) ws k
 
-take-undo_rows_of : (b : Rows) (ws : List Write) (k : ℕ) → take k (undo_rows_of b ws) ≡ undo_rows_of b (take k ws)
+-- what undoes the first writes
+pub take-undo_rows_of : (b : Rows) (ws : List Write) (k : ℕ) → take k (undo_rows_of b ws) ≡ undo_rows_of b (take k ws)
 take-undo_rows_of b [] zero = refl
 take-undo_rows_of b [] (suc k) = refl
 take-undo_rows_of b (w ∷ ws) zero = refl
@@ -54,7 +57,7 @@ log-pushed dropped kept w =
     }
 
 -- undoing from a place on leads to the board before it
-board-at : (dropped kept : List Write) (place : ℕ) → HaveDistinctIds (dropped ++ kept) → board_at (log_of dropped kept) place ≡ executed_all (executed_all [] dropped) (take place kept)
+pub board-at : (dropped kept : List Write) (place : ℕ) → HaveDistinctIds (dropped ++ kept) → board_at (log_of dropped kept) place ≡ executed_all (executed_all [] dropped) (take place kept)
 board-at dropped kept place distinct =
     let b = executed_all [] dropped in
     let front = take place kept in
@@ -79,6 +82,16 @@ log-replaced dropped kept other place distinct same =
       undo = ((λ i. take-undo_rows_of b kept place i ++ undo_rows_of (at i) tail) ∙ sym (undo_rows_of-append b (take place kept) tail) ∙ ap (undo_rows_of b) whole) t;
       board = (ap (λ c. executed_all c tail) at ∙ sym (executed_all-append b (take place kept) tail) ∙ ap (executed_all b) whole) t;
     }
+
+-- its undo rows from that place on are those of the writes that are executed there
+pub replaced-rows : (l : KeptLog) (place : ℕ) (kept : List Write) → place ≤ length kept → length (replaced l place kept).undo ≡ length kept → drop place (replaced l place kept).undo ≡ undo_rows_of (board_at l place) (drop place kept)
+replaced-rows l place kept inside all =
+    let front = take place l.undo in
+    let rows = undo_rows_of (board_at l place) (drop place kept) in
+    let parts = length-append front rows in
+    let behind = length-undo_rows_of (board_at l place) (drop place kept) ∙ length-drop place kept in
+    let size : length front ≡ place = omega arith in
+    ap (λ n. drop n (front ++ rows)) (sym size) ∙ drop-append_seam front rows
 
 -- what is dropped of the kept writes comes behind those that were dropped before
 pub log-without_front : (dropped kept : List Write) (n : ℕ) → without_front (log_of dropped kept) n ≡ log_of (dropped ++ take n kept) (drop n kept)

@@ -138,7 +138,7 @@ row_alone r s = go (eqb (count_of r s) 0)
     go true = tt
     go false = (tt, tt)
 
-vector_in_order : (r : Replica) (k n : ℕ) → InOrder ltb (λ (row : VectorRow). row.server) (flat_map (vector_row r) (numbers_on k n))
+pub vector_in_order : (r : Replica) (k n : ℕ) → InOrder ltb (λ (row : VectorRow). row.server) (flat_map (vector_row r) (numbers_on k n))
 vector_in_order r k zero = tt
 vector_in_order r k (suc n) =
     sorted_append (λ (x y : VectorRow). ltb x.server y.server ≡ true) (vector_row r k) (flat_map (vector_row r) (numbers_on (k + 1) n)) (row_alone r k) (vector_in_order r (k + 1) n)

@@ -8,7 +8,7 @@ use Rattle.std.proofs.lemmas.List.{length-append, map-append}
 use Rattle.mr_model.specs.Texts.{only_if}
 use Rattle.mr_model.specs.Writes.{Id, Write, id_of, is_write, is_id, stamp_before}
 use Rattle.mr_model.specs.Refusals as model
-use Rattle.mr_model.specs.Exchange.{Item, W, C, Header, Batch, is_item}
+use Rattle.mr_model.specs.Exchange.{Item, W, C, Header, Batch, is_header, is_item, is_batch, is_batch_of}
 use Rattle.mr_model.specs.Replica.{Replica, IsReplica, write_with, with_write, tentative, committed, order_of, add_write, add_commit}
 use Rattle.mr_model.specs.Kept.{dropped_in_order, kept_in_order}
 use Rattle.mr_model.specs.Taking.{Progress, take_item, take_items, take_write, take_commit, with_new_write, with_new_commit}
@@ -29,8 +29,9 @@ use Rattle.mr_base.specs.Refusals.{refusal_of}
 use Rattle.mr_replay.specs.Holds.{AreDistinct, HaveDistinctIds}
 use Rattle.mr_replica.specs.Log.{replaced, log_of}
 use Rattle.mr_replica.specs.Summary.{summary_of}
-use Rattle.mr_replica.specs.Candidate.{CandidateView, Shows, Takes, KeepsFront, write_verdict, commit_verdict}
+use Rattle.mr_replica.specs.Candidate.{CandidateView, Shows, Takes, KeepsFront, KeepsMarks, write_verdict, commit_verdict}
 use Rattle.mr_replica.specs.declared.summary.Summary.{Summary}
+use Rattle.mr_replica.specs.Change.{ChangeView}
 use Rattle.mr_replica.specs.Desk.{DeskView, desk_of, old_errors_of, nothing_taken, adopted, reply_with}
 use Rattle.mr_replica.proofs.Logs.{log-replaced}
 use Rattle.mr_replica.proofs.Desks.{summary_in, desk_with}
@@ -56,6 +57,19 @@ front-trans a b c f g =
 
 pub front-same : (a : CandidateView) → KeepsFront a a
 front-same a = record { fewer = (let s : a.same ≤ a.same = omega arith in s); front = refl }
+
+pub marks-trans : (a b c : CandidateView) → KeepsFront b c → KeepsMarks a b → KeepsMarks b c → KeepsMarks a c
+marks-trans a b c front f g = record { dropped = g.dropped ∙ f.dropped; marks = go f.marks g.marks }
+  where
+    go : (b.summary.commits ≡ a.summary.commits) ⊎ (b.same ≤ a.summary.commits - a.summary.dropped)
+        → (c.summary.commits ≡ b.summary.commits) ⊎ (c.same ≤ b.summary.commits - b.summary.dropped)
+        → (c.summary.commits ≡ a.summary.commits) ⊎ (c.same ≤ a.summary.commits - a.summary.dropped)
+    go (inl e) (inl h) = inl (h ∙ e)
+    go (inl e) (inr h) = inr (subst (λ n. c.same ≤ n) (λ t. e t - f.dropped t) h)
+    go (inr l) h = inr (let m = front.fewer in omega (arith, l, m))
+
+pub marks-same : (a : CandidateView) → KeepsMarks a a
+marks-same a = record { dropped = refl; marks = inl refl }
 
 -- ---- what items bring
 
@@ -85,7 +99,7 @@ length-with_write w (v ∷ vs) = go (stamp_before w v) (length-with_write w vs)
     go true e = refl
     go false e = ap (λ n. suc n) e
 
-err≢ok : (x : model.Refusal) (q : Progress) → ◌≡◌ {A = Result Progress model.Refusal} (Err x) (Ok q) → ⊥
+pub err≢ok : (x : model.Refusal) (q : Progress) → ◌≡◌ {A = Result Progress model.Refusal} (Err x) (Ok q) → ⊥
 err≢ok x q e = true≢false (ap is_ok (sym e))
 
 -- what a write brings
@@ -130,7 +144,7 @@ item-brings : (line : ℕ) (p q : Progress) (x : Item) → IsReplica p.replica �
 item-brings line p q (W w) sound good e = write-brings line p q w sound good e
 item-brings line p q (C n id) sound good e = commit-brings line p q n id sound (let g = good in grind (arith, nat_tests)) e
 
-item-within : (x : Item) → IsTrue (is_item x) → IsItem x
+pub item-within : (x : Item) → IsTrue (is_item x) → IsItem x
 item-within (W w) h = h
 item-within (C n id) h = h
 
@@ -237,13 +251,21 @@ all_taken a d start c new items sound e s good f t n =
     ((λ i. Took (w i) (m i)) ∙ ap (λ (x : After). x.reply) (sym step), n ∙ ap (λ v. adopted v c) e ∙ desk-received a q.replica c sound brings.dropped shows front ∙ ap (λ (x : After). desk_of x.replica) (sym step))
 
 -- a batch that is refused changes nothing
-pub none_taken : (a : Replica) (d : DeskView) (c : CandidateView) (items : List Item) (r : Result (ℕ × ℕ) Refusal) (e : Refusal) → r ≡ Err e → d ≡ desk_of a → Takes (take_items items 2 (Ok (nothing_taken a))) (Err e) c
-    → ((reply_with (λ (counts : ℕ × ℕ). Took counts.0 counts.1) r ≡ (after_items a (take_items items 2 (Ok (nothing_taken a)))).reply) × (d ≡ desk_of (after_items a (take_items items 2 (Ok (nothing_taken a)))).replica))
+pub none_taken : (a : Replica) (d : DeskView) (c : CandidateView) (items : List Item) (r : Result (ℕ × ℕ × ChangeView) Refusal) (e : Refusal) → r ≡ Err e → d ≡ desk_of a → Takes (take_items items 2 (Ok (nothing_taken a))) (Err e) c
+    → ((reply_with (λ (taken : ℕ × ℕ × ChangeView). Took taken.0 taken.1) r ≡ (after_items a (take_items items 2 (Ok (nothing_taken a)))).reply) × (d ≡ desk_of (after_items a (take_items items 2 (Ok (nothing_taken a)))).replica))
     ⊎ ((r ≡ Err OutOfMemory) × (d ≡ d))
 none_taken a d c items r e p stands (inl t) =
     let step = ap (after_items a) t in
-    inl (ap (reply_with (λ (counts : ℕ × ℕ). Took counts.0 counts.1)) p ∙ ap (λ (x : After). x.reply) (sym step), stands ∙ ap (λ (x : After). desk_of x.replica) (sym step))
+    inl (ap (reply_with (λ (taken : ℕ × ℕ × ChangeView). Took taken.0 taken.1)) p ∙ ap (λ (x : After). x.reply) (sym step), stands ∙ ap (λ (x : After). desk_of x.replica) (sym step))
 none_taken a d c items r e p stands (inr t) = inr (p ∙ ap Err t, refl)
+
+-- the items of a batch that has a header are within the limits
+pub items_good : (b : Batch) (h : Header) (items : List Item) → b.header ≡ Some h → items ≡ b.items → IsTrue (is_batch b) → list_all is_item items ≡ true
+items_good b h items header same within = ap (list_all is_item) same ∙ (and_parts (is_header h) (list_all is_item b.items) (subst (λ o. IsTrue (is_batch_of o b.items b.ending)) header within)).1
+
+-- a primary that is found to be no other
+pub own_primary : (x p q : ℕ) (other : Bool) → other ≡ not (x == p) → other ≡ false → p ≡ q → (x == q) ≡ true
+own_primary x p q other e f g = grind (arith, nat_tests)
 
 -- the step, where nothing refuses the batch as a whole
 pub receive_done : (a : Replica) (b : Batch) (h : Header) → b.header ≡ Some h → (h.primary == a.primary) ≡ true → receive_batch a b ≡ after_items a (take_items b.items 2 (Ok (nothing_taken a)))

@@ -32,6 +32,12 @@ pub record KeepsFront (old new : CandidateView) : Type 0 where
   pub fewer : new.same ≤ old.same
   pub front : take new.same new.kept ≡ take new.same old.kept
 
+-- the writes in front bear the commit numbers that they had: there are no more commits than before, or these writes are
+-- committed ones
+pub record KeepsMarks (old new : CandidateView) : Type 0 where
+  pub dropped : new.summary.dropped ≡ old.summary.dropped
+  pub marks : (new.summary.commits ≡ old.summary.commits) ⊎ (new.same ≤ old.summary.commits - old.summary.dropped)
+
 -- the answer to an item, or to all: taken, with what the definitions then have; their refusal; or want of memory
 abbrev pub Takes : Result Progress model.Refusal → Result (Unit {0}) Refusal → CandidateView → Type 0
 Takes exact (Ok x) new = (p : Progress) × (exact ≡ Ok p) × Shows new p.replica

@@ -1,5 +1,6 @@
 -- What a desk is seen as, for which replicas it stands, and what it means that a call is a step of them.
-use Rattle.std.specs.Prelude.{◌≡◌, ℕ, ◌+◌, List, [], ◌∷◌, ◌++◌, length, map, Result, Ok, Err, ◌⊎◌}
+use Rattle.std.specs.Prelude.{◌≡◌, ℕ, ◌+◌, ◌≤◌, List, [], ◌∷◌, ◌++◌, length, map, Result, Ok, Err, IfOk, IfErr, ◌⊎◌}
+use Rattle.std.specs.List.{AllByRecursion}
 use Rattle.mr_model.specs.Texts.{Text, numbers_on}
 use Rattle.mr_model.specs.Writes.{Write}
 use Rattle.mr_model.specs.Replica.{Replica, IsReplica, clock_of}
@@ -9,7 +10,7 @@ use Rattle.mr_model.specs.Step.{After}
 use Rattle.mr_model.specs.Taking.{Progress}
 use Rattle.mr_base.specs.Refusals.{refusal_of}
 use Rattle.mr_base.specs.declared.refusals.Refusal.{Refusal}
-use Rattle.mr_base.specs.declared.refusals.Refusal.TheVariants.{OutOfMemory}
+use Rattle.mr_base.specs.declared.refusals.Refusal.TheVariants.{OutOfMemory, Store}
 use Rattle.mr_replay.specs.Rows.{undo_rows_of}
 use Rattle.mr_replica.specs.declared.summary.Tally.{Tally}
 use Rattle.mr_replica.specs.declared.old_errors.OldError.{OldError}
@@ -65,6 +66,15 @@ TakesStep step reply before result after =
     (a : Replica) → IsReplica a → StandsFor before a
     → ((reply_with (reply (step a).replica) result ≡ (step a).reply) × StandsFor after (step a).replica)
     ⊎ ((result ≡ Err OutOfMemory) × (after ≡ before))
+
+-- it is never told that a store failed
+abbrev pub NeverStore : {T : Type 0} → Result T Refusal → Type 0
+NeverStore result = IfErr result (λ e. ¬ (e ≡ Store))
+
+-- the numbers of a desk are within the limits of positions
+pub record IsWithinLimits (d : DeskView) : Type 0 where
+  pub commits : d.commits ≤ 999_999_999_999
+  pub counts : AllByRecursion (λ t. t.count ≤ 999_999_999) d.tallies
 
 -- ---- a batch
 

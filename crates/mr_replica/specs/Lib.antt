@@ -8,8 +8,13 @@ pub mod Candidate
 pub mod Change
 pub mod Rows
 pub mod DeskTables
+pub mod Turning
 pub mod Written
 pub mod Choices
 pub mod Tallied
 pub mod ChangeLaws
 pub mod Boards
+pub mod KeptRows
+pub mod OldErrors
+pub mod SoundRows
+pub mod SoundLog

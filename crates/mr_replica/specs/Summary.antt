@@ -1,6 +1,6 @@
 -- The numbers of a replica, and what one write more and one commit more make of them.
-use Rattle.std.specs.Prelude.{ℕ, ◌+◌, ◌-◌, min, max, nat_le, ◌==◌, if◌then◌else◌, List, [], ◌∷◌, map, length, slice_set, Result, Ok, Err}
-use Rattle.std.specs.List.{slice_index_or}
+use Rattle.std.specs.Prelude.{ℕ, ◌+◌, ◌-◌, ◌≤◌, min, max, nat_le, ◌==◌, if◌then◌else◌, List, [], ◌∷◌, map, length, slice_set, Result, Ok, Err}
+use Rattle.std.specs.List.{All, slice_index_or}
 use Rattle.mr_model.specs.Texts.{numbers_on}
 use Rattle.mr_model.specs.Writes.{Id, Stamp, Write, greatest_count, greatest_time}
 use Rattle.mr_model.specs.Positions.{Count}
@@ -16,6 +16,11 @@ no_tally = record { count = 0; last_time = 0; committed = 0 }
 -- the tally of a server
 abbrev pub tally_at : List Tally → ℕ → Tally
 tally_at ts s = slice_index_or ts s no_tally
+
+-- the numbers are within the limits of positions
+pub record IsWithin (s : Summary) : Type 0 where
+  pub commits : s.commits ≤ 999_999_999_999
+  pub counts : All (λ t. t.count ≤ 999_999_999) s.tallies
 
 -- with a write as the last of its server
 abbrev pub noted_write : Summary → Stamp → Summary

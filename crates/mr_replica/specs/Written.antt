@@ -1,5 +1,5 @@
 -- What the calls of a desk put and take away.
-use Rattle.std.specs.Prelude.{ℕ, Bool, ◌&&◌, if◌then◌else◌, ◌==◌, nat_le, List, [], ◌∷◌, ◌++◌, map, flat_map, Option, Some, None, slice_get}
+use Rattle.std.specs.Prelude.{ℕ, ◌+◌, Bool, ◌&&◌, if◌then◌else◌, ◌==◌, nat_le, List, [], ◌∷◌, ◌++◌, map, drop, flat_map, Option, Some, None, slice_get}
 use Rattle.mr_model.specs.Texts.{Text, numbers_on}
 use Rattle.mr_model.specs.Slots.{Slot}
 use Rattle.mr_model.specs.Writes.{Id, Write, id_of, choices}
@@ -7,9 +7,14 @@ use Rattle.mr_model.specs.Replay.{Place, Taken, Logged}
 use Rattle.mr_model.specs.Tables.{MetaRow, VectorRow}
 use Rattle.mr_model.specs.Queries.{booking_id, error_id}
 use Rattle.mr_replay.specs.Places.{UndoRow}
+use Rattle.mr_replay.specs.Rows.{undo_rows_of}
 use Rattle.mr_replica.specs.declared.summary.Tally.{Tally}
 use Rattle.mr_replica.specs.declared.summary.Summary.{Summary}
 use Rattle.mr_replica.specs.Summary.{tally_at}
+use Rattle.mr_replica.specs.Log.{board_at}
+use Rattle.mr_replica.specs.Candidate.{CandidateView}
+use Rattle.mr_replica.specs.Desk.{DeskView}
+use Rattle.mr_replica.specs.Rooms.{rooms_beside}
 use Rattle.mr_replica.specs.Change.{ChangeView}
 use Rattle.mr_replica.specs.Rows.{seq_on, log_row_with, undo_row_with, booking_at, error_at, log_rows, booking_rows, error_rows}
 use Rattle.mr_replica.specs.DeskTables.{tally_rows}
@@ -59,6 +64,13 @@ forgotten meta ids =
       unlogged = [];
       errorlog = [];
     }
+
+-- A desk that becomes what a candidate is puts the rooms that it didn't know, and the rows of the kept writes that may be
+-- other ones than they were.
+abbrev pub adoption : DeskView → CandidateView → ChangeView
+adoption d c =
+    written (meta_of c.summary) (rooms_beside d.rooms c.rooms) (changed_tallies d.tallies c.summary.tallies) c.summary.commits (d.dropped + 1 + c.same)
+    (drop c.same c.kept) (undo_rows_of (board_at d.log c.same) (drop c.same c.kept))
 
 -- ---- write by write
 

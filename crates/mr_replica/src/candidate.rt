@@ -7,7 +7,8 @@ ghost use Rattle.mr_model.specs.Writes.{Write as WriteOfRoom, id_of};
 ghost use Rattle.mr_model.specs.Replica.{IsReplica};
 ghost use Rattle.mr_model.specs.Taking.{Progress, take_item, take_items, take_write, take_commit};
 ghost use Rattle.mr_base.specs.Batches.{item_of};
-ghost use Rattle.mr_replica.specs.Candidate.{Shows, Takes, KeepsFront, write_in, known_verdict, there_verdict, write_verdict, commit_verdict, front_len as front_len_of, write_place, with_learned, id_place as place_of_id, commit_place, with_moved};
+ghost use Rattle.mr_replica.specs.Desk.{NeverStore};
+ghost use Rattle.mr_replica.specs.Candidate.{Shows, Takes, KeepsFront, KeepsMarks, write_in, known_verdict, there_verdict, write_verdict, commit_verdict, front_len as front_len_of, write_place, with_learned, id_place as place_of_id, commit_place, with_moved};
 
 use crate::Summary;
 use crate::rooms::{copies_of, learn_room};
@@ -29,6 +30,7 @@ pub struct Candidate {
 
 impl Model for Candidate {
     ghost use Rattle.std.specs.Prelude.{◌≤◌, length};
+    ghost use Rattle.mr_replica.specs.Desk.{NeverStore};
     ghost use Rattle.mr_replica.specs.Candidate.{CandidateView};
 
     ghost Value = { CandidateView };
@@ -70,6 +72,8 @@ impl Candidate {
             → length items.now + 2 < 2 ^ 64 → Shows self.old p.replica
             → Takes (take_items (map item_of items.now) 2 (Ok p)) result self.new }
         ensures front { OnOk result (KeepsFront self.old self.new) }
+        ensures marks { OnOk result (KeepsMarks self.old self.new) }
+        ensures own { NeverStore result }
     {
         for (k, item) in items.iter().enumerate() {
             self.take((k as u64).saturating_add(2), item)?;
@@ -79,7 +83,8 @@ impl Candidate {
 
     /// Whether a write in this line is new, and not one that is known or dropped.
     pub fn judge_write(&self, line: u64, write: &Write) -> Result<bool, Refusal>
-        ensures { result ≡ write_verdict line self.now.summary self.now.kept write.now }
+        ensures verdict { result ≡ write_verdict line self.now.summary self.now.kept write.now }
+        ensures own { NeverStore result }
     {
         let stamp = write.stamp;
         let tally = self.summary.tally(stamp.server);
@@ -101,6 +106,7 @@ impl Candidate {
     /// Whether a commit in this line is new, and not one that is known or dropped.
     pub fn judge_commit(&self, line: u64, seq: CommitNumber, id: WriteId) -> Result<bool, Refusal>
         ensures verdict { result ≡ commit_verdict line self.now.summary self.now.kept seq id }
+        ensures own { NeverStore result }
         ensures in_range { id.server < 100 }
     {
         let q = seq.number();
@@ -133,6 +139,8 @@ impl Candidate {
         ensures takes { (p : Progress) → IsReplica p.replica → Shows self.old p.replica
             → Takes (take_item line p (item_of item.now)) result self.new }
         ensures front { OnOk result (KeepsFront self.old self.new) }
+        ensures marks { OnOk result (KeepsMarks self.old self.new) }
+        ensures own { NeverStore result }
     {
         match item {
             Item::W(write) => self.take_write(line, write),
@@ -144,6 +152,8 @@ impl Candidate {
         ensures takes { (p : Progress) → IsReplica p.replica → Shows self.old p.replica
             → Takes (take_write line p write.now) result self.new }
         ensures front { OnOk result (KeepsFront self.old self.new) }
+        ensures marks { OnOk result (KeepsMarks self.old self.new) }
+        ensures own { NeverStore result }
     {
         write.is_within_limits();
         if !self.judge_write(line, write)? {
@@ -157,6 +167,8 @@ impl Candidate {
         ensures takes { (p : Progress) → IsReplica p.replica → Shows self.old p.replica
             → Takes (take_commit line p seq id) result self.new }
         ensures front { OnOk result (KeepsFront self.old self.new) }
+        ensures marks { OnOk result (KeepsMarks self.old self.new) }
+        ensures own { NeverStore result }
     {
         if !self.judge_commit(line, seq, id)? {
             return Ok(());
@@ -171,6 +183,7 @@ impl Candidate {
     pub fn add_write(&mut self, write: &Write) -> Result<(), Refusal>
         ensures ok { OnOk result (self.new ≡ with_learned self.old write.now) }
         ensures front { OnOk result (KeepsFront self.old self.new) }
+        ensures marks { OnOk result (KeepsMarks self.old self.new) }
         ensures only { IfErr result (λ e. e ≡ Refusal.OutOfMemory) }
     {
         let committed = self.summary.committed_len(&self.kept);
@@ -189,6 +202,7 @@ impl Candidate {
         ensures ok { IfOk result (λ found. found ≡ true → (w : WriteOfRoom) → w ≡ slice_index_or self.old.kept (commit_place self.old id) w
             → self.new ≡ with_moved self.old id w (remove self.old.kept (commit_place self.old id))) }
         ensures front { OnOk result (KeepsFront self.old self.new) }
+        ensures marks { OnOk result (KeepsMarks self.old self.new) }
         ensures only { IfErr result (λ e. e ≡ Refusal.OutOfMemory) }
     {
         let committed = self.summary.committed_len(&self.kept);
@@ -255,7 +269,8 @@ fn id_place(writes: &[Write], id: WriteId) -> usize
 
 /// Whether a known write is to be skipped: it is where it is kept just so, or dropped.
 fn judge_known(line: u64, write: &Write, kept: Option<&Write>) -> Result<bool, Refusal>
-    ensures { result ≡ known_verdict line write.now (option_copied kept.entry) }
+    ensures verdict { result ≡ known_verdict line write.now (option_copied kept.entry) }
+    ensures own { NeverStore result }
 {
     match kept {
         None => Ok(false),
@@ -271,7 +286,8 @@ fn judge_known(line: u64, write: &Write, kept: Option<&Write>) -> Result<bool, R
 
 /// Whether a known commit is to be skipped: it is where it is of this id.
 fn judge_there(line: u64, id: WriteId, kept: Option<&Write>) -> Result<bool, Refusal>
-    ensures { result ≡ there_verdict line id (option_copied kept.entry) }
+    ensures verdict { result ≡ there_verdict line id (option_copied kept.entry) }
+    ensures own { NeverStore result }
 {
     match kept {
         None => Err(Refusal::Forged(line)),

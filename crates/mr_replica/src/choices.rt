@@ -1,4 +1,4 @@
-ghost use Rattle.std.specs.Prelude.{◌≡◌, ◌++◌, ◌∷◌, flat_map, OnOk, IfOk};
+ghost use Rattle.std.specs.Prelude.{◌≡◌, ◌+◌, ◌≤◌, ◌++◌, ◌∷◌, flat_map, OnOk, IfOk, IfSome};
 ghost use Rattle.std.specs.List.{slice_get};
 ghost use Rattle.std.specs.String.{string_bytes};
 ghost use Rattle.mr_model.specs.Texts.{words};
@@ -20,8 +20,16 @@ pub(crate) fn choices_text(alloc: Global, wish: Slot, others: &[Slot]) -> Result
     Ok(text)
 }
 
-/// The choice of this number: 0 is the wish, 1 the first alternative.
+/// The choice of this number: 0 is the wish, 1 the first alternative. It ends on its day.
 pub(crate) fn choice_of(write: &Write, number: u32) -> Option<Slot>
+    ensures choice { result ≡ slice_get (choices write.now) number }
+    ensures fits { IfSome result (λ s. s.start + write.now.length ≤ 1440) }
+{
+    write.is_within_limits();
+    choice_numbered(write, number)
+}
+
+fn choice_numbered(write: &Write, number: u32) -> Option<Slot>
     ensures { result ≡ slice_get (choices write.now) number }
 {
     if number == 0 {

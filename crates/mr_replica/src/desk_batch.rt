@@ -1,6 +1,6 @@
 ghost use Rattle.mr_model.specs.Replies.{BatchIs};
 ghost use Rattle.mr_model.specs.Step.{leave, batch_reply};
-ghost use Rattle.mr_replica.specs.Desk.{TakesStep};
+ghost use Rattle.mr_replica.specs.Desk.{TakesStep, NeverStore, IsWithinLimits};
 
 use crate::Desk;
 use crate::outgoing::outgoing_for;
@@ -10,7 +10,8 @@ impl Desk {
     /// What a replica at this position lacks: the commits above its own, each behind its write where that is lacked, then
     /// the tentative writes that it lacks, so many lines at most. It is refused where one of the commits is dropped.
     pub fn batch(&self, position: &Position, max_lines: LineCount) -> Result<Batch, Refusal>
-        ensures { TakesStep (λ a. leave a (batch_reply a position.now max_lines)) (λ _ batch. BatchIs batch) self.now result self.now }
+        ensures step { TakesStep (λ a. leave a (batch_reply a position.now max_lines)) (λ _ batch. BatchIs batch) self.now result self.now }
+        ensures own { IsWithinLimits self.now → NeverStore result }
     {
         if position.primary != self.summary.primary {
             return Err(Refusal::WrongPrimary);

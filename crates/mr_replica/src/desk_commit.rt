@@ -1,25 +1,69 @@
-ghost use Rattle.std.specs.Prelude.{◌≡◌, OnErr};
+ghost use Rattle.std.specs.Prelude.{◌≡◌, ◌+◌, ◌<◌, ◌^◌, [], take, drop, length, map, OnErr, IfOk, IfErr};
+ghost use Rattle.mr_model.specs.Writes.{id_of};
 ghost use Rattle.mr_model.specs.Replies.{CommittedIs};
 ghost use Rattle.mr_model.specs.Step.{commit};
-ghost use Rattle.mr_replica.specs.Desk.{TakesStep};
+ghost use Rattle.mr_replica.specs.Summary.{committed_len, noted_commits};
+ghost use Rattle.mr_replica.specs.Desk.{TakesStep, NeverStore};
+ghost use Rattle.mr_replica.specs.Turning.{TurnsTables};
+ghost use Rattle.mr_replica.specs.Written.{meta_of, changed_tallies, written};
 
-use crate::Desk;
-use mr_base::Refusal;
+use crate::vector::changed_tallies;
+use crate::written::written;
+use crate::{Change, Desk, Log, Summary};
+use mr_base::{Refusal, Write};
+use mr_replay::UndoRow;
+use std::alloc::Global;
 
 impl Desk {
-    /// Commits the first k tentative writes, or all where there are fewer, and answers how many they are. The order of
-    /// execution stays, so nothing is executed again.
-    pub fn commit(&mut self, k: u64) -> Result<u64, Refusal>
-        ensures step { TakesStep (λ a. commit a k) (λ _ count. CommittedIs count) self.old result self.new }
+    /// Commits the first k tentative writes, or all where there are fewer, and answers how many they are, and what that
+    /// changes in the tables. The order of execution stays, so nothing is executed again.
+    pub fn commit(&mut self, k: u64) -> Result<(u64, Change), Refusal>
+        ensures step { TakesStep (λ a. commit a k) (λ _ done. CommittedIs done.0) self.old result self.new }
+        ensures change { TurnsTables (λ done. done.1) self.old result self.new }
         ensures err { OnErr result (self.new ≡ self.old) }
+        ensures own { NeverStore result }
     {
         if self.summary.server != self.summary.primary {
             return Err(Refusal::NotPrimary);
         }
-        let kept = self.log.kept();
-        let (_, tentative) = kept.split_at(self.summary.committed_len(kept));
-        let count = k.min(tentative.len() as u64);
-        self.summary.note_commits(&tentative[..count as usize]);
-        Ok(count)
+        let (writes, rows) = next_commits(&self.summary, &self.log, k);
+        let count = writes.len() as u64;
+        let (summary, change) = after_commits(self.alloc, &self.summary, writes, rows)?;
+        self.summary = summary;
+        Ok((count, change))
     }
+}
+
+/// The first k tentative writes, or all where there are fewer, and what undoes each.
+fn next_commits<'a>(summary: &Summary, log: &'a Log, k: u64) -> (&'a [Write], &'a [UndoRow])
+    ensures writes { result.0.now ≡ take k (drop (committed_len summary.now log.now.kept) log.now.kept) }
+    ensures rows { result.1.now ≡ take k (drop (committed_len summary.now log.now.kept) log.now.undo) }
+    ensures as_many { length result.0.now ≡ length result.1.now }
+{
+    let kept = log.kept();
+    let first = summary.committed_len(kept);
+    let end = first + k.min((kept.len() - first) as u64) as usize;
+    (&kept[first..end], &log.undo()[first..end])
+}
+
+/// The numbers after the commits of these writes, and what these change in the tables.
+fn after_commits(
+    alloc: Global,
+    summary: &Summary,
+    writes: &[Write],
+    rows: &[UndoRow],
+) -> Result<(Summary, Change), Refusal>
+    requires { length writes.now ≡ length rows.now }
+    ensures numbers { IfOk result (λ done. done.0 ≡ noted_commits summary.now (map id_of writes.now)) }
+    ensures change { IfOk result (λ done. summary.now.commits + 1 + length writes.now < 2 ^ 64
+        → done.1 ≡ written (meta_of done.0) [] (changed_tallies summary.now.tallies done.0.tallies) done.0.commits (summary.now.commits + 1) writes.now rows.now) }
+    ensures only { IfErr result (λ e. e ≡ Refusal.OutOfMemory) }
+{
+    let mut numbers = *summary;
+    numbers.note_commits(writes);
+    let vector = changed_tallies(alloc, summary, &numbers)?;
+    let first = summary.commits.saturating_add(1);
+    let rooms = Vec::new(alloc);
+    let change = written(alloc, &numbers, rooms, vector, first, writes, rows)?;
+    Ok((numbers, change))
 }

@@ -1,7 +1,7 @@
 ghost use Rattle.mr_model.specs.Positions.{position_of};
 ghost use Rattle.mr_model.specs.Replies.{PositionIs};
 ghost use Rattle.mr_model.specs.Step.{leave};
-ghost use Rattle.mr_replica.specs.Desk.{TakesStep};
+ghost use Rattle.mr_replica.specs.Desk.{TakesStep, NeverStore, IsWithinLimits};
 
 use crate::Desk;
 use mr_base::{Position, Refusal};
@@ -9,10 +9,13 @@ use mr_base::{Position, Refusal};
 impl Desk {
     /// How far the replica's knowledge goes. Numbers beyond the limits, which no replica has, are refused as the store's.
     pub fn position(&self) -> Result<Position, Refusal>
-        ensures { TakesStep (λ a. leave a (PositionIs (position_of a))) (λ _ position. PositionIs position) self.now result self.now }
+        ensures step { TakesStep (λ a. leave a (PositionIs (position_of a))) (λ _ position. PositionIs position) self.now result self.now }
+        ensures own { IsWithinLimits self.now → NeverStore result }
     {
         let counts = self.summary.counts(self.alloc)?;
         let summary = &self.summary;
+        summary.server.number();
+        summary.primary.number();
         Position::new(summary.server, summary.primary, summary.commits, counts).ok_or(
             Refusal::Store,
         )

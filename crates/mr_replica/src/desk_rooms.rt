@@ -1,23 +1,40 @@
-ghost use Rattle.std.specs.Prelude.{◌≡◌, OnErr};
+ghost use Rattle.std.specs.Prelude.{◌≡◌, [], ◌∷◌, OnErr, IfOk, IfErr};
 ghost use Rattle.mr_model.specs.Replies.{RoomAdded};
 ghost use Rattle.mr_model.specs.Step.{add_room};
-ghost use Rattle.mr_replica.specs.Desk.{TakesStep};
+ghost use Rattle.mr_replica.specs.Desk.{TakesStep, NeverStore};
+ghost use Rattle.mr_replica.specs.Turning.{TurnsTables};
+ghost use Rattle.mr_replica.specs.Written.{meta_of, written};
 
-use crate::Desk;
 use crate::rooms::{is_known, learn_room};
+use crate::written::written;
+use crate::{Change, Desk, Summary};
 use mr_base::{Refusal, RoomName};
+use std::alloc::Global;
 
 impl Desk {
-    /// Adds a room that isn't known.
-    pub fn add_room(&mut self, room: &RoomName) -> Result<(), Refusal>
+    /// Adds a room that isn't known, and answers what that changes in the tables.
+    pub fn add_room(&mut self, room: &RoomName) -> Result<Change, Refusal>
         ensures step { TakesStep (λ a. add_room a room.now) (λ _ _. RoomAdded) self.old result self.new }
+        ensures change { TurnsTables (λ change. change) self.old result self.new }
         ensures err { OnErr result (self.new ≡ self.old) }
+        ensures own { NeverStore result }
     {
         room.as_str();
         if is_known(&self.rooms, room) {
             return Err(Refusal::RoomThere);
         }
+        let change = room_change(self.alloc, &self.summary, room)?;
         learn_room(self.alloc, &mut self.rooms, room)?;
-        Ok(())
+        Ok(change)
     }
+}
+
+/// Puts a room more.
+fn room_change(alloc: Global, summary: &Summary, room: &RoomName) -> Result<Change, Refusal>
+    ensures change { IfOk result (λ change. change ≡ written (meta_of summary.now) (room.now ∷ []) [] summary.now.commits 1 [] []) }
+    ensures only { IfErr result (λ e. e ≡ Refusal.OutOfMemory) }
+{
+    let mut rooms = Vec::new(alloc);
+    rooms.push(room.copy(alloc)?)?;
+    written(alloc, summary, rooms, Vec::new(alloc), 1, &[], &[])
 }

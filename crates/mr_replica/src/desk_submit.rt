@@ -1,23 +1,58 @@
-ghost use Rattle.std.specs.Prelude.{◌≡◌, OnErr};
-ghost use Rattle.mr_replica.specs.Desk.{TakesStep};
+ghost use Rattle.std.specs.Prelude.{◌≡◌, ◌+◌, ◌<◌, ◌^◌, [], ◌∷◌, length, OnErr, IfOk, IfErr};
+ghost use Rattle.mr_model.specs.Replica.{Replica, IsReplica};
+ghost use Rattle.mr_replay.specs.Rows.{undo_row_of};
+ghost use Rattle.mr_replica.specs.Desk.{TakesStep, NeverStore, StandsFor};
 ghost use Rattle.mr_replica.specs.Steps.{submit_request, outcome_in};
+ghost use Rattle.mr_replica.specs.Turning.{TurnsTables, put_outcome};
+ghost use Rattle.mr_replica.specs.Written.{meta_of, changed_tallies, written};
 
-use crate::Desk;
 use crate::rooms::is_known;
+use crate::{Change, Desk, Summary};
 use mr_base::{Refusal, Request, Write, WriteId};
+use mr_replay::UndoRow;
+use std::slice;
 
 impl Desk {
-    /// Accepts a request: it becomes the last write of the order, with the next stamp of the own server.
-    pub fn submit(&mut self, request: Request) -> Result<WriteId, Refusal>
-        ensures step { TakesStep (submit_request request) (outcome_in request) self.old result self.new }
+    /// Accepts a request: it becomes the last write of the order, with the next stamp of the own server. The change that is
+    /// answered puts one row into `booking` or into `errorlog`, which tells what became of the request.
+    pub fn submit(&mut self, request: Request) -> Result<(WriteId, Change), Refusal>
+        ensures step { TakesStep (submit_request request) (λ a done. outcome_in request a done.0) self.old result self.new }
+        ensures change { TurnsTables (λ done. done.1) self.old result self.new }
+        ensures told { (a : Replica) → IsReplica a → StandsFor self.old a
+            → IfOk result (λ done. outcome_in request (submit_request request a).replica done.0 ≡ put_outcome done.1.booking done.1.errorlog) }
         ensures err { OnErr result (self.new ≡ self.old) }
+        ensures own { NeverStore result }
     {
         if !is_known(&self.rooms, &request.room) {
             return Err(Refusal::UnknownRoom);
         }
         let stamp = self.summary.next_stamp()?;
-        self.log.push(Write::of_request(stamp, request))?;
-        self.summary.note_write(stamp);
-        Ok(stamp.id())
+        let mut summary = self.summary;
+        summary.note_write(stamp);
+        let write = Write::of_request(stamp, request);
+        let change = self.submission(&summary, &write)?;
+        self.log.push(write)?;
+        self.summary = summary;
+        Ok((stamp.id(), change))
+    }
+
+    /// What changes in the tables where this write becomes the last of the order.
+    fn submission(&self, summary: &Summary, write: &Write) -> Result<Change, Refusal>
+        ensures change { IfOk result (λ change. self.now.dropped + 1 + length self.now.log.kept + 1 < 2 ^ 64
+            → change ≡ written (meta_of summary.now) [] (changed_tallies self.now.tallies summary.now.tallies) summary.now.commits (self.now.dropped + 1 + length self.now.log.kept) (write.now ∷ []) (undo_row_of self.now.log.board write.now ∷ [])) }
+        ensures only { IfErr result (λ e. e ≡ Refusal.OutOfMemory) }
+    {
+        let row = UndoRow {
+            id: write.stamp.id(),
+            place: self.log.board().merge(write),
+        };
+        let place = self.log.kept().len();
+        self.change_to(
+            summary,
+            Vec::new(self.alloc),
+            place,
+            slice::from_ref(write),
+            &[row],
+        )
     }
 }

@@ -1,16 +1,21 @@
 ghost use Rattle.std.specs.Prelude.{◌≡◌, OnErr};
 ghost use Rattle.mr_model.specs.Replies.{DroppedIs};
 ghost use Rattle.mr_model.specs.Step.{truncate};
-ghost use Rattle.mr_replica.specs.Desk.{TakesStep};
+ghost use Rattle.mr_replica.specs.Desk.{TakesStep, NeverStore};
+ghost use Rattle.mr_replica.specs.Turning.{TurnsTables};
 
-use crate::Desk;
+use crate::written::forgotten;
+use crate::{Change, Desk};
 use mr_base::Refusal;
 
 impl Desk {
-    /// Keeps the first commits up to this number no longer, and answers how many are dropped then.
-    pub fn truncate(&mut self, number: u64) -> Result<u64, Refusal>
-        ensures step { TakesStep (λ a. truncate a number) (λ _ dropped. DroppedIs dropped) self.old result self.new }
+    /// Keeps the first commits up to this number no longer, and answers how many are dropped then, and what that changes in
+    /// the tables.
+    pub fn truncate(&mut self, number: u64) -> Result<(u64, Change), Refusal>
+        ensures step { TakesStep (λ a. truncate a number) (λ _ done. DroppedIs done.0) self.old result self.new }
+        ensures change { TurnsTables (λ done. done.1) self.old result self.new }
         ensures err { OnErr result (self.new ≡ self.old) }
+        ensures own { NeverStore result }
     {
         if self.summary.server == self.summary.primary {
             return Err(Refusal::PrimaryKeepsAll);
@@ -23,9 +28,13 @@ impl Desk {
         let mut errors = self
             .log
             .errors_in_front(self.alloc, dropped.saturating_add(1), more)?;
+        let mut summary = self.summary;
+        summary.dropped = dropped.max(number);
+        let kept = self.log.kept();
+        let change = forgotten(self.alloc, &summary, &kept[..more.min(kept.len())])?;
         self.old_errors.append(&mut errors)?;
         self.log.drop_front(more);
-        self.summary.dropped = dropped.max(number);
-        Ok(self.summary.dropped)
+        self.summary = summary;
+        Ok((summary.dropped, change))
     }
 }

@@ -12,19 +12,26 @@ mod change;
 mod choices;
 mod desk;
 mod desk_batch;
+mod desk_change;
 mod desk_commit;
 mod desk_position;
 mod desk_receive;
 mod desk_rooms;
 mod desk_submit;
+mod desk_tables;
 mod desk_truncate;
+mod kept_rows;
 mod log;
 mod old_errors;
 mod outgoing;
 mod reading;
 mod rooms;
 mod rows;
+mod sound_log;
+mod sound_rows;
 mod summary;
+#[cfg(test)]
+mod table_tests;
 mod tables;
 #[cfg(test)]
 mod tests;

@@ -1,8 +1,9 @@
-ghost use Rattle.std.specs.Prelude.{◌≡◌, [], take, drop, length, ◌≤◌, ◌<◌, ◌+◌, ◌^◌, OnOk, OnErr, IfOk, IfErr};
+ghost use Rattle.std.specs.Prelude.{◌≡◌, [], map, take, drop, length, ◌≤◌, ◌<◌, ◌+◌, ◌^◌, OnOk, OnErr, IfOk, IfErr};
 ghost use Rattle.mr_replay.specs.Rows.{undone_all};
 ghost use Rattle.mr_replica.specs.Log.{pushed, replaced, without_front, errors_in, is_logged as is_logged_at};
 
 use crate::OldError;
+use crate::kept_rows::KeptRow;
 use mr_base::{Refusal, Write};
 use mr_replay::{Board, Place, UndoRow};
 use std::alloc::Global;
@@ -39,6 +40,20 @@ impl Log {
         }
     }
 
+    /// The log that these rows tell, which stand in the order of execution, with the board that all executions led to.
+    pub(crate) fn of_rows(alloc: Global, rows: Vec<KeptRow>, board: Board) -> Result<Log, Refusal>
+        ensures log { IfOk result (λ log. log ≡ record { kept = map (λ r. r.write) rows.items; undo = map (λ r. r.undo) rows.items; board = board }) }
+        ensures only { IfErr result (λ e. e ≡ Refusal.OutOfMemory) }
+    {
+        let mut kept = Vec::new(alloc);
+        let mut undo = Vec::new(alloc);
+        for row in rows {
+            kept.push(row.write)?;
+            undo.push(row.undo)?;
+        }
+        Ok(Log { kept, undo, board })
+    }
+
     /// The kept writes, the first executed first.
     pub fn kept(&self) -> &[Write]
         ensures { result.now ≡ self.now.kept }
@@ -48,7 +63,8 @@ impl Log {
 
     /// What undoes each of them.
     pub fn undo(&self) -> &[UndoRow]
-        ensures { result.now ≡ self.now.undo }
+        ensures rows { result.now ≡ self.now.undo }
+        ensures as_many { length result.now ≡ length self.now.kept }
     {
         self.undo.as_slice()
     }
@@ -74,24 +90,21 @@ impl Log {
         Ok(())
     }
 
-    /// Undoes the writes from this place on, and executes those of another list from there on, which is kept in their stead.
-    /// In front of the place the two lists are to be the same.
-    pub fn replace_from(&mut self, place: usize, kept: Vec<Write>) -> Result<(), Refusal>
-        requires old { place ≤ length self.old.kept }
+    /// The log with another list in the stead of its own, which is the same in front of this place: its writes from the place
+    /// on are undone, and those of the list are executed from there on.
+    pub fn with_tail(&self, alloc: Global, place: usize, kept: Vec<Write>) -> Result<Log, Refusal>
+        requires old { place ≤ length self.now.kept }
         requires new { place ≤ length kept.items }
-        ensures ok { OnOk result (self.new ≡ replaced self.old place kept.items) }
-        ensures err { OnErr result (self.new ≡ self.old) }
+        ensures log { IfOk result (λ log. log ≡ replaced self.now place kept.items) }
         ensures only { IfErr result (λ e. e ≡ Refusal.OutOfMemory) }
     {
         let mut board = self.board.copy()?;
         undo_all(&mut board, &self.undo[place..]);
         let rows = board.redo_from(&kept[place..])?;
-        self.undo.reserve(rows.len())?;
-        self.undo.truncate(place);
-        let _ = self.undo.extend_from_slice(&rows);
-        self.kept = kept;
-        self.board = board;
-        Ok(())
+        let mut undo = Vec::new(alloc);
+        undo.extend_from_slice(&self.undo[..place])?;
+        undo.extend_from_slice(&rows)?;
+        Ok(Log { kept, undo, board })
     }
 
     /// The dropped errors that dropping the first `count` writes makes, numbered from `first` on.

@@ -1,7 +1,18 @@
-ghost use Rattle.std.specs.Prelude.{◌≡◌};
+ghost use Rattle.std.specs.Prelude.{◌≡◌, ◌↔◌, nat_lt, Ok, IfOk, IfErr, IsTrue, map, filter};
+ghost use Rattle.std.specs.List.{AllByRecursion};
+ghost use Rattle.std.specs.List.Sorted.{IsPermutation, IsSortedByKey};
+ghost use Rattle.std.specs.Ordering.{nat_cmp};
+ghost use Rattle.mr_model.specs.Writes.{is_count};
+ghost use Rattle.mr_model.specs.Replica.{Replica, IsReplica};
+ghost use Rattle.mr_model.specs.Tables.{tables_of};
+ghost use Rattle.mr_replica.specs.Desk.{desk_of};
 ghost use Rattle.mr_replica.specs.Log.{old_error_of};
+ghost use Rattle.mr_replica.specs.SoundRows.{Rise};
+ghost use Rattle.mr_replica.specs.OldErrors.{is_old, told_error};
 
-use mr_base::{Write, WriteId};
+use crate::ErrorRow;
+use mr_base::{Refusal, Write, WriteId};
+use std::alloc::Global;
 
 /// A write that is dropped and stands in the error log, with its time and the number of its commit.
 #[derive(Clone, Copy, Debug, PartialEq, Eq)]
@@ -22,4 +33,75 @@ impl OldError {
             seq,
         }
     }
+
+    /// What a row of `errorlog` keeps. Refused where the row is that of no write.
+    fn of_row(row: &ErrorRow) -> Result<OldError, Refusal>
+        ensures { IsTrue (is_count row.now.n) → result ≡ Ok (told_error row.now) }
+    {
+        let Some(id) = WriteId::new(row.server, row.n) else {
+            return Err(Refusal::Store);
+        };
+        Ok(OldError {
+            id,
+            time: row.time,
+            seq: row.seq,
+        })
+    }
+}
+
+/// What the rows of `errorlog` keep of dropped writes, by rising commit number, where so many are dropped. Refused where two
+/// have one number.
+pub(crate) fn old_errors_in(
+    alloc: Global,
+    rows: &[ErrorRow],
+    dropped: u64,
+) -> Result<Vec<OldError>, Refusal>
+    ensures errors { (a : Replica) → IsReplica a → rows.now ≡ (tables_of a).errorlog → dropped ≡ a.dropped
+        → IfOk result (λ errors. errors.items ≡ (desk_of a).old_errors) }
+    ensures only { (a : Replica) → IsReplica a → rows.now ≡ (tables_of a).errorlog → dropped ≡ a.dropped
+        → IfErr result (λ e. e ≡ Refusal.OutOfMemory) }
+{
+    match dropped_errors(alloc, rows, dropped) {
+        Ok(mut errors) => {
+            sort_errors(&mut errors);
+            if are_rising(&errors) {
+                Ok(errors)
+            } else {
+                Err(Refusal::Store)
+            }
+        }
+        Err(refusal) => Err(refusal),
+    }
+}
+
+fn sort_errors(errors: &mut Vec<OldError>)
+    ensures moved { IsPermutation errors.old.items errors.new.items }
+    ensures sorted { IsSortedByKey (λ e. e.seq) nat_cmp errors.new.items }
+{
+    errors.sort_unstable_by_key(|error| error.seq);
+}
+
+/// Whether no two of them have one commit number.
+fn are_rising(errors: &[OldError]) -> bool
+    ensures { IsTrue result ↔ Rise nat_lt (λ e. e.seq) errors.now }
+{
+    errors.is_sorted_by(|one, next| one.seq < next.seq)
+}
+
+/// The same in the order of the rows.
+fn dropped_errors(alloc: Global, rows: &[ErrorRow], dropped: u64) -> Result<Vec<OldError>, Refusal>
+    ensures errors { AllByRecursion (λ r. IsTrue (is_count r.n)) rows.now
+        → IfOk result (λ errors. errors.items ≡ map told_error (filter (is_old dropped) rows.now)) }
+    ensures only { AllByRecursion (λ r. IsTrue (is_count r.n)) rows.now → IfErr result (λ e. e ≡ Refusal.OutOfMemory) }
+{
+    let mut errors = Vec::new(alloc);
+    for row in rows {
+        if row.seq >= 1 && row.seq <= dropped {
+            match OldError::of_row(row) {
+                Ok(error) => errors.push(error)?,
+                Err(refusal) => return Err(refusal),
+            }
+        }
+    }
+    Ok(errors)
 }

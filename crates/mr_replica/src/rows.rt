@@ -140,7 +140,7 @@ impl Model for WriteUndoRow {
     ghost inverse = { λ v. record { server = v.server; n = v.n; place = place_from v.place } };
 }
 
-/// A row of `booking`: a request that has its slot. `start` and `stop` are minutes of the day.
+/// A row of `booking`: a request that has its slot. `start` and `stop` are minutes of the day, from 0 to 1440.
 #[derive(Debug, Drop)]
 pub struct BookingRow {
     pub room: RoomName,
@@ -154,7 +154,9 @@ pub struct BookingRow {
 }
 
 impl Model for BookingRow {
+    ghost use Rattle.std.specs.Prelude.{◌≤◌, IsTrue};
     ghost use Rattle.mr_model.specs.Tables as tables;
+    ghost use Rattle.mr_model.specs.Writes.{is_count};
 
     ghost Value = { tables.BookingRow };
 
@@ -168,6 +170,8 @@ impl Model for BookingRow {
       title = r.title;
       committed = r.committed;
     } };
+
+    ghost invariant = { λ r. (r.start ≤ 1440) × (r.stop ≤ 1440) × IsTrue (is_count r.n) };
 }
 
 impl BookingRow {
@@ -206,7 +210,9 @@ pub struct ErrorRow {
 }
 
 impl Model for ErrorRow {
+    ghost use Rattle.std.specs.Prelude.{◌≤◌, IsTrue};
     ghost use Rattle.mr_model.specs.Tables as tables;
+    ghost use Rattle.mr_model.specs.Writes.{is_count};
 
     ghost Value = { tables.ErrorRow };
 
@@ -221,6 +227,8 @@ impl Model for ErrorRow {
       time = r.time;
       seq = r.seq;
     } };
+
+    ghost invariant = { λ r. (r.start ≤ 1440) × (r.stop ≤ 1440) × IsTrue (is_count r.n) };
 }
 
 impl ErrorRow {

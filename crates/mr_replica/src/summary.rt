@@ -1,15 +1,19 @@
-ghost use Rattle.std.specs.Prelude.{◌≡◌, ◌≤◌, ◌<◌, ◌++◌, [], ◌∷◌, map, OnOk, IfOk, IfErr};
+ghost use Rattle.std.specs.Prelude.{◌≡◌, ◌≤◌, ◌<◌, ◌++◌, [], ◌∷◌, map, OnOk, IfOk, IfErr, IsTrue, ◌↔◌};
+ghost use Rattle.std.specs.List.{All};
 ghost use Rattle.mr_model.specs.Texts.{numbers_on};
 ghost use Rattle.mr_model.specs.Writes.{id_of};
 ghost use Rattle.mr_model.specs.Replica.{opening};
 ghost use Rattle.mr_base.specs.Positions.{counts_of};
-ghost use Rattle.mr_replica.specs.Summary.{summary_of, noted_write, noted_commit, noted_commits, committed_len, counts_in, stamp_next, tally_at};
+ghost use Rattle.mr_replica.specs.Summary.{summary_of, IsWithin, noted_write, noted_commit, noted_commits, committed_len, counts_in, stamp_next, tally_at};
 
 use mr_base::{Refusal, ServerId, Stamp, Write, WriteId};
 use std::alloc::Global;
 
 /// The greatest time of a stamp.
 const GREATEST_TIME: u64 = 999_999_999_999;
+
+/// The greatest number of commits.
+const GREATEST_COMMITS: u64 = 999_999_999_999;
 
 /// The greatest count of a server's writes.
 const GREATEST_COUNT: u32 = 999_999_999;
@@ -52,6 +56,13 @@ impl Summary {
             clock: 0,
             tallies: [none; 100],
         }
+    }
+
+    /// Whether the numbers are within the limits of positions.
+    pub fn is_within(&self) -> bool
+        ensures { IsTrue result ↔ IsWithin self.now }
+    {
+        self.commits <= GREATEST_COMMITS && are_within(&self.tallies)
     }
 
     /// The tally of a server.
@@ -141,4 +152,10 @@ impl Summary {
         }
         Ok(())
     }
+}
+
+fn are_within(tallies: &[Tally]) -> bool
+    ensures { IsTrue result ↔ All (λ t. t.count ≤ 999_999_999) tallies.now }
+{
+    tallies.iter().all(|tally| tally.count <= GREATEST_COUNT)
 }

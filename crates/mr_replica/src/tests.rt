@@ -96,10 +96,40 @@ fn lines(number: u32) -> Result<LineCount, Refusal> {
     }
 }
 
+/// Submits a request, and answers its id alone.
+fn book(desk: &mut Desk, request: Request) -> Result<WriteId, Refusal> {
+    let (id, _) = desk.submit(request)?;
+    Ok(id)
+}
+
+/// Commits the first tentative writes, and answers how many they were.
+fn commit_first(desk: &mut Desk, k: u64) -> Result<u64, Refusal> {
+    let (count, _) = desk.commit(k)?;
+    Ok(count)
+}
+
+/// Drops commits, and answers how many are dropped then.
+fn drop_up_to(desk: &mut Desk, number: u64) -> Result<u64, Refusal> {
+    let (dropped, _) = desk.truncate(number)?;
+    Ok(dropped)
+}
+
+/// Adds a room.
+fn add(desk: &mut Desk, room: &RoomName) -> Result<(), Refusal> {
+    desk.add_room(room)?;
+    Ok(())
+}
+
+/// Takes a batch, and answers how many of its writes and of its commits were new.
+fn take(desk: &mut Desk, batch: &Batch) -> Result<(u64, u64), Refusal> {
+    let (writes, commits, _) = desk.receive(batch)?;
+    Ok((writes, commits))
+}
+
 /// Hands a desk what another lacks.
 fn hand_over(from: &Desk, to: &mut Desk, max_lines: u32) -> Result<(u64, u64), Refusal> {
     let position = to.position()?;
-    to.receive(&from.batch(&position, lines(max_lines)?)?)
+    take(to, &from.batch(&position, lines(max_lines)?)?)
 }
 
 /// The commit order turns the stamp order round: Beta of server 3, tentative behind Alpha, is committed first.
@@ -111,11 +141,11 @@ fn a_commit_moves_what_stood_before_it(rt: HostRuntime) -> Result<(), Fail> {
         with_oak(alloc, 2)?,
         with_oak(alloc, 3)?,
     );
-    let alpha = second.submit(request(alloc, "Alpha", 60, 840, &[960])?)?;
+    let alpha = book(&mut second, request(alloc, "Alpha", 60, 840, &[960])?)?;
     assert!(rt; start_of(&second, alpha) == Some(840));
-    let beta = third.submit(request(alloc, "Beta", 60, 810, &[])?)?;
+    let beta = book(&mut third, request(alloc, "Beta", 60, 810, &[])?)?;
     assert!(rt; hand_over(&third, &mut first, 10)? == (1, 0));
-    assert!(rt; first.commit(5)? == 1);
+    assert!(rt; commit_first(&mut first, 5)? == 1);
     assert!(rt; hand_over(&first, &mut second, 10)? == (1, 1));
     assert!(rt; start_of(&second, beta) == Some(810));
     assert!(rt; start_of(&second, alpha) == Some(960));
@@ -136,8 +166,8 @@ fn both(alloc: Global) -> Result<Batch, Refusal> {
 fn a_repeat_brings_nothing(rt: HostRuntime) -> Result<(), Fail> {
     let alloc = rt.alloc();
     let mut desk = desk(alloc, 9)?;
-    assert!(rt; desk.receive(&both(alloc)?)? == (2, 0));
-    assert!(rt; desk.receive(&both(alloc)?)? == (0, 0));
+    assert!(rt; take(&mut desk, &both(alloc)?)? == (2, 0));
+    assert!(rt; take(&mut desk, &both(alloc)?)? == (0, 0));
     let position = desk.position()?;
     assert!(rt; position.commits == 0 && position.counts.len() == 2);
     assert!(rt; start_of(&desk, id_of(2, 1)?) == Some(900));
@@ -152,8 +182,8 @@ fn a_front_comes_before_the_whole(rt: HostRuntime) -> Result<(), Fail> {
         alloc,
         write(id_of(1, 1)?, 1, request(alloc, "Alpha", 60, 840, &[])?)?,
     )?;
-    assert!(rt; desk.receive(&batch(1, front)?)? == (1, 0));
-    assert!(rt; desk.receive(&both(alloc)?)? == (1, 0));
+    assert!(rt; take(&mut desk, &batch(1, front)?)? == (1, 0));
+    assert!(rt; take(&mut desk, &both(alloc)?)? == (1, 0));
     assert!(rt; start_of(&desk, id_of(2, 1)?) == Some(900));
     Ok(())
 }
@@ -166,9 +196,9 @@ fn a_gap_is_refused_and_changes_nothing(rt: HostRuntime) -> Result<(), Fail> {
         alloc,
         write(id_of(1, 2)?, 5, request(alloc, "Beta", 30, 540, &[])?)?,
     )?;
-    assert!(rt; desk.receive(&batch(1, items)?) == Err(Refusal::Gap(2)));
+    assert!(rt; take(&mut desk, &batch(1, items)?) == Err(Refusal::Gap(2)));
     assert!(rt; desk.position()?.counts.len() == 0);
-    assert!(rt; desk.submit(request(alloc, "Own", 30, 540, &[])?) == Err(Refusal::UnknownRoom));
+    assert!(rt; book(&mut desk, request(alloc, "Own", 30, 540, &[])?) == Err(Refusal::UnknownRoom));
     Ok(())
 }
 
@@ -187,12 +217,12 @@ fn titled(alloc: Global, title: &str) -> Result<Batch, Refusal> {
 fn another_content_is_forged_until_it_is_dropped(rt: HostRuntime) -> Result<(), Fail> {
     let alloc = rt.alloc();
     let mut desk = desk(alloc, 9)?;
-    assert!(rt; desk.receive(&titled(alloc, "Alpha")?)? == (1, 0));
-    assert!(rt; desk.receive(&titled(alloc, "Other")?) == Err(Refusal::Forged(2)));
+    assert!(rt; take(&mut desk, &titled(alloc, "Alpha")?)? == (1, 0));
+    assert!(rt; take(&mut desk, &titled(alloc, "Other")?) == Err(Refusal::Forged(2)));
     let commits = one(alloc, commit(1, id_of(1, 1)?)?)?;
-    assert!(rt; desk.receive(&batch(1, commits)?)? == (0, 1));
-    assert!(rt; desk.truncate(1)? == 1);
-    assert!(rt; desk.receive(&titled(alloc, "Other")?)? == (0, 0));
+    assert!(rt; take(&mut desk, &batch(1, commits)?)? == (0, 1));
+    assert!(rt; drop_up_to(&mut desk, 1)? == 1);
+    assert!(rt; take(&mut desk, &titled(alloc, "Other")?)? == (0, 0));
     assert!(rt; start_of(&desk, id_of(1, 1)?) == Some(540));
     Ok(())
 }
@@ -205,13 +235,13 @@ fn a_truncation_drops_a_front(rt: HostRuntime) -> Result<(), Fail> {
         desk(alloc, 2)?,
         desk(alloc, 3)?,
     );
-    first.submit(request(alloc, "Audit", 60, 810, &[])?)?;
-    let brief = first.submit(request(alloc, "Brief", 30, 870, &[])?)?;
-    assert!(rt; first.commit(9)? == 2);
+    book(&mut first, request(alloc, "Audit", 60, 810, &[])?)?;
+    let brief = book(&mut first, request(alloc, "Brief", 30, 870, &[])?)?;
+    assert!(rt; commit_first(&mut first, 9)? == 2);
     assert!(rt; hand_over(&first, &mut second, 10)? == (2, 2));
-    assert!(rt; second.truncate(2)? == 2);
-    assert!(rt; second.truncate(3) == Err(Refusal::BeyondCommitted));
-    assert!(rt; first.truncate(1) == Err(Refusal::PrimaryKeepsAll));
+    assert!(rt; drop_up_to(&mut second, 2)? == 2);
+    assert!(rt; drop_up_to(&mut second, 3) == Err(Refusal::BeyondCommitted));
+    assert!(rt; drop_up_to(&mut first, 1) == Err(Refusal::PrimaryKeepsAll));
     assert!(rt; hand_over(&second, &mut third, 10) == Err(Refusal::Truncated));
     assert!(rt; hand_over(&first, &mut third, 3)? == (2, 1));
     assert!(rt; start_of(&second, brief) == Some(870));
@@ -225,9 +255,9 @@ fn after_the_greatest_time_nothing_is_accepted(rt: HostRuntime) -> Result<(), Fa
     let mut desk = desk(alloc, 2)?;
     let last = request(alloc, "Last", 30, 540, &[])?;
     let items = one(alloc, write(id_of(1, 1)?, 999_999_999_999, last)?)?;
-    assert!(rt; desk.receive(&batch(1, items)?)? == (1, 0));
+    assert!(rt; take(&mut desk, &batch(1, items)?)? == (1, 0));
     let more = request(alloc, "More", 30, 600, &[])?;
-    assert!(rt; desk.submit(more) == Err(Refusal::ClockExhausted));
+    assert!(rt; book(&mut desk, more) == Err(Refusal::ClockExhausted));
     Ok(())
 }
 
@@ -238,22 +268,22 @@ fn hostile_lines_are_refused(rt: HostRuntime) -> Result<(), Fail> {
         alloc,
         write(id_of(2, 1)?, 1, request(alloc, "Own", 30, 540, &[])?)?,
     )?;
-    assert!(rt; desk(alloc, 2)?.receive(&batch(1, own)?) == Err(Refusal::OwnWrite(2)));
+    assert!(rt; take(&mut desk(alloc, 2)?, &batch(1, own)?) == Err(Refusal::OwnWrite(2)));
     let mut turned = one(
         alloc,
         write(id_of(1, 1)?, 1, request(alloc, "Alpha", 30, 540, &[])?)?,
     )?;
     turned.push(write(id_of(1, 2)?, 2, request(alloc, "Beta", 30, 600, &[])?)?)?;
     turned.push(commit(1, id_of(1, 2)?)?)?;
-    assert!(rt; desk(alloc, 2)?.receive(&batch(1, turned)?) == Err(Refusal::OutOfOrder(4)));
+    assert!(rt; take(&mut desk(alloc, 2)?, &batch(1, turned)?) == Err(Refusal::OutOfOrder(4)));
     let far = one(alloc, commit(2, id_of(1, 1)?)?)?;
-    assert!(rt; desk(alloc, 2)?.receive(&batch(1, far)?) == Err(Refusal::Gap(2)));
+    assert!(rt; take(&mut desk(alloc, 2)?, &batch(1, far)?) == Err(Refusal::Gap(2)));
     let other = batch(3, Vec::new(alloc))?;
-    assert!(rt; desk(alloc, 2)?.receive(&other) == Err(Refusal::WrongPrimary));
+    assert!(rt; take(&mut desk(alloc, 2)?, &other) == Err(Refusal::WrongPrimary));
     let mut primary = with_oak(alloc, 1)?;
-    let id = primary.submit(request(alloc, "Alpha", 30, 540, &[])?)?;
+    let id = book(&mut primary, request(alloc, "Alpha", 30, 540, &[])?)?;
     let commits = one(alloc, commit(1, id)?)?;
-    assert!(rt; primary.receive(&batch(1, commits)?) == Err(Refusal::PrimaryOnly(2)));
+    assert!(rt; take(&mut primary, &batch(1, commits)?) == Err(Refusal::PrimaryOnly(2)));
     Ok(())
 }
 
@@ -261,8 +291,8 @@ fn hostile_lines_are_refused(rt: HostRuntime) -> Result<(), Fail> {
 fn commands_are_refused(rt: HostRuntime) -> Result<(), Fail> {
     let alloc = rt.alloc();
     let mut desk = with_oak(alloc, 2)?;
-    assert!(rt; desk.commit(1) == Err(Refusal::NotPrimary));
-    assert!(rt; desk.add_room(&RoomName::new(alloc, "oak")?) == Err(Refusal::RoomThere));
-    assert!(rt; desk.receive(&Batch::without_header(Vec::new(alloc)))? == (0, 0));
+    assert!(rt; commit_first(&mut desk, 1) == Err(Refusal::NotPrimary));
+    assert!(rt; add(&mut desk, &RoomName::new(alloc, "oak")?) == Err(Refusal::RoomThere));
+    assert!(rt; take(&mut desk, &Batch::without_header(Vec::new(alloc)))? == (0, 0));
     Ok(())
 }

@@ -1,4 +1,4 @@
-ghost use Rattle.std.specs.Prelude.{◌≡◌, ◌+◌, ◌<◌, ◌^◌, [], length, map, OnOk, IfOk, IfErr};
+ghost use Rattle.std.specs.Prelude.{◌≡◌, ◌+◌, ◌<◌, ◌≤◌, ◌^◌, [], length, map, OnOk, IfOk, IfErr, IfSome};
 ghost use Rattle.mr_model.specs.Writes.{id_of};
 ghost use Rattle.mr_replica.specs.Rows.{log_row_with, undo_row_with, booking_at, error_at};
 ghost use Rattle.mr_replica.specs.Written.{meta_of, written, forgotten, with_logs, with_booking, with_slot, with_error, with_rows};
@@ -73,7 +73,12 @@ fn meta_row(summary: &Summary) -> MetaRow
 }
 
 /// A change of these rooms and rows of servers alone.
-fn empty(alloc: Global, summary: &Summary, room: Vec<RoomName>, vector: Vec<VectorRow>) -> Change
+pub(crate) fn empty(
+    alloc: Global,
+    summary: &Summary,
+    room: Vec<RoomName>,
+    vector: Vec<VectorRow>,
+) -> Change
     ensures { result ≡ written (meta_of summary.now) room.items vector.items 0 0 [] [] }
 {
     Change {
@@ -134,6 +139,7 @@ fn add_slot(
     slot: Option<Slot>,
     committed: bool,
 ) -> Result<(), Refusal>
+    requires { IfSome slot (λ s. s.start + write.now.length ≤ 1440) }
     ensures rows { OnOk result (change.new ≡ with_slot change.old write.now committed slot) }
     ensures only { IfErr result (λ e. e ≡ Refusal.OutOfMemory) }
 {
@@ -150,6 +156,7 @@ fn add_booking(
     slot: Slot,
     committed: bool,
 ) -> Result<(), Refusal>
+    requires { slot.start + write.now.length ≤ 1440 }
     ensures rows { OnOk result (change.new ≡ with_booking change.old write.now committed slot) }
     ensures only { IfErr result (λ e. e ≡ Refusal.OutOfMemory) }
 {
@@ -208,6 +215,7 @@ fn booking_row(
     slot: Slot,
     committed: bool,
 ) -> Result<BookingRow, Refusal>
+    requires { slot.start + write.now.length ≤ 1440 }
     ensures row { IfOk result (λ row. row ≡ booking_at write.now committed slot) }
     ensures only { IfErr result (λ e. e ≡ Refusal.OutOfMemory) }
 {
@@ -225,6 +233,21 @@ fn booking_row(
     })
 }
 
+/// The minute at which the wish ends.
+fn wish_end(write: &Write) -> u32
+    ensures stop { result ≡ write.now.wish.start + write.now.length }
+    ensures fits { result ≤ 1440 }
+{
+    write.is_within_limits();
+    wish_stop(write)
+}
+
+fn wish_stop(write: &Write) -> u32
+    ensures { result ≡ write.now.wish.start + write.now.length }
+{
+    write.wish.start + write.length
+}
+
 fn error_row(alloc: Global, write: &Write, seq: u64) -> Result<ErrorRow, Refusal>
     ensures row { IfOk result (λ row. row ≡ error_at write.now seq) }
     ensures only { IfErr result (λ e. e ≡ Refusal.OutOfMemory) }
@@ -232,11 +255,12 @@ fn error_row(alloc: Global, write: &Write, seq: u64) -> Result<ErrorRow, Refusal
     let room = write.room.copy(alloc)?;
     let title = write.title.copy(alloc)?;
     let wish = write.wish;
+    let stop = wish_end(write);
     Ok(ErrorRow {
         room,
         day: wish.day,
         start: wish.start,
-        stop: wish.start + write.length,
+        stop,
         server: write.stamp.server,
         n: write.stamp.n,
         title,

@@ -4,7 +4,7 @@ use Rattle.std.proofs.lemmas.Result.{err_from_is_err_and}
 use Rattle.mr_model.specs.Taking.{Progress, take_item, take_items}
 use Rattle.mr_base.specs.Batches.{item_of}
 use Rattle.mr_replica.specs.Candidate.{Shows, Takes, KeepsFront}
-use Rattle.mr_replica.proofs.Receiving.{IsAt, at-next, at-failed, front-trans}
+use Rattle.mr_replica.proofs.Receiving.{IsAt, at-next, at-failed, front-trans, marks-trans}
 use Rattle.mr_replica.proofs.candidate.Candidate.take_all.Goals as goal
 
 pub loop-k-preserved : goal.loop-k-preserved
@@ -13,8 +13,9 @@ loop-k-preserved c =
     let items = c.args.items.now in
     let below = c.loop-k-test.true in (
       front-trans c.args.self.now c.loop-k.self c.take.new.self c.loop-k.invariant.0 c.in_ok-take.ensures.front,
+      marks-trans c.args.self.now c.loop-k.self c.take.new.self c.in_ok-take.ensures.front c.loop-k.invariant.1 c.in_ok-take.ensures.marks,
       λ p sound good short shows.
-          let at = c.loop-k.invariant.1 p sound good short shows in
+          let at = c.loop-k.invariant.2 p sound good short shows in
           let line : c.saturating_add.result ≡ 2 + k = c.saturating_add.ensures ∙ (let m : min (k + 2) 18446744073709551615 ≡ 2 + k = omega arith in m) in
           let item = c.index-items-k.result in
           let is = ap item_of c.index-items-k.is ∙ sym (get_or-map item_of items k item (item_of item) below) in
@@ -30,7 +31,7 @@ returns-in_err-take-clause-takes c = λ p sound good short shows.
     let k = c.loop-k.k in
     let items = c.args.items.now in
     let below = c.loop-k-test.true in
-    let at = c.loop-k.invariant.1 p sound good short shows in
+    let at = c.loop-k.invariant.2 p sound good short shows in
     let line : c.saturating_add.result ≡ 2 + k = c.saturating_add.ensures ∙ (let m : min (k + 2) 18446744073709551615 ≡ 2 + k = omega arith in m) in
     let item = c.index-items-k.result in
     let is = ap item_of c.index-items-k.is ∙ sym (get_or-map item_of items k item (item_of item) below) in

@@ -10,12 +10,12 @@ use Rattle.mr_replica.proofs.candidate.Candidate.take_write.Goals as goal
 pub returns-in_err-judge_write-clause-takes : goal.returns-in_err-judge_write-clause-takes
 returns-in_err-judge_write-clause-takes c = λ p sound shows.
     let x = err_from_is_err_and c.from_residual.result c.from_residual.ensures.1 in
-    let step = write_judged c.args.line c.args.self.now c.args.write.now p (Err c.in_err-judge_write.field-0.0) sound c.is_within_limits.ensures shows c.in_err-judge_write.ensures in
+    let step = write_judged c.args.line c.args.self.now c.args.write.now p (Err c.in_err-judge_write.field-0.0) sound c.is_within_limits.ensures shows c.in_err-judge_write.ensures.verdict in
     subst (λ r. Takes (take_write c.args.line p c.args.write.now) r c.args.self.now) (sym (x.1 ∙ ap Err x.2)) (inl step)
 
 pub returns-then-not-branch-clause-takes : goal.returns-then-not-branch-clause-takes
 returns-then-not-branch-clause-takes c = λ p sound shows.
-    let verdict = ap Ok (sym c.if-not-branch.true) ∙ c.in_ok-judge_write.ensures in
+    let verdict = ap Ok (sym c.if-not-branch.true) ∙ c.in_ok-judge_write.ensures.verdict in
     (p, write_judged c.args.line c.args.self.now c.args.write.now p (Ok false) sound c.is_within_limits.ensures shows verdict, shows)
 
 pub returns-in_err-add_write-clause-takes : goal.returns-in_err-add_write-clause-takes
@@ -27,7 +27,7 @@ pub returns-clause-takes : goal.returns-clause-takes
 returns-clause-takes c = λ p sound shows.
     let w = c.args.write.now in
     let good = c.is_within_limits.ensures in
-    let verdict = ap Ok (sym c.if-not-branch.false) ∙ c.in_ok-judge_write.ensures in
+    let verdict = ap Ok (sym c.if-not-branch.false) ∙ c.in_ok-judge_write.ensures.verdict in
     let step = write_judged c.args.line c.args.self.now w p (Ok true) sound good shows verdict in
     let new = shows-learned c.args.self.now p.replica w sound (small_server w good) step.1 shows in
     (with_new_write p w, step.0, subst (λ v. Shows v (add_write p.replica w)) (sym c.in_ok-add_write.ensures.ok) new)

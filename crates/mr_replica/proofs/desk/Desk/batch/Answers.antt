@@ -1,4 +1,4 @@
-use Rattle.std.proofs.Common.{◌≡◌, ℕ, ◌<◌, ◌≤◌, ◌==◌, nat_lt, true, false, Some, Ok, Err, sym, ap, ◌∙◌, subst, inl, inr, arith}
+use Rattle.std.proofs.Common.{◌≡◌, ◌≤◌, ◌==◌, nat_lt, true, false, Some, Err, ap, ◌∙◌, subst, inl, inr, arith}
 use Rattle.std.proofs.lemmas.Bool.Decides.{nat_tests}
 use Rattle.std.proofs.lemmas.Result.{err_from_is_err_and}
 use Rattle.mr_model.specs.Positions.{Position}
@@ -6,13 +6,13 @@ use Rattle.mr_model.specs.Replies.{BatchIs}
 use Rattle.mr_replica.proofs.Limits.{few_commits}
 use Rattle.mr_base.specs.Batches.{batch_of}
 use Rattle.mr_replica.specs.Outgoing.{Offers, kept_items, ending_by}
-use Rattle.mr_replica.specs.Desk.{DeskView, desk_of}
+use Rattle.mr_replica.specs.Desk.{DeskView}
 use Rattle.mr_replica.proofs.Desks.{summary_in}
 use Rattle.mr_replica.proofs.Batching.{items-kept, batch_made}
 use Rattle.mr_replica.proofs.desk.Desk.batch.Goals as goal
 
-pub returns-in_err-outgoing : goal.returns-in_err-outgoing
-returns-in_err-outgoing c = λ a sound stands.
+pub returns-in_err-outgoing-clause-step : goal.returns-in_err-outgoing-clause-step
+returns-in_err-outgoing-clause-step c = λ a sound stands.
     let x = err_from_is_err_and c.from_residual.result c.from_residual.ensures.1 in
     let e = c.self.view_is ∙ stands in
     let is : c.position.inside.commits ≡ c.args.position.now.commits = ap (λ (p : Position). p.commits) c.position.view_is in
@@ -21,8 +21,8 @@ returns-in_err-outgoing c = λ a sound stands.
     let whole = c.if-position-self.false in
     inr (x.1 ∙ ap Err (x.2 ∙ c.in_err-outgoing.ensures.only (omega arith) (omega arith)), λ _. c.args.self.now)
 
-pub returns : goal.returns
-returns c = λ a sound stands.
+pub returns-clause-step : goal.returns-clause-step
+returns-clause-step c = λ a sound stands.
     let p = c.args.position.now in
     let there = c.in_ok-outgoing.outgoing.items.items in
     let more = c.in_ok-outgoing.outgoing.more in

@@ -1,20 +1,24 @@
-use Rattle.std.proofs.Common.{◌≡◌, ℕ, ◌-◌, ◌==◌, not, min, Bool, true, false, List, length, map, take, drop, ap, sym, ◌∙◌, inl, arith}
+use Rattle.std.proofs.Common.{◌≡◌, ◌==◌, true, Err, length, ap, sym, ◌∙◌, inl, inr, arith}
 use Rattle.std.proofs.lemmas.Bool.Decides.{nat_tests}
-use Rattle.std.proofs.lemmas.List.{take_min, length-take}
-use Rattle.mr_model.specs.Writes.{Write, id_of}
-use Rattle.mr_model.specs.Replica.{tentative}
+use Rattle.std.proofs.lemmas.Result.{err_from_is_err_and}
 use Rattle.mr_model.specs.Replies.{CommittedIs}
 use Rattle.mr_model.specs.Step.{After}
-use Rattle.mr_replica.specs.Summary.{summary_of, committed_len, noted_commits}
 use Rattle.mr_replica.specs.Desk.{DeskView, desk_of}
-use Rattle.mr_replica.proofs.Desks.{summary_in, desk_with, tentative_kept}
-use Rattle.mr_replica.proofs.Committing.{commit_done, desk-committed}
+use Rattle.mr_replica.proofs.Desks.{summary_in, desk_with}
+use Rattle.mr_replica.proofs.Committing.{commit_done}
+use Rattle.mr_replica.proofs.CommandTurns.{next_writes, next_rows, numbers_after, committed_is, commit_turns}
 use Rattle.mr_replica.proofs.desk.Desk.commit.Goals as goal
+
+pub returns-in_err-summary-clause-step : goal.returns-in_err-summary-clause-step
+returns-in_err-summary-clause-step c = λ a sound stands.
+    let p = err_from_is_err_and c.from_residual.result c.from_residual.ensures.1 in
+    inr (p.1 ∙ ap Err (p.2 ∙ c.in_err-summary.ensures.only), λ _. c.args.self.now)
 
 pub returns-clause-step : goal.returns-clause-step
 returns-clause-step c = λ a sound stands.
     let i = c.self.inside in
     let k = c.args.k in
+    let d = desk_with i.summary i.rooms.items i.log i.old_errors.items in
     let e = c.self.view_is ∙ stands in
     let server : i.summary.server ≡ a.server = ap (λ (d : DeskView). d.server) e in
     let primary : i.summary.primary ≡ a.primary = ap (λ (d : DeskView). d.primary) e in
@@ -22,11 +26,19 @@ returns-clause-step c = λ a sound stands.
     let test = c.if-ne.false in
     let own : (a.server == a.primary) ≡ true = grind (arith, nat_tests) in
     let step = commit_done a k own in
-    let kept = c.kept-kept.ensures in
-    let len : c.committed_len.result ≡ committed_len i.summary i.log.kept = c.committed_len.ensures ∙ (λ t. committed_len i.summary (kept t)) in
-    let rest : c.split_at.result.1.now ≡ tentative a = c.split_at.ensures.back ∙ (λ t. drop (len t) (kept t)) ∙ (λ t. drop (committed_len (summary_in (e t)) (e t).log.kept) (e t).log.kept) ∙ tentative_kept a sound in
-    let count : c.min-count.result ≡ min k (length (tentative a)) = c.min-count.ensures ∙ ap (λ ws. min k (length ws)) rest in
-    let first : take c.min-count.result c.split_at.result.1.now ≡ take k (tentative a) = (λ t. take (count t) (rest t)) ∙ take_min k (tentative a) in
-    let numbers = c.note_commits.ensures ∙ (λ t. noted_commits (summary_in (e t)) (map id_of (first t))) in
-    let new = (λ t. desk_with (numbers t) (e t).rooms (e t).log (e t).old_errors) ∙ desk-committed a k sound in
-    inl (ap CommittedIs (count ∙ sym (length-take k (tentative a))) ∙ ap (λ (s : After). s.reply) (sym step), new ∙ ap (λ (s : After). desk_of s.replica) (sym step))
+    let writes = next_writes a k d c.next_commits.result.0.now sound e c.next_commits.ensures.writes in
+    let numbers = numbers_after a k i.summary c.in_ok-summary.summary c.next_commits.result.0.now sound (ap summary_in e) writes c.in_ok-summary.ensures.numbers in
+    let new = committed_is a k d c.in_ok-summary.summary sound e numbers in
+    inl (ap (λ ws. CommittedIs (length ws)) writes ∙ ap (λ (s : After). s.reply) (sym step), new ∙ ap (λ (s : After). desk_of s.replica) (sym step))
+
+pub returns-clause-change : goal.returns-clause-change
+returns-clause-change c = λ a sound stands.
+    let i = c.self.inside in
+    let k = c.args.k in
+    let d = desk_with i.summary i.rooms.items i.log i.old_errors.items in
+    let e = c.self.view_is ∙ stands in
+    let next = c.in_ok-summary.summary in
+    let writes = next_writes a k d c.next_commits.result.0.now sound e c.next_commits.ensures.writes in
+    let rows = next_rows a k d c.next_commits.result.1.now sound e c.next_commits.ensures.rows in
+    let numbers = numbers_after a k i.summary next c.next_commits.result.0.now sound (ap summary_in e) writes c.in_ok-summary.ensures.numbers in
+    commit_turns a k c.args.self.now (desk_with next i.rooms.items i.log i.old_errors.items) i.summary next c.next_commits.result.0.now c.next_commits.result.1.now c.in_ok-summary.change sound stands (committed_is a k d next sound e numbers) (ap summary_in e) numbers writes rows c.in_ok-summary.ensures.change

@@ -1,21 +1,19 @@
-use Rattle.std.proofs.Common.{◌≡◌, ◌+◌, ◌<◌, arith, Bool, true, List, Ok, Err, ap, sym, refl, ◌∙◌, subst, inl, inr, IsTrue}
+use Rattle.std.proofs.Common.{◌≡◌, Ok, Err, true, ap, sym, ◌∙◌, subst, inl, inr, IsTrue}
 use Rattle.std.specs.Prelude.{bytes_eq}
 use Rattle.std.specs.List.{list_any}
 use Rattle.std.proofs.lemmas.Result.{err_from_is_err_and}
-use Rattle.mr_model.specs.Writes.{Id, Stamp, Write, id_of, is_write}
-use Rattle.mr_model.specs.Requests.{Request, is_request, stamped}
-use Rattle.mr_model.specs.Replica.{Replica, clock_of, knows_room, add_write}
-use Rattle.mr_model.specs.Replies.{Reply, Refused}
-use Rattle.mr_model.specs.Step.{After, next_stamp}
-use Rattle.mr_base.specs.Refusals.{refusal_of}
-use Rattle.mr_base.specs.declared.refusals.Refusal.{Refusal}
-use Rattle.mr_replica.specs.Log.{KeptLog, pushed}
-use Rattle.mr_replica.specs.Summary.{summary_of, stamp_next, noted_write}
-use Rattle.mr_replica.specs.declared.summary.Summary.{Summary}
-use Rattle.mr_replica.specs.Desk.{TakesStep, DeskView, desk_of, reply_with, StandsFor}
+use Rattle.mr_model.specs.Writes.{Id}
+use Rattle.mr_model.specs.Requests.{Request, is_request}
+use Rattle.mr_model.specs.Replica.{Replica, IsReplica, knows_room}
+use Rattle.mr_model.specs.Step.{After}
+use Rattle.mr_replica.specs.Change.{ChangeView}
+use Rattle.mr_replica.specs.Log.{pushed}
+use Rattle.mr_replica.specs.Summary.{noted_write, stamp_next}
+use Rattle.mr_replica.specs.Desk.{DeskView, desk_of, StandsFor, reply_with}
 use Rattle.mr_replica.specs.Steps.{submit_request, outcome_in}
-use Rattle.mr_replica.proofs.Desks.{summary_in, desk_with, own_server}
-use Rattle.mr_replica.proofs.Submitting.{Submits, submits, desk-submitted, submitted_is_next}
+use Rattle.mr_replica.proofs.Desks.{summary_in, desk_with}
+use Rattle.mr_replica.proofs.Submitting.{Submits, submits}
+use Rattle.mr_replica.proofs.SubmittedRows.{Submitted, submitted}
 use Rattle.mr_replica.proofs.desk.Desk.submit.Goals as goal
 
 pub returns-in_err-stamp-clause-step : goal.returns-in_err-stamp-clause-step
@@ -23,42 +21,50 @@ returns-in_err-stamp-clause-step c = λ a sound stands.
     let p = err_from_is_err_and c.from_residual.result c.from_residual.ensures.1 in
     let q = c.args.request in
     let e = c.self.view_is ∙ stands in
-    let request = c.request.view_is in
     let rooms = c.deref.ensures.value ∙ ap (λ (d : DeskView). d.rooms) e in
-    let known : knows_room a c.args.request.room ≡ true = sym (λ t. list_any (bytes_eq (request t).room) (rooms t)) ∙ sym c.is_known.ensures ∙ c.if-not-is_known.false in
+    let known : knows_room a q.room ≡ true = sym (λ t. list_any (bytes_eq (c.request.view_is t).room) (rooms t)) ∙ sym c.is_known.ensures ∙ c.if-not-is_known.false in
     let stamp = sym (ap stamp_next (ap summary_in e)) ∙ sym c.next_stamp.ensures ∙ c.in_err-stamp.was in
-    let step = subst (Submits a c.args.request) stamp (submits a c.args.request sound known) in
+    let step = subst (Submits a q) stamp (submits a q sound known) in
     let answer = p.1 ∙ ap Err p.2 in
     inl (
-      ap (reply_with (outcome_in q (submit_request q a).replica)) answer ∙ ap (λ (s : After). s.reply) (sym step),
+      ap (reply_with (λ (done : Id × ChangeView). outcome_in q (submit_request q a).replica done.0)) answer ∙ ap (λ (s : After). s.reply) (sym step),
       stands ∙ ap (λ (s : After). desk_of s.replica) (sym step),
     )
+
+pub returns-in_err-change-clause-step : goal.returns-in_err-change-clause-step
+returns-in_err-change-clause-step c = λ a sound stands.
+    let p = err_from_is_err_and c.from_residual-in_err-change.result c.from_residual-in_err-change.ensures.1 in
+    inr (p.1 ∙ ap Err (p.2 ∙ c.in_err-change.ensures.only), λ _. c.args.self.now)
 
 pub returns-in_err-push-clause-step : goal.returns-in_err-push-clause-step
 returns-in_err-push-clause-step c = λ a sound stands.
     let p = err_from_is_err_and c.from_residual-in_err-push.result c.from_residual-in_err-push.ensures.1 in
     inr (p.1 ∙ ap Err (p.2 ∙ c.in_err-push.ensures.only), ap (λ l. desk_with c.self.inside.summary c.self.inside.rooms.items l c.self.inside.old_errors.items) c.in_err-push.ensures.err ∙ c.self.view_is)
 
-pub returns-clause-step : goal.returns-clause-step
-returns-clause-step c = λ a sound stands.
-    let i = c.self.inside in
+-- what is owed where the request is accepted
+accepted : (c : goal.After-id) (a : Replica) → IsReplica a → StandsFor c.args.self.now a → Submitted a c.args.request c.id.result c.in_ok-change.change c.args.self.now (desk_with c.note_write.new.self c.self.inside.rooms.items c.push.new.self c.self.inside.old_errors.items)
+accepted c a sound stands =
     let q = c.args.request in
-    let e = c.self.view_is ∙ stands in
+    let d = c.args.self.now in
+    let e = c.self.view_is in
+    let stamp = c.in_ok-stamp.stamp in
+    let s = c.note_write.new.self in
+    let w = c.of_request-write.result in
     let request = c.request.view_is in
-    let is_request : IsTrue (is_request q) = subst (λ (r : Request). IsTrue (is_request r)) request c.request.invariant in
-    let rooms = c.deref.ensures.value ∙ ap (λ (d : DeskView). d.rooms) e in
-    let known : knows_room a q.room ≡ true = sym (λ t. list_any (bytes_eq (request t).room) (rooms t)) ∙ sym c.is_known.ensures ∙ c.if-not-is_known.false in
-    let stamp = sym (ap stamp_next (ap summary_in e)) ∙ sym c.next_stamp.ensures ∙ c.in_ok-stamp.was in
-    let step = subst (Submits a q) stamp (submits a q sound known) in
-    let w : Write = stamped (next_stamp a) q in
-    let next = submitted_is_next a q sound is_request step.2 step.3 in
-    let late : clock_of a < clock_of a + 1 = omega arith in
-    let made : c.of_request.result ≡ w = c.of_request.ensures ∙ ap (λ s. stamped s q) step.0 in
-    let id : c.id.result ≡ id_of w = c.id.ensures ∙ ap (λ (s : Stamp). record { server = s.server; n = s.n }) step.0 in
-    let log : c.push.new.self ≡ pushed (desk_of a).log w = c.in_ok-push.ensures.ok ∙ (λ t. pushed (e t).log (made t)) in
-    let numbers : c.note_write.new.self ≡ noted_write (summary_of a) w.stamp = c.note_write.ensures ∙ (λ t. noted_write (summary_in (e t)) (step.0 t)) in
-    let new = (λ t. desk_with (numbers t) (e t).rooms (log t) (e t).old_errors) ∙ desk-submitted a w sound (own_server a sound) next late known in
-    inl (
-      ap (outcome_in q (submit_request q a).replica) id ∙ ap (λ (s : After). outcome_in q s.replica (id_of w)) step.1 ∙ ap (λ (s : After). s.reply) (sym step.1),
-      new ∙ ap (λ (s : After). desk_of s.replica) (sym step.1),
-    )
+    let within : IsTrue (is_request q) = subst (λ (r : Request). IsTrue (is_request r)) request c.request.invariant in
+    let rooms = c.deref.ensures.value ∙ ap (λ (v : DeskView). v.rooms) e in
+    let known : list_any (bytes_eq q.room) d.rooms ≡ true = sym (λ t. list_any (bytes_eq (request t).room) (rooms t)) ∙ sym c.is_known.ensures ∙ c.if-not-is_known.false in
+    let next : stamp_next (summary_in d) ≡ Ok stamp = sym (ap (λ v. stamp_next (summary_in v)) e) ∙ sym c.next_stamp.ensures ∙ c.in_ok-stamp.was in
+    let noted : s ≡ noted_write (summary_in d) stamp = c.note_write.ensures ∙ ap (λ v. noted_write (summary_in v) stamp) e in
+    let log : c.push.new.self ≡ pushed d.log w = c.in_ok-push.ensures.ok ∙ ap (λ (v : DeskView). pushed v.log w) e in
+    submitted a q d (desk_with s c.self.inside.rooms.items c.push.new.self c.self.inside.old_errors.items) stamp w s c.id.result c.in_ok-change.change sound stands within known next c.of_request-write.ensures noted c.id.ensures
+    c.in_ok-change.ensures.change (λ t. desk_with s (e t).rooms (log t) (e t).old_errors)
+
+pub returns-clause-step : goal.returns-clause-step
+returns-clause-step c = λ a sound stands. let done = accepted c a sound stands in inl (done.step, done.stands)
+
+pub returns-clause-change : goal.returns-clause-change
+returns-clause-change c = λ a sound stands. (accepted c a sound stands).turns
+
+pub returns-clause-told : goal.returns-clause-told
+returns-clause-told c = λ a sound stands. (accepted c a sound stands).tells

@@ -1,0 +1,10 @@
+use Rattle.std.proofs.Common.{rules}
+use Rattle.std.proofs.lemmas.List.Sorted.{answers_always}
+use Rattle.mr_replica.specs.declared.kept_rows.KeptRow.{KeptRow}
+use Rattle.mr_replica.specs.KeptRows.{run_place}
+use Rattle.mr_replica.specs.SoundLog.{is_run_before}
+use Rattle.mr_replica.proofs.Rising.{rise_from}
+use Rattle.mr_replica.proofs.sound_log.are_rising.Goals as goal
+
+pub returns : goal.returns
+returns c = rise_from is_run_before run_place c.args.rows.now c.is_sorted_by.result (c.is_sorted_by.ensures.cases (λ (x y : KeptRow). is_run_before (run_place x) (run_place y)) (answers_always _ _ _ (λ f a r f' k. search rules)))

@@ -1,0 +1,34 @@
+ghost use Rattle.std.specs.Prelude.{◌≡◌, ◌+◌, ◌<◌, ◌^◌, length, IfOk, IfErr};
+ghost use Rattle.mr_replica.specs.Written.{meta_of, changed_tallies as rows_changed, written};
+
+use crate::vector::changed_tallies;
+use crate::written::written;
+use crate::{Change, Desk, Summary};
+use mr_base::{Refusal, RoomName, Write};
+use mr_replay::UndoRow;
+
+impl Desk {
+    /// The change to a desk of those numbers, with these rooms more, where these writes, with what undoes each, are the
+    /// kept ones from that place on.
+    pub(crate) fn change_to(
+        &self,
+        summary: &Summary,
+        rooms: Vec<RoomName>,
+        place: usize,
+        writes: &[Write],
+        rows: &[UndoRow],
+    ) -> Result<Change, Refusal>
+        requires { length writes.now ≡ length rows.now }
+        ensures change { IfOk result (λ change. self.now.dropped + 1 + place + length writes.now < 2 ^ 64
+            → change ≡ written (meta_of summary.now) rooms.items (rows_changed self.now.tallies summary.now.tallies) summary.now.commits (self.now.dropped + 1 + place) writes.now rows.now) }
+        ensures only { IfErr result (λ e. e ≡ Refusal.OutOfMemory) }
+    {
+        let vector = changed_tallies(self.alloc, &self.summary, summary)?;
+        let first = self
+            .summary
+            .dropped
+            .saturating_add(1)
+            .saturating_add(place as u64);
+        written(self.alloc, summary, rooms, vector, first, writes, rows)
+    }
+}

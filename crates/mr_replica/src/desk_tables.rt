@@ -1,0 +1,117 @@
+ghost use Rattle.std.specs.Prelude.{◌≡◌, ◌⊎◌, IfOk, IfErr, IsTrue};
+ghost use Rattle.std.specs.List.{All};
+ghost use Rattle.mr_model.specs.Replica.{Replica, IsReplica};
+ghost use Rattle.mr_model.specs.Tables.{tables_of};
+ghost use Rattle.mr_replica.specs.Desk.{desk_of, StandsFor, IsWithinLimits};
+ghost use Rattle.mr_replica.specs.SoundLog.{IsOfSoundRows, is_on_board};
+ghost use Rattle.mr_replica.specs.SoundRows.{AreSound};
+ghost use Rattle.mr_replica.specs.Summary.{summary_of as summary_of_replica, IsWithin};
+
+use crate::boards::board_of;
+use crate::kept_rows::log_of;
+use crate::old_errors::old_errors_in;
+use crate::rooms::copies_of;
+use crate::sound_log::are_booked;
+use crate::sound_rows::are_sound;
+use crate::vector::summary_of;
+use crate::{Desk, Log, Summary, Tables};
+use mr_base::Refusal;
+use std::alloc::Global;
+
+impl Desk {
+    /// The desk that has these tables. Tables that stand for no replica are not believed: rows that break their limits, or
+    /// that contradict each other, are refused as the store's.
+    pub fn from_tables(alloc: Global, tables: &Tables) -> Result<Desk, Refusal>
+        ensures desk { (a : Replica) → IsReplica a → tables.now ≡ tables_of a → IfOk result (λ desk. StandsFor desk a) }
+        ensures only { (a : Replica) → IsReplica a → tables.now ≡ tables_of a → IfErr result (λ e. e ≡ Refusal.OutOfMemory) }
+        ensures within { IfOk result IsWithinLimits }
+        ensures sound { IfOk result (λ desk. AreSound tables.now desk.commits desk.tallies) }
+        ensures kept { IfOk result (λ desk. IsOfSoundRows desk.commits desk.dropped desk.log) }
+        ensures booked { IfOk result (λ desk. All (λ row. IsTrue (is_on_board desk.log.board row)) tables.now.booking) }
+        ensures cause { IfErr result (λ e. (e ≡ Refusal.OutOfMemory) ⊎ (e ≡ Refusal.Store)) }
+    {
+        match desk_told(alloc, tables) {
+            Ok(desk) => Ok(desk),
+            Err(refusal) => Err(of_store(refusal)),
+        }
+    }
+}
+
+/// What a refusal of a row's part is told as: the store's, but for want of memory.
+fn of_store(refusal: Refusal) -> Refusal
+    ensures memory { refusal ≡ Refusal.OutOfMemory → result ≡ Refusal.OutOfMemory }
+    ensures cause { (result ≡ Refusal.OutOfMemory) ⊎ (result ≡ Refusal.Store) }
+{
+    match refusal {
+        Refusal::OutOfMemory => Refusal::OutOfMemory,
+        _ => Refusal::Store,
+    }
+}
+
+/// The desk that the tables tell, where its numbers are within the limits of positions and its rows agree with each other.
+fn desk_told(alloc: Global, tables: &Tables) -> Result<Desk, Refusal>
+    ensures desk { (a : Replica) → IsReplica a → tables.now ≡ tables_of a → IfOk result (λ desk. StandsFor desk a) }
+    ensures only { (a : Replica) → IsReplica a → tables.now ≡ tables_of a → IfErr result (λ e. e ≡ Refusal.OutOfMemory) }
+    ensures within { IfOk result IsWithinLimits }
+    ensures sound { IfOk result (λ desk. AreSound tables.now desk.commits desk.tallies) }
+    ensures kept { IfOk result (λ desk. IsOfSoundRows desk.commits desk.dropped desk.log) }
+    ensures booked { IfOk result (λ desk. All (λ row. IsTrue (is_on_board desk.log.board row)) tables.now.booking) }
+{
+    let summary = summary_of(tables);
+    if !summary.is_within() {
+        return Err(Refusal::Store);
+    }
+    if !are_sound(tables, &summary) {
+        return Err(Refusal::Store);
+    }
+    match log_told(alloc, tables, &summary) {
+        Ok(log) => desk_with(alloc, tables, summary, log),
+        Err(refusal) => Err(refusal),
+    }
+}
+
+/// The desk with these numbers and this log, and what else the tables tell.
+fn desk_with(alloc: Global, tables: &Tables, summary: Summary, log: Log) -> Result<Desk, Refusal>
+    requires { IsWithin summary }
+    ensures desk { (a : Replica) → IsReplica a → tables.now ≡ tables_of a → summary ≡ summary_of_replica a → log ≡ (desk_of a).log
+        → IfOk result (λ desk. StandsFor desk a) }
+    ensures only { (a : Replica) → IsReplica a → tables.now ≡ tables_of a → summary ≡ summary_of_replica a
+        → IfErr result (λ e. e ≡ Refusal.OutOfMemory) }
+    ensures within { IfOk result IsWithinLimits }
+    ensures numbers { IfOk result (λ desk. (desk.commits ≡ summary.commits) × (desk.dropped ≡ summary.dropped) × (desk.tallies ≡ summary.tallies)) }
+    ensures log { IfOk result (λ desk. desk.log ≡ log) }
+{
+    let rooms = match copies_of(alloc, &tables.room) {
+        Ok(rooms) => rooms,
+        Err(refusal) => return Err(refusal),
+    };
+    match old_errors_in(alloc, &tables.errorlog, summary.dropped) {
+        Ok(old_errors) => Ok(Desk {
+            alloc,
+            summary,
+            rooms,
+            log,
+            old_errors,
+        }),
+        Err(refusal) => Err(refusal),
+    }
+}
+
+/// The kept log, with the board of all rows.
+fn log_told(alloc: Global, tables: &Tables, summary: &Summary) -> Result<Log, Refusal>
+    ensures log { (a : Replica) → IsReplica a → tables.now ≡ tables_of a → IfOk result (λ log. log ≡ (desk_of a).log) }
+    ensures only { (a : Replica) → IsReplica a → tables.now ≡ tables_of a → summary.now ≡ summary_of_replica a → IfErr result (λ e. e ≡ Refusal.OutOfMemory) }
+    ensures sound { IfOk result (λ log. IsOfSoundRows summary.now.commits summary.now.dropped log) }
+    ensures booked { IfOk result (λ log. All (λ row. IsTrue (is_on_board log.board row)) tables.now.booking) }
+{
+    match board_of(alloc, tables) {
+        Ok(board) => {
+            if are_booked(&tables.booking, &board) {
+                log_of(alloc, tables, summary, board)
+            } else {
+                Err(Refusal::Store)
+            }
+        }
+        Err(refusal) => Err(refusal),
+    }
+}

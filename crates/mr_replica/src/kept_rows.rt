@@ -1,0 +1,149 @@
+ghost use Rattle.std.specs.Prelude.{◌≡◌, ℕ, Ok, IfOk, IfErr, IsTrue, map};
+ghost use Rattle.std.specs.List.Sorted.{IsPermutation, IsSortedByKey};
+ghost use Rattle.mr_model.specs.Writes.{Write as WriteOfRoom, is_write};
+ghost use Rattle.mr_model.specs.Replay.{Place};
+ghost use Rattle.mr_model.specs.Replica.{Replica, IsReplica};
+ghost use Rattle.mr_model.specs.Tables.{kept, log_row, undo_row, tables_of};
+ghost use Rattle.mr_base.specs.Answers.{OrOutOfMemory};
+ghost use Rattle.mr_replica.specs.Desk.{desk_of};
+ghost use Rattle.mr_replica.specs.Rows.{log_row_with};
+ghost use Rattle.mr_replica.specs.Summary.{summary_of};
+ghost use Rattle.mr_replica.specs.SoundLog.{IsOfSoundRows};
+ghost use Rattle.mr_replica.specs.KeptRows.{kept_row_with, kept_row as kept_row_of, run_place, run_cmp};
+
+use crate::reading::write_of;
+use crate::sound_log::is_log_sound;
+use crate::{Log, LogRow, Summary, Tables, WriteUndoRow};
+use mr_base::{Refusal, ServerId, Write};
+use mr_replay::{Board, UndoRow};
+use std::alloc::Global;
+
+/// A kept write as `write_log` and `undo` tell it. `seq` is its commit number, 0 where it is tentative.
+#[derive(Drop)]
+pub struct KeptRow {
+    pub write: Write,
+    pub undo: UndoRow,
+    pub seq: u64,
+}
+
+/// Where a kept write stands in the order of execution.
+#[derive(Clone, Copy, PartialEq, Eq, PartialOrd, Ord)]
+pub struct RunPlace {
+    is_tentative: bool,
+    seq: u64,
+    time: u64,
+    server: ServerId,
+}
+
+impl KeptRow {
+    /// Its place in the order of execution.
+    pub(crate) fn place(&self) -> RunPlace
+        ensures { result ≡ run_place self.now }
+    {
+        let stamp = self.write.stamp;
+        RunPlace {
+            is_tentative: self.seq == 0,
+            seq: self.seq,
+            time: stamp.time,
+            server: stamp.server,
+        }
+    }
+}
+
+/// The log that the tables tell: its rows sorted, and this board. Refused where rows are of no write, not in pairs, or
+/// contradict each other or the board.
+pub(crate) fn log_of(
+    alloc: Global,
+    tables: &Tables,
+    summary: &Summary,
+    board: Board,
+) -> Result<Log, Refusal>
+    ensures log { (a : Replica) → IsReplica a → tables.now ≡ tables_of a → board ≡ (desk_of a).log.board → IfOk result (λ log. log ≡ (desk_of a).log) }
+    ensures only { (a : Replica) → IsReplica a → tables.now ≡ tables_of a → summary.now ≡ summary_of a → board ≡ (desk_of a).log.board
+        → IfErr result (λ e. e ≡ Refusal.OutOfMemory) }
+    ensures sound { IfOk result (λ log. IsOfSoundRows summary.now.commits summary.now.dropped log) }
+    ensures board { IfOk result (λ log. log.board ≡ board) }
+{
+    match kept_rows(alloc, &tables.write_log, &tables.undo) {
+        Ok(rows) => log_with(alloc, rows, summary, board),
+        Err(refusal) => Err(refusal),
+    }
+}
+
+fn log_with(
+    alloc: Global,
+    mut rows: Vec<KeptRow>,
+    summary: &Summary,
+    board: Board,
+) -> Result<Log, Refusal>
+    ensures log { (a : Replica) → IsReplica a → rows.items ≡ map (kept_row_of a) (kept a) → board ≡ (desk_of a).log.board
+        → IfOk result (λ log. log ≡ (desk_of a).log) }
+    ensures only { (a : Replica) → IsReplica a → rows.items ≡ map (kept_row_of a) (kept a) → summary.now ≡ summary_of a → board ≡ (desk_of a).log.board
+        → IfErr result (λ e. e ≡ Refusal.OutOfMemory) }
+    ensures sound { IfOk result (λ log. IsOfSoundRows summary.now.commits summary.now.dropped log) }
+    ensures board { IfOk result (λ log. log.board ≡ board) }
+{
+    sort_rows(&mut rows);
+    if !is_log_sound(&rows, summary, &board) {
+        return Err(Refusal::Store);
+    }
+    Log::of_rows(alloc, rows, board)
+}
+
+/// Puts the rows into the order of execution.
+fn sort_rows(rows: &mut Vec<KeptRow>)
+    ensures moved { IsPermutation rows.old.items rows.new.items }
+    ensures sorted { IsSortedByKey run_place run_cmp rows.new.items }
+{
+    rows.sort_unstable_by_key(|row| row.place());
+}
+
+/// The kept writes of the rows of `write_log` and of `undo`, in the order of these.
+fn kept_rows(
+    alloc: Global,
+    logs: &[LogRow],
+    undos: &[WriteUndoRow],
+) -> Result<Vec<KeptRow>, Refusal>
+    ensures rows { (a : Replica) → IsReplica a → logs.now ≡ map (log_row a) (kept a) → undos.now ≡ map (undo_row a) (kept a)
+        → IfOk result (λ rows. rows.items ≡ map (kept_row_of a) (kept a)) }
+    ensures only { (a : Replica) → IsReplica a → logs.now ≡ map (log_row a) (kept a) → undos.now ≡ map (undo_row a) (kept a)
+        → IfErr result (λ e. e ≡ Refusal.OutOfMemory) }
+{
+    if logs.len() != undos.len() {
+        return Err(Refusal::Store);
+    }
+    let mut rows = Vec::new(alloc);
+    for (k, log) in logs.iter().enumerate() {
+        match kept_row(alloc, log, undos[k]) {
+            Ok(row) => rows.push(row)?,
+            Err(refusal) => return Err(refusal),
+        }
+    }
+    Ok(rows)
+}
+
+/// The kept write of a row of `write_log` and a row of `undo`. Refused where these are of different writes, or of none.
+fn kept_row(alloc: Global, log: &LogRow, undo: WriteUndoRow) -> Result<KeptRow, Refusal>
+    ensures read { (w : WriteOfRoom) (seq : ℕ) (place : Place) → IsTrue (is_write w) → log.now ≡ log_row_with w seq
+        → undo ≡ record { server = w.stamp.server; n = w.stamp.n; place = place } → OrOutOfMemory result (Ok (kept_row_with w seq place)) }
+{
+    match write_of(alloc, log) {
+        Ok(write) => kept_with(write, undo, log.seq),
+        Err(refusal) => Err(refusal),
+    }
+}
+
+fn kept_with(write: Write, undo: WriteUndoRow, seq: u64) -> Result<KeptRow, Refusal>
+    ensures { (place : Place) → undo ≡ record { server = write.stamp.server; n = write.stamp.n; place = place }
+        → result ≡ Ok (kept_row_with write seq place) }
+{
+    let id = write.stamp.id();
+    if undo.server != id.server || undo.n != id.n {
+        return Err(Refusal::Store);
+    }
+    let undo = UndoRow {
+        id,
+        place: undo.place,
+    };
+    Ok(KeptRow { write, undo, seq })
+}
