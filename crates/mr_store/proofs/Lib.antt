@@ -1,0 +1,2 @@
+pub mod CalendarOrder
+pub mod Places

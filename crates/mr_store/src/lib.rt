@@ -1,0 +1,19 @@
+//! Keepers: what holds a replica's tables between its commands.
+//!
+//! It stands on `mr_replica`, whose desks a keeper loads and whose changes it makes; services stand above it, over any keeper.
+//! The contract is that of the trait `Keeper`, which sees a keeper as plain tables.
+#![tactic(auto)]
+
+mod keeper;
+mod lists;
+mod order;
+mod queries;
+mod rows;
+mod table_rows;
+#[cfg(test)]
+mod tests;
+mod tripped;
+
+pub use keeper::{Fault, Keeper, PlaceRow};
+pub use lists::ListKeeper;
+pub use tripped::Tripped;

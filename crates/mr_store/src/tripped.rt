@@ -1,0 +1,102 @@
+ghost use Rattle.std.specs.Prelude.{◌≡◌, ◌-◌, ◌==◌, false, not, ◌||◌, ◌&&◌};
+ghost use Rattle.mr_store.specs.Kept.{failures_for};
+
+use crate::{Fault, Keeper, PlaceRow};
+use mr_base::{Day, RoomName, WriteId};
+use mr_replica::{BookingRow, Change, Desk, ErrorRow};
+
+/// A keeper for tests, which fails once: it passes `left` calls on, answers the fault to the next one without passing it on,
+/// and passes on all others.
+#[derive(Drop)]
+pub struct Tripped<K: Keeper> {
+    keeper: K,
+    left: u64,
+    fault: Fault,
+    is_over: bool,
+}
+
+impl<K: Keeper> Tripped<K> {
+    /// This keeper, which is to fail after so many calls.
+    pub fn new(keeper: K, left: u64, fault: Fault) -> Tripped<K>
+        ensures { result ≡ record { keeper = keeper; left = left; fault = fault; is_over = false } }
+    {
+        Tripped {
+            keeper,
+            left,
+            fault,
+            is_over: false,
+        }
+    }
+
+    /// Whether this is the call that fails.
+    fn trips(&mut self) -> bool
+        ensures at { result ≡ (not self.old.is_over && self.old.left == 0) }
+        ensures once { self.new.is_over ≡ (self.old.is_over || result) }
+        ensures left { self.new.left ≡ self.old.left - 1 }
+        ensures same { (self.new.keeper ≡ self.old.keeper) × (self.new.fault ≡ self.old.fault) }
+    {
+        let trips = !self.is_over && self.left == 0;
+        self.is_over |= trips;
+        self.left = self.left.saturating_sub(1);
+        trips
+    }
+}
+
+impl<K: Keeper> Keeper for Tripped<K> {
+    ghost use Rattle.std.specs.Prelude.{◌≡◌, if◌then◌else◌};
+    ghost use Rattle.mr_store.specs.Kept.{failures_for};
+
+    ghost tables = { λ k. K.tables k.keeper };
+
+    ghost failures = { λ k. if k.is_over then failures_for k.fault (K.failures k.keeper) else K.failures k.keeper };
+
+    ghost is_clean = { λ k. K.is_clean k.keeper };
+
+    ghost is_open = { λ k. K.is_open k.keeper };
+
+    ghost may_leave = { λ k t. K.may_leave k.keeper t };
+
+    ghost never_fails = { ⊥ };
+
+    fn load(&mut self) -> Result<Desk, Fault> {
+        if self.trips() {
+            return Err(self.fault);
+        }
+        self.keeper.load()
+    }
+
+    fn rooms(&mut self) -> Result<Vec<RoomName>, Fault> {
+        if self.trips() {
+            return Err(self.fault);
+        }
+        self.keeper.rooms()
+    }
+
+    fn bookings(&mut self, room: &RoomName, day: Option<Day>) -> Result<Vec<BookingRow>, Fault> {
+        if self.trips() {
+            return Err(self.fault);
+        }
+        self.keeper.bookings(room, day)
+    }
+
+    fn place_of(&mut self, room: &RoomName, id: WriteId) -> Result<Option<PlaceRow>, Fault> {
+        if self.trips() {
+            return Err(self.fault);
+        }
+        self.keeper.place_of(room, id)
+    }
+
+    fn errors(&mut self, room: &RoomName) -> Result<Vec<ErrorRow>, Fault> {
+        if self.trips() {
+            return Err(self.fault);
+        }
+        self.keeper.errors(room)
+    }
+
+    fn apply(&mut self, change: &Change) -> Result<(), Fault> {
+        if self.trips() {
+            return Err(self.fault);
+        }
+        self.keeper.apply(change)
+    }
+}
