@@ -1,0 +1,225 @@
+-- What the keeper's queries answer of the tables.
+use Rattle.std.proofs.Common.{◌≡◌, ℕ, Bool, true, false, ◌&&◌, ◌||◌, ◌==◌, cond, if◌then◌else◌, List, [], ◌∷◌, map, filter, inl, inr, Option, Some, None, refl, sym, ap, subst, ◌∙◌, is_lt, is_eq, Ordering, Less, Equal, Greater, arith, get_or, ◌+◌}
+use Rattle.std.specs.Prelude.{bytes_eq, find, nat_lt}
+use Rattle.std.specs.List.Sorted.{IsPermutation, IsSorted}
+use Rattle.std.specs.Ordering.{nat_cmp, ordering_then}
+use Rattle.std.proofs.lemmas.List.Sorted.{IsPermutation-sym, IsPermutation-trans, Contains-permutation}
+use Rattle.sqlite_trees.proofs.ListLemmas.{IsPermutation-filter}
+use Rattle.sqlite_trees.specs.Tree.{Trees}
+use Rattle.sqlite_rules.specs.Lists as rules
+use Rattle.sqlite_rules.proofs.ListLemmas.{has_contained, contains_had}
+use Rattle.mr_model.specs.Texts.{Text}
+use Rattle.mr_model.specs.Calendar.{Date, same_date, date_before}
+use Rattle.mr_model.specs.Writes.{Id, same_id}
+use Rattle.mr_model.specs.Replica.{is_among}
+use Rattle.mr_model.specs.Tables.{MetaRow, BookingRow, ErrorRow, Tables}
+use Rattle.mr_model.specs.Queries.{booking_id, error_id}
+use Rattle.mr_model.specs.Dropped.{Has}
+use Rattle.mr_model.proofs.Members.{has_filter, filter_has, find_none, find_one}
+use Rattle.mr_replica.specs.Change.{id_before}
+use Rattle.mr_replica.proofs.Putting.{OneAKey, one_a_key, id_order, number_order}
+use Rattle.mr_store.specs.Picked.{is_asked, picked_bookings, booking_before, AreBookings, find_booking, find_error, IsPlaceOf}
+use Rattle.mr_sql.specs.Kept.{first_meta, tables_in}
+use Rattle.mr_sql.specs.Cells.{meta_in, booking_in, error_in}
+use Rattle.mr_sql.proofs.KeyOrder.{ordered_in_order}
+use Rattle.mr_sql.proofs.ValueLemmas.{among_one}
+use Rattle.mr_store.specs.declared.keeper.PlaceRow.TheVariants.{Booked, Logged}
+use Rattle.mr_sql.specs.Reads.{metas_in, date_cmp, time_cmp, first_of, AreRowsOf, logged_in, chosen}
+
+-- ---- a calendar
+
+asked_both : (day : Option Date) (room : Text) (rows : List BookingRow)
+    → filter (λ r. is_asked day r.day) (filter (λ r. bytes_eq r.room room && true) rows) ≡ filter (λ r. bytes_eq r.room room && is_asked day r.day) rows
+asked_both day room [] = refl
+asked_both day room (r ∷ rows) = go (bytes_eq r.room room) (asked_both day room rows)
+  where
+    go : (b : Bool) → filter (λ r. is_asked day r.day) (filter (λ r. bytes_eq r.room room && true) rows) ≡ filter (λ r. bytes_eq r.room room && is_asked day r.day) rows
+        → filter (λ r. is_asked day r.day) (cond (b && true) (r ∷ filter (λ r. bytes_eq r.room room && true) rows) (filter (λ r. bytes_eq r.room room && true) rows))
+        ≡ cond (b && is_asked day r.day) (r ∷ filter (λ r. bytes_eq r.room room && is_asked day r.day) rows) (filter (λ r. bytes_eq r.room room && is_asked day r.day) rows)
+    go true ih = ap (λ more. cond (is_asked day r.day) (r ∷ more) more) ih
+    go false ih = ih
+
+lt_then : (o p : Ordering) → is_lt (ordering_then o p) ≡ (is_lt o || (is_eq o && is_lt p))
+lt_then Less p = refl
+lt_then Equal p = refl
+lt_then Greater p = refl
+
+eq_then : (o p : Ordering) → is_eq (ordering_then o p) ≡ (is_eq o && is_eq p)
+eq_then Less p = refl
+eq_then Equal p = refl
+eq_then Greater p = refl
+
+lt_nat : (a b : ℕ) → is_lt (nat_cmp a b) ≡ nat_lt a b
+lt_nat a b = grind (arith)
+
+eq_nat : (a b : ℕ) → is_eq (nat_cmp a b) ≡ (a == b)
+eq_nat a b = grind (arith)
+
+date_lt : (d e : Date) → is_lt (date_cmp d e) ≡ date_before d e
+date_lt d e =
+    rw (
+      lt_then (nat_cmp d.year e.year) (ordering_then (nat_cmp d.month e.month) (nat_cmp d.day e.day)),
+      lt_then (nat_cmp d.month e.month) (nat_cmp d.day e.day),
+      lt_nat d.year e.year,
+      eq_nat d.year e.year,
+      lt_nat d.month e.month,
+      eq_nat d.month e.month,
+      lt_nat d.day e.day,
+    )
+
+date_eq : (d e : Date) → is_eq (date_cmp d e) ≡ same_date d e
+date_eq d e =
+    rw (
+      eq_then (nat_cmp d.year e.year) (ordering_then (nat_cmp d.month e.month) (nat_cmp d.day e.day)),
+      eq_then (nat_cmp d.month e.month) (nat_cmp d.day e.day),
+      eq_nat d.year e.year,
+      eq_nat d.month e.month,
+      eq_nat d.day e.day,
+    )
+    (regrouped (d.year == e.year) (d.month == e.month) (d.day == e.day))
+  where
+    regrouped : (x y z : Bool) → (x && (y && z)) ≡ ((x && y) && z)
+    regrouped true y z = refl
+    regrouped false y z = refl
+
+same_order : (a b : BookingRow) → is_lt (time_cmp a b) ≡ booking_before a b
+same_order a b =
+    let n = nat_cmp a.n b.n in
+    let server = nat_cmp a.server b.server in
+    let start = nat_cmp a.start b.start in
+    rw (
+      lt_then (date_cmp a.day b.day) (ordering_then start (ordering_then server n)),
+      lt_then start (ordering_then server n),
+      lt_then server n,
+      date_lt a.day b.day,
+      date_eq a.day b.day,
+      lt_nat a.start b.start,
+      eq_nat a.start b.start,
+      lt_nat a.server b.server,
+      eq_nat a.server b.server,
+      lt_nat a.n b.n,
+    )
+
+pub calendar_is : (room : Text) (day : Option Date) (t : Tables) (shown out : List BookingRow) → IsPermutation (picked_bookings room None t) shown → IsPermutation (filter (λ r. is_asked day r.day) shown) out → IsSorted time_cmp out
+    → AreBookings room day t out
+calendar_is room day t shown out read same sorted = (
+  subst (λ xs. IsPermutation xs out) (asked_both day room t.booking) (IsPermutation-trans _ _ _ (IsPermutation-filter (λ r. is_asked day r.day) _ _ read) same),
+  λ k d low high. sym (same_order (get_or out (k + 1) d) (get_or out k d)) ∙ sorted k d low high,
+)
+
+-- ---- the row of an id
+
+has_of : {X : Type 0} (xs : List X) (x : X) → rules.Has xs x → Has x xs
+has_of [] x h = absurd h
+has_of (y ∷ xs) x (inl e) = inl e
+has_of (y ∷ xs) x (inr h) = inr (has_of xs x h)
+
+of_has : {X : Type 0} (xs : List X) (x : X) → Has x xs → rules.Has xs x
+of_has [] x h = absurd h
+of_has (y ∷ xs) x (inl e) = inl e
+of_has (y ∷ xs) x (inr h) = inr (of_has xs x h)
+
+has_moved : {X : Type 0} (xs ys : List X) (x : X) → IsPermutation xs ys → Has x xs → Has x ys
+has_moved xs ys x same h = has_of ys x (has_contained ys x (Contains-permutation xs ys x same (contains_had xs x (of_has xs x h))))
+
+or_false : (b : Bool) → (b || false) ≡ b
+or_false true = refl
+or_false false = refl
+
+-- the first of the rows that a query shows of an id is the one that the table has
+found : {R : Type 0} (key : R → Id) (id : Id) (table shown : List R) → OneAKey key table → IsPermutation (filter (λ r. is_among (key r) (id ∷ [])) table) shown → first_of shown ≡ find (λ r. same_id (key r) id) table
+found {R} key id table [] one same = sym (find_none (λ r. same_id (key r) id) table (λ x h. fails x h (same_id (key x) id) refl))
+  where
+    fails : (x : R) → Has x table → (b : Bool) → same_id (key x) id ≡ b → same_id (key x) id ≡ false
+    fails x h false e = e
+    fails x h true e = absurd (has_moved _ [] x same (has_filter (λ r. is_among (key r) (id ∷ [])) x table (or_false (same_id (key x) id) ∙ e) h))
+found {R} key id table (r ∷ more) one same =
+    let there = filter_has (λ r. is_among (key r) (id ∷ [])) r table (has_moved _ _ r (IsPermutation-sym _ _ same) (inl refl)) in
+    let is = among_one (key r) id there.1 in
+    sym (find_one (λ r. same_id (key r) id) r table there.0 (sym (or_false (same_id (key r) id)) ∙ there.1)
+    (λ y h e. one y r h there.0 (among_one (key y) id (or_false (same_id (key y) id) ∙ e) ∙ sym is)))
+
+bookings_apart : (trees : Trees) → OneAKey booking_id (tables_in trees).booking
+unfolding tables_in
+bookings_apart trees = one_a_key id_before booking_id id_order _ (ordered_in_order id_before booking_id id_order (map booking_in (trees 10)))
+
+errors_apart : (trees : Trees) → OneAKey error_id (tables_in trees).errorlog
+unfolding tables_in
+errors_apart trees = one_a_key id_before error_id id_order _ (ordered_in_order id_before error_id id_order (map error_in (trees 12)))
+
+pub found_booking : (id : Id) (trees : Trees) (shown : List BookingRow) → IsPermutation (filter (λ (r : BookingRow). is_among (booking_id r) (id ∷ [])) (tables_in trees).booking) shown
+    → first_of shown ≡ find (λ r. same_id (booking_id r) id) (tables_in trees).booking
+found_booking id trees shown = found booking_id id (tables_in trees).booking shown (bookings_apart trees)
+
+pub found_error : (id : Id) (trees : Trees) (shown : List ErrorRow) → IsPermutation (filter (λ (r : ErrorRow). is_among (error_id r) (id ∷ [])) (tables_in trees).errorlog) shown
+    → first_of shown ≡ find (λ r. same_id (error_id r) id) (tables_in trees).errorlog
+found_error id trees shown = found error_id id (tables_in trees).errorlog shown (errors_apart trees)
+
+-- ---- the one of the two rows that is of the room
+
+abbrev keep : {X : Type 0} → (X → Bool) → Option X → Option X
+keep q None = None
+keep q (Some x) = if q x then Some x else None
+
+find_both : {X : Type 0} (p q : X → Bool) (xs : List X) → ((x y : X) → Has x xs → Has y xs → p x ≡ true → p y ≡ true → x ≡ y) → find (λ x. p x && q x) xs ≡ keep q (find p xs)
+find_both p q [] one = refl
+find_both {X} p q (x ∷ xs) one = go (p x) refl (find_both p q xs (λ y z h k. one y z (inr h) (inr k)))
+  where
+    none : q x ≡ false → p x ≡ true → find (λ y. p y && q y) xs ≡ None
+    none fails does = find_none (λ y. p y && q y) xs (λ y h. each y h (p y) refl)
+      where
+        each : (y : X) → Has y xs → (b : Bool) → p y ≡ b → (p y && q y) ≡ false
+        each y h false e = rw e
+        each y h true e = rw e (ap q (one y x (inr h) (inl refl) e does) ∙ fails)
+
+    go : (b : Bool) → p x ≡ b → find (λ y. p y && q y) xs ≡ keep q (find p xs) → cond (b && q x) (Some x) (find (λ y. p y && q y) xs) ≡ keep q (cond b (Some x) (find p xs))
+    go false e ih = ih
+    go true e ih = pick (q x) refl
+      where
+        pick : (c : Bool) → q x ≡ c → cond c (Some x) (find (λ y. p y && q y) xs) ≡ cond c (Some x) None
+        pick true f = refl
+        pick false f = none f e
+
+pub chosen_is : (room : Text) (id : Id) (trees : Trees) (booking : Option BookingRow) (error : Option ErrorRow) → AreRowsOf id (tables_in trees) booking error → IsPlaceOf room id (tables_in trees) (chosen room booking error)
+chosen_is room id trees booking error rows = choose booking error (here ∙ ap (keep (λ r. bytes_eq r.room room)) (sym rows.0)) (there ∙ ap (keep (λ r. bytes_eq r.room room)) (sym rows.1))
+  where
+    same_key : {R : Type 0} (key : R → Id) (table : List R) → OneAKey key table → (x y : R) → Has x table → Has y table → same_id (key x) id ≡ true → same_id (key y) id ≡ true → x ≡ y
+    same_key key table one x y h k e f =
+        one x y h k (among_one (key x) id (or_false (same_id (key x) id) ∙ e) ∙ sym (among_one (key y) id (or_false (same_id (key y) id) ∙ f)))
+
+    here : find_booking room id (tables_in trees) ≡ keep (λ r. bytes_eq r.room room) (find (λ r. same_id (booking_id r) id) (tables_in trees).booking)
+    here = find_both (λ r. same_id (booking_id r) id) (λ r. bytes_eq r.room room) (tables_in trees).booking (same_key booking_id (tables_in trees).booking (bookings_apart trees))
+
+    there : find_error room id (tables_in trees) ≡ keep (λ r. bytes_eq r.room room) (find (λ r. same_id (error_id r) id) (tables_in trees).errorlog)
+    there = find_both (λ r. same_id (error_id r) id) (λ r. bytes_eq r.room room) (tables_in trees).errorlog (same_key error_id (tables_in trees).errorlog (errors_apart trees))
+
+    logged : (e : Option ErrorRow) → find_booking room id (tables_in trees) ≡ None → find_error room id (tables_in trees) ≡ keep (λ r. bytes_eq r.room room) e → IsPlaceOf room id (tables_in trees) (logged_in room e)
+    logged None unbooked e = (unbooked, e)
+    logged (Some row) unbooked e = go (bytes_eq row.room room) e
+      where
+        go : (b : Bool) → find_error room id (tables_in trees) ≡ cond b (Some row) None → IsPlaceOf room id (tables_in trees) (cond b (Some (Logged row)) None)
+        go true e = (unbooked, e)
+        go false e = (unbooked, e)
+
+    choose : (b : Option BookingRow) (e : Option ErrorRow) → find_booking room id (tables_in trees) ≡ keep (λ r. bytes_eq r.room room) b → find_error room id (tables_in trees) ≡ keep (λ r. bytes_eq r.room room) e
+        → IsPlaceOf room id (tables_in trees) (chosen room b e)
+    choose None e f g = logged e f g
+    choose (Some row) e f g = go (bytes_eq row.room room) f
+      where
+        go : (b : Bool) → find_booking room id (tables_in trees) ≡ cond b (Some row) None → IsPlaceOf room id (tables_in trees) (cond b (Some (Booked row)) (logged_in room e))
+        go true f = f
+        go false f = logged e f g
+
+-- ---- the row of `meta`
+
+pub meta_is : (trees : Trees) (shown : List MetaRow) (m : MetaRow) → IsPermutation (metas_in trees) shown → first_of shown ≡ Some m → m ≡ (tables_in trees).meta
+unfolding tables_in
+meta_is trees shown m same first = go (metas_in trees) (has_moved shown (metas_in trees) m (IsPermutation-sym _ _ same) (has_first shown first)) (one_a_key nat_lt (λ _. 1) number_order _ (ordered_in_order nat_lt (λ _. 1) number_order (map meta_in (trees 0))))
+  where
+    has_first : (xs : List MetaRow) → first_of xs ≡ Some m → Has m xs
+    has_first [] e = absurd (cc)
+    has_first (x ∷ xs) e = inl (let same : x ≡ m = cc in sym same)
+
+    go : (xs : List MetaRow) → Has m xs → OneAKey {K = ℕ} (λ _. 1) xs → m ≡ first_meta xs
+    go [] h one = absurd h
+    go (x ∷ xs) h one = one m x h (inl refl) refl

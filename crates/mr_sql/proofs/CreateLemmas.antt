@@ -1,0 +1,173 @@
+-- What making the tables does.
+use Rattle.std.proofs.Common.{◌≡◌, ◌⊎◌, inl, inr, ℕ, List, [], ◌∷◌, ◌++◌, Ok, Err, Result, None, OnOk, IsTrue, false, refl, sym, ap, subst, ◌∙◌, arith}
+use Rattle.std.specs.List.{AllByRecursion}
+use Rattle.sqlite_trees.specs.Tree.{Trees}
+use Rattle.sqlite_schema.specs.declared.schema.Table.{Table}
+use Rattle.sqlite_schema.specs.declared.schema.Schema.{Schema}
+use Rattle.sqlite_catalog.specs.Change.{KeepsRows}
+use Rattle.sqlite_tied.specs.Compute.{everything}
+use Rattle.sqlite.specs.Change.{created, next_tree}
+use Rattle.sqlite.specs.Compile.{table_defined_by}
+use Rattle.sqlite.specs.Command.TheVariants.{CreateTable}
+use Rattle.sqlite.specs.declared.error.Error.{Error}
+use Rattle.sqlite.specs.Effect.{Database}
+use Rattle.sqlite.specs.Does.{Tally, lacks_sequence}
+use Rattle.sqlite.specs.Listing.{understood}
+use Rattle.sqlite.specs.State.{State, HasCleanDisk, Survives, Writes, ExecutesInside}
+use Rattle.sqlite.proofs.Callers.{IsPlain, command_of, statement_of, runs_as}
+use Rattle.mr_model.specs.Tables.{MetaRow}
+use Rattle.mr_sql.specs.Schema.{no_schema, with_meta, with_room, with_vector, with_log, with_undo, with_booking, our_schema, meta_text, room_text, vector_text, log_text, undo_text, booking_text, error_text, meta_table, room_table, vector_table, log_table, undo_table, booking_table, error_table}
+use Rattle.mr_sql.specs.Form.{Form, meta_form, room_form, vector_form, log_form, undo_form, booking_form, error_form}
+use Rattle.mr_sql.specs.Kept.{IsHeld, IsOurs, IsStep, first_meta, in_order, tables_in}
+use Rattle.mr_sql.specs.Parts.{put_meta}
+use Rattle.mr_sql.specs.Blank.{IsBlank, IsGrown, Grows, no_tables}
+
+went : {B E R : Type 0} {b : B} {Stops : E → Type 0} → ((stop : E) × Stops stop × (Ok b ≡ Err stop)) ⊎ R → R
+went (inl stopped) = absurd (let e = stopped.2 in cc)
+went (inr on) = on
+
+same_value : {B E : Type 0} {a b : B} → ◌≡◌ {A = Result B E} (Ok a) (Ok b) → a ≡ b
+same_value e = cc
+
+blank_push : (tables : List Table) (table : Table) (old new : Trees) → AllByRecursion (λ (t : Table). old t.tree ≡ []) tables → KeepsRows tables old new → new table.tree ≡ []
+    → AllByRecursion (λ (t : Table). new t.tree ≡ []) (tables ++ table ∷ [])
+blank_push [] table old new blank same empty = (empty, tt)
+blank_push (t ∷ tables) table old new blank same empty = (same.0 ∙ blank.0, blank_push tables table old new blank.1 same.1 empty)
+
+-- a text that makes a table under a schema
+abbrev MakesTable : Schema → List ℕ → Table → Type 0
+MakesTable schema text table =
+    (command_of (understood schema text) ≡ CreateTable) × IsPlain (understood schema text) × (statement_of text (understood schema text) ≡ text) × (table_defined_by text ≡ Ok table)
+    × (lacks_sequence (created schema table) ≡ false)
+
+makes : (schema : Schema) (text : List ℕ) (table : Table) (old new : State) (r : Result ℕ Error) → MakesTable schema text table → IsBlank schema old.now → ExecutesInside 0 text [] old new r
+    → OnOk r (IsGrown (created schema table) old new)
+makes schema text table old new (Err e) fact blank h = tt
+makes schema text table old new (Ok count) fact blank h =
+    let has = blank.0 in
+    let w = subst (λ t. Writes old new None CreateTable t [] count) fact.2 (runs_as text [] old new schema has CreateTable fact.0 fact.1 count h.0) in
+    let all = went w.changed in
+    let first = went all.1 in
+    let made = first.1 in
+    let both : Ok made.table ≡ Ok table = sym made.defined ∙ fact.3 in
+    let same : made.table ≡ table = same_value both in
+    let after : first.0.schema ≡ created schema table = made.is ∙ ap (λ s. created s made.table) has ∙ ap (created schema) same in
+    let plain : lacks_sequence first.0.schema ≡ false = ap lacks_sequence after ∙ fact.4 in
+    let now : new.now ≡ first.0 = ap (λ (p : Tally × Database). p.1) (same_value all.2) ∙ same_value (rw plain at first.2) in
+    let empty : new.now.trees (next_tree schema) ≡ [] = ap (λ (d : Database). d.trees (next_tree schema)) now ∙ subst (λ s. first.0.trees (next_tree s) ≡ []) has made.empty in
+    let others = subst (λ (d : Database). KeepsRows schema.tables old.now.trees d.trees) (sym now) (subst (λ s. KeepsRows s.tables old.now.trees first.0.trees) has made.others) in
+    record {
+      blank = (ap (λ (d : Database). d.schema) now ∙ after, blank_push schema.tables (record table { tree = next_tree schema }) old.now.trees new.now.trees blank.1 others empty);
+      committed = h.1.committed_is;
+      within = h.1.mode;
+    }
+
+meta_made : MakesTable no_schema meta_text meta_table
+unfolding understood everything
+meta_made = (refl, (refl, refl), refl, refl, refl)
+
+pub makes_meta : (old new : State) (r : Result ℕ Error) → IsBlank no_schema old.now → ExecutesInside 0 meta_text [] old new r → OnOk r (IsGrown with_meta old new)
+makes_meta old new r = makes no_schema meta_text meta_table old new r meta_made
+
+room_made : MakesTable with_meta room_text room_table
+unfolding understood everything
+room_made = (refl, (refl, refl), refl, refl, refl)
+
+pub makes_room : (old new : State) (r : Result ℕ Error) → IsBlank with_meta old.now → ExecutesInside 0 room_text [] old new r → OnOk r (IsGrown with_room old new)
+makes_room old new r = makes with_meta room_text room_table old new r room_made
+
+vector_made : MakesTable with_room vector_text vector_table
+unfolding understood everything
+vector_made = (refl, (refl, refl), refl, refl, refl)
+
+pub makes_vector : (old new : State) (r : Result ℕ Error) → IsBlank with_room old.now → ExecutesInside 0 vector_text [] old new r → OnOk r (IsGrown with_vector old new)
+makes_vector old new r = makes with_room vector_text vector_table old new r vector_made
+
+log_made : MakesTable with_vector log_text log_table
+unfolding understood everything
+log_made = (refl, (refl, refl), refl, refl, refl)
+
+pub makes_log : (old new : State) (r : Result ℕ Error) → IsBlank with_vector old.now → ExecutesInside 0 log_text [] old new r → OnOk r (IsGrown with_log old new)
+makes_log old new r = makes with_vector log_text log_table old new r log_made
+
+undo_made : MakesTable with_log undo_text undo_table
+unfolding understood everything
+undo_made = (refl, (refl, refl), refl, refl, refl)
+
+pub makes_undo : (old new : State) (r : Result ℕ Error) → IsBlank with_log old.now → ExecutesInside 0 undo_text [] old new r → OnOk r (IsGrown with_undo old new)
+makes_undo old new r = makes with_log undo_text undo_table old new r undo_made
+
+booking_made : MakesTable with_undo booking_text booking_table
+unfolding understood everything
+booking_made = (refl, (refl, refl), refl, refl, refl)
+
+pub makes_booking : (old new : State) (r : Result ℕ Error) → IsBlank with_undo old.now → ExecutesInside 0 booking_text [] old new r → OnOk r (IsGrown with_booking old new)
+makes_booking old new r = makes with_undo booking_text booking_table old new r booking_made
+
+error_made : MakesTable with_booking error_text error_table
+unfolding understood everything
+error_made = (refl, (refl, refl), refl, refl, refl)
+
+pub makes_error : (old new : State) (r : Result ℕ Error) → IsBlank with_booking old.now → ExecutesInside 0 error_text [] old new r → OnOk r (IsGrown our_schema old new)
+makes_error old new r = makes with_booking error_text error_table old new r error_made
+
+-- one after the other
+pub grows_then : {X : Type 0} (a b c : State) (first second third : Schema) (r : Result X Error) → Survives b c (λ _. ⊥)
+    → (HasCleanDisk b → IsTrue a.in_transaction → IsBlank first a.now → IsGrown second a b) → Grows second third b c r → Grows first third a c r
+grows_then a b c first second third (Err e) s p q clean within blank = tt
+grows_then a b c first second third (Ok x) s p q clean within blank =
+    let less = s.clean in
+    let one = p (omega (arith, less, clean)) within blank in
+    let two = q clean one.within one.blank in
+    record { blank = two.blank; committed = two.committed ∙ one.committed; within = two.within }
+
+-- ---- empty tables are ours
+
+held_none : {R K : Type 0} (f : Form R K) → IsHeld f []
+held_none f = record { shelf = record { rise = tt; keyed = tt }; whole = tt; apart = tt }
+
+blank_ours : (db : Database) → IsBlank our_schema db → IsOurs db
+blank_ours db blank =
+    let rows = blank.1 in
+    record {
+      schema = blank.0;
+      held = record {
+        meta = subst (IsHeld meta_form) (sym rows.0) (held_none meta_form);
+        room = subst (IsHeld room_form) (sym rows.1.0) (held_none room_form);
+        vector = subst (IsHeld vector_form) (sym rows.1.1.0) (held_none vector_form);
+        write_log = subst (IsHeld log_form) (sym rows.1.1.1.0) (held_none log_form);
+        undo = subst (IsHeld undo_form) (sym rows.1.1.1.1.0) (held_none undo_form);
+        booking = subst (IsHeld booking_form) (sym rows.1.1.1.1.1.0) (held_none booking_form);
+        errorlog = subst (IsHeld error_form) (sym rows.1.1.1.1.1.1.0) (held_none error_form);
+      };
+    }
+
+blank_tables : (db : Database) → IsBlank our_schema db → tables_in db.trees ≡ no_tables
+unfolding tables_in
+blank_tables db blank =
+    let rows = blank.1 in
+    let meta = rows.0 in
+    let room = rows.1.0 in
+    let vector = rows.1.1.0 in
+    let log = rows.1.1.1.0 in
+    let undo = rows.1.1.1.1.0 in
+    let booking = rows.1.1.1.1.1.0 in
+    let error = rows.1.1.1.1.1.1.0 in
+    λ i. record {
+      meta = first_meta (in_order meta_form (meta i));
+      room = in_order room_form (room i);
+      vector = in_order vector_form (vector i);
+      write_log = in_order log_form (log i);
+      undo = in_order undo_form (undo i);
+      booking = in_order booking_form (booking i);
+      errorlog = in_order error_form (error i);
+    }
+
+-- the row of `meta` is put into them
+pub fills : (a b c : State) (m : MetaRow) → Survives b c (λ _. ⊥) → (HasCleanDisk b → IsTrue a.in_transaction → IsBlank no_schema a.now → IsGrown our_schema a b)
+    → (HasCleanDisk c × IsTrue b.in_transaction × IsOurs b.now → IsStep b c (put_meta m (tables_in b.now.trees))) → HasCleanDisk c → IsTrue a.in_transaction → IsBlank no_schema a.now → IsStep a c (put_meta m no_tables)
+fills a b c m s grown put clean within blank =
+    let less = s.clean in
+    let one = grown (omega (arith, less, clean)) within blank in
+    let two = put (clean, one.within, blank_ours b.now one.blank) in
+    record { ours = two.ours; tables_are = two.tables_are ∙ ap (put_meta m) (blank_tables b.now one.blank); committed = two.committed ∙ one.committed; within = two.within }

@@ -1,0 +1,119 @@
+-- A query that is read leaves all as it was.
+use Rattle.std.proofs.Common.{◌≡◌, ◌⊎◌, inl, inr, ℕ, List, Ok, Err, Option, None, Some, Result, IfOk, IfErr, OnOk, IsTrue, sym, subst, ◌∙◌, arith}
+use Rattle.sqlite_value.specs.Order.{Row}
+use Rattle.sqlite_trees.specs.Tree.{Trees}
+use Rattle.sqlite.specs.declared.error.Error.{Error}
+use Rattle.sqlite_schema.specs.declared.command.Returning.{Returning}
+use Rattle.sqlite.specs.Clock.{timed}
+use Rattle.sqlite.specs.Listing.{understood}
+use Rattle.sqlite.specs.State.{State, HasCleanDisk, IsUnchanged, IsRolledBack, Shown, ShowsRows, FailsToShow, FailsToQuery, IsNotRun, Survives, CommitsShowing}
+use Rattle.sqlite.proofs.StateLemmas.{survives_weaker, survives_then}
+use Rattle.sqlite.proofs.Callers.{IsPlain, never_commits}
+use Rattle.mr_sql.specs.Schema.{our_schema}
+use Rattle.sqlite.specs.Effect.{Database}
+use Rattle.mr_sql.specs.Kept.{IsKept, IsOurs}
+use Rattle.mr_sql.specs.Reads.{Reads}
+
+plain_here : (s : State) (sql : List ℕ) → IsKept s → IsPlain (understood our_schema sql) → IsPlain (understood s.now.schema sql)
+plain_here s sql kept plain = subst (λ schema. IsPlain (understood schema sql)) (sym kept.ours.schema) plain
+
+shown_same : (sql : List ℕ) (params : Row) (old new : State) (rows : List Row) → IsPlain (understood old.now.schema sql) → Shown sql params old new rows → IsUnchanged old new
+unfolding Shown
+shown_same sql params old new rows plain h =
+    let none = (subst IsPlain h.1.is plain).0 in
+    (subst (ShowsRows old new sql h.0 (timed params h.0.formats h.1.now) rows) none h.2).3
+
+fails_same : (sql : List ℕ) (params : Row) (old new : State) (e : Error) → IsPlain (understood old.now.schema sql) → FailsToQuery sql params old new e → IsUnchanged old new ⊎ IsRolledBack old new
+unfolding FailsToQuery IsNotRun
+fails_same sql params old new e plain (inl (inl same)) = inl same.1
+fails_same sql params old new e plain (inl (inr fails)) = inr fails.3
+fails_same sql params old new e plain (inr (c, it, shows)) =
+    let none = (subst IsPlain it.is plain).0 in
+    inl (subst (FailsToShow old new sql c (timed params c.formats it.now) e) none shows).3
+
+left_same : (old new : State) → IsKept old → IsTrue new.is_open → IsUnchanged old new ⊎ IsRolledBack old new → (new.now ≡ old.now) × (new.committed ≡ old.committed)
+left_same old new kept now (inl same) = (same.0.now_is, same.0.committed_is)
+left_same old new kept now (inr back) = ((back.undone now).0 ∙ sym kept.settled, (back.undone now).1)
+
+-- what shows rows was open before, and so was what is open after a failure
+shown_open : (sql : List ℕ) (params : Row) (old new : State) (rows : List Row) → Shown sql params old new rows → IsTrue old.is_open
+unfolding Shown
+shown_open sql params old new rows (c, it, shows) = by_returning c.returning shows
+  where
+    by_returning : (r : Option Returning) → ShowsRows old new sql c (timed params c.formats it.now) rows r → IsTrue old.is_open
+    by_returning None h = h.3.0.was_open
+    by_returning (Some what) h = h.1.shown.was_open
+
+fails_open : (sql : List ℕ) (params : Row) (old new : State) (e : Error) → FailsToQuery sql params old new e → IsTrue new.is_open → IsTrue old.is_open
+unfolding FailsToQuery IsNotRun
+fails_open sql params old new e (inl (inl same)) now = same.1.0.was_open
+fails_open sql params old new e (inl (inr fails)) now = fails.3.was_open now
+fails_open sql params old new e (inr (c, it, shows)) now = by_returning c.returning shows
+  where
+    by_returning : (r : Option Returning) → FailsToShow old new sql c (timed params c.formats it.now) e r → IsTrue old.is_open
+    by_returning None h = h.3.0.was_open
+    by_returning (Some what) (inl h) = h.1.0.was_open
+    by_returning (Some what) (inr fails) = fails.3.was_open now
+
+module _ (sql : List ℕ) (params : Row) (old new : State) (plain : IsPlain (understood our_schema sql)) where
+  pub commits_none : Survives old new (CommitsShowing sql params old) → Survives old new (λ _. ¬ IsKept old)
+  commits_none h = survives_weaker old new _ _ (λ _ db commits kept. never_commits sql params old db (plain_here old sql kept plain) commits) h
+
+  pub kept_by : {X : Type 0} (items : X → List Row) (r : Result X Error) → IfOk r (λ x. Shown sql params old new (items x)) → IfErr r (FailsToQuery sql params old new)
+      → IsTrue new.is_open → IsTrue old.is_open × (IsKept old → (new.now ≡ old.now) × (new.committed ≡ old.committed))
+  kept_by items (Ok x) ok err now = (shown_open sql params old new (items x) ok, λ kept. left_same old new kept now (inl (shown_same sql params old new (items x) (plain_here old sql kept plain) ok)))
+  kept_by items (Err e) ok err now = (fails_open sql params old new e err now, λ kept. left_same old new kept now (fails_same sql params old new e (plain_here old sql kept plain) err))
+
+  pub stays_open : {X : Type 0} (items : X → List Row) (r : Result X Error) → IfOk r (λ x. Shown sql params old new (items x)) → IsKept old → OnOk r (IsTrue new.is_open)
+  stays_open items (Ok x) ok kept = (shown_same sql params old new (items x) (plain_here old sql kept plain) ok).0.is_open
+  stays_open items (Err e) ok kept = tt
+
+  -- a plain query reads
+  pub asked : {X : Type 0} (items : X → List Row) (r : Result X Error) → (HasCleanDisk new → IfOk r (λ x. Shown sql params old new (items x))) → (HasCleanDisk new → IfErr r (FailsToQuery sql params old new))
+      → Survives old new (CommitsShowing sql params old) → Reads old new r (λ x. Shown sql params old new (items x))
+  asked items r ok err survives = (commits_none survives, λ clean now. kept_by items r (ok clean) (err clean) now, λ clean kept. (stays_open items r (ok clean) kept, ok clean))
+
+-- ---- reads, one after another
+
+pub told_so : {X : Type 0} (r : Result X Error) (P Q : X → Type 0) → ((x : X) → P x → Q x) → IfOk r P → IfOk r Q
+told_so (Ok x) P Q way h = way x h
+told_so (Err e) P Q way h = tt
+
+pub told_two : {X : Type 0} (r : Result X Error) (P Q R : X → Type 0) → ((x : X) → P x → Q x → R x) → IfOk r P → IfOk r Q → IfOk r R
+told_two (Ok x) P Q R way h k = way x h k
+told_two (Err e) P Q R way h k = tt
+
+pub reads_so : {X : Type 0} (old new : State) (r : Result X Error) (P Q : X → Type 0) → (IsKept old → (x : X) → P x → Q x) → Reads old new r P → Reads old new r Q
+reads_so old new r P Q way h = (h.0, h.1, λ clean kept. let told = h.2 clean kept in (told.0, told_so r P Q (way kept) told.1))
+
+-- what is made of the answer
+pub reads_made : {X Y : Type 0} (old new : State) (x : X) (P : X → Type 0) (r : Result Y Error) (Q : Y → Type 0) → (IsKept old → P x → IfOk r Q) → Reads old new (Ok x) P → Reads old new r Q
+reads_made old new x P (Ok y) Q way h = (h.0, h.1, λ clean kept. let told = h.2 clean kept in (told.0, way kept told.1))
+reads_made old new x P (Err e) Q way h = (h.0, h.1, λ clean kept. (tt, tt))
+
+-- a second read finds what the first found
+pub reads_then : {X Y : Type 0} (a b c : State) (x : X) (P : X → Type 0) (r : Result Y Error) (Q : Database → Y → Type 0) (R : Y → Type 0)
+    → (IsKept a → (y : Y) → P x → Q a.now y → R y) → Reads a b (Ok x) P → Reads b c r (Q b.now) → Reads a c r R
+reads_then a b c x P r Q R way p q =
+    let clean_between = λ (clean : HasCleanDisk c). before q.0 clean in
+    let kept_between = λ (clean : HasCleanDisk c) (kept : IsKept a).
+    let told = p.2 (clean_between clean) kept in
+    let same = (p.1 (clean_between clean) told.0).1 kept in
+    still kept same in (
+      survives_then a b c (λ _. ¬ IsKept a) (λ _. ¬ IsKept b) (λ _. ¬ IsKept a) (λ _ db none. none) (λ clean db none kept. none (kept_between clean kept)) p.0 q.0,
+      λ clean now.
+          let later = q.1 clean now in
+          let first = p.1 (clean_between clean) later.0 in
+          (first.0, λ kept. let same = first.1 kept in let more = later.1 (still kept same) in (more.0 ∙ same.0, more.1 ∙ same.1)),
+      λ clean kept.
+          let told = p.2 (clean_between clean) kept in
+          let same = (p.1 (clean_between clean) told.0).1 kept in
+          let last = q.2 clean (still kept same) in
+          (last.0, told_so r (Q b.now) R (λ y h. way kept y told.1 (subst (λ db. Q db y) same.0 h)) last.1),
+    )
+  where
+    before : {P : Trees → Type 0} → Survives b c P → HasCleanDisk c → HasCleanDisk b
+    before s clean = let less = s.clean in omega (arith, less, clean)
+
+    still : IsKept a → (b.now ≡ a.now) × (b.committed ≡ a.committed) → IsKept b
+    still kept same = record { ours = subst IsOurs (sym same.0) kept.ours; settled = same.0 ∙ kept.settled ∙ sym same.1 }

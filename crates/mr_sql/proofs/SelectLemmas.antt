@@ -1,0 +1,96 @@
+-- What the rows are that each query shows.
+use Rattle.std.proofs.Common.{◌≡◌, pos, List, [], ◌∷◌, map, filter, true, ◌&&◌, None, refl, ap, subst, ◌∙◌}
+use Rattle.std.specs.Prelude.{bytes_eq}
+use Rattle.std.specs.List.Sorted.{IsPermutation}
+use Rattle.sqlite_value.specs.declared.value.Value.TheVariants.{Null, Int, Text}
+use Rattle.sqlite_value.specs.Order.{Row}
+use Rattle.sqlite.specs.State.{State, Shown}
+use Rattle.mr_model.specs.Texts as texts
+use Rattle.mr_model.specs.Writes.{Id}
+use Rattle.mr_model.specs.Replica.{is_among}
+use Rattle.mr_model.specs.Tables.{BookingRow, ErrorRow}
+use Rattle.mr_model.specs.Queries.{booking_id, error_id}
+use Rattle.mr_store.specs.Picked.{picked_bookings, picked_errors}
+use Rattle.mr_sql.specs.Meaning.{passes}
+use Rattle.mr_sql.specs.Cells.{meta_in, room_in, vector_in, log_in, undo_in, booking_in, error_in}
+use Rattle.mr_sql.specs.Form.{meta_form, room_form, vector_form, log_form, undo_form, booking_form, error_form}
+use Rattle.mr_sql.specs.Kept.{IsOurs, tables_in}
+use Rattle.mr_sql.specs.Reads.{metas_in}
+use Rattle.mr_sql.proofs.Texts.{all_meta_text, all_meta_is, meta_columns, meta_names, all_room_text, all_room_is, room_columns, room_names, all_vector_text, all_vector_is, vector_columns, vector_names, all_log_text, all_log_is, log_columns, log_names, all_undo_text, all_undo_is, undo_columns, undo_names, all_booking_text, all_booking_is, booking_columns, booking_names, all_error_text, all_error_is, error_columns, error_names, room_booking_text, room_booking_is, booking_room_tests, key_booking_text, key_booking_is, booking_key_tests, room_error_text, room_error_is, error_room_tests, key_error_text, key_error_is, error_key_tests}
+use Rattle.mr_sql.proofs.ValueLemmas.{equal_text, and_true, id_test}
+use Rattle.mr_sql.proofs.TableLemmas.{finds_rows}
+use Rattle.mr_sql.proofs.TableFacts.{meta_facts, room_facts, vector_facts, log_facts, undo_facts, booking_facts, error_facts}
+
+filter_all : {X : Type 0} (xs : List X) → filter (λ _. true) xs ≡ xs
+filter_all [] = refl
+filter_all (x ∷ xs) = ap (λ ys. x ∷ ys) (filter_all xs)
+
+pub shows_all_meta : (old new : State) (rows : List Row) → IsOurs old.now → Shown all_meta_text [] old new rows → IsPermutation (metas_in old.now.trees) (map (λ r. meta_in (Null ∷ r)) rows)
+unfolding tables_in
+shows_all_meta old new rows ours shown =
+    subst (λ xs. IsPermutation xs (map (λ r. meta_in (Null ∷ r)) rows)) (filter_all _)
+    (finds_rows meta_form meta_facts all_meta_text [] meta_columns meta_names [] old new (λ _. true) rows all_meta_is (λ r is. refl) (λ r is. refl) ours.schema ours.held.meta shown)
+
+pub shows_all_room : (old new : State) (rows : List Row) → IsOurs old.now → Shown all_room_text [] old new rows → IsPermutation ((tables_in old.now.trees).room) (map (λ r. room_in (Null ∷ r)) rows)
+unfolding tables_in
+shows_all_room old new rows ours shown =
+    subst (λ xs. IsPermutation xs (map (λ r. room_in (Null ∷ r)) rows)) (filter_all _)
+    (finds_rows room_form room_facts all_room_text [] room_columns room_names [] old new (λ _. true) rows all_room_is (λ r is. refl) (λ r is. refl) ours.schema ours.held.room shown)
+
+pub shows_all_vector : (old new : State) (rows : List Row) → IsOurs old.now → Shown all_vector_text [] old new rows → IsPermutation ((tables_in old.now.trees).vector) (map (λ r. vector_in (Null ∷ r)) rows)
+unfolding tables_in
+shows_all_vector old new rows ours shown =
+    subst (λ xs. IsPermutation xs (map (λ r. vector_in (Null ∷ r)) rows)) (filter_all _)
+    (finds_rows vector_form vector_facts all_vector_text [] vector_columns vector_names [] old new (λ _. true) rows all_vector_is (λ r is. refl) (λ r is. refl) ours.schema ours.held.vector shown)
+
+pub shows_all_log : (old new : State) (rows : List Row) → IsOurs old.now → Shown all_log_text [] old new rows → IsPermutation ((tables_in old.now.trees).write_log) (map (λ r. log_in (Null ∷ r)) rows)
+unfolding tables_in
+shows_all_log old new rows ours shown =
+    subst (λ xs. IsPermutation xs (map (λ r. log_in (Null ∷ r)) rows)) (filter_all _)
+    (finds_rows log_form log_facts all_log_text [] log_columns log_names [] old new (λ _. true) rows all_log_is (λ r is. refl) (λ r is. refl) ours.schema ours.held.write_log shown)
+
+pub shows_all_undo : (old new : State) (rows : List Row) → IsOurs old.now → Shown all_undo_text [] old new rows → IsPermutation ((tables_in old.now.trees).undo) (map (λ r. undo_in (Null ∷ r)) rows)
+unfolding tables_in
+shows_all_undo old new rows ours shown =
+    subst (λ xs. IsPermutation xs (map (λ r. undo_in (Null ∷ r)) rows)) (filter_all _)
+    (finds_rows undo_form undo_facts all_undo_text [] undo_columns undo_names [] old new (λ _. true) rows all_undo_is (λ r is. refl) (λ r is. refl) ours.schema ours.held.undo shown)
+
+pub shows_all_booking : (old new : State) (rows : List Row) → IsOurs old.now → Shown all_booking_text [] old new rows → IsPermutation ((tables_in old.now.trees).booking) (map (λ r. booking_in (Null ∷ r)) rows)
+unfolding tables_in
+shows_all_booking old new rows ours shown =
+    subst (λ xs. IsPermutation xs (map (λ r. booking_in (Null ∷ r)) rows)) (filter_all _)
+    (finds_rows booking_form booking_facts all_booking_text [] booking_columns booking_names [] old new (λ _. true) rows all_booking_is (λ r is. refl) (λ r is. refl) ours.schema ours.held.booking shown)
+
+pub shows_all_error : (old new : State) (rows : List Row) → IsOurs old.now → Shown all_error_text [] old new rows → IsPermutation ((tables_in old.now.trees).errorlog) (map (λ r. error_in (Null ∷ r)) rows)
+unfolding tables_in
+shows_all_error old new rows ours shown =
+    subst (λ xs. IsPermutation xs (map (λ r. error_in (Null ∷ r)) rows)) (filter_all _)
+    (finds_rows error_form error_facts all_error_text [] error_columns error_names [] old new (λ _. true) rows all_error_is (λ r is. refl) (λ r is. refl) ours.schema ours.held.errorlog shown)
+
+pub shows_room_booking : (room : texts.Text) (old new : State) (rows : List Row) → IsOurs old.now → Shown room_booking_text (Text room ∷ []) old new rows
+    → IsPermutation (picked_bookings room None (tables_in old.now.trees)) (map (λ r. booking_in (Null ∷ r)) rows)
+unfolding tables_in
+shows_room_booking room old new rows ours shown =
+    finds_rows booking_form booking_facts room_booking_text booking_room_tests booking_columns booking_names (Text room ∷ []) old new (λ b. bytes_eq b.room room && true) rows room_booking_is
+    (λ r is. ap (passes booking_room_tests (Text room ∷ [])) is ∙ ap (λ b. b && true) (equal_text (booking_in r).room room)) (λ r is. refl) ours.schema ours.held.booking shown
+
+pub shows_key_booking : (id : Id) (old new : State) (rows : List Row) → IsOurs old.now → Shown key_booking_text (Int (pos id.server) ∷ Int (pos id.n) ∷ []) old new rows
+    → IsPermutation (filter (λ (r : BookingRow). is_among (booking_id r) (id ∷ [])) (tables_in old.now.trees).booking) (map (λ r. booking_in (Null ∷ r)) rows)
+unfolding tables_in
+shows_key_booking id old new rows ours shown =
+    finds_rows booking_form booking_facts key_booking_text booking_key_tests booking_columns booking_names (Int (pos id.server) ∷ Int (pos id.n) ∷ []) old new (λ r. is_among (booking_id r) (id ∷ [])) rows key_booking_is
+    (λ r is. ap (passes booking_key_tests (Int (pos id.server) ∷ Int (pos id.n) ∷ [])) is ∙ id_test (booking_in r).server (booking_in r).n id) (λ r is. refl) ours.schema ours.held.booking shown
+
+pub shows_room_error : (room : texts.Text) (old new : State) (rows : List Row) → IsOurs old.now → Shown room_error_text (Text room ∷ []) old new rows
+    → IsPermutation (picked_errors room (tables_in old.now.trees)) (map (λ r. error_in (Null ∷ r)) rows)
+unfolding tables_in
+shows_room_error room old new rows ours shown =
+    finds_rows error_form error_facts room_error_text error_room_tests error_columns error_names (Text room ∷ []) old new (λ e. bytes_eq e.room room) rows room_error_is
+    (λ r is. ap (passes error_room_tests (Text room ∷ [])) is ∙ and_true _ ∙ equal_text (error_in r).room room) (λ r is. refl) ours.schema ours.held.errorlog shown
+
+pub shows_key_error : (id : Id) (old new : State) (rows : List Row) → IsOurs old.now → Shown key_error_text (Int (pos id.server) ∷ Int (pos id.n) ∷ []) old new rows
+    → IsPermutation (filter (λ (r : ErrorRow). is_among (error_id r) (id ∷ [])) (tables_in old.now.trees).errorlog) (map (λ r. error_in (Null ∷ r)) rows)
+unfolding tables_in
+shows_key_error id old new rows ours shown =
+    finds_rows error_form error_facts key_error_text error_key_tests error_columns error_names (Int (pos id.server) ∷ Int (pos id.n) ∷ []) old new (λ r. is_among (error_id r) (id ∷ [])) rows key_error_is
+    (λ r is. ap (passes error_key_tests (Int (pos id.server) ∷ Int (pos id.n) ∷ [])) is ∙ id_test (error_in r).server (error_in r).n id) (λ r is. refl) ours.schema ours.held.errorlog shown

@@ -1,0 +1,16 @@
+use Rattle.std.proofs.Common.{◌≡◌, subst, sym, rules}
+use Rattle.sqlite.specs.Held.{state}
+use Rattle.mr_model.specs.Tables.{Stands}
+use Rattle.mr_sql.specs.Kept.{tables_in}
+use Rattle.mr_sql.proofs.QueryLemmas.{reads_made, told_so}
+use Rattle.mr_sql.proofs.load.load_desk.Goals as goal
+
+pub returns-in_err-tables-clause-reads : goal.returns-in_err-tables-clause-reads
+returns-in_err-tables-clause-reads g c = let read = c.read_tables.ensures.reads in (read.0, read.1, λ clean kept. (search rules, search rules))
+
+pub returns-clause-reads : goal.returns-clause-reads
+returns-clause-reads g c =
+    let old = state g.S.Store c.args.conn.now in
+    reads_made old (state g.S.Store c.read_tables.new.conn) c.in_ok-tables.tables (λ t. t ≡ tables_in old.now.trees) c.desk_of.result _
+    (λ kept is. told_so c.desk_of.result _ _ (λ desk stands a of_tables. stands a (subst (λ t. Stands t a) (sym is) of_tables)) c.desk_of.ensures.stands)
+    c.in_ok-tables.ensures.reads

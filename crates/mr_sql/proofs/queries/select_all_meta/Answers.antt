@@ -1,0 +1,16 @@
+use Rattle.std.proofs.Common.{[]}
+use Rattle.sqlite.specs.State.{Shown}
+use Rattle.sqlite.specs.Held.{state}
+use Rattle.mr_sql.proofs.Texts.{all_meta_text, all_meta_is}
+use Rattle.mr_sql.proofs.QueryLemmas.{reads_so}
+use Rattle.mr_sql.proofs.SelectLemmas.{shows_all_meta}
+use Rattle.mr_sql.proofs.queries.select_all_meta.Goals as goal
+
+pub ask-requires-clause-plain : goal.ask-requires-clause-plain
+ask-requires-clause-plain g c = all_meta_is.0.1
+
+pub returns-clause-reads : goal.returns-clause-reads
+returns-clause-reads g c =
+    let old = state g.S.Store c.args.conn.now in
+    let new = state g.S.Store c.ask.new.conn in
+    reads_so old new c.ask.result (λ rows. Shown all_meta_text ([]) old new rows.items) _ (λ kept rows shown. shows_all_meta old new rows.items kept.ours shown) (c.ask.ensures.reads)

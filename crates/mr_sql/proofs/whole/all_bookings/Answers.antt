@@ -1,0 +1,21 @@
+use Rattle.std.proofs.Common.{◌≡◌, ◌∷◌, map, rules}
+use Rattle.sqlite_value.specs.declared.value.Value.TheVariants.{Null}
+use Rattle.sqlite.specs.Held.{state}
+use Rattle.std.specs.List.Sorted.{IsPermutation}
+use Rattle.mr_sql.specs.Cells.{booking_in}
+use Rattle.mr_sql.specs.Kept.{tables_in}
+use Rattle.mr_sql.proofs.QueryLemmas.{reads_made, told_two}
+use Rattle.mr_sql.proofs.SortLemmas.{bookings_are}
+use Rattle.mr_sql.proofs.whole.all_bookings.Goals as goal
+
+pub returns-in_err-rows-clause-reads : goal.returns-in_err-rows-clause-reads
+returns-in_err-rows-clause-reads g c = let read = c.select_all_booking.ensures.reads in (read.0, read.1, λ clean kept. (search rules, search rules))
+
+pub returns-clause-reads : goal.returns-clause-reads
+returns-clause-reads g c =
+    let old = state g.S.Store c.args.conn.now in
+    let shown = map (λ row. booking_in (Null ∷ row)) c.in_ok-rows.rows.items in
+    let same : c.deref.result.now ≡ c.in_ok-rows.rows.items = search rules in
+    reads_made old (state g.S.Store c.select_all_booking.new.conn) c.in_ok-rows.rows (λ rows. IsPermutation (tables_in old.now.trees).booking (map (λ row. booking_in (Null ∷ row)) rows.items)) c.ordered_bookings.result _
+    (λ kept read. told_two c.ordered_bookings.result _ _ _ (λ out permuted sorted. bookings_are old.now.trees shown out.items read permuted sorted) (rw same at c.ordered_bookings.ensures.same) c.ordered_bookings.ensures.sorted)
+    c.in_ok-rows.ensures.reads

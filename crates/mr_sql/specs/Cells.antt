@@ -1,0 +1,120 @@
+-- Plain rows as the cells of their tables, and back.
+use Rattle.std.specs.Prelude.{ℕ, ℤ, pos, negsuc, Bool, ◌==◌, if◌then◌else◌, [], ◌∷◌}
+use Rattle.sqlite_value.specs.declared.value.Value.{Value}
+use Rattle.sqlite_value.specs.declared.value.Value.TheVariants.{Null, Int, Real, Text, Blob}
+use Rattle.sqlite_value.specs.Order.{Row, column, bytes}
+use Rattle.mr_model.specs.Texts as texts
+use Rattle.mr_model.specs.Calendar.{date_text, date_in}
+use Rattle.mr_model.specs.Replay.{Place, Taken, Logged}
+use Rattle.mr_model.specs.Tables.{MetaRow, VectorRow, LogRow, UndoRow, BookingRow, ErrorRow}
+
+-- ---- values
+
+abbrev pub whole_of : Value → ℤ
+whole_of Null = pos 0
+whole_of (Int n) = n
+whole_of (Real x) = pos 0
+whole_of (Text t) = pos 0
+whole_of (Blob b) = pos 0
+
+abbrev pub nat_in : ℤ → ℕ
+nat_in (pos n) = n
+nat_in (negsuc n) = 0
+
+abbrev pub nat_of : Value → ℕ
+nat_of v = nat_in (whole_of v)
+
+abbrev pub mark : Bool → ℤ
+mark b = if b then pos 1 else pos 0
+
+-- a place is the number of its choice, or -1
+abbrev pub place_number : Place → ℤ
+place_number (Taken k) = pos k
+place_number Logged = negsuc 0
+
+abbrev pub place_in : ℤ → Place
+place_in (pos k) = Taken k
+place_in (negsuc n) = Logged
+
+-- ---- rows; `row_in` gets the rowid in front, which it doesn't read
+
+abbrev pub meta_cells : MetaRow → Row
+meta_cells m = Int (pos 1) ∷ Int (pos 1) ∷ Int (pos m.server) ∷ Int (pos m.primary) ∷ Int (pos m.commits) ∷ Int (pos m.dropped) ∷ Int (pos m.clock) ∷ []
+
+abbrev pub meta_in : Row → MetaRow
+meta_in r = record {
+  server = nat_of (column r 3);
+  primary = nat_of (column r 4);
+  commits = nat_of (column r 5);
+  dropped = nat_of (column r 6);
+  clock = nat_of (column r 7);
+}
+
+abbrev pub room_cells : texts.Text → Row
+room_cells name = Text name ∷ []
+
+abbrev pub room_in : Row → texts.Text
+room_in r = bytes (column r 1)
+
+abbrev pub vector_cells : VectorRow → Row
+vector_cells v = Int (pos v.server) ∷ Int (pos v.count) ∷ Int (pos v.last_time) ∷ Int (pos v.committed) ∷ []
+
+abbrev pub vector_in : Row → VectorRow
+vector_in r = record {
+  server = nat_of (column r 1);
+  count = nat_of (column r 2);
+  last_time = nat_of (column r 3);
+  committed = nat_of (column r 4);
+}
+
+abbrev pub log_cells : LogRow → Row
+log_cells w = Int (pos w.server) ∷ Int (pos w.n) ∷ Int (pos w.time) ∷ Text w.room ∷ Int (pos w.length) ∷ Text w.choices ∷ Text w.title ∷ Int (pos w.seq) ∷ []
+
+abbrev pub log_in : Row → LogRow
+log_in r = record {
+  server = nat_of (column r 1);
+  n = nat_of (column r 2);
+  time = nat_of (column r 3);
+  room = bytes (column r 4);
+  length = nat_of (column r 5);
+  choices = bytes (column r 6);
+  title = bytes (column r 7);
+  seq = nat_of (column r 8);
+}
+
+abbrev pub undo_cells : UndoRow → Row
+undo_cells u = Int (pos u.server) ∷ Int (pos u.n) ∷ Int (place_number u.place) ∷ []
+
+abbrev pub undo_in : Row → UndoRow
+undo_in r = record { server = nat_of (column r 1); n = nat_of (column r 2); place = place_in (whole_of (column r 3)) }
+
+abbrev pub booking_cells : BookingRow → Row
+booking_cells b = Text b.room ∷ Text (date_text b.day) ∷ Int (pos b.start) ∷ Int (pos b.stop) ∷ Int (pos b.server) ∷ Int (pos b.n) ∷ Text b.title ∷ Int (mark b.committed) ∷ []
+
+abbrev pub booking_in : Row → BookingRow
+booking_in r = record {
+  room = bytes (column r 1);
+  day = date_in (bytes (column r 2));
+  start = nat_of (column r 3);
+  stop = nat_of (column r 4);
+  server = nat_of (column r 5);
+  n = nat_of (column r 6);
+  title = bytes (column r 7);
+  committed = nat_of (column r 8) == 1;
+}
+
+abbrev pub error_cells : ErrorRow → Row
+error_cells e = Text e.room ∷ Text (date_text e.day) ∷ Int (pos e.start) ∷ Int (pos e.stop) ∷ Int (pos e.server) ∷ Int (pos e.n) ∷ Text e.title ∷ Int (pos e.time) ∷ Int (pos e.seq) ∷ []
+
+abbrev pub error_in : Row → ErrorRow
+error_in r = record {
+  room = bytes (column r 1);
+  day = date_in (bytes (column r 2));
+  start = nat_of (column r 3);
+  stop = nat_of (column r 4);
+  server = nat_of (column r 5);
+  n = nat_of (column r 6);
+  title = bytes (column r 7);
+  time = nat_of (column r 8);
+  seq = nat_of (column r 9);
+}

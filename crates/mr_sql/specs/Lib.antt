@@ -1,0 +1,9 @@
+pub mod Schema
+pub mod Meaning
+pub mod Shelf
+pub mod Cells
+pub mod Form
+pub mod Kept
+pub mod Parts
+pub mod Reads
+pub mod Blank

@@ -1,0 +1,54 @@
+-- What a call answers that only reads, and the orders of what it answers.
+use Rattle.std.specs.Prelude.{◌≡◌, List, [], ◌∷◌, find, bytes_eq, if◌then◌else◌, Option, Some, None, IsTrue, Result, OnOk, IfOk}
+use Rattle.std.specs.declared.cmp.Ordering.{Ordering}
+use Rattle.std.specs.Ordering.{nat_cmp, ordering_then}
+use Rattle.sqlite.specs.State.{State, HasCleanDisk, Survives}
+use Rattle.sqlite.specs.declared.error.Error.{Error}
+use Rattle.mr_model.specs.Calendar.{Date}
+use Rattle.mr_model.specs.Texts.{Text}
+use Rattle.mr_model.specs.Writes.{Id, same_id}
+use Rattle.mr_model.specs.Queries.{booking_id, error_id}
+use Rattle.mr_model.specs.Tables.{MetaRow, BookingRow, ErrorRow, Tables}
+use Rattle.sqlite_trees.specs.Tree.{Trees}
+use Rattle.mr_store.specs.declared.keeper.PlaceRow.{PlaceRow}
+use Rattle.mr_store.specs.declared.keeper.PlaceRow.TheVariants.{Booked, Logged}
+use Rattle.mr_sql.specs.Form.{meta_form}
+use Rattle.mr_sql.specs.Kept.{IsKept, in_order}
+
+-- Where the database is kept, it stays what it is, and an answer tells this of it.
+abbrev pub Reads : {X : Type 0} → State → State → Result X Error → (X → Type 0) → Type 0
+Reads old new result P =
+    Survives old new (λ _. ¬ IsKept old)
+    × (HasCleanDisk new → IsTrue new.is_open → IsTrue old.is_open × (IsKept old → (new.now ≡ old.now) × (new.committed ≡ old.committed)))
+    × (HasCleanDisk new → IsKept old → OnOk result (IsTrue new.is_open) × IfOk result P)
+
+abbrev pub first_of : {X : Type 0} → List X → Option X
+first_of [] = None
+first_of (x ∷ xs) = Some x
+
+-- the rows of `meta`, of which there is one at most
+abbrev pub metas_in : Trees → List MetaRow
+metas_in trees = in_order meta_form (trees 0)
+
+abbrev pub id_cmp : Id → Id → Ordering
+id_cmp a b = ordering_then (nat_cmp a.server b.server) (nat_cmp a.n b.n)
+
+abbrev pub date_cmp : Date → Date → Ordering
+date_cmp a b = ordering_then (nat_cmp a.year b.year) (ordering_then (nat_cmp a.month b.month) (nat_cmp a.day b.day))
+
+-- by day, start, server and count
+abbrev pub time_cmp : BookingRow → BookingRow → Ordering
+time_cmp a b = ordering_then (date_cmp a.day b.day) (ordering_then (nat_cmp a.start b.start) (ordering_then (nat_cmp a.server b.server) (nat_cmp a.n b.n)))
+
+-- what the tables have of an id
+abbrev pub AreRowsOf : Id → Tables → Option BookingRow → Option ErrorRow → Type 0
+AreRowsOf id t booking error = (booking ≡ find (λ r. same_id (booking_id r) id) t.booking) × (error ≡ find (λ r. same_id (error_id r) id) t.errorlog)
+
+-- the one that is of the room
+abbrev pub logged_in : Text → Option ErrorRow → Option PlaceRow
+logged_in room None = None
+logged_in room (Some row) = if bytes_eq row.room room then Some (Logged row) else None
+
+abbrev pub chosen : Text → Option BookingRow → Option ErrorRow → Option PlaceRow
+chosen room None error = logged_in room error
+chosen room (Some row) error = if bytes_eq row.room room then Some (Booked row) else logged_in room error

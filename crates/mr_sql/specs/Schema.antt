@@ -1,0 +1,121 @@
+-- The tables of the database. Each key is declared so that no column is another name of the rowid.
+use Rattle.std.specs.Prelude.{true, false, List, [], ◌∷◌, None, codes, ℕ}
+use Rattle.sqlite.specs.Collation.TheVariants.{Binary}
+use Rattle.sqlite.specs.declared.types.Value.TheVariants.{Null}
+use Rattle.sqlite.specs.Kind.{Kind}
+use Rattle.sqlite.specs.Kind.TheVariants.{Integer, Text}
+use Rattle.sqlite.specs.Table.{Table}
+use Rattle.sqlite.specs.Schema.{Schema}
+use Rattle.sqlite.specs.Change.{created}
+use Rattle.sqlite_value.specs.Keys.{plain}
+use Rattle.sqlite_schema.specs.declared.schema.Column.{Column}
+
+abbrev pub column_of : List ℕ → Kind → Column
+column_of name kind = record { name = name; kind = kind; is_strict = true; not_null = true; default = Null; collation = Binary }
+
+abbrev pub int : List ℕ → Column
+int name = column_of name Integer
+
+abbrev pub text : List ℕ → Column
+text name = column_of name Text
+
+-- A table with one key; its columns are numbered from 1, and none are declared primary where the key is merely unique.
+abbrev pub table_of : List ℕ → List Column → List ℕ → List ℕ → Table
+table_of name columns primary key = record {
+  name = name;
+  tree = 0;
+  columns = columns;
+  key = None;
+  primary = primary;
+  uniques = key ∷ [];
+  orders = plain ∷ [];
+  checks = [];
+  references = [];
+  computed = [];
+  stamps = record { places = []; terms = []; formats = [] };
+  is_counted = false;
+}
+
+-- ---- the texts that make them
+
+abbrev pub meta_text : List ℕ
+meta_text = codes "CREATE TABLE meta (one INTEGER NOT NULL UNIQUE, schema INTEGER NOT NULL, server INTEGER NOT NULL, prim INTEGER NOT NULL, commits INTEGER NOT NULL, dropped INTEGER NOT NULL, clock INTEGER NOT NULL) STRICT"
+
+abbrev pub room_text : List ℕ
+room_text = codes "CREATE TABLE room (name TEXT NOT NULL PRIMARY KEY) STRICT"
+
+abbrev pub vector_text : List ℕ
+vector_text = codes "CREATE TABLE vector (server INTEGER NOT NULL UNIQUE, n INTEGER NOT NULL, tm INTEGER NOT NULL, committed INTEGER NOT NULL) STRICT"
+
+abbrev pub log_text : List ℕ
+log_text = codes "CREATE TABLE write_log (server INTEGER NOT NULL, n INTEGER NOT NULL, tm INTEGER NOT NULL, room TEXT NOT NULL, length INTEGER NOT NULL, choices TEXT NOT NULL, title TEXT NOT NULL, seq INTEGER NOT NULL, PRIMARY KEY (server, n)) STRICT"
+
+abbrev pub undo_text : List ℕ
+undo_text = codes "CREATE TABLE undo (server INTEGER NOT NULL, n INTEGER NOT NULL, place INTEGER NOT NULL, PRIMARY KEY (server, n)) STRICT"
+
+abbrev pub booking_text : List ℕ
+booking_text = codes "CREATE TABLE booking (room TEXT NOT NULL, day TEXT NOT NULL, start INTEGER NOT NULL, stop INTEGER NOT NULL, server INTEGER NOT NULL, n INTEGER NOT NULL, title TEXT NOT NULL, committed INTEGER NOT NULL, PRIMARY KEY (server, n)) STRICT"
+
+abbrev pub error_text : List ℕ
+error_text = codes "CREATE TABLE errorlog (room TEXT NOT NULL, day TEXT NOT NULL, start INTEGER NOT NULL, stop INTEGER NOT NULL, server INTEGER NOT NULL, n INTEGER NOT NULL, title TEXT NOT NULL, tm INTEGER NOT NULL, seq INTEGER NOT NULL, PRIMARY KEY (server, n)) STRICT"
+
+-- ---- the tables that these texts define
+
+abbrev pub meta_table : Table
+meta_table =
+    table_of (codes "meta")
+    (int (codes "one") ∷ int (codes "schema") ∷ int (codes "server") ∷ int (codes "prim") ∷ int (codes "commits") ∷ int (codes "dropped") ∷ int (codes "clock") ∷ [])
+    [] (1 ∷ [])
+
+abbrev pub room_table : Table
+room_table = table_of (codes "room") (text (codes "name") ∷ []) (1 ∷ []) (1 ∷ [])
+
+abbrev pub vector_table : Table
+vector_table = table_of (codes "vector") (int (codes "server") ∷ int (codes "n") ∷ int (codes "tm") ∷ int (codes "committed") ∷ []) [] (1 ∷ [])
+
+abbrev pub log_table : Table
+log_table =
+    table_of (codes "write_log")
+    (int (codes "server") ∷ int (codes "n") ∷ int (codes "tm") ∷ text (codes "room") ∷ int (codes "length") ∷ text (codes "choices") ∷ text (codes "title") ∷ int (codes "seq") ∷ [])
+    (1 ∷ 2 ∷ []) (1 ∷ 2 ∷ [])
+
+abbrev pub undo_table : Table
+undo_table = table_of (codes "undo") (int (codes "server") ∷ int (codes "n") ∷ int (codes "place") ∷ []) (1 ∷ 2 ∷ []) (1 ∷ 2 ∷ [])
+
+abbrev pub booking_table : Table
+booking_table =
+    table_of (codes "booking")
+    (text (codes "room") ∷ text (codes "day") ∷ int (codes "start") ∷ int (codes "stop") ∷ int (codes "server") ∷ int (codes "n") ∷ text (codes "title") ∷ int (codes "committed") ∷ [])
+    (5 ∷ 6 ∷ []) (5 ∷ 6 ∷ [])
+
+abbrev pub error_table : Table
+error_table =
+    table_of (codes "errorlog")
+    (text (codes "room") ∷ text (codes "day") ∷ int (codes "start") ∷ int (codes "stop") ∷ int (codes "server") ∷ int (codes "n") ∷ text (codes "title") ∷ int (codes "tm") ∷ int (codes "seq") ∷ [])
+    (5 ∷ 6 ∷ []) (5 ∷ 6 ∷ [])
+
+-- ---- the schema, table by table
+
+abbrev pub no_schema : Schema
+no_schema = record { tables = []; indexes = []; views = [] }
+
+abbrev pub with_meta : Schema
+with_meta = created no_schema meta_table
+
+abbrev pub with_room : Schema
+with_room = created with_meta room_table
+
+abbrev pub with_vector : Schema
+with_vector = created with_room vector_table
+
+abbrev pub with_log : Schema
+with_log = created with_vector log_table
+
+abbrev pub with_undo : Schema
+with_undo = created with_log undo_table
+
+abbrev pub with_booking : Schema
+with_booking = created with_undo booking_table
+
+abbrev pub our_schema : Schema
+our_schema = created with_booking error_table

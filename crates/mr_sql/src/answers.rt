@@ -1,0 +1,189 @@
+ghost use Rattle.std.specs.Prelude.{◌≡◌, [], ◌∷◌, false, map, filter, find, IfOk};
+ghost use Rattle.std.specs.List.Sorted.{IsPermutation, IsSorted};
+ghost use Rattle.sqlite_value.specs.declared.value.Value.TheVariants.{Null};
+ghost use Rattle.sqlite.specs.Held.{state};
+ghost use Rattle.mr_model.specs.Writes.{same_id};
+ghost use Rattle.mr_model.specs.Queries.{booking_id, error_id};
+ghost use Rattle.mr_store.specs.Picked.{is_asked as day_is_asked, picked_errors, AreBookings, IsPlaceOf};
+ghost use Rattle.mr_sql.specs.Cells.{booking_in, error_in};
+ghost use Rattle.mr_sql.specs.Kept.{tables_in};
+ghost use Rattle.mr_sql.specs.Reads.{Reads, AreRowsOf, chosen, first_of, time_cmp};
+
+use crate::order::sort_by_time;
+use crate::queries::{
+    select_key_booking, select_key_error, select_room_booking, select_room_error,
+};
+use crate::rows::{read_booking, read_bookings, read_error, read_errors};
+use crate::whole::all_rooms;
+use mr_base::{Day, RoomName, WriteId};
+use mr_replica::{BookingRow, ErrorRow};
+use mr_store::PlaceRow;
+use sqlite::{Alter, Connection, Error, Row};
+use std::alloc::Global;
+
+/// The known rooms.
+pub(crate) fn rooms_of<S: Alter>(
+    conn: &mut Connection<S>,
+    alloc: Global,
+) -> Result<Vec<RoomName>, Error>
+    requires autocommit { conn.old.in_transaction ≡ false }
+    ensures autocommit { conn.new.in_transaction ≡ false }
+    ensures reads { Reads (state S.Store conn.old) (state S.Store conn.new) result (λ rooms. IsPermutation (tables_in (state S.Store conn.old).now.trees).room rooms.items) }
+{
+    all_rooms(conn, alloc)
+}
+
+fn is_asked(day: Option<Day>, of: Day) -> bool
+    ensures { result ≡ day_is_asked day of }
+{
+    match day {
+        None => true,
+        Some(day) => {
+            day.year() == of.year() && day.month() == of.month() && day.day() == of.day()
+        }
+    }
+}
+
+fn keep_asked(rows: &mut Vec<BookingRow>, day: Option<Day>)
+    ensures { rows.new.items ≡ filter (λ row. day_is_asked day row.day) rows.old.items }
+{
+    rows.retain(|row| is_asked(day, row.day));
+}
+
+/// Of these rows those of the day, in the order of a calendar.
+fn calendar(alloc: Global, rows: &[Row], day: Option<Day>) -> Result<Vec<BookingRow>, Error>
+    ensures same { IfOk result (λ out. IsPermutation (filter (λ row. day_is_asked day row.day) (map (λ row. booking_in (Null ∷ row)) rows.now)) out.items) }
+    ensures sorted { IfOk result (λ out. IsSorted time_cmp out.items) }
+{
+    let mut out = read_bookings(alloc, rows)?;
+    keep_asked(&mut out, day);
+    sort_by_time(&mut out)?;
+    Ok(out)
+}
+
+/// The bookings of a room, of a day or of all days.
+pub(crate) fn bookings_of<S: Alter>(
+    conn: &mut Connection<S>,
+    alloc: Global,
+    room: &RoomName,
+    day: Option<Day>,
+) -> Result<Vec<BookingRow>, Error>
+    requires autocommit { conn.old.in_transaction ≡ false }
+    ensures autocommit { conn.new.in_transaction ≡ false }
+    ensures reads { Reads (state S.Store conn.old) (state S.Store conn.new) result (λ rows. AreBookings room.now day (tables_in (state S.Store conn.old).now.trees) rows.items) }
+{
+    let rows = select_room_booking(conn, room)?;
+    calendar(alloc, &rows, day)
+}
+
+/// The error log's rows of a room.
+pub(crate) fn errors_of<S: Alter>(
+    conn: &mut Connection<S>,
+    alloc: Global,
+    room: &RoomName,
+) -> Result<Vec<ErrorRow>, Error>
+    requires autocommit { conn.old.in_transaction ≡ false }
+    ensures autocommit { conn.new.in_transaction ≡ false }
+    ensures reads { Reads (state S.Store conn.old) (state S.Store conn.new) result (λ rows. IsPermutation (picked_errors room.now (tables_in (state S.Store conn.old).now.trees)) rows.items) }
+{
+    let rows = select_room_error(conn, room)?;
+    read_errors(alloc, &rows)
+}
+
+fn first_booking(alloc: Global, rows: &[Row]) -> Result<Option<BookingRow>, Error>
+    ensures { IfOk result (λ row. row ≡ first_of (map (λ row. booking_in (Null ∷ row)) rows.now)) }
+{
+    match rows.first() {
+        None => Ok(None),
+        Some(row) => Ok(Some(read_booking(alloc, row)?)),
+    }
+}
+
+/// The row of `booking` with this id.
+fn booking_of<S: Alter>(
+    conn: &mut Connection<S>,
+    alloc: Global,
+    server: u32,
+    n: u32,
+) -> Result<Option<BookingRow>, Error>
+    requires autocommit { conn.old.in_transaction ≡ false }
+    ensures autocommit { conn.new.in_transaction ≡ false }
+    ensures reads { Reads (state S.Store conn.old) (state S.Store conn.new) result (λ row. row ≡ find (λ r. same_id (booking_id r) (record { server = server; n = n })) (tables_in (state S.Store conn.old).now.trees).booking) }
+{
+    let rows = select_key_booking(conn, server, n)?;
+    first_booking(alloc, &rows)
+}
+
+fn first_error(alloc: Global, rows: &[Row]) -> Result<Option<ErrorRow>, Error>
+    ensures { IfOk result (λ row. row ≡ first_of (map (λ row. error_in (Null ∷ row)) rows.now)) }
+{
+    match rows.first() {
+        None => Ok(None),
+        Some(row) => Ok(Some(read_error(alloc, row)?)),
+    }
+}
+
+/// The row of `errorlog` with this id.
+fn error_of<S: Alter>(
+    conn: &mut Connection<S>,
+    alloc: Global,
+    server: u32,
+    n: u32,
+) -> Result<Option<ErrorRow>, Error>
+    requires autocommit { conn.old.in_transaction ≡ false }
+    ensures autocommit { conn.new.in_transaction ≡ false }
+    ensures reads { Reads (state S.Store conn.old) (state S.Store conn.new) result (λ row. row ≡ find (λ r. same_id (error_id r) (record { server = server; n = n })) (tables_in (state S.Store conn.old).now.trees).errorlog) }
+{
+    let rows = select_key_error(conn, server, n)?;
+    first_error(alloc, &rows)
+}
+
+/// The rows of both tables with this id.
+fn rows_of<S: Alter>(
+    conn: &mut Connection<S>,
+    alloc: Global,
+    id: WriteId,
+) -> Result<(Option<BookingRow>, Option<ErrorRow>), Error>
+    requires autocommit { conn.old.in_transaction ≡ false }
+    ensures autocommit { conn.new.in_transaction ≡ false }
+    ensures reads { Reads (state S.Store conn.old) (state S.Store conn.new) result (λ rows. AreRowsOf id (tables_in (state S.Store conn.old).now.trees) rows.0 rows.1) }
+{
+    let (server, n) = parts_of(id);
+    let booking = booking_of(conn, alloc, server, n)?;
+    let error = error_of(conn, alloc, server, n)?;
+    Ok((booking, error))
+}
+
+fn parts_of(id: WriteId) -> (u32, u32)
+    ensures { id ≡ record { server = result.0; n = result.1 } }
+{
+    (id.server.number(), id.n)
+}
+
+// Of the rows with one id the one that is of the room.
+fn choose(room: &RoomName, booking: Option<BookingRow>, error: Option<ErrorRow>) -> Option<PlaceRow>
+    ensures { result ≡ chosen room.now booking error }
+{
+    match booking {
+        Some(row) if row.room == *room => Some(PlaceRow::Booked(row)),
+        _ => match error {
+            Some(row) if row.room == *room => Some(PlaceRow::Logged(row)),
+            _ => None,
+        },
+    }
+}
+
+/// The row of the request with this id, where it is of that room.
+pub(crate) fn place_of<S: Alter>(
+    conn: &mut Connection<S>,
+    alloc: Global,
+    room: &RoomName,
+    id: WriteId,
+) -> Result<Option<PlaceRow>, Error>
+    requires autocommit { conn.old.in_transaction ≡ false }
+    ensures autocommit { conn.new.in_transaction ≡ false }
+    ensures reads { Reads (state S.Store conn.old) (state S.Store conn.new) result (λ row. IsPlaceOf room.now id (tables_in (state S.Store conn.old).now.trees) row) }
+{
+    let rows = rows_of(conn, alloc, id)?;
+    Ok(choose(room, rows.0, rows.1))
+}

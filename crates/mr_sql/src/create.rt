@@ -1,0 +1,140 @@
+ghost use Rattle.std.specs.Prelude.{◌≡◌, false, IsTrue, OnOk};
+ghost use Rattle.sqlite.specs.State.{HasCleanDisk, Survives};
+ghost use Rattle.sqlite.specs.Held.{state};
+ghost use Rattle.mr_sql.specs.Schema.{no_schema, with_meta, with_room, with_vector, with_log, with_undo, with_booking, our_schema};
+ghost use Rattle.mr_sql.specs.Kept.{IsKept, IsStep, tables_in};
+ghost use Rattle.mr_sql.specs.Parts.{put_meta as meta_put};
+ghost use Rattle.mr_sql.specs.Blank.{IsBlank, Grows, no_tables};
+
+use crate::puts::put_meta;
+use mr_replica::MetaRow;
+use sqlite::{Alter, Connection, Error, Transaction};
+
+fn create_meta<S: Alter>(tx: &mut Transaction<'_, S>) -> Result<usize, Error>
+    ensures same_reference { tx.new.conn.ghost_name ≡ tx.old.conn.ghost_name }
+    ensures grown { Grows no_schema with_meta (state S.Store tx.old.conn.now) (state S.Store tx.new.conn.now) result }
+    ensures survives { Survives (state S.Store tx.old.conn.now) (state S.Store tx.new.conn.now) (λ _. ⊥) }
+{
+    tx.execute(
+        "CREATE TABLE meta (one INTEGER NOT NULL UNIQUE, schema INTEGER NOT NULL, server INTEGER NOT NULL, prim INTEGER NOT NULL, commits INTEGER NOT NULL, dropped INTEGER NOT NULL, clock INTEGER NOT NULL) STRICT",
+        &[],
+    )
+}
+
+fn create_room<S: Alter>(tx: &mut Transaction<'_, S>) -> Result<usize, Error>
+    ensures same_reference { tx.new.conn.ghost_name ≡ tx.old.conn.ghost_name }
+    ensures grown { Grows with_meta with_room (state S.Store tx.old.conn.now) (state S.Store tx.new.conn.now) result }
+    ensures survives { Survives (state S.Store tx.old.conn.now) (state S.Store tx.new.conn.now) (λ _. ⊥) }
+{
+    tx.execute(
+        "CREATE TABLE room (name TEXT NOT NULL PRIMARY KEY) STRICT",
+        &[],
+    )
+}
+
+fn create_vector<S: Alter>(tx: &mut Transaction<'_, S>) -> Result<usize, Error>
+    ensures same_reference { tx.new.conn.ghost_name ≡ tx.old.conn.ghost_name }
+    ensures grown { Grows with_room with_vector (state S.Store tx.old.conn.now) (state S.Store tx.new.conn.now) result }
+    ensures survives { Survives (state S.Store tx.old.conn.now) (state S.Store tx.new.conn.now) (λ _. ⊥) }
+{
+    tx.execute(
+        "CREATE TABLE vector (server INTEGER NOT NULL UNIQUE, n INTEGER NOT NULL, tm INTEGER NOT NULL, committed INTEGER NOT NULL) STRICT",
+        &[],
+    )
+}
+
+fn create_log<S: Alter>(tx: &mut Transaction<'_, S>) -> Result<usize, Error>
+    ensures same_reference { tx.new.conn.ghost_name ≡ tx.old.conn.ghost_name }
+    ensures grown { Grows with_vector with_log (state S.Store tx.old.conn.now) (state S.Store tx.new.conn.now) result }
+    ensures survives { Survives (state S.Store tx.old.conn.now) (state S.Store tx.new.conn.now) (λ _. ⊥) }
+{
+    tx.execute(
+        "CREATE TABLE write_log (server INTEGER NOT NULL, n INTEGER NOT NULL, tm INTEGER NOT NULL, room TEXT NOT NULL, length INTEGER NOT NULL, choices TEXT NOT NULL, title TEXT NOT NULL, seq INTEGER NOT NULL, PRIMARY KEY (server, n)) STRICT",
+        &[],
+    )
+}
+
+fn create_undo<S: Alter>(tx: &mut Transaction<'_, S>) -> Result<usize, Error>
+    ensures same_reference { tx.new.conn.ghost_name ≡ tx.old.conn.ghost_name }
+    ensures grown { Grows with_log with_undo (state S.Store tx.old.conn.now) (state S.Store tx.new.conn.now) result }
+    ensures survives { Survives (state S.Store tx.old.conn.now) (state S.Store tx.new.conn.now) (λ _. ⊥) }
+{
+    tx.execute(
+        "CREATE TABLE undo (server INTEGER NOT NULL, n INTEGER NOT NULL, place INTEGER NOT NULL, PRIMARY KEY (server, n)) STRICT",
+        &[],
+    )
+}
+
+fn create_booking<S: Alter>(tx: &mut Transaction<'_, S>) -> Result<usize, Error>
+    ensures same_reference { tx.new.conn.ghost_name ≡ tx.old.conn.ghost_name }
+    ensures grown { Grows with_undo with_booking (state S.Store tx.old.conn.now) (state S.Store tx.new.conn.now) result }
+    ensures survives { Survives (state S.Store tx.old.conn.now) (state S.Store tx.new.conn.now) (λ _. ⊥) }
+{
+    tx.execute(
+        "CREATE TABLE booking (room TEXT NOT NULL, day TEXT NOT NULL, start INTEGER NOT NULL, stop INTEGER NOT NULL, server INTEGER NOT NULL, n INTEGER NOT NULL, title TEXT NOT NULL, committed INTEGER NOT NULL, PRIMARY KEY (server, n)) STRICT",
+        &[],
+    )
+}
+
+fn create_error<S: Alter>(tx: &mut Transaction<'_, S>) -> Result<usize, Error>
+    ensures same_reference { tx.new.conn.ghost_name ≡ tx.old.conn.ghost_name }
+    ensures grown { Grows with_booking our_schema (state S.Store tx.old.conn.now) (state S.Store tx.new.conn.now) result }
+    ensures survives { Survives (state S.Store tx.old.conn.now) (state S.Store tx.new.conn.now) (λ _. ⊥) }
+{
+    tx.execute(
+        "CREATE TABLE errorlog (room TEXT NOT NULL, day TEXT NOT NULL, start INTEGER NOT NULL, stop INTEGER NOT NULL, server INTEGER NOT NULL, n INTEGER NOT NULL, title TEXT NOT NULL, tm INTEGER NOT NULL, seq INTEGER NOT NULL, PRIMARY KEY (server, n)) STRICT",
+        &[],
+    )
+}
+
+/// Makes the tables of the replica's numbers, its rooms and its vector.
+fn create_heads<S: Alter>(tx: &mut Transaction<'_, S>) -> Result<(), Error>
+    ensures same_reference { tx.new.conn.ghost_name ≡ tx.old.conn.ghost_name }
+    ensures grown { Grows no_schema with_vector (state S.Store tx.old.conn.now) (state S.Store tx.new.conn.now) result }
+    ensures survives { Survives (state S.Store tx.old.conn.now) (state S.Store tx.new.conn.now) (λ _. ⊥) }
+{
+    create_meta(tx)?;
+    create_room(tx)?;
+    create_vector(tx)?;
+    Ok(())
+}
+
+/// Makes the tables of both logs and of the board.
+fn create_rows<S: Alter>(tx: &mut Transaction<'_, S>) -> Result<(), Error>
+    ensures same_reference { tx.new.conn.ghost_name ≡ tx.old.conn.ghost_name }
+    ensures grown { Grows with_vector our_schema (state S.Store tx.old.conn.now) (state S.Store tx.new.conn.now) result }
+    ensures survives { Survives (state S.Store tx.old.conn.now) (state S.Store tx.new.conn.now) (λ _. ⊥) }
+{
+    create_log(tx)?;
+    create_undo(tx)?;
+    create_booking(tx)?;
+    create_error(tx)?;
+    Ok(())
+}
+
+/// Makes the tables, and puts the row of `meta`.
+fn fill<S: Alter>(tx: &mut Transaction<'_, S>, row: &MetaRow) -> Result<(), Error>
+    ensures same_reference { tx.new.conn.ghost_name ≡ tx.old.conn.ghost_name }
+    ensures filled { HasCleanDisk (state S.Store tx.new.conn.now) → IsTrue (state S.Store tx.old.conn.now).in_transaction → IsBlank no_schema (state S.Store tx.old.conn.now).now
+        → OnOk result (IsStep (state S.Store tx.old.conn.now) (state S.Store tx.new.conn.now) (meta_put row.now no_tables)) }
+    ensures survives { Survives (state S.Store tx.old.conn.now) (state S.Store tx.new.conn.now) (λ _. ⊥) }
+{
+    create_heads(tx)?;
+    create_rows(tx)?;
+    put_meta(tx, row)?;
+    Ok(())
+}
+
+/// Makes the tables with the row of `meta`, in one transaction.
+pub(crate) fn create<S: Alter>(conn: &mut Connection<S>, row: &MetaRow) -> Result<(), Error>
+    requires autocommit { conn.old.in_transaction ≡ false }
+    ensures autocommit { conn.new.in_transaction ≡ false }
+    ensures kept { HasCleanDisk (state S.Store conn.new) → IsTrue (state S.Store conn.new).is_open → IsBlank no_schema (state S.Store conn.old).now → OnOk result (IsKept (state S.Store conn.new)) }
+    ensures tables { HasCleanDisk (state S.Store conn.new) → IsTrue (state S.Store conn.new).is_open → IsBlank no_schema (state S.Store conn.old).now
+        → OnOk result (tables_in (state S.Store conn.new).now.trees ≡ meta_put row.now no_tables) }
+{
+    let mut tx = conn.transaction();
+    fill(&mut tx, row)?;
+    tx.commit()?;
+    Ok(())
+}

@@ -1,0 +1,22 @@
+//! A keeper of a replica's tables in a SQL database.
+//!
+//! It stands on `mr_store`, whose trait `Keeper` it meets, and on the kit's `sqlite`; programs stand above it. Contracts see
+//! the database through `tables_in` (specs/Kept.antt), which makes canonical tables of its rows; the tables themselves are
+//! in specs/Schema.antt, and their rows as cells in specs/Cells.antt. A change is one transaction.
+#![tactic(auto)]
+
+mod answers;
+mod cells;
+mod changes;
+mod create;
+mod load;
+mod numbers;
+mod order;
+mod puts;
+mod queries;
+mod rows;
+mod sql_keeper;
+mod takes;
+mod whole;
+
+pub use sql_keeper::{SqlKeeper, memory_is_honest};

@@ -1,0 +1,178 @@
+ghost use Rattle.std.specs.Prelude.{◌≡◌, [], ◌∷◌, false, map, filter, None};
+ghost use Rattle.std.specs.List.Sorted.{IsPermutation};
+ghost use Rattle.sqlite_value.specs.declared.value.Value.TheVariants.{Null};
+ghost use Rattle.sqlite.specs.Values.{bound};
+ghost use Rattle.sqlite.specs.Given.{IsPlain};
+ghost use Rattle.sqlite.specs.Listing.{understood};
+ghost use Rattle.sqlite.specs.State.{Shown};
+ghost use Rattle.sqlite.specs.Held.{state};
+ghost use Rattle.mr_model.specs.Replica.{is_among};
+ghost use Rattle.mr_model.specs.Queries.{booking_id, error_id};
+ghost use Rattle.mr_store.specs.Picked.{picked_bookings, picked_errors};
+ghost use Rattle.mr_sql.specs.Schema.{our_schema};
+ghost use Rattle.mr_sql.specs.Cells.{meta_in, room_in, vector_in, log_in, undo_in, booking_in, error_in};
+ghost use Rattle.mr_sql.specs.Kept.{tables_in};
+ghost use Rattle.mr_sql.specs.Reads.{Reads, metas_in};
+
+use mr_base::RoomName;
+use sqlite::types::ValueRef;
+use sqlite::{Alter, Connection, Error, Row, params};
+
+/// The rows that a text shows which means a query under our schema.
+fn ask<S: Alter>(
+    conn: &mut Connection<S>,
+    sql: &str,
+    params: &[ValueRef<'_>],
+) -> Result<Vec<Row>, Error>
+    requires autocommit { conn.old.in_transaction ≡ false }
+    requires plain { IsPlain (understood our_schema sql.now) }
+    ensures autocommit { conn.new.in_transaction ≡ false }
+    ensures reads { Reads (state S.Store conn.old) (state S.Store conn.new) result (λ rows. Shown sql.now (bound params.now) (state S.Store conn.old) (state S.Store conn.new) rows.items) }
+{
+    conn.query_all(sql, params)
+}
+
+/// All rows of `meta`.
+pub(crate) fn select_all_meta<S: Alter>(conn: &mut Connection<S>) -> Result<Vec<Row>, Error>
+    requires autocommit { conn.old.in_transaction ≡ false }
+    ensures autocommit { conn.new.in_transaction ≡ false }
+    ensures reads { Reads (state S.Store conn.old) (state S.Store conn.new) result (λ rows. IsPermutation (metas_in (state S.Store conn.old).now.trees) (map (λ row. meta_in (Null ∷ row)) rows.items)) }
+{
+    ask(
+        conn,
+        "SELECT one, schema, server, prim, commits, dropped, clock FROM meta",
+        &[],
+    )
+}
+
+/// All rows of `room`.
+pub(crate) fn select_all_room<S: Alter>(conn: &mut Connection<S>) -> Result<Vec<Row>, Error>
+    requires autocommit { conn.old.in_transaction ≡ false }
+    ensures autocommit { conn.new.in_transaction ≡ false }
+    ensures reads { Reads (state S.Store conn.old) (state S.Store conn.new) result (λ rows. IsPermutation ((tables_in (state S.Store conn.old).now.trees).room) (map (λ row. room_in (Null ∷ row)) rows.items)) }
+{
+    ask(conn, "SELECT name FROM room", &[])
+}
+
+/// All rows of `vector`.
+pub(crate) fn select_all_vector<S: Alter>(conn: &mut Connection<S>) -> Result<Vec<Row>, Error>
+    requires autocommit { conn.old.in_transaction ≡ false }
+    ensures autocommit { conn.new.in_transaction ≡ false }
+    ensures reads { Reads (state S.Store conn.old) (state S.Store conn.new) result (λ rows. IsPermutation ((tables_in (state S.Store conn.old).now.trees).vector) (map (λ row. vector_in (Null ∷ row)) rows.items)) }
+{
+    ask(conn, "SELECT server, n, tm, committed FROM vector", &[])
+}
+
+/// All rows of `write_log`.
+pub(crate) fn select_all_log<S: Alter>(conn: &mut Connection<S>) -> Result<Vec<Row>, Error>
+    requires autocommit { conn.old.in_transaction ≡ false }
+    ensures autocommit { conn.new.in_transaction ≡ false }
+    ensures reads { Reads (state S.Store conn.old) (state S.Store conn.new) result (λ rows. IsPermutation ((tables_in (state S.Store conn.old).now.trees).write_log) (map (λ row. log_in (Null ∷ row)) rows.items)) }
+{
+    ask(
+        conn,
+        "SELECT server, n, tm, room, length, choices, title, seq FROM write_log",
+        &[],
+    )
+}
+
+/// All rows of `undo`.
+pub(crate) fn select_all_undo<S: Alter>(conn: &mut Connection<S>) -> Result<Vec<Row>, Error>
+    requires autocommit { conn.old.in_transaction ≡ false }
+    ensures autocommit { conn.new.in_transaction ≡ false }
+    ensures reads { Reads (state S.Store conn.old) (state S.Store conn.new) result (λ rows. IsPermutation ((tables_in (state S.Store conn.old).now.trees).undo) (map (λ row. undo_in (Null ∷ row)) rows.items)) }
+{
+    ask(conn, "SELECT server, n, place FROM undo", &[])
+}
+
+/// All rows of `booking`.
+pub(crate) fn select_all_booking<S: Alter>(conn: &mut Connection<S>) -> Result<Vec<Row>, Error>
+    requires autocommit { conn.old.in_transaction ≡ false }
+    ensures autocommit { conn.new.in_transaction ≡ false }
+    ensures reads { Reads (state S.Store conn.old) (state S.Store conn.new) result (λ rows. IsPermutation ((tables_in (state S.Store conn.old).now.trees).booking) (map (λ row. booking_in (Null ∷ row)) rows.items)) }
+{
+    ask(
+        conn,
+        "SELECT room, day, start, stop, server, n, title, committed FROM booking",
+        &[],
+    )
+}
+
+/// All rows of `errorlog`.
+pub(crate) fn select_all_error<S: Alter>(conn: &mut Connection<S>) -> Result<Vec<Row>, Error>
+    requires autocommit { conn.old.in_transaction ≡ false }
+    ensures autocommit { conn.new.in_transaction ≡ false }
+    ensures reads { Reads (state S.Store conn.old) (state S.Store conn.new) result (λ rows. IsPermutation ((tables_in (state S.Store conn.old).now.trees).errorlog) (map (λ row. error_in (Null ∷ row)) rows.items)) }
+{
+    ask(
+        conn,
+        "SELECT room, day, start, stop, server, n, title, tm, seq FROM errorlog",
+        &[],
+    )
+}
+
+/// The rows of a room in `booking`.
+pub(crate) fn select_room_booking<S: Alter>(
+    conn: &mut Connection<S>,
+    room: &RoomName,
+) -> Result<Vec<Row>, Error>
+    requires autocommit { conn.old.in_transaction ≡ false }
+    ensures autocommit { conn.new.in_transaction ≡ false }
+    ensures reads { Reads (state S.Store conn.old) (state S.Store conn.new) result (λ rows. IsPermutation (picked_bookings room.now None (tables_in (state S.Store conn.old).now.trees)) (map (λ row. booking_in (Null ∷ row)) rows.items)) }
+{
+    ask(
+        conn,
+        "SELECT room, day, start, stop, server, n, title, committed FROM booking WHERE room = ?1",
+        params![room.as_str()],
+    )
+}
+
+/// The rows of an id in `booking`.
+pub(crate) fn select_key_booking<S: Alter>(
+    conn: &mut Connection<S>,
+    server: u32,
+    n: u32,
+) -> Result<Vec<Row>, Error>
+    requires autocommit { conn.old.in_transaction ≡ false }
+    ensures autocommit { conn.new.in_transaction ≡ false }
+    ensures reads { Reads (state S.Store conn.old) (state S.Store conn.new) result (λ rows. IsPermutation (filter (λ r. is_among (booking_id r) (record { server = server; n = n } ∷ [])) (tables_in (state S.Store conn.old).now.trees).booking) (map (λ row. booking_in (Null ∷ row)) rows.items)) }
+{
+    ask(
+        conn,
+        "SELECT room, day, start, stop, server, n, title, committed FROM booking WHERE server = ?1 AND n = ?2",
+        params![server, n],
+    )
+}
+
+/// The rows of a room in `errorlog`.
+pub(crate) fn select_room_error<S: Alter>(
+    conn: &mut Connection<S>,
+    room: &RoomName,
+) -> Result<Vec<Row>, Error>
+    requires autocommit { conn.old.in_transaction ≡ false }
+    ensures autocommit { conn.new.in_transaction ≡ false }
+    ensures reads { Reads (state S.Store conn.old) (state S.Store conn.new) result (λ rows. IsPermutation (picked_errors room.now (tables_in (state S.Store conn.old).now.trees)) (map (λ row. error_in (Null ∷ row)) rows.items)) }
+{
+    ask(
+        conn,
+        "SELECT room, day, start, stop, server, n, title, tm, seq FROM errorlog WHERE room = ?1",
+        params![room.as_str()],
+    )
+}
+
+/// The rows of an id in `errorlog`.
+pub(crate) fn select_key_error<S: Alter>(
+    conn: &mut Connection<S>,
+    server: u32,
+    n: u32,
+) -> Result<Vec<Row>, Error>
+    requires autocommit { conn.old.in_transaction ≡ false }
+    ensures autocommit { conn.new.in_transaction ≡ false }
+    ensures reads { Reads (state S.Store conn.old) (state S.Store conn.new) result (λ rows. IsPermutation (filter (λ r. is_among (error_id r) (record { server = server; n = n } ∷ [])) (tables_in (state S.Store conn.old).now.trees).errorlog) (map (λ row. error_in (Null ∷ row)) rows.items)) }
+{
+    ask(
+        conn,
+        "SELECT room, day, start, stop, server, n, title, tm, seq FROM errorlog WHERE server = ?1 AND n = ?2",
+        params![server, n],
+    )
+}

@@ -1,0 +1,182 @@
+ghost use Rattle.std.specs.Prelude.{◌≡◌, ◌⊎◌, IfOk, IfErr, IsTrue};
+ghost use Rattle.sqlite.specs.Steps.{over_memory, IsEmpty};
+ghost use Rattle.sqlite.specs.State.{HasCleanDisk};
+ghost use Rattle.sqlite.specs.Held.{state};
+ghost use Rattle.mr_model.specs.Replica.{opening};
+ghost use Rattle.mr_model.specs.Tables.{Stands};
+ghost use Rattle.mr_store.specs.Kept.{failures_for};
+ghost use Rattle.mr_sql.specs.Kept.{tables_in};
+
+use crate::create::create;
+use crate::{answers, changes, load};
+use mr_base::{Day, Refusal, RoomName, ServerId, WriteId};
+use mr_replica::{BookingRow, Change, Desk, ErrorRow, MetaRow};
+use mr_store::{Fault, Keeper, PlaceRow};
+use sqlite::{Alter, Connection, Error, ErrorCode, MemStore};
+use std::alloc::Global;
+use std::marker::Model;
+
+/// A keeper whose tables lie in a SQL database. Contracts see it as its connection and the number of calls that have answered
+/// that the store failed.
+#[derive(Drop)]
+pub struct SqlKeeper<S: Alter> {
+    conn: Connection<S>,
+    failures: u64,
+    alloc: Global,
+}
+
+impl<S: Alter> Model for SqlKeeper<S> {
+    ghost use Rattle.std.specs.Prelude.{◌≡◌, ℕ, false, IsTrue};
+    ghost use Rattle.std.specs.Coded.{coded×, coded_ℕ};
+    ghost use Rattle.sqlite.specs.State.{HasCleanDisk};
+    ghost use Rattle.sqlite.specs.Held.{Held, state, held_code};
+    ghost use Rattle.mr_sql.specs.Kept.{IsKept};
+
+    ghost Value = { Held S × ℕ };
+
+    ghost coded = { coded× (held_code S.code) coded_ℕ };
+
+    ghost view = { λ k. (k.conn, k.failures) };
+
+    ghost invariant = { λ k. (k.conn.in_transaction ≡ false) × (HasCleanDisk (state S.Store k.conn) → IsTrue (state S.Store k.conn).is_open → IsKept (state S.Store k.conn)) };
+}
+
+/// The fault that an error is, counted where the store failed. A count that is full is told as want of memory.
+fn told(failures: &mut u64, error: Error) -> Fault
+    ensures { failures.new ≡ failures_for result failures.old }
+{
+    if error == Error::SqliteFailure(ErrorCode::OutOfMemory) || *failures == u64::MAX {
+        return Fault::OutOfMemory;
+    }
+    *failures += 1;
+    Fault::Store
+}
+
+impl<S: Alter> Keeper for SqlKeeper<S> {
+    ghost use Rattle.std.specs.Prelude.{◌≡◌, IsTrue};
+    ghost use Rattle.sqlite_trees.specs.Tree.{Trees};
+    ghost use Rattle.sqlite.specs.State.{HasCleanDisk};
+    ghost use Rattle.sqlite.specs.Held.{state};
+    ghost use Rattle.mr_sql.specs.Kept.{tables_in};
+
+    ghost tables = { λ k. tables_in (state S.Store k.0).now.trees };
+
+    ghost failures = { λ k. k.1 };
+
+    ghost is_clean = { λ k. HasCleanDisk (state S.Store k.0) };
+
+    ghost is_open = { λ k. IsTrue (state S.Store k.0).is_open };
+
+    ghost may_leave = { λ k t. (trees : Trees) × (state S.Store k.0).may_leave trees × (t ≡ tables_in trees) };
+
+    ghost never_fails = { ⊥ };
+
+    fn load(&mut self) -> Result<Desk, Fault> {
+        match load::load_desk(&mut self.conn, self.alloc) {
+            Ok(value) => Ok(value),
+            Err(error) => Err(told(&mut self.failures, error)),
+        }
+    }
+
+    fn rooms(&mut self) -> Result<Vec<RoomName>, Fault> {
+        match answers::rooms_of(&mut self.conn, self.alloc) {
+            Ok(value) => Ok(value),
+            Err(error) => Err(told(&mut self.failures, error)),
+        }
+    }
+
+    fn bookings(&mut self, room: &RoomName, day: Option<Day>) -> Result<Vec<BookingRow>, Fault> {
+        match answers::bookings_of(&mut self.conn, self.alloc, room, day) {
+            Ok(value) => Ok(value),
+            Err(error) => Err(told(&mut self.failures, error)),
+        }
+    }
+
+    fn place_of(&mut self, room: &RoomName, id: WriteId) -> Result<Option<PlaceRow>, Fault> {
+        match answers::place_of(&mut self.conn, self.alloc, room, id) {
+            Ok(value) => Ok(value),
+            Err(error) => Err(told(&mut self.failures, error)),
+        }
+    }
+
+    fn errors(&mut self, room: &RoomName) -> Result<Vec<ErrorRow>, Fault> {
+        match answers::errors_of(&mut self.conn, self.alloc, room) {
+            Ok(value) => Ok(value),
+            Err(error) => Err(told(&mut self.failures, error)),
+        }
+    }
+
+    fn apply(&mut self, change: &Change) -> Result<(), Fault> {
+        match changes::apply(&mut self.conn, self.alloc, change) {
+            Ok(value) => Ok(value),
+            Err(error) => Err(told(&mut self.failures, error)),
+        }
+    }
+}
+
+fn open_connection(alloc: Global) -> Result<Connection<MemStore>, Refusal>
+    ensures empty { IfOk result (λ c. IsEmpty (state over_memory c)) }
+    ensures cause { IfErr result (λ e. e ≡ Refusal.OutOfMemory) }
+{
+    match Connection::open_in_memory(alloc) {
+        Ok(conn) => Ok(conn),
+        Err(_) => Err(Refusal::OutOfMemory),
+    }
+}
+
+fn refusal_of(error: Error) -> Refusal
+    ensures { (result ≡ Refusal.OutOfMemory) ⊎ (result ≡ Refusal.Store) }
+{
+    match error {
+        Error::SqliteFailure(ErrorCode::OutOfMemory) => Refusal::OutOfMemory,
+        _ => Refusal::Store,
+    }
+}
+
+impl SqlKeeper<MemStore> {
+    /// The tables of a replica that knows nothing yet, in memory.
+    pub fn open_in_memory(
+        alloc: Global,
+        server: ServerId,
+        primary: ServerId,
+    ) -> Result<SqlKeeper<MemStore>, Refusal>
+        ensures stands { IfOk result (λ k. Stands (tables_in (state over_memory k.0).now.trees) (opening server primary)) }
+        ensures uncounted { IfOk result (λ k. k.1 ≡ 0) }
+        ensures cause { IfErr result (λ e. (e ≡ Refusal.OutOfMemory) ⊎ (e ≡ Refusal.Store)) }
+    {
+        let mut conn = open_connection(alloc)?;
+        server.number();
+        primary.number();
+        let row = MetaRow {
+            server,
+            primary,
+            commits: 0,
+            dropped: 0,
+            clock: 0,
+        };
+        match create(&mut conn, &row) {
+            Ok(()) => Ok(SqlKeeper {
+                conn,
+                failures: 0,
+                alloc,
+            }),
+            Err(error) => Err(refusal_of(error)),
+        }
+    }
+}
+
+impl<S: Alter> SqlKeeper<S> {
+    /// Gives the connection back.
+    pub fn release(self) -> Connection<S>
+        ensures { result ≡ self.0 }
+    {
+        let SqlKeeper { conn, .. } = self;
+        conn
+    }
+}
+
+/// In memory nobody else writes the store, and nothing shuts it. It does nothing.
+pub fn memory_is_honest(keeper: &SqlKeeper<MemStore>)
+    ensures clean { HasCleanDisk (state over_memory keeper.now.0) }
+    ensures open { IsTrue (state over_memory keeper.now.0).is_open }
+{}
