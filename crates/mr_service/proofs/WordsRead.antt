@@ -1,5 +1,5 @@
 -- The words of a submission, read one after the other, give the request that they make, or the smallest fault.
-use Rattle.std.proofs.Common.{◌≡◌, refl, sym, ap, ◌∙◌, subst, ℕ, ◌+◌, ◌<◌, ◌≤◌, Bool, true, false, not, cond, ◌||◌, ◌&&◌, ltb, leb, List, [], ◌∷◌, ◌++◌, length, map, get_or, Option, Some, None, is_none, ◌⊎◌, inl, inr, arith, IsTrue, Result, Ok, Err, le-leb, ltb-true}
+use Rattle.std.proofs.Common.{◌≡◌, refl, sym, ap, ◌∙◌, subst, ℕ, ◌<◌, Bool, true, false, not, cond, ◌||◌, ◌&&◌, ltb, leb, List, [], ◌∷◌, length, map, get_or, Option, Some, None, is_none, inl, inr, arith, Result, Ok, Err, le-leb, ltb-true}
 use Rattle.std.proofs.lemmas.Bool.{true≢false, false_from_ne_true, and_parts, or_parts}
 use Rattle.std.proofs.lemmas.List.{length-map}
 use Rattle.std.proofs.lemmas.List.Folds.{list_any_at}
@@ -19,32 +19,39 @@ use Rattle.mr_base.specs.Refusals.{answer_of}
 use Rattle.mr_base.specs.Limits as base
 use Rattle.mr_base.specs.declared.refusals.Refusal.{Refusal}
 use Rattle.mr_base.specs.declared.refusals.Refusal.TheVariants.{BadDay, BadTime, BadLength, BadRoomName, BadTitle, TooManyAlternatives}
-use Rattle.mr_service.specs.Requests.{lacks_day, lacks_time, ok_unless, slots_in, request_of, request_in}
+use Rattle.mr_replica.specs.Steps.{request_in}
+use Rattle.mr_service.specs.Requests.{lacks_day, lacks_time, ok_unless, slots_in, request_or_fault}
 
 -- ---- one word
 
+-- a word that isn't read gives a refusal
 pub err-none : {T : Type 0} (o : Option T) (e : Refusal) → is_err (ok_or o e) ≡ is_none o
 err-none None e = refl
 err-none (Some x) e = refl
 
+-- a word that is read gives its value
 pub read_ok : {T : Type 0} (b : Bool) (x y : T) (e : Refusal) → ok_or (cond b (Some x) None) e ≡ Ok y → (is_none (cond b (Some x) None) ≡ false) × (y ≡ x)
 read_ok {T} true x y e h = (refl, (let g : ◌≡◌ {A = Result T Refusal} (Ok x) (Ok y) = h in cc))
 read_ok {T} false x y e h = absurd (let g : ◌≡◌ {A = Result T Refusal} (Err e) (Ok y) = h in cc)
 
+-- where a word is refused there is no value
 pub read_err : {T : Type 0} (o : Option T) (e f : Refusal) → ok_or o e ≡ Err f → is_none o ≡ true
 read_err None e f h = refl
 read_err {T} (Some x) e f h = absurd (let g : ◌≡◌ {A = Result T Refusal} (Ok x) (Err f) = h in cc)
 
 -- ---- the slot of a choice
 
+-- a choice whose day can't be read is refused for it
 pub no_day : (w : SlotWords) (e : Refusal) (s : Slot) → ok_or (read_date w.day) BadDay ≡ Err e → Err BadDay ≡ unless ((lacks_day w, BadDay) ∷ (lacks_time w, BadTime) ∷ []) s
 no_day w e s h = λ i. unless ((sym (read_err (read_date w.day) BadDay e h) i, BadDay) ∷ (lacks_time w, BadTime) ∷ []) s
 
+-- and one whose time alone can't be, for that
 pub no_time : (w : SlotWords) (d : Date) (e : Refusal) (s : Slot) → ok_or (read_date w.day) BadDay ≡ Ok d → ok_or (read_time w.time) BadTime ≡ Err e → Err BadTime ≡ unless ((lacks_day w, BadDay) ∷ (lacks_time w, BadTime) ∷ []) s
 no_time w d e s g h =
     let day : lacks_day w ≡ false = (read_ok (is_date (date_in w.day) && bytes_eq (date_text (date_in w.day)) w.day) (date_in w.day) d BadDay g).0 in
     λ i. unless ((sym day i, BadDay) ∷ (sym (read_err (read_time w.time) BadTime e h) i, BadTime) ∷ []) s
 
+-- where both are read, its slot is made
 pub slot_read : (w : SlotWords) (d : Date) (m : ℕ) → ok_or (read_date w.day) BadDay ≡ Ok d → ok_or (read_time w.time) BadTime ≡ Ok m → m < 1440 → ok_if (leb m 1439) (record { day = d; start = m }) BadTime ≡ unless ((lacks_day w, BadDay) ∷ (lacks_time w, BadTime) ∷ []) (slot_of w)
 slot_read w d m g h l =
     let (day, d_is) = read_ok (is_date (date_in w.day) && bytes_eq (date_text (date_in w.day)) w.day) (date_in w.day) d BadDay g in
@@ -70,6 +77,7 @@ slot_there {A} f ws i w s e at l day time h = no_refusal (f w) s e (one lacks_da
     one : (p : SlotWords → Bool) → list_any (λ x. p (f x)) ws ≡ false → p (f w) ≡ false
     one p n = false_from_ne_true (p (f w)) (λ y. true≢false (sym (list_any_at (λ x. p (f x)) ws i w l (ap (λ x. p (f x)) (sym at) ∙ y)) ∙ n))
 
+-- a slot that is read is that of the words
 pub slot_value : (w : SlotWords) (s : Slot) → unless ((lacks_day w, BadDay) ∷ (lacks_time w, BadTime) ∷ []) (slot_of w) ≡ Ok s → s ≡ slot_of w
 slot_value w s h = go (lacks_day w) (lacks_time w) h
   where
@@ -78,33 +86,25 @@ slot_value w s h = go (lacks_day w) (lacks_time w) h
     go false true k = absurd (let g : ◌≡◌ {A = Result Slot Refusal} (Err BadTime) (Ok s) = k in cc)
     go false false k = let g : ◌≡◌ {A = Result Slot Refusal} (Ok (slot_of w)) (Ok s) = k in cc
 
-pub map-twice : {A B C : Type 0} (g : B → C) (f : A → B) (xs : List A) → map (λ x. g (f x)) xs ≡ map g (map f xs)
-map-twice g f [] = refl
-map-twice g f (x ∷ xs) = ap (λ ys. g (f x) ∷ ys) (map-twice g f xs)
-
 -- ---- the choices
 
 -- the choices, where this says whether some day, and some time, can't be read
 abbrev pub chosen_if : Submission → Bool → Bool → Result (Slot × List Slot) model.Refusal
 chosen_if s a b = ok_unless (model.first_refusal ((a, model.BadDay) ∷ (b, model.BadTime) ∷ [])) (slot_of s.wish, map slot_of s.alternatives)
 
+-- a test of images
 pub any-map : {A B : Type 0} (p : B → Bool) (f : A → B) (xs : List A) → list_any (λ x. p (f x)) xs ≡ list_any p (map f xs)
 any-map p f [] = refl
 any-map p f (x ∷ xs) = ap (λ b. p (f x) || b) (any-map p f xs)
 
-pub no_day_in : (s : Submission) → list_any lacks_day (choice_words s) ≡ true → slots_in s ≡ Err model.BadDay
-no_day_in s d = ap (λ a. chosen_if s a (list_any lacks_time (choice_words s))) d
-
-pub no_time_in : (s : Submission) → list_any lacks_day (choice_words s) ≡ false → list_any lacks_time (choice_words s) ≡ true → slots_in s ≡ Err model.BadTime
-no_time_in s d t = λ i. chosen_if s (d i) (t i)
-
+-- the choices, where each has both
 pub choices_in : (s : Submission) (choices : Slot × List Slot) → list_any lacks_day (choice_words s) ≡ false → list_any lacks_time (choice_words s) ≡ false → choices.0 ≡ slot_of s.wish → choices.1 ≡ map slot_of s.alternatives → slots_in s ≡ Ok choices
 choices_in s choices d t w o = (λ i. chosen_if s (d i) (t i)) ∙ (λ i. Ok (sym w i, sym o i))
 
 -- ---- the request
 
 -- where the choices are refused, so is the request
-pub choices_refused : (s : Submission) (e : model.Refusal) → slots_in s ≡ Err e → request_in s ≡ Err e
+pub choices_refused : (s : Submission) (e : model.Refusal) → slots_in s ≡ Err e → request_or_fault s ≡ Err e
 choices_refused s e h = go (list_any lacks_day (choice_words s)) (list_any lacks_time (choice_words s)) h
   where
     rest : List (Bool × model.Refusal)
@@ -112,7 +112,7 @@ choices_refused s e h = go (list_any lacks_day (choice_words s)) (list_any lacks
         (is_bad_length s, model.BadLength) ∷ (not (is_room_name s.room), model.BadRoomName) ∷ (not (is_title s.title), model.BadTitle)
         ∷ (ltb greatest_alternatives (length s.alternatives), model.TooManyAlternatives) ∷ []
 
-    go : (a b : Bool) → chosen_if s a b ≡ Err e → ok_unless (model.first_refusal ((a, model.BadDay) ∷ (b, model.BadTime) ∷ rest)) (request_of s) ≡ Err e
+    go : (a b : Bool) → chosen_if s a b ≡ Err e → ok_unless (model.first_refusal ((a, model.BadDay) ∷ (b, model.BadTime) ∷ rest)) (request_in s) ≡ Err e
     go true b k = let g : ◌≡◌ {A = Result (Slot × List Slot) model.Refusal} (Err model.BadDay) (Err e) = k in cc
     go false true k = let g : ◌≡◌ {A = Result (Slot × List Slot) model.Refusal} (Err model.BadTime) (Err e) = k in cc
     go false false k = absurd (let g : chosen_if s false false ≡ Err e = k in cc)
@@ -124,6 +124,7 @@ pub record Chosen (s : Submission) (choices : Slot × List Slot) : Type 0 where
   pub wish : choices.0 ≡ slot_of s.wish
   pub alternatives : choices.1 ≡ map slot_of s.alternatives
 
+-- choices that are read are those of the words, at no fault
 pub choices_known : (s : Submission) (choices : Slot × List Slot) → slots_in s ≡ Ok choices → Chosen s choices
 choices_known s choices h = go (list_any lacks_day (choice_words s)) refl (list_any lacks_time (choice_words s)) refl h
   where
@@ -143,6 +144,7 @@ length_known t n h = go (within 1 1440 (number_in t) && bytes_eq (decimal (numbe
     go true e k = (e, some_inj n (number_in t) (sym k))
     go false e k = absurd (none_some n k)
 
+-- no number is read of another text
 length_lacking : (t : Text) → only_if (within 1 1440 (number_in t) && bytes_eq (decimal (number_in t)) t) (number_in t) ≡ None → is_length_text t ≡ false
 length_lacking t h = go (within 1 1440 (number_in t) && bytes_eq (decimal (number_in t)) t) refl h
   where
@@ -156,9 +158,10 @@ made_if s d t l =
     ok_unless
     (model.first_refusal
     ((d, model.BadDay) ∷ (t, model.BadTime) ∷ (l, model.BadLength) ∷ (not (is_room_name s.room), model.BadRoomName)
-    ∷ (not (is_title s.title), model.BadTitle) ∷ (ltb greatest_alternatives (length s.alternatives), model.TooManyAlternatives) ∷ [])) (request_of s)
+    ∷ (not (is_title s.title), model.BadTitle) ∷ (ltb greatest_alternatives (length s.alternatives), model.TooManyAlternatives) ∷ [])) (request_in s)
 
-pub length_refused : (s : Submission) (choices : Slot × List Slot) → slots_in s ≡ Ok choices → only_if (within 1 1440 (number_in s.length) && bytes_eq (decimal (number_in s.length)) s.length) (number_in s.length) ≡ None → request_in s ≡ Err model.BadLength
+-- a length that isn't read is a bad one
+pub length_refused : (s : Submission) (choices : Slot × List Slot) → slots_in s ≡ Ok choices → only_if (within 1 1440 (number_in s.length) && bytes_eq (decimal (number_in s.length)) s.length) (number_in s.length) ≡ None → request_or_fault s ≡ Err model.BadLength
 length_refused s choices h n =
     let k = choices_known s choices h in
     let bad : is_bad_length s ≡ true = ap (λ b. not b || list_any (λ c. not (fits_day (number_in s.length) (slot_of c))) (choice_words s)) (length_lacking s.length n) in
@@ -183,6 +186,7 @@ slots_there (w ∷ ws) d t n =
     turned true b = refl
     turned false b = refl
 
+-- the test of the length of a request is that of the words
 length-same : (s : Submission) (n : ℕ) → Chosen s (slot_of s.wish, map slot_of s.alternatives) → is_length_text s.length ≡ true → n ≡ number_in s.length → not (is_length_for n (slot_of s.wish ∷ map slot_of s.alternatives)) ≡ is_bad_length s
 length-same s n k ok e =
     ap (λ m. not (is_length_for m (slot_of s.wish ∷ map slot_of s.alternatives))) e
@@ -194,12 +198,14 @@ length-same s n k ok e =
     twice true = refl
     twice false = refl
 
+-- an answer of the program as one of the definitions
 gives : {T : Type 0} (result exact : Result T Refusal) → OrOutOfMemory result exact → Gives result (answer_of exact)
 gives (Ok x) exact h = ap answer_of h
 gives (Err e) exact (inl h) = inl (ap answer_of h)
 gives (Err e) exact (inr h) = inr h
 
-pub request_made : (s : Submission) (choices : Slot × List Slot) (n : ℕ) (result : Result Request Refusal) → slots_in s ≡ Ok choices → only_if (within 1 1440 (number_in s.length) && bytes_eq (decimal (number_in s.length)) s.length) (number_in s.length) ≡ Some n → OrOutOfMemory result (base.request_of s.room s.title n choices.0 choices.1) → Gives result (request_in s)
+-- where choices and length are read, the request is that of the words, or refused for its smallest fault
+pub request_made : (s : Submission) (choices : Slot × List Slot) (n : ℕ) (result : Result Request Refusal) → slots_in s ≡ Ok choices → only_if (within 1 1440 (number_in s.length) && bytes_eq (decimal (number_in s.length)) s.length) (number_in s.length) ≡ Some n → OrOutOfMemory result (base.request_of s.room s.title n choices.0 choices.1) → Gives result (request_or_fault s)
 request_made s choices n result h l made = subst (Gives result) whole (gives result (base.request_of s.room s.title n choices.0 choices.1) made)
   where
     k : Chosen s choices
@@ -224,9 +230,9 @@ request_made s choices n result h l made = subst (Gives result) whole (gives res
     plain : base.request_of s.room s.title n choices.0 choices.1 ≡ base.request_of s.room s.title (number_in s.length) (slot_of s.wish) (map slot_of s.alternatives)
     plain = λ i. base.request_of s.room s.title (number.1 i) (k.wish i) (k.alternatives i)
 
-    whole : answer_of (base.request_of s.room s.title n choices.0 choices.1) ≡ request_in s
+    whole : answer_of (base.request_of s.room s.title n choices.0 choices.1) ≡ request_or_fault s
     whole =
         ap answer_of plain
-        ∙ (λ i. answer_of (unless ((length-same s (number_in s.length) own number.0 refl i, BadLength) ∷ (not (is_room_name s.room), BadRoomName) ∷ (not (is_title s.title), BadTitle) ∷ (few i, TooManyAlternatives) ∷ []) (request_of s)))
-        ∙ answered (is_bad_length s) (not (is_room_name s.room)) (not (is_title s.title)) (ltb greatest_alternatives (length s.alternatives)) (request_of s)
+        ∙ (λ i. answer_of (unless ((length-same s (number_in s.length) own number.0 refl i, BadLength) ∷ (not (is_room_name s.room), BadRoomName) ∷ (not (is_title s.title), BadTitle) ∷ (few i, TooManyAlternatives) ∷ []) (request_in s)))
+        ∙ answered (is_bad_length s) (not (is_room_name s.room)) (not (is_title s.title)) (ltb greatest_alternatives (length s.alternatives)) (request_in s)
         ∙ (λ i. made_if s (sym k.days i) (sym k.times i) (is_bad_length s))

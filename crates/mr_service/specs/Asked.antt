@@ -1,28 +1,24 @@
 -- Commands and replies, as values of the definitions.
-use Rattle.std.specs.Prelude.{Bool, true, false, List, [], ◌∷◌, map, Result, Ok, Err}
+use Rattle.std.specs.Prelude.{map, Result, Ok, Err}
 use Rattle.std.specs.String.{string_bytes}
-use Rattle.mr_model.specs.Texts.{Text, words}
-use Rattle.mr_model.specs.Calendar.{Date}
-use Rattle.mr_model.specs.Writes.{id_text}
-use Rattle.mr_model.specs.View.{AskSheet}
+use Rattle.mr_model.specs.View.{AskSheet, AskCalendar, AskOutcome, AskErrors}
 use Rattle.mr_model.specs.Step as model
 use Rattle.mr_model.specs.Replies as replies
+use Rattle.mr_model.specs.Queries.{row_entry, row_logging}
 use Rattle.mr_base.specs.declared.refusals.Refusal.{Refusal}
 use Rattle.mr_base.specs.Refusals.{refusal_of}
 use Rattle.mr_service.specs.declared.commands.Command.{Command}
 use Rattle.mr_service.specs.declared.commands.Command.TheVariants as command
 use Rattle.mr_service.specs.declared.commands.Local.{Local}
 use Rattle.mr_service.specs.declared.commands.Local.TheVariants as local
+use Rattle.mr_service.specs.declared.commands.Part.{Part}
+use Rattle.mr_service.specs.declared.commands.Part.TheVariants as part
 use Rattle.mr_service.specs.declared.commands.Submission.{Submission}
 use Rattle.mr_service.specs.declared.commands.SlotWords.{SlotWords}
 use Rattle.mr_service.specs.declared.replies.Reply.{Reply}
 use Rattle.mr_service.specs.declared.replies.Reply.TheVariants as reply
-use Rattle.mr_service.specs.declared.replies.Mark.{Mark}
-use Rattle.mr_service.specs.declared.replies.Mark.TheVariants.{Committed, Tentative}
 use Rattle.mr_service.specs.declared.replies.Outcome.{Outcome}
 use Rattle.mr_service.specs.declared.replies.Outcome.TheVariants as outcome
-use Rattle.mr_service.specs.declared.replies.Sheet.{Sheet}
-use Rattle.mr_service.specs.declared.replies.SheetRow.{SheetRow}
 
 -- ---- commands
 
@@ -39,51 +35,46 @@ submission_of s =
       alternatives = map words_of s.alternatives.items;
     }
 
+abbrev pub part_of : Part → replies.Part
+part_of part.Full = replies.Full
+part_of part.Committed = replies.Committed
+
 abbrev pub local_of : Local → model.Command
 local_of (local.AddRoom room) = model.AddRoom (string_bytes room)
 local_of (local.Submit s) = model.Submit (submission_of s)
+local_of (local.Commit k) = model.Commit k
+local_of (local.Truncate d) = model.Truncate d
+local_of local.Position = model.AskPosition
+local_of (local.BatchFor position max_lines) = model.BatchFor position.items max_lines
+local_of (local.Calendar room part) = model.Ask (string_bytes room) (AskCalendar (part_of part))
 local_of (local.Sheet room day) = model.Ask (string_bytes room) (AskSheet (string_bytes day))
+local_of (local.Outcome room id) = model.Ask (string_bytes room) (AskOutcome (string_bytes id))
+local_of (local.Errors room) = model.Ask (string_bytes room) AskErrors
 
 abbrev pub command_of : Command → model.Command
 command_of (command.Local l) = local_of l
+command_of (command.Receive bytes) = model.Receive bytes.items
 
 -- ---- replies
 
-abbrev pub is_committed : Mark → Bool
-is_committed Committed = true
-is_committed Tentative = false
-
 abbrev pub outcome_of : Outcome → replies.Outcome
-outcome_of (outcome.Booked id mark day start stop) = replies.Booked id (is_committed mark) day start stop
-outcome_of (outcome.Logged id mark) = replies.NotBooked id (is_committed mark)
-
--- a row of the sheet of this day
-abbrev pub entry_of : Date → SheetRow → replies.Entry
-entry_of day row =
-    record {
-      day = day;
-      start = row.start;
-      stop = row.stop;
-      is_committed = is_committed row.mark;
-      id = row.id;
-      title = row.title;
-    }
-
--- as a sheet of any day shows it
-abbrev pub row_line : SheetRow → Text
-row_line row =
-    words (replies.span row.start row.stop ∷ replies.mark (is_committed row.mark) ∷ id_text row.id ∷ row.title ∷ [])
-
-abbrev pub sheet_of : Sheet → replies.Reply
-sheet_of s = replies.Sheet s.room s.day (map (entry_of s.day) s.rows.items)
+outcome_of (outcome.Booked b) = replies.Booked b.id b.is_committed b.day b.start b.stop
+outcome_of (outcome.Logged id is_committed) = replies.NotBooked id is_committed
 
 abbrev pub reply_of : Reply → replies.Reply
 reply_of reply.RoomAdded = replies.RoomAdded
 reply_of (reply.Outcome o) = replies.OutcomeIs (outcome_of o)
-reply_of (reply.Sheet s) = sheet_of s
+reply_of (reply.Took writes commits) = replies.Took writes commits
+reply_of (reply.Committed n) = replies.CommittedIs n
+reply_of (reply.Dropped n) = replies.DroppedIs n
+reply_of (reply.Position p) = replies.PositionIs p
+reply_of (reply.Batch b) = replies.BatchIs b
+reply_of (reply.Sheet room day rows) = replies.Sheet room day (map row_entry rows.items)
+reply_of (reply.Calendar room part rows) = replies.Calendar room (part_of part) (map row_entry rows.items)
+reply_of (reply.Errors room rows) = replies.Errors room (map row_logging rows.items)
 reply_of (reply.Refused e) = replies.Refused (refusal_of e)
 
 -- what is replied where a call answers this
-abbrev pub reply_with : {T : Type 0} → (T → replies.Reply) → Result T Refusal → replies.Reply
-reply_with f (Ok x) = f x
-reply_with f (Err e) = replies.Refused (refusal_of e)
+abbrev pub reply_in : Result Reply Refusal → replies.Reply
+reply_in (Ok r) = reply_of r
+reply_in (Err e) = replies.Refused (refusal_of e)

@@ -1,8 +1,12 @@
+use mr_base::LineCount;
+
 /// A command to a replica.
 #[derive(Debug, Drop)]
 pub enum Command {
     /// A command of somebody at the replica itself.
     Local(Local),
+    /// Takes the batch with this text, which another replica made.
+    Receive(Vec<u8>),
 }
 
 /// A command of somebody at the replica itself. Its words are texts, which the replica reads.
@@ -12,8 +16,43 @@ pub enum Local {
     AddRoom(String),
     /// Books a room.
     Submit(Submission),
+    /// Commits that many tentative writes, at the primary.
+    Commit(u64),
+    /// Keeps commits up to this number no longer, at another replica.
+    Truncate(u64),
+    /// Asks how far the replica's knowledge goes.
+    Position,
+    /// Asks for what a replica lacks that is at the position with this text, in that many lines at most.
+    BatchFor {
+        position: Vec<u8>,
+        max_lines: LineCount,
+    },
+    /// Asks for the bookings of a room.
+    Calendar {
+        room: String,
+        part: Part,
+    },
     /// Asks for the bookings of a room on a day.
-    Sheet { room: String, day: String },
+    Sheet {
+        room: String,
+        day: String,
+    },
+    /// Asks what became of the request with this id.
+    Outcome {
+        room: String,
+        id: String,
+    },
+    /// Asks for the requests of a room that found no free slot.
+    Errors {
+        room: String,
+    },
+}
+
+/// The bookings of all known requests, or of the committed ones alone.
+#[derive(Clone, Copy, Debug, PartialEq, Eq)]
+pub enum Part {
+    Full,
+    Committed,
 }
 
 /// A request for a room: the wished slot of that length, and the slots that would be taken in its place, in order.

@@ -1,24 +1,32 @@
-//! Commands to one replica, and its replies.
+//! Commands to one replica, and its replies, over any keeper of its tables.
 //!
-//! Below stand the definitions (`mr_model`) and the types within their limits (`mr_base`); scripts, command lines and
-//! the program stand above. `Service` is the plain form: it keeps the known rooms and the known writes with their
-//! places in lists. The contract of `Service::ask` says that each command is one step of the definitions, that of
-//! `reply_text` that a reply is written as the definitions write it.
+//! Below stand the keepers (`mr_store`), the desk (`mr_replica`) and the texts of exchanges (`mr_wire`); scripts, HTTP and the
+//! program stand above. The contract of `Service::ask` says that each command is one step of the definitions, for every
+//! replica that the keeper's tables stand for; that of `run` the same of lists of commands, with the answers to all questions;
+//! that of `World::run` that lists of steps of many replicas are runs of the definitions' world.
 #![tactic(auto)]
 
-#[cfg(test)]
-mod asking_tests;
+mod changing;
 mod commands;
-mod placed;
+mod members;
+mod outcomes;
+mod questions;
 mod replies;
-mod rooms;
+mod runs;
 mod services;
-mod sheets;
-mod submissions;
+mod steps;
+#[cfg(test)]
+mod text_tests;
 mod texts;
 mod words;
+mod world_batches;
+mod world_steps;
+mod worlds;
 
-pub use commands::{Command, Local, SlotWords, Submission};
-pub use replies::{Mark, Outcome, Reply, Sheet, SheetRow};
+pub use commands::{Command, Local, Part, SlotWords, Submission};
+pub use replies::{Booking, Outcome, Reply};
+pub use runs::{run, run_over_lists};
 pub use services::Service;
-pub use texts::{refusal_text, reply_text};
+pub use steps::{Step, StepReply};
+pub use texts::{refusal_text, reply_text, sheet_text};
+pub use worlds::World;

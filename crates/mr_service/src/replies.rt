@@ -1,4 +1,6 @@
-use mr_base::{Day, Refusal, RoomName, TimeOfDay, Title, WriteId};
+use crate::commands::Part;
+use mr_base::{Batch, Day, Position, Refusal, RoomName, WriteId};
+use mr_replica::{BookingRow, ErrorRow};
 
 /// What a replica replies to a command.
 #[derive(Debug, Drop)]
@@ -7,50 +9,54 @@ pub enum Reply {
     RoomAdded,
     /// What became of a request.
     Outcome(Outcome),
-    /// The bookings of a room on a day.
-    Sheet(Sheet),
+    /// How many writes and commits of a batch were new.
+    Took {
+        writes: u64,
+        commits: u64,
+    },
+    /// How many writes were committed.
+    Committed(u64),
+    /// How many commits are dropped now.
+    Dropped(u64),
+    /// How far the replica's knowledge goes.
+    Position(Position),
+    /// What another replica lacks.
+    Batch(Batch),
+    /// The bookings of a room on a day, by rising start.
+    Sheet {
+        room: RoomName,
+        day: Day,
+        rows: Vec<BookingRow>,
+    },
+    /// The bookings of a room, by rising day and start.
+    Calendar {
+        room: RoomName,
+        part: Part,
+        rows: Vec<BookingRow>,
+    },
+    /// The requests of a room that found no free slot, in the order of their execution.
+    Errors {
+        room: RoomName,
+        rows: Vec<ErrorRow>,
+    },
     /// The command was refused, and changed nothing.
     Refused(Refusal),
 }
 
-/// Whether a write is committed.
-#[derive(Clone, Copy, Debug, PartialEq, Eq)]
-pub enum Mark {
-    Committed,
-    Tentative,
-}
-
 /// What became of a request: it was booked, or logged as an error because all its choices were taken.
-#[derive(Clone, Copy, Debug, PartialEq, Eq)]
+#[derive(Clone, Copy, Debug)]
 pub enum Outcome {
     /// It has the minutes of the day from `start` up to, not with, `stop`.
-    Booked {
-        id: WriteId,
-        mark: Mark,
-        day: Day,
-        start: TimeOfDay,
-        stop: TimeOfDay,
-    },
-    Logged {
-        id: WriteId,
-        mark: Mark,
-    },
+    Booked(Booking),
+    Logged { id: WriteId, is_committed: bool },
 }
 
-/// The bookings of a room on a day, by rising start.
-#[derive(Debug, Drop)]
-pub struct Sheet {
-    pub room: RoomName,
-    pub day: Day,
-    pub rows: Vec<SheetRow>,
-}
-
-/// A booking on a sheet.
-#[derive(Debug, Drop)]
-pub struct SheetRow {
-    pub start: TimeOfDay,
-    pub stop: TimeOfDay,
-    pub mark: Mark,
+/// The slot that a request has.
+#[derive(Clone, Copy, Debug)]
+pub struct Booking {
     pub id: WriteId,
-    pub title: Title,
+    pub is_committed: bool,
+    pub day: Day,
+    pub start: mr_base::TimeOfDay,
+    pub stop: mr_base::TimeOfDay,
 }

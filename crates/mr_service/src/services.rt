@@ -1,81 +1,111 @@
-ghost use Rattle.std.specs.Prelude.{◌≡◌};
-ghost use Rattle.mr_model.specs.Replica.{Replica, opening};
-ghost use Rattle.mr_model.specs.Step.{IsStep};
-ghost use Rattle.mr_service.specs.Asked.{command_of, local_of, reply_of};
-ghost use Rattle.mr_service.specs.Requests.{StepsInMemory};
+ghost use Rattle.std.specs.Prelude.{◌≡◌, ◌⊎◌};
+ghost use Rattle.mr_model.specs.Step.{IsOfMachine};
+ghost use Rattle.mr_model.specs.Serving.{TakesStep, Reaches};
+ghost use Rattle.mr_model.specs.Tables.{Tables};
+ghost use Rattle.mr_store.specs.Kept.{IsSettled};
+ghost use Rattle.mr_service.specs.Asked.{command_of, local_of, reply_of, reply_in};
+ghost use Rattle.mr_service.specs.Asking.{Counts, NoneFails};
 
+use crate::changing::{add_room, batch_for, commit, position, receive, submit, truncate};
 use crate::commands::{Command, Local};
-use crate::placed::Placed;
+use crate::questions::{calendar, errors, outcome, sheet};
 use crate::replies::Reply;
-use mr_base::{RoomName, ServerId};
+use mr_base::Refusal;
+use mr_store::Keeper;
 use std::alloc::Global;
 use std::marker::Model;
 
-/// A replica that is asked commands, one at a time.
-///
-/// Its lists grow by every command that adds to them, and by no other.
+/// A replica that is asked commands, one at a time. Between commands everything stands in its keeper.
 #[derive(Drop)]
-pub struct Service {
-    pub(crate) alloc: Global,
-    pub(crate) server: ServerId,
-    pub(crate) primary: ServerId,
-    // in stamp order
-    pub(crate) placed: Vec<Placed>,
-    // in the order of their names
-    pub(crate) rooms: Vec<RoomName>,
+pub struct Service<K: Keeper> {
+    alloc: Global,
+    keeper: K,
 }
 
-impl Model for Service {
-    ghost use Rattle.mr_model.specs.Replica.{Replica};
-    ghost use Rattle.mr_service.specs.Placed.{replica_of, AreKept};
+impl<K: Keeper> Model for Service<K> {
+    ghost Value = { K };
 
-    ghost Value = { Replica };
+    ghost coded = { K.code };
 
-    ghost view = { λ s. replica_of s.server s.primary s.placed.items s.rooms.items };
-
-    ghost invariant = { λ s. AreKept s.server s.primary s.placed.items s.rooms.items };
+    ghost view = { λ s. s.keeper };
 }
 
-impl Service {
-    /// The opening replica of `server`, which knows no room and no write. `primary` is the server that commits.
-    pub fn new(alloc: Global, server: ServerId, primary: ServerId) -> Service
-        ensures { result ≡ opening server primary }
+impl<K: Keeper> Service<K> {
+    /// The replica that the keeper's tables stand for. It takes the memory of its replies from this allocator.
+    pub fn new(alloc: Global, keeper: K) -> Service<K>
+        ensures { result ≡ keeper }
     {
-        Service {
-            alloc,
-            server,
-            primary,
-            placed: Vec::new(alloc),
-            rooms: Vec::new(alloc),
-        }
+        Service { alloc, keeper }
     }
 
-    /// Does what the command says, and replies. A refusal changes nothing; want of memory is one.
+    /// The keeper, with all that was done.
+    pub fn into_keeper(self) -> K
+        ensures { result ≡ self }
+    {
+        self.keeper
+    }
+
+    /// Does what the command says, and replies. A refusal changes nothing; want of memory is one, and a failure of the store
+    /// another.
     pub fn ask(&mut self, command: &Command) -> Reply
-        ensures step { IsStep self.old (command_of command.now) (reply_of result) self.new }
-        ensures in_memory { StepsInMemory self.old (command_of command.now) (reply_of result) self.new }
+        ensures clean { K.is_clean self.new → K.is_clean self.old }
+        ensures open { K.is_clean self.new → K.is_open self.new → K.is_open self.old }
+        ensures step { K.is_clean self.new → K.is_open self.new → TakesStep (K.tables self.old) (command_of command.now) (reply_of result) (K.tables self.new) }
+        ensures counts { Counts (reply_of result) (K.failures self.old) (K.failures self.new) }
+        ensures sure { K.never_fails → K.is_clean self.new → K.is_open self.new → NoneFails (K.tables self.old) (K.failures self.old) (K.failures self.new) }
+        ensures lasts { K.is_clean self.new → K.is_open self.old → IsOfMachine (reply_of result) ⊎ K.is_open self.new }
+        ensures settled { K.is_clean self.new → K.is_open self.new → IsSettled (K.may_leave self.old) (K.tables self.old) → IsSettled (K.may_leave self.new) (K.tables self.new) }
+        ensures crash { K.is_clean self.new → K.is_open self.old → (t : Tables) → K.may_leave self.new t → K.may_leave self.old t ⊎ Reaches (K.tables self.old) (command_of command.now) t }
     {
         match command {
-            Command::Local(local) => self.ask_local(local),
+            Command::Local(local) => said(ask_local(&mut self.keeper, self.alloc, local)),
+            Command::Receive(bytes) => said(receive(
+                &mut self.keeper,
+                self.alloc,
+                bytes.as_slice(),
+            )),
         }
     }
+}
 
-    fn ask_local(&mut self, local: &Local) -> Reply
-        ensures { StepsInMemory self.old (local_of local.now) (reply_of result) self.new }
-    {
-        match local {
-            Local::AddRoom(room) => match self.add_room(room.as_str()) {
-                Ok(()) => Reply::RoomAdded,
-                Err(refusal) => Reply::Refused(refusal),
-            },
-            Local::Submit(submission) => match self.submit(submission) {
-                Ok(outcome) => Reply::Outcome(outcome),
-                Err(refusal) => Reply::Refused(refusal),
-            },
-            Local::Sheet { room, day } => match self.sheet(room.as_str(), day.as_str()) {
-                Ok(sheet) => Reply::Sheet(sheet),
-                Err(refusal) => Reply::Refused(refusal),
-            },
-        }
+/// Does what a command of somebody at the replica itself says.
+pub(crate) fn ask_local<K: Keeper>(
+    keeper: &mut K,
+    alloc: Global,
+    command: &Local,
+) -> Result<Reply, Refusal>
+    ensures clean { K.is_clean keeper.new → K.is_clean keeper.old }
+    ensures open { K.is_clean keeper.new → K.is_open keeper.new → K.is_open keeper.old }
+    ensures step { K.is_clean keeper.new → K.is_open keeper.new → TakesStep (K.tables keeper.old) (local_of command.now) (reply_in result) (K.tables keeper.new) }
+    ensures counts { Counts (reply_in result) (K.failures keeper.old) (K.failures keeper.new) }
+    ensures sure { K.never_fails → K.is_clean keeper.new → K.is_open keeper.new → NoneFails (K.tables keeper.old) (K.failures keeper.old) (K.failures keeper.new) }
+    ensures lasts { K.is_clean keeper.new → K.is_open keeper.old → IsOfMachine (reply_in result) ⊎ K.is_open keeper.new }
+    ensures settled { K.is_clean keeper.new → K.is_open keeper.new → IsSettled (K.may_leave keeper.old) (K.tables keeper.old) → IsSettled (K.may_leave keeper.new) (K.tables keeper.new) }
+    ensures crash { K.is_clean keeper.new → K.is_open keeper.old → (t : Tables) → K.may_leave keeper.new t → K.may_leave keeper.old t ⊎ Reaches (K.tables keeper.old) (local_of command.now) t }
+{
+    match command {
+        Local::AddRoom(room) => add_room(keeper, alloc, room.as_str()),
+        Local::Submit(words) => submit(keeper, alloc, words),
+        Local::Commit(count) => commit(keeper, *count),
+        Local::Truncate(number) => truncate(keeper, *number),
+        Local::Position => position(keeper),
+        Local::BatchFor {
+            position,
+            max_lines,
+        } => batch_for(keeper, alloc, position.as_slice(), *max_lines),
+        Local::Calendar { room, part } => calendar(keeper, alloc, room.as_str(), *part),
+        Local::Sheet { room, day } => sheet(keeper, alloc, room.as_str(), day.as_str()),
+        Local::Outcome { room, id } => outcome(keeper, alloc, room.as_str(), id.as_str()),
+        Local::Errors { room } => errors(keeper, alloc, room.as_str()),
+    }
+}
+
+/// The reply that tells what a call answered.
+pub(crate) fn said(answer: Result<Reply, Refusal>) -> Reply
+    ensures { reply_of result ≡ reply_in answer }
+{
+    match answer {
+        Ok(reply) => reply,
+        Err(refusal) => Reply::Refused(refusal),
     }
 }

@@ -1,26 +1,42 @@
-ghost use Rattle.std.specs.Prelude.{◌≡◌, [], ◌∷◌, ◌++◌, map, codes, decimal, OnOk, IfOk, IfErr};
+ghost use Rattle.std.specs.Prelude.{◌≡◌, [], ◌∷◌, ◌++◌, map, codes, OnOk, IfOk, IfErr};
 ghost use Rattle.std.specs.String.{string_bytes};
 ghost use Rattle.mr_model.specs.Texts.{line, lines_text, words};
 ghost use Rattle.mr_model.specs.Calendar.{date_text};
+ghost use Rattle.mr_model.specs.Queries.{row_entry, row_logging};
+ghost use Rattle.mr_model.specs.Replies.{sheet_line, calendar_line, logging_line, lines_or};
 ghost use Rattle.mr_model.specs.Replies as replies;
 ghost use Rattle.mr_model.specs.Refusals as refusals;
 ghost use Rattle.mr_base.specs.Refusals.{refusal_of};
-ghost use Rattle.mr_service.specs.Asked.{reply_of, outcome_of, sheet_of, row_line};
+ghost use Rattle.mr_service.specs.Asked.{part_of, outcome_of, reply_of};
 
-use crate::replies::{Mark, Outcome, Reply, Sheet, SheetRow};
-use mr_base::{Day, Refusal, weekday_name};
+use crate::commands::Part;
+use crate::outcomes::{booked_id, logged_id};
+use crate::replies::{Outcome, Reply};
+use mr_base::{Day, Refusal, RoomName, TimeOfDay, weekday_name};
+use mr_replica::{BookingRow, ErrorRow};
+use mr_wire::{write_batch, write_position};
 use std::alloc::{AllocError, Global};
 use std::fmt;
-use std::fmt::Write as _;
 
 /// The reply as it is shown: its lines, each with its LF. Only memory is wanted for it.
 pub fn reply_text(alloc: Global, reply: &Reply) -> Result<Vec<u8>, Refusal>
     ensures text { IfOk result (λ bytes. bytes.items ≡ replies.reply_text (reply_of reply.now)) }
     ensures memory { IfErr result (λ e. e ≡ Refusal.OutOfMemory) }
 {
-    match text_of(alloc, reply) {
-        Ok(text) => Ok(text.into_bytes()),
-        Err(AllocError) => Err(Refusal::OutOfMemory),
+    match reply {
+        Reply::RoomAdded => room_added_text(alloc),
+        Reply::Outcome(outcome) => outcome_text(alloc, outcome),
+        Reply::Took { writes, commits } => took_text(alloc, *writes, *commits),
+        Reply::Committed(number) => committed_text(alloc, *number),
+        Reply::Dropped(number) => dropped_text(alloc, *number),
+        Reply::Position(position) => write_position(alloc, position),
+        Reply::Batch(batch) => write_batch(alloc, batch),
+        Reply::Sheet { room, day, rows } => sheet_text(alloc, room, *day, rows.as_slice()),
+        Reply::Calendar { room, part, rows } => {
+            calendar_text(alloc, room, *part, rows.as_slice())
+        }
+        Reply::Errors { room, rows } => errors_text(alloc, room, rows.as_slice()),
+        Reply::Refused(refusal) => refusal_text(alloc, refusal),
     }
 }
 
@@ -29,140 +45,222 @@ pub fn refusal_text(alloc: Global, refusal: &Refusal) -> Result<Vec<u8>, Refusal
     ensures text { IfOk result (λ bytes. bytes.items ≡ line (refusals.refusal_text (refusal_of refusal.now))) }
     ensures memory { IfErr result (λ e. e ≡ Refusal.OutOfMemory) }
 {
-    match refusal_line(alloc, refusal) {
-        Ok(text) => Ok(text.into_bytes()),
-        Err(AllocError) => Err(Refusal::OutOfMemory),
+    let (number, name) = (refusal.number(), refusal.name());
+    let text = match refusal.line() {
+        Some(at) => format!(in alloc; "refused {number} {name} {at}\n")?,
+        None => format!(in alloc; "refused {number} {name}\n")?,
+    };
+    Ok(text.into_bytes())
+}
+
+/// The sheet of a room on a day with these rows, as it is shown. Only memory is wanted for it.
+pub fn sheet_text(
+    alloc: Global,
+    room: &RoomName,
+    day: Day,
+    rows: &[BookingRow],
+) -> Result<Vec<u8>, Refusal>
+    ensures text { IfOk result (λ bytes. bytes.items ≡ replies.sheet_text room.now day (map row_entry rows.now)) }
+    ensures memory { IfErr result (λ e. e ≡ Refusal.OutOfMemory) }
+{
+    let mut text = String::new(alloc);
+    push_sheet_head(&mut text, room.as_str(), day, weekday_name(&day))?;
+    push_sheet_rows(&mut text, rows)?;
+    Ok(text.into_bytes())
+}
+
+fn calendar_text(
+    alloc: Global,
+    room: &RoomName,
+    part: Part,
+    rows: &[BookingRow],
+) -> Result<Vec<u8>, Refusal>
+    ensures text { IfOk result (λ bytes. bytes.items ≡ replies.reply_text (replies.Calendar room.now (part_of part) (map row_entry rows.now))) }
+    ensures memory { IfErr result (λ e. e ≡ Refusal.OutOfMemory) }
+{
+    let mut text = String::new(alloc);
+    push_head(&mut text, room.as_str(), part_name(part))?;
+    push_calendar_rows(&mut text, rows)?;
+    Ok(text.into_bytes())
+}
+
+fn errors_text(alloc: Global, room: &RoomName, rows: &[ErrorRow]) -> Result<Vec<u8>, Refusal>
+    ensures text { IfOk result (λ bytes. bytes.items ≡ replies.reply_text (replies.Errors room.now (map row_logging rows.now))) }
+    ensures memory { IfErr result (λ e. e ≡ Refusal.OutOfMemory) }
+{
+    let mut text = String::new(alloc);
+    push_head(&mut text, room.as_str(), "errors")?;
+    push_error_rows(&mut text, rows)?;
+    Ok(text.into_bytes())
+}
+
+fn room_added_text(alloc: Global) -> Result<Vec<u8>, Refusal>
+    ensures text { IfOk result (λ bytes. bytes.items ≡ replies.reply_text replies.RoomAdded) }
+    ensures memory { IfErr result (λ e. e ≡ Refusal.OutOfMemory) }
+{
+    let text = String::from_str(alloc, "ok\n")?;
+    Ok(text.into_bytes())
+}
+
+fn took_text(alloc: Global, writes: u64, commits: u64) -> Result<Vec<u8>, Refusal>
+    ensures text { IfOk result (λ bytes. bytes.items ≡ replies.reply_text (replies.Took writes commits)) }
+    ensures memory { IfErr result (λ e. e ≡ Refusal.OutOfMemory) }
+{
+    let text = format!(in alloc; "took {writes} writes {commits} commits\n")?;
+    Ok(text.into_bytes())
+}
+
+fn committed_text(alloc: Global, number: u64) -> Result<Vec<u8>, Refusal>
+    ensures text { IfOk result (λ bytes. bytes.items ≡ replies.reply_text (replies.CommittedIs number)) }
+    ensures memory { IfErr result (λ e. e ≡ Refusal.OutOfMemory) }
+{
+    let text = format!(in alloc; "committed {number}\n")?;
+    Ok(text.into_bytes())
+}
+
+fn dropped_text(alloc: Global, number: u64) -> Result<Vec<u8>, Refusal>
+    ensures text { IfOk result (λ bytes. bytes.items ≡ replies.reply_text (replies.DroppedIs number)) }
+    ensures memory { IfErr result (λ e. e ≡ Refusal.OutOfMemory) }
+{
+    let text = format!(in alloc; "dropped {number}\n")?;
+    Ok(text.into_bytes())
+}
+
+fn outcome_text(alloc: Global, outcome: &Outcome) -> Result<Vec<u8>, Refusal>
+    ensures text { IfOk result (λ bytes. bytes.items ≡ line (replies.outcome_line (outcome_of outcome.now))) }
+    ensures memory { IfErr result (λ e. e ≡ Refusal.OutOfMemory) }
+{
+    let mut text = String::new(alloc);
+    push_outcome(&mut text, outcome)?;
+    Ok(text.into_bytes())
+}
+
+fn push_outcome(text: &mut String, outcome: &Outcome) -> Result<(), AllocError>
+    ensures { OnOk result (string_bytes text.new ≡ string_bytes text.old ++ line (replies.outcome_line (outcome_of outcome.now))) }
+{
+    match outcome {
+        Outcome::Booked(booking) => {
+            let mark = Mark {
+                is_committed: booking.is_committed,
+            };
+            let (id, day) = (booking.id, booking.day);
+            let (start, stop) = (booking.start, booking.stop);
+            write!(text, "{id} {mark} {day} {start}-{stop}\n")
+        }
+        Outcome::Logged { id, is_committed } => {
+            let mark = Mark {
+                is_committed: *is_committed,
+            };
+            write!(text, "{id} {mark} logged\n")
+        }
     }
 }
 
-fn text_of(alloc: Global, reply: &Reply) -> Result<String, AllocError>
-    ensures { IfOk result (λ text. string_bytes text ≡ replies.reply_text (reply_of reply.now)) }
+fn push_sheet_head(text: &mut String, room: &str, day: Day, weekday: &str) -> Result<(), AllocError>
+    ensures { OnOk result (string_bytes text.new ≡ string_bytes text.old ++ line (words (room.now ∷ date_text day ∷ weekday.now ∷ []))) }
 {
-    match reply {
-        Reply::RoomAdded => String::from_str(alloc, "ok\n"),
-        Reply::Outcome(outcome) => outcome_text(alloc, outcome),
-        Reply::Sheet(sheet) => sheet_text(alloc, sheet),
-        Reply::Refused(refusal) => refusal_line(alloc, refusal),
-    }
+    write!(text, "{room} {day} {weekday}\n")
 }
 
-fn outcome_text(alloc: Global, outcome: &Outcome) -> Result<String, AllocError>
-    ensures { IfOk result (λ text. string_bytes text ≡ line (replies.outcome_line (outcome_of outcome.now))) }
+fn push_head(text: &mut String, room: &str, what: &str) -> Result<(), AllocError>
+    ensures { OnOk result (string_bytes text.new ≡ string_bytes text.old ++ line (words (room.now ∷ what.now ∷ []))) }
 {
-    format!(in alloc; "{outcome}\n")
+    write!(text, "{room} {what}\n")
 }
 
-fn sheet_text(alloc: Global, sheet: &Sheet) -> Result<String, AllocError>
-    ensures { IfOk result (λ text. string_bytes text ≡ replies.reply_text (sheet_of sheet.now)) }
+fn push_sheet_rows(text: &mut String, rows: &[BookingRow]) -> Result<(), AllocError>
+    ensures { OnOk result (string_bytes text.new ≡ string_bytes text.old ++ lines_text (lines_or (codes "(no bookings)") (map sheet_line (map row_entry rows.now)))) }
 {
-    let mut text = head_line(
-        alloc,
-        sheet.room.as_str(),
-        sheet.day,
-        weekday_name(&sheet.day),
-    )?;
-    let rows = sheet.rows.as_slice();
     if rows.is_empty() {
-        text.push_str("(no bookings)\n")?;
-        return Ok(text);
+        return text.push_str("(no bookings)\n");
     }
-    push_rows(&mut text, rows)?;
-    Ok(text)
-}
-
-fn head_line(alloc: Global, room: &str, day: Day, weekday: &str) -> Result<String, AllocError>
-    ensures { IfOk result (λ text. string_bytes text ≡ line (words (room.now ∷ date_text day ∷ weekday.now ∷ []))) }
-{
-    format!(in alloc; "{room} {day} {weekday}\n")
-}
-
-fn push_rows(text: &mut String, rows: &[SheetRow]) -> Result<(), AllocError>
-    ensures { OnOk result (string_bytes text.new ≡ string_bytes text.old ++ lines_text (map row_line rows.now)) }
-{
     for row in rows {
-        push_row(text, row)?;
+        push_sheet_row(text, row)?;
     }
     Ok(())
 }
 
-fn push_row(text: &mut String, row: &SheetRow) -> Result<(), AllocError>
-    ensures { OnOk result (string_bytes text.new ≡ string_bytes text.old ++ line (row_line row.now)) }
+fn push_calendar_rows(text: &mut String, rows: &[BookingRow]) -> Result<(), AllocError>
+    ensures { OnOk result (string_bytes text.new ≡ string_bytes text.old ++ lines_text (lines_or (codes "(no bookings)") (map calendar_line (map row_entry rows.now)))) }
 {
-    write!(text, "{row}\n")
+    if rows.is_empty() {
+        return text.push_str("(no bookings)\n");
+    }
+    for row in rows {
+        push_calendar_row(text, row)?;
+    }
+    Ok(())
 }
 
-fn refusal_line(alloc: Global, refusal: &Refusal) -> Result<String, AllocError>
-    ensures { IfOk result (λ text. string_bytes text ≡ line (refusals.refusal_text (refusal_of refusal.now))) }
+fn push_error_rows(text: &mut String, rows: &[ErrorRow]) -> Result<(), AllocError>
+    ensures { OnOk result (string_bytes text.new ≡ string_bytes text.old ++ lines_text (lines_or (codes "(no errors)") (map logging_line (map row_logging rows.now)))) }
 {
-    let (number, name) = (refusal.number(), refusal.name());
-    match refusal.line() {
-        Some(at) => refused_at(alloc, number, name, at),
-        None => refused(alloc, number, name),
+    if rows.is_empty() {
+        return text.push_str("(no errors)\n");
+    }
+    for row in rows {
+        push_error_row(text, row)?;
+    }
+    Ok(())
+}
+
+fn push_sheet_row(text: &mut String, row: &BookingRow) -> Result<(), AllocError>
+    ensures { OnOk result (string_bytes text.new ≡ string_bytes text.old ++ line (sheet_line (row_entry row.now))) }
+{
+    let (start, stop) = (TimeOfDay::new(row.start), TimeOfDay::new(row.stop));
+    let mark = Mark {
+        is_committed: row.committed,
+    };
+    let (id, title) = (booked_id(row), row.title.as_str());
+    write!(text, "{start}-{stop} {mark} {id} {title}\n")
+}
+
+fn push_calendar_row(text: &mut String, row: &BookingRow) -> Result<(), AllocError>
+    ensures { OnOk result (string_bytes text.new ≡ string_bytes text.old ++ line (calendar_line (row_entry row.now))) }
+{
+    let day = row.day;
+    write!(text, "{day} ")?;
+    push_sheet_row(text, row)
+}
+
+fn push_error_row(text: &mut String, row: &ErrorRow) -> Result<(), AllocError>
+    ensures { OnOk result (string_bytes text.new ≡ string_bytes text.old ++ line (logging_line (row_logging row.now))) }
+{
+    let mark = Mark {
+        is_committed: row.seq != 0,
+    };
+    let day = row.day;
+    let (start, stop) = (TimeOfDay::new(row.start), TimeOfDay::new(row.stop));
+    let (id, title) = (logged_id(row), row.title.as_str());
+    write!(text, "{mark} {id} {day} {start}-{stop} {title}\n")
+}
+
+fn part_name(part: Part) -> &'static str
+    ensures { result.now ≡ replies.part_text (part_of part) }
+{
+    match part {
+        Part::Full => "full",
+        Part::Committed => "committed",
     }
 }
 
-fn refused_at(alloc: Global, number: u32, name: &str, at: u64) -> Result<String, AllocError>
-    ensures { IfOk result (λ text. string_bytes text ≡ line (words (codes "refused" ∷ decimal number ∷ name.now ∷ decimal at ∷ []))) }
-{
-    format!(in alloc; "refused {number} {name} {at}\n")
-}
-
-fn refused(alloc: Global, number: u32, name: &str) -> Result<String, AllocError>
-    ensures { IfOk result (λ text. string_bytes text ≡ line (words (codes "refused" ∷ decimal number ∷ name.now ∷ []))) }
-{
-    format!(in alloc; "refused {number} {name}\n")
+// Whether a write is committed, as it is shown.
+#[derive(Clone, Copy)]
+struct Mark {
+    is_committed: bool,
 }
 
 impl fmt::Display for Mark {
     ghost use Rattle.std.specs.Prelude.{Some};
     ghost use Rattle.mr_model.specs.Replies as replies;
-    ghost use Rattle.mr_service.specs.Asked.{is_committed};
 
-    ghost output = { λ m. Some (replies.mark (is_committed m)) };
+    ghost output = { λ m. Some (replies.mark m.is_committed) };
 
     fn fmt<W: fmt::Write>(&self, f: &mut fmt::Formatter<W>) -> fmt::Result {
-        match self {
-            Mark::Committed => write!(f, "C"),
-            Mark::Tentative => write!(f, "T"),
+        if self.is_committed {
+            write!(f, "C")
+        } else {
+            write!(f, "T")
         }
-    }
-}
-
-impl fmt::Display for Outcome {
-    ghost use Rattle.std.specs.Prelude.{Some};
-    ghost use Rattle.mr_model.specs.Replies as replies;
-    ghost use Rattle.mr_service.specs.Asked.{outcome_of};
-
-    ghost output = { λ o. Some (replies.outcome_line (outcome_of o)) };
-
-    fn fmt<W: fmt::Write>(&self, f: &mut fmt::Formatter<W>) -> fmt::Result {
-        match self {
-            Outcome::Booked {
-                id,
-                mark,
-                day,
-                start,
-                stop,
-            } => write!(f, "{id} {mark} {day} {start}-{stop}"),
-            Outcome::Logged { id, mark } => write!(f, "{id} {mark} logged"),
-        }
-    }
-}
-
-impl fmt::Display for SheetRow {
-    ghost use Rattle.std.specs.Prelude.{Some};
-    ghost use Rattle.mr_service.specs.Asked.{row_line};
-
-    ghost output = { λ r. Some (row_line r) };
-
-    fn fmt<W: fmt::Write>(&self, f: &mut fmt::Formatter<W>) -> fmt::Result {
-        let (start, stop, mark, id, title) = (
-            self.start,
-            self.stop,
-            self.mark,
-            self.id,
-            self.title.as_str(),
-        );
-        write!(f, "{start}-{stop} {mark} {id} {title}")
     }
 }

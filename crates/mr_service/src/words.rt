@@ -3,7 +3,7 @@ ghost use Rattle.std.specs.List.{list_any};
 ghost use Rattle.mr_model.specs.Step.{slot_of, choice_words};
 ghost use Rattle.mr_base.specs.Answers.{Gives, unless};
 ghost use Rattle.mr_service.specs.Asked.{words_of, submission_of};
-ghost use Rattle.mr_service.specs.Requests.{request_in, slots_in, lacks_day, lacks_time};
+ghost use Rattle.mr_service.specs.Requests.{request_or_fault, slots_in, lacks_day, lacks_time};
 
 use crate::commands::{SlotWords, Submission};
 use mr_base::{Alternatives, Day, Refusal, Request, Slot, read_minute, read_number};
@@ -11,7 +11,7 @@ use std::alloc::Global;
 
 /// The request that these words make, or the smallest refusal that applies to them.
 pub(crate) fn read_request(alloc: Global, words: &Submission) -> Result<Request, Refusal>
-    ensures { Gives result (request_in (submission_of words.now)) }
+    ensures { Gives result (request_or_fault (submission_of words.now)) }
 {
     let (wish, alternatives) = match read_choices(alloc, words) {
         Ok(choices) => choices,

@@ -1,8 +1,8 @@
-use Rattle.std.proofs.Common.{◌≡◌, ◌∙◌, ap, sym, false, List, Ok, Err, map}
+use Rattle.std.proofs.Common.{◌∙◌, ap, sym, List, map}
 use Rattle.std.proofs.lemmas.Bool.{or_parts}
+use Rattle.std.proofs.lemmas.Simd.{map-map}
 use Rattle.std.specs.List.{list_any}
-use Rattle.mr_model.specs.Slots.{Slot}
-use Rattle.mr_model.specs.Step.{SlotWords as Words, Submission, slot_of}
+use Rattle.mr_model.specs.Step.{Submission, slot_of}
 use Rattle.mr_service.specs.declared.commands.SlotWords.{SlotWords}
 use Rattle.mr_service.specs.Asked.{words_of, submission_of}
 use Rattle.mr_service.specs.Requests.{lacks_day, lacks_time}
@@ -34,4 +34,4 @@ returns-in-Ok-read_slots c =
     words.choices_in s (c.in-Ok.wish, c.from_vec.result)
     (sym c.lacks_some_day.ensures ∙ c.if-lacks_some_day.false) (sym c.lacks_some_time.ensures ∙ c.if-lacks_some_time.false)
     (words.slot_value s.wish c.in-Ok.wish (sym c.read_slot.ensures ∙ c.in-Ok.is))
-    (c.from_vec.ensures ∙ c.in-Ok-read_slots.ensures.slots ∙ ap (map (λ w. slot_of (words_of w))) c.as_slice.ensures.value ∙ words.map-twice slot_of words_of c.args.words.now.alternatives.items)
+    (c.from_vec.ensures ∙ c.in-Ok-read_slots.ensures.slots ∙ ap (map (λ w. slot_of (words_of w))) c.as_slice.ensures.value ∙ sym (map-map slot_of words_of c.args.words.now.alternatives.items))

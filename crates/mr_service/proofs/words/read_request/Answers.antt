@@ -1,8 +1,7 @@
-use Rattle.std.proofs.Common.{◌≡◌, ◌∙◌, ap, sym, subst, inl, inr, ◌&&◌, Option, None, Some}
+use Rattle.std.proofs.Common.{◌≡◌, ◌∙◌, ap, sym, subst, inl, inr, ◌&&◌, Some}
 use Rattle.std.specs.Prelude.{decimal}
 use Rattle.std.specs.Str.{bytes_eq}
 use Rattle.mr_model.specs.Texts.{Text, within, number_in, only_if}
-use Rattle.mr_model.specs.Requests.{Request}
 use Rattle.mr_model.specs.Step.{Submission}
 use Rattle.mr_base.specs.Refusals.{refusal_of}
 use Rattle.mr_base.specs.Answers.{OrOutOfMemory}

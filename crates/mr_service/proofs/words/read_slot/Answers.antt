@@ -1,8 +1,8 @@
-use Rattle.std.proofs.Common.{◌≡◌, ◌∙◌, ap, sym, Ok, Err}
+use Rattle.std.proofs.Common.{◌∙◌, ap, sym}
 use Rattle.std.specs.Prelude.{ok_or}
 use Rattle.mr_model.specs.Texts.{Text}
-use Rattle.mr_model.specs.Calendar.{Date, read_date, read_time}
-use Rattle.mr_model.specs.Step.{SlotWords, slot_of}
+use Rattle.mr_model.specs.Calendar.{read_date, read_time}
+use Rattle.mr_model.specs.Step.{slot_of}
 use Rattle.mr_base.specs.declared.refusals.Refusal.TheVariants.{BadDay, BadTime}
 use Rattle.mr_service.specs.Asked.{words_of}
 use Rattle.mr_service.proofs.WordsRead as words

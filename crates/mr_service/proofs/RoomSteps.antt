@@ -1,0 +1,236 @@
+-- From what a question reads of a keeper to its step, for every replica that the keeper's tables stand for.
+use Rattle.std.proofs.Common.{◌≡◌, refl, sym, ap, ◌∙◌, subst, ℕ, Bool, true, false, not, cond, ◌&&◌, List, [], ◌∷◌, map, ◌⊎◌, inl, inr, Option, Some, None, Result, Ok, Err, le_refl}
+use Rattle.std.proofs.lemmas.List.Sorted.{IsPermutation-trans, list_any-IsPermutation}
+use Rattle.std.specs.Prelude.{is_none, ok_or}
+use Rattle.std.specs.List.{filter_map, list_any}
+use Rattle.std.specs.List.Sorted.{IsPermutation, IsSortedByKey}
+use Rattle.std.specs.Str.{bytes_eq}
+use Rattle.mr_model.specs.Texts.{Text, only_if}
+use Rattle.mr_model.specs.Calendar.{Date, is_date, date_in, date_text, read_date}
+use Rattle.mr_model.specs.Writes.{Id, is_room_name, id_in, is_id_text}
+use Rattle.mr_model.specs.Refusals as model
+use Rattle.mr_model.specs.Replica.{Replica, IsReplica}
+use Rattle.mr_model.specs.Replies.{Outcome, Part, Full, Committed, Reply, Calendar, Sheet, OutcomeIs, Errors, Refused}
+use Rattle.mr_model.specs.View.{View, view_of, whole_list, calendar_list, entries, entries_of_day, logging_of, find_request, outcome_reply, told_of, Question, AskSheet, AskCalendar, AskOutcome, AskErrors, unless, answer}
+use Rattle.mr_model.specs.Step.{Command, Ask, IsOfMachine, no_memory, no_store}
+use Rattle.mr_model.specs.Serving.{TakesStep}
+use Rattle.mr_model.specs.Tables.{BookingRow, ErrorRow, Tables, Stands, tables_of}
+use Rattle.mr_model.specs.Queries.{row_entry, row_logging}
+use Rattle.mr_base.specs.Answers.{ok_if}
+use Rattle.mr_base.specs.Readings.{read_id}
+use Rattle.mr_base.specs.Refusals.{refusal_of}
+use Rattle.mr_base.specs.declared.refusals.Refusal.{Refusal}
+use Rattle.mr_base.specs.declared.refusals.Refusal.TheVariants as refusal
+use Rattle.mr_store.specs.Kept.{fault_refusal}
+use Rattle.mr_store.specs.Picked.{picked_errors, AreBookings, IsPlaceOf}
+use Rattle.mr_store.specs.declared.keeper.Fault.{Fault}
+use Rattle.mr_store.specs.declared.keeper.Fault.TheVariants as fault
+use Rattle.mr_store.specs.declared.keeper.PlaceRow.{PlaceRow}
+use Rattle.mr_service.specs.Asking.{NoneFails, Counts}
+use Rattle.mr_service.specs.Questions.{room_fault, Finds, rows_of_part, place_outcome, log_key, log_key_cmp}
+use Rattle.mr_service.proofs.RoomRows.{calendar_rows, committed_rows, sheet_rows}
+use Rattle.mr_service.proofs.RoomLog.{error_rows, place_told, no_place_told}
+
+-- ---- failures
+
+-- a fault of the keeper is one of memory or of the store
+of_machine : (e : Fault) → IsOfMachine (Refused (refusal_of (fault_refusal e)))
+of_machine fault.OutOfMemory = no_memory
+of_machine fault.Store = no_store
+
+pub of_fault : (e : Fault) (r : Refusal) → r ≡ fault_refusal e → IsOfMachine (Refused (refusal_of r))
+of_fault e r is = subst (λ x. IsOfMachine (Refused (refusal_of x))) (sym is) (of_machine e)
+
+-- the keeper's fault, and nothing changed
+pub fault_step : (e : Fault) (r : Refusal) (t u : Tables) (c : Command) → r ≡ fault_refusal e → u ≡ t → TakesStep t c (Refused (refusal_of r)) u
+fault_step e r t u c is same = λ a h. (a, inr (of_fault e r is, refl), subst (λ x. Stands x a) (sym same) h)
+
+-- no failure is counted in two calls, the first of which leaves the tables
+pub none_fails : (t0 t1 : Tables) (n0 n1 n2 : ℕ) → t1 ≡ t0 → n1 ≡ n0 → ((a : Replica) → Stands t1 a → n2 ≡ n1) → NoneFails t0 n0 n2
+none_fails t0 t1 n0 n1 n2 same first second = λ a h. second a (subst (λ x. Stands x a) (sym same) h) ∙ first
+
+-- ---- rooms
+
+-- a name that is read, or refused
+pub name_refused : (rooms : List Text) (room : Text) (e : Refusal) → (ok_if (is_room_name room) room refusal.BadRoomName ≡ Err e) ⊎ (e ≡ refusal.OutOfMemory) → Finds rooms room (Err e)
+name_refused rooms room e (inr memory) = inr (subst (λ x. IsOfMachine (Refused (refusal_of x))) (sym memory) no_memory)
+name_refused rooms room e (inl bad) = inl (go (is_room_name room) refl bad)
+  where
+    go : (b : Bool) → is_room_name room ≡ b → ok_if b room refusal.BadRoomName ≡ Err e → room_fault rooms room ≡ Some (refusal_of e)
+    go true t f = absurd (let never : ◌≡◌ {A = Result Text Refusal} (Ok room) (Err e) = f in cc)
+    go false t f = let same : refusal.BadRoomName ≡ e = (let g : ◌≡◌ {A = Result Text Refusal} (Err refusal.BadRoomName) (Err e) = f in cc) in rw t (ap (λ x. Some (refusal_of x)) same)
+
+-- a name that is read is the text, and a room's
+name_read : (room found : Text) → ok_if (is_room_name room) room refusal.BadRoomName ≡ Ok found → (is_room_name room ≡ true) × (found ≡ room)
+name_read room found e = go (is_room_name room) refl e
+  where
+    go : (b : Bool) → is_room_name room ≡ b → ok_if b room refusal.BadRoomName ≡ Ok found → (is_room_name room ≡ true) × (found ≡ room)
+    go true t f = (t, let same : ◌≡◌ {A = Result Text Refusal} (Ok room) (Ok found) = f in cc)
+    go false t f = absurd (let never : ◌≡◌ {A = Result Text Refusal} (Err refusal.BadRoomName) (Ok found) = f in cc)
+
+-- the room is known just where it is among those that the keeper gives, in any order
+fault_known : (rooms given : List Text) (room found : Text) (b : Bool) → ok_if (is_room_name room) room refusal.BadRoomName ≡ Ok found → IsPermutation rooms given → b ≡ list_any (bytes_eq found) given
+    → room_fault rooms room ≡ model.first_refusal ((not b, model.UnknownRoom) ∷ [])
+fault_known rooms given room found b read moved is =
+    let p = name_read room found read in
+    let among : list_any (bytes_eq room) rooms ≡ b = list_any-IsPermutation (bytes_eq room) rooms given moved ∙ ap (λ x. list_any (bytes_eq x) given) (sym p.1) ∙ sym is in
+    rw (p.0, among) refl
+
+-- so a name that is read is found, or is of no known room
+pub room_found : (rooms given : List Text) (room found : Text) (b : Bool) → ok_if (is_room_name room) room refusal.BadRoomName ≡ Ok found → IsPermutation rooms given → b ≡ list_any (bytes_eq found) given → b ≡ true → Finds rooms room (Ok found)
+room_found rooms given room found b read moved is known = ((name_read room found read).1, subst (λ x. room_fault rooms room ≡ model.first_refusal ((not x, model.UnknownRoom) ∷ [])) known (fault_known rooms given room found b read moved is))
+
+pub room_unknown : (rooms given : List Text) (room found : Text) (b : Bool) → ok_if (is_room_name room) room refusal.BadRoomName ≡ Ok found → IsPermutation rooms given → b ≡ list_any (bytes_eq found) given → b ≡ false → Finds rooms room (Err refusal.UnknownRoom)
+room_unknown rooms given room found b read moved is unknown = inl (subst (λ x. room_fault rooms room ≡ model.first_refusal ((not x, model.UnknownRoom) ∷ [])) unknown (fault_known rooms given room found b read moved is))
+
+-- ---- answers
+
+-- with no fault of the room's, the question is answered so
+abbrev AsksOfRoom : Text → Question → (View → Reply) → Type 0
+AsksOfRoom room q told =
+    (v : View) → answer room v q ≡ unless (model.first_refusal ((not (is_room_name room), model.BadRoomName) ∷ (not v.known, model.UnknownRoom) ∷ [])) (told v)
+
+-- the answer at one replica, by what is at fault with the room
+answer_at : (t : Tables) (a : Replica) (room : Text) (q : Question) (told : View → Reply) (fault : Option model.Refusal) → AsksOfRoom room q told → room_fault t.room room ≡ fault → t ≡ tables_of a → answer room (view_of a room) q ≡ unless fault (told (view_of a room))
+answer_at t a room q told fault asks is are =
+    asks (view_of a room) ∙ ap (λ o. unless o (told (view_of a room))) (ap (λ (x : Tables). room_fault x.room room) (sym are) ∙ is)
+
+-- a question about a known room is answered
+answered : (t u : Tables) (room found : Text) (q : Question) (told : View → Reply) (reply : Reply) → AsksOfRoom room q told → u ≡ t → Finds t.room room (Ok found) → ((a : Replica) → IsReplica a → t ≡ tables_of a → reply ≡ told (view_of a room)) → TakesStep t (Ask room q) reply u
+answered t u room found q told reply asks same finds is =
+    λ a h. (a, inl (ap (λ r. record { reply = r; replica = a }) (is a h.sound h.are ∙ sym (answer_at t a room q told None asks finds.1 h.are))), subst (λ x. Stands x a) (sym same) h)
+
+-- the refusal of a room's name answers its question
+refused : (t u : Tables) (room : Text) (q : Question) (told : View → Reply) (e : Refusal) → AsksOfRoom room q told → u ≡ t → Finds t.room room (Err e) → TakesStep t (Ask room q) (Refused (refusal_of e)) u
+refused t u room q told e asks same (inl own) =
+    λ a h. (a, inl (ap (λ r. record { reply = r; replica = a }) (sym (answer_at t a room q told (Some (refusal_of e)) asks own h.are))), subst (λ x. Stands x a) (sym same) h)
+refused t u room q told e asks same (inr machine) = λ a h. (a, inr (machine, refl), subst (λ x. Stands x a) (sym same) h)
+
+-- ---- words
+
+-- what is read of a word, and refused of it
+ok_read : {A : Type 0} (o : Option A) (r : Refusal) (x : A) → Ok x ≡ ok_or o r → o ≡ Some x
+ok_read {A = A} (Some y) r x e = ap Some (let same : ◌≡◌ {A = Result A Refusal} (Ok x) (Ok y) = e in cc)
+ok_read {A = A} None r x e = absurd (let never : ◌≡◌ {A = Result A Refusal} (Ok x) (Err r) = e in cc)
+
+err_read : {A : Type 0} (o : Option A) (r e : Refusal) → Err e ≡ ok_or o r → (o ≡ None) × (e ≡ r)
+err_read {A = A} (Some y) r e f = absurd (let never : ◌≡◌ {A = Result A Refusal} (Err e) (Ok y) = f in cc)
+err_read {A = A} None r e f = (refl, let same : ◌≡◌ {A = Result A Refusal} (Err e) (Err r) = f in cc)
+
+-- ---- sheets
+
+-- the day that is read is the text's
+date_read : (day : Text) (d : Date) → read_date day ≡ Some d → date_in day ≡ d
+date_read day d e = go (is_date (date_in day) && bytes_eq (date_text (date_in day)) day) e
+  where
+    go : (b : Bool) → cond b (Some (date_in day)) None ≡ Some d → date_in day ≡ d
+    go true f = let g : Some (date_in day) ≡ Some d = f in cc
+    go false f = absurd (let never : None ≡ Some d = f in cc)
+
+-- a text that is no day is refused before anything else
+pub day_refused : (t : Tables) (room day : Text) (e : Refusal) → Err e ≡ ok_or (read_date day) refusal.BadDay → TakesStep t (Ask room (AskSheet day)) (Refused (refusal_of e)) t
+day_refused t room day e is =
+    let p = err_read (read_date day) refusal.BadDay e is in
+    λ a h. (a, inl (ap (λ r. record { reply = r; replica = a }) (ap (λ x. Refused (refusal_of x)) p.1 ∙ rw p.0 refl)), h)
+
+-- and counts no failure
+pub day_counts : (day : Text) (e : Refusal) (n : ℕ) → Err e ≡ ok_or (read_date day) refusal.BadDay → Counts (Refused (refusal_of e)) n n
+day_counts day e n is = (le_refl n, λ s. absurd (let p : e ≡ refusal.BadDay = (err_read (read_date day) refusal.BadDay e is).1 in let never : Refused model.BadDay ≡ Refused model.Store = ap (λ x. Refused (refusal_of x)) (sym p) ∙ s in cc))
+
+-- with a day, a sheet is asked of the room alone
+sheet_asks : (room day : Text) (d : Date) → read_date day ≡ Some d → AsksOfRoom room (AskSheet day) (λ v. Sheet room d (entries_of_day d (whole_list v)))
+sheet_asks room day d e v =
+    ap (λ o. unless (model.first_refusal ((is_none o, model.BadDay) ∷ (not (is_room_name room), model.BadRoomName) ∷ (not v.known, model.UnknownRoom) ∷ [])) (Sheet room (date_in day) (entries_of_day (date_in day) (whole_list v)))) e
+    ∙ ap (λ x. unless (model.first_refusal ((not (is_room_name room), model.BadRoomName) ∷ (not v.known, model.UnknownRoom) ∷ [])) (Sheet room x (entries_of_day x (whole_list v)))) (date_read day d e)
+
+-- a sheet of a room that is not known
+pub sheet_refused : (t u : Tables) (room day : Text) (d : Date) (e : Refusal) → Ok d ≡ ok_or (read_date day) refusal.BadDay → u ≡ t → Finds t.room room (Err e) → TakesStep t (Ask room (AskSheet day)) (Refused (refusal_of e)) u
+sheet_refused t u room day d e read same finds = refused t u room (AskSheet day) _ e (sheet_asks room day d (ok_read (read_date day) refusal.BadDay d read)) same finds
+
+-- a sheet has the rows of its day
+pub sheet_step : (t u : Tables) (room found day : Text) (d : Date) (rows : List BookingRow) → Ok d ≡ ok_or (read_date day) refusal.BadDay → u ≡ t → Finds t.room room (Ok found) → AreBookings found (Some d) t rows
+    → TakesStep t (Ask room (AskSheet day)) (Sheet found d (map row_entry rows)) u
+sheet_step t u room found day d rows read same finds are =
+    answered t u room found (AskSheet day) (λ v. Sheet room d (entries_of_day d (whole_list v))) (Sheet found d (map row_entry rows)) (sheet_asks room day d (ok_read (read_date day) refusal.BadDay d read)) same finds
+    (λ a sound stands. ap (λ x. Sheet x d (map row_entry rows)) finds.0
+    ∙ ap (Sheet room d) (sym (sheet_rows a room d rows sound (subst (λ x. AreBookings x (Some d) (tables_of a) rows) finds.0 (subst (λ x. AreBookings found (Some d) x rows) stands are)))))
+
+-- ---- calendars
+
+-- a calendar of a room that is not known
+pub calendar_refused : (t u : Tables) (room : Text) (part : Part) (e : Refusal) → u ≡ t → Finds t.room room (Err e) → TakesStep t (Ask room (AskCalendar part)) (Refused (refusal_of e)) u
+calendar_refused t u room part e same finds = refused t u room (AskCalendar part) (λ v. Calendar room part (entries (calendar_list part v))) e (λ v. refl) same finds
+
+-- the rows of either calendar
+part_rows : (a : Replica) (room : Text) (part : Part) (rows : List BookingRow) → IsReplica a → AreBookings room None (tables_of a) rows → map row_entry (rows_of_part part rows) ≡ entries (calendar_list part (view_of a room))
+part_rows a room Full rows sound are = sym (calendar_rows a room rows sound are)
+part_rows a room Committed rows sound are = sym (committed_rows a room rows sound are)
+
+-- a calendar has the rows of all days, or of these the committed ones
+pub calendar_step : (t u : Tables) (room found : Text) (part : Part) (rows shown : List BookingRow) → u ≡ t → Finds t.room room (Ok found) → AreBookings found None t rows → shown ≡ rows_of_part part rows
+    → TakesStep t (Ask room (AskCalendar part)) (Calendar found part (map row_entry shown)) u
+calendar_step t u room found part rows shown same finds are is =
+    answered t u room found (AskCalendar part) (λ v. Calendar room part (entries (calendar_list part v))) (Calendar found part (map row_entry shown)) (λ v. refl) same finds
+    (λ a sound stands. ap (λ x. Calendar x part (map row_entry shown)) finds.0
+    ∙ ap (λ xs. Calendar room part (map row_entry xs)) is
+    ∙ ap (Calendar room part) (part_rows a room part rows sound (subst (λ x. AreBookings x None (tables_of a) rows) finds.0 (subst (λ x. AreBookings found None x rows) stands are))))
+
+-- ---- outcomes
+
+-- an outcome in a room that is not known
+pub outcome_refused : (t u : Tables) (room id : Text) (e : Refusal) → u ≡ t → Finds t.room room (Err e) → TakesStep t (Ask room (AskOutcome id)) (Refused (refusal_of e)) u
+outcome_refused t u room id e same finds = refused t u room (AskOutcome id) (λ v. outcome_reply (find_request id v)) e (λ v. refl) same finds
+
+-- what is found of the id that a text is, and of a text that is none
+id_found : (id : Text) (i : Id) (v : View) → read_id id ≡ Some i → find_request id v ≡ told_of i (whole_list v)
+id_found id i v e = go (is_id_text id) e
+  where
+    go : (b : Bool) → only_if b (id_in id) ≡ Some i → cond b (told_of (id_in id) (whole_list v)) None ≡ told_of i (whole_list v)
+    go true f = ap (λ x. told_of x (whole_list v)) (let same : Some (id_in id) ≡ Some i = f in cc)
+    go false f = absurd (let never : None ≡ Some i = f in cc)
+
+no_id_found : (id : Text) (v : View) → read_id id ≡ None → find_request id v ≡ None
+no_id_found id v e = go (is_id_text id) e
+  where
+    go : (b : Bool) → only_if b (id_in id) ≡ None → cond b (told_of (id_in id) (whole_list v)) None ≡ None
+    go true f = absurd (let never : Some (id_in id) ≡ None = f in cc)
+    go false f = refl
+
+-- the outcome of a request is told by its row
+pub outcome_step : (t u : Tables) (room found id : Text) (i : Id) (place : PlaceRow) (o : Outcome) → Ok i ≡ ok_or (read_id id) refusal.NoSuchRequest → u ≡ t → Finds t.room room (Ok found) → IsPlaceOf found i t (Some place) → o ≡ place_outcome place
+    → TakesStep t (Ask room (AskOutcome id)) (OutcomeIs o) u
+outcome_step t u room found id i place o read same finds at is =
+    answered t u room found (AskOutcome id) (λ v. outcome_reply (find_request id v)) (OutcomeIs o) (λ v. refl) same finds
+    (λ a sound stands. ap OutcomeIs is
+    ∙ sym (place_told a room i place sound (subst (λ x. IsPlaceOf x i (tables_of a) (Some place)) finds.0 (subst (λ x. IsPlaceOf found i x (Some place)) stands at)))
+    ∙ ap outcome_reply (sym (id_found id i (view_of a room) (ok_read (read_id id) refusal.NoSuchRequest i read))))
+
+-- no row of the room has the id
+pub no_request_step : (t u : Tables) (room found id : Text) (i : Id) → Ok i ≡ ok_or (read_id id) refusal.NoSuchRequest → u ≡ t → Finds t.room room (Ok found) → IsPlaceOf found i t None
+    → TakesStep t (Ask room (AskOutcome id)) (Refused model.NoSuchRequest) u
+no_request_step t u room found id i read same finds at =
+    answered t u room found (AskOutcome id) (λ v. outcome_reply (find_request id v)) (Refused model.NoSuchRequest) (λ v. refl) same finds
+    (λ a sound stands. sym (no_place_told a room i sound (subst (λ x. IsPlaceOf x i (tables_of a) None) finds.0 (subst (λ x. IsPlaceOf found i x None) stands at)))
+    ∙ ap outcome_reply (sym (id_found id i (view_of a room) (ok_read (read_id id) refusal.NoSuchRequest i read))))
+
+-- a text that is no id names no request
+pub bad_id_step : (t u : Tables) (room found id : Text) (e : Refusal) → Err e ≡ ok_or (read_id id) refusal.NoSuchRequest → u ≡ t → Finds t.room room (Ok found) → TakesStep t (Ask room (AskOutcome id)) (Refused (refusal_of e)) u
+bad_id_step t u room found id e bad same finds =
+    let p = err_read (read_id id) refusal.NoSuchRequest e bad in
+    answered t u room found (AskOutcome id) (λ v. outcome_reply (find_request id v)) (Refused (refusal_of e)) (λ v. refl) same finds
+    (λ a sound stands. ap (λ x. Refused (refusal_of x)) p.1 ∙ ap outcome_reply (sym (no_id_found id (view_of a room) p.0)))
+
+-- ---- error logs
+
+-- an error log of a room that is not known
+pub errors_refused : (t u : Tables) (room : Text) (e : Refusal) → u ≡ t → Finds t.room room (Err e) → TakesStep t (Ask room AskErrors) (Refused (refusal_of e)) u
+errors_refused t u room e same finds = refused t u room AskErrors (λ v. Errors room (filter_map logging_of (whole_list v))) e (λ v. refl) same finds
+
+-- an error log has the error rows, sorted
+pub errors_step : (t u : Tables) (room found : Text) (given rows : List ErrorRow) → u ≡ t → Finds t.room room (Ok found) → IsPermutation (picked_errors found t) given → IsPermutation given rows → IsSortedByKey log_key log_key_cmp rows
+    → TakesStep t (Ask room AskErrors) (Errors found (map row_logging rows)) u
+errors_step t u room found given rows same finds picked moved up =
+    answered t u room found AskErrors (λ v. Errors room (filter_map logging_of (whole_list v))) (Errors found (map row_logging rows)) (λ v. refl) same finds
+    (λ a sound stands. let all : IsPermutation (picked_errors found t) rows = IsPermutation-trans (picked_errors found t) given rows picked moved in
+    ap (λ x. Errors x (map row_logging rows)) finds.0
+    ∙ ap (Errors room) (sym (error_rows a room rows sound (subst (λ x. IsPermutation (picked_errors x (tables_of a)) rows) finds.0 (subst (λ x. IsPermutation (picked_errors found x) rows) stands all)) up)))

@@ -1,0 +1,19 @@
+-- What a call of a service is, beside its step: what it counts of failures, and where it stands in a run.
+use Rattle.std.specs.Prelude.{◌≡◌, ℕ, ◌<◌, ◌≤◌, ◌⊎◌, List, [], ◌∷◌}
+use Rattle.mr_model.specs.Replica.{Replica}
+use Rattle.mr_model.specs.Refusals.{Store}
+use Rattle.mr_model.specs.Replies.{Reply, Refused}
+use Rattle.mr_model.specs.Tables.{Tables, Stands}
+
+-- the count of failures never falls, and rises where the reply tells of one
+abbrev pub Counts : Reply → ℕ → ℕ → Type 0
+Counts reply old new = (old ≤ new) × (reply ≡ Refused Store → old < new)
+
+-- no failure is counted where the tables stand for a replica
+abbrev pub NoneFails : Tables → ℕ → ℕ → Type 0
+NoneFails before old new = (a : Replica) → Stands before a → new ≡ old
+
+-- a reply tells that the store failed
+abbrev pub TellsFailure : List Reply → Type 0
+TellsFailure [] = ⊥
+TellsFailure (r ∷ rs) = (r ≡ Refused Store) ⊎ TellsFailure rs

@@ -1,0 +1,64 @@
+ghost use Rattle.std.specs.Prelude.{◌≡◌, ◌+◌, ◌<◌, ◌≤◌, [], ◌∷◌, ◌++◌, map, vec_len, vec_capacity, IfOk, IfErr, OnErr};
+ghost use Rattle.mr_model.specs.Replica.{Replica};
+ghost use Rattle.mr_model.specs.Serving.{Serves};
+ghost use Rattle.mr_model.specs.Tables.{Stands};
+ghost use Rattle.mr_service.specs.Asked.{command_of, reply_of};
+ghost use Rattle.mr_service.specs.Asking.{NoneFails, TellsFailure};
+
+use crate::commands::Command;
+use crate::replies::Reply;
+use crate::services::Service;
+use mr_base::Refusal;
+use mr_store::{Keeper, ListKeeper};
+use std::alloc::{AllocError, Global};
+
+/// Asks each command in turn, and lists the replies. The list's memory is taken before the first command: where it is
+/// wanting, nothing is asked.
+pub fn run<K: Keeper>(
+    alloc: Global,
+    service: &mut Service<K>,
+    commands: &[Command],
+) -> Result<Vec<Reply>, Refusal>
+    ensures clean { K.is_clean service.new → K.is_clean service.old }
+    ensures open { K.is_clean service.new → K.is_open service.new → K.is_open service.old }
+    ensures serves { K.is_clean service.new → K.is_open service.new
+        → IfOk result (λ replies. Serves (K.tables service.old) (map command_of commands.now) (map reply_of replies.items) (K.tables service.new)) }
+    ensures counts { IfOk result (λ replies. TellsFailure (map reply_of replies.items) → K.failures service.old < K.failures service.new) }
+    ensures sure { K.never_fails → K.is_clean service.new → K.is_open service.new → NoneFails (K.tables service.old) (K.failures service.old) (K.failures service.new) }
+    ensures cause { IfErr result (λ e. e ≡ Refusal.OutOfMemory) }
+    ensures refused { OnErr result (service.new ≡ service.old) }
+{
+    let mut replies = match Vec::with_capacity(alloc, commands.len()) {
+        Ok(replies) => replies,
+        Err(AllocError) => return Err(Refusal::OutOfMemory),
+    };
+    for command in commands {
+        let reply = service.ask(command);
+        put(&mut replies, reply);
+    }
+    Ok(replies)
+}
+
+/// Puts one more reply at the end, for which there is room.
+fn put(replies: &mut Vec<Reply>, reply: Reply)
+    requires { vec_len replies.old + 1 ≤ vec_capacity replies.old }
+    ensures items { replies.new.items ≡ replies.old.items ++ reply ∷ [] }
+    ensures len { vec_len replies.new ≡ vec_len replies.old + 1 }
+    ensures capacity { vec_capacity replies.old ≤ vec_capacity replies.new }
+{
+    let _ = replies.push(reply);
+}
+
+/// The same over lists, where there is no premise: no reply tells that the store failed.
+pub fn run_over_lists(
+    alloc: Global,
+    service: &mut Service<ListKeeper>,
+    commands: &[Command],
+) -> Result<Vec<Reply>, Refusal>
+    ensures serves { IfOk result (λ replies. Serves service.old.tables (map command_of commands.now) (map reply_of replies.items) service.new.tables) }
+    ensures never { (a : Replica) → Stands service.old.tables a → IfOk result (λ replies. ¬ TellsFailure (map reply_of replies.items)) }
+    ensures cause { IfErr result (λ e. e ≡ Refusal.OutOfMemory) }
+    ensures refused { OnErr result (service.new ≡ service.old) }
+{
+    run(alloc, service, commands)
+}
