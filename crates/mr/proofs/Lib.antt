@@ -2,6 +2,5 @@ mod WordLaws
 mod LineLaws
 mod CutSlots
 mod ScriptLaws
-mod RehearsalLaws
 mod RunLaws
 mod UniqueReading

@@ -1,10 +1,12 @@
 -- A line is read as a step exactly where it is that step's line.
-use Rattle.std.proofs.Common.{◌≡◌, refl, sym, ap, subst, ◌∙◌, ℕ, zero, suc, ◌^◌, ◌<◌, ◌≤◌, Bool, true, false, cond, ◌&&◌, leb, List, [], ◌∷◌, ◌++◌, length, arith, leb-true, lit<, Option, Some, None}
-use Rattle.std.proofs.lemmas.Bool.{and_parts, and_from, false≢true, le-leb}
+use Rattle.std.proofs.Common.{◌≡◌, refl, sym, ap, subst, ◌∙◌, ℕ, zero, suc, ◌^◌, ◌<◌, ◌≤◌, Bool, true, false, cond, ◌&&◌, ◌||◌, leb, eqb, eqb-true, ne_eqb, ◌⊎◌, inl, inr, List, [], ◌∷◌, ◌++◌, length, arith, leb-true, lit<, Option, Some, None}
+use Rattle.std.proofs.lemmas.Bool.{and_parts, and_from, false≢true, le-leb, cond-true, cond-false, cases_Bool, false_from_ne_true}
 use Rattle.std.proofs.lemmas.Option.{none-some, same_Some}
+use Rattle.std.proofs.lemmas.Fmt.{decimal_is_IsNumeral}
 use Rattle.std.proofs.lemmas.Str.{IsUtf8-from_ascii}
+use Rattle.std.proofs.lemmas.Str.Parse.{digit_from_value}
+use Rattle.std.specs.Str.Parse.{AllDigits}
 use Rattle.std.specs.Prelude.{MatchOption, IfOk, Result, Ok, Err, slice_index}
-use Rattle.std.specs.Option.{option_or}
 use Rattle.std.specs.Str.{IsUtf8}
 use Rattle.std.proofs.lemmas.Slice.Eq.{bytes_eq-Decides}
 use Rattle.std.specs.Prelude.{codes, decimal, flat_map}
@@ -12,13 +14,14 @@ use Rattle.std.specs.Str.{bytes_eq}
 use Rattle.std.specs.List.{list_all}
 use Rattle.mr_model.specs.Texts.{Text, words, within, only_if}
 use Rattle.mr_model.specs.Writes.{is_server}
-use Rattle.mr_model.specs.View.{AskSheet}
-use Rattle.mr_model.specs.Step.{AddRoom, Submit, Ask, Submission, SlotWords}
-use Rattle.mr_model.specs.World.{Step, Add}
+use Rattle.mr_model.specs.Replies.{Part, Full, Committed, part_text}
+use Rattle.mr_model.specs.View.{AskSheet, AskCalendar, AskOutcome, AskErrors}
+use Rattle.mr_model.specs.Step.{AddRoom, Submit, Commit, Truncate, AskPosition, Ask, Submission, SlotWords}
+use Rattle.mr_model.specs.World.{Step, Add, Make, Deliver}
 use Rattle.mr_model.proofs.LinesReadBack.{words-cons}
-use Rattle.mr.specs.Script.{is_word, slot_words, booking_words, step_line, are_slot_words, is_booking, has_line, is_plain, added_by, first_server, is_another, IsLineOf, IsNext}
+use Rattle.mr.specs.Script.{is_word, slot_words, booking_words, all_bytes, length_word, is_length, step_line, are_slot_words, is_booking, has_line, is_plain, IsLineOf}
 use Rattle.mr_base.specs.Readings.{number_from_to}
-use Rattle.mr.specs.LineSteps.{◌>>=◌, cut, server_in, cut_server, cut_slot, with_slot, cut_slots, number_of_slots, booking_in, room_step, sheet_step, book_step, replica_step, step_by, step_in}
+use Rattle.mr.specs.LineSteps.{◌>>=◌, cut, server_in, cut_server, cut_slot, with_slot, cut_slots, number_of_slots, booking_in, room_step, sheet_step, book_step, part_in, calendar_step, outcome_step, errors_step, commit_step, truncate_step, position_step, batch_step, length_in, cut_batch, deliver_step, replica_step, exchange_by, question_by, step_by, step_in}
 use Rattle.mr.proofs.WordLaws.{only_if_some, cut_of, cut_parts, number_from_parts, number_from_decimal, decimal_word}
 
 -- ---- chains
@@ -30,6 +33,14 @@ bind_some (Some x) f y e = (x, refl, e)
 if_some : {A P : Type 0} (b : Bool) (x y : Option A) (s : A) → cond b x y ≡ Some s → (b ≡ true → x ≡ Some s → P) → (b ≡ false → y ≡ Some s → P) → P
 if_some true x y s e f g = f refl e
 if_some false x y s e f g = g refl e
+
+or_none_right : (a b : Bool) → b ≡ false → (a || b) ≡ true → a ≡ true
+or_none_right true b e h = refl
+or_none_right false b e h = sym e ∙ h
+
+-- a number of bytes is not the one that stands for all
+not_all : (n : ℕ) → within 0 999_999_999 n ≡ true → eqb n all_bytes ≡ false
+not_all n h = ne_eqb n all_bytes (λ e. false≢true (sym (ap (within 0 999_999_999) e) ∙ h))
 
 -- ---- what was read stands in the text
 
@@ -161,6 +172,107 @@ sheet_parts server t s h e =
       ap (λ (u : Text). codes "sheet" ++ 32 ∷ (decimal server ++ 32 ∷ u)) room.1 ∙ ap step_line o.1,
     )
 
+-- a part of a calendar is named by its word
+part_parts : (t : Text) (part : Part) → part_in t ≡ Some part → t ≡ part_text part
+part_parts t part e =
+    if_some (bytes_eq t (codes "full")) (Some Full) _ part e
+    (λ is f. (bytes_eq-Decides t (codes "full")).0 is ∙ ap part_text (same_Some Full part f))
+    (λ _ f. if_some (bytes_eq t (codes "committed")) (Some Committed) None part f
+    (λ is g. (bytes_eq-Decides t (codes "committed")).0 is ∙ ap part_text (same_Some Committed part g))
+    (λ _ g. absurd (none-some part g)))
+
+calendar_parts : (server : ℕ) (t : Text) (s : Step) → is_server server ≡ true → calendar_step server t ≡ Some s → (has_line s ≡ true) × (codes "calendar" ++ 32 ∷ (decimal server ++ 32 ∷ t) ≡ step_line s)
+calendar_parts server t s h e =
+    let (room, room_cut, more) = bind_some (cut t) (λ room. (part_in room.1 >>= λ part. Some (Step.Do server (Ask room.0 (AskCalendar part))))) s e in
+    let (part, is_part, last) = bind_some (part_in room.1) (λ part. Some (Step.Do server (Ask room.0 (AskCalendar part)))) s more in
+    let same = same_Some (Step.Do server (Ask room.0 (AskCalendar part))) s last in
+    let r = cut_parts t room.0 room.1 room_cut in (
+      sym (ap has_line same) ∙ and_from (is_server server) (is_word room.0) h r.0,
+      ap (λ (u : Text). codes "calendar" ++ 32 ∷ (decimal server ++ 32 ∷ u)) (r.1 ∙ ap (λ (u : Text). room.0 ++ 32 ∷ u) (part_parts room.1 part is_part)) ∙ ap step_line same,
+    )
+
+outcome_parts : (server : ℕ) (t : Text) (s : Step) → is_server server ≡ true → outcome_step server t ≡ Some s → (has_line s ≡ true) × (codes "outcome" ++ 32 ∷ (decimal server ++ 32 ∷ t) ≡ step_line s)
+outcome_parts server t s h e =
+    let (room, room_cut, more) = bind_some (cut t) (λ room. only_if (is_word room.1) (Step.Do server (Ask room.0 (AskOutcome room.1)))) s e in
+    let o = only_if_some (is_word room.1) (Step.Do server (Ask room.0 (AskOutcome room.1))) s more in
+    let r = cut_parts t room.0 room.1 room_cut in (
+      sym (ap has_line o.1) ∙ and_from (is_server server) (is_word room.0 && is_word room.1) h (and_from (is_word room.0) (is_word room.1) r.0 o.0),
+      ap (λ (u : Text). codes "outcome" ++ 32 ∷ (decimal server ++ 32 ∷ u)) r.1 ∙ ap step_line o.1,
+    )
+
+errors_parts : (server : ℕ) (t : Text) (s : Step) → is_server server ≡ true → errors_step server t ≡ Some s → (has_line s ≡ true) × (codes "errors" ++ 32 ∷ (decimal server ++ 32 ∷ t) ≡ step_line s)
+errors_parts server t s h e =
+    let o = only_if_some (is_word t) (Step.Do server (Ask t AskErrors)) s e in
+    (sym (ap has_line o.1) ∙ and_from (is_server server) (is_word t) h o.0, ap step_line o.1)
+
+commit_parts : (server : ℕ) (t : Text) (s : Step) → is_server server ≡ true → commit_step server t ≡ Some s → (has_line s ≡ true) × (codes "commit" ++ 32 ∷ (decimal server ++ 32 ∷ t) ≡ step_line s)
+commit_parts server t s h e =
+    let (n, is_number, last) = bind_some (number_from_to 0 999_999_999_999 t) (λ n. Some (Step.Do server (Commit n))) s e in
+    let same = same_Some (Step.Do server (Commit n)) s last in
+    let number = number_from_parts 0 999_999_999_999 t n is_number in (
+      sym (ap has_line same) ∙ and_from (is_server server) (within 0 999_999_999_999 n) h number.0,
+      ap (λ (u : Text). codes "commit" ++ 32 ∷ (decimal server ++ 32 ∷ u)) number.1 ∙ ap step_line same,
+    )
+
+truncate_parts : (server : ℕ) (t : Text) (s : Step) → is_server server ≡ true → truncate_step server t ≡ Some s → (has_line s ≡ true) × (codes "truncate" ++ 32 ∷ (decimal server ++ 32 ∷ t) ≡ step_line s)
+truncate_parts server t s h e =
+    let (n, is_number, last) = bind_some (number_from_to 0 999_999_999_999 t) (λ n. Some (Step.Do server (Truncate n))) s e in
+    let same = same_Some (Step.Do server (Truncate n)) s last in
+    let number = number_from_parts 0 999_999_999_999 t n is_number in (
+      sym (ap has_line same) ∙ and_from (is_server server) (within 0 999_999_999_999 n) h number.0,
+      ap (λ (u : Text). codes "truncate" ++ 32 ∷ (decimal server ++ 32 ∷ u)) number.1 ∙ ap step_line same,
+    )
+
+position_parts : (t : Text) (s : Step) → position_step t ≡ Some s → (has_line s ≡ true) × (codes "position" ++ 32 ∷ t ≡ step_line s)
+position_parts t s e =
+    let (n, is_number, last) = bind_some (server_in t) (λ n. Some (Step.Do n AskPosition)) s e in
+    let same = same_Some (Step.Do n AskPosition) s last in
+    let number = number_from_parts 1 99 t n is_number in
+    (sym (ap has_line same) ∙ number.0, ap (λ (u : Text). codes "position" ++ 32 ∷ u) number.1 ∙ ap step_line same)
+
+batch_parts : (from : ℕ) (t : Text) (s : Step) → is_server from ≡ true → batch_step from t ≡ Some s → (has_line s ≡ true) × (codes "batch" ++ 32 ∷ (decimal from ++ 32 ∷ t) ≡ step_line s)
+batch_parts from t s h e =
+    let (to, to_cut, more) = bind_some (cut_server t) (λ to. (number_from_to 1 100_000 to.1 >>= λ m. Some (Make from to.0 m))) s e in
+    let (m, is_number, last) = bind_some (number_from_to 1 100_000 to.1) (λ m. Some (Make from to.0 m)) s more in
+    let same = same_Some (Make from to.0 m) s last in
+    let number = number_from_parts 1 100_000 to.1 m is_number in
+    let there = cut_server_parts t to.0 to.1 to_cut in (
+      sym (ap has_line same) ∙ and_from (is_server from) (is_server to.0 && within 1 100_000 m) h (and_from (is_server to.0) (within 1 100_000 m) there.0 number.0),
+      ap (λ (u : Text). codes "batch" ++ 32 ∷ (decimal from ++ 32 ∷ u)) (there.1 ∙ ap (λ (u : Text). decimal to.0 ++ 32 ∷ u) number.1) ∙ ap step_line same,
+    )
+
+-- a length that was read is one, and is written so
+length_parts : (t : Text) (n : ℕ) → length_in t ≡ Some n → (is_length n ≡ true) × (t ≡ length_word n)
+length_parts t n e =
+    if_some (bytes_eq t (codes "all")) (Some all_bytes) _ n e
+    (λ is f. (sym (ap is_length (same_Some all_bytes n f)), (bytes_eq-Decides t (codes "all")).0 is ∙ ap length_word (same_Some all_bytes n f)))
+    (λ _ f. let number = number_from_parts 0 999_999_999 t n f in
+    (ap (λ b. b || eqb n all_bytes) number.0, number.1 ∙ sym (cond-false (eqb n all_bytes) (codes "all") (decimal n) (not_all n number.0))))
+
+cut_batch_parts : (t : Text) (n : ℕ) (rest : Text) → cut_batch t ≡ Some (n, rest) → (within 0 999_999_999 n ≡ true) × (t ≡ decimal n ++ 32 ∷ rest)
+cut_batch_parts t k rest e =
+    let (p, is_cut, more) = bind_some (cut t) (λ p. (number_from_to 0 999_999_999 p.0 >>= λ n. Some (n, p.1))) (k, rest) e in
+    let (n, is_number, last) = bind_some (number_from_to 0 999_999_999 p.0) (λ n. Some (n, p.1)) (k, rest) more in
+    let same = same_Some (n, p.1) (k, rest) last in
+    let number = number_from_parts 0 999_999_999 p.0 n is_number in
+    let found = cut_parts t p.0 p.1 is_cut in (
+      sym (ap (λ (q : ℕ × Text). within 0 999_999_999 q.0) same) ∙ number.0,
+      found.1 ∙ ap (λ (u : Text). u ++ 32 ∷ p.1) number.1 ∙ ap (λ (q : ℕ × Text). decimal q.0 ++ 32 ∷ q.1) same,
+    )
+
+deliver_parts : (t : Text) (s : Step) → deliver_step t ≡ Some s → (has_line s ≡ true) × (codes "deliver" ++ 32 ∷ t ≡ step_line s)
+deliver_parts t s e =
+    let (batch, batch_cut, e1) = bind_some (cut_batch t) (λ batch. (cut_server batch.1 >>= λ to. (length_in to.1 >>= λ bytes. Some (Deliver batch.0 to.0 bytes)))) s e in
+    let (to, to_cut, e2) = bind_some (cut_server batch.1) (λ to. (length_in to.1 >>= λ bytes. Some (Deliver batch.0 to.0 bytes))) s e1 in
+    let (n, is_n, last) = bind_some (length_in to.1) (λ bytes. Some (Deliver batch.0 to.0 bytes)) s e2 in
+    let same = same_Some (Deliver batch.0 to.0 n) s last in
+    let b = cut_batch_parts t batch.0 batch.1 batch_cut in
+    let there = cut_server_parts batch.1 to.0 to.1 to_cut in
+    let l = length_parts to.1 n is_n in (
+      sym (ap has_line same) ∙ and_from (within 0 999_999_999 batch.0) (is_server to.0 && is_length n) b.0 (and_from (is_server to.0) (is_length n) there.0 l.0),
+      ap (λ (u : Text). codes "deliver" ++ 32 ∷ u) (b.1 ∙ ap (λ (u : Text). decimal batch.0 ++ 32 ∷ u) (there.1 ∙ ap (λ (u : Text). decimal to.0 ++ 32 ∷ u) l.1)) ∙ ap step_line same,
+    )
+
 -- a line that begins with a server
 at_server_parts : (verb : Text) (f : ℕ → Text → Option Step)
     → ((server : ℕ) (t : Text) (s : Step) → is_server server ≡ true → f server t ≡ Some s → (has_line s ≡ true) × (verb ++ 32 ∷ (decimal server ++ 32 ∷ t) ≡ step_line s))
@@ -178,6 +290,34 @@ with_verb : (verb word t : Text) (s : Step) → bytes_eq verb word ≡ true → 
 unfolding Parts
 with_verb verb word t s e parts = (parts.0, ap (λ (u : Text). u ++ 32 ∷ t) ((bytes_eq-Decides verb word).0 e) ∙ parts.1)
 
+exchange_parts : (verb t : Text) (s : Step) → exchange_by verb t ≡ Some s → Parts verb t s
+unfolding Parts
+exchange_parts verb t s e =
+    if_some (bytes_eq verb (codes "commit")) _ _ s e
+    (λ is f. with_verb verb (codes "commit") t s is (at_server_parts (codes "commit") commit_step commit_parts t s f))
+    (λ _ f. if_some (bytes_eq verb (codes "truncate")) _ _ s f
+    (λ is g. with_verb verb (codes "truncate") t s is (at_server_parts (codes "truncate") truncate_step truncate_parts t s g))
+    (λ _ g. if_some (bytes_eq verb (codes "position")) _ _ s g
+    (λ is h. with_verb verb (codes "position") t s is (position_parts t s h))
+    (λ _ h. if_some (bytes_eq verb (codes "batch")) _ _ s h
+    (λ is k. with_verb verb (codes "batch") t s is (at_server_parts (codes "batch") batch_step batch_parts t s k))
+    (λ _ k. if_some (bytes_eq verb (codes "deliver")) _ _ s k
+    (λ is l. with_verb verb (codes "deliver") t s is (deliver_parts t s l))
+    (λ _ l. absurd (none-some s l))))))
+
+question_parts : (verb t : Text) (s : Step) → question_by verb t ≡ Some s → Parts verb t s
+unfolding Parts
+question_parts verb t s e =
+    if_some (bytes_eq verb (codes "sheet")) _ _ s e
+    (λ is f. with_verb verb (codes "sheet") t s is (at_server_parts (codes "sheet") sheet_step sheet_parts t s f))
+    (λ _ f. if_some (bytes_eq verb (codes "calendar")) _ _ s f
+    (λ is g. with_verb verb (codes "calendar") t s is (at_server_parts (codes "calendar") calendar_step calendar_parts t s g))
+    (λ _ g. if_some (bytes_eq verb (codes "outcome")) _ _ s g
+    (λ is h. with_verb verb (codes "outcome") t s is (at_server_parts (codes "outcome") outcome_step outcome_parts t s h))
+    (λ _ h. if_some (bytes_eq verb (codes "errors")) _ _ s h
+    (λ is k. with_verb verb (codes "errors") t s is (at_server_parts (codes "errors") errors_step errors_parts t s k))
+    (λ _ k. exchange_parts verb t s k))))
+
 step_by_parts : (verb t : Text) (s : Step) → step_by verb t ≡ Some s → Parts verb t s
 unfolding Parts
 step_by_parts verb t s e =
@@ -187,9 +327,7 @@ step_by_parts verb t s e =
     (λ is g. with_verb verb (codes "room") t s is (at_server_parts (codes "room") room_step room_parts t s g))
     (λ _ g. if_some (bytes_eq verb (codes "book")) _ _ s g
     (λ is h. with_verb verb (codes "book") t s is (at_server_parts (codes "book") book_step book_parts t s h))
-    (λ _ h. if_some (bytes_eq verb (codes "sheet")) _ _ s h
-    (λ is k. with_verb verb (codes "sheet") t s is (at_server_parts (codes "sheet") sheet_step sheet_parts t s k))
-    (λ _ k. absurd (none-some s k)))))
+    (λ _ h. question_parts verb t s h)))
 
 -- a line that was read is the line of its step
 pub step_in_parts : (line : Text) (s : Step) → step_in line ≡ Some s → (has_line s ≡ true) × (line ≡ step_line s)
@@ -256,8 +394,40 @@ booking_of b h =
     ∙ bound (number_of_slots u4) (length b.alternatives, u5) (λ k. (cut_slots k.0 k.1 >>= λ o. made (b.room, u2) (b.length, u3) (b.wish, u4) o)) (number_of_slots_of (length b.alternatives) u5 n.1)
     ∙ bound (cut_slots (length b.alternatives) u5) (b.alternatives, b.title) (made (b.room, u2) (b.length, u3) (b.wish, u4)) (cut_slots_of b.alternatives b.title a.1)
 
-at_server : (f : ℕ → Text → Option Step) (server : ℕ) (rest : Text) → is_server server ≡ true → (cut_server (decimal server ++ 32 ∷ rest) >>= λ p. f p.0 p.1) ≡ f server rest
-at_server f server rest h = bound (cut_server (decimal server ++ 32 ∷ rest)) (server, rest) (λ p. f p.0 p.1) (cut_server_of server rest h)
+part_word : (part : Part) → part_in (part_text part) ≡ Some part
+part_word Full = refl
+part_word Committed = refl
+
+count_word : (n : ℕ) → within 0 999_999_999_999 n ≡ true → number_from_to 0 999_999_999_999 (decimal n) ≡ Some n
+count_word n h = number_from_decimal 0 999_999_999_999 n h (number_small 0 999_999_999_999 n h (lit< tt))
+
+cut_batch_of : (n : ℕ) (rest : Text) → within 0 999_999_999 n ≡ true → cut_batch (decimal n ++ 32 ∷ rest) ≡ Some (n, rest)
+cut_batch_of n rest h =
+    let small = number_small 0 999_999_999 n h (lit< tt) in
+    bound (cut (decimal n ++ 32 ∷ rest)) (decimal n, rest) (λ p. (number_from_to 0 999_999_999 p.0 >>= λ m. Some (m, p.1))) (cut_of (decimal n) rest (decimal_word n small))
+    ∙ bound (number_from_to 0 999_999_999 (decimal n)) n (λ m. Some (m, rest)) (number_from_decimal 0 999_999_999 n h small)
+
+-- a number is not written as the word `all`
+number_not_all : (n : ℕ) → n < 2 ^ 64 → bytes_eq (decimal n) (codes "all") ≡ false
+number_not_all n small =
+    false_from_ne_true (bytes_eq (decimal n) (codes "all"))
+    (λ e. let word : decimal n ≡ codes "all" = (bytes_eq-Decides (decimal n) (codes "all")).0 e in
+    omega (arith, digit_from_value 97 (subst (AllDigits 10) word (decimal_is_IsNumeral n small).0.1).0))
+
+-- a length is read from its word
+length_of : (n : ℕ) → is_length n ≡ true → length_in (length_word n) ≡ Some n
+length_of n h = go (cases_Bool (eqb n all_bytes))
+  where
+    go : (eqb n all_bytes ≡ true) ⊎ (eqb n all_bytes ≡ false) → length_in (length_word n) ≡ Some n
+    go (inl e) = ap length_in (cond-true (eqb n all_bytes) (codes "all") (decimal n) e) ∙ ap (λ m. Some m) (sym (eqb-true n all_bytes e))
+    go (inr e) =
+        let number : within 0 999_999_999 n ≡ true = or_none_right (within 0 999_999_999 n) (eqb n all_bytes) e h in
+        ap length_in (cond-false (eqb n all_bytes) (codes "all") (decimal n) e)
+        ∙ cond-false (bytes_eq (decimal n) (codes "all")) (Some all_bytes) (number_from_to 0 999_999_999 (decimal n)) (number_not_all n (number_small 0 999_999_999 n number (lit< tt)))
+        ∙ number_from_decimal 0 999_999_999 n number (number_small 0 999_999_999 n number (lit< tt))
+
+server_cut : (f : ℕ → Text → Option Step) (server : ℕ) (rest : Text) → is_server server ≡ true → (cut_server (decimal server ++ 32 ∷ rest) >>= λ p. f p.0 p.1) ≡ f server rest
+server_cut f server rest h = bound (cut_server (decimal server ++ 32 ∷ rest)) (server, rest) (λ p. f p.0 p.1) (cut_server_of server rest h)
 
 verb_cut : (verb rest : Text) → is_word verb ≡ true → step_in (verb ++ 32 ∷ rest) ≡ step_by verb rest
 verb_cut verb rest h = bound (cut (verb ++ 32 ∷ rest)) (verb, rest) (λ p. step_by p.0 p.1) (cut_of verb rest h)
@@ -267,19 +437,58 @@ pub step_in_of : (s : Step) → has_line s ≡ true → step_in (step_line s) �
 step_in_of (Add server) h = verb_cut (codes "replica") (decimal server) refl ∙ bound (server_in (decimal server)) server (λ n. Some (Add n)) (server_word server h)
 step_in_of (Step.Do server (AddRoom room)) h =
     let both = and_parts (is_server server) (is_word room) h in
-    verb_cut (codes "room") (decimal server ++ 32 ∷ room) refl ∙ at_server room_step server room both.0
+    verb_cut (codes "room") (decimal server ++ 32 ∷ room) refl ∙ server_cut room_step server room both.0
     ∙ ap (λ b. only_if b (Step.Do server (AddRoom room))) both.1
 step_in_of (Step.Do server (Submit b)) h =
     let both = and_parts (is_server server) (is_booking b) h in
     let rest : Text = words (booking_words b) in
-    verb_cut (codes "book") (decimal server ++ 32 ∷ rest) refl ∙ at_server book_step server rest both.0
+    verb_cut (codes "book") (decimal server ++ 32 ∷ rest) refl ∙ server_cut book_step server rest both.0
     ∙ bound (booking_in rest) b (λ x. Some (Step.Do server (Submit x))) (booking_of b both.1)
 step_in_of (Step.Do server (Ask room (AskSheet day))) h =
     let both = and_parts (is_server server) (is_word room && is_word day) h in
     let two = and_parts (is_word room) (is_word day) both.1 in
-    verb_cut (codes "sheet") (decimal server ++ 32 ∷ (room ++ 32 ∷ day)) refl ∙ at_server sheet_step server (room ++ 32 ∷ day) both.0
+    verb_cut (codes "sheet") (decimal server ++ 32 ∷ (room ++ 32 ∷ day)) refl ∙ server_cut sheet_step server (room ++ 32 ∷ day) both.0
     ∙ bound (cut (room ++ 32 ∷ day)) (room, day) (λ p. only_if (is_word p.1) (Step.Do server (Ask p.0 (AskSheet p.1)))) (cut_of room day two.0)
     ∙ ap (λ b. only_if b (Step.Do server (Ask room (AskSheet day)))) two.1
+step_in_of (Step.Do server (Ask room (AskCalendar part))) h =
+    let both = and_parts (is_server server) (is_word room) h in
+    verb_cut (codes "calendar") (decimal server ++ 32 ∷ (room ++ 32 ∷ part_text part)) refl ∙ server_cut calendar_step server (room ++ 32 ∷ part_text part) both.0
+    ∙ bound (cut (room ++ 32 ∷ part_text part)) (room, part_text part) (λ p. (part_in p.1 >>= λ x. Some (Step.Do server (Ask p.0 (AskCalendar x))))) (cut_of room (part_text part) both.1)
+    ∙ bound (part_in (part_text part)) part (λ x. Some (Step.Do server (Ask room (AskCalendar x)))) (part_word part)
+step_in_of (Step.Do server (Ask room (AskOutcome id))) h =
+    let both = and_parts (is_server server) (is_word room && is_word id) h in
+    let two = and_parts (is_word room) (is_word id) both.1 in
+    verb_cut (codes "outcome") (decimal server ++ 32 ∷ (room ++ 32 ∷ id)) refl ∙ server_cut outcome_step server (room ++ 32 ∷ id) both.0
+    ∙ bound (cut (room ++ 32 ∷ id)) (room, id) (λ p. only_if (is_word p.1) (Step.Do server (Ask p.0 (AskOutcome p.1)))) (cut_of room id two.0)
+    ∙ ap (λ b. only_if b (Step.Do server (Ask room (AskOutcome id)))) two.1
+step_in_of (Step.Do server (Ask room AskErrors)) h =
+    let both = and_parts (is_server server) (is_word room) h in
+    verb_cut (codes "errors") (decimal server ++ 32 ∷ room) refl ∙ server_cut errors_step server room both.0
+    ∙ ap (λ b. only_if b (Step.Do server (Ask room AskErrors))) both.1
+step_in_of (Step.Do server (Commit count)) h =
+    let both = and_parts (is_server server) (within 0 999_999_999_999 count) h in
+    verb_cut (codes "commit") (decimal server ++ 32 ∷ decimal count) refl ∙ server_cut commit_step server (decimal count) both.0
+    ∙ bound (number_from_to 0 999_999_999_999 (decimal count)) count (λ n. Some (Step.Do server (Commit n))) (count_word count both.1)
+step_in_of (Step.Do server (Truncate count)) h =
+    let both = and_parts (is_server server) (within 0 999_999_999_999 count) h in
+    verb_cut (codes "truncate") (decimal server ++ 32 ∷ decimal count) refl ∙ server_cut truncate_step server (decimal count) both.0
+    ∙ bound (number_from_to 0 999_999_999_999 (decimal count)) count (λ n. Some (Step.Do server (Truncate n))) (count_word count both.1)
+step_in_of (Step.Do server AskPosition) h =
+    verb_cut (codes "position") (decimal server) refl ∙ bound (server_in (decimal server)) server (λ n. Some (Step.Do n AskPosition)) (server_word server h)
+step_in_of (Make from to max_lines) h =
+    let both = and_parts (is_server from) (is_server to && within 1 100_000 max_lines) h in
+    let two = and_parts (is_server to) (within 1 100_000 max_lines) both.1 in
+    verb_cut (codes "batch") (decimal from ++ 32 ∷ (decimal to ++ 32 ∷ decimal max_lines)) refl ∙ server_cut batch_step from (decimal to ++ 32 ∷ decimal max_lines) both.0
+    ∙ bound (cut_server (decimal to ++ 32 ∷ decimal max_lines)) (to, decimal max_lines) (λ p. (number_from_to 1 100_000 p.1 >>= λ m. Some (Make from p.0 m))) (cut_server_of to (decimal max_lines) two.0)
+    ∙ bound (number_from_to 1 100_000 (decimal max_lines)) max_lines (λ m. Some (Make from to m)) (number_from_decimal 1 100_000 max_lines two.1 (number_small 1 100_000 max_lines two.1 (lit< tt)))
+step_in_of (Deliver batch to bytes) h =
+    let both = and_parts (within 0 999_999_999 batch) (is_server to && is_length bytes) h in
+    let two = and_parts (is_server to) (is_length bytes) both.1 in
+    let rest : Text = decimal to ++ 32 ∷ length_word bytes in
+    verb_cut (codes "deliver") (decimal batch ++ 32 ∷ rest) refl
+    ∙ bound (cut_batch (decimal batch ++ 32 ∷ rest)) (batch, rest) (λ b. (cut_server b.1 >>= λ p. (length_in p.1 >>= λ n. Some (Deliver b.0 p.0 n)))) (cut_batch_of batch rest both.0)
+    ∙ bound (cut_server rest) (to, length_word bytes) (λ p. (length_in p.1 >>= λ n. Some (Deliver batch p.0 n))) (cut_server_of to (length_word bytes) two.0)
+    ∙ bound (length_in (length_word bytes)) bytes (λ n. Some (Deliver batch to n)) (length_of bytes two.1)
 step_in_of _ h = absurd (false≢true h)
 
 -- ---- lines of the table
@@ -310,20 +519,6 @@ plain_low (c ∷ cs) h (suc i) = plain_low cs (and_parts (within 32 126 c) (list
 pub plain_text : (t : Text) → is_plain t ≡ true → IsUtf8 t
 plain_text t h = IsUtf8-from_ascii t (plain_low t h)
 
--- ---- the first replica
-
-pub or_nested : {A : Type 0} (x y z : Option A) → option_or x (option_or y z) ≡ option_or (option_or x y) z
-or_nested None y z = refl
-or_nested (Some x) y z = refl
-
-pub or_none : {A : Type 0} (x : Option A) → option_or x None ≡ x
-or_none None = refl
-or_none (Some x) = refl
-
-pub first_pushed : (ss : List Step) (s : Step) → first_server (ss ++ s ∷ []) ≡ option_or (first_server ss) (added_by s)
-first_pushed [] s = or_none (added_by s)
-first_pushed (t ∷ ss) s = ap (option_or (added_by t)) (first_pushed ss s) ∙ or_nested (added_by t) (first_server ss) (added_by s)
-
 -- the same of a line and its text
 pub reading_stands_at : {T E : Type 0} (line text : Text) (view : T → Step) (result : Result (Option T) E) → text ≡ line → is_plain line ≡ true
     → IfOk result (λ found. MatchOption found (step_in text ≡ None) (λ s. step_in text ≡ Some (view s)))
@@ -336,8 +531,3 @@ reading_stands_at line text view (Err e) same plain h = tt
 -- a line has one step
 pub one_step : (line : Text) (s t : Step) → IsLineOf line s → IsLineOf line t → s ≡ t
 one_step line s t h k = same_Some s t (sym (step_in_of s h.of_table) ∙ ap step_in (sym h.spelled ∙ k.spelled) ∙ step_in_of t k.of_table)
-
--- the line of a replica of another server is of no use
-pub another_server : (first : Option ℕ) (line : Text) (s : Step) → IsLineOf line s → is_another first (added_by s) ≡ true → (t : Step) → ¬ IsNext first line t
-another_server first line s stands another t h =
-    false≢true (sym h.same_server ∙ ap (λ u. is_another first (added_by u)) (one_step line t s h.stands stands) ∙ another)

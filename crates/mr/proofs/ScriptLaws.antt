@@ -1,16 +1,13 @@
 -- A script is read line by line.
 use Rattle.std.proofs.Common.{◌≡◌, refl, sym, ap, subst, ◌∙◌, ℕ, zero, suc, ◌+◌, ◌<◌, true, false, List, [], ◌∷◌, ◌++◌, length, map, take, get_or, inl, inr, arith, Bor, Option, Some, None, not-suc-le-zero, le_of_suc-le-suc}
-use Rattle.std.proofs.lemmas.Bool.{true≢false, false≢true}
 use Rattle.std.proofs.lemmas.List.{map_push}
 use Rattle.std.proofs.lemmas.Iterator.{YieldsList}
 use Rattle.std.proofs.lemmas.Iterator.Consumers.{YieldsList-so_far, YieldsList-turn, YieldsList-end}
 use Rattle.std.specs.Iterator.{Yields}
 use Rattle.std.specs.List.{enumerate_from}
-use Rattle.std.specs.Option.{option_or, is_some}
 use Rattle.mr_model.specs.Texts.{Text}
 use Rattle.mr_model.specs.World.{Step}
-use Rattle.mr.specs.Script.{is_passed_over, added_by, first_server, IsNext, IsBad, IsRead, begun, taken, IsBadLine}
-use Rattle.mr.proofs.LineLaws.{first_pushed}
+use Rattle.mr.specs.Script.{is_passed_over, IsLineOf, IsBad, IsRead, taken, IsBadLine}
 
 -- the lines so far, as an iterator gave them
 abbrev pub numbered : List (ℕ × Bor Text) → List (ℕ × Text)
@@ -57,28 +54,15 @@ turn ls done x so_far t =
 
 -- ---- how far a script was read
 
-pub record IsUnderWay (lines : List Text) (first : Option ℕ) (steps : List Step) : Type 0 where
-  pub read : IsRead lines steps
-  pub added : first ≡ first_server steps
+pub passes_over : (lines : List Text) (steps : List Step) (line : Text) → IsRead lines steps → is_passed_over line ≡ true → IsRead (lines ++ line ∷ []) steps
+passes_over lines steps line way passed = taken way (inl (passed, refl))
 
-pub begins : IsUnderWay [] None []
-begins = record { read = begun; added = refl }
+pub takes_step : (lines : List Text) (steps : List Step) (line : Text) (step : Step) → IsRead lines steps → IsLineOf line step → IsRead (lines ++ line ∷ []) (steps ++ step ∷ [])
+takes_step lines steps line step way stands = taken way (inr (step, stands, refl))
 
-pub passes_over : (lines : List Text) (first : Option ℕ) (steps : List Step) (line : Text) → IsUnderWay lines first steps → is_passed_over line ≡ true
-    → IsUnderWay (lines ++ line ∷ []) first steps
-passes_over lines first steps line way passed = record { read = taken way.read (inl (passed, refl)); added = way.added }
-
-pub takes_step : (lines : List Text) (first : Option ℕ) (steps : List Step) (line : Text) (step : Step) (next : Option ℕ) → IsUnderWay lines first steps
-    → IsNext first line step → next ≡ option_or first (added_by step) → IsUnderWay (lines ++ line ∷ []) next (steps ++ step ∷ [])
-takes_step lines first steps line step next way is_next e =
-    record {
-      read = taken way.read (inr (step, subst (λ (f : Option ℕ). IsNext f line step) way.added is_next, refl));
-      added = e ∙ ap (λ (f : Option ℕ). option_or f (added_by step)) way.added ∙ sym (first_pushed steps step);
-    }
-
-pub ends_at_bad : (lines before : List Text) (first : Option ℕ) (steps : List Step) (line : Text) (index number : ℕ) → IsUnderWay before first steps
-    → IsBad first line → StandsAt lines before line index → index + 1 ≡ number → IsBadLine lines number
-ends_at_bad lines before first steps line index number way bad at e =
+pub ends_at_bad : (lines before : List Text) (steps : List Step) (line : Text) (index number : ℕ) → IsRead before steps
+    → IsBad line → StandsAt lines before line index → index + 1 ≡ number → IsBadLine lines number
+ends_at_bad lines before steps line index number way bad at e =
     record {
       before = before;
       line = line;
@@ -86,17 +70,9 @@ ends_at_bad lines before first steps line index number way bad at e =
       steps = steps;
       stands_at = at.stands_at;
       counted = ap (λ i. i + 1) at.counted ∙ e;
-      read_before = way.read;
-      bad = subst (λ (f : Option ℕ). IsBad f line) way.added bad;
+      read_before = way;
+      bad = bad;
     }
-
-pub or_of_none : {A : Type 0} (x y : Option A) → is_some x ≡ false → y ≡ option_or x y
-or_of_none None y e = refl
-or_of_none (Some x) y e = absurd (true≢false e)
-
-pub or_of_some : {A : Type 0} (x y : Option A) → is_some x ≡ true → x ≡ option_or x y
-or_of_some None y e = absurd (false≢true e)
-or_of_some (Some x) y e = refl
 
 length-numbered : (xs : List (ℕ × Bor Text)) → length (numbered xs) ≡ length xs
 length-numbered [] = refl

@@ -3,10 +3,10 @@ use Rattle.std.proofs.Common.{◌≡◌, refl, sym, ap, subst, ◌∙◌, ℕ, �
 use Rattle.std.proofs.lemmas.Bool.{true≢false, false≢true, cases_order}
 use Rattle.std.specs.Prelude.{Ok, Err}
 use Rattle.mr_model.specs.Texts.{Text}
-use Rattle.mr_model.specs.View.{AskSheet}
-use Rattle.mr_model.specs.Step.{AddRoom, Submit, Ask}
-use Rattle.mr_model.specs.World.{Step, Add}
-use Rattle.mr.specs.Script.{is_passed_over, first_server, has_line, step_line, script_lines, IsLineOf, IsBad, TakesLine, IsRead, begun, taken, IsBadLine, ReadsOneWay}
+use Rattle.mr_model.specs.View.{AskSheet, AskCalendar, AskOutcome, AskErrors}
+use Rattle.mr_model.specs.Step.{AddRoom, Submit, Commit, Truncate, AskPosition, Ask}
+use Rattle.mr_model.specs.World.{Step, Add, Make, Deliver}
+use Rattle.mr.specs.Script.{is_passed_over, has_line, step_line, script_lines, IsLineOf, IsBad, TakesLine, IsRead, begun, taken, IsBadLine, ReadsOneWay}
 use Rattle.mr.proofs.LineLaws.{one_step}
 
 -- ---- the last line
@@ -59,6 +59,14 @@ begins_otherwise (Add server) h = refl
 begins_otherwise (Step.Do server (AddRoom room)) h = refl
 begins_otherwise (Step.Do server (Submit b)) h = refl
 begins_otherwise (Step.Do server (Ask room (AskSheet day))) h = refl
+begins_otherwise (Step.Do server (Ask room (AskCalendar part))) h = refl
+begins_otherwise (Step.Do server (Ask room (AskOutcome id))) h = refl
+begins_otherwise (Step.Do server (Ask room AskErrors)) h = refl
+begins_otherwise (Step.Do server (Commit count)) h = refl
+begins_otherwise (Step.Do server (Truncate count)) h = refl
+begins_otherwise (Step.Do server AskPosition) h = refl
+begins_otherwise (Make from to max_lines) h = refl
+begins_otherwise (Deliver batch to bytes) h = refl
 begins_otherwise _ h = absurd (false≢true h)
 
 never_both : (line : Text) (s : Step) → is_passed_over line ≡ true → IsLineOf line s → ⊥
@@ -66,9 +74,9 @@ never_both line s passed stands = true≢false (sym passed ∙ ap is_passed_over
 
 takes_one : (before a b : List Step) (line : Text) → TakesLine before line a → TakesLine before line b → a ≡ b
 takes_one before a b line (inl (p, e)) (inl (q, f)) = e ∙ sym f
-takes_one before a b line (inl (p, e)) (inr (s, next, f)) = absurd (never_both line s p next.stands)
-takes_one before a b line (inr (s, next, e)) (inl (q, f)) = absurd (never_both line s q next.stands)
-takes_one before a b line (inr (s, n, e)) (inr (t, m, f)) = e ∙ ap (λ (x : Step). before ++ x ∷ []) (one_step line s t n.stands m.stands) ∙ sym f
+takes_one before a b line (inl (p, e)) (inr (s, next, f)) = absurd (never_both line s p next)
+takes_one before a b line (inr (s, next, e)) (inl (q, f)) = absurd (never_both line s q next)
+takes_one before a b line (inr (s, n, e)) (inr (t, m, f)) = e ∙ ap (λ (x : Step). before ++ x ∷ []) (one_step line s t n m) ∙ sym f
 
 -- ---- a whole script
 
@@ -99,7 +107,7 @@ front_read begun (x ∷ xs) ys e = absurd (suc-ne-zero (length (xs ++ ys)) (sym 
 front_read {steps = a} (taken {lines = ls} {line = l} r t) xs [] e = record { steps = a; read = subst (λ ts. IsRead ts a) (e ∙ append-nil xs) (taken r t) }
 front_read (taken {lines = ls} {line = l} r t) xs (y ∷ ys) e = front_read r xs (fronts (y ∷ ys)) (sym (fronts_pushed ls l) ∙ ap fronts e ∙ fronts_append xs y ys)
 
-bad_not_taken : (before after : List Step) (line : Text) → IsBad (first_server before) line → TakesLine before line after → ⊥
+bad_not_taken : (before after : List Step) (line : Text) → IsBad line → TakesLine before line after → ⊥
 bad_not_taken before after line bad (inl (passed, e)) = false≢true (sym bad.not_passed ∙ passed)
 bad_not_taken before after line bad (inr (s, next, e)) = bad.not_of_table s next
 

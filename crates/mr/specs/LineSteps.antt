@@ -2,11 +2,12 @@
 use Rattle.std.specs.Prelude.{ℕ, zero, suc, ◌&&◌, if◌then◌else◌, List, [], ◌∷◌, codes, bytes_eq, Option, Some, None, option_and_then}
 use Rattle.std.specs.List.{list_any}
 use Rattle.mr_model.specs.Texts.{Text, is_space, first_word, after_word, only_if}
-use Rattle.mr_model.specs.View.{AskSheet}
-use Rattle.mr_model.specs.Step.{AddRoom, Submit, Ask, Submission, SlotWords}
-use Rattle.mr_model.specs.World.{Step, Add}
+use Rattle.mr_model.specs.Replies.{Part, Full, Committed}
+use Rattle.mr_model.specs.View.{AskSheet, AskCalendar, AskOutcome, AskErrors}
+use Rattle.mr_model.specs.Step.{AddRoom, Submit, Commit, Truncate, AskPosition, Ask, Submission, SlotWords}
+use Rattle.mr_model.specs.World.{Step, Add, Make, Deliver}
 use Rattle.mr_base.specs.Readings.{number_from_to}
-use Rattle.mr.specs.Script.{is_word}
+use Rattle.mr.specs.Script.{is_word, all_bytes}
 
 infixl 10 ◌>>=◌
 abbrev pub ◌>>=◌ : {A B : Type 0} → Option A → (A → Option B) → Option B
@@ -53,6 +54,42 @@ sheet_step server t = cut t >>= λ room. only_if (is_word room.1) (Step.Do serve
 abbrev pub book_step : ℕ → Text → Option Step
 book_step server t = booking_in t >>= λ booking. Some (Step.Do server (Submit booking))
 
+-- a part of a calendar
+abbrev pub part_in : Text → Option Part
+part_in t = if bytes_eq t (codes "full") then Some Full else (if bytes_eq t (codes "committed") then Some Committed else None)
+
+abbrev pub calendar_step : ℕ → Text → Option Step
+calendar_step server t = cut t >>= λ room. (part_in room.1 >>= λ part. Some (Step.Do server (Ask room.0 (AskCalendar part))))
+
+abbrev pub outcome_step : ℕ → Text → Option Step
+outcome_step server t = cut t >>= λ room. only_if (is_word room.1) (Step.Do server (Ask room.0 (AskOutcome room.1)))
+
+abbrev pub errors_step : ℕ → Text → Option Step
+errors_step server t = only_if (is_word t) (Step.Do server (Ask t AskErrors))
+
+abbrev pub commit_step : ℕ → Text → Option Step
+commit_step server t = number_from_to 0 999_999_999_999 t >>= λ count. Some (Step.Do server (Commit count))
+
+abbrev pub truncate_step : ℕ → Text → Option Step
+truncate_step server t = number_from_to 0 999_999_999_999 t >>= λ count. Some (Step.Do server (Truncate count))
+
+abbrev pub position_step : Text → Option Step
+position_step t = server_in t >>= λ server. Some (Step.Do server AskPosition)
+
+abbrev pub batch_step : ℕ → Text → Option Step
+batch_step from t = cut_server t >>= λ to. (number_from_to 1 100_000 to.1 >>= λ max_lines. Some (Make from to.0 max_lines))
+
+-- how many bytes of a batch
+abbrev pub length_in : Text → Option ℕ
+length_in t = if bytes_eq t (codes "all") then Some all_bytes else number_from_to 0 999_999_999 t
+
+-- the number of a batch, and what follows
+abbrev pub cut_batch : Text → Option (ℕ × Text)
+cut_batch t = cut t >>= λ p. (number_from_to 0 999_999_999 p.0 >>= λ n. Some (n, p.1))
+
+abbrev pub deliver_step : Text → Option Step
+deliver_step t = cut_batch t >>= λ batch. (cut_server batch.1 >>= λ to. (length_in to.1 >>= λ bytes. Some (Deliver batch.0 to.0 bytes)))
+
 abbrev pub replica_step : Text → Option Step
 replica_step t = server_in t >>= λ server. Some (Add server)
 
@@ -60,14 +97,31 @@ replica_step t = server_in t >>= λ server. Some (Add server)
 abbrev pub at_server : (ℕ → Text → Option Step) → Text → Option Step
 at_server f t = cut_server t >>= λ p. f p.0 p.1
 
--- the step of a line that begins with this word
+-- the step of a line that begins with this word: what replicas exchange and commit
+abbrev pub exchange_by : Text → Text → Option Step
+exchange_by verb t =
+    if bytes_eq verb (codes "commit") then at_server commit_step t
+    else (if bytes_eq verb (codes "truncate") then at_server truncate_step t
+    else (if bytes_eq verb (codes "position") then position_step t
+    else (if bytes_eq verb (codes "batch") then at_server batch_step t
+    else (if bytes_eq verb (codes "deliver") then deliver_step t
+    else None))))
+
+-- questions about a room, and the others
+abbrev pub question_by : Text → Text → Option Step
+question_by verb t =
+    if bytes_eq verb (codes "sheet") then at_server sheet_step t
+    else (if bytes_eq verb (codes "calendar") then at_server calendar_step t
+    else (if bytes_eq verb (codes "outcome") then at_server outcome_step t
+    else (if bytes_eq verb (codes "errors") then at_server errors_step t
+    else exchange_by verb t)))
+
 abbrev pub step_by : Text → Text → Option Step
 step_by verb t =
     if bytes_eq verb (codes "replica") then replica_step t
     else (if bytes_eq verb (codes "room") then at_server room_step t
     else (if bytes_eq verb (codes "book") then at_server book_step t
-    else (if bytes_eq verb (codes "sheet") then at_server sheet_step t
-    else None)))
+    else question_by verb t))
 
 -- the step of a line, if it is of the table
 abbrev pub step_in : Text → Option Step

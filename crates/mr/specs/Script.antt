@@ -1,12 +1,12 @@
 -- The rehearsal script: the line of each step, and which steps a script stands for.
-use Rattle.std.specs.Prelude.{◌≡◌, ℕ, ◌+◌, Bool, true, false, not, ◌&&◌, ◌==◌, nat_le, List, [], ◌∷◌, ◌++◌, length, flat_map, codes, decimal, ◌⊎◌, Option, Some, None, Result, Ok, Err}
+use Rattle.std.specs.Prelude.{◌≡◌, ℕ, ◌+◌, Bool, true, false, not, ◌&&◌, ◌||◌, ◌==◌, if◌then◌else◌, nat_le, List, [], ◌∷◌, ◌++◌, length, flat_map, codes, decimal, ◌⊎◌, Result, Ok, Err}
 use Rattle.std.specs.List.{list_all, slice_split}
-use Rattle.std.specs.Option.{option_or}
 use Rattle.mr_model.specs.Texts.{Text, within, is_space, words}
 use Rattle.mr_model.specs.Writes.{is_server}
-use Rattle.mr_model.specs.View.{AskSheet}
-use Rattle.mr_model.specs.Step.{AddRoom, Submit, Ask, Submission, SlotWords}
-use Rattle.mr_model.specs.World.{Step, Add}
+use Rattle.mr_model.specs.Replies.{part_text}
+use Rattle.mr_model.specs.View.{AskSheet, AskCalendar, AskOutcome, AskErrors}
+use Rattle.mr_model.specs.Step.{AddRoom, Submit, Commit, Truncate, AskPosition, Ask, Submission, SlotWords}
+use Rattle.mr_model.specs.World.{Step, Add, Make, Deliver}
 
 -- ---- lines
 
@@ -38,11 +38,27 @@ abbrev pub booking_words : Submission → List Text
 booking_words b =
     b.room ∷ b.length ∷ b.wish.day ∷ b.wish.time ∷ decimal (length b.alternatives) ∷ (flat_map slot_words b.alternatives ++ b.title ∷ [])
 
+-- all bytes of a batch: more than any has
+abbrev pub all_bytes : ℕ
+all_bytes = 18_446_744_073_709_551_615
+
+-- how many bytes of a batch are delivered
+abbrev pub length_word : ℕ → Text
+length_word n = if n == all_bytes then codes "all" else decimal n
+
 abbrev pub step_words : Step → List Text
 step_words (Add server) = codes "replica" ∷ decimal server ∷ []
 step_words (Step.Do server (AddRoom room)) = codes "room" ∷ decimal server ∷ room ∷ []
 step_words (Step.Do server (Submit booking)) = codes "book" ∷ decimal server ∷ booking_words booking
 step_words (Step.Do server (Ask room (AskSheet day))) = codes "sheet" ∷ decimal server ∷ room ∷ day ∷ []
+step_words (Step.Do server (Ask room (AskCalendar part))) = codes "calendar" ∷ decimal server ∷ room ∷ part_text part ∷ []
+step_words (Step.Do server (Ask room (AskOutcome id))) = codes "outcome" ∷ decimal server ∷ room ∷ id ∷ []
+step_words (Step.Do server (Ask room AskErrors)) = codes "errors" ∷ decimal server ∷ room ∷ []
+step_words (Step.Do server (Commit count)) = codes "commit" ∷ decimal server ∷ decimal count ∷ []
+step_words (Step.Do server (Truncate count)) = codes "truncate" ∷ decimal server ∷ decimal count ∷ []
+step_words (Step.Do server AskPosition) = codes "position" ∷ decimal server ∷ []
+step_words (Make from to max_lines) = codes "batch" ∷ decimal from ∷ decimal to ∷ decimal max_lines ∷ []
+step_words (Deliver batch to bytes) = codes "deliver" ∷ decimal batch ∷ decimal to ∷ length_word bytes ∷ []
 step_words _ = []
 
 abbrev pub step_line : Step → Text
@@ -59,11 +75,23 @@ is_booking b =
     is_word b.room && is_word b.length && are_slot_words b.wish && nat_le (length b.alternatives) 99
     && list_all are_slot_words b.alternatives
 
+-- a number of bytes, or all
+abbrev pub is_length : ℕ → Bool
+is_length n = within 0 999_999_999 n || n == all_bytes
+
 abbrev pub has_line : Step → Bool
 has_line (Add server) = is_server server
 has_line (Step.Do server (AddRoom room)) = is_server server && is_word room
 has_line (Step.Do server (Submit booking)) = is_server server && is_booking booking
 has_line (Step.Do server (Ask room (AskSheet day))) = is_server server && (is_word room && is_word day)
+has_line (Step.Do server (Ask room (AskCalendar part))) = is_server server && is_word room
+has_line (Step.Do server (Ask room (AskOutcome id))) = is_server server && (is_word room && is_word id)
+has_line (Step.Do server (Ask room AskErrors)) = is_server server && is_word room
+has_line (Step.Do server (Commit count)) = is_server server && within 0 999_999_999_999 count
+has_line (Step.Do server (Truncate count)) = is_server server && within 0 999_999_999_999 count
+has_line (Step.Do server AskPosition) = is_server server
+has_line (Make from to max_lines) = is_server from && (is_server to && within 1 100_000 max_lines)
+has_line (Deliver batch to bytes) = within 0 999_999_999 batch && (is_server to && is_length bytes)
 has_line _ = false
 
 -- the line is of the table, and this is its step
@@ -74,35 +102,15 @@ pub record IsLineOf (line : Text) (step : Step) : Type 0 where
 
 -- ---- a whole script
 
--- the server of the replica that the step adds
-abbrev pub added_by : Step → Option ℕ
-added_by (Add server) = Some server
-added_by _ = None
-
--- the server of the first replica
-abbrev pub first_server : List Step → Option ℕ
-first_server [] = None
-first_server (step ∷ steps) = option_or (added_by step) (first_server steps)
-
--- a replica of another server than the first; a script has one replica, which may be added again
-abbrev pub is_another : Option ℕ → Option ℕ → Bool
-is_another (Some first) (Some server) = not (server == first)
-is_another _ _ = false
-
--- the line stands for this step, the first replica, if any, having this server
-pub record IsNext (first : Option ℕ) (line : Text) (step : Step) : Type 0 where
-  pub stands : IsLineOf line step
-  pub same_server : is_another first (added_by step) ≡ false
-
 -- the line is neither passed over nor of the table
-pub record IsBad (first : Option ℕ) (line : Text) : Type 0 where
+pub record IsBad (line : Text) : Type 0 where
   pub not_passed : is_passed_over line ≡ false
-  pub not_of_table : (step : Step) → ¬ IsNext first line step
+  pub not_of_table : (step : Step) → ¬ IsLineOf line step
 
 -- the steps before a line and after it
 abbrev pub TakesLine : List Step → Text → List Step → Type 0
 TakesLine before line after =
-    ((is_passed_over line ≡ true) × (after ≡ before)) ⊎ ((step : Step) × IsNext (first_server before) line step × (after ≡ before ++ step ∷ []))
+    ((is_passed_over line ≡ true) × (after ≡ before)) ⊎ ((step : Step) × IsLineOf line step × (after ≡ before ++ step ∷ []))
 
 -- the lines of a script as far as it was read, and the steps that they stand for
 pub data IsRead : List Text → List Step → Type 0 where
@@ -118,7 +126,7 @@ pub record IsBadLine (lines : List Text) (number : ℕ) : Type 0 where
   pub stands_at : lines ≡ before ++ line ∷ behind
   pub counted : length before + 1 ≡ number
   pub read_before : IsRead before steps
-  pub bad : IsBad (first_server steps) line
+  pub bad : IsBad line
 
 -- the steps that a script stands for, or the number of its first bad line
 abbrev pub ReadsAs : Text → Result (List Step) ℕ → Type 0

@@ -10,9 +10,7 @@ mod run;
 #[cfg(test)]
 mod run_tests;
 mod script;
-mod steps;
 mod words;
 
 pub use run::{command, rehearse};
 pub use script::{ScriptFault, read_script, scripts_are_read_one_way};
-pub use steps::{Step, StepReply};

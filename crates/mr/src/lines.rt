@@ -1,12 +1,12 @@
 //! Reads the lines of a script.
 
 ghost use Rattle.std.specs.Prelude.{◌≡◌, MatchOption, IfOk, Some, None};
-ghost use Rattle.mr.specs.LineSteps.{cut_server, replica_step, room_step, sheet_step, book_step, at_server, step_in};
-ghost use Rattle.mr.specs.Reading.{step_of};
+ghost use Rattle.mr_service.specs.Asked.{part_of};
+ghost use Rattle.mr_service.specs.Stepping.{step_of};
+ghost use Rattle.mr.specs.LineSteps.{replica_step, room_step, sheet_step, book_step, calendar_step, outcome_step, errors_step, commit_step, truncate_step, position_step, batch_step, deliver_step, part_in, at_server, exchange_by, question_by, step_by, step_in};
 
-use crate::steps::Step;
-use crate::words::{Words, is_word, read_server};
-use mr_service::{Command, Local};
+use crate::words::{Words, is_word, read_count, read_length, read_line_count, read_server};
+use mr_service::{Local, Part, Step};
 use std::alloc::{AllocError, Global};
 
 /// The step that the line stands for, if it is of the table.
@@ -15,11 +15,47 @@ pub(crate) fn read_step(alloc: Global, line: &str) -> Result<Option<Step>, Alloc
 {
     let mut words = Words::new(line);
     match words.next() {
-        Some("replica") => Ok(replica(words)),
-        Some("room") => room(alloc, words),
-        Some("book") => book(alloc, words),
-        Some("sheet") => sheet(alloc, words),
-        _ => Ok(None),
+        Some(verb) => step_by(alloc, verb, words),
+        None => Ok(None),
+    }
+}
+
+/// The step of a line that begins with this word.
+fn step_by(alloc: Global, verb: &str, words: Words<'_>) -> Result<Option<Step>, AllocError>
+    ensures { IfOk result (λ found. MatchOption found (step_by verb.now words.entry ≡ None) (λ step. step_by verb.now words.entry ≡ Some (step_of step))) }
+{
+    match verb {
+        "replica" => Ok(replica(words)),
+        "room" => room(alloc, words),
+        "book" => book(alloc, words),
+        _ => question_by(alloc, verb, words),
+    }
+}
+
+/// A question about a room, or what `exchange_by` reads.
+fn question_by(alloc: Global, verb: &str, words: Words<'_>) -> Result<Option<Step>, AllocError>
+    ensures { IfOk result (λ found. MatchOption found (question_by verb.now words.entry ≡ None) (λ step. question_by verb.now words.entry ≡ Some (step_of step))) }
+{
+    match verb {
+        "sheet" => sheet(alloc, words),
+        "calendar" => calendar(alloc, words),
+        "outcome" => outcome(alloc, words),
+        "errors" => errors(alloc, words),
+        _ => Ok(exchange_by(verb, words)),
+    }
+}
+
+/// What replicas exchange and commit.
+fn exchange_by(verb: &str, words: Words<'_>) -> Option<Step>
+    ensures { MatchOption result (exchange_by verb.now words.entry ≡ None) (λ step. exchange_by verb.now words.entry ≡ Some (step_of step)) }
+{
+    match verb {
+        "commit" => commit(words),
+        "truncate" => truncate(words),
+        "position" => position(words),
+        "batch" => batch(words),
+        "deliver" => deliver(words),
+        _ => None,
     }
 }
 
@@ -41,7 +77,7 @@ fn room(alloc: Global, mut words: Words<'_>) -> Result<Option<Step>, AllocError>
         return Ok(None);
     }
     let local = Local::AddRoom(String::from_str(alloc, room)?);
-    Ok(Some(Step::Do(server, Command::Local(local))))
+    Ok(Some(Step::Do(server, local)))
 }
 
 fn book(alloc: Global, mut words: Words<'_>) -> Result<Option<Step>, AllocError>
@@ -51,7 +87,7 @@ fn book(alloc: Global, mut words: Words<'_>) -> Result<Option<Step>, AllocError>
         return Ok(None);
     };
     match words.booking(alloc)? {
-        Some(booking) => Ok(Some(Step::Do(server, Command::Local(Local::Submit(booking))))),
+        Some(booking) => Ok(Some(Step::Do(server, Local::Submit(booking)))),
         None => Ok(None),
     }
 }
@@ -73,5 +109,111 @@ fn sheet(alloc: Global, mut words: Words<'_>) -> Result<Option<Step>, AllocError
         room: String::from_str(alloc, room)?,
         day: String::from_str(alloc, day)?,
     };
-    Ok(Some(Step::Do(server, Command::Local(local))))
+    Ok(Some(Step::Do(server, local)))
+}
+
+fn calendar(alloc: Global, mut words: Words<'_>) -> Result<Option<Step>, AllocError>
+    ensures { IfOk result (λ found. MatchOption found (at_server calendar_step words.entry ≡ None) (λ step. at_server calendar_step words.entry ≡ Some (step_of step))) }
+{
+    let Some(server) = words.server() else {
+        return Ok(None);
+    };
+    let Some(room) = words.next() else {
+        return Ok(None);
+    };
+    let Some(part) = read_part(words.rest()) else {
+        return Ok(None);
+    };
+    let room = String::from_str(alloc, room)?;
+    Ok(Some(Step::Do(server, Local::Calendar { room, part })))
+}
+
+/// The part of a calendar that the word names.
+fn read_part(word: &str) -> Option<Part>
+    ensures { MatchOption result (part_in word.now ≡ None) (λ part. part_in word.now ≡ Some (part_of part)) }
+{
+    match word {
+        "full" => Some(Part::Full),
+        "committed" => Some(Part::Committed),
+        _ => None,
+    }
+}
+
+fn outcome(alloc: Global, mut words: Words<'_>) -> Result<Option<Step>, AllocError>
+    ensures { IfOk result (λ found. MatchOption found (at_server outcome_step words.entry ≡ None) (λ step. at_server outcome_step words.entry ≡ Some (step_of step))) }
+{
+    let Some(server) = words.server() else {
+        return Ok(None);
+    };
+    let Some(room) = words.next() else {
+        return Ok(None);
+    };
+    let id = words.rest();
+    if !is_word(id) {
+        return Ok(None);
+    }
+    let local = Local::Outcome {
+        room: String::from_str(alloc, room)?,
+        id: String::from_str(alloc, id)?,
+    };
+    Ok(Some(Step::Do(server, local)))
+}
+
+fn errors(alloc: Global, mut words: Words<'_>) -> Result<Option<Step>, AllocError>
+    ensures { IfOk result (λ found. MatchOption found (at_server errors_step words.entry ≡ None) (λ step. at_server errors_step words.entry ≡ Some (step_of step))) }
+{
+    let Some(server) = words.server() else {
+        return Ok(None);
+    };
+    let name = words.rest();
+    if !is_word(name) {
+        return Ok(None);
+    }
+    let room = String::from_str(alloc, name)?;
+    Ok(Some(Step::Do(server, Local::Errors { room })))
+}
+
+fn commit(mut words: Words<'_>) -> Option<Step>
+    ensures { MatchOption result (at_server commit_step words.entry ≡ None) (λ step. at_server commit_step words.entry ≡ Some (step_of step)) }
+{
+    let server = words.server()?;
+    let count = read_count(words.rest())?;
+    Some(Step::Do(server, Local::Commit(count)))
+}
+
+fn truncate(mut words: Words<'_>) -> Option<Step>
+    ensures { MatchOption result (at_server truncate_step words.entry ≡ None) (λ step. at_server truncate_step words.entry ≡ Some (step_of step)) }
+{
+    let server = words.server()?;
+    let count = read_count(words.rest())?;
+    Some(Step::Do(server, Local::Truncate(count)))
+}
+
+fn position(words: Words<'_>) -> Option<Step>
+    ensures { MatchOption result (position_step words.entry ≡ None) (λ step. position_step words.entry ≡ Some (step_of step)) }
+{
+    let server = read_server(words.rest())?;
+    Some(Step::Do(server, Local::Position))
+}
+
+fn batch(mut words: Words<'_>) -> Option<Step>
+    ensures { MatchOption result (at_server batch_step words.entry ≡ None) (λ step. at_server batch_step words.entry ≡ Some (step_of step)) }
+{
+    let from = words.server()?;
+    let to = words.server()?;
+    let max_lines = read_line_count(words.rest())?;
+    Some(Step::Make {
+        from,
+        to,
+        max_lines,
+    })
+}
+
+fn deliver(mut words: Words<'_>) -> Option<Step>
+    ensures { MatchOption result (deliver_step words.entry ≡ None) (λ step. deliver_step words.entry ≡ Some (step_of step)) }
+{
+    let batch = words.batch()?;
+    let to = words.server()?;
+    let bytes = read_length(words.rest())?;
+    Some(Step::Deliver { batch, to, bytes })
 }

@@ -1,14 +1,14 @@
 //! Scripts and command lines, over any reader and writer.
 
-ghost use Rattle.std.specs.Prelude.{◌≡◌, ◌≢◌, ◌≤◌, ◌⊎◌, ℕ, List, None, true, false, map, IfOk, IfSome};
+ghost use Rattle.std.specs.Prelude.{◌≡◌, ◌≢◌, ◌≤◌, ◌⊎◌, ℕ, List, true, false, ◌++◌, map, take, flat_map, IfOk, IfSome};
 ghost use Rattle.std.specs.String.{string_bytes};
 ghost use Rattle.std.specs.Io.KnownBytes.{Appends};
-ghost use Rattle.mr.specs.Reading.{step_of};
-ghost use Rattle.mr.specs.Rehearsed.{AreOfOneServer, Prints, Rehearses, Stops, TellsNoMemory, IsInput, bad_line, no_memory_line, is_rehearsal, bad_words_line};
+ghost use Rattle.mr_service.specs.Stepping.{step_of, step_reply_of};
+ghost use Rattle.mr.specs.Rehearsed.{step_reply_text, Prints, Rehearses, Stops, StopsIn, IsInput, bad_line, no_memory_line, is_rehearsal, bad_words_line};
 
-use crate::rehearsal::{Rehearsal, step_reply_text};
+use crate::rehearsal::step_reply_text;
 use crate::script::{ScriptFault, read_script};
-use crate::steps::Step;
+use mr_service::{Step, StepReply, World};
 use std::alloc::{AllocError, Global};
 use std::fs::File;
 use std::io::{ErrorKind, Read, Write};
@@ -99,17 +99,29 @@ fn run_script<W: Write>(alloc: Global, bytes: &[u8], out: &mut W) -> u8
     }
 }
 
-/// Takes the steps in order and prints each reply.
+/// Takes the steps in order in a new world, and prints each reply.
 fn run<W: Write>(alloc: Global, steps: &[Step], out: &mut W) -> u8
-    requires { AreOfOneServer None (map step_of steps.now) }
     ensures within { (result ≡ 0) ⊎ (result ≡ 1) ⊎ (result ≡ 3) }
     ensures done { result ≡ 0 → (output : List ℕ) × Prints (map step_of steps.now) output × Appends (W.contents out.old) (W.contents out.new) output }
-    ensures stopped { result ≡ 1 → TellsNoMemory (W.contents out.old) (W.contents out.new) }
+    ensures stopped { result ≡ 1 → Appends (W.contents out.old) (W.contents out.new) no_memory_line
+        ⊎ StopsIn (map step_of steps.now) (W.contents out.old) (W.contents out.new) }
 {
-    let mut rehearsal = Rehearsal::new();
-    for step in steps {
-        let reply = rehearsal.step(alloc, step);
-        let Ok(text) = step_reply_text(alloc, &reply) else {
+    let mut world = World::new(alloc);
+    match world.run(steps) {
+        Ok(replies) => print_all(alloc, replies.as_slice(), out),
+        Err(_) => say(out, NO_MEMORY, REFUSED),
+    }
+}
+
+/// Prints the replies, one after the other.
+fn print_all<W: Write>(alloc: Global, replies: &[StepReply], out: &mut W) -> u8
+    ensures within { (result ≡ 0) ⊎ (result ≡ 1) ⊎ (result ≡ 3) }
+    ensures done { result ≡ 0 → Appends (W.contents out.old) (W.contents out.new) (flat_map step_reply_text (map step_reply_of replies.now)) }
+    ensures stopped { result ≡ 1 → (number : ℕ)
+        × Appends (W.contents out.old) (W.contents out.new) (flat_map step_reply_text (take number (map step_reply_of replies.now)) ++ no_memory_line) }
+{
+    for reply in replies {
+        let Ok(text) = step_reply_text(alloc, reply) else {
             return say(out, NO_MEMORY, REFUSED);
         };
         match out.write_all(text.as_slice()) {

@@ -1,14 +1,13 @@
 //! Reads a script whole.
 
-ghost use Rattle.std.specs.Prelude.{◌≡◌, MatchOption, MatchResult, IfOk, Ok, None, map};
+ghost use Rattle.std.specs.Prelude.{◌≡◌, MatchOption, MatchResult, IfOk, Ok, map};
 ghost use Rattle.mr_model.specs.World as model;
-ghost use Rattle.mr.specs.Script.{is_passed_over, is_plain, added_by, first_server, is_another, IsLineOf, ReadsAs, ReadsOneWay};
-ghost use Rattle.mr.specs.Reading.{step_of, IsLineAs, IsFaultOf};
-ghost use Rattle.mr.specs.Rehearsed.{AreOfOneServer};
+ghost use Rattle.mr_service.specs.Stepping.{step_of};
+ghost use Rattle.mr.specs.Script.{is_passed_over, is_plain, IsLineOf, ReadsAs, ReadsOneWay};
+ghost use Rattle.mr.specs.Reading.{IsLineAs, IsFaultOf};
 
 use crate::lines::read_step;
-use crate::steps::Step;
-use mr_base::ServerId;
+use mr_service::Step;
 use std::alloc::{AllocError, AllocFailed, Global};
 
 /// Why a script is not run.
@@ -41,20 +40,13 @@ impl<T: Drop> From<AllocFailed<T>> for ScriptFault {
 
 /// The steps that a script stands for.
 pub fn read_script(alloc: Global, bytes: &[u8]) -> Result<Vec<Step>, ScriptFault>
-    ensures read { MatchResult result (λ steps. ReadsAs bytes.now (Ok (map step_of steps.items))) (IsFaultOf bytes.now) }
-    ensures one { IfOk result (λ steps. AreOfOneServer None (map step_of steps.items)) }
+    ensures { MatchResult result (λ steps. ReadsAs bytes.now (Ok (map step_of steps.items))) (IsFaultOf bytes.now) }
 {
     let mut steps = Vec::new(alloc);
-    let mut first = None;
     for (index, line) in bytes.split(|byte| *byte == b'\n').enumerate() {
-        match line_of(alloc, first, line)? {
+        match line_of(alloc, line)? {
             Line::PassedOver => {}
-            Line::Step(step) => {
-                if first.is_none() {
-                    first = added_by(&step);
-                }
-                steps.push(step)?;
-            }
+            Line::Step(step) => steps.push(step)?,
             Line::Bad => return Err(ScriptFault::BadLine(index as u64 + 1)),
         }
     }
@@ -74,20 +66,15 @@ enum Line {
     Bad,
 }
 
-/// What the line is, where the first replica, if any, has this server.
-fn line_of(alloc: Global, first: Option<ServerId>, line: &[u8]) -> Result<Line, AllocError>
-    ensures { IfOk result (IsLineAs first line.now) }
+/// What the line is.
+fn line_of(alloc: Global, line: &[u8]) -> Result<Line, AllocError>
+    ensures { IfOk result (IsLineAs line.now) }
 {
     if is_passed_over(line) {
         return Ok(Line::PassedOver);
     }
     match read_line(alloc, line)? {
-        Some(step) => {
-            if is_another(first, added_by(&step)) {
-                return Ok(Line::Bad);
-            }
-            Ok(Line::Step(step))
-        }
+        Some(step) => Ok(Line::Step(step)),
         None => Ok(Line::Bad),
     }
 }
@@ -99,26 +86,6 @@ fn is_passed_over(line: &[u8]) -> bool
     match line {
         [] => true,
         [first, ..] => *first == b'#',
-    }
-}
-
-/// The server of the replica that the step adds.
-fn added_by(step: &Step) -> Option<ServerId>
-    ensures { result ≡ added_by (step_of step.now) }
-{
-    match step {
-        Step::Add(server) => Some(*server),
-        Step::Do(..) => None,
-    }
-}
-
-/// Whether a replica of this server is another one than the first.
-fn is_another(first: Option<ServerId>, added: Option<ServerId>) -> bool
-    ensures { result ≡ is_another first added }
-{
-    match (first, added) {
-        (Some(first), Some(server)) => server != first,
-        _ => false,
     }
 }
 

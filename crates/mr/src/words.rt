@@ -3,9 +3,10 @@ ghost use Rattle.std.specs.List.{list_all};
 ghost use Rattle.mr_model.specs.Texts.{is_space};
 ghost use Rattle.mr_service.specs.Asked.{words_of, submission_of};
 ghost use Rattle.mr.specs.Script.{is_word};
-ghost use Rattle.mr.specs.LineSteps.{cut, server_in, cut_server, cut_slot, cut_slots, number_of_slots, booking_in};
+ghost use Rattle.mr_base.specs.Readings.{number_from_to};
+ghost use Rattle.mr.specs.LineSteps.{cut, server_in, cut_server, cut_batch, length_in, cut_slot, cut_slots, number_of_slots, booking_in};
 
-use mr_base::{ServerId, read_number};
+use mr_base::{LineCount, ServerId, read_number};
 use mr_service::{SlotWords, Submission};
 use std::alloc::{AllocError, Global};
 use std::marker::Model;
@@ -58,6 +59,14 @@ impl<'a> Words<'a> {
     {
         let word = self.next()?;
         read_server(word)
+    }
+
+    /// The next word, where it is the number of a batch.
+    pub(crate) fn batch(&mut self) -> Option<u64>
+        ensures { MatchOption result (cut_batch self.old ≡ None) (λ batch. cut_batch self.old ≡ Some (batch, self.new)) }
+    {
+        let word = self.next()?;
+        read_number(word, 0, 999_999_999)
     }
 
     /// The next word, where it is a number of alternatives.
@@ -148,4 +157,29 @@ pub(crate) fn read_server(text: &str) -> Option<ServerId>
 {
     let number = read_number(text, 1, 99)?;
     ServerId::new(number as u32)
+}
+
+/// The number of commits that the text writes.
+pub(crate) fn read_count(text: &str) -> Option<u64>
+    ensures { result ≡ number_from_to 0 999_999_999_999 text.now }
+{
+    read_number(text, 0, 999_999_999_999)
+}
+
+/// The number of lines that the text writes.
+pub(crate) fn read_line_count(text: &str) -> Option<LineCount>
+    ensures { result ≡ number_from_to 1 100_000 text.now }
+{
+    let number = read_number(text, 1, 100_000)?;
+    LineCount::new(number as u32)
+}
+
+/// The number of bytes that the text writes; `all` is more than any batch has.
+pub(crate) fn read_length(text: &str) -> Option<u64>
+    ensures { result ≡ length_in text.now }
+{
+    if text == "all" {
+        return Some(u64::MAX);
+    }
+    read_number(text, 0, 999_999_999)
 }
