@@ -33,40 +33,55 @@ fn meta(commits: u64) -> Result<MetaRow, Refusal> {
     })
 }
 
-/// Bookings of half an hour: the room, the day, the start, the server and the count of the request, and whether it is committed.
+/// Bookings of half an hour: the room, the day, the start, the request, and whether it is committed.
 fn bookings(
     alloc: Global,
-    of: &[(&str, &str, u32, u32, u32, bool)],
+    of: &[(&str, &str, u32, &str, bool)],
 ) -> Result<Vec<BookingRow>, Refusal> {
     let mut rows = Vec::new(alloc);
-    for (room, day, start, number, n, committed) in of {
-        let room = RoomName::new(alloc, room)?;
-        let title = Title::new(alloc, "Audit")?;
-        rows.push(BookingRow {
-            room,
-            day: Day::read(day)?,
-            start: *start,
-            stop: start.saturating_add(30),
-            server: server(*number)?,
-            n: *n,
-            title,
-            committed: *committed,
-        })?;
+    for (room, day, start, id, committed) in of {
+        rows.push(booking(alloc, room, day, *start, id, *committed)?)?;
     }
     Ok(rows)
 }
 
-/// A tentative request of replica 2 for half an hour of oak on Monday at 09:00, which was logged.
-fn logged(alloc: Global, n: u32) -> Result<Vec<ErrorRow>, Refusal> {
+fn booking(
+    alloc: Global,
+    room: &str,
+    day: &str,
+    start: u32,
+    id: &str,
+    committed: bool,
+) -> Result<BookingRow, Refusal> {
+    let (day, start) = (Day::read(day)?, start.min(1410));
+    let WriteId { server, n } = WriteId::read(id)?;
+    let room = RoomName::new(alloc, room)?;
+    let title = Title::new(alloc, "Audit")?;
+    Ok(BookingRow {
+        room,
+        day,
+        start,
+        stop: start + 30,
+        server,
+        n,
+        title,
+        committed,
+    })
+}
+
+/// A tentative request for half an hour of oak on Monday at 09:00, which was logged.
+fn logged(alloc: Global, id: &str) -> Result<Vec<ErrorRow>, Refusal> {
     let mut rows = Vec::new(alloc);
+    let day = Day::read(MONDAY)?;
+    let WriteId { server, n } = WriteId::read(id)?;
     let room = RoomName::new(alloc, "oak")?;
     let title = Title::new(alloc, "Audit")?;
     rows.push(ErrorRow {
         room,
-        day: Day::read(MONDAY)?,
+        day,
         start: 540,
         stop: 570,
-        server: server(2)?,
+        server,
         n,
         title,
         time: 9,
@@ -93,12 +108,12 @@ fn ids(alloc: Global, n: u32) -> Result<Vec<WriteId>, Refusal> {
 /// Six bookings of two rooms, and a request that was logged.
 fn first_change(alloc: Global) -> Result<Change, Refusal> {
     let booked = [
-        ("oak", TUESDAY, 540, 2, 2, false),
-        ("oak", MONDAY, 900, 2, 1, false),
-        ("oak", MONDAY, 540, 2, 4, false),
-        ("oak", MONDAY, 540, 1, 3, false),
-        ("elm", MONDAY, 540, 1, 2, false),
-        ("oak", MONDAY, 540, 1, 1, false),
+        ("oak", TUESDAY, 540, "2-2", false),
+        ("oak", MONDAY, 900, "2-1", false),
+        ("oak", MONDAY, 540, "2-4", false),
+        ("oak", MONDAY, 540, "1-3", false),
+        ("elm", MONDAY, 540, "1-2", false),
+        ("oak", MONDAY, 540, "1-1", false),
     ];
     Ok(Change {
         meta: meta(0)?,
@@ -110,15 +125,15 @@ fn first_change(alloc: Global) -> Result<Change, Refusal> {
         unbooked: Vec::new(alloc),
         booking: bookings(alloc, &booked)?,
         unlogged: Vec::new(alloc),
-        errorlog: logged(alloc, 3)?,
+        errorlog: logged(alloc, "2-3")?,
     })
 }
 
 /// 2-1 loses its slot, 2-3 gets one, and 1-1 is committed.
 fn second_change(alloc: Global) -> Result<Change, Refusal> {
     let booked = [
-        ("oak", MONDAY, 930, 2, 3, false),
-        ("oak", MONDAY, 540, 1, 1, true),
+        ("oak", MONDAY, 930, "2-3", false),
+        ("oak", MONDAY, 540, "1-1", true),
     ];
     Ok(Change {
         meta: meta(1)?,
@@ -130,7 +145,7 @@ fn second_change(alloc: Global) -> Result<Change, Refusal> {
         unbooked: ids(alloc, 1)?,
         booking: bookings(alloc, &booked)?,
         unlogged: ids(alloc, 3)?,
-        errorlog: logged(alloc, 1)?,
+        errorlog: logged(alloc, "2-1")?,
     })
 }
 
