@@ -2,7 +2,7 @@
 use Rattle.std.proofs.Common.{◌≡◌, refl, sym, ap, ◌∙◌, subst, ℕ, zero, suc, ◌+◌, ◌-◌, ◌<◌, ◌≤◌, Bool, true, false, List, [], ◌∷◌, ◌++◌, length, get_or, take, map, ◌⊎◌, inl, inr, Option, Some, None, arith, leb, leb-true, ◌&&◌, IsTrue}
 use Rattle.std.proofs.lemmas.Bool.{true≢false, and_parts}
 use Rattle.std.proofs.lemmas.List.{take_more, map-append}
-use Rattle.std.specs.List.{AllByRecursion, filter_map, slice_get}
+use Rattle.std.specs.List.{AllByRecursion, slice_get}
 use Rattle.std.specs.BTreeMap.{insert_entry}
 use Rattle.mr_model.specs.Slots.{Slot, is_slot}
 use Rattle.mr_model.specs.Calendar.{is_date}

@@ -1,18 +1,17 @@
 -- A commit of the first tentative writes: the order stays, only numbers change.
-use Rattle.std.proofs.Common.{◌≡◌, ◌≢◌, ℕ, zero, suc, ◌+◌, ◌-◌, ◌<◌, ◌≤◌, ◌==◌, min, not, Bool, true, false, cond, List, [], ◌∷◌, ◌++◌, length, map, take, drop, get_or, ap, refl, sym, ◌∙◌, subst, append_assoc, append-nil, inl, inr, arith}
+use Rattle.std.proofs.Common.{◌≡◌, ℕ, zero, suc, ◌+◌, ◌-◌, ◌<◌, ◌≤◌, ◌==◌, not, true, cond, List, [], ◌∷◌, length, map, take, drop, get_or, ap, refl, sym, ◌∙◌, subst, append_assoc, append-nil, inl, arith}
 use Rattle.std.specs.List.{filter_map}
 use Rattle.std.proofs.lemmas.Bool.{eq-eqb}
 use Rattle.std.proofs.lemmas.List.{drop-map}
 use Rattle.mr_model.specs.Texts.{numbers_on, only_if}
-use Rattle.mr_model.specs.Writes.{Id, Write, id_of}
+use Rattle.mr_model.specs.Writes.{Write, id_of}
 use Rattle.mr_model.specs.Refusals.{NotPrimary}
 use Rattle.mr_model.specs.Replies.{CommittedIs}
-use Rattle.mr_model.specs.Replica.{Replica, IsReplica, write_with, writes_of, tentative, order_of, committed_count, add_commit}
+use Rattle.mr_model.specs.Replica.{Replica, IsReplica, write_with, writes_of, tentative, committed_count, add_commit}
 use Rattle.mr_model.specs.Dropped.{Has}
 use Rattle.mr_model.specs.Kept.{dropped_in_order, kept_in_order}
 use Rattle.mr_model.specs.Changes.{after_commit}
 use Rattle.mr_model.specs.Step.{commit, step_unless}
-use Rattle.mr_model.proofs.Members.{has_left}
 use Rattle.mr_model.proofs.KnownById.{numbered_writes, tentative_known}
 use Rattle.mr_model.proofs.RowsById.{server_bounds, known_write}
 use Rattle.mr_model.proofs.CommitsKeep.{tentative_of, drop-numbers_on, keeps-commit}
@@ -21,7 +20,7 @@ use Rattle.mr_model.proofs.LogOrder.{order-parts}
 use Rattle.mr_model.proofs.TwinChanges.{with_commits}
 use Rattle.mr_model.proofs.Fronts.{take-front}
 use Rattle.mr_replica.specs.Log.{log_of}
-use Rattle.mr_replica.specs.Summary.{summary_of, noted_commit, noted_commits}
+use Rattle.mr_replica.specs.Summary.{summary_of, noted_commits}
 use Rattle.mr_replica.specs.Desk.{desk_of, old_errors_of}
 use Rattle.mr_replica.proofs.Summaries.{summary-commit}
 use Rattle.mr_replica.proofs.Desks.{desk_with, kept_is}

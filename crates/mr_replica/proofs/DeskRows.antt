@@ -45,6 +45,7 @@ use Rattle.mr_replica.specs.Summary.{tally_at, tally_of}
 use Rattle.mr_replica.specs.DeskTables.{tally_rows, board_booking, board_error, board_error_noted, note_of, notes_of, desk_tables}
 use Rattle.mr_replica.specs.Change.{put_all, id_before, log_id, undo_id}
 use Rattle.mr_replica.specs.Rows.{seq_on, log_row_with, undo_row_with, log_rows}
+use Rattle.mr_replica.proofs.Summaries.{tally-of}
 use Rattle.mr_replica.proofs.Logs.{executed_all-append, undo_rows_of-append, length-undo_rows_of}
 use Rattle.mr_replica.proofs.Putting.{InOrder, id_order, in_order_same, puts_make}
 use Rattle.mr_replica.proofs.Moving.{Bears, rows_in_order, log_bears, undo_bears, booking_bears, error_bears}
@@ -232,14 +233,6 @@ undo_table r h =
 
 -- ---- vector
 
-tally-at : (f : ℕ → Tally) (k n s : ℕ) → s < n → tally_at (map f (numbers_on k n)) s ≡ f (k + s)
-tally-at f k zero s l = absurd (Rattle.std.proofs.Common.not-suc-le-zero l)
-tally-at f k (suc n) zero l = let e : k ≡ k + 0 = omega arith in ap f e
-tally-at f k (suc n) (suc s) l = tally-at f (k + 1) n s (Rattle.std.proofs.Common.le_of_suc-le-suc l) ∙ (let e : k + 1 + s ≡ k + suc s = omega arith in ap f e)
-
-pub tally_is : (r : Replica) (s : ℕ) → s < 100 → tally_at (map (tally_of r) (numbers_on 0 100)) s ≡ tally_of r s
-tally_is r s l = tally-at (tally_of r) 0 100 s l ∙ (let e : 0 + s ≡ s = omega arith in ap (tally_of r) e)
-
 pub tally_row : (ts : List Tally) (s : ℕ) (t : Tally) → tally_at ts s ≡ t → tally_rows ts s ≡ cond (eqb t.count 0) [] (record { server = s; count = t.count; last_time = t.last_time; committed = t.committed } ∷ [])
 tally_row ts s t e = λ i. cond (eqb (e i).count 0) [] (record { server = s; count = (e i).count; last_time = (e i).last_time; committed = (e i).committed } ∷ [])
 
@@ -251,7 +244,7 @@ numbers_below m k (suc n) (inr h) = let l : m < k + 1 + n = numbers_below m (k +
 pub vector_table : (r : Replica) → flat_map (tally_rows (map (tally_of r) (numbers_on 0 100))) (numbers_on 1 99) ≡ (tables_of r).vector
 vector_table r =
     flat_map_same (tally_rows (map (tally_of r) (numbers_on 0 100))) (vector_row r) (numbers_on 1 99)
-    (λ s a. tally_row (map (tally_of r) (numbers_on 0 100)) s (tally_of r s) (tally_is r s (numbers_below s 1 99 a)))
+    (λ s a. tally_row (map (tally_of r) (numbers_on 0 100)) s (tally_of r s) (tally-of r s (numbers_below s 1 99 a)))
 
 -- ---- booking
 
@@ -283,7 +276,7 @@ pub board_booked : (r : Replica) (w : Write) → IsReplica r → Has w r.known �
 board_booked r w h a =
     let b = server_bounds w (known_write r w h a) in
     let top : w.stamp.server ≤ 99 = b.1 in
-    let tally = ap (λ (t : Tally). leb w.stamp.n t.committed) (tally_is r w.stamp.server (omega (arith, top))) in
+    let tally = ap (λ (t : Tally). leb w.stamp.n t.committed) (tally-of r w.stamp.server (omega (arith, top))) in
     booked_on_board r (map (tally_of r) (numbers_on 0 100)) w (slot_at w (place_of r w)) (tally ∙ first_committed r w h a)
 
 -- of each entry of the board a row of its id, if any: those of the known writes make their table

@@ -1,5 +1,5 @@
 -- The desk of a replica, put together of its parts; and how its kept writes follow from its order.
-use Rattle.std.proofs.Common.{◌≡◌, ℕ, ◌-◌, ◌<◌, not, false, IsTrue, List, [], ◌∷◌, ◌++◌, length, take, drop, map, ap, refl, sym, ◌∙◌, subst, append_assoc, arith}
+use Rattle.std.proofs.Common.{◌≡◌, ◌-◌, ◌<◌, not, false, IsTrue, List, [], ◌∷◌, ◌++◌, length, take, drop, ap, sym, ◌∙◌, subst, arith}
 use Rattle.std.proofs.lemmas.List.{length-map, length-drop, length-append, take-append-drop}
 use Rattle.std.proofs.Math.Seq.{drop-append_seam}
 use Rattle.std.proofs.lemmas.Bool.Decides.{nat_tests}
@@ -18,7 +18,7 @@ use Rattle.mr_model.proofs.LogOrder.{order-parts}
 use Rattle.mr_model.proofs.ReceivedPlaces.{append_split}
 use Rattle.mr_replica.specs.declared.summary.Summary.{Summary}
 use Rattle.mr_replica.specs.declared.old_errors.OldError.{OldError}
-use Rattle.mr_replica.specs.Log.{KeptLog, log_of}
+use Rattle.mr_replica.specs.Log.{KeptLog}
 use Rattle.mr_replica.specs.Summary.{summary_of, committed_len}
 use Rattle.mr_replica.specs.Desk.{DeskView}
 

@@ -1,5 +1,5 @@
 -- The choices of a write end on their day.
-use Rattle.std.proofs.Common.{◌≡◌, ℕ, ◌+◌, ◌≤◌, ◌&&◌, Bool, true, List, [], ◌∷◌, Option, Some, None, IfSome, IsTrue, ◌⊎◌, inl, inr, refl, ap, subst, sym, ◌∙◌, leb-true}
+use Rattle.std.proofs.Common.{◌≡◌, ℕ, ◌+◌, ◌≤◌, ◌&&◌, Bool, true, List, [], ◌∷◌, Option, Some, None, IfSome, IsTrue, inl, inr, ap, sym, ◌∙◌, leb-true}
 use Rattle.std.specs.List.{list_all, slice_get}
 use Rattle.std.proofs.lemmas.Bool.{and_parts}
 use Rattle.mr_model.specs.Slots.{Slot, is_slot}

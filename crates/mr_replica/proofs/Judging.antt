@@ -1,5 +1,5 @@
 -- What becomes of an item at a candidate is what the definitions do with it.
-use Rattle.std.proofs.Common.{◌≡◌, ℕ, zero, suc, ◌+◌, ◌-◌, ◌<◌, ◌≤◌, ◌==◌, ◌&&◌, not, nat_lt, nat_le, Bool, true, false, cond, List, [], ◌∷◌, ◌++◌, length, map, take, drop, find, Option, Some, None, Result, Ok, Err, ap, refl, sym, ◌∙◌, subst, inl, inr, ◌⊎◌, arith, IsTrue}
+use Rattle.std.proofs.Common.{◌≡◌, ℕ, zero, suc, ◌+◌, ◌-◌, ◌<◌, ◌≤◌, ◌==◌, ◌&&◌, not, nat_lt, nat_le, Bool, true, false, cond, List, [], ◌∷◌, ◌++◌, length, take, drop, Some, None, Result, Ok, Err, ap, refl, sym, ◌∙◌, subst, inl, inr, ◌⊎◌, arith, IsTrue}
 use Rattle.std.specs.List.{filter_map, cons_option, slice_get}
 use Rattle.std.proofs.lemmas.Bool.{true≢false, false_from_ne_true, eqb-true}
 use Rattle.std.proofs.lemmas.Bool.Decides.{nat_tests}
@@ -11,7 +11,7 @@ use Rattle.mr_model.specs.Dropped.{Has}
 use Rattle.mr_model.specs.Kept.{dropped_in_order, kept_in_order}
 use Rattle.mr_model.specs.Changes.{IsNext}
 use Rattle.mr_model.specs.Taking.{Progress, is_that_write, is_that_id, with_new_write, with_new_commit, take_write, take_commit}
-use Rattle.mr_model.proofs.Members.{has_left, has_right, has_split, filter_map_has, find_one, find_none, same_id-true, same_id_refl, same_id_from}
+use Rattle.mr_model.proofs.Members.{has_left, has_right, has_split, filter_map_has, find_one, find_none, same_id-true, same_id_from}
 use Rattle.mr_model.proofs.ChangesKeep.{within}
 use Rattle.mr_model.proofs.KnownById.{known_with, with_id, known_at, one_known, tentative_known, commit_found}
 use Rattle.mr_model.proofs.RoomPlaces.{committed-parts, kept_committed, known_in_order, dropped_known}
@@ -21,8 +21,7 @@ use Rattle.mr_model.proofs.RowsById.{server_bounds}
 use Rattle.mr_base.specs.Refusals.{refusal_of}
 use Rattle.mr_base.specs.declared.refusals.Refusal.{Refusal}
 use Rattle.mr_base.specs.declared.refusals.Refusal.TheVariants.{Gap, OutOfOrder, Forged, OwnWrite, PrimaryOnly}
-use Rattle.mr_replica.specs.declared.summary.Tally.{Tally}
-use Rattle.mr_replica.specs.Summary.{tally_at, tally_of, summary_of}
+use Rattle.mr_replica.specs.Summary.{summary_of}
 use Rattle.mr_replica.specs.Candidate.{CandidateView, Shows, write_in, known_verdict, write_verdict_by, write_verdict, there_verdict, commit_verdict_by, commit_verdict}
 use Rattle.mr_replica.proofs.Summaries.{tally-of}
 

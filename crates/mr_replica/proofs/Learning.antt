@@ -1,19 +1,18 @@
 -- A candidate that takes a write or a commit shows the replica that takes it.
-use Rattle.std.proofs.Common.{◌≡◌, ℕ, zero, suc, ◌+◌, ◌-◌, ◌<◌, ◌≤◌, Bool, true, false, cond, List, [], ◌∷◌, ◌++◌, length, map, take, drop, get_or, Some, ap, refl, sym, ◌∙◌, subst, append_assoc, inl, inr, arith, IsTrue}
+use Rattle.std.proofs.Common.{◌≡◌, suc, ◌+◌, ◌<◌, ◌≤◌, Bool, true, false, cond, List, [], ◌∷◌, ◌++◌, length, map, take, drop, get_or, ap, refl, sym, ◌∙◌, subst, append_assoc, inl, inr, arith}
 use Rattle.std.specs.Prelude.{bytes_eq}
 use Rattle.std.specs.List.{list_any, remove, filter_map, cons_option}
 use Rattle.std.proofs.Math.Seq.{take-append-add, drop-append-add, take-append_seam, drop-append_seam}
 use Rattle.std.proofs.lemmas.List.{length-append, take-append-drop, map-append}
 use Rattle.std.proofs.lemmas.List.Elements.{filter_map-append}
-use Rattle.std.proofs.lemmas.Bool.{true≢false, false_from_ne_true}
 use Rattle.mr_model.specs.Texts.{Text}
-use Rattle.mr_model.specs.Writes.{Id, Write, id_of, same_id, stamp_before, is_write}
+use Rattle.mr_model.specs.Writes.{Id, Write, id_of, stamp_before}
 use Rattle.mr_model.specs.Replica.{Replica, IsReplica, count_of, committed_count, write_with, committed, with_write, with_room, tentative, AreInNameOrder, add_write, add_commit}
 use Rattle.mr_model.specs.Dropped.{Has}
 use Rattle.mr_model.specs.Kept.{kept_in_order}
 use Rattle.mr_model.specs.Changes.{IsNext, CommitMoved}
 use Rattle.mr_replica.proofs.Limits.{other_id}
-use Rattle.mr_model.proofs.Members.{has_right, has_map, Distinct, distinct_parts, same_id-true, same_id_from}
+use Rattle.mr_model.proofs.Members.{has_right, has_map, Distinct, distinct_parts, same_id_from}
 use Rattle.mr_model.proofs.KnownById.{distinct_order, with_id, tentative_known}
 use Rattle.mr_model.proofs.RoomPlaces.{kept_committed}
 use Rattle.mr_model.proofs.SubmitRows.{same_rooms}
@@ -21,7 +20,7 @@ use Rattle.mr_model.proofs.ReceivedPlaces.{commit_moved}
 use Rattle.mr_model.proofs.TwinChanges.{committed-with, tentative-add_write, drop-front}
 use Rattle.mr_model.proofs.ChangesKeep.{keeps-add_commit}
 use Rattle.mr_replica.specs.declared.summary.Summary.{Summary}
-use Rattle.mr_replica.specs.Summary.{summary_of, noted_write, noted_commit, committed_len}
+use Rattle.mr_replica.specs.Summary.{noted_write, noted_commit, committed_len}
 use Rattle.mr_replica.specs.Candidate.{CandidateView, Shows, front_len, write_place, rooms_with, with_learned, id_place, commit_place, with_moved}
 use Rattle.mr_replica.proofs.Summaries.{summary-write, summary-commit}
 use Rattle.mr_replica.proofs.Desks.{committed_kept, tentative_kept}

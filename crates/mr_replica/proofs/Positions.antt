@@ -1,10 +1,10 @@
 -- The counts of a replica, read off its tallies.
-use Rattle.std.proofs.Common.{◌≡◌, ℕ, zero, suc, ◌+◌, ◌<◌, ◌≤◌, ◌==◌, Bool, true, false, cond, List, [], ◌∷◌, ◌++◌, ap, refl, sym, ◌∙◌, arith}
+use Rattle.std.proofs.Common.{◌≡◌, ℕ, zero, suc, ◌+◌, ◌≤◌, ◌==◌, Bool, true, false, cond, List, [], ◌∷◌, ◌++◌, ap, refl, arith}
 use Rattle.mr_model.specs.Texts.{numbers_on}
 use Rattle.mr_model.specs.Positions.{Count, Position, counts_of}
-use Rattle.mr_model.specs.Replica.{Replica, count_of}
+use Rattle.mr_model.specs.Replica.{Replica}
 use Rattle.mr_replica.specs.declared.summary.Tally.{Tally}
-use Rattle.mr_replica.specs.Summary.{tally_at, tally_of, summary_of, counts_in}
+use Rattle.mr_replica.specs.Summary.{tally_at, summary_of, counts_in}
 use Rattle.mr_replica.specs.Desk.{DeskView}
 use Rattle.mr_replica.proofs.Summaries.{tally-of}
 

@@ -1,6 +1,6 @@
 -- What a batch changes in the tables.
-use Rattle.std.proofs.Common.{◌≡◌, refl, sym, ap, ◌∙◌, subst, ℕ, ◌+◌, ◌-◌, ◌<◌, ◌^◌, ◌≤◌, not, Bool, true, false, leb, List, [], ◌∷◌, ◌++◌, length, map, take, drop, ◌⊎◌, inl, inr, Some, Result, Ok, Err, arith, append_assoc, length-append, le-leb, IsTrue}
-use Rattle.std.specs.Prelude.{bytes_eq, ◌↔◌}
+use Rattle.std.proofs.Common.{◌≡◌, refl, sym, ap, ◌∙◌, subst, ℕ, ◌+◌, ◌-◌, ◌<◌, ◌^◌, ◌≤◌, not, Bool, true, false, leb, List, [], ◌∷◌, ◌++◌, length, map, take, drop, ◌⊎◌, inl, inr, Result, Ok, Err, arith, append_assoc, le-leb, IsTrue}
+use Rattle.std.specs.Prelude.{bytes_eq}
 use Rattle.std.specs.List.{list_all, list_any, slice_get}
 use Rattle.std.proofs.lemmas.Bool.{true≢false, and_parts, cond-true, or_cases}
 use Rattle.std.proofs.lemmas.Bool.Decides.{nat_tests}
@@ -10,7 +10,7 @@ use Rattle.mr_model.specs.Texts.{Text}
 use Rattle.mr_model.specs.Writes.{Id, Write, id_of, is_write}
 use Rattle.mr_model.specs.Refusals as model
 use Rattle.mr_model.specs.Exchange.{Item, W, C, is_item}
-use Rattle.mr_model.specs.Replica.{Replica, IsReplica, order_of, committed, tentative, is_among, is_dropped, text_before}
+use Rattle.mr_model.specs.Replica.{Replica, IsReplica, committed, tentative, is_among, is_dropped, text_before}
 use Rattle.mr_model.specs.Kept.{dropped_in_order, kept_in_order}
 use Rattle.mr_model.specs.Dropped.{Has}
 use Rattle.mr_model.specs.Queries.{booking_id, error_id}
@@ -41,7 +41,7 @@ use Rattle.mr_replica.specs.Written.{meta_of, changed_tallies, written, adoption
 use Rattle.mr_replica.proofs.Desks.{summary_in}
 use Rattle.mr_replica.proofs.Logs.{board-at}
 use Rattle.mr_replica.proofs.Judging.{JudgedWrite, judged_write, JudgedCommit, judged_commit}
-use Rattle.mr_replica.proofs.Receiving.{err≢ok, item-within, items-bring, distinct_log, all_taken}
+use Rattle.mr_replica.proofs.Receiving.{err≢ok, items-bring, distinct_log, all_taken}
 use Rattle.mr_replica.proofs.Moving.{rooms_move}
 use Rattle.mr_replica.proofs.DeskRows.{kept_numbers, kept_are, are_kept, slice_left, slice_bound}
 use Rattle.mr_replica.proofs.Writing.{board_before}

@@ -1,15 +1,15 @@
 -- Taking all items of a batch.
-use Rattle.std.proofs.Common.{◌≡◌, ℕ, zero, suc, ◌+◌, ◌-◌, ◌<◌, ◌≤◌, min, ◌==◌, ◌&&◌, cond, not, Some, ◌⊎◌, Bool, true, false, List, [], ◌∷◌, ◌++◌, length, map, take, drop, get_or, Result, Ok, Err, ap, refl, sym, ◌∙◌, subst, inl, inr, arith, IsTrue}
+use Rattle.std.proofs.Common.{◌≡◌, ℕ, zero, suc, ◌+◌, ◌-◌, ◌<◌, ◌≤◌, ◌==◌, cond, not, Some, ◌⊎◌, Bool, true, false, List, [], ◌∷◌, ◌++◌, length, map, take, drop, get_or, Result, Ok, Err, ap, refl, sym, ◌∙◌, subst, inl, inr, arith, IsTrue}
 use Rattle.std.specs.List.{list_all, filter_map}
 use Rattle.std.specs.Result.{is_ok}
 use Rattle.std.proofs.lemmas.Bool.{true≢false, and_parts}
 use Rattle.std.proofs.lemmas.Bool.Decides.{nat_tests}
 use Rattle.std.proofs.lemmas.List.{length-append, map-append}
 use Rattle.mr_model.specs.Texts.{only_if}
-use Rattle.mr_model.specs.Writes.{Id, Write, id_of, is_write, is_id, stamp_before}
+use Rattle.mr_model.specs.Writes.{Id, Write, id_of, is_write, stamp_before}
 use Rattle.mr_model.specs.Refusals as model
 use Rattle.mr_model.specs.Exchange.{Item, W, C, Header, Batch, is_header, is_item, is_batch, is_batch_of}
-use Rattle.mr_model.specs.Replica.{Replica, IsReplica, write_with, with_write, tentative, committed, order_of, add_write, add_commit}
+use Rattle.mr_model.specs.Replica.{Replica, IsReplica, write_with, with_write, tentative, committed}
 use Rattle.mr_model.specs.Kept.{dropped_in_order, kept_in_order}
 use Rattle.mr_model.specs.Taking.{Progress, take_item, take_items, take_write, take_commit, with_new_write, with_new_commit}
 use Rattle.mr_model.specs.Replies.{Took}

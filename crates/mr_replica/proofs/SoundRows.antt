@@ -20,7 +20,8 @@ use Rattle.mr_replica.specs.declared.summary.Tally.{Tally}
 use Rattle.mr_replica.specs.Change.{id_before, log_id}
 use Rattle.mr_replica.specs.Summary.{summary_of}
 use Rattle.mr_replica.specs.SoundRows.{IsCountSound, is_counted, is_first, IsMarkSound, IsNumberSound, AreKeysRising, AreSound}
-use Rattle.mr_replica.proofs.DeskRows.{first_committed, tally_is}
+use Rattle.mr_replica.proofs.DeskRows.{first_committed}
+use Rattle.mr_replica.proofs.Summaries.{tally-of}
 use Rattle.mr_replica.proofs.Moving.{rows_in_order, vector_in_order, log_bears, booking_bears, error_bears}
 use Rattle.mr_replica.proofs.Putting.{InOrder}
 use Rattle.mr_replica.proofs.Totals.{totals_sound}
@@ -73,13 +74,13 @@ count_sound a row h g =
 first_of : (a : Replica) (w : Write) → IsReplica a → Has w a.known → is_first (summary_of a).tallies w.stamp.server w.stamp.n ≡ is_committed a (id_of w)
 first_of a w h g =
     let top : w.stamp.server ≤ 99 = (server_bounds w (known_write a w h g)).1 in
-    ap (λ (t : Tally). leb w.stamp.n t.committed) (tally_is a w.stamp.server (omega (arith, top))) ∙ first_committed a w h g
+    ap (λ (t : Tally). leb w.stamp.n t.committed) (tally-of a w.stamp.server (omega (arith, top))) ∙ first_committed a w h g
 
 counted : (a : Replica) (w : Write) → IsReplica a → Has w a.known → is_counted (summary_of a).tallies w.stamp.server w.stamp.n ≡ true
 counted a w h g =
     let top : w.stamp.server ≤ 99 = (server_bounds w (known_write a w h g)).1 in
     let last : w.stamp.n ≤ count_of a w.stamp.server = (known_bounds a w h g).1 in
-    ap (λ (t : Tally). leb w.stamp.n t.count) (tally_is a w.stamp.server (omega (arith, top))) ∙ le-leb w.stamp.n (count_of a w.stamp.server) last
+    ap (λ (t : Tally). leb w.stamp.n t.count) (tally-of a w.stamp.server (omega (arith, top))) ∙ le-leb w.stamp.n (count_of a w.stamp.server) last
 
 mark_sound : (a : Replica) (row : BookingRow) → IsReplica a → Has row (tables_of a).booking → IsMarkSound (summary_of a).tallies row
 mark_sound a row h g =

@@ -1,13 +1,12 @@
 -- A request becomes the next write of a replica.
-use Rattle.std.proofs.Common.{◌≡◌, ℕ, ◌+◌, ◌<◌, ◌≤◌, ◌==◌, ◌&&◌, not, nat_le, max, le_refl, Bool, true, false, cond, List, [], ◌∷◌, ◌++◌, length, Result, Ok, Err, ap, refl, sym, ◌∙◌, subst, append_assoc, arith, IsTrue}
+use Rattle.std.proofs.Common.{◌≡◌, ℕ, ◌+◌, ◌<◌, ◌≤◌, ◌==◌, ◌&&◌, not, nat_le, le_refl, Bool, true, false, cond, [], ◌∷◌, ◌++◌, length, Result, Ok, Err, ap, refl, sym, ◌∙◌, subst, append_assoc, arith, IsTrue}
 use Rattle.std.specs.List.{list_all}
 use Rattle.std.proofs.lemmas.Bool.Decides.{nat_tests}
 use Rattle.mr_model.specs.Slots.{is_slot}
-use Rattle.mr_model.specs.Writes.{Stamp, Write, is_write, is_stamp, is_room_name, is_title, is_length, fits_day, greatest_alternatives, greatest_count, greatest_time}
+use Rattle.mr_model.specs.Writes.{Stamp, Write, is_stamp, is_room_name, is_title, is_length, fits_day, greatest_alternatives, greatest_count, greatest_time}
 use Rattle.mr_model.specs.Requests.{Request, is_request, stamped}
 use Rattle.mr_model.specs.Refusals as model
-use Rattle.mr_model.specs.Replica.{Replica, IsReplica, count_of, clock_of, knows_room, order_of, add_write}
-use Rattle.mr_model.specs.Replies.{Refused}
+use Rattle.mr_model.specs.Replica.{Replica, IsReplica, count_of, clock_of, knows_room, add_write}
 use Rattle.mr_model.specs.Changes.{IsNext}
 use Rattle.mr_model.specs.Kept.{dropped_in_order, kept_in_order}
 use Rattle.mr_model.specs.Step.{After, step_unless, refuse, after_write, next_stamp}
@@ -20,7 +19,7 @@ use Rattle.mr_base.specs.Refusals.{refusal_of}
 use Rattle.mr_base.specs.declared.refusals.Refusal.{Refusal}
 use Rattle.mr_base.specs.declared.refusals.Refusal.TheVariants.{ClockExhausted, CountExhausted}
 use Rattle.mr_replica.specs.Log.{pushed, log_of}
-use Rattle.mr_replica.specs.Summary.{tally_at, summary_of, noted_write, stamp_next}
+use Rattle.mr_replica.specs.Summary.{summary_of, noted_write, stamp_next}
 use Rattle.mr_replica.specs.Desk.{desk_of, old_errors_of}
 use Rattle.mr_replica.specs.Steps.{submit_request, word_faults, request_in, SubmissionsAreRequests}
 use Rattle.mr_replica.proofs.Logs.{log-pushed}

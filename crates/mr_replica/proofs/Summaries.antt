@@ -1,17 +1,16 @@
 -- The numbers of a replica after one write more, and after one commit more.
-use Rattle.std.proofs.Common.{◌≡◌, ◌≢◌, ℕ, zero, suc, ◌+◌, ◌<◌, ◌≤◌, ◌==◌, max, min, Bool, true, false, cond, List, [], ◌∷◌, ◌++◌, length, map, get_or, filter, ap, refl, sym, ◌∙◌, subst, arith}
+use Rattle.std.proofs.Common.{◌≡◌, ◌≢◌, ℕ, zero, suc, ◌+◌, ◌<◌, ◌≤◌, ◌==◌, max, min, Bool, true, false, cond, [], ◌∷◌, ◌++◌, length, map, get_or, filter, ap, refl, sym, ◌∙◌, arith}
 use Rattle.std.specs.Prelude.{slice_set}
 use Rattle.std.proofs.lemmas.Bool.{eqb-true, eq-eqb}
 use Rattle.std.proofs.lemmas.List.{length-append}
 use Rattle.std.proofs.lemmas.List.Elements.{filter-append}
 use Rattle.mr_model.specs.Texts.{numbers_on}
-use Rattle.mr_model.specs.Writes.{Id, Write, id_of}
-use Rattle.mr_model.specs.Replica.{Replica, IsReplica, count_of, last_time, committed_count, clock_of, commits_of, writes_of, add_write, add_commit}
+use Rattle.mr_model.specs.Writes.{Id, Write}
+use Rattle.mr_model.specs.Replica.{Replica, IsReplica, count_of, last_time, committed_count, clock_of, commits_of, add_write, add_commit}
 use Rattle.mr_model.specs.Changes.{IsNext}
 use Rattle.mr_model.proofs.WithWrite.{count-with_write, greatest-with_write, clock-with_write}
 use Rattle.mr_replica.proofs.Limits.{few_commits}
 use Rattle.mr_replica.specs.declared.summary.Tally.{Tally}
-use Rattle.mr_replica.specs.declared.summary.Summary.{Summary}
 use Rattle.mr_replica.specs.Summary.{no_tally, tally_at, tally_of, summary_of, noted_write, noted_commit}
 
 -- of a list that is numbered from k on, the element of number k + i

@@ -1,12 +1,12 @@
 -- A desk that keeps the first commits no longer.
-use Rattle.std.proofs.Common.{◌≡◌, ℕ, zero, suc, ◌+◌, ◌-◌, ◌<◌, ◌≤◌, ◌==◌, nat_lt, max, min, Bool, false, List, [], ◌∷◌, ◌++◌, length, map, take, drop, Some, ap, refl, sym, ◌∙◌, subst, append_assoc, inl, inr, arith}
+use Rattle.std.proofs.Common.{◌≡◌, ℕ, zero, suc, ◌+◌, ◌-◌, ◌≤◌, ◌==◌, nat_lt, max, false, List, [], ◌∷◌, ◌++◌, length, take, drop, Some, ap, refl, sym, ◌∙◌, subst, append_assoc, inl, inr, arith}
 use Rattle.std.specs.List.{filter_map, cons_option}
 use Rattle.std.proofs.lemmas.List.{take-append-drop, length-map, length-drop}
 use Rattle.std.proofs.lemmas.List.Elements.{filter_map-append}
 use Rattle.mr_model.specs.Writes.{Id, Write, id_of}
 use Rattle.mr_model.specs.Refusals.{PrimaryKeepsAll, BeyondCommitted, first_refusal}
 use Rattle.mr_model.specs.Replies.{DroppedIs}
-use Rattle.mr_model.specs.Replica.{Replica, IsReplica, write_with, tentative, order_of}
+use Rattle.mr_model.specs.Replica.{Replica, IsReplica, write_with, tentative}
 use Rattle.mr_model.specs.Dropped.{Has}
 use Rattle.mr_model.specs.Kept.{dropped_in_order, kept_in_order}
 use Rattle.mr_model.specs.Step.{truncate, step_unless}

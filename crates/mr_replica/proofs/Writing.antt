@@ -29,7 +29,8 @@ use Rattle.mr_replica.specs.Written.{same_tally, changed_tallies, written}
 use Rattle.mr_replica.proofs.Logs.{length-undo_rows_of, undo_rows_of-append}
 use Rattle.mr_replica.proofs.BoardRows.{places_head}
 use Rattle.mr_replica.proofs.Moving.{Moves, change_of, moves, booking-with, error-with, vectors_move}
-use Rattle.mr_replica.proofs.DeskRows.{numbered, kept_numbers, kept_places, undo_rows_told, slice_left, slice_right, slice_bound, tally_is, tally_row, numbers_below, desk_tables-of}
+use Rattle.mr_replica.proofs.Summaries.{tally-of}
+use Rattle.mr_replica.proofs.DeskRows.{numbered, kept_numbers, kept_places, undo_rows_told, slice_left, slice_right, slice_bound, tally_row, numbers_below, desk_tables-of}
 
 -- ---- the rows of writes in a row
 
@@ -146,8 +147,8 @@ between a b = flat_map_same (λ s. cond (same_tally (tally_at old s) (tally_at n
     each : (s : ℕ) → Has s (numbers_on 1 99) → cond (same_tally (tally_at old s) (tally_at new s)) [] (tally_rows new s) ≡ rows_between a b s
     each s h =
         let l = numbers_below s 1 99 h in
-        let p = tally_is a s l in
-        let q = tally_is b s l in
+        let p = tally-of a s l in
+        let q = tally-of b s l in
         let row = tally_row new s (tally_of b s) q in
         λ i. cond (same_tally (p i) (q i)) [] (row i)
 

@@ -34,6 +34,8 @@ mod summary;
 mod table_tests;
 mod tables;
 #[cfg(test)]
+mod test_desks;
+#[cfg(test)]
 mod tests;
 mod vector;
 mod written;

@@ -1,24 +1,89 @@
+// Tables written out by hand, read as the desk that has them, or not believed.
+
+use crate::test_desks::server;
 use crate::{BookingRow, Desk, ErrorRow, LogRow, MetaRow, Tables, VectorRow, WriteUndoRow};
-use mr_base::{Day, Refusal, RoomName, ServerId, Title};
+use mr_base::{Day, Refusal, RoomName, Title};
 use mr_replay::Place;
 use std::alloc::Global;
 use std::test::Fail;
 
-fn server(number: u32) -> Result<ServerId, Refusal> {
-    match ServerId::new(number) {
-        Some(server) => Ok(server),
-        None => Err(Refusal::NoSuchRequest),
-    }
+/// The tables of server 3, whose primary is 1. Where there are rows, they are of servers 2 and 3, which have one write
+/// each, for the same hour of oak. Server 3's was committed first and has its hour; server 2's came earlier, and is in the
+/// error log.
+#[derive(Clone, Copy)]
+struct Rows {
+    commits: u64,
+    dropped: u64,
+    clock: u64,
+    has_writes: bool,
+    /// How many of server 2's writes are committed, and the commit number of its write, 0 where that is tentative.
+    committed: u32,
+    seq: u64,
+    is_kept: bool,
+    /// The choices of server 2's write, and what undoes it.
+    choices: &'static str,
+    place: Place,
+    /// Whether the undo row of server 3's write is there.
+    is_paired: bool,
 }
 
-/// The tables of server 3, whose primary is 1, with these numbers and no other rows.
-fn opening(alloc: Global, commits: u64, dropped: u64, clock: u64) -> Result<Tables, Refusal> {
+const OPENING: Rows = Rows {
+    commits: 0,
+    dropped: 0,
+    clock: 0,
+    has_writes: false,
+    committed: 0,
+    seq: 0,
+    is_kept: false,
+    choices: "",
+    place: Place::Logged,
+    is_paired: false,
+};
+
+/// Server 3's write is committed, server 2's is tentative, and both are kept.
+const KEPT: Rows = Rows {
+    commits: 1,
+    dropped: 0,
+    clock: 2,
+    has_writes: true,
+    committed: 0,
+    seq: 0,
+    is_kept: true,
+    choices: "1995-12-18 14:00",
+    place: Place::Logged,
+    is_paired: true,
+};
+
+/// Both are committed, and dropped.
+const DROPPED: Rows = Rows {
+    commits: 2,
+    dropped: 2,
+    clock: 2,
+    has_writes: true,
+    committed: 1,
+    seq: 2,
+    is_kept: false,
+    choices: "",
+    place: Place::Logged,
+    is_paired: false,
+};
+
+fn room(alloc: Global) -> Result<RoomName, Refusal> {
+    RoomName::new(alloc, "oak")
+}
+
+fn title(alloc: Global) -> Result<Title, Refusal> {
+    Title::new(alloc, "Audit")
+}
+
+/// The tables with this row of meta alone.
+fn empty(alloc: Global, rows: Rows) -> Result<Tables, Refusal> {
     let meta = MetaRow {
         server: server(3)?,
         primary: server(1)?,
-        commits,
-        dropped,
-        clock,
+        commits: rows.commits,
+        dropped: rows.dropped,
+        clock: rows.clock,
     };
     Ok(Tables {
         meta,
@@ -31,28 +96,73 @@ fn opening(alloc: Global, commits: u64, dropped: u64, clock: u64) -> Result<Tabl
     })
 }
 
-fn vector_row(number: u32, last_time: u64, committed: u32) -> Result<VectorRow, Refusal> {
-    Ok(VectorRow {
+fn put_vector(
+    tables: &mut Tables,
+    number: u32,
+    last_time: u64,
+    committed: u32,
+) -> Result<(), Refusal> {
+    tables.vector.push(VectorRow {
         server: server(number)?,
         count: 1,
         last_time,
         committed,
-    })
+    })?;
+    Ok(())
+}
+
+/// Server 3's write has its hour from 14:30 on.
+fn put_booking(alloc: Global, tables: &mut Tables) -> Result<(), Refusal> {
+    let (server, day) = (server(3)?, Day::read("1995-12-18")?);
+    let room = room(alloc)?;
+    let title = title(alloc)?;
+    tables.booking.push(BookingRow {
+        room,
+        day,
+        start: 870,
+        stop: 930,
+        server,
+        n: 1,
+        title,
+        committed: true,
+    })?;
+    Ok(())
+}
+
+/// Server 2's write wished the hour from 14:00 on.
+fn put_error(alloc: Global, tables: &mut Tables, seq: u64) -> Result<(), Refusal> {
+    let (server, day) = (server(2)?, Day::read("1995-12-18")?);
+    let room = room(alloc)?;
+    let title = title(alloc)?;
+    tables.errorlog.push(ErrorRow {
+        room,
+        day,
+        start: 840,
+        stop: 900,
+        server,
+        n: 1,
+        title,
+        time: 1,
+        seq,
+    })?;
+    Ok(())
 }
 
 /// A server's first write: an hour in oak.
-fn log_row(
+fn put_log(
     alloc: Global,
+    tables: &mut Tables,
     number: u32,
     time: u64,
     choices: &str,
     seq: u64,
-) -> Result<LogRow, Refusal> {
-    let room = RoomName::new(alloc, "oak")?;
-    let title = Title::new(alloc, "Audit")?;
+) -> Result<(), Refusal> {
+    let server = server(number)?;
+    let room = room(alloc)?;
+    let title = title(alloc)?;
     let choices = String::from_str(alloc, choices)?;
-    Ok(LogRow {
-        server: server(number)?,
+    tables.write_log.push(LogRow {
+        server,
         n: 1,
         time,
         room,
@@ -60,152 +170,153 @@ fn log_row(
         choices,
         title,
         seq,
-    })
+    })?;
+    Ok(())
 }
 
-fn undo_row(number: u32, place: Place) -> Result<WriteUndoRow, Refusal> {
-    Ok(WriteUndoRow {
+fn put_undo(tables: &mut Tables, number: u32, place: Place) -> Result<(), Refusal> {
+    tables.undo.push(WriteUndoRow {
         server: server(number)?,
         n: 1,
         place,
-    })
+    })?;
+    Ok(())
 }
 
-/// Server 3's write has its hour from 14:30 on.
-fn booking(alloc: Global, committed: bool) -> Result<BookingRow, Refusal> {
-    let room = RoomName::new(alloc, "oak")?;
-    let title = Title::new(alloc, "Audit")?;
-    Ok(BookingRow {
-        room,
-        day: Day::read("1995-12-18")?,
-        start: 870,
-        stop: 930,
-        server: server(3)?,
-        n: 1,
-        title,
-        committed,
-    })
+fn put_writes(alloc: Global, tables: &mut Tables, rows: Rows) -> Result<(), Refusal> {
+    tables.room.push(room(alloc)?)?;
+    put_vector(tables, 2, 1, rows.committed)?;
+    put_vector(tables, 3, 2, 1)?;
+    put_booking(alloc, tables)?;
+    put_error(alloc, tables, rows.seq)
 }
 
-/// Server 2's write wished the hour from 14:00 on.
-fn error(alloc: Global, seq: u64) -> Result<ErrorRow, Refusal> {
-    let room = RoomName::new(alloc, "oak")?;
-    let title = Title::new(alloc, "Audit")?;
-    Ok(ErrorRow {
-        room,
-        day: Day::read("1995-12-18")?,
-        start: 840,
-        stop: 900,
-        server: server(2)?,
-        n: 1,
-        title,
-        time: 1,
-        seq,
-    })
+fn put_kept(alloc: Global, tables: &mut Tables, rows: Rows) -> Result<(), Refusal> {
+    put_log(alloc, tables, 2, 1, rows.choices, 0)?;
+    put_log(alloc, tables, 3, 2, "1995-12-18 14:30", 1)?;
+    put_undo(tables, 2, rows.place)?;
+    if rows.is_paired {
+        put_undo(tables, 3, Place::Taken(0))?;
+    }
+    Ok(())
 }
 
-/// Two servers' first writes, of which server 3's was committed first. Server 2's came earlier, and finds its hour taken.
-fn two_writes(
-    alloc: Global,
-    commits: u64,
-    dropped: u64,
-    committed: u32,
-    seq: u64,
-) -> Result<Tables, Refusal> {
-    let mut tables = opening(alloc, commits, dropped, 2)?;
-    tables.room.push(RoomName::new(alloc, "oak")?)?;
-    tables.vector.push(vector_row(2, 1, committed)?)?;
-    tables.vector.push(vector_row(3, 2, 1)?)?;
-    tables.booking.push(booking(alloc, true)?)?;
-    tables.errorlog.push(error(alloc, seq)?)?;
+fn tables(alloc: Global, rows: Rows) -> Result<Tables, Refusal> {
+    let mut tables = empty(alloc, rows)?;
+    if rows.has_writes {
+        put_writes(alloc, &mut tables, rows)?;
+    }
+    if rows.is_kept {
+        put_kept(alloc, &mut tables, rows)?;
+    }
     Ok(tables)
 }
 
-/// Where server 2's is tentative, and both are kept.
-fn kept(alloc: Global, choices: &str, place: Place) -> Result<Tables, Refusal> {
-    let mut tables = two_writes(alloc, 1, 0, 0, 0)?;
-    tables.write_log.push(log_row(alloc, 2, 1, choices, 0)?)?;
-    tables
-        .write_log
-        .push(log_row(alloc, 3, 2, "1995-12-18 14:30", 1)?)?;
-    tables.undo.push(undo_row(2, place)?)?;
-    tables.undo.push(undo_row(3, Place::Taken(0))?)?;
-    Ok(tables)
+// These have no clause, so that the proof of a test does not carry what is known of the desk.
+fn desk_of(alloc: Global, rows: Rows) -> Result<Desk, Refusal> {
+    let tables = tables(alloc, rows)?;
+    Desk::from_tables(alloc, &tables)
 }
 
-fn is_store(answer: Result<Desk, Refusal>) -> bool {
-    match answer {
+fn is_store(alloc: Global, rows: Rows) -> bool {
+    match desk_of(alloc, rows) {
         Ok(_) => false,
         Err(refusal) => refusal == Refusal::Store,
     }
 }
 
+/// The own server, the primary, how many commits there are, and of how many servers writes are known.
+fn position_of(desk: &Desk) -> Result<(u32, u32, u64, usize), Refusal> {
+    let position = desk.position()?;
+    let (own, primary) = (position.server.number(), position.primary.number());
+    Ok((own, primary, position.commits, position.counts.len()))
+}
+
+/// The time and the wish of both kept writes.
+fn kept_of(desk: &Desk) -> Option<[(u64, u32); 2]> {
+    match desk.log.kept() {
+        [first, second] => Some([
+            (first.stamp.time, first.wish.start),
+            (second.stamp.time, second.wish.start),
+        ]),
+        _ => None,
+    }
+}
+
+fn places_of(desk: &Desk) -> Option<[Place; 2]> {
+    match desk.log.undo() {
+        [first, second] => Some([first.place, second.place]),
+        _ => None,
+    }
+}
+
+/// The server, the time and the commit number of the one dropped write in the error log.
+fn error_of(desk: &Desk) -> Option<(u32, u64, u64)> {
+    match desk.old_errors.as_slice() {
+        [error] => Some((error.id.server.number(), error.time, error.seq)),
+        _ => None,
+    }
+}
+
 #[test]
 fn an_opening_replica_is_read(rt: HostRuntime) -> Result<(), Fail> {
-    let alloc = rt.alloc();
-    let desk = Desk::from_tables(alloc, &opening(alloc, 0, 0, 0)?)?;
-    let position = desk.position()?;
-    assert!(rt; position.server.number() == 3 && position.primary.number() == 1);
-    assert!(rt; position.commits == 0 && position.counts.len() == 0);
+    let desk = desk_of(rt.alloc(), OPENING)?;
+    assert!(rt; position_of(&desk)? == (3, 1, 0, 0));
     Ok(())
 }
 
 /// The committed write stands first, though its key and its time are the later ones.
 #[test]
 fn the_log_is_in_the_order_of_execution(rt: HostRuntime) -> Result<(), Fail> {
-    let alloc = rt.alloc();
-    let desk = Desk::from_tables(alloc, &kept(alloc, "1995-12-18 14:00", Place::Logged)?)?;
-    let position = desk.position()?;
-    assert!(rt; position.commits == 1 && position.counts.len() == 2);
-    match desk.log.kept() {
-        [first, second] => {
-            assert!(rt; first.stamp.time == 2 && first.wish.start == 870);
-            assert!(rt; second.stamp.time == 1 && second.wish.start == 840);
-        }
-        _ => assert!(rt; false),
-    }
-    match desk.log.undo() {
-        [first, second] => assert!(rt;
-            first.place == Place::Taken(0) && second.place == Place::Logged
-        ),
-        _ => assert!(rt; false),
-    }
+    let desk = desk_of(rt.alloc(), KEPT)?;
+    assert!(rt; position_of(&desk)? == (3, 1, 1, 2));
+    assert!(rt; kept_of(&desk) == Some([(2, 870), (1, 840)]));
+    assert!(rt; places_of(&desk) == Some([Place::Taken(0), Place::Logged]));
     Ok(())
 }
 
 #[test]
 fn dropped_errors_are_read(rt: HostRuntime) -> Result<(), Fail> {
-    let alloc = rt.alloc();
-    let desk = Desk::from_tables(alloc, &two_writes(alloc, 2, 2, 1, 2)?)?;
-    assert!(rt; desk.log.kept().len() == 0);
-    match desk.old_errors.as_slice() {
-        [error] => assert!(rt; error.id.server.number() == 2 && error.time == 1 && error.seq == 2),
-        _ => assert!(rt; false),
+    let desk = desk_of(rt.alloc(), DROPPED)?;
+    assert!(rt; desk.log.kept().is_empty());
+    assert!(rt; error_of(&desk) == Some((2, 1, 2)));
+    Ok(())
+}
+
+#[test]
+fn broken_rows_are_not_believed(rt: HostRuntime) {
+    let cut = Rows {
+        choices: "1995-12-18",
+        ..KEPT
+    };
+    let unpaired = Rows {
+        is_paired: false,
+        ..KEPT
+    };
+    let beyond = Rows {
+        commits: 1_000_000_000_000,
+        ..OPENING
+    };
+    for rows in [cut, unpaired, beyond] {
+        assert!(rt; is_store(rt.alloc(), rows));
     }
-    Ok(())
 }
 
 #[test]
-fn broken_rows_are_not_believed(rt: HostRuntime) -> Result<(), Fail> {
-    let alloc = rt.alloc();
-    let cut = kept(alloc, "1995-12-18", Place::Logged)?;
-    assert!(rt; is_store(Desk::from_tables(alloc, &cut)));
-    let mut unpaired = kept(alloc, "1995-12-18 14:00", Place::Logged)?;
-    unpaired.undo.pop();
-    assert!(rt; is_store(Desk::from_tables(alloc, &unpaired)));
-    let beyond = opening(alloc, 1_000_000_000_000, 0, 0)?;
-    assert!(rt; is_store(Desk::from_tables(alloc, &beyond)));
-    Ok(())
-}
-
-#[test]
-fn rows_that_contradict_each_other_are_not_believed(rt: HostRuntime) -> Result<(), Fail> {
-    let alloc = rt.alloc();
-    let unmarked = two_writes(alloc, 2, 2, 0, 2)?;
-    assert!(rt; is_store(Desk::from_tables(alloc, &unmarked)));
-    let over_dropped = two_writes(alloc, 2, 3, 1, 2)?;
-    assert!(rt; is_store(Desk::from_tables(alloc, &over_dropped)));
-    let misplaced = kept(alloc, "1995-12-18 14:00", Place::Taken(0))?;
-    assert!(rt; is_store(Desk::from_tables(alloc, &misplaced)));
-    Ok(())
+fn rows_that_contradict_each_other_are_not_believed(rt: HostRuntime) {
+    let unmarked = Rows {
+        committed: 0,
+        ..DROPPED
+    };
+    let over_dropped = Rows {
+        dropped: 3,
+        ..DROPPED
+    };
+    let misplaced = Rows {
+        place: Place::Taken(0),
+        ..KEPT
+    };
+    for rows in [unmarked, over_dropped, misplaced] {
+        assert!(rt; is_store(rt.alloc(), rows));
+    }
 }

@@ -1,4 +1,4 @@
-use Rattle.std.proofs.Common.{◌≡◌, ◌∙◌, ap}
+use Rattle.std.proofs.Common.{◌∙◌, ap}
 use Rattle.mr_replica.specs.DeskTables.{desk_tables}
 use Rattle.mr_replica.proofs.DeskRows.{desk_tables-of}
 use Rattle.mr_replica.proofs.Changing.{room_changes, submit_changes, log_changes, commit_changes, truncate_changes}

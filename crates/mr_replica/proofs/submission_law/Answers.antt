@@ -1,4 +1,3 @@
-use Rattle.mr_replica.specs.Steps.{SubmissionsAreRequests}
 use Rattle.mr_replica.proofs.Submitting.{submission_is_request}
 use Rattle.mr_replica.proofs.submission_law.Goals as goal
 

@@ -1,8 +1,7 @@
 use Rattle.std.proofs.Common.{◌≡◌, ◌∙◌, sym, ap, subst, List, [], map}
 use Rattle.std.specs.Prelude.{IfOk}
 use Rattle.std.specs.List.{AllByRecursion}
-use Rattle.mr_model.specs.Replica.{Replica}
-use Rattle.mr_model.specs.Tables.{BookingRow, ErrorRow, Tables, tables_of}
+use Rattle.mr_model.specs.Tables.{BookingRow, ErrorRow, Tables}
 use Rattle.mr_replica.specs.Boards.{booking_entry, error_entry, put_entries, IsRowWithin}
 use Rattle.mr_replica.proofs.Boarding.{board_told, bookings_within, errors_within}
 use Rattle.mr_replica.proofs.boards.board_of.Goals as goal

@@ -1,5 +1,4 @@
-use Rattle.std.proofs.Common.{◌≡◌, ◌∙◌, ◌+◌, suc, ◌<◌, ◌≤◌, ◌++◌, [], ◌∷◌, Bool, cond, length, min, take, ap, sym, arith, append-nil}
-use Rattle.std.proofs.lemmas.List.{take_all}
+use Rattle.std.proofs.Common.{◌≡◌, ◌∙◌, ◌+◌, suc, ◌++◌, [], ◌∷◌, cond, min, take, ap, sym, arith, append-nil}
 use Rattle.mr_replica.specs.Log.{errors_in, old_error_of}
 use Rattle.mr_replica.proofs.Logs.{errors_in-more, errors_in-all}
 use Rattle.mr_replica.proofs.log.errors_of.Goals as goal

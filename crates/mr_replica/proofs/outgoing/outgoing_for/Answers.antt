@@ -1,4 +1,4 @@
-use Rattle.std.proofs.Common.{◌≡◌, ℕ, ◌+◌, ◌-◌, ◌<◌, ◌≤◌, ◌++◌, min, nat_le, true, [], ◌∷◌, List, Ok, Err, IfErr, take, drop, length, sym, ap, ◌∙◌, subst, arith}
+use Rattle.std.proofs.Common.{◌≡◌, ◌+◌, ◌-◌, ◌≤◌, ◌++◌, [], Err, IfErr, take, drop, length, sym, ap, ◌∙◌, subst, arith}
 use Rattle.std.proofs.lemmas.List.{drop_min}
 use Rattle.std.proofs.lemmas.Result.{err_from_is_err_and}
 use Rattle.mr_model.specs.Positions.{Position}
@@ -7,7 +7,7 @@ use Rattle.mr_base.specs.declared.refusals.Refusal.TheVariants.{OutOfMemory}
 use Rattle.std.specs.Prelude.{Result}
 use Rattle.mr_replica.specs.declared.outgoing.Outgoing.{Outgoing}
 use Rattle.mr_replica.specs.Summary.{committed_len}
-use Rattle.mr_replica.specs.Outgoing.{Offers, committed_items, lacked_items, kept_items}
+use Rattle.mr_replica.specs.Outgoing.{Offers, committed_items, lacked_items}
 use Rattle.mr_base.specs.Positions.{counts_of}
 use Rattle.mr_replica.proofs.Limits.{few_asked}
 use Rattle.mr_replica.proofs.outgoing.outgoing_for.Goals as goal

@@ -1,9 +1,9 @@
-use Rattle.std.proofs.Common.{◌≡◌, ◌+◌, ◌<◌, min, suc, Ok, Err, map, length, get_or, ap, sym, ◌∙◌, subst, inl, inr, arith}
+use Rattle.std.proofs.Common.{◌≡◌, ◌+◌, ◌<◌, min, suc, Ok, Err, map, ap, sym, ◌∙◌, subst, arith}
 use Rattle.std.proofs.lemmas.List.{get_or-map, length-map}
 use Rattle.std.proofs.lemmas.Result.{err_from_is_err_and}
-use Rattle.mr_model.specs.Taking.{Progress, take_item, take_items}
+use Rattle.mr_model.specs.Taking.{take_item, take_items}
 use Rattle.mr_base.specs.Batches.{item_of}
-use Rattle.mr_replica.specs.Candidate.{Shows, Takes, KeepsFront}
+use Rattle.mr_replica.specs.Candidate.{Takes}
 use Rattle.mr_replica.proofs.Receiving.{IsAt, at-next, at-failed, front-trans, marks-trans}
 use Rattle.mr_replica.proofs.candidate.Candidate.take_all.Goals as goal
 

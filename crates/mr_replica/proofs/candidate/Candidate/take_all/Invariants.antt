@@ -1,8 +1,8 @@
-use Rattle.std.proofs.Common.{◌≡◌, ◌+◌, ◌<◌, ◌^◌, Ok, map, drop, length, IsTrue}
+use Rattle.std.proofs.Common.{◌+◌, ◌<◌, ◌^◌, map, length, IsTrue}
 use Rattle.std.specs.List.{list_all}
 use Rattle.mr_model.specs.Exchange.{is_item}
 use Rattle.mr_model.specs.Replica.{IsReplica}
-use Rattle.mr_model.specs.Taking.{Progress, take_items}
+use Rattle.mr_model.specs.Taking.{Progress}
 use Rattle.mr_base.specs.Batches.{item_of}
 use Rattle.mr_replica.specs.Candidate.{Shows, KeepsFront, KeepsMarks}
 use Rattle.mr_replica.proofs.Receiving.{IsAt}

@@ -1,11 +1,11 @@
-use Rattle.std.proofs.Common.{◌≡◌, ℕ, ◌<◌, nat_lt, Bool, true, false, not, List, get_or, length, Ok, Err, ap, sym, ◌∙◌, subst, inl, inr, arith}
+use Rattle.std.proofs.Common.{◌≡◌, true, false, get_or, length, Ok, Err, ap, sym, ◌∙◌, subst, inl, inr}
 use Rattle.std.proofs.lemmas.Bool.{true≢false, lt-ltb}
 use Rattle.std.proofs.lemmas.Result.{err_from_is_err_and}
 use Rattle.std.proofs.lemmas.List.{get_or_default}
 use Rattle.mr_model.proofs.ReceivedPlaces.{commit_moved}
 use Rattle.mr_model.specs.Writes.{Write}
 use Rattle.mr_model.specs.Replica.{add_commit}
-use Rattle.mr_model.specs.Taking.{Progress, take_commit, with_new_commit}
+use Rattle.mr_model.specs.Taking.{take_commit, with_new_commit}
 use Rattle.mr_replica.specs.Candidate.{Shows, Takes, commit_place}
 use Rattle.mr_replica.proofs.Judging.{commit_judged}
 use Rattle.mr_replica.proofs.Learning.{move_found, shows-moved}

@@ -1,7 +1,7 @@
-use Rattle.std.proofs.Common.{◌≡◌, Bool, true, false, not, Ok, Err, ap, sym, ◌∙◌, subst, inl, inr}
+use Rattle.std.proofs.Common.{true, false, Ok, Err, ap, sym, ◌∙◌, subst, inl, inr}
 use Rattle.std.proofs.lemmas.Result.{err_from_is_err_and}
 use Rattle.mr_model.specs.Replica.{add_write}
-use Rattle.mr_model.specs.Taking.{Progress, take_write, with_new_write}
+use Rattle.mr_model.specs.Taking.{take_write, with_new_write}
 use Rattle.mr_replica.specs.Candidate.{Shows, Takes}
 use Rattle.mr_replica.proofs.Judging.{write_judged, small_server}
 use Rattle.mr_replica.proofs.Learning.{shows-learned}

@@ -1,4 +1,4 @@
-use Rattle.std.proofs.Common.{◌≡◌, [], ap, ◌∙◌}
+use Rattle.std.proofs.Common.{[], ap, ◌∙◌}
 use Rattle.mr_replica.specs.Change.{changed}
 use Rattle.mr_replica.specs.DeskTables.{desk_tables}
 use Rattle.mr_replica.specs.Written.{meta_of, written}

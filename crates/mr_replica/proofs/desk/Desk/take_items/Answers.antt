@@ -1,11 +1,8 @@
-use Rattle.std.proofs.Common.{◌≡◌, ℕ, ◌<◌, ◌≤◌, Ok, Err, map, length, ap, sym, ◌∙◌, subst, inl, inr}
+use Rattle.std.proofs.Common.{◌≡◌, Err, map, length, ap, ◌∙◌, inl, inr}
 use Rattle.std.proofs.lemmas.Result.{err_from_is_err_and}
 use Rattle.mr_model.specs.Replies.{Took}
-use Rattle.mr_model.specs.Taking.{Progress, take_items}
-use Rattle.mr_model.specs.Step.{After, after_items}
 use Rattle.mr_base.specs.Batches.{item_of}
-use Rattle.mr_replica.specs.Candidate.{CandidateView, Shows, Takes}
-use Rattle.mr_replica.specs.Desk.{DeskView, desk_of, nothing_taken, reply_with}
+use Rattle.mr_replica.specs.Desk.{nothing_taken}
 use Rattle.mr_replica.proofs.Desks.{summary_in}
 use Rattle.mr_replica.proofs.Receiving.{new_shows, all_taken, none_taken}
 use Rattle.mr_replica.proofs.ReceivedRows.{all_turned}

@@ -1,7 +1,7 @@
-use Rattle.std.proofs.Common.{◌≡◌, ℕ, ◌+◌, ◌<◌, ◌≤◌, ◌++◌, min, [], ◌∷◌, List, Some, take, length, sym, ap, ◌∙◌, subst, append_assoc, append-nil, arith}
+use Rattle.std.proofs.Common.{◌≡◌, ◌+◌, ◌++◌, [], ◌∷◌, Some, take, length, sym, ap, ◌∙◌, subst, append_assoc, append-nil, arith}
 use Rattle.std.proofs.lemmas.Bool.Decides.{nat_tests}
 use Rattle.std.proofs.lemmas.List.{take_more, length-take}
-use Rattle.mr_model.specs.Writes.{Write, id_of, is_commit_number}
+use Rattle.mr_model.specs.Writes.{id_of, is_commit_number}
 use Rattle.mr_model.specs.Exchange as model
 use Rattle.mr_model.specs.Step.{item_if_lacked}
 use Rattle.mr_replica.specs.Outgoing.{Offers, committed_items, lacked_items}

@@ -1,4 +1,4 @@
-use Rattle.std.proofs.Common.{◌≡◌, ◌++◌, ◌≤◌, ◌+◌, List, take}
+use Rattle.std.proofs.Common.{◌≡◌, ◌++◌, List, take}
 use Rattle.mr_model.specs.Exchange.{Item}
 use Rattle.mr_replica.specs.Outgoing.{Offers, committed_items}
 use Rattle.mr_replica.proofs.outgoing.Outgoing.push_commits.Given as goal

@@ -1,6 +1,5 @@
-use Rattle.std.proofs.Common.{◌≡◌, ◌+◌, ◌++◌, [], ◌∷◌, List, take, sym, ap, ◌∙◌, subst, append_assoc}
+use Rattle.std.proofs.Common.{◌≡◌, ◌+◌, ◌++◌, [], ◌∷◌, take, sym, ap, ◌∙◌, subst, append_assoc}
 use Rattle.std.proofs.lemmas.List.{take_more}
-use Rattle.mr_model.specs.Exchange.{Item}
 use Rattle.mr_replica.specs.Outgoing.{Offers, lacked_items}
 use Rattle.mr_replica.proofs.Batching.{lacked_items-append}
 use Rattle.mr_replica.proofs.outgoing.Outgoing.push_lacked.Goals as goal

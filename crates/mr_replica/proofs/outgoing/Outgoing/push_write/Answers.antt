@@ -1,4 +1,4 @@
-use Rattle.std.proofs.Common.{◌≡◌, sym, ap, ◌<◌, ◌∙◌, length, arith}
+use Rattle.std.proofs.Common.{sym, ap, ◌<◌, length, arith}
 use Rattle.mr_model.specs.Exchange as model
 use Rattle.mr_model.proofs.BatchesReadBack.{ok_inj}
 use Rattle.mr_base.specs.declared.batches.Item.TheVariants.{W}

@@ -1,7 +1,6 @@
-use Rattle.std.proofs.Common.{◌≡◌, ◌+◌, suc, ◌≤◌, ◌++◌, [], ◌∷◌, ap, sym, ◌∙◌, arith}
+use Rattle.std.proofs.Common.{◌≡◌, ◌+◌, suc, ◌++◌, [], ◌∷◌, ap, sym, ◌∙◌, arith}
 use Rattle.mr_model.specs.Texts.{numbers_on}
 use Rattle.mr_replica.proofs.Limits.{numbers-more}
-use Rattle.mr_base.specs.Positions.{counts_of}
 use Rattle.mr_replica.specs.Summary.{counts_in}
 use Rattle.mr_replica.proofs.Positions.{counts_in-append}
 use Rattle.mr_replica.proofs.summary.Summary.counts.Goals as goal
