@@ -18,7 +18,7 @@ const WEEK: [(Weekday, &str); 7] = [
 const LENGTHS: [u32; 12] = [31, 28, 31, 30, 31, 30, 31, 31, 30, 31, 30, 31];
 
 // Each year with the length of its February, and with the weekday of the first of each month, where Monday is 0.
-const YEARS: [(u32, u32, [usize; 12]); 110] = [
+static YEARS: [(u32, u32, [usize; 12]); 110] = [
     (1990, 28, [0, 3, 3, 6, 1, 4, 6, 2, 5, 0, 3, 5]),
     (1991, 28, [1, 4, 4, 0, 2, 5, 0, 3, 6, 1, 4, 6]),
     (1992, 29, [2, 5, 6, 2, 4, 0, 2, 5, 1, 3, 6, 1]),
@@ -133,8 +133,8 @@ const YEARS: [(u32, u32, [usize; 12]); 110] = [
 
 #[test]
 fn each_day_is_read_and_written(rt: HostRuntime) -> Result<(), Fail> {
-    for (year, february, firsts) in YEARS {
-        check_year(&rt, rt.alloc(), year, february, firsts)?;
+    for (year, february, firsts) in &YEARS {
+        check_year(&rt, rt.alloc(), *year, *february, firsts)?;
     }
     Ok(())
 }
@@ -144,7 +144,7 @@ fn check_year(
     alloc: Global,
     year: u32,
     february: u32,
-    firsts: [usize; 12],
+    firsts: &[usize; 12],
 ) -> Result<(), Fail> {
     for i in 0..12 {
         let length = if i == 1 { february } else { LENGTHS[i] };
