@@ -4,3 +4,5 @@ mod CutSlots
 mod ScriptLaws
 mod RunLaws
 mod UniqueReading
+mod AskLaws
+mod EndLaws

@@ -1,5 +1,5 @@
 -- What is printed for the steps of a script.
-use Rattle.std.specs.Prelude.{◌≡◌, ℕ, Bool, false, List, [], ◌∷◌, ◌++◌, take, flat_map, ◌⊎◌, codes, decimal, bytes_eq, Option, Some, None, Ok, Err, ⊤}
+use Rattle.std.specs.Prelude.{◌≡◌, ℕ, List, [], ◌∷◌, ◌++◌, take, flat_map, ◌⊎◌, codes, decimal, Option, Some, None, Ok, Err, ⊤}
 use Rattle.std.specs.Io.KnownBytes.{Appends}
 use Rattle.mr_model.specs.Texts.{Text, words, lines_text}
 use Rattle.mr_model.specs.Replies.{reply_text}
@@ -55,11 +55,6 @@ IsInput None bytes = ⊤
 IsInput (Some known) bytes = bytes ≡ known
 
 -- ---- command lines
-
--- `rehearse SCRIPT`
-abbrev pub is_rehearsal : List Text → Bool
-is_rehearsal (verb ∷ script ∷ []) = bytes_eq verb (codes "rehearse")
-is_rehearsal _ = false
 
 abbrev pub bad_words_line : Text
 bad_words_line = codes "bad command line" ++ 10 ∷ []

@@ -1,7 +1,8 @@
+use crate::fakes::{FailingReader, FailingWriter};
 use crate::{command, rehearse};
 use std::alloc::{AllocError, Global};
 use std::fs;
-use std::io::{self, ErrorKind, Read, Write};
+use std::io::{self, Read};
 use std::test::Fail;
 
 /// What a script prints, and its status.
@@ -324,57 +325,6 @@ fn ninety_nine_alternatives(rt: HostRuntime) -> Result<(), Fail> {
     assert_eq!(rt; out.as_slice(), b"bad script line 3\n".as_slice());
     assert_eq!(rt; status, 1);
     Ok(())
-}
-
-/// A reader that gives one byte a call, and fails after some.
-#[derive(Drop)]
-struct FailingReader<'a> {
-    text: &'a [u8],
-    left: usize,
-}
-
-impl<'a> Read for FailingReader<'a> {
-    fn read(&mut self, buf: &mut [u8]) -> io::Result<usize> {
-        if self.left == 0 {
-            return Err(ErrorKind::Other.into());
-        }
-        self.left -= 1;
-        match (self.text.split_first(), buf.first_mut()) {
-            (Some((byte, rest)), Some(place)) => {
-                *place = *byte;
-                self.text = rest;
-                Ok(1)
-            }
-            _ => Ok(0),
-        }
-    }
-}
-
-/// A writer that takes one byte a call, and fails after some.
-#[derive(Drop)]
-struct FailingWriter {
-    taken: Vec<u8>,
-    left: usize,
-}
-
-impl Write for FailingWriter {
-    fn write(&mut self, buf: &[u8]) -> io::Result<usize> {
-        if self.left == 0 {
-            return Err(ErrorKind::Other.into());
-        }
-        self.left -= 1;
-        match buf.first() {
-            Some(byte) => {
-                self.taken.push(*byte)?;
-                Ok(1)
-            }
-            None => Ok(0),
-        }
-    }
-
-    fn flush(&mut self) -> io::Result<()> {
-        Ok(())
-    }
 }
 
 // a read that fails at any place is a fault, and no line is run

@@ -1,5 +1,5 @@
 -- What making the tables does.
-use Rattle.std.proofs.Common.{◌≡◌, ◌⊎◌, inl, inr, ℕ, List, [], ◌∷◌, ◌++◌, Ok, Err, Result, None, OnOk, IsTrue, false, refl, sym, ap, subst, ◌∙◌, arith}
+use Rattle.std.proofs.Common.{◌≡◌, ◌⊎◌, inl, inr, ℕ, List, [], ◌∷◌, ◌++◌, Ok, Err, Result, None, OnOk, OnErr, IsTrue, false, refl, sym, ap, subst, ◌∙◌, arith}
 use Rattle.std.specs.List.{AllByRecursion}
 use Rattle.sqlite_trees.specs.Tree.{Trees}
 use Rattle.sqlite_schema.specs.declared.schema.Table.{Table}
@@ -15,7 +15,8 @@ use Rattle.sqlite.specs.Does.{Tally, lacks_sequence}
 use Rattle.sqlite.specs.Listing.{understood}
 use Rattle.sqlite.specs.State.{State, HasCleanDisk, Survives, Writes, ExecutesInside}
 use Rattle.sqlite.proofs.Callers.{IsPlain, command_of, statement_of, runs_as}
-use Rattle.mr_model.specs.Tables.{MetaRow}
+use Rattle.sqlite.specs.Steps.{FailsToCommit}
+use Rattle.mr_model.specs.Tables.{MetaRow, Tables}
 use Rattle.mr_sql.specs.Schema.{no_schema, with_meta, with_room, with_vector, with_log, with_undo, with_booking, our_schema, meta_text, room_text, vector_text, log_text, undo_text, booking_text, error_text, meta_table, room_table, vector_table, log_table, undo_table, booking_table, error_table}
 use Rattle.mr_sql.specs.Form.{Form, meta_form, room_form, vector_form, log_form, undo_form, booking_form, error_form}
 use Rattle.mr_sql.specs.Kept.{IsHeld, IsOurs, IsStep, first_meta, in_order, tables_in}
@@ -171,3 +172,14 @@ fills a b c m s grown put clean within blank =
     let one = grown (omega (arith, less, clean)) within blank in
     let two = put (clean, one.within, blank_ours b.now one.blank) in
     record { ours = two.ours; tables_are = two.tables_are ∙ ap (put_meta m) (blank_tables b.now one.blank); committed = two.committed ∙ one.committed; within = two.within }
+
+-- ---- a commit that fails
+
+pub on_err_any : {X E P : Type 0} (r : Result X E) → P → OnErr r P
+on_err_any (Ok x) p = tt
+on_err_any (Err e) p = p
+
+-- the database is as it was before the transaction
+pub commit_fails : (a b c : State) (e : Error) (t : Tables) → IsStep a b t → FailsToCommit b c e → IsTrue c.is_open → a.now ≡ a.committed → (c.now ≡ a.now) × (c.committed ≡ a.committed)
+commit_fails a b c e t step (inl fails) now settled = let undone = fails.3.undone now in (undone.0 ∙ step.committed ∙ sym settled, undone.1 ∙ step.committed)
+commit_fails a b c e t step (inr (is, outside, same)) now settled = absurd (let within = step.within in cc)

@@ -79,12 +79,12 @@ map_has f [] y h = absurd h
 map_has f (x ∷ xs) y (inl is) = (x, inl refl, is)
 map_has f (x ∷ xs) y (inr h) = let it = map_has f xs y h in (it.0, inr it.1, it.2)
 
-has_map : {X Y : Type 0} (f : X → Y) (xs : List X) (x : X) → Has xs x → Has (map f xs) (f x)
+pub has_map : {X Y : Type 0} (f : X → Y) (xs : List X) (x : X) → Has xs x → Has (map f xs) (f x)
 has_map f (y ∷ xs) x (inl is) = inl (ap f is)
 has_map f (y ∷ xs) x (inr h) = inr (has_map f xs x h)
 has_map f [] x h = absurd h
 
-has_moved : {X : Type 0} (xs ys : List X) → IsPermutation xs ys → (x : X) → Has xs x → Has ys x
+pub has_moved : {X : Type 0} (xs ys : List X) → IsPermutation xs ys → (x : X) → Has xs x → Has ys x
 has_moved xs ys moved x h = has_contained ys x (Contains-permutation xs ys x moved (contains_had xs x h))
 
 -- the table afterwards; each other tree but the table's indexes is as it was

@@ -14,3 +14,5 @@ pub mod SortLemmas
 pub mod CreateLemmas
 pub mod AnswerLemmas
 pub mod OpeningLemmas
+pub mod FoundLemmas
+pub mod TakenLemmas

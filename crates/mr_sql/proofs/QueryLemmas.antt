@@ -1,5 +1,5 @@
 -- A query that is read leaves all as it was.
-use Rattle.std.proofs.Common.{◌≡◌, ◌⊎◌, inl, inr, ℕ, List, Ok, Err, Option, None, Some, Result, IfOk, IfErr, OnOk, IsTrue, sym, subst, ◌∙◌, arith}
+use Rattle.std.proofs.Common.{◌≡◌, ◌⊎◌, inl, inr, ℕ, List, Ok, Err, Option, None, Some, Result, IfOk, IfErr, OnOk, IsTrue, sym, ap, subst, ◌∙◌, arith}
 use Rattle.sqlite_value.specs.Order.{Row}
 use Rattle.sqlite_trees.specs.Tree.{Trees}
 use Rattle.sqlite.specs.declared.error.Error.{Error}
@@ -12,10 +12,13 @@ use Rattle.sqlite.proofs.Callers.{IsPlain, never_commits}
 use Rattle.mr_sql.specs.Schema.{our_schema}
 use Rattle.sqlite.specs.Effect.{Database}
 use Rattle.mr_sql.specs.Kept.{IsKept, IsOurs}
-use Rattle.mr_sql.specs.Reads.{Reads}
+use Rattle.mr_sql.specs.Reads.{Reads, IsPlaced, Looks, ReadsWhere}
 
-plain_here : (s : State) (sql : List ℕ) → IsKept s → IsPlain (understood our_schema sql) → IsPlain (understood s.now.schema sql)
-plain_here s sql kept plain = subst (λ schema. IsPlain (understood schema sql)) (sym kept.ours.schema) plain
+placed : (s : State) → IsKept s → IsPlaced s
+placed s kept = record { schema = kept.ours.schema; settled = kept.settled }
+
+plain_here : (s : State) (sql : List ℕ) → IsPlaced s → IsPlain (understood our_schema sql) → IsPlain (understood s.now.schema sql)
+plain_here s sql here plain = subst (λ schema. IsPlain (understood schema sql)) (sym here.schema) plain
 
 shown_same : (sql : List ℕ) (params : Row) (old new : State) (rows : List Row) → IsPlain (understood old.now.schema sql) → Shown sql params old new rows → IsUnchanged old new
 unfolding Shown
@@ -31,9 +34,9 @@ fails_same sql params old new e plain (inr (c, it, shows)) =
     let none = (subst IsPlain it.is plain).0 in
     inl (subst (FailsToShow old new sql c (timed params c.formats it.now) e) none shows).3
 
-left_same : (old new : State) → IsKept old → IsTrue new.is_open → IsUnchanged old new ⊎ IsRolledBack old new → (new.now ≡ old.now) × (new.committed ≡ old.committed)
-left_same old new kept now (inl same) = (same.0.now_is, same.0.committed_is)
-left_same old new kept now (inr back) = ((back.undone now).0 ∙ sym kept.settled, (back.undone now).1)
+left_same : (old new : State) → IsPlaced old → IsTrue new.is_open → IsUnchanged old new ⊎ IsRolledBack old new → (new.now ≡ old.now) × (new.committed ≡ old.committed)
+left_same old new here now (inl same) = (same.0.now_is, same.0.committed_is)
+left_same old new here now (inr back) = ((back.undone now).0 ∙ sym here.settled, (back.undone now).1)
 
 -- what shows rows was open before, and so was what is open after a failure
 shown_open : (sql : List ℕ) (params : Row) (old new : State) (rows : List Row) → Shown sql params old new rows → IsTrue old.is_open
@@ -55,23 +58,33 @@ fails_open sql params old new e (inr (c, it, shows)) now = by_returning c.return
     by_returning (Some what) (inl h) = h.1.0.was_open
     by_returning (Some what) (inr fails) = fails.3.was_open now
 
-module _ (sql : List ℕ) (params : Row) (old new : State) (plain : IsPlain (understood our_schema sql)) where
-  pub commits_none : Survives old new (CommitsShowing sql params old) → Survives old new (λ _. ¬ IsKept old)
-  commits_none h = survives_weaker old new _ _ (λ _ db commits kept. never_commits sql params old db (plain_here old sql kept plain) commits) h
+module _ (sql : List ℕ) (params : Row) (old new : State) (plain : IsPlain (understood our_schema sql)) (Known : State → Type 0) (here : Known old → IsPlaced old) where
+  commits_none : Survives old new (CommitsShowing sql params old) → Survives old new (λ _. ¬ Known old)
+  commits_none h = survives_weaker old new _ _ (λ _ db commits known. never_commits sql params old db (plain_here old sql (here known) plain) commits) h
 
-  pub kept_by : {X : Type 0} (items : X → List Row) (r : Result X Error) → IfOk r (λ x. Shown sql params old new (items x)) → IfErr r (FailsToQuery sql params old new)
-      → IsTrue new.is_open → IsTrue old.is_open × (IsKept old → (new.now ≡ old.now) × (new.committed ≡ old.committed))
-  kept_by items (Ok x) ok err now = (shown_open sql params old new (items x) ok, λ kept. left_same old new kept now (inl (shown_same sql params old new (items x) (plain_here old sql kept plain) ok)))
-  kept_by items (Err e) ok err now = (fails_open sql params old new e err now, λ kept. left_same old new kept now (fails_same sql params old new e (plain_here old sql kept plain) err))
+  kept_by : {X : Type 0} (items : X → List Row) (r : Result X Error) → IfOk r (λ x. Shown sql params old new (items x)) → IfErr r (FailsToQuery sql params old new)
+      → IsTrue new.is_open → IsTrue old.is_open × (Known old → (new.now ≡ old.now) × (new.committed ≡ old.committed))
+  kept_by items (Ok x) ok err now =
+      (shown_open sql params old new (items x) ok, λ known. left_same old new (here known) now (inl (shown_same sql params old new (items x) (plain_here old sql (here known) plain) ok)))
+  kept_by items (Err e) ok err now = (fails_open sql params old new e err now, λ known. left_same old new (here known) now (fails_same sql params old new e (plain_here old sql (here known) plain) err))
 
-  pub stays_open : {X : Type 0} (items : X → List Row) (r : Result X Error) → IfOk r (λ x. Shown sql params old new (items x)) → IsKept old → OnOk r (IsTrue new.is_open)
-  stays_open items (Ok x) ok kept = (shown_same sql params old new (items x) (plain_here old sql kept plain) ok).0.is_open
-  stays_open items (Err e) ok kept = tt
+  stays_open : {X : Type 0} (items : X → List Row) (r : Result X Error) → IfOk r (λ x. Shown sql params old new (items x)) → Known old → OnOk r (IsTrue new.is_open)
+  stays_open items (Ok x) ok known = (shown_same sql params old new (items x) (plain_here old sql (here known) plain) ok).0.is_open
+  stays_open items (Err e) ok known = tt
 
   -- a plain query reads
+  pub asked_where : {X : Type 0} (items : X → List Row) (r : Result X Error) → (HasCleanDisk new → IfOk r (λ x. Shown sql params old new (items x))) → (HasCleanDisk new → IfErr r (FailsToQuery sql params old new))
+      → Survives old new (CommitsShowing sql params old) → ReadsWhere Known old new r (λ x. Shown sql params old new (items x))
+  asked_where items r ok err survives = (commits_none survives, λ clean now. kept_by items r (ok clean) (err clean) now, λ clean known. (stays_open items r (ok clean) known, ok clean))
+
+module _ (sql : List ℕ) (params : Row) (old new : State) (plain : IsPlain (understood our_schema sql)) where
   pub asked : {X : Type 0} (items : X → List Row) (r : Result X Error) → (HasCleanDisk new → IfOk r (λ x. Shown sql params old new (items x))) → (HasCleanDisk new → IfErr r (FailsToQuery sql params old new))
       → Survives old new (CommitsShowing sql params old) → Reads old new r (λ x. Shown sql params old new (items x))
-  asked items r ok err survives = (commits_none survives, λ clean now. kept_by items r (ok clean) (err clean) now, λ clean kept. (stays_open items r (ok clean) kept, ok clean))
+  asked items r ok err survives = asked_where sql params old new plain IsKept (placed old) items r ok err survives
+
+  pub looked : {X : Type 0} (items : X → List Row) (r : Result X Error) → (HasCleanDisk new → IfOk r (λ x. Shown sql params old new (items x))) → (HasCleanDisk new → IfErr r (FailsToQuery sql params old new))
+      → Survives old new (CommitsShowing sql params old) → Looks old new r (λ x. Shown sql params old new (items x))
+  looked items r ok err survives = asked_where sql params old new plain IsPlaced (λ here. here) items r ok err survives
 
 -- ---- reads, one after another
 
@@ -117,3 +130,40 @@ reads_then a b c x P r Q R way p q =
 
     still : IsKept a → (b.now ≡ a.now) × (b.committed ≡ a.committed) → IsKept b
     still kept same = record { ours = subst IsOurs (sym same.0) kept.ours; settled = same.0 ∙ kept.settled ∙ sym same.1 }
+
+-- ---- looks, one after another
+
+pub looks_so : {X : Type 0} (old new : State) (r : Result X Error) (P Q : X → Type 0) → (IsPlaced old → (x : X) → P x → Q x) → Looks old new r P → Looks old new r Q
+looks_so old new r P Q way h = (h.0, h.1, λ clean here. let told = h.2 clean here in (told.0, told_so r P Q (way here) told.1))
+
+-- what is made of the answer
+pub looks_made : {X Y : Type 0} (old new : State) (x : X) (P : X → Type 0) (r : Result Y Error) (Q : Y → Type 0) → (IsPlaced old → P x → IfOk r Q) → Looks old new (Ok x) P → Looks old new r Q
+looks_made old new x P (Ok y) Q way h = (h.0, h.1, λ clean here. let told = h.2 clean here in (told.0, way here told.1))
+looks_made old new x P (Err e) Q way h = (h.0, h.1, λ clean here. (tt, tt))
+
+-- a second look finds what the first found
+pub looks_then : {X Y : Type 0} (a b c : State) (x : X) (P : X → Type 0) (r : Result Y Error) (Q : Database → Y → Type 0) (R : Y → Type 0)
+    → (IsPlaced a → (y : Y) → P x → Q a.now y → R y) → Looks a b (Ok x) P → Looks b c r (Q b.now) → Looks a c r R
+looks_then a b c x P r Q R way p q =
+    let clean_between = λ (clean : HasCleanDisk c). before q.0 clean in
+    let placed_between = λ (clean : HasCleanDisk c) (here : IsPlaced a).
+    let told = p.2 (clean_between clean) here in
+    let same = (p.1 (clean_between clean) told.0).1 here in
+    still here same in (
+      survives_then a b c (λ _. ¬ IsPlaced a) (λ _. ¬ IsPlaced b) (λ _. ¬ IsPlaced a) (λ _ db none. none) (λ clean db none here. none (placed_between clean here)) p.0 q.0,
+      λ clean now.
+          let later = q.1 clean now in
+          let first = p.1 (clean_between clean) later.0 in
+          (first.0, λ here. let same = first.1 here in let more = later.1 (still here same) in (more.0 ∙ same.0, more.1 ∙ same.1)),
+      λ clean here.
+          let told = p.2 (clean_between clean) here in
+          let same = (p.1 (clean_between clean) told.0).1 here in
+          let last = q.2 clean (still here same) in
+          (last.0, told_so r (Q b.now) R (λ y h. way here y told.1 (subst (λ db. Q db y) same.0 h)) last.1),
+    )
+  where
+    before : {P : Trees → Type 0} → Survives b c P → HasCleanDisk c → HasCleanDisk b
+    before s clean = let less = s.clean in omega (arith, less, clean)
+
+    still : IsPlaced a → (b.now ≡ a.now) × (b.committed ≡ a.committed) → IsPlaced b
+    still here same = record { schema = ap (λ (d : Database). d.schema) same.0 ∙ here.schema; settled = same.0 ∙ here.settled ∙ sym same.1 }

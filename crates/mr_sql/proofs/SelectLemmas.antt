@@ -1,10 +1,14 @@
 -- What the rows are that each query shows.
-use Rattle.std.proofs.Common.{◌≡◌, pos, List, [], ◌∷◌, map, filter, true, ◌&&◌, None, refl, ap, subst, ◌∙◌}
+use Rattle.std.proofs.Common.{◌≡◌, ℕ, pos, List, [], ◌∷◌, map, filter, true, ◌&&◌, None, refl, ap, subst, ◌∙◌}
 use Rattle.std.specs.Prelude.{bytes_eq}
 use Rattle.std.specs.List.Sorted.{IsPermutation}
 use Rattle.sqlite_value.specs.declared.value.Value.TheVariants.{Null, Int, Text}
 use Rattle.sqlite_value.specs.Order.{Row}
+use Rattle.sqlite_sql.specs.Term.{Term, eval_all}
+use Rattle.sqlite_schema.specs.declared.program.Program.{Program}
+use Rattle.sqlite.specs.Command.TheVariants.{Select}
 use Rattle.sqlite.specs.State.{State, Shown}
+use Rattle.sqlite.proofs.Callers.{reads_as}
 use Rattle.mr_model.specs.Texts as texts
 use Rattle.mr_model.specs.Writes.{Id}
 use Rattle.mr_model.specs.Replica.{is_among}
@@ -13,12 +17,15 @@ use Rattle.mr_model.specs.Queries.{booking_id, error_id}
 use Rattle.mr_store.specs.Picked.{picked_bookings, picked_errors}
 use Rattle.mr_sql.specs.Meaning.{passes}
 use Rattle.mr_sql.specs.Cells.{meta_in, room_in, vector_in, log_in, undo_in, booking_in, error_in}
-use Rattle.mr_sql.specs.Form.{meta_form, room_form, vector_form, log_form, undo_form, booking_form, error_form}
+use Rattle.mr_sql.specs.Schema.{our_schema}
+use Rattle.mr_sql.specs.Found.{columns_from}
+use Rattle.mr_sql.specs.Form.{Form, meta_form, room_form, vector_form, log_form, undo_form, booking_form, error_form}
 use Rattle.mr_sql.specs.Kept.{IsOurs, tables_in}
 use Rattle.mr_sql.specs.Reads.{metas_in}
-use Rattle.mr_sql.proofs.Texts.{all_meta_text, all_meta_is, meta_columns, meta_names, all_room_text, all_room_is, room_columns, room_names, all_vector_text, all_vector_is, vector_columns, vector_names, all_log_text, all_log_is, log_columns, log_names, all_undo_text, all_undo_is, undo_columns, undo_names, all_booking_text, all_booking_is, booking_columns, booking_names, all_error_text, all_error_is, error_columns, error_names, room_booking_text, room_booking_is, booking_room_tests, key_booking_text, key_booking_is, booking_key_tests, room_error_text, room_error_is, error_room_tests, key_error_text, key_error_is, error_key_tests}
+use Rattle.mr_sql.proofs.Texts.{MeansQuery, program_of, all_meta_text, all_meta_is, meta_columns, meta_names, all_room_text, all_room_is, room_columns, room_names, all_vector_text, all_vector_is, vector_columns, vector_names, all_log_text, all_log_is, log_columns, log_names, all_undo_text, all_undo_is, undo_columns, undo_names, all_booking_text, all_booking_is, booking_columns, booking_names, all_error_text, all_error_is, error_columns, error_names, room_booking_text, room_booking_is, booking_room_tests, key_booking_text, key_booking_is, booking_key_tests, room_error_text, room_error_is, error_room_tests, key_error_text, key_error_is, error_key_tests}
 use Rattle.mr_sql.proofs.ValueLemmas.{equal_text, and_true, id_test}
-use Rattle.mr_sql.proofs.TableLemmas.{finds_rows}
+use Rattle.mr_sql.proofs.FormLemmas.{shows}
+use Rattle.mr_sql.proofs.TableLemmas.{Facts, finds_rows}
 use Rattle.mr_sql.proofs.TableFacts.{meta_facts, room_facts, vector_facts, log_facts, undo_facts, booking_facts, error_facts}
 
 filter_all : {X : Type 0} (xs : List X) → filter (λ _. true) xs ≡ xs
@@ -94,3 +101,35 @@ unfolding tables_in
 shows_key_error id old new rows ours shown =
     finds_rows error_form error_facts key_error_text error_key_tests error_columns error_names (Int (pos id.server) ∷ Int (pos id.n) ∷ []) old new (λ r. is_among (error_id r) (id ∷ [])) rows key_error_is
     (λ r is. ap (passes error_key_tests (Int (pos id.server) ∷ Int (pos id.n) ∷ [])) is ∙ id_test (error_in r).server (error_in r).n id) (λ r is. refl) ours.schema ours.held.errorlog shown
+
+-- ---- the same of rows that may be any
+
+sees : {R K : Type 0} (f : Form R K) (facts : Facts f) (text : List ℕ) (project : List Term) (names : List (List ℕ)) (old new : State) (rows : List Row)
+    → MeansQuery text (Select (program_of f.table.tree [] project) names) → old.now.schema ≡ our_schema → Shown text [] old new rows
+    → IsPermutation (map (λ r. eval_all project ([] ∷ r ∷ [])) (old.now.trees f.table.tree)) rows
+sees f facts text project names old new rows means schema h =
+    let program : Program = program_of f.table.tree [] project in
+    let read = reads_as text [] old new our_schema schema (Select program names) means.0.0 means.0.1 means.1 rows h in
+    let moved = shows f.table.tree [] project old.now.trees [] rows (facts.alone old.now.trees) (read.answer Null) in
+    subst (λ xs. IsPermutation (map (λ r. eval_all project ([] ∷ r ∷ [])) xs) rows) (filter_all _) moved
+
+pub sees_all_meta : (old new : State) (rows : List Row) → old.now.schema ≡ our_schema → Shown all_meta_text [] old new rows → IsPermutation (map (columns_from 1 7) (old.now.trees 0)) rows
+sees_all_meta old new rows = sees meta_form meta_facts all_meta_text meta_columns meta_names old new rows all_meta_is
+
+pub sees_all_room : (old new : State) (rows : List Row) → old.now.schema ≡ our_schema → Shown all_room_text [] old new rows → IsPermutation (map (columns_from 1 1) (old.now.trees 2)) rows
+sees_all_room old new rows = sees room_form room_facts all_room_text room_columns room_names old new rows all_room_is
+
+pub sees_all_vector : (old new : State) (rows : List Row) → old.now.schema ≡ our_schema → Shown all_vector_text [] old new rows → IsPermutation (map (columns_from 1 4) (old.now.trees 4)) rows
+sees_all_vector old new rows = sees vector_form vector_facts all_vector_text vector_columns vector_names old new rows all_vector_is
+
+pub sees_all_log : (old new : State) (rows : List Row) → old.now.schema ≡ our_schema → Shown all_log_text [] old new rows → IsPermutation (map (columns_from 1 8) (old.now.trees 6)) rows
+sees_all_log old new rows = sees log_form log_facts all_log_text log_columns log_names old new rows all_log_is
+
+pub sees_all_undo : (old new : State) (rows : List Row) → old.now.schema ≡ our_schema → Shown all_undo_text [] old new rows → IsPermutation (map (columns_from 1 3) (old.now.trees 8)) rows
+sees_all_undo old new rows = sees undo_form undo_facts all_undo_text undo_columns undo_names old new rows all_undo_is
+
+pub sees_all_booking : (old new : State) (rows : List Row) → old.now.schema ≡ our_schema → Shown all_booking_text [] old new rows → IsPermutation (map (columns_from 1 8) (old.now.trees 10)) rows
+sees_all_booking old new rows = sees booking_form booking_facts all_booking_text booking_columns booking_names old new rows all_booking_is
+
+pub sees_all_error : (old new : State) (rows : List Row) → old.now.schema ≡ our_schema → Shown all_error_text [] old new rows → IsPermutation (map (columns_from 1 9) (old.now.trees 12)) rows
+sees_all_error old new rows = sees error_form error_facts all_error_text error_columns error_names old new rows all_error_is

@@ -52,7 +52,7 @@ keeps_commit old new sql params (Err e) (inl (h, inl same)) = record { was_open 
 keeps_commit old new sql params (Err e) (inl (h, inr back)) = record { was_open = back.was_open; committed = λ now. (back.undone now).1 }
 keeps_commit old new sql params (Err e) (inr (ends, is, same)) = record { was_open = λ _. same.0.was_open; committed = λ _. same.0.committed_is }
 
-keeps_any : {S : Type 0} (g : store.Ghosts S) (old new : Held S) (sql : List ℕ) (params : Row) (r : Result ℕ Error)
+pub keeps_any : {S : Type 0} (g : store.Ghosts S) (old new : Held S) (sql : List ℕ) (params : Row) (r : Result ℕ Error)
     → (IsTrue old.in_transaction → ExecutesInside 0 sql params (state g old) (state g new) r) → (old.in_transaction ≡ false → new ≡ old) → KeepsCommit (state g old) (state g new)
 keeps_any g old new sql params r inside after = elim (cases_Bool old.in_transaction) [
   | inl within ↦ keeps_commit (state g old) (state g new) sql params r (inside within)
@@ -92,7 +92,7 @@ takes_error id old new r ours ran = on_ok_so r (error_step old new _ ours) (take
 -- ---- rows put
 
 -- all rows of `meta` have one key, so a row that is put is the first
-first_put : (x : MetaRow) (rows : List MetaRow) → first_meta (put nat_lt (λ _. 1) x rows) ≡ x
+pub first_put : (x : MetaRow) (rows : List MetaRow) → first_meta (put nat_lt (λ _. 1) x rows) ≡ x
 first_put x [] = refl
 first_put x (y ∷ rows) = refl
 

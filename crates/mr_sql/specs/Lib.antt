@@ -7,3 +7,5 @@ pub mod Kept
 pub mod Parts
 pub mod Reads
 pub mod Blank
+pub mod Same
+pub mod Found

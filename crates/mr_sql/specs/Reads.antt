@@ -12,15 +12,29 @@ use Rattle.mr_model.specs.Tables.{MetaRow, BookingRow, ErrorRow, Tables}
 use Rattle.sqlite_trees.specs.Tree.{Trees}
 use Rattle.mr_store.specs.declared.keeper.PlaceRow.{PlaceRow}
 use Rattle.mr_store.specs.declared.keeper.PlaceRow.TheVariants.{Booked, Logged}
+use Rattle.mr_sql.specs.Schema.{our_schema}
 use Rattle.mr_sql.specs.Form.{meta_form}
 use Rattle.mr_sql.specs.Kept.{IsKept, in_order}
 
--- Where the database is kept, it stays what it is, and an answer tells this of it.
+-- our tables are there, and nothing is uncommitted
+pub record IsPlaced (s : State) : Type 0 where
+  pub schema : s.now.schema ≡ our_schema
+  pub settled : s.now ≡ s.committed
+
+-- Where this is known of the database, it stays what it is, and an answer tells that of it.
+abbrev pub ReadsWhere : {X : Type 0} → (State → Type 0) → State → State → Result X Error → (X → Type 0) → Type 0
+ReadsWhere Known old new result P =
+    Survives old new (λ _. ¬ Known old)
+    × (HasCleanDisk new → IsTrue new.is_open → IsTrue old.is_open × (Known old → (new.now ≡ old.now) × (new.committed ≡ old.committed)))
+    × (HasCleanDisk new → Known old → OnOk result (IsTrue new.is_open) × IfOk result P)
+
+-- what is read of a keeper's database
 abbrev pub Reads : {X : Type 0} → State → State → Result X Error → (X → Type 0) → Type 0
-Reads old new result P =
-    Survives old new (λ _. ¬ IsKept old)
-    × (HasCleanDisk new → IsTrue new.is_open → IsTrue old.is_open × (IsKept old → (new.now ≡ old.now) × (new.committed ≡ old.committed)))
-    × (HasCleanDisk new → IsKept old → OnOk result (IsTrue new.is_open) × IfOk result P)
+Reads old new result P = ReadsWhere IsKept old new result P
+
+-- what is read of a database whose rows may be any
+abbrev pub Looks : {X : Type 0} → State → State → Result X Error → (X → Type 0) → Type 0
+Looks old new result P = ReadsWhere IsPlaced old new result P
 
 abbrev pub first_of : {X : Type 0} → List X → Option X
 first_of [] = None

@@ -1,8 +1,9 @@
-ghost use Rattle.std.specs.Prelude.{◌≡◌, ◌≤◌, ◌==◌, IfOk, string_bytes};
+ghost use Rattle.std.specs.Prelude.{◌≡◌, ◌≤◌, ◌==◌, pos, IfOk, string_bytes};
+ghost use Rattle.sqlite_value.specs.declared.value.Value.TheVariants.{Int, Text};
 ghost use Rattle.sqlite_value.specs.Order.{column, bytes};
-ghost use Rattle.mr_model.specs.Calendar.{date_in};
+ghost use Rattle.mr_model.specs.Calendar.{date_in, date_text};
 ghost use Rattle.mr_replay.specs.Places.{place_of};
-ghost use Rattle.mr_sql.specs.Cells.{nat_of, whole_of, place_in};
+ghost use Rattle.mr_sql.specs.Cells.{mark, nat_of, whole_of, place_in, place_number};
 
 use mr_base::{Day, Refusal, RoomName, ServerId, Title};
 use mr_replay::Place;
@@ -20,7 +21,8 @@ fn broken(refusal: Refusal, at: usize) -> Error {
 
 /// The name of a room in this column.
 pub(crate) fn read_name(alloc: Global, row: &Row, at: usize) -> Result<RoomName, Error>
-    ensures { IfOk result (λ name. name ≡ bytes (column row.now at)) }
+    ensures name { IfOk result (λ name. name ≡ bytes (column row.now at)) }
+    ensures cell { IfOk result (λ name. column row.now at ≡ Text name) }
 {
     let text: String = row.get(at)?;
     match RoomName::new(alloc, &text) {
@@ -31,7 +33,8 @@ pub(crate) fn read_name(alloc: Global, row: &Row, at: usize) -> Result<RoomName,
 
 /// The title in this column.
 pub(crate) fn read_title(alloc: Global, row: &Row, at: usize) -> Result<Title, Error>
-    ensures { IfOk result (λ title. title ≡ bytes (column row.now at)) }
+    ensures title { IfOk result (λ title. title ≡ bytes (column row.now at)) }
+    ensures cell { IfOk result (λ title. column row.now at ≡ Text title) }
 {
     let text: String = row.get(at)?;
     match Title::new(alloc, &text) {
@@ -42,7 +45,8 @@ pub(crate) fn read_title(alloc: Global, row: &Row, at: usize) -> Result<Title, E
 
 /// The day in this column.
 pub(crate) fn read_day(row: &Row, at: usize) -> Result<Day, Error>
-    ensures { IfOk result (λ day. day ≡ date_in (bytes (column row.now at))) }
+    ensures day { IfOk result (λ day. day ≡ date_in (bytes (column row.now at))) }
+    ensures cell { IfOk result (λ day. column row.now at ≡ Text (date_text day)) }
 {
     let text: String = row.get(at)?;
     match Day::read(&text) {
@@ -53,7 +57,8 @@ pub(crate) fn read_day(row: &Row, at: usize) -> Result<Day, Error>
 
 /// The server in this column.
 pub(crate) fn read_server(row: &Row, at: usize) -> Result<ServerId, Error>
-    ensures { IfOk result (λ server. server ≡ nat_of (column row.now at)) }
+    ensures server { IfOk result (λ server. server ≡ nat_of (column row.now at)) }
+    ensures cell { IfOk result (λ server. column row.now at ≡ Int (pos server)) }
 {
     let number: u32 = row.get(at)?;
     match ServerId::new(number) {
@@ -64,7 +69,8 @@ pub(crate) fn read_server(row: &Row, at: usize) -> Result<ServerId, Error>
 
 /// The small number in this column.
 pub(crate) fn read_u32(row: &Row, at: usize) -> Result<u32, Error>
-    ensures { IfOk result (λ number. number ≡ nat_of (column row.now at)) }
+    ensures number { IfOk result (λ number. number ≡ nat_of (column row.now at)) }
+    ensures cell { IfOk result (λ number. column row.now at ≡ Int (pos number)) }
 {
     row.get(at)
 }
@@ -72,6 +78,7 @@ pub(crate) fn read_u32(row: &Row, at: usize) -> Result<u32, Error>
 /// The minute of a day in this column, or the day's end.
 pub(crate) fn read_minute(row: &Row, at: usize) -> Result<u32, Error>
     ensures minute { IfOk result (λ minute. minute ≡ nat_of (column row.now at)) }
+    ensures cell { IfOk result (λ minute. column row.now at ≡ Int (pos minute)) }
     ensures within { IfOk result (λ minute. minute ≤ 1440) }
 {
     let minute = read_u32(row, at)?;
@@ -84,6 +91,7 @@ pub(crate) fn read_minute(row: &Row, at: usize) -> Result<u32, Error>
 /// The count of a write in this column.
 pub(crate) fn read_count(row: &Row, at: usize) -> Result<u32, Error>
     ensures count { IfOk result (λ count. count ≡ nat_of (column row.now at)) }
+    ensures cell { IfOk result (λ count. column row.now at ≡ Int (pos count)) }
     ensures within { IfOk result (λ count. (1 ≤ count) × (count ≤ 999_999_999)) }
 {
     let count = read_u32(row, at)?;
@@ -95,20 +103,22 @@ pub(crate) fn read_count(row: &Row, at: usize) -> Result<u32, Error>
 
 /// The number in this column.
 pub(crate) fn read_u64(row: &Row, at: usize) -> Result<u64, Error>
-    ensures { IfOk result (λ number. number ≡ nat_of (column row.now at)) }
+    ensures number { IfOk result (λ number. number ≡ nat_of (column row.now at)) }
+    ensures cell { IfOk result (λ number. column row.now at ≡ Int (pos number)) }
 {
     row.get(at)
 }
 
 /// The place in this column: the number of its choice, or -1.
 pub(crate) fn read_place(row: &Row, at: usize) -> Result<Place, Error>
-    ensures { IfOk result (λ place. place_of place ≡ place_in (whole_of (column row.now at))) }
+    ensures place { IfOk result (λ place. place_of place ≡ place_in (whole_of (column row.now at))) }
+    ensures cell { IfOk result (λ place. column row.now at ≡ Int (place_number (place_of place))) }
 {
     let number: i64 = row.get(at)?;
-    if number < 0 {
+    if number == -1 {
         return Ok(Place::Logged);
     }
-    if number > u32::MAX as i64 {
+    if number < 0 || number > u32::MAX as i64 {
         return Err(Error::IntegralValueOutOfRange(at));
     }
     Ok(Place::Taken(number as u32))
@@ -116,14 +126,16 @@ pub(crate) fn read_place(row: &Row, at: usize) -> Result<Place, Error>
 
 /// The text in this column.
 pub(crate) fn read_text(row: &Row, at: usize) -> Result<String, Error>
-    ensures { IfOk result (λ text. string_bytes text ≡ bytes (column row.now at)) }
+    ensures text { IfOk result (λ text. string_bytes text ≡ bytes (column row.now at)) }
+    ensures cell { IfOk result (λ text. column row.now at ≡ Text (string_bytes text)) }
 {
     row.get(at)
 }
 
 /// The mark in this column, which is 0 or 1.
 pub(crate) fn read_mark(row: &Row, at: usize) -> Result<bool, Error>
-    ensures { IfOk result (λ mark. mark ≡ (nat_of (column row.now at) == 1)) }
+    ensures mark { IfOk result (λ m. m ≡ (nat_of (column row.now at) == 1)) }
+    ensures cell { IfOk result (λ m. column row.now at ≡ Int (mark m)) }
 {
     let number = read_u32(row, at)?;
     if number > 1 {

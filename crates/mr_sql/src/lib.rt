@@ -5,18 +5,26 @@
 //! in specs/Schema.antt, and their rows as cells in specs/Cells.antt. A change is one transaction.
 #![tactic(auto)]
 
+mod adopt;
 mod answers;
 mod cells;
 mod changes;
 mod create;
+mod faults;
+mod files;
+mod found;
 mod load;
 mod numbers;
 mod order;
 mod puts;
 mod queries;
 mod rows;
+mod schemas;
 mod sql_keeper;
 mod takes;
+#[cfg(test)]
+mod tests;
 mod whole;
 
-pub use sql_keeper::{SqlKeeper, memory_is_honest};
+pub use files::FileKeeper;
+pub use sql_keeper::{GivenBack, SqlKeeper, memory_is_honest};

@@ -12,7 +12,8 @@ ghost use Rattle.mr_store.specs.Picked.{picked_bookings, picked_errors};
 ghost use Rattle.mr_sql.specs.Schema.{our_schema};
 ghost use Rattle.mr_sql.specs.Cells.{meta_in, room_in, vector_in, log_in, undo_in, booking_in, error_in};
 ghost use Rattle.mr_sql.specs.Kept.{tables_in};
-ghost use Rattle.mr_sql.specs.Reads.{Reads, metas_in};
+ghost use Rattle.mr_sql.specs.Found.{columns_from};
+ghost use Rattle.mr_sql.specs.Reads.{Reads, Looks, metas_in};
 
 use mr_base::RoomName;
 use sqlite::types::ValueRef;
@@ -28,6 +29,7 @@ fn ask<S: Alter>(
     requires plain { IsPlain (understood our_schema sql.now) }
     ensures autocommit { conn.new.in_transaction ≡ false }
     ensures reads { Reads (state S.Store conn.old) (state S.Store conn.new) result (λ rows. Shown sql.now (bound params.now) (state S.Store conn.old) (state S.Store conn.new) rows.items) }
+    ensures looks { Looks (state S.Store conn.old) (state S.Store conn.new) result (λ rows. Shown sql.now (bound params.now) (state S.Store conn.old) (state S.Store conn.new) rows.items) }
 {
     conn.query_all(sql, params)
 }
@@ -37,6 +39,7 @@ pub(crate) fn select_all_meta<S: Alter>(conn: &mut Connection<S>) -> Result<Vec<
     requires autocommit { conn.old.in_transaction ≡ false }
     ensures autocommit { conn.new.in_transaction ≡ false }
     ensures reads { Reads (state S.Store conn.old) (state S.Store conn.new) result (λ rows. IsPermutation (metas_in (state S.Store conn.old).now.trees) (map (λ row. meta_in (Null ∷ row)) rows.items)) }
+    ensures looks { Looks (state S.Store conn.old) (state S.Store conn.new) result (λ rows. IsPermutation (map (columns_from 1 7) ((state S.Store conn.old).now.trees 0)) rows.items) }
 {
     ask(
         conn,
@@ -50,6 +53,7 @@ pub(crate) fn select_all_room<S: Alter>(conn: &mut Connection<S>) -> Result<Vec<
     requires autocommit { conn.old.in_transaction ≡ false }
     ensures autocommit { conn.new.in_transaction ≡ false }
     ensures reads { Reads (state S.Store conn.old) (state S.Store conn.new) result (λ rows. IsPermutation ((tables_in (state S.Store conn.old).now.trees).room) (map (λ row. room_in (Null ∷ row)) rows.items)) }
+    ensures looks { Looks (state S.Store conn.old) (state S.Store conn.new) result (λ rows. IsPermutation (map (columns_from 1 1) ((state S.Store conn.old).now.trees 2)) rows.items) }
 {
     ask(conn, "SELECT name FROM room", &[])
 }
@@ -59,6 +63,7 @@ pub(crate) fn select_all_vector<S: Alter>(conn: &mut Connection<S>) -> Result<Ve
     requires autocommit { conn.old.in_transaction ≡ false }
     ensures autocommit { conn.new.in_transaction ≡ false }
     ensures reads { Reads (state S.Store conn.old) (state S.Store conn.new) result (λ rows. IsPermutation ((tables_in (state S.Store conn.old).now.trees).vector) (map (λ row. vector_in (Null ∷ row)) rows.items)) }
+    ensures looks { Looks (state S.Store conn.old) (state S.Store conn.new) result (λ rows. IsPermutation (map (columns_from 1 4) ((state S.Store conn.old).now.trees 4)) rows.items) }
 {
     ask(conn, "SELECT server, n, tm, committed FROM vector", &[])
 }
@@ -68,6 +73,7 @@ pub(crate) fn select_all_log<S: Alter>(conn: &mut Connection<S>) -> Result<Vec<R
     requires autocommit { conn.old.in_transaction ≡ false }
     ensures autocommit { conn.new.in_transaction ≡ false }
     ensures reads { Reads (state S.Store conn.old) (state S.Store conn.new) result (λ rows. IsPermutation ((tables_in (state S.Store conn.old).now.trees).write_log) (map (λ row. log_in (Null ∷ row)) rows.items)) }
+    ensures looks { Looks (state S.Store conn.old) (state S.Store conn.new) result (λ rows. IsPermutation (map (columns_from 1 8) ((state S.Store conn.old).now.trees 6)) rows.items) }
 {
     ask(
         conn,
@@ -81,6 +87,7 @@ pub(crate) fn select_all_undo<S: Alter>(conn: &mut Connection<S>) -> Result<Vec<
     requires autocommit { conn.old.in_transaction ≡ false }
     ensures autocommit { conn.new.in_transaction ≡ false }
     ensures reads { Reads (state S.Store conn.old) (state S.Store conn.new) result (λ rows. IsPermutation ((tables_in (state S.Store conn.old).now.trees).undo) (map (λ row. undo_in (Null ∷ row)) rows.items)) }
+    ensures looks { Looks (state S.Store conn.old) (state S.Store conn.new) result (λ rows. IsPermutation (map (columns_from 1 3) ((state S.Store conn.old).now.trees 8)) rows.items) }
 {
     ask(conn, "SELECT server, n, place FROM undo", &[])
 }
@@ -90,6 +97,7 @@ pub(crate) fn select_all_booking<S: Alter>(conn: &mut Connection<S>) -> Result<V
     requires autocommit { conn.old.in_transaction ≡ false }
     ensures autocommit { conn.new.in_transaction ≡ false }
     ensures reads { Reads (state S.Store conn.old) (state S.Store conn.new) result (λ rows. IsPermutation ((tables_in (state S.Store conn.old).now.trees).booking) (map (λ row. booking_in (Null ∷ row)) rows.items)) }
+    ensures looks { Looks (state S.Store conn.old) (state S.Store conn.new) result (λ rows. IsPermutation (map (columns_from 1 8) ((state S.Store conn.old).now.trees 10)) rows.items) }
 {
     ask(
         conn,
@@ -103,6 +111,7 @@ pub(crate) fn select_all_error<S: Alter>(conn: &mut Connection<S>) -> Result<Vec
     requires autocommit { conn.old.in_transaction ≡ false }
     ensures autocommit { conn.new.in_transaction ≡ false }
     ensures reads { Reads (state S.Store conn.old) (state S.Store conn.new) result (λ rows. IsPermutation ((tables_in (state S.Store conn.old).now.trees).errorlog) (map (λ row. error_in (Null ∷ row)) rows.items)) }
+    ensures looks { Looks (state S.Store conn.old) (state S.Store conn.new) result (λ rows. IsPermutation (map (columns_from 1 9) ((state S.Store conn.old).now.trees 12)) rows.items) }
 {
     ask(
         conn,

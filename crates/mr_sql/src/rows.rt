@@ -1,6 +1,7 @@
 ghost use Rattle.std.specs.Prelude.{◌≡◌, ◌∷◌, map, IfOk};
 ghost use Rattle.sqlite_value.specs.declared.value.Value.TheVariants.{Null};
-ghost use Rattle.mr_sql.specs.Cells.{meta_in, room_in, vector_in, log_in, undo_in, booking_in, error_in};
+ghost use Rattle.mr_sql.specs.Cells.{meta_in, meta_cells, room_in, room_cells, vector_in, vector_cells, log_in, log_cells, undo_in, undo_cells, booking_in, booking_cells, error_in, error_cells};
+ghost use Rattle.mr_sql.specs.Found.{columns_from};
 
 use crate::cells::{
     read_count, read_day, read_mark, read_minute, read_name, read_place, read_server, read_text,
@@ -14,8 +15,14 @@ use std::alloc::Global;
 // The columns are counted from 0, in the order of the table.
 
 pub(crate) fn read_meta(row: &Row) -> Result<MetaRow, Error>
-    ensures { IfOk result (λ r. r ≡ meta_in (Null ∷ row.now)) }
+    ensures row { IfOk result (λ r. r ≡ meta_in (Null ∷ row.now)) }
+    ensures cells { IfOk result (λ r. meta_cells r ≡ columns_from 0 7 row.now) }
 {
+    let one = read_u32(row, 0)?;
+    let schema = read_u32(row, 1)?;
+    if one != 1 || schema != 1 {
+        return Err(Error::IntegralValueOutOfRange(0));
+    }
     let server = read_server(row, 2)?;
     let primary = read_server(row, 3)?;
     let commits = read_u64(row, 4)?;
@@ -30,14 +37,16 @@ pub(crate) fn read_meta(row: &Row) -> Result<MetaRow, Error>
     })
 }
 
-fn read_room(alloc: Global, row: &Row) -> Result<RoomName, Error>
-    ensures { IfOk result (λ r. r ≡ room_in (Null ∷ row.now)) }
+pub(crate) fn read_room(alloc: Global, row: &Row) -> Result<RoomName, Error>
+    ensures row { IfOk result (λ r. r ≡ room_in (Null ∷ row.now)) }
+    ensures cells { IfOk result (λ r. room_cells r ≡ columns_from 0 1 row.now) }
 {
     read_name(alloc, row, 0)
 }
 
-fn read_vector(row: &Row) -> Result<VectorRow, Error>
-    ensures { IfOk result (λ r. r ≡ vector_in (Null ∷ row.now)) }
+pub(crate) fn read_vector(row: &Row) -> Result<VectorRow, Error>
+    ensures row { IfOk result (λ r. r ≡ vector_in (Null ∷ row.now)) }
+    ensures cells { IfOk result (λ r. vector_cells r ≡ columns_from 0 4 row.now) }
 {
     let server = read_server(row, 0)?;
     let count = read_u32(row, 1)?;
@@ -51,8 +60,9 @@ fn read_vector(row: &Row) -> Result<VectorRow, Error>
     })
 }
 
-fn read_log(alloc: Global, row: &Row) -> Result<LogRow, Error>
-    ensures { IfOk result (λ r. r ≡ log_in (Null ∷ row.now)) }
+pub(crate) fn read_log(alloc: Global, row: &Row) -> Result<LogRow, Error>
+    ensures row { IfOk result (λ r. r ≡ log_in (Null ∷ row.now)) }
+    ensures cells { IfOk result (λ r. log_cells r ≡ columns_from 0 8 row.now) }
 {
     let server = read_server(row, 0)?;
     let n = read_u32(row, 1)?;
@@ -74,8 +84,9 @@ fn read_log(alloc: Global, row: &Row) -> Result<LogRow, Error>
     })
 }
 
-fn read_undo(row: &Row) -> Result<WriteUndoRow, Error>
-    ensures { IfOk result (λ r. r ≡ undo_in (Null ∷ row.now)) }
+pub(crate) fn read_undo(row: &Row) -> Result<WriteUndoRow, Error>
+    ensures row { IfOk result (λ r. r ≡ undo_in (Null ∷ row.now)) }
+    ensures cells { IfOk result (λ r. undo_cells r ≡ columns_from 0 3 row.now) }
 {
     let server = read_server(row, 0)?;
     let n = read_u32(row, 1)?;
@@ -84,7 +95,8 @@ fn read_undo(row: &Row) -> Result<WriteUndoRow, Error>
 }
 
 pub(crate) fn read_booking(alloc: Global, row: &Row) -> Result<BookingRow, Error>
-    ensures { IfOk result (λ r. r ≡ booking_in (Null ∷ row.now)) }
+    ensures row { IfOk result (λ r. r ≡ booking_in (Null ∷ row.now)) }
+    ensures cells { IfOk result (λ r. booking_cells r ≡ columns_from 0 8 row.now) }
 {
     let room = read_name(alloc, row, 0)?;
     let day = read_day(row, 1)?;
@@ -107,7 +119,8 @@ pub(crate) fn read_booking(alloc: Global, row: &Row) -> Result<BookingRow, Error
 }
 
 pub(crate) fn read_error(alloc: Global, row: &Row) -> Result<ErrorRow, Error>
-    ensures { IfOk result (λ r. r ≡ error_in (Null ∷ row.now)) }
+    ensures row { IfOk result (λ r. r ≡ error_in (Null ∷ row.now)) }
+    ensures cells { IfOk result (λ r. error_cells r ≡ columns_from 0 9 row.now) }
 {
     let room = read_name(alloc, row, 0)?;
     let day = read_day(row, 1)?;

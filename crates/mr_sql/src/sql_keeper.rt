@@ -5,9 +5,14 @@ ghost use Rattle.sqlite.specs.Held.{state};
 ghost use Rattle.mr_model.specs.Replica.{opening};
 ghost use Rattle.mr_model.specs.Tables.{Stands};
 ghost use Rattle.mr_store.specs.Kept.{failures_for};
+ghost use Rattle.sqlite_catalog.specs.Listing.{IsSound};
+ghost use Rattle.mr_sql.specs.Schema.{our_schema};
 ghost use Rattle.mr_sql.specs.Kept.{tables_in};
+ghost use Rattle.mr_sql.specs.Found.{IsAdopted, LeavesTables};
 
+use crate::adopt::{recover, retaken, settle};
 use crate::create::create;
+use crate::faults::refusal_of;
 use crate::{answers, changes, load};
 use mr_base::{Day, Refusal, RoomName, ServerId, WriteId};
 use mr_replica::{BookingRow, Change, Desk, ErrorRow, MetaRow};
@@ -124,15 +129,6 @@ fn open_connection(alloc: Global) -> Result<Connection<MemStore>, Refusal>
     }
 }
 
-fn refusal_of(error: Error) -> Refusal
-    ensures { (result ≡ Refusal.OutOfMemory) ⊎ (result ≡ Refusal.Store) }
-{
-    match error {
-        Error::SqliteFailure(ErrorCode::OutOfMemory) => Refusal::OutOfMemory,
-        _ => Refusal::Store,
-    }
-}
-
 impl SqlKeeper<MemStore> {
     /// The tables of a replica that knows nothing yet, in memory.
     pub fn open_in_memory(
@@ -141,6 +137,7 @@ impl SqlKeeper<MemStore> {
         primary: ServerId,
     ) -> Result<SqlKeeper<MemStore>, Refusal>
         ensures stands { IfOk result (λ k. Stands (tables_in (state over_memory k.0).now.trees) (opening server primary)) }
+        ensures settled { IfOk result (λ k. LeavesTables (state over_memory k.0)) }
         ensures uncounted { IfOk result (λ k. k.1 ≡ 0) }
         ensures cause { IfErr result (λ e. (e ≡ Refusal.OutOfMemory) ⊎ (e ≡ Refusal.Store)) }
     {
@@ -161,6 +158,83 @@ impl SqlKeeper<MemStore> {
                 alloc,
             }),
             Err(error) => Err(refusal_of(error)),
+        }
+    }
+}
+
+/// What a refused adoption gives back: the connection, or the store alone where that couldn't be read as a database.
+#[derive(Drop)]
+pub enum GivenBack<S: Alter> {
+    Connection(Connection<S>),
+    Store(S),
+}
+
+impl<S: Alter + Drop> SqlKeeper<S> {
+    /// Makes the database of a connection the keeper's. Where it has no table, it gets those of a replica that knows nothing
+    /// yet; where it is the database of this server and primary, it stays as it is. Any other is refused with 26, and one
+    /// whose rows break their rules with 25. What the connection hasn't committed is rolled back.
+    pub fn adopt(
+        alloc: Global,
+        conn: Connection<S>,
+        server: ServerId,
+        primary: ServerId,
+    ) -> Result<SqlKeeper<S>, (Refusal, GivenBack<S>)>
+        ensures adopted { IfOk result (λ k. HasCleanDisk (state S.Store k.0) → IsTrue (state S.Store k.0).is_open → IsAdopted server primary (state S.Store conn).committed.trees (state S.Store k.0).now.trees) }
+        ensures settled { IfOk result (λ k. HasCleanDisk (state S.Store k.0) → IsTrue (state S.Store k.0).is_open → LeavesTables (state S.Store k.0)) }
+        ensures uncounted { IfOk result (λ k. k.1 ≡ 0) }
+        ensures cause { IfErr result (λ e. (e.0 ≡ Refusal.OutOfMemory) ⊎ ((e.0 ≡ Refusal.Store) ⊎ (e.0 ≡ Refusal.NotAReplica))) }
+    {
+        let mut conn = match retaken(alloc, conn) {
+            Ok(conn) => conn,
+            Err((error, store)) => return Err((refusal_of(error), GivenBack::Store(store))),
+        };
+        match settle(&mut conn, alloc, server, primary) {
+            Ok(()) => Ok(SqlKeeper {
+                conn,
+                failures: 0,
+                alloc,
+            }),
+            Err(refusal) => Err((refusal, GivenBack::Connection(conn))),
+        }
+    }
+
+    /// As `adopt`, and what is refused is dropped.
+    pub(crate) fn take_over(
+        alloc: Global,
+        conn: Connection<S>,
+        server: ServerId,
+        primary: ServerId,
+    ) -> Result<SqlKeeper<S>, Refusal>
+        ensures adopted { IfOk result (λ k. HasCleanDisk (state S.Store k.0) → IsTrue (state S.Store k.0).is_open → IsAdopted server primary (state S.Store conn).committed.trees (state S.Store k.0).now.trees) }
+        ensures settled { IfOk result (λ k. HasCleanDisk (state S.Store k.0) → IsTrue (state S.Store k.0).is_open → LeavesTables (state S.Store k.0)) }
+        ensures uncounted { IfOk result (λ k. k.1 ≡ 0) }
+        ensures cause { IfErr result (λ e. (e ≡ Refusal.OutOfMemory) ⊎ ((e ≡ Refusal.Store) ⊎ (e ≡ Refusal.NotAReplica))) }
+    {
+        match SqlKeeper::adopt(alloc, conn, server, primary) {
+            Ok(keeper) => Ok(keeper),
+            Err((refusal, _)) => Err(refusal),
+        }
+    }
+
+    /// Makes a keeper of a connection to the database of a replica, whichever it is. Any other database is refused with 26,
+    /// and one whose rows break their rules with 25.
+    pub(crate) fn resume(alloc: Global, conn: Connection<S>) -> Result<SqlKeeper<S>, Refusal>
+        ensures resumed { IfOk result (λ k. HasCleanDisk (state S.Store k.0) → IsTrue (state S.Store k.0).is_open → IsSound our_schema (state S.Store conn).committed.trees × ((state S.Store k.0).now.trees ≡ (state S.Store conn).committed.trees)) }
+        ensures settled { IfOk result (λ k. HasCleanDisk (state S.Store k.0) → IsTrue (state S.Store k.0).is_open → LeavesTables (state S.Store k.0)) }
+        ensures uncounted { IfOk result (λ k. k.1 ≡ 0) }
+        ensures cause { IfErr result (λ e. (e ≡ Refusal.OutOfMemory) ⊎ ((e ≡ Refusal.Store) ⊎ (e ≡ Refusal.NotAReplica))) }
+    {
+        let mut conn = match retaken(alloc, conn) {
+            Ok(conn) => conn,
+            Err((error, _)) => return Err(refusal_of(error)),
+        };
+        match recover(&mut conn, alloc) {
+            Ok(()) => Ok(SqlKeeper {
+                conn,
+                failures: 0,
+                alloc,
+            }),
+            Err(refusal) => Err(refusal),
         }
     }
 }

@@ -1,8 +1,8 @@
-use Rattle.std.proofs.Common.{◌≡◌, ℕ, List, sym, ap, subst, ◌∙◌, ◌++◌, map, take, take_all, length, flat_map, add-one, arith, le_refl}
+use Rattle.std.proofs.Common.{ℕ, List, sym, subst, ◌∙◌, map, take, flat_map, add-one, arith}
 use Rattle.std.proofs.KnownBytes.{Appends-nil, Appends-trans}
 use Rattle.std.specs.Io.KnownBytes.{Appends}
 use Rattle.mr_service.specs.Stepping.{step_reply_of}
-use Rattle.mr.specs.Rehearsed.{step_reply_text, no_memory_line}
+use Rattle.mr.specs.Rehearsed.{step_reply_text}
 use Rattle.mr.proofs.RunLaws.{prints_more, prints_all}
 use Rattle.mr.proofs.run.print_all.Goals as goal
 

@@ -1,8 +1,8 @@
-use Rattle.std.proofs.Common.{inl, inr, arith}
+use Rattle.std.proofs.Common.{inl, inr}
 use Rattle.mr.proofs.RunLaws.{some_input}
 use Rattle.mr.proofs.run.rehearse.Goals as goal
 
 pub returns-in-Err-clause-stopped : goal.returns-in-Err-clause-stopped
 returns-in-Err-clause-stopped g c = λ refused.
     let input = some_input (g.R.Read.remaining c.args.reader) in
-    (input.0, input.1, inr (inl (c.say.ensures.told (λ fault. omega (arith, refused, fault)))))
+    (input.0, input.1, inr (inl (c.say_fault.ensures.memory refused).1))

@@ -1,4 +1,4 @@
-use Rattle.std.proofs.Common.{◌≡◌, ℕ, List, sym, ap, subst, map, take, flat_map, ◌++◌, refl, inr}
+use Rattle.std.proofs.Common.{List, subst, map, take, flat_map, ◌++◌, refl, inr}
 use Rattle.std.specs.Io.KnownBytes.{Appends}
 use Rattle.mr_model.specs.World.{empty_world}
 use Rattle.mr_service.specs.declared.steps.StepReply.{StepReply}

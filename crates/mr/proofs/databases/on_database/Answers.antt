@@ -1,0 +1,8 @@
+use Rattle.mr.specs.Tasks.{IsTextFor}
+use Rattle.mr.proofs.EndLaws.{refusal_ends}
+use Rattle.mr.proofs.databases.on_database.Goals as goal
+
+pub returns-in-Err : goal.returns-in-Err
+returns-in-Err g c =
+    refusal_ends (IsTextFor c.args.task) _ (g.W.Write.contents c.args.out.now) (g.W.Write.contents c.say_refusal.new.out) c.say_refusal.result
+    c.say_refusal.ensures.status c.say_refusal.ensures.told

@@ -1,0 +1,78 @@
+//! Command lines.
+
+ghost use Rattle.std.specs.Prelude.{◌≡◌, ◌≤◌, ◌⊎◌, true, map, Some, None};
+ghost use Rattle.std.specs.String.{string_bytes};
+ghost use Rattle.std.specs.Io.KnownBytes.{Appends};
+ghost use Rattle.mr_words.specs.Rows.{Asked, has_no_flag, invocation_of};
+ghost use Rattle.mr_words.specs.Reading.{asked_of};
+ghost use Rattle.mr.specs.Rehearsed.{bad_words_line, no_memory_line};
+ghost use Rattle.mr.specs.Tasks.{EndsAs, EndsRehearsal};
+
+use crate::databases::{Export, Task, init, on_database};
+use crate::files::open_file;
+use crate::printing::{BAD_WORDS, NO_MEMORY, REFUSED, say, say_fault};
+use crate::run::rehearse;
+use mr_words::{Invocation, WordFault, invocation};
+use std::alloc::Global;
+use std::io::Write;
+
+/// Does what the words after the program's name ask for, prints to the writer and answers the status: 0 where it was
+/// done, 1 where it was refused, 2 where the words are no command line, 3 where a file can't be had or the writer
+/// does not take a line.
+pub fn command<W: Write>(rt: &HostRuntime, alloc: Global, words: &[String], out: &mut W) -> u8
+    ensures within { result ≤ 3 }
+    ensures asked { has_no_flag (map string_bytes words.now) ≡ true → (asked : Asked) → invocation_of (map string_bytes words.now) ≡ Some asked
+        → EndsAs asked (W.contents out.old) (W.contents out.new) result }
+    ensures bad { has_no_flag (map string_bytes words.now) ≡ true → invocation_of (map string_bytes words.now) ≡ None
+        → ((result ≡ 2) × Appends (W.contents out.old) (W.contents out.new) bad_words_line)
+        ⊎ (((result ≡ 1) × Appends (W.contents out.old) (W.contents out.new) no_memory_line) ⊎ (result ≡ 3)) }
+{
+    match invocation(alloc, words) {
+        Ok(asked) => perform(rt, alloc, asked, out),
+        Err(WordFault::Bad) => say(out, "bad command line\n", BAD_WORDS),
+        Err(WordFault::Memory) => say(out, NO_MEMORY, REFUSED),
+    }
+}
+
+/// Does what was asked for.
+fn perform<W: Write>(rt: &HostRuntime, alloc: Global, asked: Invocation, out: &mut W) -> u8
+    ensures { EndsAs (asked_of asked) (W.contents out.old) (W.contents out.new) result }
+{
+    match asked {
+        Invocation::Init {
+            database,
+            server,
+            primary,
+        } => init(rt, alloc, database.as_str(), server, primary, out),
+        Invocation::Ask { database, local } => {
+            on_database(rt, alloc, database.as_str(), Task::Ask(local), out)
+        }
+        Invocation::Export {
+            database,
+            position,
+            out: batch,
+            lines,
+        } => {
+            let task = Task::Export(Export {
+                position,
+                batch,
+                max_lines: lines,
+            });
+            on_database(rt, alloc, database.as_str(), task, out)
+        }
+        Invocation::Import { database, batch } => {
+            on_database(rt, alloc, database.as_str(), Task::Import { batch }, out)
+        }
+        Invocation::Rehearse { script } => rehearse_file(rt, alloc, script.as_str(), out),
+    }
+}
+
+/// Runs the script in a file.
+fn rehearse_file<W: Write>(rt: &HostRuntime, alloc: Global, script: &str, out: &mut W) -> u8
+    ensures { EndsRehearsal (W.contents out.old) (W.contents out.new) result }
+{
+    match open_file(rt, script) {
+        Ok(file) => rehearse(alloc, file, out),
+        Err(fault) => say_fault(out, fault),
+    }
+}

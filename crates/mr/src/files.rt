@@ -1,0 +1,74 @@
+//! Files of scripts, positions and batches.
+
+ghost use Rattle.std.specs.Prelude.{◌≤◌, IfOk, length};
+ghost use Rattle.mr.specs.Rehearsed.{IsInput};
+ghost use Rattle.mr.specs.Told.{greatest_file};
+
+use std::alloc::Global;
+use std::fs::File;
+use std::io::{self, ErrorKind, Read, Write};
+
+/// The greatest length of a file that is read or written, in bytes.
+pub(crate) const GREATEST_FILE: u64 = 16_777_216;
+
+/// Why a file is not read or written.
+#[derive(Clone, Copy, Debug, PartialEq, Eq)]
+pub(crate) enum FileFault {
+    /// It can't be opened, read or written, or is greater than a file may be.
+    File,
+    Memory,
+}
+
+/// The file at this path, to be read.
+pub(crate) fn open_file(rt: &HostRuntime, path: &str) -> Result<File, FileFault> {
+    match File::open(rt, path) {
+        Ok(file) => Ok(file),
+        Err(_) => Err(FileFault::File),
+    }
+}
+
+/// The file at this path, made anew or emptied, to be written.
+pub(crate) fn create_file(rt: &HostRuntime, path: &str) -> Result<File, FileFault> {
+    match File::create(rt, path) {
+        Ok(file) => Ok(file),
+        Err(_) => Err(FileFault::File),
+    }
+}
+
+/// The bytes of the file at this path.
+pub(crate) fn read_file(rt: &HostRuntime, alloc: Global, path: &str) -> Result<Vec<u8>, FileFault>
+    ensures { IfOk result (λ bytes. length bytes.items ≤ greatest_file) }
+{
+    let file = open_file(rt, path)?;
+    read_limited(alloc, file)
+}
+
+/// All that the reader gives, unless it fails or gives more than a file may have.
+pub(crate) fn read_limited<R: Read>(alloc: Global, reader: R) -> Result<Vec<u8>, FileFault>
+where
+    R: Drop,
+    ensures all { IfOk result (λ bytes. IsInput (R.remaining reader) bytes.items) }
+    ensures limited { IfOk result (λ bytes. length bytes.items ≤ greatest_file) }
+{
+    let mut bytes = Vec::new(alloc);
+    let mut limited = reader.take(GREATEST_FILE + 1);
+    match limited.read_to_end(&mut bytes) {
+        Ok(_) => {
+            if bytes.len() as u64 > GREATEST_FILE {
+                Err(FileFault::File)
+            } else {
+                Ok(bytes)
+            }
+        }
+        Err(error) => Err(fault_of(&error)),
+    }
+}
+
+/// Want of memory, or else that the file can't be had.
+fn fault_of(error: &io::Error) -> FileFault {
+    if error.kind() == ErrorKind::OutOfMemory {
+        FileFault::Memory
+    } else {
+        FileFault::File
+    }
+}

@@ -1,0 +1,102 @@
+-- What is known of a database that was taken over: the rowids of its tables are integers and rise, and its rows, once read, are a keeper's.
+use Rattle.std.proofs.Common.{◌≡◌, inl, inr, ℕ, pos, ◌+◌, List, [], ◌∷◌, true, Some, Ok, Err, Result, IfOk, refl, sym, ap, subst, subst₂, ◌∙◌, arith}
+use Rattle.std.specs.List.{AllZip}
+use Rattle.std.specs.Ordering.{is_eq}
+use Rattle.std.proofs.lemmas.Cmp.{tied_itself}
+use Rattle.sqlite_value.specs.declared.value.Value.TheVariants.{Int}
+use Rattle.sqlite_value.specs.Order.{column, value_cmp}
+use Rattle.sqlite_value.proofs.OrderLemmas.{value_cmp_total}
+use Rattle.sqlite_trees.specs.declared.store.Shape.{Shape}
+use Rattle.sqlite_trees.specs.declared.store.Shape.TheVariants as shape
+use Rattle.sqlite_trees.specs.Tree.{Trees, has_rowid}
+use Rattle.sqlite_trees.specs.View.{View, IsShaped, IsOrdered}
+use Rattle.sqlite_trees.specs.Objects.{catalog_tree, number_in, row_for, shape_code, IsListed}
+use Rattle.sqlite_schema.specs.declared.schema.Table.{Table}
+use Rattle.sqlite_schema.specs.declared.schema.Schema.{Schema}
+use Rattle.sqlite_rules.specs.Lists.{Has}
+use Rattle.sqlite_rules.proofs.ListLemmas.{has_filtered}
+use Rattle.sqlite_rules.proofs.PlaceLemmas.{row_at_is}
+use Rattle.sqlite_catalog.specs.Listing.{IsSound, IsTableRow}
+use Rattle.sqlite.specs.Effect.{Database}
+use Rattle.sqlite.specs.State.{State}
+use Rattle.mr_model.specs.Replica.{opening}
+use Rattle.mr_model.specs.Tables.{MetaRow, Stands}
+use Rattle.mr_sql.specs.Schema.{no_schema, our_schema}
+use Rattle.mr_sql.specs.Kept.{IsOurs, IsKept, tables_in}
+use Rattle.mr_sql.specs.Found.{HasShelves, LeavesTables, IsTaken, IsFound, IsAdopted, AreOurRows, IsMeta}
+use Rattle.mr_sql.proofs.FoundLemmas.{all_held, meta_is_found}
+use Rattle.mr_sql.specs.Shelf.{IsShelf}
+
+zip_row : {A B : Type 0} (R : A → B → Type 0) (xs : List A) (ys : List B) (y : B) → AllZip R xs ys → Has ys y → (x : A) × Has xs x × R x y
+zip_row R [] [] y all h = absurd h
+zip_row R [] (z ∷ ys) y all h = absurd all
+zip_row R (x ∷ xs) [] y all h = absurd all
+zip_row R (x ∷ xs) (z ∷ ys) y all (inl is) = (x, inl refl, subst (R x) (sym is) all.0)
+zip_row R (x ∷ xs) (z ∷ ys) y all (inr h) = let it = zip_row R xs ys y all.1 h in (it.0, inr it.1, it.2)
+
+is_table : (s : Shape) → shape_code s ≡ 1 → s ≡ shape.Table
+is_table shape.Absent h = absurd (omega arith)
+is_table shape.Table h = refl
+is_table (shape.Index o) h = absurd (omega arith)
+is_table shape.Pageless h = absurd (omega arith)
+is_table shape.FrozenTable h = absurd (omega arith)
+is_table (shape.FrozenIndex o) h = absurd (omega arith)
+
+pub rises : (v : View) (schema : Schema) (table : Table) → IsOrdered v.shape v.trees → IsListed (v.trees catalog_tree) v.shape v.reals → IsSound schema v.trees → Has schema.tables table
+    → IsShelf (v.trees table.tree)
+rises v schema table ordered listed sound here =
+    let objects = v.trees catalog_tree in
+    let found = zip_row IsTableRow _ _ table sound.lists.listed.tables here in
+    let row = found.0 in
+    let among = (has_filtered _ objects row found.1).0 in
+    let it = found.2.described in
+    let tree = table.tree in
+    let up = (subst (λ s. IsShaped s objects) listed.itself.0 (ordered catalog_tree)).0 in
+    let keyed : has_rowid (pos (tree + 1)) row ≡ true = subst (λ k. is_eq (value_cmp k (Int (pos (tree + 1)))) ≡ true) (sym it.id) (ap is_eq (tied_itself value_cmp_total (Int (pos (tree + 1))))) in
+    let same : row_for objects tree ≡ row = row_at_is objects (pos (tree + 1)) row up among keyed in
+    let low = it.low in
+    let code : shape_code (v.shape tree) ≡ 1 = listed.shapes tree (λ e. absurd (omega arith)) (λ e. absurd (omega arith)) ∙ ap (λ r. number_in (column r 5)) same ∙ it.shape_is in
+    let shaped = subst (λ s. IsShaped s (v.trees tree)) (is_table _ code) (ordered tree) in
+    record { rise = shaped.0; keyed = shaped.1 }
+
+pub has_shelves : (v : View) (db : Database) → IsOrdered v.shape v.trees → IsListed (v.trees catalog_tree) v.shape v.reals → db.trees ≡ v.trees → IsSound db.schema db.trees → HasShelves db
+has_shelves v db ordered listed same sound table here =
+    subst (λ (trees : Trees). IsShelf (trees table.tree)) (sym same) (rises v db.schema table ordered listed (subst (IsSound db.schema) same sound) here)
+
+-- ---- what is told by an answer
+
+pub told_of : {X E : Type 0} (r : Result X E) (P Q : X → Type 0) → ((x : X) → P x → Q x) → IfOk r P → IfOk r Q
+told_of (Ok x) P Q way h = way x h
+told_of (Err e) P Q way h = tt
+
+pub told_of_two : {X E : Type 0} (r : Result X E) (P Q R : X → Type 0) → ((x : X) → P x → Q x → R x) → IfOk r P → IfOk r Q → IfOk r R
+told_of_two (Ok x) P Q R way h k = way x h k
+told_of_two (Err e) P Q R way h k = tt
+
+-- ---- from a database that was taken over to a keeper's
+
+pub settles : (trees : Trees) (old new : State) → IsTaken trees old → old.now.schema ≡ our_schema → (new.now ≡ old.now) × (new.committed ≡ old.committed) → AreOurRows old.now.trees → IsKept new
+settles trees old new taken ours same rows =
+    let held = all_held old.now ours taken.sound taken.shelves rows in
+    let kept : IsOurs old.now = record { schema = ours; held = held } in
+    record { ours = subst IsOurs (sym same.0) kept; settled = same.0 ∙ taken.settled ∙ sym same.1 }
+
+pub finds : (trees : Trees) (m : MetaRow) (old new : State) → IsTaken trees old → old.now.schema ≡ our_schema → (new.now ≡ old.now) × (new.committed ≡ old.committed) → AreOurRows old.now.trees → IsMeta old.now.trees (Some m)
+    → IsFound trees m new
+finds trees m old new taken ours same rows meta = record {
+  kept = settles trees old new taken ours same rows;
+  sound = subst₂ (λ schema db. IsSound schema db) ours taken.trees_are taken.sound;
+  trees_are = ap (λ (db : Database). db.trees) same.0 ∙ taken.trees_are;
+  meta = ap (λ (db : Database). (tables_in db.trees).meta) same.0 ∙ meta_is_found old.now.trees m meta;
+}
+
+pub resumes : (server primary : ℕ) (trees : Trees) (m : MetaRow) (s : State) → IsFound trees m s → m.server ≡ server → m.primary ≡ primary → IsKept s × IsAdopted server primary trees s.now.trees
+resumes server primary trees m s found a b =
+    (found.kept, inr (found.sound, found.trees_are, ap (λ (m : MetaRow). m.server) found.meta ∙ a, ap (λ (m : MetaRow). m.primary) found.meta ∙ b))
+
+pub begins : (server primary : ℕ) (trees : Trees) (old new : State) → IsTaken trees old → old.now.schema ≡ no_schema → IsKept new → Stands (tables_in new.now.trees) (opening server primary) → IsKept new × IsAdopted server primary trees new.now.trees
+begins server primary trees old new taken none kept stands = (kept, inl (subst₂ (λ schema db. IsSound schema db) none taken.trees_are taken.sound, stands))
+
+-- what a crash may leave of a keeper's database is its tables alone
+pub alone : (s : State) → IsKept s → ((db : Trees) → s.may_leave db → db ≡ s.committed.trees) → LeavesTables s
+alone s kept law t left = left.2 ∙ ap tables_in (law left.0 left.1 ∙ ap (λ (db : Database). db.trees) (sym kept.settled))

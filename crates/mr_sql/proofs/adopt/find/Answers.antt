@@ -1,0 +1,13 @@
+use Rattle.sqlite.specs.Held.{state}
+use Rattle.mr_sql.specs.Reads.{IsPlaced}
+use Rattle.mr_sql.proofs.TakenLemmas.{finds}
+use Rattle.mr_sql.proofs.adopt.find.Goals as goal
+
+pub returns-in-Ok-Some-clause-found : goal.returns-in-Ok-Some-clause-found
+returns-in-Ok-Some-clause-found g c trees clean taken now =
+    let old = state g.S.Store c.args.conn.now in
+    let new = state g.S.Store c.find_all.new.conn in
+    let placed : IsPlaced old = record { schema = c.requires.ours; settled = taken.settled } in
+    let looks = rw c.in-Ok-Some.field-0-is at c.in-Ok-Some.ensures.looks in
+    let told = (looks.2 clean placed).1 in
+    finds trees _ old new taken c.requires.ours ((looks.1 clean now).1 placed) told.0 told.1

@@ -1,0 +1,139 @@
+ghost use Rattle.std.specs.Prelude.{◌≡◌, ◌⊎◌, false, IfOk, IfErr, OnOk, IsTrue};
+ghost use Rattle.sqlite_trees.specs.Tree.{Trees};
+ghost use Rattle.sqlite_catalog.specs.Listing.{IsSound};
+ghost use Rattle.sqlite.specs.State.{HasCleanDisk};
+ghost use Rattle.sqlite.specs.Held.{state};
+ghost use Rattle.mr_sql.specs.Schema.{no_schema, our_schema};
+ghost use Rattle.mr_sql.specs.Kept.{IsKept};
+ghost use Rattle.mr_sql.specs.Found.{IsTaken, IsFound, IsAdopted};
+
+use crate::create::create;
+use crate::faults::refusal_of;
+use crate::found::find_all;
+use crate::schemas::{is_blank, is_ours};
+use mr_base::{Refusal, ServerId};
+use mr_replica::MetaRow;
+use sqlite::{Alter, Connection, Error, ErrorCode};
+use std::alloc::Global;
+
+/// The database of a connection, opened anew: what was not committed is gone, and each table's order is known.
+pub(crate) fn retaken<S: Alter + Drop>(
+    alloc: Global,
+    conn: Connection<S>,
+) -> Result<Connection<S>, (Error, S)>
+    ensures taken { IfOk result (λ c. HasCleanDisk (state S.Store c) → IsTaken (state S.Store conn).committed.trees (state S.Store c)) }
+    ensures autocommit { IfOk result (λ c. c.in_transaction ≡ false) }
+{
+    let store = conn.into_store();
+    if store.is_broken() {
+        return Err((Error::SqliteFailure(ErrorCode::Closed), store));
+    }
+    Connection::over(alloc, store)
+}
+
+// Makes the tables of a replica that knows nothing yet.
+fn begin<S: Alter>(
+    conn: &mut Connection<S>,
+    server: ServerId,
+    primary: ServerId,
+) -> Result<(), Refusal>
+    requires autocommit { conn.old.in_transaction ≡ false }
+    requires blank { (state S.Store conn.old).now.schema ≡ no_schema }
+    ensures autocommit { conn.new.in_transaction ≡ false }
+    ensures clean { HasCleanDisk (state S.Store conn.new) → HasCleanDisk (state S.Store conn.old) }
+    ensures begun { (trees : Trees) → HasCleanDisk (state S.Store conn.new) → IsTaken trees (state S.Store conn.old) → OnOk result (IsTrue (state S.Store conn.new).is_open → IsKept (state S.Store conn.new) × IsAdopted server primary trees (state S.Store conn.new).now.trees) }
+    ensures cause { IfErr result (λ e. (e ≡ Refusal.OutOfMemory) ⊎ (e ≡ Refusal.Store)) }
+{
+    server.number();
+    primary.number();
+    let row = MetaRow {
+        server,
+        primary,
+        commits: 0,
+        dropped: 0,
+        clock: 0,
+    };
+    match create(conn, &row) {
+        Ok(()) => Ok(()),
+        Err(error) => Err(refusal_of(error)),
+    }
+}
+
+/// Finds the row of `meta` in the database of a replica. It is refused where there is none.
+pub(crate) fn find<S: Alter>(conn: &mut Connection<S>, alloc: Global) -> Result<MetaRow, Refusal>
+    requires autocommit { conn.old.in_transaction ≡ false }
+    requires ours { (state S.Store conn.old).now.schema ≡ our_schema }
+    ensures autocommit { conn.new.in_transaction ≡ false }
+    ensures clean { HasCleanDisk (state S.Store conn.new) → HasCleanDisk (state S.Store conn.old) }
+    ensures found { (trees : Trees) → HasCleanDisk (state S.Store conn.new) → IsTaken trees (state S.Store conn.old) → IfOk result (λ m. IsTrue (state S.Store conn.new).is_open → IsFound trees m (state S.Store conn.new)) }
+    ensures cause { IfErr result (λ e. (e ≡ Refusal.OutOfMemory) ⊎ ((e ≡ Refusal.Store) ⊎ (e ≡ Refusal.NotAReplica))) }
+{
+    match find_all(conn, alloc) {
+        Ok(Some(meta)) => Ok(meta),
+        Ok(None) => Err(Refusal::NotAReplica),
+        Err(error) => Err(refusal_of(error)),
+    }
+}
+
+// Finds the tables of this server and primary.
+fn resume<S: Alter>(
+    conn: &mut Connection<S>,
+    alloc: Global,
+    server: ServerId,
+    primary: ServerId,
+) -> Result<(), Refusal>
+    requires autocommit { conn.old.in_transaction ≡ false }
+    requires ours { (state S.Store conn.old).now.schema ≡ our_schema }
+    ensures autocommit { conn.new.in_transaction ≡ false }
+    ensures clean { HasCleanDisk (state S.Store conn.new) → HasCleanDisk (state S.Store conn.old) }
+    ensures resumed { (trees : Trees) → HasCleanDisk (state S.Store conn.new) → IsTaken trees (state S.Store conn.old) → OnOk result (IsTrue (state S.Store conn.new).is_open → IsKept (state S.Store conn.new) × IsAdopted server primary trees (state S.Store conn.new).now.trees) }
+    ensures cause { IfErr result (λ e. (e ≡ Refusal.OutOfMemory) ⊎ ((e ≡ Refusal.Store) ⊎ (e ≡ Refusal.NotAReplica))) }
+{
+    let meta = find(conn, alloc)?;
+    if meta.server == server && meta.primary == primary {
+        Ok(())
+    } else {
+        Err(Refusal::NotAReplica)
+    }
+}
+
+/// Makes the tables of this server and primary where there are none, or finds them.
+pub(crate) fn settle<S: Alter>(
+    conn: &mut Connection<S>,
+    alloc: Global,
+    server: ServerId,
+    primary: ServerId,
+) -> Result<(), Refusal>
+    requires autocommit { conn.old.in_transaction ≡ false }
+    ensures autocommit { conn.new.in_transaction ≡ false }
+    ensures clean { HasCleanDisk (state S.Store conn.new) → HasCleanDisk (state S.Store conn.old) }
+    ensures settled { (trees : Trees) → HasCleanDisk (state S.Store conn.new) → IsTaken trees (state S.Store conn.old) → OnOk result (IsTrue (state S.Store conn.new).is_open → IsKept (state S.Store conn.new) × IsAdopted server primary trees (state S.Store conn.new).now.trees) }
+    ensures cause { IfErr result (λ e. (e ≡ Refusal.OutOfMemory) ⊎ ((e ≡ Refusal.Store) ⊎ (e ≡ Refusal.NotAReplica))) }
+{
+    if is_blank(conn) {
+        return begin(conn, server, primary);
+    }
+    match is_ours(alloc, conn) {
+        Ok(true) => resume(conn, alloc, server, primary),
+        Ok(false) => Err(Refusal::NotAReplica),
+        Err(error) => Err(refusal_of(error)),
+    }
+}
+
+/// Finds the tables of a replica, whichever it is.
+pub(crate) fn recover<S: Alter>(conn: &mut Connection<S>, alloc: Global) -> Result<(), Refusal>
+    requires autocommit { conn.old.in_transaction ≡ false }
+    ensures autocommit { conn.new.in_transaction ≡ false }
+    ensures clean { HasCleanDisk (state S.Store conn.new) → HasCleanDisk (state S.Store conn.old) }
+    ensures recovered { (trees : Trees) → HasCleanDisk (state S.Store conn.new) → IsTaken trees (state S.Store conn.old) → OnOk result (IsTrue (state S.Store conn.new).is_open → IsKept (state S.Store conn.new) × IsSound our_schema trees × ((state S.Store conn.new).now.trees ≡ trees)) }
+    ensures cause { IfErr result (λ e. (e ≡ Refusal.OutOfMemory) ⊎ ((e ≡ Refusal.Store) ⊎ (e ≡ Refusal.NotAReplica))) }
+{
+    match is_ours(alloc, conn) {
+        Ok(true) => {
+            find(conn, alloc)?;
+            Ok(())
+        }
+        Ok(false) => Err(Refusal::NotAReplica),
+        Err(error) => Err(refusal_of(error)),
+    }
+}

@@ -1,0 +1,4 @@
+pub mod FlaglessWords
+pub mod AddressParts
+pub mod CommandLines
+pub mod LinesReadBack

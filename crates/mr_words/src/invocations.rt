@@ -1,0 +1,65 @@
+use mr_base::{LineCount, ServerId};
+use mr_service::Local;
+use std::alloc::{AllocError, AllocFailed};
+
+/// What a command line asks for. Databases and files are named by their paths.
+#[derive(Debug, Drop)]
+pub enum Invocation {
+    /// Makes a database for the replica of a server.
+    Init {
+        database: String,
+        server: ServerId,
+        primary: ServerId,
+    },
+    /// Asks the replica of a database.
+    Ask {
+        database: String,
+        local: Local,
+    },
+    /// Writes a batch for the position in a file into another file, of that many item lines at most.
+    Export {
+        database: String,
+        position: String,
+        out: String,
+        lines: LineCount,
+    },
+    /// Takes the batch in a file.
+    Import {
+        database: String,
+        batch: String,
+    },
+    /// Runs the script in a file.
+    Rehearse {
+        script: String,
+    },
+}
+
+/// Why a command line is not understood.
+#[derive(Clone, Copy, Debug, PartialEq, Eq)]
+pub enum WordFault {
+    /// The words are not of the table.
+    Bad,
+    Memory,
+}
+
+impl From<AllocError> for WordFault {
+    ghost use Rattle.std.specs.Prelude.{◌≡◌};
+    ghost use Rattle.mr_words.specs.declared.invocations.WordFault.TheVariants.{Memory};
+
+    ghost from_gives = { λ _ e. e ≡ Memory };
+
+    fn from(_error: AllocError) -> WordFault {
+        WordFault::Memory
+    }
+}
+
+impl<T: Drop> From<AllocFailed<T>> for WordFault {
+    ghost use Rattle.std.specs.Prelude.{◌≡◌};
+    ghost use Rattle.mr_words.specs.declared.invocations.WordFault.TheVariants.{Memory};
+
+    ghost from_gives = { λ _ e. e ≡ Memory };
+
+    fn from(_error: AllocFailed<T>) -> WordFault {
+        WordFault::Memory
+    }
+}

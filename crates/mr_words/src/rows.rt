@@ -1,0 +1,108 @@
+//! The rows of the table, read from the words behind their names.
+
+ghost use Rattle.std.specs.Prelude.{◌≡◌, IfOk, MatchOption, Some, None, map};
+ghost use Rattle.mr_words.specs.Rows.{init_row, export_row, import_row, rehearse_row, asking};
+ghost use Rattle.mr_words.specs.Reading.{asked_of, row_by, command_by};
+
+use crate::Invocation;
+use crate::commands::command;
+use crate::words::{read_line_count, read_server};
+use std::alloc::{AllocError, Global};
+
+/// What the row of this name asks for with these words, if they fit it.
+pub(crate) fn row(
+    alloc: Global,
+    name: &str,
+    words: &[&str],
+) -> Result<Option<Invocation>, AllocError>
+    ensures { IfOk result (λ found. MatchOption found (row_by name.now (map (λ w. w.now) words.now) ≡ None)
+        (λ i. row_by name.now (map (λ w. w.now) words.now) ≡ Some (asked_of i))) }
+{
+    match name {
+        "init" => init(alloc, words),
+        "export" => export(alloc, words),
+        "import" => import(alloc, words),
+        "rehearse" => rehearse(alloc, words),
+        _ => ask(alloc, name, words),
+    }
+}
+
+fn init(alloc: Global, words: &[&str]) -> Result<Option<Invocation>, AllocError>
+    ensures { IfOk result (λ found. MatchOption found (init_row (map (λ w. w.now) words.now) ≡ None)
+        (λ i. init_row (map (λ w. w.now) words.now) ≡ Some (asked_of i))) }
+{
+    let [database, server, primary] = words else {
+        return Ok(None);
+    };
+    let Some(server) = read_server(server) else {
+        return Ok(None);
+    };
+    let Some(primary) = read_server(primary) else {
+        return Ok(None);
+    };
+    let database = String::from_str(alloc, database)?;
+    Ok(Some(Invocation::Init {
+        database,
+        server,
+        primary,
+    }))
+}
+
+fn export(alloc: Global, words: &[&str]) -> Result<Option<Invocation>, AllocError>
+    ensures { IfOk result (λ found. MatchOption found (export_row (map (λ w. w.now) words.now) ≡ None)
+        (λ i. export_row (map (λ w. w.now) words.now) ≡ Some (asked_of i))) }
+{
+    let [database, position, out, lines] = words else {
+        return Ok(None);
+    };
+    let Some(lines) = read_line_count(lines) else {
+        return Ok(None);
+    };
+    Ok(Some(Invocation::Export {
+        database: String::from_str(alloc, database)?,
+        position: String::from_str(alloc, position)?,
+        out: String::from_str(alloc, out)?,
+        lines,
+    }))
+}
+
+fn import(alloc: Global, words: &[&str]) -> Result<Option<Invocation>, AllocError>
+    ensures { IfOk result (λ found. MatchOption found (import_row (map (λ w. w.now) words.now) ≡ None)
+        (λ i. import_row (map (λ w. w.now) words.now) ≡ Some (asked_of i))) }
+{
+    let [database, batch] = words else {
+        return Ok(None);
+    };
+    Ok(Some(Invocation::Import {
+        database: String::from_str(alloc, database)?,
+        batch: String::from_str(alloc, batch)?,
+    }))
+}
+
+fn rehearse(alloc: Global, words: &[&str]) -> Result<Option<Invocation>, AllocError>
+    ensures { IfOk result (λ found. MatchOption found (rehearse_row (map (λ w. w.now) words.now) ≡ None)
+        (λ i. rehearse_row (map (λ w. w.now) words.now) ≡ Some (asked_of i))) }
+{
+    let [script] = words else {
+        return Ok(None);
+    };
+    let script = String::from_str(alloc, script)?;
+    Ok(Some(Invocation::Rehearse { script }))
+}
+
+/// A database, and a command to its replica.
+fn ask(alloc: Global, name: &str, words: &[&str]) -> Result<Option<Invocation>, AllocError>
+    ensures { IfOk result (λ found. MatchOption found (asking (command_by name.now) (map (λ w. w.now) words.now) ≡ None)
+        (λ i. asking (command_by name.now) (map (λ w. w.now) words.now) ≡ Some (asked_of i))) }
+{
+    let [database, rest @ ..] = words else {
+        return Ok(None);
+    };
+    match command(alloc, name, rest)? {
+        Some(local) => {
+            let database = String::from_str(alloc, database)?;
+            Ok(Some(Invocation::Ask { database, local }))
+        }
+        None => Ok(None),
+    }
+}

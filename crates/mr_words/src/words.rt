@@ -1,0 +1,65 @@
+//! Single words of a command line.
+
+ghost use Rattle.std.specs.Prelude.{◌≡◌, IfOk, MatchOption, Some, None, map};
+ghost use Rattle.mr_service.specs.Asked.{part_of, words_of};
+ghost use Rattle.mr_words.specs.Rows.{server_in, count_in, line_count_in, part_in, slot_in};
+
+use mr_base::{LineCount, ServerId, read_number};
+use mr_service::{Part, SlotWords};
+use std::alloc::{AllocError, Global};
+
+/// The server with the number that the word writes.
+pub(crate) fn read_server(word: &str) -> Option<ServerId>
+    ensures { result ≡ server_in word.now }
+{
+    let number = read_number(word, 1, 99)?;
+    ServerId::new(number as u32)
+}
+
+/// The number of commits that the word writes.
+pub(crate) fn read_count(word: &str) -> Option<u64>
+    ensures { result ≡ count_in word.now }
+{
+    read_number(word, 0, 999_999_999_999)
+}
+
+/// The number of lines that the word writes.
+pub(crate) fn read_line_count(word: &str) -> Option<LineCount>
+    ensures { result ≡ line_count_in word.now }
+{
+    let number = read_number(word, 1, 100_000)?;
+    LineCount::new(number as u32)
+}
+
+/// The part of a calendar that the word names.
+pub(crate) fn read_part(word: &str) -> Option<Part>
+    ensures { MatchOption result (part_in word.now ≡ None) (λ part. part_in word.now ≡ Some (part_of part)) }
+{
+    match word {
+        "full" => Some(Part::Full),
+        "committed" => Some(Part::Committed),
+        _ => None,
+    }
+}
+
+/// The day before the first `T` of the word, and the time behind it. Without a `T` the time is empty.
+fn slot(alloc: Global, word: &str) -> Result<SlotWords, AllocError>
+    ensures { IfOk result (λ slot. words_of slot ≡ slot_in word.now) }
+{
+    let (day, time) = word.split_once('T').unwrap_or((word, ""));
+    Ok(SlotWords {
+        day: String::from_str(alloc, day)?,
+        time: String::from_str(alloc, time)?,
+    })
+}
+
+/// The slot of each word.
+pub(crate) fn slots(alloc: Global, words: &[&str]) -> Result<Vec<SlotWords>, AllocError>
+    ensures { IfOk result (λ slots. map words_of slots.items ≡ map slot_in (map (λ w. w.now) words.now)) }
+{
+    let mut slots = Vec::new(alloc);
+    for word in words {
+        slots.push(slot(alloc, word)?)?;
+    }
+    Ok(slots)
+}
