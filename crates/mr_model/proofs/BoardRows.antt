@@ -1,8 +1,8 @@
 -- Slots that overlap, days with their weekdays, and writes executed on a board, computed by the definitions.
 use Rattle.std.specs.Prelude.{◌≡◌, ℕ, true, false, [], ◌∷◌, map, codes, Option, Some, None, refl}
 use Rattle.std.specs.Fmt.{digits}
-use Rattle.mr_model.specs.Texts.{Text}
-use Rattle.mr_model.specs.Calendar.{Date, read_date, weekday_name}
+use Rattle.mr_model.specs.Texts.{Text, numbers_on}
+use Rattle.mr_model.specs.Calendar.{Date, days_in_february, days_in_month, read_date, weekday_name}
 use Rattle.mr_model.specs.Slots.{Slot, overlaps}
 use Rattle.mr_model.specs.Writes.{Write}
 use Rattle.mr_model.specs.Replay.{Taken, Logged}
@@ -52,6 +52,13 @@ no_days :
     ≡ map codes ("none" ∷ "none" ∷ "none" ∷ "none" ∷ "none" ∷ "none" ∷ "none" ∷ "none" ∷ "none" ∷ [])
 unfolding digits
 no_days = refl
+
+-- how long the months are, and the February of some years
+months : map (days_in_month 1999) (numbers_on 1 12) ≡ 31 ∷ 28 ∷ 31 ∷ 30 ∷ 31 ∷ 30 ∷ 31 ∷ 31 ∷ 30 ∷ 31 ∷ 30 ∷ 31 ∷ []
+months = refl
+
+februaries : map days_in_february (1996 ∷ 1998 ∷ 2000 ∷ 2096 ∷ 2099 ∷ []) ≡ 29 ∷ 28 ∷ 29 ∷ 29 ∷ 28 ∷ []
+februaries = refl
 
 -- ---- a board
 

@@ -1,10 +1,12 @@
 -- Which refusal is told where several apply: the one of the smallest number. Computed by the definitions.
-use Rattle.std.specs.Prelude.{ℕ, zero, suc, List, [], ◌∷◌, codes, refl}
+use Rattle.std.specs.Prelude.{◌≡◌, ℕ, zero, suc, ◌⊎◌, List, [], ◌∷◌, codes, refl}
+use Rattle.std.proofs.Common.{inl, inr}
 use Prim.Native.String.{String}
 use Rattle.std.specs.Fmt.{digits}
 use Rattle.mr_model.specs.View.{AskSheet, AskCalendar, AskOutcome, AskErrors}
-use Rattle.mr_model.specs.Replies.{Full}
-use Rattle.mr_model.specs.Step.{AddRoom, Submit, SlotWords}
+use Rattle.mr_model.specs.Refusals.{OutOfMemory, Store}
+use Rattle.mr_model.specs.Replies.{Reply, Full, Refused}
+use Rattle.mr_model.specs.Step.{AddRoom, Submit, SlotWords, IsOfMachine, no_memory, no_store}
 use Rattle.mr_model.proofs.Script.{Do, Ask, Order, Answers}
 
 abbrev slots : ℕ → List SlotWords
@@ -71,3 +73,8 @@ faults_of_a_question :
     ("refused 1 BadDay" ∷ "refused 4 BadRoomName" ∷ "refused 4 BadRoomName" ∷ "refused 4 BadRoomName" ∷ "refused 4 BadRoomName" ∷ "refused 7 UnknownRoom" ∷ "refused 7 UnknownRoom" ∷ "refused 4 BadRoomName" ∷ "ok" ∷ "ok" ∷ "2-1 T 1995-12-18 09:00-10:00" ∷ "refused 9 NoSuchRequest" ∷ "refused 9 NoSuchRequest" ∷ "refused 9 NoSuchRequest" ∷ "2-1 T 1995-12-18 09:00-10:00" ∷ "oak full" ∷ "(no bookings)" ∷ "oak errors" ∷ "(no errors)" ∷ [])
 unfolding digits
 faults_of_a_question = refl
+
+-- two refusals, and no other reply, may come in place of any
+machine_refusals : (reply : Reply) → IsOfMachine reply → (reply ≡ Refused OutOfMemory) ⊎ (reply ≡ Refused Store)
+machine_refusals reply no_memory = inl refl
+machine_refusals reply no_store = inr refl

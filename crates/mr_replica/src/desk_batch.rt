@@ -1,3 +1,4 @@
+ghost use Rattle.std.specs.Prelude.{◌≡◌, ◌≢◌, ◌<◌, Err};
 ghost use Rattle.mr_model.specs.Replies.{BatchIs};
 ghost use Rattle.mr_model.specs.Step.{leave, batch_reply};
 ghost use Rattle.mr_replica.specs.Desk.{TakesStep, NeverStore, IsWithinLimits};
@@ -11,6 +12,9 @@ impl Desk {
     /// the tentative writes that it lacks, so many lines at most. It is refused where one of the commits is dropped.
     pub fn batch(&self, position: &Position, max_lines: LineCount) -> Result<Batch, Refusal>
         ensures step { TakesStep (λ a. leave a (batch_reply a position.now max_lines)) (λ _ batch. BatchIs batch) self.now result self.now }
+        // A refusal that is due is told without memory.
+        ensures due_primary { position.now.primary ≢ self.now.primary → result ≡ Err Refusal.WrongPrimary }
+        ensures due_truncated { position.now.primary ≡ self.now.primary → position.now.commits < self.now.dropped → result ≡ Err Refusal.Truncated }
         ensures own { IsWithinLimits self.now → NeverStore result }
     {
         if position.primary != self.summary.primary {

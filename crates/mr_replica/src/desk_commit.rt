@@ -1,4 +1,4 @@
-ghost use Rattle.std.specs.Prelude.{◌≡◌, ◌+◌, ◌<◌, ◌^◌, [], take, drop, length, map, OnErr, IfOk, IfErr};
+ghost use Rattle.std.specs.Prelude.{◌≡◌, ◌≢◌, ◌+◌, ◌<◌, ◌^◌, [], take, drop, length, map, Err, OnErr, IfOk, IfErr};
 ghost use Rattle.mr_model.specs.Writes.{id_of};
 ghost use Rattle.mr_model.specs.Replies.{CommittedIs};
 ghost use Rattle.mr_model.specs.Step.{commit};
@@ -21,6 +21,8 @@ impl Desk {
         ensures step { TakesStep (λ a. commit a k) (λ _ done. CommittedIs done.0) self.old result self.new }
         ensures change { TurnsTables (λ done. done.1) self.old result self.new }
         ensures err { OnErr result (self.new ≡ self.old) }
+        // A refusal that is due is told without memory.
+        ensures due { self.old.server ≢ self.old.primary → result ≡ Err Refusal.NotPrimary }
         ensures own { NeverStore result }
     {
         if self.summary.server != self.summary.primary {

@@ -1,6 +1,6 @@
-ghost use Rattle.std.specs.Prelude.{◌≡◌, ◌+◌, ◌-◌, ◌≤◌, ◌<◌, ◌^◌, [], IsTrue, Ok, map, drop, length, OnOk, OnErr, IfOk, IfErr};
+ghost use Rattle.std.specs.Prelude.{◌≡◌, ◌≢◌, ◌+◌, ◌-◌, ◌≤◌, ◌<◌, ◌^◌, [], IsTrue, Ok, Err, Some, map, drop, length, OnOk, OnErr, IfOk, IfErr};
 ghost use Rattle.std.specs.List.{list_all};
-ghost use Rattle.mr_model.specs.Exchange.{is_item};
+ghost use Rattle.mr_model.specs.Exchange.{is_item, Header};
 ghost use Rattle.mr_model.specs.Taking.{take_items};
 ghost use Rattle.mr_base.specs.Batches.{item_of};
 ghost use Rattle.mr_model.specs.Replies.{Took};
@@ -25,6 +25,8 @@ impl Desk {
         ensures step { TakesStep (λ a. receive_batch a batch.now) (λ _ taken. Took taken.0 taken.1) self.old result self.new }
         ensures change { TurnsTables (λ taken. taken.2) self.old result self.new }
         ensures err { OnErr result (self.new ≡ self.old) }
+        // A refusal that is due for the header is told without memory.
+        ensures due { (h : Header) → batch.now.header ≡ Some h → h.primary ≢ self.old.primary → result ≡ Err Refusal.WrongPrimary }
         ensures own { NeverStore result }
     {
         batch.is_within_limits();

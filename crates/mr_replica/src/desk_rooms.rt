@@ -1,4 +1,5 @@
-ghost use Rattle.std.specs.Prelude.{◌≡◌, [], ◌∷◌, OnErr, IfOk, IfErr};
+ghost use Rattle.std.specs.Prelude.{◌≡◌, true, [], ◌∷◌, bytes_eq, Err, OnErr, IfOk, IfErr};
+ghost use Rattle.std.specs.List.{list_any};
 ghost use Rattle.mr_model.specs.Replies.{RoomAdded};
 ghost use Rattle.mr_model.specs.Step.{add_room};
 ghost use Rattle.mr_replica.specs.Desk.{TakesStep, NeverStore};
@@ -17,6 +18,8 @@ impl Desk {
         ensures step { TakesStep (λ a. add_room a room.now) (λ _ _. RoomAdded) self.old result self.new }
         ensures change { TurnsTables (λ change. change) self.old result self.new }
         ensures err { OnErr result (self.new ≡ self.old) }
+        // A refusal that is due is told without memory.
+        ensures due { list_any (bytes_eq room.now) self.old.rooms ≡ true → result ≡ Err Refusal.RoomThere }
         ensures own { NeverStore result }
     {
         room.as_str();

@@ -1,8 +1,10 @@
-ghost use Rattle.std.specs.Prelude.{◌≡◌, ◌+◌, ◌<◌, ◌^◌, [], ◌∷◌, length, OnErr, IfOk, IfErr};
+ghost use Rattle.std.specs.Prelude.{◌≡◌, ◌+◌, ◌<◌, ◌≤◌, ◌^◌, true, false, [], ◌∷◌, bytes_eq, length, Err, OnErr, IfOk, IfErr};
+ghost use Rattle.std.specs.List.{list_any};
 ghost use Rattle.mr_model.specs.Replica.{Replica, IsReplica};
 ghost use Rattle.mr_replay.specs.Rows.{undo_row_of};
 ghost use Rattle.mr_replica.specs.Desk.{TakesStep, NeverStore, StandsFor};
 ghost use Rattle.mr_replica.specs.Steps.{submit_request, outcome_in};
+ghost use Rattle.mr_replica.specs.Summary.{tally_at};
 ghost use Rattle.mr_replica.specs.Turning.{TurnsTables, put_outcome};
 ghost use Rattle.mr_replica.specs.Written.{meta_of, changed_tallies, written};
 
@@ -21,6 +23,11 @@ impl Desk {
         ensures told { (a : Replica) → IsReplica a → StandsFor self.old a
             → IfOk result (λ done. outcome_in request (submit_request request a).replica done.0 ≡ put_outcome done.1.booking done.1.errorlog) }
         ensures err { OnErr result (self.new ≡ self.old) }
+        // A refusal that is due is told without memory.
+        ensures due_room { list_any (bytes_eq request.room) self.old.rooms ≡ false → result ≡ Err Refusal.UnknownRoom }
+        ensures due_clock { list_any (bytes_eq request.room) self.old.rooms ≡ true → 999_999_999_999 ≤ self.old.clock → result ≡ Err Refusal.ClockExhausted }
+        ensures due_count { list_any (bytes_eq request.room) self.old.rooms ≡ true → self.old.clock < 999_999_999_999
+            → 999_999_999 ≤ (tally_at self.old.tallies self.old.server).count → result ≡ Err Refusal.CountExhausted }
         ensures own { NeverStore result }
     {
         if !is_known(&self.rooms, &request.room) {

@@ -1,10 +1,10 @@
-ghost use Rattle.std.specs.Prelude.{◌≡◌, ◌⊎◌, IfOk, IfErr, IsTrue};
+ghost use Rattle.std.specs.Prelude.{◌≡◌, ◌⊎◌, nat_lt, IfOk, IfErr, IsTrue};
 ghost use Rattle.std.specs.List.{All};
 ghost use Rattle.mr_model.specs.Replica.{Replica, IsReplica};
 ghost use Rattle.mr_model.specs.Tables.{tables_of};
 ghost use Rattle.mr_replica.specs.Desk.{desk_of, StandsFor, IsWithinLimits};
 ghost use Rattle.mr_replica.specs.SoundLog.{IsOfSoundRows, is_on_board};
-ghost use Rattle.mr_replica.specs.SoundRows.{AreSound};
+ghost use Rattle.mr_replica.specs.SoundRows.{AreSound, Rise};
 ghost use Rattle.mr_replica.specs.Summary.{summary_of as summary_of_replica, IsWithin};
 
 use crate::boards::board_of;
@@ -28,6 +28,7 @@ impl Desk {
         ensures sound { IfOk result (λ desk. AreSound tables.now desk.commits desk.tallies) }
         ensures kept { IfOk result (λ desk. IsOfSoundRows desk.commits desk.dropped desk.log) }
         ensures booked { IfOk result (λ desk. All (λ row. IsTrue (is_on_board desk.log.board row)) tables.now.booking) }
+        ensures rising { IfOk result (λ desk. Rise nat_lt (λ e. e.seq) desk.old_errors) }
         ensures cause { IfErr result (λ e. (e ≡ Refusal.OutOfMemory) ⊎ (e ≡ Refusal.Store)) }
     {
         match desk_told(alloc, tables) {
@@ -56,6 +57,7 @@ fn desk_told(alloc: Global, tables: &Tables) -> Result<Desk, Refusal>
     ensures sound { IfOk result (λ desk. AreSound tables.now desk.commits desk.tallies) }
     ensures kept { IfOk result (λ desk. IsOfSoundRows desk.commits desk.dropped desk.log) }
     ensures booked { IfOk result (λ desk. All (λ row. IsTrue (is_on_board desk.log.board row)) tables.now.booking) }
+    ensures rising { IfOk result (λ desk. Rise nat_lt (λ e. e.seq) desk.old_errors) }
 {
     let summary = summary_of(tables);
     if !summary.is_within() {
@@ -80,6 +82,7 @@ fn desk_with(alloc: Global, tables: &Tables, summary: Summary, log: Log) -> Resu
     ensures within { IfOk result IsWithinLimits }
     ensures numbers { IfOk result (λ desk. (desk.commits ≡ summary.commits) × (desk.dropped ≡ summary.dropped) × (desk.tallies ≡ summary.tallies)) }
     ensures log { IfOk result (λ desk. desk.log ≡ log) }
+    ensures rising { IfOk result (λ desk. Rise nat_lt (λ e. e.seq) desk.old_errors) }
 {
     let rooms = match copies_of(alloc, &tables.room) {
         Ok(rooms) => rooms,

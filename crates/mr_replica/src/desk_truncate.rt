@@ -1,4 +1,4 @@
-ghost use Rattle.std.specs.Prelude.{◌≡◌, OnErr};
+ghost use Rattle.std.specs.Prelude.{◌≡◌, ◌≢◌, ◌<◌, Err, OnErr};
 ghost use Rattle.mr_model.specs.Replies.{DroppedIs};
 ghost use Rattle.mr_model.specs.Step.{truncate};
 ghost use Rattle.mr_replica.specs.Desk.{TakesStep, NeverStore};
@@ -15,6 +15,9 @@ impl Desk {
         ensures step { TakesStep (λ a. truncate a number) (λ _ done. DroppedIs done.0) self.old result self.new }
         ensures change { TurnsTables (λ done. done.1) self.old result self.new }
         ensures err { OnErr result (self.new ≡ self.old) }
+        // A refusal that is due is told without memory.
+        ensures due_primary { self.old.server ≡ self.old.primary → result ≡ Err Refusal.PrimaryKeepsAll }
+        ensures due_beyond { self.old.server ≢ self.old.primary → self.old.commits < number → result ≡ Err Refusal.BeyondCommitted }
         ensures own { NeverStore result }
     {
         if self.summary.server == self.summary.primary {

@@ -60,6 +60,7 @@ pub(crate) fn old_errors_in(
         → IfOk result (λ errors. errors.items ≡ (desk_of a).old_errors) }
     ensures only { (a : Replica) → IsReplica a → rows.now ≡ (tables_of a).errorlog → dropped ≡ a.dropped
         → IfErr result (λ e. e ≡ Refusal.OutOfMemory) }
+    ensures rising { IfOk result (λ errors. Rise nat_lt (λ e. e.seq) errors.items) }
 {
     match dropped_errors(alloc, rows, dropped) {
         Ok(mut errors) => {

@@ -23,8 +23,9 @@ struct Rows {
     /// The choices of server 2's write, and what undoes it.
     choices: &'static str,
     place: Place,
-    /// Whether the undo row of server 3's write is there.
+    /// Whether the undo row of server 3's write is there, and under which server.
     is_paired: bool,
+    undo_of: u32,
 }
 
 const OPENING: Rows = Rows {
@@ -38,6 +39,7 @@ const OPENING: Rows = Rows {
     choices: "",
     place: Place::Logged,
     is_paired: false,
+    undo_of: 3,
 };
 
 /// Server 3's write is committed, server 2's is tentative, and both are kept.
@@ -52,6 +54,7 @@ const KEPT: Rows = Rows {
     choices: "1995-12-18 14:00",
     place: Place::Logged,
     is_paired: true,
+    undo_of: 3,
 };
 
 /// Both are committed, and dropped.
@@ -66,6 +69,7 @@ const DROPPED: Rows = Rows {
     choices: "",
     place: Place::Logged,
     is_paired: false,
+    undo_of: 3,
 };
 
 fn room(alloc: Global) -> Result<RoomName, Refusal> {
@@ -196,7 +200,7 @@ fn put_kept(alloc: Global, tables: &mut Tables, rows: Rows) -> Result<(), Refusa
     put_log(alloc, tables, 3, 2, "1995-12-18 14:30", 1)?;
     put_undo(tables, 2, rows.place)?;
     if rows.is_paired {
-        put_undo(tables, 3, Place::Taken(0))?;
+        put_undo(tables, rows.undo_of, Place::Taken(0))?;
     }
     Ok(())
 }
@@ -293,11 +297,15 @@ fn broken_rows_are_not_believed(rt: HostRuntime) {
         is_paired: false,
         ..KEPT
     };
+    let mispaired = Rows {
+        undo_of: 4,
+        ..KEPT
+    };
     let beyond = Rows {
         commits: 1_000_000_000_000,
         ..OPENING
     };
-    for rows in [cut, unpaired, beyond] {
+    for rows in [cut, unpaired, mispaired, beyond] {
         assert!(rt; is_store(rt.alloc(), rows));
     }
 }
