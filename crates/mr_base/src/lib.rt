@@ -6,8 +6,6 @@
 
 mod alternatives;
 mod batches;
-#[cfg(test)]
-mod calendar_tests;
 mod commits;
 mod days;
 mod digits;
@@ -15,8 +13,6 @@ mod ids;
 mod line_counts;
 mod numbers;
 mod positions;
-#[cfg(test)]
-mod reading_tests;
 mod refusals;
 mod requests;
 mod room_names;
@@ -24,8 +20,6 @@ mod slots;
 mod stamps;
 mod times;
 mod titles;
-#[cfg(test)]
-mod value_tests;
 mod writes;
 
 pub use alternatives::Alternatives;

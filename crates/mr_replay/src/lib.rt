@@ -7,8 +7,6 @@
 
 mod board;
 mod rows;
-#[cfg(test)]
-mod tests;
 
 ghost use Rattle.mr_replay.specs.Laws.{OneBoard, ExecutingHolds, UndoingHolds, AnotherOrderHolds, UndoIsExact, OthersAreNew, UndoRowsAreOfTheList, UndoRowsAreOfTheRoom, PlacesAreOfTheBoard, RoomsReplayApart};
 

@@ -15,8 +15,6 @@ mod replies;
 mod runs;
 mod services;
 mod steps;
-#[cfg(test)]
-mod text_tests;
 mod texts;
 mod words;
 mod world_batches;

@@ -10,8 +10,6 @@ mod order;
 mod queries;
 mod rows;
 mod table_rows;
-#[cfg(test)]
-mod tests;
 mod tripped;
 
 pub use keeper::{Fault, Keeper, PlaceRow};

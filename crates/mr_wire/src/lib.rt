@@ -8,12 +8,8 @@
 mod batches;
 mod fault;
 mod fields;
-#[cfg(test)]
-mod hostile_tests;
 mod lines;
 mod positions;
-#[cfg(test)]
-mod row_tests;
 mod words;
 mod writing;
 

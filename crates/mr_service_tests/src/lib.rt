@@ -1,0 +1,8 @@
+//! Tests of `mr_service`: the text of each kind of reply, byte for byte, and lists of commands with their replies. It stands above
+//! `mr_service`, and nothing stands on it.
+#![tactic(auto)]
+
+#[cfg(test)]
+mod running_tests;
+#[cfg(test)]
+mod text_tests;

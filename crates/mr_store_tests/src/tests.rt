@@ -1,0 +1,309 @@
+// Changes by hand, and what the keepers then answer. The functions that call a keeper have no clause, so that the proof of
+// a test does not carry the state of each call.
+
+use crate::changes::{MONDAY, first_change, id, second_change, server, tables};
+use mr_base::{Day, Refusal, RoomName, WriteId};
+use mr_replica::{BookingRow, Change, ErrorRow};
+use mr_store::{Fault, Keeper, ListKeeper, PlaceRow, Tripped};
+use std::alloc::Global;
+use std::process::Abort;
+use std::test::Fail;
+
+/// What became of a request in a room.
+#[derive(Clone, Copy, PartialEq)]
+enum Place {
+    Booked,
+    Logged,
+    Nowhere,
+}
+
+/// A call of a keeper, with what it is to answer.
+#[derive(Clone, Copy)]
+enum Call {
+    ApplyFirst,
+    ApplySecond,
+    /// The known rooms, which the keepers have in the order of their names.
+    Rooms(&'static [&'static str]),
+    /// A room's bookings, of Monday or of all days, by server and count.
+    Bookings(&'static str, bool, &'static [(u32, u32)]),
+    /// Whether the first bookings of oak are committed.
+    Committed(&'static [bool]),
+    /// The requests in a room's error log.
+    Errors(&'static str, &'static [(u32, u32)]),
+    /// What became of a request of replica 2.
+    PlaceOf(&'static str, u32, Place),
+}
+
+/// The keeper of replica 2, whose primary is 1, before it knows anything.
+fn opening(alloc: Global) -> Result<ListKeeper, Refusal> {
+    Ok(ListKeeper::new(alloc, server(2)?, server(1)?))
+}
+
+/// The refusal that tells of a fault, in its place.
+fn told<T: Drop>(answer: Result<T, Fault>) -> Result<T, Refusal> {
+    match answer {
+        Ok(value) => Ok(value),
+        Err(fault) => Err(fault.refusal()),
+    }
+}
+
+fn apply<K: Keeper>(keeper: &mut K, change: &Change) -> Result<bool, Refusal> {
+    told(keeper.apply(change))?;
+    Ok(true)
+}
+
+fn are_named(rooms: &[RoomName], names: &[&str]) -> bool {
+    for (room, name) in rooms.iter().zip(names) {
+        if room.as_str() != *name {
+            return false;
+        }
+    }
+    rooms.len() == names.len()
+}
+
+fn has_rooms<K: Keeper>(keeper: &mut K, names: &[&str]) -> Result<bool, Refusal> {
+    let rooms = told(keeper.rooms())?;
+    Ok(are_named(rooms.as_slice(), names))
+}
+
+/// Whether the rows are of these requests, in this order.
+fn are_of(rows: &[BookingRow], requests: &[(u32, u32)]) -> bool {
+    for (row, of) in rows.iter().zip(requests) {
+        if row.server.number() != of.0 || row.n != of.1 {
+            return false;
+        }
+    }
+    rows.len() == requests.len()
+}
+
+fn has_bookings<K: Keeper>(
+    keeper: &mut K,
+    room: &RoomName,
+    day: Option<Day>,
+    requests: &[(u32, u32)],
+) -> Result<bool, Refusal> {
+    let rows = told(keeper.bookings(room, day))?;
+    Ok(are_of(rows.as_slice(), requests))
+}
+
+fn are_committed(rows: &[BookingRow], wanted: &[bool]) -> bool {
+    for (row, committed) in rows.iter().zip(wanted) {
+        if row.committed != *committed {
+            return false;
+        }
+    }
+    rows.len() >= wanted.len()
+}
+
+fn has_committed<K: Keeper>(
+    keeper: &mut K,
+    room: &RoomName,
+    wanted: &[bool],
+) -> Result<bool, Refusal> {
+    let rows = told(keeper.bookings(room, None))?;
+    Ok(are_committed(rows.as_slice(), wanted))
+}
+
+fn are_errors_of(rows: &[ErrorRow], requests: &[(u32, u32)]) -> bool {
+    for (row, of) in rows.iter().zip(requests) {
+        if row.server.number() != of.0 || row.n != of.1 {
+            return false;
+        }
+    }
+    rows.len() == requests.len()
+}
+
+fn has_errors<K: Keeper>(
+    keeper: &mut K,
+    room: &RoomName,
+    requests: &[(u32, u32)],
+) -> Result<bool, Refusal> {
+    let rows = told(keeper.errors(room))?;
+    Ok(are_errors_of(rows.as_slice(), requests))
+}
+
+fn place_in(row: &Option<PlaceRow>) -> Place {
+    match row {
+        Some(PlaceRow::Booked(_)) => Place::Booked,
+        Some(PlaceRow::Logged(_)) => Place::Logged,
+        None => Place::Nowhere,
+    }
+}
+
+fn has_place<K: Keeper>(
+    keeper: &mut K,
+    room: &RoomName,
+    n: u32,
+    wanted: Place,
+) -> Result<bool, Refusal> {
+    let row = told(keeper.place_of(room, id(2, n)?))?;
+    Ok(place_in(&row) == wanted)
+}
+
+/// Whether the keeper answers the call so; or the refusal that tells of its fault.
+fn answers<K: Keeper>(keeper: &mut K, alloc: Global, call: Call) -> Result<bool, Refusal> {
+    match call {
+        Call::ApplyFirst => apply(keeper, &first_change(alloc)?),
+        Call::ApplySecond => apply(keeper, &second_change(alloc)?),
+        Call::Rooms(names) => has_rooms(keeper, names),
+        Call::Bookings(room, is_of_monday, requests) => {
+            let day = if is_of_monday {
+                Some(Day::read(MONDAY)?)
+            } else {
+                None
+            };
+            has_bookings(keeper, &RoomName::new(alloc, room)?, day, requests)
+        }
+        Call::Committed(wanted) => has_committed(keeper, &RoomName::new(alloc, "oak")?, wanted),
+        Call::Errors(room, requests) => {
+            has_errors(keeper, &RoomName::new(alloc, room)?, requests)
+        }
+        Call::PlaceOf(room, n, wanted) => {
+            has_place(keeper, &RoomName::new(alloc, room)?, n, wanted)
+        }
+    }
+}
+
+/// The keeper, asked one call after the other, answers so.
+fn check<K: Keeper>(rt: &impl Abort, alloc: Global, keeper: &mut K, calls: &[Call]) {
+    for (index, call) in calls.iter().enumerate() {
+        assert_eq!(rt; answers(keeper, alloc, *call), Ok(true), "at {index}");
+    }
+}
+
+static OF_NOTHING: [Call; 4] = [
+    Call::Rooms(&[]),
+    Call::Bookings("oak", false, &[]),
+    Call::Errors("oak", &[]),
+    Call::PlaceOf("oak", 1, Place::Nowhere),
+];
+
+#[test]
+fn a_new_keeper_knows_nothing(rt: HostRuntime) -> Result<(), Fail> {
+    let mut keeper = opening(rt.alloc())?;
+    check(&rt, rt.alloc(), &mut keeper, &OF_NOTHING);
+    Ok(())
+}
+
+#[test]
+fn a_new_keeper_has_a_desk(rt: HostRuntime) -> Result<(), Fail> {
+    let mut keeper = opening(rt.alloc())?;
+    assert!(rt; keeper.load().is_ok());
+    Ok(())
+}
+
+static OF_THE_FIRST_CHANGE: [Call; 13] = [
+    Call::ApplyFirst,
+    Call::Rooms(&["elm", "oak"]),
+    Call::Bookings("oak", false, &[(1, 1), (1, 3), (2, 4), (2, 1), (2, 2)]),
+    Call::Bookings("oak", true, &[(1, 1), (1, 3), (2, 4), (2, 1)]),
+    Call::Bookings("elm", false, &[(1, 2)]),
+    Call::Errors("oak", &[(2, 3)]),
+    Call::Errors("elm", &[]),
+    Call::PlaceOf("oak", 1, Place::Booked),
+    Call::PlaceOf("elm", 1, Place::Nowhere),
+    Call::PlaceOf("oak", 3, Place::Logged),
+    Call::PlaceOf("elm", 3, Place::Nowhere),
+    Call::PlaceOf("oak", 5, Place::Nowhere),
+    Call::PlaceOf("elm", 5, Place::Nowhere),
+];
+
+#[test]
+fn rows_that_are_put_are_found(rt: HostRuntime) -> Result<(), Fail> {
+    let mut keeper = opening(rt.alloc())?;
+    check(&rt, rt.alloc(), &mut keeper, &OF_THE_FIRST_CHANGE);
+    Ok(())
+}
+
+static OF_BOTH_CHANGES: [Call; 5] = [
+    Call::ApplyFirst,
+    Call::ApplySecond,
+    Call::Bookings("oak", false, &[(1, 1), (1, 3), (2, 4), (2, 3), (2, 2)]),
+    Call::Errors("oak", &[(2, 1)]),
+    Call::Committed(&[true, false]),
+];
+
+#[test]
+fn rows_are_replaced_and_taken_away(rt: HostRuntime) -> Result<(), Fail> {
+    let mut keeper = opening(rt.alloc())?;
+    check(&rt, rt.alloc(), &mut keeper, &OF_BOTH_CHANGES);
+    Ok(())
+}
+
+static OF_THE_ROOMS: [Call; 1] = [Call::Rooms(&["elm", "oak"])];
+
+#[test]
+fn a_trip_refuses_one_call(rt: HostRuntime) -> Result<(), Fail> {
+    let alloc = rt.alloc();
+    let mut keeper = Tripped::new(opening(alloc)?, 0, Fault::OutOfMemory);
+    let answer = answers(&mut keeper, alloc, Call::ApplyFirst);
+    assert_eq!(rt; answer, Err(Refusal::OutOfMemory));
+    check(
+        &rt,
+        alloc,
+        &mut keeper,
+        &[Call::Rooms(&[]), Call::ApplyFirst],
+    );
+    check(&rt, alloc, &mut keeper, &OF_THE_ROOMS);
+    Ok(())
+}
+
+#[test]
+fn a_trip_comes_after_its_calls(rt: HostRuntime) -> Result<(), Fail> {
+    let alloc = rt.alloc();
+    let mut keeper = Tripped::new(opening(alloc)?, 1, Fault::Store);
+    check(&rt, alloc, &mut keeper, &[Call::ApplyFirst]);
+    let answer = answers(&mut keeper, alloc, Call::Rooms(&["elm", "oak"]));
+    assert_eq!(rt; answer, Err(Refusal::Store));
+    check(&rt, alloc, &mut keeper, &OF_THE_ROOMS);
+    Ok(())
+}
+
+/// The fault of one of the six calls, where it has one.
+fn fault_of<K: Keeper>(
+    keeper: &mut K,
+    call: u32,
+    room: &RoomName,
+    id: WriteId,
+    change: &Change,
+) -> Option<Fault> {
+    match call {
+        0 => keeper.load().err(),
+        1 => keeper.rooms().err(),
+        2 => keeper.bookings(room, None).err(),
+        3 => keeper.place_of(room, id).err(),
+        4 => keeper.errors(room).err(),
+        _ => keeper.apply(change).err(),
+    }
+}
+
+#[test]
+fn each_call_trips_once(rt: HostRuntime) -> Result<(), Fail> {
+    let alloc = rt.alloc();
+    let oak = RoomName::new(alloc, "oak")?;
+    let request = id(2, 1)?;
+    let change = first_change(alloc)?;
+    for call in 0..6 {
+        let mut keeper = Tripped::new(opening(alloc)?, 0, Fault::Store);
+        let first = fault_of(&mut keeper, call, &oak, request, &change);
+        assert_eq!(rt; first, Some(Fault::Store), "at call {call}");
+        let second = fault_of(&mut keeper, call, &oak, request, &change);
+        assert_eq!(rt; second, None, "at call {call} again");
+    }
+    Ok(())
+}
+
+/// The fault of a keeper with so many commits and so many writes of a server.
+fn fault_of_load(alloc: Global, commits: u64, count: u32) -> Result<Option<Fault>, Refusal> {
+    let mut keeper = ListKeeper::over(alloc, tables(alloc, commits, count)?);
+    Ok(keeper.load().err())
+}
+
+#[test]
+fn rows_past_their_limits_are_the_stores_fault(rt: HostRuntime) -> Result<(), Fail> {
+    for (commits, count) in [(1_000_000_000_000, 0), (0, 1_000_000_000)] {
+        let fault = fault_of_load(rt.alloc(), commits, count)?;
+        assert_eq!(rt; fault, Some(Fault::Store), "at {commits} and {count}");
+    }
+    Ok(())
+}

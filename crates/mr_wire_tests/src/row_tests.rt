@@ -1,0 +1,403 @@
+// The batches and positions of worked examples, as values and as bytes. What a test compares is made by functions without
+// clauses, so that its proof carries no values that own memory.
+
+use mr_base::{
+    Alternatives, Batch, CommitNumber, Day, Ending, Item, Position, Refusal, RoomName, ServerId,
+    Slot, Stamp, Title, Write, WriteId, read_minute,
+};
+use mr_wire::{read_batch, read_position, write_batch, write_position};
+use std::alloc::Global;
+use std::process::Abort;
+
+/// A booking of oak on 1995-12-18: its length, the times of its wish and of its alternatives, and its title.
+#[derive(Clone, Copy)]
+struct Booking {
+    length: u32,
+    wish: &'static str,
+    others: &'static [&'static str],
+    title: &'static str,
+}
+
+/// A line of a batch: a write with its server, its number and its time, or a commit with its number and the write's.
+#[derive(Clone, Copy)]
+enum Line {
+    W(u32, u32, u64, Booking),
+    C(u64, u32, u32),
+}
+
+fn server(number: u32) -> Result<ServerId, Refusal> {
+    ServerId::new(number).ok_or(Refusal::NotAReplica)
+}
+
+fn id(number: u32, n: u32) -> Result<WriteId, Refusal> {
+    WriteId::new(server(number)?, n).ok_or(Refusal::NoSuchRequest)
+}
+
+fn stamp(number: u32, n: u32, time: u64) -> Result<Stamp, Refusal> {
+    Stamp::new(id(number, n)?, time).ok_or(Refusal::ClockExhausted)
+}
+
+fn slot(time: &str) -> Result<Slot, Refusal> {
+    Slot::new(Day::read("1995-12-18")?, read_minute(time)?)
+}
+
+fn alternatives(alloc: Global, times: &[&str]) -> Result<Alternatives, Refusal> {
+    let mut slots = Vec::new(alloc);
+    for time in times {
+        slots.push(slot(time)?)?;
+    }
+    Ok(Alternatives::from_vec(slots))
+}
+
+fn write(alloc: Global, stamp: Stamp, booking: Booking) -> Result<Write, Refusal> {
+    let wish = slot(booking.wish)?;
+    let room = RoomName::new(alloc, "oak")?;
+    let title = Title::new(alloc, booking.title)?;
+    let others = alternatives(alloc, booking.others)?;
+    Write::new(stamp, room, title, booking.length, wish, others)
+}
+
+fn item(alloc: Global, line: Line) -> Result<Item, Refusal> {
+    match line {
+        Line::W(number, n, time, booking) => {
+            let stamp = stamp(number, n, time)?;
+            Ok(Item::W(write(alloc, stamp, booking)?))
+        }
+        Line::C(seq, number, n) => {
+            let id = id(number, n)?;
+            let seq = CommitNumber::new(seq).ok_or(Refusal::NoSuchRequest)?;
+            Ok(Item::C { seq, id })
+        }
+    }
+}
+
+fn items(alloc: Global, lines: &[Line]) -> Result<Vec<Item>, Refusal> {
+    let mut items = Vec::new(alloc);
+    for line in lines {
+        items.push(item(alloc, *line)?)?;
+    }
+    Ok(items)
+}
+
+/// A batch that this server made, whose primary is 1.
+fn batch(alloc: Global, from: u32, lines: &[Line], ending: Ending) -> Result<Batch, Refusal> {
+    let (from, primary) = (server(from)?, server(1)?);
+    Ok(Batch::new(from, primary, items(alloc, lines)?, ending))
+}
+
+fn are_same_items(a: &Item, b: &Item) -> bool {
+    match (a, b) {
+        (Item::W(first), Item::W(second)) => first.is_same(second),
+        (
+            Item::C {
+                seq: first_seq,
+                id: first_id,
+            },
+            Item::C {
+                seq: second_seq,
+                id: second_id,
+            },
+        ) => *first_seq == *second_seq && *first_id == *second_id,
+        _ => false,
+    }
+}
+
+fn have_same_items(found: &[Item], wanted: &[Item]) -> bool {
+    for (a, b) in found.iter().zip(wanted) {
+        if !are_same_items(a, b) {
+            return false;
+        }
+    }
+    found.len() == wanted.len()
+}
+
+fn is_same_batch(found: &Batch, wanted: &Batch) -> bool {
+    found.header == wanted.header
+        && found.ending == wanted.ending
+        && have_same_items(found.items.as_slice(), wanted.items.as_slice())
+}
+
+fn is_written_as(alloc: Global, batch: &Batch, text: &str) -> Result<bool, Refusal> {
+    let written = write_batch(alloc, batch)?;
+    Ok(written.as_slice() == text.as_bytes())
+}
+
+fn is_read_of(alloc: Global, batch: &Batch, text: &str) -> Result<bool, Refusal> {
+    let found = read_batch(alloc, text.as_bytes())?;
+    Ok(is_same_batch(&found, batch))
+}
+
+/// Whether the batch has this text, and is what is read of it.
+fn is_exchanged(alloc: Global, batch: &Batch, text: &str) -> Result<bool, Refusal> {
+    Ok(is_written_as(alloc, batch, text)? && is_read_of(alloc, batch, text)?)
+}
+
+fn are_lines_exchanged(
+    alloc: Global,
+    (from, lines, ending): (u32, &[Line], Ending),
+    text: &str,
+) -> Result<bool, Refusal> {
+    let batch = batch(alloc, from, lines, ending)?;
+    is_exchanged(alloc, &batch, text)
+}
+
+fn is_nothing_exchanged(alloc: Global) -> Result<bool, Refusal> {
+    let empty = Batch::without_header(Vec::new(alloc));
+    is_exchanged(alloc, &empty, "")
+}
+
+const ALPHA: Line = Line::W(
+    1,
+    1,
+    1,
+    Booking {
+        length: 60,
+        wish: "14:00",
+        others: &[],
+        title: "Alpha",
+    },
+);
+
+const BETA: Line = Line::W(
+    2,
+    1,
+    1,
+    Booking {
+        length: 60,
+        wish: "13:30",
+        others: &["15:00"],
+        title: "Beta",
+    },
+);
+
+const LATER_BETA: Line = Line::W(
+    3,
+    1,
+    1,
+    Booking {
+        length: 60,
+        wish: "13:30",
+        others: &[],
+        title: "Beta",
+    },
+);
+
+const AUDIT: Line = Line::W(
+    1,
+    1,
+    1,
+    Booking {
+        length: 60,
+        wish: "13:30",
+        others: &[],
+        title: "Audit",
+    },
+);
+
+const BRIEF: Line = Line::W(
+    1,
+    2,
+    2,
+    Booking {
+        length: 30,
+        wish: "14:30",
+        others: &[],
+        title: "Brief",
+    },
+);
+
+/// At all of its limits.
+const FULL: Line = Line::W(
+    99,
+    999_999_999,
+    999_999_999_999,
+    Booking {
+        length: 60,
+        wish: "08:00",
+        others: &[
+            "09:00", "10:00", "11:00", "12:00", "13:00", "14:00", "15:00", "16:00",
+        ],
+        title: "a title of sixty bytes,  with two spaces in it, and a point.",
+    },
+);
+
+const ALPHA_AND_BETA: &str =
+    "mr1 1 1\nW 1 1 1 oak 60 1995-12-18 14:00 0 Alpha\nW 2 1 1 oak 60 1995-12-18 13:30 1 1995-12-18 15:00 Beta\nE\n";
+
+/// Batches: who made them, their lines and their ending, their text and how many bytes it has.
+static BATCHES: [(u32, &[Line], Ending, &str, usize); 9] = [
+    (
+        1,
+        &[ALPHA],
+        Ending::Complete,
+        "mr1 1 1\nW 1 1 1 oak 60 1995-12-18 14:00 0 Alpha\nE\n",
+        50,
+    ),
+    (
+        2,
+        &[BETA],
+        Ending::Complete,
+        "mr1 2 1\nW 2 1 1 oak 60 1995-12-18 13:30 1 1995-12-18 15:00 Beta\nE\n",
+        66,
+    ),
+    (
+        3,
+        &[LATER_BETA],
+        Ending::Complete,
+        "mr1 3 1\nW 3 1 1 oak 60 1995-12-18 13:30 0 Beta\nE\n",
+        49,
+    ),
+    (1, &[ALPHA, BETA], Ending::Complete, ALPHA_AND_BETA, 106),
+    (
+        1,
+        &[LATER_BETA, Line::C(1, 3, 1)],
+        Ending::Complete,
+        "mr1 1 1\nW 3 1 1 oak 60 1995-12-18 13:30 0 Beta\nC 1 3 1\nE\n",
+        57,
+    ),
+    (
+        1,
+        &[AUDIT, Line::C(1, 1, 1), BRIEF, Line::C(2, 1, 2)],
+        Ending::Complete,
+        "mr1 1 1\nW 1 1 1 oak 60 1995-12-18 13:30 0 Audit\nC 1 1 1\nW 1 2 2 oak 30 1995-12-18 14:30 0 Brief\nC 2 1 2\nE\n",
+        106,
+    ),
+    (
+        1,
+        &[AUDIT, Line::C(1, 1, 1), BRIEF],
+        Ending::More,
+        "mr1 1 1\nW 1 1 1 oak 60 1995-12-18 13:30 0 Audit\nC 1 1 1\nW 1 2 2 oak 30 1995-12-18 14:30 0 Brief\nM\n",
+        98,
+    ),
+    (99, &[], Ending::Cut, "mr1 99 1\n", 9),
+    (
+        1,
+        &[FULL, Line::C(999_999_999_999, 99, 999_999_999)],
+        Ending::Cut,
+        "mr1 1 1\nW 99 999999999 999999999999 oak 60 1995-12-18 08:00 8 1995-12-18 09:00 1995-12-18 10:00 1995-12-18 11:00 1995-12-18 12:00 1995-12-18 13:00 1995-12-18 14:00 1995-12-18 15:00 1995-12-18 16:00 a title of sixty bytes,  with two spaces in it, and a point.\nC 999999999999 99 999999999\n",
+        287,
+    ),
+];
+
+#[test]
+fn batches_are_exchanged(rt: HostRuntime) {
+    for (from, lines, ending, text, size) in &BATCHES {
+        let is_exchanged = are_lines_exchanged(rt.alloc(), (*from, lines, *ending), text);
+        assert_eq!(rt; is_exchanged, Ok(true), "at {text}");
+        assert_eq!(rt; text.len(), *size, "at {text}");
+    }
+}
+
+#[test]
+fn nothing_is_exchanged(rt: HostRuntime) {
+    assert_eq!(rt; is_nothing_exchanged(rt.alloc()), Ok(true));
+}
+
+/// Whether the bytes have a header, how many items they are, and how they end.
+fn parts_of(alloc: Global, bytes: &[u8]) -> Result<(bool, usize, Ending), Refusal> {
+    let found = read_batch(alloc, bytes)?;
+    Ok((found.header.is_some(), found.items.len(), found.ending))
+}
+
+/// The header ends with byte 8, the lines of the two writes with the bytes 48 and 104.
+fn parts_of_front(j: usize) -> (bool, usize, Ending) {
+    let ending = if j < 106 {
+        Ending::Cut
+    } else {
+        Ending::Complete
+    };
+    if j < 48 {
+        (j >= 8, 0, ending)
+    } else if j < 104 {
+        (true, 1, ending)
+    } else {
+        (true, 2, ending)
+    }
+}
+
+#[test]
+fn each_front_reads_as_its_whole_lines(rt: HostRuntime) {
+    let bytes = ALPHA_AND_BETA.as_bytes();
+    for j in 0..=106 {
+        let found = parts_of(rt.alloc(), bytes.get(..j).unwrap_or(&[]));
+        assert_eq!(rt; found, Ok(parts_of_front(j)), "at {j}");
+    }
+}
+
+fn counts(alloc: Global, of: &[(u32, u32)]) -> Result<Vec<(ServerId, u32)>, Refusal> {
+    let mut counts = Vec::new(alloc);
+    for (number, n) in of {
+        counts.push((server(*number)?, *n))?;
+    }
+    Ok(counts)
+}
+
+/// A position whose primary is 1.
+fn position(alloc: Global, own: u32, commits: u64, of: &[(u32, u32)]) -> Result<Position, Refusal> {
+    let (own, primary) = (server(own)?, server(1)?);
+    let counts = counts(alloc, of)?;
+    Position::new(own, primary, commits, counts).ok_or(Refusal::BadPosition)
+}
+
+fn is_same_position(found: &Position, wanted: &Position) -> bool {
+    found.server == wanted.server
+        && found.primary == wanted.primary
+        && found.commits == wanted.commits
+        && found.counts.as_slice() == wanted.counts.as_slice()
+}
+
+fn is_position_written_as(alloc: Global, position: &Position, text: &str) -> Result<bool, Refusal> {
+    let written = write_position(alloc, position)?;
+    Ok(written.as_slice() == text.as_bytes())
+}
+
+fn is_position_read_of(alloc: Global, position: &Position, text: &str) -> Result<bool, Refusal> {
+    let found = read_position(alloc, text.as_bytes())?;
+    Ok(is_same_position(&found, position))
+}
+
+/// Whether the position has this text, and is what is read of it.
+fn is_position_exchanged(
+    alloc: Global,
+    (own, commits, of): (u32, u64, &[(u32, u32)]),
+    text: &str,
+) -> Result<bool, Refusal> {
+    let position = position(alloc, own, commits, of)?;
+    Ok(
+        is_position_written_as(alloc, &position, text)?
+            && is_position_read_of(alloc, &position, text)?,
+    )
+}
+
+fn refusal_of_position(alloc: Global, bytes: &[u8]) -> Option<Refusal> {
+    read_position(alloc, bytes).err()
+}
+
+/// No front of the text is a position's.
+fn check_fronts(rt: &impl Abort, alloc: Global, bytes: &[u8]) {
+    for j in 0..bytes.len() {
+        let refusal = refusal_of_position(alloc, bytes.get(..j).unwrap_or(bytes));
+        assert_eq!(rt; refusal, Some(Refusal::BadPosition), "at {j}");
+    }
+}
+
+/// Positions: the own server, the commits and the counts, and their text.
+static POSITIONS: [(u32, u64, &[(u32, u32)], &str); 3] = [
+    (2, 0, &[], "mp1 2 1\nK 0\nE\n"),
+    (9, 0, &[(1, 1), (2, 1)], "mp1 9 1\nK 0\nV 1 1\nV 2 1\nE\n"),
+    (
+        99,
+        999_999_999_999,
+        &[(1, 999_999_999), (99, 10)],
+        "mp1 99 1\nK 999999999999\nV 1 999999999\nV 99 10\nE\n",
+    ),
+];
+
+#[test]
+fn positions_are_exchanged(rt: HostRuntime) {
+    for (own, commits, counts, text) in &POSITIONS {
+        let is_exchanged = is_position_exchanged(rt.alloc(), (*own, *commits, counts), text);
+        assert_eq!(rt; is_exchanged, Ok(true), "at {text}");
+        check_fronts(&rt, rt.alloc(), text.as_bytes());
+    }
+}
