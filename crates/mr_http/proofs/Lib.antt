@@ -1,0 +1,6 @@
+pub mod BodyLemmas
+pub mod Digits
+pub mod FieldLemmas
+pub mod HeadLemmas
+pub mod Known
+pub mod SentPieces

@@ -1,0 +1,12 @@
+use Rattle.std.proofs.Common.{◌≤◌, ◌-◌, length, take}
+use Rattle.std.specs.Io.KnownBytes.{Appends}
+use Rattle.mr_http.proofs.sending.send.Given as goal
+
+abbrev pub invariant-sending : goal.invariant-sending
+invariant-sending g l = record {
+  within : l.at ≤ length l.bytes;
+  sent : Appends (g.W.Write.contents l.fn.writer) (g.W.Write.contents l.writer) (take l.at l.bytes);
+}
+
+abbrev pub decreases-sending : goal.decreases-sending
+decreases-sending g l = length l.bytes - l.at

@@ -1,0 +1,140 @@
+-- What this replica hands out, and what was written of it.
+use Rattle.std.proofs.Common.{◌≡◌, inl, inr, ◌∙◌, refl, sym, ap, subst, ℕ, List, Option, Some, None, Result, Ok, Err, true}
+use Rattle.std.proofs.KnownBytes.{Keeps-refl}
+use Rattle.mr_model.specs.Texts.{Text}
+use Rattle.mr_model.specs.Replica.{Replica}
+use Rattle.mr_model.specs.Exchange.{Batch, Ending, batch_text}
+use Rattle.mr_model.specs.Refusals.{Refusal}
+use Rattle.mr_model.specs.Positions.{Position, position_of, position_text, is_position}
+use Rattle.mr_model.specs.Replies.{Reply, Refused, PositionIs, BatchIs}
+use Rattle.mr_model.specs.Step.{Command, AskPosition, BatchFor, After, step, IsStep, IsOfMachine, no_memory, no_store, batch_of, batch_unless, reply_to_position}
+use Rattle.mr_model.specs.Serving.{TakesStep}
+use Rattle.mr_model.specs.Tables.{Tables, Stands}
+use Rattle.mr_model.proofs.PositionsReadBack.{read-position_text}
+use Rattle.mr_http.specs.declared.faults.WebFault.{WebFault}
+use Rattle.mr_http.specs.declared.faults.WebFault.TheVariants as fault
+use Rattle.mr_service.specs.Worlds.{IsPositionText}
+use Rattle.mr_peer.specs.Rounds.{Runs}
+use Rattle.mr_peer.specs.Asking.{IsSendFault, IsAskFault, Wrote, OwnRefuses, ReadsOff, HandsOut, IsBatchWith}
+
+-- a step of a command that leaves the replica as it is
+stayed : (a : Replica) (command : Command) (reply : Reply) (b : Replica) → (step a command).replica ≡ a → IsStep a command reply b → b ≡ a
+stayed a command reply b stays (inl e) = ap (λ (x : After). x.replica) e ∙ stays
+stayed a command reply b stays (inr m) = m.1
+
+-- what is read off the reply of such a command is handed out
+pub handed : {X : Type 0} (before after : Tables) (command : Command) (reply : Reply) (P Q : X → Type 0) (a : Replica) (result : Result X WebFault)
+    → (step a command).replica ≡ a
+    → ((x : X) → P x → reply ≡ (step a command).reply → Q x)
+    → ((x : X) → P x → IsOfMachine reply → ⊥)
+    → TakesStep before command reply after → Stands before a → ReadsOff reply P result → Stands after a × HandsOut a command Q result
+handed {X} before after command reply P Q a result stays good machine takes stands reads =
+    let s = takes a stands in
+    let same = stayed a command reply s.0 stays s.1 in
+    (subst (Stands after) same s.2, go result reads)
+  where
+    taken : IsStep a command reply ((takes a stands).0)
+    taken = (takes a stands).1
+
+    value : (x : X) → P x → IsStep a command reply ((takes a stands).0) → Q x
+    value x p (inl e) = good x p (ap (λ (y : After). y.reply) e)
+    value x p (inr m) = absurd (machine x p m.0)
+
+    go : (r : Result X WebFault) → ReadsOff reply P r → HandsOut a command Q r
+    go (Ok x) p = value x p taken
+    go (Err (fault.Own e)) is =
+        subst (λ (r : Reply). IsStep a command r a) is
+        (subst (λ (b : Replica). IsStep a command reply b) (stayed a command reply ((takes a stands).0) stays taken) taken)
+    go (Err fault.Memory) u = tt
+    go (Err fault.Read) u = absurd u
+    go (Err fault.Write) u = absurd u
+    go (Err fault.BadReply) u = absurd u
+    go (Err (fault.Peer n)) u = absurd u
+
+same_position : (p q : Position) → PositionIs p ≡ PositionIs q → p ≡ q
+same_position p q e = cc
+
+same_batch : (p q : Batch) → BatchIs p ≡ BatchIs q → p ≡ q
+same_batch p q e = cc
+
+not_position : (reply : Reply) (p : Position) → reply ≡ PositionIs p → IsOfMachine reply → ⊥
+not_position reply p is no_memory = let f : Refused _ ≡ PositionIs p = is in absurd (cc)
+not_position reply p is no_store = let f : Refused _ ≡ PositionIs p = is in absurd (cc)
+
+not_batch : (reply : Reply) (b : Batch) → reply ≡ BatchIs b → IsOfMachine reply → ⊥
+not_batch reply b is no_memory = let f : Refused _ ≡ BatchIs b = is in absurd (cc)
+not_batch reply b is no_store = let f : Refused _ ≡ BatchIs b = is in absurd (cc)
+
+-- the text of this replica's position
+pub position_handed : {X : Type 0} (text_of : X → Text) (before after : Tables) (reply : Reply) (result : Result X WebFault)
+    → TakesStep before AskPosition reply after → ReadsOff reply (λ x. IsPositionText reply (text_of x)) result
+    → (a : Replica) → Stands before a → Stands after a × HandsOut a AskPosition (λ x. text_of x ≡ position_text (position_of a)) result
+position_handed text_of before after reply result takes reads a stands =
+    handed before after AskPosition reply (λ x. IsPositionText reply (text_of x)) (λ x. text_of x ≡ position_text (position_of a)) a result refl
+    (λ x p e. p.2 ∙ ap position_text (same_position p.0 (position_of a) (sym p.1 ∙ e)))
+    (λ x p m. not_position reply p.0 p.1 m) takes stands reads
+
+unless_batch : (o : Option Refusal) (made b : Batch) → BatchIs b ≡ batch_unless o made → b ≡ made
+unless_batch None made b e = same_batch b made e
+unless_batch (Some f) made b e = absurd (let g : BatchIs b ≡ Refused f = e in cc)
+
+-- the text of this replica's batch for a position, and its ending
+pub batch_handed : {X : Type 0} (text_of : X → Text) (ending : X → Ending) (before after : Tables) (reply : Reply) (p : Position) (m : ℕ) (result : Result X WebFault)
+    → is_position p ≡ true → TakesStep before (BatchFor (position_text p) m) reply after
+    → ReadsOff reply (λ x. IsBatchWith reply (text_of x) (ending x)) result → (a : Replica) → Stands before a
+    → Stands after a × HandsOut a (BatchFor (position_text p) m) (λ x. (text_of x ≡ batch_text (batch_of a p m)) × (ending x ≡ (batch_of a p m).ending)) result
+batch_handed {X} text_of ending before after reply p m result ok takes reads a stands =
+    handed before after (BatchFor (position_text p) m) reply (λ x. IsBatchWith reply (text_of x) (ending x))
+    (λ x. (text_of x ≡ batch_text (batch_of a p m)) × (ending x ≡ (batch_of a p m).ending)) a result refl
+    (λ x is e.
+    let same = made x is e in
+    (is.2 ∙ ap batch_text same, is.3 ∙ ap (λ (b : Batch). b.ending) same))
+    (λ x is machine. not_batch reply is.0 is.1 machine) takes stands reads
+  where
+    made : (x : X) → (is : IsBatchWith reply (text_of x) (ending x)) → reply ≡ (step a (BatchFor (position_text p) m)).reply → is.0 ≡ batch_of a p m
+    made x is e =
+        unless_batch _ (batch_of a p m) is.0
+        (sym is.1 ∙ e ∙ ap (λ (o : Option Position). reply_to_position a o m) (read-position_text p ok))
+
+-- ---- writing
+
+-- nothing is written where nothing was handed out
+pub unsent : (X Y : Type 0) (a : Replica) (command : Command) (Q : X → Type 0) (request : Text) (held : Option (List ℕ)) (e : WebFault)
+    → HandsOut a command Q (Err e) → OwnRefuses {X = Y} a command (Err e) × Wrote {X = Y} request held held (Err e)
+unsent X Y a command Q request held (fault.Own e) is = (is, Keeps-refl held)
+unsent X Y a command Q request held fault.Memory u = (tt, Keeps-refl held)
+unsent X Y a command Q request held fault.Read u = absurd u
+unsent X Y a command Q request held fault.Write u = absurd u
+unsent X Y a command Q request held fault.BadReply u = absurd u
+unsent X Y a command Q request held (fault.Peer n) u = absurd u
+
+-- a fault of writing
+pub sent_short : (X Y : Type 0) (a : Replica) (command : Command) (request : Text) (held holds : Option (List ℕ)) (e : WebFault)
+    → IsSendFault e → Wrote {X = X} request held holds (Err e) → OwnRefuses {X = Y} a command (Err e) × Wrote {X = Y} request held holds (Err e)
+sent_short X Y a command request held holds fault.Write u wrote = (tt, wrote)
+sent_short X Y a command request held holds fault.Memory u wrote = (tt, wrote)
+sent_short X Y a command request held holds fault.Read u wrote = absurd u
+sent_short X Y a command request held holds fault.BadReply u wrote = absurd u
+sent_short X Y a command request held holds (fault.Peer n) u wrote = absurd u
+sent_short X Y a command request held holds (fault.Own e) u wrote = absurd u
+
+-- the same faults, where another value would have come
+failed_as : (X Y : Type 0) (a : Replica) (command : Command) (request : Text) (held holds : Option (List ℕ)) (e : WebFault)
+    → OwnRefuses {X = X} a command (Err e) → Wrote {X = X} request held holds (Err e)
+    → OwnRefuses {X = Y} a command (Err e) × Wrote {X = Y} request held holds (Err e)
+failed_as X Y a command request held holds fault.Write own wrote = (tt, wrote)
+failed_as X Y a command request held holds fault.Memory own wrote = (tt, wrote)
+failed_as X Y a command request held holds fault.Read own wrote = (tt, wrote)
+failed_as X Y a command request held holds fault.BadReply own wrote = (tt, wrote)
+failed_as X Y a command request held holds (fault.Peer n) own wrote = (tt, wrote)
+failed_as X Y a command request held holds (fault.Own e) own wrote = (own, wrote)
+
+-- the ask of a round failed
+pub ask_failed : (X Y : Type 0) (a : Replica) (command : Command) (request : Text) (held holds : Option (List ℕ)) (e : WebFault) (taken : Type 0)
+    → IsAskFault e → OwnRefuses {X = X} a command (Err e) → Wrote {X = X} request held holds (Err e) → Runs {X = Y} a command request held holds (Err e) taken
+ask_failed X Y a command request held holds e taken is own wrote =
+    let f = failed_as X Y a command request held holds e own wrote in
+    inl (is, f.0, f.1)
+
+pub ok_same : {E : Type 0} (x y : Text) → ◌≡◌ {A = Result Text E} (Ok x) (Ok y) → x ≡ y
+ok_same x y e = cc

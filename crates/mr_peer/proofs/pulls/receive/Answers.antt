@@ -1,0 +1,15 @@
+use Rattle.std.proofs.Common.{ℕ, List, sym, subst, Result}
+use Rattle.mr_model.specs.Step.{Receive, IsStep}
+use Rattle.mr_http.specs.declared.faults.WebFault.{WebFault}
+use Rattle.mr_service.specs.Asked.{reply_of}
+use Rattle.mr_peer.specs.Taking.{Counts}
+use Rattle.mr_peer.proofs.TakeLemmas.{counts}
+use Rattle.mr_peer.proofs.pulls.receive.Goals as goal
+
+pub returns-clause-takes : goal.returns-clause-takes
+returns-clause-takes g c = λ k o a stands.
+    let body = c.args.body.now in
+    let s = c.ask-reply.ensures.step k o a stands in
+    let P : List ℕ → Type 0 = λ bytes. IsStep a (Receive bytes) (reply_of c.ask-reply.result) s.0 in
+    let Q : Result (ℕ × ℕ) WebFault → Type 0 = λ r. Counts body a r s.0 in
+    (s.0, s.2, subst Q (sym c.counts_in.ensures) (counts a body c.ask-reply.result s.0 (subst P c.in-Ok.ensures.items s.1)))

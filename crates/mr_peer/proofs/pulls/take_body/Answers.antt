@@ -1,0 +1,18 @@
+use Rattle.std.proofs.Common.{◌∙◌, refl, ap, subst, Result, Err}
+use Rattle.std.proofs.lemmas.Result.{err_from_is_err_and}
+use Rattle.mr_model.specs.Texts.{Text}
+use Rattle.mr_http.specs.declared.faults.WebFault.{WebFault}
+use Rattle.mr_peer.specs.Taking.{Takes}
+use Rattle.mr_peer.proofs.pulls.take_body.Goals as goal
+
+pub returns-in_err-body-clause-takes : goal.returns-in_err-body-clause-takes
+returns-in_err-body-clause-takes g c = λ k o a stands.
+    let p = err_from_is_err_and c.from_residual.result c.from_residual.ensures.1 in
+    let P : Result Text WebFault → Type 0 = λ told. Takes told a c.from_residual.result a in
+    (a, stands, subst P c.in_err-body.ensures (p.1 ∙ ap Err p.2, refl))
+
+pub returns-clause-takes : goal.returns-clause-takes
+returns-clause-takes g c = λ k o a stands.
+    let t = c.take_batch.ensures.takes k o a stands in
+    let P : Result Text WebFault → Type 0 = λ told. Takes told a c.take_batch.result t.0 in
+    (t.0, t.1, subst P c.in_ok-body.ensures t.2)

@@ -1,0 +1,55 @@
+-- How the asking of a peer ends.
+use Rattle.std.specs.Prelude.{◌≡◌, ◌≤◌, ℕ, List, length, take, Option, Result, Ok, Err}
+use Rattle.std.specs.Io.KnownBytes.{Appends, Keeps}
+use Rattle.mr_model.specs.Texts.{Text}
+use Rattle.mr_model.specs.Replica.{Replica}
+use Rattle.mr_model.specs.Exchange.{Batch, Ending, batch_text}
+use Rattle.mr_model.specs.Step.{Command, IsStep}
+use Rattle.mr_model.specs.Replies.{Reply, Refused, BatchIs}
+use Rattle.mr_base.specs.Refusals.{refusal_of}
+use Rattle.mr_http.specs.declared.faults.WebFault.{WebFault}
+use Rattle.mr_http.specs.declared.faults.WebFault.TheVariants as fault
+
+-- a fault of writing a request
+abbrev pub IsSendFault : WebFault → Type 0
+IsSendFault fault.Write = Unit {0}
+IsSendFault fault.Memory = Unit {0}
+IsSendFault _ = ⊥
+
+-- a fault of asking: of writing a request, or of this replica
+abbrev pub IsAskFault : WebFault → Type 0
+IsAskFault fault.Write = Unit {0}
+IsAskFault fault.Memory = Unit {0}
+IsAskFault (fault.Own e) = Unit {0}
+IsAskFault _ = ⊥
+
+-- the request was written, or a front of it where a write failed, or nothing; between what a writer held and holds, where known
+abbrev pub Wrote : {X : Type 0} → Text → Option (List ℕ) → Option (List ℕ) → Result X WebFault → Type 0
+Wrote request held holds (Ok _) = Appends held holds request
+Wrote request held holds (Err fault.Write) = (n : ℕ) × (n ≤ length request) × Appends held holds (take n request)
+Wrote request held holds (Err _) = Keeps held holds
+
+-- a fault of this replica is the refusal of its step
+abbrev pub OwnRefuses : {X : Type 0} → Replica → Command → Result X WebFault → Type 0
+OwnRefuses a command (Err (fault.Own e)) = IsStep a command (Refused (refusal_of e)) a
+OwnRefuses a command _ = Unit {0}
+
+-- ---- on the way
+
+-- what is read off a reply of this replica: something of it, or that it refused, unless memory ran out
+abbrev pub ReadsOff : {X : Type 0} → Reply → (X → Type 0) → Result X WebFault → Type 0
+ReadsOff reply P (Ok x) = P x
+ReadsOff reply P (Err (fault.Own e)) = reply ≡ Refused (refusal_of e)
+ReadsOff reply P (Err fault.Memory) = Unit {0}
+ReadsOff reply P (Err _) = ⊥
+
+-- what this replica hands out for a command: something, or its refusal, unless memory ran out
+abbrev pub HandsOut : {X : Type 0} → Replica → Command → (X → Type 0) → Result X WebFault → Type 0
+HandsOut a command P (Ok x) = P x
+HandsOut a command P (Err (fault.Own e)) = IsStep a command (Refused (refusal_of e)) a
+HandsOut a command P (Err fault.Memory) = Unit {0}
+HandsOut a command P (Err _) = ⊥
+
+-- the text of the batch that is replied, and how it ends
+abbrev pub IsBatchWith : Reply → Text → Ending → Type 0
+IsBatchWith reply text ending = (b : Batch) × (reply ≡ BatchIs b) × (text ≡ batch_text b) × (ending ≡ b.ending)

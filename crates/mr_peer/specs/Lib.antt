@@ -1,0 +1,9 @@
+pub mod Asking
+pub mod Laws
+pub mod Replies
+pub mod Requests
+pub mod Rounds
+pub mod Seen
+pub mod Taking
+pub mod Took
+pub mod TookWords

@@ -1,0 +1,70 @@
+-- How the taking of a peer's reply ends.
+use Rattle.std.specs.Prelude.{◌≡◌, ℕ, Option, Result, Ok, Err}
+use Rattle.mr_model.specs.Texts.{Text}
+use Rattle.mr_model.specs.Refusals.{Refusal}
+use Rattle.mr_model.specs.Replica.{Replica}
+use Rattle.mr_model.specs.Exchange as exchange
+use Rattle.mr_model.specs.Step.{Receive, IsStep}
+use Rattle.mr_model.specs.Replies.{Took, Refused}
+use Rattle.mr_base.specs.Refusals.{refusal_of}
+use Rattle.mr_base.specs.Batches.{ending_of}
+use Rattle.mr_base.specs.declared.batches.Ending.{Ending}
+use Rattle.mr_http.specs.Inputs.{OfInput}
+use Rattle.mr_http.specs.declared.faults.WebFault.{WebFault}
+use Rattle.mr_http.specs.declared.faults.WebFault.TheVariants as fault
+use Rattle.mr_peer.specs.Replies.{Reply, IsReplied, front_body}
+
+-- the answer is this one, unless a read failed or memory ran out
+abbrev pub Says : {X : Type 0} → Result X WebFault → Result X WebFault → Type 0
+Says told (Err fault.Read) = Unit {0}
+Says told (Err fault.Memory) = Unit {0}
+Says told result = result ≡ told
+
+-- the answer is what is told of the reply that the input is, unless a read failed or memory ran out
+abbrev pub Tells : {X : Type 0} → (Option Reply → Result X WebFault) → Option Text → Result X WebFault → Type 0
+Tells told known (Err fault.Read) = Unit {0}
+Tells told known (Err fault.Memory) = Unit {0}
+Tells told known result = OfInput known (λ input. (reply : Option Reply) × IsReplied input reply × (result ≡ told reply))
+
+-- ---- a batch
+
+-- the ending that bytes are read with; those that are refused have none
+abbrev pub ending_read : Result exchange.Batch Refusal → exchange.Ending
+ending_read (Ok b) = b.ending
+ending_read (Err e) = exchange.Cut
+
+abbrev pub ending_in : Text → exchange.Ending
+ending_in bytes = ending_read (exchange.read_batch bytes)
+
+-- the ending of the batch that the bytes read as, or the refusal of what they read as, unless memory ran out
+abbrev pub Ends : Text → Result Ending WebFault → Type 0
+Ends bytes (Ok ending) = ending_of ending ≡ ending_in bytes
+Ends bytes (Err (fault.Own e)) = exchange.read_batch bytes ≡ Err (refusal_of e)
+Ends bytes (Err fault.Memory) = Unit {0}
+Ends bytes (Err _) = ⊥
+
+-- this replica takes so many writes and commits from the body, or refuses it, or memory ran out before it was asked
+abbrev pub Counts : Text → Replica → Result (ℕ × ℕ) WebFault → Replica → Type 0
+Counts body a (Ok n) b = IsStep a (Receive body) (Took n.0 n.1) b
+Counts body a (Err (fault.Own e)) b = IsStep a (Receive body) (Refused (refusal_of e)) b × (b ≡ a)
+Counts body a (Err fault.Memory) b = b ≡ a
+Counts body a (Err _) b = ⊥
+
+-- the same, with the ending of the batch
+abbrev pub Receives : Text → Replica → Result (ℕ × ℕ × Ending) WebFault → Replica → Type 0
+Receives body a (Ok took) b = IsStep a (Receive body) (Took took.0 took.1) b × (ending_of took.2 ≡ ending_in body)
+Receives body a (Err (fault.Own e)) b = IsStep a (Receive body) (Refused (refusal_of e)) b × (b ≡ a)
+Receives body a (Err fault.Memory) b = b ≡ a
+Receives body a (Err _) b = ⊥
+
+-- what is at fault with the reply is told, and else its body is taken
+abbrev pub Takes : Result Text WebFault → Replica → Result (ℕ × ℕ × Ending) WebFault → Replica → Type 0
+Takes (Err f) a result b = (result ≡ Err f) × (b ≡ a)
+Takes (Ok body) a result b = Receives body a result b
+
+-- the same of the reply that the input is, unless a read failed or memory ran out
+abbrev pub TakesReply : Option Text → Replica → Result (ℕ × ℕ × Ending) WebFault → Replica → Type 0
+TakesReply known a (Err fault.Read) b = b ≡ a
+TakesReply known a (Err fault.Memory) b = b ≡ a
+TakesReply known a result b =
+    OfInput known (λ input. (reply : Option Reply) × IsReplied input reply × Takes (front_body reply) a result b)

@@ -1,0 +1,136 @@
+ghost use Rattle.std.specs.Prelude.{◌≡◌, [], IsTrue, IfOk, IfErr, length, ok_or};
+ghost use Rattle.mr_model.specs.Exchange.{batch_text};
+ghost use Rattle.mr_model.specs.Positions.{position_text};
+ghost use Rattle.mr_model.specs.Http.{lines_over_http};
+ghost use Rattle.mr_model.specs.Replica.{Replica};
+ghost use Rattle.mr_model.specs.Step.{BatchFor, batch_of};
+ghost use Rattle.mr_model.specs.Tables.{Stands};
+ghost use Rattle.mr_store.specs.Kept.{IsSettled};
+ghost use Rattle.mr_base.specs.Batches.{ending_of};
+ghost use Rattle.mr_http.specs.declared.faults.WebFault.TheVariants.{BadReply};
+ghost use Rattle.mr_service.specs.Asked.{command_of, reply_of};
+ghost use Rattle.mr_peer.specs.Asking.{Wrote, IsAskFault, OwnRefuses, ReadsOff, HandsOut, IsBatchWith};
+ghost use Rattle.mr_peer.specs.Replies.{told_took};
+ghost use Rattle.mr_peer.specs.Requests.{is_host, push_request};
+ghost use Rattle.mr_peer.specs.Seen.{reply_seen, IsInside};
+ghost use Rattle.mr_peer.specs.Taking.{Tells, Says};
+ghost use Rattle.mr_peer.specs.Took.{read_took};
+
+use crate::replies::{Replied, read_reply, whole_body};
+use crate::requests::ask_full;
+use crate::took::took_in;
+use mr_base::{Ending, LineCount, Position};
+use mr_http::WebFault;
+use mr_service::{Command, Local, Reply, Service};
+use mr_store::Keeper;
+use mr_wire::{write_batch, write_position};
+use std::alloc::Global;
+use std::io::{Read, Write};
+
+/// Hands a peer that is at this position what it lacks, 64 lines at most, and answers how the batch ended.
+pub fn push_ask<K: Keeper, W: Write>(
+    alloc: Global,
+    service: &mut Service<K>,
+    position: &Position,
+    host: &str,
+    writer: &mut W,
+) -> Result<Ending, WebFault>
+    requires { IsTrue (is_host host.now) }
+    ensures clean { K.is_clean service.new → K.is_clean service.old }
+    ensures open { K.is_clean service.new → K.is_open service.new → K.is_open service.old }
+    ensures settled { K.is_clean service.new → K.is_open service.new → IsSettled (K.may_leave service.old) (K.tables service.old) → IsSettled (K.may_leave service.new) (K.tables service.new) }
+    ensures asks { K.is_clean service.new → K.is_open service.new → (a : Replica) → Stands (K.tables service.old) a
+        → Stands (K.tables service.new) a × OwnRefuses a (BatchFor (position_text position.now) lines_over_http) result
+        × Wrote (push_request host.now (batch_text (batch_of a position.now lines_over_http))) (W.contents writer.old) (W.contents writer.new) result
+        × IfOk result (λ ending. ending_of ending ≡ (batch_of a position.now lines_over_http).ending) }
+    ensures fault { IfErr result IsAskFault }
+{
+    let (text, ending) = own_batch(alloc, service, position)?;
+    ask_full(alloc, "POST /push HTTP/1.1", host, text.as_slice(), writer)?;
+    Ok(ending)
+}
+
+// The text of this replica's batch for the position, and how it ends.
+fn own_batch<K: Keeper>(
+    alloc: Global,
+    service: &mut Service<K>,
+    position: &Position,
+) -> Result<(Vec<u8>, Ending), WebFault>
+    ensures clean { K.is_clean service.new → K.is_clean service.old }
+    ensures open { K.is_clean service.new → K.is_open service.new → K.is_open service.old }
+    ensures settled { K.is_clean service.new → K.is_open service.new → IsSettled (K.may_leave service.old) (K.tables service.old) → IsSettled (K.may_leave service.new) (K.tables service.new) }
+    ensures batch { K.is_clean service.new → K.is_open service.new → (a : Replica) → Stands (K.tables service.old) a
+        → Stands (K.tables service.new) a × HandsOut a (BatchFor (position_text position.now) lines_over_http)
+        (λ x. (x.0.items ≡ batch_text (batch_of a position.now lines_over_http))
+        × (ending_of x.1 ≡ (batch_of a position.now lines_over_http).ending)) result }
+    ensures fault { IfErr result IsAskFault }
+{
+    position.is_within_limits();
+    let Ok(text) = write_position(alloc, position) else {
+        return Err(WebFault::Memory);
+    };
+    let reply = service.ask(&batch_for(text));
+    batch_in(alloc, &reply)
+}
+
+// The command that asks for a batch.
+fn batch_for(position: Vec<u8>) -> Command
+    ensures { command_of result ≡ BatchFor position.items lines_over_http }
+{
+    let max_lines = over_http();
+    Command::Local(Local::BatchFor {
+        position,
+        max_lines,
+    })
+}
+
+// How many lines a batch has at most that goes over HTTP.
+fn over_http() -> LineCount
+    ensures { result ≡ lines_over_http }
+{
+    LineCount::new(64).unwrap()
+}
+
+fn batch_in(alloc: Global, reply: &Reply) -> Result<(Vec<u8>, Ending), WebFault>
+    ensures { ReadsOff (reply_of reply.now) (λ x. IsBatchWith (reply_of reply.now) x.0.items (ending_of x.1)) result }
+{
+    match reply {
+        Reply::Batch(batch) => match write_batch(alloc, batch) {
+            Ok(text) => Ok((text, batch.ending)),
+            Err(_) => Err(WebFault::Memory),
+        },
+        Reply::Refused(refusal) => Err(WebFault::Own(*refusal)),
+        // No replica replies otherwise.
+        _ => Err(WebFault::Memory),
+    }
+}
+
+/// Takes the reply of a peer that was handed a batch: how many writes and commits of it were new.
+pub fn push_take<R: Read>(alloc: Global, reader: &mut R) -> Result<(u64, u64), WebFault>
+    ensures { Tells told_took (R.remaining reader.old) result }
+{
+    let mut buffer = Vec::new(alloc);
+    take_took(reader, &mut buffer)
+}
+
+fn take_took<R: Read>(reader: &mut R, buffer: &mut Vec<u8>) -> Result<(u64, u64), WebFault>
+    requires { buffer.old.items ≡ [] }
+    ensures { Tells told_took (R.remaining reader.old) result }
+{
+    let replied = read_reply(reader, buffer)?;
+    took_of(buffer.as_slice(), replied)
+}
+
+fn took_of(bytes: &[u8], replied: Option<Replied>) -> Result<(u64, u64), WebFault>
+    requires { IsInside (length bytes.now) replied }
+    ensures { Says (told_took (reply_seen bytes.now replied)) result }
+{
+    let body = whole_body(bytes, replied)?;
+    took_or_bad(body)
+}
+
+fn took_or_bad(body: &[u8]) -> Result<(u64, u64), WebFault>
+    ensures { result ≡ ok_or (read_took body.now) BadReply }
+{
+    took_in(body).ok_or(WebFault::BadReply)
+}

@@ -1,0 +1,9 @@
+pub mod Fitting
+pub mod JsonTexts
+pub mod MemberCounts
+pub mod OneReading
+pub mod PathWords
+pub mod PlainTexts
+pub mod Requests
+pub mod SlotLists
+pub mod TableRows

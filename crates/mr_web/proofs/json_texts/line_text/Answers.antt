@@ -1,0 +1,11 @@
+use Rattle.std.proofs.Common.{◌∙◌, ap}
+use Rattle.std.proofs.lemmas.Result.{IfOk-weaker}
+use Rattle.serde_json.specs.Written.{compact_text, has_float}
+use Rattle.mr_web.proofs.JsonTexts.{line_text}
+use Rattle.mr_web.proofs.json_texts.line_text.Goals as goal
+
+pub returns : goal.returns
+returns c =
+    let value = c.in_ok-value.ensures in
+    IfOk-weaker c.to_string.result _ _ (λ s h. h (ap has_float value) ∙ ap compact_text value
+    ∙ line_text c.args.line c.args.name.now c.args.number c.requires) c.to_string.ensures.text

@@ -1,0 +1,24 @@
+use Rattle.std.proofs.Common.{◌∙◌, ap, codes}
+use Rattle.matchit.specs.Route.{parse_route}
+use Rattle.mr_web.specs.Routes.{put, table}
+use Rattle.mr_web.specs.declared.routes.Resource.TheVariants as at
+use Rattle.mr_web.proofs.TableRows.{inserts_put}
+use Rattle.mr_web.proofs.routes.table.Goals as goal
+
+pub returns : goal.returns
+unfolding table
+returns c =
+    let one = inserts_put (parse_route (codes "/submit")) at.Submissions _ _ _ c.in_ok-insert.ensures in
+    let two = inserts_put (parse_route (codes "/rooms/{room}/days/{day}")) at.Day _ _ _ c.in_ok-insert-2.ensures in
+    let three = inserts_put (parse_route (codes "/rooms/{room}/requests/{id}")) at.Request _ _ _ c.in_ok-insert-3.ensures in
+    let four = inserts_put (parse_route (codes "/rooms/{room}/errors")) at.ErrorLog _ _ _ c.in_ok-insert-4.ensures in
+    let five = inserts_put (parse_route (codes "/position")) at.Position _ _ _ c.in_ok-insert-5.ensures in
+    let six = inserts_put (parse_route (codes "/pull")) at.Pull _ _ _ c.in_ok-insert-6.ensures in
+    let seven = inserts_put (parse_route (codes "/push")) at.Push _ _ _ c.in_ok-insert-7.ensures in
+    let to_two = two ∙ ap (put (parse_route (codes "/rooms/{room}/days/{day}")) at.Day)
+    (one ∙ ap (put (parse_route (codes "/submit")) at.Submissions) c.new-router.ensures) in
+    let to_four = four ∙ ap (put (parse_route (codes "/rooms/{room}/errors")) at.ErrorLog)
+    (three ∙ ap (put (parse_route (codes "/rooms/{room}/requests/{id}")) at.Request) to_two) in
+    let to_six = six ∙ ap (put (parse_route (codes "/pull")) at.Pull)
+    (five ∙ ap (put (parse_route (codes "/position")) at.Position) to_four) in
+    seven ∙ ap (put (parse_route (codes "/push")) at.Push) to_six

@@ -1,0 +1,22 @@
+use Rattle.std.proofs.Common.{inr}
+use Rattle.mr_model.specs.Http.{response_of}
+use Rattle.mr_service.specs.Asked.{command_of, reply_of}
+use Rattle.mr_web.proofs.Requests.{served_by, served_told}
+use Rattle.mr_web.proofs.serving.answer_command.Goals as goal
+
+pub returns-in-Ok-clause-answers : goal.returns-in-Ok-clause-answers
+returns-in-Ok-clause-answers g c input asks clean up a stands =
+    let step = c.ask-reply.ensures.step clean up a stands in
+    let reply = reply_of c.ask-reply.result in
+    served_told input a (g.K.Keeper.tables c.ask-reply.new.self) (response_of reply) c.in-Ok.answer c.in-Ok.ensures
+    (served_by input a step.0 (g.K.Keeper.tables c.ask-reply.new.self) (command_of c.args.command.now) reply asks step.1 step.2)
+
+pub returns-clause-answers : goal.returns-clause-answers
+returns-clause-answers g c input asks clean up a stands =
+    let step = c.ask-reply.ensures.step clean up a stands in
+    inr (
+      _,
+      _,
+      served_by input a step.0 (g.K.Keeper.tables c.ask-reply.new.self) (command_of c.args.command.now)
+          (reply_of c.ask-reply.result) asks step.1 step.2,
+    )

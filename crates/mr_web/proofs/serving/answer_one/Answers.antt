@@ -1,0 +1,24 @@
+use Rattle.std.proofs.Common.{Err}
+use Rattle.mr_model.specs.Texts.{Text}
+use Rattle.mr_model.specs.Replica.{Replica}
+use Rattle.mr_model.specs.Tables.{Stands}
+use Rattle.mr_http.proofs.Known.{of_input_map}
+use Rattle.mr_web.specs.Views.{AnswersTo, Settles}
+use Rattle.mr_web.proofs.Requests.{answers_stopped}
+use Rattle.mr_web.proofs.serving.answer_one.Goals as goal
+
+pub returns-in-Ok-clause-answers : goal.returns-in-Ok-clause-answers
+returns-in-Ok-clause-answers g c = of_input_map _ _ _ c.answer_command.ensures.answers c.in-Ok.ensures
+
+pub returns-in-Err-clause-answers : goal.returns-in-Err-clause-answers
+returns-in-Err-clause-answers g c =
+    let service = c.args.service.now in
+    let tables = g.K.Keeper.tables service in
+    let stop = c.in-Err.stop in
+    let answer = c.answer_to_stop.result in
+    let P : Text → Type 0 = λ input. Settles input (Err stop) in
+    let Q : Text → Type 0 = λ input. g.K.Keeper.is_clean service → g.K.Keeper.is_open service → (a : Replica) → Stands tables a
+    → AnswersTo input tables tables a answer in
+    let step : (input : Text) → P input → Q input = λ input asks clean up a stands.
+    answers_stopped input a tables stop answer c.answer_to_stop.ensures asks stands in
+    of_input_map (g.R.Read.remaining c.args.reader.now) P Q step c.in-Err.ensures

@@ -1,0 +1,164 @@
+ghost use Rattle.std.specs.Prelude.{◌≡◌, ◌≤◌, [], IfErr, length, drop};
+ghost use Rattle.std.specs.Io.KnownBytes.{Keeps};
+ghost use Rattle.mr_model.specs.Replica.{Replica};
+ghost use Rattle.mr_model.specs.Tables.{Stands};
+ghost use Rattle.mr_store.specs.Kept.{IsSettled};
+ghost use Rattle.mr_model.specs.Texts.{Text};
+ghost use Rattle.mr_model.specs.Http as model;
+ghost use Rattle.mr_service.specs.Asked.{command_of as command_view};
+ghost use Rattle.mr_http.specs.Inputs.{OfInput};
+ghost use Rattle.mr_http.specs.declared.faults.ReadFault.TheVariants.{Read as read_fault, Memory as memory_fault};
+ghost use Rattle.mr_http.specs.declared.faults.WebFault.TheVariants.{Read as fault_read};
+ghost use Rattle.mr_web.specs.Asking as spec;
+ghost use Rattle.mr_web.specs.Views.{AnswersTo, Ends, Gives, Settles, StopsWith};
+ghost use Rattle.mr_web.specs.Words.{route_view};
+
+use crate::checks::asked_by;
+use crate::rejections::{Rejection, Stop};
+use crate::replies::{Answer, answer_to_rejection, answer_to_reply};
+use crate::routes::Route;
+use crate::submissions::submission;
+use mr_base::LineCount;
+use mr_http::{ReadFault, WebFault, fill_to, read_request_head, send};
+use mr_service::{Command, Local, Service};
+use mr_store::Keeper;
+use std::alloc::{AllocError, Global};
+use std::io::{Read, Write};
+
+const LINES_OVER_HTTP: u32 = 64;
+
+fn batch_for(alloc: Global, body: &[u8]) -> Result<Command, Stop>
+    ensures { Gives command_view result (spec.command_in model.Pull body.now) }
+{
+    let Some(max_lines) = LineCount::new(LINES_OVER_HTTP) else {
+        return Err(Stop::Fault(ReadFault::Memory));
+    };
+    let position = Vec::from_slice(alloc, body)?;
+    Ok(Command::Local(Local::BatchFor {
+        position,
+        max_lines,
+    }))
+}
+
+fn command_of(alloc: Global, route: Route, body: &[u8]) -> Result<Command, Stop>
+    ensures { Gives command_view result (spec.command_in (route_view route) body.now) }
+{
+    match route {
+        Route::Submissions => {
+            let words = submission(alloc, body)?;
+            Ok(Command::Local(Local::Submit(words)))
+        }
+        Route::Day { room, day } => Ok(Command::Local(Local::Sheet { room, day })),
+        Route::Request { room, id } => Ok(Command::Local(Local::Outcome { room, id })),
+        Route::ErrorLog { room } => Ok(Command::Local(Local::Errors { room })),
+        Route::Position => Ok(Command::Local(Local::Position)),
+        Route::Pull => batch_for(alloc, body),
+        Route::Push => Ok(Command::Receive(Vec::from_slice(alloc, body)?)),
+    }
+}
+
+// The body behind the head, once as much as there is was read.
+fn body_of(buffer: &[u8], start: usize, count: usize) -> Result<&[u8], Stop>
+    requires { start ≤ length buffer.now }
+    ensures { Gives (λ b. b.now) result (spec.body_in count (drop start buffer.now)) }
+{
+    let rest = &buffer[start..];
+    if rest.len() < count {
+        return Err(Stop::Rejected(Rejection::BadRequest));
+    }
+    Ok(&rest[..count])
+}
+
+fn request_in<R: Read>(alloc: Global, reader: &mut R, buffer: &mut Vec<u8>) -> Result<Command, Stop>
+    requires { buffer.old.items ≡ [] }
+    ensures { OfInput (R.remaining reader.old) (λ input. Settles input result) }
+{
+    let Some(start) = read_request_head(reader, buffer)? else {
+        return Err(Stop::Rejected(Rejection::BadRequest));
+    };
+    let asked = asked_by(alloc, buffer.as_slice())?;
+    fill_to(reader, buffer, start + asked.length)?;
+    let body = body_of(buffer.as_slice(), start, asked.length)?;
+    command_of(alloc, asked.route, body)
+}
+
+/// Reads one request: its command, or the first check that it fails.
+fn request_from<R: Read>(alloc: Global, reader: &mut R) -> Result<Command, Stop>
+    ensures { OfInput (R.remaining reader.old) (λ input. Settles input result) }
+{
+    let mut buffer = Vec::new(alloc);
+    request_in(alloc, reader, &mut buffer)
+}
+
+// What a command is answered. Where no room is left for the bytes, the step stands.
+fn answer_command<K: Keeper>(
+    alloc: Global,
+    command: &Command,
+    service: &mut Service<K>,
+) -> Result<Answer, ReadFault>
+    ensures clean { K.is_clean service.new → K.is_clean service.old }
+    ensures open { K.is_clean service.new → K.is_open service.new → K.is_open service.old }
+    ensures settled { K.is_clean service.new → K.is_open service.new → IsSettled (K.may_leave service.old) (K.tables service.old) → IsSettled (K.may_leave service.new) (K.tables service.new) }
+    ensures memory { IfErr result (λ e. e ≡ memory_fault) }
+    ensures answers { (input : Text) → spec.Asks input (model.Runs (command_view command.now))
+        → K.is_clean service.new → K.is_open service.new → (a : Replica) → Stands (K.tables service.old) a
+        → AnswersTo input (K.tables service.old) (K.tables service.new) a result }
+{
+    let reply = service.ask(command);
+    match answer_to_reply(alloc, &reply) {
+        Ok(answer) => Ok(answer),
+        Err(AllocError) => Err(ReadFault::Memory),
+    }
+}
+
+// What a request that asks no command is answered.
+fn answer_to_stop(stop: Stop) -> Result<Answer, ReadFault>
+    ensures { StopsWith stop result }
+{
+    match stop {
+        Stop::Rejected(rejection) => Ok(answer_to_rejection(rejection)),
+        Stop::Fault(fault) => Err(fault),
+    }
+}
+
+fn answer_one<R: Read, K: Keeper>(
+    alloc: Global,
+    reader: &mut R,
+    service: &mut Service<K>,
+) -> Result<Answer, ReadFault>
+    ensures clean { K.is_clean service.new → K.is_clean service.old }
+    ensures open { K.is_clean service.new → K.is_open service.new → K.is_open service.old }
+    ensures settled { K.is_clean service.new → K.is_open service.new → IsSettled (K.may_leave service.old) (K.tables service.old) → IsSettled (K.may_leave service.new) (K.tables service.new) }
+    ensures read { IfErr result (λ e. e ≡ read_fault → service.new ≡ service.old) }
+    ensures answers { OfInput (R.remaining reader.old) (λ input.
+        K.is_clean service.new → K.is_open service.new → (a : Replica) → Stands (K.tables service.old) a
+        → AnswersTo input (K.tables service.old) (K.tables service.new) a result) }
+{
+    match request_from(alloc, reader) {
+        Ok(command) => answer_command(alloc, &command, service),
+        Err(stop) => answer_to_stop(stop),
+    }
+}
+
+/// Reads one request, serves it, writes its reply and answers the reply's status. What follows the request is passed over,
+/// though some of it may have been read. With the fault `Read` nothing was done or written; with `Memory` nothing was written, and the
+/// command may have been done; with `Write` a front of the reply was written, and the command stands as done or refused. No
+/// other fault comes.
+pub fn serve_one<R: Read, W: Write, K: Keeper>(
+    alloc: Global,
+    reader: &mut R,
+    writer: &mut W,
+    service: &mut Service<K>,
+) -> Result<u16, WebFault>
+    ensures clean { K.is_clean service.new → K.is_clean service.old }
+    ensures open { K.is_clean service.new → K.is_open service.new → K.is_open service.old }
+    ensures settled { K.is_clean service.new → K.is_open service.new → IsSettled (K.may_leave service.old) (K.tables service.old) → IsSettled (K.may_leave service.new) (K.tables service.new) }
+    ensures read { IfErr result (λ e. e ≡ fault_read → Keeps (W.contents writer.old) (W.contents writer.new) × (service.new ≡ service.old)) }
+    ensures serves { OfInput (R.remaining reader.old) (λ input.
+        K.is_clean service.new → K.is_open service.new → (a : Replica) → Stands (K.tables service.old) a
+        → Ends input (K.tables service.old) (K.tables service.new) a (W.contents writer.old) (W.contents writer.new) result) }
+{
+    let answer = answer_one(alloc, reader, service)?;
+    send(writer, answer.bytes.as_slice())?;
+    Ok(answer.status)
+}

@@ -1,0 +1,48 @@
+// Readers and writers that go a byte at a time, and fail when they are told to.
+
+use std::io::{self, Read, Write};
+
+/// Gives one byte a read, and fails where `left` reads are over.
+#[derive(Drop)]
+pub(crate) struct Drip<'a> {
+    pub(crate) bytes: &'a [u8],
+    pub(crate) left: usize,
+}
+
+impl Read for Drip<'_> {
+    fn read(&mut self, buf: &mut [u8]) -> io::Result<usize> {
+        if self.left == 0 {
+            return Err(io::Error::from(io::ErrorKind::Other));
+        }
+        self.left -= 1;
+        let most = buf.len().min(1);
+        self.bytes.read(&mut buf[..most])
+    }
+}
+
+/// Takes `room` bytes, one a write, and then fails.
+#[derive(Drop)]
+pub(crate) struct Narrow {
+    pub(crate) taken: Vec<u8>,
+    pub(crate) room: usize,
+}
+
+impl Write for Narrow {
+    fn write(&mut self, buf: &[u8]) -> io::Result<usize> {
+        if self.room == 0 {
+            return Err(io::Error::from(io::ErrorKind::Other));
+        }
+        match buf.first() {
+            None => Ok(0),
+            Some(byte) => {
+                self.room -= 1;
+                self.taken.push(*byte)?;
+                Ok(1)
+            }
+        }
+    }
+
+    fn flush(&mut self) -> io::Result<()> {
+        Ok(())
+    }
+}

@@ -1,0 +1,365 @@
+// Requests and their replies over a keeper of lists, to the byte. The memory is ample.
+
+use crate::connections::{Drip, Narrow};
+use mr_base::ServerId;
+use mr_http::WebFault;
+use mr_service::{Command, Local, Service};
+use mr_store::{Fault, Keeper, ListKeeper, Tripped};
+use mr_web::serve_one;
+use std::alloc::Global;
+use std::process::Abort;
+use std::test::Fail;
+
+// A submission, and requests that change nothing.
+const FIRST: [(&str, u16, &str); 7] = [
+    (
+        "POST /submit HTTP/1.1\r\nContent-Length: 86\r\n\r\n{\"day\":\"1995-12-18\",\"length\":60,\"room\":\"oak\",\"start\":\"13:30\",\"title\":\"Budget Meeting\"}",
+        200,
+        "HTTP/1.1 200 OK\r\nContent-Type: application/json\r\nContent-Length: 90\r\nConnection: close\r\n\r\n{\"day\":\"1995-12-18\",\"id\":\"1-1\",\"mark\":\"T\",\"start\":\"13:30\",\"state\":\"booked\",\"stop\":\"14:30\"}",
+    ),
+    (
+        "GET /rooms/oak/requests/7-1 HTTP/1.1\r\n\r\n",
+        404,
+        "HTTP/1.1 404 Not Found\r\nContent-Type: application/json\r\nContent-Length: 36\r\nConnection: close\r\n\r\n{\"name\":\"NoSuchRequest\",\"refusal\":9}",
+    ),
+    (
+        "POST /submit HTTP/1.1\r\nContent-Length: 1048577\r\n\r\n",
+        413,
+        "HTTP/1.1 413 Content Too Large\r\nContent-Type: application/json\r\nContent-Length: 21\r\nConnection: close\r\n\r\n{\"error\":\"too large\"}",
+    ),
+    (
+        "POST /submit HTTP/1.1\r\n\r\n",
+        400,
+        "HTTP/1.1 400 Bad Request\r\nContent-Type: application/json\r\nContent-Length: 23\r\nConnection: close\r\n\r\n{\"error\":\"bad request\"}",
+    ),
+    (
+        "POST /submit HTTP/1.1\r\nContent-Le",
+        400,
+        "HTTP/1.1 400 Bad Request\r\nContent-Type: application/json\r\nContent-Length: 23\r\nConnection: close\r\n\r\n{\"error\":\"bad request\"}",
+    ),
+    (
+        "GET /submit HTTP/1.1\r\n\r\n",
+        405,
+        "HTTP/1.1 405 Method Not Allowed\r\nContent-Type: application/json\r\nAllow: POST\r\nContent-Length: 30\r\nConnection: close\r\n\r\n{\"error\":\"method not allowed\"}",
+    ),
+    (
+        "GET /rooms/oak/days/1995-12-18 HTTP/1.1\r\n\r\n",
+        200,
+        "HTTP/1.1 200 OK\r\nContent-Type: text/plain\r\nContent-Length: 55\r\nConnection: close\r\n\r\noak 1995-12-18 Monday\n13:30-14:30 T 1-1 Budget Meeting\n",
+    ),
+];
+
+// The other routes, once each.
+const ROUTES: [(&str, u16, &str); 6] = [
+    (
+        "POST /push HTTP/1.1\r\nContent-Length: 66\r\n\r\nmr1 2 1\nW 2 1 1 oak 60 1995-12-18 13:30 1 1995-12-18 15:00 Beta\nE\n",
+        200,
+        "HTTP/1.1 200 OK\r\nContent-Type: text/plain\r\nContent-Length: 24\r\nConnection: close\r\n\r\ntook 1 writes 0 commits\n",
+    ),
+    (
+        "GET /rooms/oak/days/1995-12-18 HTTP/1.1\r\n\r\n",
+        200,
+        "HTTP/1.1 200 OK\r\nContent-Type: text/plain\r\nContent-Length: 78\r\nConnection: close\r\n\r\noak 1995-12-18 Monday\n13:30-14:30 T 1-1 Budget Meeting\n15:00-16:00 T 2-1 Beta\n",
+    ),
+    (
+        "GET /rooms/oak/requests/1-1 HTTP/1.1\r\n\r\n",
+        200,
+        "HTTP/1.1 200 OK\r\nContent-Type: application/json\r\nContent-Length: 90\r\nConnection: close\r\n\r\n{\"day\":\"1995-12-18\",\"id\":\"1-1\",\"mark\":\"T\",\"start\":\"13:30\",\"state\":\"booked\",\"stop\":\"14:30\"}",
+    ),
+    (
+        "GET /rooms/oak/errors HTTP/1.1\r\n\r\n",
+        200,
+        "HTTP/1.1 200 OK\r\nContent-Type: text/plain\r\nContent-Length: 23\r\nConnection: close\r\n\r\noak errors\n(no errors)\n",
+    ),
+    (
+        "GET /position HTTP/1.1\r\n\r\n",
+        200,
+        "HTTP/1.1 200 OK\r\nContent-Type: text/plain\r\nContent-Length: 26\r\nConnection: close\r\n\r\nmp1 1 1\nK 0\nV 1 1\nV 2 1\nE\n",
+    ),
+    (
+        "POST /pull HTTP/1.1\r\nContent-Length: 14\r\n\r\nmp1 9 1\nK 0\nE\n",
+        200,
+        "HTTP/1.1 200 OK\r\nContent-Type: text/plain\r\nContent-Length: 115\r\nConnection: close\r\n\r\nmr1 1 1\nW 1 1 1 oak 60 1995-12-18 13:30 0 Budget Meeting\nW 2 1 1 oak 60 1995-12-18 13:30 1 1995-12-18 15:00 Beta\nE\n",
+    ),
+];
+
+// Submissions whose wish is taken.
+const CHOICES: [(&str, u16, &str); 2] = [
+    (
+        "POST /submit HTTP/1.1\r\nContent-Length: 168\r\n\r\n{\"alternatives\":[{\"day\":\"1995-12-18\",\"start\":\"15:00\"},{\"day\":\"1995-12-19\",\"start\":\"13:30\"}],\"day\":\"1995-12-18\",\"length\":60,\"room\":\"oak\",\"start\":\"13:00\",\"title\":\"Audit\"}",
+        200,
+        "HTTP/1.1 200 OK\r\nContent-Type: application/json\r\nContent-Length: 90\r\nConnection: close\r\n\r\n{\"day\":\"1995-12-18\",\"id\":\"1-2\",\"mark\":\"T\",\"start\":\"15:00\",\"state\":\"booked\",\"stop\":\"16:00\"}",
+    ),
+    (
+        "POST /submit HTTP/1.1\r\nContent-Length: 77\r\n\r\n{\"day\":\"1995-12-18\",\"length\":60,\"room\":\"oak\",\"start\":\"13:00\",\"title\":\"Audit\"}",
+        200,
+        "HTTP/1.1 200 OK\r\nContent-Type: application/json\r\nContent-Length: 40\r\nConnection: close\r\n\r\n{\"id\":\"1-3\",\"mark\":\"T\",\"state\":\"logged\"}",
+    ),
+];
+
+// Requests that fail a check or are refused.
+const FAULTS: [(&str, u16, &str); 18] = [
+    (
+        "PUT /nothing HTTP/1.1\r\n\r\n",
+        404,
+        "HTTP/1.1 404 Not Found\r\nContent-Type: application/json\r\nContent-Length: 21\r\nConnection: close\r\n\r\n{\"error\":\"not found\"}",
+    ),
+    (
+        "GET /push HTTP/1.1\r\nTransfer-Encoding: chunked\r\n\r\n",
+        405,
+        "HTTP/1.1 405 Method Not Allowed\r\nContent-Type: application/json\r\nAllow: POST\r\nContent-Length: 30\r\nConnection: close\r\n\r\n{\"error\":\"method not allowed\"}",
+    ),
+    (
+        "POST /push HTTP/1.1\r\nContent-Length: 1048577\r\ncontent-length: 1048577\r\n\r\n",
+        400,
+        "HTTP/1.1 400 Bad Request\r\nContent-Type: application/json\r\nContent-Length: 23\r\nConnection: close\r\n\r\n{\"error\":\"bad request\"}",
+    ),
+    (
+        "GET /rooms/oak/days/é HTTP/1.1\r\n\r\n",
+        400,
+        "HTTP/1.1 400 Bad Request\r\nContent-Type: application/json\r\nContent-Length: 29\r\nConnection: close\r\n\r\n{\"name\":\"BadDay\",\"refusal\":1}",
+    ),
+    (
+        "POST /push HTTP/1.1\r\nContent-Length: 10\r\n\r\nmr1 1 1\nZ\n",
+        400,
+        "HTTP/1.1 400 Bad Request\r\nContent-Type: application/json\r\nContent-Length: 40\r\nConnection: close\r\n\r\n{\"line\":2,\"name\":\"BadLine\",\"refusal\":15}",
+    ),
+    (
+        "POST /pull HTTP/1.1\r\nContent-Length: 14\r\n\r\nmp1 9 2\nK 0\nE\n",
+        409,
+        "HTTP/1.1 409 Conflict\r\nContent-Type: application/json\r\nContent-Length: 36\r\nConnection: close\r\n\r\n{\"name\":\"WrongPrimary\",\"refusal\":16}",
+    ),
+    (
+        "GET /rooms/elm/errors HTTP/1.1\r\n\r\n",
+        404,
+        "HTTP/1.1 404 Not Found\r\nContent-Type: application/json\r\nContent-Length: 34\r\nConnection: close\r\n\r\n{\"name\":\"UnknownRoom\",\"refusal\":7}",
+    ),
+    (
+        "GET /rooms/éé/errors HTTP/1.1\r\n\r\n",
+        400,
+        "HTTP/1.1 400 Bad Request\r\nContent-Type: application/json\r\nContent-Length: 34\r\nConnection: close\r\n\r\n{\"name\":\"BadRoomName\",\"refusal\":4}",
+    ),
+    (
+        "POST /rooms/oak/errors HTTP/1.1\r\nContent-Length: 0\r\n\r\n",
+        405,
+        "HTTP/1.1 405 Method Not Allowed\r\nContent-Type: application/json\r\nAllow: GET\r\nContent-Length: 30\r\nConnection: close\r\n\r\n{\"error\":\"method not allowed\"}",
+    ),
+    (
+        "GET /rooms/oak HTTP/1.1\r\n\r\n",
+        404,
+        "HTTP/1.1 404 Not Found\r\nContent-Type: application/json\r\nContent-Length: 21\r\nConnection: close\r\n\r\n{\"error\":\"not found\"}",
+    ),
+    (
+        "GET /position HTTP/1.0\r\n\r\n",
+        400,
+        "HTTP/1.1 400 Bad Request\r\nContent-Type: application/json\r\nContent-Length: 23\r\nConnection: close\r\n\r\n{\"error\":\"bad request\"}",
+    ),
+    (
+        "GET /position HTTP/1.1\r\nContent-Length: 1\r\n\r\n1",
+        400,
+        "HTTP/1.1 400 Bad Request\r\nContent-Type: application/json\r\nContent-Length: 23\r\nConnection: close\r\n\r\n{\"error\":\"bad request\"}",
+    ),
+    (
+        "POST /pull HTTP/1.1\r\nContent-Length: 2\r\n\r\nE",
+        400,
+        "HTTP/1.1 400 Bad Request\r\nContent-Type: application/json\r\nContent-Length: 23\r\nConnection: close\r\n\r\n{\"error\":\"bad request\"}",
+    ),
+    (
+        "POST /submit HTTP/1.1\r\ntransfer-encoding: chunked\r\nContent-Length: 2\r\n\r\n{}",
+        400,
+        "HTTP/1.1 400 Bad Request\r\nContent-Type: application/json\r\nContent-Length: 23\r\nConnection: close\r\n\r\n{\"error\":\"bad request\"}",
+    ),
+    (
+        "POST /submit HTTP/1.1\r\nContent-Length: 79\r\n\r\n{\"day\":\"1995-12-18\",\"length\":60,\"room\":\"oak\",\"start\":\"13:30\",\"title\":\"A\",\"x\":1}",
+        400,
+        "HTTP/1.1 400 Bad Request\r\nContent-Type: application/json\r\nContent-Length: 23\r\nConnection: close\r\n\r\n{\"error\":\"bad request\"}",
+    ),
+    (
+        "POST /submit HTTP/1.1\r\nContent-Length: 74\r\n\r\n{\"day\":\"1995-12-18\",\"length\":6e1,\"room\":\"oak\",\"start\":\"13:30\",\"title\":\"A\"}",
+        400,
+        "HTTP/1.1 400 Bad Request\r\nContent-Type: application/json\r\nContent-Length: 23\r\nConnection: close\r\n\r\n{\"error\":\"bad request\"}",
+    ),
+    (
+        "POST /submit HTTP/1.1\r\nContent-Length: 111\r\n\r\n{\"day\":\"1995-12-18\",\"length\":60,\"room\":\"oak\",\"start\":\"13:30\",\"title\":\"A\",\"alternatives\":[{\"day\":\"1995-12-18\"}]}",
+        400,
+        "HTTP/1.1 400 Bad Request\r\nContent-Type: application/json\r\nContent-Length: 23\r\nConnection: close\r\n\r\n{\"error\":\"bad request\"}",
+    ),
+    (
+        "POST /submit HTTP/1.1\r\nContent-Length: 72\r\n\r\n{\"day\":\"1995-12-18\",\"length\":0,\"room\":\"oak\",\"start\":\"13:30\",\"title\":\"A\"}",
+        400,
+        "HTTP/1.1 400 Bad Request\r\nContent-Type: application/json\r\nContent-Length: 32\r\nConnection: close\r\n\r\n{\"name\":\"BadLength\",\"refusal\":3}",
+    ),
+];
+
+// The primary, which knows the room oak.
+fn opening(alloc: Global) -> Result<Service<ListKeeper>, Fail> {
+    let server = ServerId::new(1).ok_or("a server")?;
+    let mut service = Service::new(alloc, ListKeeper::new(alloc, server, server));
+    let room = String::from_str(alloc, "oak")?;
+    service.ask(&Command::Local(Local::AddRoom(room)));
+    Ok(service)
+}
+
+// The request is answered by this status and these bytes.
+fn check<K: Keeper>(
+    rt: &impl Abort,
+    alloc: Global,
+    service: &mut Service<K>,
+    (request, status, reply): (&str, u16, &str),
+) -> Result<(), Fail> {
+    let mut reader = request.as_bytes();
+    let mut writer = Vec::new(alloc);
+    let answered = serve_one(alloc, &mut reader, &mut writer, service);
+    assert_eq!(rt; writer.as_slice(), reply.as_bytes(), "for {request}");
+    assert!(rt;
+        matches!(answered, Ok(told) if told == status),
+        "for {request}"
+    );
+    Ok(())
+}
+
+fn check_all(
+    rt: &impl Abort,
+    alloc: Global,
+    service: &mut Service<ListKeeper>,
+    rows: &[(&str, u16, &str)],
+) -> Result<(), Fail> {
+    for row in rows {
+        check(rt, alloc, service, *row)?;
+    }
+    Ok(())
+}
+
+#[test]
+fn submits(rt: HostRuntime) -> Result<(), Fail> {
+    let alloc = rt.alloc();
+    let mut service = opening(alloc)?;
+    check_all(&rt, alloc, &mut service, &FIRST)
+}
+
+#[test]
+fn serves_each_route(rt: HostRuntime) -> Result<(), Fail> {
+    let alloc = rt.alloc();
+    let mut service = opening(alloc)?;
+    check(&rt, alloc, &mut service, FIRST[0])?;
+    check_all(&rt, alloc, &mut service, &ROUTES)
+}
+
+#[test]
+fn takes_alternatives(rt: HostRuntime) -> Result<(), Fail> {
+    let alloc = rt.alloc();
+    let mut service = opening(alloc)?;
+    check(&rt, alloc, &mut service, FIRST[0])?;
+    check_all(&rt, alloc, &mut service, &CHOICES)
+}
+
+#[test]
+fn tells_faults(rt: HostRuntime) -> Result<(), Fail> {
+    let alloc = rt.alloc();
+    let mut service = opening(alloc)?;
+    check_all(&rt, alloc, &mut service, &FAULTS)
+}
+
+const NO_MEMORY: &str =
+    "HTTP/1.1 503 Service Unavailable\r\nContent-Type: application/json\r\nContent-Length: 35\r\nConnection: close\r\n\r\n{\"name\":\"OutOfMemory\",\"refusal\":24}";
+
+const STORE_FAILED: &str =
+    "HTTP/1.1 503 Service Unavailable\r\nContent-Type: application/json\r\nContent-Length: 29\r\nConnection: close\r\n\r\n{\"name\":\"Store\",\"refusal\":25}";
+
+// A submission whose keeper fails after so many calls is answered 503, and once more it is the first one.
+fn check_tripped(
+    rt: &impl Abort,
+    alloc: Global,
+    left: u64,
+    fault: Fault,
+    reply: &str,
+) -> Result<(), Fail> {
+    let keeper = opening(alloc)?.into_keeper();
+    let mut service = Service::new(alloc, Tripped::new(keeper, left, fault));
+    check(rt, alloc, &mut service, (FIRST[0].0, 503, reply))?;
+    check(rt, alloc, &mut service, FIRST[0])
+}
+
+#[test]
+fn keepers_fail(rt: HostRuntime) -> Result<(), Fail> {
+    let alloc = rt.alloc();
+    for left in 0..2u64 {
+        check_tripped(&rt, alloc, left, Fault::OutOfMemory, NO_MEMORY)?;
+        check_tripped(&rt, alloc, left, Fault::Store, STORE_FAILED)?;
+    }
+    Ok(())
+}
+
+// The sheet, which has the one booking or none.
+fn check_sheet(
+    rt: &impl Abort,
+    alloc: Global,
+    service: &mut Service<ListKeeper>,
+    is_booked: bool,
+) -> Result<(), Fail> {
+    let (request, status, booked) = FIRST[6];
+    let reply = if is_booked { booked } else { NO_BOOKINGS };
+    check(rt, alloc, service, (request, status, reply))
+}
+
+const NO_BOOKINGS: &str =
+    "HTTP/1.1 200 OK\r\nContent-Type: text/plain\r\nContent-Length: 36\r\nConnection: close\r\n\r\noak 1995-12-18 Monday\n(no bookings)\n";
+
+// With so many reads of one byte each a submission is served, or the fault is told and nothing is booked.
+fn check_drip(rt: &impl Abort, alloc: Global, left: usize) -> Result<(), Fail> {
+    let (request, _, reply) = FIRST[0];
+    let mut service = opening(alloc)?;
+    let mut reader = Drip {
+        bytes: request.as_bytes(),
+        left,
+    };
+    let mut writer = Vec::new(alloc);
+    let answered = serve_one(alloc, &mut reader, &mut writer, &mut service);
+    let Drip { bytes: _, left: _ } = reader;
+    let is_whole = left >= request.len();
+    if is_whole {
+        assert!(rt; matches!(answered, Ok(200)), "at {left}");
+        assert_eq!(rt; writer.as_slice(), reply.as_bytes(), "at {left}");
+    } else {
+        assert!(rt; matches!(answered, Err(WebFault::Read)), "at {left}");
+        assert!(rt; writer.is_empty(), "at {left}");
+    }
+    check_sheet(rt, alloc, &mut service, is_whole)
+}
+
+#[test]
+fn reads_byte_by_byte(rt: HostRuntime) -> Result<(), Fail> {
+    let alloc = rt.alloc();
+    for left in 0..FIRST[0].0.len() + 2 {
+        check_drip(&rt, alloc, left)?;
+    }
+    Ok(())
+}
+
+// A writer that fails after so many bytes has that front of the reply, and the booking stands.
+fn check_narrow(rt: &impl Abort, alloc: Global, room: usize) -> Result<(), Fail> {
+    let (request, _, reply) = FIRST[0];
+    let mut service = opening(alloc)?;
+    let mut reader = request.as_bytes();
+    let mut writer = Narrow {
+        taken: Vec::new(alloc),
+        room,
+    };
+    let answered = serve_one(alloc, &mut reader, &mut writer, &mut service);
+    assert!(rt; matches!(answered, Err(WebFault::Write)), "at {room}");
+    assert!(rt;
+        reply.as_bytes().starts_with(writer.taken.as_slice()),
+        "at {room}"
+    );
+    assert_eq!(rt; writer.taken.len(), room);
+    check_sheet(rt, alloc, &mut service, true)
+}
+
+#[test]
+fn writes_fail(rt: HostRuntime) -> Result<(), Fail> {
+    let alloc = rt.alloc();
+    for room in 0..FIRST[0].2.len() {
+        check_narrow(&rt, alloc, room)?;
+    }
+    Ok(())
+}
