@@ -297,10 +297,7 @@ fn broken_rows_are_not_believed(rt: HostRuntime) {
         is_paired: false,
         ..KEPT
     };
-    let mispaired = Rows {
-        undo_of: 4,
-        ..KEPT
-    };
+    let mispaired = Rows { undo_of: 4, ..KEPT };
     let beyond = Rows {
         commits: 1_000_000_000_000,
         ..OPENING
