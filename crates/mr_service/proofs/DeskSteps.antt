@@ -16,7 +16,7 @@ use Rattle.mr_replica.specs.DeskTables.{desk_tables}
 use Rattle.mr_replica.specs.Turning.{TurnsTables}
 use Rattle.mr_replica.proofs.DeskRows.{desk_tables-of}
 use Rattle.mr_store.specs.Kept.{fault_refusal, failures_for}
-use Rattle.mr_service.specs.Asking.{Counts}
+use Rattle.mr_service.specs.Asking.{Counts, TellsRise}
 use Rattle.mr_store.specs.declared.keeper.Fault.{Fault}
 use Rattle.mr_store.specs.declared.keeper.Fault.TheVariants as fault
 
@@ -47,6 +47,11 @@ pub fault_counts : (e : Fault) (r : Refusal) (f0 f1 f2 : ℕ) → r ≡ fault_re
 fault_counts fault.OutOfMemory r f0 f1 f2 is same failed =
     (omega arith, λ told. absurd (cc (let out : Refused (refusal_of r) ≡ Refused model.OutOfMemory = ap (λ x. Refused (refusal_of x)) is in sym out ∙ told)))
 fault_counts fault.Store r f0 f1 f2 is same failed = (omega arith, λ told. omega arith)
+
+-- a fault of the keeper is counted only where the reply tells that the store failed
+pub fault_rise : (e : Fault) (r : Refusal) (f0 f1 f2 : ℕ) → r ≡ fault_refusal e → f1 ≡ f0 → f2 ≡ failures_for e f1 → TellsRise (Refused (refusal_of r)) f0 f2
+fault_rise fault.OutOfMemory r f0 f1 f2 is same failed = inl (failed ∙ same)
+fault_rise fault.Store r f0 f1 f2 is same failed = inr (ap (λ x. Refused (refusal_of x)) is)
 
 -- a refusal that the command gives everywhere, or want of memory, is a step that leaves the tables
 pub word_step : (t : Tables) (c : Command) (e : Refusal) → Does c (λ a. refuse a (refusal_of e)) ⊎ (e ≡ refusal.OutOfMemory) → TakesStep t c (Refused (refusal_of e)) t

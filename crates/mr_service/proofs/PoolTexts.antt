@@ -1,5 +1,5 @@
 -- The texts of batches are numbered from 1 on.
-use Rattle.std.proofs.Common.{◌≡◌, refl, sym, ap, ◌∙◌, ℕ, zero, suc, ◌-◌, ◌<◌, ◌≤◌, List, [], ◌∷◌, length, map, get_or, Option, Some, None, not-suc-le-zero, le_of_suc-le-suc, arith}
+use Rattle.std.proofs.Common.{◌≡◌, refl, sym, ap, ◌∙◌, ℕ, zero, suc, ◌-◌, ◌<◌, ◌≤◌, List, [], ◌∷◌, length, map, get_or, Some, not-suc-le-zero, le_of_suc-le-suc, arith}
 use Rattle.std.specs.List.{slice_get}
 use Rattle.mr_model.specs.Texts.{Text}
 use Rattle.mr_model.specs.World.{batch_numbered}

@@ -1,10 +1,10 @@
 -- Making a batch is a step of each world that a world of keepers stands for.
-use Rattle.std.proofs.Common.{◌≡◌, refl, sym, ap, subst, ◌∙◌, ℕ, ◌+◌, ◌<◌, ◌≤◌, List, [], ◌∷◌, ◌++◌, length, get_or, Option, Some, None, inl, inr, ◌⊎◌}
-use Rattle.std.specs.List.{slice_get, slice_set}
+use Rattle.std.proofs.Common.{◌≡◌, refl, sym, ap, subst, ◌∙◌, ℕ, ◌+◌, ◌≤◌, List, [], ◌∷◌, ◌++◌, length, Some, inl, inr, ◌⊎◌}
+use Rattle.std.specs.List.{slice_get}
 use Rattle.mr_model.specs.Texts.{Text}
 use Rattle.mr_model.specs.Replica.{Replica}
 use Rattle.mr_model.specs.Refusals.{Refusal, OutOfMemory}
-use Rattle.mr_model.specs.Exchange.{Batch, batch_text}
+use Rattle.mr_model.specs.Exchange.{batch_text}
 use Rattle.mr_model.specs.Positions.{position_of, position_text, read_position}
 use Rattle.mr_model.specs.Replies.{Reply, Refused}
 use Rattle.mr_model.specs.Step.{batch_reply, reply_to_position}

@@ -1,13 +1,13 @@
 -- The steps of a world of keepers are those of the worlds that it stands for.
-use Rattle.std.proofs.Common.{◌≡◌, refl, sym, ap, subst, ◌∙◌, ℕ, zero, suc, ◌+◌, ◌<◌, ◌≤◌, eqb, List, [], ◌∷◌, ◌++◌, length, take, get_or, Option, Some, None, IsTrue, inl, inr, ◌⊎◌}
-use Rattle.std.specs.List.{slice_get, slice_set}
+use Rattle.std.proofs.Common.{◌≡◌, refl, sym, ap, subst, ◌∙◌, ℕ, ◌<◌, ◌≤◌, List, [], ◌∷◌, ◌++◌, length, take, get_or, Some, None, IsTrue, inl, inr, ◌⊎◌}
+use Rattle.std.specs.List.{slice_set}
 use Rattle.mr_model.specs.Texts.{Text}
 use Rattle.mr_model.specs.Writes.{is_server}
 use Rattle.mr_model.specs.Replica.{Replica, opening}
 use Rattle.mr_model.specs.Refusals.{OutOfMemory}
 use Rattle.mr_model.specs.Replies.{Reply, Refused}
-use Rattle.mr_model.specs.Step.{Command, Receive, After, step}
-use Rattle.mr_model.specs.World.{World, Step, Add, Do, Make, Deliver, StepReply, Added, There, NoReplica, NoBatch, Said, replica_of, add_replica, do_at, deliver_to, with_after, batch_numbered, put_replica, primary_among, world_step, unchanged}
+use Rattle.mr_model.specs.Step.{Command, Receive, step}
+use Rattle.mr_model.specs.World.{World, Step, Add, Do, Deliver, StepReply, Added, There, NoReplica, NoBatch, Said, replica_of, add_replica, do_at, deliver_to, with_after, batch_numbered, put_replica, primary_among, world_step, unchanged}
 use Rattle.mr_model.specs.Honest.{IsLocal, IsWorldCommand, IsWorldStep}
 use Rattle.mr_service.specs.declared.commands.Local.{Local}
 use Rattle.mr_service.specs.declared.commands.Local.TheVariants as local

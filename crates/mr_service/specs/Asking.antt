@@ -1,13 +1,21 @@
 -- What a call of a service is, beside its step: what it counts of failures, and where it stands in a run.
 use Rattle.std.specs.Prelude.{◌≡◌, ℕ, ◌<◌, ◌≤◌, ◌⊎◌, List, [], ◌∷◌}
 use Rattle.mr_model.specs.Replica.{Replica}
-use Rattle.mr_model.specs.Refusals.{Store}
+use Rattle.mr_model.specs.Refusals.{Refusal, Store}
 use Rattle.mr_model.specs.Replies.{Reply, Refused}
 use Rattle.mr_model.specs.Tables.{Tables, Stands}
 
 -- the count of failures never falls, and rises where the reply tells of one
 abbrev pub Counts : Reply → ℕ → ℕ → Type 0
 Counts reply old new = (old ≤ new) × (reply ≡ Refused Store → old < new)
+
+-- the count rises only where the reply tells of a failure
+abbrev pub TellsRise : Reply → ℕ → ℕ → Type 0
+TellsRise reply old new = (new ≡ old) ⊎ (reply ≡ Refused Store)
+
+-- a refusal leaves the tables as they were, whatever these stand for
+abbrev pub LeavesOnRefusal : Reply → Tables → Tables → Type 0
+LeavesOnRefusal reply before after = (e : Refusal) → reply ≡ Refused e → after ≡ before
 
 -- no failure is counted where the tables stand for a replica
 abbrev pub NoneFails : Tables → ℕ → ℕ → Type 0

@@ -1,19 +1,20 @@
 //! Commands that change a replica, and those that ask for exchange: a desk is loaded, does its step, and what it changed is
 //! made in the tables. Words are read first, and the change is made last.
 
-ghost use Rattle.std.specs.Prelude.{◌≡◌, ◌⊎◌};
+ghost use Rattle.std.specs.Prelude.{◌≡◌, ◌⊎◌, IfSome};
 ghost use Rattle.mr_model.specs.Step.{IsOfMachine};
 ghost use Rattle.mr_model.specs.Step as model;
 ghost use Rattle.mr_model.specs.Serving.{TakesStep, Reaches};
 ghost use Rattle.mr_model.specs.Tables.{Tables};
 ghost use Rattle.mr_store.specs.Kept.{IsSettled};
 ghost use Rattle.mr_replica.specs.Turning.{put_outcome};
-ghost use Rattle.mr_service.specs.Asked.{submission_of, reply_in, reply_of};
-ghost use Rattle.mr_service.specs.Asking.{Counts, NoneFails};
+ghost use Rattle.mr_model.specs.Replies.{OutcomeIs};
+ghost use Rattle.mr_service.specs.Asked.{outcome_of, submission_of, reply_in};
+ghost use Rattle.mr_service.specs.Asking.{Counts, LeavesOnRefusal, NoneFails, TellsRise};
 
 use crate::commands::Submission;
 use crate::outcomes::{booked, logged};
-use crate::replies::Reply;
+use crate::replies::{Outcome, Reply};
 use crate::words::read_request;
 use mr_base::{LineCount, Refusal, RoomName};
 use mr_replica::Change;
@@ -31,6 +32,8 @@ pub(crate) fn add_room<K: Keeper>(
     ensures open { K.is_clean keeper.new → K.is_open keeper.new → K.is_open keeper.old }
     ensures step { K.is_clean keeper.new → K.is_open keeper.new → TakesStep (K.tables keeper.old) (model.AddRoom room.now) (reply_in result) (K.tables keeper.new) }
     ensures counts { Counts (reply_in result) (K.failures keeper.old) (K.failures keeper.new) }
+    ensures refused { K.is_clean keeper.new → K.is_open keeper.new → LeavesOnRefusal (reply_in result) (K.tables keeper.old) (K.tables keeper.new) }
+    ensures rise { TellsRise (reply_in result) (K.failures keeper.old) (K.failures keeper.new) }
     ensures sure { K.never_fails → K.is_clean keeper.new → K.is_open keeper.new → NoneFails (K.tables keeper.old) (K.failures keeper.old) (K.failures keeper.new) }
     ensures lasts { K.is_clean keeper.new → K.is_open keeper.old → IsOfMachine (reply_in result) ⊎ K.is_open keeper.new }
     ensures settled { K.is_clean keeper.new → K.is_open keeper.new → IsSettled (K.may_leave keeper.old) (K.tables keeper.old) → IsSettled (K.may_leave keeper.new) (K.tables keeper.new) }
@@ -54,17 +57,16 @@ pub(crate) fn add_room<K: Keeper>(
     }
 }
 
-/// What became of the request whose row stands in the change that a submission made.
-fn told(change: &Change) -> Reply
-    ensures { reply_of result ≡ put_outcome change.now.booking change.now.errorlog }
+/// What became of the request whose row stands in the change that a submission made. A change without a row, which no replica's
+/// submission makes, tells nothing.
+fn told(change: &Change) -> Option<Outcome>
+    ensures { IfSome result (λ o. OutcomeIs (outcome_of o) ≡ put_outcome change.now.booking change.now.errorlog) }
 {
     if let Some(row) = change.booking.first() {
-        return Reply::Outcome(booked(row));
+        return Some(booked(row));
     }
-    match change.errorlog.first() {
-        Some(row) => Reply::Outcome(logged(row)),
-        None => Reply::Refused(Refusal::NoSuchRequest),
-    }
+    let row = change.errorlog.first()?;
+    Some(logged(row))
 }
 
 /// Books a room.
@@ -77,6 +79,8 @@ pub(crate) fn submit<K: Keeper>(
     ensures open { K.is_clean keeper.new → K.is_open keeper.new → K.is_open keeper.old }
     ensures step { K.is_clean keeper.new → K.is_open keeper.new → TakesStep (K.tables keeper.old) (model.Submit (submission_of words.now)) (reply_in result) (K.tables keeper.new) }
     ensures counts { Counts (reply_in result) (K.failures keeper.old) (K.failures keeper.new) }
+    ensures refused { K.is_clean keeper.new → K.is_open keeper.new → LeavesOnRefusal (reply_in result) (K.tables keeper.old) (K.tables keeper.new) }
+    ensures rise { TellsRise (reply_in result) (K.failures keeper.old) (K.failures keeper.new) }
     ensures sure { K.never_fails → K.is_clean keeper.new → K.is_open keeper.new → NoneFails (K.tables keeper.old) (K.failures keeper.old) (K.failures keeper.new) }
     ensures lasts { K.is_clean keeper.new → K.is_open keeper.old → IsOfMachine (reply_in result) ⊎ K.is_open keeper.new }
     ensures settled { K.is_clean keeper.new → K.is_open keeper.new → IsSettled (K.may_leave keeper.old) (K.tables keeper.old) → IsSettled (K.may_leave keeper.new) (K.tables keeper.new) }
@@ -94,7 +98,10 @@ pub(crate) fn submit<K: Keeper>(
         Ok(done) => done,
         Err(refusal) => return Err(refusal),
     };
-    let reply = told(&done.1);
+    let reply = match told(&done.1) {
+        Some(outcome) => Reply::Outcome(outcome),
+        None => return Err(Refusal::OutOfMemory),
+    };
     match keeper.apply(&done.1) {
         Ok(()) => Ok(reply),
         Err(fault) => Err(fault.refusal()),
@@ -111,6 +118,8 @@ pub(crate) fn receive<K: Keeper>(
     ensures open { K.is_clean keeper.new → K.is_open keeper.new → K.is_open keeper.old }
     ensures step { K.is_clean keeper.new → K.is_open keeper.new → TakesStep (K.tables keeper.old) (model.Receive bytes.now) (reply_in result) (K.tables keeper.new) }
     ensures counts { Counts (reply_in result) (K.failures keeper.old) (K.failures keeper.new) }
+    ensures refused { K.is_clean keeper.new → K.is_open keeper.new → LeavesOnRefusal (reply_in result) (K.tables keeper.old) (K.tables keeper.new) }
+    ensures rise { TellsRise (reply_in result) (K.failures keeper.old) (K.failures keeper.new) }
     ensures sure { K.never_fails → K.is_clean keeper.new → K.is_open keeper.new → NoneFails (K.tables keeper.old) (K.failures keeper.old) (K.failures keeper.new) }
     ensures lasts { K.is_clean keeper.new → K.is_open keeper.old → IsOfMachine (reply_in result) ⊎ K.is_open keeper.new }
     ensures settled { K.is_clean keeper.new → K.is_open keeper.new → IsSettled (K.may_leave keeper.old) (K.tables keeper.old) → IsSettled (K.may_leave keeper.new) (K.tables keeper.new) }
@@ -143,6 +152,8 @@ pub(crate) fn commit<K: Keeper>(keeper: &mut K, k: u64) -> Result<Reply, Refusal
     ensures open { K.is_clean keeper.new → K.is_open keeper.new → K.is_open keeper.old }
     ensures step { K.is_clean keeper.new → K.is_open keeper.new → TakesStep (K.tables keeper.old) (model.Commit k) (reply_in result) (K.tables keeper.new) }
     ensures counts { Counts (reply_in result) (K.failures keeper.old) (K.failures keeper.new) }
+    ensures refused { K.is_clean keeper.new → K.is_open keeper.new → LeavesOnRefusal (reply_in result) (K.tables keeper.old) (K.tables keeper.new) }
+    ensures rise { TellsRise (reply_in result) (K.failures keeper.old) (K.failures keeper.new) }
     ensures sure { K.never_fails → K.is_clean keeper.new → K.is_open keeper.new → NoneFails (K.tables keeper.old) (K.failures keeper.old) (K.failures keeper.new) }
     ensures lasts { K.is_clean keeper.new → K.is_open keeper.old → IsOfMachine (reply_in result) ⊎ K.is_open keeper.new }
     ensures settled { K.is_clean keeper.new → K.is_open keeper.new → IsSettled (K.may_leave keeper.old) (K.tables keeper.old) → IsSettled (K.may_leave keeper.new) (K.tables keeper.new) }
@@ -168,6 +179,8 @@ pub(crate) fn truncate<K: Keeper>(keeper: &mut K, number: u64) -> Result<Reply, 
     ensures open { K.is_clean keeper.new → K.is_open keeper.new → K.is_open keeper.old }
     ensures step { K.is_clean keeper.new → K.is_open keeper.new → TakesStep (K.tables keeper.old) (model.Truncate number) (reply_in result) (K.tables keeper.new) }
     ensures counts { Counts (reply_in result) (K.failures keeper.old) (K.failures keeper.new) }
+    ensures refused { K.is_clean keeper.new → K.is_open keeper.new → LeavesOnRefusal (reply_in result) (K.tables keeper.old) (K.tables keeper.new) }
+    ensures rise { TellsRise (reply_in result) (K.failures keeper.old) (K.failures keeper.new) }
     ensures sure { K.never_fails → K.is_clean keeper.new → K.is_open keeper.new → NoneFails (K.tables keeper.old) (K.failures keeper.old) (K.failures keeper.new) }
     ensures lasts { K.is_clean keeper.new → K.is_open keeper.old → IsOfMachine (reply_in result) ⊎ K.is_open keeper.new }
     ensures settled { K.is_clean keeper.new → K.is_open keeper.new → IsSettled (K.may_leave keeper.old) (K.tables keeper.old) → IsSettled (K.may_leave keeper.new) (K.tables keeper.new) }
@@ -193,6 +206,8 @@ pub(crate) fn position<K: Keeper>(keeper: &mut K) -> Result<Reply, Refusal>
     ensures open { K.is_clean keeper.new → K.is_open keeper.new → K.is_open keeper.old }
     ensures step { K.is_clean keeper.new → K.is_open keeper.new → TakesStep (K.tables keeper.old) (model.AskPosition) (reply_in result) (K.tables keeper.new) }
     ensures counts { Counts (reply_in result) (K.failures keeper.old) (K.failures keeper.new) }
+    ensures refused { K.is_clean keeper.new → K.is_open keeper.new → LeavesOnRefusal (reply_in result) (K.tables keeper.old) (K.tables keeper.new) }
+    ensures rise { TellsRise (reply_in result) (K.failures keeper.old) (K.failures keeper.new) }
     ensures sure { K.never_fails → K.is_clean keeper.new → K.is_open keeper.new → NoneFails (K.tables keeper.old) (K.failures keeper.old) (K.failures keeper.new) }
     ensures lasts { K.is_clean keeper.new → K.is_open keeper.old → IsOfMachine (reply_in result) ⊎ K.is_open keeper.new }
     ensures settled { K.is_clean keeper.new → K.is_open keeper.new → IsSettled (K.may_leave keeper.old) (K.tables keeper.old) → IsSettled (K.may_leave keeper.new) (K.tables keeper.new) }
@@ -219,6 +234,8 @@ pub(crate) fn batch_for<K: Keeper>(
     ensures open { K.is_clean keeper.new → K.is_open keeper.new → K.is_open keeper.old }
     ensures step { K.is_clean keeper.new → K.is_open keeper.new → TakesStep (K.tables keeper.old) (model.BatchFor position.now max_lines) (reply_in result) (K.tables keeper.new) }
     ensures counts { Counts (reply_in result) (K.failures keeper.old) (K.failures keeper.new) }
+    ensures refused { K.is_clean keeper.new → K.is_open keeper.new → LeavesOnRefusal (reply_in result) (K.tables keeper.old) (K.tables keeper.new) }
+    ensures rise { TellsRise (reply_in result) (K.failures keeper.old) (K.failures keeper.new) }
     ensures sure { K.never_fails → K.is_clean keeper.new → K.is_open keeper.new → NoneFails (K.tables keeper.old) (K.failures keeper.old) (K.failures keeper.new) }
     ensures lasts { K.is_clean keeper.new → K.is_open keeper.old → IsOfMachine (reply_in result) ⊎ K.is_open keeper.new }
     ensures settled { K.is_clean keeper.new → K.is_open keeper.new → IsSettled (K.may_leave keeper.old) (K.tables keeper.old) → IsSettled (K.may_leave keeper.new) (K.tables keeper.new) }

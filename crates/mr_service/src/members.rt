@@ -1,7 +1,7 @@
 ghost use Rattle.std.specs.Prelude.{◌≡◌, ◌≤◌, ◌<◌, ◌⊎◌, MatchOption, IfOk, IfErr, length};
 ghost use Rattle.mr_model.specs.Replica.{Replica, opening};
 ghost use Rattle.mr_model.specs.Positions.{position_of, position_text, read_position};
-ghost use Rattle.mr_model.specs.Refusals.{OutOfMemory};
+ghost use Rattle.mr_model.specs.Refusals.{OutOfMemory, Refusal as RefusalOfReplica};
 ghost use Rattle.mr_model.specs.Replies.{Refused};
 ghost use Rattle.mr_model.specs.Step.{Receive, reply_to_position};
 ghost use Rattle.mr_base.specs.Refusals.{refusal_of};
@@ -156,6 +156,7 @@ fn position_in(alloc: Global, reply: &Reply) -> Result<Vec<u8>, Refusal>
 fn batch_in(alloc: Global, reply: &Reply) -> Result<Vec<u8>, Refusal>
     ensures text { IfOk result (λ text. IsBatchText (reply_of reply.now) text.items) }
     ensures refused { IfErr result (λ e. (reply_of reply.now ≡ Refused (refusal_of e)) ⊎ (refusal_of e ≡ OutOfMemory)) }
+    ensures told { (e : RefusalOfReplica) → reply_of reply.now ≡ Refused e → IfErr result (λ r. refusal_of r ≡ e) }
 {
     match reply {
         Reply::Batch(batch) => write_batch(alloc, batch),

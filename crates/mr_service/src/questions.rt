@@ -13,7 +13,7 @@ ghost use Rattle.mr_model.specs.View.{AskSheet, AskCalendar, AskOutcome, AskErro
 ghost use Rattle.mr_base.specs.Refusals.{refusal_of};
 ghost use Rattle.mr_store.specs.Kept.{IsSettled};
 ghost use Rattle.mr_service.specs.Asked.{part_of, outcome_of, reply_in};
-ghost use Rattle.mr_service.specs.Asking.{Counts, NoneFails};
+ghost use Rattle.mr_service.specs.Asking.{Counts, LeavesOnRefusal, NoneFails, TellsRise};
 ghost use Rattle.mr_service.specs.Questions.{Finds, log_key, log_key_cmp, place_outcome, rows_of_part};
 
 use crate::commands::Part;
@@ -35,6 +35,8 @@ pub(crate) fn sheet<K: Keeper>(
     ensures open { K.is_clean keeper.new → K.is_open keeper.new → K.is_open keeper.old }
     ensures step { K.is_clean keeper.new → K.is_open keeper.new → TakesStep (K.tables keeper.old) (model.Ask room.now (AskSheet day.now)) (reply_in result) (K.tables keeper.new) }
     ensures counts { Counts (reply_in result) (K.failures keeper.old) (K.failures keeper.new) }
+    ensures refused { K.is_clean keeper.new → K.is_open keeper.new → LeavesOnRefusal (reply_in result) (K.tables keeper.old) (K.tables keeper.new) }
+    ensures rise { TellsRise (reply_in result) (K.failures keeper.old) (K.failures keeper.new) }
     ensures sure { K.never_fails → K.is_clean keeper.new → K.is_open keeper.new → NoneFails (K.tables keeper.old) (K.failures keeper.old) (K.failures keeper.new) }
     ensures lasts { K.is_clean keeper.new → K.is_open keeper.old → IsOfMachine (reply_in result) ⊎ K.is_open keeper.new }
     ensures settled { K.is_clean keeper.new → K.is_open keeper.new → IsSettled (K.may_leave keeper.old) (K.tables keeper.old) → IsSettled (K.may_leave keeper.new) (K.tables keeper.new) }
@@ -65,6 +67,8 @@ pub(crate) fn calendar<K: Keeper>(
     ensures open { K.is_clean keeper.new → K.is_open keeper.new → K.is_open keeper.old }
     ensures step { K.is_clean keeper.new → K.is_open keeper.new → TakesStep (K.tables keeper.old) (model.Ask room.now (AskCalendar (part_of part))) (reply_in result) (K.tables keeper.new) }
     ensures counts { Counts (reply_in result) (K.failures keeper.old) (K.failures keeper.new) }
+    ensures refused { K.is_clean keeper.new → K.is_open keeper.new → LeavesOnRefusal (reply_in result) (K.tables keeper.old) (K.tables keeper.new) }
+    ensures rise { TellsRise (reply_in result) (K.failures keeper.old) (K.failures keeper.new) }
     ensures sure { K.never_fails → K.is_clean keeper.new → K.is_open keeper.new → NoneFails (K.tables keeper.old) (K.failures keeper.old) (K.failures keeper.new) }
     ensures lasts { K.is_clean keeper.new → K.is_open keeper.old → IsOfMachine (reply_in result) ⊎ K.is_open keeper.new }
     ensures settled { K.is_clean keeper.new → K.is_open keeper.new → IsSettled (K.may_leave keeper.old) (K.tables keeper.old) → IsSettled (K.may_leave keeper.new) (K.tables keeper.new) }
@@ -95,6 +99,8 @@ pub(crate) fn outcome<K: Keeper>(
     ensures open { K.is_clean keeper.new → K.is_open keeper.new → K.is_open keeper.old }
     ensures step { K.is_clean keeper.new → K.is_open keeper.new → TakesStep (K.tables keeper.old) (model.Ask room.now (AskOutcome id.now)) (reply_in result) (K.tables keeper.new) }
     ensures counts { Counts (reply_in result) (K.failures keeper.old) (K.failures keeper.new) }
+    ensures refused { K.is_clean keeper.new → K.is_open keeper.new → LeavesOnRefusal (reply_in result) (K.tables keeper.old) (K.tables keeper.new) }
+    ensures rise { TellsRise (reply_in result) (K.failures keeper.old) (K.failures keeper.new) }
     ensures sure { K.never_fails → K.is_clean keeper.new → K.is_open keeper.new → NoneFails (K.tables keeper.old) (K.failures keeper.old) (K.failures keeper.new) }
     ensures lasts { K.is_clean keeper.new → K.is_open keeper.old → IsOfMachine (reply_in result) ⊎ K.is_open keeper.new }
     ensures settled { K.is_clean keeper.new → K.is_open keeper.new → IsSettled (K.may_leave keeper.old) (K.tables keeper.old) → IsSettled (K.may_leave keeper.new) (K.tables keeper.new) }
@@ -121,6 +127,8 @@ pub(crate) fn errors<K: Keeper>(keeper: &mut K, alloc: Global, room: &str) -> Re
     ensures open { K.is_clean keeper.new → K.is_open keeper.new → K.is_open keeper.old }
     ensures step { K.is_clean keeper.new → K.is_open keeper.new → TakesStep (K.tables keeper.old) (model.Ask room.now AskErrors) (reply_in result) (K.tables keeper.new) }
     ensures counts { Counts (reply_in result) (K.failures keeper.old) (K.failures keeper.new) }
+    ensures refused { K.is_clean keeper.new → K.is_open keeper.new → LeavesOnRefusal (reply_in result) (K.tables keeper.old) (K.tables keeper.new) }
+    ensures rise { TellsRise (reply_in result) (K.failures keeper.old) (K.failures keeper.new) }
     ensures sure { K.never_fails → K.is_clean keeper.new → K.is_open keeper.new → NoneFails (K.tables keeper.old) (K.failures keeper.old) (K.failures keeper.new) }
     ensures lasts { K.is_clean keeper.new → K.is_open keeper.old → IsOfMachine (reply_in result) ⊎ K.is_open keeper.new }
     ensures settled { K.is_clean keeper.new → K.is_open keeper.new → IsSettled (K.may_leave keeper.old) (K.tables keeper.old) → IsSettled (K.may_leave keeper.new) (K.tables keeper.new) }
@@ -147,6 +155,7 @@ fn known_room<K: Keeper>(keeper: &mut K, alloc: Global, room: &str) -> Result<Ro
     ensures same { K.is_clean keeper.new → K.is_open keeper.new → K.tables keeper.new ≡ K.tables keeper.old }
     ensures counts { IfErr result (λ e. Counts (Refused (refusal_of e)) (K.failures keeper.old) (K.failures keeper.new)) }
     ensures failures { OnOk result (K.failures keeper.new ≡ K.failures keeper.old) }
+    ensures rise { IfErr result (λ e. TellsRise (Refused (refusal_of e)) (K.failures keeper.old) (K.failures keeper.new)) }
     ensures sure { K.never_fails → K.is_clean keeper.new → K.is_open keeper.new → NoneFails (K.tables keeper.old) (K.failures keeper.old) (K.failures keeper.new) }
     ensures lasts { K.is_clean keeper.new → K.is_open keeper.old → OnOk result (K.is_open keeper.new) }
     ensures fails { K.is_clean keeper.new → K.is_open keeper.old → IfErr result (λ e. IsOfMachine (Refused (refusal_of e)) ⊎ K.is_open keeper.new) }

@@ -4,7 +4,7 @@ ghost use Rattle.mr_model.specs.Serving.{TakesStep, Reaches};
 ghost use Rattle.mr_model.specs.Tables.{Tables};
 ghost use Rattle.mr_store.specs.Kept.{IsSettled};
 ghost use Rattle.mr_service.specs.Asked.{command_of, local_of, reply_of, reply_in};
-ghost use Rattle.mr_service.specs.Asking.{Counts, NoneFails};
+ghost use Rattle.mr_service.specs.Asking.{Counts, LeavesOnRefusal, NoneFails, TellsRise};
 
 use crate::changing::{add_room, batch_for, commit, position, receive, submit, truncate};
 use crate::commands::{Command, Local};
@@ -52,6 +52,8 @@ impl<K: Keeper> Service<K> {
         ensures open { K.is_clean self.new → K.is_open self.new → K.is_open self.old }
         ensures step { K.is_clean self.new → K.is_open self.new → TakesStep (K.tables self.old) (command_of command.now) (reply_of result) (K.tables self.new) }
         ensures counts { Counts (reply_of result) (K.failures self.old) (K.failures self.new) }
+        ensures refused { K.is_clean self.new → K.is_open self.new → LeavesOnRefusal (reply_of result) (K.tables self.old) (K.tables self.new) }
+        ensures rise { TellsRise (reply_of result) (K.failures self.old) (K.failures self.new) }
         ensures sure { K.never_fails → K.is_clean self.new → K.is_open self.new → NoneFails (K.tables self.old) (K.failures self.old) (K.failures self.new) }
         ensures lasts { K.is_clean self.new → K.is_open self.old → IsOfMachine (reply_of result) ⊎ K.is_open self.new }
         ensures settled { K.is_clean self.new → K.is_open self.new → IsSettled (K.may_leave self.old) (K.tables self.old) → IsSettled (K.may_leave self.new) (K.tables self.new) }
@@ -78,6 +80,8 @@ pub(crate) fn ask_local<K: Keeper>(
     ensures open { K.is_clean keeper.new → K.is_open keeper.new → K.is_open keeper.old }
     ensures step { K.is_clean keeper.new → K.is_open keeper.new → TakesStep (K.tables keeper.old) (local_of command.now) (reply_in result) (K.tables keeper.new) }
     ensures counts { Counts (reply_in result) (K.failures keeper.old) (K.failures keeper.new) }
+    ensures refused { K.is_clean keeper.new → K.is_open keeper.new → LeavesOnRefusal (reply_in result) (K.tables keeper.old) (K.tables keeper.new) }
+    ensures rise { TellsRise (reply_in result) (K.failures keeper.old) (K.failures keeper.new) }
     ensures sure { K.never_fails → K.is_clean keeper.new → K.is_open keeper.new → NoneFails (K.tables keeper.old) (K.failures keeper.old) (K.failures keeper.new) }
     ensures lasts { K.is_clean keeper.new → K.is_open keeper.old → IsOfMachine (reply_in result) ⊎ K.is_open keeper.new }
     ensures settled { K.is_clean keeper.new → K.is_open keeper.new → IsSettled (K.may_leave keeper.old) (K.tables keeper.old) → IsSettled (K.may_leave keeper.new) (K.tables keeper.new) }

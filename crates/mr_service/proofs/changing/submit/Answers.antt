@@ -1,11 +1,11 @@
 use Rattle.std.proofs.Common.{◌≡◌, refl, sym, ap, subst, ◌∙◌, inl, inr, Err}
 use Rattle.mr_model.specs.Tables.{Stands}
 use Rattle.mr_model.specs.Serving.{Reaches}
-use Rattle.mr_model.specs.Replies.{Refused}
-use Rattle.mr_model.specs.Step.{Submit}
+use Rattle.mr_model.specs.Replies.{Refused, OutcomeIs}
+use Rattle.mr_model.specs.Step.{Submit, no_memory}
 use Rattle.mr_base.specs.Refusals.{refusal_of}
 use Rattle.mr_replica.specs.Steps.{submit_request, outcome_in}
-use Rattle.mr_service.specs.Asked.{submission_of, reply_of}
+use Rattle.mr_service.specs.Asked.{submission_of, outcome_of}
 use Rattle.mr_replica.specs.Change.{changed}
 use Rattle.mr_service.proofs.DeskSteps as steps
 use Rattle.mr_service.proofs.CommandWords as words
@@ -36,9 +36,9 @@ returns-in-Ok-apply-clause-step g c = λ k o.
     let clean : g.K.Keeper.is_clean c.load.new.self = c.apply.ensures.clean k in
     let opens : g.K.Keeper.is_open c.load.new.self = c.apply.ensures.open k o in
     let same : g.K.Keeper.tables c.load.new.self ≡ g.K.Keeper.tables c.args.keeper.now = c.load.ensures.same clean opens in
-    steps.made_step (submit_request c.in-Ok.request) (λ a done. outcome_in c.in-Ok.request a done.0) (λ done. done.1) c.in-Ok-submit.done c.in-Ok-load.desk c.submit.new.self (g.K.Keeper.tables c.args.keeper.now) (g.K.Keeper.tables c.apply.new.self) (Submit (submission_of c.args.words.now)) (reply_of c.told-reply.result)
+    steps.made_step (submit_request c.in-Ok.request) (λ a done. outcome_in c.in-Ok.request a done.0) (λ done. done.1) c.in-Ok-submit.done c.in-Ok-load.desk c.submit.new.self (g.K.Keeper.tables c.args.keeper.now) (g.K.Keeper.tables c.apply.new.self) (Submit (submission_of c.args.words.now)) (OutcomeIs (outcome_of c.in-Some.outcome))
     (words.submission_read (submission_of c.args.words.now) c.in-Ok.request c.in-Ok.ensures) (c.in-Ok-load.ensures.loaded clean (c.load.ensures.open clean opens)) c.in-Ok-submit.ensures.step c.in-Ok-submit.ensures.change
-    (c.in-Ok-apply.ensures.applied k o ∙ ap (λ t. changed c.in-Ok-submit.done.1 t) same) (λ a sound from. c.told-reply.ensures ∙ sym (c.in-Ok-submit.ensures.told a sound from))
+    (c.in-Ok-apply.ensures.applied k o ∙ ap (λ t. changed c.in-Ok-submit.done.1 t) same) (λ a sound from. c.in-Some.ensures ∙ sym (c.in-Ok-submit.ensures.told a sound from))
 
 pub returns-in-Ok-apply-clause-crash : goal.returns-in-Ok-apply-clause-crash
 returns-in-Ok-apply-clause-crash g c = λ k o t left.
@@ -88,6 +88,23 @@ returns-in-Err-submit-clause-crash g c = λ k o t left. inl (c.load.ensures.cras
 
 pub returns-in-Ok-apply-clause-counts : goal.returns-in-Ok-apply-clause-counts
 returns-in-Ok-apply-clause-counts g c =
-    words.told_counts c.in-Ok-submit.done.1.booking c.in-Ok-submit.done.1.errorlog (reply_of c.told-reply.result)
+    words.told_counts c.in-Ok-submit.done.1.booking c.in-Ok-submit.done.1.errorlog (OutcomeIs (outcome_of c.in-Some.outcome))
     (g.K.Keeper.failures c.args.keeper.now) (g.K.Keeper.failures c.load.new.self) (g.K.Keeper.failures c.apply.new.self)
-    c.told-reply.ensures c.in-Ok-load.ensures.failures c.in-Ok-apply.ensures.failures
+    c.in-Some.ensures c.in-Ok-load.ensures.failures c.in-Ok-apply.ensures.failures
+
+pub returns-in-None-clause-step : goal.returns-in-None-clause-step
+returns-in-None-clause-step g c = λ k o a h. (a, inr (no_memory, refl), subst (λ x. Stands x a) (sym (c.load.ensures.same k o)) h)
+
+pub returns-in-None-clause-crash : goal.returns-in-None-clause-crash
+returns-in-None-clause-crash g c = λ k o t left. inl (c.load.ensures.crash k o t left)
+
+pub returns-clause-rise : goal.returns-clause-rise
+returns-clause-rise g c =
+    steps.fault_rise c.in-Err-apply.fault c.refusal-in-Err-apply.result (g.K.Keeper.failures c.args.keeper.now) (g.K.Keeper.failures c.load.new.self) (g.K.Keeper.failures c.apply.new.self)
+    c.refusal-in-Err-apply.ensures c.in-Ok-load.ensures.failures c.in-Err-apply.ensures.failures
+
+pub returns-in-Ok-apply-clause-settled : goal.returns-in-Ok-apply-clause-settled
+returns-in-Ok-apply-clause-settled g c = λ k o before. c.apply.ensures.settled k o (c.load.ensures.settled (c.apply.ensures.clean k) (c.apply.ensures.open k o) before)
+
+pub returns-clause-settled : goal.returns-clause-settled
+returns-clause-settled g c = λ k o before. c.apply.ensures.settled k o (c.load.ensures.settled (c.apply.ensures.clean k) (c.apply.ensures.open k o) before)

@@ -1,5 +1,4 @@
 use Rattle.std.proofs.Common.{map}
-use Rattle.std.specs.List.{slice_set}
 use Rattle.mr_service.specs.Stepping.{step_reply_of}
 use Rattle.mr_service.proofs.WorldMembers.{stand_at, stand_still}
 use Rattle.mr_service.proofs.WorldBatches.{asked_at}

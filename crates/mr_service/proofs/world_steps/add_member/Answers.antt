@@ -1,4 +1,4 @@
-use Rattle.std.proofs.Common.{◌≡◌, ap, sym, subst, List}
+use Rattle.std.proofs.Common.{sym, subst, List}
 use Rattle.mr_model.specs.World.{Add, StepReply}
 use Rattle.mr_model.specs.World as model
 use Rattle.mr_service.specs.Stepping.{step_reply_of}

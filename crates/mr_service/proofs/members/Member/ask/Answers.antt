@@ -1,4 +1,4 @@
-use Rattle.std.proofs.Common.{sym, subst, ap}
+use Rattle.std.proofs.Common.{sym, subst}
 use Rattle.mr_model.specs.Replies.{Reply}
 use Rattle.mr_service.specs.Asked.{local_of, reply_in}
 use Rattle.mr_service.specs.Worlds.{MemberView, AnswersInMemory}
