@@ -1,5 +1,5 @@
 -- What is known of a database that was taken over: the rowids of its tables are integers and rise, and its rows, once read, are a keeper's.
-use Rattle.std.proofs.Common.{◌≡◌, inl, inr, ℕ, pos, ◌+◌, List, [], ◌∷◌, true, Some, Ok, Err, Result, IfOk, refl, sym, ap, subst, subst₂, ◌∙◌, arith}
+use Rattle.std.proofs.Common.{◌≡◌, inl, inr, ℕ, pos, ◌+◌, List, [], ◌∷◌, true, Some, Ok, Err, Result, IfOk, IfErr, refl, sym, ap, subst, subst₂, ◌∙◌, arith}
 use Rattle.std.specs.List.{AllZip}
 use Rattle.std.specs.Ordering.{is_eq}
 use Rattle.std.proofs.lemmas.Cmp.{tied_itself}
@@ -23,7 +23,7 @@ use Rattle.mr_model.specs.Replica.{opening}
 use Rattle.mr_model.specs.Tables.{MetaRow, Stands}
 use Rattle.mr_sql.specs.Schema.{no_schema, our_schema}
 use Rattle.mr_sql.specs.Kept.{IsOurs, IsKept, tables_in}
-use Rattle.mr_sql.specs.Found.{HasShelves, LeavesTables, IsTaken, IsFound, IsAdopted, AreOurRows, IsMeta}
+use Rattle.mr_sql.specs.Found.{HasShelves, LeavesTables, IsTaken, IsFound, IsAdopted, StaysAs, AreOurRows, IsMeta}
 use Rattle.mr_sql.proofs.FoundLemmas.{all_held, meta_is_found}
 use Rattle.mr_sql.specs.Shelf.{IsShelf}
 
@@ -73,6 +73,16 @@ pub told_of_two : {X E : Type 0} (r : Result X E) (P Q R : X → Type 0) → ((x
 told_of_two (Ok x) P Q R way h k = way x h k
 told_of_two (Err e) P Q R way h k = tt
 
+-- ---- what is told by a refusal
+
+pub failed_of : {X E : Type 0} (r : Result X E) (P Q : E → Type 0) → ((e : E) → P e → Q e) → IfErr r P → IfErr r Q
+failed_of (Ok x) P Q way h = tt
+failed_of (Err e) P Q way h = way e h
+
+pub failed_of_two : {X E : Type 0} (r : Result X E) (P Q R : E → Type 0) → ((e : E) → P e → Q e → R e) → IfErr r P → IfErr r Q → IfErr r R
+failed_of_two (Ok x) P Q R way h k = tt
+failed_of_two (Err e) P Q R way h k = way e h k
+
 -- ---- from a database that was taken over to a keeper's
 
 pub settles : (trees : Trees) (old new : State) → IsTaken trees old → old.now.schema ≡ our_schema → (new.now ≡ old.now) × (new.committed ≡ old.committed) → AreOurRows old.now.trees → IsKept new
@@ -96,6 +106,13 @@ resumes server primary trees m s found a b =
 
 pub begins : (server primary : ℕ) (trees : Trees) (old new : State) → IsTaken trees old → old.now.schema ≡ no_schema → IsKept new → Stands (tables_in new.now.trees) (opening server primary) → IsKept new × IsAdopted server primary trees new.now.trees
 begins server primary trees old new taken none kept stands = (kept, inl (subst₂ (λ schema db. IsSound schema db) none taken.trees_are taken.sound, stands))
+
+-- what was taken over and stayed has its rows
+pub stays : (trees : Trees) (old new : State) → IsTaken trees old → (new.now ≡ old.now) × (new.committed ≡ old.committed) → StaysAs trees new
+stays trees old new taken same = (ap (λ (db : Database). db.trees) same.0 ∙ taken.trees_are, same.0 ∙ taken.settled ∙ sym same.1)
+
+pub found_stays : (trees : Trees) (m : MetaRow) (s : State) → IsFound trees m s → StaysAs trees s
+found_stays trees m s found = (found.trees_are, found.kept.settled)
 
 -- what a crash may leave of a keeper's database is its tables alone
 pub alone : (s : State) → IsKept s → ((db : Trees) → s.may_leave db → db ≡ s.committed.trees) → LeavesTables s

@@ -69,6 +69,10 @@ pub record IsTaken (trees : Trees) (s : State) : Type 0 where
   pub sound : IsDatabase s.now
   pub shelves : HasShelves s.now
 
+-- the database has these trees, and nothing uncommitted
+abbrev pub StaysAs : Trees → State → Type 0
+StaysAs trees s = (s.now.trees ≡ trees) × (s.now ≡ s.committed)
+
 -- where these trees are no tables yet, or the tables of this server and primary, they become the tables of a keeper
 abbrev pub IsAdopted : ℕ → ℕ → Trees → Trees → Type 0
 IsAdopted server primary before after =

@@ -1,11 +1,12 @@
-ghost use Rattle.std.specs.Prelude.{◌≡◌, ◌⊎◌, false, IfOk, IfErr, OnOk, IsTrue};
+ghost use Rattle.std.specs.Prelude.{◌≡◌, ◌⊎◌, false, None, IfOk, IfErr, OnOk, OnErr, IsTrue};
 ghost use Rattle.sqlite_trees.specs.Tree.{Trees};
+ghost use Rattle.sqlite_trees.specs.View.{IsClean};
 ghost use Rattle.sqlite_catalog.specs.Listing.{IsSound};
 ghost use Rattle.sqlite.specs.State.{HasCleanDisk};
 ghost use Rattle.sqlite.specs.Held.{state};
 ghost use Rattle.mr_sql.specs.Schema.{no_schema, our_schema};
 ghost use Rattle.mr_sql.specs.Kept.{IsKept};
-ghost use Rattle.mr_sql.specs.Found.{IsTaken, IsFound, IsAdopted};
+ghost use Rattle.mr_sql.specs.Found.{IsTaken, IsFound, IsMeta, IsAdopted, StaysAs};
 
 use crate::create::create;
 use crate::faults::refusal_of;
@@ -23,6 +24,7 @@ pub(crate) fn retaken<S: Alter + Drop>(
 ) -> Result<Connection<S>, (Error, S)>
     ensures taken { IfOk result (λ c. HasCleanDisk (state S.Store c) → IsTaken (state S.Store conn).committed.trees (state S.Store c)) }
     ensures autocommit { IfOk result (λ c. c.in_transaction ≡ false) }
+    ensures back { IfErr result (λ e. IsClean (S.Store.view e.1) → IsTrue (S.Store.view e.1).is_open → (S.Store.view e.1).trees ≡ (state S.Store conn).committed.trees) }
 {
     let store = conn.into_store();
     if store.is_broken() {
@@ -42,6 +44,8 @@ fn begin<S: Alter>(
     ensures autocommit { conn.new.in_transaction ≡ false }
     ensures clean { HasCleanDisk (state S.Store conn.new) → HasCleanDisk (state S.Store conn.old) }
     ensures begun { (trees : Trees) → HasCleanDisk (state S.Store conn.new) → IsTaken trees (state S.Store conn.old) → OnOk result (IsTrue (state S.Store conn.new).is_open → IsKept (state S.Store conn.new) × IsAdopted server primary trees (state S.Store conn.new).now.trees) }
+    ensures opens { (trees : Trees) → HasCleanDisk (state S.Store conn.new) → IsTaken trees (state S.Store conn.old) → OnOk result (IsTrue (state S.Store conn.new).is_open) }
+    ensures stays { (trees : Trees) → HasCleanDisk (state S.Store conn.new) → IsTaken trees (state S.Store conn.old) → OnErr result (IsTrue (state S.Store conn.new).is_open → StaysAs trees (state S.Store conn.new)) }
     ensures cause { IfErr result (λ e. (e ≡ Refusal.OutOfMemory) ⊎ (e ≡ Refusal.Store)) }
 {
     server.number();
@@ -66,6 +70,9 @@ pub(crate) fn find<S: Alter>(conn: &mut Connection<S>, alloc: Global) -> Result<
     ensures autocommit { conn.new.in_transaction ≡ false }
     ensures clean { HasCleanDisk (state S.Store conn.new) → HasCleanDisk (state S.Store conn.old) }
     ensures found { (trees : Trees) → HasCleanDisk (state S.Store conn.new) → IsTaken trees (state S.Store conn.old) → IfOk result (λ m. IsTrue (state S.Store conn.new).is_open → IsFound trees m (state S.Store conn.new)) }
+    ensures opens { (trees : Trees) → HasCleanDisk (state S.Store conn.new) → IsTaken trees (state S.Store conn.old) → OnOk result (IsTrue (state S.Store conn.new).is_open) }
+    ensures stays { (trees : Trees) → HasCleanDisk (state S.Store conn.new) → IsTaken trees (state S.Store conn.old) → OnErr result (IsTrue (state S.Store conn.new).is_open → StaysAs trees (state S.Store conn.new)) }
+    ensures strange { (trees : Trees) → HasCleanDisk (state S.Store conn.new) → IsTaken trees (state S.Store conn.old) → IfErr result (λ e. e ≡ Refusal.NotAReplica → IsMeta trees None) }
     ensures cause { IfErr result (λ e. (e ≡ Refusal.OutOfMemory) ⊎ ((e ≡ Refusal.Store) ⊎ (e ≡ Refusal.NotAReplica))) }
 {
     match find_all(conn, alloc) {
@@ -87,6 +94,8 @@ fn resume<S: Alter>(
     ensures autocommit { conn.new.in_transaction ≡ false }
     ensures clean { HasCleanDisk (state S.Store conn.new) → HasCleanDisk (state S.Store conn.old) }
     ensures resumed { (trees : Trees) → HasCleanDisk (state S.Store conn.new) → IsTaken trees (state S.Store conn.old) → OnOk result (IsTrue (state S.Store conn.new).is_open → IsKept (state S.Store conn.new) × IsAdopted server primary trees (state S.Store conn.new).now.trees) }
+    ensures opens { (trees : Trees) → HasCleanDisk (state S.Store conn.new) → IsTaken trees (state S.Store conn.old) → OnOk result (IsTrue (state S.Store conn.new).is_open) }
+    ensures stays { (trees : Trees) → HasCleanDisk (state S.Store conn.new) → IsTaken trees (state S.Store conn.old) → OnErr result (IsTrue (state S.Store conn.new).is_open → StaysAs trees (state S.Store conn.new)) }
     ensures cause { IfErr result (λ e. (e ≡ Refusal.OutOfMemory) ⊎ ((e ≡ Refusal.Store) ⊎ (e ≡ Refusal.NotAReplica))) }
 {
     let meta = find(conn, alloc)?;
@@ -108,6 +117,8 @@ pub(crate) fn settle<S: Alter>(
     ensures autocommit { conn.new.in_transaction ≡ false }
     ensures clean { HasCleanDisk (state S.Store conn.new) → HasCleanDisk (state S.Store conn.old) }
     ensures settled { (trees : Trees) → HasCleanDisk (state S.Store conn.new) → IsTaken trees (state S.Store conn.old) → OnOk result (IsTrue (state S.Store conn.new).is_open → IsKept (state S.Store conn.new) × IsAdopted server primary trees (state S.Store conn.new).now.trees) }
+    ensures opens { (trees : Trees) → HasCleanDisk (state S.Store conn.new) → IsTaken trees (state S.Store conn.old) → OnOk result (IsTrue (state S.Store conn.new).is_open) }
+    ensures stays { (trees : Trees) → HasCleanDisk (state S.Store conn.new) → IsTaken trees (state S.Store conn.old) → OnErr result (IsTrue (state S.Store conn.new).is_open → StaysAs trees (state S.Store conn.new)) }
     ensures cause { IfErr result (λ e. (e ≡ Refusal.OutOfMemory) ⊎ ((e ≡ Refusal.Store) ⊎ (e ≡ Refusal.NotAReplica))) }
 {
     if is_blank(conn) {
@@ -126,6 +137,7 @@ pub(crate) fn recover<S: Alter>(conn: &mut Connection<S>, alloc: Global) -> Resu
     ensures autocommit { conn.new.in_transaction ≡ false }
     ensures clean { HasCleanDisk (state S.Store conn.new) → HasCleanDisk (state S.Store conn.old) }
     ensures recovered { (trees : Trees) → HasCleanDisk (state S.Store conn.new) → IsTaken trees (state S.Store conn.old) → OnOk result (IsTrue (state S.Store conn.new).is_open → IsKept (state S.Store conn.new) × IsSound our_schema trees × ((state S.Store conn.new).now.trees ≡ trees)) }
+    ensures opens { (trees : Trees) → HasCleanDisk (state S.Store conn.new) → IsTaken trees (state S.Store conn.old) → OnOk result (IsTrue (state S.Store conn.new).is_open) }
     ensures cause { IfErr result (λ e. (e ≡ Refusal.OutOfMemory) ⊎ ((e ≡ Refusal.Store) ⊎ (e ≡ Refusal.NotAReplica))) }
 {
     match is_ours(alloc, conn) {

@@ -1,4 +1,4 @@
-ghost use Rattle.std.specs.Prelude.{◌≡◌, ◌≤◌, ◌==◌, pos, IfOk, string_bytes};
+ghost use Rattle.std.specs.Prelude.{◌≡◌, ◌≢◌, ℕ, ◌<◌, ◌≤◌, ◌^◌, ◌==◌, pos, length, IfOk, IfErr, string_bytes};
 ghost use Rattle.sqlite_value.specs.declared.value.Value.TheVariants.{Int, Text};
 ghost use Rattle.sqlite_value.specs.Order.{column, bytes};
 ghost use Rattle.mr_model.specs.Calendar.{date_in, date_text};
@@ -12,7 +12,10 @@ use sqlite::{Error, ErrorCode, Row};
 use std::alloc::Global;
 
 // What a value that breaks its limits is refused with. Want of memory stays what it is.
-fn broken(refusal: Refusal, at: usize) -> Error {
+fn broken(refusal: Refusal, at: usize) -> Error
+    ensures memory { refusal ≡ Refusal.OutOfMemory → result ≡ Error.SqliteFailure ErrorCode.OutOfMemory }
+    ensures other { refusal ≢ Refusal.OutOfMemory → result ≢ Error.SqliteFailure ErrorCode.OutOfMemory }
+{
     match refusal {
         Refusal::OutOfMemory => Error::SqliteFailure(ErrorCode::OutOfMemory),
         _ => Error::InvalidColumnType(at, Type::Text),
@@ -71,6 +74,7 @@ pub(crate) fn read_server(row: &Row, at: usize) -> Result<ServerId, Error>
 pub(crate) fn read_u32(row: &Row, at: usize) -> Result<u32, Error>
     ensures number { IfOk result (λ number. number ≡ nat_of (column row.now at)) }
     ensures cell { IfOk result (λ number. column row.now at ≡ Int (pos number)) }
+    ensures refused { IfErr result (λ e. e ≢ Error.SqliteFailure ErrorCode.OutOfMemory → at < length row.now → (n : ℕ) → n < 2 ^ 32 → column row.now at ≢ Int (pos n)) }
 {
     row.get(at)
 }
@@ -80,6 +84,7 @@ pub(crate) fn read_minute(row: &Row, at: usize) -> Result<u32, Error>
     ensures minute { IfOk result (λ minute. minute ≡ nat_of (column row.now at)) }
     ensures cell { IfOk result (λ minute. column row.now at ≡ Int (pos minute)) }
     ensures within { IfOk result (λ minute. minute ≤ 1440) }
+    ensures refused { IfErr result (λ e. e ≢ Error.SqliteFailure ErrorCode.OutOfMemory → at < length row.now → (n : ℕ) → n ≤ 1440 → column row.now at ≢ Int (pos n)) }
 {
     let minute = read_u32(row, at)?;
     if minute > 1440 {

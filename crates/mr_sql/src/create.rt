@@ -139,6 +139,7 @@ fn fill<S: Alter>(tx: &mut Transaction<'_, S>, row: &MetaRow) -> Result<(), Erro
 pub(crate) fn create<S: Alter>(conn: &mut Connection<S>, row: &MetaRow) -> Result<(), Error>
     requires autocommit { conn.old.in_transaction ≡ false }
     ensures autocommit { conn.new.in_transaction ≡ false }
+    ensures lasts { HasCleanDisk (state S.Store conn.new) → OnOk result (IsTrue (state S.Store conn.new).is_open) }
     ensures kept { HasCleanDisk (state S.Store conn.new) → IsTrue (state S.Store conn.new).is_open → IsBlank no_schema (state S.Store conn.old).now → OnOk result (IsKept (state S.Store conn.new)) }
     ensures tables { HasCleanDisk (state S.Store conn.new) → IsTrue (state S.Store conn.new).is_open → IsBlank no_schema (state S.Store conn.old).now
         → OnOk result (tables_in (state S.Store conn.new).now.trees ≡ meta_put row.now no_tables) }

@@ -41,6 +41,7 @@ impl SqlKeeper<FileStore<sqlite::File>> {
         primary: ServerId,
     ) -> Result<FileKeeper, Refusal>
         ensures opened { IfOk result (λ k. HasCleanDisk (file_state k.0) → IsTrue (file_state k.0).is_open → ((before : Trees) × IsAdopted server primary before (file_state k.0).now.trees)) }
+        ensures opens { IfOk result (λ k. HasCleanDisk (file_state k.0) → IsTrue (file_state k.0).is_open) }
         ensures settled { IfOk result (λ k. HasCleanDisk (file_state k.0) → IsTrue (file_state k.0).is_open → LeavesTables (file_state k.0)) }
         ensures uncounted { IfOk result (λ k. k.1 ≡ 0) }
         ensures cause { IfErr result (λ e. (e ≡ Refusal.OutOfMemory) ⊎ ((e ≡ Refusal.Store) ⊎ (e ≡ Refusal.NotAReplica))) }
@@ -52,6 +53,7 @@ impl SqlKeeper<FileStore<sqlite::File>> {
     /// Opens the file as the database of a replica, whichever it is. A file that can't be opened as a database is refused
     /// with 25. Where there is no file, or its database isn't that of a replica, it is refused with 26. It makes no file.
     pub fn open_file(rt: &HostRuntime, path: &str) -> Result<FileKeeper, Refusal>
+        ensures opens { IfOk result (λ k. HasCleanDisk (file_state k.0) → IsTrue (file_state k.0).is_open) }
         ensures settled { IfOk result (λ k. HasCleanDisk (file_state k.0) → IsTrue (file_state k.0).is_open → LeavesTables (file_state k.0)) }
         ensures uncounted { IfOk result (λ k. k.1 ≡ 0) }
         ensures cause { IfErr result (λ e. (e ≡ Refusal.OutOfMemory) ⊎ ((e ≡ Refusal.Store) ⊎ (e ≡ Refusal.NotAReplica))) }

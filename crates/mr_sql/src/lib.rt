@@ -22,8 +22,6 @@ mod rows;
 mod schemas;
 mod sql_keeper;
 mod takes;
-#[cfg(test)]
-mod tests;
 mod whole;
 
 pub use files::FileKeeper;

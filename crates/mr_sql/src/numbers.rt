@@ -1,4 +1,4 @@
-ghost use Rattle.std.specs.Prelude.{◌≡◌, ◌<◌, ◌^◌, IfOk, pos};
+ghost use Rattle.std.specs.Prelude.{◌≡◌, ◌<◌, ◌≤◌, ◌^◌, IfOk, IfErr, pos};
 ghost use Rattle.sqlite_value.specs.declared.value.Value.TheVariants.{Int};
 ghost use Rattle.mr_replay.specs.Places.{place_of};
 ghost use Rattle.mr_sql.specs.Cells.{place_number};
@@ -17,7 +17,8 @@ pub(crate) struct Number {
 impl Number {
     /// The number, if it fits. Those of replicas do; another is refused as out of the range of the column at this place.
     pub(crate) fn new(value: u64, at: usize) -> Result<Number, Error>
-        ensures { IfOk result (λ n. n.value ≡ value) }
+        ensures value { IfOk result (λ n. n.value ≡ value) }
+        ensures refused { IfErr result (λ _. 2 ^ 63 ≤ value) }
     {
         if value > i64::MAX as u64 {
             return Err(Error::IntegralValueOutOfRange(at));

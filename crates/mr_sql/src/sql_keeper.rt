@@ -1,4 +1,5 @@
-ghost use Rattle.std.specs.Prelude.{◌≡◌, ◌⊎◌, IfOk, IfErr, IsTrue};
+ghost use Rattle.std.specs.Prelude.{◌≡◌, ◌≢◌, ◌<◌, ◌⊎◌, IfOk, IfErr, IsTrue};
+ghost use Rattle.sqlite_trees.specs.View.{IsClean};
 ghost use Rattle.sqlite.specs.Steps.{over_memory, IsEmpty};
 ghost use Rattle.sqlite.specs.State.{HasCleanDisk};
 ghost use Rattle.sqlite.specs.Held.{state};
@@ -8,7 +9,7 @@ ghost use Rattle.mr_store.specs.Kept.{failures_for};
 ghost use Rattle.sqlite_catalog.specs.Listing.{IsSound};
 ghost use Rattle.mr_sql.specs.Schema.{our_schema};
 ghost use Rattle.mr_sql.specs.Kept.{tables_in};
-ghost use Rattle.mr_sql.specs.Found.{IsAdopted, LeavesTables};
+ghost use Rattle.mr_sql.specs.Found.{IsAdopted, LeavesTables, StaysAs};
 
 use crate::adopt::{recover, retaken, settle};
 use crate::create::create;
@@ -48,7 +49,9 @@ impl<S: Alter> Model for SqlKeeper<S> {
 
 /// The fault that an error is, counted where the store failed. A count that is full is told as want of memory.
 fn told(failures: &mut u64, error: Error) -> Fault
-    ensures { failures.new ≡ failures_for result failures.old }
+    ensures counted { failures.new ≡ failures_for result failures.old }
+    ensures memory { error ≡ Error.SqliteFailure ErrorCode.OutOfMemory → result ≡ Fault.OutOfMemory }
+    ensures store { error ≢ Error.SqliteFailure ErrorCode.OutOfMemory → failures.old < 18_446_744_073_709_551_615 → result ≡ Fault.Store }
 {
     if error == Error::SqliteFailure(ErrorCode::OutOfMemory) || *failures == u64::MAX {
         return Fault::OutOfMemory;
@@ -179,10 +182,13 @@ impl<S: Alter + Drop> SqlKeeper<S> {
         server: ServerId,
         primary: ServerId,
     ) -> Result<SqlKeeper<S>, (Refusal, GivenBack<S>)>
+        ensures opens { IfOk result (λ k. HasCleanDisk (state S.Store k.0) → IsTrue (state S.Store k.0).is_open) }
         ensures adopted { IfOk result (λ k. HasCleanDisk (state S.Store k.0) → IsTrue (state S.Store k.0).is_open → IsAdopted server primary (state S.Store conn).committed.trees (state S.Store k.0).now.trees) }
         ensures settled { IfOk result (λ k. HasCleanDisk (state S.Store k.0) → IsTrue (state S.Store k.0).is_open → LeavesTables (state S.Store k.0)) }
         ensures uncounted { IfOk result (λ k. k.1 ≡ 0) }
         ensures cause { IfErr result (λ e. (e.0 ≡ Refusal.OutOfMemory) ⊎ ((e.0 ≡ Refusal.Store) ⊎ (e.0 ≡ Refusal.NotAReplica))) }
+        ensures stays { IfErr result (λ e. (c : _) → e.1 ≡ GivenBack.Connection c → HasCleanDisk (state S.Store c) → IsTrue (state S.Store c).is_open → StaysAs (state S.Store conn).committed.trees (state S.Store c)) }
+        ensures back { IfErr result (λ e. (s : _) → e.1 ≡ GivenBack.Store s → IsClean (S.Store.view s) → IsTrue (S.Store.view s).is_open → (S.Store.view s).trees ≡ (state S.Store conn).committed.trees) }
     {
         let mut conn = match retaken(alloc, conn) {
             Ok(conn) => conn,
@@ -205,6 +211,7 @@ impl<S: Alter + Drop> SqlKeeper<S> {
         server: ServerId,
         primary: ServerId,
     ) -> Result<SqlKeeper<S>, Refusal>
+        ensures opens { IfOk result (λ k. HasCleanDisk (state S.Store k.0) → IsTrue (state S.Store k.0).is_open) }
         ensures adopted { IfOk result (λ k. HasCleanDisk (state S.Store k.0) → IsTrue (state S.Store k.0).is_open → IsAdopted server primary (state S.Store conn).committed.trees (state S.Store k.0).now.trees) }
         ensures settled { IfOk result (λ k. HasCleanDisk (state S.Store k.0) → IsTrue (state S.Store k.0).is_open → LeavesTables (state S.Store k.0)) }
         ensures uncounted { IfOk result (λ k. k.1 ≡ 0) }
@@ -219,6 +226,7 @@ impl<S: Alter + Drop> SqlKeeper<S> {
     /// Makes a keeper of a connection to the database of a replica, whichever it is. Any other database is refused with 26,
     /// and one whose rows break their rules with 25.
     pub(crate) fn resume(alloc: Global, conn: Connection<S>) -> Result<SqlKeeper<S>, Refusal>
+        ensures opens { IfOk result (λ k. HasCleanDisk (state S.Store k.0) → IsTrue (state S.Store k.0).is_open) }
         ensures resumed { IfOk result (λ k. HasCleanDisk (state S.Store k.0) → IsTrue (state S.Store k.0).is_open → IsSound our_schema (state S.Store conn).committed.trees × ((state S.Store k.0).now.trees ≡ (state S.Store conn).committed.trees)) }
         ensures settled { IfOk result (λ k. HasCleanDisk (state S.Store k.0) → IsTrue (state S.Store k.0).is_open → LeavesTables (state S.Store k.0)) }
         ensures uncounted { IfOk result (λ k. k.1 ≡ 0) }

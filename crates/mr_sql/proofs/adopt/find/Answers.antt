@@ -1,4 +1,6 @@
+use Rattle.std.proofs.Common.{None, subst}
 use Rattle.sqlite.specs.Held.{state}
+use Rattle.mr_sql.specs.Found.{IsMeta}
 use Rattle.mr_sql.specs.Reads.{IsPlaced}
 use Rattle.mr_sql.proofs.TakenLemmas.{finds}
 use Rattle.mr_sql.proofs.adopt.find.Goals as goal
@@ -11,3 +13,10 @@ returns-in-Ok-Some-clause-found g c trees clean taken now =
     let looks = rw c.in-Ok-Some.field-0-is at c.in-Ok-Some.ensures.looks in
     let told = (looks.2 clean placed).1 in
     finds trees _ old new taken c.requires.ours ((looks.1 clean now).1 placed) told.0 told.1
+
+pub returns-in-Ok-None-clause-strange : goal.returns-in-Ok-None-clause-strange
+returns-in-Ok-None-clause-strange g c trees clean taken is =
+    let old = state g.S.Store c.args.conn.now in
+    let placed : IsPlaced old = record { schema = c.requires.ours; settled = taken.settled } in
+    let looks = rw c.in-Ok-None.field-0-is at c.in-Ok-None.ensures.looks in
+    subst (λ t. IsMeta t None) taken.trees_are (looks.2 clean placed).1.1
