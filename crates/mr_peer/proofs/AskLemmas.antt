@@ -1,5 +1,6 @@
 -- What this replica hands out, and what was written of it.
-use Rattle.std.proofs.Common.{◌≡◌, inl, inr, ◌∙◌, refl, sym, ap, subst, ℕ, List, Option, Some, None, Result, Ok, Err, true}
+use Rattle.std.proofs.Common.{◌≡◌, ◌⊎◌, inl, inr, ◌∙◌, refl, sym, ap, subst, ℕ, List, Option, Some, None, Result, Ok, Err, true}
+use Rattle.std.specs.Prelude.{IfOk}
 use Rattle.std.proofs.KnownBytes.{Keeps-refl}
 use Rattle.mr_model.specs.Texts.{Text}
 use Rattle.mr_model.specs.Replica.{Replica}
@@ -74,6 +75,14 @@ position_handed text_of before after reply result takes reads a stands =
     (λ x p e. p.2 ∙ ap position_text (same_position p.0 (position_of a) (sym p.1 ∙ e)))
     (λ x p m. not_position reply p.0 p.1 m) takes stands reads
 
+-- where a position is read off the reply, the machine hasn't failed, and so the keeper is still open
+pub position_lasts : {X : Type 0} (text_of : X → Text) (reply : Reply) (result : Result X WebFault) (clean before after : Type 0)
+    → ReadsOff reply (λ x. IsPositionText reply (text_of x)) result → (clean → before → IsOfMachine reply ⊎ after)
+    → IfOk result (λ _. clean → before → after)
+position_lasts text_of reply (Ok x) clean before after reads lasts = λ is_clean up.
+    elim (lasts is_clean up) [ inl m ↦ absurd (not_position reply reads.0 reads.1 m) | inr still ↦ still ]
+position_lasts text_of reply (Err e) clean before after reads lasts = tt
+
 unless_batch : (o : Option Refusal) (made b : Batch) → BatchIs b ≡ batch_unless o made → b ≡ made
 unless_batch None made b e = same_batch b made e
 unless_batch (Some f) made b e = absurd (let g : BatchIs b ≡ Refused f = e in cc)
@@ -119,7 +128,7 @@ sent_short X Y a command request held holds (fault.Peer n) u wrote = absurd u
 sent_short X Y a command request held holds (fault.Own e) u wrote = absurd u
 
 -- the same faults, where another value would have come
-failed_as : (X Y : Type 0) (a : Replica) (command : Command) (request : Text) (held holds : Option (List ℕ)) (e : WebFault)
+pub failed_as : (X Y : Type 0) (a : Replica) (command : Command) (request : Text) (held holds : Option (List ℕ)) (e : WebFault)
     → OwnRefuses {X = X} a command (Err e) → Wrote {X = X} request held holds (Err e)
     → OwnRefuses {X = Y} a command (Err e) × Wrote {X = Y} request held holds (Err e)
 failed_as X Y a command request held holds fault.Write own wrote = (tt, wrote)

@@ -104,7 +104,7 @@ lost_tells told known read.Memory = tt
 
 pub says_exact : {X : Type 0} (told result : Result X WebFault) → result ≡ told → Says told result
 says_exact told (Ok x) e = e
-says_exact told (Err fault.Read) e = tt
+says_exact told (Err fault.Read) e = e
 says_exact told (Err fault.Memory) e = tt
 says_exact told (Err fault.Write) e = e
 says_exact told (Err fault.BadReply) e = e

@@ -4,6 +4,7 @@ pub mod Replies
 pub mod Requests
 pub mod Rounds
 pub mod Seen
+pub mod Steps
 pub mod Taking
 pub mod Took
 pub mod TookWords

@@ -14,9 +14,8 @@ use Rattle.mr_http.specs.declared.faults.WebFault.{WebFault}
 use Rattle.mr_http.specs.declared.faults.WebFault.TheVariants as fault
 use Rattle.mr_peer.specs.Replies.{Reply, IsReplied, front_body}
 
--- the answer is this one, unless a read failed or memory ran out
+-- the answer is this one, unless memory ran out
 abbrev pub Says : {X : Type 0} → Result X WebFault → Result X WebFault → Type 0
-Says told (Err fault.Read) = Unit {0}
 Says told (Err fault.Memory) = Unit {0}
 Says told result = result ≡ told
 
@@ -26,7 +25,30 @@ Tells told known (Err fault.Read) = Unit {0}
 Tells told known (Err fault.Memory) = Unit {0}
 Tells told known result = OfInput known (λ input. (reply : Option Reply) × IsReplied input reply × (result ≡ told reply))
 
+-- a fault of taking a reply: of reading it, or of what it is
+abbrev pub IsReplyFault : WebFault → Type 0
+IsReplyFault fault.Read = Unit {0}
+IsReplyFault fault.Memory = Unit {0}
+IsReplyFault fault.BadReply = Unit {0}
+IsReplyFault (fault.Peer status) = Unit {0}
+IsReplyFault _ = ⊥
+
 -- ---- a batch
+
+-- a fault of this replica: it refused, or memory ran out
+abbrev pub IsOwnFault : WebFault → Type 0
+IsOwnFault fault.Memory = Unit {0}
+IsOwnFault (fault.Own e) = Unit {0}
+IsOwnFault _ = ⊥
+
+-- a fault of taking a batch: of the reply, or of this replica
+abbrev pub IsTakeFault : WebFault → Type 0
+IsTakeFault fault.Read = Unit {0}
+IsTakeFault fault.Memory = Unit {0}
+IsTakeFault fault.BadReply = Unit {0}
+IsTakeFault (fault.Peer status) = Unit {0}
+IsTakeFault (fault.Own e) = Unit {0}
+IsTakeFault _ = ⊥
 
 -- the ending that bytes are read with; those that are refused have none
 abbrev pub ending_read : Result exchange.Batch Refusal → exchange.Ending

@@ -5,7 +5,7 @@ ghost use Rattle.mr_peer.specs.Asking.{Wrote, IsSendFault};
 ghost use Rattle.mr_peer.specs.Replies.{told_position};
 ghost use Rattle.mr_peer.specs.Requests.{is_host, position_request};
 ghost use Rattle.mr_peer.specs.Seen.{reply_seen, IsInside, unread};
-ghost use Rattle.mr_peer.specs.Taking.{Tells, Says};
+ghost use Rattle.mr_peer.specs.Taking.{Tells, Says, IsReplyFault};
 
 use crate::replies::{Replied, read_reply, whole_body};
 use crate::requests::ask_bare;
@@ -26,7 +26,8 @@ pub fn position_ask<W: Write>(alloc: Global, host: &str, writer: &mut W) -> Resu
 
 /// Takes the reply of a peer that was asked for its position.
 pub fn position_take<R: Read>(alloc: Global, reader: &mut R) -> Result<Position, WebFault>
-    ensures { Tells told_position (R.remaining reader.old) result }
+    ensures tells { Tells told_position (R.remaining reader.old) result }
+    ensures fault { IfErr result IsReplyFault }
 {
     let mut buffer = Vec::new(alloc);
     take_position(alloc, reader, &mut buffer)
@@ -38,7 +39,8 @@ fn take_position<R: Read>(
     buffer: &mut Vec<u8>,
 ) -> Result<Position, WebFault>
     requires { buffer.old.items ≡ [] }
-    ensures { Tells told_position (R.remaining reader.old) result }
+    ensures tells { Tells told_position (R.remaining reader.old) result }
+    ensures fault { IfErr result IsReplyFault }
 {
     let replied = read_reply(reader, buffer)?;
     position_of(alloc, buffer.as_slice(), replied)

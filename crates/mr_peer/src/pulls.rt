@@ -1,8 +1,9 @@
-ghost use Rattle.std.specs.Prelude.{◌≡◌, [], IsTrue, IfErr, OnErr, length};
+ghost use Rattle.std.specs.Prelude.{◌≡◌, ◌⊎◌, [], IsTrue, IfOk, IfErr, OnErr, length};
 ghost use Rattle.mr_model.specs.Positions.{position_of, position_text};
 ghost use Rattle.mr_model.specs.Replica.{Replica};
+ghost use Rattle.mr_model.specs.Serving.{Reaches};
 ghost use Rattle.mr_model.specs.Step.{AskPosition};
-ghost use Rattle.mr_model.specs.Tables.{Stands};
+ghost use Rattle.mr_model.specs.Tables.{Tables, Stands};
 ghost use Rattle.mr_store.specs.Kept.{IsSettled};
 ghost use Rattle.mr_service.specs.Asked.{reply_of};
 ghost use Rattle.mr_service.specs.Worlds.{IsPositionText};
@@ -10,7 +11,8 @@ ghost use Rattle.mr_peer.specs.Asking.{Wrote, IsAskFault, OwnRefuses, ReadsOff, 
 ghost use Rattle.mr_peer.specs.Replies as spec;
 ghost use Rattle.mr_peer.specs.Requests.{is_host, pull_request};
 ghost use Rattle.mr_peer.specs.Seen.{reply_seen, IsInside, counts_seen};
-ghost use Rattle.mr_peer.specs.Taking.{Ends, Counts, Receives, Takes, TakesReply};
+ghost use Rattle.mr_peer.specs.Steps.{StandsAfterTake, LeavesAfterTake};
+ghost use Rattle.mr_peer.specs.Taking.{Ends, Counts, Receives, Takes, TakesReply, IsOwnFault, IsTakeFault};
 
 use crate::replies::{Replied, front_body, read_reply};
 use crate::requests::ask_full;
@@ -37,6 +39,8 @@ pub fn pull_ask<K: Keeper, W: Write>(
         → Stands (K.tables service.new) a × OwnRefuses a AskPosition result
         × Wrote (pull_request host.now (position_text (position_of a))) (W.contents writer.old) (W.contents writer.new) result }
     ensures fault { IfErr result IsAskFault }
+    ensures lasts { IfOk result (λ _. K.is_clean service.new → K.is_open service.old → K.is_open service.new) }
+    ensures crash { K.is_clean service.new → K.is_open service.old → (t : Tables) → K.may_leave service.new t → K.may_leave service.old t ⊎ Reaches (K.tables service.old) AskPosition t }
 {
     let position = own_position(alloc, service)?;
     ask_full(
@@ -57,6 +61,8 @@ fn own_position<K: Keeper>(alloc: Global, service: &mut Service<K>) -> Result<Ve
     ensures position { K.is_clean service.new → K.is_open service.new → (a : Replica) → Stands (K.tables service.old) a
         → Stands (K.tables service.new) a × HandsOut a AskPosition (λ text. text.items ≡ position_text (position_of a)) result }
     ensures fault { IfErr result IsAskFault }
+    ensures lasts { IfOk result (λ _. K.is_clean service.new → K.is_open service.old → K.is_open service.new) }
+    ensures crash { K.is_clean service.new → K.is_open service.old → (t : Tables) → K.may_leave service.new t → K.may_leave service.old t ⊎ Reaches (K.tables service.old) AskPosition t }
 {
     let reply = service.ask(&Command::Local(Local::Position));
     position_in(alloc, &reply)
@@ -76,7 +82,8 @@ fn position_in(alloc: Global, reply: &Reply) -> Result<Vec<u8>, WebFault>
     }
 }
 
-/// Takes the reply of a peer that was asked so: how many writes and commits of its batch were new, and how the batch ended.
+/// Takes the reply of a peer that was asked so: how many writes and commits of its batch were new, and how the batch ended. Whatever the
+/// reader gives, at most one batch is taken.
 pub fn pull_take<K: Keeper, R: Read>(
     alloc: Global,
     service: &mut Service<K>,
@@ -88,6 +95,9 @@ pub fn pull_take<K: Keeper, R: Read>(
     ensures takes { K.is_clean service.new → K.is_open service.new → (a : Replica) → Stands (K.tables service.old) a
         → (b : Replica) × Stands (K.tables service.new) b × OnErr result (b ≡ a)
         × TakesReply (R.remaining reader.old) a result b }
+    ensures fault { IfErr result IsTakeFault }
+    ensures steps { K.is_clean service.new → K.is_open service.new → StandsAfterTake (K.tables service.old) result (K.tables service.new) }
+    ensures crash { K.is_clean service.new → K.is_open service.old → LeavesAfterTake (K.may_leave service.old) (K.tables service.old) (K.may_leave service.new) }
 {
     let mut buffer = Vec::new(alloc);
     take_reply(alloc, service, reader, &mut buffer)
@@ -106,6 +116,9 @@ fn take_reply<K: Keeper, R: Read>(
     ensures takes { K.is_clean service.new → K.is_open service.new → (a : Replica) → Stands (K.tables service.old) a
         → (b : Replica) × Stands (K.tables service.new) b × OnErr result (b ≡ a)
         × TakesReply (R.remaining reader.old) a result b }
+    ensures fault { IfErr result IsTakeFault }
+    ensures steps { K.is_clean service.new → K.is_open service.new → StandsAfterTake (K.tables service.old) result (K.tables service.new) }
+    ensures crash { K.is_clean service.new → K.is_open service.old → LeavesAfterTake (K.may_leave service.old) (K.tables service.old) (K.may_leave service.new) }
 {
     let replied = read_reply(reader, buffer)?;
     take_body(alloc, service, buffer.as_slice(), replied)
@@ -123,6 +136,8 @@ fn take_body<K: Keeper>(
     ensures settled { K.is_clean service.new → K.is_open service.new → IsSettled (K.may_leave service.old) (K.tables service.old) → IsSettled (K.may_leave service.new) (K.tables service.new) }
     ensures takes { K.is_clean service.new → K.is_open service.new → (a : Replica) → Stands (K.tables service.old) a
         → (b : Replica) × Stands (K.tables service.new) b × Takes (spec.front_body (reply_seen bytes.now replied)) a result b }
+    ensures fault { IfErr result IsTakeFault }
+    ensures crash { K.is_clean service.new → K.is_open service.old → LeavesAfterTake (K.may_leave service.old) (K.tables service.old) (K.may_leave service.new) }
 {
     let body = front_body(bytes, replied)?;
     take_batch(alloc, service, body)
@@ -138,6 +153,8 @@ fn take_batch<K: Keeper>(
     ensures settled { K.is_clean service.new → K.is_open service.new → IsSettled (K.may_leave service.old) (K.tables service.old) → IsSettled (K.may_leave service.new) (K.tables service.new) }
     ensures takes { K.is_clean service.new → K.is_open service.new → (a : Replica) → Stands (K.tables service.old) a
         → (b : Replica) × Stands (K.tables service.new) b × Receives body.now a result b }
+    ensures fault { IfErr result IsOwnFault }
+    ensures crash { K.is_clean service.new → K.is_open service.old → LeavesAfterTake (K.may_leave service.old) (K.tables service.old) (K.may_leave service.new) }
 {
     let ending = ending_in(alloc, body)?;
     let (writes, commits) = receive(alloc, service, body)?;
@@ -154,6 +171,8 @@ fn receive<K: Keeper>(
     ensures settled { K.is_clean service.new → K.is_open service.new → IsSettled (K.may_leave service.old) (K.tables service.old) → IsSettled (K.may_leave service.new) (K.tables service.new) }
     ensures takes { K.is_clean service.new → K.is_open service.new → (a : Replica) → Stands (K.tables service.old) a
         → (b : Replica) × Stands (K.tables service.new) b × Counts body.now a result b }
+    ensures fault { IfErr result IsOwnFault }
+    ensures crash { K.is_clean service.new → K.is_open service.old → LeavesAfterTake (K.may_leave service.old) (K.tables service.old) (K.may_leave service.new) }
 {
     let Ok(bytes) = Vec::from_slice(alloc, body) else {
         return Err(WebFault::Memory);

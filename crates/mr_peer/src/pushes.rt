@@ -1,10 +1,11 @@
-ghost use Rattle.std.specs.Prelude.{◌≡◌, [], IsTrue, IfOk, IfErr, length, ok_or};
+ghost use Rattle.std.specs.Prelude.{◌≡◌, ◌⊎◌, [], IsTrue, IfOk, IfErr, length, ok_or};
 ghost use Rattle.mr_model.specs.Exchange.{batch_text};
 ghost use Rattle.mr_model.specs.Positions.{position_text};
 ghost use Rattle.mr_model.specs.Http.{lines_over_http};
 ghost use Rattle.mr_model.specs.Replica.{Replica};
+ghost use Rattle.mr_model.specs.Serving.{Reaches};
 ghost use Rattle.mr_model.specs.Step.{BatchFor, batch_of};
-ghost use Rattle.mr_model.specs.Tables.{Stands};
+ghost use Rattle.mr_model.specs.Tables.{Tables, Stands};
 ghost use Rattle.mr_store.specs.Kept.{IsSettled};
 ghost use Rattle.mr_base.specs.Batches.{ending_of};
 ghost use Rattle.mr_http.specs.declared.faults.WebFault.TheVariants.{BadReply};
@@ -13,7 +14,7 @@ ghost use Rattle.mr_peer.specs.Asking.{Wrote, IsAskFault, OwnRefuses, ReadsOff, 
 ghost use Rattle.mr_peer.specs.Replies.{told_took};
 ghost use Rattle.mr_peer.specs.Requests.{is_host, push_request};
 ghost use Rattle.mr_peer.specs.Seen.{reply_seen, IsInside};
-ghost use Rattle.mr_peer.specs.Taking.{Tells, Says};
+ghost use Rattle.mr_peer.specs.Taking.{Tells, Says, IsReplyFault};
 ghost use Rattle.mr_peer.specs.Took.{read_took};
 
 use crate::replies::{Replied, read_reply, whole_body};
@@ -44,6 +45,7 @@ pub fn push_ask<K: Keeper, W: Write>(
         × Wrote (push_request host.now (batch_text (batch_of a position.now lines_over_http))) (W.contents writer.old) (W.contents writer.new) result
         × IfOk result (λ ending. ending_of ending ≡ (batch_of a position.now lines_over_http).ending) }
     ensures fault { IfErr result IsAskFault }
+    ensures crash { K.is_clean service.new → K.is_open service.old → (t : Tables) → K.may_leave service.new t → K.may_leave service.old t ⊎ Reaches (K.tables service.old) (BatchFor (position_text position.now) lines_over_http) t }
 {
     let (text, ending) = own_batch(alloc, service, position)?;
     ask_full(alloc, "POST /push HTTP/1.1", host, text.as_slice(), writer)?;
@@ -64,6 +66,7 @@ fn own_batch<K: Keeper>(
         (λ x. (x.0.items ≡ batch_text (batch_of a position.now lines_over_http))
         × (ending_of x.1 ≡ (batch_of a position.now lines_over_http).ending)) result }
     ensures fault { IfErr result IsAskFault }
+    ensures crash { K.is_clean service.new → K.is_open service.old → (t : Tables) → K.may_leave service.new t → K.may_leave service.old t ⊎ Reaches (K.tables service.old) (BatchFor (position_text position.now) lines_over_http) t }
 {
     position.is_within_limits();
     let Ok(text) = write_position(alloc, position) else {
@@ -107,7 +110,8 @@ fn batch_in(alloc: Global, reply: &Reply) -> Result<(Vec<u8>, Ending), WebFault>
 
 /// Takes the reply of a peer that was handed a batch: how many writes and commits of it were new.
 pub fn push_take<R: Read>(alloc: Global, reader: &mut R) -> Result<(u64, u64), WebFault>
-    ensures { Tells told_took (R.remaining reader.old) result }
+    ensures tells { Tells told_took (R.remaining reader.old) result }
+    ensures fault { IfErr result IsReplyFault }
 {
     let mut buffer = Vec::new(alloc);
     take_took(reader, &mut buffer)
@@ -115,7 +119,8 @@ pub fn push_take<R: Read>(alloc: Global, reader: &mut R) -> Result<(u64, u64), W
 
 fn take_took<R: Read>(reader: &mut R, buffer: &mut Vec<u8>) -> Result<(u64, u64), WebFault>
     requires { buffer.old.items ≡ [] }
-    ensures { Tells told_took (R.remaining reader.old) result }
+    ensures tells { Tells told_took (R.remaining reader.old) result }
+    ensures fault { IfErr result IsReplyFault }
 {
     let replied = read_reply(reader, buffer)?;
     took_of(buffer.as_slice(), replied)

@@ -6,4 +6,5 @@ pub mod PathWords
 pub mod PlainTexts
 pub mod Requests
 pub mod SlotLists
+pub mod Steps
 pub mod TableRows

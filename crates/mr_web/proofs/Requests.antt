@@ -21,7 +21,7 @@ use Rattle.mr_http.proofs.BodyLemmas.{short_same, take_same}
 use Rattle.mr_http.proofs.Known.{if_some_map, of_input, of_input_unit}
 use Rattle.mr_web.specs.Routes.{route_of}
 use Rattle.mr_web.specs.Asking.{head_of, readings, Asks, limited, with_route, head_asks, asked_by, body_in, command_in, as_asked, after_body, after_head}
-use Rattle.mr_web.specs.Views.{Gives, Fails, Settles, ServedTo, AnswersTo, Ends, StopsWith, Tells, response_to, bytes_view}
+use Rattle.mr_web.specs.Views.{Gives, Fails, Settles, ServedTo, AnswersTo, Ends, IsServeFault, StopsWith, Tells, response_to, bytes_view}
 use Rattle.mr_web.specs.declared.replies.Answer.{Answer}
 use Rattle.mr_web.specs.declared.rejections.Stop.{Stop}
 use Rattle.mr_web.specs.declared.rejections.Stop.TheVariants as stop
@@ -209,6 +209,10 @@ settles_body_stop known left b rest h a (stop.Fault f) p head ends asked cut = o
 keeps_same : (held : Option (List ℕ)) → Keeps held held
 keeps_same None = tt
 keeps_same (Some xs) = refl
+
+pub serve_faults : (f : ReadFault) → IsServeFault (web_fault f)
+serve_faults fault.Read = tt
+serve_faults fault.Memory = tt
 
 -- with a fault while an answer was made nothing is written
 pub ends_fault : (input : Text) (before after : Tables) (old : Replica) (held : Option (List ℕ)) (f : ReadFault)

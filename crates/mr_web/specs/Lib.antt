@@ -3,6 +3,7 @@ pub mod Laws
 pub mod Plain
 pub mod Replies
 pub mod Routes
+pub mod Steps
 pub mod Submissions
 pub mod Views
 pub mod Words

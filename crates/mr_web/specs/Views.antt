@@ -35,9 +35,10 @@ response_to rejection.NotFound = not_found
 response_to (rejection.NotAllowed post) = not_allowed (method_name post)
 response_to rejection.TooLarge = too_large
 
--- what a function returned is what the checks give, unless reading failed
+-- what a function returned is what the checks give, unless memory ran out
 abbrev pub Fails : {Y : Type 0} → Stop → Result Y Response → Type 0
-Fails (stop.Fault f) expected = Unit {0}
+Fails (stop.Fault read.Read) expected = ⊥
+Fails (stop.Fault read.Memory) expected = Unit {0}
 Fails (stop.Rejected r) expected = expected ≡ Err (response_to r)
 
 abbrev pub Gives : {X Y : Type 0} → (X → Y) → Result X Stop → Result Y Response → Type 0
@@ -55,10 +56,11 @@ wish_view w = record { room = w.room.now; title = w.title.now; minutes = w.minut
 abbrev pub slots_view : List SlotWords → List model.SlotWords
 slots_view slots = map words_of slots
 
--- the slots are added behind those that were there, or there is none to add
+-- the slots are added behind those that were there, or there is none to add, unless memory ran out
 abbrev pub AddsSlots : Option (List model.SlotWords) → List SlotWords → List SlotWords → Result (Unit {0}) Stop → Type 0
 AddsSlots slots old new (Ok u) = (more : List model.SlotWords) × (slots ≡ Some more) × (slots_view new ≡ slots_view old ++ more)
-AddsSlots slots old new (Err (stop.Fault f)) = Unit {0}
+AddsSlots slots old new (Err (stop.Fault read.Read)) = ⊥
+AddsSlots slots old new (Err (stop.Fault read.Memory)) = Unit {0}
 AddsSlots slots old new (Err (stop.Rejected r)) = (slots ≡ None) × (r ≡ rejection.BadRequest)
 
 -- ---- replies
@@ -96,6 +98,13 @@ AnswersTo input before after old (Ok a) = ServedTo input old after (bytes_view a
 AnswersTo input before after old (Err read.Read) = after ≡ before
 AnswersTo input before after old (Err read.Memory) =
     (after ≡ before) ⊎ ((output : Text) × (status : ℕ) × ServedTo input old after output status)
+
+-- a fault of serving: of reading, of writing, or want of memory
+abbrev pub IsServeFault : WebFault → Type 0
+IsServeFault fault.Read = Unit {0}
+IsServeFault fault.Write = Unit {0}
+IsServeFault fault.Memory = Unit {0}
+IsServeFault _ = ⊥
 
 -- each way in which serving ends, for what the writer held and holds, and for a replica that the tables stood for
 abbrev pub Ends : Text → Tables → Tables → Replica → Option (List ℕ) → Option (List ℕ) → Result ℕ WebFault → Type 0

@@ -1,4 +1,4 @@
-ghost use Rattle.std.specs.Prelude.{◌≡◌, ◌≤◌, [], IfErr, length, drop};
+ghost use Rattle.std.specs.Prelude.{◌≡◌, ◌≤◌, [], IfOk, IfErr, length, drop};
 ghost use Rattle.std.specs.Io.KnownBytes.{Keeps};
 ghost use Rattle.mr_model.specs.Replica.{Replica};
 ghost use Rattle.mr_model.specs.Tables.{Stands};
@@ -10,7 +10,8 @@ ghost use Rattle.mr_http.specs.Inputs.{OfInput};
 ghost use Rattle.mr_http.specs.declared.faults.ReadFault.TheVariants.{Read as read_fault, Memory as memory_fault};
 ghost use Rattle.mr_http.specs.declared.faults.WebFault.TheVariants.{Read as fault_read};
 ghost use Rattle.mr_web.specs.Asking as spec;
-ghost use Rattle.mr_web.specs.Views.{AnswersTo, Ends, Gives, Settles, StopsWith};
+ghost use Rattle.mr_web.specs.Steps.{IsServable, StandsAfterOne, LeavesAfterOne};
+ghost use Rattle.mr_web.specs.Views.{AnswersTo, Ends, Gives, IsServeFault, Settles, StopsWith};
 ghost use Rattle.mr_web.specs.Words.{route_view};
 
 use crate::checks::asked_by;
@@ -71,7 +72,8 @@ fn body_of(buffer: &[u8], start: usize, count: usize) -> Result<&[u8], Stop>
 
 fn request_in<R: Read>(alloc: Global, reader: &mut R, buffer: &mut Vec<u8>) -> Result<Command, Stop>
     requires { buffer.old.items ≡ [] }
-    ensures { OfInput (R.remaining reader.old) (λ input. Settles input result) }
+    ensures settles { OfInput (R.remaining reader.old) (λ input. Settles input result) }
+    ensures servable { IfOk result (λ command. IsServable (command_view command)) }
 {
     let Some(start) = read_request_head(reader, buffer)? else {
         return Err(Stop::Rejected(Rejection::BadRequest));
@@ -84,7 +86,8 @@ fn request_in<R: Read>(alloc: Global, reader: &mut R, buffer: &mut Vec<u8>) -> R
 
 /// Reads one request: its command, or the first check that it fails.
 fn request_from<R: Read>(alloc: Global, reader: &mut R) -> Result<Command, Stop>
-    ensures { OfInput (R.remaining reader.old) (λ input. Settles input result) }
+    ensures settles { OfInput (R.remaining reader.old) (λ input. Settles input result) }
+    ensures servable { IfOk result (λ command. IsServable (command_view command)) }
 {
     let mut buffer = Vec::new(alloc);
     request_in(alloc, reader, &mut buffer)
@@ -103,6 +106,8 @@ fn answer_command<K: Keeper>(
     ensures answers { (input : Text) → spec.Asks input (model.Runs (command_view command.now))
         → K.is_clean service.new → K.is_open service.new → (a : Replica) → Stands (K.tables service.old) a
         → AnswersTo input (K.tables service.old) (K.tables service.new) a result }
+    ensures steps { IsServable (command_view command.now) → K.is_clean service.new → K.is_open service.new → StandsAfterOne (K.tables service.old) (K.tables service.new) }
+    ensures crash { IsServable (command_view command.now) → K.is_clean service.new → K.is_open service.old → LeavesAfterOne (K.may_leave service.old) (K.tables service.old) (K.may_leave service.new) }
 {
     let reply = service.ask(command);
     match answer_to_reply(alloc, &reply) {
@@ -133,6 +138,8 @@ fn answer_one<R: Read, K: Keeper>(
     ensures answers { OfInput (R.remaining reader.old) (λ input.
         K.is_clean service.new → K.is_open service.new → (a : Replica) → Stands (K.tables service.old) a
         → AnswersTo input (K.tables service.old) (K.tables service.new) a result) }
+    ensures steps { K.is_clean service.new → K.is_open service.new → StandsAfterOne (K.tables service.old) (K.tables service.new) }
+    ensures crash { K.is_clean service.new → K.is_open service.old → LeavesAfterOne (K.may_leave service.old) (K.tables service.old) (K.may_leave service.new) }
 {
     match request_from(alloc, reader) {
         Ok(command) => answer_command(alloc, &command, service),
@@ -143,7 +150,7 @@ fn answer_one<R: Read, K: Keeper>(
 /// Reads one request, serves it, writes its reply and answers the reply's status. What follows the request is passed over,
 /// though some of it may have been read. With the fault `Read` nothing was done or written; with `Memory` nothing was written, and the
 /// command may have been done; with `Write` a front of the reply was written, and the command stands as done or refused. No
-/// other fault comes.
+/// other fault comes. Whatever the reader gives, at most one command is done, and that one which some request asks.
 pub fn serve_one<R: Read, W: Write, K: Keeper>(
     alloc: Global,
     reader: &mut R,
@@ -157,6 +164,9 @@ pub fn serve_one<R: Read, W: Write, K: Keeper>(
     ensures serves { OfInput (R.remaining reader.old) (λ input.
         K.is_clean service.new → K.is_open service.new → (a : Replica) → Stands (K.tables service.old) a
         → Ends input (K.tables service.old) (K.tables service.new) a (W.contents writer.old) (W.contents writer.new) result) }
+    ensures fault { IfErr result IsServeFault }
+    ensures steps { K.is_clean service.new → K.is_open service.new → StandsAfterOne (K.tables service.old) (K.tables service.new) }
+    ensures crash { K.is_clean service.new → K.is_open service.old → LeavesAfterOne (K.may_leave service.old) (K.tables service.old) (K.may_leave service.new) }
 {
     let answer = answer_one(alloc, reader, service)?;
     send(writer, answer.bytes.as_slice())?;

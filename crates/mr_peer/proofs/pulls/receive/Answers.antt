@@ -1,8 +1,11 @@
 use Rattle.std.proofs.Common.{ℕ, List, sym, subst, Result}
+use Rattle.std.specs.Prelude.{IfErr}
 use Rattle.mr_model.specs.Step.{Receive, IsStep}
 use Rattle.mr_http.specs.declared.faults.WebFault.{WebFault}
 use Rattle.mr_service.specs.Asked.{reply_of}
-use Rattle.mr_peer.specs.Taking.{Counts}
+use Rattle.mr_peer.specs.Taking.{Counts, IsOwnFault}
+use Rattle.mr_peer.proofs.FaultLemmas.{counts_faults}
+use Rattle.mr_peer.proofs.StepLemmas.{left_by_take}
 use Rattle.mr_peer.proofs.TakeLemmas.{counts}
 use Rattle.mr_peer.proofs.pulls.receive.Goals as goal
 
@@ -13,3 +16,12 @@ returns-clause-takes g c = λ k o a stands.
     let P : List ℕ → Type 0 = λ bytes. IsStep a (Receive bytes) (reply_of c.ask-reply.result) s.0 in
     let Q : Result (ℕ × ℕ) WebFault → Type 0 = λ r. Counts body a r s.0 in
     (s.0, s.2, subst Q (sym c.counts_in.ensures) (counts a body c.ask-reply.result s.0 (subst P c.in-Ok.ensures.items s.1)))
+
+pub returns-clause-fault : goal.returns-clause-fault
+returns-clause-fault g c =
+    subst (λ (r : Result (ℕ × ℕ) WebFault). IfErr r IsOwnFault) (sym c.counts_in.ensures) (counts_faults c.ask-reply.result)
+
+pub returns-clause-crash : goal.returns-clause-crash
+returns-clause-crash g c clean up t leaves =
+    left_by_take (g.K.Keeper.may_leave c.args.service.now t) (g.K.Keeper.tables c.args.service.now) t c.in-Ok.bytes.items
+    (c.ask-reply.ensures.crash clean up t leaves)

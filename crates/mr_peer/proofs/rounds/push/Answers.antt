@@ -34,9 +34,9 @@ returns-in_err-writes-clause-runs g c = λ k o a stands.
     let p = err_from_is_err_and c.from_residual-in_err-writes.result c.from_residual-in_err-writes.ensures.1 in
     let h = c.in_ok-ending.ensures.asks k o a stands in
     let P : Result (ℕ × ℕ × Ending) WebFault → Type 0 = λ r. TellsTook known made.ending r in
-    (h.0, inr (h.2, subst P (sym (p.1 ∙ ap Err p.2)) (Err e, c.in_err-writes.ensures, refl)))
+    (h.0, inr (h.2, subst P (sym (p.1 ∙ ap Err p.2)) (Err e, c.in_err-writes.ensures.tells, refl)))
 
 pub returns-clause-runs : goal.returns-clause-runs
 returns-clause-runs g c = λ k o a stands.
     let h = c.in_ok-ending.ensures.asks k o a stands in
-    (h.0, inr (h.2, (Ok (c.in_ok-writes.writes, c.in_ok-writes.commits), c.in_ok-writes.ensures, (refl, refl, h.3))))
+    (h.0, inr (h.2, (Ok (c.in_ok-writes.writes, c.in_ok-writes.commits), c.in_ok-writes.ensures.tells, (refl, refl, h.3))))

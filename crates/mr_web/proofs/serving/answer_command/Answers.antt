@@ -2,6 +2,7 @@ use Rattle.std.proofs.Common.{inr}
 use Rattle.mr_model.specs.Http.{response_of}
 use Rattle.mr_service.specs.Asked.{command_of, reply_of}
 use Rattle.mr_web.proofs.Requests.{served_by, served_told}
+use Rattle.mr_web.proofs.Steps.{stands_after, leaves_after}
 use Rattle.mr_web.proofs.serving.answer_command.Goals as goal
 
 pub returns-in-Ok-clause-answers : goal.returns-in-Ok-clause-answers
@@ -20,3 +21,23 @@ returns-clause-answers g c input asks clean up a stands =
       served_by input a step.0 (g.K.Keeper.tables c.ask-reply.new.self) (command_of c.args.command.now)
           (reply_of c.ask-reply.result) asks step.1 step.2,
     )
+
+pub returns-in-Ok-clause-steps : goal.returns-in-Ok-clause-steps
+returns-in-Ok-clause-steps g c servable clean up =
+    stands_after (g.K.Keeper.tables c.args.service.now) (g.K.Keeper.tables c.ask-reply.new.self) (command_of c.args.command.now)
+    (reply_of c.ask-reply.result) servable (c.ask-reply.ensures.step clean up)
+
+pub returns-in-Ok-clause-crash : goal.returns-in-Ok-clause-crash
+returns-in-Ok-clause-crash g c servable clean up =
+    leaves_after (g.K.Keeper.may_leave c.args.service.now) (g.K.Keeper.may_leave c.ask-reply.new.self) (g.K.Keeper.tables c.args.service.now)
+    (command_of c.args.command.now) servable (c.ask-reply.ensures.crash clean up)
+
+pub returns-clause-steps : goal.returns-clause-steps
+returns-clause-steps g c servable clean up =
+    stands_after (g.K.Keeper.tables c.args.service.now) (g.K.Keeper.tables c.ask-reply.new.self) (command_of c.args.command.now)
+    (reply_of c.ask-reply.result) servable (c.ask-reply.ensures.step clean up)
+
+pub returns-clause-crash : goal.returns-clause-crash
+returns-clause-crash g c servable clean up =
+    leaves_after (g.K.Keeper.may_leave c.args.service.now) (g.K.Keeper.may_leave c.ask-reply.new.self) (g.K.Keeper.tables c.args.service.now)
+    (command_of c.args.command.now) servable (c.ask-reply.ensures.crash clean up)

@@ -8,14 +8,16 @@ use Rattle.mr_http.specs.Inputs.{OfInput}
 use Rattle.mr_http.proofs.HeadLemmas.{head_more, head_short}
 use Rattle.mr_web.specs.Asking.{asked_by, body_in}
 use Rattle.mr_web.specs.Views.{asked_view, Fails, Settles}
+use Rattle.mr_web.specs.Words.{route_view}
 use Rattle.mr_service.specs.declared.commands.Command.{Command}
 use Rattle.mr_web.specs.declared.rejections.Stop.{Stop}
 use Rattle.mr_http.proofs.Known.{of_input_unit}
 use Rattle.mr_web.proofs.Requests.{settles_none, settles_result, settles_head_stop, settles_body_stop}
+use Rattle.mr_web.proofs.Steps.{gives_servable}
 use Rattle.mr_web.proofs.serving.request_in.Goals as goal
 
-pub returns : goal.returns
-returns g c =
+pub returns-clause-settles : goal.returns-clause-settles
+returns-clause-settles g c =
     let known = g.R.Read.remaining c.args.reader.now in
     let between = g.R.Read.remaining c.read_request_head.new.reader in
     let left = g.R.Read.remaining c.fill_to.new.reader in
@@ -42,8 +44,8 @@ returns g c =
     asked cut c.command_of.ensures
 
 -- a check of the head alone fails
-pub returns-in_err-asked : goal.returns-in_err-asked
-returns-in_err-asked g c =
+pub returns-in_err-asked-clause-settles : goal.returns-in_err-asked-clause-settles
+returns-in_err-asked-clause-settles g c =
     let known = g.R.Read.remaining c.args.reader.now in
     let first = c.read_request_head.new.buffer.items in
     let start = c.in-Some.start in
@@ -60,8 +62,8 @@ returns-in_err-asked g c =
     c.in_ok-start.ensures.consumed found.1 fails)
 
 -- the input ends before the body does
-pub returns-in_err-body : goal.returns-in_err-body
-returns-in_err-body g c =
+pub returns-in_err-body-clause-settles : goal.returns-in_err-body-clause-settles
+returns-in_err-body-clause-settles g c =
     let known = g.R.Read.remaining c.args.reader.now in
     let between = g.R.Read.remaining c.read_request_head.new.reader in
     let left = g.R.Read.remaining c.fill_to.new.reader in
@@ -92,24 +94,28 @@ returns-in_err-body g c =
     asked cut)
 
 -- the input has no head
-pub returns-in_default : goal.returns-in_default
-returns-in_default g c =
+pub returns-in_default-clause-settles : goal.returns-in_default-clause-settles
+returns-in_default-clause-settles g c =
     let known = g.R.Read.remaining c.args.reader.now in
     let first = c.read_request_head.new.buffer.items in
     let P : Option ℕ → Type 0 = λ o. FindsHead known first o in
     settles_none known first (subst P c.in_default.is c.in_ok-start.ensures.found)
 
 -- a read failed, or memory ran out
-pub returns-in_err-start : goal.returns-in_err-start
-returns-in_err-start g c =
+pub returns-in_err-start-clause-settles : goal.returns-in_err-start-clause-settles
+returns-in_err-start-clause-settles g c =
     let known = g.R.Read.remaining c.args.reader.now in
     let told = err_from_is_err_and c.from_residual.result c.from_residual.ensures.1 in
     let S : Result Command Stop → Type 0 = λ r. OfInput known (λ input. Settles input r) in
     subst S (sym (told.1 ∙ ap Err told.2)) (of_input_unit known)
 
-pub returns-in_err-fill_to : goal.returns-in_err-fill_to
-returns-in_err-fill_to g c =
+pub returns-in_err-fill_to-clause-settles : goal.returns-in_err-fill_to-clause-settles
+returns-in_err-fill_to-clause-settles g c =
     let known = g.R.Read.remaining c.args.reader.now in
     let told = err_from_is_err_and c.from_residual-in_err-fill_to.result c.from_residual-in_err-fill_to.ensures.1 in
     let S : Result Command Stop → Type 0 = λ r. OfInput known (λ input. Settles input r) in
     subst S (sym (told.1 ∙ ap Err told.2)) (of_input_unit known)
+
+pub returns-clause-servable : goal.returns-clause-servable
+returns-clause-servable g c =
+    gives_servable (route_view c.in_ok-asked.asked.route) c.in_ok-body.body.now c.command_of.result c.command_of.ensures

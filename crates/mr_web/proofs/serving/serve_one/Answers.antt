@@ -1,4 +1,5 @@
 use Rattle.std.proofs.Common.{◌∙◌, ap, sym, subst, take, List, ℕ, Result, Ok, Err}
+use Rattle.std.specs.Prelude.{IfErr}
 use Rattle.std.proofs.lemmas.Result.{err_from_is_err_and}
 use Rattle.std.specs.Io.KnownBytes.{Appends}
 use Rattle.mr_model.specs.Texts.{Text}
@@ -6,8 +7,8 @@ use Rattle.mr_model.specs.Replica.{Replica}
 use Rattle.mr_model.specs.Tables.{Stands}
 use Rattle.mr_http.specs.declared.faults.WebFault.{WebFault}
 use Rattle.mr_http.proofs.Known.{of_input_map}
-use Rattle.mr_web.specs.Views.{AnswersTo, Ends, bytes_view}
-use Rattle.mr_web.proofs.Requests.{ends_fault}
+use Rattle.mr_web.specs.Views.{AnswersTo, Ends, IsServeFault, bytes_view}
+use Rattle.mr_web.proofs.Requests.{ends_fault, serve_faults}
 use Rattle.mr_web.proofs.serving.serve_one.Goals as goal
 
 -- nothing was written
@@ -69,3 +70,15 @@ returns-clause-serves g c =
     let step : (input : Text) → P input → Q input =
     λ input answers clean up a stands. (bytes_view answer.bytes, answers clean up a stands, appends) in
     of_input_map (g.R.Read.remaining c.args.reader.now) P Q step c.in_ok-answer.ensures.answers
+
+-- ---- which faults come
+
+pub returns-in_err-answer-clause-fault : goal.returns-in_err-answer-clause-fault
+returns-in_err-answer-clause-fault g c =
+    let told = err_from_is_err_and c.from_residual.result c.from_residual.ensures.1 in
+    subst (λ (r : Result ℕ WebFault). IfErr r IsServeFault) (sym (told.1 ∙ ap Err told.2)) (serve_faults c.in_err-answer.field-0.0)
+
+pub returns-in_err-send-clause-fault : goal.returns-in_err-send-clause-fault
+returns-in_err-send-clause-fault g c =
+    let told = err_from_is_err_and c.from_residual-in_err-send.result c.from_residual-in_err-send.ensures.1 in
+    subst (λ (r : Result ℕ WebFault). IfErr r IsServeFault) (sym (told.1 ∙ ap Err (told.2 ∙ c.in_err-send.ensures.fault))) tt

@@ -1,0 +1,36 @@
+-- One request is one command at most.
+use Rattle.std.proofs.Common.{◌⊎◌, inl, inr, Result, Ok, Err}
+use Rattle.std.specs.Prelude.{IfOk}
+use Rattle.mr_model.specs.Texts.{Text}
+use Rattle.mr_model.specs.Replies.{Reply}
+use Rattle.mr_model.specs.Serving.{TakesStep, Reaches}
+use Rattle.mr_model.specs.Step as model
+use Rattle.mr_model.specs.Tables.{Tables}
+use Rattle.mr_model.specs.Http.{Route}
+use Rattle.mr_service.specs.declared.commands.Command.{Command}
+use Rattle.mr_service.specs.Asked.{command_of as command_view}
+use Rattle.mr_web.specs.Asking.{command_in}
+use Rattle.mr_web.specs.Steps.{IsServable, StandsAfterOne, LeavesAfterOne}
+use Rattle.mr_web.specs.Views.{Gives}
+use Rattle.mr_web.specs.declared.rejections.Stop.{Stop}
+
+-- what a route gives for a body is servable
+pub gives_servable : (route : Route) (body : Text) (r : Result Command Stop)
+    → Gives command_view r (command_in route body) → IfOk r (λ c. IsServable (command_view c))
+gives_servable route body (Ok c) gives = (route, body, gives)
+gives_servable route body (Err e) gives = tt
+
+-- one step of a servable command
+pub stands_after : (before after : Tables) (command : model.Command) (reply : Reply) → IsServable command
+    → TakesStep before command reply after → StandsAfterOne before after
+stands_after before after command reply servable takes a stands =
+    let s = takes a stands in (s.0, s.2, inr (command, reply, servable, s.1))
+
+left_by : (L : Type 0) (before t : Tables) (command : model.Command) → IsServable command → L ⊎ Reaches before command t
+    → L ⊎ ((c : model.Command) × IsServable c × Reaches before c t)
+left_by L before t command servable (inl l) = inl l
+left_by L before t command servable (inr r) = inr (command, servable, r)
+
+pub leaves_after : (left leaves : Tables → Type 0) (before : Tables) (command : model.Command) → IsServable command
+    → ((t : Tables) → leaves t → left t ⊎ Reaches before command t) → LeavesAfterOne left before leaves
+leaves_after left leaves before command servable law t l = left_by (left t) before t command servable (law t l)
