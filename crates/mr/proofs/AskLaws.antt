@@ -7,7 +7,8 @@ use Rattle.mr_model.specs.View.{Question, view_of, answer}
 use Rattle.mr_model.specs.Step.{Ask, IsStep, IsOfMachine}
 use Rattle.mr_model.specs.Serving.{TakesStep}
 use Rattle.mr_model.specs.Tables.{Tables}
-use Rattle.mr.specs.Told.{Tells, TellsAnswer}
+use Rattle.mr_say.specs.Told.{Tells}
+use Rattle.mr.specs.Told.{TellsAnswer}
 
 reply_of_question : (a b : Replica) (room : Text) (question : Question) (reply : Reply) → IsStep a (Ask room question) reply b
     → (reply ≡ answer room (view_of a room) question) ⊎ IsOfMachine reply

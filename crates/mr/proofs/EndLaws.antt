@@ -1,70 +1,166 @@
 -- How commands end.
-use Rattle.std.proofs.Common.{◌≡◌, refl, subst, append-nil, ℕ, [], ◌⊎◌, inl, inr, Option}
+use Rattle.std.proofs.Common.{◌≡◌, ap, subst, sym, ℕ, ◌≤◌, [], ◌⊎◌, inl, inr, Option, refl, arith, lit≤}
+use Rattle.std.proofs.lemmas.Bool.{cases_lt}
 use Rattle.std.specs.Io.KnownBytes.{Appends}
 use Rattle.mr_model.specs.Texts.{Text, line}
-use Rattle.mr_model.specs.Refusals.{Refusal, refusal_text}
-use Rattle.mr_model.specs.Replies.{Reply, RoomAdded, OutcomeIs, Took, CommittedIs, DroppedIs, PositionIs, BatchIs, Sheet, Calendar, Errors, Refused, reply_text}
-use Rattle.mr_words.specs.Rows.{Asked, Init, Ask, Export, Import, Rehearse}
-use Rattle.mr.specs.Rehearsed.{no_memory_line}
-use Rattle.mr.specs.Told.{Ends, Tells, TellsRefusal, status_of, IsReplyText, IsWroteLine, ok_line}
-use Rattle.mr.specs.Tasks.{EndsAs, EndsRehearsal}
+use Rattle.mr_model.specs.Refusals.{refusal_text}
+use Rattle.mr_model.specs.Replies.{Reply, RoomAdded, OutcomeIs, Took, CommittedIs, DroppedIs, PositionIs, BatchIs, Sheet, Calendar, Errors, Refused}
+use Rattle.mr_model.specs.Step.{Command}
+use Rattle.mr_base.specs.Refusals.{refusal_of}
+use Rattle.mr_base.specs.declared.refusals.Refusal.{Refusal}
+use Rattle.mr_base.specs.declared.refusals.Refusal.TheVariants as refusal
+use Rattle.mr_store.specs.declared.keeper.Keeper.{Ghosts}
+use Rattle.mr_say.specs.Told.{no_memory_line, status_of, Tells}
+use Rattle.mr_words.specs.Rows.{Asked, Init, Ask, Export, Import, Rehearse, Serve, Exchange, Bridge}
+use Rattle.mr.specs.Told.{TellsFault, TellsLength, TellsWritten}
+use Rattle.mr.specs.Tasks.{IsReceive, IsBatchFor, IsOfDatabase, TellsUnopened, EndsAsking, EndsAs, EndsExchangeAt, EndsRehearsal}
+use Rattle.mr_net.specs.Hosts.{IsPeer}
+use Rattle.mr_net.specs.Printed.{Stops, IsStopText, EndsExchange, EndsServing, TellsBadAddress}
 
-refused : (e : Refusal) (held holds : Option Text) → Appends held holds (line (refusal_text e)) ⊎ Appends held holds no_memory_line → TellsRefusal held holds
-refused e held holds (inl told) = inl (e, told)
-refused e held holds (inr told) = inr told
+-- why a keeper could not be opened, as a refusal of the definitions
+of_database : (e : Refusal) → (e ≡ refusal.OutOfMemory) ⊎ ((e ≡ refusal.Store) ⊎ (e ≡ refusal.NotAReplica)) → IsOfDatabase (refusal_of e)
+of_database e (inl memory) = inl (ap refusal_of memory)
+of_database e (inr (inl store)) = inr (inl (ap refusal_of store))
+of_database e (inr (inr other)) = inr (inr (ap refusal_of other))
 
--- a refusal, or want of memory in its place, or a fault
-pub refusal_ends : (IsText : Text → Type 0) (e : Refusal) (held holds : Option Text) (status : ℕ) → (status ≡ 1) ⊎ (status ≡ 3)
-    → (status ≡ 1 → Appends held holds (line (refusal_text e)) ⊎ Appends held holds no_memory_line) → Ends IsText held holds status
-refusal_ends IsText e held holds status (inl one) told = inr (inl (one, refused e held holds (told one)))
-refusal_ends IsText e held holds status (inr three) told = inr (inr three)
+refused : (e : Refusal) (held holds : Option Text) (status : ℕ) → IsOfDatabase (refusal_of e) → status ≡ 1
+    → Appends held holds (line (refusal_text (refusal_of e))) ⊎ Appends held holds no_memory_line → TellsUnopened held holds status
+refused e held holds status is one (inl told) = inl (one, refusal_of e, is, told)
+refused e held holds status is one (inr memory) = inr (inl (one, memory))
 
--- a text of that kind, want of memory or a fault
-pub text_or_memory : (IsText : Text → Type 0) (text : Text) (held holds : Option Text) (status : ℕ) → IsText text
-    → (status ≡ 0) ⊎ ((status ≡ 1) ⊎ (status ≡ 3)) → (status ≡ 0 → Appends held holds text) → (status ≡ 1 → Appends held holds no_memory_line) → Ends IsText held holds status
-text_or_memory IsText text held holds status is (inl done) told memory = inl (done, text, is, told done)
-text_or_memory IsText text held holds status is (inr (inl one)) told memory = inr (inl (one, inr (memory one)))
-text_or_memory IsText text held holds status is (inr (inr three)) told memory = inr (inr three)
-
--- want of memory for a file, or a fault
-pub memory_or_fault : (IsText : Text → Type 0) (held holds : Option Text) (status : ℕ)
-    → (status ≡ 1) ⊎ (status ≡ 3) → (status ≡ 1 → Appends held holds no_memory_line) → Ends IsText held holds status
-memory_or_fault IsText held holds status (inl one) memory = inr (inl (one, inr (memory one)))
-memory_or_fault IsText held holds status (inr three) memory = inr (inr three)
-
--- a reply that is no refusal
-done_ends : (reply : Reply) (held holds : Option Text) (status : ℕ) → status_of reply ≡ 0 → status ≡ 0 → Appends held holds (reply_text reply) → Ends IsReplyText held holds status
-done_ends reply held holds status no_refusal done told = inl (done, reply_text reply, (reply, no_refusal, refl), told)
-
-text_ends : (reply : Reply) (held holds : Option Text) (status : ℕ) → status ≡ status_of reply → Appends held holds (reply_text reply) → Ends IsReplyText held holds status
-text_ends (Refused e) held holds status one told = inr (inl (one, inl (e, subst (λ (t : Text). Appends held holds t) (append-nil (line (refusal_text e))) told)))
-text_ends RoomAdded held holds status done told = done_ends RoomAdded held holds status refl done told
-text_ends (OutcomeIs o) held holds status done told = done_ends (OutcomeIs o) held holds status refl done told
-text_ends (Took w c) held holds status done told = done_ends (Took w c) held holds status refl done told
-text_ends (CommittedIs n) held holds status done told = done_ends (CommittedIs n) held holds status refl done told
-text_ends (DroppedIs n) held holds status done told = done_ends (DroppedIs n) held holds status refl done told
-text_ends (PositionIs p) held holds status done told = done_ends (PositionIs p) held holds status refl done told
-text_ends (BatchIs b) held holds status done told = done_ends (BatchIs b) held holds status refl done told
-text_ends (Sheet room day es) held holds status done told = done_ends (Sheet room day es) held holds status refl done told
-text_ends (Calendar room part es) held holds status done told = done_ends (Calendar room part es) held holds status refl done told
-text_ends (Errors room ls) held holds status done told = done_ends (Errors room ls) held holds status refl done told
-
--- a reply that is told with its status
-pub reply_ends : (reply : Reply) (held holds : Option Text) (status : ℕ) → Tells reply held holds status → Ends IsReplyText held holds status
-reply_ends reply held holds status (inl told) = text_ends reply held holds status told.0 told.1
-reply_ends reply held holds status (inr (inl memory)) = inr (inl (memory.0, inr memory.1))
-reply_ends reply held holds status (inr (inr three)) = inr (inr three)
+-- the refusal of a database is told, or want of memory in its place, or there is a fault
+pub refusal_ends : (e : Refusal) (held holds : Option Text) (status : ℕ)
+    → (e ≡ refusal.OutOfMemory) ⊎ ((e ≡ refusal.Store) ⊎ (e ≡ refusal.NotAReplica)) → (status ≡ 1) ⊎ (status ≡ 3)
+    → (status ≡ 1 → Appends held holds (line (refusal_text (refusal_of e))) ⊎ Appends held holds no_memory_line) → TellsUnopened held holds status
+refusal_ends e held holds status cause (inl one) told = refused e held holds status (of_database e cause) one (told one)
+refusal_ends e held holds status cause (inr three) told = inr (inr three)
 
 -- memory is wanting before a script is read, or there is a fault
-stops_at_once : (held holds : Option Text) (status : ℕ) → (status ≡ 1) ⊎ (status ≡ 3) → (status ≡ 1 → Appends held holds no_memory_line) → EndsRehearsal held holds status
-stops_at_once held holds status (inl one) memory = inr (inl (one, [], inr (inl (memory one))))
-stops_at_once held holds status (inr three) memory = inr (inr three)
+stops_at_once : (held holds : Option Text) (status : ℕ) → TellsFault held holds status → EndsRehearsal held holds status
+stops_at_once held holds status (inl memory) = inr (inl (memory.0, [], inr (inl memory.1)))
+stops_at_once held holds status (inr three) = inr (inr three)
+
+stops_for_memory : (IsText : Text → Type 0) (held holds : Option Text) (status : ℕ) → IsText no_memory_line → TellsFault held holds status → Stops IsText held holds status
+stops_for_memory IsText held holds status is (inl memory) = inl (memory.0, no_memory_line, is, memory.1)
+stops_for_memory IsText held holds status is (inr three) = inr three
+
+exchanges_nothing : (held holds : Option Text) (status : ℕ) → TellsFault held holds status → EndsExchange held holds status
+exchanges_nothing held holds status fault = inr (inl (stops_for_memory IsStopText held holds status (inr (inr refl)) fault))
+
+serves_nothing : (port count : ℕ) (held holds : Option Text) (status : ℕ) → TellsFault held holds status → EndsServing port count held holds status
+serves_nothing port count held holds status (inl memory) = inr (inl (memory.0, inr memory.1))
+serves_nothing port count held holds status (inr three) = inr (inr (inr three))
+
+exchange_at : (address : Text) (held holds : Option Text) (status : ℕ) → ((host : Text) (port : ℕ) → IsPeer address host port → EndsExchange held holds status)
+    → (((host : Text) (port : ℕ) → ¬ IsPeer address host port) → TellsBadAddress held holds status) → EndsExchangeAt address held holds status
+exchange_at address held holds status named none = record { asked = named; bad = none }
+
+-- an exchange that ends as such an address says is the end of the command line that asks for it
+pub exchange_ends : {K : Type 0} (keeper : Ghosts K) (asked : Asked) (database address : Text) (held holds : Option Text) (status : ℕ)
+    → asked ≡ Exchange database address → ((host : Text) (port : ℕ) → IsPeer address host port → EndsExchange held holds status)
+    → (((host : Text) (port : ℕ) → ¬ IsPeer address host port) → TellsBadAddress held holds status) → EndsAs keeper asked held holds status
+exchange_ends keeper asked database address held holds status is named none =
+    subst (λ a. EndsAs keeper a held holds status) (sym is) (exchange_at address held holds status named none)
 
 -- where memory is wanting before anything is done, each command line ends so
-pub no_memory_ends : (asked : Asked) (held holds : Option Text) (status : ℕ)
-    → (status ≡ 1) ⊎ (status ≡ 3) → (status ≡ 1 → Appends held holds no_memory_line) → EndsAs asked held holds status
-no_memory_ends (Init database server primary) held holds status ends memory = memory_or_fault (λ text. text ≡ ok_line) held holds status ends memory
-no_memory_ends (Ask database command) held holds status ends memory = memory_or_fault IsReplyText held holds status ends memory
-no_memory_ends (Export database position batch max_lines) held holds status ends memory = memory_or_fault IsWroteLine held holds status ends memory
-no_memory_ends (Import database batch) held holds status ends memory = memory_or_fault IsReplyText held holds status ends memory
-no_memory_ends (Rehearse script) held holds status ends memory = stops_at_once held holds status ends memory
+pub fault_ends : {K : Type 0} (keeper : Ghosts K) (asked : Asked) (held holds : Option Text) (status : ℕ) → TellsFault held holds status → EndsAs keeper asked held holds status
+fault_ends keeper (Init database server primary) held holds status fault = inr (inr fault)
+fault_ends keeper (Ask database command) held holds status fault = inr (inr fault)
+fault_ends keeper (Export database position batch max_lines) held holds status fault = inr (inr fault)
+fault_ends keeper (Import database batch) held holds status fault = inr (inr fault)
+fault_ends keeper (Rehearse script) held holds status fault = stops_at_once held holds status fault
+fault_ends keeper (Serve database port connections) held holds status fault = serves_nothing port connections held holds status fault
+fault_ends keeper (Exchange database address) held holds status fault = record {
+  asked = λ host port is. exchanges_nothing held holds status fault;
+  bad = λ none. inr (stops_for_memory (λ text. text ≡ no_memory_line) held holds status refl fault);
+}
+fault_ends keeper (Bridge database other) held holds status fault = exchanges_nothing held holds status fault
+
+-- where a fault is of status 1, want of memory is printed
+pub fault_printed : (held holds : Option Text) (status : ℕ) → TellsFault held holds status → status ≡ 1 → Appends held holds no_memory_line
+fault_printed held holds status (inl memory) one = memory.1
+fault_printed held holds status (inr three) one = absurd (omega (arith, one, three))
+
+-- ---- no status is above 3
+
+status_low : (reply : Reply) → status_of reply ≤ 1
+status_low RoomAdded = lit≤ tt
+status_low (OutcomeIs o) = lit≤ tt
+status_low (Took w c) = lit≤ tt
+status_low (CommittedIs n) = lit≤ tt
+status_low (DroppedIs n) = lit≤ tt
+status_low (PositionIs p) = lit≤ tt
+status_low (BatchIs b) = lit≤ tt
+status_low (Sheet room day es) = lit≤ tt
+status_low (Calendar room part es) = lit≤ tt
+status_low (Errors room ls) = lit≤ tt
+status_low (Refused e) = lit≤ tt
+
+fault_within : (held holds : Option Text) (status : ℕ) → TellsFault held holds status → status ≤ 3
+fault_within held holds status (inl memory) = let one = memory.0 in omega (arith, one)
+fault_within held holds status (inr three) = omega (arith, three)
+
+tells_within : (reply : Reply) (held holds : Option Text) (status : ℕ) → Tells reply held holds status → status ≤ 3
+tells_within reply held holds status (inl told) = let low = status_low reply in let same = told.0 in omega (arith, low, same)
+tells_within reply held holds status (inr fault) = fault_within held holds status fault
+
+length_within : (n : ℕ) (held holds : Option Text) (status : ℕ) → TellsLength n held holds status → status ≤ 3
+length_within n held holds status (inl told) = let zero = told.0 in omega (arith, zero)
+length_within n held holds status (inr fault) = fault_within held holds status fault
+
+written_within : (reply : Reply) (held holds : Option Text) (status : ℕ) → TellsWritten reply held holds status → status ≤ 3
+written_within reply held holds status (inl refusal) = tells_within reply held holds status refusal.1
+written_within reply held holds status (inr (inl done)) = length_within _ held holds status done.2
+written_within reply held holds status (inr (inr fault)) = fault_within held holds status fault
+
+unopened_within : (held holds : Option Text) (status : ℕ) → TellsUnopened held holds status → status ≤ 3
+unopened_within held holds status (inl refusal) = let one = refusal.0 in omega (arith, one)
+unopened_within held holds status (inr fault) = fault_within held holds status fault
+
+asking_within : {K : Type 0} (keeper : Ghosts K) (IsCommand : Command → Type 0) (TellsReply : Reply → Option Text → Option Text → ℕ → Type 0) (held holds : Option Text) (status : ℕ)
+    → ((reply : Reply) → TellsReply reply held holds status → status ≤ 3) → EndsAsking keeper IsCommand TellsReply held holds status → status ≤ 3
+asking_within keeper IsCommand TellsReply held holds status low (inl ends) = low ends.3.1 ends.3.4
+asking_within keeper IsCommand TellsReply held holds status low (inr unopened) = unopened_within held holds status unopened
+
+rehearsal_within : (held holds : Option Text) (status : ℕ) → EndsRehearsal held holds status → status ≤ 3
+rehearsal_within held holds status (inl done) = let zero = done.0 in omega (arith, zero)
+rehearsal_within held holds status (inr (inl stopped)) = let one = stopped.0 in omega (arith, one)
+rehearsal_within held holds status (inr (inr three)) = omega (arith, three)
+
+stop_within : (IsText : Text → Type 0) (held holds : Option Text) (status : ℕ) → Stops IsText held holds status → status ≤ 3
+stop_within IsText held holds status (inl told) = let one = told.0 in omega (arith, one)
+stop_within IsText held holds status (inr three) = omega (arith, three)
+
+serving_within : (port count : ℕ) (held holds : Option Text) (status : ℕ) → EndsServing port count held holds status → status ≤ 3
+serving_within port count held holds status (inl done) = let zero = done.0 in omega (arith, zero)
+serving_within port count held holds status (inr (inl refusal)) = let one = refusal.0 in omega (arith, one)
+serving_within port count held holds status (inr (inr stop)) = stop_within _ held holds status stop
+
+exchange_within : (held holds : Option Text) (status : ℕ) → EndsExchange held holds status → status ≤ 3
+exchange_within held holds status (inl done) = let zero = done.0 in omega (arith, zero)
+exchange_within held holds status (inr (inl first)) = stop_within _ held holds status first
+exchange_within held holds status (inr (inr second)) = stop_within _ held holds status second
+
+bad_address_within : (held holds : Option Text) (status : ℕ) → TellsBadAddress held holds status → status ≤ 3
+bad_address_within held holds status (inl bad) = let two = bad.0 in omega (arith, two)
+bad_address_within held holds status (inr stop) = stop_within _ held holds status stop
+
+-- either way the status is no greater, whichever address it is
+exchange_at_within : (address : Text) (held holds : Option Text) (status : ℕ) → EndsExchangeAt address held holds status → status ≤ 3
+exchange_at_within address held holds status ends =
+    elim (cases_lt 3 status) [
+      | inl high ↦ bad_address_within held holds status (ends.bad (λ host port is. let low = exchange_within held holds status (ends.asked host port is) in omega (arith, low, high)))
+      | inr low ↦ low
+    ]
+
+pub ends_within : {K : Type 0} (keeper : Ghosts K) (asked : Asked) (held holds : Option Text) (status : ℕ) → EndsAs keeper asked held holds status → status ≤ 3
+ends_within keeper (Init database server primary) held holds status (inl done) = let zero = done.0 in omega (arith, zero)
+ends_within keeper (Init database server primary) held holds status (inr unopened) = unopened_within held holds status unopened
+ends_within keeper (Ask database command) held holds status ends = asking_within keeper (λ c. c ≡ command) Tells held holds status (λ reply told. tells_within reply held holds status told) ends
+ends_within keeper (Export database position batch max_lines) held holds status ends =
+    asking_within keeper (IsBatchFor max_lines) TellsWritten held holds status (λ reply told. written_within reply held holds status told) ends
+ends_within keeper (Import database batch) held holds status ends = asking_within keeper IsReceive Tells held holds status (λ reply told. tells_within reply held holds status told) ends
+ends_within keeper (Rehearse script) held holds status ends = rehearsal_within held holds status ends
+ends_within keeper (Serve database port connections) held holds status ends = serving_within port connections held holds status ends
+ends_within keeper (Exchange database address) held holds status ends = exchange_at_within address held holds status ends
+ends_within keeper (Bridge database other) held holds status ends = exchange_within held holds status ends

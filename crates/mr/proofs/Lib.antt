@@ -5,4 +5,5 @@ mod ScriptLaws
 mod RunLaws
 mod UniqueReading
 mod AskLaws
+mod DatabaseLaws
 mod EndLaws

@@ -21,7 +21,8 @@ use Rattle.mr_model.specs.World.{Step, Add, Make, Deliver}
 use Rattle.mr_model.proofs.LinesReadBack.{words-cons}
 use Rattle.mr.specs.Script.{is_word, slot_words, booking_words, all_bytes, length_word, is_length, step_line, are_slot_words, is_booking, has_line, is_plain, IsLineOf}
 use Rattle.mr_base.specs.Readings.{number_from_to}
-use Rattle.mr.specs.LineSteps.{◌>>=◌, cut, server_in, cut_server, cut_slot, with_slot, cut_slots, number_of_slots, booking_in, room_step, sheet_step, book_step, part_in, calendar_step, outcome_step, errors_step, commit_step, truncate_step, position_step, batch_step, length_in, cut_batch, deliver_step, replica_step, exchange_by, question_by, step_by, step_in}
+use Rattle.mr_words.specs.Rows.{◌>>=◌, server_in, part_in}
+use Rattle.mr.specs.LineSteps.{cut, cut_server, cut_slot, with_slot, cut_slots, number_of_slots, booking_in, room_step, sheet_step, book_step, calendar_step, outcome_step, errors_step, commit_step, truncate_step, position_step, batch_step, length_in, cut_batch, deliver_step, replica_step, exchange_by, question_by, step_by, step_in}
 use Rattle.mr.proofs.WordLaws.{only_if_some, cut_of, cut_parts, number_from_parts, number_from_decimal, decimal_word}
 
 -- ---- chains

@@ -1,24 +1,17 @@
 -- How a line of a script is read, word for word.
-use Rattle.std.specs.Prelude.{ℕ, zero, suc, ◌&&◌, if◌then◌else◌, List, [], ◌∷◌, codes, bytes_eq, Option, Some, None, option_and_then}
+use Rattle.std.specs.Prelude.{ℕ, zero, suc, ◌&&◌, if◌then◌else◌, List, [], ◌∷◌, codes, bytes_eq, Option, Some, None}
 use Rattle.std.specs.List.{list_any}
 use Rattle.mr_model.specs.Texts.{Text, is_space, first_word, after_word, only_if}
-use Rattle.mr_model.specs.Replies.{Part, Full, Committed}
 use Rattle.mr_model.specs.View.{AskSheet, AskCalendar, AskOutcome, AskErrors}
 use Rattle.mr_model.specs.Step.{AddRoom, Submit, Commit, Truncate, AskPosition, Ask, Submission, SlotWords}
 use Rattle.mr_model.specs.World.{Step, Add, Make, Deliver}
 use Rattle.mr_base.specs.Readings.{number_from_to}
+use Rattle.mr_words.specs.Rows.{◌>>=◌, server_in, count_in, line_count_in, part_in}
 use Rattle.mr.specs.Script.{is_word, all_bytes}
-
-infixl 10 ◌>>=◌
-abbrev pub ◌>>=◌ : {A B : Type 0} → Option A → (A → Option B) → Option B
-o >>= f = option_and_then f o
 
 -- the first word, and what follows the space behind it
 abbrev pub cut : Text → Option (Text × Text)
 cut t = only_if (is_word (first_word t) && list_any is_space t) (first_word t, after_word t)
-
-abbrev pub server_in : Text → Option ℕ
-server_in t = number_from_to 1 99 t
 
 -- a server's word, and what follows
 abbrev pub cut_server : Text → Option (ℕ × Text)
@@ -54,10 +47,6 @@ sheet_step server t = cut t >>= λ room. only_if (is_word room.1) (Step.Do serve
 abbrev pub book_step : ℕ → Text → Option Step
 book_step server t = booking_in t >>= λ booking. Some (Step.Do server (Submit booking))
 
--- a part of a calendar
-abbrev pub part_in : Text → Option Part
-part_in t = if bytes_eq t (codes "full") then Some Full else (if bytes_eq t (codes "committed") then Some Committed else None)
-
 abbrev pub calendar_step : ℕ → Text → Option Step
 calendar_step server t = cut t >>= λ room. (part_in room.1 >>= λ part. Some (Step.Do server (Ask room.0 (AskCalendar part))))
 
@@ -68,16 +57,16 @@ abbrev pub errors_step : ℕ → Text → Option Step
 errors_step server t = only_if (is_word t) (Step.Do server (Ask t AskErrors))
 
 abbrev pub commit_step : ℕ → Text → Option Step
-commit_step server t = number_from_to 0 999_999_999_999 t >>= λ count. Some (Step.Do server (Commit count))
+commit_step server t = count_in t >>= λ count. Some (Step.Do server (Commit count))
 
 abbrev pub truncate_step : ℕ → Text → Option Step
-truncate_step server t = number_from_to 0 999_999_999_999 t >>= λ count. Some (Step.Do server (Truncate count))
+truncate_step server t = count_in t >>= λ count. Some (Step.Do server (Truncate count))
 
 abbrev pub position_step : Text → Option Step
 position_step t = server_in t >>= λ server. Some (Step.Do server AskPosition)
 
 abbrev pub batch_step : ℕ → Text → Option Step
-batch_step from t = cut_server t >>= λ to. (number_from_to 1 100_000 to.1 >>= λ max_lines. Some (Make from to.0 max_lines))
+batch_step from t = cut_server t >>= λ to. (line_count_in to.1 >>= λ max_lines. Some (Make from to.0 max_lines))
 
 -- how many bytes of a batch
 abbrev pub length_in : Text → Option ℕ

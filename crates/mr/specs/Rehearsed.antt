@@ -5,6 +5,7 @@ use Rattle.mr_model.specs.Texts.{Text, words, lines_text}
 use Rattle.mr_model.specs.Replies.{reply_text}
 use Rattle.mr_model.specs.World.{World, empty_world, Step, StepReply, Added, There, NoReplica, NoBatch, Made, Said}
 use Rattle.mr_model.specs.Honest.{IsWorldRun}
+use Rattle.mr_say.specs.Told.{no_memory_line}
 use Rattle.mr.specs.Script.{ReadsAs}
 
 -- the text of a reply
@@ -24,9 +25,6 @@ pub record Prints (steps : List Step) (output : Text) : Type 0 where
   pub world : World
   pub taken : IsWorldRun empty_world steps replies world
   pub printed : output ≡ flat_map step_reply_text replies
-
-abbrev pub no_memory_line : Text
-no_memory_line = codes "refused 24 OutOfMemory" ++ 10 ∷ []
 
 abbrev pub bad_line : ℕ → Text
 bad_line number = codes "bad script line " ++ decimal number ++ 10 ∷ []

@@ -1,17 +1,92 @@
--- What command lines print, and with which statuses.
-use Rattle.std.specs.Prelude.{◌≡◌, ℕ, ◌⊎◌, Option}
-use Rattle.mr_model.specs.Texts.{Text}
-use Rattle.mr_words.specs.Rows.{Asked, Init, Ask, Export, Import, Rehearse}
-use Rattle.mr.specs.declared.databases.Task.{Task}
-use Rattle.mr.specs.declared.databases.Task.TheVariants as task
+-- What command lines ask, what they print, and with which statuses.
+use Rattle.std.specs.Prelude.{◌≡◌, ◌⊎◌, ℕ, Option, Some, None}
+use Rattle.std.specs.Io.KnownBytes.{Appends}
+use Rattle.std.specs.declared.string.String.{String}
+use Rattle.std.specs.declared.alloc.Global.{Global}
+use Rattle.mr_model.specs.Texts.{Text, line}
+use Rattle.mr_model.specs.Refusals.{Refusal, OutOfMemory, Store, NotAReplica, refusal_text}
+use Rattle.mr_model.specs.Replica.{opening}
+use Rattle.mr_model.specs.Replies.{Reply}
+use Rattle.mr_model.specs.Step.{Command, Receive, BatchFor}
+use Rattle.mr_model.specs.Tables.{Stands}
+use Rattle.mr_store.specs.declared.keeper.Keeper.{Ghosts}
+use Rattle.mr_store.specs.Kept.{IsSettled}
+use Rattle.mr_service.specs.Asked.{command_of, local_of}
+use Rattle.mr_say.specs.Told.{Tells, ok_line}
+use Rattle.mr_net.specs.Hosts.{IsPeer}
+use Rattle.mr_net.specs.Printed.{EndsExchange, EndsServing, TellsBadAddress}
+use Rattle.mr_words.specs.Rows.{Asked, Init, Ask, Export, Import, Rehearse, Serve, Exchange, Bridge}
+use Rattle.mr.specs.declared.orders.Task.{Task}
+use Rattle.mr.specs.declared.orders.Task.TheVariants as kind
+use Rattle.mr.specs.declared.orders.Order.{Order}
 use Rattle.mr.specs.Rehearsed.{Rehearses, Stops}
-use Rattle.mr.specs.Told.{Ends, IsReplyText, IsWroteLine, ok_line}
+use Rattle.mr.specs.Told.{IsAsked, TellsFault, TellsWritten}
 
--- what a task on a database prints where it is done
-abbrev pub IsTextFor : Task → Text → Type 0
-IsTextFor (task.Ask local) = IsReplyText
-IsTextFor (task.Import batch) = IsReplyText
-IsTextFor (task.Export export) = IsWroteLine
+-- ---- tasks
+
+abbrev pub IsReceive : Command → Type 0
+IsReceive command = (bytes : Text) × (command ≡ Receive bytes)
+
+abbrev pub IsBatchFor : ℕ → Command → Type 0
+IsBatchFor max_lines command = (position : Text) × (command ≡ BatchFor position max_lines)
+
+-- the command that a task asks; what a file holds is not known here
+abbrev pub IsCommandFor : Task → Command → Type 0
+IsCommandFor (kind.Ask local) command = command ≡ local_of local
+IsCommandFor (kind.Import batch) command = IsReceive command
+IsCommandFor (kind.Export export) command = IsBatchFor export.max_lines command
+
+-- the path of the file that takes the reply
+abbrev pub file_for : Task → Option (String Global)
+file_for (kind.Export export) = Some export.batch
+file_for _ = None
+
+pub record IsOrderFor (task : Task) (order : Order) : Type 0 where
+  pub command : IsCommandFor task (command_of order.command)
+  pub file : order.file ≡ file_for task
+
+-- the reply is printed, or goes to a file
+abbrev pub TellsTo : Option (String Global) → Reply → Option Text → Option Text → ℕ → Type 0
+TellsTo None = Tells
+TellsTo (Some path) = TellsWritten
+
+-- the replica of a keeper is asked such a command, and the reply is told so
+abbrev pub IsAnswered : {K : Type 0} → Ghosts K → (Command → Type 0) → (Reply → Option Text → Option Text → ℕ → Type 0) → K → K → Option Text → Option Text → ℕ → Type 0
+IsAnswered keeper IsCommand TellsReply old new held holds status =
+    (command : Command) × (reply : Reply) × IsCommand command × IsAsked keeper old new command reply × TellsReply reply held holds status
+
+-- ---- databases
+
+-- a keeper as it is opened: nothing has failed, and a crash would leave its tables and nothing else
+pub record IsOpened {K : Type 0} (keeper : Ghosts K) (k : K) : Type 0 where
+  pub uncounted : keeper.failures k ≡ 0
+  pub settled : keeper.is_clean k → keeper.is_open k → IsSettled (keeper.may_leave k) (keeper.tables k)
+
+-- as that of this server and primary: the tables of a replica that knows nothing yet, or those that were there
+pub record IsOpenedFor {K : Type 0} (keeper : Ghosts K) (server primary : ℕ) (k : K) : Type 0 where
+  pub opened : IsOpened keeper k
+  pub tables : keeper.is_clean k → keeper.is_open k
+      → Stands (keeper.tables k) (opening server primary) ⊎ (((keeper.tables k).meta.server ≡ server) × ((keeper.tables k).meta.primary ≡ primary))
+
+-- why a database can't be opened
+abbrev pub IsOfDatabase : Refusal → Type 0
+IsOfDatabase e = (e ≡ OutOfMemory) ⊎ ((e ≡ Store) ⊎ (e ≡ NotAReplica))
+
+-- the database is refused, memory is wanting, or there is a fault
+abbrev pub TellsUnopened : Option Text → Option Text → ℕ → Type 0
+TellsUnopened held holds status =
+    ((status ≡ 1) × (e : Refusal) × IsOfDatabase e × Appends held holds (line (refusal_text e))) ⊎ TellsFault held holds status
+
+-- a database is opened, and its replica asked such a command
+abbrev pub EndsAsking : {K : Type 0} → Ghosts K → (Command → Type 0) → (Reply → Option Text → Option Text → ℕ → Type 0) → Option Text → Option Text → ℕ → Type 0
+EndsAsking {K} keeper IsCommand TellsReply held holds status =
+    ((old new : K) × IsOpened keeper old × IsAnswered keeper IsCommand TellsReply old new held holds status) ⊎ TellsUnopened held holds status
+
+abbrev pub EndsInit : {K : Type 0} → Ghosts K → ℕ → ℕ → Option Text → Option Text → ℕ → Type 0
+EndsInit {K} keeper server primary held holds status =
+    ((status ≡ 0) × (k : K) × IsOpenedFor keeper server primary k × Appends held holds ok_line) ⊎ TellsUnopened held holds status
+
+-- ---- scripts
 
 -- a script was rehearsed, or stopped, or there was a fault; nothing is said of the file
 abbrev pub EndsRehearsal : Option Text → Option Text → ℕ → Type 0
@@ -19,10 +94,22 @@ EndsRehearsal held holds status =
     ((status ≡ 0) × (bytes : Text) × Rehearses bytes held holds)
     ⊎ (((status ≡ 1) × (bytes : Text) × Stops bytes held holds) ⊎ (status ≡ 3))
 
--- what a command line that asks for this prints
-abbrev pub EndsAs : Asked → Option Text → Option Text → ℕ → Type 0
-EndsAs (Init database server primary) = Ends (λ text. text ≡ ok_line)
-EndsAs (Ask database command) = Ends IsReplyText
-EndsAs (Export database position batch max_lines) = Ends IsWroteLine
-EndsAs (Import database batch) = Ends IsReplyText
-EndsAs (Rehearse script) = EndsRehearsal
+-- ---- exchanges
+
+-- the database is exchanged with the peer at this address, or that is told to be none
+pub record EndsExchangeAt (address : Text) (held holds : Option Text) (status : ℕ) : Type 0 where
+  pub asked : (host : Text) (port : ℕ) → IsPeer address host port → EndsExchange held holds status
+  pub bad : ((host : Text) (port : ℕ) → ¬ IsPeer address host port) → TellsBadAddress held holds status
+
+-- ---- command lines
+
+-- what a command line that asks for this prints, where databases are those of such keepers
+abbrev pub EndsAs : {K : Type 0} → Ghosts K → Asked → Option Text → Option Text → ℕ → Type 0
+EndsAs keeper (Init database server primary) = EndsInit keeper server primary
+EndsAs keeper (Ask database command) = EndsAsking keeper (λ c. c ≡ command) Tells
+EndsAs keeper (Export database position batch max_lines) = EndsAsking keeper (IsBatchFor max_lines) TellsWritten
+EndsAs keeper (Import database batch) = EndsAsking keeper IsReceive Tells
+EndsAs keeper (Rehearse script) = EndsRehearsal
+EndsAs keeper (Serve database port connections) = EndsServing port connections
+EndsAs keeper (Exchange database address) = EndsExchangeAt address
+EndsAs keeper (Bridge database other) = EndsExchange

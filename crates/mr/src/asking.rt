@@ -1,91 +1,139 @@
 //! Commands to the replica of a service, over any keeper and any writer.
 
-ghost use Rattle.std.specs.Prelude.{◌≡◌, ◌⊎◌};
+ghost use Rattle.std.specs.Prelude.{◌≡◌, ◌≤◌, ◌⊎◌, IfOk, None, length};
+ghost use Rattle.std.specs.Io.KnownBytes.{Appends};
 ghost use Rattle.mr_model.specs.Texts.{Text};
 ghost use Rattle.mr_model.specs.View.{Question};
 ghost use Rattle.mr_model.specs.Replies as model;
-ghost use Rattle.mr_model.specs.Serving.{Reaches};
-ghost use Rattle.mr_model.specs.Step.{Ask, BatchFor};
-ghost use Rattle.mr_model.specs.Tables.{Tables};
-ghost use Rattle.mr_store.specs.Kept.{IsSettled};
+ghost use Rattle.mr_model.specs.Step.{Ask};
 ghost use Rattle.mr_service.specs.Asked.{command_of, reply_of};
-ghost use Rattle.mr_service.specs.Asking.{NoneFails};
-ghost use Rattle.mr.specs.Told.{Tells, TellsAnswer, IsAsked, IsMadeOf};
+ghost use Rattle.mr.specs.Told.{IsAsked, TellsAnswer, TellsFault, TellsLength, TellsWritten, greatest_file};
+ghost use Rattle.mr.specs.Tasks.{IsAnswered, IsCommandFor, TellsTo, file_for};
 
-use crate::files::GREATEST_FILE;
-use crate::printing::say_reply;
-use mr_base::{LineCount, Refusal};
-use mr_service::{Command, Local, Reply, Service, reply_text};
+use crate::files::{FileFault, GREATEST_FILE, create_file, say_fault};
+use crate::orders::{Order, Task, order_for};
+use mr_say::{DONE, NO_MEMORY, REFUSED, say, say_reply};
+use mr_service::{Command, Reply, Service, reply_text};
 use mr_store::Keeper;
 use std::alloc::Global;
 use std::io::Write;
 
-/// Gives the replica the command, prints what it replies, and answers the status: 0, or 1 where it refuses.
-pub(crate) fn answer<K: Keeper, W: Write>(
+/// Does the task with this replica.
+pub(crate) fn perform<K: Keeper, W: Write>(
+    rt: &HostRuntime,
     alloc: Global,
     service: &mut Service<K>,
-    command: &Command,
+    task: Task,
     out: &mut W,
 ) -> u8
-    ensures clean { K.is_clean service.new → K.is_clean service.old }
-    ensures open { K.is_clean service.new → K.is_open service.new → K.is_open service.old }
-    ensures told { (reply : model.Reply)
-        × IsAsked (K.is_clean service.new) (K.is_open service.old) (K.is_open service.new) (K.tables service.old) (command_of command.now) (K.tables service.new) (K.failures service.old) (K.failures service.new) reply
-        × Tells reply (W.contents out.old) (W.contents out.new) result }
-    ensures shown { K.is_clean service.new → K.is_open service.new → (room : Text) (question : Question) → command_of command.now ≡ Ask room question
-        → TellsAnswer (K.tables service.old) room question (W.contents out.old) (W.contents out.new) result }
-    ensures sure { K.never_fails → K.is_clean service.new → K.is_open service.new → NoneFails (K.tables service.old) (K.failures service.old) (K.failures service.new) }
-    ensures settled { K.is_clean service.new → K.is_open service.new → IsSettled (K.may_leave service.old) (K.tables service.old) → IsSettled (K.may_leave service.new) (K.tables service.new) }
-    ensures crash { K.is_clean service.new → K.is_open service.old → (t : Tables) → K.may_leave service.new t → K.may_leave service.old t ⊎ Reaches (K.tables service.old) (command_of command.now) t }
+    ensures { IsAnswered K.Keeper (IsCommandFor task) (TellsTo (file_for task)) service.old service.new (W.contents out.old) (W.contents out.new) result
+        ⊎ ((service.new ≡ service.old) × TellsFault (W.contents out.old) (W.contents out.new) result) }
 {
-    let reply = service.ask(command);
-    say_reply(alloc, out, &reply)
+    match order_for(rt, alloc, task) {
+        Ok(order) => answer(rt, alloc, service, &order, out),
+        Err(fault) => say_fault(out, fault),
+    }
 }
 
-/// What an export comes to before its file is written.
-#[derive(Drop)]
-pub(crate) enum Made {
-    /// The bytes of the batch.
-    Batch(Vec<u8>),
-    /// The batch has more bytes than a file may have.
-    TooGreat,
-    Refused(Refusal),
-}
-
-/// Has the replica make the batch for the position with this text, of that many item lines at most.
-pub(crate) fn make_batch<K: Keeper>(
+/// Gives the replica the command and tells what it replies, and answers the status: 0, 1 where it refuses, or 3 where the file of
+/// the order does not take the reply.
+fn answer<K: Keeper, W: Write>(
+    rt: &HostRuntime,
     alloc: Global,
     service: &mut Service<K>,
-    position: Vec<u8>,
-    max_lines: LineCount,
-) -> Made
-    ensures clean { K.is_clean service.new → K.is_clean service.old }
-    ensures open { K.is_clean service.new → K.is_open service.new → K.is_open service.old }
-    ensures made { (reply : model.Reply)
-        × IsAsked (K.is_clean service.new) (K.is_open service.old) (K.is_open service.new) (K.tables service.old) (BatchFor position.items max_lines) (K.tables service.new) (K.failures service.old) (K.failures service.new) reply
-        × IsMadeOf reply result }
-    ensures sure { K.never_fails → K.is_clean service.new → K.is_open service.new → NoneFails (K.tables service.old) (K.failures service.old) (K.failures service.new) }
-    ensures settled { K.is_clean service.new → K.is_open service.new → IsSettled (K.may_leave service.old) (K.tables service.old) → IsSettled (K.may_leave service.new) (K.tables service.new) }
-    ensures crash { K.is_clean service.new → K.is_open service.old → (t : Tables) → K.may_leave service.new t → K.may_leave service.old t ⊎ Reaches (K.tables service.old) (BatchFor position.items max_lines) t }
+    order: &Order,
+    out: &mut W,
+) -> u8
+    ensures told { (reply : model.Reply)
+        × IsAsked K.Keeper service.old service.new (command_of order.now.command) reply
+        × TellsTo order.now.file reply (W.contents out.old) (W.contents out.new) result }
+    ensures shown { K.is_clean service.new → K.is_open service.new → order.now.file ≡ None
+        → (room : Text) (question : Question) → command_of order.now.command ≡ Ask room question
+        → TellsAnswer (K.tables service.old) room question (W.contents out.old) (W.contents out.new) result }
 {
-    let command = Command::Local(Local::BatchFor {
-        position,
-        max_lines,
-    });
-    let reply = service.ask(&command);
-    bytes_of(alloc, &reply)
+    let reply = ask(service, &order.command);
+    match &order.file {
+        None => say_reply(alloc, out, &reply),
+        Some(path) => write_reply(rt, alloc, path.as_str(), &reply, out),
+    }
 }
 
-/// The bytes of the reply, unless it is a refusal.
-fn bytes_of(alloc: Global, reply: &Reply) -> Made
-    ensures { IsMadeOf (reply_of reply.now) result }
+/// Gives the replica the command.
+fn ask<K: Keeper>(service: &mut Service<K>, command: &Command) -> Reply
+    ensures { IsAsked K.Keeper service.old service.new (command_of command.now) (reply_of result) }
 {
-    if let Reply::Refused(refusal) = reply {
-        return Made::Refused(*refusal);
+    service.ask(command)
+}
+
+/// Writes the reply to the file at this path and prints how many bytes that has, unless it is a refusal, which is printed.
+fn write_reply<W: Write>(
+    rt: &HostRuntime,
+    alloc: Global,
+    path: &str,
+    reply: &Reply,
+    out: &mut W,
+) -> u8
+    ensures { TellsWritten (reply_of reply.now) (W.contents out.old) (W.contents out.new) result }
+{
+    if let Reply::Refused(_) = reply {
+        return say_reply(alloc, out, reply);
     }
+    match file_text(alloc, reply) {
+        Ok(bytes) => write_bytes(rt, alloc, path, bytes.as_slice(), out),
+        Err(fault) => say_fault(out, fault),
+    }
+}
+
+/// The text of the reply, unless it is longer than a file may be.
+fn file_text(alloc: Global, reply: &Reply) -> Result<Vec<u8>, FileFault>
+    ensures text { IfOk result (λ bytes. bytes.items ≡ model.reply_text (reply_of reply.now)) }
+    ensures limited { IfOk result (λ bytes. length bytes.items ≤ greatest_file) }
+{
     match reply_text(alloc, reply) {
-        Ok(bytes) if bytes.len() as u64 > GREATEST_FILE => Made::TooGreat,
-        Ok(bytes) => Made::Batch(bytes),
-        Err(refusal) => Made::Refused(refusal),
+        Ok(bytes) if bytes.len() as u64 > GREATEST_FILE => Err(FileFault::File),
+        Ok(bytes) => Ok(bytes),
+        Err(_) => Err(FileFault::Memory),
+    }
+}
+
+/// Writes the bytes to the file at this path, and prints how many there are.
+fn write_bytes<W: Write>(
+    rt: &HostRuntime,
+    alloc: Global,
+    path: &str,
+    bytes: &[u8],
+    out: &mut W,
+) -> u8
+    ensures { TellsLength (length bytes.now) (W.contents out.old) (W.contents out.new) result }
+{
+    match create_file(rt, path) {
+        Ok(mut file) => put_bytes(alloc, &mut file, bytes, out),
+        Err(fault) => say_fault(out, fault),
+    }
+}
+
+/// Writes the bytes to this file, and prints how many there are.
+pub(crate) fn put_bytes<F: Write, W: Write>(
+    alloc: Global,
+    file: &mut F,
+    bytes: &[u8],
+    out: &mut W,
+) -> u8
+    ensures written { result ≡ 0 → Appends (F.contents file.old) (F.contents file.new) bytes.now }
+    ensures told { TellsLength (length bytes.now) (W.contents out.old) (W.contents out.new) result }
+{
+    match file.write_all(bytes) {
+        Ok(()) => say_written(alloc, out, bytes.len() as u64),
+        Err(_) => say_fault(out, FileFault::File),
+    }
+}
+
+/// Prints how many bytes were written to a file.
+fn say_written<W: Write>(alloc: Global, out: &mut W, bytes: u64) -> u8
+    ensures { TellsLength bytes (W.contents out.old) (W.contents out.new) result }
+{
+    match format!(in alloc; "wrote {bytes} bytes\n") {
+        Ok(line) => say(out, line.as_str(), DONE),
+        Err(_) => say(out, NO_MEMORY, REFUSED),
     }
 }

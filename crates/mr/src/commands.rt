@@ -5,13 +5,18 @@ ghost use Rattle.std.specs.String.{string_bytes};
 ghost use Rattle.std.specs.Io.KnownBytes.{Appends};
 ghost use Rattle.mr_words.specs.Rows.{Asked, has_no_flag, invocation_of};
 ghost use Rattle.mr_words.specs.Reading.{asked_of};
-ghost use Rattle.mr.specs.Rehearsed.{bad_words_line, no_memory_line};
+ghost use Rattle.mr_say.specs.Told.{no_memory_line};
+ghost use Rattle.mr.specs.Rehearsed.{bad_words_line};
 ghost use Rattle.mr.specs.Tasks.{EndsAs, EndsRehearsal};
 
-use crate::databases::{Export, Task, init, on_database};
-use crate::files::open_file;
-use crate::printing::{BAD_WORDS, NO_MEMORY, REFUSED, say, say_fault};
+use crate::databases::{init, on_database};
+use crate::files::{open_file, say_fault};
+use crate::orders::{Export, Task};
 use crate::run::rehearse;
+use mr_net::{bridge, exchange, serve};
+use mr_say::{BAD_WORDS, NO_MEMORY, REFUSED, say};
+use mr_sql::FileKeeper;
+use mr_store::Keeper;
 use mr_words::{Invocation, WordFault, invocation};
 use std::alloc::Global;
 use std::io::Write;
@@ -22,7 +27,7 @@ use std::io::Write;
 pub fn command<W: Write>(rt: &HostRuntime, alloc: Global, words: &[String], out: &mut W) -> u8
     ensures within { result ≤ 3 }
     ensures asked { has_no_flag (map string_bytes words.now) ≡ true → (asked : Asked) → invocation_of (map string_bytes words.now) ≡ Some asked
-        → EndsAs asked (W.contents out.old) (W.contents out.new) result }
+        → EndsAs ⟦<FileKeeper as Keeper>⟧ asked (W.contents out.old) (W.contents out.new) result }
     ensures bad { has_no_flag (map string_bytes words.now) ≡ true → invocation_of (map string_bytes words.now) ≡ None
         → ((result ≡ 2) × Appends (W.contents out.old) (W.contents out.new) bad_words_line)
         ⊎ (((result ≡ 1) × Appends (W.contents out.old) (W.contents out.new) no_memory_line) ⊎ (result ≡ 3)) }
@@ -36,7 +41,7 @@ pub fn command<W: Write>(rt: &HostRuntime, alloc: Global, words: &[String], out:
 
 /// Does what was asked for.
 fn perform<W: Write>(rt: &HostRuntime, alloc: Global, asked: Invocation, out: &mut W) -> u8
-    ensures { EndsAs (asked_of asked) (W.contents out.old) (W.contents out.new) result }
+    ensures { EndsAs ⟦<FileKeeper as Keeper>⟧ (asked_of asked) (W.contents out.old) (W.contents out.new) result }
 {
     match asked {
         Invocation::Init {
@@ -64,6 +69,17 @@ fn perform<W: Write>(rt: &HostRuntime, alloc: Global, asked: Invocation, out: &m
             on_database(rt, alloc, database.as_str(), Task::Import { batch }, out)
         }
         Invocation::Rehearse { script } => rehearse_file(rt, alloc, script.as_str(), out),
+        Invocation::Serve {
+            database,
+            port,
+            count,
+        } => serve(rt, alloc, database.as_str(), port, count, out),
+        Invocation::Exchange { database, url } => {
+            exchange(rt, alloc, database.as_str(), url.as_str(), out)
+        }
+        Invocation::Bridge { database, other } => {
+            bridge(rt, alloc, database.as_str(), other.as_str(), out)
+        }
     }
 }
 

@@ -1,9 +1,10 @@
 //! Files of scripts, positions and batches.
 
-ghost use Rattle.std.specs.Prelude.{◌≤◌, IfOk, length};
+ghost use Rattle.std.specs.Prelude.{◌≡◌, ◌≤◌, IfOk, length};
 ghost use Rattle.mr.specs.Rehearsed.{IsInput};
-ghost use Rattle.mr.specs.Told.{greatest_file};
+ghost use Rattle.mr.specs.Told.{TellsFault, greatest_file};
 
+use mr_say::{FAULT, NO_MEMORY, REFUSED, say};
 use std::alloc::Global;
 use std::fs::File;
 use std::io::{self, ErrorKind, Read, Write};
@@ -35,14 +36,6 @@ pub(crate) fn create_file(rt: &HostRuntime, path: &str) -> Result<File, FileFaul
     }
 }
 
-/// The bytes of the file at this path.
-pub(crate) fn read_file(rt: &HostRuntime, alloc: Global, path: &str) -> Result<Vec<u8>, FileFault>
-    ensures { IfOk result (λ bytes. length bytes.items ≤ greatest_file) }
-{
-    let file = open_file(rt, path)?;
-    read_limited(alloc, file)
-}
-
 /// All that the reader gives, unless it fails or gives more than a file may have.
 pub(crate) fn read_limited<R: Read>(alloc: Global, reader: R) -> Result<Vec<u8>, FileFault>
 where
@@ -70,5 +63,16 @@ fn fault_of(error: &io::Error) -> FileFault {
         FileFault::Memory
     } else {
         FileFault::File
+    }
+}
+
+/// Prints that a file can't be had, or that memory is wanting for it.
+pub(crate) fn say_fault<W: Write>(out: &mut W, fault: FileFault) -> u8
+    ensures told { TellsFault (W.contents out.old) (W.contents out.new) result }
+    ensures memory { result ≡ 1 → fault ≡ FileFault.Memory }
+{
+    match fault {
+        FileFault::File => say(out, "fault file\n", FAULT),
+        FileFault::Memory => say(out, NO_MEMORY, REFUSED),
     }
 }

@@ -1,12 +1,12 @@
 //! Reads the lines of a script.
 
 ghost use Rattle.std.specs.Prelude.{◌≡◌, MatchOption, IfOk, Some, None};
-ghost use Rattle.mr_service.specs.Asked.{part_of};
 ghost use Rattle.mr_service.specs.Stepping.{step_of};
-ghost use Rattle.mr.specs.LineSteps.{replica_step, room_step, sheet_step, book_step, calendar_step, outcome_step, errors_step, commit_step, truncate_step, position_step, batch_step, deliver_step, part_in, at_server, exchange_by, question_by, step_by, step_in};
+ghost use Rattle.mr.specs.LineSteps.{replica_step, room_step, sheet_step, book_step, calendar_step, outcome_step, errors_step, commit_step, truncate_step, position_step, batch_step, deliver_step, at_server, exchange_by, question_by, step_by, step_in};
 
-use crate::words::{Words, is_word, read_count, read_length, read_line_count, read_server};
-use mr_service::{Local, Part, Step};
+use crate::words::{Words, is_word, read_length};
+use mr_service::{Local, Step};
+use mr_words::{read_count, read_line_count, read_part, read_server};
 use std::alloc::{AllocError, Global};
 
 /// The step that the line stands for, if it is of the table.
@@ -126,17 +126,6 @@ fn calendar(alloc: Global, mut words: Words<'_>) -> Result<Option<Step>, AllocEr
     };
     let room = String::from_str(alloc, room)?;
     Ok(Some(Step::Do(server, Local::Calendar { room, part })))
-}
-
-/// The part of a calendar that the word names.
-fn read_part(word: &str) -> Option<Part>
-    ensures { MatchOption result (part_in word.now ≡ None) (λ part. part_in word.now ≡ Some (part_of part)) }
-{
-    match word {
-        "full" => Some(Part::Full),
-        "committed" => Some(Part::Committed),
-        _ => None,
-    }
 }
 
 fn outcome(alloc: Global, mut words: Words<'_>) -> Result<Option<Step>, AllocError>

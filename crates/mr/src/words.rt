@@ -3,11 +3,11 @@ ghost use Rattle.std.specs.List.{list_all};
 ghost use Rattle.mr_model.specs.Texts.{is_space};
 ghost use Rattle.mr_service.specs.Asked.{words_of, submission_of};
 ghost use Rattle.mr.specs.Script.{is_word};
-ghost use Rattle.mr_base.specs.Readings.{number_from_to};
-ghost use Rattle.mr.specs.LineSteps.{cut, server_in, cut_server, cut_batch, length_in, cut_slot, cut_slots, number_of_slots, booking_in};
+ghost use Rattle.mr.specs.LineSteps.{cut, cut_server, cut_batch, length_in, cut_slot, cut_slots, number_of_slots, booking_in};
 
-use mr_base::{LineCount, ServerId, read_number};
+use mr_base::{ServerId, read_number};
 use mr_service::{SlotWords, Submission};
+use mr_words::read_server;
 use std::alloc::{AllocError, Global};
 use std::marker::Model;
 
@@ -149,29 +149,6 @@ fn has_no_space(text: &[u8]) -> bool
     ensures { result ≡ list_all (λ c. not (is_space c)) text.now }
 {
     text.iter().all(|byte| *byte != b' ')
-}
-
-/// The server with the number that the text writes.
-pub(crate) fn read_server(text: &str) -> Option<ServerId>
-    ensures { result ≡ server_in text.now }
-{
-    let number = read_number(text, 1, 99)?;
-    ServerId::new(number as u32)
-}
-
-/// The number of commits that the text writes.
-pub(crate) fn read_count(text: &str) -> Option<u64>
-    ensures { result ≡ number_from_to 0 999_999_999_999 text.now }
-{
-    read_number(text, 0, 999_999_999_999)
-}
-
-/// The number of lines that the text writes.
-pub(crate) fn read_line_count(text: &str) -> Option<LineCount>
-    ensures { result ≡ number_from_to 1 100_000 text.now }
-{
-    let number = read_number(text, 1, 100_000)?;
-    LineCount::new(number as u32)
 }
 
 /// The number of bytes that the text writes; `all` is more than any batch has.

@@ -16,7 +16,7 @@ use Rattle.clap.specs.Words.{fault_of, subcommand_of, subcommand_name_of, subcom
 use Rattle.clap.specs.declared.error.ErrorKind.{ErrorKind}
 use Rattle.clap.specs.declared.parser.ArgMatches.{ArgMatches}
 use Rattle.clap.specs.declared.parser.ArgMatches.TheViews.{out-ArgMatches}
-use Rattle.mr_words.specs.Rows.{Rows, asking, commands, in_row, table, invocation_of, has_no_flag, init_row, export_row, import_row, rehearse_row}
+use Rattle.mr_words.specs.Rows.{Rows, asking, commands, in_row, table, invocation_of, has_no_flag, init_row, export_row, import_row, rehearse_row, serve_row, exchange_row, bridge_row}
 use Rattle.mr_words.specs.Reading.{NamesRow, row_by, words_in}
 use Rattle.mr_words.specs.Grammar.{program, row_names}
 use Rattle.mr_words.proofs.FlaglessWords.{named, named_is, none_faults, unknown_faults, found_rows, found_free, first_plain, row_matches, words_back, words_id}
@@ -43,7 +43,9 @@ asking_rows (row ∷ rows) name words =
 pub row_is : (name : Text) (words : List Text) → in_row table name words ≡ row_by name words
 row_is name words =
     ap (λ others. cond (bytes_eq name (codes "init")) (init_row words) (cond (bytes_eq name (codes "export")) (export_row words)
-    (cond (bytes_eq name (codes "import")) (import_row words) (cond (bytes_eq name (codes "rehearse")) (rehearse_row words) others))))
+    (cond (bytes_eq name (codes "import")) (import_row words) (cond (bytes_eq name (codes "rehearse")) (rehearse_row words)
+    (cond (bytes_eq name (codes "serve")) (serve_row words) (cond (bytes_eq name (codes "exchange")) (exchange_row words)
+    (cond (bytes_eq name (codes "bridge")) (bridge_row words) others)))))))
     (asking_rows commands name words)
 
 -- ---- what clap makes of the words

@@ -10,7 +10,7 @@ use Rattle.mr_model.specs.View.{AskSheet, AskCalendar, AskOutcome, AskErrors}
 use Rattle.mr_model.specs.Step.{AddRoom, Submit, Receive, Commit, Truncate, AskPosition, BatchFor, SlotWords}
 use Rattle.mr_model.specs.Step as step
 use Rattle.mr_base.proofs.Decimals.{number_from_to-decimal}
-use Rattle.mr_words.specs.Rows.{Asked, Init, Ask, Export, Import, Rehearse, invocation_of, is_t, slot_in, server_in, count_in, ◌>>=◌}
+use Rattle.mr_words.specs.Rows.{Asked, Init, Ask, Export, Import, Rehearse, Serve, Exchange, Bridge, invocation_of, is_t, slot_in, server_in, count_in, connections_in, ◌>>=◌}
 use Rattle.mr_words.specs.Lines.{MayBeAsked, command_line, slot_word}
 
 -- ---- slots
@@ -54,6 +54,11 @@ lines_read_back (Export database position out lines) h =
     ap (λ o. o >>= λ n. Some (Export database position out n)) (number_from_to-decimal 1 100_000 lines h.0 h.1 (lit< tt))
 lines_read_back (Import database batch) h = refl
 lines_read_back (Rehearse script) h = refl
+lines_read_back (Serve database port count) h =
+    ap (λ o. o >>= λ p. (connections_in (decimal count) >>= λ n. Some (Serve database p n))) (number_from_to-decimal 1 65_535 port h.0 h.1 (lit< tt))
+    ∙ ap (λ o. o >>= λ n. Some (Serve database port n)) (number_from_to-decimal 0 999_999_999 count (omega arith) h.2 (lit< tt))
+lines_read_back (Exchange database url) h = refl
+lines_read_back (Bridge database other) h = refl
 lines_read_back (Ask database (AddRoom room)) h = refl
 lines_read_back (Ask database (Submit s)) h = ap (λ (ss : List SlotWords). Some (Ask database (Submit (record s { alternatives = ss })))) (slots_back s.alternatives h)
 lines_read_back (Ask database (Commit count)) h =

@@ -6,7 +6,7 @@ use Rattle.mr_model.specs.Replies.{part_text}
 use Rattle.mr_model.specs.View.{AskSheet, AskCalendar, AskOutcome, AskErrors}
 use Rattle.mr_model.specs.Step.{AddRoom, Submit, Receive, Commit, Truncate, AskPosition, BatchFor, SlotWords}
 use Rattle.mr_model.specs.Step as step
-use Rattle.mr_words.specs.Rows.{Asked, Init, Ask, Export, Import, Rehearse, invocation_of, is_t}
+use Rattle.mr_words.specs.Rows.{Asked, Init, Ask, Export, Import, Rehearse, Serve, Exchange, Bridge, invocation_of, is_t}
 
 abbrev pub slot_word : SlotWords → Text
 slot_word s = s.day ++ 84 ∷ s.time
@@ -16,6 +16,9 @@ command_line (Init database server primary) = codes "init" ∷ database ∷ deci
 command_line (Export database position out lines) = codes "export" ∷ database ∷ position ∷ out ∷ decimal lines ∷ []
 command_line (Import database batch) = codes "import" ∷ database ∷ batch ∷ []
 command_line (Rehearse script) = codes "rehearse" ∷ script ∷ []
+command_line (Serve database port count) = codes "serve" ∷ database ∷ decimal port ∷ decimal count ∷ []
+command_line (Exchange database url) = codes "exchange" ∷ database ∷ url ∷ []
+command_line (Bridge database other) = codes "bridge" ∷ database ∷ other ∷ []
 command_line (Ask database (AddRoom room)) = codes "add-room" ∷ database ∷ room ∷ []
 command_line (Ask database (Submit s)) =
     codes "book" ∷ database ∷ s.room ∷ s.length ∷ s.wish.day ∷ s.wish.time ∷ s.title ∷ map slot_word s.alternatives
@@ -33,6 +36,7 @@ command_line (Ask database (BatchFor position max_lines)) = []
 abbrev pub MayBeAsked : Asked → Type 0
 MayBeAsked (Init database server primary) = (1 ≤ server) × (server ≤ 99) × (1 ≤ primary) × (primary ≤ 99)
 MayBeAsked (Export database position out lines) = (1 ≤ lines) × (lines ≤ 100_000)
+MayBeAsked (Serve database port count) = (1 ≤ port) × (port ≤ 65_535) × (count ≤ 999_999_999)
 MayBeAsked (Ask database (Submit s)) = list_all (λ a. not (list_any is_t a.day)) s.alternatives ≡ true
 MayBeAsked (Ask database (Commit count)) = count ≤ 999_999_999_999
 MayBeAsked (Ask database (Truncate count)) = count ≤ 999_999_999_999

@@ -8,7 +8,7 @@ use Rattle.mr_model.specs.Step.{Command}
 use Rattle.mr_service.specs.Asked.{local_of}
 use Rattle.mr_words.specs.declared.invocations.Invocation.{Invocation}
 use Rattle.mr_words.specs.declared.invocations.Invocation.TheVariants as invocation
-use Rattle.mr_words.specs.Rows.{Asked, Init, Ask, Export, Import, Rehearse, init_row, export_row, import_row, rehearse_row, asking, add_room_of, booking_of, commit_of, truncation_of, position_of, sheet_of, calendar_of, outcome_of, errors_of}
+use Rattle.mr_words.specs.Rows.{Asked, Init, Ask, Export, Import, Rehearse, Serve, Exchange, Bridge, init_row, export_row, import_row, rehearse_row, serve_row, exchange_row, bridge_row, asking, add_room_of, booking_of, commit_of, truncation_of, position_of, sheet_of, calendar_of, outcome_of, errors_of}
 
 -- what an invocation asks for
 abbrev pub asked_of : Invocation → Asked
@@ -16,6 +16,9 @@ asked_of (invocation.Init database server primary) = Init (string_bytes database
 asked_of (invocation.Ask database local) = Ask (string_bytes database) (local_of local)
 asked_of (invocation.Export database position out lines) = Export (string_bytes database) (string_bytes position) (string_bytes out) lines
 asked_of (invocation.Import database batch) = Import (string_bytes database) (string_bytes batch)
+asked_of (invocation.Serve database port count) = Serve (string_bytes database) port count
+asked_of (invocation.Exchange database url) = Exchange (string_bytes database) (string_bytes url)
+asked_of (invocation.Bridge database other) = Bridge (string_bytes database) (string_bytes other)
 asked_of (invocation.Rehearse script) = Rehearse (string_bytes script)
 
 -- ---- the table by its names
@@ -45,7 +48,10 @@ row_by name words =
     else (if bytes_eq name (codes "export") then export_row words
     else (if bytes_eq name (codes "import") then import_row words
     else (if bytes_eq name (codes "rehearse") then rehearse_row words
-    else asking (command_by name) words)))
+    else (if bytes_eq name (codes "serve") then serve_row words
+    else (if bytes_eq name (codes "exchange") then exchange_row words
+    else (if bytes_eq name (codes "bridge") then bridge_row words
+    else asking (command_by name) words))))))
 
 -- ---- what clap found
 

@@ -20,6 +20,12 @@ pub data Asked : Type 0 where
   Import : Text → Text → Asked
   -- the file of the script
   Rehearse : Text → Asked
+  -- a database, the port to serve it at, and how many connections to serve
+  Serve : Text → ℕ → ℕ → Asked
+  -- a database, and a peer's address
+  Exchange : Text → Text → Asked
+  -- a database, and another
+  Bridge : Text → Text → Asked
 
 infixl 10 ◌>>=◌
 abbrev pub ◌>>=◌ : {A B : Type 0} → Option A → (A → Option B) → Option B
@@ -36,6 +42,13 @@ count_in word = number_from_to 0 999_999_999_999 word
 
 abbrev pub line_count_in : Text → Option ℕ
 line_count_in word = number_from_to 1 100_000 word
+
+abbrev pub port_in : Text → Option ℕ
+port_in word = number_from_to 1 65_535 word
+
+-- how many connections to serve
+abbrev pub connections_in : Text → Option ℕ
+connections_in word = number_from_to 0 999_999_999 word
 
 abbrev pub part_in : Text → Option Part
 part_in word = if bytes_eq word (codes "full") then Some Full else (if bytes_eq word (codes "committed") then Some Committed else None)
@@ -111,6 +124,18 @@ abbrev pub rehearse_row : List Text → Option Asked
 rehearse_row (script ∷ []) = Some (Rehearse script)
 rehearse_row _ = None
 
+abbrev pub serve_row : List Text → Option Asked
+serve_row (database ∷ port ∷ count ∷ []) = port_in port >>= λ p. (connections_in count >>= λ n. Some (Serve database p n))
+serve_row _ = None
+
+abbrev pub exchange_row : List Text → Option Asked
+exchange_row (database ∷ url ∷ []) = Some (Exchange database url)
+exchange_row _ = None
+
+abbrev pub bridge_row : List Text → Option Asked
+bridge_row (database ∷ other ∷ []) = Some (Bridge database other)
+bridge_row _ = None
+
 -- a database, and the words of a command to its replica
 abbrev pub asking : (List Text → Option Command) → List Text → Option Asked
 asking command_of [] = None
@@ -147,6 +172,9 @@ table =
     ∷ (codes "export", export_row)
     ∷ (codes "import", import_row)
     ∷ (codes "rehearse", rehearse_row)
+    ∷ (codes "serve", serve_row)
+    ∷ (codes "exchange", exchange_row)
+    ∷ (codes "bridge", bridge_row)
     ∷ map (λ command. (command.0, asking command.1)) commands
 
 -- what the words ask for, if they are of the table

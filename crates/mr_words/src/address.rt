@@ -1,7 +1,8 @@
 //! The address of a peer.
 
-ghost use Rattle.std.specs.Prelude.{◌≡◌, ℕ, List, MatchResult};
+ghost use Rattle.std.specs.Prelude.{◌≡◌, ◌⊎◌, ℕ, List, MatchResult};
 ghost use Rattle.std.specs.String.{string_bytes};
+ghost use Rattle.url.specs.declared.error.ParseError.TheVariants.{OutOfMemory, Overflow};
 ghost use Rattle.mr_words.specs.declared.address.AddressFault.TheVariants.{Bad, Memory};
 ghost use Rattle.mr_words.specs.Addresses.{IsAddress, IsAddressOf, has_plain_parts};
 
@@ -32,8 +33,18 @@ pub fn peer_address(alloc: Global, text: &str) -> Result<(String, u16), AddressF
 {
     match Url::parse(alloc, text) {
         Ok(url) => address_of(alloc, &url),
-        Err(ParseError::OutOfMemory | ParseError::Overflow) => Err(AddressFault::Memory),
-        Err(_) => Err(AddressFault::Bad),
+        Err(error) => Err(fault_of(error)),
+    }
+}
+
+/// What an error of `url` is told as. `Overflow` is that of a URL which is too long.
+fn fault_of(error: ParseError) -> AddressFault
+    ensures memory { (error ≡ OutOfMemory) ⊎ (error ≡ Overflow) → result ≡ Memory }
+    ensures bad { ¬ (error ≡ OutOfMemory) → ¬ (error ≡ Overflow) → result ≡ Bad }
+{
+    match error {
+        ParseError::OutOfMemory | ParseError::Overflow => AddressFault::Memory,
+        _ => AddressFault::Bad,
     }
 }
 

@@ -8,9 +8,9 @@ use clap::{Arg, Command};
 use std::alloc::{AllocError, Global};
 
 /// The names of the table's rows.
-static ROWS: [&str; 13] = [
-    "init", "export", "import", "rehearse", "add-room", "book", "commit", "truncate", "position",
-    "sheet", "calendar", "outcome", "errors",
+static ROWS: [&str; 16] = [
+    "init", "export", "import", "rehearse", "serve", "exchange", "bridge", "add-room", "book",
+    "commit", "truncate", "position", "sheet", "calendar", "outcome", "errors",
 ];
 
 /// A row of the table, with one positional for all its words.

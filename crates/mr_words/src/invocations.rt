@@ -28,6 +28,22 @@ pub enum Invocation {
         database: String,
         batch: String,
     },
+    /// Serves that many connections on a port of this machine alone, one after the other.
+    Serve {
+        database: String,
+        port: u16,
+        count: u64,
+    },
+    /// Exchanges writes and commits with the peer at an address.
+    Exchange {
+        database: String,
+        url: String,
+    },
+    /// Exchanges writes and commits between two databases.
+    Bridge {
+        database: String,
+        other: String,
+    },
     /// Runs the script in a file.
     Rehearse {
         script: String,

@@ -47,7 +47,8 @@ fn parse<'a>(alloc: Global, words: &'a [String]) -> Result<ArgMatches<'a>, WordF
 }
 
 fn fault_of(kind: ErrorKind) -> WordFault
-    ensures { kind ≡ OutOfMemory → result ≡ Memory }
+    ensures memory { kind ≡ OutOfMemory → result ≡ Memory }
+    ensures bad { ¬ (kind ≡ OutOfMemory) → result ≡ Bad }
 {
     match kind {
         ErrorKind::OutOfMemory => WordFault::Memory,

@@ -1,7 +1,7 @@
 //! The words of a command line and the address of a peer, read as values. Below stands `mr_service`, whose commands most
 //! rows of the table ask for; the program's commands (`mr`) stand above. `invocation` answers what the words ask for,
 //! exactly where they are of the table of specs/Rows.antt; `peer_address` the host and the port of a text, exactly where
-//! it is an address as specs/Addresses.antt says.
+//! it is an address as specs/Addresses.antt says. Single words that the lines of scripts have too are read here for both.
 #![tactic(auto)]
 
 mod address;
@@ -10,10 +10,9 @@ mod grammar;
 mod invocations;
 mod invoke;
 mod rows;
-#[cfg(test)]
-mod tests;
 mod words;
 
 pub use address::{AddressFault, peer_address};
 pub use invocations::{Invocation, WordFault};
 pub use invoke::{command_lines_read_back, invocation};
+pub use words::{read_count, read_line_count, read_part, read_server};

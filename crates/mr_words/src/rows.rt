@@ -1,12 +1,12 @@
 //! The rows of the table, read from the words behind their names.
 
 ghost use Rattle.std.specs.Prelude.{◌≡◌, IfOk, MatchOption, Some, None, map};
-ghost use Rattle.mr_words.specs.Rows.{init_row, export_row, import_row, rehearse_row, asking};
+ghost use Rattle.mr_words.specs.Rows.{init_row, export_row, import_row, rehearse_row, serve_row, exchange_row, bridge_row, asking};
 ghost use Rattle.mr_words.specs.Reading.{asked_of, row_by, command_by};
 
 use crate::Invocation;
 use crate::commands::command;
-use crate::words::{read_line_count, read_server};
+use crate::words::{read_connections, read_line_count, read_port, read_server};
 use std::alloc::{AllocError, Global};
 
 /// What the row of this name asks for with these words, if they fit it.
@@ -23,6 +23,9 @@ pub(crate) fn row(
         "export" => export(alloc, words),
         "import" => import(alloc, words),
         "rehearse" => rehearse(alloc, words),
+        "serve" => serve(alloc, words),
+        "exchange" => exchange(alloc, words),
+        "bridge" => bridge(alloc, words),
         _ => ask(alloc, name, words),
     }
 }
@@ -88,6 +91,53 @@ fn rehearse(alloc: Global, words: &[&str]) -> Result<Option<Invocation>, AllocEr
     };
     let script = String::from_str(alloc, script)?;
     Ok(Some(Invocation::Rehearse { script }))
+}
+
+fn serve(alloc: Global, words: &[&str]) -> Result<Option<Invocation>, AllocError>
+    ensures { IfOk result (λ found. MatchOption found (serve_row (map (λ w. w.now) words.now) ≡ None)
+        (λ i. serve_row (map (λ w. w.now) words.now) ≡ Some (asked_of i))) }
+{
+    let [database, port, count] = words else {
+        return Ok(None);
+    };
+    let Some(port) = read_port(port) else {
+        return Ok(None);
+    };
+    let Some(count) = read_connections(count) else {
+        return Ok(None);
+    };
+    let database = String::from_str(alloc, database)?;
+    Ok(Some(Invocation::Serve {
+        database,
+        port,
+        count,
+    }))
+}
+
+fn exchange(alloc: Global, words: &[&str]) -> Result<Option<Invocation>, AllocError>
+    ensures { IfOk result (λ found. MatchOption found (exchange_row (map (λ w. w.now) words.now) ≡ None)
+        (λ i. exchange_row (map (λ w. w.now) words.now) ≡ Some (asked_of i))) }
+{
+    let [database, url] = words else {
+        return Ok(None);
+    };
+    Ok(Some(Invocation::Exchange {
+        database: String::from_str(alloc, database)?,
+        url: String::from_str(alloc, url)?,
+    }))
+}
+
+fn bridge(alloc: Global, words: &[&str]) -> Result<Option<Invocation>, AllocError>
+    ensures { IfOk result (λ found. MatchOption found (bridge_row (map (λ w. w.now) words.now) ≡ None)
+        (λ i. bridge_row (map (λ w. w.now) words.now) ≡ Some (asked_of i))) }
+{
+    let [database, other] = words else {
+        return Ok(None);
+    };
+    Ok(Some(Invocation::Bridge {
+        database: String::from_str(alloc, database)?,
+        other: String::from_str(alloc, other)?,
+    }))
 }
 
 /// A database, and a command to its replica.

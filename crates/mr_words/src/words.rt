@@ -2,14 +2,14 @@
 
 ghost use Rattle.std.specs.Prelude.{◌≡◌, IfOk, MatchOption, Some, None, map};
 ghost use Rattle.mr_service.specs.Asked.{part_of, words_of};
-ghost use Rattle.mr_words.specs.Rows.{server_in, count_in, line_count_in, part_in, slot_in};
+ghost use Rattle.mr_words.specs.Rows.{server_in, count_in, line_count_in, port_in, connections_in, part_in, slot_in};
 
 use mr_base::{LineCount, ServerId, read_number};
 use mr_service::{Part, SlotWords};
 use std::alloc::{AllocError, Global};
 
 /// The server with the number that the word writes.
-pub(crate) fn read_server(word: &str) -> Option<ServerId>
+pub fn read_server(word: &str) -> Option<ServerId>
     ensures { result ≡ server_in word.now }
 {
     let number = read_number(word, 1, 99)?;
@@ -17,22 +17,37 @@ pub(crate) fn read_server(word: &str) -> Option<ServerId>
 }
 
 /// The number of commits that the word writes.
-pub(crate) fn read_count(word: &str) -> Option<u64>
+pub fn read_count(word: &str) -> Option<u64>
     ensures { result ≡ count_in word.now }
 {
     read_number(word, 0, 999_999_999_999)
 }
 
 /// The number of lines that the word writes.
-pub(crate) fn read_line_count(word: &str) -> Option<LineCount>
+pub fn read_line_count(word: &str) -> Option<LineCount>
     ensures { result ≡ line_count_in word.now }
 {
     let number = read_number(word, 1, 100_000)?;
     LineCount::new(number as u32)
 }
 
+/// The port with the number that the word writes.
+pub(crate) fn read_port(word: &str) -> Option<u16>
+    ensures { result ≡ port_in word.now }
+{
+    let number = read_number(word, 1, 65_535)?;
+    Some(number as u16)
+}
+
+/// The number of connections that the word writes.
+pub(crate) fn read_connections(word: &str) -> Option<u64>
+    ensures { result ≡ connections_in word.now }
+{
+    read_number(word, 0, 999_999_999)
+}
+
 /// The part of a calendar that the word names.
-pub(crate) fn read_part(word: &str) -> Option<Part>
+pub fn read_part(word: &str) -> Option<Part>
     ensures { MatchOption result (part_in word.now ≡ None) (λ part. part_in word.now ≡ Some (part_of part)) }
 {
     match word {

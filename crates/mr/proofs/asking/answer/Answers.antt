@@ -1,19 +1,32 @@
-use Rattle.std.proofs.Common.{subst}
+use Rattle.std.proofs.Common.{subst, sym}
 use Rattle.mr_model.specs.Serving.{TakesStep}
 use Rattle.mr_service.specs.Asked.{reply_of}
+use Rattle.mr.specs.Tasks.{TellsTo}
 use Rattle.mr.proofs.AskLaws.{question_is_told}
 use Rattle.mr.proofs.asking.answer.Goals as goal
+
+pub returns-in-None-clause-told : goal.returns-in-None-clause-told
+returns-in-None-clause-told g c = (
+  reply_of c.ask-reply.result,
+  c.ask-reply.ensures,
+  subst (λ file. TellsTo file (reply_of c.ask-reply.result) (g.W.Write.contents c.args.out.now) (g.W.Write.contents c.say_reply.new.out) c.say_reply.result)
+      (sym c.in-None.is) c.say_reply.ensures,
+)
 
 pub returns-clause-told : goal.returns-clause-told
 returns-clause-told g c = (
   reply_of c.ask-reply.result,
-  record { takes = c.ask-reply.ensures.step; counts = c.ask-reply.ensures.counts; lasts = c.ask-reply.ensures.lasts },
-  c.say_reply.ensures,
+  c.ask-reply.ensures,
+  subst (λ file. TellsTo file (reply_of c.ask-reply.result) (g.W.Write.contents c.args.out.now) (g.W.Write.contents c.write_reply.new.out) c.write_reply.result)
+      (sym c.in-Some.is) c.write_reply.ensures,
 )
 
-pub returns-clause-shown : goal.returns-clause-shown
-returns-clause-shown g c = λ clean still_open room question is.
-    question_is_told (g.K.Keeper.tables c.args.service.now) (g.K.Keeper.tables c.ask-reply.new.self) room question (reply_of c.ask-reply.result)
+pub returns-in-None-clause-shown : goal.returns-in-None-clause-shown
+returns-in-None-clause-shown g c = λ clean still_open printed room question is.
+    question_is_told (g.K.Keeper.tables c.args.service.now) (g.K.Keeper.tables c.ask-reply.new.service) room question (reply_of c.ask-reply.result)
     (g.W.Write.contents c.args.out.now) (g.W.Write.contents c.say_reply.new.out) c.say_reply.result
-    (subst (λ m. TakesStep (g.K.Keeper.tables c.args.service.now) m (reply_of c.ask-reply.result) (g.K.Keeper.tables c.ask-reply.new.self)) is (c.ask-reply.ensures.step clean still_open))
+    (subst (λ m. TakesStep (g.K.Keeper.tables c.args.service.now) m (reply_of c.ask-reply.result) (g.K.Keeper.tables c.ask-reply.new.service)) is (c.ask-reply.ensures.takes clean still_open))
     c.say_reply.ensures
+
+pub returns-clause-shown : goal.returns-clause-shown
+returns-clause-shown g c = λ clean still_open printed room question is. let told = c.in-Some.is in absurd (cc (printed, told))

@@ -1,9 +1,24 @@
-use Rattle.std.proofs.Common.{◌≡◌}
-use Rattle.mr.specs.Told.{ok_line}
+use Rattle.std.proofs.Common.{inl, inr, arith}
+use Rattle.mr.proofs.DatabaseLaws.{adopted_tables}
 use Rattle.mr.proofs.EndLaws.{refusal_ends}
 use Rattle.mr.proofs.databases.init.Goals as goal
 
+pub returns-in-Ok : goal.returns-in-Ok
+returns-in-Ok g c =
+    elim c.say.ensures.status [
+      | inl zero ↦ inl (
+        zero,
+        c.in-Ok.keeper,
+        record {
+          opened = record { uncounted = c.in-Ok.ensures.uncounted; settled = c.in-Ok.ensures.settled };
+          tables = λ clean now. let adopted = c.in-Ok.ensures.opened clean now in adopted_tables _ _ adopted.0 _ adopted.1;
+        },
+        c.say.ensures.told (λ three. omega (arith, zero, three)),
+      )
+      | inr three ↦ inr (inr (inr three))
+    ]
+
 pub returns-in-Err : goal.returns-in-Err
 returns-in-Err g c =
-    refusal_ends (λ text. text ≡ ok_line) _ (g.W.Write.contents c.args.out.now) (g.W.Write.contents c.say_refusal.new.out) c.say_refusal.result
-    c.say_refusal.ensures.status c.say_refusal.ensures.told
+    inr (refusal_ends _ (g.W.Write.contents c.args.out.now) (g.W.Write.contents c.say_refusal.new.out) c.say_refusal.result
+    c.in-Err.ensures.cause c.say_refusal.ensures.status c.say_refusal.ensures.told)

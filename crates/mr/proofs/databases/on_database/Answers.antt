@@ -1,8 +1,16 @@
-use Rattle.mr.specs.Tasks.{IsTextFor}
+use Rattle.std.proofs.Common.{inl, inr}
+use Rattle.mr.proofs.DatabaseLaws.{opened_as}
 use Rattle.mr.proofs.EndLaws.{refusal_ends}
 use Rattle.mr.proofs.databases.on_database.Goals as goal
 
+pub returns-in-Ok : goal.returns-in-Ok
+returns-in-Ok g c =
+    elim c.perform-status.ensures [
+      | inl answered ↦ inl (c.new-service.result, c.perform-status.new.service, opened_as _ _ _ c.new-service.ensures (record { uncounted = c.in-Ok.ensures.uncounted; settled = c.in-Ok.ensures.settled }), answered)
+      | inr unasked ↦ inr (inr unasked.1)
+    ]
+
 pub returns-in-Err : goal.returns-in-Err
 returns-in-Err g c =
-    refusal_ends (IsTextFor c.args.task) _ (g.W.Write.contents c.args.out.now) (g.W.Write.contents c.say_refusal.new.out) c.say_refusal.result
-    c.say_refusal.ensures.status c.say_refusal.ensures.told
+    inr (refusal_ends _ (g.W.Write.contents c.args.out.now) (g.W.Write.contents c.say_refusal.new.out) c.say_refusal.result
+    c.in-Err.ensures.cause c.say_refusal.ensures.status c.say_refusal.ensures.told)

@@ -21,7 +21,7 @@ returns-in-Err c = λ plain bad.
     let words = map string_bytes c.args.words.now in
     let low : length c.args.words.now ≤ usize_max = omega arith in
     elim (c.in-Err.ensures.kinds (ap is_simple_and_free c.in_ok-grammar.ensures ∙ program_simple)) [
-      | inl memory ↦ let told : c.fault_of.result ≡ Memory = c.fault_of.ensures (c.kind.ensures ∙ memory) in cc
+      | inl memory ↦ let told : c.fault_of.result ≡ Memory = c.fault_of.ensures.memory (c.kind.ensures ∙ memory) in cc
       | inr among ↦ refused words (kind_of c.in-Err.error) plain (subst (λ n. n ≤ usize_max) (sym (length-map c.args.words.now string_bytes)) low)
           (subst (λ app. IsAmong (kind_of c.in-Err.error) (fault_of app words)) c.in_ok-grammar.ensures among)
     ]

@@ -1,0 +1,116 @@
+-- How exchanges end.
+use Rattle.std.proofs.Common.{◌≡◌, ◌≢◌, refl, sym, ◌∙◌, subst, ℕ, ◌++◌, ◌⊎◌, inl, inr, Ok, Err, Option}
+use Rattle.std.specs.Prelude.{Result}
+use Rattle.std.specs.Io.KnownBytes.{Appends}
+use Rattle.std.proofs.KnownBytes.{Appends-trans}
+use Rattle.mr_model.specs.Texts.{Text, line}
+use Rattle.mr_model.specs.Refusals.{Refusal, refusal_text}
+use Rattle.mr_base.specs.Refusals.{refusal_of}
+use Rattle.mr_http.specs.declared.faults.WebFault.{WebFault}
+use Rattle.mr_http.specs.declared.faults.WebFault.TheVariants as fault
+use Rattle.mr_say.specs.Told.{no_memory_line}
+use Rattle.mr_net.specs.declared.ways.Way.{Way}
+use Rattle.mr_net.specs.declared.ways.Way.TheVariants.{Pull, Push}
+use Rattle.mr_net.specs.declared.ways.Round.{Round}
+use Rattle.mr_net.specs.declared.ways.Taken.{Taken}
+use Rattle.mr_net.specs.Ways.{IsWay}
+use Rattle.mr_net.specs.Printed.{way_line, bad_address_line, Stops, IsFaultLine, IsStopOf, TellsWay, TellsBoth, IsStopText, EndsExchange, TellsBadAddress}
+use Rattle.mr_net.proofs.LineLaws.{stops_with, stops_so, never_stops}
+
+-- ---- ways
+
+pub way_told : {P : Type 0} (runs : Way → P → Result Round WebFault → P → Type 0) (way : Way) (p q : P) (held holds : Option Text) (status : ℕ) (taken : Taken)
+    → IsWay (runs way) p (Ok taken) q
+    → ((status ≡ 0) × Appends held holds (way_line way taken)) ⊎ Stops (λ text. text ≡ no_memory_line) held holds status
+    → TellsWay runs way p q held holds status
+way_told runs way p q held holds status taken is (inl done) = inl (done.0, taken, is, done.1)
+way_told runs way p q held holds status taken is (inr stops) = inr (Ok taken, is, stops)
+
+-- the first way is gone and told, and then the second comes out so
+pub both_ways : {P : Type 0} (runs : Way → P → Result Round WebFault → P → Type 0) (p m q : P) (held between holds : Option Text) (first second : ℕ)
+    → first ≡ 0 → TellsWay runs Pull p m held between first → TellsWay runs Push m q between holds second → TellsBoth runs p q held holds second
+both_ways {P} runs p m q held between holds first second done pulls pushes =
+    inl (m, between, subst (λ n. TellsWay runs Pull p m held between n) done pulls, pushes)
+
+-- ---- whole exchanges
+
+fault_text : (f : WebFault) (text : Text) → IsFaultLine f text → IsStopText text
+fault_text fault.Read text is = absurd is
+fault_text fault.Write text is = absurd is
+fault_text fault.Memory text is = inr (inr is)
+fault_text fault.BadReply text is = absurd is
+fault_text (fault.Peer status) text (inl is) = inr (inl (status, is))
+fault_text (fault.Peer status) text (inr is) = inr (inr is)
+fault_text (fault.Own e) text (inl is) = inl (refusal_of e, is)
+fault_text (fault.Own e) text (inr is) = inr (inr is)
+
+stop_text : (result : Result Taken WebFault) (text : Text) → IsStopOf result text → IsStopText text
+stop_text (Ok taken) text is = inr (inr is)
+stop_text (Err f) text is = fault_text f text is
+
+-- the line of a way that was told as gone
+told_line : {P : Type 0} (runs : Way → P → Result Round WebFault → P → Type 0) (way : Way) (p q : P) (held holds : Option Text)
+    → TellsWay runs way p q held holds 0 → (taken : Taken) × Appends held holds (way_line way taken)
+told_line runs way p q held holds (inl told) = (told.1, told.3)
+told_line runs way p q held holds (inr stops) = absurd (never_stops (IsStopOf stops.0) held holds stops.2)
+
+-- behind the line of the first way
+behind_pulled : (pulled : Taken) (result : Result Taken WebFault) (held between holds : Option Text) (status : ℕ)
+    → Appends held between (way_line Pull pulled) → Stops (IsStopOf result) between holds status → EndsExchange held holds status
+behind_pulled pulled result held between holds status first (inl told) =
+    inr (inr (inl (
+      told.0,
+      way_line Pull pulled ++ told.1,
+      (pulled, told.1, stop_text result told.1 told.2, refl),
+      Appends-trans held between holds (way_line Pull pulled) told.1 first told.3,
+    )))
+behind_pulled pulled result held between holds status first (inr three) = inr (inl (inr three))
+
+second_ends : {P : Type 0} (runs : Way → P → Result Round WebFault → P → Type 0) (m q : P) (pulled : Taken) (held between holds : Option Text) (status : ℕ)
+    → Appends held between (way_line Pull pulled) → TellsWay runs Push m q between holds status → EndsExchange held holds status
+second_ends runs m q pulled held between holds status first (inl told) =
+    inl (told.0, pulled, told.1, Appends-trans held between holds (way_line Pull pulled) (way_line Push told.1) first told.3)
+second_ends runs m q pulled held between holds status first (inr stops) = behind_pulled pulled stops.0 held between holds status first stops.2
+
+first_ends : {P : Type 0} (runs : Way → P → Result Round WebFault → P → Type 0) (p q : P) (held holds : Option Text) (status : ℕ)
+    → (status ≡ 0 → ⊥) → TellsWay runs Pull p q held holds status → EndsExchange held holds status
+first_ends runs p q held holds status undone (inl told) = absurd (undone told.0)
+first_ends runs p q held holds status undone (inr stops) = inr (inl (stops_so (IsStopOf stops.0) IsStopText held holds status (stop_text stops.0) stops.2))
+
+-- both ways with any peer
+pub exchanged : {P : Type 0} (runs : Way → P → Result Round WebFault → P → Type 0) (p q : P) (held holds : Option Text) (status : ℕ)
+    → TellsBoth runs p q held holds status → EndsExchange held holds status
+exchanged runs p q held holds status (inl both) =
+    let first = told_line runs Pull p both.0 held both.1 both.2 in
+    second_ends runs both.0 q first.0 held both.1 holds status first.1 both.3
+exchanged runs p q held holds status (inr one) = first_ends runs p q held holds status one.0 one.1
+
+-- a database is refused
+pub refused_exchange : (e : Refusal) (held holds : Option Text) (status : ℕ) → (status ≡ 1) ⊎ (status ≡ 3)
+    → (status ≡ 1 → Appends held holds (line (refusal_text e)) ⊎ Appends held holds no_memory_line) → EndsExchange held holds status
+refused_exchange e held holds status (inr three) told = inr (inl (inr three))
+refused_exchange e held holds status (inl one) told =
+    inr (inl (inl (elim (told one) [
+      | inl refusal ↦ (one, line (refusal_text e), inl (e, refl), refusal)
+      | inr memory ↦ (one, no_memory_line, inr (inr refl), memory)
+    ])))
+
+-- memory is wanting before anything is done
+pub no_memory_exchange : (held holds : Option Text) (status : ℕ) → (status ≡ 1) ⊎ (status ≡ 3) → (status ≢ 3 → Appends held holds no_memory_line)
+    → EndsExchange held holds status
+no_memory_exchange held holds status ends told = inr (inl (stops_with IsStopText no_memory_line held holds status (inr (inr refl)) ends told))
+
+-- the network fails before anything is done
+pub no_network_exchange : (held holds : Option Text) (status : ℕ) → status ≡ 3 → EndsExchange held holds status
+no_network_exchange held holds status three = inr (inl (inr three))
+
+-- ---- addresses
+
+pub bad_address : (held holds : Option Text) (status : ℕ) → (status ≡ 2) ⊎ (status ≡ 3) → (status ≢ 3 → Appends held holds bad_address_line)
+    → TellsBadAddress held holds status
+bad_address held holds status (inl two) told = inl (two, told (λ three. let none : 2 ≡ 3 = sym two ∙ three in cc))
+bad_address held holds status (inr three) told = inr (inr three)
+
+pub no_memory_address : (held holds : Option Text) (status : ℕ) → (status ≡ 1) ⊎ (status ≡ 3) → (status ≢ 3 → Appends held holds no_memory_line)
+    → TellsBadAddress held holds status
+no_memory_address held holds status ends told = inr (stops_with (λ text. text ≡ no_memory_line) no_memory_line held holds status refl ends told)

@@ -1,0 +1,4 @@
+pub mod ExchangeLaws
+pub mod LineLaws
+pub mod ServingLaws
+pub mod WayLaws

@@ -1,0 +1,8 @@
+use Rattle.mr_base.specs.Refusals.{refusal_of}
+use Rattle.mr_net.proofs.ExchangeLaws.{refused_exchange}
+use Rattle.mr_net.proofs.bridging.bridge.Goals as goal
+
+pub returns-in-Err : goal.returns-in-Err
+returns-in-Err g c =
+    refused_exchange (refusal_of c.in-Err.refusal) (g.W.Write.contents c.args.out.now) (g.W.Write.contents c.say_refusal.new.out) c.say_refusal.result
+    c.say_refusal.ensures.status c.say_refusal.ensures.told

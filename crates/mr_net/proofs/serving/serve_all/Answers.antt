@@ -1,0 +1,19 @@
+use Rattle.std.proofs.Common.{◌≡◌}
+use Rattle.mr_model.specs.Texts.{line}
+use Rattle.mr_say.specs.Told.{no_memory_line}
+use Rattle.mr_net.specs.Printed.{connection_text}
+use Rattle.mr_net.proofs.LineLaws.{was_told}
+use Rattle.mr_net.proofs.ServingLaws.{one_more, stopped}
+use Rattle.mr_net.proofs.serving.serve_all.Goals as goal
+
+pub returns-then-status-ne-DONE : goal.returns-then-status-ne-DONE
+returns-then-status-ne-DONE g c =
+    stopped c.args.connections c.loop.counter c.serve_next-served.result (g.W.Write.contents c.args.out.now) (g.W.Write.contents c.loop.out) (g.W.Write.contents c.say_served-status.new.out)
+    c.say_served-status.result c.loop.invariant c.loop-test.true c.if-status-ne-DONE.true c.say_served-status.ensures
+
+pub loop-preserved : goal.loop-preserved
+loop-preserved g c =
+    one_more c.loop.counter c.serve_next-served.result (g.W.Write.contents c.args.out.now) (g.W.Write.contents c.loop.out) (g.W.Write.contents c.say_served-status.new.out)
+    c.loop.invariant
+    (was_told (λ text. text ≡ no_memory_line) (line (connection_text c.serve_next-served.result)) (g.W.Write.contents c.loop.out) (g.W.Write.contents c.say_served-status.new.out)
+    c.say_served-status.result c.if-status-ne-DONE.false c.say_served-status.ensures)

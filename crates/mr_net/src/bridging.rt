@@ -1,0 +1,170 @@
+//! The exchange of two databases of this machine, over one listener on loopback.
+
+ghost use Rattle.mr_net.specs.Printed.{EndsExchange};
+
+use crate::hosts::Host;
+use crate::printing::{exchange_with, say_no_network};
+use crate::serving::close;
+use crate::ways::{Peer, Round, Way};
+use mr_base::Position;
+use mr_http::WebFault;
+use mr_peer::{position_ask, position_take, pull_ask, pull_take, push_ask, push_take};
+use mr_say::{NO_MEMORY, REFUSED, say, say_refusal};
+use mr_service::Service;
+use mr_sql::{FileKeeper, SqlKeeper};
+use mr_web::serve_one;
+use std::alloc::Global;
+use std::io::Write;
+use std::net::{Ipv4Addr, SocketAddr, TcpListener, TcpStream};
+
+/// Another database of this machine: each request is asked, served and its reply taken in turn.
+///
+/// So nobody reads while the other end writes: what is written waits in the sockets. That is at most 64 lines of 266 bytes, two lines
+/// and a head, under 18,000 bytes in all, and loopback takes it at once: by default the end of a connection that is not read takes
+/// 64 KiB or more, on Linux and on macOS.
+#[derive(Drop)]
+struct Neighbour<'a> {
+    rt: &'a HostRuntime,
+    alloc: Global,
+    client: &'a mut Service<FileKeeper>,
+    server: &'a mut Service<FileKeeper>,
+    listener: &'a TcpListener,
+    address: SocketAddr,
+    host: &'a Host,
+}
+
+impl Neighbour<'_> {
+    fn connect(&self) -> Result<TcpStream, WebFault> {
+        match TcpStream::connect(self.rt, self.address) {
+            Ok(stream) => Ok(stream),
+            Err(_) => Err(WebFault::Read),
+        }
+    }
+
+    /// Serves what was asked. Where that fails, what the client then reads tells so.
+    fn serve(&mut self) {
+        if let Ok((stream, _)) = self.listener.accept() {
+            let _ = serve_one(self.alloc, &mut &stream, &mut &stream, self.server);
+        }
+    }
+
+    fn position(&mut self) -> Result<Position, WebFault> {
+        let stream = self.connect()?;
+        position_ask(self.alloc, self.host.as_str(), &mut &stream)?;
+        self.serve();
+        position_take(self.alloc, &mut &stream)
+    }
+
+    fn pull(&mut self) -> Result<Round, WebFault> {
+        let stream = self.connect()?;
+        pull_ask(self.alloc, self.client, self.host.as_str(), &mut &stream)?;
+        self.serve();
+        let (writes, commits, ending) = pull_take(self.alloc, self.client, &mut &stream)?;
+        Ok(Round {
+            writes,
+            commits,
+            ending,
+        })
+    }
+
+    fn push(&mut self) -> Result<Round, WebFault> {
+        let position = self.position()?;
+        let stream = self.connect()?;
+        let host = self.host.as_str();
+        let ending = push_ask(self.alloc, self.client, &position, host, &mut &stream)?;
+        self.serve();
+        let (writes, commits) = push_take(self.alloc, &mut &stream)?;
+        Ok(Round {
+            writes,
+            commits,
+            ending,
+        })
+    }
+}
+
+impl Peer for Neighbour<'_> {
+    // a socket tells nothing of what it gives
+    ghost runs = { λ _ _ _ _. Unit {0} };
+
+    fn round(&mut self, way: Way) -> Result<Round, WebFault> {
+        match way {
+            Way::Pull => self.pull(),
+            Way::Push => self.push(),
+        }
+    }
+}
+
+/// Exchanges the databases, the first as the client, prints a line for each way, and answers the status: 0 where both were gone, 1
+/// where a database or the client's replica refused or the server answered another status than 200, 3 where the network or the
+/// writer failed.
+pub fn bridge<W: Write>(
+    rt: &HostRuntime,
+    alloc: Global,
+    client: &str,
+    server: &str,
+    out: &mut W,
+) -> u8
+    ensures { EndsExchange (W.contents out.old) (W.contents out.new) result }
+{
+    let client = match SqlKeeper::open_file(rt, client) {
+        Ok(keeper) => keeper,
+        Err(refusal) => return say_refusal(alloc, out, &refusal),
+    };
+    let mut client = Service::new(alloc, client);
+    let status = bridge_to(rt, alloc, &mut client, server, out);
+    close(client);
+    status
+}
+
+fn bridge_to<W: Write>(
+    rt: &HostRuntime,
+    alloc: Global,
+    client: &mut Service<FileKeeper>,
+    server: &str,
+    out: &mut W,
+) -> u8
+    ensures { EndsExchange (W.contents out.old) (W.contents out.new) result }
+{
+    let server = match SqlKeeper::open_file(rt, server) {
+        Ok(keeper) => keeper,
+        Err(refusal) => return say_refusal(alloc, out, &refusal),
+    };
+    let mut server = Service::new(alloc, server);
+    let status = bridge_between(rt, alloc, client, &mut server, out);
+    close(server);
+    status
+}
+
+fn bridge_between<W: Write>(
+    rt: &HostRuntime,
+    alloc: Global,
+    client: &mut Service<FileKeeper>,
+    server: &mut Service<FileKeeper>,
+    out: &mut W,
+) -> u8
+    ensures { EndsExchange (W.contents out.old) (W.contents out.new) result }
+{
+    let listener = match TcpListener::bind(rt, (Ipv4Addr::LOCALHOST, 0)) {
+        Ok(listener) => listener,
+        Err(_) => return say_no_network(out),
+    };
+    let address = match listener.local_addr() {
+        Ok(address) => address,
+        Err(_) => return say_no_network(out),
+    };
+    let host = match Host::new(alloc, "127.0.0.1", address.port()) {
+        Ok(Some(host)) => host,
+        Ok(None) => return say_no_network(out),
+        Err(_) => return say(out, NO_MEMORY, REFUSED),
+    };
+    let mut peer = Neighbour {
+        rt,
+        alloc,
+        client,
+        server,
+        listener: &listener,
+        address,
+        host: &host,
+    };
+    exchange_with(alloc, &mut peer, out)
+}

@@ -1,0 +1,46 @@
+//! A connection to a served database: how long it is waited for, and how it ends.
+
+use mr_service::Service;
+use mr_sql::FileKeeper;
+use mr_web::serve_one;
+use std::alloc::Global;
+use std::io::Read;
+use std::net::{Shutdown, TcpListener, TcpStream};
+use std::time::Duration;
+
+/// How many seconds a read or a write of a connection may wait. So nobody who sends nothing keeps the others waiting for good.
+const PATIENCE: u64 = 30;
+
+/// How often the rest of a request is read from, at most 4,096 bytes a time.
+const GREATEST_REST: u32 = 512;
+
+/// Serves the next connection, and answers the status of its reply, or None where it failed.
+pub(crate) fn serve_next(
+    alloc: Global,
+    service: &mut Service<FileKeeper>,
+    listener: &TcpListener,
+) -> Option<u16> {
+    let (stream, _) = listener.accept().ok()?;
+    let patience = Some(Duration::from_secs(PATIENCE));
+    stream.set_read_timeout(patience).ok()?;
+    stream.set_write_timeout(patience).ok()?;
+    let status = serve_one(alloc, &mut &stream, &mut &stream, service).ok()?;
+    end(&stream);
+    Some(status)
+}
+
+/// Ends a connection so that its reply arrives: a system that closes it while bytes of the request wait unread, as those of a body
+/// that is too large, takes back what it sent.
+fn end(stream: &TcpStream) {
+    if stream.shutdown(Shutdown::Write).is_err() {
+        return;
+    }
+    let mut reader = stream;
+    let mut rest = [0; 4096];
+    for _ in 0..GREATEST_REST {
+        match reader.read(&mut rest) {
+            Ok(0) | Err(_) => return,
+            Ok(_) => {}
+        }
+    }
+}

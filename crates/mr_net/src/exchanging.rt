@@ -1,0 +1,159 @@
+//! The exchange of a database with a peer at an address.
+
+ghost use Rattle.std.specs.Prelude.{◌≡◌, ℕ, false, IsTrue};
+ghost use Rattle.mr_model.specs.Texts.{Text};
+ghost use Rattle.mr_peer.specs.Requests.{is_host};
+ghost use Rattle.mr_net.specs.Hosts.{host_name, IsPeer};
+ghost use Rattle.mr_net.specs.Printed.{EndsExchange, TellsBadAddress};
+
+use crate::hosts::Host;
+use crate::printing::exchange_with;
+use crate::serving::close;
+use crate::ways::{Peer, Round, Way};
+use mr_http::WebFault;
+use mr_peer::{position_ask, position_take, pull, push};
+use mr_say::{BAD_WORDS, NO_MEMORY, REFUSED, say, say_refusal};
+use mr_service::Service;
+use mr_sql::{FileKeeper, SqlKeeper};
+use mr_words::{AddressFault, peer_address};
+use std::alloc::Global;
+use std::io::Write;
+use std::net::TcpStream;
+
+/// Where a peer is to be reached, and how requests name it.
+#[derive(Drop)]
+struct Address<'a> {
+    name: &'a str,
+    port: u16,
+    host: Host,
+}
+
+/// A peer at an address, which is asked over one connection a request.
+#[derive(Drop)]
+struct Remote<'a> {
+    rt: &'a HostRuntime,
+    alloc: Global,
+    service: &'a mut Service<FileKeeper>,
+    address: &'a Address<'a>,
+}
+
+impl Remote<'_> {
+    fn connect(&self) -> Result<TcpStream, WebFault> {
+        match TcpStream::connect(self.rt, (self.address.name, self.address.port)) {
+            Ok(stream) => Ok(stream),
+            Err(_) => Err(WebFault::Read),
+        }
+    }
+
+    fn pull(&mut self) -> Result<Round, WebFault> {
+        let stream = self.connect()?;
+        let host = self.address.host.as_str();
+        let (writes, commits, ending) = pull(
+            self.alloc,
+            self.service,
+            host,
+            &mut &stream,
+            &mut &stream,
+        )?;
+        Ok(Round {
+            writes,
+            commits,
+            ending,
+        })
+    }
+
+    fn push(&mut self) -> Result<Round, WebFault> {
+        let host = self.address.host.as_str();
+        let stream = self.connect()?;
+        position_ask(self.alloc, host, &mut &stream)?;
+        let position = position_take(self.alloc, &mut &stream)?;
+        let stream = self.connect()?;
+        let (writes, commits, ending) = push(
+            self.alloc,
+            self.service,
+            &position,
+            host,
+            &mut &stream,
+            &mut &stream,
+        )?;
+        Ok(Round {
+            writes,
+            commits,
+            ending,
+        })
+    }
+}
+
+impl Peer for Remote<'_> {
+    // a socket tells nothing of what it gives
+    ghost runs = { λ _ _ _ _. Unit {0} };
+
+    fn round(&mut self, way: Way) -> Result<Round, WebFault> {
+        match way {
+            Way::Pull => self.pull(),
+            Way::Push => self.push(),
+        }
+    }
+}
+
+/// Exchanges the database with the peer at the address, prints a line for each way, and answers the status: 0 where both were gone,
+/// 1 where the database, its replica or the peer refused, 2 where the address is none, 3 where the network or the writer failed.
+pub fn exchange<W: Write>(
+    rt: &HostRuntime,
+    alloc: Global,
+    database: &str,
+    address: &str,
+    out: &mut W,
+) -> u8
+    ensures asked { (host : Text) (port : ℕ) → IsPeer address.now host port → EndsExchange (W.contents out.old) (W.contents out.new) result }
+    ensures bad { ((host : Text) (port : ℕ) → ¬ IsPeer address.now host port) → TellsBadAddress (W.contents out.old) (W.contents out.new) result }
+{
+    match peer_address(alloc, address) {
+        Ok((name, port)) => exchange_at(rt, alloc, database, name.as_str(), port, out),
+        Err(AddressFault::Bad) => say(out, "bad address\n", BAD_WORDS),
+        Err(AddressFault::Memory) => say(out, NO_MEMORY, REFUSED),
+    }
+}
+
+fn exchange_at<W: Write>(
+    rt: &HostRuntime,
+    alloc: Global,
+    database: &str,
+    name: &str,
+    port: u16,
+    out: &mut W,
+) -> u8
+    ensures named { IsTrue (is_host (host_name name.now port)) → EndsExchange (W.contents out.old) (W.contents out.new) result }
+    ensures unnamed { is_host (host_name name.now port) ≡ false → TellsBadAddress (W.contents out.old) (W.contents out.new) result }
+{
+    match Host::new(alloc, name, port) {
+        Ok(Some(host)) => exchange_from(rt, alloc, database, &Address { name, port, host }, out),
+        Ok(None) => say(out, "bad address\n", BAD_WORDS),
+        Err(_) => say(out, NO_MEMORY, REFUSED),
+    }
+}
+
+fn exchange_from<W: Write>(
+    rt: &HostRuntime,
+    alloc: Global,
+    database: &str,
+    address: &Address<'_>,
+    out: &mut W,
+) -> u8
+    ensures { EndsExchange (W.contents out.old) (W.contents out.new) result }
+{
+    let keeper = match SqlKeeper::open_file(rt, database) {
+        Ok(keeper) => keeper,
+        Err(refusal) => return say_refusal(alloc, out, &refusal),
+    };
+    let mut service = Service::new(alloc, keeper);
+    let mut peer = Remote {
+        rt,
+        alloc,
+        service: &mut service,
+        address,
+    };
+    let status = exchange_with(alloc, &mut peer, out);
+    close(service);
+    status
+}

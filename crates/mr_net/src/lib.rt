@@ -1,0 +1,22 @@
+//! Commands over sockets: a database is served to a number of connections, exchanges with a peer at an address, or with another
+//! database over loopback.
+//!
+//! Below stand the server's half (`mr_web`) and the client's (`mr_peer`), each proved over any reader and writer, the databases
+//! (`mr_sql`), the reading of addresses (`mr_words`) and the printing of lines (`mr_say`); the program's commands (`mr`) stand above.
+//! The contracts say which lines each command prints and with which status; that of `exchange_with` says, over any peer, which rounds
+//! an exchange has and what its lines tell of them. What a socket gives and takes is tested alone.
+#![tactic(auto)]
+
+mod bridging;
+mod connections;
+mod exchanging;
+mod hosts;
+mod printing;
+mod serving;
+#[cfg(test)]
+mod tests;
+mod ways;
+
+pub use bridging::bridge;
+pub use exchanging::exchange;
+pub use serving::serve;

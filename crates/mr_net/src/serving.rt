@@ -1,0 +1,117 @@
+//! A database that is served over loopback.
+
+ghost use Rattle.std.specs.Prelude.{◌≡◌, ◌⊎◌, IfOk};
+ghost use Rattle.std.specs.String.{string_bytes};
+ghost use Rattle.std.specs.Io.KnownBytes.{Appends};
+ghost use Rattle.mr_model.specs.Texts.{line};
+ghost use Rattle.mr_say.specs.Told.{no_memory_line};
+ghost use Rattle.mr_net.specs.Printed.{connection_text, serving_line, EndsServing, Stops, TellsConnections};
+
+use crate::connections::serve_next;
+use crate::printing::say_no_network;
+use mr_say::{DONE, say, say_made, say_refusal};
+use mr_service::Service;
+use mr_sql::{FileKeeper, SqlKeeper};
+use std::alloc::{AllocError, Global};
+use std::io::Write;
+use std::net::{Ipv4Addr, TcpListener};
+
+/// Serves the database to that many connections at the port of this machine alone, one after the other, prints a line for each, and
+/// answers the status: 0 where all were served or failed, 1 where the database is refused, 3 where the port can't be had or the
+/// writer fails.
+pub fn serve<W: Write>(
+    rt: &HostRuntime,
+    alloc: Global,
+    database: &str,
+    port: u16,
+    connections: u64,
+    out: &mut W,
+) -> u8
+    ensures { EndsServing port connections (W.contents out.old) (W.contents out.new) result }
+{
+    let keeper = match SqlKeeper::open_file(rt, database) {
+        Ok(keeper) => keeper,
+        Err(refusal) => return say_refusal(alloc, out, &refusal),
+    };
+    let mut service = Service::new(alloc, keeper);
+    let status = serve_at(rt, alloc, &mut service, port, connections, out);
+    close(service);
+    status
+}
+
+fn serve_at<W: Write>(
+    rt: &HostRuntime,
+    alloc: Global,
+    service: &mut Service<FileKeeper>,
+    port: u16,
+    connections: u64,
+    out: &mut W,
+) -> u8
+    ensures { EndsServing port connections (W.contents out.old) (W.contents out.new) result }
+{
+    let listener = match TcpListener::bind(rt, (Ipv4Addr::LOCALHOST, port)) {
+        Ok(listener) => listener,
+        Err(_) => return say_no_network(out),
+    };
+    let status = say_serving(alloc, out, port);
+    if status != DONE {
+        return status;
+    }
+    serve_all(alloc, service, &listener, connections, out)
+}
+
+/// Prints at which port the database is served.
+fn say_serving<W: Write>(alloc: Global, out: &mut W, port: u16) -> u8
+    ensures { ((result ≡ 0) × Appends (W.contents out.old) (W.contents out.new) (serving_line port))
+        ⊎ Stops (λ text. text ≡ no_memory_line) (W.contents out.old) (W.contents out.new) result }
+{
+    say_made(out, serving_text(alloc, port), DONE)
+}
+
+fn serving_text(alloc: Global, port: u16) -> Result<String, AllocError>
+    ensures { IfOk result (λ text. string_bytes text ≡ serving_line port) }
+{
+    format!(in alloc; "serving 127.0.0.1:{port}\n")
+}
+
+/// Serves that many connections, and prints a line for each.
+fn serve_all<W: Write>(
+    alloc: Global,
+    service: &mut Service<FileKeeper>,
+    listener: &TcpListener,
+    connections: u64,
+    out: &mut W,
+) -> u8
+    ensures { TellsConnections connections (W.contents out.old) (W.contents out.new) result }
+{
+    for _ in 0..connections {
+        let served = serve_next(alloc, service, listener);
+        let status = say_served(alloc, out, served);
+        if status != DONE {
+            return status;
+        }
+    }
+    DONE
+}
+
+/// Prints the status that a connection was answered, or that it failed.
+fn say_served<W: Write>(alloc: Global, out: &mut W, served: Option<u16>) -> u8
+    ensures { ((result ≡ 0) × Appends (W.contents out.old) (W.contents out.new) (line (connection_text served)))
+        ⊎ Stops (λ text. text ≡ no_memory_line) (W.contents out.old) (W.contents out.new) result }
+{
+    match served {
+        Some(status) => say_made(out, status_text(alloc, status), DONE),
+        None => say(out, "fault\n", DONE),
+    }
+}
+
+fn status_text(alloc: Global, status: u16) -> Result<String, AllocError>
+    ensures { IfOk result (λ text. string_bytes text ≡ line (connection_text (Some status))) }
+{
+    format!(in alloc; "{status}\n")
+}
+
+/// Copies what the store has in its log into the database file, so that it stands alone. Where that fails the log keeps it.
+pub(crate) fn close(service: Service<FileKeeper>) {
+    let _ = service.into_keeper().release().close();
+}

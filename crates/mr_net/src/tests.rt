@@ -1,0 +1,183 @@
+// Databases of one machine, which exchange over loopback, and peers that follow a script.
+
+use crate::printing::exchange_with;
+use crate::ways::{Peer, Round, Way};
+use crate::{bridge, exchange, serve};
+use mr_base::{Ending, Refusal, ServerId};
+use mr_http::WebFault;
+use mr_service::{Command, Service};
+use mr_sql::SqlKeeper;
+use std::alloc::{AllocError, Global};
+use std::net::{Ipv4Addr, TcpListener};
+use std::test::Fail;
+
+/// A write's length, its wish and as many alternatives as there may be, and its title of the greatest length.
+const WISH: &str =
+    "1 1995-12-18 09:00 8 1995-12-18 09:00 1995-12-18 09:00 1995-12-18 09:00 1995-12-18 09:00 1995-12-18 09:00 1995-12-18 09:00 1995-12-18 09:00 1995-12-18 09:00 AlphaAlphaAlphaAlphaAlphaAlphaAlphaAlphaAlphaAlphaAlphaAlpha";
+
+/// The text of a batch with that many writes of a server.
+fn batch(alloc: Global, server: u32, writes: u32) -> Result<String, AllocError> {
+    let mut text = format!(in alloc; "mr1 {server} 1\n")?;
+    for n in 1..=writes {
+        let line = format!(in alloc; "W {server} {n} {n} oak-oak-oak-oak- {WISH}\n")?;
+        text.push_str(line.as_str())?;
+    }
+    text.push_str("E\n")?;
+    Ok(text)
+}
+
+/// Makes a database of this server, whose primary is 1, with that many tentative writes of another.
+fn make(rt: &HostRuntime, path: &str, server: u32, other: u32, writes: u32) -> Result<(), Fail> {
+    let alloc = rt.alloc();
+    let server = ServerId::new(server).ok_or("no server")?;
+    let primary = ServerId::new(1).ok_or("no primary")?;
+    let keeper = SqlKeeper::init_file(rt, path, server, primary)?;
+    let mut service = Service::new(alloc, keeper);
+    service.ask(&Command::Receive(batch(alloc, other, writes)?.into_bytes()));
+    Ok(())
+}
+
+#[test]
+fn each_takes_what_it_lacks(rt: HostRuntime) -> Result<(), Fail> {
+    let alloc = rt.alloc();
+    make(&rt, "net_two.db", 2, 4, 70)?;
+    make(&rt, "net_three.db", 3, 5, 70)?;
+    let gone = "pulled 0 writes 0 commits\npushed 0 writes 0 commits\n";
+    for (server, status, lines) in [
+        (
+            "net_three.db",
+            0,
+            "pulled 70 writes 0 commits\npushed 70 writes 0 commits\n",
+        ),
+        ("net_three.db", 0, gone),
+        // No store is open twice.
+        ("net_two.db", 1, "refused 25 Store\n"),
+        ("net_three.db", 0, gone),
+    ] {
+        let mut out = Vec::new(alloc);
+        assert_eq!(rt; bridge(&rt, alloc, "net_two.db", server, &mut out), status);
+        assert_eq!(rt; out.as_slice(), lines.as_bytes());
+    }
+    Ok(())
+}
+
+#[test]
+fn faults_are_looked_for_in_their_order(rt: HostRuntime) -> Result<(), Fail> {
+    let alloc = rt.alloc();
+    make(&rt, "net_one.db", 1, 2, 1)?;
+    let listener = TcpListener::bind(&rt, (Ipv4Addr::LOCALHOST, 0))?;
+    let taken = listener.local_addr()?.port();
+    let mut out = Vec::new(alloc);
+    for (address, status) in [
+        ("https://localhost/", 2),
+        ("http://localhost/x", 2),
+        ("localhost", 2),
+        ("http://localhost:1/", 1),
+    ] {
+        assert_eq!(rt;
+            exchange(&rt, alloc, "net_absent.db", address, &mut out),
+            status
+        );
+    }
+    assert_eq!(rt; serve(&rt, alloc, "net_absent.db", taken, 1, &mut out), 1);
+    assert_eq!(rt;
+        bridge(&rt, alloc, "net_one.db", "net_absent.db", &mut out),
+        1
+    );
+    assert_eq!(rt; serve(&rt, alloc, "net_one.db", taken, 1, &mut out), 3);
+    assert_eq!(rt;
+        exchange(&rt, alloc, "net_one.db", "http://127.0.0.1:1/", &mut out),
+        3
+    );
+    assert_eq!(rt;
+        out.as_slice(),
+        "bad address\nbad address\nbad address\nrefused 26 NotAReplica\nrefused 26 NotAReplica\nrefused 26 NotAReplica\nfault network\nfault network\n".as_bytes()
+    );
+    Ok(())
+}
+
+/// A peer whose rounds of the one and the other way come to this.
+#[derive(Drop)]
+struct Scripted {
+    pull: Result<Round, WebFault>,
+    push: Result<Round, WebFault>,
+}
+
+impl Peer for Scripted {
+    ghost runs = { λ _ _ _ _. Unit {0} };
+
+    fn round(&mut self, way: Way) -> Result<Round, WebFault> {
+        match way {
+            Way::Pull => self.pull,
+            Way::Push => self.push,
+        }
+    }
+}
+
+const fn round(writes: u64, commits: u64, ending: Ending) -> Result<Round, WebFault> {
+    Ok(Round {
+        writes,
+        commits,
+        ending,
+    })
+}
+
+#[test]
+fn lines_tell_how_the_ways_ended(rt: HostRuntime) {
+    let alloc = rt.alloc();
+    for (pull, push, status, lines) in [
+        (
+            round(1, 0, Ending::More),
+            round(0, 1, Ending::More),
+            0,
+            "pulled 10000 writes 0 commits\npushed 0 writes 10000 commits\n",
+        ),
+        (
+            round(0, 0, Ending::More),
+            round(3, 2, Ending::Cut),
+            0,
+            "pulled 0 writes 0 commits\npushed 3 writes 2 commits\n",
+        ),
+        (
+            Err(WebFault::Peer(503)),
+            round(3, 2, Ending::Complete),
+            1,
+            "peer answered 503\n",
+        ),
+        (
+            round(3, 2, Ending::Complete),
+            Err(WebFault::Own(Refusal::Truncated)),
+            1,
+            "pulled 3 writes 2 commits\nrefused 22 Truncated\n",
+        ),
+        (
+            Err(WebFault::Memory),
+            Err(WebFault::Read),
+            1,
+            "refused 24 OutOfMemory\n",
+        ),
+        (
+            round(3, 2, Ending::Complete),
+            Err(WebFault::Read),
+            3,
+            "pulled 3 writes 2 commits\nfault network\n",
+        ),
+        (
+            Err(WebFault::BadReply),
+            Err(WebFault::Memory),
+            3,
+            "fault network\n",
+        ),
+        (
+            Err(WebFault::Write),
+            Err(WebFault::Memory),
+            3,
+            "fault network\n",
+        ),
+    ] {
+        let mut out = Vec::new(alloc);
+        let mut peer = Scripted { pull, push };
+        assert_eq!(rt; exchange_with(alloc, &mut peer, &mut out), status);
+        assert_eq!(rt; out.as_slice(), lines.as_bytes());
+    }
+}

@@ -1,0 +1,213 @@
+# What is asked of the program over HTTP: a served database, and databases that exchange. Read by ./test, whose functions
+# and variables are used here.
+
+# serve DB COUNT: a process that serves so many connections, at a port that it could have
+serve() {
+    local try
+    for try in 1 2 3 4 5 6 7 8; do
+        port=$((20000 + RANDOM % 12000))
+        : > "$scratch/served"
+        "$program" serve "$1" "$port" "$2" > "$scratch/served" 2> "$scratch/err" < /dev/null &
+        server=$!
+        for _ in $(seq 400); do
+            if grep -q "^serving 127.0.0.1:$port\$" "$scratch/served"; then return; fi
+            if ! kill -0 "$server" 2> /dev/null; then break; fi
+            sleep 0.05
+        done
+        kill "$server" 2> /dev/null
+        wait "$server"
+    done
+    echo "FAILED: nothing serves $1"
+    failed=$((failed + 1))
+}
+
+# served NAME STATUS..: the process that serves has ended, and printed one line for each connection
+served() {
+    local name=$1 status
+    shift
+    for _ in $(seq 400); do
+        if ! kill -0 "$server" 2> /dev/null; then break; fi
+        sleep 0.05
+    done
+    kill "$server" 2> /dev/null
+    wait "$server"
+    status=$?
+    printf '%s\n' "serving 127.0.0.1:$port" "$@" > "$scratch/wanted"
+    cp -- "$scratch/served" "$scratch/out"
+    told "$name" "$status" 0 "$scratch/wanted"
+}
+
+# asked NAME STATUS BODY PATH WORD..: curl, asked for this path with these words, is answered with this status and body
+asked() {
+    local name=$1 wanted_status=$2 body=$3 path=$4 status
+    shift 4
+    printf '%s' "$body" > "$scratch/wanted"
+    : > "$scratch/out"
+    status=$(curl -s -m 30 -o "$scratch/out" -w '%{http_code}' "$@" "http://127.0.0.1:$port$path" 2> "$scratch/err")
+    told "$name" "$status" "$wanted_status" "$scratch/wanted"
+}
+
+# submitted NAME STATUS BODY JSON: the submission with this text is answered so
+submitted() {
+    asked "$1" "$2" "$3" /submit --data-binary "$4"
+}
+
+# a database that is asked by curl for all that is served, and what the database holds afterwards
+run_served() {
+    local folder=$scratch/served.d line=$'\n'
+    local sheet="oak 1995-12-18 Monday${line}13:30-14:30 T 1-1 Budget Meeting${line}"
+    mkdir "$folder"
+    printf 'mp1 9 1\nK 0\nE\n' > "$folder/nothing"
+    printf 'mr1 2 1\nW 2 1 1 elm 30 1995-12-18 09:00 0 Beta\nE\n' > "$folder/beta"
+    printf 'mr1 2 1\nW 2 01 1 elm 30 1995-12-18 09:00 0 Beta\nE\n' > "$folder/bad"
+    expect_line 'init of what is served' 0 'ok' init "$folder/a.db" 1 1
+    expect_line 'a room of what is served' 0 'ok' add-room "$folder/a.db" oak
+    serve "$folder/a.db" 18
+    submitted 'a submission' 200 \
+        '{"day":"1995-12-18","id":"1-1","mark":"T","start":"13:30","state":"booked","stop":"14:30"}' \
+        '{"day":"1995-12-18","length":60,"room":"oak","start":"13:30","title":"Budget Meeting"}'
+    asked 'a request that nobody knows' 404 '{"name":"NoSuchRequest","refusal":9}' /rooms/oak/requests/7-1
+    asked 'a body that is too large' 413 '{"error":"too large"}' /submit --data-binary x -H 'Content-Length: 1048577'
+    asked 'a submission without its length' 400 '{"error":"bad request"}' /submit -X POST -H 'Content-Length:'
+    asked 'a question where a submission goes' 405 '{"error":"method not allowed"}' /submit
+    asked 'the sheet over HTTP' 200 "$sheet" /rooms/oak/days/1995-12-18
+    submitted 'a submission that finds no slot' 200 '{"id":"1-2","mark":"T","state":"logged"}' \
+        '{"room":"oak","day":"1995-12-18","start":"14:00","length":15,"title":"Late","alternatives":[]}'
+    submitted 'a submission for a room that is not there' 404 '{"name":"UnknownRoom","refusal":7}' \
+        '{"day":"1995-12-18","length":60,"room":"ash","start":"13:30","title":"Budget Meeting"}'
+    submitted 'a submission with another member' 400 '{"error":"bad request"}' \
+        '{"day":"1995-12-18","length":60,"room":"oak","start":"13:30","title":"Budget Meeting","by":"me"}'
+    submitted 'a submission of a day that is none' 400 '{"name":"BadDay","refusal":1}' \
+        '{"day":"1995-12-32","length":60,"room":"oak","start":"13:30","title":"Budget Meeting"}'
+    asked 'an outcome over HTTP' 200 \
+        '{"day":"1995-12-18","id":"1-1","mark":"T","start":"13:30","state":"booked","stop":"14:30"}' /rooms/oak/requests/1-1
+    asked 'the error log over HTTP' 200 "oak errors${line}T 1-2 1995-12-18 14:00-14:15 Late${line}" /rooms/oak/errors
+    asked 'the position over HTTP' 200 "mp1 1 1${line}K 0${line}V 1 2${line}E${line}" /position
+    asked 'a batch over HTTP' 200 "mr1 1 1${line}W 1 1 1 oak 60 1995-12-18 13:30 0 Budget Meeting${line}W 1 2 2 oak 15 1995-12-18 14:00 0 Late${line}E${line}" \
+        /pull --data-binary "@$folder/nothing"
+    asked 'a batch taken over HTTP' 200 "took 1 writes 0 commits${line}" /push --data-binary "@$folder/beta"
+    asked 'the same batch again' 200 "took 0 writes 0 commits${line}" /push --data-binary "@$folder/beta"
+    asked 'a batch with a bad line' 400 '{"line":2,"name":"BadLine","refusal":15}' /push --data-binary "@$folder/bad"
+    asked 'a path that is not served' 404 '{"error":"not found"}' /rooms/oak
+    served 'the lines of a served database' 200 404 413 400 405 200 200 404 400 400 200 200 200 200 200 200 400 404
+    printf '%s' "$sheet" > "$scratch/wanted"
+    expect 'the sheet of what was served' 0 "$scratch/wanted" sheet "$folder/a.db" oak 1995-12-18
+    expect_line 'serving where no database is' 1 'refused 26 NotAReplica' serve "$folder/none.db" 20000 1
+    expect_line 'serving nobody' 0 'serving 127.0.0.1:20321' serve "$folder/a.db" 20321 0
+    expect_line 'a port that is none' 2 'bad command line' serve "$folder/a.db" 0 1
+}
+
+# raw NAME WANTED TEXT: what is answered to these bytes, with nothing behind them, begins with this line
+raw() {
+    python3 - "$port" "$3" > "$scratch/out" 2> "$scratch/err" <<'PYTHON'
+import socket, sys
+s = socket.create_connection(("127.0.0.1", int(sys.argv[1])), 30)
+for byte in sys.argv[2].encode().decode("unicode_escape").encode("latin-1"):
+    s.sendall(bytes([byte]))
+s.shutdown(socket.SHUT_WR)
+reply = b""
+while True:
+    piece = s.recv(4096)
+    if not piece:
+        break
+    reply += piece
+print(reply.split(b"\r\n")[0].decode())
+PYTHON
+    local status=$?
+    printf '%s\n' "$2" > "$scratch/wanted"
+    told "$1" "$status" 0 "$scratch/wanted"
+}
+
+# requests that curl does not make: cut ones, and such as come a byte at a time
+run_raw_requests() {
+    local folder=$scratch/served.d
+    if ! command -v python3 > /dev/null; then
+        echo 'skipped: cut requests (no python3)'
+        return
+    fi
+    serve "$folder/a.db" 5
+    raw 'a request a byte at a time' 'HTTP/1.1 200 OK' 'GET /position HTTP/1.1\r\n\r\n'
+    raw 'a cut head' 'HTTP/1.1 400 Bad Request' 'GET /position HTTP/1.1\r\n'
+    raw 'a cut body' 'HTTP/1.1 400 Bad Request' 'POST /push HTTP/1.1\r\nContent-Length: 8\r\n\r\nmr1 2 1'
+    raw 'another version' 'HTTP/1.1 400 Bad Request' 'GET /position HTTP/1.0\r\n\r\n'
+    raw 'no bytes at all' 'HTTP/1.1 400 Bad Request' ''
+    served 'the lines of cut requests' 200 400 400 400 400
+}
+
+# two processes, one of which serves, and two databases in one process
+run_exchanges() {
+    local folder=$scratch/exchanges line=$'\n' n
+    mkdir "$folder"
+    printf 'oak 1995-12-18 Monday\n14:00-15:00 T 1-1 Alpha\n15:00-16:00 T 2-1 Beta\n' > "$folder/sheet"
+    {
+        printf 'mr1 3 1\n'
+        for n in $(seq 70); do
+            printf 'W 3 %s %s elm 1 1995-12-18 %02d:%02d 0 Elm\n' "$n" "$n" $((9 + n / 60)) $((n % 60))
+        done
+        printf 'E\n'
+    } > "$folder/seventy"
+    {
+        printf 'mr1 4 1\n'
+        for n in $(seq 70); do
+            printf 'W 4 %s %s ash 1 1995-12-18 %02d:%02d 0 Ash\n' "$n" "$n" $((9 + n / 60)) $((n % 60))
+        done
+        printf 'E\n'
+    } > "$folder/others"
+    printf 'pulled 1 writes 0 commits\npushed 1 writes 0 commits\n' > "$folder/one"
+    printf 'pulled 0 writes 0 commits\npushed 0 writes 0 commits\n' > "$folder/none"
+    printf 'pulled 70 writes 0 commits\npushed 70 writes 0 commits\n' > "$folder/all"
+    expect_line 'init of the first office' 0 'ok' init "$folder/one.db" 1 1
+    expect_line 'init of the second office' 0 'ok' init "$folder/two.db" 2 1
+    expect_line 'a room of the first' 0 'ok' add-room "$folder/one.db" oak
+    expect_line 'a room of the second' 0 'ok' add-room "$folder/two.db" oak
+    expect_line 'a booking of the first' 0 '1-1 T 1995-12-18 14:00-15:00' book "$folder/one.db" oak 60 1995-12-18 14:00 Alpha
+    expect_line 'a booking of the second' 0 '2-1 T 1995-12-18 13:30-14:30' \
+        book "$folder/two.db" oak 60 1995-12-18 13:30 Beta 1995-12-18T15:00
+    cp -- "$folder/one.db" "$folder/three.db"
+    cp -- "$folder/two.db" "$folder/four.db"
+    expect 'a bridge' 0 "$folder/one" bridge "$folder/four.db" "$folder/three.db"
+    expect 'a bridge again' 0 "$folder/none" bridge "$folder/four.db" "$folder/three.db"
+    expect 'the sheet of a bridge' 0 "$folder/sheet" sheet "$folder/three.db" oak 1995-12-18
+    expect 'the sheet at its other end' 0 "$folder/sheet" sheet "$folder/four.db" oak 1995-12-18
+    expect_line 'a bridge to nowhere' 1 'refused 26 NotAReplica' bridge "$folder/four.db" "$folder/five.db"
+
+    serve "$folder/one.db" 3
+    expect 'an exchange' 0 "$folder/one" exchange "$folder/two.db" "http://127.0.0.1:$port/"
+    served 'the lines of an exchange' 200 200 200
+    expect 'the sheet of the office that served' 0 "$folder/sheet" sheet "$folder/one.db" oak 1995-12-18
+    expect 'the sheet of the office that asked' 0 "$folder/sheet" sheet "$folder/two.db" oak 1995-12-18
+
+    expect_line 'seventy writes of a third' 0 'took 70 writes 0 commits' import "$folder/one.db" "$folder/seventy"
+    expect_line 'seventy writes of a fourth' 0 'took 70 writes 0 commits' import "$folder/two.db" "$folder/others"
+    cp -- "$folder/one.db" "$folder/three.db"
+    cp -- "$folder/two.db" "$folder/four.db"
+    expect 'a bridge in rounds' 0 "$folder/all" bridge "$folder/four.db" "$folder/three.db"
+    serve "$folder/one.db" 6
+    expect 'an exchange in rounds of 64 and 6' 0 "$folder/all" exchange "$folder/two.db" "http://localhost:$port"
+    served 'the lines of the rounds' 200 200 200 200 200 200
+    expect_line 'the commit of the primary' 0 'committed 142' commit "$folder/one.db" 1000
+    serve "$folder/one.db" 5
+    printf 'pulled 0 writes 142 commits\npushed 0 writes 0 commits\n' > "$scratch/commits"
+    expect 'an exchange of commits' 0 "$scratch/commits" exchange "$folder/two.db" "http://127.0.0.1:$port/"
+    served 'the lines of the commits' 200 200 200 200 200
+
+    expect_line 'nobody serves' 3 'fault network' exchange "$folder/two.db" "http://127.0.0.1:$port/"
+    expect_line 'an address of another kind' 2 'bad address' exchange "$folder/two.db" https://localhost/
+    expect_line 'an address with a path' 2 'bad address' exchange "$folder/two.db" http://localhost/x
+    expect_line 'an address before a database' 2 'bad address' exchange "$folder/none.db" http://localhost/x
+    expect_line 'a database before the network' 1 'refused 26 NotAReplica' exchange "$folder/none.db" http://localhost/
+    expect_line 'init of a stranger' 0 'ok' init "$folder/stranger.db" 7 7
+    serve "$folder/one.db" 1
+    expect_line 'an exchange with a stranger' 1 'peer answered 409' exchange "$folder/stranger.db" "http://127.0.0.1:$port/"
+    served 'the line of the stranger' 409
+}
+
+run_http() {
+    if command -v curl > /dev/null; then
+        run_served
+        run_raw_requests
+    else
+        echo 'skipped: a served database (no curl)'
+    fi
+    run_exchanges
+}
