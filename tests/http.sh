@@ -62,12 +62,14 @@ run_served() {
     printf 'mr1 2 1\nW 2 01 1 elm 30 1995-12-18 09:00 0 Beta\nE\n' > "$folder/bad"
     expect_line 'init of what is served' 0 'ok' init "$folder/a.db" 1 1
     expect_line 'a room of what is served' 0 'ok' add-room "$folder/a.db" oak
-    serve "$folder/a.db" 18
+    head -c 1048577 /dev/zero > "$folder/large"
+    serve "$folder/a.db" 19
     submitted 'a submission' 200 \
         '{"day":"1995-12-18","id":"1-1","mark":"T","start":"13:30","state":"booked","stop":"14:30"}' \
         '{"day":"1995-12-18","length":60,"room":"oak","start":"13:30","title":"Budget Meeting"}'
     asked 'a request that nobody knows' 404 '{"name":"NoSuchRequest","refusal":9}' /rooms/oak/requests/7-1
     asked 'a body that is too large' 413 '{"error":"too large"}' /submit --data-binary x -H 'Content-Length: 1048577'
+    asked 'the same, sent whole' 413 '{"error":"too large"}' /submit --data-binary "@$folder/large" -H 'Expect:'
     asked 'a submission without its length' 400 '{"error":"bad request"}' /submit -X POST -H 'Content-Length:'
     asked 'a question where a submission goes' 405 '{"error":"method not allowed"}' /submit
     asked 'the sheet over HTTP' 200 "$sheet" /rooms/oak/days/1995-12-18
@@ -89,7 +91,7 @@ run_served() {
     asked 'the same batch again' 200 "took 0 writes 0 commits${line}" /push --data-binary "@$folder/beta"
     asked 'a batch with a bad line' 400 '{"line":2,"name":"BadLine","refusal":15}' /push --data-binary "@$folder/bad"
     asked 'a path that is not served' 404 '{"error":"not found"}' /rooms/oak
-    served 'the lines of a served database' 200 404 413 400 405 200 200 404 400 400 200 200 200 200 200 200 400 404
+    served 'the lines of a served database' 200 404 413 413 400 405 200 200 404 400 400 200 200 200 200 200 200 400 404
     printf '%s' "$sheet" > "$scratch/wanted"
     expect 'the sheet of what was served' 0 "$scratch/wanted" sheet "$folder/a.db" oak 1995-12-18
     expect_line 'serving where no database is' 1 'refused 26 NotAReplica' serve "$folder/none.db" 20000 1
