@@ -120,6 +120,19 @@ PYTHON
     told "$1" "$status" 0 "$scratch/wanted"
 }
 
+# silent NAME: who falls silent in the middle of a head is given up, without a byte
+silent() {
+    python3 - "$port" > "$scratch/out" 2> "$scratch/err" <<'PYTHON'
+import socket, sys
+s = socket.create_connection(("127.0.0.1", int(sys.argv[1])), 60)
+s.sendall(b"GET /posi")
+print(len(s.recv(4096)))
+PYTHON
+    local status=$?
+    printf '0\n' > "$scratch/wanted"
+    told "$1" "$status" 0 "$scratch/wanted"
+}
+
 # requests that curl does not make: cut ones, and such as come a byte at a time
 run_raw_requests() {
     local folder=$scratch/served.d
@@ -127,13 +140,14 @@ run_raw_requests() {
         echo 'skipped: cut requests (no python3)'
         return
     fi
-    serve "$folder/a.db" 5
+    serve "$folder/a.db" 6
     raw 'a request a byte at a time' 'HTTP/1.1 200 OK' 'GET /position HTTP/1.1\r\n\r\n'
     raw 'a cut head' 'HTTP/1.1 400 Bad Request' 'GET /position HTTP/1.1\r\n'
     raw 'a cut body' 'HTTP/1.1 400 Bad Request' 'POST /push HTTP/1.1\r\nContent-Length: 8\r\n\r\nmr1 2 1'
     raw 'another version' 'HTTP/1.1 400 Bad Request' 'GET /position HTTP/1.0\r\n\r\n'
     raw 'no bytes at all' 'HTTP/1.1 400 Bad Request' ''
-    served 'the lines of cut requests' 200 400 400 400 400
+    silent 'half a head, and then nothing'
+    served 'the lines of cut requests' 200 400 400 400 400 fault
 }
 
 # two processes, one of which serves, and two databases in one process
