@@ -13,8 +13,6 @@ mod exchanging;
 mod hosts;
 mod printing;
 mod serving;
-#[cfg(test)]
-mod tests;
 mod ways;
 
 pub use bridging::bridge;

@@ -1,10 +1,7 @@
-// Databases of one machine, which exchange over loopback, and peers that follow a script.
+// Databases of one machine, which exchange over loopback.
 
-use crate::printing::exchange_with;
-use crate::ways::{Peer, Round, Way};
-use crate::{bridge, exchange, serve};
-use mr_base::{Ending, Refusal, ServerId};
-use mr_http::WebFault;
+use mr_base::ServerId;
+use mr_net::{bridge, exchange, serve};
 use mr_service::{Command, Service};
 use mr_sql::SqlKeeper;
 use std::alloc::{AllocError, Global};
@@ -94,90 +91,4 @@ fn faults_are_looked_for_in_their_order(rt: HostRuntime) -> Result<(), Fail> {
         "bad address\nbad address\nbad address\nrefused 26 NotAReplica\nrefused 26 NotAReplica\nrefused 26 NotAReplica\nfault network\nfault network\n".as_bytes()
     );
     Ok(())
-}
-
-/// A peer whose rounds of the one and the other way come to this.
-#[derive(Drop)]
-struct Scripted {
-    pull: Result<Round, WebFault>,
-    push: Result<Round, WebFault>,
-}
-
-impl Peer for Scripted {
-    ghost runs = { λ _ _ _ _. Unit {0} };
-
-    fn round(&mut self, way: Way) -> Result<Round, WebFault> {
-        match way {
-            Way::Pull => self.pull,
-            Way::Push => self.push,
-        }
-    }
-}
-
-const fn round(writes: u64, commits: u64, ending: Ending) -> Result<Round, WebFault> {
-    Ok(Round {
-        writes,
-        commits,
-        ending,
-    })
-}
-
-#[test]
-fn lines_tell_how_the_ways_ended(rt: HostRuntime) {
-    let alloc = rt.alloc();
-    for (pull, push, status, lines) in [
-        (
-            round(1, 0, Ending::More),
-            round(0, 1, Ending::More),
-            0,
-            "pulled 10000 writes 0 commits\npushed 0 writes 10000 commits\n",
-        ),
-        (
-            round(0, 0, Ending::More),
-            round(3, 2, Ending::Cut),
-            0,
-            "pulled 0 writes 0 commits\npushed 3 writes 2 commits\n",
-        ),
-        (
-            Err(WebFault::Peer(503)),
-            round(3, 2, Ending::Complete),
-            1,
-            "peer answered 503\n",
-        ),
-        (
-            round(3, 2, Ending::Complete),
-            Err(WebFault::Own(Refusal::Truncated)),
-            1,
-            "pulled 3 writes 2 commits\nrefused 22 Truncated\n",
-        ),
-        (
-            Err(WebFault::Memory),
-            Err(WebFault::Read),
-            1,
-            "refused 24 OutOfMemory\n",
-        ),
-        (
-            round(3, 2, Ending::Complete),
-            Err(WebFault::Read),
-            3,
-            "pulled 3 writes 2 commits\nfault network\n",
-        ),
-        (
-            Err(WebFault::BadReply),
-            Err(WebFault::Memory),
-            3,
-            "fault network\n",
-        ),
-        (
-            Err(WebFault::Write),
-            Err(WebFault::Memory),
-            3,
-            "fault network\n",
-        ),
-    ] {
-        let mut out = Vec::new(alloc);
-        let mut peer = Scripted { pull, push };
-        assert_eq!(rt; exchange_with(alloc, &mut peer, &mut out), status);
-        assert_eq!(rt; out.as_slice(), lines.as_bytes());
-    }
 }
