@@ -30,13 +30,7 @@ mod rows;
 mod sound_log;
 mod sound_rows;
 mod summary;
-#[cfg(test)]
-mod table_tests;
 mod tables;
-#[cfg(test)]
-mod test_desks;
-#[cfg(test)]
-mod tests;
 mod vector;
 mod written;
 

@@ -6,8 +6,6 @@
 #![tactic(auto)]
 
 mod saying;
-#[cfg(test)]
-mod tests;
 
 pub use saying::{
     BAD_WORDS, DONE, FAULT, NO_MEMORY, REFUSED, say, say_made, say_refusal, say_reply, say_text,

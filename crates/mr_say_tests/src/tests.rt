@@ -1,5 +1,5 @@
-use crate::{BAD_WORDS, DONE, FAULT, say, say_made, say_refusal, say_reply, say_text};
 use mr_base::Refusal;
+use mr_say::{BAD_WORDS, DONE, FAULT, say, say_made, say_refusal, say_reply, say_text};
 use mr_service::Reply;
 use std::alloc::AllocError;
 use std::io::{self, ErrorKind, Write};

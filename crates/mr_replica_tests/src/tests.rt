@@ -1,6 +1,6 @@
 // Worked rows: calls of the desks of servers 1, 2 and 3, whose primary is 1, and their stated answers.
 
-use crate::test_desks::{Ask, Call, Line, Told, check_calls};
+use crate::desks::{Ask, Call, Line, Told, check_calls};
 use mr_base::Refusal;
 
 const ALPHA: Ask = Ask {
@@ -228,6 +228,10 @@ fn hostile_lines_are_refused(rt: HostRuntime) {
             Call::Receive(3, BOTH),
             Told::Refused(Refusal::WrongPrimary),
         ),
+        // Nothing of those batches is left.
+        (2, Call::AddOak, Told::Added),
+        (2, Call::Receive(1, FIRST), Told::Took(1, 0)),
+        (2, Call::Receive(1, FIRST_COMMIT), Told::Took(0, 1)),
         (1, Call::AddOak, Told::Added),
         (1, Call::Submit(EARLY), Told::Accepted(1)),
         (

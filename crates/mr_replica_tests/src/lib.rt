@@ -1,0 +1,10 @@
+//! Tests of `mr_replica`: calls of desks and tables by hand, and what the desks then answer. It stands above `mr_replica`, and
+//! nothing stands on it. What is proved of a desk is said by its own contracts; here it is run.
+#![tactic(auto)]
+
+#[cfg(test)]
+mod desks;
+#[cfg(test)]
+mod table_tests;
+#[cfg(test)]
+mod tests;
