@@ -11,6 +11,7 @@ mod bodies;
 mod faults;
 mod fields;
 mod heads;
+mod limits;
 mod pieces;
 mod sending;
 
@@ -18,5 +19,6 @@ pub use bodies::fill_to;
 pub use faults::{ReadFault, WebFault};
 pub use fields::body_length;
 pub use heads::{read_reply_head, read_request_head};
+pub use limits::{GREATEST_BODY, lines_over_http};
 pub use pieces::read_piece;
 pub use sending::send;

@@ -83,6 +83,14 @@ position_lasts text_of reply (Ok x) clean before after reads lasts = λ is_clean
     elim (lasts is_clean up) [ inl m ↦ absurd (not_position reply reads.0 reads.1 m) | inr still ↦ still ]
 position_lasts text_of reply (Err e) clean before after reads lasts = tt
 
+-- the same of a batch
+pub batch_lasts : {X : Type 0} (text_of : X → Text) (ending : X → Ending) (reply : Reply) (result : Result X WebFault) (clean before after : Type 0)
+    → ReadsOff reply (λ x. IsBatchWith reply (text_of x) (ending x)) result → (clean → before → IsOfMachine reply ⊎ after)
+    → IfOk result (λ _. clean → before → after)
+batch_lasts text_of ending reply (Ok x) clean before after reads lasts = λ is_clean up.
+    elim (lasts is_clean up) [ inl m ↦ absurd (not_batch reply reads.0 reads.1 m) | inr still ↦ still ]
+batch_lasts text_of ending reply (Err e) clean before after reads lasts = tt
+
 unless_batch : (o : Option Refusal) (made b : Batch) → BatchIs b ≡ batch_unless o made → b ≡ made
 unless_batch None made b e = same_batch b made e
 unless_batch (Some f) made b e = absurd (let g : BatchIs b ≡ Refused f = e in cc)

@@ -18,6 +18,7 @@ mod rounds;
 mod took;
 
 pub use laws::reply_law;
+pub use mr_http::WebFault;
 pub use positions::{position_ask, position_take};
 pub use pulls::{pull_ask, pull_take};
 pub use pushes::{push_ask, push_take};

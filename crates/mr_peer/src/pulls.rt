@@ -97,6 +97,7 @@ pub fn pull_take<K: Keeper, R: Read>(
         × TakesReply (R.remaining reader.old) a result b }
     ensures fault { IfErr result IsTakeFault }
     ensures steps { K.is_clean service.new → K.is_open service.new → StandsAfterTake (K.tables service.old) result (K.tables service.new) }
+    ensures lasts { IfOk result (λ _. K.is_clean service.new → K.is_open service.old → K.is_open service.new) }
     ensures crash { K.is_clean service.new → K.is_open service.old → LeavesAfterTake (K.may_leave service.old) (K.tables service.old) (K.may_leave service.new) }
 {
     let mut buffer = Vec::new(alloc);
@@ -118,6 +119,7 @@ fn take_reply<K: Keeper, R: Read>(
         × TakesReply (R.remaining reader.old) a result b }
     ensures fault { IfErr result IsTakeFault }
     ensures steps { K.is_clean service.new → K.is_open service.new → StandsAfterTake (K.tables service.old) result (K.tables service.new) }
+    ensures lasts { IfOk result (λ _. K.is_clean service.new → K.is_open service.old → K.is_open service.new) }
     ensures crash { K.is_clean service.new → K.is_open service.old → LeavesAfterTake (K.may_leave service.old) (K.tables service.old) (K.may_leave service.new) }
 {
     let replied = read_reply(reader, buffer)?;
@@ -137,6 +139,7 @@ fn take_body<K: Keeper>(
     ensures takes { K.is_clean service.new → K.is_open service.new → (a : Replica) → Stands (K.tables service.old) a
         → (b : Replica) × Stands (K.tables service.new) b × Takes (spec.front_body (reply_seen bytes.now replied)) a result b }
     ensures fault { IfErr result IsTakeFault }
+    ensures lasts { IfOk result (λ _. K.is_clean service.new → K.is_open service.old → K.is_open service.new) }
     ensures crash { K.is_clean service.new → K.is_open service.old → LeavesAfterTake (K.may_leave service.old) (K.tables service.old) (K.may_leave service.new) }
 {
     let body = front_body(bytes, replied)?;
@@ -154,6 +157,7 @@ fn take_batch<K: Keeper>(
     ensures takes { K.is_clean service.new → K.is_open service.new → (a : Replica) → Stands (K.tables service.old) a
         → (b : Replica) × Stands (K.tables service.new) b × Receives body.now a result b }
     ensures fault { IfErr result IsOwnFault }
+    ensures lasts { IfOk result (λ _. K.is_clean service.new → K.is_open service.old → K.is_open service.new) }
     ensures crash { K.is_clean service.new → K.is_open service.old → LeavesAfterTake (K.may_leave service.old) (K.tables service.old) (K.may_leave service.new) }
 {
     let ending = ending_in(alloc, body)?;
@@ -172,6 +176,7 @@ fn receive<K: Keeper>(
     ensures takes { K.is_clean service.new → K.is_open service.new → (a : Replica) → Stands (K.tables service.old) a
         → (b : Replica) × Stands (K.tables service.new) b × Counts body.now a result b }
     ensures fault { IfErr result IsOwnFault }
+    ensures lasts { IfOk result (λ _. K.is_clean service.new → K.is_open service.old → K.is_open service.new) }
     ensures crash { K.is_clean service.new → K.is_open service.old → LeavesAfterTake (K.may_leave service.old) (K.tables service.old) (K.may_leave service.new) }
 {
     let Ok(bytes) = Vec::from_slice(alloc, body) else {

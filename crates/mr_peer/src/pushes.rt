@@ -20,8 +20,8 @@ ghost use Rattle.mr_peer.specs.Took.{read_took};
 use crate::replies::{Replied, read_reply, whole_body};
 use crate::requests::ask_full;
 use crate::took::took_in;
-use mr_base::{Ending, LineCount, Position};
-use mr_http::WebFault;
+use mr_base::{Ending, Position};
+use mr_http::{WebFault, lines_over_http};
 use mr_service::{Command, Local, Reply, Service};
 use mr_store::Keeper;
 use mr_wire::{write_batch, write_position};
@@ -45,6 +45,7 @@ pub fn push_ask<K: Keeper, W: Write>(
         × Wrote (push_request host.now (batch_text (batch_of a position.now lines_over_http))) (W.contents writer.old) (W.contents writer.new) result
         × IfOk result (λ ending. ending_of ending ≡ (batch_of a position.now lines_over_http).ending) }
     ensures fault { IfErr result IsAskFault }
+    ensures lasts { IfOk result (λ _. K.is_clean service.new → K.is_open service.old → K.is_open service.new) }
     ensures crash { K.is_clean service.new → K.is_open service.old → (t : Tables) → K.may_leave service.new t → K.may_leave service.old t ⊎ Reaches (K.tables service.old) (BatchFor (position_text position.now) lines_over_http) t }
 {
     let (text, ending) = own_batch(alloc, service, position)?;
@@ -66,6 +67,7 @@ fn own_batch<K: Keeper>(
         (λ x. (x.0.items ≡ batch_text (batch_of a position.now lines_over_http))
         × (ending_of x.1 ≡ (batch_of a position.now lines_over_http).ending)) result }
     ensures fault { IfErr result IsAskFault }
+    ensures lasts { IfOk result (λ _. K.is_clean service.new → K.is_open service.old → K.is_open service.new) }
     ensures crash { K.is_clean service.new → K.is_open service.old → (t : Tables) → K.may_leave service.new t → K.may_leave service.old t ⊎ Reaches (K.tables service.old) (BatchFor (position_text position.now) lines_over_http) t }
 {
     position.is_within_limits();
@@ -80,18 +82,11 @@ fn own_batch<K: Keeper>(
 fn batch_for(position: Vec<u8>) -> Command
     ensures { command_of result ≡ BatchFor position.items lines_over_http }
 {
-    let max_lines = over_http();
+    let max_lines = lines_over_http();
     Command::Local(Local::BatchFor {
         position,
         max_lines,
     })
-}
-
-// How many lines a batch has at most that goes over HTTP.
-fn over_http() -> LineCount
-    ensures { result ≡ lines_over_http }
-{
-    LineCount::new(64).unwrap()
 }
 
 fn batch_in(alloc: Global, reply: &Reply) -> Result<(Vec<u8>, Ending), WebFault>

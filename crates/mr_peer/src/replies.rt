@@ -8,10 +8,8 @@ ghost use Rattle.mr_peer.specs.Replies as spec;
 ghost use Rattle.mr_peer.specs.Seen.{reply_seen, IsInside, body_seen};
 
 use httparse::{EMPTY_HEADER, Header, Response, Status};
-use mr_http::{ReadFault, WebFault, body_length, fill_to, read_reply_head};
+use mr_http::{GREATEST_BODY, ReadFault, WebFault, body_length, fill_to, read_reply_head};
 use std::io::Read;
-
-const BODY_LIMIT: u64 = 1_048_576;
 
 /// A reply with the head that is demanded: its status, where its body begins among the bytes, and how long it is to be.
 #[derive(Clone, Copy)]
@@ -66,7 +64,7 @@ fn with_length(status: u16, fields: &[Header<'_>]) -> Option<(u16, u64)>
     ensures small { IfSome result (λ x. x.1 ≤ 1048576) }
 {
     let length = body_length(true, fields)?;
-    if length > BODY_LIMIT {
+    if length > GREATEST_BODY {
         return None;
     }
     Some((status, length))

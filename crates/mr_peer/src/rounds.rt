@@ -1,4 +1,4 @@
-ghost use Rattle.std.specs.Prelude.{◌≡◌, ◌⊎◌, IsTrue, OnErr};
+ghost use Rattle.std.specs.Prelude.{◌≡◌, ◌⊎◌, IsTrue, IfOk, OnErr};
 ghost use Rattle.mr_model.specs.Exchange.{batch_text};
 ghost use Rattle.mr_model.specs.Http.{lines_over_http};
 ghost use Rattle.mr_model.specs.Positions.{position_of, position_text};
@@ -39,6 +39,7 @@ pub fn pull<K: Keeper, R: Read, W: Write>(
         × Runs a AskPosition (pull_request host.now (position_text (position_of a))) (W.contents writer.old) (W.contents writer.new) result
         (TakesReply (R.remaining reader.old) a result b) }
     ensures steps { K.is_clean service.new → K.is_open service.new → StandsAfterPull (K.tables service.old) result (K.tables service.new) }
+    ensures lasts { IfOk result (λ _. K.is_clean service.new → K.is_open service.old → K.is_open service.new) }
     ensures crash { K.is_clean service.new → K.is_open service.old → LeavesAfterPull (K.may_leave service.old) (K.tables service.old) (K.may_leave service.new) }
 {
     pull_ask(alloc, service, host, writer)?;
@@ -64,6 +65,7 @@ pub fn push<K: Keeper, R: Read, W: Write>(
         × Runs a (BatchFor (position_text position.now) lines_over_http) (push_request host.now (batch_text (batch_of a position.now lines_over_http)))
         (W.contents writer.old) (W.contents writer.new) result
         (TellsTook (R.remaining reader.old) (batch_of a position.now lines_over_http).ending result) }
+    ensures lasts { IfOk result (λ _. K.is_clean service.new → K.is_open service.old → K.is_open service.new) }
     ensures crash { K.is_clean service.new → K.is_open service.old → (t : Tables) → K.may_leave service.new t → K.may_leave service.old t ⊎ Reaches (K.tables service.old) (BatchFor (position_text position.now) lines_over_http) t }
 {
     let ending = push_ask(alloc, service, position, host, writer)?;

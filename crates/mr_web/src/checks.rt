@@ -13,10 +13,8 @@ use crate::rejections::{Rejection, Stop};
 use crate::routes::{Resource, Route, table, with_words};
 use httparse::{EMPTY_HEADER, Header, Request, Status};
 use matchit::Params;
-use mr_http::{ReadFault, body_length};
+use mr_http::{GREATEST_BODY, ReadFault, body_length};
 use std::alloc::Global;
-
-const GREATEST_BODY: u64 = 1_048_576;
 
 /// What a head asks: a route, and how long the body is.
 #[derive(Debug, Drop)]

@@ -16,4 +16,5 @@ mod serving;
 mod submissions;
 
 pub use laws::reading_law;
+pub use mr_http::WebFault;
 pub use serving::serve_one;

@@ -1,4 +1,4 @@
-ghost use Rattle.std.specs.Prelude.{◌≡◌, ◌≤◌, [], IfOk, IfErr, length, drop};
+ghost use Rattle.std.specs.Prelude.{◌≡◌, ◌≤◌, ◌⊎◌, [], IfOk, IfErr, length, drop};
 ghost use Rattle.std.specs.Io.KnownBytes.{Keeps};
 ghost use Rattle.mr_model.specs.Replica.{Replica};
 ghost use Rattle.mr_model.specs.Tables.{Stands};
@@ -19,25 +19,19 @@ use crate::rejections::{Rejection, Stop};
 use crate::replies::{Answer, answer_to_rejection, answer_to_reply};
 use crate::routes::Route;
 use crate::submissions::submission;
-use mr_base::LineCount;
-use mr_http::{ReadFault, WebFault, fill_to, read_request_head, send};
+use mr_http::{ReadFault, WebFault, fill_to, lines_over_http, read_request_head, send};
 use mr_service::{Command, Local, Service};
 use mr_store::Keeper;
 use std::alloc::{AllocError, Global};
 use std::io::{Read, Write};
 
-const LINES_OVER_HTTP: u32 = 64;
-
 fn batch_for(alloc: Global, body: &[u8]) -> Result<Command, Stop>
     ensures { Gives command_view result (spec.command_in model.Pull body.now) }
 {
-    let Some(max_lines) = LineCount::new(LINES_OVER_HTTP) else {
-        return Err(Stop::Fault(ReadFault::Memory));
-    };
     let position = Vec::from_slice(alloc, body)?;
     Ok(Command::Local(Local::BatchFor {
         position,
-        max_lines,
+        max_lines: lines_over_http(),
     }))
 }
 
@@ -108,6 +102,7 @@ fn answer_command<K: Keeper>(
         → AnswersTo input (K.tables service.old) (K.tables service.new) a result }
     ensures steps { IsServable (command_view command.now) → K.is_clean service.new → K.is_open service.new → StandsAfterOne (K.tables service.old) (K.tables service.new) }
     ensures crash { IsServable (command_view command.now) → K.is_clean service.new → K.is_open service.old → LeavesAfterOne (K.may_leave service.old) (K.tables service.old) (K.may_leave service.new) }
+    ensures lasts { IfOk result (λ answer. K.is_clean service.new → K.is_open service.old → (answer.status ≡ 503) ⊎ K.is_open service.new) }
 {
     let reply = service.ask(command);
     match answer_to_reply(alloc, &reply) {
@@ -140,6 +135,7 @@ fn answer_one<R: Read, K: Keeper>(
         → AnswersTo input (K.tables service.old) (K.tables service.new) a result) }
     ensures steps { K.is_clean service.new → K.is_open service.new → StandsAfterOne (K.tables service.old) (K.tables service.new) }
     ensures crash { K.is_clean service.new → K.is_open service.old → LeavesAfterOne (K.may_leave service.old) (K.tables service.old) (K.may_leave service.new) }
+    ensures lasts { IfOk result (λ answer. K.is_clean service.new → K.is_open service.old → (answer.status ≡ 503) ⊎ K.is_open service.new) }
 {
     match request_from(alloc, reader) {
         Ok(command) => answer_command(alloc, &command, service),
@@ -150,7 +146,8 @@ fn answer_one<R: Read, K: Keeper>(
 /// Reads one request, serves it, writes its reply and answers the reply's status. What follows the request is passed over,
 /// though some of it may have been read. With the fault `Read` nothing was done or written; with `Memory` nothing was written, and the
 /// command may have been done; with `Write` a front of the reply was written, and the command stands as done or refused. No
-/// other fault comes. Whatever the reader gives, at most one command is done, and that one which some request asks.
+/// other fault comes. Whatever the reader gives, at most one command is done, and that one which some route gives. After every
+/// reply but one of 503 an open keeper is open.
 pub fn serve_one<R: Read, W: Write, K: Keeper>(
     alloc: Global,
     reader: &mut R,
@@ -167,6 +164,7 @@ pub fn serve_one<R: Read, W: Write, K: Keeper>(
     ensures fault { IfErr result IsServeFault }
     ensures steps { K.is_clean service.new → K.is_open service.new → StandsAfterOne (K.tables service.old) (K.tables service.new) }
     ensures crash { K.is_clean service.new → K.is_open service.old → LeavesAfterOne (K.may_leave service.old) (K.tables service.old) (K.may_leave service.new) }
+    ensures lasts { IfOk result (λ status. K.is_clean service.new → K.is_open service.old → (status ≡ 503) ⊎ K.is_open service.new) }
 {
     let answer = answer_one(alloc, reader, service)?;
     send(writer, answer.bytes.as_slice())?;

@@ -16,7 +16,7 @@ const BATCH: &[u8] =
 const HEAD: &[u8] = b"HTTP/1.1 200 OK\r\nContent-Length: 106\r\n\r\n";
 
 // A replica that knows nothing yet, with primary 1.
-fn service(alloc: Global, number: u32) -> Result<Service<ListKeeper>, Fail> {
+pub(crate) fn service(alloc: Global, number: u32) -> Result<Service<ListKeeper>, Fail> {
     let server = ServerId::new(number).ok_or("no server")?;
     let primary = ServerId::new(1).ok_or("no server")?;
     Ok(Service::new(alloc, ListKeeper::new(alloc, server, primary)))

@@ -9,4 +9,6 @@ mod connections;
 #[cfg(test)]
 mod head_tests;
 #[cfg(test)]
+mod round_tests;
+#[cfg(test)]
 mod serving_tests;

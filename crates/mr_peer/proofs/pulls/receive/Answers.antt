@@ -1,12 +1,12 @@
 use Rattle.std.proofs.Common.{ℕ, List, sym, subst, Result}
-use Rattle.std.specs.Prelude.{IfErr}
+use Rattle.std.specs.Prelude.{IfOk, IfErr}
 use Rattle.mr_model.specs.Step.{Receive, IsStep}
 use Rattle.mr_http.specs.declared.faults.WebFault.{WebFault}
 use Rattle.mr_service.specs.Asked.{reply_of}
 use Rattle.mr_peer.specs.Taking.{Counts, IsOwnFault}
 use Rattle.mr_peer.proofs.FaultLemmas.{counts_faults}
 use Rattle.mr_peer.proofs.StepLemmas.{left_by_take}
-use Rattle.mr_peer.proofs.TakeLemmas.{counts}
+use Rattle.mr_peer.proofs.TakeLemmas.{counts, counts_last}
 use Rattle.mr_peer.proofs.pulls.receive.Goals as goal
 
 pub returns-clause-takes : goal.returns-clause-takes
@@ -25,3 +25,11 @@ pub returns-clause-crash : goal.returns-clause-crash
 returns-clause-crash g c clean up t leaves =
     left_by_take (g.K.Keeper.may_leave c.args.service.now t) (g.K.Keeper.tables c.args.service.now) t c.in-Ok.bytes.items
     (c.ask-reply.ensures.crash clean up t leaves)
+
+pub returns-clause-lasts : goal.returns-clause-lasts
+returns-clause-lasts g c =
+    let clean = g.K.Keeper.is_clean c.ask-reply.new.self in
+    let before = g.K.Keeper.is_open c.args.service.now in
+    let after = g.K.Keeper.is_open c.ask-reply.new.self in
+    subst (λ (r : Result (ℕ × ℕ) WebFault). IfOk r (λ _. clean → before → after)) (sym c.counts_in.ensures)
+    (counts_last c.ask-reply.result clean before after c.ask-reply.ensures.lasts)

@@ -14,6 +14,7 @@ use Rattle.mr_peer.specs.Steps.{ReceivesSome}
 use Rattle.mr_peer.specs.Taking.{TakesReply}
 use Rattle.mr_peer.proofs.AskLemmas.{ask_failed, failed_as}
 use Rattle.mr_peer.proofs.StepLemmas.{left_by_ask, left_by_pull}
+use Rattle.mr_peer.proofs.TakeLemmas.{lasts_on}
 use Rattle.mr_peer.proofs.rounds.pull.Goals as goal
 
 pub returns-in_err-pull_ask-clause-runs : goal.returns-in_err-pull_ask-clause-runs
@@ -77,3 +78,12 @@ returns-clause-crash g c clean up t leaves =
     left_by_pull (g.K.Keeper.may_leave old t) (g.K.Keeper.may_leave asked t) (Reaches before AskPosition t) before (g.K.Keeper.tables asked) t
     (c.in_ok-pull_ask.ensures.crash still up t) (λ a stands. (c.in_ok-pull_ask.ensures.wrote still lasts a stands).0)
     (c.pull_take.ensures.crash clean lasts t leaves)
+
+pub returns-clause-lasts : goal.returns-clause-lasts
+returns-clause-lasts g c =
+    let clean = g.K.Keeper.is_clean c.pull_take.new.service in
+    let before = g.K.Keeper.is_open c.args.service.now in
+    let middle = g.K.Keeper.is_open c.pull_ask.new.service in
+    let after = g.K.Keeper.is_open c.pull_take.new.service in
+    lasts_on c.pull_take.result (clean → middle → after) (clean → before → after)
+    (λ last is_clean up. last is_clean (c.in_ok-pull_ask.ensures.lasts (c.pull_take.ensures.clean is_clean) up)) c.pull_take.ensures.lasts

@@ -5,6 +5,7 @@ use Rattle.mr_model.specs.Tables.{Stands}
 use Rattle.mr_http.proofs.Known.{of_input_map}
 use Rattle.mr_web.specs.Views.{AnswersTo, Settles}
 use Rattle.mr_web.proofs.Requests.{answers_stopped}
+use Rattle.mr_web.proofs.Steps.{open_still}
 use Rattle.mr_web.proofs.serving.answer_one.Goals as goal
 
 pub returns-in-Ok-clause-answers : goal.returns-in-Ok-clause-answers
@@ -36,3 +37,8 @@ returns-in-Err-clause-steps g c clean up a stands = (a, stands, inl refl)
 
 pub returns-in-Err-clause-crash : goal.returns-in-Err-clause-crash
 returns-in-Err-clause-crash g c clean up t leaves = inl leaves
+
+pub returns-in-Err-clause-lasts : goal.returns-in-Err-clause-lasts
+returns-in-Err-clause-lasts g c =
+    let service = c.args.service.now in
+    open_still c.answer_to_stop.result (g.K.Keeper.is_clean service) (g.K.Keeper.is_open service)

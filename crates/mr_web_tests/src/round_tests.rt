@@ -1,0 +1,106 @@
+// Rounds of an exchange, whose requests a served replica answers: 70 writes go either way in 64 and 6.
+
+use crate::asking_tests::service;
+use mr_base::Ending;
+use mr_http::WebFault;
+use mr_peer::{position_ask, position_take, pull_ask, pull_take, push_ask, push_take};
+use mr_service::{Command, Service};
+use mr_store::ListKeeper;
+use mr_web::serve_one;
+use std::alloc::Global;
+use std::test::Fail;
+
+/// The replica of this server, with 70 tentative writes of another.
+fn with_seventy(alloc: Global, number: u32) -> Result<Service<ListKeeper>, Fail> {
+    let mut service = service(alloc, number)?;
+    let mut text = String::from_str(alloc, "mr1 4 1\n")?;
+    for n in 1..=70 {
+        let line = format!(in alloc; "W 4 {n} {n} elm 1 1995-12-18 09:00 0 Elm\n")?;
+        text.push_str(line.as_str())?;
+    }
+    text.push_str("E\n")?;
+    service.ask(&Command::Receive(text.into_bytes()));
+    Ok(service)
+}
+
+/// What the server replies to this request.
+fn replied(
+    alloc: Global,
+    server: &mut Service<ListKeeper>,
+    request: &[u8],
+) -> Result<Vec<u8>, WebFault> {
+    let mut reader = request;
+    let mut writer = Vec::new(alloc);
+    serve_one(alloc, &mut reader, &mut writer, server)?;
+    Ok(writer)
+}
+
+fn pull_from(
+    alloc: Global,
+    client: &mut Service<ListKeeper>,
+    server: &mut Service<ListKeeper>,
+) -> Result<(u64, u64, Ending), WebFault> {
+    let mut request = Vec::new(alloc);
+    pull_ask(alloc, client, "a", &mut request)?;
+    let reply = replied(alloc, server, request.as_slice())?;
+    let mut reader = reply.as_slice();
+    pull_take(alloc, client, &mut reader)
+}
+
+/// The request of a push to the server, and how its batch ends.
+fn push_request(
+    alloc: Global,
+    client: &mut Service<ListKeeper>,
+    server: &mut Service<ListKeeper>,
+) -> Result<(Vec<u8>, Ending), WebFault> {
+    let mut request = Vec::new(alloc);
+    position_ask(alloc, "a", &mut request)?;
+    let reply = replied(alloc, server, request.as_slice())?;
+    let mut reader = reply.as_slice();
+    let position = position_take(alloc, &mut reader)?;
+    request.clear();
+    let ending = push_ask(alloc, client, &position, "a", &mut request)?;
+    Ok((request, ending))
+}
+
+fn push_to(
+    alloc: Global,
+    client: &mut Service<ListKeeper>,
+    server: &mut Service<ListKeeper>,
+) -> Result<(u64, u64, Ending), WebFault> {
+    let (request, ending) = push_request(alloc, client, server)?;
+    let reply = replied(alloc, server, request.as_slice())?;
+    let mut reader = reply.as_slice();
+    let (writes, commits) = push_take(alloc, &mut reader)?;
+    Ok((writes, commits, ending))
+}
+
+#[test]
+fn seventy_are_pulled_in_two_rounds(rt: HostRuntime) -> Result<(), Fail> {
+    let alloc = rt.alloc();
+    let mut server = with_seventy(alloc, 1)?;
+    let mut client = service(alloc, 2)?;
+    for (writes, ending) in [
+        (64, Ending::More),
+        (6, Ending::Complete),
+        (0, Ending::Complete),
+    ] {
+        assert!(rt; pull_from(alloc, &mut client, &mut server) == Ok((writes, 0, ending)));
+    }
+    Ok(())
+}
+
+#[test]
+fn seventy_are_pushed_in_two_rounds(rt: HostRuntime) -> Result<(), Fail> {
+    let alloc = rt.alloc();
+    let mut server = service(alloc, 1)?;
+    let mut client = with_seventy(alloc, 2)?;
+    for (writes, ending) in [
+        (64, Ending::More),
+        (6, Ending::Complete),
+        (0, Ending::Complete),
+    ] {
+        assert!(rt; push_to(alloc, &mut client, &mut server) == Ok((writes, 0, ending)));
+    }
+    Ok(())
+}
