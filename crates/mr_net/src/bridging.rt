@@ -2,9 +2,9 @@
 
 ghost use Rattle.mr_net.specs.Printed.{EndsExchange};
 
+use crate::connecting::connect;
 use crate::hosts::Host;
 use crate::printing::{exchange_with, say_no_network};
-use crate::serving::close;
 use crate::ways::{Peer, Round, Way};
 use mr_base::Position;
 use mr_http::WebFault;
@@ -15,7 +15,13 @@ use mr_sql::{FileKeeper, SqlKeeper};
 use mr_web::serve_one;
 use std::alloc::Global;
 use std::io::Write;
-use std::net::{Ipv4Addr, SocketAddr, TcpListener, TcpStream};
+use std::net::{Ipv4Addr, TcpListener, TcpStream};
+
+/// The address of this machine alone.
+const THIS_MACHINE: &str = "127.0.0.1";
+
+/// How many others are sent away, at most, before one end of a connection is given up.
+const STRANGERS: u32 = 1_000;
 
 /// Another database of this machine: each request is asked, served and its reply taken in turn.
 ///
@@ -29,36 +35,35 @@ struct Neighbour<'a> {
     client: &'a mut Service<FileKeeper>,
     server: &'a mut Service<FileKeeper>,
     listener: &'a TcpListener,
-    address: SocketAddr,
+    port: u16,
     host: &'a Host,
 }
 
 impl Neighbour<'_> {
     fn connect(&self) -> Result<TcpStream, WebFault> {
-        match TcpStream::connect(self.rt, self.address) {
-            Ok(stream) => Ok(stream),
-            Err(_) => Err(WebFault::Read),
-        }
+        connect(self.rt, THIS_MACHINE, self.port)
     }
 
-    /// Serves what was asked. Where that fails, what the client then reads tells so.
-    fn serve(&mut self) {
-        if let Ok((stream, _)) = self.listener.accept() {
-            let _ = serve_one(self.alloc, &mut &stream, &mut &stream, self.server);
-        }
+    /// Serves what this client asked. Where serving fails, what the client then reads tells so.
+    fn serve(&mut self, client: &TcpStream) -> Result<(), WebFault> {
+        let Some(stream) = other_end(self.listener, client) else {
+            return Err(WebFault::Read);
+        };
+        let _ = serve_one(self.alloc, &mut &stream, &mut &stream, self.server);
+        Ok(())
     }
 
     fn position(&mut self) -> Result<Position, WebFault> {
         let stream = self.connect()?;
         position_ask(self.alloc, self.host.as_str(), &mut &stream)?;
-        self.serve();
+        self.serve(&stream)?;
         position_take(self.alloc, &mut &stream)
     }
 
     fn pull(&mut self) -> Result<Round, WebFault> {
         let stream = self.connect()?;
         pull_ask(self.alloc, self.client, self.host.as_str(), &mut &stream)?;
-        self.serve();
+        self.serve(&stream)?;
         let (writes, commits, ending) = pull_take(self.alloc, self.client, &mut &stream)?;
         Ok(Round {
             writes,
@@ -72,7 +77,7 @@ impl Neighbour<'_> {
         let stream = self.connect()?;
         let host = self.host.as_str();
         let ending = push_ask(self.alloc, self.client, &position, host, &mut &stream)?;
-        self.serve();
+        self.serve(&stream)?;
         let (writes, commits) = push_take(self.alloc, &mut &stream)?;
         Ok(Round {
             writes,
@@ -80,6 +85,18 @@ impl Neighbour<'_> {
             ending,
         })
     }
+}
+
+/// The other end of this connection. Whoever else connects meanwhile is sent away.
+fn other_end(listener: &TcpListener, client: &TcpStream) -> Option<TcpStream> {
+    let address = client.local_addr().ok()?;
+    for _ in 0..STRANGERS {
+        let (stream, from) = listener.accept().ok()?;
+        if from == address {
+            return Some(stream);
+        }
+    }
+    None
 }
 
 impl Peer for Neighbour<'_> {
@@ -112,7 +129,7 @@ pub fn bridge<W: Write>(
     };
     let mut client = Service::new(alloc, client);
     let status = bridge_to(rt, alloc, &mut client, server, out);
-    close(client);
+    client.into_keeper().close();
     status
 }
 
@@ -131,7 +148,7 @@ fn bridge_to<W: Write>(
     };
     let mut server = Service::new(alloc, server);
     let status = bridge_between(rt, alloc, client, &mut server, out);
-    close(server);
+    server.into_keeper().close();
     status
 }
 
@@ -148,11 +165,11 @@ fn bridge_between<W: Write>(
         Ok(listener) => listener,
         Err(_) => return say_no_network(out),
     };
-    let address = match listener.local_addr() {
-        Ok(address) => address,
+    let port = match listener.local_addr() {
+        Ok(address) => address.port(),
         Err(_) => return say_no_network(out),
     };
-    let host = match Host::new(alloc, "127.0.0.1", address.port()) {
+    let host = match Host::new(alloc, THIS_MACHINE, port) {
         Ok(Some(host)) => host,
         Ok(None) => return say_no_network(out),
         Err(_) => return say(out, NO_MEMORY, REFUSED),
@@ -163,7 +180,7 @@ fn bridge_between<W: Write>(
         client,
         server,
         listener: &listener,
-        address,
+        port,
         host: &host,
     };
     exchange_with(alloc, &mut peer, out)

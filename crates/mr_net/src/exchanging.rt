@@ -6,10 +6,11 @@ ghost use Rattle.mr_peer.specs.Requests.{is_host};
 ghost use Rattle.mr_net.specs.Hosts.{host_name, IsPeer};
 ghost use Rattle.mr_net.specs.Printed.{EndsExchange, TellsBadAddress};
 
+use crate::connecting::connect;
 use crate::hosts::Host;
 use crate::printing::exchange_with;
-use crate::serving::close;
 use crate::ways::{Peer, Round, Way};
+use mr_base::Position;
 use mr_http::WebFault;
 use mr_peer::{position_ask, position_take, pull, push};
 use mr_say::{BAD_WORDS, NO_MEMORY, REFUSED, say, say_refusal};
@@ -39,10 +40,14 @@ struct Remote<'a> {
 
 impl Remote<'_> {
     fn connect(&self) -> Result<TcpStream, WebFault> {
-        match TcpStream::connect(self.rt, (self.address.name, self.address.port)) {
-            Ok(stream) => Ok(stream),
-            Err(_) => Err(WebFault::Read),
-        }
+        connect(self.rt, self.address.name, self.address.port)
+    }
+
+    /// What the peer has. Its connection has ended when this returns: the peer serves no other one before.
+    fn position(&self) -> Result<Position, WebFault> {
+        let stream = self.connect()?;
+        position_ask(self.alloc, self.address.host.as_str(), &mut &stream)?;
+        position_take(self.alloc, &mut &stream)
     }
 
     fn pull(&mut self) -> Result<Round, WebFault> {
@@ -63,10 +68,8 @@ impl Remote<'_> {
     }
 
     fn push(&mut self) -> Result<Round, WebFault> {
+        let position = self.position()?;
         let host = self.address.host.as_str();
-        let stream = self.connect()?;
-        position_ask(self.alloc, host, &mut &stream)?;
-        let position = position_take(self.alloc, &mut &stream)?;
         let stream = self.connect()?;
         let (writes, commits, ending) = push(
             self.alloc,
@@ -154,6 +157,6 @@ fn exchange_from<W: Write>(
         address,
     };
     let status = exchange_with(alloc, &mut peer, out);
-    close(service);
+    service.into_keeper().close();
     status
 }

@@ -8,6 +8,7 @@
 #![tactic(auto)]
 
 mod bridging;
+mod connecting;
 mod connections;
 mod exchanging;
 mod hosts;

@@ -35,7 +35,7 @@ pub fn serve<W: Write>(
     };
     let mut service = Service::new(alloc, keeper);
     let status = serve_at(rt, alloc, &mut service, port, connections, out);
-    close(service);
+    service.into_keeper().close();
     status
 }
 
@@ -109,9 +109,4 @@ fn status_text(alloc: Global, status: u16) -> Result<String, AllocError>
     ensures { IfOk result (λ text. string_bytes text ≡ line (connection_text (Some status))) }
 {
     format!(in alloc; "{status}\n")
-}
-
-/// Copies what the store has in its log into the database file, so that it stands alone. Where that fails the log keeps it.
-pub(crate) fn close(service: Service<FileKeeper>) {
-    let _ = service.into_keeper().release().close();
 }

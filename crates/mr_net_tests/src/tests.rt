@@ -5,6 +5,7 @@ use mr_net::{bridge, exchange, serve};
 use mr_service::{Command, Service};
 use mr_sql::SqlKeeper;
 use std::alloc::{AllocError, Global};
+use std::fs;
 use std::net::{Ipv4Addr, TcpListener};
 use std::test::Fail;
 
@@ -37,31 +38,39 @@ fn make(rt: &HostRuntime, path: &str, server: u32, other: u32, writes: u32) -> R
 #[test]
 fn each_takes_what_it_lacks(rt: HostRuntime) -> Result<(), Fail> {
     let alloc = rt.alloc();
-    make(&rt, "net_two.db", 2, 4, 70)?;
-    make(&rt, "net_three.db", 3, 5, 70)?;
+    let _ = fs::remove_dir_all(&rt, "mr_net_rounds");
+    fs::create_dir(&rt, "mr_net_rounds")?;
+    make(&rt, "mr_net_rounds/two.db", 2, 4, 70)?;
+    make(&rt, "mr_net_rounds/three.db", 3, 5, 70)?;
     let gone = "pulled 0 writes 0 commits\npushed 0 writes 0 commits\n";
     for (server, status, lines) in [
         (
-            "net_three.db",
+            "mr_net_rounds/three.db",
             0,
             "pulled 70 writes 0 commits\npushed 70 writes 0 commits\n",
         ),
-        ("net_three.db", 0, gone),
+        ("mr_net_rounds/three.db", 0, gone),
         // No store is open twice.
-        ("net_two.db", 1, "refused 25 Store\n"),
-        ("net_three.db", 0, gone),
+        ("mr_net_rounds/two.db", 1, "refused 25 Store\n"),
+        ("mr_net_rounds/three.db", 0, gone),
     ] {
         let mut out = Vec::new(alloc);
-        assert_eq!(rt; bridge(&rt, alloc, "net_two.db", server, &mut out), status);
+        assert_eq!(rt;
+            bridge(&rt, alloc, "mr_net_rounds/two.db", server, &mut out),
+            status
+        );
         assert_eq!(rt; out.as_slice(), lines.as_bytes());
     }
+    fs::remove_dir_all(&rt, "mr_net_rounds")?;
     Ok(())
 }
 
 #[test]
 fn faults_are_looked_for_in_their_order(rt: HostRuntime) -> Result<(), Fail> {
     let alloc = rt.alloc();
-    make(&rt, "net_one.db", 1, 2, 1)?;
+    let _ = fs::remove_dir_all(&rt, "mr_net_faults");
+    fs::create_dir(&rt, "mr_net_faults")?;
+    make(&rt, "mr_net_faults/one.db", 1, 2, 1)?;
     let listener = TcpListener::bind(&rt, (Ipv4Addr::LOCALHOST, 0))?;
     let taken = listener.local_addr()?.port();
     let mut out = Vec::new(alloc);
@@ -72,23 +81,42 @@ fn faults_are_looked_for_in_their_order(rt: HostRuntime) -> Result<(), Fail> {
         ("http://localhost:1/", 1),
     ] {
         assert_eq!(rt;
-            exchange(&rt, alloc, "net_absent.db", address, &mut out),
+            exchange(&rt, alloc, "mr_net_faults/absent.db", address, &mut out),
             status
         );
     }
-    assert_eq!(rt; serve(&rt, alloc, "net_absent.db", taken, 1, &mut out), 1);
     assert_eq!(rt;
-        bridge(&rt, alloc, "net_one.db", "net_absent.db", &mut out),
+        serve(&rt, alloc, "mr_net_faults/absent.db", taken, 1, &mut out),
         1
     );
-    assert_eq!(rt; serve(&rt, alloc, "net_one.db", taken, 1, &mut out), 3);
     assert_eq!(rt;
-        exchange(&rt, alloc, "net_one.db", "http://127.0.0.1:1/", &mut out),
+        bridge(
+            &rt,
+            alloc,
+            "mr_net_faults/one.db",
+            "mr_net_faults/absent.db",
+            &mut out
+        ),
+        1
+    );
+    assert_eq!(rt;
+        serve(&rt, alloc, "mr_net_faults/one.db", taken, 1, &mut out),
+        3
+    );
+    assert_eq!(rt;
+        exchange(
+            &rt,
+            alloc,
+            "mr_net_faults/one.db",
+            "http://127.0.0.1:1/",
+            &mut out
+        ),
         3
     );
     assert_eq!(rt;
         out.as_slice(),
         "bad address\nbad address\nbad address\nrefused 26 NotAReplica\nrefused 26 NotAReplica\nrefused 26 NotAReplica\nfault network\nfault network\n".as_bytes()
     );
+    fs::remove_dir_all(&rt, "mr_net_faults")?;
     Ok(())
 }

@@ -64,4 +64,10 @@ impl SqlKeeper<FileStore<sqlite::File>> {
         let conn = open(rt, path)?;
         SqlKeeper::resume(rt.alloc(), conn)
     }
+
+    /// Gives the file up. What the store has in its log is copied into the database file, so that it stands alone; where that
+    /// fails, the log keeps it.
+    pub fn close(self) {
+        let _ = self.release().close();
+    }
 }
