@@ -1,6 +1,6 @@
 //! Commands to the replica of a service, over any keeper and any writer.
 
-ghost use Rattle.std.specs.Prelude.{◌≡◌, ◌≤◌, ◌⊎◌, IfOk, None, length};
+ghost use Rattle.std.specs.Prelude.{◌≡◌, ◌≤◌, ◌<◌, ◌⊎◌, IfOk, IfErr, None, length};
 ghost use Rattle.std.specs.Io.KnownBytes.{Appends};
 ghost use Rattle.mr_model.specs.Texts.{Text};
 ghost use Rattle.mr_model.specs.View.{Question};
@@ -88,6 +88,7 @@ fn write_reply<W: Write>(
 fn file_text(alloc: Global, reply: &Reply) -> Result<Vec<u8>, FileFault>
     ensures text { IfOk result (λ bytes. bytes.items ≡ model.reply_text (reply_of reply.now)) }
     ensures limited { IfOk result (λ bytes. length bytes.items ≤ greatest_file) }
+    ensures too_long { IfErr result (λ e. e ≡ FileFault.File → greatest_file < length (model.reply_text (reply_of reply.now))) }
 {
     match reply_text(alloc, reply) {
         Ok(bytes) if bytes.len() as u64 > GREATEST_FILE => Err(FileFault::File),

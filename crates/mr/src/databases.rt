@@ -25,7 +25,7 @@ pub(crate) fn init<W: Write>(
 {
     match SqlKeeper::init_file(rt, database, server, primary) {
         Ok(keeper) => {
-            close(keeper);
+            keeper.close();
             say(out, "ok\n", DONE)
         }
         Err(refusal) => say_refusal(alloc, out, &refusal),
@@ -46,14 +46,9 @@ pub(crate) fn on_database<W: Write>(
         Ok(keeper) => {
             let mut service = Service::new(alloc, keeper);
             let status = perform(rt, alloc, &mut service, task, out);
-            close(service.into_keeper());
+            service.into_keeper().close();
             status
         }
         Err(refusal) => say_refusal(alloc, out, &refusal),
     }
-}
-
-/// Copies what the store has in its log into the database file, so that it stands alone. Where that fails the log keeps it.
-fn close(keeper: FileKeeper) {
-    let _ = keeper.release().close();
 }

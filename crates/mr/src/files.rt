@@ -1,6 +1,8 @@
 //! Files of scripts, positions and batches.
 
-ghost use Rattle.std.specs.Prelude.{◌≡◌, ◌≤◌, IfOk, length};
+ghost use Rattle.std.specs.Prelude.{◌≡◌, ◌≢◌, ◌≤◌, IfOk, length};
+ghost use Rattle.std.specs.IoError.{error_kind};
+ghost use Rattle.std.specs.declared.io.ErrorKind.TheVariants.{OutOfMemory};
 ghost use Rattle.mr.specs.Rehearsed.{IsInput};
 ghost use Rattle.mr.specs.Told.{TellsFault, greatest_file};
 
@@ -58,7 +60,10 @@ where
 }
 
 /// Want of memory, or else that the file can't be had.
-fn fault_of(error: &io::Error) -> FileFault {
+fn fault_of(error: &io::Error) -> FileFault
+    ensures memory { error_kind error.now ≡ OutOfMemory → result ≡ FileFault.Memory }
+    ensures file { error_kind error.now ≢ OutOfMemory → result ≡ FileFault.File }
+{
     if error.kind() == ErrorKind::OutOfMemory {
         FileFault::Memory
     } else {

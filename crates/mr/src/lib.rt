@@ -18,5 +18,6 @@ mod script;
 mod words;
 
 pub use commands::command;
+pub use mr_words::{AddressFault, Invocation, WordFault, invocation, peer_address};
 pub use run::rehearse;
 pub use script::{ScriptFault, read_script, scripts_are_read_one_way};
