@@ -140,14 +140,29 @@ run_raw_requests() {
         echo 'skipped: cut requests (no python3)'
         return
     fi
-    serve "$folder/a.db" 6
+    serve "$folder/a.db" 7
     raw 'a request a byte at a time' 'HTTP/1.1 200 OK' 'GET /position HTTP/1.1\r\n\r\n'
     raw 'a cut head' 'HTTP/1.1 400 Bad Request' 'GET /position HTTP/1.1\r\n'
     raw 'a cut body' 'HTTP/1.1 400 Bad Request' 'POST /push HTTP/1.1\r\nContent-Length: 8\r\n\r\nmr1 2 1'
     raw 'another version' 'HTTP/1.1 400 Bad Request' 'GET /position HTTP/1.0\r\n\r\n'
+    raw 'a path that is no UTF-8' 'HTTP/1.1 400 Bad Request' 'GET /rooms/\xff/errors HTTP/1.1\r\n\r\n'
     raw 'no bytes at all' 'HTTP/1.1 400 Bad Request' ''
     silent 'half a head, and then nothing'
-    served 'the lines of cut requests' 200 400 400 400 400 fault
+    served 'the lines of cut requests' 200 400 400 400 400 400 fault
+}
+
+# what was answered is there after the server was killed, and nobody else has its database meanwhile
+run_killed() {
+    local folder=$scratch/served.d
+    serve "$folder/a.db" 9
+    expect_line 'a command on a database that is served' 1 'refused 25 Store' add-room "$folder/a.db" ash
+    submitted 'a submission to a server that is killed' 200 \
+        '{"day":"1996-02-29","id":"1-3","mark":"T","start":"09:00","state":"booked","stop":"10:00"}' \
+        '{"day":"1996-02-29","length":60,"room":"oak","start":"09:00","title":"Rota"}'
+    kill -9 "$server"
+    wait "$server" 2> /dev/null
+    printf 'oak 1996-02-29 Thursday\n09:00-10:00 T 1-3 Rota\n' > "$scratch/wanted"
+    expect 'the sheet after that' 0 "$scratch/wanted" sheet "$folder/a.db" oak 1996-02-29
 }
 
 # two processes, one of which serves, and two databases in one process
@@ -188,8 +203,12 @@ run_exchanges() {
     expect_line 'a bridge to nowhere' 1 'refused 26 NotAReplica' bridge "$folder/four.db" "$folder/five.db"
 
     serve "$folder/one.db" 3
+    SECONDS=0
     expect 'an exchange' 0 "$folder/one" exchange "$folder/two.db" "http://127.0.0.1:$port/"
     served 'the lines of an exchange' 200 200 200
+    : > "$scratch/out"
+    : > "$scratch/wanted"
+    told 'no connection of an exchange waits for another' "$((SECONDS >= 25))" 0 "$scratch/wanted"
     expect 'the sheet of the office that served' 0 "$folder/sheet" sheet "$folder/one.db" oak 1995-12-18
     expect 'the sheet of the office that asked' 0 "$folder/sheet" sheet "$folder/two.db" oak 1995-12-18
 
@@ -216,14 +235,49 @@ run_exchanges() {
     serve "$folder/one.db" 1
     expect_line 'an exchange with a stranger' 1 'peer answered 409' exchange "$folder/stranger.db" "http://127.0.0.1:$port/"
     served 'the line of the stranger' 409
+    run_other_family "$folder/two.db"
+}
+
+# a peer at an address of version 6, which answers 503
+run_other_family() {
+    if ! command -v python3 > /dev/null; then
+        echo 'skipped: an address of version 6 (no python3)'
+        return
+    fi
+    : > "$scratch/port"
+    python3 - > "$scratch/port" 2> "$scratch/err" <<'PYTHON' &
+import socket
+s = socket.socket(socket.AF_INET6)
+s.bind(("::1", 0))
+s.listen()
+s.settimeout(30)
+print(s.getsockname()[1], flush=True)
+c, _ = s.accept()
+c.recv(4096)
+c.sendall(b"HTTP/1.1 503 Service Unavailable\r\nContent-Length: 0\r\n\r\n")
+c.close()
+PYTHON
+    server=$!
+    for _ in $(seq 100); do
+        if [ -s "$scratch/port" ] || ! kill -0 "$server" 2> /dev/null; then break; fi
+        sleep 0.05
+    done
+    if [ -s "$scratch/port" ]; then
+        expect_line 'an address of version 6' 1 'peer answered 503' exchange "$1" "http://[::1]:$(cat -- "$scratch/port")/"
+    else
+        echo 'skipped: an address of version 6 (this machine has none)'
+    fi
+    kill "$server" 2> /dev/null
+    wait "$server" 2> /dev/null
 }
 
 run_http() {
     if command -v curl > /dev/null; then
         run_served
         run_raw_requests
+        run_killed
     else
-        echo 'skipped: a served database (no curl)'
+        echo 'skipped: a served database, cut requests, a killed server (no curl)'
     fi
     run_exchanges
 }
