@@ -1,6 +1,6 @@
 -- Executing writes one after the other, and undoing what is done where one of them fails.
-use Rattle.std.proofs.Common.{◌≡◌, ℕ, ◌+◌, ◌<◌, List, [], ◌∷◌, ◌++◌, length, get_or, drop, None, ap, sym, ◌∙◌, append_assoc}
-use Rattle.std.proofs.lemmas.List.{at_drop_more}
+use Rattle.std.proofs.Common.{◌≡◌, ℕ, ◌+◌, ◌<◌, List, [], ◌∷◌, ◌++◌, length, get_or, take, drop, None, ap, sym, ◌∙◌, append_assoc}
+use Rattle.std.proofs.lemmas.List.{at_drop_more, take_more}
 use Rattle.mr_model.specs.Writes.{Write, id_of}
 use Rattle.mr_replay.specs.Places.{UndoRow}
 use Rattle.mr_replay.specs.Rows.{Rows, row_at, row_of, place_on, executed, undo_row_of, undone, executed_all, undo_rows_of, undone_all}
@@ -16,6 +16,10 @@ undone-executed b w absent = undone-put b (id_of w) (row_of w (place_on b w)) ab
 pub undone_all-push : (b : Rows) (us : List UndoRow) (u : UndoRow) → undone_all b (us ++ u ∷ []) ≡ undone_all (undone b u) us
 undone_all-push b [] u = sym (λ i. undone b u)
 undone_all-push b (v ∷ us) u = ap (λ r. undone r v) (undone_all-push b us u)
+
+-- undoing the last of the first executions leaves those in front of it to be undone
+pub undo_more : (b : Rows) (us : List UndoRow) (k : ℕ) (d : UndoRow) → k < length us → undone_all (undone b (get_or us k d)) (take k us) ≡ undone_all b (take (k + 1) us)
+undo_more b us k d h = sym (ap (undone_all b) (take_more us k d h) ∙ undone_all-push b (take k us) (get_or us k d))
 
 -- these writes are executed but for those that are left
 pub record IsRedone (old : Rows) (ws left : List Write) (b : Rows) (us : List UndoRow) : Type 0 where

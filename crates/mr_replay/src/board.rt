@@ -125,6 +125,17 @@ impl Board {
         self.rows.remove(&row.id);
     }
 
+    /// Undoes these executions, the last of them first.
+    pub fn undo_all(&mut self, rows: &[UndoRow])
+        ensures { self.new ≡ undone_all self.old rows.now }
+    {
+        let mut left = rows.len();
+        while left > 0 {
+            left -= 1;
+            self.undo(rows[left]);
+        }
+    }
+
     /// Executes the writes in order. Their undo rows stand in the same order.
     pub fn redo_from(&mut self, writes: &[Write]) -> Result<Vec<UndoRow>, Refusal>
         ensures rows { IfOk result (λ rows. rows.items ≡ undo_rows_of self.old writes.now) }
@@ -139,7 +150,7 @@ impl Board {
             match self.execute_next(write, &mut rows) {
                 Ok(()) => {}
                 Err(refusal) => {
-                    self.undo_all(&mut rows);
+                    self.undo_all(rows.as_slice());
                     return Err(refusal);
                 }
             }
@@ -169,8 +180,7 @@ impl Board {
     {
         let _ = room;
         let mut board = self.copy()?;
-        let mut rows = undone.to_vec(self.alloc)?;
-        board.undo_all(&mut rows);
+        board.undo_all(undone);
         let rows = board.redo_from(again)?;
         *self = board;
         Ok(rows)
@@ -186,15 +196,6 @@ impl Board {
             }
         }
         false
-    }
-
-    /// Undoes these executions, the last of them first.
-    fn undo_all(&mut self, rows: &mut Vec<UndoRow>)
-        ensures { self.new ≡ undone_all self.old rows.old.items }
-    {
-        while let Some(row) = rows.pop() {
-            self.undo(row);
-        }
     }
 
     /// Executes the write and notes its undo row.

@@ -1,18 +1,15 @@
 -- Laws of the kept log.
 use Rattle.std.proofs.Common.{◌≡◌, ℕ, zero, suc, ◌+◌, ◌<◌, ◌≤◌, List, [], ◌∷◌, ◌++◌, length, get_or, take, drop, ap, refl, sym, ◌∙◌, subst, append_assoc, append-nil, arith}
 use Rattle.std.proofs.Math.Seq.{drop-append_seam}
-use Rattle.std.proofs.lemmas.List.{take_more, length-append, length-drop, take-append-drop}
+use Rattle.std.proofs.lemmas.List.{length-append, length-drop, take-append-drop}
 use Rattle.mr_model.specs.Writes.{Write}
 use Rattle.mr_replay.specs.Places.{UndoRow}
 use Rattle.mr_replay.specs.Rows.{Rows, executed, undo_row_of, undone, executed_all, undo_rows_of, undone_all}
 use Rattle.mr_replay.specs.Holds.{HaveDistinctIds, AreNew}
-use Rattle.mr_replay.proofs.Redoing.{undone-executed, undone_all-push}
+use Rattle.mr_replay.proofs.Redoing.{undone-executed}
 use Rattle.mr_replay.proofs.Holding.{AreNew-rest, Holds-empty, Holds-executed_all, AreNew-distinct}
 use Rattle.mr_replay.proofs.Lists.{distinct_front}
 use Rattle.mr_replica.specs.Log.{KeptLog, errors_in, old_error_at, log_of, pushed, board_at, replaced, without_front}
-
-pub undo_more : (b : Rows) (us : List UndoRow) (k : ℕ) (d : UndoRow) → k < length us → undone_all (undone b (get_or us k d)) (take k us) ≡ undone_all b (take (k + 1) us)
-undo_more b us k d h = sym (ap (undone_all b) (take_more us k d h) ∙ undone_all-push b (take k us) (get_or us k d))
 
 pub executed_all-append : (b : Rows) (vs ws : List Write) → executed_all b (vs ++ ws) ≡ executed_all (executed_all b vs) ws
 executed_all-append b [] ws = refl

@@ -1,5 +1,5 @@
 -- A board made of the rows of booking and errorlog.
-use Rattle.std.specs.Prelude.{◌≡◌, ℕ, ◌-◌, ◌≤◌, List, [], ◌∷◌, IsTrue}
+use Rattle.std.specs.Prelude.{ℕ, ◌-◌, ◌≤◌, List, [], ◌∷◌, IsTrue}
 use Rattle.std.specs.BTreeMap.{insert_entry}
 use Rattle.mr_model.specs.Writes.{Id, is_count}
 use Rattle.mr_model.specs.Tables.{BookingRow, ErrorRow}

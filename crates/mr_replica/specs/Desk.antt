@@ -1,5 +1,5 @@
 -- What a desk is seen as, for which replicas it stands, and what it means that a call is a step of them.
-use Rattle.std.specs.Prelude.{◌≡◌, ℕ, ◌+◌, ◌≤◌, List, [], ◌∷◌, ◌++◌, length, map, Result, Ok, Err, IfOk, IfErr, ◌⊎◌}
+use Rattle.std.specs.Prelude.{◌≡◌, ℕ, ◌≤◌, List, [], length, map, Result, Ok, Err, IfErr, ◌⊎◌}
 use Rattle.std.specs.List.{AllByRecursion}
 use Rattle.mr_model.specs.Texts.{Text, numbers_on}
 use Rattle.mr_model.specs.Writes.{Write}

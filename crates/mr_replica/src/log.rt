@@ -99,7 +99,7 @@ impl Log {
         ensures only { IfErr result (λ e. e ≡ Refusal.OutOfMemory) }
     {
         let mut board = self.board.copy()?;
-        undo_all(&mut board, &self.undo[place..]);
+        board.undo_all(&self.undo[place..]);
         let rows = board.redo_from(&kept[place..])?;
         let mut undo = Vec::new(alloc);
         undo.extend_from_slice(&self.undo[..place])?;
@@ -128,17 +128,6 @@ impl Log {
     {
         drop_first(&mut self.kept, count);
         drop_first(&mut self.undo, count);
-    }
-}
-
-/// Undoes these executions, the last of them first.
-fn undo_all(board: &mut Board, rows: &[UndoRow])
-    ensures { board.new ≡ undone_all board.old rows.now }
-{
-    let mut left = rows.len();
-    while left > 0 {
-        left -= 1;
-        board.undo(rows[left]);
     }
 }
 
