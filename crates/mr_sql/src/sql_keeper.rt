@@ -53,11 +53,10 @@ fn told(failures: &mut u64, error: Error) -> Fault
     ensures memory { error ≡ Error.SqliteFailure ErrorCode.OutOfMemory → result ≡ Fault.OutOfMemory }
     ensures store { error ≢ Error.SqliteFailure ErrorCode.OutOfMemory → failures.old < 18_446_744_073_709_551_615 → result ≡ Fault.Store }
 {
-    if error == Error::SqliteFailure(ErrorCode::OutOfMemory) || *failures == u64::MAX {
+    if error == Error::SqliteFailure(ErrorCode::OutOfMemory) {
         return Fault::OutOfMemory;
     }
-    *failures += 1;
-    Fault::Store
+    Fault::counted(failures)
 }
 
 impl<S: Alter> Keeper for SqlKeeper<S> {

@@ -1,10 +1,10 @@
-ghost use Rattle.std.specs.Prelude.{◌≡◌, ◌⊎◌, ℕ, IfOk, OnOk, OnErr};
+ghost use Rattle.std.specs.Prelude.{◌≡◌, ◌<◌, ◌⊎◌, ℕ, IfOk, OnOk, OnErr};
 ghost use Rattle.std.specs.List.Sorted.{IsPermutation};
 ghost use Rattle.mr_model.specs.Replica.{Replica};
 ghost use Rattle.mr_model.specs.Tables.{Tables, Stands};
 ghost use Rattle.mr_replica.specs.Change.{changed};
 ghost use Rattle.mr_replica.specs.Desk.{StandsFor, IsWithinLimits};
-ghost use Rattle.mr_store.specs.Kept.{failures_after, fault_refusal, IsSettled};
+ghost use Rattle.mr_store.specs.Kept.{failures_after, failures_for, fault_refusal, IsSettled};
 ghost use Rattle.mr_store.specs.Picked.{picked_errors, AreBookings, IsPlaceOf};
 
 use mr_base::{Day, Refusal, RoomName, WriteId};
@@ -28,6 +28,18 @@ impl Fault {
             Fault::OutOfMemory => Refusal::OutOfMemory,
             Fault::Store => Refusal::Store,
         }
+    }
+
+    /// A failure of the store, which is counted. Where the count is full it is told as want of memory.
+    pub fn counted(failures: &mut u64) -> Fault
+        ensures counted { failures.new ≡ failures_for result failures.old }
+        ensures store { failures.old < 18_446_744_073_709_551_615 → result ≡ Fault.Store }
+    {
+        if *failures == u64::MAX {
+            return Fault::OutOfMemory;
+        }
+        *failures += 1;
+        Fault::Store
     }
 }
 

@@ -104,19 +104,8 @@ fn fault_of(refusal: Refusal, failures: &mut u64) -> Fault
 {
     match refusal {
         Refusal::OutOfMemory => Fault::OutOfMemory,
-        _ => counted(failures),
+        _ => Fault::counted(failures),
     }
-}
-
-fn counted(failures: &mut u64) -> Fault
-    ensures counted { failures.new ≡ failures_for result failures.old }
-    ensures store { failures.old < 18_446_744_073_709_551_615 → result ≡ Fault.Store }
-{
-    if *failures == u64::MAX {
-        return Fault::OutOfMemory;
-    }
-    *failures += 1;
-    Fault::Store
 }
 
 impl Keeper for ListKeeper {
