@@ -39,14 +39,14 @@ pub fn run<K: Keeper>(
     Ok(replies)
 }
 
-/// Puts one more reply at the end, for which there is room.
-fn put(replies: &mut Vec<Reply>, reply: Reply)
-    requires { vec_len replies.old + 1 ≤ vec_capacity replies.old }
-    ensures items { replies.new.items ≡ replies.old.items ++ reply ∷ [] }
-    ensures len { vec_len replies.new ≡ vec_len replies.old + 1 }
-    ensures capacity { vec_capacity replies.old ≤ vec_capacity replies.new }
+/// Puts one more at the end, for which there is room.
+pub(crate) fn put<T: Drop>(list: &mut Vec<T>, item: T)
+    requires { vec_len list.old + 1 ≤ vec_capacity list.old }
+    ensures items { list.new.items ≡ list.old.items ++ item ∷ [] }
+    ensures len { vec_len list.new ≡ vec_len list.old + 1 }
+    ensures capacity { vec_capacity list.old ≤ vec_capacity list.new }
 {
-    let _ = replies.push(reply);
+    let _ = list.push(item);
 }
 
 /// The same over lists, where there is no premise: no reply tells that the store failed.

@@ -1,10 +1,11 @@
-ghost use Rattle.std.specs.Prelude.{◌≡◌, ◌≤◌, ◌+◌, ◌++◌, ◌∷◌, [], map, vec_len, vec_capacity, IfOk, IfErr, OnErr};
+ghost use Rattle.std.specs.Prelude.{◌≡◌, map, IfOk, IfErr, OnErr};
 ghost use Rattle.mr_model.specs.World as model;
 ghost use Rattle.mr_model.specs.Honest.{IsWorldRun};
 ghost use Rattle.mr_service.specs.Stepping.{step_of, step_reply_of};
 ghost use Rattle.mr_service.specs.Worlds.{StandsForWorld, TakesWorldStep};
 
 use crate::members::Member;
+use crate::runs::put;
 use crate::steps::{Step, StepReply};
 use crate::world_batches::make;
 use crate::world_steps::{add, ask, deliver};
@@ -89,14 +90,4 @@ impl World {
             ),
         }
     }
-}
-
-/// One more, for which there is room.
-fn put(replies: &mut Vec<StepReply>, reply: StepReply)
-    requires { vec_len replies.old + 1 ≤ vec_capacity replies.old }
-    ensures items { replies.new.items ≡ replies.old.items ++ reply ∷ [] }
-    ensures len { vec_len replies.new ≡ vec_len replies.old + 1 }
-    ensures capacity { vec_capacity replies.old ≤ vec_capacity replies.new }
-{
-    let _ = replies.push(reply);
 }

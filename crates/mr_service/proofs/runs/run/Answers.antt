@@ -17,12 +17,12 @@ loop-command-preserved g c =
     let more : map command_of (take (c.loop-command.command-index + 1) c.args.commands.now) ≡ map command_of (take c.loop-command.command-index c.args.commands.now) ++ command_of c.command-item.result ∷ [] =
     map_more command_of c.args.commands.now c.loop-command.command-index c.command-item.result c.loop-command-test.true
     ∙ ap (λ x. map command_of (take c.loop-command.command-index c.args.commands.now) ++ command_of x ∷ []) (sym c.command-item.is) in
-    let told : map reply_of c.put.new.replies.items ≡ map reply_of c.loop-command.replies.items ++ reply_of c.ask-reply.result ∷ [] =
+    let told : map reply_of c.put.new.list.items ≡ map reply_of c.loop-command.replies.items ++ reply_of c.ask-reply.result ∷ [] =
     ap (λ rs. map reply_of rs) c.put.ensures.items ∙ map_push reply_of c.loop-command.replies.items c.ask-reply.result in
-    let n : vec_len c.put.new.replies ≡ c.loop-command.command-index + 1 = c.put.ensures.len ∙ ap (λ k. k + 1) c.loop-command.invariant.1 in
+    let n : vec_len c.put.new.list ≡ c.loop-command.command-index + 1 = c.put.ensures.len ∙ ap (λ k. k + 1) c.loop-command.invariant.1 in
     let before : length c.args.commands.now ≤ vec_capacity c.loop-command.replies = c.loop-command.invariant.2 in
-    let kept : vec_capacity c.loop-command.replies ≤ vec_capacity c.put.new.replies = c.put.ensures.capacity in
-    let m : length c.args.commands.now ≤ vec_capacity c.put.new.replies = omega arith in (
+    let kept : vec_capacity c.loop-command.replies ≤ vec_capacity c.put.new.list = c.put.ensures.capacity in
+    let m : length c.args.commands.now ≤ vec_capacity c.put.new.list = omega arith in (
       rw (more, told) (runs.under_way_grows
           (g.K.Keeper.is_clean c.args.service.now) (g.K.Keeper.is_clean c.loop-command.service) (g.K.Keeper.is_clean c.ask-reply.new.self)
           (g.K.Keeper.is_open c.args.service.now) (g.K.Keeper.is_open c.loop-command.service) (g.K.Keeper.is_open c.ask-reply.new.self) g.K.Keeper.never_fails

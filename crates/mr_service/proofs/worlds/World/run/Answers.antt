@@ -16,12 +16,12 @@ loop-step-preserved c =
     let more : map step_of (take (c.loop-step.step-index + 1) c.args.steps.now) ≡ map step_of (take c.loop-step.step-index c.args.steps.now) ++ step_of c.step-item.result ∷ [] =
     map_more step_of c.args.steps.now c.loop-step.step-index c.step-item.result c.loop-step-test.true
     ∙ ap (λ x. map step_of (take c.loop-step.step-index c.args.steps.now) ++ step_of x ∷ []) (sym c.step-item.is) in
-    let said : map step_reply_of c.put.new.replies.items ≡ map step_reply_of c.loop-step.replies.items ++ step_reply_of c.step-reply.result ∷ [] =
+    let said : map step_reply_of c.put.new.list.items ≡ map step_reply_of c.loop-step.replies.items ++ step_reply_of c.step-reply.result ∷ [] =
     ap (λ rs. map step_reply_of rs) c.put.ensures.items ∙ map_push step_reply_of c.loop-step.replies.items c.step-reply.result in
-    let n : vec_len c.put.new.replies ≡ c.loop-step.step-index + 1 = c.put.ensures.len ∙ ap (λ k. k + 1) c.loop-step.invariant.1 in
+    let n : vec_len c.put.new.list ≡ c.loop-step.step-index + 1 = c.put.ensures.len ∙ ap (λ k. k + 1) c.loop-step.invariant.1 in
     let before : length c.args.steps.now ≤ vec_capacity c.loop-step.replies = c.loop-step.invariant.2 in
-    let kept : vec_capacity c.loop-step.replies ≤ vec_capacity c.put.new.replies = c.put.ensures.capacity in
-    let m : length c.args.steps.now ≤ vec_capacity c.put.new.replies = omega arith in (
+    let kept : vec_capacity c.loop-step.replies ≤ vec_capacity c.put.new.list = c.put.ensures.capacity in
+    let m : length c.args.steps.now ≤ vec_capacity c.put.new.list = omega arith in (
       λ w stands.
           let (middle, run, there) = c.loop-step.invariant.0 w stands in
           let (end, st, after) = c.step-reply.ensures middle there in
