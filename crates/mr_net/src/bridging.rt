@@ -3,6 +3,7 @@
 ghost use Rattle.mr_net.specs.Printed.{EndsExchange};
 
 use crate::connecting::connect;
+use crate::databases::{close, open};
 use crate::hosts::Host;
 use crate::printing::{exchange_with, say_no_network};
 use crate::ways::{Peer, Round, Way};
@@ -11,7 +12,7 @@ use mr_http::WebFault;
 use mr_peer::{position_ask, position_take, pull_ask, pull_take, push_ask, push_take};
 use mr_say::{NO_MEMORY, REFUSED, say, say_refusal};
 use mr_service::Service;
-use mr_sql::{FileKeeper, SqlKeeper};
+use mr_store::Keeper;
 use mr_web::serve_one;
 use std::alloc::Global;
 use std::io::Write;
@@ -29,24 +30,24 @@ const STRANGERS: u32 = 1_000;
 /// and a head, under 18,000 bytes in all, and loopback takes it at once: by default the end of a connection that is not read takes
 /// 64 KiB or more, on Linux and on macOS.
 #[derive(Drop)]
-struct Neighbour<'a> {
-    rt: &'a HostRuntime,
+struct Neighbour<'c, 's, C: Keeper, S: Keeper> {
+    rt: &'c HostRuntime,
     alloc: Global,
-    client: &'a mut Service<FileKeeper>,
-    server: &'a mut Service<FileKeeper>,
-    listener: &'a TcpListener,
+    client: &'c mut Service<C>,
+    server: &'s mut Service<S>,
+    listener: TcpListener,
     port: u16,
-    host: &'a Host,
+    host: Host,
 }
 
-impl Neighbour<'_> {
+impl<C: Keeper, S: Keeper> Neighbour<'_, '_, C, S> {
     fn connect(&self) -> Result<TcpStream, WebFault> {
         connect(self.rt, THIS_MACHINE, self.port)
     }
 
     /// Serves what this client asked. Where serving fails, what the client then reads tells so.
     fn serve(&mut self, client: &TcpStream) -> Result<(), WebFault> {
-        let Some(stream) = other_end(self.listener, client) else {
+        let Some(stream) = other_end(&self.listener, client) else {
             return Err(WebFault::Read);
         };
         let _ = serve_one(self.alloc, &mut &stream, &mut &stream, self.server);
@@ -99,7 +100,7 @@ fn other_end(listener: &TcpListener, client: &TcpStream) -> Option<TcpStream> {
     None
 }
 
-impl Peer for Neighbour<'_> {
+impl<C: Keeper, S: Keeper> Peer for Neighbour<'_, '_, C, S> {
     // a socket tells nothing of what it gives
     ghost runs = { λ _ _ _ _. Unit {0} };
 
@@ -123,40 +124,38 @@ pub fn bridge<W: Write>(
 ) -> u8
     ensures { EndsExchange (W.contents out.old) (W.contents out.new) result }
 {
-    let client = match SqlKeeper::open_file(rt, client) {
-        Ok(keeper) => keeper,
+    let mut client = match open(rt, alloc, client) {
+        Ok(service) => service,
         Err(refusal) => return say_refusal(alloc, out, &refusal),
     };
-    let mut client = Service::new(alloc, client);
     let status = bridge_to(rt, alloc, &mut client, server, out);
-    client.into_keeper().close();
+    close(client);
     status
 }
 
-fn bridge_to<W: Write>(
+fn bridge_to<C: Keeper, W: Write>(
     rt: &HostRuntime,
     alloc: Global,
-    client: &mut Service<FileKeeper>,
+    client: &mut Service<C>,
     server: &str,
     out: &mut W,
 ) -> u8
     ensures { EndsExchange (W.contents out.old) (W.contents out.new) result }
 {
-    let server = match SqlKeeper::open_file(rt, server) {
-        Ok(keeper) => keeper,
+    let mut server = match open(rt, alloc, server) {
+        Ok(service) => service,
         Err(refusal) => return say_refusal(alloc, out, &refusal),
     };
-    let mut server = Service::new(alloc, server);
     let status = bridge_between(rt, alloc, client, &mut server, out);
-    server.into_keeper().close();
+    close(server);
     status
 }
 
-fn bridge_between<W: Write>(
+fn bridge_between<C: Keeper, S: Keeper, W: Write>(
     rt: &HostRuntime,
     alloc: Global,
-    client: &mut Service<FileKeeper>,
-    server: &mut Service<FileKeeper>,
+    client: &mut Service<C>,
+    server: &mut Service<S>,
     out: &mut W,
 ) -> u8
     ensures { EndsExchange (W.contents out.old) (W.contents out.new) result }
@@ -179,9 +178,9 @@ fn bridge_between<W: Write>(
         alloc,
         client,
         server,
-        listener: &listener,
+        listener,
         port,
-        host: &host,
+        host,
     };
     exchange_with(alloc, &mut peer, out)
 }

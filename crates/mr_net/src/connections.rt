@@ -1,7 +1,7 @@
 //! A connection to a served database: how long it is waited for, and how it ends.
 
 use mr_service::Service;
-use mr_sql::FileKeeper;
+use mr_store::Keeper;
 use mr_web::serve_one;
 use std::alloc::Global;
 use std::io::Read;
@@ -15,9 +15,9 @@ const PATIENCE: u64 = 30;
 const GREATEST_REST: u32 = 512;
 
 /// Serves the next connection, and answers the status of its reply, or None where it failed.
-pub(crate) fn serve_next(
+pub(crate) fn serve_next<K: Keeper>(
     alloc: Global,
-    service: &mut Service<FileKeeper>,
+    service: &mut Service<K>,
     listener: &TcpListener,
 ) -> Option<u16> {
     let (stream, _) = listener.accept().ok()?;

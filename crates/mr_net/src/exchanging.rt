@@ -7,6 +7,7 @@ ghost use Rattle.mr_net.specs.Hosts.{host_name, IsPeer};
 ghost use Rattle.mr_net.specs.Printed.{EndsExchange, TellsBadAddress};
 
 use crate::connecting::connect;
+use crate::databases::{close, open};
 use crate::hosts::Host;
 use crate::printing::exchange_with;
 use crate::ways::{Peer, Round, Way};
@@ -15,7 +16,7 @@ use mr_http::WebFault;
 use mr_peer::{position_ask, position_take, pull, push};
 use mr_say::{BAD_WORDS, NO_MEMORY, REFUSED, say, say_refusal};
 use mr_service::Service;
-use mr_sql::{FileKeeper, SqlKeeper};
+use mr_store::Keeper;
 use mr_words::{AddressFault, peer_address};
 use std::alloc::Global;
 use std::io::Write;
@@ -31,14 +32,14 @@ struct Address<'a> {
 
 /// A peer at an address, which is asked over one connection a request.
 #[derive(Drop)]
-struct Remote<'a> {
+struct Remote<'a, K: Keeper> {
     rt: &'a HostRuntime,
     alloc: Global,
-    service: &'a mut Service<FileKeeper>,
+    service: &'a mut Service<K>,
     address: &'a Address<'a>,
 }
 
-impl Remote<'_> {
+impl<K: Keeper> Remote<'_, K> {
     fn connect(&self) -> Result<TcpStream, WebFault> {
         connect(self.rt, self.address.name, self.address.port)
     }
@@ -87,7 +88,7 @@ impl Remote<'_> {
     }
 }
 
-impl Peer for Remote<'_> {
+impl<K: Keeper> Peer for Remote<'_, K> {
     // a socket tells nothing of what it gives
     ghost runs = { λ _ _ _ _. Unit {0} };
 
@@ -145,18 +146,29 @@ fn exchange_from<W: Write>(
 ) -> u8
     ensures { EndsExchange (W.contents out.old) (W.contents out.new) result }
 {
-    let keeper = match SqlKeeper::open_file(rt, database) {
-        Ok(keeper) => keeper,
+    let mut service = match open(rt, alloc, database) {
+        Ok(service) => service,
         Err(refusal) => return say_refusal(alloc, out, &refusal),
     };
-    let mut service = Service::new(alloc, keeper);
+    let status = exchange_as(rt, alloc, &mut service, address, out);
+    close(service);
+    status
+}
+
+fn exchange_as<K: Keeper, W: Write>(
+    rt: &HostRuntime,
+    alloc: Global,
+    service: &mut Service<K>,
+    address: &Address<'_>,
+    out: &mut W,
+) -> u8
+    ensures { EndsExchange (W.contents out.old) (W.contents out.new) result }
+{
     let mut peer = Remote {
         rt,
         alloc,
-        service: &mut service,
+        service,
         address,
     };
-    let status = exchange_with(alloc, &mut peer, out);
-    service.into_keeper().close();
-    status
+    exchange_with(alloc, &mut peer, out)
 }

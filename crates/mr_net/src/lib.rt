@@ -10,6 +10,7 @@
 mod bridging;
 mod connecting;
 mod connections;
+mod databases;
 mod exchanging;
 mod hosts;
 mod printing;

@@ -8,10 +8,11 @@ ghost use Rattle.mr_say.specs.Told.{no_memory_line};
 ghost use Rattle.mr_net.specs.Printed.{connection_text, serving_line, EndsServing, Stops, TellsConnections};
 
 use crate::connections::serve_next;
+use crate::databases::{close, open};
 use crate::printing::say_no_network;
 use mr_say::{DONE, say, say_made, say_refusal};
 use mr_service::Service;
-use mr_sql::{FileKeeper, SqlKeeper};
+use mr_store::Keeper;
 use std::alloc::{AllocError, Global};
 use std::io::Write;
 use std::net::{Ipv4Addr, TcpListener};
@@ -29,20 +30,19 @@ pub fn serve<W: Write>(
 ) -> u8
     ensures { EndsServing port connections (W.contents out.old) (W.contents out.new) result }
 {
-    let keeper = match SqlKeeper::open_file(rt, database) {
-        Ok(keeper) => keeper,
+    let mut service = match open(rt, alloc, database) {
+        Ok(service) => service,
         Err(refusal) => return say_refusal(alloc, out, &refusal),
     };
-    let mut service = Service::new(alloc, keeper);
     let status = serve_at(rt, alloc, &mut service, port, connections, out);
-    service.into_keeper().close();
+    close(service);
     status
 }
 
-fn serve_at<W: Write>(
+fn serve_at<K: Keeper, W: Write>(
     rt: &HostRuntime,
     alloc: Global,
-    service: &mut Service<FileKeeper>,
+    service: &mut Service<K>,
     port: u16,
     connections: u64,
     out: &mut W,
@@ -75,9 +75,9 @@ fn serving_text(alloc: Global, port: u16) -> Result<String, AllocError>
 }
 
 /// Serves that many connections, and prints a line for each.
-fn serve_all<W: Write>(
+fn serve_all<K: Keeper, W: Write>(
     alloc: Global,
-    service: &mut Service<FileKeeper>,
+    service: &mut Service<K>,
     listener: &TcpListener,
     connections: u64,
     out: &mut W,
