@@ -2,8 +2,6 @@
 
 use mr_base::{Refusal, TimeOfDay, WriteId, read_minute, read_number};
 use std::alloc::Global;
-use std::process::Abort;
-use std::test::Fail;
 
 static NUMBERS: [(&str, u64, u64, Option<u64>); 14] = [
     ("0", 0, 9, Some(0)),
@@ -22,20 +20,16 @@ static NUMBERS: [(&str, u64, u64, Option<u64>); 14] = [
     ("99999999999999999999999999", 0, u64::MAX, None),
 ];
 
-#[test]
-fn numbers_are_read(rt: HostRuntime) {
-    for (text, low, high, want) in &NUMBERS {
-        assert_eq!(rt; read_number(text, *low, *high), *want, "at {text}");
-    }
-}
-
 static NO_NUMBERS: [&str; 26] = [
     "", " ", "00", "01", "007", "+1", "-1", "-0", "+", "-", " 1", "1 ", "1 2", "1_000", "1,000",
     "1.0", "1e3", "0x10", "12a", "a12", "１", "١", "1\n", "1\0", "é", "²",
 ];
 
 #[test]
-fn no_other_text_is_a_number(rt: HostRuntime) {
+fn numbers_are_read(rt: HostRuntime) {
+    for (text, low, high, want) in &NUMBERS {
+        assert_eq!(rt; read_number(text, *low, *high), *want, "at {text}");
+    }
     for text in &NO_NUMBERS {
         assert_eq!(rt; read_number(text, 0, u64::MAX), None, "at {text}");
     }
@@ -47,28 +41,6 @@ static IDS: [(&str, u32, u32); 4] = [
     ("42-123456789", 42, 123_456_789),
     ("99-999999999", 99, 999_999_999),
 ];
-
-// The server and the count of an id.
-fn id_parts(text: &str) -> Result<(u32, u32), Refusal> {
-    let id = WriteId::read(text)?;
-    Ok((id.server.number(), id.n))
-}
-
-// Whether the id that is read of the text is written so.
-fn is_id_shown(alloc: Global, text: &str) -> Result<bool, Fail> {
-    let id = WriteId::read(text)?;
-    let shown = format!(in alloc; "{id}")?;
-    Ok(shown.as_str() == text)
-}
-
-#[test]
-fn ids_are_read_and_written(rt: HostRuntime) -> Result<(), Fail> {
-    for (text, server, n) in &IDS {
-        assert_eq!(rt; id_parts(text), Ok((*server, *n)), "at {text}");
-        assert!(rt; is_id_shown(rt.alloc(), text)?, "at {text}");
-    }
-    Ok(())
-}
 
 static NO_IDS: [&str; 31] = [
     "",
@@ -104,58 +76,25 @@ static NO_IDS: [&str; 31] = [
     "1-18446744073709551617",
 ];
 
+// Whether the text is read as the id of this server and count, and is how the id is written.
+fn is_id(alloc: Global, text: &str, server: u32, n: u32) -> Result<bool, Refusal> {
+    let id = WriteId::read(text)?;
+    let shown = format!(in alloc; "{id}")?;
+    Ok(shown.as_str() == text && id.server.number() == server && id.n == n)
+}
+
 #[test]
-fn no_other_text_is_an_id(rt: HostRuntime) {
+fn ids_are_read_and_written(rt: HostRuntime) {
+    for (text, server, n) in &IDS {
+        assert_eq!(rt; is_id(rt.alloc(), text, *server, *n), Ok(true), "at {text}");
+    }
     for text in &NO_IDS {
-        assert_eq!(rt; id_parts(text), Err(Refusal::NoSuchRequest), "at {text}");
+        assert_eq!(rt;
+            WriteId::read(text),
+            Err(Refusal::NoSuchRequest),
+            "at {text}"
+        );
     }
-}
-
-// The text of an hour and a minute, whether or not a day has them.
-fn text_of(alloc: Global, hour: u32, minute: u32) -> Result<String, Fail> {
-    Ok(format!(in alloc; "{}{}:{}{}", hour / 10, hour % 10, minute / 10, minute % 10)?)
-}
-
-// What is read of that text: the minutes 0 to 59 of the hours 0 to 23, and no others.
-fn minute_of(hour: u32, minute: u32) -> Result<u32, Refusal> {
-    if hour < 24 && minute < 60 {
-        Ok(60 * hour + minute)
-    } else {
-        Err(Refusal::BadTime)
-    }
-}
-
-// Whether the time at this minute of the day is written so.
-fn is_minute_shown(alloc: Global, minute: u32, text: &str) -> Result<bool, Fail> {
-    let time = TimeOfDay::new(minute.min(1440));
-    let shown = format!(in alloc; "{time}")?;
-    Ok(shown.as_str() == text)
-}
-
-fn check_minute(rt: &impl Abort, alloc: Global, hour: u32, minute: u32) -> Result<(), Fail> {
-    let text = text_of(alloc, hour, minute)?;
-    let wanted = minute_of(hour, minute);
-    assert_eq!(rt; read_minute(text.as_str()), wanted, "at {text}");
-    if let Ok(minute) = wanted {
-        assert!(rt; is_minute_shown(alloc, minute, text.as_str())?, "at {text}");
-    }
-    Ok(())
-}
-
-#[test]
-fn each_minute_is_read_and_written(rt: HostRuntime) -> Result<(), Fail> {
-    for hour in 0..100 {
-        for minute in 0..100 {
-            check_minute(&rt, rt.alloc(), hour, minute)?;
-        }
-    }
-    Ok(())
-}
-
-#[test]
-fn the_end_of_the_day_is_written(rt: HostRuntime) -> Result<(), Fail> {
-    assert!(rt; is_minute_shown(rt.alloc(), 1440, "24:00")?);
-    Ok(())
 }
 
 static NO_TIMES: [&str; 25] = [
@@ -164,8 +103,34 @@ static NO_TIMES: [&str; 25] = [
     "00：0", "12:5\0", "12:3\n",
 ];
 
+// What is read of the text of an hour and a minute, and whether that text is how the time is written, the end of the day
+// standing for all that is past it.
+fn minute_of(
+    alloc: Global,
+    hour: u32,
+    minute: u32,
+    time: u32,
+) -> Result<(Result<u32, Refusal>, bool), Refusal> {
+    let text = format!(in alloc; "{}{}:{}{}", hour / 10, hour % 10, minute / 10, minute % 10)?;
+    let time = TimeOfDay::new(time.min(1440));
+    let shown = format!(in alloc; "{time}")?;
+    Ok((read_minute(text.as_str()), shown.as_str() == text.as_str()))
+}
+
 #[test]
-fn no_other_text_is_a_time(rt: HostRuntime) {
+fn times_are_read_and_written(rt: HostRuntime) {
+    for hour in 0..100u32 {
+        for minute in 0..100u32 {
+            let time = 60 * hour + minute;
+            let wanted = if hour < 24 && minute < 60 {
+                (Ok(time), true)
+            } else {
+                (Err(Refusal::BadTime), hour == 24 && minute == 0)
+            };
+            let found = minute_of(rt.alloc(), hour, minute, time);
+            assert_eq!(rt; found, Ok(wanted), "at {hour}:{minute}");
+        }
+    }
     for text in &NO_TIMES {
         assert_eq!(rt; read_minute(text), Err(Refusal::BadTime), "at {text}");
     }

@@ -10,93 +10,57 @@ use std::test::Fail;
 
 const MONDAY: &str = "1995-12-18";
 
+const TUESDAY: &str = "1995-12-19";
+
 fn slot(day: &str, start: u32) -> Result<Slot, Refusal> {
     Slot::new(Day::read(day)?, start)
 }
 
-fn server(number: u32) -> Result<ServerId, Refusal> {
-    ServerId::new(number).ok_or(Refusal::NotAReplica)
-}
-
-fn stamp(server: u32, n: u32, time: u64) -> Option<Stamp> {
-    Stamp::new(WriteId::new(ServerId::new(server)?, n)?, time)
-}
-
-// A write for oak on 1995-12-18 at 14:00, or else at this minute of the day; or its refusal.
-fn write(alloc: Global, stamp: Stamp, length: u32, start: u32) -> Result<Write, Refusal> {
-    let mut slots = Vec::new(alloc);
-    slots.push(slot(MONDAY, start)?)?;
-    let wish = slot(MONDAY, 840)?;
-    let room = RoomName::new(alloc, "oak")?;
-    let title = Title::new(alloc, "Budget Meeting")?;
-    Write::new(
-        stamp,
-        room,
-        title,
-        length,
-        wish,
-        Alternatives::from_vec(slots),
-    )
-}
-
-// The first write of server 1.
-fn first_write(alloc: Global, length: u32, start: u32) -> Result<Write, Refusal> {
-    let stamp = stamp(1, 1, 1).ok_or(Refusal::ClockExhausted)?;
-    write(alloc, stamp, length, start)
-}
-
-static STARTS: [(u32, Result<bool, Refusal>); 7] = [
-    (0, Ok(true)),
-    (1, Ok(true)),
-    (719, Ok(true)),
-    (1439, Ok(true)),
-    (1440, Err(Refusal::BadTime)),
-    (1441, Err(Refusal::BadTime)),
-    (u32::MAX, Err(Refusal::BadTime)),
+static STARTS: [(u32, Option<Refusal>); 7] = [
+    (0, None),
+    (1, None),
+    (719, None),
+    (1439, None),
+    (1440, Some(Refusal::BadTime)),
+    (1441, Some(Refusal::BadTime)),
+    (u32::MAX, Some(Refusal::BadTime)),
 ];
 
-fn is_slot_at(start: u32) -> Result<bool, Refusal> {
-    let day = Day::read(MONDAY)?;
-    let made = Slot::new(day, start)?;
-    Ok(made.start == start && made.day == day)
-}
-
-#[test]
-fn slots_start_on_their_day(rt: HostRuntime) {
-    for (start, want) in &STARTS {
-        assert_eq!(rt; is_slot_at(*start), *want, "at {start}");
-    }
-}
-
-// the start and the length of two meetings of one day, and whether they share a minute
-static MEETINGS: [(u32, u32, u32, u32, bool); 11] = [
-    (810, 60, 870, 30, false),
-    (810, 61, 870, 30, true),
-    (870, 30, 810, 60, false),
-    (870, 30, 810, 61, true),
-    (0, 1440, 1439, 1, true),
-    (600, 60, 600, 60, true),
-    (600, 60, 610, 10, true),
-    (610, 10, 600, 60, true),
-    (600, 0, 590, 60, false),
-    (600, 0, 600, 0, false),
-    (1439, u32::MAX, 0, u32::MAX, true),
+// the start and the length of a meeting on Monday, those of another and its day, and whether they share a minute
+static MEETINGS: [((u32, u32), (u32, u32), &str, bool); 13] = [
+    ((810, 60), (870, 30), MONDAY, false),
+    ((810, 61), (870, 30), MONDAY, true),
+    ((870, 30), (810, 60), MONDAY, false),
+    ((870, 30), (810, 61), MONDAY, true),
+    ((0, 1440), (1439, 1), MONDAY, true),
+    ((600, 60), (600, 60), MONDAY, true),
+    ((600, 60), (610, 10), MONDAY, true),
+    ((610, 10), (600, 60), MONDAY, true),
+    ((600, 0), (590, 60), MONDAY, false),
+    ((600, 0), (600, 0), MONDAY, false),
+    ((1439, u32::MAX), (0, u32::MAX), MONDAY, true),
+    ((600, 60), (600, 60), TUESDAY, false),
+    ((1439, u32::MAX), (0, u32::MAX), TUESDAY, false),
 ];
 
-// The second meeting is on this day.
-fn do_overlap(a: u32, a_length: u32, b: u32, b_length: u32, day: &str) -> Result<bool, Refusal> {
+fn do_overlap(
+    (a, a_length): (u32, u32),
+    (b, b_length): (u32, u32),
+    day: &str,
+) -> Result<bool, Refusal> {
     let first = slot(MONDAY, a)?;
     let second = slot(day, b)?;
     Ok(overlaps(first, second, a_length, b_length))
 }
 
 #[test]
-fn meetings_that_touch_do_not_overlap(rt: HostRuntime) {
-    for (a, m, b, n, want) in &MEETINGS {
-        let found = do_overlap(*a, *m, *b, *n, MONDAY);
-        assert_eq!(rt; found, Ok(*want), "at {a} and {b}");
-        let found = do_overlap(*a, *m, *b, *n, "1995-12-19");
-        assert_eq!(rt; found, Ok(false), "on other days at {a} and {b}");
+fn slots_start_on_their_day_and_overlap_there(rt: HostRuntime) {
+    for (start, want) in &STARTS {
+        assert_eq!(rt; slot(MONDAY, *start).err(), *want, "at {start}");
+    }
+    for (first, second, day, want) in &MEETINGS {
+        let found = do_overlap(*first, *second, day);
+        assert_eq!(rt; found, Ok(*want), "at {first:?} and {second:?}");
     }
 }
 
@@ -114,24 +78,6 @@ static ROOMS: [(&str, Result<bool, Refusal>); 12] = [
     ("é", Err(Refusal::BadRoomName)),
     ("oak\n", Err(Refusal::BadRoomName)),
 ];
-
-fn is_room_of(alloc: Global, text: &str) -> Result<bool, Refusal> {
-    let room = RoomName::new(alloc, text)?;
-    Ok(room.as_str() == text)
-}
-
-fn is_copied_room_of(alloc: Global, text: &str) -> Result<bool, Refusal> {
-    let copied = RoomName::new(alloc, text)?.copy(alloc)?;
-    Ok(copied.as_str() == text)
-}
-
-#[test]
-fn room_names_are_within_limits(rt: HostRuntime) {
-    for (text, want) in &ROOMS {
-        assert_eq!(rt; is_room_of(rt.alloc(), text), *want, "at {text}");
-        assert_eq!(rt; is_copied_room_of(rt.alloc(), text), *want, "at {text}");
-    }
-}
 
 static TITLES: [(&str, Result<bool, Refusal>); 12] = [
     ("x", Ok(true)),
@@ -154,265 +100,212 @@ static TITLES: [(&str, Result<bool, Refusal>); 12] = [
     ),
 ];
 
+// Whether the room of this text, copied and cloned, has the text.
+fn is_room_of(alloc: Global, text: &str) -> Result<bool, Refusal> {
+    let room = RoomName::new(alloc, text)?.copy(alloc)?.clone()?;
+    Ok(room.as_str() == text)
+}
+
+// Whether the title of this text, copied and cloned, has the text.
 fn is_title_of(alloc: Global, text: &str) -> Result<bool, Refusal> {
-    let title = Title::new(alloc, text)?;
+    let title = Title::new(alloc, text)?.copy(alloc)?.clone()?;
     Ok(title.as_str() == text)
 }
 
-fn is_copied_title_of(alloc: Global, text: &str) -> Result<bool, Refusal> {
-    let copied = Title::new(alloc, text)?.copy(alloc)?;
-    Ok(copied.as_str() == text)
-}
-
 #[test]
-fn titles_are_within_limits(rt: HostRuntime) {
+fn room_names_and_titles_are_within_limits(rt: HostRuntime) {
+    for (text, want) in &ROOMS {
+        assert_eq!(rt; is_room_of(rt.alloc(), text), *want, "at {text}");
+    }
     for (text, want) in &TITLES {
         assert_eq!(rt; is_title_of(rt.alloc(), text), *want, "at {text}");
-        assert_eq!(rt; is_copied_title_of(rt.alloc(), text), *want, "at {text}");
     }
 }
 
-// numbers, and those of the values that are made of them
-static SERVERS: [(u32, Option<u32>); 3] = [(0, None), (100, None), (99, Some(99))];
-
-static LINE_COUNTS: [(u32, Option<u32>); 3] = [
-    (0, None),
-    (100_001, None),
-    (100_000, Some(100_000)),
+// the number of a server, a number of lines and that of a commit, a server's count and a time, and whether all are in range
+static LIMITS: [((u32, u32, u64), (u32, u64), Option<bool>); 12] = [
+    ((1, 1, 1), (1, 1), Some(true)),
+    (
+        (99, 100_000, 999_999_999_999),
+        (999_999_999, 999_999_999_999),
+        Some(true),
+    ),
+    ((0, 1, 1), (1, 1), None),
+    ((100, 1, 1), (1, 1), None),
+    ((1, 0, 1), (1, 1), None),
+    ((1, 100_001, 1), (1, 1), None),
+    ((1, 1, 0), (1, 1), None),
+    ((1, 1, 1_000_000_000_000), (1, 1), None),
+    ((1, 1, 1), (0, 1), None),
+    ((1, 1, 1), (1_000_000_000, 1), None),
+    ((1, 1, 1), (1, 0), None),
+    ((1, 1, 1), (1, 1_000_000_000_000), None),
 ];
 
-static COMMITS: [(u64, Option<u64>); 3] = [(0, None), (1_000_000_000_000, None), (1, Some(1))];
-
-fn server_number(number: u32) -> Option<u32> {
-    Some(ServerId::new(number)?.number())
+fn stamp((server, n, time): (u32, u32, u64)) -> Option<Stamp> {
+    Stamp::new(WriteId::new(ServerId::new(server)?, n)?, time)
 }
 
-fn line_count(number: u32) -> Option<u32> {
-    Some(LineCount::new(number)?.number())
-}
-
-fn commit_number(number: u64) -> Option<u64> {
-    Some(CommitNumber::new(number)?.number())
+// Whether what is made of these numbers has them.
+fn have_numbers((server, lines, commit): (u32, u32, u64), (n, time): (u32, u64)) -> Option<bool> {
+    let stamp = stamp((server, n, time))?;
+    let lines_made = LineCount::new(lines)?;
+    let commit_made = CommitNumber::new(commit)?;
+    let id = stamp.id();
+    Some(
+        lines_made.number() == lines
+            && commit_made.number() == commit
+            && id.server.number() == server
+            && id.n == n
+            && stamp.time == time,
+    )
 }
 
 #[test]
 fn numbers_are_within_limits(rt: HostRuntime) {
-    for (number, want) in &SERVERS {
-        assert_eq!(rt; server_number(*number), *want);
-    }
-    for (number, want) in &LINE_COUNTS {
-        assert_eq!(rt; line_count(*number), *want);
-    }
-    for (number, want) in &COMMITS {
-        assert_eq!(rt; commit_number(*number), *want);
+    for (numbers, parts, want) in &LIMITS {
+        let found = have_numbers(*numbers, *parts);
+        assert_eq!(rt; found, *want, "at {numbers:?} and {parts:?}");
     }
 }
 
-// the count and the time of a stamp, its server, and the time of what is made of them
-static STAMPS: [(u32, u64, u32, Option<u64>); 5] = [
-    (0, 1, 1, None),
-    (1_000_000_000, 1, 1, None),
-    (1, 0, 1, None),
-    (1, 1_000_000_000_000, 1, None),
-    (999_999_999, 999_999_999_999, 99, Some(999_999_999_999)),
-];
-
-fn time_of_stamp(server: u32, n: u32, time: u64) -> Option<u64> {
-    Some(stamp(server, n, time)?.time)
-}
-
-#[test]
-fn stamps_are_within_limits(rt: HostRuntime) {
-    for (n, time, server, want) in &STAMPS {
-        assert_eq!(rt; time_of_stamp(*server, *n, *time), *want);
+fn slots(alloc: Global, starts: &[u32]) -> Result<Alternatives, Refusal> {
+    let mut slots = Vec::new(alloc);
+    for start in starts {
+        slots.push(slot(MONDAY, *start)?)?;
     }
+    Ok(Alternatives::from_vec(slots))
 }
 
-fn is_same_as_other(
+// A write for oak on 1995-12-18 at 14:00, or else at one of these minutes of the day; or its refusal.
+fn write(
     alloc: Global,
-    first: &Write,
+    numbers: (u32, u32, u64),
     length: u32,
-    start: u32,
-) -> Result<bool, Refusal> {
-    let other = first_write(alloc, length, start)?;
-    Ok(first.is_same(&other))
-}
-
-// Whether the write of 60 minutes is the same as another.
-fn is_same_as(alloc: Global, length: u32, start: u32) -> Result<bool, Refusal> {
-    let first = first_write(alloc, 60, 540)?;
-    is_same_as_other(alloc, &first, length, start)
-}
-
-fn is_same_as_copy(alloc: Global, first: &Write) -> Result<bool, Refusal> {
-    let copied = first.copy(alloc)?;
-    Ok(first.is_same(&copied))
-}
-
-// Whether a write is the same as its copy.
-fn is_same_as_its_copy(alloc: Global) -> Result<bool, Refusal> {
-    let first = first_write(alloc, 60, 540)?;
-    is_same_as_copy(alloc, &first)
-}
-
-#[test]
-fn writes_are_copied_and_compared(rt: HostRuntime) {
-    let alloc = rt.alloc();
-    assert_eq!(rt; is_same_as_its_copy(alloc), Ok(true));
-    assert_eq!(rt; is_same_as(alloc, 60, 540), Ok(true));
-    assert_eq!(rt; is_same_as(alloc, 59, 540), Ok(false));
-    assert_eq!(rt; is_same_as(alloc, 60, 541), Ok(false));
-}
-
-// The wish is at 14:00, from which 600 minutes end at midnight; then the start of the alternative.
-static LENGTHS: [(u32, u32, Option<Refusal>); 6] = [
-    (0, 540, Some(Refusal::BadLength)),
-    (1441, 540, Some(Refusal::BadLength)),
-    (600, 540, None),
-    (601, 540, Some(Refusal::BadLength)),
-    (60, 1380, None),
-    (60, 1381, Some(Refusal::BadLength)),
-];
-
-fn refusal_of_write(alloc: Global, length: u32, start: u32) -> Option<Refusal> {
-    first_write(alloc, length, start).err()
-}
-
-#[test]
-fn writes_end_on_their_day(rt: HostRuntime) {
-    for (length, start, want) in &LENGTHS {
-        let refusal = refusal_of_write(rt.alloc(), *length, *start);
-        assert_eq!(rt; refusal, *want, "at {length} and {start}");
-    }
-}
-
-// how many alternatives there are, and the length
-static COUNTS: [(usize, u32, Option<Refusal>); 4] = [
-    (0, 60, None),
-    (8, 60, None),
-    (9, 60, Some(Refusal::TooManyAlternatives)),
-    (9, 0, Some(Refusal::BadLength)),
-];
-
-fn many(alloc: Global, count: usize) -> Result<Alternatives, Refusal> {
-    let wish = slot(MONDAY, 840)?;
-    Ok(Alternatives::from_vec(Vec::from_elem(alloc, wish, count)?))
-}
-
-fn request(alloc: Global, length: u32, count: usize) -> Result<Request, Refusal> {
+    others: &[u32],
+) -> Result<Write, Refusal> {
+    let Some(stamp) = stamp(numbers) else {
+        return Err(Refusal::ClockExhausted);
+    };
     let wish = slot(MONDAY, 840)?;
     let room = RoomName::new(alloc, "oak")?;
-    let title = Title::new(alloc, "Audit")?;
-    Request::new(room, title, length, wish, many(alloc, count)?)
+    let title = Title::new(alloc, "Budget Meeting")?;
+    Write::new(stamp, room, title, length, wish, slots(alloc, others)?)
 }
 
-fn refusal_of_request(alloc: Global, length: u32, count: usize) -> Option<Refusal> {
-    request(alloc, length, count).err()
+// a write's server, count and time, its length and its alternatives; whether it is the same as the second write of server
+// 2, at time 2, of 60 minutes, with 09:00 as its alternative; and whether that one stands before it
+static WRITES: [((u32, u32, u64), u32, &[u32], Result<(bool, bool), Refusal>); 17] = [
+    ((2, 2, 2), 60, &[540], Ok((true, false))),
+    ((2, 2, 2), 59, &[540], Ok((false, false))),
+    ((2, 2, 2), 60, &[541], Ok((false, false))),
+    ((2, 2, 2), 60, &[540, 540], Ok((false, false))),
+    ((2, 3, 2), 60, &[540], Ok((false, false))),
+    ((1, 1, 1), 60, &[540], Ok((false, false))),
+    ((3, 1, 1), 60, &[540], Ok((false, false))),
+    ((1, 1, 2), 60, &[540], Ok((false, false))),
+    ((3, 1, 2), 60, &[540], Ok((false, true))),
+    ((1, 3, 3), 60, &[540], Ok((false, true))),
+    ((3, 3, 3), 60, &[540], Ok((false, true))),
+    ((2, 2, 2), 0, &[540], Err(Refusal::BadLength)),
+    ((2, 2, 2), 1441, &[540], Err(Refusal::BadLength)),
+    ((2, 2, 2), 600, &[540], Ok((false, false))),
+    ((2, 2, 2), 601, &[540], Err(Refusal::BadLength)),
+    ((2, 2, 2), 60, &[1380], Ok((false, false))),
+    ((2, 2, 2), 60, &[1381], Err(Refusal::BadLength)),
+];
+
+// What a write and the copy of another are to each other.
+fn compared(
+    alloc: Global,
+    first: &Write,
+    numbers: (u32, u32, u64),
+    length: u32,
+    others: &[u32],
+) -> Result<(bool, bool), Refusal> {
+    let other = write(alloc, numbers, length, others)?.copy(alloc)?;
+    Ok((first.is_same(&other), stamp_before(first, &other)))
 }
 
 #[test]
-fn eight_alternatives_are_enough(rt: HostRuntime) {
-    for (count, length, want) in &COUNTS {
-        let refusal = refusal_of_request(rt.alloc(), *length, *count);
-        assert_eq!(rt; refusal, *want, "with {count}");
+fn writes_are_copied_and_compared(rt: HostRuntime) -> Result<(), Fail> {
+    let first = write(rt.alloc(), (2, 2, 2), 60, &[540])?;
+    for (numbers, length, others, want) in &WRITES {
+        let found = compared(rt.alloc(), &first, *numbers, *length, others);
+        assert_eq!(rt; found, *want, "at {numbers:?} and {length}");
     }
+    Ok(())
 }
 
-static WORDS: [(&str, &str, u32, Option<Refusal>); 4] = [
-    ("oak", "Audit", 60, None),
-    ("Oak", "", 60, Some(Refusal::BadRoomName)),
-    ("oak", "", 60, Some(Refusal::BadTitle)),
-    ("Oak", "", 0, Some(Refusal::BadLength)),
+// the words of a request that wishes 14:00, its length and its alternatives, and its smallest refusal
+static REQUESTS: [((&str, &str), u32, &[u32], Result<bool, Refusal>); 10] = [
+    (("oak", "Audit"), 60, &[], Ok(true)),
+    (("oak", "Audit"), 600, &[540, 600], Ok(true)),
+    (("oak", "Audit"), 60, &[540; 8], Ok(true)),
+    (
+        ("oak", "Audit"),
+        60,
+        &[540; 9],
+        Err(Refusal::TooManyAlternatives),
+    ),
+    (("oak", ""), 60, &[540; 9], Err(Refusal::BadTitle)),
+    (("Oak", ""), 60, &[540; 9], Err(Refusal::BadRoomName)),
+    (("Oak", ""), 0, &[540; 9], Err(Refusal::BadLength)),
+    (("oak", "Audit"), 601, &[], Err(Refusal::BadLength)),
+    (("oak", "Audit"), 1441, &[], Err(Refusal::BadLength)),
+    (("oak", "Audit"), 60, &[1381], Err(Refusal::BadLength)),
 ];
 
-fn request_of_words(
+// Whether the request of these words has them.
+fn is_request_of(
     alloc: Global,
-    room: &str,
-    title: &str,
+    (room, title): (&str, &str),
     length: u32,
-) -> Result<Request, Refusal> {
+    others: &[u32],
+) -> Result<bool, Refusal> {
     let wish = slot(MONDAY, 840)?;
-    Request::of_words(alloc, room, title, length, wish, many(alloc, 0)?)
-}
-
-fn refusal_of_words(alloc: Global, room: &str, title: &str, length: u32) -> Option<Refusal> {
-    request_of_words(alloc, room, title, length).err()
+    let made = Request::of_words(alloc, room, title, length, wish, slots(alloc, others)?)?;
+    Ok(
+        made.room.as_str() == room
+            && made.title.as_str() == title
+            && made.length == length
+            && made.wish == wish
+            && made.alternatives.as_slice().len() == others.len(),
+    )
 }
 
 #[test]
 fn the_smallest_refusal_of_words_is_answered(rt: HostRuntime) {
-    for (room, title, length, want) in &WORDS {
-        let refusal = refusal_of_words(rt.alloc(), room, title, *length);
-        assert_eq!(rt; refusal, *want, "at {room} and {title}");
+    for (words, length, others, want) in &REQUESTS {
+        let found = is_request_of(rt.alloc(), *words, *length, others);
+        assert_eq!(rt; found, *want, "at {words:?} and {length}");
     }
 }
 
-// the server, the count and the time of two writes, and whether the first stands before the second
-static ORDERS: [((u32, u32, u64), (u32, u32, u64), bool); 5] = [
-    ((2, 1, 1), (1, 1, 2), true),
-    ((1, 1, 2), (2, 1, 1), false),
-    ((1, 1, 2), (2, 2, 2), true),
-    ((2, 2, 2), (1, 1, 2), false),
-    ((2, 1, 1), (2, 1, 1), false),
-];
-
-fn stamped(alloc: Global, server: u32, n: u32, time: u64) -> Result<Write, Refusal> {
-    let stamp = stamp(server, n, time).ok_or(Refusal::ClockExhausted)?;
-    write(alloc, stamp, 60, 540)
-}
-
-fn is_before_other(
-    alloc: Global,
-    first: &Write,
-    (server, n, time): (u32, u32, u64),
-) -> Result<bool, Refusal> {
-    let other = stamped(alloc, server, n, time)?;
-    Ok(stamp_before(first, &other))
-}
-
-fn is_before(
-    alloc: Global,
-    (server, n, time): (u32, u32, u64),
-    other: (u32, u32, u64),
-) -> Result<bool, Refusal> {
-    let first = stamped(alloc, server, n, time)?;
-    is_before_other(alloc, &first, other)
-}
-
-#[test]
-fn stamps_are_ordered_by_time_then_server(rt: HostRuntime) {
-    for (first, other, want) in &ORDERS {
-        assert_eq!(rt; is_before(rt.alloc(), *first, *other), Ok(*want));
+fn server(number: u32) -> Result<ServerId, Refusal> {
+    match ServerId::new(number) {
+        Some(server) => Ok(server),
+        None => Err(Refusal::NotAReplica),
     }
 }
 
-// A write, and its commit.
-fn two_items(alloc: Global) -> Result<Vec<Item>, Refusal> {
-    let mut items = Vec::new(alloc);
-    items.push(Item::W(stamped(alloc, 2, 1, 1)?))?;
-    let seq = CommitNumber::new(1).ok_or(Refusal::NoSuchRequest)?;
-    let id = WriteId::new(server(2)?, 1).ok_or(Refusal::NoSuchRequest)?;
-    items.push(Item::C { seq, id })?;
-    Ok(items)
-}
-
-// A batch's servers, its number of items and its ending.
-fn parts_of(batch: &Batch) -> (Option<(ServerId, ServerId)>, usize, Ending) {
-    (batch.header, batch.items.len(), batch.ending)
-}
-
-#[test]
-fn batches_are_made(rt: HostRuntime) -> Result<(), Fail> {
+// Whether a batch of a write and its commit has its servers, its items and its ending.
+fn is_batch_made(alloc: Global) -> Result<bool, Refusal> {
     let (from, primary) = (server(2)?, server(1)?);
-    let batch = Batch::new(from, primary, two_items(rt.alloc())?, Ending::More);
-    assert_eq!(rt; parts_of(&batch), (Some((from, primary)), 2, Ending::More));
-    Ok(())
-}
-
-#[test]
-fn a_batch_without_lines_was_cut(rt: HostRuntime) {
-    let empty = Batch::without_header(Vec::new(rt.alloc()));
-    assert_eq!(rt; parts_of(&empty), (None, 0, Ending::Cut));
+    let Some(seq) = CommitNumber::new(1) else {
+        return Err(Refusal::NoSuchRequest);
+    };
+    let made = write(alloc, (2, 1, 1), 60, &[540])?;
+    let id = made.stamp.id();
+    let mut items = Vec::new(alloc);
+    items.push(Item::W(made))?;
+    items.push(Item::C { seq, id })?;
+    let batch = Batch::new(from, primary, items, Ending::More);
+    Ok(
+        batch.header == Some((from, primary))
+            && batch.items.len() == 2
+            && batch.ending == Ending::More,
+    )
 }
 
 // the commits and the counts of a position, and whether they are one's
@@ -426,22 +319,20 @@ static POSITIONS: [(u64, &[(u32, u32)], bool); 7] = [
     (1_000_000_000_000, &[], false),
 ];
 
-fn counts(alloc: Global, of: &[(u32, u32)]) -> Result<Vec<(ServerId, u32)>, Refusal> {
+fn is_position(alloc: Global, commits: u64, of: &[(u32, u32)]) -> Result<bool, Refusal> {
+    let (own, primary) = (server(2)?, server(1)?);
     let mut counts = Vec::new(alloc);
     for (number, n) in of {
         counts.push((server(*number)?, *n))?;
     }
-    Ok(counts)
-}
-
-fn is_position(alloc: Global, commits: u64, of: &[(u32, u32)]) -> Result<bool, Refusal> {
-    let (own, primary) = (server(2)?, server(1)?);
-    let counts = counts(alloc, of)?;
     Ok(Position::new(own, primary, commits, counts).is_some())
 }
 
 #[test]
-fn positions_are_made(rt: HostRuntime) {
+fn batches_and_positions_are_made(rt: HostRuntime) {
+    assert_eq!(rt; is_batch_made(rt.alloc()), Ok(true));
+    let empty = Batch::without_header(Vec::new(rt.alloc()));
+    assert!(rt; empty.header.is_none() && empty.ending == Ending::Cut);
     for (commits, counts, want) in &POSITIONS {
         assert_eq!(rt; is_position(rt.alloc(), *commits, counts), Ok(*want));
     }

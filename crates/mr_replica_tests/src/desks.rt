@@ -1,14 +1,15 @@
-// Calls of the desks of three servers, and what they answer, as small values. The functions that call a desk have no
-// clause, so that the proof of a test does not carry the state of each call.
+// Calls of the desks of four servers, what each answers, and which rows it puts, as small values. The functions that call a
+// desk have no clause, so that the proof of a test does not carry the state of each call.
 
+use crate::tables::{Rows, tables};
 use mr_base::{
-    Alternatives, Batch, CommitNumber, Day, Ending, Item, LineCount, Position, Refusal, Request,
-    RoomName, ServerId, Slot, Stamp, Write, WriteId,
+    Alternatives, Batch, CommitNumber, Day, Ending, Item, LineCount, Refusal, Request, RoomName,
+    ServerId, Slot, Stamp, Write, WriteId,
 };
-use mr_replica::{BookingRow, Change, Desk, MetaRow};
+use mr_replica::{Change, Desk};
 use std::alloc::Global;
-use std::collections::BTreeMap;
 use std::process::Abort;
+use std::test::Fail;
 
 /// A request for oak on one day: its title, its length, the minute of its wish and that of its alternative.
 #[derive(Clone, Copy)]
@@ -29,348 +30,216 @@ pub(crate) enum Line {
 /// A call of a desk, or a question to it.
 #[derive(Clone, Copy)]
 pub(crate) enum Call {
+    /// These tables are read in the stead of the desk.
+    Read(&'static Rows),
     AddOak,
     Submit(Ask),
-    /// A batch for the replicas of that primary.
+    /// A batch for the replicas of that primary, or one without a header or a line where that is 0.
     Receive(u32, &'static [Line]),
-    ReceiveNothing,
     /// What this desk lacks of that server's, so many lines at most.
-    HandOver(u32, u32),
+    HandOver(usize, u32),
     Commit(u64),
     Truncate(u64),
     Position,
-    StartOf(u32, u32),
 }
 
-/// What a desk answers.
-#[derive(Clone, Copy, PartialEq)]
-pub(crate) enum Told {
-    Added,
-    /// The number of the own server's new write.
-    Accepted(u32),
-    /// How many writes and how many commits were new.
-    Took(u64, u64),
-    Committed(u64),
-    Dropped(u64),
-    /// How many commits there are, and of how many servers writes are known.
-    Knows(u64, usize),
-    /// Where the write's booking begins, or none where it has none.
-    StartsAt(Option<u32>),
-    Refused(Refusal),
-}
+/// The numbers that a call tells, 0 in the place of one that it doesn't: the number of the new write; how many writes and how
+/// many commits were new; how many commits were made; how many are dropped, and how many writes leave the logs; how many commits
+/// there are, and of how many servers writes are known.
+type Told = (u64, u64);
 
-/// A desk, and where the bookings begin that its changes have put.
-#[derive(Drop)]
-struct Replica {
-    desk: Desk,
-    starts: BTreeMap<WriteId, u32>,
-}
+/// The rows that a call puts: the server, the number and the start of the first two bookings, and the server, the time and the
+/// commit number of the first error; 0 where there is none.
+type Put = ((u32, u32, u32), (u32, u32, u32), (u32, u64, u64));
 
-/// The replicas of servers 1, 2 and 3, whose primary is 1.
-#[derive(Drop)]
-struct Replicas {
-    alloc: Global,
-    first: Replica,
-    second: Replica,
-    third: Replica,
-}
+pub(crate) const NONE: (u32, u32, u32) = (0, 0, 0);
+
+pub(crate) const NO_ERROR: (u32, u64, u64) = (0, 0, 0);
+
+pub(crate) const NOTHING: Put = (NONE, NONE, NO_ERROR);
+
+/// A call of a server's desk, what it answers, and which rows it puts.
+pub(crate) type Row = (usize, Call, Result<Told, Refusal>, Put);
 
 pub(crate) fn server(number: u32) -> Result<ServerId, Refusal> {
     ServerId::new(number).ok_or(Refusal::NoSuchRequest)
 }
 
-fn id(number: u32, n: u32) -> Result<WriteId, Refusal> {
-    WriteId::new(server(number)?, n).ok_or(Refusal::NoSuchRequest)
-}
-
-fn slot(start: u32) -> Result<Slot, Refusal> {
-    Slot::new(Day::read("1995-12-18")?, start)
-}
-
-fn alternatives(alloc: Global, other: Option<u32>) -> Result<Alternatives, Refusal> {
-    let mut slots = Vec::new(alloc);
-    if let Some(start) = other {
-        slots.push(slot(start)?)?;
+fn request(alloc: Global, ask: Ask) -> Result<Request, Refusal> {
+    let day = Day::read("1995-12-18")?;
+    let mut others = Vec::new(alloc);
+    if let Some(start) = ask.other {
+        others.push(Slot::new(day, start)?)?;
     }
-    Ok(Alternatives::from_vec(slots))
-}
-
-pub(crate) fn request(alloc: Global, ask: Ask) -> Result<Request, Refusal> {
-    let wish = slot(ask.wish)?;
-    let others = alternatives(alloc, ask.other)?;
+    let (wish, others) = (Slot::new(day, ask.wish)?, Alternatives::from_vec(others));
     Request::of_words(alloc, "oak", ask.title, ask.length, wish, others)
 }
 
-fn stamp(number: u32, n: u32, time: u64) -> Result<Stamp, Refusal> {
-    Stamp::new(id(number, n)?, time).ok_or(Refusal::ClockExhausted)
-}
-
 fn item(alloc: Global, line: Line) -> Result<Item, Refusal> {
+    let (Line::W(number, n, _, _) | Line::C(_, number, n)) = line;
+    let id = WriteId::new(server(number)?, n).ok_or(Refusal::NoSuchRequest)?;
     match line {
-        Line::W(number, n, time, ask) => {
-            let stamp = stamp(number, n, time)?;
+        Line::W(_, _, time, ask) => {
+            let stamp = Stamp::new(id, time).ok_or(Refusal::ClockExhausted)?;
             Ok(Item::W(Write::of_request(stamp, request(alloc, ask)?)))
         }
-        Line::C(seq, number, n) => {
-            let id = id(number, n)?;
+        Line::C(seq, _, _) => {
             let seq = CommitNumber::new(seq).ok_or(Refusal::NoSuchRequest)?;
             Ok(Item::C { seq, id })
         }
     }
 }
 
-fn items(alloc: Global, lines: &[Line]) -> Result<Vec<Item>, Refusal> {
+/// A batch that server 1 made.
+fn batch(alloc: Global, primary: u32, lines: &[Line]) -> Result<Batch, Refusal> {
     let mut items = Vec::new(alloc);
     for line in lines {
         items.push(item(alloc, *line)?)?;
     }
-    Ok(items)
+    match ServerId::new(primary) {
+        Some(primary) => Ok(Batch::new(server(1)?, primary, items, Ending::Complete)),
+        None => Ok(Batch::without_header(Vec::new(alloc))),
+    }
 }
 
-/// A batch that server 1 made.
-pub(crate) fn batch(alloc: Global, primary: u32, lines: &[Line]) -> Result<Batch, Refusal> {
-    let (from, primary) = (server(1)?, server(primary)?);
-    Ok(Batch::new(from, primary, items(alloc, lines)?, Ending::Complete))
+/// The desks of four servers, whose primary is 1, each at the place of its number; at place 0 stands one that no call asks.
+pub(crate) fn opening(alloc: Global) -> Result<Vec<Desk>, Refusal> {
+    let mut desks = Vec::new(alloc);
+    for number in [9, 1, 2, 3, 4] {
+        desks.push(Desk::new(alloc, server(number)?, server(1)?))?;
+    }
+    Ok(desks)
 }
 
-fn nothing(alloc: Global) -> Batch {
-    Batch::without_header(Vec::new(alloc))
+/// The batch that the desk at this place receives by the call, which is empty where it receives none.
+fn brought(alloc: Global, desks: &[Desk], own: usize, call: Call) -> Result<Batch, Refusal> {
+    match call {
+        Call::Receive(primary, lines) => batch(alloc, primary, lines),
+        Call::HandOver(from, most) => match (
+            desks.get(from),
+            desks.get(own),
+            LineCount::new(most),
+        ) {
+            (Some(from), Some(own), Some(most)) => from.batch(&own.position()?, most),
+            _ => Err(Refusal::NotAReplica),
+        },
+        _ => Ok(Batch::without_header(Vec::new(alloc))),
+    }
 }
 
-/// What the desk gives to a replica that knows so many commits and has none of the writes.
-pub(crate) fn handed(
+/// What the desk tells, and what changes in its tables, where the call says that.
+fn called(
     alloc: Global,
-    desk: &Desk,
-    primary: ServerId,
-    commits: u64,
-) -> Result<Batch, Refusal> {
-    let (own, none) = (server(9)?, Vec::new(alloc));
-    let position = Position::new(own, primary, commits, none).ok_or(Refusal::BadPosition)?;
-    let lines = LineCount::new(20).ok_or(Refusal::BadPosition)?;
-    desk.batch(&position, lines)
-}
-
-/// What a desk shows of itself: its numbers, the counts of servers 1, 2 and 3, and how many lines it gives to a replica that
-/// knows the dropped commits alone.
-#[derive(Clone, Copy)]
-struct State {
-    meta: MetaRow,
-    counts: [u32; 3],
-    lines: usize,
-}
-
-/// An empty batch changes nothing, and puts the row of `meta` that is there.
-fn meta_of(alloc: Global, desk: &mut Desk) -> Result<MetaRow, Refusal> {
-    let (_, _, change) = desk.receive(&nothing(alloc))?;
-    Ok(change.meta)
-}
-
-fn count_in(position: &Position, number: u32) -> u32 {
-    for (server, count) in position.counts.as_slice() {
-        if server.number() == number {
-            return *count;
+    desk: &mut Desk,
+    call: Call,
+    batch: &Batch,
+) -> Result<(Told, Option<Change>), Refusal> {
+    match call {
+        Call::Read(rows) => {
+            *desk = Desk::from_tables(alloc, &tables(alloc, rows)?)?;
+            Ok(((0, 0), None))
         }
-    }
-    0
-}
-
-fn counts_of(desk: &Desk) -> Result<[u32; 3], Refusal> {
-    let position = desk.position()?;
-    let counts = [
-        count_in(&position, 1),
-        count_in(&position, 2),
-        count_in(&position, 3),
-    ];
-    Ok(counts)
-}
-
-fn lines_of(alloc: Global, desk: &Desk, meta: MetaRow) -> Result<usize, Refusal> {
-    let batch = handed(alloc, desk, meta.primary, meta.dropped)?;
-    Ok(batch.items.len())
-}
-
-fn state_of(alloc: Global, desk: &mut Desk) -> Result<State, Refusal> {
-    let meta = meta_of(alloc, desk)?;
-    Ok(State {
-        meta,
-        counts: counts_of(desk)?,
-        lines: lines_of(alloc, desk, meta)?,
-    })
-}
-
-fn are_same_numbers(a: MetaRow, b: MetaRow) -> bool {
-    a.commits == b.commits && a.dropped == b.dropped && a.clock == b.clock
-}
-
-fn is_same(a: State, b: State) -> bool {
-    a.lines == b.lines && a.counts == b.counts && are_same_numbers(a.meta, b.meta)
-}
-
-impl Replica {
-    fn new(alloc: Global, own: ServerId, primary: ServerId) -> Replica {
-        Replica {
-            desk: Desk::new(alloc, own, primary),
-            starts: BTreeMap::new(alloc),
+        Call::AddOak => {
+            let change = desk.add_room(&RoomName::new(alloc, "oak")?)?;
+            Ok(((0, 0), Some(change)))
         }
-    }
-
-    fn put(&mut self, row: &BookingRow) -> Result<(), Refusal> {
-        let id = WriteId::new(row.server, row.n).ok_or(Refusal::Store)?;
-        self.starts.insert(id, row.start)?;
-        Ok(())
-    }
-
-    /// Takes away and puts what the change takes away from `booking` and puts there.
-    fn keep(&mut self, change: &Change) -> Result<(), Refusal> {
-        for id in change.unbooked.as_slice() {
-            self.starts.remove(id);
+        Call::Submit(ask) => {
+            let (id, change) = desk.submit(request(alloc, ask)?)?;
+            Ok(((u64::from(id.n), 0), Some(change)))
         }
-        for row in change.booking.as_slice() {
-            self.put(row)?;
+        Call::Receive(_, _) | Call::HandOver(_, _) => {
+            let (writes, commits, change) = desk.receive(batch)?;
+            Ok(((writes, commits), Some(change)))
         }
-        Ok(())
-    }
-
-    fn add_oak(&mut self, alloc: Global) -> Result<Told, Refusal> {
-        let change = self.desk.add_room(&RoomName::new(alloc, "oak")?)?;
-        self.keep(&change)?;
-        Ok(Told::Added)
-    }
-
-    fn submit(&mut self, request: Request) -> Result<Told, Refusal> {
-        let (id, change) = self.desk.submit(request)?;
-        self.keep(&change)?;
-        Ok(Told::Accepted(id.n))
-    }
-
-    fn receive(&mut self, batch: &Batch) -> Result<Told, Refusal> {
-        let (writes, commits, change) = self.desk.receive(batch)?;
-        self.keep(&change)?;
-        Ok(Told::Took(writes, commits))
-    }
-
-    fn commit(&mut self, k: u64) -> Result<Told, Refusal> {
-        let (count, change) = self.desk.commit(k)?;
-        self.keep(&change)?;
-        Ok(Told::Committed(count))
-    }
-
-    fn truncate(&mut self, number: u64) -> Result<Told, Refusal> {
-        let (dropped, change) = self.desk.truncate(number)?;
-        self.keep(&change)?;
-        Ok(Told::Dropped(dropped))
-    }
-
-    fn known(&self) -> Result<Told, Refusal> {
-        let position = self.desk.position()?;
-        Ok(Told::Knows(position.commits, position.counts.len()))
-    }
-
-    fn start_of(&self, id: WriteId) -> Told {
-        Told::StartsAt(self.starts.get(&id).copied())
-    }
-
-    /// What it gives to another that lacks it.
-    fn outgoing(&self, to: &Replica, max_lines: u32) -> Result<Batch, Refusal> {
-        let lines = LineCount::new(max_lines).ok_or(Refusal::BadPosition)?;
-        self.desk.batch(&to.desk.position()?, lines)
-    }
-}
-
-impl Replicas {
-    fn new(alloc: Global) -> Result<Replicas, Refusal> {
-        let (primary, second, third) = (server(1)?, server(2)?, server(3)?);
-        Ok(Replicas {
-            alloc,
-            first: Replica::new(alloc, primary, primary),
-            second: Replica::new(alloc, second, primary),
-            third: Replica::new(alloc, third, primary),
-        })
-    }
-
-    fn of(&self, own: u32) -> &Replica {
-        match own {
-            1 => &self.first,
-            2 => &self.second,
-            _ => &self.third,
+        Call::Commit(k) => {
+            let (count, change) = desk.commit(k)?;
+            Ok(((count, 0), Some(change)))
         }
-    }
-
-    fn of_mut(&mut self, own: u32) -> &mut Replica {
-        match own {
-            1 => &mut self.first,
-            2 => &mut self.second,
-            _ => &mut self.third,
+        Call::Truncate(number) => {
+            let (dropped, change) = desk.truncate(number)?;
+            Ok(((dropped, change.dropped.len() as u64), Some(change)))
         }
-    }
-
-    fn call(&mut self, own: u32, call: Call) -> Result<Told, Refusal> {
-        let alloc = self.alloc;
-        match call {
-            Call::AddOak => self.of_mut(own).add_oak(alloc),
-            Call::Submit(ask) => self.of_mut(own).submit(request(alloc, ask)?),
-            Call::Receive(primary, lines) => {
-                self.of_mut(own).receive(&batch(alloc, primary, lines)?)
-            }
-            Call::ReceiveNothing => self.of_mut(own).receive(&nothing(alloc)),
-            Call::HandOver(from, max_lines) => {
-                let batch = self.of(from).outgoing(self.of(own), max_lines)?;
-                self.of_mut(own).receive(&batch)
-            }
-            Call::Commit(k) => self.of_mut(own).commit(k),
-            Call::Truncate(number) => self.of_mut(own).truncate(number),
-            Call::Position => self.of(own).known(),
-            Call::StartOf(number, n) => Ok(self.of(own).start_of(id(number, n)?)),
-        }
-    }
-
-    /// What the server's desk answers.
-    fn told(&mut self, own: u32, call: Call) -> Told {
-        match self.call(own, call) {
-            Ok(told) => told,
-            Err(refusal) => Told::Refused(refusal),
-        }
-    }
-
-    fn state(&mut self, own: u32) -> Result<State, Refusal> {
-        let alloc = self.alloc;
-        state_of(alloc, &mut self.of_mut(own).desk)
-    }
-
-    /// What the server's desk answers, and whether it shows the same of itself as before.
-    fn told_beside(&mut self, own: u32, call: Call) -> Result<(Told, bool), Refusal> {
-        let before = self.state(own)?;
-        let told = self.told(own, call);
-        let after = self.state(own)?;
-        Ok((told, is_same(before, after)))
-    }
-
-    /// Whether the server's desk answers this and, where that is a refusal, shows the same of itself as before.
-    fn tells(&mut self, own: u32, call: Call, wanted: Told) -> bool {
-        match self.told_beside(own, call) {
-            Ok((told, is_same)) => told == wanted && (is_same || !matches!(told, Told::Refused(_))),
-            Err(_) => false,
+        Call::Position => {
+            let position = desk.position()?;
+            Ok(((position.commits, position.counts.len() as u64), None))
         }
     }
 }
 
-/// How many calls, from the first on, are answered as they are to be.
-fn answered_on(replicas: &mut Replicas, calls: &[(u32, Call, Told)]) -> usize {
-    for (index, (own, call, wanted)) in calls.iter().enumerate() {
-        if !replicas.tells(*own, *call, *wanted) {
-            return index;
-        }
+fn booked_at(change: &Change, index: usize) -> (u32, u32, u32) {
+    match change.booking.get(index) {
+        Some(row) => (row.server.number(), row.n, row.start),
+        None => NONE,
     }
-    calls.len()
 }
 
-fn answered(alloc: Global, calls: &[(u32, Call, Told)]) -> Result<usize, Refusal> {
-    let mut replicas = Replicas::new(alloc)?;
-    Ok(answered_on(&mut replicas, calls))
+fn logged(change: &Change) -> (u32, u64, u64) {
+    match change.errorlog.first() {
+        Some(row) => (row.server.number(), row.time, row.seq),
+        None => NO_ERROR,
+    }
 }
 
-/// The desks of the three replicas, asked one call after the other, answer so.
-pub(crate) fn check_calls(rt: &impl Abort, alloc: Global, calls: &[(u32, Call, Told)]) {
-    let count = answered(alloc, calls).unwrap_or(0);
-    assert!(rt; count == calls.len(), "at {count}");
+/// Whether the change puts these rows, and a write that it books or logs leaves the other table.
+fn puts(change: &Change, put: Put) -> bool {
+    let (books, logs) = (change.booking.len(), change.errorlog.len());
+    (booked_at(change, 0), booked_at(change, 1), logged(change)) == put
+        && (books, logs) == (change.unlogged.len(), change.unbooked.len())
+        && books < 3
+        && logs < 2
+}
+
+/// What the desk at that place answers to the call, and what that changes in its tables.
+pub(crate) fn answer(
+    alloc: Global,
+    desks: &mut Vec<Desk>,
+    own: usize,
+    call: Call,
+) -> Result<(Told, Option<Change>), Refusal> {
+    let batch = brought(alloc, desks.as_slice(), own, call)?;
+    match desks.get_mut(own) {
+        Some(desk) => called(alloc, desk, call, &batch),
+        None => Err(Refusal::NotAReplica),
+    }
+}
+
+/// The desks, asked one call after the other, answer so and put these rows.
+fn check_calls(rt: &impl Abort, alloc: Global, name: &str, rows: &[Row]) -> Result<(), Fail> {
+    let mut desks = opening(alloc)?;
+    for (index, (own, call, wanted, put)) in rows.iter().enumerate() {
+        let is_so = match answer(alloc, &mut desks, *own, *call) {
+            Ok((told, Some(change))) => *wanted == Ok(told) && puts(&change, *put),
+            Ok((told, None)) => *wanted == Ok(told),
+            Err(refusal) => *wanted == Err(refusal),
+        };
+        assert!(rt; is_so, "{name}, at {index}");
+    }
+    Ok(())
+}
+
+/// So it is in each case, which begins with new desks.
+pub(crate) fn check_cases(
+    rt: &impl Abort,
+    alloc: Global,
+    cases: &[(&str, &[Row])],
+) -> Result<(), Fail> {
+    for (name, rows) in cases {
+        check_calls(rt, alloc, name, rows)?;
+    }
+    Ok(())
+}
+
+/// What the last of these calls of a new desk changes.
+pub(crate) fn last_change(
+    alloc: Global,
+    own: usize,
+    calls: &[Call],
+) -> Result<Option<Change>, Refusal> {
+    let mut desks = opening(alloc)?;
+    let mut last = None;
+    for call in calls {
+        let (_, change) = answer(alloc, &mut desks, own, *call)?;
+        last = change;
+    }
+    Ok(last)
 }

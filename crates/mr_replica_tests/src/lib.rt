@@ -5,6 +5,6 @@
 #[cfg(test)]
 mod desks;
 #[cfg(test)]
-mod table_tests;
+mod tables;
 #[cfg(test)]
 mod tests;

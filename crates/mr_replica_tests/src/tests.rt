@@ -1,7 +1,14 @@
-// Worked rows: calls of the desks of servers 1, 2 and 3, whose primary is 1, and their stated answers.
+// Worked rows: calls of the desks of servers 1 to 4, whose primary is 1, their stated answers, and the rows that they put.
 
-use crate::desks::{Ask, Call, Line, Told, check_calls};
+use crate::desks::{
+    Ask, Call, Line, NO_ERROR, NONE, NOTHING, Row, answer, check_cases, last_change, opening,
+};
+use crate::tables::Rows;
 use mr_base::Refusal;
+use mr_replay::Place;
+use mr_replica::{Change, LogRow};
+use std::alloc::Global;
+use std::test::Fail;
 
 const ALPHA: Ask = Ask {
     title: "Alpha",
@@ -66,6 +73,21 @@ const BRIEF: Ask = Ask {
     other: None,
 };
 
+/// The requests of servers 2 and 3 for the same hour.
+const AUDIT_AT_TWO: Ask = Ask {
+    title: "Audit",
+    length: 60,
+    wish: 840,
+    other: None,
+};
+
+const AUDIT_THEN: Ask = Ask {
+    title: "Audit",
+    length: 60,
+    wish: 870,
+    other: None,
+};
+
 /// Alpha of server 1 at 14:00.
 const FRONT: &[Line] = &[Line::W(1, 1, 1, ALPHA)];
 
@@ -99,157 +121,458 @@ const OF_SECOND: &[Line] = &[Line::W(2, 1, 1, EARLY)];
 /// A write with the greatest time.
 const GREATEST: &[Line] = &[Line::W(1, 1, 999_999_999_999, EARLY)];
 
-/// The commit order turns the stamp order round: Beta of server 3, tentative behind Alpha, is committed first.
-#[test]
-fn a_commit_moves_what_stood_before_it(rt: HostRuntime) {
-    let calls = [
-        (2, Call::AddOak, Told::Added),
-        (3, Call::AddOak, Told::Added),
-        (2, Call::Submit(ALPHA_ELSE_LATER), Told::Accepted(1)),
-        (2, Call::StartOf(2, 1), Told::StartsAt(Some(840))),
-        (3, Call::Submit(BETA), Told::Accepted(1)),
-        (1, Call::HandOver(3, 10), Told::Took(1, 0)),
-        (1, Call::Commit(5), Told::Committed(1)),
-        (2, Call::HandOver(1, 10), Told::Took(1, 1)),
-        (2, Call::StartOf(3, 1), Told::StartsAt(Some(810))),
-        (2, Call::StartOf(2, 1), Told::StartsAt(Some(960))),
-    ];
-    check_calls(&rt, rt.alloc(), &calls);
-}
+/// The write of server 2 that came before server 3's, and the commits of server 3's and then of that.
+const EARLIER: &[Line] = &[Line::W(2, 1, 1, AUDIT_AT_TWO)];
+
+const COMMIT_OF_THIRD: &[Line] = &[Line::C(1, 3, 1)];
+
+const COMMIT_OF_EARLIER: &[Line] = &[Line::C(2, 2, 1)];
+
+const OPENING: Rows = Rows {
+    meta: (0, 0, 0),
+    vector: &[],
+    write_log: &[],
+    undo: &[],
+    booking: &[],
+    errorlog: &[],
+};
+
+/// Server 3's write is committed, server 2's is tentative and in the error log, and both are kept.
+const KEPT: Rows = Rows {
+    meta: (1, 0, 2),
+    vector: &[(2, 1, 0), (3, 2, 1)],
+    write_log: &[(2, 1, "1995-12-18 14:00", 0), (3, 2, "1995-12-18 14:30", 1)],
+    undo: &[(2, Place::Logged), (3, Place::Taken(0))],
+    booking: &[3],
+    errorlog: &[(2, 0)],
+};
+
+/// Both are committed, and dropped.
+const DROPPED: Rows = Rows {
+    meta: (2, 2, 2),
+    vector: &[(2, 1, 1), (3, 2, 1)],
+    write_log: &[],
+    undo: &[],
+    booking: &[3],
+    errorlog: &[(2, 2)],
+};
+
+/// So is one of server 1, which is in the error log too.
+const THREE_DROPPED: Rows = Rows {
+    meta: (3, 3, 2),
+    vector: &[(1, 1, 1), (2, 1, 1), (3, 2, 1)],
+    write_log: &[],
+    undo: &[],
+    booking: &[3],
+    errorlog: &[(1, 3), (2, 2)],
+};
+
+static CASES: [(&str, &[Row]); 14] = [
+    // The commit order turns the stamp order round: Beta of server 3, tentative behind Alpha, is committed first.
+    (
+        "a commit moves what stood before it",
+        &[
+            (2, Call::AddOak, Ok((0, 0)), NOTHING),
+            (3, Call::AddOak, Ok((0, 0)), NOTHING),
+            (
+                2,
+                Call::Submit(ALPHA_ELSE_LATER),
+                Ok((1, 0)),
+                ((2, 1, 840), NONE, NO_ERROR),
+            ),
+            (
+                3,
+                Call::Submit(BETA),
+                Ok((1, 0)),
+                ((3, 1, 810), NONE, NO_ERROR),
+            ),
+            (
+                1,
+                Call::HandOver(3, 10),
+                Ok((1, 0)),
+                ((3, 1, 810), NONE, NO_ERROR),
+            ),
+            (
+                1,
+                Call::Commit(5),
+                Ok((1, 0)),
+                ((3, 1, 810), NONE, NO_ERROR),
+            ),
+            (
+                2,
+                Call::HandOver(1, 10),
+                Ok((1, 1)),
+                ((3, 1, 810), (2, 1, 960), NO_ERROR),
+            ),
+        ],
+    ),
+    (
+        "a repeat brings nothing",
+        &[
+            (
+                3,
+                Call::Receive(1, BOTH),
+                Ok((2, 0)),
+                ((1, 1, 840), (2, 1, 900), NO_ERROR),
+            ),
+            (3, Call::Receive(1, BOTH), Ok((0, 0)), NOTHING),
+            (3, Call::Position, Ok((0, 2)), NOTHING),
+        ],
+    ),
+    (
+        "a front comes before the whole",
+        &[
+            (
+                3,
+                Call::Receive(1, FRONT),
+                Ok((1, 0)),
+                ((1, 1, 840), NONE, NO_ERROR),
+            ),
+            (
+                3,
+                Call::Receive(1, BOTH),
+                Ok((1, 0)),
+                ((2, 1, 900), NONE, NO_ERROR),
+            ),
+        ],
+    ),
+    (
+        "a gap is refused and changes nothing",
+        &[
+            (3, Call::Receive(1, SECOND), Err(Refusal::Gap(2)), NOTHING),
+            (3, Call::Position, Ok((0, 0)), NOTHING),
+            (3, Call::Submit(EARLY), Err(Refusal::UnknownRoom), NOTHING),
+        ],
+    ),
+    (
+        "another content is forged until it is dropped",
+        &[
+            (
+                3,
+                Call::Receive(1, FIRST),
+                Ok((1, 0)),
+                ((1, 1, 540), NONE, NO_ERROR),
+            ),
+            (
+                3,
+                Call::Receive(1, FORGED),
+                Err(Refusal::Forged(2)),
+                NOTHING,
+            ),
+            (
+                3,
+                Call::Receive(1, FIRST_COMMIT),
+                Ok((0, 1)),
+                ((1, 1, 540), NONE, NO_ERROR),
+            ),
+            (3, Call::Truncate(1), Ok((1, 1)), NOTHING),
+            (3, Call::Receive(1, FORGED), Ok((0, 0)), NOTHING),
+        ],
+    ),
+    (
+        "a truncation drops a front",
+        &[
+            (1, Call::AddOak, Ok((0, 0)), NOTHING),
+            (
+                1,
+                Call::Submit(AUDIT),
+                Ok((1, 0)),
+                ((1, 1, 810), NONE, NO_ERROR),
+            ),
+            (
+                1,
+                Call::Submit(BRIEF),
+                Ok((2, 0)),
+                ((1, 2, 870), NONE, NO_ERROR),
+            ),
+            (
+                1,
+                Call::Commit(9),
+                Ok((2, 0)),
+                ((1, 1, 810), (1, 2, 870), NO_ERROR),
+            ),
+            (
+                2,
+                Call::HandOver(1, 10),
+                Ok((2, 2)),
+                ((1, 1, 810), (1, 2, 870), NO_ERROR),
+            ),
+            (2, Call::Truncate(2), Ok((2, 2)), NOTHING),
+            (2, Call::Truncate(3), Err(Refusal::BeyondCommitted), NOTHING),
+            (1, Call::Truncate(1), Err(Refusal::PrimaryKeepsAll), NOTHING),
+            (3, Call::HandOver(2, 10), Err(Refusal::Truncated), NOTHING),
+            (
+                3,
+                Call::HandOver(1, 3),
+                Ok((2, 1)),
+                ((1, 1, 810), (1, 2, 870), NO_ERROR),
+            ),
+        ],
+    ),
+    (
+        "after the greatest time nothing is accepted",
+        &[
+            (
+                2,
+                Call::Receive(1, GREATEST),
+                Ok((1, 0)),
+                ((1, 1, 540), NONE, NO_ERROR),
+            ),
+            (
+                2,
+                Call::Submit(LATER),
+                Err(Refusal::ClockExhausted),
+                NOTHING,
+            ),
+        ],
+    ),
+    (
+        "hostile lines are refused",
+        &[
+            (
+                2,
+                Call::Receive(1, OF_SECOND),
+                Err(Refusal::OwnWrite(2)),
+                NOTHING,
+            ),
+            (
+                2,
+                Call::Receive(1, TURNED),
+                Err(Refusal::OutOfOrder(4)),
+                NOTHING,
+            ),
+            (
+                2,
+                Call::Receive(1, SECOND_COMMIT),
+                Err(Refusal::Gap(2)),
+                NOTHING,
+            ),
+            (
+                2,
+                Call::Receive(3, BOTH),
+                Err(Refusal::WrongPrimary),
+                NOTHING,
+            ),
+            // Nothing of those batches is left.
+            (2, Call::Position, Ok((0, 0)), NOTHING),
+            (2, Call::AddOak, Ok((0, 0)), NOTHING),
+            (
+                2,
+                Call::Receive(1, FIRST),
+                Ok((1, 0)),
+                ((1, 1, 540), NONE, NO_ERROR),
+            ),
+            (
+                2,
+                Call::Receive(1, FIRST_COMMIT),
+                Ok((0, 1)),
+                ((1, 1, 540), NONE, NO_ERROR),
+            ),
+            (1, Call::AddOak, Ok((0, 0)), NOTHING),
+            (
+                1,
+                Call::Submit(EARLY),
+                Ok((1, 0)),
+                ((1, 1, 540), NONE, NO_ERROR),
+            ),
+            (
+                1,
+                Call::Receive(1, FIRST_COMMIT),
+                Err(Refusal::PrimaryOnly(2)),
+                NOTHING,
+            ),
+        ],
+    ),
+    (
+        "commands are refused",
+        &[
+            (2, Call::AddOak, Ok((0, 0)), NOTHING),
+            (2, Call::Commit(1), Err(Refusal::NotPrimary), NOTHING),
+            (2, Call::AddOak, Err(Refusal::RoomThere), NOTHING),
+            (2, Call::Receive(0, &[]), Ok((0, 0)), NOTHING),
+        ],
+    ),
+    (
+        "an opening replica is read",
+        &[
+            (3, Call::Read(&OPENING), Ok((0, 0)), NOTHING),
+            (3, Call::Position, Ok((0, 0)), NOTHING),
+        ],
+    ),
+    // The committed write is handed out first, though its key and its time are the later ones.
+    (
+        "the log is in the order of execution",
+        &[
+            (3, Call::Read(&KEPT), Ok((0, 0)), NOTHING),
+            (3, Call::Position, Ok((1, 2)), NOTHING),
+            (
+                4,
+                Call::HandOver(3, 1),
+                Ok((1, 0)),
+                ((3, 1, 870), NONE, NO_ERROR),
+            ),
+            (
+                4,
+                Call::HandOver(3, 1),
+                Ok((0, 1)),
+                ((3, 1, 870), NONE, NO_ERROR),
+            ),
+            (4, Call::HandOver(3, 1), Ok((1, 0)), (NONE, NONE, (2, 1, 0))),
+            (4, Call::HandOver(3, 1), Ok((0, 0)), NOTHING),
+            (
+                3,
+                Call::Submit(EARLY),
+                Ok((2, 0)),
+                ((3, 2, 540), NONE, NO_ERROR),
+            ),
+        ],
+    ),
+    // A write that is logged for good keeps its row when it is dropped.
+    (
+        "an error is committed and dropped",
+        &[
+            (3, Call::Read(&KEPT), Ok((0, 0)), NOTHING),
+            (
+                3,
+                Call::Receive(1, COMMIT_OF_EARLIER),
+                Ok((0, 1)),
+                (NONE, NONE, (2, 1, 2)),
+            ),
+            (3, Call::Truncate(2), Ok((2, 2)), NOTHING),
+        ],
+    ),
+    (
+        "dropped errors are read",
+        &[
+            (3, Call::Read(&DROPPED), Ok((0, 0)), NOTHING),
+            (3, Call::Position, Ok((2, 2)), NOTHING),
+            (4, Call::Read(&KEPT), Ok((0, 0)), NOTHING),
+            (4, Call::HandOver(3, 20), Err(Refusal::Truncated), NOTHING),
+            (4, Call::Read(&DROPPED), Ok((0, 0)), NOTHING),
+            (4, Call::HandOver(3, 20), Ok((0, 0)), NOTHING),
+            (3, Call::Read(&THREE_DROPPED), Ok((0, 0)), NOTHING),
+            (3, Call::Position, Ok((3, 3)), NOTHING),
+        ],
+    ),
+    // The change of these is that of the test below.
+    (
+        "rows are put in the order of execution",
+        &[
+            (
+                3,
+                Call::Receive(1, EARLIER),
+                Ok((1, 0)),
+                ((2, 1, 840), NONE, NO_ERROR),
+            ),
+            (
+                3,
+                Call::Submit(AUDIT_THEN),
+                Ok((1, 0)),
+                (NONE, NONE, (3, 2, 0)),
+            ),
+            (
+                3,
+                Call::Receive(1, COMMIT_OF_THIRD),
+                Ok((0, 1)),
+                ((3, 1, 870), NONE, (2, 1, 0)),
+            ),
+        ],
+    ),
+];
 
 #[test]
-fn a_repeat_brings_nothing(rt: HostRuntime) {
-    let calls = [
-        (3, Call::Receive(1, BOTH), Told::Took(2, 0)),
-        (3, Call::Receive(1, BOTH), Told::Took(0, 0)),
-        (3, Call::Position, Told::Knows(0, 2)),
-        (3, Call::StartOf(2, 1), Told::StartsAt(Some(900))),
-    ];
-    check_calls(&rt, rt.alloc(), &calls);
+fn calls_are_answered(rt: HostRuntime) -> Result<(), Fail> {
+    check_cases(&rt, rt.alloc(), &CASES)
 }
 
-#[test]
-fn a_front_comes_before_the_whole(rt: HostRuntime) {
-    let calls = [
-        (3, Call::Receive(1, FRONT), Told::Took(1, 0)),
-        (3, Call::Receive(1, BOTH), Told::Took(1, 0)),
-        (3, Call::StartOf(2, 1), Told::StartsAt(Some(900))),
-    ];
-    check_calls(&rt, rt.alloc(), &calls);
-}
+/// Tables that no replica has: rows that are broken, and rows that contradict each other.
+static BROKEN: [Rows; 9] = [
+    Rows {
+        write_log: &[(2, 1, "1995-12-18", 0), (3, 2, "1995-12-18 14:30", 1)],
+        ..KEPT
+    },
+    Rows {
+        undo: &[(2, Place::Logged)],
+        ..KEPT
+    },
+    Rows {
+        undo: &[(2, Place::Logged), (4, Place::Taken(0))],
+        ..KEPT
+    },
+    Rows {
+        meta: (1_000_000_000_000, 0, 0),
+        ..OPENING
+    },
+    Rows {
+        vector: &[(2, 1, 0), (3, 2, 1)],
+        ..DROPPED
+    },
+    Rows {
+        meta: (2, 3, 2),
+        ..DROPPED
+    },
+    Rows {
+        undo: &[(2, Place::Taken(0)), (3, Place::Taken(0))],
+        ..KEPT
+    },
+    Rows {
+        undo: &[(2, Place::Logged), (3, Place::Logged)],
+        ..KEPT
+    },
+    // The dropped error of server 2 has the commit number 2, so that another one has not.
+    Rows {
+        errorlog: &[(1, 2), (2, 2)],
+        ..THREE_DROPPED
+    },
+];
 
 #[test]
-fn a_gap_is_refused_and_changes_nothing(rt: HostRuntime) {
-    let calls = [
-        (3, Call::Receive(1, SECOND), Told::Refused(Refusal::Gap(2))),
-        (3, Call::Position, Told::Knows(0, 0)),
-        (3, Call::Submit(EARLY), Told::Refused(Refusal::UnknownRoom)),
-    ];
-    check_calls(&rt, rt.alloc(), &calls);
+fn broken_rows_are_not_believed(rt: HostRuntime) -> Result<(), Fail> {
+    let mut desks = opening(rt.alloc())?;
+    for (index, rows) in BROKEN.iter().enumerate() {
+        let told = answer(rt.alloc(), &mut desks, 3, Call::Read(rows));
+        assert!(rt; matches!(told, Err(Refusal::Store)), "at {index}");
+    }
+    Ok(())
 }
 
-#[test]
-fn another_content_is_forged_until_it_is_dropped(rt: HostRuntime) {
-    let calls = [
-        (3, Call::Receive(1, FIRST), Told::Took(1, 0)),
-        (
-            3,
-            Call::Receive(1, FORGED),
-            Told::Refused(Refusal::Forged(2)),
-        ),
-        (3, Call::Receive(1, FIRST_COMMIT), Told::Took(0, 1)),
-        (3, Call::Truncate(1), Told::Dropped(1)),
-        (3, Call::Receive(1, FORGED), Told::Took(0, 0)),
-        (3, Call::StartOf(1, 1), Told::StartsAt(Some(540))),
-    ];
-    check_calls(&rt, rt.alloc(), &calls);
+static CALLS: [Call; 3] = [
+    Call::Receive(1, EARLIER),
+    Call::Submit(AUDIT_THEN),
+    Call::Receive(1, COMMIT_OF_THIRD),
+];
+
+fn is_log_row(row: &LogRow, time: u64, choices: &str, seq: u64) -> bool {
+    row.time == time && row.choices.as_str() == choices && row.seq == seq
 }
 
-#[test]
-fn a_truncation_drops_a_front(rt: HostRuntime) {
-    let calls = [
-        (1, Call::AddOak, Told::Added),
-        (1, Call::Submit(AUDIT), Told::Accepted(1)),
-        (1, Call::Submit(BRIEF), Told::Accepted(2)),
-        (1, Call::Commit(9), Told::Committed(2)),
-        (2, Call::HandOver(1, 10), Told::Took(2, 2)),
-        (2, Call::Truncate(2), Told::Dropped(2)),
-        (
-            2,
-            Call::Truncate(3),
-            Told::Refused(Refusal::BeyondCommitted),
-        ),
-        (
-            1,
-            Call::Truncate(1),
-            Told::Refused(Refusal::PrimaryKeepsAll),
-        ),
-        (3, Call::HandOver(2, 10), Told::Refused(Refusal::Truncated)),
-        (3, Call::HandOver(1, 3), Told::Took(2, 1)),
-        (2, Call::StartOf(1, 2), Told::StartsAt(Some(870))),
-        (3, Call::StartOf(1, 2), Told::StartsAt(Some(870))),
-    ];
-    check_calls(&rt, rt.alloc(), &calls);
+fn have_log_rows(change: &Change) -> bool {
+    match change.write_log.as_slice() {
+        [first, second] => {
+            is_log_row(first, 2, "1995-12-18 14:30", 1)
+                && is_log_row(second, 1, "1995-12-18 14:00", 0)
+        }
+        _ => false,
+    }
 }
 
-#[test]
-fn after_the_greatest_time_nothing_is_accepted(rt: HostRuntime) {
-    let calls = [
-        (2, Call::Receive(1, GREATEST), Told::Took(1, 0)),
-        (
-            2,
-            Call::Submit(LATER),
-            Told::Refused(Refusal::ClockExhausted),
-        ),
-    ];
-    check_calls(&rt, rt.alloc(), &calls);
+/// The places of both writes that a change puts.
+fn places_of(change: &Change) -> Option<[Place; 2]> {
+    match change.undo.as_slice() {
+        [first, second] => Some([first.place, second.place]),
+        _ => None,
+    }
 }
 
-#[test]
-fn hostile_lines_are_refused(rt: HostRuntime) {
-    let calls = [
-        (
-            2,
-            Call::Receive(1, OF_SECOND),
-            Told::Refused(Refusal::OwnWrite(2)),
-        ),
-        (
-            2,
-            Call::Receive(1, TURNED),
-            Told::Refused(Refusal::OutOfOrder(4)),
-        ),
-        (
-            2,
-            Call::Receive(1, SECOND_COMMIT),
-            Told::Refused(Refusal::Gap(2)),
-        ),
-        (
-            2,
-            Call::Receive(3, BOTH),
-            Told::Refused(Refusal::WrongPrimary),
-        ),
-        // Nothing of those batches is left.
-        (2, Call::AddOak, Told::Added),
-        (2, Call::Receive(1, FIRST), Told::Took(1, 0)),
-        (2, Call::Receive(1, FIRST_COMMIT), Told::Took(0, 1)),
-        (1, Call::AddOak, Told::Added),
-        (1, Call::Submit(EARLY), Told::Accepted(1)),
-        (
-            1,
-            Call::Receive(1, FIRST_COMMIT),
-            Told::Refused(Refusal::PrimaryOnly(2)),
-        ),
-    ];
-    check_calls(&rt, rt.alloc(), &calls);
+/// The places that the last call puts, and whether it puts the rows of the log beside them.
+fn put_at_last(alloc: Global) -> Result<(Option<[Place; 2]>, bool), Refusal> {
+    let change = last_change(alloc, 3, &CALLS)?.ok_or(Refusal::Store)?;
+    Ok((places_of(&change), have_log_rows(&change)))
 }
 
+/// The committed write is put first, though its time is the later one.
 #[test]
-fn commands_are_refused(rt: HostRuntime) {
-    let calls = [
-        (2, Call::AddOak, Told::Added),
-        (2, Call::Commit(1), Told::Refused(Refusal::NotPrimary)),
-        (2, Call::AddOak, Told::Refused(Refusal::RoomThere)),
-        (2, Call::ReceiveNothing, Told::Took(0, 0)),
-    ];
-    check_calls(&rt, rt.alloc(), &calls);
+fn rows_are_put_in_the_order_of_execution(rt: HostRuntime) {
+    let places = Some([Place::Taken(0), Place::Logged]);
+    assert!(rt; put_at_last(rt.alloc()) == Ok((places, true)));
 }

@@ -1,10 +1,18 @@
-//! Tests of `mr`: command lines and scripts, as the program is given them. It stands above `mr`, and nothing stands on it. What is
-//! proved of `command` and `rehearse` is said by their own contracts; here they are run.
+//! Tests of the crates under the program: command lines and scripts as it is given them, lines to writers that fail, and tables
+//! in memory. It stands above `mr`, and nothing stands on it. What is proved is said by the contracts; here they are run.
 #![tactic(auto)]
 
+#[cfg(test)]
+mod change;
 #[cfg(test)]
 mod fakes;
 #[cfg(test)]
 mod line_tests;
 #[cfg(test)]
+mod memory_tests;
+#[cfg(test)]
+mod reads;
+#[cfg(test)]
 mod run_tests;
+#[cfg(test)]
+mod say_tests;

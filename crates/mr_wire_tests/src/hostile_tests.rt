@@ -4,45 +4,58 @@
 use mr_base::Refusal;
 use mr_wire::{read_batch, read_position};
 use std::alloc::Global;
-use std::process::Abort;
 
 const SIXTY: &str = "123456789012345678901234567890123456789012345678901234567890";
 
 const PAIRS: &str =
     " 1995-12-18 09:00 1995-12-18 10:00 1995-12-18 11:00 1995-12-18 12:00 1995-12-18 13:00";
 
-// The first text, the second this many times, and a LF.
-fn repeated(alloc: Global, first: &str, more: &str, times: usize) -> Result<Vec<u8>, Refusal> {
+// The first text, more bytes this many times, and the last text.
+fn joined(
+    alloc: Global,
+    first: &str,
+    more: &[u8],
+    times: usize,
+    last: &str,
+) -> Result<Vec<u8>, Refusal> {
     let mut bytes = Vec::new(alloc);
     bytes.extend_from_slice(first.as_bytes())?;
     for _ in 0..times {
-        bytes.extend_from_slice(more.as_bytes())?;
+        bytes.extend_from_slice(more)?;
     }
-    bytes.push(b'\n')?;
+    bytes.extend_from_slice(last.as_bytes())?;
     Ok(bytes)
 }
 
 // How many items these bytes are.
-fn items_in(alloc: Global, bytes: &[u8]) -> Result<usize, Refusal> {
-    let batch = read_batch(alloc, bytes)?;
+fn items_in(
+    alloc: Global,
+    first: &str,
+    more: &[u8],
+    times: usize,
+    last: &str,
+) -> Result<usize, Refusal> {
+    let bytes = joined(alloc, first, more, times, last)?;
+    let batch = read_batch(alloc, bytes.as_slice())?;
     Ok(batch.items.len())
 }
 
-// How many items the lines are after these bytes.
-fn items_after(alloc: Global, first: &str, lines: &str, times: usize) -> Result<usize, Refusal> {
-    let bytes = repeated(alloc, first, lines, times)?;
-    items_in(alloc, bytes.as_slice())
+// How many commits are told by the position that these bytes are.
+fn commits_in(
+    alloc: Global,
+    first: &str,
+    more: &[u8],
+    times: usize,
+    last: &str,
+) -> Result<u64, Refusal> {
+    let bytes = joined(alloc, first, more, times, last)?;
+    let position = read_position(alloc, bytes.as_slice())?;
+    Ok(position.commits)
 }
 
-// Under the header `mr1 1 1`, each of these is refused at its first line.
-fn check_refused(rt: &impl Abort, alloc: Global, texts: &[&str]) {
-    for lines in texts {
-        let found = items_after(alloc, "mr1 1 1\n", lines, 1);
-        assert_eq!(rt; found, Err(Refusal::BadLine(2)), "at {lines}");
-    }
-}
-
-static NO_KINDS: [&str; 14] = [
+// lines of which each is refused under a header: lines of no kind, bad stamps, bad titles and counts, bad rooms, lengths
+// and slots, and bad commits
+static BAD_LINES: [&str; 59] = [
     "",
     " ",
     "Z",
@@ -57,14 +70,6 @@ static NO_KINDS: [&str; 14] = [
     "W  1 1 1 oak 30 1995-12-18 09:00 0 Alpha",
     "w 1 1 1 oak 30 1995-12-18 09:00 0 Alpha",
     "c 1 1 1",
-];
-
-#[test]
-fn lines_of_no_kind_are_told(rt: HostRuntime) {
-    check_refused(&rt, rt.alloc(), &NO_KINDS);
-}
-
-static BAD_STAMPS: [&str; 10] = [
     "W 1 01 1 oak 30 1995-12-18 09:00 0 Alpha",
     "W 1 1000000000 1 oak 30 1995-12-18 09:00 0 Alpha",
     "W 1 0 1 oak 30 1995-12-18 09:00 0 Alpha",
@@ -75,14 +80,6 @@ static BAD_STAMPS: [&str; 10] = [
     "W 1 1 1000000000000 oak 30 1995-12-18 09:00 0 Alpha",
     "W 1 1 1 oak 30 1995-12-18 09:00 0 ",
     "W 1 1 1 oak 30 1995-12-18 09:00 0",
-];
-
-#[test]
-fn bad_stamps_are_told(rt: HostRuntime) {
-    check_refused(&rt, rt.alloc(), &BAD_STAMPS);
-}
-
-static BAD_TITLES_AND_COUNTS: [&str; 12] = [
     "W 1 1 1 oak 30 1995-12-18 09:00 0 Alpha ",
     "W 1 1 1 oak 30 1995-12-18 09:00 0  Alpha",
     "W 1 1 1 oak 30 1995-12-18 09:00 0 Al\tpha",
@@ -95,14 +92,6 @@ static BAD_TITLES_AND_COUNTS: [&str; 12] = [
     "W 1 1 1  30 1995-12-18 09:00 0 Alpha",
     "W 1 1 1 Oak 30 1995-12-18 09:00 0 Alpha",
     "W 1 1 1 oak 30 1995-12-18 09:00 0 1234567890123456789012345678901234567890123456789012345678901",
-];
-
-#[test]
-fn bad_titles_and_counts_are_told(rt: HostRuntime) {
-    check_refused(&rt, rt.alloc(), &BAD_TITLES_AND_COUNTS);
-}
-
-static BAD_ROOMS_LENGTHS_AND_SLOTS: [&str; 11] = [
     "W 1 1 1 abcdefghijklmnopq 30 1995-12-18 09:00 0 Alpha",
     "W 1 1 1 oak 0 1995-12-18 09:00 0 Alpha",
     "W 1 1 1 oak 030 1995-12-18 09:00 0 Alpha",
@@ -114,14 +103,6 @@ static BAD_ROOMS_LENGTHS_AND_SLOTS: [&str; 11] = [
     "W 1 1 1 oak 30 1995-12-18 24:00 0 Late",
     "W 1 1 1 oak 30 1995-12-18 9:00 0 Alpha",
     "W 1 1 1 oak 30  1995-12-18 09:00 0 Alpha",
-];
-
-#[test]
-fn bad_rooms_lengths_and_slots_are_told(rt: HostRuntime) {
-    check_refused(&rt, rt.alloc(), &BAD_ROOMS_LENGTHS_AND_SLOTS);
-}
-
-static BAD_COMMITS: [&str; 12] = [
     "C ",
     "C 0 1 1",
     "C 1000000000000 1 1",
@@ -136,27 +117,42 @@ static BAD_COMMITS: [&str; 12] = [
     "C 1 1",
 ];
 
-#[test]
-fn bad_commits_are_told(rt: HostRuntime) {
-    check_refused(&rt, rt.alloc(), &BAD_COMMITS);
-}
-
-// lines under the header, and the first that is bad
-static LATER: [(&str, u64); 5] = [
-    ("E\nE", 3),
-    ("M\nE", 3),
-    ("E\n", 3),
-    ("C 1 1 1\nE\nC 2 1 2", 4),
-    ("C 1 1 1\nC 2 1 2\nZ\nZ", 4),
+// lines under the header, and how many items they are, or their refusal
+static LINES: [(&str, Result<usize, Refusal>); 15] = [
+    ("E\nE", Err(Refusal::BadLine(3))),
+    ("M\nE", Err(Refusal::BadLine(3))),
+    ("E\n", Err(Refusal::BadLine(3))),
+    ("C 1 1 1\nE\nC 2 1 2", Err(Refusal::BadLine(4))),
+    ("C 1 1 1\nC 2 1 2\nZ\nZ", Err(Refusal::BadLine(4))),
+    ("W 2 1 1 oak 30 1995-12-18 09:00 0 Own", Ok(1)),
+    (
+        "W 1 1 1 oak 30 1995-12-18 09:00 0 Alpha\nW 1 2 2 oak 30 1995-12-18 10:00 0 Beta\nC 1 1 2",
+        Ok(3),
+    ),
+    ("C 2 1 1", Ok(1)),
+    (
+        "W 1 1 1 oak 30 1995-12-18 09:00 0 1995-12-18 10:00 x\nE",
+        Ok(1),
+    ),
+    ("W 1 999999999 1 oak 30 1995-12-18 09:00 0 Far", Ok(1)),
+    ("C 999999999999 1 1", Ok(1)),
+    (
+        "W 1 1 999999999999 oak 30 1995-12-18 09:00 0 Last\nW 1 2 999999999999 oak 30 1995-12-18 09:00 0 More",
+        Ok(2),
+    ),
+    (
+        "W 1 1 1 oak 30 1995-12-18 09:00 0 Alpha\nW 1 1 1 oak 30 1995-12-18 09:00 0 Other",
+        Ok(2),
+    ),
+    (
+        "W 1 1 1 oak 30 1995-12-18 09:00 0 Alpha\nC 1 1 1\nC 1 1 1\nE",
+        Ok(3),
+    ),
+    (
+        "W 1 1 1 oak 1440 2096-02-29 00:00 0 123456789012345678901234567890123456789012345678901234567890",
+        Ok(1),
+    ),
 ];
-
-#[test]
-fn later_bad_lines_are_told(rt: HostRuntime) {
-    for (lines, number) in &LATER {
-        let found = items_after(rt.alloc(), "mr1 1 1\n", lines, 1);
-        assert_eq!(rt; found, Err(Refusal::BadLine(*number)), "at {lines}");
-    }
-}
 
 static BAD_HEADERS: [&str; 17] = [
     "mr1 100 1",
@@ -179,65 +175,83 @@ static BAD_HEADERS: [&str; 17] = [
 ];
 
 #[test]
-fn bad_headers_are_told(rt: HostRuntime) {
+fn the_first_bad_line_is_told(rt: HostRuntime) {
+    for line in &BAD_LINES {
+        let found = items_in(rt.alloc(), "mr1 1 1\n", line.as_bytes(), 1, "\n");
+        assert_eq!(rt; found, Err(Refusal::BadLine(2)), "at {line}");
+    }
+    for (lines, want) in &LINES {
+        let found = items_in(rt.alloc(), "mr1 1 1\n", lines.as_bytes(), 1, "\n");
+        assert_eq!(rt; found, *want, "at {lines}");
+    }
     for line in &BAD_HEADERS {
-        let found = items_after(rt.alloc(), line, "\nE", 1);
+        let found = items_in(rt.alloc(), "", line.as_bytes(), 1, "\nE\n");
         assert_eq!(rt; found, Err(Refusal::BadLine(1)), "at {line}");
     }
 }
 
-// lines under the header, and how many items they are
-static JUDGED: [(&str, usize); 10] = [
-    ("W 2 1 1 oak 30 1995-12-18 09:00 0 Own", 1),
+// a text, what follows it many times and what stands at the end, and how many items these are, or their refusal; reading
+// takes time in proportion to the bytes
+static LARGE: [((&str, &str), usize, &str, Result<usize, Refusal>); 9] = [
     (
-        "W 1 1 1 oak 30 1995-12-18 09:00 0 Alpha\nW 1 2 2 oak 30 1995-12-18 10:00 0 Beta\nC 1 1 2",
-        3,
-    ),
-    ("C 2 1 1", 1),
-    ("W 1 1 1 oak 30 1995-12-18 09:00 0 1995-12-18 10:00 x\nE", 1),
-    ("W 1 999999999 1 oak 30 1995-12-18 09:00 0 Far", 1),
-    ("C 999999999999 1 1", 1),
-    (
-        "W 1 1 999999999999 oak 30 1995-12-18 09:00 0 Last\nW 1 2 999999999999 oak 30 1995-12-18 09:00 0 More",
-        2,
+        ("mr1 1 1\nW ", SIXTY),
+        50_000,
+        "\n",
+        Err(Refusal::BadLine(2)),
     ),
     (
-        "W 1 1 1 oak 30 1995-12-18 09:00 0 Alpha\nW 1 1 1 oak 30 1995-12-18 09:00 0 Other",
-        2,
+        ("mr1 1 1\nW 1 1 1 ", SIXTY),
+        50_000,
+        "\n",
+        Err(Refusal::BadLine(2)),
     ),
     (
-        "W 1 1 1 oak 30 1995-12-18 09:00 0 Alpha\nC 1 1 1\nC 1 1 1\nE",
-        3,
+        ("mr1 1 1\nW 1 1 1 oak 30 1995-12-18 09:00 0 ", SIXTY),
+        50_000,
+        "\n",
+        Err(Refusal::BadLine(2)),
     ),
     (
-        "W 1 1 1 oak 1440 2096-02-29 00:00 0 123456789012345678901234567890123456789012345678901234567890",
-        1,
+        ("mr1 1 1\nW 1 1 1 oak 30 1995-12-18 09:00 8", PAIRS),
+        50_000,
+        "\n",
+        Err(Refusal::BadLine(2)),
     ),
+    (
+        ("mr1 1 1\nW 1 1 1 oak 30 1995-12-18 09:00 4000000000", PAIRS),
+        50_000,
+        "\n",
+        Err(Refusal::BadLine(2)),
+    ),
+    (("mr1 1 1\n", PAIRS), 50_000, "\n", Err(Refusal::BadLine(2))),
+    (
+        ("mr1 1 1\n\n", PAIRS),
+        50_000,
+        "\n",
+        Err(Refusal::BadLine(2)),
+    ),
+    (("mr1 1 1\n", PAIRS), 50_000, "", Ok(0)),
+    (("mr1 1 1", "\nC 1 1 1"), 1_000_000, "\n", Ok(1_000_000)),
 ];
 
 #[test]
-fn lines_that_replicas_judge_are_read(rt: HostRuntime) {
-    for (lines, items) in &JUDGED {
-        let found = items_after(rt.alloc(), "mr1 1 1\n", lines, 1);
-        assert_eq!(rt; found, Ok(*items), "at {lines}");
+fn large_batches_and_what_is_no_text_are_read(rt: HostRuntime) {
+    for ((first, more), times, last, want) in &LARGE {
+        let found = items_in(rt.alloc(), first, more.as_bytes(), *times, last);
+        assert_eq!(rt; found, *want, "at {first}");
     }
-}
-
-// How many commits are told by the position that these bytes are.
-fn commits_in(alloc: Global, bytes: &[u8]) -> Result<u64, Refusal> {
-    let position = read_position(alloc, bytes)?;
-    Ok(position.commits)
-}
-
-#[test]
-fn what_is_no_text_is_refused(rt: HostRuntime) {
-    let alloc = rt.alloc();
-    let line = b"mr1 1 1\nW 1 1 1 oak 30 1995-12-18 09:00 0 Al\xffha\n";
-    assert_eq!(rt; items_in(alloc, line), Err(Refusal::BadLine(2)));
-    assert_eq!(rt; items_in(alloc, b"mr1 1 \xc3\n"), Err(Refusal::BadLine(1)));
-    assert_eq!(rt; items_in(alloc, b"mr1 1 1\n\xff\xfe"), Ok(0));
-    let position = b"mp1 1 1\nK 0\nE\n\xff\n";
-    assert_eq!(rt; commits_in(alloc, position), Err(Refusal::BadPosition));
+    let found = items_in(
+        rt.alloc(),
+        "mr1 1 1\nW 1 1 1 oak 30 1995-12-18 09:00 0 Al",
+        b"\xff",
+        1,
+        "ha\n",
+    );
+    assert_eq!(rt; found, Err(Refusal::BadLine(2)));
+    let found = items_in(rt.alloc(), "mr1 1 ", b"\xc3", 1, "\n");
+    assert_eq!(rt; found, Err(Refusal::BadLine(1)));
+    let found = items_in(rt.alloc(), "mr1 1 1\n", b"\xff\xfe", 1, "");
+    assert_eq!(rt; found, Ok(0));
 }
 
 static BAD_POSITIONS: [&str; 34] = [
@@ -277,52 +291,7 @@ static BAD_POSITIONS: [&str; 34] = [
     "mp1 9 1\nK 0\nV 1 1 \nE\n",
 ];
 
-#[test]
-fn bad_positions_are_refused(rt: HostRuntime) {
-    for text in &BAD_POSITIONS {
-        let found = commits_in(rt.alloc(), text.as_bytes());
-        assert_eq!(rt; found, Err(Refusal::BadPosition), "at {text}");
-    }
-}
-
-// Reading takes time in proportion to the bytes.
-#[test]
-fn a_million_lines_are_read(rt: HostRuntime) {
-    let found = items_after(rt.alloc(), "mr1 1 1", "\nC 1 1 1", 1_000_000);
-    assert_eq!(rt; found, Ok(1_000_000));
-}
-
 // a text, and what follows it many times
-static LARGE_LINES: [(&str, &str); 7] = [
-    ("mr1 1 1\nW ", SIXTY),
-    ("mr1 1 1\nW 1 1 1 ", SIXTY),
-    ("mr1 1 1\nW 1 1 1 oak 30 1995-12-18 09:00 0 ", SIXTY),
-    ("mr1 1 1\nW 1 1 1 oak 30 1995-12-18 09:00 8", PAIRS),
-    ("mr1 1 1\nW 1 1 1 oak 30 1995-12-18 09:00 4000000000", PAIRS),
-    ("mr1 1 1\n", PAIRS),
-    ("mr1 1 1\n\n", PAIRS),
-];
-
-#[test]
-fn large_lines_are_refused(rt: HostRuntime) {
-    for (first, more) in &LARGE_LINES {
-        let found = items_after(rt.alloc(), first, more, 50_000);
-        assert_eq!(rt; found, Err(Refusal::BadLine(2)), "at {first}");
-    }
-}
-
-// How many items there are where the last line has no end.
-fn items_of_cut(alloc: Global) -> Result<usize, Refusal> {
-    let mut bytes = repeated(alloc, "mr1 1 1\n", PAIRS, 50_000)?;
-    bytes.pop();
-    items_in(alloc, bytes.as_slice())
-}
-
-#[test]
-fn a_large_piece_is_dropped(rt: HostRuntime) {
-    assert_eq!(rt; items_of_cut(rt.alloc()), Ok(0));
-}
-
 static LARGE_POSITIONS: [(&str, &str); 4] = [
     ("mp1 1 1\nK 0", "\nV 1 1\nV 1 1\nV 1 1\nV 1 1\nV 1 1"),
     ("mp1 1 1\nK 0\nE", "\n\n\n\n\n\n\n\n"),
@@ -330,15 +299,16 @@ static LARGE_POSITIONS: [(&str, &str); 4] = [
     ("", SIXTY),
 ];
 
-fn commits_after(alloc: Global, first: &str, more: &str) -> Result<u64, Refusal> {
-    let bytes = repeated(alloc, first, more, 50_000)?;
-    commits_in(alloc, bytes.as_slice())
-}
-
 #[test]
-fn large_positions_are_refused(rt: HostRuntime) {
+fn bad_positions_are_refused(rt: HostRuntime) {
+    for text in &BAD_POSITIONS {
+        let found = commits_in(rt.alloc(), "", text.as_bytes(), 1, "");
+        assert_eq!(rt; found, Err(Refusal::BadPosition), "at {text}");
+    }
     for (first, more) in &LARGE_POSITIONS {
-        let found = commits_after(rt.alloc(), first, more);
+        let found = commits_in(rt.alloc(), first, more.as_bytes(), 50_000, "\n");
         assert_eq!(rt; found, Err(Refusal::BadPosition), "at {first}");
     }
+    let found = commits_in(rt.alloc(), "mp1 1 1\nK 0\nE\n", b"\xff", 1, "\n");
+    assert_eq!(rt; found, Err(Refusal::BadPosition));
 }

@@ -7,7 +7,6 @@ use mr_base::{
 };
 use mr_wire::{read_batch, read_position, write_batch, write_position};
 use std::alloc::Global;
-use std::process::Abort;
 
 /// A booking of oak on 1995-12-18: its length, the times of its wish and of its alternatives, and its title.
 #[derive(Clone, Copy)]
@@ -26,95 +25,61 @@ enum Line {
 }
 
 fn server(number: u32) -> Result<ServerId, Refusal> {
-    ServerId::new(number).ok_or(Refusal::NotAReplica)
+    match ServerId::new(number) {
+        Some(server) => Ok(server),
+        None => Err(Refusal::NotAReplica),
+    }
 }
 
 fn id(number: u32, n: u32) -> Result<WriteId, Refusal> {
-    WriteId::new(server(number)?, n).ok_or(Refusal::NoSuchRequest)
-}
-
-fn stamp(number: u32, n: u32, time: u64) -> Result<Stamp, Refusal> {
-    Stamp::new(id(number, n)?, time).ok_or(Refusal::ClockExhausted)
+    match WriteId::new(server(number)?, n) {
+        Some(id) => Ok(id),
+        None => Err(Refusal::NoSuchRequest),
+    }
 }
 
 fn slot(time: &str) -> Result<Slot, Refusal> {
     Slot::new(Day::read("1995-12-18")?, read_minute(time)?)
 }
 
-fn alternatives(alloc: Global, times: &[&str]) -> Result<Alternatives, Refusal> {
-    let mut slots = Vec::new(alloc);
-    for time in times {
-        slots.push(slot(time)?)?;
-    }
-    Ok(Alternatives::from_vec(slots))
-}
-
-fn write(alloc: Global, stamp: Stamp, booking: Booking) -> Result<Write, Refusal> {
+fn write(alloc: Global, id: WriteId, time: u64, booking: Booking) -> Result<Write, Refusal> {
+    let Some(stamp) = Stamp::new(id, time) else {
+        return Err(Refusal::ClockExhausted);
+    };
     let wish = slot(booking.wish)?;
+    let mut others = Vec::new(alloc);
+    for other in booking.others {
+        others.push(slot(other)?)?;
+    }
     let room = RoomName::new(alloc, "oak")?;
     let title = Title::new(alloc, booking.title)?;
-    let others = alternatives(alloc, booking.others)?;
+    let others = Alternatives::from_vec(others);
     Write::new(stamp, room, title, booking.length, wish, others)
 }
 
 fn item(alloc: Global, line: Line) -> Result<Item, Refusal> {
     match line {
         Line::W(number, n, time, booking) => {
-            let stamp = stamp(number, n, time)?;
-            Ok(Item::W(write(alloc, stamp, booking)?))
+            Ok(Item::W(write(alloc, id(number, n)?, time, booking)?))
         }
         Line::C(seq, number, n) => {
             let id = id(number, n)?;
-            let seq = CommitNumber::new(seq).ok_or(Refusal::NoSuchRequest)?;
-            Ok(Item::C { seq, id })
+            match CommitNumber::new(seq) {
+                Some(seq) => Ok(Item::C { seq, id }),
+                None => Err(Refusal::NoSuchRequest),
+            }
         }
     }
-}
-
-fn items(alloc: Global, lines: &[Line]) -> Result<Vec<Item>, Refusal> {
-    let mut items = Vec::new(alloc);
-    for line in lines {
-        items.push(item(alloc, *line)?)?;
-    }
-    Ok(items)
 }
 
 /// A batch that this server made, whose primary is 1.
 fn batch(alloc: Global, from: u32, lines: &[Line], ending: Ending) -> Result<Batch, Refusal> {
     let (from, primary) = (server(from)?, server(1)?);
-    Ok(Batch::new(from, primary, items(alloc, lines)?, ending))
-}
-
-fn are_same_items(a: &Item, b: &Item) -> bool {
-    match (a, b) {
-        (Item::W(first), Item::W(second)) => first.is_same(second),
-        (
-            Item::C {
-                seq: first_seq,
-                id: first_id,
-            },
-            Item::C {
-                seq: second_seq,
-                id: second_id,
-            },
-        ) => *first_seq == *second_seq && *first_id == *second_id,
-        _ => false,
+    let mut items = Vec::new(alloc);
+    for line in lines {
+        items.push(item(alloc, *line)?)?;
     }
-}
-
-fn have_same_items(found: &[Item], wanted: &[Item]) -> bool {
-    for (a, b) in found.iter().zip(wanted) {
-        if !are_same_items(a, b) {
-            return false;
-        }
-    }
-    found.len() == wanted.len()
-}
-
-fn is_same_batch(found: &Batch, wanted: &Batch) -> bool {
-    found.header == wanted.header
-        && found.ending == wanted.ending
-        && have_same_items(found.items.as_slice(), wanted.items.as_slice())
+    Ok(Batch::new(from, primary, items, ending))
 }
 
 fn is_written_as(alloc: Global, batch: &Batch, text: &str) -> Result<bool, Refusal> {
@@ -122,28 +87,17 @@ fn is_written_as(alloc: Global, batch: &Batch, text: &str) -> Result<bool, Refus
     Ok(written.as_slice() == text.as_bytes())
 }
 
-fn is_read_of(alloc: Global, batch: &Batch, text: &str) -> Result<bool, Refusal> {
-    let found = read_batch(alloc, text.as_bytes())?;
-    Ok(is_same_batch(&found, batch))
-}
-
-/// Whether the batch has this text, and is what is read of it.
-fn is_exchanged(alloc: Global, batch: &Batch, text: &str) -> Result<bool, Refusal> {
-    Ok(is_written_as(alloc, batch, text)? && is_read_of(alloc, batch, text)?)
-}
-
-fn are_lines_exchanged(
+/// Whether the batch has this text, and what is read of the text has it too.
+fn is_exchanged(
     alloc: Global,
-    (from, lines, ending): (u32, &[Line], Ending),
+    from: u32,
+    lines: &[Line],
+    ending: Ending,
     text: &str,
 ) -> Result<bool, Refusal> {
     let batch = batch(alloc, from, lines, ending)?;
-    is_exchanged(alloc, &batch, text)
-}
-
-fn is_nothing_exchanged(alloc: Global) -> Result<bool, Refusal> {
-    let empty = Batch::without_header(Vec::new(alloc));
-    is_exchanged(alloc, &empty, "")
+    let found = read_batch(alloc, text.as_bytes())?;
+    Ok(is_written_as(alloc, &batch, text)? && is_written_as(alloc, &found, text)?)
 }
 
 const ALPHA: Line = Line::W(
@@ -279,71 +233,50 @@ static BATCHES: [(u32, &[Line], Ending, &str, usize); 9] = [
     ),
 ];
 
-#[test]
-fn batches_are_exchanged(rt: HostRuntime) {
-    for (from, lines, ending, text, size) in &BATCHES {
-        let is_exchanged = are_lines_exchanged(rt.alloc(), (*from, lines, *ending), text);
-        assert_eq!(rt; is_exchanged, Ok(true), "at {text}");
-        assert_eq!(rt; text.len(), *size, "at {text}");
-    }
-}
+/// The numbers of bytes from one to another of the text of Alpha and Beta, the second one left out: whether they have a
+/// header, how many items they are, and how they end. The header ends with byte 8, the lines of the two writes with the
+/// bytes 48 and 104.
+static FRONTS: [(usize, usize, (bool, usize, Ending)); 5] = [
+    (0, 8, (false, 0, Ending::Cut)),
+    (8, 48, (true, 0, Ending::Cut)),
+    (48, 104, (true, 1, Ending::Cut)),
+    (104, 106, (true, 2, Ending::Cut)),
+    (106, 107, (true, 2, Ending::Complete)),
+];
 
-#[test]
-fn nothing_is_exchanged(rt: HostRuntime) {
-    assert_eq!(rt; is_nothing_exchanged(rt.alloc()), Ok(true));
-}
-
-/// Whether the bytes have a header, how many items they are, and how they end.
 fn parts_of(alloc: Global, bytes: &[u8]) -> Result<(bool, usize, Ending), Refusal> {
     let found = read_batch(alloc, bytes)?;
     Ok((found.header.is_some(), found.items.len(), found.ending))
 }
 
-/// The header ends with byte 8, the lines of the two writes with the bytes 48 and 104.
-fn parts_of_front(j: usize) -> (bool, usize, Ending) {
-    let ending = if j < 106 {
-        Ending::Cut
-    } else {
-        Ending::Complete
-    };
-    if j < 48 {
-        (j >= 8, 0, ending)
-    } else if j < 104 {
-        (true, 1, ending)
-    } else {
-        (true, 2, ending)
-    }
-}
-
 #[test]
-fn each_front_reads_as_its_whole_lines(rt: HostRuntime) {
+fn batches_are_exchanged(rt: HostRuntime) {
+    for (from, lines, ending, text, size) in &BATCHES {
+        let is_exchanged = is_exchanged(rt.alloc(), *from, lines, *ending, text);
+        assert_eq!(rt; (is_exchanged, text.len()), (Ok(true), *size), "at {text}");
+    }
+    let empty = Batch::without_header(Vec::new(rt.alloc()));
+    assert_eq!(rt; is_written_as(rt.alloc(), &empty, ""), Ok(true));
     let bytes = ALPHA_AND_BETA.as_bytes();
-    for j in 0..=106 {
-        let found = parts_of(rt.alloc(), bytes.get(..j).unwrap_or(&[]));
-        assert_eq!(rt; found, Ok(parts_of_front(j)), "at {j}");
+    for (from, to, want) in &FRONTS {
+        for j in *from..*to {
+            let found = parts_of(rt.alloc(), bytes.get(..j).unwrap_or(&[]));
+            assert_eq!(rt; found, Ok(*want), "at {j}");
+        }
     }
-}
-
-fn counts(alloc: Global, of: &[(u32, u32)]) -> Result<Vec<(ServerId, u32)>, Refusal> {
-    let mut counts = Vec::new(alloc);
-    for (number, n) in of {
-        counts.push((server(*number)?, *n))?;
-    }
-    Ok(counts)
 }
 
 /// A position whose primary is 1.
 fn position(alloc: Global, own: u32, commits: u64, of: &[(u32, u32)]) -> Result<Position, Refusal> {
     let (own, primary) = (server(own)?, server(1)?);
-    let counts = counts(alloc, of)?;
-    Position::new(own, primary, commits, counts).ok_or(Refusal::BadPosition)
-}
-
-fn is_same_position(found: &Position, wanted: &Position) -> bool {
-    found.server == wanted.server
-        && found.primary == wanted.primary
-        && found.commits == wanted.commits
-        && found.counts.as_slice() == wanted.counts.as_slice()
+    let mut counts = Vec::new(alloc);
+    for (number, n) in of {
+        counts.push((server(*number)?, *n))?;
+    }
+    match Position::new(own, primary, commits, counts) {
+        Some(position) => Ok(position),
+        None => Err(Refusal::BadPosition),
+    }
 }
 
 fn is_position_written_as(alloc: Global, position: &Position, text: &str) -> Result<bool, Refusal> {
@@ -351,34 +284,24 @@ fn is_position_written_as(alloc: Global, position: &Position, text: &str) -> Res
     Ok(written.as_slice() == text.as_bytes())
 }
 
-fn is_position_read_of(alloc: Global, position: &Position, text: &str) -> Result<bool, Refusal> {
-    let found = read_position(alloc, text.as_bytes())?;
-    Ok(is_same_position(&found, position))
-}
-
-/// Whether the position has this text, and is what is read of it.
+/// Whether the position has this text, and what is read of the text has it too.
 fn is_position_exchanged(
     alloc: Global,
-    (own, commits, of): (u32, u64, &[(u32, u32)]),
+    own: u32,
+    commits: u64,
+    of: &[(u32, u32)],
     text: &str,
 ) -> Result<bool, Refusal> {
     let position = position(alloc, own, commits, of)?;
+    let found = read_position(alloc, text.as_bytes())?;
     Ok(
         is_position_written_as(alloc, &position, text)?
-            && is_position_read_of(alloc, &position, text)?,
+            && is_position_written_as(alloc, &found, text)?,
     )
 }
 
 fn refusal_of_position(alloc: Global, bytes: &[u8]) -> Option<Refusal> {
     read_position(alloc, bytes).err()
-}
-
-/// No front of the text is a position's.
-fn check_fronts(rt: &impl Abort, alloc: Global, bytes: &[u8]) {
-    for j in 0..bytes.len() {
-        let refusal = refusal_of_position(alloc, bytes.get(..j).unwrap_or(bytes));
-        assert_eq!(rt; refusal, Some(Refusal::BadPosition), "at {j}");
-    }
 }
 
 /// Positions: the own server, the commits and the counts, and their text.
@@ -393,11 +316,15 @@ static POSITIONS: [(u32, u64, &[(u32, u32)], &str); 3] = [
     ),
 ];
 
+/// No front of a position's text is a position's.
 #[test]
 fn positions_are_exchanged(rt: HostRuntime) {
     for (own, commits, counts, text) in &POSITIONS {
-        let is_exchanged = is_position_exchanged(rt.alloc(), (*own, *commits, counts), text);
+        let is_exchanged = is_position_exchanged(rt.alloc(), *own, *commits, counts, text);
         assert_eq!(rt; is_exchanged, Ok(true), "at {text}");
-        check_fronts(&rt, rt.alloc(), text.as_bytes());
+        for j in 0..text.len() {
+            let refusal = refusal_of_position(rt.alloc(), text.as_bytes().get(..j).unwrap_or(&[]));
+            assert_eq!(rt; refusal, Some(Refusal::BadPosition), "at {j} of {text}");
+        }
     }
 }

@@ -1,3 +1,5 @@
+// Lines to a writer that takes them, and to one that does not.
+
 use mr_base::Refusal;
 use mr_say::{BAD_WORDS, DONE, FAULT, say, say_made, say_refusal, say_reply, say_text};
 use mr_service::Reply;
