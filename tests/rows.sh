@@ -1,0 +1,137 @@
+# What a replica in a database replies to batches from other hands, worked by hand, and scripts whose lines are commands on
+# databases. Read by ./test, whose functions and variables are used here.
+
+# blank SERVER PRIMARY: $database is a replica that knows nothing
+blank() {
+    database=$scratch/rows/$1-$2.db
+    rm -f -- "$database" "$database"-*
+    expect_line "a replica $1 of primary $2" 0 'ok' init "$database" "$1" "$2"
+}
+
+# brings NAME STATUS REPLY LINE..: a batch of these lines is imported, with this reply
+brings() {
+    local name=$1 status=$2 reply=$3
+    shift 3
+    printf '%s\n' "$@" > "$scratch/rows/batch"
+    expect_line "$name" "$status" "$reply" import "$database" "$scratch/rows/batch"
+}
+
+# has NAME WORD LINE..: the command of this word, with what the lines begin with, prints these lines
+has() {
+    local name=$1
+    local -a words=($2)
+    shift 2
+    printf '%s\n' "$@" > "$scratch/rows/wanted"
+    expect "$name" 0 "$scratch/rows/wanted" "${words[0]}" "$database" "${words[@]:1}"
+}
+
+alpha='W 1 1 1 oak 30 1995-12-18 09:00 0 Alpha'
+two=('mr1 1 1' 'W 1 1 1 oak 60 1995-12-18 14:00 0 Alpha' 'W 2 1 1 oak 60 1995-12-18 13:30 1 1995-12-18 15:00 Beta' 'E')
+sheet_of_two=('oak 1995-12-18 Monday' '14:00-15:00 T 1-1 Alpha' '15:00-16:00 T 2-1 Beta')
+position_of_two=('mp1 9 1' 'K 0' 'V 1 1' 'V 2 1' 'E')
+
+run_repeats() {
+    blank 9 1
+    brings 'two writes' 0 'took 2 writes 0 commits' "${two[@]}"
+    has 'their sheet' 'sheet oak 1995-12-18' "${sheet_of_two[@]}"
+    has 'their position' position "${position_of_two[@]}"
+    brings 'the two writes again' 0 'took 0 writes 0 commits' "${two[@]}"
+    has 'the sheet after a repeat' 'sheet oak 1995-12-18' "${sheet_of_two[@]}"
+    has 'the position after a repeat' position "${position_of_two[@]}"
+    blank 9 1
+    printf '%s\n' "${two[@]}" | head -c 102 > "$scratch/rows/torn"
+    expect_line 'a batch torn in its second write' 0 'took 1 writes 0 commits' import "$database" "$scratch/rows/torn"
+    brings 'the whole batch after it' 0 'took 1 writes 0 commits' "${two[@]}"
+    has 'the sheet after a torn batch' 'sheet oak 1995-12-18' "${sheet_of_two[@]}"
+}
+
+# fifty writes of another room, committed and dropped: the sheet of this room is the same, byte for byte
+run_isolated() {
+    local i
+    local -a elm=('mr1 3 1')
+    for ((i = 1; i <= 50; i++)); do elm+=("W 3 $i $i elm 15 1995-12-18 09:00 0 Elm" "C $i 3 $i"); done
+    blank 9 1
+    brings 'fifty writes of elm' 0 'took 50 writes 50 commits' "${elm[@]}" 'E'
+    expect_line 'fifty commits are dropped' 0 'dropped 50' truncate "$database" 50
+    brings 'two writes of oak' 0 'took 2 writes 0 commits' "${two[@]}"
+    brings 'two writes of oak again' 0 'took 0 writes 0 commits' "${two[@]}"
+    has 'the sheet of oak beside elm' 'sheet oak 1995-12-18' "${sheet_of_two[@]}"
+    has 'the sheet of elm' 'sheet elm 1995-12-18' 'elm 1995-12-18 Monday' '09:00-09:15 C 3-1 Elm'
+}
+
+run_forged() {
+    blank 9 1
+    brings 'a write' 0 'took 1 writes 0 commits' 'mr1 1 1' "$alpha" 'E'
+    brings 'the write with another title' 1 'refused 19 Forged 2' 'mr1 1 1' "${alpha/Alpha/Other}" 'E'
+    brings 'its commit' 0 'took 0 writes 1 commits' 'mr1 1 1' 'C 1 1 1' 'E'
+    expect_line 'its commit is dropped' 0 'dropped 1' truncate "$database" 1
+    brings 'another title of what was dropped' 0 'took 0 writes 0 commits' 'mr1 1 1' "${alpha/Alpha/Other}" 'E'
+    has 'the sheet keeps the title' 'sheet oak 1995-12-18' 'oak 1995-12-18 Monday' '09:00-09:30 C 1-1 Alpha'
+}
+
+# hostile NAME REPLY LINE..: replica 2 refuses the batch before it knows anything, and knows nothing afterwards
+hostile() {
+    local name=$1 reply=$2
+    shift 2
+    blank 2 1
+    brings "$name" 1 "$reply" "$@" 'E'
+    has "nothing is known after $name" position 'mp1 2 1' 'K 0' 'E'
+}
+
+run_hostile() {
+    hostile 'a gap' 'refused 17 Gap 2' 'mr1 1 1' 'W 1 2 5 oak 30 1995-12-18 09:00 0 Beta'
+    expect_line 'no room of a refused batch' 1 'refused 7 UnknownRoom' sheet "$database" oak 1995-12-18
+    hostile 'a write in its own name' 'refused 20 OwnWrite 2' 'mr1 1 1' 'W 2 1 1 oak 30 1995-12-18 09:00 0 Own'
+    hostile 'a commit out of order' 'refused 18 OutOfOrder 4' \
+        'mr1 1 1' "$alpha" 'W 1 2 2 oak 30 1995-12-18 10:00 0 Beta' 'C 1 1 2'
+    hostile 'a commit above the list' 'refused 17 Gap 2' 'mr1 1 1' 'C 2 1 1'
+    hostile 'another primary' 'refused 16 WrongPrimary' 'mr1 1 3'
+    hostile 'a leading zero' 'refused 15 BadLine 2' 'mr1 1 1' "${alpha/1 1 1/1 01 1}"
+    blank 2 1
+    brings 'a write at the greatest time' 0 'took 1 writes 0 commits' \
+        'mr1 1 1' 'W 1 1 999999999999 oak 30 1995-12-18 09:00 0 Last' 'E'
+    expect_line 'no time is left' 1 'refused 13 ClockExhausted' book "$database" oak 30 1995-12-18 09:00 Next
+    has 'the sheet at the greatest time' 'sheet oak 1995-12-18' 'oak 1995-12-18 Monday' '09:00-09:30 T 1-1 Last'
+}
+
+run_primary() {
+    blank 1 1
+    expect_line 'a room' 0 'ok' add-room "$database" oak
+    expect_line 'a booking' 0 '1-1 T 1995-12-18 09:00-09:30' book "$database" oak 30 1995-12-18 09:00 Alpha
+    brings 'a commit brought to the primary' 1 'refused 21 PrimaryOnly 2' 'mr1 1 1' 'C 1 1 1' 'E'
+    expect_line 'the primary drops nothing' 1 'refused 11 PrimaryKeepsAll' truncate "$database" 1
+    expect_line 'the primary commits' 0 'committed 1' commit "$database" 5
+    blank 2 1
+    expect_line 'another commits nothing' 1 'refused 10 NotPrimary' commit "$database" 1
+    expect_line 'a room of its own' 0 'ok' add-room "$database" oak
+    expect_line 'the room again' 1 'refused 8 RoomThere' add-room "$database" oak
+}
+
+# on_databases NAME SCRIPT EXPECTED: the script, each line a command on a database, is replied as it is over lists
+on_databases() {
+    local folder
+    folder=$(mktemp -d "$scratch/rows/XXXXXX")
+    python3 tests/on_databases.py "$program" "$2" "$folder" "$scratch/out"
+    told "$1" $? 0 "$3"
+}
+
+run_rows() {
+    local script seed
+    mkdir "$scratch/rows"
+    run_repeats
+    run_isolated
+    run_forged
+    run_hostile
+    run_primary
+    if ! command -v python3 > /dev/null; then
+        echo 'skipped: scripts on databases (no python3)'
+        return
+    fi
+    for script in examples/*.script; do
+        on_databases "$script on databases" "$script" "${script%.script}.expected"
+    done
+    for seed in 21 22 23 24; do
+        python3 tests/plain.py "$seed" 300 $((seed % 4 + 1)) "$scratch/made.script" "$scratch/made.expected" || continue
+        on_databases "the generated script $seed on databases" "$scratch/made.script" "$scratch/made.expected"
+    done
+}
