@@ -43,10 +43,7 @@ fn place(
 }
 
 /// Whether the keeper has the rows of the change, and no others.
-pub(crate) fn has_all(
-    keeper: &mut SqlKeeper<MemStore>,
-    alloc: Global,
-) -> Result<bool, Refusal> {
+pub(crate) fn has_all(keeper: &mut SqlKeeper<MemStore>, alloc: Global) -> Result<bool, Refusal> {
     let oak = RoomName::new(alloc, "oak")?;
     let monday = Day::read(MONDAY)?;
     let tuesday = Day::read("1995-12-19")?;
