@@ -107,6 +107,30 @@ run_primary() {
     expect_line 'the room again' 1 'refused 8 RoomThere' add-room "$database" oak
 }
 
+# strange NAME STATUS LINE SQL: the stock sqlite3 ran this text in the database of a replica, which then answers so
+strange() {
+    blank 1 1
+    if ! sqlite3 "$database" "$4" > "$scratch/out" 2>&1; then
+        echo "FAILED: sqlite3 takes $4"
+        failed=$((failed + 1))
+    fi
+    expect_line "$1" "$2" "$3" sheet "$database" oak 1995-12-18
+}
+
+run_strange() {
+    if ! command -v sqlite3 > /dev/null; then
+        echo 'skipped: rows that the stock sqlite3 wrote (no sqlite3)'
+        return
+    fi
+    strange 'a room of another hand' 1 'refused 7 UnknownRoom' "INSERT INTO room VALUES ('elm')"
+    strange 'a room with a blank' 1 'refused 25 Store' "INSERT INTO room VALUES ('Oak tree')"
+    strange 'a place of no choice' 1 'refused 25 Store' 'INSERT INTO undo VALUES (1, 1, -2)'
+    strange 'another form of the tables' 1 'refused 25 Store' 'UPDATE meta SET schema = 2'
+    strange 'no row of the replica' 1 'refused 26 NotAReplica' 'DELETE FROM meta'
+    strange 'a table too many' 1 'refused 26 NotAReplica' 'CREATE TABLE other (a INTEGER) STRICT'
+    strange 'a table too few' 1 'refused 26 NotAReplica' 'DROP TABLE errorlog'
+}
+
 # on_databases NAME SCRIPT EXPECTED: the script, each line a command on a database, is replied as it is over lists
 on_databases() {
     local folder
@@ -123,6 +147,7 @@ run_rows() {
     run_forged
     run_hostile
     run_primary
+    run_strange
     if ! command -v python3 > /dev/null; then
         echo 'skipped: scripts on databases (no python3)'
         return
