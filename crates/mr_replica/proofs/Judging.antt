@@ -1,22 +1,19 @@
 -- What becomes of an item at a candidate is what the definitions do with it.
-use Rattle.std.proofs.Common.{◌≡◌, ℕ, zero, suc, ◌+◌, ◌-◌, ◌<◌, ◌≤◌, ◌==◌, ◌&&◌, not, nat_lt, nat_le, Bool, true, false, cond, List, [], ◌∷◌, ◌++◌, length, take, drop, Some, None, Result, Ok, Err, ap, refl, sym, ◌∙◌, subst, inl, inr, ◌⊎◌, arith, IsTrue}
+use Rattle.std.proofs.Common.{◌≡◌, ℕ, zero, suc, ◌+◌, ◌-◌, ◌<◌, ◌≤◌, ◌==◌, ◌&&◌, not, nat_lt, nat_le, Bool, true, false, cond, List, [], ◌∷◌, ◌++◌, length, take, drop, Some, None, Result, Ok, Err, ap, refl, sym, ◌∙◌, subst, inl, inr, arith, IsTrue}
 use Rattle.std.specs.List.{filter_map, cons_option, slice_get}
 use Rattle.std.proofs.lemmas.Bool.{true≢false, false_from_ne_true, eqb-true}
 use Rattle.std.proofs.lemmas.Bool.Decides.{nat_tests}
 use Rattle.std.proofs.lemmas.List.{take-append-drop, length-drop}
 use Rattle.mr_model.specs.Writes.{Id, Write, id_of, same_id, same_write, is_write}
 use Rattle.mr_model.specs.Refusals as model
-use Rattle.mr_model.specs.Replica.{Replica, IsReplica, count_of, last_time, committed_count, write_with, is_dropped, tentative, committed}
+use Rattle.mr_model.specs.Replica.{Replica, IsReplica, count_of, last_time, committed_count, write_with, is_dropped, tentative}
 use Rattle.mr_model.specs.Dropped.{Has}
-use Rattle.mr_model.specs.Kept.{dropped_in_order, kept_in_order}
+use Rattle.mr_model.specs.Kept.{kept_in_order}
 use Rattle.mr_model.specs.Changes.{IsNext}
 use Rattle.mr_model.specs.Taking.{Progress, is_that_write, is_that_id, with_new_write, with_new_commit, take_write, take_commit}
-use Rattle.mr_model.proofs.Members.{has_left, has_right, has_split, filter_map_has, find_one, find_none, same_id-true, same_id_from}
+use Rattle.mr_model.proofs.Members.{has_right, find_one, find_none, same_id-true, same_id_from}
 use Rattle.mr_model.proofs.ChangesKeep.{within}
-use Rattle.mr_model.proofs.KnownById.{known_with, with_id, known_at, one_known, tentative_known, commit_found}
-use Rattle.mr_model.proofs.RoomPlaces.{committed-parts, kept_committed, known_in_order, dropped_known}
-use Rattle.mr_model.proofs.TablesTell.{not_committed_kept}
-use Rattle.mr_model.proofs.TwinTables.{kept_id}
+use Rattle.mr_model.proofs.KnownById.{known_with, with_id, known_at, one_known, commit_found}
 use Rattle.mr_model.proofs.RowsById.{server_bounds}
 use Rattle.mr_base.specs.Refusals.{refusal_of}
 use Rattle.mr_base.specs.declared.refusals.Refusal.{Refusal}
@@ -24,43 +21,23 @@ use Rattle.mr_base.specs.declared.refusals.Refusal.TheVariants.{Gap, OutOfOrder,
 use Rattle.mr_replica.specs.Summary.{summary_of}
 use Rattle.mr_replica.specs.Candidate.{CandidateView, Shows, write_in, known_verdict, write_verdict_by, write_verdict, there_verdict, commit_verdict_by, commit_verdict}
 use Rattle.mr_replica.proofs.Summaries.{tally-of}
+use Rattle.mr_replica.proofs.DeskRows.{kept_are, are_kept}
 
 -- ---- the kept writes
-
-kept_known : (r : Replica) (w : Write) → IsReplica r → Has w (kept_in_order r) → Has w r.known × (is_dropped r (id_of w) ≡ false)
-kept_known r w h a = go (has_split w (kept_committed r) (tentative r) a)
-  where
-    go : Has w (kept_committed r) ⊎ Has w (tentative r) → Has w r.known × (is_dropped r (id_of w) ≡ false)
-    go (inl b) =
-        let (id, c, e) = filter_map_has (write_with r) w (drop r.dropped r.commits) b in
-        let k = known_with r id w e in
-        (k.0, ap (is_dropped r) k.1 ∙ kept_id r id h c)
-    go (inr b) = let t = tentative_known r w b in (t.0, not_committed_kept r (id_of w) t.1)
-
-known_kept : (r : Replica) (w : Write) → IsReplica r → Has w r.known → is_dropped r (id_of w) ≡ false → Has w (kept_in_order r)
-known_kept r w h a d = go (known_in_order r w h a)
-  where
-    front : Has w (dropped_in_order r) ⊎ Has w (kept_committed r) → Has w (kept_in_order r)
-    front (inl b) = absurd (true≢false (sym (dropped_known r w b).1 ∙ d))
-    front (inr b) = has_left w (kept_committed r) (tentative r) b
-
-    go : Has w (committed r) ⊎ Has w (tentative r) → Has w (kept_in_order r)
-    go (inl b) = front (has_split w (dropped_in_order r) (kept_committed r) (subst (λ ws. Has w ws) (committed-parts r) b))
-    go (inr b) = has_right w (kept_committed r) (tentative r) b
 
 -- a dropped write isn't kept
 dropped_out : (r : Replica) (id : Id) → IsReplica r → is_dropped r id ≡ true → write_in (kept_in_order r) id ≡ None
 dropped_out r id sound dropped =
     find_none (λ w. same_id (id_of w) id) (kept_in_order r)
-    (λ v h. false_from_ne_true (same_id (id_of v) id) (λ s. true≢false (sym dropped ∙ ap (is_dropped r) (sym (same_id-true (id_of v) id s)) ∙ (kept_known r v sound h).1)))
+    (λ v h. false_from_ne_true (same_id (id_of v) id) (λ s. true≢false (sym dropped ∙ ap (is_dropped r) (sym (same_id-true (id_of v) id s)) ∙ (kept_are r v sound h).1)))
 
 -- another known write is
 kept_in : (r : Replica) (id : Id) → IsReplica r → 1 ≤ id.n → id.n ≤ count_of r id.server → is_dropped r id ≡ false → (write_in (kept_in_order r) id ≡ write_with r id) × ((w : Write) × (write_with r id ≡ Some w))
 kept_in r id sound low high kept =
     let (w, known, e) = known_at r id sound low high in
     let there = with_id r w id sound known e in
-    let one = find_one (λ v. same_id (id_of v) id) w (kept_in_order r) (known_kept r w sound known (ap (is_dropped r) e ∙ kept)) (same_id_from (id_of w) id e)
-    (λ y h s. one_known r y w sound (kept_known r y sound h).0 known (same_id-true (id_of y) id s ∙ sym e)) in
+    let one = find_one (λ v. same_id (id_of v) id) w (kept_in_order r) (are_kept r w sound known (ap (is_dropped r) e ∙ kept)) (same_id_from (id_of w) id e)
+    (λ y h s. one_known r y w sound (kept_are r y sound h).0 known (same_id-true (id_of y) id s ∙ sym e)) in
     (one ∙ sym there, (w, there))
 
 -- ---- writes

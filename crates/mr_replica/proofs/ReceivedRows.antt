@@ -41,7 +41,8 @@ use Rattle.mr_replica.specs.Written.{meta_of, changed_tallies, written, adoption
 use Rattle.mr_replica.proofs.Desks.{summary_in}
 use Rattle.mr_replica.proofs.Logs.{board-at}
 use Rattle.mr_replica.proofs.Judging.{JudgedWrite, judged_write, JudgedCommit, judged_commit}
-use Rattle.mr_replica.proofs.Receiving.{err≢ok, items-bring, distinct_log, all_taken}
+use Rattle.mr_replica.proofs.Receiving.{err≢ok, items-bring, all_taken}
+use Rattle.mr_replica.proofs.DeskRows.{order_distinct}
 use Rattle.mr_replica.proofs.Moving.{rooms_move}
 use Rattle.mr_replica.proofs.DeskRows.{kept_numbers, kept_are, are_kept, slice_left, slice_bound}
 use Rattle.mr_replica.proofs.Writing.{board_before}
@@ -192,7 +193,7 @@ adoption_turns a b c ha g ds more shows low same marks =
     let kb : kept_in_order b ≡ front ++ y = sym (take-append-drop n (kept_in_order b)) ∙ ap (λ ws. ws ++ y) (ap (take n) (sym shows.kept) ∙ same) in
     let size : length front ≡ n = length-take-le n (kept_in_order a) low in
     let number : a.dropped + 1 + n ≡ b.dropped + 1 + length front = λ t. g.number t + 1 + sym size t in
-    let board : board_at (desk_of a).log n ≡ board_before a front = board-at (dropped_in_order a) (kept_in_order a) n (distinct_log a ha) in
+    let board : board_at (desk_of a).log n ≡ board_before a front = board-at (dropped_in_order a) (kept_in_order a) n (order_distinct a ha) in
     let put : adoption (desk_of a) c ≡ written (tables_of b).meta (rooms_beside a.rooms b.rooms) (vector_between a b) (length b.commits) (b.dropped + 1 + length front) y (undo_rows_of (board_before a front) y) =
     λ t. written (meta_of (shows.summary t)) (rooms_beside a.rooms (shows.rooms t)) (changed_tallies (desk_of a).tallies (shows.summary t).tallies) (shows.summary t).commits (number t) (drop n (shows.kept t)) (undo_rows_of (board t) (drop n (shows.kept t))) in
     let told : (length b.commits ≡ length a.commits) ⊎ (length front ≤ length a.commits - a.dropped) = go size marks in

@@ -1,32 +1,28 @@
 -- Taking all items of a batch.
-use Rattle.std.proofs.Common.{◌≡◌, ℕ, zero, suc, ◌+◌, ◌-◌, ◌<◌, ◌≤◌, ◌==◌, cond, not, Some, ◌⊎◌, Bool, true, false, List, [], ◌∷◌, ◌++◌, length, map, take, drop, get_or, Result, Ok, Err, ap, refl, sym, ◌∙◌, subst, inl, inr, arith, IsTrue}
+use Rattle.std.proofs.Common.{◌≡◌, ℕ, zero, suc, ◌+◌, ◌-◌, ◌<◌, ◌≤◌, ◌==◌, cond, not, Some, ◌⊎◌, Bool, true, false, List, [], ◌∷◌, ◌++◌, length, take, drop, get_or, Result, Ok, Err, ap, refl, sym, ◌∙◌, subst, inl, inr, arith, IsTrue}
 use Rattle.std.specs.List.{list_all, filter_map}
 use Rattle.std.specs.Result.{is_ok}
 use Rattle.std.proofs.lemmas.Bool.{true≢false, and_parts}
 use Rattle.std.proofs.lemmas.Bool.Decides.{nat_tests}
-use Rattle.std.proofs.lemmas.List.{length-append, map-append}
+use Rattle.std.proofs.lemmas.List.{length-append}
 use Rattle.mr_model.specs.Texts.{only_if}
-use Rattle.mr_model.specs.Writes.{Id, Write, id_of, is_write, stamp_before}
+use Rattle.mr_model.specs.Writes.{Id, Write, is_write, stamp_before}
 use Rattle.mr_model.specs.Refusals as model
 use Rattle.mr_model.specs.Exchange.{Item, W, C, Header, Batch, is_header, is_item, is_batch, is_batch_of}
-use Rattle.mr_model.specs.Replica.{Replica, IsReplica, write_with, with_write, tentative, committed}
+use Rattle.mr_model.specs.Replica.{Replica, IsReplica, write_with, with_write, tentative}
 use Rattle.mr_model.specs.Kept.{dropped_in_order, kept_in_order}
 use Rattle.mr_model.specs.Taking.{Progress, take_item, take_items, take_write, take_commit, with_new_write, with_new_commit}
 use Rattle.mr_model.specs.Replies.{Took}
 use Rattle.mr_model.specs.Step.{After, after_items, step_unless, receive_under, receive_batch}
-use Rattle.mr_model.proofs.Members.{Distinct}
-use Rattle.mr_model.proofs.KnownById.{distinct_order}
 use Rattle.mr_model.proofs.TakingKeeps.{IsItem, KeepsReplica, item_keeps}
 use Rattle.mr_model.proofs.TwinChanges.{dropped-add_write}
 use Rattle.mr_model.proofs.Fronts.{take-front}
-use Rattle.mr_model.proofs.LogOrder.{order-parts}
 use Rattle.mr_model.proofs.RoomPlaces.{kept_committed}
 use Rattle.mr_model.proofs.BatchesReadBack.{ok_inj}
 use Rattle.mr_model.proofs.ReceivedPlaces.{commit_moved}
 use Rattle.mr_base.specs.declared.refusals.Refusal.{Refusal}
 use Rattle.mr_base.specs.declared.refusals.Refusal.TheVariants.{OutOfMemory}
 use Rattle.mr_base.specs.Refusals.{refusal_of}
-use Rattle.mr_replay.specs.Holds.{AreDistinct, HaveDistinctIds}
 use Rattle.mr_replica.specs.Log.{replaced, log_of}
 use Rattle.mr_replica.specs.Summary.{summary_of}
 use Rattle.mr_replica.specs.Candidate.{CandidateView, Shows, Takes, KeepsFront, KeepsMarks, write_verdict, commit_verdict}
@@ -34,6 +30,7 @@ use Rattle.mr_replica.specs.declared.summary.Summary.{Summary}
 use Rattle.mr_replica.specs.Change.{ChangeView}
 use Rattle.mr_replica.specs.Desk.{DeskView, desk_of, old_errors_of, nothing_taken, adopted, reply_with}
 use Rattle.mr_replica.proofs.Logs.{log-replaced}
+use Rattle.mr_replica.proofs.DeskRows.{order_distinct}
 use Rattle.mr_replica.proofs.Desks.{summary_in, desk_with}
 use Rattle.mr_replica.proofs.Judging.{JudgedWrite, judged_write, JudgedCommit, judged_commit}
 use Rattle.mr_replica.proofs.Learning.{kept-learned, kept-moved}
@@ -209,19 +206,10 @@ at-end items k p c h a = a.rest ∙ ap (λ xs. take_items xs (2 + k) (Ok a.progr
 
 -- ---- the desk
 
-distinct-are : (ids : List Id) → Distinct ids → AreDistinct ids
-distinct-are [] h = tt
-distinct-are (i ∷ is) h = (h.0, distinct-are is h.1)
-
-pub distinct_log : (a : Replica) → IsReplica a → HaveDistinctIds (dropped_in_order a ++ kept_in_order a)
-distinct_log a sound =
-    distinct-are (map id_of (dropped_in_order a ++ kept_in_order a))
-    (subst Distinct (sym (map-append id_of (committed a) (tentative a)) ∙ ap (map id_of) (order-parts a)) (distinct_order a sound))
-
 -- a desk that adopts what a candidate shows stands for the replica that has taken the items
 pub desk-received : (a b : Replica) (c : CandidateView) → IsReplica a → dropped_in_order b ≡ dropped_in_order a → Shows c b → take c.same c.kept ≡ take c.same (kept_in_order a) → desk_with c.summary c.rooms (replaced (desk_of a).log c.same c.kept) (desk_of a).old_errors ≡ desk_of b
 desk-received a b c sound same shows front =
-    let log = log-replaced (dropped_in_order a) (kept_in_order a) c.kept c.same (distinct_log a sound) front ∙ (λ t. log_of (sym same t) (shows.kept t)) in
+    let log = log-replaced (dropped_in_order a) (kept_in_order a) c.kept c.same (order_distinct a sound) front ∙ (λ t. log_of (sym same t) (shows.kept t)) in
     λ t. desk_with (shows.summary t) (shows.rooms t) (log t) (old_errors_of (sym same t))
 
 -- before the first item a candidate of the desk shows its replica

@@ -26,7 +26,7 @@ use Rattle.mr_store.specs.declared.keeper.PlaceRow.{PlaceRow}
 use Rattle.mr_store.specs.declared.keeper.PlaceRow.TheVariants.{Booked, Logged}
 use Rattle.mr_service.specs.Questions.{log_key, log_key_cmp, place_outcome}
 use Rattle.mr_service.proofs.RowOrder.{either_before, permuted_has, has_permuted, sorted_rows}
-use Rattle.mr_service.proofs.RoomRows.{same_text, text_same}
+use Rattle.mr_replay.proofs.Lists.{one_name, same_name}
 
 -- ---- the error log
 
@@ -34,10 +34,10 @@ use Rattle.mr_service.proofs.RoomRows.{same_text, text_same}
 logged_has : (r : Replica) (room : Text) (row : ErrorRow) → Has row (picked_errors room (tables_of r)) → Has row (tables_of r).errorlog × (row.room ≡ room)
 logged_has r room row a =
     let f = filter_has (λ (x : ErrorRow). bytes_eq x.room room) row (tables_of r).errorlog a in
-    (f.0, same_text row.room room f.1)
+    (f.0, one_name row.room room f.1)
 
 has_logged : (r : Replica) (room : Text) (row : ErrorRow) → Has row (tables_of r).errorlog × (row.room ≡ room) → Has row (picked_errors room (tables_of r))
-has_logged r room row p = has_filter (λ (x : ErrorRow). bytes_eq x.room room) row (tables_of r).errorlog (text_same row.room room p.1) p.0
+has_logged r room row p = has_filter (λ (x : ErrorRow). bytes_eq x.room room) row (tables_of r).errorlog (same_name row.room room p.1) p.0
 
 -- a room's error rows are those of its writes, in the order of these
 row_in_order : (r : Replica) (room : Text) (row : ErrorRow) → IsReplica r → Has row (tables_of r).errorlog → row.room ≡ room → Has row (room_rows r room)
@@ -103,15 +103,15 @@ pub place_told : (r : Replica) (room : Text) (id : Id) (place : PlaceRow) → Is
 place_told r room id (Booked row) h is =
     let f = find_has (λ (x : BookingRow). same_id (booking_id x) id && bytes_eq x.room room) row (tables_of r).booking is in
     let p = and_parts (same_id (booking_id row) id) (bytes_eq row.room room) f.1 in
-    subst (λ i. outcome_reply (told_of i (whole_list (view_of r room))) ≡ OutcomeIs (place_outcome (Booked row))) (same_id-true (booking_id row) id p.0) (booked_told r room row h f.0 (same_text row.room room p.1))
+    subst (λ i. outcome_reply (told_of i (whole_list (view_of r room))) ≡ OutcomeIs (place_outcome (Booked row))) (same_id-true (booking_id row) id p.0) (booked_told r room row h f.0 (one_name row.room room p.1))
 place_told r room id (Logged row) h is =
     let f = find_has (λ (x : ErrorRow). same_id (error_id x) id && bytes_eq x.room room) row (tables_of r).errorlog is.1 in
     let p = and_parts (same_id (error_id row) id) (bytes_eq row.room room) f.1 in
-    subst (λ i. outcome_reply (told_of i (whole_list (view_of r room))) ≡ OutcomeIs (place_outcome (Logged row))) (same_id-true (error_id row) id p.0) (logged_told r room row h f.0 (same_text row.room room p.1))
+    subst (λ i. outcome_reply (told_of i (whole_list (view_of r room))) ≡ OutcomeIs (place_outcome (Logged row))) (same_id-true (error_id row) id p.0) (logged_told r room row h f.0 (one_name row.room room p.1))
 
 -- and where no row has it, there is no such request
 pub no_place_told : (r : Replica) (room : Text) (id : Id) → IsReplica r → IsPlaceOf room id (tables_of r) None → outcome_reply (told_of id (whole_list (view_of r room))) ≡ Refused NoSuchRequest
 no_place_told r room id h is =
     none_told r room id h
-    (λ row a own e. none_found (λ (x : BookingRow). same_id (booking_id x) id && bytes_eq x.room room) row (tables_of r).booking is.0 a (and_from (same_id (booking_id row) id) (bytes_eq row.room room) (same_id_from (booking_id row) id e) (text_same row.room room own)))
-    (λ row a own e. none_found (λ (x : ErrorRow). same_id (error_id x) id && bytes_eq x.room room) row (tables_of r).errorlog is.1 a (and_from (same_id (error_id row) id) (bytes_eq row.room room) (same_id_from (error_id row) id e) (text_same row.room room own)))
+    (λ row a own e. none_found (λ (x : BookingRow). same_id (booking_id x) id && bytes_eq x.room room) row (tables_of r).booking is.0 a (and_from (same_id (booking_id row) id) (bytes_eq row.room room) (same_id_from (booking_id row) id e) (same_name row.room room own)))
+    (λ row a own e. none_found (λ (x : ErrorRow). same_id (error_id x) id && bytes_eq x.room room) row (tables_of r).errorlog is.1 a (and_from (same_id (error_id row) id) (bytes_eq row.room room) (same_id_from (error_id row) id e) (same_name row.room room own)))

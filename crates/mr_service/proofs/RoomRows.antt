@@ -1,10 +1,10 @@
 -- From the rows that a keeper picks of the tables of a replica to what its view tells of a room.
 use Rattle.std.proofs.Common.{◌≡◌, refl, sym, ap, ◌∙◌, subst, true, false, ◌||◌, ◌&&◌, eqb, ltb, List, [], ◌∷◌, map, ◌⊎◌, inl, inr, Option, Some, None, lt-ltb}
 use Rattle.std.proofs.lemmas.Bool.{true≢false, and_parts, and_from, or_left, or_right}
-use Rattle.std.proofs.lemmas.Slice.Eq.{bytes_eq-Decides}
 use Rattle.std.specs.Prelude.{option_map}
 use Rattle.std.specs.List.{filter, filter_map}
 use Rattle.std.specs.Str.{bytes_eq}
+use Rattle.mr_replay.proofs.Lists.{one_name, same_name}
 use Rattle.mr_model.specs.Texts.{Text}
 use Rattle.mr_model.specs.Calendar.{Date, same_date, date_before}
 use Rattle.mr_model.specs.Writes.{Write, same_id}
@@ -27,13 +27,6 @@ use Rattle.mr_model.proofs.AnswersFromRows.{entries_told, committed_told}
 use Rattle.mr_model.proofs.UniqueReplay.{some_inj, none_some}
 use Rattle.mr_store.specs.Picked.{is_asked, picked_bookings, booking_before, AreBookings}
 use Rattle.mr_service.proofs.RowOrder.{either_before, permuted_has, has_permuted, sorted_rows}
-
--- texts are compared byte by byte
-pub same_text : (a b : Text) → bytes_eq a b ≡ true → a ≡ b
-same_text a b e = (bytes_eq-Decides a b).0 e
-
-pub text_same : (a b : Text) → a ≡ b → bytes_eq a b ≡ true
-text_same a b e = (bytes_eq-Decides a b).1 e
 
 -- ---- bookings are told as entries
 
@@ -86,11 +79,11 @@ picked_has : (r : Replica) (room : Text) (day : Option Date) (row : BookingRow) 
 picked_has r room day row a =
     let f = filter_has (λ (x : BookingRow). bytes_eq x.room room && is_asked day x.day) row (tables_of r).booking a in
     let p = and_parts (bytes_eq row.room room) (is_asked day row.day) f.1 in
-    (f.0, same_text row.room room p.0, p.1)
+    (f.0, one_name row.room room p.0, p.1)
 
 has_picked : (r : Replica) (room : Text) (day : Option Date) (row : BookingRow) → Has row (tables_of r).booking → row.room ≡ room → is_asked day row.day ≡ true → Has row (picked_bookings room day (tables_of r))
 has_picked r room day row a own asked =
-    has_filter (λ (x : BookingRow). bytes_eq x.room room && is_asked day x.day) row (tables_of r).booking (and_from (bytes_eq row.room room) (is_asked day row.day) (text_same row.room room own) asked) a
+    has_filter (λ (x : BookingRow). bytes_eq x.room room && is_asked day x.day) row (tables_of r).booking (and_from (bytes_eq row.room room) (is_asked day row.day) (same_name row.room room own) asked) a
 
 -- the order of rows is that of their entries
 booking_trans : (a b c : BookingRow) → BookingBefore a b → BookingBefore b c → BookingBefore a c

@@ -12,7 +12,7 @@ use Rattle.mr_model.specs.Refusals as model
 use Rattle.mr_model.specs.Replica.{Replica, IsReplica}
 use Rattle.mr_model.specs.Replies.{Outcome, Part, Full, Committed, Reply, Calendar, Sheet, OutcomeIs, Errors, Refused}
 use Rattle.mr_model.specs.View.{View, view_of, whole_list, calendar_list, entries, entries_of_day, logging_of, find_request, outcome_reply, told_of, Question, AskSheet, AskCalendar, AskOutcome, AskErrors, unless, answer}
-use Rattle.mr_model.specs.Step.{Command, Ask, IsOfMachine, no_memory, no_store}
+use Rattle.mr_model.specs.Step.{Ask, IsOfMachine, no_memory}
 use Rattle.mr_model.specs.Serving.{TakesStep}
 use Rattle.mr_model.specs.Tables.{BookingRow, ErrorRow, Tables, Stands, tables_of}
 use Rattle.mr_model.specs.Queries.{row_entry, row_logging}
@@ -21,29 +21,15 @@ use Rattle.mr_base.specs.Readings.{read_id}
 use Rattle.mr_base.specs.Refusals.{refusal_of}
 use Rattle.mr_base.specs.declared.refusals.Refusal.{Refusal}
 use Rattle.mr_base.specs.declared.refusals.Refusal.TheVariants as refusal
-use Rattle.mr_store.specs.Kept.{fault_refusal}
 use Rattle.mr_store.specs.Picked.{picked_errors, AreBookings, IsPlaceOf}
-use Rattle.mr_store.specs.declared.keeper.Fault.{Fault}
-use Rattle.mr_store.specs.declared.keeper.Fault.TheVariants as fault
 use Rattle.mr_store.specs.declared.keeper.PlaceRow.{PlaceRow}
 use Rattle.mr_service.specs.Asking.{NoneFails, Counts}
 use Rattle.mr_service.specs.Questions.{room_fault, Finds, rows_of_part, place_outcome, log_key, log_key_cmp}
+pub use Rattle.mr_service.proofs.DeskSteps.{of_fault, fault_step}
 use Rattle.mr_service.proofs.RoomRows.{calendar_rows, committed_rows, sheet_rows}
 use Rattle.mr_service.proofs.RoomLog.{error_rows, place_told, no_place_told}
 
 -- ---- failures
-
--- a fault of the keeper is one of memory or of the store
-of_machine : (e : Fault) → IsOfMachine (Refused (refusal_of (fault_refusal e)))
-of_machine fault.OutOfMemory = no_memory
-of_machine fault.Store = no_store
-
-pub of_fault : (e : Fault) (r : Refusal) → r ≡ fault_refusal e → IsOfMachine (Refused (refusal_of r))
-of_fault e r is = subst (λ x. IsOfMachine (Refused (refusal_of x))) (sym is) (of_machine e)
-
--- the keeper's fault, and nothing changed
-pub fault_step : (e : Fault) (r : Refusal) (t u : Tables) (c : Command) → r ≡ fault_refusal e → u ≡ t → TakesStep t c (Refused (refusal_of r)) u
-fault_step e r t u c is same = λ a h. (a, inr (of_fault e r is, refl), subst (λ x. Stands x a) (sym same) h)
 
 -- no failure is counted in two calls, the first of which leaves the tables
 pub none_fails : (t0 t1 : Tables) (n0 n1 n2 : ℕ) → t1 ≡ t0 → n1 ≡ n0 → ((a : Replica) → Stands t1 a → n2 ≡ n1) → NoneFails t0 n0 n2
