@@ -1,5 +1,5 @@
 -- What making the tables does.
-use Rattle.std.proofs.Common.{◌≡◌, ◌⊎◌, inl, inr, ℕ, List, [], ◌∷◌, ◌++◌, Ok, Err, Result, None, OnOk, OnErr, IsTrue, false, refl, sym, ap, subst, ◌∙◌, arith}
+use Rattle.std.proofs.Common.{◌≡◌, inl, inr, ℕ, List, [], ◌∷◌, ◌++◌, Ok, Err, Result, None, OnOk, OnErr, IsTrue, false, refl, sym, ap, subst, ◌∙◌, arith}
 use Rattle.std.specs.List.{AllByRecursion}
 use Rattle.sqlite_trees.specs.Tree.{Trees}
 use Rattle.sqlite_schema.specs.declared.schema.Table.{Table}
@@ -22,13 +22,7 @@ use Rattle.mr_sql.specs.Form.{Form, meta_form, room_form, vector_form, log_form,
 use Rattle.mr_sql.specs.Kept.{IsHeld, IsOurs, IsStep, first_meta, in_order, tables_in}
 use Rattle.mr_sql.specs.Parts.{put_meta}
 use Rattle.mr_sql.specs.Blank.{IsBlank, IsGrown, Grows, no_tables}
-
-went : {B E R : Type 0} {b : B} {Stops : E → Type 0} → ((stop : E) × Stops stop × (Ok b ≡ Err stop)) ⊎ R → R
-went (inl stopped) = absurd (let e = stopped.2 in cc)
-went (inr on) = on
-
-same_value : {B E : Type 0} {a b : B} → ◌≡◌ {A = Result B E} (Ok a) (Ok b) → a ≡ b
-same_value e = cc
+use Rattle.mr_sql.proofs.FormLemmas.{went, same_value}
 
 blank_push : (tables : List Table) (table : Table) (old new : Trees) → AllByRecursion (λ (t : Table). old t.tree ≡ []) tables → KeepsRows tables old new → new table.tree ≡ []
     → AllByRecursion (λ (t : Table). new t.tree ≡ []) (tables ++ table ∷ [])

@@ -29,7 +29,7 @@ pub filter_same : {X : Type 0} (p q : X → Bool) (xs : List X) → ((x : X) →
 filter_same p q [] h = refl
 filter_same p q (x ∷ xs) h = rw (h x (inl refl), filter_same p q xs (λ y k. h y (inr k)))
 
-filter_all_true : {X : Type 0} (xs : List X) → filter (λ _. true) xs ≡ xs
+pub filter_all_true : {X : Type 0} (xs : List X) → filter (λ _. true) xs ≡ xs
 filter_all_true [] = refl
 filter_all_true (x ∷ xs) = ap (λ ys. x ∷ ys) (filter_all_true xs)
 

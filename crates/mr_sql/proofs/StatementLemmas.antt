@@ -23,7 +23,8 @@ use Rattle.mr_sql.specs.Parts.{take_logs, take_undos, take_bookings, take_errors
 use Rattle.mr_sql.proofs.Texts.{take_log_text, take_log_is, take_undo_text, take_undo_is, take_booking_text, take_booking_is, take_error_text, take_error_is, put_meta_text, put_meta_is, put_room_text, put_room_is, put_vector_text, put_vector_is, put_log_text, put_log_is, put_undo_text, put_undo_is, put_booking_text, put_booking_is, put_error_text, put_error_is}
 use Rattle.mr_sql.proofs.TableLemmas.{takes, puts}
 use Rattle.mr_sql.proofs.TableFacts.{meta_facts, room_facts, vector_facts, log_facts, undo_facts, booking_facts, error_facts}
-use Rattle.mr_sql.proofs.StepLemmas.{on_ok_so, meta_step, room_step, vector_step, log_step, undo_step, booking_step, error_step}
+use Rattle.mr_store.proofs.CalendarOrder.{on_ok_so}
+use Rattle.mr_sql.proofs.StepLemmas.{meta_step, room_step, vector_step, log_step, undo_step, booking_step, error_step}
 
 -- ---- plain rows are read back off their cells
 

@@ -1,5 +1,5 @@
 -- What a step on one table makes of all tables, and steps one after another.
-use Rattle.std.proofs.Common.{◌≡◌, ◌≢◌, ℕ, List, [], ◌∷◌, Bool, true, false, not, ◌||◌, ◌==◌, cond, eq-eqb, ◌+◌, ◌<◌, ◌≤◌, length, drop, get_or, Ok, Err, Result, OnOk, refl, sym, ap, subst, ◌∙◌, arith}
+use Rattle.std.proofs.Common.{◌≡◌, ◌≢◌, ℕ, List, [], ◌∷◌, Bool, true, false, not, ◌||◌, ◌==◌, cond, eq-eqb, ◌+◌, ◌<◌, ◌≤◌, length, drop, get_or, refl, sym, ap, subst, ◌∙◌, arith}
 use Rattle.std.proofs.lemmas.Bool.{and_parts, not-true}
 use Rattle.std.specs.List.{AllByRecursion, list_all}
 use Rattle.std.proofs.lemmas.List.{drop_more, drop_all}
@@ -91,11 +91,6 @@ step_of f old new xs t turns held tables = record {
   committed = turns.committed;
   within = turns.within;
 }
-
--- what holds of a result that is Ok
-pub on_ok_so : {X E P Q : Type 0} (r : Result X E) → (P → Q) → OnOk r P → OnOk r Q
-on_ok_so (Ok x) way h = way h
-on_ok_so (Err e) way h = tt
 
 pub meta_step : (old new : State) (xs : List MetaRow) → IsOurs old.now → Turns meta_form old new xs → IsStep old new (record (tables_in old.now.trees) { meta = first_meta xs })
 unfolding tables_in

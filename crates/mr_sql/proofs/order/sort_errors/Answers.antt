@@ -2,7 +2,7 @@ use Rattle.std.proofs.Common.{rules}
 use Rattle.std.proofs.lemmas.List.MinMax.{ranks_by}
 use Rattle.std.proofs.lemmas.List.Sorted.{answers_always}
 use Rattle.mr_sql.proofs.SortLemmas.{error_total}
-use Rattle.mr_sql.proofs.StepLemmas.{on_ok_so}
+use Rattle.mr_store.proofs.CalendarOrder.{on_ok_so}
 use Rattle.mr_sql.proofs.order.sort_errors.Goals as goal
 
 pub returns-clause-sorted : goal.returns-clause-sorted
