@@ -8,6 +8,7 @@ use Rattle.serde_json.specs.Data.{Data, null, boolean, number, string, array, ob
 use Rattle.serde_json.specs.Find.{as_object}
 use Rattle.serde_json.specs.Read.{read}
 use Rattle.serde_json.specs.View.{members_of}
+use Rattle.mr_http.proofs.BodyLemmas.{cases_bool}
 use Rattle.mr_model.specs.Step.{Submission}
 use Rattle.mr_model.specs.Http.{Response, bad_request}
 use Rattle.mr_web.specs.Submissions.{member_count, members_in, submission_in, submission_of}
@@ -26,10 +27,6 @@ members_in_object (array ds) ms h = let bad : ⊥ = cc in absurd bad
 members_in_object (object all) ms h = ap (λ o. member_count (unwrap_or o ms)) h
 
 -- ---- bodies
-
-cases_bool : (b : Bool) → (b ≡ true) ⊎ (b ≡ false)
-cases_bool true = inl refl
-cases_bool false = inr refl
 
 abbrev asked_of : Bool → Option Data → Result Submission Response
 asked_of utf8 d = ok_or (if utf8 then option_and_then submission_in d else None) bad_request
