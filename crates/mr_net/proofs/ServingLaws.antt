@@ -1,12 +1,12 @@
 -- How serving ends.
-use Rattle.std.proofs.Common.{◌≡◌, ◌≢◌, refl, sym, ◌∙◌, ap, subst, ℕ, ◌+◌, ◌<◌, List, [], ◌∷◌, ◌++◌, length, map, flat_map, ◌⊎◌, inl, inr, append_assoc, append-nil}
+use Rattle.std.proofs.Common.{◌≡◌, ◌≢◌, refl, sym, ◌∙◌, ap, subst, ℕ, ◌+◌, ◌<◌, List, [], ◌∷◌, ◌++◌, length, ◌⊎◌, inl, inr, append_assoc, append-nil}
 use Rattle.std.specs.Prelude.{Option}
 use Rattle.std.specs.Io.KnownBytes.{Appends}
 use Rattle.std.proofs.KnownBytes.{Appends-nil, Appends-trans}
 use Rattle.std.proofs.lemmas.List.{length_push}
 use Rattle.mr_model.specs.Texts.{Text, line}
 use Rattle.mr_model.specs.Refusals.{Refusal, refusal_text}
-use Rattle.mr_say.specs.Told.{no_memory_line, TellsRefusal}
+use Rattle.mr_say.specs.Told.{no_memory_line}
 use Rattle.mr_net.specs.Printed.{Stops, connection_text, connection_lines, serving_line, TellsConnections, EndsServing}
 
 -- lines for this many connections are printed
