@@ -218,6 +218,7 @@ batch-one_line b ok = go b.header b.items b.ending ok
 pub read-text : (b : Batch) → is_batch b ≡ true → read_batch (batch_text b) ≡ Ok b
 read-text b ok = ap read_lines (lines-text (batch_lines b) (batch-one_line b ok)) ∙ read-lines b ok
 
+-- answers that are equal are of equal values
 pub ok_inj : {A E : Type 0} (x y : A) → ◌≡◌ {A = Result A E} (Ok x) (Ok y) → x ≡ y
 ok_inj x y e = cc
 
@@ -231,7 +232,8 @@ reads-lines bytes b ok e = ap read_lines e ∙ read-lines b ok
 
 -- ---- what is read has the text that was read
 
-only_if_some : {A : Type 0} (b : Bool) (x y : A) → only_if b x ≡ Some y → (b ≡ true) × (x ≡ y)
+-- a value that is read has passed the test
+pub only_if_some : {A : Type 0} (b : Bool) (x y : A) → only_if b x ≡ Some y → (b ≡ true) × (x ≡ y)
 only_if_some true x y e = (refl, (let f : Some x ≡ Some y = e in cc))
 only_if_some {A = A} false x y e = absurd (let f : ◌≡◌ {A = Option A} None (Some y) = e in cc)
 

@@ -110,7 +110,8 @@ order-places r h =
     by_rooms (order_of r) (map (place_of r) (order_of r)) (board_replay (order_of r)) (length-map (order_of r) (place_of r)) (length-replay_on [] (order_of r))
     (λ room. places-of_map room (place_of r) (order_of r) ∙ room-places r room h ∙ sym (rooms_apart room [] (order_of r)))
 
-map_at : {A B : Type 0} (f g : A → B) (x : A) (xs : List A) → map f xs ≡ map g xs → Has x xs → f x ≡ g x
+-- functions that map a list alike are the same at its elements
+pub map_at : {A B : Type 0} (f g : A → B) (x : A) (xs : List A) → map f xs ≡ map g xs → Has x xs → f x ≡ g x
 map_at f g x [] e h = absurd h
 map_at f g x (y ∷ ys) e (inl s) = let k : f y ∷ map f ys ≡ g y ∷ map g ys = e in let here : f y ≡ g y = (cc) in ap f s ∙ here ∙ ap g (sym s)
 map_at f g x (y ∷ ys) e (inr h) = map_at f g x ys (let k : f y ∷ map f ys ≡ g y ∷ map g ys = e in (cc)) h

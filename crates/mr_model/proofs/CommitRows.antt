@@ -19,12 +19,14 @@ use Rattle.mr_model.proofs.Fronts.{take-front}
 
 -- ---- a commit
 
-slice_map : {A B : Type 0} (f : A → B) (xs : List A) (i : ℕ) (x : A) → slice_get xs i ≡ Some x → slice_get (map f xs) i ≡ Some (f x)
+-- the element of a mapped list is that of the list, mapped
+pub slice_map : {A B : Type 0} (f : A → B) (xs : List A) (i : ℕ) (x : A) → slice_get xs i ≡ Some x → slice_get (map f xs) i ≡ Some (f x)
 slice_map f [] i x e = absurd (none_some x e)
 slice_map f (y ∷ ys) zero x e = ap (λ z. Some (f z)) (some_inj y x e)
 slice_map f (y ∷ ys) (suc i) x e = slice_map f ys i x e
 
-slice_behind : {A : Type 0} (xs ys : List A) (i : ℕ) → slice_get (xs ++ ys) (length xs + i) ≡ slice_get ys i
+-- and one behind the front of two lists is one of the second
+pub slice_behind : {A : Type 0} (xs ys : List A) (i : ℕ) → slice_get (xs ++ ys) (length xs + i) ≡ slice_get ys i
 slice_behind [] ys i = let e : 0 + i ≡ i = omega arith in ap (slice_get ys) e
 slice_behind (x ∷ xs) ys i = let e : suc (length xs) + i ≡ suc (length xs + i) = omega arith in ap (slice_get (x ∷ (xs ++ ys))) e ∙ slice_behind xs ys i
 

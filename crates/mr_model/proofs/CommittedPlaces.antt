@@ -174,7 +174,8 @@ places_stay {old = old} {new = new} s a room id x h hn g ea ta =
 
 -- ---- a committed write is told
 
-same_id_comm : (a b : Id) → same_id a b ≡ same_id b a
+-- ids are the same both ways round
+pub same_id_comm : (a b : Id) → same_id a b ≡ same_id b a
 same_id_comm a b = go (same_id a b) refl (same_id b a) refl
   where
     go : (x : Bool) → same_id a b ≡ x → (y : Bool) → same_id b a ≡ y → x ≡ y

@@ -19,7 +19,8 @@ pub record StopsAt (k : ℕ) (ls : List Text) (e : Refusal) : Type 0 where
   pub same_lines : take m ls ≡ map item_line items ++ ending_lines ending
   pub stays_bad : read_body k (take (suc m) ls) ≡ Err (BadLine (k + m))
 
-err_inj : {A E : Type 0} (x y : E) → ◌≡◌ {A = Result A E} (Err x) (Err y) → x ≡ y
+-- refusals that are equal are of equal reasons
+pub err_inj : {A E : Type 0} (x y : E) → ◌≡◌ {A = Result A E} (Err x) (Err y) → x ≡ y
 err_inj x y e = cc
 
 body_stops : (k : ℕ) (ls : List Text) (e : Refusal) → read_body k ls ≡ Err e → StopsAt k ls e
@@ -86,7 +87,8 @@ body_stops k (l ∷ ls) e h = go (read_body_line l) refl (body_line_of l) h (rea
 
 -- ---- the whole text
 
-ok_err : {A E : Type 0} (x : A) (e : E) → ◌≡◌ {A = Result A E} (Ok x) (Err e) → ⊥
+-- a value is no refusal
+pub ok_err : {A E : Type 0} (x : A) (e : E) → ◌≡◌ {A = Result A E} (Ok x) (Err e) → ⊥
 ok_err x e h = cc
 
 -- lines that reading refuses are no batch's

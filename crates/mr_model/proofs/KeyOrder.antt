@@ -25,7 +25,8 @@ numbered_sorted f k (x ∷ xs) e =
     let rest = ap (λ (ms : List ℕ). drop 1 ms) e in
     (has_all (λ y. f x < f y) xs (λ y h. let low : k + 1 ≤ f y = (numbered_bounds f (k + 1) y xs rest h).0 in omega (arith, first, low)), numbered_sorted f (k + 1) xs rest)
 
-numbers_low : (m k n : ℕ) → Has m (numbers_on k n) → k ≤ m
+-- the numbers from k on are at least k
+pub numbers_low : (m k n : ℕ) → Has m (numbers_on k n) → k ≤ m
 numbers_low m k zero h = absurd h
 numbers_low m k (suc n) (inl e) = omega (arith, e)
 numbers_low m k (suc n) (inr h) = let l : k + 1 ≤ m = numbers_low m (k + 1) n h in omega (arith, l)

@@ -36,7 +36,8 @@ run_order r [] s = tt
 run_order r (w ∷ ws) s =
     (has_all (LogBefore (log_row r w)) (map (log_row r) ws) (λ row h. let (v, g, e) = map_has (log_row r) row ws h in subst (LogBefore (log_row r w)) (sym e) (log_before r w v (all_has (OrderBefore r w) v ws s.0 g))), run_order r ws s.1)
 
-kept_known : (r : Replica) (w : Write) → IsReplica r → Has w (kept_in_order r) → Has w r.known × (is_dropped r (id_of w) ≡ false)
+-- a kept write is known and not dropped
+pub kept_known : (r : Replica) (w : Write) → IsReplica r → Has w (kept_in_order r) → Has w r.known × (is_dropped r (id_of w) ≡ false)
 kept_known r w h a = go (has_split w (Rattle.mr_model.proofs.RoomPlaces.kept_committed r) (tentative r) a)
   where
     go : Has w (Rattle.mr_model.proofs.RoomPlaces.kept_committed r) ⊎ Has w (tentative r) → Has w r.known × (is_dropped r (id_of w) ≡ false)
@@ -46,7 +47,8 @@ kept_known r w h a = go (has_split w (Rattle.mr_model.proofs.RoomPlaces.kept_com
         (k.0, ap (is_dropped r) k.1 ∙ kept_id r id h c)
     go (inr b) = let t = tentative_known r w b in (t.0, not_committed_kept r (id_of w) t.1)
 
-known_kept : (r : Replica) (w : Write) → IsReplica r → Has w r.known → is_dropped r (id_of w) ≡ false → Has w (kept_in_order r)
+-- and a known write that isn't dropped is kept
+pub known_kept : (r : Replica) (w : Write) → IsReplica r → Has w r.known → is_dropped r (id_of w) ≡ false → Has w (kept_in_order r)
 known_kept r w h a d = go (known_in_order r w h a)
   where
     front : Has w (dropped_in_order r) ⊎ Has w (Rattle.mr_model.proofs.RoomPlaces.kept_committed r) → Has w (kept_in_order r)

@@ -47,7 +47,8 @@ counts_from r k (suc n) = go (eqb (count_of r k) 0) (weaken (counts_of r (number
     go true all = all
     go false all = (Rattle.std.proofs.Common.le_refl k, all)
 
-rising_on : (c : Count) (cs : List Count) → AllByRecursion (λ d. c.server + 1 ≤ d.server) cs → are_rising cs ≡ true → are_rising (c ∷ cs) ≡ true
+-- a count in front of those of later servers keeps them rising
+pub rising_on : (c : Count) (cs : List Count) → AllByRecursion (λ d. c.server + 1 ≤ d.server) cs → are_rising cs ≡ true → are_rising (c ∷ cs) ≡ true
 rising_on c [] all e = refl
 rising_on c (d ∷ cs) all e = let a : c.server + 1 ≤ d.server = all.0 in and_from (ltb c.server d.server) (are_rising (d ∷ cs)) (lt-ltb c.server d.server (omega (arith, a))) e
 

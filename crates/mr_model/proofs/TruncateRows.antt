@@ -26,7 +26,8 @@ seq_high k (suc n) (x ∷ xs) id h = go (same_id x id) refl h (seq_high (k + 1) 
     go false e (inl s) ih = absurd (true≢false (sym (subst (λ i. same_id i id ≡ true) s (same_id_refl id)) ∙ e))
     go false e (inr a) ih = let l : seq_among (k + 1) xs id < k + 1 + n = ih a in omega (arith, l)
 
-slice_in_front : {A : Type 0} (n i : ℕ) (x : A) (xs : List A) → slice_get xs i ≡ Some x → i < n → Has x (take n xs)
+-- the element at a place before n is one of the first n
+pub slice_in_front : {A : Type 0} (n i : ℕ) (x : A) (xs : List A) → slice_get xs i ≡ Some x → i < n → Has x (take n xs)
 slice_in_front zero i x xs e l = absurd (Rattle.std.proofs.Common.not-suc-le-zero l)
 slice_in_front (suc n) i x [] e l = absurd (none_some x e)
 slice_in_front (suc n) zero x (y ∷ ys) e l = inl (sym (some_inj y x e))

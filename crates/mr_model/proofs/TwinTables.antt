@@ -21,6 +21,7 @@ use Rattle.mr_model.proofs.RoomPlaces.{dropped_writes, kept_committed, told, roo
 use Rattle.mr_model.proofs.RowsById.{Paired, rows_from_pairs, map_filter, seq_behind}
 use Rattle.mr_model.proofs.TablesTell.{kept_log, booked_as, booked_row, row_booked}
 
+-- tests that pass each other's are the same
 pub bool_same : (a b : Bool) → (a ≡ true → b ≡ true) → (b ≡ true → a ≡ true) → a ≡ b
 bool_same true b f g = sym (f refl)
 bool_same false true f g = g refl
