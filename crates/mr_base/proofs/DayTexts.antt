@@ -6,9 +6,10 @@ use Rattle.std.proofs.lemmas.Bool.{and_parts, and_from}
 use Rattle.std.proofs.lemmas.Bool.Decides.{nat_tests}
 use Rattle.mr_model.specs.Texts.{Text}
 use Rattle.mr_model.specs.Calendar.{Date, is_date, date_text, date_in, read_date}
+use Rattle.mr_model.proofs.BatchesReadBack.{only_if_some}
 use Rattle.mr_model.proofs.WordsReadBack.{date_facts, date-text}
 use Rattle.mr_base.specs.Readings.{pair_in, date_if, date_of_parts, date_by_digits}
-use Rattle.mr_base.proofs.Readers.{bytes_same, same_bytes, only_if_is, only_if_true, same_reading, ok_written, when_is, pair_is, pair-digits}
+use Rattle.mr_base.proofs.Readers.{bytes_same, same_bytes, only_if_true, same_reading, ok_written, when_is, pair_is, pair-digits}
 
 -- a list of ten is that of its elements
 ten : (s : Text) → length s ≡ 10 → s ≡ slice_index s 0 ∷ slice_index s 1 ∷ slice_index s 2 ∷ slice_index s 3 ∷ slice_index s 4 ∷ slice_index s 5 ∷ slice_index s 6 ∷ slice_index s 7 ∷ slice_index s 8 ∷ slice_index s 9 ∷ []
@@ -57,7 +58,7 @@ date_text-date_by_digits s v e =
     let m = pair_is (slice_index s 5) (slice_index s 6) p.month p.month_is in
     let d = pair_is (slice_index s 8) (slice_index s 9) p.day p.day_is in
     let date : Date = record { year = p.century * 100 + p.year; month = p.month; day = p.day } in
-    let is = only_if_is (is_date date) date v p.date_is in
+    let is = only_if_some (is_date date) date v p.date_is in
     let spelling : s ≡ date_text date = ten s f.0 ∙ date_spelled _ _ _ _ _ _ _ _ _ _ p.century p.year p.month p.day (f.1, f.2) c y m d in
     (subst (λ (u : Date). is_date u ≡ true) is.1 is.0, spelling ∙ ap date_text is.1)
 

@@ -11,7 +11,9 @@ use Rattle.std.proofs.lemmas.Bool.Decides.{nat_tests}
 use Rattle.std.proofs.lemmas.Str.Parse.{IsNumeralModel, IsDigitsTest, numerals_by_value, parse_digits}
 use Rattle.std.proofs.lemmas.Fmt.{decimal-digits_value, digits_decimal, digits_value-decimal, decimal_digit, decimal_nonempty, first_decimal}
 use Rattle.mr_model.specs.Texts.{Text, within, number_in, only_if}
-use Rattle.mr_base.proofs.Readers.{same_test, bytes_same, same_bytes, only_if_is, only_if_true}
+use Rattle.mr_model.proofs.BatchesReadBack.{only_if_some}
+use Rattle.mr_model.proofs.TwinTables.{bool_same}
+use Rattle.mr_base.proofs.Readers.{bytes_same, same_bytes, only_if_true}
 use Rattle.mr_base.specs.Readings.{is_number, number_by_digits, number_from_to}
 
 tests_digits : IsDigitsTest (λ ds. list_all is_ascii_digit ds ≡ true)
@@ -50,12 +52,12 @@ decimal-is_number : (text : Text) → is_number text ≡ true → number_in text
 decimal-is_number text h small = decimal-digits_value own text (digits text h) (nonempty text h) (zero_alone text h) small
 
 -- below a bound that fits, a number fits
-within-below : (low high n : ℕ) → within low high n ≡ true → high < 2 ^ 64 → n < 2 ^ 64
+pub within-below : (low high n : ℕ) → within low high n ≡ true → high < 2 ^ 64 → n < 2 ^ 64
 within-below low high n h fits = grind (arith, nat_tests)
 
 -- by the bytes as by the spelling
 pub number_from_to_is : (low high : ℕ) (text : Text) → high < 2 ^ 64 → number_by_digits low high text ≡ number_from_to low high text
-number_from_to_is low high text fits = ap (λ b. only_if b n) (same_test (is_number text && within low high n) (within low high n && bytes_eq (decimal n) text) there back)
+number_from_to_is low high text fits = ap (λ b. only_if b n) (bool_same (is_number text && within low high n) (within low high n && bytes_eq (decimal n) text) there back)
   where
     n : ℕ
     n = number_in text
@@ -75,7 +77,7 @@ number_from_to_is low high text fits = ap (λ b. only_if b n) (same_test (is_num
 -- the text that a number is read from is the text of that number
 pub decimal-number_from_to : (low high n : ℕ) (text : Text) → number_from_to low high text ≡ Some n → (text ≡ decimal n) × (low ≤ n) × (n ≤ high)
 decimal-number_from_to low high n text e =
-    let k = only_if_is (within low high (number_in text) && bytes_eq (decimal (number_in text)) text) (number_in text) n e in
+    let k = only_if_some (within low high (number_in text) && bytes_eq (decimal (number_in text)) text) (number_in text) n e in
     let p = and_parts (within low high (number_in text)) (bytes_eq (decimal (number_in text)) text) k.0 in
     let q = and_parts (leb low (number_in text)) (leb (number_in text) high) p.0 in
     (sym (bytes_same _ _ p.1) ∙ ap decimal k.1, subst (λ m. low ≤ m) k.1 (at_least q.0), subst (λ m. m ≤ high) k.1 (at_most q.1))

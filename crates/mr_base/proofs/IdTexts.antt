@@ -13,10 +13,11 @@ use Rattle.std.proofs.lemmas.Str.Parse.{not_in_digits}
 use Rattle.std.proofs.lemmas.Fmt.{digits_decimal, decimal_nonempty}
 use Rattle.mr_model.specs.Texts.{Text, within, number_in, only_if}
 use Rattle.mr_model.specs.Writes.{Id, is_server, is_count, is_id, id_text, id_in, is_id_text}
+use Rattle.mr_model.proofs.BatchesReadBack.{only_if_some}
 use Rattle.mr_model.proofs.WordsReadBack.{number-decimal}
 use Rattle.mr_base.specs.Readings.{number_from_to, id_of_parts, id_by_parts, read_id}
 use Rattle.mr_base.proofs.Decimals.{own, number_from_to-decimal, decimal-number_from_to}
-use Rattle.mr_base.proofs.Readers.{bytes_same, same_bytes, only_if_is, same_reading, ok_written}
+use Rattle.mr_base.proofs.Readers.{bytes_same, same_bytes, same_reading, ok_written}
 
 -- what is read of the two parts where an id is read of them
 record IdParts (os on : Option ℕ) (v : Id) : Type 0 where
@@ -124,7 +125,7 @@ id_by_parts-id_text v h =
 -- what is read is spelled so, and what is spelled so is read
 is-read_id : (s : Text) (v : Id) → read_id s ≡ Some v → (is_id v ≡ true) × (s ≡ id_text v)
 is-read_id s v e =
-    let k = only_if_is (is_id_text s) (id_in s) v e in
+    let k = only_if_some (is_id_text s) (id_in s) v e in
     let p = and_parts (is_id (id_in s)) (bytes_eq (id_text (id_in s)) s) k.0 in
     (subst (λ (w : Id). is_id w ≡ true) k.1 p.0, sym (bytes_same (id_text (id_in s)) s p.1) ∙ ap id_text k.1)
 

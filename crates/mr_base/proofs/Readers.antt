@@ -1,14 +1,10 @@
--- What the readers of words share: tests that agree, values that are read, pairs of digits.
+-- What the readers of words share: values that are read, pairs of digits.
 use Rattle.std.proofs.Common.{◌≡◌, refl, sym, ap, ℕ, ◌+◌, ◌/◌, ◌%◌, ◌<◌, Bool, true, false, cond, Option, Some, None, Result, Ok, Err, IfOk, ok_or, arith}
 use Rattle.std.specs.Str.{bytes_eq}
 use Rattle.std.specs.Cmp.Lexicographic.{bytes_decides}
-use Rattle.std.proofs.lemmas.Bool.Decides.{nat_tests, same_from_decides}
+use Rattle.std.proofs.lemmas.Bool.Decides.{nat_tests}
 use Rattle.mr_model.specs.Texts.{Text, only_if}
 use Rattle.mr_base.specs.Readings.{pair_in}
-
--- two tests that pass each other's are the same
-pub same_test : (a b : Bool) → (a ≡ true → b ≡ true) → (b ≡ true → a ≡ true) → a ≡ b
-same_test a b there back = same_from_decides {P = b ≡ true} a b (there, back) (λ e. e, λ e. e)
 
 -- texts that pass the test are the same, and the other way around
 pub bytes_same : (s t : Text) → bytes_eq s t ≡ true → s ≡ t
@@ -16,11 +12,6 @@ bytes_same s t = (bytes_decides s t).0
 
 pub same_bytes : (s t : Text) → s ≡ t → bytes_eq s t ≡ true
 same_bytes s t = (bytes_decides s t).1
-
--- a value that is read has passed the test
-pub only_if_is : {A : Type 0} (b : Bool) (x v : A) → only_if b x ≡ Some v → (b ≡ true) × (x ≡ v)
-only_if_is true x v e = (refl, cc)
-only_if_is false x v e = cc
 
 -- what is read where the test is passed, and where it is not
 pub only_if_true : {A : Type 0} (b : Bool) (x : A) → b ≡ true → only_if b x ≡ Some x

@@ -6,9 +6,10 @@ use Rattle.std.proofs.lemmas.Bool.{and_parts, and_from}
 use Rattle.std.proofs.lemmas.Bool.Decides.{nat_tests}
 use Rattle.mr_model.specs.Texts.{Text, only_if}
 use Rattle.mr_model.specs.Calendar.{time_text, time_in, read_time}
+use Rattle.mr_model.proofs.BatchesReadBack.{only_if_some}
 use Rattle.mr_model.proofs.WordsReadBack.{time-text}
 use Rattle.mr_base.specs.Readings.{pair_in, minute_of_parts, minute_by_digits}
-use Rattle.mr_base.proofs.Readers.{bytes_same, same_bytes, only_if_is, only_if_true, same_reading, when_is, pair_is, pair-digits}
+use Rattle.mr_base.proofs.Readers.{bytes_same, same_bytes, only_if_true, same_reading, when_is, pair_is, pair-digits}
 
 -- a list of five is that of its elements
 five : (s : Text) → length s ≡ 5 → s ≡ slice_index s 0 ∷ slice_index s 1 ∷ slice_index s 2 ∷ slice_index s 3 ∷ slice_index s 4 ∷ []
@@ -47,7 +48,7 @@ time_text-minute_by_digits s v e =
     let p : MinuteParts (pair_in (slice_index s 0) (slice_index s 1)) (pair_in (slice_index s 3) (slice_index s 4)) v = minute_parts _ _ v w.1 in
     let h = pair_is (slice_index s 0) (slice_index s 1) p.hour p.hour_is in
     let m = pair_is (slice_index s 3) (slice_index s 4) p.minute p.minute_is in
-    let is = only_if_is (ltb p.hour 24 && ltb p.minute 60) (p.hour * 60 + p.minute) v p.value_is in
+    let is = only_if_some (ltb p.hour 24 && ltb p.minute 60) (p.hour * 60 + p.minute) v p.value_is in
     let t = and_parts (ltb p.hour 24) (ltb p.minute 60) is.0 in
     let hour : p.hour < 24 = ltb-true p.hour 24 t.0 in
     let minute : p.minute < 60 = ltb-true p.minute 60 t.1 in
