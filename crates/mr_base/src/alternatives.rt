@@ -26,14 +26,6 @@ impl Alternatives {
         Alternatives { slots: list }
     }
 
-    /// Them as a list.
-    pub fn into_vec(self) -> Vec<Slot>
-        ensures { result.items ≡ self }
-    {
-        let Alternatives { slots } = self;
-        slots
-    }
-
     /// Them as a slice.
     pub fn as_slice(&self) -> &[Slot]
         ensures { result.now ≡ self.now }

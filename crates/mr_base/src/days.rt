@@ -3,8 +3,8 @@ ghost use Rattle.jiff.specs.Words.{monday_zero};
 ghost use Rattle.mr_model.specs.Calendar.{Date as CivilDay, is_date, date_text, read_date, weekday_of, weekday_name as name_of_weekday};
 ghost use Rattle.mr_base.specs.Readings.{date_if, date_by_digits};
 
-use crate::digits::read_pair;
-use crate::{Refusal, TwoDigits};
+use crate::Refusal;
+use crate::digits::{TwoDigits, read_pair};
 use jiff::civil::{Date, Weekday};
 use std::fmt;
 use std::marker::Model;

@@ -7,7 +7,7 @@ use std::marker::Model;
 
 /// A number below 100, which is written in two digits.
 #[derive(Clone, Copy)]
-pub struct TwoDigits {
+pub(crate) struct TwoDigits {
     number: u16,
 }
 
@@ -23,7 +23,7 @@ impl Model for TwoDigits {
 
 impl TwoDigits {
     /// The number, which is to be below 100.
-    pub fn new(number: u16) -> TwoDigits
+    pub(crate) fn new(number: u16) -> TwoDigits
         requires { number < 100 }
         ensures { result ≡ number }
     {

@@ -26,7 +26,6 @@ pub use alternatives::Alternatives;
 pub use batches::{Batch, Ending, Item};
 pub use commits::CommitNumber;
 pub use days::{Day, weekday_name};
-pub use digits::TwoDigits;
 pub use jiff::civil::Weekday;
 pub use line_counts::LineCount;
 pub use numbers::read_number;

@@ -2,8 +2,8 @@ ghost use Rattle.std.specs.Prelude.{◌≡◌, ℕ, Some, Ok, IfOk, ok_or, ◌<�
 ghost use Rattle.mr_model.specs.Calendar.{time_text, read_time};
 ghost use Rattle.mr_base.specs.Readings.{minute_by_digits};
 
-use crate::digits::read_pair;
-use crate::{Refusal, TwoDigits};
+use crate::Refusal;
+use crate::digits::{TwoDigits, read_pair};
 use std::fmt;
 use std::marker::Model;
 
