@@ -1,5 +1,5 @@
 -- Ids as keys: their order tells them apart just as the test of the definitions does.
-use Rattle.std.proofs.Common.{◌≡◌, ℕ, Bool, true, false, ap, refl, sym, ◌∙◌, subst}
+use Rattle.std.proofs.Common.{◌≡◌, ℕ, Bool, true, ap, refl, sym, ◌∙◌, subst}
 use Rattle.std.specs.BTreeMap.{is_at}
 use Rattle.std.specs.Cmp.{IsTotalOrder, IsEquivalence, nat_cmp_total, eq_by_cmp_equiv}
 use Rattle.std.specs.declared.cmp.Ordering.{Ordering}
@@ -9,12 +9,14 @@ use Rattle.std.proofs.lemmas.Cmp.{on_total, then_total}
 use Rattle.std.proofs.lemmas.Map.Lookups.{CmpEqualImpliesEq, exact_pairs, exact_unsigned}
 use Rattle.mr_model.specs.Writes.{Id, same_id}
 use Rattle.mr_model.proofs.Members.{same_id-true, same_id_from}
+use Rattle.mr_model.proofs.TwinTables.{bool_same}
 use Rattle.mr_base.specs.Ids.{id_cmp}
 
 -- ids that compare alike are one
 pub exact_ids : CmpEqualImpliesEq id_cmp
 exact_ids a b h = ap (λ (p : ℕ × ℕ). record { server = p.0; n = p.1 }) (exact_pairs nat_cmp nat_cmp exact_unsigned exact_unsigned (a.server, a.n) (b.server, b.n) h)
 
+-- ids are in a total order, by server and then by number
 pub ids_total : IsTotalOrder id_cmp
 ids_total = then_total (on_total (λ (i : Id). i.server) nat_cmp_total) (on_total (λ (i : Id). i.n) nat_cmp_total)
 
@@ -33,14 +35,8 @@ is_eq-Equal Greater e = let never : ⊥ = cc in absurd never
 pub at_one : (i j : Id) → at i j ≡ true → i ≡ j
 at_one i j e = exact_ids i j (is_eq-Equal (id_cmp i j) e)
 
--- two tests that pass together are one
-pub same_from_true : (a b : Bool) → (a ≡ true → b ≡ true) → (b ≡ true → a ≡ true) → a ≡ b
-same_from_true true b f g = sym (f refl)
-same_from_true false true f g = g refl
-same_from_true false false f g = refl
-
 at_same : (i j : Id) → at i j ≡ same_id i j
-at_same i j = same_from_true (at i j) (same_id i j) (λ e. same_id_from i j (at_one i j e)) (λ e. ap (λ k. at i k) (sym (same_id-true i j e)) ∙ at_equivalence.refl i)
+at_same i j = bool_same (at i j) (same_id i j) (λ e. same_id_from i j (at_one i j e)) (λ e. ap (λ k. at i k) (sym (same_id-true i j e)) ∙ at_equivalence.refl i)
 
 -- it is the test of the definitions
 pub at_is : at ≡ same_id
