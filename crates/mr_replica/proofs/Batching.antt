@@ -5,7 +5,6 @@ use Rattle.std.specs.List.{filter_map, cons_option, enumerate_from}
 use Rattle.std.proofs.Math.Seq.{take-append_seam}
 use Rattle.std.proofs.lemmas.Bool.Decides.{nat_tests}
 use Rattle.std.proofs.lemmas.List.{length-append, length-map, length-take, map-append, take_all, take-append-drop}
-use Rattle.mr_model.specs.Texts.{only_if}
 use Rattle.mr_model.specs.Writes.{Id, Write, id_of}
 use Rattle.mr_model.specs.Exchange as model
 use Rattle.mr_model.specs.Positions.{Position}
@@ -19,7 +18,6 @@ use Rattle.mr_model.proofs.Members.{has_right}
 use Rattle.mr_model.proofs.KnownById.{known_with, commit_found}
 use Rattle.mr_model.proofs.RoomPlaces.{kept_committed}
 use Rattle.mr_model.proofs.TwinChanges.{drop-add}
-use Rattle.mr_model.proofs.UniqueReplay.{some_inj, none_some}
 use Rattle.mr_base.specs.declared.batches.Item.{Item}
 use Rattle.mr_base.specs.Batches as base
 use Rattle.mr_base.specs.Batches.{item_of}
@@ -41,10 +39,6 @@ Offers-more limit items there new more x y o room e same =
   where
     not_above : (l m n : ℕ) → m ≤ l → n ≤ l → nat_lt l m ≡ nat_lt l n
     not_above l m n p q = grind (arith, nat_tests)
-
-pub only_if_some : (b : Bool) (n s : ℕ) → only_if b n ≡ Some s → (b ≡ true) × (n ≡ s)
-only_if_some true n s e = (refl, some_inj n s e)
-only_if_some false n s e = absurd (none_some s e)
 
 -- ---- more writes
 

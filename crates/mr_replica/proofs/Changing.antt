@@ -1,31 +1,31 @@
 -- What each call of a desk changes in its tables.
-use Rattle.std.proofs.Common.{◌≡◌, refl, sym, ap, ◌∙◌, subst, ℕ, zero, suc, ◌+◌, ◌-◌, ◌<◌, ◌≤◌, max, Bool, true, false, not, cond, ◌||◌, leb, ltb, List, [], ◌∷◌, ◌++◌, length, map, take, drop, ◌⊎◌, inl, inr, Option, Some, None, arith, append_assoc, le-leb, leb-true, append-nil, length-append}
+use Rattle.std.proofs.Common.{◌≡◌, refl, sym, ap, ◌∙◌, subst, ℕ, zero, suc, ◌+◌, ◌-◌, ◌<◌, ◌≤◌, max, Bool, true, false, not, cond, ◌||◌, leb, List, [], ◌∷◌, ◌++◌, length, map, take, drop, ◌⊎◌, inl, inr, Option, Some, None, arith, append_assoc, le-leb, leb-true, append-nil, length-append}
 use Rattle.std.proofs.lemmas.Bool.{true≢false, and_parts, and_from, cond-true}
 use Rattle.std.proofs.lemmas.List.{length-map, length-take-le, map-append}
 use Rattle.std.proofs.lemmas.Slice.Eq.{bytes_eq-Decides}
-use Rattle.std.specs.List.{filter, slice_get, list_any}
+use Rattle.std.specs.List.{filter, slice_get}
 use Rattle.std.specs.Str.{bytes_eq}
 use Rattle.mr_model.specs.Texts.{Text, numbers_on}
 use Rattle.mr_model.specs.Writes.{Id, Write, id_of}
-use Rattle.mr_model.specs.Replica.{Replica, IsReplica, knows_room, add_write, order_of, committed, tentative, is_among, is_dropped, text_before, with_room, AreInNameOrder}
+use Rattle.mr_model.specs.Replica.{Replica, IsReplica, knows_room, add_write, order_of, committed, tentative, is_among, is_dropped, text_before, with_room}
 use Rattle.mr_model.specs.Board.{replay_on, board_after}
 use Rattle.mr_model.specs.Kept.{dropped_in_order, kept_in_order}
 use Rattle.mr_model.specs.Tables.{VectorRow, by_id, seq_of, place_of, log_row, undo_row, tables_of}
 use Rattle.mr_model.specs.Queries.{booking_id, error_id}
 use Rattle.mr_model.specs.Dropped.{Has}
 use Rattle.mr_model.specs.Changes.{first_tentative, after_commit, after_truncate, CommitChanges}
-use Rattle.mr_model.proofs.CommandPlaces.{order-places, replay_on-append, length-replay_on}
+use Rattle.mr_model.proofs.CommandPlaces.{map_at, order-places, replay_on-append, length-replay_on}
 use Rattle.mr_model.proofs.Fronts.{take-front}
 use Rattle.mr_model.proofs.KnownById.{committed_ids, one_known, tentative_known}
-use Rattle.mr_model.proofs.LogOrder.{order-parts}
+use Rattle.mr_model.proofs.LogOrder.{order-parts, kept_known, known_kept}
 use Rattle.mr_model.proofs.Members.{slice_has, has_left, has_right, has_split, has_map, map_has, has_among, among_has, take_drop}
-use Rattle.mr_model.proofs.OrderedSets.{order-with_room}
 use Rattle.mr_model.proofs.ReceivedPlaces.{append_split}
 use Rattle.mr_model.proofs.RoomPlaces.{kept_committed, committed-parts, known_in_order}
 use Rattle.mr_model.proofs.RowsById.{seq_not, map_filter}
 use Rattle.mr_model.proofs.RowsTell.{order_known, known_order}
+use Rattle.mr_model.proofs.SubmitRows.{same_rooms}
 use Rattle.mr_model.proofs.TablesTell.{not_committed_kept}
-use Rattle.mr_model.proofs.TruncateRows.{front-seq}
+use Rattle.mr_model.proofs.TruncateRows.{slice_in_front, front-seq}
 use Rattle.mr_model.proofs.UniqueReplay.{some_inj, none_some}
 use Rattle.mr_model.proofs.CommitRows
 use Rattle.mr_replay.specs.Rows.{executed_all, undo_rows_of}
@@ -34,9 +34,8 @@ use Rattle.mr_replica.specs.Desk.{desk_of}
 use Rattle.mr_replica.specs.Change.{put_all, without, log_id, undo_id, changed}
 use Rattle.mr_replica.specs.DeskTables.{desk_tables}
 use Rattle.mr_replica.specs.Written.{changed_tallies, written, forgotten}
-use Rattle.mr_replica.proofs.Putting.{name_order, in_order_same}
 use Rattle.mr_replica.proofs.Moving.{Moves, Bears, rows_move, rooms_move}
-use Rattle.mr_replica.proofs.DeskRows.{dropped_long, dropped_numbers, kept_numbers, kept_are, are_kept, desk_tables-of}
+use Rattle.mr_replica.proofs.DeskRows.{dropped_long, dropped_numbers, kept_numbers, desk_tables-of}
 use Rattle.mr_replica.proofs.Writing.{board_before, part_changes, tallies_move}
 
 -- ---- the writes from a place of the order on
@@ -53,11 +52,6 @@ front_places r shared x h e =
     (append_split (map (place_of r) shared) (replay_on [] shared) (map (place_of r) x) (replay_on (board_after [] shared) x) (length-map shared (place_of r) ∙ sym (length-replay_on [] shared))
     (sym (map-append (place_of r) shared x) ∙ ap (map (place_of r)) (sym e) ∙ order-places r h ∙ ap (replay_on []) e ∙ replay_on-append [] shared x)).0
 
-mapped_alike : {A B : Type 0} (f g : A → B) (x : A) (xs : List A) → map f xs ≡ map g xs → Has x xs → f x ≡ g x
-mapped_alike f g x [] e h = absurd h
-mapped_alike f g x (y ∷ ys) e (inl s) = let k : f y ∷ map f ys ≡ g y ∷ map g ys = e in let here : f y ≡ g y = (cc) in ap f s ∙ here ∙ ap g (sym s)
-mapped_alike f g x (y ∷ ys) e (inr h) = mapped_alike f g x ys (let k : f y ∷ map f ys ≡ g y ∷ map g ys = e in (cc)) h
-
 -- the writes behind a place of the order get their rows, all before it keep theirs
 pub tail_moves : (a b : Replica) (shared x y : List Write) → IsReplica a → IsReplica b → order_of a ≡ shared ++ x → order_of b ≡ shared ++ y → a.dropped ≡ b.dropped → a.dropped ≤ length shared → ((w : Write) → Has w x → Has w y) → ((w : Write) → Has w shared → seq_of a w ≡ seq_of b w) → Moves a b y
 tail_moves a b shared x y ha hb ea eb d l inside seqs =
@@ -65,7 +59,7 @@ tail_moves a b shared x y ha hb ea eb d l inside seqs =
       dropped = d;
       stays = λ w h. order_known b w hb (subst (λ ws. Has w ws) (sym eb) (stay w (has_split w shared x (subst (λ ws. Has w ws) ea (known_order a w ha h)))));
       others = λ w h. other w (has_split w shared y (subst (λ ws. Has w ws) eb (known_order b w hb h)));
-      moved = λ w h. kept_are b w hb (subst (λ ws. Has w ws) (sym (kept_parts b shared y hb eb (subst (λ n. n ≤ length shared) d l))) (has_right w (drop b.dropped shared) y h));
+      moved = λ w h. kept_known b w hb (subst (λ ws. Has w ws) (sym (kept_parts b shared y hb eb (subst (λ n. n ≤ length shared) d l))) (has_right w (drop b.dropped shared) y h));
     }
   where
     stay : (w : Write) → Has w shared ⊎ Has w x → Has w (shared ++ y)
@@ -76,7 +70,7 @@ tail_moves a b shared x y ha hb ea eb d l inside seqs =
     other w (inr h) = inl h
     other w (inl h) = inr (
       order_known a w ha (subst (λ ws. Has w ws) (sym ea) (has_left w shared x h)),
-      mapped_alike (place_of a) (place_of b) w shared (front_places a shared x ha ea ∙ sym (front_places b shared y hb eb)) h,
+      map_at (place_of a) (place_of b) w shared (front_places a shared x ha ea ∙ sym (front_places b shared y hb eb)) h,
       seqs w h,
     )
 
@@ -179,27 +173,11 @@ same_dropped a b x ha hb d e =
     (sym (order-parts b) ∙ e ∙ ap (λ ws. ws ++ x) (order-parts a) ∙ append_assoc (dropped_in_order a) (kept_in_order a) x) in
     (sym p.0, p.1)
 
--- a room that is known comes to no other place
-known_room : (t : Text) (ts : List Text) → AreInNameOrder ts → list_any (bytes_eq t) ts ≡ true → with_room t ts ≡ ts
-known_room t ts o h = in_order_same text_before (λ name. name) name_order (with_room t ts) ts (order-with_room t ts o) o (λ u a. there u (with_room_has t u ts a)) (λ u a. has_with_room t u ts (inr a))
-  where
-    known : (us : List Text) → list_any (bytes_eq t) us ≡ true → Has t us
-    known [] g = absurd (true≢false (sym g))
-    known (u ∷ us) g = go (bytes_eq t u) refl g (known us)
-      where
-        go : (c : Bool) → bytes_eq t u ≡ c → (c || list_any (bytes_eq t) us) ≡ true → (list_any (bytes_eq t) us ≡ true → Has t us) → Has t (u ∷ us)
-        go true s k ih = inl ((bytes_eq-Decides t u).0 s)
-        go false s k ih = inr (ih k)
-
-    there : (u : Text) → (u ≡ t) ⊎ Has u ts → Has u ts
-    there u (inl e) = subst (λ v. Has v ts) (sym e) (known ts h)
-    there u (inr a) = a
-
 -- the write becomes the last of the order: its rows are put, and that of its server
 pub submit_changes : (a : Replica) (w : Write) → IsReplica a → IsReplica (add_write a w) → order_of (add_write a w) ≡ order_of a ++ w ∷ [] → knows_room a w.room ≡ true → changed (written (tables_of (add_write a w)).meta [] (vector_between a (add_write a w)) (length a.commits) (a.dropped + 1 + length (kept_in_order a)) (w ∷ []) (undo_rows_of (board_before a (kept_in_order a)) (w ∷ []))) (desk_tables (desk_of a)) ≡ desk_tables (desk_of (add_write a w))
 submit_changes a w ha hb e known =
     let p = same_dropped a (add_write a w) (w ∷ []) ha hb refl e in
-    log_changes a (add_write a w) (kept_in_order a) [] (w ∷ []) [] ha hb refl p.0 (sym (append-nil (kept_in_order a))) p.1 (λ v h. absurd h) (λ v h. refl) (sym (known_room w.room a.rooms ha.rooms_in_order known))
+    log_changes a (add_write a w) (kept_in_order a) [] (w ∷ []) [] ha hb refl p.0 (sym (append-nil (kept_in_order a))) p.1 (λ v h. absurd h) (λ v h. refl) (sym (same_rooms w.room a.rooms ha.rooms_in_order known))
 
 -- ---- a commit
 
@@ -267,12 +245,6 @@ pub without_none : {R : Type 0} (key : R → Id) (rows : List R) → without key
 without_none key [] = refl
 without_none key (x ∷ xs) = ap (λ ys. x ∷ ys) (without_none key xs)
 
-slice_in_front : {A : Type 0} (n i : ℕ) (x : A) (xs : List A) → slice_get xs i ≡ Some x → i < n → Has x (take n xs)
-slice_in_front zero i x xs e l = absurd (Rattle.std.proofs.Common.not-suc-le-zero l)
-slice_in_front (suc n) i x [] e l = absurd (none_some x e)
-slice_in_front (suc n) zero x (y ∷ ys) e l = inl (sym (some_inj y x e))
-slice_in_front (suc n) (suc i) x (y ∷ ys) e l = inr (slice_in_front n i x ys e (Rattle.std.proofs.Common.le_of_suc-le-suc l))
-
 front_slice : {A : Type 0} (n : ℕ) (x : A) (xs : List A) → Has x (take n xs) → (i : ℕ) × (slice_get xs i ≡ Some x) × (i < n)
 front_slice zero x xs h = absurd h
 front_slice (suc n) x [] h = absurd h
@@ -291,7 +263,7 @@ dropped_now a n w ha hb h =
 
 now_dropped : (a : Replica) (n : ℕ) (w : Write) → IsReplica a → IsReplica (after_truncate a n) → Has w a.known → is_dropped a (id_of w) ≡ false → is_dropped (after_truncate a n) (id_of w) ≡ true → Has w (take (max a.dropped n - a.dropped) (kept_in_order a))
 now_dropped a n w ha hb h d t =
-    let (i, e) = has_slice w (kept_in_order a) (are_kept a w ha h d) in
+    let (i, e) = has_slice w (kept_in_order a) (known_kept a w ha h d) in
     let seq = kept_numbers a i w ha e in
     let p = and_parts (leb 1 (seq_of a w)) (leb (seq_of a w) (max a.dropped n)) (sym (front-seq (max a.dropped n) a.commits (id_of w)) ∙ t) in
     let low : 1 ≤ seq_of a w = leb-true 1 (seq_of a w) p.0 in
@@ -318,7 +290,7 @@ kept_forget {R} a n key g ha hb keyed =
     (record {
       stays = λ w h. h;
       others = λ w h. other w h (is_dropped a (id_of w)) refl (is_dropped (after_truncate a n) (id_of w)) refl;
-      moved = λ w h. let (i, e, l) = front_slice (max a.dropped n - a.dropped) w (kept_in_order a) h in (kept_are a w ha (slice_has (kept_in_order a) i w e)).0;
+      moved = λ w h. let (i, e, l) = front_slice (max a.dropped n - a.dropped) w (kept_in_order a) h in (kept_known a w ha (slice_has (kept_in_order a) i w e)).0;
       put_is = λ r h. absurd h;
       is_put = λ w r h e. absurd (none_some r (sym (cond-true (is_dropped (after_truncate a n) (id_of w)) None (Some (g w)) (dropped_now a n w ha hb h)) ∙ e));
       gone_is = λ i h. let (w, b, e) = map_has id_of i gone h in (w, b, sym e);

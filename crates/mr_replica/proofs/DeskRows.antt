@@ -1,5 +1,5 @@
 -- The tables of the desk of a replica are those of the replica.
-use Rattle.std.proofs.Common.{◌≡◌, refl, sym, ap, ◌∙◌, subst, ℕ, zero, suc, ◌+◌, ◌-◌, ◌<◌, ◌≤◌, Bool, true, false, not, cond, eqb, leb, List, [], ◌∷◌, ◌++◌, length, map, take, drop, ◌⊎◌, inl, inr, Option, Some, None, arith, le-leb, leb-true, eqb-true, length-append}
+use Rattle.std.proofs.Common.{◌≡◌, refl, sym, ap, ◌∙◌, subst, ℕ, zero, suc, ◌+◌, ◌-◌, ◌<◌, ◌≤◌, true, false, not, cond, eqb, leb, List, [], ◌∷◌, ◌++◌, length, map, take, ◌⊎◌, inl, inr, Option, Some, None, arith, le-leb, leb-true, eqb-true}
 use Rattle.std.proofs.lemmas.Bool.{true≢false, cond-true, cond-false, false_from_ne_true, cases_order, not-true}
 use Rattle.std.proofs.lemmas.List.{length-map, length-take-le, map-append}
 use Rattle.std.specs.Prelude.{flat_map}
@@ -18,12 +18,12 @@ use Rattle.mr_model.specs.Tables.{booking_row_at, error_row_at, vector_row, Book
 use Rattle.mr_model.specs.Dropped.{Has}
 use Rattle.mr_model.proofs.AnswersFromRows.{one_row}
 use Rattle.mr_model.proofs.CommandPlaces.{order-places}
+use Rattle.mr_model.proofs.CommitRows.{slice_map, slice_behind}
 use Rattle.mr_model.proofs.KnownById.{one_known, own_id, numbered_at, numbered_bounds, numbered_commits, known_bounds, commit_found, found_ids, committed_ids, distinct_commits, tentative_known, distinct_order}
-use Rattle.mr_model.proofs.LogOrder.{order-parts, kept_is_the_log}
+use Rattle.mr_model.proofs.LogOrder.{order-parts, kept_known, known_kept, kept_is_the_log}
 use Rattle.mr_model.proofs.Members.{has_left, has_right, has_split, find_one, same_id-true, same_id_refl, has_filter, filter_has, has_map, map_has, has_filter_map, filter_map_has, Distinct, among_has, has_among, slice_has}
 use Rattle.mr_model.proofs.ReceivedPlaces.{append_split}
 use Rattle.mr_model.proofs.RowsById.{server_bounds, known_write, seq_at, seq_not, has_by_id, by_id_has, map_filter}
-use Rattle.mr_model.proofs.RowsOfKnown.{rows_of_known}
 use Rattle.mr_model.proofs.RowsTell.{sorted_filter_map, order_known, known_order}
 use Rattle.mr_model.proofs.TwinTables.{bool_same, flat_map_same}
 use Rattle.mr_model.proofs.UniqueReplay.{some_inj, none_some}
@@ -74,15 +74,6 @@ slice_left [] ys i l = absurd (Rattle.std.proofs.Common.not-suc-le-zero l)
 slice_left (x ∷ xs) ys zero l = refl
 slice_left (x ∷ xs) ys (suc i) l = slice_left xs ys i (Rattle.std.proofs.Common.le_of_suc-le-suc l)
 
-pub slice_right : {A : Type 0} (xs ys : List A) (i : ℕ) → slice_get (xs ++ ys) (length xs + i) ≡ slice_get ys i
-slice_right [] ys i = let e : 0 + i ≡ i = omega arith in ap (slice_get ys) e
-slice_right (x ∷ xs) ys i = let e : suc (length xs) + i ≡ suc (length xs + i) = omega arith in ap (slice_get (x ∷ (xs ++ ys))) e ∙ slice_right xs ys i
-
-slice_map : {A B : Type 0} (f : A → B) (xs : List A) (i : ℕ) (x : A) → slice_get xs i ≡ Some x → slice_get (map f xs) i ≡ Some (f x)
-slice_map f [] i x e = absurd (none_some x e)
-slice_map f (y ∷ ys) zero x e = ap Some (ap f (some_inj y x e))
-slice_map f (y ∷ ys) (suc i) x e = slice_map f ys i x e
-
 -- the number of each write of the order is its place in it, where it is committed
 pub order_numbers : (r : Replica) (i : ℕ) (w : Write) → IsReplica r → slice_get (order_of r) i ≡ Some w → seq_of r w ≡ seq_on (length r.commits) (1 + i)
 order_numbers r i w h e = go (le_or_lt (suc i) (length (committed r)))
@@ -98,7 +89,7 @@ order_numbers r i w h e = go (le_or_lt (suc i) (length (committed r)))
         seq_at 1 r.commits (id_of w) i (distinct_commits r h) id ∙ sym (cond-true (leb (1 + i) (length r.commits)) (1 + i) 0 (le-leb (1 + i) (length r.commits) low))
     go (inr l) =
         let at : i ≡ length (committed r) + (i - length (committed r)) = omega (arith, l) in
-        let there : slice_get (tentative r) (i - length (committed r)) ≡ Some w = sym (slice_right (committed r) (tentative r) (i - length (committed r))) ∙ ap (slice_get (order_of r)) (sym at) ∙ e in
+        let there : slice_get (tentative r) (i - length (committed r)) ≡ Some w = sym (slice_behind (committed r) (tentative r) (i - length (committed r))) ∙ ap (slice_get (order_of r)) (sym at) ∙ e in
         let t = tentative_known r w (slice_has (tentative r) (i - length (committed r)) w there) in
         seq_not 1 r.commits (id_of w) (λ a. true≢false (sym (has_among (id_of w) r.commits a) ∙ t.1))
         ∙ sym (cond-false (leb (1 + i) (length r.commits)) (1 + i) 0 (false_from_ne_true (leb (1 + i) (length r.commits)) (λ b. let m = leb-true (1 + i) (length r.commits) b in omega (arith, l, m, long))))
@@ -120,7 +111,7 @@ pub kept_numbers : (r : Replica) (i : ℕ) (w : Write) → IsReplica r → slice
 kept_numbers r i w h e =
     let long : length (dropped_in_order r) ≡ r.dropped = dropped_long r h in
     let at : 1 + (length (dropped_in_order r) + i) ≡ r.dropped + 1 + i = omega (arith, long) in
-    order_numbers r (length (dropped_in_order r) + i) w h (ap (λ ws. slice_get ws (length (dropped_in_order r) + i)) (order-parts r) ∙ slice_right (dropped_in_order r) (kept_in_order r) i ∙ e)
+    order_numbers r (length (dropped_in_order r) + i) w h (ap (λ ws. slice_get ws (length (dropped_in_order r) + i)) (order-parts r) ∙ slice_behind (dropped_in_order r) (kept_in_order r) i ∙ e)
     ∙ ap (seq_on (length r.commits)) at
 
 pub kept_rows : (r : Replica) → IsReplica r → log_rows (length r.commits) (r.dropped + 1) (kept_in_order r) ≡ map (log_row r) (kept_in_order r)
@@ -185,22 +176,6 @@ board_ordered r h =
     (subst (λ b. IsStrictlySortedBy id_cmp (keys_of b)) (executed_all-append [] (dropped_in_order r) (kept_in_order r))
     (Holds-executed_all [] (dropped_in_order r ++ kept_in_order r) [] (order_distinct r h) Holds-empty).ordered)
 
--- ---- which writes are kept
-
-pub kept_are : (r : Replica) (w : Write) → IsReplica r → Has w (kept_in_order r) → Has w r.known × (is_dropped r (id_of w) ≡ false)
-kept_are r w h a =
-    let row = ((kept_is_the_log r h).same_rows (log_row r w)).1 (has_map (log_row r) w (kept_in_order r) a) in
-    let (v, known, gone, e) = ((rows_of_known r h).write_log (log_row r w)).0 row in
-    let id : id_of w ≡ id_of v = ap log_id e in
-    (order_known r w h (subst (λ ws. Has w ws) (sym (order-parts r)) (has_right w (dropped_in_order r) (kept_in_order r) a)), ap (is_dropped r) id ∙ gone)
-
-pub are_kept : (r : Replica) (w : Write) → IsReplica r → Has w r.known → is_dropped r (id_of w) ≡ false → Has w (kept_in_order r)
-are_kept r w h a d =
-    let row = ((rows_of_known r h).write_log (log_row r w)).1 (w, a, d, refl) in
-    let (v, b, e) = map_has (log_row r) (log_row r w) (kept_in_order r) (((kept_is_the_log r h).same_rows (log_row r w)).0 row) in
-    let id : id_of v ≡ id_of w = ap log_id (sym e) in
-    subst (λ u. Has u (kept_in_order r)) (one_known r v w h (kept_are r v h b).0 a id) b
-
 -- ---- write_log and undo
 
 -- rows of the kept writes, put one after the other, make their table
@@ -209,12 +184,12 @@ kept_table {R} r key g h keyed =
     puts_make id_before key id_order (map g (kept_in_order r)) [] (map g (filter (λ w. not (is_dropped r (id_of w))) (by_id r.known))) tt
     (subst (InOrder id_before key) (sym (map_filter (λ w. is_dropped r (id_of w)) g (by_id r.known))) (rows_in_order r key (λ w. cond (is_dropped r (id_of w)) None (Some (g w))) h keyed))
     (λ row a. let (w, b, e) = map_has g row (kept_in_order r) a in
-    let k = kept_are r w h b in
+    let k = kept_known r w h b in
     subst (λ x. Has x (map g (filter (λ v. not (is_dropped r (id_of v))) (by_id r.known)))) (sym e) (has_map g w (filter (λ v. not (is_dropped r (id_of v))) (by_id r.known)) (has_filter (λ v. not (is_dropped r (id_of v))) w (by_id r.known) (ap not k.1) (has_by_id r w h k.0))))
     (λ row a l. absurd a)
     (λ row a. let (w, b, e) = map_has g row (filter (λ v. not (is_dropped r (id_of v))) (by_id r.known)) a in
     let f = filter_has (λ v. not (is_dropped r (id_of v))) w (by_id r.known) b in
-    inl (subst (λ x. Has x (map g (kept_in_order r))) (sym e) (has_map g w (kept_in_order r) (are_kept r w h (by_id_has r w f.0) (not-true (is_dropped r (id_of w)) f.1)))))
+    inl (subst (λ x. Has x (map g (kept_in_order r))) (sym e) (has_map g w (kept_in_order r) (known_kept r w h (by_id_has r w f.0) (not-true (is_dropped r (id_of w)) f.1)))))
 
 pub undo_rows_told : (f : Write → Place) (b : Rows) (ws : List Write) → map (λ u. u.place) (undo_rows_of b ws) ≡ map f ws → map undo_row_with (undo_rows_of b ws) ≡ map (λ w. record { server = w.stamp.server; n = w.stamp.n; place = f w }) ws
 undo_rows_told f b [] e = refl
@@ -380,7 +355,7 @@ noted r w h a l = find_one (λ x. same_id x.id (id_of w)) (note r w) (kept_notes
         go (inl c) =
             let (row, d, e) = map_has note_of x (map (log_row r) (kept_in_order r)) (subst (λ xs. Has x xs) rows c) in
             let (v, g, f) = map_has (log_row r) row (kept_in_order r) d in
-            of_known x v (kept_are r v h g).0 (e ∙ ap note_of f) s
+            of_known x v (kept_known r v h g).0 (e ∙ ap note_of f) s
         go (inr c) =
             let (v, g, e) = noted_old r 1 (dropped_in_order r) (undo_rows_of [] (dropped_in_order r)) (λ i u q. dropped_numbers r i u h q) x c in
             of_known x v (order_known r v h (subst (λ ws. Has v ws) (sym (order-parts r)) (has_left v (dropped_in_order r) (kept_in_order r) g))) e s

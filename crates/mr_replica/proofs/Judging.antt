@@ -14,6 +14,7 @@ use Rattle.mr_model.specs.Taking.{Progress, is_that_write, is_that_id, with_new_
 use Rattle.mr_model.proofs.Members.{has_right, find_one, find_none, same_id-true, same_id_from}
 use Rattle.mr_model.proofs.ChangesKeep.{within}
 use Rattle.mr_model.proofs.KnownById.{known_with, with_id, known_at, one_known, commit_found}
+use Rattle.mr_model.proofs.LogOrder.{kept_known, known_kept}
 use Rattle.mr_model.proofs.RowsById.{server_bounds}
 use Rattle.mr_base.specs.Refusals.{refusal_of}
 use Rattle.mr_base.specs.declared.refusals.Refusal.{Refusal}
@@ -21,7 +22,6 @@ use Rattle.mr_base.specs.declared.refusals.Refusal.TheVariants.{Gap, OutOfOrder,
 use Rattle.mr_replica.specs.Summary.{summary_of}
 use Rattle.mr_replica.specs.Candidate.{CandidateView, Shows, write_in, known_verdict, write_verdict_by, write_verdict, there_verdict, commit_verdict_by, commit_verdict}
 use Rattle.mr_replica.proofs.Summaries.{tally-of}
-use Rattle.mr_replica.proofs.DeskRows.{kept_are, are_kept}
 
 -- ---- the kept writes
 
@@ -29,15 +29,15 @@ use Rattle.mr_replica.proofs.DeskRows.{kept_are, are_kept}
 dropped_out : (r : Replica) (id : Id) → IsReplica r → is_dropped r id ≡ true → write_in (kept_in_order r) id ≡ None
 dropped_out r id sound dropped =
     find_none (λ w. same_id (id_of w) id) (kept_in_order r)
-    (λ v h. false_from_ne_true (same_id (id_of v) id) (λ s. true≢false (sym dropped ∙ ap (is_dropped r) (sym (same_id-true (id_of v) id s)) ∙ (kept_are r v sound h).1)))
+    (λ v h. false_from_ne_true (same_id (id_of v) id) (λ s. true≢false (sym dropped ∙ ap (is_dropped r) (sym (same_id-true (id_of v) id s)) ∙ (kept_known r v sound h).1)))
 
 -- another known write is
 kept_in : (r : Replica) (id : Id) → IsReplica r → 1 ≤ id.n → id.n ≤ count_of r id.server → is_dropped r id ≡ false → (write_in (kept_in_order r) id ≡ write_with r id) × ((w : Write) × (write_with r id ≡ Some w))
 kept_in r id sound low high kept =
     let (w, known, e) = known_at r id sound low high in
     let there = with_id r w id sound known e in
-    let one = find_one (λ v. same_id (id_of v) id) w (kept_in_order r) (are_kept r w sound known (ap (is_dropped r) e ∙ kept)) (same_id_from (id_of w) id e)
-    (λ y h s. one_known r y w sound (kept_are r y sound h).0 known (same_id-true (id_of y) id s ∙ sym e)) in
+    let one = find_one (λ v. same_id (id_of v) id) w (kept_in_order r) (known_kept r w sound known (ap (is_dropped r) e ∙ kept)) (same_id_from (id_of w) id e)
+    (λ y h s. one_known r y w sound (kept_known r y sound h).0 known (same_id-true (id_of y) id s ∙ sym e)) in
     (one ∙ sym there, (w, there))
 
 -- ---- writes

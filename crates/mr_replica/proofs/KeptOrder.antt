@@ -14,7 +14,7 @@ use Rattle.mr_model.specs.Kept.{dropped_in_order, kept_in_order, LogBefore, both
 use Rattle.mr_model.specs.Changes.{IdBefore}
 use Rattle.mr_model.specs.Dropped.{Has}
 use Rattle.mr_model.proofs.KeyOrder.{WriteBefore, by_id_sorted}
-use Rattle.mr_model.proofs.LogOrder.{kept_is_the_log}
+use Rattle.mr_model.proofs.LogOrder.{kept_is_the_log, kept_known, known_kept}
 use Rattle.mr_model.proofs.Members.{has_all, all_has, has_map, map_has, has_filter, filter_has, Sorted, sorted_filter}
 use Rattle.mr_model.proofs.RowsById.{has_by_id, by_id_has}
 use Rattle.mr_replay.specs.Rows.{Rows, executed, executed_all, undo_rows_of}
@@ -22,7 +22,7 @@ use Rattle.mr_replica.specs.declared.kept_rows.KeptRow.{KeptRow}
 use Rattle.mr_replica.specs.declared.kept_rows.RunPlace.{RunPlace}
 use Rattle.mr_replica.specs.KeptRows.{kept_row, run_place, run_cmp}
 use Rattle.mr_replica.proofs.BoardRows.{places_head}
-use Rattle.mr_replica.proofs.DeskRows.{kept_places, kept_are, are_kept}
+use Rattle.mr_replica.proofs.DeskRows.{kept_places}
 use Rattle.mr_replica.proofs.Sorting.{Rises, sorted_is}
 
 pub run_order : IsTotalOrder run_cmp
@@ -111,12 +111,12 @@ kept_sorted a rows sorted h e p s =
     there row g =
         let (w, b, f) = map_has (kept_row a) row (kept a) g in
         let k = filter_has (λ v. not (is_dropped a (id_of v))) w (by_id a.known) b in
-        subst (λ r. Has r (map (kept_row a) (kept_in_order a))) (sym f) (has_map (kept_row a) w (kept_in_order a) (are_kept a w h (by_id_has a w k.0) (not-true (is_dropped a (id_of w)) k.1)))
+        subst (λ r. Has r (map (kept_row a) (kept_in_order a))) (sym f) (has_map (kept_row a) w (kept_in_order a) (known_kept a w h (by_id_has a w k.0) (not-true (is_dropped a (id_of w)) k.1)))
 
     back : (row : KeptRow) → Has row (map (kept_row a) (kept_in_order a)) → Has row (map (kept_row a) (kept a))
     back row g =
         let (w, b, f) = map_has (kept_row a) row (kept_in_order a) g in
-        let k = kept_are a w h b in
+        let k = kept_known a w h b in
         subst (λ r. Has r (map (kept_row a) (kept a))) (sym f)
         (has_map (kept_row a) w (kept a) (has_filter (λ v. not (is_dropped a (id_of v))) w (by_id a.known) (ap not k.1) (has_by_id a w h k.0)))
 

@@ -13,7 +13,7 @@ use Rattle.mr_model.specs.Queries.{booking_id, error_id}
 use Rattle.mr_model.specs.Dropped.{Has}
 use Rattle.mr_model.specs.Changes.{IdBefore}
 use Rattle.mr_model.proofs.AnswersFromRows.{one_row}
-use Rattle.mr_model.proofs.KeyOrder.{WriteBefore, by_id_sorted}
+use Rattle.mr_model.proofs.KeyOrder.{numbers_low, WriteBefore, by_id_sorted}
 use Rattle.mr_model.proofs.KnownById.{one_known}
 use Rattle.mr_model.proofs.Members.{has_map, map_has, has_filter, filter_has, has_filter_map, filter_map_has, has_among, among_has}
 use Rattle.mr_model.proofs.RowsById.{flat_has, has_by_id, by_id_has, map_filter}
@@ -125,11 +125,6 @@ pub error_bears : (r : Replica) → Bears error_id (error_row r)
 error_bears r w row e = ap error_id (logged_row r w row e).1
 
 -- ---- servers
-
-numbers_low : (m k n : ℕ) → Has m (numbers_on k n) → k ≤ m
-numbers_low m k zero h = absurd h
-numbers_low m k (suc n) (inl e) = omega (arith, e)
-numbers_low m k (suc n) (inr h) = let l : k + 1 ≤ m = numbers_low m (k + 1) n h in omega (arith, l)
 
 row_alone : (r : Replica) (s : ℕ) → InOrder ltb (λ (row : VectorRow). row.server) (vector_row r s)
 row_alone r s = go (eqb (count_of r s) 0)

@@ -1,10 +1,11 @@
 -- The position of a desk whose numbers are within the limits is within them.
-use Rattle.std.proofs.Common.{◌≡◌, refl, ℕ, zero, suc, ◌+◌, ◌≤◌, Bool, true, false, cond, ◌&&◌, eqb, ltb, leb, List, [], ◌∷◌, get_or, arith, IsTrue, lit≤, lt-ltb, le-leb, le_refl}
+use Rattle.std.proofs.Common.{◌≡◌, refl, ℕ, zero, suc, ◌+◌, ◌≤◌, Bool, true, false, cond, ◌&&◌, eqb, leb, List, [], ◌∷◌, get_or, arith, IsTrue, lit≤, le-leb, le_refl}
 use Rattle.std.proofs.lemmas.Bool.{and_from, eqb-false}
 use Rattle.std.specs.List.{AllByRecursion, list_all}
 use Rattle.mr_model.specs.Texts.{numbers_on}
 use Rattle.mr_model.specs.Writes.{is_server, is_count, greatest_count}
 use Rattle.mr_model.specs.Positions.{Count, are_rising, is_position}
+use Rattle.mr_model.proofs.PositionsReadBack.{rising_on}
 use Rattle.mr_model.proofs.StepsKeep.{within_from}
 use Rattle.mr_replica.specs.declared.summary.Tally.{Tally}
 use Rattle.mr_replica.specs.Summary.{no_tally, tally_at, counts_in}
@@ -49,10 +50,6 @@ counts_from ts k (suc n) = go (eqb (tally_at ts k).count 0) (weaken (counts_in t
     go : (b : Bool) → AllByRecursion (λ c. k ≤ c.server) (counts_in ts (numbers_on (k + 1) n)) → AllByRecursion (λ c. k ≤ c.server) (cond b (counts_in ts (numbers_on (k + 1) n)) (record { server = k; count = (tally_at ts k).count } ∷ counts_in ts (numbers_on (k + 1) n)))
     go true all = all
     go false all = (le_refl k, all)
-
-rising_on : (c : Count) (cs : List Count) → AllByRecursion (λ d. c.server + 1 ≤ d.server) cs → are_rising cs ≡ true → are_rising (c ∷ cs) ≡ true
-rising_on c [] all e = refl
-rising_on c (d ∷ cs) all e = let a : c.server + 1 ≤ d.server = all.0 in and_from (ltb c.server d.server) (are_rising (d ∷ cs)) (lt-ltb c.server d.server (omega (arith, a))) e
 
 counts_rise : (ts : List Tally) (k n : ℕ) → are_rising (counts_in ts (numbers_on k n)) ≡ true
 counts_rise ts k zero = refl

@@ -21,7 +21,7 @@ use Rattle.mr_model.proofs.BatchesReadBack.{ok_inj}
 use Rattle.mr_model.proofs.ChangesKeep.{keeps-add_commit}
 use Rattle.mr_model.proofs.Fronts.{take-front}
 use Rattle.mr_model.proofs.KnownById.{distinct_order}
-use Rattle.mr_model.proofs.LogOrder.{order-parts}
+use Rattle.mr_model.proofs.LogOrder.{order-parts, kept_known, known_kept}
 use Rattle.mr_model.proofs.Members.{Distinct, distinct_parts, filter_has, has_filter, has_map, has_right, has_split}
 use Rattle.mr_model.proofs.TwinChanges.{added}
 use Rattle.mr_model.proofs.WithWrite.{has_with_write}
@@ -42,9 +42,8 @@ use Rattle.mr_replica.proofs.Desks.{summary_in}
 use Rattle.mr_replica.proofs.Logs.{board-at}
 use Rattle.mr_replica.proofs.Judging.{JudgedWrite, judged_write, JudgedCommit, judged_commit}
 use Rattle.mr_replica.proofs.Receiving.{err≢ok, items-bring, all_taken}
-use Rattle.mr_replica.proofs.DeskRows.{order_distinct}
 use Rattle.mr_replica.proofs.Moving.{rooms_move}
-use Rattle.mr_replica.proofs.DeskRows.{kept_numbers, kept_are, are_kept, slice_left, slice_bound}
+use Rattle.mr_replica.proofs.DeskRows.{order_distinct, kept_numbers, slice_left, slice_bound}
 use Rattle.mr_replica.proofs.Writing.{board_before}
 use Rattle.mr_replica.proofs.Changing.{has_slice, has_with_room, without_none, vector_between, log_changes}
 use Rattle.mr_replica.proofs.SubmittedRows.{few_kept}
@@ -141,9 +140,9 @@ front_numbers a b front x y w ha hb d ka kb more marks h =
 -- a write behind it stays behind it
 tail_stays : (a b : Replica) (front x y : List Write) (w : Write) → IsReplica a → Grows a b → kept_in_order a ≡ front ++ x → kept_in_order b ≡ front ++ y → Has w x → Has w y
 tail_stays a b front x y w ha g ka kb h =
-    let was = kept_are a w ha (subst (λ ws. Has w ws) (sym ka) (has_right w front x h)) in
+    let was = kept_known a w ha (subst (λ ws. Has w ws) (sym ka) (has_right w front x h)) in
     let kept : is_dropped b (id_of w) ≡ false = ap (is_among (id_of w)) (sym g.gone) ∙ was.1 in
-    go (has_split w front y (subst (λ ws. Has w ws) kb (are_kept b w g.sound (g.known w was.0) kept)))
+    go (has_split w front y (subst (λ ws. Has w ws) kb (known_kept b w g.sound (g.known w was.0) kept)))
   where
     order : map id_of (committed a) ++ map id_of (tentative a) ≡ map id_of (dropped_in_order a ++ front) ++ map id_of x
     order =

@@ -16,7 +16,7 @@ use Rattle.mr_model.specs.Queries.{booking_id}
 use Rattle.mr_model.specs.Kept.{dropped_in_order, kept_in_order}
 use Rattle.mr_model.specs.Dropped.{Has}
 use Rattle.mr_model.proofs.KnownById.{committed_ids}
-use Rattle.mr_model.proofs.LogOrder.{kept_is_the_log, order-parts}
+use Rattle.mr_model.proofs.LogOrder.{kept_is_the_log, order-parts, kept_known}
 use Rattle.mr_model.proofs.Members.{all_has, has_all, map_has, filter_map_has, same_id-true, same_id_from}
 use Rattle.mr_model.proofs.RowsById.{by_id_has}
 use Rattle.mr_model.proofs.RowsTell.{row_of as slot_or_logged}
@@ -29,7 +29,7 @@ use Rattle.mr_replica.specs.Change.{id_before}
 use Rattle.mr_replica.specs.KeptRows.{kept_row, run_place, run_cmp}
 use Rattle.mr_replica.specs.SoundLog.{AreNumbered, HasTaken, HasPlace, IsAtPlace, IsLogSound, is_booked_row, is_on_board}
 use Rattle.mr_replica.proofs.Boarding.{bookings_within}
-use Rattle.mr_replica.proofs.DeskRows.{board_of, row_board, board_ordered, kept_are, kept_numbers, dropped_long}
+use Rattle.mr_replica.proofs.DeskRows.{board_of, row_board, board_ordered, kept_numbers, dropped_long}
 use Rattle.mr_replica.proofs.KeptOrder.{rows_rise}
 use Rattle.mr_replica.proofs.Putting.{InOrder, id_order}
 use Rattle.mr_replica.proofs.SoundRows.{neighbours}
@@ -95,7 +95,7 @@ log_sound a h = record {
       All-from_recursion (IsAtPlace (board_of a)) (map (kept_row a) (kept_in_order a))
       (has_all (IsAtPlace (board_of a)) (map (kept_row a) (kept_in_order a)) (λ row g.
       let (w, b, e) = map_has (kept_row a) row (kept_in_order a) g in
-      subst (IsAtPlace (board_of a)) (sym e) (known_at_place a w h (kept_are a w h b).0)));
+      subst (IsAtPlace (board_of a)) (sym e) (known_at_place a w h (kept_known a w h b).0)));
 }
 
 -- each booking is on the board as one

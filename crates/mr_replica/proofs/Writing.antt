@@ -13,6 +13,7 @@ use Rattle.mr_model.specs.Tables.{VectorRow, seq_of, place_of, vector_row, booki
 use Rattle.mr_model.specs.Queries.{booking_id, error_id}
 use Rattle.mr_model.specs.Dropped.{Has}
 use Rattle.mr_model.proofs.ReceivedPlaces.{append_split}
+use Rattle.mr_model.proofs.CommitRows.{slice_behind}
 use Rattle.mr_model.proofs.RowsById.{flat_has, has_flat, has_numbers}
 use Rattle.mr_model.proofs.RowsTell.{committed-seq}
 use Rattle.mr_model.proofs.TablesTell.{vector_entry}
@@ -30,7 +31,7 @@ use Rattle.mr_replica.proofs.Logs.{length-undo_rows_of, undo_rows_of-append}
 use Rattle.mr_replica.proofs.BoardRows.{places_head}
 use Rattle.mr_replica.proofs.Moving.{Moves, change_of, moves, booking-with, error-with, vectors_move}
 use Rattle.mr_replica.proofs.Summaries.{tally-of}
-use Rattle.mr_replica.proofs.DeskRows.{numbered, kept_numbers, kept_places, undo_rows_told, slice_left, slice_right, slice_bound, tally_row, numbers_below, desk_tables-of}
+use Rattle.mr_replica.proofs.DeskRows.{numbered, kept_numbers, kept_places, undo_rows_told, slice_left, slice_bound, tally_row, numbers_below, desk_tables-of}
 
 -- ---- the rows of writes in a row
 
@@ -97,7 +98,7 @@ board_before r front = executed_all (executed_all [] (dropped_in_order r)) front
 pub part_numbered : (r : Replica) (front ws back : List Write) → IsReplica r → kept_in_order r ≡ front ++ (ws ++ back) → AreNumbered r (r.dropped + 1 + length front) ws
 part_numbered r front ws back h parts i w e =
     kept_numbers r (length front + i) w h
-    (ap (λ vs. slice_get vs (length front + i)) parts ∙ slice_right front (ws ++ back) i ∙ slice_left ws back i (slice_bound ws i w e) ∙ e)
+    (ap (λ vs. slice_get vs (length front + i)) parts ∙ slice_behind front (ws ++ back) i ∙ slice_left ws back i (slice_bound ws i w e) ∙ e)
     ∙ (let g : r.dropped + 1 + (length front + i) ≡ r.dropped + 1 + length front + i = omega arith in ap (seq_on (length r.commits)) g)
 
 places_append : (f : Write → Place) (b : Rows) (vs ws : List Write) → map (λ u. u.place) (undo_rows_of b (vs ++ ws)) ≡ map f (vs ++ ws) → (map (λ u. u.place) (undo_rows_of b vs) ≡ map f vs) × (map (λ u. u.place) (undo_rows_of (executed_all b vs) ws) ≡ map f ws)

@@ -5,7 +5,8 @@ use Rattle.mr_model.specs.Writes.{id_of, is_commit_number}
 use Rattle.mr_model.specs.Exchange as model
 use Rattle.mr_model.specs.Step.{item_if_lacked}
 use Rattle.mr_replica.specs.Outgoing.{Offers, committed_items, lacked_items}
-use Rattle.mr_replica.proofs.Batching.{committed_items-more, only_if_some}
+use Rattle.mr_replica.proofs.Batching.{committed_items-more}
+use Rattle.mr_model.proofs.BatchesReadBack.{only_if_some}
 use Rattle.mr_replica.proofs.outgoing.Outgoing.push_commits.Goals as goal
 
 pub loop-k-preserved : goal.loop-k-preserved
