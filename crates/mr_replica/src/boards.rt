@@ -1,14 +1,15 @@
-ghost use Rattle.std.specs.Prelude.{◌≡◌, [], ◌++◌, map, OnOk, IfOk, IfErr};
+ghost use Rattle.std.specs.Prelude.{◌≡◌, [], ◌++◌, map, OnOk, IfOk, IfErr, Ok};
 ghost use Rattle.mr_model.specs.Replica.{Replica, IsReplica};
 ghost use Rattle.mr_model.specs.Tables.{tables_of};
 ghost use Rattle.mr_replica.specs.Desk.{desk_of};
 ghost use Rattle.std.specs.List.{AllByRecursion};
 ghost use Rattle.std.specs.BTreeMap.{insert_entry};
+ghost use Rattle.mr_base.specs.Answers.{OrOutOfMemory};
 ghost use Rattle.mr_base.specs.Ids.{id_cmp};
 ghost use Rattle.mr_replica.specs.Boards.{booking_entry, error_entry, put_entries, IsRowWithin};
 
 use crate::{BookingRow, ErrorRow, Tables};
-use mr_base::{Refusal, Slot, WriteId};
+use mr_base::{Day, Refusal, RoomName, ServerId, Slot, Title, WriteId};
 use mr_replay::{Board, Row, Standing};
 use std::alloc::Global;
 
@@ -51,24 +52,10 @@ fn put_booking(board: &mut Board, alloc: Global, row: &BookingRow) -> Result<(),
     ensures put { IsRowWithin row.now.n row.now.start → OnOk result (board.new ≡ insert_entry id_cmp board.old (booking_entry row.now).0 (booking_entry row.now).1) }
     ensures only { IsRowWithin row.now.n row.now.start → IfErr result (λ e. e ≡ Refusal.OutOfMemory) }
 {
-    let Some(id) = WriteId::new(row.server, row.n) else {
-        return Err(Refusal::Store);
-    };
-    let Ok(slot) = Slot::new(row.day, row.start) else {
-        return Err(Refusal::Store);
-    };
-    let room = row.room.copy(alloc)?;
-    let title = row.title.copy(alloc)?;
-    board.put(
-        id,
-        Row {
-            room,
-            slot,
-            length: row.stop.saturating_sub(row.start),
-            title,
-            standing: Standing::Booked,
-        },
-    )
+    let (id, slot) = place_of(row.server, row.n, row.day, row.start)?;
+    let length = row.stop.saturating_sub(row.start);
+    let row = row_with(alloc, &row.room, slot, length, &row.title, Standing::Booked)?;
+    board.put(id, row)
 }
 
 /// Puts the rows of `errorlog` on the board. Refused where one is out of the limits.
@@ -86,22 +73,50 @@ fn put_error(board: &mut Board, alloc: Global, row: &ErrorRow) -> Result<(), Ref
     ensures put { IsRowWithin row.now.n row.now.start → OnOk result (board.new ≡ insert_entry id_cmp board.old (error_entry row.now).0 (error_entry row.now).1) }
     ensures only { IsRowWithin row.now.n row.now.start → IfErr result (λ e. e ≡ Refusal.OutOfMemory) }
 {
-    let Some(id) = WriteId::new(row.server, row.n) else {
+    let (id, slot) = place_of(row.server, row.n, row.day, row.start)?;
+    let length = row.stop.saturating_sub(row.start);
+    let row = row_with(
+        alloc,
+        &row.room,
+        slot,
+        length,
+        &row.title,
+        Standing::InErrorLog,
+    )?;
+    board.put(id, row)
+}
+
+/// The id and the slot of a row. Refused where one is out of the limits.
+fn place_of(server: ServerId, n: u32, day: Day, start: u32) -> Result<(WriteId, Slot), Refusal>
+    ensures { IsRowWithin n start → result ≡ Ok (record { server = server; n = n }, record { day = day; start = start }) }
+{
+    let Some(id) = WriteId::new(server, n) else {
         return Err(Refusal::Store);
     };
-    let Ok(slot) = Slot::new(row.day, row.start) else {
-        return Err(Refusal::Store);
-    };
-    let room = row.room.copy(alloc)?;
-    let title = row.title.copy(alloc)?;
-    board.put(
-        id,
-        Row {
-            room,
-            slot,
-            length: row.stop.saturating_sub(row.start),
-            title,
-            standing: Standing::InErrorLog,
-        },
-    )
+    match Slot::new(day, start) {
+        Ok(slot) => Ok((id, slot)),
+        Err(_) => Err(Refusal::Store),
+    }
+}
+
+/// The row on the board, with an equal room and title.
+fn row_with(
+    alloc: Global,
+    room: &RoomName,
+    slot: Slot,
+    length: u32,
+    title: &Title,
+    standing: Standing,
+) -> Result<Row, Refusal>
+    ensures { OrOutOfMemory result (Ok (record { room = room.now; slot = slot; length = length; title = title.now; standing = standing })) }
+{
+    let room = room.copy(alloc)?;
+    let title = title.copy(alloc)?;
+    Ok(Row {
+        room,
+        slot,
+        length,
+        title,
+        standing,
+    })
 }

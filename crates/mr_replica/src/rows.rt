@@ -1,4 +1,6 @@
 ghost use Rattle.std.specs.Prelude.{◌≡◌, Ok};
+ghost use Rattle.mr_model.specs.Replica.{opening};
+ghost use Rattle.mr_model.specs.Tables.{tables_of};
 ghost use Rattle.mr_base.specs.Answers.{OrOutOfMemory};
 
 use mr_base::{Day, Refusal, RoomName, ServerId, Title};
@@ -37,6 +39,21 @@ impl Model for MetaRow {
       dropped = v.dropped;
       clock = v.clock;
     } };
+}
+
+impl MetaRow {
+    /// The row of a replica that knows nothing yet.
+    pub fn opening(server: ServerId, primary: ServerId) -> MetaRow
+        ensures { result ≡ (tables_of (opening server primary)).meta }
+    {
+        MetaRow {
+            server,
+            primary,
+            commits: 0,
+            dropped: 0,
+            clock: 0,
+        }
+    }
 }
 
 /// A row of `vector`: how many writes of a server are known, the time of the last, and how many are committed.
