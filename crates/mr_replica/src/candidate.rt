@@ -10,8 +10,8 @@ ghost use Rattle.mr_base.specs.Batches.{item_of};
 ghost use Rattle.mr_replica.specs.Desk.{NeverStore};
 ghost use Rattle.mr_replica.specs.Candidate.{Shows, Takes, KeepsFront, KeepsMarks, write_in, known_verdict, there_verdict, write_verdict, commit_verdict, front_len as front_len_of, write_place, with_learned, id_place as place_of_id, commit_place, with_moved};
 
-use crate::Summary;
 use crate::rooms::{copies_of, learn_room};
+use crate::summary::Summary;
 use mr_base::{CommitNumber, Item, Refusal, RoomName, Write, WriteId, stamp_before};
 use std::alloc::Global;
 use std::marker::Model;
@@ -19,7 +19,7 @@ use std::marker::Model;
 /// A desk's numbers, rooms and kept writes with the items of a batch that are taken so far. The log itself is not touched:
 /// a batch is taken whole or not at all.
 #[derive(Drop)]
-pub struct Candidate {
+pub(crate) struct Candidate {
     pub(crate) alloc: Global,
     pub(crate) summary: Summary,
     pub(crate) rooms: Vec<RoomName>,
@@ -42,7 +42,7 @@ impl Model for Candidate {
 
 impl Candidate {
     /// What these numbers, rooms and kept writes are before the first item.
-    pub fn new(
+    pub(crate) fn new(
         alloc: Global,
         summary: Summary,
         rooms: &[RoomName],
@@ -67,7 +67,7 @@ impl Candidate {
     }
 
     /// Takes these items, the first of which stands in line 2, or tells why the batch is refused.
-    pub fn take_all(&mut self, items: &[Item]) -> Result<(), Refusal>
+    pub(crate) fn take_all(&mut self, items: &[Item]) -> Result<(), Refusal>
         ensures takes { (p : Progress) → IsReplica p.replica → IsTrue (list_all is_item (map item_of items.now))
             → length items.now + 2 < 2 ^ 64 → Shows self.old p.replica
             → Takes (take_items (map item_of items.now) 2 (Ok p)) result self.new }
@@ -82,7 +82,7 @@ impl Candidate {
     }
 
     /// Whether a write in this line is new, and not one that is known or dropped.
-    pub fn judge_write(&self, line: u64, write: &Write) -> Result<bool, Refusal>
+    pub(crate) fn judge_write(&self, line: u64, write: &Write) -> Result<bool, Refusal>
         ensures verdict { result ≡ write_verdict line self.now.summary self.now.kept write.now }
         ensures own { NeverStore result }
     {
@@ -104,7 +104,12 @@ impl Candidate {
     }
 
     /// Whether a commit in this line is new, and not one that is known or dropped.
-    pub fn judge_commit(&self, line: u64, seq: CommitNumber, id: WriteId) -> Result<bool, Refusal>
+    pub(crate) fn judge_commit(
+        &self,
+        line: u64,
+        seq: CommitNumber,
+        id: WriteId,
+    ) -> Result<bool, Refusal>
         ensures verdict { result ≡ commit_verdict line self.now.summary self.now.kept seq id }
         ensures own { NeverStore result }
         ensures in_range { id.server < 100 }
@@ -135,7 +140,7 @@ impl Candidate {
     }
 
     /// Takes an item that stands in this line, or tells why the batch is refused.
-    pub fn take(&mut self, line: u64, item: &Item) -> Result<(), Refusal>
+    pub(crate) fn take(&mut self, line: u64, item: &Item) -> Result<(), Refusal>
         ensures takes { (p : Progress) → IsReplica p.replica → Shows self.old p.replica
             → Takes (take_item line p (item_of item.now)) result self.new }
         ensures front { OnOk result (KeepsFront self.old self.new) }
@@ -180,7 +185,7 @@ impl Candidate {
     }
 
     /// Adds the write at its place among the tentative ones.
-    pub fn add_write(&mut self, write: &Write) -> Result<(), Refusal>
+    pub(crate) fn add_write(&mut self, write: &Write) -> Result<(), Refusal>
         ensures ok { OnOk result (self.new ≡ with_learned self.old write.now) }
         ensures front { OnOk result (KeepsFront self.old self.new) }
         ensures marks { OnOk result (KeepsMarks self.old self.new) }
@@ -197,7 +202,7 @@ impl Candidate {
     }
 
     /// Moves the tentative write of this id behind the committed ones. It answers whether there is one.
-    pub fn add_commit(&mut self, id: WriteId) -> Result<bool, Refusal>
+    pub(crate) fn add_commit(&mut self, id: WriteId) -> Result<bool, Refusal>
         ensures found { IfOk result (λ found. found ≡ nat_lt (commit_place self.old id) (length self.old.kept)) }
         ensures ok { IfOk result (λ found. found ≡ true → (w : WriteOfRoom) → w ≡ slice_index_or self.old.kept (commit_place self.old id) w
             → self.new ≡ with_moved self.old id w (remove self.old.kept (commit_place self.old id))) }

@@ -2,7 +2,9 @@ ghost use Rattle.mr_replica.specs.Desk.{desk_of};
 ghost use Rattle.mr_model.specs.Replica.{opening};
 ghost use Rattle.std.specs.Prelude.{◌≡◌};
 
-use crate::{Log, OldError, Summary, Tally};
+use crate::log::Log;
+use crate::old_errors::OldError;
+use crate::summary::{Summary, Tally};
 use mr_base::{RoomName, ServerId};
 use std::alloc::Global;
 use std::marker::Model;

@@ -1,9 +1,10 @@
 ghost use Rattle.std.specs.Prelude.{◌≡◌, ◌+◌, ◌<◌, ◌^◌, length, IfOk, IfErr};
 ghost use Rattle.mr_replica.specs.Written.{meta_of, changed_tallies as rows_changed, written};
 
+use crate::summary::Summary;
 use crate::vector::changed_tallies;
 use crate::written::written;
-use crate::{Change, Desk, Summary};
+use crate::{Change, Desk};
 use mr_base::{Refusal, RoomName, Write};
 use mr_replay::UndoRow;
 

@@ -7,9 +7,11 @@ ghost use Rattle.mr_replica.specs.Desk.{TakesStep, NeverStore};
 ghost use Rattle.mr_replica.specs.Turning.{TurnsTables};
 ghost use Rattle.mr_replica.specs.Written.{meta_of, changed_tallies, written};
 
+use crate::log::Log;
+use crate::summary::Summary;
 use crate::vector::changed_tallies;
 use crate::written::written;
-use crate::{Change, Desk, Log, Summary};
+use crate::{Change, Desk};
 use mr_base::{Refusal, Write};
 use mr_replay::UndoRow;
 use std::alloc::Global;

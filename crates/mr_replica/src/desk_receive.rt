@@ -13,9 +13,11 @@ ghost use Rattle.mr_replica.specs.Turning.{TurnsTables};
 ghost use Rattle.mr_replica.specs.Written.{meta_of, changed_tallies, written, adoption};
 
 use crate::candidate::Candidate;
+use crate::log::Log;
 use crate::rooms::unknown_rooms;
+use crate::summary::Summary;
 use crate::written::empty;
-use crate::{Change, Desk, Log, Summary};
+use crate::{Change, Desk};
 use mr_base::{Batch, Item, Refusal, RoomName};
 
 impl Desk {

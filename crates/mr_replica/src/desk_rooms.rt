@@ -7,8 +7,9 @@ ghost use Rattle.mr_replica.specs.Turning.{TurnsTables};
 ghost use Rattle.mr_replica.specs.Written.{meta_of, written};
 
 use crate::rooms::{is_known, learn_room};
+use crate::summary::Summary;
 use crate::written::written;
-use crate::{Change, Desk, Summary};
+use crate::{Change, Desk};
 use mr_base::{Refusal, RoomName};
 use std::alloc::Global;
 

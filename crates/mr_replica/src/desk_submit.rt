@@ -9,7 +9,8 @@ ghost use Rattle.mr_replica.specs.Turning.{TurnsTables, put_outcome};
 ghost use Rattle.mr_replica.specs.Written.{meta_of, changed_tallies, written};
 
 use crate::rooms::is_known;
-use crate::{Change, Desk, Summary};
+use crate::summary::Summary;
+use crate::{Change, Desk};
 use mr_base::{Refusal, Request, Write, WriteId};
 use mr_replay::UndoRow;
 use std::slice;

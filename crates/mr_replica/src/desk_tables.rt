@@ -9,12 +9,14 @@ ghost use Rattle.mr_replica.specs.Summary.{summary_of as summary_of_replica, IsW
 
 use crate::boards::board_of;
 use crate::kept_rows::log_of;
+use crate::log::Log;
 use crate::old_errors::old_errors_in;
 use crate::rooms::copies_of;
 use crate::sound_log::are_booked;
 use crate::sound_rows::are_sound;
+use crate::summary::Summary;
 use crate::vector::summary_of;
-use crate::{Desk, Log, Summary, Tables};
+use crate::{Desk, Tables};
 use mr_base::Refusal;
 use std::alloc::Global;
 

@@ -11,16 +11,18 @@ ghost use Rattle.mr_replica.specs.Summary.{summary_of};
 ghost use Rattle.mr_replica.specs.SoundLog.{IsOfSoundRows};
 ghost use Rattle.mr_replica.specs.KeptRows.{kept_row_with, kept_row as kept_row_of, run_place, run_cmp};
 
+use crate::log::Log;
 use crate::reading::write_of;
 use crate::sound_log::is_log_sound;
-use crate::{Log, LogRow, Summary, Tables, WriteUndoRow};
+use crate::summary::Summary;
+use crate::{LogRow, Tables, WriteUndoRow};
 use mr_base::{Refusal, ServerId, Write};
 use mr_replay::{Board, UndoRow};
 use std::alloc::Global;
 
 /// A kept write as `write_log` and `undo` tell it. `seq` is its commit number, 0 where it is tentative.
 #[derive(Drop)]
-pub struct KeptRow {
+pub(crate) struct KeptRow {
     pub write: Write,
     pub undo: UndoRow,
     pub seq: u64,
@@ -28,7 +30,7 @@ pub struct KeptRow {
 
 /// Where a kept write stands in the order of execution.
 #[derive(Clone, Copy, PartialEq, Eq, PartialOrd, Ord)]
-pub struct RunPlace {
+pub(crate) struct RunPlace {
     is_tentative: bool,
     seq: u64,
     time: u64,

@@ -39,10 +39,7 @@ ghost use Rattle.mr_replica.specs.Steps.{SubmissionsAreRequests};
 
 pub use change::Change;
 pub use desk::Desk;
-pub use log::Log;
-pub use old_errors::OldError;
 pub use rows::{BookingRow, ErrorRow, LogRow, MetaRow, VectorRow, WriteUndoRow};
-pub use summary::{Summary, Tally};
 pub use tables::Tables;
 
 /// A submission in words, where nothing is at fault with these, is the request that they make.

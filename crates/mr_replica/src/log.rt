@@ -2,8 +2,8 @@ ghost use Rattle.std.specs.Prelude.{◌≡◌, [], map, take, drop, length, ◌�
 ghost use Rattle.mr_replay.specs.Rows.{undone_all};
 ghost use Rattle.mr_replica.specs.Log.{pushed, replaced, without_front, errors_in, is_logged as is_logged_at};
 
-use crate::OldError;
 use crate::kept_rows::KeptRow;
+use crate::old_errors::OldError;
 use mr_base::{Refusal, Write};
 use mr_replay::{Board, Place, UndoRow};
 use std::alloc::Global;
@@ -11,7 +11,7 @@ use std::marker::Model;
 
 /// The kept writes in the order of their execution, what undoes each, and the board that all executions led to.
 #[derive(Drop)]
-pub struct Log {
+pub(crate) struct Log {
     kept: Vec<Write>,
     undo: Vec<UndoRow>,
     board: Board,
@@ -30,7 +30,7 @@ impl Model for Log {
 
 impl Log {
     /// The empty log.
-    pub fn new(alloc: Global) -> Log
+    pub(crate) fn new(alloc: Global) -> Log
         ensures { result ≡ record { kept = []; undo = []; board = [] } }
     {
         Log {
@@ -55,14 +55,14 @@ impl Log {
     }
 
     /// The kept writes, the first executed first.
-    pub fn kept(&self) -> &[Write]
+    pub(crate) fn kept(&self) -> &[Write]
         ensures { result.now ≡ self.now.kept }
     {
         self.kept.as_slice()
     }
 
     /// What undoes each of them.
-    pub fn undo(&self) -> &[UndoRow]
+    pub(crate) fn undo(&self) -> &[UndoRow]
         ensures rows { result.now ≡ self.now.undo }
         ensures as_many { length result.now ≡ length self.now.kept }
     {
@@ -70,14 +70,14 @@ impl Log {
     }
 
     /// The board.
-    pub fn board(&self) -> &Board
+    pub(crate) fn board(&self) -> &Board
         ensures { result.now ≡ self.now.board }
     {
         &self.board
     }
 
     /// Executes one write more, behind all others.
-    pub fn push(&mut self, write: Write) -> Result<(), Refusal>
+    pub(crate) fn push(&mut self, write: Write) -> Result<(), Refusal>
         ensures ok { OnOk result (self.new ≡ pushed self.old write) }
         ensures err { OnErr result (self.new ≡ self.old) }
         ensures only { IfErr result (λ e. e ≡ Refusal.OutOfMemory) }
@@ -92,7 +92,12 @@ impl Log {
 
     /// The log with another list in the stead of its own, which is the same in front of this place: its writes from the place
     /// on are undone, and those of the list are executed from there on.
-    pub fn with_tail(&self, alloc: Global, place: usize, kept: Vec<Write>) -> Result<Log, Refusal>
+    pub(crate) fn with_tail(
+        &self,
+        alloc: Global,
+        place: usize,
+        kept: Vec<Write>,
+    ) -> Result<Log, Refusal>
         requires old { place ≤ length self.now.kept }
         requires new { place ≤ length kept.items }
         ensures log { IfOk result (λ log. log ≡ replaced self.now place kept.items) }
@@ -108,7 +113,7 @@ impl Log {
     }
 
     /// The dropped errors that dropping the first `count` writes makes, numbered from `first` on.
-    pub fn errors_in_front(
+    pub(crate) fn errors_in_front(
         &self,
         alloc: Global,
         first: u64,
@@ -123,7 +128,7 @@ impl Log {
     }
 
     /// Keeps the first writes no longer. What they did stays on the board.
-    pub fn drop_front(&mut self, count: usize)
+    pub(crate) fn drop_front(&mut self, count: usize)
         ensures { self.new ≡ without_front self.old count }
     {
         drop_first(&mut self.kept, count);

@@ -16,7 +16,7 @@ use std::alloc::Global;
 
 /// A write that is dropped and stands in the error log, with its time and the number of its commit.
 #[derive(Clone, Copy, Debug, PartialEq, Eq)]
-pub struct OldError {
+pub(crate) struct OldError {
     pub id: WriteId,
     pub time: u64,
     pub seq: u64,
@@ -24,7 +24,7 @@ pub struct OldError {
 
 impl OldError {
     /// What is kept of a write with this commit number.
-    pub fn of_write(write: &Write, seq: u64) -> OldError
+    pub(crate) fn of_write(write: &Write, seq: u64) -> OldError
         ensures { result ≡ old_error_of seq write.now }
     {
         OldError {

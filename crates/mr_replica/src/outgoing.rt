@@ -6,7 +6,7 @@ ghost use Rattle.mr_base.specs.Positions.{counts_of};
 ghost use Rattle.mr_base.specs.Batches.{batch_of};
 ghost use Rattle.mr_replica.specs.Outgoing.{Offers, committed_items, lacked_items, kept_items, ending_by};
 
-use crate::Summary;
+use crate::summary::Summary;
 use mr_base::{
     Batch, CommitNumber, Ending, Item, LineCount, Position, Refusal, ServerId, Write, WriteId,
 };
@@ -14,7 +14,7 @@ use std::alloc::Global;
 
 /// The items of a batch that is made: the first ones, up to a limit, and whether there are more.
 #[derive(Drop)]
-pub struct Outgoing {
+pub(crate) struct Outgoing {
     alloc: Global,
     limit: LineCount,
     items: Vec<Item>,
@@ -23,7 +23,7 @@ pub struct Outgoing {
 
 impl Outgoing {
     /// No items yet.
-    pub fn new(alloc: Global, limit: LineCount) -> Outgoing
+    pub(crate) fn new(alloc: Global, limit: LineCount) -> Outgoing
         ensures limit { result.limit ≡ limit }
         ensures items { Offers limit [] result.items.items result.more }
     {
@@ -36,7 +36,7 @@ impl Outgoing {
     }
 
     /// The batch of these items, which `from` makes.
-    pub fn into_batch(self, from: ServerId, primary: ServerId) -> Batch
+    pub(crate) fn into_batch(self, from: ServerId, primary: ServerId) -> Batch
         ensures { result ≡ batch_of (Some (from, primary)) self.items.items (ending_by self.more) }
     {
         let ending = if self.more {
@@ -93,7 +93,11 @@ impl Outgoing {
     }
 
     /// Those of these writes that the position lacks.
-    pub fn push_lacked(&mut self, position: &Position, writes: &[Write]) -> Result<(), Refusal>
+    pub(crate) fn push_lacked(
+        &mut self,
+        position: &Position,
+        writes: &[Write],
+    ) -> Result<(), Refusal>
         ensures items { OnOk result ((items : List ItemOfBatch) → Offers self.old.limit items self.old.items.items self.old.more
             → Offers self.old.limit (items ++ lacked_items position.now writes.now) self.new.items.items self.new.more) }
         ensures limit { self.new.limit ≡ self.old.limit }
@@ -106,7 +110,7 @@ impl Outgoing {
     }
 
     /// The commits of these writes, numbered from `first` on, each behind its write where the position lacks that.
-    pub fn push_commits(
+    pub(crate) fn push_commits(
         &mut self,
         position: &Position,
         first: u64,
@@ -130,7 +134,7 @@ impl Outgoing {
 
 /// What a replica with these numbers and these kept writes has for one at the position, where no commit that is asked for
 /// is dropped.
-pub fn outgoing_for(
+pub(crate) fn outgoing_for(
     alloc: Global,
     summary: &Summary,
     kept: &[Write],

@@ -7,7 +7,7 @@ use mr_base::{Refusal, RoomName};
 use std::alloc::Global;
 
 /// Whether the room is among these.
-pub fn is_known(rooms: &[RoomName], room: &RoomName) -> bool
+pub(crate) fn is_known(rooms: &[RoomName], room: &RoomName) -> bool
     ensures { result ≡ list_any (bytes_eq room.now) rooms.now }
 {
     for name in rooms {
@@ -19,7 +19,11 @@ pub fn is_known(rooms: &[RoomName], room: &RoomName) -> bool
 }
 
 /// Adds the room at its place in the order of names, unless it is known.
-pub fn learn_room(alloc: Global, rooms: &mut Vec<RoomName>, room: &RoomName) -> Result<(), Refusal>
+pub(crate) fn learn_room(
+    alloc: Global,
+    rooms: &mut Vec<RoomName>,
+    room: &RoomName,
+) -> Result<(), Refusal>
     ensures known { OnOk result (list_any (bytes_eq room.now) rooms.old.items ≡ true → rooms.new.items ≡ rooms.old.items) }
     ensures new { OnOk result (list_any (bytes_eq room.now) rooms.old.items ≡ false → rooms.new.items ≡ with_room room.now rooms.old.items) }
     ensures err { OnErr result (rooms.new.items ≡ rooms.old.items) }
@@ -55,7 +59,7 @@ pub(crate) fn is_before(name: &RoomName, other: &RoomName) -> bool
 }
 
 /// Those of the rooms that are not among the known ones.
-pub fn unknown_rooms(
+pub(crate) fn unknown_rooms(
     alloc: Global,
     known: &[RoomName],
     rooms: &[RoomName],
@@ -73,7 +77,7 @@ pub fn unknown_rooms(
 }
 
 /// Equal names in the same order.
-pub fn copies_of(alloc: Global, rooms: &[RoomName]) -> Result<Vec<RoomName>, Refusal>
+pub(crate) fn copies_of(alloc: Global, rooms: &[RoomName]) -> Result<Vec<RoomName>, Refusal>
     ensures copies { IfOk result (λ copies. copies.items ≡ rooms.now) }
     ensures only { IfErr result (λ e. e ≡ Refusal.OutOfMemory) }
 {

@@ -7,9 +7,10 @@ ghost use Rattle.mr_replica.specs.Rows.{seq_on};
 ghost use Rattle.mr_replica.specs.SoundRows.{Rise};
 ghost use Rattle.mr_replica.specs.SoundLog.{AreNumbered, is_run_before, IsAtPlace, IsLogSound, is_on_board};
 
+use crate::BookingRow;
 use crate::choices::choice_of;
 use crate::kept_rows::KeptRow;
-use crate::{BookingRow, Summary};
+use crate::summary::Summary;
 use mr_base::{Slot, Write, WriteId};
 use mr_replay::{Board, Place, Row, Standing};
 

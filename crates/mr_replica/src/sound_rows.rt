@@ -6,7 +6,8 @@ ghost use Rattle.mr_replica.specs.Change.{id_before, log_id};
 ghost use Rattle.mr_replica.specs.SoundRows.{Rise, IsMetaSound, IsCountSound, is_counted, is_first, IsMarkSound, IsNumberSound, AreKeysRising, capped, AreTotalsSound, AreSound};
 
 use crate::rooms::is_before;
-use crate::{BookingRow, ErrorRow, LogRow, MetaRow, Summary, Tables, VectorRow};
+use crate::summary::Summary;
+use crate::{BookingRow, ErrorRow, LogRow, MetaRow, Tables, VectorRow};
 use mr_base::{RoomName, ServerId};
 
 /// Whether the rows of tables with these numbers agree with each other.

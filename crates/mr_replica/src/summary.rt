@@ -20,7 +20,7 @@ const GREATEST_COUNT: u32 = 999_999_999;
 
 /// What is known of a server: how many of its writes, the time of the last, and how many are committed.
 #[derive(Clone, Copy, Debug, PartialEq, Eq)]
-pub struct Tally {
+pub(crate) struct Tally {
     pub count: u32,
     pub last_time: u64,
     pub committed: u32,
@@ -29,7 +29,7 @@ pub struct Tally {
 /// The numbers of a replica: its server and its primary, how many commits there are and how many of them are dropped, the
 /// greatest time known, and the tally of each server, found by the server's number.
 #[derive(Clone, Copy, Debug)]
-pub struct Summary {
+pub(crate) struct Summary {
     pub server: ServerId,
     pub primary: ServerId,
     pub commits: u64,
@@ -40,7 +40,7 @@ pub struct Summary {
 
 impl Summary {
     /// The numbers of a replica that knows nothing yet.
-    pub fn new(server: ServerId, primary: ServerId) -> Summary
+    pub(crate) fn new(server: ServerId, primary: ServerId) -> Summary
         ensures { result ≡ summary_of (opening server primary) }
     {
         let none = Tally {
@@ -59,14 +59,14 @@ impl Summary {
     }
 
     /// Whether the numbers are within the limits of positions.
-    pub fn is_within(&self) -> bool
+    pub(crate) fn is_within(&self) -> bool
         ensures { IsTrue result ↔ IsWithin self.now }
     {
         self.commits <= GREATEST_COMMITS && are_within(&self.tallies)
     }
 
     /// The tally of a server.
-    pub fn tally(&self, server: ServerId) -> Tally
+    pub(crate) fn tally(&self, server: ServerId) -> Tally
         ensures tally { result ≡ tally_at self.now.tallies server }
         ensures in_range { server < 100 }
     {
@@ -74,7 +74,7 @@ impl Summary {
     }
 
     /// The next stamp of the own server.
-    pub fn next_stamp(&self) -> Result<Stamp, Refusal>
+    pub(crate) fn next_stamp(&self) -> Result<Stamp, Refusal>
         ensures { result ≡ stamp_next self.now }
     {
         let count = self.tally(self.server).count;
@@ -93,7 +93,7 @@ impl Summary {
     }
 
     /// Notes a write as the last of its server.
-    pub fn note_write(&mut self, stamp: Stamp)
+    pub(crate) fn note_write(&mut self, stamp: Stamp)
         ensures { self.new ≡ noted_write self.old stamp }
     {
         self.clock = self.clock.max(stamp.time);
@@ -103,7 +103,7 @@ impl Summary {
     }
 
     /// Notes one commit more, as the last of its server.
-    pub fn note_commit(&mut self, id: WriteId)
+    pub(crate) fn note_commit(&mut self, id: WriteId)
         ensures { self.new ≡ noted_commit self.old id }
     {
         self.commits = self.commits.saturating_add(1);
@@ -112,7 +112,7 @@ impl Summary {
     }
 
     /// Notes these commits, in this order.
-    pub fn note_commits(&mut self, writes: &[Write])
+    pub(crate) fn note_commits(&mut self, writes: &[Write])
         ensures { self.new ≡ noted_commits self.old (map id_of writes.now) }
     {
         for write in writes {
@@ -121,14 +121,14 @@ impl Summary {
     }
 
     /// How many of the kept writes are committed; they are the first.
-    pub fn committed_len(&self, kept: &[Write]) -> usize
+    pub(crate) fn committed_len(&self, kept: &[Write]) -> usize
         ensures { result ≡ committed_len self.now kept.now }
     {
         (self.commits.saturating_sub(self.dropped) as usize).min(kept.len())
     }
 
     /// The counts of the servers that have a write, by rising server.
-    pub fn counts(&self, alloc: Global) -> Result<Vec<(ServerId, u32)>, Refusal>
+    pub(crate) fn counts(&self, alloc: Global) -> Result<Vec<(ServerId, u32)>, Refusal>
         ensures counts { IfOk result (λ counts. counts_of counts.items ≡ counts_in self.now.tallies (numbers_on 1 99)) }
         ensures only { IfErr result (λ e. e ≡ Refusal.OutOfMemory) }
     {

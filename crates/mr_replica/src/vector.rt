@@ -6,7 +6,8 @@ ghost use Rattle.mr_replica.specs.Summary.{summary_of};
 ghost use Rattle.mr_replica.specs.Tallied.{tallied};
 ghost use Rattle.mr_replica.specs.Written.{changed_tally, changed_tallies};
 
-use crate::{Summary, Tables, Tally, VectorRow};
+use crate::summary::{Summary, Tally};
+use crate::{Tables, VectorRow};
 use mr_base::{Refusal, ServerId};
 use std::alloc::Global;
 

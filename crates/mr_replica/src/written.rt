@@ -4,7 +4,8 @@ ghost use Rattle.mr_replica.specs.Rows.{log_row_with, undo_row_with, booking_at,
 ghost use Rattle.mr_replica.specs.Written.{meta_of, written, forgotten, with_logs, with_booking, with_slot, with_error, with_rows};
 
 use crate::choices::{choice_of, choices_text};
-use crate::{BookingRow, Change, ErrorRow, LogRow, MetaRow, Summary, VectorRow, WriteUndoRow};
+use crate::summary::Summary;
+use crate::{BookingRow, Change, ErrorRow, LogRow, MetaRow, VectorRow, WriteUndoRow};
 use mr_base::{Refusal, RoomName, Slot, Write, WriteId};
 use mr_replay::{Place, UndoRow};
 use std::alloc::Global;
