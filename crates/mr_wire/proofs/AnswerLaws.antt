@@ -1,18 +1,18 @@
 -- What the answer of a reader says of the bytes.
 use Rattle.std.proofs.Common.{◌≡◌, true, Vec, Global, refl, sym, ap, ◌∙◌, ℕ, ◌+◌, List, [], ◌∷◌, Result, Ok, Err, inl, inr, Option, Some, None}
+use Rattle.std.proofs.lemmas.Option.{same_Some}
 use Rattle.std.specs.Prelude.{IfOk, IfErr, ok_or}
 use Rattle.mr_model.specs.Positions.{Position, is_position, read_position, position_text}
 use Rattle.mr_model.proofs.PositionsReadBack.{read-position_text, read_position_text}
 use Rattle.mr_model.specs.Texts.{Text, whole_lines}
 use Rattle.mr_model.specs.Refusals as model
 use Rattle.mr_model.specs.Exchange.{Item, Ending, Header, Batch, is_batch, batch_text, BodyLine, ItemLine, LastLine, read_header, read_body_line, read_end, read_line, read_body, under_header, read_lines, read_batch, ReadsAs, IsFirstBadLine}
-use Rattle.mr_model.proofs.BatchesReadBack.{one_text, read_reads}
-use Rattle.mr_model.proofs.FirstBadLine.{bad_line_is_first}
+use Rattle.mr_model.proofs.BatchesReadBack.{one_text, read_reads, ok_inj}
+use Rattle.mr_model.proofs.FirstBadLine.{err_inj, ok_err, bad_line_is_first}
 use Rattle.mr_base.specs.Refusals.{refusal_of}
 use Rattle.mr_base.specs.Answers.{Gives}
 use Rattle.mr_base.specs.declared.refusals.Refusal.{Refusal}
 use Rattle.mr_wire.specs.Answers.{IsRefusedFor, GivesSeen}
-use Rattle.mr_wire.proofs.FieldLaws.{some_inj}
 
 pub ok_reads : (bytes : Text) (r : Result Batch Refusal) → Gives r (read_batch bytes) → IfOk r (λ b. ReadsAs bytes b)
 ok_reads bytes (Ok b) e = read_reads bytes b e
@@ -21,12 +21,6 @@ ok_reads bytes (Err e) h = tt
 -- reading refuses for bad lines alone
 IsBadLine : model.Refusal → Type 0
 IsBadLine e = (i : ℕ) × (e ≡ model.BadLine i)
-
-err_inj : {A E : Type 0} (x y : E) → ◌≡◌ {A = Result A E} (Err x) (Err y) → x ≡ y
-err_inj x y e = cc
-
-ok_err : {A E : Type 0} (x : A) (e : E) → ◌≡◌ {A = Result A E} (Ok x) (Err e) → ⊥
-ok_err x e h = cc
 
 bad_body : (k : ℕ) (ls : List Text) (e : model.Refusal) → read_body k ls ≡ Err e → IsBadLine e
 unfolding IsBadLine
@@ -76,13 +70,10 @@ ok_position bytes (Err e) h = tt
 
 -- ---- what is written
 
-ok_text : {E : Type 0} (x y : Text) → ◌≡◌ {A = Result Text E} (Ok x) (Ok y) → x ≡ y
-ok_text x y e = cc
-
 pub one_batch : (w : Batch) (r : Result (Vec ℕ Global) Refusal) → is_batch w ≡ true → GivesSeen (λ v. v.items) r (Ok (batch_text w)) → (b : Batch) → is_batch b ≡ true → IfOk r (λ v. v.items ≡ batch_text b → b ≡ w)
-one_batch w (Ok v) ok is b within = λ same. one_text b w within ok (sym same ∙ sym (ok_text (batch_text w) v.items is))
+one_batch w (Ok v) ok is b within = λ same. one_text b w within ok (sym same ∙ sym (ok_inj (batch_text w) v.items is))
 one_batch w (Err e) ok is b within = tt
 
 pub one_position : (w : Position) (r : Result (Vec ℕ Global) Refusal) → is_position w ≡ true → GivesSeen (λ v. v.items) r (Ok (position_text w)) → (p : Position) → is_position p ≡ true → IfOk r (λ v. v.items ≡ position_text p → p ≡ w)
-one_position w (Ok v) ok is p within = λ same. some_inj p w (sym (read-position_text p within) ∙ ap read_position (sym same ∙ sym (ok_text (position_text w) v.items is)) ∙ read-position_text w ok)
+one_position w (Ok v) ok is p within = λ same. same_Some p w (sym (read-position_text p within) ∙ ap read_position (sym same ∙ sym (ok_inj (position_text w) v.items is)) ∙ read-position_text w ok)
 one_position w (Err e) ok is p within = tt

@@ -1,6 +1,7 @@
 -- A field that is taken off a text is the field that was written, and what was written is taken off again.
 use Rattle.std.proofs.Common.{◌≡◌, refl, sym, ap, ◌∙◌, subst, ℕ, zero, suc, ◌^◌, ◌<◌, ◌≤◌, Bool, true, false, cond, ◌&&◌, eqb, leb, List, [], ◌∷◌, ◌++◌, length, arith, Option, Some, None, eq-eqb, eqb-true, ne_eqb, le-leb, leb-true, ltb, lt-ltb, ltb-true, lit<}
 use Rattle.std.proofs.lemmas.Bool.{and_parts, and_from, cond-false, cond-true}
+use Rattle.std.proofs.lemmas.Option.{same_Some}
 use Rattle.std.specs.Prelude.{option_map, flat_map, ok_or}
 use Rattle.std.specs.Result.{result_ok}
 use Rattle.std.specs.Str.{bytes_eq}
@@ -22,9 +23,6 @@ pub bind_some : {A B : Type 0} (o : Option A) (f : A → Option B) (y : B) → (
 bind_some (Some x) f y e = (x, refl, e)
 bind_some {B = B} None f y e = absurd (let g : ◌≡◌ {A = Option B} None (Some y) = e in cc)
 
-pub some_inj : {A : Type 0} (x y : A) → ◌≡◌ {A = Option A} (Some x) (Some y) → x ≡ y
-some_inj x y e = cc
-
 -- ---- words
 
 pub cut_takes : (c : ℕ) (text a b : Text) → cut c text ≡ Some (a, b) → text ≡ a ++ c ∷ b
@@ -33,13 +31,13 @@ cut_takes c (x ∷ xs) a b e = go (eqb x c) refl (cut c xs) (λ a' b'. cut_takes
   where
     go : (t : Bool) → eqb x c ≡ t → (o : Option (Text × Text)) → ((a' b' : Text) → o ≡ Some (a', b') → xs ≡ a' ++ c ∷ b') → cond {A = Option (Text × Text)} t (Some ([], xs)) (option_map (λ (p : Text × Text). (x ∷ p.0, p.1)) o) ≡ Some (a, b) → x ∷ xs ≡ a ++ c ∷ b
     go true t o ih h =
-        let is = some_inj ([], xs) (a, b) h in
+        let is = same_Some ([], xs) (a, b) h in
         let same : x ≡ c = eqb-true x c t in
         let left : ◌≡◌ {A = Text} [] a = ap (λ (p : Text × Text). p.0) is in
         let right : xs ≡ b = ap (λ (p : Text × Text). p.1) is in
         (λ i. same i ∷ right i) ∙ ap (λ (t : Text). t ++ c ∷ b) left
     go false t (Some p) ih h =
-        let is = some_inj (x ∷ p.0, p.1) (a, b) h in
+        let is = same_Some (x ∷ p.0, p.1) (a, b) h in
         let left : x ∷ p.0 ≡ a = ap (λ (q : Text × Text). q.0) is in
         let right : p.1 ≡ b = ap (λ (q : Text × Text). q.1) is in
         ap (λ (t : Text). x ∷ t) (ih p.0 p.1 refl) ∙ (λ i. left i ++ c ∷ right i)
@@ -74,7 +72,7 @@ number_off_takes low high text x e =
     let a = bind_some (cut 32 text) (λ word. number_from_to low high word.0 >>= λ n. Some (n, word.1)) x e in
     let b = bind_some (number_from_to low high a.0.0) (λ n. Some (n, a.0.1)) x a.2 in
     let t = number_takes low high a.0.0 b.0 b.1 in
-    let is = some_inj (b.0, a.0.1) x b.2 in
+    let is = same_Some (b.0, a.0.1) x b.2 in
     subst (λ (y : ℕ × Text). (within low high y.0 ≡ true) × (text ≡ decimal y.0 ++ 32 ∷ y.1)) is
     (t.0, cut_takes 32 text a.0.0 a.0.1 a.1 ∙ ap (λ (w : Text). w ++ 32 ∷ a.0.1) t.1)
 
@@ -95,7 +93,7 @@ stamp_off_takes text x e =
     let tb = number_off_takes 1 999_999_999 a.0.1 b.0 b.1 in
     let td = number_off_takes 1 999_999_999_999 b.0.1 d.0 d.1 in
     let made : Stamp × Text = (record { server = a.0.0; n = b.0.0; time = d.0.0 }, d.0.1) in
-    subst (λ (y : Stamp × Text). (is_stamp y.0 ≡ true) × (text ≡ decimal y.0.server ++ 32 ∷ (decimal y.0.n ++ 32 ∷ (decimal y.0.time ++ 32 ∷ y.1)))) (some_inj made x d.2) (
+    subst (λ (y : Stamp × Text). (is_stamp y.0 ≡ true) × (text ≡ decimal y.0.server ++ 32 ∷ (decimal y.0.n ++ 32 ∷ (decimal y.0.time ++ 32 ∷ y.1)))) (same_Some made x d.2) (
       and_from (is_server a.0.0 && is_count b.0.0) (is_time d.0.0) (and_from (is_server a.0.0) (is_count b.0.0) ta.0 tb.0) td.0,
       ta.1 ∙ ap (λ (t : Text). decimal a.0.0 ++ 32 ∷ t) (tb.1 ∙ ap (λ (t : Text). decimal b.0.0 ++ 32 ∷ t) td.1),
     )
@@ -152,7 +150,7 @@ slot_off_takes text x e =
     let day = date_takes a.0.0 b.0 b.1 in
     let start = time_takes d.0.0 f.0 f.1 in
     let made : Slot × Text = (record { day = b.0; start = f.0 }, d.0.1) in
-    subst (λ (y : Slot × Text). (is_slot y.0 ≡ true) × (text ≡ date_text y.0.day ++ 32 ∷ (time_text y.0.start ++ 32 ∷ y.1))) (some_inj made x f.2) (
+    subst (λ (y : Slot × Text). (is_slot y.0 ≡ true) × (text ≡ date_text y.0.day ++ 32 ∷ (time_text y.0.start ++ 32 ∷ y.1))) (same_Some made x f.2) (
       and_from (is_date b.0) (leb f.0 1439) day.0 start.0,
       cut_takes 32 text a.0.0 a.0.1 a.1 ∙ ap (λ (w : Text). w ++ 32 ∷ a.0.1) day.1
           ∙ ap (λ (t : Text). date_text b.0 ++ 32 ∷ t) (cut_takes 32 a.0.1 d.0.0 d.0.1 d.1 ∙ ap (λ (w : Text). w ++ 32 ∷ d.0.1) start.1),
@@ -171,14 +169,14 @@ slot_off_again s rest ok =
 pub slots_off_take : (k : ℕ) (text : Text) (x : List Slot × Text) → slots_off k text ≡ Some x → (length x.0 ≡ k) × AllByRecursion (λ s. is_slot s ≡ true) x.0 × (text ≡ words (flat_map slot_words x.0 ++ x.1 ∷ []))
 unfolding slots_off
 slots_off_take zero text x e =
-    subst (λ (y : List Slot × Text). (length y.0 ≡ 0) × AllByRecursion (λ s. is_slot s ≡ true) y.0 × (text ≡ words (flat_map slot_words y.0 ++ y.1 ∷ []))) (some_inj ([], text) x e) (refl, tt, refl)
+    subst (λ (y : List Slot × Text). (length y.0 ≡ 0) × AllByRecursion (λ s. is_slot s ≡ true) y.0 × (text ≡ words (flat_map slot_words y.0 ++ y.1 ∷ []))) (same_Some ([], text) x e) (refl, tt, refl)
 slots_off_take (suc k) text x e =
     let a = bind_some (slot_off text) (λ slot. slots_off k slot.1 >>= λ others. Some (slot.0 ∷ others.0, others.1)) x e in
     let b = bind_some (slots_off k a.0.1) (λ others. Some (a.0.0 ∷ others.0, others.1)) x a.2 in
     let first = slot_off_takes text a.0 a.1 in
     let others = slots_off_take k a.0.1 b.0 b.1 in
     let made : List Slot × Text = (a.0.0 ∷ b.0.0, b.0.1) in
-    subst (λ (y : List Slot × Text). (length y.0 ≡ suc k) × AllByRecursion (λ s. is_slot s ≡ true) y.0 × (text ≡ words (flat_map slot_words y.0 ++ y.1 ∷ []))) (some_inj made x b.2) (
+    subst (λ (y : List Slot × Text). (length y.0 ≡ suc k) × AllByRecursion (λ s. is_slot s ≡ true) y.0 × (text ≡ words (flat_map slot_words y.0 ++ y.1 ∷ []))) (same_Some made x b.2) (
       ap suc others.0,
       (first.0, others.1),
       first.1 ∙ ap (λ (t : Text). date_text a.0.0.day ++ 32 ∷ (time_text a.0.0.start ++ 32 ∷ t)) others.2

@@ -1,6 +1,7 @@
 -- A line is read as the fields on it exactly where it is their line.
 use Rattle.std.proofs.Common.{◌≡◌, refl, sym, ap, ◌∙◌, subst, ℕ, ◌^◌, ◌<◌, ◌≤◌, Bool, true, false, not, cond, ◌&&◌, leb, ltb, List, [], ◌∷◌, ◌++◌, length, arith, Option, Some, None, Ok, Err, lit<, lit≤, le-leb, leb-true}
 use Rattle.std.proofs.lemmas.Bool.{and_parts, and_from, le-ltb}
+use Rattle.std.proofs.lemmas.Option.{same_Some}
 use Rattle.std.proofs.lemmas.Slice.Eq.{bytes_eq-Decides}
 use Rattle.std.specs.Prelude.{flat_map, codes}
 use Rattle.std.specs.Str.{bytes_eq}
@@ -14,24 +15,20 @@ use Rattle.mr_model.specs.Requests.{is_length_for}
 use Rattle.mr_model.specs.Exchange.{Header, Item, W, C, BodyLine, ItemLine, LastLine, Complete, More, Cut, is_header, is_item, header_line, write_line, item_line, read_header, read_body_line}
 use Rattle.mr_model.proofs.WordsReadBack.{Plain}
 use Rattle.mr_model.proofs.LinesReadBack.{words-cons, slots_all, room_plain}
-use Rattle.mr_model.proofs.BatchesReadBack.{own_text, IsLineOf, body_line_of, read-item_line, read-header_line}
+use Rattle.mr_model.proofs.BatchesReadBack.{only_if_some, own_text, IsLineOf, body_line_of, read-item_line, read-header_line}
 use Rattle.mr_base.specs.declared.refusals.Refusal.{Refusal}
 use Rattle.mr_base.specs.declared.refusals.Refusal.TheVariants.{BadLength, TooManyAlternatives}
 use Rattle.mr_base.specs.Limits.{limited}
 use Rattle.mr_wire.specs.Words.{cut}
 use Rattle.mr_base.specs.Readings.{number_from_to}
 use Rattle.mr_wire.specs.Fields.{◌>>=◌, number_off, slot_off, slots_off, stamp_off, choices_off, write_with, write_of, behind_word, server_and, commit_of, header_of, worded_line, bare_line, line_by, line_of}
-use Rattle.mr_wire.proofs.FieldLaws.{bind_some, some_inj, cut_takes, word_again, number_takes, number_again, number_off_takes, number_off_again, stamp_off_takes, stamp_off_again, slot_off_takes, slot_off_again, slots_off_take, slots_off_again}
+use Rattle.mr_wire.proofs.FieldLaws.{bind_some, cut_takes, word_again, number_takes, number_again, number_off_takes, number_off_again, stamp_off_takes, stamp_off_again, slot_off_takes, slot_off_again, slots_off_take, slots_off_again}
 
 -- two that give the same values are the same
 pub agree : {A : Type 0} (o p : Option A) → ((x : A) → o ≡ Some x → p ≡ Some x) → ((x : A) → p ≡ Some x → o ≡ Some x) → o ≡ p
 agree (Some x) p f g = sym (f x refl)
 agree None (Some x) f g = g x refl
 agree None None f g = refl
-
-pub only_some : {A : Type 0} (b : Bool) (x y : A) → only_if b x ≡ Some y → (b ≡ true) × (x ≡ y)
-only_some true x y e = (refl, some_inj x y e)
-only_some {A = A} false x y e = absurd (let f : ◌≡◌ {A = Option A} None (Some y) = e in cc)
 
 -- ---- writes
 
@@ -69,7 +66,7 @@ choices_take text x e =
     let k = bind_some (number_off 0 8 a.0.1) (λ few. slots_off few.0 few.1 >>= λ others. Some ((a.0.0, others.0), others.1)) x a.2 in
     let o = bind_some (slots_off k.0.0 k.0.1) (λ others. Some ((a.0.0, others.0), others.1)) x k.2 in
     let made : (Slot × List Slot) × Text = ((a.0.0, o.0.0), o.0.1) in
-    subst (λ (y : (Slot × List Slot) × Text). AreChoices text y.0.0 y.0.1 y.1) {x = made} (some_inj made x o.2) (choices_made text a.0 k.0 o.0 a.1 k.1 o.1)
+    subst (λ (y : (Slot × List Slot) × Text). AreChoices text y.0.0 y.0.1 y.1) {x = made} (same_Some made x o.2) (choices_made text a.0 k.0 o.0 a.1 k.1 o.1)
 
 choices_again : (wish : Slot) (others : List Slot) (title : Text) → is_slot wish ≡ true → AllByRecursion (λ s. is_slot s ≡ true) others → length others ≤ 8 → choices_off (choices_rest wish others title) ≡ Some ((wish, others), title)
 unfolding choices_rest choices_off
@@ -113,7 +110,7 @@ unfolding write_with write_rest
 write_made text s r m c w es er em ec ew =
     let made : Write = record { stamp = s.0; room = r.0; title = c.1; length = m.0; wish = c.0.0; alternatives = c.0.1 } in
     let few = not (ltb greatest_alternatives (length c.0.1)) in
-    let ends = only_some (is_room_name r.0 && (is_title c.1 && (is_length_for m.0 (c.0.0 ∷ c.0.1) && few))) made w ew in
+    let ends = only_if_some (is_room_name r.0 && (is_title c.1 && (is_length_for m.0 (c.0.0 ∷ c.0.1) && few))) made w ew in
     let named = and_parts (is_room_name r.0) (is_title c.1 && (is_length_for m.0 (c.0.0 ∷ c.0.1) && few)) ends.0 in
     let titled = and_parts (is_title c.1) (is_length_for m.0 (c.0.0 ∷ c.0.1) && few) named.1 in
     let long = and_parts (is_length_for m.0 (c.0.0 ∷ c.0.1)) few titled.1 in
@@ -162,7 +159,7 @@ pub behind_takes : (word text rest : Text) → behind_word word text ≡ Some re
 unfolding behind_word
 behind_takes word text rest e =
     let a = bind_some (cut 32 text) (λ first. only_if (bytes_eq first.0 word) first.1) rest e in
-    let b = only_some (bytes_eq a.0.0 word) a.0.1 rest a.2 in
+    let b = only_if_some (bytes_eq a.0.0 word) a.0.1 rest a.2 in
     cut_takes 32 text a.0.0 a.0.1 a.1 ∙ ap (λ (w : Text). w ++ 32 ∷ a.0.1) ((bytes_eq-Decides a.0.0 word).0 b.0) ∙ ap (λ (t : Text). word ++ 32 ∷ t) b.1
 
 pub behind_again : (word rest : Text) → Plain word → behind_word word (word ++ 32 ∷ rest) ≡ Some rest
@@ -179,7 +176,7 @@ server_and_takes high text x e =
     let ta = number_off_takes 1 99 text a.0 a.1 in
     let tb = number_takes 1 high a.0.1 b.0 b.1 in
     let made : ℕ × ℕ = (a.0.0, b.0) in
-    subst (λ (y : ℕ × ℕ). (is_server y.0 ≡ true) × (within 1 high y.1 ≡ true) × (text ≡ decimal y.0 ++ 32 ∷ decimal y.1)) {x = made} (some_inj made x b.2)
+    subst (λ (y : ℕ × ℕ). (is_server y.0 ≡ true) × (within 1 high y.1 ≡ true) × (text ≡ decimal y.0 ++ 32 ∷ decimal y.1)) {x = made} (same_Some made x b.2)
     (ta.0, tb.0, ta.1 ∙ ap (λ (t : Text). decimal a.0.0 ++ 32 ∷ t) tb.1)
 
 pub server_and_again : (high s n : ℕ) → is_server s ≡ true → within 1 high n ≡ true → high < 2 ^ 64 → server_and high (decimal s ++ 32 ∷ decimal n) ≡ Some (s, n)
@@ -201,7 +198,7 @@ commit_takes text x e =
     let ta = number_off_takes 1 999_999_999_999 text a.0 a.1 in
     let tb = server_and_takes 999_999_999 a.0.1 b.0 b.1 in
     let made : Item = C a.0.0 (record { server = b.0.0; n = b.0.1 }) in
-    subst (λ (y : Item). (is_item y ≡ true) × (67 ∷ 32 ∷ text ≡ item_line y)) {x = made} (some_inj made x b.2) (
+    subst (λ (y : Item). (is_item y ≡ true) × (67 ∷ 32 ∷ text ≡ item_line y)) {x = made} (same_Some made x b.2) (
       and_from (is_commit_number a.0.0) (is_server b.0.0 && is_count b.0.1) ta.0 (and_from (is_server b.0.0) (is_count b.0.1) tb.0 tb.1),
       ap (λ (t : Text). 67 ∷ 32 ∷ t) (ta.1 ∙ ap (λ (t : Text). decimal a.0.0 ++ 32 ∷ t) tb.2),
     )
@@ -223,7 +220,7 @@ header_takes text h e =
     let b = bind_some (server_and 99 a.0) (λ servers. Some (record { from = servers.0; primary = servers.1 })) h a.2 in
     let t = server_and_takes 99 a.0 b.0 b.1 in
     let made : Header = record { from = b.0.0; primary = b.0.1 } in
-    subst (λ (y : Header). (is_header y ≡ true) × (text ≡ header_line y)) {x = made} (some_inj made h b.2)
+    subst (λ (y : Header). (is_header y ≡ true) × (text ≡ header_line y)) {x = made} (same_Some made h b.2)
     (and_from (is_server b.0.0) (is_server b.0.1) t.0 t.1, behind_takes (codes "mr1") text a.0 a.1 ∙ ap (λ (r : Text). codes "mr1" ++ 32 ∷ r) t.2)
 
 header_again : (h : Header) → is_header h ≡ true → header_of (header_line h) ≡ Some h
@@ -261,12 +258,12 @@ worded_takes text word rest x is = go (bytes_eq word (codes "W")) refl (bytes_eq
     go true a b eb e =
         let w = bind_some (write_of rest) (λ w. Some (ItemLine (W w))) x e in
         let t = write_takes rest w.0 w.1 in
-        subst (λ y. IsLineOf text (Some y)) (some_inj (ItemLine (W w.0)) x w.2)
+        subst (λ y. IsLineOf text (Some y)) (same_Some (ItemLine (W w.0)) x w.2)
         (t.ok, is ∙ ap (λ (v : Text). v ++ 32 ∷ rest) ((bytes_eq-Decides word (codes "W")).0 a) ∙ ap (λ (r : Text). 87 ∷ 32 ∷ r) t.is ∙ sym (write_line_is w.0))
     go false a true eb e =
         let c = bind_some (commit_of rest) (λ c. Some (ItemLine c)) x e in
         let t = commit_takes rest c.0 c.1 in
-        subst (λ y. IsLineOf text (Some y)) (some_inj (ItemLine c.0) x c.2)
+        subst (λ y. IsLineOf text (Some y)) (same_Some (ItemLine c.0) x c.2)
         (t.0, is ∙ ap (λ (v : Text). v ++ 32 ∷ rest) ((bytes_eq-Decides word (codes "C")).0 eb) ∙ t.1)
     go false a false eb e = absurd (let f : ◌≡◌ {A = Option BodyLine} None (Some x) = e in cc)
 
@@ -275,8 +272,8 @@ unfolding bare_line
 bare_takes text x = go (bytes_eq text (codes "E")) refl (bytes_eq text (codes "M")) refl
   where
     go : (a : Bool) → bytes_eq text (codes "E") ≡ a → (b : Bool) → bytes_eq text (codes "M") ≡ b → cond a (Some (LastLine Complete)) (cond b (Some (LastLine More)) None) ≡ Some x → IsLineOf text (Some x)
-    go true a b eb e = subst (λ y. IsLineOf text (Some y)) (some_inj (LastLine Complete) x e) (ap (λ (t : Text). t ∷ []) ((bytes_eq-Decides text (codes "E")).0 a))
-    go false a true eb e = subst (λ y. IsLineOf text (Some y)) (some_inj (LastLine More) x e) (ap (λ (t : Text). t ∷ []) ((bytes_eq-Decides text (codes "M")).0 eb))
+    go true a b eb e = subst (λ y. IsLineOf text (Some y)) (same_Some (LastLine Complete) x e) (ap (λ (t : Text). t ∷ []) ((bytes_eq-Decides text (codes "E")).0 a))
+    go false a true eb e = subst (λ y. IsLineOf text (Some y)) (same_Some (LastLine More) x e) (ap (λ (t : Text). t ∷ []) ((bytes_eq-Decides text (codes "M")).0 eb))
     go false a false eb e = absurd (let f : ◌≡◌ {A = Option BodyLine} None (Some x) = e in cc)
 
 line_takes : (text : Text) (x : BodyLine) → line_of text ≡ Some x → IsLineOf text (Some x)

@@ -1,6 +1,7 @@
 -- A text is read as a position exactly where it is the text of it.
 use Rattle.std.proofs.Common.{◌≡◌, refl, sym, ap, ◌∙◌, subst, ℕ, suc, ◌-◌, ◌<◌, ◌≤◌, Bool, true, false, cond, ◌&&◌, eqb, leb, List, [], ◌∷◌, ◌++◌, length, map, append_assoc, arith, Option, Some, None, lit<, lit≤, le-leb, leb-true, eqb-true, length-append}
 use Rattle.std.proofs.lemmas.Bool.{and_parts, and_from, eqb-false}
+use Rattle.std.proofs.lemmas.Option.{same_Some}
 use Rattle.std.proofs.lemmas.List.{append-nil}
 use Rattle.std.proofs.Math.Seq.{get_or-append_seam}
 use Rattle.std.proofs.lemmas.Slice.Eq.{bytes_eq-Decides}
@@ -13,13 +14,13 @@ use Rattle.mr_model.specs.Writes.{is_server, is_count, greatest_count}
 use Rattle.mr_model.specs.Positions.{Count, Position, are_rising, is_position, count_line, position_lines, position_text, read_position}
 use Rattle.mr_model.proofs.WordsReadBack.{OneLine, all_append, lines-text}
 use Rattle.mr_model.proofs.LinesReadBack.{within-high}
-use Rattle.mr_model.proofs.BatchesReadBack.{words-one_line, number-one_line}
+use Rattle.mr_model.proofs.BatchesReadBack.{only_if_some, words-one_line, number-one_line}
 use Rattle.mr_model.proofs.PositionsReadBack.{read-position_text, read_position_text}
 use Rattle.mr_wire.specs.Words.{cut}
 use Rattle.mr_wire.specs.Fields.{◌>>=◌, behind_word, server_and, servers_of, commits_of, count_of, no_more, counts_until_end, if_position, position_on}
 use Rattle.mr_base.specs.Readings.{number_from_to}
-use Rattle.mr_wire.proofs.FieldLaws.{bind_some, some_inj, number_takes, number_again}
-use Rattle.mr_wire.proofs.LineLaws.{agree, only_some, behind_takes, behind_again, server_and_takes, server_and_again}
+use Rattle.mr_wire.proofs.FieldLaws.{bind_some, number_takes, number_again}
+use Rattle.mr_wire.proofs.LineLaws.{agree, behind_takes, behind_again, server_and_takes, server_and_again}
 use Rattle.mr_wire.proofs.Ascii.{Low, is_text, words_low, number_low}
 use Rattle.mr_wire.proofs.LoopLaws.{first_line_is, no_line_left}
 
@@ -35,7 +36,7 @@ count_takes text c e =
     let b = bind_some (server_and 999_999_999 a.0) (λ n. Some (record { server = n.0; count = n.1 })) c a.2 in
     let t = server_and_takes 999_999_999 a.0 b.0 b.1 in
     let made : Count = record { server = b.0.0; count = b.0.1 } in
-    subst (λ (y : Count). (count_ok y ≡ true) × (text ≡ count_line y)) {x = made} (some_inj made c b.2)
+    subst (λ (y : Count). (count_ok y ≡ true) × (text ≡ count_line y)) {x = made} (same_Some made c b.2)
     (and_from (is_server b.0.0) (is_count b.0.1) t.0 t.1, behind_takes (codes "V") text a.0 a.1 ∙ ap (λ (r : Text). 86 ∷ 32 ∷ r) t.2)
 
 count_again : (c : Count) → count_ok c ≡ true → count_of (count_line c) ≡ Some c
@@ -50,7 +51,7 @@ counts_take [] cs e = absurd (let f : ◌≡◌ {A = Option (List Count)} None (
 counts_take (l ∷ ls) cs e = go (bytes_eq l (codes "E")) refl (λ ds. counts_take ls ds) e
   where
     ended : (ms : List Text) → no_more ms ≡ Some cs → l ≡ codes "E" → l ∷ ms ≡ map count_line cs ++ codes "E" ∷ []
-    ended [] h is = (λ i. is i ∷ []) ∙ ap (λ ds. map count_line ds ++ codes "E" ∷ []) (some_inj [] cs h)
+    ended [] h is = (λ i. is i ∷ []) ∙ ap (λ ds. map count_line ds ++ codes "E" ∷ []) (same_Some [] cs h)
     ended (m ∷ ms) h is = absurd (let f : ◌≡◌ {A = Option (List Count)} None (Some cs) = h in cc)
 
     go : (b : Bool) → bytes_eq l (codes "E") ≡ b → ((ds : List Count) → counts_until_end ls ≡ Some ds → ls ≡ map count_line ds ++ codes "E" ∷ []) → cond b (no_more ls) (count_of l >>= λ c. (counts_until_end ls >>= λ ds. Some (c ∷ ds))) ≡ Some cs → l ∷ ls ≡ map count_line cs ++ codes "E" ∷ []
@@ -60,7 +61,7 @@ counts_take (l ∷ ls) cs e = go (bytes_eq l (codes "E")) refl (λ ds. counts_ta
         let b = bind_some (counts_until_end ls) (λ ds. Some (a.0 ∷ ds)) cs a.2 in
         let first = (count_takes l a.0 a.1).1 in
         let others = ih b.0 b.1 in
-        (λ i. first i ∷ others i) ∙ ap (λ ds. map count_line ds ++ codes "E" ∷ []) (some_inj (a.0 ∷ b.0) cs b.2)
+        (λ i. first i ∷ others i) ∙ ap (λ ds. map count_line ds ++ codes "E" ∷ []) (same_Some (a.0 ∷ b.0) cs b.2)
 
 counts_again : (cs : List Count) → list_all count_ok cs ≡ true → counts_until_end (map count_line cs ++ codes "E" ∷ []) ≡ Some cs
 counts_again [] ok = refl
@@ -104,7 +105,7 @@ lines_take (a ∷ k ∷ vs) p e =
     let c = bind_some (commits_of k) (λ commits. counts_until_end vs >>= λ counts. if_position (record { server = s.0.0; primary = s.0.1; commits = commits; counts = counts })) p s.2 in
     let v = bind_some (counts_until_end vs) (λ counts. if_position (record { server = s.0.0; primary = s.0.1; commits = c.0; counts = counts })) p c.2 in
     let made : Position = record { server = s.0.0; primary = s.0.1; commits = c.0; counts = v.0 } in
-    let ends = only_some (is_position made) made p v.2 in
+    let ends = only_if_some (is_position made) made p v.2 in
     let sa = bind_some (behind_word (codes "mp1") a) (λ rest. server_and 99 rest) s.0 s.1 in
     let st = server_and_takes 99 sa.0 s.0 sa.2 in
     let ca = bind_some (behind_word (codes "K") k) (λ rest. number_from_to 0 999_999_999_999 rest) c.0 c.1 in

@@ -23,7 +23,7 @@ pub fn number_off(text: &str, low: u64, high: u64) -> Option<(u64, &str)>
 
 /// A server's number in front of a space.
 #[tactic(auto, using(std::proofs::lemmas::Bool::Decides::nat_tests))]
-pub fn server_off(text: &str) -> Option<(ServerId, &str)>
+pub(crate) fn server_off(text: &str) -> Option<(ServerId, &str)>
     ensures { option_map (λ x. (x.0, x.1.now)) result ≡ number_off 1 99 text.now }
 {
     let (number, rest) = number_off(text, 1, 99)?;
@@ -33,7 +33,7 @@ pub fn server_off(text: &str) -> Option<(ServerId, &str)>
 
 /// A write's stamp, each of its three numbers in front of a space.
 #[tactic(auto, using(std::proofs::lemmas::Bool::Decides::nat_tests), unfolding(crate::specs::Fields::stamp_off))]
-pub fn stamp_off(text: &str) -> Option<(Stamp, &str)>
+pub(crate) fn stamp_off(text: &str) -> Option<(Stamp, &str)>
     ensures { option_map (λ x. (x.0, x.1.now)) result ≡ stamp_off text.now }
 {
     let Some((server, rest)) = server_off(text) else {
@@ -65,7 +65,7 @@ fn minute_of(word: &str) -> Option<u32>
 
 /// A slot: a day and a time, each in front of a space.
 #[tactic(auto, unfolding(crate::specs::Fields::slot_off))]
-pub fn slot_off(text: &str) -> Option<(Slot, &str)>
+pub(crate) fn slot_off(text: &str) -> Option<(Slot, &str)>
     ensures value { option_map (λ x. (x.0, x.1.now)) result ≡ slot_off text.now }
     ensures utf8 { IfSome result (λ x. IsUtf8 x.1.now) }
 {
@@ -77,7 +77,11 @@ pub fn slot_off(text: &str) -> Option<(Slot, &str)>
 }
 
 /// So many slots.
-pub fn slots_off(alloc: Global, count: u64, text: &str) -> Result<(Alternatives, &str), Fault>
+pub(crate) fn slots_off(
+    alloc: Global,
+    count: u64,
+    text: &str,
+) -> Result<(Alternatives, &str), Fault>
     ensures { Reads (λ x. (x.0, x.1.now)) result (slots_off count text.now) }
 {
     let mut slots = Vec::new(alloc);
@@ -96,7 +100,7 @@ pub fn slots_off(alloc: Global, count: u64, text: &str) -> Result<(Alternatives,
 
 /// The wish, the number of alternatives and the alternatives, and the title behind them.
 #[tactic(auto, unfolding(crate::specs::Fields::choices_off))]
-pub fn choices_off(alloc: Global, text: &str) -> Result<((Slot, Alternatives), &str), Fault>
+pub(crate) fn choices_off(alloc: Global, text: &str) -> Result<((Slot, Alternatives), &str), Fault>
     ensures { Reads (λ x. (x.0, x.1.now)) result (choices_off text.now) }
 {
     let Some((wish, rest)) = slot_off(text) else {
@@ -111,7 +115,7 @@ pub fn choices_off(alloc: Global, text: &str) -> Result<((Slot, Alternatives), &
 
 /// A server in front of a space, and a number up to `high` that ends the line.
 #[tactic(auto, unfolding(crate::specs::Fields::server_and))]
-pub fn server_and(text: &str, high: u64) -> Option<(ServerId, u64)>
+pub(crate) fn server_and(text: &str, high: u64) -> Option<(ServerId, u64)>
     ensures value { result ≡ server_and high text.now }
     ensures in_range { IfSome result (λ x. IsTrue (within 1 high x.1)) }
 {

@@ -40,7 +40,7 @@ fn write_with(
 
 /// The write on a line, of which this stands behind the `W` and its space.
 #[tactic(auto, using(std::proofs::lemmas::Bool::Decides::nat_tests), unfolding(crate::specs::Fields::write_of))]
-pub fn write_of(alloc: Global, text: &str) -> Result<Write, Fault>
+pub(crate) fn write_of(alloc: Global, text: &str) -> Result<Write, Fault>
     ensures { Reads (λ w. w) result (write_of text.now) }
 {
     let Some((stamp, rest)) = stamp_off(text) else {
@@ -58,7 +58,7 @@ pub fn write_of(alloc: Global, text: &str) -> Result<Write, Fault>
 
 /// The commit on a line, of which this stands behind the `C` and its space.
 #[tactic(auto, using(std::proofs::lemmas::Bool::Decides::nat_tests), unfolding(crate::specs::Fields::commit_of))]
-pub fn commit_of(text: &str) -> Option<Item>
+pub(crate) fn commit_of(text: &str) -> Option<Item>
     ensures { option_map item_of result ≡ commit_of text.now }
 {
     let (seq, rest) = number_off(text, 1, 999_999_999_999)?;
@@ -75,7 +75,7 @@ pub fn commit_of(text: &str) -> Option<Item>
 
 /// Two servers, of which the second ends the line.
 #[tactic(auto, using(std::proofs::lemmas::Bool::Decides::nat_tests))]
-pub fn servers_of(text: &str) -> Option<(ServerId, ServerId)>
+pub(crate) fn servers_of(text: &str) -> Option<(ServerId, ServerId)>
     ensures { result ≡ server_and 99 text.now }
 {
     let (first, number) = server_and(text, 99)?;
@@ -92,7 +92,7 @@ fn header_of(text: &str) -> Option<(ServerId, ServerId)>
 }
 
 /// The two servers of a header line: who made the batch, and the primary.
-pub fn read_header(line: &[u8]) -> Option<(ServerId, ServerId)>
+pub(crate) fn read_header(line: &[u8]) -> Option<(ServerId, ServerId)>
     ensures { header_seen result ≡ read_header line.now }
 {
     match str::from_utf8(line) {
@@ -103,7 +103,7 @@ pub fn read_header(line: &[u8]) -> Option<(ServerId, ServerId)>
 
 /// A line below the header.
 #[derive(Debug, Drop)]
-pub enum Line {
+pub(crate) enum Line {
     Item(Item),
     Last(Ending),
 }
@@ -148,7 +148,7 @@ fn line_of(alloc: Global, text: &str) -> Result<Line, Fault>
 }
 
 /// A line below the header: a write, a commit or a last line.
-pub fn read_line(alloc: Global, line: &[u8]) -> Result<Line, Fault>
+pub(crate) fn read_line(alloc: Global, line: &[u8]) -> Result<Line, Fault>
     ensures { Reads line_seen result (read_body_line line.now) }
 {
     match str::from_utf8(line) {

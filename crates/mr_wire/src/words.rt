@@ -3,7 +3,7 @@ ghost use Rattle.std.specs.Str.{IsUtf8};
 ghost use Rattle.mr_wire.specs.Words.{cut};
 
 /// The line up to the first LF, and what stands behind that; none where no LF is left.
-pub fn first_line(bytes: &[u8]) -> Option<(&[u8], &[u8])>
+pub(crate) fn first_line(bytes: &[u8]) -> Option<(&[u8], &[u8])>
     ensures value { option_map (λ x. (x.0.now, x.1.now)) result ≡ cut 10 bytes.now }
     ensures shorter { IfSome result (λ x. length x.1.now < length bytes.now) }
     ensures bounded { length bytes.now < 2 ^ 64 }
@@ -19,7 +19,7 @@ fn place_of(bytes: &[u8], sought: u8) -> Option<usize>
 }
 
 /// The word up to the first space, and what stands behind that; none where no space is left.
-pub fn first_word(text: &str) -> Option<(&str, &str)>
+pub(crate) fn first_word(text: &str) -> Option<(&str, &str)>
     ensures value { option_map (λ x. (x.0.now, x.1.now)) result ≡ cut 32 text.now }
     ensures utf8 { IfSome result (λ x. IsUtf8 x.0.now × IsUtf8 x.1.now) }
 {
@@ -27,7 +27,7 @@ pub fn first_word(text: &str) -> Option<(&str, &str)>
 }
 
 /// The same as `first_line`, of a text.
-pub fn first_line_of_text(text: &str) -> Option<(&str, &str)>
+pub(crate) fn first_line_of_text(text: &str) -> Option<(&str, &str)>
     ensures value { option_map (λ x. (x.0.now, x.1.now)) result ≡ cut 10 text.now }
     ensures utf8 { IfSome result (λ x. IsUtf8 x.0.now × IsUtf8 x.1.now) }
     ensures shorter { IfSome result (λ x. length x.1.now < length text.now) }
