@@ -98,15 +98,9 @@ fn look_at_request(bytes: &[u8]) -> Look
 {
     let mut headers = [EMPTY_HEADER_SPAN; FIELD_LIMIT];
     match parse_request(bytes, &mut headers) {
-        Ok(Status::Complete(head)) => {
-            if head.version == 1 {
-                Look::Head(head.len)
-            } else {
-                Look::Never
-            }
-        }
+        Ok(Status::Complete(head)) if head.version == 1 => Look::Head(head.len),
         Ok(Status::Partial) => Look::More,
-        Err(_) => Look::Never,
+        _ => Look::Never,
     }
 }
 
@@ -116,14 +110,8 @@ fn look_at_reply(bytes: &[u8]) -> Look
 {
     let mut headers = [EMPTY_HEADER_SPAN; FIELD_LIMIT];
     match parse_response(bytes, &mut headers) {
-        Ok(Status::Complete(head)) => {
-            if head.version == 1 {
-                Look::Head(head.len)
-            } else {
-                Look::Never
-            }
-        }
+        Ok(Status::Complete(head)) if head.version == 1 => Look::Head(head.len),
         Ok(Status::Partial) => Look::More,
-        Err(_) => Look::Never,
+        _ => Look::Never,
     }
 }

@@ -20,5 +20,4 @@ pub use faults::{ReadFault, WebFault};
 pub use fields::body_length;
 pub use heads::{read_reply_head, read_request_head};
 pub use limits::{GREATEST_BODY, lines_over_http};
-pub use pieces::read_piece;
 pub use sending::send;

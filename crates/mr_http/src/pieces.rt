@@ -7,7 +7,7 @@ use std::io::Read;
 const PIECE: usize = 512;
 
 /// One read of at most `room` bytes, put behind the buffer. It answers how many came, which is 0 at the end of the input alone.
-pub fn read_piece<R: Read>(
+pub(crate) fn read_piece<R: Read>(
     reader: &mut R,
     buffer: &mut Vec<u8>,
     room: usize,
