@@ -79,13 +79,7 @@ fn opening_tables(alloc: Global, server: ServerId, primary: ServerId) -> Tables
     server.number();
     primary.number();
     Tables {
-        meta: MetaRow {
-            server,
-            primary,
-            commits: 0,
-            dropped: 0,
-            clock: 0,
-        },
+        meta: MetaRow::opening(server, primary),
         room: Vec::new(alloc),
         vector: Vec::new(alloc),
         write_log: Vec::new(alloc),
