@@ -152,6 +152,3 @@ pub ask_failed : (X Y : Type 0) (a : Replica) (command : Command) (request : Tex
 ask_failed X Y a command request held holds e taken is own wrote =
     let f = failed_as X Y a command request held holds e own wrote in
     inl (is, f.0, f.1)
-
-pub ok_same : {E : Type 0} (x y : Text) → ◌≡◌ {A = Result Text E} (Ok x) (Ok y) → x ≡ y
-ok_same x y e = cc

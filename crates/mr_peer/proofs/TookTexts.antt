@@ -7,10 +7,10 @@ use Rattle.std.specs.Str.{bytes_eq, IsUtf8}
 use Rattle.std.specs.Fmt.{decimal}
 use Rattle.mr_model.specs.Texts.{Text, within, only_if, number_in, number_at, first_word, behind}
 use Rattle.mr_model.proofs.WordsReadBack.{all_append, first_word_of, after_word_of, decimal-plain, number-decimal}
-use Rattle.mr_model.proofs.BatchesReadBack.{own_text, only_own}
+use Rattle.mr_model.proofs.BatchesReadBack.{only_if_some, own_text, only_own}
 use Rattle.mr_wire.specs.Fields.{◌>>=◌, number_off, behind_word}
 use Rattle.mr_wire.proofs.FieldLaws.{bind_some, number_off_takes, number_off_again}
-use Rattle.mr_wire.proofs.LineLaws.{agree, only_some, behind_takes, behind_again}
+use Rattle.mr_wire.proofs.LineLaws.{agree, behind_takes, behind_again}
 use Rattle.mr_wire.proofs.Ascii.{Low, is_text, number_low}
 use Rattle.mr_peer.specs.Took.{greatest_told, are_told, took_text, took_numbers, read_took}
 use Rattle.mr_peer.specs.TookWords.{last_word, took_on}
@@ -39,7 +39,7 @@ words_take text x e =
     let w = b.0.0 in
     let c = f.0.0 in
     let made : ℕ × ℕ = (w, c) in
-    let last = only_some (bytes_eq f.0.1 last_word) made x f.2 in
+    let last = only_if_some (bytes_eq f.0.1 last_word) made x f.2 in
     let tw = number_off_takes 0 greatest_told a.0 b.0 b.1 in
     let tc = number_off_takes 0 greatest_told d.0 f.0 f.1 in
     let is : text ≡ in_words made =

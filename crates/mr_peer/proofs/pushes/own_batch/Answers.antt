@@ -4,10 +4,11 @@ use Rattle.mr_model.specs.Http.{lines_over_http}
 use Rattle.mr_model.specs.Positions.{position_text}
 use Rattle.mr_model.specs.Serving.{TakesStep, Reaches}
 use Rattle.mr_model.specs.Step.{Command, BatchFor}
+use Rattle.mr_model.proofs.BatchesReadBack.{ok_inj}
 use Rattle.mr_base.specs.Batches.{ending_of}
 use Rattle.mr_base.specs.declared.batches.Ending.{Ending}
 use Rattle.mr_service.specs.Asked.{reply_of}
-use Rattle.mr_peer.proofs.AskLemmas.{batch_handed, batch_lasts, ok_same}
+use Rattle.mr_peer.proofs.AskLemmas.{batch_handed, batch_lasts}
 use Rattle.mr_peer.proofs.pushes.own_batch.Goals as goal
 
 pub returns-clause-batch : goal.returns-clause-batch
@@ -16,7 +17,7 @@ returns-clause-batch g c = λ k o a stands.
     let after = g.K.Keeper.tables c.ask-reply.new.self in
     let reply = reply_of c.ask-reply.result in
     let position = c.args.position.now in
-    let text : c.in-Ok.text.items ≡ position_text position = sym (ok_same (position_text position) c.in-Ok.text.items c.in-Ok.ensures.exact) in
+    let text : c.in-Ok.text.items ≡ position_text position = sym (ok_inj (position_text position) c.in-Ok.text.items c.in-Ok.ensures.exact) in
     let P : Command → Type 0 = λ command. TakesStep before command reply after in
     let takes = subst P (c.batch_for.ensures ∙ ap (λ (t : Text). BatchFor t lines_over_http) text) (c.ask-reply.ensures.step k o) in
     batch_handed (λ (x : Vec ℕ Global × Ending). x.0.items) (λ (x : Vec ℕ Global × Ending). ending_of x.1) before after reply position lines_over_http
@@ -25,7 +26,7 @@ returns-clause-batch g c = λ k o a stands.
 pub returns-clause-crash : goal.returns-clause-crash
 returns-clause-crash g c clean up t leaves =
     let position = c.args.position.now in
-    let text : c.in-Ok.text.items ≡ position_text position = sym (ok_same (position_text position) c.in-Ok.text.items c.in-Ok.ensures.exact) in
+    let text : c.in-Ok.text.items ≡ position_text position = sym (ok_inj (position_text position) c.in-Ok.text.items c.in-Ok.ensures.exact) in
     let P : Command → Type 0 = λ command. g.K.Keeper.may_leave c.args.service.now t ⊎ Reaches (g.K.Keeper.tables c.args.service.now) command t in
     subst P (c.batch_for.ensures ∙ ap (λ (b : Text). BatchFor b lines_over_http) text) (c.ask-reply.ensures.crash clean up t leaves)
 
