@@ -85,10 +85,6 @@ built_is names = λ i. record { top = top_built; subs = leaves_are names i }
 abbrev pub named : Text → List Text → Option Text
 named word names = find (λ name. bytes_eq name word) names
 
-or_false : (b : Bool) → (b || false) ≡ b
-or_false true = refl
-or_false false = refl
-
 abbrev bare_label : Text → Text × List Text
 bare_label name = (name, [])
 
