@@ -1,4 +1,5 @@
-use Rattle.std.proofs.Common.{◌≡◌, ◌∙◌, ap, sym, subst, ℕ, Some, Result, Ok, unwrap_or}
+use Rattle.std.proofs.Common.{◌≡◌, ◌∙◌, ap, sym, subst, ℕ, Some, Result, Ok}
+use Rattle.std.proofs.lemmas.Option.{same_Some}
 use Rattle.std.specs.Prelude.{option_copied}
 use Rattle.httparse.specs.declared.Error.{Error}
 use Rattle.httparse.specs.declared.Status.{Status}
@@ -14,9 +15,6 @@ use Rattle.mr_web.specs.Routes.{route_of}
 use Rattle.mr_web.specs.Views.{Gives, asked_view}
 use Rattle.mr_web.proofs.checks.asked_by.Goals as goal
 
-some_equal : {A : Type 0} (x y : A) → Some x ≡ Some y → x ≡ y
-some_equal x y h = ap (λ o. unwrap_or o x) h
-
 -- the parsed head is the one at the front of the bytes
 pub returns-clause-gives : goal.returns-clause-gives
 returns-clause-gives c h rest reads few =
@@ -27,9 +25,9 @@ returns-clause-gives c h rest reads few =
     subst P (c.in-Ok-Complete.is ∙ ap Ok c.in-Ok-Complete.field-0-is) c.parse.ensures.complete in
     let same = (request_unique bytes found.0 h _ rest found.1.reads reads).0 in
     let method : c.in-Some-Some.method.now ≡ h.method =
-    some_equal _ _ (ap option_copied (sym c.in-Some-Some.is-0) ∙ found.1.method ∙ ap (λ (k : RequestHead). Some k.method) same) in
+    same_Some _ _ (ap option_copied (sym c.in-Some-Some.is-0) ∙ found.1.method ∙ ap (λ (k : RequestHead). Some k.method) same) in
     let target : c.in-Some-Some.target.now ≡ h.target =
-    some_equal _ _ (ap option_copied (sym c.in-Some-Some.is-1) ∙ found.1.path ∙ ap (λ (k : RequestHead). Some k.target) same) in
+    same_Some _ _ (ap option_copied (sym c.in-Some-Some.is-1) ∙ found.1.path ∙ ap (λ (k : RequestHead). Some k.target) same) in
     let fields : header_fields request.headers.now ≡ fields_of h.fields =
     same_fields request.headers.now found.0.fields found.1.fields ∙ ap (λ (k : RequestHead). fields_of k.fields) same in
     let Q : Result (Route × ℕ) Response → Type 0 = Gives asked_view c.asked_of.result in
