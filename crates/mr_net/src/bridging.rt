@@ -65,12 +65,8 @@ impl<C: Keeper, S: Keeper> Neighbour<'_, '_, C, S> {
         let stream = self.connect()?;
         pull_ask(self.alloc, self.client, self.host.as_str(), &mut &stream)?;
         self.serve(&stream)?;
-        let (writes, commits, ending) = pull_take(self.alloc, self.client, &mut &stream)?;
-        Ok(Round {
-            writes,
-            commits,
-            ending,
-        })
+        let taken = pull_take(self.alloc, self.client, &mut &stream)?;
+        Ok(Round::of(taken))
     }
 
     fn push(&mut self) -> Result<Round, WebFault> {

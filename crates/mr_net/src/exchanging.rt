@@ -54,25 +54,15 @@ impl<K: Keeper> Remote<'_, K> {
     fn pull(&mut self) -> Result<Round, WebFault> {
         let stream = self.connect()?;
         let host = self.address.host.as_str();
-        let (writes, commits, ending) = pull(
-            self.alloc,
-            self.service,
-            host,
-            &mut &stream,
-            &mut &stream,
-        )?;
-        Ok(Round {
-            writes,
-            commits,
-            ending,
-        })
+        let taken = pull(self.alloc, self.service, host, &mut &stream, &mut &stream)?;
+        Ok(Round::of(taken))
     }
 
     fn push(&mut self) -> Result<Round, WebFault> {
         let position = self.position()?;
         let host = self.address.host.as_str();
         let stream = self.connect()?;
-        let (writes, commits, ending) = push(
+        let handed = push(
             self.alloc,
             self.service,
             &position,
@@ -80,11 +70,7 @@ impl<K: Keeper> Remote<'_, K> {
             &mut &stream,
             &mut &stream,
         )?;
-        Ok(Round {
-            writes,
-            commits,
-            ending,
-        })
+        Ok(Round::of(handed))
     }
 }
 

@@ -48,6 +48,18 @@ pub(crate) struct Taken {
 }
 
 impl Round {
+    /// What a pull or push of one batch answers: its new writes and commits, and its ending.
+    pub(crate) fn of(parts: (u64, u64, Ending)) -> Round
+        ensures { result ≡ record { writes = parts.0; commits = parts.1; ending = parts.2 } }
+    {
+        let (writes, commits, ending) = parts;
+        Round {
+            writes,
+            commits,
+            ending,
+        }
+    }
+
     /// Whether another round may bring more: the batch had more lines than a round takes, and something of it was new.
     fn asks_for_more(&self) -> bool
         ensures { result ≡ asks_for_more self.now }
