@@ -19,11 +19,13 @@ use Rattle.mr_model.specs.View.{AskSheet, AskCalendar, AskOutcome, AskErrors}
 use Rattle.mr_model.specs.Step.{AddRoom, Submit, Commit, Truncate, AskPosition, Ask, Submission, SlotWords}
 use Rattle.mr_model.specs.World.{Step, Add, Make, Deliver}
 use Rattle.mr_model.proofs.LinesReadBack.{words-cons}
+use Rattle.mr_model.proofs.BatchesReadBack.{only_if_some}
 use Rattle.mr.specs.Script.{is_word, slot_words, booking_words, all_bytes, length_word, is_length, step_line, are_slot_words, is_booking, has_line, is_plain, IsLineOf}
 use Rattle.mr_base.specs.Readings.{number_from_to}
+use Rattle.mr_base.proofs.Decimals.{within-below}
 use Rattle.mr_words.specs.Rows.{◌>>=◌, server_in, part_in}
 use Rattle.mr.specs.LineSteps.{cut, cut_server, cut_slot, with_slot, cut_slots, number_of_slots, booking_in, room_step, sheet_step, book_step, calendar_step, outcome_step, errors_step, commit_step, truncate_step, position_step, batch_step, length_in, cut_batch, deliver_step, replica_step, exchange_by, question_by, step_by, step_in}
-use Rattle.mr.proofs.WordLaws.{only_if_some, cut_of, cut_parts, number_from_parts, number_from_decimal, decimal_word}
+use Rattle.mr.proofs.WordLaws.{cut_of, cut_parts, number_from_parts, number_from_decimal, decimal_word}
 
 -- ---- chains
 
@@ -47,9 +49,6 @@ not_all n h = ne_eqb n all_bytes (λ e. false≢true (sym (ap (within 0 999_999_
 
 low_number : (high n : ℕ) → within 0 high n ≡ true → n ≤ high
 low_number high n h = leb-true n high (and_parts (leb 0 n) (leb n high) h).1
-
-number_small : (low high n : ℕ) → within low high n ≡ true → high < 2 ^ 64 → n < 2 ^ 64
-number_small low high n h top = let most : n ≤ high = leb-true n high (and_parts (leb low n) (leb n high) h).1 in omega (arith, most, top)
 
 cut_server_parts : (t : Text) (s : ℕ) (rest : Text) → cut_server t ≡ Some (s, rest) → (is_server s ≡ true) × (t ≡ decimal s ++ 32 ∷ rest)
 cut_server_parts t s rest e =
@@ -345,7 +344,7 @@ bound : {A B : Type 0} (o : Option A) (x : A) (f : A → Option B) → o ≡ Som
 bound o x f e = ap (λ p. p >>= f) e
 
 server_small : (s : ℕ) → is_server s ≡ true → s < 2 ^ 64
-server_small s h = number_small 1 99 s h (lit< tt)
+server_small s h = within-below 1 99 s h (lit< tt)
 
 server_word : (s : ℕ) → is_server s ≡ true → server_in (decimal s) ≡ Some s
 server_word s h = number_from_decimal 1 99 s h (server_small s h)
@@ -400,11 +399,11 @@ part_word Full = refl
 part_word Committed = refl
 
 count_word : (n : ℕ) → within 0 999_999_999_999 n ≡ true → number_from_to 0 999_999_999_999 (decimal n) ≡ Some n
-count_word n h = number_from_decimal 0 999_999_999_999 n h (number_small 0 999_999_999_999 n h (lit< tt))
+count_word n h = number_from_decimal 0 999_999_999_999 n h (within-below 0 999_999_999_999 n h (lit< tt))
 
 cut_batch_of : (n : ℕ) (rest : Text) → within 0 999_999_999 n ≡ true → cut_batch (decimal n ++ 32 ∷ rest) ≡ Some (n, rest)
 cut_batch_of n rest h =
-    let small = number_small 0 999_999_999 n h (lit< tt) in
+    let small = within-below 0 999_999_999 n h (lit< tt) in
     bound (cut (decimal n ++ 32 ∷ rest)) (decimal n, rest) (λ p. (number_from_to 0 999_999_999 p.0 >>= λ m. Some (m, p.1))) (cut_of (decimal n) rest (decimal_word n small))
     ∙ bound (number_from_to 0 999_999_999 (decimal n)) n (λ m. Some (m, rest)) (number_from_decimal 0 999_999_999 n h small)
 
@@ -424,8 +423,8 @@ length_of n h = go (cases_Bool (eqb n all_bytes))
     go (inr e) =
         let number : within 0 999_999_999 n ≡ true = or_none_right (within 0 999_999_999 n) (eqb n all_bytes) e h in
         ap length_in (cond-false (eqb n all_bytes) (codes "all") (decimal n) e)
-        ∙ cond-false (bytes_eq (decimal n) (codes "all")) (Some all_bytes) (number_from_to 0 999_999_999 (decimal n)) (number_not_all n (number_small 0 999_999_999 n number (lit< tt)))
-        ∙ number_from_decimal 0 999_999_999 n number (number_small 0 999_999_999 n number (lit< tt))
+        ∙ cond-false (bytes_eq (decimal n) (codes "all")) (Some all_bytes) (number_from_to 0 999_999_999 (decimal n)) (number_not_all n (within-below 0 999_999_999 n number (lit< tt)))
+        ∙ number_from_decimal 0 999_999_999 n number (within-below 0 999_999_999 n number (lit< tt))
 
 server_cut : (f : ℕ → Text → Option Step) (server : ℕ) (rest : Text) → is_server server ≡ true → (cut_server (decimal server ++ 32 ∷ rest) >>= λ p. f p.0 p.1) ≡ f server rest
 server_cut f server rest h = bound (cut_server (decimal server ++ 32 ∷ rest)) (server, rest) (λ p. f p.0 p.1) (cut_server_of server rest h)
@@ -481,7 +480,7 @@ step_in_of (Make from to max_lines) h =
     let two = and_parts (is_server to) (within 1 100_000 max_lines) both.1 in
     verb_cut (codes "batch") (decimal from ++ 32 ∷ (decimal to ++ 32 ∷ decimal max_lines)) refl ∙ server_cut batch_step from (decimal to ++ 32 ∷ decimal max_lines) both.0
     ∙ bound (cut_server (decimal to ++ 32 ∷ decimal max_lines)) (to, decimal max_lines) (λ p. (number_from_to 1 100_000 p.1 >>= λ m. Some (Make from p.0 m))) (cut_server_of to (decimal max_lines) two.0)
-    ∙ bound (number_from_to 1 100_000 (decimal max_lines)) max_lines (λ m. Some (Make from to m)) (number_from_decimal 1 100_000 max_lines two.1 (number_small 1 100_000 max_lines two.1 (lit< tt)))
+    ∙ bound (number_from_to 1 100_000 (decimal max_lines)) max_lines (λ m. Some (Make from to m)) (number_from_decimal 1 100_000 max_lines two.1 (within-below 1 100_000 max_lines two.1 (lit< tt)))
 step_in_of (Deliver batch to bytes) h =
     let both = and_parts (within 0 999_999_999 batch) (is_server to && is_length bytes) h in
     let two = and_parts (is_server to) (is_length bytes) both.1 in

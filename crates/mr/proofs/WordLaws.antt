@@ -1,7 +1,6 @@
 -- Words are cut off a text exactly where they stand in it.
 use Rattle.std.proofs.Common.{◌≡◌, refl, sym, ap, ◌∙◌, ℕ, ◌^◌, ◌<◌, Bool, true, false, not, ◌&&◌, ◌||◌, [], ◌∷◌, ◌++◌, ◌⊎◌, inl, inr, arith, eqb-true, ne_eqb, length, get_or, ◌≢◌, zero, suc, not-suc-le-zero, suc-ne-zero, Some, None}
 use Rattle.std.proofs.lemmas.Bool.{and_parts, false≢true, not-true, cond-true, cond-false, cases_Bool, and_from, and_right, or_from, not_from_false}
-use Rattle.std.proofs.lemmas.Option.{none-some, same_Some}
 use Rattle.std.proofs.lemmas.Fmt.{decimal_nonempty}
 use Rattle.std.proofs.lemmas.Slice.Eq.{bytes_eq-Decides}
 use Rattle.std.specs.Prelude.{decimal}
@@ -9,13 +8,10 @@ use Rattle.std.specs.Str.{bytes_eq}
 use Rattle.std.specs.List.{list_all, list_any}
 use Rattle.mr_model.specs.Texts.{Text, is_space, first_word, after_word, number_in, within, only_if}
 use Rattle.mr_model.proofs.WordsReadBack.{Plain, decimal-plain, number-decimal}
+use Rattle.mr_model.proofs.BatchesReadBack.{only_if_some}
 use Rattle.mr.specs.Script.{is_word}
 use Rattle.mr_base.specs.Readings.{number_from_to}
 use Rattle.mr.specs.LineSteps.{cut}
-
-pub only_if_some : {A : Type 0} (b : Bool) (x y : A) → only_if b x ≡ Some y → (b ≡ true) × (x ≡ y)
-only_if_some true x y e = (refl, same_Some x y e)
-only_if_some false x y e = absurd (none-some y e)
 
 abbrev NoSpace : Text → Type 0
 NoSpace t = list_all (λ d. not (is_space d)) t ≡ true
