@@ -67,6 +67,24 @@ fn undo_row(numbers: (u32, u32), place: Place) -> Result<UndoRow, Refusal> {
     })
 }
 
+/// Whether the row of a write tells this room, start, length and title.
+fn tells(
+    board: &Board,
+    numbers: (u32, u32),
+    (room, start): (&str, u32),
+    (length, title): (u32, &str),
+) -> Result<bool, Refusal> {
+    match board.row(id(numbers)?) {
+        Some(row) => Ok(
+            row.room.as_str() == room
+                && row.slot.start == start
+                && row.length == length
+                && row.title.as_str() == title,
+        ),
+        None => Err(Refusal::NoSuchRequest),
+    }
+}
+
 /// The start and the standing on the row of a write.
 fn row_of(board: &Board, numbers: (u32, u32)) -> Result<(u32, Standing), Refusal> {
     match board.row(id(numbers)?) {
@@ -97,6 +115,15 @@ fn requests_are_executed_in_order(rt: HostRuntime) -> Result<(), Fail> {
     assert_eq!(rt; row_of(&board, (2, 2)), Ok((600, Standing::InErrorLog)));
     let oak = RoomName::new(rt.alloc(), "oak")?;
     assert!(rt; board.check(&oak, slot, 30) && !board.check(&oak, slot, 31));
+    Ok(())
+}
+
+#[test]
+fn a_row_tells_its_request(rt: HostRuntime) -> Result<(), Fail> {
+    let write = request(rt.alloc(), (1, 3), ("elm", MONDAY), (31, 510), &[])?;
+    let mut board = Board::new(rt.alloc());
+    board.execute(&write)?;
+    assert!(rt; tells(&board, (1, 3), ("elm", 510), (31, "Alpha"))?);
     Ok(())
 }
 
