@@ -1,6 +1,6 @@
 use mr_base::{LineCount, ServerId};
 use mr_service::Local;
-use std::alloc::{AllocError, AllocFailed};
+use std::alloc::AllocError;
 
 /// What a command line asks for. Databases and files are named by their paths.
 #[derive(Debug, Drop)]
@@ -65,17 +65,6 @@ impl From<AllocError> for WordFault {
     ghost from_gives = { λ _ e. e ≡ Memory };
 
     fn from(_error: AllocError) -> WordFault {
-        WordFault::Memory
-    }
-}
-
-impl<T: Drop> From<AllocFailed<T>> for WordFault {
-    ghost use Rattle.std.specs.Prelude.{◌≡◌};
-    ghost use Rattle.mr_words.specs.declared.invocations.WordFault.TheVariants.{Memory};
-
-    ghost from_gives = { λ _ e. e ≡ Memory };
-
-    fn from(_error: AllocFailed<T>) -> WordFault {
         WordFault::Memory
     }
 }
