@@ -152,7 +152,7 @@ run_rows() {
         echo 'skipped: scripts on databases (no python3)'
         return
     fi
-    for script in examples/*.script; do
+    for script in examples/*.script tests/scripts/*.script; do
         on_databases "$script on databases" "$script" "${script%.script}.expected"
     done
     for seed in 21 22 23 24; do

@@ -60,11 +60,17 @@ fn requests(alloc: Global) -> Result<Vec<Write>, Refusal> {
     Ok(list)
 }
 
-fn undo_row(numbers: (u32, u32), place: Place) -> Result<UndoRow, Refusal> {
-    Ok(UndoRow {
-        id: id(numbers)?,
-        place,
-    })
+/// Whether these are the undo rows of the writes with these numbers, at these places.
+fn are(rows: &[UndoRow], wanted: &[((u32, u32), Place)]) -> bool {
+    if rows.len() != wanted.len() {
+        return false;
+    }
+    for (row, (numbers, place)) in rows.iter().zip(wanted) {
+        if (row.id.server.number(), row.id.n) != *numbers || row.place != *place {
+            return false;
+        }
+    }
+    true
 }
 
 /// Whether the row of a write tells this room, start, length and title.
@@ -93,28 +99,63 @@ fn row_of(board: &Board, numbers: (u32, u32)) -> Result<(u32, Standing), Refusal
     }
 }
 
+static PLACES: [((u32, u32), Place); 9] = [
+    ((1, 1), Place::Taken(0)),
+    ((2, 1), Place::Taken(1)),
+    ((2, 2), Place::Logged),
+    ((1, 2), Place::Taken(0)),
+    ((1, 3), Place::Taken(2)),
+    ((3, 1), Place::Taken(0)),
+    ((3, 2), Place::Taken(0)),
+    ((3, 3), Place::Logged),
+    ((2, 3), Place::Taken(0)),
+];
+
+/// The first three of them.
+static CHAIN: [((u32, u32), Place); 3] = [
+    ((1, 1), Place::Taken(0)),
+    ((2, 1), Place::Taken(1)),
+    ((2, 2), Place::Logged),
+];
+
+/// The second and the third where the first isn't there.
+static ALONE: [((u32, u32), Place); 2] = [((2, 1), Place::Taken(0)), ((2, 2), Place::Taken(0))];
+
 #[test]
 fn requests_are_executed_in_order(rt: HostRuntime) -> Result<(), Fail> {
-    let wanted = [
-        undo_row((1, 1), Place::Taken(0))?,
-        undo_row((2, 1), Place::Taken(1))?,
-        undo_row((2, 2), Place::Logged)?,
-        undo_row((1, 2), Place::Taken(0))?,
-        undo_row((1, 3), Place::Taken(2))?,
-        undo_row((3, 1), Place::Taken(0))?,
-        undo_row((3, 2), Place::Taken(0))?,
-        undo_row((3, 3), Place::Logged)?,
-        undo_row((2, 3), Place::Taken(0))?,
-    ];
     let slot = Slot::new(Day::read(MONDAY)?, 449)?;
     let requests = requests(rt.alloc())?;
     let mut board = Board::new(rt.alloc());
     let rows = board.redo_from(requests.as_slice())?;
-    assert!(rt; rows.as_slice() == wanted.as_slice());
+    assert!(rt; are(rows.as_slice(), &PLACES));
     assert_eq!(rt; row_of(&board, (1, 3)), Ok((479, Standing::Booked)));
     assert_eq!(rt; row_of(&board, (2, 2)), Ok((600, Standing::InErrorLog)));
     let oak = RoomName::new(rt.alloc(), "oak")?;
     assert!(rt; board.check(&oak, slot, 30) && !board.check(&oak, slot, 31));
+    Ok(())
+}
+
+/// Undoes the executions of these rows, the last one first.
+fn undo_each(board: &mut Board, rows: &[UndoRow]) {
+    for row in rows.iter().rev() {
+        board.undo(*row);
+    }
+}
+
+#[test]
+fn a_chain_is_undone_and_executed_again(rt: HostRuntime) -> Result<(), Fail> {
+    let requests = requests(rt.alloc())?;
+    let chain = requests.as_slice().get(..3).unwrap_or(&[]);
+    let late = chain.get(1..).unwrap_or(&[]);
+    let mut board = Board::new(rt.alloc());
+    let rows = board.redo_from(late)?;
+    assert!(rt; are(rows.as_slice(), &ALONE));
+    undo_each(&mut board, rows.as_slice());
+    let rows = board.redo_from(chain)?;
+    assert!(rt; are(rows.as_slice(), &CHAIN));
+    undo_each(&mut board, rows.as_slice());
+    let rows = board.redo_from(late)?;
+    assert!(rt; are(rows.as_slice(), &ALONE));
     Ok(())
 }
 
@@ -129,11 +170,6 @@ fn a_row_tells_its_request(rt: HostRuntime) -> Result<(), Fail> {
 
 #[test]
 fn a_room_is_replayed_in_another_order(rt: HostRuntime) -> Result<(), Fail> {
-    let wanted = [
-        undo_row((1, 1), Place::Taken(0))?,
-        undo_row((2, 1), Place::Taken(1))?,
-        undo_row((2, 2), Place::Logged)?,
-    ];
     let alloc = rt.alloc();
     let requests = requests(alloc)?;
     let [xray, alpha, beta, _, _, elm, ..] = requests.as_slice() else {
@@ -146,9 +182,9 @@ fn a_room_is_replayed_in_another_order(rt: HostRuntime) -> Result<(), Fail> {
     let oak = RoomName::new(alloc, "oak")?;
     let again = requests.as_slice().get(..3).unwrap_or(&[]);
     let rows = board.replay_room(&oak, undone.as_slice(), again)?;
-    assert!(rt; rows.as_slice() == wanted.as_slice());
+    assert!(rt; are(rows.as_slice(), &CHAIN));
     let mut copy = board.copy()?;
-    copy.undo_all(wanted.as_slice());
+    copy.undo_all(rows.as_slice());
     assert!(rt; copy.row(elm.id).is_some() && copy.row(xray.stamp.id()).is_none());
     assert!(rt; board.row(xray.stamp.id()).is_some());
     Ok(())
