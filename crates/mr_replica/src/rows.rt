@@ -42,6 +42,13 @@ impl Model for MetaRow {
 }
 
 impl MetaRow {
+    /// An equal row. It takes no memory.
+    pub fn copy(&self, _alloc: Global) -> Result<MetaRow, Refusal>
+        ensures { result ≡ Ok self.now }
+    {
+        Ok(*self)
+    }
+
     /// The row of a replica that knows nothing yet.
     pub fn opening(server: ServerId, primary: ServerId) -> MetaRow
         ensures { result ≡ (tables_of (opening server primary)).meta }
@@ -83,6 +90,15 @@ impl Model for VectorRow {
       last_time = v.last_time;
       committed = v.committed;
     } };
+}
+
+impl VectorRow {
+    /// An equal row. It takes no memory.
+    pub fn copy(&self, _alloc: Global) -> Result<VectorRow, Refusal>
+        ensures { result ≡ Ok self.now }
+    {
+        Ok(*self)
+    }
 }
 
 /// A row of `write_log`: a kept write. `choices` is `<day> <HH:MM>` for the wish and each alternative, parted by one space;
@@ -155,6 +171,15 @@ impl Model for WriteUndoRow {
     ghost view = { λ r. record { server = r.server; n = r.n; place = place_of r.place } };
 
     ghost inverse = { λ v. record { server = v.server; n = v.n; place = place_from v.place } };
+}
+
+impl WriteUndoRow {
+    /// An equal row. It takes no memory.
+    pub fn copy(&self, _alloc: Global) -> Result<WriteUndoRow, Refusal>
+        ensures { result ≡ Ok self.now }
+    {
+        Ok(*self)
+    }
 }
 
 /// A row of `booking`: a request that has its slot. `start` and `stop` are minutes of the day, from 0 to 1440.
