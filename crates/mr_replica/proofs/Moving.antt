@@ -38,7 +38,8 @@ rows_in_order r key f h keyed =
     sorted_filter_map WriteBefore (λ a b. id_before (key a) (key b) ≡ true) f (by_id r.known)
     (λ x y u v l e g. id_before_from (key u) (key v) (subst (λ i. IdBefore i (key v)) (sym (keyed x u e)) (subst (λ i. IdBefore (id_of x) i) (sym (keyed y v g)) l))) (by_id_sorted r h)
 
--- the rows put are those that these writes have now, the ids taken away are of those that have none now, and all others have the rows that they had
+-- the rows put are those that these writes have now, the ids taken away are of those that have none now, and all others have the rows
+-- that they had
 pub record RowsMove (R : Type 0) (a b : Replica) (fa fb : Write → Option R) (ws : List Write) (rows : List R) (gone : List Id) : Type 0 where
   pub stays : (w : Write) → Has w a.known → Has w b.known
   pub others : (w : Write) → Has w b.known → Has w ws ⊎ (Has w a.known × (fa w ≡ fb w))

@@ -169,7 +169,8 @@ key_or_lacks {R} {K} before key o k (x ∷ xs) = go (before (key x) k) refl (bef
     go false b true d ih = other (λ e. o.irreflexive k (subst (λ u. before k u ≡ true) e d)) ih
     go false b false d ih = inl (x, inl refl, o.total (key x) k b d)
 
--- putting rows makes a table of an old one, where these are rows of it, and so are all old rows but those with their keys, and it has no others
+-- putting rows makes a table of an old one, where these are rows of it, and so are all old rows but those with their keys, and it has
+-- no others
 pub puts_make : {R K : Type 0} (before : K → K → Bool) (key : R → K) (o : IsOrder K before) (xs old new : List R) → InOrder before key old → InOrder before key new → ((row : R) → Has row xs → Has row new) → ((row : R) → Has row old → Lacks key (key row) xs → Has row new) → ((row : R) → Has row new → Has row xs ⊎ Has row old) → put_all before key xs old ≡ new
 puts_make {R} before key o xs old new s t f g h =
     in_order_same before key o (put_all before key xs old) new (put_all_in_order before key o xs old s) t
