@@ -1,5 +1,5 @@
 -- What a step on one table makes of all tables, and steps one after another.
-use Rattle.std.proofs.Common.{◌≡◌, ◌≢◌, ℕ, List, [], ◌∷◌, Bool, true, false, not, ◌||◌, ◌==◌, cond, eq-eqb, ◌+◌, ◌<◌, ◌≤◌, length, drop, get_or, refl, sym, ap, subst, ◌∙◌, arith}
+use Rattle.std.proofs.Common.{◌≡◌, ◌≢◌, ℕ, List, [], ◌∷◌, true, false, not, ◌==◌, eq-eqb, ◌+◌, ◌<◌, ◌≤◌, length, drop, get_or, refl, sym, ap, subst, ◌∙◌, arith}
 use Rattle.std.proofs.lemmas.Bool.{and_parts, not-true}
 use Rattle.std.specs.List.{AllByRecursion, list_all}
 use Rattle.std.proofs.lemmas.List.{drop_more, drop_all}
@@ -9,9 +9,6 @@ use Rattle.sqlite_rules.specs.Edit.{IsNoIndex}
 use Rattle.sqlite.specs.State.{State, HasCleanDisk, KeepsCommit, Survives}
 use Rattle.sqlite.proofs.StateLemmas.{survives_then}
 use Rattle.mr_model.specs.Texts.{Text}
-use Rattle.mr_model.specs.Writes.{Id, same_id}
-use Rattle.mr_model.specs.Replica.{is_among}
-use Rattle.mr_replica.specs.Change.{without}
 use Rattle.mr_model.specs.Tables.{MetaRow, VectorRow, LogRow, UndoRow, BookingRow, ErrorRow, Tables}
 use Rattle.mr_sql.specs.Schema.{our_schema}
 use Rattle.mr_sql.specs.Form.{Form, meta_form, room_form, vector_form, log_form, undo_form, booking_form, error_form}
@@ -186,21 +183,6 @@ goes_on_at first now next part xs i x whole parts low is way made s =
     let rest = drop (i + 1) xs in
     let split : drop i xs ≡ x ∷ rest = drop_more xs i x low ∙ ap (λ y. y ∷ rest) (sym is) in
     goes_on first now next (part (x ∷ [])) (part rest) (part (drop i xs)) whole (λ t. ap (λ ys. part ys t) split ∙ parts x rest t) way made s
-
--- ids taken away one after the other
-pub without_more : {R : Type 0} (key : R → Id) (id : Id) (ids : List Id) (rows : List R) → without key (id ∷ ids) rows ≡ without key ids (without key (id ∷ []) rows)
-without_more key id ids [] = refl
-without_more key id ids (row ∷ rows) = go (same_id (key row) id) (without_more key id ids rows)
-  where
-    go : (b : Bool) → without key (id ∷ ids) rows ≡ without key ids (without key (id ∷ []) rows)
-        → cond (not (b || is_among (key row) ids)) (row ∷ without key (id ∷ ids) rows) (without key (id ∷ ids) rows)
-        ≡ without key ids (cond (not (b || false)) (row ∷ without key (id ∷ []) rows) (without key (id ∷ []) rows))
-    go true ih = ih
-    go false ih = ap (λ more. cond (not (is_among (key row) ids)) (row ∷ more) more) ih
-
-pub without_none : {R : Type 0} (key : R → Id) (rows : List R) → without key [] rows ≡ rows
-without_none key [] = refl
-without_none key (row ∷ rows) = ap (λ more. row ∷ more) (without_none key rows)
 
 -- behind the last element
 pub all_made : {X : Type 0} (first now : State) (part : List X → Tables → Tables) (xs : List X) (i : ℕ) → ((t : Tables) → part [] t ≡ t) → length xs ≤ i

@@ -9,3 +9,4 @@ pub mod Reads
 pub mod Blank
 pub mod Same
 pub mod Found
+pub mod TakeLaws

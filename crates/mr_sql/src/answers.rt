@@ -1,11 +1,11 @@
-ghost use Rattle.std.specs.Prelude.{◌≡◌, [], ◌∷◌, false, map, filter, find, IfOk};
+ghost use Rattle.std.specs.Prelude.{◌≡◌, ◌∷◌, false, map, filter, find, IfOk};
 ghost use Rattle.std.specs.List.Sorted.{IsPermutation, IsSorted};
 ghost use Rattle.sqlite_value.specs.declared.value.Value.TheVariants.{Null};
 ghost use Rattle.sqlite.specs.Held.{state};
 ghost use Rattle.mr_model.specs.Writes.{same_id};
 ghost use Rattle.mr_model.specs.Queries.{booking_id, error_id};
 ghost use Rattle.mr_store.specs.Picked.{is_asked as day_is_asked, picked_errors, AreBookings, IsPlaceOf};
-ghost use Rattle.mr_sql.specs.Cells.{booking_in, error_in};
+ghost use Rattle.mr_sql.specs.Cells.{booking_in};
 ghost use Rattle.mr_sql.specs.Kept.{tables_in};
 ghost use Rattle.mr_sql.specs.Reads.{Reads, AreRowsOf, chosen, first_of, time_cmp};
 
@@ -13,8 +13,8 @@ use crate::order::sort_by_time;
 use crate::queries::{
     select_key_booking, select_key_error, select_room_booking, select_room_error,
 };
-use crate::rows::{read_booking, read_bookings, read_error, read_errors};
-use crate::whole::all_rooms;
+use crate::stored_rows::{StoredRow, read_all};
+use crate::whole::all_rows;
 use mr_base::{Day, RoomName, WriteId};
 use mr_replica::{BookingRow, ErrorRow};
 use mr_store::PlaceRow;
@@ -30,7 +30,7 @@ pub(crate) fn rooms_of<S: Alter>(
     ensures autocommit { conn.new.in_transaction ≡ false }
     ensures reads { Reads (state S.Store conn.old) (state S.Store conn.new) result (λ rooms. IsPermutation (tables_in (state S.Store conn.old).now.trees).room rooms.items) }
 {
-    all_rooms(conn, alloc)
+    all_rows(conn, alloc)
 }
 
 fn is_asked(day: Option<Day>, of: Day) -> bool
@@ -55,7 +55,7 @@ fn calendar(alloc: Global, rows: &[Row], day: Option<Day>) -> Result<Vec<Booking
     ensures same { IfOk result (λ out. IsPermutation (filter (λ row. day_is_asked day row.day) (map (λ row. booking_in (Null ∷ row)) rows.now)) out.items) }
     ensures sorted { IfOk result (λ out. IsSorted time_cmp out.items) }
 {
-    let mut out = read_bookings(alloc, rows)?;
+    let mut out = read_all(alloc, rows)?;
     keep_asked(&mut out, day);
     sort_by_time(&mut out)?;
     Ok(out)
@@ -87,15 +87,15 @@ pub(crate) fn errors_of<S: Alter>(
     ensures reads { Reads (state S.Store conn.old) (state S.Store conn.new) result (λ rows. IsPermutation (picked_errors room.now (tables_in (state S.Store conn.old).now.trees)) rows.items) }
 {
     let rows = select_room_error(conn, room)?;
-    read_errors(alloc, &rows)
+    read_all(alloc, &rows)
 }
 
-fn first_booking(alloc: Global, rows: &[Row]) -> Result<Option<BookingRow>, Error>
-    ensures { IfOk result (λ row. row ≡ first_of (map (λ row. booking_in (Null ∷ row)) rows.now)) }
+fn first_row<R: StoredRow>(alloc: Global, rows: &[Row]) -> Result<Option<R>, Error>
+    ensures { IfOk result (λ row. row ≡ first_of (map (λ row. R.form.row_in (Null ∷ row)) rows.now)) }
 {
     match rows.first() {
         None => Ok(None),
-        Some(row) => Ok(Some(read_booking(alloc, row)?)),
+        Some(row) => Ok(Some(R::read(alloc, row)?)),
     }
 }
 
@@ -111,16 +111,7 @@ fn booking_of<S: Alter>(
     ensures reads { Reads (state S.Store conn.old) (state S.Store conn.new) result (λ row. row ≡ find (λ r. same_id (booking_id r) (record { server = server; n = n })) (tables_in (state S.Store conn.old).now.trees).booking) }
 {
     let rows = select_key_booking(conn, server, n)?;
-    first_booking(alloc, &rows)
-}
-
-fn first_error(alloc: Global, rows: &[Row]) -> Result<Option<ErrorRow>, Error>
-    ensures { IfOk result (λ row. row ≡ first_of (map (λ row. error_in (Null ∷ row)) rows.now)) }
-{
-    match rows.first() {
-        None => Ok(None),
-        Some(row) => Ok(Some(read_error(alloc, row)?)),
-    }
+    first_row(alloc, &rows)
 }
 
 /// The row of `errorlog` with this id.
@@ -135,7 +126,7 @@ fn error_of<S: Alter>(
     ensures reads { Reads (state S.Store conn.old) (state S.Store conn.new) result (λ row. row ≡ find (λ r. same_id (error_id r) (record { server = server; n = n })) (tables_in (state S.Store conn.old).now.trees).errorlog) }
 {
     let rows = select_key_error(conn, server, n)?;
-    first_error(alloc, &rows)
+    first_row(alloc, &rows)
 }
 
 /// The rows of both tables with this id.

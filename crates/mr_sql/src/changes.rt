@@ -3,129 +3,40 @@ ghost use Rattle.sqlite.specs.State.{HasCleanDisk, Survives};
 ghost use Rattle.sqlite.specs.Held.{state};
 ghost use Rattle.mr_replica.specs.Change.{changed};
 ghost use Rattle.mr_sql.specs.Kept.{Makes, Applies, IsReached, tables_in};
-ghost use Rattle.mr_sql.specs.Parts.{take_logs as without_logs, take_undos as without_undos, take_bookings as without_bookings, take_errors as without_errors, put_meta as with_meta, put_rooms as with_rooms, put_vector as with_vector, put_logs as with_logs, put_undos as with_undos, put_bookings as with_bookings, put_errors as with_errors, logs_taken, board_taken, rows_taken, heads_put, logs_put, board_put, rows_put};
+ghost use Rattle.mr_sql.specs.Parts.{logs_taken, board_taken, rows_taken, heads_put, logs_put, board_put, rows_put};
 
-use crate::puts::{put_booking, put_error, put_log, put_meta, put_room, put_undo, put_vector};
-use crate::takes::{take_booking, take_error, take_log, take_undo};
+use crate::puts::put_meta;
+use crate::stored_rows::{RequestRow, StoredRow};
 use mr_base::{RoomName, WriteId};
 use mr_replica::{BookingRow, Change, ErrorRow, LogRow, VectorRow, WriteUndoRow};
 use sqlite::{Alter, Connection, Error, Transaction};
 use std::alloc::Global;
 
-fn take_logs<S: Alter>(tx: &mut Transaction<'_, S>, gone: &[WriteId]) -> Result<(), Error>
-    ensures same_reference { tx.new.conn.ghost_name ≡ tx.old.conn.ghost_name }
-    ensures made { Makes (state S.Store tx.old.conn.now) (state S.Store tx.new.conn.now) (without_logs gone.now (tables_in (state S.Store tx.old.conn.now).now.trees)) result }
-    ensures survives { Survives (state S.Store tx.old.conn.now) (state S.Store tx.new.conn.now) (λ _. ⊥) }
-{
-    'gone: for id in gone {
-        take_log(tx, *id)?;
-    }
-    Ok(())
-}
-
-fn take_undos<S: Alter>(tx: &mut Transaction<'_, S>, gone: &[WriteId]) -> Result<(), Error>
-    ensures same_reference { tx.new.conn.ghost_name ≡ tx.old.conn.ghost_name }
-    ensures made { Makes (state S.Store tx.old.conn.now) (state S.Store tx.new.conn.now) (without_undos gone.now (tables_in (state S.Store tx.old.conn.now).now.trees)) result }
-    ensures survives { Survives (state S.Store tx.old.conn.now) (state S.Store tx.new.conn.now) (λ _. ⊥) }
-{
-    'gone: for id in gone {
-        take_undo(tx, *id)?;
-    }
-    Ok(())
-}
-
-fn take_bookings<S: Alter>(tx: &mut Transaction<'_, S>, gone: &[WriteId]) -> Result<(), Error>
-    ensures same_reference { tx.new.conn.ghost_name ≡ tx.old.conn.ghost_name }
-    ensures made { Makes (state S.Store tx.old.conn.now) (state S.Store tx.new.conn.now) (without_bookings gone.now (tables_in (state S.Store tx.old.conn.now).now.trees)) result }
-    ensures survives { Survives (state S.Store tx.old.conn.now) (state S.Store tx.new.conn.now) (λ _. ⊥) }
-{
-    'gone: for id in gone {
-        take_booking(tx, *id)?;
-    }
-    Ok(())
-}
-
-fn take_errors<S: Alter>(tx: &mut Transaction<'_, S>, gone: &[WriteId]) -> Result<(), Error>
-    ensures same_reference { tx.new.conn.ghost_name ≡ tx.old.conn.ghost_name }
-    ensures made { Makes (state S.Store tx.old.conn.now) (state S.Store tx.new.conn.now) (without_errors gone.now (tables_in (state S.Store tx.old.conn.now).now.trees)) result }
-    ensures survives { Survives (state S.Store tx.old.conn.now) (state S.Store tx.new.conn.now) (λ _. ⊥) }
-{
-    'gone: for id in gone {
-        take_error(tx, *id)?;
-    }
-    Ok(())
-}
-
-fn put_rooms<S: Alter>(tx: &mut Transaction<'_, S>, rows: &[RoomName]) -> Result<(), Error>
-    ensures same_reference { tx.new.conn.ghost_name ≡ tx.old.conn.ghost_name }
-    ensures made { Makes (state S.Store tx.old.conn.now) (state S.Store tx.new.conn.now) (with_rooms rows.now (tables_in (state S.Store tx.old.conn.now).now.trees)) result }
-    ensures survives { Survives (state S.Store tx.old.conn.now) (state S.Store tx.new.conn.now) (λ _. ⊥) }
-{
-    'rows: for row in rows {
-        put_room(tx, row)?;
-    }
-    Ok(())
-}
-
-fn put_vectors<S: Alter>(tx: &mut Transaction<'_, S>, rows: &[VectorRow]) -> Result<(), Error>
-    ensures same_reference { tx.new.conn.ghost_name ≡ tx.old.conn.ghost_name }
-    ensures made { Makes (state S.Store tx.old.conn.now) (state S.Store tx.new.conn.now) (with_vector rows.now (tables_in (state S.Store tx.old.conn.now).now.trees)) result }
-    ensures survives { Survives (state S.Store tx.old.conn.now) (state S.Store tx.new.conn.now) (λ _. ⊥) }
-{
-    'rows: for row in rows {
-        put_vector(tx, row)?;
-    }
-    Ok(())
-}
-
-fn put_logs<S: Alter>(tx: &mut Transaction<'_, S>, rows: &[LogRow]) -> Result<(), Error>
-    ensures same_reference { tx.new.conn.ghost_name ≡ tx.old.conn.ghost_name }
-    ensures made { Makes (state S.Store tx.old.conn.now) (state S.Store tx.new.conn.now) (with_logs rows.now (tables_in (state S.Store tx.old.conn.now).now.trees)) result }
-    ensures survives { Survives (state S.Store tx.old.conn.now) (state S.Store tx.new.conn.now) (λ _. ⊥) }
-{
-    'rows: for row in rows {
-        put_log(tx, row)?;
-    }
-    Ok(())
-}
-
-fn put_undos<S: Alter>(tx: &mut Transaction<'_, S>, rows: &[WriteUndoRow]) -> Result<(), Error>
-    ensures same_reference { tx.new.conn.ghost_name ≡ tx.old.conn.ghost_name }
-    ensures made { Makes (state S.Store tx.old.conn.now) (state S.Store tx.new.conn.now) (with_undos rows.now (tables_in (state S.Store tx.old.conn.now).now.trees)) result }
-    ensures survives { Survives (state S.Store tx.old.conn.now) (state S.Store tx.new.conn.now) (λ _. ⊥) }
-{
-    'rows: for row in rows {
-        put_undo(tx, row)?;
-    }
-    Ok(())
-}
-
-fn put_bookings<S: Alter>(
+fn take_all<R: RequestRow, S: Alter>(
     tx: &mut Transaction<'_, S>,
-    alloc: Global,
-    rows: &[BookingRow],
+    gone: &[WriteId],
 ) -> Result<(), Error>
     ensures same_reference { tx.new.conn.ghost_name ≡ tx.old.conn.ghost_name }
-    ensures made { Makes (state S.Store tx.old.conn.now) (state S.Store tx.new.conn.now) (with_bookings rows.now (tables_in (state S.Store tx.old.conn.now).now.trees)) result }
+    ensures made { Makes (state S.Store tx.old.conn.now) (state S.Store tx.new.conn.now) (R.take_from gone.now (tables_in (state S.Store tx.old.conn.now).now.trees)) result }
     ensures survives { Survives (state S.Store tx.old.conn.now) (state S.Store tx.new.conn.now) (λ _. ⊥) }
 {
-    'rows: for row in rows {
-        put_booking(tx, alloc, row)?;
+    'gone: for id in gone {
+        R::take(tx, *id)?;
     }
     Ok(())
 }
 
-fn put_errors<S: Alter>(
+fn put_all<R: StoredRow, S: Alter>(
     tx: &mut Transaction<'_, S>,
     alloc: Global,
-    rows: &[ErrorRow],
+    rows: &[R],
 ) -> Result<(), Error>
     ensures same_reference { tx.new.conn.ghost_name ≡ tx.old.conn.ghost_name }
-    ensures made { Makes (state S.Store tx.old.conn.now) (state S.Store tx.new.conn.now) (with_errors rows.now (tables_in (state S.Store tx.old.conn.now).now.trees)) result }
+    ensures made { Makes (state S.Store tx.old.conn.now) (state S.Store tx.new.conn.now) (R.put_in rows.now (tables_in (state S.Store tx.old.conn.now).now.trees)) result }
     ensures survives { Survives (state S.Store tx.old.conn.now) (state S.Store tx.new.conn.now) (λ _. ⊥) }
 {
     'rows: for row in rows {
-        put_error(tx, alloc, row)?;
+        row.put(tx, alloc)?;
     }
     Ok(())
 }
@@ -136,8 +47,8 @@ fn take_from_logs<S: Alter>(tx: &mut Transaction<'_, S>, change: &Change) -> Res
     ensures made { Makes (state S.Store tx.old.conn.now) (state S.Store tx.new.conn.now) (logs_taken change.now (tables_in (state S.Store tx.old.conn.now).now.trees)) result }
     ensures survives { Survives (state S.Store tx.old.conn.now) (state S.Store tx.new.conn.now) (λ _. ⊥) }
 {
-    take_logs(tx, &change.dropped)?;
-    take_undos(tx, &change.dropped)
+    take_all::<LogRow, S>(tx, &change.dropped)?;
+    take_all::<WriteUndoRow, S>(tx, &change.dropped)
 }
 
 /// Takes rows away from both tables of a board.
@@ -146,29 +57,37 @@ fn take_from_board<S: Alter>(tx: &mut Transaction<'_, S>, change: &Change) -> Re
     ensures made { Makes (state S.Store tx.old.conn.now) (state S.Store tx.new.conn.now) (board_taken change.now (tables_in (state S.Store tx.old.conn.now).now.trees)) result }
     ensures survives { Survives (state S.Store tx.old.conn.now) (state S.Store tx.new.conn.now) (λ _. ⊥) }
 {
-    take_bookings(tx, &change.unbooked)?;
-    take_errors(tx, &change.unlogged)
+    take_all::<BookingRow, S>(tx, &change.unbooked)?;
+    take_all::<ErrorRow, S>(tx, &change.unlogged)
 }
 
 /// Puts the numbers of the replica, rooms and rows of the vector.
-fn put_heads<S: Alter>(tx: &mut Transaction<'_, S>, change: &Change) -> Result<(), Error>
+fn put_heads<S: Alter>(
+    tx: &mut Transaction<'_, S>,
+    alloc: Global,
+    change: &Change,
+) -> Result<(), Error>
     ensures same_reference { tx.new.conn.ghost_name ≡ tx.old.conn.ghost_name }
     ensures made { Makes (state S.Store tx.old.conn.now) (state S.Store tx.new.conn.now) (heads_put change.now (tables_in (state S.Store tx.old.conn.now).now.trees)) result }
     ensures survives { Survives (state S.Store tx.old.conn.now) (state S.Store tx.new.conn.now) (λ _. ⊥) }
 {
     put_meta(tx, &change.meta)?;
-    put_rooms(tx, &change.room)?;
-    put_vectors(tx, &change.vector)
+    put_all::<RoomName, S>(tx, alloc, &change.room)?;
+    put_all::<VectorRow, S>(tx, alloc, &change.vector)
 }
 
 /// Puts rows into both logs.
-fn put_into_logs<S: Alter>(tx: &mut Transaction<'_, S>, change: &Change) -> Result<(), Error>
+fn put_into_logs<S: Alter>(
+    tx: &mut Transaction<'_, S>,
+    alloc: Global,
+    change: &Change,
+) -> Result<(), Error>
     ensures same_reference { tx.new.conn.ghost_name ≡ tx.old.conn.ghost_name }
     ensures made { Makes (state S.Store tx.old.conn.now) (state S.Store tx.new.conn.now) (logs_put change.now (tables_in (state S.Store tx.old.conn.now).now.trees)) result }
     ensures survives { Survives (state S.Store tx.old.conn.now) (state S.Store tx.new.conn.now) (λ _. ⊥) }
 {
-    put_logs(tx, &change.write_log)?;
-    put_undos(tx, &change.undo)
+    put_all::<LogRow, S>(tx, alloc, &change.write_log)?;
+    put_all::<WriteUndoRow, S>(tx, alloc, &change.undo)
 }
 
 /// Puts rows into both tables of a board.
@@ -181,8 +100,8 @@ fn put_into_board<S: Alter>(
     ensures made { Makes (state S.Store tx.old.conn.now) (state S.Store tx.new.conn.now) (board_put change.now (tables_in (state S.Store tx.old.conn.now).now.trees)) result }
     ensures survives { Survives (state S.Store tx.old.conn.now) (state S.Store tx.new.conn.now) (λ _. ⊥) }
 {
-    put_bookings(tx, alloc, &change.booking)?;
-    put_errors(tx, alloc, &change.errorlog)
+    put_all::<BookingRow, S>(tx, alloc, &change.booking)?;
+    put_all::<ErrorRow, S>(tx, alloc, &change.errorlog)
 }
 
 /// Takes the rows away.
@@ -205,8 +124,8 @@ fn put_rows<S: Alter>(
     ensures made { Makes (state S.Store tx.old.conn.now) (state S.Store tx.new.conn.now) (rows_put change.now (tables_in (state S.Store tx.old.conn.now).now.trees)) result }
     ensures survives { Survives (state S.Store tx.old.conn.now) (state S.Store tx.new.conn.now) (λ _. ⊥) }
 {
-    put_heads(tx, change)?;
-    put_into_logs(tx, change)?;
+    put_heads(tx, alloc, change)?;
+    put_into_logs(tx, alloc, change)?;
     put_into_board(tx, alloc, change)
 }
 

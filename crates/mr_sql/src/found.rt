@@ -7,14 +7,11 @@ ghost use Rattle.mr_sql.specs.Form.{meta_form, room_form, vector_form, log_form,
 ghost use Rattle.mr_sql.specs.Found.{IsShownAs, AreStoredAs, AreOurRows, IsMeta, listed};
 ghost use Rattle.mr_sql.specs.Reads.{Looks};
 
-use crate::queries::{
-    select_all_booking, select_all_error, select_all_log, select_all_meta, select_all_room,
-    select_all_undo, select_all_vector,
-};
-use crate::rows::{
-    read_booking, read_error, read_log, read_meta, read_room, read_undo, read_vector,
-};
-use mr_replica::MetaRow;
+use crate::meta_row::read_meta;
+use crate::queries::select_all_meta;
+use crate::stored_rows::StoredRow;
+use mr_base::RoomName;
+use mr_replica::{BookingRow, ErrorRow, LogRow, MetaRow, VectorRow, WriteUndoRow};
 use sqlite::{Alter, Connection, Error, Row};
 use std::alloc::Global;
 
@@ -40,112 +37,22 @@ fn find_meta<S: Alter>(conn: &mut Connection<S>) -> Result<Option<MetaRow>, Erro
     only_meta(&rows)
 }
 
-fn are_rooms(alloc: Global, rows: &[Row]) -> Result<(), Error>
-    ensures { OnOk result (All (IsShownAs room_form) rows.now) }
+fn are_stored<R: StoredRow>(alloc: Global, rows: &[Row]) -> Result<(), Error>
+    ensures { OnOk result (All (IsShownAs R.form) rows.now) }
 {
     'rows: for row in rows {
-        read_room(alloc, row)?;
+        R::read(alloc, row)?;
     }
     Ok(())
 }
 
-fn find_rooms<S: Alter>(conn: &mut Connection<S>, alloc: Global) -> Result<(), Error>
+fn find_stored<R: StoredRow, S: Alter>(conn: &mut Connection<S>, alloc: Global) -> Result<(), Error>
     requires autocommit { conn.old.in_transaction ≡ false }
     ensures autocommit { conn.new.in_transaction ≡ false }
-    ensures looks { Looks (state S.Store conn.old) (state S.Store conn.new) result (λ _. AreStoredAs room_form (state S.Store conn.old).now.trees) }
+    ensures looks { Looks (state S.Store conn.old) (state S.Store conn.new) result (λ _. AreStoredAs R.form (state S.Store conn.old).now.trees) }
 {
-    let rows = select_all_room(conn)?;
-    are_rooms(alloc, &rows)
-}
-
-fn are_vectors(rows: &[Row]) -> Result<(), Error>
-    ensures { OnOk result (All (IsShownAs vector_form) rows.now) }
-{
-    'rows: for row in rows {
-        read_vector(row)?;
-    }
-    Ok(())
-}
-
-fn find_vectors<S: Alter>(conn: &mut Connection<S>) -> Result<(), Error>
-    requires autocommit { conn.old.in_transaction ≡ false }
-    ensures autocommit { conn.new.in_transaction ≡ false }
-    ensures looks { Looks (state S.Store conn.old) (state S.Store conn.new) result (λ _. AreStoredAs vector_form (state S.Store conn.old).now.trees) }
-{
-    let rows = select_all_vector(conn)?;
-    are_vectors(&rows)
-}
-
-fn are_logs(alloc: Global, rows: &[Row]) -> Result<(), Error>
-    ensures { OnOk result (All (IsShownAs log_form) rows.now) }
-{
-    'rows: for row in rows {
-        read_log(alloc, row)?;
-    }
-    Ok(())
-}
-
-fn find_logs<S: Alter>(conn: &mut Connection<S>, alloc: Global) -> Result<(), Error>
-    requires autocommit { conn.old.in_transaction ≡ false }
-    ensures autocommit { conn.new.in_transaction ≡ false }
-    ensures looks { Looks (state S.Store conn.old) (state S.Store conn.new) result (λ _. AreStoredAs log_form (state S.Store conn.old).now.trees) }
-{
-    let rows = select_all_log(conn)?;
-    are_logs(alloc, &rows)
-}
-
-fn are_undos(rows: &[Row]) -> Result<(), Error>
-    ensures { OnOk result (All (IsShownAs undo_form) rows.now) }
-{
-    'rows: for row in rows {
-        read_undo(row)?;
-    }
-    Ok(())
-}
-
-fn find_undos<S: Alter>(conn: &mut Connection<S>) -> Result<(), Error>
-    requires autocommit { conn.old.in_transaction ≡ false }
-    ensures autocommit { conn.new.in_transaction ≡ false }
-    ensures looks { Looks (state S.Store conn.old) (state S.Store conn.new) result (λ _. AreStoredAs undo_form (state S.Store conn.old).now.trees) }
-{
-    let rows = select_all_undo(conn)?;
-    are_undos(&rows)
-}
-
-fn are_bookings(alloc: Global, rows: &[Row]) -> Result<(), Error>
-    ensures { OnOk result (All (IsShownAs booking_form) rows.now) }
-{
-    'rows: for row in rows {
-        read_booking(alloc, row)?;
-    }
-    Ok(())
-}
-
-fn find_bookings<S: Alter>(conn: &mut Connection<S>, alloc: Global) -> Result<(), Error>
-    requires autocommit { conn.old.in_transaction ≡ false }
-    ensures autocommit { conn.new.in_transaction ≡ false }
-    ensures looks { Looks (state S.Store conn.old) (state S.Store conn.new) result (λ _. AreStoredAs booking_form (state S.Store conn.old).now.trees) }
-{
-    let rows = select_all_booking(conn)?;
-    are_bookings(alloc, &rows)
-}
-
-fn are_errors(alloc: Global, rows: &[Row]) -> Result<(), Error>
-    ensures { OnOk result (All (IsShownAs error_form) rows.now) }
-{
-    'rows: for row in rows {
-        read_error(alloc, row)?;
-    }
-    Ok(())
-}
-
-fn find_errors<S: Alter>(conn: &mut Connection<S>, alloc: Global) -> Result<(), Error>
-    requires autocommit { conn.old.in_transaction ≡ false }
-    ensures autocommit { conn.new.in_transaction ≡ false }
-    ensures looks { Looks (state S.Store conn.old) (state S.Store conn.new) result (λ _. AreStoredAs error_form (state S.Store conn.old).now.trees) }
-{
-    let rows = select_all_error(conn)?;
-    are_errors(alloc, &rows)
+    let rows = R::select_all(conn)?;
+    are_stored::<R>(alloc, &rows)
 }
 
 // The rooms and the vector.
@@ -154,8 +61,8 @@ fn find_heads<S: Alter>(conn: &mut Connection<S>, alloc: Global) -> Result<(), E
     ensures autocommit { conn.new.in_transaction ≡ false }
     ensures looks { Looks (state S.Store conn.old) (state S.Store conn.new) result (λ _. AreStoredAs room_form (state S.Store conn.old).now.trees × AreStoredAs vector_form (state S.Store conn.old).now.trees) }
 {
-    find_rooms(conn, alloc)?;
-    find_vectors(conn)
+    find_stored::<RoomName, S>(conn, alloc)?;
+    find_stored::<VectorRow, S>(conn, alloc)
 }
 
 // Both logs.
@@ -164,8 +71,8 @@ fn find_both_logs<S: Alter>(conn: &mut Connection<S>, alloc: Global) -> Result<(
     ensures autocommit { conn.new.in_transaction ≡ false }
     ensures looks { Looks (state S.Store conn.old) (state S.Store conn.new) result (λ _. AreStoredAs log_form (state S.Store conn.old).now.trees × AreStoredAs undo_form (state S.Store conn.old).now.trees) }
 {
-    find_logs(conn, alloc)?;
-    find_undos(conn)
+    find_stored::<LogRow, S>(conn, alloc)?;
+    find_stored::<WriteUndoRow, S>(conn, alloc)
 }
 
 // Both tables of the board.
@@ -174,8 +81,8 @@ fn find_board<S: Alter>(conn: &mut Connection<S>, alloc: Global) -> Result<(), E
     ensures autocommit { conn.new.in_transaction ≡ false }
     ensures looks { Looks (state S.Store conn.old) (state S.Store conn.new) result (λ _. AreStoredAs booking_form (state S.Store conn.old).now.trees × AreStoredAs error_form (state S.Store conn.old).now.trees) }
 {
-    find_bookings(conn, alloc)?;
-    find_errors(conn, alloc)
+    find_stored::<BookingRow, S>(conn, alloc)?;
+    find_stored::<ErrorRow, S>(conn, alloc)
 }
 
 /// Finds the row of `meta`, if there is one, and that all rows of all tables keep the tables' rules and the limits.

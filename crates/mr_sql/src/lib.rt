@@ -2,7 +2,8 @@
 //!
 //! It stands on `mr_store`, whose trait `Keeper` it meets, and on the kit's `sqlite`; programs stand above it. Contracts see
 //! the database through `tables_in` (specs/Kept.antt), which makes canonical tables of its rows; the tables themselves are
-//! in specs/Schema.antt, and their rows as cells in specs/Cells.antt. A change is one transaction.
+//! in specs/Schema.antt, and their rows as cells in specs/Cells.antt. A change is one transaction. Six tables are alike (trait
+//! `StoredRow`): what differs of them, their SQL texts above all, stands in src/table_rows.rt; `meta` has one row.
 #![tactic(auto)]
 
 mod adopt;
@@ -14,14 +15,15 @@ mod faults;
 mod files;
 mod found;
 mod load;
+mod meta_row;
 mod numbers;
 mod order;
 mod puts;
 mod queries;
-mod rows;
 mod schemas;
 mod sql_keeper;
-mod takes;
+mod stored_rows;
+mod table_rows;
 mod whole;
 
 pub use files::FileKeeper;

@@ -8,9 +8,9 @@ ghost use Rattle.mr_sql.specs.Cells.{meta_in};
 ghost use Rattle.mr_sql.specs.Kept.{tables_in};
 ghost use Rattle.mr_sql.specs.Reads.{Reads, first_of};
 
+use crate::meta_row::read_meta;
 use crate::queries::select_all_meta;
-use crate::rows::read_meta;
-use crate::whole::{all_bookings, all_errors, all_logs, all_rooms, all_undos, all_vectors};
+use crate::whole::all_rows;
 use mr_base::{Refusal, RoomName};
 use mr_replica::{BookingRow, Desk, ErrorRow, LogRow, MetaRow, Tables, VectorRow, WriteUndoRow};
 use sqlite::{Alter, Connection, Error, ErrorCode, Row};
@@ -45,8 +45,8 @@ fn read_heads<S: Alter>(
     ensures reads { Reads (state S.Store conn.old) (state S.Store conn.new) result (λ r. (r.0 ≡ (tables_in (state S.Store conn.old).now.trees).meta) × (r.1.items ≡ (tables_in (state S.Store conn.old).now.trees).room) × (r.2.items ≡ (tables_in (state S.Store conn.old).now.trees).vector)) }
 {
     let meta = the_meta(conn)?;
-    let room = all_rooms(conn, alloc)?;
-    let vector = all_vectors(conn, alloc)?;
+    let room = all_rows(conn, alloc)?;
+    let vector = all_rows(conn, alloc)?;
     Ok((meta, room, vector))
 }
 
@@ -59,8 +59,8 @@ fn read_logs<S: Alter>(
     ensures autocommit { conn.new.in_transaction ≡ false }
     ensures reads { Reads (state S.Store conn.old) (state S.Store conn.new) result (λ r. (r.0.items ≡ (tables_in (state S.Store conn.old).now.trees).write_log) × (r.1.items ≡ (tables_in (state S.Store conn.old).now.trees).undo)) }
 {
-    let write_log = all_logs(conn, alloc)?;
-    let undo = all_undos(conn, alloc)?;
+    let write_log = all_rows(conn, alloc)?;
+    let undo = all_rows(conn, alloc)?;
     Ok((write_log, undo))
 }
 
@@ -73,8 +73,8 @@ fn read_board<S: Alter>(
     ensures autocommit { conn.new.in_transaction ≡ false }
     ensures reads { Reads (state S.Store conn.old) (state S.Store conn.new) result (λ r. (r.0.items ≡ (tables_in (state S.Store conn.old).now.trees).booking) × (r.1.items ≡ (tables_in (state S.Store conn.old).now.trees).errorlog)) }
 {
-    let booking = all_bookings(conn, alloc)?;
-    let errorlog = all_errors(conn, alloc)?;
+    let booking = all_rows(conn, alloc)?;
+    let errorlog = all_rows(conn, alloc)?;
     Ok((booking, errorlog))
 }
 

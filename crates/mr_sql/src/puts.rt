@@ -3,11 +3,11 @@ ghost use Rattle.sqlite.specs.State.{Survives};
 ghost use Rattle.sqlite.specs.Held.{state};
 ghost use Rattle.mr_model.specs.Calendar.{is_date, date_text};
 ghost use Rattle.mr_sql.specs.Kept.{Makes, tables_in};
-ghost use Rattle.mr_sql.specs.Parts.{put_meta as with_meta, put_rooms, put_vector as with_vector, put_logs, put_undos, put_bookings, put_errors};
+ghost use Rattle.mr_sql.specs.Parts.{put_meta as with_meta, put_vector, put_logs, put_bookings, put_errors};
 
-use crate::numbers::{Number, PlaceNumber};
-use mr_base::{Day, RoomName};
-use mr_replica::{BookingRow, ErrorRow, LogRow, MetaRow, VectorRow, WriteUndoRow};
+use crate::numbers::Number;
+use mr_base::Day;
+use mr_replica::{BookingRow, ErrorRow, LogRow, MetaRow, VectorRow};
 use sqlite::{Alter, Error, Transaction, params};
 use std::alloc::Global;
 
@@ -51,29 +51,14 @@ pub(crate) fn put_meta<S: Alter>(tx: &mut Transaction<'_, S>, row: &MetaRow) -> 
     put_meta_cells(tx, row, commits, dropped, clock)
 }
 
-/// Puts a room, if it isn't there.
-pub(crate) fn put_room<S: Alter>(
-    tx: &mut Transaction<'_, S>,
-    name: &RoomName,
-) -> Result<usize, Error>
-    ensures same_reference { tx.new.conn.ghost_name ≡ tx.old.conn.ghost_name }
-    ensures put { Makes (state S.Store tx.old.conn.now) (state S.Store tx.new.conn.now) (put_rooms (name.now ∷ []) (tables_in (state S.Store tx.old.conn.now).now.trees)) result }
-    ensures survives { Survives (state S.Store tx.old.conn.now) (state S.Store tx.new.conn.now) (λ _. ⊥) }
-{
-    tx.execute(
-        "INSERT OR REPLACE INTO room (name) VALUES (?1)",
-        params![name.as_str()],
-    )
-}
-
-fn put_vector_cells<S: Alter>(
+pub(crate) fn put_vector_cells<S: Alter>(
     tx: &mut Transaction<'_, S>,
     row: &VectorRow,
     time: Number,
 ) -> Result<usize, Error>
     requires time { time.value ≡ row.now.last_time }
     ensures same_reference { tx.new.conn.ghost_name ≡ tx.old.conn.ghost_name }
-    ensures put { Makes (state S.Store tx.old.conn.now) (state S.Store tx.new.conn.now) (with_vector (row.now ∷ []) (tables_in (state S.Store tx.old.conn.now).now.trees)) result }
+    ensures put { Makes (state S.Store tx.old.conn.now) (state S.Store tx.new.conn.now) (put_vector (row.now ∷ []) (tables_in (state S.Store tx.old.conn.now).now.trees)) result }
     ensures survives { Survives (state S.Store tx.old.conn.now) (state S.Store tx.new.conn.now) (λ _. ⊥) }
 {
     tx.execute(
@@ -82,20 +67,7 @@ fn put_vector_cells<S: Alter>(
     )
 }
 
-/// Puts the row of a server into the vector.
-pub(crate) fn put_vector<S: Alter>(
-    tx: &mut Transaction<'_, S>,
-    row: &VectorRow,
-) -> Result<usize, Error>
-    ensures same_reference { tx.new.conn.ghost_name ≡ tx.old.conn.ghost_name }
-    ensures put { Makes (state S.Store tx.old.conn.now) (state S.Store tx.new.conn.now) (with_vector (row.now ∷ []) (tables_in (state S.Store tx.old.conn.now).now.trees)) result }
-    ensures survives { Survives (state S.Store tx.old.conn.now) (state S.Store tx.new.conn.now) (λ _. ⊥) }
-{
-    let time = Number::new(row.last_time, 2)?;
-    put_vector_cells(tx, row, time)
-}
-
-fn put_log_cells<S: Alter>(
+pub(crate) fn put_log_cells<S: Alter>(
     tx: &mut Transaction<'_, S>,
     row: &LogRow,
     time: Number,
@@ -122,41 +94,15 @@ fn put_log_cells<S: Alter>(
     )
 }
 
-/// Puts a row of the write log.
-pub(crate) fn put_log<S: Alter>(tx: &mut Transaction<'_, S>, row: &LogRow) -> Result<usize, Error>
-    ensures same_reference { tx.new.conn.ghost_name ≡ tx.old.conn.ghost_name }
-    ensures put { Makes (state S.Store tx.old.conn.now) (state S.Store tx.new.conn.now) (put_logs (row.now ∷ []) (tables_in (state S.Store tx.old.conn.now).now.trees)) result }
-    ensures survives { Survives (state S.Store tx.old.conn.now) (state S.Store tx.new.conn.now) (λ _. ⊥) }
-{
-    let time = Number::new(row.time, 2)?;
-    let seq = Number::new(row.seq, 7)?;
-    put_log_cells(tx, row, time, seq)
-}
-
-/// Puts the place of a write.
-pub(crate) fn put_undo<S: Alter>(
-    tx: &mut Transaction<'_, S>,
-    row: &WriteUndoRow,
-) -> Result<usize, Error>
-    ensures same_reference { tx.new.conn.ghost_name ≡ tx.old.conn.ghost_name }
-    ensures put { Makes (state S.Store tx.old.conn.now) (state S.Store tx.new.conn.now) (put_undos (row.now ∷ []) (tables_in (state S.Store tx.old.conn.now).now.trees)) result }
-    ensures survives { Survives (state S.Store tx.old.conn.now) (state S.Store tx.new.conn.now) (λ _. ⊥) }
-{
-    tx.execute(
-        "INSERT OR REPLACE INTO undo (server, n, place) VALUES (?1, ?2, ?3)",
-        params![row.server.number(), row.n, PlaceNumber { place: row.place }],
-    )
-}
-
 /// The text of a day, which is within the calendar.
-fn day_text(alloc: Global, day: Day) -> Result<String, Error>
+pub(crate) fn day_text(alloc: Global, day: Day) -> Result<String, Error>
     ensures { IfOk result (λ text. (string_bytes text ≡ date_text day) × IsTrue (is_date day)) }
 {
     day.is_within_calendar();
     Ok(format!(in alloc; "{day}")?)
 }
 
-fn put_booking_cells<S: Alter>(
+pub(crate) fn put_booking_cells<S: Alter>(
     tx: &mut Transaction<'_, S>,
     row: &BookingRow,
     day: &str,
@@ -182,21 +128,7 @@ fn put_booking_cells<S: Alter>(
     )
 }
 
-/// Puts a booking.
-pub(crate) fn put_booking<S: Alter>(
-    tx: &mut Transaction<'_, S>,
-    alloc: Global,
-    row: &BookingRow,
-) -> Result<usize, Error>
-    ensures same_reference { tx.new.conn.ghost_name ≡ tx.old.conn.ghost_name }
-    ensures put { Makes (state S.Store tx.old.conn.now) (state S.Store tx.new.conn.now) (put_bookings (row.now ∷ []) (tables_in (state S.Store tx.old.conn.now).now.trees)) result }
-    ensures survives { Survives (state S.Store tx.old.conn.now) (state S.Store tx.new.conn.now) (λ _. ⊥) }
-{
-    let day = day_text(alloc, row.day)?;
-    put_booking_cells(tx, row, &day)
-}
-
-fn put_error_cells<S: Alter>(
+pub(crate) fn put_error_cells<S: Alter>(
     tx: &mut Transaction<'_, S>,
     row: &ErrorRow,
     day: &str,
@@ -225,20 +157,4 @@ fn put_error_cells<S: Alter>(
             seq
         ],
     )
-}
-
-/// Puts a row of the error log.
-pub(crate) fn put_error<S: Alter>(
-    tx: &mut Transaction<'_, S>,
-    alloc: Global,
-    row: &ErrorRow,
-) -> Result<usize, Error>
-    ensures same_reference { tx.new.conn.ghost_name ≡ tx.old.conn.ghost_name }
-    ensures put { Makes (state S.Store tx.old.conn.now) (state S.Store tx.new.conn.now) (put_errors (row.now ∷ []) (tables_in (state S.Store tx.old.conn.now).now.trees)) result }
-    ensures survives { Survives (state S.Store tx.old.conn.now) (state S.Store tx.new.conn.now) (λ _. ⊥) }
-{
-    let time = Number::new(row.time, 7)?;
-    let seq = Number::new(row.seq, 8)?;
-    let day = day_text(alloc, row.day)?;
-    put_error_cells(tx, row, &day, time, seq)
 }

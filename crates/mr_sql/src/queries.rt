@@ -10,7 +10,7 @@ ghost use Rattle.mr_model.specs.Replica.{is_among};
 ghost use Rattle.mr_model.specs.Queries.{booking_id, error_id};
 ghost use Rattle.mr_store.specs.Picked.{picked_bookings, picked_errors};
 ghost use Rattle.mr_sql.specs.Schema.{our_schema};
-ghost use Rattle.mr_sql.specs.Cells.{meta_in, room_in, vector_in, log_in, undo_in, booking_in, error_in};
+ghost use Rattle.mr_sql.specs.Cells.{meta_in, booking_in, error_in};
 ghost use Rattle.mr_sql.specs.Kept.{tables_in};
 ghost use Rattle.mr_sql.specs.Found.{columns_from};
 ghost use Rattle.mr_sql.specs.Reads.{Reads, Looks, metas_in};
@@ -20,7 +20,7 @@ use sqlite::types::ValueRef;
 use sqlite::{Alter, Connection, Error, Row, params};
 
 /// The rows that a text shows which means a query under our schema.
-fn ask<S: Alter>(
+pub(crate) fn ask<S: Alter>(
     conn: &mut Connection<S>,
     sql: &str,
     params: &[ValueRef<'_>],
@@ -44,78 +44,6 @@ pub(crate) fn select_all_meta<S: Alter>(conn: &mut Connection<S>) -> Result<Vec<
     ask(
         conn,
         "SELECT one, schema, server, prim, commits, dropped, clock FROM meta",
-        &[],
-    )
-}
-
-/// All rows of `room`.
-pub(crate) fn select_all_room<S: Alter>(conn: &mut Connection<S>) -> Result<Vec<Row>, Error>
-    requires autocommit { conn.old.in_transaction ≡ false }
-    ensures autocommit { conn.new.in_transaction ≡ false }
-    ensures reads { Reads (state S.Store conn.old) (state S.Store conn.new) result (λ rows. IsPermutation ((tables_in (state S.Store conn.old).now.trees).room) (map (λ row. room_in (Null ∷ row)) rows.items)) }
-    ensures looks { Looks (state S.Store conn.old) (state S.Store conn.new) result (λ rows. IsPermutation (map (columns_from 1 1) ((state S.Store conn.old).now.trees 2)) rows.items) }
-{
-    ask(conn, "SELECT name FROM room", &[])
-}
-
-/// All rows of `vector`.
-pub(crate) fn select_all_vector<S: Alter>(conn: &mut Connection<S>) -> Result<Vec<Row>, Error>
-    requires autocommit { conn.old.in_transaction ≡ false }
-    ensures autocommit { conn.new.in_transaction ≡ false }
-    ensures reads { Reads (state S.Store conn.old) (state S.Store conn.new) result (λ rows. IsPermutation ((tables_in (state S.Store conn.old).now.trees).vector) (map (λ row. vector_in (Null ∷ row)) rows.items)) }
-    ensures looks { Looks (state S.Store conn.old) (state S.Store conn.new) result (λ rows. IsPermutation (map (columns_from 1 4) ((state S.Store conn.old).now.trees 4)) rows.items) }
-{
-    ask(conn, "SELECT server, n, tm, committed FROM vector", &[])
-}
-
-/// All rows of `write_log`.
-pub(crate) fn select_all_log<S: Alter>(conn: &mut Connection<S>) -> Result<Vec<Row>, Error>
-    requires autocommit { conn.old.in_transaction ≡ false }
-    ensures autocommit { conn.new.in_transaction ≡ false }
-    ensures reads { Reads (state S.Store conn.old) (state S.Store conn.new) result (λ rows. IsPermutation ((tables_in (state S.Store conn.old).now.trees).write_log) (map (λ row. log_in (Null ∷ row)) rows.items)) }
-    ensures looks { Looks (state S.Store conn.old) (state S.Store conn.new) result (λ rows. IsPermutation (map (columns_from 1 8) ((state S.Store conn.old).now.trees 6)) rows.items) }
-{
-    ask(
-        conn,
-        "SELECT server, n, tm, room, length, choices, title, seq FROM write_log",
-        &[],
-    )
-}
-
-/// All rows of `undo`.
-pub(crate) fn select_all_undo<S: Alter>(conn: &mut Connection<S>) -> Result<Vec<Row>, Error>
-    requires autocommit { conn.old.in_transaction ≡ false }
-    ensures autocommit { conn.new.in_transaction ≡ false }
-    ensures reads { Reads (state S.Store conn.old) (state S.Store conn.new) result (λ rows. IsPermutation ((tables_in (state S.Store conn.old).now.trees).undo) (map (λ row. undo_in (Null ∷ row)) rows.items)) }
-    ensures looks { Looks (state S.Store conn.old) (state S.Store conn.new) result (λ rows. IsPermutation (map (columns_from 1 3) ((state S.Store conn.old).now.trees 8)) rows.items) }
-{
-    ask(conn, "SELECT server, n, place FROM undo", &[])
-}
-
-/// All rows of `booking`.
-pub(crate) fn select_all_booking<S: Alter>(conn: &mut Connection<S>) -> Result<Vec<Row>, Error>
-    requires autocommit { conn.old.in_transaction ≡ false }
-    ensures autocommit { conn.new.in_transaction ≡ false }
-    ensures reads { Reads (state S.Store conn.old) (state S.Store conn.new) result (λ rows. IsPermutation ((tables_in (state S.Store conn.old).now.trees).booking) (map (λ row. booking_in (Null ∷ row)) rows.items)) }
-    ensures looks { Looks (state S.Store conn.old) (state S.Store conn.new) result (λ rows. IsPermutation (map (columns_from 1 8) ((state S.Store conn.old).now.trees 10)) rows.items) }
-{
-    ask(
-        conn,
-        "SELECT room, day, start, stop, server, n, title, committed FROM booking",
-        &[],
-    )
-}
-
-/// All rows of `errorlog`.
-pub(crate) fn select_all_error<S: Alter>(conn: &mut Connection<S>) -> Result<Vec<Row>, Error>
-    requires autocommit { conn.old.in_transaction ≡ false }
-    ensures autocommit { conn.new.in_transaction ≡ false }
-    ensures reads { Reads (state S.Store conn.old) (state S.Store conn.new) result (λ rows. IsPermutation ((tables_in (state S.Store conn.old).now.trees).errorlog) (map (λ row. error_in (Null ∷ row)) rows.items)) }
-    ensures looks { Looks (state S.Store conn.old) (state S.Store conn.new) result (λ rows. IsPermutation (map (columns_from 1 9) ((state S.Store conn.old).now.trees 12)) rows.items) }
-{
-    ask(
-        conn,
-        "SELECT room, day, start, stop, server, n, title, tm, seq FROM errorlog",
         &[],
     )
 }

@@ -21,6 +21,6 @@ returns-clause-reads g c =
     let same : c.deref.result.now ≡ c.in_ok-rows.rows.items = search rules in
     let shown = map (λ row. booking_in (Null ∷ row)) c.in_ok-rows.rows.items in
     let id : Id = record { server = c.args.server; n = c.args.n } in
-    reads_made old (state g.S.Store c.select_key_booking.new.conn) c.in_ok-rows.rows (λ rows. IsPermutation (filter (λ r. is_among (booking_id r) (id ∷ [])) (tables_in old.now.trees).booking) (map (λ row. booking_in (Null ∷ row)) rows.items)) c.first_booking.result _
-    (λ kept read. told_so c.first_booking.result _ _ (λ row is. is ∙ found_booking id old.now.trees shown read) (rw same at c.first_booking.ensures))
+    reads_made old (state g.S.Store c.select_key_booking.new.conn) c.in_ok-rows.rows (λ rows. IsPermutation (filter (λ r. is_among (booking_id r) (id ∷ [])) (tables_in old.now.trees).booking) (map (λ row. booking_in (Null ∷ row)) rows.items)) c.first_row.result _
+    (λ kept read. told_so c.first_row.result _ _ (λ row is. is ∙ found_booking id old.now.trees shown read) (rw same at c.first_row.ensures))
     c.in_ok-rows.ensures.reads

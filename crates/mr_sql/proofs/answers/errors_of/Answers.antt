@@ -16,6 +16,6 @@ pub returns-clause-reads : goal.returns-clause-reads
 returns-clause-reads g c =
     let old = state g.S.Store c.args.conn.now in
     let same : c.deref.result.now ≡ c.in_ok-rows.rows.items = search rules in
-    reads_made old (state g.S.Store c.select_room_error.new.conn) c.in_ok-rows.rows (λ rows. IsPermutation (picked_errors c.args.room.now (tables_in old.now.trees)) (map (λ row. error_in (Null ∷ row)) rows.items)) c.read_errors.result _
-    (λ kept read. told_so c.read_errors.result _ _ (λ out is. subst (IsPermutation (picked_errors c.args.room.now (tables_in old.now.trees))) (sym is) read) (rw same at c.read_errors.ensures))
+    reads_made old (state g.S.Store c.select_room_error.new.conn) c.in_ok-rows.rows (λ rows. IsPermutation (picked_errors c.args.room.now (tables_in old.now.trees)) (map (λ row. error_in (Null ∷ row)) rows.items)) c.read_all.result _
+    (λ kept read. told_so c.read_all.result _ _ (λ out is. subst (IsPermutation (picked_errors c.args.room.now (tables_in old.now.trees))) (sym is) read) (rw same at c.read_all.ensures))
     c.in_ok-rows.ensures.reads

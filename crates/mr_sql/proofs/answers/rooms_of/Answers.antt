@@ -9,4 +9,4 @@ use Rattle.mr_sql.proofs.answers.rooms_of.Goals as goal
 pub returns-clause-reads : goal.returns-clause-reads
 returns-clause-reads g c =
     let old = state g.S.Store c.args.conn.now in
-    reads_so old (state g.S.Store c.all_rooms.new.conn) c.all_rooms.result (λ rooms. rooms.items ≡ (tables_in old.now.trees).room) _ (λ kept rooms is. subst (IsPermutation (tables_in old.now.trees).room) (sym is) (IsPermutation-refl _)) c.all_rooms.ensures.reads
+    reads_so old (state g.S.Store c.all_rows.new.conn) c.all_rows.result (λ rooms. rooms.items ≡ (tables_in old.now.trees).room) _ (λ kept rooms is. subst (IsPermutation (tables_in old.now.trees).room) (sym is) (IsPermutation-refl _)) c.all_rows.ensures.reads

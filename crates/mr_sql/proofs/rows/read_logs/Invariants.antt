@@ -1,7 +1,0 @@
-use Rattle.std.proofs.Common.{◌≡◌, ◌∷◌, map, take}
-use Rattle.sqlite_value.specs.declared.value.Value.TheVariants.{Null}
-use Rattle.mr_sql.specs.Cells.{log_in}
-use Rattle.mr_sql.proofs.rows.read_logs.Given as goal
-
-abbrev pub invariant-rows : goal.invariant-rows
-invariant-rows l = l.out.items ≡ map (λ row. log_in (Null ∷ row)) (take l.row-index l.rows)
