@@ -50,13 +50,7 @@ fn begin<S: Alter>(
 {
     server.number();
     primary.number();
-    let row = MetaRow {
-        server,
-        primary,
-        commits: 0,
-        dropped: 0,
-        clock: 0,
-    };
+    let row = MetaRow::opening(server, primary);
     match create(conn, &row) {
         Ok(()) => Ok(()),
         Err(error) => Err(refusal_of(error)),

@@ -146,13 +146,7 @@ impl SqlKeeper<MemStore> {
         let mut conn = open_connection(alloc)?;
         server.number();
         primary.number();
-        let row = MetaRow {
-            server,
-            primary,
-            commits: 0,
-            dropped: 0,
-            clock: 0,
-        };
+        let row = MetaRow::opening(server, primary);
         match create(&mut conn, &row) {
             Ok(()) => Ok(SqlKeeper {
                 conn,

@@ -11,4 +11,4 @@ returns-in-Ok-clause-begun g c trees clean taken now =
     let new = state g.S.Store c.create.new.conn in
     let blank : IsBlank no_schema old.now = (c.requires.blank, tt) in
     begins _ _ trees old new taken c.requires.blank (c.in-Ok.ensures.kept clean now blank)
-    (opening_stands _ _ _ c.number.ensures.in_range c.number-2.ensures.in_range c.number.ensures.value c.number-2.ensures.value (c.in-Ok.ensures.tables clean now blank))
+    (opening_stands _ _ _ c.number.ensures.in_range c.number-2.ensures.in_range c.number.ensures.value c.number-2.ensures.value c.opening-row.ensures (c.in-Ok.ensures.tables clean now blank))
