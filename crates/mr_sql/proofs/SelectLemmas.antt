@@ -20,7 +20,7 @@ use Rattle.mr_sql.specs.Cells.{meta_in, room_in, vector_in, log_in, undo_in, boo
 use Rattle.mr_sql.specs.Schema.{our_schema}
 use Rattle.mr_sql.specs.Found.{columns_from}
 use Rattle.mr_sql.specs.Form.{Form, meta_form, room_form, vector_form, log_form, undo_form, booking_form, error_form}
-use Rattle.mr_sql.specs.Kept.{IsOurs, tables_in}
+use Rattle.mr_sql.specs.Kept.{IsOurs, IsRowOf, IsHeld, in_order, tables_in}
 use Rattle.mr_sql.specs.Reads.{metas_in}
 use Rattle.mr_sql.proofs.Texts.{MeansQuery, program_of, all_meta_text, all_meta_is, meta_columns, meta_names, all_room_text, all_room_is, room_columns, room_names, all_vector_text, all_vector_is, vector_columns, vector_names, all_log_text, all_log_is, log_columns, log_names, all_undo_text, all_undo_is, undo_columns, undo_names, all_booking_text, all_booking_is, booking_columns, booking_names, all_error_text, all_error_is, error_columns, error_names, room_booking_text, room_booking_is, booking_room_tests, key_booking_text, key_booking_is, booking_key_tests, room_error_text, room_error_is, error_room_tests, key_error_text, key_error_is, error_key_tests}
 use Rattle.mr_sql.proofs.ValueLemmas.{equal_text, and_true, id_test}
@@ -29,47 +29,41 @@ use Rattle.mr_sql.proofs.FormLemmas.{shows}
 use Rattle.mr_sql.proofs.TableLemmas.{Facts, finds_rows}
 use Rattle.mr_sql.proofs.TableFacts.{meta_facts, room_facts, vector_facts, log_facts, undo_facts, booking_facts, error_facts}
 
+-- a query without tests shows the table
+shows_all : {R K : Type 0} (f : Form R K) (facts : Facts f) (text : List ℕ) (project : List Term) (names : List (List ℕ)) (old new : State) (rows : List Row)
+    → MeansQuery text (Select (program_of f.table.tree [] project) names) → ((r : Row) → IsRowOf f r → f.row_in (Null ∷ eval_all project ([] ∷ r ∷ [])) ≡ f.row_in r) → old.now.schema ≡ our_schema → IsHeld f (old.now.trees f.table.tree) → Shown text [] old new rows
+    → IsPermutation (in_order f (old.now.trees f.table.tree)) (map (λ r. f.row_in (Null ∷ r)) rows)
+shows_all f facts text project names old new rows means reads schema held shown =
+    subst (λ xs. IsPermutation xs (map (λ r. f.row_in (Null ∷ r)) rows)) (filter_all_true _)
+    (finds_rows f facts text [] project names [] old new (λ _. true) rows means (λ r is. refl) reads schema held shown)
+
 pub shows_all_meta : (old new : State) (rows : List Row) → IsOurs old.now → Shown all_meta_text [] old new rows → IsPermutation (metas_in old.now.trees) (map (λ r. meta_in (Null ∷ r)) rows)
 unfolding tables_in
-shows_all_meta old new rows ours shown =
-    subst (λ xs. IsPermutation xs (map (λ r. meta_in (Null ∷ r)) rows)) (filter_all_true _)
-    (finds_rows meta_form meta_facts all_meta_text [] meta_columns meta_names [] old new (λ _. true) rows all_meta_is (λ r is. refl) (λ r is. refl) ours.schema ours.held.meta shown)
+shows_all_meta old new rows ours = shows_all meta_form meta_facts all_meta_text meta_columns meta_names old new rows all_meta_is (λ r is. refl) ours.schema ours.held.meta
 
 pub shows_all_room : (old new : State) (rows : List Row) → IsOurs old.now → Shown all_room_text [] old new rows → IsPermutation ((tables_in old.now.trees).room) (map (λ r. room_in (Null ∷ r)) rows)
 unfolding tables_in
-shows_all_room old new rows ours shown =
-    subst (λ xs. IsPermutation xs (map (λ r. room_in (Null ∷ r)) rows)) (filter_all_true _)
-    (finds_rows room_form room_facts all_room_text [] room_columns room_names [] old new (λ _. true) rows all_room_is (λ r is. refl) (λ r is. refl) ours.schema ours.held.room shown)
+shows_all_room old new rows ours = shows_all room_form room_facts all_room_text room_columns room_names old new rows all_room_is (λ r is. refl) ours.schema ours.held.room
 
 pub shows_all_vector : (old new : State) (rows : List Row) → IsOurs old.now → Shown all_vector_text [] old new rows → IsPermutation ((tables_in old.now.trees).vector) (map (λ r. vector_in (Null ∷ r)) rows)
 unfolding tables_in
-shows_all_vector old new rows ours shown =
-    subst (λ xs. IsPermutation xs (map (λ r. vector_in (Null ∷ r)) rows)) (filter_all_true _)
-    (finds_rows vector_form vector_facts all_vector_text [] vector_columns vector_names [] old new (λ _. true) rows all_vector_is (λ r is. refl) (λ r is. refl) ours.schema ours.held.vector shown)
+shows_all_vector old new rows ours = shows_all vector_form vector_facts all_vector_text vector_columns vector_names old new rows all_vector_is (λ r is. refl) ours.schema ours.held.vector
 
 pub shows_all_log : (old new : State) (rows : List Row) → IsOurs old.now → Shown all_log_text [] old new rows → IsPermutation ((tables_in old.now.trees).write_log) (map (λ r. log_in (Null ∷ r)) rows)
 unfolding tables_in
-shows_all_log old new rows ours shown =
-    subst (λ xs. IsPermutation xs (map (λ r. log_in (Null ∷ r)) rows)) (filter_all_true _)
-    (finds_rows log_form log_facts all_log_text [] log_columns log_names [] old new (λ _. true) rows all_log_is (λ r is. refl) (λ r is. refl) ours.schema ours.held.write_log shown)
+shows_all_log old new rows ours = shows_all log_form log_facts all_log_text log_columns log_names old new rows all_log_is (λ r is. refl) ours.schema ours.held.write_log
 
 pub shows_all_undo : (old new : State) (rows : List Row) → IsOurs old.now → Shown all_undo_text [] old new rows → IsPermutation ((tables_in old.now.trees).undo) (map (λ r. undo_in (Null ∷ r)) rows)
 unfolding tables_in
-shows_all_undo old new rows ours shown =
-    subst (λ xs. IsPermutation xs (map (λ r. undo_in (Null ∷ r)) rows)) (filter_all_true _)
-    (finds_rows undo_form undo_facts all_undo_text [] undo_columns undo_names [] old new (λ _. true) rows all_undo_is (λ r is. refl) (λ r is. refl) ours.schema ours.held.undo shown)
+shows_all_undo old new rows ours = shows_all undo_form undo_facts all_undo_text undo_columns undo_names old new rows all_undo_is (λ r is. refl) ours.schema ours.held.undo
 
 pub shows_all_booking : (old new : State) (rows : List Row) → IsOurs old.now → Shown all_booking_text [] old new rows → IsPermutation ((tables_in old.now.trees).booking) (map (λ r. booking_in (Null ∷ r)) rows)
 unfolding tables_in
-shows_all_booking old new rows ours shown =
-    subst (λ xs. IsPermutation xs (map (λ r. booking_in (Null ∷ r)) rows)) (filter_all_true _)
-    (finds_rows booking_form booking_facts all_booking_text [] booking_columns booking_names [] old new (λ _. true) rows all_booking_is (λ r is. refl) (λ r is. refl) ours.schema ours.held.booking shown)
+shows_all_booking old new rows ours = shows_all booking_form booking_facts all_booking_text booking_columns booking_names old new rows all_booking_is (λ r is. refl) ours.schema ours.held.booking
 
 pub shows_all_error : (old new : State) (rows : List Row) → IsOurs old.now → Shown all_error_text [] old new rows → IsPermutation ((tables_in old.now.trees).errorlog) (map (λ r. error_in (Null ∷ r)) rows)
 unfolding tables_in
-shows_all_error old new rows ours shown =
-    subst (λ xs. IsPermutation xs (map (λ r. error_in (Null ∷ r)) rows)) (filter_all_true _)
-    (finds_rows error_form error_facts all_error_text [] error_columns error_names [] old new (λ _. true) rows all_error_is (λ r is. refl) (λ r is. refl) ours.schema ours.held.errorlog shown)
+shows_all_error old new rows ours = shows_all error_form error_facts all_error_text error_columns error_names old new rows all_error_is (λ r is. refl) ours.schema ours.held.errorlog
 
 pub shows_room_booking : (room : texts.Text) (old new : State) (rows : List Row) → IsOurs old.now → Shown room_booking_text (Text room ∷ []) old new rows
     → IsPermutation (picked_bookings room None (tables_in old.now.trees)) (map (λ r. booking_in (Null ∷ r)) rows)

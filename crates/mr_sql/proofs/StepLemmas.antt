@@ -150,9 +150,6 @@ error_step old new xs ours turns =
 pub keeps_then : (a b c : State) → KeepsCommit a b → KeepsCommit b c → KeepsCommit a c
 keeps_then a b c p q = record { was_open = λ now. p.was_open (q.was_open now); committed = λ now. q.committed now ∙ p.committed (q.was_open now) }
 
-pub step_then : (a b c : State) (t more : Tables) → IsStep a b t → IsStep b c more → IsStep a c more
-step_then a b c t more p q = record { ours = q.ours; tables_are = q.tables_are; committed = q.committed ∙ p.committed; within = q.within }
-
 pub none_commits : (a b c : State) → Survives a b (λ _. ⊥) → Survives b c (λ _. ⊥) → Survives a c (λ _. ⊥)
 none_commits a b c = survives_then a b c (λ _. ⊥) (λ _. ⊥) (λ _. ⊥) (λ _ db none. none) (λ _ db none. none)
 

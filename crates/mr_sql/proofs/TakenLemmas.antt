@@ -100,19 +100,12 @@ finds trees m old new taken ours same rows meta = record {
   meta = ap (λ (db : Database). (tables_in db.trees).meta) same.0 ∙ meta_is_found old.now.trees m meta;
 }
 
-pub resumes : (server primary : ℕ) (trees : Trees) (m : MetaRow) (s : State) → IsFound trees m s → m.server ≡ server → m.primary ≡ primary → IsKept s × IsAdopted server primary trees s.now.trees
-resumes server primary trees m s found a b =
-    (found.kept, inr (found.sound, found.trees_are, ap (λ (m : MetaRow). m.server) found.meta ∙ a, ap (λ (m : MetaRow). m.primary) found.meta ∙ b))
-
 pub begins : (server primary : ℕ) (trees : Trees) (old new : State) → IsTaken trees old → old.now.schema ≡ no_schema → IsKept new → Stands (tables_in new.now.trees) (opening server primary) → IsKept new × IsAdopted server primary trees new.now.trees
 begins server primary trees old new taken none kept stands = (kept, inl (subst₂ (λ schema db. IsSound schema db) none taken.trees_are taken.sound, stands))
 
 -- what was taken over and stayed has its rows
 pub stays : (trees : Trees) (old new : State) → IsTaken trees old → (new.now ≡ old.now) × (new.committed ≡ old.committed) → StaysAs trees new
 stays trees old new taken same = (ap (λ (db : Database). db.trees) same.0 ∙ taken.trees_are, same.0 ∙ taken.settled ∙ sym same.1)
-
-pub found_stays : (trees : Trees) (m : MetaRow) (s : State) → IsFound trees m s → StaysAs trees s
-found_stays trees m s found = (found.trees_are, found.kept.settled)
 
 -- what a crash may leave of a keeper's database is its tables alone
 pub alone : (s : State) → IsKept s → ((db : Trees) → s.may_leave db → db ≡ s.committed.trees) → LeavesTables s
