@@ -22,7 +22,7 @@ use Rattle.mr_store.specs.Picked.{is_asked, picked_bookings, booking_before, Are
 use Rattle.mr_sql.specs.Kept.{first_meta, tables_in}
 use Rattle.mr_sql.specs.Cells.{meta_in, booking_in, error_in}
 use Rattle.mr_sql.proofs.KeyOrder.{ordered_in_order}
-use Rattle.mr_sql.proofs.ValueLemmas.{among_one}
+use Rattle.mr_sql.proofs.ValueLemmas.{among_one, or_false}
 use Rattle.mr_store.specs.declared.keeper.PlaceRow.TheVariants.{Booked, Logged}
 use Rattle.mr_sql.specs.Reads.{metas_in, date_cmp, time_cmp, first_of, AreRowsOf, logged_in, chosen}
 
@@ -121,10 +121,6 @@ of_has (y ∷ xs) x (inr h) = inr (of_has xs x h)
 
 has_moved : {X : Type 0} (xs ys : List X) (x : X) → IsPermutation xs ys → Has x xs → Has x ys
 has_moved xs ys x same h = has_of ys x (has_contained ys x (Contains-permutation xs ys x same (contains_had xs x (of_has xs x h))))
-
-or_false : (b : Bool) → (b || false) ≡ b
-or_false true = refl
-or_false false = refl
 
 -- the first of the rows that a query shows of an id is the one that the table has
 found : {R : Type 0} (key : R → Id) (id : Id) (table shown : List R) → OneAKey key table → IsPermutation (filter (λ r. is_among (key r) (id ∷ [])) table) shown → first_of shown ≡ find (λ r. same_id (key r) id) table

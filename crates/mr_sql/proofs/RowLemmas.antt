@@ -17,13 +17,9 @@ use Rattle.sqlite_rules.specs.Edit.{id_in, next_rowid, without_all}
 use Rattle.sqlite_rules.proofs.ListLemmas.{all_has, some_has, some_from}
 use Rattle.sqlite_rules.proofs.TableLemmas.{int_is}
 use Rattle.sqlite_rules.proofs.PlaceLemmas.{Tied, tied_same}
+use Rattle.mr_model.proofs.TwinTables.{bool_same}
 use Rattle.mr_sql.specs.Shelf.{IsShelf}
 
-pub both_ways : (a b : Bool) → (a ≡ true → b ≡ true) → (b ≡ true → a ≡ true) → a ≡ b
-both_ways true true f g = refl
-both_ways true false f g = sym (f refl)
-both_ways false true f g = g refl
-both_ways false false f g = refl
 
 pub filter_same : {X : Type 0} (p q : X → Bool) (xs : List X) → ((x : X) → Has xs x → p x ≡ q x) → filter p xs ≡ filter q xs
 filter_same p q [] h = refl
@@ -56,7 +52,7 @@ pub removed : (rows : List Row) (gone : List ℤ) (test : Row → Bool) → IsSh
     → ((id : ℤ) → Has gone id → (r : Row) × Has rows r × (test r ≡ true) × (rowid r ≡ Int id))
     → ((r : Row) → Has rows r → test r ≡ true → Has gone (id_in (rowid r)))
     → without_all rows gone ≡ filter (λ r. not (test r)) rows
-removed rows gone test shelf sound complete = without_is rows gone ∙ filter_same _ _ rows (λ r here. ap not (both_ways _ _ (out r here) (back r here)))
+removed rows gone test shelf sound complete = without_is rows gone ∙ filter_same _ _ rows (λ r here. ap not (bool_same _ _ (out r here) (back r here)))
   where
     out : (r : Row) → Has rows r → list_any (λ id. has_rowid id r) gone ≡ true → test r ≡ true
     out r here some =

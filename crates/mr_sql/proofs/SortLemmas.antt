@@ -19,7 +19,9 @@ use Rattle.mr_model.specs.Queries.{booking_id, error_id}
 use Rattle.mr_model.specs.Changes.{IdBefore}
 use Rattle.mr_replica.specs.Change.{id_before, log_id, undo_id}
 use Rattle.mr_replica.proofs.Putting.{IsOrder, InOrder, id_before-true}
-use Rattle.mr_sql.specs.Reads.{id_cmp, time_cmp}
+use Rattle.mr_base.specs.Ids.{id_cmp}
+use Rattle.mr_replay.proofs.Ids.{ids_total}
+use Rattle.mr_sql.specs.Reads.{time_cmp}
 use Rattle.sqlite_trees.specs.Tree.{Trees}
 use Rattle.mr_replica.proofs.Putting.{id_order, number_order, name_order}
 use Rattle.mr_sql.specs.Cells.{room_in, vector_in, log_in, undo_in, booking_in, error_in}
@@ -34,20 +36,17 @@ name_total = nat_list_cmp_total
 pub server_total : IsTotalOrder (λ (a b : VectorRow). nat_cmp a.server b.server)
 server_total = on_total (λ (a : VectorRow). a.server) nat_cmp_total
 
-id_total : IsTotalOrder id_cmp
-id_total = then_total (on_total (λ (a : Id). a.server) nat_cmp_total) (on_total (λ (a : Id). a.n) nat_cmp_total)
-
 pub log_total : IsTotalOrder (λ (a b : LogRow). id_cmp (log_id a) (log_id b))
-log_total = on_total log_id id_total
+log_total = on_total log_id ids_total
 
 pub undo_total : IsTotalOrder (λ (a b : UndoRow). id_cmp (undo_id a) (undo_id b))
-undo_total = on_total undo_id id_total
+undo_total = on_total undo_id ids_total
 
 pub booking_total : IsTotalOrder (λ (a b : BookingRow). id_cmp (booking_id a) (booking_id b))
-booking_total = on_total booking_id id_total
+booking_total = on_total booking_id ids_total
 
 pub error_total : IsTotalOrder (λ (a b : ErrorRow). id_cmp (error_id a) (error_id b))
-error_total = on_total error_id id_total
+error_total = on_total error_id ids_total
 
 pub time_total : IsTotalOrder time_cmp
 time_total =

@@ -44,9 +44,6 @@ first_of (x ∷ xs) = Some x
 abbrev pub metas_in : Trees → List MetaRow
 metas_in trees = in_order meta_form (trees 0)
 
-abbrev pub id_cmp : Id → Id → Ordering
-id_cmp a b = ordering_then (nat_cmp a.server b.server) (nat_cmp a.n b.n)
-
 abbrev pub date_cmp : Date → Date → Ordering
 date_cmp a b = ordering_then (nat_cmp a.year b.year) (ordering_then (nat_cmp a.month b.month) (nat_cmp a.day b.day))
 

@@ -4,10 +4,10 @@ ghost use Rattle.std.specs.Ordering.{nat_cmp};
 ghost use Rattle.mr_model.specs.Texts.{Text};
 ghost use Rattle.mr_model.specs.Writes.{Id};
 ghost use Rattle.mr_model.specs.Queries.{booking_id, error_id};
+ghost use Rattle.mr_base.specs.Ids.{id_cmp};
 ghost use Rattle.mr_replica.specs.Change.{log_id, undo_id};
 ghost use Rattle.mr_sql.specs.Form.{room_form, vector_form, log_form, undo_form, booking_form, error_form};
 ghost use Rattle.mr_sql.specs.Parts.{take_logs, take_undos, take_bookings, take_errors, put_rooms, put_vector, put_logs, put_undos, put_bookings, put_errors};
-ghost use Rattle.mr_sql.specs.Reads.{id_cmp};
 ghost use Rattle.mr_sql.specs.TakeLaws.{logs_none, undos_none, bookings_none, errors_none, logs_more, undos_more, bookings_more, errors_more};
 
 use crate::cells::{
