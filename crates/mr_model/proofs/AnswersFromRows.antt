@@ -12,7 +12,7 @@ use Rattle.mr_model.specs.Replay.{Place, Taken, Logged, slot_at}
 use Rattle.mr_model.specs.Replica.{Replica, is_committed, committed, tentative, order_of, knows_room, IsReplica}
 use Rattle.mr_model.specs.Replies.{Entry, NotBooked, OutcomeIs, Refused}
 use Rattle.mr_model.specs.View.{of_room, view_of, Told, whole_list, committed_list, entry_with, entry_of, by_start, entries, logging_of, outcome_with, told_of, outcome_reply}
-use Rattle.mr_model.specs.Tables.{BookingRow, ErrorRow, by_id, place_of, seq_of, booking_row, error_row_at, error_row, tables_of}
+use Rattle.mr_model.specs.Tables.{BookingRow, ErrorRow, by_id, place_of, booking_row, error_row_at, error_row, tables_of}
 use Rattle.mr_model.specs.Step.{Submission, submit_faults, next_stamp, write_of, outcome_at}
 use Rattle.mr_model.specs.Dropped.{Has}
 use Rattle.mr_model.specs.Board.{after}

@@ -16,10 +16,10 @@ use Rattle.mr_model.specs.Board.{after, RoomBooking, place_on, booked_on, replay
 use Rattle.mr_model.specs.Dropped.{Has}
 use Rattle.mr_model.specs.Changes.{IsNext}
 use Rattle.mr_model.proofs.OrderedSets.{before-true, Before, greatest_bound}
-use Rattle.mr_model.proofs.Members.{has_left, has_right, has_split, has_filter, filter_has, has_filter_map, filter_map_has, has_map, map_has, all_has, has_all, has_among, among_has, among_not, not_among, Distinct, distinct_parts, same_id-true, same_id_refl}
+use Rattle.mr_model.proofs.Members.{has_left, has_right, has_map, all_has, has_all, among_not, Distinct, distinct_parts, same_id-true, same_id_refl}
 use Rattle.mr_model.proofs.KnownById.{with_id, tentative_known, distinct_order}
 use Rattle.mr_model.proofs.ToldInOrder.{told_among, replay-append}
-use Rattle.mr_model.proofs.RoomPlaces.{room_list, told}
+use Rattle.mr_model.proofs.RoomPlaces.{told}
 use Rattle.mr_model.proofs.RowsTell.{room-told}
 use Rattle.mr_model.proofs.RoomsApart.{rooms_apart}
 use Rattle.mr_model.proofs.TwinChanges.{committed-with, tentative-add_write, tentative-commits, with_commits, added}

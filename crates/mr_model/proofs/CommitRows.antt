@@ -11,7 +11,7 @@ use Rattle.mr_model.specs.Changes.{first_tentative, after_commit, CommitChanges}
 use Rattle.mr_model.proofs.Members.{among_not}
 use Rattle.mr_model.proofs.KnownById.{committed_known, distinct_commits}
 use Rattle.mr_model.proofs.RowsById.{by_id_has, map_filter, seq_not, seq_at}
-use Rattle.mr_model.proofs.TwinTables.{kept_undo, bool_same, among-append}
+use Rattle.mr_model.proofs.TwinTables.{kept_undo, among-append}
 use Rattle.mr_model.proofs.TwinChanges.{seq_front}
 use Rattle.mr_model.proofs.CommandPlaces.{committed-commit, order-commit, place-commit}
 use Rattle.mr_model.proofs.UniqueReplay.{some_inj, none_some}

@@ -1,8 +1,7 @@
 -- What is within the limits is read back from its text, so that no text is that of two values.
 use Rattle.std.proofs.Common.{◌≡◌, refl, ap, ◌∙◌, ℕ, suc, ◌+◌, ◌-◌, ◌*◌, ◌^◌, ◌<◌, ◌≤◌, min, true, not, ◌&&◌, ◌||◌, eqb, leb, List, [], ◌∷◌, ◌++◌, length, take, ◌⊎◌, inl, inr, arith, IsTrue, add-one, lit≤, lit<, eqb-true, leb-true, length-append}
 use Rattle.std.proofs.lemmas.Bool.{and_parts, or_cases}
-use Rattle.std.specs.Prelude.{codes, flat_map, option_map}
-use Rattle.std.specs.Str.{bytes_eq}
+use Rattle.std.specs.Prelude.{codes, flat_map}
 use Rattle.std.specs.Fmt.{decimal}
 use Rattle.std.specs.List.{AllByRecursion, list_all}
 use Rattle.mr_model.specs.Texts.{Text, words, within, first_word, after_word, behind, word_at, number_in, number_at}

@@ -3,11 +3,10 @@ use Rattle.std.proofs.Common.{◌≡◌, refl, sym, ap, ◌∙◌, subst, ◌+�
 use Rattle.std.proofs.lemmas.Bool.{cases_eq, not-false}
 use Rattle.std.specs.List.{AllByRecursion}
 use Rattle.mr_model.specs.Texts.{only_if}
-use Rattle.mr_model.specs.Writes.{Id, Write, id_of, is_server}
+use Rattle.mr_model.specs.Writes.{Id, Write, id_of}
 use Rattle.mr_model.specs.Refusals.{Refusal, NotPrimary, PrimaryKeepsAll, BeyondCommitted, BadRoomName, RoomThere, first_refusal}
 use Rattle.mr_model.specs.Replica.{Replica, writes_of, count_of, last_time, clock_of, with_write, add_write, tentative, knows_room, IsReplica}
-use Rattle.mr_model.specs.Replies.{Reply, Took, BatchIs, Refused}
-use Rattle.mr_model.specs.Step.{Command, AddRoom, Submit, Receive, Commit, Truncate, AskPosition, BatchFor, Ask, After, step, step_unless, write_of, submit_faults, submit, receive_under, receive_read, after_items, items_for, batch_of, batch_unless, batch_reply}
+use Rattle.mr_model.specs.Step.{Command, AddRoom, Submit, Receive, Commit, Truncate, AskPosition, BatchFor, Ask, After, step, step_unless, write_of, submit_faults}
 use Rattle.mr_model.specs.World.{World}
 use Rattle.mr_model.specs.Honest.{IsFront, accepted, commit_list, IsLocal}
 use Rattle.mr_model.proofs.OrderedSets.{all_map, Follows, others-with_write, own-with_write, greatest_of_server}

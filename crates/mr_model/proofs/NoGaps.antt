@@ -1,11 +1,11 @@
 -- A batch for a replica's position has no gap for that replica, nor for what it becomes.
-use Rattle.std.proofs.Common.{◌≡◌, refl, sym, ap, ◌∙◌, subst, ℕ, zero, suc, ◌+◌, ◌-◌, ◌<◌, ◌≤◌, max, Bool, true, false, not, cond, ◌&&◌, ◌||◌, eqb, ltb, leb, List, [], ◌∷◌, ◌++◌, length, map, take, drop, ◌⊎◌, inl, inr, arith, IsTrue, eqb-true, eq-eqb, ne_eqb, ltb-true, ltb-false, leb-true, Option, Some, None, Result, Ok, Err, length-append, append_assoc}
+use Rattle.std.proofs.Common.{◌≡◌, refl, sym, ap, ◌∙◌, subst, ℕ, zero, suc, ◌+◌, ◌-◌, ◌<◌, ◌≤◌, max, Bool, true, false, not, cond, ◌||◌, eqb, ltb, List, [], ◌∷◌, ◌++◌, length, map, take, drop, ◌⊎◌, inl, inr, arith, IsTrue, eqb-true, eq-eqb, ne_eqb, ltb-false, Some, Result, Ok, Err, length-append, append_assoc}
 use Rattle.std.proofs.lemmas.List.{length-map, length-drop, take-append-drop, drop_all, append-nil}
 use Rattle.std.proofs.lemmas.List.Elements.{filter-append}
 use Rattle.std.proofs.lemmas.Bool.{cases_eq, cases_lt, cond-true, cond-false, true≢false, cond_both}
 use Rattle.std.specs.List.{AllByRecursion, flat_map, slice_get, slice_index, enumerate_from}
 use Rattle.mr_model.specs.Texts.{numbers_on}
-use Rattle.mr_model.specs.Writes.{Id, Write, id_of, is_write, is_server, is_count, is_time}
+use Rattle.mr_model.specs.Writes.{Id, Write, id_of, is_write}
 use Rattle.mr_model.specs.Refusals.{Refusal}
 use Rattle.mr_model.specs.Replica.{Replica, writes_of, count_of, commits_of, committed_count, write_with, is_committed, tentative, IsReplica}
 use Rattle.mr_model.specs.Exchange.{Item, W, C}
@@ -13,7 +13,7 @@ use Rattle.mr_model.specs.Positions.{Position, counts_of, position_of, count_amo
 use Rattle.mr_model.specs.Taking.{Progress, take_item, take_items}
 use Rattle.mr_model.specs.Step.{lacks, item_if_lacked, commit_items, items_for}
 use Rattle.mr_model.specs.Honest.{IsFront}
-use Rattle.mr_model.proofs.Fronts.{front_length, front_filter, front_get, get_end, get-map, get_all}
+use Rattle.mr_model.proofs.Fronts.{front_length, front_filter, front_get, get_end, get-map}
 use Rattle.mr_model.proofs.Histories.{IsHistory, Agrees, IsOf, Extends, extends_refl, extends_trans, counted_at}
 use Rattle.mr_model.proofs.TakingOfHistory.{IsTaken, item_taken}
 use Rattle.mr_model.proofs.CommitsKeep.{has, has_within, tentative_of, drop-numbers_on, filter-all}

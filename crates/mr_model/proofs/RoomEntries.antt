@@ -1,5 +1,5 @@
 -- No two bookings of a room begin together, so that replicas with equal tables answer all questions alike.
-use Rattle.std.proofs.Common.{◌≡◌, refl, sym, ap, ◌∙◌, subst, ℕ, zero, suc, ◌+◌, ◌-◌, ◌<◌, ◌≤◌, min, max, Bool, true, false, not, cond, ◌||◌, ◌&&◌, eqb, ltb, leb, List, [], ◌∷◌, ◌++◌, length, map, ◌⊎◌, inl, inr, Option, Some, None, arith, append-nil, IsTrue, lt-ltb, ltb-true, ltb-false, leb-true, eq-eqb, eqb-true, le_refl}
+use Rattle.std.proofs.Common.{◌≡◌, refl, sym, ap, ◌∙◌, subst, ℕ, ◌+◌, ◌-◌, ◌≤◌, Bool, true, false, not, cond, ◌&&◌, leb, List, [], ◌∷◌, ◌++◌, length, ◌⊎◌, inl, inr, Option, Some, None, arith, append-nil, IsTrue, leb-true, le_refl}
 use Rattle.std.proofs.lemmas.Bool.{true≢false, and_parts, or_parts, false_from_ne_true}
 use Rattle.std.specs.Prelude.{is_none}
 use Rattle.std.specs.List.{filter, filter_map, list_all, list_any}
@@ -9,7 +9,7 @@ use Rattle.mr_model.specs.Calendar.{date_in, read_date, same_date}
 use Rattle.mr_model.specs.Slots.{Slot, overlaps, is_slot}
 use Rattle.mr_model.specs.Writes.{Write, id_of, choices, id_in, is_id_text, is_write, is_room_name, is_length, fits_day, greatest_alternatives}
 use Rattle.mr_model.specs.Refusals.{BadDay, BadRoomName, UnknownRoom, first_refusal}
-use Rattle.mr_model.specs.Replay.{Place, Booking, place_among, slot_at, booking_of, booked_with, replay_among, replay}
+use Rattle.mr_model.specs.Replay.{Place, Booking, place_among, slot_at, booking_of, booked_with, replay}
 use Rattle.mr_model.specs.Replica.{Replica, is_committed, committed, tentative, IsReplica}
 use Rattle.mr_model.specs.Replies.{Entry, Full, Committed, Calendar, Sheet, Errors}
 use Rattle.mr_model.specs.View.{View, of_room, view_of, Told, told_with, whole_list, committed_list, entry_with, entry_of, entries, told_of, Question, AskSheet, AskCalendar, AskOutcome, AskErrors, unless, outcome_reply, answer}

@@ -8,7 +8,7 @@ use Rattle.std.specs.Str.{bytes_eq}
 use Rattle.std.specs.List.{filter, filter_map}
 use Rattle.mr_model.specs.Texts.{Text}
 use Rattle.mr_model.specs.Writes.{Write, id_of, same_id}
-use Rattle.mr_model.specs.Replay.{Place, Booking}
+use Rattle.mr_model.specs.Replay.{Booking}
 use Rattle.mr_model.specs.Replica.{Replica, is_committed, is_dropped, write_with, committed, tentative, order_of, IsReplica}
 use Rattle.mr_model.specs.View.{of_room, view_of, Told, whole_list, told_of}
 use Rattle.mr_model.specs.Tables.{place_or_logged, place_of}

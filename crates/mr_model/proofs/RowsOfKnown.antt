@@ -1,6 +1,6 @@
 -- The rows of tables are those of the known writes; and lists in key order are told by their members.
 use Rattle.std.proofs.Common.{◌≡◌, refl, sym, ap, ◌∙◌, subst, ℕ, ◌≤◌, Bool, true, false, not, eqb, List, [], ◌∷◌, map, inl, inr, Option, Some, arith, eqb-true, eq-eqb}
-use Rattle.std.proofs.lemmas.Bool.{true≢false, and_parts, and_from, or_cases, or_left, or_right, or_parts, or_from, cond-true, cond-false, false_from_ne_true, cases_eq, cond_both}
+use Rattle.std.proofs.lemmas.Bool.{true≢false, cond-true, cond-false, false_from_ne_true}
 use Rattle.std.specs.Prelude.{◌↔◌}
 use Rattle.std.specs.List.{filter, filter_map}
 use Rattle.mr_model.specs.Texts.{numbers_on}
@@ -9,7 +9,7 @@ use Rattle.mr_model.specs.Replica.{Replica, count_of, is_dropped, IsReplica}
 use Rattle.mr_model.specs.Tables.{VectorRow, Tables, by_id, vector_row, log_row, undo_row, booking_row, error_row, tables_of}
 use Rattle.mr_model.specs.Dropped.{Has}
 use Rattle.mr_model.specs.Changes.{IdBefore, RiseById, AreInKeyOrder, HasRowsOfKnown, SameRows, HaveSameRows, AreSameTables}
-use Rattle.mr_model.proofs.Members.{has_left, has_right, has_split, has_filter, filter_has, has_filter_map, filter_map_has, has_map, map_has, all_has, has_all, slice_has, has_among, among_has, among_not, not_among, Distinct, Sorted, sorted_filter, same_id-true, same_id_refl}
+use Rattle.mr_model.proofs.Members.{has_filter, filter_has, has_filter_map, filter_map_has, has_map, map_has}
 use Rattle.mr_model.proofs.RowsById.{has_flat, flat_has, has_numbers, has_by_id, by_id_has}
 use Rattle.mr_model.proofs.TablesTell.{vector_entry, in_row, counted_server}
 use Rattle.mr_model.proofs.RowsTell.{sorted_map}

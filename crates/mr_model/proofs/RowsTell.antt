@@ -18,14 +18,14 @@ use Rattle.mr_model.specs.Dropped.{Has}
 use Rattle.mr_model.specs.Queries.{row_entry, row_logging, RowBefore, both, one, none}
 use Rattle.mr_model.proofs.OrderedSets.{before-true}
 use Rattle.mr_model.proofs.UniqueReplay.{Choice, choice, one_free, none_free, first_free_taken, first_free_logged, none_some}
-use Rattle.mr_model.proofs.Members.{has_left, has_right, has_split, has_filter, filter_has, has_map, map_has, has_filter_map, filter_map_has, has_all, all_has, find_has, Sorted, sorted_same, sorted_filter, same_id-true, same_id_refl, same_id_from, has_among, among_has, among_not, not_among, Distinct}
+use Rattle.mr_model.proofs.Members.{has_left, has_right, has_split, has_filter, filter_has, has_map, has_filter_map, filter_map_has, has_all, all_has, find_has, Sorted, sorted_same, sorted_filter, same_id-true, same_id_refl, among_has, among_not, Distinct}
 use Rattle.mr_model.proofs.KnownById.{partner, committed_ids, committed_known, tentative_known, tentative_sorted, distinct_commits}
 use Rattle.mr_model.specs.Board.{after}
 use Rattle.mr_model.proofs.ToldInOrder.{told_among, told_id, told-writes, told_here}
 use Rattle.mr_model.proofs.RoomPlaces.{room_list, room-list, told, room_told, told_room, known_in_order, distinct_room, room_true, room_from}
 use Rattle.mr_model.proofs.RowsById.{seq_not, seq_has}
 use Rattle.mr_model.proofs.TablesTell.{booked_as, booked_row, row_booked, logged_as, logged_row}
-use Rattle.mr_model.proofs.TwinTables.{bool_same, same_booking, same_error, same_committed}
+use Rattle.mr_model.proofs.TwinTables.{same_booking, same_error, same_committed}
 use Rattle.mr_model.proofs.TwinTaking.{Twins}
 
 -- ---- each known write has a row

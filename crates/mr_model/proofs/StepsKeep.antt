@@ -3,7 +3,7 @@ use Rattle.std.proofs.Common.{◌≡◌, refl, ℕ, ◌+◌, ◌≤◌, max, Boo
 use Rattle.std.proofs.lemmas.List.{length-map}
 use Rattle.std.proofs.lemmas.Bool.{true≢false, and_parts, and_from, or_parts, not-false, eqb-false}
 use Rattle.std.specs.Str.{bytes_eq}
-use Rattle.std.specs.List.{AllByRecursion, filter, list_any, list_all}
+use Rattle.std.specs.List.{AllByRecursion, list_any, list_all}
 use Rattle.mr_model.specs.Texts.{Text, only_if, within, number_in}
 use Rattle.mr_model.specs.Calendar.{is_date, date_in, date_text, read_date, time_in, time_text, read_time}
 use Rattle.mr_model.specs.Slots.{is_slot}

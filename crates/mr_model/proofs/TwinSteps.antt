@@ -1,7 +1,7 @@
 -- Each step of two replicas that differ in dropped writes alone leaves two such replicas, and most replies are plainly the same.
 use Rattle.std.proofs.Common.{◌≡◌, refl, sym, ap, ◌∙◌, subst, ℕ, zero, suc, ◌+◌, ◌-◌, ◌≤◌, max, Bool, true, false, not, cond, eqb, ltb, List, [], ◌∷◌, ◌++◌, length, map, take, drop, inl, inr, Option, Some, None, Result, Ok, Err, arith, ltb-false, le_refl}
 use Rattle.std.specs.Prelude.{flat_map}
-use Rattle.std.specs.List.{AllByRecursion, filter, slice_get, list_any, enumerate_from}
+use Rattle.std.specs.List.{AllByRecursion, list_any, enumerate_from}
 use Rattle.std.specs.Str.{bytes_eq}
 use Rattle.mr_model.specs.Texts.{Text, only_if, numbers_on}
 use Rattle.mr_model.specs.Writes.{Id, Write, id_of, is_room_name, is_title, greatest_count, greatest_time, greatest_alternatives}
@@ -11,7 +11,7 @@ use Rattle.mr_model.specs.Exchange.{Item, C, Header, Batch, read_batch}
 use Rattle.mr_model.specs.Positions.{Position, counts_of, position_of}
 use Rattle.mr_model.specs.Taking.{Progress, take_items}
 use Rattle.mr_model.specs.Replies.{Reply, Took, CommittedIs, DroppedIs, Refused}
-use Rattle.mr_model.specs.Step.{Command, AddRoom, Submit, Receive, Commit, Truncate, AskPosition, BatchFor, Ask, After, Submission, refuse, step_unless, add_room, submit_faults, next_stamp, write_of, outcome_at, after_write, submit, after_items, receive_under, receive_batch, receive_read, receive, commit, truncate, lacks, item_if_lacked, commit_items, items_for, ending_of, batch_of, batch_reply, reply_to_position, leave, step}
+use Rattle.mr_model.specs.Step.{After, Submission, refuse, step_unless, add_room, submit_faults, write_of, outcome_at, after_write, submit, after_items, receive_under, receive_read, receive, commit, truncate, item_if_lacked, commit_items, items_for, ending_of, batch_of, batch_reply, reply_to_position, leave}
 use Rattle.mr_model.specs.Dropped.{Has, DifferInDropped}
 use Rattle.mr_model.specs.Changes.{IsNext}
 use Rattle.mr_model.proofs.TakingKeeps.{IsItem, BatchWithin, batch_within}

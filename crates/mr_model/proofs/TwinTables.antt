@@ -3,20 +3,20 @@ use Rattle.std.proofs.Common.{◌≡◌, refl, sym, ap, ◌∙◌, subst, ℕ, �
 use Rattle.std.proofs.lemmas.Bool.{cond-true, cond-false}
 use Rattle.std.proofs.lemmas.List.{length-take}
 use Rattle.std.specs.Prelude.{flat_map}
-use Rattle.std.specs.List.{AllByRecursion, filter, filter_map, find, cons_option, slice_get, list_any}
+use Rattle.std.specs.List.{filter_map, cons_option}
 use Rattle.mr_model.specs.Texts.{Text, numbers_on}
 use Rattle.mr_model.specs.Slots.{Slot, overlaps}
 use Rattle.mr_model.specs.Writes.{Id, Write, id_of, same_id}
 use Rattle.mr_model.specs.Replay.{Place, Taken, Logged, Booking, slot_at}
 use Rattle.mr_model.specs.Replica.{Replica, is_among, is_committed, is_dropped, write_with, tentative, IsReplica}
 use Rattle.mr_model.specs.View.{Told, of_room, told_of}
-use Rattle.mr_model.specs.Tables.{MetaRow, VectorRow, LogRow, UndoRow, BookingRow, ErrorRow, Tables, by_id, seq_among, seq_of, place_or_logged, place_of, vector_row, log_row, undo_row, booking_row_at, booking_row, error_row_at, error_row, tables_of}
+use Rattle.mr_model.specs.Tables.{UndoRow, BookingRow, Tables, by_id, seq_among, seq_of, place_or_logged, place_of, vector_row, log_row, undo_row, booking_row_at, booking_row, error_row_at, error_row, tables_of}
 use Rattle.mr_model.specs.Dropped.{Has, DifferInDropped}
 use Rattle.mr_model.proofs.UniqueReplay.{meets, some_inj}
-use Rattle.mr_model.proofs.Members.{has_left, has_right, has_split, has_filter, filter_has, same_id-true, same_id_refl, has_among, among_has, among_not, not_among, Distinct, distinct_parts, take_drop}
+use Rattle.mr_model.proofs.Members.{has_left, has_filter, filter_has, not_among, Distinct, distinct_parts, take_drop}
 use Rattle.mr_model.proofs.KnownById.{partner, with_known, distinct_commits}
 use Rattle.mr_model.specs.Board.{after}
-use Rattle.mr_model.proofs.ToldInOrder.{told_among, told_id, Alike, alike_told, alike_after, after-taken, all_taken, meets_told, told_meets}
+use Rattle.mr_model.proofs.ToldInOrder.{told_among, told_id, Alike, alike_told, alike_after, after-taken, meets_told, told_meets}
 use Rattle.mr_model.proofs.RoomPlaces.{dropped_writes, kept_committed, told, room_told, has_told, room_from, dropped_board, dropped_list, later_list, list-parts, known_dropped, dropped_known, place-later}
 use Rattle.mr_model.proofs.RowsById.{Paired, rows_from_pairs, map_filter, seq_behind}
 use Rattle.mr_model.proofs.TablesTell.{kept_log, booked_as, booked_row, row_booked}

@@ -6,7 +6,7 @@ use Rattle.mr_model.specs.Texts.{Text, only_if}
 use Rattle.mr_model.specs.Calendar.{date_in, read_date}
 use Rattle.mr_model.specs.Writes.{Id, Write, id_of, is_room_name, stamp_before}
 use Rattle.mr_model.specs.Refusals.{Refusal, BadDay, BadRoomName, RoomThere, PrimaryKeepsAll, BeyondCommitted, UnknownRoom, NotPrimary, WrongPrimary, Truncated, Gap, OutOfMemory, first_refusal}
-use Rattle.mr_model.specs.Replica.{Replica, writes_of, tentative, knows_room, with_room, AreInStampOrder, IsReplica}
+use Rattle.mr_model.specs.Replica.{Replica, writes_of, tentative, knows_room, with_room, AreInStampOrder}
 use Rattle.mr_model.specs.Exchange.{W, C, Batch, ReadsAs, read_batch}
 use Rattle.mr_model.specs.Positions.{Position, position_of, read_position}
 use Rattle.mr_model.specs.Replies.{Reply, Refused, BatchIs, RoomAdded, DroppedIs, CommittedIs, Sheet, Calendar, Errors}

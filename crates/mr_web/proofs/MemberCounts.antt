@@ -1,5 +1,5 @@
 -- Bodies, the data that they are read as, and how many members an object has.
-use Rattle.std.proofs.Common.{◌≡◌, ◌∙◌, ℕ, suc, List, [], ◌∷◌, length, Bool, true, false, ◌⊎◌, inl, inr, Option, Some, None, Result, Err, String, refl, ap, unwrap_or, ok_or, option_and_then}
+use Rattle.std.proofs.Common.{◌≡◌, ◌∙◌, ℕ, suc, List, [], ◌∷◌, length, Bool, true, inl, inr, Option, Some, None, Result, Err, String, refl, ap, unwrap_or, ok_or, option_and_then}
 use Rattle.std.specs.Prelude.{if◌then◌else◌, IsUtf8}
 use Rattle.std.specs.Str.{is_utf8}
 use Rattle.std.proofs.lemmas.Str.{IsUtf8-from_is_utf8, is_utf8-from_IsUtf8}

@@ -1,5 +1,5 @@
 use Rattle.std.proofs.Common.{sym, subst, List}
-use Rattle.mr_model.specs.World.{Add, StepReply}
+use Rattle.mr_model.specs.World.{Add}
 use Rattle.mr_model.specs.World as model
 use Rattle.mr_service.specs.Stepping.{step_reply_of}
 use Rattle.mr_service.specs.Worlds.{MemberView, StandsForMember, TakesWorldStep, primary_in}
