@@ -42,6 +42,16 @@ fn place(
     }
 }
 
+/// Whether the desk that is loaded has the position of the two requests.
+fn has_position(keeper: &mut SqlKeeper<MemStore>) -> Result<bool, Refusal> {
+    let Ok(desk) = keeper.load() else {
+        return Err(Refusal::Store);
+    };
+    let position = desk.position()?;
+    let counts = &position.counts;
+    Ok(position.commits == 0 && counts.len() == 1 && counts[0].1 == 2)
+}
+
 /// Whether the keeper has the rows of the change, and no others.
 pub(crate) fn has_all(keeper: &mut SqlKeeper<MemStore>, alloc: Global) -> Result<bool, Refusal> {
     let oak = RoomName::new(alloc, "oak")?;
@@ -52,5 +62,5 @@ pub(crate) fn has_all(keeper: &mut SqlKeeper<MemStore>, alloc: Global) -> Result
     let places = place(keeper, &oak, 1)? == (1, true)
         && place(keeper, &oak, 2)? == (2, false)
         && place(keeper, &oak, 3)? == (0, false);
-    Ok(lists && days && places && keeper.load().is_ok())
+    Ok(lists && days && places && has_position(keeper)?)
 }
