@@ -10,6 +10,7 @@
 //! - Exchange, Positions: batches and positions, their texts, and what is read of a text; Taking: what each line of a batch does;
 //! - Replies, View, Step: replies and their bytes, answers about a room, and each command's step;
 //! - Tables, Serving: the rows that stand for a replica, and what commands do to them;
+//! - Scopes: the rows of the tables that a command needs; RowsInScope, RowsRead, Moving: what these tell, and what a batch moves;
 //! - World, Honest: replicas that exchange batches, and what holds of such worlds; Http: requests served over HTTP.
 //!
 //! The laws are statements in specs/Laws and specs/WorldLaws, in words of Dropped, Changes, Kept and Queries. Each stands on
@@ -20,6 +21,7 @@
 
 pub mod replicas;
 pub mod rooms;
+pub mod scopes;
 pub mod tables;
 pub mod texts;
 pub mod worlds;

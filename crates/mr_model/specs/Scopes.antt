@@ -1,0 +1,116 @@
+-- Scopes: which rows of a replica's tables a command needs, beside those of meta, vector and room, which it always has.
+use Rattle.std.specs.Prelude.{ℕ, ◌+◌, Bool, false, not, ◌&&◌, ◌||◌, if◌then◌else◌, ◌==◌, nat_lt, List, [], ◌∷◌, length, take, map, filter, flat_map, bytes_eq}
+use Rattle.std.specs.List.{list_any}
+use Rattle.mr_model.specs.Texts.{Text, within}
+use Rattle.mr_model.specs.Writes.{Id, id_of, same_id}
+use Rattle.mr_model.specs.Replica.{is_among}
+use Rattle.mr_model.specs.Exchange.{Item, W, C}
+use Rattle.mr_model.specs.Tables.{LogRow, UndoRow, BookingRow, Tables}
+
+-- what a command needs: one case for each kind of them
+pub data Scope : Type 0 where
+  Nothing : Scope  -- a room more; the position
+  InRoom : (room : Text) → Scope  -- a submission for the room
+  NextCommits : (count : ℕ) → Scope  -- a commit of so many
+  UpTo : (number : ℕ) → Scope  -- a truncation to this commit number
+  Above : (commits : ℕ) → Scope  -- a batch for a position with so many commits
+  OfItems : (items : List Item) → Scope  -- a batch that is received
+
+-- ---- rows
+
+abbrev pub log_row_id : LogRow → Id
+log_row_id row = record { server = row.server; n = row.n }
+
+abbrev pub undo_row_id : UndoRow → Id
+undo_row_id row = record { server = row.server; n = row.n }
+
+abbrev pub is_tentative : LogRow → Bool
+is_tentative row = row.seq == 0
+
+-- the order of stamps
+abbrev pub time_before : ℕ → ℕ → ℕ → ℕ → Bool
+time_before time server other_time other_server = nat_lt time other_time || (time == other_time && nat_lt server other_server)
+
+abbrev pub row_before : LogRow → LogRow → Bool
+row_before a b = time_before a.time a.server b.time b.server
+
+abbrev pub put_row : LogRow → List LogRow → List LogRow
+put_row x [] = x ∷ []
+put_row x (y ∷ ys) = if row_before x y then x ∷ y ∷ ys else y ∷ put_row x ys
+
+-- these rows in the order of stamps
+abbrev pub by_stamp : List LogRow → List LogRow
+by_stamp [] = []
+by_stamp (x ∷ xs) = put_row x (by_stamp xs)
+
+-- ---- a batch
+
+abbrev pub item_id : Item → Id
+item_id (W w) = id_of w
+item_id (C seq id) = id
+
+abbrev pub has_number : ℕ → Item → Bool
+has_number n (W w) = false
+has_number n (C seq id) = seq == n
+
+-- the row is of a write that the batch names: by its id, or by its commit number
+abbrev pub is_named : List Item → LogRow → Bool
+is_named items row = is_among (log_row_id row) (map item_id items) || (not (is_tentative row) && list_any (has_number row.seq) items)
+
+-- a commit that is not known yet, where so many are
+abbrev pub is_new_commit : ℕ → Item → Bool
+is_new_commit commits (W w) = false
+is_new_commit commits (C seq id) = nat_lt commits seq
+
+-- this place in the order of stamps is at or behind that of a write of the batch
+abbrev pub is_behind_item : ℕ → ℕ → Item → Bool
+is_behind_item time server (W w) = not (time_before time server w.stamp.time w.stamp.server)
+is_behind_item time server (C seq id) = false
+
+-- The places whose tentative writes may have to be executed anew: all of them where the batch has a new commit, else those at or
+-- behind its first write.
+abbrev pub is_late : ℕ → List Item → ℕ → ℕ → Bool
+is_late commits items time server = list_any (is_new_commit commits) items || list_any (is_behind_item time server) items
+
+abbrev pub is_in_tail : ℕ → List Item → LogRow → Bool
+is_in_tail commits items row = is_tentative row && is_late commits items row.time row.server
+
+-- the rooms whose writes the batch may move: those of its writes, and those of the kept writes which its new commits name
+abbrev pub rooms_of_item : ℕ → List LogRow → Item → List Text
+rooms_of_item commits rows (W w) = w.room ∷ []
+rooms_of_item commits rows (C seq id) =
+    if nat_lt commits seq then map (λ row. row.room) (filter (λ row. same_id (log_row_id row) id) rows) else []
+
+abbrev pub touched_rooms : Tables → List Item → List Text
+touched_rooms t items = flat_map (rooms_of_item t.meta.commits t.write_log) items
+
+abbrev pub is_touched : Tables → List Item → Text → Bool
+is_touched t items room = list_any (bytes_eq room) (touched_rooms t items)
+
+-- ---- the tables with the rows in scope alone
+
+-- these rows of write_log with their rows of undo, and these bookings
+abbrev pub with_logs : Tables → List LogRow → List BookingRow → Tables
+with_logs t logs bookings =
+    record t {
+      write_log = logs;
+      undo = filter (λ u. is_among (undo_row_id u) (map log_row_id logs)) t.undo;
+      booking = bookings;
+      errorlog = [];
+    }
+
+abbrev pub in_scope : Scope → Tables → Tables
+in_scope Nothing t = with_logs t [] []
+in_scope (InRoom room) t = with_logs t [] (filter (λ b. bytes_eq b.room room) t.booking)
+in_scope (NextCommits k) t = with_logs t (take k (by_stamp (filter is_tentative t.write_log))) []
+in_scope (UpTo d) t = with_logs t (filter (λ row. within 1 d row.seq) t.write_log) []
+in_scope (Above commits) t =
+    record (with_logs t [] []) { write_log = filter (λ row. is_tentative row || nat_lt commits row.seq) t.write_log }
+in_scope (OfItems items) t =
+    with_logs t
+    (filter (λ row. is_named items row || (is_in_tail t.meta.commits items row && is_touched t items row.room)) t.write_log)
+    (filter (λ b. is_touched t items b.room) t.booking)
+
+-- how many rows these are
+abbrev pub counted_rows : Tables → ℕ
+counted_rows t = length t.write_log + length t.undo + length t.booking + length t.errorlog
