@@ -1,5 +1,5 @@
-# What is asked of the program over HTTP: a served database, and databases that exchange. Read by ./test, whose functions
-# and variables are used here.
+# What is asked of the program over HTTP: a served database, and databases that exchange. ./test sources
+# this file; the functions of tests/lib.sh and the variables of ./test are used here.
 
 # serve DB COUNT: a process that serves so many connections, at a port that it could have
 serve() {

@@ -1,7 +1,7 @@
 #!/usr/bin/env python3
-"""A plain form of the scheduler, and scripts that are generated from a seed.
+"""An oracle: a plain form of the scheduler, and scripts that are generated from a seed.
 
-    plain.py SEED LINES REPLICAS SCRIPT EXPECTED
+    oracle.py SEED LINES REPLICAS SCRIPT EXPECTED
 
 writes a script of about that many lines to the file SCRIPT, and to EXPECTED what the program has to print for it. Here a replica
 is the set of the writes that it knows and the list of commits; each answer replays a room's whole list from an empty calendar.

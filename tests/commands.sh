@@ -1,9 +1,9 @@
 # What a replica in a database replies to batches from other hands, worked by hand, and scripts whose lines are commands on
-# databases. Read by ./test, whose functions and variables are used here.
+# databases. ./test sources this file; the functions of tests/lib.sh and the variables of ./test are used here.
 
 # blank SERVER PRIMARY: $database is a replica that knows nothing
 blank() {
-    database=$scratch/rows/$1-$2.db
+    database=$scratch/commands/$1-$2.db
     rm -f -- "$database" "$database"-*
     expect_line "a replica $1 of primary $2" 0 'ok' init "$database" "$1" "$2"
 }
@@ -12,8 +12,8 @@ blank() {
 brings() {
     local name=$1 status=$2 reply=$3
     shift 3
-    printf '%s\n' "$@" > "$scratch/rows/batch"
-    expect_line "$name" "$status" "$reply" import "$database" "$scratch/rows/batch"
+    printf '%s\n' "$@" > "$scratch/commands/batch"
+    expect_line "$name" "$status" "$reply" import "$database" "$scratch/commands/batch"
 }
 
 # has NAME WORD LINE..: the command of this word, with what the lines begin with, prints these lines
@@ -21,8 +21,8 @@ has() {
     local name=$1
     local -a words=($2)
     shift 2
-    printf '%s\n' "$@" > "$scratch/rows/wanted"
-    expect "$name" 0 "$scratch/rows/wanted" "${words[0]}" "$database" "${words[@]:1}"
+    printf '%s\n' "$@" > "$scratch/commands/wanted"
+    expect "$name" 0 "$scratch/commands/wanted" "${words[0]}" "$database" "${words[@]:1}"
 }
 
 alpha='W 1 1 1 oak 30 1995-12-18 09:00 0 Alpha'
@@ -39,8 +39,8 @@ run_repeats() {
     has 'the sheet after a repeat' 'sheet oak 1995-12-18' "${sheet_of_two[@]}"
     has 'the position after a repeat' position "${position_of_two[@]}"
     blank 9 1
-    printf '%s\n' "${two[@]}" | head -c 102 > "$scratch/rows/torn"
-    expect_line 'a batch torn in its second write' 0 'took 1 writes 0 commits' import "$database" "$scratch/rows/torn"
+    printf '%s\n' "${two[@]}" | head -c 102 > "$scratch/commands/torn"
+    expect_line 'a batch torn in its second write' 0 'took 1 writes 0 commits' import "$database" "$scratch/commands/torn"
     brings 'the whole batch after it' 0 'took 1 writes 0 commits' "${two[@]}"
     has 'the sheet after a torn batch' 'sheet oak 1995-12-18' "${sheet_of_two[@]}"
 }
@@ -134,14 +134,14 @@ run_strange() {
 # on_databases NAME SCRIPT EXPECTED: the script, each line a command on a database, is replied as it is over lists
 on_databases() {
     local folder
-    folder=$(mktemp -d "$scratch/rows/XXXXXX")
+    folder=$(mktemp -d "$scratch/commands/XXXXXX")
     python3 tests/on_databases.py "$program" "$2" "$folder" "$scratch/out"
     told "$1" $? 0 "$3"
 }
 
-run_rows() {
+run_commands() {
     local script seed
-    mkdir "$scratch/rows"
+    mkdir "$scratch/commands"
     run_repeats
     run_isolated
     run_forged
@@ -156,7 +156,7 @@ run_rows() {
         on_databases "$script on databases" "$script" "${script%.script}.expected"
     done
     for seed in 21 22 23 24; do
-        python3 tests/plain.py "$seed" 300 $((seed % 4 + 1)) "$scratch/made.script" "$scratch/made.expected" || continue
+        python3 tests/oracle.py "$seed" 300 $((seed % 4 + 1)) "$scratch/made.script" "$scratch/made.expected" || continue
         on_databases "the generated script $seed on databases" "$scratch/made.script" "$scratch/made.expected"
     done
 }
