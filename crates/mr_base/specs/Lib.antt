@@ -1,3 +1,5 @@
+-- A reader of the contracts trusts Refusals, Answers, Ids, Readings, Limits and Batches. The other, Positions, serves private
+-- clauses and proofs alone.
 pub mod Refusals
 pub mod Answers
 pub mod Ids

@@ -1,3 +1,5 @@
+-- A reader of the contracts trusts Faults, Fields, Heads and Inputs. The others, Looks and Lengths, serve private clauses and
+-- proofs alone.
 pub mod Faults
 pub mod Fields
 pub mod Heads

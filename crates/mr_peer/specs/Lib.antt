@@ -1,3 +1,5 @@
+-- A reader of the contracts trusts Asking, Laws, Replies, Requests, Rounds, Steps, Taking and Took. The others, Seen and
+-- TookWords, serve private clauses and proofs alone.
 pub mod Asking
 pub mod Laws
 pub mod Replies

@@ -1,3 +1,4 @@
+-- A reader of the contracts trusts all of these.
 pub mod Places
 pub mod Rows
 pub mod Holds

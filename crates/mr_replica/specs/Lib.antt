@@ -1,3 +1,6 @@
+-- A reader of the contracts trusts Log, Summary, Desk, Steps, Rooms, Candidate, Change, Rows, DeskTables, Turning, Written,
+-- ChangeLaws, KeptRows, SoundRows and SoundLog. The others, Outgoing, Choices, Tallied, Boards and OldErrors, serve private
+-- clauses and proofs alone.
 pub mod Log
 pub mod Summary
 pub mod Desk

@@ -1,3 +1,4 @@
+-- A reader of the contracts trusts Kept, Lists and Picked. The others, Order and Rows, serve private clauses and proofs alone.
 pub mod Kept
 pub mod Lists
 pub mod Order

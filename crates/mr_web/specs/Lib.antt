@@ -1,3 +1,5 @@
+-- A reader of the contracts trusts Asking, Laws, Routes, Steps, Submissions, Views and Words. The others, Plain and Replies,
+-- serve private clauses and proofs alone.
 pub mod Asking
 pub mod Laws
 pub mod Plain

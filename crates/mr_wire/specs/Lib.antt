@@ -1,3 +1,5 @@
+-- A reader of the contracts trusts Words, Fields and Answers. The others, Reading, Lines and Writing, serve private clauses and
+-- proofs alone.
 pub mod Words
 pub mod Fields
 pub mod Reading
