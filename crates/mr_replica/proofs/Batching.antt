@@ -22,7 +22,7 @@ use Rattle.mr_base.specs.declared.batches.Item.{Item}
 use Rattle.mr_base.specs.Batches as base
 use Rattle.mr_base.specs.Batches.{item_of}
 use Rattle.mr_replica.specs.Outgoing.{Offers, committed_items, lacked_items, kept_items, ending_by}
-use Rattle.mr_replica.specs.Summary.{summary_of, committed_len}
+use Rattle.mr_tables.specs.Summary.{summary_of, committed_len}
 use Rattle.mr_replica.proofs.Desks.{committed_kept, tentative_kept}
 
 -- one item more, where there is room

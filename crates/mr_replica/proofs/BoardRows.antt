@@ -19,8 +19,8 @@ use Rattle.mr_replay.specs.Places.{UndoRow}
 use Rattle.mr_replay.specs.Rows.{Rows, place_on, row_of, executed, executed_all, undo_rows_of}
 use Rattle.mr_replay.specs.Holds.{HaveDistinctIds}
 use Rattle.mr_replay.proofs.Ids.{exact_ids}
-use Rattle.mr_replica.specs.Change.{id_before}
-use Rattle.mr_replica.proofs.Putting.{InOrder}
+use Rattle.mr_tables.specs.Change.{id_before}
+use Rattle.mr_tables.proofs.Putting.{InOrder}
 
 -- ---- the order of ids, as a board has it and as tables have it
 

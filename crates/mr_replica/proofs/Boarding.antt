@@ -1,7 +1,6 @@
 -- The rows of booking and errorlog make the board of a replica.
-use Rattle.std.proofs.Common.{◌≡◌, refl, sym, ap, ◌∙◌, subst, ℕ, zero, suc, ◌+◌, ◌-◌, ◌<◌, ◌≤◌, Bool, true, false, List, [], ◌∷◌, ◌++◌, length, get_or, take, map, ◌⊎◌, inl, inr, Option, Some, None, arith, leb, leb-true, ◌&&◌, IsTrue}
+use Rattle.std.proofs.Common.{◌≡◌, refl, sym, ap, ◌∙◌, subst, ℕ, zero, suc, ◌+◌, ◌-◌, ◌<◌, ◌≤◌, Bool, true, false, List, [], ◌∷◌, ◌++◌, length, map, ◌⊎◌, inl, inr, Option, Some, None, arith, leb, leb-true, ◌&&◌, IsTrue}
 use Rattle.std.proofs.lemmas.Bool.{true≢false, and_parts}
-use Rattle.std.proofs.lemmas.List.{take_more, map-append}
 use Rattle.std.specs.List.{AllByRecursion, slice_get}
 use Rattle.std.specs.BTreeMap.{insert_entry}
 use Rattle.mr_model.specs.Slots.{Slot, is_slot}
@@ -22,9 +21,9 @@ use Rattle.mr_replay.specs.declared.rows.Row.{Row}
 use Rattle.mr_replay.specs.Rows.{Rows, row_with, row_of}
 use Rattle.mr_replay.proofs.Entries.{IsInOrder, in_order-put}
 use Rattle.mr_replay.proofs.Holding.{Holds-empty}
-use Rattle.mr_replica.specs.Change.{id_before}
-use Rattle.mr_replica.specs.Boards.{booking_entry, error_entry, put_entries, IsRowWithin}
-use Rattle.mr_replica.proofs.Putting.{id_order, in_order_same, one_a_key}
+use Rattle.mr_tables.specs.Change.{id_before}
+use Rattle.mr_tables.specs.Boards.{booking_entry, error_entry, put_entries, IsRowWithin}
+use Rattle.mr_tables.proofs.Putting.{id_order, in_order_same, one_a_key}
 use Rattle.mr_replica.proofs.BoardRows.{board_in_order, put_had, put_there, put_keeps}
 use Rattle.mr_replica.proofs.DeskRows.{board_of, board_row, row_board, board_ordered}
 
@@ -131,22 +130,6 @@ board_told a h =
             entries_have e (logged_entries a) (put_entries (booked_entries a) []) logged_one
             (subst (λ x. Has x (logged_entries a)) (logged_entry a w (place_of a w) row o ∙ sym s)
             (has_map error_entry row (tables_of a).errorlog (has_filter_map (error_row a) w row (by_id a.known) o (has_by_id a w h known))))
-
--- ---- rows of a list, one after the other
-
-entries-push : (es : List (Id × Row)) (e : Id × Row) (b : Rows) → put_entries (es ++ e ∷ []) b ≡ insert_entry id_cmp (put_entries es b) e.0 e.1
-entries-push [] e b = refl
-entries-push (x ∷ xs) e b = entries-push xs e (insert_entry id_cmp b x.0 x.1)
-
-pub put_more : {R : Type 0} (f : R → Id × Row) (rows : List R) (k : ℕ) (row : R) (b : Rows) → k < length rows → row ≡ get_or rows k row → insert_entry id_cmp (put_entries (map f (take k rows)) b) (f row).0 (f row).1 ≡ put_entries (map f (take (k + 1) rows)) b
-put_more f rows k row b low at =
-    sym (entries-push (map f (take k rows)) (f row) b) ∙ ap (λ es. put_entries es b) (sym (map-append f (take k rows) (row ∷ [])))
-    ∙ ap (λ rs. put_entries (map f rs) b) (ap (λ r. take k rows ++ r ∷ []) at ∙ sym (take_more rows k row low))
-
-pub of_all : {R : Type 0} (P : R → Type 0) (rows : List R) (k : ℕ) (row : R) → AllByRecursion P rows → k < length rows → row ≡ get_or rows k row → P row
-of_all P [] k row a low at = absurd (omega (arith, low))
-of_all P (r ∷ rs) zero row a low at = subst P (sym at) a.0
-of_all P (r ∷ rs) (suc k) row a low at = of_all P rs k row a.1 (let l : suc k < suc (length rs) = low in omega (arith, l)) at
 
 -- ---- limits
 

@@ -29,11 +29,11 @@ use Rattle.mr_model.proofs.TruncateRows.{slice_in_front, front-seq}
 use Rattle.mr_model.proofs.UniqueReplay.{some_inj, none_some}
 use Rattle.mr_model.proofs.CommitRows
 use Rattle.mr_replay.specs.Rows.{executed_all, undo_rows_of}
-use Rattle.mr_replica.specs.Summary.{tally_of}
+use Rattle.mr_tables.specs.Summary.{tally_of}
 use Rattle.mr_replica.specs.Desk.{desk_of}
-use Rattle.mr_replica.specs.Change.{put_all, without, log_id, undo_id, changed}
+use Rattle.mr_tables.specs.Change.{put_all, without, log_id, undo_id, changed}
 use Rattle.mr_replica.specs.DeskTables.{desk_tables}
-use Rattle.mr_replica.specs.Written.{changed_tallies, written, forgotten}
+use Rattle.mr_tables.specs.Written.{changed_tallies, written, forgotten}
 use Rattle.mr_replica.proofs.Moving.{Moves, Bears, rows_move, rooms_move}
 use Rattle.mr_replica.proofs.DeskRows.{dropped_long, dropped_numbers, kept_numbers, desk_tables-of}
 use Rattle.mr_replica.proofs.Writing.{board_before, part_changes, tallies_move}

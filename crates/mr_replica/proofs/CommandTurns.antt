@@ -12,19 +12,19 @@ use Rattle.mr_model.proofs.ChangesKeep.{keeps-add_room, keeps-truncate}
 use Rattle.mr_model.proofs.CommitsKeep.{keeps-commit}
 use Rattle.mr_replay.specs.Places.{UndoRow}
 use Rattle.mr_replay.specs.Rows.{executed_all, undo_rows_of}
-use Rattle.mr_replica.specs.declared.summary.Summary.{Summary}
-use Rattle.mr_replica.specs.declared.old_errors.OldError.{OldError}
+use Rattle.mr_tables.specs.declared.summary.Summary.{Summary}
+use Rattle.mr_tables.specs.declared.old_errors.OldError.{OldError}
 use Rattle.mr_replica.specs.Log.{KeptLog, errors_in, without_front}
-use Rattle.mr_replica.specs.Summary.{summary_of, committed_len, noted_commits}
+use Rattle.mr_tables.specs.Summary.{summary_of, committed_len, noted_commits}
 use Rattle.mr_replica.specs.Desk.{DeskView, desk_of}
-use Rattle.mr_replica.specs.Change.{ChangeView, changed}
+use Rattle.mr_tables.specs.Change.{ChangeView, changed}
 use Rattle.mr_replica.specs.ChangeLaws.{Makes, vector_between, board_before, kept_committed}
 use Rattle.mr_replica.specs.DeskTables.{desk_tables}
-use Rattle.mr_replica.specs.Written.{meta_of, changed_tallies, written, forgotten}
+use Rattle.mr_tables.specs.Written.{meta_of, changed_tallies, written, forgotten}
 use Rattle.mr_replica.proofs.Changing.{room_changes, commit_changes, truncate_changes}
 use Rattle.mr_replica.proofs.Committing.{summary-commits, desk-committed}
 use Rattle.mr_replica.proofs.Desks.{summary_in, desk_with, tentative_kept, committed_kept}
-use Rattle.mr_replica.proofs.Limits.{few_commits}
+use Rattle.mr_tables.proofs.Limits.{few_commits}
 use Rattle.mr_replica.proofs.Logs.{drop-undo_rows_of, take-undo_rows_of}
 use Rattle.mr_replica.proofs.Truncating.{desk-truncated}
 

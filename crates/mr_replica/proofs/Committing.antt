@@ -20,9 +20,9 @@ use Rattle.mr_model.proofs.LogOrder.{order-parts}
 use Rattle.mr_model.proofs.TwinChanges.{with_commits}
 use Rattle.mr_model.proofs.Fronts.{take-front}
 use Rattle.mr_replica.specs.Log.{log_of}
-use Rattle.mr_replica.specs.Summary.{summary_of, noted_commits}
+use Rattle.mr_tables.specs.Summary.{summary_of, noted_commits}
 use Rattle.mr_replica.specs.Desk.{desk_of, old_errors_of}
-use Rattle.mr_replica.proofs.Summaries.{summary-commit}
+use Rattle.mr_tables.proofs.Summaries.{summary-commit}
 use Rattle.mr_replica.proofs.Desks.{desk_with, kept_is}
 
 -- the step, where nothing refuses it

@@ -37,17 +37,18 @@ use Rattle.mr_replay.specs.Holds.{AreDistinct, HaveDistinctIds}
 use Rattle.mr_replay.proofs.Lists.{distinct_front}
 use Rattle.mr_replay.proofs.Holding.{Holds-empty, Holds-executed_all}
 use Rattle.mr_replay.proofs.Places.{places-board}
-use Rattle.mr_replica.specs.declared.summary.Tally.{Tally}
-use Rattle.mr_replica.specs.declared.old_errors.OldError.{OldError}
+use Rattle.mr_tables.specs.declared.summary.Tally.{Tally}
+use Rattle.mr_tables.specs.declared.old_errors.OldError.{OldError}
 use Rattle.mr_replica.specs.Log.{errors_in, old_error_at}
 use Rattle.mr_replica.specs.Desk.{desk_of}
-use Rattle.mr_replica.specs.Summary.{tally_at, tally_of}
-use Rattle.mr_replica.specs.DeskTables.{tally_rows, board_booking, board_error, board_error_noted, note_of, notes_of, desk_tables}
-use Rattle.mr_replica.specs.Change.{put_all, id_before, log_id, undo_id}
-use Rattle.mr_replica.specs.Rows.{seq_on, log_row_with, undo_row_with, log_rows}
-use Rattle.mr_replica.proofs.Summaries.{tally-of}
+use Rattle.mr_tables.specs.Summary.{tally_at, tally_of}
+use Rattle.mr_tables.specs.Tallied.{tally_rows}
+use Rattle.mr_replica.specs.DeskTables.{board_booking, board_error, board_error_noted, note_of, notes_of, desk_tables}
+use Rattle.mr_tables.specs.Change.{put_all, id_before, log_id, undo_id}
+use Rattle.mr_tables.specs.Rows.{seq_on, log_row_with, undo_row_with, log_rows}
+use Rattle.mr_tables.proofs.Summaries.{tally-of}
 use Rattle.mr_replica.proofs.Logs.{executed_all-append, undo_rows_of-append, length-undo_rows_of}
-use Rattle.mr_replica.proofs.Putting.{InOrder, id_order, in_order_same, puts_make}
+use Rattle.mr_tables.proofs.Putting.{InOrder, id_order, in_order_same, puts_make}
 use Rattle.mr_replica.proofs.Moving.{Bears, rows_in_order, log_bears, undo_bears, booking_bears, error_bears}
 use Rattle.mr_replica.proofs.BoardRows.{board_in_order, places_head, executed_has, has_executed}
 

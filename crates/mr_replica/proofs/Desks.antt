@@ -16,10 +16,10 @@ use Rattle.mr_model.proofs.KnownById.{commit_found, found_ids}
 use Rattle.mr_model.proofs.RoomPlaces.{kept_committed}
 use Rattle.mr_model.proofs.LogOrder.{order-parts}
 use Rattle.mr_model.proofs.ReceivedPlaces.{append_split}
-use Rattle.mr_replica.specs.declared.summary.Summary.{Summary}
-use Rattle.mr_replica.specs.declared.old_errors.OldError.{OldError}
+use Rattle.mr_tables.specs.declared.summary.Summary.{Summary}
+use Rattle.mr_tables.specs.declared.old_errors.OldError.{OldError}
 use Rattle.mr_replica.specs.Log.{KeptLog}
-use Rattle.mr_replica.specs.Summary.{summary_of, committed_len}
+use Rattle.mr_tables.specs.Summary.{summary_of, committed_len}
 use Rattle.mr_replica.specs.Desk.{DeskView}
 
 -- the numbers of a desk

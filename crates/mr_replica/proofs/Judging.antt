@@ -19,9 +19,9 @@ use Rattle.mr_model.proofs.RowsById.{server_bounds}
 use Rattle.mr_base.specs.Refusals.{refusal_of}
 use Rattle.mr_base.specs.declared.refusals.Refusal.{Refusal}
 use Rattle.mr_base.specs.declared.refusals.Refusal.TheVariants.{Gap, OutOfOrder, Forged, OwnWrite, PrimaryOnly}
-use Rattle.mr_replica.specs.Summary.{summary_of}
+use Rattle.mr_tables.specs.Summary.{summary_of}
 use Rattle.mr_replica.specs.Candidate.{CandidateView, Shows, write_in, known_verdict, write_verdict_by, write_verdict, there_verdict, commit_verdict_by, commit_verdict}
-use Rattle.mr_replica.proofs.Summaries.{tally-of}
+use Rattle.mr_tables.proofs.Summaries.{tally-of}
 
 -- ---- the kept writes
 

@@ -11,7 +11,7 @@ use Rattle.mr_model.specs.Replica.{Replica, IsReplica, count_of, committed_count
 use Rattle.mr_model.specs.Dropped.{Has}
 use Rattle.mr_model.specs.Kept.{kept_in_order}
 use Rattle.mr_model.specs.Changes.{IsNext, CommitMoved}
-use Rattle.mr_replica.proofs.Limits.{other_id}
+use Rattle.mr_tables.proofs.Limits.{other_id}
 use Rattle.mr_model.proofs.Members.{has_right, has_map, Distinct, distinct_parts, same_id_from}
 use Rattle.mr_model.proofs.KnownById.{distinct_order, with_id, tentative_known}
 use Rattle.mr_model.proofs.RoomPlaces.{kept_committed}
@@ -19,10 +19,10 @@ use Rattle.mr_model.proofs.SubmitRows.{same_rooms}
 use Rattle.mr_model.proofs.ReceivedPlaces.{commit_moved}
 use Rattle.mr_model.proofs.TwinChanges.{committed-with, tentative-add_write, drop-front}
 use Rattle.mr_model.proofs.ChangesKeep.{keeps-add_commit}
-use Rattle.mr_replica.specs.declared.summary.Summary.{Summary}
-use Rattle.mr_replica.specs.Summary.{noted_write, noted_commit, committed_len}
+use Rattle.mr_tables.specs.declared.summary.Summary.{Summary}
+use Rattle.mr_tables.specs.Summary.{noted_write, noted_commit, committed_len}
 use Rattle.mr_replica.specs.Candidate.{CandidateView, Shows, front_len, write_place, rooms_with, with_learned, id_place, commit_place, with_moved}
-use Rattle.mr_replica.proofs.Summaries.{summary-write, summary-commit}
+use Rattle.mr_tables.proofs.Summaries.{summary-write, summary-commit}
 use Rattle.mr_replica.proofs.Desks.{committed_kept, tentative_kept}
 
 with_write-places : (w : Write) (ws : List Write) → with_write w ws ≡ take (front_len ws w) ws ++ w ∷ drop (front_len ws w) ws

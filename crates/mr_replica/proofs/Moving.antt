@@ -23,9 +23,9 @@ use Rattle.mr_model.proofs.TablesTell.{vector_entry, in_row, counted_server, kep
 use Rattle.mr_model.proofs.TruncateRows.{front-seq}
 use Rattle.mr_model.proofs.TwinTables.{kept_undo}
 use Rattle.mr_model.proofs.UniqueReplay.{some_inj, none_some}
-use Rattle.mr_replica.specs.Change.{put_all, without, id_before, log_id, undo_id, ChangeView, changed}
-use Rattle.mr_replica.specs.Rows.{booking_with, error_with}
-use Rattle.mr_replica.proofs.Putting.{InOrder, Lacks, id_before_from, number_order, name_order, puts_make, change_makes}
+use Rattle.mr_tables.specs.Change.{put_all, without, id_before, log_id, undo_id, ChangeView, changed}
+use Rattle.mr_tables.specs.Rows.{booking_with, error_with}
+use Rattle.mr_tables.proofs.Putting.{InOrder, Lacks, id_before_from, number_order, name_order, puts_make, change_makes}
 
 -- ---- one table of writes
 

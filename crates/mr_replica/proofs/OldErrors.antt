@@ -20,19 +20,19 @@ use Rattle.mr_model.proofs.RowsTell.{known_order, order_known}
 use Rattle.mr_model.proofs.TablesTell.{logged_as, logged_row}
 use Rattle.mr_replay.specs.Places.{UndoRow}
 use Rattle.mr_replay.specs.Rows.{undo_rows_of}
-use Rattle.mr_replica.specs.declared.old_errors.OldError.{OldError}
-use Rattle.mr_replica.specs.Change.{id_before}
+use Rattle.mr_tables.specs.declared.old_errors.OldError.{OldError}
+use Rattle.mr_tables.specs.Change.{id_before}
 use Rattle.mr_replica.specs.Log.{errors_in, old_error_at}
-use Rattle.mr_replica.specs.Boards.{IsRowWithin}
+use Rattle.mr_tables.specs.Boards.{IsRowWithin}
 use Rattle.mr_replica.specs.Desk.{old_errors_of}
-use Rattle.mr_replica.specs.SoundRows.{Rise}
-use Rattle.mr_replica.specs.OldErrors.{is_old, told_error}
+use Rattle.mr_tables.specs.SoundRows.{Rise}
+use Rattle.mr_tables.specs.OldErrors.{is_old, told_error}
 use Rattle.mr_replica.proofs.Boarding.{errors_within}
 use Rattle.mr_replica.proofs.Changing.{has_slice}
 use Rattle.mr_replica.proofs.DeskRows.{note, old_noted, kept_numbers, dropped_numbers, dropped_long, dropped_places, slice_bound}
 use Rattle.mr_replica.proofs.KeptOrder.{nat_less}
 use Rattle.mr_replica.proofs.Moving.{rows_in_order, error_bears}
-use Rattle.mr_replica.proofs.Putting.{id_order}
+use Rattle.mr_tables.proofs.Putting.{id_order}
 use Rattle.mr_replica.proofs.Sorting.{sorted_is, weaker}
 use Rattle.mr_replica.proofs.SoundRows.{neighbours}
 

@@ -28,16 +28,17 @@ use Rattle.mr_model.proofs.WithWrite.{has_with_write}
 use Rattle.mr_base.specs.Refusals.{refusal_of}
 use Rattle.mr_base.specs.declared.refusals.Refusal.{Refusal}
 use Rattle.mr_replay.specs.Rows.{undo_rows_of}
-use Rattle.mr_replica.specs.declared.summary.Summary.{Summary}
+use Rattle.mr_tables.specs.declared.summary.Summary.{Summary}
 use Rattle.mr_replica.specs.Log.{board_at}
-use Rattle.mr_replica.specs.Summary.{summary_of}
+use Rattle.mr_tables.specs.Summary.{summary_of}
 use Rattle.mr_replica.specs.Candidate.{CandidateView, Shows, Takes, KeepsFront, KeepsMarks, write_verdict, commit_verdict}
 use Rattle.mr_replica.specs.Desk.{DeskView, desk_of, nothing_taken, adopted}
-use Rattle.mr_replica.specs.Change.{ChangeView, changed, put_all, log_id, undo_id}
+use Rattle.mr_tables.specs.Change.{ChangeView, changed, put_all, log_id, undo_id}
 use Rattle.mr_replica.specs.DeskTables.{desk_tables}
-use Rattle.mr_replica.specs.Rooms.{rooms_beside}
-use Rattle.mr_replica.specs.Rows.{seq_on}
-use Rattle.mr_replica.specs.Written.{meta_of, changed_tallies, written, adoption}
+use Rattle.mr_tables.specs.Rooms.{rooms_beside}
+use Rattle.mr_tables.specs.Rows.{seq_on}
+use Rattle.mr_tables.specs.Written.{meta_of, changed_tallies, written}
+use Rattle.mr_replica.specs.Turning.{adoption}
 use Rattle.mr_replica.proofs.Desks.{summary_in}
 use Rattle.mr_replica.proofs.Logs.{board-at}
 use Rattle.mr_replica.proofs.Judging.{JudgedWrite, judged_write, JudgedCommit, judged_commit}

@@ -24,10 +24,10 @@ use Rattle.mr_base.specs.declared.refusals.Refusal.{Refusal}
 use Rattle.mr_base.specs.declared.refusals.Refusal.TheVariants.{OutOfMemory}
 use Rattle.mr_base.specs.Refusals.{refusal_of}
 use Rattle.mr_replica.specs.Log.{replaced, log_of}
-use Rattle.mr_replica.specs.Summary.{summary_of}
+use Rattle.mr_tables.specs.Summary.{summary_of}
 use Rattle.mr_replica.specs.Candidate.{CandidateView, Shows, Takes, KeepsFront, KeepsMarks, write_verdict, commit_verdict}
-use Rattle.mr_replica.specs.declared.summary.Summary.{Summary}
-use Rattle.mr_replica.specs.Change.{ChangeView}
+use Rattle.mr_tables.specs.declared.summary.Summary.{Summary}
+use Rattle.mr_tables.specs.Change.{ChangeView}
 use Rattle.mr_replica.specs.Desk.{DeskView, desk_of, old_errors_of, nothing_taken, adopted, reply_with}
 use Rattle.mr_replica.proofs.Logs.{log-replaced}
 use Rattle.mr_replica.proofs.DeskRows.{order_distinct}

@@ -6,7 +6,7 @@ use Rattle.mr_replay.specs.declared.rows.Row.{Row}
 use Rattle.mr_replay.specs.declared.rows.Standing.{Standing}
 use Rattle.mr_replay.specs.declared.rows.Standing.TheVariants.{Booked, InErrorLog}
 use Rattle.mr_replay.specs.contracts.rows.Standing.{the_type}
-use Rattle.mr_replica.proofs.Rising.{both}
+use Rattle.mr_tables.proofs.Rising.{both}
 use denote.Enum.Bare.{sameb}
 
 pub told_by : (a b : Bool) {A : Type 0} → a ≡ b → IsTrue b ↔ A → IsTrue a ↔ A

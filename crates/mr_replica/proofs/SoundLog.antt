@@ -24,14 +24,14 @@ use Rattle.mr_model.proofs.TablesTell.{booked_row}
 use Rattle.mr_replay.specs.declared.rows.Row.{Row}
 use Rattle.mr_replay.specs.Rows.{Rows, row_at, row_with, row_of}
 use Rattle.mr_replica.specs.declared.kept_rows.KeptRow.{KeptRow}
-use Rattle.mr_replica.specs.Boards.{IsRowWithin}
-use Rattle.mr_replica.specs.Change.{id_before}
+use Rattle.mr_tables.specs.Boards.{IsRowWithin}
+use Rattle.mr_tables.specs.Change.{id_before}
 use Rattle.mr_replica.specs.KeptRows.{kept_row, run_place, run_cmp}
 use Rattle.mr_replica.specs.SoundLog.{AreNumbered, HasTaken, HasPlace, IsAtPlace, IsLogSound, is_booked_row, is_on_board}
 use Rattle.mr_replica.proofs.Boarding.{bookings_within}
 use Rattle.mr_replica.proofs.DeskRows.{board_of, row_board, board_ordered, kept_numbers, dropped_long}
 use Rattle.mr_replica.proofs.KeptOrder.{rows_rise}
-use Rattle.mr_replica.proofs.Putting.{InOrder, id_order}
+use Rattle.mr_tables.proofs.Putting.{InOrder, id_order}
 use Rattle.mr_replica.proofs.SoundRows.{neighbours}
 
 -- ---- numbers

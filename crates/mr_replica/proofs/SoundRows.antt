@@ -16,14 +16,14 @@ use Rattle.mr_model.proofs.RowsById.{server_bounds, known_write, by_id_has, map_
 use Rattle.mr_model.proofs.RowsOfKnown.{rows_of_known}
 use Rattle.mr_model.proofs.RowsTell.{committed-seq}
 use Rattle.mr_model.proofs.TablesTell.{booked_row, logged_row, kept_log}
-use Rattle.mr_replica.specs.declared.summary.Tally.{Tally}
-use Rattle.mr_replica.specs.Change.{id_before, log_id}
-use Rattle.mr_replica.specs.Summary.{summary_of}
-use Rattle.mr_replica.specs.SoundRows.{IsCountSound, is_counted, is_first, IsMarkSound, IsNumberSound, AreKeysRising, AreSound}
+use Rattle.mr_tables.specs.declared.summary.Tally.{Tally}
+use Rattle.mr_tables.specs.Change.{id_before, log_id}
+use Rattle.mr_tables.specs.Summary.{summary_of}
+use Rattle.mr_tables.specs.SoundRows.{IsCountSound, is_counted, is_first, IsMarkSound, IsNumberSound, AreKeysRising, AreSound}
 use Rattle.mr_replica.proofs.DeskRows.{first_committed}
-use Rattle.mr_replica.proofs.Summaries.{tally-of}
+use Rattle.mr_tables.proofs.Summaries.{tally-of}
 use Rattle.mr_replica.proofs.Moving.{rows_in_order, vector_in_order, log_bears, booking_bears, error_bears}
-use Rattle.mr_replica.proofs.Putting.{InOrder}
+use Rattle.mr_tables.proofs.Putting.{InOrder}
 use Rattle.mr_replica.proofs.Totals.{totals_sound}
 
 -- ---- keys

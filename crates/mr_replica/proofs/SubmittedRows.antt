@@ -19,19 +19,19 @@ use Rattle.mr_model.proofs.RoomPlaces.{kept_committed}
 use Rattle.mr_model.proofs.RowsTell.{order_known}
 use Rattle.mr_model.proofs.TwinChanges.{added}
 use Rattle.mr_replay.specs.Rows.{undo_row_of, executed_all, undo_rows_of}
-use Rattle.mr_replica.specs.declared.summary.Summary.{Summary}
+use Rattle.mr_tables.specs.declared.summary.Summary.{Summary}
 use Rattle.mr_replica.specs.Log.{pushed}
-use Rattle.mr_replica.specs.Summary.{summary_of, noted_write, stamp_next}
+use Rattle.mr_tables.specs.Summary.{summary_of, noted_write, stamp_next}
 use Rattle.mr_replica.specs.Desk.{DeskView, desk_of}
 use Rattle.mr_replica.specs.Steps.{submit_request, outcome_in}
 use Rattle.mr_replica.specs.DeskTables.{desk_tables}
-use Rattle.mr_replica.specs.Change.{ChangeView, changed}
-use Rattle.mr_replica.specs.Rows.{booking_rows, error_rows}
+use Rattle.mr_tables.specs.Change.{ChangeView, changed}
+use Rattle.mr_tables.specs.Rows.{booking_rows, error_rows}
 use Rattle.mr_replica.specs.Turning.{put_outcome}
-use Rattle.mr_replica.specs.Written.{meta_of, changed_tallies, written}
-use Rattle.mr_replica.proofs.Limits.{few_commits}
+use Rattle.mr_tables.specs.Written.{meta_of, changed_tallies, written}
+use Rattle.mr_tables.proofs.Limits.{few_commits}
 use Rattle.mr_replica.proofs.Desks.{summary_in, desk_with, own_server}
-use Rattle.mr_replica.proofs.Summaries.{summary-write}
+use Rattle.mr_tables.proofs.Summaries.{summary-write}
 use Rattle.mr_replica.proofs.Submitting.{Submits, submits, desk-submitted, submitted_is_next}
 use Rattle.mr_replica.proofs.Writing.{board_before, booking-rows, error-rows, part_numbered, part_places}
 use Rattle.mr_replica.proofs.Changing.{vector_between, kept_committed_long, same_dropped, submit_changes}

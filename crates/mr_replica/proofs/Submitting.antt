@@ -19,11 +19,11 @@ use Rattle.mr_base.specs.Refusals.{refusal_of}
 use Rattle.mr_base.specs.declared.refusals.Refusal.{Refusal}
 use Rattle.mr_base.specs.declared.refusals.Refusal.TheVariants.{ClockExhausted, CountExhausted}
 use Rattle.mr_replica.specs.Log.{pushed, log_of}
-use Rattle.mr_replica.specs.Summary.{summary_of, noted_write, stamp_next}
+use Rattle.mr_tables.specs.Summary.{summary_of, noted_write, stamp_next}
 use Rattle.mr_replica.specs.Desk.{desk_of, old_errors_of}
 use Rattle.mr_replica.specs.Steps.{submit_request, word_faults, request_in, SubmissionsAreRequests}
 use Rattle.mr_replica.proofs.Logs.{log-pushed}
-use Rattle.mr_replica.proofs.Summaries.{tally-of, summary-write}
+use Rattle.mr_tables.proofs.Summaries.{tally-of, summary-write}
 use Rattle.mr_replica.proofs.Desks.{desk_with, kept_is, own_server}
 
 -- ---- the stamp

@@ -13,9 +13,9 @@ use Rattle.mr_model.proofs.AnswersFromRows.{one_row}
 use Rattle.mr_model.proofs.KnownById.{commit_known}
 use Rattle.mr_model.proofs.RowsById.{server_bounds, known_write, by_id_has}
 use Rattle.mr_model.proofs.TablesTell.{vector_entry}
-use Rattle.mr_replica.specs.SoundRows.{capped, AreTotalsSound}
+use Rattle.mr_tables.specs.SoundRows.{capped, AreTotalsSound}
 use Rattle.mr_replica.proofs.Latest.{latest}
-use Rattle.mr_replica.proofs.Limits.{few_commits}
+use Rattle.mr_tables.proofs.Limits.{few_commits}
 
 -- ---- writes
 

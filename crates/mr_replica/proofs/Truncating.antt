@@ -17,7 +17,7 @@ use Rattle.mr_model.proofs.TwinChanges.{take-add}
 use Rattle.mr_model.proofs.Fronts.{take-front}
 use Rattle.mr_model.proofs.ReceivedPlaces.{append_split}
 use Rattle.mr_replica.specs.Log.{log_of, without_front, errors_in}
-use Rattle.mr_replica.specs.Summary.{summary_of}
+use Rattle.mr_tables.specs.Summary.{summary_of}
 use Rattle.mr_replica.specs.Desk.{desk_of, old_errors_of}
 use Rattle.mr_replica.proofs.Logs.{log-without_front, old_errors-dropped}
 use Rattle.mr_replica.proofs.Desks.{desk_with}

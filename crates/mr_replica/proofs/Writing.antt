@@ -20,17 +20,18 @@ use Rattle.mr_model.proofs.TablesTell.{vector_entry}
 use Rattle.mr_model.proofs.TwinTables.{flat_map_same}
 use Rattle.mr_replay.specs.Places.{UndoRow}
 use Rattle.mr_replay.specs.Rows.{Rows, executed, executed_all, undo_rows_of}
-use Rattle.mr_replica.specs.declared.summary.Tally.{Tally}
-use Rattle.mr_replica.specs.Summary.{tally_at, tally_of}
+use Rattle.mr_tables.specs.declared.summary.Tally.{Tally}
+use Rattle.mr_tables.specs.Summary.{tally_at, tally_of}
 use Rattle.mr_replica.specs.Desk.{desk_of}
-use Rattle.mr_replica.specs.Change.{put_all, changed}
-use Rattle.mr_replica.specs.Rows.{seq_on, booking_with, error_with, booking_rows, error_rows}
-use Rattle.mr_replica.specs.DeskTables.{tally_rows, desk_tables}
-use Rattle.mr_replica.specs.Written.{same_tally, changed_tallies, written}
+use Rattle.mr_tables.specs.Change.{put_all, changed}
+use Rattle.mr_tables.specs.Rows.{seq_on, booking_with, error_with, booking_rows, error_rows}
+use Rattle.mr_tables.specs.Tallied.{tally_rows}
+use Rattle.mr_replica.specs.DeskTables.{desk_tables}
+use Rattle.mr_tables.specs.Written.{same_tally, changed_tallies, written}
 use Rattle.mr_replica.proofs.Logs.{length-undo_rows_of, undo_rows_of-append}
 use Rattle.mr_replica.proofs.BoardRows.{places_head}
 use Rattle.mr_replica.proofs.Moving.{Moves, change_of, moves, booking-with, error-with, vectors_move}
-use Rattle.mr_replica.proofs.Summaries.{tally-of}
+use Rattle.mr_tables.proofs.Summaries.{tally-of}
 use Rattle.mr_replica.proofs.DeskRows.{numbered, kept_numbers, kept_places, undo_rows_told, slice_left, slice_bound, tally_row, numbers_below, desk_tables-of}
 
 -- ---- the rows of writes in a row

@@ -10,9 +10,9 @@ use Rattle.mr_model.specs.Taking.{Progress}
 use Rattle.mr_base.specs.Refusals.{refusal_of}
 use Rattle.mr_base.specs.declared.refusals.Refusal.{Refusal}
 use Rattle.mr_base.specs.declared.refusals.Refusal.TheVariants.{Gap, OutOfOrder, Forged, OwnWrite, PrimaryOnly, OutOfMemory}
-use Rattle.mr_replica.specs.declared.summary.Tally.{Tally}
-use Rattle.mr_replica.specs.declared.summary.Summary.{Summary}
-use Rattle.mr_replica.specs.Summary.{tally_at, summary_of, noted_write, noted_commit, committed_len}
+use Rattle.mr_tables.specs.declared.summary.Tally.{Tally}
+use Rattle.mr_tables.specs.declared.summary.Summary.{Summary}
+use Rattle.mr_tables.specs.Summary.{tally_at, summary_of, noted_write, noted_commit, committed_len}
 
 -- the numbers, the rooms and the kept writes as the items so far leave them; the first writes are as they were
 pub record CandidateView : Type 0 where

@@ -8,11 +8,11 @@ use Rattle.mr_model.specs.Tables.{VectorRow, seq_of, tables_of}
 use Rattle.mr_model.specs.Dropped.{Has}
 use Rattle.mr_model.specs.Changes.{first_tentative, after_commit, after_truncate}
 use Rattle.mr_replay.specs.Rows.{Rows, executed_all, undo_rows_of}
-use Rattle.mr_replica.specs.Summary.{tally_of}
+use Rattle.mr_tables.specs.Summary.{tally_of}
 use Rattle.mr_replica.specs.Desk.{DeskView, desk_of, StandsFor}
-use Rattle.mr_replica.specs.Change.{ChangeView, put_all, changed}
+use Rattle.mr_tables.specs.Change.{ChangeView, put_all, changed}
 use Rattle.mr_replica.specs.DeskTables.{desk_tables}
-use Rattle.mr_replica.specs.Written.{changed_tallies, written, forgotten}
+use Rattle.mr_tables.specs.Written.{changed_tallies, written, forgotten}
 
 -- the tables of a desk are those of each replica that it stands for
 abbrev pub DesksHaveTheTables : Type 0

@@ -12,10 +12,10 @@ use Rattle.mr_base.specs.Refusals.{refusal_of}
 use Rattle.mr_base.specs.declared.refusals.Refusal.{Refusal}
 use Rattle.mr_base.specs.declared.refusals.Refusal.TheVariants.{OutOfMemory, Store}
 use Rattle.mr_replay.specs.Rows.{undo_rows_of}
-use Rattle.mr_replica.specs.declared.summary.Tally.{Tally}
-use Rattle.mr_replica.specs.declared.old_errors.OldError.{OldError}
+use Rattle.mr_tables.specs.declared.summary.Tally.{Tally}
+use Rattle.mr_tables.specs.declared.old_errors.OldError.{OldError}
 use Rattle.mr_replica.specs.Log.{KeptLog, log_of, replaced, errors_in}
-use Rattle.mr_replica.specs.Summary.{tally_of}
+use Rattle.mr_tables.specs.Summary.{tally_of}
 use Rattle.mr_replica.specs.Candidate.{CandidateView}
 
 pub record DeskView : Type 0 where

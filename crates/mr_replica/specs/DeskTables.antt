@@ -1,23 +1,18 @@
 -- The tables of a desk.
-use Rattle.std.specs.Prelude.{ℕ, ◌+◌, nat_le, if◌then◌else◌, ◌==◌, List, [], ◌∷◌, ◌++◌, map, flat_map, filter_map, find, Option, Some, None}
+use Rattle.std.specs.Prelude.{ℕ, ◌+◌, nat_le, List, [], ◌++◌, map, flat_map, filter_map, find, Option, Some, None}
 use Rattle.mr_model.specs.Texts.{numbers_on}
 use Rattle.mr_model.specs.Writes.{Id, same_id}
-use Rattle.mr_model.specs.Tables.{VectorRow, LogRow, BookingRow, ErrorRow, Tables}
+use Rattle.mr_model.specs.Tables.{LogRow, BookingRow, ErrorRow, Tables}
 use Rattle.mr_replay.specs.declared.rows.Standing.{Standing}
 use Rattle.mr_replay.specs.declared.rows.Standing.TheVariants.{Booked, InErrorLog}
 use Rattle.mr_replay.specs.declared.rows.Row.{Row}
-use Rattle.mr_replica.specs.declared.summary.Tally.{Tally}
-use Rattle.mr_replica.specs.declared.old_errors.OldError.{OldError}
-use Rattle.mr_replica.specs.Summary.{tally_at}
+use Rattle.mr_tables.specs.declared.summary.Tally.{Tally}
+use Rattle.mr_tables.specs.declared.old_errors.OldError.{OldError}
+use Rattle.mr_tables.specs.Summary.{tally_at}
+use Rattle.mr_tables.specs.Tallied.{tally_rows}
 use Rattle.mr_replica.specs.Desk.{DeskView}
-use Rattle.mr_replica.specs.Change.{put_all, id_before, log_id, undo_id}
-use Rattle.mr_replica.specs.Rows.{log_rows, undo_row_with}
-
--- the row of a server of which something is known
-abbrev pub tally_rows : List Tally → ℕ → List VectorRow
-tally_rows ts s =
-    let t = tally_at ts s in
-    if t.count == 0 then [] else record { server = s; count = t.count; last_time = t.last_time; committed = t.committed } ∷ []
+use Rattle.mr_tables.specs.Change.{put_all, id_before, log_id, undo_id}
+use Rattle.mr_tables.specs.Rows.{log_rows, undo_row_with}
 
 -- a row of the board as one of booking; the first of a server's writes are the committed ones
 abbrev pub board_booking : List Tally → Standing → Id → Row → Option BookingRow

@@ -1,9 +1,10 @@
 -- The kept log of a replica, with what undoes it and the board that it leads to.
 use Rattle.std.specs.Prelude.{ℕ, ◌+◌, Bool, true, false, if◌then◌else◌, List, [], ◌∷◌, ◌++◌, take, drop}
-use Rattle.mr_model.specs.Writes.{Write, id_of}
+use Rattle.mr_model.specs.Writes.{Write}
 use Rattle.mr_model.specs.Replay.{Place, Taken, Logged}
 use Rattle.mr_replay.specs.Places.{UndoRow}
-use Rattle.mr_replica.specs.declared.old_errors.OldError.{OldError}
+use Rattle.mr_tables.specs.declared.old_errors.OldError.{OldError}
+use Rattle.mr_tables.specs.OldErrors.{old_error_of}
 use Rattle.mr_replay.specs.Rows.{Rows, executed, undo_row_of, executed_all, undo_rows_of, undone_all}
 
 -- the writes that are kept, in the order of their execution; what undoes each; the board after them
@@ -47,10 +48,6 @@ without_front l n = record { kept = drop n l.kept; undo = drop n l.undo; board =
 abbrev pub is_logged : Place → Bool
 is_logged (Taken k) = false
 is_logged Logged = true
-
--- what is kept of a dropped write with this commit number
-abbrev pub old_error_of : ℕ → Write → OldError
-old_error_of seq w = record { id = id_of w; time = w.stamp.time; seq = seq }
 
 abbrev pub old_error_at : ℕ → Write → Place → List OldError
 old_error_at seq w p = if is_logged p then old_error_of seq w ∷ [] else []

@@ -4,8 +4,8 @@ use Rattle.mr_model.specs.Writes.{Write, id_of}
 use Rattle.mr_model.specs.Exchange as model
 use Rattle.mr_model.specs.Positions.{Position}
 use Rattle.mr_model.specs.Step.{item_if_lacked}
-use Rattle.mr_replica.specs.declared.summary.Summary.{Summary}
-use Rattle.mr_replica.specs.Summary.{committed_len}
+use Rattle.mr_tables.specs.declared.summary.Summary.{Summary}
+use Rattle.mr_tables.specs.Summary.{committed_len}
 use Rattle.mr_base.specs.declared.batches.Item.{Item}
 use Rattle.mr_base.specs.declared.batches.Ending.{Ending}
 use Rattle.mr_base.specs.declared.batches.Ending.TheVariants.{Complete, More}

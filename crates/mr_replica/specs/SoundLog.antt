@@ -13,8 +13,8 @@ use Rattle.mr_replica.specs.declared.kept_rows.KeptRow.{KeptRow}
 use Rattle.mr_replica.specs.declared.kept_rows.RunPlace.{RunPlace}
 use Rattle.mr_replica.specs.KeptRows.{run_place, run_cmp}
 use Rattle.mr_replica.specs.Log.{KeptLog}
-use Rattle.mr_replica.specs.Rows.{seq_on}
-use Rattle.mr_replica.specs.SoundRows.{Rise}
+use Rattle.mr_tables.specs.Rows.{seq_on}
+use Rattle.mr_tables.specs.SoundRows.{Rise}
 
 -- the committed rows that are kept have the numbers behind those of the dropped ones, and the others have none
 pub record AreNumbered (commits dropped : ℕ) (rows : List KeptRow) : Type 0 where

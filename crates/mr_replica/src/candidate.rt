@@ -10,9 +10,9 @@ ghost use Rattle.mr_base.specs.Batches.{item_of};
 ghost use Rattle.mr_replica.specs.Desk.{NeverStore};
 ghost use Rattle.mr_replica.specs.Candidate.{Shows, Takes, KeepsFront, KeepsMarks, write_in, known_verdict, there_verdict, write_verdict, commit_verdict, front_len as front_len_of, write_place, with_learned, id_place as place_of_id, commit_place, with_moved};
 
-use crate::rooms::{copies_of, learn_room};
-use crate::summary::Summary;
 use mr_base::{CommitNumber, Item, Refusal, RoomName, Write, WriteId, stamp_before};
+use mr_tables::rooms::{copies_of, learn_room};
+use mr_tables::summary::Summary;
 use std::alloc::Global;
 use std::marker::Model;
 

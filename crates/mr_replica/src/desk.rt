@@ -3,9 +3,9 @@ ghost use Rattle.mr_model.specs.Replica.{opening};
 ghost use Rattle.std.specs.Prelude.{◌≡◌};
 
 use crate::log::Log;
-use crate::old_errors::OldError;
-use crate::summary::{Summary, Tally};
 use mr_base::{RoomName, ServerId};
+use mr_tables::old_errors::OldError;
+use mr_tables::summary::{Summary, Tally};
 use std::alloc::Global;
 use std::marker::Model;
 

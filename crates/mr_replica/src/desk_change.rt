@@ -1,12 +1,13 @@
 ghost use Rattle.std.specs.Prelude.{◌≡◌, ◌+◌, ◌<◌, ◌^◌, length, IfOk, IfErr};
-ghost use Rattle.mr_replica.specs.Written.{meta_of, changed_tallies as rows_changed, written};
+ghost use Rattle.mr_tables.specs.Written.{meta_of, changed_tallies as rows_changed, written};
 
-use crate::summary::Summary;
-use crate::vector::changed_tallies;
-use crate::written::written;
-use crate::{Change, Desk};
+use crate::Desk;
 use mr_base::{Refusal, RoomName, Write};
 use mr_replay::UndoRow;
+use mr_tables::Change;
+use mr_tables::summary::Summary;
+use mr_tables::vector::changed_tallies;
+use mr_tables::written::written;
 
 impl Desk {
     /// The change to a desk of those numbers, with these rooms more, where these writes, with what undoes each, are the

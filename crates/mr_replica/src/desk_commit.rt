@@ -2,18 +2,19 @@ ghost use Rattle.std.specs.Prelude.{◌≡◌, ◌≢◌, ◌+◌, ◌<◌, ◌^
 ghost use Rattle.mr_model.specs.Writes.{id_of};
 ghost use Rattle.mr_model.specs.Replies.{CommittedIs};
 ghost use Rattle.mr_model.specs.Step.{commit};
-ghost use Rattle.mr_replica.specs.Summary.{committed_len, noted_commits};
+ghost use Rattle.mr_tables.specs.Summary.{committed_len, noted_commits};
 ghost use Rattle.mr_replica.specs.Desk.{TakesStep, NeverStore};
 ghost use Rattle.mr_replica.specs.Turning.{TurnsTables};
-ghost use Rattle.mr_replica.specs.Written.{meta_of, changed_tallies, written};
+ghost use Rattle.mr_tables.specs.Written.{meta_of, changed_tallies, written};
 
+use crate::Desk;
 use crate::log::Log;
-use crate::summary::Summary;
-use crate::vector::changed_tallies;
-use crate::written::written;
-use crate::{Change, Desk};
 use mr_base::{Refusal, Write};
 use mr_replay::UndoRow;
+use mr_tables::Change;
+use mr_tables::summary::Summary;
+use mr_tables::vector::changed_tallies;
+use mr_tables::written::written;
 use std::alloc::Global;
 
 impl Desk {

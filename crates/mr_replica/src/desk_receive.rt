@@ -6,19 +6,20 @@ ghost use Rattle.mr_base.specs.Batches.{item_of};
 ghost use Rattle.mr_model.specs.Replies.{Took};
 ghost use Rattle.mr_model.specs.Step.{receive_batch, after_items};
 ghost use Rattle.mr_replica.specs.Desk.{TakesStep, NeverStore, nothing_taken, adopted};
-ghost use Rattle.mr_replica.specs.Change.{changed};
+ghost use Rattle.mr_tables.specs.Change.{changed};
 ghost use Rattle.mr_replica.specs.DeskTables.{desk_tables};
-ghost use Rattle.mr_replica.specs.Rooms.{rooms_beside};
-ghost use Rattle.mr_replica.specs.Turning.{TurnsTables};
-ghost use Rattle.mr_replica.specs.Written.{meta_of, changed_tallies, written, adoption};
+ghost use Rattle.mr_tables.specs.Rooms.{rooms_beside};
+ghost use Rattle.mr_replica.specs.Turning.{TurnsTables, adoption};
+ghost use Rattle.mr_tables.specs.Written.{meta_of, changed_tallies, written};
 
+use crate::Desk;
 use crate::candidate::Candidate;
 use crate::log::Log;
-use crate::rooms::unknown_rooms;
-use crate::summary::Summary;
-use crate::written::empty;
-use crate::{Change, Desk};
 use mr_base::{Batch, Item, Refusal, RoomName};
+use mr_tables::Change;
+use mr_tables::rooms::unknown_rooms;
+use mr_tables::summary::Summary;
+use mr_tables::written::empty;
 
 impl Desk {
     /// Takes a batch whole, or not at all, and answers how many of its writes and of its commits were new, and what that

@@ -4,13 +4,14 @@ ghost use Rattle.mr_model.specs.Replies.{RoomAdded};
 ghost use Rattle.mr_model.specs.Step.{add_room};
 ghost use Rattle.mr_replica.specs.Desk.{TakesStep, NeverStore};
 ghost use Rattle.mr_replica.specs.Turning.{TurnsTables};
-ghost use Rattle.mr_replica.specs.Written.{meta_of, written};
+ghost use Rattle.mr_tables.specs.Written.{meta_of, written};
 
-use crate::rooms::{is_known, learn_room};
-use crate::summary::Summary;
-use crate::written::written;
-use crate::{Change, Desk};
+use crate::Desk;
 use mr_base::{Refusal, RoomName};
+use mr_tables::Change;
+use mr_tables::rooms::{is_known, learn_room};
+use mr_tables::summary::Summary;
+use mr_tables::written::written;
 use std::alloc::Global;
 
 impl Desk {

@@ -4,15 +4,16 @@ ghost use Rattle.mr_model.specs.Replica.{Replica, IsReplica};
 ghost use Rattle.mr_replay.specs.Rows.{undo_row_of};
 ghost use Rattle.mr_replica.specs.Desk.{TakesStep, NeverStore, StandsFor};
 ghost use Rattle.mr_replica.specs.Steps.{submit_request, outcome_in};
-ghost use Rattle.mr_replica.specs.Summary.{tally_at};
+ghost use Rattle.mr_tables.specs.Summary.{tally_at};
 ghost use Rattle.mr_replica.specs.Turning.{TurnsTables, put_outcome};
-ghost use Rattle.mr_replica.specs.Written.{meta_of, changed_tallies, written};
+ghost use Rattle.mr_tables.specs.Written.{meta_of, changed_tallies, written};
 
-use crate::rooms::is_known;
-use crate::summary::Summary;
-use crate::{Change, Desk};
+use crate::Desk;
 use mr_base::{Refusal, Request, Write, WriteId};
 use mr_replay::UndoRow;
+use mr_tables::Change;
+use mr_tables::rooms::is_known;
+use mr_tables::summary::Summary;
 use std::slice;
 
 impl Desk {

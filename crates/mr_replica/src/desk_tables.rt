@@ -4,20 +4,22 @@ ghost use Rattle.mr_model.specs.Replica.{Replica, IsReplica};
 ghost use Rattle.mr_model.specs.Tables.{tables_of};
 ghost use Rattle.mr_replica.specs.Desk.{desk_of, StandsFor, IsWithinLimits};
 ghost use Rattle.mr_replica.specs.SoundLog.{IsOfSoundRows, is_on_board};
-ghost use Rattle.mr_replica.specs.SoundRows.{AreSound, Rise};
-ghost use Rattle.mr_replica.specs.Summary.{summary_of as summary_of_replica, IsWithin};
+ghost use Rattle.mr_tables.specs.SoundRows.{AreSound, Rise};
+ghost use Rattle.mr_tables.specs.Summary.{summary_of as summary_of_replica, IsWithin};
 
-use crate::boards::board_of;
+use crate::Desk;
 use crate::kept_rows::log_of;
 use crate::log::Log;
-use crate::old_errors::old_errors_in;
-use crate::rooms::copies_of;
 use crate::sound_log::are_booked;
-use crate::sound_rows::are_sound;
-use crate::summary::Summary;
-use crate::vector::summary_of;
-use crate::{Desk, Tables};
 use mr_base::Refusal;
+use mr_replay::Board;
+use mr_tables::boards::board_with;
+use mr_tables::old_errors::{OldError, are_rising, dropped_errors, sort_errors};
+use mr_tables::rooms::copies_of;
+use mr_tables::sound_rows::are_sound;
+use mr_tables::summary::Summary;
+use mr_tables::vector::summary_of;
+use mr_tables::{ErrorRow, Tables};
 use std::alloc::Global;
 
 impl Desk {
@@ -113,6 +115,36 @@ fn log_told(alloc: Global, tables: &Tables, summary: &Summary) -> Result<Log, Re
         Ok(board) => {
             if are_booked(&tables.booking, &board) {
                 log_of(alloc, tables, summary, board)
+            } else {
+                Err(Refusal::Store)
+            }
+        }
+        Err(refusal) => Err(refusal),
+    }
+}
+
+/// The board that the tables tell. Refused where a row is out of the limits.
+fn board_of(alloc: Global, tables: &Tables) -> Result<Board, Refusal>
+    ensures board { (a : Replica) → IsReplica a → tables.now ≡ tables_of a → IfOk result (λ board. board ≡ (desk_of a).log.board) }
+    ensures only { (a : Replica) → IsReplica a → tables.now ≡ tables_of a → IfErr result (λ e. e ≡ Refusal.OutOfMemory) }
+{
+    board_with(alloc, &tables.booking, &tables.errorlog)
+}
+
+/// What the rows of `errorlog` keep of dropped writes, by rising commit number, where so many are dropped. Refused where two
+/// have one number.
+fn old_errors_in(alloc: Global, rows: &[ErrorRow], dropped: u64) -> Result<Vec<OldError>, Refusal>
+    ensures errors { (a : Replica) → IsReplica a → rows.now ≡ (tables_of a).errorlog → dropped ≡ a.dropped
+        → IfOk result (λ errors. errors.items ≡ (desk_of a).old_errors) }
+    ensures only { (a : Replica) → IsReplica a → rows.now ≡ (tables_of a).errorlog → dropped ≡ a.dropped
+        → IfErr result (λ e. e ≡ Refusal.OutOfMemory) }
+    ensures rising { IfOk result (λ errors. Rise nat_lt (λ e. e.seq) errors.items) }
+{
+    match dropped_errors(alloc, rows, dropped) {
+        Ok(mut errors) => {
+            sort_errors(&mut errors);
+            if are_rising(&errors) {
+                Ok(errors)
             } else {
                 Err(Refusal::Store)
             }

@@ -4,9 +4,10 @@ ghost use Rattle.mr_model.specs.Step.{truncate};
 ghost use Rattle.mr_replica.specs.Desk.{TakesStep, NeverStore};
 ghost use Rattle.mr_replica.specs.Turning.{TurnsTables};
 
-use crate::written::forgotten;
-use crate::{Change, Desk};
+use crate::Desk;
 use mr_base::Refusal;
+use mr_tables::Change;
+use mr_tables::written::forgotten;
 
 impl Desk {
     /// Keeps the first commits up to this number no longer, and answers how many are dropped then, and what that changes in

@@ -6,18 +6,18 @@ ghost use Rattle.mr_model.specs.Replica.{Replica, IsReplica};
 ghost use Rattle.mr_model.specs.Tables.{kept, log_row, undo_row, tables_of};
 ghost use Rattle.mr_base.specs.Answers.{OrOutOfMemory};
 ghost use Rattle.mr_replica.specs.Desk.{desk_of};
-ghost use Rattle.mr_replica.specs.Rows.{log_row_with};
-ghost use Rattle.mr_replica.specs.Summary.{summary_of};
+ghost use Rattle.mr_tables.specs.Rows.{log_row_with};
+ghost use Rattle.mr_tables.specs.Summary.{summary_of};
 ghost use Rattle.mr_replica.specs.SoundLog.{IsOfSoundRows};
 ghost use Rattle.mr_replica.specs.KeptRows.{kept_row_with, kept_row as kept_row_of, run_place, run_cmp};
 
 use crate::log::Log;
-use crate::reading::write_of;
 use crate::sound_log::is_log_sound;
-use crate::summary::Summary;
-use crate::{LogRow, Tables, WriteUndoRow};
 use mr_base::{Refusal, ServerId, Write};
 use mr_replay::{Board, UndoRow};
+use mr_tables::reading::write_of;
+use mr_tables::summary::Summary;
+use mr_tables::{LogRow, Tables, WriteUndoRow};
 use std::alloc::Global;
 
 /// A kept write as `write_log` and `undo` tell it. `seq` is its commit number, 0 where it is tentative.

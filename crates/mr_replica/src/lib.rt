@@ -1,15 +1,12 @@
 //! One replica's working value: the log of its kept writes with the board that they lead to, its version vector, its rooms
 //! and its commits.
 //!
-//! It stands on `mr_replay`, the board; keepers and services of tables stand above it. Contracts see a desk as a record
-//! (specs/Desk.antt); each call of it is one step of the definitions, for every replica that the desk stands for
-//! (`TakesStep`).
+//! It stands on `mr_tables`, the rows of tables, and on `mr_replay`, the board; keepers and services of tables stand above it.
+//! Contracts see a desk as a record (specs/Desk.antt); each call of it is one step of the definitions, for every replica that
+//! the desk stands for (`TakesStep`).
 #![tactic(auto)]
 
-mod boards;
 mod candidate;
-mod change;
-mod choices;
 mod desk;
 mod desk_batch;
 mod desk_change;
@@ -22,25 +19,13 @@ mod desk_tables;
 mod desk_truncate;
 mod kept_rows;
 mod log;
-mod old_errors;
 mod outgoing;
-mod reading;
-mod rooms;
-mod rows;
 mod sound_log;
-mod sound_rows;
-mod summary;
-mod tables;
-mod vector;
-mod written;
 
 ghost use Rattle.mr_replica.specs.ChangeLaws.{DesksHaveTheTables, RoomsArePut, SubmissionsArePut, TailsArePut, CommitsArePut, TruncationsForget};
 ghost use Rattle.mr_replica.specs.Steps.{SubmissionsAreRequests};
 
-pub use change::Change;
 pub use desk::Desk;
-pub use rows::{BookingRow, ErrorRow, LogRow, MetaRow, VectorRow, WriteUndoRow};
-pub use tables::Tables;
 
 /// A submission in words, where nothing is at fault with these, is the request that they make.
 pub fn submission_law()

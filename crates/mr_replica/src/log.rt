@@ -3,9 +3,9 @@ ghost use Rattle.mr_replay.specs.Rows.{undone_all};
 ghost use Rattle.mr_replica.specs.Log.{pushed, replaced, without_front, errors_in, is_logged as is_logged_at};
 
 use crate::kept_rows::KeptRow;
-use crate::old_errors::OldError;
 use mr_base::{Refusal, Write};
 use mr_replay::{Board, Place, UndoRow};
+use mr_tables::old_errors::OldError;
 use std::alloc::Global;
 use std::marker::Model;
 

@@ -6,10 +6,10 @@ ghost use Rattle.mr_base.specs.Positions.{counts_of};
 ghost use Rattle.mr_base.specs.Batches.{batch_of};
 ghost use Rattle.mr_replica.specs.Outgoing.{Offers, committed_items, lacked_items, kept_items, ending_by};
 
-use crate::summary::Summary;
 use mr_base::{
     Batch, CommitNumber, Ending, Item, LineCount, Position, Refusal, ServerId, Write, WriteId,
 };
+use mr_tables::summary::Summary;
 use std::alloc::Global;
 
 /// The items of a batch that is made: the first ones, up to a limit, and whether there are more.

@@ -3,16 +3,16 @@ ghost use Rattle.std.specs.List.{All};
 ghost use Rattle.mr_model.specs.Writes.{id_of};
 ghost use Rattle.mr_replay.specs.Rows.{row_at};
 ghost use Rattle.mr_replica.specs.KeptRows.{run_place};
-ghost use Rattle.mr_replica.specs.Rows.{seq_on};
-ghost use Rattle.mr_replica.specs.SoundRows.{Rise};
+ghost use Rattle.mr_tables.specs.Rows.{seq_on};
+ghost use Rattle.mr_tables.specs.SoundRows.{Rise};
 ghost use Rattle.mr_replica.specs.SoundLog.{AreNumbered, is_run_before, IsAtPlace, IsLogSound, is_on_board};
 
-use crate::BookingRow;
-use crate::choices::choice_of;
 use crate::kept_rows::KeptRow;
-use crate::summary::Summary;
 use mr_base::{Slot, Write, WriteId};
 use mr_replay::{Board, Place, Row, Standing};
+use mr_tables::BookingRow;
+use mr_tables::choices::choice_of;
+use mr_tables::summary::Summary;
 
 /// Whether the rows, which are sorted, agree with each other and with the board.
 pub(crate) fn is_log_sound(rows: &[KeptRow], summary: &Summary, board: &Board) -> bool

@@ -3,7 +3,7 @@
 use crate::tables::{Rows, tables};
 use mr_base::Refusal;
 use mr_replay::Place;
-use mr_replica::Tables;
+use mr_tables::Tables;
 use std::alloc::{AllocError, Global};
 use std::fmt::Debug;
 use std::test::Fail;

@@ -6,7 +6,8 @@ use mr_base::{
     Alternatives, Batch, CommitNumber, Day, Ending, Item, LineCount, Refusal, Request, RoomName,
     ServerId, Slot, Stamp, Write, WriteId,
 };
-use mr_replica::{Change, Desk};
+use mr_replica::Desk;
+use mr_tables::Change;
 use std::alloc::Global;
 use std::process::Abort;
 use std::test::Fail;

@@ -3,7 +3,7 @@
 use crate::desks::server;
 use mr_base::{Day, Refusal, RoomName, Title};
 use mr_replay::Place;
-use mr_replica::{BookingRow, ErrorRow, LogRow, MetaRow, Tables, VectorRow, WriteUndoRow};
+use mr_tables::{BookingRow, ErrorRow, LogRow, MetaRow, Tables, VectorRow, WriteUndoRow};
 use std::alloc::Global;
 
 /// The rows of the tables.

@@ -6,7 +6,7 @@ use crate::desks::{
 use crate::tables::Rows;
 use mr_base::Refusal;
 use mr_replay::Place;
-use mr_replica::{Change, LogRow};
+use mr_tables::{Change, LogRow};
 use std::alloc::Global;
 use std::test::Fail;
 

@@ -10,7 +10,7 @@ use Rattle.mr_model.proofs.StepsKeep.{step_keeps}
 use Rattle.mr_base.specs.Refusals.{refusal_of}
 use Rattle.mr_base.specs.declared.refusals.Refusal.{Refusal}
 use Rattle.mr_base.specs.declared.refusals.Refusal.TheVariants as refusal
-use Rattle.mr_replica.specs.Change.{ChangeView, changed}
+use Rattle.mr_tables.specs.Change.{ChangeView, changed}
 use Rattle.mr_replica.specs.Desk as desk
 use Rattle.mr_replica.specs.DeskTables.{desk_tables}
 use Rattle.mr_replica.specs.Turning.{TurnsTables}

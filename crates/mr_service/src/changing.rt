@@ -17,8 +17,8 @@ use crate::outcomes::{booked, logged};
 use crate::replies::{Outcome, Reply};
 use crate::words::read_request;
 use mr_base::{LineCount, Refusal, RoomName};
-use mr_replica::Change;
 use mr_store::Keeper;
+use mr_tables::Change;
 use mr_wire::{read_batch, read_position};
 use std::alloc::Global;
 

@@ -4,7 +4,7 @@ ghost use Rattle.mr_service.specs.Asked.{outcome_of};
 
 use crate::replies::{Booking, Outcome};
 use mr_base::{TimeOfDay, WriteId};
-use mr_replica::{BookingRow, ErrorRow};
+use mr_tables::{BookingRow, ErrorRow};
 
 /// What became of the request of a row of `booking`.
 pub(crate) fn booked(row: &BookingRow) -> Outcome

@@ -20,8 +20,8 @@ use crate::commands::Part;
 use crate::outcomes::{booked, logged};
 use crate::replies::{Outcome, Reply};
 use mr_base::{Day, Refusal, RoomName, WriteId};
-use mr_replica::{BookingRow, ErrorRow};
 use mr_store::{Keeper, PlaceRow};
+use mr_tables::{BookingRow, ErrorRow};
 use std::alloc::Global;
 
 /// The bookings of a room on a day.

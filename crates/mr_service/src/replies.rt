@@ -1,6 +1,6 @@
 use crate::commands::Part;
 use mr_base::{Batch, Day, Position, Refusal, RoomName, WriteId};
-use mr_replica::{BookingRow, ErrorRow};
+use mr_tables::{BookingRow, ErrorRow};
 
 /// What a replica replies to a command.
 #[derive(Debug, Drop)]

@@ -13,7 +13,7 @@ use crate::commands::Part;
 use crate::outcomes::{booked_id, logged_id};
 use crate::replies::{Outcome, Reply};
 use mr_base::{Day, Refusal, RoomName, TimeOfDay, weekday_name};
-use mr_replica::{BookingRow, ErrorRow};
+use mr_tables::{BookingRow, ErrorRow};
 use mr_wire::{write_batch, write_position};
 use std::alloc::{AllocError, Global};
 use std::fmt;

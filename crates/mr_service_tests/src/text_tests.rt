@@ -4,8 +4,8 @@ use mr_base::{
     Batch, CommitNumber, Day, Ending, Item, Position, Refusal, RoomName, ServerId, TimeOfDay,
     Title, WriteId, read_minute,
 };
-use mr_replica::{BookingRow, ErrorRow};
 use mr_service::{Booking, Outcome, Part, Reply, refusal_text, reply_text, sheet_text};
+use mr_tables::{BookingRow, ErrorRow};
 use std::alloc::Global;
 use std::process::Abort;
 use std::test::Fail;

@@ -16,8 +16,8 @@ use Rattle.mr_model.specs.Tables.{MetaRow, BookingRow, ErrorRow, Tables}
 use Rattle.mr_model.specs.Queries.{booking_id, error_id}
 use Rattle.mr_model.specs.Dropped.{Has}
 use Rattle.mr_model.proofs.Members.{has_filter, filter_has, find_none, find_one}
-use Rattle.mr_replica.specs.Change.{id_before}
-use Rattle.mr_replica.proofs.Putting.{OneAKey, one_a_key, id_order, number_order}
+use Rattle.mr_tables.specs.Change.{id_before}
+use Rattle.mr_tables.proofs.Putting.{OneAKey, one_a_key, id_order, number_order}
 use Rattle.mr_store.specs.Picked.{is_asked, picked_bookings, booking_before, AreBookings, find_booking, find_error, IsPlaceOf}
 use Rattle.mr_sql.specs.Kept.{first_meta, tables_in}
 use Rattle.mr_sql.specs.Cells.{meta_in, booking_in, error_in}

@@ -33,7 +33,7 @@ use Rattle.sqlite.specs.Collation.TheVariants.{Binary}
 use Rattle.mr_model.specs.Texts as texts
 use Rattle.mr_model.specs.Writes.{Id}
 use Rattle.mr_model.specs.Tables.{MetaRow}
-use Rattle.mr_replica.specs.Change.{put, put_all}
+use Rattle.mr_tables.specs.Change.{put, put_all}
 use Rattle.mr_sql.specs.Cells.{meta_in}
 use Rattle.mr_sql.specs.Schema.{our_schema}
 use Rattle.mr_sql.specs.Shelf.{IsShelf}

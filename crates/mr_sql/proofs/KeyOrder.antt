@@ -5,8 +5,8 @@ use Rattle.std.proofs.lemmas.List.{append-nil}
 use Rattle.std.proofs.lemmas.List.Sorted.{IsPermutation-refl, IsPermutation-trans, IsPermutation-sym, IsPermutation-cons, IsPermutation-to_front, IsPermutation-append_left, IsPermutation-append_right}
 use Rattle.mr_model.specs.Dropped.{Has}
 use Rattle.mr_model.proofs.Members.{Sorted, sorted_filter, has_filter, filter_has, all_has}
-use Rattle.mr_replica.specs.Change.{put, put_all}
-use Rattle.mr_replica.proofs.Putting.{IsOrder, InOrder, Lacks, OneAKey, put_has, has_put, put_in_order, put_all_in_order, put_all_has, new_has_put_all, in_order_same}
+use Rattle.mr_tables.specs.Change.{put, put_all}
+use Rattle.mr_tables.proofs.Putting.{IsOrder, InOrder, Lacks, OneAKey, put_has, has_put, put_in_order, put_all_in_order, put_all_has, new_has_put_all, in_order_same}
 
 module _ {R K : Type 0} (before : K → K → Bool) (key : R → K) where
   -- no two of them have one key

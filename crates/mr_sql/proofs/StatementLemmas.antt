@@ -17,7 +17,7 @@ use Rattle.mr_model.proofs.WordsReadBack.{date-text}
 use Rattle.mr_sql.specs.Cells.{mark, nat_of, place_number, place_in}
 use Rattle.mr_sql.specs.Form.{meta_form, room_form, vector_form, log_form, undo_form, booking_form, error_form}
 use Rattle.std.specs.Prelude.{nat_lt}
-use Rattle.mr_replica.specs.Change.{put}
+use Rattle.mr_tables.specs.Change.{put}
 use Rattle.mr_sql.specs.Kept.{first_meta, IsOurs, IsStep, Makes, tables_in}
 use Rattle.mr_sql.specs.Parts.{take_logs, take_undos, take_bookings, take_errors, put_meta, put_rooms, put_vector, put_logs, put_undos, put_bookings, put_errors}
 use Rattle.mr_sql.proofs.Texts.{take_log_text, take_log_is, take_undo_text, take_undo_is, take_booking_text, take_booking_is, take_error_text, take_error_is, put_meta_text, put_meta_is, put_room_text, put_room_is, put_vector_text, put_vector_is, put_log_text, put_log_is, put_undo_text, put_undo_is, put_booking_text, put_booking_is, put_error_text, put_error_is}

@@ -14,7 +14,7 @@ use Rattle.sqlite.specs.Kind.TheVariants.{Integer}
 use Rattle.mr_model.specs.Texts as texts
 use Rattle.mr_model.specs.Replica.{is_among}
 use Rattle.mr_model.specs.Tables.{MetaRow, VectorRow, LogRow, UndoRow, BookingRow, ErrorRow}
-use Rattle.mr_replica.proofs.Putting.{id_order, number_order, name_order}
+use Rattle.mr_tables.proofs.Putting.{id_order, number_order, name_order}
 use Rattle.mr_sql.specs.Meaning.{passes}
 use Rattle.mr_sql.specs.Cells.{mark, place_number, room_in, vector_in, log_in, undo_in, booking_in, error_in}
 use Rattle.mr_sql.specs.Form.{meta_form, room_form, vector_form, log_form, undo_form, booking_form, error_form}

@@ -29,8 +29,8 @@ use Rattle.sqlite.specs.Rows.{Task, stamped, mended}
 use Rattle.sqlite.specs.Does.{Does, OnRows}
 use Rattle.sqlite.specs.State.{State, mode_of, ExecutesInside, Shown}
 use Rattle.sqlite.proofs.Callers.{statement_of, runs_as, reads_as}
-use Rattle.mr_replica.specs.Change.{put, put_all}
-use Rattle.mr_replica.proofs.Putting.{IsOrder}
+use Rattle.mr_tables.specs.Change.{put, put_all}
+use Rattle.mr_tables.proofs.Putting.{IsOrder}
 use Rattle.mr_sql.specs.Schema.{our_schema}
 use Rattle.mr_sql.specs.Meaning.{passes}
 use Rattle.mr_sql.specs.Form.{Form}

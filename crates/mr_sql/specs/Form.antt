@@ -6,7 +6,7 @@ use Rattle.mr_model.specs.Writes.{Id}
 use Rattle.mr_model.specs.Replica.{text_before}
 use Rattle.mr_model.specs.Tables.{MetaRow, VectorRow, LogRow, UndoRow, BookingRow, ErrorRow}
 use Rattle.mr_model.specs.Queries.{booking_id, error_id}
-use Rattle.mr_replica.specs.Change.{id_before, log_id, undo_id}
+use Rattle.mr_tables.specs.Change.{id_before, log_id, undo_id}
 use Rattle.sqlite_schema.specs.declared.schema.Table.{Table}
 use Rattle.mr_sql.specs.Schema.{meta_table, room_table, vector_table, log_table, undo_table, booking_table, error_table}
 use Rattle.mr_sql.specs.Cells.{meta_cells, meta_in, room_cells, room_in, vector_cells, vector_in, log_cells, log_in, undo_cells, undo_in, booking_cells, booking_in, error_cells, error_in}

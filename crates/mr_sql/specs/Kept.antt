@@ -9,7 +9,7 @@ use Rattle.sqlite.specs.Effect.{Database}
 use Rattle.sqlite.specs.State.{State, HasCleanDisk, KeepsCommit}
 use Rattle.sqlite.specs.declared.error.Error.{Error}
 use Rattle.mr_model.specs.Tables.{MetaRow, Tables}
-use Rattle.mr_replica.specs.Change.{put_all}
+use Rattle.mr_tables.specs.Change.{put_all}
 use Rattle.mr_sql.specs.Schema.{our_schema}
 use Rattle.mr_sql.specs.Shelf.{IsShelf}
 use Rattle.mr_sql.specs.Form.{Form, meta_form, room_form, vector_form, log_form, undo_form, booking_form, error_form}

@@ -5,7 +5,7 @@ use Rattle.mr_model.specs.Writes.{Id}
 use Rattle.mr_model.specs.Replica.{text_before}
 use Rattle.mr_model.specs.Tables.{MetaRow, VectorRow, LogRow, UndoRow, BookingRow, ErrorRow, Tables}
 use Rattle.mr_model.specs.Queries.{booking_id, error_id}
-use Rattle.mr_replica.specs.Change.{ChangeView, put_all, without, id_before, log_id, undo_id}
+use Rattle.mr_tables.specs.Change.{ChangeView, put_all, without, id_before, log_id, undo_id}
 
 -- ---- rows taken away
 

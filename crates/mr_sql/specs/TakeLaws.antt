@@ -4,7 +4,7 @@ use Rattle.mr_model.specs.Writes.{Id, same_id}
 use Rattle.mr_model.specs.Replica.{is_among}
 use Rattle.mr_model.specs.Tables.{Tables}
 use Rattle.mr_model.specs.Queries.{booking_id, error_id}
-use Rattle.mr_replica.specs.Change.{without, log_id, undo_id}
+use Rattle.mr_tables.specs.Change.{without, log_id, undo_id}
 use Rattle.mr_sql.specs.Parts.{take_logs, take_undos, take_bookings, take_errors}
 
 -- the first, and then the others

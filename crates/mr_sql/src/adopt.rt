@@ -13,7 +13,7 @@ use crate::faults::refusal_of;
 use crate::found::find_all;
 use crate::schemas::{is_blank, is_ours};
 use mr_base::{Refusal, ServerId};
-use mr_replica::MetaRow;
+use mr_tables::MetaRow;
 use sqlite::{Alter, Connection, Error, ErrorCode};
 use std::alloc::Global;
 

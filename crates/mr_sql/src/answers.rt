@@ -16,8 +16,8 @@ use crate::queries::{
 use crate::stored_rows::{StoredRow, read_all};
 use crate::whole::all_rows;
 use mr_base::{Day, RoomName, WriteId};
-use mr_replica::{BookingRow, ErrorRow};
 use mr_store::PlaceRow;
+use mr_tables::{BookingRow, ErrorRow};
 use sqlite::{Alter, Connection, Error, Row};
 use std::alloc::Global;
 

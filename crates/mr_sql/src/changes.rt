@@ -1,14 +1,14 @@
 ghost use Rattle.std.specs.Prelude.{◌≡◌, false, OnOk, IsTrue};
 ghost use Rattle.sqlite.specs.State.{HasCleanDisk, Survives};
 ghost use Rattle.sqlite.specs.Held.{state};
-ghost use Rattle.mr_replica.specs.Change.{changed};
+ghost use Rattle.mr_tables.specs.Change.{changed};
 ghost use Rattle.mr_sql.specs.Kept.{Makes, Applies, IsReached, tables_in};
 ghost use Rattle.mr_sql.specs.Parts.{logs_taken, board_taken, rows_taken, heads_put, logs_put, board_put, rows_put};
 
 use crate::puts::put_meta;
 use crate::stored_rows::{RequestRow, StoredRow};
 use mr_base::{RoomName, WriteId};
-use mr_replica::{BookingRow, Change, ErrorRow, LogRow, VectorRow, WriteUndoRow};
+use mr_tables::{BookingRow, Change, ErrorRow, LogRow, VectorRow, WriteUndoRow};
 use sqlite::{Alter, Connection, Error, Transaction};
 use std::alloc::Global;
 

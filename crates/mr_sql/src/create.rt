@@ -7,7 +7,7 @@ ghost use Rattle.mr_sql.specs.Parts.{put_meta as meta_put};
 ghost use Rattle.mr_sql.specs.Blank.{IsBlank, Grows, no_tables};
 
 use crate::puts::put_meta;
-use mr_replica::MetaRow;
+use mr_tables::MetaRow;
 use sqlite::{Alter, Connection, Error, Transaction};
 
 fn create_meta<S: Alter>(tx: &mut Transaction<'_, S>) -> Result<usize, Error>

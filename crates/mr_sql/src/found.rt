@@ -11,7 +11,7 @@ use crate::meta_row::read_meta;
 use crate::queries::select_all_meta;
 use crate::stored_rows::StoredRow;
 use mr_base::RoomName;
-use mr_replica::{BookingRow, ErrorRow, LogRow, MetaRow, VectorRow, WriteUndoRow};
+use mr_tables::{BookingRow, ErrorRow, LogRow, MetaRow, VectorRow, WriteUndoRow};
 use sqlite::{Alter, Connection, Error, Row};
 use std::alloc::Global;
 

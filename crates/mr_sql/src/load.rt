@@ -12,7 +12,8 @@ use crate::meta_row::read_meta;
 use crate::queries::select_all_meta;
 use crate::whole::all_rows;
 use mr_base::{Refusal, RoomName};
-use mr_replica::{BookingRow, Desk, ErrorRow, LogRow, MetaRow, Tables, VectorRow, WriteUndoRow};
+use mr_replica::Desk;
+use mr_tables::{BookingRow, ErrorRow, LogRow, MetaRow, Tables, VectorRow, WriteUndoRow};
 use sqlite::{Alter, Connection, Error, ErrorCode, Row};
 use std::alloc::Global;
 

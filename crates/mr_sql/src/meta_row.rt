@@ -4,7 +4,7 @@ ghost use Rattle.mr_sql.specs.Cells.{meta_in, meta_cells};
 ghost use Rattle.mr_sql.specs.Found.{columns_from};
 
 use crate::cells::{read_server, read_u32, read_u64};
-use mr_replica::MetaRow;
+use mr_tables::MetaRow;
 use sqlite::{Error, Row};
 
 /// The row of `meta`; its columns are counted from 0.

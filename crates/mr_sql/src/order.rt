@@ -4,7 +4,7 @@ ghost use Rattle.mr_sql.specs.Reads.{date_cmp, time_cmp};
 
 use crate::stored_rows::StoredRow;
 use mr_base::Day;
-use mr_replica::BookingRow;
+use mr_tables::BookingRow;
 use std::alloc::AllocError;
 use std::cmp::Ordering;
 

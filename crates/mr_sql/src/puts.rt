@@ -7,7 +7,7 @@ ghost use Rattle.mr_sql.specs.Parts.{put_meta as with_meta, put_vector, put_logs
 
 use crate::numbers::Number;
 use mr_base::Day;
-use mr_replica::{BookingRow, ErrorRow, LogRow, MetaRow, VectorRow};
+use mr_tables::{BookingRow, ErrorRow, LogRow, MetaRow, VectorRow};
 use sqlite::{Alter, Error, Transaction, params};
 use std::alloc::Global;
 

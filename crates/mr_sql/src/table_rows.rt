@@ -5,7 +5,7 @@ ghost use Rattle.mr_model.specs.Texts.{Text};
 ghost use Rattle.mr_model.specs.Writes.{Id};
 ghost use Rattle.mr_model.specs.Queries.{booking_id, error_id};
 ghost use Rattle.mr_base.specs.Ids.{id_cmp};
-ghost use Rattle.mr_replica.specs.Change.{log_id, undo_id};
+ghost use Rattle.mr_tables.specs.Change.{log_id, undo_id};
 ghost use Rattle.mr_sql.specs.Form.{room_form, vector_form, log_form, undo_form, booking_form, error_form};
 ghost use Rattle.mr_sql.specs.Parts.{take_logs, take_undos, take_bookings, take_errors, put_rooms, put_vector, put_logs, put_undos, put_bookings, put_errors};
 ghost use Rattle.mr_sql.specs.TakeLaws.{logs_none, undos_none, bookings_none, errors_none, logs_more, undos_more, bookings_more, errors_more};
@@ -19,7 +19,7 @@ use crate::puts::{day_text, put_booking_cells, put_error_cells, put_log_cells, p
 use crate::queries::ask;
 use crate::stored_rows::{RequestRow, StoredRow};
 use mr_base::{RoomName, ServerId, WriteId};
-use mr_replica::{BookingRow, ErrorRow, LogRow, VectorRow, WriteUndoRow};
+use mr_tables::{BookingRow, ErrorRow, LogRow, VectorRow, WriteUndoRow};
 use sqlite::{Alter, Connection, Error, Row, Transaction, params};
 use std::alloc::Global;
 use std::cmp::Ordering;

@@ -2,7 +2,7 @@
 use Rattle.std.proofs.Common.{◌≡◌, ℕ, suc, ◌<◌, ◌≤◌, Bool, true, false, cond, List, [], ◌∷◌, ◌++◌, length, take, drop, refl, sym, ap, subst, ◌∙◌, arith, slice_index_or, slice_set}
 use Rattle.std.proofs.lemmas.Bool.{true≢false}
 use Rattle.std.specs.List.{insert}
-use Rattle.mr_replica.specs.Change.{put}
+use Rattle.mr_tables.specs.Change.{put}
 use Rattle.mr_store.specs.Rows.{row_place}
 
 set_at : {R : Type 0} (before : R → R → Bool) (x : R) (rows : List R) (d : R) → row_place before x rows < length rows → before x (slice_index_or rows (row_place before x rows) d) ≡ false → slice_set rows (row_place before x rows) x ≡ put before (λ r. r) x rows

@@ -2,13 +2,14 @@ ghost use Rattle.std.specs.Prelude.{◌≡◌, ◌<◌, ◌⊎◌, ℕ, IfOk, On
 ghost use Rattle.std.specs.List.Sorted.{IsPermutation};
 ghost use Rattle.mr_model.specs.Replica.{Replica};
 ghost use Rattle.mr_model.specs.Tables.{Tables, Stands};
-ghost use Rattle.mr_replica.specs.Change.{changed};
+ghost use Rattle.mr_tables.specs.Change.{changed};
 ghost use Rattle.mr_replica.specs.Desk.{StandsFor, IsWithinLimits};
 ghost use Rattle.mr_store.specs.Kept.{failures_after, failures_for, fault_refusal, IsSettled};
 ghost use Rattle.mr_store.specs.Picked.{picked_errors, AreBookings, IsPlaceOf};
 
 use mr_base::{Day, Refusal, RoomName, WriteId};
-use mr_replica::{BookingRow, Change, Desk, ErrorRow};
+use mr_replica::Desk;
+use mr_tables::{BookingRow, Change, ErrorRow};
 
 /// Why a keeper answers nothing.
 #[derive(Clone, Copy, Debug, PartialEq, Eq)]

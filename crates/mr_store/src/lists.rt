@@ -1,14 +1,15 @@
 ghost use Rattle.std.specs.Prelude.{◌≡◌, ◌≢◌, ◌<◌, IfOk};
 ghost use Rattle.mr_model.specs.Replica.{opening};
 ghost use Rattle.mr_model.specs.Tables.{tables_of, Stands};
-ghost use Rattle.mr_replica.specs.Change.{changed};
+ghost use Rattle.mr_tables.specs.Change.{changed};
 ghost use Rattle.mr_store.specs.Kept.{failures_for};
 
 use crate::queries::{bookings_of, errors_of, place_of};
 use crate::rows::{changed_rows, copies_of, grown_rows};
 use crate::{Fault, Keeper, PlaceRow};
 use mr_base::{Day, Refusal, RoomName, ServerId, WriteId};
-use mr_replica::{BookingRow, Change, Desk, ErrorRow, MetaRow, Tables};
+use mr_replica::Desk;
+use mr_tables::{BookingRow, Change, ErrorRow, MetaRow, Tables};
 use std::alloc::{AllocError, Global};
 use std::marker::Model;
 

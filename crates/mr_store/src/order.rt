@@ -3,7 +3,7 @@ ghost use Rattle.std.specs.List.Sorted.{IsPermutation, IsSortedBy};
 ghost use Rattle.mr_store.specs.Order.{booking_cmp};
 ghost use Rattle.mr_store.specs.Picked.{booking_before};
 
-use mr_replica::BookingRow;
+use mr_tables::BookingRow;
 use std::alloc::AllocError;
 use std::cmp::Ordering;
 

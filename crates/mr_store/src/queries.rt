@@ -7,7 +7,7 @@ use crate::PlaceRow;
 use crate::order::sort_bookings;
 use crate::rows::{RequestRow, TableRow};
 use mr_base::{Day, RoomName, WriteId};
-use mr_replica::{BookingRow, ErrorRow, Tables};
+use mr_tables::{BookingRow, ErrorRow, Tables};
 use std::alloc::{AllocError, Global};
 
 /// Copies of the bookings of a room, of a day or of all days, in the order of a calendar.

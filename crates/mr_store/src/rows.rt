@@ -1,7 +1,7 @@
 ghost use Rattle.std.specs.Prelude.{◌≡◌, ◌≤◌, Bool, length, IfOk, OnOk};
 ghost use Rattle.mr_model.specs.Writes.{Id, same_id};
 ghost use Rattle.mr_model.specs.Replica.{is_among};
-ghost use Rattle.mr_replica.specs.Change.{put, put_all, without};
+ghost use Rattle.mr_tables.specs.Change.{put, put_all, without};
 ghost use Rattle.mr_store.specs.Rows.{row_place};
 
 use mr_base::WriteId;

@@ -2,11 +2,11 @@ ghost use Rattle.std.specs.Prelude.{◌≡◌, nat_lt};
 ghost use Rattle.mr_model.specs.Writes.{same_id};
 ghost use Rattle.mr_model.specs.Replica.{text_before};
 ghost use Rattle.mr_model.specs.Queries.{booking_id, error_id};
-ghost use Rattle.mr_replica.specs.Change.{id_before, log_id, undo_id};
+ghost use Rattle.mr_tables.specs.Change.{id_before, log_id, undo_id};
 
 use crate::rows::{RequestRow, TableRow};
 use mr_base::{RoomName, ServerId, WriteId};
-use mr_replica::{BookingRow, ErrorRow, LogRow, VectorRow, WriteUndoRow};
+use mr_tables::{BookingRow, ErrorRow, LogRow, VectorRow, WriteUndoRow};
 use std::alloc::{AllocError, Global};
 
 impl TableRow for RoomName {

@@ -1,7 +1,7 @@
 // Rows and changes of replica 2, whose primary is 1.
 
 use mr_base::{Day, Refusal, RoomName, ServerId, Title, WriteId};
-use mr_replica::{BookingRow, Change, ErrorRow, MetaRow, Tables, VectorRow};
+use mr_tables::{BookingRow, Change, ErrorRow, MetaRow, Tables, VectorRow};
 use std::alloc::Global;
 
 pub(crate) const MONDAY: &str = "1995-12-18";

@@ -3,8 +3,8 @@
 
 use crate::changes::{MONDAY, first_change, id, second_change, server, tables};
 use mr_base::{Day, Refusal, RoomName, WriteId};
-use mr_replica::{BookingRow, Change, ErrorRow};
 use mr_store::{Fault, Keeper, ListKeeper, PlaceRow, Tripped};
+use mr_tables::{BookingRow, Change, ErrorRow};
 use std::alloc::Global;
 use std::process::Abort;
 use std::test::Fail;

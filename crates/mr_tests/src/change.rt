@@ -2,7 +2,7 @@
 
 use mr_base::{Day, Refusal, RoomName, ServerId, Title};
 use mr_replay::Place;
-use mr_replica::{BookingRow, Change, ErrorRow, LogRow, MetaRow, VectorRow, WriteUndoRow};
+use mr_tables::{BookingRow, Change, ErrorRow, LogRow, MetaRow, VectorRow, WriteUndoRow};
 use std::alloc::Global;
 
 pub(crate) const MONDAY: &str = "1995-12-18";

@@ -1,10 +1,10 @@
 use Rattle.std.proofs.Common.{◌∙◌, sym, subst}
 use Rattle.std.proofs.lemmas.Bool.{true≢false}
 use Rattle.mr_model.specs.Tables.{Tables}
-use Rattle.mr_replica.specs.declared.summary.Summary.{Summary}
-use Rattle.mr_replica.specs.SoundRows.{AreSound}
-use Rattle.mr_replica.specs.Summary.{IsWithin, summary_of}
-use Rattle.mr_replica.proofs.Limits.{numbers_within}
+use Rattle.mr_tables.specs.declared.summary.Summary.{Summary}
+use Rattle.mr_tables.specs.SoundRows.{AreSound}
+use Rattle.mr_tables.specs.Summary.{IsWithin, summary_of}
+use Rattle.mr_tables.proofs.Limits.{numbers_within}
 use Rattle.mr_replica.proofs.SoundRows.{tables_sound}
 use Rattle.mr_replica.proofs.desk_tables.desk_told.Goals as goal
 

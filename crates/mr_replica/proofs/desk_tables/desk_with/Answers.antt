@@ -1,8 +1,8 @@
 use Rattle.std.proofs.Common.{◌≤◌, ◌∙◌, ap}
 use Rattle.std.proofs.lemmas.List.Elements.{recursion_from_All}
 use Rattle.mr_model.specs.Tables.{Tables}
-use Rattle.mr_replica.specs.declared.summary.Summary.{Summary}
-use Rattle.mr_replica.specs.declared.summary.Tally.{Tally}
+use Rattle.mr_tables.specs.declared.summary.Summary.{Summary}
+use Rattle.mr_tables.specs.declared.summary.Tally.{Tally}
 use Rattle.mr_replica.proofs.Desks.{desk_with}
 use Rattle.mr_replica.proofs.desk_tables.desk_with.Goals as goal
 

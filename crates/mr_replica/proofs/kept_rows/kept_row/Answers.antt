@@ -3,7 +3,7 @@ use Rattle.mr_model.specs.Writes.{Write}
 use Rattle.mr_model.specs.Tables.{LogRow}
 use Rattle.mr_base.specs.Answers.{OrOutOfMemory}
 use Rattle.mr_replica.specs.KeptRows.{kept_row_with}
-use Rattle.mr_replica.proofs.LogRows.{refused, answered}
+use Rattle.mr_tables.proofs.LogRows.{refused, answered}
 use Rattle.mr_replica.proofs.kept_rows.kept_row.Goals as goal
 
 pub returns-in-Ok : goal.returns-in-Ok

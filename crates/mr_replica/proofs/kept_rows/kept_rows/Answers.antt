@@ -2,7 +2,7 @@ use Rattle.std.proofs.Common.{◌≡◌, ◌∙◌, ◌++◌, ◌∷◌, [], len
 use Rattle.std.proofs.lemmas.List.{length-map}
 use Rattle.mr_model.specs.Tables.{kept, seq_of, place_of, log_row, undo_row}
 use Rattle.mr_replica.specs.KeptRows.{kept_row}
-use Rattle.mr_replica.proofs.LogRows.{answered, never_refused}
+use Rattle.mr_tables.proofs.LogRows.{answered, never_refused}
 use Rattle.mr_replica.proofs.KeptReading.{pair_at, kept_within, all_pairs}
 use Rattle.mr_replica.proofs.kept_rows.kept_rows.Goals as goal
 

@@ -4,10 +4,10 @@ use Rattle.std.proofs.lemmas.Bool.{true≢false}
 use Rattle.mr_model.specs.Kept.{kept_in_order}
 use Rattle.mr_replay.specs.Rows.{Rows}
 use Rattle.mr_replica.specs.declared.kept_rows.KeptRow.{KeptRow}
-use Rattle.mr_replica.specs.declared.summary.Summary.{Summary}
+use Rattle.mr_tables.specs.declared.summary.Summary.{Summary}
 use Rattle.mr_replica.specs.Log.{KeptLog}
 use Rattle.mr_replica.specs.Desk.{desk_of}
-use Rattle.mr_replica.specs.Summary.{summary_of}
+use Rattle.mr_tables.specs.Summary.{summary_of}
 use Rattle.mr_replica.specs.SoundLog.{IsLogSound}
 use Rattle.mr_replica.proofs.DeskRows.{board_of}
 use Rattle.mr_replica.proofs.KeptOrder.{kept_sorted, kept_writes, kept_undo}

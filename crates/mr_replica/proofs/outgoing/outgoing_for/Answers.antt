@@ -6,10 +6,10 @@ use Rattle.mr_base.specs.declared.refusals.Refusal.{Refusal}
 use Rattle.mr_base.specs.declared.refusals.Refusal.TheVariants.{OutOfMemory}
 use Rattle.std.specs.Prelude.{Result}
 use Rattle.mr_replica.specs.declared.outgoing.Outgoing.{Outgoing}
-use Rattle.mr_replica.specs.Summary.{committed_len}
+use Rattle.mr_tables.specs.Summary.{committed_len}
 use Rattle.mr_replica.specs.Outgoing.{Offers, committed_items, lacked_items}
 use Rattle.mr_base.specs.Positions.{counts_of}
-use Rattle.mr_replica.proofs.Limits.{few_asked}
+use Rattle.mr_tables.proofs.Limits.{few_asked}
 use Rattle.mr_replica.proofs.outgoing.outgoing_for.Goals as goal
 
 -- the commits that are handed on have numbers within the limits

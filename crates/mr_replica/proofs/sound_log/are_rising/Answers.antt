@@ -3,7 +3,7 @@ use Rattle.std.proofs.lemmas.List.Sorted.{answers_always}
 use Rattle.mr_replica.specs.declared.kept_rows.KeptRow.{KeptRow}
 use Rattle.mr_replica.specs.KeptRows.{run_place}
 use Rattle.mr_replica.specs.SoundLog.{is_run_before}
-use Rattle.mr_replica.proofs.Rising.{rise_from}
+use Rattle.mr_tables.proofs.Rising.{rise_from}
 use Rattle.mr_replica.proofs.sound_log.are_rising.Goals as goal
 
 pub returns : goal.returns

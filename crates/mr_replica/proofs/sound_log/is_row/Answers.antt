@@ -3,7 +3,7 @@ use Rattle.std.proofs.lemmas.Slice.Eq.{bytes_eq-Decides}
 use Rattle.mr_model.specs.Texts.{Text}
 use Rattle.mr_model.specs.Writes.{Write}
 use Rattle.mr_replay.specs.declared.rows.Row.{Row}
-use Rattle.mr_replica.proofs.Rising.{both}
+use Rattle.mr_tables.proofs.Rising.{both}
 use Rattle.mr_replica.proofs.SameRows.{told_by, same_number, same_slot, same_standing, same_row}
 use Rattle.mr_replica.proofs.sound_log.is_row.Goals as goal
 

@@ -4,7 +4,7 @@ use Rattle.mr_model.specs.Serving.{Reaches}
 use Rattle.mr_model.specs.Replies.{Refused, CommittedIs}
 use Rattle.mr_model.specs.Step.{Commit, commit}
 use Rattle.mr_base.specs.Refusals.{refusal_of}
-use Rattle.mr_replica.specs.Change.{changed}
+use Rattle.mr_tables.specs.Change.{changed}
 use Rattle.mr_service.proofs.DeskSteps as steps
 use Rattle.mr_service.proofs.changing.commit.Goals as goal
 

@@ -4,7 +4,7 @@ use Rattle.mr_model.specs.Serving.{Reaches}
 use Rattle.mr_model.specs.Replies.{Refused, Took}
 use Rattle.mr_model.specs.Step.{Receive, receive_batch}
 use Rattle.mr_base.specs.Refusals.{refusal_of}
-use Rattle.mr_replica.specs.Change.{changed}
+use Rattle.mr_tables.specs.Change.{changed}
 use Rattle.mr_service.proofs.DeskSteps as steps
 use Rattle.mr_service.proofs.CommandWords as words
 use Rattle.mr_service.proofs.changing.receive.Goals as goal

@@ -6,7 +6,7 @@ use Rattle.mr_model.specs.Step.{Submit, no_memory}
 use Rattle.mr_base.specs.Refusals.{refusal_of}
 use Rattle.mr_replica.specs.Steps.{submit_request, outcome_in}
 use Rattle.mr_service.specs.Asked.{submission_of, outcome_of}
-use Rattle.mr_replica.specs.Change.{changed}
+use Rattle.mr_tables.specs.Change.{changed}
 use Rattle.mr_service.proofs.DeskSteps as steps
 use Rattle.mr_service.proofs.CommandWords as words
 use Rattle.mr_service.proofs.changing.submit.Goals as goal

@@ -1,5 +1,5 @@
 use Rattle.std.proofs.Common.{◌≡◌, take}
-use Rattle.mr_replica.specs.Change.{without}
+use Rattle.mr_tables.specs.Change.{without}
 use Rattle.mr_store.proofs.rows.copies_without.Given as goal
 
 abbrev pub invariant-loop-row : goal.invariant-loop-row

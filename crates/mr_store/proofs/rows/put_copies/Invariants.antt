@@ -1,5 +1,5 @@
 use Rattle.std.proofs.Common.{◌≡◌, drop}
-use Rattle.mr_replica.specs.Change.{put_all}
+use Rattle.mr_tables.specs.Change.{put_all}
 use Rattle.mr_store.proofs.rows.put_copies.Given as goal
 
 -- with those that are left the rows come to what all of them make

@@ -1,6 +1,6 @@
 use Rattle.std.proofs.Common.{◌≡◌, ◌<◌, ◌≤◌, length, ap, ◌∙◌, arith}
 use Rattle.std.specs.List.{insert}
-use Rattle.mr_replica.specs.Change.{put}
+use Rattle.mr_tables.specs.Change.{put}
 use Rattle.mr_store.specs.Rows.{row_place}
 use Rattle.mr_store.proofs.Places.{set-put, insert-put_before, insert-put_last}
 use Rattle.mr_store.proofs.rows.put_row.Goals as goal

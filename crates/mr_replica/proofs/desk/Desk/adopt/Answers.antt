@@ -2,8 +2,8 @@ use Rattle.std.proofs.Common.{◌≡◌, ◌+◌, ◌<◌, ◌≤◌, length, dr
 use Rattle.mr_replay.specs.Rows.{undo_rows_of}
 use Rattle.mr_replica.specs.Log.{KeptLog, board_at, replaced}
 use Rattle.mr_replica.specs.Candidate.{CandidateView}
-use Rattle.mr_replica.specs.Rooms.{rooms_beside}
-use Rattle.mr_replica.specs.Written.{meta_of, changed_tallies, written}
+use Rattle.mr_tables.specs.Rooms.{rooms_beside}
+use Rattle.mr_tables.specs.Written.{meta_of, changed_tallies, written}
 use Rattle.mr_replica.proofs.Logs.{replaced-rows}
 use Rattle.mr_replica.proofs.desk.Desk.adopt.Goals as goal
 

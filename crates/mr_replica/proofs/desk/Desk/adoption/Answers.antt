@@ -1,8 +1,8 @@
 use Rattle.std.proofs.Common.{◌≡◌, ◌+◌, ◌-◌, ◌<◌, length, take, drop, ap, ◌∙◌, arith}
 use Rattle.std.proofs.lemmas.List.{length-drop, take_rest}
 use Rattle.mr_replica.specs.Desk.{DeskView}
-use Rattle.mr_replica.specs.Rooms.{rooms_beside}
-use Rattle.mr_replica.specs.Written.{meta_of, changed_tallies, written}
+use Rattle.mr_tables.specs.Rooms.{rooms_beside}
+use Rattle.mr_tables.specs.Written.{meta_of, changed_tallies, written}
 use Rattle.mr_replica.proofs.desk.Desk.adoption.Goals as goal
 
 pub returns-clause-change : goal.returns-clause-change

@@ -3,7 +3,7 @@ use Rattle.std.proofs.lemmas.Bool.Decides.{nat_tests}
 use Rattle.std.proofs.lemmas.Result.{err_from_is_err_and}
 use Rattle.mr_model.specs.Positions.{Position}
 use Rattle.mr_model.specs.Replies.{BatchIs}
-use Rattle.mr_replica.proofs.Limits.{few_commits}
+use Rattle.mr_tables.proofs.Limits.{few_commits}
 use Rattle.mr_base.specs.Batches.{batch_of}
 use Rattle.mr_replica.specs.Outgoing.{Offers, kept_items, ending_by}
 use Rattle.mr_replica.specs.Desk.{DeskView}

@@ -1,7 +1,7 @@
 use Rattle.std.proofs.Common.{[], ap, ◌∙◌}
-use Rattle.mr_replica.specs.Change.{changed}
+use Rattle.mr_tables.specs.Change.{changed}
 use Rattle.mr_replica.specs.DeskTables.{desk_tables}
-use Rattle.mr_replica.specs.Written.{meta_of, written}
+use Rattle.mr_tables.specs.Written.{meta_of, written}
 use Rattle.mr_replica.proofs.Desks.{summary_in}
 use Rattle.mr_replica.proofs.ReceivedRows.{nothing_written}
 use Rattle.mr_replica.proofs.desk.Desk.no_change.Goals as goal

@@ -8,7 +8,7 @@ use Rattle.mr_model.specs.Step.{After, after_items, receive_batch}
 use Rattle.mr_base.specs.Batches.{header_of, item_of}
 use Rattle.mr_base.specs.declared.refusals.Refusal.{Refusal}
 use Rattle.mr_base.specs.declared.refusals.Refusal.TheVariants.{OutOfMemory}
-use Rattle.mr_replica.specs.Change.{ChangeView}
+use Rattle.mr_tables.specs.Change.{ChangeView}
 use Rattle.mr_replica.specs.Desk.{DeskView, StandsFor, nothing_taken, reply_with}
 use Rattle.mr_replica.proofs.Receiving.{items_good, own_primary, receive_done}
 use Rattle.mr_replica.proofs.desk.Desk.receive.Goals as goal

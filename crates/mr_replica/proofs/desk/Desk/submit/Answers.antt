@@ -6,9 +6,9 @@ use Rattle.mr_model.specs.Writes.{Id}
 use Rattle.mr_model.specs.Requests.{Request, is_request}
 use Rattle.mr_model.specs.Replica.{Replica, IsReplica, knows_room}
 use Rattle.mr_model.specs.Step.{After}
-use Rattle.mr_replica.specs.Change.{ChangeView}
+use Rattle.mr_tables.specs.Change.{ChangeView}
 use Rattle.mr_replica.specs.Log.{pushed}
-use Rattle.mr_replica.specs.Summary.{noted_write, stamp_next}
+use Rattle.mr_tables.specs.Summary.{noted_write, stamp_next}
 use Rattle.mr_replica.specs.Desk.{DeskView, desk_of, StandsFor, reply_with}
 use Rattle.mr_replica.specs.Steps.{submit_request, outcome_in}
 use Rattle.mr_replica.proofs.Desks.{summary_in, desk_with}

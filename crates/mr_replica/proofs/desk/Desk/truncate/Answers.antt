@@ -5,7 +5,7 @@ use Rattle.std.proofs.lemmas.List.{take_min}
 use Rattle.std.proofs.lemmas.Result.{err_from_is_err_and}
 use Rattle.mr_model.specs.Replies.{DroppedIs}
 use Rattle.mr_model.specs.Step.{After}
-use Rattle.mr_replica.specs.declared.summary.Summary.{Summary}
+use Rattle.mr_tables.specs.declared.summary.Summary.{Summary}
 use Rattle.mr_replica.specs.Desk.{DeskView, desk_of}
 use Rattle.mr_replica.proofs.Desks.{summary_in, desk_with}
 use Rattle.mr_replica.proofs.Truncating.{truncate_done}

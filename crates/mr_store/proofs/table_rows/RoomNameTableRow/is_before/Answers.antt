@@ -1,5 +1,5 @@
 use Rattle.std.proofs.Common.{◌∙◌}
-use Rattle.mr_replica.proofs.Naming.{before-cmp}
+use Rattle.mr_tables.proofs.Naming.{before-cmp}
 use Rattle.mr_store.proofs.table_rows.RoomNameTableRow.is_before.Goals as goal
 
 pub returns : goal.returns

@@ -1,5 +1,0 @@
-use Rattle.mr_replica.proofs.Fitting.{numbered_fits}
-use Rattle.mr_replica.proofs.choices.choice_of.Goals as goal
-
-pub returns-clause-fits : goal.returns-clause-fits
-returns-clause-fits c = numbered_fits c.args.write.now c.args.number c.choice_numbered.result c.is_within_limits.ensures c.choice_numbered.ensures

@@ -1,9 +1,0 @@
-use Rattle.std.proofs.Common.{◌≡◌}
-use Rattle.mr_model.specs.Texts.{numbers_on}
-use Rattle.mr_base.specs.Positions.{counts_of}
-use Rattle.mr_replica.specs.Summary.{counts_in}
-use Rattle.mr_replica.proofs.summary.Summary.counts.Given as goal
-
--- the counts of the first servers
-abbrev pub invariant-loop-k : goal.invariant-loop-k
-invariant-loop-k l = counts_of l.counts.items ≡ counts_in l.self.tallies (numbers_on 1 l.k)

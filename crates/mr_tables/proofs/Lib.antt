@@ -1,0 +1,14 @@
+pub mod Limits
+pub mod Summaries
+pub mod Naming
+pub mod Positions
+pub mod Putting
+pub mod ChoiceTexts
+pub mod Adding
+pub mod Servers
+pub mod Tallying
+pub mod Words
+pub mod LogRows
+pub mod Rising
+pub mod BoardEntries
+pub mod Fitting

@@ -1,0 +1,10 @@
+pub mod Summary
+pub mod Rooms
+pub mod Change
+pub mod Rows
+pub mod Tallied
+pub mod Written
+pub mod Choices
+pub mod Boards
+pub mod OldErrors
+pub mod SoundRows

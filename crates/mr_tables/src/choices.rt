@@ -1,0 +1,69 @@
+ghost use Rattle.std.specs.Prelude.{◌≡◌, ◌+◌, ◌≤◌, ◌++◌, ◌∷◌, flat_map, OnOk, IfOk, IfSome};
+ghost use Rattle.std.specs.List.{slice_get};
+ghost use Rattle.std.specs.String.{string_bytes};
+ghost use Rattle.mr_model.specs.Texts.{words};
+ghost use Rattle.mr_model.specs.Slots.{slot_words};
+ghost use Rattle.mr_model.specs.Writes.{choices};
+ghost use Rattle.mr_tables.specs.Rows.{slot_text, more_slots};
+
+use mr_base::{Slot, TimeOfDay, Write};
+use std::alloc::{AllocError, Global};
+use std::fmt;
+
+/// The choices of a write as `write_log` has them: `<day> <HH:MM>` for the wish and each alternative, parted by one space.
+pub(crate) fn choices_text(alloc: Global, wish: Slot, others: &[Slot]) -> Result<String, AllocError>
+    ensures { IfOk result (λ text. string_bytes text ≡ words (flat_map slot_words (wish ∷ others.now))) }
+{
+    let mut text = String::new(alloc);
+    push_slot(&mut text, wish)?;
+    push_slots(&mut text, others)?;
+    Ok(text)
+}
+
+/// The choice of this number: 0 is the wish, 1 the first alternative. It ends on its day.
+pub fn choice_of(write: &Write, number: u32) -> Option<Slot>
+    ensures choice { result ≡ slice_get (choices write.now) number }
+    ensures fits { IfSome result (λ s. s.start + write.now.length ≤ 1440) }
+{
+    write.is_within_limits();
+    choice_numbered(write, number)
+}
+
+fn choice_numbered(write: &Write, number: u32) -> Option<Slot>
+    ensures { result ≡ slice_get (choices write.now) number }
+{
+    if number == 0 {
+        return Some(write.wish);
+    }
+    write
+        .alternatives
+        .as_slice()
+        .get(number as usize - 1)
+        .copied()
+}
+
+fn push_slot(text: &mut String, slot: Slot) -> Result<(), AllocError>
+    ensures { OnOk result (string_bytes text.new ≡ string_bytes text.old ++ slot_text slot) }
+{
+    let day = slot.day;
+    let time = TimeOfDay::new(slot.start);
+    write!(text, "{day} {time}")
+}
+
+fn push_more(text: &mut String, slot: Slot) -> Result<(), AllocError>
+    ensures { OnOk result (string_bytes text.new ≡ string_bytes text.old ++ 32 ∷ slot_text slot) }
+{
+    let day = slot.day;
+    let time = TimeOfDay::new(slot.start);
+    write!(text, " {day} {time}")
+}
+
+/// Slots behind another one, each with a space in front.
+fn push_slots(text: &mut String, slots: &[Slot]) -> Result<(), AllocError>
+    ensures { OnOk result (string_bytes text.new ≡ string_bytes text.old ++ more_slots slots.now) }
+{
+    for slot in slots {
+        push_more(text, *slot)?;
+    }
+    Ok(())
+}

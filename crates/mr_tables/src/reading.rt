@@ -1,0 +1,124 @@
+ghost use Rattle.std.specs.Prelude.{◌≡◌, ◌<◌, ◌∷◌, List, length, flat_map, IfSome, IfOk, IfErr, Ok, Some, ℕ, IsTrue};
+ghost use Rattle.std.specs.Str.{IsUtf8};
+ghost use Rattle.mr_model.specs.Texts.{first_word, after_word, words};
+ghost use Rattle.mr_model.specs.Slots.{Slot as SlotOfDay, slot_words};
+ghost use Rattle.mr_model.specs.Writes.{Write as WriteOfRoom, is_write, is_stamp};
+ghost use Rattle.mr_base.specs.Answers.{OrOutOfMemory};
+ghost use Rattle.mr_tables.specs.Rows.{log_row_with};
+ghost use Rattle.mr_tables.specs.Choices.{IsTextOf, Gives};
+
+use crate::LogRow;
+use mr_base::{
+    Alternatives, Day, Refusal, RoomName, ServerId, Slot, Stamp, Title, Write, WriteId, read_minute,
+};
+use std::alloc::Global;
+
+/// The write of a row of `write_log`. Refused where the row is that of no write.
+pub fn write_of(alloc: Global, row: &LogRow) -> Result<Write, Refusal>
+    ensures read { (w : WriteOfRoom) (seq : ℕ) → IsTrue (is_write w) → row.now ≡ log_row_with w seq → OrOutOfMemory result (Ok w) }
+{
+    let Some(stamp) = stamp_of(row.server, row.n, row.time) else {
+        return Err(Refusal::Store);
+    };
+    match choices_of(alloc, row.choices.as_str()) {
+        Ok(choices) => write_with_choices(alloc, row, stamp, choices.0, choices.1),
+        Err(refusal) => Err(refusal),
+    }
+}
+
+fn write_with_choices(
+    alloc: Global,
+    row: &LogRow,
+    stamp: Stamp,
+    wish: Slot,
+    alternatives: Alternatives,
+) -> Result<Write, Refusal>
+    ensures { IsTrue (is_write (record { stamp = stamp; room = row.now.room; title = row.now.title; length = row.now.length; wish = wish; alternatives = alternatives }))
+        → OrOutOfMemory result (Ok (record { stamp = stamp; room = row.now.room; title = row.now.title; length = row.now.length; wish = wish; alternatives = alternatives })) }
+{
+    let room = row.room.copy(alloc)?;
+    let title = row.title.copy(alloc)?;
+    write_with(stamp, room, title, row.length, wish, alternatives)
+}
+
+fn stamp_of(server: ServerId, n: u32, time: u64) -> Option<Stamp>
+    ensures { IsTrue (is_stamp (record { server = server; n = n; time = time })) → result ≡ Some (record { server = server; n = n; time = time }) }
+{
+    let id = WriteId::new(server, n)?;
+    Stamp::new(id, time)
+}
+
+fn write_with(
+    stamp: Stamp,
+    room: RoomName,
+    title: Title,
+    length: u32,
+    wish: Slot,
+    alternatives: Alternatives,
+) -> Result<Write, Refusal>
+    ensures { IsTrue (is_write (record { stamp = stamp; room = room; title = title; length = length; wish = wish; alternatives = alternatives }))
+        → result ≡ Ok (record { stamp = stamp; room = room; title = title; length = length; wish = wish; alternatives = alternatives }) }
+{
+    match Write::new(stamp, room, title, length, wish, alternatives) {
+        Ok(write) => Ok(write),
+        Err(_) => Err(Refusal::Store),
+    }
+}
+
+/// The choices with this text: the wish, and the others behind it. Refused where it isn't one of slots.
+pub(crate) fn choices_of(alloc: Global, text: &str) -> Result<(Slot, Alternatives), Refusal>
+    ensures read { (s : SlotOfDay) (ss : List SlotOfDay) → IsTextOf text.now (s ∷ ss) → OrOutOfMemory result (Ok (s, ss)) }
+{
+    let Some((wish, rest)) = next_slot(text) else {
+        return Err(Refusal::Store);
+    };
+    let others = slots_of(alloc, rest)?;
+    Ok((wish, Alternatives::from_vec(others)))
+}
+
+/// The slots with this text.
+fn slots_of(alloc: Global, text: &str) -> Result<Vec<Slot>, Refusal>
+    ensures read { (ss : List SlotOfDay) → IsTextOf text.now ss → IfOk result (λ slots. slots.items ≡ ss) × IfErr result (λ e. e ≡ Refusal.OutOfMemory) }
+{
+    let mut slots = Vec::new(alloc);
+    let mut rest = text;
+    while !rest.is_empty() {
+        match next_slot(rest) {
+            Some(taken) => {
+                slots.push(taken.0)?;
+                rest = taken.1;
+            }
+            None => return Err(Refusal::Store),
+        }
+    }
+    Ok(slots)
+}
+
+/// The slot at the front of a text, and what stands behind it and a space.
+fn next_slot(text: &str) -> Option<(Slot, &str)>
+    ensures read { (s : SlotOfDay) (ss : List SlotOfDay) → IsTextOf text.now (s ∷ ss) → Gives result s (words (flat_map slot_words ss)) }
+    ensures shorter { IfSome result (λ x. length x.1.now < length text.now) }
+    ensures utf8 { IfSome result (λ x. IsUtf8 x.1.now) }
+{
+    let (day, rest) = next_word(text);
+    let (time, rest) = next_word(rest);
+    let Ok(day) = Day::read(day) else {
+        return None;
+    };
+    let Ok(start) = read_minute(time) else {
+        return None;
+    };
+    Some((Slot { day, start }, rest))
+}
+
+/// The word up to the first space, and what stands behind that; all of a text that has none, and nothing behind it.
+fn next_word(text: &str) -> (&str, &str)
+    ensures word { result.0.now ≡ first_word text.now }
+    ensures rest { result.1.now ≡ after_word text.now }
+    ensures utf8 { IsUtf8 result.0.now × IsUtf8 result.1.now }
+{
+    match text.split_once(' ') {
+        Some((word, rest)) => (word, rest),
+        None => (text, ""),
+    }
+}
