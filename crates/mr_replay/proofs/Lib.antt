@@ -1,4 +1,6 @@
 pub mod Ids
+pub mod Keys
+pub mod Indexed
 pub mod Entries
 pub mod Lists
 pub mod Placing

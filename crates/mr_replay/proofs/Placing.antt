@@ -22,7 +22,7 @@ use Rattle.mr_replay.proofs.Ids.{same_id_equivalence}
 use Rattle.mr_replay.proofs.Entries.{IsInOrder, distinct_keys}
 
 -- two tests that fail together are one
-same_from_false : (a b : Bool) → (a ≡ false → b ≡ false) → (b ≡ false → a ≡ false) → a ≡ b
+pub same_from_false : (a b : Bool) → (a ≡ false → b ≡ false) → (b ≡ false → a ≡ false) → a ≡ b
 same_from_false true true f g = refl
 same_from_false true false f g = g refl
 same_from_false false b f g = sym (f refl)

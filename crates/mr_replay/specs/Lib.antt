@@ -1,4 +1,5 @@
 pub mod Places
 pub mod Rows
+pub mod Index
 pub mod Holds
 pub mod Laws
