@@ -10,3 +10,4 @@ pub mod Holding
 pub mod Redoing
 pub mod OneBoard
 pub mod Places
+pub mod RoomBookings

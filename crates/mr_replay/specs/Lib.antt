@@ -2,4 +2,5 @@ pub mod Places
 pub mod Rows
 pub mod Index
 pub mod Holds
+pub mod Bookings
 pub mod Laws
