@@ -27,7 +27,7 @@ at i j = is_at (id_cmp i) j
 pub at_equivalence : IsEquivalence at
 at_equivalence = eq_by_cmp_equiv ids_total
 
-is_eq-Equal : (o : Ordering) → is_eq o ≡ true → o ≡ Equal
+pub is_eq-Equal : (o : Ordering) → is_eq o ≡ true → o ≡ Equal
 is_eq-Equal Less e = let never : ⊥ = cc in absurd never
 is_eq-Equal Equal e = refl
 is_eq-Equal Greater e = let never : ⊥ = cc in absurd never

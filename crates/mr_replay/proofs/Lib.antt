@@ -1,4 +1,6 @@
 pub mod Ids
+pub mod Keys
+pub mod Indexed
 pub mod Entries
 pub mod Lists
 pub mod Placing
@@ -8,3 +10,4 @@ pub mod Holding
 pub mod Redoing
 pub mod OneBoard
 pub mod Places
+pub mod RoomBookings

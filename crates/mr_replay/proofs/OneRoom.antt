@@ -59,7 +59,7 @@ if_of-cond : (room : Text) (c : Bool) (p o : Option Row) → if_of room (cond c 
 if_of-cond room true p o = refl
 if_of-cond room false p o = refl
 
-if_of-own : (room : Text) (w : Write) (p : Place) → w.room ≡ room → if_of room (Some (row_of w p)) ≡ Some (row_of w p)
+pub if_of-own : (room : Text) (w : Write) (p : Place) → w.room ≡ room → if_of room (Some (row_of w p)) ≡ Some (row_of w p)
 if_of-own room w p is = ap (λ t. cond t (Some (row_of w p)) None) (same_name (row_of w p).room room (room-row w (slot_at w p) ∙ is))
 
 if_of-other : (room : Text) (w : Write) (p : Place) → bytes_eq w.room room ≡ false → if_of room (Some (row_of w p)) ≡ None
@@ -91,7 +91,7 @@ same_row (Some x) (Some y) h = by (bytes_eq y.room x.room) (sym (ap (λ t. cond 
 
 -- ---- a write executed
 
-open_executed : (room : Text) (b : Rows) (w : Write) (q : Id) → if_of room (row_at (executed b w) q) ≡ cond (same_id q (id_of w)) (if_of room (Some (row_of w (place_on b w)))) (if_of room (row_at b q))
+pub open_executed : (room : Text) (b : Rows) (w : Write) (q : Id) → if_of room (row_at (executed b w) q) ≡ cond (same_id q (id_of w)) (if_of room (Some (row_of w (place_on b w)))) (if_of room (row_at b q))
 open_executed room b w q = ap (if_of room) (row_at-put b (id_of w) (row_of w (place_on b w)) q) ∙ if_of-cond room (same_id q (id_of w)) (Some (row_of w (place_on b w))) (row_at b q)
 
 -- in its own room
@@ -117,7 +117,7 @@ other-executed room b w other absent q =
 
 -- ---- an execution undone
 
-open_undone : (room : Text) (b : Rows) (u : UndoRow) (q : Id) → IsInOrder b → if_of room (row_at (undone b u) q) ≡ cond (same_id q u.id) None (if_of room (row_at b q))
+pub open_undone : (room : Text) (b : Rows) (u : UndoRow) (q : Id) → IsInOrder b → if_of room (row_at (undone b u) q) ≡ cond (same_id q u.id) None (if_of room (row_at b q))
 open_undone room b u q ordered = ap (if_of room) (row_at-undone b u q ordered) ∙ if_of-cond room (same_id q u.id) None (row_at b q)
 
 -- in its own room

@@ -9,7 +9,7 @@ use Rattle.std.proofs.lemmas.Map.Views.{All-values_from_lookup}
 use Rattle.mr_model.specs.Texts.{Text}
 use Rattle.mr_model.specs.Slots.{Slot, overlaps}
 use Rattle.mr_model.specs.Writes.{Id, Write, id_of, same_id}
-use Rattle.mr_model.specs.Replay.{Place, Booking, place_among, slot_at, booking_of, booked_with, replay_among}
+use Rattle.mr_model.specs.Replay.{Place, Booking, place_among, slot_at, booking_of, booked_with, replay_among, replay}
 use Rattle.mr_model.specs.Replica.{is_among}
 use Rattle.mr_model.specs.Board.{after}
 use Rattle.mr_model.proofs.UniqueReplay.{meets}
@@ -18,11 +18,12 @@ use Rattle.mr_model.proofs.Members.{same_id-true, same_id_refl}
 use Rattle.mr_replay.specs.declared.rows.Row.{Row}
 use Rattle.mr_replay.specs.Rows.{Rows, row_at, is_booked, is_booking_of, is_in_the_way, bookings_of, place_on, row_with, row_of}
 use Rattle.mr_replay.specs.Holds.{HaveDistinctIds, row_in, if_of, HoldsIn}
+use Rattle.mr_replay.specs.Bookings.{if_booked, HasBookings}
 use Rattle.mr_replay.proofs.Ids.{same_id_equivalence}
 use Rattle.mr_replay.proofs.Entries.{IsInOrder, distinct_keys}
 
 -- two tests that fail together are one
-same_from_false : (a b : Bool) → (a ≡ false → b ≡ false) → (b ≡ false → a ≡ false) → a ≡ b
+pub same_from_false : (a b : Bool) → (a ≡ false → b ≡ false) → (b ≡ false → a ≡ false) → a ≡ b
 same_from_false true true f g = refl
 same_from_false true false f g = g refl
 same_from_false false b f g = sym (f refl)
@@ -132,15 +133,30 @@ module _ (slot : Slot) (length : ℕ) where
     clear_from_lookup b ordered h =
         list_any_none (is_in_the_way room slot length) (values_of b) (All-values_from_lookup same_id_equivalence Clear b (distinct_keys b ordered) (λ q. clear_from_if_of (row_at b q) (h q)))
 
+    quiet_if_booked : (o : Option Row) → IfSome o Quiet → IfSome (if_booked o) Quiet
+    quiet_if_booked None h = tt
+    quiet_if_booked (Some row) h = IfSome-cond Quiet (is_booked row.standing) row None (λ _. h) (λ _. tt)
+
+    quiet_from_booked : (o : Option Row) → IfSome (if_booked o) Quiet → IfSome o Quiet
+    quiet_from_booked None h = tt
+    quiet_from_booked (Some row) h = by (is_booked row.standing) refl
+      where
+        by : (b : Bool) → is_booked row.standing ≡ b → Quiet row
+        by true e = from_cond_true Quiet (is_booked row.standing) row None e h
+        by false e = ap (λ b. b && overlaps slot length row.slot row.length) e
+
     -- the board's bookings of the room overlap the slot where those of the room's list do
-    alike : (ws : List Write) (b : Rows) → IsInOrder b → HaveDistinctIds ws → HoldsIn room ws b → meets (bookings_of room b) slot length ≡ meets (after [] ws) slot length
-    alike ws b ordered distinct holds =
+    alike : (ws : List Write) (b : Rows) → IsInOrder b → HaveDistinctIds ws → HasBookings room ws b → meets (bookings_of room b) slot length ≡ meets (after [] ws) slot length
+    alike ws b ordered distinct has =
         meets-rows (values_of b) ∙ same_from_false _ _
-        (λ clear. bookings_from_quiet [] ws distinct refl (λ q. subst (λ o. IfSome o Quiet) (holds q) (quiet_if_of (row_at b q) (clear_lookup b clear q))))
-        (λ quiet. clear_from_lookup b ordered (λ q. subst (λ o. IfSome o Quiet) (sym (holds q)) ((quiet_from_bookings [] ws quiet).1 q)))
+        (λ clear. bookings_from_quiet [] ws distinct refl (λ q. quiet_from_booked (row_in ws (replay ws) q) (subst (λ o. IfSome o Quiet) (has q) (quiet_if_booked (if_of room (row_at b q)) (quiet_if_of (row_at b q) (clear_lookup b clear q))))))
+        (λ quiet. clear_from_lookup b ordered (λ q. quiet_from_booked (if_of room (row_at b q)) (subst (λ o. IfSome o Quiet) (sym (has q)) (quiet_if_booked (row_in ws (replay ws) q) ((quiet_from_bookings [] ws quiet).1 q)))))
 
 -- so a write of the room goes to the place that the room's replay gives it
-pub same_place : (room : Text) (ws : List Write) (b : Rows) (w : Write) → w.room ≡ room → IsInOrder b → HaveDistinctIds ws → HoldsIn room ws b → place_on b w ≡ place_among (after [] ws) w
-same_place room ws b w is ordered distinct holds =
+pub place_by_bookings : (room : Text) (ws : List Write) (b : Rows) (w : Write) → w.room ≡ room → IsInOrder b → HaveDistinctIds ws → HasBookings room ws b → place_on b w ≡ place_among (after [] ws) w
+place_by_bookings room ws b w is ordered distinct has =
     ap (λ r. place_among (bookings_of r b) w) is
-    ∙ alike_place (bookings_of room b) (after [] ws) w (λ slot length. alike slot length room ws b ordered distinct holds)
+    ∙ alike_place (bookings_of room b) (after [] ws) w (λ slot length. alike slot length room ws b ordered distinct has)
+
+pub same_place : (room : Text) (ws : List Write) (b : Rows) (w : Write) → w.room ≡ room → IsInOrder b → HaveDistinctIds ws → HoldsIn room ws b → place_on b w ≡ place_among (after [] ws) w
+same_place room ws b w is ordered distinct holds = place_by_bookings room ws b w is ordered distinct (λ i. ap if_booked (holds i))

@@ -1,5 +1,7 @@
 -- A reader of the contracts trusts all of these.
 pub mod Places
 pub mod Rows
+pub mod Index
 pub mod Holds
+pub mod Bookings
 pub mod Laws

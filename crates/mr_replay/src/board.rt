@@ -10,10 +10,12 @@ ghost use Rattle.mr_base.specs.Answers.{OrOutOfMemory};
 ghost use Rattle.mr_base.specs.Ids.{id_cmp};
 ghost use Rattle.mr_replay.specs.Places.{place_of};
 ghost use Rattle.mr_replay.specs.Rows.{row_at, bookings_of, is_in_the_way, IsFree, place_on, executed, undo_row_of, undone, executed_all, undo_rows_of, undone_all};
+ghost use Rattle.mr_replay.specs.Index.{way_at};
 ghost use Rattle.mr_replay.specs.Holds.{HaveDistinctIds, AreNew, if_of, HoldsEach, Holds, with_list, undo_row_after, CanReplay};
 
+use crate::index::{Index, ends_of, forget, key_if_booked, note};
 use crate::{Place, Row, UndoRow};
-use mr_base::{Refusal, RoomName, Slot, Write, WriteId};
+use mr_base::{Refusal, RoomName, Slot, Write, WriteId, overlaps};
 use std::alloc::{AllocError, Global};
 use std::collections::BTreeMap;
 use std::marker::Model;
@@ -23,6 +25,8 @@ use std::marker::Model;
 pub struct Board {
     alloc: Global,
     rows: BTreeMap<WriteId, Row>,
+    /// The bookings of the rows, by day and room.
+    index: Index,
 }
 
 impl Model for Board {
@@ -32,7 +36,11 @@ impl Model for Board {
 
     ghost Value = { List (Id × Row) };
 
+    ghost use Rattle.mr_replay.specs.Index.{IsIndexed};
+
     ghost view = { λ b. b.rows.entries };
+
+    ghost invariant = { λ b. IsIndexed b.rows.entries b.index };
 }
 
 impl Board {
@@ -44,6 +52,7 @@ impl Board {
         Board {
             alloc,
             rows: BTreeMap::new(alloc),
+            index: BTreeMap::new(alloc),
         }
     }
 
@@ -52,9 +61,11 @@ impl Board {
         ensures { OrOutOfMemory result (Ok self.now) }
     {
         let rows = self.rows.clone()?;
+        let index = self.index.clone()?;
         Ok(Board {
             alloc: self.alloc,
             rows,
+            index,
         })
     }
 
@@ -71,8 +82,19 @@ impl Board {
         ensures err { OnErr result (self.new ≡ self.old) }
         ensures only { IfErr result (λ e. e ≡ Refusal.OutOfMemory) }
     {
-        self.rows.insert(id, row)?;
-        Ok(())
+        note(&mut self.index, id, &row)?;
+        let kept = key_if_booked(id, &row);
+        match self.rows.insert(id, row) {
+            Ok(None) => Ok(()),
+            Ok(Some(replaced)) => {
+                forget(&mut self.index, id, &replaced, kept);
+                Ok(())
+            }
+            Err(failed) => {
+                forget(&mut self.index, id, &failed.value.1, None);
+                Err(Refusal::OutOfMemory)
+            }
+        }
     }
 
     /// Whether no booking of the room overlaps the slot with this length in minutes.
@@ -122,7 +144,9 @@ impl Board {
         ensures holds { (ws : List Write) (w : Write) → HaveDistinctIds (ws ++ w ∷ [])
             → row ≡ undo_row_after ws w → Holds (ws ++ w ∷ []) self.old → Holds ws self.new }
     {
-        self.rows.remove(&row.id);
+        if let Some(removed) = self.rows.remove(&row.id) {
+            forget(&mut self.index, row.id, &removed, None);
+        }
     }
 
     /// Undoes these executions, the last of them first.
@@ -190,12 +214,25 @@ impl Board {
     fn is_taken(&self, room: &RoomName, slot: Slot, length: u32) -> bool
         ensures { result ≡ list_any (is_in_the_way room.now slot length) (values_of self.now) }
     {
-        for row in self.rows.values() {
-            if row.is_in_the_way(room, slot, length) {
+        let (first, last) = ends_of(slot.day, room);
+        for (key, span) in self.index.range(first..=last) {
+            if overlaps(slot, span.slot, length, span.length)
+                && self.is_row_in_the_way(key.id, room, slot, length)
+            {
                 return true;
             }
         }
         false
+    }
+
+    /// Whether the row of this id is a booking of the room that overlaps the slot.
+    fn is_row_in_the_way(&self, id: WriteId, room: &RoomName, slot: Slot, length: u32) -> bool
+        ensures { result ≡ way_at room.now slot length self.now id }
+    {
+        match self.row(id) {
+            Some(row) => row.is_in_the_way(room, slot, length),
+            None => false,
+        }
     }
 
     /// Executes the write and notes its undo row.

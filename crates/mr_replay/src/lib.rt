@@ -6,9 +6,11 @@
 #![tactic(auto)]
 
 mod board;
+mod index;
 mod rows;
 
 ghost use Rattle.mr_replay.specs.Laws.{OneBoard, ExecutingHolds, UndoingHolds, AnotherOrderHolds, UndoIsExact, OthersAreNew, UndoRowsAreOfTheList, UndoRowsAreOfTheRoom, PlacesAreOfTheBoard, RoomsReplayApart};
+ghost use Rattle.mr_replay.specs.Bookings.{BookingsReplay};
 
 pub use board::Board;
 pub use rows::{Place, Row, Standing, UndoRow};
@@ -25,10 +27,12 @@ pub fn board_law()
 {}
 
 /// What executing writes notes of them is what their list says: their ids, and the places that the replay gives them. So
-/// executing a whole order and taking a room's places is replaying that room's part of it.
+/// executing a whole order and taking a room's places is replaying that room's part of it. On a board that has a room's
+/// bookings alone, replaying the room's last writes gives them these places too.
 pub fn undo_row_law()
     ensures list { UndoRowsAreOfTheList }
     ensures room { UndoRowsAreOfTheRoom }
     ensures places { PlacesAreOfTheBoard }
     ensures apart { RoomsReplayApart }
+    ensures bookings { BookingsReplay }
 {}

@@ -5,7 +5,7 @@ use Rattle.mr_replay.proofs.Holding.{HoldsEach-replayed, others-replayed}
 use Rattle.mr_replay.proofs.board.Board.replay_room.Goals as goal
 
 -- the room's writes are undone and others executed on a copy, which then takes the board's place
-done : (c : goal.After-drop-self) → c.redo_from.new.self ≡ executed_all (undone_all c.args.self.now c.args.undone.now) c.args.again.now
+done : (c : goal.After-drop-self-2) → c.redo_from.new.self ≡ executed_all (undone_all c.args.self.now c.args.undone.now) c.args.again.now
 done c =
     let copied : c.in_ok-board.board ≡ c.args.self.now = search rules in
     c.in_ok-rows.ensures.board ∙ ap (λ r. executed_all r c.args.again.now) (c.undo_all.ensures ∙ ap (λ b. undone_all b c.args.undone.now) copied)
