@@ -18,3 +18,4 @@ pub mod KeptRows
 pub mod OldErrors
 pub mod SoundRows
 pub mod SoundLog
+pub mod Parts

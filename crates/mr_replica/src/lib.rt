@@ -24,6 +24,9 @@ mod kept_rows;
 mod log;
 mod old_errors;
 mod outgoing;
+mod part;
+mod part_commit;
+mod part_submit;
 mod reading;
 mod rooms;
 mod rows;
@@ -39,6 +42,7 @@ ghost use Rattle.mr_replica.specs.Steps.{SubmissionsAreRequests};
 
 pub use change::Change;
 pub use desk::Desk;
+pub use part::Part;
 pub use rows::{BookingRow, ErrorRow, LogRow, MetaRow, VectorRow, WriteUndoRow};
 pub use tables::Tables;
 
