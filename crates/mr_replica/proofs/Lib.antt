@@ -40,3 +40,4 @@ pub mod Totals
 pub mod SameRows
 pub mod SoundLog
 pub mod Parting
+pub mod PartCalls

@@ -71,3 +71,8 @@ TakesPart s step reply change part result =
     (a : Replica) → IsReplica a → IsPartOf part s a
     → ((reply_with (reply (step a).replica) result ≡ (step a).reply) × IfOk result (λ x. changed (change x) (tables_of a) ≡ tables_of (step a).replica))
     ⊎ (result ≡ Err OutOfMemory)
+
+-- For every replica of whose tables this is the part for the question: the answer is this reply; or memory ran out.
+abbrev pub AnswersPart : {T : Type 0} → Scope → (Replica → Reply) → (T → Reply) → PartView → Result T Refusal → Type 0
+AnswersPart s answer reply part result =
+    (a : Replica) → IsReplica a → IsPartOf part s a → (reply_with reply result ≡ answer a) ⊎ (result ≡ Err OutOfMemory)
