@@ -1,7 +1,8 @@
 -- What calls of a part answer, and what their changes make of the tables.
 use Rattle.std.proofs.Common.{◌≡◌, refl, sym, ap, ◌∙◌, subst, ℕ, ◌+◌, ◌<◌, ◌==◌, Bool, true, false, leb, List, [], ◌∷◌, ◌++◌, length, map, take, drop, ◌⊎◌, inl, inr, arith, Ok, Some, IsTrue}
 use Rattle.std.proofs.Math.Seq.{take-length}
-use Rattle.std.proofs.lemmas.Bool.{cond-false, true≢false, and_parts, false_from_ne_true}
+use Rattle.std.proofs.lemmas.List.{length-append}
+use Rattle.std.proofs.lemmas.Bool.{leb-true, cond-false, true≢false, and_parts, false_from_ne_true}
 use Rattle.std.proofs.lemmas.Slice.Eq.{bytes_eq-Decides}
 use Rattle.std.specs.Str.{bytes_eq}
 use Rattle.std.specs.List.{filter, list_any, cons_option}
@@ -44,6 +45,8 @@ use Rattle.mr_replica.specs.Change.{ChangeView, changed}
 use Rattle.mr_replica.specs.ChangeLaws.{board_before, kept_committed}
 use Rattle.mr_replica.specs.Rows.{seq_on, log_row_with, undo_row_with, booking_with, error_with}
 use Rattle.mr_model.specs.Queries.{error_id}
+use Rattle.mr_replica.specs.DeskTables.{desk_tables}
+use Rattle.mr_replica.specs.Turning.{put_outcome}
 use Rattle.mr_replica.specs.Written.{meta_of, changed_tallies, written}
 use Rattle.mr_replica.specs.Parts.{PartView, part_of}
 use Rattle.mr_replica.proofs.BoardRows.{places_head, put_had, put_there, put_keeps}
@@ -185,15 +188,21 @@ made meta vector w u mark seq =
 written_last : (meta : MetaRow) (vector : List VectorRow) (c k j : ℕ) (w : Write) (u : UndoRow) → c < k → c < j → written meta [] vector c k (w ∷ []) (u ∷ []) ≡ written meta [] vector c j (w ∷ []) (u ∷ [])
 unfolding made
 written_last meta vector c k j w u l m =
-    let e : leb k c ≡ false = false_from_ne_true (leb k c) (λ t. let g = Rattle.std.proofs.lemmas.Bool.leb-true k c t in omega (arith, g, l)) in
-    let f : leb j c ≡ false = false_from_ne_true (leb j c) (λ t. let g = Rattle.std.proofs.lemmas.Bool.leb-true j c t in omega (arith, g, m)) in
+    let e : leb k c ≡ false = false_from_ne_true (leb k c) (λ t. let g = leb-true k c t in omega (arith, g, l)) in
+    let f : leb j c ≡ false = false_from_ne_true (leb j c) (λ t. let g = leb-true j c t in omega (arith, g, m)) in
     let seq : seq_on c k ≡ seq_on c j = cond-false (leb k c) k 0 e ∙ sym (cond-false (leb j c) j 0 f) in
     λ i. made meta vector w u ((e ∙ sym f) i) (seq i)
+
+-- what is owed where a request was accepted: the step, and what the change does and says
+pub record PartSubmitted (a : Replica) (q : Request) (id : Id) (change : ChangeView) : Type 0 where
+  pub step : outcome_in q (submit_request q a).replica id ≡ (submit_request q a).reply
+  pub turns : changed change (tables_of a) ≡ tables_of (submit_request q a).replica
+  pub tells : outcome_in q (submit_request q a).replica id ≡ put_outcome change.booking change.errorlog
 
 pub part_submit : (a : Replica) (q : Request) (p : PartView) (stamp : Stamp) (w : Write) (s : Summary) (id : Id) (u : UndoRow) (change : ChangeView) → IsReplica a → p ≡ part_of (InRoom q.room) a → IsTrue (is_request q) → list_any (bytes_eq q.room) p.rooms ≡ true → stamp_next p.summary ≡ Ok stamp
     → w ≡ stamped stamp q → s ≡ noted_write p.summary stamp → id ≡ record { server = stamp.server; n = stamp.n } → u ≡ record { id = id_of w; place = place_on p.board w }
     → (s.commits + 1 + 1 < 18446744073709551616 → change ≡ written (meta_of s) [] (changed_tallies p.summary.tallies s.tallies) s.commits (s.commits + 1) (w ∷ []) (u ∷ []))
-    → (outcome_in q (submit_request q a).replica id ≡ (submit_request q a).reply) × (changed change (tables_of a) ≡ tables_of (submit_request q a).replica)
+    → PartSubmitted a q id change
 part_submit a q p stamp w s id u change sound e within there stamp_is w_is s_is id_is u_is change_is =
     let summary : p.summary ≡ summary_of a = ap (λ (v : PartView). v.summary) e in
     let rooms : p.rooms ≡ a.rooms = ap (λ (v : PartView). v.rooms) e in
@@ -219,7 +228,7 @@ part_submit a q p stamp w s id u change sound e within there stamp_is w_is s_is 
     let commits : s.commits ≡ length a.commits = ap (λ (x : Summary). x.commits) s_is ∙ ap (λ (x : Summary). x.commits) summary in
     let few = few_kept a sound in
     let long = kept_committed_long a sound in
-    let all : length (kept_in_order a) ≡ length (kept_committed a) + length (tentative a) = Rattle.std.proofs.lemmas.List.length-append (kept_committed a) (tentative a) in
+    let all : length (kept_in_order a) ≡ length (kept_committed a) + length (tentative a) = length-append (kept_committed a) (tentative a) in
     let small : s.commits + 1 + 1 < 18446744073709551616 = omega (arith, commits, few, long, all) in
     let above : s.commits < a.dropped + 1 + length (kept_in_order a) = omega (arith, commits, long, all) in
     let next_up : s.commits < s.commits + 1 = omega arith in
@@ -228,5 +237,9 @@ part_submit a q p stamp w s id u change sound e within there stamp_is w_is s_is 
     ∙ (λ i. written (meta_of s) [] (changed_tallies (summary i).tallies s.tallies) s.commits (a.dropped + 1 + length (kept_in_order a)) (w ∷ []) (row i ∷ [])) in
     let done : Submitted a q id change (desk_of a) (desk_with s a.rooms (pushed (desk_of a).log w) (desk_of a).old_errors) =
     submitted a q (desk_of a) (desk_with s a.rooms (pushed (desk_of a).log w) (desk_of a).old_errors) stamp w s id change sound refl within known stamp_at w_is (s_is ∙ ap (λ x. noted_write x stamp) summary) id_is (λ l. put) refl in
-    let after = ap (λ (s : After). IsReplica s.replica) (sym step.1) in
-    (done.step, ap (changed change) (sym (desk_tables-of a sound)) ∙ done.turns ∙ ap Rattle.mr_replica.specs.DeskTables.desk_tables done.stands ∙ desk_tables-of (submit_request q a).replica (subst (λ (s : After). IsReplica s.replica) (sym step.1) sound'))
+    let sound-after = subst (λ (s : After). IsReplica s.replica) (sym step.1) sound' in
+    record {
+      step = done.step;
+      turns = ap (changed change) (sym (desk_tables-of a sound)) ∙ done.turns ∙ ap desk_tables done.stands ∙ desk_tables-of (submit_request q a).replica sound-after;
+      tells = done.tells;
+    }

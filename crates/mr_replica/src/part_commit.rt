@@ -1,3 +1,4 @@
+ghost use Rattle.std.specs.Prelude.{◌≢◌, ◌≡◌, Err};
 ghost use Rattle.mr_model.specs.Replies.{CommittedIs};
 ghost use Rattle.mr_model.specs.Step.{commit};
 ghost use Rattle.mr_model.specs.Scopes.{NextCommits};
@@ -13,6 +14,8 @@ impl Part {
     /// changes in the tables.
     pub fn commit(&self, k: u64) -> Result<(u64, Change), Refusal>
         ensures step { TakesPart (NextCommits k) (λ a. commit a k) (λ _ done. CommittedIs done.0) (λ done. done.1) self.now result }
+        // A refusal that is due is returned without memory.
+        ensures due { self.now.summary.server ≢ self.now.summary.primary → result ≡ Err Refusal.NotPrimary }
         ensures own { NeverStore result }
     {
         let _ = k;
