@@ -26,3 +26,5 @@ pub mod Latest
 pub mod Totals
 pub mod SameRows
 pub mod SoundLog
+pub mod Parting
+pub mod PartCalls

@@ -11,3 +11,4 @@ pub mod Turning
 pub mod ChangeLaws
 pub mod KeptRows
 pub mod SoundLog
+pub mod Parts

@@ -52,7 +52,7 @@ fn next_commits<'a>(summary: &Summary, log: &'a Log, k: u64) -> (&'a [Write], &'
 }
 
 /// The numbers after the commits of these writes, and what these change in the tables.
-fn after_commits(
+pub(crate) fn after_commits(
     alloc: Global,
     summary: &Summary,
     writes: &[Write],

@@ -20,12 +20,20 @@ mod desk_truncate;
 mod kept_rows;
 mod log;
 mod outgoing;
+mod part;
+mod part_batch;
+mod part_commit;
+mod part_position;
+mod part_rooms;
+mod part_submit;
+mod part_truncate;
 mod sound_log;
 
 ghost use Rattle.mr_replica.specs.ChangeLaws.{DesksHaveTheTables, RoomsArePut, SubmissionsArePut, TailsArePut, CommitsArePut, TruncationsForget};
 ghost use Rattle.mr_replica.specs.Steps.{SubmissionsAreRequests};
 
 pub use desk::Desk;
+pub use part::Part;
 
 /// A submission in words, where nothing is at fault with these, is the request that they make.
 pub fn submission_law()
