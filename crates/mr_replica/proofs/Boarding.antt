@@ -1,5 +1,5 @@
 -- The rows of booking and errorlog make the board of a replica.
-use Rattle.std.proofs.Common.{◌≡◌, refl, sym, ap, ◌∙◌, subst, ℕ, zero, suc, ◌+◌, ◌-◌, ◌<◌, ◌≤◌, Bool, true, false, List, [], ◌∷◌, ◌++◌, length, map, ◌⊎◌, inl, inr, Option, Some, None, arith, leb, leb-true, ◌&&◌, IsTrue}
+use Rattle.std.proofs.Common.{◌≡◌, refl, sym, ap, ◌∙◌, subst, ℕ, ◌+◌, ◌-◌, ◌≤◌, Bool, true, false, List, [], ◌∷◌, map, ◌⊎◌, inl, inr, Option, Some, None, arith, leb, leb-true, ◌&&◌, IsTrue}
 use Rattle.std.proofs.lemmas.Bool.{true≢false, and_parts}
 use Rattle.std.specs.List.{AllByRecursion, slice_get}
 use Rattle.std.specs.BTreeMap.{insert_entry}

@@ -1,5 +1,5 @@
 -- The tables of a desk.
-use Rattle.std.specs.Prelude.{ℕ, ◌+◌, nat_le, List, [], ◌++◌, map, flat_map, filter_map, find, Option, Some, None}
+use Rattle.std.specs.Prelude.{◌+◌, nat_le, List, [], ◌++◌, map, flat_map, filter_map, find, Option, Some, None}
 use Rattle.mr_model.specs.Texts.{numbers_on}
 use Rattle.mr_model.specs.Writes.{Id, same_id}
 use Rattle.mr_model.specs.Tables.{LogRow, BookingRow, ErrorRow, Tables}

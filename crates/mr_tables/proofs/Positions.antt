@@ -1,7 +1,7 @@
 -- The counts of a replica, read off its tallies.
 use Rattle.std.proofs.Common.{◌≡◌, ℕ, zero, suc, ◌+◌, ◌≤◌, ◌==◌, Bool, true, false, cond, List, [], ◌∷◌, ◌++◌, ap, refl, arith}
 use Rattle.mr_model.specs.Texts.{numbers_on}
-use Rattle.mr_model.specs.Positions.{Count, counts_of}
+use Rattle.mr_model.specs.Positions.{counts_of}
 use Rattle.mr_model.specs.Replica.{Replica}
 use Rattle.mr_tables.specs.declared.summary.Tally.{Tally}
 use Rattle.mr_tables.specs.Summary.{tally_at, summary_of, counts_in}
