@@ -41,3 +41,4 @@ pub mod SameRows
 pub mod SoundLog
 pub mod Parting
 pub mod PartCalls
+pub mod PartRows
