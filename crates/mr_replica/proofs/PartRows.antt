@@ -1,7 +1,7 @@
 -- A part has as many writes, undo rows and bookings as rows are in scope.
 use Rattle.std.proofs.Common.{◌≡◌, refl, sym, ap, ◌∙◌, subst, ℕ, suc, ◌+◌, ◌-◌, ◌<◌, ◌≤◌, nat_lt, Bool, ◌||◌, ◌&&◌, true, false, cond, List, [], ◌∷◌, ◌++◌, length, map, take, drop, ◌⊎◌, inl, inr, arith, append_assoc}
 use Rattle.std.specs.Prelude.{bytes_eq}
-use Rattle.std.proofs.lemmas.List.{length-map, map-append}
+use Rattle.std.proofs.lemmas.List.{length-append, length-map, map-append}
 use Rattle.std.specs.List.{filter}
 use Rattle.std.specs.BTreeMap.{insert_entry}
 use Rattle.std.specs.declared.cmp.Ordering.{Ordering}
@@ -9,7 +9,7 @@ use Rattle.std.specs.declared.cmp.Ordering.TheVariants.{Less, Equal, Greater}
 use Rattle.std.specs.Ordering.{match_ordering}
 use Rattle.mr_model.specs.Texts.{within}
 use Rattle.mr_model.specs.Writes.{Id, Write, id_of}
-use Rattle.mr_model.specs.Replica.{Replica, IsReplica, committed, tentative, is_among}
+use Rattle.mr_model.specs.Replica.{Replica, IsReplica, committed, tentative, order_of, is_among}
 use Rattle.mr_model.specs.Kept.{dropped_in_order, kept_in_order}
 use Rattle.mr_model.specs.Tables.{LogRow, UndoRow, BookingRow, log_row, undo_row, tables_of}
 use Rattle.mr_model.specs.Dropped.{Has}
@@ -19,6 +19,8 @@ use Rattle.mr_model.specs.Scopes.{Scope, Nothing, InRoom, NextCommits, UpTo, Abo
 use Rattle.mr_model.specs.RowsInScope.{kept_commits}
 use Rattle.mr_model.proofs.Members.{has_left, has_right, has_map, map_has, has_filter, filter_has, all_has, has_among, among_has, among_not, take_drop, Distinct, distinct_parts}
 use Rattle.mr_model.proofs.KnownById.{distinct_order}
+use Rattle.mr_model.proofs.RoomPlaces.{known_in_order}
+use Rattle.mr_model.proofs.TablesTell.{booked_row}
 use Rattle.mr_model.proofs.KeyOrder.{tables_in_order}
 use Rattle.mr_model.proofs.RowsOfKnown.{rows_of_known}
 use Rattle.mr_model.proofs.LogOrder.{order-parts, kept_known}
@@ -30,6 +32,8 @@ use Rattle.mr_replay.proofs.Ids.{exact_ids}
 use Rattle.mr_replica.specs.Boards.{booking_entry, put_entries}
 use Rattle.mr_replica.specs.Parts.{PartView, kept_in, undone_in, part_of, IsAskedOf}
 use Rattle.mr_replica.proofs.BoardRows.{put_had}
+use Rattle.mr_replica.proofs.DeskRows.{dropped_long}
+use Rattle.mr_replica.proofs.SubmittedRows.{few_kept}
 use Rattle.mr_replica.proofs.Parting.{undo_in_part}
 
 -- ---- lists in which nothing is twice
@@ -285,3 +289,72 @@ rows_counted (OfItems items) a sound asked =
 -- what a part of a replica counts
 pub rows_of_part : (p : PartView) (s : Scope) (a : Replica) → IsReplica a → IsAskedOf s a → p ≡ part_of s a → rows_held p ≡ counted_rows (in_scope s (tables_of a))
 rows_of_part p s a sound asked e = ap rows_held e ∙ rows_counted s a sound asked
+
+-- ---- how many they can be
+
+-- the dropped and the kept writes
+order_few : (a : Replica) → IsReplica a → length (order_of a) ≤ 999_999_999_999
+order_few a sound =
+    let all = ap length (order-parts a) ∙ length-append (dropped_in_order a) (kept_in_order a) in
+    let dropped = dropped_long a sound in
+    let kept = few_kept a sound in
+    omega (arith, all, dropped, kept)
+
+logs_few : (a : Replica) (logs : List LogRow) (ws : List Write) → IsReplica a → RowsOf a logs ws → length logs ≤ 999_999_999_999
+logs_few a logs ws sound r =
+    let there = λ (i : Id) (h : Has i (map id_of ws)). let (w, g, e) = map_has id_of i ws h in subst (λ j. Has j (map id_of (kept_in_order a))) (sym e) (has_map id_of w (kept_in_order a) (r.kept w g)) in
+    let l = few (map id_of ws) (map id_of (kept_in_order a)) r.differ there in
+    let m = length-map ws id_of in
+    let n = length-map (kept_in_order a) id_of in
+    let same = logs_many a logs ws r in
+    let most = few_kept a sound in
+    omega (arith, l, m, n, same, most)
+
+bookings_few : (a : Replica) (p : BookingRow → Bool) → IsReplica a → length (filter p (tables_of a).booking) ≤ 999_999_999_999
+bookings_few a p sound =
+    let l = few (map booking_id (filter p (tables_of a).booking)) (map id_of (order_of a)) (apart_picked booking_id p (tables_of a).booking (apart_rise (map booking_id (tables_of a).booking) (tables_in_order a sound).booking)) there in
+    let m = length-map (filter p (tables_of a).booking) booking_id in
+    let n = length-map (order_of a) id_of in
+    let most = order_few a sound in
+    omega (arith, l, m, n, most)
+  where
+    known : (w : Write) → Has w (committed a) ⊎ Has w (tentative a) → Has w (order_of a)
+    known w (inl h) = has_left w (committed a) (tentative a) h
+    known w (inr h) = has_right w (committed a) (tentative a) h
+
+    there : (i : Id) → Has i (map booking_id (filter p (tables_of a).booking)) → Has i (map id_of (order_of a))
+    there i h =
+        let (row, g, e) = map_has booking_id i (filter p (tables_of a).booking) h in
+        let (w, k, f) = ((rows_of_known a sound).booking row).0 (filter_has p row (tables_of a).booking g).0 in
+        let (s, q, m) = booked_row a w row f in
+        subst (λ j. Has j (map id_of (order_of a))) (sym (e ∙ ap booking_id m)) (has_map id_of w (order_of a) (known w (known_in_order a w sound k)))
+
+few_held : (a : Replica) (logs : List LogRow) (ws : List Write) (p : BookingRow → Bool) → IsReplica a → RowsOf a logs ws
+    → length logs + length (beside a logs) + length (filter p (tables_of a).booking) + 0 < 18446744073709551616
+few_held a logs ws p sound r =
+    let l = logs_few a logs ws sound r in
+    let m = logs_many a logs ws r in
+    let u = undo_many a logs ws sound r in
+    let b = bookings_few a p sound in
+    omega (arith, l, m, u, b)
+
+few_alone : (a : Replica) (logs : List LogRow) (ws : List Write) → IsReplica a → RowsOf a logs ws → length logs + length (beside a logs) + 0 + 0 < 18446744073709551616
+few_alone a logs ws sound r =
+    let l = logs_few a logs ws sound r in
+    let m = logs_many a logs ws r in
+    let u = undo_many a logs ws sound r in
+    omega (arith, l, m, u)
+
+-- the rows in scope are few enough for a number of the machine
+pub rows_few : (s : Scope) (a : Replica) → IsReplica a → IsAskedOf s a → counted_rows (in_scope s (tables_of a)) < 18446744073709551616
+rows_few Nothing a sound asked = few_alone a [] [] sound (none_kept a)
+rows_few (InRoom room) a sound asked = few_held a [] [] (λ b. bytes_eq b.room room) sound (none_kept a)
+rows_few (NextCommits k) a sound asked = few_alone a (in_scope (NextCommits k) (tables_of a)).write_log (first_tentative a k) sound (next_kept a k sound)
+rows_few (UpTo d) a sound asked = few_alone a (in_scope (UpTo d) (tables_of a)).write_log (take (d - a.dropped) (kept_commits a)) sound (first_kept a d sound)
+rows_few (Above commits) a sound asked =
+    let l = logs_few a (in_scope (Above commits) (tables_of a)).write_log (drop (commits - a.dropped) (kept_commits a) ++ tentative a) sound (above_kept a commits sound asked) in
+    let none = undo_many a [] [] sound (none_kept a) in
+    omega (arith, l, none)
+rows_few (OfItems items) a sound asked =
+    few_held a (in_scope (OfItems items) (tables_of a)).write_log (kept_in (OfItems items) a) (λ b. is_touched (tables_of a) items b.room) sound
+    (picked_kept a (λ row. is_named items row || (is_in_tail (length a.commits) items row && is_touched (tables_of a) items row.room)) sound)
