@@ -4,7 +4,6 @@ use Rattle.std.specs.Prelude.{bytes_eq}
 use Rattle.std.proofs.lemmas.List.{length-append, length-map, map-append}
 use Rattle.std.specs.List.{filter}
 use Rattle.std.specs.BTreeMap.{insert_entry}
-use Rattle.std.specs.declared.cmp.Ordering.{Ordering}
 use Rattle.std.specs.declared.cmp.Ordering.TheVariants.{Less, Equal, Greater}
 use Rattle.std.specs.Ordering.{match_ordering}
 use Rattle.mr_model.specs.Texts.{within}
@@ -30,7 +29,7 @@ use Rattle.mr_replay.specs.declared.rows.Row.{Row}
 use Rattle.mr_replay.specs.Rows.{Rows}
 use Rattle.mr_replay.proofs.Ids.{exact_ids}
 use Rattle.mr_replica.specs.Boards.{booking_entry, put_entries}
-use Rattle.mr_replica.specs.Parts.{PartView, kept_in, undone_in, part_of, IsAskedOf}
+use Rattle.mr_replica.specs.Parts.{PartView, kept_in, part_of, IsAskedOf}
 use Rattle.mr_replica.proofs.BoardRows.{put_had}
 use Rattle.mr_replica.proofs.DeskRows.{dropped_long}
 use Rattle.mr_replica.proofs.SubmittedRows.{few_kept}
