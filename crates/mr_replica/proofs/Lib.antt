@@ -28,3 +28,4 @@ pub mod SameRows
 pub mod SoundLog
 pub mod Parting
 pub mod PartCalls
+pub mod PartRows

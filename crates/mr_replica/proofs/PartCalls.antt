@@ -1,5 +1,5 @@
 -- What a part answers to the calls that execute nothing: a truncation, a batch that is made, a room more.
-use Rattle.std.proofs.Common.{◌≡◌, refl, sym, ap, ◌∙◌, ℕ, ◌+◌, ◌-◌, ◌≤◌, ◌==◌, min, max, nat_lt, false, List, [], ◌∷◌, ◌++◌, length, take, drop, map, ◌⊎◌, inl, inr, Result, Ok, Err, IfOk, IfErr, arith, IsTrue}
+use Rattle.std.proofs.Common.{◌≡◌, refl, sym, ap, ◌∙◌, ℕ, ◌+◌, ◌-◌, ◌≤◌, ◌==◌, max, nat_lt, false, List, [], ◌∷◌, ◌++◌, length, take, drop, map, ◌⊎◌, inl, inr, Result, Ok, Err, IfOk, IfErr, arith, IsTrue}
 use Rattle.std.proofs.Math.Seq.{take-append_seam, drop-append_seam}
 use Rattle.std.proofs.lemmas.Bool.{eqb-false}
 use Rattle.std.proofs.lemmas.List.{length-append, length-drop}
@@ -10,7 +10,7 @@ use Rattle.mr_model.specs.Positions.{Position}
 use Rattle.mr_model.specs.Replica.{Replica, IsReplica, tentative, knows_room, with_room}
 use Rattle.mr_model.specs.Kept.{kept_in_order}
 use Rattle.mr_model.specs.Replies.{DroppedIs, RoomAdded}
-use Rattle.mr_model.specs.Scopes.{Nothing, UpTo, Above}
+use Rattle.mr_model.specs.Scopes.{Nothing, UpTo}
 use Rattle.mr_model.specs.RowsInScope.{kept_commits}
 use Rattle.mr_model.specs.Step.{After, truncate, add_room, items_for}
 use Rattle.mr_model.specs.Tables.{tables_of}

@@ -1,5 +1,5 @@
 -- What a part of a replica's tables is seen as, for which replicas it is the part, and what it means that a call is a step of them.
-use Rattle.std.specs.Prelude.{◌≡◌, ◌-◌, ◌&&◌, ◌||◌, List, [], ◌++◌, length, take, drop, map, filter, Result, Err, IfOk, ◌⊎◌}
+use Rattle.std.specs.Prelude.{◌≡◌, ◌-◌, ◌≤◌, ◌&&◌, ◌||◌, List, [], ◌++◌, length, take, drop, map, filter, Result, Err, IfOk, ◌⊎◌}
 use Rattle.mr_model.specs.Texts.{Text}
 use Rattle.mr_model.specs.Writes.{Write, id_of}
 use Rattle.mr_model.specs.Replica.{Replica, IsReplica, tentative}
@@ -76,3 +76,8 @@ TakesPart s step reply change part result =
 abbrev pub AnswersPart : {T : Type 0} → Scope → (Replica → Reply) → (T → Reply) → PartView → Result T Refusal → Type 0
 AnswersPart s answer reply part result =
     (a : Replica) → IsReplica a → IsPartOf part s a → (reply_with reply result ≡ answer a) ⊎ (result ≡ Err OutOfMemory)
+
+-- no commit that is asked for is dropped: then all that is asked for is there
+abbrev pub IsAskedOf : Scope → Replica → Type 0
+IsAskedOf (Above commits) a = a.dropped ≤ commits
+IsAskedOf _ a = Unit {0}

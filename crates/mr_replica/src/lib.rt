@@ -25,6 +25,7 @@ mod part_batch;
 mod part_commit;
 mod part_position;
 mod part_rooms;
+mod part_rows;
 mod part_submit;
 mod part_truncate;
 mod sound_log;

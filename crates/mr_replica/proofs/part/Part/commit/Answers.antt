@@ -1,11 +1,9 @@
-use Rattle.std.proofs.Common.{◌≡◌, ℕ, min, ◌==◌, true, length, take, map, ap, sym, ◌∙◌, inl, arith}
+use Rattle.std.proofs.Common.{◌≡◌, ◌==◌, true, length, take, map, ap, sym, ◌∙◌, inl, arith}
 use Rattle.std.proofs.lemmas.Bool.Decides.{nat_tests}
 use Rattle.std.proofs.lemmas.List.{length-map}
-use Rattle.mr_model.specs.Writes.{Write}
 use Rattle.mr_model.specs.Replies.{CommittedIs}
 use Rattle.mr_model.specs.Changes.{first_tentative}
 use Rattle.mr_model.specs.Scopes.{NextCommits}
-use Rattle.mr_replay.specs.Places.{UndoRow}
 use Rattle.mr_replica.specs.Parts.{PartView, part_of}
 use Rattle.mr_replica.proofs.Parting.{undo_in_part, take_same, part_commit}
 use Rattle.mr_replica.proofs.part.Part.commit.Goals as goal

@@ -1,9 +1,7 @@
-use Rattle.std.proofs.Common.{◌≡◌, ◌≤◌, ◌==◌, nat_lt, max, false, length, map, ap, sym, ◌∙◌, inl, arith}
+use Rattle.std.proofs.Common.{◌≡◌, ◌≤◌, ◌==◌, nat_lt, max, false, length, ap, sym, ◌∙◌, inl, arith}
 use Rattle.std.proofs.lemmas.Bool.Decides.{nat_tests}
-use Rattle.mr_model.specs.Writes.{id_of}
 use Rattle.mr_tables.specs.declared.summary.Summary.{Summary}
 use Rattle.mr_replica.specs.Parts.{PartView}
-use Rattle.mr_tables.specs.Written.{meta_of, forgotten}
 use Rattle.mr_replica.proofs.PartCalls.{part_truncate}
 use Rattle.mr_replica.proofs.part.Part.truncate.Goals as goal
 
