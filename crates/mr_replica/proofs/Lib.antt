@@ -39,3 +39,4 @@ pub mod Latest
 pub mod Totals
 pub mod SameRows
 pub mod SoundLog
+pub mod Picking

@@ -18,3 +18,6 @@ pub mod KeptRows
 pub mod OldErrors
 pub mod SoundRows
 pub mod SoundLog
+pub mod Parts
+pub mod ScopeOf
+pub mod PickedLogs

@@ -24,9 +24,12 @@ mod kept_rows;
 mod log;
 mod old_errors;
 mod outgoing;
+mod part;
 mod reading;
 mod rooms;
 mod rows;
+mod scope;
+mod scope_logs;
 mod sound_log;
 mod sound_rows;
 mod summary;
@@ -39,7 +42,9 @@ ghost use Rattle.mr_replica.specs.Steps.{SubmissionsAreRequests};
 
 pub use change::Change;
 pub use desk::Desk;
+pub use part::Part;
 pub use rows::{BookingRow, ErrorRow, LogRow, MetaRow, VectorRow, WriteUndoRow};
+pub use scope::Scope;
 pub use tables::Tables;
 
 /// A submission in words, where nothing is at fault with these, is the request that they make.

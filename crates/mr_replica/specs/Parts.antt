@@ -1,0 +1,68 @@
+-- What a part of a replica's tables is seen as, for which replicas it is the part, and what it means that a call is a step of them.
+use Rattle.std.specs.Prelude.{◌≡◌, ◌-◌, ◌&&◌, ◌||◌, List, [], ◌++◌, length, take, drop, map, filter, Result, Err, IfOk, ◌⊎◌}
+use Rattle.mr_model.specs.Texts.{Text}
+use Rattle.mr_model.specs.Writes.{Write, id_of}
+use Rattle.mr_model.specs.Replica.{Replica, IsReplica, tentative}
+use Rattle.mr_model.specs.Kept.{kept_in_order}
+use Rattle.mr_model.specs.Changes.{first_tentative}
+use Rattle.mr_model.specs.Replies.{Reply}
+use Rattle.mr_model.specs.Step.{After}
+use Rattle.mr_model.specs.Tables.{place_of, log_row, tables_of}
+use Rattle.mr_base.specs.declared.refusals.Refusal.{Refusal}
+use Rattle.mr_base.specs.declared.refusals.Refusal.TheVariants.{OutOfMemory}
+use Rattle.mr_replay.specs.Places.{UndoRow}
+use Rattle.mr_replay.specs.Rows.{Rows}
+use Rattle.mr_model.specs.Scopes.{Scope, Nothing, InRoom, NextCommits, UpTo, Above, OfItems, is_named, is_in_tail, is_touched, in_scope}
+use Rattle.mr_model.specs.RowsInScope.{kept_commits}
+use Rattle.mr_replica.specs.declared.summary.Summary.{Summary}
+use Rattle.mr_replica.specs.Summary.{summary_of}
+use Rattle.mr_replica.specs.Boards.{booking_entry, put_entries}
+use Rattle.mr_replica.specs.Change.{ChangeView, changed}
+use Rattle.mr_replica.specs.Desk.{reply_with}
+
+-- the numbers and the rooms; the kept writes in scope in the order of execution, with what undoes each; a board of the bookings in scope
+pub record PartView : Type 0 where
+  pub summary : Summary
+  pub rooms : List Text
+  pub kept : List Write
+  pub undo : List UndoRow
+  pub board : Rows
+
+-- the kept writes in scope
+abbrev pub kept_in : Scope → Replica → List Write
+kept_in Nothing a = []
+kept_in (InRoom room) a = []
+kept_in (NextCommits k) a = first_tentative a k
+kept_in (UpTo d) a = take (d - a.dropped) (kept_commits a)
+kept_in (Above commits) a = drop (commits - a.dropped) (kept_commits a) ++ tentative a
+kept_in (OfItems items) a =
+    filter
+    (λ w. is_named items (log_row a w) || (is_in_tail (length a.commits) items (log_row a w) && is_touched (tables_of a) items w.room))
+    (kept_in_order a)
+
+-- what undoes each of them, which a batch for a position has no need of
+abbrev pub undo_in : Scope → Replica → List UndoRow
+undo_in (Above commits) a = []
+undo_in s a = map (λ w. record { id = id_of w; place = place_of a w }) (kept_in s a)
+
+abbrev pub part_of : Scope → Replica → PartView
+part_of s a =
+    record {
+      summary = summary_of a;
+      rooms = a.rooms;
+      kept = kept_in s a;
+      undo = undo_in s a;
+      board = put_entries (map booking_entry (in_scope s (tables_of a)).booking) [];
+    }
+
+-- the part of the replica's tables with the rows in scope, and no others
+abbrev pub IsPartOf : PartView → Scope → Replica → Type 0
+IsPartOf p s a = p ≡ part_of s a
+
+-- For every replica of whose tables this is the part for the call: the answer is that of the step, and the change turns the tables into
+-- those of the replica after it; or memory was wanting.
+abbrev pub TakesPart : {T : Type 0} → Scope → (Replica → After) → (Replica → T → Reply) → (T → ChangeView) → PartView → Result T Refusal → Type 0
+TakesPart s step reply change part result =
+    (a : Replica) → IsReplica a → IsPartOf part s a
+    → ((reply_with (reply (step a).replica) result ≡ (step a).reply) × IfOk result (λ x. changed (change x) (tables_of a) ≡ tables_of (step a).replica))
+    ⊎ (result ≡ Err OutOfMemory)

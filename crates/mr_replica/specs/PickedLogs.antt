@@ -1,0 +1,34 @@
+-- Which rows of write_log are in scope, told row by row, and the writes that such rows tell.
+use Rattle.std.specs.Prelude.{ℕ, Bool, false, ◌&&◌, ◌||◌, ◌==◌, nat_lt, List, bytes_eq, IsTrue}
+use Rattle.std.specs.List.{list_any, AllByRecursion}
+use Rattle.mr_model.specs.Texts.{Text, within}
+use Rattle.mr_model.specs.Writes.{Write, is_write}
+use Rattle.mr_model.specs.Replica.{Replica}
+use Rattle.mr_model.specs.Tables.{LogRow, seq_of}
+use Rattle.mr_model.specs.Scopes.{Scope, UpTo, Above, OfItems, is_tentative, is_named, is_in_tail}
+use Rattle.mr_replica.specs.declared.kept_rows.RunPlace.{RunPlace}
+use Rattle.mr_replica.specs.declared.scope_logs.LoggedWrite.{LoggedWrite}
+use Rattle.mr_replica.specs.Rows.{log_row_with}
+
+-- whether the row is in scope, where so many commits are known and a batch touches these rooms; of a commit no row is, since only all
+-- tentative rows tell which are its
+abbrev pub is_log_in : Scope → ℕ → List Text → LogRow → Bool
+is_log_in (UpTo number) commits touched row = within 1 number row.seq
+is_log_in (Above number) commits touched row = is_tentative row || nat_lt number row.seq
+is_log_in (OfItems items) commits touched row = is_named items row || (is_in_tail commits items row && list_any (bytes_eq row.room) touched)
+is_log_in _ commits touched row = false
+
+-- a write of a replica with its commit number
+abbrev pub logged_of : Replica → Write → LoggedWrite
+logged_of a w = record { write = w; seq = seq_of a w }
+
+-- the row that tells it
+abbrev pub row_of : LoggedWrite → LogRow
+row_of x = log_row_with x.write x.seq
+
+abbrev pub AreWithin : List LoggedWrite → Type 0
+AreWithin xs = AllByRecursion (λ x. IsTrue (is_write x.write)) xs
+
+-- where it stands in the order of execution
+abbrev pub logged_place : LoggedWrite → RunPlace
+logged_place x = record { is_tentative = x.seq == 0; seq = x.seq; time = x.write.stamp.time; server = x.write.stamp.server }
