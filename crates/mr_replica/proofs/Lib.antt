@@ -40,3 +40,7 @@ pub mod Totals
 pub mod SameRows
 pub mod SoundLog
 pub mod Picking
+pub mod Touching
+pub mod PickedRows
+pub mod Stamping
+pub mod PartScopes

@@ -21,3 +21,5 @@ pub mod SoundLog
 pub mod Parts
 pub mod ScopeOf
 pub mod PickedLogs
+pub mod PickedBookings
+pub mod PickedUndo

@@ -1,11 +1,14 @@
 -- Which rows of write_log are in scope, told row by row, and the writes that such rows tell.
-use Rattle.std.specs.Prelude.{ℕ, Bool, false, ◌&&◌, ◌||◌, ◌==◌, nat_lt, List, bytes_eq, IsTrue}
+use Rattle.std.specs.Prelude.{ℕ, suc, Bool, false, ◌&&◌, ◌||◌, if◌then◌else◌, ◌==◌, nat_lt, List, [], ◌∷◌, map, filter, ◌↔◌, ◌≡◌, bytes_eq, IsTrue}
 use Rattle.std.specs.List.{list_any, AllByRecursion}
 use Rattle.mr_model.specs.Texts.{Text, within}
-use Rattle.mr_model.specs.Writes.{Write, is_write}
+use Rattle.mr_model.specs.Writes.{Write, id_of, is_write}
 use Rattle.mr_model.specs.Replica.{Replica}
-use Rattle.mr_model.specs.Tables.{LogRow, seq_of}
-use Rattle.mr_model.specs.Scopes.{Scope, UpTo, Above, OfItems, is_tentative, is_named, is_in_tail}
+use Rattle.mr_model.specs.Tables.{LogRow, seq_of, log_row}
+use Rattle.mr_model.specs.Dropped.{Has}
+use Rattle.mr_model.specs.Kept.{AreInRunOrder}
+use Rattle.mr_model.specs.Changes.{RiseById}
+use Rattle.mr_model.specs.Scopes.{Scope, UpTo, Above, OfItems, is_tentative, is_named, is_in_tail, row_before}
 use Rattle.mr_replica.specs.declared.kept_rows.RunPlace.{RunPlace}
 use Rattle.mr_replica.specs.declared.scope_logs.LoggedWrite.{LoggedWrite}
 use Rattle.mr_replica.specs.Rows.{log_row_with}
@@ -32,3 +35,17 @@ AreWithin xs = AllByRecursion (λ x. IsTrue (is_write x.write)) xs
 -- where it stands in the order of execution
 abbrev pub logged_place : LoggedWrite → RunPlace
 logged_place x = record { is_tentative = x.seq == 0; seq = x.seq; time = x.write.stamp.time; server = x.write.stamp.server }
+
+-- how many of these rows a row does not stand before by its stamp, up to the first that it does
+abbrev pub stamp_place : LogRow → List LogRow → ℕ
+stamp_place row [] = 0
+stamp_place row (x ∷ xs) = if row_before row x then 0 else suc (stamp_place row xs)
+
+-- the rows that pass are those of kept writes, in the order of keys; in the order of execution these are the writes
+pub record ArePicked (a : Replica) (test : LogRow → Bool) (rows : List LogRow) (ws : List Write) : Type 0 where
+  pub by_key : List Write
+  pub rows_are : filter test rows ≡ map (log_row a) by_key
+  pub rising : RiseById (map id_of by_key)
+  pub same : (w : Write) → Has w by_key ↔ Has w ws
+  pub known : (w : Write) → Has w ws → Has w a.known
+  pub in_order : AreInRunOrder (map (log_row a) ws)

@@ -1,14 +1,17 @@
 ghost use Rattle.std.specs.Prelude.{◌≡◌, ℕ, List, Ok, IfOk, IfErr, IsTrue, map, filter};
 ghost use Rattle.std.specs.List.Sorted.{IsPermutation, IsSortedByKey};
-ghost use Rattle.mr_model.specs.Writes.{is_write};
+ghost use Rattle.mr_model.specs.Writes.{Write as WriteOfRoom, is_write};
+ghost use Rattle.mr_model.specs.Replica.{Replica, IsReplica};
 ghost use Rattle.mr_base.specs.Answers.{OrOutOfMemory};
 ghost use Rattle.mr_replica.specs.KeptRows.{run_cmp};
 ghost use Rattle.mr_replica.specs.ScopeOf.{scope_of};
-ghost use Rattle.mr_replica.specs.PickedLogs.{is_log_in, row_of, AreWithin, logged_place};
+ghost use Rattle.mr_replica.specs.PickedLogs.{is_log_in, row_of, logged_of, AreWithin, ArePicked, logged_place};
 ghost use Rattle.mr_replica.specs.declared.scope_logs.LoggedWrite.{LoggedWrite as LoggedWriteOfRow};
 
 use crate::kept_rows::RunPlace;
 use crate::reading::write_of;
+use crate::rooms::is_known;
+use crate::scope_items::{is_in_tail, is_named};
 use crate::{LogRow, Scope};
 use mr_base::{Refusal, RoomName, Write};
 use std::alloc::Global;
@@ -49,7 +52,7 @@ impl LoggedWrite {
 }
 
 /// The writes of the rows in scope, in the order of the rows. `commits` are known, and a batch touches these rooms.
-pub(crate) fn writes_in(
+fn writes_in(
     alloc: Global,
     rows: &[LogRow],
     scope: &Scope<'_>,
@@ -73,8 +76,45 @@ pub(crate) fn writes_in(
     Ok(writes)
 }
 
+/// The same in the order of execution.
+pub(crate) fn sorted_writes(
+    alloc: Global,
+    rows: &[LogRow],
+    scope: &Scope<'_>,
+    commits: u64,
+    touched: &[RoomName],
+) -> Result<Vec<LoggedWrite>, Refusal>
+    ensures writes { (a : Replica) (ws : List WriteOfRoom) → IsReplica a → ArePicked a (is_log_in (scope_of scope.now) commits touched.now) rows.now ws
+        → IfOk result (λ writes. writes.items ≡ map (logged_of a) ws) }
+    ensures only { (a : Replica) (ws : List WriteOfRoom) → IsReplica a → ArePicked a (is_log_in (scope_of scope.now) commits touched.now) rows.now ws
+        → IfErr result (λ e. e ≡ Refusal.OutOfMemory) }
+{
+    match writes_in(alloc, rows, scope, commits, touched) {
+        Ok(mut writes) => {
+            sort_writes(&mut writes);
+            Ok(writes)
+        }
+        Err(refusal) => Err(refusal),
+    }
+}
+
+/// The writes alone.
+pub(crate) fn writes_alone(
+    alloc: Global,
+    logged: Vec<LoggedWrite>,
+) -> Result<Vec<Write>, Refusal>
+    ensures writes { IfOk result (λ writes. writes.items ≡ map (λ x. x.write) logged.items) }
+    ensures only { IfErr result (λ e. e ≡ Refusal.OutOfMemory) }
+{
+    let mut writes = Vec::new(alloc);
+    for one in logged {
+        writes.push(one.write)?;
+    }
+    Ok(writes)
+}
+
 /// Puts the writes into the order of execution.
-pub(crate) fn sort_writes(writes: &mut Vec<LoggedWrite>)
+fn sort_writes(writes: &mut Vec<LoggedWrite>)
     ensures moved { IsPermutation writes.old.items writes.new.items }
     ensures sorted { IsSortedByKey logged_place run_cmp writes.new.items }
 {
@@ -89,6 +129,9 @@ fn is_log_in(row: &LogRow, scope: &Scope<'_>, commits: u64, touched: &[RoomName]
         Scope::Nothing | Scope::InRoom(_) | Scope::NextCommits(_) => false,
         Scope::UpTo(number) => row.seq >= 1 && row.seq <= number,
         Scope::Above(number) => row.seq == 0 || row.seq > number,
-        Scope::Items(_) => false,
+        Scope::Items(items) => {
+            is_named(row, items)
+                || (is_in_tail(row, items, commits) && is_known(touched, &row.room))
+        }
     }
 }
