@@ -1,6 +1,6 @@
 -- What the rows in scope of tables tell, where they are those of a replica.
 use Rattle.std.proofs.Common.{◌≡◌, refl, sym, ap, ◌∙◌, subst, ℕ, zero, suc, ◌+◌, ◌-◌, ◌<◌, ◌≤◌, Bool, true, false, not, cond, ◌&&◌, ◌||◌, ◌↔◌, List, [], ◌∷◌, ◌++◌, map, take, drop, length, ◌⊎◌, inl, inr, arith, IsTrue, Some}
-use Rattle.std.proofs.lemmas.Bool.{not-true, cond-true, cond-false}
+use Rattle.std.proofs.lemmas.Bool.{not-true, true≢false}
 use Rattle.std.proofs.lemmas.Bool.Decides.{nat_tests}
 use Rattle.std.specs.Prelude.{bytes_eq, nat_lt, ◌==◌}
 use Rattle.std.specs.List.{AllByRecursion, filter}
@@ -20,11 +20,11 @@ use Rattle.mr_model.proofs.LogOrder.{kept_is_the_log, kept_known}
 use Rattle.mr_model.proofs.Members.{has_left, has_right, has_filter, filter_has, has_map, map_has, all_has, has_all, find_one, same_id-true, same_id_refl, has_among, Sorted, sorted_filter, take_drop}
 use Rattle.mr_model.proofs.RowsById.{by_id_has}
 use Rattle.mr_model.proofs.TablesTell.{not_committed_kept}
-use Rattle.mr_replica.specs.Parts.{kept_in}
+use Rattle.mr_replica.specs.Parts.{kept_in, undo_in}
 use Rattle.mr_replica.specs.Boards.{IsRowWithin}
 use Rattle.mr_replica.specs.PickedBookings.{is_booking_in, AreSameRooms, touched_in}
-use Rattle.mr_replica.specs.PickedLogs.{is_log_in, ArePicked}
-use Rattle.mr_replica.specs.PickedUndo.{has_undo_id, IsUndone}
+use Rattle.mr_replica.specs.PickedLogs.{is_log_in, is_by_row, ArePicked}
+use Rattle.mr_replica.specs.PickedUndo.{has_undo, has_undo_id, undo_with, IsUndone}
 use Rattle.mr_replica.proofs.Boarding.{bookings_within}
 
 -- ---- what is always there
@@ -160,12 +160,8 @@ above_rows a c h = go (nat_lt c a.dropped) refl
 
 -- ---- scopes
 
--- those whose rows of write_log are told row by row
-abbrev pub IsByRow : Scope → Type 0
-IsByRow (UpTo d) = Unit {0}
-IsByRow (Above c) = Unit {0}
-IsByRow (OfItems items) = Unit {0}
-IsByRow _ = ⊥
+never : false ≡ true → ⊥
+never e = true≢false (sym e)
 
 taken_kept : (a : Replica) (n : ℕ) (w : Write) → Has w (take n (kept_commits a)) → Has w (kept_in_order a)
 taken_kept a n w g = subst (Has w) (sym (cut_at a n)) (has_left w (take n (kept_commits a)) (drop n (kept_commits a) ++ tentative a) g)
@@ -173,10 +169,10 @@ taken_kept a n w g = subst (Has w) (sym (cut_at a n)) (has_left w (take n (kept_
 left_kept : (a : Replica) (n : ℕ) (w : Write) → Has w (drop n (kept_commits a) ++ tentative a) → Has w (kept_in_order a)
 left_kept a n w g = subst (Has w) (sym (cut_at a n)) (has_right w (take n (kept_commits a)) (drop n (kept_commits a) ++ tentative a) g)
 
-pub picked_in : (a : Replica) (s : Scope) (t : Tables) (touched : List Text) → IsReplica a → IsByRow s → in_scope s t ≡ in_scope s (tables_of a) → AreSameRooms touched (touched_in s t) → ArePicked a (is_log_in s t.meta.commits touched) t.write_log (kept_in s a)
-picked_in a Nothing t touched h by e same = absurd by
-picked_in a (InRoom room) t touched h by e same = absurd by
-picked_in a (NextCommits k) t touched h by e same = absurd by
+pub picked_in : (a : Replica) (s : Scope) (t : Tables) (touched : List Text) → IsReplica a → is_by_row s ≡ true → in_scope s t ≡ in_scope s (tables_of a) → AreSameRooms touched (touched_in s t) → ArePicked a (is_log_in s t.meta.commits touched) t.write_log (kept_in s a)
+picked_in a Nothing t touched h by e same = absurd (never by)
+picked_in a (InRoom room) t touched h by e same = absurd (never by)
+picked_in a (NextCommits k) t touched h by e same = absurd (never by)
 picked_in a (UpTo d) t touched h by e same =
     picked a (λ row. within 1 d row.seq) (λ row. within 1 d row.seq) t.write_log (take (d - a.dropped) (kept_commits a)) h (ap (λ (x : Tables). x.write_log) e)
     (λ w g. (kept_known a w h (taken_kept a (d - a.dropped) w g)).0) (truncated a d h) (cut_order a (d - a.dropped) h).0
@@ -227,13 +223,6 @@ undone a rows logs ks h logs_are kept same w g = find_one (has_undo_id (id_of w)
         let same_write = one_known a v w h (kept v m).0 (kept w g).0 (sym (ap undo_row_id f) ∙ id) in
         f ∙ ap (undo_row a) same_write
 
--- those with an undo row for each kept write
-abbrev pub IsUndoable : Scope → Type 0
-IsUndoable (NextCommits k) = Unit {0}
-IsUndoable (UpTo d) = Unit {0}
-IsUndoable (OfItems items) = Unit {0}
-IsUndoable _ = ⊥
-
 -- where tables have the same rows in scope, their undo rows for these are the same
 same_undo : (t u : Tables) (xs ys : List LogRow) (bs cs : List BookingRow) → with_logs t xs bs ≡ with_logs u ys cs → filter (λ x. is_among (undo_row_id x) (map log_row_id ys)) t.undo ≡ filter (λ x. is_among (undo_row_id x) (map log_row_id ys)) u.undo
 same_undo t u xs ys bs cs e = (λ i. filter (λ x. is_among (undo_row_id x) (map log_row_id (sym (ap (λ (x : Tables). x.write_log) e) i))) t.undo) ∙ ap (λ (x : Tables). x.undo) e
@@ -243,10 +232,10 @@ undone_by_row a t test bs cs xs ws h e known same w g =
     undone a t.undo (filter test (tables_of a).write_log) (passing a test (kept a)) h (passing_rows a test (kept a)) (λ v k. key_known a v (filter_has (λ x. test (log_row a x)) v (kept a) k).0)
     (same_undo t (tables_of a) xs (filter test (tables_of a).write_log) bs cs e) w ((same_writes a test ws h known same w).1 g)
 
-pub undone_in : (a : Replica) (s : Scope) (t : Tables) → IsReplica a → IsUndoable s → in_scope s t ≡ in_scope s (tables_of a) → (w : Write) → Has w (kept_in s a) → IsUndone t.undo (place_of a) w
-undone_in a Nothing t h by e w g = absurd by
-undone_in a (InRoom room) t h by e w g = absurd by
-undone_in a (Above c) t h by e w g = absurd by
+pub undone_in : (a : Replica) (s : Scope) (t : Tables) → IsReplica a → has_undo s ≡ true → in_scope s t ≡ in_scope s (tables_of a) → (w : Write) → Has w (kept_in s a) → IsUndone t.undo (place_of a) w
+undone_in a Nothing t h by e w g = absurd (never by)
+undone_in a (InRoom room) t h by e w g = absurd (never by)
+undone_in a (Above c) t h by e w g = absurd (never by)
 undone_in a (NextCommits k) t h by e w g =
     undone a t.undo (take k (by_stamp (filter is_tentative (tables_of a).write_log))) (first_tentative a k) h (next_commits a k h).0 (first_kept a k)
     (same_undo t (tables_of a) (take k (by_stamp (filter is_tentative t.write_log))) (take k (by_stamp (filter is_tentative (tables_of a).write_log))) [] [] e) w g
@@ -259,6 +248,22 @@ undone_in a (OfItems items) t h by e w g =
   where
     test : LogRow → Bool
     test row = is_named items row || (is_in_tail (length a.commits) items row && is_touched (tables_of a) items row.room)
+
+pub no_undo_in : (a : Replica) (s : Scope) → has_undo s ≡ false → [] ≡ undo_in s a
+no_undo_in a Nothing e = refl
+no_undo_in a (InRoom room) e = refl
+no_undo_in a (Above c) e = refl
+no_undo_in a (NextCommits k) e = absurd (true≢false e)
+no_undo_in a (UpTo d) e = absurd (true≢false e)
+no_undo_in a (OfItems items) e = absurd (true≢false e)
+
+pub undo_of_kept : (a : Replica) (s : Scope) → has_undo s ≡ true → map (undo_with (place_of a)) (kept_in s a) ≡ undo_in s a
+undo_of_kept a Nothing e = absurd (never e)
+undo_of_kept a (InRoom room) e = absurd (never e)
+undo_of_kept a (Above c) e = absurd (never e)
+undo_of_kept a (NextCommits k) e = refl
+undo_of_kept a (UpTo d) e = refl
+undo_of_kept a (OfItems items) e = refl
 
 -- ---- bookings
 

@@ -1,5 +1,5 @@
 -- Which rows of write_log are in scope, told row by row, and the writes that such rows tell.
-use Rattle.std.specs.Prelude.{ℕ, suc, Bool, false, ◌&&◌, ◌||◌, if◌then◌else◌, ◌==◌, nat_lt, List, [], ◌∷◌, map, filter, ◌↔◌, ◌≡◌, bytes_eq, IsTrue}
+use Rattle.std.specs.Prelude.{ℕ, suc, Bool, true, false, ◌&&◌, ◌||◌, if◌then◌else◌, ◌==◌, nat_lt, List, [], ◌∷◌, map, filter, ◌↔◌, ◌≡◌, bytes_eq, IsTrue}
 use Rattle.std.specs.List.{list_any, AllByRecursion}
 use Rattle.mr_model.specs.Texts.{Text, within}
 use Rattle.mr_model.specs.Writes.{Write, id_of, is_write}
@@ -20,6 +20,13 @@ is_log_in (UpTo number) commits touched row = within 1 number row.seq
 is_log_in (Above number) commits touched row = is_tentative row || nat_lt number row.seq
 is_log_in (OfItems items) commits touched row = is_named items row || (is_in_tail commits items row && list_any (bytes_eq row.room) touched)
 is_log_in _ commits touched row = false
+
+-- whether the scope's rows of write_log are told row by row, and there are such
+abbrev pub is_by_row : Scope → Bool
+is_by_row (UpTo number) = true
+is_by_row (Above number) = true
+is_by_row (OfItems items) = true
+is_by_row _ = false
 
 -- a write of a replica with its commit number
 abbrev pub logged_of : Replica → Write → LoggedWrite

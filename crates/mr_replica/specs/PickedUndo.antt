@@ -1,10 +1,17 @@
 -- The undo rows of kept writes, found by their ids.
-use Rattle.std.specs.Prelude.{◌≡◌, Bool, List, find, Some}
+use Rattle.std.specs.Prelude.{◌≡◌, Bool, true, false, List, find, Some}
 use Rattle.mr_model.specs.Writes.{Id, Write, id_of, same_id}
 use Rattle.mr_model.specs.Replay.{Place}
 use Rattle.mr_model.specs.Tables as table
-use Rattle.mr_model.specs.Scopes.{undo_row_id}
+use Rattle.mr_model.specs.Scopes.{Scope, NextCommits, UpTo, OfItems, undo_row_id}
 use Rattle.mr_replay.specs.Places.{UndoRow}
+
+-- whether the scope has an undo row for each kept write, or no undo rows
+abbrev pub has_undo : Scope → Bool
+has_undo (NextCommits count) = true
+has_undo (UpTo number) = true
+has_undo (OfItems items) = true
+has_undo _ = false
 
 abbrev pub has_undo_id : Id → table.UndoRow → Bool
 has_undo_id id row = same_id (undo_row_id row) id

@@ -1,11 +1,12 @@
-ghost use Rattle.std.specs.Prelude.{◌≡◌, ◌⊎◌, [], List, map, IfOk, IfErr};
+ghost use Rattle.std.specs.Prelude.{◌≡◌, ◌⊎◌, true, false, [], map, IfOk, IfErr};
 ghost use Rattle.mr_model.specs.Replica.{Replica, IsReplica};
 ghost use Rattle.mr_model.specs.Tables.{tables_of};
 ghost use Rattle.mr_model.specs.Scopes.{in_scope};
 ghost use Rattle.mr_replica.specs.Boards.{booking_entry, put_entries};
 ghost use Rattle.mr_replica.specs.Parts.{kept_in, undo_in, IsPartOf};
 ghost use Rattle.mr_replica.specs.PickedBookings.{AreSameRooms, touched_in};
-ghost use Rattle.mr_replica.specs.PickedLogs.{logged_of};
+ghost use Rattle.mr_replica.specs.PickedLogs.{logged_of, is_by_row};
+ghost use Rattle.mr_replica.specs.PickedUndo.{has_undo};
 ghost use Rattle.mr_replica.specs.ScopeOf.{scope_of};
 ghost use Rattle.mr_replica.specs.Summary.{IsWithin};
 
@@ -23,9 +24,9 @@ use mr_replay::{Board, UndoRow};
 use std::alloc::Global;
 
 impl Part {
-    /// The part of a replica for a command of this scope. Of its tables the rows in scope have to be there, and what others there are
-    /// doesn't matter, but that of a commit's scope are all tentative rows of `write_log`, which tell which are its. Rows in scope
-    /// that break their limits, or of which one wants its undo row, are refused as the store's.
+    /// The part for a command of this scope. Of `write_log`, `undo` and `booking` only the rows in scope have to be there, for a
+    /// commit also all tentative rows of `write_log`; what other rows there are doesn't matter. Refused as the store's fault where a
+    /// row in scope breaks its limits or its undo row is missing, or the numbers are beyond the limits of positions.
     pub fn from_tables(
         alloc: Global,
         scope: &Scope<'_>,
@@ -140,14 +141,27 @@ fn logged_in(
     match *scope {
         Scope::Nothing | Scope::InRoom(_) => Ok(Vec::new(alloc)),
         Scope::NextCommits(count) => first_writes(alloc, &tables.write_log, count),
-        Scope::UpTo(_) | Scope::Above(_) | Scope::Items(_) => sorted_writes(
-            alloc,
-            &tables.write_log,
-            scope,
-            tables.meta.commits,
-            touched,
-        ),
+        Scope::UpTo(_) | Scope::Above(_) | Scope::Items(_) => {
+            picked_in(alloc, scope, tables, touched)
+        }
     }
+}
+
+/// The same in a scope whose rows of `write_log` are told row by row.
+fn picked_in(
+    alloc: Global,
+    scope: &Scope<'_>,
+    tables: &Tables,
+    touched: &[RoomName],
+) -> Result<Vec<LoggedWrite>, Refusal>
+    requires { is_by_row (scope_of scope.now) ≡ true }
+    ensures logged { (a : Replica) → IsReplica a → in_scope (scope_of scope.now) tables.now ≡ in_scope (scope_of scope.now) (tables_of a)
+        → AreSameRooms touched.now (touched_in (scope_of scope.now) tables.now) → IfOk result (λ logged. logged.items ≡ map (logged_of a) (kept_in (scope_of scope.now) a)) }
+    ensures only { (a : Replica) → IsReplica a → in_scope (scope_of scope.now) tables.now ≡ in_scope (scope_of scope.now) (tables_of a)
+        → AreSameRooms touched.now (touched_in (scope_of scope.now) tables.now) → IfErr result (λ e. e ≡ Refusal.OutOfMemory) }
+{
+    let meta = tables.meta;
+    sorted_writes(alloc, &tables.write_log, scope, meta.commits, touched)
 }
 
 /// What undoes each of the kept writes in scope. A batch for a position has no need of it.
@@ -163,11 +177,37 @@ fn undo_in(
         → kept.now ≡ kept_in (scope_of scope.now) a → IfErr result (λ e. e ≡ Refusal.OutOfMemory) }
 {
     match *scope {
-        Scope::Nothing | Scope::InRoom(_) | Scope::Above(_) => Ok(Vec::new(alloc)),
+        Scope::Nothing | Scope::InRoom(_) | Scope::Above(_) => Ok(no_undo(alloc, scope)),
         Scope::NextCommits(_) | Scope::UpTo(_) | Scope::Items(_) => {
-            undo_of(alloc, kept, &tables.undo)
+            undo_rows(alloc, scope, tables, kept)
         }
     }
+}
+
+/// No rows, in a scope that has none.
+fn no_undo(alloc: Global, scope: &Scope<'_>) -> Vec<UndoRow>
+    requires { has_undo (scope_of scope.now) ≡ false }
+    ensures { (a : Replica) → result.items ≡ undo_in (scope_of scope.now) a }
+{
+    let _ = scope;
+    Vec::new(alloc)
+}
+
+/// The rows of the kept writes, in a scope that has them.
+fn undo_rows(
+    alloc: Global,
+    scope: &Scope<'_>,
+    tables: &Tables,
+    kept: &[Write],
+) -> Result<Vec<UndoRow>, Refusal>
+    requires { has_undo (scope_of scope.now) ≡ true }
+    ensures undo { (a : Replica) → IsReplica a → in_scope (scope_of scope.now) tables.now ≡ in_scope (scope_of scope.now) (tables_of a)
+        → kept.now ≡ kept_in (scope_of scope.now) a → IfOk result (λ undo. undo.items ≡ undo_in (scope_of scope.now) a) }
+    ensures only { (a : Replica) → IsReplica a → in_scope (scope_of scope.now) tables.now ≡ in_scope (scope_of scope.now) (tables_of a)
+        → kept.now ≡ kept_in (scope_of scope.now) a → IfErr result (λ e. e ≡ Refusal.OutOfMemory) }
+{
+    let _ = scope;
+    undo_of(alloc, kept, &tables.undo)
 }
 
 /// A board of the bookings in scope.
