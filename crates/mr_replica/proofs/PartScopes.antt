@@ -1,6 +1,6 @@
 -- What the rows in scope of tables tell, where they are those of a replica.
-use Rattle.std.proofs.Common.{◌≡◌, refl, sym, ap, ◌∙◌, subst, ℕ, zero, suc, ◌+◌, ◌-◌, ◌<◌, ◌≤◌, Bool, true, false, not, cond, ◌&&◌, ◌||◌, ◌↔◌, List, [], ◌∷◌, ◌++◌, map, take, drop, length, ◌⊎◌, inl, inr, arith, IsTrue, Some}
-use Rattle.std.proofs.lemmas.Bool.{not-true, true≢false}
+use Rattle.std.proofs.Common.{◌≡◌, refl, sym, ap, ◌∙◌, subst, ℕ, zero, suc, ◌+◌, ◌-◌, ◌<◌, ◌≤◌, Bool, true, false, not, cond, ◌&&◌, ◌||◌, ◌↔◌, List, [], ◌∷◌, ◌++◌, map, take, drop, length, ◌⊎◌, inl, inr, arith, append_assoc, ltb-false, IsTrue, Some}
+use Rattle.std.proofs.lemmas.Bool.{not-true, true≢false, ltb-true}
 use Rattle.std.proofs.lemmas.Bool.Decides.{nat_tests}
 use Rattle.std.specs.Prelude.{bytes_eq, nat_lt, ◌==◌}
 use Rattle.std.specs.List.{AllByRecursion, filter}
@@ -120,7 +120,7 @@ run_parts f (x ∷ xs) ys s =
 
 -- the kept writes, cut behind the first n commits
 cut_at : (a : Replica) (n : ℕ) → kept_in_order a ≡ take n (kept_commits a) ++ (drop n (kept_commits a) ++ tentative a)
-cut_at a n = ap (λ ws. ws ++ tentative a) (sym (take_drop n (kept_commits a))) ∙ Rattle.std.proofs.Common.append_assoc (take n (kept_commits a)) (drop n (kept_commits a)) (tentative a)
+cut_at a n = ap (λ ws. ws ++ tentative a) (sym (take_drop n (kept_commits a))) ∙ append_assoc (take n (kept_commits a)) (drop n (kept_commits a)) (tentative a)
 
 cut_order : (a : Replica) (n : ℕ) → IsReplica a → AreInRunOrder (map (log_row a) (take n (kept_commits a))) × AreInRunOrder (map (log_row a) (drop n (kept_commits a) ++ tentative a))
 cut_order a n h =
@@ -154,9 +154,9 @@ above_rows a c h = go (nat_lt c a.dropped) refl
 
     go : (b : Bool) → nat_lt c a.dropped ≡ b → SameRows (rows_above c) (map (log_row a) (drop (c - a.dropped) (kept_commits a) ++ tentative a))
     go true e =
-        let l = Rattle.std.proofs.lemmas.Bool.ltb-true c a.dropped e in
+        let l = ltb-true c a.dropped e in
         subst (λ ws. SameRows (rows_above c) (map (log_row a) ws)) (sym (whole c (omega (arith, l)))) (low l)
-    go false e = lacked a c h (Rattle.std.proofs.Common.ltb-false c a.dropped e)
+    go false e = lacked a c h (ltb-false c a.dropped e)
 
 -- ---- scopes
 

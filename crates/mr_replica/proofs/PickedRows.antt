@@ -1,5 +1,5 @@
 -- Rows that are picked from write_log, read and sorted, are those of the kept writes in scope.
-use Rattle.std.proofs.Common.{◌≡◌, refl, sym, ap, ◌∙◌, subst, Bool, true, false, cond, List, [], ◌∷◌, map, inl, inr, IsTrue}
+use Rattle.std.proofs.Common.{◌≡◌, refl, sym, ap, ◌∙◌, subst, Bool, true, false, cond, List, [], ◌∷◌, map, inl, inr, arith, IsTrue}
 use Rattle.std.specs.List.{AllByRecursion, filter}
 use Rattle.std.specs.declared.cmp.Ordering.TheVariants.{Less}
 use Rattle.std.specs.List.Sorted.{IsPermutation, IsSortedByKey}
@@ -38,8 +38,8 @@ abbrev KeyBefore : LoggedWrite → LoggedWrite → Type 0
 KeyBefore x y = IdBefore (id_of x.write) (id_of y.write)
 
 never_before : (x : LoggedWrite) → KeyBefore x x → ⊥
-never_before x (inl l) = omega (Rattle.std.proofs.Common.arith, l)
-never_before x (inr p) = let l = p.1 in omega (Rattle.std.proofs.Common.arith, l)
+never_before x (inl l) = omega (arith, l)
+never_before x (inr p) = let l = p.1 in omega (arith, l)
 
 keys_rise : (a : Replica) (ws : List Write) → RiseById (map id_of ws) → Sorted KeyBefore (map (logged_of a) ws)
 keys_rise a [] s = tt

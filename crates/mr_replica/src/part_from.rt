@@ -27,11 +27,7 @@ impl Part {
     /// The part for a command of this scope. Of `write_log`, `undo` and `booking` only the rows in scope have to be there, for a
     /// commit also all tentative rows of `write_log`; what other rows there are doesn't matter. Refused as the store's fault where a
     /// row in scope breaks its limits or its undo row is missing, or the numbers are beyond the limits of positions.
-    pub fn from_tables(
-        alloc: Global,
-        scope: &Scope<'_>,
-        tables: &Tables,
-    ) -> Result<Part, Refusal>
+    pub fn from_tables(alloc: Global, scope: &Scope<'_>, tables: &Tables) -> Result<Part, Refusal>
         ensures part { (a : Replica) → IsReplica a → in_scope (scope_of scope.now) tables.now ≡ in_scope (scope_of scope.now) (tables_of a)
             → IfOk result (λ part. IsPartOf part (scope_of scope.now) a) }
         ensures only { (a : Replica) → IsReplica a → in_scope (scope_of scope.now) tables.now ≡ in_scope (scope_of scope.now) (tables_of a)
@@ -88,11 +84,7 @@ fn part_told(alloc: Global, scope: &Scope<'_>, tables: &Tables) -> Result<Part, 
 }
 
 /// The rooms that the scope's batch touches.
-fn touched_in(
-    alloc: Global,
-    scope: &Scope<'_>,
-    tables: &Tables,
-) -> Result<Vec<RoomName>, Refusal>
+fn touched_in(alloc: Global, scope: &Scope<'_>, tables: &Tables) -> Result<Vec<RoomName>, Refusal>
     ensures rooms { IfOk result (λ rooms. AreSameRooms rooms.items (touched_in (scope_of scope.now) tables.now)) }
     ensures only { IfErr result (λ e. e ≡ Refusal.OutOfMemory) }
 {
@@ -184,7 +176,7 @@ fn undo_in(
     }
 }
 
-/// No rows, in a scope that has none.
+/// No rows, in a scope that has none. The scope is there for the contract alone.
 fn no_undo(alloc: Global, scope: &Scope<'_>) -> Vec<UndoRow>
     requires { has_undo (scope_of scope.now) ≡ false }
     ensures { (a : Replica) → result.items ≡ undo_in (scope_of scope.now) a }
@@ -193,7 +185,7 @@ fn no_undo(alloc: Global, scope: &Scope<'_>) -> Vec<UndoRow>
     Vec::new(alloc)
 }
 
-/// The rows of the kept writes, in a scope that has them.
+/// The rows of the kept writes, in a scope that has them. The scope is there for the contract alone.
 fn undo_rows(
     alloc: Global,
     scope: &Scope<'_>,

@@ -99,10 +99,7 @@ pub(crate) fn sorted_writes(
 }
 
 /// The writes alone.
-pub(crate) fn writes_alone(
-    alloc: Global,
-    logged: Vec<LoggedWrite>,
-) -> Result<Vec<Write>, Refusal>
+pub(crate) fn writes_alone(alloc: Global, logged: Vec<LoggedWrite>) -> Result<Vec<Write>, Refusal>
     ensures writes { IfOk result (λ writes. writes.items ≡ map (λ x. x.write) logged.items) }
     ensures only { IfErr result (λ e. e ≡ Refusal.OutOfMemory) }
 {

@@ -4,9 +4,9 @@ ghost use Rattle.mr_base.specs.Batches.{item_of};
 ghost use Rattle.mr_model.specs.Writes.{same_id};
 ghost use Rattle.mr_replica.specs.PickedBookings.{AreSameRooms};
 
+use crate::LogRow;
 use crate::rooms::is_known;
 use crate::scope_items::is_new_commit;
-use crate::LogRow;
 use mr_base::{Item, Refusal, RoomName, WriteId};
 use std::alloc::Global;
 

@@ -1,8 +1,7 @@
 use Rattle.std.proofs.Common.{◌≡◌, ◌∙◌, sym, ap, subst, List, [], map}
 use Rattle.std.specs.Prelude.{IfOk}
 use Rattle.std.specs.List.{AllByRecursion, filter}
-use Rattle.mr_model.specs.Tables.{BookingRow, Tables, tables_of}
-use Rattle.mr_model.specs.Scopes.{in_scope}
+use Rattle.mr_model.specs.Tables.{BookingRow, Tables}
 use Rattle.mr_replica.specs.Boards.{booking_entry, put_entries, IsRowWithin}
 use Rattle.mr_replica.specs.PickedBookings.{is_booking_in}
 use Rattle.mr_replica.specs.ScopeOf.{scope_of}

@@ -1,5 +1,5 @@
-use Rattle.std.proofs.Common.{◌≡◌, ◌∙◌, ap, sym, subst, List, take, map}
-use Rattle.std.specs.Prelude.{IfOk, IfErr}
+use Rattle.std.proofs.Common.{◌≡◌, ◌∙◌, ap, sym, subst, take, map}
+use Rattle.std.specs.Prelude.{IfOk}
 use Rattle.std.specs.List.{filter}
 use Rattle.mr_model.specs.Changes.{first_tentative}
 use Rattle.mr_model.specs.Tables.{Tables, tables_of}

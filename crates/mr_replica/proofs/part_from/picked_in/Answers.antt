@@ -1,4 +1,4 @@
-use Rattle.std.proofs.Common.{◌≡◌, ◌∙◌, ap, sym, subst, List, ℕ}
+use Rattle.std.proofs.Common.{◌∙◌, ap, sym, subst, List, ℕ}
 use Rattle.mr_model.specs.Tables.{MetaRow, LogRow, Tables}
 use Rattle.mr_replica.specs.Parts.{kept_in}
 use Rattle.mr_replica.specs.PickedLogs.{is_log_in, ArePicked}

@@ -1,4 +1,4 @@
-use Rattle.std.proofs.Common.{◌≡◌, ◌∙◌, sym, subst, List, map}
+use Rattle.std.proofs.Common.{◌∙◌, sym, subst, List, map}
 use Rattle.std.specs.List.Sorted.{IsPermutation}
 use Rattle.mr_replica.specs.declared.scope_logs.LoggedWrite.{LoggedWrite}
 use Rattle.mr_replica.specs.ScopeOf.{scope_of}

@@ -1,8 +1,7 @@
-use Rattle.std.proofs.Common.{◌≡◌, ◌∙◌, ap, sym, subst, List, ◌∷◌, [], ◌++◌, drop, map, IsTrue, ◌+◌}
+use Rattle.std.proofs.Common.{◌∙◌, ap, sym, subst, ◌∷◌, [], ◌++◌, drop, IsTrue, ◌+◌}
 use Rattle.std.proofs.lemmas.List.{at_drop_all}
 use Rattle.std.specs.List.{filter}
 use Rattle.mr_model.specs.Writes.{is_write}
-use Rattle.mr_model.specs.Tables.{LogRow}
 use Rattle.mr_model.proofs.Members.{all_has}
 use Rattle.mr_replica.specs.declared.scope_logs.LoggedWrite.{LoggedWrite}
 use Rattle.mr_replica.specs.ScopeOf.{scope_of}

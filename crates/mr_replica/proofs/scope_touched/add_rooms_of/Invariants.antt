@@ -1,4 +1,4 @@
-use Rattle.std.proofs.Common.{◌≡◌, ◌++◌, drop, map}
+use Rattle.std.proofs.Common.{◌++◌, drop, map}
 use Rattle.std.specs.List.{filter}
 use Rattle.mr_model.specs.Writes.{same_id}
 use Rattle.mr_model.specs.Scopes.{log_row_id}

@@ -1,7 +1,6 @@
-use Rattle.std.proofs.Common.{◌∙◌, ◌++◌, ◌∷◌, ap, sym, subst, List, drop, map, ◌+◌}
+use Rattle.std.proofs.Common.{◌∙◌, ◌++◌, ◌∷◌, ap, sym, subst, drop, map, ◌+◌}
 use Rattle.std.specs.Prelude.{flat_map}
 use Rattle.std.proofs.lemmas.List.{drop_more, at_drop_all}
-use Rattle.mr_model.specs.Texts.{Text}
 use Rattle.mr_model.specs.Scopes.{rooms_of_item}
 use Rattle.mr_base.specs.Batches.{item_of}
 use Rattle.mr_replica.specs.PickedBookings.{AreSameRooms}

@@ -1,4 +1,4 @@
-use Rattle.std.proofs.Common.{◌≡◌, ◌++◌, drop, map}
+use Rattle.std.proofs.Common.{◌++◌, drop, map}
 use Rattle.std.specs.Prelude.{flat_map}
 use Rattle.mr_model.specs.Scopes.{rooms_of_item}
 use Rattle.mr_base.specs.Batches.{item_of}

@@ -1,8 +1,5 @@
-use Rattle.std.proofs.Common.{◌∙◌, ap, sym, subst, Ok}
-use Rattle.mr_model.specs.Writes.{Write}
+use Rattle.std.proofs.Common.{◌∙◌, ap, sym, Ok}
 use Rattle.mr_model.specs.Tables.{LogRow}
-use Rattle.mr_base.specs.Answers.{OrOutOfMemory}
-use Rattle.mr_replica.specs.declared.scope_logs.LoggedWrite.{LoggedWrite}
 use Rattle.mr_replica.proofs.LogRows.{refused, answered}
 use Rattle.mr_replica.proofs.scope_logs.LoggedWrite.of_row.Goals as goal
 
