@@ -1,11 +1,11 @@
 -- What the rows in scope of tables tell, where they are those of a replica.
-use Rattle.std.proofs.Common.{◌≡◌, refl, sym, ap, ◌∙◌, subst, ℕ, zero, suc, ◌+◌, ◌-◌, ◌<◌, ◌≤◌, Bool, true, false, not, cond, ◌&&◌, ◌||◌, ◌↔◌, List, [], ◌∷◌, ◌++◌, map, take, drop, length, ◌⊎◌, inl, inr, arith, append_assoc, ltb-false, IsTrue, Some}
+use Rattle.std.proofs.Common.{◌≡◌, refl, sym, ap, ◌∙◌, subst, ℕ, ◌-◌, ◌<◌, ◌≤◌, Bool, true, false, not, cond, ◌&&◌, ◌||◌, ◌↔◌, List, [], ◌∷◌, ◌++◌, map, take, drop, length, arith, append_assoc, ltb-false}
 use Rattle.std.proofs.lemmas.Bool.{not-true, true≢false, ltb-true}
 use Rattle.std.proofs.lemmas.Bool.Decides.{nat_tests}
 use Rattle.std.specs.Prelude.{bytes_eq, nat_lt, ◌==◌}
 use Rattle.std.specs.List.{AllByRecursion, filter}
 use Rattle.mr_model.specs.Texts.{Text, within}
-use Rattle.mr_model.specs.Writes.{Id, Write, id_of, same_id}
+use Rattle.mr_model.specs.Writes.{Id, Write, id_of}
 use Rattle.mr_model.specs.Replica.{Replica, IsReplica, tentative, is_dropped, is_among}
 use Rattle.mr_model.specs.Tables.{LogRow, UndoRow, BookingRow, Tables, by_id, kept, log_row, undo_row, place_of, tables_of}
 use Rattle.mr_model.specs.Kept.{kept_in_order, LogBefore, AreInRunOrder}

@@ -1,9 +1,8 @@
 -- Rows that are picked from write_log, read and sorted, are those of the kept writes in scope.
-use Rattle.std.proofs.Common.{◌≡◌, refl, sym, ap, ◌∙◌, subst, Bool, true, false, cond, List, [], ◌∷◌, map, inl, inr, arith, IsTrue}
-use Rattle.std.specs.List.{AllByRecursion, filter}
+use Rattle.std.proofs.Common.{◌≡◌, refl, sym, ap, subst, Bool, List, [], ◌∷◌, map, inl, inr, arith, IsTrue}
 use Rattle.std.specs.declared.cmp.Ordering.TheVariants.{Less}
 use Rattle.std.specs.List.Sorted.{IsPermutation, IsSortedByKey}
-use Rattle.mr_model.specs.Writes.{Id, Write, id_of, is_write}
+use Rattle.mr_model.specs.Writes.{Write, id_of, is_write}
 use Rattle.mr_model.specs.Replica.{Replica, IsReplica}
 use Rattle.mr_model.specs.Tables.{LogRow, log_row}
 use Rattle.mr_model.specs.Kept.{LogBefore, AreInRunOrder}
