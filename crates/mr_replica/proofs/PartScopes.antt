@@ -20,11 +20,11 @@ use Rattle.mr_model.proofs.LogOrder.{kept_is_the_log, kept_known}
 use Rattle.mr_model.proofs.Members.{has_left, has_right, has_filter, filter_has, has_map, map_has, all_has, has_all, find_one, same_id-true, same_id_refl, has_among, Sorted, sorted_filter, take_drop}
 use Rattle.mr_model.proofs.RowsById.{by_id_has}
 use Rattle.mr_model.proofs.TablesTell.{not_committed_kept}
-use Rattle.mr_replica.specs.Parts.{kept_in, undo_in}
+use Rattle.mr_replica.specs.Parts.{kept_in}
 use Rattle.mr_replica.specs.Boards.{IsRowWithin}
 use Rattle.mr_replica.specs.PickedBookings.{is_booking_in, AreSameRooms, touched_in}
 use Rattle.mr_replica.specs.PickedLogs.{is_log_in, is_by_row, ArePicked}
-use Rattle.mr_replica.specs.PickedUndo.{has_undo, has_undo_id, undo_with, IsUndone}
+use Rattle.mr_replica.specs.PickedUndo.{has_undo, undo_in, has_undo_id, undo_with, IsUndone}
 use Rattle.mr_replica.proofs.Boarding.{bookings_within}
 
 -- ---- what is always there
@@ -232,17 +232,17 @@ undone_by_row a t test bs cs xs ws h e known same w g =
     undone a t.undo (filter test (tables_of a).write_log) (passing a test (kept a)) h (passing_rows a test (kept a)) (λ v k. key_known a v (filter_has (λ x. test (log_row a x)) v (kept a) k).0)
     (same_undo t (tables_of a) xs (filter test (tables_of a).write_log) bs cs e) w ((same_writes a test ws h known same w).1 g)
 
-pub undone_in : (a : Replica) (s : Scope) (t : Tables) → IsReplica a → has_undo s ≡ true → in_scope s t ≡ in_scope s (tables_of a) → (w : Write) → Has w (kept_in s a) → IsUndone t.undo (place_of a) w
-undone_in a Nothing t h by e w g = absurd (never by)
-undone_in a (InRoom room) t h by e w g = absurd (never by)
-undone_in a (Above c) t h by e w g = absurd (never by)
-undone_in a (NextCommits k) t h by e w g =
+pub undo_found : (a : Replica) (s : Scope) (t : Tables) → IsReplica a → has_undo s ≡ true → in_scope s t ≡ in_scope s (tables_of a) → (w : Write) → Has w (kept_in s a) → IsUndone t.undo (place_of a) w
+undo_found a Nothing t h by e w g = absurd (never by)
+undo_found a (InRoom room) t h by e w g = absurd (never by)
+undo_found a (Above c) t h by e w g = absurd (never by)
+undo_found a (NextCommits k) t h by e w g =
     undone a t.undo (take k (by_stamp (filter is_tentative (tables_of a).write_log))) (first_tentative a k) h (next_commits a k h).0 (first_kept a k)
     (same_undo t (tables_of a) (take k (by_stamp (filter is_tentative t.write_log))) (take k (by_stamp (filter is_tentative (tables_of a).write_log))) [] [] e) w g
-undone_in a (UpTo d) t h by e w g =
+undo_found a (UpTo d) t h by e w g =
     undone_by_row a t (λ row. within 1 d row.seq) [] [] (filter (λ row. within 1 d row.seq) t.write_log) (take (d - a.dropped) (kept_commits a)) h e
     (λ v k. (kept_known a v h (taken_kept a (d - a.dropped) v k)).0) (truncated a d h) w g
-undone_in a (OfItems items) t h by e w g =
+undo_found a (OfItems items) t h by e w g =
     undone_by_row a t test (in_scope (OfItems items) t).booking (in_scope (OfItems items) (tables_of a)).booking (in_scope (OfItems items) t).write_log (filter (λ v. test (log_row a v)) (kept_in_order a)) h e
     (λ v k. (kept_known a v h (filter_has (λ x. test (log_row a x)) v (kept_in_order a) k).0).0) (picked_rows a test h).0 w g
   where

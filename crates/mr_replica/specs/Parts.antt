@@ -40,10 +40,14 @@ kept_in (OfItems items) a =
     (λ w. is_named items (log_row a w) || (is_in_tail (length a.commits) items (log_row a w) && is_touched (tables_of a) items w.room))
     (kept_in_order a)
 
--- what undoes each of them, which a batch for a position has no need of
-abbrev pub undo_in : Scope → Replica → List UndoRow
-undo_in (Above commits) a = []
-undo_in s a = map (λ w. record { id = id_of w; place = place_of a w }) (kept_in s a)
+-- those of them whose undo rows are in scope: of a batch that is made, none
+abbrev pub undone_in : Scope → Replica → List Write
+undone_in Nothing a = kept_in Nothing a
+undone_in (InRoom room) a = kept_in (InRoom room) a
+undone_in (NextCommits k) a = kept_in (NextCommits k) a
+undone_in (UpTo d) a = kept_in (UpTo d) a
+undone_in (Above commits) a = []
+undone_in (OfItems items) a = kept_in (OfItems items) a
 
 abbrev pub part_of : Scope → Replica → PartView
 part_of s a =
@@ -51,7 +55,7 @@ part_of s a =
       summary = summary_of a;
       rooms = a.rooms;
       kept = kept_in s a;
-      undo = undo_in s a;
+      undo = map (λ w. record { id = id_of w; place = place_of a w }) (undone_in s a);
       board = put_entries (map booking_entry (in_scope s (tables_of a)).booking) [];
     }
 

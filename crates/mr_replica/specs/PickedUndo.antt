@@ -1,10 +1,12 @@
 -- The undo rows of kept writes, found by their ids.
-use Rattle.std.specs.Prelude.{◌≡◌, Bool, true, false, List, find, Some}
+use Rattle.std.specs.Prelude.{◌≡◌, Bool, true, false, List, find, map, Some}
 use Rattle.mr_model.specs.Writes.{Id, Write, id_of, same_id}
 use Rattle.mr_model.specs.Replay.{Place}
+use Rattle.mr_model.specs.Replica.{Replica}
 use Rattle.mr_model.specs.Tables as table
 use Rattle.mr_model.specs.Scopes.{Scope, NextCommits, UpTo, OfItems, undo_row_id}
 use Rattle.mr_replay.specs.Places.{UndoRow}
+use Rattle.mr_replica.specs.Parts.{undone_in}
 
 -- whether the scope has an undo row for each kept write, or no undo rows
 abbrev pub has_undo : Scope → Bool
@@ -23,6 +25,10 @@ told_undo id row = record { id = id; place = row.place }
 -- what undoes a write that has this place
 abbrev pub undo_with : (Write → Place) → Write → UndoRow
 undo_with place w = record { id = id_of w; place = place w }
+
+-- what undoes the kept writes in scope
+abbrev pub undo_in : Scope → Replica → List UndoRow
+undo_in s a = map (undo_with (table.place_of a)) (undone_in s a)
 
 -- the first row of the write's id tells this place
 abbrev pub IsUndone : List table.UndoRow → (Write → Place) → Write → Type 0

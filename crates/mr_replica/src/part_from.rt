@@ -3,10 +3,10 @@ ghost use Rattle.mr_model.specs.Replica.{Replica, IsReplica};
 ghost use Rattle.mr_model.specs.Tables.{tables_of};
 ghost use Rattle.mr_model.specs.Scopes.{in_scope};
 ghost use Rattle.mr_replica.specs.Boards.{booking_entry, put_entries};
-ghost use Rattle.mr_replica.specs.Parts.{kept_in, undo_in, IsPartOf};
+ghost use Rattle.mr_replica.specs.Parts.{kept_in, IsPartOf};
 ghost use Rattle.mr_replica.specs.PickedBookings.{AreSameRooms, touched_in};
 ghost use Rattle.mr_replica.specs.PickedLogs.{logged_of, is_by_row};
-ghost use Rattle.mr_replica.specs.PickedUndo.{has_undo};
+ghost use Rattle.mr_replica.specs.PickedUndo.{has_undo, undo_in};
 ghost use Rattle.mr_replica.specs.ScopeOf.{scope_of};
 ghost use Rattle.mr_replica.specs.Summary.{IsWithin};
 
