@@ -40,13 +40,13 @@ nat_tie : (m n : ℕ) → m ≡ n → nat_cmp m n ≡ Equal
 nat_tie m n e = sym (nat_cmp_is m n Equal e)
 
 -- where a row of write_log stands in the order of execution
-abbrev log_place : LogRow → RunPlace
+abbrev pub log_place : LogRow → RunPlace
 log_place row = record { is_tentative = eqb row.seq 0; seq = row.seq; time = row.time; server = row.server }
 
 committed_row : (row : LogRow) → 0 < row.seq → eqb row.seq 0 ≡ false
 committed_row row l = ne_eqb row.seq 0 (λ e. omega (arith, l, e))
 
-before_less : (r s : LogRow) → LogBefore r s → run_cmp (log_place r) (log_place s) ≡ Less
+pub before_less : (r s : LogRow) → LogBefore r s → run_cmp (log_place r) (log_place s) ≡ Less
 before_less r s (both p q) =
     let f = committed_row r p in
     let g = committed_row s (omega (arith, q)) in

@@ -29,3 +29,8 @@ pub mod SoundLog
 pub mod Parting
 pub mod PartCalls
 pub mod PartRows
+pub mod Picking
+pub mod Touching
+pub mod PickedRows
+pub mod Stamping
+pub mod PartScopes

@@ -12,3 +12,7 @@ pub mod ChangeLaws
 pub mod KeptRows
 pub mod SoundLog
 pub mod Parts
+pub mod ScopeOf
+pub mod PickedLogs
+pub mod PickedBookings
+pub mod PickedUndo

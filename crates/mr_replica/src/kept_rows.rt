@@ -31,10 +31,10 @@ pub(crate) struct KeptRow {
 /// Where a kept write stands in the order of execution.
 #[derive(Clone, Copy, PartialEq, Eq, PartialOrd, Ord)]
 pub(crate) struct RunPlace {
-    is_tentative: bool,
-    seq: u64,
-    time: u64,
-    server: ServerId,
+    pub is_tentative: bool,
+    pub seq: u64,
+    pub time: u64,
+    pub server: ServerId,
 }
 
 impl KeptRow {

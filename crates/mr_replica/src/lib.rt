@@ -23,11 +23,19 @@ mod outgoing;
 mod part;
 mod part_batch;
 mod part_commit;
+mod part_from;
 mod part_position;
 mod part_rooms;
 mod part_rows;
 mod part_submit;
 mod part_truncate;
+mod scope;
+mod scope_board;
+mod scope_commits;
+mod scope_items;
+mod scope_logs;
+mod scope_touched;
+mod scope_undo;
 mod sound_log;
 
 ghost use Rattle.mr_replica.specs.ChangeLaws.{DesksHaveTheTables, RoomsArePut, SubmissionsArePut, TailsArePut, CommitsArePut, TruncationsForget};
@@ -35,6 +43,7 @@ ghost use Rattle.mr_replica.specs.Steps.{SubmissionsAreRequests};
 
 pub use desk::Desk;
 pub use part::Part;
+pub use scope::Scope;
 
 /// A submission in words, where nothing is at fault with these, is the request that they make.
 pub fn submission_law()

@@ -38,7 +38,7 @@ pub fn put_bookings(board: &mut Board, alloc: Global, rows: &[BookingRow]) -> Re
     Ok(())
 }
 
-fn put_booking(board: &mut Board, alloc: Global, row: &BookingRow) -> Result<(), Refusal>
+pub fn put_booking(board: &mut Board, alloc: Global, row: &BookingRow) -> Result<(), Refusal>
     ensures put { IsRowWithin row.now.n row.now.start → OnOk result (board.new ≡ insert_entry id_cmp board.old (booking_entry row.now).0 (booking_entry row.now).1) }
     ensures only { IsRowWithin row.now.n row.now.start → IfErr result (λ e. e ≡ Refusal.OutOfMemory) }
 {

@@ -55,7 +55,7 @@ fn push_changed(
 
 /// The numbers that the tables tell: those of `meta`, and the tallies of the servers that have a row.
 pub fn summary_of(tables: &Tables) -> Summary
-    ensures { (a : Replica) → IsReplica a → tables.now ≡ tables_of a → result ≡ summary_of a }
+    ensures { (a : Replica) → IsReplica a → tables.now.meta ≡ (tables_of a).meta → tables.now.vector ≡ (tables_of a).vector → result ≡ summary_of a }
 {
     let meta = tables.meta;
     let mut summary = Summary::new(meta.server, meta.primary);

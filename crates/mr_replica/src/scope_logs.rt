@@ -1,0 +1,135 @@
+ghost use Rattle.std.specs.Prelude.{◌≡◌, ℕ, List, Ok, IfOk, IfErr, IsTrue, map, filter};
+ghost use Rattle.std.specs.List.Sorted.{IsPermutation, IsSortedByKey};
+ghost use Rattle.mr_model.specs.Writes.{Write as WriteOfRoom, is_write};
+ghost use Rattle.mr_model.specs.Replica.{Replica, IsReplica};
+ghost use Rattle.mr_base.specs.Answers.{OrOutOfMemory};
+ghost use Rattle.mr_replica.specs.KeptRows.{run_cmp};
+ghost use Rattle.mr_replica.specs.ScopeOf.{scope_of};
+ghost use Rattle.mr_replica.specs.PickedLogs.{is_log_in, row_of, logged_of, AreWithin, ArePicked, logged_place};
+ghost use Rattle.mr_replica.specs.declared.scope_logs.LoggedWrite.{LoggedWrite as LoggedWriteOfRow};
+
+use crate::kept_rows::RunPlace;
+use mr_tables::reading::write_of;
+use mr_tables::rooms::is_known;
+use crate::scope_items::{is_in_tail, is_named};
+use crate::Scope;
+use mr_tables::LogRow;
+use mr_base::{Refusal, RoomName, Write};
+use std::alloc::Global;
+
+/// A kept write as its row of `write_log` tells it. `seq` is its commit number, 0 where it is tentative.
+#[derive(Drop)]
+pub(crate) struct LoggedWrite {
+    pub write: Write,
+    pub seq: u64,
+}
+
+impl LoggedWrite {
+    /// That of a row. Refused where the row is that of no write.
+    pub(crate) fn of_row(alloc: Global, row: &LogRow) -> Result<LoggedWrite, Refusal>
+        ensures read { (x : LoggedWriteOfRow) → IsTrue (is_write x.write) → row.now ≡ row_of x → OrOutOfMemory result (Ok x) }
+    {
+        match write_of(alloc, row) {
+            Ok(write) => Ok(LoggedWrite {
+                write,
+                seq: row.seq,
+            }),
+            Err(refusal) => Err(refusal),
+        }
+    }
+
+    /// Its place in the order of execution.
+    pub(crate) fn place(&self) -> RunPlace
+        ensures { result ≡ logged_place self.now }
+    {
+        let stamp = self.write.stamp;
+        RunPlace {
+            is_tentative: self.seq == 0,
+            seq: self.seq,
+            time: stamp.time,
+            server: stamp.server,
+        }
+    }
+}
+
+/// The writes of the rows in scope, in the order of the rows. `commits` are known, and a batch touches these rooms.
+fn writes_in(
+    alloc: Global,
+    rows: &[LogRow],
+    scope: &Scope<'_>,
+    commits: u64,
+    touched: &[RoomName],
+) -> Result<Vec<LoggedWrite>, Refusal>
+    ensures writes { (xs : List LoggedWriteOfRow) → AreWithin xs → filter (is_log_in (scope_of scope.now) commits touched.now) rows.now ≡ map row_of xs
+        → IfOk result (λ writes. writes.items ≡ xs) }
+    ensures only { (xs : List LoggedWriteOfRow) → AreWithin xs → filter (is_log_in (scope_of scope.now) commits touched.now) rows.now ≡ map row_of xs
+        → IfErr result (λ e. e ≡ Refusal.OutOfMemory) }
+{
+    let mut writes = Vec::new(alloc);
+    for row in rows {
+        if is_log_in(row, scope, commits, touched) {
+            match LoggedWrite::of_row(alloc, row) {
+                Ok(write) => writes.push(write)?,
+                Err(refusal) => return Err(refusal),
+            }
+        }
+    }
+    Ok(writes)
+}
+
+/// The same in the order of execution.
+pub(crate) fn sorted_writes(
+    alloc: Global,
+    rows: &[LogRow],
+    scope: &Scope<'_>,
+    commits: u64,
+    touched: &[RoomName],
+) -> Result<Vec<LoggedWrite>, Refusal>
+    ensures writes { (a : Replica) (ws : List WriteOfRoom) → IsReplica a → ArePicked a (is_log_in (scope_of scope.now) commits touched.now) rows.now ws
+        → IfOk result (λ writes. writes.items ≡ map (logged_of a) ws) }
+    ensures only { (a : Replica) (ws : List WriteOfRoom) → IsReplica a → ArePicked a (is_log_in (scope_of scope.now) commits touched.now) rows.now ws
+        → IfErr result (λ e. e ≡ Refusal.OutOfMemory) }
+{
+    match writes_in(alloc, rows, scope, commits, touched) {
+        Ok(mut writes) => {
+            sort_writes(&mut writes);
+            Ok(writes)
+        }
+        Err(refusal) => Err(refusal),
+    }
+}
+
+/// The writes alone.
+pub(crate) fn writes_alone(alloc: Global, logged: Vec<LoggedWrite>) -> Result<Vec<Write>, Refusal>
+    ensures writes { IfOk result (λ writes. writes.items ≡ map (λ x. x.write) logged.items) }
+    ensures only { IfErr result (λ e. e ≡ Refusal.OutOfMemory) }
+{
+    let mut writes = Vec::new(alloc);
+    for one in logged {
+        writes.push(one.write)?;
+    }
+    Ok(writes)
+}
+
+/// Puts the writes into the order of execution.
+fn sort_writes(writes: &mut Vec<LoggedWrite>)
+    ensures moved { IsPermutation writes.old.items writes.new.items }
+    ensures sorted { IsSortedByKey logged_place run_cmp writes.new.items }
+{
+    writes.sort_unstable_by_key(|write| write.place());
+}
+
+/// Whether a row of `write_log` is in scope. Of a commit none is: only all tentative rows tell which are its.
+fn is_log_in(row: &LogRow, scope: &Scope<'_>, commits: u64, touched: &[RoomName]) -> bool
+    ensures { result ≡ is_log_in (scope_of scope.now) commits touched.now row.now }
+{
+    match *scope {
+        Scope::Nothing | Scope::InRoom(_) | Scope::NextCommits(_) => false,
+        Scope::UpTo(number) => row.seq >= 1 && row.seq <= number,
+        Scope::Above(number) => row.seq == 0 || row.seq > number,
+        Scope::Items(items) => {
+            is_named(row, items)
+                || (is_in_tail(row, items, commits) && is_known(touched, &row.room))
+        }
+    }
+}
