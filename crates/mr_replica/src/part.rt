@@ -1,6 +1,6 @@
-use mr_tables::summary::Summary;
 use mr_base::{RoomName, Write};
 use mr_replay::{Board, UndoRow};
+use mr_tables::summary::Summary;
 use std::alloc::Global;
 use std::marker::Model;
 

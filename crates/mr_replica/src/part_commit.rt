@@ -5,10 +5,10 @@ ghost use Rattle.mr_model.specs.Scopes.{NextCommits};
 ghost use Rattle.mr_replica.specs.Desk.{NeverStore};
 ghost use Rattle.mr_replica.specs.Parts.{TakesPart};
 
-use crate::desk_commit::after_commits;
 use crate::Part;
-use mr_tables::Change;
+use crate::desk_commit::after_commits;
 use mr_base::Refusal;
+use mr_tables::Change;
 
 impl Part {
     /// Commits the first k tentative writes, or all where there are fewer, and answers how many they are, and what that

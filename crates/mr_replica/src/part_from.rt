@@ -11,17 +11,17 @@ ghost use Rattle.mr_replica.specs.ScopeOf.{scope_of};
 ghost use Rattle.mr_tables.specs.Summary.{IsWithin};
 
 use crate::desk_tables::of_store;
-use mr_tables::rooms::copies_of;
 use crate::scope_board::board_in;
 use crate::scope_commits::first_writes;
 use crate::scope_logs::{LoggedWrite, sorted_writes, writes_alone};
 use crate::scope_touched::touched_rooms;
 use crate::scope_undo::undo_of;
-use mr_tables::vector::summary_of;
 use crate::{Part, Scope};
-use mr_tables::Tables;
 use mr_base::{Refusal, RoomName, Write};
 use mr_replay::{Board, UndoRow};
+use mr_tables::Tables;
+use mr_tables::rooms::copies_of;
+use mr_tables::vector::summary_of;
 use std::alloc::Global;
 
 impl Part {

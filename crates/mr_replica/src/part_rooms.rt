@@ -6,11 +6,11 @@ ghost use Rattle.mr_model.specs.Step.{add_room};
 ghost use Rattle.mr_replica.specs.Desk.{NeverStore};
 ghost use Rattle.mr_replica.specs.Parts.{TakesPart};
 
-use crate::desk_rooms::room_change;
-use mr_tables::rooms::is_known;
 use crate::Part;
-use mr_tables::Change;
+use crate::desk_rooms::room_change;
 use mr_base::{Refusal, RoomName};
+use mr_tables::Change;
+use mr_tables::rooms::is_known;
 
 impl Part {
     /// Adds a room that isn't known, and answers what that changes in the tables.

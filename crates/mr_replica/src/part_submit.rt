@@ -11,14 +11,14 @@ ghost use Rattle.mr_tables.specs.Summary.{tally_at};
 ghost use Rattle.mr_replica.specs.Turning.{put_outcome};
 ghost use Rattle.mr_tables.specs.Written.{meta_of, changed_tallies as rows_changed, written};
 
+use crate::Part;
+use mr_base::{Refusal, Request, Write, WriteId};
+use mr_replay::{Place, UndoRow};
+use mr_tables::Change;
 use mr_tables::rooms::is_known;
 use mr_tables::summary::Summary;
 use mr_tables::vector::changed_tallies;
 use mr_tables::written::written;
-use crate::Part;
-use mr_tables::Change;
-use mr_base::{Refusal, Request, Write, WriteId};
-use mr_replay::{Place, UndoRow};
 use std::alloc::Global;
 use std::slice;
 

@@ -5,10 +5,10 @@ ghost use Rattle.mr_model.specs.Step.{truncate};
 ghost use Rattle.mr_replica.specs.Desk.{NeverStore};
 ghost use Rattle.mr_replica.specs.Parts.{TakesPart};
 
-use mr_tables::written::forgotten;
 use crate::Part;
-use mr_tables::Change;
 use mr_base::Refusal;
+use mr_tables::Change;
+use mr_tables::written::forgotten;
 
 impl Part {
     /// Keeps the first commits up to this number no longer, and answers how many are dropped then, and what that changes in

@@ -4,12 +4,12 @@ ghost use Rattle.mr_tables.specs.Boards.{booking_entry, put_entries, IsRowWithin
 ghost use Rattle.mr_replica.specs.ScopeOf.{scope_of};
 ghost use Rattle.mr_replica.specs.PickedBookings.{is_booking_in};
 
-use mr_tables::boards::put_booking;
-use mr_tables::rooms::is_known;
 use crate::Scope;
-use mr_tables::BookingRow;
 use mr_base::{Refusal, RoomName};
 use mr_replay::Board;
+use mr_tables::BookingRow;
+use mr_tables::boards::put_booking;
+use mr_tables::rooms::is_known;
 use std::alloc::Global;
 
 /// A board of the bookings in scope, where a batch touches these rooms. Refused where one of them is out of the limits.

@@ -5,8 +5,8 @@ ghost use Rattle.mr_model.specs.Replica.{is_among};
 ghost use Rattle.mr_model.specs.Scopes.{item_id, has_number, is_named, is_new_commit, is_behind_item, is_late, is_in_tail};
 ghost use Rattle.mr_base.specs.Batches.{item_of};
 
-use mr_tables::LogRow;
 use mr_base::{Item, ServerId};
+use mr_tables::LogRow;
 
 /// Whether the row is of a write that the items name, by its id or by its commit number.
 pub(crate) fn is_named(row: &LogRow, items: &[Item]) -> bool

@@ -8,13 +8,13 @@ ghost use Rattle.mr_replica.specs.ScopeOf.{scope_of};
 ghost use Rattle.mr_replica.specs.PickedLogs.{is_log_in, row_of, logged_of, AreWithin, ArePicked, logged_place};
 ghost use Rattle.mr_replica.specs.declared.scope_logs.LoggedWrite.{LoggedWrite as LoggedWriteOfRow};
 
+use crate::Scope;
 use crate::kept_rows::RunPlace;
+use crate::scope_items::{is_in_tail, is_named};
+use mr_base::{Refusal, RoomName, Write};
+use mr_tables::LogRow;
 use mr_tables::reading::write_of;
 use mr_tables::rooms::is_known;
-use crate::scope_items::{is_in_tail, is_named};
-use crate::Scope;
-use mr_tables::LogRow;
-use mr_base::{Refusal, RoomName, Write};
 use std::alloc::Global;
 
 /// A kept write as its row of `write_log` tells it. `seq` is its commit number, 0 where it is tentative.

@@ -4,10 +4,10 @@ ghost use Rattle.mr_base.specs.Batches.{item_of};
 ghost use Rattle.mr_model.specs.Writes.{same_id};
 ghost use Rattle.mr_replica.specs.PickedBookings.{AreSameRooms};
 
-use mr_tables::LogRow;
-use mr_tables::rooms::is_known;
 use crate::scope_items::is_new_commit;
 use mr_base::{Item, Refusal, RoomName, WriteId};
+use mr_tables::LogRow;
+use mr_tables::rooms::is_known;
 use std::alloc::Global;
 
 /// The rooms whose writes the items may move, each once, where so many commits are known: those of their writes, and those of the

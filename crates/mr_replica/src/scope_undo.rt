@@ -5,9 +5,9 @@ ghost use Rattle.mr_model.specs.Writes.{Write as WriteOfRoom, id_of};
 ghost use Rattle.mr_model.specs.Replay.{Place};
 ghost use Rattle.mr_replica.specs.PickedUndo.{has_undo_id, told_undo, undo_with, IsUndone};
 
-use mr_tables::WriteUndoRow;
 use mr_base::{Refusal, Write, WriteId};
 use mr_replay::UndoRow;
+use mr_tables::WriteUndoRow;
 use std::alloc::Global;
 
 /// What undoes each of the writes, as the rows of `undo` tell. Refused where a write has none.
