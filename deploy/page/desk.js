@@ -464,6 +464,7 @@ function show() {
   alarm.hidden = !lost;
   byId('fresh').textContent = sheet ? (lost ? 'Old: ' : '') + 'as of ' + clock(sheet.at) + (lost ? '; asking on' : '; asks again every half minute') : '';
   showGrid();
+  showDoor();
 }
 
 function showDay(day) {
@@ -476,7 +477,7 @@ function showDay(day) {
   round();
 }
 
-/** The sheet of one room and day, for the door. */
+/** What is printed: the sheet of one day and room, that of the button, or of the form. */
 function showDoor() {
   const room = desk.door || byId('room').value, sheet = desk.sheet && desk.sheet.day === desk.day ? desk.sheet : null;
   const rows = sheet && sheet.sheets[room];
@@ -485,7 +486,6 @@ function showDoor() {
   byId('door').replaceChildren(el('h2', {}, labelOf(room)), el('h3', {}, weekday(desk.day) + ' ' + desk.day),
     lines.length ? el('table', {}, ...lines) : el('p', {}, rows ? 'No bookings.' : 'No sheet was read.'),
     el('p', {}, office.name + (sheet ? ', as of ' + dayOf(sheet.at) + ' ' + clock(sheet.at) : '')));
-  desk.door = null;
 }
 
 function start() {
@@ -505,6 +505,7 @@ function start() {
   byId('errors-room').addEventListener('change', round);
   for (const id of ['room', 'wish-day', 'wish-start']) byId(id).addEventListener('change', showGrid);
   window.addEventListener('beforeprint', showDoor);
+  window.addEventListener('afterprint', () => { desk.door = null; showDoor(); });
   window.addEventListener('storage', takeMine);
   document.addEventListener('visibilitychange', () => { if (!document.hidden) round(); });
   const asked = /^#(\d{4}-\d\d-\d\d)$/.exec(location.hash);
