@@ -503,7 +503,7 @@ function start() {
   byId('form').addEventListener('submit', submit);
   byId('clear').addEventListener('click', () => { startOver(); say(''); });
   byId('errors-room').addEventListener('change', round);
-  for (const id of ['room', 'wish-day', 'wish-start']) byId(id).addEventListener('change', showGrid);
+  for (const id of ['room', 'wish-day', 'wish-start']) byId(id).addEventListener('change', show);
   window.addEventListener('beforeprint', showDoor);
   window.addEventListener('afterprint', () => { desk.door = null; showDoor(); });
   window.addEventListener('storage', takeMine);

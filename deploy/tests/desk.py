@@ -1,10 +1,10 @@
 #!/usr/bin/env python3
 """The front desk's page in a real browser, through nginx, against a served replica.
 
-    desk.py PROGRAM FOLDER URL PORT PICTURES
+    desk.py PROGRAM FOLDER URL PORT FREE PICTURES
 
-URL is the proxy's address, which hands requests to PORT of this machine; FOLDER has desk.db, a replica 2 of primary 1 with the
-room oak, and other.db, replica 1. For each thing that was looked at a line `ok ..` or `FAILED: ..` is printed.
+URL is the proxy's address, with a user and a password, which hands requests to PORT of this machine; from FREE on two ports are
+free. FOLDER has desk.db, a replica 2 of primary 1 with the room oak, and other.db, replica 1. For each thing that was looked at a line `ok ..` or `FAILED: ..` is printed.
 """
 
 import base64
@@ -17,7 +17,7 @@ import time
 
 from webdriver import Browser
 
-program, folder, url, port, pictures = sys.argv[1:]
+program, folder, url, port, free, pictures = sys.argv[1:]
 DAY = '1995-12-18'
 courier = os.path.join(os.path.dirname(__file__), '..', 'courier', 'rooms-courier')
 
@@ -39,12 +39,12 @@ def until(name, selector, words, patience=20):
 
 
 def rooms(*words):
-    return subprocess.run([*program.split(), *words], stdout=subprocess.PIPE, stdin=subprocess.DEVNULL, text=True).stdout
+    return subprocess.run([program, *words], stdout=subprocess.PIPE, stdin=subprocess.DEVNULL, text=True).stdout
 
 
 def serve(database, at):
     """A process that serves it, once it says so."""
-    process = subprocess.Popen([*program.split(), 'serve', f'{folder}/{database}', str(at), '100000'],
+    process = subprocess.Popen([program, 'serve', f'{folder}/{database}', str(at), '100000'],
                                stdout=subprocess.PIPE, stdin=subprocess.DEVNULL, text=True)
     line = process.stdout.readline()
     if not line.startswith('serving'):
@@ -133,16 +133,16 @@ def a_refused_room():
 
 
 def a_move_arrives(served):
-    other = serve('other.db', int(port) + 1)
-    done = subprocess.run([courier, f'http://127.0.0.1:{port}', f'http://127.0.0.1:{int(port) + 1}'], stdout=subprocess.PIPE, text=True)
+    other = serve('other.db', int(free))
+    done = subprocess.run([courier, f'http://127.0.0.1:{port}', f'http://127.0.0.1:{free}'], stdout=subprocess.PIPE, text=True)
     check('the courier brings an earlier request', done.returncode == 0, done.stdout)
     look()
     until('a tentative booking moved', '#mine', 'Moved from 1995-12-18 14:00 to 1995-12-18 15:00')
     until('the earlier request in the grid', '#grid', 'Earlier')
     stop(other)
     check('the primary commits', rooms('commit', f'{folder}/other.db', '1000').startswith('committed '))
-    other = serve('other.db', int(port) + 1)
-    subprocess.run([courier, f'http://127.0.0.1:{port}', f'http://127.0.0.1:{int(port) + 1}'], stdout=subprocess.DEVNULL)
+    other = serve('other.db', int(free))
+    subprocess.run([courier, f'http://127.0.0.1:{port}', f'http://127.0.0.1:{free}'], stdout=subprocess.DEVNULL)
     stop(other)
     look()
     until('a commit is told', '#mine', '✓ committed')
@@ -153,7 +153,9 @@ def pictures_and_print():
     browser.run('window.scrollTo(0, 0); document.querySelector("#scroll").scrollTop = 96')
     picture('wide')
     check('the page can be printed', len(browser.printed()) > 5000)
-    check('the sheet for the door has the day', 'Earlier' in browser.run('return document.querySelector("#door").textContent'))
+    browser.run('const r = document.querySelector("#room"); r.value = "oak"; r.dispatchEvent(new Event("change"))')
+    door = browser.run('return document.querySelector("#door").textContent')
+    check('the sheet for the door', 'Earlier' in door and 'Monday' in door and 'Standing' not in door, door)
     browser.resize(420, 820)
     picture('narrow')
     wide = browser.run('return document.documentElement.scrollWidth - window.innerWidth')
@@ -215,7 +217,7 @@ def the_replica_ends(served):
     stop(served)
 
 
-browser = Browser(int(port) + 2, os.path.join(folder, 'profile'))
+browser = Browser(int(free) + 1, os.path.join(folder, 'profile'))
 try:
     served = serve('desk.db', int(port))
     a_day_is_shown()
