@@ -232,7 +232,7 @@ function placeCursor(focus) {
   const slot = slots.find(each => at && each.dataset.room === at.room && each.dataset.quarter === at.quarter) || slots[0];
   if (!slot) return;
   slot.tabIndex = 0;
-  if (focus) slot.focus();
+  if (focus) slot.focus({ preventScroll: true });
 }
 
 function moveCursor(event) {

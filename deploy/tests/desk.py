@@ -132,7 +132,7 @@ def a_refused_room():
     browser.click('#clear')
 
 
-def a_move_arrives(served):
+def a_move_arrives():
     other = serve('other.db', int(free))
     done = subprocess.run([courier, f'http://127.0.0.1:{port}', f'http://127.0.0.1:{free}'], stdout=subprocess.PIPE, text=True)
     check('the courier brings an earlier request', done.returncode == 0, done.stdout)
@@ -150,7 +150,9 @@ def a_move_arrives(served):
 
 
 def pictures_and_print():
-    browser.run('window.scrollTo(0, 0); document.querySelector("#scroll").scrollTop = 96')
+    browser.click(slot('elm', '13:15'))
+    browser.click(slot('elm', '16:00'))
+    browser.run('document.activeElement.blur(); window.scrollTo(0, 0); document.querySelector("#scroll").scrollTop = 490')
     picture('wide')
     check('the page can be printed', len(browser.printed()) > 5000)
     browser.run('const r = document.querySelector("#room"); r.value = "oak"; r.dispatchEvent(new Event("change"))')
@@ -222,9 +224,9 @@ try:
     served = serve('desk.db', int(port))
     a_day_is_shown()
     a_request_by_clicking()
+    a_move_arrives()
     a_request_by_keys()
     a_refused_room()
-    a_move_arrives(served)
     pictures_and_print()
     the_replica_ends(served)
 except (RuntimeError, OSError) as error:

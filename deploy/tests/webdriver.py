@@ -48,6 +48,7 @@ class Browser:
         return self.call('POST', '/element', {'using': 'css selector', 'value': selector})[ELEMENT]
 
     def click(self, selector):
+        self.run('document.querySelector(arguments[0])?.scrollIntoView({ block: "center" })', selector)
         self.call('POST', f'/element/{self.find(selector)}/click', {})
 
     def write(self, selector, text):
