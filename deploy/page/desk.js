@@ -160,9 +160,11 @@ function blocksOf(rows) {
   return blocks;
 }
 
+const kindOf = row => row.mark === 'C' ? 'committed' : 'tentative';
+
 function bookingOf(row) {
   const sure = row.mark === 'C';
-  return el('span', { className: 'booking ' + (sure ? 'committed' : 'tentative') },
+  return el('span', { className: 'booking ' + kindOf(row) },
     el('b', {}, row.title), row.start + '–' + row.stop + ' ', el('span', { className: 'id' }, row.id),
     sure ? ' ✓ committed' : ' ? tentative');
 }
@@ -194,7 +196,8 @@ function cellOf(room, quarter, blocks, from, to) {
   const block = blocks.find(each => each.first <= quarter && quarter < each.end);
   if (!block) return el('td', {}, slotOf(room, quarter));
   if (block.first < quarter) return null;
-  return el('td', { rowSpan: block.end - block.first }, ...block.rows.map(bookingOf));
+  const alone = block.rows.length === 1 ? 'alone ' + kindOf(block.rows[0]) : '';
+  return el('td', { rowSpan: block.end - block.first, className: alone }, ...block.rows.map(bookingOf));
 }
 
 function headOf(room) {

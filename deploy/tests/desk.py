@@ -46,6 +46,7 @@ def serve(database, at):
     """A process that serves it, once it says so."""
     process = subprocess.Popen([program, 'serve', f'{folder}/{database}', str(at), '100000'],
                                stdout=subprocess.PIPE, stdin=subprocess.DEVNULL, text=True)
+    processes.append(process)
     line = process.stdout.readline()
     if not line.startswith('serving'):
         check(f'{database} is served', False, line)
@@ -219,6 +220,7 @@ def the_replica_ends(served):
     stop(served)
 
 
+processes = []
 browser = Browser(int(free) + 1, os.path.join(folder, 'profile'))
 try:
     served = serve('desk.db', int(port))
@@ -233,3 +235,5 @@ except (RuntimeError, OSError) as error:
     check('the browser', False, str(error))
 finally:
     browser.end()
+    for each in processes:
+        stop(each)
