@@ -91,6 +91,10 @@ deploy_texts() {
     while read -r word; do
         held "the man page has the refusal $word" grep -qF "$word" "$deploy/package/rooms.1"
     done < <(sed -n 's/^| \([0-9]*\) | \([A-Z][A-Za-z]*\) | .*/\1|\2|/p' docs/FORMATS.md)
+    is 'a command is completed' "$(. "$deploy/package/rooms.bash-completion"
+        COMP_WORDS=(rooms ex) COMP_CWORD=1
+        _rooms
+        echo "${COMPREPLY[*]}")" 'export exchange'
     held 'the page is below 900 lines' test "$(cat "$deploy"/page/* | wc -l)" -lt 900
     is 'the page makes no HTML of texts' "$(grep -cE 'innerHTML|outerHTML|insertAdjacentHTML|document\.write' "$deploy/page/desk.js")" 0
     if ! missing 'shellcheck of the scripts' shellcheck; then

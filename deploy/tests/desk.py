@@ -125,12 +125,27 @@ def a_request_by_keys():
 
 
 def a_refused_room():
-    browser.run('const r = document.querySelector("#room"); r.value = "ash"; r.dispatchEvent(new Event("change"))')
-    browser.run('document.querySelector("#wish-day").value = "1995-12-18"; document.querySelector("#wish-start").value = "09:00"')
+    wish('ash', '09:00')
     browser.write('#title', 'Nowhere')
     send()
     until('a refused room is told beside it', '#room-error', 'does not know the room')
     browser.click('#clear')
+
+
+def wish(room, time_of_day):
+    browser.run('const r = document.querySelector("#room"); r.value = arguments[0]; r.dispatchEvent(new Event("change"));'
+                'document.querySelector("#wish-day").value = arguments[1]; document.querySelector("#wish-start").value = arguments[2]',
+                room, DAY, time_of_day)
+
+
+def an_error_log():
+    wish('oak', '14:30')
+    browser.write('#title', 'Late')
+    send()
+    until('a request that finds no slot', '#outcome', 'no free slot')
+    browser.run('const r = document.querySelector("#errors-room"); r.value = "oak"; r.dispatchEvent(new Event("change"))')
+    until('it is in the error log', '#errors', '1995-12-18 14:30-15:30 Late')
+    until('it is told among mine', '#mine', 'found no free slot')
 
 
 def a_move_arrives():
@@ -229,6 +244,7 @@ try:
     a_move_arrives()
     a_request_by_keys()
     a_refused_room()
+    an_error_log()
     pictures_and_print()
     the_replica_ends(served)
 except (RuntimeError, OSError) as error:

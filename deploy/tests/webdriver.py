@@ -48,8 +48,14 @@ class Browser:
         return self.call('POST', '/element', {'using': 'css selector', 'value': selector})[ELEMENT]
 
     def click(self, selector):
-        self.run('document.querySelector(arguments[0])?.scrollIntoView({ block: "center" })', selector)
-        self.call('POST', f'/element/{self.find(selector)}/click', {})
+        for _ in range(5):
+            try:
+                self.run('document.querySelector(arguments[0])?.scrollIntoView({ block: "center" })', selector)
+                return self.call('POST', f'/element/{self.find(selector)}/click', {})
+            except RuntimeError as error:           # the page made the element anew in between
+                if 'stale' not in str(error):
+                    raise
+        raise RuntimeError(f'{selector} is made anew again and again')
 
     def write(self, selector, text):
         element = self.find(selector)
