@@ -39,7 +39,7 @@ function dayBeside(day, step) {
 
 // ---- asking the replica
 
-/** No usable reply. `sent` tells whether the replica may have had the request nevertheless. */
+/** No usable reply. `sent`: the replica may have had the request nevertheless. */
 class Fault extends Error {
   constructor(sent, words) { super(words); this.sent = sent; }
 }
@@ -287,7 +287,7 @@ function calm() {
   }
 }
 
-function say(words) { byId('outcome').textContent = words; }
+function report(words) { byId('outcome').textContent = words; }
 
 function choose(event) {
   const button = event.target.closest('button.slot');
@@ -337,11 +337,11 @@ function startOver() {
   showGrid();
 }
 
-/** Sends the request once. Until a reply says otherwise it stands among `mine` as perhaps booked. */
+/** Sends the request once. Until a reply comes it stands among `mine` as perhaps booked. */
 async function submit(event) {
   event.preventDefault();
   calm();
-  say('');
+  report('');
   const length = byId('length').value.trim(), room = byId('room').value, title = byId('title').value;
   if (!/^[0-9]{1,9}$/.test(length)) return complain('length', LENGTH);
   const body = { room, ...wish(), length: Number(length), title };
@@ -373,7 +373,7 @@ function accepted(entry, outcome) {
   entry.first = entry.now = outcome;
   keepMine();
   startOver();
-  say(outcome.state === 'booked'
+  report(outcome.state === 'booked'
     ? 'Request ' + outcome.id + ': ' + labelOf(entry.room) + ', ' + outcome.day + ' ' + outcome.start + '–' + outcome.stop +
       (outcome.mark === 'C' ? ', committed.' : ', tentative until the primary commits it.')
     : 'Request ' + outcome.id + ': no free slot at any of its choices; it is in the error log.');
@@ -504,7 +504,7 @@ function start() {
     if (event.target.classList.contains('slot')) desk.cursor = { ...event.target.dataset };
   });
   byId('form').addEventListener('submit', submit);
-  byId('clear').addEventListener('click', () => { startOver(); say(''); });
+  byId('clear').addEventListener('click', () => { startOver(); report(''); });
   byId('errors-room').addEventListener('change', round);
   for (const id of ['room', 'wish-day', 'wish-start']) byId(id).addEventListener('change', show);
   window.addEventListener('beforeprint', showDoor);

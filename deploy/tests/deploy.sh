@@ -27,7 +27,7 @@ is() {
     fi
 }
 
-# missing NAME COMMAND..: says that this is skipped where one of the commands is not there
+# missing NAME COMMAND..: reports that this is skipped where one of the commands is not there
 missing() {
     local name=$1 word
     shift
@@ -84,8 +84,8 @@ stop_serving() {
 
 deploy_texts() {
     local word
-    for word in $(sed -n '/^| `init /,/^$/s/^| `\([a-z-]*\) .*/\1/p' docs/FORMATS.md); do
-        held "the man page has $word" grep -q "^\(.TP\|\.BI\|.fB\|\\\\fB\).*$word" "$deploy/package/rooms.1"
+    for word in $(sed -n '/^| `init /,/^$/p' docs/FORMATS.md | cut -d'|' -f2 | grep -oE '`[a-z-]+ ' | tr -d '` '); do
+        held "the man page has $word" grep -qE "^(\.BI $word |\\\\fB$word\\\\fI )" "$deploy/package/rooms.1"
         held "the completion has $word" grep -qE "commands='.*\b$word\b" "$deploy/package/rooms.bash-completion"
     done
     while read -r word; do
@@ -126,6 +126,8 @@ deploy_offices() {
         done
         printf 'user = "offices:offices"\ncacert = "%s"\n' "$ROOMS_ETC/$name.crt" > "$ROOMS_ETC/$name.curl"
     done
+    # a machine without IP version 6
+    if [ ! -e /proc/net/if_inet6 ]; then sed -i '/listen \[::\]/d' "$ROOMS_ETC"/*.nginx; fi
     west=$ROOMS_STATE/west/rooms.db
     east=$ROOMS_STATE/east/rooms.db
 }

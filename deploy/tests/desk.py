@@ -43,7 +43,7 @@ def rooms(*words):
 
 
 def serve(database, at):
-    """A process that serves it, once it says so."""
+    """A process that serves it, once it serves."""
     process = subprocess.Popen([program, 'serve', f'{folder}/{database}', str(at), '100000'],
                                stdout=subprocess.PIPE, stdin=subprocess.DEVNULL, text=True)
     processes.append(process)
@@ -100,12 +100,12 @@ def a_request_by_clicking():
     until('an alternative is listed', '#choices', '1995-12-18 15:00')
     browser.write('#title', 'Café')
     send()
-    until('a refusal is told beside its field', '#title-error', 'no accents')
+    until('a refusal is shown beside its field', '#title-error', 'no accents')
     check('the field is marked', browser.run('return document.querySelector("#title").getAttribute("aria-invalid")') == 'true')
     browser.write('#title', 'Budget <b>Meeting</b>')
     browser.write('#length', '1441')
     send()
-    until('another refusal is told beside its field', '#length-error', '1440')
+    until('another refusal is shown beside its field', '#length-error', '1440')
     browser.write('#length', '60')
     send()
     until('the outcome', '#outcome', '14:00–15:00, tentative')
@@ -128,7 +128,7 @@ def a_refused_room():
     wish('ash', '09:00')
     browser.write('#title', 'Nowhere')
     send()
-    until('a refused room is told beside it', '#room-error', 'does not know the room')
+    until('a refused room is shown beside it', '#room-error', 'does not know the room')
     browser.click('#clear')
 
 
@@ -145,7 +145,7 @@ def an_error_log():
     until('a request that finds no slot', '#outcome', 'no free slot')
     browser.run('const r = document.querySelector("#errors-room"); r.value = "oak"; r.dispatchEvent(new Event("change"))')
     until('it is in the error log', '#errors', '1995-12-18 14:30-15:30 Late')
-    until('it is told among mine', '#mine', 'found no free slot')
+    until('it is shown among mine', '#mine', 'found no free slot')
 
 
 def a_move_arrives():
@@ -161,7 +161,7 @@ def a_move_arrives():
     subprocess.run([courier, f'http://127.0.0.1:{port}', f'http://127.0.0.1:{free}'], stdout=subprocess.DEVNULL)
     stop(other)
     look()
-    until('a commit is told', '#mine', '✓ committed')
+    until('a commit is shown', '#mine', '✓ committed')
     until('a committed booking in the grid', '#grid', '✓ committed')
 
 
@@ -205,7 +205,7 @@ def the_replica_ends(served):
     look()
     time.sleep(1)
     look()
-    until('a replica that ended is told', '#alarm', 'can’t be reached since')
+    until('a replica that ended is reported', '#alarm', 'can’t be reached since')
     until('its last sheet is old', '#alarm', 'an old one, of')
     until('its last sheet stays', '#grid', 'Earlier')
     browser.click(slot('oak', '10:00'))
@@ -228,7 +228,7 @@ def the_replica_ends(served):
     end = time.time() + 20
     while browser.run('return !document.querySelector("#alarm").hidden') and time.time() < end:
         time.sleep(0.2)
-    check('a replica that is back is told', browser.run('return document.querySelector("#alarm").hidden') is True)
+    check('a replica that is back is reported', browser.run('return document.querySelector("#alarm").hidden') is True)
     browser.open(f'https://{url.split("@")[1]}/?again#{DAY}')
     until('my requests outlast the page', '#mine', 'perhaps booked')
     check('it was not sent by the page that was opened again', 'Lost' not in browser.text('#grid'))
