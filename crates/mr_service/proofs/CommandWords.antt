@@ -10,15 +10,13 @@ use Rattle.mr_model.specs.Positions.{Position, read_position}
 use Rattle.mr_model.specs.Refusals as model
 use Rattle.mr_model.specs.Step.{AddRoom, Submit, Receive, BatchFor, Submission, refuse, leave, add_room, receive_batch, receive_read, batch_reply, reply_to_position}
 use Rattle.mr_model.specs.Requests.{Request}
-use Rattle.mr_model.specs.Tables.{BookingRow, ErrorRow}
+use Rattle.mr_wire.specs.Answers.{IsRefusedFor}
 use Rattle.mr_base.specs.Answers.{OrOutOfMemory, Gives, ok_if}
 use Rattle.mr_base.specs.Refusals.{refusal_of}
 use Rattle.mr_base.specs.declared.refusals.Refusal.{Refusal}
 use Rattle.mr_base.specs.declared.refusals.Refusal.TheVariants as refusal
 use Rattle.mr_replica.specs.Steps.{word_faults, request_in, submit_request}
 use Rattle.mr_replica.proofs.Submitting.{submission_is_request}
-use Rattle.mr_replica.specs.Turning.{put_outcome}
-use Rattle.mr_service.specs.Asking.{Counts}
 use Rattle.mr_service.specs.Requests.{ok_unless, request_or_fault}
 use Rattle.mr_service.proofs.DeskSteps.{Does}
 use Rattle.mr_service.proofs.Submissions.{request_known, submit_refused}
@@ -47,6 +45,12 @@ room_named text name said = λ a. ap (λ x. add_room a x) (at (is_room_name text
     at true e = cc e
     at false e = absurd (cc e)
 
+-- and are no failure of the store
+pub room_not_store : (b : Bool) (room : Text) (e : Refusal) → OrOutOfMemory (Err e) (ok_if b room refusal.BadRoomName) → ¬ (Refused (refusal_of e) ≡ Refused model.Store)
+room_not_store b room e (inr out) = λ told. absurd (cc (told, ap refusal_of out))
+room_not_store true room e (inl bad) = absurd (cc bad)
+room_not_store false room e (inl said) = λ told. absurd (let own : refusal.BadRoomName ≡ e = cc said in cc (told, ap refusal_of own))
+
 -- ---- batches
 
 -- a text that is read is received as its batch
@@ -58,6 +62,11 @@ pub batch_refused : (bytes : Text) (e : Refusal) → Gives {T = Batch} (Err e) (
     → Does (Receive bytes) (λ a. refuse a (refusal_of e)) ⊎ (e ≡ refusal.OutOfMemory)
 batch_refused bytes e (inl said) = inl (λ a. ap (receive_read a) said)
 batch_refused bytes e (inr out) = inr out
+
+-- and is no failure of the store
+pub batch_not_store : (bytes : Text) (e : Refusal) → IsRefusedFor bytes e → ¬ (Refused (refusal_of e) ≡ Refused model.Store)
+batch_not_store bytes e (inl (i, line, first)) = λ told. absurd (cc (told, line))
+batch_not_store bytes e (inr out) = λ told. absurd (cc (told, ap refusal_of out))
 
 -- ---- positions
 
@@ -79,6 +88,15 @@ position_refused bytes m e (inl said) = inl (λ a. at a (read_position bytes) sa
     at : (a : Replica) (o : Option Position) → ok_or o model.BadPosition ≡ Err (refusal_of e) → leave a (reply_to_position a o m) ≡ refuse a (refusal_of e)
     at a None said = ap (λ x. leave a (Refused x)) (let own : model.BadPosition ≡ refusal_of e = cc said in own)
     at a (Some p) said = absurd (cc said)
+
+-- and is no failure of the store
+pub position_not_store : (bytes : Text) (e : Refusal) → Gives {T = Position} (Err e) (ok_or (read_position bytes) model.BadPosition) → ¬ (Refused (refusal_of e) ≡ Refused model.Store)
+position_not_store bytes e (inr out) = λ told. absurd (cc (told, ap refusal_of out))
+position_not_store bytes e (inl said) = at (read_position bytes) said
+  where
+    at : (o : Option Position) → ok_or o model.BadPosition ≡ Err (refusal_of e) → ¬ (Refused (refusal_of e) ≡ Refused model.Store)
+    at None said = λ told. absurd (let own : model.BadPosition ≡ refusal_of e = cc said in cc (told, own))
+    at (Some p) said = absurd (cc said)
 
 -- ---- submissions
 
@@ -105,9 +123,9 @@ first_not_store ((true, x) ∷ xs) e none said is = none.0 (cc (said, is))
 first_not_store ((false, x) ∷ xs) e none said is = first_not_store xs e none.1 said is
 
 -- words that are not read are no failure of the store
-pub submission_counts : (s : Submission) (e : Refusal) (f : ℕ) → Gives {T = Request} (Err e) (request_or_fault s) → Counts (Refused (refusal_of e)) f f
-submission_counts s e f (inr out) = (omega arith, λ told. absurd (cc (told, ap refusal_of out)))
-submission_counts s e f (inl said) = (omega arith, λ told. absurd (at (model.first_refusal (word_faults s)) refl said (cc told)))
+pub submission_not_store : (s : Submission) (e : Refusal) → Gives {T = Request} (Err e) (request_or_fault s) → ¬ (Refused (refusal_of e) ≡ Refused model.Store)
+submission_not_store s e (inr out) = λ told. absurd (cc (told, ap refusal_of out))
+submission_not_store s e (inl said) = λ told. absurd (at (model.first_refusal (word_faults s)) refl said (cc told))
   where
     none : NoneStore (word_faults s)
     none = (λ e. cc e, (λ e. cc e, (λ e. cc e, (λ e. cc e, (λ e. cc e, (λ e. cc e, tt))))))
@@ -115,14 +133,3 @@ submission_counts s e f (inl said) = (omega arith, λ told. absurd (at (model.fi
     at : (o : Option model.Refusal) → model.first_refusal (word_faults s) ≡ o → ok_unless o (request_in s) ≡ Err (refusal_of e) → refusal_of e ≡ model.Store → ⊥
     at None is said store = absurd (cc said)
     at (Some x) is said store = first_not_store (word_faults s) x none is (cc (said, store))
-
--- ---- outcomes
-
--- what a row tells is no failure of the store
-pub told_counts : (bs : List BookingRow) (es : List ErrorRow) (reply : Reply) (f0 f1 f2 : ℕ) → reply ≡ put_outcome bs es → f1 ≡ f0 → f2 ≡ f1 → Counts reply f0 f2
-told_counts bs es reply f0 f1 f2 is same again = (omega arith, λ told. absurd (at bs es (sym is ∙ told)))
-  where
-    at : (bs : List BookingRow) (es : List ErrorRow) → put_outcome bs es ≡ Refused model.Store → ⊥
-    at (row ∷ rows) es e = cc e
-    at [] (row ∷ rows) e = cc e
-    at [] [] e = cc e

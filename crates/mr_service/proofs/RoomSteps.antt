@@ -29,12 +29,6 @@ pub use Rattle.mr_service.proofs.DeskSteps.{of_fault, fault_step}
 use Rattle.mr_service.proofs.RoomRows.{calendar_rows, committed_rows, sheet_rows}
 use Rattle.mr_service.proofs.RoomLog.{error_rows, place_told, no_place_told}
 
--- ---- failures
-
--- no failure is counted in two calls, the first of which leaves the tables
-pub none_fails : (t0 t1 : Tables) (n0 n1 n2 : ℕ) → t1 ≡ t0 → n1 ≡ n0 → ((a : Replica) → Stands t1 a → n2 ≡ n1) → NoneFails t0 n0 n2
-none_fails t0 t1 n0 n1 n2 same first second = λ a h. second a (subst (λ x. Stands x a) (sym same) h) ∙ first
-
 -- ---- rooms
 
 -- a name that is read, or refused
@@ -119,9 +113,9 @@ day_refused t room day e is =
     let p = err_read (read_date day) refusal.BadDay e is in
     λ a h. (a, inl (ap (λ r. record { reply = r; replica = a }) (ap (λ x. Refused (refusal_of x)) p.1 ∙ rw p.0 refl)), h)
 
--- and counts no failure
-pub day_counts : (day : Text) (e : Refusal) (n : ℕ) → Err e ≡ ok_or (read_date day) refusal.BadDay → Counts (Refused (refusal_of e)) n n
-day_counts day e n is = (le_refl n, λ s. absurd (let p : e ≡ refusal.BadDay = (err_read (read_date day) refusal.BadDay e is).1 in let never : Refused model.BadDay ≡ Refused model.Store = ap (λ x. Refused (refusal_of x)) (sym p) ∙ s in cc))
+-- and is no failure of the store
+pub day_not_store : (day : Text) (e : Refusal) → Err e ≡ ok_or (read_date day) refusal.BadDay → ¬ (Refused (refusal_of e) ≡ Refused model.Store)
+day_not_store day e is = λ told. absurd (let p : e ≡ refusal.BadDay = (err_read (read_date day) refusal.BadDay e is).1 in let never : Refused model.BadDay ≡ Refused model.Store = ap (λ x. Refused (refusal_of x)) (sym p) ∙ told in cc never)
 
 -- with a day, a sheet is asked of the room alone
 sheet_asks : (room day : Text) (d : Date) → read_date day ≡ Some d → AsksOfRoom room (AskSheet day) (λ v. Sheet room d (entries_of_day d (whole_list v)))
@@ -205,6 +199,10 @@ bad_id_step t u room found id e bad same finds =
     let p = err_read (read_id id) refusal.NoSuchRequest e bad in
     answered t u room found (AskOutcome id) (λ v. outcome_reply (find_request id v)) (Refused (refusal_of e)) (λ v. refl) same finds
     (λ a sound stands. ap (λ x. Refused (refusal_of x)) p.1 ∙ ap outcome_reply (sym (no_id_found id (view_of a room) p.0)))
+
+-- and is no failure of the store
+pub id_not_store : (id : Text) (e : Refusal) → Err e ≡ ok_or (read_id id) refusal.NoSuchRequest → ¬ (Refused (refusal_of e) ≡ Refused model.Store)
+id_not_store id e is = λ told. absurd (let p : e ≡ refusal.NoSuchRequest = (err_read (read_id id) refusal.NoSuchRequest e is).1 in let never : Refused model.NoSuchRequest ≡ Refused model.Store = ap (λ x. Refused (refusal_of x)) (sym p) ∙ told in cc never)
 
 -- ---- error logs
 

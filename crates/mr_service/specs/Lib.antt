@@ -5,5 +5,7 @@ pub mod Asking
 pub mod Questions
 pub mod Requests
 pub mod Running
+pub mod Served
 pub mod Stepping
+pub mod Turns
 pub mod Worlds

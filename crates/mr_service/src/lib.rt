@@ -6,6 +6,7 @@
 //! that of `World::run` that lists of steps of many replicas are runs of the definitions' world.
 #![tactic(auto)]
 
+mod change;
 mod changing;
 mod commands;
 mod members;
@@ -16,6 +17,7 @@ mod runs;
 mod services;
 mod steps;
 mod texts;
+mod turns;
 mod words;
 mod world_batches;
 mod world_steps;

@@ -1,20 +1,14 @@
 //! Questions about a room, answered from the rows that the keeper picks.
 
-ghost use Rattle.std.specs.Prelude.{◌≡◌, ◌⊎◌, OnOk, IfErr};
+ghost use Rattle.std.specs.Prelude.{◌≡◌};
 ghost use Rattle.std.specs.List.{list_any};
 ghost use Rattle.std.specs.List.Sorted.{IsPermutation, IsSortedByKey};
 ghost use Rattle.std.specs.Str.{bytes_eq};
-ghost use Rattle.mr_model.specs.Replies.{Refused};
-ghost use Rattle.mr_model.specs.Serving.{TakesStep, Reaches};
 ghost use Rattle.mr_model.specs.Step as model;
-ghost use Rattle.mr_model.specs.Step.{IsOfMachine};
-ghost use Rattle.mr_model.specs.Tables.{Tables};
 ghost use Rattle.mr_model.specs.View.{AskSheet, AskCalendar, AskOutcome, AskErrors};
-ghost use Rattle.mr_base.specs.Refusals.{refusal_of};
-ghost use Rattle.mr_store.specs.Kept.{IsSettled};
 ghost use Rattle.mr_service.specs.Asked.{part_of, outcome_of, reply_in};
-ghost use Rattle.mr_service.specs.Asking.{Counts, LeavesOnRefusal, NoneFails, TellsRise};
 ghost use Rattle.mr_service.specs.Questions.{Finds, log_key, log_key_cmp, place_outcome, rows_of_part};
+ghost use Rattle.mr_service.specs.Served.{IsRead, IsServed};
 
 use crate::commands::Part;
 use crate::outcomes::{booked, logged};
@@ -31,29 +25,12 @@ pub(crate) fn sheet<K: Keeper>(
     room: &str,
     day: &str,
 ) -> Result<Reply, Refusal>
-    ensures clean { K.is_clean keeper.new → K.is_clean keeper.old }
-    ensures open { K.is_clean keeper.new → K.is_open keeper.new → K.is_open keeper.old }
-    ensures step { K.is_clean keeper.new → K.is_open keeper.new → TakesStep (K.tables keeper.old) (model.Ask room.now (AskSheet day.now)) (reply_in result) (K.tables keeper.new) }
-    ensures counts { Counts (reply_in result) (K.failures keeper.old) (K.failures keeper.new) }
-    ensures refused { K.is_clean keeper.new → K.is_open keeper.new → LeavesOnRefusal (reply_in result) (K.tables keeper.old) (K.tables keeper.new) }
-    ensures rise { TellsRise (reply_in result) (K.failures keeper.old) (K.failures keeper.new) }
-    ensures sure { K.never_fails → K.is_clean keeper.new → K.is_open keeper.new → NoneFails (K.tables keeper.old) (K.failures keeper.old) (K.failures keeper.new) }
-    ensures lasts { K.is_clean keeper.new → K.is_open keeper.old → IsOfMachine (reply_in result) ⊎ K.is_open keeper.new }
-    ensures settled { K.is_clean keeper.new → K.is_open keeper.new → IsSettled (K.may_leave keeper.old) (K.tables keeper.old) → IsSettled (K.may_leave keeper.new) (K.tables keeper.new) }
-    ensures crash { K.is_clean keeper.new → K.is_open keeper.old → (t : Tables) → K.may_leave keeper.new t → K.may_leave keeper.old t ⊎ Reaches (K.tables keeper.old) (model.Ask room.now (AskSheet day.now)) t }
+    ensures served { IsServed K.Keeper keeper.old keeper.new (model.Ask room.now (AskSheet day.now)) (reply_in result) }
 {
-    let day = match Day::read(day) {
-        Ok(day) => day,
-        Err(refusal) => return Err(refusal),
-    };
-    let room = match known_room(keeper, alloc, room) {
-        Ok(room) => room,
-        Err(refusal) => return Err(refusal),
-    };
-    match keeper.bookings(&room, Some(day)) {
-        Ok(rows) => Ok(Reply::Sheet { room, day, rows }),
-        Err(fault) => Err(fault.refusal()),
-    }
+    let day = Day::read(day)?;
+    let room = known_room(keeper, alloc, room)?;
+    let rows = keeper.bookings(&room, Some(day))?;
+    Ok(Reply::Sheet { room, day, rows })
 }
 
 /// The bookings of a room, of all its writes or of the committed ones.
@@ -63,29 +40,11 @@ pub(crate) fn calendar<K: Keeper>(
     room: &str,
     part: Part,
 ) -> Result<Reply, Refusal>
-    ensures clean { K.is_clean keeper.new → K.is_clean keeper.old }
-    ensures open { K.is_clean keeper.new → K.is_open keeper.new → K.is_open keeper.old }
-    ensures step { K.is_clean keeper.new → K.is_open keeper.new → TakesStep (K.tables keeper.old) (model.Ask room.now (AskCalendar (part_of part))) (reply_in result) (K.tables keeper.new) }
-    ensures counts { Counts (reply_in result) (K.failures keeper.old) (K.failures keeper.new) }
-    ensures refused { K.is_clean keeper.new → K.is_open keeper.new → LeavesOnRefusal (reply_in result) (K.tables keeper.old) (K.tables keeper.new) }
-    ensures rise { TellsRise (reply_in result) (K.failures keeper.old) (K.failures keeper.new) }
-    ensures sure { K.never_fails → K.is_clean keeper.new → K.is_open keeper.new → NoneFails (K.tables keeper.old) (K.failures keeper.old) (K.failures keeper.new) }
-    ensures lasts { K.is_clean keeper.new → K.is_open keeper.old → IsOfMachine (reply_in result) ⊎ K.is_open keeper.new }
-    ensures settled { K.is_clean keeper.new → K.is_open keeper.new → IsSettled (K.may_leave keeper.old) (K.tables keeper.old) → IsSettled (K.may_leave keeper.new) (K.tables keeper.new) }
-    ensures crash { K.is_clean keeper.new → K.is_open keeper.old → (t : Tables) → K.may_leave keeper.new t → K.may_leave keeper.old t ⊎ Reaches (K.tables keeper.old) (model.Ask room.now (AskCalendar (part_of part))) t }
+    ensures served { IsServed K.Keeper keeper.old keeper.new (model.Ask room.now (AskCalendar (part_of part))) (reply_in result) }
 {
-    let room = match known_room(keeper, alloc, room) {
-        Ok(room) => room,
-        Err(refusal) => return Err(refusal),
-    };
-    match keeper.bookings(&room, None) {
-        Ok(rows) => Ok(Reply::Calendar {
-            room,
-            part,
-            rows: of_part(part, rows),
-        }),
-        Err(fault) => Err(fault.refusal()),
-    }
+    let room = known_room(keeper, alloc, room)?;
+    let rows = of_part(part, keeper.bookings(&room, None)?);
+    Ok(Reply::Calendar { room, part, rows })
 }
 
 /// What became of the request with this id, which is of the room.
@@ -95,81 +54,32 @@ pub(crate) fn outcome<K: Keeper>(
     room: &str,
     id: &str,
 ) -> Result<Reply, Refusal>
-    ensures clean { K.is_clean keeper.new → K.is_clean keeper.old }
-    ensures open { K.is_clean keeper.new → K.is_open keeper.new → K.is_open keeper.old }
-    ensures step { K.is_clean keeper.new → K.is_open keeper.new → TakesStep (K.tables keeper.old) (model.Ask room.now (AskOutcome id.now)) (reply_in result) (K.tables keeper.new) }
-    ensures counts { Counts (reply_in result) (K.failures keeper.old) (K.failures keeper.new) }
-    ensures refused { K.is_clean keeper.new → K.is_open keeper.new → LeavesOnRefusal (reply_in result) (K.tables keeper.old) (K.tables keeper.new) }
-    ensures rise { TellsRise (reply_in result) (K.failures keeper.old) (K.failures keeper.new) }
-    ensures sure { K.never_fails → K.is_clean keeper.new → K.is_open keeper.new → NoneFails (K.tables keeper.old) (K.failures keeper.old) (K.failures keeper.new) }
-    ensures lasts { K.is_clean keeper.new → K.is_open keeper.old → IsOfMachine (reply_in result) ⊎ K.is_open keeper.new }
-    ensures settled { K.is_clean keeper.new → K.is_open keeper.new → IsSettled (K.may_leave keeper.old) (K.tables keeper.old) → IsSettled (K.may_leave keeper.new) (K.tables keeper.new) }
-    ensures crash { K.is_clean keeper.new → K.is_open keeper.old → (t : Tables) → K.may_leave keeper.new t → K.may_leave keeper.old t ⊎ Reaches (K.tables keeper.old) (model.Ask room.now (AskOutcome id.now)) t }
+    ensures served { IsServed K.Keeper keeper.old keeper.new (model.Ask room.now (AskOutcome id.now)) (reply_in result) }
 {
-    let room = match known_room(keeper, alloc, room) {
-        Ok(room) => room,
-        Err(refusal) => return Err(refusal),
-    };
-    let id = match WriteId::read(id) {
-        Ok(id) => id,
-        Err(refusal) => return Err(refusal),
-    };
-    match keeper.place_of(&room, id) {
-        Ok(Some(place)) => Ok(Reply::Outcome(outcome_at(&place))),
-        Ok(None) => Err(Refusal::NoSuchRequest),
-        Err(fault) => Err(fault.refusal()),
+    let room = known_room(keeper, alloc, room)?;
+    let id = WriteId::read(id)?;
+    match keeper.place_of(&room, id)? {
+        Some(place) => Ok(Reply::Outcome(outcome_at(&place))),
+        None => Err(Refusal::NoSuchRequest),
     }
 }
 
 /// The requests of a room that found no free slot.
 pub(crate) fn errors<K: Keeper>(keeper: &mut K, alloc: Global, room: &str) -> Result<Reply, Refusal>
-    ensures clean { K.is_clean keeper.new → K.is_clean keeper.old }
-    ensures open { K.is_clean keeper.new → K.is_open keeper.new → K.is_open keeper.old }
-    ensures step { K.is_clean keeper.new → K.is_open keeper.new → TakesStep (K.tables keeper.old) (model.Ask room.now AskErrors) (reply_in result) (K.tables keeper.new) }
-    ensures counts { Counts (reply_in result) (K.failures keeper.old) (K.failures keeper.new) }
-    ensures refused { K.is_clean keeper.new → K.is_open keeper.new → LeavesOnRefusal (reply_in result) (K.tables keeper.old) (K.tables keeper.new) }
-    ensures rise { TellsRise (reply_in result) (K.failures keeper.old) (K.failures keeper.new) }
-    ensures sure { K.never_fails → K.is_clean keeper.new → K.is_open keeper.new → NoneFails (K.tables keeper.old) (K.failures keeper.old) (K.failures keeper.new) }
-    ensures lasts { K.is_clean keeper.new → K.is_open keeper.old → IsOfMachine (reply_in result) ⊎ K.is_open keeper.new }
-    ensures settled { K.is_clean keeper.new → K.is_open keeper.new → IsSettled (K.may_leave keeper.old) (K.tables keeper.old) → IsSettled (K.may_leave keeper.new) (K.tables keeper.new) }
-    ensures crash { K.is_clean keeper.new → K.is_open keeper.old → (t : Tables) → K.may_leave keeper.new t → K.may_leave keeper.old t ⊎ Reaches (K.tables keeper.old) (model.Ask room.now AskErrors) t }
+    ensures served { IsServed K.Keeper keeper.old keeper.new (model.Ask room.now AskErrors) (reply_in result) }
 {
-    let room = match known_room(keeper, alloc, room) {
-        Ok(room) => room,
-        Err(refusal) => return Err(refusal),
-    };
-    match keeper.errors(&room) {
-        Ok(rows) => Ok(Reply::Errors {
-            room,
-            rows: in_log_order(rows),
-        }),
-        Err(fault) => Err(fault.refusal()),
-    }
+    let room = known_room(keeper, alloc, room)?;
+    let rows = in_log_order(keeper.errors(&room)?);
+    Ok(Reply::Errors { room, rows })
 }
 
 /// The room of this name, where the keeper knows it.
 fn known_room<K: Keeper>(keeper: &mut K, alloc: Global, room: &str) -> Result<RoomName, Refusal>
-    ensures clean { K.is_clean keeper.new → K.is_clean keeper.old }
-    ensures open { K.is_clean keeper.new → K.is_open keeper.new → K.is_open keeper.old }
+    ensures read { IsRead K.Keeper keeper.old keeper.new result }
     ensures finds { K.is_clean keeper.new → K.is_open keeper.old → Finds (K.tables keeper.old).room room.now result }
-    ensures same { K.is_clean keeper.new → K.is_open keeper.new → K.tables keeper.new ≡ K.tables keeper.old }
-    ensures counts { IfErr result (λ e. Counts (Refused (refusal_of e)) (K.failures keeper.old) (K.failures keeper.new)) }
-    ensures failures { OnOk result (K.failures keeper.new ≡ K.failures keeper.old) }
-    ensures rise { IfErr result (λ e. TellsRise (Refused (refusal_of e)) (K.failures keeper.old) (K.failures keeper.new)) }
-    ensures sure { K.never_fails → K.is_clean keeper.new → K.is_open keeper.new → NoneFails (K.tables keeper.old) (K.failures keeper.old) (K.failures keeper.new) }
-    ensures lasts { K.is_clean keeper.new → K.is_open keeper.old → OnOk result (K.is_open keeper.new) }
-    ensures fails { K.is_clean keeper.new → K.is_open keeper.old → IfErr result (λ e. IsOfMachine (Refused (refusal_of e)) ⊎ K.is_open keeper.new) }
-    ensures settled { K.is_clean keeper.new → K.is_open keeper.new → IsSettled (K.may_leave keeper.old) (K.tables keeper.old) → IsSettled (K.may_leave keeper.new) (K.tables keeper.new) }
-    ensures crash { K.is_clean keeper.new → K.is_open keeper.old → (t : Tables) → K.may_leave keeper.new t → K.may_leave keeper.old t }
 {
-    let room = match RoomName::new(alloc, room) {
-        Ok(room) => room,
-        Err(refusal) => return Err(refusal),
-    };
-    let rooms = match keeper.rooms() {
-        Ok(rooms) => rooms,
-        Err(fault) => return Err(fault.refusal()),
-    };
+    let room = RoomName::new(alloc, room)?;
+    let rooms = keeper.rooms()?;
     if is_among(&room, rooms.as_slice()) {
         Ok(room)
     } else {

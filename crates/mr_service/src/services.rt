@@ -5,6 +5,7 @@ ghost use Rattle.mr_model.specs.Tables.{Tables};
 ghost use Rattle.mr_store.specs.Kept.{IsSettled};
 ghost use Rattle.mr_service.specs.Asked.{command_of, local_of, reply_of, reply_in};
 ghost use Rattle.mr_service.specs.Asking.{Counts, LeavesOnRefusal, NoneFails, TellsRise};
+ghost use Rattle.mr_service.specs.Served.{IsServed};
 
 use crate::changing::{add_room, batch_for, commit, position, receive, submit, truncate};
 use crate::commands::{Command, Local};
@@ -48,6 +49,7 @@ impl<K: Keeper> Service<K> {
     /// Does what the command says, and replies. A refusal changes nothing; want of memory is one, and a failure of the store
     /// another.
     pub fn ask(&mut self, command: &Command) -> Reply
+        ensures served { IsServed K.Keeper self.old self.new (command_of command.now) (reply_of result) }
         ensures clean { K.is_clean self.new → K.is_clean self.old }
         ensures open { K.is_clean self.new → K.is_open self.new → K.is_open self.old }
         ensures step { K.is_clean self.new → K.is_open self.new → TakesStep (K.tables self.old) (command_of command.now) (reply_of result) (K.tables self.new) }
@@ -58,6 +60,13 @@ impl<K: Keeper> Service<K> {
         ensures lasts { K.is_clean self.new → K.is_open self.old → IsOfMachine (reply_of result) ⊎ K.is_open self.new }
         ensures settled { K.is_clean self.new → K.is_open self.new → IsSettled (K.may_leave self.old) (K.tables self.old) → IsSettled (K.may_leave self.new) (K.tables self.new) }
         ensures crash { K.is_clean self.new → K.is_open self.old → (t : Tables) → K.may_leave self.new t → K.may_leave self.old t ⊎ Reaches (K.tables self.old) (command_of command.now) t }
+    {
+        self.serve(command)
+    }
+
+    /// The same, with all that its contract says as one record.
+    fn serve(&mut self, command: &Command) -> Reply
+        ensures served { IsServed K.Keeper self.old self.new (command_of command.now) (reply_of result) }
     {
         match command {
             Command::Local(local) => said(ask_local(&mut self.keeper, self.alloc, local)),
@@ -76,16 +85,7 @@ pub(crate) fn ask_local<K: Keeper>(
     alloc: Global,
     command: &Local,
 ) -> Result<Reply, Refusal>
-    ensures clean { K.is_clean keeper.new → K.is_clean keeper.old }
-    ensures open { K.is_clean keeper.new → K.is_open keeper.new → K.is_open keeper.old }
-    ensures step { K.is_clean keeper.new → K.is_open keeper.new → TakesStep (K.tables keeper.old) (local_of command.now) (reply_in result) (K.tables keeper.new) }
-    ensures counts { Counts (reply_in result) (K.failures keeper.old) (K.failures keeper.new) }
-    ensures refused { K.is_clean keeper.new → K.is_open keeper.new → LeavesOnRefusal (reply_in result) (K.tables keeper.old) (K.tables keeper.new) }
-    ensures rise { TellsRise (reply_in result) (K.failures keeper.old) (K.failures keeper.new) }
-    ensures sure { K.never_fails → K.is_clean keeper.new → K.is_open keeper.new → NoneFails (K.tables keeper.old) (K.failures keeper.old) (K.failures keeper.new) }
-    ensures lasts { K.is_clean keeper.new → K.is_open keeper.old → IsOfMachine (reply_in result) ⊎ K.is_open keeper.new }
-    ensures settled { K.is_clean keeper.new → K.is_open keeper.new → IsSettled (K.may_leave keeper.old) (K.tables keeper.old) → IsSettled (K.may_leave keeper.new) (K.tables keeper.new) }
-    ensures crash { K.is_clean keeper.new → K.is_open keeper.old → (t : Tables) → K.may_leave keeper.new t → K.may_leave keeper.old t ⊎ Reaches (K.tables keeper.old) (local_of command.now) t }
+    ensures served { IsServed K.Keeper keeper.old keeper.new (local_of command.now) (reply_in result) }
 {
     match command {
         Local::AddRoom(room) => add_room(keeper, alloc, room.as_str()),

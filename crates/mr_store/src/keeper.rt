@@ -4,7 +4,7 @@ ghost use Rattle.mr_model.specs.Replica.{Replica};
 ghost use Rattle.mr_model.specs.Tables.{Tables, Stands};
 ghost use Rattle.mr_tables.specs.Change.{changed};
 ghost use Rattle.mr_replica.specs.Desk.{StandsFor, IsWithinLimits};
-ghost use Rattle.mr_store.specs.Kept.{failures_after, failures_for, fault_refusal, IsSettled};
+ghost use Rattle.mr_store.specs.Kept.{failures_after, failures_for, IsSettled};
 ghost use Rattle.mr_store.specs.Picked.{picked_errors, AreBookings, IsPlaceOf};
 
 use mr_base::{Day, Refusal, RoomName, WriteId};
@@ -20,17 +20,21 @@ pub enum Fault {
     Store,
 }
 
-impl Fault {
+impl From<Fault> for Refusal {
+    ghost use Rattle.mr_store.specs.Kept.{fault_refusal};
+
+    ghost from_gives = { λ fault refusal. refusal ≡ fault_refusal fault };
+
     /// The refusal that tells of it.
-    pub fn refusal(self) -> Refusal
-        ensures { result ≡ fault_refusal self }
-    {
-        match self {
+    fn from(fault: Fault) -> Refusal {
+        match fault {
             Fault::OutOfMemory => Refusal::OutOfMemory,
             Fault::Store => Refusal::Store,
         }
     }
+}
 
+impl Fault {
     /// A failure of the store, which is counted. Where the count is full it is told as want of memory.
     pub fn counted(failures: &mut u64) -> Fault
         ensures counted { failures.new ≡ failures_for result failures.old }

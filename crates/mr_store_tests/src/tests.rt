@@ -41,10 +41,7 @@ fn opening(alloc: Global) -> Result<ListKeeper, Refusal> {
 
 /// The refusal that tells of a fault, in its place.
 fn told<T: Drop>(answer: Result<T, Fault>) -> Result<T, Refusal> {
-    match answer {
-        Ok(value) => Ok(value),
-        Err(fault) => Err(fault.refusal()),
-    }
+    Ok(answer?)
 }
 
 fn apply<K: Keeper>(keeper: &mut K, change: &Change) -> Result<bool, Refusal> {

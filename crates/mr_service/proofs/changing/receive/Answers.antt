@@ -1,79 +1,18 @@
-use Rattle.std.proofs.Common.{◌≡◌, refl, sym, ap, subst, ◌∙◌, inl, inr, Err}
-use Rattle.mr_model.specs.Tables.{Stands}
-use Rattle.mr_model.specs.Serving.{Reaches}
-use Rattle.mr_model.specs.Replies.{Refused, Took}
+use Rattle.std.proofs.Common.{refl, subst}
+use Rattle.std.proofs.lemmas.Result.{err_from_is_err_and}
 use Rattle.mr_model.specs.Step.{Receive, receive_batch}
-use Rattle.mr_base.specs.Refusals.{refusal_of}
-use Rattle.mr_tables.specs.Change.{changed}
-use Rattle.mr_service.proofs.DeskSteps as steps
+use Rattle.mr_service.specs.Turns.{TurnsBy}
+use Rattle.mr_service.proofs.KeeperChanges.{served_by}
+use Rattle.mr_service.proofs.KeeperReads.{unread}
+use Rattle.mr_service.proofs.DeskSteps.{word_step}
 use Rattle.mr_service.proofs.CommandWords as words
 use Rattle.mr_service.proofs.changing.receive.Goals as goal
 
-pub returns-in-Err-clause-step : goal.returns-in-Err-clause-step
-returns-in-Err-clause-step g c = λ k o.
-    steps.word_step (g.K.Keeper.tables c.args.keeper.now) (Receive c.args.bytes.now) c.in-Err.refusal (words.batch_refused c.args.bytes.now c.in-Err.refusal c.in-Err.ensures.exact)
+pub returns-in_err-batch : goal.returns-in_err-batch
+returns-in_err-batch g c =
+    let p = err_from_is_err_and c.from_residual.result c.from_residual.ensures.1 in
+    record { served = rw (p.1, p.2) (unread g.K.Keeper c.args.keeper.now (Receive c.args.bytes.now) c.in_err-batch.field-0.0 (word_step (g.K.Keeper.tables c.args.keeper.now) (Receive c.args.bytes.now) c.in_err-batch.field-0.0 (words.batch_refused c.args.bytes.now c.in_err-batch.field-0.0 c.in_err-batch.ensures.exact)) (words.batch_not_store c.args.bytes.now c.in_err-batch.field-0.0 c.in_err-batch.ensures.refuses)) }
 
-pub returns-in-Err-load-clause-step : goal.returns-in-Err-load-clause-step
-returns-in-Err-load-clause-step g c = λ k o.
-    steps.fault_step c.in-Err-load.fault c.refusal.result (g.K.Keeper.tables c.args.keeper.now) (g.K.Keeper.tables c.load.new.self) (Receive c.args.bytes.now) c.refusal.ensures (c.load.ensures.same k o)
-
-pub returns-in-Err-receive-clause-step : goal.returns-in-Err-receive-clause-step
-returns-in-Err-receive-clause-step g c = λ k o.
-    steps.kept_step (λ a. receive_batch a c.in-Ok.batch) (λ _ taken. Took taken.0 taken.1) (Err c.in-Err-receive.refusal) c.in-Ok-load.desk c.receive.new.self (g.K.Keeper.tables c.args.keeper.now) (g.K.Keeper.tables c.load.new.self) (Receive c.args.bytes.now) (Refused (refusal_of c.in-Err-receive.refusal))
-    (words.batch_received c.args.bytes.now c.in-Ok.batch c.in-Ok.ensures.exact) (c.in-Ok-load.ensures.loaded k (c.load.ensures.open k o)) c.in-Err-receive.ensures.step c.in-Err-receive.ensures.err (c.load.ensures.same k o) (λ b. refl)
-
-pub returns-clause-step : goal.returns-clause-step
-returns-clause-step g c = λ k o.
-    let clean : g.K.Keeper.is_clean c.load.new.self = c.apply.ensures.clean k in
-    let opens : g.K.Keeper.is_open c.load.new.self = c.apply.ensures.open k o in
-    steps.fault_step c.in-Err-apply.fault c.refusal-in-Err-apply.result (g.K.Keeper.tables c.args.keeper.now) (g.K.Keeper.tables c.apply.new.self) (Receive c.args.bytes.now)
-    c.refusal-in-Err-apply.ensures (c.in-Err-apply.ensures.refused k o ∙ c.load.ensures.same clean opens)
-
-pub returns-in-Ok-apply-clause-step : goal.returns-in-Ok-apply-clause-step
-returns-in-Ok-apply-clause-step g c = λ k o.
-    let clean : g.K.Keeper.is_clean c.load.new.self = c.apply.ensures.clean k in
-    let opens : g.K.Keeper.is_open c.load.new.self = c.apply.ensures.open k o in
-    let same : g.K.Keeper.tables c.load.new.self ≡ g.K.Keeper.tables c.args.keeper.now = c.load.ensures.same clean opens in
-    steps.made_step (λ a. receive_batch a c.in-Ok.batch) (λ _ taken. Took taken.0 taken.1) (λ taken. taken.2) c.in-Ok-receive.taken c.in-Ok-load.desk c.receive.new.self (g.K.Keeper.tables c.args.keeper.now) (g.K.Keeper.tables c.apply.new.self) (Receive c.args.bytes.now) (Took c.in-Ok-receive.taken.0 c.in-Ok-receive.taken.1)
-    (words.batch_received c.args.bytes.now c.in-Ok.batch c.in-Ok.ensures.exact) (c.in-Ok-load.ensures.loaded clean (c.load.ensures.open clean opens)) c.in-Ok-receive.ensures.step c.in-Ok-receive.ensures.change
-    (c.in-Ok-apply.ensures.applied k o ∙ ap (λ t. changed c.in-Ok-receive.taken.2 t) same) (λ a sound from. refl)
-
-pub returns-in-Ok-apply-clause-crash : goal.returns-in-Ok-apply-clause-crash
-returns-in-Ok-apply-clause-crash g c = λ k o t left.
-    let clean : g.K.Keeper.is_clean c.load.new.self = c.apply.ensures.clean k in
-    let opens : g.K.Keeper.is_open c.load.new.self = c.in-Ok-load.ensures.lasts clean o in
-    let reaches : Reaches (g.K.Keeper.tables c.args.keeper.now) (Receive c.args.bytes.now) (changed c.in-Ok-receive.taken.2 (g.K.Keeper.tables c.args.keeper.now)) =
-    steps.made_reaches (λ a. receive_batch a c.in-Ok.batch) (λ _ taken. Took taken.0 taken.1) (λ taken. taken.2) c.in-Ok-receive.taken c.in-Ok-load.desk c.receive.new.self (g.K.Keeper.tables c.args.keeper.now) (Receive c.args.bytes.now)
-    (words.batch_received c.args.bytes.now c.in-Ok.batch c.in-Ok.ensures.exact) (c.in-Ok-load.ensures.loaded clean o) c.in-Ok-receive.ensures.step c.in-Ok-receive.ensures.change in
-    steps.left_of (g.K.Keeper.may_leave c.args.keeper.now t) (g.K.Keeper.tables c.args.keeper.now) (g.K.Keeper.tables c.load.new.self) t c.in-Ok-receive.taken.2 (Receive c.args.bytes.now) (c.load.ensures.same clean opens) reaches
-    (elim (c.apply.ensures.crash k opens t left) [ inl before ↦ inl (c.load.ensures.crash clean o t before) | inr after ↦ inr after ])
-
-pub returns-clause-crash : goal.returns-clause-crash
-returns-clause-crash g c = λ k o t left.
-    let clean : g.K.Keeper.is_clean c.load.new.self = c.apply.ensures.clean k in
-    let opens : g.K.Keeper.is_open c.load.new.self = c.in-Ok-load.ensures.lasts clean o in
-    let reaches : Reaches (g.K.Keeper.tables c.args.keeper.now) (Receive c.args.bytes.now) (changed c.in-Ok-receive.taken.2 (g.K.Keeper.tables c.args.keeper.now)) =
-    steps.made_reaches (λ a. receive_batch a c.in-Ok.batch) (λ _ taken. Took taken.0 taken.1) (λ taken. taken.2) c.in-Ok-receive.taken c.in-Ok-load.desk c.receive.new.self (g.K.Keeper.tables c.args.keeper.now) (Receive c.args.bytes.now)
-    (words.batch_received c.args.bytes.now c.in-Ok.batch c.in-Ok.ensures.exact) (c.in-Ok-load.ensures.loaded clean o) c.in-Ok-receive.ensures.step c.in-Ok-receive.ensures.change in
-    steps.left_of (g.K.Keeper.may_leave c.args.keeper.now t) (g.K.Keeper.tables c.args.keeper.now) (g.K.Keeper.tables c.load.new.self) t c.in-Ok-receive.taken.2 (Receive c.args.bytes.now) (c.load.ensures.same clean opens) reaches
-    (elim (c.apply.ensures.crash k opens t left) [ inl before ↦ inl (c.load.ensures.crash clean o t before) | inr after ↦ inr after ])
-
-pub returns-in-Err-load-clause-lasts : goal.returns-in-Err-load-clause-lasts
-returns-in-Err-load-clause-lasts g c = λ k o. inl (steps.of_fault c.in-Err-load.fault c.refusal.result c.refusal.ensures)
-
-pub returns-clause-lasts : goal.returns-clause-lasts
-returns-clause-lasts g c = λ k o. inl (steps.of_fault c.in-Err-apply.fault c.refusal-in-Err-apply.result c.refusal-in-Err-apply.ensures)
-
-pub returns-in-Err-load-clause-sure : goal.returns-in-Err-load-clause-sure
-returns-in-Err-load-clause-sure g c = λ s k o a h. c.load.ensures.sure s a h
-
-pub returns-clause-sure : goal.returns-clause-sure
-returns-clause-sure g c = λ s k o a h.
-    let clean : g.K.Keeper.is_clean c.load.new.self = c.apply.ensures.clean k in
-    let opens : g.K.Keeper.is_open c.load.new.self = c.apply.ensures.open k o in
-    c.apply.ensures.sure s a (subst (λ t. Stands t a) (sym (c.load.ensures.same clean opens)) h) ∙ c.load.ensures.sure s a h
-
-pub returns-clause-counts : goal.returns-clause-counts
-returns-clause-counts g c =
-    steps.fault_counts c.in-Err-apply.fault c.refusal-in-Err-apply.result (g.K.Keeper.failures c.args.keeper.now) (g.K.Keeper.failures c.load.new.self) (g.K.Keeper.failures c.apply.new.self)
-    c.refusal-in-Err-apply.ensures c.in-Ok-load.ensures.failures c.in-Err-apply.ensures.failures
+pub returns : goal.returns
+returns g c =
+    record { served = served_by g.K.Keeper c.args.keeper.now c.change.new.keeper _ _ _ (Receive c.args.bytes.now) (λ a. receive_batch a c.in_ok-batch.batch) c.change.ensures (words.batch_received c.args.bytes.now c.in_ok-batch.batch c.in_ok-batch.ensures.exact) (λ d answer within called. subst (λ x. TurnsBy (λ a. receive_batch a c.in_ok-batch.batch) x answer) called.1.shows called.1.met) }

@@ -1,74 +1,9 @@
-use Rattle.std.proofs.Common.{◌≡◌, refl, sym, ap, subst, ◌∙◌, inl, inr, Err}
-use Rattle.mr_model.specs.Tables.{Stands}
-use Rattle.mr_model.specs.Serving.{Reaches}
-use Rattle.mr_model.specs.Replies.{Refused, DroppedIs}
+use Rattle.std.proofs.Common.{refl, subst}
 use Rattle.mr_model.specs.Step.{Truncate, truncate}
-use Rattle.mr_base.specs.Refusals.{refusal_of}
-use Rattle.mr_tables.specs.Change.{changed}
-use Rattle.mr_service.proofs.DeskSteps as steps
+use Rattle.mr_service.specs.Turns.{TurnsBy}
+use Rattle.mr_service.proofs.KeeperChanges.{served_by}
 use Rattle.mr_service.proofs.changing.truncate.Goals as goal
 
-pub returns-in-Err-clause-step : goal.returns-in-Err-clause-step
-returns-in-Err-clause-step g c = λ k o.
-    steps.fault_step c.in-Err.fault c.refusal.result (g.K.Keeper.tables c.args.keeper.now) (g.K.Keeper.tables c.load.new.self) (Truncate c.args.number) c.refusal.ensures (c.load.ensures.same k o)
-
-pub returns-in-Err-truncate-clause-step : goal.returns-in-Err-truncate-clause-step
-returns-in-Err-truncate-clause-step g c = λ k o.
-    steps.kept_step (λ a. truncate a c.args.number) (λ _ done. DroppedIs done.0) (Err c.in-Err-truncate.refusal) c.in-Ok.desk c.truncate.new.self (g.K.Keeper.tables c.args.keeper.now) (g.K.Keeper.tables c.load.new.self) (Truncate c.args.number) (Refused (refusal_of c.in-Err-truncate.refusal))
-    (λ a. refl) (c.in-Ok.ensures.loaded k (c.load.ensures.open k o)) c.in-Err-truncate.ensures.step c.in-Err-truncate.ensures.err (c.load.ensures.same k o) (λ b. refl)
-
-pub returns-clause-step : goal.returns-clause-step
-returns-clause-step g c = λ k o.
-    let clean : g.K.Keeper.is_clean c.load.new.self = c.apply.ensures.clean k in
-    let opens : g.K.Keeper.is_open c.load.new.self = c.apply.ensures.open k o in
-    steps.fault_step c.in-Err-apply.fault c.refusal-in-Err-apply.result (g.K.Keeper.tables c.args.keeper.now) (g.K.Keeper.tables c.apply.new.self) (Truncate c.args.number)
-    c.refusal-in-Err-apply.ensures (c.in-Err-apply.ensures.refused k o ∙ c.load.ensures.same clean opens)
-
-pub returns-in-Ok-apply-clause-step : goal.returns-in-Ok-apply-clause-step
-returns-in-Ok-apply-clause-step g c = λ k o.
-    let clean : g.K.Keeper.is_clean c.load.new.self = c.apply.ensures.clean k in
-    let opens : g.K.Keeper.is_open c.load.new.self = c.apply.ensures.open k o in
-    let same : g.K.Keeper.tables c.load.new.self ≡ g.K.Keeper.tables c.args.keeper.now = c.load.ensures.same clean opens in
-    steps.made_step (λ a. truncate a c.args.number) (λ _ done. DroppedIs done.0) (λ done. done.1) c.in-Ok-truncate.done c.in-Ok.desk c.truncate.new.self (g.K.Keeper.tables c.args.keeper.now) (g.K.Keeper.tables c.apply.new.self) (Truncate c.args.number) (DroppedIs c.in-Ok-truncate.done.0)
-    (λ a. refl) (c.in-Ok.ensures.loaded clean (c.load.ensures.open clean opens)) c.in-Ok-truncate.ensures.step c.in-Ok-truncate.ensures.change
-    (c.in-Ok-apply.ensures.applied k o ∙ ap (λ t. changed c.in-Ok-truncate.done.1 t) same) (λ a sound from. refl)
-
-pub returns-in-Ok-apply-clause-crash : goal.returns-in-Ok-apply-clause-crash
-returns-in-Ok-apply-clause-crash g c = λ k o t left.
-    let clean : g.K.Keeper.is_clean c.load.new.self = c.apply.ensures.clean k in
-    let opens : g.K.Keeper.is_open c.load.new.self = c.in-Ok.ensures.lasts clean o in
-    let reaches : Reaches (g.K.Keeper.tables c.args.keeper.now) (Truncate c.args.number) (changed c.in-Ok-truncate.done.1 (g.K.Keeper.tables c.args.keeper.now)) =
-    steps.made_reaches (λ a. truncate a c.args.number) (λ _ done. DroppedIs done.0) (λ done. done.1) c.in-Ok-truncate.done c.in-Ok.desk c.truncate.new.self (g.K.Keeper.tables c.args.keeper.now) (Truncate c.args.number)
-    (λ a. refl) (c.in-Ok.ensures.loaded clean o) c.in-Ok-truncate.ensures.step c.in-Ok-truncate.ensures.change in
-    steps.left_of (g.K.Keeper.may_leave c.args.keeper.now t) (g.K.Keeper.tables c.args.keeper.now) (g.K.Keeper.tables c.load.new.self) t c.in-Ok-truncate.done.1 (Truncate c.args.number) (c.load.ensures.same clean opens) reaches
-    (elim (c.apply.ensures.crash k opens t left) [ inl before ↦ inl (c.load.ensures.crash clean o t before) | inr after ↦ inr after ])
-
-pub returns-clause-crash : goal.returns-clause-crash
-returns-clause-crash g c = λ k o t left.
-    let clean : g.K.Keeper.is_clean c.load.new.self = c.apply.ensures.clean k in
-    let opens : g.K.Keeper.is_open c.load.new.self = c.in-Ok.ensures.lasts clean o in
-    let reaches : Reaches (g.K.Keeper.tables c.args.keeper.now) (Truncate c.args.number) (changed c.in-Ok-truncate.done.1 (g.K.Keeper.tables c.args.keeper.now)) =
-    steps.made_reaches (λ a. truncate a c.args.number) (λ _ done. DroppedIs done.0) (λ done. done.1) c.in-Ok-truncate.done c.in-Ok.desk c.truncate.new.self (g.K.Keeper.tables c.args.keeper.now) (Truncate c.args.number)
-    (λ a. refl) (c.in-Ok.ensures.loaded clean o) c.in-Ok-truncate.ensures.step c.in-Ok-truncate.ensures.change in
-    steps.left_of (g.K.Keeper.may_leave c.args.keeper.now t) (g.K.Keeper.tables c.args.keeper.now) (g.K.Keeper.tables c.load.new.self) t c.in-Ok-truncate.done.1 (Truncate c.args.number) (c.load.ensures.same clean opens) reaches
-    (elim (c.apply.ensures.crash k opens t left) [ inl before ↦ inl (c.load.ensures.crash clean o t before) | inr after ↦ inr after ])
-
-pub returns-in-Err-clause-lasts : goal.returns-in-Err-clause-lasts
-returns-in-Err-clause-lasts g c = λ k o. inl (steps.of_fault c.in-Err.fault c.refusal.result c.refusal.ensures)
-
-pub returns-clause-lasts : goal.returns-clause-lasts
-returns-clause-lasts g c = λ k o. inl (steps.of_fault c.in-Err-apply.fault c.refusal-in-Err-apply.result c.refusal-in-Err-apply.ensures)
-
-pub returns-in-Err-clause-sure : goal.returns-in-Err-clause-sure
-returns-in-Err-clause-sure g c = λ s k o a h. c.load.ensures.sure s a h
-
-pub returns-clause-sure : goal.returns-clause-sure
-returns-clause-sure g c = λ s k o a h.
-    let clean : g.K.Keeper.is_clean c.load.new.self = c.apply.ensures.clean k in
-    let opens : g.K.Keeper.is_open c.load.new.self = c.apply.ensures.open k o in
-    c.apply.ensures.sure s a (subst (λ t. Stands t a) (sym (c.load.ensures.same clean opens)) h) ∙ c.load.ensures.sure s a h
-
-pub returns-clause-counts : goal.returns-clause-counts
-returns-clause-counts g c =
-    steps.fault_counts c.in-Err-apply.fault c.refusal-in-Err-apply.result (g.K.Keeper.failures c.args.keeper.now) (g.K.Keeper.failures c.load.new.self) (g.K.Keeper.failures c.apply.new.self)
-    c.refusal-in-Err-apply.ensures c.in-Ok.ensures.failures c.in-Err-apply.ensures.failures
+pub returns : goal.returns
+returns g c =
+    record { served = served_by g.K.Keeper c.args.keeper.now c.change.new.keeper _ _ _ (Truncate c.args.number) (λ a. truncate a c.args.number) c.change.ensures (λ a. refl) (λ d answer within called. subst (λ x. TurnsBy (λ a. truncate a c.args.number) x answer) called.1.shows called.1.met) }

@@ -1,46 +1,33 @@
-use Rattle.std.proofs.Common.{◌≡◌, ◌∙◌, subst, None, inl}
+use Rattle.std.proofs.Common.{◌≡◌, ◌∙◌, subst, None}
+use Rattle.std.proofs.lemmas.Result.{err_from_is_err_and}
 use Rattle.mr_model.specs.Step.{Ask}
 use Rattle.mr_model.specs.View.{AskCalendar}
 use Rattle.mr_store.specs.Picked.{AreBookings}
 use Rattle.mr_service.specs.Asked.{part_of}
+use Rattle.mr_service.proofs.KeeperReads.{read_ok, read_then, read_both, fails_all, refused_by, answered_by, unread}
 use Rattle.mr_service.proofs.RoomSteps as steps
 use Rattle.mr_service.proofs.questions.calendar.Goals as goal
 
-pub returns-in-Err-clause-step : goal.returns-in-Err-clause-step
-returns-in-Err-clause-step g c = λ k o.
-    steps.calendar_refused (g.K.Keeper.tables c.args.keeper.now) (g.K.Keeper.tables c.known_room.new.keeper) c.args.room.now (part_of c.args.part) c.in-Err.refusal (c.known_room.ensures.same k o) (c.in-Err.ensures.finds k (c.known_room.ensures.open k o))
+pub returns-in_err-room : goal.returns-in_err-room
+returns-in_err-room g c =
+    let p = err_from_is_err_and c.from_residual.result c.from_residual.ensures.1 in
+    record {
+      served = rw (p.1, p.2) (refused_by g.K.Keeper c.args.keeper.now c.known_room.new.keeper c.in_err-room.field-0.0 (Ask c.args.room.now (AskCalendar (part_of c.args.part))) c.in_err-room.ensures.read
+          (λ u o. steps.calendar_refused (g.K.Keeper.tables c.args.keeper.now) (g.K.Keeper.tables c.known_room.new.keeper) c.args.room.now (part_of c.args.part) c.in_err-room.field-0.0 (c.known_room.ensures.read.same u o) (c.in_err-room.ensures.finds u (c.known_room.ensures.read.opens u o))));
+    }
 
-pub returns-in-Ok-bookings-clause-step : goal.returns-in-Ok-bookings-clause-step
-returns-in-Ok-bookings-clause-step g c = λ k o.
-    let clean : g.K.Keeper.is_clean c.known_room.new.keeper = c.bookings.ensures.clean k in
-    let opens : g.K.Keeper.is_open c.known_room.new.keeper = c.bookings.ensures.open k o in
-    let same : g.K.Keeper.tables c.known_room.new.keeper ≡ g.K.Keeper.tables c.args.keeper.now = c.known_room.ensures.same clean opens in
-    steps.calendar_step (g.K.Keeper.tables c.args.keeper.now) (g.K.Keeper.tables c.bookings.new.self) c.args.room.now c.in-Ok.room (part_of c.args.part) c.in-Ok-bookings.rows.items c.of_part.result.items
-    (c.bookings.ensures.same k o ∙ same) (c.in-Ok.ensures.finds clean (c.known_room.ensures.open clean opens))
-    (subst (λ t. AreBookings c.in-Ok.room None t c.in-Ok-bookings.rows.items) same (c.in-Ok-bookings.ensures.bookings k opens)) c.of_part.ensures
+pub returns-in_err-bookings : goal.returns-in_err-bookings
+returns-in_err-bookings g c =
+    let p = err_from_is_err_and c.from_residual-in_err-bookings.result c.from_residual-in_err-bookings.ensures.1 in
+    record { served = rw p.1 (read_then g.K.Keeper c.args.keeper.now c.known_room.new.keeper c.bookings.new.self c.in_ok-room.room (Ask c.args.room.now (AskCalendar (part_of c.args.part))) _ c.in_ok-room.ensures.read (fails_all g.K.Keeper c.known_room.new.keeper c.bookings.new.self c.in_err-bookings.field-0.0 p.0 p.2 c.bookings.ensures.clean c.bookings.ensures.open c.bookings.ensures.same c.in_err-bookings.ensures.failures c.bookings.ensures.sure c.bookings.ensures.settled c.bookings.ensures.crash (Ask c.args.room.now (AskCalendar (part_of c.args.part))))) }
 
-pub returns-in-Err-bookings-clause-step : goal.returns-in-Err-bookings-clause-step
-returns-in-Err-bookings-clause-step g c = λ k o.
-    steps.fault_step c.in-Err-bookings.fault c.refusal.result (g.K.Keeper.tables c.args.keeper.now) (g.K.Keeper.tables c.bookings.new.self) (Ask c.args.room.now (AskCalendar (part_of c.args.part))) c.refusal.ensures
-    (c.bookings.ensures.same k o ∙ c.known_room.ensures.same (c.bookings.ensures.clean k) (c.bookings.ensures.open k o))
-
-pub returns-in-Err-bookings-clause-sure : goal.returns-in-Err-bookings-clause-sure
-returns-in-Err-bookings-clause-sure g c = λ never k o.
-    steps.none_fails (g.K.Keeper.tables c.args.keeper.now) (g.K.Keeper.tables c.known_room.new.keeper) (g.K.Keeper.failures c.args.keeper.now) (g.K.Keeper.failures c.known_room.new.keeper) (g.K.Keeper.failures c.bookings.new.self)
-    (c.known_room.ensures.same (c.bookings.ensures.clean k) (c.bookings.ensures.open k o)) c.in-Ok.ensures.failures (c.bookings.ensures.sure never)
-
-pub returns-in-Err-bookings-clause-lasts : goal.returns-in-Err-bookings-clause-lasts
-returns-in-Err-bookings-clause-lasts g c = λ k o. inl (steps.of_fault c.in-Err-bookings.fault c.refusal.result c.refusal.ensures)
-
-pub returns-in-Err-clause-crash : goal.returns-in-Err-clause-crash
-returns-in-Err-clause-crash g c = λ k o t left. inl (c.known_room.ensures.crash k o t left)
-
-pub returns-in-Ok-bookings-clause-crash : goal.returns-in-Ok-bookings-clause-crash
-returns-in-Ok-bookings-clause-crash g c = λ k o t left.
-    let clean : g.K.Keeper.is_clean c.known_room.new.keeper = c.bookings.ensures.clean k in
-    inl (c.known_room.ensures.crash clean o t (c.bookings.ensures.crash k (c.in-Ok.ensures.lasts clean o) t left))
-
-pub returns-in-Err-bookings-clause-crash : goal.returns-in-Err-bookings-clause-crash
-returns-in-Err-bookings-clause-crash g c = λ k o t left.
-    let clean : g.K.Keeper.is_clean c.known_room.new.keeper = c.bookings.ensures.clean k in
-    inl (c.known_room.ensures.crash clean o t (c.bookings.ensures.crash k (c.in-Ok.ensures.lasts clean o) t left))
+pub returns : goal.returns
+returns g c =
+    let same : g.K.Keeper.is_clean c.bookings.new.self → g.K.Keeper.is_open c.bookings.new.self → g.K.Keeper.tables c.known_room.new.keeper ≡ g.K.Keeper.tables c.args.keeper.now = λ u o. c.known_room.ensures.read.same (c.bookings.ensures.clean u) (c.bookings.ensures.open u o) in
+    record {
+      served = answered_by g.K.Keeper c.args.keeper.now c.bookings.new.self c.in_ok-bookings.field-0.items (Ask c.args.room.now (AskCalendar (part_of c.args.part))) _ (read_both g.K.Keeper c.args.keeper.now c.known_room.new.keeper c.bookings.new.self c.in_ok-room.room c.in_ok-bookings.field-0.items c.in_ok-room.ensures.read (read_ok g.K.Keeper c.known_room.new.keeper c.bookings.new.self c.in_ok-bookings.field-0.items c.bookings.ensures.clean c.bookings.ensures.open c.in_ok-bookings.ensures.lasts c.bookings.ensures.same c.in_ok-bookings.ensures.failures c.bookings.ensures.settled c.bookings.ensures.crash))
+          (λ u o. steps.calendar_step (g.K.Keeper.tables c.args.keeper.now) (g.K.Keeper.tables c.bookings.new.self) c.args.room.now c.in_ok-room.room (part_of c.args.part) c.in_ok-bookings.field-0.items c.of_part-rows.result.items
+          (c.bookings.ensures.same u o ∙ same u o) (c.in_ok-room.ensures.finds (c.bookings.ensures.clean u) (c.known_room.ensures.read.opens (c.bookings.ensures.clean u) (c.bookings.ensures.open u o)))
+          (subst (λ t. AreBookings c.in_ok-room.room None t c.in_ok-bookings.field-0.items) (same u o) (c.in_ok-bookings.ensures.bookings u (c.bookings.ensures.open u o))) c.of_part-rows.ensures)
+          (λ told. cc told);
+    }

@@ -1,47 +1,33 @@
-use Rattle.std.proofs.Common.{◌≡◌, ◌∙◌, subst, inl}
-use Rattle.std.specs.List.Sorted.{IsPermutation}
-use Rattle.mr_store.specs.Picked.{picked_errors}
+use Rattle.std.proofs.Common.{◌≡◌, ◌∙◌, subst}
+use Rattle.std.proofs.lemmas.Result.{err_from_is_err_and}
 use Rattle.mr_model.specs.Step.{Ask}
 use Rattle.mr_model.specs.View.{AskErrors}
+use Rattle.std.specs.List.Sorted.{IsPermutation}
+use Rattle.mr_store.specs.Picked.{picked_errors}
+use Rattle.mr_service.proofs.KeeperReads.{read_ok, read_then, read_both, fails_all, refused_by, answered_by, unread}
 use Rattle.mr_service.proofs.RoomSteps as steps
 use Rattle.mr_service.proofs.questions.errors.Goals as goal
 
-pub returns-in-Err-clause-step : goal.returns-in-Err-clause-step
-returns-in-Err-clause-step g c = λ k o.
-    steps.errors_refused (g.K.Keeper.tables c.args.keeper.now) (g.K.Keeper.tables c.known_room.new.keeper) c.args.room.now c.in-Err.refusal (c.known_room.ensures.same k o) (c.in-Err.ensures.finds k (c.known_room.ensures.open k o))
+pub returns-in_err-room : goal.returns-in_err-room
+returns-in_err-room g c =
+    let p = err_from_is_err_and c.from_residual.result c.from_residual.ensures.1 in
+    record {
+      served = rw (p.1, p.2) (refused_by g.K.Keeper c.args.keeper.now c.known_room.new.keeper c.in_err-room.field-0.0 (Ask c.args.room.now AskErrors) c.in_err-room.ensures.read
+          (λ u o. steps.errors_refused (g.K.Keeper.tables c.args.keeper.now) (g.K.Keeper.tables c.known_room.new.keeper) c.args.room.now c.in_err-room.field-0.0 (c.known_room.ensures.read.same u o) (c.in_err-room.ensures.finds u (c.known_room.ensures.read.opens u o))));
+    }
 
-pub returns-in-Ok-errors-clause-step : goal.returns-in-Ok-errors-clause-step
-returns-in-Ok-errors-clause-step g c = λ k o.
-    let clean : g.K.Keeper.is_clean c.known_room.new.keeper = c.errors.ensures.clean k in
-    let opens : g.K.Keeper.is_open c.known_room.new.keeper = c.errors.ensures.open k o in
-    let same : g.K.Keeper.tables c.known_room.new.keeper ≡ g.K.Keeper.tables c.args.keeper.now = c.known_room.ensures.same clean opens in
-    steps.errors_step (g.K.Keeper.tables c.args.keeper.now) (g.K.Keeper.tables c.errors.new.self) c.args.room.now c.in-Ok.room c.in-Ok-errors.rows.items c.in_log_order.result.items
-    (c.errors.ensures.same k o ∙ same) (c.in-Ok.ensures.finds clean (c.known_room.ensures.open clean opens))
-    (subst (λ t. IsPermutation (picked_errors c.in-Ok.room t) c.in-Ok-errors.rows.items) same (c.in-Ok-errors.ensures.errors k opens))
-    c.in_log_order.ensures.same c.in_log_order.ensures.order
+pub returns-in_err-errors : goal.returns-in_err-errors
+returns-in_err-errors g c =
+    let p = err_from_is_err_and c.from_residual-in_err-errors.result c.from_residual-in_err-errors.ensures.1 in
+    record { served = rw p.1 (read_then g.K.Keeper c.args.keeper.now c.known_room.new.keeper c.errors.new.self c.in_ok-room.room (Ask c.args.room.now AskErrors) _ c.in_ok-room.ensures.read (fails_all g.K.Keeper c.known_room.new.keeper c.errors.new.self c.in_err-errors.field-0.0 p.0 p.2 c.errors.ensures.clean c.errors.ensures.open c.errors.ensures.same c.in_err-errors.ensures.failures c.errors.ensures.sure c.errors.ensures.settled c.errors.ensures.crash (Ask c.args.room.now AskErrors))) }
 
-pub returns-in-Err-errors-clause-step : goal.returns-in-Err-errors-clause-step
-returns-in-Err-errors-clause-step g c = λ k o.
-    steps.fault_step c.in-Err-errors.fault c.refusal.result (g.K.Keeper.tables c.args.keeper.now) (g.K.Keeper.tables c.errors.new.self) (Ask c.args.room.now AskErrors) c.refusal.ensures
-    (c.errors.ensures.same k o ∙ c.known_room.ensures.same (c.errors.ensures.clean k) (c.errors.ensures.open k o))
-
-pub returns-in-Err-errors-clause-sure : goal.returns-in-Err-errors-clause-sure
-returns-in-Err-errors-clause-sure g c = λ never k o.
-    steps.none_fails (g.K.Keeper.tables c.args.keeper.now) (g.K.Keeper.tables c.known_room.new.keeper) (g.K.Keeper.failures c.args.keeper.now) (g.K.Keeper.failures c.known_room.new.keeper) (g.K.Keeper.failures c.errors.new.self)
-    (c.known_room.ensures.same (c.errors.ensures.clean k) (c.errors.ensures.open k o)) c.in-Ok.ensures.failures (c.errors.ensures.sure never)
-
-pub returns-in-Err-errors-clause-lasts : goal.returns-in-Err-errors-clause-lasts
-returns-in-Err-errors-clause-lasts g c = λ k o. inl (steps.of_fault c.in-Err-errors.fault c.refusal.result c.refusal.ensures)
-
-pub returns-in-Err-clause-crash : goal.returns-in-Err-clause-crash
-returns-in-Err-clause-crash g c = λ k o t left. inl (c.known_room.ensures.crash k o t left)
-
-pub returns-in-Ok-errors-clause-crash : goal.returns-in-Ok-errors-clause-crash
-returns-in-Ok-errors-clause-crash g c = λ k o t left.
-    let clean : g.K.Keeper.is_clean c.known_room.new.keeper = c.errors.ensures.clean k in
-    inl (c.known_room.ensures.crash clean o t (c.errors.ensures.crash k (c.in-Ok.ensures.lasts clean o) t left))
-
-pub returns-in-Err-errors-clause-crash : goal.returns-in-Err-errors-clause-crash
-returns-in-Err-errors-clause-crash g c = λ k o t left.
-    let clean : g.K.Keeper.is_clean c.known_room.new.keeper = c.errors.ensures.clean k in
-    inl (c.known_room.ensures.crash clean o t (c.errors.ensures.crash k (c.in-Ok.ensures.lasts clean o) t left))
+pub returns : goal.returns
+returns g c =
+    let same : g.K.Keeper.is_clean c.errors.new.self → g.K.Keeper.is_open c.errors.new.self → g.K.Keeper.tables c.known_room.new.keeper ≡ g.K.Keeper.tables c.args.keeper.now = λ u o. c.known_room.ensures.read.same (c.errors.ensures.clean u) (c.errors.ensures.open u o) in
+    record {
+      served = answered_by g.K.Keeper c.args.keeper.now c.errors.new.self c.in_ok-errors.field-0.items (Ask c.args.room.now AskErrors) _ (read_both g.K.Keeper c.args.keeper.now c.known_room.new.keeper c.errors.new.self c.in_ok-room.room c.in_ok-errors.field-0.items c.in_ok-room.ensures.read (read_ok g.K.Keeper c.known_room.new.keeper c.errors.new.self c.in_ok-errors.field-0.items c.errors.ensures.clean c.errors.ensures.open c.in_ok-errors.ensures.lasts c.errors.ensures.same c.in_ok-errors.ensures.failures c.errors.ensures.settled c.errors.ensures.crash))
+          (λ u o. steps.errors_step (g.K.Keeper.tables c.args.keeper.now) (g.K.Keeper.tables c.errors.new.self) c.args.room.now c.in_ok-room.room c.in_ok-errors.field-0.items c.in_log_order-rows.result.items
+          (c.errors.ensures.same u o ∙ same u o) (c.in_ok-room.ensures.finds (c.errors.ensures.clean u) (c.known_room.ensures.read.opens (c.errors.ensures.clean u) (c.errors.ensures.open u o)))
+          (subst (λ t. IsPermutation (picked_errors c.in_ok-room.room t) c.in_ok-errors.field-0.items) (same u o) (c.in_ok-errors.ensures.errors u (c.errors.ensures.open u o))) c.in_log_order-rows.ensures.same c.in_log_order-rows.ensures.order)
+          (λ told. cc told);
+    }

@@ -1,27 +1,32 @@
-use Rattle.std.proofs.Common.{ap, ◌∙◌, inl, inr}
+use Rattle.std.proofs.Common.{ap, ◌∙◌, inr}
+use Rattle.std.proofs.lemmas.Result.{err_from_is_err_and}
 use Rattle.std.specs.List.{list_any}
 use Rattle.std.specs.Str.{bytes_eq}
+use Rattle.mr_service.proofs.KeeperReads.{read_err}
 use Rattle.mr_service.proofs.RoomSteps as steps
 use Rattle.mr_service.proofs.questions.known_room.Goals as goal
 
-pub returns-in-Err-clause-finds : goal.returns-in-Err-clause-finds
-returns-in-Err-clause-finds g c = λ k o. steps.name_refused (g.K.Keeper.tables c.args.keeper.now).room c.args.room.now c.in-Err.refusal c.in-Err.ensures
+pub returns-in_err-room-clause-finds : goal.returns-in_err-room-clause-finds
+returns-in_err-room-clause-finds g c =
+    let p = err_from_is_err_and c.from_residual.result c.from_residual.ensures.1 in
+    rw (p.1, p.2) (λ k o. steps.name_refused (g.K.Keeper.tables c.args.keeper.now).room c.args.room.now c.in_err-room.field-0.0 c.in_err-room.ensures)
 
-pub returns-in-Err-rooms-clause-finds : goal.returns-in-Err-rooms-clause-finds
-returns-in-Err-rooms-clause-finds g c = λ k o. inr (steps.of_fault c.in-Err-rooms.fault c.refusal.result c.refusal.ensures)
+pub returns-in_err-rooms-clause-read : goal.returns-in_err-rooms-clause-read
+returns-in_err-rooms-clause-read g c =
+    let p = err_from_is_err_and c.from_residual-in_err-rooms.result c.from_residual-in_err-rooms.ensures.1 in
+    rw p.1 (read_err g.K.Keeper c.args.keeper.now c.rooms.new.self c.in_err-rooms.field-0.0 p.0 p.2 c.rooms.ensures.clean c.rooms.ensures.open c.rooms.ensures.same c.in_err-rooms.ensures.failures c.rooms.ensures.sure c.rooms.ensures.settled c.rooms.ensures.crash)
 
-pub returns-in-Err-rooms-clause-sure : goal.returns-in-Err-rooms-clause-sure
-returns-in-Err-rooms-clause-sure g c = λ never k o a h. c.rooms.ensures.sure never a h
-
-pub returns-in-Err-rooms-clause-fails : goal.returns-in-Err-rooms-clause-fails
-returns-in-Err-rooms-clause-fails g c = λ k o. inl (steps.of_fault c.in-Err-rooms.fault c.refusal.result c.refusal.ensures)
+pub returns-in_err-rooms-clause-finds : goal.returns-in_err-rooms-clause-finds
+returns-in_err-rooms-clause-finds g c =
+    let p = err_from_is_err_and c.from_residual-in_err-rooms.result c.from_residual-in_err-rooms.ensures.1 in
+    rw p.1 (λ k o. inr (steps.of_fault c.in_err-rooms.field-0.0 p.0 p.2))
 
 pub returns-then-is_among-clause-finds : goal.returns-then-is_among-clause-finds
-returns-then-is_among-clause-finds g c = λ k o.
-    steps.room_found (g.K.Keeper.tables c.args.keeper.now).room c.in-Ok-rooms.rooms.items c.args.room.now c.in-Ok.room c.is_among.result c.in-Ok.ensures (c.in-Ok-rooms.ensures.rooms k o)
-    (c.is_among.ensures ∙ ap (list_any (bytes_eq c.in-Ok.room)) c.as_slice.ensures.value) c.if-is_among.true
+returns-then-is_among-clause-finds g c =
+    λ k o. steps.room_found (g.K.Keeper.tables c.args.keeper.now).room c.in_ok-rooms.rooms.items c.args.room.now c.in_ok-room.room c.is_among.result c.in_ok-room.ensures (c.in_ok-rooms.ensures.rooms k o)
+    (c.is_among.ensures ∙ ap (list_any (bytes_eq c.in_ok-room.room)) c.as_slice.ensures.value) c.if-is_among.true
 
 pub returns-else-is_among-clause-finds : goal.returns-else-is_among-clause-finds
-returns-else-is_among-clause-finds g c = λ k o.
-    steps.room_unknown (g.K.Keeper.tables c.args.keeper.now).room c.in-Ok-rooms.rooms.items c.args.room.now c.in-Ok.room c.is_among.result c.in-Ok.ensures (c.in-Ok-rooms.ensures.rooms k o)
-    (c.is_among.ensures ∙ ap (list_any (bytes_eq c.in-Ok.room)) c.as_slice.ensures.value) c.if-is_among.false
+returns-else-is_among-clause-finds g c =
+    λ k o. steps.room_unknown (g.K.Keeper.tables c.args.keeper.now).room c.in_ok-rooms.rooms.items c.args.room.now c.in_ok-room.room c.is_among.result c.in_ok-room.ensures (c.in_ok-rooms.ensures.rooms k o)
+    (c.is_among.ensures ∙ ap (list_any (bytes_eq c.in_ok-room.room)) c.as_slice.ensures.value) c.if-is_among.false

@@ -1,71 +1,53 @@
-use Rattle.std.proofs.Common.{◌≡◌, ◌∙◌, subst, Some, None, inl}
+use Rattle.std.proofs.Common.{◌≡◌, ◌∙◌, subst, Some, None}
+use Rattle.std.proofs.lemmas.Result.{err_from_is_err_and}
 use Rattle.mr_model.specs.Step.{Ask}
 use Rattle.mr_model.specs.View.{AskOutcome}
 use Rattle.mr_store.specs.Picked.{IsPlaceOf}
 use Rattle.mr_service.specs.Asked.{outcome_of}
+use Rattle.mr_service.proofs.KeeperReads.{read_ok, read_then, read_both, fails_all, refused_by, answered_by, unread}
 use Rattle.mr_service.proofs.RoomSteps as steps
 use Rattle.mr_service.proofs.questions.outcome.Goals as goal
 
-pub returns-in-Err-clause-step : goal.returns-in-Err-clause-step
-returns-in-Err-clause-step g c = λ k o.
-    steps.outcome_refused (g.K.Keeper.tables c.args.keeper.now) (g.K.Keeper.tables c.known_room.new.keeper) c.args.room.now c.args.id.now c.in-Err.refusal (c.known_room.ensures.same k o) (c.in-Err.ensures.finds k (c.known_room.ensures.open k o))
+pub returns-in_err-room : goal.returns-in_err-room
+returns-in_err-room g c =
+    let p = err_from_is_err_and c.from_residual.result c.from_residual.ensures.1 in
+    record {
+      served = rw (p.1, p.2) (refused_by g.K.Keeper c.args.keeper.now c.known_room.new.keeper c.in_err-room.field-0.0 (Ask c.args.room.now (AskOutcome c.args.id.now)) c.in_err-room.ensures.read
+          (λ u o. steps.outcome_refused (g.K.Keeper.tables c.args.keeper.now) (g.K.Keeper.tables c.known_room.new.keeper) c.args.room.now c.args.id.now c.in_err-room.field-0.0 (c.known_room.ensures.read.same u o) (c.in_err-room.ensures.finds u (c.known_room.ensures.read.opens u o))));
+    }
 
-pub returns-in-Err-read-clause-step : goal.returns-in-Err-read-clause-step
-returns-in-Err-read-clause-step g c = λ k o.
-    steps.bad_id_step (g.K.Keeper.tables c.args.keeper.now) (g.K.Keeper.tables c.known_room.new.keeper) c.args.room.now c.in-Ok.room c.args.id.now c.in-Err-read.refusal c.in-Err-read.ensures.value
-    (c.known_room.ensures.same k o) (c.in-Ok.ensures.finds k (c.known_room.ensures.open k o))
+pub returns-in_err-id : goal.returns-in_err-id
+returns-in_err-id g c =
+    let p = err_from_is_err_and c.from_residual-in_err-id.result c.from_residual-in_err-id.ensures.1 in
+    record {
+      served = rw (p.1, p.2) (answered_by g.K.Keeper c.args.keeper.now c.known_room.new.keeper c.in_ok-room.room (Ask c.args.room.now (AskOutcome c.args.id.now)) _ c.in_ok-room.ensures.read
+          (λ u o. steps.bad_id_step (g.K.Keeper.tables c.args.keeper.now) (g.K.Keeper.tables c.known_room.new.keeper) c.args.room.now c.in_ok-room.room c.args.id.now c.in_err-id.field-0.0 c.in_err-id.ensures.value (c.known_room.ensures.read.same u o) (c.in_ok-room.ensures.finds u (c.known_room.ensures.read.opens u o)))
+          (steps.id_not_store c.args.id.now c.in_err-id.field-0.0 c.in_err-id.ensures.value));
+    }
 
-pub returns-in-Ok-Some-clause-step : goal.returns-in-Ok-Some-clause-step
-returns-in-Ok-Some-clause-step g c = λ k o.
-    let clean : g.K.Keeper.is_clean c.known_room.new.keeper = c.place_of.ensures.clean k in
-    let opens : g.K.Keeper.is_open c.known_room.new.keeper = c.place_of.ensures.open k o in
-    let same : g.K.Keeper.tables c.known_room.new.keeper ≡ g.K.Keeper.tables c.args.keeper.now = c.known_room.ensures.same clean opens in
-    steps.outcome_step (g.K.Keeper.tables c.args.keeper.now) (g.K.Keeper.tables c.place_of.new.self) c.args.room.now c.in-Ok.room c.args.id.now c.in-Ok-read.id c.in-Ok-Some.place (outcome_of c.outcome_at.result)
-    c.in-Ok-read.ensures.value (c.place_of.ensures.same k o ∙ same) (c.in-Ok.ensures.finds clean (c.known_room.ensures.open clean opens))
-    (subst (λ t. IsPlaceOf c.in-Ok.room c.in-Ok-read.id t (Some c.in-Ok-Some.place)) same
-    (subst (IsPlaceOf c.in-Ok.room c.in-Ok-read.id (g.K.Keeper.tables c.known_room.new.keeper)) c.in-Ok-Some.field-0-is (c.in-Ok-Some.ensures.place k opens)))
-    c.outcome_at.ensures
+pub returns-in_err-place : goal.returns-in_err-place
+returns-in_err-place g c =
+    let p = err_from_is_err_and c.from_residual-in_err-place.result c.from_residual-in_err-place.ensures.1 in
+    record { served = rw p.1 (read_then g.K.Keeper c.args.keeper.now c.known_room.new.keeper c.place_of.new.self c.in_ok-room.room (Ask c.args.room.now (AskOutcome c.args.id.now)) _ c.in_ok-room.ensures.read (fails_all g.K.Keeper c.known_room.new.keeper c.place_of.new.self c.in_err-place.field-0.0 p.0 p.2 c.place_of.ensures.clean c.place_of.ensures.open c.place_of.ensures.same c.in_err-place.ensures.failures c.place_of.ensures.sure c.place_of.ensures.settled c.place_of.ensures.crash (Ask c.args.room.now (AskOutcome c.args.id.now)))) }
 
-pub returns-in-Ok-None-clause-step : goal.returns-in-Ok-None-clause-step
-returns-in-Ok-None-clause-step g c = λ k o.
-    let clean : g.K.Keeper.is_clean c.known_room.new.keeper = c.place_of.ensures.clean k in
-    let opens : g.K.Keeper.is_open c.known_room.new.keeper = c.place_of.ensures.open k o in
-    let same : g.K.Keeper.tables c.known_room.new.keeper ≡ g.K.Keeper.tables c.args.keeper.now = c.known_room.ensures.same clean opens in
-    steps.no_request_step (g.K.Keeper.tables c.args.keeper.now) (g.K.Keeper.tables c.place_of.new.self) c.args.room.now c.in-Ok.room c.args.id.now c.in-Ok-read.id
-    c.in-Ok-read.ensures.value (c.place_of.ensures.same k o ∙ same) (c.in-Ok.ensures.finds clean (c.known_room.ensures.open clean opens))
-    (subst (λ t. IsPlaceOf c.in-Ok.room c.in-Ok-read.id t None) same
-    (subst (IsPlaceOf c.in-Ok.room c.in-Ok-read.id (g.K.Keeper.tables c.known_room.new.keeper)) c.in-Ok-None.field-0-is (c.in-Ok-None.ensures.place k opens)))
+pub returns-in-Some : goal.returns-in-Some
+returns-in-Some g c =
+    let same : g.K.Keeper.is_clean c.place_of.new.self → g.K.Keeper.is_open c.place_of.new.self → g.K.Keeper.tables c.known_room.new.keeper ≡ g.K.Keeper.tables c.args.keeper.now = λ u o. c.known_room.ensures.read.same (c.place_of.ensures.clean u) (c.place_of.ensures.open u o) in
+    record {
+      served = answered_by g.K.Keeper c.args.keeper.now c.place_of.new.self c.in_ok-place.field-0 (Ask c.args.room.now (AskOutcome c.args.id.now)) _ (read_both g.K.Keeper c.args.keeper.now c.known_room.new.keeper c.place_of.new.self c.in_ok-room.room c.in_ok-place.field-0 c.in_ok-room.ensures.read (read_ok g.K.Keeper c.known_room.new.keeper c.place_of.new.self c.in_ok-place.field-0 c.place_of.ensures.clean c.place_of.ensures.open c.in_ok-place.ensures.lasts c.place_of.ensures.same c.in_ok-place.ensures.failures c.place_of.ensures.settled c.place_of.ensures.crash))
+          (λ u o. steps.outcome_step (g.K.Keeper.tables c.args.keeper.now) (g.K.Keeper.tables c.place_of.new.self) c.args.room.now c.in_ok-room.room c.args.id.now c.in_ok-id.id c.in-Some.place (outcome_of c.outcome_at.result) c.in_ok-id.ensures.value
+          (c.place_of.ensures.same u o ∙ same u o) (c.in_ok-room.ensures.finds (c.place_of.ensures.clean u) (c.known_room.ensures.read.opens (c.place_of.ensures.clean u) (c.place_of.ensures.open u o)))
+          (subst (λ t. IsPlaceOf c.in_ok-room.room c.in_ok-id.id t (Some c.in-Some.place)) (same u o) (subst (IsPlaceOf c.in_ok-room.room c.in_ok-id.id (g.K.Keeper.tables c.known_room.new.keeper)) c.in-Some.is (c.in_ok-place.ensures.place u (c.place_of.ensures.open u o)))) c.outcome_at.ensures)
+          (λ told. cc told);
+    }
 
-pub returns-clause-step : goal.returns-clause-step
-returns-clause-step g c = λ k o.
-    steps.fault_step c.in-Err-place_of.fault c.refusal.result (g.K.Keeper.tables c.args.keeper.now) (g.K.Keeper.tables c.place_of.new.self) (Ask c.args.room.now (AskOutcome c.args.id.now)) c.refusal.ensures
-    (c.place_of.ensures.same k o ∙ c.known_room.ensures.same (c.place_of.ensures.clean k) (c.place_of.ensures.open k o))
-
-pub returns-clause-sure : goal.returns-clause-sure
-returns-clause-sure g c = λ never k o.
-    steps.none_fails (g.K.Keeper.tables c.args.keeper.now) (g.K.Keeper.tables c.known_room.new.keeper) (g.K.Keeper.failures c.args.keeper.now) (g.K.Keeper.failures c.known_room.new.keeper) (g.K.Keeper.failures c.place_of.new.self)
-    (c.known_room.ensures.same (c.place_of.ensures.clean k) (c.place_of.ensures.open k o)) c.in-Ok.ensures.failures (c.place_of.ensures.sure never)
-
-pub returns-clause-lasts : goal.returns-clause-lasts
-returns-clause-lasts g c = λ k o. inl (steps.of_fault c.in-Err-place_of.fault c.refusal.result c.refusal.ensures)
-
-pub returns-in-Err-clause-crash : goal.returns-in-Err-clause-crash
-returns-in-Err-clause-crash g c = λ k o t left. inl (c.known_room.ensures.crash k o t left)
-
-pub returns-in-Err-read-clause-crash : goal.returns-in-Err-read-clause-crash
-returns-in-Err-read-clause-crash g c = λ k o t left. inl (c.known_room.ensures.crash k o t left)
-
-pub returns-in-Ok-Some-clause-crash : goal.returns-in-Ok-Some-clause-crash
-returns-in-Ok-Some-clause-crash g c = λ k o t left.
-    let clean : g.K.Keeper.is_clean c.known_room.new.keeper = c.place_of.ensures.clean k in
-    inl (c.known_room.ensures.crash clean o t (c.place_of.ensures.crash k (c.in-Ok.ensures.lasts clean o) t left))
-
-pub returns-in-Ok-None-clause-crash : goal.returns-in-Ok-None-clause-crash
-returns-in-Ok-None-clause-crash g c = λ k o t left.
-    let clean : g.K.Keeper.is_clean c.known_room.new.keeper = c.place_of.ensures.clean k in
-    inl (c.known_room.ensures.crash clean o t (c.place_of.ensures.crash k (c.in-Ok.ensures.lasts clean o) t left))
-
-pub returns-clause-crash : goal.returns-clause-crash
-returns-clause-crash g c = λ k o t left.
-    let clean : g.K.Keeper.is_clean c.known_room.new.keeper = c.place_of.ensures.clean k in
-    inl (c.known_room.ensures.crash clean o t (c.place_of.ensures.crash k (c.in-Ok.ensures.lasts clean o) t left))
+pub returns : goal.returns
+returns g c =
+    let same : g.K.Keeper.is_clean c.place_of.new.self → g.K.Keeper.is_open c.place_of.new.self → g.K.Keeper.tables c.known_room.new.keeper ≡ g.K.Keeper.tables c.args.keeper.now = λ u o. c.known_room.ensures.read.same (c.place_of.ensures.clean u) (c.place_of.ensures.open u o) in
+    record {
+      served = answered_by g.K.Keeper c.args.keeper.now c.place_of.new.self c.in_ok-place.field-0 (Ask c.args.room.now (AskOutcome c.args.id.now)) _ (read_both g.K.Keeper c.args.keeper.now c.known_room.new.keeper c.place_of.new.self c.in_ok-room.room c.in_ok-place.field-0 c.in_ok-room.ensures.read (read_ok g.K.Keeper c.known_room.new.keeper c.place_of.new.self c.in_ok-place.field-0 c.place_of.ensures.clean c.place_of.ensures.open c.in_ok-place.ensures.lasts c.place_of.ensures.same c.in_ok-place.ensures.failures c.place_of.ensures.settled c.place_of.ensures.crash))
+          (λ u o. steps.no_request_step (g.K.Keeper.tables c.args.keeper.now) (g.K.Keeper.tables c.place_of.new.self) c.args.room.now c.in_ok-room.room c.args.id.now c.in_ok-id.id c.in_ok-id.ensures.value
+          (c.place_of.ensures.same u o ∙ same u o) (c.in_ok-room.ensures.finds (c.place_of.ensures.clean u) (c.known_room.ensures.read.opens (c.place_of.ensures.clean u) (c.place_of.ensures.open u o)))
+          (subst (λ t. IsPlaceOf c.in_ok-room.room c.in_ok-id.id t None) (same u o) (subst (IsPlaceOf c.in_ok-room.room c.in_ok-id.id (g.K.Keeper.tables c.known_room.new.keeper)) c.in-None.is (c.in_ok-place.ensures.place u (c.place_of.ensures.open u o)))))
+          (λ told. cc told);
+    }

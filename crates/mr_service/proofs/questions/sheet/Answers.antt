@@ -1,56 +1,37 @@
-use Rattle.std.proofs.Common.{◌≡◌, ◌∙◌, subst, Some, inl}
+use Rattle.std.proofs.Common.{◌≡◌, ◌∙◌, subst, Some}
+use Rattle.std.proofs.lemmas.Result.{err_from_is_err_and}
 use Rattle.mr_model.specs.Step.{Ask}
 use Rattle.mr_model.specs.View.{AskSheet}
 use Rattle.mr_store.specs.Picked.{AreBookings}
+use Rattle.mr_service.proofs.KeeperReads.{read_ok, read_then, read_both, fails_all, refused_by, answered_by, unread}
 use Rattle.mr_service.proofs.RoomSteps as steps
 use Rattle.mr_service.proofs.questions.sheet.Goals as goal
 
-pub returns-in-Err-clause-step : goal.returns-in-Err-clause-step
-returns-in-Err-clause-step g c = λ k o. steps.day_refused (g.K.Keeper.tables c.args.keeper.now) c.args.room.now c.args.day.now c.in-Err.refusal c.in-Err.ensures.value
+pub returns-in_err-day : goal.returns-in_err-day
+returns-in_err-day g c =
+    let p = err_from_is_err_and c.from_residual.result c.from_residual.ensures.1 in
+    record { served = rw (p.1, p.2) (unread g.K.Keeper c.args.keeper.now (Ask c.args.room.now (AskSheet c.args.day.now)) c.in_err-day.field-0.0 (steps.day_refused (g.K.Keeper.tables c.args.keeper.now) c.args.room.now c.args.day.now c.in_err-day.field-0.0 c.in_err-day.ensures.value) (steps.day_not_store c.args.day.now c.in_err-day.field-0.0 c.in_err-day.ensures.value)) }
 
-pub returns-in-Err-clause-counts : goal.returns-in-Err-clause-counts
-returns-in-Err-clause-counts g c = steps.day_counts c.args.day.now c.in-Err.refusal (g.K.Keeper.failures c.args.keeper.now) c.in-Err.ensures.value
+pub returns-in_err-room : goal.returns-in_err-room
+returns-in_err-room g c =
+    let p = err_from_is_err_and c.from_residual-in_err-room.result c.from_residual-in_err-room.ensures.1 in
+    record {
+      served = rw (p.1, p.2) (refused_by g.K.Keeper c.args.keeper.now c.known_room.new.keeper c.in_err-room.field-0.0 (Ask c.args.room.now (AskSheet c.args.day.now)) c.in_err-room.ensures.read
+          (λ u o. steps.sheet_refused (g.K.Keeper.tables c.args.keeper.now) (g.K.Keeper.tables c.known_room.new.keeper) c.args.room.now c.args.day.now c.in_ok-day.day c.in_err-room.field-0.0 c.in_ok-day.ensures.value (c.known_room.ensures.read.same u o) (c.in_err-room.ensures.finds u (c.known_room.ensures.read.opens u o))));
+    }
 
-pub returns-in-Err-known_room-clause-step : goal.returns-in-Err-known_room-clause-step
-returns-in-Err-known_room-clause-step g c = λ k o.
-    steps.sheet_refused (g.K.Keeper.tables c.args.keeper.now) (g.K.Keeper.tables c.known_room.new.keeper) c.args.room.now c.args.day.now c.in-Ok.day c.in-Err-known_room.refusal c.in-Ok.ensures.value
-    (c.known_room.ensures.same k o) (c.in-Err-known_room.ensures.finds k (c.known_room.ensures.open k o))
+pub returns-in_err-rows : goal.returns-in_err-rows
+returns-in_err-rows g c =
+    let p = err_from_is_err_and c.from_residual-in_err-rows.result c.from_residual-in_err-rows.ensures.1 in
+    record { served = rw p.1 (read_then g.K.Keeper c.args.keeper.now c.known_room.new.keeper c.bookings.new.self c.in_ok-room.room (Ask c.args.room.now (AskSheet c.args.day.now)) _ c.in_ok-room.ensures.read (fails_all g.K.Keeper c.known_room.new.keeper c.bookings.new.self c.in_err-rows.field-0.0 p.0 p.2 c.bookings.ensures.clean c.bookings.ensures.open c.bookings.ensures.same c.in_err-rows.ensures.failures c.bookings.ensures.sure c.bookings.ensures.settled c.bookings.ensures.crash (Ask c.args.room.now (AskSheet c.args.day.now)))) }
 
-pub returns-in-Ok-bookings-clause-step : goal.returns-in-Ok-bookings-clause-step
-returns-in-Ok-bookings-clause-step g c = λ k o.
-    let clean : g.K.Keeper.is_clean c.known_room.new.keeper = c.bookings.ensures.clean k in
-    let opens : g.K.Keeper.is_open c.known_room.new.keeper = c.bookings.ensures.open k o in
-    let same : g.K.Keeper.tables c.known_room.new.keeper ≡ g.K.Keeper.tables c.args.keeper.now = c.known_room.ensures.same clean opens in
-    steps.sheet_step (g.K.Keeper.tables c.args.keeper.now) (g.K.Keeper.tables c.bookings.new.self) c.args.room.now c.in-Ok-known_room.room c.args.day.now c.in-Ok.day c.in-Ok-bookings.rows.items c.in-Ok.ensures.value
-    (c.bookings.ensures.same k o ∙ same) (c.in-Ok-known_room.ensures.finds clean (c.known_room.ensures.open clean opens))
-    (subst (λ t. AreBookings c.in-Ok-known_room.room (Some c.in-Ok.day) t c.in-Ok-bookings.rows.items) same (c.in-Ok-bookings.ensures.bookings k opens))
-
-pub returns-in-Ok-bookings-clause-settled : goal.returns-in-Ok-bookings-clause-settled
-returns-in-Ok-bookings-clause-settled g c = λ k o s.
-    c.bookings.ensures.settled k o (c.known_room.ensures.settled (c.bookings.ensures.clean k) (c.bookings.ensures.open k o) s)
-
-pub returns-in-Err-bookings-clause-step : goal.returns-in-Err-bookings-clause-step
-returns-in-Err-bookings-clause-step g c = λ k o.
-    steps.fault_step c.in-Err-bookings.fault c.refusal.result (g.K.Keeper.tables c.args.keeper.now) (g.K.Keeper.tables c.bookings.new.self) (Ask c.args.room.now (AskSheet c.args.day.now)) c.refusal.ensures
-    (c.bookings.ensures.same k o ∙ c.known_room.ensures.same (c.bookings.ensures.clean k) (c.bookings.ensures.open k o))
-
-pub returns-in-Err-bookings-clause-sure : goal.returns-in-Err-bookings-clause-sure
-returns-in-Err-bookings-clause-sure g c = λ never k o.
-    steps.none_fails (g.K.Keeper.tables c.args.keeper.now) (g.K.Keeper.tables c.known_room.new.keeper) (g.K.Keeper.failures c.args.keeper.now) (g.K.Keeper.failures c.known_room.new.keeper) (g.K.Keeper.failures c.bookings.new.self)
-    (c.known_room.ensures.same (c.bookings.ensures.clean k) (c.bookings.ensures.open k o)) c.in-Ok-known_room.ensures.failures (c.bookings.ensures.sure never)
-
-pub returns-in-Err-bookings-clause-lasts : goal.returns-in-Err-bookings-clause-lasts
-returns-in-Err-bookings-clause-lasts g c = λ k o. inl (steps.of_fault c.in-Err-bookings.fault c.refusal.result c.refusal.ensures)
-
-pub returns-in-Err-known_room-clause-crash : goal.returns-in-Err-known_room-clause-crash
-returns-in-Err-known_room-clause-crash g c = λ k o t left. inl (c.known_room.ensures.crash k o t left)
-
-pub returns-in-Ok-bookings-clause-crash : goal.returns-in-Ok-bookings-clause-crash
-returns-in-Ok-bookings-clause-crash g c = λ k o t left.
-    let clean : g.K.Keeper.is_clean c.known_room.new.keeper = c.bookings.ensures.clean k in
-    inl (c.known_room.ensures.crash clean o t (c.bookings.ensures.crash k (c.in-Ok-known_room.ensures.lasts clean o) t left))
-
-pub returns-in-Err-bookings-clause-crash : goal.returns-in-Err-bookings-clause-crash
-returns-in-Err-bookings-clause-crash g c = λ k o t left.
-    let clean : g.K.Keeper.is_clean c.known_room.new.keeper = c.bookings.ensures.clean k in
-    inl (c.known_room.ensures.crash clean o t (c.bookings.ensures.crash k (c.in-Ok-known_room.ensures.lasts clean o) t left))
+pub returns : goal.returns
+returns g c =
+    let same : g.K.Keeper.is_clean c.bookings.new.self → g.K.Keeper.is_open c.bookings.new.self → g.K.Keeper.tables c.known_room.new.keeper ≡ g.K.Keeper.tables c.args.keeper.now = λ u o. c.known_room.ensures.read.same (c.bookings.ensures.clean u) (c.bookings.ensures.open u o) in
+    record {
+      served = answered_by g.K.Keeper c.args.keeper.now c.bookings.new.self c.in_ok-rows.rows.items (Ask c.args.room.now (AskSheet c.args.day.now)) _ (read_both g.K.Keeper c.args.keeper.now c.known_room.new.keeper c.bookings.new.self c.in_ok-room.room c.in_ok-rows.rows.items c.in_ok-room.ensures.read (read_ok g.K.Keeper c.known_room.new.keeper c.bookings.new.self c.in_ok-rows.rows.items c.bookings.ensures.clean c.bookings.ensures.open c.in_ok-rows.ensures.lasts c.bookings.ensures.same c.in_ok-rows.ensures.failures c.bookings.ensures.settled c.bookings.ensures.crash))
+          (λ u o. steps.sheet_step (g.K.Keeper.tables c.args.keeper.now) (g.K.Keeper.tables c.bookings.new.self) c.args.room.now c.in_ok-room.room c.args.day.now c.in_ok-day.day c.in_ok-rows.rows.items c.in_ok-day.ensures.value
+          (c.bookings.ensures.same u o ∙ same u o) (c.in_ok-room.ensures.finds (c.bookings.ensures.clean u) (c.known_room.ensures.read.opens (c.bookings.ensures.clean u) (c.bookings.ensures.open u o)))
+          (subst (λ t. AreBookings c.in_ok-room.room (Some c.in_ok-day.day) t c.in_ok-rows.rows.items) (same u o) (c.in_ok-rows.ensures.bookings u (c.bookings.ensures.open u o))))
+          (λ told. cc told);
+    }

@@ -1,0 +1,177 @@
+-- Calls of a keeper that leave its tables, as one record, and commands that are served by them.
+use Rattle.std.proofs.Common.{◌≡◌, refl, sym, ap, subst, ◌∙◌, ℕ, ◌⊎◌, inl, inr, Ok, Err, le_refl, arith}
+use Rattle.mr_model.specs.Replica.{Replica}
+use Rattle.mr_model.specs.Replies.{Reply, Refused}
+use Rattle.mr_model.specs.Step.{Command, IsOfMachine, no_memory, refuse}
+use Rattle.mr_model.specs.Refusals as model
+use Rattle.mr_model.specs.Tables.{Tables, Stands}
+use Rattle.mr_model.specs.Serving.{TakesStep, Reaches}
+use Rattle.mr_base.specs.Refusals.{refusal_of}
+use Rattle.mr_base.specs.declared.refusals.Refusal.{Refusal}
+use Rattle.mr_base.specs.declared.refusals.Refusal.TheVariants as refusal
+use Rattle.mr_store.specs.Kept.{fault_refusal, failures_for, IsSettled}
+use Rattle.mr_store.specs.declared.keeper.Fault.{Fault}
+use Rattle.mr_store.specs.declared.keeper.Keeper.{Ghosts}
+use Rattle.mr_service.specs.Asking.{Counts, NoneFails, TellsRise}
+use Rattle.mr_service.specs.Served.{IsRead, IsServed}
+use Rattle.mr_service.specs.Turns.{Does}
+use Rattle.mr_service.proofs.DeskSteps.{of_fault, fault_counts, fault_rise, fault_step, word_step}
+
+-- ---- one call of the keeper
+
+-- a call that answered
+pub read_ok : {K X : Type 0} (k : Ghosts K) (old new : K) (x : X)
+    → (k.is_clean new → k.is_clean old)
+    → (k.is_clean new → k.is_open new → k.is_open old)
+    → (k.is_clean new → k.is_open old → k.is_open new)
+    → (k.is_clean new → k.is_open new → k.tables new ≡ k.tables old)
+    → k.failures new ≡ k.failures old
+    → (k.is_clean new → k.is_open new → IsSettled (k.may_leave old) (k.tables old) → IsSettled (k.may_leave new) (k.tables new))
+    → (k.is_clean new → k.is_open old → (t : Tables) → k.may_leave new t → k.may_leave old t)
+    → IsRead k old new (Ok x)
+read_ok k old new x clean opens lasts same failures settled crash =
+    record {
+      clean = clean;
+      opens = opens;
+      same = same;
+      failures = failures;
+      counts = tt;
+      rise = tt;
+      sure = λ s c o a h. failures;
+      lasts = lasts;
+      fails = λ c o. tt;
+      settled = settled;
+      crash = crash;
+    }
+
+-- a call that failed, and the refusal that tells of it
+pub read_err : {K X : Type 0} (k : Ghosts K) (old new : K) (e : Fault) (r : Refusal)
+    → r ≡ fault_refusal e
+    → (k.is_clean new → k.is_clean old)
+    → (k.is_clean new → k.is_open new → k.is_open old)
+    → (k.is_clean new → k.is_open new → k.tables new ≡ k.tables old)
+    → k.failures new ≡ failures_for e (k.failures old)
+    → (k.never_fails → (a : Replica) → Stands (k.tables old) a → k.failures new ≡ k.failures old)
+    → (k.is_clean new → k.is_open new → IsSettled (k.may_leave old) (k.tables old) → IsSettled (k.may_leave new) (k.tables new))
+    → (k.is_clean new → k.is_open old → (t : Tables) → k.may_leave new t → k.may_leave old t)
+    → IsRead {X = X} k old new (Err r)
+read_err k old new e r is clean opens same failures sure settled crash =
+    record {
+      clean = clean;
+      opens = opens;
+      same = same;
+      failures = tt;
+      counts = fault_counts e r (k.failures old) (k.failures old) (k.failures new) is refl failures;
+      rise = fault_rise e r (k.failures old) (k.failures old) (k.failures new) is refl failures;
+      sure = λ s c o. sure s;
+      lasts = λ c o. tt;
+      fails = λ c o. inl (of_fault e r is);
+      settled = settled;
+      crash = crash;
+    }
+
+-- ---- two calls
+
+-- two reads, one after the other
+pub read_both : {K X Y : Type 0} (k : Ghosts K) (a b z : K) (x : X) (y : Y) → IsRead k a b (Ok x) → IsRead k b z (Ok y) → IsRead k a z (Ok y)
+read_both k a b z x y first next =
+    read_ok k a z y
+    (λ u. first.clean (next.clean u))
+    (λ u o. first.opens (next.clean u) (next.opens u o))
+    (λ u o. next.lasts u (first.lasts (next.clean u) o))
+    (λ u o. next.same u o ∙ first.same (next.clean u) (next.opens u o))
+    (next.failures ∙ first.failures)
+    (λ u o before. next.settled u o (first.settled (next.clean u) (next.opens u o) before))
+    (λ u o t left. first.crash (next.clean u) o t (next.crash u (first.lasts (next.clean u) o) t left))
+
+none_fails : (t0 t1 : Tables) (n0 n1 n2 : ℕ) → t1 ≡ t0 → n1 ≡ n0 → NoneFails t1 n1 n2 → NoneFails t0 n0 n2
+none_fails t0 t1 n0 n1 n2 same first second = λ a h. second a (subst (λ x. Stands x a) (sym same) h) ∙ first
+
+-- a command that was served after the keeper was read
+pub read_then : {K X : Type 0} (k : Ghosts K) (a b z : K) (x : X) (c : Command) (reply : Reply) → IsRead k a b (Ok x) → IsServed k b z c reply → IsServed k a z c reply
+read_then k a b z x c reply first next =
+    record {
+      clean = λ u. first.clean (next.clean u);
+      opens = λ u o. first.opens (next.clean u) (next.opens u o);
+      step = λ u o. subst (λ t. TakesStep t c reply (k.tables z)) (first.same (next.clean u) (next.opens u o)) (next.step u o);
+      counts = subst (λ n. Counts reply n (k.failures z)) first.failures next.counts;
+      refused = λ u o e is. next.refused u o e is ∙ first.same (next.clean u) (next.opens u o);
+      rise = subst (λ n. TellsRise reply n (k.failures z)) first.failures next.rise;
+      sure = λ s u o. none_fails (k.tables a) (k.tables b) (k.failures a) (k.failures b) (k.failures z) (first.same (next.clean u) (next.opens u o)) first.failures (next.sure s u o);
+      lasts = λ u o. next.lasts u (first.lasts (next.clean u) o);
+      settled = λ u o before. next.settled u o (first.settled (next.clean u) (next.opens u o) before);
+      crash = λ u o t left. left_of (next.clean u) (first.lasts (next.clean u) o) o t (next.crash u (first.lasts (next.clean u) o) t left);
+    }
+  where
+    left_of : k.is_clean b → k.is_open b → k.is_open a → (t : Tables) → k.may_leave b t ⊎ Reaches (k.tables b) c t → k.may_leave a t ⊎ Reaches (k.tables a) c t
+    left_of u p o t (inl before) = inl (first.crash u o t before)
+    left_of u p o t (inr after) = inr (subst (λ v. Reaches v c t) (first.same u p) after)
+
+-- ---- commands that only read
+
+-- words that are refused before the keeper is read
+pub unread : {K : Type 0} (k : Ghosts K) (at : K) (c : Command) (e : Refusal) → TakesStep (k.tables at) c (Refused (refusal_of e)) (k.tables at) → ¬ (Refused (refusal_of e) ≡ Refused model.Store)
+    → IsServed k at at c (Refused (refusal_of e))
+unread k at c e step not_store =
+    record {
+      clean = λ u. u;
+      opens = λ u o. o;
+      step = λ u o. step;
+      counts = (le_refl (k.failures at), λ s. absurd (not_store s));
+      refused = λ u o x is. refl;
+      rise = inl refl;
+      sure = λ s u o a h. refl;
+      lasts = λ u o. inr o;
+      settled = λ u o before. before;
+      crash = λ u o t left. inl left;
+    }
+
+-- a command that is answered by what was read
+pub answered_by : {K X : Type 0} (k : Ghosts K) (old new : K) (x : X) (c : Command) (reply : Reply) → IsRead k old new (Ok x)
+    → (k.is_clean new → k.is_open new → TakesStep (k.tables old) c reply (k.tables new)) → ¬ (reply ≡ Refused model.Store)
+    → IsServed k old new c reply
+answered_by k old new x c reply read step not_store =
+    record {
+      clean = read.clean;
+      opens = read.opens;
+      step = step;
+      counts = (let same : k.failures new ≡ k.failures old = read.failures in omega arith, λ s. absurd (not_store s));
+      refused = λ u o e is. read.same u o;
+      rise = inl read.failures;
+      sure = read.sure;
+      lasts = λ u o. inr (read.lasts u o);
+      settled = read.settled;
+      crash = λ u o t left. inl (read.crash u o t left);
+    }
+
+-- a command that is refused because what was to be read is
+pub refused_by : {K X : Type 0} (k : Ghosts K) (old new : K) (e : Refusal) (c : Command) → IsRead {X = X} k old new (Err e)
+    → (k.is_clean new → k.is_open new → TakesStep (k.tables old) c (Refused (refusal_of e)) (k.tables new))
+    → IsServed k old new c (Refused (refusal_of e))
+refused_by k old new e c read step =
+    record {
+      clean = read.clean;
+      opens = read.opens;
+      step = step;
+      counts = read.counts;
+      refused = λ u o x is. read.same u o;
+      rise = read.rise;
+      sure = read.sure;
+      lasts = read.fails;
+      settled = read.settled;
+      crash = λ u o t left. inl (read.crash u o t left);
+    }
+
+-- a read that failed serves every command, by the refusal that tells of the failure
+pub fails_all : {K : Type 0} (k : Ghosts K) (old new : K) (e : Fault) (r : Refusal)
+    → r ≡ fault_refusal e
+    → (k.is_clean new → k.is_clean old)
+    → (k.is_clean new → k.is_open new → k.is_open old)
+    → (k.is_clean new → k.is_open new → k.tables new ≡ k.tables old)
+    → k.failures new ≡ failures_for e (k.failures old)
+    → (k.never_fails → (a : Replica) → Stands (k.tables old) a → k.failures new ≡ k.failures old)
+    → (k.is_clean new → k.is_open new → IsSettled (k.may_leave old) (k.tables old) → IsSettled (k.may_leave new) (k.tables new))
+    → (k.is_clean new → k.is_open old → (t : Tables) → k.may_leave new t → k.may_leave old t)
+    → (c : Command) → IsServed k old new c (Refused (refusal_of r))
+fails_all k old new e r is clean opens same failures sure settled crash c =
+    refused_by {X = ℕ} k old new r c (read_err k old new e r is clean opens same failures sure settled crash) (λ u o. fault_step e r (k.tables old) (k.tables new) c is (same u o))

@@ -1,0 +1,38 @@
+//! A command over a keeper: its desk is loaded, a call of the desk does the step, and what that changed is made in the tables.
+
+ghost use Rattle.std.specs.Fn.{FnOnceReturnsAt, FnOnceReturnsAtMut};
+ghost use Rattle.mr_replica.specs.Desk.{DeskView};
+ghost use Rattle.mr_service.specs.Asked.{reply_in};
+ghost use Rattle.mr_service.specs.Turns.{IsServedBy, Tells, TurnsBy};
+
+use crate::replies::Reply;
+use mr_base::Refusal;
+use mr_replica::Desk;
+use mr_tables::Change;
+use mr_store::Keeper;
+
+/// Serves a command by a call of the desk, which replies and tells the change that it made. The change is made in the tables last.
+pub(crate) fn change<K: Keeper, F: FnOnce(&mut Desk) -> Result<(Reply, Change), Refusal>>(
+    keeper: &mut K,
+    step: F,
+) -> Result<Reply, Refusal>
+    requires { F.IsAlwaysCallable step }
+    ensures { IsServedBy K.Keeper keeper.old keeper.new (λ desk answer. (after : DeskView) × FnOnceReturnsAtMut F.FnOnce step desk answer after) TurnsBy (reply_in result) }
+{
+    let mut desk = keeper.load()?;
+    let (reply, change) = step(&mut desk)?;
+    keeper.apply(&change)?;
+    Ok(reply)
+}
+
+/// Serves a command by a question to the desk, which changes nothing.
+pub(crate) fn look<K: Keeper, F: FnOnce(&Desk) -> Result<Reply, Refusal>>(
+    keeper: &mut K,
+    question: F,
+) -> Result<Reply, Refusal>
+    requires { F.IsAlwaysCallable question }
+    ensures { IsServedBy K.Keeper keeper.old keeper.new (λ desk answer. FnOnceReturnsAt F.FnOnce question desk answer) Tells (reply_in result) }
+{
+    let desk = keeper.load()?;
+    question(&desk)
+}
