@@ -8,8 +8,8 @@ ghost use Rattle.mr_service.specs.Turns.{IsServedBy, Tells, TurnsBy};
 use crate::replies::Reply;
 use mr_base::Refusal;
 use mr_replica::Desk;
-use mr_tables::Change;
 use mr_store::Keeper;
+use mr_tables::Change;
 
 /// Serves a command by a call of the desk, which replies and tells the change that it made. The change is made in the tables last.
 pub(crate) fn change<K: Keeper, F: FnOnce(&mut Desk) -> Result<(Reply, Change), Refusal>>(
