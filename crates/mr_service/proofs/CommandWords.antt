@@ -1,10 +1,10 @@
 -- Commands whose words are read first: what they do with words that are read, and how others are refused.
-use Rattle.std.proofs.Common.{◌≡◌, refl, sym, ap, ◌∙◌, Bool, true, false, List, [], ◌∷◌, Option, Some, None, ◌⊎◌, inl, inr, Ok, Err, arith}
+use Rattle.std.proofs.Common.{◌≡◌, refl, ap, ◌∙◌, Bool, true, false, List, [], ◌∷◌, Option, Some, None, ◌⊎◌, inl, inr, Ok, Err}
 use Rattle.std.specs.Prelude.{ok_or, ℕ}
 use Rattle.mr_model.specs.Replica.{Replica}
 use Rattle.mr_model.specs.Texts.{Text}
 use Rattle.mr_model.specs.Writes.{is_room_name}
-use Rattle.mr_model.specs.Replies.{Reply, Refused}
+use Rattle.mr_model.specs.Replies.{Refused}
 use Rattle.mr_model.specs.Exchange.{Batch, read_batch}
 use Rattle.mr_model.specs.Positions.{Position, read_position}
 use Rattle.mr_model.specs.Refusals as model

@@ -1,20 +1,13 @@
 -- Failures of a keeper, and words that are refused, as steps that leave the tables.
-use Rattle.std.proofs.Common.{◌≡◌, refl, sym, ap, subst, ◌∙◌, ℕ, ◌⊎◌, inl, inr, Result, Ok, Err, arith}
-use Rattle.mr_model.specs.Replica.{Replica, IsReplica}
-use Rattle.mr_model.specs.Replies.{Reply, Refused}
-use Rattle.mr_model.specs.Step.{Command, After, step, IsStep, IsOfMachine, no_memory, no_store, refuse}
+use Rattle.std.proofs.Common.{◌≡◌, refl, sym, ap, subst, ◌∙◌, ℕ, ◌⊎◌, inl, inr, arith}
+use Rattle.mr_model.specs.Replies.{Refused}
+use Rattle.mr_model.specs.Step.{Command, IsOfMachine, no_memory, no_store, refuse}
 use Rattle.mr_model.specs.Refusals as model
 use Rattle.mr_model.specs.Tables.{Tables, Stands}
-use Rattle.mr_model.specs.Serving.{TakesStep, Reaches}
-use Rattle.mr_model.proofs.StepsKeep.{step_keeps}
+use Rattle.mr_model.specs.Serving.{TakesStep}
 use Rattle.mr_base.specs.Refusals.{refusal_of}
 use Rattle.mr_base.specs.declared.refusals.Refusal.{Refusal}
 use Rattle.mr_base.specs.declared.refusals.Refusal.TheVariants as refusal
-use Rattle.mr_tables.specs.Change.{ChangeView, changed}
-use Rattle.mr_replica.specs.Desk as desk
-use Rattle.mr_replica.specs.DeskTables.{desk_tables}
-use Rattle.mr_replica.specs.Turning.{TurnsTables}
-use Rattle.mr_replica.proofs.DeskRows.{desk_tables-of}
 use Rattle.mr_store.specs.Kept.{fault_refusal, failures_for}
 use Rattle.mr_service.specs.Asking.{Counts, TellsRise}
 pub use Rattle.mr_service.specs.Turns.{Does}

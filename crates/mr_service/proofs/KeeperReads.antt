@@ -1,21 +1,19 @@
 -- Calls of a keeper that leave its tables, as one record, and commands that are served by them.
-use Rattle.std.proofs.Common.{◌≡◌, refl, sym, ap, subst, ◌∙◌, ℕ, ◌⊎◌, inl, inr, Ok, Err, le_refl, arith}
+use Rattle.std.proofs.Common.{◌≡◌, refl, sym, subst, ◌∙◌, ℕ, ◌⊎◌, inl, inr, Ok, Err, le_refl, arith}
 use Rattle.mr_model.specs.Replica.{Replica}
 use Rattle.mr_model.specs.Replies.{Reply, Refused}
-use Rattle.mr_model.specs.Step.{Command, IsOfMachine, no_memory, refuse}
+use Rattle.mr_model.specs.Step.{Command}
 use Rattle.mr_model.specs.Refusals as model
 use Rattle.mr_model.specs.Tables.{Tables, Stands}
 use Rattle.mr_model.specs.Serving.{TakesStep, Reaches}
 use Rattle.mr_base.specs.Refusals.{refusal_of}
 use Rattle.mr_base.specs.declared.refusals.Refusal.{Refusal}
-use Rattle.mr_base.specs.declared.refusals.Refusal.TheVariants as refusal
 use Rattle.mr_store.specs.Kept.{fault_refusal, failures_for, IsSettled}
 use Rattle.mr_store.specs.declared.keeper.Fault.{Fault}
 use Rattle.mr_store.specs.declared.keeper.Keeper.{Ghosts}
 use Rattle.mr_service.specs.Asking.{Counts, NoneFails, TellsRise}
 use Rattle.mr_service.specs.Served.{IsRead, IsServed}
-use Rattle.mr_service.specs.Turns.{Does}
-use Rattle.mr_service.proofs.DeskSteps.{of_fault, fault_counts, fault_rise, fault_step, word_step}
+use Rattle.mr_service.proofs.DeskSteps.{of_fault, fault_counts, fault_rise, fault_step}
 
 -- ---- one call of the keeper
 

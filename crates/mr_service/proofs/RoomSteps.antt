@@ -1,5 +1,5 @@
 -- From what a question reads of a keeper to its step, for every replica that the keeper's tables stand for.
-use Rattle.std.proofs.Common.{◌≡◌, refl, sym, ap, ◌∙◌, subst, ℕ, Bool, true, false, not, cond, ◌&&◌, List, [], ◌∷◌, map, ◌⊎◌, inl, inr, Option, Some, None, Result, Ok, Err, le_refl}
+use Rattle.std.proofs.Common.{◌≡◌, refl, sym, ap, ◌∙◌, subst, Bool, true, false, not, cond, ◌&&◌, List, [], ◌∷◌, map, ◌⊎◌, inl, inr, Option, Some, None, Result, Ok, Err}
 use Rattle.std.proofs.lemmas.List.Sorted.{IsPermutation-trans, list_any-IsPermutation}
 use Rattle.std.specs.Prelude.{is_none, ok_or}
 use Rattle.std.specs.List.{filter_map, list_any}
@@ -23,7 +23,6 @@ use Rattle.mr_base.specs.declared.refusals.Refusal.{Refusal}
 use Rattle.mr_base.specs.declared.refusals.Refusal.TheVariants as refusal
 use Rattle.mr_store.specs.Picked.{picked_errors, AreBookings, IsPlaceOf}
 use Rattle.mr_store.specs.declared.keeper.PlaceRow.{PlaceRow}
-use Rattle.mr_service.specs.Asking.{NoneFails, Counts}
 use Rattle.mr_service.specs.Questions.{room_fault, Finds, rows_of_part, place_outcome, log_key, log_key_cmp}
 pub use Rattle.mr_service.proofs.DeskSteps.{of_fault, fault_step}
 use Rattle.mr_service.proofs.RoomRows.{calendar_rows, committed_rows, sheet_rows}

@@ -4,7 +4,7 @@ use Rattle.mr_model.specs.Tables.{Stands}
 use Rattle.mr_service.specs.Asked.{reply_of}
 use Rattle.mr_service.specs.Turns.{TurnsBy}
 use Rattle.mr_service.proofs.KeeperReads.{read_ok, read_then, fails_all}
-use Rattle.mr_service.proofs.KeeperChanges.{IsDeskOf, refused_call, applied, apply_failed}
+use Rattle.mr_service.proofs.KeeperChanges.{refused_call, applied, apply_failed}
 use Rattle.mr_service.proofs.change.change.Goals as goal
 
 pub returns-in_err-desk : goal.returns-in_err-desk

@@ -2,7 +2,6 @@ use Rattle.std.proofs.Common.{rules, refl}
 use Rattle.mr_model.specs.Positions.{position_of}
 use Rattle.mr_model.specs.Replies.{PositionIs}
 use Rattle.mr_model.specs.Step.{AskPosition, leave}
-use Rattle.mr_service.specs.Turns.{Tells}
 use Rattle.mr_service.proofs.KeeperChanges.{served_by}
 use Rattle.mr_service.proofs.changing.position.Goals as goal
 

@@ -1,9 +1,8 @@
-use Rattle.std.proofs.Common.{rules, refl}
+use Rattle.std.proofs.Common.{rules}
 use Rattle.std.proofs.lemmas.Result.{err_from_is_err_and}
 use Rattle.mr_model.specs.Step.{Submit}
 use Rattle.mr_replica.specs.Steps.{submit_request}
 use Rattle.mr_service.specs.Asked.{submission_of}
-use Rattle.mr_service.specs.Turns.{TurnsBy}
 use Rattle.mr_service.proofs.KeeperChanges.{served_by}
 use Rattle.mr_service.proofs.KeeperReads.{unread}
 use Rattle.mr_service.proofs.DeskSteps.{word_step}

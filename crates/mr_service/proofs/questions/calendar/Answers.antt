@@ -4,7 +4,7 @@ use Rattle.mr_model.specs.Step.{Ask}
 use Rattle.mr_model.specs.View.{AskCalendar}
 use Rattle.mr_store.specs.Picked.{AreBookings}
 use Rattle.mr_service.specs.Asked.{part_of}
-use Rattle.mr_service.proofs.KeeperReads.{read_ok, read_then, read_both, fails_all, refused_by, answered_by, unread}
+use Rattle.mr_service.proofs.KeeperReads.{read_ok, read_then, read_both, fails_all, refused_by, answered_by}
 use Rattle.mr_service.proofs.RoomSteps as steps
 use Rattle.mr_service.proofs.questions.calendar.Goals as goal
 

@@ -1,4 +1,4 @@
-use Rattle.std.proofs.Common.{sym, ap, subst, ◌∙◌, ◌⊎◌}
+use Rattle.std.proofs.Common.{sym, ap, subst, ◌∙◌}
 use Rattle.std.specs.String.{string_bytes}
 use Rattle.mr_model.specs.View.{AskSheet, AskCalendar, AskOutcome, AskErrors}
 use Rattle.mr_model.specs.Step.{Command, AddRoom, BatchFor, Ask}

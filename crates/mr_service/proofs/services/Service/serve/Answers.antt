@@ -1,7 +1,7 @@
 use Rattle.std.proofs.Common.{sym, ap, subst, ◌∙◌}
 use Rattle.mr_model.specs.Step.{Command, Receive}
 use Rattle.mr_model.specs.Replies.{Reply}
-use Rattle.mr_service.specs.Asked.{command_of, local_of, reply_in, reply_of}
+use Rattle.mr_service.specs.Asked.{command_of, local_of, reply_of}
 use Rattle.mr_service.specs.Served.{IsServed}
 use Rattle.mr_service.proofs.services.Service.serve.Goals as goal
 
