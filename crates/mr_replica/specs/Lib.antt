@@ -1,6 +1,5 @@
--- A reader of the contracts trusts Log, Summary, Desk, Steps, Rooms, Candidate, Change, Rows, DeskTables, Turning, Written,
--- ChangeLaws, KeptRows, SoundRows and SoundLog. The others, Outgoing, Choices, Tallied, Boards and OldErrors, serve private
--- clauses and proofs alone.
+-- A reader of the contracts trusts Log, Desk, Steps, Candidate, DeskTables, Turning, ChangeLaws, KeptRows, SoundLog, Parts and
+-- ScopeOf. The others, Outgoing, PickedLogs, PickedBookings and PickedUndo, serve private clauses and proofs alone.
 pub mod Log
 pub mod Desk
 pub mod Steps

@@ -1,5 +1,5 @@
--- A reader of the contracts trusts Asked, Asking, Stepping and Worlds. The others, Questions, Requests and Running, serve
--- private clauses and proofs alone.
+-- A reader of the contracts trusts Asked, Asking, Served, Stepping and Worlds. The others, Questions, Requests, Running and
+-- Turns, serve private clauses and proofs alone.
 pub mod Asked
 pub mod Asking
 pub mod Questions

@@ -1,3 +1,4 @@
+-- A reader of the contracts trusts all of these but Choices, which serves private clauses and proofs alone.
 pub mod Summary
 pub mod Rooms
 pub mod Change
