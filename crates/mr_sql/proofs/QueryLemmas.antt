@@ -99,6 +99,10 @@ told_two (Err e) P Q R way h k = tt
 pub reads_so : {X : Type 0} (old new : State) (r : Result X Error) (P Q : X → Type 0) → (IsKept old → (x : X) → P x → Q x) → Reads old new r P → Reads old new r Q
 reads_so old new r P Q way h = (h.0, h.1, λ clean kept. let told = h.2 clean kept in (told.0, told_so r P Q (way kept) told.1))
 
+-- a disk that is clean after a call was clean before it
+pub clean_before : {old new : State} {P : Trees → Type 0} → Survives old new P → HasCleanDisk new → HasCleanDisk old
+clean_before s clean = let less = s.clean in omega (arith, less, clean)
+
 -- what is made of the answer
 pub reads_made : {X Y : Type 0} (old new : State) (x : X) (P : X → Type 0) (r : Result Y Error) (Q : Y → Type 0) → (IsKept old → P x → IfOk r Q) → Reads old new (Ok x) P → Reads old new r Q
 reads_made old new x P (Ok y) Q way h = (h.0, h.1, λ clean kept. let told = h.2 clean kept in (told.0, way kept told.1))
