@@ -26,6 +26,7 @@ class Served:
     """A process that serves a database. Its lines go to a file, so that it never waits for somebody who reads them."""
 
     def __init__(self, program, database, lines, connections=999999999):
+        self.lines = lines
         for _ in range(20):
             self.port = random.SystemRandom().randint(20000, 32000)
             with open(lines, 'wb') as out:
@@ -64,6 +65,17 @@ class Served:
                 if not piece:
                     return reply
                 reply += piece
+
+    def statuses(self, wanted):
+        """The lines of the connections, once there are so many: a line is printed after the reply is sent."""
+        told = []
+        for _ in range(1500):
+            with open(self.lines, 'rb') as printed:
+                told = printed.read().split(b'\n')[1:-1]
+            if len(told) >= wanted:
+                break
+            time.sleep(0.02)
+        return told
 
     def end(self):
         """The process is killed, as a power cut would."""
