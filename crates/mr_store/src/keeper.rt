@@ -1,14 +1,16 @@
-ghost use Rattle.std.specs.Prelude.{◌≡◌, ◌<◌, ◌⊎◌, ℕ, IfOk, OnOk, OnErr};
+ghost use Rattle.std.specs.Prelude.{◌≡◌, ◌<◌, ℕ, IfOk};
 ghost use Rattle.std.specs.List.Sorted.{IsPermutation};
 ghost use Rattle.mr_model.specs.Replica.{Replica};
 ghost use Rattle.mr_model.specs.Tables.{Tables, Stands};
-ghost use Rattle.mr_tables.specs.Change.{changed};
+ghost use Rattle.mr_tables.specs.Summary.{IsWithin};
 ghost use Rattle.mr_replica.specs.Desk.{StandsFor, IsWithinLimits};
-ghost use Rattle.mr_store.specs.Kept.{failures_after, failures_for, IsSettled};
+ghost use Rattle.mr_replica.specs.Parts.{IsPartOf};
+ghost use Rattle.mr_replica.specs.ScopeOf.{scope_of};
+ghost use Rattle.mr_store.specs.Kept.{failures_for, IsAtomic, IsQuiet};
 ghost use Rattle.mr_store.specs.Picked.{picked_errors, AreBookings, IsPlaceOf};
 
 use mr_base::{Day, Refusal, RoomName, WriteId};
-use mr_replica::Desk;
+use mr_replica::{Desk, Part, Scope};
 use mr_tables::{BookingRow, Change, ErrorRow};
 
 /// Why a keeper answers nothing.
@@ -76,74 +78,37 @@ pub trait Keeper {
 
     /// The desk with these tables.
     fn load(&mut self) -> Result<Desk, Fault>
-        ensures clean { is_clean self.new → is_clean self.old }
-        ensures open { is_clean self.new → is_open self.new → is_open self.old }
-        ensures lasts { is_clean self.new → is_open self.old → OnOk result (is_open self.new) }
+        ensures quiet { IsQuiet tables failures is_clean is_open may_leave never_fails self.old self.new result }
         ensures loaded { is_clean self.new → is_open self.old → (a : Replica) → Stands (tables self.old) a → IfOk result (λ desk. StandsFor desk a) }
-        ensures within { IfOk result IsWithinLimits }
-        ensures same { is_clean self.new → is_open self.new → tables self.new ≡ tables self.old }
-        ensures failures { failures self.new ≡ failures_after result (failures self.old) }
-        ensures sure { never_fails → (a : Replica) → Stands (tables self.old) a → failures self.new ≡ failures self.old }
-        ensures crash { is_clean self.new → is_open self.old → (t : Tables) → may_leave self.new t → may_leave self.old t }
-        ensures settled { is_clean self.new → is_open self.new → IsSettled (may_leave self.old) (tables self.old) → IsSettled (may_leave self.new) (tables self.new) };
+        ensures within { IfOk result IsWithinLimits };
+
+    /// The part of the tables that a command of this scope needs.
+    fn load_part(&mut self, scope: &Scope<'_>) -> Result<Part, Fault>
+        ensures quiet { IsQuiet tables failures is_clean is_open may_leave never_fails self.old self.new result }
+        ensures loaded { is_clean self.new → is_open self.old → (a : Replica) → Stands (tables self.old) a → IfOk result (λ part. IsPartOf part (scope_of scope.now) a) }
+        ensures within { IfOk result (λ part. IsWithin part.summary) };
 
     /// The known rooms, in any order.
     fn rooms(&mut self) -> Result<Vec<RoomName>, Fault>
-        ensures clean { is_clean self.new → is_clean self.old }
-        ensures open { is_clean self.new → is_open self.new → is_open self.old }
-        ensures lasts { is_clean self.new → is_open self.old → OnOk result (is_open self.new) }
-        ensures rooms { is_clean self.new → is_open self.old → IfOk result (λ rooms. IsPermutation (tables self.old).room rooms.items) }
-        ensures same { is_clean self.new → is_open self.new → tables self.new ≡ tables self.old }
-        ensures failures { failures self.new ≡ failures_after result (failures self.old) }
-        ensures sure { never_fails → (a : Replica) → Stands (tables self.old) a → failures self.new ≡ failures self.old }
-        ensures crash { is_clean self.new → is_open self.old → (t : Tables) → may_leave self.new t → may_leave self.old t }
-        ensures settled { is_clean self.new → is_open self.new → IsSettled (may_leave self.old) (tables self.old) → IsSettled (may_leave self.new) (tables self.new) };
+        ensures quiet { IsQuiet tables failures is_clean is_open may_leave never_fails self.old self.new result }
+        ensures rooms { is_clean self.new → is_open self.old → IfOk result (λ rooms. IsPermutation (tables self.old).room rooms.items) };
 
     /// The bookings of a room, of a day or of all days, by day, start, server and count.
     fn bookings(&mut self, room: &RoomName, day: Option<Day>) -> Result<Vec<BookingRow>, Fault>
-        ensures clean { is_clean self.new → is_clean self.old }
-        ensures open { is_clean self.new → is_open self.new → is_open self.old }
-        ensures lasts { is_clean self.new → is_open self.old → OnOk result (is_open self.new) }
-        ensures bookings { is_clean self.new → is_open self.old → IfOk result (λ rows. AreBookings room.now day (tables self.old) rows.items) }
-        ensures same { is_clean self.new → is_open self.new → tables self.new ≡ tables self.old }
-        ensures failures { failures self.new ≡ failures_after result (failures self.old) }
-        ensures sure { never_fails → (a : Replica) → Stands (tables self.old) a → failures self.new ≡ failures self.old }
-        ensures crash { is_clean self.new → is_open self.old → (t : Tables) → may_leave self.new t → may_leave self.old t }
-        ensures settled { is_clean self.new → is_open self.new → IsSettled (may_leave self.old) (tables self.old) → IsSettled (may_leave self.new) (tables self.new) };
+        ensures quiet { IsQuiet tables failures is_clean is_open may_leave never_fails self.old self.new result }
+        ensures bookings { is_clean self.new → is_open self.old → IfOk result (λ rows. AreBookings room.now day (tables self.old) rows.items) };
 
     /// The row of the request with this id, where it is of that room.
     fn place_of(&mut self, room: &RoomName, id: WriteId) -> Result<Option<PlaceRow>, Fault>
-        ensures clean { is_clean self.new → is_clean self.old }
-        ensures open { is_clean self.new → is_open self.new → is_open self.old }
-        ensures lasts { is_clean self.new → is_open self.old → OnOk result (is_open self.new) }
-        ensures place { is_clean self.new → is_open self.old → IfOk result (λ row. IsPlaceOf room.now id (tables self.old) row) }
-        ensures same { is_clean self.new → is_open self.new → tables self.new ≡ tables self.old }
-        ensures failures { failures self.new ≡ failures_after result (failures self.old) }
-        ensures sure { never_fails → (a : Replica) → Stands (tables self.old) a → failures self.new ≡ failures self.old }
-        ensures crash { is_clean self.new → is_open self.old → (t : Tables) → may_leave self.new t → may_leave self.old t }
-        ensures settled { is_clean self.new → is_open self.new → IsSettled (may_leave self.old) (tables self.old) → IsSettled (may_leave self.new) (tables self.new) };
+        ensures quiet { IsQuiet tables failures is_clean is_open may_leave never_fails self.old self.new result }
+        ensures place { is_clean self.new → is_open self.old → IfOk result (λ row. IsPlaceOf room.now id (tables self.old) row) };
 
     /// The error log's rows of a room, in any order.
     fn errors(&mut self, room: &RoomName) -> Result<Vec<ErrorRow>, Fault>
-        ensures clean { is_clean self.new → is_clean self.old }
-        ensures open { is_clean self.new → is_open self.new → is_open self.old }
-        ensures lasts { is_clean self.new → is_open self.old → OnOk result (is_open self.new) }
-        ensures errors { is_clean self.new → is_open self.old → IfOk result (λ rows. IsPermutation (picked_errors room.now (tables self.old)) rows.items) }
-        ensures same { is_clean self.new → is_open self.new → tables self.new ≡ tables self.old }
-        ensures failures { failures self.new ≡ failures_after result (failures self.old) }
-        ensures sure { never_fails → (a : Replica) → Stands (tables self.old) a → failures self.new ≡ failures self.old }
-        ensures crash { is_clean self.new → is_open self.old → (t : Tables) → may_leave self.new t → may_leave self.old t }
-        ensures settled { is_clean self.new → is_open self.new → IsSettled (may_leave self.old) (tables self.old) → IsSettled (may_leave self.new) (tables self.new) };
+        ensures quiet { IsQuiet tables failures is_clean is_open may_leave never_fails self.old self.new result }
+        ensures errors { is_clean self.new → is_open self.old → IfOk result (λ rows. IsPermutation (picked_errors room.now (tables self.old)) rows.items) };
 
     /// Makes the whole change, or nothing.
     fn apply(&mut self, change: &Change) -> Result<(), Fault>
-        ensures clean { is_clean self.new → is_clean self.old }
-        ensures open { is_clean self.new → is_open self.new → is_open self.old }
-        ensures lasts { is_clean self.new → is_open self.old → OnOk result (is_open self.new) }
-        ensures applied { is_clean self.new → is_open self.new → OnOk result (tables self.new ≡ changed change.now (tables self.old)) }
-        ensures refused { is_clean self.new → is_open self.new → OnErr result (tables self.new ≡ tables self.old) }
-        ensures failures { failures self.new ≡ failures_after result (failures self.old) }
-        ensures sure { never_fails → (a : Replica) → Stands (tables self.old) a → failures self.new ≡ failures self.old }
-        ensures crash { is_clean self.new → is_open self.old → (t : Tables) → may_leave self.new t → may_leave self.old t ⊎ (t ≡ changed change.now (tables self.old)) }
-        ensures settled { is_clean self.new → is_open self.new → IsSettled (may_leave self.old) (tables self.old) → IsSettled (may_leave self.new) (tables self.new) };
+        ensures atomic { IsAtomic tables failures is_clean is_open may_leave never_fails change.now self.old self.new result };
 }

@@ -8,7 +8,7 @@ use crate::queries::{bookings_of, errors_of, place_of};
 use crate::rows::{changed_rows, copies_of, grown_rows};
 use crate::{Fault, Keeper, PlaceRow};
 use mr_base::{Day, Refusal, RoomName, ServerId, WriteId};
-use mr_replica::Desk;
+use mr_replica::{Desk, Part, Scope};
 use mr_tables::{BookingRow, Change, ErrorRow, MetaRow, Tables};
 use std::alloc::{AllocError, Global};
 use std::marker::Model;
@@ -121,6 +121,13 @@ impl Keeper for ListKeeper {
     fn load(&mut self) -> Result<Desk, Fault> {
         match Desk::from_tables(self.alloc, &self.tables) {
             Ok(desk) => Ok(desk),
+            Err(refusal) => Err(fault_of(refusal, &mut self.failures)),
+        }
+    }
+
+    fn load_part(&mut self, scope: &Scope<'_>) -> Result<Part, Fault> {
+        match Part::from_tables(self.alloc, scope, &self.tables) {
+            Ok(part) => Ok(part),
             Err(refusal) => Err(fault_of(refusal, &mut self.failures)),
         }
     }

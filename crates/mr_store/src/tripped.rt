@@ -3,7 +3,7 @@ ghost use Rattle.mr_store.specs.Kept.{failures_for};
 
 use crate::{Fault, Keeper, PlaceRow};
 use mr_base::{Day, RoomName, WriteId};
-use mr_replica::Desk;
+use mr_replica::{Desk, Part, Scope};
 use mr_tables::{BookingRow, Change, ErrorRow};
 
 /// A keeper for tests, which fails once: it passes `left` calls on, answers the fault to the next one without passing it on,
@@ -64,6 +64,13 @@ impl<K: Keeper> Keeper for Tripped<K> {
             return Err(self.fault);
         }
         self.keeper.load()
+    }
+
+    fn load_part(&mut self, scope: &Scope<'_>) -> Result<Part, Fault> {
+        if self.trips() {
+            return Err(self.fault);
+        }
+        self.keeper.load_part(scope)
     }
 
     fn rooms(&mut self) -> Result<Vec<RoomName>, Fault> {

@@ -1,0 +1,13 @@
+use Rattle.std.proofs.Common.{subst, IfOk}
+use Rattle.mr_model.specs.Replica.{Replica}
+use Rattle.mr_model.specs.Tables.{Stands}
+use Rattle.mr_replica.specs.Parts.{IsPartOf}
+use Rattle.mr_replica.specs.ScopeOf.{scope_of}
+use Rattle.mr_store.proofs.tripped.TrippedKeeper.load_part.Goals as goal
+
+pub returns-clause-loaded : goal.returns-clause-loaded
+returns-clause-loaded g c = λ clean.
+    subst
+    (λ k. g.K.Keeper.is_open k → (a : Replica) → Stands (g.K.Keeper.tables k) a → IfOk c.load_part.result (λ part. IsPartOf part (scope_of c.args.scope.now) a))
+    c.trips.ensures.same.0
+    (c.load_part.ensures.loaded clean)
