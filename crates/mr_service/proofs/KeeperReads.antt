@@ -1,6 +1,5 @@
 -- Calls of a keeper that leave its tables, as one record, and commands that are served by them.
-use Rattle.std.proofs.Common.{◌≡◌, refl, sym, subst, ◌∙◌, ℕ, ◌⊎◌, inl, inr, Ok, Err, le_refl, arith}
-use Rattle.mr_model.specs.Replica.{Replica}
+use Rattle.std.proofs.Common.{◌≡◌, refl, sym, subst, ◌∙◌, ℕ, ◌⊎◌, inl, inr, Result, Ok, Err, le_refl, arith}
 use Rattle.mr_model.specs.Replies.{Reply, Refused}
 use Rattle.mr_model.specs.Step.{Command}
 use Rattle.mr_model.specs.Refusals as model
@@ -8,7 +7,7 @@ use Rattle.mr_model.specs.Tables.{Tables, Stands}
 use Rattle.mr_model.specs.Serving.{TakesStep, Reaches}
 use Rattle.mr_base.specs.Refusals.{refusal_of}
 use Rattle.mr_base.specs.declared.refusals.Refusal.{Refusal}
-use Rattle.mr_store.specs.Kept.{fault_refusal, failures_for, IsSettled}
+use Rattle.mr_store.specs.Kept.{fault_refusal, IsQuiet}
 use Rattle.mr_store.specs.declared.keeper.Fault.{Fault}
 use Rattle.mr_store.specs.declared.keeper.Keeper.{Ghosts}
 use Rattle.mr_service.specs.Asking.{Counts, NoneFails, TellsRise}
@@ -17,55 +16,42 @@ use Rattle.mr_service.proofs.DeskSteps.{of_fault, fault_counts, fault_rise, faul
 
 -- ---- one call of the keeper
 
+-- a call of this keeper that leaves its tables
+abbrev pub Quiet : {K X : Type 0} → Ghosts K → K → K → Result X Fault → Type 0
+Quiet k old new result = IsQuiet k.tables k.failures k.is_clean k.is_open k.may_leave k.never_fails old new result
+
 -- a call that answered
-pub read_ok : {K X : Type 0} (k : Ghosts K) (old new : K) (x : X)
-    → (k.is_clean new → k.is_clean old)
-    → (k.is_clean new → k.is_open new → k.is_open old)
-    → (k.is_clean new → k.is_open old → k.is_open new)
-    → (k.is_clean new → k.is_open new → k.tables new ≡ k.tables old)
-    → k.failures new ≡ k.failures old
-    → (k.is_clean new → k.is_open new → IsSettled (k.may_leave old) (k.tables old) → IsSettled (k.may_leave new) (k.tables new))
-    → (k.is_clean new → k.is_open old → (t : Tables) → k.may_leave new t → k.may_leave old t)
-    → IsRead k old new (Ok x)
-read_ok k old new x clean opens lasts same failures settled crash =
+pub read_ok : {K X Y : Type 0} (k : Ghosts K) (old new : K) (x : X) (y : Y) → Quiet k old new (Ok y) → IsRead k old new (Ok x)
+read_ok k old new x y quiet =
     record {
-      clean = clean;
-      opens = opens;
-      same = same;
-      failures = failures;
+      clean = quiet.clean;
+      opens = quiet.opens;
+      same = quiet.same;
+      failures = quiet.counts;
       counts = tt;
       rise = tt;
-      sure = λ s c o a h. failures;
-      lasts = lasts;
+      sure = λ s c o a h. quiet.counts;
+      lasts = quiet.lasts;
       fails = λ c o. tt;
-      settled = settled;
-      crash = crash;
+      settled = quiet.settled;
+      crash = quiet.crash;
     }
 
 -- a call that failed, and the refusal that tells of it
-pub read_err : {K X : Type 0} (k : Ghosts K) (old new : K) (e : Fault) (r : Refusal)
-    → r ≡ fault_refusal e
-    → (k.is_clean new → k.is_clean old)
-    → (k.is_clean new → k.is_open new → k.is_open old)
-    → (k.is_clean new → k.is_open new → k.tables new ≡ k.tables old)
-    → k.failures new ≡ failures_for e (k.failures old)
-    → (k.never_fails → (a : Replica) → Stands (k.tables old) a → k.failures new ≡ k.failures old)
-    → (k.is_clean new → k.is_open new → IsSettled (k.may_leave old) (k.tables old) → IsSettled (k.may_leave new) (k.tables new))
-    → (k.is_clean new → k.is_open old → (t : Tables) → k.may_leave new t → k.may_leave old t)
-    → IsRead {X = X} k old new (Err r)
-read_err k old new e r is clean opens same failures sure settled crash =
+pub read_err : {K X Y : Type 0} (k : Ghosts K) (old new : K) (e : Fault) (r : Refusal) → r ≡ fault_refusal e → Quiet {X = Y} k old new (Err e) → IsRead {X = X} k old new (Err r)
+read_err k old new e r is quiet =
     record {
-      clean = clean;
-      opens = opens;
-      same = same;
+      clean = quiet.clean;
+      opens = quiet.opens;
+      same = quiet.same;
       failures = tt;
-      counts = fault_counts e r (k.failures old) (k.failures old) (k.failures new) is refl failures;
-      rise = fault_rise e r (k.failures old) (k.failures old) (k.failures new) is refl failures;
-      sure = λ s c o. sure s;
+      counts = fault_counts e r (k.failures old) (k.failures old) (k.failures new) is refl quiet.counts;
+      rise = fault_rise e r (k.failures old) (k.failures old) (k.failures new) is refl quiet.counts;
+      sure = λ s c o. quiet.sure s;
       lasts = λ c o. tt;
       fails = λ c o. inl (of_fault e r is);
-      settled = settled;
-      crash = crash;
+      settled = quiet.settled;
+      crash = quiet.crash;
     }
 
 -- ---- two calls
@@ -73,14 +59,19 @@ read_err k old new e r is clean opens same failures sure settled crash =
 -- two reads, one after the other
 pub read_both : {K X Y : Type 0} (k : Ghosts K) (a b z : K) (x : X) (y : Y) → IsRead k a b (Ok x) → IsRead k b z (Ok y) → IsRead k a z (Ok y)
 read_both k a b z x y first next =
-    read_ok k a z y
-    (λ u. first.clean (next.clean u))
-    (λ u o. first.opens (next.clean u) (next.opens u o))
-    (λ u o. next.lasts u (first.lasts (next.clean u) o))
-    (λ u o. next.same u o ∙ first.same (next.clean u) (next.opens u o))
-    (next.failures ∙ first.failures)
-    (λ u o before. next.settled u o (first.settled (next.clean u) (next.opens u o) before))
-    (λ u o t left. first.crash (next.clean u) o t (next.crash u (first.lasts (next.clean u) o) t left))
+    record {
+      clean = λ u. first.clean (next.clean u);
+      opens = λ u o. first.opens (next.clean u) (next.opens u o);
+      same = λ u o. next.same u o ∙ first.same (next.clean u) (next.opens u o);
+      failures = next.failures ∙ first.failures;
+      counts = tt;
+      rise = tt;
+      sure = λ s u o a h. next.failures ∙ first.failures;
+      lasts = λ u o. next.lasts u (first.lasts (next.clean u) o);
+      fails = λ u o. tt;
+      settled = λ u o before. next.settled u o (first.settled (next.clean u) (next.opens u o) before);
+      crash = λ u o t left. first.crash (next.clean u) o t (next.crash u (first.lasts (next.clean u) o) t left);
+    }
 
 none_fails : (t0 t1 : Tables) (n0 n1 n2 : ℕ) → t1 ≡ t0 → n1 ≡ n0 → NoneFails t1 n1 n2 → NoneFails t0 n0 n2
 none_fails t0 t1 n0 n1 n2 same first second = λ a h. second a (subst (λ x. Stands x a) (sym same) h) ∙ first
@@ -107,14 +98,14 @@ read_then k a b z x c reply first next =
 
 -- ---- commands that only read
 
--- words that are refused before the keeper is read
-pub unread : {K : Type 0} (k : Ghosts K) (at : K) (c : Command) (e : Refusal) → TakesStep (k.tables at) c (Refused (refusal_of e)) (k.tables at) → ¬ (Refused (refusal_of e) ≡ Refused model.Store)
+-- a refusal that leaves the keeper as it was
+pub stays : {K : Type 0} (k : Ghosts K) (at : K) (c : Command) (e : Refusal) → (k.is_clean at → k.is_open at → TakesStep (k.tables at) c (Refused (refusal_of e)) (k.tables at)) → ¬ (Refused (refusal_of e) ≡ Refused model.Store)
     → IsServed k at at c (Refused (refusal_of e))
-unread k at c e step not_store =
+stays k at c e step not_store =
     record {
       clean = λ u. u;
       opens = λ u o. o;
-      step = λ u o. step;
+      step = step;
       counts = (le_refl (k.failures at), λ s. absurd (not_store s));
       refused = λ u o x is. refl;
       rise = inl refl;
@@ -123,6 +114,11 @@ unread k at c e step not_store =
       settled = λ u o before. before;
       crash = λ u o t left. inl left;
     }
+
+-- words that are refused before the keeper is read
+pub unread : {K : Type 0} (k : Ghosts K) (at : K) (c : Command) (e : Refusal) → TakesStep (k.tables at) c (Refused (refusal_of e)) (k.tables at) → ¬ (Refused (refusal_of e) ≡ Refused model.Store)
+    → IsServed k at at c (Refused (refusal_of e))
+unread k at c e step not_store = stays k at c e (λ u o. step) not_store
 
 -- a command that is answered by what was read
 pub answered_by : {K X : Type 0} (k : Ghosts K) (old new : K) (x : X) (c : Command) (reply : Reply) → IsRead k old new (Ok x)
@@ -161,15 +157,7 @@ refused_by k old new e c read step =
     }
 
 -- a read that failed serves every command, by the refusal that tells of the failure
-pub fails_all : {K : Type 0} (k : Ghosts K) (old new : K) (e : Fault) (r : Refusal)
-    → r ≡ fault_refusal e
-    → (k.is_clean new → k.is_clean old)
-    → (k.is_clean new → k.is_open new → k.is_open old)
-    → (k.is_clean new → k.is_open new → k.tables new ≡ k.tables old)
-    → k.failures new ≡ failures_for e (k.failures old)
-    → (k.never_fails → (a : Replica) → Stands (k.tables old) a → k.failures new ≡ k.failures old)
-    → (k.is_clean new → k.is_open new → IsSettled (k.may_leave old) (k.tables old) → IsSettled (k.may_leave new) (k.tables new))
-    → (k.is_clean new → k.is_open old → (t : Tables) → k.may_leave new t → k.may_leave old t)
+pub fails_all : {K X : Type 0} (k : Ghosts K) (old new : K) (e : Fault) (r : Refusal) → r ≡ fault_refusal e → Quiet {X = X} k old new (Err e)
     → (c : Command) → IsServed k old new c (Refused (refusal_of r))
-fails_all k old new e r is clean opens same failures sure settled crash c =
-    refused_by {X = ℕ} k old new r c (read_err k old new e r is clean opens same failures sure settled crash) (λ u o. fault_step e r (k.tables old) (k.tables new) c is (same u o))
+fails_all k old new e r is quiet c =
+    refused_by {X = ℕ} k old new r c (read_err k old new e r is quiet) (λ u o. fault_step e r (k.tables old) (k.tables new) c is (quiet.same u o))

@@ -1,10 +1,12 @@
 pub mod CommandWords
+pub mod DeskChanges
 pub mod DeskSteps
 pub mod KeeperChanges
 pub mod KeeperReads
 pub mod RoomLog
 pub mod RoomRows
 pub mod RoomSteps
+pub mod RefusedSteps
 pub mod RowOrder
 pub mod RunsGrow
 pub mod Submissions

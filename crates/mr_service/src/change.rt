@@ -1,38 +1,32 @@
-//! A command over a keeper: its desk is loaded, a call of the desk does the step, and what that changed is made in the tables.
+//! A command over a keeper: the part that it needs is loaded, a call of the part does the step, and what that changes is made in the
+//! tables.
 
-ghost use Rattle.std.specs.Fn.{FnOnceReturnsAt, FnOnceReturnsAtMut};
-ghost use Rattle.mr_replica.specs.Desk.{DeskView};
+ghost use Rattle.mr_replica.specs.ScopeOf.{scope_of};
 ghost use Rattle.mr_service.specs.Asked.{reply_in};
-ghost use Rattle.mr_service.specs.Turns.{IsServedBy, Tells, TurnsBy};
+ghost use Rattle.mr_service.specs.Turns.{IsLoaded, IsMadeFor};
 
 use crate::replies::Reply;
 use mr_base::Refusal;
-use mr_replica::Desk;
+use mr_replica::{Part, Scope};
 use mr_store::Keeper;
 use mr_tables::Change;
 
-/// Serves a command by a call of the desk, which replies and tells the change that it made. The change is made in the tables last.
-pub(crate) fn change<K: Keeper, F: FnOnce(&mut Desk) -> Result<(Reply, Change), Refusal>>(
-    keeper: &mut K,
-    step: F,
-) -> Result<Reply, Refusal>
-    requires { F.IsAlwaysCallable step }
-    ensures { IsServedBy K.Keeper keeper.old keeper.new (λ desk answer. (after : DeskView) × FnOnceReturnsAtMut F.FnOnce step desk answer after) TurnsBy (reply_in result) }
+/// The part of the tables that a command of this scope needs.
+pub(crate) fn load<K: Keeper>(keeper: &mut K, scope: &Scope<'_>) -> Result<Part, Refusal>
+    ensures { IsLoaded K.Keeper keeper.old keeper.new (scope_of scope.now) result }
 {
-    let mut desk = keeper.load()?;
-    let (reply, change) = step(&mut desk)?;
-    keeper.apply(&change)?;
-    Ok(reply)
+    let part = keeper.load_part(scope)?;
+    Ok(part)
 }
 
-/// Serves a command by a question to the desk, which changes nothing.
-pub(crate) fn look<K: Keeper, F: FnOnce(&Desk) -> Result<Reply, Refusal>>(
+/// Makes the change that a call of the part told, last of all, and replies.
+pub(crate) fn change<K: Keeper>(
     keeper: &mut K,
-    question: F,
+    answer: Result<(Reply, Change), Refusal>,
 ) -> Result<Reply, Refusal>
-    requires { F.IsAlwaysCallable question }
-    ensures { IsServedBy K.Keeper keeper.old keeper.new (λ desk answer. FnOnceReturnsAt F.FnOnce question desk answer) Tells (reply_in result) }
+    ensures { IsMadeFor K.Keeper keeper.old keeper.new answer (reply_in result) }
 {
-    let desk = keeper.load()?;
-    question(&desk)
+    let (reply, change) = answer?;
+    keeper.apply(&change)?;
+    Ok(reply)
 }

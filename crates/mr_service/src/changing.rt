@@ -1,19 +1,19 @@
 //! Commands that change a replica, and those that ask for exchange. Words are read first, and the change is made last.
 
 ghost use Rattle.mr_model.specs.Step as model;
-ghost use Rattle.mr_replica.specs.Desk.{IsWithinLimits};
 ghost use Rattle.mr_service.specs.Asked.{submission_of, reply_in};
+ghost use Rattle.mr_service.specs.DeskTurns.{DeskTurnsBy};
 ghost use Rattle.mr_service.specs.Served.{IsServed};
-ghost use Rattle.mr_service.specs.Turns.{Tells, TurnsBy};
 
-use crate::change::{change, look};
+use crate::change::{change, load};
+use crate::change_desk::change_desk;
 use crate::commands::Submission;
 use crate::replies::Reply;
 use crate::turns;
 use crate::words::read_request;
 use mr_base::{LineCount, Refusal, RoomName};
+use mr_replica::Scope;
 use mr_store::Keeper;
-use mr_tables::Change;
 use mr_wire::{read_batch, read_position};
 use std::alloc::Global;
 
@@ -26,12 +26,8 @@ pub(crate) fn add_room<K: Keeper>(
     ensures served { IsServed K.Keeper keeper.old keeper.new (model.AddRoom room.now) (reply_in result) }
 {
     let room = RoomName::new(alloc, room)?;
-    change(
-        keeper,
-        |desk|
-            ensures { TurnsBy (λ a. model.add_room a room) desk.old result }
-        { turns::add_room(desk, &room) },
-    )
+    let part = load(keeper, &Scope::Nothing)?;
+    change(keeper, turns::add_room(&part, &room))
 }
 
 /// Books a room.
@@ -43,7 +39,8 @@ pub(crate) fn submit<K: Keeper>(
     ensures served { IsServed K.Keeper keeper.old keeper.new (model.Submit (submission_of words.now)) (reply_in result) }
 {
     let request = read_request(alloc, words)?;
-    change(keeper, |desk| turns::submit(desk, request))
+    let part = load(keeper, &Scope::InRoom(&request.room))?;
+    change(keeper, turns::submit(&part, request))
 }
 
 /// Takes the batch with this text, or refuses all of it.
@@ -55,10 +52,10 @@ pub(crate) fn receive<K: Keeper>(
     ensures served { IsServed K.Keeper keeper.old keeper.new (model.Receive bytes.now) (reply_in result) }
 {
     let batch = read_batch(alloc, bytes)?;
-    change(
+    change_desk(
         keeper,
         |desk|
-            ensures { TurnsBy (λ a. model.receive_batch a batch) desk.old result }
+            ensures { DeskTurnsBy (λ a. model.receive_batch a batch) desk.old result }
         { turns::receive(desk, &batch) },
     )
 }
@@ -67,31 +64,24 @@ pub(crate) fn receive<K: Keeper>(
 pub(crate) fn commit<K: Keeper>(keeper: &mut K, k: u64) -> Result<Reply, Refusal>
     ensures served { IsServed K.Keeper keeper.old keeper.new (model.Commit k) (reply_in result) }
 {
-    change(
-        keeper,
-        |desk|
-            ensures { TurnsBy (λ a. model.commit a k) desk.old result }
-        { turns::commit(desk, k) },
-    )
+    let part = load(keeper, &Scope::NextCommits(k))?;
+    change(keeper, turns::commit(&part, k))
 }
 
 /// Keeps commits up to this number no longer.
 pub(crate) fn truncate<K: Keeper>(keeper: &mut K, number: u64) -> Result<Reply, Refusal>
     ensures served { IsServed K.Keeper keeper.old keeper.new (model.Truncate number) (reply_in result) }
 {
-    change(
-        keeper,
-        |desk|
-            ensures { TurnsBy (λ a. model.truncate a number) desk.old result }
-        { turns::truncate(desk, number) },
-    )
+    let part = load(keeper, &Scope::UpTo(number))?;
+    change(keeper, turns::truncate(&part, number))
 }
 
 /// Tells how far the replica's knowledge goes.
 pub(crate) fn position<K: Keeper>(keeper: &mut K) -> Result<Reply, Refusal>
     ensures served { IsServed K.Keeper keeper.old keeper.new model.AskPosition (reply_in result) }
 {
-    look(keeper, |desk| turns::position(desk))
+    let part = load(keeper, &Scope::Nothing)?;
+    turns::position(&part)
 }
 
 /// Tells what a replica lacks that is at the position with this text.
@@ -104,10 +94,6 @@ pub(crate) fn batch_for<K: Keeper>(
     ensures served { IsServed K.Keeper keeper.old keeper.new (model.BatchFor position.now max_lines) (reply_in result) }
 {
     let position = read_position(alloc, position)?;
-    look(
-        keeper,
-        |desk|
-            ensures { IsWithinLimits desk.now → Tells (λ a. model.leave a (model.batch_reply a position max_lines)) desk.now result }
-        { turns::batch(desk, &position, max_lines) },
-    )
+    let part = load(keeper, &Scope::Above(position.commits))?;
+    turns::batch(&part, &position, max_lines)
 }

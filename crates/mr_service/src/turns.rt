@@ -1,34 +1,36 @@
-//! Calls of a desk that do a command's step: each tells the reply, and the change where there is one.
+//! Calls of a part that do a command's step: each tells the reply, and the change where there is one.
 
 ghost use Rattle.std.specs.Prelude.{◌≡◌, IfSome};
 ghost use Rattle.mr_model.specs.Positions.{position_of};
 ghost use Rattle.mr_model.specs.Replies.{OutcomeIs, PositionIs};
+ghost use Rattle.mr_model.specs.Scopes as scopes;
 ghost use Rattle.mr_model.specs.Step as model;
-ghost use Rattle.mr_replica.specs.Desk.{IsWithinLimits};
 ghost use Rattle.mr_replica.specs.Steps.{submit_request};
 ghost use Rattle.mr_replica.specs.Turning.{put_outcome};
+ghost use Rattle.mr_tables.specs.Summary.{IsWithin};
 ghost use Rattle.mr_service.specs.Asked.{outcome_of};
+ghost use Rattle.mr_service.specs.DeskTurns.{DeskTurnsBy};
 ghost use Rattle.mr_service.specs.Turns.{Tells, TurnsBy};
 
 use crate::outcomes::{booked, logged};
 use crate::replies::{Outcome, Reply};
 use mr_base::{Batch, LineCount, Position, Refusal, Request, RoomName};
-use mr_replica::Desk;
+use mr_replica::{Desk, Part};
 use mr_tables::Change;
 
 /// Adds a room.
-pub(crate) fn add_room(desk: &mut Desk, room: &RoomName) -> Result<(Reply, Change), Refusal>
-    ensures { TurnsBy (λ a. model.add_room a room.now) desk.old result }
+pub(crate) fn add_room(part: &Part, room: &RoomName) -> Result<(Reply, Change), Refusal>
+    ensures { TurnsBy scopes.Nothing (λ a. model.add_room a room.now) part.now result }
 {
-    let change = desk.add_room(room)?;
+    let change = part.add_room(room)?;
     Ok((Reply::RoomAdded, change))
 }
 
 /// Books a room.
-pub(crate) fn submit(desk: &mut Desk, request: Request) -> Result<(Reply, Change), Refusal>
-    ensures { TurnsBy (submit_request request) desk.old result }
+pub(crate) fn submit(part: &Part, request: Request) -> Result<(Reply, Change), Refusal>
+    ensures { TurnsBy (scopes.InRoom request.room) (submit_request request) part.now result }
 {
-    let (_, change) = desk.submit(request)?;
+    let (_, change) = part.submit(request)?;
     match outcome_in(&change) {
         Some(outcome) => Ok((Reply::Outcome(outcome), change)),
         None => Err(Refusal::OutOfMemory),
@@ -47,44 +49,44 @@ fn outcome_in(change: &Change) -> Option<Outcome>
     Some(logged(row))
 }
 
-/// Takes a batch, or refuses all of it.
-pub(crate) fn receive(desk: &mut Desk, batch: &Batch) -> Result<(Reply, Change), Refusal>
-    ensures { TurnsBy (λ a. model.receive_batch a batch.now) desk.old result }
-{
-    let (writes, commits, change) = desk.receive(batch)?;
-    Ok((Reply::Took { writes, commits }, change))
-}
-
 /// Commits the first k tentative writes.
-pub(crate) fn commit(desk: &mut Desk, k: u64) -> Result<(Reply, Change), Refusal>
-    ensures { TurnsBy (λ a. model.commit a k) desk.old result }
+pub(crate) fn commit(part: &Part, k: u64) -> Result<(Reply, Change), Refusal>
+    ensures { TurnsBy (scopes.NextCommits k) (λ a. model.commit a k) part.now result }
 {
-    let (count, change) = desk.commit(k)?;
+    let (count, change) = part.commit(k)?;
     Ok((Reply::Committed(count), change))
 }
 
 /// Keeps commits up to this number no longer.
-pub(crate) fn truncate(desk: &mut Desk, number: u64) -> Result<(Reply, Change), Refusal>
-    ensures { TurnsBy (λ a. model.truncate a number) desk.old result }
+pub(crate) fn truncate(part: &Part, number: u64) -> Result<(Reply, Change), Refusal>
+    ensures { TurnsBy (scopes.UpTo number) (λ a. model.truncate a number) part.now result }
 {
-    let (number, change) = desk.truncate(number)?;
+    let (number, change) = part.truncate(number)?;
     Ok((Reply::Dropped(number), change))
 }
 
 /// Asks how far the replica's knowledge goes.
-pub(crate) fn position(desk: &Desk) -> Result<Reply, Refusal>
-    ensures { IsWithinLimits desk.now → Tells (λ a. model.leave a (PositionIs (position_of a))) desk.now result }
+pub(crate) fn position(part: &Part) -> Result<Reply, Refusal>
+    ensures { IsWithin part.now.summary → Tells scopes.Nothing (λ a. model.leave a (PositionIs (position_of a))) part.now result }
 {
-    Ok(Reply::Position(desk.position()?))
+    Ok(Reply::Position(part.position()?))
 }
 
 /// Asks for what a replica lacks that is at the position.
 pub(crate) fn batch(
-    desk: &Desk,
+    part: &Part,
     position: &Position,
     max_lines: LineCount,
 ) -> Result<Reply, Refusal>
-    ensures { IsWithinLimits desk.now → Tells (λ a. model.leave a (model.batch_reply a position.now max_lines)) desk.now result }
+    ensures { IsWithin part.now.summary → Tells (scopes.Above position.now.commits) (λ a. model.leave a (model.batch_reply a position.now max_lines)) part.now result }
 {
-    Ok(Reply::Batch(desk.batch(position, max_lines)?))
+    Ok(Reply::Batch(part.batch(position, max_lines)?))
+}
+
+/// Takes a batch, or refuses all of it, over the whole desk.
+pub(crate) fn receive(desk: &mut Desk, batch: &Batch) -> Result<(Reply, Change), Refusal>
+    ensures { DeskTurnsBy (λ a. model.receive_batch a batch.now) desk.old result }
+{
+    let (writes, commits, change) = desk.receive(batch)?;
+    Ok((Reply::Took { writes, commits }, change))
 }

@@ -1,8 +1,8 @@
 use Rattle.std.proofs.Common.{subst}
 use Rattle.std.proofs.lemmas.Result.{err_from_is_err_and}
 use Rattle.mr_model.specs.Step.{Receive, receive_batch}
-use Rattle.mr_service.specs.Turns.{TurnsBy}
-use Rattle.mr_service.proofs.KeeperChanges.{served_by}
+use Rattle.mr_service.specs.DeskTurns.{DeskTurnsBy}
+use Rattle.mr_service.proofs.DeskChanges.{served_by}
 use Rattle.mr_service.proofs.KeeperReads.{unread}
 use Rattle.mr_service.proofs.DeskSteps.{word_step}
 use Rattle.mr_service.proofs.CommandWords as words
@@ -15,4 +15,4 @@ returns-in_err-batch g c =
 
 pub returns : goal.returns
 returns g c =
-    record { served = served_by g.K.Keeper c.args.keeper.now c.change.new.keeper _ _ _ (Receive c.args.bytes.now) (λ a. receive_batch a c.in_ok-batch.batch) c.change.ensures (words.batch_received c.args.bytes.now c.in_ok-batch.batch c.in_ok-batch.ensures.exact) (λ d answer within called. subst (λ x. TurnsBy (λ a. receive_batch a c.in_ok-batch.batch) x answer) called.1.shows called.1.met) }
+    record { served = served_by g.K.Keeper c.args.keeper.now c.change_desk.new.keeper _ _ _ (Receive c.args.bytes.now) (λ a. receive_batch a c.in_ok-batch.batch) c.change_desk.ensures (words.batch_received c.args.bytes.now c.in_ok-batch.batch c.in_ok-batch.ensures.exact) (λ d answer called. subst (λ x. DeskTurnsBy (λ a. receive_batch a c.in_ok-batch.batch) x answer) called.1.shows called.1.met) }

@@ -1,9 +1,12 @@
-use Rattle.std.proofs.Common.{rules}
+use Rattle.std.proofs.Common.{subst, Ok}
 use Rattle.std.proofs.lemmas.Result.{err_from_is_err_and}
+use Rattle.mr_model.specs.Requests.{Request}
+use Rattle.mr_model.specs.Scopes.{InRoom}
 use Rattle.mr_model.specs.Step.{Submit}
 use Rattle.mr_replica.specs.Steps.{submit_request}
 use Rattle.mr_service.specs.Asked.{submission_of}
-use Rattle.mr_service.proofs.KeeperChanges.{served_by}
+use Rattle.mr_service.specs.Turns.{IsLoaded}
+use Rattle.mr_service.proofs.KeeperChanges.{not_loaded, made_by}
 use Rattle.mr_service.proofs.KeeperReads.{unread}
 use Rattle.mr_service.proofs.DeskSteps.{word_step}
 use Rattle.mr_service.proofs.CommandWords as words
@@ -14,6 +17,11 @@ returns-in_err-request g c =
     let p = err_from_is_err_and c.from_residual.result c.from_residual.ensures.1 in
     record { served = rw (p.1, p.2) (unread g.K.Keeper c.args.keeper.now (Submit (submission_of c.args.words.now)) c.in_err-request.field-0.0 (word_step (g.K.Keeper.tables c.args.keeper.now) (Submit (submission_of c.args.words.now)) c.in_err-request.field-0.0 (words.submission_refused (submission_of c.args.words.now) c.in_err-request.field-0.0 c.in_err-request.ensures)) (words.submission_not_store (submission_of c.args.words.now) c.in_err-request.field-0.0 c.in_err-request.ensures)) }
 
+pub returns-in_err-part : goal.returns-in_err-part
+returns-in_err-part g c =
+    let p = err_from_is_err_and c.from_residual-in_err-part.result c.from_residual-in_err-part.ensures.1 in
+    record { served = rw (p.1, p.2) (not_loaded g.K.Keeper c.args.keeper.now c.load.new.keeper _ c.in_err-part.field-0.0 (Submit (submission_of c.args.words.now)) c.in_err-part.ensures) }
+
 pub returns : goal.returns
 returns g c =
-    record { served = served_by g.K.Keeper c.args.keeper.now c.change.new.keeper _ _ _ (Submit (submission_of c.args.words.now)) (submit_request c.in_ok-request.request) c.change.ensures (words.submission_read (submission_of c.args.words.now) c.in_ok-request.request c.in_ok-request.ensures) (λ d answer within called. search rules) }
+    record { served = made_by g.K.Keeper c.args.keeper.now c.load.new.keeper c.change.new.keeper (InRoom c.in_ok-request.request.room) c.in_ok-part.part _ _ (Submit (submission_of c.args.words.now)) (submit_request c.in_ok-request.request) (subst (λ (q : Request). IsLoaded g.K.Keeper c.args.keeper.now c.load.new.keeper (InRoom q.room) (Ok c.in_ok-part.part)) c.request.view_is c.in_ok-part.ensures) c.change.ensures (words.submission_read (submission_of c.args.words.now) c.in_ok-request.request c.in_ok-request.ensures) c.submit.ensures }

@@ -19,15 +19,15 @@ returns-in_err-room g c =
 pub returns-in_err-bookings : goal.returns-in_err-bookings
 returns-in_err-bookings g c =
     let p = err_from_is_err_and c.from_residual-in_err-bookings.result c.from_residual-in_err-bookings.ensures.1 in
-    record { served = rw p.1 (read_then g.K.Keeper c.args.keeper.now c.known_room.new.keeper c.bookings.new.self c.in_ok-room.room (Ask c.args.room.now (AskCalendar (part_of c.args.part))) _ c.in_ok-room.ensures.read (fails_all g.K.Keeper c.known_room.new.keeper c.bookings.new.self c.in_err-bookings.field-0.0 p.0 p.2 c.bookings.ensures.clean c.bookings.ensures.open c.bookings.ensures.same c.in_err-bookings.ensures.failures c.bookings.ensures.sure c.bookings.ensures.settled c.bookings.ensures.crash (Ask c.args.room.now (AskCalendar (part_of c.args.part))))) }
+    record { served = rw p.1 (read_then g.K.Keeper c.args.keeper.now c.known_room.new.keeper c.bookings.new.self c.in_ok-room.room (Ask c.args.room.now (AskCalendar (part_of c.args.part))) _ c.in_ok-room.ensures.read (fails_all g.K.Keeper c.known_room.new.keeper c.bookings.new.self c.in_err-bookings.field-0.0 p.0 p.2 c.in_err-bookings.ensures.quiet (Ask c.args.room.now (AskCalendar (part_of c.args.part))))) }
 
 pub returns : goal.returns
 returns g c =
-    let same : g.K.Keeper.is_clean c.bookings.new.self → g.K.Keeper.is_open c.bookings.new.self → g.K.Keeper.tables c.known_room.new.keeper ≡ g.K.Keeper.tables c.args.keeper.now = λ u o. c.known_room.ensures.read.same (c.bookings.ensures.clean u) (c.bookings.ensures.open u o) in
+    let same : g.K.Keeper.is_clean c.bookings.new.self → g.K.Keeper.is_open c.bookings.new.self → g.K.Keeper.tables c.known_room.new.keeper ≡ g.K.Keeper.tables c.args.keeper.now = λ u o. c.known_room.ensures.read.same (c.bookings.ensures.quiet.clean u) (c.bookings.ensures.quiet.opens u o) in
     record {
-      served = answered_by g.K.Keeper c.args.keeper.now c.bookings.new.self c.in_ok-bookings.field-0.items (Ask c.args.room.now (AskCalendar (part_of c.args.part))) _ (read_both g.K.Keeper c.args.keeper.now c.known_room.new.keeper c.bookings.new.self c.in_ok-room.room c.in_ok-bookings.field-0.items c.in_ok-room.ensures.read (read_ok g.K.Keeper c.known_room.new.keeper c.bookings.new.self c.in_ok-bookings.field-0.items c.bookings.ensures.clean c.bookings.ensures.open c.in_ok-bookings.ensures.lasts c.bookings.ensures.same c.in_ok-bookings.ensures.failures c.bookings.ensures.settled c.bookings.ensures.crash))
+      served = answered_by g.K.Keeper c.args.keeper.now c.bookings.new.self c.in_ok-bookings.field-0.items (Ask c.args.room.now (AskCalendar (part_of c.args.part))) _ (read_both g.K.Keeper c.args.keeper.now c.known_room.new.keeper c.bookings.new.self c.in_ok-room.room c.in_ok-bookings.field-0.items c.in_ok-room.ensures.read (read_ok g.K.Keeper c.known_room.new.keeper c.bookings.new.self c.in_ok-bookings.field-0.items _ c.in_ok-bookings.ensures.quiet))
           (λ u o. steps.calendar_step (g.K.Keeper.tables c.args.keeper.now) (g.K.Keeper.tables c.bookings.new.self) c.args.room.now c.in_ok-room.room (part_of c.args.part) c.in_ok-bookings.field-0.items c.of_part-rows.result.items
-          (c.bookings.ensures.same u o ∙ same u o) (c.in_ok-room.ensures.finds (c.bookings.ensures.clean u) (c.known_room.ensures.read.opens (c.bookings.ensures.clean u) (c.bookings.ensures.open u o)))
-          (subst (λ t. AreBookings c.in_ok-room.room None t c.in_ok-bookings.field-0.items) (same u o) (c.in_ok-bookings.ensures.bookings u (c.bookings.ensures.open u o))) c.of_part-rows.ensures)
+          (c.bookings.ensures.quiet.same u o ∙ same u o) (c.in_ok-room.ensures.finds (c.bookings.ensures.quiet.clean u) (c.known_room.ensures.read.opens (c.bookings.ensures.quiet.clean u) (c.bookings.ensures.quiet.opens u o)))
+          (subst (λ t. AreBookings c.in_ok-room.room None t c.in_ok-bookings.field-0.items) (same u o) (c.in_ok-bookings.ensures.bookings u (c.bookings.ensures.quiet.opens u o))) c.of_part-rows.ensures)
           (λ told. cc told);
     }

@@ -19,15 +19,15 @@ returns-in_err-room g c =
 pub returns-in_err-errors : goal.returns-in_err-errors
 returns-in_err-errors g c =
     let p = err_from_is_err_and c.from_residual-in_err-errors.result c.from_residual-in_err-errors.ensures.1 in
-    record { served = rw p.1 (read_then g.K.Keeper c.args.keeper.now c.known_room.new.keeper c.errors.new.self c.in_ok-room.room (Ask c.args.room.now AskErrors) _ c.in_ok-room.ensures.read (fails_all g.K.Keeper c.known_room.new.keeper c.errors.new.self c.in_err-errors.field-0.0 p.0 p.2 c.errors.ensures.clean c.errors.ensures.open c.errors.ensures.same c.in_err-errors.ensures.failures c.errors.ensures.sure c.errors.ensures.settled c.errors.ensures.crash (Ask c.args.room.now AskErrors))) }
+    record { served = rw p.1 (read_then g.K.Keeper c.args.keeper.now c.known_room.new.keeper c.errors.new.self c.in_ok-room.room (Ask c.args.room.now AskErrors) _ c.in_ok-room.ensures.read (fails_all g.K.Keeper c.known_room.new.keeper c.errors.new.self c.in_err-errors.field-0.0 p.0 p.2 c.in_err-errors.ensures.quiet (Ask c.args.room.now AskErrors))) }
 
 pub returns : goal.returns
 returns g c =
-    let same : g.K.Keeper.is_clean c.errors.new.self → g.K.Keeper.is_open c.errors.new.self → g.K.Keeper.tables c.known_room.new.keeper ≡ g.K.Keeper.tables c.args.keeper.now = λ u o. c.known_room.ensures.read.same (c.errors.ensures.clean u) (c.errors.ensures.open u o) in
+    let same : g.K.Keeper.is_clean c.errors.new.self → g.K.Keeper.is_open c.errors.new.self → g.K.Keeper.tables c.known_room.new.keeper ≡ g.K.Keeper.tables c.args.keeper.now = λ u o. c.known_room.ensures.read.same (c.errors.ensures.quiet.clean u) (c.errors.ensures.quiet.opens u o) in
     record {
-      served = answered_by g.K.Keeper c.args.keeper.now c.errors.new.self c.in_ok-errors.field-0.items (Ask c.args.room.now AskErrors) _ (read_both g.K.Keeper c.args.keeper.now c.known_room.new.keeper c.errors.new.self c.in_ok-room.room c.in_ok-errors.field-0.items c.in_ok-room.ensures.read (read_ok g.K.Keeper c.known_room.new.keeper c.errors.new.self c.in_ok-errors.field-0.items c.errors.ensures.clean c.errors.ensures.open c.in_ok-errors.ensures.lasts c.errors.ensures.same c.in_ok-errors.ensures.failures c.errors.ensures.settled c.errors.ensures.crash))
+      served = answered_by g.K.Keeper c.args.keeper.now c.errors.new.self c.in_ok-errors.field-0.items (Ask c.args.room.now AskErrors) _ (read_both g.K.Keeper c.args.keeper.now c.known_room.new.keeper c.errors.new.self c.in_ok-room.room c.in_ok-errors.field-0.items c.in_ok-room.ensures.read (read_ok g.K.Keeper c.known_room.new.keeper c.errors.new.self c.in_ok-errors.field-0.items _ c.in_ok-errors.ensures.quiet))
           (λ u o. steps.errors_step (g.K.Keeper.tables c.args.keeper.now) (g.K.Keeper.tables c.errors.new.self) c.args.room.now c.in_ok-room.room c.in_ok-errors.field-0.items c.in_log_order-rows.result.items
-          (c.errors.ensures.same u o ∙ same u o) (c.in_ok-room.ensures.finds (c.errors.ensures.clean u) (c.known_room.ensures.read.opens (c.errors.ensures.clean u) (c.errors.ensures.open u o)))
-          (subst (λ t. IsPermutation (picked_errors c.in_ok-room.room t) c.in_ok-errors.field-0.items) (same u o) (c.in_ok-errors.ensures.errors u (c.errors.ensures.open u o))) c.in_log_order-rows.ensures.same c.in_log_order-rows.ensures.order)
+          (c.errors.ensures.quiet.same u o ∙ same u o) (c.in_ok-room.ensures.finds (c.errors.ensures.quiet.clean u) (c.known_room.ensures.read.opens (c.errors.ensures.quiet.clean u) (c.errors.ensures.quiet.opens u o)))
+          (subst (λ t. IsPermutation (picked_errors c.in_ok-room.room t) c.in_ok-errors.field-0.items) (same u o) (c.in_ok-errors.ensures.errors u (c.errors.ensures.quiet.opens u o))) c.in_log_order-rows.ensures.same c.in_log_order-rows.ensures.order)
           (λ told. cc told);
     }

@@ -14,7 +14,7 @@ returns-in_err-room-clause-finds g c =
 pub returns-in_err-rooms-clause-read : goal.returns-in_err-rooms-clause-read
 returns-in_err-rooms-clause-read g c =
     let p = err_from_is_err_and c.from_residual-in_err-rooms.result c.from_residual-in_err-rooms.ensures.1 in
-    rw p.1 (read_err g.K.Keeper c.args.keeper.now c.rooms.new.self c.in_err-rooms.field-0.0 p.0 p.2 c.rooms.ensures.clean c.rooms.ensures.open c.rooms.ensures.same c.in_err-rooms.ensures.failures c.rooms.ensures.sure c.rooms.ensures.settled c.rooms.ensures.crash)
+    rw p.1 (read_err g.K.Keeper c.args.keeper.now c.rooms.new.self c.in_err-rooms.field-0.0 p.0 p.2 c.in_err-rooms.ensures.quiet)
 
 pub returns-in_err-rooms-clause-finds : goal.returns-in_err-rooms-clause-finds
 returns-in_err-rooms-clause-finds g c =

@@ -2,7 +2,7 @@ use Rattle.std.proofs.Common.{refl}
 use Rattle.std.proofs.lemmas.Result.{err_from_is_err_and}
 use Rattle.mr_model.specs.Step.{receive_batch}
 use Rattle.mr_model.specs.Replies.{Took}
-use Rattle.mr_service.proofs.KeeperChanges.{answers, refuses}
+use Rattle.mr_service.proofs.DeskChanges.{answers, refuses}
 use Rattle.mr_service.proofs.turns.receive.Goals as goal
 
 pub returns-in_err-writes : goal.returns-in_err-writes
