@@ -3,6 +3,7 @@
 
 use crate::changes::{MONDAY, first_change, id, second_change, server, tables};
 use mr_base::{Day, Refusal, RoomName, WriteId};
+use mr_replica::Scope;
 use mr_store::{Fault, Keeper, ListKeeper, PlaceRow, Tripped};
 use mr_tables::{BookingRow, Change, ErrorRow};
 use std::alloc::Global;
@@ -265,7 +266,7 @@ fn a_trip_comes_after_its_calls(rt: HostRuntime) -> Result<(), Fail> {
     Ok(())
 }
 
-/// The fault of one of the six calls, where it has one.
+/// The fault of one of the seven calls, where it has one.
 fn fault_of<K: Keeper>(
     keeper: &mut K,
     call: u32,
@@ -275,10 +276,11 @@ fn fault_of<K: Keeper>(
 ) -> Option<Fault> {
     match call {
         0 => keeper.load().err(),
-        1 => keeper.rooms().err(),
-        2 => keeper.bookings(room, None).err(),
-        3 => keeper.place_of(room, id).err(),
-        4 => keeper.errors(room).err(),
+        1 => keeper.load_part(&Scope::InRoom(room)).err(),
+        2 => keeper.rooms().err(),
+        3 => keeper.bookings(room, None).err(),
+        4 => keeper.place_of(room, id).err(),
+        5 => keeper.errors(room).err(),
         _ => keeper.apply(change).err(),
     }
 }
@@ -289,7 +291,7 @@ fn each_call_trips_once(rt: HostRuntime) -> Result<(), Fail> {
     let oak = RoomName::new(alloc, "oak")?;
     let request = id(2, 1)?;
     let change = first_change(alloc)?;
-    for call in 0..6 {
+    for call in 0..7 {
         let mut keeper = Tripped::new(opening(alloc)?, 0, Fault::Store);
         let first = fault_of(&mut keeper, call, &oak, request, &change);
         assert_eq!(rt; first, Some(Fault::Store), "at call {call}");
@@ -299,17 +301,23 @@ fn each_call_trips_once(rt: HostRuntime) -> Result<(), Fail> {
     Ok(())
 }
 
-/// The fault of a keeper with so many commits and so many writes of a server.
-fn fault_of_load(alloc: Global, commits: u64, count: u32) -> Result<Option<Fault>, Refusal> {
+/// The faults of a keeper with so many commits and so many writes of a server, whose desk is loaded and then a part.
+fn faults_of_loads(
+    alloc: Global,
+    commits: u64,
+    count: u32,
+) -> Result<(Option<Fault>, Option<Fault>), Refusal> {
     let mut keeper = ListKeeper::over(alloc, tables(alloc, commits, count)?);
-    Ok(keeper.load().err())
+    let desk = keeper.load().err();
+    Ok((desk, keeper.load_part(&Scope::Nothing).err()))
 }
 
 #[test]
 fn rows_past_their_limits_are_the_stores_fault(rt: HostRuntime) -> Result<(), Fail> {
     for (commits, count) in [(1_000_000_000_000, 0), (0, 1_000_000_000)] {
-        let fault = fault_of_load(rt.alloc(), commits, count)?;
-        assert_eq!(rt; fault, Some(Fault::Store), "at {commits} and {count}");
+        let (desk, part) = faults_of_loads(rt.alloc(), commits, count)?;
+        assert_eq!(rt; desk, Some(Fault::Store), "at {commits} and {count}");
+        assert_eq!(rt; part, Some(Fault::Store), "of a part, at {commits} and {count}");
     }
     Ok(())
 }
