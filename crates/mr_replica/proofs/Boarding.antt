@@ -29,7 +29,7 @@ use Rattle.mr_replica.proofs.DeskRows.{board_of, board_row, row_board, board_ord
 
 -- ---- rows put one after the other
 
-entries_had : (e : Id × Row) (es : List (Id × Row)) (b : Rows) → Has e (put_entries es b) → Has e es ⊎ Has e b
+pub entries_had : (e : Id × Row) (es : List (Id × Row)) (b : Rows) → Has e (put_entries es b) → Has e es ⊎ Has e b
 entries_had e [] b h = inr h
 entries_had e (x ∷ xs) b h = go (entries_had e xs (insert_entry id_cmp b x.0 x.1) h)
   where
@@ -49,19 +49,19 @@ entries_keep e (x ∷ xs) b one h = entries_keep e xs (insert_entry id_cmp b x.0
     go true s = subst (λ y. Has y (insert_entry id_cmp b x.0 x.1)) (one x (inl refl) (same_id-true x.0 e.0 s)) (put_there b x.0 x.1)
     go false s = put_keeps e b x.0 x.1 (λ k. true≢false (sym (same_id_from x.0 e.0 (sym k)) ∙ s)) h
 
-entries_have : (e : Id × Row) (es : List (Id × Row)) (b : Rows) → ((x : Id × Row) → Has x es → x.0 ≡ e.0 → x ≡ e) → Has e es → Has e (put_entries es b)
+pub entries_have : (e : Id × Row) (es : List (Id × Row)) (b : Rows) → ((x : Id × Row) → Has x es → x.0 ≡ e.0 → x ≡ e) → Has e es → Has e (put_entries es b)
 entries_have e [] b one h = absurd h
 entries_have e (x ∷ xs) b one (inl s) =
     entries_keep e xs (insert_entry id_cmp b x.0 x.1) (λ y g k. one y (inr g) k) (subst (λ y. Has y (insert_entry id_cmp b x.0 x.1)) (sym s) (put_there b x.0 x.1))
 entries_have e (x ∷ xs) b one (inr h) = entries_have e xs (insert_entry id_cmp b x.0 x.1) (λ y g k. one y (inr g) k) h
 
-entries_ordered : (es : List (Id × Row)) (b : Rows) → IsInOrder b → IsInOrder (put_entries es b)
+pub entries_ordered : (es : List (Id × Row)) (b : Rows) → IsInOrder b → IsInOrder (put_entries es b)
 entries_ordered [] b h = h
 entries_ordered (e ∷ es) b h = entries_ordered es (insert_entry id_cmp b e.0 e.1) (in_order-put b e.0 e.1 h)
 
 -- ---- the rows of a replica
 
-booked_entry : (a : Replica) (w : Write) (o : Option Slot) (row : BookingRow) → booking_row_at a w o ≡ Some row → booking_entry row ≡ (id_of w, row_with w o)
+pub booked_entry : (a : Replica) (w : Write) (o : Option Slot) (row : BookingRow) → booking_row_at a w o ≡ Some row → booking_entry row ≡ (id_of w, row_with w o)
 booked_entry a w None row e = absurd (none_some row e)
 booked_entry a w (Some s) row e =
     ap booking_entry (sym (some_inj _ row e))
@@ -79,7 +79,7 @@ booked_entries a = map booking_entry (tables_of a).booking
 abbrev pub logged_entries : Replica → List (Id × Row)
 logged_entries a = map error_entry (tables_of a).errorlog
 
-booked_on_board : (a : Replica) (e : Id × Row) → IsReplica a → Has e (booked_entries a) → Has e (board_of a)
+pub booked_on_board : (a : Replica) (e : Id × Row) → IsReplica a → Has e (booked_entries a) → Has e (board_of a)
 booked_on_board a e h g =
     let (row, b, s) = map_has booking_entry e (tables_of a).booking g in
     let (w, c, o) = filter_map_has (booking_row a) row (by_id a.known) b in

@@ -62,7 +62,7 @@ numbered r k (w ∷ ws) f =
     let rest = numbered r (k + 1) ws (λ i v g. f (suc i) v g ∙ (let e : k + suc i ≡ k + 1 + i = omega arith in ap (seq_on (length r.commits)) e)) in
     λ i. log_row_with w (here i) ∷ rest i
 
-le_or_lt : (a b : ℕ) → (a ≤ b) ⊎ (b < a)
+pub le_or_lt : (a b : ℕ) → (a ≤ b) ⊎ (b < a)
 le_or_lt a b = go (cases_order a b)
   where
     go : (a ≡ b) ⊎ ((a < b) ⊎ (b < a)) → (a ≤ b) ⊎ (b < a)

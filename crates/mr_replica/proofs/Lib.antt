@@ -27,6 +27,9 @@ pub mod Totals
 pub mod SameRows
 pub mod SoundLog
 pub mod Parting
+pub mod RoomBoards
+pub mod PartBoards
+pub mod PartMoves
 pub mod PartCalls
 pub mod PartRows
 pub mod Picking

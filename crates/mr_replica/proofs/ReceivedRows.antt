@@ -165,7 +165,7 @@ room_there t (u ∷ us) g = go (or_cases (bytes_eq t u) (list_any (bytes_eq t) u
     go (inr s) ih = inr (ih s)
 
 -- the rooms that are new complete those that were known
-rooms_complete : (a b : Replica) → IsReplica a → Grows a b → put_all text_before (λ name. name) (rooms_beside a.rooms b.rooms) a.rooms ≡ b.rooms
+pub rooms_complete : (a b : Replica) → IsReplica a → Grows a b → put_all text_before (λ name. name) (rooms_beside a.rooms b.rooms) a.rooms ≡ b.rooms
 rooms_complete a b ha g = rooms_move a b (rooms_beside a.rooms b.rooms) ha g.sound (λ t. (there t, back t))
   where
     there : (t : Text) → Has t b.rooms → Has t (rooms_beside a.rooms b.rooms) ⊎ Has t a.rooms

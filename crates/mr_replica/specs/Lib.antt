@@ -1,5 +1,5 @@
 -- A reader of the contracts trusts Log, Desk, Steps, Candidate, DeskTables, Turning, ChangeLaws, KeptRows, SoundLog, Parts and
--- ScopeOf. The others, Outgoing, PickedLogs, PickedBookings and PickedUndo, serve private clauses and proofs alone.
+-- ScopeOf. The others, Outgoing, PartMoves, PickedLogs, PickedBookings and PickedUndo, serve private clauses and proofs alone.
 pub mod Log
 pub mod Desk
 pub mod Steps
@@ -11,6 +11,7 @@ pub mod ChangeLaws
 pub mod KeptRows
 pub mod SoundLog
 pub mod Parts
+pub mod PartMoves
 pub mod ScopeOf
 pub mod PickedLogs
 pub mod PickedBookings

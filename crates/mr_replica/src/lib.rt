@@ -24,6 +24,7 @@ mod part;
 mod part_batch;
 mod part_commit;
 mod part_from;
+mod part_moved;
 mod part_position;
 mod part_rooms;
 mod part_rows;
