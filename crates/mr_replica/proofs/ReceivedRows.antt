@@ -107,7 +107,7 @@ item-grows : (line : ℕ) (p q : Progress) (x : Item) → IsReplica p.replica �
 item-grows line p q (W w) sound good e = write-grows line p q w sound good e
 item-grows line p q (C n id) sound good e = commit-grows line p q n id sound (let g = good in grind (arith, nat_tests)) e
 
-items-grow : (items : List Item) (line : ℕ) (p q : Progress) → IsReplica p.replica → list_all is_item items ≡ true → take_items items line (Ok p) ≡ Ok q → Grows p.replica q.replica
+pub items-grow : (items : List Item) (line : ℕ) (p q : Progress) → IsReplica p.replica → list_all is_item items ≡ true → take_items items line (Ok p) ≡ Ok q → Grows p.replica q.replica
 items-grow [] line p q sound good e = subst (λ (x : Progress). Grows p.replica x.replica) (ok_inj p q e) (grows-not p.replica sound)
 items-grow (x ∷ xs) line p q sound good e = go (take_item line p x) refl e (λ m. items-grow xs (line + 1) m q)
   where
