@@ -4,7 +4,7 @@ use Rattle.std.specs.declared.cmp.Ordering.TheVariants.{Less}
 use Rattle.std.specs.List.Sorted.{IsPermutation, IsSortedByKey}
 use Rattle.mr_model.specs.Writes.{Write, id_of, is_write}
 use Rattle.mr_model.specs.Replica.{Replica, IsReplica}
-use Rattle.mr_model.specs.Tables.{LogRow, log_row}
+use Rattle.mr_model.specs.Tables.{LogRow, seq_of, log_row}
 use Rattle.mr_model.specs.Kept.{LogBefore, AreInRunOrder}
 use Rattle.mr_model.specs.Changes.{IdBefore, RiseById}
 use Rattle.mr_model.specs.Dropped.{Has}
@@ -25,6 +25,10 @@ rows_of_logged a (w ∷ ws) = ap (λ rows. log_row a w ∷ rows) (rows_of_logged
 pub logged_writes : (a : Replica) (ws : List Write) → map (λ x. x.write) (map (logged_of a) ws) ≡ ws
 logged_writes a [] = refl
 logged_writes a (w ∷ ws) = ap (λ vs. w ∷ vs) (logged_writes a ws)
+
+pub logged_numbers : (a : Replica) (ws : List Write) → map (λ x. x.seq) (map (logged_of a) ws) ≡ map (seq_of a) ws
+logged_numbers a [] = refl
+logged_numbers a (w ∷ ws) = ap (λ ns. seq_of a w ∷ ns) (logged_numbers a ws)
 
 pub logged_within : (a : Replica) (ws : List Write) → IsReplica a → ((w : Write) → Has w ws → Has w a.known) → AreWithin (map (logged_of a) ws)
 logged_within a ws h known =

@@ -1,5 +1,5 @@
 -- What a part of a replica's tables is seen as, for which replicas it is the part, and what it means that a call is a step of them.
-use Rattle.std.specs.Prelude.{◌≡◌, ◌-◌, ◌≤◌, ◌&&◌, ◌||◌, List, [], ◌++◌, length, take, drop, map, filter, Result, Err, IfOk, ◌⊎◌}
+use Rattle.std.specs.Prelude.{◌≡◌, ℕ, ◌-◌, ◌≤◌, ◌&&◌, ◌||◌, List, [], ◌++◌, length, take, drop, map, filter, Result, Err, IfOk, ◌⊎◌}
 use Rattle.mr_model.specs.Texts.{Text}
 use Rattle.mr_model.specs.Writes.{Write, id_of}
 use Rattle.mr_model.specs.Replica.{Replica, IsReplica, tentative}
@@ -7,7 +7,7 @@ use Rattle.mr_model.specs.Kept.{kept_in_order}
 use Rattle.mr_model.specs.Changes.{first_tentative}
 use Rattle.mr_model.specs.Replies.{Reply}
 use Rattle.mr_model.specs.Step.{After}
-use Rattle.mr_model.specs.Tables.{place_of, log_row, tables_of}
+use Rattle.mr_model.specs.Tables.{seq_of, place_of, log_row, tables_of}
 use Rattle.mr_base.specs.declared.refusals.Refusal.{Refusal}
 use Rattle.mr_base.specs.declared.refusals.Refusal.TheVariants.{OutOfMemory}
 use Rattle.mr_replay.specs.Places.{UndoRow}
@@ -20,12 +20,13 @@ use Rattle.mr_tables.specs.Boards.{booking_entry, put_entries}
 use Rattle.mr_tables.specs.Change.{ChangeView, changed}
 use Rattle.mr_replica.specs.Desk.{reply_with}
 
--- the numbers and the rooms; the kept writes in scope in the order of execution; what undoes those of them whose undo rows are in scope;
--- a board of the bookings in scope
+-- the numbers and the rooms; the kept writes in scope in the order of execution, with their commit numbers; what undoes those of them
+-- whose undo rows are in scope; a board of the bookings in scope
 pub record PartView : Type 0 where
   pub summary : Summary
   pub rooms : List Text
   pub kept : List Write
+  pub marks : List ℕ  -- 0 of a tentative one
   pub undo : List UndoRow
   pub board : Rows
 
@@ -56,6 +57,7 @@ part_of s a =
       summary = summary_of a;
       rooms = a.rooms;
       kept = kept_in s a;
+      marks = map (seq_of a) (kept_in s a);
       undo = map (λ w. record { id = id_of w; place = place_of a w }) (undone_in s a);
       board = put_entries (map booking_entry (in_scope s (tables_of a)).booking) [];
     }

@@ -5,14 +5,15 @@ use std::alloc::Global;
 use std::marker::Model;
 
 /// The rows of a replica's tables that one command needs, as values: its numbers and its rooms; the kept writes in scope in the
-/// order of execution, and what undoes them where the scope has it; and a board of the bookings in scope. It is read for one
-/// call, which leaves it as it is: what the call changes is the tables.
+/// order of execution with their commit numbers, 0 of a tentative one, and what undoes them where the scope has it; and a board of
+/// the bookings in scope. It is read for one call, which leaves it as it is: what the call changes is the tables.
 #[derive(Drop)]
 pub struct Part {
     pub(crate) alloc: Global,
     pub(crate) summary: Summary,
     pub(crate) rooms: Vec<RoomName>,
     pub(crate) kept: Vec<Write>,
+    pub(crate) marks: Vec<u64>,
     pub(crate) undo: Vec<UndoRow>,
     pub(crate) board: Board,
 }
@@ -26,6 +27,7 @@ impl Model for Part {
       summary = p.summary;
       rooms = p.rooms.items;
       kept = p.kept.items;
+      marks = p.marks.items;
       undo = p.undo.items;
       board = p.board;
     } };

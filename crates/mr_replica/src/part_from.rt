@@ -1,6 +1,6 @@
 ghost use Rattle.std.specs.Prelude.{◌≡◌, ◌⊎◌, true, false, [], map, IfOk, IfErr};
 ghost use Rattle.mr_model.specs.Replica.{Replica, IsReplica};
-ghost use Rattle.mr_model.specs.Tables.{tables_of};
+ghost use Rattle.mr_model.specs.Tables.{seq_of, tables_of};
 ghost use Rattle.mr_model.specs.Scopes.{in_scope};
 ghost use Rattle.mr_tables.specs.Boards.{booking_entry, put_entries};
 ghost use Rattle.mr_replica.specs.Parts.{kept_in, IsPartOf};
@@ -13,7 +13,7 @@ ghost use Rattle.mr_tables.specs.Summary.{IsWithin};
 use crate::desk_tables::of_store;
 use crate::scope_board::board_in;
 use crate::scope_commits::first_writes;
-use crate::scope_logs::{LoggedWrite, sorted_writes, writes_alone};
+use crate::scope_logs::{LoggedWrite, numbers_of, sorted_writes, writes_alone};
 use crate::scope_touched::touched_rooms;
 use crate::scope_undo::undo_of;
 use crate::{Part, Scope};
@@ -59,7 +59,7 @@ fn part_told(alloc: Global, scope: &Scope<'_>, tables: &Tables) -> Result<Part, 
         Ok(touched) => touched,
         Err(refusal) => return Err(refusal),
     };
-    let kept = match kept_in(alloc, scope, tables, &touched) {
+    let (kept, marks) = match kept_in(alloc, scope, tables, &touched) {
         Ok(kept) => kept,
         Err(refusal) => return Err(refusal),
     };
@@ -77,6 +77,7 @@ fn part_told(alloc: Global, scope: &Scope<'_>, tables: &Tables) -> Result<Part, 
             summary,
             rooms,
             kept,
+            marks,
             undo,
             board,
         }),
@@ -101,25 +102,35 @@ fn touched_in(alloc: Global, scope: &Scope<'_>, tables: &Tables) -> Result<Vec<R
     }
 }
 
-/// The kept writes in scope, in the order of execution.
+/// The kept writes in scope, in the order of execution, and their commit numbers.
 fn kept_in(
     alloc: Global,
     scope: &Scope<'_>,
     tables: &Tables,
     touched: &[RoomName],
-) -> Result<Vec<Write>, Refusal>
+) -> Result<(Vec<Write>, Vec<u64>), Refusal>
     ensures kept { (a : Replica) → IsReplica a → in_scope (scope_of scope.now) tables.now ≡ in_scope (scope_of scope.now) (tables_of a)
-        → AreSameRooms touched.now (touched_in (scope_of scope.now) tables.now) → IfOk result (λ kept. kept.items ≡ kept_in (scope_of scope.now) a) }
+        → AreSameRooms touched.now (touched_in (scope_of scope.now) tables.now) → IfOk result (λ kept. kept.0.items ≡ kept_in (scope_of scope.now) a) }
+    ensures marks { (a : Replica) → IsReplica a → in_scope (scope_of scope.now) tables.now ≡ in_scope (scope_of scope.now) (tables_of a)
+        → AreSameRooms touched.now (touched_in (scope_of scope.now) tables.now) → IfOk result (λ kept. kept.1.items ≡ map (seq_of a) (kept_in (scope_of scope.now) a)) }
     ensures only { (a : Replica) → IsReplica a → in_scope (scope_of scope.now) tables.now ≡ in_scope (scope_of scope.now) (tables_of a)
         → AreSameRooms touched.now (touched_in (scope_of scope.now) tables.now) → IfErr result (λ e. e ≡ Refusal.OutOfMemory) }
 {
-    match logged_in(alloc, scope, tables, touched) {
-        Ok(logged) => writes_alone(alloc, logged),
+    let logged = match logged_in(alloc, scope, tables, touched) {
+        Ok(logged) => logged,
+        Err(refusal) => return Err(refusal),
+    };
+    let marks = match numbers_of(alloc, &logged) {
+        Ok(marks) => marks,
+        Err(refusal) => return Err(refusal),
+    };
+    match writes_alone(alloc, logged) {
+        Ok(kept) => Ok((kept, marks)),
         Err(refusal) => Err(refusal),
     }
 }
 
-/// The same with their commit numbers.
+/// The same, each with its number.
 fn logged_in(
     alloc: Global,
     scope: &Scope<'_>,

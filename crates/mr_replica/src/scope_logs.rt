@@ -111,6 +111,18 @@ pub(crate) fn writes_alone(alloc: Global, logged: Vec<LoggedWrite>) -> Result<Ve
     Ok(writes)
 }
 
+/// The commit numbers alone.
+pub(crate) fn numbers_of(alloc: Global, logged: &[LoggedWrite]) -> Result<Vec<u64>, Refusal>
+    ensures numbers { IfOk result (λ numbers. numbers.items ≡ map (λ x. x.seq) logged.now) }
+    ensures only { IfErr result (λ e. e ≡ Refusal.OutOfMemory) }
+{
+    let mut numbers = Vec::new(alloc);
+    for one in logged {
+        numbers.push(one.seq)?;
+    }
+    Ok(numbers)
+}
+
 /// Puts the writes into the order of execution.
 fn sort_writes(writes: &mut Vec<LoggedWrite>)
     ensures moved { IsPermutation writes.old.items writes.new.items }

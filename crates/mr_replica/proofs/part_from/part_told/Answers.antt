@@ -44,5 +44,6 @@ returns-in-Ok-copies_of-clause-part c = λ a h e.
     let rooms = c.in-Ok-copies_of.ensures.copies ∙ c.deref-4.ensures.value ∙ ap (λ (t : Tables). t.room) c.tables.view_is ∙ same_room s t (tables_of a) e in
     let kept = c.in-Ok-kept_in.ensures.kept a h e touched in
     let undo = c.in-Ok-undo_in.ensures.undo a h e (c.deref-2.ensures.value ∙ kept) in
+    let marks = c.in-Ok-kept_in.ensures.marks a h e touched in
     let board = c.in-Ok-bookings_in.ensures.board a h e touched_still in
-    λ i. record { summary = numbers i; rooms = rooms i; kept = kept i; undo = undo i; board = board i }
+    λ i. record { summary = numbers i; rooms = rooms i; kept = kept i; marks = marks i; undo = undo i; board = board i }

@@ -24,8 +24,8 @@ returns-clause-step c = λ a sound part.
     let count' : c.min-count.result ≡ length (map (undo_in_part a) (first_tentative a k)) = count ∙ sym (length-map (first_tentative a k) (undo_in_part a)) in
     let writes = take_same c.min-count.result c.deref.result.now (first_tentative a k) count kept in
     let rows = take_same c.min-count.result c.deref-2.result.now (map (undo_in_part a) (first_tentative a k)) count' undo in
-    let p : PartView = record { summary = i.summary; rooms = i.rooms.items; kept = take c.min-count.result c.deref.result.now; undo = take c.min-count.result c.deref-2.result.now; board = i.board } in
-    let is : p ≡ part_of (NextCommits k) a = λ t. record { summary = (e t).summary; rooms = (e t).rooms; kept = writes t; undo = rows t; board = (e t).board } in
+    let p : PartView = record { summary = i.summary; rooms = i.rooms.items; kept = take c.min-count.result c.deref.result.now; marks = i.marks.items; undo = take c.min-count.result c.deref-2.result.now; board = i.board } in
+    let is : p ≡ part_of (NextCommits k) a = λ t. record { summary = (e t).summary; rooms = (e t).rooms; kept = writes t; marks = (e t).marks; undo = rows t; board = (e t).board } in
     let server : i.summary.server ≡ a.server = ap (λ (v : PartView). v.summary.server) e in
     let primary : i.summary.primary ≡ a.primary = ap (λ (v : PartView). v.summary.primary) e in
     let ne = c.ne.ensures in

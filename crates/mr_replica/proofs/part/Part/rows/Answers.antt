@@ -8,7 +8,7 @@ use Rattle.mr_replica.proofs.part.Part.rows.Goals as goal
 pub returns : goal.returns
 returns c = λ s a sound asked part.
     let i = c.self.inside in
-    let p : PartView = record { summary = i.summary; rooms = i.rooms.items; kept = i.kept.items; undo = i.undo.items; board = i.board } in
+    let p : PartView = record { summary = i.summary; rooms = i.rooms.items; kept = i.kept.items; marks = i.marks.items; undo = i.undo.items; board = i.board } in
     let all : length i.kept.items + length i.undo.items + length i.board ≡ counted_rows (in_scope s (tables_of a)) = rows_of_part p s a sound asked (c.self.view_is ∙ part) in
     let small = rows_few s a sound asked in
     let kept = ap length c.as_slice-kept.ensures.value in
