@@ -9,8 +9,6 @@ use Rattle.mr_model.specs.Refusals.{Refusal}
 use Rattle.mr_model.specs.Positions.{Position, position_of, position_text, is_position}
 use Rattle.mr_model.specs.Replies.{Reply, Refused, PositionIs, BatchIs}
 use Rattle.mr_model.specs.Step.{Command, AskPosition, BatchFor, After, step, IsStep, IsOfMachine, no_memory, no_store, batch_of, batch_unless, reply_to_position}
-use Rattle.mr_model.specs.Serving.{TakesStep}
-use Rattle.mr_model.specs.Tables.{Tables, Stands}
 use Rattle.mr_model.proofs.PositionsReadBack.{read-position_text}
 use Rattle.mr_http.specs.declared.faults.WebFault.{WebFault}
 use Rattle.mr_http.specs.declared.faults.WebFault.TheVariants as fault
@@ -24,28 +22,24 @@ stayed a command reply b stays (inl e) = ap (λ (x : After). x.replica) e ∙ st
 stayed a command reply b stays (inr m) = m.1
 
 -- what is read off the reply of such a command is handed out
-pub handed : {X : Type 0} (before after : Tables) (command : Command) (reply : Reply) (P Q : X → Type 0) (a : Replica) (result : Result X WebFault)
+pub handed : {X : Type 0} (command : Command) (reply : Reply) (P Q : X → Type 0) (a b : Replica) (result : Result X WebFault)
     → (step a command).replica ≡ a
     → ((x : X) → P x → reply ≡ (step a command).reply → Q x)
     → ((x : X) → P x → IsOfMachine reply → ⊥)
-    → TakesStep before command reply after → Stands before a → ReadsOff reply P result → Stands after a × HandsOut a command Q result
-handed {X} before after command reply P Q a result stays good machine takes stands reads =
-    let s = takes a stands in
-    let same = stayed a command reply s.0 stays s.1 in
-    (subst (Stands after) same s.2, go result reads)
+    → ReadsOff reply P result → IsStep a command reply b → (b ≡ a) × HandsOut a command Q result
+handed {X} command reply P Q a b result stays good machine reads taken = (same, go result reads)
   where
-    taken : IsStep a command reply ((takes a stands).0)
-    taken = (takes a stands).1
+    same : b ≡ a
+    same = stayed a command reply b stays taken
 
-    value : (x : X) → P x → IsStep a command reply ((takes a stands).0) → Q x
+    value : (x : X) → P x → IsStep a command reply b → Q x
     value x p (inl e) = good x p (ap (λ (y : After). y.reply) e)
     value x p (inr m) = absurd (machine x p m.0)
 
     go : (r : Result X WebFault) → ReadsOff reply P r → HandsOut a command Q r
     go (Ok x) p = value x p taken
     go (Err (fault.Own e)) is =
-        subst (λ (r : Reply). IsStep a command r a) is
-        (subst (λ (b : Replica). IsStep a command reply b) (stayed a command reply ((takes a stands).0) stays taken) taken)
+        subst (λ (r : Reply). IsStep a command r a) is (subst (λ (c : Replica). IsStep a command reply c) same taken)
     go (Err fault.Memory) u = tt
     go (Err fault.Read) u = absurd u
     go (Err fault.Write) u = absurd u
@@ -67,46 +61,42 @@ not_batch reply b is no_memory = let f : Refused _ ≡ BatchIs b = is in absurd 
 not_batch reply b is no_store = let f : Refused _ ≡ BatchIs b = is in absurd (cc)
 
 -- the text of this replica's position
-pub position_handed : {X : Type 0} (text_of : X → Text) (before after : Tables) (reply : Reply) (result : Result X WebFault)
-    → TakesStep before AskPosition reply after → ReadsOff reply (λ x. IsPositionText reply (text_of x)) result
-    → (a : Replica) → Stands before a → Stands after a × HandsOut a AskPosition (λ x. text_of x ≡ position_text (position_of a)) result
-position_handed text_of before after reply result takes reads a stands =
-    handed before after AskPosition reply (λ x. IsPositionText reply (text_of x)) (λ x. text_of x ≡ position_text (position_of a)) a result refl
+pub position_handed : {X : Type 0} (text_of : X → Text) (reply : Reply) (result : Result X WebFault)
+    → ReadsOff reply (λ x. IsPositionText reply (text_of x)) result → (a b : Replica) → IsStep a AskPosition reply b
+    → (b ≡ a) × HandsOut a AskPosition (λ x. text_of x ≡ position_text (position_of a)) result
+position_handed text_of reply result reads a b =
+    handed AskPosition reply (λ x. IsPositionText reply (text_of x)) (λ x. text_of x ≡ position_text (position_of a)) a b result refl
     (λ x p e. p.2 ∙ ap position_text (same_position p.0 (position_of a) (sym p.1 ∙ e)))
-    (λ x p m. not_position reply p.0 p.1 m) takes stands reads
+    (λ x p m. not_position reply p.0 p.1 m) reads
 
--- where a position is read off the reply, the machine hasn't failed, and so the keeper is still open
-pub position_lasts : {X : Type 0} (text_of : X → Text) (reply : Reply) (result : Result X WebFault) (clean before after : Type 0)
-    → ReadsOff reply (λ x. IsPositionText reply (text_of x)) result → (clean → before → IsOfMachine reply ⊎ after)
-    → IfOk result (λ _. clean → before → after)
-position_lasts text_of reply (Ok x) clean before after reads lasts = λ is_clean up.
-    elim (lasts is_clean up) [ inl m ↦ absurd (not_position reply reads.0 reads.1 m) | inr still ↦ still ]
-position_lasts text_of reply (Err e) clean before after reads lasts = tt
+-- where a position is read off the reply, the machine hasn't failed
+pub position_told : {X : Type 0} (text_of : X → Text) (reply : Reply) (result : Result X WebFault)
+    → ReadsOff reply (λ x. IsPositionText reply (text_of x)) result → IfOk result (λ _. IsOfMachine reply → ⊥)
+position_told text_of reply (Ok x) reads = not_position reply reads.0 reads.1
+position_told text_of reply (Err e) reads = tt
 
 -- the same of a batch
-pub batch_lasts : {X : Type 0} (text_of : X → Text) (ending : X → Ending) (reply : Reply) (result : Result X WebFault) (clean before after : Type 0)
-    → ReadsOff reply (λ x. IsBatchWith reply (text_of x) (ending x)) result → (clean → before → IsOfMachine reply ⊎ after)
-    → IfOk result (λ _. clean → before → after)
-batch_lasts text_of ending reply (Ok x) clean before after reads lasts = λ is_clean up.
-    elim (lasts is_clean up) [ inl m ↦ absurd (not_batch reply reads.0 reads.1 m) | inr still ↦ still ]
-batch_lasts text_of ending reply (Err e) clean before after reads lasts = tt
+pub batch_told : {X : Type 0} (text_of : X → Text) (ending : X → Ending) (reply : Reply) (result : Result X WebFault)
+    → ReadsOff reply (λ x. IsBatchWith reply (text_of x) (ending x)) result → IfOk result (λ _. IsOfMachine reply → ⊥)
+batch_told text_of ending reply (Ok x) reads = not_batch reply reads.0 reads.1
+batch_told text_of ending reply (Err e) reads = tt
 
 unless_batch : (o : Option Refusal) (made b : Batch) → BatchIs b ≡ batch_unless o made → b ≡ made
 unless_batch None made b e = same_batch b made e
 unless_batch (Some f) made b e = absurd (let g : BatchIs b ≡ Refused f = e in cc)
 
 -- the text of this replica's batch for a position, and its ending
-pub batch_handed : {X : Type 0} (text_of : X → Text) (ending : X → Ending) (before after : Tables) (reply : Reply) (p : Position) (m : ℕ) (result : Result X WebFault)
-    → is_position p ≡ true → TakesStep before (BatchFor (position_text p) m) reply after
-    → ReadsOff reply (λ x. IsBatchWith reply (text_of x) (ending x)) result → (a : Replica) → Stands before a
-    → Stands after a × HandsOut a (BatchFor (position_text p) m) (λ x. (text_of x ≡ batch_text (batch_of a p m)) × (ending x ≡ (batch_of a p m).ending)) result
-batch_handed {X} text_of ending before after reply p m result ok takes reads a stands =
-    handed before after (BatchFor (position_text p) m) reply (λ x. IsBatchWith reply (text_of x) (ending x))
-    (λ x. (text_of x ≡ batch_text (batch_of a p m)) × (ending x ≡ (batch_of a p m).ending)) a result refl
+pub batch_handed : {X : Type 0} (text_of : X → Text) (ending : X → Ending) (reply : Reply) (p : Position) (m : ℕ) (result : Result X WebFault)
+    → is_position p ≡ true → ReadsOff reply (λ x. IsBatchWith reply (text_of x) (ending x)) result
+    → (a b : Replica) → IsStep a (BatchFor (position_text p) m) reply b
+    → (b ≡ a) × HandsOut a (BatchFor (position_text p) m) (λ x. (text_of x ≡ batch_text (batch_of a p m)) × (ending x ≡ (batch_of a p m).ending)) result
+batch_handed {X} text_of ending reply p m result ok reads a b =
+    handed (BatchFor (position_text p) m) reply (λ x. IsBatchWith reply (text_of x) (ending x))
+    (λ x. (text_of x ≡ batch_text (batch_of a p m)) × (ending x ≡ (batch_of a p m).ending)) a b result refl
     (λ x is e.
     let same = made x is e in
     (is.2 ∙ ap batch_text same, is.3 ∙ ap (λ (b : Batch). b.ending) same))
-    (λ x is machine. not_batch reply is.0 is.1 machine) takes stands reads
+    (λ x is machine. not_batch reply is.0 is.1 machine) reads
   where
     made : (x : X) → (is : IsBatchWith reply (text_of x) (ending x)) → reply ≡ (step a (BatchFor (position_text p) m)).reply → is.0 ≡ batch_of a p m
     made x is e =

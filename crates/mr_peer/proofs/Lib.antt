@@ -1,4 +1,5 @@
 pub mod AskLemmas
+pub mod Exchanges
 pub mod FaultLemmas
 pub mod OneReply
 pub mod ReplyLemmas

@@ -1,7 +1,9 @@
 -- What an exchange does to the tables, whatever is known of the reply.
-use Rattle.std.proofs.Common.{◌≡◌, ◌⊎◌, inl, inr, refl, sym, subst, ℕ, Result, Ok, Err}
+use Rattle.std.proofs.Common.{◌≡◌, inr, refl, sym, subst, ℕ, List, Option, Result, Ok, Err}
+use Rattle.std.specs.Io.KnownBytes.{Appends}
 use Rattle.std.specs.Prelude.{IfErr}
 use Rattle.mr_model.specs.Texts.{Text}
+use Rattle.mr_model.specs.Positions.{position_of, position_text}
 use Rattle.mr_model.specs.Replica.{Replica}
 use Rattle.mr_model.specs.Serving.{Reaches}
 use Rattle.mr_model.specs.Step.{Receive}
@@ -12,7 +14,9 @@ use Rattle.mr_http.specs.declared.faults.ReadFault.{ReadFault}
 use Rattle.mr_http.specs.declared.faults.ReadFault.TheVariants as read
 use Rattle.mr_http.specs.declared.faults.WebFault.{WebFault}
 use Rattle.mr_http.specs.declared.faults.WebFault.TheVariants as fault
-use Rattle.mr_peer.specs.Steps.{ReceivesSome}
+use Rattle.mr_peer.specs.Requests.{pull_request}
+use Rattle.mr_peer.specs.Rounds.{Pulls}
+use Rattle.mr_peer.specs.Steps.{ReceivesSome, TakesPulled}
 use Rattle.mr_peer.specs.Taking.{Receives, Takes, IsReplyFault}
 
 receives_some : (body : Text) (a : Replica) (result : Result (ℕ × ℕ × Ending) WebFault) (b : Replica) → Receives body a result b → ReceivesSome a result b
@@ -44,19 +48,16 @@ pub unread_stays : (a : Replica) (f : ReadFault) → ReceivesSome a (Err (web_fa
 unread_stays a read.Read = refl
 unread_stays a read.Memory = refl
 
--- ---- after a crash
-
-pub left_by_take : (L : Type 0) (before t : Tables) (body : Text) → L ⊎ Reaches before (Receive body) t
-    → L ⊎ ((some : Text) × Reaches before (Receive some) t)
-left_by_take L before t body (inl l) = inl l
-left_by_take L before t body (inr r) = inr (body, r)
-
-pub left_by_ask : (L A B : Type 0) → L ⊎ A → L ⊎ (A ⊎ B)
-left_by_ask L A B (inl l) = inl l
-left_by_ask L A B (inr r) = inr (inl r)
+-- ---- behind an ask
 
 -- an ask leaves the tables to stand for the same replicas, so that a body does to them what it does to those before
-pub left_by_pull : (L M A : Type 0) (before between t : Tables) → (M → L ⊎ A) → ((a : Replica) → Stands before a → Stands between a)
-    → M ⊎ ((body : Text) × Reaches between (Receive body) t) → L ⊎ (A ⊎ ((body : Text) × Reaches before (Receive body) t))
-left_by_pull L M A before between t ask stays (inl m) = left_by_ask L A ((body : Text) × Reaches before (Receive body) t) (ask m)
-left_by_pull L M A before between t ask stays (inr r) = inr (inr (r.0, λ a stands. r.1 a (stays a stands)))
+pub body_behind : (before between t : Tables) (body : Text) → ((a : Replica) → Stands before a → Stands between a)
+    → Reaches between (Receive body) t → Reaches before (Receive body) t
+body_behind before between t body stays reaches a stands = reaches a (stays a stands)
+
+-- the request was written, and the reply is taken of the replica as it was
+pub pulls_behind : (host : Text) (held holds : Option (List ℕ)) (known : Option Text) (a b c : Replica) (result : Result (ℕ × ℕ × Ending) WebFault)
+    → b ≡ a → Appends held holds (pull_request host (position_text (position_of a))) → TakesPulled known b result c → Pulls host held holds known a result c
+pulls_behind host held holds known a b c result same wrote taken =
+    let t = subst (λ (r : Replica). TakesPulled known r result c) same taken in
+    (t.0, inr (wrote, t.1), inr t.2)

@@ -74,26 +74,10 @@ not_took : (reply : Reply) (w c : ℕ) → reply ≡ Took w c → IsOfMachine re
 not_took reply w c is no_memory = let f : Refused _ ≡ Took w c = is in absurd (cc)
 not_took reply w c is no_store = let f : Refused _ ≡ Took w c = is in absurd (cc)
 
--- where counts are read off the reply, the machine hasn't failed, and so the keeper is still open
-pub counts_last : (reply : service.Reply) (clean before after : Type 0) → (clean → before → IsOfMachine (reply_of reply) ⊎ after)
-    → IfOk (counts_seen reply) (λ _. clean → before → after)
-counts_last (code.Took w c) clean before after lasts = λ is_clean up.
-    elim (lasts is_clean up) [ inl m ↦ absurd (not_took (Took w c) w c refl m) | inr still ↦ still ]
-counts_last (code.Refused e) clean before after lasts = tt
-counts_last code.RoomAdded clean before after lasts = tt
-counts_last (code.Outcome o) clean before after lasts = tt
-counts_last (code.Committed n) clean before after lasts = tt
-counts_last (code.Dropped n) clean before after lasts = tt
-counts_last (code.Position p) clean before after lasts = tt
-counts_last (code.Batch x) clean before after lasts = tt
-counts_last (code.Sheet room day rows) clean before after lasts = tt
-counts_last (code.Calendar room part rows) clean before after lasts = tt
-counts_last (code.Errors room rows) clean before after lasts = tt
-
--- a call that lasts, behind one that does
-pub lasts_on : {X E : Type 0} (result : Result X E) (P Q : Type 0) → (P → Q) → IfOk result (λ _. P) → IfOk result (λ _. Q)
-lasts_on (Ok x) P Q f p = f p
-lasts_on (Err e) P Q f u = tt
+-- where counts are read off the reply, the machine hasn't failed
+pub counts_told : (reply : service.Reply) → IfOk (counts_seen reply) (λ _. IsOfMachine (reply_of reply) → ⊥)
+counts_told (code.Took w c) = not_took (Took w c) w c refl
+counts_told _ = tt
 
 -- a batch that reads as none is refused by each replica
 pub ends_receives : (body : Text) (a : Replica) (e : WebFault) → Ends body (Err e) → Receives body a (Err e) a

@@ -1,14 +1,20 @@
 -- How the asking of a peer ends.
-use Rattle.std.specs.Prelude.{◌≡◌, ◌≤◌, ℕ, List, length, take, Option, Result, Ok, Err}
+use Rattle.std.specs.Prelude.{◌≡◌, ◌≤◌, ℕ, List, length, take, Option, Result, Ok, Err, IfOk, Vec}
+use Rattle.std.specs.declared.alloc.Global.{Global}
 use Rattle.std.specs.Io.KnownBytes.{Appends, Keeps}
 use Rattle.mr_model.specs.Texts.{Text}
 use Rattle.mr_model.specs.Replica.{Replica}
 use Rattle.mr_model.specs.Exchange.{Batch, Ending, batch_text}
-use Rattle.mr_model.specs.Step.{Command, IsStep}
+use Rattle.mr_model.specs.Http.{lines_over_http}
+use Rattle.mr_model.specs.Positions.{Position, position_of, position_text}
+use Rattle.mr_model.specs.Step.{Command, AskPosition, BatchFor, IsStep, batch_of}
 use Rattle.mr_model.specs.Replies.{Reply, Refused, BatchIs}
+use Rattle.mr_base.specs.Batches.{ending_of}
 use Rattle.mr_base.specs.Refusals.{refusal_of}
+use Rattle.mr_base.specs.declared.batches.Ending.{Ending as BatchEnding}
 use Rattle.mr_http.specs.declared.faults.WebFault.{WebFault}
 use Rattle.mr_http.specs.declared.faults.WebFault.TheVariants as fault
+use Rattle.mr_peer.specs.Requests.{pull_request, push_request}
 
 -- a fault of writing a request
 abbrev pub IsSendFault : WebFault → Type 0
@@ -34,6 +40,22 @@ abbrev pub OwnRefuses : {X : Type 0} → Replica → Command → Result X WebFau
 OwnRefuses a command (Err (fault.Own e)) = IsStep a command (Refused (refusal_of e)) a
 OwnRefuses a command _ = Unit {0}
 
+-- a peer is asked for what this replica lacks, which stays as it was
+abbrev pub AsksPull : Text → Option (List ℕ) → Option (List ℕ) → Replica → Result (Unit {0}) WebFault → Replica → Type 0
+AsksPull host held holds a result b =
+    (b ≡ a) × OwnRefuses a AskPosition result × Wrote (pull_request host (position_text (position_of a))) held holds result
+
+-- the command for the batch that a peer at the position lacks
+abbrev pub lacking : Position → Command
+lacking position = BatchFor (position_text position) lines_over_http
+
+-- a peer at the position is handed what it lacks of this replica, which stays as it was
+abbrev pub AsksPush : Position → Text → Option (List ℕ) → Option (List ℕ) → Replica → Result BatchEnding WebFault → Replica → Type 0
+AsksPush position host held holds a result b =
+    (b ≡ a) × OwnRefuses a (lacking position) result
+    × Wrote (push_request host (batch_text (batch_of a position lines_over_http))) held holds result
+    × IfOk result (λ ending. ending_of ending ≡ (batch_of a position lines_over_http).ending)
+
 -- ---- on the way
 
 -- what is read off a reply of this replica: something of it, or that it refused, unless memory ran out
@@ -53,3 +75,14 @@ HandsOut a command P (Err _) = ⊥
 -- the text of the batch that is replied, and how it ends
 abbrev pub IsBatchWith : Reply → Text → Ending → Type 0
 IsBatchWith reply text ending = (b : Batch) × (reply ≡ BatchIs b) × (text ≡ batch_text b) × (ending ≡ b.ending)
+
+-- the text of this replica's position
+abbrev pub HandsPosition : Replica → Result (Vec ℕ Global) WebFault → Replica → Type 0
+HandsPosition a result b = (b ≡ a) × HandsOut a AskPosition (λ text. text.items ≡ position_text (position_of a)) result
+
+-- the text of this replica's batch for a position, and how it ends
+abbrev pub HandsBatch : Position → Replica → Result (Vec ℕ Global × BatchEnding) WebFault → Replica → Type 0
+HandsBatch position a result b =
+    (b ≡ a)
+    × HandsOut a (lacking position)
+    (λ x. (x.0.items ≡ batch_text (batch_of a position lines_over_http)) × (ending_of x.1 ≡ (batch_of a position lines_over_http).ending)) result

@@ -1,6 +1,7 @@
--- A reader of the contracts trusts Asking, Laws, Replies, Requests, Rounds, Steps, Taking and Took. The others, Seen and
+-- A reader of the contracts trusts Asking, Exchanged, Laws, Replies, Requests, Rounds, Steps, Taking and Took. The others, Seen and
 -- TookWords, serve private clauses and proofs alone.
 pub mod Asking
+pub mod Exchanged
 pub mod Laws
 pub mod Replies
 pub mod Requests

@@ -1,16 +1,20 @@
 -- An ask and its take over one connection.
-use Rattle.std.specs.Prelude.{◌≡◌, ◌⊎◌, ℕ, List, Option, Result, Ok, Err, IsErrAnd}
+use Rattle.std.specs.Prelude.{◌≡◌, ◌⊎◌, ℕ, List, Option, Result, Ok, Err, IsErr, IsErrAnd, OnErr}
 use Rattle.std.specs.Io.KnownBytes.{Appends}
 use Rattle.mr_model.specs.Texts.{Text}
 use Rattle.mr_model.specs.Replica.{Replica}
 use Rattle.mr_model.specs.Exchange as exchange
-use Rattle.mr_model.specs.Step.{Command}
+use Rattle.mr_model.specs.Http.{lines_over_http}
+use Rattle.mr_model.specs.Positions.{Position, position_of, position_text}
+use Rattle.mr_model.specs.Step.{Command, AskPosition, batch_of}
 use Rattle.mr_base.specs.Batches.{ending_of}
 use Rattle.mr_base.specs.declared.batches.Ending.{Ending}
 use Rattle.mr_http.specs.declared.faults.WebFault.{WebFault}
-use Rattle.mr_peer.specs.Asking.{IsAskFault, Wrote, OwnRefuses}
+use Rattle.mr_peer.specs.Asking.{IsAskFault, Wrote, OwnRefuses, lacking}
 use Rattle.mr_peer.specs.Replies.{told_took}
-use Rattle.mr_peer.specs.Taking.{Tells}
+use Rattle.mr_peer.specs.Requests.{pull_request, push_request}
+use Rattle.mr_peer.specs.Steps.{ReceivesSome}
+use Rattle.mr_peer.specs.Taking.{Tells, TakesReply}
 
 -- the ask failed, and the reply wasn't read; or the request was written, and the reply was taken so
 abbrev pub Runs : {X : Type 0} → Replica → Command → Text → Option (List ℕ) → Option (List ℕ) → Result X WebFault → Type 0 → Type 0
@@ -27,3 +31,17 @@ Joins (Err f) ending (Err e) = e ≡ f
 -- the counts that are told of the reply, with the ending of the batch that was handed over
 abbrev pub TellsTook : Option Text → exchange.Ending → Result (ℕ × ℕ × Ending) WebFault → Type 0
 TellsTook known ending result = (counts : Result (ℕ × ℕ) WebFault) × Tells told_took known counts × Joins counts ending result
+
+-- a peer is asked for what this replica lacks, and its reply is taken; the ask may have failed, which changes nothing
+abbrev pub Pulls : Text → Option (List ℕ) → Option (List ℕ) → Option Text → Replica → Result (ℕ × ℕ × Ending) WebFault → Replica → Type 0
+Pulls host held holds known a result b =
+    OnErr result (b ≡ a)
+    × Runs a AskPosition (pull_request host (position_text (position_of a))) held holds result (TakesReply known a result b)
+    × ((IsErr result × OwnRefuses a AskPosition result × (b ≡ a)) ⊎ ReceivesSome a result b)
+
+-- a peer at the position is handed what it lacks of this replica, which stays as it was, and its reply is taken
+abbrev pub Pushes : Position → Text → Option (List ℕ) → Option (List ℕ) → Option Text → Replica → Result (ℕ × ℕ × Ending) WebFault → Replica → Type 0
+Pushes position host held holds known a result b =
+    (b ≡ a)
+    × Runs a (lacking position) (push_request host (exchange.batch_text (batch_of a position lines_over_http))) held holds result
+    (TellsTook known (batch_of a position lines_over_http).ending result)

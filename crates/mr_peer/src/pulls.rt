@@ -1,18 +1,15 @@
-ghost use Rattle.std.specs.Prelude.{◌≡◌, ◌⊎◌, [], IsTrue, IfOk, IfErr, OnErr, length};
-ghost use Rattle.mr_model.specs.Positions.{position_of, position_text};
-ghost use Rattle.mr_model.specs.Replica.{Replica};
+ghost use Rattle.std.specs.Prelude.{◌≡◌, [], IsTrue, IfErr, length};
 ghost use Rattle.mr_model.specs.Serving.{Reaches};
 ghost use Rattle.mr_model.specs.Step.{AskPosition};
-ghost use Rattle.mr_model.specs.Tables.{Tables, Stands};
-ghost use Rattle.mr_store.specs.Kept.{IsSettled};
 ghost use Rattle.mr_service.specs.Asked.{reply_of};
 ghost use Rattle.mr_service.specs.Worlds.{IsPositionText};
-ghost use Rattle.mr_peer.specs.Asking.{Wrote, IsAskFault, OwnRefuses, ReadsOff, HandsOut};
+ghost use Rattle.mr_peer.specs.Asking.{AsksPull, HandsPosition, IsAskFault, ReadsOff};
+ghost use Rattle.mr_peer.specs.Exchanged.{IsExchanged};
 ghost use Rattle.mr_peer.specs.Replies as spec;
-ghost use Rattle.mr_peer.specs.Requests.{is_host, pull_request};
+ghost use Rattle.mr_peer.specs.Requests.{is_host};
 ghost use Rattle.mr_peer.specs.Seen.{reply_seen, IsInside, counts_seen};
-ghost use Rattle.mr_peer.specs.Steps.{StandsAfterTake, LeavesAfterTake};
-ghost use Rattle.mr_peer.specs.Taking.{Ends, Counts, Receives, Takes, TakesReply, IsOwnFault, IsTakeFault};
+ghost use Rattle.mr_peer.specs.Steps.{TakesBody, TakesPulled};
+ghost use Rattle.mr_peer.specs.Taking.{Ends, Counts, Receives, Takes, IsOwnFault, IsTakeFault};
 
 use crate::replies::{Replied, front_body, read_reply};
 use crate::requests::ask_full;
@@ -32,15 +29,9 @@ pub fn pull_ask<K: Keeper, W: Write>(
     writer: &mut W,
 ) -> Result<(), WebFault>
     requires { IsTrue (is_host host.now) }
-    ensures clean { K.is_clean service.new → K.is_clean service.old }
-    ensures open { K.is_clean service.new → K.is_open service.new → K.is_open service.old }
-    ensures settled { K.is_clean service.new → K.is_open service.new → IsSettled (K.may_leave service.old) (K.tables service.old) → IsSettled (K.may_leave service.new) (K.tables service.new) }
-    ensures wrote { K.is_clean service.new → K.is_open service.new → (a : Replica) → Stands (K.tables service.old) a
-        → Stands (K.tables service.new) a × OwnRefuses a AskPosition result
-        × Wrote (pull_request host.now (position_text (position_of a))) (W.contents writer.old) (W.contents writer.new) result }
+    ensures exchanged { IsExchanged K.Keeper service.old service.new result
+        (AsksPull host.now (W.contents writer.old) (W.contents writer.new)) (Reaches (K.tables service.old) AskPosition) }
     ensures fault { IfErr result IsAskFault }
-    ensures lasts { IfOk result (λ _. K.is_clean service.new → K.is_open service.old → K.is_open service.new) }
-    ensures crash { K.is_clean service.new → K.is_open service.old → (t : Tables) → K.may_leave service.new t → K.may_leave service.old t ⊎ Reaches (K.tables service.old) AskPosition t }
 {
     let position = own_position(alloc, service)?;
     ask_full(
@@ -55,14 +46,9 @@ pub fn pull_ask<K: Keeper, W: Write>(
 
 // The text of this replica's position.
 fn own_position<K: Keeper>(alloc: Global, service: &mut Service<K>) -> Result<Vec<u8>, WebFault>
-    ensures clean { K.is_clean service.new → K.is_clean service.old }
-    ensures open { K.is_clean service.new → K.is_open service.new → K.is_open service.old }
-    ensures settled { K.is_clean service.new → K.is_open service.new → IsSettled (K.may_leave service.old) (K.tables service.old) → IsSettled (K.may_leave service.new) (K.tables service.new) }
-    ensures position { K.is_clean service.new → K.is_open service.new → (a : Replica) → Stands (K.tables service.old) a
-        → Stands (K.tables service.new) a × HandsOut a AskPosition (λ text. text.items ≡ position_text (position_of a)) result }
+    ensures exchanged { IsExchanged K.Keeper service.old service.new result
+        HandsPosition (Reaches (K.tables service.old) AskPosition) }
     ensures fault { IfErr result IsAskFault }
-    ensures lasts { IfOk result (λ _. K.is_clean service.new → K.is_open service.old → K.is_open service.new) }
-    ensures crash { K.is_clean service.new → K.is_open service.old → (t : Tables) → K.may_leave service.new t → K.may_leave service.old t ⊎ Reaches (K.tables service.old) AskPosition t }
 {
     let reply = service.ask(&Command::Local(Local::Position));
     position_in(alloc, &reply)
@@ -89,16 +75,9 @@ pub fn pull_take<K: Keeper, R: Read>(
     service: &mut Service<K>,
     reader: &mut R,
 ) -> Result<(u64, u64, Ending), WebFault>
-    ensures clean { K.is_clean service.new → K.is_clean service.old }
-    ensures open { K.is_clean service.new → K.is_open service.new → K.is_open service.old }
-    ensures settled { K.is_clean service.new → K.is_open service.new → IsSettled (K.may_leave service.old) (K.tables service.old) → IsSettled (K.may_leave service.new) (K.tables service.new) }
-    ensures takes { K.is_clean service.new → K.is_open service.new → (a : Replica) → Stands (K.tables service.old) a
-        → (b : Replica) × Stands (K.tables service.new) b × OnErr result (b ≡ a)
-        × TakesReply (R.remaining reader.old) a result b }
+    ensures exchanged { IsExchanged K.Keeper service.old service.new result
+        (TakesPulled (R.remaining reader.old)) (TakesBody (K.tables service.old)) }
     ensures fault { IfErr result IsTakeFault }
-    ensures steps { K.is_clean service.new → K.is_open service.new → StandsAfterTake (K.tables service.old) result (K.tables service.new) }
-    ensures lasts { IfOk result (λ _. K.is_clean service.new → K.is_open service.old → K.is_open service.new) }
-    ensures crash { K.is_clean service.new → K.is_open service.old → LeavesAfterTake (K.may_leave service.old) (K.tables service.old) (K.may_leave service.new) }
 {
     let mut buffer = Vec::new(alloc);
     take_reply(alloc, service, reader, &mut buffer)
@@ -111,16 +90,9 @@ fn take_reply<K: Keeper, R: Read>(
     buffer: &mut Vec<u8>,
 ) -> Result<(u64, u64, Ending), WebFault>
     requires { buffer.old.items ≡ [] }
-    ensures clean { K.is_clean service.new → K.is_clean service.old }
-    ensures open { K.is_clean service.new → K.is_open service.new → K.is_open service.old }
-    ensures settled { K.is_clean service.new → K.is_open service.new → IsSettled (K.may_leave service.old) (K.tables service.old) → IsSettled (K.may_leave service.new) (K.tables service.new) }
-    ensures takes { K.is_clean service.new → K.is_open service.new → (a : Replica) → Stands (K.tables service.old) a
-        → (b : Replica) × Stands (K.tables service.new) b × OnErr result (b ≡ a)
-        × TakesReply (R.remaining reader.old) a result b }
+    ensures exchanged { IsExchanged K.Keeper service.old service.new result
+        (TakesPulled (R.remaining reader.old)) (TakesBody (K.tables service.old)) }
     ensures fault { IfErr result IsTakeFault }
-    ensures steps { K.is_clean service.new → K.is_open service.new → StandsAfterTake (K.tables service.old) result (K.tables service.new) }
-    ensures lasts { IfOk result (λ _. K.is_clean service.new → K.is_open service.old → K.is_open service.new) }
-    ensures crash { K.is_clean service.new → K.is_open service.old → LeavesAfterTake (K.may_leave service.old) (K.tables service.old) (K.may_leave service.new) }
 {
     let replied = read_reply(reader, buffer)?;
     take_body(alloc, service, buffer.as_slice(), replied)
@@ -133,14 +105,9 @@ fn take_body<K: Keeper>(
     replied: Option<Replied>,
 ) -> Result<(u64, u64, Ending), WebFault>
     requires { IsInside (length bytes.now) replied }
-    ensures clean { K.is_clean service.new → K.is_clean service.old }
-    ensures open { K.is_clean service.new → K.is_open service.new → K.is_open service.old }
-    ensures settled { K.is_clean service.new → K.is_open service.new → IsSettled (K.may_leave service.old) (K.tables service.old) → IsSettled (K.may_leave service.new) (K.tables service.new) }
-    ensures takes { K.is_clean service.new → K.is_open service.new → (a : Replica) → Stands (K.tables service.old) a
-        → (b : Replica) × Stands (K.tables service.new) b × Takes (spec.front_body (reply_seen bytes.now replied)) a result b }
+    ensures exchanged { IsExchanged K.Keeper service.old service.new result
+        (Takes (spec.front_body (reply_seen bytes.now replied))) (TakesBody (K.tables service.old)) }
     ensures fault { IfErr result IsTakeFault }
-    ensures lasts { IfOk result (λ _. K.is_clean service.new → K.is_open service.old → K.is_open service.new) }
-    ensures crash { K.is_clean service.new → K.is_open service.old → LeavesAfterTake (K.may_leave service.old) (K.tables service.old) (K.may_leave service.new) }
 {
     let body = front_body(bytes, replied)?;
     take_batch(alloc, service, body)
@@ -151,14 +118,9 @@ fn take_batch<K: Keeper>(
     service: &mut Service<K>,
     body: &[u8],
 ) -> Result<(u64, u64, Ending), WebFault>
-    ensures clean { K.is_clean service.new → K.is_clean service.old }
-    ensures open { K.is_clean service.new → K.is_open service.new → K.is_open service.old }
-    ensures settled { K.is_clean service.new → K.is_open service.new → IsSettled (K.may_leave service.old) (K.tables service.old) → IsSettled (K.may_leave service.new) (K.tables service.new) }
-    ensures takes { K.is_clean service.new → K.is_open service.new → (a : Replica) → Stands (K.tables service.old) a
-        → (b : Replica) × Stands (K.tables service.new) b × Receives body.now a result b }
+    ensures exchanged { IsExchanged K.Keeper service.old service.new result
+        (Receives body.now) (TakesBody (K.tables service.old)) }
     ensures fault { IfErr result IsOwnFault }
-    ensures lasts { IfOk result (λ _. K.is_clean service.new → K.is_open service.old → K.is_open service.new) }
-    ensures crash { K.is_clean service.new → K.is_open service.old → LeavesAfterTake (K.may_leave service.old) (K.tables service.old) (K.may_leave service.new) }
 {
     let ending = ending_in(alloc, body)?;
     let (writes, commits) = receive(alloc, service, body)?;
@@ -170,14 +132,9 @@ fn receive<K: Keeper>(
     service: &mut Service<K>,
     body: &[u8],
 ) -> Result<(u64, u64), WebFault>
-    ensures clean { K.is_clean service.new → K.is_clean service.old }
-    ensures open { K.is_clean service.new → K.is_open service.new → K.is_open service.old }
-    ensures settled { K.is_clean service.new → K.is_open service.new → IsSettled (K.may_leave service.old) (K.tables service.old) → IsSettled (K.may_leave service.new) (K.tables service.new) }
-    ensures takes { K.is_clean service.new → K.is_open service.new → (a : Replica) → Stands (K.tables service.old) a
-        → (b : Replica) × Stands (K.tables service.new) b × Counts body.now a result b }
+    ensures exchanged { IsExchanged K.Keeper service.old service.new result
+        (Counts body.now) (TakesBody (K.tables service.old)) }
     ensures fault { IfErr result IsOwnFault }
-    ensures lasts { IfOk result (λ _. K.is_clean service.new → K.is_open service.old → K.is_open service.new) }
-    ensures crash { K.is_clean service.new → K.is_open service.old → LeavesAfterTake (K.may_leave service.old) (K.tables service.old) (K.may_leave service.new) }
 {
     let Ok(bytes) = Vec::from_slice(alloc, body) else {
         return Err(WebFault::Memory);

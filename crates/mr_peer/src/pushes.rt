@@ -1,18 +1,14 @@
-ghost use Rattle.std.specs.Prelude.{◌≡◌, ◌⊎◌, [], IsTrue, IfOk, IfErr, length, ok_or};
-ghost use Rattle.mr_model.specs.Exchange.{batch_text};
-ghost use Rattle.mr_model.specs.Positions.{position_text};
+ghost use Rattle.std.specs.Prelude.{◌≡◌, [], IsTrue, IfErr, length, ok_or};
 ghost use Rattle.mr_model.specs.Http.{lines_over_http};
-ghost use Rattle.mr_model.specs.Replica.{Replica};
 ghost use Rattle.mr_model.specs.Serving.{Reaches};
-ghost use Rattle.mr_model.specs.Step.{BatchFor, batch_of};
-ghost use Rattle.mr_model.specs.Tables.{Tables, Stands};
-ghost use Rattle.mr_store.specs.Kept.{IsSettled};
+ghost use Rattle.mr_model.specs.Step.{BatchFor};
 ghost use Rattle.mr_base.specs.Batches.{ending_of};
 ghost use Rattle.mr_http.specs.declared.faults.WebFault.TheVariants.{BadReply};
 ghost use Rattle.mr_service.specs.Asked.{command_of, reply_of};
-ghost use Rattle.mr_peer.specs.Asking.{Wrote, IsAskFault, OwnRefuses, ReadsOff, HandsOut, IsBatchWith};
+ghost use Rattle.mr_peer.specs.Asking.{AsksPush, HandsBatch, IsAskFault, IsBatchWith, ReadsOff, lacking};
+ghost use Rattle.mr_peer.specs.Exchanged.{IsExchanged};
 ghost use Rattle.mr_peer.specs.Replies.{told_took};
-ghost use Rattle.mr_peer.specs.Requests.{is_host, push_request};
+ghost use Rattle.mr_peer.specs.Requests.{is_host};
 ghost use Rattle.mr_peer.specs.Seen.{reply_seen, IsInside};
 ghost use Rattle.mr_peer.specs.Taking.{Tells, Says, IsReplyFault};
 ghost use Rattle.mr_peer.specs.Took.{read_took};
@@ -37,16 +33,9 @@ pub fn push_ask<K: Keeper, W: Write>(
     writer: &mut W,
 ) -> Result<Ending, WebFault>
     requires { IsTrue (is_host host.now) }
-    ensures clean { K.is_clean service.new → K.is_clean service.old }
-    ensures open { K.is_clean service.new → K.is_open service.new → K.is_open service.old }
-    ensures settled { K.is_clean service.new → K.is_open service.new → IsSettled (K.may_leave service.old) (K.tables service.old) → IsSettled (K.may_leave service.new) (K.tables service.new) }
-    ensures asks { K.is_clean service.new → K.is_open service.new → (a : Replica) → Stands (K.tables service.old) a
-        → Stands (K.tables service.new) a × OwnRefuses a (BatchFor (position_text position.now) lines_over_http) result
-        × Wrote (push_request host.now (batch_text (batch_of a position.now lines_over_http))) (W.contents writer.old) (W.contents writer.new) result
-        × IfOk result (λ ending. ending_of ending ≡ (batch_of a position.now lines_over_http).ending) }
+    ensures exchanged { IsExchanged K.Keeper service.old service.new result
+        (AsksPush position.now host.now (W.contents writer.old) (W.contents writer.new)) (Reaches (K.tables service.old) (lacking position.now)) }
     ensures fault { IfErr result IsAskFault }
-    ensures lasts { IfOk result (λ _. K.is_clean service.new → K.is_open service.old → K.is_open service.new) }
-    ensures crash { K.is_clean service.new → K.is_open service.old → (t : Tables) → K.may_leave service.new t → K.may_leave service.old t ⊎ Reaches (K.tables service.old) (BatchFor (position_text position.now) lines_over_http) t }
 {
     let (text, ending) = own_batch(alloc, service, position)?;
     ask_full(alloc, "POST /push HTTP/1.1", host, text.as_slice(), writer)?;
@@ -59,16 +48,9 @@ fn own_batch<K: Keeper>(
     service: &mut Service<K>,
     position: &Position,
 ) -> Result<(Vec<u8>, Ending), WebFault>
-    ensures clean { K.is_clean service.new → K.is_clean service.old }
-    ensures open { K.is_clean service.new → K.is_open service.new → K.is_open service.old }
-    ensures settled { K.is_clean service.new → K.is_open service.new → IsSettled (K.may_leave service.old) (K.tables service.old) → IsSettled (K.may_leave service.new) (K.tables service.new) }
-    ensures batch { K.is_clean service.new → K.is_open service.new → (a : Replica) → Stands (K.tables service.old) a
-        → Stands (K.tables service.new) a × HandsOut a (BatchFor (position_text position.now) lines_over_http)
-        (λ x. (x.0.items ≡ batch_text (batch_of a position.now lines_over_http))
-        × (ending_of x.1 ≡ (batch_of a position.now lines_over_http).ending)) result }
+    ensures exchanged { IsExchanged K.Keeper service.old service.new result
+        (HandsBatch position.now) (Reaches (K.tables service.old) (lacking position.now)) }
     ensures fault { IfErr result IsAskFault }
-    ensures lasts { IfOk result (λ _. K.is_clean service.new → K.is_open service.old → K.is_open service.new) }
-    ensures crash { K.is_clean service.new → K.is_open service.old → (t : Tables) → K.may_leave service.new t → K.may_leave service.old t ⊎ Reaches (K.tables service.old) (BatchFor (position_text position.now) lines_over_http) t }
 {
     position.is_within_limits();
     let Ok(text) = write_position(alloc, position) else {

@@ -1,24 +1,35 @@
-use Rattle.std.proofs.Common.{◌∙◌, inl, sym, refl, ap, subst, Result, Err}
+use Rattle.std.proofs.Common.{◌∙◌, ℕ, sym, refl, ap, subst, Result, Err}
 use Rattle.std.specs.Prelude.{IfErr}
 use Rattle.std.proofs.lemmas.Result.{err_from_is_err_and}
 use Rattle.mr_model.specs.Texts.{Text}
+use Rattle.mr_base.specs.declared.batches.Ending.{Ending}
 use Rattle.mr_http.specs.declared.faults.WebFault.{WebFault}
+use Rattle.mr_peer.specs.Exchanged.{IsExchanged}
+use Rattle.mr_peer.specs.Replies.{front_body}
 use Rattle.mr_peer.specs.Seen.{reply_seen}
+use Rattle.mr_peer.specs.Steps.{TakesBody}
 use Rattle.mr_peer.specs.Taking.{Takes, IsReplyFault, IsTakeFault}
+use Rattle.mr_peer.proofs.Exchanges.{untouched}
 use Rattle.mr_peer.proofs.FaultLemmas.{front_faults, handed_on, own_takes, reply_takes}
 use Rattle.mr_peer.proofs.pulls.take_body.Goals as goal
 
-pub returns-in_err-body-clause-takes : goal.returns-in_err-body-clause-takes
-returns-in_err-body-clause-takes g c = λ k o a stands.
+pub returns-in_err-body-clause-exchanged : goal.returns-in_err-body-clause-exchanged
+returns-in_err-body-clause-exchanged g c =
+    let told = front_body (reply_seen c.args.bytes.now c.args.replied) in
+    let old = c.args.service.now in
+    let e = c.in_err-body.field-0.0 in
     let p = err_from_is_err_and c.from_residual.result c.from_residual.ensures.1 in
-    let P : Result Text WebFault → Type 0 = λ told. Takes told a c.from_residual.result a in
-    (a, stands, subst P c.in_err-body.ensures (p.1 ∙ ap Err p.2, refl))
+    let R = TakesBody (g.K.Keeper.tables old) in
+    let P : Result (ℕ × ℕ × Ending) WebFault → Type 0 = λ r. IsExchanged g.K.Keeper old old r (Takes told) R in
+    subst P (sym (p.1 ∙ ap Err p.2))
+    (untouched g.K.Keeper old e (Takes told) R (λ a. subst (λ (t : Result Text WebFault). Takes t a (Err e) a) c.in_err-body.ensures (refl, refl)))
 
-pub returns-clause-takes : goal.returns-clause-takes
-returns-clause-takes g c = λ k o a stands.
-    let t = c.take_batch.ensures.takes k o a stands in
-    let P : Result Text WebFault → Type 0 = λ told. Takes told a c.take_batch.result t.0 in
-    (t.0, t.1, subst P c.in_ok-body.ensures t.2)
+pub returns-clause-exchanged : goal.returns-clause-exchanged
+returns-clause-exchanged g c =
+    let old = c.args.service.now in
+    let P : Result Text WebFault → Type 0 =
+    λ told. IsExchanged g.K.Keeper old c.take_batch.new.service c.take_batch.result (Takes told) (TakesBody (g.K.Keeper.tables old)) in
+    subst P c.in_ok-body.ensures c.take_batch.ensures.exchanged
 
 pub returns-in_err-body-clause-fault : goal.returns-in_err-body-clause-fault
 returns-in_err-body-clause-fault g c =
@@ -29,6 +40,3 @@ returns-in_err-body-clause-fault g c =
 
 pub returns-clause-fault : goal.returns-clause-fault
 returns-clause-fault g c = own_takes c.take_batch.result c.take_batch.ensures.fault
-
-pub returns-in_err-body-clause-crash : goal.returns-in_err-body-clause-crash
-returns-in_err-body-clause-crash g c clean up t leaves = inl leaves

@@ -1,37 +1,37 @@
-use Rattle.std.proofs.Common.{◌≡◌, ◌⊎◌, ◌∙◌, ℕ, Vec, Global, sym, ap, subst}
+use Rattle.std.proofs.Common.{◌≡◌, ◌∙◌, ℕ, Vec, Global, refl, sym, ap, subst}
 use Rattle.mr_model.specs.Texts.{Text}
 use Rattle.mr_model.specs.Http.{lines_over_http}
 use Rattle.mr_model.specs.Positions.{position_text}
-use Rattle.mr_model.specs.Serving.{TakesStep, Reaches}
+use Rattle.mr_model.specs.Serving.{Reaches}
 use Rattle.mr_model.specs.Step.{Command, BatchFor}
 use Rattle.mr_model.proofs.BatchesReadBack.{ok_inj}
 use Rattle.mr_base.specs.Batches.{ending_of}
 use Rattle.mr_base.specs.declared.batches.Ending.{Ending}
+use Rattle.mr_http.specs.declared.faults.WebFault.TheVariants.{Memory}
 use Rattle.mr_service.specs.Asked.{reply_of}
-use Rattle.mr_peer.proofs.AskLemmas.{batch_handed, batch_lasts}
+use Rattle.mr_service.specs.Served.{IsServed}
+use Rattle.mr_peer.specs.Asking.{HandsBatch, lacking}
+use Rattle.mr_peer.proofs.AskLemmas.{batch_handed, batch_told}
+use Rattle.mr_peer.proofs.Exchanges.{of_served, untouched}
 use Rattle.mr_peer.proofs.pushes.own_batch.Goals as goal
 
-pub returns-clause-batch : goal.returns-clause-batch
-returns-clause-batch g c = λ k o a stands.
-    let before = g.K.Keeper.tables c.args.service.now in
-    let after = g.K.Keeper.tables c.ask-reply.new.self in
+pub returns-in_default-clause-exchanged : goal.returns-in_default-clause-exchanged
+returns-in_default-clause-exchanged g c =
+    let old = c.args.service.now in
+    let position = c.args.position.now in
+    untouched g.K.Keeper old Memory (HandsBatch position) (Reaches (g.K.Keeper.tables old) (lacking position)) (λ a. (refl, tt))
+
+pub returns-clause-exchanged : goal.returns-clause-exchanged
+returns-clause-exchanged g c =
+    let old = c.args.service.now in
+    let new = c.ask-reply.new.self in
     let reply = reply_of c.ask-reply.result in
     let position = c.args.position.now in
+    let result = c.batch_in.result in
+    let text_of : Vec ℕ Global × Ending → Text = λ x. x.0.items in
     let text : c.in-Ok.text.items ≡ position_text position = sym (ok_inj (position_text position) c.in-Ok.text.items c.in-Ok.ensures.exact) in
-    let P : Command → Type 0 = λ command. TakesStep before command reply after in
-    let takes = subst P (c.batch_for.ensures ∙ ap (λ (t : Text). BatchFor t lines_over_http) text) (c.ask-reply.ensures.step k o) in
-    batch_handed (λ (x : Vec ℕ Global × Ending). x.0.items) (λ (x : Vec ℕ Global × Ending). ending_of x.1) before after reply position lines_over_http
-    c.batch_in.result c.is_within_limits.ensures takes c.batch_in.ensures a stands
-
-pub returns-clause-crash : goal.returns-clause-crash
-returns-clause-crash g c clean up t leaves =
-    let position = c.args.position.now in
-    let text : c.in-Ok.text.items ≡ position_text position = sym (ok_inj (position_text position) c.in-Ok.text.items c.in-Ok.ensures.exact) in
-    let P : Command → Type 0 = λ command. g.K.Keeper.may_leave c.args.service.now t ⊎ Reaches (g.K.Keeper.tables c.args.service.now) command t in
-    subst P (c.batch_for.ensures ∙ ap (λ (b : Text). BatchFor b lines_over_http) text) (c.ask-reply.ensures.crash clean up t leaves)
-
-pub returns-clause-lasts : goal.returns-clause-lasts
-returns-clause-lasts g c =
-    batch_lasts (λ (x : Vec ℕ Global × Ending). x.0.items) (λ (x : Vec ℕ Global × Ending). ending_of x.1) (reply_of c.ask-reply.result)
-    c.batch_in.result (g.K.Keeper.is_clean c.ask-reply.new.self) (g.K.Keeper.is_open c.args.service.now)
-    (g.K.Keeper.is_open c.ask-reply.new.self) c.batch_in.ensures c.ask-reply.ensures.lasts
+    let P : Command → Type 0 = λ command. IsServed g.K.Keeper old new command reply in
+    let served = subst P (c.batch_for.ensures ∙ ap (λ (t : Text). BatchFor t lines_over_http) text) c.ask-reply.ensures.served in
+    of_served g.K.Keeper old new (lacking position) reply result (HandsBatch position) (Reaches (g.K.Keeper.tables old) (lacking position)) served
+    (batch_handed text_of (λ x. ending_of x.1) reply position lines_over_http result c.is_within_limits.ensures c.batch_in.ensures)
+    (batch_told text_of (λ x. ending_of x.1) reply result c.batch_in.ensures) (λ t r. r)
