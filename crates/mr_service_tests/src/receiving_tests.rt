@@ -53,7 +53,7 @@ const NOTHING_AT_9: &str = "mp1 9 1\nK 0\nE\n";
 
 /// What a replica is told. The room is oak, and the day is Monday.
 #[derive(Clone, Copy)]
-enum Told {
+pub(crate) enum Told {
     /// It is a new one with this server, whose primary is 1.
     New(u32),
     Batch(&'static str),
@@ -72,7 +72,7 @@ enum Told {
     Sheet,
 }
 
-static ROWS: [(Told, &str); 59] = [
+pub(crate) static ROWS: [(Told, &str); 59] = [
     // a repeat brings nothing
     (Told::New(9), ""),
     (Told::Batch(TWO), "took 2 writes 0 commits\n"),
@@ -145,7 +145,7 @@ static ROWS: [(Told, &str); 59] = [
     (Told::Position, NOTHING),
 ];
 
-fn opening(alloc: Global, server: u32) -> Result<Service<ListKeeper>, Fail> {
+pub(crate) fn opening(alloc: Global, server: u32) -> Result<Service<ListKeeper>, Fail> {
     let server = ServerId::new(server).ok_or("no server")?;
     let primary = ServerId::new(1).ok_or("no primary")?;
     Ok(Service::new(alloc, ListKeeper::new(alloc, server, primary)))
@@ -193,16 +193,16 @@ fn sheet(alloc: Global) -> Result<Local, AllocError> {
     })
 }
 
-fn batch_for(alloc: Global, position: &str) -> Result<Local, Refusal> {
+pub(crate) fn batch_for(position: Vec<u8>) -> Result<Local, Refusal> {
     let max_lines = LineCount::new(10).ok_or(Refusal::BadPosition)?;
     Ok(Local::BatchFor {
-        position: bytes(alloc, position)?,
+        position,
         max_lines,
     })
 }
 
 /// The command that a replica is told, if it is not to be a new one.
-fn command(alloc: Global, told: Told) -> Result<Command, Refusal> {
+pub(crate) fn command(alloc: Global, told: Told) -> Result<Command, Refusal> {
     match told {
         Told::New(_) | Told::Position => Ok(Command::Local(Local::Position)),
         Told::Batch(batch) => Ok(Command::Receive(bytes(alloc, batch)?)),
@@ -212,13 +212,17 @@ fn command(alloc: Global, told: Told) -> Result<Command, Refusal> {
         Told::Book(title) => Ok(Command::Local(booking(alloc, title)?)),
         Told::Commit(count) => Ok(Command::Local(Local::Commit(count))),
         Told::Truncate(number) => Ok(Command::Local(Local::Truncate(number))),
-        Told::BatchFor(position) => Ok(Command::Local(batch_for(alloc, position)?)),
+        Told::BatchFor(position) => Ok(Command::Local(batch_for(bytes(alloc, position)?)?)),
         Told::Sheet => Ok(Command::Local(sheet(alloc)?)),
     }
 }
 
 /// The text of the reply to what the replica is told; none where it is a new one now.
-fn reply(service: &mut Service<ListKeeper>, alloc: Global, told: Told) -> Result<Vec<u8>, Fail> {
+pub(crate) fn reply(
+    service: &mut Service<ListKeeper>,
+    alloc: Global,
+    told: Told,
+) -> Result<Vec<u8>, Fail> {
     if let Told::New(server) = told {
         *service = opening(alloc, server)?;
         return Ok(Vec::new(alloc));
