@@ -114,7 +114,7 @@ get-drop (suc d) j [] = refl
 get-drop (suc d) j (x ∷ xs) = get-drop d j xs ∙ ap (slice_get (x ∷ xs)) (let n : suc (d + j) ≡ suc d + j = omega arith in n)
 
 -- the commit of a number that is kept
-commit_at : (r : Replica) (q : ℕ) → IsReplica r → r.dropped < q → q ≤ length r.commits → (w : Write) × (slice_get (kept_in_order r) (q - 1 - r.dropped) ≡ Some w) × (slice_get r.commits (q - 1) ≡ Some (id_of w))
+pub commit_at : (r : Replica) (q : ℕ) → IsReplica r → r.dropped < q → q ≤ length r.commits → (w : Write) × (slice_get (kept_in_order r) (q - 1 - r.dropped) ≡ Some w) × (slice_get r.commits (q - 1) ≡ Some (id_of w))
 commit_at r q sound low high =
     let found = λ (id : Id) (h : Has id (drop r.dropped r.commits)). commit_found r id sound (subst (Has id) (take-append-drop r.dropped r.commits) (has_right id (take r.dropped r.commits) (drop r.dropped r.commits) h)) in
     let size = length-drop r.dropped r.commits in

@@ -33,7 +33,7 @@ with_write-places w (v ∷ vs) = go (stamp_before w v) (with_write-places w vs)
     go true e = refl
     go false e = ap (λ ws. v ∷ ws) e
 
-rooms-learned : (t : Text) (rooms : List Text) → AreInNameOrder rooms → rooms_with rooms t ≡ with_room t rooms
+pub rooms-learned : (t : Text) (rooms : List Text) → AreInNameOrder rooms → rooms_with rooms t ≡ with_room t rooms
 rooms-learned t rooms ordered = go (list_any (bytes_eq t) rooms) refl
   where
     go : (b : Bool) → list_any (bytes_eq t) rooms ≡ b → cond b rooms (with_room t rooms) ≡ with_room t rooms

@@ -37,3 +37,6 @@ pub mod Touching
 pub mod PickedRows
 pub mod Stamping
 pub mod PartScopes
+pub mod JudgingPart
+pub mod LearningPart
+pub mod ReceivingPart

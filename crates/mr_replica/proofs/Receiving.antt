@@ -169,12 +169,12 @@ pub record IsAt (items : List Item) (k : ℕ) (start : Progress) (c : CandidateV
 pub at-start : (items : List Item) (p : Progress) (c : CandidateView) → IsReplica p.replica → Shows c p.replica → IsAt items 0 p c
 at-start items p c sound shows = record { progress = p; sound = sound; rest = refl; shows = shows }
 
-drop_at : (xs : List Item) (k : ℕ) (x : Item) → k < length xs → x ≡ get_or xs k x → drop k xs ≡ x ∷ drop (suc k) xs
+pub drop_at : (xs : List Item) (k : ℕ) (x : Item) → k < length xs → x ≡ get_or xs k x → drop k xs ≡ x ∷ drop (suc k) xs
 drop_at [] k x h e = absurd (omega arith)
 drop_at (y ∷ ys) zero x h e = ap (λ z. z ∷ ys) (sym e)
 drop_at (y ∷ ys) (suc k) x h e = drop_at ys k x (omega arith) e
 
-all_at : (xs : List Item) (k : ℕ) (x : Item) → k < length xs → x ≡ get_or xs k x → list_all is_item xs ≡ true → is_item x ≡ true
+pub all_at : (xs : List Item) (k : ℕ) (x : Item) → k < length xs → x ≡ get_or xs k x → list_all is_item xs ≡ true → is_item x ≡ true
 all_at [] k x h e all = absurd (omega arith)
 all_at (y ∷ ys) zero x h e all = ap is_item e ∙ (and_parts (is_item y) (list_all is_item ys) all).0
 all_at (y ∷ ys) (suc k) x h e all = all_at ys k x (omega arith) e (and_parts (is_item y) (list_all is_item ys) all).1
@@ -194,15 +194,15 @@ pub at-failed : (items : List Item) (k : ℕ) (x : Item) (p : Progress) (c new :
 at-failed items k x p c new r h e a (inl t) = inl (a.rest ∙ ap (λ xs. take_items xs (2 + k) (Ok a.progress)) (drop_at items k x h e) ∙ ap (take_items (drop (suc k) items) (2 + k + 1)) t)
 at-failed items k x p c new r h e a (inr t) = inr t
 
+pub drop_none : (xs : List Item) (n : ℕ) → length xs ≤ n → drop n xs ≡ []
+drop_none [] zero g = refl
+drop_none [] (suc n) g = refl
+drop_none (y ∷ ys) zero g = absurd (omega arith)
+drop_none (y ∷ ys) (suc n) g = drop_none ys n (omega arith)
+
 -- at the end
 pub at-end : (items : List Item) (k : ℕ) (p : Progress) (c : CandidateView) → length items ≤ k → (a : IsAt items k p c) → take_items items 2 (Ok p) ≡ Ok a.progress
 at-end items k p c h a = a.rest ∙ ap (λ xs. take_items xs (2 + k) (Ok a.progress)) (drop_none items k h)
-  where
-    drop_none : (xs : List Item) (n : ℕ) → length xs ≤ n → drop n xs ≡ []
-    drop_none [] zero g = refl
-    drop_none [] (suc n) g = refl
-    drop_none (y ∷ ys) zero g = absurd (omega arith)
-    drop_none (y ∷ ys) (suc n) g = drop_none ys n (omega arith)
 
 -- ---- the desk
 

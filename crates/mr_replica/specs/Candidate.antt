@@ -54,14 +54,17 @@ abbrev pub known_verdict : ℕ → Write → Option Write → Result Bool Refusa
 known_verdict line w None = Ok false
 known_verdict line w (Some v) = if same_write v w then Ok false else Err (Forged line)
 
--- by what is known of the write's server
-abbrev pub write_verdict_by : ℕ → Tally → ℕ → List Write → Write → Result Bool Refusal
-write_verdict_by line tally own kept w =
-    if nat_le w.stamp.n tally.count then known_verdict line w (write_in kept (id_of w))
+-- by what is known of the write's server, and the kept write of its id
+abbrev pub write_verdict_with : ℕ → Tally → ℕ → Option Write → Write → Result Bool Refusal
+write_verdict_with line tally own there w =
+    if nat_le w.stamp.n tally.count then known_verdict line w there
     else (if w.stamp.server == own then Err (OwnWrite line)
     else (if nat_lt (tally.count + 1) w.stamp.n then Err (Gap line)
     else (if nat_le w.stamp.time tally.last_time then Err (OutOfOrder line)
     else Ok true)))
+
+abbrev pub write_verdict_by : ℕ → Tally → ℕ → List Write → Write → Result Bool Refusal
+write_verdict_by line tally own kept w = write_verdict_with line tally own (write_in kept (id_of w)) w
 
 abbrev pub write_verdict : ℕ → Summary → List Write → Write → Result Bool Refusal
 write_verdict line s kept w = write_verdict_by line (tally_at s.tallies w.stamp.server) s.server kept w
@@ -71,15 +74,19 @@ abbrev pub there_verdict : ℕ → Id → Option Write → Result Bool Refusal
 there_verdict line id None = Err (Forged line)
 there_verdict line id (Some w) = if same_id (id_of w) id then Ok false else Err (Forged line)
 
-abbrev pub commit_verdict_by : ℕ → Tally → Summary → List Write → ℕ → Id → Result Bool Refusal
-commit_verdict_by line tally s kept q id =
+-- by what is known of the server, and the kept write of that commit number
+abbrev pub commit_verdict_with : ℕ → Tally → Summary → Option Write → ℕ → Id → Result Bool Refusal
+commit_verdict_with line tally s there q id =
     if nat_le q s.dropped then Ok false
-    else (if nat_le q s.commits then there_verdict line id (slice_get kept (q - 1 - s.dropped))
+    else (if nat_le q s.commits then there_verdict line id there
     else (if s.server == s.primary then Err (PrimaryOnly line)
     else (if nat_lt (s.commits + 1) q then Err (Gap line)
     else (if nat_lt tally.count id.n then Err (Gap line)
     else (if not (id.n == tally.committed + 1) then Err (OutOfOrder line)
     else Ok true)))))
+
+abbrev pub commit_verdict_by : ℕ → Tally → Summary → List Write → ℕ → Id → Result Bool Refusal
+commit_verdict_by line tally s kept q id = commit_verdict_with line tally s (slice_get kept (q - 1 - s.dropped)) q id
 
 abbrev pub commit_verdict : ℕ → Summary → List Write → ℕ → Id → Result Bool Refusal
 commit_verdict line s kept q id = commit_verdict_by line (tally_at s.tallies id.server) s kept q id

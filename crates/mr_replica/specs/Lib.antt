@@ -1,5 +1,6 @@
 -- A reader of the contracts trusts Log, Desk, Steps, Candidate, DeskTables, Turning, ChangeLaws, KeptRows, SoundLog, Parts and
--- ScopeOf. The others, Outgoing, PartMoves, PickedLogs, PickedBookings and PickedUndo, serve private clauses and proofs alone.
+-- ScopeOf. The others, Outgoing, PartCandidate, PartMoves, PickedLogs, PickedBookings and PickedUndo, serve private clauses and proofs
+-- alone.
 pub mod Log
 pub mod Desk
 pub mod Steps
@@ -16,3 +17,4 @@ pub mod ScopeOf
 pub mod PickedLogs
 pub mod PickedBookings
 pub mod PickedUndo
+pub mod PartCandidate

@@ -8,8 +8,9 @@ ghost use Rattle.mr_model.specs.Replica.{IsReplica};
 ghost use Rattle.mr_model.specs.Taking.{Progress, take_item, take_items, take_write, take_commit};
 ghost use Rattle.mr_base.specs.Batches.{item_of};
 ghost use Rattle.mr_replica.specs.Desk.{NeverStore};
-ghost use Rattle.mr_replica.specs.Candidate.{Shows, Takes, KeepsFront, KeepsMarks, write_in, known_verdict, there_verdict, write_verdict, commit_verdict, front_len as front_len_of, write_place, with_learned, id_place as place_of_id, commit_place, with_moved};
+ghost use Rattle.mr_replica.specs.Candidate.{Shows, Takes, KeepsFront, KeepsMarks, write_in, write_verdict, commit_verdict, front_len as front_len_of, write_place, with_learned, id_place as place_of_id, commit_place, with_moved};
 
+use crate::judge::{judge_commit, judge_write};
 use mr_base::{CommitNumber, Item, Refusal, RoomName, Write, WriteId, stamp_before};
 use mr_tables::rooms::{copies_of, learn_room};
 use mr_tables::summary::Summary;
@@ -86,21 +87,12 @@ impl Candidate {
         ensures verdict { result ≡ write_verdict line self.now.summary self.now.kept write.now }
         ensures own { NeverStore result }
     {
-        let stamp = write.stamp;
-        let tally = self.summary.tally(stamp.server);
-        if stamp.n <= tally.count {
-            return judge_known(line, write, find_write(&self.kept, stamp.id()));
-        }
-        if stamp.server == self.summary.server {
-            return Err(Refusal::OwnWrite(line));
-        }
-        if stamp.n - 1 > tally.count {
-            return Err(Refusal::Gap(line));
-        }
-        if stamp.time <= tally.last_time {
-            return Err(Refusal::OutOfOrder(line));
-        }
-        Ok(true)
+        judge_write(
+            &self.summary,
+            line,
+            write,
+            find_write(&self.kept, write.stamp.id()),
+        )
     }
 
     /// Whether a commit in this line is new, and not one that is known or dropped.
@@ -114,29 +106,8 @@ impl Candidate {
         ensures own { NeverStore result }
         ensures in_range { id.server < 100 }
     {
-        let q = seq.number();
-        let summary = self.summary;
-        let tally = summary.tally(id.server);
-        if q <= summary.dropped {
-            return Ok(false);
-        }
-        if q <= summary.commits {
-            let place = (q - 1 - summary.dropped) as usize;
-            return judge_there(line, id, write_at(&self.kept, place));
-        }
-        if summary.server == summary.primary {
-            return Err(Refusal::PrimaryOnly(line));
-        }
-        if q - 1 > summary.commits {
-            return Err(Refusal::Gap(line));
-        }
-        if id.n > tally.count {
-            return Err(Refusal::Gap(line));
-        }
-        if id.n - 1 != tally.committed {
-            return Err(Refusal::OutOfOrder(line));
-        }
-        Ok(true)
+        let place = (seq.number() - 1).saturating_sub(self.summary.dropped) as usize;
+        judge_commit(&self.summary, line, seq, id, write_at(&self.kept, place))
     }
 
     /// Takes an item that stands in this line, or tells why the batch is refused.
@@ -270,38 +241,4 @@ fn id_place(writes: &[Write], id: WriteId) -> usize
         }
     }
     writes.len()
-}
-
-/// Whether a known write is to be skipped: it is where it is kept just so, or dropped.
-fn judge_known(line: u64, write: &Write, kept: Option<&Write>) -> Result<bool, Refusal>
-    ensures verdict { result ≡ known_verdict line write.now (option_copied kept.entry) }
-    ensures own { NeverStore result }
-{
-    match kept {
-        None => Ok(false),
-        Some(kept) => {
-            if kept.is_same(write) {
-                Ok(false)
-            } else {
-                Err(Refusal::Forged(line))
-            }
-        }
-    }
-}
-
-/// Whether a known commit is to be skipped: it is where it is of this id.
-fn judge_there(line: u64, id: WriteId, kept: Option<&Write>) -> Result<bool, Refusal>
-    ensures verdict { result ≡ there_verdict line id (option_copied kept.entry) }
-    ensures own { NeverStore result }
-{
-    match kept {
-        None => Err(Refusal::Forged(line)),
-        Some(kept) => {
-            if kept.stamp.id() == id {
-                Ok(false)
-            } else {
-                Err(Refusal::Forged(line))
-            }
-        }
-    }
 }
