@@ -98,13 +98,13 @@ both k old mid new x result P Q T R S U first next becomes of_first of_next =
       opens = λ c o. first.opens (next.clean c) (next.opens c o);
       settled = λ c o is. next.settled c o (first.settled (next.clean c) (next.opens c o) is);
       stands = λ c o a is.
-      let s = first.stands (next.clean c) (next.opens c o) a is in
-      let u = next.stands c o s.0 s.1 in
-      (u.0, u.1, becomes a s.0 u.0 s.2 u.2);
+          let s = first.stands (next.clean c) (next.opens c o) a is in
+          let u = next.stands c o s.0 s.1 in
+          (u.0, u.1, becomes a s.0 u.0 s.2 u.2);
       lasts = lasts_on result (k.is_clean new → k.is_open mid → k.is_open new) (k.is_clean new → k.is_open old → k.is_open new)
-      (λ last c o. last c (first.lasts (next.clean c) o)) next.lasts;
+          (λ last c o. last c (first.lasts (next.clean c) o)) next.lasts;
       crash = λ c o t leaves.
-      let still = first.lasts (next.clean c) o in
-      left_by_both (k.may_leave old t) (k.may_leave mid t) (R t) (S t) (U t) (first.crash (next.clean c) o t) (of_first t)
-      (of_next (first.stands (next.clean c) still) t) (next.crash c still t leaves);
+          let still = first.lasts (next.clean c) o in
+          left_by_both (k.may_leave old t) (k.may_leave mid t) (R t) (S t) (U t) (first.crash (next.clean c) o t) (of_first t)
+          (of_next (first.stands (next.clean c) still) t) (next.crash c still t leaves);
     }

@@ -1,5 +1,5 @@
 -- What this replica makes of a reply.
-use Rattle.std.proofs.Common.{◌≡◌, ◌⊎◌, inl, inr, refl, sym, ap, subst, ℕ, List, Option, Some, None, Result, Ok, Err}
+use Rattle.std.proofs.Common.{◌≡◌, inl, inr, refl, sym, ap, subst, ℕ, List, Option, Some, None, Result, Ok, Err}
 use Rattle.std.specs.Prelude.{◌==◌, not, IfOk, OnErr}
 use Rattle.mr_model.specs.Texts.{Text, only_if}
 use Rattle.mr_model.specs.Replica.{Replica}

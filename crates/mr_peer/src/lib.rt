@@ -8,6 +8,7 @@
 //! doesn't tell its bytes, as a socket doesn't, they say so for some reply.
 #![tactic(auto)]
 
+mod asking;
 mod laws;
 mod positions;
 mod pulls;

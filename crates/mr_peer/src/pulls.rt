@@ -11,6 +11,7 @@ ghost use Rattle.mr_peer.specs.Seen.{reply_seen, IsInside, counts_seen};
 ghost use Rattle.mr_peer.specs.Steps.{TakesBody, TakesPulled};
 ghost use Rattle.mr_peer.specs.Taking.{Ends, Counts, Receives, Takes, IsOwnFault, IsTakeFault};
 
+use crate::asking::reply_to;
 use crate::replies::{Replied, front_body, read_reply};
 use crate::requests::ask_full;
 use mr_base::{Ending, Refusal};
@@ -50,7 +51,7 @@ fn own_position<K: Keeper>(alloc: Global, service: &mut Service<K>) -> Result<Ve
         HandsPosition (Reaches (K.tables service.old) AskPosition) }
     ensures fault { IfErr result IsAskFault }
 {
-    let reply = service.ask(&Command::Local(Local::Position));
+    let reply = reply_to(service, Command::Local(Local::Position));
     position_in(alloc, &reply)
 }
 
@@ -139,7 +140,7 @@ fn receive<K: Keeper>(
     let Ok(bytes) = Vec::from_slice(alloc, body) else {
         return Err(WebFault::Memory);
     };
-    let reply = service.ask(&Command::Receive(bytes));
+    let reply = reply_to(service, Command::Receive(bytes));
     counts_in(&reply)
 }
 

@@ -13,6 +13,7 @@ ghost use Rattle.mr_peer.specs.Seen.{reply_seen, IsInside};
 ghost use Rattle.mr_peer.specs.Taking.{Tells, Says, IsReplyFault};
 ghost use Rattle.mr_peer.specs.Took.{read_took};
 
+use crate::asking::reply_to;
 use crate::replies::{Replied, read_reply, whole_body};
 use crate::requests::ask_full;
 use crate::took::took_in;
@@ -56,7 +57,7 @@ fn own_batch<K: Keeper>(
     let Ok(text) = write_position(alloc, position) else {
         return Err(WebFault::Memory);
     };
-    let reply = service.ask(&batch_for(text));
+    let reply = reply_to(service, batch_for(text));
     batch_in(alloc, &reply)
 }
 

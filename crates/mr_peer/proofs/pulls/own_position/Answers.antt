@@ -1,5 +1,4 @@
 use Rattle.std.proofs.Common.{ℕ, Vec, Global}
-use Rattle.mr_model.specs.Replies.{Reply}
 use Rattle.mr_model.specs.Serving.{Reaches}
 use Rattle.mr_model.specs.Step.{AskPosition}
 use Rattle.mr_service.specs.Asked.{reply_of}
@@ -10,8 +9,8 @@ use Rattle.mr_peer.proofs.pulls.own_position.Goals as goal
 
 pub returns-clause-exchanged : goal.returns-clause-exchanged
 returns-clause-exchanged g c =
-    let reply = reply_of c.ask-reply.result in
-    of_served g.K.Keeper c.args.service.now c.ask-reply.new.self AskPosition reply c.position_in.result HandsPosition
-    (Reaches (g.K.Keeper.tables c.args.service.now) AskPosition) c.ask-reply.ensures.served
+    let reply = reply_of c.reply_to-reply.result in
+    of_served g.K.Keeper c.args.service.now c.reply_to-reply.new.service AskPosition reply c.position_in.result HandsPosition
+    (Reaches (g.K.Keeper.tables c.args.service.now) AskPosition) c.reply_to-reply.ensures
     (position_handed (λ (v : Vec ℕ Global). v.items) reply c.position_in.result c.position_in.ensures)
     (position_told (λ (v : Vec ℕ Global). v.items) reply c.position_in.result c.position_in.ensures) (λ t r. r)

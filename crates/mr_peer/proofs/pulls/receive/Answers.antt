@@ -22,16 +22,16 @@ pub returns-clause-exchanged : goal.returns-clause-exchanged
 returns-clause-exchanged g c =
     let body = c.args.body.now in
     let old = c.args.service.now in
-    let new = c.ask-reply.new.self in
+    let new = c.reply_to-reply.new.service in
     let bytes = c.in-Ok.bytes.items in
-    let reply = c.ask-reply.result in
+    let reply = c.reply_to-reply.result in
     let R = TakesBody (g.K.Keeper.tables old) in
     let P : Result (ℕ × ℕ) WebFault → Type 0 = λ r. IsExchanged g.K.Keeper old new r (Counts body) R in
     subst P (sym c.counts_in.ensures)
-    (of_served g.K.Keeper old new (Receive bytes) (reply_of reply) (counts_seen reply) (Counts body) R c.ask-reply.ensures.served
+    (of_served g.K.Keeper old new (Receive bytes) (reply_of reply) (counts_seen reply) (Counts body) R c.reply_to-reply.ensures
     (λ a b is. counts a body reply b (subst (λ (l : List ℕ). IsStep a (Receive l) (reply_of reply) b) c.in-Ok.ensures.items is))
     (counts_told reply) (λ t r. (bytes, r)))
 
 pub returns-clause-fault : goal.returns-clause-fault
 returns-clause-fault g c =
-    subst (λ (r : Result (ℕ × ℕ) WebFault). IfErr r IsOwnFault) (sym c.counts_in.ensures) (counts_faults c.ask-reply.result)
+    subst (λ (r : Result (ℕ × ℕ) WebFault). IfErr r IsOwnFault) (sym c.counts_in.ensures) (counts_faults c.reply_to-reply.result)

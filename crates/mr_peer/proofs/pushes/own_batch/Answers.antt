@@ -24,14 +24,14 @@ returns-in_default-clause-exchanged g c =
 pub returns-clause-exchanged : goal.returns-clause-exchanged
 returns-clause-exchanged g c =
     let old = c.args.service.now in
-    let new = c.ask-reply.new.self in
-    let reply = reply_of c.ask-reply.result in
+    let new = c.reply_to-reply.new.service in
+    let reply = reply_of c.reply_to-reply.result in
     let position = c.args.position.now in
     let result = c.batch_in.result in
     let text_of : Vec ℕ Global × Ending → Text = λ x. x.0.items in
     let text : c.in-Ok.text.items ≡ position_text position = sym (ok_inj (position_text position) c.in-Ok.text.items c.in-Ok.ensures.exact) in
     let P : Command → Type 0 = λ command. IsServed g.K.Keeper old new command reply in
-    let served = subst P (c.batch_for.ensures ∙ ap (λ (t : Text). BatchFor t lines_over_http) text) c.ask-reply.ensures.served in
+    let served = subst P (c.batch_for.ensures ∙ ap (λ (t : Text). BatchFor t lines_over_http) text) c.reply_to-reply.ensures in
     of_served g.K.Keeper old new (lacking position) reply result (HandsBatch position) (Reaches (g.K.Keeper.tables old) (lacking position)) served
     (batch_handed text_of (λ x. ending_of x.1) reply position lines_over_http result c.is_within_limits.ensures c.batch_in.ensures)
     (batch_told text_of (λ x. ending_of x.1) reply result c.batch_in.ensures) (λ t r. r)

@@ -1,10 +1,9 @@
-use Rattle.std.proofs.Common.{◌≡◌, ◌∙◌, inl, inr, ℕ, refl, sym, ap, subst, Result, Ok, Err}
+use Rattle.std.proofs.Common.{◌∙◌, inl, inr, ℕ, refl, sym, ap, subst, Result, Err}
 use Rattle.std.proofs.lemmas.Result.{err_from_is_err_and}
 use Rattle.mr_model.specs.Positions.{position_of, position_text}
-use Rattle.mr_model.specs.Replica.{Replica}
 use Rattle.mr_model.specs.Serving.{Reaches}
 use Rattle.mr_model.specs.Step.{AskPosition}
-use Rattle.mr_model.specs.Tables.{Tables, Stands}
+use Rattle.mr_model.specs.Tables.{Stands}
 use Rattle.mr_base.specs.declared.batches.Ending.{Ending}
 use Rattle.mr_http.specs.declared.faults.WebFault.{WebFault}
 use Rattle.mr_peer.specs.Asking.{AsksPull}
@@ -37,9 +36,11 @@ returns-in_err-pull_ask g c =
     (onward g.K.Keeper old new (Err e) (Err e) (AsksPull host held holds) Q (Reaches before AskPosition) c.in_err-pull_ask.ensures.exchanged (λ L u. u)
     (λ a b h.
     let request = pull_request host (position_text (position_of a)) in
-    let f = failed_as (Unit {0}) (ℕ × ℕ × Ending) a AskPosition request held holds e h.1 h.2 in
-    (h.0, ask_failed (Unit {0}) (ℕ × ℕ × Ending) a AskPosition request held holds e (TakesReply known a (Err e) b) c.in_err-pull_ask.ensures.fault h.1 h.2,
-    inl (refl, f.0, h.0))))
+    let f = failed_as (Unit {0}) (ℕ × ℕ × Ending) a AskPosition request held holds e h.1 h.2 in (
+      h.0,
+      ask_failed (Unit {0}) (ℕ × ℕ × Ending) a AskPosition request held holds e (TakesReply known a (Err e) b) c.in_err-pull_ask.ensures.fault h.1 h.2,
+      inl (refl, f.0, h.0),
+    )))
     (λ t r. inl r))
 
 pub returns : goal.returns
@@ -56,5 +57,8 @@ returns g c =
     (Reaches before AskPosition) (TakesBody between) (ReachesByPull before) c.in_ok-pull_ask.ensures.exchanged c.pull_take.ensures.exchanged
     (λ a b d h t. pulls_behind host held holds known a b d c.pull_take.result h.0 h.2 t)
     (λ t r. inl r)
-    (λ stands t r. inr (r.0, body_behind before between t r.0
-    (λ a is. let s = stands a is in subst (Stands between) s.2.0 s.1) r.1))
+    (λ stands t r. inr (
+      r.0,
+      body_behind before between t r.0
+          (λ a is. let s = stands a is in subst (Stands between) s.2.0 s.1) r.1,
+    ))

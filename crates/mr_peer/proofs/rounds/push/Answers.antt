@@ -32,9 +32,11 @@ returns-in_err-ending g c =
     subst P (sym (p.1 ∙ ap Err p.2))
     (onward g.K.Keeper old new (Err e) (Err e) (AsksPush position host held holds) Q R c.in_err-ending.ensures.exchanged (λ L u. u)
     (λ a b h.
-    let made = batch_of a position lines_over_http in
-    (h.0, ask_failed Ending (ℕ × ℕ × Ending) a (lacking position) (push_request host (batch_text made)) held holds e
-    (TellsTook known made.ending (Err e)) c.in_err-ending.ensures.fault h.1 h.2)))
+    let made = batch_of a position lines_over_http in (
+      h.0,
+      ask_failed Ending (ℕ × ℕ × Ending) a (lacking position) (push_request host (batch_text made)) held holds e
+          (TellsTook known made.ending (Err e)) c.in_err-ending.ensures.fault h.1 h.2,
+    )))
 
 -- the peer's reply was not taken
 pub returns-in_err-writes : goal.returns-in_err-writes
