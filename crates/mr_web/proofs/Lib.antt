@@ -5,6 +5,7 @@ pub mod OneReading
 pub mod PathWords
 pub mod PlainTexts
 pub mod Requests
+pub mod Served
 pub mod SlotLists
 pub mod Steps
 pub mod TableRows

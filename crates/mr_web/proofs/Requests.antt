@@ -216,7 +216,7 @@ serve_faults fault.Memory = tt
 
 -- with a fault while an answer was made nothing is written
 pub ends_fault : (input : Text) (before after : Tables) (old : Replica) (held : Option (List ℕ)) (f : ReadFault)
-    → AnswersTo input before after old (Err f) → Ends input before after old held held (Err (web_fault f))
+    → AnswersTo input before after old (Err f) → Ends held held input before after old (Err (web_fault f))
 ends_fault input before after old held fault.Read same = (keeps_same held, same)
 ends_fault input before after old held fault.Memory answers = (keeps_same held, answers)
 

@@ -1,10 +1,11 @@
--- A reader of the contracts trusts Asking, Laws, Routes, Steps, Submissions, Views and Words. The others, Plain and Replies,
+-- A reader of the contracts trusts Asking, Laws, Routes, Served, Steps, Submissions, Views and Words. The others, Plain and Replies,
 -- serve private clauses and proofs alone.
 pub mod Asking
 pub mod Laws
 pub mod Plain
 pub mod Replies
 pub mod Routes
+pub mod Served
 pub mod Steps
 pub mod Submissions
 pub mod Views

@@ -107,14 +107,14 @@ IsServeFault fault.Memory = Unit {0}
 IsServeFault _ = ⊥
 
 -- each way in which serving ends, for what the writer held and holds, and for a replica that the tables stood for
-abbrev pub Ends : Text → Tables → Tables → Replica → Option (List ℕ) → Option (List ℕ) → Result ℕ WebFault → Type 0
-Ends input before after old held holds (Ok status) =
+abbrev pub Ends : Option (List ℕ) → Option (List ℕ) → Text → Tables → Tables → Replica → Result ℕ WebFault → Type 0
+Ends held holds input before after old (Ok status) =
     (output : Text) × ServedTo input old after output status × Appends held holds output
-Ends input before after old held holds (Err fault.Read) = Keeps held holds × (after ≡ before)
-Ends input before after old held holds (Err fault.Write) =
+Ends held holds input before after old (Err fault.Read) = Keeps held holds × (after ≡ before)
+Ends held holds input before after old (Err fault.Write) =
     (output : Text) × (status : ℕ) × (n : ℕ) × ServedTo input old after output status × Appends held holds (take n output)
-Ends input before after old held holds (Err fault.Memory) =
+Ends held holds input before after old (Err fault.Memory) =
     Keeps held holds × ((after ≡ before) ⊎ ((output : Text) × (status : ℕ) × ServedTo input old after output status))
-Ends input before after old held holds (Err fault.BadReply) = ⊥
-Ends input before after old held holds (Err (fault.Peer status)) = ⊥
-Ends input before after old held holds (Err (fault.Own refusal)) = ⊥
+Ends held holds input before after old (Err fault.BadReply) = ⊥
+Ends held holds input before after old (Err (fault.Peer status)) = ⊥
+Ends held holds input before after old (Err (fault.Own refusal)) = ⊥

@@ -1,8 +1,5 @@
-ghost use Rattle.std.specs.Prelude.{◌≡◌, ◌≤◌, ◌⊎◌, [], IfOk, IfErr, length, drop};
+ghost use Rattle.std.specs.Prelude.{◌≡◌, ◌≤◌, [], Ok, Option, IfOk, IfErr, length, drop};
 ghost use Rattle.std.specs.Io.KnownBytes.{Keeps};
-ghost use Rattle.mr_model.specs.Replica.{Replica};
-ghost use Rattle.mr_model.specs.Tables.{Stands};
-ghost use Rattle.mr_store.specs.Kept.{IsSettled};
 ghost use Rattle.mr_model.specs.Texts.{Text};
 ghost use Rattle.mr_model.specs.Http as model;
 ghost use Rattle.mr_service.specs.Asked.{command_of as command_view};
@@ -10,7 +7,8 @@ ghost use Rattle.mr_http.specs.Inputs.{OfInput};
 ghost use Rattle.mr_http.specs.declared.faults.ReadFault.TheVariants.{Read as read_fault, Memory as memory_fault};
 ghost use Rattle.mr_http.specs.declared.faults.WebFault.TheVariants.{Read as fault_read};
 ghost use Rattle.mr_web.specs.Asking as spec;
-ghost use Rattle.mr_web.specs.Steps.{IsServable, StandsAfterOne, LeavesAfterOne};
+ghost use Rattle.mr_web.specs.Served.{IsRequest};
+ghost use Rattle.mr_web.specs.Steps.{IsServable};
 ghost use Rattle.mr_web.specs.Views.{AnswersTo, Ends, Gives, IsServeFault, Settles, StopsWith};
 ghost use Rattle.mr_web.specs.Words.{route_view};
 
@@ -93,16 +91,9 @@ fn answer_command<K: Keeper>(
     command: &Command,
     service: &mut Service<K>,
 ) -> Result<Answer, ReadFault>
-    ensures clean { K.is_clean service.new → K.is_clean service.old }
-    ensures open { K.is_clean service.new → K.is_open service.new → K.is_open service.old }
-    ensures settled { K.is_clean service.new → K.is_open service.new → IsSettled (K.may_leave service.old) (K.tables service.old) → IsSettled (K.may_leave service.new) (K.tables service.new) }
+    ensures served { (known : Option Text) → OfInput known (λ input. Settles input (Ok command.now)) → IsServable (command_view command.now)
+        → IsRequest K.Keeper service.old service.new known result (λ answer. answer.status) AnswersTo }
     ensures memory { IfErr result (λ e. e ≡ memory_fault) }
-    ensures answers { (input : Text) → spec.Asks input (model.Runs (command_view command.now))
-        → K.is_clean service.new → K.is_open service.new → (a : Replica) → Stands (K.tables service.old) a
-        → AnswersTo input (K.tables service.old) (K.tables service.new) a result }
-    ensures steps { IsServable (command_view command.now) → K.is_clean service.new → K.is_open service.new → StandsAfterOne (K.tables service.old) (K.tables service.new) }
-    ensures crash { IsServable (command_view command.now) → K.is_clean service.new → K.is_open service.old → LeavesAfterOne (K.may_leave service.old) (K.tables service.old) (K.may_leave service.new) }
-    ensures lasts { IfOk result (λ answer. K.is_clean service.new → K.is_open service.old → (answer.status ≡ 503) ⊎ K.is_open service.new) }
 {
     let reply = service.ask(command);
     match answer_to_reply(alloc, &reply) {
@@ -126,16 +117,8 @@ fn answer_one<R: Read, K: Keeper>(
     reader: &mut R,
     service: &mut Service<K>,
 ) -> Result<Answer, ReadFault>
-    ensures clean { K.is_clean service.new → K.is_clean service.old }
-    ensures open { K.is_clean service.new → K.is_open service.new → K.is_open service.old }
-    ensures settled { K.is_clean service.new → K.is_open service.new → IsSettled (K.may_leave service.old) (K.tables service.old) → IsSettled (K.may_leave service.new) (K.tables service.new) }
+    ensures served { IsRequest K.Keeper service.old service.new (R.remaining reader.old) result (λ answer. answer.status) AnswersTo }
     ensures read { IfErr result (λ e. e ≡ read_fault → service.new ≡ service.old) }
-    ensures answers { OfInput (R.remaining reader.old) (λ input.
-        K.is_clean service.new → K.is_open service.new → (a : Replica) → Stands (K.tables service.old) a
-        → AnswersTo input (K.tables service.old) (K.tables service.new) a result) }
-    ensures steps { K.is_clean service.new → K.is_open service.new → StandsAfterOne (K.tables service.old) (K.tables service.new) }
-    ensures crash { K.is_clean service.new → K.is_open service.old → LeavesAfterOne (K.may_leave service.old) (K.tables service.old) (K.may_leave service.new) }
-    ensures lasts { IfOk result (λ answer. K.is_clean service.new → K.is_open service.old → (answer.status ≡ 503) ⊎ K.is_open service.new) }
 {
     match request_from(alloc, reader) {
         Ok(command) => answer_command(alloc, &command, service),
@@ -154,17 +137,10 @@ pub fn serve_one<R: Read, W: Write, K: Keeper>(
     writer: &mut W,
     service: &mut Service<K>,
 ) -> Result<u16, WebFault>
-    ensures clean { K.is_clean service.new → K.is_clean service.old }
-    ensures open { K.is_clean service.new → K.is_open service.new → K.is_open service.old }
-    ensures settled { K.is_clean service.new → K.is_open service.new → IsSettled (K.may_leave service.old) (K.tables service.old) → IsSettled (K.may_leave service.new) (K.tables service.new) }
+    ensures served { IsRequest K.Keeper service.old service.new (R.remaining reader.old) result (λ status. status)
+        (Ends (W.contents writer.old) (W.contents writer.new)) }
     ensures read { IfErr result (λ e. e ≡ fault_read → Keeps (W.contents writer.old) (W.contents writer.new) × (service.new ≡ service.old)) }
-    ensures serves { OfInput (R.remaining reader.old) (λ input.
-        K.is_clean service.new → K.is_open service.new → (a : Replica) → Stands (K.tables service.old) a
-        → Ends input (K.tables service.old) (K.tables service.new) a (W.contents writer.old) (W.contents writer.new) result) }
     ensures fault { IfErr result IsServeFault }
-    ensures steps { K.is_clean service.new → K.is_open service.new → StandsAfterOne (K.tables service.old) (K.tables service.new) }
-    ensures crash { K.is_clean service.new → K.is_open service.old → LeavesAfterOne (K.may_leave service.old) (K.tables service.old) (K.may_leave service.new) }
-    ensures lasts { IfOk result (λ status. K.is_clean service.new → K.is_open service.old → (status ≡ 503) ⊎ K.is_open service.new) }
 {
     let answer = answer_one(alloc, reader, service)?;
     send(writer, answer.bytes.as_slice())?;

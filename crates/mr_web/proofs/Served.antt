@@ -1,0 +1,96 @@
+-- One request over a keeper, put together of its parts.
+use Rattle.std.proofs.Common.{inl, inr, refl, ℕ, Option, Result, Ok, Err}
+use Rattle.std.specs.Prelude.{◌≡◌, ◌⊎◌, IfOk}
+use Rattle.mr_model.specs.Http.{Runs, response_of}
+use Rattle.mr_model.specs.Replica.{Replica}
+use Rattle.mr_model.specs.Replies.{Reply}
+use Rattle.mr_model.specs.Step.{IsOfMachine}
+use Rattle.mr_model.specs.Tables.{Tables, Stands}
+use Rattle.mr_model.specs.Texts.{Text}
+use Rattle.mr_store.specs.declared.keeper.Keeper.{Ghosts}
+use Rattle.mr_http.specs.Inputs.{OfInput}
+use Rattle.mr_http.specs.declared.faults.ReadFault.{ReadFault}
+use Rattle.mr_http.specs.declared.faults.ReadFault.TheVariants as fault
+use Rattle.mr_http.proofs.Known.{of_input_map}
+use Rattle.mr_service.specs.Asked.{command_of}
+use Rattle.mr_service.specs.Served.{IsServed}
+use Rattle.mr_service.specs.declared.commands.Command.{Command}
+use Rattle.mr_web.specs.Asking.{Asks}
+use Rattle.mr_web.specs.Served.{IsRequest}
+use Rattle.mr_web.specs.Steps.{IsServable}
+use Rattle.mr_web.specs.Views.{AnswersTo, Settles, StopsWith, Tells}
+use Rattle.mr_web.specs.declared.rejections.Stop.{Stop}
+use Rattle.mr_web.specs.declared.replies.Answer.{Answer}
+use Rattle.mr_web.proofs.Requests.{answers_stopped, served_by, served_told}
+use Rattle.mr_web.proofs.Steps.{leaves_after, open_after, open_still, stands_after}
+
+-- the answer is made of the reply, unless memory ran out
+abbrev pub IsMade : Reply → Result Answer ReadFault → Type 0
+IsMade reply (Ok answer) = Tells (response_of reply) answer
+IsMade reply (Err fault.Read) = ⊥
+IsMade reply (Err fault.Memory) = Unit {0}
+
+made_answers : {K : Type 0} (k : Ghosts K) (old new : K) (command : Command) (reply : Reply) (result : Result Answer ReadFault)
+    → IsServed k old new (command_of command) reply → IsMade reply result → (input : Text) → Asks input (Runs (command_of command))
+    → k.is_clean new → k.is_open new → (a : Replica) → Stands (k.tables old) a → AnswersTo input (k.tables old) (k.tables new) a result
+made_answers k old new command reply (Ok answer) served made input asks c o a stands =
+    let s = served.step c o a stands in
+    served_told input a (k.tables new) (response_of reply) answer made
+    (served_by input a s.0 (k.tables new) (command_of command) reply asks s.1 s.2)
+made_answers k old new command reply (Err fault.Read) served made input asks c o a stands = absurd made
+made_answers k old new command reply (Err fault.Memory) served made input asks c o a stands =
+    let s = served.step c o a stands in
+    inr (_, _, served_by input a s.0 (k.tables new) (command_of command) reply asks s.1 s.2)
+
+made_lasts : (reply : Reply) (result : Result Answer ReadFault) (clean before after : Type 0) → IsMade reply result
+    → (clean → before → IsOfMachine reply ⊎ after) → IfOk result (λ answer. clean → before → (answer.status ≡ 503) ⊎ after)
+made_lasts reply (Ok answer) clean before after made lasts = open_after reply answer.status clean before after made.1 lasts
+made_lasts reply (Err e) clean before after made lasts = tt
+
+-- the command that the input asks was given to the replica
+pub request_served : {K : Type 0} (k : Ghosts K) (old new : K) (command : Command) (reply : Reply) (result : Result Answer ReadFault)
+    → IsServed k old new (command_of command) reply → IsMade reply result
+    → (known : Option Text) → OfInput known (λ input. Settles input (Ok command)) → IsServable (command_of command)
+    → IsRequest k old new known result (λ answer. answer.status) AnswersTo
+request_served k old new command reply result served made known asks servable =
+    record {
+      clean = served.clean;
+      opens = served.opens;
+      settled = served.settled;
+      serves = of_input_map known _ _ (made_answers k old new command reply result served made) asks;
+      steps = λ c o. stands_after (k.tables old) (k.tables new) (command_of command) reply servable (served.step c o);
+      crash = λ c o. leaves_after (k.may_leave old) (k.may_leave new) (k.tables old) (command_of command) servable (served.crash c o);
+      lasts = made_lasts reply result (k.is_clean new) (k.is_open old) (k.is_open new) made served.lasts;
+    }
+
+-- the request asks no command, or wasn't read
+pub request_stopped : {K : Type 0} (k : Ghosts K) (at : K) (known : Option Text) (stop : Stop) (result : Result Answer ReadFault)
+    → StopsWith stop result → OfInput known (λ input. Settles input (Err stop)) → IsRequest k at at known result (λ answer. answer.status) AnswersTo
+request_stopped k at known stop result stops asks =
+    record {
+      clean = λ c. c;
+      opens = λ c o. o;
+      settled = λ c o s. s;
+      serves = of_input_map known _ _ (λ input is c o a stands. answers_stopped input a (k.tables at) stop result stops is stands) asks;
+      steps = λ c o a stands. (a, stands, inl refl);
+      crash = λ c o t leaves. inl leaves;
+      lasts = open_still result (k.is_clean at) (k.is_open at);
+    }
+
+-- what is made of the result leaves the keeper as it is
+pub request_on : {K X Y E F : Type 0} (k : Ghosts K) (old new : K) (known : Option Text) (first : Result X E) (result : Result Y F)
+    (first_status : X → ℕ) (status : Y → ℕ) (P : Text → Tables → Tables → Replica → Result X E → Type 0)
+    (Q : Text → Tables → Tables → Replica → Result Y F → Type 0) → IsRequest k old new known first first_status P
+    → ((L : ℕ → Type 0) → IfOk first (λ x. L (first_status x)) → IfOk result (λ y. L (status y)))
+    → ((input : Text) (before after : Tables) (a : Replica) → P input before after a first → Q input before after a result)
+    → IsRequest k old new known result status Q
+request_on k old new known first result first_status status P Q request lasts answers =
+    record {
+      clean = request.clean;
+      opens = request.opens;
+      settled = request.settled;
+      serves = of_input_map known _ _ (λ input is c o a stands. answers input (k.tables old) (k.tables new) a (is c o a stands)) request.serves;
+      steps = request.steps;
+      crash = request.crash;
+      lasts = lasts (λ n. k.is_clean new → k.is_open old → (n ≡ 503) ⊎ k.is_open new) request.lasts;
+    }
