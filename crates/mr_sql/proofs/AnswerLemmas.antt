@@ -119,7 +119,7 @@ of_has [] x h = absurd h
 of_has (y ∷ xs) x (inl e) = inl e
 of_has (y ∷ xs) x (inr h) = inr (of_has xs x h)
 
-has_moved : {X : Type 0} (xs ys : List X) (x : X) → IsPermutation xs ys → Has x xs → Has x ys
+pub has_moved : {X : Type 0} (xs ys : List X) (x : X) → IsPermutation xs ys → Has x xs → Has x ys
 has_moved xs ys x same h = has_of ys x (has_contained ys x (Contains-permutation xs ys x same (contains_had xs x (of_has xs x h))))
 
 -- the first of the rows that a query shows of an id is the one that the table has

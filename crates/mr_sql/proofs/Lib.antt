@@ -9,6 +9,8 @@ pub mod StepLemmas
 pub mod StatementLemmas
 pub mod CellLemmas
 pub mod QueryLemmas
+pub mod AskedLemmas
+pub mod ScopeLemmas
 pub mod SelectLemmas
 pub mod SortLemmas
 pub mod CreateLemmas

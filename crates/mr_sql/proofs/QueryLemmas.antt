@@ -1,5 +1,5 @@
 -- A query that is read leaves all as it was.
-use Rattle.std.proofs.Common.{◌≡◌, ◌⊎◌, inl, inr, ℕ, List, Ok, Err, Option, None, Some, Result, IfOk, IfErr, OnOk, IsTrue, sym, ap, subst, ◌∙◌, arith}
+use Rattle.std.proofs.Common.{◌≡◌, ◌⊎◌, inl, inr, ℕ, List, Ok, Err, Option, None, Some, Result, IfOk, IfErr, OnOk, IsTrue, refl, sym, ap, subst, ◌∙◌, arith}
 use Rattle.sqlite_value.specs.Order.{Row}
 use Rattle.sqlite_trees.specs.Tree.{Trees}
 use Rattle.sqlite.specs.declared.error.Error.{Error}
@@ -12,7 +12,7 @@ use Rattle.sqlite.proofs.Callers.{IsPlain, never_commits}
 use Rattle.mr_sql.specs.Schema.{our_schema}
 use Rattle.sqlite.specs.Effect.{Database}
 use Rattle.mr_sql.specs.Kept.{IsKept, IsOurs}
-use Rattle.mr_sql.specs.Reads.{Reads, IsPlaced, Looks, ReadsWhere}
+use Rattle.mr_sql.specs.Reads.{Reads, IsPlaced, Looks, ReadsWhere, IsInUse, ReadsInUse}
 
 placed : (s : State) → IsKept s → IsPlaced s
 placed s kept = record { schema = kept.ours.schema; settled = kept.settled }
@@ -96,78 +96,106 @@ pub told_two : {X : Type 0} (r : Result X Error) (P Q R : X → Type 0) → ((x 
 told_two (Ok x) P Q R way h k = way x h k
 told_two (Err e) P Q R way h k = tt
 
-pub reads_so : {X : Type 0} (old new : State) (r : Result X Error) (P Q : X → Type 0) → (IsKept old → (x : X) → P x → Q x) → Reads old new r P → Reads old new r Q
-reads_so old new r P Q way h = (h.0, h.1, λ clean kept. let told = h.2 clean kept in (told.0, told_so r P Q (way kept) told.1))
-
 -- a disk that is clean after a call was clean before it
 pub clean_before : {old new : State} {P : Trees → Type 0} → Survives old new P → HasCleanDisk new → HasCleanDisk old
 clean_before s clean = let less = s.clean in omega (arith, less, clean)
 
--- what is made of the answer
-pub reads_made : {X Y : Type 0} (old new : State) (x : X) (P : X → Type 0) (r : Result Y Error) (Q : Y → Type 0) → (IsKept old → P x → IfOk r Q) → Reads old new (Ok x) P → Reads old new r Q
-reads_made old new x P (Ok y) Q way h = (h.0, h.1, λ clean kept. let told = h.2 clean kept in (told.0, way kept told.1))
-reads_made old new x P (Err e) Q way h = (h.0, h.1, λ clean kept. (tt, tt))
+-- of a database of which this is known
+module _ (Known : State → Type 0) where
+  told_where : {X : Type 0} (old new : State) (r : Result X Error) (P Q : X → Type 0) → (Known old → (x : X) → P x → Q x) → ReadsWhere Known old new r P → ReadsWhere Known old new r Q
+  told_where old new r P Q way h = (h.0, h.1, λ clean known. let told = h.2 clean known in (told.0, told_so r P Q (way known) told.1))
 
--- a second read finds what the first found
+  made_where : {X Y : Type 0} (old new : State) (x : X) (P : X → Type 0) (r : Result Y Error) (Q : Y → Type 0) → (Known old → P x → IfOk r Q) → ReadsWhere Known old new (Ok x) P → ReadsWhere Known old new r Q
+  made_where old new x P (Ok y) Q way h = (h.0, h.1, λ clean known. let told = h.2 clean known in (told.0, way known told.1))
+  made_where old new x P (Err e) Q way h = (h.0, h.1, λ clean known. (tt, tt))
+
+  -- a second read finds what the first found
+  then_where : {X Y : Type 0} (Later : State → Type 0) (a b c : State) → (Known a → IsTrue b.is_open → (b.now ≡ a.now) × (b.committed ≡ a.committed) → Later b)
+      → (x : X) (P : X → Type 0) (r : Result Y Error) (Q : Database → Y → Type 0) (R : Y → Type 0)
+      → (Known a → (y : Y) → P x → Q a.now y → R y) → ReadsWhere Known a b (Ok x) P → ReadsWhere Later b c r (Q b.now) → ReadsWhere Known a c r R
+  then_where Later a b c still x P r Q R way p q =
+      let clean_between = λ (clean : HasCleanDisk c). clean_before q.0 clean in
+      let known_between = λ (clean : HasCleanDisk c) (known : Known a).
+      let told = p.2 (clean_between clean) known in
+      still known told.0 ((p.1 (clean_between clean) told.0).1 known) in (
+        survives_then a b c (λ _. ¬ Known a) (λ _. ¬ Later b) (λ _. ¬ Known a) (λ _ db none. none) (λ clean db none known. none (known_between clean known)) p.0 q.0,
+        λ clean now.
+            let later = q.1 clean now in
+            let first = p.1 (clean_between clean) later.0 in
+            (first.0, λ known. let same = first.1 known in let more = later.1 (still known later.0 same) in (more.0 ∙ same.0, more.1 ∙ same.1)),
+        λ clean known.
+            let told = p.2 (clean_between clean) known in
+            let same = (p.1 (clean_between clean) told.0).1 known in
+            let last = q.2 clean (known_between clean known) in
+            (last.0, told_so r (Q b.now) R (λ y h. way known y told.1 (subst (λ db. Q db y) same.0 h)) last.1),
+      )
+
+still_kept : (a b : State) → IsKept a → (b.now ≡ a.now) × (b.committed ≡ a.committed) → IsKept b
+still_kept a b kept same = record { ours = subst IsOurs (sym same.0) kept.ours; settled = same.0 ∙ kept.settled ∙ sym same.1 }
+
+-- of a keeper's database
+
+pub reads_so : {X : Type 0} (old new : State) (r : Result X Error) (P Q : X → Type 0) → (IsKept old → (x : X) → P x → Q x) → Reads old new r P → Reads old new r Q
+reads_so = told_where IsKept
+
+pub reads_made : {X Y : Type 0} (old new : State) (x : X) (P : X → Type 0) (r : Result Y Error) (Q : Y → Type 0) → (IsKept old → P x → IfOk r Q) → Reads old new (Ok x) P → Reads old new r Q
+reads_made = made_where IsKept
+
 pub reads_then : {X Y : Type 0} (a b c : State) (x : X) (P : X → Type 0) (r : Result Y Error) (Q : Database → Y → Type 0) (R : Y → Type 0)
     → (IsKept a → (y : Y) → P x → Q a.now y → R y) → Reads a b (Ok x) P → Reads b c r (Q b.now) → Reads a c r R
-reads_then a b c x P r Q R way p q =
-    let clean_between = λ (clean : HasCleanDisk c). before q.0 clean in
-    let kept_between = λ (clean : HasCleanDisk c) (kept : IsKept a).
-    let told = p.2 (clean_between clean) kept in
-    let same = (p.1 (clean_between clean) told.0).1 kept in
-    still kept same in (
-      survives_then a b c (λ _. ¬ IsKept a) (λ _. ¬ IsKept b) (λ _. ¬ IsKept a) (λ _ db none. none) (λ clean db none kept. none (kept_between clean kept)) p.0 q.0,
-      λ clean now.
-          let later = q.1 clean now in
-          let first = p.1 (clean_between clean) later.0 in
-          (first.0, λ kept. let same = first.1 kept in let more = later.1 (still kept same) in (more.0 ∙ same.0, more.1 ∙ same.1)),
-      λ clean kept.
-          let told = p.2 (clean_between clean) kept in
-          let same = (p.1 (clean_between clean) told.0).1 kept in
-          let last = q.2 clean (still kept same) in
-          (last.0, told_so r (Q b.now) R (λ y h. way kept y told.1 (subst (λ db. Q db y) same.0 h)) last.1),
-    )
-  where
-    before : {P : Trees → Type 0} → Survives b c P → HasCleanDisk c → HasCleanDisk b
-    before s clean = let less = s.clean in omega (arith, less, clean)
+reads_then a b c = then_where IsKept IsKept a b c (λ kept now same. still_kept a b kept same)
 
-    still : IsKept a → (b.now ≡ a.now) × (b.committed ≡ a.committed) → IsKept b
-    still kept same = record { ours = subst IsOurs (sym same.0) kept.ours; settled = same.0 ∙ kept.settled ∙ sym same.1 }
+-- after an answer the database is in use
+pub reads_on : {X Y : Type 0} (a b c : State) (x : X) (P : X → Type 0) (r : Result Y Error) (Q : Database → Y → Type 0) (R : Y → Type 0)
+    → (IsKept a → (y : Y) → P x → Q a.now y → R y) → Reads a b (Ok x) P → ReadsInUse b c r (Q b.now) → Reads a c r R
+reads_on a b c = then_where IsKept IsInUse a b c (λ kept now same. (still_kept a b kept same, now))
+
+-- of one in use
+
+pub in_use : {X : Type 0} (old new : State) (r : Result X Error) (P : X → Type 0) → Reads old new r P → ReadsInUse old new r P
+in_use old new r P h = (
+  survives_weaker old new _ _ (λ _ db none held. none held.0) h.0,
+  λ clean now. let told = h.1 clean now in (told.0, λ held. told.1 held.0),
+  λ clean held. h.2 clean held.0,
+)
+
+pub uses_so : {X : Type 0} (old new : State) (r : Result X Error) (P Q : X → Type 0) → (IsInUse old → (x : X) → P x → Q x) → ReadsInUse old new r P → ReadsInUse old new r Q
+uses_so = told_where IsInUse
+
+pub uses_made : {X Y : Type 0} (old new : State) (x : X) (P : X → Type 0) (r : Result Y Error) (Q : Y → Type 0) → (IsInUse old → P x → IfOk r Q) → ReadsInUse old new (Ok x) P → ReadsInUse old new r Q
+uses_made = made_where IsInUse
+
+pub uses_then : {X Y : Type 0} (a b c : State) (x : X) (P : X → Type 0) (r : Result Y Error) (Q : Database → Y → Type 0) (R : Y → Type 0)
+    → (IsInUse a → (y : Y) → P x → Q a.now y → R y) → ReadsInUse a b (Ok x) P → ReadsInUse b c r (Q b.now) → ReadsInUse a c r R
+uses_then a b c = then_where IsInUse IsInUse a b c (λ held now same. (still_kept a b held.0 same, now))
+
+-- nothing was done
+pub survives_itself : (a : State) (P : Trees → Type 0) → Survives a a P
+survives_itself a P = record {
+  clean = omega arith;
+  shield = λ shield. shield;
+  counts = omega arith;
+  limit = refl;
+  closes = λ clean now. inl now;
+  crash = λ clean db left. inl left;
+}
+
+pub uses_none : {X : Type 0} (a : State) (x : X) (P : X → Type 0) → P x → ReadsInUse a a (Ok x) P
+uses_none a x P h = (survives_itself a _, λ clean now. (now, λ held. (refl, refl)), λ clean held. (held.1, h))
 
 -- ---- looks, one after another
 
 pub looks_so : {X : Type 0} (old new : State) (r : Result X Error) (P Q : X → Type 0) → (IsPlaced old → (x : X) → P x → Q x) → Looks old new r P → Looks old new r Q
-looks_so old new r P Q way h = (h.0, h.1, λ clean here. let told = h.2 clean here in (told.0, told_so r P Q (way here) told.1))
+looks_so = told_where IsPlaced
 
 -- what is made of the answer
 pub looks_made : {X Y : Type 0} (old new : State) (x : X) (P : X → Type 0) (r : Result Y Error) (Q : Y → Type 0) → (IsPlaced old → P x → IfOk r Q) → Looks old new (Ok x) P → Looks old new r Q
-looks_made old new x P (Ok y) Q way h = (h.0, h.1, λ clean here. let told = h.2 clean here in (told.0, way here told.1))
-looks_made old new x P (Err e) Q way h = (h.0, h.1, λ clean here. (tt, tt))
+looks_made = made_where IsPlaced
 
 -- a second look finds what the first found
 pub looks_then : {X Y : Type 0} (a b c : State) (x : X) (P : X → Type 0) (r : Result Y Error) (Q : Database → Y → Type 0) (R : Y → Type 0)
     → (IsPlaced a → (y : Y) → P x → Q a.now y → R y) → Looks a b (Ok x) P → Looks b c r (Q b.now) → Looks a c r R
-looks_then a b c x P r Q R way p q =
-    let clean_between = λ (clean : HasCleanDisk c). before q.0 clean in
-    let placed_between = λ (clean : HasCleanDisk c) (here : IsPlaced a).
-    let told = p.2 (clean_between clean) here in
-    let same = (p.1 (clean_between clean) told.0).1 here in
-    still here same in (
-      survives_then a b c (λ _. ¬ IsPlaced a) (λ _. ¬ IsPlaced b) (λ _. ¬ IsPlaced a) (λ _ db none. none) (λ clean db none here. none (placed_between clean here)) p.0 q.0,
-      λ clean now.
-          let later = q.1 clean now in
-          let first = p.1 (clean_between clean) later.0 in
-          (first.0, λ here. let same = first.1 here in let more = later.1 (still here same) in (more.0 ∙ same.0, more.1 ∙ same.1)),
-      λ clean here.
-          let told = p.2 (clean_between clean) here in
-          let same = (p.1 (clean_between clean) told.0).1 here in
-          let last = q.2 clean (still here same) in
-          (last.0, told_so r (Q b.now) R (λ y h. way here y told.1 (subst (λ db. Q db y) same.0 h)) last.1),
-    )
+looks_then a b c = then_where IsPlaced IsPlaced a b c still_placed
   where
-    before : {P : Trees → Type 0} → Survives b c P → HasCleanDisk c → HasCleanDisk b
-    before s clean = let less = s.clean in omega (arith, less, clean)
-
-    still : IsPlaced a → (b.now ≡ a.now) × (b.committed ≡ a.committed) → IsPlaced b
-    still here same = record { schema = ap (λ (d : Database). d.schema) same.0 ∙ here.schema; settled = same.0 ∙ here.settled ∙ sym same.1 }
+    still_placed : IsPlaced a → IsTrue b.is_open → (b.now ≡ a.now) × (b.committed ≡ a.committed) → IsPlaced b
+    still_placed here now same = record { schema = ap (λ (d : Database). d.schema) same.0 ∙ here.schema; settled = same.0 ∙ here.settled ∙ sym same.1 }

@@ -41,7 +41,7 @@ without_is rows (id ∷ gone) =
     ∙ filter_both (λ r. not (list_any (λ i. has_rowid i r) gone)) (λ r. not (has_rowid id r)) rows
     ∙ filter_same _ _ rows (λ r _. elim (has_rowid id r) as (λ b. (not b && not (list_any (λ i. has_rowid i r) gone)) ≡ not (b || list_any (λ i. has_rowid i r) gone)) [ true ↦ refl | false ↦ refl ])
 
-equal_is : (o : _) → is_eq o ≡ true → o ≡ Equal
+pub equal_is : (o : _) → is_eq o ≡ true → o ≡ Equal
 equal_is Less h = absurd (cc)
 equal_is Equal h = refl
 equal_is Greater h = absurd (cc)

@@ -10,9 +10,10 @@ use Rattle.sqlite.specs.Command.TheVariants.{Select}
 use Rattle.sqlite.specs.State.{State, Shown}
 use Rattle.sqlite.proofs.Callers.{reads_as}
 use Rattle.mr_model.specs.Texts as texts
+use Rattle.mr_tables.specs.Change.{log_id, undo_id}
 use Rattle.mr_model.specs.Writes.{Id}
 use Rattle.mr_model.specs.Replica.{is_among}
-use Rattle.mr_model.specs.Tables.{BookingRow, ErrorRow}
+use Rattle.mr_model.specs.Tables.{LogRow, UndoRow, BookingRow, ErrorRow}
 use Rattle.mr_model.specs.Queries.{booking_id, error_id}
 use Rattle.mr_store.specs.Picked.{picked_bookings, picked_errors}
 use Rattle.mr_sql.specs.Meaning.{passes}
@@ -22,8 +23,8 @@ use Rattle.mr_sql.specs.Found.{columns_from}
 use Rattle.mr_sql.specs.Form.{Form, meta_form, room_form, vector_form, log_form, undo_form, booking_form, error_form}
 use Rattle.mr_sql.specs.Kept.{IsOurs, IsRowOf, IsHeld, in_order, tables_in}
 use Rattle.mr_sql.specs.Reads.{metas_in}
-use Rattle.mr_sql.proofs.Texts.{MeansQuery, program_of, all_meta_text, all_meta_is, meta_columns, meta_names, all_room_text, all_room_is, room_columns, room_names, all_vector_text, all_vector_is, vector_columns, vector_names, all_log_text, all_log_is, log_columns, log_names, all_undo_text, all_undo_is, undo_columns, undo_names, all_booking_text, all_booking_is, booking_columns, booking_names, all_error_text, all_error_is, error_columns, error_names, room_booking_text, room_booking_is, booking_room_tests, key_booking_text, key_booking_is, booking_key_tests, room_error_text, room_error_is, error_room_tests, key_error_text, key_error_is, error_key_tests}
-use Rattle.mr_sql.proofs.ValueLemmas.{equal_text, and_true, id_test}
+use Rattle.mr_sql.proofs.Texts.{MeansQuery, program_of, all_meta_text, all_meta_is, meta_columns, meta_names, all_room_text, all_room_is, room_columns, room_names, all_vector_text, all_vector_is, vector_columns, vector_names, all_log_text, all_log_is, log_columns, log_names, all_undo_text, all_undo_is, undo_columns, undo_names, key_log_text, key_log_is, log_key_tests, between_log_text, between_log_is, log_seq_tests, key_undo_text, key_undo_is, undo_key_tests, all_booking_text, all_booking_is, booking_columns, booking_names, all_error_text, all_error_is, error_columns, error_names, room_booking_text, room_booking_is, booking_room_tests, key_booking_text, key_booking_is, booking_key_tests, room_error_text, room_error_is, error_room_tests, key_error_text, key_error_is, error_key_tests}
+use Rattle.mr_sql.proofs.ValueLemmas.{equal_text, and_true, id_test, between_test}
 use Rattle.mr_sql.proofs.RowLemmas.{filter_all_true}
 use Rattle.mr_sql.proofs.FormLemmas.{shows}
 use Rattle.mr_sql.proofs.TableLemmas.{Facts, finds_rows}
@@ -64,6 +65,27 @@ shows_all_booking old new rows ours = shows_all booking_form booking_facts all_b
 pub shows_all_error : (old new : State) (rows : List Row) → IsOurs old.now → Shown all_error_text [] old new rows → IsPermutation ((tables_in old.now.trees).errorlog) (map (λ r. error_in (Null ∷ r)) rows)
 unfolding tables_in
 shows_all_error old new rows ours = shows_all error_form error_facts all_error_text error_columns error_names old new rows all_error_is (λ r is. refl) ours.schema ours.held.errorlog
+
+pub shows_key_log : (id : Id) (old new : State) (rows : List Row) → IsOurs old.now → Shown key_log_text (Int (pos id.server) ∷ Int (pos id.n) ∷ []) old new rows
+    → IsPermutation (filter (λ (r : LogRow). is_among (log_id r) (id ∷ [])) (tables_in old.now.trees).write_log) (map (λ r. log_in (Null ∷ r)) rows)
+unfolding tables_in
+shows_key_log id old new rows ours shown =
+    finds_rows log_form log_facts key_log_text log_key_tests log_columns log_names (Int (pos id.server) ∷ Int (pos id.n) ∷ []) old new (λ r. is_among (log_id r) (id ∷ [])) rows key_log_is
+    (λ r is. ap (passes log_key_tests (Int (pos id.server) ∷ Int (pos id.n) ∷ [])) is ∙ id_test (log_in r).server (log_in r).n id) (λ r is. refl) ours.schema ours.held.write_log shown
+
+pub shows_between_log : (low high : ℕ) (old new : State) (rows : List Row) → IsOurs old.now → Shown between_log_text (Int (pos low) ∷ Int (pos high) ∷ []) old new rows
+    → IsPermutation (filter (λ (r : LogRow). texts.within low high r.seq) (tables_in old.now.trees).write_log) (map (λ r. log_in (Null ∷ r)) rows)
+unfolding tables_in
+shows_between_log low high old new rows ours shown =
+    finds_rows log_form log_facts between_log_text log_seq_tests log_columns log_names (Int (pos low) ∷ Int (pos high) ∷ []) old new (λ r. texts.within low high r.seq) rows between_log_is
+    (λ r is. ap (passes log_seq_tests (Int (pos low) ∷ Int (pos high) ∷ [])) is ∙ between_test low high (log_in r).seq) (λ r is. refl) ours.schema ours.held.write_log shown
+
+pub shows_key_undo : (id : Id) (old new : State) (rows : List Row) → IsOurs old.now → Shown key_undo_text (Int (pos id.server) ∷ Int (pos id.n) ∷ []) old new rows
+    → IsPermutation (filter (λ (r : UndoRow). is_among (undo_id r) (id ∷ [])) (tables_in old.now.trees).undo) (map (λ r. undo_in (Null ∷ r)) rows)
+unfolding tables_in
+shows_key_undo id old new rows ours shown =
+    finds_rows undo_form undo_facts key_undo_text undo_key_tests undo_columns undo_names (Int (pos id.server) ∷ Int (pos id.n) ∷ []) old new (λ r. is_among (undo_id r) (id ∷ [])) rows key_undo_is
+    (λ r is. ap (passes undo_key_tests (Int (pos id.server) ∷ Int (pos id.n) ∷ [])) is ∙ id_test (undo_in r).server (undo_in r).n id) (λ r is. refl) ours.schema ours.held.undo shown
 
 pub shows_room_booking : (room : texts.Text) (old new : State) (rows : List Row) → IsOurs old.now → Shown room_booking_text (Text room ∷ []) old new rows
     → IsPermutation (picked_bookings room None (tables_in old.now.trees)) (map (λ r. booking_in (Null ∷ r)) rows)

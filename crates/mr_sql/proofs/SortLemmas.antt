@@ -91,31 +91,29 @@ rising {R} {K} before key cmp less (x ∷ xs) up = (all xs up.0, rising before k
     all (y ∷ ys) h = (less x y h.0, all ys h.1)
 
 -- rows that a query shows, sorted, are the table
-table_is : {R K : Type 0} (before : K → K → Bool) (key : R → K) (o : IsOrder K before) (cmp : R → R → Ordering) (total : IsTotalOrder cmp) → ((a b : R) → before (key a) (key b) ≡ true → cmp a b ≡ Less)
-    → (stored shown out : List R) → IsPermutation (ordered before key stored) shown → IsPermutation shown out → IsSorted cmp out → out ≡ ordered before key stored
-table_is before key o cmp total less stored shown out read same sorted =
-    sorted_unique cmp total (ordered before key stored) out (rising before key cmp less _ (ordered_in_order before key o stored)) (IsPermutation-trans _ _ _ read same) sorted
+pub table_is : {R : Type 0} (cmp : R → R → Ordering) → IsTotalOrder cmp → (table shown out : List R) → IsAscending (λ a b. cmp a b ≡ Less) table → IsPermutation table shown → IsPermutation shown out → IsSorted cmp out → out ≡ table
+table_is cmp total table shown out up read same sorted = sorted_unique cmp total table out up (IsPermutation-trans _ _ _ read same) sorted
 
-pub rooms_are : (trees : Trees) (shown out : List Text) → IsPermutation (tables_in trees).room shown → IsPermutation shown out → IsSorted (slice_cmp nat_cmp) out → out ≡ (tables_in trees).room
+pub rooms_rise : (trees : Trees) → IsAscending (λ a b. slice_cmp nat_cmp a b ≡ Less) (tables_in trees).room
 unfolding tables_in
-rooms_are trees shown out = table_is text_before (λ (t : Text). t) name_order _ name_total name_less (map room_in (trees 2)) shown out
+rooms_rise trees = rising text_before (λ (t : Text). t) _ name_less _ (ordered_in_order text_before (λ (t : Text). t) name_order (map room_in (trees 2)))
 
-pub vectors_are : (trees : Trees) (shown out : List VectorRow) → IsPermutation (tables_in trees).vector shown → IsPermutation shown out → IsSorted (λ a b. nat_cmp a.server b.server) out → out ≡ (tables_in trees).vector
+pub vectors_rise : (trees : Trees) → IsAscending (λ a b. nat_cmp a.server b.server ≡ Less) (tables_in trees).vector
 unfolding tables_in
-vectors_are trees shown out = table_is nat_lt (λ (v : VectorRow). v.server) number_order _ server_total (λ a b. number_less a.server b.server) (map vector_in (trees 4)) shown out
+vectors_rise trees = rising nat_lt (λ (v : VectorRow). v.server) _ (λ a b. number_less a.server b.server) _ (ordered_in_order nat_lt (λ (v : VectorRow). v.server) number_order (map vector_in (trees 4)))
 
-pub logs_are : (trees : Trees) (shown out : List LogRow) → IsPermutation (tables_in trees).write_log shown → IsPermutation shown out → IsSorted (λ a b. id_cmp (log_id a) (log_id b)) out → out ≡ (tables_in trees).write_log
+pub logs_rise : (trees : Trees) → IsAscending (λ a b. id_cmp (log_id a) (log_id b) ≡ Less) (tables_in trees).write_log
 unfolding tables_in
-logs_are trees shown out = table_is id_before log_id id_order _ log_total (λ a b. id_less (log_id a) (log_id b)) (map log_in (trees 6)) shown out
+logs_rise trees = rising id_before log_id _ (λ a b. id_less (log_id a) (log_id b)) _ (ordered_in_order id_before log_id id_order (map log_in (trees 6)))
 
-pub undos_are : (trees : Trees) (shown out : List UndoRow) → IsPermutation (tables_in trees).undo shown → IsPermutation shown out → IsSorted (λ a b. id_cmp (undo_id a) (undo_id b)) out → out ≡ (tables_in trees).undo
+pub undos_rise : (trees : Trees) → IsAscending (λ a b. id_cmp (undo_id a) (undo_id b) ≡ Less) (tables_in trees).undo
 unfolding tables_in
-undos_are trees shown out = table_is id_before undo_id id_order _ undo_total (λ a b. id_less (undo_id a) (undo_id b)) (map undo_in (trees 8)) shown out
+undos_rise trees = rising id_before undo_id _ (λ a b. id_less (undo_id a) (undo_id b)) _ (ordered_in_order id_before undo_id id_order (map undo_in (trees 8)))
 
-pub bookings_are : (trees : Trees) (shown out : List BookingRow) → IsPermutation (tables_in trees).booking shown → IsPermutation shown out → IsSorted (λ a b. id_cmp (booking_id a) (booking_id b)) out → out ≡ (tables_in trees).booking
+pub bookings_rise : (trees : Trees) → IsAscending (λ a b. id_cmp (booking_id a) (booking_id b) ≡ Less) (tables_in trees).booking
 unfolding tables_in
-bookings_are trees shown out = table_is id_before booking_id id_order _ booking_total (λ a b. id_less (booking_id a) (booking_id b)) (map booking_in (trees 10)) shown out
+bookings_rise trees = rising id_before booking_id _ (λ a b. id_less (booking_id a) (booking_id b)) _ (ordered_in_order id_before booking_id id_order (map booking_in (trees 10)))
 
-pub errors_are : (trees : Trees) (shown out : List ErrorRow) → IsPermutation (tables_in trees).errorlog shown → IsPermutation shown out → IsSorted (λ a b. id_cmp (error_id a) (error_id b)) out → out ≡ (tables_in trees).errorlog
+pub errors_rise : (trees : Trees) → IsAscending (λ a b. id_cmp (error_id a) (error_id b) ≡ Less) (tables_in trees).errorlog
 unfolding tables_in
-errors_are trees shown out = table_is id_before error_id id_order _ error_total (λ a b. id_less (error_id a) (error_id b)) (map error_in (trees 12)) shown out
+errors_rise trees = rising id_before error_id _ (λ a b. id_less (error_id a) (error_id b)) _ (ordered_in_order id_before error_id id_order (map error_in (trees 12)))

@@ -3,7 +3,7 @@ use Rattle.std.proofs.Common.{◌≡◌, ℕ, List, [], ◌∷◌, codes, false,
 use Rattle.sqlite_value.specs.declared.value.Value.TheVariants.{Null}
 use Rattle.sqlite_sql.specs.Term.{Term, lit, col, op2}
 use Rattle.sqlite_sql.specs.declared.ops.BinaryOp.TheVariants.{Compare}
-use Rattle.sqlite_sql.specs.declared.ops.CompareOp.TheVariants.{Eq}
+use Rattle.sqlite_sql.specs.declared.ops.CompareOp.TheVariants.{Eq, Le, Ge}
 use Rattle.sqlite_tied.specs.Compute.{everything}
 use Rattle.sqlite_schema.specs.declared.command.Command.{Command}
 use Rattle.sqlite_schema.specs.declared.command.Conflict.TheVariants.{Replace}
@@ -29,6 +29,12 @@ program_of tree tests project = record { lets = []; body = query_of tree tests p
 
 abbrev pub same : Term → Term → Term
 same a b = op2 (Compare Eq Binary) a b
+
+abbrev pub at_least : Term → Term → Term
+at_least a b = op2 (Compare Ge Binary) a b
+
+abbrev pub at_most : Term → Term → Term
+at_most a b = op2 (Compare Le Binary) a b
 
 -- ---- meta
 
@@ -149,6 +155,23 @@ pub all_log_is : MeansQuery all_log_text (Select (program_of 6 [] log_columns) l
 unfolding understood everything
 all_log_is = ((refl, (refl, refl)), refl)
 
+abbrev pub key_log_text : List ℕ
+key_log_text = codes "SELECT server, n, tm, room, length, choices, title, seq FROM write_log WHERE server = ?1 AND n = ?2"
+
+pub key_log_is : MeansQuery key_log_text (Select (program_of 6 log_key_tests log_columns) log_names)
+unfolding understood everything
+key_log_is = ((refl, (refl, refl)), refl)
+
+abbrev pub between_log_text : List ℕ
+between_log_text = codes "SELECT server, n, tm, room, length, choices, title, seq FROM write_log WHERE seq >= ?1 AND seq <= ?2"
+
+abbrev pub log_seq_tests : List Term
+log_seq_tests = at_least (col 1 8) (col 0 0) ∷ at_most (col 1 8) (col 0 1) ∷ []
+
+pub between_log_is : MeansQuery between_log_text (Select (program_of 6 log_seq_tests log_columns) log_names)
+unfolding understood everything
+between_log_is = ((refl, (refl, refl)), refl)
+
 -- ---- undo
 
 abbrev pub put_undo_text : List ℕ
@@ -183,6 +206,13 @@ all_undo_text = codes "SELECT server, n, place FROM undo"
 pub all_undo_is : MeansQuery all_undo_text (Select (program_of 8 [] undo_columns) undo_names)
 unfolding understood everything
 all_undo_is = ((refl, (refl, refl)), refl)
+
+abbrev pub key_undo_text : List ℕ
+key_undo_text = codes "SELECT server, n, place FROM undo WHERE server = ?1 AND n = ?2"
+
+pub key_undo_is : MeansQuery key_undo_text (Select (program_of 8 undo_key_tests undo_columns) undo_names)
+unfolding understood everything
+key_undo_is = ((refl, (refl, refl)), refl)
 
 -- ---- booking
 

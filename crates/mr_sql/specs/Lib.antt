@@ -7,6 +7,7 @@ pub mod Cells
 pub mod Form
 pub mod Kept
 pub mod Parts
+pub mod Questions
 pub mod Reads
 pub mod Blank
 pub mod Same

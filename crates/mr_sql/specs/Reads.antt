@@ -32,6 +32,14 @@ ReadsWhere Known old new result P =
 abbrev pub Reads : {X : Type 0} → State → State → Result X Error → (X → Type 0) → Type 0
 Reads old new result P = ReadsWhere IsKept old new result P
 
+-- a keeper's database, and its connection is open
+abbrev pub IsInUse : State → Type 0
+IsInUse s = IsKept s × IsTrue s.is_open
+
+-- What is read of a keeper's database that is open. Where nothing has to be asked, an answer doesn't tell that it is.
+abbrev pub ReadsInUse : {X : Type 0} → State → State → Result X Error → (X → Type 0) → Type 0
+ReadsInUse old new result P = ReadsWhere IsInUse old new result P
+
 -- what is read of a database whose rows may be any
 abbrev pub Looks : {X : Type 0} → State → State → Result X Error → (X → Type 0) → Type 0
 Looks old new result P = ReadsWhere IsPlaced old new result P

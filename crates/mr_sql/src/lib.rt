@@ -8,6 +8,7 @@
 
 mod adopt;
 mod answers;
+mod asked_rows;
 mod cells;
 mod changes;
 mod create;
@@ -20,7 +21,11 @@ mod numbers;
 mod order;
 mod puts;
 mod queries;
+mod questions;
 mod schemas;
+mod scope_questions;
+mod scope_rooms;
+mod scope_rows;
 mod sql_keeper;
 mod stored_rows;
 mod table_rows;

@@ -1,18 +1,23 @@
 ghost use Rattle.std.specs.Prelude.{◌≡◌, ◌∷◌, false, map, IfOk, Some};
 ghost use Rattle.sqlite_value.specs.declared.value.Value.TheVariants.{Null};
 ghost use Rattle.sqlite.specs.Held.{state};
-ghost use Rattle.mr_model.specs.Replica.{Replica};
-ghost use Rattle.mr_model.specs.Tables.{Stands};
+ghost use Rattle.mr_model.specs.Replica.{Replica, IsReplica};
+ghost use Rattle.mr_model.specs.Tables.{Stands, tables_of};
+ghost use Rattle.mr_model.specs.Scopes.{in_scope};
 ghost use Rattle.mr_replica.specs.Desk.{StandsFor, IsWithinLimits};
+ghost use Rattle.mr_replica.specs.Parts.{IsPartOf};
+ghost use Rattle.mr_replica.specs.ScopeOf.{scope_of};
+ghost use Rattle.mr_tables.specs.Summary.{IsWithin};
 ghost use Rattle.mr_sql.specs.Cells.{meta_in};
 ghost use Rattle.mr_sql.specs.Kept.{tables_in};
 ghost use Rattle.mr_sql.specs.Reads.{Reads, first_of};
 
 use crate::meta_row::read_meta;
 use crate::queries::select_all_meta;
+use crate::scope_rows::read_scope;
 use crate::whole::all_rows;
 use mr_base::{Refusal, RoomName};
-use mr_replica::Desk;
+use mr_replica::{Desk, Part, Scope};
 use mr_tables::{BookingRow, ErrorRow, LogRow, MetaRow, Tables, VectorRow, WriteUndoRow};
 use sqlite::{Alter, Connection, Error, ErrorCode, Row};
 use std::alloc::Global;
@@ -37,7 +42,7 @@ fn the_meta<S: Alter>(conn: &mut Connection<S>) -> Result<MetaRow, Error>
 }
 
 /// The replica's numbers, its rooms and its vector.
-fn read_heads<S: Alter>(
+pub(crate) fn read_heads<S: Alter>(
     conn: &mut Connection<S>,
     alloc: Global,
 ) -> Result<(MetaRow, Vec<RoomName>, Vec<VectorRow>), Error>
@@ -119,4 +124,30 @@ pub(crate) fn load_desk<S: Alter>(conn: &mut Connection<S>, alloc: Global) -> Re
 {
     let tables = read_tables(conn, alloc)?;
     desk_of(alloc, &tables)
+}
+
+fn part_of(alloc: Global, scope: &Scope<'_>, tables: &Tables) -> Result<Part, Error>
+    ensures part { IfOk result (λ part. (a : Replica) → IsReplica a → in_scope (scope_of scope.now) tables.now ≡ in_scope (scope_of scope.now) (tables_of a) → IsPartOf part (scope_of scope.now) a) }
+    ensures within { IfOk result (λ part. IsWithin part.summary) }
+{
+    match Part::from_tables(alloc, scope, tables) {
+        Ok(part) => Ok(part),
+        Err(Refusal::OutOfMemory) => Err(Error::SqliteFailure(ErrorCode::OutOfMemory)),
+        Err(_) => Err(Error::InvalidQuery),
+    }
+}
+
+/// The part of the tables of this database that a command of this scope needs.
+pub(crate) fn load_part<S: Alter>(
+    conn: &mut Connection<S>,
+    alloc: Global,
+    scope: &Scope<'_>,
+) -> Result<Part, Error>
+    requires autocommit { conn.old.in_transaction ≡ false }
+    ensures autocommit { conn.new.in_transaction ≡ false }
+    ensures reads { Reads (state S.Store conn.old) (state S.Store conn.new) result (λ part. (a : Replica) → Stands (tables_in (state S.Store conn.old).now.trees) a → IsPartOf part (scope_of scope.now) a) }
+    ensures within { IfOk result (λ part. IsWithin part.summary) }
+{
+    let tables = read_scope(conn, alloc, scope)?;
+    part_of(alloc, scope, &tables)
 }

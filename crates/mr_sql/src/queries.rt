@@ -6,15 +6,18 @@ ghost use Rattle.sqlite.specs.Given.{IsPlain};
 ghost use Rattle.sqlite.specs.Listing.{understood};
 ghost use Rattle.sqlite.specs.State.{Shown};
 ghost use Rattle.sqlite.specs.Held.{state};
+ghost use Rattle.mr_model.specs.Texts.{within};
 ghost use Rattle.mr_model.specs.Replica.{is_among};
 ghost use Rattle.mr_model.specs.Queries.{booking_id, error_id};
+ghost use Rattle.mr_tables.specs.Change.{log_id, undo_id};
 ghost use Rattle.mr_store.specs.Picked.{picked_bookings, picked_errors};
 ghost use Rattle.mr_sql.specs.Schema.{our_schema};
-ghost use Rattle.mr_sql.specs.Cells.{meta_in, booking_in, error_in};
+ghost use Rattle.mr_sql.specs.Cells.{meta_in, log_in, undo_in, booking_in, error_in};
 ghost use Rattle.mr_sql.specs.Kept.{tables_in};
 ghost use Rattle.mr_sql.specs.Found.{columns_from};
 ghost use Rattle.mr_sql.specs.Reads.{Reads, Looks, metas_in};
 
+use crate::numbers::Number;
 use mr_base::RoomName;
 use sqlite::types::ValueRef;
 use sqlite::{Alter, Connection, Error, Row, params};
@@ -45,6 +48,57 @@ pub(crate) fn select_all_meta<S: Alter>(conn: &mut Connection<S>) -> Result<Vec<
         conn,
         "SELECT one, schema, server, prim, commits, dropped, clock FROM meta",
         &[],
+    )
+}
+
+/// The rows of an id in `write_log`.
+pub(crate) fn select_key_log<S: Alter>(
+    conn: &mut Connection<S>,
+    server: u32,
+    n: u32,
+) -> Result<Vec<Row>, Error>
+    requires autocommit { conn.old.in_transaction ≡ false }
+    ensures autocommit { conn.new.in_transaction ≡ false }
+    ensures reads { Reads (state S.Store conn.old) (state S.Store conn.new) result (λ rows. IsPermutation (filter (λ r. is_among (log_id r) (record { server = server; n = n } ∷ [])) (tables_in (state S.Store conn.old).now.trees).write_log) (map (λ row. log_in (Null ∷ row)) rows.items)) }
+{
+    ask(
+        conn,
+        "SELECT server, n, tm, room, length, choices, title, seq FROM write_log WHERE server = ?1 AND n = ?2",
+        params![server, n],
+    )
+}
+
+/// The rows of `write_log` whose `seq` is between these numbers.
+pub(crate) fn select_between_log<S: Alter>(
+    conn: &mut Connection<S>,
+    low: Number,
+    high: Number,
+) -> Result<Vec<Row>, Error>
+    requires autocommit { conn.old.in_transaction ≡ false }
+    ensures autocommit { conn.new.in_transaction ≡ false }
+    ensures reads { Reads (state S.Store conn.old) (state S.Store conn.new) result (λ rows. IsPermutation (filter (λ r. within low.value high.value r.seq) (tables_in (state S.Store conn.old).now.trees).write_log) (map (λ row. log_in (Null ∷ row)) rows.items)) }
+{
+    ask(
+        conn,
+        "SELECT server, n, tm, room, length, choices, title, seq FROM write_log WHERE seq >= ?1 AND seq <= ?2",
+        params![low, high],
+    )
+}
+
+/// The rows of an id in `undo`.
+pub(crate) fn select_key_undo<S: Alter>(
+    conn: &mut Connection<S>,
+    server: u32,
+    n: u32,
+) -> Result<Vec<Row>, Error>
+    requires autocommit { conn.old.in_transaction ≡ false }
+    ensures autocommit { conn.new.in_transaction ≡ false }
+    ensures reads { Reads (state S.Store conn.old) (state S.Store conn.new) result (λ rows. IsPermutation (filter (λ r. is_among (undo_id r) (record { server = server; n = n } ∷ [])) (tables_in (state S.Store conn.old).now.trees).undo) (map (λ row. undo_in (Null ∷ row)) rows.items)) }
+{
+    ask(
+        conn,
+        "SELECT server, n, place FROM undo WHERE server = ?1 AND n = ?2",
+        params![server, n],
     )
 }
 

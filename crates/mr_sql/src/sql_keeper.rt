@@ -16,7 +16,7 @@ use crate::create::create;
 use crate::faults::refusal_of;
 use crate::{answers, changes, load};
 use mr_base::{Day, Refusal, RoomName, ServerId, WriteId};
-use mr_replica::Desk;
+use mr_replica::{Desk, Part, Scope};
 use mr_store::{Fault, Keeper, PlaceRow};
 use mr_tables::{BookingRow, Change, ErrorRow, MetaRow};
 use sqlite::{Alter, Connection, Error, ErrorCode, MemStore};
@@ -81,6 +81,13 @@ impl<S: Alter> Keeper for SqlKeeper<S> {
 
     fn load(&mut self) -> Result<Desk, Fault> {
         match load::load_desk(&mut self.conn, self.alloc) {
+            Ok(value) => Ok(value),
+            Err(error) => Err(told(&mut self.failures, error)),
+        }
+    }
+
+    fn load_part(&mut self, scope: &Scope<'_>) -> Result<Part, Fault> {
+        match load::load_part(&mut self.conn, self.alloc, scope) {
             Ok(value) => Ok(value),
             Err(error) => Err(told(&mut self.failures, error)),
         }

@@ -1,9 +1,9 @@
 ghost use Rattle.std.specs.Prelude.{◌≡◌, [], ◌∷◌, false, length, map, List, IfOk};
-ghost use Rattle.std.specs.List.Sorted.{IsPermutation, IsSorted};
+ghost use Rattle.std.specs.List.Sorted.{IsPermutation};
 ghost use Rattle.std.specs.Cmp.{IsTotalOrder};
 ghost use Rattle.std.specs.declared.cmp.Ordering.{Ordering as Order};
 ghost use Rattle.sqlite_value.specs.declared.value.Value.TheVariants.{Null};
-ghost use Rattle.sqlite_trees.specs.Tree.{Trees};
+ghost use Rattle.sqlite_trees.specs.Tree.{Trees, IsAscending};
 ghost use Rattle.sqlite.specs.State.{Survives};
 ghost use Rattle.sqlite.specs.Held.{state};
 ghost use Rattle.mr_model.specs.Writes.{Id};
@@ -44,10 +44,10 @@ pub(crate) trait StoredRow: Drop {
     fn compare(a: &Self, b: &Self) -> Ordering
         ensures { result ≡ order a.now b.now };
 
-    /// The order is total, and the rows that a query shows, in this order, are the table.
+    /// The order is total, and the rows of the table rise in it.
     fn keeps_order()
         ensures total { IsTotalOrder order }
-        ensures table_is { (trees : Trees) (shown out : List Self) → IsPermutation (rows_of (tables_in trees)) shown → IsPermutation shown out → IsSorted order out → out ≡ rows_of (tables_in trees) };
+        ensures rises { (trees : Trees) → IsAscending (λ a b. order a b ≡ Ordering.Less) (rows_of (tables_in trees)) };
 
     /// All rows of the table.
     fn select_all<S: Alter>(conn: &mut Connection<S>) -> Result<Vec<Row>, Error>

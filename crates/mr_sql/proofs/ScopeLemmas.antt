@@ -1,0 +1,271 @@
+-- The rows that the questions of a scope ask for are enough of it.
+use Rattle.std.proofs.Common.{◌≡◌, refl, sym, ap, ◌∙◌, subst, ℕ, zero, suc, ◌+◌, ◌≤◌, ◌<◌, Bool, true, false, cond, not, ◌&&◌, ◌||◌, ltb, leb, eqb, List, [], ◌∷◌, ◌++◌, map, filter, take, ◌⊎◌, inl, inr, arith, length, ltb-true, ltb-false, eqb-true}
+use Rattle.std.proofs.lemmas.Bool.{true≢false, and_parts, and_from, or_cases, or_left, or_right, leb-true, le-leb}
+use Rattle.std.specs.Prelude.{bytes_eq, flat_map}
+use Rattle.std.specs.List.{list_any}
+use Rattle.std.proofs.lemmas.List.Folds.{list_any-append}
+use Rattle.mr_model.specs.Texts.{Text, within}
+use Rattle.mr_model.specs.Writes.{Id, same_id}
+use Rattle.mr_model.specs.Replica.{Replica, is_among}
+use Rattle.mr_model.specs.Exchange.{Item, W, C}
+use Rattle.mr_model.specs.Tables.{MetaRow, VectorRow, LogRow, UndoRow, BookingRow, Tables, log_row, kept, seq_among, tables_of}
+use Rattle.mr_model.specs.Dropped.{Has}
+use Rattle.mr_model.specs.Scopes.{Scope, Nothing, InRoom, NextCommits, UpTo, Above, OfItems, log_row_id, undo_row_id, is_tentative, row_before, put_row, by_stamp, item_id, has_number, is_named, is_in_tail, is_touched, touched_rooms, in_scope}
+use Rattle.mr_model.specs.RowsRead.{Reads, rows_read, IsOfCommits}
+use Rattle.mr_model.proofs.ReadRows.{read_rows}
+use Rattle.mr_model.proofs.Members.{has_filter, filter_has, has_map, map_has, among_has}
+use Rattle.mr_tables.specs.Change.{log_id, undo_id}
+use Rattle.mr_sql.specs.declared.questions.LogQuestion.{LogQuestion}
+use Rattle.mr_sql.specs.declared.questions.LogQuestion.TheVariants.{OfId, Between}
+use Rattle.mr_sql.specs.Questions.{is_asked, is_log_asked, is_undo_asked, is_booking_asked, item_questions, tentative_question, log_questions, undo_questions, booking_questions, AreRead, AreNumbered, AreEnough}
+use Rattle.mr_replica.specs.PickedBookings.{AreSameRooms}
+use Rattle.mr_sql.proofs.RowLemmas.{filter_same}
+use Rattle.mr_sql.proofs.ValueLemmas.{one_among}
+
+-- ---- lists
+
+any_has : {X : Type 0} (p : X → Bool) (x : X) (xs : List X) → Has x xs → p x ≡ true → list_any p xs ≡ true
+any_has p x [] h e = absurd h
+any_has p x (y ∷ ys) (inl f) e = or_left (p y) (list_any p ys) (ap p (sym f) ∙ e)
+any_has p x (y ∷ ys) (inr g) e = or_right (p y) (list_any p ys) (any_has p x ys g e)
+
+take_has : {X : Type 0} (k : ℕ) (x : X) (xs : List X) → Has x (take k xs) → Has x xs
+take_has zero x xs h = absurd h
+take_has (suc k) x [] h = absurd h
+take_has (suc k) x (y ∷ ys) (inl e) = inl e
+take_has (suc k) x (y ∷ ys) (inr h) = inr (take_has k x ys h)
+
+put_row_has : (x row : LogRow) (rows : List LogRow) → Has row (put_row x rows) → (row ≡ x) ⊎ Has row rows
+put_row_has x row [] (inl e) = inl e
+put_row_has x row [] (inr h) = absurd h
+put_row_has x row (y ∷ ys) h = go (row_before x y) h (put_row_has x row ys)
+  where
+    over : (row ≡ x) ⊎ Has row ys → (row ≡ x) ⊎ Has row (y ∷ ys)
+    over (inl e) = inl e
+    over (inr g) = inr (inr g)
+
+    go : (b : Bool) → Has row (cond b (x ∷ y ∷ ys) (y ∷ put_row x ys)) → (Has row (put_row x ys) → (row ≡ x) ⊎ Has row ys) → (row ≡ x) ⊎ Has row (y ∷ ys)
+    go true (inl e) ih = inl e
+    go true (inr g) ih = inr g
+    go false (inl e) ih = inr (inl e)
+    go false (inr g) ih = over (ih g)
+
+by_stamp_has : (row : LogRow) (rows : List LogRow) → Has row (by_stamp rows) → Has row rows
+by_stamp_has row [] h = absurd h
+by_stamp_has row (x ∷ xs) h = go (put_row_has x row (by_stamp xs) h) (by_stamp_has row xs)
+  where
+    go : (row ≡ x) ⊎ Has row (by_stamp xs) → (Has row (by_stamp xs) → Has row xs) → Has row (x ∷ xs)
+    go (inl e) ih = inl e
+    go (inr g) ih = inr (ih g)
+
+-- ---- questions that ask for a row
+
+within_from : (low high n : ℕ) → low ≤ n → n ≤ high → within low high n ≡ true
+within_from low high n a b = and_from (leb low n) (leb n high) (le-leb low n a) (le-leb n high b)
+
+tentative_asked : (row : LogRow) → is_tentative row ≡ true → is_log_asked tentative_question row ≡ true
+tentative_asked row e = let none : row.seq ≡ 0 = eqb-true row.seq 0 e in within_from 0 0 row.seq (omega arith) (omega (arith, none))
+
+asked_behind : (questions more : List LogQuestion) (row : LogRow) → is_asked is_log_asked questions row ≡ true → is_asked is_log_asked (questions ++ more) row ≡ true
+asked_behind questions more row e =
+    list_any-append (λ q. is_log_asked q row) questions more ∙ or_left (is_asked is_log_asked questions row) (is_asked is_log_asked more row) e
+
+asked_before : (questions more : List LogQuestion) (row : LogRow) → is_asked is_log_asked more row ≡ true → is_asked is_log_asked (questions ++ more) row ≡ true
+asked_before questions more row e =
+    list_any-append (λ q. is_log_asked q row) questions more ∙ or_right (is_asked is_log_asked questions row) (is_asked is_log_asked more row) e
+
+-- a row whose id an item has
+id_asked : (commits : ℕ) (items : List Item) (row : LogRow) → is_among (log_row_id row) (map item_id items) ≡ true → is_asked is_log_asked (flat_map (item_questions commits) items) row ≡ true
+id_asked commits [] row e = e
+id_asked commits (x ∷ items) row e = go (or_cases (same_id (log_row_id row) (item_id x)) (is_among (log_row_id row) (map item_id items)) e) (id_asked commits items row)
+  where
+    here : (y : Item) → same_id (log_row_id row) (item_id y) ≡ true → is_asked is_log_asked (item_questions commits y) row ≡ true
+    here (W w) f = or_left (is_log_asked (OfId (item_id (W w))) row) false (or_left (same_id (log_row_id row) (item_id (W w))) false f)
+    here (C seq id) f = or_left (is_log_asked (OfId id) row) _ (or_left (same_id (log_row_id row) id) false f)
+
+    go : (same_id (log_row_id row) (item_id x) ≡ true) ⊎ (is_among (log_row_id row) (map item_id items) ≡ true) → (is_among (log_row_id row) (map item_id items) ≡ true → is_asked is_log_asked (flat_map (item_questions commits) items) row ≡ true)
+        → is_asked is_log_asked (item_questions commits x ++ flat_map (item_questions commits) items) row ≡ true
+    go (inl f) ih = asked_behind (item_questions commits x) (flat_map (item_questions commits) items) row (here x f)
+    go (inr f) ih = asked_before (item_questions commits x) (flat_map (item_questions commits) items) row (ih f)
+
+-- a row whose number an item has
+number_asked : (commits : ℕ) (items : List Item) (row : LogRow) → row.seq ≤ commits → list_any (has_number row.seq) items ≡ true → is_asked is_log_asked (flat_map (item_questions commits) items) row ≡ true
+number_asked commits [] row low e = e
+number_asked commits (x ∷ items) row low e = go (or_cases (has_number row.seq x) (list_any (has_number row.seq) items) e) (number_asked commits items row low)
+  where
+    here : (y : Item) → has_number row.seq y ≡ true → is_asked is_log_asked (item_questions commits y) row ≡ true
+    here (W w) f = absurd (true≢false (sym f))
+    here (C seq id) f =
+        let same : seq ≡ row.seq = eqb-true seq row.seq f in
+        let known : leb seq commits ≡ true = le-leb seq commits (omega (arith, same, low)) in
+        let found : is_log_asked (Between seq seq) row ≡ true = within_from seq seq row.seq (omega (arith, same)) (omega (arith, same)) in
+        or_right (is_log_asked (OfId id) row) _ (ap (λ b. is_asked is_log_asked (cond b (Between seq seq ∷ []) []) row) known ∙ or_left (is_log_asked (Between seq seq) row) false found)
+
+    go : (has_number row.seq x ≡ true) ⊎ (list_any (has_number row.seq) items ≡ true) → (list_any (has_number row.seq) items ≡ true → is_asked is_log_asked (flat_map (item_questions commits) items) row ≡ true)
+        → is_asked is_log_asked (item_questions commits x ++ flat_map (item_questions commits) items) row ≡ true
+    go (inl f) ih = asked_behind (item_questions commits x) (flat_map (item_questions commits) items) row (here x f)
+    go (inr f) ih = asked_before (item_questions commits x) (flat_map (item_questions commits) items) row (ih f)
+
+-- ---- rows of write_log
+
+up_to_asked : (commits d : ℕ) (row : LogRow) → row.seq ≤ commits → within 1 d row.seq ≡ true → is_asked is_log_asked (log_questions commits (UpTo d)) row ≡ true
+up_to_asked commits d row low e = or_left (is_log_asked (Between 1 (cond (ltb commits d) commits d)) row) false (go (ltb commits d))
+  where
+    go : (b : Bool) → within 1 (cond b commits d) row.seq ≡ true
+    go true = within_from 1 commits row.seq (leb-true 1 row.seq (and_parts (leb 1 row.seq) (leb row.seq d) e).0) low
+    go false = e
+
+above_asked : (commits c : ℕ) (row : LogRow) → row.seq ≤ commits → (is_tentative row || ltb c row.seq) ≡ true → is_asked is_log_asked (log_questions commits (Above c)) row ≡ true
+above_asked commits c row low e = go (or_cases (is_tentative row) (ltb c row.seq) e) (ltb c commits) refl
+  where
+    go : (is_tentative row ≡ true) ⊎ (ltb c row.seq ≡ true) → (b : Bool) → ltb c commits ≡ b → is_asked is_log_asked (cond b (tentative_question ∷ Between (c + 1) commits ∷ []) (tentative_question ∷ [])) row ≡ true
+    go (inl f) true g = or_left (is_log_asked tentative_question row) _ (tentative_asked row f)
+    go (inl f) false g = or_left (is_log_asked tentative_question row) _ (tentative_asked row f)
+    go (inr f) true g =
+        let less = ltb-true c row.seq f in
+        or_right (is_log_asked tentative_question row) _ (or_left (is_log_asked (Between (c + 1) commits) row) false (within_from (c + 1) commits row.seq (omega (arith, less)) low))
+    go (inr f) false g = let less = ltb-true c row.seq f in let over = ltb-false c commits g in absurd (omega (arith, less, over, low))
+
+items_asked : (commits : ℕ) (items : List Item) (touched : Bool) (row : LogRow) → row.seq ≤ commits → (is_named items row || (is_in_tail commits items row && touched)) ≡ true → is_asked is_log_asked (log_questions commits (OfItems items)) row ≡ true
+items_asked commits items touched row low e = go (or_cases (is_named items row) (is_in_tail commits items row && touched) e)
+  where
+    named : (is_among (log_row_id row) (map item_id items) ≡ true) ⊎ ((not (is_tentative row) && list_any (has_number row.seq) items) ≡ true) → is_asked is_log_asked (flat_map (item_questions commits) items) row ≡ true
+    named (inl f) = id_asked commits items row f
+    named (inr f) = number_asked commits items row low (and_parts (not (is_tentative row)) (list_any (has_number row.seq) items) f).1
+
+    go : (is_named items row ≡ true) ⊎ ((is_in_tail commits items row && touched) ≡ true) → is_asked is_log_asked (log_questions commits (OfItems items)) row ≡ true
+    go (inl f) = or_right (is_log_asked tentative_question row) _ (named (or_cases (is_among (log_row_id row) (map item_id items)) (not (is_tentative row) && list_any (has_number row.seq) items) f))
+    go (inr f) =
+        let tail = (and_parts (is_in_tail commits items row) touched f).0 in
+        or_left (is_log_asked tentative_question row) _ (tentative_asked row (and_parts (is_tentative row) _ tail).0)
+
+log_asked : (s : Scope) (t : Tables) → AreNumbered t → (row : LogRow) → Has row (in_scope s t).write_log → Has row t.write_log × (is_asked is_log_asked (log_questions t.meta.commits s) row ≡ true)
+log_asked Nothing t numbered row h = absurd h
+log_asked (InRoom room) t numbered row h = absurd h
+log_asked (NextCommits k) t numbered row h =
+    let g = filter_has is_tentative row t.write_log (by_stamp_has row (filter is_tentative t.write_log) (take_has k row (by_stamp (filter is_tentative t.write_log)) h)) in
+    (g.0, or_left (is_log_asked tentative_question row) false (tentative_asked row g.1))
+log_asked (UpTo d) t numbered row h =
+    let g = filter_has (λ (r : LogRow). within 1 d r.seq) row t.write_log h in
+    (g.0, up_to_asked t.meta.commits d row (numbered row g.0) g.1)
+log_asked (Above c) t numbered row h =
+    let g = filter_has (λ r. is_tentative r || ltb c r.seq) row t.write_log h in
+    (g.0, above_asked t.meta.commits c row (numbered row g.0) g.1)
+log_asked (OfItems items) t numbered row h =
+    let g = filter_has (λ r. is_named items r || (is_in_tail t.meta.commits items r && is_touched t items r.room)) row t.write_log h in
+    (g.0, items_asked t.meta.commits items (is_touched t items row.room) row (numbered row g.0) g.1)
+
+-- the rows of write_log that are asked for
+abbrev logs_of : Scope → Tables → List LogRow
+logs_of s t = filter (is_asked is_log_asked (log_questions t.meta.commits s)) t.write_log
+
+log_read : (s : Scope) (t : Tables) → AreNumbered t → (row : LogRow) → Has row (in_scope s t).write_log → Has row (logs_of s t)
+log_read s t numbered row h = let g = log_asked s t numbered row h in has_filter (is_asked is_log_asked (log_questions t.meta.commits s)) row t.write_log g.1 g.0
+
+-- ---- rows of undo
+
+undo_by_row : (u : UndoRow) (inside all : List LogRow) → ((row : LogRow) → Has row inside → Has row all) → is_among (undo_row_id u) (map log_row_id inside) ≡ true → is_asked is_undo_asked (map log_id all) u ≡ true
+undo_by_row u inside all within_all e =
+    let (row, g, f) = map_has log_row_id (undo_row_id u) inside (among_has (undo_row_id u) (map log_row_id inside) e) in
+    any_has (λ id. is_undo_asked id u) (log_id row) (map log_id all) (has_map log_id row all (within_all row g)) (one_among (undo_id u) (log_id row) f)
+
+undo_among : (u : UndoRow) (t : Tables) (inside : List LogRow) → Has u (filter (λ v. is_among (undo_row_id v) (map log_row_id inside)) t.undo) → is_among (undo_row_id u) (map log_row_id inside) ≡ true
+undo_among u t inside h = (filter_has (λ v. is_among (undo_row_id v) (map log_row_id inside)) u t.undo h).1
+
+undo_read : (s : Scope) (t : Tables) → AreNumbered t → (u : UndoRow) → Has u (in_scope s t).undo → is_asked is_undo_asked (undo_questions s (logs_of s t)) u ≡ true
+undo_read Nothing t numbered u h = absurd (true≢false (sym (undo_among u t [] h)))
+undo_read (InRoom room) t numbered u h = absurd (true≢false (sym (undo_among u t [] h)))
+undo_read (NextCommits k) t numbered u h =
+    undo_by_row u (in_scope (NextCommits k) t).write_log (logs_of (NextCommits k) t) (log_read (NextCommits k) t numbered) (undo_among u t (in_scope (NextCommits k) t).write_log h)
+undo_read (UpTo d) t numbered u h = undo_by_row u (in_scope (UpTo d) t).write_log (logs_of (UpTo d) t) (log_read (UpTo d) t numbered) (undo_among u t (in_scope (UpTo d) t).write_log h)
+undo_read (Above c) t numbered u h = absurd (true≢false (sym (undo_among u t [] h)))
+undo_read (OfItems items) t numbered u h =
+    undo_by_row u (in_scope (OfItems items) t).write_log (logs_of (OfItems items) t) (log_read (OfItems items) t numbered) (undo_among u t (in_scope (OfItems items) t).write_log h)
+
+-- ---- bookings
+
+-- the rooms that the rows read touch are those that all rows touch
+touched_read : (items : List Item) (t : Tables) → AreNumbered t → (b : BookingRow) → Has b (in_scope (OfItems items) t).booking
+    → is_asked is_booking_asked (booking_questions t.meta.commits (OfItems items) (logs_of (OfItems items) t)) b ≡ true
+touched_read items t numbered b h =
+    let p = is_asked is_log_asked (log_questions t.meta.commits (OfItems items)) in
+    let read : Tables = rows_read p (λ _. true) (λ _. true) t in
+    let reads : Reads (OfItems items) t p (λ _. true) (λ _. true) = record {
+      logs = λ row g. (log_asked (OfItems items) t numbered row g).1;
+      undo = λ u g. refl;
+      booking = λ c g. refl;
+      tentative = λ none. absurd none;
+    } in
+    let same = read_rows (OfItems items) t p (λ _. true) (λ _. true) reads in
+    (filter_has (λ c. is_touched read items c.room) b read.booking (subst (λ (u : Tables). Has b u.booking) (sym same) h)).1
+
+booking_read : (s : Scope) (t : Tables) → AreNumbered t → (b : BookingRow) → Has b (in_scope s t).booking → is_asked is_booking_asked (booking_questions t.meta.commits s (logs_of s t)) b ≡ true
+booking_read Nothing t numbered b h = absurd h
+booking_read (InRoom room) t numbered b h = or_left (is_booking_asked room b) false (filter_has (λ (c : BookingRow). bytes_eq c.room room) b t.booking h).1
+booking_read (NextCommits k) t numbered b h = absurd h
+booking_read (UpTo d) t numbered b h = absurd h
+booking_read (Above c) t numbered b h = absurd h
+booking_read (OfItems items) t numbered b h = touched_read items t numbered b h
+
+-- ---- all tables
+
+tentative_read : (s : Scope) (commits : ℕ) → IsOfCommits s → (row : LogRow) → is_tentative row ≡ true → is_asked is_log_asked (log_questions commits s) row ≡ true
+tentative_read Nothing commits of row e = absurd of
+tentative_read (InRoom room) commits of row e = absurd of
+tentative_read (NextCommits k) commits of row e = or_left (is_log_asked tentative_question row) false (tentative_asked row e)
+tentative_read (UpTo d) commits of row e = absurd of
+tentative_read (Above c) commits of row e = absurd of
+tentative_read (OfItems items) commits of row e = absurd of
+
+pub enough : (s : Scope) (t : Tables) (log_rows : List LogRow) (undo_rows : List UndoRow) (booking_rows : List BookingRow) → AreRead t.meta.commits s t log_rows undo_rows booking_rows
+    → AreEnough s t (record t { write_log = log_rows; undo = undo_rows; booking = booking_rows; errorlog = [] })
+enough s t log_rows undo_rows booking_rows read numbered =
+    ap (in_scope s) are
+    ∙ read_rows s t (is_asked is_log_asked (log_questions t.meta.commits s)) (is_asked is_undo_asked (undo_questions s (logs_of s t))) (is_asked is_booking_asked (booking_questions t.meta.commits s (logs_of s t))) (record {
+      logs = λ row h. (log_asked s t numbered row h).1;
+      undo = undo_read s t numbered;
+      booking = booking_read s t numbered;
+      tentative = λ of row h. tentative_read s t.meta.commits of row;
+    })
+  where
+    undo_are : undo_rows ≡ filter (is_asked is_undo_asked (undo_questions s (logs_of s t))) t.undo
+    undo_are = read.undo ∙ ap (λ logs. filter (is_asked is_undo_asked (undo_questions s logs)) t.undo) read.logs
+
+    bookings_are : booking_rows ≡ filter (is_asked is_booking_asked (booking_questions t.meta.commits s (logs_of s t))) t.booking
+    bookings_are = read.booking ∙ ap (λ logs. filter (is_asked is_booking_asked (booking_questions t.meta.commits s logs)) t.booking) read.logs
+
+    are : record t { write_log = log_rows; undo = undo_rows; booking = booking_rows; errorlog = [] }
+        ≡ rows_read (is_asked is_log_asked (log_questions t.meta.commits s)) (is_asked is_undo_asked (undo_questions s (logs_of s t))) (is_asked is_booking_asked (booking_questions t.meta.commits s (logs_of s t))) t
+    are = let logs = read.logs in let undo = undo_are in let bookings = bookings_are in λ i. record t { write_log = logs i; undo = undo i; booking = bookings i; errorlog = [] }
+
+-- the same where the heads were read too
+pub read_enough : (s : Scope) (t : Tables) (meta : MetaRow) (room : List Text) (vector : List VectorRow) (log_rows : List LogRow) (undo_rows : List UndoRow) (booking_rows : List BookingRow)
+    → (meta ≡ t.meta) × (room ≡ t.room) × (vector ≡ t.vector) → AreRead meta.commits s t log_rows undo_rows booking_rows
+    → AreEnough s t (record { meta = meta; room = room; vector = vector; write_log = log_rows; undo = undo_rows; booking = booking_rows; errorlog = [] })
+read_enough s t meta room vector log_rows undo_rows booking_rows heads read numbered =
+    (let m = heads.0 in let r = heads.1 in let v = heads.2 in λ i. in_scope s (record { meta = m i; room = r i; vector = v i; write_log = log_rows; undo = undo_rows; booking = booking_rows; errorlog = [] }))
+    ∙ enough s t log_rows undo_rows booking_rows (subst (λ (m : MetaRow). AreRead m.commits s t log_rows undo_rows booking_rows) heads.0 read) numbered
+
+-- questions for the same rooms ask for the same bookings
+pub rooms_asked : (xs ys : List Text) → AreSameRooms xs ys → (bookings : List BookingRow) → filter (is_asked is_booking_asked xs) bookings ≡ filter (is_asked is_booking_asked ys) bookings
+rooms_asked xs ys same bookings = filter_same (is_asked is_booking_asked xs) (is_asked is_booking_asked ys) bookings (λ b _. same b.room)
+
+-- ---- commit numbers of a replica's tables
+
+seq_within : (k : ℕ) (ids : List Id) (id : Id) → 1 ≤ k → seq_among k ids id + 1 ≤ k + length ids
+seq_within k [] id low = omega (arith, low)
+seq_within k (x ∷ xs) id low = go (same_id x id) (seq_within (k + 1) xs id (omega arith))
+  where
+    go : (b : Bool) → seq_among (k + 1) xs id + 1 ≤ (k + 1) + length xs → cond b k (seq_among (k + 1) xs id) + 1 ≤ k + length (x ∷ xs)
+    go true ih = omega arith
+    go false ih = omega (arith, ih)
+
+pub numbered_of : (t : Tables) (a : Replica) → t ≡ tables_of a → AreNumbered t
+numbered_of t a are = subst AreNumbered (sym are) numbered
+  where
+    numbered : AreNumbered (tables_of a)
+    numbered row h =
+        let (w, g, e) = map_has (log_row a) row (kept a) h in
+        let seq : row.seq ≡ (log_row a w).seq = ap (λ (r : LogRow). r.seq) e in
+        let low = seq_within 1 a.commits (record { server = w.stamp.server; n = w.stamp.n }) (omega arith) in
+        omega (arith, seq, low)

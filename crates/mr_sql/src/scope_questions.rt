@@ -1,0 +1,121 @@
+ghost use Rattle.std.specs.Prelude.{◌≡◌, ◌∷◌, [], ◌++◌, map, flat_map, if◌then◌else◌, nat_lt, ◌+◌, IfOk, OnOk};
+ghost use Rattle.mr_base.specs.Batches.{item_of};
+ghost use Rattle.mr_replica.specs.ScopeOf.{scope_of};
+ghost use Rattle.mr_tables.specs.Change.{log_id};
+ghost use Rattle.mr_sql.specs.Questions.{tentative_question, item_questions, log_questions, undo_questions};
+ghost use Rattle.mr_sql.specs.declared.questions.LogQuestion.TheVariants as asked;
+
+use crate::questions::{LogQuestion, UndoQuestion};
+use mr_base::Item;
+use mr_replica::Scope;
+use mr_tables::LogRow;
+use std::alloc::{AllocError, Global};
+
+fn one_question(alloc: Global, question: LogQuestion) -> Result<Vec<LogQuestion>, AllocError>
+    ensures { IfOk result (λ questions. questions.items ≡ question ∷ []) }
+{
+    let mut questions = Vec::new(alloc);
+    questions.push(question)?;
+    Ok(questions)
+}
+
+fn tentative_rows(alloc: Global) -> Result<Vec<LogQuestion>, AllocError>
+    ensures { IfOk result (λ questions. questions.items ≡ tentative_question ∷ []) }
+{
+    one_question(alloc, LogQuestion::Between(0, 0))
+}
+
+/// For the commits up to this number, where so many are known.
+fn rows_up_to(alloc: Global, number: u64, commits: u64) -> Result<Vec<LogQuestion>, AllocError>
+    ensures { IfOk result (λ questions. questions.items ≡ asked.Between 1 (if nat_lt commits number then commits else number) ∷ []) }
+{
+    let last = if commits < number { commits } else { number };
+    one_question(alloc, LogQuestion::Between(1, last))
+}
+
+/// For the tentative rows and those of the commits above this number, where so many are known.
+fn rows_above(alloc: Global, number: u64, commits: u64) -> Result<Vec<LogQuestion>, AllocError>
+    ensures { IfOk result (λ questions. questions.items ≡ (if nat_lt number commits then tentative_question ∷ asked.Between (number + 1) commits ∷ [] else tentative_question ∷ [])) }
+{
+    let mut questions = tentative_rows(alloc)?;
+    if number < commits {
+        questions.push(LogQuestion::Between(number + 1, commits))?;
+    }
+    Ok(questions)
+}
+
+fn add_item(questions: &mut Vec<LogQuestion>, item: &Item, commits: u64) -> Result<(), AllocError>
+    ensures { OnOk result (questions.new.items ≡ questions.old.items ++ item_questions commits (item_of item.now)) }
+{
+    match item {
+        Item::W(write) => questions.push(LogQuestion::OfId(write.stamp.id()))?,
+        Item::C { seq, id } => {
+            questions.push(LogQuestion::OfId(*id))?;
+            let number = seq.number();
+            if number <= commits {
+                questions.push(LogQuestion::Between(number, number))?;
+            }
+        }
+    }
+    Ok(())
+}
+
+/// For the tentative rows and those that the items name.
+fn rows_of_items(
+    alloc: Global,
+    items: &[Item],
+    commits: u64,
+) -> Result<Vec<LogQuestion>, AllocError>
+    ensures { IfOk result (λ questions. questions.items ≡ tentative_question ∷ flat_map (item_questions commits) (map item_of items.now)) }
+{
+    let mut questions = tentative_rows(alloc)?;
+    'items: for item in items {
+        add_item(&mut questions, item, commits)?;
+    }
+    Ok(questions)
+}
+
+/// What is asked of `write_log` for a scope, where so many commits are known: for all rows in scope, and for a commit or a batch
+/// that is received for all tentative rows.
+pub(crate) fn log_questions(
+    alloc: Global,
+    scope: &Scope<'_>,
+    commits: u64,
+) -> Result<Vec<LogQuestion>, AllocError>
+    ensures { IfOk result (λ questions. questions.items ≡ log_questions commits (scope_of scope.now)) }
+{
+    match *scope {
+        Scope::Nothing | Scope::InRoom(_) => Ok(Vec::new(alloc)),
+        Scope::NextCommits(_) => tentative_rows(alloc),
+        Scope::UpTo(number) => rows_up_to(alloc, number, commits),
+        Scope::Above(number) => rows_above(alloc, number, commits),
+        Scope::Items(items) => rows_of_items(alloc, items, commits),
+    }
+}
+
+fn ids_of(alloc: Global, logs: &[LogRow]) -> Result<Vec<UndoQuestion>, AllocError>
+    ensures { IfOk result (λ ids. ids.items ≡ map log_id logs.now) }
+{
+    let mut ids = Vec::new(alloc);
+    'rows: for row in logs {
+        ids.push(UndoQuestion {
+            server: row.server,
+            n: row.n,
+        })?;
+    }
+    Ok(ids)
+}
+
+/// What is asked of `undo` for a scope, where these rows of `write_log` were read: for the row of each of them.
+pub(crate) fn undo_questions(
+    alloc: Global,
+    scope: &Scope<'_>,
+    logs: &[LogRow],
+) -> Result<Vec<UndoQuestion>, AllocError>
+    ensures { IfOk result (λ ids. ids.items ≡ undo_questions (scope_of scope.now) logs.now) }
+{
+    match *scope {
+        Scope::Nothing | Scope::InRoom(_) | Scope::Above(_) => Ok(Vec::new(alloc)),
+        Scope::NextCommits(_) | Scope::UpTo(_) | Scope::Items(_) => ids_of(alloc, logs),
+    }
+}
