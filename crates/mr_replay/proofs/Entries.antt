@@ -72,18 +72,21 @@ in_order-put (e ∷ es) i row h =
 
 -- ---- a row taken away
 
+pub row_at-removed : (b : Rows) (i q : Id) → IsInOrder b → row_at (remove_entry (same_id i) b) q ≡ cond (same_id q i) None (row_at b q)
+row_at-removed b i q h =
+    subst (λ (f : Id → Id → Bool). lookup (f q) (remove_entry (f i) b) ≡ cond (f i q) None (lookup (f q) b)) at_is
+    (lookup-remove_entry at_equivalence (at i) (λ x y e. at_equivalence.congr i x y e) q b (IsDistinct-from_sorted id_cmp (keys_of b) h))
+    ∙ ap (λ t. cond t None (row_at b q)) (same_id_equivalence.symm i q)
+
 pub row_at-undone : (b : Rows) (u : UndoRow) (q : Id) → IsInOrder b → row_at (undone b u) q ≡ cond (same_id q u.id) None (row_at b q)
-row_at-undone b u q h =
-    subst (λ (f : Id → Id → Bool). lookup (f q) (remove_entry (f u.id) b) ≡ cond (f u.id q) None (lookup (f q) b)) at_is
-    (lookup-remove_entry at_equivalence (at u.id) (λ x y e. at_equivalence.congr u.id x y e) q b (IsDistinct-from_sorted id_cmp (keys_of b) h))
-    ∙ ap (λ t. cond t None (row_at b q)) (same_id_equivalence.symm u.id q)
+row_at-undone b u q h = row_at-removed b u.id q h
 
 each-removed : (P : Id → Type 0) (b : Rows) (i : Id) → AllByRecursion P (keys_of b) → AllByRecursion P (keys_of (remove_entry (same_id i) b))
 each-removed P [] i h = tt
 each-removed P (e ∷ es) i h =
     elim (same_id i e.0) as (λ t. AllByRecursion P (keys_of (cond t es (e ∷ remove_entry (same_id i) es)))) [ true ↦ h.1 | false ↦ (h.0, each-removed P es i h.1) ]
 
-in_order-removed : (b : Rows) (i : Id) → IsInOrder b → IsInOrder (remove_entry (same_id i) b)
+pub in_order-removed : (b : Rows) (i : Id) → IsInOrder b → IsInOrder (remove_entry (same_id i) b)
 unfolding IsStrictlySortedBy
 in_order-removed [] i h = tt
 in_order-removed (e ∷ es) i h =

@@ -6,8 +6,10 @@ pub mod Lists
 pub mod Placing
 pub mod Checking
 pub mod OneRoom
+pub mod Hiding
 pub mod Holding
 pub mod Redoing
+pub mod Replaying
 pub mod OneBoard
 pub mod Places
 pub mod RoomBookings

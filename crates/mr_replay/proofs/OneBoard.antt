@@ -23,7 +23,7 @@ both : (a b : Bool) → T a → T b → T (a && b)
 both true b p q = q
 both false b p q = absurd p
 
-sorted_test : (es : Rows) → IsInOrder es → T (is_sorted id_cmp es)
+pub sorted_test : (es : Rows) → IsInOrder es → T (is_sorted id_cmp es)
 unfolding IsStrictlySortedBy
 sorted_test [] h = tt
 sorted_test (e ∷ es) h = both (below_all id_cmp e.0 es) (is_sorted id_cmp es) (below e.0 es h.0) (sorted_test es h.1)
@@ -32,7 +32,7 @@ find-at : (es : Rows) (q : Id) → find id_cmp q es ≡ lookup (at q) es
 find-at [] q = refl
 find-at (e ∷ es) q = ap (cond (at q e.0) (Some e.1)) (find-at es q)
 
-find-row_at : (es : Rows) (q : Id) → find id_cmp q es ≡ row_at es q
+pub find-row_at : (es : Rows) (q : Id) → find id_cmp q es ≡ row_at es q
 find-row_at es q = find-at es q ∙ ap (λ (f : Id → Id → Bool). lookup (f q) es) at_is
 
 pub one_board : (lists : Text → List Write) (b c : Rows) → HoldsEach lists b → HoldsEach lists c → b ≡ c

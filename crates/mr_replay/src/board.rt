@@ -1,7 +1,5 @@
 ghost use Rattle.std.specs.Prelude.{◌≡◌, ℕ, ◌↔◌, List, [], ◌∷◌, ◌++◌, length, None, Ok, OnOk, OnErr, IfOk, IfErr, IsTrue, bytes_eq, false};
 ghost use Rattle.std.specs.BTreeMap.{insert_entry};
-ghost use Rattle.std.specs.List.{list_any};
-ghost use Rattle.std.specs.Map.{values_of};
 ghost use Rattle.std.specs.Option.{option_copied};
 ghost use Rattle.mr_model.specs.Texts.{Text};
 ghost use Rattle.mr_model.specs.Writes.{Id, Write, id_of};
@@ -9,22 +7,25 @@ ghost use Rattle.mr_model.specs.Replay.{is_free};
 ghost use Rattle.mr_base.specs.Answers.{OrOutOfMemory};
 ghost use Rattle.mr_base.specs.Ids.{id_cmp};
 ghost use Rattle.mr_replay.specs.Places.{place_of};
-ghost use Rattle.mr_replay.specs.Rows.{row_at, bookings_of, is_in_the_way, IsFree, place_on, executed, undo_row_of, undone, executed_all, undo_rows_of, undone_all};
-ghost use Rattle.mr_replay.specs.Index.{way_at};
+ghost use Rattle.mr_replay.specs.Rows.{row_at, bookings_of, IsFree, place_on, executed, undo_row_of, undone, executed_all, undo_rows_of, undone_all};
 ghost use Rattle.mr_replay.specs.Holds.{HaveDistinctIds, AreNew, if_of, HoldsEach, Holds, with_list, undo_row_after, CanReplay};
 
-use crate::index::{Index, ends_of, forget, key_if_booked, note};
+use crate::choice::{is_free, place_among};
+use crate::giving_back::remove_row;
+use crate::index::{Index, forget, key_if_booked, note};
+use crate::replay::replay_of;
+use crate::rows::Rows;
 use crate::{Place, Row, UndoRow};
-use mr_base::{Refusal, RoomName, Slot, Write, WriteId, overlaps};
+use mr_base::{Refusal, RoomName, Slot, Write, WriteId};
 use std::alloc::{AllocError, Global};
-use std::collections::BTreeMap;
+use std::collections::{BTreeMap, BTreeSet};
 use std::marker::Model;
 
 /// The bookings and the error log of all rooms: one row for each write that was executed and not undone.
 #[derive(Drop)]
 pub struct Board {
     alloc: Global,
-    rows: BTreeMap<WriteId, Row>,
+    rows: Rows,
     /// The bookings of the rows, by day and room.
     index: Index,
 }
@@ -52,7 +53,7 @@ impl Board {
         Board {
             alloc,
             rows: BTreeMap::new(alloc),
-            index: BTreeMap::new(alloc),
+            index: BTreeSet::new(alloc),
         }
     }
 
@@ -94,11 +95,11 @@ impl Board {
         match self.rows.insert(id, row) {
             Ok(None) => Ok(()),
             Ok(Some(replaced)) => {
-                forget(&mut self.index, id, &replaced, kept);
+                forget(&mut self.index, key_if_booked(id, &replaced), kept);
                 Ok(())
             }
             Err(failed) => {
-                forget(&mut self.index, id, &failed.value.1, None);
+                forget(&mut self.index, key_if_booked(id, &failed.value.1), None);
                 Err(Refusal::OutOfMemory)
             }
         }
@@ -109,24 +110,16 @@ impl Board {
         ensures test { result ≡ is_free (bookings_of room.now self.now) length slot }
         ensures meaning { IsTrue result ↔ IsFree room.now slot length self.now }
     {
-        !self.is_taken(room, slot, length)
+        let hidden = BTreeSet::new(self.alloc);
+        is_free(&self.rows, &self.index, &hidden, room, slot, length)
     }
 
     /// Where the write would go: to its first choice that is free in its room, else into the error log.
     pub fn merge(&self, write: &Write) -> Place
         ensures { place_of result ≡ place_on self.now write.now }
     {
-        if self.check(&write.room, write.wish, write.length) {
-            return Place::Taken(0);
-        }
-        let mut k = 0;
-        for slot in write.alternatives.as_slice() {
-            k += 1;
-            if self.check(&write.room, *slot, write.length) {
-                return Place::Taken(k);
-            }
-        }
-        Place::Logged
+        let hidden = BTreeSet::new(self.alloc);
+        place_among(&self.rows, &self.index, &hidden, write)
     }
 
     /// Executes the write: puts its row at the place that `merge` finds.
@@ -151,9 +144,7 @@ impl Board {
         ensures holds { (ws : List Write) (w : Write) → HaveDistinctIds (ws ++ w ∷ [])
             → row ≡ undo_row_after ws w → Holds (ws ++ w ∷ []) self.old → Holds ws self.new }
     {
-        if let Some(removed) = self.rows.remove(&row.id) {
-            forget(&mut self.index, row.id, &removed, None);
-        }
+        remove_row(&mut self.rows, &mut self.index, row.id);
     }
 
     /// Undoes these executions, the last of them first.
@@ -191,6 +182,7 @@ impl Board {
 
     /// Undoes the room's last executions, which `undone` names in the order in which they were done, and executes other
     /// writes of the room in their place. Other rooms keep what they have. The answer has the undo rows of these writes.
+    /// The cost goes by these executions and writes, and not by how many rows the board has.
     pub fn replay_room(
         &mut self,
         room: &RoomName,
@@ -210,35 +202,13 @@ impl Board {
         ensures only { IfErr result (λ e. e ≡ Refusal.OutOfMemory) }
     {
         let _ = room;
-        let mut board = self.copy()?;
-        board.undo_all(undone);
-        let rows = board.redo_from(again)?;
-        *self = board;
-        Ok(rows)
-    }
-
-    /// Whether some booking of the room overlaps the slot.
-    fn is_taken(&self, room: &RoomName, slot: Slot, length: u32) -> bool
-        ensures { result ≡ list_any (is_in_the_way room.now slot length) (values_of self.now) }
-    {
-        let (first, last) = ends_of(slot.day, room);
-        for (key, span) in self.index.range(first..=last) {
-            if overlaps(slot, span.slot, length, span.length)
-                && self.is_row_in_the_way(key.id, room, slot, length)
-            {
-                return true;
+        let mut replay = replay_of(self.alloc, undone)?;
+        match replay.execute_all(&mut self.rows, &mut self.index, again) {
+            Ok(()) => Ok(replay.finish(&mut self.rows, &mut self.index)),
+            Err(refusal) => {
+                replay.give_up(&mut self.rows, &mut self.index, again);
+                Err(refusal)
             }
-        }
-        false
-    }
-
-    /// Whether the row of this id is a booking of the room that overlaps the slot.
-    fn is_row_in_the_way(&self, id: WriteId, room: &RoomName, slot: Slot, length: u32) -> bool
-        ensures { result ≡ way_at room.now slot length self.now id }
-    {
-        match self.row(id) {
-            Some(row) => row.is_in_the_way(room, slot, length),
-            None => false,
         }
     }
 

@@ -6,7 +6,10 @@
 #![tactic(auto)]
 
 mod board;
+mod choice;
+mod giving_back;
 mod index;
+mod replay;
 mod rows;
 
 ghost use Rattle.mr_replay.specs.Laws.{OneBoard, ExecutingHolds, UndoingHolds, AnotherOrderHolds, UndoIsExact, OthersAreNew, UndoRowsAreOfTheList, UndoRowsAreOfTheRoom, PlacesAreOfTheBoard, RoomsReplayApart};

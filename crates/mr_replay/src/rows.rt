@@ -5,7 +5,14 @@ ghost use Rattle.mr_replay.specs.Rows.{is_in_the_way, row_of};
 
 use mr_base::{Refusal, RoomName, Slot, Title, Write, WriteId, overlaps};
 use std::alloc::{AllocError, Global};
+use std::collections::{BTreeMap, BTreeSet};
 use std::marker::Model;
+
+/// The rows of a board, by the ids of their writes.
+pub(crate) type Rows = BTreeMap<WriteId, Row>;
+
+/// Ids whose rows don't count.
+pub(crate) type Hidden = BTreeSet<WriteId>;
 
 /// Where a write went: to the choice of this number, 0 being its wish and 1 its first alternative, or into the error log.
 #[derive(Clone, Copy, Debug, PartialEq, Eq)]
@@ -83,7 +90,7 @@ impl Row {
 }
 
 /// The slot that the write has at its place.
-fn slot_at(write: &Write, place: Place) -> Option<Slot>
+pub(crate) fn slot_at(write: &Write, place: Place) -> Option<Slot>
     ensures { result ≡ slot_of write.now (place_of place) }
 {
     match place {

@@ -1,10 +1,11 @@
-use Rattle.std.proofs.Common.{◌∙◌, ap}
+use Rattle.std.proofs.Common.{◌≡◌, ◌∙◌, Bool, true, false, cond}
 use Rattle.std.specs.BTreeMap.{is_at}
-use Rattle.mr_replay.specs.declared.index.IndexKey.{IndexKey}
-use Rattle.mr_replay.specs.Index.{key_cmp, key_of}
-use Rattle.mr_replay.proofs.Keys.{other_key}
+use Rattle.mr_replay.specs.Index.{key_cmp, has}
 use Rattle.mr_replay.proofs.index.note.Goals as goal
 
-pub returns-in_ok-insert-clause-others : goal.returns-in_ok-insert-clause-others
-returns-in_ok-insert-clause-others c = λ i r apart noted booked.
-    ((noted booked).0, c.in_ok-insert.ensures.updates.2 (key_of i r) (ap (λ (k : IndexKey). is_at (key_cmp k) (key_of i r)) c.key_of.ensures.key ∙ other_key i c.args.id r c.args.row.now apart) ∙ (noted booked).1)
+still : (s h : Bool) → h ≡ true → cond s true h ≡ true
+still true h e = λ _. true
+still false h e = e
+
+pub returns-in_ok-insert-clause-grows : goal.returns-in_ok-insert-clause-grows
+returns-in_ok-insert-clause-grows c = λ key there. c.in_ok-insert.ensures.updates.0 key ∙ still (is_at (key_cmp c.key_of.result) key) (has c.args.index.now key) there

@@ -1,11 +1,15 @@
-use Rattle.std.proofs.Common.{not, ap, sym, ◌∙◌}
+use Rattle.std.proofs.Common.{ap, sym, ◌∙◌}
+use Rattle.mr_model.specs.Replay.{is_free}
+use Rattle.mr_replay.specs.Rows.{bookings_of}
 use Rattle.mr_replay.proofs.Checking.{free-bookings, free-true, free_from}
+use Rattle.mr_replay.proofs.Hiding.{shown-empty}
 use Rattle.mr_replay.proofs.board.Board.check.Goals as goal
 
 pub returns-clause-test : goal.returns-clause-test
-returns-clause-test c = ap not c.is_taken.ensures ∙ free-bookings c.args.room.now c.args.slot c.args.length c.args.self.now
+returns-clause-test c =
+    c.is_free.ensures ∙ ap (λ b. is_free (bookings_of c.args.room.now b) c.args.length c.args.slot) (shown-empty c.new-hidden.result c.self.inside.rows.entries c.new-hidden.ensures.empty ∙ c.self.view_is)
 
 pub returns-clause-meaning : goal.returns-clause-meaning
 returns-clause-meaning c =
-    let is = ap not c.is_taken.ensures in
+    let is = returns-clause-test c ∙ sym (free-bookings c.args.room.now c.args.slot c.args.length c.args.self.now) in
     (λ h. free-true c.args.room.now c.args.slot c.args.length c.args.self.now (sym is ∙ h), λ h. is ∙ free_from c.args.room.now c.args.slot c.args.length c.args.self.now h)
