@@ -1,8 +1,8 @@
 -- What is made of the rows that questions ask for.
-use Rattle.std.proofs.Common.{◌≡◌, refl, sym, ap, ◌∙◌, subst, ℕ, ◌<◌, ◌+◌, ◌≤◌, length, get_or, Bool, true, false, cond, ◌||◌, List, [], ◌∷◌, ◌++◌, filter, take, ◌⊎◌, inl, inr, is_eq, Ordering, Less, Equal, Greater, Ok, Err, Result, IfOk, OnOk}
+use Rattle.std.proofs.Common.{◌≡◌, refl, sym, ap, ◌∙◌, subst, ℕ, ◌<◌, ◌+◌, ◌≤◌, length, get_or, Bool, true, false, cond, ◌||◌, List, [], ◌∷◌, ◌++◌, filter, take, ◌⊎◌, inl, inr, is_eq, Ordering, Less, Equal, Ok, Err, Result, IfOk, OnOk}
 use Rattle.std.specs.Ordering.{ordering_reverse}
 use Rattle.std.specs.Cmp.{IsTotalOrder}
-use Rattle.std.specs.List.{AllByRecursion, dedup, dedup_from, list_any}
+use Rattle.std.specs.List.{dedup, dedup_from}
 use Rattle.std.specs.List.Sorted.{IsPermutation, IsSorted, IsStrictlySortedBy}
 use Rattle.std.proofs.lemmas.Bool.{or_cases, or_left, or_right}
 use Rattle.std.proofs.lemmas.Cmp.{tied_itself}

@@ -1,5 +1,5 @@
 -- The rows that the questions of a scope ask for are enough of it.
-use Rattle.std.proofs.Common.{◌≡◌, refl, sym, ap, ◌∙◌, subst, ℕ, zero, suc, ◌+◌, ◌≤◌, ◌<◌, Bool, true, false, cond, not, ◌&&◌, ◌||◌, ltb, leb, eqb, List, [], ◌∷◌, ◌++◌, map, filter, take, ◌⊎◌, inl, inr, arith, length, ltb-true, ltb-false, eqb-true}
+use Rattle.std.proofs.Common.{◌≡◌, refl, sym, ap, ◌∙◌, subst, ℕ, zero, suc, ◌+◌, ◌≤◌, Bool, true, false, cond, not, ◌&&◌, ◌||◌, ltb, leb, List, [], ◌∷◌, ◌++◌, map, filter, take, ◌⊎◌, inl, inr, arith, length, ltb-true, ltb-false, eqb-true}
 use Rattle.std.proofs.lemmas.Bool.{true≢false, and_parts, and_from, or_cases, or_left, or_right, leb-true, le-leb}
 use Rattle.std.specs.Prelude.{bytes_eq, flat_map}
 use Rattle.std.specs.List.{list_any}
@@ -10,7 +10,7 @@ use Rattle.mr_model.specs.Replica.{Replica, is_among}
 use Rattle.mr_model.specs.Exchange.{Item, W, C}
 use Rattle.mr_model.specs.Tables.{MetaRow, VectorRow, LogRow, UndoRow, BookingRow, Tables, log_row, kept, seq_among, tables_of}
 use Rattle.mr_model.specs.Dropped.{Has}
-use Rattle.mr_model.specs.Scopes.{Scope, Nothing, InRoom, NextCommits, UpTo, Above, OfItems, log_row_id, undo_row_id, is_tentative, row_before, put_row, by_stamp, item_id, has_number, is_named, is_in_tail, is_touched, touched_rooms, in_scope}
+use Rattle.mr_model.specs.Scopes.{Scope, Nothing, InRoom, NextCommits, UpTo, Above, OfItems, log_row_id, undo_row_id, is_tentative, row_before, put_row, by_stamp, item_id, has_number, is_named, is_in_tail, is_touched, in_scope}
 use Rattle.mr_model.specs.RowsRead.{Reads, rows_read, IsOfCommits}
 use Rattle.mr_model.proofs.ReadRows.{read_rows}
 use Rattle.mr_model.proofs.Members.{has_filter, filter_has, has_map, map_has, among_has}

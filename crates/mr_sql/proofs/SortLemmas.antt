@@ -18,14 +18,14 @@ use Rattle.mr_model.specs.Tables.{VectorRow, LogRow, UndoRow, BookingRow, ErrorR
 use Rattle.mr_model.specs.Queries.{booking_id, error_id}
 use Rattle.mr_model.specs.Changes.{IdBefore}
 use Rattle.mr_tables.specs.Change.{id_before, log_id, undo_id}
-use Rattle.mr_tables.proofs.Putting.{IsOrder, InOrder, id_before-true, id_order, number_order, name_order}
+use Rattle.mr_tables.proofs.Putting.{InOrder, id_before-true, id_order, number_order, name_order}
 use Rattle.mr_base.specs.Ids.{id_cmp}
 use Rattle.mr_replay.proofs.Ids.{ids_total}
 use Rattle.mr_sql.specs.Reads.{time_cmp}
 use Rattle.sqlite_trees.specs.Tree.{Trees}
 use Rattle.mr_sql.specs.Cells.{room_in, vector_in, log_in, undo_in, booking_in, error_in}
 use Rattle.mr_sql.specs.Kept.{tables_in}
-use Rattle.mr_sql.proofs.KeyOrder.{ordered, ordered_in_order}
+use Rattle.mr_sql.proofs.KeyOrder.{ordered_in_order}
 
 -- ---- the orders are total
 

@@ -1,4 +1,4 @@
-use Rattle.std.proofs.Common.{◌≡◌, ◌++◌, [], filter, take, Ok, sym, subst, rules, arith, ◌+◌}
+use Rattle.std.proofs.Common.{◌++◌, [], filter, take, Ok, sym, subst, rules, arith, ◌+◌}
 use Rattle.sqlite.specs.Held.{state}
 use Rattle.mr_model.specs.Changes.{SameRows}
 use Rattle.mr_sql.specs.Kept.{tables_in}

@@ -1,6 +1,5 @@
 use Rattle.std.proofs.Common.{◌∙◌, is_eq, rules}
 use Rattle.std.proofs.lemmas.Fn.{dedup_same}
-use Rattle.mr_sql.specs.Kept.{tables_in}
 use Rattle.mr_sql.proofs.AskedLemmas.{ordered_are}
 use Rattle.mr_sql.proofs.asked_rows.order_rows.Goals as goal
 

@@ -1,4 +1,4 @@
-use Rattle.std.proofs.Common.{refl, rules, sym}
+use Rattle.std.proofs.Common.{refl, rules}
 use Rattle.sqlite.specs.Held.{state}
 use Rattle.mr_sql.proofs.QueryLemmas.{survives_itself}
 use Rattle.mr_sql.proofs.questions.ask_between.Goals as goal

@@ -1,4 +1,4 @@
-use Rattle.std.proofs.Common.{◌≡◌, ◌∙◌, filter, refl, subst, rules}
+use Rattle.std.proofs.Common.{◌≡◌, ◌∙◌, filter, refl, rules}
 use Rattle.sqlite.specs.Held.{state}
 use Rattle.mr_replica.specs.ScopeOf.{scope_of}
 use Rattle.mr_sql.specs.Kept.{tables_in}

@@ -1,4 +1,4 @@
-use Rattle.std.proofs.Common.{◌≡◌, ◌∙◌, filter, Ok, refl, subst, rules}
+use Rattle.std.proofs.Common.{◌≡◌, ◌∙◌, filter, refl, subst, rules}
 use Rattle.sqlite.specs.Held.{state}
 use Rattle.mr_sql.specs.Kept.{tables_in}
 use Rattle.mr_sql.specs.Questions.{is_asked, is_undo_asked}
