@@ -4,81 +4,7 @@
 
 deploy=$(cd -- "$(dirname -- "${BASH_SOURCE[0]}")/.." && pwd)
 
-# held NAME COMMAND..: the command ends with status 0
-held() {
-    local name=$1
-    shift
-    if "$@" > "$deploy_scratch/held" 2>&1; then
-        passed=$((passed + 1))
-    else
-        echo "FAILED: $name:"
-        head -c 2000 -- "$deploy_scratch/held"
-        failed=$((failed + 1))
-    fi
-}
-
-# is NAME TEXT TEXT: the two are the same
-is() {
-    if [ "$2" = "$3" ]; then
-        passed=$((passed + 1))
-    else
-        printf 'FAILED: %s: %s, wanted %s\n' "$1" "$2" "$3"
-        failed=$((failed + 1))
-    fi
-}
-
-# missing NAME COMMAND..: reports that this is skipped where one of the commands is not there
-missing() {
-    local name=$1 word
-    shift
-    for word in "$@"; do
-        if ! command -v "$word" > /dev/null; then
-            echo "skipped: $name (no $word)"
-            return 0
-        fi
-    done
-    return 1
-}
-
-# until_held SECONDS COMMAND..: the command ends with status 0 before long
-until_held() {
-    local end=$((SECONDS + $1))
-    shift
-    until "$@" > /dev/null 2>&1; do
-        if [ "$SECONDS" -ge "$end" ]; then return 1; fi
-        sleep 0.1
-    done
-}
-
-taken() { (exec 3<> "/dev/tcp/127.0.0.1/$1") 2> /dev/null; }
-
-# ten ports that nobody serves, from $ports on
-free_ports() {
-    local n
-    for _ in 1 2 3 4 5 6 7 8 9; do
-        ports=$((10000 + RANDOM % 1000 * 10))
-        for n in 0 1 2 3 4 5 6 7 8 9; do
-            if taken $((ports + n)); then continue 2; fi
-        done
-        return
-    done
-}
-
-# serve_at DB PORT: a process that serves it; its id is added to $serving
-serve_at() {
-    "$program" serve "$1" "$2" 100000 > "$1.served" 2>&1 < /dev/null &
-    serving+=($!)
-    until_held 20 grep -q '^serving ' "$1.served" || echo "FAILED: nothing serves $1"
-}
-
-stop_serving() {
-    local id
-    for id in ${serving[@]+"${serving[@]}"}; do
-        kill "$id" 2> /dev/null
-        wait "$id" 2> /dev/null
-    done
-    serving=()
-}
+. "$deploy/tests/helpers.sh"
 
 # ---- texts that go with the program
 
@@ -121,11 +47,15 @@ deploy_offices() {
         openssl req -x509 -newkey rsa:2048 -nodes -days 2 -subj /CN=localhost -addext subjectAltName=DNS:localhost \
             -keyout "$ROOMS_ETC/$name.key" -out "$ROOMS_ETC/$name.crt" 2> /dev/null
         for list in readers bookers offices; do
-            printf '%s:%s\n' "$list" "$(openssl passwd -6 "$list")" >> "$ROOMS_ETC/$name.$list"
-            printf 'desk:%s\n' "$(openssl passwd -6 desk)" >> "$ROOMS_ETC/$name.$list"
+            held "a user of $name.$list" "$deploy/systemd/rooms-office" user "$list" "$name.$list" <<< "$list"
         done
+        held "the desk of $name" "$deploy/systemd/rooms-office" user desk "$name".{readers,bookers,offices} <<< old
+        held "the desk of $name again" "$deploy/systemd/rooms-office" user desk "$name".{readers,bookers,offices} <<< desk
         printf 'user = "offices:offices"\ncacert = "%s"\n' "$ROOMS_ETC/$name.crt" > "$ROOMS_ETC/$name.curl"
     done
+    is 'a user is in a list once' "$(grep -c '^desk:' "$ROOMS_ETC/west.bookers") $(wc -l < "$ROOMS_ETC/west.bookers")" '1 2'
+    is 'a list that is not there' "$("$deploy/systemd/rooms-office" user desk west.conf <<< desk 2>&1)" \
+        "rooms-office: no list is named 'west.conf'"
     # a machine without IP version 6
     if [ ! -e /proc/net/if_inet6 ]; then sed -i '/listen \[::\]/d' "$ROOMS_ETC"/*.nginx; fi
     west=$ROOMS_STATE/west/rooms.db
@@ -148,7 +78,7 @@ start_nginx() {
     held 'nginx takes the configuration' nginx -t -q -c "$folder/conf" -e "$folder/errors"
     nginx -c "$folder/conf" -e "$folder/errors" 2> /dev/null &
     nginx=$!
-    until_held 10 taken $((ports + 1)) || echo 'FAILED: nginx does not listen'
+    reached 'nginx does not listen' 10 taken $((ports + 1))
 }
 
 stop_nginx() {
@@ -203,7 +133,7 @@ deploy_proxy() {
     is 'no password goes on, and no request twice' "$(grep -c '^200$' "$west.served")" 5
     sed -i 's/auth_basic "west: reading";/auth_basic off;/' "$ROOMS_ETC/west.nginx"
     kill -HUP "$nginx"
-    until_held 10 curl -sf --cacert "$ROOMS_ETC/west.crt" "https://localhost:$((ports + 1))/"
+    reached 'the page is not open to everybody' 10 curl -sf --cacert "$ROOMS_ETC/west.crt" "https://localhost:$((ports + 1))/"
     through 'a sheet where everybody may read' 200 '' "$day"
     through 'a request there' 401 '' /submit -d "$json"
     stop_serving
@@ -286,8 +216,8 @@ deploy_stretches() {
         "$office" serve "$name" > "$deploy_scratch/$name.log" 2>&1 &
         serving+=($!)
     done
-    until_held 20 taken "$ports" || echo 'FAILED: west is not served'
-    until_held 20 taken $((ports + 2)) || echo 'FAILED: east is not served'
+    reached 'west is not served' 20 taken "$ports"
+    reached 'east is not served' 20 taken $((ports + 2))
     held 'a request at east' curl -s -f --retry 5 --retry-delay 1 --retry-connrefused \
         -d '{"room":"oak","day":"1995-12-19","start":"09:00","length":60,"title":"Rota"}' "http://127.0.0.1:$((ports + 2))/submit"
     is 'an office is not served twice' "$("$office" serve west 2>&1)" 'rooms-office: west is served already'
