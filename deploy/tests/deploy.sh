@@ -24,8 +24,8 @@ deploy_texts() {
     held 'the page is below 900 lines' test "$(cat "$deploy"/page/* | wc -l)" -lt 900
     is 'the page makes no HTML of texts' "$(grep -cE 'innerHTML|outerHTML|insertAdjacentHTML|document\.write' "$deploy/page/desk.js")" 0
     if ! missing 'shellcheck of the scripts' shellcheck; then
-        held 'shellcheck of the scripts' shellcheck -x "$deploy"/tests/under_systemd "$deploy"/systemd/rooms-office "$deploy"/courier/rooms-courier \
-            "$deploy"/check/rooms-check "$deploy"/package/build "$deploy"/package/debian/{postinst,prerm,postrm}
+        held 'shellcheck of the scripts' shellcheck -x "$deploy"/tests/under_systemd "$deploy"/systemd/rooms-office \
+            "$deploy"/courier/rooms-courier "$deploy"/check/rooms-check "$deploy"/package/build "$deploy"/package/debian/{postinst,prerm,postrm}
     fi
 }
 
