@@ -17,7 +17,7 @@ use mr_http::{GREATEST_BODY, ReadFault, body_length};
 use std::alloc::Global;
 
 /// What a head asks: a route, and how long the body is.
-#[derive(Debug, Drop)]
+#[derive(Drop)]
 pub(crate) struct Asked {
     pub route: Route,
     pub length: usize,

@@ -6,7 +6,7 @@ use mr_http::ReadFault;
 use std::alloc::{AllocError, AllocFailed};
 
 /// The first check that a request fails.
-#[derive(Clone, Copy, Debug, PartialEq, Eq)]
+#[derive(Clone, Copy)]
 pub(crate) enum Rejection {
     BadRequest,
     NotFound,
@@ -16,7 +16,7 @@ pub(crate) enum Rejection {
 }
 
 /// Why a request asks no command.
-#[derive(Clone, Copy, Debug, PartialEq, Eq)]
+#[derive(Clone, Copy)]
 pub(crate) enum Stop {
     Rejected(Rejection),
     Fault(ReadFault),

@@ -14,7 +14,7 @@ use mr_service::{Reply, reply_text};
 use std::alloc::{AllocError, Global};
 
 /// The bytes of a reply: made for it, or one of the texts that take no memory.
-#[derive(Debug, Drop)]
+#[derive(Drop)]
 pub(crate) enum Bytes {
     Made(Vec<u8>),
     Fixed(&'static [u8]),
@@ -32,7 +32,7 @@ impl Bytes {
 }
 
 /// A reply's status, and all of its bytes.
-#[derive(Debug, Drop)]
+#[derive(Drop)]
 pub(crate) struct Answer {
     pub status: u16,
     pub bytes: Bytes,

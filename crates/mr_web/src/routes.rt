@@ -1,4 +1,4 @@
-ghost use Rattle.std.specs.Prelude.{◌≡◌, IfOk, string_bytes};
+ghost use Rattle.std.specs.Prelude.{◌≡◌, [], IfOk, string_bytes};
 ghost use Rattle.matchit.specs.Params.{AllText};
 ghost use Rattle.mr_web.specs.Routes as spec;
 ghost use Rattle.mr_web.specs.Words.{words_in, route_view};
@@ -7,7 +7,7 @@ use matchit::{InsertError, Params, Router};
 use std::alloc::{AllocError, Global};
 
 /// What a path of the table names.
-#[derive(Clone, Copy, Debug, PartialEq, Eq)]
+#[derive(Clone, Copy)]
 pub(crate) enum Resource {
     Submissions,
     Day,
@@ -19,7 +19,7 @@ pub(crate) enum Resource {
 }
 
 /// What a target names, with the words of its parameters.
-#[derive(Debug, Drop)]
+#[derive(Drop)]
 pub(crate) enum Route {
     Submissions,
     Day { room: String, day: String },
@@ -35,6 +35,15 @@ pub(crate) fn table(alloc: Global) -> Result<Router<Resource>, InsertError>
     ensures { IfOk result (λ r. r ≡ spec.table) }
 {
     let mut router = Router::new(alloc);
+    add_routes(&mut router)?;
+    Ok(router)
+}
+
+// The router is the caller's, so that no path of this function has it to drop.
+fn add_routes(router: &mut Router<Resource>) -> Result<(), InsertError>
+    requires { router.old ≡ [] }
+    ensures { IfOk result (λ _. router.new ≡ spec.table) }
+{
     router.insert("/submit", Resource::Submissions)?;
     router.insert("/rooms/{room}/days/{day}", Resource::Day)?;
     router.insert("/rooms/{room}/requests/{id}", Resource::Request)?;
@@ -42,7 +51,7 @@ pub(crate) fn table(alloc: Global) -> Result<Router<Resource>, InsertError>
     router.insert("/position", Resource::Position)?;
     router.insert("/pull", Resource::Pull)?;
     router.insert("/push", Resource::Push)?;
-    Ok(router)
+    Ok(())
 }
 
 fn word(alloc: Global, params: &Params<'_, '_>, name: &str) -> Result<String, AllocError>

@@ -3,7 +3,7 @@ use Rattle.matchit.specs.Route.{parse_route}
 use Rattle.mr_web.specs.Routes.{put, table}
 use Rattle.mr_web.specs.declared.routes.Resource.TheVariants as at
 use Rattle.mr_web.proofs.TableRows.{inserts_put}
-use Rattle.mr_web.proofs.routes.table.Goals as goal
+use Rattle.mr_web.proofs.routes.add_routes.Goals as goal
 
 pub returns : goal.returns
 unfolding table
@@ -16,7 +16,7 @@ returns c =
     let six = inserts_put (parse_route (codes "/pull")) at.Pull _ _ _ c.in_ok-insert-6.ensures in
     let seven = inserts_put (parse_route (codes "/push")) at.Push _ _ _ c.in_ok-insert-7.ensures in
     let to_two = two ∙ ap (put (parse_route (codes "/rooms/{room}/days/{day}")) at.Day)
-    (one ∙ ap (put (parse_route (codes "/submit")) at.Submissions) c.new-router.ensures) in
+    (one ∙ ap (put (parse_route (codes "/submit")) at.Submissions) c.requires) in
     let to_four = four ∙ ap (put (parse_route (codes "/rooms/{room}/errors")) at.ErrorLog)
     (three ∙ ap (put (parse_route (codes "/rooms/{room}/requests/{id}")) at.Request) to_two) in
     let to_six = six ∙ ap (put (parse_route (codes "/pull")) at.Pull)
