@@ -30,6 +30,7 @@ pub mod Parting
 pub mod RoomBoards
 pub mod PartBoards
 pub mod PartMoves
+pub mod Moves
 pub mod PartCalls
 pub mod PartRows
 pub mod Picking

@@ -53,10 +53,10 @@ moving a items r = filter (may_move a items) (tentative r)
 -- ---- numbers
 
 module _ (a b : Replica) (items : List Item) (m : BatchMoves a b items) (sound : IsReplica a) where
-  commits_long : length b.commits ≡ length a.commits + length m.news
+  pub commits_long : length b.commits ≡ length a.commits + length m.news
   commits_long = ap length m.commits_are ∙ length-append a.commits (map id_of m.news) ∙ ap (λ n. length a.commits + n) (length-map m.news id_of)
 
-  new_number : (i : ℕ) (w : Write) → i < length m.news → slice_get m.news i ≡ Some w → seq_of b w ≡ seq_on (length b.commits) (length a.commits + 1 + i)
+  pub new_number : (i : ℕ) (w : Write) → i < length m.news → slice_get m.news i ≡ Some w → seq_of b w ≡ seq_on (length b.commits) (length a.commits + 1 + i)
   new_number i w low e =
       let n = length (committed a) in
       let long : n ≡ length a.commits = sym (length-map (committed a) id_of) ∙ ap length (committed_ids a sound) in

@@ -1,6 +1,6 @@
 -- A reader of the contracts trusts Log, Desk, Steps, Candidate, DeskTables, Turning, ChangeLaws, KeptRows, SoundLog, Parts and
--- ScopeOf. The others, Outgoing, PartCandidate, PartMoves, PickedLogs, PickedBookings and PickedUndo, serve private clauses and proofs
--- alone.
+-- ScopeOf. The others, Outgoing, Moves, PartCandidate, PartMoves, PickedLogs, PickedBookings and PickedUndo, serve private clauses and
+-- proofs alone.
 pub mod Log
 pub mod Desk
 pub mod Steps
@@ -18,3 +18,4 @@ pub mod PickedLogs
 pub mod PickedBookings
 pub mod PickedUndo
 pub mod PartCandidate
+pub mod Moves

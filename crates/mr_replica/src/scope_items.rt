@@ -22,7 +22,7 @@ pub(crate) fn is_in_tail(row: &LogRow, items: &[Item], commits: u64) -> bool
     row.seq == 0 && is_late(items, commits, row.time, row.server)
 }
 
-fn is_late(items: &[Item], commits: u64, time: u64, server: ServerId) -> bool
+pub(crate) fn is_late(items: &[Item], commits: u64, time: u64, server: ServerId) -> bool
     ensures { result ≡ is_late commits (map item_of items.now) time server }
 {
     has_new_commit(items, commits) || has_write_before(items, time, server)

@@ -70,7 +70,11 @@ fn add_rooms_of(
 }
 
 /// Adds the room, unless it is there.
-fn add_room(alloc: Global, rooms: &mut Vec<RoomName>, room: &RoomName) -> Result<(), Refusal>
+pub(crate) fn add_room(
+    alloc: Global,
+    rooms: &mut Vec<RoomName>,
+    room: &RoomName,
+) -> Result<(), Refusal>
     ensures rooms { OnOk result (AreSameRooms rooms.new.items (rooms.old.items ++ room.now ∷ [])) }
     ensures only { IfErr result (λ e. e ≡ Refusal.OutOfMemory) }
 {

@@ -1,0 +1,44 @@
+-- Which writes a batch may move, told from lists of kept writes.
+use Rattle.std.specs.Prelude.{◌≡◌, ℕ, Bool, ◌&&◌, ◌||◌, if◌then◌else◌, ◌==◌, nat_lt, List, [], ◌∷◌, length, map, filter, bytes_eq, ◌⊎◌, true}
+use Rattle.std.specs.List.{list_any}
+use Rattle.mr_model.specs.Texts.{Text}
+use Rattle.mr_model.specs.Writes.{Write, id_of, same_id}
+use Rattle.mr_model.specs.Replica.{Replica, IsReplica}
+use Rattle.mr_model.specs.Exchange.{Item, W, C}
+use Rattle.mr_model.specs.Kept.{kept_in_order}
+use Rattle.mr_model.specs.Scopes.{is_late, is_named, is_in_tail, is_touched}
+use Rattle.mr_model.specs.Moving.{BatchMoves}
+use Rattle.mr_model.specs.Tables.{seq_of, log_row, tables_of}
+use Rattle.mr_replica.specs.declared.scope_logs.LoggedWrite.{LoggedWrite}
+use Rattle.mr_replica.specs.PickedLogs.{logged_of}
+
+-- the rooms that an item touches, where so many commits are known and these are the kept writes that it may name
+abbrev pub rooms_named : ℕ → List Write → Item → List Text
+rooms_named commits ws (W w) = w.room ∷ []
+rooms_named commits ws (C seq id) = if nat_lt commits seq then map (λ w. w.room) (filter (λ w. same_id (id_of w) id) ws) else []
+
+-- these are the rooms that the items touch
+abbrev pub AreTouched : List Text → Replica → List Item → Type 0
+AreTouched touched a items = (room : Text) → list_any (bytes_eq room) touched ≡ is_touched (tables_of a) items room
+
+-- whether a tentative write may move, where the items touch these rooms
+abbrev pub moves_in : List Text → List Item → ℕ → Write → Bool
+moves_in touched items commits w = list_any (bytes_eq w.room) touched && is_late commits items w.stamp.time w.stamp.server
+
+-- the same of a write with its commit number
+abbrev pub moves_open : List Text → List Item → ℕ → LoggedWrite → Bool
+moves_open touched items commits x = x.seq == 0 && moves_in touched items commits x.write
+
+-- whether a write is executed anew: it is newly committed, or tentative and may move
+abbrev pub is_anew : List Text → List Item → ℕ → LoggedWrite → Bool
+is_anew touched items commits x = nat_lt commits x.seq || moves_open touched items commits x
+
+-- the batch leads from the first replica to the second one, whose kept writes these are, as far as they are in scope of the first one
+pub record ShowsMoves (a b : Replica) (items : List Item) (touched : List Text) (commits : ℕ) (kept : List LoggedWrite) : Type 0 where
+  pub sound : IsReplica a
+  pub moves : BatchMoves a b items
+  pub are_touched : AreTouched touched a items
+  pub commits_are : commits ≡ length a.commits
+  pub kept_are : kept ≡ map (logged_of b) (filter (λ w. is_named items (log_row a w) || (is_in_tail (length a.commits) items (log_row a w) && is_touched (tables_of a) items w.room)) (kept_in_order b))
+  -- a write that isn't in scope has the commit number that it had
+  pub marks : (w : Write) → (seq_of b w ≡ seq_of a w) ⊎ ((is_named items (log_row a w) || (is_in_tail (length a.commits) items (log_row a w) && is_touched (tables_of a) items w.room)) ≡ true)
