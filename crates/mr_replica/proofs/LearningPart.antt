@@ -1,7 +1,7 @@
 -- A part's candidate that takes a write or a commit shows the replica that takes it.
-use Rattle.std.proofs.Common.{◌≡◌, ℕ, zero, suc, min, ◌+◌, ◌<◌, ◌≤◌, ◌==◌, ◌&&◌, Bool, true, false, cond, List, [], ◌∷◌, ◌++◌, length, map, take, drop, get_or, ap, refl, sym, ◌∙◌, subst, append_assoc, ◌⊎◌, inl, inr, arith, IsTrue}
+use Rattle.std.proofs.Common.{◌≡◌, ℕ, zero, suc, min, ◌+◌, ◌<◌, ◌≤◌, ◌==◌, ◌&&◌, Bool, true, false, cond, List, [], ◌∷◌, ◌++◌, length, map, take, drop, get_or, ap, refl, sym, ◌∙◌, subst, append_assoc, ◌⊎◌, inl, inr, arith}
 use Rattle.std.specs.List.{filter, remove, filter_map, cons_option, AllByRecursion}
-use Rattle.std.proofs.lemmas.Bool.{cond-true, cond-false, true≢false, false_from_ne_true}
+use Rattle.std.proofs.lemmas.Bool.{cond-true, cond-false, true≢false}
 use Rattle.std.proofs.lemmas.Bool.Decides.{nat_tests}
 use Rattle.std.proofs.lemmas.List.{length-append, take-append-drop, map-append}
 use Rattle.std.proofs.lemmas.List.Elements.{filter_map-append, filter-append}
@@ -11,13 +11,11 @@ use Rattle.mr_model.specs.Replica.{Replica, IsReplica, count_of, committed_count
 use Rattle.mr_model.specs.Dropped.{Has}
 use Rattle.mr_model.specs.Kept.{kept_in_order}
 use Rattle.mr_model.specs.Changes.{IsNext, CommitMoved}
-use Rattle.mr_model.specs.Scopes.{OfItems}
 use Rattle.mr_model.specs.Tables.{seq_among, seq_of}
 use Rattle.mr_model.specs.Taking.{Progress, with_new_write, with_new_commit}
 use Rattle.mr_model.proofs.Members.{has_right, has_split, filter_has, has_map, map_has, all_has, has_all, has_among, filter_map_has, Distinct, distinct_parts, same_id-true, same_id_from}
 use Rattle.mr_model.proofs.ChangesKeep.{keeps-add_write, keeps-add_commit}
 use Rattle.mr_model.proofs.KnownById.{distinct_order, known_with, with_id, tentative_known, tentative_sorted}
-use Rattle.mr_model.proofs.ReceivedPlaces.{commit_moved}
 use Rattle.mr_model.proofs.RoomPlaces.{kept_committed}
 use Rattle.mr_model.proofs.RowsById.{seq_not, seq_has, seq_behind}
 use Rattle.mr_model.proofs.TwinChanges.{committed-with, tentative-add_write, drop-front}
@@ -30,7 +28,6 @@ use Rattle.mr_replica.specs.declared.scope_logs.LoggedWrite.{LoggedWrite}
 use Rattle.mr_replica.specs.Candidate.{rooms_with}
 use Rattle.mr_replica.specs.PartCandidate as part
 use Rattle.mr_replica.specs.PartCandidate.{PartCandidateView, ShowsInside, is_inside, logged_with, tentative_place, open_place, commits_len, put_at}
-use Rattle.mr_replica.specs.Parts.{kept_in}
 use Rattle.mr_replica.specs.PickedLogs.{logged_of}
 use Rattle.mr_replica.proofs.JudgingPart.{inside_named}
 use Rattle.mr_replica.proofs.Learning.{rooms-learned}

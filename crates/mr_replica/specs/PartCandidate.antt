@@ -1,15 +1,16 @@
 -- What a batch makes of a part, item by item.
 use Rattle.std.specs.Prelude.{◌≡◌, ℕ, suc, ◌+◌, ◌==◌, ◌&&◌, ◌||◌, Bool, true, if◌then◌else◌, List, [], ◌∷◌, ◌++◌, length, take, drop, map, filter, find, Option, Result, Ok, Err, ◌⊎◌}
+use Rattle.std.specs.List.{list_all}
 use Rattle.std.specs.Option.{option_map}
 use Rattle.mr_model.specs.Texts.{Text}
 use Rattle.mr_model.specs.Writes.{Id, Write, id_of, same_id, stamp_before}
-use Rattle.mr_model.specs.Exchange.{Item}
+use Rattle.mr_model.specs.Exchange.{Item, is_item}
 use Rattle.mr_model.specs.Refusals as model
-use Rattle.mr_model.specs.Replica.{Replica}
+use Rattle.mr_model.specs.Replica.{Replica, IsReplica}
 use Rattle.mr_model.specs.Kept.{kept_in_order}
 use Rattle.mr_model.specs.Scopes.{OfItems, is_named, is_in_tail, is_touched}
 use Rattle.mr_model.specs.Tables.{seq_of, log_row, tables_of}
-use Rattle.mr_model.specs.Taking.{Progress}
+use Rattle.mr_model.specs.Taking.{Progress, take_items}
 use Rattle.mr_base.specs.Refusals.{refusal_of}
 use Rattle.mr_base.specs.declared.refusals.Refusal.{Refusal}
 use Rattle.mr_base.specs.declared.refusals.Refusal.TheVariants.{OutOfMemory}
@@ -17,7 +18,8 @@ use Rattle.mr_tables.specs.declared.summary.Summary.{Summary}
 use Rattle.mr_tables.specs.Summary.{tally_at, summary_of, noted_write, noted_commit}
 use Rattle.mr_replica.specs.declared.scope_logs.LoggedWrite.{LoggedWrite}
 use Rattle.mr_replica.specs.Candidate.{write_in, write_verdict_with, commit_verdict_with, rooms_with}
-use Rattle.mr_replica.specs.Parts.{kept_in}
+use Rattle.mr_replica.specs.Desk.{nothing_taken}
+use Rattle.mr_replica.specs.Parts.{PartView, kept_in, IsPartOf}
 use Rattle.mr_replica.specs.PickedLogs.{logged_of}
 
 -- the numbers, the rooms and the kept writes in scope with their commit numbers as the items so far leave them
@@ -45,6 +47,19 @@ pub record ShowsInside (a : Replica) (items : List Item) (c : PartCandidateView)
 abbrev pub TakesInside : Replica → List Item → Result Progress model.Refusal → Result (Unit {0}) Refusal → PartCandidateView → Type 0
 TakesInside a items exact (Ok x) new = (p : Progress) × (exact ≡ Ok p) × ShowsInside a items new p
 TakesInside a items exact (Err e) new = (exact ≡ Err (refusal_of e)) ⊎ (e ≡ OutOfMemory)
+
+-- the candidate that has taken all items, or why there is none
+abbrev pub TakenInside : Replica → List Item → Result Progress model.Refusal → Result PartCandidateView Refusal → Type 0
+TakenInside a items exact (Ok c) = (p : Progress) × (exact ≡ Ok p) × ShowsInside a items c p
+TakenInside a items exact (Err e) = (exact ≡ Err (refusal_of e)) ⊎ (e ≡ OutOfMemory)
+
+-- the items, which are within the limits, lead from the replica whose part this is to the progress that the candidate shows
+pub record HasTaken (part : PartView) (items : List Item) (c : PartCandidateView) (a : Replica) (p : Progress) : Type 0 where
+  pub sound : IsReplica a
+  pub is_part : IsPartOf part (OfItems items) a
+  pub good : list_all is_item items ≡ true
+  pub taken : take_items items 2 (Ok (nothing_taken a)) ≡ Ok p
+  pub shows : ShowsInside a items c p
 
 -- ---- what becomes of an item
 

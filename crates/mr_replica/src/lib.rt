@@ -30,6 +30,7 @@ mod part_commit;
 mod part_from;
 mod part_moved;
 mod part_position;
+mod part_receive;
 mod part_rooms;
 mod part_rows;
 mod part_submit;

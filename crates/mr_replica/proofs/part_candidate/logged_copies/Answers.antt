@@ -1,6 +1,5 @@
 use Rattle.std.proofs.Common.{◌≡◌, ◌∙◌, ◌+◌, ◌<◌, suc, ◌++◌, [], ◌∷◌, length, get_or, take, ap, sym, arith}
 use Rattle.std.proofs.lemmas.List.{get_or_default}
-use Rattle.mr_model.specs.Writes.{Write}
 use Rattle.mr_tables.proofs.LogRows.{answered}
 use Rattle.mr_replica.specs.PartCandidate.{logged_with}
 use Rattle.mr_replica.proofs.LearningPart.{logged_more, logged_all}
