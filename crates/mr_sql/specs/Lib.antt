@@ -1,5 +1,5 @@
--- A reader of the contracts trusts Schema, Shelf, Cells, Form, Kept and Found. The others, Meaning, Parts, Reads, Blank, Same
--- and TakeLaws, serve private clauses and proofs alone.
+-- A reader of the contracts trusts Schema, Shelf, Cells, Form, Kept and Found. The others, Meaning, Parts, Questions, Reads, Blank,
+-- Same and TakeLaws, serve private clauses and proofs alone.
 pub mod Schema
 pub mod Meaning
 pub mod Shelf
