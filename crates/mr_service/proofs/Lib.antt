@@ -1,5 +1,4 @@
 pub mod CommandWords
-pub mod DeskChanges
 pub mod DeskSteps
 pub mod KeeperChanges
 pub mod KeeperReads

@@ -1,8 +1,7 @@
--- A reader of the contracts trusts Asked, Asking, Served, Stepping and Worlds. The others, Questions, Requests, Running,
--- Turns and DeskTurns, serve private clauses and proofs alone.
+-- A reader of the contracts trusts Asked, Asking, Served, Stepping and Worlds. The others, Questions, Requests, Running and
+-- Turns, serve private clauses and proofs alone.
 pub mod Asked
 pub mod Asking
-pub mod DeskTurns
 pub mod Questions
 pub mod Requests
 pub mod Running

@@ -2,11 +2,9 @@
 
 ghost use Rattle.mr_model.specs.Step as model;
 ghost use Rattle.mr_service.specs.Asked.{submission_of, reply_in};
-ghost use Rattle.mr_service.specs.DeskTurns.{DeskTurnsBy};
 ghost use Rattle.mr_service.specs.Served.{IsServed};
 
 use crate::change::{change, load};
-use crate::change_desk::change_desk;
 use crate::commands::Submission;
 use crate::replies::Reply;
 use crate::turns;
@@ -52,12 +50,8 @@ pub(crate) fn receive<K: Keeper>(
     ensures served { IsServed K.Keeper keeper.old keeper.new (model.Receive bytes.now) (reply_in result) }
 {
     let batch = read_batch(alloc, bytes)?;
-    change_desk(
-        keeper,
-        |desk|
-            ensures { DeskTurnsBy (λ a. model.receive_batch a batch) desk.old result }
-        { turns::receive(desk, &batch) },
-    )
+    let part = load(keeper, &Scope::Items(batch.items.as_slice()))?;
+    change(keeper, turns::receive(&part, &batch))
 }
 
 /// Commits the first k tentative writes.

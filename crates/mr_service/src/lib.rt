@@ -7,7 +7,6 @@
 #![tactic(auto)]
 
 mod change;
-mod change_desk;
 mod changing;
 mod commands;
 mod members;

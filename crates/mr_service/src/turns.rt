@@ -9,13 +9,12 @@ ghost use Rattle.mr_replica.specs.Steps.{submit_request};
 ghost use Rattle.mr_replica.specs.Turning.{put_outcome};
 ghost use Rattle.mr_tables.specs.Summary.{IsWithin};
 ghost use Rattle.mr_service.specs.Asked.{outcome_of};
-ghost use Rattle.mr_service.specs.DeskTurns.{DeskTurnsBy};
 ghost use Rattle.mr_service.specs.Turns.{Tells, TurnsBy};
 
 use crate::outcomes::{booked, logged};
 use crate::replies::{Outcome, Reply};
 use mr_base::{Batch, LineCount, Position, Refusal, Request, RoomName};
-use mr_replica::{Desk, Part};
+use mr_replica::Part;
 use mr_tables::Change;
 
 /// Adds a room.
@@ -47,6 +46,14 @@ fn outcome_in(change: &Change) -> Option<Outcome>
     }
     let row = change.errorlog.first()?;
     Some(logged(row))
+}
+
+/// Takes a batch, or refuses all of it.
+pub(crate) fn receive(part: &Part, batch: &Batch) -> Result<(Reply, Change), Refusal>
+    ensures { TurnsBy (scopes.OfItems batch.now.items) (λ a. model.receive_batch a batch.now) part.now result }
+{
+    let (writes, commits, change) = part.receive(batch)?;
+    Ok((Reply::Took { writes, commits }, change))
 }
 
 /// Commits the first k tentative writes.
@@ -81,12 +88,4 @@ pub(crate) fn batch(
     ensures { IsWithin part.now.summary → Tells (scopes.Above position.now.commits) (λ a. model.leave a (model.batch_reply a position.now max_lines)) part.now result }
 {
     Ok(Reply::Batch(part.batch(position, max_lines)?))
-}
-
-/// Takes a batch, or refuses all of it, over the whole desk.
-pub(crate) fn receive(desk: &mut Desk, batch: &Batch) -> Result<(Reply, Change), Refusal>
-    ensures { DeskTurnsBy (λ a. model.receive_batch a batch.now) desk.old result }
-{
-    let (writes, commits, change) = desk.receive(batch)?;
-    Ok((Reply::Took { writes, commits }, change))
 }

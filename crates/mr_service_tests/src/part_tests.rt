@@ -15,15 +15,10 @@ fn ask<K: Keeper>(alloc: Global, keeper: K, command: &Command) -> (Reply, K) {
     (reply, service.into_keeper())
 }
 
-/// The same over lists that load no desk. To receive a batch still takes the whole desk: that is asked of the lists themselves.
+/// The same over lists that load no desk.
 fn ask_parts(alloc: Global, lists: ListKeeper, command: &Command) -> (Reply, ListKeeper) {
-    match command {
-        Command::Receive(_) => ask(alloc, lists, command),
-        Command::Local(_) => {
-            let (reply, keeper) = ask(alloc, WithoutDesk::new(lists), command);
-            (reply, keeper.into_lists())
-        }
-    }
+    let (reply, keeper) = ask(alloc, WithoutDesk::new(lists), command);
+    (reply, keeper.into_lists())
 }
 
 fn new_lists(alloc: Global, server: u32) -> Result<ListKeeper, Fail> {
