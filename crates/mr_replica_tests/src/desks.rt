@@ -47,11 +47,11 @@ pub(crate) enum Call {
 /// The numbers that a call tells, 0 in the place of one that it doesn't: the number of the new write; how many writes and how
 /// many commits were new; how many commits were made; how many are dropped, and how many writes leave the logs; how many commits
 /// there are, and of how many servers writes are known.
-type Told = (u64, u64);
+pub(crate) type Told = (u64, u64);
 
 /// The rows that a call puts: the server, the number and the start of the first two bookings, and the server, the time and the
 /// commit number of the first error; 0 where there is none.
-type Put = ((u32, u32, u32), (u32, u32, u32), (u32, u64, u64));
+pub(crate) type Put = ((u32, u32, u32), (u32, u32, u32), (u32, u64, u64));
 
 pub(crate) const NONE: (u32, u32, u32) = (0, 0, 0);
 
@@ -92,7 +92,7 @@ fn item(alloc: Global, line: Line) -> Result<Item, Refusal> {
 }
 
 /// A batch that server 1 made.
-fn batch(alloc: Global, primary: u32, lines: &[Line]) -> Result<Batch, Refusal> {
+pub(crate) fn batch(alloc: Global, primary: u32, lines: &[Line]) -> Result<Batch, Refusal> {
     let mut items = Vec::new(alloc);
     for line in lines {
         items.push(item(alloc, *line)?)?;
@@ -182,7 +182,7 @@ fn logged(change: &Change) -> (u32, u64, u64) {
 }
 
 /// Whether the change puts these rows, and a write that it books or logs leaves the other table.
-fn puts(change: &Change, put: Put) -> bool {
+pub(crate) fn puts(change: &Change, put: Put) -> bool {
     let (books, logs) = (change.booking.len(), change.errorlog.len());
     (booked_at(change, 0), booked_at(change, 1), logged(change)) == put
         && (books, logs) == (change.unlogged.len(), change.unbooked.len())

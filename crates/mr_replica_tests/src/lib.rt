@@ -7,6 +7,8 @@ mod copies;
 #[cfg(test)]
 mod desks;
 #[cfg(test)]
+mod parts;
+#[cfg(test)]
 mod tables;
 #[cfg(test)]
 mod tests;

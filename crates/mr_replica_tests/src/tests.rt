@@ -138,7 +138,7 @@ const OPENING: Rows = Rows {
 };
 
 /// Server 3's write is committed, server 2's is tentative and in the error log, and both are kept.
-const KEPT: Rows = Rows {
+pub(crate) const KEPT: Rows = Rows {
     meta: (1, 0, 2),
     vector: &[(2, 1, 0), (3, 2, 1)],
     write_log: &[(2, 1, "1995-12-18 14:00", 0), (3, 2, "1995-12-18 14:30", 1)],
