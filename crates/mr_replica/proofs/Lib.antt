@@ -41,3 +41,4 @@ pub mod PartScopes
 pub mod JudgingPart
 pub mod LearningPart
 pub mod ReceivingPart
+pub mod UndoRows
