@@ -317,7 +317,11 @@ fn rows_past_their_limits_are_the_stores_fault(rt: HostRuntime) -> Result<(), Fa
     for (commits, count) in [(1_000_000_000_000, 0), (0, 1_000_000_000)] {
         let (desk, part) = faults_of_loads(rt.alloc(), commits, count)?;
         assert_eq!(rt; desk, Some(Fault::Store), "at {commits} and {count}");
-        assert_eq!(rt; part, Some(Fault::Store), "of a part, at {commits} and {count}");
+        assert_eq!(rt;
+            part,
+            Some(Fault::Store),
+            "of a part, at {commits} and {count}"
+        );
     }
     Ok(())
 }
