@@ -1,2 +1,3 @@
 pub mod CalendarOrder
-pub mod Places
+pub mod Changes
+pub mod Gaps

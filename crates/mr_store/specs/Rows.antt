@@ -1,7 +1,32 @@
--- Where rows are put.
-use Rattle.std.specs.Prelude.{ℕ, suc, Bool, if◌then◌else◌, List, [], ◌∷◌}
+-- Rows of a table around a place in it, and their order.
+use mathlib.Core.Bool.{Bool-set}
+use mathlib.Core.HLevel.{×_prop, Unit-prop}
+use Rattle.std.specs.Prelude.{◌≡◌, Bool, true, List, [], ◌∷◌, ◌++◌, reverse, nat_lt}
+use Rattle.std.specs.List.{AllByRecursion-prop}
+use Rattle.mr_model.specs.Dropped.{Has}
+use Rattle.mr_model.specs.Replica.{text_before}
+use Rattle.mr_model.specs.Tables.{Tables}
+use Rattle.mr_model.specs.Queries.{booking_id, error_id}
+use Rattle.mr_tables.specs.Change.{id_before, log_id, undo_id}
+use Rattle.mr_tables.proofs.Putting.{InOrder}
 
--- how many rows stand before the first that has the key of this one or stands behind it
-abbrev pub row_place : {R : Type 0} → (R → R → Bool) → R → List R → ℕ
-row_place before x [] = 0
-row_place before x (y ∷ ys) = if before x y then 0 else (if before y x then suc (row_place before x ys) else 0)
+-- the rows in front of a place, and those behind it, the next one last
+abbrev pub around : {R : Type 0} → List R → List R → List R
+around front behind = front ++ reverse behind
+
+-- the key of each of these is before that of the row
+abbrev pub Precede : {R K : Type 0} → (K → K → Bool) → (R → K) → R → List R → Type 0
+Precede {R} before key x rows = (y : R) → Has y rows → before (key y) (key x) ≡ true
+
+-- the rows of each table are in the order of their keys
+pub record AreInOrder (t : Tables) : Type 0 where
+  pub room : InOrder text_before (λ name. name) t.room
+  pub vector : InOrder nat_lt (λ row. row.server) t.vector
+  pub write_log : InOrder id_before log_id t.write_log
+  pub undo : InOrder id_before undo_id t.undo
+  pub booking : InOrder id_before booking_id t.booking
+  pub errorlog : InOrder id_before error_id t.errorlog
+
+pub in_order-prop : {R K : Type 0} (before : K → K → Bool) (key : R → K) (rows : List R) → IsProp (InOrder before key rows)
+in_order-prop before key [] = Unit-prop
+in_order-prop before key (x ∷ xs) = ×_prop (AllByRecursion-prop _ (λ y. Bool-set _ _) xs) (in_order-prop before key xs)

@@ -8,6 +8,7 @@
 mod keeper;
 mod lists;
 mod order;
+mod puts;
 mod queries;
 mod rows;
 mod table_rows;

@@ -1,11 +1,14 @@
-ghost use Rattle.std.specs.Prelude.{◌≡◌, ◌≢◌, ◌<◌, IfOk};
+ghost use Rattle.std.specs.Prelude.{◌≡◌, ◌≢◌, ◌<◌, true, OnOk, OnErr};
 ghost use Rattle.mr_model.specs.Replica.{opening};
 ghost use Rattle.mr_model.specs.Tables.{tables_of, Stands};
 ghost use Rattle.mr_tables.specs.Change.{changed};
 ghost use Rattle.mr_store.specs.Kept.{failures_for};
+ghost use Rattle.std.proofs.Props.{props};
+ghost use Rattle.mr_store.specs.Rows.{AreInOrder, in_order-prop};
 
+use crate::puts::{change_rows, prepare, put_rows};
 use crate::queries::{bookings_of, errors_of, place_of};
-use crate::rows::{changed_rows, copies_of, grown_rows};
+use crate::rows::{copies_of, is_in_order};
 use crate::{Fault, Keeper, PlaceRow};
 use mr_base::{Day, Refusal, RoomName, ServerId, WriteId};
 use mr_replica::{Desk, Part, Scope};
@@ -19,6 +22,8 @@ pub struct ListKeeper {
     alloc: Global,
     tables: Tables,
     failures: u64,
+    is_ordered: bool,
+    ghost in_order: { is_ordered ≡ true → AreInOrder tables } by { Prim.hlevel (props, in_order-prop) },
 }
 
 impl Model for ListKeeper {
@@ -43,34 +48,59 @@ impl ListKeeper {
     pub fn over(alloc: Global, tables: Tables) -> ListKeeper
         ensures { result ≡ record { tables = tables; failures = 0 } }
     {
+        let is_ordered = are_in_order(&tables);
         ListKeeper {
             alloc,
             tables,
             failures: 0,
+            is_ordered,
         }
     }
+}
 
-    /// Equal tables with the change made.
-    fn changed_tables(&self, change: &Change) -> Result<Tables, AllocError>
-        ensures { IfOk result (λ tables. tables ≡ changed change.now self.now.tables) }
-    {
-        let (alloc, tables) = (self.alloc, &self.tables);
-        let room = grown_rows(alloc, &tables.room, &change.room)?;
-        let vector = grown_rows(alloc, &tables.vector, &change.vector)?;
-        let write_log = changed_rows(alloc, &tables.write_log, &change.dropped, &change.write_log)?;
-        let undo = changed_rows(alloc, &tables.undo, &change.dropped, &change.undo)?;
-        let booking = changed_rows(alloc, &tables.booking, &change.unbooked, &change.booking)?;
-        let errorlog = changed_rows(alloc, &tables.errorlog, &change.unlogged, &change.errorlog)?;
-        Ok(Tables {
-            meta: change.meta,
-            room,
-            vector,
-            write_log,
-            undo,
-            booking,
-            errorlog,
-        })
-    }
+/// Whether the rows of each table are in the order of their keys.
+fn are_in_order(tables: &Tables) -> bool
+    ensures { result ≡ true → AreInOrder tables.now }
+{
+    let room = is_in_order(&tables.room);
+    let vector = is_in_order(&tables.vector);
+    let write_log = is_in_order(&tables.write_log);
+    let undo = is_in_order(&tables.undo);
+    let booking = is_in_order(&tables.booking);
+    let errorlog = is_in_order(&tables.errorlog);
+    room & vector & write_log & undo & booking & errorlog
+}
+
+/// Makes the change in place. All that can fail comes first: equal rows and the room for them.
+fn change_tables(
+    alloc: Global,
+    tables: &mut Tables,
+    change: &Change,
+    is_ordered: bool,
+) -> Result<(), AllocError>
+    requires { is_ordered ≡ true → AreInOrder tables.old }
+    ensures changed { OnOk result (tables.new ≡ changed change.now tables.old) }
+    ensures refused { OnErr result (tables.new ≡ tables.old) }
+{
+    let room = prepare(alloc, &mut tables.room, &change.room, is_ordered)?;
+    let vector = prepare(alloc, &mut tables.vector, &change.vector, is_ordered)?;
+    let write_log = prepare(alloc, &mut tables.write_log, &change.write_log, is_ordered)?;
+    let undo = prepare(alloc, &mut tables.undo, &change.undo, is_ordered)?;
+    let booking = prepare(alloc, &mut tables.booking, &change.booking, is_ordered)?;
+    let errorlog = prepare(alloc, &mut tables.errorlog, &change.errorlog, is_ordered)?;
+    tables.meta = change.meta;
+    put_rows(&mut tables.room, room, is_ordered);
+    put_rows(&mut tables.vector, vector, is_ordered);
+    change_rows(
+        &mut tables.write_log,
+        &change.dropped,
+        write_log,
+        is_ordered,
+    );
+    change_rows(&mut tables.undo, &change.dropped, undo, is_ordered);
+    change_rows(&mut tables.booking, &change.unbooked, booking, is_ordered);
+    change_rows(&mut tables.errorlog, &change.unlogged, errorlog, is_ordered);
+    Ok(())
 }
 
 fn opening_tables(alloc: Global, server: ServerId, primary: ServerId) -> Tables
@@ -161,11 +191,8 @@ impl Keeper for ListKeeper {
     }
 
     fn apply(&mut self, change: &Change) -> Result<(), Fault> {
-        match self.changed_tables(change) {
-            Ok(tables) => {
-                self.tables = tables;
-                Ok(())
-            }
+        match change_tables(self.alloc, &mut self.tables, change, self.is_ordered) {
+            Ok(()) => Ok(()),
             Err(AllocError) => Err(Fault::OutOfMemory),
         }
     }

@@ -1,8 +1,10 @@
-ghost use Rattle.std.specs.Prelude.{◌≡◌, nat_lt};
-ghost use Rattle.mr_model.specs.Writes.{same_id};
+ghost use Rattle.std.specs.Prelude.{◌≡◌, ℕ, nat_lt};
+ghost use Rattle.mr_model.specs.Texts.{Text};
+ghost use Rattle.mr_model.specs.Writes.{Id, same_id};
 ghost use Rattle.mr_model.specs.Replica.{text_before};
 ghost use Rattle.mr_model.specs.Queries.{booking_id, error_id};
 ghost use Rattle.mr_tables.specs.Change.{id_before, log_id, undo_id};
+ghost use Rattle.mr_tables.proofs.Putting.{name_order, number_order, id_order};
 
 use crate::rows::{RequestRow, TableRow};
 use mr_base::{RoomName, ServerId, WriteId};
@@ -10,7 +12,13 @@ use mr_tables::{BookingRow, ErrorRow, LogRow, VectorRow, WriteUndoRow};
 use std::alloc::{AllocError, Global};
 
 impl TableRow for RoomName {
+    ghost Key = { Text };
+
+    ghost key = { λ name. name };
+
     ghost before = { text_before };
+
+    ghost order = { name_order };
 
     fn is_before(&self, other: &RoomName) -> bool {
         *self < *other
@@ -25,7 +33,13 @@ impl TableRow for RoomName {
 }
 
 impl TableRow for VectorRow {
-    ghost before = { λ a b. nat_lt a.server b.server };
+    ghost Key = { ℕ };
+
+    ghost key = { λ row. row.server };
+
+    ghost before = { nat_lt };
+
+    ghost order = { number_order };
 
     fn is_before(&self, other: &VectorRow) -> bool {
         self.server.number() < other.server.number()
@@ -37,7 +51,13 @@ impl TableRow for VectorRow {
 }
 
 impl TableRow for LogRow {
-    ghost before = { λ a b. id_before (log_id a) (log_id b) };
+    ghost Key = { Id };
+
+    ghost key = { log_id };
+
+    ghost before = { id_before };
+
+    ghost order = { id_order };
 
     fn is_before(&self, other: &LogRow) -> bool {
         is_id_before((self.server, self.n), (other.server, other.n))
@@ -60,7 +80,13 @@ impl RequestRow for LogRow {
 }
 
 impl TableRow for WriteUndoRow {
-    ghost before = { λ a b. id_before (undo_id a) (undo_id b) };
+    ghost Key = { Id };
+
+    ghost key = { undo_id };
+
+    ghost before = { id_before };
+
+    ghost order = { id_order };
 
     fn is_before(&self, other: &WriteUndoRow) -> bool {
         is_id_before((self.server, self.n), (other.server, other.n))
@@ -80,7 +106,13 @@ impl RequestRow for WriteUndoRow {
 }
 
 impl TableRow for BookingRow {
-    ghost before = { λ a b. id_before (booking_id a) (booking_id b) };
+    ghost Key = { Id };
+
+    ghost key = { booking_id };
+
+    ghost before = { id_before };
+
+    ghost order = { id_order };
 
     fn is_before(&self, other: &BookingRow) -> bool {
         is_id_before((self.server, self.n), (other.server, other.n))
@@ -103,7 +135,13 @@ impl RequestRow for BookingRow {
 }
 
 impl TableRow for ErrorRow {
-    ghost before = { λ a b. id_before (error_id a) (error_id b) };
+    ghost Key = { Id };
+
+    ghost key = { error_id };
+
+    ghost before = { id_before };
+
+    ghost order = { id_order };
 
     fn is_before(&self, other: &ErrorRow) -> bool {
         is_id_before((self.server, self.n), (other.server, other.n))

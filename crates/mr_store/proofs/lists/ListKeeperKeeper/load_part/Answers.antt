@@ -1,4 +1,4 @@
-use Rattle.std.proofs.Common.{◌≡◌, refl, ap, ◌∙◌}
+use Rattle.std.proofs.Common.{◌≡◌, ap, ◌∙◌}
 use Rattle.mr_model.specs.Tables.{tables_of}
 use Rattle.mr_model.specs.Scopes.{in_scope}
 use Rattle.mr_replica.specs.ScopeOf.{scope_of}
