@@ -42,3 +42,5 @@ pub mod JudgingPart
 pub mod LearningPart
 pub mod ReceivingPart
 pub mod UndoRows
+pub mod Tails
+pub mod Named

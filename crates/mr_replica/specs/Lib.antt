@@ -1,5 +1,5 @@
 -- A reader of the contracts trusts Log, Desk, Steps, Candidate, DeskTables, Turning, ChangeLaws, KeptRows, SoundLog, Parts and
--- ScopeOf. The others, Outgoing, Moves, PartCandidate, PartMoves, PickedLogs, PickedBookings and PickedUndo, serve private clauses and
+-- ScopeOf. The others, Outgoing, Moves, PartCandidate, PartMoves, PickedLogs, PickedBookings, PickedUndo, Tails, Named and LogTests, serve private clauses and
 -- proofs alone.
 pub mod Log
 pub mod Desk
@@ -15,6 +15,9 @@ pub mod Parts
 pub mod PartMoves
 pub mod ScopeOf
 pub mod PickedLogs
+pub mod Tails
+pub mod Named
+pub mod LogTests
 pub mod PickedBookings
 pub mod PickedUndo
 pub mod PartCandidate

@@ -1,13 +1,18 @@
-ghost use Rattle.std.specs.Prelude.{◌≡◌, ◌++◌, map, filter, flat_map, OnOk, IfOk, IfErr};
+ghost use Rattle.std.specs.Prelude.{◌≡◌, ◌++◌, ℕ, List, map, filter, flat_map, OnOk, IfOk, IfErr};
+ghost use Rattle.mr_model.specs.Texts.{Text};
 ghost use Rattle.mr_model.specs.Writes.{id_of, same_id};
+ghost use Rattle.mr_model.specs.Exchange.{Item as ItemOfBatch};
 ghost use Rattle.mr_base.specs.Batches.{item_of};
 ghost use Rattle.mr_replica.specs.Moves.{rooms_named, moves_in};
+ghost use Rattle.mr_replica.specs.Named.{IsSetOf};
 ghost use Rattle.mr_replica.specs.PickedBookings.{AreSameRooms};
+ghost use Rattle.mr_replica.specs.Tails.{IsTail};
 
-use crate::scope_items::{is_late, is_new_commit};
+use crate::room_sets::RoomSet;
+use crate::scope_items::is_new_commit;
+use crate::scope_tail::Tail;
 use crate::scope_touched::add_room;
 use mr_base::{Item, Refusal, RoomName, Write, WriteId};
-use mr_tables::rooms::is_known;
 use std::alloc::Global;
 
 /// The rooms whose writes the items may move, each once, where so many commits are known: those of their writes, and those of
@@ -75,10 +80,11 @@ fn is_of(write: &Write, id: WriteId) -> bool
     write.stamp.id() == id
 }
 
-/// Whether a tentative write may move, where so many commits are known and the items touch these rooms.
-pub(crate) fn may_move(write: &Write, touched: &[RoomName], items: &[Item], commits: u64) -> bool
-    ensures { result ≡ moves_in touched.now (map item_of items.now) commits write.now }
+/// Whether a tentative write may move, where the items touch these rooms and have this tail.
+pub(crate) fn may_move(write: &Write, rooms: &RoomSet, tail: &Tail) -> bool
+    ensures { (touched : List Text) (items : List ItemOfBatch) (commits : ℕ) → IsSetOf rooms.now touched → IsTail tail.now commits items
+        → result ≡ moves_in touched items commits write.now }
 {
     let stamp = write.stamp;
-    is_known(touched, &write.room) && is_late(items, commits, stamp.time, stamp.server)
+    rooms.contains(&write.room) && tail.has_place(stamp.time, stamp.server)
 }

@@ -1,4 +1,6 @@
 ghost use Rattle.std.specs.Prelude.{◌≡◌, ◌==◌, ◌&&◌, ℕ, List, map, filter, IfOk, IfErr};
+ghost use Rattle.mr_model.specs.Texts.{Text};
+ghost use Rattle.mr_model.specs.Exchange.{Item as ItemOfBatch};
 ghost use Rattle.mr_model.specs.Writes.{Write as WriteOfRoom, id_of};
 ghost use Rattle.mr_model.specs.Replica.{Replica, IsReplica, tentative};
 ghost use Rattle.mr_model.specs.Scopes.{OfItems};
@@ -7,11 +9,15 @@ ghost use Rattle.mr_model.specs.Tables.{place_of};
 ghost use Rattle.mr_base.specs.Batches.{item_of};
 ghost use Rattle.mr_replay.specs.Places.{UndoRow as UndoRowOfWrite};
 ghost use Rattle.mr_replica.specs.Moves.{AreTouched, ShowsMoves, moves_in, is_anew};
+ghost use Rattle.mr_replica.specs.Named.{IsSetOf};
 ghost use Rattle.mr_replica.specs.Parts.{IsPartOf};
+ghost use Rattle.mr_replica.specs.Tails.{IsTail};
 
 use crate::Part;
 use crate::movable::{may_move, rooms_touched};
+use crate::room_sets::{RoomSet, room_set};
 use crate::scope_logs::LoggedWrite;
+use crate::scope_tail::{Tail, tail_of};
 use mr_base::{Item, Refusal, RoomName, Write};
 use mr_replay::UndoRow;
 use std::alloc::Global;
@@ -37,15 +43,15 @@ impl Part {
             → IfOk result (λ rows. rows.items ≡ map (λ w. record { id = id_of w; place = place_of a w }) (filter (may_move_from a (map item_of items.now)) (tentative a))) }
         ensures only { IfErr result (λ e. e ≡ Refusal.OutOfMemory) }
     {
-        let commits = self.summary.commits;
+        let rooms = room_set(self.alloc, touched)?;
+        let tail = tail_of(items, self.summary.commits);
         let rows = moving_rows(
             self.alloc,
             &self.kept,
             &self.marks,
             &self.undo,
-            touched,
-            items,
-            commits,
+            &rooms,
+            &tail,
         )?;
         Ok(rows)
     }
@@ -57,18 +63,18 @@ fn moving_rows(
     writes: &[Write],
     marks: &[u64],
     undo: &[UndoRow],
-    touched: &[RoomName],
-    items: &[Item],
-    commits: u64,
+    rooms: &RoomSet,
+    tail: &Tail,
 ) -> Result<Vec<UndoRow>, Refusal>
-    ensures rows { (mark : WriteOfRoom → ℕ) (row : WriteOfRoom → UndoRowOfWrite) → marks.now ≡ map mark writes.now → undo.now ≡ map row writes.now
-        → IfOk result (λ rows. rows.items ≡ map row (filter (λ w. mark w == 0 && moves_in touched.now (map item_of items.now) commits w) writes.now)) }
+    ensures rows { (touched : List Text) (items : List ItemOfBatch) (commits : ℕ) → IsSetOf rooms.now touched → IsTail tail.now commits items
+        → (mark : WriteOfRoom → ℕ) (row : WriteOfRoom → UndoRowOfWrite) → marks.now ≡ map mark writes.now → undo.now ≡ map row writes.now
+        → IfOk result (λ rows. rows.items ≡ map row (filter (λ w. mark w == 0 && moves_in touched items commits w) writes.now)) }
     ensures only { IfErr result (λ e. e ≡ Refusal.OutOfMemory) }
 {
     let mut rows = Vec::new(alloc);
     let count = writes.len().min(marks.len()).min(undo.len());
     for k in 0..count {
-        if marks[k] == 0 && may_move(&writes[k], touched, items, commits) {
+        if marks[k] == 0 && may_move(&writes[k], rooms, tail) {
             rows.push(undo[k])?;
         }
     }
@@ -88,31 +94,35 @@ pub(crate) fn again_in(
         → IfOk result (λ writes. writes.items ≡ again a (map item_of items.now) m.moves.news b) }
     ensures only { IfErr result (λ e. e ≡ Refusal.OutOfMemory) }
 {
-    let writes = writes_anew(alloc, kept, touched, items, commits)?;
+    let rooms = room_set(alloc, touched)?;
+    let tail = tail_of(items, commits);
+    let writes = writes_anew(alloc, kept, &rooms, &tail, commits)?;
     Ok(writes)
 }
 
 fn writes_anew(
     alloc: Global,
     kept: &[LoggedWrite],
-    touched: &[RoomName],
-    items: &[Item],
+    rooms: &RoomSet,
+    tail: &Tail,
     commits: u64,
 ) -> Result<Vec<Write>, Refusal>
-    ensures writes { IfOk result (λ writes. writes.items ≡ map (λ x. x.write) (filter (is_anew touched.now (map item_of items.now) commits) kept.now)) }
+    ensures writes { (touched : List Text) (items : List ItemOfBatch) → IsSetOf rooms.now touched → IsTail tail.now commits items
+        → IfOk result (λ writes. writes.items ≡ map (λ x. x.write) (filter (is_anew touched items commits) kept.now)) }
     ensures only { IfErr result (λ e. e ≡ Refusal.OutOfMemory) }
 {
     let mut writes = Vec::new(alloc);
     for one in kept {
-        if is_anew(one, touched, items, commits) {
+        if is_anew(one, rooms, tail, commits) {
             writes.push(one.write.copy(alloc)?)?;
         }
     }
     Ok(writes)
 }
 
-fn is_anew(one: &LoggedWrite, touched: &[RoomName], items: &[Item], commits: u64) -> bool
-    ensures { result ≡ is_anew touched.now (map item_of items.now) commits one.now }
+fn is_anew(one: &LoggedWrite, rooms: &RoomSet, tail: &Tail, commits: u64) -> bool
+    ensures { (touched : List Text) (items : List ItemOfBatch) → IsSetOf rooms.now touched → IsTail tail.now commits items
+        → result ≡ is_anew touched items commits one.now }
 {
-    one.seq > commits || (one.seq == 0 && may_move(&one.write, touched, items, commits))
+    one.seq > commits || (one.seq == 0 && may_move(&one.write, rooms, tail))
 }

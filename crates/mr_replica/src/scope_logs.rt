@@ -10,11 +10,10 @@ ghost use Rattle.mr_replica.specs.declared.scope_logs.LoggedWrite.{LoggedWrite a
 
 use crate::Scope;
 use crate::kept_rows::RunPlace;
-use crate::scope_items::{is_in_tail, is_named};
+use crate::scope_log_test::LogTest;
 use mr_base::{Refusal, RoomName, Write};
 use mr_tables::LogRow;
 use mr_tables::reading::write_of;
-use mr_tables::rooms::is_known;
 use std::alloc::Global;
 
 /// A kept write as its row of `write_log` tells it. `seq` is its commit number, 0 where it is tentative.
@@ -65,9 +64,10 @@ fn writes_in(
     ensures only { (xs : List LoggedWriteOfRow) → AreWithin xs → filter (is_log_in (scope_of scope.now) commits touched.now) rows.now ≡ map row_of xs
         → IfErr result (λ e. e ≡ Refusal.OutOfMemory) }
 {
+    let test = LogTest::of(alloc, scope, commits, touched)?;
     let mut writes = Vec::new(alloc);
     for row in rows {
-        if is_log_in(row, scope, commits, touched) {
+        if test.passes(row) {
             match LoggedWrite::of_row(alloc, row) {
                 Ok(write) => writes.push(write)?,
                 Err(refusal) => return Err(refusal),
@@ -129,19 +129,4 @@ fn sort_writes(writes: &mut Vec<LoggedWrite>)
     ensures sorted { IsSortedByKey logged_place run_cmp writes.new.items }
 {
     writes.sort_unstable_by_key(|write| write.place());
-}
-
-/// Whether a row of `write_log` is in scope. Of a commit none is: only all tentative rows tell which are its.
-fn is_log_in(row: &LogRow, scope: &Scope<'_>, commits: u64, touched: &[RoomName]) -> bool
-    ensures { result ≡ is_log_in (scope_of scope.now) commits touched.now row.now }
-{
-    match *scope {
-        Scope::Nothing | Scope::InRoom(_) | Scope::NextCommits(_) => false,
-        Scope::UpTo(number) => row.seq >= 1 && row.seq <= number,
-        Scope::Above(number) => row.seq == 0 || row.seq > number,
-        Scope::Items(items) => {
-            is_named(row, items)
-                || (is_in_tail(row, items, commits) && is_known(touched, &row.room))
-        }
-    }
 }

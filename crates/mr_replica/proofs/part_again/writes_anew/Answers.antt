@@ -1,6 +1,5 @@
 use Rattle.std.proofs.Common.{◌∙◌, Ok, map, ap, sym, subst}
 use Rattle.mr_base.specs.Answers.{OrOutOfMemory}
-use Rattle.mr_base.specs.Batches.{item_of}
 use Rattle.mr_replica.specs.Moves.{is_anew}
 use Rattle.mr_replica.specs.declared.scope_logs.LoggedWrite.{LoggedWrite}
 use Rattle.mr_tables.proofs.LogRows.{answered}
@@ -9,8 +8,8 @@ use Rattle.mr_replica.proofs.part_again.writes_anew.Goals as goal
 use Rattle.mr_replica.proofs.part_again.writes_anew.Goals.{then-is_anew+in_ok-copy+in_ok-push, else-is_anew}
 
 pub loop-one-preserved : goal.loop-one-preserved
-loop-one-preserved c =
-    let p = is_anew c.args.touched.now (map item_of c.args.items.now) c.args.commits in
+loop-one-preserved c = λ touched items set tail.
+    let p = is_anew touched items c.args.commits in
     let xs = c.args.kept.now in
     let k = c.loop-one.one-index in
     let x = c.one-item.result in
@@ -19,10 +18,10 @@ loop-one-preserved c =
       | then-is_anew+in_ok-copy+in_ok-push w ↦
           (let copied = answered w.in_ok-copy.field-0 x.write (subst (λ r. OrOutOfMemory r (Ok x.write)) w.in_ok-copy.was w.copy.ensures) in
           let next = ap (λ v. v.items) w.writes-is ∙ w.in_ok-push.ensures.items in
-          pick_more (λ (y : LoggedWrite). y.write) p xs k x old c.if-is_anew.writes.items w.in_ok-copy.field-0 c.loop-one-test.true c.one-item.is (sym c.is_anew.ensures ∙ w.if-is_anew.true) copied next c.loop-one.invariant)
-      | else-is_anew w ↦ pick_none (λ (y : LoggedWrite). y.write) p xs k x old c.if-is_anew.writes.items c.loop-one-test.true c.one-item.is (sym c.is_anew.ensures ∙ w.if-is_anew.false) (ap (λ v. v.items) w.writes-is) c.loop-one.invariant
+          pick_more (λ (y : LoggedWrite). y.write) p xs k x old c.if-is_anew.writes.items w.in_ok-copy.field-0 c.loop-one-test.true c.one-item.is (sym (c.is_anew.ensures touched items set tail) ∙ w.if-is_anew.true) copied next (c.loop-one.invariant touched items set tail))
+      | else-is_anew w ↦ pick_none (λ (y : LoggedWrite). y.write) p xs k x old c.if-is_anew.writes.items c.loop-one-test.true c.one-item.is (sym (c.is_anew.ensures touched items set tail) ∙ w.if-is_anew.false) (ap (λ v. v.items) w.writes-is) (c.loop-one.invariant touched items set tail)
     ]
 
 pub returns-clause-writes : goal.returns-clause-writes
-returns-clause-writes c =
-    pick_end (λ (y : LoggedWrite). y.write) (is_anew c.args.touched.now (map item_of c.args.items.now) c.args.commits) c.args.kept.now c.loop-one.one-index c.loop-one.writes.items c.loop-one-test.false c.loop-one.invariant
+returns-clause-writes c = λ touched items set tail.
+    pick_end (λ (y : LoggedWrite). y.write) (is_anew touched items c.args.commits) c.args.kept.now c.loop-one.one-index c.loop-one.writes.items c.loop-one-test.false (c.loop-one.invariant touched items set tail)
