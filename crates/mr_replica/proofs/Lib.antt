@@ -44,3 +44,4 @@ pub mod ReceivingPart
 pub mod UndoRows
 pub mod Tails
 pub mod Named
+pub mod TouchedRooms

@@ -1,5 +1,5 @@
 -- A reader of the contracts trusts Log, Desk, Steps, Candidate, DeskTables, Turning, ChangeLaws, KeptRows, SoundLog, Parts and
--- ScopeOf. The others, Outgoing, Moves, PartCandidate, PartMoves, PickedLogs, PickedBookings, PickedUndo, Tails, Named and LogTests, serve private clauses and
+-- ScopeOf. The others, Outgoing, Moves, PartCandidate, PartMoves, PickedLogs, PickedBookings, PickedUndo, Tails, Named, Touched and LogTests, serve private clauses and
 -- proofs alone.
 pub mod Log
 pub mod Desk
@@ -17,6 +17,7 @@ pub mod ScopeOf
 pub mod PickedLogs
 pub mod Tails
 pub mod Named
+pub mod Touched
 pub mod LogTests
 pub mod PickedBookings
 pub mod PickedUndo

@@ -53,6 +53,7 @@ ghost use Rattle.mr_replica.specs.Steps.{SubmissionsAreRequests};
 pub use desk::Desk;
 pub use part::Part;
 pub use scope::Scope;
+pub use scope_touched::touched_rooms;
 
 /// A submission in words, where nothing is at fault with these, is the request that they make.
 pub fn submission_law()

@@ -1,18 +1,18 @@
-ghost use Rattle.std.specs.Prelude.{◌≡◌, ◌++◌, ℕ, List, map, filter, flat_map, OnOk, IfOk, IfErr};
+ghost use Rattle.std.specs.Prelude.{◌≡◌, ◌&&◌, ◌||◌, ℕ, List, map, flat_map, bytes_eq, OnOk, IfOk, IfErr};
+ghost use Rattle.std.specs.List.{list_any};
 ghost use Rattle.mr_model.specs.Texts.{Text};
-ghost use Rattle.mr_model.specs.Writes.{id_of, same_id};
+ghost use Rattle.mr_model.specs.Writes.{id_of};
 ghost use Rattle.mr_model.specs.Exchange.{Item as ItemOfBatch};
 ghost use Rattle.mr_base.specs.Batches.{item_of};
 ghost use Rattle.mr_replica.specs.Moves.{rooms_named, moves_in};
-ghost use Rattle.mr_replica.specs.Named.{IsSetOf};
+ghost use Rattle.mr_replica.specs.Named.{has_id, has_room, IsSetOf};
 ghost use Rattle.mr_replica.specs.PickedBookings.{AreSameRooms};
 ghost use Rattle.mr_replica.specs.Tails.{IsTail};
 
-use crate::room_sets::RoomSet;
-use crate::scope_items::is_new_commit;
+use crate::room_sets::{RoomSet, names_of};
 use crate::scope_tail::Tail;
-use crate::scope_touched::add_room;
-use mr_base::{Item, Refusal, RoomName, Write, WriteId};
+use crate::scope_touched::{IdSet, Touched, add_if_named};
+use mr_base::{Item, Refusal, RoomName, Write};
 use std::alloc::Global;
 
 /// The rooms whose writes the items may move, each once, where so many commits are known: those of their writes, and those of
@@ -26,58 +26,30 @@ pub(crate) fn rooms_touched(
     ensures rooms { IfOk result (λ rooms. AreSameRooms rooms.items (flat_map (rooms_named commits writes.now) (map item_of items.now))) }
     ensures only { IfErr result (λ e. e ≡ Refusal.OutOfMemory) }
 {
-    let mut rooms = Vec::new(alloc);
-    for item in items {
-        add_rooms(alloc, &mut rooms, writes, item, commits)?;
-    }
-    Ok(rooms)
+    let Touched {
+        committed,
+        mut rooms,
+    } = Touched::by(alloc, items, commits)?;
+    add_writes(alloc, &mut rooms, &committed, writes)?;
+    let names = names_of(alloc, rooms)?;
+    Ok(names)
 }
 
-/// Adds the rooms that the item touches.
-fn add_rooms(
+/// Adds the rooms of the writes of these ids.
+fn add_writes(
     alloc: Global,
-    rooms: &mut Vec<RoomName>,
+    rooms: &mut RoomSet,
+    ids: &IdSet,
     writes: &[Write],
-    item: &Item,
-    commits: u64,
 ) -> Result<(), Refusal>
-    ensures rooms { OnOk result (AreSameRooms rooms.new.items (rooms.old.items ++ rooms_named commits writes.now (item_of item.now))) }
-    ensures only { IfErr result (λ e. e ≡ Refusal.OutOfMemory) }
-{
-    match item {
-        Item::W(write) => add_room(alloc, rooms, &write.room),
-        Item::C { id, .. } => {
-            if is_new_commit(item, commits) {
-                add_rooms_of(alloc, rooms, writes, *id)
-            } else {
-                Ok(())
-            }
-        }
-    }
-}
-
-/// Adds the rooms of the writes of this id.
-fn add_rooms_of(
-    alloc: Global,
-    rooms: &mut Vec<RoomName>,
-    writes: &[Write],
-    id: WriteId,
-) -> Result<(), Refusal>
-    ensures rooms { OnOk result (AreSameRooms rooms.new.items (rooms.old.items ++ map (λ w. w.room) (filter (λ w. same_id (id_of w) id) writes.now))) }
+    ensures rooms { OnOk result ((name : Text) → has_room rooms.new name ≡ (has_room rooms.old name || list_any (λ w. has_id ids.now (id_of w) && bytes_eq name w.room) writes.now)) }
     ensures only { IfErr result (λ e. e ≡ Refusal.OutOfMemory) }
 {
     for write in writes {
-        if is_of(write, id) {
-            add_room(alloc, rooms, &write.room)?;
-        }
+        let stamp = write.stamp;
+        add_if_named(alloc, rooms, ids, stamp.server, stamp.n, &write.room)?;
     }
     Ok(())
-}
-
-fn is_of(write: &Write, id: WriteId) -> bool
-    ensures { result ≡ same_id (id_of write.now) id }
-{
-    write.stamp.id() == id
 }
 
 /// Whether a tentative write may move, where the items touch these rooms and have this tail.

@@ -1,7 +1,7 @@
 ghost use Rattle.std.specs.Prelude.{◌≡◌, ◌||◌, ℕ, List, map, OnOk, IfOk, IfErr};
 ghost use Rattle.mr_model.specs.Writes.{Id, same_id};
 ghost use Rattle.mr_model.specs.Exchange.{Item as ItemOfBatch};
-ghost use Rattle.mr_model.specs.Scopes.{item_id, has_number, is_named, is_new_commit};
+ghost use Rattle.mr_model.specs.Scopes.{item_id, has_number, is_named};
 ghost use Rattle.mr_base.specs.Batches.{item_of};
 ghost use Rattle.mr_replica.specs.Named.{has_id, has_commit, IsNamedBy};
 
@@ -60,15 +60,5 @@ impl Named {
             }
         }
         Ok(())
-    }
-}
-
-/// Whether the item is a commit that is not known yet, where so many are.
-pub(crate) fn is_new_commit(item: &Item, commits: u64) -> bool
-    ensures { result ≡ is_new_commit commits (item_of item.now) }
-{
-    match item {
-        Item::W(_) => false,
-        Item::C { seq, .. } => seq.number() > commits,
     }
 }
