@@ -20,7 +20,7 @@ use Rattle.mr_base.specs.Refusals.{refusal_of}
 use Rattle.mr_base.specs.declared.refusals.Refusal.{Refusal}
 use Rattle.mr_base.specs.declared.refusals.Refusal.TheVariants.{Gap, OutOfOrder, Forged, OwnWrite, PrimaryOnly}
 use Rattle.mr_tables.specs.Summary.{summary_of}
-use Rattle.mr_replica.specs.Candidate.{CandidateView, Shows, write_in, known_verdict, write_verdict_by, write_verdict, there_verdict, commit_verdict_by, commit_verdict}
+use Rattle.mr_replica.specs.Candidate.{write_in, known_verdict, write_verdict_by, write_verdict, there_verdict, commit_verdict_by, commit_verdict}
 use Rattle.mr_tables.proofs.Summaries.{tally-of}
 
 -- ---- the kept writes
@@ -158,11 +158,3 @@ judged_commit line p q id sound small =
     go false qa false qb false qd false qe false qf false qg = λ t. commit_cases line p id (qa t) (qb t) (is_that_id (slice_get p.replica.commits (q - 1)) id) (qd t) (qe t) (qf t) (qg t)
     go false qa false qb false qd false qe false qf true qg =
         (λ t. commit_cases line p id (qa t) (qb t) (is_that_id (slice_get p.replica.commits (q - 1)) id) (qd t) (qe t) (qf t) (qg t), eqb-true id.n (committed_count p.replica id.server + 1) qg, grind (arith, nat_tests))
-
--- ---- at a candidate
-
-pub write_judged : (line : ℕ) (c : CandidateView) (w : Write) (p : Progress) (v : Result Bool Refusal) → IsReplica p.replica → IsTrue (is_write w) → Shows c p.replica → v ≡ write_verdict line c.summary c.kept w → JudgedWrite line p w v
-write_judged line c w p v sound good shows e = subst (JudgedWrite line p w) (sym (e ∙ (λ t. write_verdict line (shows.summary t) (shows.kept t) w))) (judged_write line p w sound good)
-
-pub commit_judged : (line : ℕ) (c : CandidateView) (q : ℕ) (id : Id) (p : Progress) (v : Result Bool Refusal) → IsReplica p.replica → id.server < 100 → Shows c p.replica → v ≡ commit_verdict line c.summary c.kept q id → JudgedCommit line p q id v
-commit_judged line c q id p v sound small shows e = subst (JudgedCommit line p q id) (sym (e ∙ (λ t. commit_verdict line (shows.summary t) (shows.kept t) q id))) (judged_commit line p q id sound small)

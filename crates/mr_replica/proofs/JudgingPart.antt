@@ -1,4 +1,4 @@
--- What becomes of an item at a part's candidate is what the definitions do with it: each write that the item names is in scope.
+-- What becomes of an item at a candidate is what the definitions do with it: each write that the item names is among those that it shows.
 use Rattle.std.proofs.Common.{◌≡◌, ℕ, ◌+◌, ◌-◌, ◌<◌, ◌≤◌, ◌==◌, ◌&&◌, ◌||◌, not, nat_lt, nat_le, Bool, true, false, cond, List, [], ◌∷◌, ◌⊎◌, length, map, Option, Some, None, Result, Ok, Err, ap, refl, sym, ◌∙◌, subst, inl, inr, arith, IsTrue}
 use Rattle.std.specs.Prelude.{find}
 use Rattle.std.specs.Option.{option_map}
@@ -25,7 +25,7 @@ use Rattle.mr_tables.specs.declared.summary.Tally.{Tally}
 use Rattle.mr_tables.specs.Summary.{tally_at, summary_of}
 use Rattle.mr_replica.specs.declared.scope_logs.LoggedWrite.{LoggedWrite}
 use Rattle.mr_replica.specs.Candidate.{write_in, write_verdict_with, there_verdict, commit_verdict_with}
-use Rattle.mr_replica.specs.PartCandidate.{PartCandidateView, ShowsInside, is_inside, writes_alone, numbered_in, logged_write_verdict, logged_commit_verdict}
+use Rattle.mr_replica.specs.PartCandidate.{PartCandidateView, ShowsPicked, Covers, is_inside, writes_alone, numbered_in, logged_write_verdict, logged_commit_verdict}
 use Rattle.mr_replica.specs.PickedLogs.{logged_of}
 use Rattle.mr_replica.proofs.Judging.{JudgedWrite, judged_write, JudgedCommit, judged_commit, commit_at}
 use Rattle.mr_replica.proofs.PickedRows.{logged_writes}
@@ -63,15 +63,15 @@ find_filtered {A} p q (x ∷ xs) f = go (p x) refl (q x) refl (find_filtered p q
     go false e false g ih = ih
 
 -- the kept write of an id that is named is in scope
-write_there : (a : Replica) (items : List Item) (c : PartCandidateView) (p : Progress) (x : Item) → ShowsInside a items c p → Has x items → write_in (writes_alone c.kept) (item_id x) ≡ write_in (kept_in_order p.replica) (item_id x)
-write_there a items c p x shows h =
-    let kept = ap writes_alone shows.kept ∙ logged_writes p.replica (filter (is_inside a items) (kept_in_order p.replica)) in
+write_there : (a : Replica) (items : List Item) (inside : Write → Bool) (c : PartCandidateView) (p : Progress) (x : Item) → Covers a items inside → ShowsPicked a inside c p → Has x items → write_in (writes_alone c.kept) (item_id x) ≡ write_in (kept_in_order p.replica) (item_id x)
+write_there a items inside c p x covers shows h =
+    let kept = ap writes_alone shows.kept ∙ logged_writes p.replica (filter inside (kept_in_order p.replica)) in
     ap (λ ws. write_in ws (item_id x)) kept
-    ∙ find_filtered (λ w. same_id (id_of w) (item_id x)) (is_inside a items) (kept_in_order p.replica) (λ w g e. inside_named a items x w h (same_id-true (id_of w) (item_id x) e))
+    ∙ find_filtered (λ w. same_id (id_of w) (item_id x)) inside (kept_in_order p.replica) (λ w g e. covers w (inside_named a items x w h (same_id-true (id_of w) (item_id x) e)))
 
-pub write_judged : (line : ℕ) (a : Replica) (items : List Item) (c : PartCandidateView) (w : Write) (p : Progress) (v : Result Bool Refusal) → IsReplica p.replica → IsTrue (is_write w) → Has (W w) items → ShowsInside a items c p → v ≡ logged_write_verdict line c.summary c.kept w → JudgedWrite line p w v
-write_judged line a items c w p v sound good h shows e =
-    let there = write_there a items c p (W w) shows h in
+pub write_judged : (line : ℕ) (a : Replica) (items : List Item) (inside : Write → Bool) (c : PartCandidateView) (w : Write) (p : Progress) (v : Result Bool Refusal) → IsReplica p.replica → IsTrue (is_write w) → Has (W w) items → Covers a items inside → ShowsPicked a inside c p → v ≡ logged_write_verdict line c.summary c.kept w → JudgedWrite line p w v
+write_judged line a items inside c w p v sound good h covers shows e =
+    let there = write_there a items inside c p (W w) covers shows h in
     let same = e ∙ (λ t. write_verdict_with line (tally_at (shows.summary t).tallies w.stamp.server) (shows.summary t).server (there t) w) in
     subst (JudgedWrite line p w) (sym same) (judged_write line p w sound good)
 
@@ -82,17 +82,14 @@ unwrap d None = d
 unwrap d (Some x) = x
 
 -- the kept write of a commit number that is named is in scope
-commit_there : (a : Replica) (items : List Item) (c : PartCandidateView) (p : Progress) (q : ℕ) (id : Id) → IsReplica p.replica → ShowsInside a items c p → Has (C q id) items → p.replica.dropped < q → q ≤ length p.replica.commits
+commit_there : (a : Replica) (items : List Item) (inside : Write → Bool) (c : PartCandidateView) (p : Progress) (q : ℕ) (id : Id) → IsReplica p.replica → Covers a items inside → ShowsPicked a inside c p → Has (C q id) items → p.replica.dropped < q → q ≤ length p.replica.commits
     → numbered_in c.kept q ≡ slice_get (kept_in_order p.replica) (q - 1 - p.replica.dropped)
-commit_there a items c p q id sound shows h low high =
+commit_there a items inside c p q id sound covers shows h low high =
     let at = commit_at p.replica q sound low high in
     ap (λ xs. numbered_in xs q) shows.kept ∙ ap (option_map (λ (x : LoggedWrite). x.write)) (found at.0 at.1 at.2) ∙ sym at.1
   where
     r : Replica
     r = p.replica
-
-    inside : Write → Bool
-    inside = is_inside a items
 
     one : (1 + (q - 1)) ≡ q
     one = omega (arith, low)
@@ -101,7 +98,7 @@ commit_there a items c p q id sound shows h low high =
     number w e = seq_at 1 r.commits (id_of w) (q - 1) (distinct_commits r sound) e ∙ one
 
     within : (w : Write) → seq_of r w ≡ q → (seq_of r w ≡ seq_of a w) ⊎ (inside w ≡ true) → inside w ≡ true
-    within w e (inl same) = inside_numbered a items q id w h (omega (arith, low)) (sym same ∙ e)
+    within w e (inl same) = covers w (inside_numbered a items q id w h (omega (arith, low)) (sym same ∙ e))
     within w e (inr there) = there
 
     found : (w : Write) → slice_get (kept_in_order r) (q - 1 - r.dropped) ≡ Some w → slice_get r.commits (q - 1) ≡ Some (id_of w) → find (λ (x : LoggedWrite). x.seq == q) (map (logged_of r) (filter inside (kept_in_order r))) ≡ Some (logged_of r w)
@@ -133,9 +130,9 @@ there_alone line tally s x y q id f = go (nat_le q s.dropped) refl (nat_le q s.c
         let high : q ≤ s.commits = grind (arith, nat_tests) in
         ap (there_verdict line id) (f low high)
 
-pub commit_judged : (line : ℕ) (a : Replica) (items : List Item) (c : PartCandidateView) (q : ℕ) (id : Id) (p : Progress) (v : Result Bool Refusal) → IsReplica p.replica → id.server < 100 → Has (C q id) items → ShowsInside a items c p → v ≡ logged_commit_verdict line c.summary c.kept q id → JudgedCommit line p q id v
-commit_judged line a items c q id p v sound small h shows e =
+pub commit_judged : (line : ℕ) (a : Replica) (items : List Item) (inside : Write → Bool) (c : PartCandidateView) (q : ℕ) (id : Id) (p : Progress) (v : Result Bool Refusal) → IsReplica p.replica → id.server < 100 → Has (C q id) items → Covers a items inside → ShowsPicked a inside c p → v ≡ logged_commit_verdict line c.summary c.kept q id → JudgedCommit line p q id v
+commit_judged line a items inside c q id p v sound small h covers shows e =
     let s = summary_of p.replica in
     let same = e ∙ (λ t. commit_verdict_with line (tally_at (shows.summary t).tallies id.server) (shows.summary t) (numbered_in c.kept q) q id)
-    ∙ there_alone line (tally_at s.tallies id.server) s (numbered_in c.kept q) (slice_get (kept_in_order p.replica) (q - 1 - p.replica.dropped)) q id (commit_there a items c p q id sound shows h) in
+    ∙ there_alone line (tally_at s.tallies id.server) s (numbered_in c.kept q) (slice_get (kept_in_order p.replica) (q - 1 - p.replica.dropped)) q id (commit_there a items inside c p q id sound covers shows h) in
     subst (JudgedCommit line p q id) (sym same) (judged_commit line p q id sound small)

@@ -1,4 +1,4 @@
--- A part's candidate that takes a write or a commit shows the replica that takes it.
+-- A candidate that takes a write or a commit shows the replica that takes it.
 use Rattle.std.proofs.Common.{◌≡◌, ℕ, zero, suc, min, ◌+◌, ◌<◌, ◌≤◌, ◌==◌, ◌&&◌, Bool, true, false, cond, List, [], ◌∷◌, ◌++◌, length, map, take, drop, get_or, ap, refl, sym, ◌∙◌, subst, append_assoc, ◌⊎◌, inl, inr, arith}
 use Rattle.std.specs.List.{filter, remove, filter_map, cons_option, AllByRecursion}
 use Rattle.std.proofs.lemmas.Bool.{cond-true, cond-false, true≢false}
@@ -27,7 +27,7 @@ use Rattle.mr_tables.proofs.Summaries.{summary-write, summary-commit}
 use Rattle.mr_replica.specs.declared.scope_logs.LoggedWrite.{LoggedWrite}
 use Rattle.mr_replica.specs.Candidate.{rooms_with}
 use Rattle.mr_replica.specs.PartCandidate as part
-use Rattle.mr_replica.specs.PartCandidate.{PartCandidateView, ShowsInside, is_inside, logged_with, tentative_place, open_place, commits_len, put_at}
+use Rattle.mr_replica.specs.PartCandidate.{PartCandidateView, ShowsPicked, Covers, logged_with, tentative_place, open_place, commits_len, put_at}
 use Rattle.mr_replica.specs.PickedLogs.{logged_of}
 use Rattle.mr_replica.proofs.JudgingPart.{inside_named}
 use Rattle.mr_replica.proofs.Learning.{rooms-learned}
@@ -152,8 +152,8 @@ length-put n x xs =
 
 -- ---- a write
 
-pub shows-learned : (a : Replica) (items : List Item) (c : PartCandidateView) (p : Progress) (w : Write) → IsReplica p.replica → w.stamp.server < 100 → IsNext p.replica w → Has (W w) items → ShowsInside a items c p → ShowsInside a items (part.with_new_write c w) (with_new_write p w)
-shows-learned a items c p w sound small next named shows =
+pub shows-learned : (a : Replica) (items : List Item) (inside : Write → Bool) (c : PartCandidateView) (p : Progress) (w : Write) → IsReplica p.replica → w.stamp.server < 100 → IsNext p.replica w → Has (W w) items → Covers a items inside → ShowsPicked a inside c p → ShowsPicked a inside (part.with_new_write c w) (with_new_write p w)
+shows-learned a items inside c p w sound small next named covers shows =
     let counted = length-put (tentative_place c.kept w) (opened w) c.kept in
     let was = shows.writes in
     record {
@@ -162,7 +162,7 @@ shows-learned a items c p w sound small next named shows =
       kept = (λ t. put_at (tentative_place (parts t) w) (opened w) (parts t))
           ∙ ap (λ n. put_at n (opened w) (front ++ map opened rest)) (place_behind front (map opened rest) w (all_committed r inside sound))
           ∙ put_behind front (map opened rest) (tentative_place (map opened rest) w) (opened w)
-          ∙ ap (λ xs. front ++ xs) (put_opened w rest ∙ ap (map opened) (sym (filter-with_write inside w (tentative r) (tentative_sorted r sound) (inside_named a items (W w) w named refl))))
+          ∙ ap (λ xs. front ++ xs) (put_opened w rest ∙ ap (map opened) (sym (filter-with_write inside w (tentative r) (tentative_sorted r sound) (covers w (inside_named a items (W w) w named refl)))))
           ∙ (λ t. map (logged_of r) (filter inside (sym same_commits t)) ++ map opened (filter inside (sym (tentative-add_write r w sound next) t)))
           ∙ sym (kept_parts (add_write r w) inside sound');
       writes = omega (arith, counted, was);
@@ -171,9 +171,6 @@ shows-learned a items c p w sound small next named shows =
   where
     r : Replica
     r = p.replica
-
-    inside : Write → Bool
-    inside = is_inside a items
 
     sound' : IsReplica (add_write r w)
     sound' = keeps-add_write r w sound next.is_write next.number next.late
@@ -224,12 +221,9 @@ committed_other r id sound m w h =
     other_id id (id_of w)
     (λ e. true≢false (sym (has_among (id_of m.moved) r.commits (subst (λ i. Has i r.commits) (sym e ∙ sym m.is_moved) (numbered r sound w h))) ∙ (moved_known r id sound m).1))
 
-module _ (a : Replica) (items : List Item) (c : PartCandidateView) (p : Progress) (q : ℕ) (id : Id) (sound : IsReplica p.replica) (small : id.server < 100) (next : id.n ≡ committed_count p.replica id.server + 1) (high : id.n ≤ count_of p.replica id.server) (named : Has (C q id) items) (shows : ShowsInside a items c p) (m : CommitMoved p.replica id) where
-  abbrev inside : Write → Bool
-  inside = is_inside a items
-
+module _ (a : Replica) (items : List Item) (inside : Write → Bool) (c : PartCandidateView) (p : Progress) (q : ℕ) (id : Id) (sound : IsReplica p.replica) (small : id.server < 100) (next : id.n ≡ committed_count p.replica id.server + 1) (high : id.n ≤ count_of p.replica id.server) (named : Has (C q id) items) (covers : Covers a items inside) (shows : ShowsPicked a inside c p) (m : CommitMoved p.replica id) where
   is_in : inside m.moved ≡ true
-  is_in = inside_named a items (C q id) m.moved named m.is_moved
+  is_in = covers m.moved (inside_named a items (C q id) m.moved named m.is_moved)
 
   abbrev front : List LoggedWrite
   front = map (logged_of p.replica) (filter inside (kept_committed p.replica))
@@ -287,7 +281,7 @@ module _ (a : Replica) (items : List Item) (c : PartCandidateView) (p : Progress
       ∙ append_assoc front (logged_of r' m.moved ∷ []) (map opened (filter inside (m.before ++ m.behind)))
       ∙ ap (λ ws. front ++ logged_of r' m.moved ∷ map opened ws) (filter-append inside m.before m.behind)
 
-  pub shows-moved : (x : LoggedWrite) → x ≡ get_or c.kept (open_place c.kept id) x → ShowsInside a items (part.with_new_commit c id x.write (remove c.kept (open_place c.kept id))) (with_new_commit p id)
+  pub shows-moved : (x : LoggedWrite) → x ≡ get_or c.kept (open_place c.kept id) x → ShowsPicked a inside (part.with_new_commit c id x.write (remove c.kept (open_place c.kept id))) (with_new_commit p id)
   shows-moved x is =
       let r = p.replica in
       let r' = add_commit r id in
@@ -314,6 +308,6 @@ module _ (a : Replica) (items : List Item) (c : PartCandidateView) (p : Progress
       }
     where
       marked : (v : Write) → (b : Bool) → same_id id (id_of v) ≡ b → (seq_of p.replica v ≡ seq_of a v) ⊎ (inside v ≡ true) → (seq_of (add_commit p.replica id) v ≡ seq_of a v) ⊎ (inside v ≡ true)
-      marked v true e old = inr (inside_named a items (C q id) v named (sym (same_id-true id (id_of v) e)))
+      marked v true e old = inr (covers v (inside_named a items (C q id) v named (sym (same_id-true id (id_of v) e))))
       marked v false e (inl old) = inl (seq_other 1 p.replica.commits id (id_of v) e ∙ old)
       marked v false e (inr old) = inr old

@@ -45,3 +45,7 @@ pub mod UndoRows
 pub mod Tails
 pub mod Named
 pub mod TouchedRooms
+pub mod DeskMoves
+pub mod Joining
+pub mod DeskReceives
+pub mod PickedScopes

@@ -1,7 +1,6 @@
 -- Laws of the kept log.
 use Rattle.std.proofs.Common.{◌≡◌, ℕ, zero, suc, ◌+◌, ◌<◌, ◌≤◌, List, [], ◌∷◌, ◌++◌, length, get_or, take, drop, ap, refl, sym, ◌∙◌, subst, append_assoc, append-nil, arith}
-use Rattle.std.proofs.Math.Seq.{drop-append_seam}
-use Rattle.std.proofs.lemmas.List.{length-append, length-drop, take-append-drop}
+use Rattle.std.proofs.lemmas.List.{take-append-drop}
 use Rattle.mr_model.specs.Writes.{Write}
 use Rattle.mr_replay.specs.Places.{UndoRow}
 use Rattle.mr_replay.specs.Rows.{Rows, executed, undo_row_of, undone, executed_all, undo_rows_of, undone_all}
@@ -9,7 +8,7 @@ use Rattle.mr_replay.specs.Holds.{HaveDistinctIds, AreNew}
 use Rattle.mr_replay.proofs.Redoing.{undone-executed}
 use Rattle.mr_replay.proofs.Holding.{AreNew-rest, Holds-empty, Holds-executed_all, AreNew-distinct}
 use Rattle.mr_replay.proofs.Lists.{distinct_front}
-use Rattle.mr_replica.specs.Log.{KeptLog, errors_in, old_error_at, log_of, pushed, board_at, replaced, without_front}
+use Rattle.mr_replica.specs.Log.{errors_in, old_error_at, log_of, pushed, board_at, without_front}
 
 pub executed_all-append : (b : Rows) (vs ws : List Write) → executed_all b (vs ++ ws) ≡ executed_all (executed_all b vs) ws
 executed_all-append b [] ws = refl
@@ -66,29 +65,6 @@ board-at dropped kept place distinct =
     let new : AreNew before rest = subst (λ c. AreNew c rest) (executed_all-append [] dropped front) (AreNew-distinct (dropped ++ front) rest (executed_all [] (dropped ++ front)) distinct' holds) in
     let all : executed_all b kept ≡ executed_all before rest = ap (executed_all b) (sym (take-append-drop place kept)) ∙ executed_all-append b front rest in
     (λ t. undone_all (all t) (drop-undo_rows_of b kept place t)) ∙ undone_all-executed_all before rest new
-
--- a list that differs from a place on is as if it had been executed from the start
-pub log-replaced : (dropped kept other : List Write) (place : ℕ) → HaveDistinctIds (dropped ++ kept) → take place other ≡ take place kept → replaced (log_of dropped kept) place other ≡ log_of dropped other
-log-replaced dropped kept other place distinct same =
-    let b = executed_all [] dropped in
-    let tail = drop place other in
-    let whole : take place kept ++ tail ≡ other = ap (λ ws. ws ++ tail) (sym same) ∙ take-append-drop place other in
-    let at = board-at dropped kept place distinct in
-    λ t. record {
-      kept = other;
-      undo = ((λ i. take-undo_rows_of b kept place i ++ undo_rows_of (at i) tail) ∙ sym (undo_rows_of-append b (take place kept) tail) ∙ ap (undo_rows_of b) whole) t;
-      board = (ap (λ c. executed_all c tail) at ∙ sym (executed_all-append b (take place kept) tail) ∙ ap (executed_all b) whole) t;
-    }
-
--- its undo rows from that place on are those of the writes that are executed there
-pub replaced-rows : (l : KeptLog) (place : ℕ) (kept : List Write) → place ≤ length kept → length (replaced l place kept).undo ≡ length kept → drop place (replaced l place kept).undo ≡ undo_rows_of (board_at l place) (drop place kept)
-replaced-rows l place kept inside all =
-    let front = take place l.undo in
-    let rows = undo_rows_of (board_at l place) (drop place kept) in
-    let parts = length-append front rows in
-    let behind = length-undo_rows_of (board_at l place) (drop place kept) ∙ length-drop place kept in
-    let size : length front ≡ place = omega arith in
-    ap (λ n. drop n (front ++ rows)) (sym size) ∙ drop-append_seam front rows
 
 -- what is dropped of the kept writes comes behind those that were dropped before
 pub log-without_front : (dropped kept : List Write) (n : ℕ) → without_front (log_of dropped kept) n ≡ log_of (dropped ++ take n kept) (drop n kept)

@@ -12,7 +12,7 @@ use Rattle.mr_model.specs.Exchange.{Item, W, C}
 use Rattle.mr_model.specs.Kept.{dropped_in_order, kept_in_order}
 use Rattle.mr_model.specs.Replica.{Replica, IsReplica, is_among, committed, tentative, order_of}
 use Rattle.mr_model.specs.RowsInScope.{kept_commits}
-use Rattle.mr_model.specs.Scopes.{OfItems, item_id, log_row_id, is_named, is_late, is_in_tail, is_touched, rooms_of_item, touched_rooms}
+use Rattle.mr_model.specs.Scopes.{item_id, log_row_id, is_named, is_late, is_in_tail, is_touched, rooms_of_item, touched_rooms}
 use Rattle.mr_model.specs.Moving.{may_move, again}
 use Rattle.mr_model.specs.Tables.{LogRow, seq_of, log_row, tables_of}
 use Rattle.mr_model.specs.Dropped.{Has}
@@ -27,7 +27,7 @@ use Rattle.mr_model.proofs.RowsOfKnown.{rows_of_known}
 use Rattle.mr_model.proofs.TwinTables.{bool_same}
 use Rattle.mr_replica.specs.Moves.{rooms_named, AreTouched, moves_in, is_anew, ShowsMoves}
 use Rattle.mr_replica.specs.PickedBookings.{AreSameRooms}
-use Rattle.mr_replica.specs.Parts.{kept_in}
+use Rattle.mr_replica.specs.PartCandidate.{Covers, is_inside}
 use Rattle.mr_replica.specs.PickedLogs.{logged_of}
 use Rattle.mr_replica.specs.declared.scope_logs.LoggedWrite.{LoggedWrite}
 use Rattle.mr_replica.proofs.DeskRows.{dropped_long, order_numbers, slice_left, slice_bound}
@@ -72,31 +72,31 @@ same_any room xs ys f g =
     (λ e. let (t, h, k) = has_any (bytes_eq room) ys e in any_has (bytes_eq room) t xs k (g t h))
 
 -- the kept writes in scope name the rooms that all rows of write_log do
-module _ (a : Replica) (items : List Item) (sound : IsReplica a) where
-  here : (t : Text) (x : Item) → Has x items → Has t (rooms_named (length a.commits) (kept_in (OfItems items) a) x) → Has t (rooms_of_item (length a.commits) (tables_of a).write_log x)
+module _ (a : Replica) (items : List Item) (inside : Write → Bool) (sound : IsReplica a) (covers : Covers a items inside) where
+  here : (t : Text) (x : Item) → Has x items → Has t (rooms_named (length a.commits) (filter inside (kept_in_order a)) x) → Has t (rooms_of_item (length a.commits) (tables_of a).write_log x)
   here t (W w) g h = h
   here t (C seq id) g h = go (ltb (length a.commits) seq) h
     where
       ws : List Write
-      ws = kept_in (OfItems items) a
+      ws = filter inside (kept_in_order a)
 
       go : (b : Bool) → Has t (cond b (map (λ w. w.room) (filter (λ w. same_id (id_of w) id) ws)) []) → Has t (cond b (map (λ r. r.room) (filter (λ r. same_id (log_row_id r) id) (tables_of a).write_log)) [])
       go false k = k
       go true k =
           let (w, m, e) = map_has (λ (v : Write). v.room) t (filter (λ v. same_id (id_of v) id) ws) k in
           let f = filter_has (λ (v : Write). same_id (id_of v) id) w ws m in
-          let inside = filter_has (λ v. is_named items (log_row a v) || (is_in_tail (length a.commits) items (log_row a v) && is_touched (tables_of a) items v.room)) w (kept_in_order a) f.0 in
-          let known = kept_known a w sound inside.0 in
+          let there = filter_has inside w (kept_in_order a) f.0 in
+          let known = kept_known a w sound there.0 in
           let row = ((rows_of_known a sound).write_log (log_row a w)).1 (w, known.0, known.1, refl) in
           subst (λ u. Has u (map (λ (r : LogRow). r.room) (filter (λ r. same_id (log_row_id r) id) (tables_of a).write_log))) (sym e)
           (has_map (λ (r : LogRow). r.room) (log_row a w) (filter (λ r. same_id (log_row_id r) id) (tables_of a).write_log) (has_filter (λ (r : LogRow). same_id (log_row_id r) id) (log_row a w) (tables_of a).write_log f.1 row))
 
-  back : (t : Text) (x : Item) → Has x items → Has t (rooms_of_item (length a.commits) (tables_of a).write_log x) → Has t (rooms_named (length a.commits) (kept_in (OfItems items) a) x)
+  back : (t : Text) (x : Item) → Has x items → Has t (rooms_of_item (length a.commits) (tables_of a).write_log x) → Has t (rooms_named (length a.commits) (filter inside (kept_in_order a)) x)
   back t (W w) g h = h
   back t (C seq id) g h = go (ltb (length a.commits) seq) h
     where
       ws : List Write
-      ws = kept_in (OfItems items) a
+      ws = filter inside (kept_in_order a)
 
       go : (b : Bool) → Has t (cond b (map (λ r. r.room) (filter (λ r. same_id (log_row_id r) id) (tables_of a).write_log)) []) → Has t (cond b (map (λ w. w.room) (filter (λ w. same_id (id_of w) id) ws)) [])
       go false k = k
@@ -106,17 +106,16 @@ module _ (a : Replica) (items : List Item) (sound : IsReplica a) where
           let (w, known, kept, is) = ((rows_of_known a sound).write_log r).0 f.0 in
           let own : same_id (id_of w) id ≡ true = ap (λ (v : LogRow). same_id (log_row_id v) id) (sym is) ∙ f.1 in
           let named : is_among (id_of w) (map item_id items) ≡ true = has_among (id_of w) (map item_id items) (subst (λ i. Has i (map item_id items)) (sym (same_id-true (id_of w) id own)) (has_map item_id (C seq id) items g)) in
-          let inside = λ (v : Write). is_named items (log_row a v) || (is_in_tail (length a.commits) items (log_row a v) && is_touched (tables_of a) items v.room) in
-          let there : Has w ws = has_filter inside w (kept_in_order a) (or_left _ _ (or_left _ _ named)) (known_kept a w sound known kept) in
+          let there : Has w ws = has_filter inside w (kept_in_order a) (covers w (or_left _ _ (or_left _ _ named))) (known_kept a w sound known kept) in
           subst (λ u. Has u (map (λ (v : Write). v.room) (filter (λ v. same_id (id_of v) id) ws))) (sym (e ∙ ap (λ (v : LogRow). v.room) is))
           (has_map (λ (v : Write). v.room) w (filter (λ v. same_id (id_of v) id) ws) (has_filter (λ (v : Write). same_id (id_of v) id) w ws own there))
 
-  pub touched_told : (rooms : List Text) → AreSameRooms rooms (flat_map (rooms_named (length a.commits) (kept_in (OfItems items) a)) items) → AreTouched rooms a items
+  pub touched_told : (rooms : List Text) → AreSameRooms rooms (flat_map (rooms_named (length a.commits) (filter inside (kept_in_order a))) items) → AreTouched rooms a items
   touched_told rooms same room =
       same room
-      ∙ same_any room (flat_map (rooms_named (length a.commits) (kept_in (OfItems items) a)) items) (touched_rooms (tables_of a) items)
-      (λ t h. let (x, g, k) = flat_has (rooms_named (length a.commits) (kept_in (OfItems items) a)) t items h in has_flat (rooms_of_item (length a.commits) (tables_of a).write_log) t x items g (here t x g k))
-      (λ t h. let (x, g, k) = flat_has (rooms_of_item (length a.commits) (tables_of a).write_log) t items h in has_flat (rooms_named (length a.commits) (kept_in (OfItems items) a)) t x items g (back t x g k))
+      ∙ same_any room (flat_map (rooms_named (length a.commits) (filter inside (kept_in_order a))) items) (touched_rooms (tables_of a) items)
+      (λ t h. let (x, g, k) = flat_has (rooms_named (length a.commits) (filter inside (kept_in_order a))) t items h in has_flat (rooms_of_item (length a.commits) (tables_of a).write_log) t x items g (here t x g k))
+      (λ t h. let (x, g, k) = flat_has (rooms_of_item (length a.commits) (tables_of a).write_log) t items h in has_flat (rooms_named (length a.commits) (filter inside (kept_in_order a))) t x items g (back t x g k))
 
 -- ---- those in scope
 
@@ -133,11 +132,11 @@ filter_inside q p inside (x ∷ xs) same all = go (inside x) refl (p x) refl (fi
 filter_apart : {A : Type 0} (q inside : A → Bool) (xs ys : List A) → filter q (filter inside (xs ++ ys)) ≡ filter q (filter inside xs) ++ filter q (filter inside ys)
 filter_apart q inside xs ys = ap (filter q) (filter-append inside xs ys) ∙ filter-append q (filter inside xs) (filter inside ys)
 
-none_passes : {A : Type 0} (xs : List A) → filter (λ x. false) xs ≡ []
+pub none_passes : {A : Type 0} (xs : List A) → filter (λ x. false) xs ≡ []
 none_passes [] = refl
 none_passes (x ∷ xs) = none_passes xs
 
-all_pass : {A : Type 0} (xs : List A) → filter (λ x. true) xs ≡ xs
+pub all_pass : {A : Type 0} (xs : List A) → filter (λ x. true) xs ≡ xs
 all_pass [] = refl
 all_pass (x ∷ xs) = ap (λ ys. x ∷ ys) (all_pass xs)
 
@@ -168,36 +167,37 @@ tentative_number r w h = seq_not 1 r.commits (id_of w) (λ g. true≢false (sym 
 
 -- ---- what is undone and what is executed anew
 
-abbrev inside_of : Replica → List Item → Write → Bool
-inside_of a items w = is_named items (log_row a w) || (is_in_tail (length a.commits) items (log_row a w) && is_touched (tables_of a) items w.room)
-
-moving_inside : (a : Replica) (items : List Item) (w : Write) → seq_of a w ≡ 0 → may_move a items w ≡ true → inside_of a items w ≡ true
+moving_inside : (a : Replica) (items : List Item) (w : Write) → seq_of a w ≡ 0 → may_move a items w ≡ true → is_inside a items w ≡ true
 moving_inside a items w open_ e =
     let p = and_parts (is_touched (tables_of a) items w.room) (is_late (length a.commits) items w.stamp.time w.stamp.server) e in
     let tail : is_in_tail (length a.commits) items (log_row a w) ≡ true = and_from (seq_of a w == 0) (is_late (length a.commits) items w.stamp.time w.stamp.server) (eq-eqb (seq_of a w) 0 open_) p.1 in
     or_right (is_named items (log_row a w)) (is_in_tail (length a.commits) items (log_row a w) && is_touched (tables_of a) items w.room)
     (and_from (is_in_tail (length a.commits) items (log_row a w)) (is_touched (tables_of a) items w.room) tail p.0)
 
-pub undone_picked : (a : Replica) (items : List Item) (touched : List Text) → IsReplica a → AreTouched touched a items → filter (λ w. seq_of a w == 0 && moves_in touched items (length a.commits) w) (kept_in (OfItems items) a) ≡ filter (may_move a items) (tentative a)
-undone_picked a items touched sound right =
-    filter_apart (λ w. seq_of a w == 0 && moves_in touched items (length a.commits) w) (inside_of a items) (kept_commits a) (tentative a)
+-- a kept commit isn't moved
+pub moves_not : (a : Replica) (items : List Item) (touched : List Text) → IsReplica a → (w : Write) → Has w (kept_commits a) → (seq_of a w == 0 && moves_in touched items (length a.commits) w) ≡ false
+moves_not a items touched sound w h =
+    let there = subst (λ ws. Has w ws) (sym (committed-parts a)) (has_right w (dropped_in_order a) (kept_commits a) h) in
+    let low = (first_number a (committed a) [] w sound (sym (append-nil (committed a))) there).0 in
+    let no : (seq_of a w == 0) ≡ false = false_from_ne_true (seq_of a w == 0) (λ t. let z = eqb-true (seq_of a w) 0 t in omega (arith, z, low)) in
+    λ i. no i && moves_in touched items (length a.commits) w
+
+-- a tentative write is moved where it may move
+pub moves_as : (a : Replica) (items : List Item) (touched : List Text) → AreTouched touched a items → (w : Write) → Has w (tentative a) → (seq_of a w == 0 && moves_in touched items (length a.commits) w) ≡ may_move a items w
+moves_as a items touched right w h = let open_ = tentative_number a w h in λ i. eq-eqb (seq_of a w) 0 open_ i && (right w.room i && is_late (length a.commits) items w.stamp.time w.stamp.server)
+
+pub undone_picked : (a : Replica) (items : List Item) (inside : Write → Bool) (touched : List Text) → IsReplica a → Covers a items inside → AreTouched touched a items → filter (λ w. seq_of a w == 0 && moves_in touched items (length a.commits) w) (filter inside (kept_in_order a)) ≡ filter (may_move a items) (tentative a)
+undone_picked a items inside touched sound covers right =
+    filter_apart (λ w. seq_of a w == 0 && moves_in touched items (length a.commits) w) inside (kept_commits a) (tentative a)
     ∙ (λ i. none i ++ some i)
   where
-    closed : (w : Write) → Has w (kept_commits a) → (seq_of a w == 0 && moves_in touched items (length a.commits) w) ≡ false
-    closed w h =
-        let there = subst (λ ws. Has w ws) (sym (committed-parts a)) (has_right w (dropped_in_order a) (kept_commits a) h) in
-        let low = (first_number a (committed a) [] w sound (sym (append-nil (committed a))) there).0 in
-        let no : (seq_of a w == 0) ≡ false = false_from_ne_true (seq_of a w == 0) (λ t. let z = eqb-true (seq_of a w) 0 t in omega (arith, z, low)) in
-        λ i. no i && moves_in touched items (length a.commits) w
+    none : filter (λ w. seq_of a w == 0 && moves_in touched items (length a.commits) w) (filter inside (kept_commits a)) ≡ []
+    none = filter_inside (λ w. seq_of a w == 0 && moves_in touched items (length a.commits) w) (λ w. false) inside (kept_commits a) (moves_not a items touched sound) (λ w h e. absurd (true≢false (sym e))) ∙ none_passes (kept_commits a)
 
-    none : filter (λ w. seq_of a w == 0 && moves_in touched items (length a.commits) w) (filter (inside_of a items) (kept_commits a)) ≡ []
-    none = filter_inside (λ w. seq_of a w == 0 && moves_in touched items (length a.commits) w) (λ w. false) (inside_of a items) (kept_commits a) closed (λ w h e. absurd (true≢false (sym e))) ∙ none_passes (kept_commits a)
-
-    some : filter (λ w. seq_of a w == 0 && moves_in touched items (length a.commits) w) (filter (inside_of a items) (tentative a)) ≡ filter (may_move a items) (tentative a)
+    some : filter (λ w. seq_of a w == 0 && moves_in touched items (length a.commits) w) (filter inside (tentative a)) ≡ filter (may_move a items) (tentative a)
     some =
-        filter_inside (λ w. seq_of a w == 0 && moves_in touched items (length a.commits) w) (may_move a items) (inside_of a items) (tentative a)
-        (λ w h. let open_ = tentative_number a w h in λ i. eq-eqb (seq_of a w) 0 open_ i && (right w.room i && is_late (length a.commits) items w.stamp.time w.stamp.server))
-        (λ w h e. moving_inside a items w (tentative_number a w h) e)
+        filter_inside (λ w. seq_of a w == 0 && moves_in touched items (length a.commits) w) (may_move a items) inside (tentative a) (moves_as a items touched right)
+        (λ w h e. covers w (moving_inside a items w (tentative_number a w h) e))
 
 abbrev anew : Replica → Replica → List Item → List Text → Write → Bool
 anew a b items touched w = is_anew touched items (length a.commits) (logged_of b w)
@@ -205,13 +205,13 @@ anew a b items touched w = is_anew touched items (length a.commits) (logged_of b
 not_above : (n k : ℕ) → k ≤ n → ltb n k ≡ false
 not_above n k l = false_from_ne_true (ltb n k) (λ t. let g = ltb-true n k t in omega (arith, g, l))
 
-pub again_picked : (a b : Replica) (items : List Item) (touched : List Text) (commits : ℕ) (kept : List LoggedWrite) (m : ShowsMoves a b items touched commits kept) → map (λ x. x.write) (filter (is_anew touched items commits) kept) ≡ again a items m.moves.news b
-again_picked a b items touched commits kept m =
+pub again_picked : (a b : Replica) (items : List Item) (inside : Write → Bool) (touched : List Text) (commits : ℕ) (kept : List LoggedWrite) (m : ShowsMoves a b items inside touched commits kept) → map (λ x. x.write) (filter (is_anew touched items commits) kept) ≡ again a items m.moves.news b
+again_picked a b items inside touched commits kept m =
     (λ i. map (λ (x : LoggedWrite). x.write) (filter (is_anew touched items (m.commits_are i)) (m.kept_are i)))
-    ∙ filter_logged (is_anew touched items (length a.commits)) b (filter (inside_of a items) (kept_in_order b))
-    ∙ ap (λ ws. filter (anew a b items touched) (filter (inside_of a items) (ws ++ tentative b))) kept_is
-    ∙ filter_apart (anew a b items touched) (inside_of a items) (kept_commits a ++ m.moves.news) (tentative b)
-    ∙ ap (λ ws. ws ++ filter (anew a b items touched) (filter (inside_of a items) (tentative b))) (filter_apart (anew a b items touched) (inside_of a items) (kept_commits a) m.moves.news)
+    ∙ filter_logged (is_anew touched items (length a.commits)) b (filter inside (kept_in_order b))
+    ∙ ap (λ ws. filter (anew a b items touched) (filter inside (ws ++ tentative b))) kept_is
+    ∙ filter_apart (anew a b items touched) inside (kept_commits a ++ m.moves.news) (tentative b)
+    ∙ ap (λ ws. ws ++ filter (anew a b items touched) (filter inside (tentative b))) (filter_apart (anew a b items touched) inside (kept_commits a) m.moves.news)
     ∙ (λ i. (none i ++ all i) ++ some i)
   where
     long : length (committed a) ≡ length a.commits
@@ -232,8 +232,8 @@ again_picked a b items touched commits kept m =
         let closed : (seq_of b w == 0) ≡ false = false_from_ne_true (seq_of b w == 0) (λ t. let z = eqb-true (seq_of b w) 0 t in omega (arith, z, low)) in
         λ i. no i || (closed i && moves_in touched items (length a.commits) w)
 
-    none : filter (anew a b items touched) (filter (inside_of a items) (kept_commits a)) ≡ []
-    none = filter_inside (anew a b items touched) (λ w. false) (inside_of a items) (kept_commits a) old (λ w h e. absurd (true≢false (sym e))) ∙ none_passes (kept_commits a)
+    none : filter (anew a b items touched) (filter inside (kept_commits a)) ≡ []
+    none = filter_inside (anew a b items touched) (λ w. false) inside (kept_commits a) old (λ w h e. absurd (true≢false (sym e))) ∙ none_passes (kept_commits a)
 
     number : (w : Write) → Has w m.moves.news → length a.commits < seq_of b w
     number w h =
@@ -244,10 +244,10 @@ again_picked a b items touched commits kept m =
         let seq : seq_of b w ≡ length a.commits + 1 + i = new_number a b items m.moves m.sound i w low e ∙ cond-true (leb (length a.commits + 1 + i) (length b.commits)) (length a.commits + 1 + i) 0 (le-leb (length a.commits + 1 + i) (length b.commits) within) in
         omega (arith, seq)
 
-    inside : (w : Write) → Has w m.moves.news → inside_of a items w ≡ true
-    inside w h = go (m.marks w)
+    shown : (w : Write) → Has w m.moves.news → inside w ≡ true
+    shown w h = go (m.marks w)
       where
-        go : (seq_of b w ≡ seq_of a w) ⊎ (inside_of a items w ≡ true) → inside_of a items w ≡ true
+        go : (seq_of b w ≡ seq_of a w) ⊎ (inside w ≡ true) → inside w ≡ true
         go (inr h) = h
         go (inl same) =
             let d : Distinct (a.commits ++ map id_of m.moves.news) = subst Distinct m.moves.commits_are (distinct_commits b m.moves.sound) in
@@ -255,11 +255,11 @@ again_picked a b items touched commits kept m =
             let above = number w h in
             absurd (omega (arith, same, zero_, above))
 
-    all : filter (anew a b items touched) (filter (inside_of a items) m.moves.news) ≡ m.moves.news
+    all : filter (anew a b items touched) (filter inside m.moves.news) ≡ m.moves.news
     all =
-        filter_inside (anew a b items touched) (λ w. true) (inside_of a items) m.moves.news
+        filter_inside (anew a b items touched) (λ w. true) inside m.moves.news
         (λ w h. or_left (ltb (length a.commits) (seq_of b w)) (seq_of b w == 0 && moves_in touched items (length a.commits) w) (lt-ltb (length a.commits) (seq_of b w) (number w h)))
-        (λ w h e. inside w h)
+        (λ w h e. shown w h)
         ∙ all_pass m.moves.news
 
     uncommitted : (w : Write) → Has w (tentative b) → seq_of a w ≡ 0
@@ -274,5 +274,5 @@ again_picked a b items touched commits kept m =
         let open_too = eq-eqb (seq_of b w) 0 open_ in
         λ i. no i || (open_too i && (m.are_touched w.room i && is_late (length a.commits) items w.stamp.time w.stamp.server))
 
-    some : filter (anew a b items touched) (filter (inside_of a items) (tentative b)) ≡ filter (may_move a items) (tentative b)
-    some = filter_inside (anew a b items touched) (may_move a items) (inside_of a items) (tentative b) same_test (λ w h e. moving_inside a items w (uncommitted w h) e)
+    some : filter (anew a b items touched) (filter inside (tentative b)) ≡ filter (may_move a items) (tentative b)
+    some = filter_inside (anew a b items touched) (may_move a items) inside (tentative b) same_test (λ w h e. m.covers w (moving_inside a items w (uncommitted w h) e))

@@ -24,7 +24,7 @@ use Rattle.mr_model.proofs.RoomPlaces.{kept_committed}
 use Rattle.mr_model.proofs.RowsById.{seq_not}
 use Rattle.mr_model.proofs.RowsTell.{order_known}
 use Rattle.mr_replay.specs.Places.{UndoRow}
-use Rattle.mr_replay.specs.Rows.{undone_all, undo_rows_of}
+use Rattle.mr_replay.specs.Rows.{Rows, undone_all, undo_rows_of}
 use Rattle.mr_replay.specs.Holds.{HaveDistinctIds}
 use Rattle.mr_replay.specs.Bookings.{HasBookings}
 use Rattle.mr_replay.proofs.Lists.{distinct-part}
@@ -47,7 +47,7 @@ use Rattle.mr_replica.proofs.RoomBoards.{bookings_undone, places_executed, Stand
 use Rattle.mr_replica.proofs.PartBoards.{board_in, board_in_ordered, has_bookings}
 
 -- the tentative writes that may move
-abbrev moving : Replica → List Item → Replica → List Write
+abbrev pub moving : Replica → List Item → Replica → List Write
 moving a items r = filter (may_move a items) (tentative r)
 
 -- ---- numbers
@@ -85,7 +85,7 @@ module _ (a b : Replica) (items : List Item) (m : BatchMoves a b items) (sound :
           no_number i w (omega (arith, high)) (filter_has (may_move a items) w (tentative b) (slice_has (moving a items b) (i - length m.news) w there)).0
 
   -- there are no more of them than there can be commits
-  again_few : length a.commits + 1 + length (again a items m.news b) < 18446744073709551616
+  pub again_few : length a.commits + 1 + length (again a items m.news b) < 18446744073709551616
   again_few =
       let few = few_kept b m.sound in
       let long = kept_committed_long b m.sound in
@@ -98,7 +98,7 @@ module _ (a b : Replica) (items : List Item) (m : BatchMoves a b items) (sound :
   -- ---- places
 
   -- none of those that are undone stands before them in its room, or in another one
-  apart : (room : Text) (w : Write) → Has w (moving a items a) → is_among (id_of w) (map id_of (m.rooms room).front) ≡ false
+  pub apart : (room : Text) (w : Write) → Has w (moving a items a) → is_among (id_of w) (map id_of (m.rooms room).front) ≡ false
   apart room w h = not_among (id_of w) (map id_of (m.rooms room).front) (λ g. clash (map_has id_of (id_of w) (m.rooms room).front g))
     where
       ids : HaveDistinctIds ((m.rooms room).front ++ of_room room (moving a items a))
@@ -116,7 +116,7 @@ module _ (a b : Replica) (items : List Item) (m : BatchMoves a b items) (sound :
           let same : w ≡ v = one_known a w v sound known (order_known a v sound f.0) s in
           twice (m.rooms room).front (of_room room (moving a items a)) v ids g (has_filter (λ (u : Write). bytes_eq u.room room) v (moving a items a) f.1 (subst (λ u. Has u (moving a items a)) same h))
 
-  last : StandLast b (is_touched (tables_of a) items) (λ room. (m.rooms room).front) (again a items m.news b)
+  pub last : StandLast b (is_touched (tables_of a) items) (λ room. (m.rooms room).front) (again a items m.news b)
   last =
       record {
         sound = m.sound;
@@ -142,19 +142,17 @@ module _ (a b : Replica) (items : List Item) (m : BatchMoves a b items) (sound :
       ap (λ n. take n b.commits) (sym m.dropped) ∙ ap (take a.dropped) m.commits_are ∙ take-front a.dropped a.commits (map id_of m.news) sound.dropped_committed in
       record { sound = m.sound; number = m.dropped; gone = sym front; known = m.stays; rooms = rooms }
 
-  pub again_turns : (us : List UndoRow) → map (λ u. u.id) us ≡ map id_of (moving a items a) → ((t : Text) → Has t a.rooms → Has t b.rooms)
-      → changed (written (tables_of b).meta (rooms_beside a.rooms b.rooms) (vector_between a b) (length b.commits) (length a.commits + 1) (again a items m.news b)
-      (undo_rows_of (undone_all (board_in (is_touched (tables_of a) items) a) us) (again a items m.news b))) (tables_of a) ≡ tables_of b
-  again_turns us named rooms =
+  -- executed on a board where they get their places, they turn the tables
+  pub again_turns : (board : Rows) → map (λ u. u.place) (undo_rows_of board (again a items m.news b)) ≡ map (place_of b) (again a items m.news b) → ((t : Text) → Has t a.rooms → Has t b.rooms)
+      → changed (written (tables_of b).meta (rooms_beside a.rooms b.rooms) (vector_between a b) (length b.commits) (length a.commits + 1) (again a items m.news b) (undo_rows_of board (again a items m.news b))) (tables_of a) ≡ tables_of b
+  again_turns board places rooms =
       let ws = again a items m.news b in
-      let change =
-      written-of b (undone_all (board_in (is_touched (tables_of a) items) a) us) (length a.commits + 1) ws (rooms_beside a.rooms b.rooms) (vector_between a b)
-      (omega arith) again_numbered (again_places us named) in
+      let change = written-of b board (length a.commits + 1) ws (rooms_beside a.rooms b.rooms) (vector_between a b) (omega arith) again_numbered places in
       let moved : Moves a b ws = record { dropped = m.dropped; stays = m.stays; others = m.others; moved = m.moved } in
       ap (λ c. changed c (tables_of a)) change
       ∙ moves a b ws (rooms_beside a.rooms b.rooms) (vector_between a b) sound m.sound moved (rooms_complete a b sound (grows rooms)) (tallies_move a b sound m.sound m.stays)
 
-named_by : (f : Write → UndoRow) (ws : List Write) → ((w : Write) → (f w).id ≡ id_of w) → map (λ u. u.id) (map f ws) ≡ map id_of ws
+pub named_by : (f : Write → UndoRow) (ws : List Write) → ((w : Write) → (f w).id ≡ id_of w) → map (λ u. u.id) (map f ws) ≡ map id_of ws
 named_by f [] e = refl
 named_by f (w ∷ ws) e = let rest = named_by f ws e in λ t. e w t ∷ rest t
 
@@ -173,4 +171,4 @@ part_moved p items a b s rooms us ws change h change_is =
     change_is small
     ∙ (λ i. written (meta_of (h.summary_is i)) (rooms_beside (h.is_part i).rooms (h.rooms_are i)) (changed_tallies (h.is_part i).summary.tallies (h.summary_is i).tallies) (h.summary_is i).commits ((h.is_part i).summary.commits + 1) (h.writes_are i)
     (undo_rows_of (undone_all (h.is_part i).board us) (h.writes_are i))) in
-    ap (λ c. changed c (tables_of a)) put ∙ again_turns a b items h.moves h.sound us named h.keeps_rooms
+    ap (λ c. changed c (tables_of a)) put ∙ again_turns a b items h.moves h.sound (undone_all (board_in (is_touched (tables_of a) items) a) us) (again_places a b items h.moves h.sound us named) h.keeps_rooms

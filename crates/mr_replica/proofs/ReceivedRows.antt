@@ -1,53 +1,39 @@
 -- What a batch changes in the tables.
-use Rattle.std.proofs.Common.{◌≡◌, refl, sym, ap, ◌∙◌, subst, ℕ, ◌+◌, ◌-◌, ◌<◌, ◌^◌, ◌≤◌, not, Bool, true, false, leb, List, [], ◌∷◌, ◌++◌, length, map, take, drop, ◌⊎◌, inl, inr, Result, Ok, Err, arith, append_assoc, le-leb, IsTrue}
+use Rattle.std.proofs.Common.{◌≡◌, refl, sym, ap, ◌∙◌, subst, ℕ, ◌+◌, ◌<◌, not, Bool, true, false, List, [], ◌∷◌, take, ◌⊎◌, inl, inr, Result, Ok, Err, arith, IsTrue}
 use Rattle.std.specs.Prelude.{bytes_eq}
-use Rattle.std.specs.List.{list_all, list_any, slice_get}
-use Rattle.std.proofs.lemmas.Bool.{true≢false, and_parts, cond-true, or_cases}
+use Rattle.std.specs.List.{list_all, list_any}
+use Rattle.std.proofs.lemmas.Bool.{true≢false, and_parts, or_cases}
 use Rattle.std.proofs.lemmas.Bool.Decides.{nat_tests}
-use Rattle.std.proofs.lemmas.List.{length-take-le, map-append, take-append-drop}
 use Rattle.std.proofs.lemmas.Slice.Eq.{bytes_eq-Decides}
 use Rattle.mr_model.specs.Texts.{Text}
-use Rattle.mr_model.specs.Writes.{Id, Write, id_of, is_write}
+use Rattle.mr_model.specs.Writes.{Id, Write, is_write}
 use Rattle.mr_model.specs.Refusals as model
 use Rattle.mr_model.specs.Exchange.{Item, W, C, is_item}
-use Rattle.mr_model.specs.Replica.{Replica, IsReplica, committed, tentative, is_among, is_dropped, text_before}
-use Rattle.mr_model.specs.Kept.{dropped_in_order, kept_in_order}
+use Rattle.mr_model.specs.Replica.{Replica, IsReplica, text_before}
+use Rattle.mr_model.specs.Kept.{kept_in_order}
 use Rattle.mr_model.specs.Dropped.{Has}
 use Rattle.mr_model.specs.Queries.{booking_id, error_id}
-use Rattle.mr_model.specs.Step.{After, after_items}
-use Rattle.mr_model.specs.Tables.{seq_of, tables_of}
 use Rattle.mr_model.specs.Taking.{Progress, take_item, take_items, take_write, take_commit, with_new_write, with_new_commit}
 use Rattle.mr_model.proofs.BatchesReadBack.{ok_inj}
 use Rattle.mr_model.proofs.ChangesKeep.{keeps-add_commit}
 use Rattle.mr_model.proofs.Fronts.{take-front}
-use Rattle.mr_model.proofs.KnownById.{distinct_order}
-use Rattle.mr_model.proofs.LogOrder.{order-parts, kept_known, known_kept}
-use Rattle.mr_model.proofs.Members.{Distinct, distinct_parts, filter_has, has_filter, has_map, has_right, has_split}
+use Rattle.mr_model.proofs.Members.{filter_has, has_filter}
 use Rattle.mr_model.proofs.TwinChanges.{added}
 use Rattle.mr_model.proofs.WithWrite.{has_with_write}
 use Rattle.mr_base.specs.Refusals.{refusal_of}
 use Rattle.mr_base.specs.declared.refusals.Refusal.{Refusal}
-use Rattle.mr_replay.specs.Rows.{undo_rows_of}
-use Rattle.mr_tables.specs.declared.summary.Summary.{Summary}
-use Rattle.mr_replica.specs.Log.{board_at}
 use Rattle.mr_tables.specs.Summary.{summary_of}
-use Rattle.mr_replica.specs.Candidate.{CandidateView, Shows, Takes, KeepsFront, KeepsMarks, write_verdict, commit_verdict}
-use Rattle.mr_replica.specs.Desk.{DeskView, desk_of, nothing_taken, adopted}
-use Rattle.mr_tables.specs.Change.{ChangeView, changed, put_all, log_id, undo_id}
+use Rattle.mr_replica.specs.Candidate.{write_verdict, commit_verdict}
+use Rattle.mr_replica.specs.Desk.{DeskView}
+use Rattle.mr_tables.specs.Change.{changed, put_all, log_id, undo_id}
 use Rattle.mr_replica.specs.DeskTables.{desk_tables}
 use Rattle.mr_tables.specs.Rooms.{rooms_beside}
-use Rattle.mr_tables.specs.Rows.{seq_on}
-use Rattle.mr_tables.specs.Written.{meta_of, changed_tallies, written}
-use Rattle.mr_replica.specs.Turning.{adoption}
+use Rattle.mr_tables.specs.Written.{meta_of, written}
 use Rattle.mr_replica.proofs.Desks.{summary_in}
-use Rattle.mr_replica.proofs.Logs.{board-at}
 use Rattle.mr_replica.proofs.Judging.{JudgedWrite, judged_write, JudgedCommit, judged_commit}
-use Rattle.mr_replica.proofs.Receiving.{err≢ok, items-bring, all_taken}
+use Rattle.mr_replica.proofs.Receiving.{err≢ok}
 use Rattle.mr_replica.proofs.Moving.{rooms_move}
-use Rattle.mr_replica.proofs.DeskRows.{order_distinct, kept_numbers, slice_left, slice_bound}
-use Rattle.mr_replica.proofs.Writing.{board_before}
-use Rattle.mr_replica.proofs.Changing.{has_slice, has_with_room, without_none, vector_between, log_changes}
-use Rattle.mr_replica.proofs.SubmittedRows.{few_kept}
+use Rattle.mr_replica.proofs.Changing.{has_with_room, without_none}
 
 -- nothing is put, and the tables stay
 pub nothing_written : (d : DeskView) → changed (written (meta_of (summary_in d)) [] [] 0 0 [] []) (desk_tables d) ≡ desk_tables d
@@ -118,42 +104,6 @@ items-grow (x ∷ xs) line p q sound good e = go (take_item line p x) refl e (λ
     go (Ok m) t f rest = let one = item-grows line p m x sound parts.0 t in grows-more p.replica m.replica q.replica one (rest m one.sound parts.1 f)
     go (Err r) t f rest = absurd (err≢ok r q f)
 
--- ---- the kept writes from a place on
-
--- where the kept writes before it are the same, and none of them is newly committed, they bear the numbers that they had
-front_numbers : (a b : Replica) (front x y : List Write) (w : Write) → IsReplica a → IsReplica b → a.dropped ≡ b.dropped → kept_in_order a ≡ front ++ x → kept_in_order b ≡ front ++ y → length a.commits ≤ length b.commits → (length b.commits ≡ length a.commits) ⊎ (length front ≤ length a.commits - a.dropped) → Has w front → seq_of a w ≡ seq_of b w
-front_numbers a b front x y w ha hb d ka kb more marks h =
-    let (i, e) = has_slice w front h in
-    let inside = slice_bound front i w e in
-    let in_a = kept_numbers a i w ha (ap (λ ws. slice_get ws i) ka ∙ slice_left front x i inside ∙ e) in
-    let in_b = kept_numbers b i w hb (ap (λ ws. slice_get ws i) kb ∙ slice_left front y i inside ∙ e) in
-    in_a ∙ go i inside marks ∙ sym in_b
-  where
-    committed_at : (n k : ℕ) → k ≤ n → seq_on n k ≡ k
-    committed_at n k l = cond-true (leb k n) k 0 (le-leb k n l)
-
-    go : (i : ℕ) → i < length front → (length b.commits ≡ length a.commits) ⊎ (length front ≤ length a.commits - a.dropped) → seq_on (length a.commits) (a.dropped + 1 + i) ≡ seq_on (length b.commits) (b.dropped + 1 + i)
-    go i l (inl e) = λ t. seq_on (sym e t) (d t + 1 + i)
-    go i l (inr f) =
-        committed_at (length a.commits) (a.dropped + 1 + i) (omega (arith, l, f))
-        ∙ sym (ap (λ n. seq_on (length b.commits) (n + 1 + i)) (sym d) ∙ committed_at (length b.commits) (a.dropped + 1 + i) (omega (arith, l, f, more)))
-
--- a write behind it stays behind it
-tail_stays : (a b : Replica) (front x y : List Write) (w : Write) → IsReplica a → Grows a b → kept_in_order a ≡ front ++ x → kept_in_order b ≡ front ++ y → Has w x → Has w y
-tail_stays a b front x y w ha g ka kb h =
-    let was = kept_known a w ha (subst (λ ws. Has w ws) (sym ka) (has_right w front x h)) in
-    let kept : is_dropped b (id_of w) ≡ false = ap (is_among (id_of w)) (sym g.gone) ∙ was.1 in
-    go (has_split w front y (subst (λ ws. Has w ws) kb (known_kept b w g.sound (g.known w was.0) kept)))
-  where
-    order : map id_of (committed a) ++ map id_of (tentative a) ≡ map id_of (dropped_in_order a ++ front) ++ map id_of x
-    order =
-        sym (map-append id_of (committed a) (tentative a)) ∙ ap (map id_of) (order-parts a ∙ ap (λ ws. dropped_in_order a ++ ws) ka ∙ sym (append_assoc (dropped_in_order a) front x))
-        ∙ map-append id_of (dropped_in_order a ++ front) x
-
-    go : Has w front ⊎ Has w y → Has w y
-    go (inl k) = absurd ((distinct_parts (map id_of (dropped_in_order a ++ front)) (map id_of x) (subst Distinct order (distinct_order a ha))).2 (id_of w) (has_map id_of w (dropped_in_order a ++ front) (has_right w (dropped_in_order a) front k)) (has_map id_of w x h))
-    go (inr k) = k
-
 -- ---- rooms
 
 room_there : (t : Text) (ts : List Text) → list_any (bytes_eq t) ts ≡ true → Has t ts
@@ -178,52 +128,3 @@ rooms_complete a b ha g = rooms_move a b (rooms_beside a.rooms b.rooms) ha g.sou
     back : (t : Text) → Has t (rooms_beside a.rooms b.rooms) ⊎ Has t a.rooms → Has t b.rooms
     back t (inl h) = (filter_has (λ u. not (list_any (bytes_eq u) a.rooms)) t b.rooms h).0
     back t (inr h) = g.rooms t h
-
--- ---- the desk
-
--- what adopting a candidate puts makes the tables of the desk those of the replica that the candidate shows
-adoption_turns : (a b : Replica) (c : CandidateView) → IsReplica a → Grows a b → dropped_in_order a ≡ dropped_in_order b → length a.commits ≤ length b.commits → Shows c b → c.same ≤ length (kept_in_order a) → take c.same c.kept ≡ take c.same (kept_in_order a) → (c.summary.commits ≡ length a.commits) ⊎ (c.same ≤ length a.commits - a.dropped)
-    → changed (adoption (desk_of a) c) (desk_tables (desk_of a)) ≡ desk_tables (desk_of b)
-adoption_turns a b c ha g ds more shows low same marks =
-    let n = c.same in
-    let front = take n (kept_in_order a) in
-    let x = drop n (kept_in_order a) in
-    let y = drop n (kept_in_order b) in
-    let ka : kept_in_order a ≡ front ++ x = sym (take-append-drop n (kept_in_order a)) in
-    let kb : kept_in_order b ≡ front ++ y = sym (take-append-drop n (kept_in_order b)) ∙ ap (λ ws. ws ++ y) (ap (take n) (sym shows.kept) ∙ same) in
-    let size : length front ≡ n = length-take-le n (kept_in_order a) low in
-    let number : a.dropped + 1 + n ≡ b.dropped + 1 + length front = λ t. g.number t + 1 + sym size t in
-    let board : board_at (desk_of a).log n ≡ board_before a front = board-at (dropped_in_order a) (kept_in_order a) n (order_distinct a ha) in
-    let put : adoption (desk_of a) c ≡ written (tables_of b).meta (rooms_beside a.rooms b.rooms) (vector_between a b) (length b.commits) (b.dropped + 1 + length front) y (undo_rows_of (board_before a front) y) =
-    λ t. written (meta_of (shows.summary t)) (rooms_beside a.rooms (shows.rooms t)) (changed_tallies (desk_of a).tallies (shows.summary t).tallies) (shows.summary t).commits (number t) (drop n (shows.kept t)) (undo_rows_of (board t) (drop n (shows.kept t))) in
-    let told : (length b.commits ≡ length a.commits) ⊎ (length front ≤ length a.commits - a.dropped) = go size marks in
-    ap (λ change. changed change (desk_tables (desk_of a))) put
-    ∙ log_changes a b front x y (rooms_beside a.rooms b.rooms) ha g.sound g.number ds ka kb (λ w h. tail_stays a b front x y w ha g ka kb h) (λ w h. front_numbers a b front x y w ha g.sound g.number ka kb more told h) (rooms_complete a b ha g)
-  where
-    go : {m : ℕ} → m ≡ c.same → (c.summary.commits ≡ length a.commits) ⊎ (c.same ≤ length a.commits - a.dropped) → (length b.commits ≡ length a.commits) ⊎ (m ≤ length a.commits - a.dropped)
-    go size (inl e) = inl (ap (λ (s : Summary). s.commits) (sym shows.summary) ∙ e)
-    go size (inr l) = inr (subst (λ k. k ≤ length a.commits - a.dropped) (sym size) l)
-
--- so does what a desk answers that has taken all items
-pub all_turned : (a : Replica) (d : DeskView) (start c : CandidateView) (new : DeskView) (items : List Item) (change : ChangeView) → IsReplica a → d ≡ desk_of a → start ≡ record { summary = summary_in d; rooms = d.rooms; kept = d.log.kept; same = length d.log.kept } → list_all is_item items ≡ true → KeepsFront start c → KeepsMarks start c → Takes (take_items items 2 (Ok (nothing_taken a))) (Ok tt) c → new ≡ adopted d c
-    → (d.dropped + 1 + length c.kept < 2 ^ 64 → change ≡ adoption d c) → changed change (desk_tables d) ≡ desk_tables new
-all_turned a d start c new items change sound e s good f m t n p =
-    let q = t.0 in
-    let b = q.replica in
-    let g = items-grow items 2 (nothing_taken a) q sound good t.1 in
-    let brings = items-bring items 2 (nothing_taken a) q sound good t.1 in
-    let shows = t.2 in
-    let first : start ≡ record { summary = summary_of a; rooms = a.rooms; kept = kept_in_order a; same = length (kept_in_order a) } = s ∙ (λ i. record { summary = summary_in (e i); rooms = (e i).rooms; kept = (e i).log.kept; same = length (e i).log.kept }) in
-    let fewer = f.fewer in
-    let all = ap (λ (v : CandidateView). v.same) first in
-    let low : c.same ≤ length (kept_in_order a) = omega arith in
-    let front : take c.same c.kept ≡ take c.same (kept_in_order a) = f.front ∙ ap (λ (v : CandidateView). take c.same v.kept) first in
-    let marks = subst (λ (v : CandidateView). (c.summary.commits ≡ v.summary.commits) ⊎ (c.same ≤ v.summary.commits - v.summary.dropped)) first m.marks in
-    let commits = brings.commits in
-    let more : length a.commits ≤ length b.commits = omega arith in
-    let few = few_kept b g.sound in
-    let kept = ap length shows.kept in
-    let dropped : d.dropped ≡ b.dropped = ap (λ (v : DeskView). v.dropped) e ∙ g.number in
-    let small : d.dropped + 1 + length c.kept < 18446744073709551616 = omega arith in
-    let stands : new ≡ desk_of b = (all_taken a d start c new items sound e s good f t n).1 ∙ ap (λ (x : After). desk_of x.replica) (ap (after_items a) t.1) in
-    ap (λ v. changed v (desk_tables d)) (p small) ∙ (λ i. changed (adoption (e i) c) (desk_tables (e i))) ∙ adoption_turns a b c sound g (sym brings.dropped) more shows low front marks ∙ ap desk_tables (sym stands)

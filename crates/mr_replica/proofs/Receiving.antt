@@ -1,5 +1,5 @@
 -- Taking all items of a batch.
-use Rattle.std.proofs.Common.{◌≡◌, ℕ, zero, suc, ◌+◌, ◌-◌, ◌<◌, ◌≤◌, ◌==◌, cond, not, Some, ◌⊎◌, Bool, true, false, List, [], ◌∷◌, ◌++◌, length, take, drop, get_or, Result, Ok, Err, ap, refl, sym, ◌∙◌, subst, inl, inr, arith, IsTrue}
+use Rattle.std.proofs.Common.{◌≡◌, ℕ, zero, suc, ◌+◌, ◌<◌, ◌≤◌, ◌==◌, cond, not, Some, Bool, true, false, List, [], ◌∷◌, ◌++◌, length, drop, get_or, Result, Ok, Err, ap, refl, sym, ◌∙◌, subst, arith, IsTrue}
 use Rattle.std.specs.List.{list_all, filter_map}
 use Rattle.std.specs.Result.{is_ok}
 use Rattle.std.proofs.lemmas.Bool.{true≢false, and_parts}
@@ -12,8 +12,7 @@ use Rattle.mr_model.specs.Exchange.{Item, W, C, Header, Batch, is_header, is_ite
 use Rattle.mr_model.specs.Replica.{Replica, IsReplica, write_with, with_write, tentative}
 use Rattle.mr_model.specs.Kept.{dropped_in_order, kept_in_order}
 use Rattle.mr_model.specs.Taking.{Progress, take_item, take_items, take_write, take_commit, with_new_write, with_new_commit}
-use Rattle.mr_model.specs.Replies.{Took}
-use Rattle.mr_model.specs.Step.{After, after_items, step_unless, receive_under, receive_batch}
+use Rattle.mr_model.specs.Step.{after_items, step_unless, receive_under, receive_batch}
 use Rattle.mr_model.proofs.TakingKeeps.{IsItem, KeepsReplica, item_keeps}
 use Rattle.mr_model.proofs.TwinChanges.{dropped-add_write}
 use Rattle.mr_model.proofs.Fronts.{take-front}
@@ -21,52 +20,12 @@ use Rattle.mr_model.proofs.RoomPlaces.{kept_committed}
 use Rattle.mr_model.proofs.BatchesReadBack.{ok_inj}
 use Rattle.mr_model.proofs.ReceivedPlaces.{commit_moved}
 use Rattle.mr_base.specs.declared.refusals.Refusal.{Refusal}
-use Rattle.mr_base.specs.declared.refusals.Refusal.TheVariants.{OutOfMemory}
 use Rattle.mr_base.specs.Refusals.{refusal_of}
-use Rattle.mr_replica.specs.Log.{replaced, log_of}
 use Rattle.mr_tables.specs.Summary.{summary_of}
-use Rattle.mr_replica.specs.Candidate.{CandidateView, Shows, Takes, KeepsFront, KeepsMarks, write_verdict, commit_verdict}
-use Rattle.mr_tables.specs.declared.summary.Summary.{Summary}
-use Rattle.mr_tables.specs.Change.{ChangeView}
-use Rattle.mr_replica.specs.Desk.{DeskView, desk_of, old_errors_of, nothing_taken, adopted, reply_with}
-use Rattle.mr_replica.proofs.Logs.{log-replaced}
-use Rattle.mr_replica.proofs.DeskRows.{order_distinct}
-use Rattle.mr_replica.proofs.Desks.{summary_in, desk_with}
+use Rattle.mr_replica.specs.Candidate.{write_verdict, commit_verdict}
+use Rattle.mr_replica.specs.Desk.{nothing_taken}
 use Rattle.mr_replica.proofs.Judging.{JudgedWrite, judged_write, JudgedCommit, judged_commit}
 use Rattle.mr_replica.proofs.Learning.{kept-learned, kept-moved}
-
--- ---- fronts
-
-take-take : {A : Type 0} (n m : ℕ) (xs : List A) → n ≤ m → take n (take m xs) ≡ take n xs
-take-take zero m xs h = refl
-take-take (suc n) zero xs h = absurd (omega arith)
-take-take (suc n) (suc m) [] h = refl
-take-take (suc n) (suc m) (x ∷ xs) h = ap (λ ys. x ∷ ys) (take-take n m xs (omega arith))
-
-pub front-trans : (a b c : CandidateView) → KeepsFront a b → KeepsFront b c → KeepsFront a c
-front-trans a b c f g =
-    let p = f.fewer in
-    let q = g.fewer in
-    record {
-      fewer = omega arith;
-      front = g.front ∙ sym (take-take c.same b.same b.kept g.fewer) ∙ ap (take c.same) f.front ∙ take-take c.same b.same a.kept g.fewer;
-    }
-
-pub front-same : (a : CandidateView) → KeepsFront a a
-front-same a = record { fewer = (let s : a.same ≤ a.same = omega arith in s); front = refl }
-
-pub marks-trans : (a b c : CandidateView) → KeepsFront b c → KeepsMarks a b → KeepsMarks b c → KeepsMarks a c
-marks-trans a b c front f g = record { dropped = g.dropped ∙ f.dropped; marks = go f.marks g.marks }
-  where
-    go : (b.summary.commits ≡ a.summary.commits) ⊎ (b.same ≤ a.summary.commits - a.summary.dropped)
-        → (c.summary.commits ≡ b.summary.commits) ⊎ (c.same ≤ b.summary.commits - b.summary.dropped)
-        → (c.summary.commits ≡ a.summary.commits) ⊎ (c.same ≤ a.summary.commits - a.summary.dropped)
-    go (inl e) (inl h) = inl (h ∙ e)
-    go (inl e) (inr h) = inr (subst (λ n. c.same ≤ n) (λ t. e t - f.dropped t) h)
-    go (inr l) h = inr (let m = front.fewer in omega (arith, l, m))
-
-pub marks-same : (a : CandidateView) → KeepsMarks a a
-marks-same a = record { dropped = refl; marks = inl refl }
 
 -- ---- what items bring
 
@@ -157,18 +116,6 @@ items-bring (x ∷ xs) line p q sound good e = go (take_item line p x) refl e (�
     go (Ok m) t f rest = brings-more p m q (item-brings line p m x sound parts.0 t) (rest m (subst KeepsReplica t (item_keeps line p x sound (item-within x parts.0))) parts.1 f)
     go (Err r) t f rest = absurd (err≢ok r q f)
 
--- ---- the items one after the other
-
--- after k items there is a progress that the candidate shows, and the rest leads from it to what all lead to
-pub record IsAt (items : List Item) (k : ℕ) (start : Progress) (c : CandidateView) : Type 0 where
-  pub progress : Progress
-  pub sound : IsReplica progress.replica
-  pub rest : take_items items 2 (Ok start) ≡ take_items (drop k items) (2 + k) (Ok progress)
-  pub shows : Shows c progress.replica
-
-pub at-start : (items : List Item) (p : Progress) (c : CandidateView) → IsReplica p.replica → Shows c p.replica → IsAt items 0 p c
-at-start items p c sound shows = record { progress = p; sound = sound; rest = refl; shows = shows }
-
 pub drop_at : (xs : List Item) (k : ℕ) (x : Item) → k < length xs → x ≡ get_or xs k x → drop k xs ≡ x ∷ drop (suc k) xs
 drop_at [] k x h e = absurd (omega arith)
 drop_at (y ∷ ys) zero x h e = ap (λ z. z ∷ ys) (sym e)
@@ -179,73 +126,11 @@ all_at [] k x h e all = absurd (omega arith)
 all_at (y ∷ ys) zero x h e all = ap is_item e ∙ (and_parts (is_item y) (list_all is_item ys) all).0
 all_at (y ∷ ys) (suc k) x h e all = all_at ys k x (omega arith) e (and_parts (is_item y) (list_all is_item ys) all).1
 
-pub at-next : (items : List Item) (k : ℕ) (x : Item) (p : Progress) (c new : CandidateView) → k < length items → x ≡ get_or items k x → IsTrue (list_all is_item items) → (a : IsAt items k p c) → Takes (take_item (2 + k) a.progress x) (Ok tt) new → IsAt items (suc k) p new
-at-next items k x p c new h e all a t =
-    let good = all_at items k x h e all in
-    let line : 2 + k + 1 ≡ 2 + suc k = omega arith in
-    record {
-      progress = t.0;
-      sound = subst KeepsReplica t.1 (item_keeps (2 + k) a.progress x a.sound (item-within x good));
-      rest = a.rest ∙ ap (λ xs. take_items xs (2 + k) (Ok a.progress)) (drop_at items k x h e) ∙ ap (take_items (drop (suc k) items) (2 + k + 1)) t.1 ∙ ap (λ n. take_items (drop (suc k) items) n (Ok t.0)) line;
-      shows = t.2;
-    }
-
-pub at-failed : (items : List Item) (k : ℕ) (x : Item) (p : Progress) (c new : CandidateView) (r : Refusal) → k < length items → x ≡ get_or items k x → (a : IsAt items k p c) → Takes (take_item (2 + k) a.progress x) (Err r) new → Takes (take_items items 2 (Ok p)) (Err r) new
-at-failed items k x p c new r h e a (inl t) = inl (a.rest ∙ ap (λ xs. take_items xs (2 + k) (Ok a.progress)) (drop_at items k x h e) ∙ ap (take_items (drop (suc k) items) (2 + k + 1)) t)
-at-failed items k x p c new r h e a (inr t) = inr t
-
 pub drop_none : (xs : List Item) (n : ℕ) → length xs ≤ n → drop n xs ≡ []
 drop_none [] zero g = refl
 drop_none [] (suc n) g = refl
 drop_none (y ∷ ys) zero g = absurd (omega arith)
 drop_none (y ∷ ys) (suc n) g = drop_none ys n (omega arith)
-
--- at the end
-pub at-end : (items : List Item) (k : ℕ) (p : Progress) (c : CandidateView) → length items ≤ k → (a : IsAt items k p c) → take_items items 2 (Ok p) ≡ Ok a.progress
-at-end items k p c h a = a.rest ∙ ap (λ xs. take_items xs (2 + k) (Ok a.progress)) (drop_none items k h)
-
--- ---- the desk
-
--- a desk that adopts what a candidate shows stands for the replica that has taken the items
-pub desk-received : (a b : Replica) (c : CandidateView) → IsReplica a → dropped_in_order b ≡ dropped_in_order a → Shows c b → take c.same c.kept ≡ take c.same (kept_in_order a) → desk_with c.summary c.rooms (replaced (desk_of a).log c.same c.kept) (desk_of a).old_errors ≡ desk_of b
-desk-received a b c sound same shows front =
-    let log = log-replaced (dropped_in_order a) (kept_in_order a) c.kept c.same (order_distinct a sound) front ∙ (λ t. log_of (sym same t) (shows.kept t)) in
-    λ t. desk_with (shows.summary t) (shows.rooms t) (log t) (old_errors_of (sym same t))
-
--- before the first item a candidate of the desk shows its replica
-pub new_shows : (a : Replica) (d : DeskView) (c : CandidateView) (same : ℕ) → d ≡ desk_of a → c ≡ record { summary = summary_in d; rooms = d.rooms; kept = d.log.kept; same = same } → Shows c a
-new_shows a d c same e n = record { summary = ap (λ (v : CandidateView). v.summary) n ∙ ap summary_in e; rooms = ap (λ (v : CandidateView). v.rooms) n ∙ ap (λ (v : DeskView). v.rooms) e; kept = ap (λ (v : CandidateView). v.kept) n ∙ ap (λ (v : DeskView). v.log.kept) e }
-
--- ---- all items of a desk
-
--- the answer is what the items give, and the desk stands for the replica that has taken them
-pub all_taken : (a : Replica) (d : DeskView) (start c : CandidateView) (new : DeskView) (items : List Item) → IsReplica a → d ≡ desk_of a → start ≡ record { summary = summary_in d; rooms = d.rooms; kept = d.log.kept; same = length d.log.kept } → list_all is_item items ≡ true → KeepsFront start c → Takes (take_items items 2 (Ok (nothing_taken a))) (Ok tt) c → new ≡ adopted d c
-    → (Took (length c.kept - length d.log.kept) (c.summary.commits - d.commits) ≡ (after_items a (take_items items 2 (Ok (nothing_taken a)))).reply) × (new ≡ desk_of (after_items a (take_items items 2 (Ok (nothing_taken a)))).replica)
-all_taken a d start c new items sound e s good f t n =
-    let q = t.0 in
-    let brings = items-bring items 2 (nothing_taken a) q sound good t.1 in
-    let step = ap (after_items a) t.1 in
-    let shows = t.2 in
-    let kept : d.log.kept ≡ kept_in_order a = ap (λ (v : DeskView). v.log.kept) e in
-    let more = ap length shows.kept in
-    let was = ap length kept in
-    let writes = brings.writes in
-    let commits = brings.commits in
-    let there : c.summary.commits ≡ length q.replica.commits = ap (λ (x : Summary). x.commits) shows.summary in
-    let before : d.commits ≡ length a.commits = ap (λ (v : DeskView). v.commits) e in
-    let w : length c.kept - length d.log.kept ≡ q.writes = omega arith in
-    let m : c.summary.commits - d.commits ≡ q.commits = omega arith in
-    let front : take c.same c.kept ≡ take c.same (kept_in_order a) = f.front ∙ ap (λ (v : CandidateView). take c.same v.kept) s ∙ ap (take c.same) kept in
-    ((λ i. Took (w i) (m i)) ∙ ap (λ (x : After). x.reply) (sym step), n ∙ ap (λ v. adopted v c) e ∙ desk-received a q.replica c sound brings.dropped shows front ∙ ap (λ (x : After). desk_of x.replica) (sym step))
-
--- a batch that is refused changes nothing
-pub none_taken : (a : Replica) (d : DeskView) (c : CandidateView) (items : List Item) (r : Result (ℕ × ℕ × ChangeView) Refusal) (e : Refusal) → r ≡ Err e → d ≡ desk_of a → Takes (take_items items 2 (Ok (nothing_taken a))) (Err e) c
-    → ((reply_with (λ (taken : ℕ × ℕ × ChangeView). Took taken.0 taken.1) r ≡ (after_items a (take_items items 2 (Ok (nothing_taken a)))).reply) × (d ≡ desk_of (after_items a (take_items items 2 (Ok (nothing_taken a)))).replica))
-    ⊎ ((r ≡ Err OutOfMemory) × (d ≡ d))
-none_taken a d c items r e p stands (inl t) =
-    let step = ap (after_items a) t in
-    inl (ap (reply_with (λ (taken : ℕ × ℕ × ChangeView). Took taken.0 taken.1)) p ∙ ap (λ (x : After). x.reply) (sym step), stands ∙ ap (λ (x : After). desk_of x.replica) (sym step))
-none_taken a d c items r e p stands (inr t) = inr (p ∙ ap Err t, refl)
 
 -- the items of a batch that has a header are within the limits
 pub items_good : (b : Batch) (h : Header) (items : List Item) → b.header ≡ Some h → items ≡ b.items → IsTrue (is_batch b) → list_all is_item items ≡ true

@@ -1,4 +1,4 @@
--- Taking all items of a batch at a part's candidate.
+-- Taking all items of a batch at a candidate.
 use Rattle.std.proofs.Common.{◌≡◌, ℕ, zero, suc, ◌+◌, ◌-◌, ◌<◌, ◌≤◌, ◌==◌, not, Bool, true, false, None, Some, List, [], ◌∷◌, length, map, drop, get_or, ◌⊎◌, Result, Ok, Err, IfOk, ap, refl, sym, ◌∙◌, subst, inl, inr, arith, IsTrue}
 use Rattle.std.specs.List.{list_all, AllByRecursion}
 use Rattle.std.proofs.lemmas.Bool.{and_parts}
@@ -24,7 +24,7 @@ use Rattle.mr_tables.specs.Change.{ChangeView, changed}
 use Rattle.mr_tables.specs.Written.{meta_of, written}
 use Rattle.mr_replica.specs.Desk.{desk_of, nothing_taken, reply_with}
 use Rattle.mr_replica.specs.DeskTables.{desk_tables}
-use Rattle.mr_replica.specs.PartCandidate.{PartCandidateView, ShowsInside, TakesInside, HasTaken, logged_with}
+use Rattle.mr_replica.specs.PartCandidate.{PartCandidateView, ShowsPicked, ShowsInside, TakesPicked, HasTaken, logged_with}
 use Rattle.mr_replica.specs.Parts.{PartView, kept_in, part_of}
 use Rattle.mr_replica.specs.PickedLogs.{logged_of}
 use Rattle.mr_replica.proofs.DeskRows.{desk_tables-of}
@@ -32,14 +32,14 @@ use Rattle.mr_replica.proofs.ReceivedRows.{nothing_written}
 use Rattle.mr_replica.proofs.Receiving.{drop_at, all_at, drop_none, item-within, items-bring}
 
 -- after k items there is a progress that the candidate shows, and the rest leads from it to what all lead to
-pub record IsAtInside (a : Replica) (items : List Item) (k : ℕ) (start : Progress) (c : PartCandidateView) : Type 0 where
+pub record IsAtInside (a : Replica) (inside : Write → Bool) (items : List Item) (k : ℕ) (start : Progress) (c : PartCandidateView) : Type 0 where
   pub progress : Progress
   pub sound : IsReplica progress.replica
   pub rest : take_items items 2 (Ok start) ≡ take_items (drop k items) (2 + k) (Ok progress)
-  pub shows : ShowsInside a items c progress
+  pub shows : ShowsPicked a inside c progress
 
-pub inside-start : (a : Replica) (items : List Item) (p : Progress) (c : PartCandidateView) → IsReplica p.replica → ShowsInside a items c p → IsAtInside a items 0 p c
-inside-start a items p c sound shows = record { progress = p; sound = sound; rest = refl; shows = shows }
+pub inside-start : (a : Replica) (inside : Write → Bool) (items : List Item) (p : Progress) (c : PartCandidateView) → IsReplica p.replica → ShowsPicked a inside c p → IsAtInside a inside items 0 p c
+inside-start a inside items p c sound shows = record { progress = p; sound = sound; rest = refl; shows = shows }
 
 -- the item at a place is among them
 pub item_at : (xs : List Item) (k : ℕ) (x : Item) → k < length xs → x ≡ get_or xs k x → Has x xs
@@ -47,8 +47,8 @@ item_at [] k x h e = absurd (omega arith)
 item_at (y ∷ ys) zero x h e = inl e
 item_at (y ∷ ys) (suc k) x h e = inr (item_at ys k x (omega arith) e)
 
-pub inside-next : (a : Replica) (items : List Item) (k : ℕ) (x : Item) (p : Progress) (c new : PartCandidateView) → k < length items → x ≡ get_or items k x → IsTrue (list_all is_item items) → (at : IsAtInside a items k p c) → TakesInside a items (take_item (2 + k) at.progress x) (Ok tt) new → IsAtInside a items (suc k) p new
-inside-next a items k x p c new h e all at t =
+pub inside-next : (a : Replica) (inside : Write → Bool) (items : List Item) (k : ℕ) (x : Item) (p : Progress) (c new : PartCandidateView) → k < length items → x ≡ get_or items k x → IsTrue (list_all is_item items) → (at : IsAtInside a inside items k p c) → TakesPicked a inside (take_item (2 + k) at.progress x) (Ok tt) new → IsAtInside a inside items (suc k) p new
+inside-next a inside items k x p c new h e all at t =
     let good = all_at items k x h e all in
     let line : 2 + k + 1 ≡ 2 + suc k = omega arith in
     record {
@@ -58,13 +58,13 @@ inside-next a items k x p c new h e all at t =
       shows = t.2;
     }
 
-pub inside-failed : (a : Replica) (items : List Item) (k : ℕ) (x : Item) (p : Progress) (c new : PartCandidateView) (r : Refusal) → k < length items → x ≡ get_or items k x → (at : IsAtInside a items k p c) → TakesInside a items (take_item (2 + k) at.progress x) (Err r) new → TakesInside a items (take_items items 2 (Ok p)) (Err r) new
-inside-failed a items k x p c new r h e at (inl t) = inl (at.rest ∙ ap (λ xs. take_items xs (2 + k) (Ok at.progress)) (drop_at items k x h e) ∙ ap (take_items (drop (suc k) items) (2 + k + 1)) t)
-inside-failed a items k x p c new r h e at (inr t) = inr t
+pub inside-failed : (a : Replica) (inside : Write → Bool) (items : List Item) (k : ℕ) (x : Item) (p : Progress) (c new : PartCandidateView) (r : Refusal) → k < length items → x ≡ get_or items k x → (at : IsAtInside a inside items k p c) → TakesPicked a inside (take_item (2 + k) at.progress x) (Err r) new → TakesPicked a inside (take_items items 2 (Ok p)) (Err r) new
+inside-failed a inside items k x p c new r h e at (inl t) = inl (at.rest ∙ ap (λ xs. take_items xs (2 + k) (Ok at.progress)) (drop_at items k x h e) ∙ ap (take_items (drop (suc k) items) (2 + k + 1)) t)
+inside-failed a inside items k x p c new r h e at (inr t) = inr t
 
 -- at the end
-pub inside-end : (a : Replica) (items : List Item) (k : ℕ) (p : Progress) (c : PartCandidateView) → length items ≤ k → (at : IsAtInside a items k p c) → take_items items 2 (Ok p) ≡ Ok at.progress
-inside-end a items k p c h at = at.rest ∙ ap (λ xs. take_items xs (2 + k) (Ok at.progress)) (drop_none items k h)
+pub inside-end : (a : Replica) (inside : Write → Bool) (items : List Item) (k : ℕ) (p : Progress) (c : PartCandidateView) → length items ≤ k → (at : IsAtInside a inside items k p c) → take_items items 2 (Ok p) ≡ Ok at.progress
+inside-end a inside items k p c h at = at.rest ∙ ap (λ xs. take_items xs (2 + k) (Ok at.progress)) (drop_none items k h)
 
 -- ---- a part
 
@@ -73,7 +73,7 @@ pub all_within : (items : List Item) → list_all is_item items ≡ true → All
 all_within [] good = tt
 all_within (x ∷ xs) good = let p = and_parts (is_item x) (list_all is_item xs) good in (item-within x p.0, all_within xs p.1)
 
-logged_all_of : (a : Replica) (ws : List Write) → logged_with ws (map (seq_of a) ws) ≡ map (logged_of a) ws
+pub logged_all_of : (a : Replica) (ws : List Write) → logged_with ws (map (seq_of a) ws) ≡ map (logged_of a) ws
 logged_all_of a [] = refl
 logged_all_of a (w ∷ ws) = ap (λ xs. logged_of a w ∷ xs) (logged_all_of a ws)
 

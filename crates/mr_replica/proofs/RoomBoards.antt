@@ -24,7 +24,7 @@ use Rattle.mr_model.proofs.UniqueReplay.{length-replay}
 use Rattle.mr_replay.specs.declared.rows.Row.{Row}
 use Rattle.mr_replay.specs.Places.{UndoRow}
 use Rattle.mr_replay.specs.Rows.{Rows, row_at, row_with, row_of, place_on, executed, undone_all, undo_rows_of}
-use Rattle.mr_replay.specs.Holds.{HaveDistinctIds, row_in, if_of}
+use Rattle.mr_replay.specs.Holds.{HaveDistinctIds, HoldsIn, row_in, if_of}
 use Rattle.mr_replay.specs.Bookings.{if_booked, HasBookings}
 use Rattle.mr_replay.proofs.Entries.{IsInOrder, in_order-put, row_at-undone}
 use Rattle.mr_replay.proofs.Lists.{one_name, same_name, distinct_front, distinct-part, among-part, part-own, part-other}
@@ -51,17 +51,26 @@ row_in-front : (bs : List Booking) (xs ys : List Write) (q : Id) → is_among q 
 row_in-front bs [] ys q h = row_in-none ys (replay_among bs ys) q h
 row_in-front bs (x ∷ xs) ys q h = ap (cond (same_id q (id_of x)) (Some (row_of x (place_among bs x)))) (row_in-front (booked_with bs x (place_among bs x)) xs ys q h)
 
--- once the last writes of all rooms are undone, each room has the bookings of its first ones
-pub bookings_undone : (room : Text) (front vs : List Write) (us : List UndoRow) (b : Rows) → map (λ u. u.id) us ≡ map id_of vs → ((w : Write) → Has w vs → is_among (id_of w) (map id_of front) ≡ false) → IsInOrder b → HasBookings room (front ++ of_room room vs) b → HasBookings room front (undone_all b us)
-bookings_undone room front vs us b named apart ordered has q =
-    ap (λ o. if_booked (if_of room o)) (row_at-undone_all us b q ordered ∙ ap (λ is. cond (is_among q is) None (row_at b q)) named)
+-- once the last writes of all rooms are undone, each room has what its first ones give
+room_undone : (room : Text) (front vs : List Write) (us : List UndoRow) (b : Rows) (see : Option Row → Option Row) → map (λ u. u.id) us ≡ map id_of vs → ((w : Write) → Has w vs → is_among (id_of w) (map id_of front) ≡ false) → IsInOrder b
+    → ((q : Id) → see (if_of room (row_at b q)) ≡ see (row_in (front ++ of_room room vs) (replay (front ++ of_room room vs)) q)) → (q : Id) → see (if_of room (row_at (undone_all b us) q)) ≡ see (row_in front (replay front) q)
+room_undone room front vs us b see named apart ordered has q =
+    ap (λ o. see (if_of room o)) (row_at-undone_all us b q ordered ∙ ap (λ is. cond (is_among q is) None (row_at b q)) named)
     ∙ go (is_among q (map id_of vs)) refl
   where
-    go : (c : Bool) → is_among q (map id_of vs) ≡ c → if_booked (if_of room (cond c None (row_at b q))) ≡ if_booked (row_in front (replay front) q)
+    go : (c : Bool) → is_among q (map id_of vs) ≡ c → see (if_of room (cond c None (row_at b q))) ≡ see (row_in front (replay front) q)
     go true e =
         let (w, h, s) = map_has id_of q vs (among_has q (map id_of vs) e) in
-        sym (ap if_booked (row_in-none front (replay front) q (ap (λ i. is_among i (map id_of front)) s ∙ apart w h)))
-    go false e = has q ∙ ap if_booked (row_in-front [] front (of_room room vs) q (among-part room vs q e))
+        sym (ap see (row_in-none front (replay front) q (ap (λ i. is_among i (map id_of front)) s ∙ apart w h)))
+    go false e = has q ∙ ap see (row_in-front [] front (of_room room vs) q (among-part room vs q e))
+
+-- its bookings, where it had those of all
+pub bookings_undone : (room : Text) (front vs : List Write) (us : List UndoRow) (b : Rows) → map (λ u. u.id) us ≡ map id_of vs → ((w : Write) → Has w vs → is_among (id_of w) (map id_of front) ≡ false) → IsInOrder b → HasBookings room (front ++ of_room room vs) b → HasBookings room front (undone_all b us)
+bookings_undone room front vs us b named apart ordered has = room_undone room front vs us b if_booked named apart ordered has
+
+-- all its rows, where it had all
+pub holds_undone : (room : Text) (front vs : List Write) (us : List UndoRow) (b : Rows) → map (λ u. u.id) us ≡ map id_of vs → ((w : Write) → Has w vs → is_among (id_of w) (map id_of front) ≡ false) → IsInOrder b → HoldsIn room (front ++ of_room room vs) b → HoldsIn room front (undone_all b us)
+holds_undone room front vs us b named apart ordered has = room_undone room front vs us b (λ o. o) named apart ordered has
 
 -- ---- executing
 

@@ -14,9 +14,8 @@ use Rattle.mr_base.specs.declared.refusals.Refusal.TheVariants.{OutOfMemory, Sto
 use Rattle.mr_replay.specs.Rows.{undo_rows_of}
 use Rattle.mr_tables.specs.declared.summary.Tally.{Tally}
 use Rattle.mr_tables.specs.declared.old_errors.OldError.{OldError}
-use Rattle.mr_replica.specs.Log.{KeptLog, log_of, replaced, errors_in}
+use Rattle.mr_replica.specs.Log.{KeptLog, log_of, errors_in}
 use Rattle.mr_tables.specs.Summary.{tally_of}
-use Rattle.mr_replica.specs.Candidate.{CandidateView}
 
 pub record DeskView : Type 0 where
   pub server : ℕ
@@ -81,18 +80,3 @@ pub record IsWithinLimits (d : DeskView) : Type 0 where
 -- before its first item
 abbrev pub nothing_taken : Replica → Progress
 nothing_taken a = record { replica = a; writes = 0; commits = 0 }
-
--- the desk with what a candidate has in place of its own
-abbrev pub adopted : DeskView → CandidateView → DeskView
-adopted d c =
-    record {
-      server = c.summary.server;
-      primary = c.summary.primary;
-      commits = c.summary.commits;
-      dropped = c.summary.dropped;
-      clock = c.summary.clock;
-      rooms = c.rooms;
-      tallies = c.summary.tallies;
-      log = replaced d.log c.same c.kept;
-      old_errors = d.old_errors;
-    }

@@ -1,5 +1,5 @@
 -- The kept log of a replica, with what undoes it and the board that it leads to.
-use Rattle.std.specs.Prelude.{ℕ, ◌+◌, Bool, true, false, if◌then◌else◌, List, [], ◌∷◌, ◌++◌, take, drop}
+use Rattle.std.specs.Prelude.{ℕ, ◌+◌, Bool, true, false, if◌then◌else◌, List, [], ◌∷◌, ◌++◌, drop}
 use Rattle.mr_model.specs.Writes.{Write}
 use Rattle.mr_model.specs.Replay.{Place, Taken, Logged}
 use Rattle.mr_replay.specs.Places.{UndoRow}
@@ -29,15 +29,6 @@ pushed l w = record { kept = l.kept ++ w ∷ []; undo = l.undo ++ undo_row_of l.
 -- the board after the writes from this place on are undone
 abbrev pub board_at : KeptLog → ℕ → Rows
 board_at l place = undone_all l.board (drop place l.undo)
-
--- the log with another list, which differs from this place on
-abbrev pub replaced : KeptLog → ℕ → List Write → KeptLog
-replaced l place kept =
-    record {
-      kept = kept;
-      undo = take place l.undo ++ undo_rows_of (board_at l place) (drop place kept);
-      board = executed_all (board_at l place) (drop place kept);
-    }
 
 -- the log without its first writes
 abbrev pub without_front : KeptLog → ℕ → KeptLog

@@ -6,11 +6,12 @@ use Rattle.mr_model.specs.Writes.{Write, id_of, same_id}
 use Rattle.mr_model.specs.Replica.{Replica, IsReplica}
 use Rattle.mr_model.specs.Exchange.{Item, W, C}
 use Rattle.mr_model.specs.Kept.{kept_in_order}
-use Rattle.mr_model.specs.Scopes.{is_late, is_named, is_in_tail, is_touched}
+use Rattle.mr_model.specs.Scopes.{is_late, is_touched}
 use Rattle.mr_model.specs.Moving.{BatchMoves}
-use Rattle.mr_model.specs.Tables.{seq_of, log_row, tables_of}
+use Rattle.mr_model.specs.Tables.{seq_of, tables_of}
 use Rattle.mr_replica.specs.declared.scope_logs.LoggedWrite.{LoggedWrite}
 use Rattle.mr_replica.specs.PickedLogs.{logged_of}
+use Rattle.mr_replica.specs.PartCandidate.{Covers}
 
 -- the rooms that an item touches, where so many commits are known and these are the kept writes that it may name
 abbrev pub rooms_named : ℕ → List Write → Item → List Text
@@ -33,12 +34,13 @@ moves_open touched items commits x = x.seq == 0 && moves_in touched items commit
 abbrev pub is_anew : List Text → List Item → ℕ → LoggedWrite → Bool
 is_anew touched items commits x = nat_lt commits x.seq || moves_open touched items commits x
 
--- the batch leads from the first replica to the second one, whose kept writes these are, as far as they are in scope of the first one
-pub record ShowsMoves (a b : Replica) (items : List Item) (touched : List Text) (commits : ℕ) (kept : List LoggedWrite) : Type 0 where
+-- the batch leads from the first replica to the second one, of whose kept writes these are those that pass the test
+pub record ShowsMoves (a b : Replica) (items : List Item) (inside : Write → Bool) (touched : List Text) (commits : ℕ) (kept : List LoggedWrite) : Type 0 where
   pub sound : IsReplica a
   pub moves : BatchMoves a b items
   pub are_touched : AreTouched touched a items
   pub commits_are : commits ≡ length a.commits
-  pub kept_are : kept ≡ map (logged_of b) (filter (λ w. is_named items (log_row a w) || (is_in_tail (length a.commits) items (log_row a w) && is_touched (tables_of a) items w.room)) (kept_in_order b))
-  -- a write that isn't in scope has the commit number that it had
-  pub marks : (w : Write) → (seq_of b w ≡ seq_of a w) ⊎ ((is_named items (log_row a w) || (is_in_tail (length a.commits) items (log_row a w) && is_touched (tables_of a) items w.room)) ≡ true)
+  pub covers : Covers a items inside
+  pub kept_are : kept ≡ map (logged_of b) (filter inside (kept_in_order b))
+  -- a write that doesn't pass has the commit number that it had
+  pub marks : (w : Write) → (seq_of b w ≡ seq_of a w) ⊎ (inside w ≡ true)

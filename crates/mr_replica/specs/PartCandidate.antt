@@ -1,4 +1,4 @@
--- What a batch makes of a part, item by item.
+-- What a batch makes of a part or of a desk, item by item.
 use Rattle.std.specs.Prelude.{◌≡◌, ℕ, suc, ◌+◌, ◌==◌, ◌&&◌, ◌||◌, Bool, true, if◌then◌else◌, List, [], ◌∷◌, ◌++◌, length, take, drop, map, filter, find, Option, Result, Ok, Err, ◌⊎◌}
 use Rattle.std.specs.List.{list_all}
 use Rattle.std.specs.Option.{option_map}
@@ -19,10 +19,10 @@ use Rattle.mr_tables.specs.Summary.{tally_at, summary_of, noted_write, noted_com
 use Rattle.mr_replica.specs.declared.scope_logs.LoggedWrite.{LoggedWrite}
 use Rattle.mr_replica.specs.Candidate.{write_in, write_verdict_with, commit_verdict_with, rooms_with}
 use Rattle.mr_replica.specs.Desk.{nothing_taken}
-use Rattle.mr_replica.specs.Parts.{PartView, kept_in, IsPartOf}
+use Rattle.mr_replica.specs.Parts.{PartView, IsPartOf}
 use Rattle.mr_replica.specs.PickedLogs.{logged_of}
 
--- the numbers, the rooms and the kept writes in scope with their commit numbers as the items so far leave them
+-- the numbers, the rooms and the kept writes that pass a test, with their commit numbers, as the items so far leave them
 pub record PartCandidateView : Type 0 where
   pub summary : Summary
   pub rooms : List Text
@@ -33,25 +33,36 @@ abbrev pub is_inside : Replica → List Item → Write → Bool
 is_inside a items w =
     is_named items (log_row a w) || (is_in_tail (length a.commits) items (log_row a w) && is_touched (tables_of a) items w.room)
 
--- it is what the replica that is reached so far from the first would have of the writes that were in scope of it
-pub record ShowsInside (a : Replica) (items : List Item) (c : PartCandidateView) (p : Progress) : Type 0 where
+-- the test passes each write in scope of the items: those that they name, and those that they may move
+abbrev pub Covers : Replica → List Item → (Write → Bool) → Type 0
+Covers a items inside = (w : Write) → is_inside a items w ≡ true → inside w ≡ true
+
+-- it is what the replica that is reached so far from the first would have of the writes that pass this test
+pub record ShowsPicked (a : Replica) (inside : Write → Bool) (c : PartCandidateView) (p : Progress) : Type 0 where
   pub summary : c.summary ≡ summary_of p.replica
   pub rooms : c.rooms ≡ p.replica.rooms
-  pub kept : c.kept ≡ map (logged_of p.replica) (filter (is_inside a items) (kept_in_order p.replica))
+  pub kept : c.kept ≡ map (logged_of p.replica) (filter inside (kept_in_order p.replica))
   -- all writes that came are there
-  pub writes : length c.kept ≡ length (kept_in (OfItems items) a) + p.writes
-  -- a write that isn't in scope has the commit number that it had
-  pub marks : (w : Write) → (seq_of p.replica w ≡ seq_of a w) ⊎ (is_inside a items w ≡ true)
+  pub writes : length c.kept ≡ length (filter inside (kept_in_order a)) + p.writes
+  -- a write that doesn't pass has the commit number that it had
+  pub marks : (w : Write) → (seq_of p.replica w ≡ seq_of a w) ⊎ (inside w ≡ true)
 
 -- the answer to an item, or to all: taken, with what the definitions then have; their refusal; or want of memory
-abbrev pub TakesInside : Replica → List Item → Result Progress model.Refusal → Result (Unit {0}) Refusal → PartCandidateView → Type 0
-TakesInside a items exact (Ok x) new = (p : Progress) × (exact ≡ Ok p) × ShowsInside a items new p
-TakesInside a items exact (Err e) new = (exact ≡ Err (refusal_of e)) ⊎ (e ≡ OutOfMemory)
+abbrev pub TakesPicked : Replica → (Write → Bool) → Result Progress model.Refusal → Result (Unit {0}) Refusal → PartCandidateView → Type 0
+TakesPicked a inside exact (Ok x) new = (p : Progress) × (exact ≡ Ok p) × ShowsPicked a inside new p
+TakesPicked a inside exact (Err e) new = (exact ≡ Err (refusal_of e)) ⊎ (e ≡ OutOfMemory)
 
 -- the candidate that has taken all items, or why there is none
+abbrev pub TakenPicked : Replica → (Write → Bool) → Result Progress model.Refusal → Result PartCandidateView Refusal → Type 0
+TakenPicked a inside exact (Ok c) = (p : Progress) × (exact ≡ Ok p) × ShowsPicked a inside c p
+TakenPicked a inside exact (Err e) = (exact ≡ Err (refusal_of e)) ⊎ (e ≡ OutOfMemory)
+
+-- the same of a part, which has the writes in scope of the items and no others
+abbrev pub ShowsInside : Replica → List Item → PartCandidateView → Progress → Type 0
+ShowsInside a items = ShowsPicked a (is_inside a items)
+
 abbrev pub TakenInside : Replica → List Item → Result Progress model.Refusal → Result PartCandidateView Refusal → Type 0
-TakenInside a items exact (Ok c) = (p : Progress) × (exact ≡ Ok p) × ShowsInside a items c p
-TakenInside a items exact (Err e) = (exact ≡ Err (refusal_of e)) ⊎ (e ≡ OutOfMemory)
+TakenInside a items = TakenPicked a (is_inside a items)
 
 -- the items, which are within the limits, lead from the replica whose part this is to the progress that the candidate shows
 pub record HasTaken (part : PartView) (items : List Item) (c : PartCandidateView) (a : Replica) (p : Progress) : Type 0 where

@@ -1,17 +1,12 @@
 -- What calls of a desk answer beside their step: the change of its tables, and what became of a request.
-use Rattle.std.specs.Prelude.{◌≡◌, ◌+◌, List, [], ◌∷◌, drop, Result, IfOk}
+use Rattle.std.specs.Prelude.{◌≡◌, List, [], ◌∷◌, Result, IfOk}
 use Rattle.mr_model.specs.Replica.{Replica, IsReplica}
 use Rattle.mr_model.specs.Refusals.{NoSuchRequest}
 use Rattle.mr_model.specs.Replies.{Reply, OutcomeIs, Refused}
 use Rattle.mr_model.specs.Queries.{booked_outcome, logged_outcome}
 use Rattle.mr_model.specs.Tables.{BookingRow, ErrorRow}
 use Rattle.mr_base.specs.declared.refusals.Refusal.{Refusal}
-use Rattle.mr_replay.specs.Rows.{undo_rows_of}
-use Rattle.mr_tables.specs.Rooms.{rooms_beside}
 use Rattle.mr_tables.specs.Change.{ChangeView, changed}
-use Rattle.mr_tables.specs.Written.{meta_of, changed_tallies, written}
-use Rattle.mr_replica.specs.Log.{board_at}
-use Rattle.mr_replica.specs.Candidate.{CandidateView}
 use Rattle.mr_replica.specs.Desk.{DeskView, StandsFor}
 use Rattle.mr_replica.specs.DeskTables.{desk_tables}
 
@@ -25,10 +20,3 @@ abbrev pub put_outcome : List BookingRow → List ErrorRow → Reply
 put_outcome (row ∷ rows) errors = OutcomeIs (booked_outcome row)
 put_outcome [] (row ∷ rows) = OutcomeIs (logged_outcome row)
 put_outcome [] [] = Refused NoSuchRequest
-
--- A desk that becomes what a candidate is puts the rooms that it didn't know, and the rows of the kept writes that may be
--- other ones than they were.
-abbrev pub adoption : DeskView → CandidateView → ChangeView
-adoption d c =
-    written (meta_of c.summary) (rooms_beside d.rooms c.rooms) (changed_tallies d.tallies c.summary.tallies) c.summary.commits (d.dropped + 1 + c.same)
-    (drop c.same c.kept) (undo_rows_of (board_at d.log c.same) (drop c.same c.kept))

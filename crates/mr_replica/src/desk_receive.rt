@@ -1,25 +1,41 @@
-ghost use Rattle.std.specs.Prelude.{◌≡◌, ◌≢◌, ◌+◌, ◌-◌, ◌≤◌, ◌<◌, ◌^◌, [], IsTrue, Ok, Err, Some, map, drop, length, OnOk, OnErr, IfOk, IfErr};
+ghost use Rattle.std.specs.Prelude.{◌≡◌, ◌≢◌, ◌+◌, ◌<◌, ◌^◌, List, IsTrue, Ok, Err, Some, map, filter, length, OnOk, OnErr, IfOk, IfErr};
 ghost use Rattle.std.specs.List.{list_all};
 ghost use Rattle.mr_model.specs.Exchange.{is_item, Header};
-ghost use Rattle.mr_model.specs.Taking.{take_items};
-ghost use Rattle.mr_base.specs.Batches.{item_of};
+ghost use Rattle.mr_model.specs.Kept.{kept_in_order};
+ghost use Rattle.mr_model.specs.Moving.{again};
+ghost use Rattle.mr_model.specs.Replica.{Replica, IsReplica, is_among};
 ghost use Rattle.mr_model.specs.Replies.{Took};
 ghost use Rattle.mr_model.specs.Step.{receive_batch, after_items};
-ghost use Rattle.mr_replica.specs.Desk.{TakesStep, NeverStore, nothing_taken, adopted};
+ghost use Rattle.mr_model.specs.Tables.{seq_of, tables_of};
+ghost use Rattle.mr_model.specs.Taking.{take_items};
+ghost use Rattle.mr_model.specs.Texts.{Text};
+ghost use Rattle.mr_model.specs.Writes.{Write as WriteOfRoom, id_of};
+ghost use Rattle.mr_base.specs.Batches.{item_of};
 ghost use Rattle.mr_tables.specs.Change.{changed};
+ghost use Rattle.mr_tables.specs.declared.summary.Summary.{Summary as SummaryOfDesk};
+ghost use Rattle.mr_tables.specs.Rows.{seq_on};
+ghost use Rattle.mr_replica.specs.Desk.{TakesStep, NeverStore, StandsFor, desk_of, nothing_taken};
 ghost use Rattle.mr_replica.specs.DeskTables.{desk_tables};
-ghost use Rattle.mr_tables.specs.Rooms.{rooms_beside};
-ghost use Rattle.mr_replica.specs.Turning.{TurnsTables, adoption};
-ghost use Rattle.mr_tables.specs.Written.{meta_of, changed_tallies, written};
+ghost use Rattle.mr_replica.specs.PartCandidate.{TakenPicked};
+ghost use Rattle.mr_replica.specs.PickedLogs.{logged_of};
+ghost use Rattle.mr_replica.specs.Received.{Reaches, IsReplayed, all_writes};
+ghost use Rattle.mr_replica.specs.Turning.{TurnsTables};
 
 use crate::Desk;
-use crate::candidate::Candidate;
+use crate::desk_replay::{joined_rows, parted_rows};
 use crate::log::Log;
-use mr_base::{Batch, Item, Refusal, RoomName};
+use crate::movable::rooms_touched;
+use crate::part_again::again_in;
+use crate::part_candidate::PartCandidate;
+use crate::part_moved::rewritten;
+use crate::scope_logs::{LoggedWrite, writes_alone};
+use mr_base::{Batch, Item, Refusal, Write};
+use mr_replay::{Board, UndoRow};
 use mr_tables::Change;
 use mr_tables::rooms::unknown_rooms;
 use mr_tables::summary::Summary;
 use mr_tables::written::empty;
+use std::alloc::Global;
 
 impl Desk {
     /// Takes a batch whole, or not at all, and answers how many of its writes and of its commits were new, and what that
@@ -64,61 +80,140 @@ impl Desk {
         ensures err { OnErr result (self.new ≡ self.old) }
         ensures own { NeverStore result }
     {
-        let mut candidate = Candidate::new(self.alloc, self.summary, &self.rooms, self.log.kept())?;
-        candidate.take_all(items)?;
-        let taken = self.adopt(candidate)?;
-        Ok(taken)
+        let marks = self.marks()?;
+        let candidate = self.candidate(items, &marks)?;
+        let writes = candidate.kept.len().saturating_sub(self.log.kept().len()) as u64;
+        let commits = candidate
+            .summary
+            .commits
+            .saturating_sub(self.summary.commits);
+        let change = self.adopt(items, &marks, candidate)?;
+        Ok((writes, commits, change))
     }
 
-    /// Becomes what the candidate is, and executes anew what it has changed. It answers how many more writes are kept, how
-    /// many more commits there are, and what that changes in the tables.
-    fn adopt(&mut self, candidate: Candidate) -> Result<(u64, u64, Change), Refusal>
-        requires { candidate.same ≤ length self.old.log.kept }
-        ensures writes { IfOk result (λ taken. taken.0 ≡ length candidate.kept - length self.old.log.kept) }
-        ensures commits { IfOk result (λ taken. taken.1 ≡ candidate.summary.commits - self.old.commits) }
-        ensures change { IfOk result (λ taken. self.old.dropped + 1 + length candidate.kept < 2 ^ 64 → taken.2 ≡ adoption self.old candidate) }
-        ensures ok { OnOk result (self.new ≡ adopted self.old candidate) }
+    /// The commit numbers of the kept writes, 0 of a tentative one.
+    fn marks(&self) -> Result<Vec<u64>, Refusal>
+        ensures marks { (a : Replica) → IsReplica a → StandsFor self.now a → IfOk result (λ marks. marks.items ≡ map (seq_of a) (kept_in_order a)) }
+        ensures only { IfErr result (λ e. e ≡ Refusal.OutOfMemory) }
+    {
+        let kept = self.log.kept();
+        let mut marks = Vec::new(self.alloc);
+        for k in 0..kept.len() {
+            marks.push(mark_at(&self.summary, k))?;
+        }
+        Ok(marks)
+    }
+
+    /// What the desk is with all items, or why the batch is refused. Its kept writes have these commit numbers.
+    fn candidate(&self, items: &[Item], marks: &[u64]) -> Result<PartCandidate, Refusal>
+        ensures takes { IsTrue (list_all is_item (map item_of items.now)) → length items.now + 2 < 2 ^ 64
+            → (a : Replica) → IsReplica a → StandsFor self.now a → marks.now ≡ map (seq_of a) (kept_in_order a)
+            → TakenPicked a all_writes (take_items (map item_of items.now) 2 (Ok (nothing_taken a))) result }
+        ensures own { NeverStore result }
+    {
+        let mut candidate = PartCandidate::new(
+            self.alloc,
+            self.summary,
+            &self.rooms,
+            self.log.kept(),
+            marks,
+        )?;
+        candidate.take_all(items)?;
+        Ok(candidate)
+    }
+
+    /// Becomes what the candidate is, and answers what that changes in the tables: in the rooms that the items touch the
+    /// executions that they may move are undone, and the new order is executed.
+    fn adopt(
+        &mut self,
+        items: &[Item],
+        marks: &[u64],
+        candidate: PartCandidate,
+    ) -> Result<Change, Refusal>
+        ensures reached { (a b : Replica) → Reaches self.old (map item_of items.now) candidate.summary candidate.rooms candidate.kept a b → marks.now ≡ map (seq_of a) (kept_in_order a)
+            → IfOk result (λ change. (changed change (tables_of a) ≡ tables_of b) × StandsFor self.new b) }
         ensures err { OnErr result (self.new ≡ self.old) }
         ensures only { IfErr result (λ e. e ≡ Refusal.OutOfMemory) }
     {
-        let Candidate {
+        let PartCandidate {
             alloc,
             summary,
             rooms,
             kept,
-            same,
         } = candidate;
-        let writes = kept.len().saturating_sub(self.log.kept().len()) as u64;
-        let commits = summary.commits.saturating_sub(self.summary.commits);
-        let log = self.log.with_tail(alloc, same, kept)?;
-        let change = self.adoption(&summary, &rooms, &log, same)?;
+        let replay = self.replay(items, marks, &kept)?;
+        let unknown = unknown_rooms(alloc, &self.rooms, &rooms)?;
+        let change = rewritten(
+            alloc,
+            &self.summary,
+            &summary,
+            unknown,
+            &replay.again,
+            &replay.rows,
+        )?;
+        let log = log_with(alloc, kept, replay)?;
         self.log = log;
         self.summary = summary;
         self.rooms = rooms;
-        Ok((writes, commits, change))
-    }
-
-    /// The change to a desk with these numbers, rooms and log, the first writes of which are those of its own.
-    fn adoption(
-        &self,
-        summary: &Summary,
-        rooms: &[RoomName],
-        log: &Log,
-        same: usize,
-    ) -> Result<Change, Refusal>
-        requires { same ≤ length log.now.kept }
-        ensures change { IfOk result (λ change. self.now.dropped + 1 + length log.now.kept < 2 ^ 64
-            → change ≡ written (meta_of summary.now) (rooms_beside self.now.rooms rooms.now) (changed_tallies self.now.tallies summary.now.tallies) summary.now.commits (self.now.dropped + 1 + same) (drop same log.now.kept) (drop same log.now.undo)) }
-        ensures only { IfErr result (λ e. e ≡ Refusal.OutOfMemory) }
-    {
-        let unknown = unknown_rooms(self.alloc, &self.rooms, rooms)?;
-        let change = self.change_to(
-            summary,
-            unknown,
-            same,
-            &log.kept()[same..],
-            &log.undo()[same..],
-        )?;
         Ok(change)
     }
+
+    /// Undoes what the items may move, on a copy of the board, and executes the new order, in the rooms that they touch. The
+    /// desk's kept writes have these commit numbers, and with all items they are those.
+    fn replay(&self, items: &[Item], marks: &[u64], kept: &[LoggedWrite]) -> Result<Replay, Refusal>
+        ensures replayed { (a b : Replica) (summary : SummaryOfDesk) (rooms : List Text) (t : Reaches self.now (map item_of items.now) summary rooms kept.now a b) → marks.now ≡ map (seq_of a) (kept_in_order a)
+            → IfOk result (λ r. IsReplayed b (again a (map item_of items.now) t.moves.news b) r.again.items r.rows.items r.others.items r.board) }
+        ensures as_many { IfOk result (λ r. length r.again.items ≡ length r.rows.items) }
+        ensures only { IfErr result (λ e. e ≡ Refusal.OutOfMemory) }
+    {
+        let commits = self.summary.commits;
+        let old = self.log.kept();
+        let touched = rooms_touched(self.alloc, old, items, commits)?;
+        let undo = self.log.undo();
+        let parted = parted_rows(self.alloc, old, marks, undo, &touched, items, commits)?;
+        let (undone, others) = parted;
+        let again = again_in(self.alloc, kept, &touched, items, commits)?;
+        let replayed = self.log.replayed(&undone, &again)?;
+        let (board, rows) = replayed;
+        Ok(Replay {
+            again,
+            rows,
+            others,
+            board,
+        })
+    }
+}
+
+/// What a batch leads to in the rooms that it touches.
+#[derive(Drop)]
+struct Replay {
+    /// The writes that were executed anew, in the order of execution.
+    again: Vec<Write>,
+    /// What undoes them.
+    rows: Vec<UndoRow>,
+    /// What undoes the other kept writes, as before.
+    others: Vec<UndoRow>,
+    board: Board,
+}
+
+/// The commit number of the kept write at this place, 0 of a tentative one.
+fn mark_at(summary: &Summary, place: usize) -> u64
+    ensures { summary.now.dropped + 1 + place < 2 ^ 64 → result ≡ seq_on summary.now.commits (summary.now.dropped + 1 + place) }
+{
+    let seq = summary
+        .dropped
+        .saturating_add(1)
+        .saturating_add(place as u64);
+    if seq <= summary.commits { seq } else { 0 }
+}
+
+/// The log of these kept writes, after the replay.
+fn log_with(alloc: Global, kept: Vec<LoggedWrite>, replay: Replay) -> Result<Log, Refusal>
+    ensures log { (b : Replica) (anew : List WriteOfRoom) → IsReplica b → kept.items ≡ map (logged_of b) (kept_in_order b) → filter (λ w. is_among (id_of w) (map id_of anew)) (kept_in_order b) ≡ anew
+        → IsReplayed b anew replay.again.items replay.rows.items replay.others.items replay.board → IfOk result (λ log. log ≡ (desk_of b).log) }
+    ensures only { IfErr result (λ e. e ≡ Refusal.OutOfMemory) }
+{
+    let kept = writes_alone(alloc, kept)?;
+    let undo = joined_rows(alloc, &kept, &replay.rows, &replay.others)?;
+    Ok(Log::of_parts(kept, undo, replay.board))
 }

@@ -6,13 +6,13 @@
 //! the desk stands for (`TakesStep`).
 #![tactic(auto)]
 
-mod candidate;
 mod desk;
 mod desk_batch;
 mod desk_change;
 mod desk_commit;
 mod desk_position;
 mod desk_receive;
+mod desk_replay;
 mod desk_rooms;
 mod desk_submit;
 mod desk_tables;

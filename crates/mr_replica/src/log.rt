@@ -1,6 +1,6 @@
 ghost use Rattle.std.specs.Prelude.{◌≡◌, [], map, take, drop, length, ◌≤◌, ◌<◌, ◌+◌, ◌^◌, OnOk, OnErr, IfOk, IfErr};
-ghost use Rattle.mr_replay.specs.Rows.{undone_all};
-ghost use Rattle.mr_replica.specs.Log.{pushed, replaced, without_front, errors_in, is_logged as is_logged_at};
+ghost use Rattle.mr_replay.specs.Rows.{executed_all, undo_rows_of, undone_all};
+ghost use Rattle.mr_replica.specs.Log.{pushed, without_front, errors_in, is_logged as is_logged_at};
 
 use crate::kept_rows::KeptRow;
 use mr_base::{Refusal, Write};
@@ -90,26 +90,31 @@ impl Log {
         Ok(())
     }
 
-    /// The log with another list in the stead of its own, which is the same in front of this place: its writes from the place
-    /// on are undone, and those of the list are executed from there on.
-    pub(crate) fn with_tail(
+    /// The log of these writes, with what undoes each, and the board that they led to. Of a write without such a row, or a
+    /// row without a write, nothing is kept.
+    pub(crate) fn of_parts(mut kept: Vec<Write>, mut undo: Vec<UndoRow>, board: Board) -> Log
+        ensures { length kept.items ≡ length undo.items → result ≡ record { kept = kept.items; undo = undo.items; board = board } }
+    {
+        let count = kept.len().min(undo.len());
+        kept.truncate(count);
+        undo.truncate(count);
+        Log { kept, undo, board }
+    }
+
+    /// The board where these executions are undone and these writes are executed, and what undoes them.
+    pub(crate) fn replayed(
         &self,
-        alloc: Global,
-        place: usize,
-        kept: Vec<Write>,
-    ) -> Result<Log, Refusal>
-        requires old { place ≤ length self.now.kept }
-        requires new { place ≤ length kept.items }
-        ensures log { IfOk result (λ log. log ≡ replaced self.now place kept.items) }
+        undone: &[UndoRow],
+        again: &[Write],
+    ) -> Result<(Board, Vec<UndoRow>), Refusal>
+        ensures board { IfOk result (λ r. r.0 ≡ executed_all (undone_all self.now.board undone.now) again.now) }
+        ensures rows { IfOk result (λ r. r.1.items ≡ undo_rows_of (undone_all self.now.board undone.now) again.now) }
         ensures only { IfErr result (λ e. e ≡ Refusal.OutOfMemory) }
     {
         let mut board = self.board.copy()?;
-        board.undo_all(&self.undo[place..]);
-        let rows = board.redo_from(&kept[place..])?;
-        let mut undo = Vec::new(alloc);
-        undo.extend_from_slice(&self.undo[..place])?;
-        undo.extend_from_slice(&rows)?;
-        Ok(Log { kept, undo, board })
+        board.undo_all(undone);
+        let rows = board.redo_from(again)?;
+        Ok((board, rows))
     }
 
     /// The dropped errors that dropping the first `count` writes makes, numbered from `first` on.

@@ -1,4 +1,4 @@
-ghost use Rattle.std.specs.Prelude.{◌≡◌, ◌==◌, ◌&&◌, ℕ, List, map, filter, IfOk, IfErr};
+ghost use Rattle.std.specs.Prelude.{◌≡◌, ◌==◌, ◌&&◌, ℕ, Bool, List, map, filter, IfOk, IfErr};
 ghost use Rattle.mr_model.specs.Texts.{Text};
 ghost use Rattle.mr_model.specs.Exchange.{Item as ItemOfBatch};
 ghost use Rattle.mr_model.specs.Writes.{Write as WriteOfRoom, id_of};
@@ -90,7 +90,7 @@ pub(crate) fn again_in(
     items: &[Item],
     commits: u64,
 ) -> Result<Vec<Write>, Refusal>
-    ensures writes { (a b : Replica) (m : ShowsMoves a b (map item_of items.now) touched.now commits kept.now)
+    ensures writes { (a b : Replica) (inside : WriteOfRoom → Bool) (m : ShowsMoves a b (map item_of items.now) inside touched.now commits kept.now)
         → IfOk result (λ writes. writes.items ≡ again a (map item_of items.now) m.moves.news b) }
     ensures only { IfErr result (λ e. e ≡ Refusal.OutOfMemory) }
 {

@@ -4,11 +4,12 @@ ghost use Rattle.std.specs.List.{remove, slice_index_or, list_all};
 ghost use Rattle.mr_model.specs.Dropped.{Has};
 ghost use Rattle.mr_model.specs.Exchange.{is_item, Item as ItemOfBatch};
 ghost use Rattle.mr_model.specs.Replica.{Replica, IsReplica};
+ghost use Rattle.mr_model.specs.Writes.{Write as WriteOfReplica};
 ghost use Rattle.mr_model.specs.Taking.{Progress, take_item, take_items, take_write, take_commit};
 ghost use Rattle.mr_base.specs.Batches.{item_of};
 ghost use Rattle.mr_replica.specs.Candidate.{write_in};
 ghost use Rattle.mr_replica.specs.Desk.{NeverStore};
-ghost use Rattle.mr_replica.specs.PartCandidate.{ShowsInside, TakesInside, writes_alone, numbered_in, logged_write_verdict, logged_commit_verdict, logged_with, tentative_place as place_of_write, open_place as place_of_id, commits_len as commits_len_of, with_new_write, with_new_commit};
+ghost use Rattle.mr_replica.specs.PartCandidate.{Covers, ShowsPicked, TakesPicked, writes_alone, numbered_in, logged_write_verdict, logged_commit_verdict, logged_with, tentative_place as place_of_write, open_place as place_of_id, commits_len as commits_len_of, with_new_write, with_new_commit};
 ghost use Rattle.mr_replica.specs.declared.scope_logs.LoggedWrite.{LoggedWrite as LoggedWriteOfRow};
 
 use crate::judge::{judge_commit, judge_write};
@@ -19,8 +20,8 @@ use mr_tables::summary::Summary;
 use std::alloc::Global;
 use std::marker::Model;
 
-/// A part's numbers, rooms and kept writes with the items of a batch that are taken so far. The part itself is not touched: a batch
-/// is taken whole or not at all.
+/// The numbers, rooms and kept writes of a part or a desk, with the items of a batch that are taken so far. The part or the desk itself
+/// is not touched: a batch is taken whole or not at all.
 #[derive(Drop)]
 pub(crate) struct PartCandidate {
     pub(crate) alloc: Global,
@@ -62,9 +63,9 @@ impl PartCandidate {
 
     /// Takes these items, the first of which stands in line 2, or tells why the batch is refused.
     pub(crate) fn take_all(&mut self, items: &[Item]) -> Result<(), Refusal>
-        ensures takes { (a : Replica) (p : Progress) → IsReplica p.replica → IsTrue (list_all is_item (map item_of items.now))
-            → length items.now + 2 < 2 ^ 64 → ShowsInside a (map item_of items.now) self.old p
-            → TakesInside a (map item_of items.now) (take_items (map item_of items.now) 2 (Ok p)) result self.new }
+        ensures takes { (a : Replica) (inside : WriteOfReplica → Bool) (p : Progress) → IsReplica p.replica → IsTrue (list_all is_item (map item_of items.now))
+            → length items.now + 2 < 2 ^ 64 → Covers a (map item_of items.now) inside → ShowsPicked a inside self.old p
+            → TakesPicked a inside (take_items (map item_of items.now) 2 (Ok p)) result self.new }
         ensures own { NeverStore result }
     {
         for (k, item) in items.iter().enumerate() {
@@ -75,8 +76,8 @@ impl PartCandidate {
 
     /// Takes an item that stands in this line, or tells why the batch is refused.
     pub(crate) fn take(&mut self, line: u64, item: &Item) -> Result<(), Refusal>
-        ensures takes { (a : Replica) (items : List ItemOfBatch) (p : Progress) → IsReplica p.replica → Has (item_of item.now) items → ShowsInside a items self.old p
-            → TakesInside a items (take_item line p (item_of item.now)) result self.new }
+        ensures takes { (a : Replica) (items : List ItemOfBatch) (inside : WriteOfReplica → Bool) (p : Progress) → IsReplica p.replica → Has (item_of item.now) items → Covers a items inside
+            → ShowsPicked a inside self.old p → TakesPicked a inside (take_item line p (item_of item.now)) result self.new }
         ensures own { NeverStore result }
     {
         match item {
@@ -86,8 +87,8 @@ impl PartCandidate {
     }
 
     fn take_write(&mut self, line: u64, write: &Write) -> Result<(), Refusal>
-        ensures takes { (a : Replica) (items : List ItemOfBatch) (p : Progress) → IsReplica p.replica → Has (ItemOfBatch.W write.now) items → ShowsInside a items self.old p
-            → TakesInside a items (take_write line p write.now) result self.new }
+        ensures takes { (a : Replica) (items : List ItemOfBatch) (inside : WriteOfReplica → Bool) (p : Progress) → IsReplica p.replica → Has (ItemOfBatch.W write.now) items → Covers a items inside
+            → ShowsPicked a inside self.old p → TakesPicked a inside (take_write line p write.now) result self.new }
         ensures own { NeverStore result }
     {
         write.is_within_limits();
@@ -99,8 +100,8 @@ impl PartCandidate {
     }
 
     fn take_commit(&mut self, line: u64, seq: CommitNumber, id: WriteId) -> Result<(), Refusal>
-        ensures takes { (a : Replica) (items : List ItemOfBatch) (p : Progress) → IsReplica p.replica → Has (ItemOfBatch.C seq id) items → ShowsInside a items self.old p
-            → TakesInside a items (take_commit line p seq id) result self.new }
+        ensures takes { (a : Replica) (items : List ItemOfBatch) (inside : WriteOfReplica → Bool) (p : Progress) → IsReplica p.replica → Has (ItemOfBatch.C seq id) items → Covers a items inside
+            → ShowsPicked a inside self.old p → TakesPicked a inside (take_commit line p seq id) result self.new }
         ensures own { NeverStore result }
     {
         if !self.judge_commit(line, seq, id)? {

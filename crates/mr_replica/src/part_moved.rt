@@ -51,7 +51,7 @@ impl Part {
 }
 
 /// The change from the old numbers to the new ones, with these rooms more, where these writes stand behind the old commits.
-fn rewritten(
+pub(crate) fn rewritten(
     alloc: Global,
     old: &Summary,
     summary: &Summary,

@@ -1,53 +1,56 @@
-use Rattle.std.proofs.Common.{◌≡◌, Err, map, length, ap, ◌∙◌, inl, inr}
+use Rattle.std.proofs.Common.{◌≡◌, ◌-◌, Err, Ok, length, map, arith, ap, sym, ◌∙◌, inl, inr}
 use Rattle.std.proofs.lemmas.Result.{err_from_is_err_and}
-use Rattle.mr_model.specs.Replies.{Took}
+use Rattle.mr_model.specs.Step.{After, after_items}
+use Rattle.mr_model.specs.Taking.{take_items}
 use Rattle.mr_base.specs.Batches.{item_of}
-use Rattle.mr_replica.specs.Desk.{nothing_taken}
-use Rattle.mr_replica.proofs.Desks.{summary_in}
-use Rattle.mr_replica.proofs.Receiving.{new_shows, all_taken, none_taken}
-use Rattle.mr_replica.proofs.ReceivedRows.{all_turned}
+use Rattle.mr_replica.specs.Desk.{DeskView, desk_of, nothing_taken}
+use Rattle.mr_replica.specs.PartCandidate.{PartCandidateView}
+use Rattle.mr_replica.proofs.DeskReceives.{desk_reaches, desk_took, desk_refused, tables_turned}
 use Rattle.mr_replica.proofs.desk.Desk.take_items.Goals as goal
+
+pub returns-in_err-marks-clause-step : goal.returns-in_err-marks-clause-step
+returns-in_err-marks-clause-step c = λ good short a sound stands.
+    let p = err_from_is_err_and c.from_residual.result c.from_residual.ensures.1 in
+    inr (p.1 ∙ ap Err (p.2 ∙ c.in_err-marks.ensures.only), λ _. c.args.self.now)
 
 pub returns-in_err-candidate-clause-step : goal.returns-in_err-candidate-clause-step
 returns-in_err-candidate-clause-step c = λ good short a sound stands.
-    let p = err_from_is_err_and c.from_residual.result c.from_residual.ensures.1 in
-    inr (p.1 ∙ ap Err (p.2 ∙ c.in_err-candidate.ensures.only), λ _. c.args.self.now)
+    let p = err_from_is_err_and c.from_residual-in_err-candidate.result c.from_residual-in_err-candidate.ensures.1 in
+    desk_refused a c.args.self.now (take_items (map item_of c.args.items.now) 2 (Ok (nothing_taken a))) c.from_residual-in_err-candidate.result c.in_err-candidate.field-0.0 (p.1 ∙ ap Err p.2) stands
+    (c.in_err-candidate.ensures.takes good short a sound stands (c.deref.ensures.value ∙ c.in_ok-marks.ensures.marks a sound stands))
 
-pub returns-in_err-take_all-clause-step : goal.returns-in_err-take_all-clause-step
-returns-in_err-take_all-clause-step c = λ good short a sound stands.
-    let p = err_from_is_err_and c.from_residual-in_err-take_all.result c.from_residual-in_err-take_all.ensures.1 in
-    let start : c.in_ok-candidate.candidate ≡ record { summary = c.self.inside.summary; rooms = c.self.inside.rooms.items; kept = c.self.inside.log.kept; same = length c.self.inside.log.kept } =
-    c.in_ok-candidate.ensures.candidate ∙ (λ t. record { summary = c.self.inside.summary; rooms = c.deref.ensures.value t; kept = c.kept.ensures t; same = length (c.kept.ensures t) }) in
-    let e = c.self.view_is in
-    let shows = new_shows a c.args.self.now c.in_ok-candidate.candidate (length c.args.self.now.log.kept) stands (start ∙ (λ t. record { summary = summary_in (e t); rooms = (e t).rooms; kept = (e t).log.kept; same = length (e t).log.kept })) in
-    none_taken a c.args.self.now c.take_all.new.self (map item_of c.args.items.now) c.from_residual-in_err-take_all.result c.in_err-take_all.field-0.0 (p.1 ∙ ap Err p.2) stands (c.in_err-take_all.ensures.takes (nothing_taken a) sound good short shows)
-
-pub returns-in_err-taken-clause-step : goal.returns-in_err-taken-clause-step
-returns-in_err-taken-clause-step c = λ good short a sound stands.
-    let p = err_from_is_err_and c.from_residual-in_err-taken.result c.from_residual-in_err-taken.ensures.1 in
-    inr (p.1 ∙ ap Err (p.2 ∙ c.in_err-taken.ensures.only), c.in_err-taken.ensures.err)
-
--- the candidate begins as what the desk is
-begins : (c : goal.In_ok-taken) → c.in_ok-candidate.candidate ≡ record { summary = summary_in c.args.self.now; rooms = c.args.self.now.rooms; kept = c.args.self.now.log.kept; same = length c.args.self.now.log.kept }
-begins c =
-    let i = c.self.inside in
-    let e = c.self.view_is in
-    c.in_ok-candidate.ensures.candidate ∙ (λ t. record { summary = i.summary; rooms = c.deref.ensures.value t; kept = c.kept.ensures t; same = length (c.kept.ensures t) })
-    ∙ (λ t. record { summary = summary_in (e t); rooms = (e t).rooms; kept = (e t).log.kept; same = length (e t).log.kept })
+pub returns-in_err-change-clause-step : goal.returns-in_err-change-clause-step
+returns-in_err-change-clause-step c = λ good short a sound stands.
+    let p = err_from_is_err_and c.from_residual-in_err-change.result c.from_residual-in_err-change.ensures.1 in
+    inr (p.1 ∙ ap Err (p.2 ∙ c.in_err-change.ensures.only), c.in_err-change.ensures.err)
 
 pub returns-clause-step : goal.returns-clause-step
 returns-clause-step c = λ good short a sound stands.
-    let old = c.args.self.now in
-    let start = c.in_ok-candidate.candidate in
-    let shows = new_shows a old start (length old.log.kept) stands (begins c) in
-    let took = c.in_ok-take_all.ensures.takes (nothing_taken a) sound good short shows in
-    let all = all_taken a old start c.take_all.new.self c.adopt.new.self (map item_of c.args.items.now) sound stands (begins c) good c.in_ok-take_all.ensures.front took c.in_ok-taken.ensures.ok in
-    inl ((λ t. Took (c.in_ok-taken.ensures.writes t) (c.in_ok-taken.ensures.commits t)) ∙ all.0, all.1)
+    let d = c.args.self.now in
+    let items = map item_of c.args.items.now in
+    let k = c.in_ok-candidate.candidate in
+    let marks = c.in_ok-marks.ensures.marks a sound stands in
+    let t = c.in_ok-candidate.ensures.takes good short a sound stands (c.deref.ensures.value ∙ marks) in
+    let reaches = desk_reaches a d items k t.0 sound stands good t.1 t.2 in
+    let done = c.in_ok-change.ensures.reached a t.0.replica reaches (c.deref-2.ensures.value ∙ marks) in
+    let step = ap (after_items a) t.1 in
+    let e = c.candidate-2.view_is in
+    let v = c.self.view_is in
+    let have = ap (λ (x : PartCandidateView). length x.kept) e in
+    let had = ap length c.kept.ensures ∙ ap (λ (x : DeskView). length x.log.kept) v in
+    let now = ap (λ (x : PartCandidateView). x.summary.commits) e in
+    let before = ap (λ (x : DeskView). x.commits) v in
+    let writes : c.saturating_sub-writes.result ≡ length k.kept - length d.log.kept = omega (arith, c.saturating_sub-writes.ensures, c.len.ensures, have, had) in
+    let commits : c.saturating_sub-commits.result ≡ k.summary.commits - d.commits = omega (arith, c.saturating_sub-commits.ensures, now, before) in
+    inl (desk_took a d items k t.0 c.saturating_sub-writes.result c.saturating_sub-commits.result sound stands good t.1 t.2 writes commits, done.1 ∙ ap (λ (x : After). desk_of x.replica) (sym step))
 
 pub returns-clause-change : goal.returns-clause-change
 returns-clause-change c = λ good short a sound stands.
-    let old = c.args.self.now in
-    let start = c.in_ok-candidate.candidate in
-    let shows = new_shows a old start (length old.log.kept) stands (begins c) in
-    let took = c.in_ok-take_all.ensures.takes (nothing_taken a) sound good short shows in
-    all_turned a old start c.take_all.new.self c.adopt.new.self (map item_of c.args.items.now) c.in_ok-taken.taken.2 sound stands (begins c) good c.in_ok-take_all.ensures.front c.in_ok-take_all.ensures.marks took c.in_ok-taken.ensures.ok c.in_ok-taken.ensures.change
+    let d = c.args.self.now in
+    let items = map item_of c.args.items.now in
+    let k = c.in_ok-candidate.candidate in
+    let marks = c.in_ok-marks.ensures.marks a sound stands in
+    let t = c.in_ok-candidate.ensures.takes good short a sound stands (c.deref.ensures.value ∙ marks) in
+    let reaches = desk_reaches a d items k t.0 sound stands good t.1 t.2 in
+    let done = c.in_ok-change.ensures.reached a t.0.replica reaches (c.deref-2.ensures.value ∙ marks) in
+    tables_turned a t.0.replica d c.adopt.new.self c.in_ok-change.change sound reaches.moves.sound stands done.1 done.0

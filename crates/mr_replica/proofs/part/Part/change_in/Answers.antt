@@ -39,7 +39,7 @@ returns-clause-change c = λ a p t touched.
     let m = batches_move_touched_rooms items 2 (nothing_taken a) p t.sound (all_within items t.good) t.taken in
     let commits : c.self.inside.summary.commits ≡ length a.commits = ap (λ (v : PartView). v.summary.commits) (c.self.view_is ∙ t.is_part) in
     let kept : c.deref.result.now ≡ map (logged_of b) (filter (is_inside a items) (kept_in_order b)) = c.deref.ensures.value ∙ ap (λ (v : PartCandidateView). v.kept) view ∙ shows.kept in
-    let writes = c.in_ok-again.ensures.writes a b (record { sound = t.sound; moves = m; are_touched = touched; commits_are = commits; kept_are = kept; marks = shows.marks }) in
+    let writes = c.in_ok-again.ensures.writes a b (is_inside a items) (record { sound = t.sound; moves = m; are_touched = touched; commits_are = commits; covers = λ w e. e; kept_are = kept; marks = shows.marks }) in
     let undone = c.in_ok-undone.ensures.rows a t.sound t.is_part touched in
     c.in_ok-change.ensures.turns items a b (record {
       sound = t.sound;

@@ -4,6 +4,7 @@ use Rattle.std.specs.Prelude.{flat_map}
 use Rattle.mr_base.specs.Batches.{item_of}
 use Rattle.mr_replica.specs.Moves.{rooms_named, AreTouched}
 use Rattle.mr_replica.specs.Parts.{PartView}
+use Rattle.mr_replica.specs.PartCandidate.{is_inside}
 use Rattle.mr_replica.specs.PickedBookings.{AreSameRooms}
 use Rattle.mr_replica.proofs.Moves.{touched_told}
 use Rattle.mr_replica.proofs.part.Part.touched_by.Goals as goal
@@ -13,7 +14,7 @@ returns-clause-rooms c = λ a sound part.
     let items = map item_of c.args.items.now in
     let commits = ap (λ (v : PartView). v.summary.commits) (c.self.view_is ∙ part) in
     let kept = c.deref.ensures.value ∙ ap (λ (v : PartView). v.kept) (c.self.view_is ∙ part) in
-    touched_told a items sound c.in_ok-rooms.rooms.items
+    touched_told a items (is_inside a items) sound (λ w e. e) c.in_ok-rooms.rooms.items
     (subst (λ names. AreSameRooms c.in_ok-rooms.rooms.items names) (λ t. flat_map (rooms_named (commits t) (kept t)) items) c.in_ok-rooms.ensures.rooms)
 
 pub returns-in_err-rooms-clause-rooms : goal.returns-in_err-rooms-clause-rooms

@@ -8,6 +8,7 @@ use Rattle.mr_model.specs.Tables.{seq_of, place_of}
 use Rattle.mr_base.specs.Batches.{item_of}
 use Rattle.mr_replica.specs.Moves.{moves_in}
 use Rattle.mr_replica.specs.Parts.{PartView}
+use Rattle.mr_replica.specs.PartCandidate.{is_inside}
 use Rattle.mr_replica.specs.PickedUndo.{undo_with}
 use Rattle.mr_replica.proofs.Moves.{undone_picked}
 use Rattle.mr_replica.proofs.part.Part.undone_by.Goals as goal
@@ -23,7 +24,7 @@ returns-clause-rows c = λ a sound part right.
     let undo = c.deref-3.ensures.value ∙ ap (λ (v : PartView). v.undo) e ∙ ap (map row) (sym kept) in
     c.in_ok-rows.ensures.rows c.args.touched.now items c.self.inside.summary.commits c.in_ok-rooms.ensures.set c.tail_of-tail.ensures (seq_of a) row marks undo
     ∙ (λ t. map row (filter (λ w. seq_of a w == 0 && moves_in c.args.touched.now items (commits t) w) (kept t)))
-    ∙ ap (map row) (undone_picked a items c.args.touched.now sound right)
+    ∙ ap (map row) (undone_picked a items (is_inside a items) c.args.touched.now sound (λ w e. e) right)
 
 pub returns-in_err-rows-clause-rows : goal.returns-in_err-rows-clause-rows
 returns-in_err-rows-clause-rows c = λ a sound part right.

@@ -1,0 +1,340 @@
+-- What a batch makes of a desk's log: the board, and what undoes each kept write.
+use Rattle.std.proofs.Common.{◌≡◌, refl, sym, ap, ◌∙◌, subst, ◌==◌, ◌&&◌, Bool, true, false, not, length, cond, List, [], ◌∷◌, ◌++◌, map, ◌⊎◌, inl, inr, IsTrue, arith, append_assoc, append-nil}
+use Rattle.std.proofs.lemmas.Bool.{true≢false, cond-true, cond-false, not-true}
+use Rattle.std.proofs.lemmas.List.{map-append}
+use Rattle.std.proofs.lemmas.List.Elements.{filter-append}
+use Rattle.std.specs.List.{filter}
+use Rattle.std.specs.Str.{bytes_eq}
+use Rattle.mr_model.specs.Texts.{Text}
+use Rattle.mr_model.specs.Writes.{Id, Write, id_of, stamp_before}
+use Rattle.mr_model.specs.Replay.{Place}
+use Rattle.mr_model.specs.Replica.{Replica, IsReplica, committed, tentative, order_of, is_among}
+use Rattle.mr_model.specs.Exchange.{Item}
+use Rattle.mr_model.specs.Kept.{dropped_in_order, kept_in_order}
+use Rattle.mr_model.specs.RowsInScope.{kept_commits}
+use Rattle.mr_model.specs.View.{of_room}
+use Rattle.mr_model.specs.Tables.{seq_of, place_of, tables_of}
+use Rattle.mr_model.specs.Dropped.{Has}
+use Rattle.mr_model.specs.Scopes.{is_touched}
+use Rattle.mr_model.specs.Moving.{may_move, again, BatchMoves}
+use Rattle.mr_model.proofs.KnownById.{one_known, tentative_known, committed_known, tentative_sorted}
+use Rattle.mr_model.proofs.LogOrder.{order-parts, kept_known}
+use Rattle.mr_model.proofs.Members.{Distinct, sorted_same, sorted_filter, has_left, has_right, has_split, has_filter, filter_has, has_map, map_has, has_among, not_among, among_not, distinct_append, distinct_parts}
+use Rattle.mr_model.proofs.OrderedSets.{Before, before-true, before_from, before_trans}
+use Rattle.mr_model.proofs.ReceivedPlaces.{append_split}
+use Rattle.mr_model.proofs.RoomPlaces.{distinct_filter, known_in_order, committed-parts}
+use Rattle.mr_model.proofs.RowsTell.{order_known}
+use Rattle.mr_replay.specs.Places.{UndoRow}
+use Rattle.mr_replay.specs.Rows.{Rows, executed, executed_all, undone_all, undo_rows_of}
+use Rattle.mr_replay.specs.Holds.{HaveDistinctIds, HoldsIn, Holds}
+use Rattle.mr_replay.specs.Bookings.{if_booked}
+use Rattle.mr_replay.proofs.Holding.{Holds-empty, Holds-executed_all}
+use Rattle.mr_replay.proofs.Lists.{distinct-part, same_name}
+use Rattle.mr_replay.proofs.OneBoard.{one_board}
+use Rattle.mr_replay.proofs.RoomBookings.{in_order-undone_all}
+use Rattle.mr_replica.specs.Desk.{desk_of}
+use Rattle.mr_replica.specs.Moves.{AreTouched, moves_in}
+use Rattle.mr_replica.specs.PickedUndo.{undo_with}
+use Rattle.mr_replica.proofs.BoardRows.{places_head}
+use Rattle.mr_replica.proofs.DeskRows.{order_distinct, dropped_long}
+use Rattle.mr_replica.proofs.Moves.{none_passes, all_pass, moves_not, moves_as}
+use Rattle.mr_replica.proofs.Logs.{executed_all-append}
+use Rattle.mr_replica.proofs.PartMoves.{moving, apart, last}
+use Rattle.mr_replica.proofs.RoomBoards.{holds_undone, places_executed}
+
+-- ---- lists
+
+-- tests that agree pick the same
+filter_same : {A : Type 0} (p q : A → Bool) (xs : List A) → ((x : A) → Has x xs → p x ≡ q x) → filter p xs ≡ filter q xs
+filter_same p q [] e = refl
+filter_same p q (x ∷ xs) e = λ i. cond (e x (inl refl) i) (x ∷ filter_same p q xs (λ y h. e y (inr h)) i) (filter_same p q xs (λ y h. e y (inr h)) i)
+
+filter-comm : {A : Type 0} (p q : A → Bool) (xs : List A) → filter p (filter q xs) ≡ filter q (filter p xs)
+filter-comm {A} p q [] = refl
+filter-comm {A} p q (x ∷ xs) = go (p x) refl (q x) refl (filter-comm p q xs)
+  where
+    go : (b : Bool) → p x ≡ b → (c : Bool) → q x ≡ c → filter p (filter q xs) ≡ filter q (filter p xs) → filter p (cond c (x ∷ filter q xs) (filter q xs)) ≡ filter q (cond b (x ∷ filter p xs) (filter p xs))
+    go true e true f ih = cond-true (p x) (x ∷ filter p (filter q xs)) (filter p (filter q xs)) e ∙ ap (λ (ys : List A). x ∷ ys) ih ∙ sym (cond-true (q x) (x ∷ filter q (filter p xs)) (filter q (filter p xs)) f)
+    go true e false f ih = ih ∙ sym (cond-false (q x) (x ∷ filter q (filter p xs)) (filter q (filter p xs)) f)
+    go false e true f ih = cond-false (p x) (x ∷ filter p (filter q xs)) (filter p (filter q xs)) e ∙ ih
+    go false e false f ih = ih
+
+map_same : {A B : Type 0} (f g : A → B) (xs : List A) → ((x : A) → Has x xs → f x ≡ g x) → map f xs ≡ map g xs
+map_same f g [] e = refl
+map_same f g (x ∷ xs) e = λ i. e x (inl refl) i ∷ map_same f g xs (λ y h. e y (inr h)) i
+
+-- no write stands in both parts of a list of different ids
+twice : (xs ys : List Write) (v : Write) → HaveDistinctIds (xs ++ ys) → Has v xs → Has v ys → ⊥
+twice xs ys v d f g = (distinct_parts (map id_of xs) (map id_of ys) (subst Distinct (map-append id_of xs ys) d)).2 (id_of v) (has_map id_of v xs f) (has_map id_of v ys g)
+
+-- what undoes writes that get these places
+pub undo_rows_are : (f : Write → Place) (b : Rows) (ws : List Write) → map (λ u. u.place) (undo_rows_of b ws) ≡ map f ws → undo_rows_of b ws ≡ map (undo_with f) ws
+undo_rows_are f b [] e = refl
+undo_rows_are f b (w ∷ ws) e =
+    let p = places_head f b w ws e in
+    let rest = undo_rows_are f (executed b w) ws p.1 in
+    λ i. record { id = id_of w; place = p.0 i } ∷ rest i
+
+room_own : (w : Write) (ws : List Write) → Has w ws → Has w (of_room w.room ws)
+room_own w ws h = has_filter (λ (v : Write). bytes_eq v.room w.room) w ws (same_name w.room w.room refl) h
+
+module _ (a b : Replica) (items : List Item) (m : BatchMoves a b items) (sound : IsReplica a) where
+  abbrev stays : Write → Bool
+  stays w = not (may_move a items w)
+
+  abbrev news : List Write
+  news = m.news
+
+  abbrev anew : List Write
+  anew = again a items m.news b
+
+  -- the order of each replica repeats no id
+  ids_a : HaveDistinctIds (order_of a)
+  ids_a = subst (λ (vs : List Write). HaveDistinctIds vs) (sym (order-parts a)) (order_distinct a sound)
+
+  ids_b : HaveDistinctIds (order_of b)
+  ids_b = subst (λ (vs : List Write). HaveDistinctIds vs) (sym (order-parts b)) (order_distinct b m.sound)
+
+  -- ---- what is executed anew
+
+  -- a write that was there and may not move is not executed anew
+  not_anew : (w : Write) → Has w (order_of a) → may_move a items w ≡ false → Has w anew → ⊥
+  not_anew w h still g = go (has_split w (m.rooms w.room).front (of_room w.room (moving a items a)) (subst (λ vs. Has w vs) (m.rooms w.room).was (room_own w (order_of a) h)))
+    where
+      go : Has w (m.rooms w.room).front ⊎ Has w (of_room w.room (moving a items a)) → ⊥
+      go (inl f) =
+          twice (m.rooms w.room).front (of_room w.room anew) w (subst (λ (vs : List Write). HaveDistinctIds vs) (m.rooms w.room).is (distinct-part w.room (order_of b) ids_b)) f
+          (room_own w anew g)
+      go (inr f) = true≢false (sym (filter_has (may_move a items) w (tentative a) (filter_has (λ (v : Write). bytes_eq v.room w.room) w (moving a items a) f).0).1 ∙ still)
+
+  -- a committed write isn't tentative
+  not_both : (r : Replica) (w : Write) → IsReplica r → Has w (committed r) → Has w (tentative r) → ⊥
+  not_both r w h f g = true≢false (sym (has_among (id_of w) r.commits (committed_known r w h f).1) ∙ (tentative_known r w g).1)
+
+  not_moving : (w : Write) → stays w ≡ true → may_move a items w ≡ false
+  not_moving w e = not-true (may_move a items w) e
+
+  -- the tentative writes that may not move stay as they are
+  pub stays_same : filter stays (tentative a) ≡ filter stays (tentative b)
+  stays_same =
+      sorted_same (λ x y. IsTrue (stamp_before x y)) never (λ x y z f g. before_from x z (before_trans x y z (before-true x y f) (before-true y z g)))
+      (filter stays (tentative a)) (filter stays (tentative b))
+      (sorted_filter (λ x y. IsTrue (stamp_before x y)) stays (tentative a) (tentative_sorted a sound))
+      (sorted_filter (λ x y. IsTrue (stamp_before x y)) stays (tentative b) (tentative_sorted b m.sound))
+      there back
+    where
+      never : (x : Write) → IsTrue (stamp_before x x) → ⊥
+      never x t = go (before-true x x t)
+        where
+          go : Before x x → ⊥
+          go (inl l) = omega (arith, l)
+          go (inr p) = let l = p.1 in omega (arith, l)
+
+      there : (w : Write) → Has w (filter stays (tentative a)) → Has w (filter stays (tentative b))
+      there w h = go (known_in_order b w m.sound (m.stays w (tentative_known a w f.0).0))
+        where
+          f : Has w (tentative a) × (stays w ≡ true)
+          f = filter_has stays w (tentative a) h
+
+          old : Has w (committed a) ⊎ Has w news → ⊥
+          old (inl g) = not_both a w sound g f.0
+          old (inr g) = not_anew w (has_right w (committed a) (tentative a) f.0) (not_moving w f.1) (has_left w news (moving a items b) g)
+
+          go : Has w (committed b) ⊎ Has w (tentative b) → Has w (filter stays (tentative b))
+          go (inl g) = absurd (old (has_split w (committed a) news (subst (λ ws. Has w ws) m.committed_are g)))
+          go (inr g) = has_filter stays w (tentative b) f.1 g
+
+      back : (w : Write) → Has w (filter stays (tentative b)) → Has w (filter stays (tentative a))
+      back w h = go (m.others w (tentative_known b w f.0).0)
+        where
+          f : Has w (tentative b) × (stays w ≡ true)
+          f = filter_has stays w (tentative b) h
+
+          new : Has w news ⊎ Has w (moving a items b) → ⊥
+          new (inl g) = not_both b w m.sound (subst (λ ws. Has w ws) (sym m.committed_are) (has_right w (committed a) news g)) f.0
+          new (inr g) = true≢false (sym (filter_has (may_move a items) w (tentative b) g).1 ∙ not_moving w f.1)
+
+          known : Has w (committed a) ⊎ Has w (tentative a) → Has w (filter stays (tentative a))
+          known (inl g) = absurd (not_both b w m.sound (subst (λ ws. Has w ws) (sym m.committed_are) (has_left w (committed a) news g)) f.0)
+          known (inr g) = has_filter stays w (tentative a) f.1 g
+
+          go : Has w anew ⊎ (Has w a.known × (place_of a w ≡ place_of b w) × (seq_of a w ≡ seq_of b w)) → Has w (filter stays (tentative a))
+          go (inl g) = absurd (new (has_split w news (moving a items b) g))
+          go (inr g) = known (known_in_order a w sound g.0)
+
+  -- ---- the kept writes
+
+  pub kept_is : kept_commits b ≡ kept_commits a ++ news
+  kept_is =
+      (append_split (dropped_in_order b) (dropped_in_order a) (kept_commits b) (kept_commits a ++ news) (dropped_long b m.sound ∙ sym m.dropped ∙ sym (dropped_long a sound))
+      (sym (committed-parts b) ∙ m.committed_are ∙ ap (λ ws. ws ++ news) (committed-parts a) ∙ append_assoc (dropped_in_order a) (kept_commits a) news)).1
+
+  -- the test of a kept write of the second replica: it is executed anew
+  abbrev pub is_new : Write → Bool
+  is_new w = is_among (id_of w) (map id_of anew)
+
+  anew_is : (w : Write) → Has w anew → Has w news ⊎ Has w (moving a items b)
+  anew_is w h = has_split w news (moving a items b) h
+
+  behind : (w : Write) → Has w anew → Has w (news ++ tentative b)
+  behind w h = go (anew_is w h)
+    where
+      go : Has w news ⊎ Has w (moving a items b) → Has w (news ++ tentative b)
+      go (inl g) = has_left w news (tentative b) g
+      go (inr g) = has_right w news (tentative b) (filter_has (may_move a items) w (tentative b) g).0
+
+  ids_parts : HaveDistinctIds (committed a ++ (news ++ tentative b))
+  ids_parts = subst (λ (vs : List Write). HaveDistinctIds vs) (ap (λ ws. ws ++ tentative b) m.committed_are ∙ append_assoc (committed a) news (tentative b)) ids_b
+
+  parts : Distinct (map id_of (committed a)) × Distinct (map id_of (news ++ tentative b)) × ((x : Id) → Has x (map id_of (committed a)) → Has x (map id_of (news ++ tentative b)) → ⊥)
+  parts = distinct_parts (map id_of (committed a)) (map id_of (news ++ tentative b)) (subst Distinct (map-append id_of (committed a) (news ++ tentative b)) ids_parts)
+
+  last_parts : Distinct (map id_of news) × Distinct (map id_of (tentative b)) × ((x : Id) → Has x (map id_of news) → Has x (map id_of (tentative b)) → ⊥)
+  last_parts = distinct_parts (map id_of news) (map id_of (tentative b)) (subst Distinct (map-append id_of news (tentative b)) parts.1)
+
+  old_commit : (w : Write) → Has w (kept_commits a) → is_new w ≡ false
+  old_commit w h =
+      not_among (id_of w) (map id_of anew) (λ g.
+      let (v, k, e) = map_has id_of (id_of w) anew g in
+      parts.2 (id_of w) (has_map id_of w (committed a) (subst (λ ws. Has w ws) (sym (committed-parts a)) (has_right w (dropped_in_order a) (kept_commits a) h)))
+      (subst (λ i. Has i (map id_of (news ++ tentative b))) (sym e) (has_map id_of v (news ++ tentative b) (behind v k))))
+
+  new_commit : (w : Write) → Has w news → is_new w ≡ true
+  new_commit w h = has_among (id_of w) (map id_of anew) (has_map id_of w anew (has_left w news (moving a items b) h))
+
+  open_one : (w : Write) → Has w (tentative b) → is_new w ≡ may_move a items w
+  open_one w h = go (may_move a items w) refl
+    where
+      go : (c : Bool) → may_move a items w ≡ c → is_new w ≡ c
+      go true e = has_among (id_of w) (map id_of anew) (has_map id_of w anew (has_right w news (moving a items b) (has_filter (may_move a items) w (tentative b) e h)))
+      go false e = not_among (id_of w) (map id_of anew) (λ g. let (v, k, s) = map_has id_of (id_of w) anew g in clash v s (anew_is v k))
+        where
+          clash : (v : Write) → id_of w ≡ id_of v → Has v news ⊎ Has v (moving a items b) → ⊥
+          clash v s (inl k) = last_parts.2 (id_of w) (subst (λ i. Has i (map id_of news)) (sym s) (has_map id_of v news k)) (has_map id_of w (tentative b) h)
+          clash v s (inr k) =
+              let f = filter_has (may_move a items) v (tentative b) k in
+              let same : w ≡ v = one_known b w v m.sound (tentative_known b w h).0 (tentative_known b v f.0).0 s in
+              true≢false (sym f.1 ∙ ap (may_move a items) (sym same) ∙ e)
+
+  -- those that pass are executed anew, in this order
+  pub new_picked : filter is_new (kept_in_order b) ≡ anew
+  new_picked =
+      filter-append is_new (kept_commits b) (tentative b)
+      ∙ ap (λ ws. filter is_new ws ++ filter is_new (tentative b)) kept_is
+      ∙ (λ i. filter-append is_new (kept_commits a) news i ++ filter is_new (tentative b))
+      ∙ (λ i.
+      ((filter_same is_new (λ w. false) (kept_commits a) old_commit ∙ none_passes (kept_commits a)) i
+      ++ (filter_same is_new (λ w. true) news new_commit ∙ all_pass news) i)
+      ++ filter_same is_new (may_move a items) (tentative b) open_one i)
+
+  -- the others are the kept writes of the first replica that stay
+  pub others_picked : filter (λ w. not (is_new w)) (kept_in_order b) ≡ kept_commits a ++ filter stays (tentative b)
+  others_picked =
+      let old = filter_same (λ w. not (is_new w)) (λ w. true) (kept_commits a) (λ w h. ap not (old_commit w h)) ∙ all_pass (kept_commits a) in
+      let none = filter_same (λ w. not (is_new w)) (λ w. false) news (λ w h. ap not (new_commit w h)) ∙ none_passes news in
+      filter-append (λ w. not (is_new w)) (kept_commits b) (tentative b)
+      ∙ ap (λ ws. filter (λ w. not (is_new w)) ws ++ filter (λ w. not (is_new w)) (tentative b)) kept_is
+      ∙ (λ i. filter-append (λ w. not (is_new w)) (kept_commits a) news i ++ filter (λ w. not (is_new w)) (tentative b))
+      ∙ (λ i. (old i ++ none i) ++ filter_same (λ w. not (is_new w)) stays (tentative b) (λ w h. ap not (open_one w h)) i)
+      ∙ (λ i. append-nil (kept_commits a) i ++ filter stays (tentative b))
+
+  -- they have the places that they had
+  pub others_places : map (undo_with (place_of a)) (kept_commits a ++ filter stays (tentative a)) ≡ map (undo_with (place_of b)) (filter (λ w. not (is_new w)) (kept_in_order b))
+  others_places =
+      ap (λ ws. map (undo_with (place_of a)) (kept_commits a ++ ws)) stays_same
+      ∙ ap (map (undo_with (place_of a))) (sym others_picked)
+      ∙ map_same (undo_with (place_of a)) (undo_with (place_of b)) (filter (λ w. not (is_new w)) (kept_in_order b)) same
+    where
+      same : (w : Write) → Has w (filter (λ w. not (is_new w)) (kept_in_order b)) → undo_with (place_of a) w ≡ undo_with (place_of b) w
+      same w h = go (m.others w (kept_known b w m.sound f.0).0)
+        where
+          f : Has w (kept_in_order b) × (not (is_new w) ≡ true)
+          f = filter_has (λ w. not (is_new w)) w (kept_in_order b) h
+
+          go : Has w anew ⊎ (Has w a.known × (place_of a w ≡ place_of b w) × (seq_of a w ≡ seq_of b w)) → undo_with (place_of a) w ≡ undo_with (place_of b) w
+          go (inl g) = absurd (true≢false (sym (has_among (id_of w) (map id_of anew) (has_map id_of w anew g)) ∙ not-true (is_new w) f.1))
+          go (inr g) = λ i. record { id = id_of w; place = g.1 i }
+
+  -- the rows of those that stay, picked from all
+  pub others_rows : (touched : List Text) → AreTouched touched a items → map (undo_with (place_of a)) (filter (λ w. not (seq_of a w == 0 && moves_in touched items (length a.commits) w)) (kept_in_order a)) ≡ map (undo_with (place_of b)) (filter (λ w. not (is_new w)) (kept_in_order b))
+  others_rows touched right =
+      ap (map (undo_with (place_of a))) (filter-append (λ w. not (seq_of a w == 0 && moves_in touched items (length a.commits) w)) (kept_commits a) (tentative a)
+      ∙ (λ i.
+      (filter_same (λ w. not (seq_of a w == 0 && moves_in touched items (length a.commits) w)) (λ w. true) (kept_commits a) (λ w h. ap not (moves_not a items touched sound w h)) ∙ all_pass (kept_commits a)) i
+      ++ filter_same (λ w. not (seq_of a w == 0 && moves_in touched items (length a.commits) w)) stays (tentative a) (λ w h. ap not (moves_as a items touched right w h)) i))
+      ∙ others_places
+
+  -- ---- the board
+
+  abbrev left : List Write
+  left = filter (λ w. not (is_among (id_of w) (map id_of (moving a items a)))) (order_of a)
+
+  -- what is left of a room is its front
+  front_is : (room : Text) → (m.rooms room).front ≡ of_room room left
+  front_is room =
+      let keep = λ (w : Write). not (is_among (id_of w) (map id_of (moving a items a))) in
+      let front = (m.rooms room).front in
+      let mine = of_room room (moving a items a) in
+      sym (append-nil front)
+      ∙ (λ i.
+      (sym (all_pass front) ∙ filter_same (λ w. true) keep front (λ w h. sym (ap not (stays_out w h)))) i
+      ++ (sym (none_passes mine) ∙ filter_same (λ w. false) keep mine (λ w h. sym (ap not (goes_out w h)))) i)
+      ∙ sym (filter-append keep front mine)
+      ∙ ap (filter keep) (sym (m.rooms room).was)
+      ∙ filter-comm keep (λ (w : Write). bytes_eq w.room room) (order_of a)
+    where
+      stays_out : (w : Write) → Has w (m.rooms room).front → is_among (id_of w) (map id_of (moving a items a)) ≡ false
+      stays_out w h =
+          not_among (id_of w) (map id_of (moving a items a)) (λ g.
+          let (v, k, e) = map_has id_of (id_of w) (moving a items a) g in
+          among_not (id_of v) (map id_of (m.rooms room).front) (apart a b items m sound room v k) (subst (λ i. Has i (map id_of (m.rooms room).front)) e (has_map id_of w (m.rooms room).front h)))
+
+      goes_out : (w : Write) → Has w (of_room room (moving a items a)) → is_among (id_of w) (map id_of (moving a items a)) ≡ true
+      goes_out w h = has_among (id_of w) (map id_of (moving a items a)) (has_map id_of w (moving a items a) (filter_has (λ (v : Write). bytes_eq v.room room) w (moving a items a) h).0)
+
+  -- the board of a replica holds its order
+  board_holds : (r : Replica) → IsReplica r → Holds (order_of r) (desk_of r).log.board
+  board_holds r h =
+      subst (λ (ws : List Write). Holds ws (desk_of r).log.board) (sym (order-parts r))
+      (subst (λ (c : Rows). Holds (dropped_in_order r ++ kept_in_order r) c) (executed_all-append [] (dropped_in_order r) (kept_in_order r)) (Holds-executed_all [] (dropped_in_order r ++ kept_in_order r) [] (order_distinct r h) Holds-empty))
+
+  module _ (us : List UndoRow) (named : map (λ u. u.id) us ≡ map id_of (moving a items a)) where
+    abbrev board : Rows
+    board = undone_all (desk_of a).log.board us
+
+    room_left : (room : Text) → HoldsIn room (m.rooms room).front board
+    room_left room =
+        holds_undone room (m.rooms room).front (moving a items a) us (desk_of a).log.board named (apart a b items m sound room) (board_holds a sound).ordered
+        (subst (λ (vs : List Write). HoldsIn room vs (desk_of a).log.board) (m.rooms room).was ((board_holds a sound).rooms room))
+
+    -- they get the places that the second replica gives them
+    pub new_places : map (λ u. u.place) (undo_rows_of board anew) ≡ map (place_of b) anew
+    new_places =
+        places_executed b (is_touched (tables_of a) items) (λ room. (m.rooms room).front) anew board (last a b items m sound) (in_order-undone_all us (desk_of a).log.board (board_holds a sound).ordered)
+        (λ room t q. ap if_booked (room_left room q))
+
+    ids_again : HaveDistinctIds (left ++ anew)
+    ids_again =
+        subst Distinct (sym (map-append id_of left anew))
+        (distinct_append (map id_of left) (map id_of anew) (distinct_filter (λ w. not (is_among (id_of w) (map id_of (moving a items a)))) (order_of a) ids_a)
+        (subst Distinct (sym (map-append id_of news (moving a items b)))
+        (distinct_append (map id_of news) (map id_of (moving a items b)) last_parts.0 (distinct_filter (may_move a items) (tentative b) last_parts.1)
+        (λ i f g. let (v, k, e) = map_has id_of i (moving a items b) g in last_parts.2 i f (subst (λ j. Has j (map id_of (tentative b))) (sym e) (has_map id_of v (tentative b) (filter_has (may_move a items) v (tentative b) k).0)))))
+        (λ i f g.
+        let (w, h, e) = map_has id_of i left f in
+        let (v, k, s) = map_has id_of i anew g in
+        let was = (filter_has (λ u. not (is_among (id_of u) (map id_of (moving a items a)))) w (order_of a) h).0 in
+        let same : w ≡ v = one_known b w v m.sound (m.stays w (order_known a w sound was)) (m.moved v k).0 (sym e ∙ s) in
+        twice (m.rooms w.room).front (of_room w.room anew) w (subst (λ (vs : List Write). HaveDistinctIds vs) (m.rooms w.room).is (distinct-part w.room (order_of b) ids_b))
+        (subst (λ vs. Has w vs) (sym (front_is w.room)) (room_own w left h))
+        (room_own w anew (subst (λ u. Has u anew) (sym same) k))))
+
+    -- and the board is that of the second replica
+    pub new_board : executed_all board anew ≡ (desk_of b).log.board
+    new_board =
+        let start : Holds left board = record { ordered = in_order-undone_all us (desk_of a).log.board (board_holds a sound).ordered; rooms = λ room. subst (λ (vs : List Write). HoldsIn room vs board) (front_is room) (room_left room) } in
+        let all = Holds-executed_all left anew board ids_again start in
+        let lists = λ (room : Text). filter-append (λ (w : Write). bytes_eq w.room room) left anew ∙ ap (λ ws. ws ++ of_room room anew) (sym (front_is room)) ∙ sym (m.rooms room).is in
+        one_board (λ room. of_room room (order_of b)) (executed_all board anew) (desk_of b).log.board
+        (record { ordered = all.ordered; rooms = λ room. subst (λ (vs : List Write). HoldsIn room vs (executed_all board anew)) (lists room) (all.rooms room) })
+        (board_holds b m.sound)

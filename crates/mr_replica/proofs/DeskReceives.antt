@@ -1,0 +1,178 @@
+-- A desk that takes a batch: its commit numbers, its candidate, its log and the change of its tables.
+use Rattle.std.proofs.Common.{◌≡◌, true, refl, sym, ap, ◌∙◌, ℕ, zero, suc, ◌+◌, ◌-◌, ◌<◌, ◌≤◌, ◌==◌, ◌&&◌, List, [], ◌∷◌, ◌++◌, length, map, take, ◌⊎◌, inl, inr, Some, Result, Ok, Err, arith}
+use Rattle.std.specs.List.{filter, slice_get, list_all}
+use Rattle.std.proofs.lemmas.List.{length-map}
+use Rattle.mr_model.specs.Texts.{Text}
+use Rattle.mr_model.specs.Writes.{Write, id_of}
+use Rattle.mr_model.specs.Exchange.{Item, is_item}
+use Rattle.mr_model.specs.Refusals as model
+use Rattle.mr_model.specs.Replica.{Replica, IsReplica}
+use Rattle.mr_model.specs.Kept.{dropped_in_order, kept_in_order}
+use Rattle.mr_model.specs.Moving.{again}
+use Rattle.mr_model.specs.Replies.{Took}
+use Rattle.mr_model.specs.Step.{After, after_items}
+use Rattle.mr_model.specs.Tables.{seq_of, place_of, tables_of}
+use Rattle.mr_model.specs.Taking.{Progress, take_items}
+use Rattle.mr_model.proofs.Moved.{batches_move_touched_rooms}
+use Rattle.mr_base.specs.declared.refusals.Refusal.{Refusal}
+use Rattle.mr_base.specs.declared.refusals.Refusal.TheVariants.{OutOfMemory}
+use Rattle.mr_base.specs.Refusals.{refusal_of}
+use Rattle.mr_replay.specs.Places.{UndoRow}
+use Rattle.mr_replay.specs.Rows.{Rows, executed_all, undone_all, undo_rows_of}
+use Rattle.mr_replay.specs.Holds.{HaveDistinctIds}
+use Rattle.mr_replay.proofs.Lists.{distinct_back}
+use Rattle.mr_tables.specs.declared.summary.Summary.{Summary}
+use Rattle.mr_tables.specs.Change.{ChangeView, changed}
+use Rattle.mr_tables.specs.Rooms.{rooms_beside}
+use Rattle.mr_tables.specs.Rows.{seq_on}
+use Rattle.mr_tables.specs.Written.{meta_of, changed_tallies, written}
+use Rattle.mr_replica.specs.declared.scope_logs.LoggedWrite.{LoggedWrite}
+use Rattle.mr_replica.specs.Desk.{DeskView, desk_of, old_errors_of, nothing_taken, reply_with}
+use Rattle.mr_replica.specs.DeskTables.{desk_tables}
+use Rattle.mr_replica.specs.Log.{KeptLog}
+use Rattle.mr_replica.specs.Moves.{AreTouched, moves_in}
+use Rattle.mr_replica.specs.PartCandidate.{PartCandidateView, ShowsPicked}
+use Rattle.mr_replica.specs.PickedLogs.{logged_of}
+use Rattle.mr_replica.specs.PickedUndo.{undo_with}
+use Rattle.mr_replica.specs.Received.{Reaches, all_writes}
+use Rattle.mr_replica.proofs.DeskMoves.{undo_rows_are, new_places}
+use Rattle.mr_replica.proofs.DeskRows.{kept_numbers, kept_places, order_distinct, desk_tables-of}
+use Rattle.mr_replica.proofs.Desks.{summary_in, desk_with}
+use Rattle.mr_replica.proofs.Moves.{all_pass, undone_picked}
+use Rattle.mr_replica.proofs.PartMoves.{moving, again_few, again_turns, named_by}
+use Rattle.mr_replica.proofs.ReceivedRows.{items-grow}
+use Rattle.mr_replica.proofs.Receiving.{items-bring}
+use Rattle.mr_replica.proofs.ReceivingPart.{all_within}
+use Rattle.mr_replica.proofs.SubmittedRows.{few_kept}
+
+-- ---- numbers
+
+take_put : (f : Write → ℕ) (ws : List Write) (k : ℕ) (n : ℕ) → k < length ws → ((w : Write) → slice_get ws k ≡ Some w → f w ≡ n) → map f (take k ws) ++ n ∷ [] ≡ map f (take (suc k) ws)
+take_put f [] k n h e = absurd (omega arith)
+take_put f (w ∷ ws) zero n h e = λ i. sym (e w refl) i ∷ []
+take_put f (w ∷ ws) (suc k) n h e = ap (λ ns. f w ∷ ns) (take_put f ws k n (omega arith) e)
+
+take_all_of : (f : Write → ℕ) (ws : List Write) (k : ℕ) → length ws ≤ k → map f (take k ws) ≡ map f ws
+take_all_of f [] zero h = refl
+take_all_of f [] (suc k) h = refl
+take_all_of f (w ∷ ws) zero h = absurd (omega arith)
+take_all_of f (w ∷ ws) (suc k) h = ap (λ ns. f w ∷ ns) (take_all_of f ws k (omega arith))
+
+-- one number more
+pub mark_more : (a : Replica) (d : DeskView) (k : ℕ) (done next : List ℕ) (n : ℕ) → IsReplica a → d ≡ desk_of a → k < length d.log.kept → (d.dropped + 1 + k < 18446744073709551616 → n ≡ seq_on d.commits (d.dropped + 1 + k)) → done ≡ map (seq_of a) (take k (kept_in_order a)) → next ≡ done ++ n ∷ [] → next ≡ map (seq_of a) (take (k + 1) (kept_in_order a))
+mark_more a d k done next n sound stands low is was more =
+    let few = few_kept a sound in
+    let size : length d.log.kept ≡ length (kept_in_order a) = ap (λ (v : DeskView). length v.log.kept) stands in
+    let dropped : d.dropped ≡ a.dropped = ap (λ (v : DeskView). v.dropped) stands in
+    let inside : k < length (kept_in_order a) = omega (arith, low, size) in
+    let small : d.dropped + 1 + k < 18446744073709551616 = omega (arith, few, inside, dropped) in
+    let number : n ≡ seq_on (length a.commits) (a.dropped + 1 + k) = is small ∙ (λ t. seq_on (stands t).commits ((stands t).dropped + 1 + k)) in
+    let place : suc k ≡ k + 1 = omega arith in
+    more ∙ ap (λ ns. ns ++ n ∷ []) was ∙ take_put (seq_of a) (kept_in_order a) k n inside (λ w e. kept_numbers a k w sound e ∙ sym number) ∙ ap (λ m. map (seq_of a) (take m (kept_in_order a))) place
+
+pub marks_end : (a : Replica) (d : DeskView) (k : ℕ) (done : List ℕ) → d ≡ desk_of a → length d.log.kept ≤ k → done ≡ map (seq_of a) (take k (kept_in_order a)) → done ≡ map (seq_of a) (kept_in_order a)
+marks_end a d k done stands all was = was ∙ take_all_of (seq_of a) (kept_in_order a) k (let size = ap (λ (v : DeskView). length v.log.kept) stands in omega (arith, all, size))
+
+-- ---- the candidate
+
+-- before the first item it shows the desk's replica
+pub desk_begins : (a : Replica) (d : DeskView) (c : PartCandidateView) → d ≡ desk_of a → c.summary ≡ summary_in d → c.rooms ≡ d.rooms → c.kept ≡ map (logged_of a) (kept_in_order a) → ShowsPicked a all_writes c (nothing_taken a)
+desk_begins a d c stands summary rooms kept =
+    let all : map (logged_of a) (kept_in_order a) ≡ map (logged_of a) (filter all_writes (kept_in_order a)) = ap (map (logged_of a)) (sym (all_pass (kept_in_order a))) in
+    let size : length c.kept ≡ length (filter all_writes (kept_in_order a)) = ap length (kept ∙ all) ∙ length-map (filter all_writes (kept_in_order a)) (logged_of a) in
+    record {
+      summary = summary ∙ ap summary_in stands;
+      rooms = rooms ∙ ap (λ (v : DeskView). v.rooms) stands;
+      kept = kept ∙ all;
+      writes = omega (arith, size);
+      marks = λ w. inl refl;
+    }
+
+-- with all items it shows what they lead to
+pub desk_reaches : (a : Replica) (d : DeskView) (items : List Item) (c : PartCandidateView) (p : Progress) → IsReplica a → d ≡ desk_of a → list_all is_item items ≡ true → take_items items 2 (Ok (nothing_taken a)) ≡ Ok p → ShowsPicked a all_writes c p → Reaches d items c.summary c.rooms c.kept a p.replica
+desk_reaches a d items c p sound stands good taken shows =
+    record {
+      sound = sound;
+      stands = stands;
+      moves = batches_move_touched_rooms items 2 (nothing_taken a) p sound (all_within items good) taken;
+      dropped = (items-bring items 2 (nothing_taken a) p sound good taken).dropped;
+      keeps_rooms = (items-grow items 2 (nothing_taken a) p sound good taken).rooms;
+      summary_is = shows.summary;
+      rooms_are = shows.rooms;
+      kept_are = shows.kept ∙ ap (map (logged_of p.replica)) (all_pass (kept_in_order p.replica));
+    }
+
+-- the answer is what the items give
+pub desk_took : (a : Replica) (d : DeskView) (items : List Item) (c : PartCandidateView) (p : Progress) (x y : ℕ) → IsReplica a → d ≡ desk_of a → list_all is_item items ≡ true → take_items items 2 (Ok (nothing_taken a)) ≡ Ok p → ShowsPicked a all_writes c p → x ≡ length c.kept - length d.log.kept → y ≡ c.summary.commits - d.commits → Took x y ≡ (after_items a (take_items items 2 (Ok (nothing_taken a)))).reply
+desk_took a d items c p x y sound stands good taken shows writes commits =
+    let brings = (items-bring items 2 (nothing_taken a) p sound good taken).commits in
+    let more = shows.writes in
+    let all = ap length (all_pass (kept_in_order a)) in
+    let kept = ap (λ (v : DeskView). length v.log.kept) stands in
+    let was = ap (λ (v : DeskView). v.commits) stands in
+    let now = ap (λ (s : Summary). s.commits) shows.summary in
+    let w : x ≡ p.writes = omega (arith, writes, more, kept, all) in
+    let m : y ≡ p.commits = omega (arith, commits, brings, was, now) in
+    (λ i. Took (w i) (m i)) ∙ ap (λ (z : After). z.reply) (sym (ap (after_items a) taken))
+
+-- ---- the log
+
+pub kept_distinct : (b : Replica) → IsReplica b → HaveDistinctIds (kept_in_order b)
+kept_distinct b sound = distinct_back (dropped_in_order b) (kept_in_order b) (order_distinct b sound)
+
+pub log_is : (b : Replica) (kept : List Write) (undo : List UndoRow) (board : Rows) → IsReplica b → kept ≡ kept_in_order b → undo ≡ map (undo_with (place_of b)) (kept_in_order b) → board ≡ (desk_of b).log.board → ◌≡◌ {A = KeptLog} (record { kept = kept; undo = undo; board = board }) (desk_of b).log
+log_is b kept undo board sound k u e =
+    let rows = u ∙ sym (undo_rows_are (place_of b) (executed_all [] (dropped_in_order b)) (kept_in_order b) (kept_places b sound)) in
+    λ i. record { kept = k i; undo = rows i; board = e i }
+
+-- ---- the change
+
+pub desk_moved : (d : DeskView) (items : List Item) (a b : Replica) (s : Summary) (rooms : List Text) (kept : List LoggedWrite) (t : Reaches d items s rooms kept a b) (ws : List Write) (rows : List UndoRow) (change : ChangeView) → ws ≡ again a items t.moves.news b → rows ≡ map (undo_with (place_of b)) (again a items t.moves.news b)
+    → (d.commits + 1 + length ws < 18446744073709551616 → change ≡ written (meta_of s) (rooms_beside d.rooms rooms) (changed_tallies d.tallies s.tallies) s.commits (d.commits + 1) ws rows)
+    → changed change (tables_of a) ≡ tables_of b
+desk_moved d items a b s rooms kept t ws rows change writes undo change_is =
+    let us = map (undo_with (place_of a)) (moving a items a) in
+    let named = named_by (undo_with (place_of a)) (moving a items a) (λ w. refl) in
+    let places = new_places a b items t.moves t.sound us named in
+    let board = undone_all (desk_of a).log.board us in
+    let rows_are : rows ≡ undo_rows_of board (again a items t.moves.news b) = undo ∙ sym (undo_rows_are (place_of b) board (again a items t.moves.news b) places) in
+    let commits : d.commits ≡ length a.commits = ap (λ (v : DeskView). v.commits) t.stands in
+    let few = again_few a b items t.moves t.sound in
+    let size = ap length writes in
+    let small : d.commits + 1 + length ws < 18446744073709551616 = omega (arith, commits, few, size) in
+    let put = change_is small
+    ∙ (λ i. written (meta_of (t.summary_is i)) (rooms_beside (t.stands i).rooms (t.rooms_are i)) (changed_tallies (t.stands i).tallies (t.summary_is i).tallies) (t.summary_is i).commits ((t.stands i).commits + 1) (writes i) (rows_are i)) in
+    ap (λ c. changed c (tables_of a)) put ∙ again_turns a b items t.moves t.sound board places t.keeps_rooms
+
+pub same_length : (b : Replica) (kept : List Write) (undo : List UndoRow) → kept ≡ kept_in_order b → undo ≡ map (undo_with (place_of b)) (kept_in_order b) → length kept ≡ length undo
+same_length b kept undo k u = ap length k ∙ sym (length-map (kept_in_order b) (undo_with (place_of b))) ∙ sym (ap length u)
+
+-- what undoes the kept writes of a replica's desk
+pub desk_undo : (a : Replica) → IsReplica a → (desk_of a).log.undo ≡ map (undo_with (place_of a)) (kept_in_order a)
+desk_undo a sound = undo_rows_are (place_of a) (executed_all [] (dropped_in_order a)) (kept_in_order a) (kept_places a sound)
+
+-- the rows of the writes that may move
+pub undone_named : (a : Replica) (items : List Item) (touched : List Text) → IsReplica a → AreTouched touched a items → map (λ (u : UndoRow). u.id) (map (undo_with (place_of a)) (filter (λ w. seq_of a w == 0 && moves_in touched items (length a.commits) w) (kept_in_order a))) ≡ map id_of (moving a items a)
+undone_named a items touched sound right =
+    ap (λ ws. map (λ (u : UndoRow). u.id) (map (undo_with (place_of a)) ws))
+    (ap (filter (λ w. seq_of a w == 0 && moves_in touched items (length a.commits) w)) (sym (all_pass (kept_in_order a))) ∙ undone_picked a items all_writes touched sound (λ w e. refl) right)
+    ∙ named_by (undo_with (place_of a)) (moving a items a) (λ w. refl)
+
+-- the desk with these parts, and its own dropped errors, is that of the second replica
+pub desk_after : (d : DeskView) (items : List Item) (a b : Replica) (s : Summary) (rooms : List Text) (kept : List LoggedWrite) (log : KeptLog) {was : DeskView} → Reaches d items s rooms kept a b → log ≡ (desk_of b).log → was ≡ d → desk_with s rooms log was.old_errors ≡ desk_of b
+desk_after d items a b s rooms kept log t is own =
+    let errors = ap (λ (v : DeskView). v.old_errors) (own ∙ t.stands) ∙ ap old_errors_of (sym t.dropped) in
+    λ i. desk_with (t.summary_is i) (t.rooms_are i) (is i) (errors i)
+
+-- a batch that is refused leaves the desk as it was
+pub desk_refused : (a : Replica) (d : DeskView) (exact : Result Progress model.Refusal) (r : Result (ℕ × ℕ × ChangeView) Refusal) (e : Refusal) → r ≡ Err e → d ≡ desk_of a → (exact ≡ Err (refusal_of e)) ⊎ (e ≡ OutOfMemory)
+    → ((reply_with (λ (taken : ℕ × ℕ × ChangeView). Took taken.0 taken.1) r ≡ (after_items a exact).reply) × (d ≡ desk_of (after_items a exact).replica))
+    ⊎ ((r ≡ Err OutOfMemory) × (d ≡ d))
+desk_refused a d exact r e p stands (inl t) =
+    let step = ap (after_items a) t in
+    inl (ap (reply_with (λ (taken : ℕ × ℕ × ChangeView). Took taken.0 taken.1)) p ∙ ap (λ (x : After). x.reply) (sym step), stands ∙ ap (λ (x : After). desk_of x.replica) (sym step))
+desk_refused a d exact r e p stands (inr t) = inr (p ∙ ap Err t, refl)
+
+-- where the change turns the tables of the first replica, it turns those of its desk
+pub tables_turned : (a b : Replica) (d new : DeskView) (change : ChangeView) → IsReplica a → IsReplica b → d ≡ desk_of a → new ≡ desk_of b → changed change (tables_of a) ≡ tables_of b → changed change (desk_tables d) ≡ desk_tables new
+tables_turned a b d new change sound after stands reached turns = ap (changed change) (ap desk_tables stands ∙ desk_tables-of a sound) ∙ turns ∙ sym (ap desk_tables reached ∙ desk_tables-of b after)

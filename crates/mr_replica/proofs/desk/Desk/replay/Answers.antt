@@ -1,0 +1,125 @@
+use Rattle.std.proofs.Common.{◌≡◌, ◌==◌, ◌&&◌, List, IfOk, not, length, map, ap, sym, ◌∙◌, subst, refl, inr}
+use Rattle.std.specs.List.{filter}
+use Rattle.std.specs.Prelude.{flat_map}
+use Rattle.std.proofs.lemmas.Result.{err_from_is_err_and}
+use Rattle.mr_model.specs.Writes.{id_of}
+use Rattle.mr_model.specs.Exchange.{Item}
+use Rattle.mr_model.specs.Kept.{kept_in_order}
+use Rattle.mr_model.specs.Replica.{Replica, is_among}
+use Rattle.mr_model.specs.Moving.{again}
+use Rattle.mr_model.specs.Tables.{seq_of, place_of}
+use Rattle.mr_base.specs.Batches.{item_of}
+use Rattle.mr_replay.specs.Places.{UndoRow}
+use Rattle.mr_replay.specs.Rows.{executed_all, undone_all, undo_rows_of}
+use Rattle.mr_tables.specs.declared.summary.Summary.{Summary}
+use Rattle.mr_model.specs.Texts.{Text}
+use Rattle.mr_replica.specs.Desk.{DeskView, desk_of}
+use Rattle.mr_replica.specs.Moves.{rooms_named, AreTouched, moves_in}
+use Rattle.mr_replica.specs.PickedBookings.{AreSameRooms}
+use Rattle.mr_replica.specs.PickedLogs.{logged_of}
+use Rattle.mr_replica.specs.PickedUndo.{undo_with}
+use Rattle.mr_replica.specs.Received.{Reaches, IsReplayed, all_writes}
+use Rattle.mr_replica.proofs.DeskMoves.{others_rows, new_places, new_board, undo_rows_are}
+use Rattle.mr_replica.proofs.DeskReceives.{undone_named, desk_undo}
+use Rattle.mr_replica.proofs.Moves.{touched_told, all_pass}
+use Rattle.mr_replica.proofs.PartMoves.{moving}
+use Rattle.mr_replica.proofs.Logs.{length-undo_rows_of}
+use Rattle.mr_replica.proofs.desk.Desk.replay.Goals as goal
+
+module _ (c : goal.After-drop-touched-2) (a b : Replica) (summary : Summary) (rooms : List Text) (t : Reaches c.args.self.now (map item_of c.args.items.now) summary rooms c.args.kept.now a b) (marks : c.args.marks.now ≡ map (seq_of a) (kept_in_order a)) where
+  abbrev items : List Item
+  items = map item_of c.args.items.now
+
+  desk : c.args.self.now ≡ desk_of a
+  desk = t.stands
+
+  old : c.kept-old.result.now ≡ kept_in_order a
+  old = c.kept-old.ensures ∙ ap (λ (v : DeskView). v.log.kept) (c.self.view_is ∙ desk)
+
+  commits : c.self.inside.summary.commits ≡ (desk_of a).commits
+  commits = ap (λ (v : DeskView). v.commits) (c.self.view_is ∙ desk)
+
+  touched : AreTouched c.in_ok-touched.touched.items a items
+  touched =
+      touched_told a items all_writes t.sound (λ w h. refl) c.in_ok-touched.touched.items
+      (subst (λ names. AreSameRooms c.in_ok-touched.touched.items names) (λ i. flat_map (rooms_named (commits i) ((old ∙ sym (all_pass (kept_in_order a))) i)) items) c.in_ok-touched.ensures.rooms)
+
+  touched_here : AreTouched c.deref.result.now a items
+  touched_here = subst (λ names. AreTouched names a items) (sym c.deref.ensures.value) touched
+
+  undo : c.undo-undo.result.now ≡ map (undo_with (place_of a)) c.kept-old.result.now
+  undo = c.undo-undo.ensures.rows ∙ ap (λ (v : DeskView). v.log.undo) (c.self.view_is ∙ desk) ∙ desk_undo a t.sound ∙ ap (map (undo_with (place_of a))) (sym old)
+
+  numbers : c.args.marks.now ≡ map (seq_of a) c.kept-old.result.now
+  numbers = marks ∙ ap (map (seq_of a)) (sym old)
+
+  named : map (λ (u : UndoRow). u.id) c.in_ok-parted.parted.0.items ≡ map id_of (moving a items a)
+  named =
+      ap (map (λ (u : UndoRow). u.id))
+      (c.in_ok-parted.ensures.moving (seq_of a) (undo_with (place_of a)) numbers undo
+      ∙ (λ i. map (undo_with (place_of a)) (filter (λ w. seq_of a w == 0 && moves_in c.deref.result.now items (commits i) w) (old i))))
+      ∙ undone_named a items c.deref.result.now t.sound touched_here
+
+  others : c.in_ok-parted.parted.1.items ≡ map (undo_with (place_of b)) (filter (λ w. not (is_among (id_of w) (map id_of (again a items t.moves.news b)))) (kept_in_order b))
+  others =
+      c.in_ok-parted.ensures.others (seq_of a) (undo_with (place_of a)) numbers undo
+      ∙ (λ i. map (undo_with (place_of a)) (filter (λ w. not (seq_of a w == 0 && moves_in c.deref.result.now items (commits i) w)) (old i)))
+      ∙ others_rows a b items t.moves t.sound c.deref.result.now touched_here
+
+  writes : c.in_ok-again.again.items ≡ again a items t.moves.news b
+  writes =
+      c.in_ok-again.ensures.writes a b all_writes
+      (record {
+        sound = t.sound;
+        moves = t.moves;
+        are_touched = subst (λ names. AreTouched names a items) (sym c.deref-2.ensures.value) touched;
+        commits_are = commits;
+        covers = λ w h. refl;
+        kept_are = t.kept_are ∙ ap (map (logged_of b)) (sym (all_pass (kept_in_order b)));
+        marks = λ w. inr refl;
+      })
+
+  abbrev us : List UndoRow
+  us = c.in_ok-parted.parted.0.items
+
+  board : c.self.inside.log.board ≡ (desk_of a).log.board
+  board = ap (λ (v : DeskView). v.log.board) (c.self.view_is ∙ desk)
+
+  all : IsReplayed b (again a items t.moves.news b) c.in_ok-again.again.items c.in_ok-replayed.replayed.1.items c.in_ok-parted.parted.1.items c.in_ok-replayed.replayed.0
+  all =
+      record {
+        again_are = writes;
+        rows_are = c.in_ok-replayed.ensures.rows
+            ∙ (λ i. undo_rows_of (undone_all (board i) (c.deref-3.ensures.value i)) ((c.deref-4.ensures.value ∙ writes) i))
+            ∙ undo_rows_are (place_of b) (undone_all (desk_of a).log.board us) (again a items t.moves.news b) (new_places a b items t.moves t.sound us named);
+        others_are = others;
+        board_is = c.in_ok-replayed.ensures.board
+            ∙ (λ i. executed_all (undone_all (board i) (c.deref-3.ensures.value i)) ((c.deref-4.ensures.value ∙ writes) i))
+            ∙ new_board a b items t.moves t.sound us named;
+      }
+
+pub returns-clause-replayed : goal.returns-clause-replayed
+returns-clause-replayed c = λ a b summary rooms t marks. all c a b summary rooms t marks
+
+pub returns-clause-as_many : goal.returns-clause-as_many
+returns-clause-as_many c = sym (ap length c.in_ok-replayed.ensures.rows ∙ length-undo_rows_of (undone_all c.self.inside.log.board c.deref-3.result.now) c.deref-4.result.now ∙ ap length c.deref-4.ensures.value)
+
+pub returns-in_err-touched-clause-replayed : goal.returns-in_err-touched-clause-replayed
+returns-in_err-touched-clause-replayed c = λ a b summary rooms t marks.
+    let p = err_from_is_err_and c.from_residual.result c.from_residual.ensures.1 in
+    subst (λ r. IfOk r (λ x. IsReplayed b (again a (map item_of c.args.items.now) t.moves.news b) x.again.items x.rows.items x.others.items x.board)) (sym p.1) tt
+
+pub returns-in_err-parted-clause-replayed : goal.returns-in_err-parted-clause-replayed
+returns-in_err-parted-clause-replayed c = λ a b summary rooms t marks.
+    let p = err_from_is_err_and c.from_residual-in_err-parted.result c.from_residual-in_err-parted.ensures.1 in
+    subst (λ r. IfOk r (λ x. IsReplayed b (again a (map item_of c.args.items.now) t.moves.news b) x.again.items x.rows.items x.others.items x.board)) (sym p.1) tt
+
+pub returns-in_err-again-clause-replayed : goal.returns-in_err-again-clause-replayed
+returns-in_err-again-clause-replayed c = λ a b summary rooms t marks.
+    let p = err_from_is_err_and c.from_residual-in_err-again.result c.from_residual-in_err-again.ensures.1 in
+    subst (λ r. IfOk r (λ x. IsReplayed b (again a (map item_of c.args.items.now) t.moves.news b) x.again.items x.rows.items x.others.items x.board)) (sym p.1) tt
+
+pub returns-in_err-replayed-clause-replayed : goal.returns-in_err-replayed-clause-replayed
+returns-in_err-replayed-clause-replayed c = λ a b summary rooms t marks.
+    let p = err_from_is_err_and c.from_residual-in_err-replayed.result c.from_residual-in_err-replayed.ensures.1 in
+    subst (λ r. IfOk r (λ x. IsReplayed b (again a (map item_of c.args.items.now) t.moves.news b) x.again.items x.rows.items x.others.items x.board)) (sym p.1) tt
