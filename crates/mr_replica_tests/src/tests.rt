@@ -215,7 +215,13 @@ static CASES: [(&str, &[Row]); 14] = [
                 Ok((2, 0)),
                 ((1, 1, 840), (2, 1, 900), NO_ERROR),
             ),
-            (3, Call::Receive(1, BOTH), Ok((0, 0)), NOTHING),
+            // Writes that stand at or behind a line are executed again, and get the rows that they had.
+            (
+                3,
+                Call::Receive(1, BOTH),
+                Ok((0, 0)),
+                ((1, 1, 840), (2, 1, 900), NO_ERROR),
+            ),
             (3, Call::Position, Ok((0, 2)), NOTHING),
         ],
     ),
@@ -232,7 +238,7 @@ static CASES: [(&str, &[Row]); 14] = [
                 3,
                 Call::Receive(1, BOTH),
                 Ok((1, 0)),
-                ((2, 1, 900), NONE, NO_ERROR),
+                ((1, 1, 840), (2, 1, 900), NO_ERROR),
             ),
         ],
     ),
