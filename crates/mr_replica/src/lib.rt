@@ -36,6 +36,7 @@ mod part_rows;
 mod part_submit;
 mod part_truncate;
 mod room_sets;
+mod rows_in_scope;
 mod scope;
 mod scope_board;
 mod scope_commits;
@@ -52,6 +53,7 @@ ghost use Rattle.mr_replica.specs.Steps.{SubmissionsAreRequests};
 
 pub use desk::Desk;
 pub use part::Part;
+pub use rows_in_scope::logs_in_scope;
 pub use scope::Scope;
 pub use scope_touched::touched_rooms;
 
