@@ -8,6 +8,7 @@ use Rattle.mr_model.specs.Scopes.{Scope, Nothing, InRoom, NextCommits, UpTo, Abo
 use Rattle.mr_replica.specs.PickedBookings.{AreSameRooms, touched_in}
 use Rattle.mr_replica.specs.PickedLogs.{is_log_in, is_by_row}
 
+-- those that pass the test of the scope are in scope
 pub logs_by_row : (s : Scope) (t : Tables) (touched : List Text) → is_by_row s ≡ true → AreSameRooms touched (touched_in s t)
     → filter (is_log_in s t.meta.commits touched) t.write_log ≡ (in_scope s t).write_log
 logs_by_row Nothing t touched by same = absurd (true≢false (sym by))

@@ -17,7 +17,7 @@ use Rattle.mr_model.proofs.Members.{has_filter, filter_has, has_map, map_has, am
 use Rattle.mr_tables.specs.Change.{log_id, undo_id}
 use Rattle.mr_sql.specs.declared.questions.LogQuestion.{LogQuestion}
 use Rattle.mr_sql.specs.declared.questions.LogQuestion.TheVariants.{OfId, Between}
-use Rattle.mr_sql.specs.Questions.{is_asked, is_log_asked, is_undo_asked, is_booking_asked, item_questions, tentative_question, log_questions, undo_questions, booking_questions, AreRead, AreNumbered, AreEnough}
+use Rattle.mr_sql.specs.Questions.{is_asked, is_log_asked, is_undo_asked, is_booking_asked, item_questions, tentative_question, log_questions, logs_alone, undo_questions, booking_questions, AreRead, AreNumbered, AreEnough}
 use Rattle.mr_replica.specs.PickedBookings.{AreSameRooms}
 use Rattle.mr_sql.proofs.RowLemmas.{filter_same}
 use Rattle.mr_sql.proofs.ValueLemmas.{one_among}
@@ -159,28 +159,63 @@ log_asked (OfItems items) t numbered row h =
 abbrev logs_of : Scope → Tables → List LogRow
 logs_of s t = filter (is_asked is_log_asked (log_questions t.meta.commits s)) t.write_log
 
-log_read : (s : Scope) (t : Tables) → AreNumbered t → (row : LogRow) → Has row (in_scope s t).write_log → Has row (logs_of s t)
-log_read s t numbered row h = let g = log_asked s t numbered row h in has_filter (is_asked is_log_asked (log_questions t.meta.commits s)) row t.write_log g.1 g.0
+-- all tentative rows, where the scope is that of a commit
+tentative_read : (s : Scope) (commits : ℕ) → IsOfCommits s → (row : LogRow) → is_tentative row ≡ true → is_asked is_log_asked (log_questions commits s) row ≡ true
+tentative_read Nothing commits of row e = absurd of
+tentative_read (InRoom room) commits of row e = absurd of
+tentative_read (NextCommits k) commits of row e = or_left (is_log_asked tentative_question row) false (tentative_asked row e)
+tentative_read (UpTo d) commits of row e = absurd of
+tentative_read (Above c) commits of row e = absurd of
+tentative_read (OfItems items) commits of row e = absurd of
+
+-- with the rows of write_log that are asked for, and all of the other tables, what is in scope stays
+logs_suffice : (s : Scope) (t : Tables) → AreNumbered t → in_scope s (rows_read (is_asked is_log_asked (log_questions t.meta.commits s)) (λ _. true) (λ _. true) t) ≡ in_scope s t
+logs_suffice s t numbered = read_rows s t (is_asked is_log_asked (log_questions t.meta.commits s)) (λ _. true) (λ _. true) (record {
+  logs = λ row h. (log_asked s t numbered row h).1;
+  undo = λ u h. refl;
+  booking = λ b h. refl;
+  tentative = λ of row h. tentative_read s t.meta.commits of row;
+})
+
+-- what is in scope of write_log goes by its rows and the number of commits alone
+logs_same : (s : Scope) (t : Tables) → AreNumbered t → (in_scope s (logs_alone t.meta.commits (logs_of s t))).write_log ≡ (in_scope s t).write_log
+logs_same s t numbered = alone s ∙ ap (λ (u : Tables). u.write_log) (logs_suffice s t numbered)
+  where
+    read : Tables
+    read = rows_read (is_asked is_log_asked (log_questions t.meta.commits s)) (λ _. true) (λ _. true) t
+
+    alone : (r : Scope) → (in_scope r (logs_alone t.meta.commits (logs_of s t))).write_log ≡ (in_scope r read).write_log
+    alone Nothing = refl
+    alone (InRoom room) = refl
+    alone (NextCommits k) = refl
+    alone (UpTo d) = refl
+    alone (Above c) = refl
+    alone (OfItems items) = refl
 
 -- ---- rows of undo
-
-undo_by_row : (u : UndoRow) (inside all : List LogRow) → ((row : LogRow) → Has row inside → Has row all) → is_among (undo_row_id u) (map log_row_id inside) ≡ true → is_asked is_undo_asked (map log_id all) u ≡ true
-undo_by_row u inside all within_all e =
-    let (row, g, f) = map_has log_row_id (undo_row_id u) inside (among_has (undo_row_id u) (map log_row_id inside) e) in
-    any_has (λ id. is_undo_asked id u) (log_id row) (map log_id all) (has_map log_id row all (within_all row g)) (one_among (undo_id u) (log_id row) f)
 
 undo_among : (u : UndoRow) (t : Tables) (inside : List LogRow) → Has u (filter (λ v. is_among (undo_row_id v) (map log_row_id inside)) t.undo) → is_among (undo_row_id u) (map log_row_id inside) ≡ true
 undo_among u t inside h = (filter_has (λ v. is_among (undo_row_id v) (map log_row_id inside)) u t.undo h).1
 
-undo_read : (s : Scope) (t : Tables) → AreNumbered t → (u : UndoRow) → Has u (in_scope s t).undo → is_asked is_undo_asked (undo_questions s (logs_of s t)) u ≡ true
-undo_read Nothing t numbered u h = absurd (true≢false (sym (undo_among u t [] h)))
-undo_read (InRoom room) t numbered u h = absurd (true≢false (sym (undo_among u t [] h)))
-undo_read (NextCommits k) t numbered u h =
-    undo_by_row u (in_scope (NextCommits k) t).write_log (logs_of (NextCommits k) t) (log_read (NextCommits k) t numbered) (undo_among u t (in_scope (NextCommits k) t).write_log h)
-undo_read (UpTo d) t numbered u h = undo_by_row u (in_scope (UpTo d) t).write_log (logs_of (UpTo d) t) (log_read (UpTo d) t numbered) (undo_among u t (in_scope (UpTo d) t).write_log h)
+-- the row of one of these is asked for
+undo_by_row : (u : UndoRow) (inside : List LogRow) → is_among (undo_row_id u) (map log_row_id inside) ≡ true → is_asked is_undo_asked (map log_id inside) u ≡ true
+undo_by_row u inside e =
+    let (row, g, f) = map_has log_row_id (undo_row_id u) inside (among_has (undo_row_id u) (map log_row_id inside) e) in
+    any_has (λ id. is_undo_asked id u) (log_id row) (map log_id inside) (has_map log_id row inside g) (one_among (undo_id u) (log_id row) f)
+
+-- the same where the rows in scope are told by those that were read
+undo_by_read : (s : Scope) (t : Tables) → AreNumbered t → (u : UndoRow) → Has u (filter (λ v. is_among (undo_row_id v) (map log_row_id (in_scope s t).write_log)) t.undo)
+    → is_asked is_undo_asked (map log_id (in_scope s (logs_alone t.meta.commits (logs_of s t))).write_log) u ≡ true
+undo_by_read s t numbered u h =
+    subst (λ (rows : List LogRow). is_asked is_undo_asked (map log_id rows) u ≡ true) (sym (logs_same s t numbered)) (undo_by_row u (in_scope s t).write_log (undo_among u t (in_scope s t).write_log h))
+
+undo_read : (s : Scope) (t : Tables) → AreNumbered t → (u : UndoRow) → Has u (in_scope s t).undo → is_asked is_undo_asked (undo_questions t.meta.commits s (logs_of s t)) u ≡ true
+undo_read Nothing t numbered u h = undo_by_read Nothing t numbered u h
+undo_read (InRoom room) t numbered u h = undo_by_read (InRoom room) t numbered u h
+undo_read (NextCommits k) t numbered u h = undo_by_read (NextCommits k) t numbered u h
+undo_read (UpTo d) t numbered u h = undo_by_read (UpTo d) t numbered u h
 undo_read (Above c) t numbered u h = absurd (true≢false (sym (undo_among u t [] h)))
-undo_read (OfItems items) t numbered u h =
-    undo_by_row u (in_scope (OfItems items) t).write_log (logs_of (OfItems items) t) (log_read (OfItems items) t numbered) (undo_among u t (in_scope (OfItems items) t).write_log h)
+undo_read (OfItems items) t numbered u h = undo_by_read (OfItems items) t numbered u h
 
 -- ---- bookings
 
@@ -188,15 +223,8 @@ undo_read (OfItems items) t numbered u h =
 touched_read : (items : List Item) (t : Tables) → AreNumbered t → (b : BookingRow) → Has b (in_scope (OfItems items) t).booking
     → is_asked is_booking_asked (booking_questions t.meta.commits (OfItems items) (logs_of (OfItems items) t)) b ≡ true
 touched_read items t numbered b h =
-    let p = is_asked is_log_asked (log_questions t.meta.commits (OfItems items)) in
-    let read : Tables = rows_read p (λ _. true) (λ _. true) t in
-    let reads : Reads (OfItems items) t p (λ _. true) (λ _. true) = record {
-      logs = λ row g. (log_asked (OfItems items) t numbered row g).1;
-      undo = λ u g. refl;
-      booking = λ c g. refl;
-      tentative = λ none. absurd none;
-    } in
-    let same = read_rows (OfItems items) t p (λ _. true) (λ _. true) reads in
+    let read : Tables = rows_read (is_asked is_log_asked (log_questions t.meta.commits (OfItems items))) (λ _. true) (λ _. true) t in
+    let same = logs_suffice (OfItems items) t numbered in
     (filter_has (λ c. is_touched read items c.room) b read.booking (subst (λ (u : Tables). Has b u.booking) (sym same) h)).1
 
 booking_read : (s : Scope) (t : Tables) → AreNumbered t → (b : BookingRow) → Has b (in_scope s t).booking → is_asked is_booking_asked (booking_questions t.meta.commits s (logs_of s t)) b ≡ true
@@ -209,33 +237,25 @@ booking_read (OfItems items) t numbered b h = touched_read items t numbered b h
 
 -- ---- all tables
 
-tentative_read : (s : Scope) (commits : ℕ) → IsOfCommits s → (row : LogRow) → is_tentative row ≡ true → is_asked is_log_asked (log_questions commits s) row ≡ true
-tentative_read Nothing commits of row e = absurd of
-tentative_read (InRoom room) commits of row e = absurd of
-tentative_read (NextCommits k) commits of row e = or_left (is_log_asked tentative_question row) false (tentative_asked row e)
-tentative_read (UpTo d) commits of row e = absurd of
-tentative_read (Above c) commits of row e = absurd of
-tentative_read (OfItems items) commits of row e = absurd of
-
 pub enough : (s : Scope) (t : Tables) (log_rows : List LogRow) (undo_rows : List UndoRow) (booking_rows : List BookingRow) → AreRead t.meta.commits s t log_rows undo_rows booking_rows
     → AreEnough s t (record t { write_log = log_rows; undo = undo_rows; booking = booking_rows; errorlog = [] })
 enough s t log_rows undo_rows booking_rows read numbered =
     ap (in_scope s) are
-    ∙ read_rows s t (is_asked is_log_asked (log_questions t.meta.commits s)) (is_asked is_undo_asked (undo_questions s (logs_of s t))) (is_asked is_booking_asked (booking_questions t.meta.commits s (logs_of s t))) (record {
+    ∙ read_rows s t (is_asked is_log_asked (log_questions t.meta.commits s)) (is_asked is_undo_asked (undo_questions t.meta.commits s (logs_of s t))) (is_asked is_booking_asked (booking_questions t.meta.commits s (logs_of s t))) (record {
       logs = λ row h. (log_asked s t numbered row h).1;
       undo = undo_read s t numbered;
       booking = booking_read s t numbered;
       tentative = λ of row h. tentative_read s t.meta.commits of row;
     })
   where
-    undo_are : undo_rows ≡ filter (is_asked is_undo_asked (undo_questions s (logs_of s t))) t.undo
-    undo_are = read.undo ∙ ap (λ logs. filter (is_asked is_undo_asked (undo_questions s logs)) t.undo) read.logs
+    undo_are : undo_rows ≡ filter (is_asked is_undo_asked (undo_questions t.meta.commits s (logs_of s t))) t.undo
+    undo_are = read.undo ∙ ap (λ logs. filter (is_asked is_undo_asked (undo_questions t.meta.commits s logs)) t.undo) read.logs
 
     bookings_are : booking_rows ≡ filter (is_asked is_booking_asked (booking_questions t.meta.commits s (logs_of s t))) t.booking
     bookings_are = read.booking ∙ ap (λ logs. filter (is_asked is_booking_asked (booking_questions t.meta.commits s logs)) t.booking) read.logs
 
     are : record t { write_log = log_rows; undo = undo_rows; booking = booking_rows; errorlog = [] }
-        ≡ rows_read (is_asked is_log_asked (log_questions t.meta.commits s)) (is_asked is_undo_asked (undo_questions s (logs_of s t))) (is_asked is_booking_asked (booking_questions t.meta.commits s (logs_of s t))) t
+        ≡ rows_read (is_asked is_log_asked (log_questions t.meta.commits s)) (is_asked is_undo_asked (undo_questions t.meta.commits s (logs_of s t))) (is_asked is_booking_asked (booking_questions t.meta.commits s (logs_of s t))) t
     are = let logs = read.logs in let undo = undo_are in let bookings = bookings_are in λ i. record t { write_log = logs i; undo = undo i; booking = bookings i; errorlog = [] }
 
 -- the same where the heads were read too

@@ -48,12 +48,24 @@ log_questions commits (UpTo d) = Between 1 (if nat_lt commits d then commits els
 log_questions commits (Above c) = if nat_lt c commits then tentative_question ∷ Between (c + 1) commits ∷ [] else tentative_question ∷ []
 log_questions commits (OfItems items) = tentative_question ∷ flat_map (item_questions commits) items
 
--- the rows of undo that are asked for where these rows of write_log were read
-abbrev pub undo_questions : Scope → List LogRow → List Id
-undo_questions (NextCommits k) logs = map log_id logs
-undo_questions (UpTo d) logs = map log_id logs
-undo_questions (OfItems items) logs = map log_id logs
-undo_questions _ logs = []
+-- tables with these rows of write_log alone, where so many commits are known
+abbrev pub logs_alone : ℕ → List LogRow → Tables
+logs_alone commits logs =
+    record {
+      meta = record { server = 0; primary = 0; commits = commits; dropped = 0; clock = 0 };
+      room = [];
+      vector = [];
+      write_log = logs;
+      undo = [];
+      booking = [];
+      errorlog = [];
+    }
+
+-- the rows of undo that are asked for where these rows of write_log were read: those of the rows that are in scope, except for a batch for
+-- a position, which has no need of them
+abbrev pub undo_questions : ℕ → Scope → List LogRow → List Id
+undo_questions commits (Above c) logs = []
+undo_questions commits s logs = map log_id (in_scope s (logs_alone commits logs)).write_log
 
 -- the rooms whose bookings are asked for
 abbrev pub booking_questions : ℕ → Scope → List LogRow → List Text
@@ -70,7 +82,7 @@ AreNumbered t = (row : LogRow) → Has row t.write_log → row.seq ≤ t.meta.co
 -- of each table of requests the rows that some question asks for
 pub record AreRead (commits : ℕ) (s : Scope) (t : Tables) (log_rows : List LogRow) (undo_rows : List UndoRow) (booking_rows : List BookingRow) : Type 0 where
   pub logs : log_rows ≡ filter (is_asked is_log_asked (log_questions commits s)) t.write_log
-  pub undo : undo_rows ≡ filter (is_asked is_undo_asked (undo_questions s log_rows)) t.undo
+  pub undo : undo_rows ≡ filter (is_asked is_undo_asked (undo_questions commits s log_rows)) t.undo
   pub booking : booking_rows ≡ filter (is_asked is_booking_asked (booking_questions commits s log_rows)) t.booking
 
 -- what is in scope of these tables is what is in scope of all

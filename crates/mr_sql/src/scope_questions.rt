@@ -1,13 +1,14 @@
 ghost use Rattle.std.specs.Prelude.{◌≡◌, ◌∷◌, [], ◌++◌, map, flat_map, if◌then◌else◌, nat_lt, ◌+◌, IfOk, OnOk};
 ghost use Rattle.mr_base.specs.Batches.{item_of};
+ghost use Rattle.mr_model.specs.Scopes.{in_scope};
 ghost use Rattle.mr_replica.specs.ScopeOf.{scope_of};
 ghost use Rattle.mr_tables.specs.Change.{log_id};
-ghost use Rattle.mr_sql.specs.Questions.{tentative_question, item_questions, log_questions, undo_questions};
+ghost use Rattle.mr_sql.specs.Questions.{tentative_question, item_questions, log_questions, logs_alone, undo_questions};
 ghost use Rattle.mr_sql.specs.declared.questions.LogQuestion.TheVariants as asked;
 
 use crate::questions::{LogQuestion, UndoQuestion};
-use mr_base::Item;
-use mr_replica::Scope;
+use mr_base::{Item, Refusal};
+use mr_replica::{Scope, logs_in_scope};
 use mr_tables::LogRow;
 use std::alloc::{AllocError, Global};
 
@@ -93,8 +94,8 @@ pub(crate) fn log_questions(
     }
 }
 
-fn ids_of(alloc: Global, logs: &[LogRow]) -> Result<Vec<UndoQuestion>, AllocError>
-    ensures { IfOk result (λ ids. ids.items ≡ map log_id logs.now) }
+fn ids_of(alloc: Global, logs: &[&LogRow]) -> Result<Vec<UndoQuestion>, AllocError>
+    ensures { IfOk result (λ ids. ids.items ≡ map log_id (map (λ row. row.now) logs.now)) }
 {
     let mut ids = Vec::new(alloc);
     'rows: for row in logs {
@@ -106,16 +107,34 @@ fn ids_of(alloc: Global, logs: &[LogRow]) -> Result<Vec<UndoQuestion>, AllocErro
     Ok(ids)
 }
 
-/// What is asked of `undo` for a scope, where these rows of `write_log` were read: for the row of each of them.
+/// For the rows of those of `write_log` that are in scope.
+fn ids_in_scope(
+    alloc: Global,
+    scope: &Scope<'_>,
+    logs: &[LogRow],
+    commits: u64,
+) -> Result<Vec<UndoQuestion>, Refusal>
+    ensures { IfOk result (λ ids. ids.items ≡ map log_id (in_scope (scope_of scope.now) (logs_alone commits logs.now)).write_log) }
+{
+    let inside = logs_in_scope(alloc, scope, logs, commits)?;
+    let ids = ids_of(alloc, &inside)?;
+    Ok(ids)
+}
+
+/// What is asked of `undo` for a scope, where these rows of `write_log` were read and so many commits are known: for the row of each
+/// of them that is in scope.
 pub(crate) fn undo_questions(
     alloc: Global,
     scope: &Scope<'_>,
     logs: &[LogRow],
-) -> Result<Vec<UndoQuestion>, AllocError>
-    ensures { IfOk result (λ ids. ids.items ≡ undo_questions (scope_of scope.now) logs.now) }
+    commits: u64,
+) -> Result<Vec<UndoQuestion>, Refusal>
+    ensures { IfOk result (λ ids. ids.items ≡ undo_questions commits (scope_of scope.now) logs.now) }
 {
     match *scope {
         Scope::Nothing | Scope::InRoom(_) | Scope::Above(_) => Ok(Vec::new(alloc)),
-        Scope::NextCommits(_) | Scope::UpTo(_) | Scope::Items(_) => ids_of(alloc, logs),
+        Scope::NextCommits(_) | Scope::UpTo(_) | Scope::Items(_) => {
+            ids_in_scope(alloc, scope, logs, commits)
+        }
     }
 }

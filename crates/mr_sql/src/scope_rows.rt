@@ -33,13 +33,16 @@ fn read_undo<S: Alter>(
     alloc: Global,
     scope: &Scope<'_>,
     logs: &[LogRow],
+    commits: u64,
 ) -> Result<Vec<WriteUndoRow>, Error>
     requires autocommit { conn.old.in_transaction ≡ false }
     ensures autocommit { conn.new.in_transaction ≡ false }
-    ensures reads { ReadsInUse (state S.Store conn.old) (state S.Store conn.new) result (λ rows. rows.items ≡ filter (is_asked is_undo_asked (undo_questions (scope_of scope.now) logs.now)) (tables_in (state S.Store conn.old).now.trees).undo) }
+    ensures reads { ReadsInUse (state S.Store conn.old) (state S.Store conn.new) result (λ rows. rows.items ≡ filter (is_asked is_undo_asked (undo_questions commits (scope_of scope.now) logs.now)) (tables_in (state S.Store conn.old).now.trees).undo) }
 {
-    let ids = undo_questions(alloc, scope, logs)?;
-    asked_rows(conn, alloc, &ids)
+    match undo_questions(alloc, scope, logs, commits) {
+        Ok(ids) => asked_rows(conn, alloc, &ids),
+        Err(_) => Err(Error::SqliteFailure(ErrorCode::OutOfMemory)),
+    }
 }
 
 fn read_bookings<S: Alter>(
@@ -71,7 +74,7 @@ fn read_rows<S: Alter>(
     ensures reads { ReadsInUse (state S.Store conn.old) (state S.Store conn.new) result (λ rows. AreRead commits (scope_of scope.now) (tables_in (state S.Store conn.old).now.trees) rows.0.items rows.1.items rows.2.items) }
 {
     let logs = read_logs(conn, alloc, scope, commits)?;
-    let undo = read_undo(conn, alloc, scope, &logs)?;
+    let undo = read_undo(conn, alloc, scope, &logs, commits)?;
     let booking = read_bookings(conn, alloc, scope, &logs, commits)?;
     Ok((logs, undo, booking))
 }

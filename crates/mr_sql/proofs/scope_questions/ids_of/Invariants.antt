@@ -3,4 +3,4 @@ use Rattle.mr_tables.specs.Change.{log_id}
 use Rattle.mr_sql.proofs.scope_questions.ids_of.Given as goal
 
 abbrev pub invariant-rows : goal.invariant-rows
-invariant-rows l = l.ids.items ≡ map log_id (take l.row-index l.logs)
+invariant-rows l = l.ids.items ≡ map log_id (map (λ row. row.now) (take l.row-index l.logs))

@@ -17,7 +17,7 @@ returns-in_err-undo-clause-reads g c =
     let same : c.deref.result.now ≡ logs.items = c.deref.ensures.value in
     let read =
     uses_then a (state g.S.Store c.read_logs.new.conn) (state g.S.Store c.read_undo.new.conn) logs (λ rows. rows.items ≡ filter (is_asked is_log_asked (log_questions c.args.commits scope)) (tables_in a.now.trees).write_log) c.read_undo.result
-    (λ db rows. rows.items ≡ filter (is_asked is_undo_asked (undo_questions scope logs.items)) (tables_in db.trees).undo) (λ _. Unit {0}) (λ _ _ _ _. tt) c.in_ok-logs.ensures.reads (rw same at c.read_undo.ensures.reads) in
+    (λ db rows. rows.items ≡ filter (is_asked is_undo_asked (undo_questions c.args.commits scope logs.items)) (tables_in db.trees).undo) (λ _. Unit {0}) (λ _ _ _ _. tt) c.in_ok-logs.ensures.reads (rw same at c.read_undo.ensures.reads) in
     (read.0, read.1, λ clean held. (search rules, search rules))
 
 pub returns-in_err-booking-clause-reads : goal.returns-in_err-booking-clause-reads
@@ -32,10 +32,10 @@ returns-in_err-booking-clause-reads g c =
     let Logs = logs.items ≡ filter (is_asked is_log_asked (log_questions c.args.commits scope)) t.write_log in
     let to_1 =
     uses_then a (state g.S.Store c.read_logs.new.conn) (state g.S.Store c.read_undo.new.conn) logs (λ rows. rows.items ≡ filter (is_asked is_log_asked (log_questions c.args.commits scope)) t.write_log) (Ok undo)
-    (λ db rows. rows.items ≡ filter (is_asked is_undo_asked (undo_questions scope logs.items)) (tables_in db.trees).undo)
-    (λ rows. Logs × (rows.items ≡ filter (is_asked is_undo_asked (undo_questions scope logs.items)) t.undo)) (λ held rows x y. (x, y)) c.in_ok-logs.ensures.reads (rw same at c.in_ok-undo.ensures.reads) in
+    (λ db rows. rows.items ≡ filter (is_asked is_undo_asked (undo_questions c.args.commits scope logs.items)) (tables_in db.trees).undo)
+    (λ rows. Logs × (rows.items ≡ filter (is_asked is_undo_asked (undo_questions c.args.commits scope logs.items)) t.undo)) (λ held rows x y. (x, y)) c.in_ok-logs.ensures.reads (rw same at c.in_ok-undo.ensures.reads) in
     let read =
-    uses_then a (state g.S.Store c.read_undo.new.conn) (state g.S.Store c.read_bookings.new.conn) undo (λ rows. Logs × (rows.items ≡ filter (is_asked is_undo_asked (undo_questions scope logs.items)) t.undo)) c.read_bookings.result
+    uses_then a (state g.S.Store c.read_undo.new.conn) (state g.S.Store c.read_bookings.new.conn) undo (λ rows. Logs × (rows.items ≡ filter (is_asked is_undo_asked (undo_questions c.args.commits scope logs.items)) t.undo)) c.read_bookings.result
     (λ db rows. rows.items ≡ filter (is_asked is_booking_asked (booking_questions c.args.commits scope logs.items)) (tables_in db.trees).booking) (λ _. Unit {0}) (λ _ _ _ _. tt) to_1 (rw same_2 at c.read_bookings.ensures.reads) in
     (read.0, read.1, λ clean held. (search rules, search rules))
 
@@ -52,10 +52,10 @@ returns-clause-reads g c =
     let Logs = logs.items ≡ filter (is_asked is_log_asked (log_questions c.args.commits scope)) t.write_log in
     let to_1 =
     uses_then a (state g.S.Store c.read_logs.new.conn) (state g.S.Store c.read_undo.new.conn) logs (λ rows. rows.items ≡ filter (is_asked is_log_asked (log_questions c.args.commits scope)) t.write_log) (Ok undo)
-    (λ db rows. rows.items ≡ filter (is_asked is_undo_asked (undo_questions scope logs.items)) (tables_in db.trees).undo)
-    (λ rows. Logs × (rows.items ≡ filter (is_asked is_undo_asked (undo_questions scope logs.items)) t.undo)) (λ held rows x y. (x, y)) c.in_ok-logs.ensures.reads (rw same at c.in_ok-undo.ensures.reads) in
+    (λ db rows. rows.items ≡ filter (is_asked is_undo_asked (undo_questions c.args.commits scope logs.items)) (tables_in db.trees).undo)
+    (λ rows. Logs × (rows.items ≡ filter (is_asked is_undo_asked (undo_questions c.args.commits scope logs.items)) t.undo)) (λ held rows x y. (x, y)) c.in_ok-logs.ensures.reads (rw same at c.in_ok-undo.ensures.reads) in
     let to_2 =
-    uses_then a (state g.S.Store c.read_undo.new.conn) (state g.S.Store c.read_bookings.new.conn) undo (λ rows. Logs × (rows.items ≡ filter (is_asked is_undo_asked (undo_questions scope logs.items)) t.undo)) (Ok booking)
+    uses_then a (state g.S.Store c.read_undo.new.conn) (state g.S.Store c.read_bookings.new.conn) undo (λ rows. Logs × (rows.items ≡ filter (is_asked is_undo_asked (undo_questions c.args.commits scope logs.items)) t.undo)) (Ok booking)
     (λ db rows. rows.items ≡ filter (is_asked is_booking_asked (booking_questions c.args.commits scope logs.items)) (tables_in db.trees).booking)
     (λ rows. AreRead c.args.commits scope t logs.items undo.items rows.items) (λ held rows x y. record { logs = x.0; undo = x.1; booking = y }) to_1 (rw same_2 at c.in_ok-booking.ensures.reads) in
     to_2

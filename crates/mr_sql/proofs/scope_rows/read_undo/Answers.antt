@@ -6,10 +6,10 @@ use Rattle.mr_sql.specs.Reads.{ReadsInUse}
 use Rattle.mr_sql.proofs.QueryLemmas.{survives_itself}
 use Rattle.mr_sql.proofs.scope_rows.read_undo.Goals as goal
 
-pub returns-in_err-ids-clause-reads : goal.returns-in_err-ids-clause-reads
-returns-in_err-ids-clause-reads g c = (survives_itself (state g.S.Store c.args.conn.now) _, λ clean now. (now, λ held. (refl, refl)), λ clean held. (search rules, search rules))
+pub returns-in-Err-clause-reads : goal.returns-in-Err-clause-reads
+returns-in-Err-clause-reads g c = (survives_itself (state g.S.Store c.args.conn.now) _, λ clean now. (now, λ held. (refl, refl)), λ clean held. (search rules, search rules))
 
-pub returns-clause-reads : goal.returns-clause-reads
-returns-clause-reads g c =
+pub returns-in-Ok-clause-reads : goal.returns-in-Ok-clause-reads
+returns-in-Ok-clause-reads g c =
     let old = state g.S.Store c.args.conn.now in
-    subst (λ asked. ReadsInUse old (state g.S.Store c.asked_rows.new.conn) c.asked_rows.result (λ rows. rows.items ≡ filter (is_asked is_undo_asked asked) (tables_in old.now.trees).undo)) (c.deref.ensures.value ∙ c.in_ok-ids.ensures) c.asked_rows.ensures.reads
+    subst (λ asked. ReadsInUse old (state g.S.Store c.asked_rows.new.conn) c.asked_rows.result (λ rows. rows.items ≡ filter (is_asked is_undo_asked asked) (tables_in old.now.trees).undo)) (c.deref.ensures.value ∙ c.in-Ok.ensures) c.asked_rows.ensures.reads

@@ -1,0 +1,186 @@
+#!/usr/bin/env python3
+"""How many rows each kind of command reads of a database.
+
+    rows_read.py PROGRAM FOLDER [BOOKINGS]
+
+makes two databases of so many bookings (10,000 where no number is given) in five rooms: that of the primary, and that of another
+replica, which drops some commits. A fifth of the bookings is committed. For each kind of command it runs the statements of
+crates/mr_sql/src/queries.rt that the command's scope asks (crates/mr_sql/specs/Questions.antt), and prints how many they are and how
+many rows they find. The rows of meta, room and vector are not counted: each command reads all of them.
+"""
+
+import contextlib
+import os
+import re
+import sqlite3
+import sys
+from collections import namedtuple
+
+HERE = os.path.dirname(os.path.abspath(__file__))
+sys.path.insert(0, os.path.join(HERE, '..', 'tests'))
+
+from calls import done, empty
+
+ROOMS = 5
+LINES = 64
+
+Row = namedtuple('Row', 'server n time room length choices title seq')
+Write = namedtuple('Write', 'server n time room')
+Commit = namedtuple('Commit', 'seq server n')
+
+
+def statements():
+    """The statements of the source, by the names of their functions."""
+    with open(os.path.join(HERE, '..', 'crates', 'mr_sql', 'src', 'queries.rt'), encoding='utf-8') as file:
+        return dict(re.findall(r'fn (\w+)<(?:(?!\n}).)*?"(SELECT [^"]*)"', file.read(), re.S))
+
+
+# ---- the databases
+
+def booking(n):
+    """Fifteen minutes, 96 of them a day, the rooms in turn."""
+    day, slot = divmod(n - 1, 96)
+    date = f'{1995 + day // 336}-{day // 28 % 12 + 1:02}-{day % 28 + 1:02}'
+    return f'W 2 {n} {n} oak-{n % ROOMS} 15 {date} {slot // 4:02}:{slot % 4 * 15:02} 0 Meeting {n}'
+
+
+def make(program, folder, bookings):
+    """The database of the primary, and that of the other replica."""
+    commits, dropped = bookings // 5, bookings // 20
+    writes = [booking(n) for n in range(1, bookings + 1)]
+    lines = {'writes': writes, 'all': writes + [f'C {n} 2 {n}' for n in range(1, commits + 1)]}
+    for name, batch in lines.items():
+        with open(f'{folder}/{name}', 'w', encoding='ascii') as out:
+            out.write('\n'.join(['mr1 2 1', *batch, 'E', '']))
+    done(program, 'init', f'{folder}/primary.db', 1, 1)
+    done(program, 'import', f'{folder}/primary.db', f'{folder}/writes')
+    done(program, 'commit', f'{folder}/primary.db', commits)
+    done(program, 'init', f'{folder}/other.db', 3, 1)
+    done(program, 'import', f'{folder}/other.db', f'{folder}/all')
+    done(program, 'truncate', f'{folder}/other.db', dropped)
+
+
+# ---- what a command reads
+
+def is_before(row, write):
+    return (row.time, row.server) < (write.time, write.server)
+
+
+class Command:
+    """The questions of one command, and the rows that they find."""
+
+    def __init__(self, database, sql):
+        self.database, self.sql = database, sql
+        self.asked = {'write_log': 0, 'undo': 0, 'booking': 0}
+        self.found = dict(self.asked)
+        self.commits, self.dropped = database.execute('SELECT commits, dropped FROM meta').fetchone()
+
+    def ask(self, query, *given):
+        text = self.sql[query]
+        rows = self.database.execute(text, given).fetchall()
+        table = re.search(r' FROM (\w+)', text).group(1)
+        self.asked[table] += 1
+        self.found[table] += len(rows)
+        return rows
+
+    def logs_between(self, low, high):
+        return [Row(*row) for row in self.ask('select_between_log', low, high)]
+
+    def undo_of(self, rows):
+        for row in rows:
+            self.ask('select_key_undo', row.server, row.n)
+
+    def nothing(self):
+        pass
+
+    def submit(self, room):
+        self.ask('select_room_booking', room)
+
+    def commit(self, count):
+        rows = self.logs_between(0, 0)
+        self.undo_of(sorted(rows, key=lambda row: (row.time, row.server))[:count])
+
+    def truncate(self, number):
+        self.undo_of(self.logs_between(1, min(number, self.commits)))
+
+    def batch_for(self, commits):
+        self.logs_between(0, 0)
+        if commits < self.commits:
+            self.logs_between(commits + 1, self.commits)
+
+    def receive(self, items):
+        rows = set(self.logs_between(0, 0))
+        for item in items:
+            rows |= {Row(*row) for row in self.ask('select_key_log', item.server, item.n)}
+            if isinstance(item, Commit) and item.seq <= self.commits:
+                rows |= set(self.logs_between(item.seq, item.seq))
+        rooms = self.touched(items, rows)
+        self.undo_of(self.in_scope(items, rows, rooms))
+        for room in rooms:
+            self.ask('select_room_booking', room)
+
+    def touched(self, items, rows):
+        """The rooms of the writes, and of those that new commits name."""
+        moved = {(item.server, item.n) for item in items if isinstance(item, Commit) and item.seq > self.commits}
+        return {item.room for item in items if isinstance(item, Write)} | {row.room for row in rows if (row.server, row.n) in moved}
+
+    def in_scope(self, items, rows, rooms):
+        """The rows that the items name, and the late tentative ones of these rooms."""
+        writes = [item for item in items if isinstance(item, Write)]
+        commits = [item for item in items if isinstance(item, Commit)]
+        ids, numbers = {(item.server, item.n) for item in items}, {item.seq for item in commits}
+        all_late = any(item.seq > self.commits for item in commits)
+
+        def is_late(row):
+            return row.seq == 0 and row.room in rooms and (all_late or any(not is_before(row, write) for write in writes))
+
+        return [row for row in rows if (row.server, row.n) in ids or (row.seq and row.seq in numbers) or is_late(row)]
+
+
+# ---- the table
+
+def commands(bookings):
+    """The database, the words and the questions of each kind of command."""
+    commits, dropped = bookings // 5, bookings // 20
+    middle = (bookings + commits) // 2
+    on_top = [Write(2, bookings + k, bookings + k, f'oak-{k % ROOMS}') for k in range(1, LINES + 1)]
+    in_one = [Write(2, bookings + k, bookings + k, 'oak-1') for k in range(1, LINES + 1)]
+    late = [Write(4, k, middle + k, f'oak-{k % ROOMS}') for k in range(1, LINES + 1)]
+    late_in_one = [Write(4, k, middle + k, 'oak-1') for k in range(1, LINES + 1)]
+    known = [Commit(dropped + k, 2, dropped + k) for k in range(1, LINES + 1)]
+    new = [Commit(commits + k, 2, commits + k) for k in range(1, LINES + 1)]
+    return [
+        ('other', 'a room is added, the position', lambda it: it.nothing()),
+        ('other', 'a submission', lambda it: it.submit('oak-1')),
+        ('primary', f'a commit of {LINES}', lambda it: it.commit(LINES)),
+        ('primary', 'a commit of all', lambda it: it.commit(bookings)),
+        ('other', f'a truncation, {LINES} commits more', lambda it: it.truncate(dropped + LINES)),
+        ('other', 'a batch for a position with all commits', lambda it: it.batch_for(commits)),
+        ('other', 'a batch for a position with the dropped commits alone', lambda it: it.batch_for(dropped)),
+        ('other', f'{LINES} writes received, behind all others, in five rooms', lambda it: it.receive(on_top)),
+        ('other', f'{LINES} writes received, behind all others, in one room', lambda it: it.receive(in_one)),
+        ('other', f'{LINES} writes received, before half of the tentative ones, in five rooms', lambda it: it.receive(late)),
+        ('other', f'{LINES} writes received, before half of the tentative ones, in one room', lambda it: it.receive(late_in_one)),
+        ('other', f'{LINES} commits received that are known', lambda it: it.receive(known)),
+        ('other', f'{LINES} commits received that are new, in five rooms', lambda it: it.receive(new)),
+    ]
+
+
+def main():
+    program, folder, *more = sys.argv[1:]
+    bookings = int(more[0]) if more else 10000
+    make(program, empty(folder), bookings)
+    sql = statements()
+    print('| Command | Statements | Rows of `write_log` | of `undo` | of `booking` | in all |')
+    print('|---|---|---|---|---|---|')
+    for name, words, questions in commands(bookings):
+        with contextlib.closing(sqlite3.connect(f'{folder}/{name}.db')) as database:
+            command = Command(database, sql)
+            questions(command)
+        found = command.found
+        numbers = (sum(command.asked.values()), *found.values(), sum(found.values()))
+        print(f'| {words} |', ' | '.join(f'{number:,}' for number in numbers), '|')
+
+
+if __name__ == '__main__':
+    main()
