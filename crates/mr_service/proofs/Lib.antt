@@ -16,5 +16,6 @@ pub mod MemberSteps
 pub mod WorldMembers
 pub mod WorldSteps
 pub mod WorldRuns
+mod LawfulRuns
 pub mod PoolTexts
 pub mod WorldBatches

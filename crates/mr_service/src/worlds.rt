@@ -1,6 +1,7 @@
 ghost use Rattle.std.specs.Prelude.{◌≡◌, map, IfOk, IfErr, OnErr};
 ghost use Rattle.mr_model.specs.World as model;
-ghost use Rattle.mr_model.specs.Honest.{IsWorldRun};
+ghost use Rattle.mr_model.specs.Honest.{IsHonest, IsWorldRun};
+ghost use Rattle.mr_service.specs.LawfulRuns.{IsLawfulRun};
 ghost use Rattle.mr_service.specs.Stepping.{step_of, step_reply_of};
 ghost use Rattle.mr_service.specs.Worlds.{StandsForWorld, TakesWorldStep};
 
@@ -48,6 +49,8 @@ impl World {
     pub fn run(&mut self, steps: &[Step]) -> Result<Vec<StepReply>, Refusal>
         ensures runs { (w : model.World) → StandsForWorld self.old w
             → IfOk result (λ replies. (end : model.World) × IsWorldRun w (map step_of steps.now) (map step_reply_of replies.items) end × StandsForWorld self.new end) }
+        ensures lawful { (w : model.World) → IsHonest w → StandsForWorld self.old w
+            → IfOk result (λ replies. (end : model.World) × IsLawfulRun w (map step_of steps.now) (map step_reply_of replies.items) end × StandsForWorld self.new end) }
         ensures cause { IfErr result (λ e. e ≡ Refusal.OutOfMemory) }
         ensures refused { OnErr result (self.new ≡ self.old) }
     {

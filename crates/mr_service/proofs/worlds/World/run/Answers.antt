@@ -1,8 +1,9 @@
 use Rattle.std.proofs.Common.{◌≡◌, sym, ap, subst, ◌∙◌, ◌+◌, ◌≤◌, [], ◌∷◌, ◌++◌, map, take, length, vec_len, vec_capacity, arith}
-use Rattle.std.proofs.lemmas.List.{map_more, map_push}
+use Rattle.std.proofs.lemmas.List.{map_more, map_push, take_all}
 use Rattle.mr_model.specs.Honest.{IsWorldRun, ended}
 use Rattle.mr_service.specs.Stepping.{step_of, step_reply_of}
 use Rattle.mr_service.proofs.WorldRuns.{world_run_grows}
+use Rattle.mr_service.proofs.LawfulRuns.{run_is_lawful}
 use Rattle.mr_service.proofs.worlds.World.run.Goals as goal
 
 pub loop-step-init : goal.loop-step-init
@@ -29,3 +30,11 @@ loop-step-preserved c =
       n,
       m,
     )
+
+pub returns-clause-lawful : goal.returns-clause-lawful
+returns-clause-lawful c = λ w h stands.
+    let all : take c.loop-step.step-index c.args.steps.now ≡ c.args.steps.now = take_all c.loop-step.step-index c.args.steps.now c.loop-step-test.false in
+    let (end, run, there) = c.loop-step.invariant.0 w stands in
+    let whole : IsWorldRun w (map step_of c.args.steps.now) (map step_reply_of c.loop-step.replies.items) end =
+    subst (λ ss. IsWorldRun w (map step_of ss) (map step_reply_of c.loop-step.replies.items) end) all run in
+    (end, run_is_lawful w end (map step_of c.args.steps.now) (map step_reply_of c.loop-step.replies.items) h whole, there)
