@@ -11,7 +11,7 @@ use Rattle.mr_model.proofs.WorldKnowledge.{known_accepted, one_write, delivery_s
 use Rattle.mr_model.proofs.BatchesBring.{front_is_taken, all_is_brought}
 use Rattle.mr_model.proofs.ExchangeAlike.{exchange_same, alike}
 use Rattle.mr_model.proofs.CommittedPlaces.{places_agree, places_stay, committed_told}
-use Rattle.mr_service.specs.LawfulRuns.{ArePassed, KeepsHistory, AnswersDelivery, TakesBatch, AgreesByExchange, KeepsPlaces, NeverTruncated, IsLawfulRun}
+use Rattle.mr_service.specs.LawfulRuns.{ArePassed, KeepsHistory, TakesBatch, AgreesByExchange, KeepsPlaces, IsLawfulRun}
 
 -- a list is what stands before an element of it, that one, and the rest
 split_at : {A : Type 0} (xs : List A) (i : ℕ) (x : A) → slice_get xs i ≡ Some x → xs ≡ take i xs ++ (x ∷ drop (suc i) xs)

@@ -8,6 +8,7 @@ pub mod RoomSteps
 pub mod RefusedSteps
 pub mod RowOrder
 pub mod RunsGrow
+pub mod HeadlineLaws
 pub mod Submissions
 pub mod WordsRead
 pub mod Lines

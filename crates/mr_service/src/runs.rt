@@ -4,6 +4,7 @@ ghost use Rattle.mr_model.specs.Serving.{Serves};
 ghost use Rattle.mr_model.specs.Tables.{Stands};
 ghost use Rattle.mr_service.specs.Asked.{command_of, reply_of};
 ghost use Rattle.mr_service.specs.Asking.{NoneFails, TellsFailure};
+ghost use Rattle.mr_service.specs.Headline.{KeepsHeadline};
 
 use crate::commands::Command;
 use crate::replies::Reply;
@@ -56,6 +57,7 @@ pub fn run_over_lists(
     commands: &[Command],
 ) -> Result<Vec<Reply>, Refusal>
     ensures serves { IfOk result (λ replies. Serves service.old.tables (map command_of commands.now) (map reply_of replies.items) service.new.tables) }
+    ensures headline { (a : Replica) → Stands service.old.tables a → IfOk result (λ replies. KeepsHeadline a (map command_of commands.now) (map reply_of replies.items) service.new.tables) }
     ensures never { (a : Replica) → Stands service.old.tables a → IfOk result (λ replies. ¬ TellsFailure (map reply_of replies.items)) }
     ensures cause { IfErr result (λ e. e ≡ Refusal.OutOfMemory) }
     ensures refused { OnErr result (service.new ≡ service.old) }
