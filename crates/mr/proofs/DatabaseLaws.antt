@@ -3,22 +3,17 @@ use Rattle.std.proofs.Common.{◌≡◌, sym, subst, ℕ, ◌⊎◌, inl, inr}
 use Rattle.sqlite_trees.specs.Tree.{Trees}
 use Rattle.mr_model.specs.Replica.{opening}
 use Rattle.mr_model.specs.Tables.{Stands}
-use Rattle.mr_store.specs.declared.keeper.Keeper.{Ghosts}
 use Rattle.mr_sql.specs.Kept.{tables_in}
 use Rattle.mr_sql.specs.Found.{IsAdopted}
 use Rattle.mr.specs.declared.orders.Task.{Task}
 use Rattle.mr.specs.declared.orders.Order.{Order}
-use Rattle.mr.specs.Tasks.{IsOpened, IsOrderFor}
+use Rattle.mr.specs.Tasks.{IsOrderFor}
 
 -- the tables of an adopted database are those of a replica that knows nothing yet, or they name this server and primary
 pub adopted_tables : (server primary : ℕ) (before after : Trees) → IsAdopted server primary before after
     → Stands (tables_in after) (opening server primary) ⊎ (((tables_in after).meta.server ≡ server) × ((tables_in after).meta.primary ≡ primary))
 adopted_tables server primary before after (inl blank) = inl blank.1
 adopted_tables server primary before after (inr ours) = inr (ours.2, ours.3)
-
--- the service of a keeper is seen as that keeper
-pub opened_as : {K : Type 0} (keeper : Ghosts K) (k seen : K) → seen ≡ k → IsOpened keeper k → IsOpened keeper seen
-opened_as keeper k seen same opened = subst (IsOpened keeper) (sym same) opened
 
 -- a task is known by its kind
 pub as_task : {task given : Task} {order : Order} → task ≡ given → IsOrderFor given order → IsOrderFor task order

@@ -1,6 +1,8 @@
 //! Commands on a database file.
 
-ghost use Rattle.mr.specs.Tasks.{EndsAsking, EndsInit, IsCommandFor, TellsTo, file_for};
+ghost use Rattle.std.specs.Prelude.{◌≡◌, ◌⊎◌};
+ghost use Rattle.mr.specs.Tasks.{EndsAsking, EndsInit, IsAnswered, IsCommandFor, TellsTo, file_for};
+ghost use Rattle.mr.specs.Told.{TellsFault};
 
 use crate::asking::perform;
 use crate::orders::Task;
@@ -32,7 +34,7 @@ pub(crate) fn init<W: Write>(
     }
 }
 
-/// Does the task with the replica of the database at this path.
+/// Opens the database at this path, does the task with its replica, and closes what was given back.
 pub(crate) fn on_database<W: Write>(
     rt: &HostRuntime,
     alloc: Global,
@@ -44,11 +46,26 @@ pub(crate) fn on_database<W: Write>(
 {
     match SqlKeeper::open_file(rt, database) {
         Ok(keeper) => {
-            let mut service = Service::new(alloc, keeper);
-            let status = perform(rt, alloc, &mut service, task, out);
-            service.into_keeper().close();
+            let (keeper, status) = on_keeper(rt, alloc, keeper, task, out);
+            keeper.close();
             status
         }
         Err(refusal) => say_refusal(alloc, out, &refusal),
     }
+}
+
+/// Does the task with the replica of this keeper, and gives the keeper back with the status.
+fn on_keeper<K: Keeper, W: Write>(
+    rt: &HostRuntime,
+    alloc: Global,
+    keeper: K,
+    task: Task,
+    out: &mut W,
+) -> (K, u8)
+    ensures { IsAnswered K.Keeper (IsCommandFor task) (TellsTo (file_for task)) keeper result.0 (W.contents out.old) (W.contents out.new) result.1
+        ⊎ ((result.0 ≡ keeper) × TellsFault (W.contents out.old) (W.contents out.new) result.1) }
+{
+    let mut service = Service::new(alloc, keeper);
+    let status = perform(rt, alloc, &mut service, task, out);
+    (service.into_keeper(), status)
 }

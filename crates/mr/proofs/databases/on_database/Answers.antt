@@ -1,12 +1,11 @@
 use Rattle.std.proofs.Common.{inl, inr}
-use Rattle.mr.proofs.DatabaseLaws.{opened_as}
 use Rattle.mr.proofs.EndLaws.{refusal_ends}
 use Rattle.mr.proofs.databases.on_database.Goals as goal
 
 pub returns-in-Ok : goal.returns-in-Ok
 returns-in-Ok g c =
-    elim c.perform-status.ensures [
-      | inl answered ↦ inl (c.new-service.result, c.perform-status.new.service, opened_as _ _ _ c.new-service.ensures (record { uncounted = c.in-Ok.ensures.uncounted; settled = c.in-Ok.ensures.settled }), answered)
+    elim c.on_keeper-keeper.ensures [
+      | inl answered ↦ inl (c.in-Ok.keeper, c.on_keeper-keeper.result.0, record { uncounted = c.in-Ok.ensures.uncounted; settled = c.in-Ok.ensures.settled }, answered)
       | inr unasked ↦ inr (inr unasked.1)
     ]
 
