@@ -1,14 +1,20 @@
-ghost use Rattle.std.specs.Prelude.{◌≡◌, ◌==◌, ◌&&◌, ℕ, Bool, not, map, filter, slice_get, IfOk, IfErr};
+ghost use Rattle.std.specs.Prelude.{◌≡◌, ◌==◌, ◌&&◌, ℕ, Bool, not, List, map, filter, slice_get, IfOk, IfErr};
+ghost use Rattle.mr_model.specs.Texts.{Text};
+ghost use Rattle.mr_model.specs.Exchange.{Item as ItemOfBatch};
 ghost use Rattle.mr_model.specs.Writes.{Write as WriteOfRoom};
 ghost use Rattle.mr_model.specs.Replay.{Place};
 ghost use Rattle.mr_base.specs.Batches.{item_of};
 ghost use Rattle.mr_replay.specs.Holds.{HaveDistinctIds};
 ghost use Rattle.mr_replay.specs.Places.{UndoRow as UndoRowOfWrite};
 ghost use Rattle.mr_replica.specs.Moves.{moves_in};
+ghost use Rattle.mr_replica.specs.Named.{IsSetOf};
 ghost use Rattle.mr_replica.specs.Received.{row_of_id};
 ghost use Rattle.mr_replica.specs.PickedUndo.{undo_with};
+ghost use Rattle.mr_replica.specs.Tails.{IsTail};
 
 use crate::movable::may_move;
+use crate::room_sets::{RoomSet, room_set};
+use crate::scope_tail::{Tail, tail_of};
 use mr_base::{Item, Refusal, RoomName, Write, WriteId};
 use mr_replay::UndoRow;
 use std::alloc::Global;
@@ -30,11 +36,34 @@ pub(crate) fn parted_rows(
         → IfOk result (λ rows. rows.1.items ≡ map row (filter (λ w. not (mark w == 0 && moves_in touched.now (map item_of items.now) commits w)) writes.now)) }
     ensures only { IfErr result (λ e. e ≡ Refusal.OutOfMemory) }
 {
+    let rooms = room_set(alloc, touched)?;
+    let tail = tail_of(items, commits);
+    let rows = parted_by(alloc, writes, marks, undo, &rooms, &tail)?;
+    Ok(rows)
+}
+
+/// The same, where the items touch these rooms and have this tail.
+fn parted_by(
+    alloc: Global,
+    writes: &[Write],
+    marks: &[u64],
+    undo: &[UndoRow],
+    rooms: &RoomSet,
+    tail: &Tail,
+) -> Result<(Vec<UndoRow>, Vec<UndoRow>), Refusal>
+    ensures moving { (touched : List Text) (items : List ItemOfBatch) (commits : ℕ) → IsSetOf rooms.now touched → IsTail tail.now commits items
+        → (mark : WriteOfRoom → ℕ) (row : WriteOfRoom → UndoRowOfWrite) → marks.now ≡ map mark writes.now → undo.now ≡ map row writes.now
+        → IfOk result (λ rows. rows.0.items ≡ map row (filter (λ w. mark w == 0 && moves_in touched items commits w) writes.now)) }
+    ensures others { (touched : List Text) (items : List ItemOfBatch) (commits : ℕ) → IsSetOf rooms.now touched → IsTail tail.now commits items
+        → (mark : WriteOfRoom → ℕ) (row : WriteOfRoom → UndoRowOfWrite) → marks.now ≡ map mark writes.now → undo.now ≡ map row writes.now
+        → IfOk result (λ rows. rows.1.items ≡ map row (filter (λ w. not (mark w == 0 && moves_in touched items commits w)) writes.now)) }
+    ensures only { IfErr result (λ e. e ≡ Refusal.OutOfMemory) }
+{
     let mut moving = Vec::new(alloc);
     let mut others = Vec::new(alloc);
     let count = writes.len().min(marks.len()).min(undo.len());
     for k in 0..count {
-        if marks[k] == 0 && may_move(&writes[k], touched, items, commits) {
+        if marks[k] == 0 && may_move(&writes[k], rooms, tail) {
             moving.push(undo[k])?;
         } else {
             others.push(undo[k])?;

@@ -7,7 +7,7 @@ ghost use Rattle.mr_replica.specs.ScopeOf.{scope_of};
 
 use crate::Scope;
 use crate::scope_commits::first_rows;
-use crate::scope_logs::is_log_in;
+use crate::scope_log_test::LogTest;
 use crate::scope_touched::touched_rooms;
 use mr_base::{Refusal, RoomName};
 use mr_tables::LogRow;
@@ -82,9 +82,10 @@ fn rows_where<'a>(
     ensures logs { IfOk result (λ logs. map (λ row. row.now) logs.items ≡ filter (is_log_in (scope_of scope.now) commits touched.now) rows.now) }
     ensures only { IfErr result (λ e. e ≡ Refusal.OutOfMemory) }
 {
+    let test = LogTest::of(alloc, scope, commits, touched)?;
     let mut picked = Vec::new(alloc);
     for row in rows {
-        if is_log_in(row, scope, commits, touched) {
+        if test.passes(row) {
             picked.push(row)?;
         }
     }
