@@ -10,7 +10,7 @@ use std::alloc::Global;
 use std::process::Abort;
 use std::test::Fail;
 
-const BATCH: &[u8] =
+pub(crate) const BATCH: &[u8] =
     b"mr1 1 1\nW 1 1 1 oak 60 1995-12-18 14:00 0 Alpha\nW 2 1 1 oak 60 1995-12-18 13:30 1 1995-12-18 15:00 Beta\nE\n";
 
 const HEAD: &[u8] = b"HTTP/1.1 200 OK\r\nContent-Length: 106\r\n\r\n";

@@ -12,3 +12,5 @@ mod head_tests;
 mod round_tests;
 #[cfg(test)]
 mod serving_tests;
+#[cfg(test)]
+mod without_desk;

@@ -1,6 +1,7 @@
 // Rounds of an exchange, whose requests a served replica answers: 70 writes go either way in 64 and 6.
 
-use crate::asking_tests::service;
+use crate::asking_tests::{BATCH, service};
+use crate::serving_tests::opening;
 use mr_base::Ending;
 use mr_http::WebFault;
 use mr_peer::{position_ask, position_take, pull_ask, pull_take, push_ask, push_take};
@@ -102,5 +103,35 @@ fn seventy_are_pushed_in_two_rounds(rt: HostRuntime) -> Result<(), Fail> {
     ] {
         assert!(rt; push_to(alloc, &mut client, &mut server) == Ok((writes, 0, ending)));
     }
+    Ok(())
+}
+
+const SUBMISSION: &[u8] =
+    b"POST /submit HTTP/1.1\r\nContent-Length: 77\r\n\r\n{\"day\":\"1995-12-18\",\"length\":60,\"room\":\"oak\",\"start\":\"14:00\",\"title\":\"Alpha\"}";
+
+const RECEIVED: &[u8] = b"mr1 2 1\nW 2 1 1 oak 60 1995-12-18 13:30 1 1995-12-18 15:00 Beta\nE\n";
+
+const PULLED: &[u8] =
+    b"HTTP/1.1 200 OK\r\nContent-Type: text/plain\r\nContent-Length: 106\r\nConnection: close\r\n\r\n";
+
+// The primary has a booking of its own and another's, and answers the pull of a replica that knows nothing with both.
+#[test]
+fn a_pull_is_answered_with_all_that_is_known(rt: HostRuntime) -> Result<(), Fail> {
+    let alloc = rt.alloc();
+    let mut server = opening(alloc)?;
+    let booked = replied(alloc, &mut server, SUBMISSION)
+        .ok()
+        .ok_or("no reply")?;
+    assert!(rt; booked.as_slice().starts_with(b"HTTP/1.1 200 OK\r\n"));
+    server.ask(&Command::Receive(Vec::from_slice(alloc, RECEIVED)?));
+    let mut request = Vec::new(alloc);
+    let asked = pull_ask(alloc, &mut service(alloc, 9)?, "a", &mut request);
+    assert!(rt; asked == Ok(()));
+    let reply = replied(alloc, &mut server, request.as_slice())
+        .ok()
+        .ok_or("no reply")?;
+    let mut want = Vec::from_slice(alloc, PULLED)?;
+    want.extend_from_slice(BATCH)?;
+    assert_eq!(rt; reply.as_slice(), want.as_slice());
     Ok(())
 }

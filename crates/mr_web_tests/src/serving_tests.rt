@@ -1,6 +1,7 @@
 // Requests and their replies over a keeper of lists, to the byte. The memory is ample.
 
 use crate::connections::{Drip, Narrow};
+use crate::without_desk::WithoutDesk;
 use mr_base::ServerId;
 use mr_http::WebFault;
 use mr_service::{Command, Local, Service};
@@ -192,7 +193,7 @@ const FAULTS: [(&str, u16, &str); 18] = [
 ];
 
 // The primary, which knows the room oak.
-fn opening(alloc: Global) -> Result<Service<ListKeeper>, Fail> {
+pub(crate) fn opening(alloc: Global) -> Result<Service<ListKeeper>, Fail> {
     let server = ServerId::new(1).ok_or("a server")?;
     let mut service = Service::new(alloc, ListKeeper::new(alloc, server, server));
     let room = String::from_str(alloc, "oak")?;
@@ -218,10 +219,10 @@ fn check<K: Keeper>(
     Ok(())
 }
 
-fn check_all(
+fn check_all<K: Keeper>(
     rt: &impl Abort,
     alloc: Global,
-    service: &mut Service<ListKeeper>,
+    service: &mut Service<K>,
     rows: &[(&str, u16, &str)],
 ) -> Result<(), Fail> {
     for row in rows {
@@ -242,6 +243,16 @@ fn serves_each_route(rt: HostRuntime) -> Result<(), Fail> {
     let alloc = rt.alloc();
     let mut service = opening(alloc)?;
     check(&rt, alloc, &mut service, FIRST[0])?;
+    check_all(&rt, alloc, &mut service, &ROUTES)
+}
+
+// No request needs a whole desk.
+#[test]
+fn serves_each_route_without_a_desk(rt: HostRuntime) -> Result<(), Fail> {
+    let alloc = rt.alloc();
+    let keeper = WithoutDesk::new(opening(alloc)?.into_keeper());
+    let mut service = Service::new(alloc, keeper);
+    check_all(&rt, alloc, &mut service, &FIRST)?;
     check_all(&rt, alloc, &mut service, &ROUTES)
 }
 
