@@ -16,15 +16,20 @@ tried() {
     fi
 }
 
-# turned batches and positions, and requests of strangers; the seed is printed with a failure
+# turned batches and positions for 90 seconds, and requests of strangers for 20; the seed is printed with a failure
 run_hostile_hands() {
+    local quick
     if ! command -v python3 > /dev/null; then
         echo 'skipped: turned batches, strange requests, broken peers (no python3)'
         return
     fi
-    tried 'turned batches and positions' tests/hostile.py "$program" "$scratch/turned" 60 1 2
+    # more cases in their time where files are written to memory
+    quick=$(mktemp -d -p /dev/shm 2> "$scratch/err") || quick=$scratch
+    tried 'turned batches and positions' tests/hostile.py "$program" "$quick/turned" 90
     tried 'peers and clients that break off' tests/peers.py "$program" "$scratch/peers"
-    tried 'requests of strangers' tests/strangers/run.py "$program" "$scratch/strangers" 400 1 2 3 4 5 6
+    tried 'requests of strangers' tests/strangers/run.py "$program" "$quick/strangers" 20
+    rm -rf -- "$quick/turned" "$quick/strangers"
+    rmdir --ignore-fail-on-non-empty -- "$quick"
 }
 
 run_faults() {
