@@ -3,11 +3,12 @@
 
     hostile.py PROGRAM FOLDER SECONDS [SEED]
 
-For each seed four offices exchange for a while: each is a database, and beside it a replica of oracle.py, which keeps nothing but
-sets of writes. Then real batches and positions are turned (turned.py: cut, bytes changed, lines doubled, dropped and swapped, numbers
-at and over each limit, lines forged that do or don't follow on what is known) and given to the databases, by `import` and `export`,
-and by POST /push and /pull of one that is served. After each the reply, the position and the sheets are those of the replica, and after
-some the rest. Seeds follow until the seconds are over; what differs is printed with its seed and its bytes (seeds.py).
+For each seed lines with each word at each limit and just beyond it are given to a database that is served. Then four offices exchange
+for a while: each is a database, and beside it a replica of oracle.py, which keeps nothing but sets of writes. Real batches and
+positions are turned (turned.py: cut, bytes changed, lines doubled, dropped and swapped, numbers at and over each limit, lines forged
+that do or don't follow on what is known) and given to them, by `import` and `export`, and by POST /push and /pull of one that is
+served. After each the reply, the position and the sheets are those of the replica, and after some of them all that is shown. Seeds
+follow until the seconds are over; what differs is printed with its seed and its bytes (seeds.py).
 """
 
 import os
@@ -17,7 +18,7 @@ import seeds
 import wire
 from calls import Served
 from offices import DAYS, ROOMS, Difference, Office
-from turned import turned_batch, turned_position
+from turned import limit_batches, limit_positions, turned_batch, turned_position
 
 ROUNDS, BY_FILES, OVER_HTTP = 4, 20, 80
 
@@ -92,32 +93,52 @@ def is_shown(served, replica, day):
         is_answered(served, 'GET', f'/rooms/{room}/days/{day}', b'', replica.sheet(room, day))
 
 
-def over_http(rng, office, offices, cases):
+def turned_bodies(rng, replica, offices, cases):
+    """The path and the body of each request to a replica."""
+    for _ in range(cases):
+        if rng.random() < 0.7:
+            yield '/push', turned_batch(rng, replica, offices)
+        else:
+            yield '/pull', turned_position(rng, replica, offices)
+
+
+def bodies_at_limits():
+    for text in limit_batches():
+        yield '/push', text.encode('latin-1')
+    for text in limit_positions():
+        yield '/pull', text.encode('latin-1')
+
+
+def over_http(rng, office, bodies):
     """At one served database, which is killed at the end: what was answered is there."""
     served, replica = Served(office.program, office.path, office.path + '.lines'), office.replica
     try:
-        for _ in range(cases):
-            if rng.random() < 0.7:
-                text = turned_batch(rng, replica, offices)
-                yield 'push', f'to server {replica.server} of {text}'
-                is_answered(served, 'POST', '/push', text, wire.receive(replica, text))
-            else:
-                text = turned_position(rng, replica, offices)
-                yield 'pull', f'of server {replica.server} for {text}'
-                is_answered(served, 'POST', '/pull', text, wire.answer_position(replica, text, 64))
+        for path, text in bodies:
+            yield path, f'at server {replica.server} of {text}'
+            reply = wire.receive(replica, text) if path == '/push' else wire.answer_position(replica, text, 64)
+            is_answered(served, 'POST', path, text, reply)
             is_shown(served, replica, rng.choice(DAYS))
     finally:
         served.end()
     office.check()
 
 
+def at_limits(program, folder, rng):
+    """Each word of each line at each of its limits, and just beyond it."""
+    office = Office(program, f'{folder}/limits.db', 7, 3)
+    office.import_bytes(b'mr1 3 3\nW 3 1 1 oak 30 2024-02-29 09:00 0 x\nC 1 3 1\nW 5 1 2 oak 30 2024-02-29 09:00 0 y\nE\n')
+    yield from over_http(rng, office, bodies_at_limits())
+
+
 def cases(program, folder, seed):
     rng = random.Random(seed)
-    yield 'offices', ''
+    yield from at_limits(program, folder, rng)
+    yield 'offices', 'that exchange'
     offices = make_offices(program, folder, rng)
     for _ in range(ROUNDS):
         yield from by_files(rng, offices, BY_FILES)
-        yield from over_http(rng, rng.choice(offices), offices, OVER_HTTP)
+        office = rng.choice(offices)
+        yield from over_http(rng, office, turned_bodies(rng, office.replica, offices, OVER_HTTP))
 
 
 if __name__ == '__main__':

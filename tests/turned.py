@@ -12,20 +12,50 @@ WORDS = ['oak', 'a' * 16, 'a' * 17, 'Oak', '2023-02-29', '2024-02-30', '1989-12-
 SERVERS, COUNTS, LATEST = ['0', '1', '99', '100'], ['0', '1', '999999999', '1000000000'], ['0', '1', '999999999999', '1000000000000']
 # What each word of a line may be at the most and at the least, and just beyond.
 LIMITS = {
-    b'mr1': [SERVERS, SERVERS],
-    b'W': [SERVERS, COUNTS, LATEST, ['', 'a', 'a' * 16, 'a' * 17], ['0', '1', '1440', '1441'],
-           ['1989-12-31', '1990-01-01', '2099-12-31', '2100-01-01'], ['00:00', '23:59', '23:60', '24:00'], ['0', '8', '9', '10']],
-    b'C': [LATEST, SERVERS, COUNTS],
-    b'mp1': [SERVERS, SERVERS],
-    b'K': [LATEST],
-    b'V': [SERVERS, COUNTS],
+    'mr1': [SERVERS, SERVERS],
+    'W': [SERVERS, COUNTS, LATEST, ['', 'a', 'a' * 16, 'a' * 17], ['0', '1', '1440', '1441'],
+          ['1989-12-31', '1990-01-01', '2099-12-31', '2100-01-01'], ['00:00', '23:59', '23:60', '24:00'], ['0', '8', '9', '10']],
+    'C': [LATEST, SERVERS, COUNTS],
+    'mp1': [SERVERS, SERVERS],
+    'K': [LATEST],
+    'V': [SERVERS, COUNTS],
 }
+
+
+def at_each_limit(line):
+    """The line with each of its words at each limit, and just beyond it; a write has as many alternatives as it says."""
+    words = line.split(' ')
+    for at, limits in enumerate(LIMITS[words[0]], 1):
+        for limit in limits:
+            others = ' 2024-02-29 09:00' * int(limit) if (words[0], at) == ('W', 8) else ''
+            yield ' '.join(words[:at] + [limit + others] + words[at + 1:])
+
+
+def limit_batches():
+    """For server 7 of the primary 3, which knows the writes 3-1, committed, and 5-1: lines that would be taken otherwise."""
+    for server, line in enumerate(at_each_limit('W 10 1 1 elm 1 2024-02-29 00:00 0 x'), 10):
+        yield 'mr1 5 3\n' + line.replace('W 10 ', f'W {server} ') + '\nE\n'
+    for server, title in enumerate(TITLES, 60):
+        yield f'mr1 5 3\nW {server} 1 1 elm 1 2024-02-29 00:00 0 {title}\nE\n'
+    for line in at_each_limit('C 2 5 1'):
+        yield f'mr1 5 3\n{line}\nE\n'
+    for line in at_each_limit('mr1 5 3'):
+        yield f'{line}\nW 9 2 1 elm 1 2024-02-29 00:00 0 x\nE\n'
+
+
+def limit_positions():
+    for line in at_each_limit('mp1 9 3'):
+        yield f'{line}\nK 0\nE\n'
+    for line in at_each_limit('K 1'):
+        yield f'mp1 9 3\n{line}\nE\n'
+    for line in at_each_limit('V 3 1'):
+        yield f'mp1 9 3\nK 0\n{line}\nE\n'
 
 
 def at_limit(rng, line):
     """One word of the line is at a limit, or just beyond it."""
     words = line.split(b' ')
-    limits = LIMITS.get(words[0], [])[:len(words) - 1]
+    limits = LIMITS.get(words[0].decode('latin-1'), [])[:len(words) - 1]
     if limits:
         at = rng.randrange(len(limits))
         words[at + 1] = rng.choice(limits[at]).encode('ascii')
