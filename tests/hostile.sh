@@ -33,7 +33,7 @@ run_faults() {
         echo 'skipped: killed commands, limited files (no python3)'
         return
     fi
-    tried 'killed commands, limited files, closed outputs' tests/faults.py "$program" "$quick/faults" 6 1
+    tried 'killed commands, limited files, closed outputs' tests/faults.py "$program" "$quick/faults" 200 1
 }
 
 # each allocation of scripts, and of requests to a server, and many of commands on databases, is refused
