@@ -152,7 +152,7 @@ class Databases(Tried, on_databases.Offices):
             return None, False
         if told == (REFUSED, 1) and state == before:
             self.refused += 1
-            return None, before == after
+            return None, False
         if told == (REFUSED, 1) and state == after:
             self.late += 1
             return None, True
