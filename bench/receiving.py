@@ -4,9 +4,9 @@
     receiving.py PROGRAM FOLDER [WRITES]
 
 makes databases with so many kept writes (10,000 where no number is given), in five rooms or in one, tentative or committed, and imports
-batches into copies of them, three times each: one without a line, 64 writes that come on top, the same with their commits, and one early
-write that belongs before all others of its room. Prints the middle one of the seconds that the process had a processor, and the
-greatest peak memory.
+batches into copies of them, three times each: one without a line, 64 writes that come on top, the same with their commits, one early
+write that belongs before all others of its room, known commits again, and writes of as many new rooms. Prints the middle one of the
+seconds that the process had a processor, and the greatest peak memory.
 """
 
 import os
@@ -18,7 +18,7 @@ sys.path.insert(0, os.path.join(os.path.dirname(os.path.abspath(__file__)), '..'
 
 from calls import done, empty
 
-LINES, RUNS = 64, 3
+LINES, MANY, RUNS = 64, 1000, 3
 
 
 def write(server, n, time, room, slot):
@@ -66,10 +66,13 @@ def cases(count):
     def top(rooms):
         return [write(2, count + k, count + k + 1, k % rooms, count + k - 1) for k in range(1, LINES + 1)]
     early = [write(4, 1, 1, 0, 0)]
+    new_rooms = [f'W 4 {k} {count + k + 1} new-{k} 15 1995-01-01 09:00 0 Meeting {k}' for k in range(1, MANY + 1)]
     return [(5, False, 'no line', []), (5, False, f'{LINES} writes on top', top(5)), (5, False, 'an early write', early),
+            (5, False, f'{MANY:,} writes of new rooms', new_rooms),
             (1, False, f'{LINES} writes on top', top(1)), (1, False, 'an early write', early),
             (5, True, 'no line', []), (5, True, f'{LINES} writes on top', top(5)),
-            (5, True, f'{LINES} writes on top, and their commits', top(5) + commits(count + 1, LINES))]
+            (5, True, f'{LINES} writes on top, and their commits', top(5) + commits(count + 1, LINES)),
+            (5, True, f'{MANY:,} known commits', commits(1, MANY))]
 
 
 def main():
