@@ -1,4 +1,4 @@
-ghost use Rattle.std.specs.Prelude.{◌≡◌, ◌∷◌, ◌&&◌, nat_lt, length, IsTrue};
+ghost use Rattle.std.specs.Prelude.{◌≡◌, ◌∷◌, ◌&&◌, nat_lt, length, IsTrue, Err};
 ghost use Rattle.std.specs.List.{list_all};
 ghost use Rattle.mr_model.specs.Slots.{is_slot};
 ghost use Rattle.mr_model.specs.Writes.{fits_day, greatest_alternatives};
@@ -83,7 +83,9 @@ impl Request {
         wish: Slot,
         alternatives: Alternatives,
     ) -> Result<Request, Refusal>
-        ensures { OrOutOfMemory result (request_of room.now title.now length wish alternatives) }
+        ensures value { OrOutOfMemory result (request_of room.now title.now length wish alternatives) }
+        // A refusal that is due is returned without memory.
+        ensures due { (e : Refusal) → request_of room.now title.now length wish alternatives ≡ Err e → result ≡ Err e }
     {
         if !fits(length, wish, alternatives.as_slice()) {
             return Err(Refusal::BadLength);

@@ -238,7 +238,7 @@ fn writes_are_copied_and_compared(rt: HostRuntime) -> Result<(), Fail> {
 }
 
 // the words of a request that wishes 14:00, its length and its alternatives, and its smallest refusal
-static REQUESTS: [((&str, &str), u32, &[u32], Result<bool, Refusal>); 10] = [
+static REQUESTS: [((&str, &str), u32, &[u32], Result<bool, Refusal>); 13] = [
     (("oak", "Audit"), 60, &[], Ok(true)),
     (("oak", "Audit"), 600, &[540, 600], Ok(true)),
     (("oak", "Audit"), 60, &[540; 8], Ok(true)),
@@ -251,6 +251,9 @@ static REQUESTS: [((&str, &str), u32, &[u32], Result<bool, Refusal>); 10] = [
     (("oak", ""), 60, &[540; 9], Err(Refusal::BadTitle)),
     (("Oak", ""), 60, &[540; 9], Err(Refusal::BadRoomName)),
     (("Oak", ""), 0, &[540; 9], Err(Refusal::BadLength)),
+    (("Oak", "Audit"), 60, &[540; 9], Err(Refusal::BadRoomName)),
+    (("oak", " Audit"), 60, &[], Err(Refusal::BadTitle)),
+    (("", "Audit"), 60, &[], Err(Refusal::BadRoomName)),
     (("oak", "Audit"), 601, &[], Err(Refusal::BadLength)),
     (("oak", "Audit"), 1441, &[], Err(Refusal::BadLength)),
     (("oak", "Audit"), 60, &[1381], Err(Refusal::BadLength)),
