@@ -6,6 +6,8 @@
 #[cfg(test)]
 mod acts;
 #[cfg(test)]
+mod fault_tests;
+#[cfg(test)]
 mod hostile_tests;
 #[cfg(test)]
 mod offices;
