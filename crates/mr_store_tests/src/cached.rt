@@ -1,9 +1,8 @@
 // A keeper with its rows in memory answers as the keeper below does, also after a fault of that.
 
-use crate::changes::id;
-use crate::tests::{Call, OF_BOTH_CHANGES, OF_THE_FIRST_CHANGE, Place, answers, check, opening};
+use crate::changes::{first_change, id};
+use crate::tests::{Call, OF_BOTH_CHANGES, Place, answers, check, fault_of, opening};
 use mr_base::{Refusal, RoomName};
-use mr_replica::Scope;
 use mr_store::{Cached, Fault, Keeper, ListKeeper, Tripped};
 use std::alloc::Global;
 use std::process::Abort;
@@ -12,8 +11,6 @@ use std::test::Fail;
 #[test]
 fn rows_in_memory_are_those_of_the_keeper(rt: HostRuntime) -> Result<(), Fail> {
     let alloc = rt.alloc();
-    let mut first = Cached::new(alloc, opening(alloc)?);
-    check(&rt, alloc, &mut first, &OF_THE_FIRST_CHANGE);
     let mut both = Cached::new(alloc, opening(alloc)?);
     check(&rt, alloc, &mut both, &OF_BOTH_CHANGES);
     let mut below = both.release();
@@ -56,43 +53,45 @@ fn cached(alloc: Global, left: u64, fault: Fault) -> Result<Cached<Tripped<ListK
     Ok(Cached::new(alloc, Tripped::new(opening(alloc)?, left, fault)))
 }
 
-// the keeper below is asked three times: for its rows, and to make each change
+/// The one call that fails is refused, and all answers behind it are right. The keeper below is asked three times: for its rows, and to
+/// make each change.
+fn check_fault(rt: &impl Abort, alloc: Global, left: u64, fault: Fault) -> Result<(), Refusal> {
+    let mut keeper = cached(alloc, left, fault)?;
+    let count = refused(rt, alloc, &mut keeper, Refusal::from(fault));
+    let wanted = if left < 3 { 1 } else { 0 };
+    assert_eq!(rt; count, wanted, "a fault after {left} calls");
+    Ok(())
+}
+
 #[test]
-fn after_a_fault_the_answers_are_right(rt: HostRuntime) -> Result<(), Fail> {
-    let alloc = rt.alloc();
+fn after_want_of_memory_the_answers_are_right(rt: HostRuntime) -> Result<(), Fail> {
     for left in 0..4 {
-        let wanted = if left < 3 { 1 } else { 0 };
-        let mut keeper = cached(alloc, left, Fault::OutOfMemory)?;
-        let count = refused(&rt, alloc, &mut keeper, Refusal::OutOfMemory);
-        assert_eq!(rt; count, wanted, "out of memory after {left} calls");
-        let mut keeper = cached(alloc, left, Fault::Store)?;
-        let count = refused(&rt, alloc, &mut keeper, Refusal::Store);
-        assert_eq!(rt; count, wanted, "a failed store after {left} calls");
+        check_fault(&rt, rt.alloc(), left, Fault::OutOfMemory)?;
     }
     Ok(())
 }
 
-/// Whether each kind of question is answered.
-fn are_answered<K: Keeper>(keeper: &mut K, alloc: Global) -> Result<bool, Refusal> {
-    let oak = RoomName::new(alloc, "oak")?;
-    Ok(
-        keeper.load().is_ok()
-            && keeper.load_part(&Scope::InRoom(&oak)).is_ok()
-            && keeper.rooms().is_ok()
-            && keeper.bookings(&oak, None).is_ok()
-            && keeper.place_of(&oak, id(2, 1)?).is_ok()
-            && keeper.errors(&oak).is_ok()
-            && keeper.read().is_ok(),
-    )
+#[test]
+fn after_a_failed_store_the_answers_are_right(rt: HostRuntime) -> Result<(), Fail> {
+    for left in 0..4 {
+        check_fault(&rt, rt.alloc(), left, Fault::Store)?;
+    }
+    Ok(())
 }
 
+// the second call of the keeper below fails, which is the change
 #[test]
 fn questions_ask_the_keeper_once(rt: HostRuntime) -> Result<(), Fail> {
     let alloc = rt.alloc();
+    let oak = RoomName::new(alloc, "oak")?;
+    let request = id(2, 1)?;
+    let change = first_change(alloc)?;
     let mut keeper = cached(alloc, 1, Fault::Store)?;
-    assert!(rt; are_answered(&mut keeper, alloc)?);
-    assert!(rt; are_answered(&mut keeper, alloc)?);
-    let second = answers(&mut keeper, alloc, Call::ApplyFirst);
-    assert_eq!(rt; second, Err(Refusal::Store));
+    for call in 0..14 {
+        let fault = fault_of(&mut keeper, call % 7, &oak, request, &change);
+        assert_eq!(rt; fault, None, "at question {call}");
+    }
+    let fault = fault_of(&mut keeper, 7, &oak, request, &change);
+    assert_eq!(rt; fault, Some(Fault::Store));
     Ok(())
 }

@@ -216,7 +216,7 @@ fn a_new_keeper_has_a_desk(rt: HostRuntime) -> Result<(), Fail> {
     Ok(())
 }
 
-pub(crate) static OF_THE_FIRST_CHANGE: [Call; 14] = [
+static OF_THE_FIRST_CHANGE: [Call; 14] = [
     Call::ApplyFirst,
     Call::Rooms(&["elm", "oak"]),
     Call::Bookings("oak", false, &[(1, 1), (1, 3), (2, 4), (2, 1), (2, 2)]),
@@ -286,7 +286,7 @@ fn a_trip_comes_after_its_calls(rt: HostRuntime) -> Result<(), Fail> {
 }
 
 /// The fault of one of the eight calls, where it has one.
-fn fault_of<K: Keeper>(
+pub(crate) fn fault_of<K: Keeper>(
     keeper: &mut K,
     call: u32,
     room: &RoomName,
