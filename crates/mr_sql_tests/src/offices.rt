@@ -22,9 +22,9 @@ pub(crate) enum Step {
 #[derive(Drop)]
 pub(crate) struct Offices<K: Keeper> {
     alloc: Global,
-    first: Service<K>,
-    second: Service<K>,
-    third: Service<K>,
+    pub(crate) first: Service<K>,
+    pub(crate) second: Service<K>,
+    pub(crate) third: Service<K>,
     batches: Vec<Vec<u8>>,
 }
 
@@ -37,15 +37,6 @@ impl<K: Keeper + Drop> Offices<K> {
             third: Service::new(alloc, third),
             batches: Vec::new(alloc),
         }
-    }
-
-    /// The keeper of each office, with all that was done.
-    pub(crate) fn into_keepers(self) -> [K; 3] {
-        [
-            self.first.into_keeper(),
-            self.second.into_keeper(),
-            self.third.into_keeper(),
-        ]
     }
 
     fn ask(&mut self, office: u32, command: &Command) -> Reply {

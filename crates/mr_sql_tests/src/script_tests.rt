@@ -88,8 +88,11 @@ fn loaded_position<K: Keeper>(alloc: Global, keeper: &mut K) -> Result<Vec<u8>, 
 }
 
 /// The position of the desk that is loaded is the one that is replied.
-fn check_position<K: Keeper + Drop>(rt: &impl Abort, alloc: Global, keeper: K) -> Result<(), Fail> {
-    let mut service = Service::new(alloc, keeper);
+fn check_position<K: Keeper + Drop>(
+    rt: &impl Abort,
+    alloc: Global,
+    mut service: Service<K>,
+) -> Result<(), Fail> {
     let replied = said(alloc, &mut service, Act::Position)?;
     let mut keeper = service.into_keeper();
     let loaded = loaded_position(alloc, &mut keeper)?;
@@ -103,7 +106,12 @@ fn check_desks<K: Opening + Drop>(
     alloc: Global,
     script: &[Row],
 ) -> Result<(), Fail> {
-    let [first, second, third] = check_new::<K>(rt, alloc, script)?.into_keepers();
+    let Offices {
+        first,
+        second,
+        third,
+        ..
+    } = check_new::<K>(rt, alloc, script)?;
     check_position(rt, alloc, first)?;
     check_position(rt, alloc, second)?;
     check_position(rt, alloc, third)
