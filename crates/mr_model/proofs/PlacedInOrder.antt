@@ -60,7 +60,7 @@ abbrev pub booked_by : List Booking → List Placed → List Booking
 booked_by bs [] = bs
 booked_by bs (p ∷ ps) = booked_by (booked_with bs p.write p.place) ps
 
-booked_by-append : (bs : List Booking) (xs ys : List Placed) → booked_by bs (xs ++ ys) ≡ booked_by (booked_by bs xs) ys
+pub booked_by-append : (bs : List Booking) (xs ys : List Placed) → booked_by bs (xs ++ ys) ≡ booked_by (booked_by bs xs) ys
 booked_by-append bs [] ys = refl
 booked_by-append bs (x ∷ xs) ys = booked_by-append (booked_with bs x.write x.place) xs ys
 
@@ -68,7 +68,7 @@ pub booked_by-among : (mark : Bool) (bs : List Booking) (ws : List Write) → bo
 booked_by-among mark bs [] = refl
 booked_by-among mark bs (w ∷ ws) = booked_by-among mark (booked_with bs w (place_among bs w)) ws
 
-booked_by-whole : (v : View) → booked_by [] (whole_places v) ≡ after [] (v.committed ++ v.tentative)
+pub booked_by-whole : (v : View) → booked_by [] (whole_places v) ≡ after [] (v.committed ++ v.tentative)
 booked_by-whole v =
     let cs = placed_among true [] v.committed in
     let ts = placed_among false (after [] v.committed) v.tentative in

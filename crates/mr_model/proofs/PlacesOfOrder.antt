@@ -47,13 +47,13 @@ distinct_filter p (w ∷ ws) d = go (p w) (distinct_filter p ws d.1)
     go false r = r
 
 -- what is told of a room
-abbrev pub room_list : Replica → Text → List Placed
-room_list r room = placed_among true [] (of_room room (committed r)) ++ placed_among false (after [] (of_room room (committed r))) (of_room room (tentative r))
+abbrev pub room_places : Replica → Text → List Placed
+room_places r room = placed_among true [] (of_room room (committed r)) ++ placed_among false (after [] (of_room room (committed r))) (of_room room (tentative r))
 
-pub room-list : (r : Replica) (room : Text) → whole_places (view_of r room) ≡ room_list r room
-room-list r room = whole-places (view_of r room)
+pub room-places : (r : Replica) (room : Text) → whole_places (view_of r room) ≡ room_places r room
+room-places r room = whole-places (view_of r room)
 
-pub distinct_room : (r : Replica) (room : Text) → IsReplica r → Distinct (map placed_id (room_list r room))
+pub distinct_room : (r : Replica) (room : Text) → IsReplica r → Distinct (map placed_id (room_places r room))
 distinct_room r room h =
     subst Distinct (sym (
     map-append placed_id (placed_among true [] cs) (placed_among false (after [] cs) ts)
@@ -91,14 +91,14 @@ room_true w room e = (bytes_eq-Decides w.room room).0 e
 pub room_from : (w : Write) (room : Text) → w.room ≡ room → bytes_eq w.room room ≡ true
 room_from w room e = (bytes_eq-Decides w.room room).1 e
 
-place_placed : (r : Replica) (room : Text) (t : Placed) → IsReplica r → Has t (room_list r room) → t.write.room ≡ room → place_of r t.write ≡ t.place
+place_placed : (r : Replica) (room : Text) (t : Placed) → IsReplica r → Has t (room_places r room) → t.write.room ≡ room → place_of r t.write ≡ t.place
 place_placed r room t h a e =
     ap (λ x. place_or_logged (placed_in (id_of t.write) (whole_places (view_of r x)))) e
-    ∙ ap (λ ts. place_or_logged (placed_in (id_of t.write) ts)) (room-list r room)
-    ∙ ap place_or_logged (placed_here t (room_list r room) (distinct_room r room h) a)
+    ∙ ap (λ ts. place_or_logged (placed_in (id_of t.write) ts)) (room-places r room)
+    ∙ ap place_or_logged (placed_here t (room_places r room) (distinct_room r room h) a)
 
 -- all that is told of a room is of its known writes
-pub room_placed : (r : Replica) (room : Text) (t : Placed) → IsReplica r → Has t (room_list r room) → (t ≡ placed r t.write) × Has t.write r.known × (t.write.room ≡ room)
+pub room_placed : (r : Replica) (room : Text) (t : Placed) → IsReplica r → Has t (room_places r room) → (t ≡ placed r t.write) × Has t.write r.known × (t.write.room ≡ room)
 room_placed r room t h a = go (has_split t (placed_among true [] cs) (placed_among false (after [] cs) ts) a)
   where
     cs : List Write
@@ -133,7 +133,7 @@ known_in_order r w h a = go (is_committed r (id_of w)) refl
     go false e = inr (has_filter (λ v. not (is_committed r (id_of v))) w r.known (ap not e) a)
 
 -- and each known write is told of in its room
-pub placed_room : (r : Replica) (w : Write) → IsReplica r → Has w r.known → Has (placed r w) (room_list r w.room)
+pub placed_room : (r : Replica) (w : Write) → IsReplica r → Has w r.known → Has (placed r w) (room_places r w.room)
 placed_room r w h a = go (known_in_order r w h a)
   where
     cs : List Write
@@ -142,10 +142,10 @@ placed_room r w h a = go (known_in_order r w h a)
     ts : List Write
     ts = of_room w.room (tentative r)
 
-    as_told : (t : Placed) → Has t (room_list r w.room) → t.write ≡ w → Has (placed r w) (room_list r w.room)
-    as_told t g e = subst (λ u. Has u (room_list r w.room)) ((room_placed r w.room t h g).0 ∙ ap (placed r) e) g
+    as_told : (t : Placed) → Has t (room_places r w.room) → t.write ≡ w → Has (placed r w) (room_places r w.room)
+    as_told t g e = subst (λ u. Has u (room_places r w.room)) ((room_placed r w.room t h g).0 ∙ ap (placed r) e) g
 
-    go : Has w (committed r) ⊎ Has w (tentative r) → Has (placed r w) (room_list r w.room)
+    go : Has w (committed r) ⊎ Has w (tentative r) → Has (placed r w) (room_places r w.room)
     go (inl g) =
         let (t, i, e) = has_placed true [] w cs (has_filter (λ v. bytes_eq v.room w.room) w (committed r) (room_from w w.room refl) g) in
         as_told t (has_left t (placed_among true [] cs) (placed_among false (after [] cs) ts) i) e
@@ -157,9 +157,9 @@ map_back : {A B : Type 0} (f : B → A) (g : A → B) (xs : List A) → ((x : A)
 map_back f g [] e = refl
 map_back f g (x ∷ xs) e = let a = e x (inl refl) in let b = map_back f g xs (λ y h. e y (inr h)) in λ i. a i ∷ b i
 
-pub room-placed : (r : Replica) (room : Text) → IsReplica r → room_list r room ≡ map (placed r) (of_room room (order_of r))
+pub room-placed : (r : Replica) (room : Text) → IsReplica r → room_places r room ≡ map (placed r) (of_room room (order_of r))
 room-placed r room h =
-    map_back (placed r) (λ (t : Placed). t.write) (room_list r room) (λ t a. (room_placed r room t h a).0)
+    map_back (placed r) (λ (t : Placed). t.write) (room_places r room) (λ t a. (room_placed r room t h a).0)
     ∙ ap (map (placed r)) (map-append (λ (t : Placed). t.write) (placed_among true [] cs) (placed_among false (after [] cs) ts)
     ∙ ap (λ ws. ws ++ map (λ (t : Placed). t.write) (placed_among false (after [] cs) ts)) (placed-writes true [] cs)
     ∙ ap (λ ws. cs ++ ws) (placed-writes false (after [] cs) ts)
@@ -214,8 +214,8 @@ map-map : {A B C : Type 0} (f : A → B) (g : B → C) (xs : List A) → map g (
 map-map f g [] = refl
 map-map f g (x ∷ xs) = ap (λ ys. g (f x) ∷ ys) (map-map f g xs)
 
-pub room-places : (r : Replica) (room : Text) → IsReplica r → map (place_of r) (of_room room (order_of r)) ≡ replay (of_room room (order_of r))
-room-places r room h =
+pub room-replay : (r : Replica) (room : Text) → IsReplica r → map (place_of r) (of_room room (order_of r)) ≡ replay (of_room room (order_of r))
+room-replay r room h =
     sym (map-map (placed r) (λ (t : Placed). t.place) (of_room room (order_of r)))
     ∙ ap (map (λ (t : Placed). t.place)) (sym (room-placed r room h))
     ∙ map-append (λ (t : Placed). t.place) (placed_among true [] cs) (placed_among false (after [] cs) ts)
@@ -233,7 +233,7 @@ room-places r room h =
 pub order-places : (r : Replica) → IsReplica r → map (place_of r) (order_of r) ≡ board_replay (order_of r)
 order-places r h =
     by_rooms (order_of r) (map (place_of r) (order_of r)) (board_replay (order_of r)) (length-map (order_of r) (place_of r)) (length-replay_on [] (order_of r))
-    (λ room. places-of_map room (place_of r) (order_of r) ∙ room-places r room h ∙ sym (rooms_apart room [] (order_of r)))
+    (λ room. places-of_map room (place_of r) (order_of r) ∙ room-replay r room h ∙ sym (rooms_apart room [] (order_of r)))
 
 -- functions that map a list alike are the same at its elements
 pub map_at : {A B : Type 0} (f g : A → B) (x : A) (xs : List A) → map f xs ≡ map g xs → Has x xs → f x ≡ g x
