@@ -54,12 +54,12 @@ sorted_has x [] h = h
 sorted_has x (e ∷ es) (inl s) = put_has e x (by_start es) (inl s)
 sorted_has x (e ∷ es) (inr h) = put_has e x (by_start es) (inr (sorted_has x es h))
 
-has_flat : {A B : Type 0} (f : A → List B) (x : A) (y : B) (xs : List A) → Has x xs → Has y (f x) → Has y (flat_map f xs)
+pub has_flat : {A B : Type 0} (f : A → List B) (x : A) (y : B) (xs : List A) → Has x xs → Has y (f x) → Has y (flat_map f xs)
 has_flat f x y [] h g = absurd h
 has_flat f x y (z ∷ zs) (inl e) g = has_left y (f z) (flat_map f zs) (subst (λ w. Has y (f w)) e g)
 has_flat f x y (z ∷ zs) (inr h) g = has_right y (f z) (flat_map f zs) (has_flat f x y zs h g)
 
-flat_has : {A B : Type 0} (f : A → List B) (y : B) (xs : List A) → Has y (flat_map f xs) → (x : A) × Has x xs × Has y (f x)
+pub flat_has : {A B : Type 0} (f : A → List B) (y : B) (xs : List A) → Has y (flat_map f xs) → (x : A) × Has x xs × Has y (f x)
 flat_has f y [] h = absurd h
 flat_has {A = A} f y (z ∷ zs) h = go (has_split y (f z) (flat_map f zs) h) (flat_has f y zs)
   where
@@ -195,7 +195,7 @@ apart_after bs (w ∷ ws) h = apart_after (booked_with bs w (place_among bs w)) 
 abbrev pub erased : Placed → Placed
 erased p = record { write = p.write; is_committed = false; place = p.place }
 
-cancel-erased : (i : Id) (ps : List Placed) → cancel_of i (map erased ps) ≡ option_map erased (cancel_of i ps)
+pub cancel-erased : (i : Id) (ps : List Placed) → cancel_of i (map erased ps) ≡ option_map erased (cancel_of i ps)
 cancel-erased i [] = refl
 cancel-erased i (p ∷ ps) = go (cancels_it i p.write.action p.place) (cancel-erased i ps)
   where
@@ -203,7 +203,7 @@ cancel-erased i (p ∷ ps) = go (cancels_it i p.write.action p.place) (cancel-er
     go true ih = refl
     go false ih = ih
 
-same_ids : (o : Option Placed) → option_map (λ c. id_of c.write) (option_map erased o) ≡ option_map (λ c. id_of c.write) o
+pub same_ids : (o : Option Placed) → option_map (λ c. id_of c.write) (option_map erased o) ≡ option_map (λ c. id_of c.write) o
 same_ids None = refl
 same_ids (Some c) = refl
 
@@ -218,7 +218,7 @@ erased-among : (mark : Bool) (bs : List Booking) (ws : List Write) → map erase
 erased-among mark bs [] = refl
 erased-among mark bs (w ∷ ws) = ap (λ (ps : List Placed). record { write = w; is_committed = false; place = place_among bs w } ∷ ps) (erased-among mark (booked_with bs w (place_among bs w)) ws)
 
-whole-erased : (v : View) → map erased (whole_places v) ≡ placed_among false [] (v.committed ++ v.tentative)
+pub whole-erased : (v : View) → map erased (whole_places v) ≡ placed_among false [] (v.committed ++ v.tentative)
 whole-erased v =
     let cs = placed_among true [] v.committed in
     let ts = placed_among false (after [] v.committed) v.tentative in

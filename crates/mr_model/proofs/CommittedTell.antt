@@ -21,22 +21,11 @@ use Rattle.mr_model.proofs.EntryOrder.{EntryBefore, entry_irreflexive, entry_tra
 use Rattle.mr_model.proofs.PlacedInOrder.{committed-places}
 use Rattle.mr_model.proofs.RoomTold.{IsToldOf, told_of_room, room_list, told_id, told_placed, told_cancel, told_in_room, known_told, committed-seq}
 use Rattle.mr_model.proofs.PlacesOfOrder.{room_places, placed_has}
+use Rattle.mr_model.proofs.Cancellers.{or_else, cancel-append}
 use Rattle.mr_model.proofs.RowsTell.{Case, stood, gone, erred, done, void, case_of, booked_as, erred_as, cancelled_as, cancel_as, of_known, known_of, entry-row, IsTakenBack, back_of}
 use Rattle.mr_model.proofs.CalendarsTell.{committed_part, tentative_part, part_apart, start_sorted, option_back, with_booking_row, row_told}
 
 -- ---- what is told with more behind
-
-abbrev or_else : Option Placed → Option Placed → Option Placed
-or_else None q = q
-or_else (Some p) q = Some p
-
-cancel-append : (id : Id) (ps qs : List Placed) → cancel_of id (ps ++ qs) ≡ or_else (cancel_of id ps) (cancel_of id qs)
-cancel-append id [] qs = refl
-cancel-append id (p ∷ ps) qs = go (cancels_it id p.write.action p.place) (cancel-append id ps qs)
-  where
-    go : (b : Bool) → cancel_of id (ps ++ qs) ≡ or_else (cancel_of id ps) (cancel_of id qs) → cond b (Some p) (cancel_of id (ps ++ qs)) ≡ or_else (cond b (Some p) (cancel_of id ps)) (cancel_of id qs)
-    go true e = refl
-    go false e = e
 
 -- the same write told alone and with more behind
 record Longer (qs : List Placed) (t u : Told) : Type 0 where

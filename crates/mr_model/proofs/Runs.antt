@@ -79,7 +79,7 @@ booked_only w (Some s) b (inl e) = ap (λ (x : Booking). x.id) e
 booked_only w (Some s) b (inr h) = absurd h
 
 -- another write books nothing under this id
-free_with : (id : Id) (bs : List Booking) (w : Write) (p : Place) → Free id bs → (id_of w ≡ id → ⊥) → Free id (booked_with bs w p)
+pub free_with : (id : Id) (bs : List Booking) (w : Write) (p : Place) → Free id bs → (id_of w ≡ id → ⊥) → Free id (booked_with bs w p)
 free_with id bs w (Taken k) f ne = λ b h e. go b e (has_split b bs (booking_of w (slot_at w (Taken k))) h)
   where
     go : (b : Booking) → b.id ≡ id → Has b bs ⊎ Has b (booking_of w (slot_at w (Taken k))) → ⊥
@@ -100,7 +100,7 @@ free_none id bs w Logged f none = f
 free_none id bs w Done f none = free_without id bs w.action f
 free_none id bs w Void f none = f
 
-not_now : (id : Id) (bs : List Booking) (a : Action) (q : Place) → q ≡ place_for bs a → Free id bs → cancels_it id a q ≡ false
+pub not_now : (id : Id) (bs : List Booking) (a : Action) (q : Place) → q ≡ place_for bs a → Free id bs → cancels_it id a q ≡ false
 not_now id bs (Books m) q e f = refl
 not_now id bs (Cancels t) (Taken k) e f = refl
 not_now id bs (Cancels t) Logged e f = refl
