@@ -153,26 +153,36 @@ row_told r room row h a own =
     let (u, d, q) = told_in_room r room w h b at in
     (u, d, ap (λ x. as_booking (place_row r x)) q ∙ i)
 
+-- an entry of the full calendar shows a booking row of the room
+pub entry_has_row : (r : Replica) (room : Text) (e : Entry) → IsReplica r → Has e (entries (whole_list (view_of r room))) → (row : BookingRow) × Has row (tables_of r).booking × (row.room ≡ room) × (e ≡ row_entry row)
+entry_has_row r room e h a =
+    let (t, b, f) = filter_map_has entry_of e (whole_list (view_of r room)) (sorted_has e (filter_map entry_of (whole_list (view_of r room))) a) in
+    let k = told_of_room r room t h (subst (λ ts. Has t ts) (room-list r room) b) in
+    let (row, i, s) = option_back row_entry (as_booking (place_row r t.write)) e (sym (entry-row r room t k) ∙ f) in
+    let w = with_booking_row r room t row k i in
+    (row, of_known as_booking r row h t.write k.known i, w.in_room ∙ k.in_room, s)
+
+pub row_has_entry : (r : Replica) (room : Text) (row : BookingRow) → IsReplica r → Has row (tables_of r).booking → row.room ≡ room → Has (row_entry row) (entries (whole_list (view_of r room)))
+row_has_entry r room row h a own =
+    let (t, c, i) = row_told r room row h a own in
+    let f = with_booking_row r room t row (told_of_room r room t h c) i in
+    has_sorted (row_entry row) (filter_map entry_of (whole_list (view_of r room)))
+    (has_filter_map entry_of t (row_entry row) (whole_list (view_of r room)) f.entry (subst (λ ts. Has t ts) (sym (room-list r room)) c))
+
+pub entries_sorted : (r : Replica) (room : Text) → IsReplica r → Sorted EntryBefore (entries (whole_list (view_of r room)))
+entries_sorted r room h = by_start_sorted (filter_map entry_of (whole_list (view_of r room))) (whole_apart r room h)
+
 pub calendar_told : (r : Replica) (room : Text) (rows : List BookingRow) → IsReplica r → AreInStartOrder rows → AreBookingsOf r room rows → entries (whole_list (view_of r room)) ≡ map row_entry rows
 calendar_told r room rs h o m =
-    sorted_same EntryBefore entry_irreflexive entry_trans (by_start (filter_map entry_of L)) (map row_entry rs)
-    (by_start_sorted (filter_map entry_of L) (whole_apart r room h)) (start_sorted rs o) there back
+    sorted_same EntryBefore entry_irreflexive entry_trans (entries (whole_list (view_of r room))) (map row_entry rs) (entries_sorted r room h) (start_sorted rs o) there back
   where
-    L : List Told
-    L = whole_list (view_of r room)
-
-    there : (e : Entry) → Has e (by_start (filter_map entry_of L)) → Has e (map row_entry rs)
+    there : (e : Entry) → Has e (entries (whole_list (view_of r room))) → Has e (map row_entry rs)
     there e a =
-        let (t, b, f) = filter_map_has entry_of e L (sorted_has e (filter_map entry_of L) a) in
-        let k = told_of_room r room t h (subst (λ ts. Has t ts) (room-list r room) b) in
-        let (row, i, s) = option_back row_entry (as_booking (place_row r t.write)) e (sym (entry-row r room t k) ∙ f) in
-        let w = with_booking_row r room t row k i in
-        subst (λ x. Has x (map row_entry rs)) (sym s) (has_map row_entry row rs ((m row).1 (of_known as_booking r row h t.write k.known i, w.in_room ∙ k.in_room)))
+        let (row, i, own, s) = entry_has_row r room e h a in
+        subst (λ x. Has x (map row_entry rs)) (sym s) (has_map row_entry row rs ((m row).1 (i, own)))
 
-    back : (e : Entry) → Has e (map row_entry rs) → Has e (by_start (filter_map entry_of L))
+    back : (e : Entry) → Has e (map row_entry rs) → Has e (entries (whole_list (view_of r room)))
     back e a =
         let (row, g, s) = map_has row_entry e rs a in
         let q = (m row).0 g in
-        let (t, c, i) = row_told r room row h q.0 q.1 in
-        let f = with_booking_row r room t row (told_of_room r room t h c) i in
-        has_sorted e (filter_map entry_of L) (has_filter_map entry_of t e L (f.entry ∙ ap Some (sym s)) (subst (λ ts. Has t ts) (sym (room-list r room)) c))
+        subst (λ x. Has x (entries (whole_list (view_of r room)))) (sym s) (row_has_entry r room row h q.0 q.1)

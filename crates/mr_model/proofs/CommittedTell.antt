@@ -14,7 +14,7 @@ use Rattle.mr_model.specs.View.{Placed, Told, placed_of, of_room, view_of, cance
 use Rattle.mr_model.specs.Tables.{BookingRow, CancelledRow, CancelRow, PlaceRow, seq_of, place_row, as_booking, as_cancelled, as_cancel, as_booked}
 use Rattle.mr_model.specs.Tables as rows
 use Rattle.mr_model.specs.Queries.{row_entry, cancel_id, AreInStartOrder, IsCommittedBooking, stands, back, AreCommittedBookingsOf}
-use Rattle.mr_model.proofs.Members.{has_map, map_has, find_has, has_filter_map, filter_map_has, sorted_same}
+use Rattle.mr_model.proofs.Members.{has_map, map_has, find_has, has_filter_map, filter_map_has, Sorted, sorted_same}
 use Rattle.mr_model.proofs.KnownById.{one_known}
 use Rattle.mr_model.proofs.UniqueReplay.{some_inj, none_some}
 use Rattle.mr_model.proofs.EntryOrder.{EntryBefore, entry_irreflexive, entry_trans, by_start_sorted, sorted_has, has_sorted}
@@ -259,25 +259,33 @@ module _ (r : Replica) (room : Text) (h : IsReplica r) where
                   go (void z act o f) = absurd (none_some row (sym (ap as_cancelled f) ∙ j))
                   go (gone m s d act o q f) = ap (λ (z : CancelledRow). z.room) (some_inj (cancelled_as r u.write m s d) row (sym (ap as_cancelled f) ∙ j))
 
+is_part : (r : Replica) (room : Text) → committed_list (view_of r room) ≡ tell (committed_part r room)
+is_part r room = ap tell (committed-places (view_of r room))
+
+pub committed_has_row : (r : Replica) (room : Text) (e : Entry) → IsReplica r → Has e (entries (committed_list (view_of r room))) → (row : BookingRow) × IsCommittedBooking r room row × (e ≡ row_entry row)
+committed_has_row r room e h a =
+    let (t, b, f) = filter_map_has entry_of e (committed_list (view_of r room)) (sorted_has e (filter_map entry_of (committed_list (view_of r room))) a) in
+    to_rows r room h e t (subst (λ ts. Has t ts) (is_part r room) b) f
+
+pub row_has_committed : (r : Replica) (room : Text) (row : BookingRow) → IsReplica r → IsCommittedBooking r room row → Has (row_entry row) (entries (committed_list (view_of r room)))
+row_has_committed r room row h c =
+    let (t, b, f) = from_rows r room h row c in
+    has_sorted (row_entry row) (filter_map entry_of (committed_list (view_of r room)))
+    (has_filter_map entry_of t (row_entry row) (committed_list (view_of r room)) f (subst (λ ts. Has t ts) (sym (is_part r room)) b))
+
+pub committed_sorted : (r : Replica) (room : Text) → IsReplica r → Sorted EntryBefore (entries (committed_list (view_of r room)))
+committed_sorted r room h = by_start_sorted (filter_map entry_of (committed_list (view_of r room))) (part_apart r room h)
+
 pub committed_told : (r : Replica) (room : Text) (rows : List BookingRow) → IsReplica r → AreInStartOrder rows → AreCommittedBookingsOf r room rows → entries (committed_list (view_of r room)) ≡ map row_entry rows
 committed_told r room rs h o m =
-    sorted_same EntryBefore entry_irreflexive entry_trans (by_start (filter_map entry_of L)) (map row_entry rs)
-    (by_start_sorted (filter_map entry_of L) (part_apart r room h)) (start_sorted rs o) there back_to
+    sorted_same EntryBefore entry_irreflexive entry_trans (entries (committed_list (view_of r room))) (map row_entry rs) (committed_sorted r room h) (start_sorted rs o) there back_to
   where
-    L : List Told
-    L = committed_list (view_of r room)
-
-    is : L ≡ tell (committed_part r room)
-    is = ap tell (committed-places (view_of r room))
-
-    there : (e : Entry) → Has e (by_start (filter_map entry_of L)) → Has e (map row_entry rs)
+    there : (e : Entry) → Has e (entries (committed_list (view_of r room))) → Has e (map row_entry rs)
     there e a =
-        let (t, b, f) = filter_map_has entry_of e L (sorted_has e (filter_map entry_of L) a) in
-        let (row, c, s) = to_rows r room h e t (subst (λ ts. Has t ts) is b) f in
+        let (row, c, s) = committed_has_row r room e h a in
         subst (λ x. Has x (map row_entry rs)) (sym s) (has_map row_entry row rs ((m row).1 c))
 
-    back_to : (e : Entry) → Has e (map row_entry rs) → Has e (by_start (filter_map entry_of L))
+    back_to : (e : Entry) → Has e (map row_entry rs) → Has e (entries (committed_list (view_of r room)))
     back_to e a =
         let (row, g, s) = map_has row_entry e rs a in
-        let (t, b, f) = from_rows r room h row ((m row).0 g) in
-        has_sorted e (filter_map entry_of L) (has_filter_map entry_of t e L (f ∙ ap Some (sym s)) (subst (λ ts. Has t ts) (sym is) b))
+        subst (λ x. Has x (entries (committed_list (view_of r room)))) (sym s) (row_has_committed r room row h ((m row).0 g))

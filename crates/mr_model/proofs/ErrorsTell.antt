@@ -193,7 +193,7 @@ record InOrder (r : Replica) (room : Text) (t u : Told) : Type 0 where
   second : IsToldOf r room u
   before : OrderBefore r t.write u.write
 
-lines_sorted : (r : Replica) (room : Text) → IsReplica r → Sorted LineBefore (filter_map (told_line r) (room_list r room))
+pub lines_sorted : (r : Replica) (room : Text) → IsReplica r → Sorted LineBefore (filter_map (told_line r) (room_list r room))
 lines_sorted r room h =
     sorted_filter_map (InOrder r room) LineBefore (told_line r) (room_list r room) step
     (sorted_within (λ t u. OrderBefore r t.write u.write) (InOrder r room) (room_list r room)
@@ -255,20 +255,31 @@ line_write r room (OfVoid row) h p =
         let (t, b, s) = known_told r w h a in
         sym (ap (λ (x : Write). x.room) s) ∙ sym ((line_for r w.room t (OfVoid row) h (told_of_room r w.room t h b) (ap (λ x. line_in (place_row r x)) s ∙ line)).is_line.1)
 
-pub errors_told : (r : Replica) (room : Text) (ls : List LogLine) → IsReplica r → AreInLogOrder ls → AreErrorsOf r room ls → filter_map logging_of (whole_list (view_of r room)) ≡ map line_logging ls
-errors_told r room ls h o m =
+-- the lines of a room's error log
+abbrev pub room_lines : Replica → Text → List LogLine
+room_lines r room = filter_map (told_line r) (room_list r room)
+
+pub line_is_of : (r : Replica) (room : Text) (l : LogLine) → IsReplica r → Has l (room_lines r room) → IsLineOf r room l
+line_is_of r room l h a =
+    let (t, b, e) = filter_map_has (told_line r) l (room_list r room) a in
+    let k = told_of_room r room t h b in
+    subst (λ x. IsLineOf r x l) k.in_room (line_for r room t l h k e).is_line
+
+pub is_of_line : (r : Replica) (room : Text) (l : LogLine) → IsReplica r → IsLineOf r room l → Has l (room_lines r room)
+is_of_line r room l h a =
+    let (t, b, e) = line_write r room l h a in
+    has_filter_map (told_line r) t l (room_list r room) e b
+
+pub loggings-lines : (r : Replica) (room : Text) → IsReplica r → filter_map logging_of (whole_list (view_of r room)) ≡ map line_logging (room_lines r room)
+loggings-lines r room h =
     ap (filter_map logging_of) (room-list r room)
     ∙ filter_map-option (told_line r) line_logging logging_of (room_list r room) (λ t a. logging-line r room t (told_of_room r room t h a))
-    ∙ ap (map line_logging)
-    (sorted_same LineBefore line_irreflexive line_transitive (filter_map (told_line r) (room_list r room)) ls (lines_sorted r room h) (log_sorted ls o) there back)
-  where
-    there : (l : LogLine) → Has l (filter_map (told_line r) (room_list r room)) → Has l ls
-    there l a =
-        let (t, b, e) = filter_map_has (told_line r) l (room_list r room) a in
-        let k = told_of_room r room t h b in
-        (m l).1 (subst (λ x. IsLineOf r x l) k.in_room (line_for r room t l h k e).is_line)
 
-    back : (l : LogLine) → Has l ls → Has l (filter_map (told_line r) (room_list r room))
-    back l a =
-        let (t, b, e) = line_write r room l h ((m l).0 a) in
-        has_filter_map (told_line r) t l (room_list r room) e b
+pub same_lines : (xs ys : List LogLine) → Sorted LineBefore xs → Sorted LineBefore ys → ((l : LogLine) → Has l xs → Has l ys) → ((l : LogLine) → Has l ys → Has l xs) → xs ≡ ys
+same_lines xs ys p q f g = sorted_same LineBefore line_irreflexive line_transitive xs ys p q f g
+
+pub errors_told : (r : Replica) (room : Text) (ls : List LogLine) → IsReplica r → AreInLogOrder ls → AreErrorsOf r room ls → filter_map logging_of (whole_list (view_of r room)) ≡ map line_logging ls
+errors_told r room ls h o m =
+    loggings-lines r room h
+    ∙ ap (map line_logging)
+    (same_lines (room_lines r room) ls (lines_sorted r room h) (log_sorted ls o) (λ l a. (m l).1 (line_is_of r room l h a)) (λ l a. is_of_line r room l h ((m l).0 a)))

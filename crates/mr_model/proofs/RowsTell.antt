@@ -308,16 +308,16 @@ told_by_row r room p h g e =
     (outcome_is_row r w h a))
 
 -- and that outcome is one
-booked_tells : (r : Replica) (row : BookingRow) (reply : Reply) → TellsOutcome (tables_of r) (rows.Booked row) reply → reply ≡ OutcomeIs (booked_outcome row)
+pub booked_tells : (r : Replica) (row : BookingRow) (reply : Reply) → TellsOutcome (tables_of r) (rows.Booked row) reply → reply ≡ OutcomeIs (booked_outcome row)
 booked_tells r row reply (told.of_booking x) = refl
 
-erred_tells : (r : Replica) (row : ErrorRow) (reply : Reply) → TellsOutcome (tables_of r) (rows.Erred row) reply → reply ≡ OutcomeIs (logged_outcome row)
+pub erred_tells : (r : Replica) (row : ErrorRow) (reply : Reply) → TellsOutcome (tables_of r) (rows.Erred row) reply → reply ≡ OutcomeIs (logged_outcome row)
 erred_tells r row reply (told.of_error x) = refl
 
-cancel_tells : (r : Replica) (row : CancelRow) (reply : Reply) → TellsOutcome (tables_of r) (rows.Cancel row) reply → reply ≡ OutcomeIs (told.cancel_outcome row)
+pub cancel_tells : (r : Replica) (row : CancelRow) (reply : Reply) → TellsOutcome (tables_of r) (rows.Cancel row) reply → reply ≡ OutcomeIs (told.cancel_outcome row)
 cancel_tells r row reply (told.of_cancel x) = refl
 
-cancelled_tells : (r : Replica) (row : CancelledRow) (reply : Reply) → TellsOutcome (tables_of r) (rows.Cancelled row) reply → (c : CancelRow) × IsCancelOf (tables_of r) row c × (reply ≡ OutcomeIs (cancelled_outcome row c))
+pub cancelled_tells : (r : Replica) (row : CancelledRow) (reply : Reply) → TellsOutcome (tables_of r) (rows.Cancelled row) reply → (c : CancelRow) × IsCancelOf (tables_of r) row c × (reply ≡ OutcomeIs (cancelled_outcome row c))
 cancelled_tells r row reply (told.of_cancelled x c is) = (c, is, refl)
 
 pub booked_tell : (r : Replica) (room : Text) (row : BookingRow) → IsReplica r → Has row (tables_of r).booking → row.room ≡ room → outcome_reply (told_of (booking_id row) (whole_list (view_of r room))) ≡ OutcomeIs (booked_outcome row)

@@ -1,5 +1,6 @@
 use Rattle.mr_model.proofs.TablesTell.{from_tables}
 use Rattle.mr_model.proofs.TwinTables.{to_tables}
+use Rattle.mr_model.proofs.EqualTables.{equal_replies, equal_after, equal_runs}
 use Rattle.mr_model.proofs.KeyOrder.{tables_in_order}
 use Rattle.mr_model.proofs.RowsOfKnown.{rows_of_known, same_in_key_order}
 use Rattle.mr_model.proofs.LogOrder.{kept_is_the_log}
@@ -9,13 +10,13 @@ pub returns-clause-kept : goal.returns-clause-kept
 returns-clause-kept c a b ha hb = (from_tables a b ha hb, to_tables a b ha hb)
 
 pub returns-clause-replies : goal.returns-clause-replies
-returns-clause-replies c = ?
+returns-clause-replies c = equal_replies
 
 pub returns-clause-after : goal.returns-clause-after
-returns-clause-after c = ?
+returns-clause-after c = equal_after
 
 pub returns-clause-runs : goal.returns-clause-runs
-returns-clause-runs c = ?
+returns-clause-runs c a b end commands replies ha hb e run = equal_runs a b end commands replies ha hb e run
 
 pub returns-clause-keys : goal.returns-clause-keys
 returns-clause-keys c = tables_in_order
