@@ -17,7 +17,7 @@ use Rattle.mr_model.specs.Board.{after}
 use Rattle.mr_model.specs.View.{Placed, of_room, cancels_it, cancel_of, placed_in, place_or_logged, place_of, canceller_of}
 use Rattle.mr_model.specs.Kept.{dropped_in_order, kept_in_order}
 use Rattle.mr_model.proofs.Members.{has_left, has_right, has_split, has_filter, filter_has, filter_map_has, has_filter_map, find_has, find_left, find_right, find_none, same_id-true, has_among, among_has, among_not, not_among, Distinct, distinct_parts, take_drop}
-use Rattle.mr_model.proofs.KnownById.{with_id, known_with, tentative_known, distinct_order, distinct_commits}
+use Rattle.mr_model.proofs.KnownById.{with_id, known_with, committed_known, tentative_known, distinct_order, distinct_commits}
 use Rattle.mr_model.proofs.PlacedInOrder.{placed_among, among-append, placed_id}
 use Rattle.mr_model.proofs.PlacesOfOrder.{placed_has, has_placed, placed_here, placed-ids, distinct_filter, room_from, known_in_order}
 use Rattle.mr_model.proofs.Runs.{run-among, never_done}
@@ -79,6 +79,20 @@ known_kept r w h a d = go (known_in_order r w h a)
     go (inl b) = front (has_split w (dropped_in_order r) (kept_committed r) (subst (λ ws. Has w ws) (committed-parts r) b))
     go (inr b) = has_right w (kept_committed r) (tentative r) b
 
+pub order_known : (r : Replica) (w : Write) → IsReplica r → Has w (order_of r) → Has w r.known
+order_known r w h a = go (has_split w (committed r) (tentative r) a)
+  where
+    go : Has w (committed r) ⊎ Has w (tentative r) → Has w r.known
+    go (inl g) = (committed_known r w h g).0
+    go (inr g) = (tentative_known r w g).0
+
+pub known_order : (r : Replica) (w : Write) → IsReplica r → Has w r.known → Has w (order_of r)
+known_order r w h a = go (known_in_order r w h a)
+  where
+    go : Has w (committed r) ⊎ Has w (tentative r) → Has w (order_of r)
+    go (inl g) = has_left w (committed r) (tentative r) g
+    go (inr g) = has_right w (committed r) (tentative r) g
+
 -- ---- the parts of a room's order
 
 abbrev pub dropped_board : Replica → Text → List Booking
@@ -136,7 +150,7 @@ canceller-later r w h a e =
 
 -- ---- a dropped write
 
-distinct_list : (r : Replica) (room : Text) → IsReplica r → Distinct (map placed_id (order_list r room))
+pub distinct_list : (r : Replica) (room : Text) → IsReplica r → Distinct (map placed_id (order_list r room))
 distinct_list r room h =
     subst Distinct (sym (placed-ids false [] (of_room room (order_of r))))
     (distinct_filter (λ w. bytes_eq w.room room) (order_of r) (subst Distinct (sym (map-append id_of (committed r) (tentative r))) (distinct_order r h)))

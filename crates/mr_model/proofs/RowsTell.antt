@@ -123,7 +123,7 @@ pub record IsTakenBack (r : Replica) (t : Told) (c : Placed) : Type 0 where
   pub same_room : c.write.room ≡ t.write.room
   pub row : place_row r c.write ≡ rows.Cancel (cancel_as r c.write target true)
 
-cancels_done : (id : Id) (a : Action) (p : Place) → cancels_it id a p ≡ true → (x : Id) × (a ≡ Cancels x) × (p ≡ Done) × (x ≡ id)
+pub cancels_done : (id : Id) (a : Action) (p : Place) → cancels_it id a p ≡ true → (x : Id) × (a ≡ Cancels x) × (p ≡ Done) × (x ≡ id)
 cancels_done id (Books m) p e = absurd (true≢false (sym e))
 cancels_done id (Cancels x) (Taken k) e = absurd (true≢false (sym e))
 cancels_done id (Cancels x) Logged e = absurd (true≢false (sym e))

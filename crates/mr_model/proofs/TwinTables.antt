@@ -66,7 +66,7 @@ abbrev pub dropped_cancel : Replica → Write → Option Placed
 dropped_cancel r w = cancel_of (id_of w) (dropped_list r w.room)
 
 -- the bookings after dropped writes are those that no dropped cancel took back
-after-told : (ws : List Write) → after [] ws ≡ flat_map booked_told (tell (placed_among false [] ws))
+pub after-told : (ws : List Write) → after [] ws ≡ flat_map booked_told (tell (placed_among false [] ws))
 after-told ws = sym (booked_by-among false [] ws) ∙ told-stand [] (placed_among false [] ws)
 
 told_dropped : (r : Replica) (room : Text) (t : Told) → IsReplica r → Has t (tell (dropped_list r room)) → t.cancelled_by ≡ cancel_of (told_id t) (dropped_list r room)
