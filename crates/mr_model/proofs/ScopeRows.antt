@@ -1,0 +1,67 @@
+-- How many rows some batches need, computed by the definitions.
+use Rattle.std.specs.Prelude.{◌≡◌, ℕ, zero, suc, ◌+◌, List, [], ◌∷◌, length, map, codes, decimal, refl, Result, Ok, Err}
+use Prim.Native.String.{String}
+use Rattle.std.specs.Fmt.{digits}
+use Rattle.mr_model.specs.Texts.{Text, words, lines_text}
+use Rattle.mr_model.specs.Replica.{opening}
+use Rattle.mr_model.specs.Exchange.{Item, Batch, read_batch}
+use Rattle.mr_model.specs.Tables.{Tables, tables_of}
+use Rattle.mr_model.proofs.Script.{Bytes, elm_batch, q, replica_after}
+use Rattle.mr_model.proofs.TableRows.{cancelled_alpha}
+use Rattle.mr_model.specs.Scopes.{OfTarget, NextCommits, OfItems, in_scope, counted_rows}
+
+-- the items of a batch with these lines
+abbrev items_read : Result Batch Rattle.mr_model.specs.Refusals.Refusal → List Item
+items_read (Ok b) = b.items
+items_read (Err e) = []
+
+abbrev items_in : List String → List Item
+items_in ls = items_read (read_batch (lines_text (map codes ls)))
+
+-- a later write of oak
+abbrev gamma : List Item
+gamma = items_in ("mr1 2 1" ∷ "W 2 2 2 oak 30 1995-12-18 17:00 0 Gamma" ∷ "E" ∷ [])
+
+-- the commit of the first write of elm
+abbrev first_of_elm : List Item
+first_of_elm = items_in ("mr1 1 1" ∷ "C 1 3 1" ∷ "E" ∷ [])
+
+-- fifty writes of elm, committed, and two of oak
+abbrev committed_tables : Tables
+committed_tables = tables_of (replica_after (opening 9 1) (Bytes elm_batch ∷ Bytes q ∷ []))
+
+beside_committed : counted_rows (in_scope (OfItems gamma) committed_tables) ≡ 2
+unfolding digits
+beside_committed = refl
+
+-- the same without the commits
+abbrev elm_writes : ℕ → ℕ → List Text
+elm_writes zero i = codes "E" ∷ []
+elm_writes (suc n) i = words (codes "W" ∷ codes "3" ∷ decimal i ∷ decimal i ∷ codes "elm 15 1995-12-18 09:00 0 Elm" ∷ []) ∷ elm_writes n (i + 1)
+
+abbrev tentative_tables : Tables
+tentative_tables = tables_of (replica_after (opening 9 1) (Bytes (lines_text (codes "mr1 3 1" ∷ elm_writes 50 1)) ∷ Bytes q ∷ []))
+
+-- in oak alone there is nothing to execute anew: two bookings
+beside_tentative : counted_rows (in_scope (OfItems gamma) tentative_tables) ≡ 2
+unfolding digits
+beside_tentative = refl
+
+-- a commit needs all tentative writes of its room: 50, and one booking
+committing : length (in_scope (OfItems first_of_elm) tentative_tables).log ≡ 50
+unfolding digits
+committing = refl
+
+committing_rows : counted_rows (in_scope (OfItems first_of_elm) tentative_tables) ≡ 51
+unfolding digits
+committing_rows = refl
+
+-- the commit of a booking that a tentative cancel took back needs its row in the log and that in cancelled
+committing_cancelled : counted_rows (in_scope (NextCommits 1) (tables_of cancelled_alpha)) ≡ 2
+unfolding digits
+committing_cancelled = refl
+
+-- another cancel of it needs the latter
+cancelling_cancelled : counted_rows (in_scope (OfTarget (record { server = 1; n = 1 })) (tables_of cancelled_alpha)) ≡ 1
+unfolding digits
+cancelling_cancelled = refl
