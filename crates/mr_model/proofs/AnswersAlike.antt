@@ -1,7 +1,6 @@
 -- Replicas that differ in dropped writes alone answer questions alike: answers are told by the rows of the tables.
-use Rattle.std.proofs.Common.{◌≡◌, refl, sym, ap, ◌∙◌, subst, Bool, true, false, not, cond, ◌&&◌, List, [], ◌∷◌, map, ◌⊎◌, inl, inr, Option, Some, None}
+use Rattle.std.proofs.Common.{◌≡◌, refl, sym, ap, ◌∙◌, subst, Bool, true, false, not, cond, ◌&&◌, [], ◌∷◌, map, Option, Some, None}
 use Rattle.std.proofs.lemmas.Bool.{and_parts, and_from}
-use Rattle.std.proofs.lemmas.Slice.Eq.{bytes_eq-Decides}
 use Rattle.std.specs.Prelude.{is_none}
 use Rattle.std.specs.Str.{bytes_eq}
 use Rattle.std.specs.List.{list_any, filter, filter_map}
@@ -15,13 +14,13 @@ use Rattle.mr_model.specs.View.{Told, Question, AskSheet, AskCalendar, AskOutcom
 use Rattle.mr_model.specs.Step.{outcome_at, knows_booking}
 use Rattle.mr_model.specs.Tables.{BookingRow, CancelledRow, CancelRow, PlaceRow, Tables, place_row, tables_of}
 use Rattle.mr_model.specs.Tables as rows
-use Rattle.mr_model.specs.Queries.{row_entry, cancel_id, cancelled_outcome, TellsOutcome, IsCommittedBooking, stands, back, LogLine, OfRequest, OfVoid, line_logging, IsLineOf, IsRowFor}
+use Rattle.mr_model.specs.Queries.{cancelled_outcome, TellsOutcome, IsCommittedBooking, stands, back, LogLine, OfRequest, OfVoid, line_logging, IsLineOf, IsRowFor}
 use Rattle.mr_model.specs.Dropped.{Has}
-use Rattle.mr_model.proofs.Members.{find_has, sorted_same, same_id-true, same_id_from, any_has, has_any}
+use Rattle.mr_model.proofs.Members.{find_has, sorted_same, same_id-true, any_has, has_any}
 use Rattle.mr_model.proofs.KnownById.{partner}
 use Rattle.mr_model.proofs.EntryOrder.{EntryBefore, entry_irreflexive, entry_trans}
 use Rattle.mr_model.proofs.MembersAlike.{bool_same}
-use Rattle.mr_model.proofs.RoomTold.{room_list, room-list, told_id, told_of_room, known_told}
+use Rattle.mr_model.proofs.RoomTold.{room_list, room-list, told_id, told_of_room}
 use Rattle.mr_model.proofs.RowsTell.{one_row, one_cancel, outcome_is_row, booked_tells, erred_tells, cancel_tells, cancelled_tells}
 use Rattle.mr_model.proofs.CalendarsTell.{entry_has_row, row_has_entry, entries_sorted}
 use Rattle.mr_model.proofs.CommittedTell.{committed_has_row, row_has_committed, committed_sorted}

@@ -10,7 +10,7 @@ use Rattle.mr_model.specs.Replay.{Booking, slot_at, booking_of}
 use Rattle.mr_model.specs.Replica.{Replica, is_committed, committed, tentative, IsReplica}
 use Rattle.mr_model.specs.Board.{after}
 use Rattle.mr_model.specs.Replies.{Entry}
-use Rattle.mr_model.specs.View.{View, Placed, Told, of_room, view_of, whole_places, committed_places, whole_list, committed_list, booking_unless, booked_told, entry_with, entry_unless, entry_of, by_start, entries}
+use Rattle.mr_model.specs.View.{View, Placed, Told, of_room, view_of, whole_places, committed_places, whole_list, committed_list, booking_unless, booked_told, entry_with, entry_unless, entry_of, entries}
 use Rattle.mr_model.specs.Tables.{BookingRow, PlaceRow, place_row, as_booking, tables_of}
 use Rattle.mr_model.specs.Tables as rows
 use Rattle.mr_model.specs.Queries.{row_entry, BookingBefore, AreInStartOrder, AreBookingsOf}
@@ -110,7 +110,7 @@ pub start_sorted : (rs : List BookingRow) → AreInStartOrder rs → Sorted Entr
 start_sorted [] o = tt
 start_sorted (r ∷ rs) o = (
   has_all (EntryBefore (row_entry r)) (map row_entry rs)
-  (λ x h. let (y, g, e) = map_has row_entry x rs h in subst (EntryBefore (row_entry r)) (sym e) (entry_from (row_entry r) (row_entry y) (all_has (BookingBefore r) y rs o.0 g))),
+      (λ x h. let (y, g, e) = map_has row_entry x rs h in subst (EntryBefore (row_entry r)) (sym e) (entry_from (row_entry r) (row_entry y) (all_has (BookingBefore r) y rs o.0 g))),
   start_sorted rs o.1,
 )
 

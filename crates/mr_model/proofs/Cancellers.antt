@@ -10,7 +10,7 @@ use Rattle.mr_model.specs.Texts.{Text}
 use Rattle.mr_model.specs.Writes.{Id, Write, id_of, same_id}
 use Rattle.mr_model.specs.Replay.{Booking, booked_with}
 use Rattle.mr_model.specs.Replica.{Replica, committed, tentative, order_of, IsReplica}
-use Rattle.mr_model.specs.View.{View, Placed, Told, of_room, view_of, placed_of, whole_places, cancels_it, cancel_of, tell, placed_in, place_or_logged, place_of, canceller_of}
+use Rattle.mr_model.specs.View.{Placed, Told, of_room, view_of, placed_of, cancels_it, cancel_of, tell, placed_in, place_or_logged, place_of, canceller_of}
 use Rattle.mr_model.proofs.Members.{has_map, among_not, Distinct}
 use Rattle.mr_model.proofs.PlacedInOrder.{placed_among, placed_id}
 use Rattle.mr_model.proofs.CalendarsShow.{erased, cancel-erased, same_ids, whole-erased}

@@ -1,12 +1,11 @@
 -- The rows that a commit changes.
-use Rattle.std.proofs.Common.{◌≡◌, refl, sym, ap, ◌∙◌, ℕ, zero, suc, ◌+◌, Bool, true, false, cond, eqb, List, [], ◌∷◌, ◌++◌, length, map, Some, None, arith, length-append}
+use Rattle.std.proofs.Common.{◌≡◌, refl, ap, ◌∙◌, ℕ, zero, suc, ◌+◌, Bool, true, false, cond, eqb, List, [], ◌∷◌, ◌++◌, length, map, Some, arith, length-append}
 use Rattle.std.proofs.lemmas.List.{length-map}
 use Rattle.std.proofs.lemmas.List.Elements.{filter-append}
 use Rattle.std.specs.List.{slice_get}
 use Rattle.mr_model.specs.Writes.{Id, Write, id_of}
-use Rattle.mr_model.specs.Replica.{Replica, writes_of, clock_of, commits_of, committed_count, is_among, is_dropped, IsReplica}
+use Rattle.mr_model.specs.Replica.{Replica, writes_of, clock_of, commits_of, committed_count, IsReplica}
 use Rattle.mr_model.specs.View.{of_room}
-use Rattle.mr_model.specs.Dropped.{Has}
 use Rattle.mr_model.specs.Changes.{first_tentative, after_commit, CommitChanges}
 use Rattle.mr_model.proofs.Members.{among_not}
 use Rattle.mr_model.proofs.KnownById.{committed_known, distinct_commits}

@@ -1,5 +1,5 @@
 -- The committed calendar: committed bookings that stand, and those whose cancel is tentative.
-use Rattle.std.proofs.Common.{◌≡◌, refl, sym, ap, ◌∙◌, subst, ◌+◌, Bool, true, false, not, cond, eqb, List, [], ◌∷◌, ◌++◌, map, ◌⊎◌, inl, inr, Option, Some, None, eqb-true}
+use Rattle.std.proofs.Common.{◌≡◌, refl, sym, ap, ◌∙◌, subst, ◌+◌, Bool, true, false, not, eqb, List, [], ◌∷◌, ◌++◌, map, ◌⊎◌, inl, inr, Option, Some, None, eqb-true}
 use Rattle.std.proofs.lemmas.Bool.{true≢false}
 use Rattle.std.specs.List.{filter_map}
 use Rattle.mr_model.specs.Dropped.{Has}
@@ -10,7 +10,7 @@ use Rattle.mr_model.specs.Replay.{slot_at}
 use Rattle.mr_model.specs.Replica.{Replica, committed, tentative, IsReplica}
 use Rattle.mr_model.specs.Board.{after}
 use Rattle.mr_model.specs.Replies.{Entry}
-use Rattle.mr_model.specs.View.{Placed, Told, placed_of, of_room, view_of, cancels_it, cancel_of, tell, committed_list, entry_with, entry_unless, entry_of, by_start, entries}
+use Rattle.mr_model.specs.View.{Placed, Told, placed_of, of_room, view_of, cancel_of, tell, committed_list, entry_with, entry_unless, entry_of, entries}
 use Rattle.mr_model.specs.Tables.{BookingRow, CancelledRow, CancelRow, PlaceRow, seq_of, place_row, as_booking, as_cancelled, as_cancel, as_booked}
 use Rattle.mr_model.specs.Tables as rows
 use Rattle.mr_model.specs.Queries.{row_entry, cancel_id, AreInStartOrder, IsCommittedBooking, stands, back, AreCommittedBookingsOf}
@@ -147,16 +147,15 @@ module _ (r : Replica) (room : Text) (h : IsReplica r) where
           by_case : Case r found.0 → (row : BookingRow) × IsCommittedBooking r room row × (e ≡ row_entry row)
           by_case (gone m s d act o b row) =
               let same : d ≡ c = some_inj d c (sym b ∙ some) in
-              let is_row : place_row r found.0.write ≡ rows.Cancelled (cancelled_as r found.0.write m s c) = row ∙ ap (λ x. rows.Cancelled (cancelled_as r found.0.write m s x)) same in
-              (
+              let is_row : place_row r found.0.write ≡ rows.Cancelled (cancelled_as r found.0.write m s c) = row ∙ ap (λ x. rows.Cancelled (cancelled_as r found.0.write m s x)) same in (
                 as_booked (cancelled_as r found.0.write m s c),
                 back (cancelled_as r found.0.write m s c) (cancel_as r c.write away.target true)
-                (of_known as_cancelled r (cancelled_as r found.0.write m s c) h found.0.write k.known (ap as_cancelled is_row))
-                k.in_room (sym k.mark ∙ marked)
-                (of_known as_cancel r (cancel_as r c.write away.target true) h c.write away.known (ap as_cancel away.row))
-                refl zero_seq refl,
+                    (of_known as_cancelled r (cancelled_as r found.0.write m s c) h found.0.write k.known (ap as_cancelled is_row))
+                    k.in_room (sym k.mark ∙ marked)
+                    (of_known as_cancel r (cancel_as r c.write away.target true) h c.write away.known (ap as_cancel away.row))
+                    refl zero_seq refl,
                 some_inj e (row_entry (booked_as r found.0.write m s)) (sym plain ∙ ap (entry_with found.0) o
-                ∙ (let mark = k.mark in λ i. Some (record { day = s.day; start = s.start; stop = s.start + length_in (act i); is_committed = mark i; id = id_of found.0.write; title = title_in (act i) }))),
+                    ∙ (let mark = k.mark in λ i. Some (record { day = s.day; start = s.start; stop = s.start + length_in (act i); is_committed = mark i; id = id_of found.0.write; title = title_in (act i) }))),
               )
           by_case (stood m s act o b row) = absurd (none_some c (sym b ∙ some))
           by_case (erred m act p b row) = absurd (none_some c (sym b ∙ some))

@@ -1,6 +1,6 @@
 -- The order of a room in two parts, dropped writes and the others: where a write goes and which cancel took it back follow from its part,
 -- but for dropped bookings, which later cancels may take back.
-use Rattle.std.proofs.Common.{◌≡◌, refl, sym, ap, ◌∙◌, subst, Bool, true, false, cond, List, [], ◌∷◌, ◌++◌, map, take, drop, ◌⊎◌, inl, inr, Option, Some, None, append_assoc}
+use Rattle.std.proofs.Common.{◌≡◌, refl, sym, ap, ◌∙◌, subst, true, false, List, [], ◌++◌, map, take, drop, ◌⊎◌, inl, inr, Some, append_assoc}
 use Rattle.std.proofs.lemmas.Bool.{true≢false, false_from_ne_true}
 use Rattle.std.proofs.lemmas.List.{map-append}
 use Rattle.std.proofs.lemmas.List.Elements.{filter-append, filter_map-append}
@@ -14,9 +14,9 @@ use Rattle.mr_model.specs.Writes.{Id, Write, id_of, same_id}
 use Rattle.mr_model.specs.Replay.{Booking}
 use Rattle.mr_model.specs.Replica.{Replica, is_dropped, is_committed, write_with, committed, tentative, order_of, IsReplica}
 use Rattle.mr_model.specs.Board.{after}
-use Rattle.mr_model.specs.View.{Placed, of_room, cancels_it, cancel_of, placed_in, place_or_logged, place_of, canceller_of}
+use Rattle.mr_model.specs.View.{Placed, of_room, cancel_of, placed_in, place_or_logged, place_of, canceller_of}
 use Rattle.mr_model.specs.Kept.{dropped_in_order, kept_in_order}
-use Rattle.mr_model.proofs.Members.{has_left, has_right, has_split, has_filter, filter_has, filter_map_has, has_filter_map, find_has, find_left, find_right, find_none, same_id-true, has_among, among_has, among_not, not_among, Distinct, distinct_parts, take_drop}
+use Rattle.mr_model.proofs.Members.{has_left, has_right, has_split, has_filter, filter_has, filter_map_has, has_filter_map, find_left, find_right, find_none, same_id-true, has_among, among_has, among_not, not_among, Distinct, distinct_parts, take_drop}
 use Rattle.mr_model.proofs.KnownById.{with_id, known_with, committed_known, tentative_known, distinct_order, distinct_commits}
 use Rattle.mr_model.proofs.PlacedInOrder.{placed_among, among-append, placed_id}
 use Rattle.mr_model.proofs.PlacesOfOrder.{placed_has, has_placed, placed_here, placed-ids, distinct_filter, room_from, known_in_order}

@@ -1,15 +1,15 @@
 -- The rows of each table stand by rising id, so that none is there twice.
-use Rattle.std.proofs.Common.{◌≡◌, refl, sym, ap, ◌∙◌, subst, ℕ, zero, suc, ◌+◌, ◌<◌, ◌≤◌, not, eqb, List, [], ◌∷◌, map, drop, length, ◌⊎◌, inl, inr, Option, Some, arith, eqb-true, slice_index}
+use Rattle.std.proofs.Common.{◌≡◌, sym, ap, ◌∙◌, subst, ℕ, zero, suc, ◌+◌, ◌<◌, ◌≤◌, not, eqb, List, [], ◌∷◌, map, drop, length, inl, inr, Option, Some, arith, eqb-true, slice_index}
 use Rattle.std.specs.Prelude.{flat_map}
 use Rattle.std.specs.List.{filter_map}
 use Rattle.mr_model.specs.Dropped.{Has}
 use Rattle.mr_model.specs.Texts.{numbers_on}
 use Rattle.mr_model.specs.Writes.{Id, Write, id_of}
 use Rattle.mr_model.specs.Replica.{Replica, writes_of, is_dropped, IsReplica}
-use Rattle.mr_model.specs.Tables.{BookingRow, ErrorRow, CancelledRow, CancelRow, LogRow, PlaceRow, by_id, place_row, as_booking, as_error, as_cancelled, as_cancel, log_row, kept, tables_of}
+use Rattle.mr_model.specs.Tables.{LogRow, PlaceRow, by_id, place_row, as_booking, as_error, as_cancelled, as_cancel, log_row, kept, tables_of}
 use Rattle.mr_model.specs.Changes.{IdBefore, RiseById, AreInKeyOrder}
 use Rattle.mr_model.specs.Queries.{booking_id, error_id, cancelled_id, cancel_id, row_id}
-use Rattle.mr_model.proofs.Members.{filter_has, has_map, map_has, has_all, all_has, filter_map_has, Sorted, sorted_filter}
+use Rattle.mr_model.proofs.Members.{filter_has, map_has, has_all, all_has, Sorted, sorted_filter}
 use Rattle.mr_model.proofs.KnownById.{numbered_bounds, numbered_writes}
 use Rattle.mr_model.proofs.RowsById.{flat_has, by_id_has}
 use Rattle.mr_model.proofs.Runs.{sorted_append}

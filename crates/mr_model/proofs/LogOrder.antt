@@ -1,17 +1,15 @@
 -- The kept writes in their order are the rows of the log, sorted.
-use Rattle.std.proofs.Common.{◌≡◌, sym, ap, ◌∙◌, subst, false, List, [], ◌∷◌, ◌++◌, map, drop, ◌⊎◌, inl, inr, append_assoc}
-use Rattle.std.proofs.lemmas.Bool.{true≢false}
+use Rattle.std.proofs.Common.{◌≡◌, sym, ap, ◌∙◌, subst, List, [], ◌∷◌, ◌++◌, map, inl, inr}
 use Rattle.std.proofs.lemmas.List.{map-append, length-map}
-use Rattle.mr_model.specs.Writes.{Write, id_of}
-use Rattle.mr_model.specs.Replica.{Replica, write_with, is_dropped, committed, tentative, order_of, IsReplica}
+use Rattle.mr_model.specs.Writes.{Write}
+use Rattle.mr_model.specs.Replica.{Replica, IsReplica}
 use Rattle.mr_model.specs.Board.{replay_on, board_replay, board_after}
 use Rattle.mr_model.specs.Tables.{LogRow, log_row, tables_of}
 use Rattle.mr_model.specs.View.{place_of}
 use Rattle.mr_model.specs.Dropped.{Has}
 use Rattle.mr_model.specs.Kept.{dropped_in_order, kept_in_order, LogBefore, both, one, none, AreInRunOrder, KeptIsTheLog}
 use Rattle.mr_model.proofs.OrderedSets.{before-true}
-use Rattle.mr_model.proofs.Members.{has_left, has_right, has_split, has_map, map_has, has_all, all_has, filter_map_has, Sorted}
-use Rattle.mr_model.proofs.KnownById.{known_with, tentative_known}
+use Rattle.mr_model.proofs.Members.{has_map, map_has, has_all, all_has, Sorted}
 use Rattle.mr_model.proofs.DroppedApart.{order-parts, kept_known, known_kept}
 use Rattle.mr_model.proofs.ErrorsTell.{OrderBefore, order_sorted}
 use Rattle.mr_model.proofs.RoomsApart.{replay_on-append}

@@ -1,17 +1,17 @@
 -- First tables that stand for a replica move up to its second ones.
-use Rattle.std.proofs.Common.{◌≡◌, refl, sym, ap, ◌∙◌, subst, ℕ, Bool, true, false, cond, ◌&&◌, eqb, List, [], ◌∷◌, ◌++◌, length, map, drop, ◌⊎◌, inl, inr, Option, Some, None, IsTrue}
+use Rattle.std.proofs.Common.{◌≡◌, refl, sym, ap, ◌∙◌, subst, Bool, true, false, cond, ◌&&◌, eqb, List, [], ◌∷◌, ◌++◌, length, map, drop, ◌⊎◌, inl, inr, Option, Some, None, IsTrue}
 use Rattle.std.proofs.lemmas.Bool.{true≢false}
-use Rattle.std.specs.Prelude.{flat_map, find, option_map}
+use Rattle.std.specs.Prelude.{option_map}
 use Rattle.std.specs.List.{filter_map, cons_option}
 use Rattle.mr_model.specs.Dropped.{Has}
-use Rattle.mr_model.specs.Texts.{Text, numbers_on}
+use Rattle.mr_model.specs.Texts.{Text}
 use Rattle.mr_model.specs.Slots.{Slot}
 use Rattle.mr_model.specs.Writes.{Id, Meeting, Action, Books, Cancels, Write, id_of, same_id, length_in, title_in}
 use Rattle.mr_model.specs.Exchange.{is_told_action, is_told_write}
 use Rattle.mr_model.specs.Replay.{Place, slot_at, replay}
 use Rattle.mr_model.specs.Replica.{Replica, is_committed, write_with, committed, tentative, IsReplica}
 use Rattle.mr_model.specs.View.{View, Placed, Told, of_room, view_of, placed_with, whole_places, cancels_it, cancel_of, tell, whole_list, told_of, place_of, canceller_in, canceller_of}
-use Rattle.mr_model.specs.Tables.{OfMeeting, cells_of, CancelledRow, CancelRow, PlaceRow, by_id, seq_of, booking_place_row, place_row_for, place_row, as_cancelled, as_cancel, cancelled_row, cancel_row, log_row_with, log_row, kept, tables_of, Stands}
+use Rattle.mr_model.specs.Tables.{OfMeeting, cells_of, CancelledRow, CancelRow, PlaceRow, by_id, seq_of, booking_place_row, place_row_for, place_row, as_cancelled, as_cancel, cancelled_row, cancel_row, log_row, kept, tables_of, Stands}
 use Rattle.mr_model.specs.First.{choices_in_cells, WriteRow, UndoRow, FirstTables, write_row, undo_row, first_tables_of, StandsFirst, undo_of, moved_row, moved_log, HavePlaces, moved}
 use Rattle.mr_model.proofs.Members.{filter_has, has_map, map_has, filter_map_has, all_has, has_all, has_split, find_has, find_one, same_id-true, same_id_refl}
 use Rattle.mr_model.proofs.KnownById.{one_known, known_with}

@@ -20,7 +20,6 @@ use Rattle.mr_model.proofs.ChangesKeep.{keeps-add_write, keeps-add_commit}
 use Rattle.mr_model.proofs.Members.{has_left, has_right, has_filter, has_map, all_has, has_all, Sorted, Distinct, distinct_parts, among_not, not_among, has_among, take_drop, same_id-true, same_id_refl}
 use Rattle.mr_model.proofs.KnownById.{known_bounds, commit_known, numbered_bounds, numbered_commits, own_id, known_at, with_id, tentative_known, tentative_sorted, distinct_order}
 use Rattle.mr_model.proofs.WithWrite.{filter-with_write, find-with_write}
-use Rattle.mr_model.proofs.CommitsKeep.{keeps-commit}
 use Rattle.mr_model.proofs.StepsKeep.{last_below_clock, times_below, none_apply, submitted_within, cancelled_within}
 use Rattle.mr_model.proofs.CalendarsShow.{fates_by_order}
 use Rattle.mr_model.proofs.RoomsApart.{replay_on-append}

@@ -1,5 +1,5 @@
 -- What a write of the replica's own, which comes last, takes back: its target's booking, if it is a cancel that is Done.
-use Rattle.std.proofs.Common.{◌≡◌, refl, sym, ap, ◌∙◌, subst, ◌<◌, Bool, true, false, cond, List, [], ◌∷◌, ◌++◌, ◌⊎◌, inl, inr, Option, Some, None, append-nil}
+use Rattle.std.proofs.Common.{◌≡◌, refl, sym, ap, ◌∙◌, ◌<◌, Bool, true, false, cond, [], ◌∷◌, ◌++◌, inl, inr, Option, Some, None, append-nil}
 use Rattle.std.proofs.lemmas.Bool.{true≢false, cond-true, cond-false, false_from_ne_true}
 use Rattle.std.proofs.lemmas.List.Elements.{filter-append}
 use Rattle.std.specs.Prelude.{option_map}
@@ -7,26 +7,25 @@ use Rattle.std.specs.Str.{bytes_eq}
 use Rattle.mr_model.specs.Dropped.{Has}
 use Rattle.mr_model.specs.Texts.{Text}
 use Rattle.mr_model.specs.Slots.{Slot}
-use Rattle.mr_model.specs.Writes.{Id, Action, Books, Cancels, Write, id_of, same_id, length_of}
+use Rattle.mr_model.specs.Writes.{Id, Write, id_of, length_of}
 use Rattle.mr_model.specs.Replay.{Booking, slot_at, place_among}
 use Rattle.mr_model.specs.Replica.{Replica, clock_of, is_committed, order_of, add_write, IsReplica}
-use Rattle.mr_model.specs.Board.{after, place_on, board_after}
+use Rattle.mr_model.specs.Board.{after}
 use Rattle.mr_model.specs.View.{Placed, of_room, cancels_it, cancel_of, place_of, canceller_of}
 use Rattle.mr_model.specs.Tables.{BookingRow, PlaceRow, seq_of, taken_back, place_row_for, place_row}
 use Rattle.mr_model.specs.Tables as rows
 use Rattle.mr_model.specs.Changes.{IsNext, takes_back}
 use Rattle.mr_model.proofs.UniqueReplay.{some_inj, none_some}
-use Rattle.mr_model.proofs.Members.{same_id-true}
 use Rattle.mr_model.proofs.KnownById.{one_known}
 use Rattle.mr_model.proofs.WithWrite.{has_with_write}
 use Rattle.mr_model.proofs.PlacedInOrder.{placed_among, among-append, placed_id}
 use Rattle.mr_model.proofs.PlacesOfOrder.{room_true, room_from}
 use Rattle.mr_model.proofs.Runs.{Free, run-among, not_now, never_done}
 use Rattle.mr_model.proofs.RowsTell.{cancels_done}
-use Rattle.mr_model.proofs.RowCancels.{made, made_at, row-made, row-cancel, row_booking, row_by, cancelled_as, recancel, row-recancel}
+use Rattle.mr_model.proofs.RowCancels.{made, made_at, row-made, row-cancel, row_booking, row_by, recancel, row-recancel}
 use Rattle.mr_model.proofs.Cancellers.{order_list, canceller-order, or_else, cancel-append}
-use Rattle.mr_model.proofs.BookedRows.{StandsIn, booked_stands, order_placed, done_target, place-next}
-use Rattle.mr_model.proofs.Orders.{added, new_id, order-submit, places-submit, place-submit, new_not_committed}
+use Rattle.mr_model.proofs.BookedRows.{booked_stands, order_placed, done_target, place-next}
+use Rattle.mr_model.proofs.Orders.{added, new_id, order-submit, places-submit, place-submit}
 
 -- the write, placed behind the others
 abbrev pub last : Replica → Write → Placed

@@ -1,5 +1,5 @@
 -- What is told of a room is told of its known writes, each once: with its mark, its place, and the cancel that took it back.
-use Rattle.std.proofs.Common.{◌≡◌, refl, sym, ap, ◌∙◌, subst, ℕ, ◌≤◌, Bool, true, false, not, cond, ◌&&◌, eqb, leb, List, [], ◌∷◌, ◌++◌, length, map, ◌⊎◌, inl, inr, Option, Some, None, arith, leb-true, ne_eqb, eq-eqb}
+use Rattle.std.proofs.Common.{◌≡◌, refl, sym, ap, ◌∙◌, subst, ◌≤◌, Bool, true, false, not, ◌&&◌, eqb, leb, List, [], ◌∷◌, length, map, ◌⊎◌, inl, inr, Option, Some, None, arith, leb-true, ne_eqb, eq-eqb}
 use Rattle.std.proofs.lemmas.Bool.{false_from_ne_true, and_parts, cond-true, cond-false}
 use Rattle.std.specs.Prelude.{option_map}
 use Rattle.std.specs.List.{list_all}

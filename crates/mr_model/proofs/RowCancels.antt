@@ -1,9 +1,9 @@
 -- What the row of a write tells of its booking and of the cancel that took it back; and its row with another cancel.
-use Rattle.std.proofs.Common.{◌≡◌, refl, sym, ap, ◌∙◌, ℕ, ◌+◌, ◌-◌, Bool, List, [], Option, Some, None, arith}
+use Rattle.std.proofs.Common.{◌≡◌, refl, sym, ap, ◌∙◌, ℕ, ◌+◌, ◌-◌, Bool, Option, Some, None, arith}
 use Rattle.std.specs.Prelude.{option_map}
 use Rattle.std.specs.List.{slice_get}
 use Rattle.mr_model.specs.Slots.{Slot}
-use Rattle.mr_model.specs.Writes.{Id, Meeting, Action, Books, Cancels, Write, id_of, length_in, length_of, choices_in}
+use Rattle.mr_model.specs.Writes.{Id, Action, Books, Cancels, Write, id_of, length_in, length_of, choices_in}
 use Rattle.mr_model.specs.Replay.{Place, Taken, Logged, Done, Void, Booking, slot_at}
 use Rattle.mr_model.specs.Replica.{Replica, is_committed}
 use Rattle.mr_model.specs.View.{place_of, canceller_of}

@@ -10,7 +10,7 @@ use Rattle.mr_model.specs.Slots.{Slot, is_slot, slot_words}
 use Rattle.mr_model.specs.Writes.{Id, Meeting, Action, Books, Cancels, Write, id_of, same_id, choices_of, is_title, is_length, fits_day, greatest_alternatives, is_meeting, is_action, is_write, is_server, is_count, is_time}
 use Rattle.mr_model.specs.Replica.{Replica, writes_of, count_of, is_among, IsReplica}
 use Rattle.mr_model.specs.Exchange.{slots_at}
-use Rattle.mr_model.specs.Tables.{MeetingCells, ActionCells, OfMeeting, OfCancel, LogRow, by_id, seq_among, choices_text, cells_of, log_row}
+use Rattle.mr_model.specs.Tables.{MeetingCells, OfMeeting, OfCancel, LogRow, by_id, seq_among, choices_text, cells_of, log_row}
 use Rattle.mr_model.proofs.ChangesKeep.{within}
 use Rattle.mr_model.proofs.LinesReadBack.{slots_all, slots-read, words-cons}
 use Rattle.mr_model.specs.Dropped.{Has}

@@ -15,7 +15,7 @@ use Rattle.mr_model.specs.View.{place_of, canceller_of}
 use Rattle.mr_model.specs.Queries.{booking_id, error_id, cancelled_id, cancel_id, row_id}
 use Rattle.mr_model.specs.Dropped.{Has, DifferInDropped}
 use Rattle.mr_model.proofs.OrderedSets.{Before, before-true, before_from, before_trans}
-use Rattle.mr_model.proofs.Members.{has_left, has_filter, filter_has, slice_has, sorted_same, among_has, among_not, not_among, Distinct, distinct_parts, take_drop}
+use Rattle.mr_model.proofs.Members.{has_filter, filter_has, slice_has, sorted_same, among_not, not_among, Distinct, distinct_parts, take_drop}
 use Rattle.mr_model.proofs.KnownById.{partner, known_with, with_id, commit_known, distinct_commits, tentative_known, tentative_sorted}
 use Rattle.mr_model.proofs.RowsById.{has_flat, flat_has, has_numbers, server_bounds, known_write, Paired, pairs_from_rows, map_filter, log_row_same, seq_not, seq_has, seq_at, at_seq, list_ext, slice_drop}
 use Rattle.mr_model.proofs.UniqueReplay.{some_inj, none_some}

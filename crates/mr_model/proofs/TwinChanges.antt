@@ -1,13 +1,13 @@
 -- One change made at two replicas that differ in dropped writes alone leaves two such replicas.
-use Rattle.std.proofs.Common.{◌≡◌, refl, sym, ap, ◌∙◌, subst, ℕ, zero, suc, ◌+◌, ◌-◌, ◌<◌, ◌≤◌, max, Bool, true, false, not, cond, ◌||◌, eqb, List, [], ◌∷◌, ◌++◌, length, take, drop, ◌⊎◌, inl, inr, Option, Some, None, arith, length-append, not-suc-le-zero, le_of_suc-le-suc}
-use Rattle.std.proofs.lemmas.Bool.{or_parts, cond-true, cond-false, false_from_ne_true}
+use Rattle.std.proofs.Common.{◌≡◌, refl, sym, ap, ◌∙◌, subst, ℕ, zero, suc, ◌+◌, ◌-◌, ◌<◌, ◌≤◌, max, true, false, not, cond, ◌||◌, eqb, List, [], ◌∷◌, ◌++◌, length, take, drop, ◌⊎◌, inl, inr, Option, Some, None, arith, length-append, not-suc-le-zero, le_of_suc-le-suc}
+use Rattle.std.proofs.lemmas.Bool.{or_parts, cond-true}
 use Rattle.std.proofs.lemmas.List.Elements.{filter-append}
 use Rattle.std.specs.List.{filter, filter_map}
 use Rattle.std.specs.Prelude.{option_map}
 use Rattle.mr_model.specs.Texts.{Text}
 use Rattle.mr_model.specs.Writes.{Id, Write, id_of, same_id}
 use Rattle.mr_model.specs.Replay.{Booking}
-use Rattle.mr_model.specs.Replica.{Replica, count_of, last_time, committed_count, commits_of, is_among, is_committed, is_dropped, write_with, tentative, with_write, with_room, add_write, IsReplica}
+use Rattle.mr_model.specs.Replica.{Replica, last_time, committed_count, commits_of, is_among, is_committed, is_dropped, write_with, with_write, with_room, add_write, IsReplica}
 use Rattle.mr_model.specs.Tables.{seq_among, seq_of, place_row_for, place_row}
 use Rattle.mr_model.specs.View.{Placed, of_room, cancel_of, placed_in, place_or_logged, place_of, canceller_of}
 use Rattle.mr_model.specs.Dropped.{Has, DifferInDropped}
@@ -15,10 +15,10 @@ use Rattle.mr_model.specs.Kept.{dropped_in_order, kept_in_order}
 use Rattle.mr_model.specs.Changes.{IsNext}
 use Rattle.mr_model.proofs.Members.{has_left, same_id_from, has_among, take_drop}
 use Rattle.mr_model.proofs.PlacedInOrder.{placed_among, placed_id}
-use Rattle.mr_model.proofs.MembersAlike.{SameMembers, among_alike}
+use Rattle.mr_model.proofs.MembersAlike.{among_alike}
 use Rattle.mr_model.proofs.Cancellers.{or_else}
-use Rattle.mr_model.proofs.DroppedApart.{dropped_commit, dropped_board, dropped_list, later_from, later_list, place-dropped, canceller-parts}
-use Rattle.mr_model.proofs.RowCancels.{row_booking, made, row-made, recancel, row-recancel, same_recancel}
+use Rattle.mr_model.proofs.DroppedApart.{dropped_commit, dropped_board, later_from, later_list, place-dropped, canceller-parts}
+use Rattle.mr_model.proofs.RowCancels.{row_booking, row-made, recancel, row-recancel, same_recancel}
 use Rattle.mr_model.proofs.TwinTables.{Pair, pair_room, dropped_cancel, same_cancel, same_boards, same_kept_from, same_row}
 use Rattle.mr_model.proofs.Orders.{among-append, added, new_not_committed, with-add_write, tentative-add_write, committed-with, with_commits, tentative-commits}
 use Rattle.mr_model.proofs.WithWrite.{clock-with_write, count-with_write, greatest-with_write, has_with_write, with_write_has}

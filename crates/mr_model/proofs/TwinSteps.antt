@@ -1,12 +1,12 @@
 -- Each step of two replicas that differ in dropped writes alone leaves two such replicas, and most replies are plainly the same.
-use Rattle.std.proofs.Common.{◌≡◌, refl, sym, ap, ◌∙◌, subst, ℕ, zero, suc, ◌+◌, ◌-◌, ◌≤◌, max, Bool, true, false, not, cond, ◌&&◌, eqb, ltb, List, [], ◌∷◌, ◌++◌, length, map, take, drop, inl, inr, Option, Some, None, Result, Ok, Err, arith, ltb-false, le_refl}
+use Rattle.std.proofs.Common.{◌≡◌, refl, sym, ap, ◌∙◌, subst, ℕ, zero, suc, ◌+◌, ◌-◌, ◌≤◌, max, Bool, true, false, not, cond, ◌&&◌, eqb, ltb, List, [], ◌∷◌, ◌++◌, length, map, take, drop, inl, inr, Option, Some, None, Result, Ok, Err, arith, ltb-false}
 use Rattle.std.specs.Prelude.{flat_map}
 use Rattle.std.specs.List.{AllByRecursion, list_any, enumerate_from}
 use Rattle.std.specs.Str.{bytes_eq}
 use Rattle.mr_model.specs.Texts.{Text, only_if, numbers_on}
 use Rattle.mr_model.specs.Writes.{Id, Write, id_of, id_in, is_id_text, is_room_name, is_title, greatest_count, greatest_time, greatest_alternatives}
 use Rattle.mr_model.specs.Refusals.{Refusal, BadDay, BadTime, BadLength, BadRoomName, BadTitle, TooManyAlternatives, UnknownRoom, RoomThere, ClockExhausted, CountExhausted, NotPrimary, PrimaryKeepsAll, BeyondCommitted, NoSuchRequest, WrongPrimary, Truncated, NeedsVersion2, first_refusal}
-use Rattle.mr_model.specs.Replica.{Replica, count_of, clock_of, last_time, tentative, add_write, IsReplica}
+use Rattle.mr_model.specs.Replica.{Replica, count_of, tentative, add_write, IsReplica}
 use Rattle.mr_model.specs.Exchange.{Item, C, Header, Batch, read_batch}
 use Rattle.mr_model.specs.Positions.{Position, counts_of, position_of}
 use Rattle.mr_model.specs.Taking.{Progress, take_items}

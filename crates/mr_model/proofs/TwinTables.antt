@@ -1,32 +1,31 @@
 -- Replicas that differ in dropped writes alone have equal tables.
-use Rattle.std.proofs.Common.{◌≡◌, refl, sym, ap, ◌∙◌, subst, ℕ, ◌+◌, Bool, true, false, cond, ◌||◌, eqb, List, [], ◌∷◌, ◌++◌, length, map, take, drop, ◌⊎◌, inl, inr, Option, Some, None, arith}
+use Rattle.std.proofs.Common.{◌≡◌, refl, sym, ap, ◌∙◌, subst, ℕ, ◌+◌, Bool, true, false, cond, ◌||◌, eqb, List, [], ◌∷◌, ◌++◌, length, take, drop, inl, inr, Option, Some, None, arith}
 use Rattle.std.proofs.lemmas.Bool.{true≢false, cond-true, cond-false}
 use Rattle.std.proofs.lemmas.List.{length-take}
 use Rattle.std.specs.Prelude.{flat_map, option_map}
-use Rattle.std.specs.Str.{bytes_eq}
-use Rattle.std.specs.List.{filter_map, cons_option}
+use Rattle.std.specs.List.{filter_map}
 use Rattle.mr_model.specs.Texts.{Text, numbers_on}
 use Rattle.mr_model.specs.Slots.{Slot}
-use Rattle.mr_model.specs.Writes.{Id, Write, id_of, same_id, length_of}
+use Rattle.mr_model.specs.Writes.{Id, Write, id_of, length_of}
 use Rattle.mr_model.specs.Replay.{Booking, slot_at, booking_of}
 use Rattle.mr_model.specs.Board.{after}
 use Rattle.mr_model.specs.Replica.{Replica, is_among, is_committed, is_dropped, write_with, tentative, IsReplica}
 use Rattle.mr_model.specs.View.{Placed, Told, of_room, cancel_of, tell, placed_of, placed_in, place_or_logged, place_of, canceller_of, booking_unless, booked_told}
-use Rattle.mr_model.specs.Tables.{PlaceRow, Tables, by_id, seq_among, seq_of, vector_row, log_row_with, log_row, place_row_for, place_row, as_booking, as_error, as_cancelled, as_cancel, tables_of}
+use Rattle.mr_model.specs.Tables.{PlaceRow, by_id, seq_among, seq_of, vector_row, log_row_with, log_row, place_row_for, place_row, as_booking, as_error, as_cancelled, as_cancel, tables_of}
 use Rattle.mr_model.specs.Queries.{row_room}
 use Rattle.mr_model.specs.Dropped.{Has, DifferInDropped}
 use Rattle.mr_model.specs.Kept.{dropped_in_order, kept_in_order}
 use Rattle.mr_model.proofs.UniqueReplay.{some_inj, none_some}
-use Rattle.mr_model.proofs.Members.{has_filter, filter_has, find_has, take_drop, Distinct}
+use Rattle.mr_model.proofs.Members.{find_has, take_drop}
 use Rattle.mr_model.proofs.KnownById.{partner, with_known}
 use Rattle.mr_model.proofs.PlacedInOrder.{placed_among, placed_id, booked_by-among, told-stand}
-use Rattle.mr_model.proofs.PlacesOfOrder.{placed_has, placed_here, placed-ids, room_from}
+use Rattle.mr_model.proofs.PlacesOfOrder.{placed_here}
 use Rattle.mr_model.proofs.CalendarsShow.{has_flat, flat_has}
 use Rattle.mr_model.proofs.RoomTold.{told_id, told_placed, placed_told}
 use Rattle.mr_model.proofs.Runs.{run-among}
 use Rattle.mr_model.proofs.Cancellers.{told_whole, or_else}
 use Rattle.mr_model.proofs.MembersAlike.{SameMembers, among_alike}
-use Rattle.mr_model.proofs.DroppedApart.{dropped_board, dropped_list, later_from, later_list, kept_committed, kept_id, known_dropped, dropped_placed, later_placed, dropped_here, dropped_distinct, place-later, place-dropped, canceller-parts, canceller-later}
+use Rattle.mr_model.proofs.DroppedApart.{dropped_board, dropped_list, later_from, later_list, kept_committed, kept_id, dropped_placed, later_placed, dropped_here, dropped_distinct, place-later, place-dropped, canceller-parts, canceller-later}
 use Rattle.mr_model.proofs.RowsById.{Paired, rows_from_pairs, map_filter, seq_behind}
 use Rattle.mr_model.proofs.RowsTell.{one_row}
 use Rattle.mr_model.proofs.RowCancels.{row_booking, row_by, made, made_at, row-made, row-cancel}

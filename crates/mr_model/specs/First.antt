@@ -7,7 +7,7 @@ use Rattle.mr_model.specs.Replay.{Place}
 use Rattle.mr_model.specs.Replica.{Replica, clock_of, IsReplica}
 use Rattle.mr_model.specs.Exchange.{is_told_write}
 use Rattle.mr_model.specs.View.{place_of}
-use Rattle.mr_model.specs.Tables.{MetaRow, VectorRow, MeetingCells, ActionCells, OfMeeting, OfCancel, cells_of, LogRow, BookingRow, ErrorRow, Tables, seq_of, by_id, booking_row, error_row, vector_row, kept}
+use Rattle.mr_model.specs.Tables.{MetaRow, VectorRow, ActionCells, OfMeeting, OfCancel, cells_of, LogRow, BookingRow, ErrorRow, Tables, seq_of, by_id, booking_row, error_row, vector_row, kept}
 
 -- a write that is kept
 pub record WriteRow : Type 0 where

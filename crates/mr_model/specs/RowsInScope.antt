@@ -1,7 +1,7 @@
 -- What the rows in scope tell of a replica.
-use Rattle.std.specs.Prelude.{◌≡◌, ℕ, ◌-◌, ◌≤◌, Bool, true, ◌↔◌, ◌⊎◌, List, [], ◌++◌, take, drop, map, filter, filter_map, Some}
+use Rattle.std.specs.Prelude.{◌≡◌, ℕ, ◌-◌, ◌≤◌, Bool, true, ◌↔◌, List, [], ◌++◌, take, drop, map, filter, filter_map, Some}
 use Rattle.mr_model.specs.Texts.{Text}
-use Rattle.mr_model.specs.Writes.{Id, Cancels, Write, id_of}
+use Rattle.mr_model.specs.Writes.{Id, Cancels, Write}
 use Rattle.mr_model.specs.Replay.{Done, Booking, place_among}
 use Rattle.mr_model.specs.Board.{place_on, board_after}
 use Rattle.mr_model.specs.Replica.{Replica, count_of, is_dropped, write_with, tentative, order_of, IsReplica}

@@ -1,5 +1,5 @@
 -- Reading more rows than are in scope.
-use Rattle.std.specs.Prelude.{◌≡◌, Bool, true, [], filter}
+use Rattle.std.specs.Prelude.{◌≡◌, Bool, true, filter}
 use Rattle.mr_model.specs.Tables.{LogRow, BookingRow, ErrorRow, CancelledRow, Tables}
 use Rattle.mr_model.specs.Dropped.{Has}
 use Rattle.mr_model.specs.Scopes.{Scope, NextCommits, is_tentative, with_rows, in_scope}

@@ -1,5 +1,5 @@
 use Rattle.std.proofs.Common.{◌≡◌, ap, ◌+◌, arith}
-use Rattle.mr_model.specs.Writes.{Stamp, Write}
+use Rattle.mr_model.specs.Writes.{Stamp}
 use Rattle.mr_model.specs.Replica.{clock_of}
 use Rattle.mr_model.proofs.CommitsKeep.{keeps-commit}
 use Rattle.mr_model.proofs.Orders.{is_next, write_inserted, commit_moved, commit_fates}
