@@ -162,14 +162,20 @@ choices_same x y a b e =
     (words-snoc (date_text x.wish.day) (time_text x.wish.start ∷ flat_map slot_words x.alternatives) ∙ ap (λ t. t ++ 32 ∷ []) e
     ∙ sym (words-snoc (date_text y.wish.day) (time_text y.wish.start ∷ flat_map slot_words y.alternatives)))
 
+cells_inj : (a b : MeetingCells) → OfMeeting a ≡ OfMeeting b → a ≡ b
+cells_inj a b e = cc
+
+choices_inj : (x y : Meeting) → choices_of x ≡ choices_of y → (x.wish ≡ y.wish) × (x.alternatives ≡ y.alternatives)
+choices_inj x y e = let cs : x.wish ∷ x.alternatives ≡ y.wish ∷ y.alternatives = e in ((cc), (cc))
+
 meeting_same : (x y : Meeting) → is_meeting x ≡ true → is_meeting y ≡ true → cells_of (Books x) ≡ cells_of (Books y) → x ≡ y
 meeting_same x y a b e =
-    let cells : record { length = x.length; choices = choices_text x; title = x.title } ≡ record { length = y.length; choices = choices_text y; title = y.title } = (cc) in
+    let cells = cells_inj (record { length = x.length; choices = choices_text x; title = x.title }) (record { length = y.length; choices = choices_text y; title = y.title }) e in
     let long = ap (λ (c : MeetingCells). c.length) cells in
     let title = ap (λ (c : MeetingCells). c.title) cells in
-    let cs : x.wish ∷ x.alternatives ≡ y.wish ∷ y.alternatives = choices_same x y a b (ap (λ (c : MeetingCells). c.choices) cells) in
-    let wish : x.wish ≡ y.wish = (cc) in
-    let others : x.alternatives ≡ y.alternatives = (cc) in
+    let slots = choices_inj x y (choices_same x y a b (ap (λ (c : MeetingCells). c.choices) cells)) in
+    let wish = slots.0 in
+    let others = slots.1 in
     λ i. record { title = title i; length = long i; wish = wish i; alternatives = others i }
 
 pub cells_same : (a b : Action) → is_action a ≡ true → is_action b ≡ true → cells_of a ≡ cells_of b → a ≡ b
