@@ -146,3 +146,11 @@ pub part-all : (room own : Text) (ws : List Write) → own ≡ room → AreOfRoo
 part-all room own [] is h = refl
 part-all room own (w ∷ ws) is h =
     cond-true (bytes_eq w.room own) (w ∷ of_room own ws) (of_room own ws) (same_name w.room own (h.0 ∙ sym is)) ∙ ap (λ vs. w ∷ vs) (part-all room own ws is h.1)
+
+pub of_room-back : (room : Text) (ws vs : List Write) → AreOfRoom room (ws ++ vs) → AreOfRoom room vs
+of_room-back room [] vs h = h
+of_room-back room (w ∷ ws) vs h = of_room-back room ws vs h.1
+
+pub of_room-append : (room : Text) (ws vs : List Write) → AreOfRoom room ws → AreOfRoom room vs → AreOfRoom room (ws ++ vs)
+of_room-append room [] vs a c = c
+of_room-append room (w ∷ ws) vs a c = (a.0, of_room-append room ws vs a.1 c)
