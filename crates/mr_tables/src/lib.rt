@@ -7,9 +7,12 @@
 #![tactic(auto)]
 
 pub mod boards;
+mod cancel_rows;
 mod change;
 pub mod choices;
+mod log_rows;
 pub mod old_errors;
+pub mod place_rows;
 pub mod reading;
 pub mod rooms;
 mod rows;
@@ -19,6 +22,9 @@ mod tables;
 pub mod vector;
 pub mod written;
 
+pub use cancel_rows::{CancelRow, CancelledRow};
 pub use change::Change;
-pub use rows::{BookingRow, ErrorRow, LogRow, MetaRow, VectorRow, WriteUndoRow};
+pub use log_rows::{ActionCells, LogRow, MeetingCells};
+pub use place_rows::PlaceRow;
+pub use rows::{BookingRow, ErrorRow, MetaRow, VectorRow};
 pub use tables::Tables;
