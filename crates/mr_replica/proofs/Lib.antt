@@ -38,6 +38,7 @@ pub mod Touching
 pub mod PickedRows
 pub mod Stamping
 pub mod PartScopes
+pub mod KeptWrites
 pub mod JudgingPart
 pub mod LearningPart
 pub mod ReceivingPart

@@ -30,12 +30,10 @@ use Rattle.mr_replay.specs.Bookings.{HasBookings}
 use Rattle.mr_replay.proofs.Lists.{distinct-part}
 use Rattle.mr_replay.proofs.RoomBookings.{in_order-undone_all}
 use Rattle.mr_tables.specs.declared.summary.Summary.{Summary}
-use Rattle.mr_tables.specs.Summary.{summary_of}
 use Rattle.mr_tables.specs.Change.{ChangeView, changed}
 use Rattle.mr_tables.specs.Rooms.{rooms_beside}
 use Rattle.mr_tables.specs.Rows.{seq_on}
 use Rattle.mr_tables.specs.Written.{meta_of, changed_tallies, written}
-use Rattle.mr_replica.specs.Parts.{PartView}
 use Rattle.mr_replica.specs.PartMoves.{MovesPart}
 use Rattle.mr_replica.proofs.Moving.{Moves, moves}
 use Rattle.mr_replica.proofs.DeskRows.{le_or_lt, order_numbers, slice_left, order_distinct}
@@ -156,19 +154,18 @@ pub named_by : (f : Write → UndoRow) (ws : List Write) → ((w : Write) → (f
 named_by f [] e = refl
 named_by f (w ∷ ws) e = let rest = named_by f ws e in λ t. e w t ∷ rest t
 
-pub part_moved : (p : PartView) (items : List Item) (a b : Replica) (s : Summary) (rooms : List Text) (us : List UndoRow) (ws : List Write) (change : ChangeView) → MovesPart p items a b s rooms us ws
-    → (p.summary.commits + 1 + length ws < 18446744073709551616 → change ≡ written (meta_of s) (rooms_beside p.rooms rooms) (changed_tallies p.summary.tallies s.tallies) s.commits (p.summary.commits + 1) ws (undo_rows_of (undone_all p.board us) ws))
+pub part_moved : (old : Summary) (known : List Text) (board : Rows) (items : List Item) (a b : Replica) (s : Summary) (rooms : List Text) (us : List UndoRow) (ws : List Write) (change : ChangeView) → MovesPart old known board items a b s rooms us ws
+    → (old.commits + 1 + length ws < 18446744073709551616 → change ≡ written (meta_of s) (rooms_beside known rooms) (changed_tallies old.tallies s.tallies) s.commits (old.commits + 1) ws (undo_rows_of (undone_all board us) ws))
     → changed change (tables_of a) ≡ tables_of b
-part_moved p items a b s rooms us ws change h change_is =
-    let numbers : p.summary ≡ summary_of a = ap (λ (v : PartView). v.summary) h.is_part in
-    let commits : p.summary.commits ≡ length a.commits = ap (λ (v : Summary). v.commits) numbers in
+part_moved old known board items a b s rooms us ws change h change_is =
+    let commits : old.commits ≡ length a.commits = ap (λ (v : Summary). v.commits) h.old_is in
     let few = again_few a b items h.moves h.sound in
     let size = ap length h.writes_are in
-    let small : p.summary.commits + 1 + length ws < 18446744073709551616 = omega (arith, commits, few, size) in
+    let small : old.commits + 1 + length ws < 18446744073709551616 = omega (arith, commits, few, size) in
     let named : map (λ (u : UndoRow). u.id) us ≡ map id_of (moving a items a) = ap (map (λ (u : UndoRow). u.id)) h.undone_are ∙ named_by (λ w. record { id = id_of w; place = place_of a w }) (moving a items a) (λ w. refl) in
     let put : change ≡ written (tables_of b).meta (rooms_beside a.rooms b.rooms) (vector_between a b) (length b.commits) (length a.commits + 1) (again a items h.moves.news b)
     (undo_rows_of (undone_all (board_in (is_touched (tables_of a) items) a) us) (again a items h.moves.news b)) =
     change_is small
-    ∙ (λ i. written (meta_of (h.summary_is i)) (rooms_beside (h.is_part i).rooms (h.rooms_are i)) (changed_tallies (h.is_part i).summary.tallies (h.summary_is i).tallies) (h.summary_is i).commits ((h.is_part i).summary.commits + 1) (h.writes_are i)
-    (undo_rows_of (undone_all (h.is_part i).board us) (h.writes_are i))) in
+    ∙ (λ i. written (meta_of (h.summary_is i)) (rooms_beside (h.known_are i) (h.rooms_are i)) (changed_tallies (h.old_is i).tallies (h.summary_is i).tallies) (h.summary_is i).commits ((h.old_is i).commits + 1) (h.writes_are i)
+    (undo_rows_of (undone_all (h.board_is i) us) (h.writes_are i))) in
     ap (λ c. changed c (tables_of a)) put ∙ again_turns a b items h.moves h.sound (undone_all (board_in (is_touched (tables_of a) items) a) us) (again_places a b items h.moves h.sound us named) h.keeps_rooms

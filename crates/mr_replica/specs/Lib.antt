@@ -1,5 +1,5 @@
 -- A reader of the contracts trusts Log, Desk, Steps, Candidate, DeskTables, Turning, ChangeLaws, KeptRows, SoundLog, Parts and
--- ScopeOf. The others, Outgoing, Moves, Received, PartCandidate, PartMoves, PickedLogs, PickedBookings, PickedUndo, Tails, Named, Touched and LogTests, serve private clauses and
+-- ScopeOf. The others, Outgoing, Moves, Received, KeptWrites, PartCandidate, PartMoves, PickedLogs, PickedBookings, PickedUndo, Tails, Named, Touched and LogTests, serve private clauses and
 -- proofs alone.
 pub mod Log
 pub mod Desk
@@ -21,6 +21,7 @@ pub mod Touched
 pub mod LogTests
 pub mod PickedBookings
 pub mod PickedUndo
+pub mod KeptWrites
 pub mod PartCandidate
 pub mod Moves
 pub mod Received

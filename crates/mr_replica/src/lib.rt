@@ -19,6 +19,7 @@ mod desk_tables;
 mod desk_truncate;
 mod judge;
 mod kept_rows;
+mod kept_writes;
 mod log;
 mod movable;
 mod outgoing;
