@@ -35,7 +35,7 @@ use Rattle.mr_replica.specs.PartCandidate.{ReachedView, ShowsPicked}
 use Rattle.mr_replica.specs.PickedLogs.{logged_of}
 use Rattle.mr_replica.specs.PickedUndo.{undo_with}
 use Rattle.mr_replica.specs.Received.{Reaches, all_writes}
-use Rattle.mr_replica.proofs.DeskMoves.{undo_rows_are, new_places}
+use Rattle.mr_replica.proofs.DeskMoves.{new_places}
 use Rattle.mr_replica.proofs.DeskRows.{kept_numbers, kept_places, order_distinct, desk_tables-of}
 use Rattle.mr_replica.proofs.Desks.{desk_with}
 use Rattle.mr_replica.proofs.Moves.{all_pass, undone_picked}
@@ -44,6 +44,7 @@ use Rattle.mr_replica.proofs.ReceivedRows.{items-grow}
 use Rattle.mr_replica.proofs.Receiving.{items-bring}
 use Rattle.mr_replica.proofs.ReceivingPart.{all_within}
 use Rattle.mr_replica.proofs.SubmittedRows.{few_kept}
+use Rattle.mr_replica.proofs.Writing.{undo_rows_are}
 
 -- ---- numbers
 

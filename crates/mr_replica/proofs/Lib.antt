@@ -43,6 +43,7 @@ pub mod JudgingPart
 pub mod LearningPart
 pub mod ReceivingPart
 pub mod UndoRows
+pub mod ChangedRows
 pub mod Tails
 pub mod Named
 pub mod TouchedRooms

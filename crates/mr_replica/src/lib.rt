@@ -27,6 +27,7 @@ mod part;
 mod part_again;
 mod part_batch;
 mod part_candidate;
+mod part_changed;
 mod part_commit;
 mod part_from;
 mod part_moved;

@@ -8,6 +8,7 @@ ghost use Rattle.mr_tables.specs.Written.{meta_of, changed_tallies as rows_chang
 ghost use Rattle.mr_replica.specs.PartMoves.{MovesPart};
 
 use crate::part_candidate::Reached;
+use crate::part_changed::changed_of;
 use crate::room_sets::unknown_rooms;
 use mr_base::{Refusal, RoomName, Write};
 use mr_replay::{Board, UndoRow};
@@ -18,7 +19,8 @@ use mr_tables::written::written;
 use std::alloc::Global;
 
 /// What a batch changes in the tables that leads from these numbers and known rooms to what is reached: on the board, which has the
-/// bookings in the rooms that it touches, these executions are undone, and these writes are executed, the new commits first.
+/// bookings in the rooms that it touches, these executions are undone, and these writes are executed, the new commits first. A write that gets
+/// the place and the number that it had keeps its rows, and isn't put.
 pub(crate) fn moved(
     alloc: Global,
     old: &Summary,
@@ -33,8 +35,17 @@ pub(crate) fn moved(
     ensures only { IfErr result (λ e. e ≡ Refusal.OutOfMemory) }
 {
     let rows = replayed(board, undone, again)?;
+    let news = reached.summary.commits.saturating_sub(old.commits);
+    let changed = changed_of(alloc, undone, news, again, &rows)?;
     let unknown = unknown_rooms(alloc, known, &reached.rooms)?;
-    let change = rewritten(alloc, old, &reached.summary, unknown, again, &rows)?;
+    let change = rewritten(
+        alloc,
+        old,
+        &reached.summary,
+        unknown,
+        &changed.writes,
+        &changed.rows,
+    )?;
     Ok(change)
 }
 
