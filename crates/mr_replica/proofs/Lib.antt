@@ -38,10 +38,12 @@ pub mod Touching
 pub mod PickedRows
 pub mod Stamping
 pub mod PartScopes
+pub mod KeptWrites
 pub mod JudgingPart
 pub mod LearningPart
 pub mod ReceivingPart
 pub mod UndoRows
+pub mod ChangedRows
 pub mod Tails
 pub mod Named
 pub mod TouchedRooms

@@ -61,6 +61,18 @@ impl Log {
         self.kept.as_slice()
     }
 
+    /// Copies of them.
+    pub(crate) fn kept_copied(&self, alloc: Global) -> Result<Vec<Write>, Refusal>
+        ensures copies { IfOk result (λ copies. copies.items ≡ self.now.kept) }
+        ensures only { IfErr result (λ e. e ≡ Refusal.OutOfMemory) }
+    {
+        let mut copies = Vec::new(alloc);
+        for write in &self.kept {
+            copies.push(write.copy(alloc)?)?;
+        }
+        Ok(copies)
+    }
+
     /// What undoes each of them.
     pub(crate) fn undo(&self) -> &[UndoRow]
         ensures rows { result.now ≡ self.now.undo }
