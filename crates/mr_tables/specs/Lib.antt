@@ -10,3 +10,4 @@ pub mod Choices
 pub mod Boards
 pub mod OldErrors
 pub mod SoundRows
+pub mod Laws

@@ -6,6 +6,8 @@
 //! public are there for `mr_replica`, which makes rows of its own values, and reads these off rows.
 #![tactic(auto)]
 
+ghost use Rattle.mr_tables.specs.Laws.{RowsAreWithin, RowsTellTheBoard};
+
 pub mod boards;
 mod cancel_rows;
 mod change;
@@ -28,3 +30,10 @@ pub use log_rows::{ActionCells, LogRow, MeetingCells};
 pub use place_rows::PlaceRow;
 pub use rows::{BookingRow, ErrorRow, MetaRow, VectorRow};
 pub use tables::Tables;
+
+/// The rows of a replica's tables, and no others, tell the board of its writes: what `board_with` makes of them holds, room by
+/// room, what the replay of these writes gives.
+pub fn board_law()
+    ensures within { RowsAreWithin }
+    ensures told { RowsTellTheBoard }
+{}
