@@ -10,6 +10,8 @@ pub mod Receiving
 pub mod Batching
 pub mod Moving
 pub mod BoardRows
+pub mod DeskNumbers
+pub mod DeskBoards
 pub mod DeskRows
 pub mod Writing
 pub mod Changing

@@ -5,8 +5,7 @@ use Rattle.mr_model.specs.Writes.{Write}
 use Rattle.mr_replay.specs.Places.{UndoRow}
 use Rattle.mr_replay.specs.Rows.{Rows, executed, undo_row_of, undone, executed_all, undo_rows_of, undone_all}
 use Rattle.mr_replay.specs.Holds.{HaveDistinctIds, AreNew}
-use Rattle.mr_replay.proofs.Redoing.{undone-executed}
-use Rattle.mr_replay.proofs.Holding.{AreNew-rest, Holds-empty, Holds-executed_all, AreNew-distinct}
+use Rattle.mr_replay.proofs.Holding.{undone-executed, AreNew-rest, Holds-empty, Holds-executed_all, AreNew-distinct}
 use Rattle.mr_replay.proofs.Lists.{distinct_front}
 use Rattle.mr_replica.specs.Log.{errors_in, old_error_at, log_of, pushed, board_at, without_front}
 

@@ -247,7 +247,7 @@ told_none r room i h f = go (told_of i (room_list r room)) refl
 
 -- ---- the board holds the order
 
-known_or_none : (i : Id) (ws : List Write) → ((w : Write) × Has w ws × (id_of w ≡ i)) ⊎ ((w : Write) → Has w ws → id_of w ≡ i → ⊥)
+pub known_or_none : (i : Id) (ws : List Write) → ((w : Write) × Has w ws × (id_of w ≡ i)) ⊎ ((w : Write) → Has w ws → id_of w ≡ i → ⊥)
 known_or_none i [] = inr (λ w h e. absurd h)
 known_or_none i (x ∷ xs) = go (same_id (id_of x) i) refl (known_or_none i xs)
   where
