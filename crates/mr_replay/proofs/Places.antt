@@ -9,14 +9,13 @@ use Rattle.mr_model.proofs.RoomsApart.{board_apart, rooms_apart, board_after-app
 use Rattle.mr_replay.specs.Places.{UndoRow}
 use Rattle.mr_replay.specs.Rows.{Rows, undo_row_at, undo_row_of, executed, undo_rows_of}
 use Rattle.mr_replay.specs.Holds.{HaveDistinctIds, AreOfRoom, HaveNoRows, HoldsEach, Holds, with_list, undo_row_after, undo_rows_after}
-use Rattle.mr_replay.proofs.Lists.{distinct_front, distinct_back, distinct-part, with_list-own, of_room-front, of_room-next, part-all}
+use Rattle.mr_replay.proofs.Lists.{distinct_front, distinct_back, with_list-own, of_room-front, of_room-next, part-all}
 use Rattle.mr_replay.proofs.Placing.{same_place}
-use Rattle.mr_replay.proofs.Holding.{Holds-empty, Holds-executed, HoldsEach-executed, new_after}
+use Rattle.mr_replay.proofs.Holding.{Holds-empty, places-are, Holds-executed, HoldsEach-executed, new_after}
 
 undo_row-after : (ws : List Write) (b : Rows) (w : Write) → HaveDistinctIds ws → Holds ws b → undo_row_of b w ≡ undo_row_after ws w
 undo_row-after ws b w distinct holds =
-    ap (undo_row_at w)
-    (same_place w.room (of_room w.room ws) b w refl holds.ordered (distinct-part w.room ws distinct) (holds.rooms w.room))
+    ap (undo_row_at w) (places-are ws b w distinct holds)
 
 pub undo_rows-after : (ws vs : List Write) (b : Rows) → HaveDistinctIds (ws ++ vs) → Holds ws b → undo_rows_of b vs ≡ undo_rows_after ws vs
 undo_rows-after ws [] b distinct holds = refl

@@ -123,9 +123,6 @@ row-booking room (e ∷ es) x h = go (same_id x.id e.0) refl h (row-booking room
 
 -- ---- what a cancel finds: its target is among the bookings where its row is one of the room's that stand
 
-abbrev pub IsTarget : Text → Rows → Id → Type 0
-IsTarget room b i = is_row (is_booking_of room) (row_at b i) ≡ true
-
 booking_here : (room : Text) (i : Id) (o : Option Row) → is_row (is_booking_of room) o ≡ true → (x : Booking) × Has x (booked_at i (if_of room o)) × (x.id ≡ i)
 booking_here room i None h = absurd (true≢false (sym h))
 booking_here room i (Some row) h = go row.kept (bytes_eq row.room room) h

@@ -65,9 +65,6 @@ in_room : (w : Write) (o p : Option Kept) (c : Id) → o ≡ option_map (mark c)
 in_room w o None c e = ap (option_map (λ (k : Kept). record { room = w.room; kept = k })) e
 in_room w o (Some k) c e = ap (option_map (λ (j : Kept). record { room = w.room; kept = j })) e
 
-ids_of_cancel : Option Placed → Option Id
-ids_of_cancel o = option_map (λ c. id_of c.write) o
-
 -- the row of a told write, with one more write behind it
 late_row : (w : Write) (p : Place) (o : Option Placed) (q : Placed) (b : Bool) → row_of w p (option_map (λ c. id_of c.write) (or_else o (cond b (Some q) None))) ≡ change_if (mark (id_of q.write)) b (row_of w p (option_map (λ c. id_of c.write) o))
 unfolding or_else

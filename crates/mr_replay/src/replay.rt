@@ -1,13 +1,11 @@
 ghost use Rattle.std.specs.Prelude.{◌≡◌, List, [], ◌∷◌, ◌++◌, Option, IfOk, OnOk, IfErr};
 ghost use Rattle.std.specs.BTreeMap.{insert_entry};
-ghost use Rattle.std.specs.BTreeSet.{BTreeSet as SetOf};
 ghost use Rattle.std.specs.List.Sorted.{IsStrictlySortedBy};
 ghost use Rattle.std.specs.Map.{keys_of};
 ghost use Rattle.mr_base.specs.Ids.{id_cmp};
-ghost use Rattle.mr_replay.specs.declared.index.IndexKey.{IndexKey as Key};
 ghost use Rattle.mr_replay.specs.Rows.{Rows as Board, row_at, mark, unmark, changed, marked_by, with_row, undone, executed, undo_row_of, executed_all, undo_rows_of, undone_all};
-ghost use Rattle.mr_replay.specs.Index.{IsIndexed, Grows};
-ghost use Rattle.mr_replay.specs.Hidden.{shown, LeadsFrom};
+ghost use Rattle.mr_replay.specs.Index.{IsIndexed, StayIndexed, Grows};
+ghost use Rattle.mr_replay.specs.Hidden.{shown, StillLeads};
 
 use crate::choice::place_among;
 use crate::index::{Index, note};
@@ -54,8 +52,7 @@ impl Replay {
         again: &[Write],
     ) -> Result<(), Refusal>
         requires { IsIndexed rows.old.entries index.old }
-        ensures leads { (b : Board) → LeadsFrom b self.old.journal.items rows.old.entries
-            → LeadsFrom b self.new.journal.items rows.new.entries }
+        ensures leads { StillLeads self.old.journal.items rows.old.entries self.new.journal.items rows.new.entries }
         ensures grows { Grows index.old index.new }
         ensures indexed { OnOk result (IsIndexed rows.new.entries index.new) }
         ensures board { OnOk result (shown self.new.hidden rows.new.entries
@@ -71,10 +68,8 @@ impl Replay {
     /// Undoes these executions, the last of them first.
     fn undo_all(&mut self, rows: &mut Rows, undone: &[UndoRow]) -> Result<(), Refusal>
         requires { IsStrictlySortedBy id_cmp (keys_of rows.old.entries) }
-        ensures leads { (b : Board) → LeadsFrom b self.old.journal.items rows.old.entries
-            → LeadsFrom b self.new.journal.items rows.new.entries }
-        ensures indexed { OnOk result ((index : SetOf Key) → IsIndexed rows.old.entries index
-            → IsIndexed rows.new.entries index) }
+        ensures leads { StillLeads self.old.journal.items rows.old.entries self.new.journal.items rows.new.entries }
+        ensures indexed { OnOk result (StayIndexed rows.old.entries rows.new.entries) }
         ensures board { OnOk result (shown self.new.hidden rows.new.entries
             ≡ undone_all (shown self.old.hidden rows.old.entries) undone.now) }
         ensures done { self.new.done.items ≡ self.old.done.items }
@@ -91,10 +86,8 @@ impl Replay {
     /// Undoes the execution: hides its row, or gives its target the place back.
     fn undo(&mut self, rows: &mut Rows, row: UndoRow) -> Result<(), Refusal>
         requires { IsStrictlySortedBy id_cmp (keys_of rows.old.entries) }
-        ensures leads { (b : Board) → LeadsFrom b self.old.journal.items rows.old.entries
-            → LeadsFrom b self.new.journal.items rows.new.entries }
-        ensures indexed { OnOk result ((index : SetOf Key) → IsIndexed rows.old.entries index
-            → IsIndexed rows.new.entries index) }
+        ensures leads { StillLeads self.old.journal.items rows.old.entries self.new.journal.items rows.new.entries }
+        ensures indexed { OnOk result (StayIndexed rows.old.entries rows.new.entries) }
         ensures ordered { OnOk result (IsStrictlySortedBy id_cmp (keys_of rows.new.entries)) }
         ensures board { OnOk result (shown self.new.hidden rows.new.entries
             ≡ undone (shown self.old.hidden rows.old.entries) row) }
@@ -118,8 +111,7 @@ impl Replay {
         writes: &[Write],
     ) -> Result<(), Refusal>
         requires { IsIndexed rows.old.entries index.old }
-        ensures leads { (b : Board) → LeadsFrom b self.old.journal.items rows.old.entries
-            → LeadsFrom b self.new.journal.items rows.new.entries }
+        ensures leads { StillLeads self.old.journal.items rows.old.entries self.new.journal.items rows.new.entries }
         ensures grows { Grows index.old index.new }
         ensures indexed { OnOk result (IsIndexed rows.new.entries index.new) }
         ensures board { OnOk result (shown self.new.hidden rows.new.entries
@@ -137,8 +129,7 @@ impl Replay {
     /// Executes the write: marks its target's row, and puts its own in the place of the one that its id has.
     fn execute(&mut self, rows: &mut Rows, index: &mut Index, write: &Write) -> Result<(), Refusal>
         requires { IsIndexed rows.old.entries index.old }
-        ensures leads { (b : Board) → LeadsFrom b self.old.journal.items rows.old.entries
-            → LeadsFrom b self.new.journal.items rows.new.entries }
+        ensures leads { StillLeads self.old.journal.items rows.old.entries self.new.journal.items rows.new.entries }
         ensures grows { Grows index.old index.new }
         ensures indexed { OnOk result (IsIndexed rows.new.entries index.new) }
         ensures board { OnOk result (shown self.new.hidden rows.new.entries
@@ -157,10 +148,8 @@ impl Replay {
     /// Marks the row of its target, if this is of a cancel that is done.
     fn mark_target(&mut self, rows: &mut Rows, row: UndoRow) -> Result<(), Refusal>
         requires { IsStrictlySortedBy id_cmp (keys_of rows.old.entries) }
-        ensures leads { (b : Board) → LeadsFrom b self.old.journal.items rows.old.entries
-            → LeadsFrom b self.new.journal.items rows.new.entries }
-        ensures indexed { OnOk result ((index : SetOf Key) → IsIndexed rows.old.entries index
-            → IsIndexed rows.new.entries index) }
+        ensures leads { StillLeads self.old.journal.items rows.old.entries self.new.journal.items rows.new.entries }
+        ensures indexed { OnOk result (StayIndexed rows.old.entries rows.new.entries) }
         ensures board { OnOk result (shown self.new.hidden rows.new.entries
             ≡ marked_by row.id row.place row.target (shown self.old.hidden rows.old.entries)) }
         ensures done { self.new.done.items ≡ self.old.done.items }
@@ -181,8 +170,7 @@ impl Replay {
         row: Option<Row>,
     ) -> Result<(), Refusal>
         requires { IsIndexed rows.old.entries index.old }
-        ensures leads { (b : Board) → LeadsFrom b self.old.journal.items rows.old.entries
-            → LeadsFrom b self.new.journal.items rows.new.entries }
+        ensures leads { StillLeads self.old.journal.items rows.old.entries self.new.journal.items rows.new.entries }
         ensures grows { Grows index.old index.new }
         ensures indexed { OnOk result (IsIndexed rows.new.entries index.new) }
         ensures board { OnOk result (shown self.new.hidden rows.new.entries
@@ -201,10 +189,8 @@ impl Replay {
     /// The cancel takes the booking of this id back, if its row isn't hidden.
     fn mark(&mut self, rows: &mut Rows, target: WriteId, cancel: WriteId) -> Result<(), Refusal>
         requires { IsStrictlySortedBy id_cmp (keys_of rows.old.entries) }
-        ensures leads { (b : Board) → LeadsFrom b self.old.journal.items rows.old.entries
-            → LeadsFrom b self.new.journal.items rows.new.entries }
-        ensures indexed { OnOk result ((index : SetOf Key) → IsIndexed rows.old.entries index
-            → IsIndexed rows.new.entries index) }
+        ensures leads { StillLeads self.old.journal.items rows.old.entries self.new.journal.items rows.new.entries }
+        ensures indexed { OnOk result (StayIndexed rows.old.entries rows.new.entries) }
         ensures ordered { OnOk result (IsStrictlySortedBy id_cmp (keys_of rows.new.entries)) }
         ensures board { OnOk result (shown self.new.hidden rows.new.entries
             ≡ changed (mark cancel) target (shown self.old.hidden rows.old.entries)) }
@@ -221,10 +207,8 @@ impl Replay {
     /// The booking of this id stands again if the cancel took it back, and if its row isn't hidden.
     fn unmark(&mut self, rows: &mut Rows, target: WriteId, cancel: WriteId) -> Result<(), Refusal>
         requires { IsStrictlySortedBy id_cmp (keys_of rows.old.entries) }
-        ensures leads { (b : Board) → LeadsFrom b self.old.journal.items rows.old.entries
-            → LeadsFrom b self.new.journal.items rows.new.entries }
-        ensures indexed { OnOk result ((index : SetOf Key) → IsIndexed rows.old.entries index
-            → IsIndexed rows.new.entries index) }
+        ensures leads { StillLeads self.old.journal.items rows.old.entries self.new.journal.items rows.new.entries }
+        ensures indexed { OnOk result (StayIndexed rows.old.entries rows.new.entries) }
         ensures ordered { OnOk result (IsStrictlySortedBy id_cmp (keys_of rows.new.entries)) }
         ensures board { OnOk result (shown self.new.hidden rows.new.entries
             ≡ changed (unmark cancel) target (shown self.old.hidden rows.old.entries)) }
@@ -255,8 +239,7 @@ impl Replay {
 
 /// Puts the row under this id, and notes in the journal what was there.
 fn swap_in(rows: &mut Rows, journal: &mut Journal, id: WriteId, row: Row) -> Result<(), Refusal>
-    ensures leads { (b : Board) → LeadsFrom b journal.old.items rows.old.entries
-        → LeadsFrom b journal.new.items rows.new.entries }
+    ensures leads { StillLeads journal.old.items rows.old.entries journal.new.items rows.new.entries }
     ensures ok { OnOk result (rows.new.entries ≡ insert_entry id_cmp rows.old.entries id row) }
     ensures only { IfErr result (λ e. e ≡ Refusal.OutOfMemory) }
 {

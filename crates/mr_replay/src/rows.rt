@@ -178,7 +178,7 @@ impl Row {
 impl Kept {
     /// What is kept of a booking that took this slot, or none.
     fn of(alloc: Global, meeting: &Meeting, slot: Option<Slot>) -> Result<Kept, Refusal>
-        ensures row { IfOk result (λ kept. kept ≡ kept_with meeting.now slot None) }
+        ensures kept { IfOk result (λ kept. kept ≡ kept_with meeting.now slot None) }
         ensures only { IfErr result (λ e. e ≡ Refusal.OutOfMemory) }
     {
         let title = meeting.title.copy(alloc)?;
