@@ -141,7 +141,8 @@ fn error_row(alloc: Global, write: &Write, meeting: &Meeting, seq: u64) -> Resul
     })
 }
 
-fn cancel_row(
+/// The row of a cancel of this target, at its place.
+pub fn cancel_row(
     alloc: Global,
     write: &Write,
     target: WriteId,
