@@ -1,15 +1,18 @@
 #!/usr/bin/env python3
 """How long the largest batches take, and how much memory.
 
-    largest.py PROGRAM FOLDER BYTES [SHAPE..]
+    largest.py PROGRAM FOLDER BYTES SECONDS [SHAPE..]
 
 imports batches of at most so many bytes (16777216 is the most that a file may have), each of the worst lines of a shape, into a
 replica that knows nothing and isn't the primary, and prints the lines, what was printed, the seconds and the peak memory of the process.
+An import that takes longer than SECONDS is killed, and named so.
 """
 
 import os
+import signal
 import subprocess
 import sys
+import threading
 import time
 
 sys.path.insert(0, os.path.join(os.path.dirname(os.path.abspath(__file__)), '..', 'tests'))
@@ -66,23 +69,28 @@ def write_batch(file, size, shape):
     return n - 1
 
 
-def measure(program, *words):
-    """What a command prints first, its seconds, and its peak memory in MiB."""
+def measure(limit, program, *words):
+    """What a command prints first, its seconds, and its peak memory in MiB; it is killed after so many seconds."""
     start = time.monotonic()
     process = subprocess.Popen([program, *words], stdin=subprocess.DEVNULL, stdout=subprocess.PIPE)
+    watch = threading.Timer(limit, process.kill)
+    watch.start()
     printed = process.stdout.read()
-    _, _, usage = os.wait4(process.pid, 0)
-    return printed.split(b'\n')[0].decode(), time.monotonic() - start, usage.ru_maxrss / 1024
+    _, status, usage = os.wait4(process.pid, 0)
+    watch.cancel()
+    is_killed = os.WIFSIGNALED(status) and os.WTERMSIG(status) == signal.SIGKILL
+    told = f'not done after {limit:g} s' if is_killed else printed.split(b'\n')[0].decode()
+    return told, time.monotonic() - start, usage.ru_maxrss / 1024
 
 
 def main():
-    program, folder, size, *names = sys.argv[1:]
+    program, folder, size, limit, *names = sys.argv[1:]
     for name in names or SHAPES:
         empty(folder)
         lines = write_batch(f'{folder}/batch', int(size), SHAPES[name])
         done(program, 'init', f'{folder}/a.db', 3, 1)
-        printed, seconds, peak = measure(program, 'import', f'{folder}/a.db', f'{folder}/batch')
-        print(f'{name:8} {lines:8} lines  {seconds:8.1f} s  {peak:7.0f} MiB  {printed}', flush=True)
+        told, seconds, peak = measure(float(limit), program, 'import', f'{folder}/a.db', f'{folder}/batch')
+        print(f'{name:8} {lines:8} lines  {seconds:8.1f} s  {peak:7.0f} MiB  {told}', flush=True)
 
 
 if __name__ == '__main__':

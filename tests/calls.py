@@ -25,13 +25,13 @@ def done(program, *words):
 class Served:
     """A process that serves a database. Its lines go to a file, so that it never waits for somebody who reads them."""
 
-    def __init__(self, program, database, lines, connections=999999999):
+    def __init__(self, program, database, lines, connections=999999999, **more):
         self.lines = lines
         for _ in range(20):
             self.port = random.SystemRandom().randint(20000, 32000)
             with open(lines, 'wb') as out:
                 self.process = subprocess.Popen([program, 'serve', database, str(self.port), str(connections)],
-                                                stdin=subprocess.DEVNULL, stdout=out, stderr=subprocess.DEVNULL)
+                                                stdin=subprocess.DEVNULL, stdout=out, stderr=subprocess.DEVNULL, **more)
             if self.is_listening(lines):
                 return
             self.end()

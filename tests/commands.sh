@@ -69,18 +69,18 @@ run_forged() {
     has 'the sheet keeps the title' 'sheet oak 1995-12-18' 'oak 1995-12-18 Monday' '09:00-09:30 C 1-1 Alpha'
 }
 
-# hostile NAME REPLY LINE..: replica 2 refuses the batch before it knows anything, and knows nothing afterwards
+# hostile NAME REPLY LINE..: replica 2 refuses the batch before it knows anything, and knows nothing afterwards, not even the room
 hostile() {
     local name=$1 reply=$2
     shift 2
     blank 2 1
     brings "$name" 1 "$reply" "$@" 'E'
     has "nothing is known after $name" position 'mp1 2 1' 'K 0' 'E'
+    expect_line "no room after $name" 1 'refused 7 UnknownRoom' sheet "$database" oak 1995-12-18
 }
 
 run_hostile() {
     hostile 'a gap' 'refused 17 Gap 2' 'mr1 1 1' 'W 1 2 5 oak 30 1995-12-18 09:00 0 Beta'
-    expect_line 'no room of a refused batch' 1 'refused 7 UnknownRoom' sheet "$database" oak 1995-12-18
     hostile 'a write in its own name' 'refused 20 OwnWrite 2' 'mr1 1 1' 'W 2 1 1 oak 30 1995-12-18 09:00 0 Own'
     hostile 'a commit out of order' 'refused 18 OutOfOrder 4' \
         'mr1 1 1' "$alpha" 'W 1 2 2 oak 30 1995-12-18 10:00 0 Beta' 'C 1 1 2'

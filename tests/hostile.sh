@@ -1,12 +1,13 @@
 # Strangers and faults, on the built program. ./test sources this file; the functions of tests/lib.sh and the variables of ./test
 # are used here.
 
-# tried NAME WORD..: a test in Python ended well; its last line is shown, and all of its lines where it failed
+# tried NAME WORD..: a test in Python ended well; what it skipped and its last line are shown, and all of its lines where it failed
 tried() {
     local name=$1
     shift
     if PYTHONDONTWRITEBYTECODE=1 python3 "$@" > "$scratch/out" 2> "$scratch/err"; then
         passed=$((passed + 1))
+        grep '^skipped: ' "$scratch/out"
         printf '%s: %s\n' "$name" "$(tail -n 1 -- "$scratch/out")"
     else
         echo "FAILED: $name:"
@@ -16,15 +17,15 @@ tried() {
     fi
 }
 
-# turned batches and positions, and requests of strangers; the seed is printed with a failure
+# turned batches and positions for 90 seconds, and requests of strangers for 20; the seed is printed with a failure
 run_hostile_hands() {
     if ! command -v python3 > /dev/null; then
         echo 'skipped: turned batches, strange requests, broken peers (no python3)'
         return
     fi
-    tried 'turned batches and positions' tests/hostile.py "$program" "$scratch/turned" 60 1 2
-    tried 'peers and clients that break off' tests/peers.py "$program" "$scratch/peers"
-    tried 'requests of strangers' tests/strangers/run.py "$program" "$scratch/strangers" 400 1 2 3 4 5 6
+    tried 'turned batches and positions' tests/hostile.py "$program" "$quick/turned" 90
+    tried 'peers and clients that break off' tests/peers.py "$program" "$quick/peers"
+    tried 'requests of strangers' tests/strangers/run.py "$program" "$quick/strangers" 20
 }
 
 run_faults() {
@@ -32,5 +33,19 @@ run_faults() {
         echo 'skipped: killed commands, limited files (no python3)'
         return
     fi
-    tried 'killed commands, limited files, closed outputs' tests/faults.py "$program" "$scratch/faults" 6 1
+    tried 'killed commands, limited files, closed outputs' tests/faults.py "$program" "$quick/faults" 200 1
+}
+
+# each allocation of scripts, and of requests to a server, and many of commands on databases, is refused
+run_refused_memory() {
+    if ! command -v python3 > /dev/null; then
+        echo 'skipped: memory that is refused (no python3)'
+        return
+    fi
+    if ! command -v cc > /dev/null && ! command -v gcc > /dev/null && ! command -v clang > /dev/null; then
+        echo 'skipped: memory that is refused (no C compiler)'
+        return
+    fi
+    tried 'memory that is refused' tests/refused_memory.py "$program" "$quick/memory" tests/scripts/equal_times.script \
+        examples/commit_reorders.script tests/scripts/chain.script tests/scripts/dropped_commits.script
 }

@@ -6,7 +6,6 @@ slot='oak 30 1995-12-18 09:00'
 # bad NAME LINE: after a header the line is none
 bad() {
     hostile "$1" 'refused 15 BadLine 2' 'mr1 1 1' "$2"
-    expect_line "no room after $1" 1 'refused 7 UnknownRoom' sheet "$database" oak 1995-12-18
 }
 
 run_bad_lines() {
@@ -43,7 +42,7 @@ run_edge_lines() {
     brings 'a commit twice' 0 'took 1 writes 1 commits' 'mr1 1 1' "W 1 1 1 $slot 0 Alpha" 'C 1 1 1' 'C 1 1 1' 'E'
 }
 
-# a batch of two writes, cut after each of its bytes
+# a batch of two writes, cut after each of its bytes: the writes whose lines are whole are known, and no others
 run_cut_batch() {
     local size writes
     blank 9 1
@@ -51,14 +50,27 @@ run_cut_batch() {
     printf '%s\n' "${two[@]}" > "$scratch/commands/whole"
     for ((size = 0; size <= 106; size++)); do
         writes=$(((size >= 48) + (size >= 104)))
+        rm -f -- "$database"-*
         cp -- "$scratch/commands/blank.db" "$database"
         head -c "$size" -- "$scratch/commands/whole" > "$scratch/commands/torn"
         expect_line "a batch cut after $size bytes" 0 "took $writes writes 0 commits" import "$database" "$scratch/commands/torn"
+        has "the position after $size bytes" position "${position_of_two[@]:0:2 + writes}" 'E'
     done
     has 'the sheet of the whole batch' 'sheet oak 1995-12-18' "${sheet_of_two[@]}"
-    head -c 16777217 /dev/zero > "$scratch/commands/great"
-    expect_line 'a batch of 16 MiB and one byte' 3 'fault file' import "$database" "$scratch/commands/great"
-    rm -- "$scratch/commands/great"
+}
+
+# the largest batch that is read, and one byte more
+run_great_batch() {
+    local great=$scratch/commands/great
+    blank 9 1
+    { printf 'mr1 2 1\nW 2 1 1 oak 30 1995-12-18 09:00 0 Last\n'; head -c 16777169 /dev/zero; } > "$great"
+    printf 'y' >> "$great"
+    expect_line 'a batch of 16 MiB and one byte' 3 'fault file' import "$database" "$great"
+    has 'nothing is known after it' position 'mp1 9 1' 'K 0' 'E'
+    expect_line 'no room after it' 1 'refused 7 UnknownRoom' sheet "$database" oak 1995-12-18
+    truncate -s 16777216 "$great"
+    expect_line 'a batch of 16 MiB' 0 'took 1 writes 0 commits' import "$database" "$great"
+    rm -- "$great"
 }
 
 run_hostile_rows() {
@@ -66,4 +78,5 @@ run_hostile_rows() {
     run_bad_lines
     run_edge_lines
     run_cut_batch
+    run_great_batch
 }

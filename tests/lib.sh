@@ -1,6 +1,6 @@
 # What the files of tests share: each function runs the program, or compares what it printed or wrote, and counts the result
-# in $passed or $failed. ./test sources this file, and sets $program (the built program), $scratch (a folder for files), $passed
-# and $failed before.
+# in $passed or $failed. ./test sources this file, and sets $program (the built program), $scratch (a folder for files), $quick
+# (another, in memory where there is such a place), $passed and $failed before.
 
 # told NAME STATUS WANTED_STATUS FILE: the status is the wanted one, and $scratch/out has the bytes of this file
 told() {

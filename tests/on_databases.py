@@ -91,4 +91,5 @@ def main():
                 out.write(offices.take(line))
 
 
-main()
+if __name__ == '__main__':
+    main()

@@ -3,8 +3,8 @@
 
     peers.py PROGRAM FOLDER
 
-`exchange` with a peer whose reply to a pull ends after each of its bytes, and with one whose reply is none; a submission to a served
-database by clients that go away at once. What was taken stays; what was answered is there. The last line counts.
+`exchange` with a peer whose reply to a pull ends after each of its bytes, with one that breaks the connection after each byte of each
+of its replies, and with one whose reply is none; a submission to a served database by clients that go away at once. What was taken stays; what was answered is there. The last line counts.
 """
 
 import socket
@@ -27,9 +27,9 @@ def head(length, status=b'200 OK'):
 class Peer:
     """Answers each connection by the path that is asked for, until nobody comes any more."""
 
-    def __init__(self, pull, position=head(len(POSITION)) + POSITION, push=head(len(NONE)) + NONE, is_reset=False):
+    def __init__(self, pull, position=head(len(POSITION)) + POSITION, push=head(len(NONE)) + NONE, reset=None):
         self.replies = {b'/pull': pull, b'/position': position, b'/push': push}
-        self.is_reset, self.listener = is_reset, socket.create_server(('127.0.0.1', 0))
+        self.reset, self.listener = reset, socket.create_server(('127.0.0.1', 0))
         self.port = self.listener.getsockname()[1]
         threading.Thread(target=self.serve, daemon=True).start()
 
@@ -43,7 +43,7 @@ class Peer:
                 asked = read_request(peer)
                 path = asked.split(b' ')[1] if b' ' in asked else b''
                 peer.sendall(self.replies.get(path, b''))
-                if self.is_reset and path == b'/pull':
+                if path == self.reset:
                     peer.setsockopt(socket.SOL_SOCKET, socket.SO_LINGER, struct.pack('ii', 1, 0))
 
 
@@ -85,12 +85,23 @@ class Tried:
         self.told(f'{name}: the position', done(self.program, 'position', self.file) == b'mp1 9 1\nK 0\n' + counts + b'E\n')
 
     def cut_pulls(self):
+        """The reply's body ends after each of its bytes: whole lines are taken, and the exchange goes on."""
         for size in range(len(BATCH) + 1):
             writes = (size >= 48) + (size >= 104)
             lines = b'pulled %d writes 0 commits\npushed 0 writes 0 commits\n' % writes
             self.exchange(f'a pull cut after {size} bytes', lines, 0, writes, pull=head(len(BATCH)) + BATCH[:size])
-        for size in range(0, len(BATCH), 15):
-            self.exchange(f'a pull reset after {size} bytes', b'fault network\n', 3, 0, pull=head(len(BATCH)) + BATCH[:size], is_reset=True)
+
+    def broken_connections(self):
+        """The peer breaks the connection after each byte of each of its replies: what was taken before stays, and nothing of this reply."""
+        pulled, fault = b'pulled 2 writes 0 commits\n', b'fault network\n'
+        pull, position, push = (head(len(body)) + body for body in (BATCH, POSITION, NONE))
+        for size in range(len(pull)):
+            self.exchange(f'a pull reset after {size} bytes', fault, 3, 0, pull=pull[:size], reset=b'/pull')
+        for size in range(len(position)):
+            self.exchange(f'a position reset after {size} bytes', pulled + fault, 3, 2, pull=pull, position=position[:size], reset=b'/position')
+        # whoever has all of what it knows is handed nothing, and still by a push
+        for size in range(len(push)):
+            self.exchange(f'a push reset after {size} bytes', pulled + fault, 3, 2, pull=pull, push=push[:size], reset=b'/push')
 
     def bad_peers(self):
         fault = b'fault network\n'
@@ -141,6 +152,7 @@ class Tried:
 def main():
     tried = Tried(*sys.argv[1:])
     tried.cut_pulls()
+    tried.broken_connections()
     tried.bad_peers()
     tried.leaving_clients()
     print(f'{tried.passed} passed, {tried.failed} failed')

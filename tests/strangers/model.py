@@ -1,6 +1,8 @@
 """The reply to the bytes of a connection, by the table of checks in docs/FORMATS.md ("HTTP"); the first check that fails decides."""
 
+import itertools
 import json
+import math
 import re
 
 import wire
@@ -14,6 +16,7 @@ ROUTES = [('POST', rb'/submit', 'submit'), ('GET', rb'/rooms/([^/]+)/days/([^/]+
           ('GET', rb'/rooms/([^/]+)/requests/([^/]+)', 'outcome'), ('GET', rb'/rooms/([^/]+)/errors', 'errors'),
           ('GET', rb'/position', 'position'), ('POST', rb'/pull', 'pull'), ('POST', rb'/push', 'push')]
 STRINGS = {'room', 'day', 'start', 'title'}
+MOST_DEPTH = 127  # of the lists and objects that serde_json reads in one another
 
 
 class NoSubmission(ValueError):
@@ -75,6 +78,19 @@ def no_constant(word):
     raise NoSubmission(word)
 
 
+def number(word):
+    """A number keeps its spelling; one that is beyond all floats is none."""
+    if math.isinf(float(word)):
+        raise NoSubmission(word)
+    return 'number', word
+
+
+def depth_of(text):
+    """How deep the lists and objects of a JSON text stand in one another."""
+    marks = re.sub(r'"(?:[^"\\]|\\.)*"|[^][{}]', '', text)
+    return max(itertools.accumulate((1 if mark in '[{' else -1 for mark in marks), initial=0))
+
+
 def is_strings(value, names):
     return isinstance(value, dict) and set(value) == names and all(isinstance(each, str) for each in value.values())
 
@@ -82,11 +98,11 @@ def is_strings(value, names):
 def read_submission(body):
     """The room, length, slots and title of a submission, or None."""
     try:
-        value = json.loads(body.decode('utf-8'), object_pairs_hook=pairs, parse_constant=no_constant,
-                           parse_int=lambda word: ('number', word), parse_float=lambda word: ('number', word))
+        text = body.decode('utf-8')
+        value = json.loads(text, object_pairs_hook=pairs, parse_constant=no_constant, parse_int=number, parse_float=number)
     except (ValueError, RecursionError):
         return None
-    if not isinstance(value, dict):
+    if not isinstance(value, dict) or depth_of(text) > MOST_DEPTH:
         return None
     length, others = value.pop('length', None), value.pop('alternatives', [])
     is_number = isinstance(length, tuple) and re.fullmatch(r'[0-9]+', length[1]) and int(length[1]) < 2 ** 64

@@ -7,7 +7,6 @@ use Rattle.std.specs.List.{filter}
 use Rattle.std.specs.Str.{bytes_eq}
 use Rattle.mr_model.specs.Texts.{Text}
 use Rattle.mr_model.specs.Writes.{Id, Write, id_of, stamp_before}
-use Rattle.mr_model.specs.Replay.{Place}
 use Rattle.mr_model.specs.Replica.{Replica, IsReplica, committed, tentative, order_of, is_among}
 use Rattle.mr_model.specs.Exchange.{Item}
 use Rattle.mr_model.specs.Kept.{dropped_in_order, kept_in_order}
@@ -35,7 +34,6 @@ use Rattle.mr_replay.proofs.RoomBookings.{in_order-undone_all}
 use Rattle.mr_replica.specs.Desk.{desk_of}
 use Rattle.mr_replica.specs.Moves.{AreTouched, moves_in}
 use Rattle.mr_replica.specs.PickedUndo.{undo_with}
-use Rattle.mr_replica.proofs.BoardRows.{places_head}
 use Rattle.mr_replica.proofs.DeskRows.{order_distinct, dropped_long}
 use Rattle.mr_replica.proofs.Moves.{none_passes, all_pass, moves_not, moves_as}
 use Rattle.mr_replica.proofs.Logs.{executed_all-append}
@@ -66,14 +64,6 @@ map_same f g (x ∷ xs) e = λ i. e x (inl refl) i ∷ map_same f g xs (λ y h. 
 -- no write stands in both parts of a list of different ids
 twice : (xs ys : List Write) (v : Write) → HaveDistinctIds (xs ++ ys) → Has v xs → Has v ys → ⊥
 twice xs ys v d f g = (distinct_parts (map id_of xs) (map id_of ys) (subst Distinct (map-append id_of xs ys) d)).2 (id_of v) (has_map id_of v xs f) (has_map id_of v ys g)
-
--- what undoes writes that get these places
-pub undo_rows_are : (f : Write → Place) (b : Rows) (ws : List Write) → map (λ u. u.place) (undo_rows_of b ws) ≡ map f ws → undo_rows_of b ws ≡ map (undo_with f) ws
-undo_rows_are f b [] e = refl
-undo_rows_are f b (w ∷ ws) e =
-    let p = places_head f b w ws e in
-    let rest = undo_rows_are f (executed b w) ws p.1 in
-    λ i. record { id = id_of w; place = p.0 i } ∷ rest i
 
 room_own : (w : Write) (ws : List Write) → Has w ws → Has w (of_room w.room ws)
 room_own w ws h = has_filter (λ (v : Write). bytes_eq v.room w.room) w ws (same_name w.room w.room refl) h

@@ -31,19 +31,20 @@ use Rattle.mr_replica.specs.Desk.{DeskView, desk_of, old_errors_of, nothing_take
 use Rattle.mr_replica.specs.DeskTables.{desk_tables}
 use Rattle.mr_replica.specs.Log.{KeptLog}
 use Rattle.mr_replica.specs.Moves.{AreTouched, moves_in}
-use Rattle.mr_replica.specs.PartCandidate.{PartCandidateView, ShowsPicked}
+use Rattle.mr_replica.specs.PartCandidate.{ReachedView, ShowsPicked}
 use Rattle.mr_replica.specs.PickedLogs.{logged_of}
 use Rattle.mr_replica.specs.PickedUndo.{undo_with}
 use Rattle.mr_replica.specs.Received.{Reaches, all_writes}
-use Rattle.mr_replica.proofs.DeskMoves.{undo_rows_are, new_places}
+use Rattle.mr_replica.proofs.DeskMoves.{new_places}
 use Rattle.mr_replica.proofs.DeskRows.{kept_numbers, kept_places, order_distinct, desk_tables-of}
-use Rattle.mr_replica.proofs.Desks.{summary_in, desk_with}
+use Rattle.mr_replica.proofs.Desks.{desk_with}
 use Rattle.mr_replica.proofs.Moves.{all_pass, undone_picked}
 use Rattle.mr_replica.proofs.PartMoves.{moving, again_few, again_turns, named_by}
 use Rattle.mr_replica.proofs.ReceivedRows.{items-grow}
 use Rattle.mr_replica.proofs.Receiving.{items-bring}
 use Rattle.mr_replica.proofs.ReceivingPart.{all_within}
 use Rattle.mr_replica.proofs.SubmittedRows.{few_kept}
+use Rattle.mr_replica.proofs.Writing.{undo_rows_are}
 
 -- ---- numbers
 
@@ -73,23 +74,10 @@ mark_more a d k done next n sound stands low is was more =
 pub marks_end : (a : Replica) (d : DeskView) (k : ℕ) (done : List ℕ) → d ≡ desk_of a → length d.log.kept ≤ k → done ≡ map (seq_of a) (take k (kept_in_order a)) → done ≡ map (seq_of a) (kept_in_order a)
 marks_end a d k done stands all was = was ∙ take_all_of (seq_of a) (kept_in_order a) k (let size = ap (λ (v : DeskView). length v.log.kept) stands in omega (arith, all, size))
 
--- ---- the candidate
+-- ---- what is reached
 
--- before the first item it shows the desk's replica
-pub desk_begins : (a : Replica) (d : DeskView) (c : PartCandidateView) → d ≡ desk_of a → c.summary ≡ summary_in d → c.rooms ≡ d.rooms → c.kept ≡ map (logged_of a) (kept_in_order a) → ShowsPicked a all_writes c (nothing_taken a)
-desk_begins a d c stands summary rooms kept =
-    let all : map (logged_of a) (kept_in_order a) ≡ map (logged_of a) (filter all_writes (kept_in_order a)) = ap (map (logged_of a)) (sym (all_pass (kept_in_order a))) in
-    let size : length c.kept ≡ length (filter all_writes (kept_in_order a)) = ap length (kept ∙ all) ∙ length-map (filter all_writes (kept_in_order a)) (logged_of a) in
-    record {
-      summary = summary ∙ ap summary_in stands;
-      rooms = rooms ∙ ap (λ (v : DeskView). v.rooms) stands;
-      kept = kept ∙ all;
-      writes = omega (arith, size);
-      marks = λ w. inl refl;
-    }
-
--- with all items it shows what they lead to
-pub desk_reaches : (a : Replica) (d : DeskView) (items : List Item) (c : PartCandidateView) (p : Progress) → IsReplica a → d ≡ desk_of a → list_all is_item items ≡ true → take_items items 2 (Ok (nothing_taken a)) ≡ Ok p → ShowsPicked a all_writes c p → Reaches d items c.summary c.rooms c.kept a p.replica
+-- with all items there is what they lead to
+pub desk_reaches : (a : Replica) (d : DeskView) (items : List Item) (c : ReachedView) (p : Progress) → IsReplica a → d ≡ desk_of a → list_all is_item items ≡ true → take_items items 2 (Ok (nothing_taken a)) ≡ Ok p → ShowsPicked a all_writes c p → Reaches d items c.summary c.rooms c.kept a p.replica
 desk_reaches a d items c p sound stands good taken shows =
     record {
       sound = sound;
@@ -103,7 +91,7 @@ desk_reaches a d items c p sound stands good taken shows =
     }
 
 -- the answer is what the items give
-pub desk_took : (a : Replica) (d : DeskView) (items : List Item) (c : PartCandidateView) (p : Progress) (x y : ℕ) → IsReplica a → d ≡ desk_of a → list_all is_item items ≡ true → take_items items 2 (Ok (nothing_taken a)) ≡ Ok p → ShowsPicked a all_writes c p → x ≡ length c.kept - length d.log.kept → y ≡ c.summary.commits - d.commits → Took x y ≡ (after_items a (take_items items 2 (Ok (nothing_taken a)))).reply
+pub desk_took : (a : Replica) (d : DeskView) (items : List Item) (c : ReachedView) (p : Progress) (x y : ℕ) → IsReplica a → d ≡ desk_of a → list_all is_item items ≡ true → take_items items 2 (Ok (nothing_taken a)) ≡ Ok p → ShowsPicked a all_writes c p → x ≡ length c.kept - length d.log.kept → y ≡ c.summary.commits - d.commits → Took x y ≡ (after_items a (take_items items 2 (Ok (nothing_taken a)))).reply
 desk_took a d items c p x y sound stands good taken shows writes commits =
     let brings = (items-bring items 2 (nothing_taken a) p sound good taken).commits in
     let more = shows.writes in

@@ -20,7 +20,7 @@ use Rattle.mr_base.specs.Refusals.{refusal_of}
 use Rattle.mr_base.specs.declared.refusals.Refusal.{Refusal}
 use Rattle.mr_base.specs.declared.refusals.Refusal.TheVariants.{Gap, OutOfOrder, Forged, OwnWrite, PrimaryOnly}
 use Rattle.mr_tables.specs.Summary.{summary_of}
-use Rattle.mr_replica.specs.Candidate.{write_in, known_verdict, write_verdict_by, write_verdict, there_verdict, commit_verdict_by, commit_verdict}
+use Rattle.mr_replica.specs.Candidate.{write_in, known_verdict, write_verdict_by, write_verdict, there_verdict, commit_verdict_with, commit_verdict}
 use Rattle.mr_tables.proofs.Summaries.{tally-of}
 
 -- ---- the kept writes
@@ -131,27 +131,23 @@ abbrev commit_cases : ℕ → Progress → Id → Bool → Bool → Bool → Boo
 commit_cases line p id a b c d e f g =
     cond a (Ok p) (cond (b && c) (Ok p) (cond b (Err (model.Forged line)) (cond d (Err (model.PrimaryOnly line)) (cond e (Err (model.Gap line)) (cond f (Err (model.Gap line)) (cond (not g) (Err (model.OutOfOrder line)) (Ok (with_new_commit p id))))))))
 
-pub judged_commit : (line : ℕ) (p : Progress) (q : ℕ) (id : Id) → IsReplica p.replica → id.server < 100 → JudgedCommit line p q id (commit_verdict line (summary_of p.replica) (kept_in_order p.replica) q id)
-judged_commit line p q id sound small =
-    subst (λ tally. JudgedCommit line p q id (commit_verdict_by line tally (summary_of p.replica) (kept_in_order p.replica) q id)) (sym (tally-of p.replica id.server small))
+pub judged_commit : (line : ℕ) (p : Progress) (q : ℕ) (id : Id) (is_there : Bool) → IsReplica p.replica → id.server < 100 → (p.replica.dropped < q → q ≤ length p.replica.commits → is_there ≡ is_that_id (slice_get p.replica.commits (q - 1)) id)
+    → JudgedCommit line p q id (commit_verdict line (summary_of p.replica) is_there q id)
+judged_commit line p q id is_there sound small is =
+    subst (λ tally. JudgedCommit line p q id (commit_verdict_with line tally (summary_of p.replica) is_there q id)) (sym (tally-of p.replica id.server small))
     (go (nat_le q p.replica.dropped) refl (nat_le q (length p.replica.commits)) refl (p.replica.server == p.replica.primary) refl (nat_lt (length p.replica.commits + 1) q) refl (nat_lt (count_of p.replica id.server) id.n) refl (id.n == committed_count p.replica id.server + 1) refl)
   where
-    there : nat_le q p.replica.dropped ≡ false → nat_le q (length p.replica.commits) ≡ true → (w : Write) → slice_get p.replica.commits (q - 1) ≡ Some (id_of w) → (c : Bool) → same_id (id_of w) id ≡ c → JudgedCommit line p q id (cond c (Ok false) (Err (Forged line)))
-    there qa qb w e true qc =
-        let that = ap (λ o. is_that_id o id) e ∙ qc in
-        λ t. commit_cases line p id (qa t) (qb t) (that t) (p.replica.server == p.replica.primary) (nat_lt (length p.replica.commits + 1) q) (nat_lt (count_of p.replica id.server) id.n) (id.n == committed_count p.replica id.server + 1)
-    there qa qb w e false qc =
-        let that = ap (λ o. is_that_id o id) e ∙ qc in
-        λ t. commit_cases line p id (qa t) (qb t) (that t) (p.replica.server == p.replica.primary) (nat_lt (length p.replica.commits + 1) q) (nat_lt (count_of p.replica id.server) id.n) (id.n == committed_count p.replica id.server + 1)
+    there : nat_le q p.replica.dropped ≡ false → nat_le q (length p.replica.commits) ≡ true → (c : Bool) → is_that_id (slice_get p.replica.commits (q - 1)) id ≡ c → JudgedCommit line p q id (cond c (Ok false) (Err (Forged line)))
+    there qa qb true that = λ t. commit_cases line p id (qa t) (qb t) (that t) (p.replica.server == p.replica.primary) (nat_lt (length p.replica.commits + 1) q) (nat_lt (count_of p.replica id.server) id.n) (id.n == committed_count p.replica id.server + 1)
+    there qa qb false that = λ t. commit_cases line p id (qa t) (qb t) (that t) (p.replica.server == p.replica.primary) (nat_lt (length p.replica.commits + 1) q) (nat_lt (count_of p.replica id.server) id.n) (id.n == committed_count p.replica id.server + 1)
 
     go : (a : Bool) → nat_le q p.replica.dropped ≡ a → (b : Bool) → nat_le q (length p.replica.commits) ≡ b → (d : Bool) → (p.replica.server == p.replica.primary) ≡ d → (e : Bool) → nat_lt (length p.replica.commits + 1) q ≡ e → (f : Bool) → nat_lt (count_of p.replica id.server) id.n ≡ f → (g : Bool) → (id.n == committed_count p.replica id.server + 1) ≡ g
-        → JudgedCommit line p q id (cond a (Ok false) (cond b (there_verdict line id (slice_get (kept_in_order p.replica) (q - 1 - p.replica.dropped))) (cond d (Err (PrimaryOnly line)) (cond e (Err (Gap line)) (cond f (Err (Gap line)) (cond (not g) (Err (OutOfOrder line)) (Ok true)))))))
+        → JudgedCommit line p q id (cond a (Ok false) (cond b (there_verdict line is_there) (cond d (Err (PrimaryOnly line)) (cond e (Err (Gap line)) (cond f (Err (Gap line)) (cond (not g) (Err (OutOfOrder line)) (Ok true)))))))
     go true qa b qb d qd e qe f qf g qg = λ t. commit_cases line p id (qa t) (nat_le q (length p.replica.commits)) (is_that_id (slice_get p.replica.commits (q - 1)) id) (p.replica.server == p.replica.primary) (nat_lt (length p.replica.commits + 1) q) (nat_lt (count_of p.replica id.server) id.n) (id.n == committed_count p.replica id.server + 1)
     go false qa true qb d qd e qe f qf g qg =
         let low : p.replica.dropped < q = grind (arith, nat_tests) in
         let high : q ≤ length p.replica.commits = grind (arith, nat_tests) in
-        let (w, kept, commit) = commit_at p.replica q sound low high in
-        subst (λ o. JudgedCommit line p q id (there_verdict line id o)) (sym kept) (there qa qb w commit (same_id (id_of w) id) refl)
+        subst (λ b. JudgedCommit line p q id (there_verdict line b)) (sym (is low high)) (there qa qb (is_that_id (slice_get p.replica.commits (q - 1)) id) refl)
     go false qa false qb true qd e qe f qf g qg = λ t. commit_cases line p id (qa t) (qb t) (is_that_id (slice_get p.replica.commits (q - 1)) id) (qd t) (nat_lt (length p.replica.commits + 1) q) (nat_lt (count_of p.replica id.server) id.n) (id.n == committed_count p.replica id.server + 1)
     go false qa false qb false qd true qe f qf g qg = λ t. commit_cases line p id (qa t) (qb t) (is_that_id (slice_get p.replica.commits (q - 1)) id) (qd t) (qe t) (nat_lt (count_of p.replica id.server) id.n) (id.n == committed_count p.replica id.server + 1)
     go false qa false qb false qd false qe true qf g qg = λ t. commit_cases line p id (qa t) (qb t) (is_that_id (slice_get p.replica.commits (q - 1)) id) (qd t) (qe t) (qf t) (id.n == committed_count p.replica id.server + 1)

@@ -1,28 +1,42 @@
 -- A candidate that takes a write or a commit shows the replica that takes it.
-use Rattle.std.proofs.Common.{◌≡◌, Bool, true, false, cond, List, [], ◌∷◌, ◌++◌, take, drop, ap, refl, sym, ◌∙◌, subst, append_assoc, inl}
+use Rattle.std.proofs.Common.{◌≡◌, ◌||◌, Bool, true, false, cond, List, [], ◌∷◌, ◌++◌, take, drop, ap, refl, sym, ◌∙◌, subst, append_assoc, inl}
 use Rattle.std.specs.Prelude.{bytes_eq}
 use Rattle.std.specs.List.{list_any, filter_map, cons_option}
 use Rattle.std.proofs.lemmas.List.{take-append-drop}
+use Rattle.std.proofs.lemmas.Slice.Eq.{bytes_eq-Decides}
 use Rattle.std.proofs.lemmas.List.Elements.{filter_map-append}
 use Rattle.mr_model.specs.Texts.{Text}
 use Rattle.mr_model.specs.Writes.{Id, Write}
-use Rattle.mr_model.specs.Replica.{Replica, IsReplica, write_with, with_write, with_room, tentative, AreInNameOrder, add_write, add_commit}
+use Rattle.mr_model.specs.Replica.{Replica, IsReplica, write_with, text_before, with_write, with_room, tentative, add_write, add_commit}
 use Rattle.mr_model.specs.Dropped.{Has}
 use Rattle.mr_model.specs.Kept.{kept_in_order}
 use Rattle.mr_model.specs.Changes.{IsNext, CommitMoved}
 use Rattle.mr_model.proofs.Members.{has_right}
 use Rattle.mr_model.proofs.KnownById.{with_id, tentative_known}
 use Rattle.mr_model.proofs.RoomPlaces.{kept_committed}
-use Rattle.mr_model.proofs.SubmitRows.{same_rooms}
 use Rattle.mr_model.proofs.TwinChanges.{committed-with, tentative-add_write, drop-front}
-use Rattle.mr_replica.specs.Candidate.{rooms_with}
 
-pub rooms-learned : (t : Text) (rooms : List Text) → AreInNameOrder rooms → rooms_with rooms t ≡ with_room t rooms
-rooms-learned t rooms ordered = go (list_any (bytes_eq t) rooms) refl
+-- ---- rooms
+
+-- a list with one room more
+pub any-with_room : (name t : Text) (ts : List Text) → list_any (bytes_eq name) (with_room t ts) ≡ (bytes_eq name t || list_any (bytes_eq name) ts)
+any-with_room name t [] = refl
+any-with_room name t (x ∷ xs) = go (text_before t x) (bytes_eq t x) refl (any-with_room name t xs)
   where
-    go : (b : Bool) → list_any (bytes_eq t) rooms ≡ b → cond b rooms (with_room t rooms) ≡ with_room t rooms
-    go true e = sym (same_rooms t rooms ordered e)
-    go false e = refl
+    twice : (a b : Bool) → (a || b) ≡ (a || (a || b))
+    twice true b = refl
+    twice false b = refl
+
+    turned : (a b c : Bool) → (a || (b || c)) ≡ (b || (a || c))
+    turned true true c = refl
+    turned true false c = refl
+    turned false b c = refl
+
+    go : (b c : Bool) → bytes_eq t x ≡ c → list_any (bytes_eq name) (with_room t xs) ≡ (bytes_eq name t || list_any (bytes_eq name) xs)
+        → list_any (bytes_eq name) (cond b (t ∷ x ∷ xs) (cond c (x ∷ xs) (x ∷ with_room t xs))) ≡ (bytes_eq name t || (bytes_eq name x || list_any (bytes_eq name) xs))
+    go true c e ih = refl
+    go false true e ih = twice (bytes_eq name x) (list_any (bytes_eq name) xs) ∙ ap (λ s. bytes_eq name s || (bytes_eq name x || list_any (bytes_eq name) xs)) (sym ((bytes_eq-Decides t x).0 e))
+    go false false e ih = ap (λ b. bytes_eq name x || b) ih ∙ turned (bytes_eq name x) (bytes_eq name t) (list_any (bytes_eq name) xs)
 
 -- ---- a write
 

@@ -10,6 +10,8 @@ pub mod Receiving
 pub mod Batching
 pub mod Moving
 pub mod BoardRows
+pub mod DeskNumbers
+pub mod DeskBoards
 pub mod DeskRows
 pub mod Writing
 pub mod Changing
@@ -38,10 +40,12 @@ pub mod Touching
 pub mod PickedRows
 pub mod Stamping
 pub mod PartScopes
+pub mod KeptWrites
 pub mod JudgingPart
 pub mod LearningPart
 pub mod ReceivingPart
 pub mod UndoRows
+pub mod ChangedRows
 pub mod Tails
 pub mod Named
 pub mod TouchedRooms

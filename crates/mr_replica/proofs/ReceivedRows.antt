@@ -1,7 +1,7 @@
 -- What a batch changes in the tables.
-use Rattle.std.proofs.Common.{◌≡◌, refl, sym, ap, ◌∙◌, subst, ℕ, ◌+◌, ◌<◌, not, Bool, true, false, List, [], ◌∷◌, take, ◌⊎◌, inl, inr, Result, Ok, Err, arith, IsTrue}
+use Rattle.std.proofs.Common.{◌≡◌, refl, sym, ap, ◌∙◌, subst, ℕ, ◌+◌, ◌-◌, ◌<◌, not, Bool, true, false, List, [], ◌∷◌, take, ◌⊎◌, inl, inr, Result, Ok, Err, arith, IsTrue}
 use Rattle.std.specs.Prelude.{bytes_eq}
-use Rattle.std.specs.List.{list_all, list_any}
+use Rattle.std.specs.List.{list_all, list_any, slice_get}
 use Rattle.std.proofs.lemmas.Bool.{true≢false, and_parts, or_cases}
 use Rattle.std.proofs.lemmas.Bool.Decides.{nat_tests}
 use Rattle.std.proofs.lemmas.Slice.Eq.{bytes_eq-Decides}
@@ -13,7 +13,7 @@ use Rattle.mr_model.specs.Replica.{Replica, IsReplica, text_before}
 use Rattle.mr_model.specs.Kept.{kept_in_order}
 use Rattle.mr_model.specs.Dropped.{Has}
 use Rattle.mr_model.specs.Queries.{booking_id, error_id}
-use Rattle.mr_model.specs.Taking.{Progress, take_item, take_items, take_write, take_commit, with_new_write, with_new_commit}
+use Rattle.mr_model.specs.Taking.{Progress, take_item, take_items, take_write, take_commit, is_that_id, with_new_write, with_new_commit}
 use Rattle.mr_model.proofs.BatchesReadBack.{ok_inj}
 use Rattle.mr_model.proofs.ChangesKeep.{keeps-add_commit}
 use Rattle.mr_model.proofs.Fronts.{take-front}
@@ -78,7 +78,7 @@ write-grows line p q w sound good e = go (write_verdict line (summary_of p.repli
     go (Err x) j = absurd (err≢ok (refusal_of x) q (sym j ∙ e))
 
 commit-grows : (line : ℕ) (p q : Progress) (n : ℕ) (id : Id) → IsReplica p.replica → id.server < 100 → take_commit line p n id ≡ Ok q → Grows p.replica q.replica
-commit-grows line p q n id sound small e = go (commit_verdict line (summary_of p.replica) (kept_in_order p.replica) n id) (judged_commit line p n id sound small)
+commit-grows line p q n id sound small e = go (commit_verdict line (summary_of p.replica) (is_that_id (slice_get p.replica.commits (n - 1)) id) n id) (judged_commit line p n id (is_that_id (slice_get p.replica.commits (n - 1)) id) sound small (λ low high. refl))
   where
     go : (v : Result Bool Refusal) → JudgedCommit line p n id v → Grows p.replica q.replica
     go (Ok true) j =

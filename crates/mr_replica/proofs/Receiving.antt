@@ -1,6 +1,6 @@
 -- Taking all items of a batch.
-use Rattle.std.proofs.Common.{◌≡◌, ℕ, zero, suc, ◌+◌, ◌<◌, ◌≤◌, ◌==◌, cond, not, Some, Bool, true, false, List, [], ◌∷◌, ◌++◌, length, drop, get_or, Result, Ok, Err, ap, refl, sym, ◌∙◌, subst, arith, IsTrue}
-use Rattle.std.specs.List.{list_all, filter_map}
+use Rattle.std.proofs.Common.{◌≡◌, ℕ, zero, suc, ◌+◌, ◌-◌, ◌<◌, ◌≤◌, ◌==◌, cond, not, Some, Bool, true, false, List, [], ◌∷◌, ◌++◌, length, drop, get_or, Result, Ok, Err, ap, refl, sym, ◌∙◌, subst, arith, IsTrue}
+use Rattle.std.specs.List.{list_all, filter_map, slice_get}
 use Rattle.std.specs.Result.{is_ok}
 use Rattle.std.proofs.lemmas.Bool.{true≢false, and_parts}
 use Rattle.std.proofs.lemmas.Bool.Decides.{nat_tests}
@@ -11,7 +11,7 @@ use Rattle.mr_model.specs.Refusals as model
 use Rattle.mr_model.specs.Exchange.{Item, W, C, Header, Batch, is_header, is_item, is_batch, is_batch_of}
 use Rattle.mr_model.specs.Replica.{Replica, IsReplica, write_with, with_write, tentative}
 use Rattle.mr_model.specs.Kept.{dropped_in_order, kept_in_order}
-use Rattle.mr_model.specs.Taking.{Progress, take_item, take_items, take_write, take_commit, with_new_write, with_new_commit}
+use Rattle.mr_model.specs.Taking.{Progress, take_item, take_items, take_write, take_commit, is_that_id, with_new_write, with_new_commit}
 use Rattle.mr_model.specs.Step.{after_items, step_unless, receive_under, receive_batch}
 use Rattle.mr_model.proofs.TakingKeeps.{IsItem, KeepsReplica, item_keeps}
 use Rattle.mr_model.proofs.TwinChanges.{dropped-add_write}
@@ -75,7 +75,7 @@ write-brings line p q w sound good e = go (write_verdict line (summary_of p.repl
 
 -- what a commit brings
 commit-brings : (line : ℕ) (p q : Progress) (n : ℕ) (id : Id) → IsReplica p.replica → id.server < 100 → take_commit line p n id ≡ Ok q → Brings p q
-commit-brings line p q n id sound small e = go (commit_verdict line (summary_of p.replica) (kept_in_order p.replica) n id) (judged_commit line p n id sound small)
+commit-brings line p q n id sound small e = go (commit_verdict line (summary_of p.replica) (is_that_id (slice_get p.replica.commits (n - 1)) id) n id) (judged_commit line p n id (is_that_id (slice_get p.replica.commits (n - 1)) id) sound small (λ low high. refl))
   where
     go : (v : Result Bool Refusal) → JudgedCommit line p n id v → Brings p q
     go (Ok true) j =

@@ -9,7 +9,7 @@ use Rattle.mr_model.specs.Writes.{Write, id_of}
 use Rattle.mr_model.specs.Replica.{Replica, IsReplica, count_of, is_committed, text_before}
 use Rattle.mr_model.specs.Replay.{Place, slot_at}
 use Rattle.mr_model.specs.Kept.{dropped_in_order, kept_in_order}
-use Rattle.mr_model.specs.Tables.{VectorRow, seq_of, place_of, vector_row, booking_row, error_row, tables_of}
+use Rattle.mr_model.specs.Tables.{VectorRow, seq_of, place_of, vector_row, undo_row, booking_row, error_row, tables_of}
 use Rattle.mr_model.specs.Queries.{booking_id, error_id}
 use Rattle.mr_model.specs.Dropped.{Has}
 use Rattle.mr_model.proofs.ReceivedPlaces.{append_split}
@@ -24,9 +24,10 @@ use Rattle.mr_tables.specs.declared.summary.Tally.{Tally}
 use Rattle.mr_tables.specs.Summary.{tally_at, tally_of}
 use Rattle.mr_replica.specs.Desk.{desk_of}
 use Rattle.mr_tables.specs.Change.{put_all, changed}
-use Rattle.mr_tables.specs.Rows.{seq_on, booking_with, error_with, booking_rows, error_rows}
+use Rattle.mr_tables.specs.Rows.{seq_on, undo_row_with, booking_with, error_with, booking_rows, error_rows}
 use Rattle.mr_tables.specs.Tallied.{tally_rows}
 use Rattle.mr_replica.specs.DeskTables.{desk_tables}
+use Rattle.mr_replica.specs.PickedUndo.{undo_with}
 use Rattle.mr_tables.specs.Written.{same_tally, changed_tallies, written}
 use Rattle.mr_replica.proofs.Logs.{length-undo_rows_of, undo_rows_of-append}
 use Rattle.mr_replica.proofs.BoardRows.{places_head}
@@ -77,6 +78,55 @@ written-of r b k ws rooms vector low f p =
     let undos = undo_rows_told (place_of r) b ws p in
     let books = booking-rows r b k ws low f p in
     let errors = error-rows r b k ws f p in
+    λ i. record {
+      meta = (tables_of r).meta;
+      room = rooms;
+      vector = vector;
+      dropped = [];
+      write_log = logs i;
+      undo = undos i;
+      unbooked = map error_id (errors i);
+      booking = books i;
+      unlogged = map booking_id (books i);
+      errorlog = errors i;
+    }
+
+-- what undoes writes that get these places
+pub undo_rows_are : (f : Write → Place) (b : Rows) (ws : List Write) → map (λ u. u.place) (undo_rows_of b ws) ≡ map f ws → undo_rows_of b ws ≡ map (undo_with f) ws
+undo_rows_are f b [] e = refl
+undo_rows_are f b (w ∷ ws) e =
+    let p = places_head f b w ws e in
+    let rest = undo_rows_are f (executed b w) ws p.1 in
+    λ i. record { id = id_of w; place = p.0 i } ∷ rest i
+
+-- ---- the rows of writes with the places that they have
+
+undo_given : (r : Replica) (ws : List Write) → map undo_row_with (map (undo_with (place_of r)) ws) ≡ map (undo_row r) ws
+undo_given r [] = refl
+undo_given r (w ∷ ws) = ap (λ rows. undo_row r w ∷ rows) (undo_given r ws)
+
+booking_given : (r : Replica) (k : ℕ) (ws : List Write) → 1 ≤ k → AreNumbered r k ws → booking_rows (length r.commits) k ws (map (undo_with (place_of r)) ws) ≡ filter_map (booking_row r) ws
+booking_given r k [] low f = refl
+booking_given r k (w ∷ ws) low f =
+    let mark = marked r k w low (numbered_first r k w ws f) in
+    let rest = booking_given r (k + 1) ws (omega (arith, low)) (numbered_rest r k w ws f) in
+    (λ i. cons_option (booking_with w (sym mark i) (slot_at w (place_of r w))) (rest i))
+    ∙ ap (λ o. cons_option o (filter_map (booking_row r) ws)) (sym (booking-with r w (slot_at w (place_of r w))))
+
+error_given : (r : Replica) (k : ℕ) (ws : List Write) → AreNumbered r k ws → error_rows (length r.commits) k ws (map (undo_with (place_of r)) ws) ≡ filter_map (error_row r) ws
+error_given r k [] f = refl
+error_given r k (w ∷ ws) f =
+    let seq = numbered_first r k w ws f in
+    let rest = error_given r (k + 1) ws (numbered_rest r k w ws f) in
+    (λ i. cons_option (error_with w (sym seq i) (place_of r w)) (rest i))
+    ∙ ap (λ o. cons_option o (filter_map (error_row r) ws)) (sym (error-with r w (place_of r w)))
+
+pub written_given : (r : Replica) (k : ℕ) (ws : List Write) (rooms : List Text) (vector : List VectorRow) → 1 ≤ k → AreNumbered r k ws → written (tables_of r).meta rooms vector (length r.commits) k ws (map (undo_with (place_of r)) ws) ≡ change_of r ws rooms vector
+written_given r k ws rooms vector low f =
+    let logs = numbered r k ws f in
+    let undos = undo_given r ws in
+    let books = booking_given r k ws low f in
+    let errors = error_given r k ws f in
     λ i. record {
       meta = (tables_of r).meta;
       room = rooms;

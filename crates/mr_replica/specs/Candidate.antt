@@ -1,9 +1,6 @@
 -- What becomes of an item of a batch, by what is known and kept.
-use Rattle.std.specs.Prelude.{ℕ, ◌+◌, ◌-◌, Bool, true, false, not, if◌then◌else◌, ◌==◌, nat_lt, nat_le, List, find, slice_get, bytes_eq, Option, Some, None, Result, Ok, Err}
-use Rattle.std.specs.List.{list_any}
-use Rattle.mr_model.specs.Texts.{Text}
+use Rattle.std.specs.Prelude.{ℕ, ◌+◌, Bool, true, false, not, if◌then◌else◌, ◌==◌, nat_lt, nat_le, List, find, Option, Some, None, Result, Ok, Err}
 use Rattle.mr_model.specs.Writes.{Id, Write, id_of, same_id, same_write}
-use Rattle.mr_model.specs.Replica.{with_room}
 use Rattle.mr_base.specs.declared.refusals.Refusal.{Refusal}
 use Rattle.mr_base.specs.declared.refusals.Refusal.TheVariants.{Gap, OutOfOrder, Forged, OwnWrite, PrimaryOnly}
 use Rattle.mr_tables.specs.declared.summary.Tally.{Tally}
@@ -36,29 +33,20 @@ write_verdict_by line tally own kept w = write_verdict_with line tally own (writ
 abbrev pub write_verdict : ℕ → Summary → List Write → Write → Result Bool Refusal
 write_verdict line s kept w = write_verdict_by line (tally_at s.tallies w.stamp.server) s.server kept w
 
--- of a commit that is known and not dropped
-abbrev pub there_verdict : ℕ → Id → Option Write → Result Bool Refusal
-there_verdict line id None = Err (Forged line)
-there_verdict line id (Some w) = if same_id (id_of w) id then Ok false else Err (Forged line)
+-- of a commit that is known and not dropped: whether it is of this id
+abbrev pub there_verdict : ℕ → Bool → Result Bool Refusal
+there_verdict line is_there = if is_there then Ok false else Err (Forged line)
 
--- by what is known of the server, and the kept write of that commit number
-abbrev pub commit_verdict_with : ℕ → Tally → Summary → Option Write → ℕ → Id → Result Bool Refusal
-commit_verdict_with line tally s there q id =
+-- by what is known of the server, and whether the kept write of the id has that commit number
+abbrev pub commit_verdict_with : ℕ → Tally → Summary → Bool → ℕ → Id → Result Bool Refusal
+commit_verdict_with line tally s is_there q id =
     if nat_le q s.dropped then Ok false
-    else (if nat_le q s.commits then there_verdict line id there
+    else (if nat_le q s.commits then there_verdict line is_there
     else (if s.server == s.primary then Err (PrimaryOnly line)
     else (if nat_lt (s.commits + 1) q then Err (Gap line)
     else (if nat_lt tally.count id.n then Err (Gap line)
     else (if not (id.n == tally.committed + 1) then Err (OutOfOrder line)
     else Ok true)))))
 
-abbrev pub commit_verdict_by : ℕ → Tally → Summary → List Write → ℕ → Id → Result Bool Refusal
-commit_verdict_by line tally s kept q id = commit_verdict_with line tally s (slice_get kept (q - 1 - s.dropped)) q id
-
-abbrev pub commit_verdict : ℕ → Summary → List Write → ℕ → Id → Result Bool Refusal
-commit_verdict line s kept q id = commit_verdict_by line (tally_at s.tallies id.server) s kept q id
-
--- ---- additions
-
-abbrev pub rooms_with : List Text → Text → List Text
-rooms_with rooms t = if list_any (bytes_eq t) rooms then rooms else with_room t rooms
+abbrev pub commit_verdict : ℕ → Summary → Bool → ℕ → Id → Result Bool Refusal
+commit_verdict line s is_there q id = commit_verdict_with line (tally_at s.tallies id.server) s is_there q id

@@ -1,5 +1,5 @@
 -- A reader of the contracts trusts Log, Desk, Steps, Candidate, DeskTables, Turning, ChangeLaws, KeptRows, SoundLog, Parts and
--- ScopeOf. The others, Outgoing, Moves, Received, PartCandidate, PartMoves, PickedLogs, PickedBookings, PickedUndo, Tails, Named, Touched and LogTests, serve private clauses and
+-- ScopeOf. The others, Outgoing, Moves, Received, KeptWrites, PartCandidate, PartMoves, Changed, PickedLogs, PickedBookings, PickedUndo, Tails, Named, Touched and LogTests, serve private clauses and
 -- proofs alone.
 pub mod Log
 pub mod Desk
@@ -13,6 +13,7 @@ pub mod KeptRows
 pub mod SoundLog
 pub mod Parts
 pub mod PartMoves
+pub mod Changed
 pub mod ScopeOf
 pub mod PickedLogs
 pub mod Tails
@@ -21,6 +22,7 @@ pub mod Touched
 pub mod LogTests
 pub mod PickedBookings
 pub mod PickedUndo
+pub mod KeptWrites
 pub mod PartCandidate
 pub mod Moves
 pub mod Received

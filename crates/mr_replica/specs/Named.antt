@@ -8,7 +8,6 @@ use Rattle.mr_model.specs.Texts.{Text}
 use Rattle.mr_model.specs.Writes.{Id}
 use Rattle.mr_model.specs.Replica.{is_among}
 use Rattle.mr_model.specs.Exchange.{Item}
-use Rattle.mr_model.specs.Tables.{LogRow}
 use Rattle.mr_model.specs.Scopes.{item_id, has_number}
 use Rattle.mr_replica.specs.declared.scope_items.Named.{Named}
 

@@ -9,15 +9,18 @@ use Rattle.mr_model.specs.Dropped.{Has}
 use Rattle.mr_model.specs.Scopes.{OfItems}
 use Rattle.mr_model.specs.Moving.{may_move, again, BatchMoves}
 use Rattle.mr_replay.specs.Places.{UndoRow}
+use Rattle.mr_replay.specs.Rows.{Rows}
 use Rattle.mr_tables.specs.declared.summary.Summary.{Summary}
 use Rattle.mr_tables.specs.Summary.{summary_of}
-use Rattle.mr_replica.specs.Parts.{PartView, IsPartOf}
+use Rattle.mr_replica.specs.Parts.{part_of}
 
--- The batch leads from the first replica, whose part this is, to the second one, whose numbers and rooms these are; the undo
--- rows are those of the tentative writes that it may move, and the writes are those that it has executed anew.
-pub record MovesPart (part : PartView) (items : List Item) (a b : Replica) (summary : Summary) (rooms : List Text) (undone : List UndoRow) (writes : List Write) : Type 0 where
+-- The batch leads from the first replica, whose part has these numbers, rooms and board, to the second one, whose numbers and rooms
+-- are those; the undo rows are those of the tentative writes that it may move, and the writes are those that it has executed anew.
+pub record MovesPart (old : Summary) (known : List Text) (board : Rows) (items : List Item) (a b : Replica) (summary : Summary) (rooms : List Text) (undone : List UndoRow) (writes : List Write) : Type 0 where
   pub sound : IsReplica a
-  pub is_part : IsPartOf part (OfItems items) a
+  pub old_is : old ≡ summary_of a
+  pub known_are : known ≡ a.rooms
+  pub board_is : board ≡ (part_of (OfItems items) a).board
   pub moves : BatchMoves a b items
   pub keeps_rooms : (t : Text) → Has t a.rooms → Has t b.rooms
   pub summary_is : summary ≡ summary_of b

@@ -26,13 +26,13 @@ use crate::desk_replay::{joined_rows, parted_rows};
 use crate::log::Log;
 use crate::movable::rooms_touched;
 use crate::part_again::again_in;
-use crate::part_candidate::PartCandidate;
+use crate::part_candidate::{Reached, reached_with};
 use crate::part_moved::rewritten;
+use crate::room_sets::unknown_rooms;
 use crate::scope_logs::{LoggedWrite, writes_alone};
 use mr_base::{Batch, Item, Refusal, Write};
 use mr_replay::{Board, UndoRow};
 use mr_tables::Change;
-use mr_tables::rooms::unknown_rooms;
 use mr_tables::summary::Summary;
 use mr_tables::written::empty;
 use std::alloc::Global;
@@ -81,13 +81,10 @@ impl Desk {
         ensures own { NeverStore result }
     {
         let marks = self.marks()?;
-        let candidate = self.candidate(items, &marks)?;
-        let writes = candidate.kept.len().saturating_sub(self.log.kept().len()) as u64;
-        let commits = candidate
-            .summary
-            .commits
-            .saturating_sub(self.summary.commits);
-        let change = self.adopt(items, &marks, candidate)?;
+        let reached = self.reached(items, &marks)?;
+        let writes = reached.kept.len().saturating_sub(self.log.kept().len()) as u64;
+        let commits = reached.summary.commits.saturating_sub(self.summary.commits);
+        let change = self.adopt(items, &marks, reached)?;
         Ok((writes, commits, change))
     }
 
@@ -105,53 +102,41 @@ impl Desk {
     }
 
     /// What the desk is with all items, or why the batch is refused. Its kept writes have these commit numbers.
-    fn candidate(&self, items: &[Item], marks: &[u64]) -> Result<PartCandidate, Refusal>
+    fn reached(&self, items: &[Item], marks: &[u64]) -> Result<Reached, Refusal>
         ensures takes { IsTrue (list_all is_item (map item_of items.now)) → length items.now + 2 < 2 ^ 64
             → (a : Replica) → IsReplica a → StandsFor self.now a → marks.now ≡ map (seq_of a) (kept_in_order a)
             → TakenPicked a all_writes (take_items (map item_of items.now) 2 (Ok (nothing_taken a))) result }
         ensures own { NeverStore result }
     {
-        let mut candidate = PartCandidate::new(
-            self.alloc,
-            self.summary,
-            &self.rooms,
-            self.log.kept(),
-            marks,
-        )?;
-        candidate.take_all(items)?;
-        Ok(candidate)
+        let kept = self.log.kept_copied(self.alloc)?;
+        let reached = reached_with(self.alloc, self.summary, &self.rooms, kept, marks, items)?;
+        Ok(reached)
     }
 
-    /// Becomes what the candidate is, and answers what that changes in the tables: in the rooms that the items touch the
+    /// Becomes what is reached, and answers what that changes in the tables: in the rooms that the items touch the
     /// executions that they may move are undone, and the new order is executed.
-    fn adopt(
-        &mut self,
-        items: &[Item],
-        marks: &[u64],
-        candidate: PartCandidate,
-    ) -> Result<Change, Refusal>
-        ensures reached { (a b : Replica) → Reaches self.old (map item_of items.now) candidate.summary candidate.rooms candidate.kept a b → marks.now ≡ map (seq_of a) (kept_in_order a)
+    fn adopt(&mut self, items: &[Item], marks: &[u64], reached: Reached) -> Result<Change, Refusal>
+        ensures reached { (a b : Replica) → Reaches self.old (map item_of items.now) reached.summary reached.rooms reached.kept a b → marks.now ≡ map (seq_of a) (kept_in_order a)
             → IfOk result (λ change. (changed change (tables_of a) ≡ tables_of b) × StandsFor self.new b) }
         ensures err { OnErr result (self.new ≡ self.old) }
         ensures only { IfErr result (λ e. e ≡ Refusal.OutOfMemory) }
     {
-        let PartCandidate {
-            alloc,
+        let Reached {
             summary,
             rooms,
             kept,
-        } = candidate;
+        } = reached;
         let replay = self.replay(items, marks, &kept)?;
-        let unknown = unknown_rooms(alloc, &self.rooms, &rooms)?;
+        let unknown = unknown_rooms(self.alloc, &self.rooms, &rooms)?;
         let change = rewritten(
-            alloc,
+            self.alloc,
             &self.summary,
             &summary,
             unknown,
             &replay.again,
             &replay.rows,
         )?;
-        let log = log_with(alloc, kept, replay)?;
+        let log = log_with(self.alloc, kept, replay)?;
         self.log = log;
         self.summary = summary;
         self.rooms = rooms;

@@ -51,15 +51,16 @@ fn judge_known(line: u64, write: &Write, kept: Option<&Write>) -> Result<bool, R
     }
 }
 
-/// Whether a commit in this line is new, and not one that is known or dropped. `there` is the kept write of its number.
+/// Whether a commit in this line is new, and not one that is known or dropped. `is_there` says whether the kept write of its id
+/// has its number.
 pub(crate) fn judge_commit(
     summary: &Summary,
     line: u64,
     seq: CommitNumber,
     id: WriteId,
-    there: Option<&Write>,
+    is_there: bool,
 ) -> Result<bool, Refusal>
-    ensures verdict { result ≡ commit_verdict_with line (tally_at summary.now.tallies id.server) summary.now (option_copied there.entry) seq id }
+    ensures verdict { result ≡ commit_verdict_with line (tally_at summary.now.tallies id.server) summary.now is_there seq id }
     ensures own { NeverStore result }
     ensures in_range { id.server < 100 }
 {
@@ -69,7 +70,7 @@ pub(crate) fn judge_commit(
         return Ok(false);
     }
     if q <= summary.commits {
-        return judge_there(line, id, there);
+        return judge_there(line, is_there);
     }
     if summary.server == summary.primary {
         return Err(Refusal::PrimaryOnly(line));
@@ -87,18 +88,13 @@ pub(crate) fn judge_commit(
 }
 
 /// Whether a known commit is to be skipped: it is where it is of this id.
-fn judge_there(line: u64, id: WriteId, kept: Option<&Write>) -> Result<bool, Refusal>
-    ensures verdict { result ≡ there_verdict line id (option_copied kept.entry) }
+fn judge_there(line: u64, is_there: bool) -> Result<bool, Refusal>
+    ensures verdict { result ≡ there_verdict line is_there }
     ensures own { NeverStore result }
 {
-    match kept {
-        None => Err(Refusal::Forged(line)),
-        Some(kept) => {
-            if kept.stamp.id() == id {
-                Ok(false)
-            } else {
-                Err(Refusal::Forged(line))
-            }
-        }
+    if is_there {
+        Ok(false)
+    } else {
+        Err(Refusal::Forged(line))
     }
 }

@@ -7,47 +7,58 @@ ghost use Rattle.mr_tables.specs.Change.{changed};
 ghost use Rattle.mr_tables.specs.Written.{meta_of, changed_tallies as rows_changed, written};
 ghost use Rattle.mr_replica.specs.PartMoves.{MovesPart};
 
-use crate::Part;
+use crate::part_candidate::Reached;
+use crate::part_changed::changed_of;
+use crate::room_sets::unknown_rooms;
 use mr_base::{Refusal, RoomName, Write};
-use mr_replay::UndoRow;
+use mr_replay::{Board, UndoRow};
 use mr_tables::Change;
-use mr_tables::rooms::unknown_rooms;
 use mr_tables::summary::Summary;
 use mr_tables::vector::changed_tallies;
 use mr_tables::written::written;
 use std::alloc::Global;
 
-impl Part {
-    /// What a batch changes in the tables that leads to these numbers and rooms: in the rooms that it touches these executions
-    /// are undone, and these writes are executed, the new commits first.
-    pub(crate) fn moved(
-        &self,
-        summary: &Summary,
-        rooms: &[RoomName],
-        undone: &[UndoRow],
-        again: &[Write],
-    ) -> Result<Change, Refusal>
-        ensures turns { (items : List Item) (a b : Replica) → MovesPart self.now items a b summary.now rooms.now undone.now again.now
-            → IfOk result (λ change. changed change (tables_of a) ≡ tables_of b) }
-        ensures only { IfErr result (λ e. e ≡ Refusal.OutOfMemory) }
-    {
-        let rows = self.replayed(undone, again)?;
-        let unknown = unknown_rooms(self.alloc, &self.rooms, rooms)?;
-        let change = rewritten(self.alloc, &self.summary, summary, unknown, again, &rows)?;
-        Ok(change)
-    }
+/// What a batch changes in the tables that leads from these numbers and known rooms to what is reached: on the board, which has the
+/// bookings in the rooms that it touches, these executions are undone, and these writes are executed, the new commits first. A write that gets
+/// the place and the number that it had keeps its rows, and isn't put.
+pub(crate) fn moved(
+    alloc: Global,
+    old: &Summary,
+    known: &[RoomName],
+    board: Board,
+    reached: &Reached,
+    undone: &[UndoRow],
+    again: &[Write],
+) -> Result<Change, Refusal>
+    ensures turns { (items : List Item) (a b : Replica) → MovesPart old.now known.now board items a b reached.now.summary reached.now.rooms undone.now again.now
+        → IfOk result (λ change. changed change (tables_of a) ≡ tables_of b) }
+    ensures only { IfErr result (λ e. e ≡ Refusal.OutOfMemory) }
+{
+    let rows = replayed(board, undone, again)?;
+    let news = reached.summary.commits.saturating_sub(old.commits);
+    let changed = changed_of(alloc, undone, news, again, &rows)?;
+    let unknown = unknown_rooms(alloc, known, &reached.rooms)?;
+    let change = rewritten(
+        alloc,
+        old,
+        &reached.summary,
+        unknown,
+        &changed.writes,
+        &changed.rows,
+    )?;
+    Ok(change)
+}
 
-    /// What undoes these writes, executed where those executions are undone. One board serves all rooms: the executions of
-    /// one of them leave the bookings of the others as they are.
-    fn replayed(&self, undone: &[UndoRow], again: &[Write]) -> Result<Vec<UndoRow>, Refusal>
-        ensures rows { IfOk result (λ rows. rows.items ≡ undo_rows_of (undone_all self.now.board undone.now) again.now) }
-        ensures only { IfErr result (λ e. e ≡ Refusal.OutOfMemory) }
-    {
-        let mut board = self.board.copy()?;
-        board.undo_all(undone);
-        let rows = board.redo_from(again)?;
-        Ok(rows)
-    }
+/// What undoes these writes, executed where those executions are undone. One board serves all rooms: the executions of
+/// one of them leave the bookings of the others as they are.
+fn replayed(board: Board, undone: &[UndoRow], again: &[Write]) -> Result<Vec<UndoRow>, Refusal>
+    ensures rows { IfOk result (λ rows. rows.items ≡ undo_rows_of (undone_all board undone.now) again.now) }
+    ensures only { IfErr result (λ e. e ≡ Refusal.OutOfMemory) }
+{
+    let mut board = board;
+    board.undo_all(undone);
+    let rows = board.redo_from(again)?;
+    Ok(rows)
 }
 
 /// The change from the old numbers to the new ones, with these rooms more, where these writes stand behind the old commits.

@@ -124,7 +124,7 @@ pub(crate) fn numbers_of(alloc: Global, logged: &[LoggedWrite]) -> Result<Vec<u6
 }
 
 /// Puts the writes into the order of execution.
-fn sort_writes(writes: &mut Vec<LoggedWrite>)
+pub(crate) fn sort_writes(writes: &mut Vec<LoggedWrite>)
     ensures moved { IsPermutation writes.old.items writes.new.items }
     ensures sorted { IsSortedByKey logged_place run_cmp writes.new.items }
 {

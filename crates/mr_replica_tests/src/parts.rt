@@ -27,12 +27,12 @@ static CASES: [Case; 7] = [
     (1, &[Line::C(1, 2, 1)], Err(Refusal::Forged(2)), NOTHING),
     (1, &[Line::C(3, 2, 1)], Err(Refusal::Gap(2)), NOTHING),
     (1, &[Line::C(2, 2, 1)], Ok((0, 1)), (NONE, NONE, (2, 1, 2))),
-    // The write of server 2 stands behind this one, and is executed anew.
+    // The write of server 2 stands behind this one, and is executed anew: it stays in the error log, and isn't put.
     (
         1,
         &[Line::W(1, 1, 1, AT_TWO_ELSE_FOUR)],
         Ok((1, 0)),
-        ((1, 1, 960), NONE, (2, 1, 0)),
+        ((1, 1, 960), NONE, NO_ERROR),
     ),
 ];
 

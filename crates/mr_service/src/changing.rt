@@ -51,7 +51,7 @@ pub(crate) fn receive<K: Keeper>(
 {
     let batch = read_batch(alloc, bytes)?;
     let part = load(keeper, &Scope::Items(batch.items.as_slice()))?;
-    change(keeper, turns::receive(&part, &batch))
+    change(keeper, turns::receive(part, &batch))
 }
 
 /// Commits the first k tentative writes.

@@ -49,8 +49,8 @@ fn outcome_in(change: &Change) -> Option<Outcome>
 }
 
 /// Takes a batch, or refuses all of it.
-pub(crate) fn receive(part: &Part, batch: &Batch) -> Result<(Reply, Change), Refusal>
-    ensures { TurnsBy (scopes.OfItems batch.now.items) (λ a. model.receive_batch a batch.now) part.now result }
+pub(crate) fn receive(part: Part, batch: &Batch) -> Result<(Reply, Change), Refusal>
+    ensures { TurnsBy (scopes.OfItems batch.now.items) (λ a. model.receive_batch a batch.now) part result }
 {
     let (writes, commits, change) = part.receive(batch)?;
     Ok((Reply::Took { writes, commits }, change))

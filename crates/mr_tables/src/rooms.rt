@@ -1,7 +1,7 @@
 ghost use Rattle.std.specs.Prelude.{◌≡◌, ◌≤◌, true, false, length, bytes_eq, OnOk, OnErr, IfOk, IfErr};
 ghost use Rattle.std.specs.List.{list_any};
 ghost use Rattle.mr_model.specs.Replica.{text_before, with_room};
-ghost use Rattle.mr_tables.specs.Rooms.{room_place, rooms_beside};
+ghost use Rattle.mr_tables.specs.Rooms.{room_place};
 
 use mr_base::{Refusal, RoomName};
 use std::alloc::Global;
@@ -52,24 +52,6 @@ pub(crate) fn is_before(name: &RoomName, other: &RoomName) -> bool
     ensures { result ≡ text_before name.now other.now }
 {
     *name < *other
-}
-
-/// Those of the rooms that are not among the known ones.
-pub fn unknown_rooms(
-    alloc: Global,
-    known: &[RoomName],
-    rooms: &[RoomName],
-) -> Result<Vec<RoomName>, Refusal>
-    ensures unknown { IfOk result (λ unknown. unknown.items ≡ rooms_beside known.now rooms.now) }
-    ensures only { IfErr result (λ e. e ≡ Refusal.OutOfMemory) }
-{
-    let mut unknown = Vec::new(alloc);
-    for room in rooms {
-        if !is_known(known, room) {
-            unknown.push(room.copy(alloc)?)?;
-        }
-    }
-    Ok(unknown)
 }
 
 /// Equal names in the same order.

@@ -1,4 +1,4 @@
-use Rattle.std.proofs.Common.{◌∙◌, Ok, map, ap, sym, subst}
+use Rattle.std.proofs.Common.{◌∙◌, Ok, ap, sym, subst}
 use Rattle.mr_base.specs.Answers.{OrOutOfMemory}
 use Rattle.mr_replica.specs.Moves.{is_anew}
 use Rattle.mr_replica.specs.declared.scope_logs.LoggedWrite.{LoggedWrite}

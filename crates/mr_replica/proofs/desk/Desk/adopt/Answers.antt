@@ -8,7 +8,7 @@ use Rattle.mr_tables.specs.Change.{changed}
 use Rattle.mr_tables.specs.Rooms.{rooms_beside}
 use Rattle.mr_tables.specs.Written.{meta_of, changed_tallies, written}
 use Rattle.mr_replica.specs.Desk.{DeskView, StandsFor}
-use Rattle.mr_replica.specs.PartCandidate.{PartCandidateView}
+use Rattle.mr_replica.specs.PartCandidate.{ReachedView}
 use Rattle.mr_replica.specs.Received.{Reaches}
 use Rattle.mr_replica.proofs.DeskMoves.{new_picked}
 use Rattle.mr_replica.proofs.DeskReceives.{desk_moved, desk_after}
@@ -39,10 +39,10 @@ pub returns-clause-reached : goal.returns-clause-reached
 returns-clause-reached c = λ a b reaches marks.
     let d = c.args.self.now in
     let items = map item_of c.args.items.now in
-    let k = c.candidate.inside in
-    let e = c.candidate.view_is in
+    let k = c.reached.inside in
+    let e = c.reached.view_is in
     let v = c.self.view_is in
-    let whole : Reaches d items k.summary k.rooms.items k.kept.items a b = subst (λ (x : PartCandidateView). Reaches d items x.summary x.rooms x.kept a b) (sym e) reaches in
+    let whole : Reaches d items k.summary k.rooms.items k.kept.items a b = subst (λ (x : ReachedView). Reaches d items x.summary x.rooms x.kept a b) (sym e) reaches in
     let t : Reaches d items k.summary k.rooms.items c.deref.result.now a b = subst (λ xs. Reaches d items k.summary k.rooms.items xs a b) (sym c.deref.ensures.value) whole in
     let anew = again a items t.moves.news b in
     let r = c.in_ok-replay.ensures.replayed a b k.summary k.rooms.items t marks in

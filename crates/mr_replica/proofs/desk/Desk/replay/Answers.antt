@@ -19,12 +19,13 @@ use Rattle.mr_replica.specs.PickedBookings.{AreSameRooms}
 use Rattle.mr_replica.specs.PickedLogs.{logged_of}
 use Rattle.mr_replica.specs.PickedUndo.{undo_with}
 use Rattle.mr_replica.specs.Received.{Reaches, IsReplayed, all_writes}
-use Rattle.mr_replica.proofs.DeskMoves.{others_rows, new_places, new_board, undo_rows_are}
+use Rattle.mr_replica.proofs.DeskMoves.{others_rows, new_places, new_board}
 use Rattle.mr_replica.proofs.DeskReceives.{undone_named, desk_undo}
 use Rattle.mr_replica.proofs.Moves.{touched_told, all_pass}
 use Rattle.mr_replica.proofs.PartMoves.{moving}
 use Rattle.mr_replica.proofs.Logs.{length-undo_rows_of}
 use Rattle.mr_replica.proofs.desk.Desk.replay.Goals as goal
+use Rattle.mr_replica.proofs.Writing.{undo_rows_are}
 
 module _ (c : goal.After-drop-touched-2) (a b : Replica) (summary : Summary) (rooms : List Text) (t : Reaches c.args.self.now (map item_of c.args.items.now) summary rooms c.args.kept.now a b) (marks : c.args.marks.now ≡ map (seq_of a) (kept_in_order a)) where
   abbrev items : List Item

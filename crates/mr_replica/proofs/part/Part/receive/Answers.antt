@@ -36,7 +36,7 @@ returns-in_err-taken-clause-step c = λ a sound part.
     let primary = ap (λ (v : PartView). v.summary.primary) (c.self.view_is ∙ part) in
     let own : (c.in-Some.primary == a.primary) ≡ true = own_primary c.in-Some.primary c.self.inside.summary.primary a.primary c.ne.result c.ne.ensures c.if-ne.false primary in
     let step = ap (λ xs. after_items a (take_items xs 2 (Ok (nothing_taken a)))) items ∙ sym (receive_done a c.args.batch.now h header own) in
-    let mine = subst (λ (xs : List Item). IsPartOf c.args.self.now (OfItems xs) a) (sym items) part in
+    let mine = subst (λ (xs : List Item). IsPartOf c.args.self (OfItems xs) a) (sym items) part in
     subst (λ r. Owed a r (receive_batch a c.args.batch.now)) (sym (p.1 ∙ ap Err p.2))
     (subst (Owed a (Err c.in_err-taken.field-0.0)) step (c.in_err-taken.ensures.step good short a sound mine))
 
@@ -54,7 +54,7 @@ returns-clause-step c = λ a sound part.
     let primary = ap (λ (v : PartView). v.summary.primary) (c.self.view_is ∙ part) in
     let own : (c.in-Some.primary == a.primary) ≡ true = own_primary c.in-Some.primary c.self.inside.summary.primary a.primary c.ne.result c.ne.ensures c.if-ne.false primary in
     let step = ap (λ xs. after_items a (take_items xs 2 (Ok (nothing_taken a)))) items ∙ sym (receive_done a c.args.batch.now h header own) in
-    let mine = subst (λ (xs : List Item). IsPartOf c.args.self.now (OfItems xs) a) (sym items) part in
+    let mine = subst (λ (xs : List Item). IsPartOf c.args.self (OfItems xs) a) (sym items) part in
     subst (Owed a (Ok c.in_ok-taken.taken)) step (c.in_ok-taken.ensures.step good short a sound mine)
 
 -- a batch without a header changes nothing

@@ -1,26 +1,35 @@
-use Rattle.std.proofs.Common.{Ok, Err, map, ap, ◌∙◌, inl, inr}
+use Rattle.std.proofs.Common.{Err, map, ap, sym, ◌∙◌, subst, inr}
 use Rattle.std.proofs.lemmas.Result.{err_from_is_err_and}
-use Rattle.mr_model.specs.Taking.{take_items}
 use Rattle.mr_base.specs.Batches.{item_of}
-use Rattle.mr_replica.specs.Desk.{nothing_taken}
-use Rattle.mr_replica.specs.PartCandidate.{HasTaken}
-use Rattle.mr_replica.proofs.ReceivingPart.{part_received, part_refused}
+use Rattle.mr_replica.specs.Moves.{AreTouched}
+use Rattle.mr_replica.specs.PartCandidate.{AnswersItems}
 use Rattle.mr_replica.proofs.part.Part.take_items.Goals as goal
 
-pub returns-in_err-candidate-clause-step : goal.returns-in_err-candidate-clause-step
-returns-in_err-candidate-clause-step c = λ good short a sound part.
+pub returns-in_err-touched-clause-step : goal.returns-in_err-touched-clause-step
+returns-in_err-touched-clause-step c = λ good short a sound part.
     let x = err_from_is_err_and c.from_residual.result c.from_residual.ensures.1 in
-    let items = map item_of c.args.items.now in
-    part_refused a (take_items items 2 (Ok (nothing_taken a))) c.from_residual.result c.in_err-candidate.field-0.0 (x.1 ∙ ap Err x.2) (c.in_err-candidate.ensures.takes good short a sound part)
+    inr (x.1 ∙ ap Err (x.2 ∙ c.in_err-touched.ensures.only))
+
+pub returns-in_err-undone-clause-step : goal.returns-in_err-undone-clause-step
+returns-in_err-undone-clause-step c = λ good short a sound part.
+    let x = err_from_is_err_and c.from_residual-in_err-undone.result c.from_residual-in_err-undone.ensures.1 in
+    inr (x.1 ∙ ap Err (x.2 ∙ c.in_err-undone.ensures.only))
 
 pub returns-in_err-taken-clause-step : goal.returns-in_err-taken-clause-step
 returns-in_err-taken-clause-step c = λ good short a sound part.
     let x = err_from_is_err_and c.from_residual-in_err-taken.result c.from_residual-in_err-taken.ensures.1 in
-    inr (x.1 ∙ ap Err (x.2 ∙ c.in_err-taken.ensures.only))
+    let items = map item_of c.args.items.now in
+    let mine = c.in_ok-touched.ensures.rooms a sound part in
+    let touched = subst (λ rooms. AreTouched rooms a items) (sym c.deref.ensures.value) mine in
+    let touched' = subst (λ rooms. AreTouched rooms a items) (sym c.deref-2.ensures.value) mine in
+    let undone = c.deref-3.ensures.value ∙ c.in_ok-undone.ensures.rows a sound part touched in
+    subst (AnswersItems a items) (sym (x.1 ∙ ap Err x.2)) (c.in_err-taken.ensures.step good short a sound part touched' undone)
 
 pub returns-clause-step : goal.returns-clause-step
 returns-clause-step c = λ good short a sound part.
     let items = map item_of c.args.items.now in
-    let t = c.in_ok-candidate.ensures.takes good short a sound part in
-    let taken : HasTaken c.args.self.now items c.in_ok-candidate.candidate a t.0 = record { sound = sound; is_part = part; good = good; taken = t.1; shows = t.2 } in
-    inl (part_received a items c.args.self.now c.in_ok-candidate.candidate t.0 c.in_ok-taken.taken taken c.in_ok-taken.ensures.writes c.in_ok-taken.ensures.commits (c.in_ok-taken.ensures.change a t.0 taken))
+    let mine = c.in_ok-touched.ensures.rooms a sound part in
+    let touched = subst (λ rooms. AreTouched rooms a items) (sym c.deref.ensures.value) mine in
+    let touched' = subst (λ rooms. AreTouched rooms a items) (sym c.deref-2.ensures.value) mine in
+    let undone = c.deref-3.ensures.value ∙ c.in_ok-undone.ensures.rows a sound part touched in
+    c.in_ok-taken.ensures.step good short a sound part touched' undone

@@ -1,11 +1,9 @@
-use Rattle.std.proofs.Common.{◌≡◌, true, false, get_or, length, Ok, Err, ap, sym, ◌∙◌, subst, inl, inr}
-use Rattle.std.proofs.lemmas.Bool.{true≢false, lt-ltb}
+use Rattle.std.proofs.Common.{true, false, Ok, Err, ap, sym, ◌∙◌, subst, inl}
+use Rattle.std.proofs.lemmas.Bool.{true≢false}
 use Rattle.std.proofs.lemmas.Result.{err_from_is_err_and}
-use Rattle.std.proofs.lemmas.List.{get_or_default}
 use Rattle.mr_model.specs.Taking.{take_commit, with_new_commit}
 use Rattle.mr_model.proofs.ReceivedPlaces.{commit_moved}
-use Rattle.mr_replica.specs.declared.scope_logs.LoggedWrite.{LoggedWrite}
-use Rattle.mr_replica.specs.PartCandidate.{ShowsPicked, TakesPicked, open_place}
+use Rattle.mr_replica.specs.PartCandidate.{TakesPicked}
 use Rattle.mr_replica.proofs.JudgingPart.{commit_judged}
 use Rattle.mr_replica.proofs.LearningPart.{move_found, shows-moved}
 use Rattle.mr_replica.proofs.part_candidate.PartCandidate.take_commit.Goals as goal
@@ -21,22 +19,17 @@ returns-then-not-branch-clause-takes c = λ a items inside p sound named covers 
     let verdict = ap Ok (sym c.if-not-branch.true) ∙ c.in_ok-judge_commit.ensures.verdict in
     (p, commit_judged c.args.line a items inside c.args.self.now c.args.seq c.args.id p (Ok false) sound c.judge_commit.ensures.in_range named covers shows verdict, shows)
 
-pub returns-in_err-add_commit-clause-takes : goal.returns-in_err-add_commit-clause-takes
-returns-in_err-add_commit-clause-takes c = λ a items inside p sound named covers shows.
-    let x = err_from_is_err_and c.from_residual-in_err-add_commit.result c.from_residual-in_err-add_commit.ensures.1 in
-    subst (λ r. TakesPicked a inside (take_commit c.args.line p c.args.seq c.args.id) r c.add_commit.new.self) (sym (x.1 ∙ ap Err x.2)) (inr c.in_err-add_commit.ensures.only)
-
 -- a commit that is new finds its write
-pub returns-then-not-branch-2-clause-takes : goal.returns-then-not-branch-2-clause-takes
-returns-then-not-branch-2-clause-takes c = λ a items inside p sound named covers shows.
+pub returns-then-not-add_commit-clause-takes : goal.returns-then-not-add_commit-clause-takes
+returns-then-not-add_commit-clause-takes c = λ a items inside p sound named covers shows.
     let old = c.args.self.now in
     let id = c.args.id in
     let small = c.judge_commit.ensures.in_range in
     let verdict = ap Ok (sym c.if-not-branch.false) ∙ c.in_ok-judge_commit.ensures.verdict in
     let step = commit_judged c.args.line a items inside old c.args.seq id p (Ok true) sound small named covers shows verdict in
     let m = commit_moved p.replica id sound step.1 step.2 in
-    let there = lt-ltb (open_place old.kept id) (length old.kept) (move_found a items inside old p c.args.seq id sound small step.1 step.2 named covers shows m) in
-    absurd (true≢false (sym there ∙ sym c.in_ok-add_commit.ensures.found ∙ c.if-not-branch-2.true))
+    let there = move_found a items inside old p c.args.seq id sound small step.1 step.2 named covers shows m in
+    absurd (true≢false (sym there ∙ sym c.add_commit.ensures.found ∙ c.if-not-add_commit.true))
 
 pub returns-clause-takes : goal.returns-clause-takes
 returns-clause-takes c = λ a items inside p sound named covers shows.
@@ -46,8 +39,5 @@ returns-clause-takes c = λ a items inside p sound named covers shows.
     let verdict = ap Ok (sym c.if-not-branch.false) ∙ c.in_ok-judge_commit.ensures.verdict in
     let step = commit_judged c.args.line a items inside old c.args.seq id p (Ok true) sound small named covers shows verdict in
     let m = commit_moved p.replica id sound step.1 step.2 in
-    let d : LoggedWrite = record { write = m.moved; seq = 0 } in
-    let x : LoggedWrite = get_or old.kept (open_place old.kept id) d in
-    let is : x ≡ get_or old.kept (open_place old.kept id) x = get_or_default old.kept (open_place old.kept id) d x (move_found a items inside old p c.args.seq id sound small step.1 step.2 named covers shows m) in
-    let new = shows-moved a items inside old p c.args.seq id sound small step.1 step.2 named covers shows m x is in
-    (with_new_commit p id, step.0, subst (λ v. ShowsPicked a inside v (with_new_commit p id)) (sym (c.in_ok-add_commit.ensures.ok c.if-not-branch-2.false x is)) new)
+    let e = c.add_commit.ensures in
+    (with_new_commit p id, step.0, shows-moved a items inside old p c.args.seq id sound small step.1 step.2 named covers shows m c.add_commit.new.self e.summary e.rooms (e.kept c.if-not-add_commit.false))

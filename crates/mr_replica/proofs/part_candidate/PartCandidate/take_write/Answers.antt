@@ -1,7 +1,7 @@
 use Rattle.std.proofs.Common.{true, false, Ok, Err, ap, sym, ◌∙◌, subst, inl, inr}
 use Rattle.std.proofs.lemmas.Result.{err_from_is_err_and}
 use Rattle.mr_model.specs.Taking.{take_write, with_new_write}
-use Rattle.mr_replica.specs.PartCandidate.{ShowsPicked, TakesPicked}
+use Rattle.mr_replica.specs.PartCandidate.{TakesPicked}
 use Rattle.mr_replica.proofs.Judging.{small_server}
 use Rattle.mr_replica.proofs.JudgingPart.{write_judged}
 use Rattle.mr_replica.proofs.LearningPart.{shows-learned}
@@ -29,5 +29,5 @@ returns-clause-takes c = λ a items inside p sound named covers shows.
     let good = c.is_within_limits.ensures in
     let verdict = ap Ok (sym c.if-not-branch.false) ∙ c.in_ok-judge_write.ensures.verdict in
     let step = write_judged c.args.line a items inside c.args.self.now w p (Ok true) sound good named covers shows verdict in
-    let new = shows-learned a items inside c.args.self.now p w sound (small_server w good) step.1 named covers shows in
-    (with_new_write p w, step.0, subst (λ v. ShowsPicked a inside v (with_new_write p w)) (sym c.in_ok-add_write.ensures.ok) new)
+    let e = c.in_ok-add_write.ensures in
+    (with_new_write p w, step.0, shows-learned a items inside c.args.self.now c.add_write.new.self p w sound (small_server w good) step.1 named covers shows e.summary e.rooms e.kept)

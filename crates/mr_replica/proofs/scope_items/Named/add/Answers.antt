@@ -1,9 +1,8 @@
-use Rattle.std.proofs.Common.{◌≡◌, ◌∙◌, ℕ, true, ap, sym, subst}
+use Rattle.std.proofs.Common.{◌∙◌, ℕ, true, ap, sym, subst}
 use Rattle.std.specs.BTreeSet.{BTreeSet, Updates}
 use Rattle.std.specs.Ordering.{nat_cmp, ordering_then}
-use Rattle.mr_model.specs.Writes.{Id, Stamp, Write, id_of}
+use Rattle.mr_model.specs.Writes.{Id, Stamp, id_of}
 use Rattle.mr_model.specs.Scopes.{item_id}
-use Rattle.mr_base.specs.declared.batches.Item.{Item}
 use Rattle.mr_base.specs.Batches.{item_of}
 use Rattle.mr_replica.proofs.Named.{id_more}
 use Rattle.mr_replica.proofs.scope_items.Named.add.Goals as goal

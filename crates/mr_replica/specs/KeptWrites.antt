@@ -1,0 +1,34 @@
+-- Kept writes with their commit numbers, by the ids of the writes.
+use Rattle.std.specs.Prelude.{◌≡◌, ℕ, ◌==◌, Bool, false, List, is_some, Option, Some, None}
+use Rattle.std.specs.BTreeMap.{BTreeMap, get}
+use Rattle.std.specs.Option.{option_map}
+use Rattle.mr_model.specs.Writes.{Id, Write}
+use Rattle.mr_base.specs.Ids.{id_cmp}
+use Rattle.mr_replica.specs.declared.scope_logs.LoggedWrite.{LoggedWrite}
+use Rattle.mr_replica.specs.Candidate.{write_in}
+
+abbrev pub KeptWrites : Type 0
+KeptWrites = BTreeMap Id LoggedWrite
+
+-- the kept write of an id
+abbrev pub logged_at : KeptWrites → Id → Option LoggedWrite
+logged_at kept id = get id_cmp kept id
+
+abbrev pub has_at : KeptWrites → Id → Bool
+has_at kept id = is_some (logged_at kept id)
+
+-- whether there is such a write, and it has this commit number
+abbrev pub is_number_of : ℕ → Option LoggedWrite → Bool
+is_number_of number None = false
+is_number_of number (Some x) = x.seq == number
+
+abbrev pub with_number : ℕ → LoggedWrite → LoggedWrite
+with_number number x = record { write = x.write; seq = number }
+
+-- a write with the number that it has
+abbrev pub marked_by : (Write → ℕ) → Write → LoggedWrite
+marked_by mark w = record { write = w; seq = mark w }
+
+-- these are the writes, with these numbers
+abbrev pub HasKept : KeptWrites → (Write → ℕ) → List Write → Type 0
+HasKept kept mark ws = (id : Id) → logged_at kept id ≡ option_map (marked_by mark) (write_in ws id)
