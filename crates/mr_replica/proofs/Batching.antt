@@ -21,7 +21,7 @@ use Rattle.mr_model.proofs.TwinChanges.{drop-add}
 use Rattle.mr_base.specs.declared.batches.Item.{Item}
 use Rattle.mr_base.specs.Batches as base
 use Rattle.mr_base.specs.Batches.{item_of}
-use Rattle.mr_replica.specs.Outgoing.{Offers, committed_items, lacked_items, kept_items, ending_by}
+use Rattle.mr_replica.specs.Outgoing.{Offers, committed_items, lacked_items, kept_items, ending_by, batch_with}
 use Rattle.mr_tables.specs.Summary.{summary_of, committed_len}
 use Rattle.mr_replica.proofs.Desks.{committed_kept, tentative_kept}
 
@@ -92,13 +92,18 @@ items-kept a p sound low =
     let front : take (committed_len (summary_of a) (kept_in_order a)) (kept_in_order a) ≡ kept_committed a = ap (λ n. take n (kept_in_order a)) (committed_kept a sound) ∙ take-append_seam (kept_committed a) (tentative a) in
     (λ t. committed_items p (p.commits + 1) (drop (p.commits - a.dropped) (front t)) ++ lacked_items p (tentative_kept a sound t)) ∙ sym (items-made a p sound low)
 
--- the batch that is made of them
-pub batch_made : (a : Replica) (p : Position) (m : ℕ) (there : List Item) (more : Bool) → (p.primary == a.primary) ≡ true → nat_lt p.commits a.dropped ≡ false → Offers m (items_for a p) there more → BatchIs (base.batch_of (Some (a.server, a.primary)) there (ending_by more)) ≡ batch_reply a p m
-batch_made a p m there more own whole o =
+-- ---- the batch
+
+-- the one with such items
+pub batch_offered : (from primary limit : ℕ) (items : List model.Item) (there : List Item) (more : Bool) → Offers limit items there more → base.batch_of (Some (from, primary)) there (ending_by more) ≡ batch_with from primary limit items
+batch_offered from primary limit items there more o =
     let e = ending more ∙ ap (λ b. cond b model.More model.Complete) o.rest in
-    (λ t. BatchIs (record { header = Some (record { from = a.server; primary = a.primary }); items = o.first t; ending = e t }))
-    ∙ (λ t. batch_unless (first_refusal ((not (sym own t), WrongPrimary) ∷ (sym whole t, Truncated) ∷ [])) (batch_of a p m))
+    λ t. record { header = Some (record { from = from; primary = primary }); items = o.first t; ending = e t }
   where
     ending : (b : Bool) → base.ending_of (ending_by b) ≡ cond b model.More model.Complete
     ending true = refl
     ending false = refl
+
+-- that of the definitions
+pub batch_made : (a : Replica) (p : Position) (m : ℕ) → (p.primary == a.primary) ≡ true → nat_lt p.commits a.dropped ≡ false → BatchIs (batch_with a.server a.primary m (items_for a p)) ≡ batch_reply a p m
+batch_made a p m own whole = λ t. batch_unless (first_refusal ((not (sym own t), WrongPrimary) ∷ (sym whole t, Truncated) ∷ [])) (batch_of a p m)

@@ -24,7 +24,7 @@ use Rattle.mr_model.proofs.ReceivedPlaces.{append_split}
 use Rattle.mr_model.proofs.RoomPlaces.{distinct_filter, known_in_order, committed-parts}
 use Rattle.mr_model.proofs.RowsTell.{order_known}
 use Rattle.mr_replay.specs.Places.{UndoRow}
-use Rattle.mr_replay.specs.Rows.{Rows, executed, executed_all, undone_all, undo_rows_of}
+use Rattle.mr_replay.specs.Rows.{Rows, executed_all, undone_all, undo_rows_of}
 use Rattle.mr_replay.specs.Holds.{HaveDistinctIds, HoldsIn, Holds}
 use Rattle.mr_replay.specs.Bookings.{if_booked}
 use Rattle.mr_replay.proofs.Holding.{Holds-empty, Holds-executed_all}
@@ -33,11 +33,11 @@ use Rattle.mr_replay.proofs.OneBoard.{one_board}
 use Rattle.mr_replay.proofs.RoomBookings.{in_order-undone_all}
 use Rattle.mr_replica.specs.Desk.{desk_of}
 use Rattle.mr_replica.specs.Moves.{AreTouched, moves_in}
-use Rattle.mr_replica.specs.PickedUndo.{undo_with}
+use Rattle.mr_replica.specs.Logged.{undo_with}
 use Rattle.mr_replica.proofs.DeskRows.{order_distinct, dropped_long}
 use Rattle.mr_replica.proofs.Moves.{none_passes, all_pass, moves_not, moves_as}
 use Rattle.mr_replica.proofs.Logs.{executed_all-append}
-use Rattle.mr_replica.proofs.PartMoves.{moving, apart, last}
+use Rattle.mr_replica.proofs.MovedWrites.{moving, apart, last}
 use Rattle.mr_replica.proofs.RoomBoards.{holds_undone, places_executed}
 
 -- ---- lists

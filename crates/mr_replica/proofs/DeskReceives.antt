@@ -26,23 +26,23 @@ use Rattle.mr_tables.specs.Change.{ChangeView, changed}
 use Rattle.mr_tables.specs.Rooms.{rooms_beside}
 use Rattle.mr_tables.specs.Rows.{seq_on}
 use Rattle.mr_tables.specs.Written.{meta_of, changed_tallies, written}
-use Rattle.mr_replica.specs.declared.scope_logs.LoggedWrite.{LoggedWrite}
+use Rattle.mr_replica.specs.declared.logged.LoggedWrite.{LoggedWrite}
 use Rattle.mr_replica.specs.Desk.{DeskView, desk_of, old_errors_of, nothing_taken, reply_with}
 use Rattle.mr_replica.specs.DeskTables.{desk_tables}
 use Rattle.mr_replica.specs.Log.{KeptLog}
 use Rattle.mr_replica.specs.Moves.{AreTouched, moves_in}
-use Rattle.mr_replica.specs.PartCandidate.{ReachedView, ShowsPicked}
-use Rattle.mr_replica.specs.PickedLogs.{logged_of}
-use Rattle.mr_replica.specs.PickedUndo.{undo_with}
+use Rattle.mr_replica.specs.Taken.{ReachedView, ShowsPicked}
+use Rattle.mr_replica.specs.Logged.{logged_of}
+use Rattle.mr_replica.specs.Logged.{undo_with}
 use Rattle.mr_replica.specs.Received.{Reaches, all_writes}
 use Rattle.mr_replica.proofs.DeskMoves.{new_places}
 use Rattle.mr_replica.proofs.DeskRows.{kept_numbers, kept_places, order_distinct, desk_tables-of}
 use Rattle.mr_replica.proofs.Desks.{desk_with}
 use Rattle.mr_replica.proofs.Moves.{all_pass, undone_picked}
-use Rattle.mr_replica.proofs.PartMoves.{moving, again_few, again_turns, named_by}
+use Rattle.mr_replica.proofs.MovedWrites.{moving, again_few, again_turns, named_by}
 use Rattle.mr_replica.proofs.ReceivedRows.{items-grow}
 use Rattle.mr_replica.proofs.Receiving.{items-bring}
-use Rattle.mr_replica.proofs.ReceivingPart.{all_within}
+use Rattle.mr_replica.proofs.TakingItems.{all_within}
 use Rattle.mr_replica.proofs.SubmittedRows.{few_kept}
 use Rattle.mr_replica.proofs.Writing.{undo_rows_are}
 

@@ -12,7 +12,7 @@ use Rattle.mr_replay.specs.Places.{UndoRow}
 use Rattle.mr_replay.specs.Holds.{HaveDistinctIds}
 use Rattle.mr_replay.proofs.Lists.{distinct_back}
 use Rattle.mr_replay.proofs.Redoing.{drop_first}
-use Rattle.mr_replica.specs.PickedUndo.{undo_with}
+use Rattle.mr_replica.specs.Logged.{undo_with}
 use Rattle.mr_replica.specs.Received.{row_of_id}
 
 -- the first k writes have their rows, n of which are of new ones; what is left of either list is that of the writes behind

@@ -19,11 +19,11 @@ use Rattle.mr_model.proofs.LogOrder.{kept_is_the_log, kept_known}
 use Rattle.mr_model.proofs.Members.{all_has, has_all, has_map, map_has, filter_has, find_one, find_has, slice_has, same_id-true, same_id_refl, Sorted, sorted_filter}
 use Rattle.mr_base.specs.Ids.{id_cmp}
 use Rattle.mr_replay.proofs.Ids.{at_is, ids_total}
-use Rattle.mr_replica.specs.declared.scope_logs.LoggedWrite.{LoggedWrite}
+use Rattle.mr_replica.specs.declared.logged.LoggedWrite.{LoggedWrite}
 use Rattle.mr_replica.specs.Candidate.{write_in}
 use Rattle.mr_replica.specs.KeptRows.{run_cmp}
 use Rattle.mr_replica.specs.KeptWrites.{KeptWrites, logged_at, marked_by, HasKept}
-use Rattle.mr_replica.specs.PickedLogs.{logged_of, logged_place}
+use Rattle.mr_replica.specs.Logged.{logged_of, logged_place}
 use Rattle.mr_replica.proofs.KeptOrder.{run_order, before_less}
 use Rattle.mr_replica.proofs.Sorting.{Rises, irreflexive, sorted_is}
 
@@ -144,3 +144,8 @@ module _ (a : Replica) (inside : Write → Bool) (kept : KeptWrites) (sound : Is
     where
       never : (id : Id) → id_cmp id id ≡ Less → ⊥
       never id e = irreflexive id_cmp ids_total id e
+
+-- the writes of kept writes with their numbers
+pub logged_writes : (a : Replica) (ws : List Write) → map (λ x. x.write) (map (logged_of a) ws) ≡ ws
+logged_writes a [] = refl
+logged_writes a (w ∷ ws) = ap (λ vs. w ∷ vs) (logged_writes a ws)

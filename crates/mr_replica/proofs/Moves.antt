@@ -26,14 +26,14 @@ use Rattle.mr_model.proofs.RowsById.{flat_has, has_flat, seq_not}
 use Rattle.mr_model.proofs.RowsOfKnown.{rows_of_known}
 use Rattle.mr_model.proofs.TwinTables.{bool_same}
 use Rattle.mr_replica.specs.Moves.{rooms_named, AreTouched, moves_in, is_anew, ShowsMoves}
-use Rattle.mr_replica.specs.PickedBookings.{AreSameRooms}
-use Rattle.mr_replica.specs.PartCandidate.{Covers, is_inside}
-use Rattle.mr_replica.specs.PickedLogs.{logged_of}
-use Rattle.mr_replica.specs.declared.scope_logs.LoggedWrite.{LoggedWrite}
+use Rattle.mr_replica.specs.Sets.{AreSameRooms}
+use Rattle.mr_replica.specs.Taken.{Covers, is_inside}
+use Rattle.mr_replica.specs.Logged.{logged_of}
+use Rattle.mr_replica.specs.declared.logged.LoggedWrite.{LoggedWrite}
 use Rattle.mr_replica.proofs.DeskRows.{dropped_long, order_numbers, slice_left, slice_bound}
 use Rattle.mr_replica.proofs.Changing.{has_slice}
 use Rattle.mr_replica.proofs.Picking.{picked_here, left_here}
-use Rattle.mr_replica.proofs.PartMoves.{commits_long, new_number}
+use Rattle.mr_replica.proofs.MovedWrites.{commits_long, new_number}
 
 -- ---- picking one by one
 

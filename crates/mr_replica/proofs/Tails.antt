@@ -5,7 +5,7 @@ use Rattle.std.specs.List.{list_any}
 use Rattle.mr_model.specs.Scopes.{is_new_commit, is_behind_item, is_late}
 use Rattle.mr_base.specs.declared.batches.Item.{Item}
 use Rattle.mr_base.specs.Batches.{item_of}
-use Rattle.mr_replica.specs.declared.scope_tail.Tail.{Tail}
+use Rattle.mr_replica.specs.declared.tail.Tail.{Tail}
 use Rattle.mr_replica.specs.Tails.{has_place, brings}
 
 -- what an item brings is told beside what the others do

@@ -9,11 +9,11 @@ use Rattle.mr_model.specs.Texts.{Text}
 use Rattle.mr_model.specs.Writes.{Id, Write, same_id}
 use Rattle.mr_model.specs.Exchange.{Item, W, C}
 use Rattle.mr_model.proofs.CommittedPlaces.{same_id_comm}
-use Rattle.mr_replica.specs.declared.scope_touched.Touched.{Touched}
-use Rattle.mr_replica.specs.Named.{has_id, has_room}
-use Rattle.mr_replica.specs.PickedBookings.{AreSameRooms}
+use Rattle.mr_replica.specs.declared.touched.Touched.{Touched}
+use Rattle.mr_replica.specs.Sets.{has_id, has_room}
+use Rattle.mr_replica.specs.Sets.{AreSameRooms}
 use Rattle.mr_replica.specs.Touched.{commits_id, writes_in, IsTouchedBy}
-use Rattle.mr_replica.proofs.Named.{set_of_keys}
+use Rattle.mr_replica.proofs.Sets.{set_of_keys}
 
 -- ---- tests of lists
 

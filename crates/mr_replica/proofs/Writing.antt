@@ -27,7 +27,7 @@ use Rattle.mr_tables.specs.Change.{put_all, changed}
 use Rattle.mr_tables.specs.Rows.{seq_on, undo_row_with, booking_with, error_with, booking_rows, error_rows}
 use Rattle.mr_tables.specs.Tallied.{tally_rows}
 use Rattle.mr_replica.specs.DeskTables.{desk_tables}
-use Rattle.mr_replica.specs.PickedUndo.{undo_with}
+use Rattle.mr_replica.specs.Logged.{undo_with}
 use Rattle.mr_tables.specs.Written.{same_tally, changed_tallies, written}
 use Rattle.mr_replica.proofs.Logs.{length-undo_rows_of, undo_rows_of-append}
 use Rattle.mr_replica.proofs.BoardRows.{places_head}

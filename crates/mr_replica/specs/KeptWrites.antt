@@ -4,7 +4,7 @@ use Rattle.std.specs.BTreeMap.{BTreeMap, get}
 use Rattle.std.specs.Option.{option_map}
 use Rattle.mr_model.specs.Writes.{Id, Write}
 use Rattle.mr_base.specs.Ids.{id_cmp}
-use Rattle.mr_replica.specs.declared.scope_logs.LoggedWrite.{LoggedWrite}
+use Rattle.mr_replica.specs.declared.logged.LoggedWrite.{LoggedWrite}
 use Rattle.mr_replica.specs.Candidate.{write_in}
 
 abbrev pub KeptWrites : Type 0

@@ -1,6 +1,6 @@
--- A reader of the contracts trusts Log, Desk, Steps, Candidate, DeskTables, Turning, ChangeLaws, KeptRows, SoundLog, Parts and
--- ScopeOf. The others, Outgoing, Moves, Received, KeptWrites, PartCandidate, PartMoves, Changed, PickedLogs, PickedBookings, PickedUndo, Tails, Named, Touched and LogTests, serve private clauses and
--- proofs alone.
+-- A reader of the contracts of desks trusts Log, Desk, Steps, DeskTables, Turning, ChangeLaws, KeptRows and SoundLog; those of the
+-- functions that a part shares with a desk cite Outgoing, Taken, Logged, Sets, Tails, Touched and Moves besides. The others,
+-- Candidate, KeptWrites and Received, serve private clauses and proofs alone.
 pub mod Log
 pub mod Desk
 pub mod Steps
@@ -11,18 +11,11 @@ pub mod Turning
 pub mod ChangeLaws
 pub mod KeptRows
 pub mod SoundLog
-pub mod Parts
-pub mod PartMoves
-pub mod Changed
-pub mod ScopeOf
-pub mod PickedLogs
+pub mod Logged
 pub mod Tails
-pub mod Named
+pub mod Sets
 pub mod Touched
-pub mod LogTests
-pub mod PickedBookings
-pub mod PickedUndo
 pub mod KeptWrites
-pub mod PartCandidate
+pub mod Taken
 pub mod Moves
 pub mod Received

@@ -9,9 +9,9 @@ use Rattle.mr_model.specs.Kept.{kept_in_order}
 use Rattle.mr_model.specs.Scopes.{is_late, is_touched}
 use Rattle.mr_model.specs.Moving.{BatchMoves}
 use Rattle.mr_model.specs.Tables.{seq_of, tables_of}
-use Rattle.mr_replica.specs.declared.scope_logs.LoggedWrite.{LoggedWrite}
-use Rattle.mr_replica.specs.PickedLogs.{logged_of}
-use Rattle.mr_replica.specs.PartCandidate.{Covers}
+use Rattle.mr_replica.specs.declared.logged.LoggedWrite.{LoggedWrite}
+use Rattle.mr_replica.specs.Logged.{logged_of}
+use Rattle.mr_replica.specs.Taken.{Covers}
 
 -- the rooms that an item touches, where so many commits are known and these are the kept writes that it may name
 abbrev pub rooms_named : ℕ → List Write → Item → List Text

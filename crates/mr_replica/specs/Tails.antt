@@ -2,8 +2,8 @@
 use Rattle.std.specs.Prelude.{◌≡◌, ℕ, Bool, true, false, not, ◌||◌, List}
 use Rattle.mr_model.specs.Exchange.{Item}
 use Rattle.mr_model.specs.Scopes.{time_before, is_new_commit, is_behind_item, is_late}
-use Rattle.mr_replica.specs.declared.scope_tail.Tail.{Tail}
-use Rattle.mr_replica.specs.declared.scope_tail.Tail.TheVariants.{Everything, From, Nothing}
+use Rattle.mr_replica.specs.declared.tail.Tail.{Tail}
+use Rattle.mr_replica.specs.declared.tail.Tail.TheVariants.{Everything, From, Nothing}
 
 -- whether a place is in the tail
 abbrev pub has_place : Tail → ℕ → ℕ → Bool

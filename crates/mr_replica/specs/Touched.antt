@@ -4,8 +4,8 @@ use Rattle.std.specs.List.{list_any}
 use Rattle.mr_model.specs.Texts.{Text}
 use Rattle.mr_model.specs.Writes.{Id, same_id}
 use Rattle.mr_model.specs.Exchange.{Item, W, C}
-use Rattle.mr_replica.specs.declared.scope_touched.Touched.{Touched}
-use Rattle.mr_replica.specs.Named.{has_id, has_room}
+use Rattle.mr_replica.specs.declared.touched.Touched.{Touched}
+use Rattle.mr_replica.specs.Sets.{has_id, has_room}
 
 -- whether the item is a commit of this id that is not known yet, where so many are
 abbrev pub commits_id : ℕ → Id → Item → Bool

@@ -4,7 +4,7 @@ ghost use Rattle.mr_model.specs.Step.{leave, batch_reply};
 ghost use Rattle.mr_replica.specs.Desk.{TakesStep, NeverStore, IsWithinLimits};
 
 use crate::Desk;
-use crate::outgoing::outgoing_for;
+use crate::outgoing::batch_for;
 use mr_base::{Batch, LineCount, Position, Refusal};
 
 impl Desk {
@@ -23,13 +23,13 @@ impl Desk {
         if position.commits < self.summary.dropped {
             return Err(Refusal::Truncated);
         }
-        let outgoing = outgoing_for(
+        let batch = batch_for(
             self.alloc,
             &self.summary,
             self.log.kept(),
             position,
             max_lines,
         )?;
-        Ok(outgoing.into_batch(self.summary.server, self.summary.primary))
+        Ok(batch)
     }
 }

@@ -8,6 +8,7 @@ use mr_tables::Change;
 use mr_tables::summary::Summary;
 use mr_tables::vector::changed_tallies;
 use mr_tables::written::written;
+use std::alloc::Global;
 
 impl Desk {
     /// The change to a desk of those numbers, with these rooms more, where these writes, with what undoes each, are the
@@ -33,4 +34,23 @@ impl Desk {
             .saturating_add(place as u64);
         written(self.alloc, summary, rooms, vector, first, writes, rows)
     }
+}
+
+/// The change from the old numbers to the new ones, with these rooms more, where these writes stand behind the old commits.
+pub fn rewritten(
+    alloc: Global,
+    old: &Summary,
+    summary: &Summary,
+    rooms: Vec<RoomName>,
+    writes: &[Write],
+    rows: &[UndoRow],
+) -> Result<Change, Refusal>
+    requires { length writes.now ≡ length rows.now }
+    ensures change { IfOk result (λ change. old.now.commits + 1 + length writes.now < 2 ^ 64
+        → change ≡ written (meta_of summary.now) rooms.items (rows_changed old.now.tallies summary.now.tallies) summary.now.commits (old.now.commits + 1) writes.now rows.now) }
+    ensures only { IfErr result (λ e. e ≡ Refusal.OutOfMemory) }
+{
+    let vector = changed_tallies(alloc, old, summary)?;
+    let first = old.commits.saturating_add(1);
+    written(alloc, summary, rooms, vector, first, writes, rows)
 }

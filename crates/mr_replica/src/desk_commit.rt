@@ -52,7 +52,7 @@ fn next_commits<'a>(summary: &Summary, log: &'a Log, k: u64) -> (&'a [Write], &'
 }
 
 /// The numbers after the commits of these writes, and what these change in the tables.
-pub(crate) fn after_commits(
+pub fn after_commits(
     alloc: Global,
     summary: &Summary,
     writes: &[Write],

@@ -16,20 +16,19 @@ ghost use Rattle.mr_tables.specs.declared.summary.Summary.{Summary as SummaryOfD
 ghost use Rattle.mr_tables.specs.Rows.{seq_on};
 ghost use Rattle.mr_replica.specs.Desk.{TakesStep, NeverStore, StandsFor, desk_of, nothing_taken};
 ghost use Rattle.mr_replica.specs.DeskTables.{desk_tables};
-ghost use Rattle.mr_replica.specs.PartCandidate.{TakenPicked};
-ghost use Rattle.mr_replica.specs.PickedLogs.{logged_of};
+ghost use Rattle.mr_replica.specs.Taken.{TakenPicked};
+ghost use Rattle.mr_replica.specs.Logged.{logged_of};
 ghost use Rattle.mr_replica.specs.Received.{Reaches, IsReplayed, all_writes};
 ghost use Rattle.mr_replica.specs.Turning.{TurnsTables};
 
 use crate::Desk;
+use crate::candidate::{Reached, reached_with};
+use crate::desk_change::rewritten;
 use crate::desk_replay::{joined_rows, parted_rows};
 use crate::log::Log;
-use crate::movable::rooms_touched;
-use crate::part_again::again_in;
-use crate::part_candidate::{Reached, reached_with};
-use crate::part_moved::rewritten;
+use crate::logged::{LoggedWrite, writes_alone};
+use crate::movable::{again_in, rooms_touched};
 use crate::room_sets::unknown_rooms;
-use crate::scope_logs::{LoggedWrite, writes_alone};
 use mr_base::{Batch, Item, Refusal, Write};
 use mr_replay::{Board, UndoRow};
 use mr_tables::Change;

@@ -7,14 +7,14 @@ ghost use Rattle.mr_base.specs.Batches.{item_of};
 ghost use Rattle.mr_replay.specs.Holds.{HaveDistinctIds};
 ghost use Rattle.mr_replay.specs.Places.{UndoRow as UndoRowOfWrite};
 ghost use Rattle.mr_replica.specs.Moves.{moves_in};
-ghost use Rattle.mr_replica.specs.Named.{IsSetOf};
+ghost use Rattle.mr_replica.specs.Sets.{IsSetOf};
 ghost use Rattle.mr_replica.specs.Received.{row_of_id};
-ghost use Rattle.mr_replica.specs.PickedUndo.{undo_with};
+ghost use Rattle.mr_replica.specs.Logged.{undo_with};
 ghost use Rattle.mr_replica.specs.Tails.{IsTail};
 
 use crate::movable::may_move;
 use crate::room_sets::{RoomSet, room_set};
-use crate::scope_tail::{Tail, tail_of};
+use crate::tail::{Tail, tail_of};
 use mr_base::{Item, Refusal, RoomName, Write, WriteId};
 use mr_replay::UndoRow;
 use std::alloc::Global;

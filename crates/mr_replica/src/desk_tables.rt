@@ -43,7 +43,7 @@ impl Desk {
 }
 
 /// What a refusal of a row's part is told as: the store's, but for want of memory.
-pub(crate) fn of_store(refusal: Refusal) -> Refusal
+pub fn of_store(refusal: Refusal) -> Refusal
     ensures memory { refusal ≡ Refusal.OutOfMemory → result ≡ Refusal.OutOfMemory }
     ensures cause { (result ≡ Refusal.OutOfMemory) ⊎ (result ≡ Refusal.Store) }
 {

@@ -8,10 +8,10 @@ ghost use Rattle.mr_model.specs.Tables.{seq_of};
 ghost use Rattle.mr_model.specs.Writes.{Id, Write as WriteOfRoom, same_id};
 ghost use Rattle.mr_base.specs.Ids.{id_cmp};
 ghost use Rattle.mr_replica.specs.KeptWrites.{logged_at, has_at, is_number_of, with_number, HasKept};
-ghost use Rattle.mr_replica.specs.PickedLogs.{logged_of};
-ghost use Rattle.mr_replica.specs.declared.scope_logs.LoggedWrite.{LoggedWrite as LoggedWriteOfRow};
+ghost use Rattle.mr_replica.specs.Logged.{logged_of};
+ghost use Rattle.mr_replica.specs.declared.logged.LoggedWrite.{LoggedWrite as LoggedWriteOfRow};
 
-use crate::scope_logs::{LoggedWrite, sort_writes};
+use crate::logged::{LoggedWrite, sort_writes};
 use mr_base::{Refusal, Write, WriteId};
 use std::alloc::Global;
 use std::collections::BTreeMap;

@@ -1,11 +1,13 @@
 //! One replica's working value: the log of its kept writes with the board that they lead to, its version vector, its rooms
 //! and its commits.
 //!
-//! It stands on `mr_tables`, the rows of tables, and on `mr_replay`, the board; keepers and services of tables stand above it.
-//! Contracts see a desk as a record (specs/Desk.antt); each call of it is one step of the definitions, for every replica that
-//! the desk stands for (`TakesStep`).
+//! It stands on `mr_tables`, the rows of tables, and on `mr_replay`, the board; `mr_part`, which has a part of the rows, stands above
+//! it, and keepers and services of tables above that. Contracts see a desk as a record (specs/Desk.antt); each call of it is one step
+//! of the definitions, for every replica that the desk stands for (`TakesStep`). The modules that are public, and the functions beside
+//! `Desk` and the laws, are there for `mr_part`: they go over slices of kept writes, be these all or some of them.
 #![tactic(auto)]
 
+pub mod candidate;
 mod desk;
 mod desk_batch;
 mod desk_change;
@@ -21,43 +23,22 @@ mod judge;
 mod kept_rows;
 mod kept_writes;
 mod log;
-mod movable;
-mod outgoing;
-mod part;
-mod part_again;
-mod part_batch;
-mod part_candidate;
-mod part_changed;
-mod part_commit;
-mod part_from;
-mod part_moved;
-mod part_position;
-mod part_receive;
-mod part_rooms;
-mod part_rows;
-mod part_submit;
-mod part_truncate;
-mod room_sets;
-mod rows_in_scope;
-mod scope;
-mod scope_board;
-mod scope_commits;
-mod scope_items;
-mod scope_log_test;
-mod scope_logs;
-mod scope_tail;
-mod scope_touched;
-mod scope_undo;
+pub mod logged;
+pub mod movable;
+pub mod outgoing;
+pub mod room_sets;
 mod sound_log;
+pub mod tail;
+pub mod touched;
 
 ghost use Rattle.mr_replica.specs.ChangeLaws.{DesksHaveTheTables, RoomsArePut, SubmissionsArePut, TailsArePut, CommitsArePut, TruncationsForget};
 ghost use Rattle.mr_replica.specs.Steps.{SubmissionsAreRequests};
 
 pub use desk::Desk;
-pub use part::Part;
-pub use rows_in_scope::logs_in_scope;
-pub use scope::Scope;
-pub use scope_touched::touched_rooms;
+pub use desk_change::rewritten;
+pub use desk_commit::after_commits;
+pub use desk_rooms::room_change;
+pub use desk_tables::of_store;
 
 /// A submission in words, where nothing is at fault with these, is the request that they make.
 pub fn submission_law()

@@ -1,23 +1,25 @@
-ghost use Rattle.std.specs.Prelude.{◌≡◌, ◌&&◌, ◌||◌, ℕ, List, map, flat_map, bytes_eq, OnOk, IfOk, IfErr};
+ghost use Rattle.std.specs.Prelude.{◌≡◌, ◌&&◌, ◌||◌, ℕ, Bool, List, map, filter, flat_map, bytes_eq, OnOk, IfOk, IfErr};
 ghost use Rattle.std.specs.List.{list_any};
 ghost use Rattle.mr_model.specs.Texts.{Text};
-ghost use Rattle.mr_model.specs.Writes.{id_of};
+ghost use Rattle.mr_model.specs.Writes.{Write as WriteOfRoom, id_of};
 ghost use Rattle.mr_model.specs.Exchange.{Item as ItemOfBatch};
+ghost use Rattle.mr_model.specs.Replica.{Replica};
+ghost use Rattle.mr_model.specs.Moving.{again};
 ghost use Rattle.mr_base.specs.Batches.{item_of};
-ghost use Rattle.mr_replica.specs.Moves.{rooms_named, moves_in};
-ghost use Rattle.mr_replica.specs.Named.{has_id, has_room, IsSetOf};
-ghost use Rattle.mr_replica.specs.PickedBookings.{AreSameRooms};
+ghost use Rattle.mr_replica.specs.Moves.{ShowsMoves, rooms_named, moves_in, is_anew};
+ghost use Rattle.mr_replica.specs.Sets.{has_id, has_room, IsSetOf, AreSameRooms};
 ghost use Rattle.mr_replica.specs.Tails.{IsTail};
 
-use crate::room_sets::{RoomSet, names_of};
-use crate::scope_tail::Tail;
-use crate::scope_touched::{IdSet, Touched, add_if_named};
+use crate::logged::LoggedWrite;
+use crate::room_sets::{RoomSet, names_of, room_set};
+use crate::tail::{Tail, tail_of};
+use crate::touched::{IdSet, Touched, add_if_named};
 use mr_base::{Item, Refusal, RoomName, Write};
 use std::alloc::Global;
 
 /// The rooms whose writes the items may move, each once, where so many commits are known: those of their writes, and those of
 /// these kept writes that new commits name.
-pub(crate) fn rooms_touched(
+pub fn rooms_touched(
     alloc: Global,
     writes: &[Write],
     items: &[Item],
@@ -53,10 +55,56 @@ fn add_writes(
 }
 
 /// Whether a tentative write may move, where the items touch these rooms and have this tail.
-pub(crate) fn may_move(write: &Write, rooms: &RoomSet, tail: &Tail) -> bool
+pub fn may_move(write: &Write, rooms: &RoomSet, tail: &Tail) -> bool
     ensures { (touched : List Text) (items : List ItemOfBatch) (commits : ℕ) → IsSetOf rooms.now touched → IsTail tail.now commits items
         → result ≡ moves_in touched items commits write.now }
 {
     let stamp = write.stamp;
     rooms.contains(&write.room) && tail.has_place(stamp.time, stamp.server)
+}
+
+/// The writes that are executed anew, where so many commits were known and the items touch these rooms: the new commits, and
+/// behind them the tentative ones that may move.
+pub fn again_in(
+    alloc: Global,
+    kept: &[LoggedWrite],
+    touched: &[RoomName],
+    items: &[Item],
+    commits: u64,
+) -> Result<Vec<Write>, Refusal>
+    ensures writes { (a b : Replica) (inside : WriteOfRoom → Bool) (m : ShowsMoves a b (map item_of items.now) inside touched.now commits kept.now)
+        → IfOk result (λ writes. writes.items ≡ again a (map item_of items.now) m.moves.news b) }
+    ensures only { IfErr result (λ e. e ≡ Refusal.OutOfMemory) }
+{
+    let rooms = room_set(alloc, touched)?;
+    let tail = tail_of(items, commits);
+    let writes = writes_anew(alloc, kept, &rooms, &tail, commits)?;
+    Ok(writes)
+}
+
+fn writes_anew(
+    alloc: Global,
+    kept: &[LoggedWrite],
+    rooms: &RoomSet,
+    tail: &Tail,
+    commits: u64,
+) -> Result<Vec<Write>, Refusal>
+    ensures writes { (touched : List Text) (items : List ItemOfBatch) → IsSetOf rooms.now touched → IsTail tail.now commits items
+        → IfOk result (λ writes. writes.items ≡ map (λ x. x.write) (filter (is_anew touched items commits) kept.now)) }
+    ensures only { IfErr result (λ e. e ≡ Refusal.OutOfMemory) }
+{
+    let mut writes = Vec::new(alloc);
+    for one in kept {
+        if is_anew(one, rooms, tail, commits) {
+            writes.push(one.write.copy(alloc)?)?;
+        }
+    }
+    Ok(writes)
+}
+
+fn is_anew(one: &LoggedWrite, rooms: &RoomSet, tail: &Tail, commits: u64) -> bool
+    ensures { (touched : List Text) (items : List ItemOfBatch) → IsSetOf rooms.now touched → IsTail tail.now commits items
+        → result ≡ is_anew touched items commits one.now }
+{
+    one.seq > commits || (one.seq == 0 && may_move(&one.write, rooms, tail))
 }

@@ -4,7 +4,7 @@ ghost use Rattle.mr_model.specs.Positions.{count_among};
 ghost use Rattle.mr_model.specs.Step.{lacks};
 ghost use Rattle.mr_base.specs.Positions.{counts_of};
 ghost use Rattle.mr_base.specs.Batches.{batch_of};
-ghost use Rattle.mr_replica.specs.Outgoing.{Offers, committed_items, lacked_items, kept_items, ending_by};
+ghost use Rattle.mr_replica.specs.Outgoing.{Offers, committed_items, lacked_items, kept_items, ending_by, batch_with};
 
 use mr_base::{
     Batch, CommitNumber, Ending, Item, LineCount, Position, Refusal, ServerId, Write, WriteId,
@@ -14,7 +14,7 @@ use std::alloc::Global;
 
 /// The items of a batch that is made: the first ones, up to a limit, and whether there are more.
 #[derive(Drop)]
-pub(crate) struct Outgoing {
+struct Outgoing {
     alloc: Global,
     limit: LineCount,
     items: Vec<Item>,
@@ -23,7 +23,7 @@ pub(crate) struct Outgoing {
 
 impl Outgoing {
     /// No items yet.
-    pub(crate) fn new(alloc: Global, limit: LineCount) -> Outgoing
+    fn new(alloc: Global, limit: LineCount) -> Outgoing
         ensures limit { result.limit ≡ limit }
         ensures items { Offers limit [] result.items.items result.more }
     {
@@ -36,7 +36,7 @@ impl Outgoing {
     }
 
     /// The batch of these items, which `from` makes.
-    pub(crate) fn into_batch(self, from: ServerId, primary: ServerId) -> Batch
+    fn into_batch(self, from: ServerId, primary: ServerId) -> Batch
         ensures { result ≡ batch_of (Some (from, primary)) self.items.items (ending_by self.more) }
     {
         let ending = if self.more {
@@ -93,11 +93,7 @@ impl Outgoing {
     }
 
     /// Those of these writes that the position lacks.
-    pub(crate) fn push_lacked(
-        &mut self,
-        position: &Position,
-        writes: &[Write],
-    ) -> Result<(), Refusal>
+    fn push_lacked(&mut self, position: &Position, writes: &[Write]) -> Result<(), Refusal>
         ensures items { OnOk result ((items : List ItemOfBatch) → Offers self.old.limit items self.old.items.items self.old.more
             → Offers self.old.limit (items ++ lacked_items position.now writes.now) self.new.items.items self.new.more) }
         ensures limit { self.new.limit ≡ self.old.limit }
@@ -110,7 +106,7 @@ impl Outgoing {
     }
 
     /// The commits of these writes, numbered from `first` on, each behind its write where the position lacks that.
-    pub(crate) fn push_commits(
+    fn push_commits(
         &mut self,
         position: &Position,
         first: u64,
@@ -132,9 +128,24 @@ impl Outgoing {
     }
 }
 
-/// What a replica with these numbers and these kept writes has for one at the position, where no commit that is asked for
-/// is dropped.
-pub(crate) fn outgoing_for(
+/// The batch that a replica with these numbers and these kept writes makes for one at the position, where no commit that is
+/// asked for is dropped: so many lines at most.
+pub fn batch_for(
+    alloc: Global,
+    summary: &Summary,
+    kept: &[Write],
+    position: &Position,
+    limit: LineCount,
+) -> Result<Batch, Refusal>
+    ensures batch { IfOk result (λ batch. batch ≡ batch_with summary.now.server summary.now.primary limit (kept_items position.now summary.now kept.now)) }
+    ensures only { summary.now.dropped ≤ position.now.commits → summary.now.commits ≤ 999_999_999_999 → IfErr result (λ e. e ≡ Refusal.OutOfMemory) }
+{
+    let outgoing = outgoing_for(alloc, summary, kept, position, limit)?;
+    Ok(outgoing.into_batch(summary.server, summary.primary))
+}
+
+/// Its items.
+fn outgoing_for(
     alloc: Global,
     summary: &Summary,
     kept: &[Write],

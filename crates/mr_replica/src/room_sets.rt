@@ -4,17 +4,17 @@ ghost use Rattle.std.specs.Cmp.Lexicographic.{slice_cmp};
 ghost use Rattle.std.specs.Ordering.{nat_cmp};
 ghost use Rattle.mr_model.specs.Texts.{Text};
 ghost use Rattle.mr_tables.specs.Rooms.{rooms_beside};
-ghost use Rattle.mr_replica.specs.Named.{has_room, IsSetOf};
+ghost use Rattle.mr_replica.specs.Sets.{has_room, IsSetOf};
 
 use mr_base::{Refusal, RoomName};
 use std::alloc::Global;
 use std::collections::BTreeSet;
 
 /// Rooms, each once, in the order of names.
-pub(crate) type RoomSet = BTreeSet<RoomName>;
+pub type RoomSet = BTreeSet<RoomName>;
 
 /// These rooms as a set.
-pub(crate) fn room_set(alloc: Global, rooms: &[RoomName]) -> Result<RoomSet, Refusal>
+pub fn room_set(alloc: Global, rooms: &[RoomName]) -> Result<RoomSet, Refusal>
     ensures set { IfOk result (λ set. IsSetOf set rooms.now) }
     ensures only { IfErr result (λ e. e ≡ Refusal.OutOfMemory) }
 {
@@ -37,7 +37,7 @@ pub(crate) fn add_room(alloc: Global, set: &mut RoomSet, room: &RoomName) -> Res
 }
 
 /// The rooms of a set, as a list.
-pub(crate) fn names_of(alloc: Global, set: RoomSet) -> Result<Vec<RoomName>, Refusal>
+pub fn names_of(alloc: Global, set: RoomSet) -> Result<Vec<RoomName>, Refusal>
     ensures names { IfOk result (λ names. names.items ≡ set.keys) }
     ensures ordered { IsOrdered (slice_cmp nat_cmp) set }
     ensures only { IfErr result (λ e. e ≡ Refusal.OutOfMemory) }
@@ -50,7 +50,7 @@ pub(crate) fn names_of(alloc: Global, set: RoomSet) -> Result<Vec<RoomName>, Ref
 }
 
 /// Those of the rooms that are not among the known ones. These are put into a set once, so that each room costs a logarithm.
-pub(crate) fn unknown_rooms(
+pub fn unknown_rooms(
     alloc: Global,
     known: &[RoomName],
     rooms: &[RoomName],

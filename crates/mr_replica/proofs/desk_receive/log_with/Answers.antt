@@ -5,10 +5,10 @@ use Rattle.mr_model.specs.Kept.{kept_in_order}
 use Rattle.mr_model.specs.Replica.{is_among}
 use Rattle.mr_model.specs.Tables.{place_of}
 use Rattle.mr_replay.specs.Holds.{HaveDistinctIds}
-use Rattle.mr_replica.specs.declared.scope_logs.LoggedWrite.{LoggedWrite}
-use Rattle.mr_replica.specs.PickedUndo.{undo_with}
+use Rattle.mr_replica.specs.declared.logged.LoggedWrite.{LoggedWrite}
+use Rattle.mr_replica.specs.Logged.{undo_with}
 use Rattle.mr_replica.proofs.DeskReceives.{kept_distinct, log_is, same_length}
-use Rattle.mr_replica.proofs.PickedRows.{logged_writes}
+use Rattle.mr_replica.proofs.KeptWrites.{logged_writes}
 use Rattle.mr_replica.proofs.desk_receive.log_with.Goals as goal
 
 pub returns-clause-log : goal.returns-clause-log

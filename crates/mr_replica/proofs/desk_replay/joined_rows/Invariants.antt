@@ -3,7 +3,7 @@ use Rattle.std.specs.List.{filter}
 use Rattle.mr_model.specs.Writes.{Write}
 use Rattle.mr_model.specs.Replay.{Place}
 use Rattle.mr_replay.specs.Holds.{HaveDistinctIds}
-use Rattle.mr_replica.specs.PickedUndo.{undo_with}
+use Rattle.mr_replica.specs.Logged.{undo_with}
 use Rattle.mr_replica.proofs.Joining.{IsJoined}
 use Rattle.mr_replica.proofs.desk_replay.joined_rows.Given as goal
 

@@ -5,7 +5,7 @@ use Rattle.mr_model.specs.Texts.{Text}
 use Rattle.mr_model.specs.Exchange.{Item}
 use Rattle.mr_replay.specs.Places.{UndoRow}
 use Rattle.mr_replica.specs.Moves.{moves_in}
-use Rattle.mr_replica.specs.Named.{IsSetOf}
+use Rattle.mr_replica.specs.Sets.{IsSetOf}
 use Rattle.mr_replica.specs.Tails.{IsTail}
 use Rattle.mr_replica.proofs.desk_replay.parted_by.Given as goal
 

@@ -1,6 +1,6 @@
 use Rattle.std.proofs.Common.{List, subst}
 use Rattle.std.specs.List.Sorted.{IsPermutation}
-use Rattle.mr_replica.specs.declared.scope_logs.LoggedWrite.{LoggedWrite}
+use Rattle.mr_replica.specs.declared.logged.LoggedWrite.{LoggedWrite}
 use Rattle.mr_replica.proofs.KeptWrites.{run_sorted}
 use Rattle.mr_replica.proofs.kept_writes.in_run_order.Goals as goal
 

@@ -4,8 +4,8 @@ use Rattle.std.proofs.lemmas.List.{drop_more, at_drop_all}
 use Rattle.std.specs.List.{list_any}
 use Rattle.std.specs.Prelude.{bytes_eq}
 use Rattle.mr_model.specs.Writes.{Stamp, Write, id_of}
-use Rattle.mr_replica.specs.Named.{has_id, has_room}
-use Rattle.mr_replica.proofs.Named.{added_more}
+use Rattle.mr_replica.specs.Sets.{has_id, has_room}
+use Rattle.mr_replica.proofs.Sets.{added_more}
 use Rattle.mr_replica.proofs.movable.add_writes.Goals as goal
 
 pub loop-write-preserved : goal.loop-write-preserved

@@ -3,7 +3,7 @@ use Rattle.std.specs.List.{list_any}
 use Rattle.std.specs.Prelude.{bytes_eq}
 use Rattle.mr_model.specs.Texts.{Text}
 use Rattle.mr_model.specs.Writes.{id_of}
-use Rattle.mr_replica.specs.Named.{has_id, has_room}
+use Rattle.mr_replica.specs.Sets.{has_id, has_room}
 use Rattle.mr_replica.proofs.movable.add_writes.Given as goal
 
 -- with those of the writes that are left, the rooms are all

@@ -5,7 +5,7 @@ use Rattle.std.specs.Ordering.{nat_cmp}
 use Rattle.mr_model.specs.Texts.{Text}
 use Rattle.mr_base.specs.Answers.{OrOutOfMemory}
 use Rattle.mr_tables.proofs.LogRows.{answered}
-use Rattle.mr_replica.proofs.Named.{room_more}
+use Rattle.mr_replica.proofs.Sets.{room_more}
 use Rattle.mr_replica.proofs.room_sets.add_room.Goals as goal
 
 pub returns-in_ok-insert-clause-rooms : goal.returns-in_ok-insert-clause-rooms

@@ -8,7 +8,7 @@ use Rattle.mr_tables.specs.Change.{changed}
 use Rattle.mr_tables.specs.Rooms.{rooms_beside}
 use Rattle.mr_tables.specs.Written.{meta_of, changed_tallies, written}
 use Rattle.mr_replica.specs.Desk.{DeskView, StandsFor}
-use Rattle.mr_replica.specs.PartCandidate.{ReachedView}
+use Rattle.mr_replica.specs.Taken.{ReachedView}
 use Rattle.mr_replica.specs.Received.{Reaches}
 use Rattle.mr_replica.proofs.DeskMoves.{new_picked}
 use Rattle.mr_replica.proofs.DeskReceives.{desk_moved, desk_after}

@@ -5,7 +5,7 @@ use Rattle.mr_model.specs.Tables.{seq_of}
 use Rattle.mr_model.specs.Taking.{take_items}
 use Rattle.mr_base.specs.Batches.{item_of}
 use Rattle.mr_replica.specs.Desk.{DeskView, nothing_taken}
-use Rattle.mr_replica.specs.PartCandidate.{TakenPicked}
+use Rattle.mr_replica.specs.Taken.{TakenPicked}
 use Rattle.mr_replica.specs.Received.{all_writes}
 use Rattle.mr_replica.proofs.Desks.{summary_in}
 use Rattle.mr_replica.proofs.Moves.{all_pass}

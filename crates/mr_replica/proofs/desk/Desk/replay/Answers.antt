@@ -15,14 +15,14 @@ use Rattle.mr_tables.specs.declared.summary.Summary.{Summary}
 use Rattle.mr_model.specs.Texts.{Text}
 use Rattle.mr_replica.specs.Desk.{DeskView, desk_of}
 use Rattle.mr_replica.specs.Moves.{rooms_named, AreTouched, moves_in}
-use Rattle.mr_replica.specs.PickedBookings.{AreSameRooms}
-use Rattle.mr_replica.specs.PickedLogs.{logged_of}
-use Rattle.mr_replica.specs.PickedUndo.{undo_with}
+use Rattle.mr_replica.specs.Sets.{AreSameRooms}
+use Rattle.mr_replica.specs.Logged.{logged_of}
+use Rattle.mr_replica.specs.Logged.{undo_with}
 use Rattle.mr_replica.specs.Received.{Reaches, IsReplayed, all_writes}
 use Rattle.mr_replica.proofs.DeskMoves.{others_rows, new_places, new_board}
 use Rattle.mr_replica.proofs.DeskReceives.{undone_named, desk_undo}
 use Rattle.mr_replica.proofs.Moves.{touched_told, all_pass}
-use Rattle.mr_replica.proofs.PartMoves.{moving}
+use Rattle.mr_replica.proofs.MovedWrites.{moving}
 use Rattle.mr_replica.proofs.Logs.{length-undo_rows_of}
 use Rattle.mr_replica.proofs.desk.Desk.replay.Goals as goal
 use Rattle.mr_replica.proofs.Writing.{undo_rows_are}

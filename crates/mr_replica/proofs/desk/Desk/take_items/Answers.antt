@@ -4,7 +4,7 @@ use Rattle.mr_model.specs.Step.{After, after_items}
 use Rattle.mr_model.specs.Taking.{take_items}
 use Rattle.mr_base.specs.Batches.{item_of}
 use Rattle.mr_replica.specs.Desk.{DeskView, desk_of, nothing_taken}
-use Rattle.mr_replica.specs.PartCandidate.{ReachedView}
+use Rattle.mr_replica.specs.Taken.{ReachedView}
 use Rattle.mr_replica.proofs.DeskReceives.{desk_reaches, desk_took, desk_refused, tables_turned}
 use Rattle.mr_replica.proofs.desk.Desk.take_items.Goals as goal
 

@@ -1,0 +1,101 @@
+-- Of the writes that a batch executes anew, those that get other rows: how they are picked.
+use Rattle.std.proofs.Common.{◌≡◌, ℕ, zero, suc, ◌+◌, ◌<◌, ◌≤◌, ◌||◌, ltb, Bool, true, false, not, cond, List, [], ◌∷◌, ◌++◌, length, get_or, take, drop, map, Some, refl, sym, ap, ◌∙◌, append_assoc, append-nil, arith, eqb-true}
+use Rattle.std.specs.List.{filter}
+use Rattle.std.specs.BTreeMap.{Updates}
+use Rattle.std.proofs.lemmas.Bool.{true≢false}
+use Rattle.std.proofs.lemmas.Bool.Decides.{nat_tests}
+use Rattle.std.proofs.lemmas.List.{take-append-le, drop-append-le, drop_more, take_more, get_or-map, length-take-le, map-append, length-append}
+use Rattle.std.proofs.lemmas.List.Elements.{filter-append}
+use Rattle.mr_model.specs.Replay.{Place, Taken, Logged}
+use Rattle.mr_model.specs.Writes.{Write}
+use Rattle.mr_base.specs.Ids.{id_cmp}
+use Rattle.mr_replay.specs.Places.{UndoRow}
+use Rattle.mr_replay.proofs.Ids.{at_is}
+use Rattle.mr_part.specs.Changed.{AreById, RowsById, row_at, tells, same_place, is_elsewhere, picked}
+use Rattle.mr_replica.specs.Logged.{undo_with}
+
+pub same_place-true : (p q : Place) → same_place p q ≡ true → p ≡ q
+same_place-true (Taken j) (Taken k) e = ap Taken (eqb-true j k e)
+same_place-true (Taken j) Logged e = absurd (true≢false (sym e))
+same_place-true Logged (Taken k) e = absurd (true≢false (sym e))
+same_place-true Logged Logged e = refl
+
+-- ---- by ids
+
+-- a row that is put in takes the place of the later rows of its id
+pub by_id-more : (rows : List UndoRow) (k : ℕ) (row : UndoRow) (old new : RowsById) → k < length rows → row ≡ get_or rows k row → Updates id_cmp old new row.id (Some row) → AreById old (drop (k + 1) rows) → AreById new (drop k rows)
+by_id-more rows k row old new h is put had = λ id.
+    put.0 id ∙ (λ t. cond (at_is t row.id id) (Some row) (had id t))
+    ∙ ap (λ us. row_at us id) (ap (λ u. u ∷ drop (k + 1) rows) is ∙ sym (drop_more rows k row h))
+
+-- ---- one by one
+
+take_whole : (n : ℕ) (ws : List Write) → length ws ≤ n → take n ws ≡ ws
+take_whole zero [] h = refl
+take_whole (suc n) [] h = refl
+take_whole zero (w ∷ ws) h = absurd (omega arith)
+take_whole (suc n) (w ∷ ws) h = ap (λ vs. w ∷ vs) (take_whole n ws (omega arith))
+
+drop_whole : (n : ℕ) (ws : List Write) → length ws ≤ n → drop n ws ≡ []
+drop_whole zero [] h = refl
+drop_whole (suc n) [] h = refl
+drop_whole zero (w ∷ ws) h = absurd (omega arith)
+drop_whole (suc n) (w ∷ ws) h = drop_whole n ws (omega arith)
+
+size_more : (ws : List Write) (w : Write) → length (ws ++ w ∷ []) ≡ suc (length ws)
+size_more [] w = refl
+size_more (x ∷ ws) w = ap (λ n. suc n) (size_more ws w)
+
+-- one write more
+pub picked_more : (news : ℕ) (undone : List UndoRow) (place : Write → Place) (ws : List Write) (w : Write) (is_changed : Bool) → is_changed ≡ (ltb (length ws) news || is_elsewhere undone place w)
+    → picked news undone place (ws ++ w ∷ []) ≡ cond is_changed (picked news undone place ws ++ w ∷ []) (picked news undone place ws)
+picked_more news undone place ws w is_changed e = go (ltb (length ws) news) refl ∙ ap (λ b. cond b (picked news undone place ws ++ w ∷ []) (picked news undone place ws)) (sym e)
+  where
+    test : Write → Bool
+    test = is_elsewhere undone place
+
+    last : (b : Bool) → (vs : List Write) → vs ++ cond b (w ∷ []) [] ≡ cond b (vs ++ w ∷ []) vs
+    last true vs = refl
+    last false vs = append-nil vs
+
+    go : (b : Bool) → ltb (length ws) news ≡ b → picked news undone place (ws ++ w ∷ []) ≡ cond (b || test w) (picked news undone place ws ++ w ∷ []) (picked news undone place ws)
+    go true low =
+        let few : length ws < news = grind (arith, nat_tests) in
+        let size = size_more ws w in
+        let all : picked news undone place ws ≡ ws = (λ i. take_whole news ws (omega (arith, few)) i ++ filter test (drop_whole news ws (omega (arith, few)) i)) ∙ append-nil ws in
+        (λ i. take_whole news (ws ++ w ∷ []) (omega (arith, few, size)) i ++ filter test (drop_whole news (ws ++ w ∷ []) (omega (arith, few, size)) i))
+        ∙ append-nil (ws ++ w ∷ []) ∙ ap (λ vs. vs ++ w ∷ []) (sym all)
+    go false high =
+        let many : news ≤ length ws = grind (arith, nat_tests) in
+        (λ i. take-append-le news ws (w ∷ []) many i ++ filter test (drop-append-le news ws (w ∷ []) many i))
+        ∙ ap (λ vs. take news ws ++ vs) (filter-append test (drop news ws) (w ∷ []))
+        ∙ sym (append_assoc (take news ws) (filter test (drop news ws)) (filter test (w ∷ [])))
+        ∙ last (test w) (picked news undone place ws)
+
+rows_more : (place : Write → Place) (is_changed : Bool) (ws : List Write) (w : Write) → cond is_changed (map (undo_with place) ws ++ undo_with place w ∷ []) (map (undo_with place) ws) ≡ map (undo_with place) (cond is_changed (ws ++ w ∷ []) ws)
+rows_more place true ws w = sym (map-append (undo_with place) ws (w ∷ []))
+rows_more place false ws w = refl
+
+pub as_many-more : {A B : Type 0} (is_changed : Bool) (xs : List A) (ys : List B) (x : A) (y : B) → length xs ≡ length ys → length (cond is_changed (xs ++ x ∷ []) xs) ≡ length (cond is_changed (ys ++ y ∷ []) ys)
+as_many-more true xs ys x y e = let m = length-append xs (x ∷ []) in let n = length-append ys (y ∷ []) in omega (arith, m, n, e)
+as_many-more false xs ys x y e = e
+
+-- one write more, and what undoes it
+pub changed_more : (news : ℕ) (undone : List UndoRow) (place : Write → Place) (again : List Write) (rows : List UndoRow) (k : ℕ) (w : Write) (u : UndoRow) (stays is_changed : Bool) (writes now : List Write) (us them : List UndoRow) → k < length again → w ≡ get_or again k w → u ≡ get_or rows k u → rows ≡ map (undo_with place) again
+    → stays ≡ tells (row_at undone u.id) u → is_changed ≡ (ltb k news || not stays) → now ≡ cond is_changed (writes ++ w ∷ []) writes → them ≡ cond is_changed (us ++ u ∷ []) us
+    → (writes ≡ picked news undone place (take k again)) × (us ≡ map (undo_with place) (picked news undone place (take k again)))
+    → (now ≡ picked news undone place (take (k + 1) again)) × (them ≡ map (undo_with place) (picked news undone place (take (k + 1) again)))
+changed_more news undone place again rows k w u stays is_changed writes now us them h is_w is_u are stays_is changed_is now_is them_is (have, have_rows) =
+    let mine : u ≡ undo_with place w = is_u ∙ ap (λ xs. get_or xs k u) are ∙ get_or-map (undo_with place) again k w u h ∙ ap (undo_with place) (sym is_w) in
+    let size : length (take k again) ≡ k = length-take-le k again (omega (arith, h)) in
+    let e : is_changed ≡ (ltb (length (take k again)) news || is_elsewhere undone place w) = changed_is ∙ (λ i. ltb (sym size i) news || not ((stays_is ∙ ap (λ (x : UndoRow). tells (row_at undone x.id) x) mine) i)) in
+    let front : take (k + 1) again ≡ take k again ++ w ∷ [] = take_more again k w h ∙ ap (λ v. take k again ++ v ∷ []) (sym is_w) in
+    let more = ap (picked news undone place) front ∙ picked_more news undone place (take k again) w is_changed e in (
+      now_is ∙ ap (λ vs. cond is_changed (vs ++ w ∷ []) vs) have ∙ sym more,
+      them_is ∙ (λ i. cond is_changed (have_rows i ++ mine i ∷ []) (have_rows i)) ∙ rows_more place is_changed (picked news undone place (take k again)) w ∙ sym (ap (map (undo_with place)) more),
+    )
+
+-- the first writes, and the others that are elsewhere
+pub picked_parts : (undone : List UndoRow) (place : Write → Place) (vs ws : List Write) → picked (length vs) undone place (vs ++ ws) ≡ vs ++ filter (is_elsewhere undone place) ws
+picked_parts undone place [] ws = refl
+picked_parts undone place (v ∷ vs) ws = ap (λ us. v ∷ us) (picked_parts undone place vs ws)

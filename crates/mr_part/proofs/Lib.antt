@@ -1,0 +1,13 @@
+pub mod Parting
+pub mod PartBoards
+pub mod ChangedRows
+pub mod PartMoves
+pub mod PartCalls
+pub mod PartRows
+pub mod Picking
+pub mod PickedRows
+pub mod Stamping
+pub mod PartScopes
+pub mod ReceivingPart
+pub mod UndoRows
+pub mod PickedScopes

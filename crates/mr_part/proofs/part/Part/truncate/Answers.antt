@@ -1,0 +1,23 @@
+use Rattle.std.proofs.Common.{◌≡◌, ◌≤◌, ◌==◌, nat_lt, max, false, length, ap, sym, ◌∙◌, inl, arith}
+use Rattle.std.proofs.lemmas.Bool.Decides.{nat_tests}
+use Rattle.mr_tables.specs.declared.summary.Summary.{Summary}
+use Rattle.mr_part.specs.Parts.{PartView}
+use Rattle.mr_part.proofs.PartCalls.{part_truncate}
+use Rattle.mr_part.proofs.part.Part.truncate.Goals as goal
+
+pub returns-clause-step : goal.returns-clause-step
+returns-clause-step c = λ a sound part.
+    let i = c.self.inside in
+    let n = c.args.number in
+    let p : PartView = record { summary = i.summary; rooms = i.rooms.items; kept = c.deref.result.now; marks = i.marks.items; undo = i.undo.items; board = i.board } in
+    let e = (λ t. record { summary = i.summary; rooms = i.rooms.items; kept = c.deref.ensures.value t; marks = i.marks.items; undo = i.undo.items; board = i.board }) ∙ c.self.view_is ∙ part in
+    let server : i.summary.server ≡ a.server = ap (λ (v : PartView). v.summary.server) e in
+    let primary : i.summary.primary ≡ a.primary = ap (λ (v : PartView). v.summary.primary) e in
+    let commits : i.summary.commits ≡ length a.commits = ap (λ (v : PartView). v.summary.commits) e in
+    let own : (a.server == a.primary) ≡ false = (λ t. sym server t == sym primary t) ∙ sym c.eq.ensures ∙ c.if-eq.false in
+    let most = c.if-number-self.false in
+    let within : n ≤ length a.commits = omega arith in
+    let late : nat_lt (length a.commits) n ≡ false = grind (arith, nat_tests) in
+    let s : Summary = record i.summary { dropped = c.max.result } in
+    let is : s ≡ record i.summary { dropped = max i.summary.dropped n } = ap (λ d. record i.summary { dropped = d }) c.max.ensures in
+    inl (part_truncate a n p s c.in_ok-change.change sound e own late within is c.in_ok-change.ensures.change)

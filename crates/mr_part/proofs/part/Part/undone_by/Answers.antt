@@ -1,0 +1,37 @@
+use Rattle.std.proofs.Common.{◌≡◌, ◌∙◌, ◌==◌, ◌&&◌, IfOk, map, ap, sym, subst}
+use Rattle.std.proofs.lemmas.Result.{err_from_is_err_and}
+use Rattle.std.specs.List.{filter}
+use Rattle.mr_model.specs.Writes.{Write, id_of}
+use Rattle.mr_model.specs.Replica.{tentative}
+use Rattle.mr_model.specs.Moving.{may_move}
+use Rattle.mr_model.specs.Tables.{seq_of, place_of}
+use Rattle.mr_base.specs.Batches.{item_of}
+use Rattle.mr_replica.specs.Moves.{moves_in}
+use Rattle.mr_part.specs.Parts.{PartView}
+use Rattle.mr_replica.specs.Taken.{is_inside}
+use Rattle.mr_replica.specs.Logged.{undo_with}
+use Rattle.mr_replica.proofs.Moves.{undone_picked}
+use Rattle.mr_part.proofs.part.Part.undone_by.Goals as goal
+
+pub returns-clause-rows : goal.returns-clause-rows
+returns-clause-rows c = λ a sound part right.
+    let items = map item_of c.args.items.now in
+    let e = c.self.view_is ∙ part in
+    let commits = ap (λ (v : PartView). v.summary.commits) e in
+    let kept = c.deref.ensures.value ∙ ap (λ (v : PartView). v.kept) e in
+    let marks = c.deref-2.ensures.value ∙ ap (λ (v : PartView). v.marks) e ∙ ap (map (seq_of a)) (sym kept) in
+    let row = λ (w : Write). undo_with (place_of a) w in
+    let undo = c.deref-3.ensures.value ∙ ap (λ (v : PartView). v.undo) e ∙ ap (map row) (sym kept) in
+    c.in_ok-rows.ensures.rows c.args.touched.now items c.self.inside.summary.commits c.in_ok-rooms.ensures.set c.tail_of-tail.ensures (seq_of a) row marks undo
+    ∙ (λ t. map row (filter (λ w. seq_of a w == 0 && moves_in c.args.touched.now items (commits t) w) (kept t)))
+    ∙ ap (map row) (undone_picked a items (is_inside a items) c.args.touched.now sound (λ w e. e) right)
+
+pub returns-in_err-rows-clause-rows : goal.returns-in_err-rows-clause-rows
+returns-in_err-rows-clause-rows c = λ a sound part right.
+    let p = err_from_is_err_and c.from_residual-in_err-rows.result c.from_residual-in_err-rows.ensures.1 in
+    subst (λ r. IfOk r (λ rows. rows.items ≡ map (λ w. record { id = id_of w; place = place_of a w }) (filter (may_move a (map item_of c.args.items.now)) (tentative a)))) (sym p.1) tt
+
+pub returns-in_err-rooms-clause-rows : goal.returns-in_err-rooms-clause-rows
+returns-in_err-rooms-clause-rows c = λ a sound part right.
+    let p = err_from_is_err_and c.from_residual.result c.from_residual.ensures.1 in
+    subst (λ r. IfOk r (λ rows. rows.items ≡ map (λ w. record { id = id_of w; place = place_of a w }) (filter (may_move a (map item_of c.args.items.now)) (tentative a)))) (sym p.1) tt

@@ -1,0 +1,50 @@
+use Rattle.std.proofs.Common.{◌∙◌, ap, sym, subst, List}
+use Rattle.std.proofs.lemmas.Bool.{true≢false}
+use Rattle.mr_model.specs.Texts.{Text}
+use Rattle.mr_model.specs.Tables.{Tables, tables_of}
+use Rattle.mr_replica.specs.Sets.{AreSameRooms}
+use Rattle.mr_part.specs.PickedBookings.{touched_in}
+use Rattle.mr_part.specs.ScopeOf.{scope_of}
+use Rattle.mr_tables.specs.Summary.{IsWithin}
+use Rattle.mr_tables.proofs.Limits.{numbers_within}
+use Rattle.mr_part.proofs.PartScopes.{same_meta, same_vector, same_room}
+use Rattle.mr_part.proofs.part_from.part_told.Goals as goal
+
+pub returns-then-not-is_within-clause-only : goal.returns-then-not-is_within-clause-only
+returns-then-not-is_within-clause-only c = λ a h e.
+    let s = scope_of c.args.scope.now in
+    let t = c.args.tables.now in
+    let numbers = c.summary_of-summary.ensures a h (same_meta s t (tables_of a) e) (same_vector s t (tables_of a) e) in
+    absurd (true≢false (sym (c.is_within.ensures.1 (subst IsWithin (sym numbers) (numbers_within a h))) ∙ c.if-not-is_within.true))
+
+pub returns-in-Err-kept_in-clause-only : goal.returns-in-Err-kept_in-clause-only
+returns-in-Err-kept_in-clause-only c = λ a h e.
+    let rooms = touched_in (scope_of c.args.scope.now) c.args.tables.now in
+    let touched = subst (λ (names : List Text). AreSameRooms names rooms) (sym c.deref.ensures.value) c.in-Ok.ensures.rooms in
+    c.in-Err-kept_in.ensures.only a h e touched
+
+pub returns-in-Err-undo_in-clause-only : goal.returns-in-Err-undo_in-clause-only
+returns-in-Err-undo_in-clause-only c = λ a h e.
+    let rooms = touched_in (scope_of c.args.scope.now) c.args.tables.now in
+    let touched = subst (λ (names : List Text). AreSameRooms names rooms) (sym c.deref.ensures.value) c.in-Ok.ensures.rooms in
+    c.in-Err-undo_in.ensures.only a h e (c.deref-2.ensures.value ∙ c.in-Ok-kept_in.ensures.kept a h e touched)
+
+pub returns-in-Err-bookings_in-clause-only : goal.returns-in-Err-bookings_in-clause-only
+returns-in-Err-bookings_in-clause-only c = λ a h e.
+    let rooms = touched_in (scope_of c.args.scope.now) c.args.tables.now in
+    let touched = subst (λ (names : List Text). AreSameRooms names rooms) (sym c.deref-3.ensures.value) c.in-Ok.ensures.rooms in
+    c.in-Err-bookings_in.ensures.only a h e touched
+
+pub returns-in-Ok-copies_of-clause-part : goal.returns-in-Ok-copies_of-clause-part
+returns-in-Ok-copies_of-clause-part c = λ a h e.
+    let s = scope_of c.args.scope.now in
+    let t = c.args.tables.now in
+    let touched = subst (λ (names : List Text). AreSameRooms names (touched_in s t)) (sym c.deref.ensures.value) c.in-Ok.ensures.rooms in
+    let touched_still = subst (λ (names : List Text). AreSameRooms names (touched_in s t)) (sym c.deref-3.ensures.value) c.in-Ok.ensures.rooms in
+    let numbers = c.summary_of-summary.ensures a h (same_meta s t (tables_of a) e) (same_vector s t (tables_of a) e) in
+    let rooms = c.in-Ok-copies_of.ensures.copies ∙ c.deref-4.ensures.value ∙ ap (λ (t : Tables). t.room) c.tables.view_is ∙ same_room s t (tables_of a) e in
+    let kept = c.in-Ok-kept_in.ensures.kept a h e touched in
+    let undo = c.in-Ok-undo_in.ensures.undo a h e (c.deref-2.ensures.value ∙ kept) in
+    let marks = c.in-Ok-kept_in.ensures.marks a h e touched in
+    let board = c.in-Ok-bookings_in.ensures.board a h e touched_still in
+    λ i. record { summary = numbers i; rooms = rooms i; kept = kept i; marks = marks i; undo = undo i; board = board i }

@@ -1,0 +1,20 @@
+use Rattle.std.proofs.Common.{◌≡◌, ℕ, ◌+◌, ◌-◌, ◌<◌, length, drop, Some, subst, arith}
+use Rattle.std.specs.Ordering.{nat_cmp, ordering_then}
+use Rattle.std.specs.BTreeMap.{Updates}
+use Rattle.mr_model.specs.Tables.{UndoRow}
+use Rattle.mr_part.specs.PickedUndo.{IsById}
+use Rattle.mr_part.proofs.UndoRows.{by_id-more}
+use Rattle.mr_part.proofs.scope_undo.rows_by_id.Goals as goal
+
+-- the row that is put in is the one before those so far
+pub loop-left-preserved : goal.loop-left-preserved
+loop-left-preserved c =
+    let left : ℕ = c.loop-left.left in
+    let within = c.loop-left.invariant.0 in
+    let more = c.loop-left-test.true in
+    let one : left ≡ left - 1 + 1 = grind (arith, more) in
+    let low : left - 1 < length c.args.rows.now = grind (arith, more, within) in
+    let had = subst (λ n. IsById (drop n c.args.rows.now) c.loop-left.by_id) one c.loop-left.invariant.1 in
+    let row = c.index-rows-left.result in
+    let put = subst (λ (r : UndoRow). Updates (λ (x y : ℕ × ℕ). ordering_then (nat_cmp x.0 y.0) (nat_cmp x.1 y.1)) c.loop-left.by_id c.insert.new.self (r.server, r.n) (Some row)) c.row.view_is c.in_ok-insert.ensures.updates in
+    (grind (arith, within), by_id-more c.args.rows.now (left - 1) row c.loop-left.by_id c.insert.new.self low c.index-rows-left.is put had)

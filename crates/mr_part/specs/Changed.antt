@@ -1,0 +1,38 @@
+-- Of the writes that a batch executes anew, those that get other rows than they had.
+use Rattle.std.specs.Prelude.{◌≡◌, ℕ, ◌==◌, ◌++◌, Bool, true, false, not, List, take, drop, filter, find, Option, Some, None}
+use Rattle.std.specs.BTreeMap.{BTreeMap, get}
+use Rattle.mr_model.specs.Replay.{Place, Taken, Logged}
+use Rattle.mr_model.specs.Writes.{Id, Write, id_of, same_id}
+use Rattle.mr_base.specs.Ids.{id_cmp}
+use Rattle.mr_replay.specs.Places.{UndoRow}
+use Rattle.mr_replica.specs.Logged.{undo_with}
+
+-- the first row of an id
+abbrev pub row_at : List UndoRow → Id → Option UndoRow
+row_at undone id = find (λ u. same_id u.id id) undone
+
+abbrev pub RowsById : Type 0
+RowsById = BTreeMap Id UndoRow
+
+-- the map has, for each id, the first row of it
+abbrev pub AreById : RowsById → List UndoRow → Type 0
+AreById by_id undone = (id : Id) → get id_cmp by_id id ≡ row_at undone id
+
+abbrev pub same_place : Place → Place → Bool
+same_place (Taken j) (Taken k) = j == k
+same_place (Taken j) Logged = false
+same_place Logged (Taken k) = false
+same_place Logged Logged = true
+
+-- whether there is a row, and it tells the place of the other
+abbrev pub tells : Option UndoRow → UndoRow → Bool
+tells None u = false
+tells (Some v) u = same_place v.place u.place
+
+-- whether a write has another place than its row tells
+abbrev pub is_elsewhere : List UndoRow → (Write → Place) → Write → Bool
+is_elsewhere undone place w = not (tells (row_at undone (id_of w)) (undo_with place w))
+
+-- so many first writes, and of the others those that are elsewhere
+abbrev pub picked : ℕ → List UndoRow → (Write → Place) → List Write → List Write
+picked news undone place ws = take news ws ++ filter (is_elsewhere undone place) (drop news ws)

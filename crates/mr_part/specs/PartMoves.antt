@@ -1,0 +1,43 @@
+-- What a batch undoes and executes anew, as a call of a part gets it, and what the part answers.
+use Rattle.std.specs.Prelude.{◌≡◌, ℕ, List, map, filter, Result, Ok, Err, IfOk, ◌⊎◌}
+use Rattle.mr_model.specs.Texts.{Text}
+use Rattle.mr_model.specs.Writes.{Write, id_of}
+use Rattle.mr_model.specs.Replica.{Replica, IsReplica, tentative}
+use Rattle.mr_model.specs.Exchange.{Item}
+use Rattle.mr_model.specs.Replies.{Took}
+use Rattle.mr_model.specs.Step.{after_items}
+use Rattle.mr_model.specs.Tables.{place_of, tables_of}
+use Rattle.mr_model.specs.Taking.{take_items}
+use Rattle.mr_model.specs.Dropped.{Has}
+use Rattle.mr_model.specs.Scopes.{OfItems}
+use Rattle.mr_model.specs.Moving.{may_move, again, BatchMoves}
+use Rattle.mr_base.specs.declared.refusals.Refusal.{Refusal}
+use Rattle.mr_base.specs.declared.refusals.Refusal.TheVariants.{OutOfMemory}
+use Rattle.mr_replay.specs.Places.{UndoRow}
+use Rattle.mr_replay.specs.Rows.{Rows}
+use Rattle.mr_tables.specs.declared.summary.Summary.{Summary}
+use Rattle.mr_tables.specs.Summary.{summary_of}
+use Rattle.mr_tables.specs.Change.{ChangeView, changed}
+use Rattle.mr_replica.specs.Desk.{nothing_taken, reply_with}
+use Rattle.mr_part.specs.Parts.{part_of}
+
+-- The batch leads from the first replica, whose part has these numbers, rooms and board, to the second one, whose numbers and rooms
+-- are those; the undo rows are those of the tentative writes that it may move, and the writes are those that it has executed anew.
+pub record MovesPart (old : Summary) (known : List Text) (board : Rows) (items : List Item) (a b : Replica) (summary : Summary) (rooms : List Text) (undone : List UndoRow) (writes : List Write) : Type 0 where
+  pub sound : IsReplica a
+  pub old_is : old ≡ summary_of a
+  pub known_are : known ≡ a.rooms
+  pub board_is : board ≡ (part_of (OfItems items) a).board
+  pub moves : BatchMoves a b items
+  pub keeps_rooms : (t : Text) → Has t a.rooms → Has t b.rooms
+  pub summary_is : summary ≡ summary_of b
+  pub rooms_are : rooms ≡ b.rooms
+  pub undone_are : undone ≡ map (λ w. record { id = id_of w; place = place_of a w }) (filter (may_move a items) (tentative a))
+  pub writes_are : writes ≡ again a items moves.news b
+
+-- the answer of a part that takes these items is that of the step, and its change turns the tables into those after it; or memory ran out
+abbrev pub AnswersItems : Replica → List Item → Result (ℕ × ℕ × ChangeView) Refusal → Type 0
+AnswersItems a items result =
+    ((reply_with (λ (taken : ℕ × ℕ × ChangeView). Took taken.0 taken.1) result ≡ (after_items a (take_items items 2 (Ok (nothing_taken a)))).reply)
+    × IfOk result (λ taken. changed taken.2 (tables_of a) ≡ tables_of (after_items a (take_items items 2 (Ok (nothing_taken a)))).replica))
+    ⊎ (result ≡ Err OutOfMemory)

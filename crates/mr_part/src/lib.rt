@@ -1,0 +1,34 @@
+//! A part of a replica's tables: the rows that one command needs, as values, and the calls that answer the command from them.
+//!
+//! It stands on `mr_replica`, whose desk takes the same steps over all rows; what the two share stands there, over slices, with the
+//! laws of it. Contracts see a part as a record (specs/Parts.antt); each call of it is one step of the definitions, for every replica
+//! of whose tables it is the part for the call (`TakesPart`).
+#![tactic(auto)]
+
+mod part;
+mod part_again;
+mod part_batch;
+mod part_changed;
+mod part_commit;
+mod part_from;
+mod part_moved;
+mod part_position;
+mod part_receive;
+mod part_rooms;
+mod part_rows;
+mod part_submit;
+mod part_truncate;
+mod rows_in_scope;
+mod scope;
+mod scope_board;
+mod scope_commits;
+mod scope_items;
+mod scope_log_test;
+mod scope_logs;
+mod scope_touched;
+mod scope_undo;
+
+pub use part::Part;
+pub use rows_in_scope::logs_in_scope;
+pub use scope::Scope;
+pub use scope_touched::touched_rooms;

@@ -1,0 +1,81 @@
+ghost use Rattle.std.specs.Prelude.{◌≡◌, ◌==◌, ◌&&◌, ℕ, List, map, filter, IfOk, IfErr};
+ghost use Rattle.mr_model.specs.Texts.{Text};
+ghost use Rattle.mr_model.specs.Exchange.{Item as ItemOfBatch};
+ghost use Rattle.mr_model.specs.Writes.{Write as WriteOfRoom, id_of};
+ghost use Rattle.mr_model.specs.Replica.{Replica, IsReplica, tentative};
+ghost use Rattle.mr_model.specs.Scopes.{OfItems};
+ghost use Rattle.mr_model.specs.Moving.{may_move as may_move_from};
+ghost use Rattle.mr_model.specs.Tables.{place_of};
+ghost use Rattle.mr_base.specs.Batches.{item_of};
+ghost use Rattle.mr_replay.specs.Places.{UndoRow as UndoRowOfWrite};
+ghost use Rattle.mr_replica.specs.Moves.{AreTouched, moves_in};
+ghost use Rattle.mr_replica.specs.Sets.{IsSetOf};
+ghost use Rattle.mr_replica.specs.Tails.{IsTail};
+ghost use Rattle.mr_part.specs.Parts.{IsPartOf};
+
+use crate::Part;
+use mr_base::{Item, Refusal, RoomName, Write};
+use mr_replay::UndoRow;
+use mr_replica::movable::{may_move, rooms_touched};
+use mr_replica::room_sets::{RoomSet, room_set};
+use mr_replica::tail::{Tail, tail_of};
+use std::alloc::Global;
+
+impl Part {
+    /// The rooms whose writes the items may move, each once.
+    pub(crate) fn touched_by(&self, items: &[Item]) -> Result<Vec<RoomName>, Refusal>
+        ensures rooms { (a : Replica) → IsReplica a → IsPartOf self.now (OfItems (map item_of items.now)) a
+            → IfOk result (λ rooms. AreTouched rooms.items a (map item_of items.now)) }
+        ensures only { IfErr result (λ e. e ≡ Refusal.OutOfMemory) }
+    {
+        let rooms = rooms_touched(self.alloc, &self.kept, items, self.summary.commits)?;
+        Ok(rooms)
+    }
+
+    /// What undoes the tentative writes that the items may move, where they touch these rooms.
+    pub(crate) fn undone_by(
+        &self,
+        touched: &[RoomName],
+        items: &[Item],
+    ) -> Result<Vec<UndoRow>, Refusal>
+        ensures rows { (a : Replica) → IsReplica a → IsPartOf self.now (OfItems (map item_of items.now)) a → AreTouched touched.now a (map item_of items.now)
+            → IfOk result (λ rows. rows.items ≡ map (λ w. record { id = id_of w; place = place_of a w }) (filter (may_move_from a (map item_of items.now)) (tentative a))) }
+        ensures only { IfErr result (λ e. e ≡ Refusal.OutOfMemory) }
+    {
+        let rooms = room_set(self.alloc, touched)?;
+        let tail = tail_of(items, self.summary.commits);
+        let rows = moving_rows(
+            self.alloc,
+            &self.kept,
+            &self.marks,
+            &self.undo,
+            &rooms,
+            &tail,
+        )?;
+        Ok(rows)
+    }
+}
+
+/// What undoes those of these writes that are tentative and may move. The numbers and the undo rows are those of the writes.
+fn moving_rows(
+    alloc: Global,
+    writes: &[Write],
+    marks: &[u64],
+    undo: &[UndoRow],
+    rooms: &RoomSet,
+    tail: &Tail,
+) -> Result<Vec<UndoRow>, Refusal>
+    ensures rows { (touched : List Text) (items : List ItemOfBatch) (commits : ℕ) → IsSetOf rooms.now touched → IsTail tail.now commits items
+        → (mark : WriteOfRoom → ℕ) (row : WriteOfRoom → UndoRowOfWrite) → marks.now ≡ map mark writes.now → undo.now ≡ map row writes.now
+        → IfOk result (λ rows. rows.items ≡ map row (filter (λ w. mark w == 0 && moves_in touched items commits w) writes.now)) }
+    ensures only { IfErr result (λ e. e ≡ Refusal.OutOfMemory) }
+{
+    let mut rows = Vec::new(alloc);
+    let count = writes.len().min(marks.len()).min(undo.len());
+    for k in 0..count {
+        if marks[k] == 0 && may_move(&writes[k], rooms, tail) {
+            rows.push(undo[k])?;
+        }
+    }
+    Ok(rows)
+}

@@ -1,0 +1,31 @@
+ghost use Rattle.std.specs.Prelude.{◌≢◌, ◌≡◌, Err};
+ghost use Rattle.mr_model.specs.Replies.{CommittedIs};
+ghost use Rattle.mr_model.specs.Step.{commit};
+ghost use Rattle.mr_model.specs.Scopes.{NextCommits};
+ghost use Rattle.mr_replica.specs.Desk.{NeverStore};
+ghost use Rattle.mr_part.specs.Parts.{TakesPart};
+
+use crate::Part;
+use mr_base::Refusal;
+use mr_replica::after_commits;
+use mr_tables::Change;
+
+impl Part {
+    /// Commits the first k tentative writes, or all where there are fewer, and answers how many they are, and what that
+    /// changes in the tables.
+    pub fn commit(&self, k: u64) -> Result<(u64, Change), Refusal>
+        ensures step { TakesPart (NextCommits k) (λ a. commit a k) (λ _ done. CommittedIs done.0) (λ done. done.1) self.now result }
+        // A refusal that is due is returned without memory.
+        ensures due { self.now.summary.server ≢ self.now.summary.primary → result ≡ Err Refusal.NotPrimary }
+        ensures own { NeverStore result }
+    {
+        let _ = k;
+        if self.summary.server != self.summary.primary {
+            return Err(Refusal::NotPrimary);
+        }
+        let count = self.kept.len().min(self.undo.len());
+        let (writes, rows) = (&self.kept[..count], &self.undo[..count]);
+        let (_, change) = after_commits(self.alloc, &self.summary, writes, rows)?;
+        Ok((count as u64, change))
+    }
+}

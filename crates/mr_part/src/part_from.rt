@@ -1,0 +1,234 @@
+ghost use Rattle.std.specs.Prelude.{◌≡◌, ◌⊎◌, true, false, [], map, IfOk, IfErr};
+ghost use Rattle.mr_model.specs.Replica.{Replica, IsReplica};
+ghost use Rattle.mr_model.specs.Tables.{seq_of, tables_of};
+ghost use Rattle.mr_model.specs.Scopes.{in_scope};
+ghost use Rattle.mr_tables.specs.Boards.{booking_entry, put_entries};
+ghost use Rattle.mr_part.specs.Parts.{kept_in, IsPartOf};
+ghost use Rattle.mr_replica.specs.Sets.{AreSameRooms};
+ghost use Rattle.mr_part.specs.PickedBookings.{touched_in};
+ghost use Rattle.mr_replica.specs.Logged.{logged_of};
+ghost use Rattle.mr_part.specs.PickedLogs.{is_by_row};
+ghost use Rattle.mr_part.specs.PickedUndo.{has_undo, undo_in};
+ghost use Rattle.mr_part.specs.ScopeOf.{scope_of};
+ghost use Rattle.mr_tables.specs.Summary.{IsWithin};
+
+use crate::scope_board::board_in;
+use crate::scope_commits::first_writes;
+use crate::scope_logs::{numbers_of, sorted_writes};
+use crate::scope_touched::touched_rooms;
+use crate::scope_undo::undo_of;
+use crate::{Part, Scope};
+use mr_base::{Refusal, RoomName, Write};
+use mr_replay::{Board, UndoRow};
+use mr_replica::logged::{LoggedWrite, writes_alone};
+use mr_replica::of_store;
+use mr_tables::Tables;
+use mr_tables::rooms::copies_of;
+use mr_tables::vector::summary_of;
+use std::alloc::Global;
+
+impl Part {
+    /// The part for a command of this scope. Of `write_log`, `undo` and `booking` only the rows in scope have to be there, for a
+    /// commit also all tentative rows of `write_log`; what other rows there are doesn't matter. Refused as the store's fault where a
+    /// row in scope breaks its limits or its undo row is missing, or the numbers are beyond the limits of positions.
+    pub fn from_tables(alloc: Global, scope: &Scope<'_>, tables: &Tables) -> Result<Part, Refusal>
+        ensures part { (a : Replica) → IsReplica a → in_scope (scope_of scope.now) tables.now ≡ in_scope (scope_of scope.now) (tables_of a)
+            → IfOk result (λ part. IsPartOf part (scope_of scope.now) a) }
+        ensures only { (a : Replica) → IsReplica a → in_scope (scope_of scope.now) tables.now ≡ in_scope (scope_of scope.now) (tables_of a)
+            → IfErr result (λ e. e ≡ Refusal.OutOfMemory) }
+        ensures within { IfOk result (λ part. IsWithin part.summary) }
+        ensures cause { IfErr result (λ e. (e ≡ Refusal.OutOfMemory) ⊎ (e ≡ Refusal.Store)) }
+    {
+        match part_told(alloc, scope, tables) {
+            Ok(part) => Ok(part),
+            Err(refusal) => Err(of_store(refusal)),
+        }
+    }
+}
+
+/// The part that the rows in scope tell, where the numbers are within the limits of positions.
+fn part_told(alloc: Global, scope: &Scope<'_>, tables: &Tables) -> Result<Part, Refusal>
+    ensures part { (a : Replica) → IsReplica a → in_scope (scope_of scope.now) tables.now ≡ in_scope (scope_of scope.now) (tables_of a)
+        → IfOk result (λ part. IsPartOf part (scope_of scope.now) a) }
+    ensures only { (a : Replica) → IsReplica a → in_scope (scope_of scope.now) tables.now ≡ in_scope (scope_of scope.now) (tables_of a)
+        → IfErr result (λ e. e ≡ Refusal.OutOfMemory) }
+    ensures within { IfOk result (λ part. IsWithin part.summary) }
+{
+    let summary = summary_of(tables);
+    if !summary.is_within() {
+        return Err(Refusal::Store);
+    }
+    let touched = match touched_in(alloc, scope, tables) {
+        Ok(touched) => touched,
+        Err(refusal) => return Err(refusal),
+    };
+    let (kept, marks) = match kept_in(alloc, scope, tables, &touched) {
+        Ok(kept) => kept,
+        Err(refusal) => return Err(refusal),
+    };
+    let undo = match undo_in(alloc, scope, tables, &kept) {
+        Ok(undo) => undo,
+        Err(refusal) => return Err(refusal),
+    };
+    let board = match bookings_in(alloc, scope, tables, &touched) {
+        Ok(board) => board,
+        Err(refusal) => return Err(refusal),
+    };
+    match copies_of(alloc, &tables.room) {
+        Ok(rooms) => Ok(Part {
+            alloc,
+            summary,
+            rooms,
+            kept,
+            marks,
+            undo,
+            board,
+        }),
+        Err(refusal) => Err(refusal),
+    }
+}
+
+/// The rooms that the scope's batch touches.
+fn touched_in(alloc: Global, scope: &Scope<'_>, tables: &Tables) -> Result<Vec<RoomName>, Refusal>
+    ensures rooms { IfOk result (λ rooms. AreSameRooms rooms.items (touched_in (scope_of scope.now) tables.now)) }
+    ensures only { IfErr result (λ e. e ≡ Refusal.OutOfMemory) }
+{
+    match *scope {
+        Scope::Items(items) => {
+            touched_rooms(alloc, &tables.write_log, items, tables.meta.commits)
+        }
+        Scope::Nothing
+        | Scope::InRoom(_)
+        | Scope::NextCommits(_)
+        | Scope::UpTo(_)
+        | Scope::Above(_) => Ok(Vec::new(alloc)),
+    }
+}
+
+/// The kept writes in scope, in the order of execution, and their commit numbers.
+fn kept_in(
+    alloc: Global,
+    scope: &Scope<'_>,
+    tables: &Tables,
+    touched: &[RoomName],
+) -> Result<(Vec<Write>, Vec<u64>), Refusal>
+    ensures kept { (a : Replica) → IsReplica a → in_scope (scope_of scope.now) tables.now ≡ in_scope (scope_of scope.now) (tables_of a)
+        → AreSameRooms touched.now (touched_in (scope_of scope.now) tables.now) → IfOk result (λ kept. kept.0.items ≡ kept_in (scope_of scope.now) a) }
+    ensures marks { (a : Replica) → IsReplica a → in_scope (scope_of scope.now) tables.now ≡ in_scope (scope_of scope.now) (tables_of a)
+        → AreSameRooms touched.now (touched_in (scope_of scope.now) tables.now) → IfOk result (λ kept. kept.1.items ≡ map (seq_of a) (kept_in (scope_of scope.now) a)) }
+    ensures only { (a : Replica) → IsReplica a → in_scope (scope_of scope.now) tables.now ≡ in_scope (scope_of scope.now) (tables_of a)
+        → AreSameRooms touched.now (touched_in (scope_of scope.now) tables.now) → IfErr result (λ e. e ≡ Refusal.OutOfMemory) }
+{
+    let logged = match logged_in(alloc, scope, tables, touched) {
+        Ok(logged) => logged,
+        Err(refusal) => return Err(refusal),
+    };
+    let marks = match numbers_of(alloc, &logged) {
+        Ok(marks) => marks,
+        Err(refusal) => return Err(refusal),
+    };
+    match writes_alone(alloc, logged) {
+        Ok(kept) => Ok((kept, marks)),
+        Err(refusal) => Err(refusal),
+    }
+}
+
+/// The same, each with its number.
+fn logged_in(
+    alloc: Global,
+    scope: &Scope<'_>,
+    tables: &Tables,
+    touched: &[RoomName],
+) -> Result<Vec<LoggedWrite>, Refusal>
+    ensures logged { (a : Replica) → IsReplica a → in_scope (scope_of scope.now) tables.now ≡ in_scope (scope_of scope.now) (tables_of a)
+        → AreSameRooms touched.now (touched_in (scope_of scope.now) tables.now) → IfOk result (λ logged. logged.items ≡ map (logged_of a) (kept_in (scope_of scope.now) a)) }
+    ensures only { (a : Replica) → IsReplica a → in_scope (scope_of scope.now) tables.now ≡ in_scope (scope_of scope.now) (tables_of a)
+        → AreSameRooms touched.now (touched_in (scope_of scope.now) tables.now) → IfErr result (λ e. e ≡ Refusal.OutOfMemory) }
+{
+    match *scope {
+        Scope::Nothing | Scope::InRoom(_) => Ok(Vec::new(alloc)),
+        Scope::NextCommits(count) => first_writes(alloc, &tables.write_log, count),
+        Scope::UpTo(_) | Scope::Above(_) | Scope::Items(_) => {
+            picked_in(alloc, scope, tables, touched)
+        }
+    }
+}
+
+/// The same in a scope whose rows of `write_log` are told row by row.
+fn picked_in(
+    alloc: Global,
+    scope: &Scope<'_>,
+    tables: &Tables,
+    touched: &[RoomName],
+) -> Result<Vec<LoggedWrite>, Refusal>
+    requires { is_by_row (scope_of scope.now) ≡ true }
+    ensures logged { (a : Replica) → IsReplica a → in_scope (scope_of scope.now) tables.now ≡ in_scope (scope_of scope.now) (tables_of a)
+        → AreSameRooms touched.now (touched_in (scope_of scope.now) tables.now) → IfOk result (λ logged. logged.items ≡ map (logged_of a) (kept_in (scope_of scope.now) a)) }
+    ensures only { (a : Replica) → IsReplica a → in_scope (scope_of scope.now) tables.now ≡ in_scope (scope_of scope.now) (tables_of a)
+        → AreSameRooms touched.now (touched_in (scope_of scope.now) tables.now) → IfErr result (λ e. e ≡ Refusal.OutOfMemory) }
+{
+    let meta = tables.meta;
+    sorted_writes(alloc, &tables.write_log, scope, meta.commits, touched)
+}
+
+/// What undoes each of the kept writes in scope. A batch for a position has no need of it.
+fn undo_in(
+    alloc: Global,
+    scope: &Scope<'_>,
+    tables: &Tables,
+    kept: &[Write],
+) -> Result<Vec<UndoRow>, Refusal>
+    ensures undo { (a : Replica) → IsReplica a → in_scope (scope_of scope.now) tables.now ≡ in_scope (scope_of scope.now) (tables_of a)
+        → kept.now ≡ kept_in (scope_of scope.now) a → IfOk result (λ undo. undo.items ≡ undo_in (scope_of scope.now) a) }
+    ensures only { (a : Replica) → IsReplica a → in_scope (scope_of scope.now) tables.now ≡ in_scope (scope_of scope.now) (tables_of a)
+        → kept.now ≡ kept_in (scope_of scope.now) a → IfErr result (λ e. e ≡ Refusal.OutOfMemory) }
+{
+    match *scope {
+        Scope::Nothing | Scope::InRoom(_) | Scope::Above(_) => Ok(no_undo(alloc, scope)),
+        Scope::NextCommits(_) | Scope::UpTo(_) | Scope::Items(_) => {
+            undo_rows(alloc, scope, tables, kept)
+        }
+    }
+}
+
+/// No rows, in a scope that has none. The scope is there for the contract alone.
+fn no_undo(alloc: Global, scope: &Scope<'_>) -> Vec<UndoRow>
+    requires { has_undo (scope_of scope.now) ≡ false }
+    ensures { (a : Replica) → result.items ≡ undo_in (scope_of scope.now) a }
+{
+    let _ = scope;
+    Vec::new(alloc)
+}
+
+/// The rows of the kept writes, in a scope that has them. The scope is there for the contract alone.
+fn undo_rows(
+    alloc: Global,
+    scope: &Scope<'_>,
+    tables: &Tables,
+    kept: &[Write],
+) -> Result<Vec<UndoRow>, Refusal>
+    requires { has_undo (scope_of scope.now) ≡ true }
+    ensures undo { (a : Replica) → IsReplica a → in_scope (scope_of scope.now) tables.now ≡ in_scope (scope_of scope.now) (tables_of a)
+        → kept.now ≡ kept_in (scope_of scope.now) a → IfOk result (λ undo. undo.items ≡ undo_in (scope_of scope.now) a) }
+    ensures only { (a : Replica) → IsReplica a → in_scope (scope_of scope.now) tables.now ≡ in_scope (scope_of scope.now) (tables_of a)
+        → kept.now ≡ kept_in (scope_of scope.now) a → IfErr result (λ e. e ≡ Refusal.OutOfMemory) }
+{
+    let _ = scope;
+    undo_of(alloc, kept, &tables.undo)
+}
+
+/// A board of the bookings in scope.
+fn bookings_in(
+    alloc: Global,
+    scope: &Scope<'_>,
+    tables: &Tables,
+    touched: &[RoomName],
+) -> Result<Board, Refusal>
+    ensures board { (a : Replica) → IsReplica a → in_scope (scope_of scope.now) tables.now ≡ in_scope (scope_of scope.now) (tables_of a)
+        → AreSameRooms touched.now (touched_in (scope_of scope.now) tables.now)
+        → IfOk result (λ board. board ≡ put_entries (map booking_entry (in_scope (scope_of scope.now) (tables_of a)).booking) []) }
+    ensures only { (a : Replica) → IsReplica a → in_scope (scope_of scope.now) tables.now ≡ in_scope (scope_of scope.now) (tables_of a)
+        → AreSameRooms touched.now (touched_in (scope_of scope.now) tables.now) → IfErr result (λ e. e ≡ Refusal.OutOfMemory) }
+{
+    board_in(alloc, &tables.booking, scope, touched)
+}

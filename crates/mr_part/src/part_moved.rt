@@ -1,0 +1,60 @@
+ghost use Rattle.std.specs.Prelude.{◌≡◌, List, IfOk, IfErr};
+ghost use Rattle.mr_model.specs.Replica.{Replica};
+ghost use Rattle.mr_model.specs.Exchange.{Item};
+ghost use Rattle.mr_model.specs.Tables.{tables_of};
+ghost use Rattle.mr_replay.specs.Rows.{undo_rows_of, undone_all};
+ghost use Rattle.mr_tables.specs.Change.{changed};
+ghost use Rattle.mr_part.specs.PartMoves.{MovesPart};
+
+use crate::part_changed::changed_of;
+use mr_base::{Refusal, RoomName, Write};
+use mr_replay::{Board, UndoRow};
+use mr_replica::candidate::Reached;
+use mr_replica::rewritten;
+use mr_replica::room_sets::unknown_rooms;
+use mr_tables::Change;
+use mr_tables::summary::Summary;
+use std::alloc::Global;
+
+/// What a batch changes in the tables that leads from these numbers and known rooms to what is reached: on the board, which has the
+/// bookings in the rooms that it touches, these executions are undone, and these writes are executed, the new commits first. A write that gets
+/// the place and the number that it had keeps its rows, and isn't put.
+pub(crate) fn moved(
+    alloc: Global,
+    old: &Summary,
+    known: &[RoomName],
+    board: Board,
+    reached: &Reached,
+    undone: &[UndoRow],
+    again: &[Write],
+) -> Result<Change, Refusal>
+    ensures turns { (items : List Item) (a b : Replica) → MovesPart old.now known.now board items a b reached.now.summary reached.now.rooms undone.now again.now
+        → IfOk result (λ change. changed change (tables_of a) ≡ tables_of b) }
+    ensures only { IfErr result (λ e. e ≡ Refusal.OutOfMemory) }
+{
+    let rows = replayed(board, undone, again)?;
+    let news = reached.summary.commits.saturating_sub(old.commits);
+    let changed = changed_of(alloc, undone, news, again, &rows)?;
+    let unknown = unknown_rooms(alloc, known, &reached.rooms)?;
+    let change = rewritten(
+        alloc,
+        old,
+        &reached.summary,
+        unknown,
+        &changed.writes,
+        &changed.rows,
+    )?;
+    Ok(change)
+}
+
+/// What undoes these writes, executed where those executions are undone. One board serves all rooms: the executions of
+/// one of them leave the bookings of the others as they are.
+fn replayed(board: Board, undone: &[UndoRow], again: &[Write]) -> Result<Vec<UndoRow>, Refusal>
+    ensures rows { IfOk result (λ rows. rows.items ≡ undo_rows_of (undone_all board undone.now) again.now) }
+    ensures only { IfErr result (λ e. e ≡ Refusal.OutOfMemory) }
+{
+    let mut board = board;
+    board.undo_all(undone);
+    let rows = board.redo_from(again)?;
+    Ok(rows)
+}

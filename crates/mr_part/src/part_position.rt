@@ -1,0 +1,25 @@
+ghost use Rattle.mr_model.specs.Positions.{position_of};
+ghost use Rattle.mr_model.specs.Replies.{PositionIs};
+ghost use Rattle.mr_model.specs.Scopes.{Nothing};
+ghost use Rattle.mr_replica.specs.Desk.{NeverStore};
+ghost use Rattle.mr_part.specs.Parts.{AnswersPart};
+ghost use Rattle.mr_tables.specs.Summary.{IsWithin};
+
+use crate::Part;
+use mr_base::{Position, Refusal};
+
+impl Part {
+    /// How far the replica's knowledge goes. Numbers beyond the limits, which no replica has, are refused as the store's.
+    pub fn position(&self) -> Result<Position, Refusal>
+        ensures step { AnswersPart Nothing (λ a. PositionIs (position_of a)) PositionIs self.now result }
+        ensures own { IsWithin self.now.summary → NeverStore result }
+    {
+        let counts = self.summary.counts(self.alloc)?;
+        let summary = &self.summary;
+        summary.server.number();
+        summary.primary.number();
+        Position::new(summary.server, summary.primary, summary.commits, counts).ok_or(
+            Refusal::Store,
+        )
+    }
+}

@@ -1,0 +1,102 @@
+ghost use Rattle.std.specs.Prelude.{◌≡◌, ◌≢◌, ◌+◌, ◌<◌, ◌^◌, IsTrue, Ok, Err, Some, map, filter, length};
+ghost use Rattle.std.specs.List.{list_all};
+ghost use Rattle.mr_model.specs.Exchange.{is_item, Header};
+ghost use Rattle.mr_model.specs.Moving.{may_move};
+ghost use Rattle.mr_model.specs.Replica.{Replica, IsReplica, tentative};
+ghost use Rattle.mr_model.specs.Replies.{Took};
+ghost use Rattle.mr_model.specs.Scopes.{Scope, OfItems};
+ghost use Rattle.mr_model.specs.Step.{receive_batch, after_items};
+ghost use Rattle.mr_model.specs.Tables.{place_of, tables_of};
+ghost use Rattle.mr_model.specs.Taking.{take_items};
+ghost use Rattle.mr_model.specs.Writes.{id_of};
+ghost use Rattle.mr_base.specs.Batches.{item_of};
+ghost use Rattle.mr_tables.specs.Change.{changed};
+ghost use Rattle.mr_replica.specs.Desk.{NeverStore, nothing_taken};
+ghost use Rattle.mr_replica.specs.Moves.{AreTouched};
+ghost use Rattle.mr_part.specs.PartMoves.{AnswersItems};
+ghost use Rattle.mr_part.specs.Parts.{IsPartOf, TakesPart};
+
+use crate::Part;
+use crate::part_moved::moved;
+use mr_base::{Batch, Item, Refusal, RoomName};
+use mr_replay::UndoRow;
+use mr_replica::candidate::reached_with;
+use mr_replica::movable::again_in;
+use mr_tables::Change;
+use mr_tables::written::empty;
+
+impl Part {
+    /// Takes a batch whole, or not at all, and answers how many of its writes and of its commits were new, and what that
+    /// changes in the tables. The part is used up: what it has is moved, and not copied.
+    pub fn receive(self, batch: &Batch) -> Result<(u64, u64, Change), Refusal>
+        ensures step { TakesPart (OfItems batch.now.items) (λ a. receive_batch a batch.now) (λ _ taken. Took taken.0 taken.1) (λ taken. taken.2) self result }
+        // A refusal that is due for the header is told without memory.
+        ensures due { (h : Header) → batch.now.header ≡ Some h → h.primary ≢ self.summary.primary → result ≡ Err Refusal.WrongPrimary }
+        ensures own { NeverStore result }
+    {
+        batch.is_within_limits();
+        let Some((_, primary)) = batch.header else {
+            return Ok((0, 0, self.no_change()));
+        };
+        if primary != self.summary.primary {
+            return Err(Refusal::WrongPrimary);
+        }
+        let taken = self.take_items(&batch.items)?;
+        Ok(taken)
+    }
+
+    /// Leaves the tables as they are.
+    fn no_change(&self) -> Change
+        ensures { (s : Scope) (a : Replica) → IsReplica a → IsPartOf self.now s a → changed result (tables_of a) ≡ tables_of a }
+    {
+        empty(
+            self.alloc,
+            &self.summary,
+            Vec::new(self.alloc),
+            Vec::new(self.alloc),
+        )
+    }
+
+    /// Takes the items of a batch, all or none.
+    fn take_items(self, items: &[Item]) -> Result<(u64, u64, Change), Refusal>
+        ensures step { IsTrue (list_all is_item (map item_of items.now)) → length items.now + 2 < 2 ^ 64
+            → TakesPart (OfItems (map item_of items.now)) (λ a. after_items a (take_items (map item_of items.now) 2 (Ok (nothing_taken a)))) (λ _ taken. Took taken.0 taken.1) (λ taken. taken.2) self result }
+        ensures own { NeverStore result }
+    {
+        let touched = self.touched_by(items)?;
+        let undone = self.undone_by(&touched, items)?;
+        let taken = self.take_undone(items, &touched, &undone)?;
+        Ok(taken)
+    }
+
+    /// The same, where the items touch these rooms, and these executions are undone in them. The kept writes and the board are
+    /// moved into what is reached.
+    fn take_undone(
+        self,
+        items: &[Item],
+        touched: &[RoomName],
+        undone: &[UndoRow],
+    ) -> Result<(u64, u64, Change), Refusal>
+        ensures step { IsTrue (list_all is_item (map item_of items.now)) → length items.now + 2 < 2 ^ 64 → (a : Replica) → IsReplica a → IsPartOf self (OfItems (map item_of items.now)) a
+            → AreTouched touched.now a (map item_of items.now) → undone.now ≡ map (λ w. record { id = id_of w; place = place_of a w }) (filter (may_move a (map item_of items.now)) (tentative a))
+            → AnswersItems a (map item_of items.now) result }
+        ensures own { NeverStore result }
+    {
+        let had = self.kept.len() as u64;
+        let Part {
+            alloc,
+            summary,
+            rooms,
+            kept,
+            marks,
+            undo: _,
+            board,
+        } = self;
+        let reached = reached_with(alloc, summary, &rooms, kept, &marks, items)?;
+        let writes = (reached.kept.len() as u64).saturating_sub(had);
+        let commits = reached.summary.commits.saturating_sub(summary.commits);
+        let again = again_in(alloc, &reached.kept, touched, items, summary.commits)?;
+        let change = moved(alloc, &summary, &rooms, board, &reached, undone, &again)?;
+        Ok((writes, commits, change))
+    }
+}

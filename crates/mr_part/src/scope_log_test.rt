@@ -1,0 +1,79 @@
+ghost use Rattle.std.specs.Prelude.{◌≡◌, ℕ, List, IfOk, IfErr};
+ghost use Rattle.mr_model.specs.Texts.{Text};
+ghost use Rattle.mr_model.specs.Exchange.{Item as ItemOfBatch};
+ghost use Rattle.mr_model.specs.Scopes.{Scope as ScopeOfCommand, is_in_tail};
+ghost use Rattle.mr_part.specs.LogTests.{IsTestOf};
+ghost use Rattle.mr_part.specs.PickedLogs.{is_log_in};
+ghost use Rattle.mr_part.specs.ScopeOf.{scope_of};
+ghost use Rattle.mr_replica.specs.Tails.{IsTail};
+
+use crate::Scope;
+use crate::scope_items::Named;
+use mr_base::{Item, Refusal, RoomName};
+use mr_replica::room_sets::{RoomSet, room_set};
+use mr_replica::tail::{Tail, tail_of};
+use mr_tables::LogRow;
+use std::alloc::Global;
+
+/// Which rows of `write_log` are in scope. It is made once, so that each row is asked at the cost of a logarithm.
+#[derive(Drop)]
+pub(crate) enum LogTest {
+    /// No row. Of a commit none is told alone: only all tentative rows tell which are its.
+    Never,
+    /// The commits up to this number.
+    UpTo(u64),
+    /// The commits above this number and all tentative writes.
+    Above(u64),
+    /// What a batch names, and the tentative writes of these rooms in its tail.
+    Items {
+        named: Named,
+        tail: Tail,
+        rooms: RoomSet,
+    },
+}
+
+impl LogTest {
+    /// That of a scope, where so many commits are known and a batch touches these rooms.
+    pub(crate) fn of(
+        alloc: Global,
+        scope: &Scope<'_>,
+        commits: u64,
+        touched: &[RoomName],
+    ) -> Result<LogTest, Refusal>
+        ensures test { IfOk result (λ test. IsTestOf test (scope_of scope.now) commits touched.now) }
+        ensures only { IfErr result (λ e. e ≡ Refusal.OutOfMemory) }
+    {
+        match *scope {
+            Scope::Nothing | Scope::InRoom(_) | Scope::NextCommits(_) => Ok(LogTest::Never),
+            Scope::UpTo(number) => Ok(LogTest::UpTo(number)),
+            Scope::Above(number) => Ok(LogTest::Above(number)),
+            Scope::Items(items) => Ok(LogTest::Items {
+                named: Named::by(alloc, items)?,
+                tail: tail_of(items, commits),
+                rooms: room_set(alloc, touched)?,
+            }),
+        }
+    }
+
+    /// Whether a row is in scope.
+    pub(crate) fn passes(&self, row: &LogRow) -> bool
+        ensures { (scope : ScopeOfCommand) (commits : ℕ) (touched : List Text) → IsTestOf self.now scope commits touched
+            → result ≡ is_log_in scope commits touched row.now }
+    {
+        match self {
+            LogTest::Never => false,
+            LogTest::UpTo(number) => row.seq >= 1 && row.seq <= *number,
+            LogTest::Above(number) => row.seq == 0 || row.seq > *number,
+            LogTest::Items { named, tail, rooms } => {
+                named.has_row(row) || (is_in_tail(row, tail) && rooms.contains(&row.room))
+            }
+        }
+    }
+}
+
+/// Whether the row is of a tentative write in the tail.
+fn is_in_tail(row: &LogRow, tail: &Tail) -> bool
+    ensures { (commits : ℕ) (items : List ItemOfBatch) → IsTail tail.now commits items → result ≡ is_in_tail commits items row.now }
+{
+    row.seq == 0 && tail.has_place(row.time, row.server)
+}
