@@ -11,7 +11,7 @@ use Rattle.mr_base.specs.declared.refusals.Refusal.{Refusal}
 use Rattle.mr_base.specs.declared.refusals.Refusal.TheVariants.{OutOfMemory, Store}
 use Rattle.mr_tables.specs.Change.{ChangeView, changed}
 use Rattle.mr_tables.specs.Summary.{IsWithin}
-use Rattle.mr_replica.specs.Parts.{PartView, IsPartOf}
+use Rattle.mr_part.specs.Parts.{PartView, IsPartOf}
 use Rattle.mr_store.specs.declared.keeper.Keeper.{Ghosts}
 use Rattle.mr_service.specs.Asked.{reply_of}
 use Rattle.mr_service.specs.Served.{IsRead, IsServed}

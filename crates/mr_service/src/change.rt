@@ -1,13 +1,13 @@
 //! A command over a keeper: the part that it needs is loaded, a call of the part does the step, and what that changes is made in the
 //! tables.
 
-ghost use Rattle.mr_replica.specs.ScopeOf.{scope_of};
+ghost use Rattle.mr_part.specs.ScopeOf.{scope_of};
 ghost use Rattle.mr_service.specs.Asked.{reply_in};
 ghost use Rattle.mr_service.specs.Turns.{IsLoaded, IsMadeFor};
 
 use crate::replies::Reply;
 use mr_base::Refusal;
-use mr_replica::{Part, Scope};
+use mr_part::{Part, Scope};
 use mr_store::Keeper;
 use mr_tables::Change;
 

@@ -10,7 +10,7 @@ use crate::replies::Reply;
 use crate::turns;
 use crate::words::read_request;
 use mr_base::{LineCount, Refusal, RoomName};
-use mr_replica::Scope;
+use mr_part::Scope;
 use mr_store::Keeper;
 use mr_wire::{read_batch, read_position};
 use std::alloc::Global;

@@ -14,7 +14,7 @@ ghost use Rattle.mr_service.specs.Turns.{Tells, TurnsBy};
 use crate::outcomes::{booked, logged};
 use crate::replies::{Outcome, Reply};
 use mr_base::{Batch, LineCount, Position, Refusal, Request, RoomName};
-use mr_replica::Part;
+use mr_part::Part;
 use mr_tables::Change;
 
 /// Adds a room.

@@ -4,7 +4,8 @@ ghost use Rattle.mr_store.specs.Cached.{IsMemoryAfter, IsMemoryOf, NeverFails};
 
 use crate::{Fault, Keeper, ListKeeper, PlaceRow};
 use mr_base::{Day, RoomName, WriteId};
-use mr_replica::{Desk, Part, Scope};
+use mr_part::{Part, Scope};
+use mr_replica::Desk;
 use mr_tables::{BookingRow, Change, ErrorRow, Tables};
 use std::alloc::Global;
 use std::marker::Model;

@@ -4,13 +4,14 @@ ghost use Rattle.mr_model.specs.Replica.{Replica};
 ghost use Rattle.mr_model.specs.Tables.{Tables, Stands};
 ghost use Rattle.mr_tables.specs.Summary.{IsWithin};
 ghost use Rattle.mr_replica.specs.Desk.{StandsFor, IsWithinLimits};
-ghost use Rattle.mr_replica.specs.Parts.{IsPartOf};
-ghost use Rattle.mr_replica.specs.ScopeOf.{scope_of};
+ghost use Rattle.mr_part.specs.Parts.{IsPartOf};
+ghost use Rattle.mr_part.specs.ScopeOf.{scope_of};
 ghost use Rattle.mr_store.specs.Kept.{failures_for, IsAtomic, IsQuiet};
 ghost use Rattle.mr_store.specs.Picked.{picked_errors, AreBookings, IsPlaceOf};
 
 use mr_base::{Day, Refusal, RoomName, WriteId};
-use mr_replica::{Desk, Part, Scope};
+use mr_part::{Part, Scope};
+use mr_replica::Desk;
 use mr_tables::{BookingRow, Change, ErrorRow, Tables};
 
 /// Why a keeper answers nothing.

@@ -1,7 +1,7 @@
 //! Keepers: what holds a replica's tables between its commands.
 //!
-//! It stands on `mr_replica`, whose desks a keeper loads, and on `mr_tables`, whose changes it makes; services stand above it, over
-//! any keeper.
+//! It stands on `mr_part` and `mr_replica`, whose parts and desks a keeper loads, and on `mr_tables`, whose changes it makes; services
+//! stand above it, over any keeper.
 //! The contract is that of the trait `Keeper`, which sees a keeper as plain tables.
 #![tactic(auto)]
 

@@ -3,7 +3,8 @@ ghost use Rattle.mr_store.specs.Kept.{failures_for};
 
 use crate::{Fault, Keeper, PlaceRow};
 use mr_base::{Day, RoomName, WriteId};
-use mr_replica::{Desk, Part, Scope};
+use mr_part::{Part, Scope};
+use mr_replica::Desk;
 use mr_tables::{BookingRow, Change, ErrorRow, Tables};
 
 /// A keeper for tests, which fails once: it passes `left` calls on, answers the fault to the next one without passing it on,

@@ -1,8 +1,8 @@
 use Rattle.std.specs.Prelude.{IfOk}
 use Rattle.mr_model.specs.Replica.{Replica}
 use Rattle.mr_model.specs.Tables.{Stands}
-use Rattle.mr_replica.specs.Parts.{IsPartOf}
-use Rattle.mr_replica.specs.ScopeOf.{scope_of}
+use Rattle.mr_part.specs.Parts.{IsPartOf}
+use Rattle.mr_part.specs.ScopeOf.{scope_of}
 use Rattle.mr_store.proofs.Remembered.{followed, of_keeper, of_memory}
 use Rattle.mr_store.proofs.cached.CachedKeeper.load_part.Goals as goal
 

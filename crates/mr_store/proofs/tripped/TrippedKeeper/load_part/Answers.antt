@@ -1,8 +1,8 @@
 use Rattle.std.proofs.Common.{subst, IfOk}
 use Rattle.mr_model.specs.Replica.{Replica}
 use Rattle.mr_model.specs.Tables.{Stands}
-use Rattle.mr_replica.specs.Parts.{IsPartOf}
-use Rattle.mr_replica.specs.ScopeOf.{scope_of}
+use Rattle.mr_part.specs.Parts.{IsPartOf}
+use Rattle.mr_part.specs.ScopeOf.{scope_of}
 use Rattle.mr_store.proofs.tripped.TrippedKeeper.load_part.Goals as goal
 
 pub returns-clause-loaded : goal.returns-clause-loaded
