@@ -18,7 +18,7 @@ use Rattle.mr_tables.specs.Change.{log_id, undo_id}
 use Rattle.mr_sql.specs.declared.questions.LogQuestion.{LogQuestion}
 use Rattle.mr_sql.specs.declared.questions.LogQuestion.TheVariants.{OfId, Between}
 use Rattle.mr_sql.specs.Questions.{is_asked, is_log_asked, is_undo_asked, is_booking_asked, item_questions, tentative_question, log_questions, logs_alone, undo_questions, booking_questions, AreRead, AreNumbered, AreEnough}
-use Rattle.mr_replica.specs.PickedBookings.{AreSameRooms}
+use Rattle.mr_replica.specs.Sets.{AreSameRooms}
 use Rattle.mr_sql.proofs.RowLemmas.{filter_same}
 use Rattle.mr_sql.proofs.ValueLemmas.{one_among}
 

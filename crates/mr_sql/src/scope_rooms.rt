@@ -1,10 +1,10 @@
 ghost use Rattle.std.specs.Prelude.{◌≡◌, ◌∷◌, [], IfOk};
-ghost use Rattle.mr_replica.specs.PickedBookings.{AreSameRooms};
-ghost use Rattle.mr_replica.specs.ScopeOf.{scope_of};
+ghost use Rattle.mr_replica.specs.Sets.{AreSameRooms};
+ghost use Rattle.mr_part.specs.ScopeOf.{scope_of};
 ghost use Rattle.mr_sql.specs.Questions.{booking_questions};
 
 use mr_base::{Refusal, RoomName};
-use mr_replica::{Scope, touched_rooms};
+use mr_part::{Scope, touched_rooms};
 use mr_tables::LogRow;
 use std::alloc::Global;
 

@@ -1,7 +1,7 @@
 use Rattle.std.proofs.Common.{◌∙◌, ap, rules}
 use Rattle.sqlite.specs.Held.{state}
 use Rattle.mr_model.specs.Scopes.{in_scope}
-use Rattle.mr_replica.specs.ScopeOf.{scope_of}
+use Rattle.mr_part.specs.ScopeOf.{scope_of}
 use Rattle.mr_sql.specs.Kept.{tables_in}
 use Rattle.mr_sql.specs.Questions.{AreEnough}
 use Rattle.mr_sql.proofs.QueryLemmas.{reads_made, told_so}

@@ -1,6 +1,6 @@
 use Rattle.std.proofs.Common.{◌≡◌, ◌∙◌, filter, refl, rules}
 use Rattle.sqlite.specs.Held.{state}
-use Rattle.mr_replica.specs.ScopeOf.{scope_of}
+use Rattle.mr_part.specs.ScopeOf.{scope_of}
 use Rattle.mr_sql.specs.Kept.{tables_in}
 use Rattle.mr_sql.specs.Questions.{is_asked, is_booking_asked, booking_questions}
 use Rattle.mr_sql.proofs.QueryLemmas.{survives_itself, uses_so}

@@ -1,6 +1,6 @@
 use Rattle.std.proofs.Common.{◌≡◌, Ok, rules, subst, sym}
 use Rattle.sqlite.specs.Held.{state}
-use Rattle.mr_replica.specs.ScopeOf.{scope_of}
+use Rattle.mr_part.specs.ScopeOf.{scope_of}
 use Rattle.mr_sql.specs.Kept.{tables_in}
 use Rattle.mr_sql.specs.Questions.{AreRead, AreEnough}
 use Rattle.mr_sql.proofs.QueryLemmas.{reads_on}
