@@ -1,5 +1,5 @@
-//! Tests of `mr_tables` and `mr_replica`: calls of desks and tables by hand, and what the desks then answer. It stands above
-//! `mr_replica`, and nothing stands on it. What is proved of a desk is said by its own contracts; here it is run.
+//! Tests of `mr_tables`, `mr_replica` and `mr_part`: calls of desks, parts and tables by hand, and what these then answer. It stands
+//! above them, and nothing stands on it. What is proved of a desk or a part is said by its own contracts; here it is run.
 #![tactic(auto)]
 
 #[cfg(test)]

@@ -4,7 +4,7 @@ use crate::desks::{Ask, Line, NO_ERROR, NONE, NOTHING, Put, Told, batch, puts};
 use crate::tables::{Rows, tables};
 use crate::tests::KEPT;
 use mr_base::{Batch, Refusal};
-use mr_replica::{Part, Scope};
+use mr_part::{Part, Scope};
 use mr_tables::Change;
 use std::alloc::Global;
 use std::process::Abort;

@@ -5,7 +5,7 @@ use crate::acts::{Act, said};
 use crate::opening::Opening;
 use crate::receiving_tests::TWO;
 use mr_base::{Refusal, RoomName};
-use mr_replica::Scope;
+use mr_part::Scope;
 use mr_service::Service;
 use mr_sql::SqlKeeper;
 use mr_store::{Keeper, ListKeeper};

@@ -1,5 +1,6 @@
 use mr_base::{Day, RoomName, WriteId};
-use mr_replica::{Desk, Part, Scope};
+use mr_part::{Part, Scope};
+use mr_replica::Desk;
 use mr_store::{Fault, Keeper, ListKeeper, PlaceRow};
 use mr_tables::{BookingRow, Change, ErrorRow, Tables};
 

@@ -3,7 +3,7 @@
 
 use crate::changes::{MONDAY, first_change, id, second_change, server, tables};
 use mr_base::{Day, Refusal, RoomName, WriteId};
-use mr_replica::Scope;
+use mr_part::Scope;
 use mr_store::{Fault, Keeper, ListKeeper, PlaceRow, Tripped};
 use mr_tables::{BookingRow, Change, ErrorRow};
 use std::alloc::Global;
