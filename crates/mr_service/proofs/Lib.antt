@@ -6,6 +6,7 @@ pub mod RoomLog
 pub mod RoomRows
 pub mod RoomSteps
 pub mod RefusedSteps
+pub mod ReplyHalves
 pub mod RowOrder
 pub mod RunsGrow
 pub mod HeadlineLaws

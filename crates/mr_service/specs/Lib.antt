@@ -1,10 +1,11 @@
--- A reader of the contracts trusts Asked, Asking, Headline, LawfulRuns, Served, Stepping and Worlds. The others, Questions, Requests,
--- Running and Turns, serve private clauses and proofs alone.
+-- A reader of the contracts trusts Asked, Asking, Headline, LawfulRuns, Replied, Served, Stepping and Worlds. The others, Questions,
+-- Requests, Running and Turns, serve private clauses and proofs alone.
 pub mod Asked
 pub mod Asking
 pub mod Headline
 pub mod LawfulRuns
 pub mod Questions
+pub mod Replied
 pub mod Requests
 pub mod Running
 pub mod Served

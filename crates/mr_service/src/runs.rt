@@ -5,6 +5,7 @@ ghost use Rattle.mr_model.specs.Tables.{Stands};
 ghost use Rattle.mr_service.specs.Asked.{command_of, reply_of};
 ghost use Rattle.mr_service.specs.Asking.{NoneFails, TellsFailure};
 ghost use Rattle.mr_service.specs.Headline.{KeepsHeadline};
+ghost use Rattle.mr_service.specs.Replied.{RepliesToAll};
 
 use crate::commands::Command;
 use crate::replies::Reply;
@@ -24,6 +25,8 @@ pub fn run<K: Keeper>(
     ensures open { K.is_clean service.new → K.is_open service.new → K.is_open service.old }
     ensures serves { K.is_clean service.new → K.is_open service.new
         → IfOk result (λ replies. Serves (K.tables service.old) (map command_of commands.now) (map reply_of replies.items) (K.tables service.new)) }
+    ensures replied { K.is_clean service.new → K.is_open service.old
+        → IfOk result (λ replies. RepliesToAll (K.tables service.old) (map command_of commands.now) (map reply_of replies.items)) }
     ensures counts { IfOk result (λ replies. TellsFailure (map reply_of replies.items) → K.failures service.old < K.failures service.new) }
     ensures sure { K.never_fails → K.is_clean service.new → K.is_open service.new → NoneFails (K.tables service.old) (K.failures service.old) (K.failures service.new) }
     ensures cause { IfErr result (λ e. e ≡ Refusal.OutOfMemory) }

@@ -3,6 +3,7 @@ use Rattle.std.proofs.lemmas.List.{map_more, map_push, take_all}
 use Rattle.mr_model.specs.Serving.{TakesRun}
 use Rattle.mr_model.proofs.ServedTables.{takes_run_serves}
 use Rattle.mr_service.specs.Asked.{command_of, reply_of}
+use Rattle.mr_service.specs.Replied.{RepliesToAll}
 use Rattle.mr_service.proofs.RunsGrow as runs
 use Rattle.mr_service.proofs.runs.run.Goals as goal
 
@@ -30,7 +31,8 @@ loop-command-preserved g c =
           (g.K.Keeper.failures c.args.service.now) (g.K.Keeper.failures c.loop-command.service) (g.K.Keeper.failures c.ask-reply.new.self)
           (map command_of (take c.loop-command.command-index c.args.commands.now)) (map reply_of c.loop-command.replies.items)
           (command_of c.command-item.result) (reply_of c.ask-reply.result)
-          c.loop-command.invariant.0 c.ask-reply.ensures.clean c.ask-reply.ensures.open c.ask-reply.ensures.step c.ask-reply.ensures.counts c.ask-reply.ensures.sure),
+          c.loop-command.invariant.0 c.ask-reply.ensures.clean c.ask-reply.ensures.open c.ask-reply.ensures.step c.ask-reply.ensures.counts c.ask-reply.ensures.sure
+          c.ask-reply.ensures.replied c.ask-reply.ensures.lasts),
       n,
       m,
     )
@@ -42,3 +44,9 @@ returns-clause-serves g c = λ k o.
     subst (λ cs. TakesRun (g.K.Keeper.tables c.args.service.now) (map command_of cs) (map reply_of c.loop-command.replies.items) (g.K.Keeper.tables c.loop-command.service)) all
     (c.loop-command.invariant.0.takes k o) in
     takes_run_serves (g.K.Keeper.tables c.args.service.now) (g.K.Keeper.tables c.loop-command.service) (map command_of c.args.commands.now) (map reply_of c.loop-command.replies.items) run
+
+pub returns-clause-replied : goal.returns-clause-replied
+returns-clause-replied g c = λ k o.
+    let all : take c.loop-command.command-index c.args.commands.now ≡ c.args.commands.now = take_all c.loop-command.command-index c.args.commands.now c.loop-command-test.false in
+    subst (λ cs. RepliesToAll (g.K.Keeper.tables c.args.service.now) (map command_of cs) (map reply_of c.loop-command.replies.items)) all
+    (c.loop-command.invariant.0.replied k o)
