@@ -22,6 +22,7 @@ use Rattle.mr_http.proofs.Known.{if_some_map, of_input, of_input_unit}
 use Rattle.mr_web.specs.Routes.{route_of}
 use Rattle.mr_web.specs.Asking.{head_of, readings, Asks, limited, with_route, head_asks, asked_by, body_in, command_in, as_asked, after_body, after_head}
 use Rattle.mr_web.specs.Views.{Gives, Fails, Settles, ServedTo, AnswersTo, Ends, IsServeFault, StopsWith, Tells, response_to, bytes_view}
+use Rattle.mr_web.specs.Written.{Writes}
 use Rattle.mr_web.specs.declared.replies.Answer.{Answer}
 use Rattle.mr_web.specs.declared.rejections.Stop.{Stop}
 use Rattle.mr_web.specs.declared.rejections.Stop.TheVariants as stop
@@ -219,6 +220,11 @@ pub ends_fault : (input : Text) (before after : Tables) (old : Replica) (held : 
     → AnswersTo input before after old (Err f) → Ends held held input before after old (Err (web_fault f))
 ends_fault input before after old held fault.Read same = (keeps_same held, same)
 ends_fault input before after old held fault.Memory answers = (keeps_same held, answers)
+
+-- nor is an answer, of whichever request
+pub none_written : (held : Option (List ℕ)) (f : ReadFault) (IsOne : Text → ℕ → Type 0) → Writes held held IsOne (Err (web_fault f))
+none_written held fault.Read IsOne = keeps_same held
+none_written held fault.Memory IsOne = keeps_same held
 
 -- a request that asks no command leaves the tables as they are
 pub answers_stopped : (input : Text) (old : Replica) (tables : Tables) (s : Stop) (r : Result Answer ReadFault) → StopsWith s r

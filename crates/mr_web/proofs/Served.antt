@@ -1,7 +1,7 @@
 -- One request over a keeper, put together of its parts.
 use Rattle.std.proofs.Common.{inl, inr, refl, ℕ, Option, Result, Ok, Err}
 use Rattle.std.specs.Prelude.{◌≡◌, ◌⊎◌, IfOk}
-use Rattle.mr_model.specs.Http.{Runs, response_of}
+use Rattle.mr_model.specs.Http.{Faulty, Runs, response_of}
 use Rattle.mr_model.specs.Replica.{Replica}
 use Rattle.mr_model.specs.Replies.{Reply}
 use Rattle.mr_model.specs.Step.{IsOfMachine}
@@ -15,11 +15,14 @@ use Rattle.mr_http.proofs.Known.{of_input_map}
 use Rattle.mr_service.specs.Asked.{command_of}
 use Rattle.mr_service.specs.Served.{IsServed}
 use Rattle.mr_service.specs.declared.commands.Command.{Command}
+use Rattle.mr_service.proofs.ReplyHalves.{replied_by}
 use Rattle.mr_web.specs.Asking.{Asks}
 use Rattle.mr_web.specs.Served.{IsRequest}
 use Rattle.mr_web.specs.Steps.{IsServable}
-use Rattle.mr_web.specs.Views.{AnswersTo, Settles, StopsWith, Tells}
+use Rattle.mr_web.specs.Views.{AnswersTo, Settles, StopsWith, Tells, response_to}
+use Rattle.mr_web.specs.Written.{IsAnswer, Makes, Responds}
 use Rattle.mr_web.specs.declared.rejections.Stop.{Stop}
+use Rattle.mr_web.specs.declared.rejections.Stop.TheVariants as why
 use Rattle.mr_web.specs.declared.replies.Answer.{Answer}
 use Rattle.mr_web.proofs.Requests.{answers_stopped, served_by, served_told}
 use Rattle.mr_web.proofs.Steps.{leaves_after, open_after, open_still, stands_after}
@@ -47,17 +50,40 @@ made_lasts : (reply : Reply) (result : Result Answer ReadFault) (clean before af
 made_lasts reply (Ok answer) clean before after made lasts = open_after reply answer.status clean before after made.1 lasts
 made_lasts reply (Err e) clean before after made lasts = tt
 
+-- ---- what is answered, whether or not a failure has shut the keeper
+
+made_answer : {K : Type 0} (k : Ghosts K) (old new : K) (command : Command) (reply : Reply) (result : Result Answer ReadFault)
+    → IsServed k old new (command_of command) reply → IsMade reply result → (input : Text) → Asks input (Runs (command_of command))
+    → Makes (IsAnswer k old new input) result
+made_answer k old new command reply (Ok answer) served made input asks =
+    let said : Responds k old new (Runs (command_of command)) (response_of reply) =
+    (reply, refl, replied_by k old new (command_of command) reply served) in
+    (Runs (command_of command), response_of reply, asks, said, made.0, made.1)
+made_answer k old new command reply (Err e) served made input asks = tt
+
+stopped_answer : {K : Type 0} (k : Ghosts K) (at : K) (s : Stop) (result : Result Answer ReadFault) → StopsWith s result
+    → (input : Text) → Settles input (Err s) → Makes (IsAnswer k at at input) result
+stopped_answer k at (why.Rejected r) (Ok answer) tells input asks =
+    let said : Responds k at at (Faulty (response_to r)) (response_to r) = refl in
+    (Faulty (response_to r), response_to r, asks, said, tells.0, tells.1)
+stopped_answer k at (why.Rejected r) (Err f) tells input asks = absurd tells
+stopped_answer k at (why.Fault f) (Ok answer) tells input asks = absurd tells
+stopped_answer k at (why.Fault f) (Err g) tells input asks = tt
+
+-- ---- requests
+
 -- the command that the input asks was given to the replica
 pub request_served : {K : Type 0} (k : Ghosts K) (old new : K) (command : Command) (reply : Reply) (result : Result Answer ReadFault)
     → IsServed k old new (command_of command) reply → IsMade reply result
     → (known : Option Text) → OfInput known (λ input. Settles input (Ok command)) → IsServable (command_of command)
-    → IsRequest k old new known result (λ answer. answer.status) AnswersTo
+    → IsRequest k old new known result (λ answer. answer.status) AnswersTo Makes
 request_served k old new command reply result served made known asks servable =
     record {
       clean = served.clean;
       opens = served.opens;
       settled = served.settled;
       serves = of_input_map known _ _ (made_answers k old new command reply result served made) asks;
+      answered = of_input_map known _ _ (made_answer k old new command reply result served made) asks;
       steps = λ c o. stands_after (k.tables old) (k.tables new) (command_of command) reply servable (served.step c o);
       crash = λ c o. leaves_after (k.may_leave old) (k.may_leave new) (k.tables old) (command_of command) servable (served.crash c o);
       lasts = made_lasts reply result (k.is_clean new) (k.is_open old) (k.is_open new) made served.lasts;
@@ -65,13 +91,14 @@ request_served k old new command reply result served made known asks servable =
 
 -- the request asks no command, or wasn't read
 pub request_stopped : {K : Type 0} (k : Ghosts K) (at : K) (known : Option Text) (stop : Stop) (result : Result Answer ReadFault)
-    → StopsWith stop result → OfInput known (λ input. Settles input (Err stop)) → IsRequest k at at known result (λ answer. answer.status) AnswersTo
+    → StopsWith stop result → OfInput known (λ input. Settles input (Err stop)) → IsRequest k at at known result (λ answer. answer.status) AnswersTo Makes
 request_stopped k at known stop result stops asks =
     record {
       clean = λ c. c;
       opens = λ c o. o;
       settled = λ c o s. s;
       serves = of_input_map known _ _ (λ input is c o a stands. answers_stopped input a (k.tables at) stop result stops is stands) asks;
+      answered = of_input_map known _ _ (stopped_answer k at stop result stops) asks;
       steps = λ c o a stands. (a, stands, inl refl);
       crash = λ c o t leaves. inl leaves;
       lasts = open_still result (k.is_clean at) (k.is_open at);
@@ -80,16 +107,19 @@ request_stopped k at known stop result stops asks =
 -- what is made of the result leaves the keeper as it is
 pub request_on : {K X Y E F : Type 0} (k : Ghosts K) (old new : K) (known : Option Text) (first : Result X E) (result : Result Y F)
     (first_status : X → ℕ) (status : Y → ℕ) (P : Text → Tables → Tables → Replica → Result X E → Type 0)
-    (Q : Text → Tables → Tables → Replica → Result Y F → Type 0) → IsRequest k old new known first first_status P
+    (Q : Text → Tables → Tables → Replica → Result Y F → Type 0) (G : (Text → ℕ → Type 0) → Result X E → Type 0)
+    (H : (Text → ℕ → Type 0) → Result Y F → Type 0) → IsRequest k old new known first first_status P G
     → ((L : ℕ → Type 0) → IfOk first (λ x. L (first_status x)) → IfOk result (λ y. L (status y)))
     → ((input : Text) (before after : Tables) (a : Replica) → P input before after a first → Q input before after a result)
-    → IsRequest k old new known result status Q
-request_on k old new known first result first_status status P Q request lasts answers =
+    → ((IsOne : Text → ℕ → Type 0) → G IsOne first → H IsOne result)
+    → IsRequest k old new known result status Q H
+request_on k old new known first result first_status status P Q G H request lasts answers gives =
     record {
       clean = request.clean;
       opens = request.opens;
       settled = request.settled;
       serves = of_input_map known _ _ (λ input is c o a stands. answers input (k.tables old) (k.tables new) a (is c o a stands)) request.serves;
+      answered = of_input_map known _ _ (λ input. gives (IsAnswer k old new input)) request.answered;
       steps = request.steps;
       crash = request.crash;
       lasts = lasts (λ n. k.is_clean new → k.is_open old → (n ≡ 503) ⊎ k.is_open new) request.lasts;

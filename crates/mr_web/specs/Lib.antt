@@ -1,5 +1,5 @@
--- A reader of the contracts trusts Asking, Laws, Routes, Served, Steps, Submissions, Views and Words. The others, Plain and Replies,
--- serve private clauses and proofs alone.
+-- A reader of the contracts trusts Asking, Laws, Routes, Served, Steps, Submissions, Views, Words and Written. The others, Plain and
+-- Replies, serve private clauses and proofs alone.
 pub mod Asking
 pub mod Laws
 pub mod Plain
@@ -10,3 +10,4 @@ pub mod Steps
 pub mod Submissions
 pub mod Views
 pub mod Words
+pub mod Written

@@ -11,6 +11,7 @@ ghost use Rattle.mr_web.specs.Served.{IsRequest};
 ghost use Rattle.mr_web.specs.Steps.{IsServable};
 ghost use Rattle.mr_web.specs.Views.{AnswersTo, Ends, Gives, IsServeFault, Settles, StopsWith};
 ghost use Rattle.mr_web.specs.Words.{route_view};
+ghost use Rattle.mr_web.specs.Written.{Makes, Writes};
 
 use crate::checks::asked_by;
 use crate::rejections::{Rejection, Stop};
@@ -92,7 +93,7 @@ fn answer_command<K: Keeper>(
     service: &mut Service<K>,
 ) -> Result<Answer, ReadFault>
     ensures served { (known : Option Text) → OfInput known (λ input. Settles input (Ok command.now)) → IsServable (command_view command.now)
-        → IsRequest K.Keeper service.old service.new known result (λ answer. answer.status) AnswersTo }
+        → IsRequest K.Keeper service.old service.new known result (λ answer. answer.status) AnswersTo Makes }
     ensures memory { IfErr result (λ e. e ≡ memory_fault) }
 {
     let reply = service.ask(command);
@@ -117,7 +118,7 @@ fn answer_one<R: Read, K: Keeper>(
     reader: &mut R,
     service: &mut Service<K>,
 ) -> Result<Answer, ReadFault>
-    ensures served { IsRequest K.Keeper service.old service.new (R.remaining reader.old) result (λ answer. answer.status) AnswersTo }
+    ensures served { IsRequest K.Keeper service.old service.new (R.remaining reader.old) result (λ answer. answer.status) AnswersTo Makes }
     ensures read { IfErr result (λ e. e ≡ read_fault → service.new ≡ service.old) }
 {
     match request_from(alloc, reader) {
@@ -138,7 +139,7 @@ pub fn serve_one<R: Read, W: Write, K: Keeper>(
     service: &mut Service<K>,
 ) -> Result<u16, WebFault>
     ensures served { IsRequest K.Keeper service.old service.new (R.remaining reader.old) result (λ status. status)
-        (Ends (W.contents writer.old) (W.contents writer.new)) }
+        (Ends (W.contents writer.old) (W.contents writer.new)) (Writes (W.contents writer.old) (W.contents writer.new)) }
     ensures read { IfErr result (λ e. e ≡ fault_read → Keeps (W.contents writer.old) (W.contents writer.new) × (service.new ≡ service.old)) }
     ensures fault { IfErr result IsServeFault }
 {
