@@ -1,6 +1,6 @@
 -- What this replica hands out, and what was written of it.
 use Rattle.std.proofs.Common.{◌≡◌, inl, inr, ◌∙◌, refl, sym, ap, subst, ℕ, List, Option, Some, None, Result, Ok, Err, true}
-use Rattle.std.specs.Prelude.{IfOk}
+use Rattle.std.specs.Prelude.{IfOk, IfErr}
 use Rattle.std.proofs.KnownBytes.{Keeps-refl}
 use Rattle.mr_model.specs.Texts.{Text}
 use Rattle.mr_model.specs.Replica.{Replica}
@@ -14,7 +14,8 @@ use Rattle.mr_http.specs.declared.faults.WebFault.{WebFault}
 use Rattle.mr_http.specs.declared.faults.WebFault.TheVariants as fault
 use Rattle.mr_service.specs.Worlds.{IsPositionText}
 use Rattle.mr_peer.specs.Rounds.{Runs}
-use Rattle.mr_peer.specs.Asking.{IsSendFault, IsAskFault, Wrote, OwnRefuses, ReadsOff, HandsOut, IsBatchWith}
+use Rattle.mr_peer.specs.Asking.{IsSendFault, IsAskFault, Wrote, OwnRefuses, ReadsOff, HandsOut, IsBatchWith, IsSomePosition, IsSomeBatch}
+use Rattle.mr_peer.specs.Taking.{IsOwnFault}
 
 -- a step of a command that leaves the replica as it is
 stayed : (a : Replica) (command : Command) (reply : Reply) (b : Replica) → (step a command).replica ≡ a → IsStep a command reply b → b ≡ a
@@ -102,6 +103,49 @@ batch_handed {X} text_of ending reply p m result ok reads a b =
     made x is e =
         unless_batch _ (batch_of a p m) is.0
         (sym is.1 ∙ e ∙ ap (λ (o : Option Position). reply_to_position a o m) (read-position_text p ok))
+
+-- ---- whatever the replica is
+
+-- what is read off a reply fails as this replica does
+pub reads_faults : {X : Type 0} (reply : Reply) (P : X → Type 0) (result : Result X WebFault) → ReadsOff reply P result → IfErr result IsOwnFault
+reads_faults reply P (Ok x) reads = tt
+reads_faults reply P (Err (fault.Own e)) reads = tt
+reads_faults reply P (Err fault.Memory) reads = tt
+reads_faults reply P (Err fault.Read) reads = reads
+reads_faults reply P (Err fault.Write) reads = reads
+reads_faults reply P (Err fault.BadReply) reads = reads
+reads_faults reply P (Err (fault.Peer n)) reads = reads
+
+-- the text is that of some position
+pub some_position : {X : Type 0} (text_of : X → Text) (reply : Reply) (result : Result X WebFault)
+    → ReadsOff reply (λ x. IsPositionText reply (text_of x)) result → IfOk result (λ x. IsSomePosition (text_of x))
+some_position text_of reply (Ok x) reads = (reads.0, reads.2)
+some_position text_of reply (Err e) reads = tt
+
+-- the same of a batch
+pub some_batch : {X : Type 0} (text_of : X → Text) (ending : X → Ending) (reply : Reply) (result : Result X WebFault)
+    → ReadsOff reply (λ x. IsBatchWith reply (text_of x) (ending x)) result
+    → IfOk result (λ x. IsSomeBatch (text_of x) (ending x))
+some_batch text_of ending reply (Ok x) reads = (reads.0, reads.2, reads.3)
+some_batch text_of ending reply (Err e) reads = tt
+
+pub own_asks : (e : WebFault) → IsOwnFault e → IsAskFault e
+own_asks fault.Memory is = tt
+own_asks (fault.Own e) is = tt
+own_asks fault.Read is = is
+own_asks fault.Write is = absurd is
+own_asks fault.BadReply is = is
+own_asks (fault.Peer n) is = is
+
+-- a fault of writing leaves as much written, whatever else would have come
+pub wrote_as : (X Y : Type 0) (request : Text) (held holds : Option (List ℕ)) (e : WebFault)
+    → Wrote {X = X} request held holds (Err e) → Wrote {X = Y} request held holds (Err e)
+wrote_as X Y request held holds fault.Write wrote = wrote
+wrote_as X Y request held holds fault.Memory wrote = wrote
+wrote_as X Y request held holds fault.Read wrote = wrote
+wrote_as X Y request held holds fault.BadReply wrote = wrote
+wrote_as X Y request held holds (fault.Peer n) wrote = wrote
+wrote_as X Y request held holds (fault.Own e) wrote = wrote
 
 -- ---- writing
 

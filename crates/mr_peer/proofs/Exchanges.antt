@@ -9,6 +9,7 @@ use Rattle.mr_model.specs.Tables.{Tables, Stands}
 use Rattle.mr_store.specs.declared.keeper.Keeper.{Ghosts}
 use Rattle.mr_http.specs.declared.faults.WebFault.{WebFault}
 use Rattle.mr_service.specs.Served.{IsServed}
+use Rattle.mr_service.proofs.ReplyHalves.{replied_by, some_step}
 use Rattle.mr_peer.specs.Exchanged.{IsExchanged}
 
 -- a call that failed before the keeper was asked
@@ -20,6 +21,7 @@ untouched k at e P R stays =
       opens = λ c o. o;
       settled = λ c o s. s;
       stands = λ c o a is. (a, is, stays a);
+      answered = λ c o a is. (a, stays a);
       lasts = tt;
       crash = λ c o t left. inl left;
     }
@@ -42,6 +44,7 @@ of_served k old new command reply result P R served steps told reached =
       opens = served.opens;
       settled = served.settled;
       stands = λ c o a is. let s = served.step c o a is in (s.0, s.2, steps a s.0 s.1);
+      answered = λ c o a is. let s = some_step a command reply (replied_by k old new command reply served c o a is) in (s.0, steps a s.0 s.1);
       lasts = lasts_told result (IsOfMachine reply) (k.is_clean new) (k.is_open old) (k.is_open new) told served.lasts;
       crash = λ c o t leaves. elim (served.crash c o t leaves) [ inl left ↦ inl left | inr r ↦ inr (reached t r) ];
     }
@@ -59,6 +62,7 @@ onward k old new first result P Q R call lasts becomes =
       opens = call.opens;
       settled = call.settled;
       stands = λ c o a is. let s = call.stands c o a is in (s.0, s.1, becomes a s.0 s.2);
+      answered = λ c o a is. let s = call.answered c o a is in (s.0, becomes a s.0 s.1);
       lasts = lasts (k.is_clean new → k.is_open old → k.is_open new) call.lasts;
       crash = call.crash;
     }
@@ -72,6 +76,7 @@ reached k old new result P R S call more =
       opens = call.opens;
       settled = call.settled;
       stands = call.stands;
+      answered = call.answered;
       lasts = call.lasts;
       crash = λ c o t leaves. elim (call.crash c o t leaves) [ inl left ↦ inl left | inr r ↦ inr (more t r) ];
     }
@@ -101,6 +106,11 @@ both k old mid new x result P Q T R S U first next becomes of_first of_next =
           let s = first.stands (next.clean c) (next.opens c o) a is in
           let u = next.stands c o s.0 s.1 in
           (u.0, u.1, becomes a s.0 u.0 s.2 u.2);
+      answered = λ c o a is.
+          let still = first.lasts (next.clean c) o in
+          let s = first.stands (next.clean c) still a is in
+          let u = next.answered c still s.0 s.1 in
+          (u.0, becomes a s.0 u.0 s.2 u.1);
       lasts = lasts_on result (k.is_clean new → k.is_open mid → k.is_open new) (k.is_clean new → k.is_open old → k.is_open new)
           (λ last c o. last c (first.lasts (next.clean c) o)) next.lasts;
       crash = λ c o t leaves.

@@ -21,7 +21,7 @@ use Rattle.mr_service.specs.declared.replies.Reply as service
 use Rattle.mr_service.specs.declared.replies.Reply.TheVariants as code
 use Rattle.mr_peer.specs.Replies as peer
 use Rattle.mr_peer.specs.Seen.{counts_seen}
-use Rattle.mr_peer.specs.Taking.{Ends, Counts, Receives, Takes, TakesReply}
+use Rattle.mr_peer.specs.Taking.{Ends, Counts, Receives, Takes, TakesReply, TellsOf, TellsPulled}
 
 -- a batch is answered by counts, or refused, which changes nothing
 abbrev IsCounted : Replica → Reply → Replica → Type 0
@@ -128,3 +128,20 @@ takes_reply known reply a (Err (fault.Own e)) b is h = of_input_map known (λ in
 pub lost_reply : (known : Option Text) (a : Replica) (f : ReadFault) → TakesReply known a (Err (web_fault f)) a
 lost_reply known a read.Read = refl
 lost_reply known a read.Memory = refl
+
+-- ---- whatever this replica makes of the body
+
+-- what is told of a reply is told of the input that it is
+pub tells_pulled : (known : Option Text) (reply : Option peer.Reply) (result : Result (ℕ × ℕ × Ending) WebFault)
+    → OfInput known (λ input. peer.IsReplied input reply) → TellsOf (peer.front_body reply) result → TellsPulled known result
+tells_pulled known reply (Err fault.Read) is tells = tt
+tells_pulled known reply (Err fault.Memory) is tells = tt
+tells_pulled known reply (Ok x) is tells = of_input_map known (λ input. peer.IsReplied input reply) _ (λ input r. (reply, r, tells)) is
+tells_pulled known reply (Err fault.Write) is tells = of_input_map known (λ input. peer.IsReplied input reply) _ (λ input r. (reply, r, tells)) is
+tells_pulled known reply (Err fault.BadReply) is tells = of_input_map known (λ input. peer.IsReplied input reply) _ (λ input r. (reply, r, tells)) is
+tells_pulled known reply (Err (fault.Peer n)) is tells = of_input_map known (λ input. peer.IsReplied input reply) _ (λ input r. (reply, r, tells)) is
+tells_pulled known reply (Err (fault.Own e)) is tells = of_input_map known (λ input. peer.IsReplied input reply) _ (λ input r. (reply, r, tells)) is
+
+pub lost_pulled : (known : Option Text) (f : ReadFault) → TellsPulled known (Err (web_fault f))
+lost_pulled known read.Read = tt
+lost_pulled known read.Memory = tt

@@ -1,5 +1,5 @@
 -- How the asking of a peer ends.
-use Rattle.std.specs.Prelude.{◌≡◌, ◌≤◌, ℕ, List, length, take, Option, Result, Ok, Err, IfOk, Vec}
+use Rattle.std.specs.Prelude.{◌≡◌, ◌≤◌, ◌⊎◌, ℕ, List, length, take, Option, Result, Ok, Err, IfOk, IsErrAnd, Vec}
 use Rattle.std.specs.declared.alloc.Global.{Global}
 use Rattle.std.specs.Io.KnownBytes.{Appends, Keeps}
 use Rattle.mr_model.specs.Texts.{Text}
@@ -15,6 +15,7 @@ use Rattle.mr_base.specs.declared.batches.Ending.{Ending as BatchEnding}
 use Rattle.mr_http.specs.declared.faults.WebFault.{WebFault}
 use Rattle.mr_http.specs.declared.faults.WebFault.TheVariants as fault
 use Rattle.mr_peer.specs.Requests.{pull_request, push_request}
+use Rattle.mr_peer.specs.Taking.{IsOwnFault}
 
 -- a fault of writing a request
 abbrev pub IsSendFault : WebFault → Type 0
@@ -34,6 +35,17 @@ abbrev pub Wrote : {X : Type 0} → Text → Option (List ℕ) → Option (List 
 Wrote request held holds (Ok _) = Appends held holds request
 Wrote request held holds (Err fault.Write) = (n : ℕ) × (n ≤ length request) × Appends held holds (take n request)
 Wrote request held holds (Err _) = Keeps held holds
+
+-- some position is sent with a pull, or a front of that request is; or this replica handed out none, and nothing is written
+abbrev pub SendsPull : Text → Option (List ℕ) → Option (List ℕ) → Result (Unit {0}) WebFault → Type 0
+SendsPull host held holds result =
+    ((p : Position) × Wrote (pull_request host (position_text p)) held holds result) ⊎ (IsErrAnd result IsOwnFault × Keeps held holds)
+
+-- the same of some batch, which ends so
+abbrev pub SendsPush : Text → Option (List ℕ) → Option (List ℕ) → Result BatchEnding WebFault → Type 0
+SendsPush host held holds result =
+    ((b : Batch) × Wrote (push_request host (batch_text b)) held holds result × IfOk result (λ ending. ending_of ending ≡ b.ending))
+    ⊎ (IsErrAnd result IsOwnFault × Keeps held holds)
 
 -- a fault of this replica is the refusal of its step
 abbrev pub OwnRefuses : {X : Type 0} → Replica → Command → Result X WebFault → Type 0
@@ -75,6 +87,14 @@ HandsOut a command P (Err _) = ⊥
 -- the text of the batch that is replied, and how it ends
 abbrev pub IsBatchWith : Reply → Text → Ending → Type 0
 IsBatchWith reply text ending = (b : Batch) × (reply ≡ BatchIs b) × (text ≡ batch_text b) × (ending ≡ b.ending)
+
+-- the text of some position
+abbrev pub IsSomePosition : Text → Type 0
+IsSomePosition text = (p : Position) × (text ≡ position_text p)
+
+-- the text of some batch, and how it ends
+abbrev pub IsSomeBatch : Text → Ending → Type 0
+IsSomeBatch text ending = (b : Batch) × (text ≡ batch_text b) × (ending ≡ b.ending)
 
 -- the text of this replica's position
 abbrev pub HandsPosition : Replica → Result (Vec ℕ Global) WebFault → Replica → Type 0

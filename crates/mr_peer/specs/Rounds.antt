@@ -10,11 +10,11 @@ use Rattle.mr_model.specs.Step.{Command, AskPosition, batch_of}
 use Rattle.mr_base.specs.Batches.{ending_of}
 use Rattle.mr_base.specs.declared.batches.Ending.{Ending}
 use Rattle.mr_http.specs.declared.faults.WebFault.{WebFault}
-use Rattle.mr_peer.specs.Asking.{IsAskFault, Wrote, OwnRefuses, lacking}
+use Rattle.mr_peer.specs.Asking.{IsAskFault, Wrote, OwnRefuses, SendsPull, SendsPush, lacking}
 use Rattle.mr_peer.specs.Replies.{told_took}
 use Rattle.mr_peer.specs.Requests.{pull_request, push_request}
 use Rattle.mr_peer.specs.Steps.{ReceivesSome}
-use Rattle.mr_peer.specs.Taking.{Tells, TakesReply}
+use Rattle.mr_peer.specs.Taking.{Tells, TakesReply, TellsPulled}
 
 -- the ask failed, and the reply wasn't read; or the request was written, and the reply was taken so
 abbrev pub Runs : {X : Type 0} → Replica → Command → Text → Option (List ℕ) → Option (List ℕ) → Result X WebFault → Type 0 → Type 0
@@ -45,3 +45,20 @@ Pushes position host held holds known a result b =
     (b ≡ a)
     × Runs a (lacking position) (push_request host (exchange.batch_text (batch_of a position lines_over_http))) held holds result
     (TellsTook known (batch_of a position lines_over_http).ending result)
+
+-- ---- whatever this replica is
+
+-- the fault of the ask, or what the take makes of what the ask answered
+abbrev pub Then : {X Y : Type 0} → Result X WebFault → (X → Result Y WebFault → Type 0) → Result Y WebFault → Type 0
+Then (Ok x) Takes result = Takes x result
+Then (Err e) Takes result = result ≡ Err e
+
+-- a pull is sent, and the reply to it is told
+abbrev pub PullsSome : Text → Option (List ℕ) → Option (List ℕ) → Option Text → Result (ℕ × ℕ × Ending) WebFault → Type 0
+PullsSome host held holds known result =
+    (asked : Result (Unit {0}) WebFault) × SendsPull host held holds asked × Then asked (λ _. TellsPulled known) result
+
+-- a push is sent, and the reply to it is told, with the ending of what was handed over
+abbrev pub PushesSome : Text → Option (List ℕ) → Option (List ℕ) → Option Text → Result (ℕ × ℕ × Ending) WebFault → Type 0
+PushesSome host held holds known result =
+    (asked : Result Ending WebFault) × SendsPush host held holds asked × Then asked (λ ending. TellsTook known (ending_of ending)) result

@@ -90,3 +90,17 @@ TakesReply known a (Err fault.Read) b = b ≡ a
 TakesReply known a (Err fault.Memory) b = b ≡ a
 TakesReply known a result b =
     OfInput known (λ input. (reply : Option Reply) × IsReplied input reply × Takes (front_body reply) a result b)
+
+-- ---- the same, whatever this replica makes of the body
+
+-- what is at fault with the reply is told; and else how the batch in its body ends, or a fault of this replica
+abbrev pub TellsOf : Result Text WebFault → Result (ℕ × ℕ × Ending) WebFault → Type 0
+TellsOf (Err f) result = result ≡ Err f
+TellsOf (Ok body) (Ok took) = ending_of took.2 ≡ ending_in body
+TellsOf (Ok body) (Err e) = IsOwnFault e
+
+-- the same of the reply that the input is, unless a read failed or memory ran out
+abbrev pub TellsPulled : Option Text → Result (ℕ × ℕ × Ending) WebFault → Type 0
+TellsPulled known (Err fault.Read) = Unit {0}
+TellsPulled known (Err fault.Memory) = Unit {0}
+TellsPulled known result = OfInput known (λ input. (reply : Option Reply) × IsReplied input reply × TellsOf (front_body reply) result)

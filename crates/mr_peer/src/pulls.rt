@@ -1,15 +1,15 @@
-ghost use Rattle.std.specs.Prelude.{◌≡◌, [], IsTrue, IfErr, length};
+ghost use Rattle.std.specs.Prelude.{◌≡◌, [], IsTrue, IfOk, IfErr, Ok, length};
 ghost use Rattle.mr_model.specs.Serving.{Reaches};
 ghost use Rattle.mr_model.specs.Step.{AskPosition};
 ghost use Rattle.mr_service.specs.Asked.{reply_of};
 ghost use Rattle.mr_service.specs.Worlds.{IsPositionText};
-ghost use Rattle.mr_peer.specs.Asking.{AsksPull, HandsPosition, IsAskFault, ReadsOff};
+ghost use Rattle.mr_peer.specs.Asking.{AsksPull, HandsPosition, IsAskFault, IsSomePosition, ReadsOff, SendsPull};
 ghost use Rattle.mr_peer.specs.Exchanged.{IsExchanged};
 ghost use Rattle.mr_peer.specs.Replies as spec;
 ghost use Rattle.mr_peer.specs.Requests.{is_host};
 ghost use Rattle.mr_peer.specs.Seen.{reply_seen, IsInside, counts_seen};
 ghost use Rattle.mr_peer.specs.Steps.{TakesBody, TakesPulled};
-ghost use Rattle.mr_peer.specs.Taking.{Ends, Counts, Receives, Takes, IsOwnFault, IsTakeFault};
+ghost use Rattle.mr_peer.specs.Taking.{Ends, Counts, Receives, Takes, TellsOf, TellsPulled, IsOwnFault, IsTakeFault};
 
 use crate::asking::reply_to;
 use crate::replies::{Replied, front_body, read_reply};
@@ -32,6 +32,7 @@ pub fn pull_ask<K: Keeper, W: Write>(
     requires { IsTrue (is_host host.now) }
     ensures exchanged { IsExchanged K.Keeper service.old service.new result
         (AsksPull host.now (W.contents writer.old) (W.contents writer.new)) (Reaches (K.tables service.old) AskPosition) }
+    ensures sends { SendsPull host.now (W.contents writer.old) (W.contents writer.new) result }
     ensures fault { IfErr result IsAskFault }
 {
     let position = own_position(alloc, service)?;
@@ -49,7 +50,8 @@ pub fn pull_ask<K: Keeper, W: Write>(
 fn own_position<K: Keeper>(alloc: Global, service: &mut Service<K>) -> Result<Vec<u8>, WebFault>
     ensures exchanged { IsExchanged K.Keeper service.old service.new result
         HandsPosition (Reaches (K.tables service.old) AskPosition) }
-    ensures fault { IfErr result IsAskFault }
+    ensures text { IfOk result (λ text. IsSomePosition text.items) }
+    ensures fault { IfErr result IsOwnFault }
 {
     let reply = reply_to(service, Command::Local(Local::Position));
     position_in(alloc, &reply)
@@ -78,6 +80,7 @@ pub fn pull_take<K: Keeper, R: Read>(
 ) -> Result<(u64, u64, Ending), WebFault>
     ensures exchanged { IsExchanged K.Keeper service.old service.new result
         (TakesPulled (R.remaining reader.old)) (TakesBody (K.tables service.old)) }
+    ensures tells { TellsPulled (R.remaining reader.old) result }
     ensures fault { IfErr result IsTakeFault }
 {
     let mut buffer = Vec::new(alloc);
@@ -93,6 +96,7 @@ fn take_reply<K: Keeper, R: Read>(
     requires { buffer.old.items ≡ [] }
     ensures exchanged { IsExchanged K.Keeper service.old service.new result
         (TakesPulled (R.remaining reader.old)) (TakesBody (K.tables service.old)) }
+    ensures tells { TellsPulled (R.remaining reader.old) result }
     ensures fault { IfErr result IsTakeFault }
 {
     let replied = read_reply(reader, buffer)?;
@@ -108,6 +112,7 @@ fn take_body<K: Keeper>(
     requires { IsInside (length bytes.now) replied }
     ensures exchanged { IsExchanged K.Keeper service.old service.new result
         (Takes (spec.front_body (reply_seen bytes.now replied))) (TakesBody (K.tables service.old)) }
+    ensures tells { TellsOf (spec.front_body (reply_seen bytes.now replied)) result }
     ensures fault { IfErr result IsTakeFault }
 {
     let body = front_body(bytes, replied)?;
@@ -121,6 +126,7 @@ fn take_batch<K: Keeper>(
 ) -> Result<(u64, u64, Ending), WebFault>
     ensures exchanged { IsExchanged K.Keeper service.old service.new result
         (Receives body.now) (TakesBody (K.tables service.old)) }
+    ensures tells { TellsOf (Ok body.now) result }
     ensures fault { IfErr result IsOwnFault }
 {
     let ending = ending_in(alloc, body)?;

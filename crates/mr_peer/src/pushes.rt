@@ -1,16 +1,16 @@
-ghost use Rattle.std.specs.Prelude.{◌≡◌, [], IsTrue, IfErr, length, ok_or};
+ghost use Rattle.std.specs.Prelude.{◌≡◌, [], IsTrue, IfOk, IfErr, length, ok_or};
 ghost use Rattle.mr_model.specs.Http.{lines_over_http};
 ghost use Rattle.mr_model.specs.Serving.{Reaches};
 ghost use Rattle.mr_model.specs.Step.{BatchFor};
 ghost use Rattle.mr_base.specs.Batches.{ending_of};
 ghost use Rattle.mr_http.specs.declared.faults.WebFault.TheVariants.{BadReply};
 ghost use Rattle.mr_service.specs.Asked.{command_of, reply_of};
-ghost use Rattle.mr_peer.specs.Asking.{AsksPush, HandsBatch, IsAskFault, IsBatchWith, ReadsOff, lacking};
+ghost use Rattle.mr_peer.specs.Asking.{AsksPush, HandsBatch, IsAskFault, IsBatchWith, IsSomeBatch, ReadsOff, SendsPush, lacking};
 ghost use Rattle.mr_peer.specs.Exchanged.{IsExchanged};
 ghost use Rattle.mr_peer.specs.Replies.{told_took};
 ghost use Rattle.mr_peer.specs.Requests.{is_host};
 ghost use Rattle.mr_peer.specs.Seen.{reply_seen, IsInside};
-ghost use Rattle.mr_peer.specs.Taking.{Tells, Says, IsReplyFault};
+ghost use Rattle.mr_peer.specs.Taking.{Tells, Says, IsOwnFault, IsReplyFault};
 ghost use Rattle.mr_peer.specs.Took.{read_took};
 
 use crate::asking::reply_to;
@@ -36,6 +36,7 @@ pub fn push_ask<K: Keeper, W: Write>(
     requires { IsTrue (is_host host.now) }
     ensures exchanged { IsExchanged K.Keeper service.old service.new result
         (AsksPush position.now host.now (W.contents writer.old) (W.contents writer.new)) (Reaches (K.tables service.old) (lacking position.now)) }
+    ensures sends { SendsPush host.now (W.contents writer.old) (W.contents writer.new) result }
     ensures fault { IfErr result IsAskFault }
 {
     let (text, ending) = own_batch(alloc, service, position)?;
@@ -51,7 +52,8 @@ fn own_batch<K: Keeper>(
 ) -> Result<(Vec<u8>, Ending), WebFault>
     ensures exchanged { IsExchanged K.Keeper service.old service.new result
         (HandsBatch position.now) (Reaches (K.tables service.old) (lacking position.now)) }
-    ensures fault { IfErr result IsAskFault }
+    ensures text { IfOk result (λ x. IsSomeBatch x.0.items (ending_of x.1)) }
+    ensures fault { IfErr result IsOwnFault }
 {
     position.is_within_limits();
     let Ok(text) = write_position(alloc, position) else {

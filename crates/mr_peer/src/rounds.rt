@@ -3,7 +3,7 @@ ghost use Rattle.mr_model.specs.Serving.{Reaches};
 ghost use Rattle.mr_peer.specs.Asking.{lacking};
 ghost use Rattle.mr_peer.specs.Exchanged.{IsExchanged};
 ghost use Rattle.mr_peer.specs.Requests.{is_host};
-ghost use Rattle.mr_peer.specs.Rounds.{Pulls, Pushes};
+ghost use Rattle.mr_peer.specs.Rounds.{Pulls, PullsSome, Pushes, PushesSome};
 ghost use Rattle.mr_peer.specs.Steps.{ReachesByPull};
 
 use crate::pulls::{pull_ask, pull_take};
@@ -25,8 +25,9 @@ pub fn pull<K: Keeper, R: Read, W: Write>(
     writer: &mut W,
 ) -> Result<(u64, u64, Ending), WebFault>
     requires { IsTrue (is_host host.now) }
-    ensures { IsExchanged K.Keeper service.old service.new result
+    ensures exchanged { IsExchanged K.Keeper service.old service.new result
         (Pulls host.now (W.contents writer.old) (W.contents writer.new) (R.remaining reader.old)) (ReachesByPull (K.tables service.old)) }
+    ensures tells { PullsSome host.now (W.contents writer.old) (W.contents writer.new) (R.remaining reader.old) result }
 {
     pull_ask(alloc, service, host, writer)?;
     pull_take(alloc, service, reader)
@@ -43,8 +44,9 @@ pub fn push<K: Keeper, R: Read, W: Write>(
     writer: &mut W,
 ) -> Result<(u64, u64, Ending), WebFault>
     requires { IsTrue (is_host host.now) }
-    ensures { IsExchanged K.Keeper service.old service.new result
+    ensures exchanged { IsExchanged K.Keeper service.old service.new result
         (Pushes position.now host.now (W.contents writer.old) (W.contents writer.new) (R.remaining reader.old)) (Reaches (K.tables service.old) (lacking position.now)) }
+    ensures tells { PushesSome host.now (W.contents writer.old) (W.contents writer.new) (R.remaining reader.old) result }
 {
     let ending = push_ask(alloc, service, position, host, writer)?;
     let (writes, commits) = push_take(alloc, reader)?;

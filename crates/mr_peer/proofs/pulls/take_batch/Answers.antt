@@ -4,7 +4,7 @@ use Rattle.mr_base.specs.declared.batches.Ending.{Ending}
 use Rattle.mr_http.specs.declared.faults.WebFault.{WebFault}
 use Rattle.mr_peer.specs.Exchanged.{IsExchanged}
 use Rattle.mr_peer.specs.Steps.{TakesBody}
-use Rattle.mr_peer.specs.Taking.{Counts, Receives, IsOwnFault}
+use Rattle.mr_peer.specs.Taking.{Counts, Receives, TellsOf, IsOwnFault}
 use Rattle.mr_peer.proofs.Exchanges.{onward, untouched}
 use Rattle.mr_peer.proofs.FaultLemmas.{ends_faults, handed_on}
 use Rattle.mr_peer.proofs.TakeLemmas.{ends_receives, counts_receives}
@@ -51,3 +51,20 @@ pub returns-in_err-writes-clause-fault : goal.returns-in_err-writes-clause-fault
 returns-in_err-writes-clause-fault g c =
     handed_on IsOwnFault c.in_err-writes.field-0.0 c.from_residual-in_err-writes.result c.in_err-writes.ensures.fault
     c.from_residual-in_err-writes.ensures.1
+
+pub returns-in_err-ending-clause-tells : goal.returns-in_err-ending-clause-tells
+returns-in_err-ending-clause-tells g c =
+    let body = c.args.body.now in
+    let e = c.in_err-ending.field-0.0 in
+    let p = err_from_is_err_and c.from_residual.result c.from_residual.ensures.1 in
+    let P : Result (ℕ × ℕ × Ending) WebFault → Type 0 = λ r. TellsOf (Ok body) r in
+    subst P (sym (p.1 ∙ ap Err p.2)) (ends_faults body e c.in_err-ending.ensures)
+
+pub returns-in_err-writes-clause-tells : goal.returns-in_err-writes-clause-tells
+returns-in_err-writes-clause-tells g c =
+    let p = err_from_is_err_and c.from_residual-in_err-writes.result c.from_residual-in_err-writes.ensures.1 in
+    let P : Result (ℕ × ℕ × Ending) WebFault → Type 0 = λ r. TellsOf (Ok c.args.body.now) r in
+    subst P (sym (p.1 ∙ ap Err p.2)) c.in_err-writes.ensures.fault
+
+pub returns-clause-tells : goal.returns-clause-tells
+returns-clause-tells g c = c.in_ok-ending.ensures

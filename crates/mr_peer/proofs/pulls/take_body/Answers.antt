@@ -8,7 +8,7 @@ use Rattle.mr_peer.specs.Exchanged.{IsExchanged}
 use Rattle.mr_peer.specs.Replies.{front_body}
 use Rattle.mr_peer.specs.Seen.{reply_seen}
 use Rattle.mr_peer.specs.Steps.{TakesBody}
-use Rattle.mr_peer.specs.Taking.{Takes, IsReplyFault, IsTakeFault}
+use Rattle.mr_peer.specs.Taking.{Takes, TellsOf, IsReplyFault, IsTakeFault}
 use Rattle.mr_peer.proofs.Exchanges.{untouched}
 use Rattle.mr_peer.proofs.FaultLemmas.{front_faults, handed_on, own_takes, reply_takes}
 use Rattle.mr_peer.proofs.pulls.take_body.Goals as goal
@@ -40,3 +40,15 @@ returns-in_err-body-clause-fault g c =
 
 pub returns-clause-fault : goal.returns-clause-fault
 returns-clause-fault g c = own_takes c.take_batch.result c.take_batch.ensures.fault
+
+pub returns-in_err-body-clause-tells : goal.returns-in_err-body-clause-tells
+returns-in_err-body-clause-tells g c =
+    let e = c.in_err-body.field-0.0 in
+    let p = err_from_is_err_and c.from_residual.result c.from_residual.ensures.1 in
+    let P : Result (ℕ × ℕ × Ending) WebFault → Type 0 = λ r. TellsOf (front_body (reply_seen c.args.bytes.now c.args.replied)) r in
+    subst P (sym (p.1 ∙ ap Err p.2)) (subst (λ (t : Result Text WebFault). TellsOf t (Err e)) c.in_err-body.ensures refl)
+
+pub returns-clause-tells : goal.returns-clause-tells
+returns-clause-tells g c =
+    let P : Result Text WebFault → Type 0 = λ told. TellsOf told c.take_batch.result in
+    subst P c.in_ok-body.ensures c.take_batch.ensures.tells

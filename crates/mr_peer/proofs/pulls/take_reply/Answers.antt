@@ -8,11 +8,11 @@ use Rattle.mr_peer.specs.Exchanged.{IsExchanged}
 use Rattle.mr_peer.specs.Replies.{IsReplied, front_body}
 use Rattle.mr_peer.specs.Seen.{reply_seen}
 use Rattle.mr_peer.specs.Steps.{TakesBody, TakesPulled}
-use Rattle.mr_peer.specs.Taking.{Takes, IsTakeFault}
+use Rattle.mr_peer.specs.Taking.{Takes, TellsPulled, IsTakeFault}
 use Rattle.mr_peer.proofs.Exchanges.{onward, untouched}
 use Rattle.mr_peer.proofs.FaultLemmas.{front_faults, handed_on, read_faults, reply_takes}
 use Rattle.mr_peer.proofs.StepLemmas.{takes_some, unread_stays}
-use Rattle.mr_peer.proofs.TakeLemmas.{takes_left, takes_reply, lost_reply}
+use Rattle.mr_peer.proofs.TakeLemmas.{takes_left, takes_reply, lost_reply, lost_pulled, tells_pulled}
 use Rattle.mr_peer.proofs.pulls.take_reply.Goals as goal
 
 pub returns-in_err-replied-clause-exchanged : goal.returns-in_err-replied-clause-exchanged
@@ -43,3 +43,18 @@ pub returns-in_err-replied-clause-fault : goal.returns-in_err-replied-clause-fau
 returns-in_err-replied-clause-fault g c =
     let e = c.in_err-replied.field-0.0 in
     handed_on IsTakeFault (web_fault e) c.from_residual.result (reply_takes (web_fault e) (read_faults e)) c.from_residual.ensures.1
+
+pub returns-in_err-replied-clause-tells : goal.returns-in_err-replied-clause-tells
+returns-in_err-replied-clause-tells g c =
+    let known = g.R.Read.remaining c.args.reader.now in
+    let p = err_from_is_err_and c.from_residual.result c.from_residual.ensures.1 in
+    let P : Result (ℕ × ℕ × Ending) WebFault → Type 0 = λ r. TellsPulled known r in
+    subst P (sym (p.1 ∙ ap Err p.2)) (lost_pulled known c.in_err-replied.field-0.0)
+
+pub returns-clause-tells : goal.returns-clause-tells
+returns-clause-tells g c =
+    let known = g.R.Read.remaining c.args.reader.now in
+    let replied = c.in_ok-replied.replied in
+    let P : List ℕ → Type 0 = λ bytes. OfInput known (λ input. IsReplied input (reply_seen bytes replied)) in
+    tells_pulled known (reply_seen c.as_slice.result.now replied) c.take_body.result
+    (subst P (sym c.as_slice.ensures.value) c.in_ok-replied.ensures.replied) c.take_body.ensures.tells

@@ -10,8 +10,8 @@ use Rattle.mr_base.specs.declared.batches.Ending.{Ending}
 use Rattle.mr_http.specs.declared.faults.WebFault.TheVariants.{Memory}
 use Rattle.mr_service.specs.Asked.{reply_of}
 use Rattle.mr_service.specs.Served.{IsServed}
-use Rattle.mr_peer.specs.Asking.{HandsBatch, lacking}
-use Rattle.mr_peer.proofs.AskLemmas.{batch_handed, batch_told}
+use Rattle.mr_peer.specs.Asking.{HandsBatch, IsBatchWith, lacking}
+use Rattle.mr_peer.proofs.AskLemmas.{batch_handed, batch_told, reads_faults, some_batch}
 use Rattle.mr_peer.proofs.Exchanges.{of_served, untouched}
 use Rattle.mr_peer.proofs.pushes.own_batch.Goals as goal
 
@@ -35,3 +35,14 @@ returns-clause-exchanged g c =
     of_served g.K.Keeper old new (lacking position) reply result (HandsBatch position) (Reaches (g.K.Keeper.tables old) (lacking position)) served
     (batch_handed text_of (λ x. ending_of x.1) reply position lines_over_http result c.is_within_limits.ensures c.batch_in.ensures)
     (batch_told text_of (λ x. ending_of x.1) reply result c.batch_in.ensures) (λ t r. r)
+
+pub returns-clause-text : goal.returns-clause-text
+returns-clause-text g c =
+    let text_of : Vec ℕ Global × Ending → Text = λ x. x.0.items in
+    some_batch text_of (λ x. ending_of x.1) (reply_of c.reply_to-reply.result) c.batch_in.result c.batch_in.ensures
+
+pub returns-clause-fault : goal.returns-clause-fault
+returns-clause-fault g c =
+    let reply = reply_of c.reply_to-reply.result in
+    let P : Vec ℕ Global × Ending → Type 0 = λ x. IsBatchWith reply x.0.items (ending_of x.1) in
+    reads_faults reply P c.batch_in.result c.batch_in.ensures

@@ -1,4 +1,4 @@
-use Rattle.std.proofs.Common.{◌∙◌, inl, inr, ℕ, refl, sym, ap, subst, Result, Err}
+use Rattle.std.proofs.Common.{◌∙◌, inl, inr, ℕ, refl, sym, ap, subst, Result, Ok, Err}
 use Rattle.std.proofs.lemmas.Result.{err_from_is_err_and}
 use Rattle.mr_model.specs.Positions.{position_of, position_text}
 use Rattle.mr_model.specs.Serving.{Reaches}
@@ -18,8 +18,8 @@ use Rattle.mr_peer.proofs.StepLemmas.{pulls_behind, body_behind}
 use Rattle.mr_peer.proofs.rounds.pull.Goals as goal
 
 -- the ask failed
-pub returns-in_err-pull_ask : goal.returns-in_err-pull_ask
-returns-in_err-pull_ask g c =
+pub returns-in_err-pull_ask-clause-exchanged : goal.returns-in_err-pull_ask-clause-exchanged
+returns-in_err-pull_ask-clause-exchanged g c =
     let host = c.args.host.now in
     let old = c.args.service.now in
     let new = c.pull_ask.new.service in
@@ -43,8 +43,8 @@ returns-in_err-pull_ask g c =
     )))
     (λ t r. inl r))
 
-pub returns : goal.returns
-returns g c =
+pub returns-clause-exchanged : goal.returns-clause-exchanged
+returns-clause-exchanged g c =
     let host = c.args.host.now in
     let old = c.args.service.now in
     let asked = c.pull_ask.new.service in
@@ -62,3 +62,13 @@ returns g c =
       body_behind before between t r.0
           (λ a is. let s = stands a is in subst (Stands between) s.2.0 s.1) r.1,
     ))
+
+-- ---- whatever this replica is
+
+pub returns-in_err-pull_ask-clause-tells : goal.returns-in_err-pull_ask-clause-tells
+returns-in_err-pull_ask-clause-tells g c =
+    let p = err_from_is_err_and c.from_residual.result c.from_residual.ensures.1 in
+    (Err c.in_err-pull_ask.field-0.0, c.in_err-pull_ask.ensures.sends, p.1 ∙ ap Err p.2)
+
+pub returns-clause-tells : goal.returns-clause-tells
+returns-clause-tells g c = (Ok tt, c.in_ok-pull_ask.ensures.sends, c.pull_take.ensures.tells)

@@ -4,6 +4,7 @@ use Rattle.mr_model.specs.Exchange.{batch_text}
 use Rattle.mr_model.specs.Http.{lines_over_http}
 use Rattle.mr_model.specs.Serving.{Reaches}
 use Rattle.mr_model.specs.Step.{batch_of}
+use Rattle.mr_base.specs.Batches.{ending_of}
 use Rattle.mr_base.specs.declared.batches.Ending.{Ending}
 use Rattle.mr_http.specs.declared.faults.WebFault.{WebFault}
 use Rattle.mr_peer.specs.Asking.{AsksPush, lacking}
@@ -15,8 +16,8 @@ use Rattle.mr_peer.proofs.Exchanges.{onward}
 use Rattle.mr_peer.proofs.rounds.push.Goals as goal
 
 -- the ask failed
-pub returns-in_err-ending : goal.returns-in_err-ending
-returns-in_err-ending g c =
+pub returns-in_err-ending-clause-exchanged : goal.returns-in_err-ending-clause-exchanged
+returns-in_err-ending-clause-exchanged g c =
     let host = c.args.host.now in
     let position = c.args.position.now in
     let old = c.args.service.now in
@@ -39,8 +40,8 @@ returns-in_err-ending g c =
     )))
 
 -- the peer's reply was not taken
-pub returns-in_err-writes : goal.returns-in_err-writes
-returns-in_err-writes g c =
+pub returns-in_err-writes-clause-exchanged : goal.returns-in_err-writes-clause-exchanged
+returns-in_err-writes-clause-exchanged g c =
     let host = c.args.host.now in
     let position = c.args.position.now in
     let old = c.args.service.now in
@@ -57,8 +58,8 @@ returns-in_err-writes g c =
     (onward g.K.Keeper old new (Ok c.in_ok-ending.ending) (Err e) (AsksPush position host held holds) Q R c.in_ok-ending.ensures.exchanged (λ L l. tt)
     (λ a b h. (h.0, inr (h.2, (Err e, c.in_err-writes.ensures.tells, refl)))))
 
-pub returns : goal.returns
-returns g c =
+pub returns-clause-exchanged : goal.returns-clause-exchanged
+returns-clause-exchanged g c =
     let host = c.args.host.now in
     let position = c.args.position.now in
     let old = c.args.service.now in
@@ -70,3 +71,23 @@ returns g c =
     onward g.K.Keeper old c.push_ask.new.service (Ok c.in_ok-ending.ending) (Ok took) (AsksPush position host held holds)
     (Pushes position host held holds known) (Reaches (g.K.Keeper.tables old) (lacking position)) c.in_ok-ending.ensures.exchanged (λ L l. l)
     (λ a b h. (h.0, inr (h.2, (Ok counts, c.in_ok-writes.ensures.tells, (refl, refl, h.3)))))
+
+-- ---- whatever this replica is
+
+pub returns-in_err-ending-clause-tells : goal.returns-in_err-ending-clause-tells
+returns-in_err-ending-clause-tells g c =
+    let p = err_from_is_err_and c.from_residual.result c.from_residual.ensures.1 in
+    (Err c.in_err-ending.field-0.0, c.in_err-ending.ensures.sends, p.1 ∙ ap Err p.2)
+
+pub returns-in_err-writes-clause-tells : goal.returns-in_err-writes-clause-tells
+returns-in_err-writes-clause-tells g c =
+    let known = g.R.Read.remaining c.args.reader.now in
+    let e = c.in_err-writes.field-0.0 in
+    let p = err_from_is_err_and c.from_residual-in_err-writes.result c.from_residual-in_err-writes.ensures.1 in
+    let T : Result (ℕ × ℕ × Ending) WebFault → Type 0 = λ r. TellsTook known (ending_of c.in_ok-ending.ending) r in
+    (Ok c.in_ok-ending.ending, c.in_ok-ending.ensures.sends, subst T (sym (p.1 ∙ ap Err p.2)) (Err e, c.in_err-writes.ensures.tells, refl))
+
+pub returns-clause-tells : goal.returns-clause-tells
+returns-clause-tells g c =
+    let counts : ℕ × ℕ = (c.in_ok-writes.writes, c.in_ok-writes.commits) in
+    (Ok c.in_ok-ending.ending, c.in_ok-ending.ensures.sends, (Ok counts, c.in_ok-writes.ensures.tells, (refl, refl, refl)))
