@@ -57,15 +57,16 @@ IsAnswered keeper IsCommand TellsReply old new held holds status =
 
 -- ---- databases
 
--- a keeper as it is opened: nothing has failed, and a crash would leave its tables and nothing else
+-- a keeper as it is opened: nothing has failed, no failure has shut it, and a crash would leave its tables and nothing else
 pub record IsOpened {K : Type 0} (keeper : Ghosts K) (k : K) : Type 0 where
   pub uncounted : keeper.failures k ≡ 0
-  pub settled : keeper.is_clean k → keeper.is_open k → IsSettled (keeper.may_leave k) (keeper.tables k)
+  pub opens : keeper.is_clean k → keeper.is_open k
+  pub settled : keeper.is_clean k → IsSettled (keeper.may_leave k) (keeper.tables k)
 
 -- as that of this server and primary: the tables of a replica that knows nothing yet, or those that were there
 pub record IsOpenedFor {K : Type 0} (keeper : Ghosts K) (server primary : ℕ) (k : K) : Type 0 where
   pub opened : IsOpened keeper k
-  pub tables : keeper.is_clean k → keeper.is_open k
+  pub tables : keeper.is_clean k
       → Stands (keeper.tables k) (opening server primary) ⊎ (((keeper.tables k).meta.server ≡ server) × ((keeper.tables k).meta.primary ≡ primary))
 
 -- why a database can't be opened

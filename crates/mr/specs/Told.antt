@@ -11,6 +11,7 @@ use Rattle.mr_model.specs.Tables.{Tables, Stands}
 use Rattle.mr_store.specs.declared.keeper.Keeper.{Ghosts}
 use Rattle.mr_store.specs.Kept.{IsSettled}
 use Rattle.mr_service.specs.Asking.{Counts, NoneFails}
+use Rattle.mr_service.specs.Replied.{RepliesTo}
 use Rattle.mr_say.specs.Told.{no_memory_line, status_of, Tells}
 
 -- ---- one command
@@ -20,6 +21,7 @@ pub record IsAsked {K : Type 0} (keeper : Ghosts K) (old new : K) (command : Com
   pub clean : keeper.is_clean new → keeper.is_clean old
   pub opens : keeper.is_clean new → keeper.is_open new → keeper.is_open old
   pub takes : keeper.is_clean new → keeper.is_open new → TakesStep (keeper.tables old) command reply (keeper.tables new)
+  pub replied : keeper.is_clean new → keeper.is_open old → RepliesTo (keeper.tables old) command reply
   pub counts : Counts reply (keeper.failures old) (keeper.failures new)
   pub sure : keeper.never_fails → keeper.is_clean new → keeper.is_open new → NoneFails (keeper.tables old) (keeper.failures old) (keeper.failures new)
   pub lasts : keeper.is_clean new → keeper.is_open old → IsOfMachine reply ⊎ keeper.is_open new

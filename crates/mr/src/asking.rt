@@ -47,7 +47,7 @@ fn answer<K: Keeper, W: Write>(
     ensures told { (reply : model.Reply)
         × IsAsked K.Keeper service.old service.new (command_of order.now.command) reply
         × TellsTo order.now.file reply (W.contents out.old) (W.contents out.new) result }
-    ensures shown { K.is_clean service.new → K.is_open service.new → order.now.file ≡ None
+    ensures shown { K.is_clean service.new → K.is_open service.old → order.now.file ≡ None
         → (room : Text) (question : Question) → command_of order.now.command ≡ Ask room question
         → TellsAnswer (K.tables service.old) room question (W.contents out.old) (W.contents out.new) result }
 {

@@ -1,6 +1,6 @@
 use Rattle.std.proofs.Common.{subst, sym}
-use Rattle.mr_model.specs.Serving.{TakesStep}
 use Rattle.mr_service.specs.Asked.{reply_of}
+use Rattle.mr_service.specs.Replied.{RepliesTo}
 use Rattle.mr.specs.Tasks.{TellsTo}
 use Rattle.mr.proofs.AskLaws.{question_is_told}
 use Rattle.mr.proofs.asking.answer.Goals as goal
@@ -22,11 +22,11 @@ returns-clause-told g c = (
 )
 
 pub returns-in-None-clause-shown : goal.returns-in-None-clause-shown
-returns-in-None-clause-shown g c = λ clean still_open printed room question is.
-    question_is_told (g.K.Keeper.tables c.args.service.now) (g.K.Keeper.tables c.ask-reply.new.service) room question (reply_of c.ask-reply.result)
+returns-in-None-clause-shown g c = λ clean was_open printed room question is.
+    question_is_told (g.K.Keeper.tables c.args.service.now) room question (reply_of c.ask-reply.result)
     (g.W.Write.contents c.args.out.now) (g.W.Write.contents c.say_reply.new.out) c.say_reply.result
-    (subst (λ m. TakesStep (g.K.Keeper.tables c.args.service.now) m (reply_of c.ask-reply.result) (g.K.Keeper.tables c.ask-reply.new.service)) is (c.ask-reply.ensures.takes clean still_open))
+    (subst (λ m. RepliesTo (g.K.Keeper.tables c.args.service.now) m (reply_of c.ask-reply.result)) is (c.ask-reply.ensures.replied clean was_open))
     c.say_reply.ensures
 
 pub returns-clause-shown : goal.returns-clause-shown
-returns-clause-shown g c = λ clean still_open printed room question is. let told = c.in-Some.is in absurd (cc (printed, told))
+returns-clause-shown g c = λ clean was_open printed room question is. let told = c.in-Some.is in absurd (cc (printed, told))

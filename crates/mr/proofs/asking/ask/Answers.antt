@@ -5,6 +5,7 @@ returns g c = record {
   clean = c.ask.ensures.clean;
   opens = c.ask.ensures.open;
   takes = c.ask.ensures.step;
+  replied = c.ask.ensures.replied;
   counts = c.ask.ensures.counts;
   sure = c.ask.ensures.sure;
   lasts = c.ask.ensures.lasts;

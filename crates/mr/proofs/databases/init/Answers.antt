@@ -10,8 +10,12 @@ returns-in-Ok g c =
         zero,
         c.in-Ok.keeper,
         record {
-          opened = record { uncounted = c.in-Ok.ensures.uncounted; settled = c.in-Ok.ensures.settled };
-          tables = λ clean now. let adopted = c.in-Ok.ensures.opened clean now in adopted_tables _ _ adopted.0 _ adopted.1;
+          opened = record {
+            uncounted = c.in-Ok.ensures.uncounted;
+            opens = c.in-Ok.ensures.opens;
+            settled = λ clean. c.in-Ok.ensures.settled clean (c.in-Ok.ensures.opens clean);
+          };
+          tables = λ clean. let adopted = c.in-Ok.ensures.opened clean (c.in-Ok.ensures.opens clean) in adopted_tables _ _ adopted.0 _ adopted.1;
         },
         c.say.ensures.told (λ three. omega (arith, zero, three)),
       )

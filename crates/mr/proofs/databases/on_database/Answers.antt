@@ -5,7 +5,16 @@ use Rattle.mr.proofs.databases.on_database.Goals as goal
 pub returns-in-Ok : goal.returns-in-Ok
 returns-in-Ok g c =
     elim c.on_keeper-keeper.ensures [
-      | inl answered ↦ inl (c.in-Ok.keeper, c.on_keeper-keeper.result.0, record { uncounted = c.in-Ok.ensures.uncounted; settled = c.in-Ok.ensures.settled }, answered)
+      | inl answered ↦ inl (
+        c.in-Ok.keeper,
+        c.on_keeper-keeper.result.0,
+        record {
+          uncounted = c.in-Ok.ensures.uncounted;
+          opens = c.in-Ok.ensures.opens;
+          settled = λ clean. c.in-Ok.ensures.settled clean (c.in-Ok.ensures.opens clean);
+        },
+        answered,
+      )
       | inr unasked ↦ inr (inr unasked.1)
     ]
 
