@@ -15,7 +15,7 @@ returns-in-Ok g c =
             opens = c.in-Ok.ensures.opens;
             settled = λ clean. c.in-Ok.ensures.settled clean (c.in-Ok.ensures.opens clean);
           };
-          tables = λ clean. let adopted = c.in-Ok.ensures.opened clean (c.in-Ok.ensures.opens clean) in adopted_tables _ _ adopted.0 _ adopted.1;
+          tables = λ clean. let adopted = c.in-Ok.ensures.opened clean (c.in-Ok.ensures.opens clean) in adopted_tables _ _ adopted.0 _ adopted.2;
         },
         c.say.ensures.told (λ three. omega (arith, zero, three)),
       )
