@@ -1,5 +1,6 @@
 -- What is known of a database that was taken over: the rowids of its tables are integers and rise, and its rows, once read, are a keeper's.
-use Rattle.std.proofs.Common.{◌≡◌, inl, inr, ℕ, pos, ◌+◌, List, [], ◌∷◌, true, Some, Ok, Err, Result, IfOk, IfErr, refl, sym, ap, subst, subst₂, ◌∙◌, arith}
+use Rattle.std.proofs.Common.{◌≡◌, inl, inr, ℕ, pos, ◌+◌, List, [], ◌∷◌, true, Some, Ok, Err, Result, IfOk, IfErr, refl, length, sym, ap, subst, subst₂, ◌∙◌, arith}
+use Rattle.std.specs.Prelude.{IsErrAnd}
 use Rattle.std.specs.List.{AllZip}
 use Rattle.std.specs.Ordering.{is_eq}
 use Rattle.std.proofs.lemmas.Cmp.{tied_itself}
@@ -16,7 +17,8 @@ use Rattle.sqlite_schema.specs.declared.schema.Schema.{Schema}
 use Rattle.sqlite_rules.specs.Lists.{Has}
 use Rattle.sqlite_rules.proofs.ListLemmas.{has_filtered}
 use Rattle.sqlite_rules.proofs.PlaceLemmas.{row_at_is}
-use Rattle.sqlite_catalog.specs.Listing.{IsSound, IsTableRow}
+use Rattle.sqlite_catalog.specs.Listing.{IsSound, IsTableRow, Lists}
+use Rattle.sqlite_catalog.proofs.ReadLemmas.{lists_once}
 use Rattle.sqlite.specs.Effect.{Database}
 use Rattle.sqlite.specs.State.{State}
 use Rattle.mr_model.specs.Replica.{opening}
@@ -110,3 +112,21 @@ stays trees old new taken same = (ap (λ (db : Database). db.trees) same.0 ∙ t
 -- what a crash may leave of a keeper's database is its tables alone
 pub alone : (s : State) → IsKept s → ((db : Trees) → s.may_leave db → db ≡ s.committed.trees) → LeavesTables s
 alone s kept law t left = left.2 ∙ ap tables_in (law left.0 left.1 ∙ ap (λ (db : Database). db.trees) (sym kept.settled))
+
+-- ---- which schema trees list
+
+pub of_schema : (trees : Trees) (s : State) (schema : Schema) → IsTaken trees s → IsSound schema trees → s.now.schema ≡ schema
+of_schema trees s schema taken sound =
+    lists_once (trees catalog_tree) s.now.schema schema (subst (λ (t : Trees). Lists (t catalog_tree) s.now.schema) taken.trees_are taken.sound.lists) sound.lists
+
+-- our tables are some
+pub not_blank : (trees : Trees) (s : State) → IsTaken trees s → s.now.schema ≡ our_schema → IsSound no_schema trees → ⊥
+not_blank trees s taken ours blank =
+    let same : our_schema ≡ no_schema = sym ours ∙ of_schema trees s no_schema taken blank in
+    let none : 7 ≡ 0 = ap (λ (x : Schema). length x.tables) same in
+    omega (arith, none)
+
+-- a refusal that is handed on
+pub handed_on : {X E : Type 0} (P : E → Type 0) (e : E) (r : Result X E) → P e → IsErrAnd r (λ f. f ≡ e) → IfErr r P
+handed_on P e (Ok x) is handed = tt
+handed_on P e (Err f) is handed = subst P (sym handed) is

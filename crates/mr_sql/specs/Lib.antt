@@ -1,4 +1,4 @@
--- A reader of the contracts trusts Schema, Shelf, Cells, Form, Kept and Found. The others, Meaning, Parts, Questions, Reads, Blank,
+-- A reader of the contracts trusts Schema, Shelf, Cells, Form, Kept, Found and Refused. The others, Meaning, Parts, Questions, Reads, Blank,
 -- Same and TakeLaws, serve private clauses and proofs alone.
 pub mod Schema
 pub mod Meaning
@@ -12,4 +12,5 @@ pub mod Reads
 pub mod Blank
 pub mod Same
 pub mod Found
+pub mod Refused
 pub mod TakeLaws

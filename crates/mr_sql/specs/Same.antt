@@ -1,5 +1,6 @@
 -- When two tables are one.
-use Rattle.std.specs.Prelude.{◌≡◌, false, [], None}
+use Rattle.std.specs.Prelude.{◌≡◌, false, [], None, All}
+use Rattle.sqlite_value.specs.declared.value.Value.TheVariants.{Null}
 use Rattle.sqlite_schema.specs.declared.schema.Table.{Table}
 
 -- no rowid alias, no check, no reference, no default that is computed, no counter
@@ -10,6 +11,11 @@ pub record IsPlainTable (t : Table) : Type 0 where
   pub computed : t.computed ≡ []
   pub stamps : t.stamps ≡ record { places = []; terms = []; formats = [] }
   pub uncounted : t.is_counted ≡ false
+
+-- a plain table, no column of which has a default
+pub record IsFitTable (t : Table) : Type 0 where
+  pub plain : IsPlainTable t
+  pub defaults : All (λ c. c.default ≡ Null) t.columns
 
 pub record IsSameShape (a b : Table) : Type 0 where
   pub name : a.name ≡ b.name

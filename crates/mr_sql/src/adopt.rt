@@ -7,6 +7,7 @@ ghost use Rattle.sqlite.specs.Held.{state};
 ghost use Rattle.mr_sql.specs.Schema.{no_schema, our_schema};
 ghost use Rattle.mr_sql.specs.Kept.{IsKept};
 ghost use Rattle.mr_sql.specs.Found.{IsTaken, IsFound, IsMeta, IsAdopted, StaysAs};
+ghost use Rattle.mr_sql.specs.Refused.{IsAnothers, IsNobodys};
 
 use crate::create::create;
 use crate::faults::refusal_of;
@@ -24,6 +25,7 @@ pub(crate) fn retaken<S: Alter + Drop>(
 ) -> Result<Connection<S>, (Error, S)>
     ensures taken { IfOk result (λ c. HasCleanDisk (state S.Store c) → IsTaken (state S.Store conn).committed.trees (state S.Store c)) }
     ensures autocommit { IfOk result (λ c. c.in_transaction ≡ false) }
+    ensures clean { IfOk result (λ c. HasCleanDisk (state S.Store c) → HasCleanDisk (state S.Store conn)) }
     ensures back { IfErr result (λ e. IsClean (S.Store.view e.1) → IsTrue (S.Store.view e.1).is_open → (S.Store.view e.1).trees ≡ (state S.Store conn).committed.trees) }
 {
     let store = conn.into_store();
@@ -76,6 +78,14 @@ pub(crate) fn find<S: Alter>(conn: &mut Connection<S>, alloc: Global) -> Result<
     }
 }
 
+// Whether the row is that of this server and primary.
+fn is_of(meta: &MetaRow, server: ServerId, primary: ServerId) -> bool
+    ensures same { IsTrue result → (meta.now.server ≡ server) × (meta.now.primary ≡ primary) }
+    ensures other { result ≡ false → (meta.now.server ≡ server) × (meta.now.primary ≡ primary) → ⊥ }
+{
+    meta.server == server && meta.primary == primary
+}
+
 // Finds the tables of this server and primary.
 fn resume<S: Alter>(
     conn: &mut Connection<S>,
@@ -90,10 +100,11 @@ fn resume<S: Alter>(
     ensures resumed { (trees : Trees) → HasCleanDisk (state S.Store conn.new) → IsTaken trees (state S.Store conn.old) → OnOk result (IsTrue (state S.Store conn.new).is_open → IsKept (state S.Store conn.new) × IsAdopted server primary trees (state S.Store conn.new).now.trees) }
     ensures opens { (trees : Trees) → HasCleanDisk (state S.Store conn.new) → IsTaken trees (state S.Store conn.old) → OnOk result (IsTrue (state S.Store conn.new).is_open) }
     ensures stays { (trees : Trees) → HasCleanDisk (state S.Store conn.new) → IsTaken trees (state S.Store conn.old) → OnErr result (IsTrue (state S.Store conn.new).is_open → StaysAs trees (state S.Store conn.new)) }
+    ensures strange { (trees : Trees) → HasCleanDisk (state S.Store conn.new) → IsTaken trees (state S.Store conn.old) → IfErr result (λ e. e ≡ Refusal.NotAReplica → IsAnothers server primary trees) }
     ensures cause { IfErr result (λ e. (e ≡ Refusal.OutOfMemory) ⊎ ((e ≡ Refusal.Store) ⊎ (e ≡ Refusal.NotAReplica))) }
 {
     let meta = find(conn, alloc)?;
-    if meta.server == server && meta.primary == primary {
+    if is_of(&meta, server, primary) {
         Ok(())
     } else {
         Err(Refusal::NotAReplica)
@@ -113,6 +124,8 @@ pub(crate) fn settle<S: Alter>(
     ensures settled { (trees : Trees) → HasCleanDisk (state S.Store conn.new) → IsTaken trees (state S.Store conn.old) → OnOk result (IsTrue (state S.Store conn.new).is_open → IsKept (state S.Store conn.new) × IsAdopted server primary trees (state S.Store conn.new).now.trees) }
     ensures opens { (trees : Trees) → HasCleanDisk (state S.Store conn.new) → IsTaken trees (state S.Store conn.old) → OnOk result (IsTrue (state S.Store conn.new).is_open) }
     ensures stays { (trees : Trees) → HasCleanDisk (state S.Store conn.new) → IsTaken trees (state S.Store conn.old) → OnErr result (IsTrue (state S.Store conn.new).is_open → StaysAs trees (state S.Store conn.new)) }
+    ensures strange { (trees : Trees) → HasCleanDisk (state S.Store conn.new) → IsTaken trees (state S.Store conn.old) → IfErr result (λ e. e ≡ Refusal.NotAReplica → IsAnothers server primary trees) }
+    ensures store { (trees : Trees) → HasCleanDisk (state S.Store conn.new) → IsTaken trees (state S.Store conn.old) → IfErr result (λ e. e ≡ Refusal.Store → IsSound no_schema trees ⊎ IsSound our_schema trees) }
     ensures cause { IfErr result (λ e. (e ≡ Refusal.OutOfMemory) ⊎ ((e ≡ Refusal.Store) ⊎ (e ≡ Refusal.NotAReplica))) }
 {
     if is_blank(conn) {
@@ -121,7 +134,7 @@ pub(crate) fn settle<S: Alter>(
     match is_ours(alloc, conn) {
         Ok(true) => resume(conn, alloc, server, primary),
         Ok(false) => Err(Refusal::NotAReplica),
-        Err(error) => Err(refusal_of(error)),
+        Err(refusal) => Err(refusal),
     }
 }
 
@@ -132,6 +145,9 @@ pub(crate) fn recover<S: Alter>(conn: &mut Connection<S>, alloc: Global) -> Resu
     ensures clean { HasCleanDisk (state S.Store conn.new) → HasCleanDisk (state S.Store conn.old) }
     ensures recovered { (trees : Trees) → HasCleanDisk (state S.Store conn.new) → IsTaken trees (state S.Store conn.old) → OnOk result (IsTrue (state S.Store conn.new).is_open → IsKept (state S.Store conn.new) × IsSound our_schema trees × ((state S.Store conn.new).now.trees ≡ trees)) }
     ensures opens { (trees : Trees) → HasCleanDisk (state S.Store conn.new) → IsTaken trees (state S.Store conn.old) → OnOk result (IsTrue (state S.Store conn.new).is_open) }
+    ensures stays { (trees : Trees) → HasCleanDisk (state S.Store conn.new) → IsTaken trees (state S.Store conn.old) → OnErr result (IsTrue (state S.Store conn.new).is_open → StaysAs trees (state S.Store conn.new)) }
+    ensures strange { (trees : Trees) → HasCleanDisk (state S.Store conn.new) → IsTaken trees (state S.Store conn.old) → IfErr result (λ e. e ≡ Refusal.NotAReplica → IsNobodys trees) }
+    ensures store { (trees : Trees) → HasCleanDisk (state S.Store conn.new) → IsTaken trees (state S.Store conn.old) → IfErr result (λ e. e ≡ Refusal.Store → IsSound our_schema trees) }
     ensures cause { IfErr result (λ e. (e ≡ Refusal.OutOfMemory) ⊎ ((e ≡ Refusal.Store) ⊎ (e ≡ Refusal.NotAReplica))) }
 {
     match is_ours(alloc, conn) {
@@ -140,6 +156,6 @@ pub(crate) fn recover<S: Alter>(conn: &mut Connection<S>, alloc: Global) -> Resu
             Ok(())
         }
         Ok(false) => Err(Refusal::NotAReplica),
-        Err(error) => Err(refusal_of(error)),
+        Err(refusal) => Err(refusal),
     }
 }

@@ -1,26 +1,46 @@
-ghost use Rattle.std.specs.Prelude.{◌≡◌, ◌⊎◌, IfOk, IfErr, IsTrue};
+//! Keepers in files.
+
+ghost use Rattle.std.specs.Prelude.{◌≡◌, ◌⊎◌, Some, None, IfOk, IfErr, IsTrue};
 ghost use Rattle.sqlite_trees.specs.Tree.{Trees};
+ghost use Rattle.sqlite_catalog.specs.Listing.{IsSound};
+ghost use Rattle.sqlite.specs.WalFiles.{image_at};
+ghost use Rattle.sqlite.specs.WalReads.{AreClean};
 ghost use Rattle.sqlite.specs.State.{HasCleanDisk};
-ghost use Rattle.sqlite.specs.Files.{file_state};
-ghost use Rattle.mr_sql.specs.Found.{IsAdopted, LeavesTables};
+ghost use Rattle.sqlite.specs.Files.{file_state, IsClosed};
+ghost use Rattle.sqlite.specs.Closing.{IsCopied};
+ghost use Rattle.mr_sql.specs.Schema.{our_schema};
+ghost use Rattle.mr_sql.specs.Found.{IsAdopted, LeavesTables, StaysAs};
+ghost use Rattle.mr_sql.specs.Refused.{IsAnothers, IsFoundIn, IsNobodys};
 
 use crate::faults::refusal_of;
-use crate::sql_keeper::SqlKeeper;
+use crate::sql_keeper::{GivenBack, SqlKeeper};
 use mr_base::{Refusal, ServerId};
-use sqlite::{Connection, FileStore};
+use sqlite::{Connection, FileFrom, FileStore, Files, Start, Unknown};
+use sqlite_disk::Disk;
 use std::fs::File;
 use std::io::ErrorKind;
 use std::rt::HostRuntime;
 
 /// A keeper whose tables lie in a file.
-pub type FileKeeper = SqlKeeper<FileStore<sqlite::File>>;
+pub type FileKeeper = KeeperFrom<Unknown>;
 
-fn open(rt: &HostRuntime, path: &str) -> Result<Connection<FileStore<sqlite::File>>, Refusal>
-    ensures { IfErr result (λ e. (e ≡ Refusal.OutOfMemory) ⊎ (e ≡ Refusal.Store)) }
+/// A keeper whose tables lie in a file, where the type stands for what that and its log held.
+pub type KeeperFrom<B> = SqlKeeper<FileStore<FileFrom<B>>>;
+
+/// Why a file isn't taken as a database, with what was opened.
+pub type NotTaken<B> = (Refusal, Option<GivenBack<FileStore<FileFrom<B>>>>);
+
+fn open<B: Start>(
+    rt: &HostRuntime,
+    path: &str,
+    start: B,
+) -> Result<Connection<FileStore<FileFrom<B>>>, Refusal>
+    ensures found { IfOk result (λ c. HasCleanDisk (file_state c) → IsFoundIn (image_at B.Start) (file_state c).committed.trees) }
+    ensures cause { IfErr result (λ e. (e ≡ Refusal.OutOfMemory) ⊎ (e ≡ Refusal.Store)) }
 {
-    match Connection::open(rt, path) {
+    match Connection::open_from(rt, path, false, start) {
         Ok(conn) => Ok(conn),
-        Err(error) => Err(refusal_of(error)),
+        Err((error, _)) => Err(refusal_of(error)),
     }
 }
 
@@ -31,43 +51,119 @@ fn is_missing(rt: &HostRuntime, path: &str) -> bool {
     }
 }
 
-impl SqlKeeper<FileStore<sqlite::File>> {
+impl<B: Start> SqlKeeper<FileStore<FileFrom<B>>> {
     /// Opens the file as the database of this server and primary, and makes file and tables where there are none yet. A file
-    /// that can't be opened as a database is refused with 25, and the database of another program or replica with 26.
+    /// that can't be opened as a database is refused with 25, and the database of another program or replica with 26. What was
+    /// opened of a file that is refused is given back. That the path is that of the files which the type stands for is up to the
+    /// caller.
+    pub fn init_from(
+        rt: &HostRuntime,
+        path: &str,
+        start: B,
+        server: ServerId,
+        primary: ServerId,
+    ) -> Result<KeeperFrom<B>, NotTaken<B>>
+        ensures opened { IfOk result (λ k. HasCleanDisk (file_state k.0) → IsTrue (file_state k.0).is_open
+            → (before : Trees) × IsFoundIn (image_at B.Start) before × IsAdopted server primary before (file_state k.0).now.trees) }
+        ensures opens { IfOk result (λ k. HasCleanDisk (file_state k.0) → IsTrue (file_state k.0).is_open) }
+        ensures settled { IfOk result (λ k. HasCleanDisk (file_state k.0) → IsTrue (file_state k.0).is_open → LeavesTables (file_state k.0)) }
+        ensures uncounted { IfOk result (λ k. k.1 ≡ 0) }
+        ensures cause { IfErr result (λ e. (e.0 ≡ Refusal.OutOfMemory) ⊎ ((e.0 ≡ Refusal.Store) ⊎ (e.0 ≡ Refusal.NotAReplica))) }
+        ensures strange { IfErr result (λ e. e.0 ≡ Refusal.NotAReplica → (c : _) × (e.1 ≡ Some (GivenBack.Connection c))
+            × (HasCleanDisk (file_state c) → (before : Trees) × IsFoundIn (image_at B.Start) before × IsAnothers server primary before)) }
+        ensures stays { IfErr result (λ e. (c : _) → e.1 ≡ Some (GivenBack.Connection c) → HasCleanDisk (file_state c) → IsTrue (file_state c).is_open
+            → (before : Trees) × IsFoundIn (image_at B.Start) before × StaysAs before (file_state c)) }
+    {
+        let conn = match open(rt, path, start) {
+            Ok(conn) => conn,
+            Err(refusal) => return Err((refusal, None)),
+        };
+        match SqlKeeper::adopt(rt.alloc(), conn, server, primary) {
+            Ok(keeper) => Ok(keeper),
+            Err((refusal, back)) => Err((refusal, Some(back))),
+        }
+    }
+
+    /// Opens the file as the database of a replica, whichever it is. A file that can't be opened as a database is refused
+    /// with 25. Where there is no file, or its database isn't that of a replica, it is refused with 26. It makes no file.
+    pub fn open_from(rt: &HostRuntime, path: &str, start: B) -> Result<KeeperFrom<B>, NotTaken<B>>
+        ensures opened { IfOk result (λ k. HasCleanDisk (file_state k.0) → IsTrue (file_state k.0).is_open
+            → (before : Trees) × IsFoundIn (image_at B.Start) before × IsSound our_schema before × ((file_state k.0).now.trees ≡ before)) }
+        ensures opens { IfOk result (λ k. HasCleanDisk (file_state k.0) → IsTrue (file_state k.0).is_open) }
+        ensures settled { IfOk result (λ k. HasCleanDisk (file_state k.0) → IsTrue (file_state k.0).is_open → LeavesTables (file_state k.0)) }
+        ensures uncounted { IfOk result (λ k. k.1 ≡ 0) }
+        ensures cause { IfErr result (λ e. (e.0 ≡ Refusal.OutOfMemory) ⊎ ((e.0 ≡ Refusal.Store) ⊎ (e.0 ≡ Refusal.NotAReplica))) }
+        ensures strange { IfErr result (λ e. e.0 ≡ Refusal.NotAReplica → (e.1 ≡ None) ⊎ ((c : _) × (e.1 ≡ Some (GivenBack.Connection c))
+            × (HasCleanDisk (file_state c) → (before : Trees) × IsFoundIn (image_at B.Start) before × IsNobodys before))) }
+        ensures stays { IfErr result (λ e. (c : _) → e.1 ≡ Some (GivenBack.Connection c) → HasCleanDisk (file_state c) → IsTrue (file_state c).is_open
+            → (before : Trees) × IsFoundIn (image_at B.Start) before × StaysAs before (file_state c)) }
+    {
+        if is_missing(rt, path) {
+            return Err((Refusal::NotAReplica, None));
+        }
+        let conn = match open(rt, path, start) {
+            Ok(conn) => conn,
+            Err(refusal) => return Err((refusal, None)),
+        };
+        match SqlKeeper::resume(rt.alloc(), conn) {
+            Ok(keeper) => Ok(keeper),
+            Err((refusal, back)) => Err((refusal, Some(back))),
+        }
+    }
+}
+
+impl<D: Disk + Drop> SqlKeeper<FileStore<D>> {
+    /// Gives the files back, once what the store has in its log is copied into the database file, so that it stands alone. Where
+    /// that fails, the store is given back, and the log keeps it.
+    pub fn close_files(self) -> Result<Files<D>, FileStore<D>>
+        ensures copied { IfOk result (λ files. AreClean D.Disk files.log files.db → IsCopied self.0 files) }
+        ensures kept { IfErr result (IsClosed self.0) }
+    {
+        match self.release().close_files() {
+            Ok(files) => Ok(files),
+            Err((_, store)) => Err(store),
+        }
+    }
+}
+
+impl SqlKeeper<FileStore<sqlite::File>> {
+    /// As `init_from`, of whatever the files at the path hold. What is refused is let go.
     pub fn init_file(
         rt: &HostRuntime,
         path: &str,
         server: ServerId,
         primary: ServerId,
     ) -> Result<FileKeeper, Refusal>
-        ensures opened { IfOk result (λ k. HasCleanDisk (file_state k.0) → IsTrue (file_state k.0).is_open → ((before : Trees) × IsAdopted server primary before (file_state k.0).now.trees)) }
+        ensures opened { IfOk result (λ k. HasCleanDisk (file_state k.0) → IsTrue (file_state k.0).is_open
+            → (before : Trees) × IsFoundIn (image_at ⟦<Unknown as Start>⟧) before × IsAdopted server primary before (file_state k.0).now.trees) }
         ensures opens { IfOk result (λ k. HasCleanDisk (file_state k.0) → IsTrue (file_state k.0).is_open) }
         ensures settled { IfOk result (λ k. HasCleanDisk (file_state k.0) → IsTrue (file_state k.0).is_open → LeavesTables (file_state k.0)) }
         ensures uncounted { IfOk result (λ k. k.1 ≡ 0) }
         ensures cause { IfErr result (λ e. (e ≡ Refusal.OutOfMemory) ⊎ ((e ≡ Refusal.Store) ⊎ (e ≡ Refusal.NotAReplica))) }
     {
-        let conn = open(rt, path)?;
-        SqlKeeper::take_over(rt.alloc(), conn, server, primary)
-    }
-
-    /// Opens the file as the database of a replica, whichever it is. A file that can't be opened as a database is refused
-    /// with 25. Where there is no file, or its database isn't that of a replica, it is refused with 26. It makes no file.
-    pub fn open_file(rt: &HostRuntime, path: &str) -> Result<FileKeeper, Refusal>
-        ensures opens { IfOk result (λ k. HasCleanDisk (file_state k.0) → IsTrue (file_state k.0).is_open) }
-        ensures settled { IfOk result (λ k. HasCleanDisk (file_state k.0) → IsTrue (file_state k.0).is_open → LeavesTables (file_state k.0)) }
-        ensures uncounted { IfOk result (λ k. k.1 ≡ 0) }
-        ensures cause { IfErr result (λ e. (e ≡ Refusal.OutOfMemory) ⊎ ((e ≡ Refusal.Store) ⊎ (e ≡ Refusal.NotAReplica))) }
-    {
-        if is_missing(rt, path) {
-            return Err(Refusal::NotAReplica);
+        match SqlKeeper::init_from(rt, path, Unknown, server, primary) {
+            Ok(keeper) => Ok(keeper),
+            Err((refusal, _)) => Err(refusal),
         }
-        let conn = open(rt, path)?;
-        SqlKeeper::resume(rt.alloc(), conn)
     }
 
-    /// Gives the file up. What the store has in its log is copied into the database file, so that it stands alone; where that
-    /// fails, the log keeps it.
+    /// As `open_from`, of whatever the files at the path hold. What is refused is let go.
+    pub fn open_file(rt: &HostRuntime, path: &str) -> Result<FileKeeper, Refusal>
+        ensures opened { IfOk result (λ k. HasCleanDisk (file_state k.0) → IsTrue (file_state k.0).is_open
+            → (before : Trees) × IsFoundIn (image_at ⟦<Unknown as Start>⟧) before × IsSound our_schema before × ((file_state k.0).now.trees ≡ before)) }
+        ensures opens { IfOk result (λ k. HasCleanDisk (file_state k.0) → IsTrue (file_state k.0).is_open) }
+        ensures settled { IfOk result (λ k. HasCleanDisk (file_state k.0) → IsTrue (file_state k.0).is_open → LeavesTables (file_state k.0)) }
+        ensures uncounted { IfOk result (λ k. k.1 ≡ 0) }
+        ensures cause { IfErr result (λ e. (e ≡ Refusal.OutOfMemory) ⊎ ((e ≡ Refusal.Store) ⊎ (e ≡ Refusal.NotAReplica))) }
+    {
+        match SqlKeeper::open_from(rt, path, Unknown) {
+            Ok(keeper) => Ok(keeper),
+            Err((refusal, _)) => Err(refusal),
+        }
+    }
+
+    /// Gives the file up, as `close_files`.
     pub fn close(self) {
-        let _ = self.release().close();
+        let _ = self.close_files();
     }
 }

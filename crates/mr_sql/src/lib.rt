@@ -31,5 +31,5 @@ mod stored_rows;
 mod table_rows;
 mod whole;
 
-pub use files::FileKeeper;
+pub use files::{FileKeeper, KeeperFrom, NotTaken};
 pub use sql_keeper::{GivenBack, SqlKeeper, memory_is_honest};

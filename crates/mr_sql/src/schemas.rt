@@ -1,10 +1,12 @@
-ghost use Rattle.std.specs.Prelude.{◌≡◌, [], IsTrue, IfOk};
+ghost use Rattle.std.specs.Prelude.{◌≡◌, [], IsTrue, IfOk, IfErr, false, All};
+ghost use Rattle.sqlite_value.specs.declared.value.Value.TheVariants.{Null};
 ghost use Rattle.sqlite.specs.Held.{state};
 ghost use Rattle.sqlite.specs.Steps.{over_memory, IsEmpty};
 ghost use Rattle.mr_sql.specs.Schema.{no_schema, our_schema};
-ghost use Rattle.mr_sql.specs.Same.{IsPlainTable, IsSameShape};
+ghost use Rattle.mr_sql.specs.Same.{IsFitTable, IsPlainTable, IsSameShape};
 
 use crate::create::lay_out;
+use mr_base::Refusal;
 use sqlite::{Alter, Connection, Error, ErrorCode, MemStore};
 use sqlite_items::Items;
 use sqlite_schema::code::Terms;
@@ -14,20 +16,23 @@ use sqlite_value::value::{Bytes, Value};
 use std::alloc::Global;
 
 fn same_name(a: &Bytes, b: &Bytes) -> bool
-    ensures { IsTrue result → a.now ≡ b.now }
+    ensures same { IsTrue result → a.now ≡ b.now }
+    ensures other { result ≡ false → a.now ≡ b.now → ⊥ }
 {
     a.as_slice() == b.as_slice()
 }
 
 fn same_places(a: &Items<usize>, b: &Items<usize>) -> bool
-    ensures { IsTrue result → a.now ≡ b.now }
+    ensures same { IsTrue result → a.now ≡ b.now }
+    ensures other { result ≡ false → a.now ≡ b.now → ⊥ }
 {
     a.as_slice() == b.as_slice()
 }
 
 // Of columns with a default none are the same.
 fn same_column(a: &Column, b: &Column) -> bool
-    ensures { IsTrue result → a.now ≡ b.now }
+    ensures same { IsTrue result → a.now ≡ b.now }
+    ensures other { result ≡ false → a.now ≡ b.now → a.now.default ≡ Null → ⊥ }
 {
     same_name(&a.name, &b.name)
         && a.kind == b.kind
@@ -39,7 +44,8 @@ fn same_column(a: &Column, b: &Column) -> bool
 }
 
 fn same_columns(a: &[Column], b: &[Column]) -> bool
-    ensures { IsTrue result → a.now ≡ b.now }
+    ensures same { IsTrue result → a.now ≡ b.now }
+    ensures other { result ≡ false → a.now ≡ b.now → All (λ c. c.default ≡ Null) a.now → ⊥ }
 {
     if a.len() != b.len() {
         return false;
@@ -53,7 +59,8 @@ fn same_columns(a: &[Column], b: &[Column]) -> bool
 }
 
 fn same_keys(a: &[Items<usize>], b: &[Items<usize>]) -> bool
-    ensures { IsTrue result → a.now ≡ b.now }
+    ensures same { IsTrue result → a.now ≡ b.now }
+    ensures other { result ≡ false → a.now ≡ b.now → ⊥ }
 {
     if a.len() != b.len() {
         return false;
@@ -67,7 +74,8 @@ fn same_keys(a: &[Items<usize>], b: &[Items<usize>]) -> bool
 }
 
 fn same_orders(a: &[Order], b: &[Order]) -> bool
-    ensures { IsTrue result → a.now ≡ b.now }
+    ensures same { IsTrue result → a.now ≡ b.now }
+    ensures other { result ≡ false → a.now ≡ b.now → ⊥ }
 {
     if a.len() != b.len() {
         return false;
@@ -81,20 +89,23 @@ fn same_orders(a: &[Order], b: &[Order]) -> bool
 }
 
 fn has_no_terms(terms: &Terms) -> bool
-    ensures { IsTrue result → terms.now ≡ [] }
+    ensures same { IsTrue result → terms.now ≡ [] }
+    ensures other { result ≡ false → terms.now ≡ [] → ⊥ }
 {
     terms.roots.len() == 0
 }
 
 fn has_no_stamps(stamps: &Stamps) -> bool
-    ensures { IsTrue result → stamps.now ≡ record { places = []; terms = []; formats = [] } }
+    ensures same { IsTrue result → stamps.now ≡ record { places = []; terms = []; formats = [] } }
+    ensures other { result ≡ false → stamps.now ≡ record { places = []; terms = []; formats = [] } → ⊥ }
 {
     stamps.places.len() == 0 && has_no_terms(&stamps.terms) && stamps.formats.len() == 0
 }
 
 // No rowid alias, no check, no reference, no default that is computed, no counter.
 fn is_plain(table: &Table) -> bool
-    ensures { IsTrue result → IsPlainTable table.now }
+    ensures same { IsTrue result → IsPlainTable table.now }
+    ensures other { result ≡ false → IsPlainTable table.now → ⊥ }
 {
     table.key.is_none()
         && has_no_terms(&table.checks)
@@ -106,7 +117,8 @@ fn is_plain(table: &Table) -> bool
 
 // What is said of a table beside its rules.
 fn same_shape(a: &Table, b: &Table) -> bool
-    ensures { IsTrue result → IsSameShape a.now b.now }
+    ensures same { IsTrue result → IsSameShape a.now b.now }
+    ensures other { result ≡ false → a.now ≡ b.now → All (λ c. c.default ≡ Null) a.now.columns → ⊥ }
 {
     same_name(&a.name, &b.name)
         && a.tree == b.tree
@@ -117,13 +129,15 @@ fn same_shape(a: &Table, b: &Table) -> bool
 }
 
 fn same_table(a: &Table, b: &Table) -> bool
-    ensures { IsTrue result → a.now ≡ b.now }
+    ensures same { IsTrue result → a.now ≡ b.now }
+    ensures other { result ≡ false → a.now ≡ b.now → IsFitTable a.now → ⊥ }
 {
     is_plain(a) && is_plain(b) && same_shape(a, b)
 }
 
 fn same_tables(a: &[Table], b: &[Table]) -> bool
-    ensures { IsTrue result → a.now ≡ b.now }
+    ensures same { IsTrue result → a.now ≡ b.now }
+    ensures other { result ≡ false → a.now ≡ b.now → All IsFitTable a.now → ⊥ }
 {
     if a.len() != b.len() {
         return false;
@@ -137,7 +151,8 @@ fn same_tables(a: &[Table], b: &[Table]) -> bool
 }
 
 fn same_index(a: &Index, b: &Index) -> bool
-    ensures { IsTrue result → a.now ≡ b.now }
+    ensures same { IsTrue result → a.now ≡ b.now }
+    ensures other { result ≡ false → a.now ≡ b.now → ⊥ }
 {
     same_name(&a.name, &b.name)
         && a.tree == b.tree
@@ -148,7 +163,8 @@ fn same_index(a: &Index, b: &Index) -> bool
 }
 
 fn same_indexes(a: &[Index], b: &[Index]) -> bool
-    ensures { IsTrue result → a.now ≡ b.now }
+    ensures same { IsTrue result → a.now ≡ b.now }
+    ensures other { result ≡ false → a.now ≡ b.now → ⊥ }
 {
     if a.len() != b.len() {
         return false;
@@ -163,7 +179,8 @@ fn same_indexes(a: &[Index], b: &[Index]) -> bool
 
 // Of schemas with a view none are the same.
 fn same_schema(a: &Schema, b: &Schema) -> bool
-    ensures { IsTrue result → a.now ≡ b.now }
+    ensures same { IsTrue result → a.now ≡ b.now }
+    ensures other { result ≡ false → a.now ≡ b.now → All IsFitTable a.now.tables → a.now.views ≡ [] → ⊥ }
 {
     same_tables(a.tables.as_slice(), b.tables.as_slice())
         && same_indexes(a.indexes.as_slice(), b.indexes.as_slice())
@@ -191,16 +208,22 @@ fn sample(alloc: Global) -> Result<Connection<MemStore>, Error>
 
 /// Whether the database has no table, index or view.
 pub(crate) fn is_blank<S: Alter>(conn: &Connection<S>) -> bool
-    ensures { IsTrue result → (state S.Store conn.now).now.schema ≡ no_schema }
+    ensures same { IsTrue result → (state S.Store conn.now).now.schema ≡ no_schema }
+    ensures other { result ≡ false → (state S.Store conn.now).now.schema ≡ no_schema → ⊥ }
 {
     let schema = conn.schema();
     schema.tables.len() == 0 && schema.indexes.len() == 0 && schema.views.len() == 0
 }
 
-/// Whether the database has these tables with their indexes, and nothing else.
-pub(crate) fn is_ours<S: Alter>(alloc: Global, conn: &Connection<S>) -> Result<bool, Error>
-    ensures { IfOk result (λ ours. IsTrue ours → (state S.Store conn.now).now.schema ≡ our_schema) }
+/// Whether the database has these tables with their indexes, and nothing else. No disk fails in memory: where no sample can be had to
+/// compare with, memory is wanting.
+pub(crate) fn is_ours<S: Alter>(alloc: Global, conn: &Connection<S>) -> Result<bool, Refusal>
+    ensures same { IfOk result (λ ours. IsTrue ours → (state S.Store conn.now).now.schema ≡ our_schema) }
+    ensures other { IfOk result (λ ours. ours ≡ false → (state S.Store conn.now).now.schema ≡ our_schema → ⊥) }
+    ensures memory { IfErr result (λ e. e ≡ Refusal.OutOfMemory) }
 {
-    let wanted = sample(alloc)?;
-    Ok(same_schema(conn.schema(), wanted.schema()))
+    match sample(alloc) {
+        Ok(wanted) => Ok(same_schema(conn.schema(), wanted.schema())),
+        Err(_) => Err(Refusal::OutOfMemory),
+    }
 }

@@ -7,9 +7,10 @@ ghost use Rattle.mr_model.specs.Replica.{opening};
 ghost use Rattle.mr_model.specs.Tables.{Stands};
 ghost use Rattle.mr_store.specs.Kept.{failures_for};
 ghost use Rattle.sqlite_catalog.specs.Listing.{IsSound};
-ghost use Rattle.mr_sql.specs.Schema.{our_schema};
+ghost use Rattle.mr_sql.specs.Schema.{no_schema, our_schema};
 ghost use Rattle.mr_sql.specs.Kept.{tables_in};
 ghost use Rattle.mr_sql.specs.Found.{IsAdopted, LeavesTables, StaysAs};
+ghost use Rattle.mr_sql.specs.Refused.{IsAnothers, IsNobodys};
 
 use crate::adopt::{recover, retaken, settle};
 use crate::create::create;
@@ -195,6 +196,10 @@ impl<S: Alter + Drop> SqlKeeper<S> {
         ensures settled { IfOk result (λ k. HasCleanDisk (state S.Store k.0) → IsTrue (state S.Store k.0).is_open → LeavesTables (state S.Store k.0)) }
         ensures uncounted { IfOk result (λ k. k.1 ≡ 0) }
         ensures cause { IfErr result (λ e. (e.0 ≡ Refusal.OutOfMemory) ⊎ ((e.0 ≡ Refusal.Store) ⊎ (e.0 ≡ Refusal.NotAReplica))) }
+        ensures clean { IfOk result (λ k. HasCleanDisk (state S.Store k.0) → HasCleanDisk (state S.Store conn)) }
+        ensures strange { IfErr result (λ e. e.0 ≡ Refusal.NotAReplica → (c : _) × (e.1 ≡ GivenBack.Connection c) × (HasCleanDisk (state S.Store c) → IsAnothers server primary (state S.Store conn).committed.trees)) }
+        ensures store { IfErr result (λ e. (c : _) → e.1 ≡ GivenBack.Connection c → e.0 ≡ Refusal.Store → HasCleanDisk (state S.Store c) → IsSound no_schema (state S.Store conn).committed.trees ⊎ IsSound our_schema (state S.Store conn).committed.trees) }
+        ensures was_clean { IfErr result (λ e. (c : _) → e.1 ≡ GivenBack.Connection c → HasCleanDisk (state S.Store c) → HasCleanDisk (state S.Store conn)) }
         ensures stays { IfErr result (λ e. (c : _) → e.1 ≡ GivenBack.Connection c → HasCleanDisk (state S.Store c) → IsTrue (state S.Store c).is_open → StaysAs (state S.Store conn).committed.trees (state S.Store c)) }
         ensures back { IfErr result (λ e. (s : _) → e.1 ≡ GivenBack.Store s → IsClean (S.Store.view s) → IsTrue (S.Store.view s).is_open → (S.Store.view s).trees ≡ (state S.Store conn).committed.trees) }
     {
@@ -212,37 +217,27 @@ impl<S: Alter + Drop> SqlKeeper<S> {
         }
     }
 
-    /// As `adopt`, and what is refused is dropped.
-    pub(crate) fn take_over(
-        alloc: Global,
-        conn: Connection<S>,
-        server: ServerId,
-        primary: ServerId,
-    ) -> Result<SqlKeeper<S>, Refusal>
-        ensures opens { IfOk result (λ k. HasCleanDisk (state S.Store k.0) → IsTrue (state S.Store k.0).is_open) }
-        ensures adopted { IfOk result (λ k. HasCleanDisk (state S.Store k.0) → IsTrue (state S.Store k.0).is_open → IsAdopted server primary (state S.Store conn).committed.trees (state S.Store k.0).now.trees) }
-        ensures settled { IfOk result (λ k. HasCleanDisk (state S.Store k.0) → IsTrue (state S.Store k.0).is_open → LeavesTables (state S.Store k.0)) }
-        ensures uncounted { IfOk result (λ k. k.1 ≡ 0) }
-        ensures cause { IfErr result (λ e. (e ≡ Refusal.OutOfMemory) ⊎ ((e ≡ Refusal.Store) ⊎ (e ≡ Refusal.NotAReplica))) }
-    {
-        match SqlKeeper::adopt(alloc, conn, server, primary) {
-            Ok(keeper) => Ok(keeper),
-            Err((refusal, _)) => Err(refusal),
-        }
-    }
-
     /// Makes a keeper of a connection to the database of a replica, whichever it is. Any other database is refused with 26,
     /// and one whose rows break their rules with 25.
-    pub(crate) fn resume(alloc: Global, conn: Connection<S>) -> Result<SqlKeeper<S>, Refusal>
+    pub fn resume(
+        alloc: Global,
+        conn: Connection<S>,
+    ) -> Result<SqlKeeper<S>, (Refusal, GivenBack<S>)>
         ensures opens { IfOk result (λ k. HasCleanDisk (state S.Store k.0) → IsTrue (state S.Store k.0).is_open) }
         ensures resumed { IfOk result (λ k. HasCleanDisk (state S.Store k.0) → IsTrue (state S.Store k.0).is_open → IsSound our_schema (state S.Store conn).committed.trees × ((state S.Store k.0).now.trees ≡ (state S.Store conn).committed.trees)) }
         ensures settled { IfOk result (λ k. HasCleanDisk (state S.Store k.0) → IsTrue (state S.Store k.0).is_open → LeavesTables (state S.Store k.0)) }
         ensures uncounted { IfOk result (λ k. k.1 ≡ 0) }
-        ensures cause { IfErr result (λ e. (e ≡ Refusal.OutOfMemory) ⊎ ((e ≡ Refusal.Store) ⊎ (e ≡ Refusal.NotAReplica))) }
+        ensures cause { IfErr result (λ e. (e.0 ≡ Refusal.OutOfMemory) ⊎ ((e.0 ≡ Refusal.Store) ⊎ (e.0 ≡ Refusal.NotAReplica))) }
+        ensures clean { IfOk result (λ k. HasCleanDisk (state S.Store k.0) → HasCleanDisk (state S.Store conn)) }
+        ensures strange { IfErr result (λ e. e.0 ≡ Refusal.NotAReplica → (c : _) × (e.1 ≡ GivenBack.Connection c) × (HasCleanDisk (state S.Store c) → IsNobodys (state S.Store conn).committed.trees)) }
+        ensures store { IfErr result (λ e. (c : _) → e.1 ≡ GivenBack.Connection c → e.0 ≡ Refusal.Store → HasCleanDisk (state S.Store c) → IsSound our_schema (state S.Store conn).committed.trees) }
+        ensures was_clean { IfErr result (λ e. (c : _) → e.1 ≡ GivenBack.Connection c → HasCleanDisk (state S.Store c) → HasCleanDisk (state S.Store conn)) }
+        ensures stays { IfErr result (λ e. (c : _) → e.1 ≡ GivenBack.Connection c → HasCleanDisk (state S.Store c) → IsTrue (state S.Store c).is_open → StaysAs (state S.Store conn).committed.trees (state S.Store c)) }
+        ensures back { IfErr result (λ e. (s : _) → e.1 ≡ GivenBack.Store s → IsClean (S.Store.view s) → IsTrue (S.Store.view s).is_open → (S.Store.view s).trees ≡ (state S.Store conn).committed.trees) }
     {
         let mut conn = match retaken(alloc, conn) {
             Ok(conn) => conn,
-            Err((error, _)) => return Err(refusal_of(error)),
+            Err((error, store)) => return Err((refusal_of(error), GivenBack::Store(store))),
         };
         match recover(&mut conn, alloc) {
             Ok(()) => Ok(SqlKeeper {
@@ -250,7 +245,7 @@ impl<S: Alter + Drop> SqlKeeper<S> {
                 failures: 0,
                 alloc,
             }),
-            Err(refusal) => Err(refusal),
+            Err(refusal) => Err((refusal, GivenBack::Connection(conn))),
         }
     }
 }

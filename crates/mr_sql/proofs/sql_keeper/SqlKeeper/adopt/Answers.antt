@@ -1,4 +1,4 @@
-use Rattle.std.proofs.Common.{◌≡◌, IsTrue, subst}
+use Rattle.std.proofs.Common.{◌≡◌, IsTrue, refl, subst}
 use Rattle.sqlite.specs.State.{HasCleanDisk}
 use Rattle.sqlite.specs.Held.{Held, state}
 use Rattle.mr_sql.specs.Kept.{IsKept}
@@ -20,3 +20,7 @@ returns-in-Err-settle-clause-stays g c other given =
     let Stays = λ (h : Held g.row.S.Denot). HasCleanDisk (state g.S.Store h) → IsTrue (state g.S.Store h).is_open → StaysAs (state g.S.Store c.args.conn).committed.trees (state g.S.Store h) in
     let same : c.settle.new.conn ≡ other = cc in
     subst Stays same (λ clean now. c.in-Err-settle.ensures.stays _ clean (c.in-Ok.ensures.taken (c.settle.ensures.clean clean)) now)
+
+pub returns-in-Err-settle-clause-strange : goal.returns-in-Err-settle-clause-strange
+returns-in-Err-settle-clause-strange g c is =
+    (c.settle.new.conn, refl, λ clean. c.in-Err-settle.ensures.strange _ clean (c.in-Ok.ensures.taken (c.settle.ensures.clean clean)) is)
