@@ -4,7 +4,9 @@ ghost use Rattle.std.specs.Prelude.{◌≡◌, ℕ, false, IsTrue};
 ghost use Rattle.mr_model.specs.Texts.{Text};
 ghost use Rattle.mr_peer.specs.Requests.{is_host};
 ghost use Rattle.mr_net.specs.Hosts.{host_name, IsPeer};
-ghost use Rattle.mr_net.specs.Printed.{EndsExchange, TellsBadAddress};
+ghost use Rattle.mr_net.specs.Printed.{EndsExchange, TellsBadAddress, TellsBoth};
+ghost use Rattle.mr_net.specs.Rounds.{RunsRound};
+ghost use Rattle.mr_net.specs.declared.ways.Way.TheVariants.{Pull, Push};
 
 use crate::connecting::connect;
 use crate::databases::{close, open};
@@ -30,12 +32,12 @@ struct Address<'a> {
     host: Host,
 }
 
-/// A peer at an address, which is asked over one connection a request.
+/// A peer at an address, which is asked over one connection a request, and the replica that exchanges with it.
 #[derive(Drop)]
 struct Remote<'a, K: Keeper> {
     rt: &'a HostRuntime,
     alloc: Global,
-    service: &'a mut Service<K>,
+    service: Service<K>,
     address: &'a Address<'a>,
 }
 
@@ -51,32 +53,66 @@ impl<K: Keeper> Remote<'_, K> {
         position_take(self.alloc, &mut &stream)
     }
 
-    fn pull(&mut self) -> Result<Round, WebFault> {
+    fn pull(&mut self) -> Result<Round, WebFault>
+        ensures { RunsRound K.Keeper Pull self.old.service result self.new.service }
+    {
         let stream = self.connect()?;
         let host = self.address.host.as_str();
-        let taken = pull(self.alloc, self.service, host, &mut &stream, &mut &stream)?;
-        Ok(Round::of(taken))
+        pull_over(self.alloc, &mut self.service, host, &stream)
     }
 
-    fn push(&mut self) -> Result<Round, WebFault> {
+    fn push(&mut self) -> Result<Round, WebFault>
+        ensures { RunsRound K.Keeper Push self.old.service result self.new.service }
+    {
         let position = self.position()?;
         let host = self.address.host.as_str();
         let stream = self.connect()?;
-        let handed = push(
-            self.alloc,
-            self.service,
-            &position,
-            host,
-            &mut &stream,
-            &mut &stream,
-        )?;
-        Ok(Round::of(handed))
+        push_over(self.alloc, &mut self.service, &position, host, &stream)
+    }
+}
+
+/// One pull of the replica over this connection.
+fn pull_over<K: Keeper>(
+    alloc: Global,
+    service: &mut Service<K>,
+    host: &str,
+    stream: &TcpStream,
+) -> Result<Round, WebFault>
+    requires { IsTrue (is_host host.now) }
+    ensures { RunsRound K.Keeper Pull service.old result service.new }
+{
+    let mut reader = stream;
+    let mut writer = stream;
+    match pull(alloc, service, host, &mut reader, &mut writer) {
+        Ok(taken) => Ok(Round::of(taken)),
+        Err(fault) => Err(fault),
+    }
+}
+
+/// One push of the replica over this connection, to a peer at this position.
+fn push_over<K: Keeper>(
+    alloc: Global,
+    service: &mut Service<K>,
+    position: &Position,
+    host: &str,
+    stream: &TcpStream,
+) -> Result<Round, WebFault>
+    requires { IsTrue (is_host host.now) }
+    ensures { RunsRound K.Keeper Push service.old result service.new }
+{
+    let mut reader = stream;
+    let mut writer = stream;
+    match push(alloc, service, position, host, &mut reader, &mut writer) {
+        Ok(handed) => Ok(Round::of(handed)),
+        Err(fault) => Err(fault),
     }
 }
 
 impl<K: Keeper> Peer for Remote<'_, K> {
-    // a socket tells nothing of what it gives
-    ghost runs = { λ _ _ _ _. Unit {0} };
+    ghost use Rattle.mr_net.specs.Rounds.{RunsRound};
+
+    // of the replica here alone: a socket tells nothing of what it gives
+    ghost runs = { λ way p result q. RunsRound K.Keeper way p.service result q.service };
 
     fn round(&mut self, way: Way) -> Result<Round, WebFault> {
         match way {
@@ -132,23 +168,24 @@ fn exchange_from<W: Write>(
 ) -> u8
     ensures { EndsExchange (W.contents out.old) (W.contents out.new) result }
 {
-    let mut service = match open(rt, alloc, database) {
+    let service = match open(rt, alloc, database) {
         Ok(service) => service,
         Err(refusal) => return say_refusal(alloc, out, &refusal),
     };
-    let status = exchange_as(rt, alloc, &mut service, address, out);
+    let (service, status) = exchange_as(rt, alloc, service, address, out);
     close(service);
     status
 }
 
+/// Exchanges the replica of this service with the peer, and gives it back with the status.
 fn exchange_as<K: Keeper, W: Write>(
     rt: &HostRuntime,
     alloc: Global,
-    service: &mut Service<K>,
+    service: Service<K>,
     address: &Address<'_>,
     out: &mut W,
-) -> u8
-    ensures { EndsExchange (W.contents out.old) (W.contents out.new) result }
+) -> (Service<K>, u8)
+    ensures { TellsBoth (RunsRound K.Keeper) service result.0 (W.contents out.old) (W.contents out.new) result.1 }
 {
     let mut peer = Remote {
         rt,
@@ -156,5 +193,6 @@ fn exchange_as<K: Keeper, W: Write>(
         service,
         address,
     };
-    exchange_with(alloc, &mut peer, out)
+    let status = exchange_with(alloc, &mut peer, out);
+    (peer.service, status)
 }

@@ -8,7 +8,7 @@ ghost use Rattle.mr_peer.specs.Exchanged.{IsExchanged};
 ghost use Rattle.mr_peer.specs.Replies as spec;
 ghost use Rattle.mr_peer.specs.Requests.{is_host};
 ghost use Rattle.mr_peer.specs.Seen.{reply_seen, IsInside, counts_seen};
-ghost use Rattle.mr_peer.specs.Steps.{TakesBody, TakesPulled};
+ghost use Rattle.mr_peer.specs.Steps.{LeavesTables, TakesBody, TakesPulled};
 ghost use Rattle.mr_peer.specs.Taking.{Ends, Counts, Receives, Takes, IsOwnFault, IsTakeFault};
 
 use crate::asking::reply_to;
@@ -79,6 +79,7 @@ pub fn pull_take<K: Keeper, R: Read>(
     ensures exchanged { IsExchanged K.Keeper service.old service.new result
         (TakesPulled (R.remaining reader.old)) (TakesBody (K.tables service.old)) }
     ensures fault { IfErr result IsTakeFault }
+    ensures leaves { IfErr result (LeavesTables K.Keeper service.old service.new) }
 {
     let mut buffer = Vec::new(alloc);
     take_reply(alloc, service, reader, &mut buffer)
@@ -94,6 +95,7 @@ fn take_reply<K: Keeper, R: Read>(
     ensures exchanged { IsExchanged K.Keeper service.old service.new result
         (TakesPulled (R.remaining reader.old)) (TakesBody (K.tables service.old)) }
     ensures fault { IfErr result IsTakeFault }
+    ensures leaves { IfErr result (LeavesTables K.Keeper service.old service.new) }
 {
     let replied = read_reply(reader, buffer)?;
     take_body(alloc, service, buffer.as_slice(), replied)
@@ -109,6 +111,7 @@ fn take_body<K: Keeper>(
     ensures exchanged { IsExchanged K.Keeper service.old service.new result
         (Takes (spec.front_body (reply_seen bytes.now replied))) (TakesBody (K.tables service.old)) }
     ensures fault { IfErr result IsTakeFault }
+    ensures leaves { IfErr result (LeavesTables K.Keeper service.old service.new) }
 {
     let body = front_body(bytes, replied)?;
     take_batch(alloc, service, body)
@@ -122,6 +125,7 @@ fn take_batch<K: Keeper>(
     ensures exchanged { IsExchanged K.Keeper service.old service.new result
         (Receives body.now) (TakesBody (K.tables service.old)) }
     ensures fault { IfErr result IsOwnFault }
+    ensures leaves { IfErr result (LeavesTables K.Keeper service.old service.new) }
 {
     let ending = ending_in(alloc, body)?;
     let (writes, commits) = receive(alloc, service, body)?;
@@ -136,6 +140,7 @@ fn receive<K: Keeper>(
     ensures exchanged { IsExchanged K.Keeper service.old service.new result
         (Counts body.now) (TakesBody (K.tables service.old)) }
     ensures fault { IfErr result IsOwnFault }
+    ensures leaves { IfErr result (LeavesTables K.Keeper service.old service.new) }
 {
     let Ok(bytes) = Vec::from_slice(alloc, body) else {
         return Err(WebFault::Memory);

@@ -1,19 +1,19 @@
-use Rattle.std.proofs.Common.{inl, inr, arith}
+use Rattle.std.proofs.Common.{inl, inr}
 use Rattle.mr.proofs.DatabaseLaws.{adopted_tables}
 use Rattle.mr.proofs.EndLaws.{refusal_ends}
 use Rattle.mr.proofs.databases.init.Goals as goal
 
 pub returns-in-Ok : goal.returns-in-Ok
 returns-in-Ok g c =
-    elim c.say.ensures.status [
-      | inl zero ↦ inl (
-        zero,
+    elim c.say_made-keeper.ensures.told [
+      | inl told ↦ inl (
+        told.0,
         c.in-Ok.keeper,
         record {
           opened = record { uncounted = c.in-Ok.ensures.uncounted; settled = c.in-Ok.ensures.settled };
-          tables = λ clean now. let adopted = c.in-Ok.ensures.opened clean now in adopted_tables _ _ adopted.0 _ adopted.1;
+          tables = λ clean now. let adopted = c.in-Ok.ensures.opened clean now in adopted_tables _ _ adopted.0 _ adopted.2;
         },
-        c.say.ensures.told (λ three. omega (arith, zero, three)),
+        told.1,
       )
       | inr three ↦ inr (inr (inr three))
     ]

@@ -1,8 +1,13 @@
 use Rattle.mr_base.specs.Refusals.{refusal_of}
-use Rattle.mr_net.proofs.ExchangeLaws.{refused_exchange}
+use Rattle.mr_net.proofs.ExchangeLaws.{bridged, refused_exchange}
 use Rattle.mr_net.proofs.bridging.bridge_to.Goals as goal
 
 pub returns-in-Err : goal.returns-in-Err
 returns-in-Err g c =
-    refused_exchange (refusal_of c.in-Err.refusal) (g.W.Write.contents c.args.out.now) (g.W.Write.contents c.say_refusal.new.out) c.say_refusal.result
-    c.say_refusal.ensures.status c.say_refusal.ensures.told
+    refused_exchange (refusal_of c.in-Err.refusal) (g.W.Write.contents c.args.out.now) (g.W.Write.contents c.say_refusal-status.new.out) c.say_refusal-status.result
+    c.say_refusal-status.ensures.status c.say_refusal-status.ensures.told
+
+pub returns : goal.returns
+returns g c =
+    bridged g.C.Keeper _ (c.args.client, c.in-Ok.server) (c.bridge_between-client.result.0, c.bridge_between-client.result.1) (g.W.Write.contents c.args.out.now)
+    (g.W.Write.contents c.bridge_between-client.new.out) c.bridge_between-client.result.2 c.bridge_between-client.ensures

@@ -1,6 +1,8 @@
-use Rattle.mr_net.proofs.ExchangeLaws.{exchanged}
+use Rattle.mr_net.specs.Rounds.{RunsRound}
+use Rattle.mr_net.proofs.ExchangeLaws.{both_seen}
 use Rattle.mr_net.proofs.exchanging.exchange_as.Goals as goal
 
 pub returns : goal.returns
 returns g c =
-    exchanged (λ _ _ _ _. Unit {0}) _ _ (g.W.Write.contents c.args.out.now) (g.W.Write.contents c.exchange_with.new.out) c.exchange_with.result c.exchange_with.ensures
+    both_seen (λ p. p.service) _ (RunsRound g.K.Keeper) (λ way p r q ran. ran) _ c.exchange_with-status.new.peer (g.W.Write.contents c.args.out.now)
+    (g.W.Write.contents c.exchange_with-status.new.out) c.exchange_with-status.result c.exchange_with-status.ensures

@@ -7,7 +7,7 @@ use Rattle.mr_http.specs.Inputs.{OfInput}
 use Rattle.mr_peer.specs.Exchanged.{IsExchanged}
 use Rattle.mr_peer.specs.Replies.{IsReplied, front_body}
 use Rattle.mr_peer.specs.Seen.{reply_seen}
-use Rattle.mr_peer.specs.Steps.{TakesBody, TakesPulled}
+use Rattle.mr_peer.specs.Steps.{LeavesTables, TakesBody, TakesPulled}
 use Rattle.mr_peer.specs.Taking.{Takes, IsTakeFault}
 use Rattle.mr_peer.proofs.Exchanges.{onward, untouched}
 use Rattle.mr_peer.proofs.FaultLemmas.{front_faults, handed_on, read_faults, reply_takes}
@@ -43,3 +43,8 @@ pub returns-in_err-replied-clause-fault : goal.returns-in_err-replied-clause-fau
 returns-in_err-replied-clause-fault g c =
     let e = c.in_err-replied.field-0.0 in
     handed_on IsTakeFault (web_fault e) c.from_residual.result (reply_takes (web_fault e) (read_faults e)) c.from_residual.ensures.1
+
+pub returns-in_err-replied-clause-leaves : goal.returns-in_err-replied-clause-leaves
+returns-in_err-replied-clause-leaves g c =
+    let old = c.args.service.now in
+    handed_on (LeavesTables g.K.Keeper old old) (web_fault c.in_err-replied.field-0.0) c.from_residual.result (λ other clean now. refl) c.from_residual.ensures.1
