@@ -22,8 +22,6 @@ from plain_script import REFUSED
 from shim import Shim, compiler
 from tables import copy_database, rows_or_none
 
-# What is printed, and the status, where memory is refused while the words of a command are read.
-NO_WORDS = (b'bad command line\n', 2)
 DAY = '1995-12-18'
 # Of a command on a database: its last allocations, of which one in OFTEN is refused, and of those before, one in SELDOM.
 LAST, SELDOM, OFTEN = 700, 701, 23
@@ -34,7 +32,7 @@ class Tried:
 
     def __init__(self, program, folder):
         self.program, self.folder, self.shim = program, folder, Shim()
-        self.allocations, self.refused, self.late, self.wrong, self.is_reading_words = 0, 0, 0, 0, True
+        self.allocations, self.refused, self.late, self.wrong = 0, 0, 0, 0
         self.run(0, 'nothing')
         self.told('the shim', None if self.shim.seen() else 'it sees no allocation')
 
@@ -47,13 +45,7 @@ class Tried:
     def run(self, nth, *words, has_more=False):
         """What the program prints, and its status, with this allocation refused."""
         self.shim.refuse(nth, has_more)
-        told = call(self.program, *words, env=self.shim.environment)
-        self.is_reading_words = nth <= 1 or self.is_reading_words and told == NO_WORDS
-        return told
-
-    def is_without_words(self, told):
-        """Memory was refused while words were read: no command was seen yet."""
-        return told == NO_WORDS and self.is_reading_words
+        return call(self.program, *words, env=self.shim.environment)
 
 
 class Lists(Tried):
@@ -88,8 +80,6 @@ class Lists(Tried):
                 return refused
             self.refused += len(refused)
             return None if has_more or len(refused) <= 1 else f'{len(refused)} lines are refused for one allocation'
-        if self.is_without_words(told):
-            return None
         self.refused += 1
         whole = plain_script.printed_by(lines)
         is_ended = status == 1 and printed.endswith(REFUSED) and whole.startswith(printed[:-len(REFUSED)])
@@ -148,8 +138,6 @@ class Databases(Tried, on_databases.Offices):
         state = self.state(words)
         if told == whole and state == after:
             return None, True
-        if self.is_without_words(told) and state == before:
-            return None, False
         if told == (REFUSED, 1) and state == before:
             self.refused += 1
             return None, False

@@ -12,6 +12,9 @@ use Rattle.mr_base.specs.declared.refusals.Refusal.TheVariants as refusal
 use Rattle.mr_store.specs.declared.keeper.Keeper.{Ghosts}
 use Rattle.mr_say.specs.Told.{no_memory_line, status_of, Tells}
 use Rattle.mr_words.specs.Rows.{Asked, Init, Ask, Export, Import, Rehearse, Serve, Exchange, Bridge}
+use Rattle.mr_words.specs.declared.invocations.WordFault.{WordFault}
+use Rattle.mr_words.specs.declared.invocations.WordFault.TheVariants as faults
+use Rattle.mr.specs.Rehearsed.{bad_words_line}
 use Rattle.mr.specs.Told.{TellsFault, TellsLength, TellsWritten}
 use Rattle.mr.specs.Tasks.{IsReceive, IsBatchFor, IsOfDatabase, TellsUnopened, EndsAsking, EndsAs, EndsExchangeAt, EndsRehearsal}
 use Rattle.mr_net.specs.Hosts.{IsPeer}
@@ -164,3 +167,27 @@ ends_within keeper (Rehearse script) held holds status ends = rehearsal_within h
 ends_within keeper (Serve database port connections) held holds status ends = serving_within port connections held holds status ends
 ends_within keeper (Exchange database address) held holds status ends = exchange_at_within address held holds status ends
 ends_within keeper (Bridge database other) held holds status ends = exchange_within held holds status ends
+
+-- ---- words that are no command line
+
+-- words that could be read weren't had for lack of memory
+pub words_end : {K : Type 0} (keeper : Ghosts K) (asked : Asked) (fault : WordFault) (held holds : Option Text) (status : ℕ)
+    → ¬ (fault ≡ faults.Bad) → (fault ≡ faults.Memory → TellsFault held holds status) → EndsAs keeper asked held holds status
+words_end keeper asked faults.Bad held holds status not_bad memory = absurd (not_bad refl)
+words_end keeper asked faults.Memory held holds status not_bad memory = fault_ends keeper asked held holds status (memory refl)
+
+-- the line of bad words, or want of memory in its place
+pub bad_words_end : (fault : WordFault) (held holds : Option Text) (status : ℕ)
+    → (fault ≡ faults.Bad → ((status ≡ 2) × Appends held holds bad_words_line) ⊎ (status ≡ 3)) → (fault ≡ faults.Memory → TellsFault held holds status)
+    → ((status ≡ 2) × Appends held holds bad_words_line) ⊎ (((status ≡ 1) × Appends held holds no_memory_line) ⊎ (status ≡ 3))
+bad_words_end faults.Bad held holds status bad memory = said (bad refl)
+  where
+    said : ((status ≡ 2) × Appends held holds bad_words_line) ⊎ (status ≡ 3) → ((status ≡ 2) × Appends held holds bad_words_line) ⊎ (((status ≡ 1) × Appends held holds no_memory_line) ⊎ (status ≡ 3))
+    said (inl two) = inl two
+    said (inr three) = inr (inr three)
+bad_words_end faults.Memory held holds status bad memory = inr (memory refl)
+
+pub bad_words_status : (status : ℕ) {A B : Type 0} → ((status ≡ 2) × A) ⊎ (((status ≡ 1) × B) ⊎ (status ≡ 3)) → status ≤ 3
+bad_words_status status (inl two) = (let is = two.0 in omega (arith, is))
+bad_words_status status (inr (inl one)) = (let is = one.0 in omega (arith, is))
+bad_words_status status (inr (inr three)) = omega (arith, three)

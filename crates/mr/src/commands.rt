@@ -8,6 +8,7 @@ ghost use Rattle.mr_words.specs.Reading.{asked_of};
 ghost use Rattle.mr_say.specs.Told.{no_memory_line};
 ghost use Rattle.mr.specs.Rehearsed.{bad_words_line};
 ghost use Rattle.mr.specs.Tasks.{EndsAs, EndsRehearsal};
+ghost use Rattle.mr.specs.Told.{TellsFault};
 
 use crate::databases::{init, on_database};
 use crate::files::{open_file, say_fault};
@@ -34,8 +35,19 @@ pub fn command<W: Write>(rt: &HostRuntime, alloc: Global, words: &[String], out:
 {
     match invocation(alloc, words) {
         Ok(asked) => perform(rt, alloc, asked, out),
-        Err(WordFault::Bad) => say(out, "bad command line\n", BAD_WORDS),
-        Err(WordFault::Memory) => say(out, NO_MEMORY, REFUSED),
+        Err(fault) => say_word_fault(fault, out),
+    }
+}
+
+/// Prints why there is no command line, and answers the status. Where the words can't be had for lack of memory, that is a
+/// refusal like any other.
+pub fn say_word_fault<W: Write>(fault: WordFault, out: &mut W) -> u8
+    ensures bad { fault ≡ WordFault.Bad → ((result ≡ 2) × Appends (W.contents out.old) (W.contents out.new) bad_words_line) ⊎ (result ≡ 3) }
+    ensures memory { fault ≡ WordFault.Memory → TellsFault (W.contents out.old) (W.contents out.new) result }
+{
+    match fault {
+        WordFault::Bad => say(out, "bad command line\n", BAD_WORDS),
+        WordFault::Memory => say(out, NO_MEMORY, REFUSED),
     }
 }
 

@@ -1,4 +1,4 @@
-ghost use Rattle.std.specs.Prelude.{◌≡◌, IsTrue};
+ghost use Rattle.std.specs.Prelude.{◌≡◌, IsTrue, Err};
 ghost use Rattle.mr_model.specs.Requests.{Request as RequestForRoom, is_request};
 ghost use Rattle.mr_base.specs.Answers.{OrOutOfMemory};
 ghost use Rattle.mr_base.specs.Limits.{limited, request_of};
@@ -61,7 +61,9 @@ impl Request {
         wish: Slot,
         alternatives: Alternatives,
     ) -> Result<Request, Refusal>
-        ensures { OrOutOfMemory result (request_of room.now title.now length wish alternatives) }
+        ensures value { OrOutOfMemory result (request_of room.now title.now length wish alternatives) }
+        // A refusal that is due is returned without memory.
+        ensures due { (e : Refusal) → request_of room.now title.now length wish alternatives ≡ Err e → result ≡ Err e }
     {
         if !fits(length, wish, alternatives.as_slice()) {
             return Err(Refusal::BadLength);

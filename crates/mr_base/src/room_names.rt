@@ -1,4 +1,4 @@
-ghost use Rattle.std.specs.Prelude.{◌≡◌, ℕ, ◌==◌, List, IsTrue, IfOk, Ok};
+ghost use Rattle.std.specs.Prelude.{◌≡◌, ℕ, ◌==◌, false, List, IsTrue, IfOk, Ok, Err};
 ghost use Rattle.std.specs.List.{list_all};
 ghost use Rattle.std.specs.String.{string_bytes};
 ghost use Rattle.std.specs.Cmp.{partial_order_from_own_ties};
@@ -31,7 +31,9 @@ impl Model for RoomName {
 impl RoomName {
     /// The room of this name.
     pub fn new(alloc: Global, text: &str) -> Result<RoomName, Refusal>
-        ensures { OrOutOfMemory result (ok_if (is_room_name text.now) text.now Refusal.BadRoomName) }
+        ensures value { OrOutOfMemory result (ok_if (is_room_name text.now) text.now Refusal.BadRoomName) }
+        // A refusal that is due is returned without memory.
+        ensures due { is_room_name text.now ≡ false → result ≡ Err Refusal.BadRoomName }
     {
         if !is_room_text(text.as_bytes()) {
             return Err(Refusal::BadRoomName);

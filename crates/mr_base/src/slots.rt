@@ -37,7 +37,7 @@ impl Slot {
     }
 
     /// Whether what lasts that many minutes from here on ends on the slot's day, at midnight at the latest.
-    pub(crate) fn fits_day(&self, length: u32) -> bool
+    pub fn fits_day(&self, length: u32) -> bool
         ensures { result ≡ (is_slot self.now && fits_day length self.now) }
     {
         self.start as u64 + length as u64 <= 1440

@@ -1,4 +1,4 @@
-ghost use Rattle.std.specs.Prelude.{◌≡◌, ℕ, List, IsTrue, IfOk, Ok};
+ghost use Rattle.std.specs.Prelude.{◌≡◌, ℕ, false, List, IsTrue, IfOk, Ok, Err};
 ghost use Rattle.std.specs.List.{list_all};
 ghost use Rattle.std.specs.String.{string_bytes};
 ghost use Rattle.mr_model.specs.Texts.{within};
@@ -27,7 +27,9 @@ impl Model for Title {
 impl Title {
     /// The title with this text.
     pub fn new(alloc: Global, text: &str) -> Result<Title, Refusal>
-        ensures { OrOutOfMemory result (ok_if (is_title text.now) text.now Refusal.BadTitle) }
+        ensures value { OrOutOfMemory result (ok_if (is_title text.now) text.now Refusal.BadTitle) }
+        // A refusal that is due is returned without memory.
+        ensures due { is_title text.now ≡ false → result ≡ Err Refusal.BadTitle }
     {
         if !is_title_text(text.as_bytes()) {
             return Err(Refusal::BadTitle);

@@ -302,7 +302,7 @@ fn cancels_are_copied_and_compared(rt: HostRuntime) -> Result<(), Fail> {
 }
 
 // the words of a request that wishes 14:00, its length and its alternatives, and its smallest refusal
-static REQUESTS: [((&str, &str), u32, &[u32], Result<bool, Refusal>); 11] = [
+static REQUESTS: [((&str, &str), u32, &[u32], Result<bool, Refusal>); 14] = [
     (("oak", "Audit"), 60, &[], Ok(true)),
     (("oak", "Audit"), 600, &[540, 600], Ok(true)),
     (("oak", "Audit"), 60, &[540; 9], Ok(true)),
@@ -316,6 +316,9 @@ static REQUESTS: [((&str, &str), u32, &[u32], Result<bool, Refusal>); 11] = [
     (("oak", ""), 60, &[540; 17], Err(Refusal::BadTitle)),
     (("Oak", ""), 60, &[540; 17], Err(Refusal::BadRoomName)),
     (("Oak", ""), 0, &[540; 17], Err(Refusal::BadLength)),
+    (("Oak", "Audit"), 60, &[540; 17], Err(Refusal::BadRoomName)),
+    (("oak", " Audit"), 60, &[], Err(Refusal::BadTitle)),
+    (("", "Audit"), 60, &[], Err(Refusal::BadRoomName)),
     (("oak", "Audit"), 601, &[], Err(Refusal::BadLength)),
     (("oak", "Audit"), 1441, &[], Err(Refusal::BadLength)),
     (("oak", "Audit"), 60, &[1381], Err(Refusal::BadLength)),

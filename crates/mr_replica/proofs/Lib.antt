@@ -36,7 +36,6 @@ pub mod Moves
 pub mod PartCalls
 pub mod PartRows
 pub mod Picking
-pub mod Touching
 pub mod PickedRows
 pub mod Stamping
 pub mod PartScopes

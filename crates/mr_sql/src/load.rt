@@ -85,7 +85,10 @@ fn read_board<S: Alter>(
 }
 
 /// All tables.
-fn read_tables<S: Alter>(conn: &mut Connection<S>, alloc: Global) -> Result<Tables, Error>
+pub(crate) fn read_tables<S: Alter>(
+    conn: &mut Connection<S>,
+    alloc: Global,
+) -> Result<Tables, Error>
     requires autocommit { conn.old.in_transaction ≡ false }
     ensures autocommit { conn.new.in_transaction ≡ false }
     ensures reads { Reads (state S.Store conn.old) (state S.Store conn.new) result (λ tables. tables ≡ tables_in (state S.Store conn.old).now.trees) }

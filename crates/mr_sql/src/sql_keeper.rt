@@ -18,7 +18,7 @@ use crate::{answers, changes, load};
 use mr_base::{Day, Refusal, RoomName, ServerId, WriteId};
 use mr_replica::{Desk, Part, Scope};
 use mr_store::{Fault, Keeper, PlaceRow};
-use mr_tables::{BookingRow, Change, ErrorRow, MetaRow};
+use mr_tables::{BookingRow, Change, ErrorRow, MetaRow, Tables};
 use sqlite::{Alter, Connection, Error, ErrorCode, MemStore};
 use std::alloc::Global;
 use std::marker::Model;
@@ -116,6 +116,13 @@ impl<S: Alter> Keeper for SqlKeeper<S> {
 
     fn errors(&mut self, room: &RoomName) -> Result<Vec<ErrorRow>, Fault> {
         match answers::errors_of(&mut self.conn, self.alloc, room) {
+            Ok(value) => Ok(value),
+            Err(error) => Err(told(&mut self.failures, error)),
+        }
+    }
+
+    fn read(&mut self) -> Result<Tables, Fault> {
+        match load::read_tables(&mut self.conn, self.alloc) {
             Ok(value) => Ok(value),
             Err(error) => Err(told(&mut self.failures, error)),
         }

@@ -1,6 +1,25 @@
-//! Tests of the parts that keepers load: how many rows each has, over lists and over a database in memory. It stands above `mr_sql` and
-//! `mr_wire`, and nothing stands on it. What is proved of a part is said by the contracts of `mr_replica`; here they are run.
+//! Tests of replicas over each keeper: lists, lists that load no desk, and a database in memory. It stands above `mr_service` and `mr_sql`,
+//! and nothing stands on it. What is proved of commands, keepers and parts is said by their contracts; here they are run, with replies that
+//! were worked by hand.
 #![tactic(auto)]
 
 #[cfg(test)]
+mod acts;
+#[cfg(test)]
+mod fault_tests;
+#[cfg(test)]
+mod hostile_tests;
+#[cfg(test)]
+mod offices;
+#[cfg(test)]
+mod opening;
+#[cfg(test)]
 mod part_tests;
+#[cfg(test)]
+mod receiving_tests;
+#[cfg(test)]
+mod script_tests;
+#[cfg(test)]
+mod scripts;
+#[cfg(test)]
+mod without_desk;

@@ -1,101 +1,178 @@
-// How many rows the part for a received batch has. Replica 9 has fifty writes of replica 3 and two others.
+// How many rows the part of each scope has, over lists and over a database in memory, worked by hand. Replica 9 has fifty writes of elm for
+// one slot, of which one is booked, and two writes of oak, which are booked. The memory is ample.
 
-use mr_base::{Refusal, ServerId};
+use crate::acts::{Act, said};
+use crate::opening::Opening;
+use crate::receiving_tests::TWO;
+use mr_base::{Refusal, RoomName};
 use mr_replica::Scope;
+use mr_service::Service;
 use mr_sql::SqlKeeper;
 use mr_store::{Keeper, ListKeeper};
 use mr_wire::read_batch;
+use sqlite::MemStore;
 use std::alloc::Global;
+use std::process::Abort;
 use std::test::Fail;
 
-const OAK: &str =
-    "mr1 1 1\nW 1 1 1 oak 60 1995-12-18 14:00 0 Alpha\nW 2 1 1 oak 60 1995-12-18 13:30 1 1995-12-18 15:00 Beta\nE\n";
-
-/// A write of oak.
+/// A write of oak, behind the others.
 const GAMMA: &str = "mr1 2 1\nW 2 2 2 oak 30 1995-12-18 17:00 0 Gamma\nE\n";
 
-/// A commit of a write of oak.
+/// A commit of the first write of elm.
 const FIRST: &str = "mr1 1 1\nC 1 3 1\nE\n";
 
-/// Fifty writes of elm, and their commits.
-fn elm(alloc: Global, with_commits: bool) -> Result<Vec<u8>, Refusal> {
-    let mut batch = "mr1 3 1\n".as_bytes().to_vec(alloc)?;
-    for i in 1..51 {
-        let write = format!(in alloc; "W 3 {i} {i} elm 15 1995-12-18 09:00 0 Elm\n")?;
-        batch.extend_from_slice(write.as_bytes())?;
-        if with_commits {
-            let commit = format!(in alloc; "C {i} 3 {i}\n")?;
-            batch.extend_from_slice(commit.as_bytes())?;
-        }
-    }
-    batch.extend_from_slice("E\n".as_bytes())?;
-    Ok(batch)
+/// What a part is loaded for.
+#[derive(Clone, Copy)]
+enum For {
+    Position,
+    Submission(&'static str),
+    Commit(u64),
+    Truncation(u64),
+    /// A batch for a position with so many commits.
+    Above(u64),
+    /// A batch of this text, which is received.
+    Batch(&'static str),
 }
 
-fn receive<K: Keeper>(alloc: Global, keeper: &mut K, bytes: &[u8]) -> Result<(), Refusal> {
-    let batch = read_batch(alloc, bytes)?;
-    let mut desk = match keeper.load() {
-        Ok(desk) => desk,
-        Err(fault) => return Err(Refusal::from(fault)),
-    };
-    let (_, _, change) = desk.receive(&batch)?;
-    match keeper.apply(&change) {
-        Ok(()) => Ok(()),
-        Err(fault) => Err(Refusal::from(fault)),
-    }
-}
+/// The writes of elm are committed: 52 rows of `write_log` and of `undo`, 3 of `booking`.
+static OF_COMMITTED: [(For, u64); 12] = [
+    (For::Position, 0),
+    (For::Submission("oak"), 2),
+    (For::Submission("elm"), 1),
+    (For::Submission("ash"), 0),
+    (For::Commit(1), 2),
+    (For::Commit(9), 4),
+    (For::Truncation(10), 20),
+    (For::Truncation(50), 100),
+    (For::Above(40), 12),
+    (For::Above(50), 2),
+    // the bookings of oak
+    (For::Batch(GAMMA), 2),
+    // the write, which is committed already
+    (For::Batch(FIRST), 2),
+];
 
-/// How many rows the part for the batch has.
-fn rows<K: Keeper>(alloc: Global, keeper: &mut K, text: &str) -> Result<u64, Refusal> {
-    let batch = read_batch(alloc, text.as_bytes())?;
-    match keeper.load_part(&Scope::Items(&batch.items)) {
+/// They are committed and dropped: 2 rows of `write_log` and of `undo`, 3 of `booking`.
+static OF_DROPPED: [(For, u64); 5] = [
+    (For::Submission("elm"), 1),
+    (For::Commit(9), 4),
+    (For::Above(50), 2),
+    (For::Batch(GAMMA), 2),
+    (For::Batch(FIRST), 0),
+];
+
+/// They are tentative.
+static OF_TENTATIVE: [(For, u64); 6] = [
+    (For::Submission("elm"), 1),
+    (For::Commit(3), 6),
+    (For::Truncation(0), 0),
+    (For::Above(0), 52),
+    // the bookings of oak
+    (For::Batch(GAMMA), 2),
+    // the writes of elm with their undo rows, and the one booking of elm
+    (For::Batch(FIRST), 101),
+];
+
+fn rows_in<K: Keeper>(keeper: &mut K, scope: &Scope<'_>) -> Result<u64, Refusal> {
+    match keeper.load_part(scope) {
         Ok(part) => Ok(part.rows()),
         Err(fault) => Err(Refusal::from(fault)),
     }
 }
 
-/// Fills the keeper, and tells how many rows the part for the write has, and that for the commit.
-fn counts<K: Keeper>(
+fn rows_of_room<K: Keeper>(alloc: Global, keeper: &mut K, room: &str) -> Result<u64, Refusal> {
+    let room = RoomName::new(alloc, room)?;
+    rows_in(keeper, &Scope::InRoom(&room))
+}
+
+fn rows_of_batch<K: Keeper>(alloc: Global, keeper: &mut K, text: &str) -> Result<u64, Refusal> {
+    let batch = read_batch(alloc, text.as_bytes())?;
+    rows_in(keeper, &Scope::Items(&batch.items))
+}
+
+/// How many rows the part has.
+fn rows<K: Keeper>(alloc: Global, keeper: &mut K, part: For) -> Result<u64, Refusal> {
+    match part {
+        For::Position => rows_in(keeper, &Scope::Nothing),
+        For::Submission(room) => rows_of_room(alloc, keeper, room),
+        For::Commit(count) => rows_in(keeper, &Scope::NextCommits(count)),
+        For::Truncation(number) => rows_in(keeper, &Scope::UpTo(number)),
+        For::Above(commits) => rows_in(keeper, &Scope::Above(commits)),
+        For::Batch(text) => rows_of_batch(alloc, keeper, text),
+    }
+}
+
+/// How many requests of elm found no free slot.
+fn errors<K: Keeper>(alloc: Global, keeper: &mut K) -> Result<usize, Refusal> {
+    let elm = RoomName::new(alloc, "elm")?;
+    match keeper.errors(&elm) {
+        Ok(rows) => Ok(rows.len()),
+        Err(fault) => Err(Refusal::from(fault)),
+    }
+}
+
+/// The keeper of a replica 9 that was asked this, with these replies.
+fn filled<K: Opening + Drop>(
+    rt: &impl Abort,
     alloc: Global,
-    keeper: &mut K,
-    with_commits: bool,
-) -> Result<(u64, u64), Refusal> {
-    let elm = elm(alloc, with_commits)?;
-    receive(alloc, keeper, &elm)?;
-    receive(alloc, keeper, OAK.as_bytes())?;
-    let write = rows(alloc, keeper, GAMMA)?;
-    let commit = rows(alloc, keeper, FIRST)?;
-    Ok((write, commit))
+    asked: &[(Act, &str)],
+) -> Result<K, Fail> {
+    let mut service = Service::new(alloc, K::open(alloc, 9)?);
+    for (act, want) in asked {
+        let text = said(alloc, &mut service, *act)?;
+        assert_eq!(rt; text.as_slice(), want.as_bytes(), "where {want} is wanted");
+    }
+    Ok(service.into_keeper())
 }
 
-fn server(number: u32) -> Result<ServerId, Refusal> {
-    ServerId::new(number).ok_or(Refusal::NotAReplica)
-}
-
-fn over_lists(alloc: Global, with_commits: bool) -> Result<(u64, u64), Refusal> {
-    let mut keeper = ListKeeper::new(alloc, server(9)?, server(1)?);
-    counts(alloc, &mut keeper, with_commits)
-}
-
-fn over_database(alloc: Global, with_commits: bool) -> Result<(u64, u64), Refusal> {
-    let mut keeper = SqlKeeper::open_in_memory(alloc, server(9)?, server(1)?)?;
-    counts(alloc, &mut keeper, with_commits)
-}
-
-// Both bookings of oak for the write.
-#[test]
-fn a_write_needs_the_bookings_of_its_room(rt: HostRuntime) -> Result<(), Fail> {
-    assert_eq!(rt; over_lists(rt.alloc(), true)?.0, 2);
-    assert_eq!(rt; over_database(rt.alloc(), true)?.0, 2);
-    assert_eq!(rt; over_lists(rt.alloc(), false)?.0, 2);
-    assert_eq!(rt; over_database(rt.alloc(), false)?.0, 2);
+fn check_parts<K: Keeper + Drop>(
+    rt: &impl Abort,
+    alloc: Global,
+    mut keeper: K,
+    parts: &[(For, u64)],
+) -> Result<(), Fail> {
+    for (index, (part, count)) in parts.iter().enumerate() {
+        assert_eq!(rt; rows(alloc, &mut keeper, *part)?, *count, "at {index}");
+    }
     Ok(())
 }
 
-// The writes of elm with their undo rows, and the one booking of elm.
-#[test]
-fn a_new_commit_needs_the_tentative_writes_of_its_room(rt: HostRuntime) -> Result<(), Fail> {
-    assert_eq!(rt; over_lists(rt.alloc(), false)?.1, 101);
-    assert_eq!(rt; over_database(rt.alloc(), false)?.1, 101);
+const COMMITTED: [(Act, &str); 2] = [
+    (Act::Elm, "took 50 writes 50 commits\n"),
+    (Act::Batch(TWO), "took 2 writes 0 commits\n"),
+];
+
+const DROPPED: [(Act, &str); 3] = [
+    (Act::Elm, "took 50 writes 50 commits\n"),
+    (Act::Truncate(50), "dropped 50\n"),
+    (Act::Batch(TWO), "took 2 writes 0 commits\n"),
+];
+
+const TENTATIVE: [(Act, &str); 2] = [
+    (Act::TentativeElm, "took 50 writes 0 commits\n"),
+    (Act::Batch(TWO), "took 2 writes 0 commits\n"),
+];
+
+fn check_all<K: Opening + Drop>(rt: &impl Abort, alloc: Global) -> Result<(), Fail> {
+    let mut committed = filled::<K>(rt, alloc, &COMMITTED)?;
+    assert_eq!(rt; errors(alloc, &mut committed)?, 49);
+    check_parts(rt, alloc, committed, &OF_COMMITTED)?;
+    let dropped = filled::<K>(rt, alloc, &DROPPED)?;
+    check_parts(rt, alloc, dropped, &OF_DROPPED)?;
+    let tentative = filled::<K>(rt, alloc, &TENTATIVE)?;
+    check_parts(rt, alloc, tentative, &OF_TENTATIVE)?;
+    let mut service = Service::new(alloc, filled::<K>(rt, alloc, &TENTATIVE)?);
+    let text = said(alloc, &mut service, Act::Batch(FIRST))?;
+    assert_eq!(rt; text.as_slice(), b"took 0 writes 1 commits\n".as_slice());
     Ok(())
+}
+
+#[test]
+fn parts_over_lists(rt: HostRuntime) -> Result<(), Fail> {
+    check_all::<ListKeeper>(&rt, rt.alloc())
+}
+
+#[test]
+fn parts_over_a_database(rt: HostRuntime) -> Result<(), Fail> {
+    check_all::<SqlKeeper<MemStore>>(&rt, rt.alloc())
 }

@@ -1,3 +1,4 @@
 pub mod CalendarOrder
 pub mod Changes
 pub mod Gaps
+pub mod Remembered

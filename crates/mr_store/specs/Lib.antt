@@ -1,4 +1,6 @@
--- A reader of the contracts trusts Kept, Lists and Picked. The others, Order and Rows, serve private clauses and proofs alone.
+-- A reader of the contracts trusts Kept, Lists, Picked, and of Cached `NeverFails`. The others, Order and Rows, serve private clauses and
+-- proofs alone.
+pub mod Cached
 pub mod Kept
 pub mod Lists
 pub mod Order

@@ -11,7 +11,7 @@ ghost use Rattle.mr_store.specs.Picked.{picked_errors, AreBookings, IsPlaceOf};
 
 use mr_base::{Day, Refusal, RoomName, WriteId};
 use mr_replica::{Desk, Part, Scope};
-use mr_tables::{BookingRow, Change, ErrorRow};
+use mr_tables::{BookingRow, Change, ErrorRow, Tables};
 
 /// Why a keeper answers nothing.
 #[derive(Clone, Copy, Debug, PartialEq, Eq)]
@@ -107,6 +107,11 @@ pub trait Keeper {
     fn errors(&mut self, room: &RoomName) -> Result<Vec<ErrorRow>, Fault>
         ensures quiet { IsQuiet tables failures is_clean is_open may_leave never_fails self.old self.new result }
         ensures errors { is_clean self.new → is_open self.old → IfOk result (λ rows. IsPermutation (picked_errors room.now (tables self.old)) rows.items) };
+
+    /// All rows of all tables.
+    fn read(&mut self) -> Result<Tables, Fault>
+        ensures quiet { IsQuiet tables failures is_clean is_open may_leave never_fails self.old self.new result }
+        ensures rows { is_clean self.new → is_open self.old → IfOk result (λ rows. rows ≡ tables self.old) };
 
     /// Makes the whole change, or nothing.
     fn apply(&mut self, change: &Change) -> Result<(), Fault>

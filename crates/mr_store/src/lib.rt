@@ -5,6 +5,7 @@
 //! The contract is that of the trait `Keeper`, which sees a keeper as plain tables.
 #![tactic(auto)]
 
+mod cached;
 mod keeper;
 mod lists;
 mod order;
@@ -14,6 +15,7 @@ mod rows;
 mod table_rows;
 mod tripped;
 
+pub use cached::Cached;
 pub use keeper::{Fault, Keeper, PlaceRow};
 pub use lists::ListKeeper;
 pub use tripped::Tripped;

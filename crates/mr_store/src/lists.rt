@@ -1,4 +1,4 @@
-ghost use Rattle.std.specs.Prelude.{◌≡◌, ◌≢◌, ◌<◌, true, OnOk, OnErr};
+ghost use Rattle.std.specs.Prelude.{◌≡◌, ◌≢◌, ◌<◌, true, IfOk, OnOk, OnErr};
 ghost use Rattle.mr_model.specs.Replica.{opening};
 ghost use Rattle.mr_model.specs.Tables.{tables_of, Stands};
 ghost use Rattle.mr_tables.specs.Change.{changed};
@@ -120,6 +120,21 @@ fn opening_tables(alloc: Global, server: ServerId, primary: ServerId) -> Tables
     }
 }
 
+/// Equal tables.
+fn copied(alloc: Global, tables: &Tables) -> Result<Tables, AllocError>
+    ensures { IfOk result (λ copy. copy ≡ tables.now) }
+{
+    Ok(Tables {
+        meta: tables.meta,
+        room: copies_of(alloc, &tables.room)?,
+        vector: copies_of(alloc, &tables.vector)?,
+        write_log: copies_of(alloc, &tables.write_log)?,
+        undo: copies_of(alloc, &tables.undo)?,
+        booking: copies_of(alloc, &tables.booking)?,
+        errorlog: copies_of(alloc, &tables.errorlog)?,
+    })
+}
+
 /// The fault for a refusal of the tables: want of memory, or that the store failed, which is counted. Where the count is full
 /// it is told as want of memory too.
 fn fault_of(refusal: Refusal, failures: &mut u64) -> Fault
@@ -186,6 +201,13 @@ impl Keeper for ListKeeper {
     fn errors(&mut self, room: &RoomName) -> Result<Vec<ErrorRow>, Fault> {
         match errors_of(self.alloc, &self.tables.errorlog, room) {
             Ok(rows) => Ok(rows),
+            Err(AllocError) => Err(Fault::OutOfMemory),
+        }
+    }
+
+    fn read(&mut self) -> Result<Tables, Fault> {
+        match copied(self.alloc, &self.tables) {
+            Ok(tables) => Ok(tables),
             Err(AllocError) => Err(Fault::OutOfMemory),
         }
     }

@@ -34,7 +34,7 @@ fn pick_bookings(
 {
     let mut picked = Vec::new(alloc);
     for row in rows {
-        if row.room == *room && is_on(row.day, day) {
+        if is_on(row.day, day) && row.room == *room {
             picked.push(row.copied(alloc)?)?;
         }
     }

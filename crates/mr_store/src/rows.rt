@@ -54,12 +54,15 @@ pub(crate) fn is_in_order<R: TableRow>(rows: &[R]) -> bool
     rows.is_sorted_by(|one, next| one.is_before(next))
 }
 
-/// Takes the rows of these requests away, in one pass.
+/// Takes the rows of these requests away, in one pass where there are any.
 pub(crate) fn take_away<R: RequestRow>(rows: &mut Vec<R>, gone: &[WriteId])
     ensures items { rows.new.items ≡ without R.id gone.now rows.old.items }
     ensures len { vec_len rows.new ≤ vec_len rows.old }
     ensures capacity { vec_capacity rows.new ≡ vec_capacity rows.old }
 {
+    if gone.is_empty() {
+        return;
+    }
     rows.retain(|row| !is_of_any(row, gone));
 }
 

@@ -4,7 +4,7 @@ ghost use Rattle.mr_store.specs.Kept.{failures_for};
 use crate::{Fault, Keeper, PlaceRow};
 use mr_base::{Day, RoomName, WriteId};
 use mr_replica::{Desk, Part, Scope};
-use mr_tables::{BookingRow, Change, ErrorRow};
+use mr_tables::{BookingRow, Change, ErrorRow, Tables};
 
 /// A keeper for tests, which fails once: it passes `left` calls on, answers the fault to the next one without passing it on,
 /// and passes on all others.
@@ -99,6 +99,13 @@ impl<K: Keeper> Keeper for Tripped<K> {
             return Err(self.fault);
         }
         self.keeper.errors(room)
+    }
+
+    fn read(&mut self) -> Result<Tables, Fault> {
+        if self.trips() {
+            return Err(self.fault);
+        }
+        self.keeper.read()
     }
 
     fn apply(&mut self, change: &Change) -> Result<(), Fault> {

@@ -12,7 +12,7 @@ use std::test::Fail;
 
 /// What became of a request in a room.
 #[derive(Clone, Copy, PartialEq)]
-enum Place {
+pub(crate) enum Place {
     Booked,
     Logged,
     Nowhere,
@@ -20,7 +20,7 @@ enum Place {
 
 /// A call of a keeper, with what it is to answer.
 #[derive(Clone, Copy)]
-enum Call {
+pub(crate) enum Call {
     ApplyFirst,
     ApplySecond,
     /// The known rooms, which the keepers have in the order of their names.
@@ -33,10 +33,12 @@ enum Call {
     Errors(&'static str, &'static [(u32, u32)]),
     /// What became of a request of replica 2.
     PlaceOf(&'static str, u32, Place),
+    /// How many rows there are of rooms, bookings and logged requests.
+    Read(usize, usize, usize),
 }
 
 /// The keeper of replica 2, whose primary is 1, before it knows anything.
-fn opening(alloc: Global) -> Result<ListKeeper, Refusal> {
+pub(crate) fn opening(alloc: Global) -> Result<ListKeeper, Refusal> {
     Ok(ListKeeper::new(alloc, server(2)?, server(1)?))
 }
 
@@ -138,8 +140,22 @@ fn has_place<K: Keeper>(
     Ok(place_in(&row) == wanted)
 }
 
+fn has_rows<K: Keeper>(
+    keeper: &mut K,
+    rooms: usize,
+    bookings: usize,
+    errors: usize,
+) -> Result<bool, Refusal> {
+    let rows = told(keeper.read())?;
+    Ok(rows.room.len() == rooms && rows.booking.len() == bookings && rows.errorlog.len() == errors)
+}
+
 /// Whether the keeper answers the call so; or the refusal that tells of its fault.
-fn answers<K: Keeper>(keeper: &mut K, alloc: Global, call: Call) -> Result<bool, Refusal> {
+pub(crate) fn answers<K: Keeper>(
+    keeper: &mut K,
+    alloc: Global,
+    call: Call,
+) -> Result<bool, Refusal> {
     match call {
         Call::ApplyFirst => apply(keeper, &first_change(alloc)?),
         Call::ApplySecond => apply(keeper, &second_change(alloc)?),
@@ -159,11 +175,12 @@ fn answers<K: Keeper>(keeper: &mut K, alloc: Global, call: Call) -> Result<bool,
         Call::PlaceOf(room, n, wanted) => {
             has_place(keeper, &RoomName::new(alloc, room)?, n, wanted)
         }
+        Call::Read(rooms, bookings, errors) => has_rows(keeper, rooms, bookings, errors),
     }
 }
 
 /// The keeper, asked one call after the other, answers so.
-fn check<K: Keeper>(rt: &impl Abort, alloc: Global, keeper: &mut K, calls: &[Call]) {
+pub(crate) fn check<K: Keeper>(rt: &impl Abort, alloc: Global, keeper: &mut K, calls: &[Call]) {
     for (index, call) in calls.iter().enumerate() {
         assert_eq!(rt; answers(keeper, alloc, *call), Ok(true), "at {index}");
     }
@@ -199,7 +216,7 @@ fn a_new_keeper_has_a_desk(rt: HostRuntime) -> Result<(), Fail> {
     Ok(())
 }
 
-static OF_THE_FIRST_CHANGE: [Call; 13] = [
+static OF_THE_FIRST_CHANGE: [Call; 14] = [
     Call::ApplyFirst,
     Call::Rooms(&["elm", "oak"]),
     Call::Bookings("oak", false, &[(1, 1), (1, 3), (2, 4), (2, 1), (2, 2)]),
@@ -213,6 +230,7 @@ static OF_THE_FIRST_CHANGE: [Call; 13] = [
     Call::PlaceOf("elm", 3, Place::Nowhere),
     Call::PlaceOf("oak", 5, Place::Nowhere),
     Call::PlaceOf("elm", 5, Place::Nowhere),
+    Call::Read(2, 6, 1),
 ];
 
 #[test]
@@ -222,12 +240,13 @@ fn rows_that_are_put_are_found(rt: HostRuntime) -> Result<(), Fail> {
     Ok(())
 }
 
-static OF_BOTH_CHANGES: [Call; 5] = [
+pub(crate) static OF_BOTH_CHANGES: [Call; 6] = [
     Call::ApplyFirst,
     Call::ApplySecond,
     Call::Bookings("oak", false, &[(1, 1), (1, 3), (2, 4), (2, 3), (2, 2)]),
     Call::Errors("oak", &[(2, 1)]),
     Call::Committed(&[true, false]),
+    Call::Read(2, 6, 1),
 ];
 
 #[test]
@@ -266,8 +285,8 @@ fn a_trip_comes_after_its_calls(rt: HostRuntime) -> Result<(), Fail> {
     Ok(())
 }
 
-/// The fault of one of the seven calls, where it has one.
-fn fault_of<K: Keeper>(
+/// The fault of one of the eight calls, where it has one.
+pub(crate) fn fault_of<K: Keeper>(
     keeper: &mut K,
     call: u32,
     room: &RoomName,
@@ -281,6 +300,7 @@ fn fault_of<K: Keeper>(
         3 => keeper.bookings(room, None).err(),
         4 => keeper.place_of(room, id).err(),
         5 => keeper.errors(room).err(),
+        6 => keeper.read().err(),
         _ => keeper.apply(change).err(),
     }
 }
@@ -291,7 +311,7 @@ fn each_call_trips_once(rt: HostRuntime) -> Result<(), Fail> {
     let oak = RoomName::new(alloc, "oak")?;
     let request = id(2, 1)?;
     let change = first_change(alloc)?;
-    for call in 0..7 {
+    for call in 0..8 {
         let mut keeper = Tripped::new(opening(alloc)?, 0, Fault::Store);
         let first = fault_of(&mut keeper, call, &oak, request, &change);
         assert_eq!(rt; first, Some(Fault::Store), "at call {call}");

@@ -7,6 +7,8 @@ mod change;
 #[cfg(test)]
 mod fakes;
 #[cfg(test)]
+mod in_memory_tests;
+#[cfg(test)]
 mod line_tests;
 #[cfg(test)]
 mod memory_tests;

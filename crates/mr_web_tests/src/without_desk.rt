@@ -1,7 +1,7 @@
 use mr_base::{Day, RoomName, WriteId};
 use mr_replica::{Desk, Part, Scope};
 use mr_store::{Fault, Keeper, ListKeeper, PlaceRow};
-use mr_tables::{BookingRow, Change, ErrorRow};
+use mr_tables::{BookingRow, Change, ErrorRow, Tables};
 
 /// A keeper over lists that loads no desk: to ask for one is answered as a failure of the store. It passes on all other calls.
 #[derive(Drop)]
@@ -58,6 +58,10 @@ impl Keeper for WithoutDesk {
 
     fn errors(&mut self, room: &RoomName) -> Result<Vec<ErrorRow>, Fault> {
         self.lists.errors(room)
+    }
+
+    fn read(&mut self) -> Result<Tables, Fault> {
+        self.lists.read()
     }
 
     fn apply(&mut self, change: &Change) -> Result<(), Fault> {

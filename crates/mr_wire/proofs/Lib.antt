@@ -3,6 +3,8 @@ pub mod FieldLaws
 pub mod LineLaws
 pub mod Ascii
 pub mod LoopLaws
+pub mod TestedLaws
 pub mod WritingLaws
 pub mod AnswerLaws
 pub mod PositionTexts
+pub mod PositionTests

@@ -26,10 +26,10 @@ use Rattle.mr_wire.proofs.LoopLaws.{first_line_is, no_line_left}
 
 -- ---- the lines
 
-abbrev count_ok : Count → Bool
+abbrev pub count_ok : Count → Bool
 count_ok c = is_server c.server && is_count c.count
 
-count_takes : (text : Text) (c : Count) → count_of text ≡ Some c → (count_ok c ≡ true) × (text ≡ count_line c)
+pub count_takes : (text : Text) (c : Count) → count_of text ≡ Some c → (count_ok c ≡ true) × (text ≡ count_line c)
 unfolding count_of
 count_takes text c e =
     let a = bind_some (behind_word (codes "V") text) (λ rest. server_and 999_999_999 rest >>= λ n. Some (record { server = n.0; count = n.1 })) c e in

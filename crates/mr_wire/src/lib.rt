@@ -6,6 +6,8 @@
 //! others with such fields.
 #![tactic(auto)]
 
+mod bad_lines;
+mod bad_positions;
 mod batches;
 mod fault;
 mod fields;

@@ -1,4 +1,4 @@
-ghost use Rattle.std.specs.Prelude.{◌≡◌, ◌==◌, ◌-◌, true, length, slice_index, option_map, ok_or, IfOk, IfErr, Ok, Err};
+ghost use Rattle.std.specs.Prelude.{◌≡◌, ◌==◌, ◌-◌, true, length, slice_index, option_map, ok_or, IfOk, None, Ok, Err};
 ghost use Rattle.std.specs.Str.{IsUtf8};
 ghost use Rattle.mr_model.specs.Texts.{whole_lines};
 ghost use Rattle.mr_model.specs.Refusals.{BadPosition};
@@ -8,6 +8,7 @@ ghost use Rattle.mr_base.specs.Positions.{counts_of};
 ghost use Rattle.mr_wire.specs.Fields.{servers_of as servers_read, commits_of as commits_read, count_of as count_read, counts_until_end, no_more, with_counts, position_on};
 ghost use Rattle.mr_wire.specs.Reading.{Reads};
 
+use crate::bad_positions::is_position_text;
 use crate::fault::Fault;
 use crate::fields::{behind_word, server_and};
 use crate::lines::servers_of;
@@ -22,17 +23,21 @@ pub fn read_position(alloc: Global, bytes: &[u8]) -> Result<Position, Refusal>
     ensures reads { IfOk result (λ p. bytes.now ≡ position_text p) }
     // The text of each position is read, unless memory runs out.
     ensures all_read { (p : PositionOfReplica) → is_position p ≡ true → bytes.now ≡ position_text p → Gives result (Ok p) }
+    // What is no position's text is refused as that, without memory.
+    ensures due { read_position bytes.now ≡ None → result ≡ Err Refusal.BadPosition }
 {
     position_or_refusal(alloc, bytes)
 }
 
+// Where memory runs out, the text is still tested.
 fn position_or_refusal(alloc: Global, bytes: &[u8]) -> Result<Position, Refusal>
-    ensures { Gives result (ok_or (read_position bytes.now) BadPosition) }
+    ensures exact { Gives result (ok_or (read_position bytes.now) BadPosition) }
+    ensures due { read_position bytes.now ≡ None → result ≡ Err Refusal.BadPosition }
 {
     match position_of(alloc, bytes) {
         Ok(position) => Ok(position),
-        Err(Fault::NotALine) => Err(Refusal::BadPosition),
-        Err(Fault::OutOfMemory) => Err(Refusal::OutOfMemory),
+        Err(Fault::OutOfMemory) if is_position_text(bytes) => Err(Refusal::OutOfMemory),
+        Err(_) => Err(Refusal::BadPosition),
     }
 }
 
@@ -50,7 +55,7 @@ fn position_of(alloc: Global, bytes: &[u8]) -> Result<Position, Fault>
 }
 
 // Whether the last line is whole.
-fn ends_in_line(text: &str) -> bool
+pub(crate) fn ends_in_line(text: &str) -> bool
     ensures { result ≡ (slice_index text.now (length text.now - 1) == 10) }
 {
     text.ends_with('\n')
@@ -81,7 +86,7 @@ fn position_of_lines(alloc: Global, text: &str) -> Result<Position, Fault>
 }
 
 #[tactic(auto, unfolding(crate::specs::Fields::servers_of))]
-fn servers_in(line: &str) -> Option<(ServerId, ServerId)>
+pub(crate) fn servers_in(line: &str) -> Option<(ServerId, ServerId)>
     ensures { result ≡ servers_read line.now }
 {
     let rest = behind_word("mp1", line)?;
@@ -89,7 +94,7 @@ fn servers_in(line: &str) -> Option<(ServerId, ServerId)>
 }
 
 #[tactic(auto, unfolding(crate::specs::Fields::commits_of))]
-fn commits_in(line: &str) -> Option<u64>
+pub(crate) fn commits_in(line: &str) -> Option<u64>
     ensures { result ≡ commits_read line.now }
 {
     let rest = behind_word("K", line)?;
@@ -97,7 +102,7 @@ fn commits_in(line: &str) -> Option<u64>
 }
 
 #[tactic(auto, using(std::proofs::lemmas::Bool::Decides::nat_tests), unfolding(crate::specs::Fields::count_of))]
-fn count_in(line: &str) -> Option<(ServerId, u32)>
+pub(crate) fn count_in(line: &str) -> Option<(ServerId, u32)>
     ensures { option_map (λ c. record { server = c.0; count = c.1 }) result ≡ count_read line.now }
 {
     let rest = behind_word("V", line)?;

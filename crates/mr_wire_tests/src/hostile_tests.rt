@@ -312,3 +312,51 @@ fn bad_positions_are_refused(rt: HostRuntime) {
     let found = commits_in(rt.alloc(), "mp1 1 1\nK 0\nE\n", b"\xff", 1, "\n");
     assert_eq!(rt; found, Err(Refusal::BadPosition));
 }
+
+// batches whose first bad line stands behind lines that need memory, and that line
+static BAD_BEHIND_GOOD: [(&str, u64); 5] = [
+    ("mr1 1 1\nW 1 1 1 oak 30 1995-12-18 09:00 0 Alpha\nZ\n", 3),
+    (
+        "mr1 1 1\nW 1 1 1 oak 30 1995-12-18 09:00 1 1995-12-18 10:00 Alpha\nC 1 1 1\nE\nE\n",
+        5,
+    ),
+    (
+        "mr1 1 1\nC 1 1 1\nW 1 1 1 oak 30 1995-12-18 09:00 1 1995-12-18 23:31 Late\nE\n",
+        3,
+    ),
+    (
+        "mr1 1 1\nC 1 1 1\nW 1 1 1 oak 30 1995-12-18 09:00 2 1995-12-18 10:00 1995-12-18 11:00  two\n",
+        3,
+    ),
+    (
+        "mr1 1 1\nC 1 1 1\nC 2 1 2\nW 1 1 1 oak_2 30 1995-12-18 09:00 0 Alpha\nE\n",
+        4,
+    ),
+];
+
+static BAD_COUNTS: [&str; 3] = [
+    "mp1 9 1\nK 0\nV 1 1\nV 1 1\nE\n",
+    "mp1 9 1\nK 0\nV 1 1\nV 3 1\nV 2 1\nE\n",
+    "mp1 9 1\nK 0\nV 1 1\nV 2 1\nE\nE\n",
+];
+
+// The line for which the bytes are refused, 0 where they are read.
+fn bad_line_of(alloc: Global, text: &str) -> Result<u64, Refusal> {
+    match read_batch(alloc, text.as_bytes()) {
+        Ok(_) => Ok(0),
+        Err(Refusal::BadLine(line)) => Ok(line),
+        Err(refusal) => Err(refusal),
+    }
+}
+
+// The same with each allocation refused: `rt try --test --fail-alloc N`.
+#[test]
+fn bad_lines_are_told_whatever_memory_there_is(rt: HostRuntime) {
+    for (text, line) in &BAD_BEHIND_GOOD {
+        assert_eq!(rt; bad_line_of(rt.alloc(), text), Ok(*line), "at {text}");
+    }
+    for text in &BAD_COUNTS {
+        let found = read_position(rt.alloc(), text.as_bytes()).err();
+        assert_eq!(rt; found, Some(Refusal::BadPosition), "at {text}");
+    }
+}

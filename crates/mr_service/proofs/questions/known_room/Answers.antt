@@ -9,7 +9,7 @@ use Rattle.mr_service.proofs.questions.known_room.Goals as goal
 pub returns-in_err-room-clause-finds : goal.returns-in_err-room-clause-finds
 returns-in_err-room-clause-finds g c =
     let p = err_from_is_err_and c.from_residual.result c.from_residual.ensures.1 in
-    rw (p.1, p.2) (λ k o. steps.name_refused (g.K.Keeper.tables c.args.keeper.now).room c.args.room.now c.in_err-room.field-0.0 c.in_err-room.ensures)
+    rw (p.1, p.2) (λ k o. steps.name_refused (g.K.Keeper.tables c.args.keeper.now).room c.args.room.now c.in_err-room.field-0.0 c.in_err-room.ensures.value)
 
 pub returns-in_err-rooms-clause-read : goal.returns-in_err-rooms-clause-read
 returns-in_err-rooms-clause-read g c =
@@ -23,10 +23,10 @@ returns-in_err-rooms-clause-finds g c =
 
 pub returns-then-is_among-clause-finds : goal.returns-then-is_among-clause-finds
 returns-then-is_among-clause-finds g c =
-    λ k o. steps.room_found (g.K.Keeper.tables c.args.keeper.now).room c.in_ok-rooms.rooms.items c.args.room.now c.in_ok-room.room c.is_among.result c.in_ok-room.ensures (c.in_ok-rooms.ensures.rooms k o)
+    λ k o. steps.room_found (g.K.Keeper.tables c.args.keeper.now).room c.in_ok-rooms.rooms.items c.args.room.now c.in_ok-room.room c.is_among.result c.in_ok-room.ensures.value (c.in_ok-rooms.ensures.rooms k o)
     (c.is_among.ensures ∙ ap (list_any (bytes_eq c.in_ok-room.room)) c.as_slice.ensures.value) c.if-is_among.true
 
 pub returns-else-is_among-clause-finds : goal.returns-else-is_among-clause-finds
 returns-else-is_among-clause-finds g c =
-    λ k o. steps.room_unknown (g.K.Keeper.tables c.args.keeper.now).room c.in_ok-rooms.rooms.items c.args.room.now c.in_ok-room.room c.is_among.result c.in_ok-room.ensures (c.in_ok-rooms.ensures.rooms k o)
+    λ k o. steps.room_unknown (g.K.Keeper.tables c.args.keeper.now).room c.in_ok-rooms.rooms.items c.args.room.now c.in_ok-room.room c.is_among.result c.in_ok-room.ensures.value (c.in_ok-rooms.ensures.rooms k o)
     (c.is_among.ensures ∙ ap (list_any (bytes_eq c.in_ok-room.room)) c.as_slice.ensures.value) c.if-is_among.false

@@ -29,4 +29,4 @@ returns c =
     let of_room : Text → Type 0 = λ t. OrOutOfMemory c.of_words.result (base.request_of t c.as_str-title.result.now c.in-Some.length c.in-Ok.choices.0 c.in-Ok.choices.1) in
     let of_title : Text → Type 0 = λ t. OrOutOfMemory c.of_words.result (base.request_of s.room t c.in-Some.length c.in-Ok.choices.0 c.in-Ok.choices.1) in
     words.request_made s c.in-Ok.choices c.in-Some.length c.of_words.result c.in-Ok.ensures length
-    (subst of_title c.as_str-title.ensures.value (subst of_room c.as_str-room.ensures.value c.of_words.ensures))
+    (subst of_title c.as_str-title.ensures.value (subst of_room c.as_str-room.ensures.value c.of_words.ensures.value))

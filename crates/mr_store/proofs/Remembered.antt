@@ -1,0 +1,89 @@
+-- How the calls follow on one another of a keeper that has its rows in memory, and what these rows answer.
+use Rattle.std.proofs.Common.{◌≡◌, sym, ap, subst, ◌∙◌, Option, Some, None, Result, Ok, Err}
+use Rattle.mr_model.specs.Tables.{Tables, Stands}
+use Rattle.mr_tables.specs.Change.{ChangeView}
+use Rattle.mr_store.specs.declared.keeper.Fault.{Fault}
+use Rattle.mr_store.specs.declared.keeper.Keeper.{Ghosts}
+use Rattle.mr_store.specs.Cached.{IsMemoryOf, NeverFails}
+use Rattle.mr_store.specs.Kept.{failures_after, IsAtomic, IsQuiet}
+use Rattle.mr_store.specs.Lists.{Lists}
+
+-- a call that leaves the tables, as it is said of the keeper below
+abbrev pub Quiet : {K X : Type 0} → Ghosts K → K → K → Result X Fault → Type 0
+Quiet k old new r = IsQuiet k.tables k.failures k.is_clean k.is_open k.may_leave k.never_fails old new r
+
+-- as it is said of the one with its rows in memory
+abbrev pub QuietAbove : {K X : Type 0} → Ghosts K → K → K → Result X Fault → Type 0
+QuietAbove k old new r = IsQuiet k.tables k.failures k.is_clean k.is_open k.may_leave (NeverFails k) old new r
+
+-- to read the rows failed, and so does the question
+pub refused : {K X Y : Type 0} (k : Ghosts K) (old at new : K) (e : Fault) → at ≡ old → Quiet {X = X} k at new (Err e) → QuietAbove {X = Y} k old new (Err e)
+refused {Y = Y} k old at new e is q =
+    subst (λ o. QuietAbove {X = Y} k o new (Err e)) is (record {
+      clean = q.clean;
+      opens = q.opens;
+      lasts = λ u o. tt;
+      same = q.same;
+      counts = q.counts;
+      sure = λ never. q.sure never.0;
+      crash = q.crash;
+      settled = q.settled;
+    })
+
+followed_at : {K X Y : Type 0} (k : Ghosts K) (old mid new : K) (x : X) (r : Result Y Fault) → QuietAbove k old mid (Ok x) → Quiet k mid new r → QuietAbove k old new r
+followed_at k old mid new x r first next =
+    record {
+      clean = λ u. first.clean (next.clean u);
+      opens = λ u o. first.opens (next.clean u) (next.opens u o);
+      lasts = λ u o. next.lasts u (first.lasts (next.clean u) o);
+      same = λ u o. next.same u o ∙ first.same (next.clean u) (next.opens u o);
+      counts = next.counts ∙ ap (failures_after r) first.counts;
+      sure = λ never a h. let fine = never.1 mid in next.sure never.0 a (subst (λ t. Stands t a) (sym (first.same fine.0 fine.1)) h) ∙ first.counts;
+      crash = λ u o t left. first.crash (next.clean u) o t (next.crash u (first.lasts (next.clean u) o) t left);
+      settled = λ u o before. next.settled u o (first.settled (next.clean u) (next.opens u o) before);
+    }
+
+-- the rows in memory were asked for, and then the keeper itself is asked
+pub followed : {K X Y : Type 0} (k : Ghosts K) (old mid at new : K) (x : X) (r : Result Y Fault) → QuietAbove k old mid (Ok x) → at ≡ mid → Quiet k at new r → QuietAbove k old new r
+followed k old mid at new x r first is next = followed_at k old mid new x r first (subst (λ m. Quiet k m new r) is next)
+
+-- what the keeper itself answers then holds of its tables before both
+pub of_keeper : {K X Y : Type 0} (k : Ghosts K) (P : Tables → Type 0) (old mid at new : K) (x : X) (r : Result Y Fault) → QuietAbove k old mid (Ok x) → at ≡ mid → Quiet k at new r → (k.is_clean new → k.is_open at → P (k.tables at)) → k.is_clean new → k.is_open old → P (k.tables old)
+of_keeper k P old mid at new x r first is next told u o =
+    let clean = subst (λ m. Quiet k m new r) is next in
+    let opened = first.lasts (clean.clean u) o in
+    subst P (first.same (clean.clean u) opened) (subst (λ m. k.is_clean new → k.is_open m → P (k.tables m)) is told u opened)
+
+-- what holds of the rows in memory holds of the tables
+pub of_memory : {K : Type 0} (k : Ghosts K) (P : Tables → Type 0) (old mid at : K) (memory : Option Lists) (lists : Lists) → QuietAbove k old mid (Ok memory) → at ≡ mid → IsMemoryOf k mid memory → memory ≡ Some lists → P lists.tables → k.is_clean at → k.is_open old → P (k.tables old)
+of_memory k P old mid at memory lists first is has some p u o =
+    let clean = subst (λ m. k.is_clean m) is u in
+    let opened = first.lasts clean o in
+    subst P (subst (λ m. IsMemoryOf k mid m) some has clean opened ∙ first.same clean opened) p
+
+-- the rows in memory stay while the keeper's do
+pub remembered : {K X : Type 0} (k : Ghosts K) (old new : K) (r : Result X Fault) (memory : Option Lists) → Quiet k old new r → IsMemoryOf k old memory → IsMemoryOf k new memory
+remembered k old new r None q was = tt
+remembered k old new r (Some lists) q was = λ u o. was (q.clean u) (q.opens u o) ∙ sym (q.same u o)
+
+-- as it is said of the keeper below, and of the one with its rows in memory
+abbrev pub Atomic : {K X : Type 0} → Ghosts K → ChangeView → K → K → Result X Fault → Type 0
+Atomic k change old new r = IsAtomic k.tables k.failures k.is_clean k.is_open k.may_leave k.never_fails change old new r
+
+abbrev pub AtomicAbove : {K X : Type 0} → Ghosts K → ChangeView → K → K → Result X Fault → Type 0
+AtomicAbove k change old new r = IsAtomic k.tables k.failures k.is_clean k.is_open k.may_leave (NeverFails k) change old new r
+
+-- a change that was refused
+pub not_changed : {K X : Type 0} (k : Ghosts K) (change : ChangeView) (old at new end : K) (r : Result X Fault) → at ≡ old → end ≡ new → Atomic k change at new r → AtomicAbove k change old end r
+not_changed k change old at new end r is ends q =
+    subst (λ e. AtomicAbove k change old e r) (sym ends) (subst (λ o. AtomicAbove k change o new r) is (record {
+      clean = q.clean;
+      opens = q.opens;
+      lasts = q.lasts;
+      applied = q.applied;
+      refused = q.refused;
+      counts = q.counts;
+      sure = λ never. q.sure never.0;
+      crash = q.crash;
+      settled = q.settled;
+    }))

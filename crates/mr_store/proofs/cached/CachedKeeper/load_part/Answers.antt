@@ -1,0 +1,27 @@
+use Rattle.std.specs.Prelude.{IfOk}
+use Rattle.mr_model.specs.Replica.{Replica}
+use Rattle.mr_model.specs.Tables.{Stands}
+use Rattle.mr_replica.specs.Parts.{IsPartOf}
+use Rattle.mr_replica.specs.ScopeOf.{scope_of}
+use Rattle.mr_store.proofs.Remembered.{followed, of_keeper, of_memory}
+use Rattle.mr_store.proofs.cached.CachedKeeper.load_part.Goals as goal
+
+pub returns-in_default-clause-quiet : goal.returns-in_default-clause-quiet
+returns-in_default-clause-quiet g c =
+    followed g.K.Keeper c.args.self.now c.recall.new.self c.self.inside.keeper c.load_part.new.self c.in_ok-memory.field-0 c.load_part.result c.in_ok-memory.ensures.quiet c.self.view_is c.load_part.ensures.quiet
+
+pub returns-in_default-clause-loaded : goal.returns-in_default-clause-loaded
+returns-in_default-clause-loaded g c =
+    of_keeper g.K.Keeper (λ t. (a : Replica) → Stands t a → IfOk c.load_part.result (λ part. IsPartOf part (scope_of c.args.scope.now) a)) c.args.self.now c.recall.new.self c.self.inside.keeper c.load_part.new.self c.in_ok-memory.field-0 c.load_part.result c.in_ok-memory.ensures.quiet c.self.view_is c.load_part.ensures.quiet c.load_part.ensures.loaded
+
+pub returns-then-is_failure-clause-quiet : goal.returns-then-is_failure-clause-quiet
+returns-then-is_failure-clause-quiet g c =
+    followed g.K.Keeper c.args.self.now c.recall.new.self c.self.inside.keeper c.load_part-then-is_failure.new.self c.in_ok-memory.field-0 c.load_part-then-is_failure.result c.in_ok-memory.ensures.quiet c.self.view_is c.load_part-then-is_failure.ensures.quiet
+
+pub returns-then-is_failure-clause-loaded : goal.returns-then-is_failure-clause-loaded
+returns-then-is_failure-clause-loaded g c =
+    of_keeper g.K.Keeper (λ t. (a : Replica) → Stands t a → IfOk c.load_part-then-is_failure.result (λ part. IsPartOf part (scope_of c.args.scope.now) a)) c.args.self.now c.recall.new.self c.self.inside.keeper c.load_part-then-is_failure.new.self c.in_ok-memory.field-0 c.load_part-then-is_failure.result c.in_ok-memory.ensures.quiet c.self.view_is c.load_part-then-is_failure.ensures.quiet c.load_part-then-is_failure.ensures.loaded
+
+pub returns-clause-loaded : goal.returns-clause-loaded
+returns-clause-loaded g c =
+    of_memory g.K.Keeper (λ t. (a : Replica) → Stands t a → IfOk c.load_part-answer.result (λ part. IsPartOf part (scope_of c.args.scope.now) a)) c.args.self.now c.recall.new.self c.self.inside.keeper c.in_ok-memory.field-0 c.in-Some.memory c.in_ok-memory.ensures.quiet c.self.view_is c.in_ok-memory.ensures.rows c.in-Some.is (c.load_part-answer.ensures.loaded tt tt)

@@ -1,0 +1,215 @@
+ghost use Rattle.std.specs.Prelude.{◌≡◌, ℕ, false, IfOk};
+ghost use Rattle.mr_store.specs.Kept.{failures_after, IsQuiet};
+ghost use Rattle.mr_store.specs.Cached.{IsMemoryAfter, IsMemoryOf, NeverFails};
+
+use crate::{Fault, Keeper, ListKeeper, PlaceRow};
+use mr_base::{Day, RoomName, WriteId};
+use mr_replica::{Desk, Part, Scope};
+use mr_tables::{BookingRow, Change, ErrorRow, Tables};
+use std::alloc::Global;
+use std::marker::Model;
+
+/// A keeper with its rows in memory, a write-through cache. What is asked is answered from memory, and a change is made in the keeper
+/// first and then in memory: so once its rows are read, the keeper is only written.
+///
+/// The rows are read at the first question. They are forgotten where a change fails or memory doesn't take it, and where they break
+/// their rules: then the keeper itself is asked, so that it counts the failure. Where memory doesn't take the rows, that call is
+/// refused, and from then on the keeper itself is asked, which wants less.
+#[derive(Drop)]
+pub struct Cached<K: Keeper> {
+    alloc: Global,
+    keeper: K,
+    memory: Option<ListKeeper>,
+    is_too_large: bool,
+}
+
+impl<K: Keeper> Model for Cached<K> {
+    ghost use Rattle.mr_store.specs.Cached.{IsMemoryOf};
+
+    ghost Value = { K };
+
+    ghost coded = { K.code };
+
+    ghost view = { λ c. c.keeper };
+
+    ghost invariant = { λ c. IsMemoryOf K.Keeper c.keeper c.memory };
+}
+
+impl<K: Keeper> Cached<K> {
+    /// The keeper, of which nothing is in memory yet. It takes the memory of the rows from this allocator.
+    pub fn new(alloc: Global, keeper: K) -> Cached<K>
+        ensures { result ≡ keeper }
+    {
+        Cached {
+            alloc,
+            keeper,
+            memory: None,
+            is_too_large: false,
+        }
+    }
+
+    /// The keeper, with all that was done.
+    pub fn release(self) -> K
+        ensures { result ≡ self }
+    {
+        self.keeper
+    }
+
+    /// Takes the rows out of memory, or reads them where they aren't there. It is None where the keeper itself is to be asked.
+    fn recall(&mut self) -> Result<Option<ListKeeper>, Fault>
+        ensures quiet { IsQuiet K.tables K.failures K.is_clean K.is_open K.may_leave (NeverFails K.Keeper) self.old self.new result }
+        ensures rows { IfOk result (λ memory. IsMemoryOf K.Keeper self.new memory) }
+    {
+        if let Some(memory) = self.memory.take() {
+            return Ok(Some(memory));
+        }
+        if self.is_too_large {
+            return Ok(None);
+        }
+        match self.keeper.read() {
+            Ok(tables) => Ok(Some(ListKeeper::over(self.alloc, tables))),
+            Err(fault) => {
+                self.is_too_large = fault == Fault::OutOfMemory;
+                Err(fault)
+            }
+        }
+    }
+}
+
+/// Makes the change in the rows in memory, if there are any. Where memory doesn't take it, they are forgotten.
+fn change_memory(memory: Option<ListKeeper>, change: &Change) -> Option<ListKeeper>
+    ensures { IsMemoryAfter change.now memory result }
+{
+    let mut lists = memory?;
+    match lists.apply(change) {
+        Ok(()) => Some(lists),
+        Err(_) => None,
+    }
+}
+
+fn same_day(day: &Option<Day>) -> Option<Day>
+    ensures { result ≡ day.now }
+{
+    *day
+}
+
+/// Whether the store failed.
+fn is_failure<T>(answer: &Result<T, Fault>) -> bool
+    ensures { result ≡ false → (n : ℕ) → failures_after answer.now n ≡ n }
+{
+    match answer {
+        Ok(_) | Err(Fault::OutOfMemory) => false,
+        Err(Fault::Store) => true,
+    }
+}
+
+impl<K: Keeper> Keeper for Cached<K> {
+    ghost use Rattle.mr_store.specs.Cached.{NeverFails};
+
+    ghost tables = { λ c. K.tables c };
+
+    ghost failures = { λ c. K.failures c };
+
+    ghost is_clean = { λ c. K.is_clean c };
+
+    ghost is_open = { λ c. K.is_open c };
+
+    ghost may_leave = { λ c t. K.may_leave c t };
+
+    ghost never_fails = { NeverFails K.Keeper };
+
+    fn load(&mut self) -> Result<Desk, Fault> {
+        let Some(mut memory) = self.recall()? else {
+            return self.keeper.load();
+        };
+        let answer = memory.load();
+        if is_failure(&answer) {
+            return self.keeper.load();
+        }
+        self.memory = Some(memory);
+        answer
+    }
+
+    fn load_part(&mut self, scope: &Scope<'_>) -> Result<Part, Fault> {
+        let Some(mut memory) = self.recall()? else {
+            return self.keeper.load_part(scope);
+        };
+        let answer = memory.load_part(scope);
+        if is_failure(&answer) {
+            return self.keeper.load_part(scope);
+        }
+        self.memory = Some(memory);
+        answer
+    }
+
+    fn rooms(&mut self) -> Result<Vec<RoomName>, Fault> {
+        let Some(mut memory) = self.recall()? else {
+            return self.keeper.rooms();
+        };
+        let answer = memory.rooms();
+        if is_failure(&answer) {
+            return self.keeper.rooms();
+        }
+        self.memory = Some(memory);
+        answer
+    }
+
+    fn bookings(&mut self, room: &RoomName, day: Option<Day>) -> Result<Vec<BookingRow>, Fault> {
+        let Some(mut memory) = self.recall()? else {
+            return self.keeper.bookings(room, day);
+        };
+        let answer = memory.bookings(room, same_day(&day));
+        if is_failure(&answer) {
+            return self.keeper.bookings(room, day);
+        }
+        self.memory = Some(memory);
+        answer
+    }
+
+    fn place_of(&mut self, room: &RoomName, id: WriteId) -> Result<Option<PlaceRow>, Fault> {
+        let Some(mut memory) = self.recall()? else {
+            return self.keeper.place_of(room, id);
+        };
+        let answer = memory.place_of(room, id);
+        if is_failure(&answer) {
+            return self.keeper.place_of(room, id);
+        }
+        self.memory = Some(memory);
+        answer
+    }
+
+    fn errors(&mut self, room: &RoomName) -> Result<Vec<ErrorRow>, Fault> {
+        let Some(mut memory) = self.recall()? else {
+            return self.keeper.errors(room);
+        };
+        let answer = memory.errors(room);
+        if is_failure(&answer) {
+            return self.keeper.errors(room);
+        }
+        self.memory = Some(memory);
+        answer
+    }
+
+    fn read(&mut self) -> Result<Tables, Fault> {
+        let Some(mut memory) = self.recall()? else {
+            return self.keeper.read();
+        };
+        let answer = memory.read();
+        if is_failure(&answer) {
+            return self.keeper.read();
+        }
+        self.memory = Some(memory);
+        answer
+    }
+
+    fn apply(&mut self, change: &Change) -> Result<(), Fault> {
+        let memory = self.memory.take();
+        match self.keeper.apply(change) {
+            Ok(()) => {
+                self.memory = change_memory(memory, change);
+                Ok(())
+            }
+            Err(fault) => Err(fault),
+        }
+    }
+}

@@ -1,0 +1,145 @@
+ghost use Rattle.std.specs.Prelude.{◌≡◌, ◌+◌, ◌<◌, ◌^◌, ◌&&◌, ◌||◌, length, codes, bytes_eq, option_map, is_some, IfSome};
+ghost use Rattle.std.specs.Result.{result_err};
+ghost use Rattle.std.specs.Str.{IsUtf8};
+ghost use Rattle.mr_model.specs.Texts.{whole_lines};
+ghost use Rattle.mr_model.specs.Writes.{is_room_name, is_title};
+ghost use Rattle.mr_model.specs.Refusals.{BadLine};
+ghost use Rattle.mr_model.specs.Exchange.{Cut, read_body_line, read_body, read_end, read_batch};
+ghost use Rattle.mr_wire.specs.Fields.{write_of, worded_line, line_of};
+ghost use Rattle.mr_wire.specs.Tested.{behind_slots, room_and_title, are_named, is_last};
+
+use crate::fields::{number_off, slot_off, stamp_off};
+use crate::lines::{commit_of, read_header};
+use crate::words::{first_line, first_word};
+use mr_base::{is_room_text, is_title_text};
+
+/// The number of the first line that isn't of its place, where there is one. It takes no memory.
+pub(crate) fn first_bad_line(bytes: &[u8]) -> Option<u64>
+    ensures { option_map BadLine result ≡ result_err (read_batch bytes.now) }
+{
+    let Some((line, rest)) = first_line(bytes) else {
+        return None;
+    };
+    match read_header(line) {
+        Some(_) => first_bad_below(rest),
+        None => Some(1),
+    }
+}
+
+/// The same, of the lines below the header, of which the first has the number 2.
+fn first_bad_below(bytes: &[u8]) -> Option<u64>
+    requires { length bytes.now + 1 < 2 ^ 64 }
+    ensures { option_map BadLine result ≡ result_err (read_body 2 (whole_lines bytes.now)) }
+{
+    let mut rest = bytes;
+    let mut before = 1u64;
+    while let Some((line, behind)) = first_line(rest) {
+        let number = before + 1;
+        match is_last(line) {
+            Some(false) => {}
+            Some(true) => return line_behind(number, behind),
+            None => return Some(number),
+        }
+        before = number;
+        rest = behind;
+    }
+    None
+}
+
+/// The number of the line behind the last one, which has this number, where there is one.
+fn line_behind(number: u64, behind: &[u8]) -> Option<u64>
+    requires { number + length behind.now < 2 ^ 64 }
+    ensures { option_map BadLine result ≡ result_err (read_end Cut number (whole_lines behind.now)) }
+{
+    match first_line(behind) {
+        Some(_) => Some(number + 1),
+        None => None,
+    }
+}
+
+/// Whether a line below the header is the last one; none where it isn't of its place.
+fn is_last(line: &[u8]) -> Option<bool>
+    ensures { result ≡ option_map is_last (read_body_line line.now) }
+{
+    match str::from_utf8(line) {
+        Ok(text) => is_last_text(text),
+        Err(_) => None,
+    }
+}
+
+fn is_last_text(text: &str) -> Option<bool>
+    ensures { result ≡ option_map is_last (line_of text.now) }
+{
+    match first_word(text) {
+        Some((word, rest)) => is_item(word, rest).then_some(false),
+        None => is_bare(text).then_some(true),
+    }
+}
+
+fn is_bare(text: &str) -> bool
+    ensures { result ≡ (bytes_eq text.now (codes "E") || bytes_eq text.now (codes "M")) }
+{
+    text == "E" || text == "M"
+}
+
+fn is_item(word: &str, rest: &str) -> bool
+    ensures { result ≡ is_some (worded_line word.now rest.now) }
+{
+    if word == "W" {
+        return is_write(rest);
+    }
+    if word == "C" {
+        return commit_of(rest).is_some();
+    }
+    false
+}
+
+/// Whether a text is that of a write's line, of which this stands behind the `W` and its space.
+fn is_write(text: &str) -> bool
+    ensures { result ≡ is_some (write_of text.now) }
+{
+    match room_and_title(text) {
+        Some((room, title)) => are_named(room, title),
+        None => false,
+    }
+}
+
+fn are_named(room: &str, title: &str) -> bool
+    ensures { result ≡ (is_room_name room.now && is_title title.now) }
+{
+    is_room_text(room.as_bytes()) && is_title_text(title.as_bytes())
+}
+
+/// The room and the title of a write's line, where its other parts are of their places and within the limits.
+#[tactic(auto, using(std::proofs::lemmas::Bool::Decides::nat_tests), unfolding(crate::specs::Tested::room_and_title))]
+fn room_and_title(text: &str) -> Option<(&str, &str)>
+    ensures { option_map (λ x. (x.0.now, x.1.now)) result ≡ room_and_title text.now }
+{
+    let Some((_, rest)) = stamp_off(text) else {
+        return None;
+    };
+    let (room, rest) = first_word(rest)?;
+    let (length, rest) = number_off(rest, 1, 1440)?;
+    let rest = behind_slots(rest, 1, length as u32)?;
+    let (count, rest) = number_off(rest, 0, 8)?;
+    let title = behind_slots(rest, count, length as u32)?;
+    Some((room, title))
+}
+
+/// What stands behind so many slots, of which each ends on its day with that length.
+fn behind_slots(text: &str, count: u64, length: u32) -> Option<&str>
+    ensures value { option_map (λ x. x.now) result ≡ behind_slots length count text.now }
+    ensures utf8 { IfSome result (λ x. IsUtf8 x.now) }
+{
+    let mut rest = text;
+    for _ in 0..count {
+        let Some(taken) = slot_off(rest) else {
+            return None;
+        };
+        if !taken.0.fits_day(length) {
+            return None;
+        }
+        rest = taken.1;
+    }
+    Some(rest)
+}
