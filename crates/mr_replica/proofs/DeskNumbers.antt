@@ -219,10 +219,10 @@ rows_in_order r key f h keyed =
     sorted_filter_map WriteBefore (λ a b. id_before (key a) (key b) ≡ true) f (by_id r.known)
     (λ x y u v l e g. id_before_from (key u) (key v) (subst (λ i. IdBefore i (key v)) (sym (keyed x u e)) (subst (λ i. IdBefore (id_of x) i) (sym (keyed y v g)) l))) (by_id_sorted r h)
 
-abbrev kept_log : Replica → Write → Option LogRow
+abbrev pub kept_log : Replica → Write → Option LogRow
 kept_log r w = cond (is_dropped r (id_of w)) None (Some (log_row r w))
 
-log_bears : (r : Replica) → Bears log_id (kept_log r)
+pub log_bears : (r : Replica) → Bears log_id (kept_log r)
 log_bears r w row e = go (is_dropped r (id_of w)) e
   where
     go : (b : Bool) → cond b None (Some (log_row r w)) ≡ Some row → log_id row ≡ id_of w

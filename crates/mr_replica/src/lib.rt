@@ -22,6 +22,8 @@ mod kept_rows;
 mod kept_writes;
 mod log;
 mod movable;
+mod old_rows;
+mod on_board;
 mod outgoing;
 mod part;
 mod part_again;

@@ -9,7 +9,7 @@ use Rattle.mr_replica.specs.Log.{KeptLog}
 use Rattle.mr_replica.specs.Desk.{desk_of}
 use Rattle.mr_tables.specs.Summary.{summary_of}
 use Rattle.mr_replica.specs.SoundLog.{IsLogSound}
-use Rattle.mr_replica.proofs.DeskRows.{board_of}
+use Rattle.mr_replica.proofs.DeskBoards.{board_of}
 use Rattle.mr_replica.proofs.KeptOrder.{kept_sorted, kept_writes, kept_undo}
 use Rattle.mr_replica.proofs.SoundLog.{log_sound}
 use Rattle.mr_replica.proofs.kept_rows.log_with.Goals as goal

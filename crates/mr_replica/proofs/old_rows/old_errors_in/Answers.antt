@@ -7,7 +7,7 @@ use Rattle.mr_model.specs.Tables.{ErrorRow}
 use Rattle.mr_tables.specs.declared.old_errors.OldError.{OldError}
 use Rattle.mr_tables.specs.SoundRows.{Rise}
 use Rattle.mr_replica.proofs.OldErrors.{old_sorted, old_rise, counts_within}
-use Rattle.mr_replica.proofs.desk_tables.old_errors_in.Goals as goal
+use Rattle.mr_replica.proofs.old_rows.old_errors_in.Goals as goal
 
 pub returns-then-are_rising-clause-errors : goal.returns-then-are_rising-clause-errors
 returns-then-are_rising-clause-errors c = λ a h e d.
