@@ -31,6 +31,7 @@ pub mod SameRows
 pub mod Marks
 pub mod SoundLog
 pub mod OnBoard
+pub mod SoundStamps
 pub mod Parting
 pub mod RoomBoards
 pub mod PartBoards

@@ -5,6 +5,8 @@ use Rattle.std.proofs.lemmas.List.Elements.{All-from_recursion}
 use Rattle.std.specs.declared.cmp.Ordering.TheVariants.{Less}
 use Rattle.std.specs.Ordering.{is_lt}
 use Rattle.std.specs.List.{slice_get}
+use Rattle.std.specs.List.Sorted.{IsPermutation}
+use Rattle.std.specs.Prelude.{Result, Ok, Err, IfOk}
 use Rattle.std.specs.Option.{option_map}
 use Rattle.mr_model.specs.Writes.{Action, Books, Cancels, Write, id_of, choices_of, choices_in}
 use Rattle.mr_model.specs.Replay.{Place, Taken, Logged, Done, Void, slot_at}
@@ -18,11 +20,13 @@ use Rattle.mr_model.proofs.LogOrder.{kept_is_the_log}
 use Rattle.mr_model.proofs.Members.{has_all, map_has}
 use Rattle.mr_model.proofs.RoomTold.{known_went}
 use Rattle.mr_model.proofs.Runs.{Went, took, failed, did, missed}
-use Rattle.mr_replay.specs.Rows.{row_at, kept_with, kept_for}
+use Rattle.mr_base.specs.declared.refusals.Refusal.{Refusal}
+use Rattle.mr_replay.specs.Rows.{Rows, row_at, kept_with, kept_for}
 use Rattle.mr_tables.proofs.BoardsTold.{known_row, known_at}
 use Rattle.mr_replica.specs.declared.kept_rows.KeptRow.{KeptRow}
 use Rattle.mr_replica.specs.KeptRows.{kept_row, run_place, run_cmp}
-use Rattle.mr_replica.specs.SoundLog.{AreNumbered, HasTaken, HasPlace, IsAtPlace, IsLogSound}
+use Rattle.mr_replica.specs.Log.{KeptLog}
+use Rattle.mr_replica.specs.SoundLog.{AreNumbered, HasTaken, HasPlace, IsAtPlace, IsLogSound, kept_told, IsOfSoundRows}
 use Rattle.mr_replica.proofs.DeskBoards.{board_of, board-told}
 use Rattle.mr_replica.proofs.DeskNumbers.{kept_numbers, dropped_long}
 use Rattle.mr_replica.proofs.KeptOrder.{rows_rise}
@@ -93,3 +97,11 @@ log_sound a h = record {
       let (w, b, e) = map_has (kept_row a) row (kept_in_order a) g in
       subst (IsAtPlace (board_of a)) (sym e) (known_at_place a w h (kept_known a w h b).0)));
 }
+
+-- ---- a log of sound rows
+
+pub of_log : (told : List (Place × ℕ)) (commits dropped : ℕ) (b : Rows) (rows : List KeptRow) → IsLogSound commits dropped b rows → IsPermutation told (map kept_told rows) → (r : Result KeptLog Refusal) → IfOk r (λ log. log ≡ record { kept = map (λ x. x.write) rows; undo = map (λ x. x.undo) rows; board = b }) → IfOk r (λ log. IsOfSoundRows told commits dropped log)
+of_log told commits dropped b rows sound moved (Err e) h = tt
+of_log told commits dropped b rows sound moved (Ok log) h =
+    let board : log.board ≡ b = ap (λ (l : KeptLog). l.board) h in
+    (rows, h ∙ ap (λ c. record { kept = map (λ (x : KeptRow). x.write) rows; undo = map (λ (x : KeptRow). x.undo) rows; board = c }) (sym board), subst (λ c. IsLogSound commits dropped c rows) (sym board) sound, moved)

@@ -47,7 +47,7 @@ names_rise : (ts : List Text) → AreInNameOrder ts → InOrder text_before (λ 
 names_rise [] s = tt
 names_rise (t ∷ ts) s = (s.0, names_rise ts s.1)
 
-logs_rise : (a : Replica) → IsReplica a → InOrder id_before log_id (tables_of a).log
+pub logs_rise : (a : Replica) → IsReplica a → InOrder id_before log_id (tables_of a).log
 logs_rise a h =
     subst (λ rows. InOrder id_before log_id rows) (sym (map_filter (λ w. is_dropped a (id_of w)) (log_row a) (by_id a.known)))
     (rows_in_order a log_id (kept_log a) h (log_bears a))
@@ -137,13 +137,16 @@ place_sound commits ts w (Books meeting) p by mark seq m n = go (slot_at w p) by
     go (Some s) None = m
     go (Some s) (Some c) = m
 
+pub known_number : (a : Replica) (w : Write) → IsReplica a → Has w a.known → IsNumberSound (length a.commits) (summary_of a).tallies w.stamp.server w.stamp.n (seq_of a w)
+known_number a w h g =
+    let low = seq_low 1 a.commits (id_of w) (omega arith) in
+    (counted a w h g, some_number (seq_of a w) ∙ sym (committed-seq a w) ∙ sym (known_mark a w h g), omega (arith, low))
+
 known_sound : (a : Replica) (w : Write) → IsReplica a → Has w a.known → IsPlaceSound (length a.commits) (summary_of a).tallies (place_row a w)
 known_sound a w h g =
-    let first = known_mark a w h g in
-    let low = seq_low 1 a.commits (id_of w) (omega arith) in
     place_sound (length a.commits) (summary_of a).tallies w w.action (place_of a w) (canceller_of a w) (is_committed a (id_of w)) (seq_of a w)
-    (counted a w h g, sym first)
-    (counted a w h g, some_number (seq_of a w) ∙ sym (committed-seq a w) ∙ sym first, omega (arith, low))
+    (counted a w h g, sym (known_mark a w h g))
+    (known_number a w h g)
 
 -- ---- all tests
 

@@ -1,11 +1,13 @@
 -- What the kept rows of a replica keep among themselves and to its board, in the order of execution.
 use Rattle.std.specs.Prelude.{◌≡◌, ℕ, ◌+◌, ◌-◌, ◌<◌, ◌≤◌, Bool, List, length, map, Option, Some, None, false, ◌&&◌, bytes_eq, IsTrue}
 use Rattle.std.specs.List.{All, slice_get, slice_index_or}
+use Rattle.std.specs.List.Sorted.{IsPermutation}
 use Rattle.std.specs.Ordering.{is_lt}
 use Rattle.mr_model.specs.Texts.{Text}
 use Rattle.mr_model.specs.Slots.{Slot}
 use Rattle.mr_model.specs.Writes.{Id, Meeting, Action, Books, Cancels, Write, id_of, choices_of}
 use Rattle.mr_model.specs.Replay.{Place, Taken, Logged, Done, Void}
+use Rattle.mr_model.specs.Tables.{LogRow}
 use Rattle.mr_replay.specs.declared.rows.Standing.TheVariants.{CancelledBy}
 use Rattle.mr_replay.specs.declared.rows.Kept.{Kept}
 use Rattle.mr_replay.specs.declared.rows.Kept.TheVariants.{OfBooking, OfCancel}
@@ -66,8 +68,15 @@ pub record IsLogSound (commits dropped : ℕ) (b : Rows) (rows : List KeptRow) :
   pub order : Rise is_run_before run_place rows
   pub places : All (IsAtPlace b) rows
 
--- the log is that of such rows
-abbrev pub IsOfSoundRows : ℕ → ℕ → KeptLog → Type 0
-IsOfSoundRows commits dropped log =
+-- the place and the commit number that a row of log tells, and those of a kept row
+abbrev pub log_told : LogRow → Place × ℕ
+log_told row = (row.place, row.seq)
+
+abbrev pub kept_told : KeptRow → Place × ℕ
+kept_told row = (row.undo.place, row.seq)
+
+-- the log is that of such rows, which tell these places and numbers
+abbrev pub IsOfSoundRows : List (Place × ℕ) → ℕ → ℕ → KeptLog → Type 0
+IsOfSoundRows told commits dropped log =
     (rows : List KeptRow) × (log ≡ record { kept = map (λ r. r.write) rows; undo = map (λ r. r.undo) rows; board = log.board })
-    × IsLogSound commits dropped log.board rows
+    × IsLogSound commits dropped log.board rows × IsPermutation told (map kept_told rows)

@@ -1,8 +1,9 @@
-ghost use Rattle.std.specs.Prelude.{◌≡◌, ◌⊎◌, nat_lt, IfOk, IfErr};
+ghost use Rattle.std.specs.Prelude.{◌≡◌, ◌⊎◌, nat_lt, IfOk, IfErr, map};
 ghost use Rattle.mr_model.specs.Replica.{Replica, IsReplica};
 ghost use Rattle.mr_model.specs.Tables.{tables_of};
 ghost use Rattle.mr_replica.specs.Desk.{desk_of, StandsFor, IsWithinLimits};
-ghost use Rattle.mr_replica.specs.SoundLog.{IsOfSoundRows};
+ghost use Rattle.mr_replica.specs.SoundLog.{log_told, IsOfSoundRows};
+ghost use Rattle.mr_replica.specs.SoundStamps.{AreStampsSound, AreSlotsSound};
 ghost use Rattle.mr_replica.specs.OnBoard.{AreOnBoard};
 ghost use Rattle.mr_tables.specs.SoundRows.{AreSound, Rise};
 ghost use Rattle.mr_tables.specs.Summary.{summary_of as summary_of_replica, IsWithin};
@@ -12,6 +13,7 @@ use crate::kept_rows::log_of;
 use crate::log::Log;
 use crate::old_rows::{old_cancels_in, old_errors_in};
 use crate::on_board::are_on_board;
+use crate::sound_stamps::{are_slots_sound, are_stamps_sound};
 use mr_base::Refusal;
 use mr_replay::Board;
 use mr_tables::Tables;
@@ -30,7 +32,9 @@ impl Desk {
         ensures only { (a : Replica) → IsReplica a → tables.now ≡ tables_of a → IfErr result (λ e. e ≡ Refusal.OutOfMemory) }
         ensures within { IfOk result IsWithinLimits }
         ensures sound { IfOk result (λ desk. AreSound tables.now desk.commits desk.tallies) }
-        ensures kept { IfOk result (λ desk. IsOfSoundRows desk.commits desk.dropped desk.log) }
+        ensures stamps { IfOk result (λ desk. AreStampsSound desk.commits desk.tallies tables.now) }
+        ensures slots { IfOk result (λ desk. AreSlotsSound tables.now) }
+        ensures kept { IfOk result (λ desk. IsOfSoundRows (map log_told tables.now.log) desk.commits desk.dropped desk.log) }
         ensures on_board { IfOk result (λ desk. AreOnBoard desk.log.board tables.now) }
         ensures rising { IfOk result (λ desk. Rise nat_lt (λ e. e.seq) desk.old_errors) }
         ensures cancels_rising { IfOk result (λ desk. Rise nat_lt (λ c. c.seq) desk.old_cancels) }
@@ -60,7 +64,9 @@ fn desk_told(alloc: Global, tables: &Tables) -> Result<Desk, Refusal>
     ensures only { (a : Replica) → IsReplica a → tables.now ≡ tables_of a → IfErr result (λ e. e ≡ Refusal.OutOfMemory) }
     ensures within { IfOk result IsWithinLimits }
     ensures sound { IfOk result (λ desk. AreSound tables.now desk.commits desk.tallies) }
-    ensures kept { IfOk result (λ desk. IsOfSoundRows desk.commits desk.dropped desk.log) }
+    ensures stamps { IfOk result (λ desk. AreStampsSound desk.commits desk.tallies tables.now) }
+    ensures slots { IfOk result (λ desk. AreSlotsSound tables.now) }
+    ensures kept { IfOk result (λ desk. IsOfSoundRows (map log_told tables.now.log) desk.commits desk.dropped desk.log) }
     ensures on_board { IfOk result (λ desk. AreOnBoard desk.log.board tables.now) }
     ensures rising { IfOk result (λ desk. Rise nat_lt (λ e. e.seq) desk.old_errors) }
     ensures cancels_rising { IfOk result (λ desk. Rise nat_lt (λ c. c.seq) desk.old_cancels) }
@@ -70,6 +76,12 @@ fn desk_told(alloc: Global, tables: &Tables) -> Result<Desk, Refusal>
         return Err(Refusal::Store);
     }
     if !are_sound(tables, &summary) {
+        return Err(Refusal::Store);
+    }
+    if !are_stamps_sound(tables, &summary) {
+        return Err(Refusal::Store);
+    }
+    if !are_slots_sound(tables) {
         return Err(Refusal::Store);
     }
     match log_told(alloc, tables, &summary) {
@@ -116,7 +128,7 @@ fn desk_with(alloc: Global, tables: &Tables, summary: Summary, log: Log) -> Resu
 fn log_told(alloc: Global, tables: &Tables, summary: &Summary) -> Result<Log, Refusal>
     ensures log { (a : Replica) → IsReplica a → tables.now ≡ tables_of a → IfOk result (λ log. log ≡ (desk_of a).log) }
     ensures only { (a : Replica) → IsReplica a → tables.now ≡ tables_of a → summary.now ≡ summary_of_replica a → IfErr result (λ e. e ≡ Refusal.OutOfMemory) }
-    ensures sound { IfOk result (λ log. IsOfSoundRows summary.now.commits summary.now.dropped log) }
+    ensures sound { IfOk result (λ log. IsOfSoundRows (map log_told tables.now.log) summary.now.commits summary.now.dropped log) }
     ensures on_board { IfOk result (λ log. AreOnBoard log.board tables.now) }
 {
     match board_of(alloc, tables) {

@@ -10,7 +10,7 @@ ghost use Rattle.mr_base.specs.Actions.{action_of};
 ghost use Rattle.mr_replay.specs.Places.{place_of};
 ghost use Rattle.mr_replay.specs.Rows.{target_of};
 ghost use Rattle.mr_tables.specs.Summary.{summary_of};
-ghost use Rattle.mr_replica.specs.SoundLog.{IsOfSoundRows};
+ghost use Rattle.mr_replica.specs.SoundLog.{log_told, kept_told, IsOfSoundRows};
 ghost use Rattle.mr_replica.specs.KeptRows.{kept_row_with, kept_row as kept_row_of, run_place, run_cmp};
 
 use crate::log::Log;
@@ -65,7 +65,7 @@ pub(crate) fn log_of(
     ensures log { (a : Replica) → IsReplica a → tables.now ≡ tables_of a → board ≡ (desk_of a).log.board → IfOk result (λ log. log ≡ (desk_of a).log) }
     ensures only { (a : Replica) → IsReplica a → tables.now ≡ tables_of a → summary.now ≡ summary_of a → board ≡ (desk_of a).log.board
         → IfErr result (λ e. e ≡ Refusal.OutOfMemory) }
-    ensures sound { IfOk result (λ log. IsOfSoundRows summary.now.commits summary.now.dropped log) }
+    ensures sound { IfOk result (λ log. IsOfSoundRows (map log_told tables.now.log) summary.now.commits summary.now.dropped log) }
     ensures board { IfOk result (λ log. log.board ≡ board) }
 {
     match kept_rows(alloc, &tables.log) {
@@ -84,7 +84,7 @@ fn log_with(
         → IfOk result (λ log. log ≡ (desk_of a).log) }
     ensures only { (a : Replica) → IsReplica a → rows.items ≡ map (kept_row_of a) (kept a) → summary.now ≡ summary_of a → board ≡ (desk_of a).log.board
         → IfErr result (λ e. e ≡ Refusal.OutOfMemory) }
-    ensures sound { IfOk result (λ log. IsOfSoundRows summary.now.commits summary.now.dropped log) }
+    ensures sound { IfOk result (λ log. IsOfSoundRows (map kept_told rows.items) summary.now.commits summary.now.dropped log) }
     ensures board { IfOk result (λ log. log.board ≡ board) }
 {
     sort_rows(&mut rows);
@@ -106,6 +106,7 @@ fn sort_rows(rows: &mut Vec<KeptRow>)
 fn kept_rows(alloc: Global, logs: &[LogRow]) -> Result<Vec<KeptRow>, Refusal>
     ensures rows { (a : Replica) → IsReplica a → logs.now ≡ map (log_row a) (kept a) → IfOk result (λ rows. rows.items ≡ map (kept_row_of a) (kept a)) }
     ensures only { (a : Replica) → IsReplica a → logs.now ≡ map (log_row a) (kept a) → IfErr result (λ e. e ≡ Refusal.OutOfMemory) }
+    ensures told { IfOk result (λ rows. map kept_told rows.items ≡ map log_told logs.now) }
 {
     let mut rows = Vec::new(alloc);
     for log in logs {
@@ -121,6 +122,7 @@ fn kept_rows(alloc: Global, logs: &[LogRow]) -> Result<Vec<KeptRow>, Refusal>
 fn kept_row(alloc: Global, log: &LogRow) -> Result<KeptRow, Refusal>
     ensures read { (w : WriteOfRoom) (place : PlaceOfWrite) (seq : ℕ) → IsTrue (is_write w) → log.now ≡ log_row_with w place seq
         → OrOutOfMemory result (Ok (kept_row_with w seq place)) }
+    ensures told { IfOk result (λ row. kept_told row ≡ log_told log.now) }
 {
     match write_of(alloc, log) {
         Ok(write) => Ok(kept_with(write, log.place, log.seq)),
