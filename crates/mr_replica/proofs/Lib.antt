@@ -32,6 +32,7 @@ pub mod Marks
 pub mod SoundLog
 pub mod OnBoard
 pub mod SoundStamps
+pub mod SoundNotes
 pub mod Parting
 pub mod RoomBoards
 pub mod PartBoards

@@ -165,7 +165,7 @@ old_back a x h g =
     (has_filter (is_old a.dropped) row (tables_of a).errorlog (ap (within 1 a.dropped) number ∙ old_from (seq_of a w) a.dropped low high)
     (has_filter_map (error_row a) w row (by_id a.known) o (has_by_id a w h known))))
 
-error_bears : (a : Replica) → Bears error_id (error_row a)
+pub error_bears : (a : Replica) → Bears error_id (error_row a)
 error_bears a = place_bears a as_error error_id (λ q row e. sym (ap row_id (erred_is row q e)))
 
 pub old_sorted : (a : Replica) (rows : List ErrorRow) (dropped : ℕ) (errors sorted : List OldError) → IsReplica a → rows ≡ (tables_of a).errorlog → dropped ≡ a.dropped → errors ≡ map told_error (filter (is_old dropped) rows) → IsPermutation errors sorted → IsSortedByKey (λ (e : OldError). e.seq) nat_cmp sorted → sorted ≡ old_errors_of (dropped_in_order a)

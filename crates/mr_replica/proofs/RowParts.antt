@@ -62,6 +62,7 @@ pub record IsCancelRowOf (r : Replica) (w : Write) (row : CancelRow) : Type 0 wh
   pub done : row.done ≡ is_done (place_of r w)
   pub room : row.room ≡ w.room
   pub id : cancel_id row ≡ id_of w
+  pub time : row.time ≡ w.stamp.time
   pub number : row.seq ≡ seq_of r w
 
 pub cancel_row_of : (r : Replica) (w : Write) (row : CancelRow) → cancel_row r w ≡ Some row → IsCancelRowOf r w row
@@ -81,6 +82,7 @@ cancel_row_of r w row e = go w.action refl e
           done = ap (λ (c : CancelRow). c.done) same;
           room = ap (λ (c : CancelRow). c.room) same;
           id = ap cancel_id same;
+          time = ap (λ (c : CancelRow). c.time) same;
           number = ap (λ (c : CancelRow). c.seq) same;
         }
 

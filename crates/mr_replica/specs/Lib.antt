@@ -1,4 +1,4 @@
--- A reader of the contracts trusts Log, Desk, Steps, Candidate, DeskTables, Turning, ChangeLaws, KeptRows, SoundLog, SoundStamps, OnBoard, Parts and
+-- A reader of the contracts trusts Log, Desk, Steps, Candidate, DeskTables, Turning, ChangeLaws, KeptRows, SoundLog, SoundStamps, SoundNotes, OnBoard, Parts and
 -- ScopeOf. The others, Outgoing, Moves, Received, KeptWrites, PartCandidate, PartMoves, Changed, PickedLogs, PickedBookings, PickedUndo, Tails, Named, Touched and LogTests, serve private clauses and
 -- proofs alone.
 pub mod Log
@@ -12,6 +12,7 @@ pub mod ChangeLaws
 pub mod KeptRows
 pub mod SoundLog
 pub mod SoundStamps
+pub mod SoundNotes
 pub mod OnBoard
 pub mod Parts
 pub mod PartMoves

@@ -3,6 +3,7 @@ ghost use Rattle.mr_model.specs.Replica.{Replica, IsReplica};
 ghost use Rattle.mr_model.specs.Tables.{tables_of};
 ghost use Rattle.mr_replica.specs.Desk.{desk_of, StandsFor, IsWithinLimits};
 ghost use Rattle.mr_replica.specs.SoundLog.{log_told, IsOfSoundRows};
+ghost use Rattle.mr_replica.specs.SoundNotes.{AreNotesSound};
 ghost use Rattle.mr_replica.specs.SoundStamps.{AreStampsSound, AreSlotsSound};
 ghost use Rattle.mr_replica.specs.OnBoard.{AreOnBoard};
 ghost use Rattle.mr_tables.specs.SoundRows.{AreSound, Rise};
@@ -13,6 +14,7 @@ use crate::kept_rows::log_of;
 use crate::log::Log;
 use crate::old_rows::{old_cancels_in, old_errors_in};
 use crate::on_board::are_on_board;
+use crate::sound_notes::are_notes_sound;
 use crate::sound_stamps::{are_slots_sound, are_stamps_sound};
 use mr_base::Refusal;
 use mr_replay::Board;
@@ -34,6 +36,7 @@ impl Desk {
         ensures sound { IfOk result (λ desk. AreSound tables.now desk.commits desk.tallies) }
         ensures stamps { IfOk result (λ desk. AreStampsSound desk.commits desk.tallies tables.now) }
         ensures slots { IfOk result (λ desk. AreSlotsSound tables.now) }
+        ensures notes { IfOk result (λ desk. AreNotesSound desk.dropped tables.now) }
         ensures kept { IfOk result (λ desk. IsOfSoundRows (map log_told tables.now.log) desk.commits desk.dropped desk.log) }
         ensures on_board { IfOk result (λ desk. AreOnBoard desk.log.board tables.now) }
         ensures rising { IfOk result (λ desk. Rise nat_lt (λ e. e.seq) desk.old_errors) }
@@ -66,6 +69,7 @@ fn desk_told(alloc: Global, tables: &Tables) -> Result<Desk, Refusal>
     ensures sound { IfOk result (λ desk. AreSound tables.now desk.commits desk.tallies) }
     ensures stamps { IfOk result (λ desk. AreStampsSound desk.commits desk.tallies tables.now) }
     ensures slots { IfOk result (λ desk. AreSlotsSound tables.now) }
+    ensures notes { IfOk result (λ desk. AreNotesSound desk.dropped tables.now) }
     ensures kept { IfOk result (λ desk. IsOfSoundRows (map log_told tables.now.log) desk.commits desk.dropped desk.log) }
     ensures on_board { IfOk result (λ desk. AreOnBoard desk.log.board tables.now) }
     ensures rising { IfOk result (λ desk. Rise nat_lt (λ e. e.seq) desk.old_errors) }
@@ -84,7 +88,7 @@ fn desk_told(alloc: Global, tables: &Tables) -> Result<Desk, Refusal>
     if !are_slots_sound(tables) {
         return Err(Refusal::Store);
     }
-    match log_told(alloc, tables, &summary) {
+    match noted_log(alloc, tables, &summary) {
         Ok(log) => desk_with(alloc, tables, summary, log),
         Err(refusal) => Err(refusal),
     }
@@ -135,6 +139,26 @@ fn log_told(alloc: Global, tables: &Tables, summary: &Summary) -> Result<Log, Re
         Ok(board) => {
             if are_on_board(tables, &board) {
                 log_of(alloc, tables, summary, board)
+            } else {
+                Err(Refusal::Store)
+            }
+        }
+        Err(refusal) => Err(refusal),
+    }
+}
+
+/// The kept log, where the error log and the rows of cancels tell of kept writes what it tells of them.
+fn noted_log(alloc: Global, tables: &Tables, summary: &Summary) -> Result<Log, Refusal>
+    ensures log { (a : Replica) → IsReplica a → tables.now ≡ tables_of a → IfOk result (λ log. log ≡ (desk_of a).log) }
+    ensures only { (a : Replica) → IsReplica a → tables.now ≡ tables_of a → summary.now ≡ summary_of_replica a → IfErr result (λ e. e ≡ Refusal.OutOfMemory) }
+    ensures sound { IfOk result (λ log. IsOfSoundRows (map log_told tables.now.log) summary.now.commits summary.now.dropped log) }
+    ensures on_board { IfOk result (λ log. AreOnBoard log.board tables.now) }
+    ensures notes { IfOk result (λ log. AreNotesSound summary.now.dropped tables.now) }
+{
+    match are_notes_sound(alloc, tables, summary.dropped) {
+        Ok(sound) => {
+            if sound {
+                log_told(alloc, tables, summary)
             } else {
                 Err(Refusal::Store)
             }

@@ -51,6 +51,7 @@ mod scope_tail;
 mod scope_touched;
 mod scope_undo;
 mod sound_log;
+mod sound_notes;
 mod sound_stamps;
 
 ghost use Rattle.mr_replica.specs.ChangeLaws.{DesksHaveTheTables, RoomsArePut, SubmissionsArePut, TailsArePut, CommitsArePut, TruncationsForget};
