@@ -30,8 +30,11 @@ pub mod SameRows
 pub mod SoundLog
 pub mod Parting
 pub mod RoomBoards
+pub mod Replays
+pub mod Standings
 pub mod PartBoards
 pub mod PartMoves
+pub mod BatchNumbers
 pub mod Moves
 pub mod PartCalls
 pub mod PartRows
