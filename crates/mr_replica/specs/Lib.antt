@@ -1,5 +1,5 @@
 -- A reader of the contracts trusts Log, Desk, Steps, Candidate, DeskTables, Turning, ChangeLaws, KeptRows, SoundLog, Parts and
--- ScopeOf. The others, Outgoing, Moves, Received, KeptWrites, PartCandidate, PartMoves, Changed, PickedLogs, PickedBookings, PickedUndo, Tails, Named, Touched and LogTests, serve private clauses and
+-- ScopeOf. The others, Outgoing, Moves, Received, KeptWrites, PartCandidate, PartMoves, Changed, Targets, PickedLogs, PickedBookings, PickedUndo, Tails, Named, Touched and LogTests, serve private clauses and
 -- proofs alone.
 pub mod Log
 pub mod Desk
@@ -14,6 +14,7 @@ pub mod SoundLog
 pub mod Parts
 pub mod PartMoves
 pub mod Changed
+pub mod Targets
 pub mod ScopeOf
 pub mod PickedLogs
 pub mod Tails

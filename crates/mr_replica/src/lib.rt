@@ -49,6 +49,7 @@ mod scope_tail;
 mod scope_touched;
 mod scope_undo;
 mod sound_log;
+mod targets;
 
 ghost use Rattle.mr_replica.specs.ChangeLaws.{DesksHaveTheTables, RoomsArePut, SubmissionsArePut, TailsArePut, CommitsArePut, TruncationsForget};
 ghost use Rattle.mr_replica.specs.Steps.{SubmissionsAreRequests};
