@@ -35,8 +35,16 @@ pub mod SoundStamps
 pub mod SoundNotes
 pub mod Parting
 pub mod RoomBoards
+pub mod Replays
+pub mod Standings
+pub mod BatchBoards
+pub mod Targeting
+pub mod TargetRows
+pub mod Growing
+pub mod BatchChanges
 pub mod PartBoards
 pub mod PartMoves
+pub mod BatchNumbers
 pub mod Moves
 pub mod PartCalls
 pub mod PartRows

@@ -23,18 +23,15 @@ use Rattle.mr_base.specs.declared.refusals.Refusal.TheVariants.{OutOfMemory}
 use Rattle.mr_tables.specs.declared.summary.Summary.{Summary}
 use Rattle.mr_tables.specs.Summary.{summary_of}
 use Rattle.mr_tables.specs.Change.{ChangeView, changed}
-use Rattle.mr_tables.specs.Written.{meta_of, written}
-use Rattle.mr_replica.specs.declared.scope_logs.LoggedWrite.{LoggedWrite}
-use Rattle.mr_replica.specs.Desk.{desk_of, nothing_taken, reply_with}
-use Rattle.mr_replica.specs.DeskTables.{desk_tables}
-use Rattle.mr_replica.specs.KeptWrites.{HasKept}
+use Rattle.mr_tables.specs.Written.{meta_of, with_places}
+use Rattle.mr_replica.specs.declared.kept_writes.NumberedWrite.{NumberedWrite}
+use Rattle.mr_replica.specs.Desk.{nothing_taken, reply_with}
+use Rattle.mr_replica.specs.KeptWrites.{HasKept, numbered_of}
 use Rattle.mr_replica.specs.declared.part_candidate.PartCandidate.{PartCandidate}
 use Rattle.mr_replica.specs.PartCandidate.{ReachedView, ShowsTaken, ShowsPicked, TakesPicked, AnswersItems, is_inside}
 use Rattle.mr_replica.specs.Named.{IsSetOf}
 use Rattle.mr_replica.specs.Parts.{PartView, part_of}
-use Rattle.mr_replica.specs.PickedLogs.{logged_of}
-use Rattle.mr_replica.proofs.DeskRows.{desk_tables-of}
-use Rattle.mr_replica.proofs.ReceivedRows.{nothing_written}
+use Rattle.mr_replica.proofs.Moves.{all_pass}
 use Rattle.mr_replica.proofs.Receiving.{drop_at, all_at, drop_none, item-within, items-bring}
 
 -- after k items there is a progress that the candidate shows, and the rest leads from it to what all lead to
@@ -77,10 +74,10 @@ pub taken-none : (a : Replica) (inside : Write → Bool) (c : PartCandidate) →
 taken-none a inside c summary rooms kept = record { summary = summary; rooms = rooms; kept = kept; writes = omega arith; marks = λ w. inl refl }
 
 -- behind the last one, where the rooms and the writes are put into their orders
-pub taken-all : (a : Replica) (inside : Write → Bool) (c : PartCandidate) (p : Progress) (rooms : List Text) (kept : List LoggedWrite) → ShowsTaken a inside c p → rooms ≡ p.replica.rooms → kept ≡ map (logged_of p.replica) (filter inside (kept_in_order p.replica))
+pub taken-all : (a : Replica) (inside : Write → Bool) (c : PartCandidate) (p : Progress) (rooms : List Text) (kept : List NumberedWrite) → ShowsTaken a inside c p → rooms ≡ p.replica.rooms → kept ≡ map (numbered_of p.replica) (filter inside (kept_in_order p.replica))
     → ShowsPicked a inside (record { summary = c.summary; rooms = rooms; kept = kept }) p
 taken-all a inside c p rooms kept shows rooms_are kept_are =
-    let size = ap length kept_are ∙ length-map (filter inside (kept_in_order p.replica)) (logged_of p.replica) in
+    let size = ap length kept_are ∙ length-map (filter inside (kept_in_order p.replica)) (numbered_of p.replica) in
     let was = shows.writes in
     record { summary = shows.summary; rooms = rooms_are; kept = kept_are; writes = omega (arith, size, was); marks = shows.marks }
 
@@ -113,11 +110,16 @@ part_refused a items r e p (inl t) = inl (
 part_refused a items r e p (inr t) = inr (p ∙ ap Err t)
 
 -- where nothing comes nothing changes
-pub part_unchanged : (a : Replica) (s : Scope) (part : PartView) (change : ChangeView) → IsReplica a → part ≡ part_of s a → change ≡ written (meta_of part.summary) [] [] 0 0 [] [] → changed change (tables_of a) ≡ tables_of a
-part_unchanged a s part change sound e is =
-    ap (changed change) (sym (desk_tables-of a sound))
-    ∙ ap (λ c. changed c (desk_tables (desk_of a))) (is ∙ ap (λ (v : PartView). written (meta_of v.summary) [] [] 0 0 [] []) e)
-    ∙ nothing_written (desk_of a) ∙ desk_tables-of a sound
+pub part_unchanged : (a : Replica) (s : Scope) (part : PartView) (change : ChangeView) → part ≡ part_of s a → change ≡ with_places (meta_of part.summary) [] [] [] [] → changed change (tables_of a) ≡ tables_of a
+part_unchanged a s part change e is =
+    let t = tables_of a in
+    ap (λ c. changed c t) (is ∙ ap (λ (v : PartView). with_places (meta_of v.summary) [] [] [] []) e)
+    ∙ (λ i. record t {
+      log = all_pass t.log i;
+      booking = all_pass t.booking i;
+      errorlog = all_pass t.errorlog i;
+      cancelled = all_pass t.cancelled i;
+    })
 
 -- ---- the whole batch
 

@@ -19,18 +19,17 @@ use Rattle.mr_tables.specs.declared.summary.Summary.{Summary}
 use Rattle.mr_tables.specs.Change.{ChangeView, changed}
 use Rattle.mr_tables.specs.Summary.{tally_at, summary_of}
 use Rattle.mr_replica.specs.declared.part_candidate.PartCandidate.{PartCandidate}
-use Rattle.mr_replica.specs.declared.scope_logs.LoggedWrite.{LoggedWrite}
+use Rattle.mr_replica.specs.declared.kept_writes.NumberedWrite.{NumberedWrite}
 use Rattle.mr_replica.specs.Candidate.{write_verdict_with, commit_verdict}
 use Rattle.mr_replica.specs.Desk.{nothing_taken, reply_with}
-use Rattle.mr_replica.specs.KeptWrites.{KeptWrites, HasKept, logged_at, is_number_of}
+use Rattle.mr_replica.specs.KeptWrites.{KeptWrites, HasKept, logged_at, is_number_of, numbered_of}
 use Rattle.mr_replica.specs.Named.{IsSetOf}
-use Rattle.mr_replica.specs.PickedLogs.{logged_of}
 
 -- the numbers, the rooms in the order of names and the kept writes in that of execution, as all items leave them
 pub record ReachedView : Type 0 where
   pub summary : Summary
   pub rooms : List Text
-  pub kept : List LoggedWrite
+  pub kept : List NumberedWrite
 
 -- whether a write of the replica is in scope of the items
 abbrev pub is_inside : Replica → List Item → Write → Bool
@@ -55,7 +54,7 @@ pub record ShowsTaken (a : Replica) (inside : Write → Bool) (c : PartCandidate
 pub record ShowsPicked (a : Replica) (inside : Write → Bool) (c : ReachedView) (p : Progress) : Type 0 where
   pub summary : c.summary ≡ summary_of p.replica
   pub rooms : c.rooms ≡ p.replica.rooms
-  pub kept : c.kept ≡ map (logged_of p.replica) (filter inside (kept_in_order p.replica))
+  pub kept : c.kept ≡ map (numbered_of p.replica) (filter inside (kept_in_order p.replica))
   pub writes : length c.kept ≡ length (filter inside (kept_in_order a)) + p.writes
   pub marks : (w : Write) → (seq_of p.replica w ≡ seq_of a w) ⊎ (inside w ≡ true)
 

@@ -53,6 +53,7 @@ mod scope_undo;
 mod sound_log;
 mod sound_notes;
 mod sound_stamps;
+mod targets;
 
 ghost use Rattle.mr_replica.specs.ChangeLaws.{DesksHaveTheTables, RoomsArePut, SubmissionsArePut, TailsArePut, CommitsArePut, TruncationsForget};
 ghost use Rattle.mr_replica.specs.Steps.{SubmissionsAreRequests};

@@ -1,22 +1,23 @@
 ghost use Rattle.std.specs.Prelude.{◌≡◌, ◌==◌, ◌&&◌, ℕ, Bool, List, map, filter, IfOk, IfErr};
 ghost use Rattle.mr_model.specs.Texts.{Text};
 ghost use Rattle.mr_model.specs.Exchange.{Item as ItemOfBatch};
-ghost use Rattle.mr_model.specs.Writes.{Write as WriteOfRoom, id_of};
+ghost use Rattle.mr_model.specs.Writes.{Write as WriteOfRoom};
 ghost use Rattle.mr_model.specs.Replica.{Replica, IsReplica, tentative};
 ghost use Rattle.mr_model.specs.Scopes.{OfItems};
 ghost use Rattle.mr_model.specs.Moving.{may_move as may_move_from, again};
-ghost use Rattle.mr_model.specs.Tables.{place_of};
+ghost use Rattle.mr_model.specs.View.{place_of};
 ghost use Rattle.mr_base.specs.Batches.{item_of};
 ghost use Rattle.mr_replay.specs.Places.{UndoRow as UndoRowOfWrite};
 ghost use Rattle.mr_replica.specs.Moves.{AreTouched, ShowsMoves, moves_in, is_anew};
 ghost use Rattle.mr_replica.specs.Named.{IsSetOf};
 ghost use Rattle.mr_replica.specs.Parts.{IsPartOf};
+ghost use Rattle.mr_replica.specs.PickedUndo.{undo_with};
 ghost use Rattle.mr_replica.specs.Tails.{IsTail};
 
 use crate::Part;
+use crate::kept_writes::NumberedWrite;
 use crate::movable::{may_move, rooms_touched};
 use crate::room_sets::{RoomSet, room_set};
-use crate::scope_logs::LoggedWrite;
 use crate::scope_tail::{Tail, tail_of};
 use mr_base::{Item, Refusal, RoomName, Write};
 use mr_replay::UndoRow;
@@ -40,7 +41,7 @@ impl Part {
         items: &[Item],
     ) -> Result<Vec<UndoRow>, Refusal>
         ensures rows { (a : Replica) → IsReplica a → IsPartOf self.now (OfItems (map item_of items.now)) a → AreTouched touched.now a (map item_of items.now)
-            → IfOk result (λ rows. rows.items ≡ map (λ w. record { id = id_of w; place = place_of a w }) (filter (may_move_from a (map item_of items.now)) (tentative a))) }
+            → IfOk result (λ rows. rows.items ≡ map (undo_with (place_of a)) (filter (may_move_from a (map item_of items.now)) (tentative a))) }
         ensures only { IfErr result (λ e. e ≡ Refusal.OutOfMemory) }
     {
         let rooms = room_set(self.alloc, touched)?;
@@ -85,7 +86,7 @@ fn moving_rows(
 /// behind them the tentative ones that may move.
 pub(crate) fn again_in(
     alloc: Global,
-    kept: &[LoggedWrite],
+    kept: &[NumberedWrite],
     touched: &[RoomName],
     items: &[Item],
     commits: u64,
@@ -102,7 +103,7 @@ pub(crate) fn again_in(
 
 fn writes_anew(
     alloc: Global,
-    kept: &[LoggedWrite],
+    kept: &[NumberedWrite],
     rooms: &RoomSet,
     tail: &Tail,
     commits: u64,
@@ -120,7 +121,7 @@ fn writes_anew(
     Ok(writes)
 }
 
-fn is_anew(one: &LoggedWrite, rooms: &RoomSet, tail: &Tail, commits: u64) -> bool
+fn is_anew(one: &NumberedWrite, rooms: &RoomSet, tail: &Tail, commits: u64) -> bool
     ensures { (touched : List Text) (items : List ItemOfBatch) → IsSetOf rooms.now touched → IsTail tail.now commits items
         → result ≡ is_anew touched items commits one.now }
 {

@@ -2,14 +2,17 @@ ghost use Rattle.std.specs.Prelude.{◌≡◌, ◌+◌, ◌<◌, ◌^◌, List, 
 ghost use Rattle.mr_model.specs.Replica.{Replica};
 ghost use Rattle.mr_model.specs.Exchange.{Item};
 ghost use Rattle.mr_model.specs.Tables.{tables_of};
-ghost use Rattle.mr_replay.specs.Rows.{undo_rows_of, undone_all};
+ghost use Rattle.mr_replay.specs.Rows.{executed_all, undo_rows_of, undone_all};
 ghost use Rattle.mr_tables.specs.Change.{changed};
 ghost use Rattle.mr_tables.specs.Written.{meta_of, changed_tallies as rows_changed, written};
 ghost use Rattle.mr_replica.specs.PartMoves.{MovesPart};
+ghost use Rattle.mr_replica.specs.Placing.{cancellers_on};
 
 use crate::part_candidate::Reached;
 use crate::part_changed::changed_of;
+use crate::placing::{cancellers, put_places};
 use crate::room_sets::unknown_rooms;
+use crate::targets::{moved_targets, takers};
 use mr_base::{Refusal, RoomName, Write};
 use mr_replay::{Board, UndoRow};
 use mr_tables::Change;
@@ -20,7 +23,8 @@ use std::alloc::Global;
 
 /// What a batch changes in the tables that leads from these numbers and known rooms to what is reached: on the board, which has the
 /// bookings in the rooms that it touches, these executions are undone, and these writes are executed, the new commits first. A write that gets
-/// the place and the number that it had keeps its rows, and isn't put.
+/// the place and the number that it had keeps its row in the log, and isn't put; a booking that they cancel is put alone, where another cancel
+/// took that back before.
 pub(crate) fn moved(
     alloc: Global,
     old: &Summary,
@@ -34,48 +38,61 @@ pub(crate) fn moved(
         → IfOk result (λ change. changed change (tables_of a) ≡ tables_of b) }
     ensures only { IfErr result (λ e. e ≡ Refusal.OutOfMemory) }
 {
-    let rows = replayed(board, undone, again)?;
+    let was = takers(alloc, &board, again)?;
+    let replayed = replayed(board, undone, again)?;
+    let (board, rows) = replayed;
     let news = reached.summary.commits.saturating_sub(old.commits);
     let changed = changed_of(alloc, undone, news, again, &rows)?;
     let unknown = unknown_rooms(alloc, known, &reached.rooms)?;
-    let change = rewritten(
+    let mut change = rewritten(
         alloc,
         old,
         &reached.summary,
         unknown,
+        &board,
         &changed.writes,
         &changed.rows,
     )?;
+    let targets = moved_targets(alloc, &reached.summary, &board, again, &was)?;
+    put_places(&mut change, targets)?;
     Ok(change)
 }
 
-/// What undoes these writes, executed where those executions are undone. One board serves all rooms: the executions of
-/// one of them leave the bookings of the others as they are.
-fn replayed(board: Board, undone: &[UndoRow], again: &[Write]) -> Result<Vec<UndoRow>, Refusal>
-    ensures rows { IfOk result (λ rows. rows.items ≡ undo_rows_of (undone_all board undone.now) again.now) }
+/// The board where those executions are undone and these writes are executed, and what undoes them. One board serves all rooms: the
+/// executions of one of them leave the bookings of the others as they are.
+fn replayed(
+    board: Board,
+    undone: &[UndoRow],
+    again: &[Write],
+) -> Result<(Board, Vec<UndoRow>), Refusal>
+    ensures board { IfOk result (λ r. r.0 ≡ executed_all (undone_all board undone.now) again.now) }
+    ensures rows { IfOk result (λ r. r.1.items ≡ undo_rows_of (undone_all board undone.now) again.now) }
     ensures only { IfErr result (λ e. e ≡ Refusal.OutOfMemory) }
 {
     let mut board = board;
     board.undo_all(undone);
     let rows = board.redo_from(again)?;
-    Ok(rows)
+    Ok((board, rows))
 }
 
-/// The change from the old numbers to the new ones, with these rooms more, where these writes stand behind the old commits.
+/// The change from the old numbers to the new ones, with these rooms more, where these writes stand behind the old commits, and the board
+/// tells which cancels took them back.
 pub(crate) fn rewritten(
     alloc: Global,
     old: &Summary,
     summary: &Summary,
     rooms: Vec<RoomName>,
+    board: &Board,
     writes: &[Write],
     rows: &[UndoRow],
 ) -> Result<Change, Refusal>
     requires { length writes.now ≡ length rows.now }
     ensures change { IfOk result (λ change. old.now.commits + 1 + length writes.now < 2 ^ 64
-        → change ≡ written (meta_of summary.now) rooms.items (rows_changed old.now.tallies summary.now.tallies) summary.now.commits (old.now.commits + 1) writes.now rows.now) }
+        → change ≡ written (meta_of summary.now) rooms.items (rows_changed old.now.tallies summary.now.tallies) summary.now.commits (old.now.commits + 1) writes.now rows.now (cancellers_on board.now writes.now)) }
     ensures only { IfErr result (λ e. e ≡ Refusal.OutOfMemory) }
 {
     let vector = changed_tallies(alloc, old, summary)?;
+    let bys = cancellers(alloc, board, writes)?;
     let first = old.commits.saturating_add(1);
-    written(alloc, summary, rooms, vector, first, writes, rows)
+    written(alloc, summary, rooms, vector, first, writes, rows, &bys)
 }
