@@ -1,4 +1,4 @@
--- A reader of the contracts trusts Log, Desk, Steps, Candidate, DeskTables, Turning, ChangeLaws, KeptRows, SoundLog, Parts and
+-- A reader of the contracts trusts Log, Desk, Steps, Candidate, DeskTables, Placing, Turning, ChangeLaws, KeptRows, SoundLog, Parts and
 -- ScopeOf. The others, Outgoing, Moves, Received, KeptWrites, PartCandidate, PartMoves, Changed, PickedLogs, PickedBookings, PickedUndo, Tails, Named, Touched and LogTests, serve private clauses and
 -- proofs alone.
 pub mod Log
@@ -7,6 +7,7 @@ pub mod Steps
 pub mod Outgoing
 pub mod Candidate
 pub mod DeskTables
+pub mod Placing
 pub mod Turning
 pub mod ChangeLaws
 pub mod KeptRows
