@@ -1,5 +1,5 @@
 -- A reader of the contracts trusts Log, Desk, Steps, Candidate, DeskTables, Placing, Turning, ChangeLaws, KeptRows, SoundLog, Parts and
--- ScopeOf. The others, Outgoing, Moves, Received, KeptWrites, PartCandidate, PartMoves, Changed, PickedLogs, PickedBookings, PickedUndo, Tails, Named, Touched and LogTests, serve private clauses and
+-- ScopeOf. The others, Outgoing, Accepting, Moves, Received, KeptWrites, PartCandidate, PartMoves, Changed, PickedLogs, PickedBookings, PickedUndo, Tails, Named, Touched and LogTests, serve private clauses and
 -- proofs alone.
 pub mod Log
 pub mod Desk
@@ -8,6 +8,7 @@ pub mod Outgoing
 pub mod Candidate
 pub mod DeskTables
 pub mod Placing
+pub mod Accepting
 pub mod Turning
 pub mod ChangeLaws
 pub mod KeptRows

@@ -1,18 +1,18 @@
 -- Rows of what became of writes, as a board tells them, and how they come into a change.
-use Rattle.std.specs.Prelude.{ℕ, if◌then◌else◌, bytes_eq, Bool, true, false, List, [], ◌∷◌, map, Option, Some, None}
+use Rattle.std.specs.Prelude.{ℕ, ◌+◌, ◌≤◌, if◌then◌else◌, bytes_eq, Bool, true, false, List, [], ◌∷◌, map, Option, Some, None}
 use Rattle.mr_model.specs.Texts.{Text}
 use Rattle.mr_model.specs.Writes.{Id, Write, id_of}
-use Rattle.mr_model.specs.Replay.{Place, Done}
-use Rattle.mr_model.specs.Tables.{BookingRow, PlaceRow, Booked, Cancelled, taken_back}
+use Rattle.mr_model.specs.Tables.{PlaceRow, Booked, Cancelled, taken_back}
 use Rattle.mr_replay.specs.declared.rows.Standing.TheVariants as standing
 use Rattle.mr_replay.specs.declared.rows.Kept.{Kept}
 use Rattle.mr_replay.specs.declared.rows.Kept.TheVariants.{OfBooking, OfCancel}
 use Rattle.mr_replay.specs.declared.rows.Row.{Row}
-use Rattle.mr_replay.specs.Rows.{Rows, row_at}
+use Rattle.mr_replay.specs.Places.{UndoRow}
+use Rattle.mr_replay.specs.Rows.{Rows, row_at, taken_back as taken_back_by}
 use Rattle.mr_tables.specs.declared.summary.Tally.{Tally}
 use Rattle.mr_tables.specs.Change.{ChangeView}
 use Rattle.mr_tables.specs.Written.{with_place}
-use Rattle.mr_replica.specs.DeskTables.{booking_at, board_booking}
+use Rattle.mr_replica.specs.DeskTables.{booking_at}
 
 -- these rows are put one after the other, each into its table
 abbrev pub with_places_put : ChangeView → List PlaceRow → ChangeView
@@ -21,14 +21,24 @@ with_places_put c (row ∷ rows) = with_places_put (with_place c row) rows
 
 -- ---- rows of bookings, read off the board
 
--- whether it stands, or was taken back; one that found no slot has no row of these
+-- it has its slot, or a cancel took it back; one that found no slot has no row of these
 abbrev pub kept_place : List Tally → Id → Text → Kept → Option PlaceRow
 kept_place ts id room (OfBooking slot length title standing.Booked) = Some (Booked (booking_at ts id room slot length title))
-kept_place ts id room (OfBooking slot length title (standing.CancelledBy by)) = Some (Cancelled (taken_back by (booking_at ts id room slot length title)))
+kept_place ts id room (OfBooking slot length title (standing.CancelledBy by)) =
+    Some (Cancelled (taken_back by (booking_at ts id room slot length title)))
 kept_place ts id room _ = None
 
 abbrev pub board_place : List Tally → Id → Row → Option PlaceRow
 board_place ts id row = kept_place ts id row.room row.kept
+
+-- a booking ends on its day
+abbrev pub KeptEnds : Kept → Type 0
+KeptEnds (OfBooking slot length title stands) = slot.start + length ≤ 1440
+KeptEnds (OfCancel target) = Unit {0}
+
+abbrev pub RowEnds : Option Row → Type 0
+RowEnds None = Unit {0}
+RowEnds (Some row) = KeptEnds row.kept
 
 -- ---- cancels
 
@@ -57,16 +67,25 @@ is_booking_in room (Some row) = if bytes_eq row.room room then kept_is_booking r
 abbrev pub has_booking : Rows → Text → Id → Bool
 has_booking b room id = is_booking_in room (row_at b id)
 
--- the row of a booking that this cancel takes back
-abbrev pub taken_row : Id → Option BookingRow → List PlaceRow
-taken_row by None = []
-taken_row by (Some row) = Cancelled (taken_back by row) ∷ []
+-- the row of a booking that stands, where this cancel takes it back
+abbrev pub taken_row : Id → Option PlaceRow → List PlaceRow
+taken_row by (Some (Booked row)) = Cancelled (taken_back by row) ∷ []
+taken_row by _ = []
 
 abbrev pub taken_on : List Tally → Id → Id → Option Row → List PlaceRow
 taken_on ts by target None = []
-taken_on ts by target (Some row) = taken_row by (board_booking ts target row)
+taken_on ts by target (Some row) = taken_row by (board_place ts target row)
 
--- the rows that a write of this id puts beside its own, where it went to this place with this target: that of the target, if it is done
-abbrev pub taken_rows : List Tally → Rows → Id → Place → Option Id → List PlaceRow
-taken_rows ts b by Done (Some target) = taken_on ts by target (row_at b target)
-taken_rows ts b by _ _ = []
+-- the target of a write that took it back
+abbrev pub taken_rows_of : List Tally → Rows → Id → Option Id → List PlaceRow
+taken_rows_of ts b by None = []
+taken_rows_of ts b by (Some target) = taken_on ts by target (row_at b target)
+
+-- the rows that a write puts beside its own, where this undoes it: that of the target that it took back
+abbrev pub taken_rows : List Tally → Rows → UndoRow → List PlaceRow
+taken_rows ts b u = taken_rows_of ts b u.id (taken_back_by u.place u.target)
+
+-- that row ends on its day
+abbrev pub TargetEnds : Rows → Option Id → Type 0
+TargetEnds b None = Unit {0}
+TargetEnds b (Some target) = RowEnds (row_at b target)
