@@ -1,5 +1,5 @@
 -- The steps of the definitions, for calls that get values in place of texts.
-use Rattle.std.specs.Prelude.{◌≡◌, Bool, true, false, not, ◌==◌, nat_lt, if◌then◌else◌, List, [], ◌∷◌, length, map, None, is_none}
+use Rattle.std.specs.Prelude.{◌≡◌, Bool, true, false, not, ◌==◌, nat_lt, if◌then◌else◌, List, [], ◌∷◌, length, None, is_none}
 use Rattle.std.specs.List.{list_any}
 use Rattle.mr_model.specs.Texts.{Text}
 use Rattle.mr_model.specs.Calendar.{read_date, read_time}
