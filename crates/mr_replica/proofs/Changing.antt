@@ -245,7 +245,7 @@ same_dropped a b x ha hb d e =
     (sym p.0, p.1)
 
 -- the rows that are taken back are those of bookings of the order, as they are afterwards
-taken_rows_given : (a : Replica) (w : Write) → IsReplica a → IsNext a w → clock_of a < w.stamp.time → GivesRows a (add_write a w) (order_of a) (rows_taken a w)
+pub taken_rows_given : (a : Replica) (w : Write) → IsReplica a → IsNext a w → clock_of a < w.stamp.time → GivesRows a (add_write a w) (order_of a) (rows_taken a w)
 taken_rows_given a w ha next late = record { are_rows = are_rows; has_others = λ v h. other v (order_known a v ha h) (takes_back a w (id_of v)) refl }
   where
     taking : BookingRow → Bool
@@ -254,8 +254,8 @@ taken_rows_given a w ha next late = record { are_rows = are_rows; has_others = �
     taken : BookingRow → PlaceRow
     taken row = Cancelled (taken_back (id_of w) row)
 
-    same_row : (p : PlaceRow) (row other : BookingRow) → p ≡ rows.Booked row → as_booking p ≡ Some other → row ≡ other
-    same_row p row other e f = some_inj row other (sym (ap as_booking e) ∙ f)
+    same_row : (p : PlaceRow) (row other : BookingRow) → p ≡ rows.Booked row → as_booking p ≡ Some other → taken other ≡ taken row
+    same_row p row other e f = ap taken (some_inj other row (sym f ∙ ap as_booking e))
 
     are_rows : (row : PlaceRow) → Has row (rows_taken a w) → (v : Write) × Has v (order_of a) × (row ≡ place_row (add_write a w) v)
     are_rows row h =
@@ -264,7 +264,7 @@ taken_rows_given a w ha next late = record { are_rows = are_rows; has_others = �
         let (v, k, f) = known_of as_booking a b d in
         let key : booking_id b ≡ id_of v = sym (ap row_id (booked_is b (place_row a v) f)) ∙ key-row a v in
         let (o, p, q) = row_taken a w ha next late v k (ap (takes_back a w) (sym key) ∙ t) in
-        (v, known_order a v ha k, e ∙ ap taken (sym (same_row (place_row a v) o b p f)) ∙ sym {a = place_row (add_write a w) v} q)
+        (v, known_order a v ha k, e ∙ same_row (place_row a v) o b p f ∙ sym {a = place_row (add_write a w) v} q)
 
     other : (v : Write) → Has v a.known → (t : Bool) → takes_back a w (id_of v) ≡ t → (canceller_of a v ≡ canceller_of (add_write a w) v) ⊎ Has (place_row (add_write a w) v) (rows_taken a w)
     other v k false t = inl (sym (others_stay a w ha next late v k t))
@@ -274,15 +274,18 @@ taken_rows_given a w ha next late = record { are_rows = are_rows; has_others = �
         inr (subst (λ r. Has r (rows_taken a w)) (sym q)
         (has_map taken o (filter taking (tables_of a).booking) (has_filter taking o (tables_of a).booking (ap (takes_back a w) key ∙ t) (of_known as_booking a o ha v k (ap as_booking p)))))
 
--- the write becomes the last of the order: its rows are put, that of the booking that it takes back, and that of its server
-pub submit_changes : (a : Replica) (w : Write) → IsReplica a → IsNext a w → clock_of a < w.stamp.time → knows_room a w.room ≡ true → changed (with_places_put (written (tables_of (add_write a w)).meta [] (vector_between a (add_write a w)) (length a.commits) (a.dropped + 1 + length (kept_in_order a)) (w ∷ []) (undo_rows_of (board_before a (kept_in_order a)) (w ∷ [])) (None ∷ [])) (rows_taken a w)) (desk_tables (desk_of a)) ≡ desk_tables (desk_of (add_write a w))
-submit_changes a w ha next late known =
+-- the write becomes the last of the order: its rows are put, those that are given of what it takes back, and that of its server
+pub submit_given : (a : Replica) (w : Write) (given : List PlaceRow) → IsReplica a → IsNext a w → clock_of a < w.stamp.time → knows_room a w.room ≡ true → GivesRows a (add_write a w) (order_of a) given → changed (with_places_put (written (tables_of (add_write a w)).meta [] (vector_between a (add_write a w)) (length a.commits) (a.dropped + 1 + length (kept_in_order a)) (w ∷ []) (undo_rows_of (board_before a (kept_in_order a)) (w ∷ [])) (None ∷ [])) given) (desk_tables (desk_of a)) ≡ desk_tables (desk_of (add_write a w))
+submit_given a w given ha next late known gives =
     let hb = added a w ha next in
     let p = same_dropped a (add_write a w) (w ∷ []) ha hb refl (order-submit a w ha next late) in
-    (λ i. changed (with_places_put (written (tables_of (add_write a w)).meta [] (vector_between a (add_write a w)) (length a.commits) (a.dropped + 1 + length (kept_in_order a)) (w ∷ []) (undo_rows_of (board_before a (kept_in_order a)) (w ∷ [])) (sym (stands_itself a w ha next late) i ∷ [])) (rows_taken a w)) (desk_tables (desk_of a)))
-    ∙ log_changes a (add_write a w) (kept_in_order a) [] (w ∷ []) [] (rows_taken a w) ha hb refl p.0 (sym (append-nil (kept_in_order a))) p.1 (λ v h. absurd h) (λ v h. refl)
-    (subst (λ ws. GivesRows a (add_write a w) ws (rows_taken a w)) (order-parts a) (taken_rows_given a w ha next late))
+    (λ i. changed (with_places_put (written (tables_of (add_write a w)).meta [] (vector_between a (add_write a w)) (length a.commits) (a.dropped + 1 + length (kept_in_order a)) (w ∷ []) (undo_rows_of (board_before a (kept_in_order a)) (w ∷ [])) (sym (stands_itself a w ha next late) i ∷ [])) given) (desk_tables (desk_of a)))
+    ∙ log_changes a (add_write a w) (kept_in_order a) [] (w ∷ []) [] given ha hb refl p.0 (sym (append-nil (kept_in_order a))) p.1 (λ v h. absurd h) (λ v h. refl)
+    (subst (λ ws. GivesRows a (add_write a w) ws given) (order-parts a) gives)
     (sym (same_rooms w.room a.rooms ha.rooms_in_order known))
+
+pub submit_changes : (a : Replica) (w : Write) → IsReplica a → IsNext a w → clock_of a < w.stamp.time → knows_room a w.room ≡ true → changed (with_places_put (written (tables_of (add_write a w)).meta [] (vector_between a (add_write a w)) (length a.commits) (a.dropped + 1 + length (kept_in_order a)) (w ∷ []) (undo_rows_of (board_before a (kept_in_order a)) (w ∷ [])) (None ∷ [])) (rows_taken a w)) (desk_tables (desk_of a)) ≡ desk_tables (desk_of (add_write a w))
+submit_changes a w ha next late known = submit_given a w (rows_taken a w) ha next late known (taken_rows_given a w ha next late)
 
 -- ---- a commit
 
