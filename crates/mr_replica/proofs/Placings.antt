@@ -1,5 +1,5 @@
 -- What the board of a replica tells of its bookings and of the cancels that took them back.
-use Rattle.std.proofs.Common.{◌≡◌, refl, sym, ap, ◌∙◌, subst, ℕ, ◌+◌, ◌<◌, ◌≤◌, Bool, true, false, cond, ◌&&◌, leb, List, [], ◌∷◌, map, ◌⊎◌, inl, inr, Option, Some, None, IsTrue, bytes_eq}
+use Rattle.std.proofs.Common.{◌≡◌, refl, sym, ap, ◌∙◌, subst, ℕ, ◌+◌, ◌<◌, ◌≤◌, Bool, true, false, cond, ◌&&◌, leb, List, [], ◌∷◌, ◌++◌, map, ◌⊎◌, inl, inr, Option, Some, None, IsTrue, bytes_eq}
 use Rattle.std.proofs.lemmas.Bool.{true≢false, and_parts, and_from, false_from_ne_true}
 use Rattle.std.specs.List.{list_any, slice_get}
 use Rattle.std.specs.Option.{option_map}
@@ -21,11 +21,18 @@ use Rattle.mr_replay.specs.declared.rows.Row.{Row}
 use Rattle.mr_replay.specs.declared.rows.Kept.{Kept}
 use Rattle.mr_replay.specs.Rows.{row_at, kept_with, kept_for, row_of, target_of}
 use Rattle.mr_tables.specs.declared.summary.Tally.{Tally}
+use Rattle.mr_tables.specs.Change.{ChangeView}
 use Rattle.mr_tables.specs.Summary.{tally_at}
+use Rattle.mr_tables.specs.Written.{with_place}
 use Rattle.mr_tables.proofs.BoardsTold.{known_row, known_at, unknown_at, known_or_none}
 use Rattle.mr_tables.proofs.Fitting.{choice_fits}
-use Rattle.mr_replica.specs.Placing.{board_place, KeptEnds, RowEnds, TargetEnds, row_canceller, cancellers_on, kept_is_booking, is_booking_in, has_booking}
+use Rattle.mr_replica.specs.Placing.{with_places_put, board_place, KeptEnds, RowEnds, TargetEnds, row_canceller, cancellers_on, kept_is_booking, is_booking_in, has_booking}
 use Rattle.mr_replica.proofs.DeskBoards.{board_of, board-told, of_row, kept_row, tallies_of, known_mark}
+
+-- one row more is put
+pub put-more : (c : ChangeView) (rows : List PlaceRow) (row : PlaceRow) → with_places_put c (rows ++ row ∷ []) ≡ with_place (with_places_put c rows) row
+put-more c [] row = refl
+put-more c (r ∷ rs) row = put-more (with_place c r) rs row
 
 -- the row of a known write on the board of the desk
 pub known_here : (r : Replica) (w : Write) → IsReplica r → Has w r.known → row_at (board_of r) (id_of w) ≡ known_row r w

@@ -102,8 +102,7 @@ pub(crate) fn taken_rows(
     let mut rows = Vec::new(alloc);
     if let Some(target) = taken_back(undo) {
         if let Some(row) = board.row(target) {
-            let place = place_row_on(alloc, summary, target, row)?;
-            push_taken(&mut rows, place, undo.id)?;
+            push_taken(&mut rows, alloc, summary, target, row, undo.id)?;
         }
     }
     Ok(rows)
@@ -120,14 +119,31 @@ fn taken_back(undo: UndoRow) -> Option<WriteId>
 }
 
 /// Adds the row of a booking that stands, as taken back by this cancel.
-fn push_taken(rows: &mut Vec<PlaceRow>, place: Option<PlaceRow>, by: WriteId) -> Result<(), Refusal>
-    ensures rows { OnOk result (map place_row_of rows.new.items ≡ map place_row_of rows.old.items ++ taken_row by (option_map place_row_of place)) }
+fn push_taken(
+    rows: &mut Vec<PlaceRow>,
+    alloc: Global,
+    summary: &Summary,
+    id: WriteId,
+    row: &Row,
+    by: WriteId,
+) -> Result<(), Refusal>
+    ensures rows { OnOk result (KeptEnds row.now.kept
+        → map place_row_of rows.new.items ≡ map place_row_of rows.old.items ++ taken_row by (board_place summary.now.tallies id row.now)) }
     ensures only { IfErr result (λ e. e ≡ Refusal.OutOfMemory) }
 {
-    if let Some(PlaceRow::Booked(row)) = place {
-        rows.push(PlaceRow::Cancelled(CancelledRow::of_booking(row, by)))?;
+    match &row.kept {
+        Kept::OfBooking {
+            slot,
+            length,
+            title,
+            standing: Standing::Booked,
+        } => {
+            let row = booking_row(alloc, summary, id, &row.room, *slot, *length, title)?;
+            rows.push(PlaceRow::Cancelled(CancelledRow::of_booking(row, by)))?;
+            Ok(())
+        }
+        _ => Ok(()),
     }
-    Ok(())
 }
 
 // ---- cancels
