@@ -148,13 +148,13 @@ pub record AreNumbered (r : Replica) (commits k : ℕ) (ws : List Write) (us : L
   pub numbers : (i : ℕ) (w : Write) → slice_get ws i ≡ Some w → seq_of r w ≡ seq_on commits (k + i)
   pub places : map (λ u. u.place) us ≡ map (place_of r) ws
 
-numbered_first : (r : Replica) (commits k : ℕ) (w : Write) (ws : List Write) (u : UndoRow) (us : List UndoRow) → AreNumbered r commits k (w ∷ ws) (u ∷ us) → (seq_on commits k ≡ seq_of r w) × (u.place ≡ place_of r w)
+pub numbered_first : (r : Replica) (commits k : ℕ) (w : Write) (ws : List Write) (u : UndoRow) (us : List UndoRow) → AreNumbered r commits k (w ∷ ws) (u ∷ us) → (seq_on commits k ≡ seq_of r w) × (u.place ≡ place_of r w)
 numbered_first r commits k w ws u us n =
     let all : u.place ∷ map (λ (x : UndoRow). x.place) us ≡ place_of r w ∷ map (place_of r) ws = n.places in
     let e : k ≡ k + 0 = omega arith in
     (ap (seq_on commits) e ∙ sym (n.numbers zero w refl), (cc))
 
-numbered_rest : (r : Replica) (commits k : ℕ) (w : Write) (ws : List Write) (u : UndoRow) (us : List UndoRow) → AreNumbered r commits k (w ∷ ws) (u ∷ us) → AreNumbered r commits (k + 1) ws us
+pub numbered_rest : (r : Replica) (commits k : ℕ) (w : Write) (ws : List Write) (u : UndoRow) (us : List UndoRow) → AreNumbered r commits k (w ∷ ws) (u ∷ us) → AreNumbered r commits (k + 1) ws us
 numbered_rest r commits k w ws u us n =
     let all : u.place ∷ map (λ (x : UndoRow). x.place) us ≡ place_of r w ∷ map (place_of r) ws = n.places in
     let rest : map (λ (x : UndoRow). x.place) us ≡ map (place_of r) ws = (cc) in
@@ -163,7 +163,7 @@ numbered_rest r commits k w ws u us n =
       places = rest;
     }
 
-unplaced : (r : Replica) (w : Write) (ws : List Write) → [] ≡ map (place_of r) (w ∷ ws) → ⊥
+pub unplaced : (r : Replica) (w : Write) (ws : List Write) → [] ≡ map (place_of r) (w ∷ ws) → ⊥
 unplaced r w ws e = let f : ◌≡◌ {A = List Place} [] (place_of r w ∷ map (place_of r) ws) = e in let never : ⊥ = cc in never
 
 pub numbered_logs : (r : Replica) (commits k : ℕ) (ws : List Write) (us : List UndoRow) → AreNumbered r commits k ws us → log_rows commits k ws us ≡ map (log_row r) ws

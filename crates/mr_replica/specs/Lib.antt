@@ -1,5 +1,5 @@
--- A reader of the contracts trusts Log, Desk, Steps, Candidate, DeskTables, Turning, ChangeLaws, KeptRows, SoundLog, SoundStamps, SoundNotes, OnBoard, Parts and
--- ScopeOf. The others, Outgoing, Moves, Received, KeptWrites, PartCandidate, PartMoves, Changed, Targets, PickedLogs, PickedBookings, PickedUndo, Tails, Named, Touched and LogTests, serve private clauses and
+-- A reader of the contracts trusts Log, Desk, Steps, Candidate, DeskTables, Placing, Turning, ChangeLaws, KeptRows, SoundLog, SoundStamps, SoundNotes, OnBoard, Parts and
+-- ScopeOf. The others, Outgoing, Accepting, Moves, Received, KeptWrites, PartCandidate, PartMoves, Changed, Targets, PickedLogs, PickedBookings, PickedUndo, Tails, Named, Touched and LogTests, serve private clauses and
 -- proofs alone.
 pub mod Log
 pub mod Desk
@@ -7,6 +7,8 @@ pub mod Steps
 pub mod Outgoing
 pub mod Candidate
 pub mod DeskTables
+pub mod Placing
+pub mod Accepting
 pub mod Turning
 pub mod ChangeLaws
 pub mod KeptRows

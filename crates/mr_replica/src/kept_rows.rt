@@ -142,7 +142,7 @@ fn kept_with(write: Write, place: Place, seq: u64) -> KeptRow
 }
 
 /// What a cancel would take back.
-fn target_of(action: &Action) -> Option<WriteId>
+pub(crate) fn target_of(action: &Action) -> Option<WriteId>
     ensures { result ≡ target_of (action_of action.now) }
 {
     match action {

@@ -8,6 +8,7 @@
 
 mod desk;
 mod desk_batch;
+mod desk_cancel;
 mod desk_change;
 mod desk_commit;
 mod desk_position;
@@ -39,6 +40,7 @@ mod part_rooms;
 mod part_rows;
 mod part_submit;
 mod part_truncate;
+mod placing;
 mod room_sets;
 mod rows_in_scope;
 mod scope;
@@ -56,7 +58,7 @@ mod sound_stamps;
 mod targets;
 
 ghost use Rattle.mr_replica.specs.ChangeLaws.{DesksHaveTheTables, RoomsArePut, SubmissionsArePut, TailsArePut, CommitsArePut, TruncationsForget};
-ghost use Rattle.mr_replica.specs.Steps.{SubmissionsAreRequests};
+ghost use Rattle.mr_replica.specs.Steps.{SubmissionsAreRequests, CancelsAreRequests, OtherCancelsAreRefused};
 
 pub use desk::Desk;
 pub use part::Part;
@@ -64,9 +66,12 @@ pub use rows_in_scope::logs_in_scope;
 pub use scope::Scope;
 pub use scope_touched::touched_rooms;
 
-/// A submission in words, where nothing is at fault with these, is the request that they make.
+/// A submission in words, where nothing is at fault with these, is the request that they make; a cancel in words, where the first
+/// are a room's name, is that of the id in the others, or is refused where these are none.
 pub fn submission_law()
-    ensures { SubmissionsAreRequests }
+    ensures submission { SubmissionsAreRequests }
+    ensures cancellation { CancelsAreRequests }
+    ensures others { OtherCancelsAreRefused }
 {}
 
 /// The tables of a desk are those of each replica that it stands for, and what each call puts and takes away makes the tables

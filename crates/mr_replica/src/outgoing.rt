@@ -1,9 +1,11 @@
-ghost use Rattle.std.specs.Prelude.{◌≡◌, ◌≤◌, ◌+◌, ◌++◌, [], ◌∷◌, List, Some, length, OnOk, IfOk, IfErr};
-ghost use Rattle.mr_model.specs.Exchange.{Item as ItemOfBatch, W as WriteLine, C as CommitLine};
+ghost use Rattle.std.specs.Prelude.{◌≡◌, ◌≤◌, ◌+◌, ◌++◌, [], ◌∷◌, List, Some, length, map, OnOk, IfOk, IfErr};
+ghost use Rattle.std.specs.List.{list_all};
+ghost use Rattle.mr_model.specs.Exchange.{Item as ItemOfBatch, W as WriteLine, C as CommitLine, is_item};
 ghost use Rattle.mr_model.specs.Positions.{count_among};
 ghost use Rattle.mr_model.specs.Step.{lacks};
 ghost use Rattle.mr_base.specs.Positions.{counts_of};
-ghost use Rattle.mr_base.specs.Batches.{batch_of};
+ghost use Rattle.mr_base.specs.Answers.{ok_if};
+ghost use Rattle.mr_base.specs.Batches.{item_of, batch_of};
 ghost use Rattle.mr_replica.specs.Outgoing.{Offers, committed_items, lacked_items, kept_items, ending_by};
 
 use mr_base::{
@@ -35,9 +37,10 @@ impl Outgoing {
         }
     }
 
-    /// The batch of these items, which `from` makes.
-    pub(crate) fn into_batch(self, from: ServerId, primary: ServerId) -> Batch
-        ensures { result ≡ batch_of (Some (from, primary)) self.items.items (ending_by self.more) }
+    /// The batch of these items, which `from` makes, if the exchange text can say each of them.
+    pub(crate) fn into_batch(self, from: ServerId, primary: ServerId) -> Result<Batch, Refusal>
+        ensures { result ≡ ok_if (list_all is_item (map item_of self.items.items))
+            (batch_of (Some (from, primary)) self.items.items (ending_by self.more)) Refusal.NeedsVersion2 }
     {
         let ending = if self.more {
             Ending::More

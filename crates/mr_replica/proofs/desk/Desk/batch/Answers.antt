@@ -1,13 +1,17 @@
-use Rattle.std.proofs.Common.{◌≡◌, ◌≤◌, ◌==◌, nat_lt, true, false, Some, Err, ap, ◌∙◌, subst, inl, inr, arith}
+use Rattle.std.proofs.Common.{◌≡◌, ◌≤◌, ◌==◌, nat_lt, true, false, Some, Err, map, ap, ◌∙◌, subst, inl, inr, arith}
 use Rattle.std.proofs.lemmas.Bool.Decides.{nat_tests}
 use Rattle.std.proofs.lemmas.Result.{err_from_is_err_and}
+use Rattle.std.specs.List.{list_all}
+use Rattle.mr_model.specs.Exchange.{is_item}
 use Rattle.mr_model.specs.Positions.{Position}
 use Rattle.mr_model.specs.Replies.{BatchIs}
 use Rattle.mr_tables.proofs.Limits.{few_commits}
-use Rattle.mr_base.specs.Batches.{batch_of}
+use Rattle.mr_base.specs.Answers.{ok_if}
+use Rattle.mr_base.specs.Batches.{item_of, batch_of}
+use Rattle.mr_base.specs.declared.refusals.Refusal.TheVariants.{NeedsVersion2}
 use Rattle.mr_replica.specs.Outgoing.{Offers, kept_items, ending_by}
-use Rattle.mr_replica.specs.Desk.{DeskView}
-use Rattle.mr_replica.proofs.Desks.{summary_in}
+use Rattle.mr_replica.specs.Desk.{DeskView, reply_with}
+use Rattle.mr_replica.specs.Accepting.{summary_in}
 use Rattle.mr_replica.proofs.Batching.{items-kept, batch_made}
 use Rattle.mr_replica.proofs.desk.Desk.batch.Goals as goal
 
@@ -40,5 +44,5 @@ returns-clause-step c = λ a sound stands.
     let kept = c.kept.ensures in
     let items = (λ t. kept_items p c.self.inside.summary (kept t)) ∙ (λ t. kept_items p (summary_in (e t)) (e t).log.kept) ∙ items-kept a p sound low in
     let offers = subst (λ xs. Offers c.args.max_lines xs there more) items c.in_ok-outgoing.ensures.items in
-    let made = batch_made a p c.args.max_lines there more own whole offers in
-    inl (ap BatchIs (c.into_batch.ensures ∙ (λ t. batch_of (Some ((e t).server, (e t).primary)) there (ending_by more))) ∙ made, stands)
+    let made = batch_made a p c.args.max_lines there more sound own whole offers in
+    inl (ap (reply_with BatchIs) (c.into_batch.ensures ∙ (λ t. ok_if (list_all is_item (map item_of there)) (batch_of (Some ((e t).server, (e t).primary)) there (ending_by more)) NeedsVersion2)) ∙ made, stands)

@@ -1,0 +1,39 @@
+use Rattle.std.proofs.Common.{◌≡◌, Ok, Err, true, ap, sym, ◌∙◌, subst, inl, inr, IsTrue}
+use Rattle.std.specs.Prelude.{bytes_eq}
+use Rattle.std.specs.List.{list_any}
+use Rattle.std.proofs.lemmas.Result.{err_from_is_err_and}
+use Rattle.mr_model.specs.Writes.{Id, is_id, is_room_name}
+use Rattle.mr_model.specs.Replica.{Replica, IsReplica, knows_room}
+use Rattle.mr_model.specs.Step.{After, knows_booking}
+use Rattle.mr_tables.specs.Change.{ChangeView}
+use Rattle.mr_tables.specs.Summary.{stamp_next}
+use Rattle.mr_replica.specs.Accepting.{summary_in}
+use Rattle.mr_replica.specs.Desk.{DeskView, desk_of, StandsFor, reply_with}
+use Rattle.mr_replica.specs.Placing.{has_booking}
+use Rattle.mr_replica.specs.Steps.{cancel_request, outcome_at_room}
+use Rattle.mr_replica.proofs.Placings.{booking-known}
+use Rattle.mr_replica.proofs.Submitting.{Withdraws, withdraws}
+use Rattle.mr_replica.proofs.SubmittedRows.{Withdrawn, withdrawn}
+use Rattle.mr_replica.proofs.desk.Desk.cancel.Goals as goal
+
+pub returns-in_err-stamp-clause-step : goal.returns-in_err-stamp-clause-step
+returns-in_err-stamp-clause-step c = λ a sound stands.
+    let p = err_from_is_err_and c.from_residual.result c.from_residual.ensures.1 in
+    let room = c.args.room in
+    let t = c.args.target in
+    let e = c.self.view_is ∙ stands in
+    let rooms = c.deref.ensures.value ∙ ap (λ (d : DeskView). d.rooms) e in
+    let known : knows_room a room ≡ true = sym (λ i. list_any (bytes_eq room) (rooms i)) ∙ sym c.is_known.ensures ∙ c.if-not-is_known.false in
+    let board = c.board.ensures ∙ ap (λ (d : DeskView). d.log.board) e in
+    let booked : knows_booking a room t ≡ true = sym (booking-known a room t sound) ∙ sym (ap (λ b. has_booking b room t) board) ∙ sym c.has_booking.ensures ∙ c.if-not-has_booking.false in
+    let stamp = sym (ap stamp_next (ap summary_in e)) ∙ sym c.next_stamp.ensures ∙ c.in_err-stamp.was in
+    let step = subst (Withdraws a room t) stamp (withdraws a room t sound known booked) in
+    inl (
+      ap (reply_with (λ (done : Id × ChangeView). outcome_at_room room (cancel_request room t a).replica done.0)) (p.1 ∙ ap Err p.2) ∙ ap (λ (s : After). s.reply) (sym step),
+      stands ∙ ap (λ (s : After). desk_of s.replica) (sym step),
+    )
+
+pub returns-in_err-change-clause-step : goal.returns-in_err-change-clause-step
+returns-in_err-change-clause-step c = λ a sound stands.
+    let p = err_from_is_err_and c.from_residual-in_err-change.result c.from_residual-in_err-change.ensures.1 in
+    inr (p.1 ∙ ap Err (p.2 ∙ c.in_err-change.ensures.only), c.in_err-change.ensures.err)
