@@ -1,5 +1,5 @@
--- A reader of the contracts trusts Log, Desk, Steps, Candidate, DeskTables, Turning, ChangeLaws, KeptRows, SoundLog, Parts and
--- ScopeOf. The others, Outgoing, Moves, Received, KeptWrites, PartCandidate, PartMoves, Changed, PickedLogs, PickedBookings, PickedUndo, Tails, Named, Touched and LogTests, serve private clauses and
+-- A reader of the contracts trusts Log, Desk, Steps, Candidate, DeskTables, Turning, ChangeLaws, KeptRows, SoundLog, Parts, PickedUndo and
+-- ScopeOf. The others, Outgoing, Moves, Received, KeptWrites, PartCandidate, PartMoves, Changed, PickedLogs, PickedBookings, Tails, Named, Touched and LogTests, serve private clauses and
 -- proofs alone.
 pub mod Log
 pub mod Desk

@@ -26,6 +26,7 @@ mod outgoing;
 mod part;
 mod part_again;
 mod part_batch;
+mod part_cancel;
 mod part_candidate;
 mod part_changed;
 mod part_commit;
@@ -47,7 +48,6 @@ mod scope_log_test;
 mod scope_logs;
 mod scope_tail;
 mod scope_touched;
-mod scope_undo;
 mod sound_log;
 
 ghost use Rattle.mr_replica.specs.ChangeLaws.{DesksHaveTheTables, RoomsArePut, SubmissionsArePut, TailsArePut, CommitsArePut, TruncationsForget};
