@@ -29,13 +29,13 @@ pub mod Totals
 pub mod SameRows
 pub mod SoundLog
 pub mod Parting
-pub mod RoomBoards
 pub mod PartBoards
 pub mod PartMoves
 pub mod Moves
 pub mod PartCalls
 pub mod PartRows
 pub mod Picking
+pub mod PickedBookings
 pub mod PickedRows
 pub mod Stamping
 pub mod PartScopes
@@ -43,7 +43,6 @@ pub mod KeptWrites
 pub mod JudgingPart
 pub mod LearningPart
 pub mod ReceivingPart
-pub mod UndoRows
 pub mod ChangedRows
 pub mod Tails
 pub mod Named
