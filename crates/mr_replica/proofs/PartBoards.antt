@@ -36,7 +36,7 @@ use Rattle.mr_replica.specs.Placing.{kept_is_booking}
 -- ---- rows put on a board
 
 -- a row that is found was put
-found : (es : List (Id × Row)) (b : Rows) (i : Id) (row : Row) → row_at (put_entries es b) i ≡ Some row → Has (i, row) es ⊎ (row_at b i ≡ Some row)
+pub found : (es : List (Id × Row)) (b : Rows) (i : Id) (row : Row) → row_at (put_entries es b) i ≡ Some row → Has (i, row) es ⊎ (row_at b i ≡ Some row)
 found [] b i row e = inr e
 found (x ∷ xs) b i row e = go (found xs (insert_entry id_cmp b x.0 x.1) i row e)
   where
@@ -124,7 +124,19 @@ entry_there a w e sound known is = go (known_row a w) refl (sym (row-entry w w.a
         let same : (id_of w, row) ≡ e = some_inj (id_of w, row) e t in
         ap (λ (x : Id × Row). row_at (board_of (tables_of a)) x.0) (sym same) ∙ known_at a w sound known ∙ k ∙ ap (λ (x : Id × Row). Some x.1) same
 
--- so each is on the replica's board
+-- each row is on the replica's board
+pub booked_here : (a : Replica) (x : BookingRow) → IsReplica a → Has x (tables_of a).booking → row_at (board_of (tables_of a)) (booking_entry x).0 ≡ Some (booking_entry x).1
+booked_here a x sound h = let (w, k, o) = known_of as_booking a x h in entry_there a w (booking_entry x) sound k (ap entry_of (booked_is x (place_row a w) o))
+
+pub erred_here : (a : Replica) (x : ErrorRow) → IsReplica a → Has x (tables_of a).errorlog → row_at (board_of (tables_of a)) (error_entry x).0 ≡ Some (error_entry x).1
+erred_here a x sound h = let (w, k, o) = known_of as_error a x h in entry_there a w (error_entry x) sound k (ap entry_of (erred_is x (place_row a w) o))
+
+pub cancelled_here : (a : Replica) (x : CancelledRow) → IsReplica a → Has x (tables_of a).cancelled → row_at (board_of (tables_of a)) (cancelled_entry x).0 ≡ Some (cancelled_entry x).1
+cancelled_here a x sound h = let (w, k, o) = known_of as_cancelled a x h in entry_there a w (cancelled_entry x) sound k (ap entry_of (cancelled_is x (place_row a w) o))
+
+void_here : (a : Replica) (x : CancelRow) → IsReplica a → Has x (tables_of a).cancels → is_void x ≡ true → row_at (board_of (tables_of a)) (cancel_entry x).0 ≡ Some (cancel_entry x).1
+void_here a x sound h v = let (w, k, o) = known_of as_cancel a x h in entry_there a w (cancel_entry x) sound k (ap entry_of (cancel_is x (place_row a w) o) ∙ cond-true (is_void x) (Some (cancel_entry x)) None v)
+
 on_board : (a : Replica) (e : Id × Row) → IsReplica a → Has e (entries_of (tables_of a)) → row_at (board_of (tables_of a)) e.0 ≡ Some e.1
 on_board a e sound h = first (has_split e bs (es ++ (cs ++ vs)) h)
   where
@@ -143,29 +155,22 @@ on_board a e sound h = first (has_split e bs (es ++ (cs ++ vs)) h)
     vs : List (Id × Row)
     vs = map cancel_entry (filter is_void t.cancels)
 
+    is : (x : Id × Row) → e ≡ x → row_at (board_of t) x.0 ≡ Some x.1 → row_at (board_of t) e.0 ≡ Some e.1
+    is x s at = subst (λ (y : Id × Row). row_at (board_of t) y.0 ≡ Some y.1) (sym s) at
+
     third : Has e cs ⊎ Has e vs → row_at (board_of t) e.0 ≡ Some e.1
-    third (inl g) =
-        let (row, m, s) = map_has cancelled_entry e t.cancelled g in
-        let (w, k, o) = known_of as_cancelled a row m in
-        entry_there a w e sound k (ap entry_of (cancelled_is row (place_row a w) o) ∙ ap Some (sym s))
+    third (inl g) = let (row, m, s) = map_has cancelled_entry e t.cancelled g in is (cancelled_entry row) s (cancelled_here a row sound m)
     third (inr g) =
         let (row, m, s) = map_has cancel_entry e (filter is_void t.cancels) g in
         let (n, v) = filter_has is_void row t.cancels m in
-        let (w, k, o) = known_of as_cancel a row n in
-        entry_there a w e sound k (ap entry_of (cancel_is row (place_row a w) o) ∙ cond-true (is_void row) (Some (cancel_entry row)) None v ∙ ap Some (sym s))
+        is (cancel_entry row) s (void_here a row sound n v)
 
     second : Has e es ⊎ Has e (cs ++ vs) → row_at (board_of t) e.0 ≡ Some e.1
-    second (inl g) =
-        let (row, m, s) = map_has error_entry e t.errorlog g in
-        let (w, k, o) = known_of as_error a row m in
-        entry_there a w e sound k (ap entry_of (erred_is row (place_row a w) o) ∙ ap Some (sym s))
+    second (inl g) = let (row, m, s) = map_has error_entry e t.errorlog g in is (error_entry row) s (erred_here a row sound m)
     second (inr g) = third (has_split e cs vs g)
 
     first : Has e bs ⊎ Has e (es ++ (cs ++ vs)) → row_at (board_of t) e.0 ≡ Some e.1
-    first (inl g) =
-        let (row, m, s) = map_has booking_entry e t.booking g in
-        let (w, k, o) = known_of as_booking a row m in
-        entry_there a w e sound k (ap entry_of (booked_is row (place_row a w) o) ∙ ap Some (sym s))
+    first (inl g) = let (row, m, s) = map_has booking_entry e t.booking g in is (booking_entry row) s (booked_here a row sound m)
     first (inr g) = second (has_split e es (cs ++ vs) g)
 
 -- ---- tables with some of the rows
