@@ -2,19 +2,18 @@ ghost use Rattle.std.specs.Prelude.{◌≡◌, ℕ, List, Ok, IfOk, IfErr, map, 
 ghost use Rattle.std.specs.List.Sorted.{IsPermutation, IsSortedByKey};
 ghost use Rattle.mr_model.specs.Writes.{Write as WriteOfRoom};
 ghost use Rattle.mr_model.specs.Replica.{Replica, IsReplica};
-ghost use Rattle.mr_base.specs.Actions.{action_of};
 ghost use Rattle.mr_base.specs.Answers.{OrOutOfMemory};
 ghost use Rattle.mr_replay.specs.Places.{place_of};
-ghost use Rattle.mr_replay.specs.Rows.{target_of, undo_row_at};
+ghost use Rattle.mr_replay.specs.Rows.{undo_row_at};
 ghost use Rattle.mr_replica.specs.KeptRows.{run_cmp};
 ghost use Rattle.mr_replica.specs.ScopeOf.{scope_of};
 ghost use Rattle.mr_replica.specs.PickedLogs.{is_log_in, row_of, logged_of, IsWithin, AreWithin, ArePicked, logged_place};
 ghost use Rattle.mr_replica.specs.declared.scope_logs.LoggedWrite.{LoggedWrite as LoggedWriteOfRow};
 
 use crate::Scope;
-use crate::kept_rows::RunPlace;
+use crate::kept_rows::{RunPlace, target_of};
 use crate::scope_log_test::LogTest;
-use mr_base::{Action, Refusal, RoomName, Write, WriteId};
+use mr_base::{Refusal, RoomName, Write};
 use mr_replay::{Place, UndoRow};
 use mr_tables::LogRow;
 use mr_tables::reading::write_of;
@@ -147,16 +146,6 @@ pub(crate) fn undo_of(alloc: Global, logged: &[LoggedWrite]) -> Result<Vec<UndoR
         rows.push(one.undo)?;
     }
     Ok(rows)
-}
-
-/// What a cancel would take back.
-fn target_of(action: &Action) -> Option<WriteId>
-    ensures { result ≡ target_of (action_of action.now) }
-{
-    match action {
-        Action::Books(_) => None,
-        Action::Cancels(target) => Some(*target),
-    }
 }
 
 /// Puts the writes into the order of execution.
