@@ -1,5 +1,5 @@
 -- A reader of the contracts trusts Log, Desk, Steps, Candidate, DeskTables, Turning, ChangeLaws, KeptRows, SoundLog, Parts, PickedUndo and
--- ScopeOf. The others, Outgoing, Moves, Received, KeptWrites, PartCandidate, PartMoves, Changed, PickedLogs, PickedBookings, Tails, Named, Touched and LogTests, serve private clauses and
+-- ScopeOf. The others, Outgoing, Moves, Received, KeptWrites, PartCandidate, PartMoves, Changed, PickedLogs, PickedBookings, PartAccepting, Tails, Named, Touched and LogTests, serve private clauses and
 -- proofs alone.
 pub mod Log
 pub mod Desk
@@ -12,6 +12,7 @@ pub mod ChangeLaws
 pub mod KeptRows
 pub mod SoundLog
 pub mod Parts
+pub mod PartAccepting
 pub mod PartMoves
 pub mod Changed
 pub mod ScopeOf

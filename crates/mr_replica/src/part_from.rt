@@ -146,7 +146,8 @@ fn logged_in(
         → AreSameRooms touched.now (touched_in (scope_of scope.now) tables.now) → IfErr result (λ e. e ≡ Refusal.OutOfMemory) }
 {
     match *scope {
-        Scope::Nothing | Scope::InRoom(_) | Scope::OfTarget(_) => Ok(Vec::new(alloc)),
+        Scope::Nothing | Scope::InRoom(_) => Ok(Vec::new(alloc)),
+        Scope::OfTarget(_) => Ok(Vec::new(alloc)),
         Scope::NextCommits(count) => first_writes(alloc, &tables.log, count),
         Scope::UpTo(_) | Scope::Above(_) | Scope::Items(_) => {
             picked_in(alloc, scope, tables, touched)
