@@ -16,7 +16,7 @@ pub mod DeskRows
 pub mod Writing
 pub mod Changing
 pub mod SubmittedRows
-pub mod ReceivedRows
+pub mod Placings
 pub mod KeptReading
 pub mod Sorting
 pub mod KeptOrder
@@ -34,7 +34,6 @@ pub mod OnBoard
 pub mod SoundStamps
 pub mod SoundNotes
 pub mod Parting
-pub mod RoomBoards
 pub mod Replays
 pub mod Standings
 pub mod BatchBoards
@@ -49,6 +48,7 @@ pub mod Moves
 pub mod PartCalls
 pub mod PartRows
 pub mod Picking
+pub mod PickedBookings
 pub mod PickedRows
 pub mod Stamping
 pub mod PartScopes
@@ -56,7 +56,6 @@ pub mod KeptWrites
 pub mod JudgingPart
 pub mod LearningPart
 pub mod ReceivingPart
-pub mod UndoRows
 pub mod ChangedRows
 pub mod Tails
 pub mod Named

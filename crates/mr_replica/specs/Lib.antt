@@ -1,5 +1,6 @@
--- A reader of the contracts trusts Log, Desk, Steps, Candidate, DeskTables, Placing, Turning, ChangeLaws, KeptRows, SoundLog, SoundStamps, SoundNotes, OnBoard, Parts and
--- ScopeOf. The others, Outgoing, Accepting, Moves, Received, KeptWrites, PartCandidate, PartMoves, Changed, Targets, PickedLogs, PickedBookings, PickedUndo, Tails, Named, Touched and LogTests, serve private clauses and
+-- A reader of the contracts trusts Log, Desk, Steps, Candidate, DeskTables, Placing, Turning, ChangeLaws, KeptRows, SoundLog,
+-- SoundStamps, SoundNotes, OnBoard, Parts, PickedUndo and ScopeOf. The others, Outgoing, Accepting, Moves, Received, KeptWrites, PartCandidate, PartMoves, Changed,
+-- Targets, PickedLogs, PickedBookings, PartAccepting, Tails, Named, Touched and LogTests, serve private clauses and
 -- proofs alone.
 pub mod Log
 pub mod Desk
@@ -17,6 +18,7 @@ pub mod SoundStamps
 pub mod SoundNotes
 pub mod OnBoard
 pub mod Parts
+pub mod PartAccepting
 pub mod PartMoves
 pub mod Changed
 pub mod Targets

@@ -1,4 +1,4 @@
--- Which rows of write_log are in scope, as it is made once for all rows.
+-- Which rows of log are in scope, as it is made once for all rows.
 use Rattle.std.specs.Prelude.{◌≡◌, ℕ, List, false}
 use Rattle.mr_model.specs.Texts.{Text}
 use Rattle.mr_model.specs.Exchange.{Item}

@@ -7,6 +7,7 @@ ghost use Rattle.mr_replica.specs.Parts.{TakesPart};
 
 use crate::Part;
 use crate::desk_commit::after_commits;
+use crate::placing::cancellers;
 use mr_base::Refusal;
 use mr_tables::Change;
 
@@ -25,7 +26,8 @@ impl Part {
         }
         let count = self.kept.len().min(self.undo.len());
         let (writes, rows) = (&self.kept[..count], &self.undo[..count]);
-        let (_, change) = after_commits(self.alloc, &self.summary, writes, rows)?;
+        let bys = cancellers(self.alloc, &self.board, writes)?;
+        let (_, change) = after_commits(self.alloc, &self.summary, writes, rows, &bys)?;
         Ok((count as u64, change))
     }
 }

@@ -1,11 +1,16 @@
-use Rattle.std.proofs.Common.{◌≡◌, ◌≤◌, ◌==◌, ◌-◌, ◌++◌, nat_lt, true, false, drop, Some, Err, ap, ◌∙◌, subst, inl, inr, arith}
+use Rattle.std.proofs.Common.{◌≡◌, ◌≤◌, ◌==◌, ◌-◌, ◌++◌, nat_lt, true, false, drop, map, Some, Err, ap, ◌∙◌, subst, inl, inr, arith}
 use Rattle.std.proofs.lemmas.Bool.Decides.{nat_tests}
 use Rattle.std.proofs.lemmas.Result.{err_from_is_err_and}
 use Rattle.mr_model.specs.Positions.{Position}
 use Rattle.mr_model.specs.Replica.{tentative}
 use Rattle.mr_model.specs.Replies.{BatchIs}
 use Rattle.mr_model.specs.RowsInScope.{kept_commits}
-use Rattle.mr_base.specs.Batches.{batch_of}
+use Rattle.std.specs.List.{list_all}
+use Rattle.mr_model.specs.Exchange.{is_item}
+use Rattle.mr_base.specs.Answers.{ok_if}
+use Rattle.mr_base.specs.Batches.{item_of, batch_of}
+use Rattle.mr_base.specs.declared.refusals.Refusal.TheVariants.{NeedsVersion2}
+use Rattle.mr_replica.specs.Desk.{reply_with}
 use Rattle.mr_tables.specs.declared.summary.Summary.{Summary}
 use Rattle.mr_replica.specs.Outgoing.{Offers, ending_by}
 use Rattle.mr_tables.specs.Summary.{summary_of}
@@ -47,4 +52,4 @@ returns-clause-step c = λ a sound part.
     let items = part_items a p s c.deref.result.now sound low numbers kept in
     let offers = subst (λ xs. Offers c.args.max_lines xs there more) items c.in_ok-outgoing.ensures.items in
     let made = batch_made a p c.args.max_lines there more own whole offers in
-    inl (ap BatchIs (c.into_batch.ensures ∙ (λ t. batch_of (Some ((e t).summary.server, (e t).summary.primary)) there (ending_by more))) ∙ made)
+    inl (ap (reply_with BatchIs) (c.into_batch.ensures ∙ (λ t. ok_if (list_all is_item (map item_of there)) (batch_of (Some ((e t).summary.server, (e t).summary.primary)) there (ending_by more)) NeedsVersion2)) ∙ made)

@@ -5,7 +5,10 @@ use Rattle.mr_model.specs.Replies.{CommittedIs}
 use Rattle.mr_model.specs.Changes.{first_tentative}
 use Rattle.mr_model.specs.Scopes.{NextCommits}
 use Rattle.mr_replica.specs.Parts.{PartView, part_of}
-use Rattle.mr_replica.proofs.Parting.{undo_in_part, take_same, part_commit}
+use Rattle.mr_model.specs.View.{place_of}
+use Rattle.mr_replica.specs.PickedUndo.{undo_with}
+use Rattle.mr_replica.specs.Placing.{cancellers_on}
+use Rattle.mr_replica.proofs.Parting.{take_same, part_commit}
 use Rattle.mr_replica.proofs.part.Part.commit.Goals as goal
 
 pub returns-clause-step : goal.returns-clause-step
@@ -16,14 +19,14 @@ returns-clause-step c = λ a sound part.
     let kept = c.deref.ensures.value ∙ ap (λ (v : PartView). v.kept) e in
     let undo = c.deref-2.ensures.value ∙ ap (λ (v : PartView). v.undo) e in
     let many = ap length kept in
-    let as_many = ap length undo ∙ length-map (first_tentative a k) (undo_in_part a) in
+    let as_many = ap length undo ∙ length-map (first_tentative a k) (undo_with (place_of a)) in
     let len = c.len.ensures ∙ sym c.deref.ensures.len in
     let len-2 = c.len-2.ensures ∙ sym c.deref-2.ensures.len in
     let least = c.min-count.ensures in
     let count : c.min-count.result ≡ length (first_tentative a k) = omega (arith, many, as_many, len, len-2, least) in
-    let count' : c.min-count.result ≡ length (map (undo_in_part a) (first_tentative a k)) = count ∙ sym (length-map (first_tentative a k) (undo_in_part a)) in
+    let count' : c.min-count.result ≡ length (map (undo_with (place_of a)) (first_tentative a k)) = count ∙ sym (length-map (first_tentative a k) (undo_with (place_of a))) in
     let writes = take_same c.min-count.result c.deref.result.now (first_tentative a k) count kept in
-    let rows = take_same c.min-count.result c.deref-2.result.now (map (undo_in_part a) (first_tentative a k)) count' undo in
+    let rows = take_same c.min-count.result c.deref-2.result.now (map (undo_with (place_of a)) (first_tentative a k)) count' undo in
     let p : PartView = record { summary = i.summary; rooms = i.rooms.items; kept = take c.min-count.result c.deref.result.now; marks = i.marks.items; undo = take c.min-count.result c.deref-2.result.now; board = i.board } in
     let is : p ≡ part_of (NextCommits k) a = λ t. record { summary = (e t).summary; rooms = (e t).rooms; kept = writes t; marks = (e t).marks; undo = rows t; board = (e t).board } in
     let server : i.summary.server ≡ a.server = ap (λ (v : PartView). v.summary.server) e in
@@ -31,5 +34,6 @@ returns-clause-step c = λ a sound part.
     let ne = c.ne.ensures in
     let test = c.if-ne.false in
     let own : (a.server == a.primary) ≡ true = grind (arith, nat_tests) in
-    let done = part_commit a k p c.in_ok-change.field-0-0 c.in_ok-change.change sound is own c.in_ok-change.ensures.numbers c.in_ok-change.ensures.change in
+    let bys = c.deref-3.ensures.value ∙ c.in_ok-bys.ensures.cancellers in
+    let done = part_commit a k p c.in_ok-change.field-0-0 c.deref-3.result.now c.in_ok-change.change sound is own c.in_ok-change.ensures.numbers bys c.in_ok-change.ensures.change in
     inl (ap CommittedIs (count ∙ sym (ap length writes)) ∙ done.0, done.1)
