@@ -97,6 +97,15 @@ withdraws a room target sound known booked = subst (λ step. Accepts a (cancel_w
         ∷ (count_of a a.server == greatest_count, model.CountExhausted) ∷ []))
         (after_write a (cancel_with room target (next_stamp a)))
 
+-- which is refused where the booking isn't known
+pub not_booked : (a : Replica) (room : Text) (target : Id) → knows_room a room ≡ true → knows_booking a room target ≡ false → cancel_request room target a ≡ refuse a model.NoSuchRequest
+not_booked a room target known none = λ t.
+    step_unless a
+    (model.first_refusal
+    ((not (known t), model.UnknownRoom) ∷ (not (none t), model.NoSuchRequest) ∷ (clock_of a == greatest_time, model.ClockExhausted)
+    ∷ (count_of a a.server == greatest_count, model.CountExhausted) ∷ []))
+    (after_write a (cancel_with room target (next_stamp a)))
+
 -- ---- the write
 
 -- with that stamp it is within the limits

@@ -174,7 +174,7 @@ fn canceller(board: &Board, id: WriteId) -> Option<WriteId>
     }
 }
 
-fn kept_canceller(kept: &Kept) -> Option<WriteId>
+pub(crate) fn kept_canceller(kept: &Kept) -> Option<WriteId>
     ensures { result ≡ kept_canceller kept.now }
 {
     match kept {

@@ -6,10 +6,10 @@ ghost use Rattle.mr_model.specs.Writes.{Write as WriteOfRoom};
 ghost use Rattle.mr_replay.specs.Bookings.{is_taken, if_taken};
 ghost use Rattle.mr_replay.specs.Rows.{Rows};
 ghost use Rattle.mr_tables.specs.Cells.{place_row_of};
-ghost use Rattle.mr_replica.specs.Placing.{RowEnds, kept_canceller};
+ghost use Rattle.mr_replica.specs.Placing.{RowEnds};
 ghost use Rattle.mr_replica.specs.Targets.{aimed_at, taken_by, same_by, row_if_moved, target_if_moved, moved_targets};
 
-use crate::placing::place_row_on;
+use crate::placing::{kept_canceller, place_row_on};
 use mr_base::{Action, Refusal, Write, WriteId};
 use mr_replay::{Board, Kept, Row, Standing};
 use mr_tables::PlaceRow;
@@ -37,7 +37,7 @@ fn taker(board: &Board, write: &Write) -> Option<WriteId>
     ensures { result ≡ taken_by board.now write.now }
 {
     match row_aimed_at(board, write) {
-        Some(row) => canceller(&row.kept),
+        Some(row) => kept_canceller(&row.kept),
         None => None,
     }
 }
@@ -58,18 +58,6 @@ fn row_aimed_at<'a>(board: &'a Board, write: &Write) -> Option<&'a Row>
             }
             None => None,
         },
-    }
-}
-
-fn canceller(kept: &Kept) -> Option<WriteId>
-    ensures { result ≡ kept_canceller kept.now }
-{
-    match kept {
-        Kept::OfBooking {
-            standing: Standing::CancelledBy(by),
-            ..
-        } => Some(*by),
-        _ => None,
     }
 }
 
@@ -129,7 +117,7 @@ fn row_if_moved(
     ensures row { IfOk result (λ place. RowEnds (if_taken (Some row.now)) → cons_option (option_map place_row_of place) [] ≡ row_if_moved summary.now.tallies was target (Some row.now)) }
     ensures only { IfErr result (λ e. e ≡ Refusal.OutOfMemory) }
 {
-    if !is_taken(&row.kept) || is_same(was, canceller(&row.kept)) {
+    if !is_taken(&row.kept) || is_same(was, kept_canceller(&row.kept)) {
         return Ok(None);
     }
     place_row_on(alloc, summary, target, row)

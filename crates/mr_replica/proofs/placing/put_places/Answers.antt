@@ -8,6 +8,7 @@ use Rattle.mr_replica.proofs.placing.put_places.Goals as goal
 
 pub loop-row-preserved : goal.loop-row-preserved
 loop-row-preserved c =
-    c.in_ok-put_row.ensures.rows ∙ ap (λ x. with_place x (place_row_of c.loop-row.row)) c.loop-row.invariant
-    ∙ sym (put-more _ (map place_row_of c.loop-row.yielded) (place_row_of c.loop-row.row))
-    ∙ ap (with_places_put _) (sym (map-append place_row_of c.loop-row.yielded (c.loop-row.row ∷ [])))
+    let row = c.in-Some.row in
+    c.in_ok-put_row.ensures.rows ∙ ap (λ x. with_place x (place_row_of row)) c.loop-row.invariant
+    ∙ sym (put-more _ (map place_row_of c.loop-row.yielded) (place_row_of row))
+    ∙ ap (with_places_put _) (sym (map-append place_row_of c.loop-row.yielded (row ∷ [])))

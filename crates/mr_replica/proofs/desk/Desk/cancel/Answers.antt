@@ -1,4 +1,4 @@
-use Rattle.std.proofs.Common.{◌≡◌, Ok, Err, true, ap, sym, ◌∙◌, subst, inl, inr, IsTrue}
+use Rattle.std.proofs.Common.{◌≡◌, Ok, Err, true, false, ap, sym, ◌∙◌, subst, inl, inr, IsTrue}
 use Rattle.std.specs.Prelude.{bytes_eq}
 use Rattle.std.specs.List.{list_any}
 use Rattle.std.proofs.lemmas.Result.{err_from_is_err_and}
@@ -12,9 +12,21 @@ use Rattle.mr_replica.specs.Desk.{DeskView, desk_of, StandsFor, reply_with}
 use Rattle.mr_replica.specs.Placing.{has_booking}
 use Rattle.mr_replica.specs.Steps.{cancel_request, outcome_at_room}
 use Rattle.mr_replica.proofs.Placings.{booking-known}
-use Rattle.mr_replica.proofs.Submitting.{Withdraws, withdraws}
+use Rattle.mr_replica.proofs.Submitting.{Withdraws, withdraws, not_booked}
 use Rattle.mr_replica.proofs.SubmittedRows.{Withdrawn, withdrawn}
 use Rattle.mr_replica.proofs.desk.Desk.cancel.Goals as goal
+
+pub returns-then-not-has_booking-clause-step : goal.returns-then-not-has_booking-clause-step
+returns-then-not-has_booking-clause-step c = λ a sound stands.
+    let room = c.args.room in
+    let t = c.args.target in
+    let e = c.self.view_is ∙ stands in
+    let rooms = c.deref.ensures.value ∙ ap (λ (d : DeskView). d.rooms) e in
+    let known : knows_room a room ≡ true = sym (λ i. list_any (bytes_eq room) (rooms i)) ∙ sym c.is_known.ensures ∙ c.if-not-is_known.false in
+    let board = c.board.ensures ∙ ap (λ (d : DeskView). d.log.board) e in
+    let none : knows_booking a room t ≡ false = sym (booking-known a room t sound) ∙ sym (ap (λ b. has_booking b room t) board) ∙ sym c.has_booking.ensures ∙ c.if-not-has_booking.true in
+    let step = not_booked a room t known none in
+    inl (ap (λ (s : After). s.reply) (sym step), stands ∙ ap (λ (s : After). desk_of s.replica) (sym step))
 
 pub returns-in_err-stamp-clause-step : goal.returns-in_err-stamp-clause-step
 returns-in_err-stamp-clause-step c = λ a sound stands.
@@ -37,3 +49,6 @@ pub returns-in_err-change-clause-step : goal.returns-in_err-change-clause-step
 returns-in_err-change-clause-step c = λ a sound stands.
     let p = err_from_is_err_and c.from_residual-in_err-change.result c.from_residual-in_err-change.ensures.1 in
     inr (p.1 ∙ ap Err (p.2 ∙ c.in_err-change.ensures.only), c.in_err-change.ensures.err)
+
+pub returns-clause-step : goal.returns-clause-step
+returns-clause-step c = λ a sound stands. ?
