@@ -40,7 +40,9 @@ impl Desk {
             return Err(Refusal::NoSuchRequest);
         }
         let stamp = self.summary.next_stamp()?;
-        let change = self.accept(Write::cancel(stamp, room, target))?;
+        let write = Write::cancel(stamp, room, target);
+        write.is_within_limits();
+        let change = self.accept(write)?;
         Ok((stamp.id(), change))
     }
 }

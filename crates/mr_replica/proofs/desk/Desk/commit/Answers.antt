@@ -16,6 +16,11 @@ returns-in_err-summary-clause-step c = λ a sound stands.
     let p = err_from_is_err_and c.from_residual-in_err-summary.result c.from_residual-in_err-summary.ensures.1 in
     inr (p.1 ∙ ap Err (p.2 ∙ c.in_err-summary.ensures.only), λ _. c.args.self.now)
 
+pub returns-in_err-bys-clause-step : goal.returns-in_err-bys-clause-step
+returns-in_err-bys-clause-step c = λ a sound stands.
+    let p = err_from_is_err_and c.from_residual.result c.from_residual.ensures.1 in
+    inr (p.1 ∙ ap Err (p.2 ∙ c.in_err-bys.ensures.only), λ _. c.args.self.now)
+
 pub returns-clause-step : goal.returns-clause-step
 returns-clause-step c = λ a sound stands.
     let i = c.self.inside in
