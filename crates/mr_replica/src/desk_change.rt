@@ -32,15 +32,6 @@ impl Desk {
             .dropped
             .saturating_add(1)
             .saturating_add(place as u64);
-        written(
-            self.alloc,
-            summary,
-            rooms,
-            vector,
-            first,
-            writes,
-            rows,
-            bys,
-        )
+        written(self.alloc, summary, rooms, vector, first, writes, rows, bys)
     }
 }

@@ -32,9 +32,7 @@ impl Desk {
         let first = dropped.saturating_add(1);
         let mut errors = self.log.errors_in_front(self.alloc, first, more)?;
         let commits = self.summary.commits;
-        let mut cancels = self
-            .log
-            .cancels_in_front(self.alloc, commits, first, more)?;
+        let mut cancels = self.log.cancels_in_front(self.alloc, commits, first, more)?;
         let mut summary = self.summary;
         summary.dropped = dropped.max(number);
         let kept = self.log.kept();

@@ -52,9 +52,7 @@ pub(crate) fn place_row_on(
             standing: Standing::CancelledBy(by),
         } => {
             let row = booking_row(alloc, summary, id, &row.room, *slot, *length, title)?;
-            Ok(Some(PlaceRow::Cancelled(CancelledRow::of_booking(
-                row, *by,
-            ))))
+            Ok(Some(PlaceRow::Cancelled(CancelledRow::of_booking(row, *by))))
         }
         _ => Ok(None),
     }
