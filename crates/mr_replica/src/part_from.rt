@@ -87,9 +87,7 @@ fn touched_in(alloc: Global, scope: &Scope<'_>, tables: &Tables) -> Result<Vec<R
     ensures only { IfErr result (λ e. e ≡ Refusal.OutOfMemory) }
 {
     match *scope {
-        Scope::Items(items) => {
-            touched_rooms(alloc, &tables.log, items, tables.meta.commits)
-        }
+        Scope::Items(items) => { touched_rooms(alloc, &tables.log, items, tables.meta.commits) }
         Scope::Nothing
         | Scope::InRoom(_)
         | Scope::OfTarget(_)
