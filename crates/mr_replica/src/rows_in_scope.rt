@@ -26,7 +26,8 @@ pub fn logs_in_scope<'a>(
     ensures only { IfErr result (λ e. e ≡ Refusal.OutOfMemory) }
 {
     match *scope {
-        Scope::Nothing | Scope::InRoom(_) | Scope::OfTarget(_) => Ok(Vec::new(alloc)),
+        Scope::Nothing | Scope::InRoom(_) => Ok(Vec::new(alloc)),
+        Scope::OfTarget(_) => Ok(Vec::new(alloc)),
         Scope::NextCommits(count) => first_rows(alloc, rows, count as usize),
         Scope::UpTo(_) | Scope::Above(_) | Scope::Items(_) => {
             picked_rows(alloc, scope, rows, commits)

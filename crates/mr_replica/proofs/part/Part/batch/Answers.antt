@@ -51,5 +51,5 @@ returns-clause-step c = λ a sound part.
     let kept : c.deref.result.now ≡ drop (p.commits - a.dropped) (kept_commits a) ++ tentative a = c.deref.ensures.value ∙ ap (λ (v : PartView). v.kept) e in
     let items = part_items a p s c.deref.result.now sound low numbers kept in
     let offers = subst (λ xs. Offers c.args.max_lines xs there more) items c.in_ok-outgoing.ensures.items in
-    let made = batch_made a p c.args.max_lines there more own whole offers in
+    let made = batch_made a p c.args.max_lines there more sound own whole offers in
     inl (ap (reply_with BatchIs) (c.into_batch.ensures ∙ (λ t. ok_if (list_all is_item (map item_of there)) (batch_of (Some ((e t).summary.server, (e t).summary.primary)) there (ending_by more)) NeedsVersion2)) ∙ made)

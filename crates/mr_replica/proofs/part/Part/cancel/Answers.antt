@@ -1,4 +1,4 @@
-use Rattle.std.proofs.Common.{◌≡◌, Err, IfOk, true, ap, sym, ◌∙◌, subst, inl}
+use Rattle.std.proofs.Common.{◌≡◌, Err, IfOk, true, false, ap, sym, ◌∙◌, subst, inl}
 use Rattle.std.specs.Prelude.{bytes_eq}
 use Rattle.std.specs.List.{list_any}
 use Rattle.std.proofs.lemmas.Result.{err_from_is_err_and}
@@ -12,9 +12,20 @@ use Rattle.mr_replica.specs.Desk.{reply_with}
 use Rattle.mr_replica.specs.Parts.{PartView}
 use Rattle.mr_replica.specs.Placing.{has_booking}
 use Rattle.mr_replica.specs.Steps.{cancel_request, outcome_at_room}
-use Rattle.mr_replica.proofs.Submitting.{Withdraws, withdraws}
+use Rattle.mr_replica.proofs.Submitting.{Withdraws, withdraws, not_booked}
 use Rattle.mr_replica.proofs.Parting.{target_booked, part_cancel}
 use Rattle.mr_replica.proofs.part.Part.cancel.Goals as goal
+
+pub returns-then-not-has_booking-clause-step : goal.returns-then-not-has_booking-clause-step
+returns-then-not-has_booking-clause-step c = λ a sound part.
+    let room = c.args.room in
+    let target = c.args.target in
+    let e = c.self.view_is ∙ part in
+    let rooms = c.deref.ensures.value ∙ ap (λ (v : PartView). v.rooms) e in
+    let known : knows_room a room ≡ true = sym (λ t. list_any (bytes_eq room) (rooms t)) ∙ sym c.is_known.ensures ∙ c.if-not-is_known.false in
+    let none : knows_booking a room target ≡ false = sym (target_booked a room target c.args.self.now sound part) ∙ ap (λ (v : PartView). has_booking v.board room target) (sym c.self.view_is) ∙ sym c.has_booking.ensures ∙ c.if-not-has_booking.true in
+    let step = not_booked a room target known none in
+    inl (ap (λ (s : After). s.reply) (sym step), tt)
 
 pub returns-in_err-stamp-clause-step : goal.returns-in_err-stamp-clause-step
 returns-in_err-stamp-clause-step c = λ a sound part.
