@@ -1,5 +1,5 @@
 -- Which faults come.
-use Rattle.std.proofs.Common.{◌≡◌, sym, subst, ℕ, Option, Some, None, Result, Ok, Err, Bool, true, false}
+use Rattle.std.proofs.Common.{◌≡◌, refl, sym, subst, ℕ, Option, Some, None, Result, Ok, Err, Bool, true, false}
 use Rattle.std.specs.Prelude.{IfErr, IsErrAnd, ok_or, if◌then◌else◌, ◌==◌}
 use Rattle.mr_model.specs.Texts.{Text}
 use Rattle.mr_model.specs.Positions.{read_position}
@@ -8,10 +8,15 @@ use Rattle.mr_http.specs.declared.faults.ReadFault.{ReadFault}
 use Rattle.mr_http.specs.declared.faults.ReadFault.TheVariants as read
 use Rattle.mr_http.specs.declared.faults.WebFault.{WebFault}
 use Rattle.mr_http.specs.declared.faults.WebFault.TheVariants as fault
+use Rattle.mr_base.specs.Refusals.{refusal_of}
+use Rattle.mr_store.specs.declared.keeper.Keeper.{Ghosts}
+use Rattle.mr_service.specs.Asked.{reply_of}
+use Rattle.mr_service.specs.Asking.{LeavesOnRefusal}
 use Rattle.mr_service.specs.declared.replies.Reply as service
 use Rattle.mr_service.specs.declared.replies.Reply.TheVariants as code
 use Rattle.mr_peer.specs.Replies.{Reply, ◌>>=◌, whole_body, front_body, told_position, told_took}
 use Rattle.mr_peer.specs.Seen.{counts_seen}
+use Rattle.mr_peer.specs.Steps.{LeavesTables}
 use Rattle.mr_peer.specs.Taking.{Says, Ends, IsReplyFault, IsOwnFault, IsTakeFault}
 use Rattle.mr_peer.specs.Took.{read_took}
 
@@ -108,3 +113,13 @@ own_takes (Err fault.Read) is = tt
 own_takes (Err fault.BadReply) is = tt
 own_takes (Err (fault.Peer n)) is = tt
 own_takes (Err fault.Write) is = is
+
+-- ---- the tables
+
+-- where the counts are none, this replica refused, or memory is told to have run out
+pub counts_leave : {K : Type 0} (keeper : Ghosts K) (old new : K) (reply : service.Reply)
+    → (keeper.is_clean new → keeper.is_open new → LeavesOnRefusal (reply_of reply) (keeper.tables old) (keeper.tables new))
+    → IfErr (counts_seen reply) (LeavesTables keeper old new)
+counts_leave keeper old new (code.Took writes commits) leaves = tt
+counts_leave keeper old new (code.Refused e) leaves = λ other clean now. leaves clean now (refusal_of e) refl
+counts_leave keeper old new _ leaves = λ other. absurd (other refl)

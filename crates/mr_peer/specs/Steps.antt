@@ -1,11 +1,12 @@
 -- What an exchange does to the replica, whatever is known of the reply.
-use Rattle.std.specs.Prelude.{◌≡◌, ◌⊎◌, ℕ, Option, Result, Ok, Err, OnErr}
+use Rattle.std.specs.Prelude.{◌≡◌, ◌≢◌, ◌⊎◌, ℕ, Option, Result, Ok, Err, OnErr}
 use Rattle.mr_model.specs.Texts.{Text}
 use Rattle.mr_model.specs.Replica.{Replica}
 use Rattle.mr_model.specs.Serving.{Reaches}
 use Rattle.mr_model.specs.Step.{AskPosition, Receive}
 use Rattle.mr_model.specs.Tables.{Tables}
 use Rattle.mr_base.specs.declared.batches.Ending.{Ending}
+use Rattle.mr_store.specs.declared.keeper.Keeper.{Ghosts}
 use Rattle.mr_http.specs.declared.faults.WebFault.{WebFault}
 use Rattle.mr_http.specs.declared.faults.WebFault.TheVariants as fault
 use Rattle.mr_peer.specs.Taking.{Receives, TakesReply}
@@ -19,6 +20,10 @@ ReceivesSome a (Err _) b = b ≡ a
 -- a reply is taken, of which this much is known
 abbrev pub TakesPulled : Option Text → Replica → Result (ℕ × ℕ × Ending) WebFault → Replica → Type 0
 TakesPulled known a result b = OnErr result (b ≡ a) × TakesReply known a result b × ReceivesSome a result b
+
+-- with this fault the tables are as they were, whatever they stand for, unless memory ran out
+abbrev pub LeavesTables : {K : Type 0} → Ghosts K → K → K → WebFault → Type 0
+LeavesTables keeper old new f = f ≢ fault.Memory → keeper.is_clean new → keeper.is_open new → keeper.tables new ≡ keeper.tables old
 
 -- ---- after a crash
 

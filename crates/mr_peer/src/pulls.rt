@@ -8,7 +8,7 @@ ghost use Rattle.mr_peer.specs.Exchanged.{IsExchanged};
 ghost use Rattle.mr_peer.specs.Replies as spec;
 ghost use Rattle.mr_peer.specs.Requests.{is_host};
 ghost use Rattle.mr_peer.specs.Seen.{reply_seen, IsInside, counts_seen};
-ghost use Rattle.mr_peer.specs.Steps.{TakesBody, TakesPulled};
+ghost use Rattle.mr_peer.specs.Steps.{LeavesTables, TakesBody, TakesPulled};
 ghost use Rattle.mr_peer.specs.Taking.{Ends, Counts, Receives, Takes, TellsOf, TellsPulled, IsOwnFault, IsTakeFault};
 
 use crate::asking::reply_to;
@@ -82,6 +82,7 @@ pub fn pull_take<K: Keeper, R: Read>(
         (TakesPulled (R.remaining reader.old)) (TakesBody (K.tables service.old)) }
     ensures tells { TellsPulled (R.remaining reader.old) result }
     ensures fault { IfErr result IsTakeFault }
+    ensures leaves { IfErr result (LeavesTables K.Keeper service.old service.new) }
 {
     let mut buffer = Vec::new(alloc);
     take_reply(alloc, service, reader, &mut buffer)
@@ -98,6 +99,7 @@ fn take_reply<K: Keeper, R: Read>(
         (TakesPulled (R.remaining reader.old)) (TakesBody (K.tables service.old)) }
     ensures tells { TellsPulled (R.remaining reader.old) result }
     ensures fault { IfErr result IsTakeFault }
+    ensures leaves { IfErr result (LeavesTables K.Keeper service.old service.new) }
 {
     let replied = read_reply(reader, buffer)?;
     take_body(alloc, service, buffer.as_slice(), replied)
@@ -114,6 +116,7 @@ fn take_body<K: Keeper>(
         (Takes (spec.front_body (reply_seen bytes.now replied))) (TakesBody (K.tables service.old)) }
     ensures tells { TellsOf (spec.front_body (reply_seen bytes.now replied)) result }
     ensures fault { IfErr result IsTakeFault }
+    ensures leaves { IfErr result (LeavesTables K.Keeper service.old service.new) }
 {
     let body = front_body(bytes, replied)?;
     take_batch(alloc, service, body)
@@ -128,6 +131,7 @@ fn take_batch<K: Keeper>(
         (Receives body.now) (TakesBody (K.tables service.old)) }
     ensures tells { TellsOf (Ok body.now) result }
     ensures fault { IfErr result IsOwnFault }
+    ensures leaves { IfErr result (LeavesTables K.Keeper service.old service.new) }
 {
     let ending = ending_in(alloc, body)?;
     let (writes, commits) = receive(alloc, service, body)?;
@@ -142,6 +146,7 @@ fn receive<K: Keeper>(
     ensures exchanged { IsExchanged K.Keeper service.old service.new result
         (Counts body.now) (TakesBody (K.tables service.old)) }
     ensures fault { IfErr result IsOwnFault }
+    ensures leaves { IfErr result (LeavesTables K.Keeper service.old service.new) }
 {
     let Ok(bytes) = Vec::from_slice(alloc, body) else {
         return Err(WebFault::Memory);

@@ -6,10 +6,10 @@ use Rattle.mr_http.specs.declared.faults.WebFault.TheVariants.{Memory}
 use Rattle.mr_service.specs.Asked.{reply_of}
 use Rattle.mr_peer.specs.Exchanged.{IsExchanged}
 use Rattle.mr_peer.specs.Seen.{counts_seen}
-use Rattle.mr_peer.specs.Steps.{TakesBody}
+use Rattle.mr_peer.specs.Steps.{LeavesTables, TakesBody}
 use Rattle.mr_peer.specs.Taking.{Counts, IsOwnFault}
 use Rattle.mr_peer.proofs.Exchanges.{of_served, untouched}
-use Rattle.mr_peer.proofs.FaultLemmas.{counts_faults}
+use Rattle.mr_peer.proofs.FaultLemmas.{counts_faults, counts_leave}
 use Rattle.mr_peer.proofs.TakeLemmas.{counts, counts_told}
 use Rattle.mr_peer.proofs.pulls.receive.Goals as goal
 
@@ -35,3 +35,10 @@ returns-clause-exchanged g c =
 pub returns-clause-fault : goal.returns-clause-fault
 returns-clause-fault g c =
     subst (λ (r : Result (ℕ × ℕ) WebFault). IfErr r IsOwnFault) (sym c.counts_in.ensures) (counts_faults c.reply_to-reply.result)
+
+pub returns-clause-leaves : goal.returns-clause-leaves
+returns-clause-leaves g c =
+    let old = c.args.service.now in
+    let new = c.reply_to-reply.new.service in
+    subst (λ (r : Result (ℕ × ℕ) WebFault). IfErr r (LeavesTables g.K.Keeper old new)) (sym c.counts_in.ensures)
+    (counts_leave g.K.Keeper old new c.reply_to-reply.result c.reply_to-reply.ensures.refused)

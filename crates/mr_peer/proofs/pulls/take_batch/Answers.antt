@@ -1,9 +1,9 @@
-use Rattle.std.proofs.Common.{◌∙◌, ℕ, sym, ap, subst, Result, Ok, Err}
+use Rattle.std.proofs.Common.{◌∙◌, ℕ, refl, sym, ap, subst, Result, Ok, Err}
 use Rattle.std.proofs.lemmas.Result.{err_from_is_err_and}
 use Rattle.mr_base.specs.declared.batches.Ending.{Ending}
 use Rattle.mr_http.specs.declared.faults.WebFault.{WebFault}
 use Rattle.mr_peer.specs.Exchanged.{IsExchanged}
-use Rattle.mr_peer.specs.Steps.{TakesBody}
+use Rattle.mr_peer.specs.Steps.{LeavesTables, TakesBody}
 use Rattle.mr_peer.specs.Taking.{Counts, Receives, TellsOf, IsOwnFault}
 use Rattle.mr_peer.proofs.Exchanges.{onward, untouched}
 use Rattle.mr_peer.proofs.FaultLemmas.{ends_faults, handed_on}
@@ -68,3 +68,13 @@ returns-in_err-writes-clause-tells g c =
 
 pub returns-clause-tells : goal.returns-clause-tells
 returns-clause-tells g c = c.in_ok-ending.ensures
+
+pub returns-in_err-ending-clause-leaves : goal.returns-in_err-ending-clause-leaves
+returns-in_err-ending-clause-leaves g c =
+    let old = c.args.service.now in
+    handed_on (LeavesTables g.K.Keeper old old) c.in_err-ending.field-0.0 c.from_residual.result (λ other clean now. refl) c.from_residual.ensures.1
+
+pub returns-in_err-writes-clause-leaves : goal.returns-in_err-writes-clause-leaves
+returns-in_err-writes-clause-leaves g c =
+    handed_on (LeavesTables g.K.Keeper c.args.service.now c.receive.new.service) c.in_err-writes.field-0.0 c.from_residual-in_err-writes.result c.in_err-writes.ensures.leaves
+    c.from_residual-in_err-writes.ensures.1

@@ -7,7 +7,7 @@ use Rattle.mr_http.specs.declared.faults.WebFault.{WebFault}
 use Rattle.mr_peer.specs.Exchanged.{IsExchanged}
 use Rattle.mr_peer.specs.Replies.{front_body}
 use Rattle.mr_peer.specs.Seen.{reply_seen}
-use Rattle.mr_peer.specs.Steps.{TakesBody}
+use Rattle.mr_peer.specs.Steps.{LeavesTables, TakesBody}
 use Rattle.mr_peer.specs.Taking.{Takes, TellsOf, IsReplyFault, IsTakeFault}
 use Rattle.mr_peer.proofs.Exchanges.{untouched}
 use Rattle.mr_peer.proofs.FaultLemmas.{front_faults, handed_on, own_takes, reply_takes}
@@ -52,3 +52,8 @@ pub returns-clause-tells : goal.returns-clause-tells
 returns-clause-tells g c =
     let P : Result Text WebFault → Type 0 = λ told. TellsOf told c.take_batch.result in
     subst P c.in_ok-body.ensures c.take_batch.ensures.tells
+
+pub returns-in_err-body-clause-leaves : goal.returns-in_err-body-clause-leaves
+returns-in_err-body-clause-leaves g c =
+    let old = c.args.service.now in
+    handed_on (LeavesTables g.K.Keeper old old) c.in_err-body.field-0.0 c.from_residual.result (λ other clean now. refl) c.from_residual.ensures.1

@@ -7,7 +7,7 @@ use Rattle.mr_http.specs.Inputs.{OfInput}
 use Rattle.mr_peer.specs.Exchanged.{IsExchanged}
 use Rattle.mr_peer.specs.Replies.{IsReplied, front_body}
 use Rattle.mr_peer.specs.Seen.{reply_seen}
-use Rattle.mr_peer.specs.Steps.{TakesBody, TakesPulled}
+use Rattle.mr_peer.specs.Steps.{LeavesTables, TakesBody, TakesPulled}
 use Rattle.mr_peer.specs.Taking.{Takes, TellsPulled, IsTakeFault}
 use Rattle.mr_peer.proofs.Exchanges.{onward, untouched}
 use Rattle.mr_peer.proofs.FaultLemmas.{front_faults, handed_on, read_faults, reply_takes}
@@ -58,3 +58,8 @@ returns-clause-tells g c =
     let P : List ℕ → Type 0 = λ bytes. OfInput known (λ input. IsReplied input (reply_seen bytes replied)) in
     tells_pulled known (reply_seen c.as_slice.result.now replied) c.take_body.result
     (subst P (sym c.as_slice.ensures.value) c.in_ok-replied.ensures.replied) c.take_body.ensures.tells
+
+pub returns-in_err-replied-clause-leaves : goal.returns-in_err-replied-clause-leaves
+returns-in_err-replied-clause-leaves g c =
+    let old = c.args.service.now in
+    handed_on (LeavesTables g.K.Keeper old old) (web_fault c.in_err-replied.field-0.0) c.from_residual.result (λ other clean now. refl) c.from_residual.ensures.1
