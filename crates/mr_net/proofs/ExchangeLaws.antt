@@ -6,6 +6,7 @@ use Rattle.std.proofs.KnownBytes.{Appends-trans}
 use Rattle.mr_model.specs.Texts.{Text, line}
 use Rattle.mr_model.specs.Refusals.{Refusal, refusal_text}
 use Rattle.mr_base.specs.Refusals.{refusal_of}
+use Rattle.mr_store.specs.declared.keeper.Keeper.{Ghosts}
 use Rattle.mr_http.specs.declared.faults.WebFault.{WebFault}
 use Rattle.mr_http.specs.declared.faults.WebFault.TheVariants as fault
 use Rattle.mr_say.specs.Told.{no_memory_line}
@@ -15,7 +16,10 @@ use Rattle.mr_net.specs.declared.ways.Round.{Round}
 use Rattle.mr_net.specs.declared.ways.Taken.{Taken}
 use Rattle.mr_net.specs.Ways.{IsWay}
 use Rattle.mr_net.specs.Printed.{way_line, bad_address_line, Stops, IsFaultLine, IsStopOf, TellsWay, TellsBoth, IsStopText, EndsExchange, TellsBadAddress}
+use Rattle.mr_net.specs.Bridged.{TellsBridge}
+use Rattle.mr_net.specs.Rounds.{RunsBridged}
 use Rattle.mr_net.proofs.LineLaws.{stops_with, stops_so, never_stops}
+use Rattle.mr_net.proofs.WayLaws.{way_seen}
 
 -- ---- ways
 
@@ -31,6 +35,21 @@ pub both_ways : {P : Type 0} (runs : Way → P → Result Round WebFault → P �
     → first ≡ 0 → TellsWay runs Pull p m held between first → TellsWay runs Push m q between holds second → TellsBoth runs p q held holds second
 both_ways {P} runs p m q held between holds first second done pulls pushes =
     inl (m, between, subst (λ n. TellsWay runs Pull p m held between n) done pulls, pushes)
+
+-- ---- with one peer, seen as another
+
+tells_seen : {P Q : Type 0} (see : P → Q) (runs : Way → P → Result Round WebFault → P → Type 0) (shows : Way → Q → Result Round WebFault → Q → Type 0)
+    → ((way : Way) (p : P) (r : Result Round WebFault) (q : P) → runs way p r q → shows way (see p) r (see q))
+    → (way : Way) (p q : P) (held holds : Option Text) (status : ℕ) → TellsWay runs way p q held holds status → TellsWay shows way (see p) (see q) held holds status
+tells_seen see runs shows so way p q held holds status (inl told) = inl (told.0, told.1, way_seen see (runs way) (shows way) (so way) p q (Ok told.1) told.2, told.3)
+tells_seen see runs shows so way p q held holds status (inr stops) = inr (stops.0, way_seen see (runs way) (shows way) (so way) p q stops.0 stops.1, stops.2)
+
+pub both_seen : {P Q : Type 0} (see : P → Q) (runs : Way → P → Result Round WebFault → P → Type 0) (shows : Way → Q → Result Round WebFault → Q → Type 0)
+    → ((way : Way) (p : P) (r : Result Round WebFault) (q : P) → runs way p r q → shows way (see p) r (see q))
+    → (p q : P) (held holds : Option Text) (status : ℕ) → TellsBoth runs p q held holds status → TellsBoth shows (see p) (see q) held holds status
+both_seen see runs shows so p q held holds status (inl both) =
+    inl (see both.0, both.1, tells_seen see runs shows so Pull p both.0 held both.1 0 both.2, tells_seen see runs shows so Push both.0 q both.1 holds status both.3)
+both_seen see runs shows so p q held holds status (inr one) = inr (one.0, tells_seen see runs shows so Pull p q held holds status one.1)
 
 -- ---- whole exchanges
 
@@ -84,6 +103,12 @@ exchanged runs p q held holds status (inl both) =
     let first = told_line runs Pull p both.0 held both.1 both.2 in
     second_ends runs both.0 q first.0 held both.1 holds status first.1 both.3
 exchanged runs p q held holds status (inr one) = first_ends runs p q held holds status one.0 one.1
+
+-- both ways between two databases, or nothing
+pub bridged : {C S : Type 0} (client : Ghosts C) (server : Ghosts S) (old new : C × S) (held holds : Option Text) (status : ℕ)
+    → TellsBridge client server old new held holds status → EndsExchange held holds status
+bridged client server old new held holds status (inl both) = exchanged (RunsBridged client server) old new held holds status both
+bridged client server old new held holds status (inr unmet) = inr (inl (stops_so (λ text. text ≡ no_memory_line) IsStopText held holds status (λ text is. inr (inr is)) unmet.1))
 
 -- a database is refused
 pub refused_exchange : (e : Refusal) (held holds : Option Text) (status : ℕ) → (status ≡ 1) ⊎ (status ≡ 3)

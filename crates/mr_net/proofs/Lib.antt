@@ -1,3 +1,4 @@
+pub mod BridgeLaws
 pub mod ExchangeLaws
 pub mod LineLaws
 pub mod ServingLaws

@@ -1,73 +1,102 @@
 -- How serving ends.
-use Rattle.std.proofs.Common.{◌≡◌, ◌≢◌, refl, sym, ◌∙◌, ap, subst, ℕ, ◌+◌, ◌<◌, List, [], ◌∷◌, ◌++◌, length, ◌⊎◌, inl, inr, append_assoc, append-nil}
+use Rattle.std.proofs.Common.{◌≡◌, ◌≢◌, refl, sym, ◌∙◌, ap, subst, ℕ, ◌+◌, ◌<◌, ◌≤◌, List, [], ◌∷◌, ◌++◌, length, ◌⊎◌, inl, inr, arith, append_assoc, append-nil}
 use Rattle.std.specs.Prelude.{Option}
 use Rattle.std.specs.Io.KnownBytes.{Appends}
 use Rattle.std.proofs.KnownBytes.{Appends-nil, Appends-trans}
 use Rattle.std.proofs.lemmas.List.{length_push}
 use Rattle.mr_model.specs.Texts.{Text, line}
 use Rattle.mr_model.specs.Refusals.{Refusal, refusal_text}
+use Rattle.mr_store.specs.declared.keeper.Keeper.{Ghosts}
 use Rattle.mr_say.specs.Told.{no_memory_line}
-use Rattle.mr_net.specs.Printed.{Stops, connection_text, connection_lines, serving_line, TellsConnections, EndsServing}
+use Rattle.mr_net.specs.Connections.{IsConnection, AreConnections, ServesAt, TellsServed}
+use Rattle.mr_net.specs.Printed.{Stops, connection_text, connection_lines, serving_line, EndsServing}
 
--- lines for this many connections are printed
-pub record SoMany (count : ℕ) (held holds : Option Text) : Type 0 where
-  pub connections : List (Option ℕ)
-  pub counted : length connections ≡ count
-  pub told : Appends held holds (connection_lines connections)
+-- one more connection follows on those before it
+leads_on : {K : Type 0} (keeper : Ghosts K) (p m q : K) (served : List (Option ℕ)) (last : Option ℕ)
+    → AreConnections keeper p served m → IsConnection keeper m last q → AreConnections keeper p (served ++ last ∷ []) q
+leads_on keeper p m q [] last same next = (q, subst (λ x. IsConnection keeper x last q) (sym same) next, refl)
+leads_on keeper p m q (first ∷ served) last led next = (led.0, led.1, leads_on keeper led.0 m q served last led.2 next)
 
-pub none_yet : (held : Option Text) → SoMany 0 held held
-none_yet held = record { connections = []; counted = refl; told = Appends-nil held }
+-- this many connections were served from the one keeper to the other, and a line is printed for each
+pub record SoMany {K : Type 0} (keeper : Ghosts K) (p q : K) (count : ℕ) (held holds : Option Text) : Type 0 where
+  pub served : List (Option ℕ)
+  pub led : AreConnections keeper p served q
+  pub counted : length served ≡ count
+  pub told : Appends held holds (connection_lines served)
+
+pub none_yet : {K : Type 0} (keeper : Ghosts K) (p : K) (held : Option Text) → SoMany keeper p p 0 held held
+none_yet keeper p held = record { served = []; led = refl; counted = refl; told = Appends-nil held }
 
 lines_more : (connections : List (Option ℕ)) (last : Option ℕ) → connection_lines (connections ++ last ∷ []) ≡ connection_lines connections ++ line (connection_text last)
 lines_more [] last = append-nil (line (connection_text last))
 lines_more (c ∷ cs) last = ap (λ t. line (connection_text c) ++ t) (lines_more cs last) ∙ sym (append_assoc (line (connection_text c)) (connection_lines cs) (line (connection_text last)))
 
-pub one_more : (count : ℕ) (served : Option ℕ) (held between holds : Option Text) → SoMany count held between → Appends between holds (line (connection_text served))
-    → SoMany (count + 1) held holds
-one_more count served held between holds before told = record {
-  connections = before.connections ++ served ∷ [];
-  counted = length_push before.connections served ∙ ap (λ n. n + 1) before.counted;
-  told = subst (λ t. Appends held holds t) (sym (lines_more before.connections served))
-      (Appends-trans held between holds _ _ before.told told);
+pub one_more : {K : Type 0} (keeper : Ghosts K) (p m q : K) (count : ℕ) (last : Option ℕ) (held between holds : Option Text) → SoMany keeper p m count held between
+    → IsConnection keeper m last q → Appends between holds (line (connection_text last)) → SoMany keeper p q (count + 1) held holds
+one_more keeper p m q count last held between holds before next told = record {
+  served = before.served ++ last ∷ [];
+  led = leads_on keeper p m q before.served last before.led next;
+  counted = length_push before.served last ∙ ap (λ n. n + 1) before.counted;
+  told = subst (λ t. Appends held holds t) (sym (lines_more before.served last)) (Appends-trans held between holds _ _ before.told told);
 }
 
-pub all_served : (count done : ℕ) (held holds : Option Text) → SoMany done held holds → done ≡ count → TellsConnections count held holds 0
-all_served count done held holds before all = inl (refl, before.connections, before.counted ∙ all, before.told)
+pub all_served : {K : Type 0} (keeper : Ghosts K) (p q : K) (count done : ℕ) (held holds : Option Text) → SoMany keeper p q done held holds → done ≡ count
+    → TellsServed keeper p q count held holds 0
+all_served keeper p q count done held holds before all = inl (refl, before.served, before.led, before.counted ∙ all, before.told)
 
 -- memory is wanting for a line, or the writer fails
-pub stopped : (count done : ℕ) (served : Option ℕ) (held between holds : Option Text) (status : ℕ) → SoMany done held between → done < count → status ≢ 0
-    → ((status ≡ 0) × Appends between holds (line (connection_text served))) ⊎ Stops (λ text. text ≡ no_memory_line) between holds status
-    → TellsConnections count held holds status
-stopped count done served held between holds status before room undone (inl told) = absurd (undone told.0)
-stopped count done served held between holds status before room undone (inr (inl told)) =
-    inr (inl (
-      told.0,
-      connection_lines before.connections ++ told.1,
-      (before.connections, subst (λ n. n < count) (sym before.counted) room, ap (λ t. connection_lines before.connections ++ t) told.2),
-      Appends-trans held between holds (connection_lines before.connections) told.1 before.told told.3,
-    ))
-stopped count done served held between holds status before room undone (inr (inr three)) = inr (inr three)
+pub stopped : {K : Type 0} (keeper : Ghosts K) (p m q : K) (count done : ℕ) (last : Option ℕ) (held between holds : Option Text) (status : ℕ) → SoMany keeper p m done held between
+    → done < count → IsConnection keeper m last q → status ≢ 0 → ((status ≡ 0) × Appends between holds (line (connection_text last))) ⊎ Stops (λ text. text ≡ no_memory_line) between holds status
+    → TellsServed keeper p q count held holds status
+stopped keeper p m q count done last held between holds status before room next undone (inl told) = absurd (undone told.0)
+stopped {K} keeper p m q count done last held between holds status before room next undone (inr stops) =
+    inr (before.served, last, leads_on keeper p m q before.served last before.led next, within, behind stops)
+  where
+    within : length (before.served ++ last ∷ []) ≤ count
+    within = let pushed = length_push before.served last in let counted = before.counted in omega (arith, pushed, counted, room)
+
+    behind : Stops (λ text. text ≡ no_memory_line) between holds status → Stops (λ text. text ≡ connection_lines before.served ++ no_memory_line) held holds status
+    behind (inl told) =
+        inl (told.0, connection_lines before.served ++ told.1, ap (λ t. connection_lines before.served ++ t) told.2, Appends-trans held between holds (connection_lines before.served) told.1 before.told told.3)
+    behind (inr three) = inr three
 
 -- behind the line of the port
-pub served_behind : (port count : ℕ) (held between holds : Option Text) (status : ℕ) → Appends held between (serving_line port) → TellsConnections count between holds status
-    → EndsServing port count held holds status
-served_behind port count held between holds status first (inl told) =
-    inl (told.0, told.1, told.2, Appends-trans held between holds (serving_line port) (connection_lines told.1) first told.3)
-served_behind port count held between holds status first (inr (inl told)) =
-    inr (inr (inl (
-      told.0,
-      serving_line port ++ told.1,
-      (told.2.0, told.2.1, ap (λ t. serving_line port ++ t) told.2.2),
-      Appends-trans held between holds (serving_line port) told.1 first told.3,
-    )))
-served_behind port count held between holds status first (inr (inr three)) = inr (inr (inr three))
+pub served_behind : {K : Type 0} (keeper : Ghosts K) (p q : K) (port count : ℕ) (held between holds : Option Text) (status : ℕ) → Appends held between (serving_line port)
+    → TellsServed keeper p q count between holds status → ServesAt keeper p q port count held holds status
+served_behind keeper p q port count held between holds status first told = inl (between, first, told)
 
 -- the line of the port isn't told
-pub untold : (port count : ℕ) (held holds : Option Text) (status : ℕ) → status ≢ 0
-    → ((status ≡ 0) × Appends held holds (serving_line port)) ⊎ Stops (λ text. text ≡ no_memory_line) held holds status → EndsServing port count held holds status
-untold port count held holds status undone (inl told) = absurd (undone told.0)
-untold port count held holds status undone (inr (inl told)) = inr (inl (told.0, inr (subst (λ t. Appends held holds t) told.2 told.3)))
-untold port count held holds status undone (inr (inr three)) = inr (inr (inr three))
+pub untold : {K : Type 0} (keeper : Ghosts K) (p q : K) (port count : ℕ) (held holds : Option Text) (status : ℕ) → q ≡ p → status ≢ 0
+    → ((status ≡ 0) × Appends held holds (serving_line port)) ⊎ Stops (λ text. text ≡ no_memory_line) held holds status → ServesAt keeper p q port count held holds status
+untold keeper p q port count held holds status same undone (inl told) = absurd (undone told.0)
+untold keeper p q port count held holds status same undone (inr stops) = inr (same, stops)
+
+-- ---- what is printed of it
+
+-- the lines behind that of the port
+pub ends_behind : {K : Type 0} (keeper : Ghosts K) (p q : K) (port count : ℕ) (held between holds : Option Text) (status : ℕ) → Appends held between (serving_line port)
+    → TellsServed keeper p q count between holds status → EndsServing port count held holds status
+ends_behind keeper p q port count held between holds status first (inl told) =
+    inl (told.0, told.1, told.3, Appends-trans held between holds (serving_line port) (connection_lines told.1) first told.4)
+ends_behind keeper p q port count held between holds status first (inr stops) = inr (inr (behind stops.4))
+  where
+    fewer : length stops.0 < count
+    fewer = let pushed = length_push stops.0 stops.1 in let within = stops.3 in omega (arith, pushed, within)
+
+    behind : Stops (λ text. text ≡ connection_lines stops.0 ++ no_memory_line) between holds status
+        → Stops (λ text. (connections : List (Option ℕ)) × (length connections < count) × (text ≡ serving_line port ++ (connection_lines connections ++ no_memory_line))) held holds status
+    behind (inl told) =
+        inl (told.0, serving_line port ++ told.1, (stops.0, fewer, ap (λ t. serving_line port ++ t) told.2), Appends-trans held between holds (serving_line port) told.1 first told.3)
+    behind (inr three) = inr three
+
+pub ends_serving : {K : Type 0} (keeper : Ghosts K) (p q : K) (port count : ℕ) (held holds : Option Text) (status : ℕ) → ServesAt keeper p q port count held holds status
+    → EndsServing port count held holds status
+ends_serving keeper p q port count held holds status (inl told) = ends_behind keeper p q port count held told.0 holds status told.1 told.2
+ends_serving keeper p q port count held holds status (inr unasked) = only unasked.1
+  where
+    only : Stops (λ text. text ≡ no_memory_line) held holds status → EndsServing port count held holds status
+    only (inl told) = inr (inl (told.0, inr (subst (λ t. Appends held holds t) told.2 told.3)))
+    only (inr three) = inr (inr (inr three))
 
 -- the database is refused
 pub refused_serving : (port count : ℕ) (e : Refusal) (held holds : Option Text) (status : ℕ) → (status ≡ 1) ⊎ (status ≡ 3)

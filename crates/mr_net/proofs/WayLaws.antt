@@ -70,3 +70,17 @@ pub round_fails : {P : Type 0} (runs : P → Result Round WebFault → P → Typ
     → SoFar runs p count taken m → count < greatest_rounds → runs m (Err f) q → IsWay runs p (Err f) q
 round_fails runs p m q count taken f before room step =
     (before.rounds, m, before.led, (subst (λ n. n < greatest_rounds) (sym before.counted) room, before.asked), step)
+
+-- ---- ways of one peer, seen as another
+
+leads_seen : {P Q : Type 0} (see : P → Q) (runs : P → Result Round WebFault → P → Type 0) (shows : Q → Result Round WebFault → Q → Type 0)
+    → ((p : P) (r : Result Round WebFault) (q : P) → runs p r q → shows (see p) r (see q))
+    → (p q : P) (rounds : List Round) → Leads runs p rounds q → Leads shows (see p) rounds (see q)
+leads_seen see runs shows so p q [] same = ap see same
+leads_seen see runs shows so p q (r ∷ rounds) led = (see led.0, so p (Ok r) led.0 led.1, leads_seen see runs shows so led.0 q rounds led.2)
+
+pub way_seen : {P Q : Type 0} (see : P → Q) (runs : P → Result Round WebFault → P → Type 0) (shows : Q → Result Round WebFault → Q → Type 0)
+    → ((p : P) (r : Result Round WebFault) (q : P) → runs p r q → shows (see p) r (see q))
+    → (p q : P) (result : Result Taken WebFault) → IsWay runs p result q → IsWay shows (see p) result (see q)
+way_seen see runs shows so p q (Ok taken) way = (way.0, leads_seen see runs shows so p q way.0 way.1, way.2, way.3)
+way_seen see runs shows so p q (Err fault) way = (way.0, see way.1, leads_seen see runs shows so p way.1 way.0 way.2, way.3, so way.1 (Err fault) q way.4)

@@ -1,19 +1,31 @@
 //! The exchange of two databases of this machine, over one listener on loopback.
 
-ghost use Rattle.mr_net.specs.Printed.{EndsExchange};
+ghost use Rattle.std.specs.Prelude.{◌≡◌, IsTrue, Option};
+ghost use Rattle.mr_model.specs.Texts.{Text};
+ghost use Rattle.mr_model.specs.Serving.{Reaches};
+ghost use Rattle.mr_model.specs.Step.{AskPosition};
+ghost use Rattle.mr_say.specs.Told.{no_memory_line};
+ghost use Rattle.mr_peer.specs.Asking.{AsksPull, AsksPush, lacking};
+ghost use Rattle.mr_peer.specs.Exchanged.{IsExchanged};
+ghost use Rattle.mr_peer.specs.Requests.{is_host};
+ghost use Rattle.mr_peer.specs.Steps.{TakesBody, TakesPulled};
+ghost use Rattle.mr_net.specs.Bridged.{TellsBridge};
+ghost use Rattle.mr_net.specs.Printed.{EndsExchange, Stops};
+ghost use Rattle.mr_net.specs.Rounds.{ComesTo, IsServer, RunsBridged};
+ghost use Rattle.mr_net.specs.declared.ways.Way.TheVariants.{Pull, Push};
 
 use crate::connecting::connect;
+use crate::connections::serve;
 use crate::databases::{close, open};
 use crate::hosts::Host;
 use crate::printing::{exchange_with, say_no_network};
 use crate::ways::{Peer, Round, Way};
-use mr_base::Position;
+use mr_base::{Ending, Position};
 use mr_http::WebFault;
 use mr_peer::{position_ask, position_take, pull_ask, pull_take, push_ask, push_take};
 use mr_say::{NO_MEMORY, REFUSED, say, say_refusal};
 use mr_service::Service;
 use mr_store::Keeper;
-use mr_web::serve_one;
 use std::alloc::Global;
 use std::io::Write;
 use std::net::{Ipv4Addr, TcpListener, TcpStream};
@@ -30,50 +42,60 @@ const STRANGERS: u32 = 1_000;
 /// and a head, under 18,000 bytes in all, and loopback takes it at once: by default the end of a connection that is not read takes
 /// 64 KiB or more, on Linux and on macOS.
 #[derive(Drop)]
-struct Neighbour<'c, 's, C: Keeper, S: Keeper> {
-    rt: &'c HostRuntime,
+struct Neighbour<'a, C: Keeper, S: Keeper> {
+    rt: &'a HostRuntime,
     alloc: Global,
-    client: &'c mut Service<C>,
-    server: &'s mut Service<S>,
+    client: Service<C>,
+    server: Service<S>,
     listener: TcpListener,
     port: u16,
     host: Host,
 }
 
-impl<C: Keeper, S: Keeper> Neighbour<'_, '_, C, S> {
+impl<C: Keeper, S: Keeper> Neighbour<'_, C, S> {
     fn connect(&self) -> Result<TcpStream, WebFault> {
         connect(self.rt, THIS_MACHINE, self.port)
     }
 
     /// Serves what this client asked. Where serving fails, what the client then reads tells so.
-    fn serve(&mut self, client: &TcpStream) -> Result<(), WebFault> {
+    fn serve(&mut self, client: &TcpStream) -> Result<(), WebFault>
+        ensures client { self.new.client ≡ self.old.client }
+        ensures server { IsServer S.Keeper Pull self.old.server self.new.server }
+    {
         let Some(stream) = other_end(&self.listener, client) else {
             return Err(WebFault::Read);
         };
-        let _ = serve_one(self.alloc, &mut &stream, &mut &stream, self.server);
+        let _ = serve(self.alloc, &mut self.server, &stream);
         Ok(())
     }
 
-    fn position(&mut self) -> Result<Position, WebFault> {
+    /// What the server has.
+    fn position(&mut self) -> Result<Position, WebFault>
+        ensures client { self.new.client ≡ self.old.client }
+        ensures server { IsServer S.Keeper Pull self.old.server self.new.server }
+    {
         let stream = self.connect()?;
         position_ask(self.alloc, self.host.as_str(), &mut &stream)?;
         self.serve(&stream)?;
         position_take(self.alloc, &mut &stream)
     }
 
-    fn pull(&mut self) -> Result<Round, WebFault> {
+    fn pull(&mut self) -> Result<Round, WebFault>
+        ensures { RunsBridged C.Keeper S.Keeper Pull (self.old.client, self.old.server) result (self.new.client, self.new.server) }
+    {
         let stream = self.connect()?;
-        pull_ask(self.alloc, self.client, self.host.as_str(), &mut &stream)?;
+        ask_pull(self.alloc, &mut self.client, self.host.as_str(), &stream)?;
         self.serve(&stream)?;
-        let taken = pull_take(self.alloc, self.client, &mut &stream)?;
-        Ok(Round::of(taken))
+        take_pull(self.alloc, &mut self.client, &stream)
     }
 
-    fn push(&mut self) -> Result<Round, WebFault> {
+    fn push(&mut self) -> Result<Round, WebFault>
+        ensures { RunsBridged C.Keeper S.Keeper Push (self.old.client, self.old.server) result (self.new.client, self.new.server) }
+    {
         let position = self.position()?;
         let stream = self.connect()?;
         let host = self.host.as_str();
-        let ending = push_ask(self.alloc, self.client, &position, host, &mut &stream)?;
+        let ending = ask_push(self.alloc, &mut self.client, &position, host, &stream)?;
         self.serve(&stream)?;
         let (writes, commits) = push_take(self.alloc, &mut &stream)?;
         Ok(Round {
@@ -82,6 +104,50 @@ impl<C: Keeper, S: Keeper> Neighbour<'_, '_, C, S> {
             ending,
         })
     }
+}
+
+/// Asks for what the client's replica lacks over this connection.
+fn ask_pull<C: Keeper>(
+    alloc: Global,
+    client: &mut Service<C>,
+    host: &str,
+    stream: &TcpStream,
+) -> Result<(), WebFault>
+    requires { IsTrue (is_host host.now) }
+    ensures { (held holds : Option Text) × IsExchanged C.Keeper client.old client.new result (AsksPull host.now held holds) (Reaches (C.tables client.old) AskPosition) }
+{
+    let mut writer = stream;
+    pull_ask(alloc, client, host, &mut writer)
+}
+
+/// Takes the reply over this connection.
+fn take_pull<C: Keeper>(
+    alloc: Global,
+    client: &mut Service<C>,
+    stream: &TcpStream,
+) -> Result<Round, WebFault>
+    ensures { (known : Option Text) × (called : _) × IsExchanged C.Keeper client.old client.new called (TakesPulled known) (TakesBody (C.tables client.old)) × ComesTo called result }
+{
+    let mut reader = stream;
+    match pull_take(alloc, client, &mut reader) {
+        Ok(taken) => Ok(Round::of(taken)),
+        Err(fault) => Err(fault),
+    }
+}
+
+/// Hands over what a server at this position lacks, over this connection.
+fn ask_push<C: Keeper>(
+    alloc: Global,
+    client: &mut Service<C>,
+    position: &Position,
+    host: &str,
+    stream: &TcpStream,
+) -> Result<Ending, WebFault>
+    requires { IsTrue (is_host host.now) }
+    ensures { (held holds : Option Text) × IsExchanged C.Keeper client.old client.new result (AsksPush position.now host.now held holds) (Reaches (C.tables client.old) (lacking position.now)) }
+{
+    let mut writer = stream;
+    push_ask(alloc, client, position, host, &mut writer)
 }
 
 /// The other end of this connection. Whoever else connects meanwhile is sent away.
@@ -96,9 +162,10 @@ fn other_end(listener: &TcpListener, client: &TcpStream) -> Option<TcpStream> {
     None
 }
 
-impl<C: Keeper, S: Keeper> Peer for Neighbour<'_, '_, C, S> {
-    // a socket tells nothing of what it gives
-    ghost runs = { λ _ _ _ _. Unit {0} };
+impl<C: Keeper, S: Keeper> Peer for Neighbour<'_, C, S> {
+    ghost use Rattle.mr_net.specs.Rounds.{RunsBridged};
+
+    ghost runs = { λ way p result q. RunsBridged C.Keeper S.Keeper way (p.client, p.server) result (q.client, q.server) };
 
     fn round(&mut self, way: Way) -> Result<Round, WebFault> {
         match way {
@@ -120,54 +187,54 @@ pub fn bridge<W: Write>(
 ) -> u8
     ensures { EndsExchange (W.contents out.old) (W.contents out.new) result }
 {
-    let mut client = match open(rt, alloc, client) {
+    let client = match open(rt, alloc, client) {
         Ok(service) => service,
         Err(refusal) => return say_refusal(alloc, out, &refusal),
     };
-    let status = bridge_to(rt, alloc, &mut client, server, out);
+    let (client, status) = bridge_to(rt, alloc, client, server, out);
     close(client);
     status
 }
 
+/// Opens the other database, exchanges it with this client's, and gives the client back with the status.
 fn bridge_to<C: Keeper, W: Write>(
     rt: &HostRuntime,
     alloc: Global,
-    client: &mut Service<C>,
+    client: Service<C>,
     server: &str,
     out: &mut W,
-) -> u8
-    ensures { EndsExchange (W.contents out.old) (W.contents out.new) result }
+) -> (Service<C>, u8)
+    ensures { EndsExchange (W.contents out.old) (W.contents out.new) result.1 }
 {
-    let mut server = match open(rt, alloc, server) {
+    let server = match open(rt, alloc, server) {
         Ok(service) => service,
-        Err(refusal) => return say_refusal(alloc, out, &refusal),
+        Err(refusal) => {
+            let status = say_refusal(alloc, out, &refusal);
+            return (client, status);
+        }
     };
-    let status = bridge_between(rt, alloc, client, &mut server, out);
+    let (client, server, status) = bridge_between(rt, alloc, client, server, out);
     close(server);
-    status
+    (client, status)
 }
 
+/// Exchanges the replica of the client with that of the server, and gives both back with the status.
 fn bridge_between<C: Keeper, S: Keeper, W: Write>(
     rt: &HostRuntime,
     alloc: Global,
-    client: &mut Service<C>,
-    server: &mut Service<S>,
+    client: Service<C>,
+    server: Service<S>,
     out: &mut W,
-) -> u8
-    ensures { EndsExchange (W.contents out.old) (W.contents out.new) result }
+) -> (Service<C>, Service<S>, u8)
+    ensures runs { TellsBridge C.Keeper S.Keeper (client, server) (result.0, result.1) (W.contents out.old) (W.contents out.new) result.2 }
+    ensures ends { EndsExchange (W.contents out.old) (W.contents out.new) result.2 }
 {
-    let listener = match TcpListener::bind(rt, (Ipv4Addr::LOCALHOST, 0)) {
-        Ok(listener) => listener,
-        Err(_) => return say_no_network(out),
-    };
-    let port = match listener.local_addr() {
-        Ok(address) => address.port(),
-        Err(_) => return say_no_network(out),
-    };
-    let host = match Host::new(alloc, THIS_MACHINE, port) {
-        Ok(Some(host)) => host,
-        Ok(None) => return say_no_network(out),
-        Err(_) => return say(out, NO_MEMORY, REFUSED),
+    let (listener, port, host) = match meeting_place(rt, alloc) {
+        Ok(place) => place,
+        Err(fault) => {
+            let status = say_unmet(out, &fault);
+            return (client, server, status);
+        }
     };
     let mut peer = Neighbour {
         rt,
@@ -178,5 +245,32 @@ fn bridge_between<C: Keeper, S: Keeper, W: Write>(
         port,
         host,
     };
-    exchange_with(alloc, &mut peer, out)
+    let status = exchange_with(alloc, &mut peer, out);
+    (peer.client, peer.server, status)
+}
+
+/// A listener at a free port of this machine alone, and how requests name that.
+fn meeting_place(rt: &HostRuntime, alloc: Global) -> Result<(TcpListener, u16, Host), WebFault> {
+    let Ok(listener) = TcpListener::bind(rt, (Ipv4Addr::LOCALHOST, 0)) else {
+        return Err(WebFault::Read);
+    };
+    let Ok(address) = listener.local_addr() else {
+        return Err(WebFault::Read);
+    };
+    let port = address.port();
+    match Host::new(alloc, THIS_MACHINE, port) {
+        Ok(Some(host)) => Ok((listener, port, host)),
+        Ok(None) => Err(WebFault::Read),
+        Err(_) => Err(WebFault::Memory),
+    }
+}
+
+/// Prints why there is no place to meet.
+fn say_unmet<W: Write>(out: &mut W, fault: &WebFault) -> u8
+    ensures { Stops (λ text. text ≡ no_memory_line) (W.contents out.old) (W.contents out.new) result }
+{
+    match fault {
+        WebFault::Memory => say(out, NO_MEMORY, REFUSED),
+        _ => say_no_network(out),
+    }
 }

@@ -1,5 +1,7 @@
 //! A connection to a served database: how long it is waited for, and how it ends.
 
+ghost use Rattle.mr_net.specs.Connections.{IsConnection};
+
 use mr_service::Service;
 use mr_store::Keeper;
 use mr_web::serve_one;
@@ -19,14 +21,37 @@ pub(crate) fn serve_next<K: Keeper>(
     alloc: Global,
     service: &mut Service<K>,
     listener: &TcpListener,
-) -> Option<u16> {
+) -> Option<u16>
+    ensures { IsConnection K.Keeper service.old result service.new }
+{
+    let stream = accept(listener)?;
+    let served = serve(alloc, service, &stream);
+    if served.is_some() {
+        end(&stream);
+    }
+    served
+}
+
+/// The next connection.
+fn accept(listener: &TcpListener) -> Option<TcpStream> {
     let (stream, _) = listener.accept().ok()?;
     let patience = Some(Duration::from_secs(PATIENCE));
     stream.set_read_timeout(patience).ok()?;
     stream.set_write_timeout(patience).ok()?;
-    let status = serve_one(alloc, &mut &stream, &mut &stream, service).ok()?;
-    end(&stream);
-    Some(status)
+    Some(stream)
+}
+
+/// Serves the one request of a connection, and answers the status of its reply, or None where that failed.
+pub(crate) fn serve<K: Keeper>(
+    alloc: Global,
+    service: &mut Service<K>,
+    stream: &TcpStream,
+) -> Option<u16>
+    ensures { IsConnection K.Keeper service.old result service.new }
+{
+    let mut reader = stream;
+    let mut writer = stream;
+    serve_one(alloc, &mut reader, &mut writer, service).ok()
 }
 
 /// Ends a connection so that its reply arrives: a system that closes it while bytes of the request wait unread, as those of a body

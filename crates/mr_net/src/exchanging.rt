@@ -4,7 +4,9 @@ ghost use Rattle.std.specs.Prelude.{◌≡◌, ℕ, false, IsTrue};
 ghost use Rattle.mr_model.specs.Texts.{Text};
 ghost use Rattle.mr_peer.specs.Requests.{is_host};
 ghost use Rattle.mr_net.specs.Hosts.{host_name, IsPeer};
-ghost use Rattle.mr_net.specs.Printed.{EndsExchange, TellsBadAddress};
+ghost use Rattle.mr_net.specs.Printed.{EndsExchange, TellsBadAddress, TellsBoth};
+ghost use Rattle.mr_net.specs.Rounds.{RunsRound};
+ghost use Rattle.mr_net.specs.declared.ways.Way.TheVariants.{Pull, Push};
 
 use crate::connecting::connect;
 use crate::databases::{close, open};
@@ -19,7 +21,7 @@ use mr_service::Service;
 use mr_store::Keeper;
 use mr_words::{AddressFault, peer_address};
 use std::alloc::Global;
-use std::io::Write;
+use std::io::{Read, Write};
 use std::net::TcpStream;
 
 /// Where a peer is to be reached, and how requests name it.
@@ -30,12 +32,12 @@ struct Address<'a> {
     host: Host,
 }
 
-/// A peer at an address, which is asked over one connection a request.
+/// A peer at an address, which is asked over one connection a request, and the replica that exchanges with it.
 #[derive(Drop)]
 struct Remote<'a, K: Keeper> {
     rt: &'a HostRuntime,
     alloc: Global,
-    service: &'a mut Service<K>,
+    service: Service<K>,
     address: &'a Address<'a>,
 }
 
@@ -51,32 +53,77 @@ impl<K: Keeper> Remote<'_, K> {
         position_take(self.alloc, &mut &stream)
     }
 
-    fn pull(&mut self) -> Result<Round, WebFault> {
+    fn pull(&mut self) -> Result<Round, WebFault>
+        ensures { RunsRound K.Keeper Pull self.old.service result self.new.service }
+    {
         let stream = self.connect()?;
         let host = self.address.host.as_str();
-        let taken = pull(self.alloc, self.service, host, &mut &stream, &mut &stream)?;
-        Ok(Round::of(taken))
+        pull_over(
+            self.alloc,
+            &mut self.service,
+            host,
+            &mut &stream,
+            &mut &stream,
+        )
     }
 
-    fn push(&mut self) -> Result<Round, WebFault> {
+    fn push(&mut self) -> Result<Round, WebFault>
+        ensures { RunsRound K.Keeper Push self.old.service result self.new.service }
+    {
         let position = self.position()?;
         let host = self.address.host.as_str();
         let stream = self.connect()?;
-        let handed = push(
+        push_over(
             self.alloc,
-            self.service,
+            &mut self.service,
             &position,
             host,
             &mut &stream,
             &mut &stream,
-        )?;
-        Ok(Round::of(handed))
+        )
+    }
+}
+
+/// One pull of the replica over a connection.
+fn pull_over<K: Keeper, R: Read, W: Write>(
+    alloc: Global,
+    service: &mut Service<K>,
+    host: &str,
+    reader: &mut R,
+    writer: &mut W,
+) -> Result<Round, WebFault>
+    requires { IsTrue (is_host host.now) }
+    ensures { RunsRound K.Keeper Pull service.old result service.new }
+{
+    match pull(alloc, service, host, reader, writer) {
+        Ok(taken) => Ok(Round::of(taken)),
+        Err(fault) => Err(fault),
+    }
+}
+
+/// One push of the replica over a connection, to a peer at this position.
+fn push_over<K: Keeper, R: Read, W: Write>(
+    alloc: Global,
+    service: &mut Service<K>,
+    position: &Position,
+    host: &str,
+    reader: &mut R,
+    writer: &mut W,
+) -> Result<Round, WebFault>
+    requires { IsTrue (is_host host.now) }
+    ensures { RunsRound K.Keeper Push service.old result service.new }
+{
+    match push(alloc, service, position, host, reader, writer) {
+        Ok(handed) => Ok(Round::of(handed)),
+        Err(fault) => Err(fault),
     }
 }
 
 impl<K: Keeper> Peer for Remote<'_, K> {
-    // a socket tells nothing of what it gives
-    ghost runs = { λ _ _ _ _. Unit {0} };
+    ghost use Rattle.mr_net.specs.Rounds.{RunsRound};
+
+    // of the replica here alone: a socket tells nothing of what it gives
+    ghost runs = { λ way p result q. RunsRound K.Keeper way p.service result q.service };
 
     fn round(&mut self, way: Way) -> Result<Round, WebFault> {
         match way {
@@ -132,23 +179,25 @@ fn exchange_from<W: Write>(
 ) -> u8
     ensures { EndsExchange (W.contents out.old) (W.contents out.new) result }
 {
-    let mut service = match open(rt, alloc, database) {
+    let service = match open(rt, alloc, database) {
         Ok(service) => service,
         Err(refusal) => return say_refusal(alloc, out, &refusal),
     };
-    let status = exchange_as(rt, alloc, &mut service, address, out);
+    let (service, status) = exchange_as(rt, alloc, service, address, out);
     close(service);
     status
 }
 
+/// Exchanges the replica of this service with the peer, and gives it back with the status.
 fn exchange_as<K: Keeper, W: Write>(
     rt: &HostRuntime,
     alloc: Global,
-    service: &mut Service<K>,
+    service: Service<K>,
     address: &Address<'_>,
     out: &mut W,
-) -> u8
-    ensures { EndsExchange (W.contents out.old) (W.contents out.new) result }
+) -> (Service<K>, u8)
+    ensures runs { TellsBoth (RunsRound K.Keeper) service result.0 (W.contents out.old) (W.contents out.new) result.1 }
+    ensures ends { EndsExchange (W.contents out.old) (W.contents out.new) result.1 }
 {
     let mut peer = Remote {
         rt,
@@ -156,5 +205,6 @@ fn exchange_as<K: Keeper, W: Write>(
         service,
         address,
     };
-    exchange_with(alloc, &mut peer, out)
+    let status = exchange_with(alloc, &mut peer, out);
+    (peer.service, status)
 }

@@ -4,7 +4,8 @@
 //! Below stand the server's half (`mr_web`) and the client's (`mr_peer`), each proved over any reader and writer, the databases
 //! (`mr_sql`), the reading of addresses (`mr_words`) and the printing of lines (`mr_say`); the program's commands (`mr`) stand above.
 //! The contracts say which lines each command prints and with which status; that of `exchange_with` says, over any peer, which rounds
-//! an exchange has and what its lines tell of them. What a socket gives and takes is tested alone.
+//! an exchange has and what its lines report of them; those of `serve_at`, `exchange_as` and `bridge_between` say, over any keeper, what
+//! the replicas are asked. What a socket gives and takes is tested alone.
 #![tactic(auto)]
 
 mod bridging;
@@ -19,4 +20,8 @@ mod ways;
 
 pub use bridging::bridge;
 pub use exchanging::exchange;
+pub use mr_peer::{
+    position_ask, position_take, pull, pull_ask, pull_take, push, push_ask, push_take,
+};
+pub use mr_web::{WebFault, serve_one};
 pub use serving::serve;

@@ -5,7 +5,8 @@ ghost use Rattle.std.specs.String.{string_bytes};
 ghost use Rattle.std.specs.Io.KnownBytes.{Appends};
 ghost use Rattle.mr_model.specs.Texts.{line};
 ghost use Rattle.mr_say.specs.Told.{no_memory_line};
-ghost use Rattle.mr_net.specs.Printed.{connection_text, serving_line, EndsServing, Stops, TellsConnections};
+ghost use Rattle.mr_net.specs.Connections.{ServesAt, TellsServed};
+ghost use Rattle.mr_net.specs.Printed.{connection_text, serving_line, EndsServing, Stops};
 
 use crate::connections::serve_next;
 use crate::databases::{close, open};
@@ -39,6 +40,7 @@ pub fn serve<W: Write>(
     status
 }
 
+/// Serves the replica of this service to that many connections, and prints a line for each behind that of the port.
 fn serve_at<K: Keeper, W: Write>(
     rt: &HostRuntime,
     alloc: Global,
@@ -47,7 +49,7 @@ fn serve_at<K: Keeper, W: Write>(
     connections: u64,
     out: &mut W,
 ) -> u8
-    ensures { EndsServing port connections (W.contents out.old) (W.contents out.new) result }
+    ensures { ServesAt K.Keeper service.old service.new port connections (W.contents out.old) (W.contents out.new) result }
 {
     let listener = match TcpListener::bind(rt, (Ipv4Addr::LOCALHOST, port)) {
         Ok(listener) => listener,
@@ -82,7 +84,7 @@ fn serve_all<K: Keeper, W: Write>(
     connections: u64,
     out: &mut W,
 ) -> u8
-    ensures { TellsConnections connections (W.contents out.old) (W.contents out.new) result }
+    ensures { TellsServed K.Keeper service.old service.new connections (W.contents out.old) (W.contents out.new) result }
 {
     for _ in 0..connections {
         let served = serve_next(alloc, service, listener);

@@ -1,10 +1,19 @@
-use Rattle.mr_net.proofs.ExchangeLaws.{exchanged, no_memory_exchange}
+use Rattle.std.proofs.Common.{inl, inr, refl}
+use Rattle.mr_net.specs.Rounds.{RunsBridged}
+use Rattle.mr_net.proofs.ExchangeLaws.{both_seen, bridged}
 use Rattle.mr_net.proofs.bridging.bridge_between.Goals as goal
 
-pub returns-in-Err-new : goal.returns-in-Err-new
-returns-in-Err-new g c =
-    no_memory_exchange (g.W.Write.contents c.args.out.now) (g.W.Write.contents c.say.new.out) c.say.result c.say.ensures.status c.say.ensures.told
+pub returns-in-Err-clause-ends : goal.returns-in-Err-clause-ends
+returns-in-Err-clause-ends g c =
+    bridged g.C.Keeper g.S.Keeper (c.args.client, c.args.server) (c.args.client, c.args.server) (g.W.Write.contents c.args.out.now)
+    (g.W.Write.contents c.say_unmet-status.new.out) c.say_unmet-status.result (inr (refl, c.say_unmet-status.ensures))
 
-pub returns : goal.returns
-returns g c =
-    exchanged (λ _ _ _ _. Unit {0}) _ _ (g.W.Write.contents c.args.out.now) (g.W.Write.contents c.exchange_with.new.out) c.exchange_with.result c.exchange_with.ensures
+pub returns-clause-runs : goal.returns-clause-runs
+returns-clause-runs g c =
+    inl (both_seen (λ p. (p.client, p.server)) _ (RunsBridged g.C.Keeper g.S.Keeper) (λ way p r q ran. ran) _ c.exchange_with-status.new.peer (g.W.Write.contents c.args.out.now)
+    (g.W.Write.contents c.exchange_with-status.new.out) c.exchange_with-status.result c.exchange_with-status.ensures)
+
+pub returns-clause-ends : goal.returns-clause-ends
+returns-clause-ends g c =
+    bridged g.C.Keeper g.S.Keeper (c.args.client, c.args.server) (c.exchange_with-status.new.peer.client, c.exchange_with-status.new.peer.server)
+    (g.W.Write.contents c.args.out.now) (g.W.Write.contents c.exchange_with-status.new.out) c.exchange_with-status.result (returns-clause-runs g c)

@@ -4,5 +4,5 @@ use Rattle.mr_net.proofs.bridging.bridge_to.Goals as goal
 
 pub returns-in-Err : goal.returns-in-Err
 returns-in-Err g c =
-    refused_exchange (refusal_of c.in-Err.refusal) (g.W.Write.contents c.args.out.now) (g.W.Write.contents c.say_refusal.new.out) c.say_refusal.result
-    c.say_refusal.ensures.status c.say_refusal.ensures.told
+    refused_exchange (refusal_of c.in-Err.refusal) (g.W.Write.contents c.args.out.now) (g.W.Write.contents c.say_refusal-status.new.out) c.say_refusal-status.result
+    c.say_refusal-status.ensures.status c.say_refusal-status.ensures.told

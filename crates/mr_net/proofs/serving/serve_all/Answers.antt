@@ -8,12 +8,13 @@ use Rattle.mr_net.proofs.serving.serve_all.Goals as goal
 
 pub returns-then-status-ne-DONE : goal.returns-then-status-ne-DONE
 returns-then-status-ne-DONE g c =
-    stopped c.args.connections c.loop.counter c.serve_next-served.result (g.W.Write.contents c.args.out.now) (g.W.Write.contents c.loop.out) (g.W.Write.contents c.say_served-status.new.out)
-    c.say_served-status.result c.loop.invariant c.loop-test.true c.if-status-ne-DONE.true c.say_served-status.ensures
+    stopped g.K.Keeper c.args.service.now c.loop.service c.serve_next-served.new.service c.args.connections c.loop.counter c.serve_next-served.result (g.W.Write.contents c.args.out.now)
+    (g.W.Write.contents c.loop.out) (g.W.Write.contents c.say_served-status.new.out) c.say_served-status.result c.loop.invariant c.loop-test.true c.serve_next-served.ensures
+    c.if-status-ne-DONE.true c.say_served-status.ensures
 
 pub loop-preserved : goal.loop-preserved
 loop-preserved g c =
-    one_more c.loop.counter c.serve_next-served.result (g.W.Write.contents c.args.out.now) (g.W.Write.contents c.loop.out) (g.W.Write.contents c.say_served-status.new.out)
-    c.loop.invariant
+    one_more g.K.Keeper c.args.service.now c.loop.service c.serve_next-served.new.service c.loop.counter c.serve_next-served.result (g.W.Write.contents c.args.out.now)
+    (g.W.Write.contents c.loop.out) (g.W.Write.contents c.say_served-status.new.out) c.loop.invariant c.serve_next-served.ensures
     (was_told (λ text. text ≡ no_memory_line) (line (connection_text c.serve_next-served.result)) (g.W.Write.contents c.loop.out) (g.W.Write.contents c.say_served-status.new.out)
     c.say_served-status.result c.if-status-ne-DONE.false c.say_served-status.ensures)

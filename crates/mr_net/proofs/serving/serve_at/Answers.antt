@@ -7,8 +7,8 @@ use Rattle.mr_net.proofs.serving.serve_at.Goals as goal
 
 pub returns : goal.returns
 returns g c =
-    served_behind c.args.port c.args.connections (g.W.Write.contents c.args.out.now) (g.W.Write.contents c.say_serving-status.new.out) (g.W.Write.contents c.serve_all.new.out)
-    c.serve_all.result
+    served_behind g.K.Keeper c.args.service.now c.serve_all.new.service c.args.port c.args.connections (g.W.Write.contents c.args.out.now) (g.W.Write.contents c.say_serving-status.new.out)
+    (g.W.Write.contents c.serve_all.new.out) c.serve_all.result
     (was_told (λ text. text ≡ no_memory_line) (serving_line c.args.port) (g.W.Write.contents c.args.out.now) (g.W.Write.contents c.say_serving-status.new.out)
     c.say_serving-status.result c.if-status-ne-DONE.false c.say_serving-status.ensures)
     c.serve_all.ensures
