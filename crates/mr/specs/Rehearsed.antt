@@ -52,6 +52,11 @@ abbrev pub IsInput : Option Text → Text → Type 0
 IsInput None bytes = ⊤
 IsInput (Some known) bytes = bytes ≡ known
 
+-- the bytes are all that this reader had, where there is one
+abbrev pub Gives : {R : Type 0} → (R → Option Text) → Option R → Text → Type 0
+Gives remaining None bytes = ⊥
+Gives remaining (Some reader) bytes = IsInput (remaining reader) bytes
+
 -- ---- command lines
 
 abbrev pub bad_words_line : Text

@@ -30,7 +30,13 @@ IsReceive command = (bytes : Text) × (command ≡ Receive bytes)
 abbrev pub IsBatchFor : ℕ → Command → Type 0
 IsBatchFor max_lines command = (position : Text) × (command ≡ BatchFor position max_lines)
 
--- the command that a task asks; what a file holds is not known here
+-- the command that a task asks, where its file has bytes of this kind
+abbrev pub IsCommandWith : Task → (Text → Type 0) → Command → Type 0
+IsCommandWith (kind.Ask local) Has command = command ≡ local_of local
+IsCommandWith (kind.Import batch) Has command = (bytes : Text) × Has bytes × (command ≡ Receive bytes)
+IsCommandWith (kind.Export export) Has command = (position : Text) × Has position × (command ≡ BatchFor position export.max_lines)
+
+-- the same, where it is not known what the file holds
 abbrev pub IsCommandFor : Task → Command → Type 0
 IsCommandFor (kind.Ask local) command = command ≡ local_of local
 IsCommandFor (kind.Import batch) command = IsReceive command
@@ -41,8 +47,8 @@ abbrev pub file_for : Task → Option (String Global)
 file_for (kind.Export export) = Some export.batch
 file_for _ = None
 
-pub record IsOrderFor (task : Task) (order : Order) : Type 0 where
-  pub command : IsCommandFor task (command_of order.command)
+pub record IsOrderFor (task : Task) (Has : Text → Type 0) (order : Order) : Type 0 where
+  pub command : IsCommandWith task Has (command_of order.command)
   pub file : order.file ≡ file_for task
 
 -- the reply is printed, or goes to a file

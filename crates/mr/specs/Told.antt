@@ -1,5 +1,5 @@
 -- What the replica of a keeper is asked, and what is told of its reply.
-use Rattle.std.specs.Prelude.{◌≡◌, ◌⊎◌, ℕ, ◌≤◌, [], ◌∷◌, length, codes, decimal, Option}
+use Rattle.std.specs.Prelude.{◌≡◌, ◌⊎◌, ℕ, ◌≤◌, [], ◌∷◌, length, codes, decimal, Option, Result, Ok}
 use Rattle.std.specs.Io.KnownBytes.{Appends}
 use Rattle.mr_model.specs.Texts.{Text, line, words}
 use Rattle.mr_model.specs.Replies.{Reply, reply_text}
@@ -51,6 +51,10 @@ TellsFault held holds status = ((status ≡ 1) × Appends held holds no_memory_l
 -- so many bytes are written to a file, and that is printed
 abbrev pub TellsLength : ℕ → Option Text → Option Text → ℕ → Type 0
 TellsLength n held holds status = ((status ≡ 0) × Appends held holds (wrote_line n)) ⊎ TellsFault held holds status
+
+-- there is a file, and it took all these bytes
+abbrev pub TakesAll : {F E : Type 0} → (F → Option Text) → Result F E → Result F E → Text → Type 0
+TakesAll {F} contents made holding bytes = (old new : F) × (made ≡ Ok old) × (holding ≡ Ok new) × Appends (contents old) (contents new) bytes
 
 -- a reply goes to a file: it is a refusal, which is told as any other, or its text is as short as a file may be, and its length is told;
 -- or there is a fault

@@ -7,16 +7,17 @@ ghost use Rattle.mr_model.specs.View.{Question};
 ghost use Rattle.mr_model.specs.Replies as model;
 ghost use Rattle.mr_model.specs.Step.{Ask};
 ghost use Rattle.mr_service.specs.Asked.{command_of, reply_of};
-ghost use Rattle.mr.specs.Told.{IsAsked, TellsAnswer, TellsFault, TellsLength, TellsWritten, greatest_file};
-ghost use Rattle.mr.specs.Tasks.{IsAnswered, IsCommandFor, TellsTo, file_for};
+ghost use Rattle.mr.specs.Told.{IsAsked, TakesAll, TellsAnswer, TellsFault, TellsLength, TellsWritten, greatest_file};
+ghost use Rattle.mr.specs.Rehearsed.{Gives};
+ghost use Rattle.mr.specs.Tasks.{IsAnswered, IsCommandFor, IsCommandWith, TellsTo, file_for};
 
 use crate::files::{FileFault, GREATEST_FILE, create_file, say_fault};
-use crate::orders::{Order, Task, order_for};
+use crate::orders::{Order, Task, order_for, reader_for};
 use mr_say::{DONE, NO_MEMORY, REFUSED, say, say_reply};
 use mr_service::{Command, Reply, Service, reply_text};
 use mr_store::Keeper;
 use std::alloc::Global;
-use std::io::Write;
+use std::io::{Read, Write};
 
 /// Does the task with this replica.
 pub(crate) fn perform<K: Keeper, W: Write>(
@@ -29,7 +30,27 @@ pub(crate) fn perform<K: Keeper, W: Write>(
     ensures { IsAnswered K.Keeper (IsCommandFor task) (TellsTo (file_for task)) service.old service.new (W.contents out.old) (W.contents out.new) result
         ⊎ ((service.new ≡ service.old) × TellsFault (W.contents out.old) (W.contents out.new) result) }
 {
-    match order_for(rt, alloc, task) {
+    match reader_for(rt, &task) {
+        Ok(reader) => perform_with(rt, alloc, service, task, reader, out),
+        Err(fault) => say_fault(out, fault),
+    }
+}
+
+/// Does the task with this replica, where the reader gives the file that the task names.
+fn perform_with<K: Keeper, R: Read, W: Write>(
+    rt: &HostRuntime,
+    alloc: Global,
+    service: &mut Service<K>,
+    task: Task,
+    reader: Option<R>,
+    out: &mut W,
+) -> u8
+where
+    R: Drop,
+    ensures { IsAnswered K.Keeper (IsCommandWith task (Gives R.remaining reader)) (TellsTo (file_for task)) service.old service.new (W.contents out.old) (W.contents out.new) result
+        ⊎ ((service.new ≡ service.old) × TellsFault (W.contents out.old) (W.contents out.new) result) }
+{
+    match order_for(alloc, task, reader) {
         Ok(order) => answer(rt, alloc, service, &order, out),
         Err(fault) => say_fault(out, fault),
     }
@@ -107,9 +128,23 @@ fn write_bytes<W: Write>(
 ) -> u8
     ensures { TellsLength (length bytes.now) (W.contents out.old) (W.contents out.new) result }
 {
-    match create_file(rt, path) {
-        Ok(mut file) => put_bytes(alloc, &mut file, bytes, out),
-        Err(fault) => say_fault(out, fault),
+    let mut made = create_file(rt, path);
+    put_into(alloc, &mut made, bytes, out)
+}
+
+/// Writes the bytes to the file that was made, if it was, and prints how many there are.
+fn put_into<F: Write, W: Write>(
+    alloc: Global,
+    made: &mut Result<F, FileFault>,
+    bytes: &[u8],
+    out: &mut W,
+) -> u8
+    ensures written { result ≡ 0 → TakesAll F.contents made.old made.new bytes.now }
+    ensures told { TellsLength (length bytes.now) (W.contents out.old) (W.contents out.new) result }
+{
+    match made {
+        Ok(file) => put_bytes(alloc, file, bytes, out),
+        Err(fault) => say_fault(out, *fault),
     }
 }
 

@@ -1,6 +1,8 @@
 //! Commands on a database file.
 
 ghost use Rattle.std.specs.Prelude.{◌≡◌, ◌⊎◌};
+ghost use Rattle.std.specs.Io.KnownBytes.{Appends};
+ghost use Rattle.mr_say.specs.Told.{ok_line};
 ghost use Rattle.mr.specs.Tasks.{EndsAsking, EndsInit, IsAnswered, IsCommandFor, TellsTo, file_for};
 ghost use Rattle.mr.specs.Told.{TellsFault};
 
@@ -27,11 +29,21 @@ pub(crate) fn init<W: Write>(
 {
     match SqlKeeper::init_file(rt, database, server, primary) {
         Ok(keeper) => {
+            let (keeper, status) = say_made(keeper, out);
             keeper.close();
-            say(out, "ok\n", DONE)
+            status
         }
         Err(refusal) => say_refusal(alloc, out, &refusal),
     }
+}
+
+/// Prints that the database of this keeper is there, and gives the keeper back with the status. Nothing is asked of it.
+fn say_made<K: Keeper, W: Write>(keeper: K, out: &mut W) -> (K, u8)
+    ensures kept { result.0 ≡ keeper }
+    ensures told { ((result.1 ≡ 0) × Appends (W.contents out.old) (W.contents out.new) ok_line) ⊎ (result.1 ≡ 3) }
+{
+    let status = say(out, "ok\n", DONE);
+    (keeper, status)
 }
 
 /// Opens the database at this path, does the task with its replica, and closes what was given back.

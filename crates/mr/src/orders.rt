@@ -1,15 +1,14 @@
 //! What command lines ask of the replica of a database, with the files read that they name.
 
-ghost use Rattle.std.specs.Prelude.{◌≡◌, IfOk, ℕ, List};
-ghost use Rattle.mr_model.specs.Step.{Receive, BatchFor};
-ghost use Rattle.mr_service.specs.Asked.{command_of};
-ghost use Rattle.mr.specs.Rehearsed.{IsInput};
+ghost use Rattle.std.specs.Prelude.{◌≡◌, IfOk};
+ghost use Rattle.mr.specs.Rehearsed.{Gives};
 ghost use Rattle.mr.specs.Tasks.{IsOrderFor};
 
 use crate::files::{FileFault, open_file, read_limited};
 use mr_base::LineCount;
 use mr_service::{Command, Local};
 use std::alloc::Global;
+use std::fs::File;
 use std::io::Read;
 
 /// What is asked of the replica of a database.
@@ -36,58 +35,65 @@ pub(crate) struct Order {
     pub(crate) file: Option<String>,
 }
 
-/// The task with its file read.
-pub(crate) fn order_for(rt: &HostRuntime, alloc: Global, task: Task) -> Result<Order, FileFault>
-    ensures { IfOk result (IsOrderFor task) }
+/// The file that the task names, to be read, where it names one.
+pub(crate) fn reader_for(rt: &HostRuntime, task: &Task) -> Result<Option<File>, FileFault> {
+    let path = match task {
+        Task::Ask(_) => return Ok(None),
+        Task::Import { batch } => batch.as_str(),
+        Task::Export(export) => export.position.as_str(),
+    };
+    let file = open_file(rt, path)?;
+    Ok(Some(file))
+}
+
+/// The task with its file read, where the reader gives that.
+pub(crate) fn order_for<R: Read>(
+    alloc: Global,
+    task: Task,
+    reader: Option<R>,
+) -> Result<Order, FileFault>
+where
+    R: Drop,
+    ensures { IfOk result (IsOrderFor task (Gives R.remaining reader)) }
 {
     match task {
         Task::Ask(local) => Ok(Order {
             command: Command::Local(local),
             file: None,
         }),
-        Task::Import { batch } => {
-            let file = open_file(rt, batch.as_str())?;
-            let command = receive_from(alloc, file)?;
+        Task::Import { .. } => {
+            let bytes = read_all(alloc, reader)?;
             Ok(Order {
-                command,
+                command: Command::Receive(bytes),
                 file: None,
             })
         }
         Task::Export(export) => {
             let Export {
-                position,
                 batch,
                 max_lines,
+                ..
             } = export;
-            let file = open_file(rt, position.as_str())?;
-            let command = batch_for(alloc, file, max_lines)?;
+            let position = read_all(alloc, reader)?;
             Ok(Order {
-                command,
+                command: Command::Local(Local::BatchFor {
+                    position,
+                    max_lines,
+                }),
                 file: Some(batch),
             })
         }
     }
 }
 
-/// The command to take the batch that the reader gives.
-fn receive_from<R: Read>(alloc: Global, reader: R) -> Result<Command, FileFault>
+/// All that the reader gives, where there is one.
+fn read_all<R: Read>(alloc: Global, reader: Option<R>) -> Result<Vec<u8>, FileFault>
 where
     R: Drop,
-    ensures { IfOk result (λ command. (bytes : List ℕ) × IsInput (R.remaining reader) bytes × (command_of command ≡ Receive bytes)) }
+    ensures { IfOk result (λ bytes. Gives R.remaining reader bytes.items) }
 {
-    let bytes = read_limited(alloc, reader)?;
-    Ok(Command::Receive(bytes))
-}
-
-/// The command to make the batch for the position that the reader gives, of that many item lines at most.
-fn batch_for<R: Read>(alloc: Global, reader: R, max_lines: LineCount) -> Result<Command, FileFault>
-where
-    R: Drop,
-    ensures { IfOk result (λ command. (position : List ℕ) × IsInput (R.remaining reader) position × (command_of command ≡ BatchFor position max_lines)) }
-{
-    let position = read_limited(alloc, reader)?;
-    Ok(Command::Local(Local::BatchFor {
-        position,
-        max_lines,
-    }))
+    match reader {
+        Some(reader) => read_limited(alloc, reader),
+        None => Err(FileFault::File),
+    }
 }

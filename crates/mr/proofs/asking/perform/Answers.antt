@@ -1,13 +1,13 @@
-use Rattle.std.proofs.Common.{subst, refl, inl, inr}
-use Rattle.mr_service.specs.Asked.{command_of}
-use Rattle.mr.specs.Tasks.{TellsTo}
+use Rattle.std.proofs.Common.{refl, inl, inr}
+use Rattle.mr.proofs.DatabaseLaws.{for_any}
 use Rattle.mr.proofs.asking.perform.Goals as goal
 
 pub returns-in-Ok : goal.returns-in-Ok
 returns-in-Ok g c =
-    let (reply, asked, told) = c.answer.ensures.told in
-    let told_as : _ = subst (λ file. TellsTo file reply (g.W.Write.contents c.args.out.now) (g.W.Write.contents c.answer.new.out) c.answer.result) c.in-Ok.ensures.file told in
-    inl (command_of c.in-Ok.order.command, reply, c.in-Ok.ensures.command, asked, told_as)
+    elim c.perform_with.ensures [
+      | inl answered ↦ inl (answered.0, answered.1, for_any c.args.task _ answered.0 answered.2, answered.3, answered.4)
+      | inr unasked ↦ inr unasked
+    ]
 
 pub returns-in-Err : goal.returns-in-Err
 returns-in-Err g c = inr (refl, c.say_fault.ensures.told)

@@ -1,13 +1,13 @@
-use Rattle.std.proofs.Common.{inl, inr, arith}
+use Rattle.std.proofs.Common.{inl, inr}
 use Rattle.mr.proofs.DatabaseLaws.{adopted_tables}
 use Rattle.mr.proofs.EndLaws.{refusal_ends}
 use Rattle.mr.proofs.databases.init.Goals as goal
 
 pub returns-in-Ok : goal.returns-in-Ok
 returns-in-Ok g c =
-    elim c.say.ensures.status [
-      | inl zero ↦ inl (
-        zero,
+    elim c.say_made-keeper.ensures.told [
+      | inl told ↦ inl (
+        told.0,
         c.in-Ok.keeper,
         record {
           opened = record {
@@ -17,7 +17,7 @@ returns-in-Ok g c =
           };
           tables = λ clean. let adopted = c.in-Ok.ensures.opened clean (c.in-Ok.ensures.opens clean) in adopted_tables _ _ adopted.0 _ adopted.2;
         },
-        c.say.ensures.told (λ three. omega (arith, zero, three)),
+        told.1,
       )
       | inr three ↦ inr (inr (inr three))
     ]
