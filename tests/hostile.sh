@@ -46,6 +46,6 @@ run_refused_memory() {
         echo 'skipped: memory that is refused (no C compiler)'
         return
     fi
-    tried 'memory that is refused' tests/refused_memory.py "$program" "$quick/memory" tests/scripts/equal_times.script \
-        examples/commit_reorders.script tests/scripts/chain.script tests/scripts/dropped_commits.script
+    tried 'memory that is refused' tests/refused_memory.py "$program" crates/mr_served/out/mr_served crates/mr_asked/out/mr_asked \
+        "$quick/memory" tests/scripts/equal_times.script examples/commit_reorders.script tests/scripts/chain.script tests/scripts/dropped_commits.script
 }

@@ -7,6 +7,15 @@ so that what is printed afterwards shows whether the program did it.
 import oracle
 
 REFUSED = b'refused 24 OutOfMemory\n'
+DAY = '1995-12-18'
+
+
+def questions(servers):
+    """The lines that ask these replicas all that can be seen of oak on that day, and their positions."""
+    words = []
+    for server in servers:
+        words += [f'position {server}', f'calendar {server} oak full', f'calendar {server} oak committed', f'errors {server} oak', f'sheet {server} oak {DAY}']
+    return words
 
 
 class World:
@@ -66,6 +75,12 @@ class World:
 def lines_of(script):
     """The steps of a script's text."""
     return [line for line in script.split('\n') if line and not line.startswith('#')]
+
+
+def lines_in(file):
+    """The steps of the script in a file."""
+    with open(file, encoding='ascii') as text:
+        return lines_of(text.read())
 
 
 def printed_by(lines):

@@ -1,15 +1,18 @@
 #!/usr/bin/env python3
 """Memory that is refused: one allocation after the other of the built program, by a shim that is preloaded under it.
 
-    refused_memory.py PROGRAM FOLDER SCRIPT..
+    refused_memory.py PROGRAM SERVED ASKED FOLDER SCRIPT..
 
 Each script is run by `rehearse`, so over lists, with each of its allocations refused in turn: what is printed is that of its plain form,
 in which the refused line is not done. It is run once more with each of its lines given twice and questions between, and with all
 allocations refused from one on. Then its lines are commands on databases, with some of the allocations of each, most of them near
-its end; and a served database is sent requests, with each allocation of each refused. After a refusal everything is as before, and what
-was asked is done when it is asked again. A process that ends otherwise is reported. The last line counts.
+its end; and a served database is sent requests, with each allocation of each refused. SERVED is the built program of the crate mr_served,
+which serves requests over lists: each of its allocations is refused. ASKED is that of the crate mr_asked, which asks the same scripts of
+replicas over lists and over databases in memory: each allocation of each command is refused. After a refusal everything is as before, and
+what was asked is done when it is asked again. A process that ends otherwise is reported. The last line counts.
 """
 
+import itertools
 import os
 import socket
 import sys
@@ -19,10 +22,11 @@ import on_databases
 import plain_script
 from calls import Served, call, done, empty
 from plain_script import REFUSED
+from refused_commands import Commands
 from shim import Shim, compiler
 from tables import copy_database, rows_or_none
 
-DAY = '1995-12-18'
+TEXT, JSON, NO_MEMORY = b'text/plain', b'application/json', b'{"name":"OutOfMemory","refusal":24}'
 # Of a command on a database: its last allocations, of which one in OFTEN is refused, and of those before, one in SELDOM.
 LAST, SELDOM, OFTEN = 700, 701, 23
 
@@ -50,12 +54,6 @@ class Tried:
 
 class Lists(Tried):
     """Scripts, by `rehearse`."""
-
-    def questions(self, servers):
-        words = [f'position {server}' for server in servers]
-        for server in servers:
-            words += [f'calendar {server} oak full', f'calendar {server} oak committed', f'errors {server} oak', f'sheet {server} oak {DAY}']
-        return words
 
     def doubled(self, lines):
         """Each line twice, between the two what the replica has that it changes; the first of two batches is the one to be delivered."""
@@ -101,8 +99,8 @@ class Lists(Tried):
 
     def script(self, name, lines):
         servers = [line.split(' ')[1] for line in lines if line.startswith('replica ')]
-        self.each(name, lines + self.questions(servers))
-        self.each(f'{name}, each line twice', self.doubled(lines) + self.questions(servers))
+        self.each(name, lines + plain_script.questions(servers))
+        self.each(f'{name}, each line twice', self.doubled(lines) + plain_script.questions(servers))
         self.each(f'{name}, all from there on', lines, has_more=True)
 
 
@@ -179,6 +177,42 @@ class Databases(Tried, on_databases.Offices):
         self.told(f'{name}, as commands', None if printed == plain_script.printed_by(lines) else f'printed {printed}')
 
 
+class Requests(Tried):
+    """Requests that are served over lists, by a program of its own: a submission, the sheet, and the submission again."""
+
+    def ends(self):
+        """What is printed of each request: where it is done, and where there is no memory for it or for its reply."""
+        outcome = b'{"day":"1995-12-18","id":"1-1","mark":"T","start":"13:30","state":"booked","stop":"14:30"}'
+        row = b'13:30-14:30 T 1-1 Budget Meeting\n'
+        booked, logged = answer(outcome, JSON), answer(b'{"id":"1-2","mark":"T","state":"logged"}', JSON)
+        sheet, empty_sheet = (answer(b'oak 1995-12-18 Monday\n' + rows, TEXT) for rows in (row, b'(no bookings)\n'))
+        none = [answer(NO_MEMORY, JSON, b'503 Service Unavailable') + b'\nserved 503\n', b'\nfault Memory\n']
+        return [reply + b'\nserved 200\n' for reply in (booked, sheet, logged, empty_sheet)], none
+
+    def each(self, right, has_more):
+        nth = 1
+        while True:
+            told = self.run(nth, has_more=has_more)
+            if self.shim.refused() == 0:
+                return told
+            self.allocations, nth = self.allocations + 1, nth + 1
+            self.refused += told[0] != right[0]
+            self.late += told[0] == right[-1]
+            is_right = told[1] == 0 and told[0] in right
+            self.told(f'requests over lists, allocation {nth - 1}', None if is_right else f'status {told[1]}, printed {told[0]}')
+
+    def requests(self):
+        """With one allocation refused, and with all from one on."""
+        (booked, sheet, logged, empty_sheet), none = self.ends()
+        whole, closed = booked + sheet + logged, b'not opened\n'
+        one = [end for no in none for end in (no + empty_sheet + booked, booked + no + logged, booked + sheet + no)]
+        done_not_told = none[1] + sheet + logged
+        told = self.each([whole, closed, *one, done_not_told], False)
+        self.told('requests over lists, with no refusal', None if told == (whole, 0) else f'printed {told}')
+        rest = [b''.join([booked, sheet, logged][:count]) + b''.join(ends) for count in range(3) for ends in itertools.product(none, repeat=3 - count)]
+        self.each([whole, closed, *rest, None], True)
+
+
 class Servers(Tried):
     """A served database: what is answered with each allocation of a request refused."""
 
@@ -228,7 +262,7 @@ class Servers(Tried):
     def fault_of(self, told, whole, state, before, after):
         """What is wrong with what was answered and printed, or None. Where there is no memory for the line, the server ends as refused."""
         reply, line, _ = told
-        no_memory = b'HTTP/1.1 503 ' in reply and reply.endswith(b'\r\n\r\n{"name":"OutOfMemory","refusal":24}')
+        no_memory = b'HTTP/1.1 503 ' in reply and reply.endswith(b'\r\n\r\n' + NO_MEMORY)
         is_line = line in (reply.split(b' ')[1] if reply else b'fault', b'status 1')
         if is_line and reply == whole and state == after:
             return None
@@ -284,19 +318,18 @@ def answer(body, kind, status=b'200 OK'):
 
 def served(servers):
     """A submission, a batch that is taken and one that is handed out, and the questions."""
-    text, json = b'text/plain', b'application/json'
     done(servers.program, 'init', servers.base, 1, 1)
     done(servers.program, 'add-room', servers.base, 'oak')
     outcome = b'{"day":"1995-12-18","id":"1-1","mark":"T","start":"13:30","state":"booked","stop":"14:30"}'
-    servers.request('a submission', submission(), answer(outcome, json))
+    servers.request('a submission', submission(), answer(outcome, JSON))
     beta = b'mr1 2 1\nW 2 1 1 oak 60 1995-12-18 13:30 1 1995-12-18 15:00 Beta\nE\n'
-    servers.request('a push', posted(b'/push', beta), answer(b'took 1 writes 0 commits\n', text))
+    servers.request('a push', posted(b'/push', beta), answer(b'took 1 writes 0 commits\n', TEXT))
     both = b'mr1 1 1\nW 1 1 1 oak 60 1995-12-18 13:30 0 Budget Meeting\n' + beta[8:]
-    servers.request('a pull', posted(b'/pull', b'mp1 9 1\nK 0\nE\n'), answer(both, text))
+    servers.request('a pull', posted(b'/pull', b'mp1 9 1\nK 0\nE\n'), answer(both, TEXT))
     sheet = b'oak 1995-12-18 Monday\n13:30-14:30 T 1-1 Budget Meeting\n15:00-16:00 T 2-1 Beta\n'
-    for path, reply in ((b'/rooms/oak/requests/7-1', answer(b'{"name":"NoSuchRequest","refusal":9}', json, b'404 Not Found')),
-                        (b'/rooms/oak/requests/1-1', answer(outcome, json)), (b'/rooms/oak/errors', answer(b'oak errors\n(no errors)\n', text)),
-                        (b'/rooms/oak/days/1995-12-18', answer(sheet, text)), (b'/position', answer(b'mp1 1 1\nK 0\nV 1 1\nV 2 1\nE\n', text))):
+    for path, reply in ((b'/rooms/oak/requests/7-1', answer(b'{"name":"NoSuchRequest","refusal":9}', JSON, b'404 Not Found')),
+                        (b'/rooms/oak/requests/1-1', answer(outcome, JSON)), (b'/rooms/oak/errors', answer(b'oak errors\n(no errors)\n', TEXT)),
+                        (b'/rooms/oak/days/1995-12-18', answer(sheet, TEXT)), (b'/position', answer(b'mp1 1 1\nK 0\nV 1 1\nV 2 1\nE\n', TEXT))):
         servers.request(path.decode(), b'GET %s HTTP/1.1\r\n\r\n' % path, reply)
 
 
@@ -309,22 +342,23 @@ def start_of_server(databases):
 
 
 def main():
-    program, folder, *scripts = sys.argv[1:]
+    program, small, asked, folder, *scripts = sys.argv[1:]
     if not compiler():
         print('skipped: memory that is refused (no C compiler)')
         return
-    program, wrong = os.path.abspath(program), 0
+    programs = {Lists: program, Databases: program, Servers: program, Requests: small, Commands: asked}
     tried = {}
-    for kind in (Lists, Databases, Servers):
+    for kind, its_program in programs.items():
         os.makedirs(f'{folder}/{kind.__name__}', exist_ok=True)
-        tried[kind] = kind(program, empty(f'{folder}/{kind.__name__}'))
-    for script in scripts:
-        with open(script, encoding='ascii') as text:
-            lines = plain_script.lines_of(text.read())
+        tried[kind] = kind(os.path.abspath(its_program), empty(f'{folder}/{kind.__name__}'))
+    scripts = {os.path.basename(script): plain_script.lines_in(script) for script in scripts}
+    for name, lines in scripts.items():
         for kind in (Lists, Databases):
-            tried[kind].script(os.path.basename(script), lines)
+            tried[kind].script(name, lines)
     start_of_server(tried[Databases])
     served(tried[Servers])
+    tried[Requests].requests()
+    tried[Commands].scripts(list(scripts.values()))
     counts = [f'{kind.__name__.lower()} {it.allocations} allocations, {it.refused} refused, {it.late} done and not told, {it.wrong} wrong'
               for kind, it in tried.items()]
     print('; '.join(counts))

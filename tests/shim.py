@@ -1,4 +1,4 @@
-"""The shim refuse_nth.c, compiled, and the wishes that it reads."""
+"""The shims refuse_nth.c and refuse_each.c, compiled, and the wishes that the first one reads."""
 
 import mmap
 import os
@@ -15,14 +15,20 @@ def compiler():
     return next((found for found in map(shutil.which, ('cc', 'gcc', 'clang')) if found), None)
 
 
+def built(source, folder):
+    """The library that this file beside here is compiled to."""
+    library = f'{folder}/{source[:-2]}.so'
+    source = os.path.join(os.path.dirname(os.path.abspath(__file__)), source)
+    subprocess.run([compiler(), '-shared', '-fPIC', '-O1', '-o', library, source], check=True)
+    return library
+
+
 class Shim:
     """Refuses allocations of the processes that run in its environment, one at a time."""
 
     def __init__(self):
         self.folder = tempfile.TemporaryDirectory(prefix='rooms-shim-')
-        library, wishes = f'{self.folder.name}/refuse_nth.so', f'{self.folder.name}/wishes'
-        source = os.path.join(os.path.dirname(os.path.abspath(__file__)), 'refuse_nth.c')
-        subprocess.run([compiler(), '-shared', '-fPIC', '-O1', '-o', library, source], check=True)
+        library, wishes = built('refuse_nth.c', self.folder.name), f'{self.folder.name}/wishes'
         with open(wishes, 'w+b') as file:
             file.write(bytes(WISHES.size))
             file.flush()
