@@ -176,6 +176,7 @@ fn check_database(
     script: &[Row],
     want: &[(u32, u64)],
 ) -> Result<(), Fail> {
+    check::<SqlKeeper<MemStore>>(rt, alloc, Fault::OutOfMemory, script, want)?;
     check::<SqlKeeper<MemStore>>(rt, alloc, Fault::Store, script, want)
 }
 
