@@ -6,7 +6,7 @@ use Rattle.std.specs.Io.KnownBytes.{Consumes, IsAtEnd}
 use Rattle.httparse.specs.Grammar.{RequestHead, print_request, ResponseHead, print_response}
 use Rattle.httparse.proofs.GrammarLemmas.{ReadsRequest-append, ReadsResponse-append}
 use Rattle.mr_http.specs.Heads.{IsHead, IsReplyHead}
-use Rattle.mr_http.specs.Looks.{HasNone, HasNoneYet, Finds}
+use Rattle.mr_http.specs.Looks.{Awaits, HasNone, HasNoneYet, Finds}
 use Rattle.mr_http.specs.declared.heads.Kind.{Kind}
 use Rattle.mr_http.specs.declared.heads.Kind.TheVariants.{Request, Reply}
 
@@ -51,6 +51,11 @@ full_no_head Reply bytes ys full none = λ h rest head.
     let short : length (print_response h) ≤ length bytes = omega (arith, head.within, full) in
     none h (drop (length (print_response h)) bytes)
     (head.reads.0, front_of bytes ys (print_response h) rest head.reads.1 short)
+
+-- while a head may still come there is none
+pub has_none : (kind : Kind) (bytes : List ℕ) → Awaits kind bytes → HasNoneYet kind bytes
+has_none Request bytes awaits = awaits.0
+has_none Reply bytes awaits = awaits.0
 
 -- no head so far is no head within the limits
 pub none_yet : (kind : Kind) (bytes : List ℕ) → HasNoneYet kind bytes → HasNone kind bytes

@@ -1,8 +1,9 @@
--- A reader of the contracts trusts Faults, Fields, Heads and Inputs. The others, Looks and Lengths, serve private clauses and
+-- A reader of the contracts trusts Faults, Fields, Heads, Inputs and Reading. The others, Looks and Lengths, serve private clauses and
 -- proofs alone.
 pub mod Faults
 pub mod Fields
 pub mod Heads
 pub mod Inputs
+pub mod Reading
 pub mod Looks
 pub mod Lengths

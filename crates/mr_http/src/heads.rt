@@ -1,7 +1,8 @@
 ghost use Rattle.std.specs.Prelude.{◌≡◌, ◌≤◌, [], length, IfOk, OnOk};
 ghost use Rattle.std.specs.Io.KnownBytes.{Consumes};
 ghost use Rattle.mr_http.specs.Heads.{FindsHead, FindsReplyHead};
-ghost use Rattle.mr_http.specs.Looks.{LooksAt, Finds};
+ghost use Rattle.mr_http.specs.Looks.{LooksAt, Finds, Awaits};
+ghost use Rattle.mr_http.specs.Reading.{AwaitsHead, AwaitsReplyHead, IsReadWhile};
 ghost use Rattle.mr_http.specs.declared.heads.Kind.TheVariants.{Request, Reply};
 
 use crate::faults::ReadFault;
@@ -33,7 +34,8 @@ enum Look {
 }
 
 /// Reads until the head of a request is there, and answers how long it is; none where the input has none within the limits.
-/// The buffer then has all that was read, which may go on behind the head.
+/// The buffer then has all that was read, which may go on behind the head: reads ask for at most 512 bytes, and for more only while a
+/// head may still come.
 pub fn read_request_head<R: Read>(
     reader: &mut R,
     buffer: &mut Vec<u8>,
@@ -41,6 +43,7 @@ pub fn read_request_head<R: Read>(
     requires { buffer.old.items ≡ [] }
     ensures consumed { OnOk result (Consumes (R.remaining reader.old) (R.remaining reader.new) buffer.new.items) }
     ensures found { IfOk result (FindsHead (R.remaining reader.old) buffer.new.items) }
+    ensures pieces { OnOk result (IsReadWhile AwaitsHead buffer.new.items) }
 {
     read_head(Kind::Request, reader, buffer)
 }
@@ -53,6 +56,7 @@ pub fn read_reply_head<R: Read>(
     requires { buffer.old.items ≡ [] }
     ensures consumed { OnOk result (Consumes (R.remaining reader.old) (R.remaining reader.new) buffer.new.items) }
     ensures found { IfOk result (FindsReplyHead (R.remaining reader.old) buffer.new.items) }
+    ensures pieces { OnOk result (IsReadWhile AwaitsReplyHead buffer.new.items) }
 {
     read_head(Kind::Reply, reader, buffer)
 }
@@ -65,6 +69,7 @@ fn read_head<R: Read>(
     requires { buffer.old.items ≡ [] }
     ensures consumed { OnOk result (Consumes (R.remaining reader.old) (R.remaining reader.new) buffer.new.items) }
     ensures found { IfOk result (Finds kind (R.remaining reader.old) buffer.new.items) }
+    ensures pieces { OnOk result (IsReadWhile (Awaits kind) buffer.new.items) }
 {
     'reading: loop {
         match look_at(kind, buffer.as_slice()) {

@@ -15,6 +15,7 @@ pub(crate) fn read_piece<R: Read>(
     requires { 0 < room }
     ensures bytes { IfOk result (λ n. (piece : List ℕ) × (buffer.new.items ≡ buffer.old.items ++ piece) × (length piece ≡ n)
         × (n ≤ room) × Consumes (R.remaining reader.old) (R.remaining reader.new) piece × (n ≡ 0 → IsAtEnd (R.remaining reader.new))) }
+    ensures small { IfOk result (λ n. n ≤ 512) }
     ensures len { IfOk result (λ n. vec_len buffer.new ≡ vec_len buffer.old + n) }
 {
     let mut piece = [0u8; PIECE];

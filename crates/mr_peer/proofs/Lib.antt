@@ -2,6 +2,7 @@ pub mod AskLemmas
 pub mod Exchanges
 pub mod FaultLemmas
 pub mod OneReply
+pub mod ReadBytes
 pub mod ReplyLemmas
 pub mod RequestTexts
 pub mod StepLemmas

@@ -1,8 +1,9 @@
--- A reader of the contracts trusts Asking, Exchanged, Laws, Replies, Requests, Rounds, Steps, Taking and Took. The others, Seen and
--- TookWords, serve private clauses and proofs alone.
+-- A reader of the contracts trusts Asking, Exchanged, Laws, Read, Replies, Requests, Rounds, Steps, Taking and Took. The others, Seen
+-- and TookWords, serve private clauses and proofs alone.
 pub mod Asking
 pub mod Exchanged
 pub mod Laws
+pub mod Read
 pub mod Replies
 pub mod Requests
 pub mod Rounds

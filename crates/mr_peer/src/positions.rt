@@ -1,7 +1,9 @@
 ghost use Rattle.std.specs.Prelude.{◌≡◌, [], IsTrue, IfErr, length, ok_or};
 ghost use Rattle.mr_model.specs.Positions as model;
+ghost use Rattle.mr_http.specs.Reading.{OnceRead};
 ghost use Rattle.mr_http.specs.declared.faults.WebFault.TheVariants.{BadReply};
 ghost use Rattle.mr_peer.specs.Asking.{Wrote, IsSendFault};
+ghost use Rattle.mr_peer.specs.Read.{ReadsNoFurther};
 ghost use Rattle.mr_peer.specs.Replies.{told_position};
 ghost use Rattle.mr_peer.specs.Requests.{is_host, position_request};
 ghost use Rattle.mr_peer.specs.Seen.{reply_seen, IsInside, unread};
@@ -28,6 +30,7 @@ pub fn position_ask<W: Write>(alloc: Global, host: &str, writer: &mut W) -> Resu
 pub fn position_take<R: Read>(alloc: Global, reader: &mut R) -> Result<Position, WebFault>
     ensures tells { Tells told_position (R.remaining reader.old) result }
     ensures fault { IfErr result IsReplyFault }
+    ensures reads { OnceRead (ReadsNoFurther (R.remaining reader.old) (R.remaining reader.new)) result }
 {
     let mut buffer = Vec::new(alloc);
     take_position(alloc, reader, &mut buffer)
@@ -41,6 +44,7 @@ fn take_position<R: Read>(
     requires { buffer.old.items ≡ [] }
     ensures tells { Tells told_position (R.remaining reader.old) result }
     ensures fault { IfErr result IsReplyFault }
+    ensures reads { OnceRead (ReadsNoFurther (R.remaining reader.old) (R.remaining reader.new)) result }
 {
     let replied = read_reply(reader, buffer)?;
     position_of(alloc, buffer.as_slice(), replied)

@@ -1,10 +1,12 @@
 ghost use Rattle.std.specs.Prelude.{◌≡◌, [], IsTrue, IfOk, IfErr, Ok, length};
 ghost use Rattle.mr_model.specs.Serving.{Reaches};
 ghost use Rattle.mr_model.specs.Step.{AskPosition};
+ghost use Rattle.mr_http.specs.Reading.{OnceRead};
 ghost use Rattle.mr_service.specs.Asked.{reply_of};
 ghost use Rattle.mr_service.specs.Worlds.{IsPositionText};
 ghost use Rattle.mr_peer.specs.Asking.{AsksPull, HandsPosition, IsAskFault, IsSomePosition, ReadsOff, SendsPull};
 ghost use Rattle.mr_peer.specs.Exchanged.{IsExchanged};
+ghost use Rattle.mr_peer.specs.Read.{ReadsNoFurther};
 ghost use Rattle.mr_peer.specs.Replies as spec;
 ghost use Rattle.mr_peer.specs.Requests.{is_host};
 ghost use Rattle.mr_peer.specs.Seen.{reply_seen, IsInside, counts_seen};
@@ -83,6 +85,7 @@ pub fn pull_take<K: Keeper, R: Read>(
     ensures tells { TellsPulled (R.remaining reader.old) result }
     ensures fault { IfErr result IsTakeFault }
     ensures leaves { IfErr result (LeavesTables K.Keeper service.old service.new) }
+    ensures reads { OnceRead (ReadsNoFurther (R.remaining reader.old) (R.remaining reader.new)) result }
 {
     let mut buffer = Vec::new(alloc);
     take_reply(alloc, service, reader, &mut buffer)
@@ -100,6 +103,7 @@ fn take_reply<K: Keeper, R: Read>(
     ensures tells { TellsPulled (R.remaining reader.old) result }
     ensures fault { IfErr result IsTakeFault }
     ensures leaves { IfErr result (LeavesTables K.Keeper service.old service.new) }
+    ensures reads { OnceRead (ReadsNoFurther (R.remaining reader.old) (R.remaining reader.new)) result }
 {
     let replied = read_reply(reader, buffer)?;
     take_body(alloc, service, buffer.as_slice(), replied)

@@ -3,10 +3,12 @@ ghost use Rattle.mr_model.specs.Http.{lines_over_http};
 ghost use Rattle.mr_model.specs.Serving.{Reaches};
 ghost use Rattle.mr_model.specs.Step.{BatchFor};
 ghost use Rattle.mr_base.specs.Batches.{ending_of};
+ghost use Rattle.mr_http.specs.Reading.{OnceRead};
 ghost use Rattle.mr_http.specs.declared.faults.WebFault.TheVariants.{BadReply};
 ghost use Rattle.mr_service.specs.Asked.{command_of, reply_of};
 ghost use Rattle.mr_peer.specs.Asking.{AsksPush, HandsBatch, IsAskFault, IsBatchWith, IsSomeBatch, ReadsOff, SendsPush, lacking};
 ghost use Rattle.mr_peer.specs.Exchanged.{IsExchanged};
+ghost use Rattle.mr_peer.specs.Read.{ReadsNoFurther};
 ghost use Rattle.mr_peer.specs.Replies.{told_took};
 ghost use Rattle.mr_peer.specs.Requests.{is_host};
 ghost use Rattle.mr_peer.specs.Seen.{reply_seen, IsInside};
@@ -92,6 +94,7 @@ fn batch_in(alloc: Global, reply: &Reply) -> Result<(Vec<u8>, Ending), WebFault>
 pub fn push_take<R: Read>(alloc: Global, reader: &mut R) -> Result<(u64, u64), WebFault>
     ensures tells { Tells told_took (R.remaining reader.old) result }
     ensures fault { IfErr result IsReplyFault }
+    ensures reads { OnceRead (ReadsNoFurther (R.remaining reader.old) (R.remaining reader.new)) result }
 {
     let mut buffer = Vec::new(alloc);
     take_took(reader, &mut buffer)
@@ -101,6 +104,7 @@ fn take_took<R: Read>(reader: &mut R, buffer: &mut Vec<u8>) -> Result<(u64, u64)
     requires { buffer.old.items ≡ [] }
     ensures tells { Tells told_took (R.remaining reader.old) result }
     ensures fault { IfErr result IsReplyFault }
+    ensures reads { OnceRead (ReadsNoFurther (R.remaining reader.old) (R.remaining reader.new)) result }
 {
     let replied = read_reply(reader, buffer)?;
     took_of(buffer.as_slice(), replied)

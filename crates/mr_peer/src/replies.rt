@@ -1,8 +1,9 @@
-ghost use Rattle.std.specs.Prelude.{◌≡◌, ◌≤◌, ℕ, List, [], length, vec_len, IfOk, IfSome, option_map, true};
+ghost use Rattle.std.specs.Prelude.{◌≡◌, ◌≤◌, ℕ, List, [], length, vec_len, IfOk, IfSome, OnOk, option_map, true};
 ghost use Rattle.httparse.specs.Grammar.{ResponseHead, ReadsResponse, status_code};
 ghost use Rattle.mr_http.specs.Fields.{header_fields};
 ghost use Rattle.mr_http.specs.Inputs.{OfInput};
 ghost use Rattle.mr_model.specs.Http as model;
+ghost use Rattle.mr_peer.specs.Read.{ReadsNoFurther};
 ghost use Rattle.mr_peer.specs.Replies.{IsReplied, length_in, within_limit};
 ghost use Rattle.mr_peer.specs.Replies as spec;
 ghost use Rattle.mr_peer.specs.Seen.{reply_seen, IsInside, body_seen};
@@ -27,6 +28,7 @@ pub(crate) fn read_reply<R: Read>(
     requires { buffer.old.items ≡ [] }
     ensures replied { IfOk result (λ found. OfInput (R.remaining reader.old) (λ input. IsReplied input (reply_seen buffer.new.items found))) }
     ensures inside { IfOk result (IsInside (vec_len buffer.new)) }
+    ensures reads { OnOk result (ReadsNoFurther (R.remaining reader.old) (R.remaining reader.new)) }
 {
     let Some(start) = read_reply_head(reader, buffer)? else {
         return Ok(None);

@@ -4,6 +4,7 @@ pub mod MemberCounts
 pub mod OneReading
 pub mod PathWords
 pub mod PlainTexts
+pub mod ReadBytes
 pub mod Requests
 pub mod Served
 pub mod SlotLists

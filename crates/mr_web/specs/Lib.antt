@@ -1,8 +1,9 @@
--- A reader of the contracts trusts Asking, Laws, Routes, Served, Steps, Submissions, Views, Words and Written. The others, Plain and
--- Replies, serve private clauses and proofs alone.
+-- A reader of the contracts trusts Asking, Laws, Read, Routes, Served, Steps, Submissions, Views, Words and Written. The others, Plain
+-- and Replies, serve private clauses and proofs alone.
 pub mod Asking
 pub mod Laws
 pub mod Plain
+pub mod Read
 pub mod Replies
 pub mod Routes
 pub mod Served

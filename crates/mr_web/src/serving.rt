@@ -1,12 +1,14 @@
-ghost use Rattle.std.specs.Prelude.{◌≡◌, ◌≤◌, [], Ok, Option, IfOk, IfErr, length, drop};
+ghost use Rattle.std.specs.Prelude.{◌≡◌, ◌≤◌, [], Ok, Option, IfOk, IfErr, OnOk, length, drop};
 ghost use Rattle.std.specs.Io.KnownBytes.{Keeps};
 ghost use Rattle.mr_model.specs.Texts.{Text};
 ghost use Rattle.mr_model.specs.Http as model;
 ghost use Rattle.mr_service.specs.Asked.{command_of as command_view};
 ghost use Rattle.mr_http.specs.Inputs.{OfInput};
+ghost use Rattle.mr_http.specs.Reading.{OnceRead};
 ghost use Rattle.mr_http.specs.declared.faults.ReadFault.TheVariants.{Read as read_fault, Memory as memory_fault};
 ghost use Rattle.mr_http.specs.declared.faults.WebFault.TheVariants.{Read as fault_read};
 ghost use Rattle.mr_web.specs.Asking as spec;
+ghost use Rattle.mr_web.specs.Read.{ReadsNoFurther, UnlessFault};
 ghost use Rattle.mr_web.specs.Served.{IsRequest};
 ghost use Rattle.mr_web.specs.Steps.{IsServable};
 ghost use Rattle.mr_web.specs.Views.{AnswersTo, Ends, Gives, IsServeFault, Settles, StopsWith};
@@ -67,6 +69,7 @@ fn request_in<R: Read>(alloc: Global, reader: &mut R, buffer: &mut Vec<u8>) -> R
     requires { buffer.old.items ≡ [] }
     ensures settles { OfInput (R.remaining reader.old) (λ input. Settles input result) }
     ensures servable { IfOk result (λ command. IsServable (command_view command)) }
+    ensures reads { UnlessFault (ReadsNoFurther (R.remaining reader.old) (R.remaining reader.new)) result }
 {
     let Some(start) = read_request_head(reader, buffer)? else {
         return Err(Stop::Rejected(Rejection::BadRequest));
@@ -81,6 +84,7 @@ fn request_in<R: Read>(alloc: Global, reader: &mut R, buffer: &mut Vec<u8>) -> R
 fn request_from<R: Read>(alloc: Global, reader: &mut R) -> Result<Command, Stop>
     ensures settles { OfInput (R.remaining reader.old) (λ input. Settles input result) }
     ensures servable { IfOk result (λ command. IsServable (command_view command)) }
+    ensures reads { UnlessFault (ReadsNoFurther (R.remaining reader.old) (R.remaining reader.new)) result }
 {
     let mut buffer = Vec::new(alloc);
     request_in(alloc, reader, &mut buffer)
@@ -120,6 +124,7 @@ fn answer_one<R: Read, K: Keeper>(
 ) -> Result<Answer, ReadFault>
     ensures served { IsRequest K.Keeper service.old service.new (R.remaining reader.old) result (λ answer. answer.status) AnswersTo Makes }
     ensures read { IfErr result (λ e. e ≡ read_fault → service.new ≡ service.old) }
+    ensures reads { OnOk result (ReadsNoFurther (R.remaining reader.old) (R.remaining reader.new)) }
 {
     match request_from(alloc, reader) {
         Ok(command) => answer_command(alloc, &command, service),
@@ -128,7 +133,7 @@ fn answer_one<R: Read, K: Keeper>(
 }
 
 /// Reads one request, serves it, writes its reply and answers the reply's status. What follows the request is passed over,
-/// though some of it may have been read. With the fault `Read` nothing was done or written; with `Memory` nothing was written, and the
+/// though up to 511 bytes behind the head may have been read. With the fault `Read` nothing was done or written; with `Memory` nothing was written, and the
 /// command may have been done; with `Write` a front of the reply was written, and the command stands as done or refused. No
 /// other fault comes. Whatever the reader gives, at most one command is done, and that one which some route gives. After every
 /// reply but one of 503 an open keeper is open.
@@ -142,6 +147,7 @@ pub fn serve_one<R: Read, W: Write, K: Keeper>(
         (Ends (W.contents writer.old) (W.contents writer.new)) (Writes (W.contents writer.old) (W.contents writer.new)) }
     ensures read { IfErr result (λ e. e ≡ fault_read → Keeps (W.contents writer.old) (W.contents writer.new) × (service.new ≡ service.old)) }
     ensures fault { IfErr result IsServeFault }
+    ensures reads { OnceRead (ReadsNoFurther (R.remaining reader.old) (R.remaining reader.new)) result }
 {
     let answer = answer_one(alloc, reader, service)?;
     send(writer, answer.bytes.as_slice())?;

@@ -4,7 +4,10 @@ use Rattle.mr_base.specs.declared.batches.Ending.{Ending}
 use Rattle.mr_http.specs.Faults.{web_fault}
 use Rattle.mr_http.specs.declared.faults.WebFault.{WebFault}
 use Rattle.mr_http.specs.Inputs.{OfInput}
+use Rattle.mr_http.proofs.ReadLemmas.{once_read}
 use Rattle.mr_peer.specs.Exchanged.{IsExchanged}
+use Rattle.mr_peer.specs.Read.{ReadsNoFurther}
+use Rattle.mr_peer.proofs.ReadBytes.{lost_read}
 use Rattle.mr_peer.specs.Replies.{IsReplied, front_body}
 use Rattle.mr_peer.specs.Seen.{reply_seen}
 use Rattle.mr_peer.specs.Steps.{LeavesTables, TakesBody, TakesPulled}
@@ -63,3 +66,13 @@ pub returns-in_err-replied-clause-leaves : goal.returns-in_err-replied-clause-le
 returns-in_err-replied-clause-leaves g c =
     let old = c.args.service.now in
     handed_on (LeavesTables g.K.Keeper old old) (web_fault c.in_err-replied.field-0.0) c.from_residual.result (λ other clean now. refl) c.from_residual.ensures.1
+
+pub returns-in_err-replied-clause-reads : goal.returns-in_err-replied-clause-reads
+returns-in_err-replied-clause-reads g c =
+    lost_read _ (ReadsNoFurther (g.R.Read.remaining c.args.reader.now) (g.R.Read.remaining c.read_reply.new.reader)) c.in_err-replied.field-0.0
+    c.from_residual.result c.from_residual.ensures.1
+
+pub returns-clause-reads : goal.returns-clause-reads
+returns-clause-reads g c =
+    once_read (ReadsNoFurther (g.R.Read.remaining c.args.reader.now) (g.R.Read.remaining c.read_reply.new.reader)) c.take_body.result
+    c.in_ok-replied.ensures.reads

@@ -1,6 +1,9 @@
 use Rattle.std.proofs.Common.{ℕ, List, sym, subst}
 use Rattle.mr_http.specs.Faults.{web_fault}
 use Rattle.mr_http.specs.Inputs.{OfInput}
+use Rattle.mr_http.proofs.ReadLemmas.{once_read}
+use Rattle.mr_peer.specs.Read.{ReadsNoFurther}
+use Rattle.mr_peer.proofs.ReadBytes.{lost_read}
 use Rattle.mr_peer.specs.Replies.{IsReplied, told_took}
 use Rattle.mr_peer.specs.Seen.{reply_seen}
 use Rattle.mr_peer.specs.Taking.{IsReplyFault}
@@ -25,3 +28,13 @@ pub returns-clause-fault : goal.returns-clause-fault
 returns-clause-fault g c =
     let reply = reply_seen c.as_slice.result.now c.in_ok-replied.replied in
     says_faults (told_took reply) c.took_of.result (took_faults reply) c.took_of.ensures
+
+pub returns-in_err-replied-clause-reads : goal.returns-in_err-replied-clause-reads
+returns-in_err-replied-clause-reads g c =
+    lost_read _ (ReadsNoFurther (g.R.Read.remaining c.args.reader.now) (g.R.Read.remaining c.read_reply.new.reader)) c.in_err-replied.field-0.0
+    c.from_residual.result c.from_residual.ensures.1
+
+pub returns-clause-reads : goal.returns-clause-reads
+returns-clause-reads g c =
+    once_read (ReadsNoFurther (g.R.Read.remaining c.args.reader.now) (g.R.Read.remaining c.read_reply.new.reader)) c.took_of.result
+    c.in_ok-replied.ensures.reads

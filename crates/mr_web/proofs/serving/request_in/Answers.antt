@@ -1,4 +1,4 @@
-use Rattle.std.proofs.Common.{◌≡◌, ◌++◌, ◌≤◌, ℕ, List, length, drop, arith, ap, sym, subst, ◌∙◌, vec_len, Option, Result, Ok, Err, length-drop, length-append}
+use Rattle.std.proofs.Common.{◌≡◌, ◌++◌, ◌≤◌, ◌-◌, ℕ, List, length, drop, arith, ap, sym, subst, ◌∙◌, vec_len, Option, Result, Ok, Err, length-drop, length-append}
 use Rattle.std.proofs.lemmas.List.{drop-append-le}
 use Rattle.httparse.specs.Grammar.{ReadsRequest}
 use Rattle.std.proofs.lemmas.Result.{err_from_is_err_and}
@@ -7,11 +7,13 @@ use Rattle.mr_http.specs.Heads.{BeginsWithHead, FindsHead}
 use Rattle.mr_http.specs.Inputs.{OfInput}
 use Rattle.mr_http.proofs.HeadLemmas.{head_more, head_short}
 use Rattle.mr_web.specs.Asking.{asked_by, body_in}
+use Rattle.mr_web.specs.Read.{ReadsNoFurther, UnlessFault}
 use Rattle.mr_web.specs.Views.{asked_view, Fails, Settles}
 use Rattle.mr_web.specs.Words.{route_view}
 use Rattle.mr_service.specs.declared.commands.Command.{Command}
 use Rattle.mr_web.specs.declared.rejections.Stop.{Stop}
 use Rattle.mr_http.proofs.Known.{of_input_unit}
+use Rattle.mr_web.proofs.ReadBytes.{head_read, body_read, unless_fault}
 use Rattle.mr_web.proofs.Requests.{settles_none, settles_result, settles_head_stop, settles_body_stop}
 use Rattle.mr_web.proofs.Steps.{gives_servable}
 use Rattle.mr_web.proofs.serving.request_in.Goals as goal
@@ -119,3 +121,77 @@ returns-in_err-fill_to-clause-settles g c =
 pub returns-clause-servable : goal.returns-clause-servable
 returns-clause-servable g c =
     gives_servable (route_view c.in_ok-asked.asked.route) c.in_ok-body.body.now c.command_of.result c.command_of.ensures
+
+-- ---- how far the reader was read
+
+pub returns-clause-reads : goal.returns-clause-reads
+returns-clause-reads g c =
+    let known = g.R.Read.remaining c.args.reader.now in
+    let between = g.R.Read.remaining c.read_request_head.new.reader in
+    let left = g.R.Read.remaining c.fill_to.new.reader in
+    let first = c.read_request_head.new.buffer.items in
+    let start = c.in-Some.start in
+    let P : Option ℕ → Type 0 = λ o. FindsHead known first o in
+    let found : BeginsWithHead first start = subst P c.in-Some.is c.in_ok-start.ensures.found in
+    let filled = c.in_ok-fill_to.ensures in
+    let whole = Consumes-trans known between left first filled.0 c.in_ok-start.ensures.consumed filled.2 in
+    let h = found.0 in
+    let Q : List ℕ → Type 0 = λ l. ReadsRequest l h (drop start first) in
+    let reads = subst Q (sym c.as_slice.ensures.value) found.1.reads in
+    let a = asked_view c.in_ok-asked.asked in
+    let asked : asked_by h ≡ Ok a = c.in_ok-asked.ensures.gives h (drop start first) reads found.1.fields in
+    let short : start ≤ length first = omega (arith, head_short first h (drop start first) found.1, found.2) in
+    let size : vec_len c.read_request_head.new.buffer ≡ length first = c.read_request_head.new.buffer.ok.0 in
+    let few : length filled.0 ≤ a.1 - length (drop start first) = omega (arith, filled.4, size, short, length-drop start first) in
+    let no_further = body_read known left first filled.0 (drop start first) h a whole c.in_ok-start.ensures.pieces found.1 asked few in
+    unless_fault (ReadsNoFurther known left) c.command_of.result no_further
+
+pub returns-in_err-body-clause-reads : goal.returns-in_err-body-clause-reads
+returns-in_err-body-clause-reads g c =
+    let known = g.R.Read.remaining c.args.reader.now in
+    let between = g.R.Read.remaining c.read_request_head.new.reader in
+    let left = g.R.Read.remaining c.fill_to.new.reader in
+    let first = c.read_request_head.new.buffer.items in
+    let start = c.in-Some.start in
+    let P : Option ℕ → Type 0 = λ o. FindsHead known first o in
+    let found : BeginsWithHead first start = subst P c.in-Some.is c.in_ok-start.ensures.found in
+    let filled = c.in_ok-fill_to.ensures in
+    let whole = Consumes-trans known between left first filled.0 c.in_ok-start.ensures.consumed filled.2 in
+    let h = found.0 in
+    let Q : List ℕ → Type 0 = λ l. ReadsRequest l h (drop start first) in
+    let reads = subst Q (sym c.as_slice.ensures.value) found.1.reads in
+    let a = asked_view c.in_ok-asked.asked in
+    let asked : asked_by h ≡ Ok a = c.in_ok-asked.ensures.gives h (drop start first) reads found.1.fields in
+    let short : start ≤ length first = omega (arith, head_short first h (drop start first) found.1, found.2) in
+    let size : vec_len c.read_request_head.new.buffer ≡ length first = c.read_request_head.new.buffer.ok.0 in
+    let few : length filled.0 ≤ a.1 - length (drop start first) = omega (arith, filled.4, size, short, length-drop start first) in
+    let no_further = body_read known left first filled.0 (drop start first) h a whole c.in_ok-start.ensures.pieces found.1 asked few in
+    unless_fault (ReadsNoFurther known left) c.from_residual-in_err-body.result no_further
+
+pub returns-in_err-asked-clause-reads : goal.returns-in_err-asked-clause-reads
+returns-in_err-asked-clause-reads g c =
+    let known = g.R.Read.remaining c.args.reader.now in
+    let left = g.R.Read.remaining c.read_request_head.new.reader in
+    unless_fault (ReadsNoFurther known left) c.from_residual-in_err-asked.result
+    (head_read known left c.read_request_head.new.buffer.items c.in_ok-start.ensures.consumed c.in_ok-start.ensures.pieces)
+
+pub returns-in_default-clause-reads : goal.returns-in_default-clause-reads
+returns-in_default-clause-reads g c =
+    head_read (g.R.Read.remaining c.args.reader.now) (g.R.Read.remaining c.read_request_head.new.reader) c.read_request_head.new.buffer.items
+    c.in_ok-start.ensures.consumed c.in_ok-start.ensures.pieces
+
+pub returns-in_err-start-clause-reads : goal.returns-in_err-start-clause-reads
+returns-in_err-start-clause-reads g c =
+    let known = g.R.Read.remaining c.args.reader.now in
+    let left = g.R.Read.remaining c.read_request_head.new.reader in
+    let told = err_from_is_err_and c.from_residual.result c.from_residual.ensures.1 in
+    let S : Result Command Stop → Type 0 = λ r. UnlessFault (ReadsNoFurther known left) r in
+    subst S (sym (told.1 ∙ ap Err told.2)) tt
+
+pub returns-in_err-fill_to-clause-reads : goal.returns-in_err-fill_to-clause-reads
+returns-in_err-fill_to-clause-reads g c =
+    let known = g.R.Read.remaining c.args.reader.now in
+    let left = g.R.Read.remaining c.fill_to.new.reader in
+    let told = err_from_is_err_and c.from_residual-in_err-fill_to.result c.from_residual-in_err-fill_to.ensures.1 in
+    let S : Result Command Stop → Type 0 = λ r. UnlessFault (ReadsNoFurther known left) r in
+    subst S (sym (told.1 ∙ ap Err told.2)) tt

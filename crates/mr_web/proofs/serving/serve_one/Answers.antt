@@ -5,6 +5,9 @@ use Rattle.std.specs.Io.KnownBytes.{Appends}
 use Rattle.mr_http.specs.Faults.{web_fault}
 use Rattle.mr_http.specs.declared.faults.WebFault.{WebFault}
 use Rattle.mr_http.specs.declared.faults.WebFault.TheVariants.{Write}
+use Rattle.mr_http.specs.Reading.{OnceRead}
+use Rattle.mr_http.proofs.ReadLemmas.{not_read, once_read}
+use Rattle.mr_web.specs.Read.{ReadsNoFurther}
 use Rattle.mr_web.specs.Served.{IsRequest}
 use Rattle.mr_web.specs.Views.{AnswersTo, Ends, IsServeFault, bytes_view}
 use Rattle.mr_web.specs.Written.{Makes, Writes}
@@ -69,3 +72,16 @@ pub returns-in_err-send-clause-fault : goal.returns-in_err-send-clause-fault
 returns-in_err-send-clause-fault g c =
     let told = err_from_is_err_and c.from_residual-in_err-send.result c.from_residual-in_err-send.ensures.1 in
     subst (λ (r : Result ℕ WebFault). IfErr r IsServeFault) (sym (told.1 ∙ ap Err (told.2 ∙ c.in_err-send.ensures.fault))) tt
+
+-- ---- how far the reader was read
+
+pub returns-in_err-answer-clause-reads : goal.returns-in_err-answer-clause-reads
+returns-in_err-answer-clause-reads g c =
+    let told = err_from_is_err_and c.from_residual.result c.from_residual.ensures.1 in
+    let P = ReadsNoFurther (g.R.Read.remaining c.args.reader.now) (g.R.Read.remaining c.answer_one.new.reader) in
+    subst (λ (r : Result ℕ WebFault). OnceRead P r) (sym (told.1 ∙ ap Err told.2)) (not_read ℕ P c.in_err-answer.field-0.0)
+
+pub returns-in_err-send-clause-reads : goal.returns-in_err-send-clause-reads
+returns-in_err-send-clause-reads g c =
+    once_read (ReadsNoFurther (g.R.Read.remaining c.args.reader.now) (g.R.Read.remaining c.answer_one.new.reader)) c.from_residual-in_err-send.result
+    c.in_ok-answer.ensures.reads
