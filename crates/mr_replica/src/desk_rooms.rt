@@ -35,11 +35,7 @@ impl Desk {
 }
 
 /// Puts a room more.
-pub fn room_change(
-    alloc: Global,
-    summary: &Summary,
-    room: &RoomName,
-) -> Result<Change, Refusal>
+pub fn room_change(alloc: Global, summary: &Summary, room: &RoomName) -> Result<Change, Refusal>
     ensures change { IfOk result (λ change. change ≡ written (meta_of summary.now) (room.now ∷ []) [] summary.now.commits 1 [] [] []) }
     ensures only { IfErr result (λ e. e ≡ Refusal.OutOfMemory) }
 {

@@ -96,11 +96,7 @@ impl Outgoing {
     }
 
     /// Those of these writes that the position lacks.
-    fn push_lacked(
-        &mut self,
-        position: &Position,
-        writes: &[Write],
-    ) -> Result<(), Refusal>
+    fn push_lacked(&mut self, position: &Position, writes: &[Write]) -> Result<(), Refusal>
         ensures items { OnOk result ((items : List ItemOfBatch) → Offers self.old.limit items self.old.items.items self.old.more
             → Offers self.old.limit (items ++ lacked_items position.now writes.now) self.new.items.items self.new.more) }
         ensures limit { self.new.limit ≡ self.old.limit }

@@ -4,8 +4,8 @@ use crate::desks::server;
 use mr_base::{Day, Refusal, RoomName, Title, WriteId};
 use mr_replay::Place;
 use mr_tables::{
-    ActionCells, BookingRow, CancelRow, CancelledRow, ErrorRow, LogRow, MeetingCells, MetaRow, Tables,
-    VectorRow,
+    ActionCells, BookingRow, CancelRow, CancelledRow, ErrorRow, LogRow, MeetingCells, MetaRow,
+    Tables, VectorRow,
 };
 use std::alloc::Global;
 
@@ -142,10 +142,7 @@ fn cancelled(alloc: Global, of: &[(u32, u32, bool)]) -> Result<Vec<CancelledRow>
     Ok(rows)
 }
 
-fn cancels(
-    alloc: Global,
-    of: &[(u32, u32, bool, u64, u64)],
-) -> Result<Vec<CancelRow>, Refusal> {
+fn cancels(alloc: Global, of: &[(u32, u32, bool, u64, u64)]) -> Result<Vec<CancelRow>, Refusal> {
     let mut rows = Vec::new(alloc);
     for (number, target, done, time, seq) in of {
         rows.push(CancelRow {
