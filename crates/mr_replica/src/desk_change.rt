@@ -1,13 +1,16 @@
 ghost use Rattle.std.specs.Prelude.{◌≡◌, ◌+◌, ◌<◌, ◌^◌, length, IfOk, IfErr};
 ghost use Rattle.mr_tables.specs.Written.{meta_of, changed_tallies as rows_changed, written};
+ghost use Rattle.mr_replica.specs.Placing.{cancellers_on};
 
 use crate::Desk;
+use crate::placing::cancellers;
 use mr_base::{Refusal, RoomName, Write, WriteId};
-use mr_replay::UndoRow;
+use mr_replay::{Board, UndoRow};
 use mr_tables::Change;
 use mr_tables::summary::Summary;
 use mr_tables::vector::changed_tallies;
 use mr_tables::written::written;
+use std::alloc::Global;
 
 impl Desk {
     /// The change to a desk of those numbers, with these rooms more, where these writes, with what undoes each and the cancels

@@ -18,9 +18,9 @@ all_added : {T E X : Type 0} (r : Result T E) (new was xs : List X) → is_ok r 
 all_added r new was xs ok e = e ∙ cond-true (is_ok r) (was ++ xs) was ok
 
 -- the rows of the dropped cancels come behind the old ones
-cancels_added : (c : goal.After-append-2) → c.append-2.new.self.items ≡ c.self.inside.old_cancels.items ++ c.in_ok-cancels.cancels.items
+cancels_added : (c : goal.After-drop-errors-2) → c.append-2.new.self.items ≡ c.self.inside.old_cancels.items ++ c.in_ok-cancels.cancels.items
 cancels_added c =
-    let fits = c.append-2.ensures.succeeds (omega (arith, c.in_ok-reserve.ensures.ok, c.len-2.ensures)) in
+    let fits = c.append-2.ensures.succeeds (omega (arith, c.in_ok-reserve.ensures.ok, c.len.ensures)) in
     all_added c.append-2.result c.append-2.new.self.items _ c.in_ok-cancels.cancels.items fits c.append-2.ensures.items
     ∙ ap (λ xs. xs ++ c.in_ok-cancels.cancels.items) c.in_ok-reserve.ensures.items
 
