@@ -1,39 +1,28 @@
 -- A part that takes a batch: its answer is what the items give.
-use Rattle.std.proofs.Common.{◌≡◌, ℕ, zero, suc, ◌+◌, ◌-◌, ◌<◌, ◌≤◌, ◌==◌, not, Bool, true, false, None, Some, List, [], ◌∷◌, length, map, drop, get_or, ◌⊎◌, Result, Ok, Err, IfOk, ap, refl, sym, ◌∙◌, subst, inl, inr, arith, IsTrue}
-use Rattle.std.specs.List.{list_all, filter, AllByRecursion}
-use Rattle.std.proofs.lemmas.Bool.{and_parts}
+use Rattle.std.proofs.Common.{◌≡◌, ℕ, ◌-◌, ◌==◌, not, Bool, true, false, None, Some, List, [], length, ◌⊎◌, Result, Ok, Err, IfOk, ap, sym, ◌∙◌, subst, inl, inr, arith}
+use Rattle.std.specs.List.{list_all}
 use Rattle.std.proofs.lemmas.Bool.Decides.{nat_tests}
-use Rattle.std.proofs.lemmas.List.{length-map}
-use Rattle.mr_model.specs.Texts.{Text, only_if}
-use Rattle.mr_model.specs.Dropped.{Has}
+use Rattle.mr_model.specs.Texts.{only_if}
 use Rattle.mr_model.specs.Exchange.{Item, Header, Batch, is_item}
-use Rattle.mr_model.specs.Kept.{kept_in_order}
 use Rattle.mr_model.specs.Refusals as model
 use Rattle.mr_model.specs.Replica.{Replica, IsReplica}
 use Rattle.mr_model.specs.Replies.{Took, Refused}
 use Rattle.mr_model.specs.Scopes.{Scope, OfItems}
 use Rattle.mr_model.specs.Step.{After, after_items, step_unless, receive_under, receive_batch}
-use Rattle.mr_model.specs.Tables.{seq_of, tables_of}
-use Rattle.mr_model.specs.Taking.{Progress, take_item, take_items}
-use Rattle.mr_model.specs.Writes.{Write}
-use Rattle.mr_model.proofs.TakingKeeps.{IsItem, KeepsReplica, item_keeps}
+use Rattle.mr_model.specs.Tables.{tables_of}
+use Rattle.mr_model.specs.Taking.{Progress, take_items}
 use Rattle.mr_base.specs.Refusals.{refusal_of}
 use Rattle.mr_base.specs.declared.refusals.Refusal.{Refusal}
 use Rattle.mr_base.specs.declared.refusals.Refusal.TheVariants.{OutOfMemory}
 use Rattle.mr_tables.specs.declared.summary.Summary.{Summary}
-use Rattle.mr_tables.specs.Summary.{summary_of}
 use Rattle.mr_tables.specs.Change.{ChangeView, changed}
 use Rattle.mr_tables.specs.Written.{meta_of, with_places}
-use Rattle.mr_replica.specs.declared.kept_writes.NumberedWrite.{NumberedWrite}
 use Rattle.mr_replica.specs.Desk.{nothing_taken, reply_with}
-use Rattle.mr_replica.specs.KeptWrites.{HasKept, numbered_of}
-use Rattle.mr_replica.specs.declared.candidate.Candidate.{Candidate}
-use Rattle.mr_replica.specs.Taken.{ReachedView, ShowsTaken, ShowsPicked, TakesPicked, is_inside}
+use Rattle.mr_replica.specs.Taken.{ReachedView, ShowsPicked, is_inside}
 use Rattle.mr_part.specs.PartMoves.{AnswersItems}
-use Rattle.mr_replica.specs.Sets.{IsSetOf}
 use Rattle.mr_part.specs.Parts.{PartView, part_of}
 use Rattle.mr_replica.proofs.Moves.{all_pass}
-use Rattle.mr_replica.proofs.Receiving.{drop_at, all_at, drop_none, item-within, items-bring}
+use Rattle.mr_replica.proofs.Receiving.{items-bring}
 
 -- the answer is what the items give
 pub part_received : (a : Replica) (items : List Item) (part : PartView) (c : ReachedView) (q : Progress) (x : ℕ × ℕ × ChangeView) → IsReplica a → part ≡ part_of (OfItems items) a → list_all is_item items ≡ true → take_items items 2 (Ok (nothing_taken a)) ≡ Ok q → ShowsPicked a (is_inside a items) c q → x.0 ≡ length c.kept - length part.kept → x.1 ≡ c.summary.commits - part.summary.commits → changed x.2 (tables_of a) ≡ tables_of q.replica → AnswersItems a items (Ok x)
