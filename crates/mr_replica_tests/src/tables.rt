@@ -10,6 +10,7 @@ use mr_tables::{
 use std::alloc::Global;
 
 /// The rows of the tables.
+#[derive(Clone, Copy)]
 pub(crate) struct Rows {
     /// How many commits there are, how many of them are dropped, and the greatest time.
     pub meta: (u64, u64, u64),
@@ -17,7 +18,8 @@ pub(crate) struct Rows {
     pub vector: &'static [(u32, u64, u32)],
     /// The server, the time, the choices, the place and the commit number of each kept write.
     pub log: &'static [(u32, u64, &'static str, Place, u64)],
-    /// The server, the time, the place and the commit number of each kept cancel, and the server of what it cancels.
+    /// The server, the time, the place and the commit number of each kept cancel, and the server of what it cancels. Its server is
+    /// below those of the other kept writes, since the rows come in the order of keys.
     pub kept_cancels: &'static [(u32, u64, Place, u64, u32)],
     /// The servers whose write is committed and has the hour from 14:30 on.
     pub booking: &'static [u32],
@@ -55,6 +57,17 @@ fn first_of(number: u32) -> Result<WriteId, Refusal> {
 
 fn log(alloc: Global, of: &Rows) -> Result<Vec<LogRow>, Refusal> {
     let mut rows = Vec::new(alloc);
+    for (number, time, place, seq, target) in of.kept_cancels {
+        rows.push(LogRow {
+            server: server(*number)?,
+            n: 1,
+            time: *time,
+            room: RoomName::new(alloc, "oak")?,
+            action: ActionCells::OfCancel(first_of(*target)?),
+            place: *place,
+            seq: *seq,
+        })?;
+    }
     for (number, time, choices, place, seq) in of.log {
         let (room, title) = names(alloc)?;
         let choices = String::from_str(alloc, choices)?;
@@ -68,17 +81,6 @@ fn log(alloc: Global, of: &Rows) -> Result<Vec<LogRow>, Refusal> {
                 choices,
                 title,
             }),
-            place: *place,
-            seq: *seq,
-        })?;
-    }
-    for (number, time, place, seq, target) in of.kept_cancels {
-        rows.push(LogRow {
-            server: server(*number)?,
-            n: 1,
-            time: *time,
-            room: RoomName::new(alloc, "oak")?,
-            action: ActionCells::OfCancel(first_of(*target)?),
             place: *place,
             seq: *seq,
         })?;
