@@ -6,7 +6,7 @@ use Rattle.sqlite.specs.Effect.{Database}
 use Rattle.sqlite.specs.State.{State, HasCleanDisk}
 use Rattle.sqlite.specs.declared.error.Error.{Error}
 use Rattle.mr_model.specs.Tables.{Tables}
-use Rattle.mr_sql.specs.Kept.{first_meta}
+use Rattle.mr_rows.specs.Kept.{first_meta}
 
 -- this schema, and no row in any of its tables
 abbrev pub IsBlank : Schema → Database → Type 0
@@ -22,4 +22,4 @@ abbrev pub Grows : {X : Type 0} → Schema → Schema → State → State → Re
 Grows before after old new result = HasCleanDisk new → IsTrue old.in_transaction → IsBlank before old.now → OnOk result (IsGrown after old new)
 
 abbrev pub no_tables : Tables
-no_tables = record { meta = first_meta []; room = []; vector = []; write_log = []; undo = []; booking = []; errorlog = [] }
+no_tables = record { meta = first_meta []; room = []; vector = []; log = []; booking = []; errorlog = []; cancelled = []; cancels = [] }

@@ -2,7 +2,7 @@ ghost use Rattle.std.specs.Prelude.{◌≡◌, [], IsTrue, IfOk, IfErr, false, A
 ghost use Rattle.sqlite_value.specs.declared.value.Value.TheVariants.{Null};
 ghost use Rattle.sqlite.specs.Held.{state};
 ghost use Rattle.sqlite.specs.Steps.{over_memory, IsEmpty};
-ghost use Rattle.mr_sql.specs.Schema.{no_schema, our_schema};
+ghost use Rattle.mr_rows.specs.Schema.{no_schema, our_schema};
 ghost use Rattle.mr_sql.specs.Same.{IsFitTable, IsPlainTable, IsSameShape};
 
 use crate::create::lay_out;
@@ -215,7 +215,8 @@ pub(crate) fn is_blank<S: Alter>(conn: &Connection<S>) -> bool
     schema.tables.len() == 0 && schema.indexes.len() == 0 && schema.views.len() == 0
 }
 
-/// Whether the database has these tables with their indexes, and nothing else. No disk fails in memory: where no sample can be had to
+/// Whether the database has these tables with their indexes, and nothing else. A database of the first schema, which has seven of these ten
+/// tables, is not ours: its rows are not moved up yet, and it is refused as that of no replica. No disk fails in memory: where no sample can be had to
 /// compare with, memory is wanting.
 pub(crate) fn is_ours<S: Alter>(alloc: Global, conn: &Connection<S>) -> Result<bool, Refusal>
     ensures same { IfOk result (λ ours. IsTrue ours → (state S.Store conn.now).now.schema ≡ our_schema) }
