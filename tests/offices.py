@@ -16,7 +16,7 @@ class Difference(Exception):
 def batch_text(maker, commits, counts, limit):
     """The bytes of the batch that this replica makes for a claim, or None where it is refused."""
     lines = maker.batch_for(wire.Claim(commits, counts), limit)
-    return None if lines is None else ''.join(line + '\n' for line in lines).encode('ascii')
+    return None if isinstance(lines, str) else ''.join(line + '\n' for line in lines).encode('ascii')
 
 
 class Office:
