@@ -67,7 +67,7 @@ def slot_cells(write, choice):
     return write.room, day, start, start + write.length
 
 
-def log_rows(replica, entries):
+def log_rows(replica, entries, schema):
     """The rows of the writes that are kept: those of `log`, or those of `write_log` and `undo`."""
     rows = []
     for entry in entries:
@@ -77,14 +77,14 @@ def log_rows(replica, entries):
         length, title, target = (0, '', write.target) if is_cancel else (write.length, write.title, (0, 0))
         if write.id() not in replica.commits[:replica.dropped]:
             rows.append((*write.id(), write.time, write.room, int(is_cancel), length, choices, title, *target, place, sequence_of(replica, write)))
-    if oracle.RULES.has_cancels:
+    if schema == 2:
         return {'log': rows}
     return {'write_log': [(*row[:4], *row[5:8], row[-1]) for row in rows], 'undo': [(*row[:2], row[-2]) for row in rows]}
 
 
-def fate_rows(replica, entries):
+def fate_rows(replica, entries, schema):
     """The rows that say what became of each known write."""
-    rows = {'booking': [], 'errorlog': []} | ({'cancelled': [], 'cancel': []} if oracle.RULES.has_cancels else {})
+    rows = {'booking': [], 'errorlog': []} | ({'cancelled': [], 'cancel': []} if schema == 2 else {})
     for entry in entries:
         write, seq = entry.write, sequence_of(replica, entry.write)
         if isinstance(write, oracle.Cancel):
@@ -97,13 +97,12 @@ def fate_rows(replica, entries):
     return rows
 
 
-def rows_for(replica):
-    """The rows that stand for a replica of oracle.py."""
+def rows_for(replica, schema=2 if oracle.RULES.has_cancels else 1):
+    """The rows that stand for a replica of oracle.py; in the first schema none has cancels."""
     entries = [entry for room in {write.room for write in replica.known.values()} for entry in replica.told(room)]
-    schema = 2 if oracle.RULES.has_cancels else 1
     rows = {'meta': [(1, schema, replica.server, replica.primary, len(replica.commits), replica.dropped, replica.clock())],
             'room': [(room,) for room in replica.rooms],
             'vector': [(server, count, replica.last_time(server), sum(1 for each, _ in replica.commits if each == server))
                        for server, count in replica.counts().items()]}
-    rows |= log_rows(replica, entries) | fate_rows(replica, entries)
+    rows |= log_rows(replica, entries, schema) | fate_rows(replica, entries, schema)
     return {name: sorted(each) for name, each in rows.items()}
