@@ -88,7 +88,7 @@ async function askSheets(day) {
 /** What became of it may still change: it is tentative, or it may be cancelled before its day is over. */
 function isOpen(entry) {
   const now = entry.now;
-  if (!now || now.mark !== 'C') return now !== null;
+  if (!now || now.mark !== 'C') return Boolean(now);
   if (now.state === 'cancelled') return now.bymark !== 'C';
   return now.state === 'booked' && (now.day === desk.day || now.day >= dayOf(new Date()));
 }
