@@ -462,6 +462,7 @@ class World:
             for server in (one, other):
                 self.at(server, f'calendar {server} {room} full', lambda r: r.calendar(room, 'full'))
             assert self.replies[-1] == self.replies[-2]
+            assert a.errors(room) == b.errors(room) and a.calendar(room, 'committed') == b.calendar(room, 'committed')
 
     def begin_cancels(self):
         """Which servers cancel, and ask for more alternatives than the first exchange text can say: all where the second one is used,
