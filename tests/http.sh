@@ -84,7 +84,7 @@ run_served() {
     asked 'an outcome over HTTP' 200 \
         '{"day":"1995-12-18","id":"1-1","mark":"T","start":"13:30","state":"booked","stop":"14:30"}' /rooms/oak/requests/1-1
     asked 'the error log over HTTP' 200 "oak errors${line}T 1-2 1995-12-18 14:00-14:15 Late${line}" /rooms/oak/errors
-    asked 'the position over HTTP' 200 "mp1 1 1${line}K 0${line}V 1 2${line}E${line}" /position
+    asked 'the position over HTTP' 200 "mp2 1 1${line}K 0${line}V 1 2${line}E${line}" /position
     asked 'a batch over HTTP' 200 "mr1 1 1${line}W 1 1 1 oak 60 1995-12-18 13:30 0 Budget Meeting${line}W 1 2 2 oak 15 1995-12-18 14:00 0 Late${line}E${line}" \
         /pull --data-binary "@$folder/nothing"
     asked 'a batch taken over HTTP' 200 "took 1 writes 0 commits${line}" /push --data-binary "@$folder/beta"
@@ -97,6 +97,44 @@ run_served() {
     expect_line 'serving where no database is' 1 'refused 26 NotAReplica' serve "$folder/none.db" 20000 1
     expect_line 'serving nobody' 0 'serving 127.0.0.1:20321' serve "$folder/a.db" 20321 0
     expect_line 'a port that is none' 2 'bad command line' serve "$folder/a.db" 0 1
+}
+
+# cancelled NAME STATUS BODY JSON: the cancellation with this text is answered so
+cancelled() {
+    asked "$1" "$2" "$3" /cancel --data-binary "$4"
+}
+
+# a request is cancelled over HTTP
+run_cancelled() {
+    local folder=$scratch/served.d line=$'\n' gone='{"by":"1-2","bymark":"T","id":"1-1","mark":"T","state":"cancelled"}'
+    printf 'mp2 9 1\nK 0\nE\n' > "$folder/second"
+    expect_line 'init of what is cancelled' 0 'ok' init "$folder/c.db" 1 1
+    expect_line 'a room of what is cancelled' 0 'ok' add-room "$folder/c.db" oak
+    serve "$folder/c.db" 20
+    submitted 'a submission that is cancelled' 200 \
+        '{"day":"1995-12-18","id":"1-1","mark":"T","start":"13:30","state":"booked","stop":"14:30"}' \
+        '{"day":"1995-12-18","length":60,"room":"oak","start":"13:30","title":"Budget Meeting"}'
+    cancelled 'a cancel' 200 '{"id":"1-2","mark":"T","state":"cancels","target":"1-1"}' '{"id":"1-1","room":"oak"}'
+    asked 'the outcome of what was cancelled' 200 "$gone" /rooms/oak/requests/1-1
+    asked 'the outcome of a cancel' 200 '{"id":"1-2","mark":"T","state":"cancels","target":"1-1"}' /rooms/oak/requests/1-2
+    cancelled 'a cancel of what was cancelled' 200 '{"id":"1-3","mark":"T","state":"void","target":"1-1"}' '{"room":"oak","id":"1-1"}'
+    asked 'the error log with a void cancel' 200 "oak errors${line}T 1-3 cancel 1-1${line}" /rooms/oak/errors
+    asked 'the sheet without it' 200 "oak 1995-12-18 Monday${line}(no bookings)${line}" /rooms/oak/days/1995-12-18
+    cancelled 'a cancel of a cancel' 404 '{"name":"NoSuchRequest","refusal":9}' '{"id":"1-2","room":"oak"}'
+    cancelled 'a cancel of no id' 404 '{"name":"NoSuchRequest","refusal":9}' '{"id":"","room":"oak"}'
+    cancelled 'a cancel in a room that is not there' 404 '{"name":"UnknownRoom","refusal":7}' '{"id":"1-1","room":"ash"}'
+    cancelled 'a cancel in a room that is none' 400 '{"name":"BadRoomName","refusal":4}' '{"id":"1-1","room":"Oak"}'
+    cancelled 'a cancellation without its room' 400 '{"error":"bad request"}' '{"id":"1-1"}'
+    cancelled 'a cancellation with another member' 400 '{"error":"bad request"}' '{"id":"1-1","room":"oak","by":"me"}'
+    cancelled 'a cancellation with a number' 400 '{"error":"bad request"}' '{"id":11,"room":"oak"}'
+    cancelled 'a cancellation that is no object' 400 '{"error":"bad request"}' '["1-1","oak"]'
+    cancelled 'no cancellation' 400 '{"error":"bad request"}' ''
+    asked 'a question where a cancellation goes' 405 '{"error":"method not allowed"}' /cancel
+    asked 'a batch with cancels' 200 "mr2 1 1${line}W 1 1 1 oak 60 1995-12-18 13:30 0 Budget Meeting${line}X 1 2 2 oak 1 1${line}X 1 3 3 oak 1 1${line}E${line}" \
+        /pull --data-binary "@$folder/second"
+    asked 'a batch with cancels in the first version' 409 '{"name":"NeedsVersion2","refusal":27}' /pull --data-binary "@$folder/nothing"
+    asked 'the position with cancels' 200 "mp2 1 1${line}K 0${line}V 1 3${line}E${line}" /position
+    served 'the lines of cancels' 200 200 200 200 200 200 200 404 404 404 400 400 400 400 400 400 405 200 409 200
 }
 
 # raw NAME WANTED TEXT: what is answered to these bytes, with nothing behind them, begins with this line
@@ -274,6 +312,7 @@ PYTHON
 run_http() {
     if command -v curl > /dev/null; then
         run_served
+        run_cancelled
         run_raw_requests
         run_killed
     else

@@ -62,7 +62,7 @@ class Lists(Tried):
             kind, *words = line.split(' ')
             if kind == 'deliver':
                 line = f'deliver {2 * int(words[0]) - 1} {words[1]} {words[2]}'
-            if kind in ('replica', 'room', 'book', 'commit', 'truncate', 'deliver'):
+            if kind in ('replica', 'room', 'book', 'cancel', 'commit', 'truncate', 'deliver'):
                 server = words[1] if kind == 'deliver' else words[0]
                 made += [line, f'position {server}', f'calendar {server} oak full', line]
             else:
@@ -317,7 +317,7 @@ def answer(body, kind, status=b'200 OK'):
 
 
 def served(servers):
-    """A submission, a batch that is taken and one that is handed out, and the questions."""
+    """A submission, a batch that is taken and one that is handed out, the questions, and a cancellation."""
     done(servers.program, 'init', servers.base, 1, 1)
     done(servers.program, 'add-room', servers.base, 'oak')
     outcome = b'{"day":"1995-12-18","id":"1-1","mark":"T","start":"13:30","state":"booked","stop":"14:30"}'
@@ -329,8 +329,10 @@ def served(servers):
     sheet = b'oak 1995-12-18 Monday\n13:30-14:30 T 1-1 Budget Meeting\n15:00-16:00 T 2-1 Beta\n'
     for path, reply in ((b'/rooms/oak/requests/7-1', answer(b'{"name":"NoSuchRequest","refusal":9}', JSON, b'404 Not Found')),
                         (b'/rooms/oak/requests/1-1', answer(outcome, JSON)), (b'/rooms/oak/errors', answer(b'oak errors\n(no errors)\n', TEXT)),
-                        (b'/rooms/oak/days/1995-12-18', answer(sheet, TEXT)), (b'/position', answer(b'mp1 1 1\nK 0\nV 1 1\nV 2 1\nE\n', TEXT))):
+                        (b'/rooms/oak/days/1995-12-18', answer(sheet, TEXT)), (b'/position', answer(b'mp2 1 1\nK 0\nV 1 1\nV 2 1\nE\n', TEXT))):
         servers.request(path.decode(), b'GET %s HTTP/1.1\r\n\r\n' % path, reply)
+    cancel = answer(b'{"id":"1-2","mark":"T","state":"cancels","target":"1-1"}', JSON)
+    servers.request('a cancellation', posted(b'/cancel', b'{"id":"1-1","room":"oak"}'), cancel)
 
 
 def start_of_server(databases):
