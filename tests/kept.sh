@@ -19,13 +19,3 @@ shows() {
     done < "$file"
     expect "kept: ${words[*]}" 0 "$scratch/kept/wanted" "${words[0]}" "$database" "${words[@]:1}"
 }
-
-# a program of the second schema refuses it, and leaves it as it is
-run_kept() {
-    local database=$scratch/kept/first.sqlite
-    mkdir -p "$scratch/kept"
-    cp -- tests/kept/first.sqlite "$database"
-    damaged "$database" 'refused 26 NotAReplica'
-    expect_line 'kept: init of the first tables' 1 'refused 26 NotAReplica' init "$database" 7 3
-    same 'kept: the first tables after init' "$database" tests/kept/first.sqlite
-}
