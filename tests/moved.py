@@ -3,7 +3,7 @@
 
     moved.py PROGRAM FOLDER SECONDS [SEED]
 
-For each seed four offices book and exchange, as replicas of oracle.py alone; each is then made a database of the first schema: the kept one
+First two replicas that dropped all commits, with replies worked by hand. Then for each seed four offices book and exchange, as replicas of oracle.py alone; each is then made a database of the first schema: the kept one
 (tests/kept), in which Python's sqlite3 put the rows that stand for it. The program opens it: all that it shows, and its rows in the second
 schema, are those of the replica. It is killed while it moves up, and finds no room for it: the rows are those of the first schema or of the
 second one, and the next command goes on from there. Then the offices cancel, book and exchange as any others. Seeds follow until the seconds are
@@ -103,8 +103,36 @@ class Moved(Office):
         self.is_either(rows_for(self.replica), *([] if is_done else [self.first]))
 
 
+def worked(program, folder):
+    """Two replicas that dropped all of their commits, of which one has 49 of 50 in an error log."""
+    day = '1995-12-18'
+    lone, other = oracle.Replica(9, 1), oracle.Replica(2, 1)
+    elm = ''.join(f'W 3 {n} {n} elm 15 {day} 09:00 0 Elm\nC {n} 3 {n}\n' for n in range(1, 51))
+    assert receive(lone, f'mr1 3 1\n{elm}E\n'.encode('ascii')) == 'took 50 writes 50 commits'
+    lone.truncate(50)
+    two = f'W 1 1 1 oak 60 {day} 14:00 0 Alpha\nW 2 1 1 oak 60 {day} 13:30 1 {day} 15:00 Beta\n'
+    assert receive(lone, f'mr1 1 1\n{two}E\n'.encode('ascii')) == 'took 2 writes 0 commits'
+    two = f'W 1 1 1 oak 60 {day} 13:30 0 Audit\nC 1 1 1\nW 1 2 2 oak 30 {day} 14:30 0 Brief\nC 2 1 2\n'
+    assert receive(other, f'mr1 1 1\n{two}E\n'.encode('ascii')) == 'took 2 writes 2 commits'
+    other.truncate(2)
+    office = Moved(program, f'{folder}/lone.db', lone)
+    office.is_told('sheet', 'oak', day, f'oak {day} Monday\n14:00-15:00 T 1-1 Alpha\n15:00-16:00 T 2-1 Beta')
+    office.is_told('sheet', 'elm', day, f'elm {day} Monday\n09:00-09:15 C 3-1 Elm')
+    office.is_told('errors', 'elm', '\n'.join(['elm errors', *[f'C 3-{n} {day} 09:00-09:15 Elm' for n in range(2, 51)]]))
+    office.is_told('position', 'mp2 9 1\nK 50\nV 1 1\nV 2 1\nV 3 50\nE')
+    office.check()
+    office = Moved(program, f'{folder}/other.db', other)
+    office.is_told('cancel', 'oak', '1-1', '2-1 T cancels 1-1')
+    office.is_told('calendar', 'oak', 'committed', f'oak committed\n{day} 13:30-14:30 C 1-1 Audit\n{day} 14:30-15:00 C 1-2 Brief')
+    office.is_told('sheet', 'oak', day, f'oak {day} Monday\n14:30-15:00 C 1-2 Brief')
+    other.cancel('oak', '1-1')
+    office.check()
+
+
 def cases(program, folder, seed):
     rng = random.Random(seed)
+    yield 'worked', 'two replicas that dropped their commits'
+    worked(program, folder)
     offices, span = [], 0.1
     for replica in history(rng):
         path = f'{folder}/{replica.server}.db'
