@@ -5,7 +5,7 @@
 
 makes two databases of so many bookings (10,000 where no number is given) in five rooms: that of the primary, and that of another
 replica, which drops some commits. A fifth of the bookings is committed. For each kind of command it runs the statements of
-crates/mr_sql/src/queries.rt that the command's scope asks (crates/mr_sql/specs/Questions.antt), and prints how many they are and how
+crates/mr_rows/src/queries.rt that the command's scope asks (crates/mr_sql/specs/Questions.antt), and prints how many they are and how
 many rows they find. The rows of meta, room and vector are not counted: each command reads all of them.
 """
 
@@ -31,7 +31,7 @@ Commit = namedtuple('Commit', 'seq server n')
 
 def statements():
     """The statements of the source, by the names of their functions."""
-    with open(os.path.join(HERE, '..', 'crates', 'mr_sql', 'src', 'queries.rt'), encoding='utf-8') as file:
+    with open(os.path.join(HERE, '..', 'crates', 'mr_rows', 'src', 'queries.rt'), encoding='utf-8') as file:
         return dict(re.findall(r'fn (\w+)<(?:(?!\n}).)*?"(SELECT [^"]*)"', file.read(), re.S))
 
 

@@ -1,40 +1,37 @@
 -- What the keeper's queries answer of the tables.
-use Rattle.std.proofs.Common.{◌≡◌, ℕ, Bool, true, false, ◌&&◌, ◌||◌, ◌==◌, cond, if◌then◌else◌, List, [], ◌∷◌, map, filter, inl, inr, Option, Some, None, refl, sym, ap, subst, ◌∙◌, is_lt, is_eq, Ordering, Less, Equal, Greater, arith, get_or, ◌+◌}
+use Rattle.std.proofs.Common.{◌≡◌, ℕ, Bool, true, false, ◌&&◌, ◌||◌, ◌==◌, cond, if◌then◌else◌, List, [], ◌∷◌, filter, inl, inr, Option, Some, None, refl, sym, ap, subst, ◌∙◌, is_lt, is_eq, Ordering, Less, Equal, Greater, arith, get_or, ◌+◌}
 use Rattle.std.specs.Prelude.{bytes_eq, find, nat_lt}
 use Rattle.std.specs.List.Sorted.{IsPermutation, IsSorted}
 use Rattle.std.specs.Ordering.{nat_cmp, ordering_then}
-use Rattle.std.proofs.lemmas.List.Sorted.{IsPermutation-sym, IsPermutation-trans, Contains-permutation}
+use Rattle.std.proofs.lemmas.List.Sorted.{IsPermutation-trans}
 use Rattle.sqlite_trees.proofs.ListLemmas.{IsPermutation-filter}
 use Rattle.sqlite_trees.specs.Tree.{Trees}
-use Rattle.sqlite_rules.specs.Lists as rules
-use Rattle.sqlite_rules.proofs.ListLemmas.{has_contained, contains_had}
 use Rattle.mr_model.specs.Texts.{Text}
 use Rattle.mr_model.specs.Calendar.{Date, same_date, date_before}
 use Rattle.mr_model.specs.Writes.{Id, same_id}
-use Rattle.mr_model.specs.Replica.{is_among}
-use Rattle.mr_model.specs.Tables.{MetaRow, BookingRow, ErrorRow, Tables}
+use Rattle.mr_model.specs.Tables.{BookingRow, ErrorRow, Tables}
 use Rattle.mr_model.specs.Queries.{booking_id, error_id}
 use Rattle.mr_model.specs.Dropped.{Has}
-use Rattle.mr_model.proofs.Members.{has_filter, filter_has, find_none, find_one}
-use Rattle.mr_tables.specs.Change.{id_before}
-use Rattle.mr_tables.proofs.Putting.{OneAKey, one_a_key, id_order, number_order}
-use Rattle.mr_store.specs.Picked.{is_asked, picked_bookings, booking_before, AreBookings, find_booking, find_error, IsPlaceOf}
-use Rattle.mr_sql.specs.Kept.{first_meta, tables_in}
-use Rattle.mr_sql.specs.Cells.{meta_in, booking_in, error_in}
-use Rattle.mr_sql.proofs.KeyOrder.{ordered_in_order}
-use Rattle.mr_sql.proofs.ValueLemmas.{among_one, or_false}
+use Rattle.mr_model.proofs.Members.{find_none}
+use Rattle.mr_tables.proofs.Putting.{OneAKey}
+use Rattle.mr_rows.specs.Kept.{tables_in}
+use Rattle.mr_rows.specs.Reads.{date_cmp, time_cmp}
+use Rattle.mr_rows.specs.RowQuestions.{is_booking_asked}
+use Rattle.mr_rows.proofs.FirstLemmas.{bookings_apart, errors_apart}
+use Rattle.mr_rows.proofs.ValueLemmas.{among_one, or_false}
+use Rattle.mr_store.specs.Picked.{is_asked, booking_before, AreBookings, find_booking, find_error, IsPlaceOf}
 use Rattle.mr_store.specs.declared.keeper.PlaceRow.TheVariants.{Booked, Logged}
-use Rattle.mr_sql.specs.Reads.{metas_in, date_cmp, time_cmp, first_of, AreRowsOf, logged_in, chosen}
+use Rattle.mr_sql.specs.Places.{AreRowsOf, logged_in, chosen}
 
 -- ---- a calendar
 
 asked_both : (day : Option Date) (room : Text) (rows : List BookingRow)
-    → filter (λ r. is_asked day r.day) (filter (λ r. bytes_eq r.room room && true) rows) ≡ filter (λ r. bytes_eq r.room room && is_asked day r.day) rows
+    → filter (λ r. is_asked day r.day) (filter (λ r. bytes_eq r.room room) rows) ≡ filter (λ r. bytes_eq r.room room && is_asked day r.day) rows
 asked_both day room [] = refl
 asked_both day room (r ∷ rows) = go (bytes_eq r.room room) (asked_both day room rows)
   where
-    go : (b : Bool) → filter (λ r. is_asked day r.day) (filter (λ r. bytes_eq r.room room && true) rows) ≡ filter (λ r. bytes_eq r.room room && is_asked day r.day) rows
-        → filter (λ r. is_asked day r.day) (cond (b && true) (r ∷ filter (λ r. bytes_eq r.room room && true) rows) (filter (λ r. bytes_eq r.room room && true) rows))
+    go : (b : Bool) → filter (λ r. is_asked day r.day) (filter (λ r. bytes_eq r.room room) rows) ≡ filter (λ r. bytes_eq r.room room && is_asked day r.day) rows
+        → filter (λ r. is_asked day r.day) (cond b (r ∷ filter (λ r. bytes_eq r.room room) rows) (filter (λ r. bytes_eq r.room room) rows))
         ≡ cond (b && is_asked day r.day) (r ∷ filter (λ r. bytes_eq r.room room && is_asked day r.day) rows) (filter (λ r. bytes_eq r.room room && is_asked day r.day) rows)
     go true ih = ap (λ more. cond (is_asked day r.day) (r ∷ more) more) ih
     go false ih = ih
@@ -100,56 +97,12 @@ same_order a b =
       lt_nat a.n b.n,
     )
 
-pub calendar_is : (room : Text) (day : Option Date) (t : Tables) (shown out : List BookingRow) → IsPermutation (picked_bookings room None t) shown → IsPermutation (filter (λ r. is_asked day r.day) shown) out → IsSorted time_cmp out
+pub calendar_is : (room : Text) (day : Option Date) (t : Tables) (shown out : List BookingRow) → IsPermutation (filter (is_booking_asked room) t.booking) shown → IsPermutation (filter (λ r. is_asked day r.day) shown) out → IsSorted time_cmp out
     → AreBookings room day t out
 calendar_is room day t shown out read same sorted = (
   subst (λ xs. IsPermutation xs out) (asked_both day room t.booking) (IsPermutation-trans _ _ _ (IsPermutation-filter (λ r. is_asked day r.day) _ _ read) same),
   λ k d low high. sym (same_order (get_or out (k + 1) d) (get_or out k d)) ∙ sorted k d low high,
 )
-
--- ---- the row of an id
-
-has_of : {X : Type 0} (xs : List X) (x : X) → rules.Has xs x → Has x xs
-has_of [] x h = absurd h
-has_of (y ∷ xs) x (inl e) = inl e
-has_of (y ∷ xs) x (inr h) = inr (has_of xs x h)
-
-of_has : {X : Type 0} (xs : List X) (x : X) → Has x xs → rules.Has xs x
-of_has [] x h = absurd h
-of_has (y ∷ xs) x (inl e) = inl e
-of_has (y ∷ xs) x (inr h) = inr (of_has xs x h)
-
-pub has_moved : {X : Type 0} (xs ys : List X) (x : X) → IsPermutation xs ys → Has x xs → Has x ys
-has_moved xs ys x same h = has_of ys x (has_contained ys x (Contains-permutation xs ys x same (contains_had xs x (of_has xs x h))))
-
--- the first of the rows that a query shows of an id is the one that the table has
-found : {R : Type 0} (key : R → Id) (id : Id) (table shown : List R) → OneAKey key table → IsPermutation (filter (λ r. is_among (key r) (id ∷ [])) table) shown → first_of shown ≡ find (λ r. same_id (key r) id) table
-found {R} key id table [] one same = sym (find_none (λ r. same_id (key r) id) table (λ x h. fails x h (same_id (key x) id) refl))
-  where
-    fails : (x : R) → Has x table → (b : Bool) → same_id (key x) id ≡ b → same_id (key x) id ≡ false
-    fails x h false e = e
-    fails x h true e = absurd (has_moved _ [] x same (has_filter (λ r. is_among (key r) (id ∷ [])) x table (or_false (same_id (key x) id) ∙ e) h))
-found {R} key id table (r ∷ more) one same =
-    let there = filter_has (λ r. is_among (key r) (id ∷ [])) r table (has_moved _ _ r (IsPermutation-sym _ _ same) (inl refl)) in
-    let is = among_one (key r) id there.1 in
-    sym (find_one (λ r. same_id (key r) id) r table there.0 (sym (or_false (same_id (key r) id)) ∙ there.1)
-    (λ y h e. one y r h there.0 (among_one (key y) id (or_false (same_id (key y) id) ∙ e) ∙ sym is)))
-
-bookings_apart : (trees : Trees) → OneAKey booking_id (tables_in trees).booking
-unfolding tables_in
-bookings_apart trees = one_a_key id_before booking_id id_order _ (ordered_in_order id_before booking_id id_order (map booking_in (trees 10)))
-
-errors_apart : (trees : Trees) → OneAKey error_id (tables_in trees).errorlog
-unfolding tables_in
-errors_apart trees = one_a_key id_before error_id id_order _ (ordered_in_order id_before error_id id_order (map error_in (trees 12)))
-
-pub found_booking : (id : Id) (trees : Trees) (shown : List BookingRow) → IsPermutation (filter (λ (r : BookingRow). is_among (booking_id r) (id ∷ [])) (tables_in trees).booking) shown
-    → first_of shown ≡ find (λ r. same_id (booking_id r) id) (tables_in trees).booking
-found_booking id trees shown = found booking_id id (tables_in trees).booking shown (bookings_apart trees)
-
-pub found_error : (id : Id) (trees : Trees) (shown : List ErrorRow) → IsPermutation (filter (λ (r : ErrorRow). is_among (error_id r) (id ∷ [])) (tables_in trees).errorlog) shown
-    → first_of shown ≡ find (λ r. same_id (error_id r) id) (tables_in trees).errorlog
-found_error id trees shown = found error_id id (tables_in trees).errorlog shown (errors_apart trees)
 
 -- ---- the one of the two rows that is of the room
 
@@ -205,17 +158,3 @@ chosen_is room id trees booking error rows = choose booking error (here ∙ ap (
         go : (b : Bool) → find_booking room id (tables_in trees) ≡ cond b (Some row) None → IsPlaceOf room id (tables_in trees) (cond b (Some (Booked row)) (logged_in room e))
         go true f = f
         go false f = logged e f g
-
--- ---- the row of `meta`
-
-pub meta_is : (trees : Trees) (shown : List MetaRow) (m : MetaRow) → IsPermutation (metas_in trees) shown → first_of shown ≡ Some m → m ≡ (tables_in trees).meta
-unfolding tables_in
-meta_is trees shown m same first = go (metas_in trees) (has_moved shown (metas_in trees) m (IsPermutation-sym _ _ same) (has_first shown first)) (one_a_key nat_lt (λ _. 1) number_order _ (ordered_in_order nat_lt (λ _. 1) number_order (map meta_in (trees 0))))
-  where
-    has_first : (xs : List MetaRow) → first_of xs ≡ Some m → Has m xs
-    has_first [] e = absurd (cc)
-    has_first (x ∷ xs) e = inl (let same : x ≡ m = cc in sym same)
-
-    go : (xs : List MetaRow) → Has m xs → OneAKey {K = ℕ} (λ _. 1) xs → m ≡ first_meta xs
-    go [] h one = absurd h
-    go (x ∷ xs) h one = one m x h (inl refl) refl

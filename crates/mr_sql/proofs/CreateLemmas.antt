@@ -17,12 +17,12 @@ use Rattle.sqlite.specs.State.{State, HasCleanDisk, Survives, Writes, ExecutesIn
 use Rattle.sqlite.proofs.Callers.{IsPlain, command_of, statement_of, runs_as}
 use Rattle.sqlite.specs.Steps.{FailsToCommit}
 use Rattle.mr_model.specs.Tables.{MetaRow, Tables}
-use Rattle.mr_sql.specs.Schema.{no_schema, with_meta, with_room, with_vector, with_log, with_undo, with_booking, our_schema, meta_text, room_text, vector_text, log_text, undo_text, booking_text, error_text, meta_table, room_table, vector_table, log_table, undo_table, booking_table, error_table}
-use Rattle.mr_sql.specs.Form.{Form, meta_form, room_form, vector_form, log_form, undo_form, booking_form, error_form}
-use Rattle.mr_sql.specs.Kept.{IsHeld, IsOurs, IsStep, first_meta, in_order, tables_in}
-use Rattle.mr_sql.specs.Parts.{put_meta}
+use Rattle.mr_rows.specs.Schema.{no_schema, with_meta, with_room, with_vector, with_log, with_undo, with_booking, our_schema, meta_text, room_text, vector_text, log_text, undo_text, booking_text, error_text, meta_table, room_table, vector_table, log_table, undo_table, booking_table, error_table}
+use Rattle.mr_rows.specs.Form.{Form, meta_form, room_form, vector_form, log_form, undo_form, booking_form, error_form}
+use Rattle.mr_rows.specs.Kept.{IsHeld, IsOurs, IsStep, first_meta, in_order, tables_in}
+use Rattle.mr_rows.specs.Parts.{put_meta}
 use Rattle.mr_sql.specs.Blank.{IsBlank, IsGrown, Grows, no_tables}
-use Rattle.mr_sql.proofs.FormLemmas.{went, same_value}
+use Rattle.mr_rows.proofs.FormLemmas.{went, same_value}
 
 blank_push : (tables : List Table) (table : Table) (old new : Trees) → AllByRecursion (λ (t : Table). old t.tree ≡ []) tables → KeepsRows tables old new → new table.tree ≡ []
     → AllByRecursion (λ (t : Table). new t.tree ≡ []) (tables ++ table ∷ [])

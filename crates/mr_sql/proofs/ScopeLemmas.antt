@@ -11,16 +11,17 @@ use Rattle.mr_model.specs.Exchange.{Item, W, C}
 use Rattle.mr_model.specs.Tables.{MetaRow, VectorRow, LogRow, UndoRow, BookingRow, Tables, log_row, kept, seq_among, tables_of}
 use Rattle.mr_model.specs.Dropped.{Has}
 use Rattle.mr_model.specs.Scopes.{Scope, Nothing, InRoom, NextCommits, UpTo, Above, OfItems, log_row_id, undo_row_id, is_tentative, row_before, put_row, by_stamp, item_id, has_number, is_named, is_in_tail, is_touched, in_scope}
-use Rattle.mr_model.specs.RowsRead.{Reads, rows_read, IsOfCommits}
+use Rattle.mr_model.specs.RowsRead.{rows_read, IsOfCommits}
 use Rattle.mr_model.proofs.ReadRows.{read_rows}
-use Rattle.mr_model.proofs.Members.{has_filter, filter_has, has_map, map_has, among_has}
+use Rattle.mr_model.proofs.Members.{filter_has, has_map, map_has, among_has}
 use Rattle.mr_tables.specs.Change.{log_id, undo_id}
-use Rattle.mr_sql.specs.declared.questions.LogQuestion.{LogQuestion}
-use Rattle.mr_sql.specs.declared.questions.LogQuestion.TheVariants.{OfId, Between}
-use Rattle.mr_sql.specs.Questions.{is_asked, is_log_asked, is_undo_asked, is_booking_asked, item_questions, tentative_question, log_questions, logs_alone, undo_questions, booking_questions, AreRead, AreNumbered, AreEnough}
+use Rattle.mr_rows.specs.declared.questions.LogQuestion.{LogQuestion}
+use Rattle.mr_rows.specs.declared.questions.LogQuestion.TheVariants.{OfId, Between}
+use Rattle.mr_rows.specs.RowQuestions.{is_asked, is_log_asked, is_undo_asked, is_booking_asked}
+use Rattle.mr_sql.specs.Questions.{item_questions, tentative_question, log_questions, logs_alone, undo_questions, booking_questions, AreRead, AreNumbered, AreEnough}
 use Rattle.mr_replica.specs.Sets.{AreSameRooms}
-use Rattle.mr_sql.proofs.RowLemmas.{filter_same}
-use Rattle.mr_sql.proofs.ValueLemmas.{one_among}
+use Rattle.mr_rows.proofs.RowLemmas.{filter_same}
+use Rattle.mr_rows.proofs.ValueLemmas.{one_among}
 
 -- ---- lists
 

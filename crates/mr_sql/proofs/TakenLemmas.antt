@@ -23,11 +23,13 @@ use Rattle.sqlite.specs.Effect.{Database}
 use Rattle.sqlite.specs.State.{State}
 use Rattle.mr_model.specs.Replica.{opening}
 use Rattle.mr_model.specs.Tables.{MetaRow, Stands}
-use Rattle.mr_sql.specs.Schema.{no_schema, our_schema}
-use Rattle.mr_sql.specs.Kept.{IsOurs, IsKept, tables_in}
-use Rattle.mr_sql.specs.Found.{HasShelves, LeavesTables, IsTaken, IsFound, IsAdopted, StaysAs, AreOurRows, IsMeta}
-use Rattle.mr_sql.proofs.FoundLemmas.{all_held, meta_is_found}
-use Rattle.mr_sql.specs.Shelf.{IsShelf}
+use Rattle.mr_rows.specs.Schema.{no_schema, our_schema}
+use Rattle.mr_rows.specs.Kept.{IsOurs, IsKept, tables_in}
+use Rattle.mr_rows.specs.Shelf.{HasShelves}
+use Rattle.mr_sql.specs.Found.{LeavesTables, IsTaken, IsFound, IsAdopted, StaysAs}
+use Rattle.mr_rows.specs.Shown.{AreOurRows, IsMeta}
+use Rattle.mr_rows.proofs.FoundLemmas.{all_held, meta_is_found}
+use Rattle.mr_rows.specs.Shelf.{IsShelf}
 
 zip_row : {A B : Type 0} (R : A → B → Type 0) (xs : List A) (ys : List B) (y : B) → AllZip R xs ys → Has ys y → (x : A) × Has xs x × R x y
 zip_row R [] [] y all h = absurd h

@@ -6,7 +6,7 @@ use Rattle.sqlite.specs.Effect.{Database}
 use Rattle.sqlite.specs.State.{State, HasCleanDisk}
 use Rattle.sqlite.specs.declared.error.Error.{Error}
 use Rattle.mr_model.specs.Tables.{Tables}
-use Rattle.mr_sql.specs.Kept.{first_meta}
+use Rattle.mr_rows.specs.Kept.{first_meta}
 
 -- this schema, and no row in any of its tables
 abbrev pub IsBlank : Schema → Database → Type 0

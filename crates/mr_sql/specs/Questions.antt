@@ -1,34 +1,17 @@
--- Which rows are asked for: questions for rows of a table, and those that a scope has.
-use Rattle.std.specs.Prelude.{◌≡◌, ◌≤◌, ℕ, ◌+◌, Bool, if◌then◌else◌, nat_lt, nat_le, List, [], ◌∷◌, map, filter, flat_map, bytes_eq}
-use Rattle.std.specs.List.{list_any}
-use Rattle.mr_model.specs.Texts.{Text, within}
+-- The questions of a scope: which rows of the tables are asked for.
+use Rattle.std.specs.Prelude.{◌≡◌, ◌≤◌, ℕ, ◌+◌, if◌then◌else◌, nat_lt, nat_le, List, [], ◌∷◌, map, filter, flat_map}
+use Rattle.mr_model.specs.Texts.{Text}
 use Rattle.mr_model.specs.Writes.{Id}
-use Rattle.mr_model.specs.Replica.{is_among}
 use Rattle.mr_model.specs.Exchange as model
 use Rattle.mr_model.specs.Scopes.{Scope, Nothing, InRoom, NextCommits, UpTo, Above, OfItems, item_id, rooms_of_item, in_scope}
 use Rattle.mr_model.specs.Tables.{LogRow, UndoRow, BookingRow, Tables}
 use Rattle.mr_model.specs.Dropped.{Has}
-use Rattle.mr_tables.specs.Change.{log_id, undo_id}
-use Rattle.mr_sql.specs.declared.questions.LogQuestion.{LogQuestion}
-use Rattle.mr_sql.specs.declared.questions.LogQuestion.TheVariants.{OfId, Between}
+use Rattle.mr_tables.specs.Change.{log_id}
+use Rattle.mr_rows.specs.declared.questions.LogQuestion.{LogQuestion}
+use Rattle.mr_rows.specs.declared.questions.LogQuestion.TheVariants.{OfId, Between}
+use Rattle.mr_rows.specs.RowQuestions.{is_log_asked, is_undo_asked, is_booking_asked, is_asked}
 
--- ---- a question for a row
-
-abbrev pub is_log_asked : LogQuestion → LogRow → Bool
-is_log_asked (OfId id) row = is_among (log_id row) (id ∷ [])
-is_log_asked (Between low high) row = within low high row.seq
-
-abbrev pub is_undo_asked : Id → UndoRow → Bool
-is_undo_asked id row = is_among (undo_id row) (id ∷ [])
-
-abbrev pub is_booking_asked : Text → BookingRow → Bool
-is_booking_asked room row = bytes_eq row.room room
-
--- some of the questions asks for the row
-abbrev pub is_asked : {Q R : Type 0} → (Q → R → Bool) → List Q → R → Bool
-is_asked asks questions row = list_any (λ q. asks q row) questions
-
--- ---- the questions of a scope
+-- ---- what is asked
 
 -- of an item: for the row of its id, and for the one of its commit number where so many commits are known
 abbrev pub item_questions : ℕ → model.Item → List LogQuestion

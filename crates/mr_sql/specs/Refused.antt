@@ -4,9 +4,9 @@ use Rattle.sqlite_trees.specs.Tree.{Trees}
 use Rattle.sqlite_catalog.specs.Listing.{IsSound}
 use Rattle.sqlite.specs.Files.{HoldsDatabase, AreFoundIn}
 use Rattle.sqlite.specs.Recovery.{Image}
-use Rattle.mr_sql.specs.Schema.{no_schema, our_schema}
-use Rattle.mr_sql.specs.Kept.{tables_in}
-use Rattle.mr_sql.specs.Found.{IsMeta}
+use Rattle.mr_rows.specs.Schema.{no_schema, our_schema}
+use Rattle.mr_rows.specs.Kept.{tables_in}
+use Rattle.mr_rows.specs.Shown.{IsMeta}
 
 -- these trees are the tables of another keeper, or of none: there are some, and where they are ours, `meta` has no row or names others
 abbrev pub IsAnothers : ℕ → ℕ → Trees → Type 0

@@ -5,17 +5,17 @@ ghost use Rattle.sqlite.specs.Held.{state};
 ghost use Rattle.mr_model.specs.Writes.{same_id};
 ghost use Rattle.mr_model.specs.Queries.{booking_id, error_id};
 ghost use Rattle.mr_store.specs.Picked.{is_asked as day_is_asked, picked_errors, AreBookings, IsPlaceOf};
-ghost use Rattle.mr_sql.specs.Cells.{booking_in};
-ghost use Rattle.mr_sql.specs.Kept.{tables_in};
-ghost use Rattle.mr_sql.specs.Reads.{Reads, AreRowsOf, chosen, first_of, time_cmp};
+ghost use Rattle.mr_rows.specs.Cells.{booking_in};
+ghost use Rattle.mr_rows.specs.Kept.{tables_in};
+ghost use Rattle.mr_rows.specs.Reads.{Reads, first_of, time_cmp};
+ghost use Rattle.mr_sql.specs.Places.{AreRowsOf, chosen};
 
-use crate::order::sort_by_time;
-use crate::queries::{
+use mr_base::{Day, RoomName, WriteId};
+use mr_rows::order::sort_by_time;
+use mr_rows::queries::{
     select_key_booking, select_key_error, select_room_booking, select_room_error,
 };
-use crate::stored_rows::{StoredRow, read_all};
-use crate::whole::all_rows;
-use mr_base::{Day, RoomName, WriteId};
+use mr_rows::{StoredRow, all_rows, read_all};
 use mr_store::PlaceRow;
 use mr_tables::{BookingRow, ErrorRow};
 use sqlite::{Alter, Connection, Error, Row};

@@ -1,12 +1,12 @@
 ghost use Rattle.std.specs.Prelude.{◌≡◌, false, IsTrue, OnOk, OnErr};
 ghost use Rattle.sqlite.specs.State.{HasCleanDisk, KeepsCommit, Survives};
 ghost use Rattle.sqlite.specs.Held.{state};
-ghost use Rattle.mr_sql.specs.Schema.{no_schema, with_meta, with_room, with_vector, with_log, with_undo, with_booking, our_schema};
-ghost use Rattle.mr_sql.specs.Kept.{IsKept, IsStep, tables_in};
-ghost use Rattle.mr_sql.specs.Parts.{put_meta as meta_put};
+ghost use Rattle.mr_rows.specs.Schema.{no_schema, with_meta, with_room, with_vector, with_log, with_undo, with_booking, our_schema};
+ghost use Rattle.mr_rows.specs.Kept.{IsKept, IsStep, tables_in};
+ghost use Rattle.mr_rows.specs.Parts.{put_meta as meta_put};
 ghost use Rattle.mr_sql.specs.Blank.{IsBlank, Grows, no_tables};
 
-use crate::puts::put_meta;
+use mr_rows::puts::put_meta;
 use mr_tables::MetaRow;
 use sqlite::{Alter, Connection, Error, Transaction};
 

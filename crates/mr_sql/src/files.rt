@@ -8,7 +8,7 @@ ghost use Rattle.sqlite.specs.WalReads.{AreClean};
 ghost use Rattle.sqlite.specs.State.{HasCleanDisk};
 ghost use Rattle.sqlite.specs.Files.{file_state, IsClosed};
 ghost use Rattle.sqlite.specs.Closing.{IsCopied};
-ghost use Rattle.mr_sql.specs.Schema.{our_schema};
+ghost use Rattle.mr_rows.specs.Schema.{our_schema};
 ghost use Rattle.mr_sql.specs.Found.{IsAdopted, LeavesTables, StaysAs};
 ghost use Rattle.mr_sql.specs.Refused.{IsAnothers, IsFoundIn, IsNobodys};
 

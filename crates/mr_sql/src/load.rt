@@ -1,5 +1,4 @@
-ghost use Rattle.std.specs.Prelude.{◌≡◌, ◌∷◌, false, map, IfOk, Some};
-ghost use Rattle.sqlite_value.specs.declared.value.Value.TheVariants.{Null};
+ghost use Rattle.std.specs.Prelude.{◌≡◌, false, IfOk};
 ghost use Rattle.sqlite.specs.Held.{state};
 ghost use Rattle.mr_model.specs.Replica.{Replica, IsReplica};
 ghost use Rattle.mr_model.specs.Tables.{Stands, tables_of};
@@ -8,105 +7,17 @@ ghost use Rattle.mr_replica.specs.Desk.{StandsFor, IsWithinLimits};
 ghost use Rattle.mr_part.specs.Parts.{IsPartOf};
 ghost use Rattle.mr_part.specs.ScopeOf.{scope_of};
 ghost use Rattle.mr_tables.specs.Summary.{IsWithin};
-ghost use Rattle.mr_sql.specs.Cells.{meta_in};
-ghost use Rattle.mr_sql.specs.Kept.{tables_in};
-ghost use Rattle.mr_sql.specs.Reads.{Reads, first_of};
+ghost use Rattle.mr_rows.specs.Kept.{tables_in};
+ghost use Rattle.mr_rows.specs.Reads.{Reads};
 
-use crate::meta_row::read_meta;
-use crate::queries::select_all_meta;
 use crate::scope_rows::read_scope;
-use crate::whole::all_rows;
-use mr_base::{Refusal, RoomName};
+use mr_base::Refusal;
 use mr_part::{Part, Scope};
 use mr_replica::Desk;
-use mr_tables::{BookingRow, ErrorRow, LogRow, MetaRow, Tables, VectorRow, WriteUndoRow};
-use sqlite::{Alter, Connection, Error, ErrorCode, Row};
+use mr_rows::all_tables::read_tables;
+use mr_tables::Tables;
+use sqlite::{Alter, Connection, Error, ErrorCode};
 use std::alloc::Global;
-
-fn first_meta(rows: &[Row]) -> Result<MetaRow, Error>
-    ensures { IfOk result (λ row. first_of (map (λ row. meta_in (Null ∷ row)) rows.now) ≡ Some row) }
-{
-    match rows.first() {
-        None => Err(Error::QueryReturnedNoRows),
-        Some(row) => read_meta(row),
-    }
-}
-
-/// The row of `meta`.
-fn the_meta<S: Alter>(conn: &mut Connection<S>) -> Result<MetaRow, Error>
-    requires autocommit { conn.old.in_transaction ≡ false }
-    ensures autocommit { conn.new.in_transaction ≡ false }
-    ensures reads { Reads (state S.Store conn.old) (state S.Store conn.new) result (λ row. row ≡ (tables_in (state S.Store conn.old).now.trees).meta) }
-{
-    let rows = select_all_meta(conn)?;
-    first_meta(&rows)
-}
-
-/// The replica's numbers, its rooms and its vector.
-pub(crate) fn read_heads<S: Alter>(
-    conn: &mut Connection<S>,
-    alloc: Global,
-) -> Result<(MetaRow, Vec<RoomName>, Vec<VectorRow>), Error>
-    requires autocommit { conn.old.in_transaction ≡ false }
-    ensures autocommit { conn.new.in_transaction ≡ false }
-    ensures reads { Reads (state S.Store conn.old) (state S.Store conn.new) result (λ r. (r.0 ≡ (tables_in (state S.Store conn.old).now.trees).meta) × (r.1.items ≡ (tables_in (state S.Store conn.old).now.trees).room) × (r.2.items ≡ (tables_in (state S.Store conn.old).now.trees).vector)) }
-{
-    let meta = the_meta(conn)?;
-    let room = all_rows(conn, alloc)?;
-    let vector = all_rows(conn, alloc)?;
-    Ok((meta, room, vector))
-}
-
-/// Both logs.
-fn read_logs<S: Alter>(
-    conn: &mut Connection<S>,
-    alloc: Global,
-) -> Result<(Vec<LogRow>, Vec<WriteUndoRow>), Error>
-    requires autocommit { conn.old.in_transaction ≡ false }
-    ensures autocommit { conn.new.in_transaction ≡ false }
-    ensures reads { Reads (state S.Store conn.old) (state S.Store conn.new) result (λ r. (r.0.items ≡ (tables_in (state S.Store conn.old).now.trees).write_log) × (r.1.items ≡ (tables_in (state S.Store conn.old).now.trees).undo)) }
-{
-    let write_log = all_rows(conn, alloc)?;
-    let undo = all_rows(conn, alloc)?;
-    Ok((write_log, undo))
-}
-
-/// Both tables of the board.
-fn read_board<S: Alter>(
-    conn: &mut Connection<S>,
-    alloc: Global,
-) -> Result<(Vec<BookingRow>, Vec<ErrorRow>), Error>
-    requires autocommit { conn.old.in_transaction ≡ false }
-    ensures autocommit { conn.new.in_transaction ≡ false }
-    ensures reads { Reads (state S.Store conn.old) (state S.Store conn.new) result (λ r. (r.0.items ≡ (tables_in (state S.Store conn.old).now.trees).booking) × (r.1.items ≡ (tables_in (state S.Store conn.old).now.trees).errorlog)) }
-{
-    let booking = all_rows(conn, alloc)?;
-    let errorlog = all_rows(conn, alloc)?;
-    Ok((booking, errorlog))
-}
-
-/// All tables.
-pub(crate) fn read_tables<S: Alter>(
-    conn: &mut Connection<S>,
-    alloc: Global,
-) -> Result<Tables, Error>
-    requires autocommit { conn.old.in_transaction ≡ false }
-    ensures autocommit { conn.new.in_transaction ≡ false }
-    ensures reads { Reads (state S.Store conn.old) (state S.Store conn.new) result (λ tables. tables ≡ tables_in (state S.Store conn.old).now.trees) }
-{
-    let heads = read_heads(conn, alloc)?;
-    let logs = read_logs(conn, alloc)?;
-    let board = read_board(conn, alloc)?;
-    Ok(Tables {
-        meta: heads.0,
-        room: heads.1,
-        vector: heads.2,
-        write_log: logs.0,
-        undo: logs.1,
-        booking: board.0,
-        errorlog: board.1,
-    })
-}
 
 fn desk_of(alloc: Global, tables: &Tables) -> Result<Desk, Error>
     ensures stands { IfOk result (λ desk. (a : Replica) → Stands tables.now a → StandsFor desk a) }

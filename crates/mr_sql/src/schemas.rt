@@ -2,7 +2,7 @@ ghost use Rattle.std.specs.Prelude.{◌≡◌, [], IsTrue, IfOk, IfErr, false, A
 ghost use Rattle.sqlite_value.specs.declared.value.Value.TheVariants.{Null};
 ghost use Rattle.sqlite.specs.Held.{state};
 ghost use Rattle.sqlite.specs.Steps.{over_memory, IsEmpty};
-ghost use Rattle.mr_sql.specs.Schema.{no_schema, our_schema};
+ghost use Rattle.mr_rows.specs.Schema.{no_schema, our_schema};
 ghost use Rattle.mr_sql.specs.Same.{IsFitTable, IsPlainTable, IsSameShape};
 
 use crate::create::lay_out;

@@ -4,11 +4,11 @@ ghost use Rattle.mr_model.specs.Scopes.{in_scope};
 ghost use Rattle.mr_part.specs.ScopeOf.{scope_of};
 ghost use Rattle.mr_tables.specs.Change.{log_id};
 ghost use Rattle.mr_sql.specs.Questions.{tentative_question, item_questions, log_questions, logs_alone, undo_questions};
-ghost use Rattle.mr_sql.specs.declared.questions.LogQuestion.TheVariants as asked;
+ghost use Rattle.mr_rows.specs.declared.questions.LogQuestion.TheVariants as asked;
 
-use crate::questions::{LogQuestion, UndoQuestion};
 use mr_base::{Item, Refusal};
 use mr_part::{Scope, logs_in_scope};
+use mr_rows::{LogQuestion, UndoQuestion};
 use mr_tables::LogRow;
 use std::alloc::{AllocError, Global};
 

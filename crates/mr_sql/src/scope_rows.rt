@@ -1,15 +1,16 @@
 ghost use Rattle.std.specs.Prelude.{◌≡◌, false, filter};
 ghost use Rattle.sqlite.specs.Held.{state};
 ghost use Rattle.mr_part.specs.ScopeOf.{scope_of};
-ghost use Rattle.mr_sql.specs.Kept.{tables_in};
-ghost use Rattle.mr_sql.specs.Questions.{is_asked, is_log_asked, is_undo_asked, is_booking_asked, log_questions, undo_questions, booking_questions, AreRead, AreEnough};
-ghost use Rattle.mr_sql.specs.Reads.{Reads, ReadsInUse};
+ghost use Rattle.mr_rows.specs.Kept.{tables_in};
+ghost use Rattle.mr_rows.specs.RowQuestions.{is_asked, is_log_asked, is_undo_asked, is_booking_asked};
+ghost use Rattle.mr_sql.specs.Questions.{log_questions, undo_questions, booking_questions, AreRead, AreEnough};
+ghost use Rattle.mr_rows.specs.Reads.{Reads, ReadsInUse};
 
-use crate::asked_rows::asked_rows;
-use crate::load::read_heads;
 use crate::scope_questions::{log_questions, undo_questions};
 use crate::scope_rooms::booking_questions;
 use mr_part::Scope;
+use mr_rows::all_tables::read_heads;
+use mr_rows::asked_rows::asked_rows;
 use mr_tables::{BookingRow, LogRow, MetaRow, Tables, WriteUndoRow};
 use sqlite::{Alter, Connection, Error, ErrorCode};
 use std::alloc::Global;

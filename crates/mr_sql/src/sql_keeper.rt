@@ -7,18 +7,20 @@ ghost use Rattle.mr_model.specs.Replica.{opening};
 ghost use Rattle.mr_model.specs.Tables.{Stands};
 ghost use Rattle.mr_store.specs.Kept.{failures_for};
 ghost use Rattle.sqlite_catalog.specs.Listing.{IsSound};
-ghost use Rattle.mr_sql.specs.Schema.{no_schema, our_schema};
-ghost use Rattle.mr_sql.specs.Kept.{tables_in};
+ghost use Rattle.mr_rows.specs.Schema.{no_schema, our_schema};
+ghost use Rattle.mr_rows.specs.Kept.{tables_in};
 ghost use Rattle.mr_sql.specs.Found.{IsAdopted, LeavesTables, StaysAs};
 ghost use Rattle.mr_sql.specs.Refused.{IsAnothers, IsNobodys};
 
 use crate::adopt::{recover, retaken, settle};
 use crate::create::create;
 use crate::faults::refusal_of;
-use crate::{answers, changes, load};
+use crate::{answers, load};
 use mr_base::{Day, Refusal, RoomName, ServerId, WriteId};
 use mr_part::{Part, Scope};
 use mr_replica::Desk;
+use mr_rows::all_tables::read_tables;
+use mr_rows::changes;
 use mr_store::{Fault, Keeper, PlaceRow};
 use mr_tables::{BookingRow, Change, ErrorRow, MetaRow, Tables};
 use sqlite::{Alter, Connection, Error, ErrorCode, MemStore};
@@ -39,7 +41,7 @@ impl<S: Alter> Model for SqlKeeper<S> {
     ghost use Rattle.std.specs.Coded.{coded×, coded_ℕ};
     ghost use Rattle.sqlite.specs.State.{HasCleanDisk};
     ghost use Rattle.sqlite.specs.Held.{Held, state, held_code};
-    ghost use Rattle.mr_sql.specs.Kept.{IsKept};
+    ghost use Rattle.mr_rows.specs.Kept.{IsKept};
 
     ghost Value = { Held S × ℕ };
 
@@ -67,7 +69,7 @@ impl<S: Alter> Keeper for SqlKeeper<S> {
     ghost use Rattle.sqlite_trees.specs.Tree.{Trees};
     ghost use Rattle.sqlite.specs.State.{HasCleanDisk};
     ghost use Rattle.sqlite.specs.Held.{state};
-    ghost use Rattle.mr_sql.specs.Kept.{tables_in};
+    ghost use Rattle.mr_rows.specs.Kept.{tables_in};
 
     ghost tables = { λ k. tables_in (state S.Store k.0).now.trees };
 
@@ -124,7 +126,7 @@ impl<S: Alter> Keeper for SqlKeeper<S> {
     }
 
     fn read(&mut self) -> Result<Tables, Fault> {
-        match load::read_tables(&mut self.conn, self.alloc) {
+        match read_tables(&mut self.conn, self.alloc) {
             Ok(value) => Ok(value),
             Err(error) => Err(told(&mut self.failures, error)),
         }

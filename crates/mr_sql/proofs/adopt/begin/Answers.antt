@@ -1,5 +1,5 @@
 use Rattle.sqlite.specs.Held.{state}
-use Rattle.mr_sql.specs.Schema.{no_schema}
+use Rattle.mr_rows.specs.Schema.{no_schema}
 use Rattle.mr_sql.specs.Blank.{IsBlank}
 use Rattle.mr_sql.proofs.OpeningLemmas.{opening_stands}
 use Rattle.mr_sql.proofs.TakenLemmas.{begins}

@@ -1,7 +1,7 @@
 use Rattle.std.proofs.Common.{None, subst}
 use Rattle.sqlite.specs.Held.{state}
-use Rattle.mr_sql.specs.Found.{IsMeta}
-use Rattle.mr_sql.specs.Reads.{IsPlaced}
+use Rattle.mr_rows.specs.Shown.{IsMeta}
+use Rattle.mr_rows.specs.Reads.{IsPlaced}
 use Rattle.mr_sql.proofs.TakenLemmas.{finds}
 use Rattle.mr_sql.proofs.adopt.find.Goals as goal
 

@@ -1,4 +1,4 @@
-use Rattle.mr_sql.specs.Schema.{our_schema}
+use Rattle.mr_rows.specs.Schema.{our_schema}
 use Rattle.mr_sql.proofs.TakenLemmas.{of_schema}
 use Rattle.mr_sql.proofs.adopt.recover.Goals as goal
 

@@ -1,7 +1,7 @@
 use Rattle.std.proofs.Common.{◌≡◌, refl, inl, inr, subst, ap, ◌∙◌, sym}
 use Rattle.sqlite_trees.specs.Tree.{Trees}
 use Rattle.mr_base.specs.declared.refusals.Refusal.TheVariants as refusal
-use Rattle.mr_sql.specs.Kept.{tables_in}
+use Rattle.mr_rows.specs.Kept.{tables_in}
 use Rattle.mr_sql.specs.Refused.{IsAnothers}
 use Rattle.mr_sql.proofs.TakenLemmas.{handed_on, not_blank}
 use Rattle.mr_sql.proofs.adopt.resume.Goals as goal

@@ -1,5 +1,5 @@
 use Rattle.std.proofs.Common.{refl}
-use Rattle.mr_sql.specs.Schema.{no_schema, our_schema}
+use Rattle.mr_rows.specs.Schema.{no_schema, our_schema}
 use Rattle.mr_sql.proofs.TakenLemmas.{of_schema}
 use Rattle.mr_sql.proofs.adopt.settle.Goals as goal
 

@@ -6,10 +6,10 @@ use Rattle.std.specs.List.Sorted.{IsPermutation}
 use Rattle.mr_model.specs.Writes.{Id}
 use Rattle.mr_model.specs.Replica.{is_among}
 use Rattle.mr_model.specs.Queries.{error_id}
-use Rattle.mr_sql.specs.Kept.{tables_in}
-use Rattle.mr_sql.specs.Cells.{error_in}
-use Rattle.mr_sql.proofs.QueryLemmas.{reads_made, told_so}
-use Rattle.mr_sql.proofs.AnswerLemmas.{found_error}
+use Rattle.mr_rows.specs.Kept.{tables_in}
+use Rattle.mr_rows.specs.Cells.{error_in}
+use Rattle.mr_rows.proofs.QueryLemmas.{reads_made, told_so}
+use Rattle.mr_rows.proofs.FirstLemmas.{found_error}
 use Rattle.mr_sql.proofs.answers.error_of.Goals as goal
 
 pub returns-in_err-rows-clause-reads : goal.returns-in_err-rows-clause-reads

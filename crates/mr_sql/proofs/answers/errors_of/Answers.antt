@@ -4,9 +4,9 @@ use Rattle.sqlite.specs.Held.{state}
 use Rattle.std.proofs.Common.{subst, sym}
 use Rattle.std.specs.List.Sorted.{IsPermutation}
 use Rattle.mr_store.specs.Picked.{picked_errors}
-use Rattle.mr_sql.specs.Cells.{error_in}
-use Rattle.mr_sql.specs.Kept.{tables_in}
-use Rattle.mr_sql.proofs.QueryLemmas.{reads_made, told_so}
+use Rattle.mr_rows.specs.Cells.{error_in}
+use Rattle.mr_rows.specs.Kept.{tables_in}
+use Rattle.mr_rows.proofs.QueryLemmas.{reads_made, told_so}
 use Rattle.mr_sql.proofs.answers.errors_of.Goals as goal
 
 pub returns-in_err-rows-clause-reads : goal.returns-in_err-rows-clause-reads

@@ -1,7 +1,7 @@
 use Rattle.std.proofs.Common.{sym, subst}
 use Rattle.sqlite.specs.Held.{state}
 use Rattle.mr_store.specs.Picked.{IsPlaceOf}
-use Rattle.mr_sql.specs.Kept.{tables_in}
+use Rattle.mr_rows.specs.Kept.{tables_in}
 use Rattle.mr_sql.proofs.AnswerLemmas.{chosen_is}
 use Rattle.mr_sql.proofs.answers.place_of.Goals as goal
 

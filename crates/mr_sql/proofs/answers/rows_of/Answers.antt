@@ -3,9 +3,9 @@ use Rattle.std.specs.Prelude.{find}
 use Rattle.sqlite.specs.Held.{state}
 use Rattle.mr_model.specs.Writes.{Id, same_id}
 use Rattle.mr_model.specs.Queries.{booking_id, error_id}
-use Rattle.mr_sql.specs.Kept.{tables_in}
-use Rattle.mr_sql.specs.Reads.{AreRowsOf}
-use Rattle.mr_sql.proofs.QueryLemmas.{reads_then}
+use Rattle.mr_rows.specs.Kept.{tables_in}
+use Rattle.mr_sql.specs.Places.{AreRowsOf}
+use Rattle.mr_rows.proofs.QueryLemmas.{reads_then}
 use Rattle.mr_sql.proofs.answers.rows_of.Goals as goal
 
 pub returns-in_err-error-clause-reads : goal.returns-in_err-error-clause-reads

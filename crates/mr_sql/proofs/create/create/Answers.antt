@@ -1,7 +1,7 @@
 use Rattle.std.proofs.Common.{◌≡◌, true, IsTrue, OnErr, refl, subst, arith, rules}
 use Rattle.sqlite.specs.State.{HasCleanDisk}
 use Rattle.sqlite.specs.Held.{Held, state}
-use Rattle.mr_sql.specs.Schema.{no_schema}
+use Rattle.mr_rows.specs.Schema.{no_schema}
 use Rattle.mr_sql.specs.Blank.{IsBlank}
 use Rattle.mr_sql.proofs.CreateLemmas.{on_err_any, commit_fails}
 use Rattle.mr_sql.proofs.create.create.Goals as goal

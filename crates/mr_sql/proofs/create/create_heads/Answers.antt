@@ -1,6 +1,6 @@
 use Rattle.std.proofs.Common.{Ok}
 use Rattle.sqlite.specs.Held.{state}
-use Rattle.mr_sql.specs.Schema.{no_schema, with_meta, with_room, with_vector}
+use Rattle.mr_rows.specs.Schema.{no_schema, with_meta, with_room, with_vector}
 use Rattle.mr_sql.proofs.CreateLemmas.{grows_then}
 use Rattle.mr_sql.proofs.create.create_heads.Goals as goal
 

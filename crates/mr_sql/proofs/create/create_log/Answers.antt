@@ -1,8 +1,8 @@
 use Rattle.std.proofs.Common.{[]}
 use Rattle.sqlite.specs.Held.{state}
-use Rattle.mr_sql.proofs.StatementLemmas.{keeps_any}
+use Rattle.mr_rows.proofs.StatementLemmas.{keeps_any}
 use Rattle.mr_sql.proofs.CreateLemmas.{makes_log}
-use Rattle.mr_sql.specs.Schema.{log_text}
+use Rattle.mr_rows.specs.Schema.{log_text}
 use Rattle.mr_sql.proofs.create.create_log.Goals as goal
 
 pub returns-clause-grown : goal.returns-clause-grown

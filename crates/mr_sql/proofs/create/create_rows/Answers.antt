@@ -1,6 +1,6 @@
 use Rattle.std.proofs.Common.{Ok}
 use Rattle.sqlite.specs.Held.{state}
-use Rattle.mr_sql.specs.Schema.{with_vector, with_log, with_undo, with_booking, our_schema}
+use Rattle.mr_rows.specs.Schema.{with_vector, with_log, with_undo, with_booking, our_schema}
 use Rattle.mr_sql.proofs.CreateLemmas.{grows_then}
 use Rattle.mr_sql.proofs.create.create_rows.Goals as goal
 

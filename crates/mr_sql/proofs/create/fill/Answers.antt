@@ -1,6 +1,6 @@
 use Rattle.std.proofs.Common.{Ok}
 use Rattle.sqlite.specs.Held.{state}
-use Rattle.mr_sql.specs.Schema.{no_schema, with_vector, our_schema}
+use Rattle.mr_rows.specs.Schema.{no_schema, with_vector, our_schema}
 use Rattle.mr_sql.proofs.CreateLemmas.{grows_then, fills}
 use Rattle.mr_sql.proofs.create.fill.Goals as goal
 

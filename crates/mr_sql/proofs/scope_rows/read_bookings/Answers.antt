@@ -1,9 +1,10 @@
 use Rattle.std.proofs.Common.{◌≡◌, ◌∙◌, filter, refl, rules}
 use Rattle.sqlite.specs.Held.{state}
 use Rattle.mr_part.specs.ScopeOf.{scope_of}
-use Rattle.mr_sql.specs.Kept.{tables_in}
-use Rattle.mr_sql.specs.Questions.{is_asked, is_booking_asked, booking_questions}
-use Rattle.mr_sql.proofs.QueryLemmas.{survives_itself, uses_so}
+use Rattle.mr_rows.specs.Kept.{tables_in}
+use Rattle.mr_rows.specs.RowQuestions.{is_asked, is_booking_asked}
+use Rattle.mr_sql.specs.Questions.{booking_questions}
+use Rattle.mr_rows.proofs.QueryLemmas.{survives_itself, uses_so}
 use Rattle.mr_sql.proofs.ScopeLemmas.{rooms_asked}
 use Rattle.mr_sql.proofs.scope_rows.read_bookings.Goals as goal
 

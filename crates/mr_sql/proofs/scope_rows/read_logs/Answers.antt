@@ -1,9 +1,9 @@
 use Rattle.std.proofs.Common.{◌≡◌, ◌∙◌, filter, refl, subst, rules}
 use Rattle.sqlite.specs.Held.{state}
-use Rattle.mr_sql.specs.Kept.{tables_in}
-use Rattle.mr_sql.specs.Questions.{is_asked, is_log_asked}
-use Rattle.mr_sql.specs.Reads.{ReadsInUse}
-use Rattle.mr_sql.proofs.QueryLemmas.{survives_itself}
+use Rattle.mr_rows.specs.Kept.{tables_in}
+use Rattle.mr_rows.specs.RowQuestions.{is_asked, is_log_asked}
+use Rattle.mr_rows.specs.Reads.{ReadsInUse}
+use Rattle.mr_rows.proofs.QueryLemmas.{survives_itself}
 use Rattle.mr_sql.proofs.scope_rows.read_logs.Goals as goal
 
 pub returns-in_err-questions-clause-reads : goal.returns-in_err-questions-clause-reads

@@ -1,9 +1,10 @@
 use Rattle.std.proofs.Common.{◌≡◌, filter, Ok, rules}
 use Rattle.sqlite.specs.Held.{state}
 use Rattle.mr_part.specs.ScopeOf.{scope_of}
-use Rattle.mr_sql.specs.Kept.{tables_in}
-use Rattle.mr_sql.specs.Questions.{is_asked, is_log_asked, is_undo_asked, is_booking_asked, log_questions, undo_questions, booking_questions, AreRead}
-use Rattle.mr_sql.proofs.QueryLemmas.{uses_then}
+use Rattle.mr_rows.specs.Kept.{tables_in}
+use Rattle.mr_rows.specs.RowQuestions.{is_asked, is_log_asked, is_undo_asked, is_booking_asked}
+use Rattle.mr_sql.specs.Questions.{log_questions, undo_questions, booking_questions, AreRead}
+use Rattle.mr_rows.proofs.QueryLemmas.{uses_then}
 use Rattle.mr_sql.proofs.scope_rows.read_rows.Goals as goal
 
 pub returns-in_err-logs-clause-reads : goal.returns-in_err-logs-clause-reads

@@ -1,9 +1,9 @@
 use Rattle.std.proofs.Common.{◌≡◌, ◌∙◌, filter, refl, subst, rules}
 use Rattle.sqlite.specs.Held.{state}
-use Rattle.mr_sql.specs.Kept.{tables_in}
-use Rattle.mr_sql.specs.Questions.{is_asked, is_undo_asked}
-use Rattle.mr_sql.specs.Reads.{ReadsInUse}
-use Rattle.mr_sql.proofs.QueryLemmas.{survives_itself}
+use Rattle.mr_rows.specs.Kept.{tables_in}
+use Rattle.mr_rows.specs.RowQuestions.{is_asked, is_undo_asked}
+use Rattle.mr_rows.specs.Reads.{ReadsInUse}
+use Rattle.mr_rows.proofs.QueryLemmas.{survives_itself}
 use Rattle.mr_sql.proofs.scope_rows.read_undo.Goals as goal
 
 pub returns-in-Err-clause-reads : goal.returns-in-Err-clause-reads

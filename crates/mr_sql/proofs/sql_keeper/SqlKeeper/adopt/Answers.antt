@@ -1,7 +1,7 @@
 use Rattle.std.proofs.Common.{◌≡◌, IsTrue, refl, subst}
 use Rattle.sqlite.specs.State.{HasCleanDisk}
 use Rattle.sqlite.specs.Held.{Held, state}
-use Rattle.mr_sql.specs.Kept.{IsKept}
+use Rattle.mr_rows.specs.Kept.{IsKept}
 use Rattle.mr_sql.specs.Found.{StaysAs}
 use Rattle.mr_sql.proofs.TakenLemmas.{alone}
 use Rattle.mr_sql.proofs.sql_keeper.SqlKeeper.adopt.Goals as goal

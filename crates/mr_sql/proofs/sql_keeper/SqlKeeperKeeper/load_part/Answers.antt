@@ -1,8 +1,8 @@
 use Rattle.std.proofs.Common.{IsTrue, sym, subst}
 use Rattle.sqlite.specs.Held.{state}
 use Rattle.mr_model.specs.Tables.{Stands}
-use Rattle.mr_sql.specs.Kept.{tables_in}
-use Rattle.mr_sql.proofs.QueryLemmas.{clean_before}
+use Rattle.mr_rows.specs.Kept.{tables_in}
+use Rattle.mr_rows.proofs.QueryLemmas.{clean_before}
 use Rattle.mr_sql.proofs.sql_keeper.SqlKeeperKeeper.load_part.Goals as goal
 
 pub returns-in-Ok-clause-loaded : goal.returns-in-Ok-clause-loaded

@@ -1,0 +1,16 @@
+pub mod Texts
+pub mod RowLemmas
+pub mod FormLemmas
+pub mod KeyOrder
+pub mod TableLemmas
+pub mod ValueLemmas
+pub mod TableFacts
+pub mod StepLemmas
+pub mod StatementLemmas
+pub mod CellLemmas
+pub mod QueryLemmas
+pub mod FirstLemmas
+pub mod AskedLemmas
+pub mod SelectLemmas
+pub mod SortLemmas
+pub mod FoundLemmas

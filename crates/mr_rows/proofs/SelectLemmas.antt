@@ -1,0 +1,147 @@
+-- What the rows are that each query shows.
+use Rattle.std.proofs.Common.{◌≡◌, ℕ, pos, List, [], ◌∷◌, map, filter, true, refl, ap, subst, ◌∙◌}
+use Rattle.std.specs.List.Sorted.{IsPermutation}
+use Rattle.sqlite_value.specs.declared.value.Value.TheVariants.{Null, Int, Text}
+use Rattle.sqlite_value.specs.Order.{Row}
+use Rattle.sqlite_sql.specs.Term.{Term, eval_all}
+use Rattle.sqlite_schema.specs.declared.program.Program.{Program}
+use Rattle.sqlite.specs.Command.TheVariants.{Select}
+use Rattle.sqlite.specs.State.{State, Shown}
+use Rattle.sqlite.proofs.Callers.{reads_as}
+use Rattle.mr_model.specs.Texts as texts
+use Rattle.mr_tables.specs.Change.{log_id, undo_id}
+use Rattle.mr_model.specs.Writes.{Id}
+use Rattle.mr_model.specs.Replica.{is_among}
+use Rattle.mr_model.specs.Tables.{LogRow, UndoRow, BookingRow, ErrorRow}
+use Rattle.mr_model.specs.Queries.{booking_id, error_id}
+use Rattle.mr_rows.specs.RowQuestions.{is_booking_asked, is_error_asked}
+use Rattle.mr_rows.specs.Meaning.{passes}
+use Rattle.mr_rows.specs.Cells.{meta_in, room_in, vector_in, log_in, undo_in, booking_in, error_in}
+use Rattle.mr_rows.specs.Schema.{our_schema}
+use Rattle.mr_rows.specs.Shown.{columns_from}
+use Rattle.mr_rows.specs.Form.{Form, meta_form, room_form, vector_form, log_form, undo_form, booking_form, error_form}
+use Rattle.mr_rows.specs.Kept.{IsOurs, IsRowOf, IsHeld, in_order, tables_in}
+use Rattle.mr_rows.specs.Reads.{metas_in}
+use Rattle.mr_rows.proofs.Texts.{MeansQuery, program_of, all_meta_text, all_meta_is, meta_columns, meta_names, all_room_text, all_room_is, room_columns, room_names, all_vector_text, all_vector_is, vector_columns, vector_names, all_log_text, all_log_is, log_columns, log_names, all_undo_text, all_undo_is, undo_columns, undo_names, key_log_text, key_log_is, log_key_tests, between_log_text, between_log_is, log_seq_tests, key_undo_text, key_undo_is, undo_key_tests, all_booking_text, all_booking_is, booking_columns, booking_names, all_error_text, all_error_is, error_columns, error_names, room_booking_text, room_booking_is, booking_room_tests, key_booking_text, key_booking_is, booking_key_tests, room_error_text, room_error_is, error_room_tests, key_error_text, key_error_is, error_key_tests}
+use Rattle.mr_rows.proofs.ValueLemmas.{equal_text, and_true, id_test, between_test}
+use Rattle.mr_rows.proofs.RowLemmas.{filter_all_true}
+use Rattle.mr_rows.proofs.FormLemmas.{shows}
+use Rattle.mr_rows.proofs.TableLemmas.{Facts, finds_rows}
+use Rattle.mr_rows.proofs.TableFacts.{meta_facts, room_facts, vector_facts, log_facts, undo_facts, booking_facts, error_facts}
+
+-- a query without tests shows the table
+shows_all : {R K : Type 0} (f : Form R K) (facts : Facts f) (text : List ℕ) (project : List Term) (names : List (List ℕ)) (old new : State) (rows : List Row)
+    → MeansQuery text (Select (program_of f.table.tree [] project) names) → ((r : Row) → IsRowOf f r → f.row_in (Null ∷ eval_all project ([] ∷ r ∷ [])) ≡ f.row_in r) → old.now.schema ≡ our_schema → IsHeld f (old.now.trees f.table.tree) → Shown text [] old new rows
+    → IsPermutation (in_order f (old.now.trees f.table.tree)) (map (λ r. f.row_in (Null ∷ r)) rows)
+shows_all f facts text project names old new rows means reads schema held shown =
+    subst (λ xs. IsPermutation xs (map (λ r. f.row_in (Null ∷ r)) rows)) (filter_all_true _)
+    (finds_rows f facts text [] project names [] old new (λ _. true) rows means (λ r is. refl) reads schema held shown)
+
+pub shows_all_meta : (old new : State) (rows : List Row) → IsOurs old.now → Shown all_meta_text [] old new rows → IsPermutation (metas_in old.now.trees) (map (λ r. meta_in (Null ∷ r)) rows)
+unfolding tables_in
+shows_all_meta old new rows ours = shows_all meta_form meta_facts all_meta_text meta_columns meta_names old new rows all_meta_is (λ r is. refl) ours.schema ours.held.meta
+
+pub shows_all_room : (old new : State) (rows : List Row) → IsOurs old.now → Shown all_room_text [] old new rows → IsPermutation ((tables_in old.now.trees).room) (map (λ r. room_in (Null ∷ r)) rows)
+unfolding tables_in
+shows_all_room old new rows ours = shows_all room_form room_facts all_room_text room_columns room_names old new rows all_room_is (λ r is. refl) ours.schema ours.held.room
+
+pub shows_all_vector : (old new : State) (rows : List Row) → IsOurs old.now → Shown all_vector_text [] old new rows → IsPermutation ((tables_in old.now.trees).vector) (map (λ r. vector_in (Null ∷ r)) rows)
+unfolding tables_in
+shows_all_vector old new rows ours = shows_all vector_form vector_facts all_vector_text vector_columns vector_names old new rows all_vector_is (λ r is. refl) ours.schema ours.held.vector
+
+pub shows_all_log : (old new : State) (rows : List Row) → IsOurs old.now → Shown all_log_text [] old new rows → IsPermutation ((tables_in old.now.trees).write_log) (map (λ r. log_in (Null ∷ r)) rows)
+unfolding tables_in
+shows_all_log old new rows ours = shows_all log_form log_facts all_log_text log_columns log_names old new rows all_log_is (λ r is. refl) ours.schema ours.held.write_log
+
+pub shows_all_undo : (old new : State) (rows : List Row) → IsOurs old.now → Shown all_undo_text [] old new rows → IsPermutation ((tables_in old.now.trees).undo) (map (λ r. undo_in (Null ∷ r)) rows)
+unfolding tables_in
+shows_all_undo old new rows ours = shows_all undo_form undo_facts all_undo_text undo_columns undo_names old new rows all_undo_is (λ r is. refl) ours.schema ours.held.undo
+
+pub shows_all_booking : (old new : State) (rows : List Row) → IsOurs old.now → Shown all_booking_text [] old new rows → IsPermutation ((tables_in old.now.trees).booking) (map (λ r. booking_in (Null ∷ r)) rows)
+unfolding tables_in
+shows_all_booking old new rows ours = shows_all booking_form booking_facts all_booking_text booking_columns booking_names old new rows all_booking_is (λ r is. refl) ours.schema ours.held.booking
+
+pub shows_all_error : (old new : State) (rows : List Row) → IsOurs old.now → Shown all_error_text [] old new rows → IsPermutation ((tables_in old.now.trees).errorlog) (map (λ r. error_in (Null ∷ r)) rows)
+unfolding tables_in
+shows_all_error old new rows ours = shows_all error_form error_facts all_error_text error_columns error_names old new rows all_error_is (λ r is. refl) ours.schema ours.held.errorlog
+
+pub shows_key_log : (id : Id) (old new : State) (rows : List Row) → IsOurs old.now → Shown key_log_text (Int (pos id.server) ∷ Int (pos id.n) ∷ []) old new rows
+    → IsPermutation (filter (λ (r : LogRow). is_among (log_id r) (id ∷ [])) (tables_in old.now.trees).write_log) (map (λ r. log_in (Null ∷ r)) rows)
+unfolding tables_in
+shows_key_log id old new rows ours shown =
+    finds_rows log_form log_facts key_log_text log_key_tests log_columns log_names (Int (pos id.server) ∷ Int (pos id.n) ∷ []) old new (λ r. is_among (log_id r) (id ∷ [])) rows key_log_is
+    (λ r is. ap (passes log_key_tests (Int (pos id.server) ∷ Int (pos id.n) ∷ [])) is ∙ id_test (log_in r).server (log_in r).n id) (λ r is. refl) ours.schema ours.held.write_log shown
+
+pub shows_between_log : (low high : ℕ) (old new : State) (rows : List Row) → IsOurs old.now → Shown between_log_text (Int (pos low) ∷ Int (pos high) ∷ []) old new rows
+    → IsPermutation (filter (λ (r : LogRow). texts.within low high r.seq) (tables_in old.now.trees).write_log) (map (λ r. log_in (Null ∷ r)) rows)
+unfolding tables_in
+shows_between_log low high old new rows ours shown =
+    finds_rows log_form log_facts between_log_text log_seq_tests log_columns log_names (Int (pos low) ∷ Int (pos high) ∷ []) old new (λ r. texts.within low high r.seq) rows between_log_is
+    (λ r is. ap (passes log_seq_tests (Int (pos low) ∷ Int (pos high) ∷ [])) is ∙ between_test low high (log_in r).seq) (λ r is. refl) ours.schema ours.held.write_log shown
+
+pub shows_key_undo : (id : Id) (old new : State) (rows : List Row) → IsOurs old.now → Shown key_undo_text (Int (pos id.server) ∷ Int (pos id.n) ∷ []) old new rows
+    → IsPermutation (filter (λ (r : UndoRow). is_among (undo_id r) (id ∷ [])) (tables_in old.now.trees).undo) (map (λ r. undo_in (Null ∷ r)) rows)
+unfolding tables_in
+shows_key_undo id old new rows ours shown =
+    finds_rows undo_form undo_facts key_undo_text undo_key_tests undo_columns undo_names (Int (pos id.server) ∷ Int (pos id.n) ∷ []) old new (λ r. is_among (undo_id r) (id ∷ [])) rows key_undo_is
+    (λ r is. ap (passes undo_key_tests (Int (pos id.server) ∷ Int (pos id.n) ∷ [])) is ∙ id_test (undo_in r).server (undo_in r).n id) (λ r is. refl) ours.schema ours.held.undo shown
+
+pub shows_room_booking : (room : texts.Text) (old new : State) (rows : List Row) → IsOurs old.now → Shown room_booking_text (Text room ∷ []) old new rows
+    → IsPermutation (filter (is_booking_asked room) (tables_in old.now.trees).booking) (map (λ r. booking_in (Null ∷ r)) rows)
+unfolding tables_in
+shows_room_booking room old new rows ours shown =
+    finds_rows booking_form booking_facts room_booking_text booking_room_tests booking_columns booking_names (Text room ∷ []) old new (is_booking_asked room) rows room_booking_is
+    (λ r is. ap (passes booking_room_tests (Text room ∷ [])) is ∙ and_true _ ∙ equal_text (booking_in r).room room) (λ r is. refl) ours.schema ours.held.booking shown
+
+pub shows_key_booking : (id : Id) (old new : State) (rows : List Row) → IsOurs old.now → Shown key_booking_text (Int (pos id.server) ∷ Int (pos id.n) ∷ []) old new rows
+    → IsPermutation (filter (λ (r : BookingRow). is_among (booking_id r) (id ∷ [])) (tables_in old.now.trees).booking) (map (λ r. booking_in (Null ∷ r)) rows)
+unfolding tables_in
+shows_key_booking id old new rows ours shown =
+    finds_rows booking_form booking_facts key_booking_text booking_key_tests booking_columns booking_names (Int (pos id.server) ∷ Int (pos id.n) ∷ []) old new (λ r. is_among (booking_id r) (id ∷ [])) rows key_booking_is
+    (λ r is. ap (passes booking_key_tests (Int (pos id.server) ∷ Int (pos id.n) ∷ [])) is ∙ id_test (booking_in r).server (booking_in r).n id) (λ r is. refl) ours.schema ours.held.booking shown
+
+pub shows_room_error : (room : texts.Text) (old new : State) (rows : List Row) → IsOurs old.now → Shown room_error_text (Text room ∷ []) old new rows
+    → IsPermutation (filter (is_error_asked room) (tables_in old.now.trees).errorlog) (map (λ r. error_in (Null ∷ r)) rows)
+unfolding tables_in
+shows_room_error room old new rows ours shown =
+    finds_rows error_form error_facts room_error_text error_room_tests error_columns error_names (Text room ∷ []) old new (is_error_asked room) rows room_error_is
+    (λ r is. ap (passes error_room_tests (Text room ∷ [])) is ∙ and_true _ ∙ equal_text (error_in r).room room) (λ r is. refl) ours.schema ours.held.errorlog shown
+
+pub shows_key_error : (id : Id) (old new : State) (rows : List Row) → IsOurs old.now → Shown key_error_text (Int (pos id.server) ∷ Int (pos id.n) ∷ []) old new rows
+    → IsPermutation (filter (λ (r : ErrorRow). is_among (error_id r) (id ∷ [])) (tables_in old.now.trees).errorlog) (map (λ r. error_in (Null ∷ r)) rows)
+unfolding tables_in
+shows_key_error id old new rows ours shown =
+    finds_rows error_form error_facts key_error_text error_key_tests error_columns error_names (Int (pos id.server) ∷ Int (pos id.n) ∷ []) old new (λ r. is_among (error_id r) (id ∷ [])) rows key_error_is
+    (λ r is. ap (passes error_key_tests (Int (pos id.server) ∷ Int (pos id.n) ∷ [])) is ∙ id_test (error_in r).server (error_in r).n id) (λ r is. refl) ours.schema ours.held.errorlog shown
+
+-- ---- the same of rows that may be any
+
+sees : {R K : Type 0} (f : Form R K) (facts : Facts f) (text : List ℕ) (project : List Term) (names : List (List ℕ)) (old new : State) (rows : List Row)
+    → MeansQuery text (Select (program_of f.table.tree [] project) names) → old.now.schema ≡ our_schema → Shown text [] old new rows
+    → IsPermutation (map (λ r. eval_all project ([] ∷ r ∷ [])) (old.now.trees f.table.tree)) rows
+sees f facts text project names old new rows means schema h =
+    let program : Program = program_of f.table.tree [] project in
+    let read = reads_as text [] old new our_schema schema (Select program names) means.0.0 means.0.1 means.1 rows h in
+    let moved = shows f.table.tree [] project old.now.trees [] rows (facts.alone old.now.trees) (read.answer Null) in
+    subst (λ xs. IsPermutation (map (λ r. eval_all project ([] ∷ r ∷ [])) xs) rows) (filter_all_true _) moved
+
+pub sees_all_meta : (old new : State) (rows : List Row) → old.now.schema ≡ our_schema → Shown all_meta_text [] old new rows → IsPermutation (map (columns_from 1 7) (old.now.trees 0)) rows
+sees_all_meta old new rows = sees meta_form meta_facts all_meta_text meta_columns meta_names old new rows all_meta_is
+
+pub sees_all_room : (old new : State) (rows : List Row) → old.now.schema ≡ our_schema → Shown all_room_text [] old new rows → IsPermutation (map (columns_from 1 1) (old.now.trees 2)) rows
+sees_all_room old new rows = sees room_form room_facts all_room_text room_columns room_names old new rows all_room_is
+
+pub sees_all_vector : (old new : State) (rows : List Row) → old.now.schema ≡ our_schema → Shown all_vector_text [] old new rows → IsPermutation (map (columns_from 1 4) (old.now.trees 4)) rows
+sees_all_vector old new rows = sees vector_form vector_facts all_vector_text vector_columns vector_names old new rows all_vector_is
+
+pub sees_all_log : (old new : State) (rows : List Row) → old.now.schema ≡ our_schema → Shown all_log_text [] old new rows → IsPermutation (map (columns_from 1 8) (old.now.trees 6)) rows
+sees_all_log old new rows = sees log_form log_facts all_log_text log_columns log_names old new rows all_log_is
+
+pub sees_all_undo : (old new : State) (rows : List Row) → old.now.schema ≡ our_schema → Shown all_undo_text [] old new rows → IsPermutation (map (columns_from 1 3) (old.now.trees 8)) rows
+sees_all_undo old new rows = sees undo_form undo_facts all_undo_text undo_columns undo_names old new rows all_undo_is
+
+pub sees_all_booking : (old new : State) (rows : List Row) → old.now.schema ≡ our_schema → Shown all_booking_text [] old new rows → IsPermutation (map (columns_from 1 8) (old.now.trees 10)) rows
+sees_all_booking old new rows = sees booking_form booking_facts all_booking_text booking_columns booking_names old new rows all_booking_is
+
+pub sees_all_error : (old new : State) (rows : List Row) → old.now.schema ≡ our_schema → Shown all_error_text [] old new rows → IsPermutation (map (columns_from 1 9) (old.now.trees 12)) rows
+sees_all_error old new rows = sees error_form error_facts all_error_text error_columns error_names old new rows all_error_is

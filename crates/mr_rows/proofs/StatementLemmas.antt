@@ -1,0 +1,126 @@
+-- What each statement that takes a row away or puts one makes of the tables.
+use Rattle.std.proofs.Common.{◌≡◌, ℕ, pos, List, [], ◌∷◌, Bool, true, false, ◌==◌, inl, inr, Ok, Err, Result, OnOk, IsTrue, refl, sym, ap, subst}
+use Rattle.std.proofs.lemmas.Bool.{cases_Bool}
+use Rattle.sqlite_value.specs.declared.value.Value.{Value}
+use Rattle.sqlite_value.specs.declared.value.Value.TheVariants.{Int}
+use Rattle.sqlite_value.specs.Order.{Row}
+use Rattle.sqlite_trees.specs.declared.store.Store as store
+use Rattle.sqlite.specs.declared.error.Error.{Error}
+use Rattle.sqlite.specs.Held.{Held, state}
+use Rattle.sqlite.specs.State.{State, HasCleanDisk, ExecutesInside, KeepsCommit}
+use Rattle.mr_model.specs.Texts.{Text}
+use Rattle.mr_model.specs.Calendar.{is_date}
+use Rattle.mr_model.specs.Writes.{Id}
+use Rattle.mr_model.specs.Replay.{Place, Taken, Logged}
+use Rattle.mr_model.specs.Tables.{MetaRow, VectorRow, LogRow, UndoRow, BookingRow, ErrorRow, Tables}
+use Rattle.mr_model.proofs.WordsReadBack.{date-text}
+use Rattle.mr_rows.specs.Cells.{mark, nat_of, place_number, place_in}
+use Rattle.mr_rows.specs.Form.{meta_form, room_form, vector_form, log_form, undo_form, booking_form, error_form}
+use Rattle.std.specs.Prelude.{nat_lt}
+use Rattle.mr_tables.specs.Change.{put}
+use Rattle.mr_rows.specs.Kept.{first_meta, IsOurs, IsStep, Makes, tables_in}
+use Rattle.mr_rows.specs.Parts.{take_logs, take_undos, take_bookings, take_errors, put_meta, put_rooms, put_vector, put_logs, put_undos, put_bookings, put_errors}
+use Rattle.mr_rows.proofs.Texts.{take_log_text, take_log_is, take_undo_text, take_undo_is, take_booking_text, take_booking_is, take_error_text, take_error_is, put_meta_text, put_meta_is, put_room_text, put_room_is, put_vector_text, put_vector_is, put_log_text, put_log_is, put_undo_text, put_undo_is, put_booking_text, put_booking_is, put_error_text, put_error_is}
+use Rattle.mr_rows.proofs.TableLemmas.{takes, puts}
+use Rattle.mr_rows.proofs.TableFacts.{meta_facts, room_facts, vector_facts, log_facts, undo_facts, booking_facts, error_facts}
+use Rattle.std.proofs.lemmas.Result.{on_ok_weaker}
+use Rattle.mr_rows.proofs.StepLemmas.{meta_step, room_step, vector_step, log_step, undo_step, booking_step, error_step}
+
+-- ---- plain rows are read back off their cells
+
+marked : (c : Bool) → (nat_of (Int (mark c)) == 1) ≡ c
+marked true = refl
+marked false = refl
+
+placed : (p : Place) → place_in (place_number p) ≡ p
+placed (Taken k) = refl
+placed Logged = refl
+
+pub undo_back : (v : Value) (u : UndoRow) → undo_form.row_in (v ∷ undo_form.cells u) ≡ u
+undo_back v u = ap (λ p. record u { place = p }) (placed u.place)
+
+pub booking_back : (v : Value) (b : BookingRow) → IsTrue (is_date b.day) → booking_form.row_in (v ∷ booking_form.cells b) ≡ b
+booking_back v b is = let day = date-text b.day is in let c = marked b.committed in λ i. record b { day = day i; committed = c i }
+
+pub error_back : (v : Value) (e : ErrorRow) → IsTrue (is_date e.day) → error_form.row_in (v ∷ error_form.cells e) ≡ e
+error_back v e is = let day = date-text e.day is in λ i. record e { day = day i }
+
+-- ---- a statement inside a transaction, whatever it does, commits nothing
+
+keeps_commit : (old new : State) (sql : List ℕ) (params : Row) (r : Result ℕ Error) → ExecutesInside 0 sql params old new r → KeepsCommit old new
+keeps_commit old new sql params (Ok count) h = record { was_open = λ _. h.1.was_open; committed = λ _. h.1.committed_is }
+keeps_commit old new sql params (Err e) (inl (h, inl same)) = record { was_open = λ _. same.0.was_open; committed = λ _. same.0.committed_is }
+keeps_commit old new sql params (Err e) (inl (h, inr back)) = record { was_open = back.was_open; committed = λ now. (back.undone now).1 }
+keeps_commit old new sql params (Err e) (inr (ends, is, same)) = record { was_open = λ _. same.0.was_open; committed = λ _. same.0.committed_is }
+
+pub keeps_any : {S : Type 0} (g : store.Ghosts S) (old new : Held S) (sql : List ℕ) (params : Row) (r : Result ℕ Error)
+    → (IsTrue old.in_transaction → ExecutesInside 0 sql params (state g old) (state g new) r) → (old.in_transaction ≡ false → new ≡ old) → KeepsCommit (state g old) (state g new)
+keeps_any g old new sql params r inside after = elim (cases_Bool old.in_transaction) [
+  | inl within ↦ keeps_commit (state g old) (state g new) sql params r (inside within)
+  | inr outside ↦ subst (λ h. KeepsCommit (state g old) (state g h)) (sym (after outside)) (record { was_open = λ now. now; committed = λ _. refl })
+]
+
+-- what a text with these parameters makes of our tables, if it is run
+abbrev pub Does : List ℕ → Row → (Tables → Tables) → Type 1
+Does text params turn =
+    (old new : State) (r : Result ℕ Error) → IsOurs old.now → ExecutesInside 0 text params old new r → OnOk r (IsStep old new (turn (tables_in old.now.trees)))
+
+-- a statement that was run inside a transaction
+pub makes : {S : Type 0} (g : store.Ghosts S) (old new : Held S) (text : List ℕ) (params : Row) (turn : Tables → Tables) (r : Result ℕ Error) → Does text params turn
+    → (HasCleanDisk (state g new) → IsTrue old.in_transaction → ExecutesInside 0 text params (state g old) (state g new) r) → (old.in_transaction ≡ false → new ≡ old)
+    → Makes (state g old) (state g new) (turn (tables_in (state g old).now.trees)) r
+makes g old new text params turn r does ran after =
+    (λ asked. does (state g old) (state g new) r asked.2 (ran asked.0 asked.1), λ clean. keeps_any g old new text params r (ran clean) after)
+
+-- ---- rows taken away by their id
+
+pub takes_log : (id : Id) → Does take_log_text (Int (pos id.server) ∷ Int (pos id.n) ∷ []) (take_logs (id ∷ []))
+unfolding tables_in log_facts
+takes_log id old new r ours ran = on_ok_weaker r (log_step old new _ ours) (takes log_form log_facts take_log_text old new id r take_log_is ours.schema ours.held.write_log ran)
+
+pub takes_undo : (id : Id) → Does take_undo_text (Int (pos id.server) ∷ Int (pos id.n) ∷ []) (take_undos (id ∷ []))
+unfolding tables_in undo_facts
+takes_undo id old new r ours ran = on_ok_weaker r (undo_step old new _ ours) (takes undo_form undo_facts take_undo_text old new id r take_undo_is ours.schema ours.held.undo ran)
+
+pub takes_booking : (id : Id) → Does take_booking_text (Int (pos id.server) ∷ Int (pos id.n) ∷ []) (take_bookings (id ∷ []))
+unfolding tables_in booking_facts
+takes_booking id old new r ours ran = on_ok_weaker r (booking_step old new _ ours) (takes booking_form booking_facts take_booking_text old new id r take_booking_is ours.schema ours.held.booking ran)
+
+pub takes_error : (id : Id) → Does take_error_text (Int (pos id.server) ∷ Int (pos id.n) ∷ []) (take_errors (id ∷ []))
+unfolding tables_in error_facts
+takes_error id old new r ours ran = on_ok_weaker r (error_step old new _ ours) (takes error_form error_facts take_error_text old new id r take_error_is ours.schema ours.held.errorlog ran)
+
+-- ---- rows put
+
+-- all rows of `meta` have one key, so a row that is put is the first
+pub first_put : (x : MetaRow) (rows : List MetaRow) → first_meta (put nat_lt (λ _. 1) x rows) ≡ x
+first_put x [] = refl
+first_put x (y ∷ rows) = refl
+
+pub puts_meta : (x : MetaRow) → Does put_meta_text (meta_form.cells x) (put_meta x)
+unfolding tables_in meta_facts
+puts_meta x old new r ours ran = on_ok_weaker r (λ turns. let step = meta_step old new _ ours turns in subst (λ m. IsStep old new (put_meta m (tables_in old.now.trees))) (first_put x _) step) (puts meta_form meta_facts put_meta_text old new x r put_meta_is (λ _. refl) ours.schema ours.held.meta ran)
+
+pub puts_room : (x : Text) → Does put_room_text (room_form.cells x) (put_rooms (x ∷ []))
+unfolding tables_in room_facts
+puts_room x old new r ours ran = on_ok_weaker r (room_step old new _ ours) (puts room_form room_facts put_room_text old new x r put_room_is (λ _. refl) ours.schema ours.held.room ran)
+
+pub puts_vector : (x : VectorRow) → Does put_vector_text (vector_form.cells x) (put_vector (x ∷ []))
+unfolding tables_in vector_facts
+puts_vector x old new r ours ran = on_ok_weaker r (vector_step old new _ ours) (puts vector_form vector_facts put_vector_text old new x r put_vector_is (λ _. refl) ours.schema ours.held.vector ran)
+
+pub puts_log : (x : LogRow) → Does put_log_text (log_form.cells x) (put_logs (x ∷ []))
+unfolding tables_in log_facts
+puts_log x old new r ours ran = on_ok_weaker r (log_step old new _ ours) (puts log_form log_facts put_log_text old new x r put_log_is (λ _. refl) ours.schema ours.held.write_log ran)
+
+pub puts_undo : (x : UndoRow) → Does put_undo_text (undo_form.cells x) (put_undos (x ∷ []))
+unfolding tables_in undo_facts
+puts_undo x old new r ours ran = on_ok_weaker r (undo_step old new _ ours) (puts undo_form undo_facts put_undo_text old new x r put_undo_is (λ id. undo_back (Int id) x) ours.schema ours.held.undo ran)
+
+pub puts_booking : (x : BookingRow) → IsTrue (is_date x.day) → Does put_booking_text (booking_form.cells x) (put_bookings (x ∷ []))
+unfolding tables_in booking_facts
+puts_booking x is old new r ours ran = on_ok_weaker r (booking_step old new _ ours) (puts booking_form booking_facts put_booking_text old new x r put_booking_is (λ id. booking_back (Int id) x is) ours.schema ours.held.booking ran)
+
+pub puts_error : (x : ErrorRow) → IsTrue (is_date x.day) → Does put_error_text (error_form.cells x) (put_errors (x ∷ []))
+unfolding tables_in error_facts
+puts_error x is old new r ours ran = on_ok_weaker r (error_step old new _ ours) (puts error_form error_facts put_error_text old new x r put_error_is (λ id. error_back (Int id) x is) ours.schema ours.held.errorlog ran)

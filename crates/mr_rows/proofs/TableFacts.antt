@@ -1,0 +1,218 @@
+-- What is computed of each table.
+use Rattle.std.proofs.Common.{◌≡◌, pos, [], ◌∷◌, ◌==◌, refl, ap, ◌∙◌, eqb-true, eq-eqb}
+use Rattle.std.specs.Prelude.{bytes_eq}
+use Rattle.std.proofs.lemmas.Slice.Eq.{bytes_eq-Decides}
+use Rattle.sqlite_value.specs.declared.value.Value.{Value}
+use Rattle.sqlite_value.specs.declared.value.Value.TheVariants.{Null, Int, Text}
+use Rattle.sqlite_value.specs.Order.{column}
+use Rattle.sqlite_value.specs.Keys.{first_key}
+use Rattle.sqlite_trees.specs.Tree.{rowid}
+use Rattle.sqlite_schema.specs.Rules.{equal}
+use Rattle.sqlite_rules.specs.Cast.{cast, cast_row}
+use Rattle.sqlite.specs.Collation.TheVariants.{Binary}
+use Rattle.sqlite.specs.Kind.TheVariants.{Integer}
+use Rattle.mr_model.specs.Texts as texts
+use Rattle.mr_model.specs.Replica.{is_among}
+use Rattle.mr_model.specs.Tables.{MetaRow, VectorRow, LogRow, UndoRow, BookingRow, ErrorRow}
+use Rattle.mr_tables.proofs.Putting.{id_order, number_order, name_order}
+use Rattle.mr_rows.specs.Meaning.{passes}
+use Rattle.mr_rows.specs.Cells.{mark, place_number, room_in, vector_in, log_in, undo_in, booking_in, error_in}
+use Rattle.mr_rows.specs.Form.{meta_form, room_form, vector_form, log_form, undo_form, booking_form, error_form}
+use Rattle.mr_rows.proofs.Texts.{put_meta_terms, put_room_terms, put_vector_terms, put_log_terms, put_undo_terms, put_booking_terms, put_error_terms, meta_key_tests, room_key_tests, vector_key_tests, log_key_tests, undo_key_tests, booking_key_tests, error_key_tests}
+use Rattle.mr_rows.proofs.ValueLemmas.{equal_nat, equal_text, equal_apart, and_true, id_test, among_one, one_among, clash_one, clash_two, cast_null, cast_int}
+use Rattle.mr_rows.proofs.TableLemmas.{Facts}
+
+-- ---- tables with a key of one column
+
+pub cast_meta : (v : Value) (m : MetaRow) → cast Integer v ≡ v → cast_row meta_form.table (v ∷ meta_form.cells m) ≡ v ∷ meta_form.cells m
+cast_meta v m same =
+    rw (same, cast_int (pos m.server), cast_int (pos m.primary), cast_int (pos m.commits), cast_int (pos m.dropped), cast_int (pos m.clock))
+    (let one = cast_int (pos 1) in λ i. v ∷ one i ∷ one i ∷ Int (pos m.server) ∷ Int (pos m.primary) ∷ Int (pos m.commits) ∷ Int (pos m.dropped) ∷ Int (pos m.clock) ∷ [])
+
+unfoldable pub meta_facts : Facts meta_form
+unfolding first_key
+meta_facts = record {
+  order = number_order;
+  place = 0;
+  key_cells = λ k. Int (pos k) ∷ [];
+  key_tests = meta_key_tests;
+  has_key = λ k m. 1 == k;
+  finds = λ k r is. ap (passes meta_key_tests (Int (pos k) ∷ [])) is ∙ and_true _ ∙ equal_nat 1 k;
+  same_key = λ k m h. eqb-true 1 k h;
+  own_key = λ m n same. refl;
+  terms = put_meta_terms;
+  width = 8;
+  given = λ m. refl;
+  fresh = λ m. cast_meta Null m cast_null;
+  fits = λ m id. cast_meta (Int id) m (cast_int id);
+  clashes = λ m id r low. clash_one (equal Binary (rowid r) (Int id)) (equal Binary (column r 1) (Int (pos 1))) (equal_apart (rowid r) (Int id) low);
+  alone = λ db. refl;
+  uncounted = refl;
+  free = λ _ _. refl;
+  on_rows = λ limit mode params db text out done. done;
+  on_taken = λ limit mode params db text q out done. done;
+}
+
+pub cast_room : (v : Value) (name : texts.Text) → cast Integer v ≡ v → cast_row room_form.table (v ∷ room_form.cells name) ≡ v ∷ room_form.cells name
+cast_room v name same = rw (same)
+
+unfoldable pub room_facts : Facts room_form
+unfolding first_key
+room_facts = record {
+  order = name_order;
+  place = 1;
+  key_cells = λ k. Text k ∷ [];
+  key_tests = room_key_tests;
+  has_key = λ k name. bytes_eq name k;
+  finds = λ k r is. ap (passes room_key_tests (Text k ∷ [])) is ∙ and_true _ ∙ equal_text (room_in r) k;
+  same_key = λ k name h. (bytes_eq-Decides name k).0 h;
+  own_key = λ k name same. (bytes_eq-Decides name k).1 same;
+  terms = put_room_terms;
+  width = 2;
+  given = λ name. refl;
+  fresh = λ name. cast_room Null name cast_null;
+  fits = λ name id. cast_room (Int id) name (cast_int id);
+  clashes = λ name id r low. clash_one (equal Binary (rowid r) (Int id)) (equal Binary (column r 1) (Text name)) (equal_apart (rowid r) (Int id) low);
+  alone = λ db. refl;
+  uncounted = refl;
+  free = λ _ _. refl;
+  on_rows = λ limit mode params db text out done. done;
+  on_taken = λ limit mode params db text q out done. done;
+}
+
+pub cast_vector : (v : Value) (w : VectorRow) → cast Integer v ≡ v → cast_row vector_form.table (v ∷ vector_form.cells w) ≡ v ∷ vector_form.cells w
+cast_vector v w same = rw (same, cast_int (pos w.server), cast_int (pos w.count), cast_int (pos w.last_time), cast_int (pos w.committed))
+
+unfoldable pub vector_facts : Facts vector_form
+unfolding first_key
+vector_facts = record {
+  order = number_order;
+  place = 2;
+  key_cells = λ k. Int (pos k) ∷ [];
+  key_tests = vector_key_tests;
+  has_key = λ k w. w.server == k;
+  finds = λ k r is. ap (passes vector_key_tests (Int (pos k) ∷ [])) is ∙ and_true _ ∙ equal_nat (vector_in r).server k;
+  same_key = λ k w h. eqb-true w.server k h;
+  own_key = λ k w same. eq-eqb w.server k.server same;
+  terms = put_vector_terms;
+  width = 5;
+  given = λ w. refl;
+  fresh = λ w. cast_vector Null w cast_null;
+  fits = λ w id. cast_vector (Int id) w (cast_int id);
+  clashes = λ w id r low. clash_one (equal Binary (rowid r) (Int id)) (equal Binary (column r 1) (Int (pos w.server))) (equal_apart (rowid r) (Int id) low);
+  alone = λ db. refl;
+  uncounted = refl;
+  free = λ _ _. refl;
+  on_rows = λ limit mode params db text out done. done;
+  on_taken = λ limit mode params db text q out done. done;
+}
+
+-- ---- tables with the key server, n
+
+pub cast_log : (v : Value) (w : LogRow) → cast Integer v ≡ v → cast_row log_form.table (v ∷ log_form.cells w) ≡ v ∷ log_form.cells w
+cast_log v w same = rw (same, cast_int (pos w.server), cast_int (pos w.n), cast_int (pos w.time), cast_int (pos w.length), cast_int (pos w.seq))
+
+unfoldable pub log_facts : Facts log_form
+unfolding first_key
+log_facts = record {
+  order = id_order;
+  place = 3;
+  key_cells = λ id. Int (pos id.server) ∷ Int (pos id.n) ∷ [];
+  key_tests = log_key_tests;
+  has_key = λ id w. is_among (log_form.key w) (id ∷ []);
+  finds = λ id r is. ap (passes log_key_tests (Int (pos id.server) ∷ Int (pos id.n) ∷ [])) is ∙ id_test (log_in r).server (log_in r).n id;
+  same_key = λ id w h. among_one (log_form.key w) id h;
+  own_key = λ x y same. one_among (log_form.key y) (log_form.key x) same;
+  terms = put_log_terms;
+  width = 9;
+  given = λ w. refl;
+  fresh = λ w. cast_log Null w cast_null;
+  fits = λ w id. cast_log (Int id) w (cast_int id);
+  clashes = λ w id r low. clash_two (equal Binary (rowid r) (Int id)) (equal Binary (column r 1) (Int (pos w.server))) (equal Binary (column r 2) (Int (pos w.n))) (equal_apart (rowid r) (Int id) low);
+  alone = λ db. refl;
+  uncounted = refl;
+  free = λ _ _. refl;
+  on_rows = λ limit mode params db text out done. done;
+  on_taken = λ limit mode params db text q out done. done;
+}
+
+pub cast_undo : (v : Value) (u : UndoRow) → cast Integer v ≡ v → cast_row undo_form.table (v ∷ undo_form.cells u) ≡ v ∷ undo_form.cells u
+cast_undo v u same = rw (same, cast_int (pos u.server), cast_int (pos u.n), cast_int (place_number u.place))
+
+unfoldable pub undo_facts : Facts undo_form
+unfolding first_key
+undo_facts = record {
+  order = id_order;
+  place = 4;
+  key_cells = λ id. Int (pos id.server) ∷ Int (pos id.n) ∷ [];
+  key_tests = undo_key_tests;
+  has_key = λ id u. is_among (undo_form.key u) (id ∷ []);
+  finds = λ id r is. ap (passes undo_key_tests (Int (pos id.server) ∷ Int (pos id.n) ∷ [])) is ∙ id_test (undo_in r).server (undo_in r).n id;
+  same_key = λ id u h. among_one (undo_form.key u) id h;
+  own_key = λ x y same. one_among (undo_form.key y) (undo_form.key x) same;
+  terms = put_undo_terms;
+  width = 4;
+  given = λ u. refl;
+  fresh = λ u. cast_undo Null u cast_null;
+  fits = λ u id. cast_undo (Int id) u (cast_int id);
+  clashes = λ u id r low. clash_two (equal Binary (rowid r) (Int id)) (equal Binary (column r 1) (Int (pos u.server))) (equal Binary (column r 2) (Int (pos u.n))) (equal_apart (rowid r) (Int id) low);
+  alone = λ db. refl;
+  uncounted = refl;
+  free = λ _ _. refl;
+  on_rows = λ limit mode params db text out done. done;
+  on_taken = λ limit mode params db text q out done. done;
+}
+
+pub cast_booking : (v : Value) (b : BookingRow) → cast Integer v ≡ v → cast_row booking_form.table (v ∷ booking_form.cells b) ≡ v ∷ booking_form.cells b
+cast_booking v b same = rw (same, cast_int (pos b.start), cast_int (pos b.stop), cast_int (pos b.server), cast_int (pos b.n), cast_int (mark b.committed))
+
+unfoldable pub booking_facts : Facts booking_form
+unfolding first_key
+booking_facts = record {
+  order = id_order;
+  place = 5;
+  key_cells = λ id. Int (pos id.server) ∷ Int (pos id.n) ∷ [];
+  key_tests = booking_key_tests;
+  has_key = λ id b. is_among (booking_form.key b) (id ∷ []);
+  finds = λ id r is. ap (passes booking_key_tests (Int (pos id.server) ∷ Int (pos id.n) ∷ [])) is ∙ id_test (booking_in r).server (booking_in r).n id;
+  same_key = λ id b h. among_one (booking_form.key b) id h;
+  own_key = λ x y same. one_among (booking_form.key y) (booking_form.key x) same;
+  terms = put_booking_terms;
+  width = 9;
+  given = λ b. refl;
+  fresh = λ b. cast_booking Null b cast_null;
+  fits = λ b id. cast_booking (Int id) b (cast_int id);
+  clashes = λ b id r low. clash_two (equal Binary (rowid r) (Int id)) (equal Binary (column r 5) (Int (pos b.server))) (equal Binary (column r 6) (Int (pos b.n))) (equal_apart (rowid r) (Int id) low);
+  alone = λ db. refl;
+  uncounted = refl;
+  free = λ _ _. refl;
+  on_rows = λ limit mode params db text out done. done;
+  on_taken = λ limit mode params db text q out done. done;
+}
+
+pub cast_error : (v : Value) (e : ErrorRow) → cast Integer v ≡ v → cast_row error_form.table (v ∷ error_form.cells e) ≡ v ∷ error_form.cells e
+cast_error v e same = rw (same, cast_int (pos e.start), cast_int (pos e.stop), cast_int (pos e.server), cast_int (pos e.n), cast_int (pos e.time), cast_int (pos e.seq))
+
+unfoldable pub error_facts : Facts error_form
+unfolding first_key
+error_facts = record {
+  order = id_order;
+  place = 6;
+  key_cells = λ id. Int (pos id.server) ∷ Int (pos id.n) ∷ [];
+  key_tests = error_key_tests;
+  has_key = λ id e. is_among (error_form.key e) (id ∷ []);
+  finds = λ id r is. ap (passes error_key_tests (Int (pos id.server) ∷ Int (pos id.n) ∷ [])) is ∙ id_test (error_in r).server (error_in r).n id;
+  same_key = λ id e h. among_one (error_form.key e) id h;
+  own_key = λ x y same. one_among (error_form.key y) (error_form.key x) same;
+  terms = put_error_terms;
+  width = 10;
+  given = λ e. refl;
+  fresh = λ e. cast_error Null e cast_null;
+  fits = λ e id. cast_error (Int id) e (cast_int id);
+  clashes = λ e id r low. clash_two (equal Binary (rowid r) (Int id)) (equal Binary (column r 5) (Int (pos e.server))) (equal Binary (column r 6) (Int (pos e.n))) (equal_apart (rowid r) (Int id) low);
+  alone = λ db. refl;
+  uncounted = refl;
+  free = λ _ _. refl;
+  on_rows = λ limit mode params db text out done. done;
+  on_taken = λ limit mode params db text q out done. done;
+}

@@ -1,0 +1,228 @@
+-- What the statements on one table make of its rows, whichever table it is.
+use Rattle.std.proofs.Common.{◌≡◌, ℕ, ℤ, List, [], ◌∷◌, ◌++◌, map, filter, Bool, true, false, not, ◌==◌, cond, if◌then◌else◌, IsTrue, None, Ok, Err, Result, Option, OnOk, refl, sym, ap, subst, ◌∙◌, Less, eqb-true, arith}
+use Rattle.std.specs.Prelude.{length, ◌/◌}
+use Rattle.std.specs.List.{AllByRecursion}
+use Rattle.std.specs.List.Sorted.{IsPermutation}
+use Rattle.std.proofs.lemmas.List.Sorted.{IsPermutation-map, IsPermutation-sym, IsPermutation-trans}
+use Rattle.sqlite_value.specs.declared.value.Value.TheVariants.{Null, Int}
+use Rattle.sqlite_value.specs.Order.{Row, value_cmp}
+use Rattle.sqlite_trees.specs.Tree.{Trees, rowid, IsAscending}
+use Rattle.sqlite_trees.proofs.ListLemmas.{all-filter, ascending-filter, IsPermutation-filter}
+use Rattle.sqlite_sql.specs.Term.{Term, col, eval_all}
+use Rattle.sqlite_sql.specs.Program.{overlay}
+use Rattle.sqlite_schema.specs.declared.schema.Keys.TheVariants.{Enforced}
+use Rattle.sqlite_schema.specs.declared.program.Program.{Program}
+use Rattle.sqlite_schema.specs.declared.command.Conflict.TheVariants.{Replace}
+use Rattle.sqlite_rules.specs.Lists.{Has}
+use Rattle.sqlite_rules.proofs.ListLemmas.{all_has, all_from, has_filtered}
+use Rattle.sqlite_rules.specs.Action.{works}
+use Rattle.sqlite_rules.specs.Cast.{cast_row}
+use Rattle.sqlite_rules.specs.Keys.{conflicts}
+use Rattle.sqlite_rules.specs.Edit.{next_rowid, IsNoIndex}
+use Rattle.sqlite.specs.Command.TheVariants.{InsertOr, Delete, Select}
+use Rattle.sqlite.specs.Source.TheVariants.{Values}
+use Rattle.sqlite.specs.declared.error.Error.{Error}
+use Rattle.sqlite.specs.declared.run.Mode.{Mode}
+use Rattle.sqlite.specs.Effect.{Database, value_rows}
+use Rattle.sqlite.specs.Listing.{understood}
+use Rattle.sqlite.specs.Rows.{Task, stamped, mended}
+use Rattle.sqlite.specs.Does.{Does, OnRows}
+use Rattle.sqlite.specs.State.{State, mode_of, ExecutesInside, Shown}
+use Rattle.sqlite.proofs.Callers.{statement_of, runs_as, reads_as}
+use Rattle.mr_tables.specs.Change.{put, put_all}
+use Rattle.mr_tables.proofs.Putting.{IsOrder}
+use Rattle.mr_rows.specs.Schema.{our_schema}
+use Rattle.mr_rows.specs.Meaning.{passes}
+use Rattle.mr_rows.specs.Form.{Form}
+use Rattle.mr_rows.specs.Kept.{IsRowOf, IsHeld, in_order}
+use Rattle.mr_rows.proofs.Texts.{Means, MeansQuery, program_of}
+use Rattle.mr_rows.proofs.RowLemmas.{shelf_filter, shelf_push, next_above, ascending_push}
+use Rattle.mr_rows.proofs.FormLemmas.{deletes, upserts, shows, Leaves}
+use Rattle.mr_rows.proofs.KeyOrder.{Apart, ordered-filter, ordered-put, ordered_same}
+
+-- What is computed of a table: how a statement finds the rows of a key, and how it makes a row of parameters.
+pub record Facts {R K : Type 0} (f : Form R K) : Type 1 where
+  pub order : IsOrder K f.before
+  -- its place in the schema
+  pub place : ℕ
+  -- a key as parameters, the tests that find its rows, and what they say of plain rows
+  pub key_cells : K → Row
+  pub key_tests : List Term
+  pub has_key : K → R → Bool
+  pub finds : (k : K) (r : Row) → IsRowOf f r → passes key_tests (key_cells k) r ≡ has_key k (f.row_in r)
+  pub same_key : (k : K) (x : R) → has_key k x ≡ true → f.key x ≡ k
+  pub own_key : (x y : R) → f.key y ≡ f.key x → has_key (f.key x) y ≡ true
+  -- the values of a new row
+  pub terms : List Term
+  pub width : ℕ
+  pub given : (x : R) → value_rows (stamped f.table (f.cells x)) width (length terms / width) terms ≡ (Null ∷ f.cells x) ∷ []
+  pub fresh : (x : R) → cast_row f.table (mended Replace f.table (Null ∷ f.cells x)) ≡ Null ∷ f.cells x
+  pub fits : (x : R) (id : ℤ) → cast_row f.table (Int id ∷ f.cells x) ≡ Int id ∷ f.cells x
+  pub clashes : (x : R) (id : ℤ) (r : Row) → value_cmp (rowid r) (Int id) ≡ Less → conflicts None our_schema.indexes f.table (Int id ∷ f.cells x) r ≡ passes key_tests (key_cells (f.key x)) r
+  pub alone : (db : Trees) → overlay db [] f.table.tree ≡ db f.table.tree
+  pub uncounted : f.table.is_counted ≡ false
+  pub free : (taken news : List Row) → works our_schema Enforced 0 f.table.tree taken news ≡ []
+  -- the statements are on this table
+  pub on_rows : (limit : Option ℕ) (mode : Mode) (params : Row) (db : Trees) (text : List ℕ)
+      → (out : _) → Does limit mode params (record { schema = our_schema; trees = db }) text None (InsertOr place Replace (Values terms width) []) out
+      → OnRows (record { limit = limit; keys = mode.keys; schema = our_schema; table = f.table; params = params }) mode None (InsertOr place Replace (Values terms width) []) db out
+  pub on_taken : (limit : Option ℕ) (mode : Mode) (params : Row) (db : Trees) (text : List ℕ) (q : Program)
+      → (out : _) → Does limit mode params (record { schema = our_schema; trees = db }) text None (Delete place q) out
+      → OnRows (record { limit = limit; keys = mode.keys; schema = our_schema; table = f.table; params = params }) mode None (Delete place q) db out
+
+-- the trees with other rows in one of them
+abbrev pub overlaid : Trees → ℕ → List Row → Trees
+overlaid db tree rows t = if t == tree then rows else db t
+
+-- within a transaction, one table has these rows from now on
+pub record Turns {R K : Type 0} (f : Form R K) (old new : State) (xs : List R) : Type 0 where
+  pub rows : List Row
+  pub schema : new.now.schema ≡ our_schema
+  pub trees : (t : ℕ) → IsNoIndex our_schema t → new.now.trees t ≡ overlaid old.now.trees f.table.tree rows t
+  pub held : IsHeld f rows
+  pub rows_are : in_order f rows ≡ xs
+  pub committed : new.committed ≡ old.committed
+  pub within : IsTrue new.in_transaction
+
+turned : (task : Task) (db : Trees) (after : Database) (rows : List Row) → task.schema ≡ our_schema → Leaves task db after rows → (t : ℕ) → IsNoIndex our_schema t → after.trees t ≡ overlaid db task.table.tree rows t
+turned task db after rows ours left t none = go (t == task.table.tree) refl
+  where
+    go : (b : Bool) → (t == task.table.tree) ≡ b → after.trees t ≡ cond b rows (db t)
+    go true e = subst (λ u. after.trees u ≡ rows) (sym (eqb-true t task.table.tree e)) left.table
+    go false e = left.others t (λ same. let own : (t == task.table.tree) ≡ true = subst (λ u. (t == u) ≡ true) same (itself t) in absurd (let never = sym own ∙ e in cc)) (subst (λ s. IsNoIndex s t) (sym ours) none)
+      where
+        itself : (n : ℕ) → (n == n) ≡ true
+        itself n = grind (arith)
+
+module _ {R K : Type 0} (f : Form R K) (facts : Facts f) where
+  -- a test of stored rows that is one of plain rows
+  pub kept_through : (test : Row → Bool) (plain : R → Bool) (rows : List Row) → AllByRecursion (IsRowOf f) rows → ((r : Row) → IsRowOf f r → test r ≡ plain (f.row_in r))
+      → map f.row_in (filter test rows) ≡ filter plain (map f.row_in rows)
+  kept_through test plain [] all same = refl
+  kept_through test plain (r ∷ rows) all same =
+      rw (same r all.0)
+      (elim (plain (f.row_in r)) as (λ b. map f.row_in (cond b (r ∷ filter test rows) (filter test rows))
+      ≡ cond b (f.row_in r ∷ filter plain (map f.row_in rows)) (filter plain (map f.row_in rows)))
+      [ true ↦ ap (λ xs. f.row_in r ∷ xs) (kept_through test plain rows all.1 same) | false ↦ kept_through test plain rows all.1 same ])
+
+  pub plain_apart : (rows : List Row) → IsHeld f rows → Apart f.before f.key (map f.row_in rows)
+  plain_apart rows held = go rows held.apart
+    where
+      all : (x : R) (rows : List Row) → AllByRecursion (λ s. f.key x ≡ f.key (f.row_in s) → ⊥) rows → AllByRecursion (λ y. f.key x ≡ f.key y → ⊥) (map f.row_in rows)
+      all x [] h = tt
+      all x (r ∷ rows) h = (h.0, all x rows h.1)
+
+      go : (rows : List Row) → IsAscending (λ r s. f.key (f.row_in r) ≡ f.key (f.row_in s) → ⊥) rows → Apart f.before f.key (map f.row_in rows)
+      go [] h = tt
+      go (r ∷ rows) h = (all (f.row_in r) rows h.0, go rows h.1)
+
+  held-filter : (test : Row → Bool) (rows : List Row) → IsHeld f rows → IsHeld f (filter test rows)
+  held-filter test rows held = record {
+    shelf = shelf_filter test rows held.shelf;
+    whole = all-filter _ test rows held.whole;
+    apart = ascending-filter _ test rows held.apart;
+  }
+
+  -- the rows of a key are taken away
+  pub takes : (text : List ℕ) (old new : State) (k : K) (r : Result ℕ Error) → Means text (Delete facts.place (program_of f.table.tree facts.key_tests (col 1 0 ∷ [])))
+      → old.now.schema ≡ our_schema → IsHeld f (old.now.trees f.table.tree) → ExecutesInside 0 text (facts.key_cells k) old new r
+      → OnOk r (Turns f old new (filter (λ x. not (facts.has_key k x)) (in_order f (old.now.trees f.table.tree))))
+  takes text old new k (Err e) means schema held h = tt
+  takes text old new k (Ok count) means schema held h =
+      let params = facts.key_cells k in
+      let program : Program = program_of f.table.tree facts.key_tests (col 1 0 ∷ []) in
+      let command = Delete facts.place program in
+      let w = runs_as text params old new our_schema schema command means.0 means.1 count h.0 in
+      let whole = statement_of text (understood our_schema text) in
+      let done = subst (λ s. Does old.step_limit (mode_of old) params (record old.now { schema = s }) whole None command (Ok (w.tally, new.now))) schema w.changed in
+      let task : Task = record { limit = old.step_limit; keys = Enforced; schema = our_schema; table = f.table; params = params } in
+      let on = facts.on_taken old.step_limit (mode_of old) params old.now.trees whole program (Ok (w.tally, new.now)) done in
+      let left = deletes task (mode_of old) facts.free facts.place facts.key_tests program old.now.trees w.tally new.now refl (facts.alone old.now.trees) held.shelf on in
+      let stored = old.now.trees f.table.tree in
+      let test = λ (r : Row). not (passes facts.key_tests params r) in
+      let plain = λ (x : R). not (facts.has_key k x) in
+      let shown = kept_through test plain stored held.whole (λ r is. ap not (facts.finds k r is)) in
+      record {
+        rows = filter test stored;
+        schema = left.schema;
+        trees = turned task old.now.trees new.now (filter test stored) refl left;
+        held = held-filter test stored held;
+        rows_are = ap (λ xs. put_all f.before f.key xs []) shown ∙ ordered-filter f.before f.key facts.order plain (map f.row_in stored) (plain_apart stored held);
+        committed = h.1.committed_is;
+        within = h.1.mode;
+      }
+
+  -- a row is put in the stead of the one that has its key
+  pub puts : (text : List ℕ) (old new : State) (x : R) (r : Result ℕ Error) → Means text (InsertOr facts.place Replace (Values facts.terms facts.width) [])
+      → ((id : ℤ) → f.row_in (Int id ∷ f.cells x) ≡ x) → old.now.schema ≡ our_schema → IsHeld f (old.now.trees f.table.tree) → ExecutesInside 0 text (f.cells x) old new r
+      → OnOk r (Turns f old new (put f.before f.key x (in_order f (old.now.trees f.table.tree))))
+  puts text old new x (Err e) means back schema held h = tt
+  puts text old new x (Ok count) means back schema held h =
+      let params = f.cells x in
+      let key = facts.key_cells (f.key x) in
+      let command = InsertOr facts.place Replace (Values facts.terms facts.width) [] in
+      let w = runs_as text params old new our_schema schema command means.0 means.1 count h.0 in
+      let whole = statement_of text (understood our_schema text) in
+      let done = subst (λ s. Does old.step_limit (mode_of old) params (record old.now { schema = s }) whole None command (Ok (w.tally, new.now))) schema w.changed in
+      let task : Task = record { limit = old.step_limit; keys = Enforced; schema = our_schema; table = f.table; params = params } in
+      let on = facts.on_rows old.step_limit (mode_of old) params old.now.trees whole (Ok (w.tally, new.now)) done in
+      let stored = old.now.trees f.table.tree in
+      let test = λ (r : Row). not (passes facts.key_tests key r) in
+      let plain = λ (y : R). facts.has_key (f.key x) y in
+      let left = upserts task (mode_of old) facts.free facts.place facts.terms facts.width (f.cells x) (passes facts.key_tests key) old.now.trees w.tally new.now facts.uncounted (facts.given x)
+      (facts.fresh x) (facts.fits x) (facts.clashes x) held.shelf on in
+      let others = filter test stored in
+      let id = next_rowid stored in
+      let less = held-filter test stored held in
+      let shown = kept_through test (λ y. not (plain y)) stored held.whole (λ r is. ap not (facts.finds (f.key x) r is)) in
+      let shelf = shelf_push others id (f.cells x) less.shelf (all_from _ others (λ r here. next_above stored held.shelf r (has_filtered test stored r here).0)) in
+      record {
+        rows = others ++ (Int id ∷ f.cells x) ∷ [];
+        schema = left.schema;
+        trees = turned task old.now.trees new.now (others ++ (Int id ∷ f.cells x) ∷ []) refl left;
+        held = record {
+          shelf = shelf;
+          whole = whole_push others id less.whole;
+          apart = ascending_push _ others (Int id ∷ f.cells x) less.apart (all_from _ others (λ r here same. new_key r (has_filtered test stored r here) (same ∙ ap f.key (back id))));
+        };
+        rows_are =
+            ap (λ xs. put_all f.before f.key xs []) (shown_push others id ∙ ap (λ xs. xs ++ x ∷ []) shown)
+            ∙ ordered-put f.before f.key facts.order plain x (map f.row_in stored) (λ y. facts.same_key (f.key x) y) (plain_apart stored held);
+        committed = h.1.committed_is;
+        within = h.1.mode;
+      }
+    where
+      whole_push : (rows : List Row) (id : ℤ) → AllByRecursion (IsRowOf f) rows → AllByRecursion (IsRowOf f) (rows ++ (Int id ∷ f.cells x) ∷ [])
+      whole_push [] id all = (ap (λ y. Int id ∷ f.cells y) (sym (back id)), tt)
+      whole_push (r ∷ rows) id all = (all.0, whole_push rows id all.1)
+
+      shown_push : (rows : List Row) (id : ℤ) → map f.row_in (rows ++ (Int id ∷ f.cells x) ∷ []) ≡ map f.row_in rows ++ x ∷ []
+      shown_push [] id = ap (λ y. y ∷ []) (back id)
+      shown_push (r ∷ rows) id = ap (λ ys. f.row_in r ∷ ys) (shown_push rows id)
+
+      -- a row that stays has another key
+      new_key : (r : Row) → Has (old.now.trees f.table.tree) r × (not (passes facts.key_tests (facts.key_cells (f.key x)) r) ≡ true) → f.key (f.row_in r) ≡ f.key x → ⊥
+      new_key r here same =
+          let finds = facts.finds (f.key x) r (all_has _ _ r held.whole here.0) ∙ facts.own_key x (f.row_in r) same in
+          absurd (let never = sym (ap not finds) ∙ here.1 in cc)
+
+  -- the rows that a query finds, as plain rows
+  pub finds_rows : (text : List ℕ) (tests project : List Term) (names : List (List ℕ)) (params : Row) (old new : State) (plain : R → Bool) (rows : List Row)
+      → MeansQuery text (Select (program_of f.table.tree tests project) names) → ((r : Row) → IsRowOf f r → passes tests params r ≡ plain (f.row_in r))
+      → ((r : Row) → IsRowOf f r → f.row_in (Null ∷ eval_all project (params ∷ r ∷ [])) ≡ f.row_in r)
+      → old.now.schema ≡ our_schema → IsHeld f (old.now.trees f.table.tree) → Shown text params old new rows
+      → IsPermutation (filter plain (in_order f (old.now.trees f.table.tree))) (map (λ r. f.row_in (Null ∷ r)) rows)
+  finds_rows text tests project names params old new plain rows means same shown schema held h =
+      let program : Program = program_of f.table.tree tests project in
+      let read = reads_as text params old new our_schema schema (Select program names) means.0.0 means.0.1 means.1 rows h in
+      let stored = old.now.trees f.table.tree in
+      let moved = shows f.table.tree tests project old.now.trees params rows (facts.alone old.now.trees) (read.answer Null) in
+      let found = filter (passes tests params) stored in
+      let through = IsPermutation-map (λ r. f.row_in (Null ∷ r)) _ rows moved in
+      let plain_rows = map f.row_in stored in
+      let there = subst (λ xs. IsPermutation xs (map (λ r. f.row_in (Null ∷ r)) rows)) (back found (all-filter _ _ stored held.whole) ∙ kept_through (passes tests params) plain stored held.whole same) through in
+      IsPermutation-trans _ _ _ (IsPermutation-sym _ _ (IsPermutation-filter plain _ _ (ordered_same f.before f.key facts.order plain_rows (plain_apart stored held)))) there
+    where
+      back : (found : List Row) → AllByRecursion (IsRowOf f) found → map (λ r. f.row_in (Null ∷ r)) (map (λ r. eval_all project (params ∷ r ∷ [])) found) ≡ map f.row_in found
+      back [] all = refl
+      back (r ∷ found) all = let one = shown r all.0 in let more = back found all.1 in λ i. one i ∷ more i

@@ -1,0 +1,319 @@
+-- What the statements mean under our schema.
+use Rattle.std.proofs.Common.{◌≡◌, ℕ, List, [], ◌∷◌, codes, false, refl}
+use Rattle.sqlite_value.specs.declared.value.Value.TheVariants.{Null}
+use Rattle.sqlite_sql.specs.Term.{Term, lit, col, op2}
+use Rattle.sqlite_sql.specs.declared.ops.BinaryOp.TheVariants.{Compare}
+use Rattle.sqlite_sql.specs.declared.ops.CompareOp.TheVariants.{Eq, Le, Ge}
+use Rattle.sqlite_tied.specs.Compute.{everything}
+use Rattle.sqlite_schema.specs.declared.command.Command.{Command}
+use Rattle.sqlite_schema.specs.declared.command.Conflict.TheVariants.{Replace}
+use Rattle.sqlite_schema.specs.declared.program.Program.{Program}
+use Rattle.sqlite.specs.Collation.TheVariants.{Binary}
+use Rattle.sqlite.specs.Listing.{understood, reads_listing}
+use Rattle.sqlite.specs.Source.TheVariants.{Values}
+use Rattle.sqlite.specs.Command.TheVariants.{InsertOr, Delete, Select}
+use Rattle.sqlite.proofs.Callers.{IsPlain, command_of}
+use Rattle.mr_rows.specs.Meaning.{query_of}
+use Rattle.mr_rows.specs.Schema.{our_schema}
+
+-- the text means the command, and shows no rows of its own
+abbrev pub Means : List ℕ → Command → Type 0
+Means text command = (command_of (understood our_schema text) ≡ command) × IsPlain (understood our_schema text)
+
+-- it is a query, which reads no catalog
+abbrev pub MeansQuery : List ℕ → Command → Type 0
+MeansQuery text command = Means text command × (reads_listing our_schema text ≡ false)
+
+abbrev pub program_of : ℕ → List Term → List Term → Program
+program_of tree tests project = record { lets = []; body = query_of tree tests project }
+
+abbrev pub same : Term → Term → Term
+same a b = op2 (Compare Eq Binary) a b
+
+abbrev pub at_least : Term → Term → Term
+at_least a b = op2 (Compare Ge Binary) a b
+
+abbrev pub at_most : Term → Term → Term
+at_most a b = op2 (Compare Le Binary) a b
+
+-- ---- meta
+
+abbrev pub put_meta_text : List ℕ
+put_meta_text = codes "INSERT OR REPLACE INTO meta (one, schema, server, prim, commits, dropped, clock) VALUES (?1, ?2, ?3, ?4, ?5, ?6, ?7)"
+
+abbrev pub put_meta_terms : List Term
+put_meta_terms = lit Null ∷ col 0 0 ∷ col 0 1 ∷ col 0 2 ∷ col 0 3 ∷ col 0 4 ∷ col 0 5 ∷ col 0 6 ∷ []
+
+pub put_meta_is : Means put_meta_text (InsertOr 0 Replace (Values put_meta_terms 8) [])
+unfolding understood everything
+put_meta_is = (refl, (refl, refl))
+
+abbrev pub meta_key_tests : List Term
+meta_key_tests = same (col 1 1) (col 0 0) ∷ []
+
+abbrev pub meta_columns : List Term
+meta_columns = col 1 1 ∷ col 1 2 ∷ col 1 3 ∷ col 1 4 ∷ col 1 5 ∷ col 1 6 ∷ col 1 7 ∷ []
+
+abbrev pub meta_names : List (List ℕ)
+meta_names = codes "one" ∷ codes "schema" ∷ codes "server" ∷ codes "prim" ∷ codes "commits" ∷ codes "dropped" ∷ codes "clock" ∷ []
+
+abbrev pub all_meta_text : List ℕ
+all_meta_text = codes "SELECT one, schema, server, prim, commits, dropped, clock FROM meta"
+
+pub all_meta_is : MeansQuery all_meta_text (Select (program_of 0 [] meta_columns) meta_names)
+unfolding understood everything
+all_meta_is = ((refl, (refl, refl)), refl)
+
+-- ---- room
+
+abbrev pub put_room_text : List ℕ
+put_room_text = codes "INSERT OR REPLACE INTO room (name) VALUES (?1)"
+
+abbrev pub put_room_terms : List Term
+put_room_terms = lit Null ∷ col 0 0 ∷ []
+
+pub put_room_is : Means put_room_text (InsertOr 1 Replace (Values put_room_terms 2) [])
+unfolding understood everything
+put_room_is = (refl, (refl, refl))
+
+abbrev pub room_key_tests : List Term
+room_key_tests = same (col 1 1) (col 0 0) ∷ []
+
+abbrev pub room_columns : List Term
+room_columns = col 1 1 ∷ []
+
+abbrev pub room_names : List (List ℕ)
+room_names = codes "name" ∷ []
+
+abbrev pub all_room_text : List ℕ
+all_room_text = codes "SELECT name FROM room"
+
+pub all_room_is : MeansQuery all_room_text (Select (program_of 2 [] room_columns) room_names)
+unfolding understood everything
+all_room_is = ((refl, (refl, refl)), refl)
+
+-- ---- vector
+
+abbrev pub put_vector_text : List ℕ
+put_vector_text = codes "INSERT OR REPLACE INTO vector (server, n, tm, committed) VALUES (?1, ?2, ?3, ?4)"
+
+abbrev pub put_vector_terms : List Term
+put_vector_terms = lit Null ∷ col 0 0 ∷ col 0 1 ∷ col 0 2 ∷ col 0 3 ∷ []
+
+pub put_vector_is : Means put_vector_text (InsertOr 2 Replace (Values put_vector_terms 5) [])
+unfolding understood everything
+put_vector_is = (refl, (refl, refl))
+
+abbrev pub vector_key_tests : List Term
+vector_key_tests = same (col 1 1) (col 0 0) ∷ []
+
+abbrev pub vector_columns : List Term
+vector_columns = col 1 1 ∷ col 1 2 ∷ col 1 3 ∷ col 1 4 ∷ []
+
+abbrev pub vector_names : List (List ℕ)
+vector_names = codes "server" ∷ codes "n" ∷ codes "tm" ∷ codes "committed" ∷ []
+
+abbrev pub all_vector_text : List ℕ
+all_vector_text = codes "SELECT server, n, tm, committed FROM vector"
+
+pub all_vector_is : MeansQuery all_vector_text (Select (program_of 4 [] vector_columns) vector_names)
+unfolding understood everything
+all_vector_is = ((refl, (refl, refl)), refl)
+
+-- ---- write_log
+
+abbrev pub put_log_text : List ℕ
+put_log_text = codes "INSERT OR REPLACE INTO write_log (server, n, tm, room, length, choices, title, seq) VALUES (?1, ?2, ?3, ?4, ?5, ?6, ?7, ?8)"
+
+abbrev pub put_log_terms : List Term
+put_log_terms = lit Null ∷ col 0 0 ∷ col 0 1 ∷ col 0 2 ∷ col 0 3 ∷ col 0 4 ∷ col 0 5 ∷ col 0 6 ∷ col 0 7 ∷ []
+
+pub put_log_is : Means put_log_text (InsertOr 3 Replace (Values put_log_terms 9) [])
+unfolding understood everything
+put_log_is = (refl, (refl, refl))
+
+abbrev pub log_key_tests : List Term
+log_key_tests = same (col 1 1) (col 0 0) ∷ same (col 1 2) (col 0 1) ∷ []
+
+abbrev pub take_log_text : List ℕ
+take_log_text = codes "DELETE FROM write_log WHERE server = ?1 AND n = ?2"
+
+pub take_log_is : Means take_log_text (Delete 3 (program_of 6 log_key_tests (col 1 0 ∷ [])))
+unfolding understood everything
+take_log_is = (refl, (refl, refl))
+
+abbrev pub log_columns : List Term
+log_columns = col 1 1 ∷ col 1 2 ∷ col 1 3 ∷ col 1 4 ∷ col 1 5 ∷ col 1 6 ∷ col 1 7 ∷ col 1 8 ∷ []
+
+abbrev pub log_names : List (List ℕ)
+log_names = codes "server" ∷ codes "n" ∷ codes "tm" ∷ codes "room" ∷ codes "length" ∷ codes "choices" ∷ codes "title" ∷ codes "seq" ∷ []
+
+abbrev pub all_log_text : List ℕ
+all_log_text = codes "SELECT server, n, tm, room, length, choices, title, seq FROM write_log"
+
+pub all_log_is : MeansQuery all_log_text (Select (program_of 6 [] log_columns) log_names)
+unfolding understood everything
+all_log_is = ((refl, (refl, refl)), refl)
+
+abbrev pub key_log_text : List ℕ
+key_log_text = codes "SELECT server, n, tm, room, length, choices, title, seq FROM write_log WHERE server = ?1 AND n = ?2"
+
+pub key_log_is : MeansQuery key_log_text (Select (program_of 6 log_key_tests log_columns) log_names)
+unfolding understood everything
+key_log_is = ((refl, (refl, refl)), refl)
+
+abbrev pub between_log_text : List ℕ
+between_log_text = codes "SELECT server, n, tm, room, length, choices, title, seq FROM write_log WHERE seq >= ?1 AND seq <= ?2"
+
+abbrev pub log_seq_tests : List Term
+log_seq_tests = at_least (col 1 8) (col 0 0) ∷ at_most (col 1 8) (col 0 1) ∷ []
+
+pub between_log_is : MeansQuery between_log_text (Select (program_of 6 log_seq_tests log_columns) log_names)
+unfolding understood everything
+between_log_is = ((refl, (refl, refl)), refl)
+
+-- ---- undo
+
+abbrev pub put_undo_text : List ℕ
+put_undo_text = codes "INSERT OR REPLACE INTO undo (server, n, place) VALUES (?1, ?2, ?3)"
+
+abbrev pub put_undo_terms : List Term
+put_undo_terms = lit Null ∷ col 0 0 ∷ col 0 1 ∷ col 0 2 ∷ []
+
+pub put_undo_is : Means put_undo_text (InsertOr 4 Replace (Values put_undo_terms 4) [])
+unfolding understood everything
+put_undo_is = (refl, (refl, refl))
+
+abbrev pub undo_key_tests : List Term
+undo_key_tests = same (col 1 1) (col 0 0) ∷ same (col 1 2) (col 0 1) ∷ []
+
+abbrev pub take_undo_text : List ℕ
+take_undo_text = codes "DELETE FROM undo WHERE server = ?1 AND n = ?2"
+
+pub take_undo_is : Means take_undo_text (Delete 4 (program_of 8 undo_key_tests (col 1 0 ∷ [])))
+unfolding understood everything
+take_undo_is = (refl, (refl, refl))
+
+abbrev pub undo_columns : List Term
+undo_columns = col 1 1 ∷ col 1 2 ∷ col 1 3 ∷ []
+
+abbrev pub undo_names : List (List ℕ)
+undo_names = codes "server" ∷ codes "n" ∷ codes "place" ∷ []
+
+abbrev pub all_undo_text : List ℕ
+all_undo_text = codes "SELECT server, n, place FROM undo"
+
+pub all_undo_is : MeansQuery all_undo_text (Select (program_of 8 [] undo_columns) undo_names)
+unfolding understood everything
+all_undo_is = ((refl, (refl, refl)), refl)
+
+abbrev pub key_undo_text : List ℕ
+key_undo_text = codes "SELECT server, n, place FROM undo WHERE server = ?1 AND n = ?2"
+
+pub key_undo_is : MeansQuery key_undo_text (Select (program_of 8 undo_key_tests undo_columns) undo_names)
+unfolding understood everything
+key_undo_is = ((refl, (refl, refl)), refl)
+
+-- ---- booking
+
+abbrev pub put_booking_text : List ℕ
+put_booking_text = codes "INSERT OR REPLACE INTO booking (room, day, start, stop, server, n, title, committed) VALUES (?1, ?2, ?3, ?4, ?5, ?6, ?7, ?8)"
+
+abbrev pub put_booking_terms : List Term
+put_booking_terms = lit Null ∷ col 0 0 ∷ col 0 1 ∷ col 0 2 ∷ col 0 3 ∷ col 0 4 ∷ col 0 5 ∷ col 0 6 ∷ col 0 7 ∷ []
+
+pub put_booking_is : Means put_booking_text (InsertOr 5 Replace (Values put_booking_terms 9) [])
+unfolding understood everything
+put_booking_is = (refl, (refl, refl))
+
+abbrev pub booking_key_tests : List Term
+booking_key_tests = same (col 1 5) (col 0 0) ∷ same (col 1 6) (col 0 1) ∷ []
+
+abbrev pub take_booking_text : List ℕ
+take_booking_text = codes "DELETE FROM booking WHERE server = ?1 AND n = ?2"
+
+pub take_booking_is : Means take_booking_text (Delete 5 (program_of 10 booking_key_tests (col 1 0 ∷ [])))
+unfolding understood everything
+take_booking_is = (refl, (refl, refl))
+
+abbrev pub booking_columns : List Term
+booking_columns = col 1 1 ∷ col 1 2 ∷ col 1 3 ∷ col 1 4 ∷ col 1 5 ∷ col 1 6 ∷ col 1 7 ∷ col 1 8 ∷ []
+
+abbrev pub booking_names : List (List ℕ)
+booking_names = codes "room" ∷ codes "day" ∷ codes "start" ∷ codes "stop" ∷ codes "server" ∷ codes "n" ∷ codes "title" ∷ codes "committed" ∷ []
+
+abbrev pub all_booking_text : List ℕ
+all_booking_text = codes "SELECT room, day, start, stop, server, n, title, committed FROM booking"
+
+pub all_booking_is : MeansQuery all_booking_text (Select (program_of 10 [] booking_columns) booking_names)
+unfolding understood everything
+all_booking_is = ((refl, (refl, refl)), refl)
+
+abbrev pub room_booking_text : List ℕ
+room_booking_text = codes "SELECT room, day, start, stop, server, n, title, committed FROM booking WHERE room = ?1"
+
+abbrev pub booking_room_tests : List Term
+booking_room_tests = same (col 1 1) (col 0 0) ∷ []
+
+pub room_booking_is : MeansQuery room_booking_text (Select (program_of 10 booking_room_tests booking_columns) booking_names)
+unfolding understood everything
+room_booking_is = ((refl, (refl, refl)), refl)
+
+abbrev pub key_booking_text : List ℕ
+key_booking_text = codes "SELECT room, day, start, stop, server, n, title, committed FROM booking WHERE server = ?1 AND n = ?2"
+
+pub key_booking_is : MeansQuery key_booking_text (Select (program_of 10 booking_key_tests booking_columns) booking_names)
+unfolding understood everything
+key_booking_is = ((refl, (refl, refl)), refl)
+
+-- ---- errorlog
+
+abbrev pub put_error_text : List ℕ
+put_error_text = codes "INSERT OR REPLACE INTO errorlog (room, day, start, stop, server, n, title, tm, seq) VALUES (?1, ?2, ?3, ?4, ?5, ?6, ?7, ?8, ?9)"
+
+abbrev pub put_error_terms : List Term
+put_error_terms = lit Null ∷ col 0 0 ∷ col 0 1 ∷ col 0 2 ∷ col 0 3 ∷ col 0 4 ∷ col 0 5 ∷ col 0 6 ∷ col 0 7 ∷ col 0 8 ∷ []
+
+pub put_error_is : Means put_error_text (InsertOr 6 Replace (Values put_error_terms 10) [])
+unfolding understood everything
+put_error_is = (refl, (refl, refl))
+
+abbrev pub error_key_tests : List Term
+error_key_tests = same (col 1 5) (col 0 0) ∷ same (col 1 6) (col 0 1) ∷ []
+
+abbrev pub take_error_text : List ℕ
+take_error_text = codes "DELETE FROM errorlog WHERE server = ?1 AND n = ?2"
+
+pub take_error_is : Means take_error_text (Delete 6 (program_of 12 error_key_tests (col 1 0 ∷ [])))
+unfolding understood everything
+take_error_is = (refl, (refl, refl))
+
+abbrev pub error_columns : List Term
+error_columns = col 1 1 ∷ col 1 2 ∷ col 1 3 ∷ col 1 4 ∷ col 1 5 ∷ col 1 6 ∷ col 1 7 ∷ col 1 8 ∷ col 1 9 ∷ []
+
+abbrev pub error_names : List (List ℕ)
+error_names = codes "room" ∷ codes "day" ∷ codes "start" ∷ codes "stop" ∷ codes "server" ∷ codes "n" ∷ codes "title" ∷ codes "tm" ∷ codes "seq" ∷ []
+
+abbrev pub all_error_text : List ℕ
+all_error_text = codes "SELECT room, day, start, stop, server, n, title, tm, seq FROM errorlog"
+
+pub all_error_is : MeansQuery all_error_text (Select (program_of 12 [] error_columns) error_names)
+unfolding understood everything
+all_error_is = ((refl, (refl, refl)), refl)
+
+abbrev pub room_error_text : List ℕ
+room_error_text = codes "SELECT room, day, start, stop, server, n, title, tm, seq FROM errorlog WHERE room = ?1"
+
+abbrev pub error_room_tests : List Term
+error_room_tests = same (col 1 1) (col 0 0) ∷ []
+
+pub room_error_is : MeansQuery room_error_text (Select (program_of 12 error_room_tests error_columns) error_names)
+unfolding understood everything
+room_error_is = ((refl, (refl, refl)), refl)
+
+abbrev pub key_error_text : List ℕ
+key_error_text = codes "SELECT room, day, start, stop, server, n, title, tm, seq FROM errorlog WHERE server = ?1 AND n = ?2"
+
+pub key_error_is : MeansQuery key_error_text (Select (program_of 12 error_key_tests error_columns) error_names)
+unfolding understood everything
+key_error_is = ((refl, (refl, refl)), refl)

@@ -1,0 +1,55 @@
+-- What a call answers that only reads, and the orders of what it answers.
+use Rattle.std.specs.Prelude.{◌≡◌, List, [], ◌∷◌, Option, Some, None, IsTrue, Result, OnOk, IfOk}
+use Rattle.std.specs.declared.cmp.Ordering.{Ordering}
+use Rattle.std.specs.Ordering.{nat_cmp, ordering_then}
+use Rattle.sqlite.specs.State.{State, HasCleanDisk, Survives}
+use Rattle.sqlite.specs.declared.error.Error.{Error}
+use Rattle.mr_model.specs.Calendar.{Date}
+use Rattle.mr_model.specs.Tables.{MetaRow, BookingRow}
+use Rattle.sqlite_trees.specs.Tree.{Trees}
+use Rattle.mr_rows.specs.Schema.{our_schema}
+use Rattle.mr_rows.specs.Form.{meta_form}
+use Rattle.mr_rows.specs.Kept.{IsKept, in_order}
+
+-- our tables are there, and nothing is uncommitted
+pub record IsPlaced (s : State) : Type 0 where
+  pub schema : s.now.schema ≡ our_schema
+  pub settled : s.now ≡ s.committed
+
+-- Where this is known of the database, it stays what it is, and an answer tells that of it.
+abbrev pub ReadsWhere : {X : Type 0} → (State → Type 0) → State → State → Result X Error → (X → Type 0) → Type 0
+ReadsWhere Known old new result P =
+    Survives old new (λ _. ¬ Known old)
+    × (HasCleanDisk new → IsTrue new.is_open → IsTrue old.is_open × (Known old → (new.now ≡ old.now) × (new.committed ≡ old.committed)))
+    × (HasCleanDisk new → Known old → OnOk result (IsTrue new.is_open) × IfOk result P)
+
+-- what is read of a keeper's database
+abbrev pub Reads : {X : Type 0} → State → State → Result X Error → (X → Type 0) → Type 0
+Reads old new result P = ReadsWhere IsKept old new result P
+
+-- a keeper's database, and its connection is open
+abbrev pub IsInUse : State → Type 0
+IsInUse s = IsKept s × IsTrue s.is_open
+
+-- What is read of a keeper's database that is open. Where nothing has to be asked, an answer doesn't tell that it is.
+abbrev pub ReadsInUse : {X : Type 0} → State → State → Result X Error → (X → Type 0) → Type 0
+ReadsInUse old new result P = ReadsWhere IsInUse old new result P
+
+-- what is read of a database whose rows may be any
+abbrev pub Looks : {X : Type 0} → State → State → Result X Error → (X → Type 0) → Type 0
+Looks old new result P = ReadsWhere IsPlaced old new result P
+
+abbrev pub first_of : {X : Type 0} → List X → Option X
+first_of [] = None
+first_of (x ∷ xs) = Some x
+
+-- the rows of `meta`, of which there is one at most
+abbrev pub metas_in : Trees → List MetaRow
+metas_in trees = in_order meta_form (trees 0)
+
+abbrev pub date_cmp : Date → Date → Ordering
+date_cmp a b = ordering_then (nat_cmp a.year b.year) (ordering_then (nat_cmp a.month b.month) (nat_cmp a.day b.day))
+
+-- by day, start, server and count
+abbrev pub time_cmp : BookingRow → BookingRow → Ordering
+time_cmp a b = ordering_then (date_cmp a.day b.day) (ordering_then (nat_cmp a.start b.start) (ordering_then (nat_cmp a.server b.server) (nat_cmp a.n b.n)))

@@ -1,0 +1,74 @@
+ghost use Rattle.std.specs.Prelude.{◌≡◌, false};
+ghost use Rattle.sqlite.specs.Held.{state};
+ghost use Rattle.mr_rows.specs.Kept.{tables_in};
+ghost use Rattle.mr_rows.specs.Reads.{Reads};
+
+use crate::meta_row::the_meta;
+use crate::whole::all_rows;
+use mr_base::RoomName;
+use mr_tables::{BookingRow, ErrorRow, LogRow, MetaRow, Tables, VectorRow, WriteUndoRow};
+use sqlite::{Alter, Connection, Error};
+use std::alloc::Global;
+
+/// The replica's numbers, its rooms and its vector.
+pub fn read_heads<S: Alter>(
+    conn: &mut Connection<S>,
+    alloc: Global,
+) -> Result<(MetaRow, Vec<RoomName>, Vec<VectorRow>), Error>
+    requires autocommit { conn.old.in_transaction ≡ false }
+    ensures autocommit { conn.new.in_transaction ≡ false }
+    ensures reads { Reads (state S.Store conn.old) (state S.Store conn.new) result (λ r. (r.0 ≡ (tables_in (state S.Store conn.old).now.trees).meta) × (r.1.items ≡ (tables_in (state S.Store conn.old).now.trees).room) × (r.2.items ≡ (tables_in (state S.Store conn.old).now.trees).vector)) }
+{
+    let meta = the_meta(conn)?;
+    let room = all_rows(conn, alloc)?;
+    let vector = all_rows(conn, alloc)?;
+    Ok((meta, room, vector))
+}
+
+/// Both logs.
+fn read_logs<S: Alter>(
+    conn: &mut Connection<S>,
+    alloc: Global,
+) -> Result<(Vec<LogRow>, Vec<WriteUndoRow>), Error>
+    requires autocommit { conn.old.in_transaction ≡ false }
+    ensures autocommit { conn.new.in_transaction ≡ false }
+    ensures reads { Reads (state S.Store conn.old) (state S.Store conn.new) result (λ r. (r.0.items ≡ (tables_in (state S.Store conn.old).now.trees).write_log) × (r.1.items ≡ (tables_in (state S.Store conn.old).now.trees).undo)) }
+{
+    let write_log = all_rows(conn, alloc)?;
+    let undo = all_rows(conn, alloc)?;
+    Ok((write_log, undo))
+}
+
+/// Both tables of the board.
+fn read_board<S: Alter>(
+    conn: &mut Connection<S>,
+    alloc: Global,
+) -> Result<(Vec<BookingRow>, Vec<ErrorRow>), Error>
+    requires autocommit { conn.old.in_transaction ≡ false }
+    ensures autocommit { conn.new.in_transaction ≡ false }
+    ensures reads { Reads (state S.Store conn.old) (state S.Store conn.new) result (λ r. (r.0.items ≡ (tables_in (state S.Store conn.old).now.trees).booking) × (r.1.items ≡ (tables_in (state S.Store conn.old).now.trees).errorlog)) }
+{
+    let booking = all_rows(conn, alloc)?;
+    let errorlog = all_rows(conn, alloc)?;
+    Ok((booking, errorlog))
+}
+
+/// All tables.
+pub fn read_tables<S: Alter>(conn: &mut Connection<S>, alloc: Global) -> Result<Tables, Error>
+    requires autocommit { conn.old.in_transaction ≡ false }
+    ensures autocommit { conn.new.in_transaction ≡ false }
+    ensures reads { Reads (state S.Store conn.old) (state S.Store conn.new) result (λ tables. tables ≡ tables_in (state S.Store conn.old).now.trees) }
+{
+    let heads = read_heads(conn, alloc)?;
+    let logs = read_logs(conn, alloc)?;
+    let board = read_board(conn, alloc)?;
+    Ok(Tables {
+        meta: heads.0,
+        room: heads.1,
+        vector: heads.2,
+        write_log: logs.0,
+        undo: logs.1,
+        booking: board.0,
+        errorlog: board.1,
+    })
+}

@@ -1,0 +1,82 @@
+ghost use Rattle.std.specs.Prelude.{◌≡◌, ◌∷◌, ◌++◌, false, map, filter, Bool, OnOk};
+ghost use Rattle.sqlite_value.specs.declared.value.Value.TheVariants.{Null};
+ghost use Rattle.sqlite_trees.specs.Tree.{Trees};
+ghost use Rattle.sqlite.specs.Held.{state};
+ghost use Rattle.mr_model.specs.Changes.{SameRows};
+ghost use Rattle.mr_rows.specs.Kept.{tables_in};
+ghost use Rattle.mr_rows.specs.RowQuestions.{is_asked};
+ghost use Rattle.mr_rows.specs.Reads.{Reads, ReadsInUse};
+
+use crate::order::sort_rows;
+use crate::questions::Question;
+use crate::stored_rows::StoredRow;
+use sqlite::{Alter, Connection, Error, Row};
+use std::alloc::{AllocError, Global};
+use std::cmp::Ordering;
+
+/// Reads the rows of an answer and puts them behind those that are there.
+fn add_rows<R: StoredRow>(alloc: Global, rows: &[Row], out: &mut Vec<R>) -> Result<(), Error>
+    ensures { OnOk result (out.new.items ≡ out.old.items ++ map (λ row. R.form.row_in (Null ∷ row)) rows.now) }
+{
+    'rows: for row in rows {
+        out.push(R::read(alloc, row)?)?;
+    }
+    Ok(())
+}
+
+/// Puts the rows that a question asks for behind those that are there.
+fn add_answer<R: StoredRow, Q: Question<R>, S: Alter>(
+    conn: &mut Connection<S>,
+    alloc: Global,
+    question: &Q,
+    out: &mut Vec<R>,
+) -> Result<(), Error>
+    requires autocommit { conn.old.in_transaction ≡ false }
+    ensures autocommit { conn.new.in_transaction ≡ false }
+    ensures reads { Reads (state S.Store conn.old) (state S.Store conn.new) result (λ _. SameRows out.new.items (out.old.items ++ filter (Q.asks question.now) (R.rows_of (tables_in (state S.Store conn.old).now.trees)))) }
+{
+    let rows = question.ask(conn)?;
+    add_rows(alloc, &rows, out)
+}
+
+/// The rows that some question asks for, in any order and as often as they are asked for.
+fn all_answers<R: StoredRow, Q: Question<R>, S: Alter>(
+    conn: &mut Connection<S>,
+    alloc: Global,
+    questions: &[Q],
+) -> Result<Vec<R>, Error>
+    requires autocommit { conn.old.in_transaction ≡ false }
+    ensures autocommit { conn.new.in_transaction ≡ false }
+    ensures reads { ReadsInUse (state S.Store conn.old) (state S.Store conn.new) result (λ rows. SameRows rows.items (filter (is_asked Q.asks questions.now) (R.rows_of (tables_in (state S.Store conn.old).now.trees)))) }
+{
+    let mut rows = Vec::new(alloc);
+    'questions: for question in questions {
+        add_answer(conn, alloc, question, &mut rows)?;
+    }
+    Ok(rows)
+}
+
+/// Sorts rows of a table by their keys and drops what comes twice.
+fn order_rows<R: StoredRow>(rows: &mut Vec<R>) -> Result<(), AllocError>
+    ensures { OnOk result ((trees : Trees) (p : R → Bool) → SameRows rows.old.items (filter p (R.rows_of (tables_in trees))) → rows.new.items ≡ filter p (R.rows_of (tables_in trees))) }
+{
+    R::keeps_order();
+    sort_rows(rows)?;
+    rows.dedup_by(|a, b| R::compare(a, b) == Ordering::Equal);
+    Ok(())
+}
+
+/// The rows that some question asks for, in the order of their keys.
+pub fn asked_rows<R: StoredRow, Q: Question<R>, S: Alter>(
+    conn: &mut Connection<S>,
+    alloc: Global,
+    questions: &[Q],
+) -> Result<Vec<R>, Error>
+    requires autocommit { conn.old.in_transaction ≡ false }
+    ensures autocommit { conn.new.in_transaction ≡ false }
+    ensures reads { ReadsInUse (state S.Store conn.old) (state S.Store conn.new) result (λ rows. rows.items ≡ filter (is_asked Q.asks questions.now) (R.rows_of (tables_in (state S.Store conn.old).now.trees))) }
+{
+    let mut rows = all_answers(conn, alloc, questions)?;
+    order_rows(&mut rows)?;
+    Ok(rows)
+}

@@ -1,0 +1,150 @@
+ghost use Rattle.std.specs.Prelude.{◌≡◌, ◌≢◌, ℕ, ◌<◌, ◌≤◌, ◌^◌, ◌==◌, pos, length, IfOk, IfErr, string_bytes};
+ghost use Rattle.sqlite_value.specs.declared.value.Value.TheVariants.{Int, Text};
+ghost use Rattle.sqlite_value.specs.Order.{column, bytes};
+ghost use Rattle.mr_model.specs.Calendar.{date_in, date_text};
+ghost use Rattle.mr_replay.specs.Places.{place_of};
+ghost use Rattle.mr_rows.specs.Cells.{mark, nat_of, whole_of, place_in, place_number};
+
+use mr_base::{Day, Refusal, RoomName, ServerId, Title};
+use mr_replay::Place;
+use sqlite::types::Type;
+use sqlite::{Error, ErrorCode, Row};
+use std::alloc::Global;
+
+// What a value that breaks its limits is refused with. Out of memory stays what it is.
+fn broken(refusal: Refusal, at: usize) -> Error
+    ensures memory { refusal ≡ Refusal.OutOfMemory → result ≡ Error.SqliteFailure ErrorCode.OutOfMemory }
+    ensures other { refusal ≢ Refusal.OutOfMemory → result ≢ Error.SqliteFailure ErrorCode.OutOfMemory }
+{
+    match refusal {
+        Refusal::OutOfMemory => Error::SqliteFailure(ErrorCode::OutOfMemory),
+        _ => Error::InvalidColumnType(at, Type::Text),
+    }
+}
+
+/// The name of a room in this column.
+pub(crate) fn read_name(alloc: Global, row: &Row, at: usize) -> Result<RoomName, Error>
+    ensures name { IfOk result (λ name. name ≡ bytes (column row.now at)) }
+    ensures cell { IfOk result (λ name. column row.now at ≡ Text name) }
+{
+    let text: String = row.get(at)?;
+    match RoomName::new(alloc, &text) {
+        Ok(name) => Ok(name),
+        Err(refusal) => Err(broken(refusal, at)),
+    }
+}
+
+/// The title in this column.
+pub(crate) fn read_title(alloc: Global, row: &Row, at: usize) -> Result<Title, Error>
+    ensures title { IfOk result (λ title. title ≡ bytes (column row.now at)) }
+    ensures cell { IfOk result (λ title. column row.now at ≡ Text title) }
+{
+    let text: String = row.get(at)?;
+    match Title::new(alloc, &text) {
+        Ok(title) => Ok(title),
+        Err(refusal) => Err(broken(refusal, at)),
+    }
+}
+
+/// The day in this column.
+pub(crate) fn read_day(row: &Row, at: usize) -> Result<Day, Error>
+    ensures day { IfOk result (λ day. day ≡ date_in (bytes (column row.now at))) }
+    ensures cell { IfOk result (λ day. column row.now at ≡ Text (date_text day)) }
+{
+    let text: String = row.get(at)?;
+    match Day::read(&text) {
+        Ok(day) => Ok(day),
+        Err(refusal) => Err(broken(refusal, at)),
+    }
+}
+
+/// The server in this column.
+pub(crate) fn read_server(row: &Row, at: usize) -> Result<ServerId, Error>
+    ensures server { IfOk result (λ server. server ≡ nat_of (column row.now at)) }
+    ensures cell { IfOk result (λ server. column row.now at ≡ Int (pos server)) }
+{
+    let number: u32 = row.get(at)?;
+    match ServerId::new(number) {
+        Some(server) => Ok(server),
+        None => Err(Error::IntegralValueOutOfRange(at)),
+    }
+}
+
+/// The small number in this column.
+pub(crate) fn read_u32(row: &Row, at: usize) -> Result<u32, Error>
+    ensures number { IfOk result (λ number. number ≡ nat_of (column row.now at)) }
+    ensures cell { IfOk result (λ number. column row.now at ≡ Int (pos number)) }
+    ensures refused { IfErr result (λ e. e ≢ Error.SqliteFailure ErrorCode.OutOfMemory → at < length row.now → (n : ℕ) → n < 2 ^ 32 → column row.now at ≢ Int (pos n)) }
+{
+    row.get(at)
+}
+
+/// The minute of a day in this column, or the day's end.
+pub(crate) fn read_minute(row: &Row, at: usize) -> Result<u32, Error>
+    ensures minute { IfOk result (λ minute. minute ≡ nat_of (column row.now at)) }
+    ensures cell { IfOk result (λ minute. column row.now at ≡ Int (pos minute)) }
+    ensures within { IfOk result (λ minute. minute ≤ 1440) }
+    ensures refused { IfErr result (λ e. e ≢ Error.SqliteFailure ErrorCode.OutOfMemory → at < length row.now → (n : ℕ) → n ≤ 1440 → column row.now at ≢ Int (pos n)) }
+{
+    let minute = read_u32(row, at)?;
+    if minute > 1440 {
+        return Err(Error::IntegralValueOutOfRange(at));
+    }
+    Ok(minute)
+}
+
+/// The count of a write in this column.
+pub(crate) fn read_count(row: &Row, at: usize) -> Result<u32, Error>
+    ensures count { IfOk result (λ count. count ≡ nat_of (column row.now at)) }
+    ensures cell { IfOk result (λ count. column row.now at ≡ Int (pos count)) }
+    ensures within { IfOk result (λ count. (1 ≤ count) × (count ≤ 999_999_999)) }
+{
+    let count = read_u32(row, at)?;
+    if count == 0 || count > 999_999_999 {
+        return Err(Error::IntegralValueOutOfRange(at));
+    }
+    Ok(count)
+}
+
+/// The number in this column.
+pub(crate) fn read_u64(row: &Row, at: usize) -> Result<u64, Error>
+    ensures number { IfOk result (λ number. number ≡ nat_of (column row.now at)) }
+    ensures cell { IfOk result (λ number. column row.now at ≡ Int (pos number)) }
+{
+    row.get(at)
+}
+
+/// The place in this column: the number of its choice, or -1.
+pub(crate) fn read_place(row: &Row, at: usize) -> Result<Place, Error>
+    ensures place { IfOk result (λ place. place_of place ≡ place_in (whole_of (column row.now at))) }
+    ensures cell { IfOk result (λ place. column row.now at ≡ Int (place_number (place_of place))) }
+{
+    let number: i64 = row.get(at)?;
+    if number == -1 {
+        return Ok(Place::Logged);
+    }
+    if number < 0 || number > u32::MAX as i64 {
+        return Err(Error::IntegralValueOutOfRange(at));
+    }
+    Ok(Place::Taken(number as u32))
+}
+
+/// The text in this column.
+pub(crate) fn read_text(row: &Row, at: usize) -> Result<String, Error>
+    ensures text { IfOk result (λ text. string_bytes text ≡ bytes (column row.now at)) }
+    ensures cell { IfOk result (λ text. column row.now at ≡ Text (string_bytes text)) }
+{
+    row.get(at)
+}
+
+/// The mark in this column, which is 0 or 1.
+pub(crate) fn read_mark(row: &Row, at: usize) -> Result<bool, Error>
+    ensures mark { IfOk result (λ m. m ≡ (nat_of (column row.now at) == 1)) }
+    ensures cell { IfOk result (λ m. column row.now at ≡ Int (mark m)) }
+{
+    let number = read_u32(row, at)?;
+    if number > 1 {
+        return Err(Error::IntegralValueOutOfRange(at));
+    }
+    Ok(number == 1)
+}

@@ -1,0 +1,158 @@
+ghost use Rattle.std.specs.Prelude.{◌≡◌, false, OnOk, IsTrue};
+ghost use Rattle.sqlite.specs.State.{HasCleanDisk, Survives};
+ghost use Rattle.sqlite.specs.Held.{state};
+ghost use Rattle.mr_tables.specs.Change.{changed};
+ghost use Rattle.mr_rows.specs.Kept.{Makes, Applies, IsReached, tables_in};
+ghost use Rattle.mr_rows.specs.Parts.{logs_taken, board_taken, rows_taken, heads_put, logs_put, board_put, rows_put};
+
+use crate::puts::put_meta;
+use crate::stored_rows::{RequestRow, StoredRow};
+use mr_base::{RoomName, WriteId};
+use mr_tables::{BookingRow, Change, ErrorRow, LogRow, VectorRow, WriteUndoRow};
+use sqlite::{Alter, Connection, Error, Transaction};
+use std::alloc::Global;
+
+fn take_all<R: RequestRow, S: Alter>(
+    tx: &mut Transaction<'_, S>,
+    gone: &[WriteId],
+) -> Result<(), Error>
+    ensures same_reference { tx.new.conn.ghost_name ≡ tx.old.conn.ghost_name }
+    ensures made { Makes (state S.Store tx.old.conn.now) (state S.Store tx.new.conn.now) (R.take_from gone.now (tables_in (state S.Store tx.old.conn.now).now.trees)) result }
+    ensures survives { Survives (state S.Store tx.old.conn.now) (state S.Store tx.new.conn.now) (λ _. ⊥) }
+{
+    'gone: for id in gone {
+        R::take(tx, *id)?;
+    }
+    Ok(())
+}
+
+fn put_all<R: StoredRow, S: Alter>(
+    tx: &mut Transaction<'_, S>,
+    alloc: Global,
+    rows: &[R],
+) -> Result<(), Error>
+    ensures same_reference { tx.new.conn.ghost_name ≡ tx.old.conn.ghost_name }
+    ensures made { Makes (state S.Store tx.old.conn.now) (state S.Store tx.new.conn.now) (R.put_in rows.now (tables_in (state S.Store tx.old.conn.now).now.trees)) result }
+    ensures survives { Survives (state S.Store tx.old.conn.now) (state S.Store tx.new.conn.now) (λ _. ⊥) }
+{
+    'rows: for row in rows {
+        row.put(tx, alloc)?;
+    }
+    Ok(())
+}
+
+/// Takes rows away from both logs.
+fn take_from_logs<S: Alter>(tx: &mut Transaction<'_, S>, change: &Change) -> Result<(), Error>
+    ensures same_reference { tx.new.conn.ghost_name ≡ tx.old.conn.ghost_name }
+    ensures made { Makes (state S.Store tx.old.conn.now) (state S.Store tx.new.conn.now) (logs_taken change.now (tables_in (state S.Store tx.old.conn.now).now.trees)) result }
+    ensures survives { Survives (state S.Store tx.old.conn.now) (state S.Store tx.new.conn.now) (λ _. ⊥) }
+{
+    take_all::<LogRow, S>(tx, &change.dropped)?;
+    take_all::<WriteUndoRow, S>(tx, &change.dropped)
+}
+
+/// Takes rows away from both tables of a board.
+fn take_from_board<S: Alter>(tx: &mut Transaction<'_, S>, change: &Change) -> Result<(), Error>
+    ensures same_reference { tx.new.conn.ghost_name ≡ tx.old.conn.ghost_name }
+    ensures made { Makes (state S.Store tx.old.conn.now) (state S.Store tx.new.conn.now) (board_taken change.now (tables_in (state S.Store tx.old.conn.now).now.trees)) result }
+    ensures survives { Survives (state S.Store tx.old.conn.now) (state S.Store tx.new.conn.now) (λ _. ⊥) }
+{
+    take_all::<BookingRow, S>(tx, &change.unbooked)?;
+    take_all::<ErrorRow, S>(tx, &change.unlogged)
+}
+
+/// Puts the numbers of the replica, rooms and rows of the vector.
+fn put_heads<S: Alter>(
+    tx: &mut Transaction<'_, S>,
+    alloc: Global,
+    change: &Change,
+) -> Result<(), Error>
+    ensures same_reference { tx.new.conn.ghost_name ≡ tx.old.conn.ghost_name }
+    ensures made { Makes (state S.Store tx.old.conn.now) (state S.Store tx.new.conn.now) (heads_put change.now (tables_in (state S.Store tx.old.conn.now).now.trees)) result }
+    ensures survives { Survives (state S.Store tx.old.conn.now) (state S.Store tx.new.conn.now) (λ _. ⊥) }
+{
+    put_meta(tx, &change.meta)?;
+    put_all::<RoomName, S>(tx, alloc, &change.room)?;
+    put_all::<VectorRow, S>(tx, alloc, &change.vector)
+}
+
+/// Puts rows into both logs.
+fn put_into_logs<S: Alter>(
+    tx: &mut Transaction<'_, S>,
+    alloc: Global,
+    change: &Change,
+) -> Result<(), Error>
+    ensures same_reference { tx.new.conn.ghost_name ≡ tx.old.conn.ghost_name }
+    ensures made { Makes (state S.Store tx.old.conn.now) (state S.Store tx.new.conn.now) (logs_put change.now (tables_in (state S.Store tx.old.conn.now).now.trees)) result }
+    ensures survives { Survives (state S.Store tx.old.conn.now) (state S.Store tx.new.conn.now) (λ _. ⊥) }
+{
+    put_all::<LogRow, S>(tx, alloc, &change.write_log)?;
+    put_all::<WriteUndoRow, S>(tx, alloc, &change.undo)
+}
+
+/// Puts rows into both tables of a board.
+fn put_into_board<S: Alter>(
+    tx: &mut Transaction<'_, S>,
+    alloc: Global,
+    change: &Change,
+) -> Result<(), Error>
+    ensures same_reference { tx.new.conn.ghost_name ≡ tx.old.conn.ghost_name }
+    ensures made { Makes (state S.Store tx.old.conn.now) (state S.Store tx.new.conn.now) (board_put change.now (tables_in (state S.Store tx.old.conn.now).now.trees)) result }
+    ensures survives { Survives (state S.Store tx.old.conn.now) (state S.Store tx.new.conn.now) (λ _. ⊥) }
+{
+    put_all::<BookingRow, S>(tx, alloc, &change.booking)?;
+    put_all::<ErrorRow, S>(tx, alloc, &change.errorlog)
+}
+
+/// Takes the rows away.
+fn take_rows<S: Alter>(tx: &mut Transaction<'_, S>, change: &Change) -> Result<(), Error>
+    ensures same_reference { tx.new.conn.ghost_name ≡ tx.old.conn.ghost_name }
+    ensures made { Makes (state S.Store tx.old.conn.now) (state S.Store tx.new.conn.now) (rows_taken change.now (tables_in (state S.Store tx.old.conn.now).now.trees)) result }
+    ensures survives { Survives (state S.Store tx.old.conn.now) (state S.Store tx.new.conn.now) (λ _. ⊥) }
+{
+    take_from_logs(tx, change)?;
+    take_from_board(tx, change)
+}
+
+/// Puts the rows.
+fn put_rows<S: Alter>(
+    tx: &mut Transaction<'_, S>,
+    alloc: Global,
+    change: &Change,
+) -> Result<(), Error>
+    ensures same_reference { tx.new.conn.ghost_name ≡ tx.old.conn.ghost_name }
+    ensures made { Makes (state S.Store tx.old.conn.now) (state S.Store tx.new.conn.now) (rows_put change.now (tables_in (state S.Store tx.old.conn.now).now.trees)) result }
+    ensures survives { Survives (state S.Store tx.old.conn.now) (state S.Store tx.new.conn.now) (λ _. ⊥) }
+{
+    put_heads(tx, alloc, change)?;
+    put_into_logs(tx, alloc, change)?;
+    put_into_board(tx, alloc, change)
+}
+
+/// Takes the rows away, and then puts the rows.
+fn make<S: Alter>(tx: &mut Transaction<'_, S>, alloc: Global, change: &Change) -> Result<(), Error>
+    ensures same_reference { tx.new.conn.ghost_name ≡ tx.old.conn.ghost_name }
+    ensures made { Makes (state S.Store tx.old.conn.now) (state S.Store tx.new.conn.now) (changed change.now (tables_in (state S.Store tx.old.conn.now).now.trees)) result }
+    ensures survives { Survives (state S.Store tx.old.conn.now) (state S.Store tx.new.conn.now) (λ _. ⊥) }
+{
+    take_rows(tx, change)?;
+    put_rows(tx, alloc, change)
+}
+
+/// One transaction: it makes the whole change, or none of it.
+pub fn apply<S: Alter>(
+    conn: &mut Connection<S>,
+    alloc: Global,
+    change: &Change,
+) -> Result<(), Error>
+    requires autocommit { conn.old.in_transaction ≡ false }
+    ensures autocommit { conn.new.in_transaction ≡ false }
+    ensures lasts { HasCleanDisk (state S.Store conn.new) → OnOk result (IsTrue (state S.Store conn.new).is_open) }
+    ensures applied { Applies (state S.Store conn.old) (state S.Store conn.new) (changed change.now (tables_in (state S.Store conn.old).now.trees)) result }
+    ensures survives { Survives (state S.Store conn.old) (state S.Store conn.new) (λ trees. IsReached (state S.Store conn.old) (changed change.now (tables_in (state S.Store conn.old).now.trees)) trees) }
+{
+    let mut tx = conn.transaction();
+    make(&mut tx, alloc, change)?;
+    tx.commit()?;
+    Ok(())
+}

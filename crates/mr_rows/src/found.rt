@@ -1,0 +1,98 @@
+ghost use Rattle.std.specs.Prelude.{◌≡◌, ◌∷◌, false, map, IfOk, OnOk};
+ghost use Rattle.std.specs.List.{All};
+ghost use Rattle.sqlite_value.specs.declared.value.Value.TheVariants.{Null};
+ghost use Rattle.sqlite.specs.Held.{state};
+ghost use Rattle.mr_rows.specs.Cells.{meta_in};
+ghost use Rattle.mr_rows.specs.Form.{meta_form, room_form, vector_form, log_form, undo_form, booking_form, error_form};
+ghost use Rattle.mr_rows.specs.Shown.{IsShownAs, AreStoredAs, AreOurRows, IsMeta, listed};
+ghost use Rattle.mr_rows.specs.Reads.{Looks};
+
+use crate::meta_row::read_meta;
+use crate::queries::select_all_meta;
+use crate::stored_rows::StoredRow;
+use mr_base::RoomName;
+use mr_tables::{BookingRow, ErrorRow, LogRow, MetaRow, VectorRow, WriteUndoRow};
+use sqlite::{Alter, Connection, Error, Row};
+use std::alloc::Global;
+
+// Of each table all rows are read, so that a row that breaks the table's rules or the limits is found.
+
+fn only_meta(rows: &[Row]) -> Result<Option<MetaRow>, Error>
+    ensures whole { OnOk result (All (IsShownAs meta_form) rows.now) }
+    ensures row { IfOk result (λ m. map (λ row. meta_in (Null ∷ row)) rows.now ≡ listed m) }
+{
+    match rows {
+        [] => Ok(None),
+        [row] => Ok(Some(read_meta(row)?)),
+        _ => Err(Error::InvalidQuery),
+    }
+}
+
+fn find_meta<S: Alter>(conn: &mut Connection<S>) -> Result<Option<MetaRow>, Error>
+    requires autocommit { conn.old.in_transaction ≡ false }
+    ensures autocommit { conn.new.in_transaction ≡ false }
+    ensures looks { Looks (state S.Store conn.old) (state S.Store conn.new) result (λ m. AreStoredAs meta_form (state S.Store conn.old).now.trees × IsMeta (state S.Store conn.old).now.trees m) }
+{
+    let rows = select_all_meta(conn)?;
+    only_meta(&rows)
+}
+
+fn are_stored<R: StoredRow>(alloc: Global, rows: &[Row]) -> Result<(), Error>
+    ensures { OnOk result (All (IsShownAs R.form) rows.now) }
+{
+    'rows: for row in rows {
+        R::read(alloc, row)?;
+    }
+    Ok(())
+}
+
+fn find_stored<R: StoredRow, S: Alter>(conn: &mut Connection<S>, alloc: Global) -> Result<(), Error>
+    requires autocommit { conn.old.in_transaction ≡ false }
+    ensures autocommit { conn.new.in_transaction ≡ false }
+    ensures looks { Looks (state S.Store conn.old) (state S.Store conn.new) result (λ _. AreStoredAs R.form (state S.Store conn.old).now.trees) }
+{
+    let rows = R::select_all(conn)?;
+    are_stored::<R>(alloc, &rows)
+}
+
+// The rooms and the vector.
+fn find_heads<S: Alter>(conn: &mut Connection<S>, alloc: Global) -> Result<(), Error>
+    requires autocommit { conn.old.in_transaction ≡ false }
+    ensures autocommit { conn.new.in_transaction ≡ false }
+    ensures looks { Looks (state S.Store conn.old) (state S.Store conn.new) result (λ _. AreStoredAs room_form (state S.Store conn.old).now.trees × AreStoredAs vector_form (state S.Store conn.old).now.trees) }
+{
+    find_stored::<RoomName, S>(conn, alloc)?;
+    find_stored::<VectorRow, S>(conn, alloc)
+}
+
+// Both logs.
+fn find_both_logs<S: Alter>(conn: &mut Connection<S>, alloc: Global) -> Result<(), Error>
+    requires autocommit { conn.old.in_transaction ≡ false }
+    ensures autocommit { conn.new.in_transaction ≡ false }
+    ensures looks { Looks (state S.Store conn.old) (state S.Store conn.new) result (λ _. AreStoredAs log_form (state S.Store conn.old).now.trees × AreStoredAs undo_form (state S.Store conn.old).now.trees) }
+{
+    find_stored::<LogRow, S>(conn, alloc)?;
+    find_stored::<WriteUndoRow, S>(conn, alloc)
+}
+
+// Both tables of the board.
+fn find_board<S: Alter>(conn: &mut Connection<S>, alloc: Global) -> Result<(), Error>
+    requires autocommit { conn.old.in_transaction ≡ false }
+    ensures autocommit { conn.new.in_transaction ≡ false }
+    ensures looks { Looks (state S.Store conn.old) (state S.Store conn.new) result (λ _. AreStoredAs booking_form (state S.Store conn.old).now.trees × AreStoredAs error_form (state S.Store conn.old).now.trees) }
+{
+    find_stored::<BookingRow, S>(conn, alloc)?;
+    find_stored::<ErrorRow, S>(conn, alloc)
+}
+
+/// Finds the row of `meta`, if there is one, and that all rows of all tables keep the tables' rules and the limits.
+pub fn find_all<S: Alter>(conn: &mut Connection<S>, alloc: Global) -> Result<Option<MetaRow>, Error>
+    requires autocommit { conn.old.in_transaction ≡ false }
+    ensures autocommit { conn.new.in_transaction ≡ false }
+    ensures looks { Looks (state S.Store conn.old) (state S.Store conn.new) result (λ m. AreOurRows (state S.Store conn.old).now.trees × IsMeta (state S.Store conn.old).now.trees m) }
+{
+    find_heads(conn, alloc)?;
+    find_both_logs(conn, alloc)?;
+    find_board(conn, alloc)?;
+    find_meta(conn)
+}

@@ -1,0 +1,55 @@
+ghost use Rattle.std.specs.Prelude.{◌≡◌, ◌∷◌, false, map, IfOk, Some};
+ghost use Rattle.sqlite_value.specs.declared.value.Value.TheVariants.{Null};
+ghost use Rattle.sqlite.specs.Held.{state};
+ghost use Rattle.mr_rows.specs.Cells.{meta_in, meta_cells};
+ghost use Rattle.mr_rows.specs.Kept.{tables_in};
+ghost use Rattle.mr_rows.specs.Reads.{Reads, first_of};
+ghost use Rattle.mr_rows.specs.Shown.{columns_from};
+
+use crate::cells::{read_server, read_u32, read_u64};
+use crate::queries::select_all_meta;
+use mr_tables::MetaRow;
+use sqlite::{Alter, Connection, Error, Row};
+
+/// The row of `meta`; its columns are counted from 0.
+pub(crate) fn read_meta(row: &Row) -> Result<MetaRow, Error>
+    ensures row { IfOk result (λ r. r ≡ meta_in (Null ∷ row.now)) }
+    ensures cells { IfOk result (λ r. meta_cells r ≡ columns_from 0 7 row.now) }
+{
+    let one = read_u32(row, 0)?;
+    let schema = read_u32(row, 1)?;
+    if one != 1 || schema != 1 {
+        return Err(Error::IntegralValueOutOfRange(0));
+    }
+    let server = read_server(row, 2)?;
+    let primary = read_server(row, 3)?;
+    let commits = read_u64(row, 4)?;
+    let dropped = read_u64(row, 5)?;
+    let clock = read_u64(row, 6)?;
+    Ok(MetaRow {
+        server,
+        primary,
+        commits,
+        dropped,
+        clock,
+    })
+}
+
+fn first_meta(rows: &[Row]) -> Result<MetaRow, Error>
+    ensures { IfOk result (λ row. first_of (map (λ row. meta_in (Null ∷ row)) rows.now) ≡ Some row) }
+{
+    match rows.first() {
+        None => Err(Error::QueryReturnedNoRows),
+        Some(row) => read_meta(row),
+    }
+}
+
+/// The row of `meta`.
+pub(crate) fn the_meta<S: Alter>(conn: &mut Connection<S>) -> Result<MetaRow, Error>
+    requires autocommit { conn.old.in_transaction ≡ false }
+    ensures autocommit { conn.new.in_transaction ≡ false }
+    ensures reads { Reads (state S.Store conn.old) (state S.Store conn.new) result (λ row. row ≡ (tables_in (state S.Store conn.old).now.trees).meta) }
+{
+    let rows = select_all_meta(conn)?;
+    first_meta(&rows)
+}

@@ -1,0 +1,169 @@
+ghost use Rattle.std.specs.Prelude.{◌≡◌, [], ◌∷◌, false, map, filter};
+ghost use Rattle.std.specs.List.Sorted.{IsPermutation};
+ghost use Rattle.sqlite_value.specs.declared.value.Value.TheVariants.{Null};
+ghost use Rattle.sqlite.specs.Values.{bound};
+ghost use Rattle.sqlite.specs.Given.{IsPlain};
+ghost use Rattle.sqlite.specs.Listing.{understood};
+ghost use Rattle.sqlite.specs.State.{Shown};
+ghost use Rattle.sqlite.specs.Held.{state};
+ghost use Rattle.mr_model.specs.Texts.{within};
+ghost use Rattle.mr_model.specs.Replica.{is_among};
+ghost use Rattle.mr_model.specs.Queries.{booking_id, error_id};
+ghost use Rattle.mr_tables.specs.Change.{log_id, undo_id};
+ghost use Rattle.mr_rows.specs.Schema.{our_schema};
+ghost use Rattle.mr_rows.specs.Cells.{meta_in, log_in, undo_in, booking_in, error_in};
+ghost use Rattle.mr_rows.specs.Kept.{tables_in};
+ghost use Rattle.mr_rows.specs.Shown.{columns_from};
+ghost use Rattle.mr_rows.specs.Reads.{Reads, Looks, metas_in};
+ghost use Rattle.mr_rows.specs.RowQuestions.{is_booking_asked, is_error_asked};
+
+use crate::numbers::Number;
+use mr_base::RoomName;
+use sqlite::types::ValueRef;
+use sqlite::{Alter, Connection, Error, Row, params};
+
+/// The rows that a text shows which means a query under our schema.
+pub(crate) fn ask<S: Alter>(
+    conn: &mut Connection<S>,
+    sql: &str,
+    params: &[ValueRef<'_>],
+) -> Result<Vec<Row>, Error>
+    requires autocommit { conn.old.in_transaction ≡ false }
+    requires plain { IsPlain (understood our_schema sql.now) }
+    ensures autocommit { conn.new.in_transaction ≡ false }
+    ensures reads { Reads (state S.Store conn.old) (state S.Store conn.new) result (λ rows. Shown sql.now (bound params.now) (state S.Store conn.old) (state S.Store conn.new) rows.items) }
+    ensures looks { Looks (state S.Store conn.old) (state S.Store conn.new) result (λ rows. Shown sql.now (bound params.now) (state S.Store conn.old) (state S.Store conn.new) rows.items) }
+{
+    conn.query_all(sql, params)
+}
+
+/// All rows of `meta`.
+pub(crate) fn select_all_meta<S: Alter>(conn: &mut Connection<S>) -> Result<Vec<Row>, Error>
+    requires autocommit { conn.old.in_transaction ≡ false }
+    ensures autocommit { conn.new.in_transaction ≡ false }
+    ensures reads { Reads (state S.Store conn.old) (state S.Store conn.new) result (λ rows. IsPermutation (metas_in (state S.Store conn.old).now.trees) (map (λ row. meta_in (Null ∷ row)) rows.items)) }
+    ensures looks { Looks (state S.Store conn.old) (state S.Store conn.new) result (λ rows. IsPermutation (map (columns_from 1 7) ((state S.Store conn.old).now.trees 0)) rows.items) }
+{
+    ask(
+        conn,
+        "SELECT one, schema, server, prim, commits, dropped, clock FROM meta",
+        &[],
+    )
+}
+
+/// The rows of an id in `write_log`.
+pub(crate) fn select_key_log<S: Alter>(
+    conn: &mut Connection<S>,
+    server: u32,
+    n: u32,
+) -> Result<Vec<Row>, Error>
+    requires autocommit { conn.old.in_transaction ≡ false }
+    ensures autocommit { conn.new.in_transaction ≡ false }
+    ensures reads { Reads (state S.Store conn.old) (state S.Store conn.new) result (λ rows. IsPermutation (filter (λ r. is_among (log_id r) (record { server = server; n = n } ∷ [])) (tables_in (state S.Store conn.old).now.trees).write_log) (map (λ row. log_in (Null ∷ row)) rows.items)) }
+{
+    ask(
+        conn,
+        "SELECT server, n, tm, room, length, choices, title, seq FROM write_log WHERE server = ?1 AND n = ?2",
+        params![server, n],
+    )
+}
+
+/// The rows of `write_log` whose `seq` is between these numbers.
+pub(crate) fn select_between_log<S: Alter>(
+    conn: &mut Connection<S>,
+    low: Number,
+    high: Number,
+) -> Result<Vec<Row>, Error>
+    requires autocommit { conn.old.in_transaction ≡ false }
+    ensures autocommit { conn.new.in_transaction ≡ false }
+    ensures reads { Reads (state S.Store conn.old) (state S.Store conn.new) result (λ rows. IsPermutation (filter (λ r. within low.value high.value r.seq) (tables_in (state S.Store conn.old).now.trees).write_log) (map (λ row. log_in (Null ∷ row)) rows.items)) }
+{
+    ask(
+        conn,
+        "SELECT server, n, tm, room, length, choices, title, seq FROM write_log WHERE seq >= ?1 AND seq <= ?2",
+        params![low, high],
+    )
+}
+
+/// The rows of an id in `undo`.
+pub(crate) fn select_key_undo<S: Alter>(
+    conn: &mut Connection<S>,
+    server: u32,
+    n: u32,
+) -> Result<Vec<Row>, Error>
+    requires autocommit { conn.old.in_transaction ≡ false }
+    ensures autocommit { conn.new.in_transaction ≡ false }
+    ensures reads { Reads (state S.Store conn.old) (state S.Store conn.new) result (λ rows. IsPermutation (filter (λ r. is_among (undo_id r) (record { server = server; n = n } ∷ [])) (tables_in (state S.Store conn.old).now.trees).undo) (map (λ row. undo_in (Null ∷ row)) rows.items)) }
+{
+    ask(
+        conn,
+        "SELECT server, n, place FROM undo WHERE server = ?1 AND n = ?2",
+        params![server, n],
+    )
+}
+
+/// The rows of a room in `booking`.
+pub fn select_room_booking<S: Alter>(
+    conn: &mut Connection<S>,
+    room: &RoomName,
+) -> Result<Vec<Row>, Error>
+    requires autocommit { conn.old.in_transaction ≡ false }
+    ensures autocommit { conn.new.in_transaction ≡ false }
+    ensures reads { Reads (state S.Store conn.old) (state S.Store conn.new) result (λ rows. IsPermutation (filter (is_booking_asked room.now) (tables_in (state S.Store conn.old).now.trees).booking) (map (λ row. booking_in (Null ∷ row)) rows.items)) }
+{
+    ask(
+        conn,
+        "SELECT room, day, start, stop, server, n, title, committed FROM booking WHERE room = ?1",
+        params![room.as_str()],
+    )
+}
+
+/// The rows of an id in `booking`.
+pub fn select_key_booking<S: Alter>(
+    conn: &mut Connection<S>,
+    server: u32,
+    n: u32,
+) -> Result<Vec<Row>, Error>
+    requires autocommit { conn.old.in_transaction ≡ false }
+    ensures autocommit { conn.new.in_transaction ≡ false }
+    ensures reads { Reads (state S.Store conn.old) (state S.Store conn.new) result (λ rows. IsPermutation (filter (λ r. is_among (booking_id r) (record { server = server; n = n } ∷ [])) (tables_in (state S.Store conn.old).now.trees).booking) (map (λ row. booking_in (Null ∷ row)) rows.items)) }
+{
+    ask(
+        conn,
+        "SELECT room, day, start, stop, server, n, title, committed FROM booking WHERE server = ?1 AND n = ?2",
+        params![server, n],
+    )
+}
+
+/// The rows of a room in `errorlog`.
+pub fn select_room_error<S: Alter>(
+    conn: &mut Connection<S>,
+    room: &RoomName,
+) -> Result<Vec<Row>, Error>
+    requires autocommit { conn.old.in_transaction ≡ false }
+    ensures autocommit { conn.new.in_transaction ≡ false }
+    ensures reads { Reads (state S.Store conn.old) (state S.Store conn.new) result (λ rows. IsPermutation (filter (is_error_asked room.now) (tables_in (state S.Store conn.old).now.trees).errorlog) (map (λ row. error_in (Null ∷ row)) rows.items)) }
+{
+    ask(
+        conn,
+        "SELECT room, day, start, stop, server, n, title, tm, seq FROM errorlog WHERE room = ?1",
+        params![room.as_str()],
+    )
+}
+
+/// The rows of an id in `errorlog`.
+pub fn select_key_error<S: Alter>(
+    conn: &mut Connection<S>,
+    server: u32,
+    n: u32,
+) -> Result<Vec<Row>, Error>
+    requires autocommit { conn.old.in_transaction ≡ false }
+    ensures autocommit { conn.new.in_transaction ≡ false }
+    ensures reads { Reads (state S.Store conn.old) (state S.Store conn.new) result (λ rows. IsPermutation (filter (λ r. is_among (error_id r) (record { server = server; n = n } ∷ [])) (tables_in (state S.Store conn.old).now.trees).errorlog) (map (λ row. error_in (Null ∷ row)) rows.items)) }
+{
+    ask(
+        conn,
+        "SELECT room, day, start, stop, server, n, title, tm, seq FROM errorlog WHERE server = ?1 AND n = ?2",
+        params![server, n],
+    )
+}

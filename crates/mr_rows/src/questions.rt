@@ -1,0 +1,90 @@
+ghost use Rattle.std.specs.Prelude.{◌≡◌, ◌∷◌, Bool, false, map, filter};
+ghost use Rattle.std.specs.List.Sorted.{IsPermutation};
+ghost use Rattle.sqlite_value.specs.declared.value.Value.TheVariants.{Null};
+ghost use Rattle.sqlite.specs.Held.{state};
+ghost use Rattle.mr_model.specs.Texts.{within};
+ghost use Rattle.mr_model.specs.Writes.{Id};
+ghost use Rattle.mr_rows.specs.Cells.{log_in};
+ghost use Rattle.mr_rows.specs.Kept.{tables_in};
+ghost use Rattle.mr_rows.specs.RowQuestions.{is_log_asked, is_undo_asked, is_booking_asked};
+ghost use Rattle.mr_rows.specs.Reads.{Reads};
+
+use crate::numbers::Number;
+use crate::queries::{select_between_log, select_key_log, select_key_undo, select_room_booking};
+use crate::stored_rows::StoredRow;
+use mr_base::{RoomName, ServerId, WriteId};
+use mr_tables::{BookingRow, LogRow, WriteUndoRow};
+use sqlite::{Alter, Connection, Error, Row};
+use std::marker::Model;
+
+/// A question for some rows of a table, which one statement answers.
+pub trait Question<R: StoredRow> {
+    // the rows that it asks for
+    ghost asks: { Self → R → Bool };
+
+    /// The rows that are asked for, in any order.
+    fn ask<S: Alter>(&self, conn: &mut Connection<S>) -> Result<Vec<Row>, Error>
+        requires autocommit { conn.old.in_transaction ≡ false }
+        ensures autocommit { conn.new.in_transaction ≡ false }
+        ensures reads { Reads (state S.Store conn.old) (state S.Store conn.new) result (λ rows. IsPermutation (filter (asks self.now) (R.rows_of (tables_in (state S.Store conn.old).now.trees))) (map (λ row. R.form.row_in (Null ∷ row)) rows.items)) };
+}
+
+/// A question for rows of `write_log`: for that of an id, or for those whose `seq` is between two numbers.
+#[derive(Clone, Copy)]
+pub enum LogQuestion {
+    OfId(WriteId),
+    Between(u64, u64),
+}
+
+fn ask_between<S: Alter>(conn: &mut Connection<S>, low: u64, high: u64) -> Result<Vec<Row>, Error>
+    requires autocommit { conn.old.in_transaction ≡ false }
+    ensures autocommit { conn.new.in_transaction ≡ false }
+    ensures reads { Reads (state S.Store conn.old) (state S.Store conn.new) result (λ rows. IsPermutation (filter (λ r. within low high r.seq) (tables_in (state S.Store conn.old).now.trees).write_log) (map (λ row. log_in (Null ∷ row)) rows.items)) }
+{
+    let low = Number::new(low, 7)?;
+    let high = Number::new(high, 7)?;
+    select_between_log(conn, low, high)
+}
+
+impl Question<LogRow> for LogQuestion {
+    ghost asks = { is_log_asked };
+
+    fn ask<S: Alter>(&self, conn: &mut Connection<S>) -> Result<Vec<Row>, Error> {
+        match *self {
+            LogQuestion::OfId(id) => select_key_log(conn, id.server.number(), id.n),
+            LogQuestion::Between(low, high) => ask_between(conn, low, high),
+        }
+    }
+}
+
+/// A question for the row of `undo` of an id.
+#[derive(Clone, Copy)]
+pub struct UndoQuestion {
+    pub server: ServerId,
+    pub n: u32,
+}
+
+impl Model for UndoQuestion {
+    ghost Value = { Id };
+
+    ghost view = { λ q. record { server = q.server; n = q.n } };
+
+    ghost inverse = { λ v. record { server = v.server; n = v.n } };
+}
+
+impl Question<WriteUndoRow> for UndoQuestion {
+    ghost asks = { is_undo_asked };
+
+    fn ask<S: Alter>(&self, conn: &mut Connection<S>) -> Result<Vec<Row>, Error> {
+        select_key_undo(conn, self.server.number(), self.n)
+    }
+}
+
+/// For the bookings of this room.
+impl Question<BookingRow> for RoomName {
+    ghost asks = { is_booking_asked };
+
+    fn ask<S: Alter>(&self, conn: &mut Connection<S>) -> Result<Vec<Row>, Error> {
+        select_room_booking(conn, self)
+    }
+}

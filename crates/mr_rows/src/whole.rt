@@ -1,0 +1,34 @@
+ghost use Rattle.std.specs.Prelude.{◌≡◌, ◌∷◌, false, map, IfOk};
+ghost use Rattle.std.specs.List.Sorted.{IsPermutation, IsSorted};
+ghost use Rattle.sqlite_value.specs.declared.value.Value.TheVariants.{Null};
+ghost use Rattle.sqlite.specs.Held.{state};
+ghost use Rattle.mr_rows.specs.Kept.{tables_in};
+ghost use Rattle.mr_rows.specs.Reads.{Reads};
+
+use crate::order::sort_rows;
+use crate::stored_rows::{StoredRow, read_all};
+use sqlite::{Alter, Connection, Error, Row};
+use std::alloc::Global;
+
+fn ordered_rows<R: StoredRow>(alloc: Global, rows: &[Row]) -> Result<Vec<R>, Error>
+    ensures same { IfOk result (λ out. IsPermutation (map (λ row. R.form.row_in (Null ∷ row)) rows.now) out.items) }
+    ensures sorted { IfOk result (λ out. IsSorted R.order out.items) }
+{
+    let mut out = read_all(alloc, rows)?;
+    sort_rows(&mut out)?;
+    Ok(out)
+}
+
+/// The whole table.
+pub fn all_rows<R: StoredRow, S: Alter>(
+    conn: &mut Connection<S>,
+    alloc: Global,
+) -> Result<Vec<R>, Error>
+    requires autocommit { conn.old.in_transaction ≡ false }
+    ensures autocommit { conn.new.in_transaction ≡ false }
+    ensures reads { Reads (state S.Store conn.old) (state S.Store conn.new) result (λ out. out.items ≡ R.rows_of (tables_in (state S.Store conn.old).now.trees)) }
+{
+    R::keeps_order();
+    let rows = R::select_all(conn)?;
+    ordered_rows(alloc, &rows)
+}
