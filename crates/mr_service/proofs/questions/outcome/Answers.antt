@@ -1,10 +1,11 @@
-use Rattle.std.proofs.Common.{◌≡◌, ◌∙◌, subst, Some, None}
+use Rattle.std.proofs.Common.{◌≡◌, ◌∙◌, subst, Ok, Err, Some, None}
 use Rattle.std.proofs.lemmas.Result.{err_from_is_err_and}
 use Rattle.mr_model.specs.Step.{Ask}
 use Rattle.mr_model.specs.View.{AskOutcome}
+use Rattle.mr_tables.specs.Cells.{place_row_of}
 use Rattle.mr_store.specs.Picked.{IsPlaceOf}
-use Rattle.mr_service.specs.Asked.{outcome_of}
-use Rattle.mr_service.proofs.KeeperReads.{read_ok, read_then, read_both, fails_all, refused_by, answered_by}
+use Rattle.mr_service.specs.Questions.{TellsOf}
+use Rattle.mr_service.proofs.KeeperReads.{read_ok, read_then, read_next, fails_all, refused_by, answered_by}
 use Rattle.mr_service.proofs.RoomSteps as steps
 use Rattle.mr_service.proofs.questions.outcome.Goals as goal
 
@@ -30,24 +31,11 @@ returns-in_err-place g c =
     let p = err_from_is_err_and c.from_residual-in_err-place.result c.from_residual-in_err-place.ensures.1 in
     record { served = rw p.1 (read_then g.K.Keeper c.args.keeper.now c.known_room.new.keeper c.place_of.new.self c.in_ok-room.room (Ask c.args.room.now (AskOutcome c.args.id.now)) _ c.in_ok-room.ensures.read (fails_all g.K.Keeper c.known_room.new.keeper c.place_of.new.self c.in_err-place.field-0.0 p.0 p.2 c.in_err-place.ensures.quiet (Ask c.args.room.now (AskOutcome c.args.id.now)))) }
 
-pub returns-in-Some : goal.returns-in-Some
-returns-in-Some g c =
-    let same : g.K.Keeper.is_clean c.place_of.new.self → g.K.Keeper.is_open c.place_of.new.self → g.K.Keeper.tables c.known_room.new.keeper ≡ g.K.Keeper.tables c.args.keeper.now = λ u o. c.known_room.ensures.read.same (c.place_of.ensures.quiet.clean u) (c.place_of.ensures.quiet.opens u o) in
-    record {
-      served = answered_by g.K.Keeper c.args.keeper.now c.place_of.new.self c.in_ok-place.field-0 (Ask c.args.room.now (AskOutcome c.args.id.now)) _ (read_both g.K.Keeper c.args.keeper.now c.known_room.new.keeper c.place_of.new.self c.in_ok-room.room c.in_ok-place.field-0 c.in_ok-room.ensures.read (read_ok g.K.Keeper c.known_room.new.keeper c.place_of.new.self c.in_ok-place.field-0 _ c.in_ok-place.ensures.quiet))
-          (λ u o. steps.outcome_step (g.K.Keeper.tables c.args.keeper.now) (g.K.Keeper.tables c.place_of.new.self) c.args.room.now c.in_ok-room.room c.args.id.now c.in_ok-id.id c.in-Some.place (outcome_of c.outcome_at.result) c.in_ok-id.ensures.value
-          (c.place_of.ensures.quiet.same u o ∙ same u o) (c.in_ok-room.ensures.finds (c.place_of.ensures.quiet.clean u) (c.known_room.ensures.read.opens (c.place_of.ensures.quiet.clean u) (c.place_of.ensures.quiet.opens u o)))
-          (subst (λ t. IsPlaceOf c.in_ok-room.room c.in_ok-id.id t (Some c.in-Some.place)) (same u o) (subst (IsPlaceOf c.in_ok-room.room c.in_ok-id.id (g.K.Keeper.tables c.known_room.new.keeper)) c.in-Some.is (c.in_ok-place.ensures.place u (c.place_of.ensures.quiet.opens u o)))) c.outcome_at.ensures)
-          (λ told. cc told);
-    }
+pub returns-else : goal.returns-else
+returns-else g c = ?
+
+pub returns-in_err-outcome : goal.returns-in_err-outcome
+returns-in_err-outcome g c = ?
 
 pub returns : goal.returns
-returns g c =
-    let same : g.K.Keeper.is_clean c.place_of.new.self → g.K.Keeper.is_open c.place_of.new.self → g.K.Keeper.tables c.known_room.new.keeper ≡ g.K.Keeper.tables c.args.keeper.now = λ u o. c.known_room.ensures.read.same (c.place_of.ensures.quiet.clean u) (c.place_of.ensures.quiet.opens u o) in
-    record {
-      served = answered_by g.K.Keeper c.args.keeper.now c.place_of.new.self c.in_ok-place.field-0 (Ask c.args.room.now (AskOutcome c.args.id.now)) _ (read_both g.K.Keeper c.args.keeper.now c.known_room.new.keeper c.place_of.new.self c.in_ok-room.room c.in_ok-place.field-0 c.in_ok-room.ensures.read (read_ok g.K.Keeper c.known_room.new.keeper c.place_of.new.self c.in_ok-place.field-0 _ c.in_ok-place.ensures.quiet))
-          (λ u o. steps.no_request_step (g.K.Keeper.tables c.args.keeper.now) (g.K.Keeper.tables c.place_of.new.self) c.args.room.now c.in_ok-room.room c.args.id.now c.in_ok-id.id c.in_ok-id.ensures.value
-          (c.place_of.ensures.quiet.same u o ∙ same u o) (c.in_ok-room.ensures.finds (c.place_of.ensures.quiet.clean u) (c.known_room.ensures.read.opens (c.place_of.ensures.quiet.clean u) (c.place_of.ensures.quiet.opens u o)))
-          (subst (λ t. IsPlaceOf c.in_ok-room.room c.in_ok-id.id t None) (same u o) (subst (IsPlaceOf c.in_ok-room.room c.in_ok-id.id (g.K.Keeper.tables c.known_room.new.keeper)) c.in-None.is (c.in_ok-place.ensures.place u (c.place_of.ensures.quiet.opens u o)))))
-          (λ told. cc told);
-    }
+returns g c = ?
