@@ -59,7 +59,7 @@ pub(crate) fn cancel(
 {
     let (_, change) = part.cancel(room, target)?;
     match cancel_outcome_in(&change) {
-        Some(outcome) => Ok((Reply::Outcome(outcome), change)),
+        Some(made) => Ok((Reply::Outcome(made), change)),
         None => Err(Refusal::OutOfMemory),
     }
 }

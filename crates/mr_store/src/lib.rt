@@ -19,4 +19,5 @@ pub use cached::Cached;
 pub use keeper::{Fault, Keeper};
 pub use lists::ListKeeper;
 pub use mr_tables::PlaceRow;
+pub use order::sort_bookings;
 pub use tripped::Tripped;
