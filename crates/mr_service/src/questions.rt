@@ -64,11 +64,13 @@ pub(crate) fn outcome<K: Keeper>(
 {
     let room = known_room(keeper, alloc, room)?;
     let id = WriteId::read(id)?;
-    let Some(place) = keeper.place_of(&room, id)? else {
-        return Err(Refusal::NoSuchRequest);
-    };
-    let outcome = outcome_at(keeper, &room, &place)?;
-    Ok(Reply::Outcome(outcome))
+    match keeper.place_of(&room, id)? {
+        Some(place) => {
+            let outcome = outcome_at(keeper, &room, &place)?;
+            Ok(Reply::Outcome(outcome))
+        }
+        None => Err(Refusal::NoSuchRequest),
+    }
 }
 
 /// The requests of a room that found no free slot, and its cancels that found nothing to take back.

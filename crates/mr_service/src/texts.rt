@@ -159,15 +159,13 @@ fn push_outcome(text: &mut String, outcome: &Outcome) -> Result<(), AllocError>
             is_committed,
             by,
             by_committed,
-        } => {
-            let mark = Mark {
-                is_committed: *is_committed,
-            };
-            let by_mark = Mark {
-                is_committed: *by_committed,
-            };
-            write!(text, "{id} {mark} cancelled {by_mark} {by}\n")
-        }
+        } => push_cancel(
+            text,
+            *id,
+            *is_committed,
+            cancelled_words(*by_committed),
+            *by,
+        ),
         Outcome::Cancels {
             id,
             is_committed,
@@ -181,7 +179,18 @@ fn push_outcome(text: &mut String, outcome: &Outcome) -> Result<(), AllocError>
     }
 }
 
-/// What became of a cancel, as this word says.
+/// That a booking was taken back, and the mark of the cancel.
+fn cancelled_words(by_committed: bool) -> &'static str
+    ensures { result.now ≡ codes "cancelled" ++ 32 ∷ replies.mark by_committed }
+{
+    if by_committed {
+        "cancelled C"
+    } else {
+        "cancelled T"
+    }
+}
+
+/// What a write and a cancel have to do with one another, as these words say.
 fn push_cancel(
     text: &mut String,
     id: WriteId,

@@ -1,4 +1,4 @@
-use Rattle.std.proofs.Common.{◌≡◌, map, subst}
+use Rattle.std.proofs.Common.{true, ◌≡◌, map, subst}
 use Rattle.std.proofs.lemmas.Result.{err_from_is_err_and}
 use Rattle.std.specs.List.Sorted.{IsPermutation, IsSortedByKey}
 use Rattle.mr_store.specs.Picked.{picked_cancels}
@@ -21,7 +21,7 @@ pub returns-in_err-cancels : goal.returns-in_err-cancels
 returns-in_err-cancels g c =
     let p = err_from_is_err_and c.from_residual-in_err-cancels.result c.from_residual-in_err-cancels.ensures.1 in
     rw p.1 (record {
-      read = read_next g.K.Keeper c.args.keeper.now c.errors.new.self c.cancels.new.self 0 _ (read_ok g.K.Keeper c.args.keeper.now c.errors.new.self 0 _ c.in_ok-requests.ensures.quiet)
+      read = read_next g.K.Keeper c.args.keeper.now c.errors.new.self c.cancels.new.self true _ (read_ok g.K.Keeper c.args.keeper.now c.errors.new.self true _ c.in_ok-requests.ensures.quiet)
           (read_err g.K.Keeper c.errors.new.self c.cancels.new.self c.in_err-cancels.field-0.0 p.0 p.2 c.in_err-cancels.ensures.quiet);
       shows = λ u o. tt;
       only = steps.of_fault c.in_err-cancels.field-0.0 p.0 p.2;
@@ -35,9 +35,9 @@ returns g c =
     let open_first : k.is_clean c.cancels.new.self → k.is_open c.args.keeper.now → k.is_open c.errors.new.self = λ u o. c.in_ok-requests.ensures.quiet.lasts (c.cancels.ensures.quiet.clean u) o in
     let same : k.is_clean c.cancels.new.self → k.is_open c.args.keeper.now → k.tables c.errors.new.self ≡ k.tables c.args.keeper.now = λ u o. c.errors.ensures.quiet.same (c.cancels.ensures.quiet.clean u) (open_first u o) in
     record {
-      read = read_within k c.args.keeper.now c.cancels.new.self 0 c.log_lines.result
-          (read_next k c.args.keeper.now c.errors.new.self c.cancels.new.self 0 _ (read_ok k c.args.keeper.now c.errors.new.self 0 _ c.in_ok-requests.ensures.quiet)
-          (read_ok k c.errors.new.self c.cancels.new.self 0 _ c.in_ok-cancels.ensures.quiet))
+      read = read_within k c.args.keeper.now c.cancels.new.self true c.log_lines.result
+          (read_next k c.args.keeper.now c.errors.new.self c.cancels.new.self true _ (read_ok k c.args.keeper.now c.errors.new.self true _ c.in_ok-requests.ensures.quiet)
+          (read_ok k c.errors.new.self c.cancels.new.self true _ c.in_ok-cancels.ensures.quiet))
           c.log_lines.ensures.only;
       shows = λ u o.
           both_ok c.log_lines.result (λ lines. IsPermutation (lines_of requests cancels) (map line_of lines.items)) (λ lines. IsSortedByKey line_key log_key_cmp lines.items) (λ lines. ShowsLines c.args.room.now (k.tables c.args.keeper.now) (map line_of lines.items))

@@ -1,4 +1,4 @@
-use Rattle.std.proofs.Common.{◌≡◌, ◌∙◌, map, subst}
+use Rattle.std.proofs.Common.{true, ◌≡◌, ◌∙◌, map, subst}
 use Rattle.std.proofs.lemmas.Result.{err_from_is_err_and}
 use Rattle.std.specs.List.Sorted.{IsPermutation, IsSortedBy}
 use Rattle.mr_model.specs.Replies.{Committed}
@@ -21,7 +21,7 @@ pub returns-in_err-cancelled : goal.returns-in_err-cancelled
 returns-in_err-cancelled g c =
     let p = err_from_is_err_and c.from_residual-in_err-cancelled.result c.from_residual-in_err-cancelled.ensures.1 in
     rw p.1 (record {
-      read = read_next g.K.Keeper c.args.keeper.now c.bookings.new.self c.cancelled.new.self 0 _ (read_ok g.K.Keeper c.args.keeper.now c.bookings.new.self 0 _ c.in_ok-bookings.ensures.quiet)
+      read = read_next g.K.Keeper c.args.keeper.now c.bookings.new.self c.cancelled.new.self true _ (read_ok g.K.Keeper c.args.keeper.now c.bookings.new.self true _ c.in_ok-bookings.ensures.quiet)
           (read_err g.K.Keeper c.bookings.new.self c.cancelled.new.self c.in_err-cancelled.field-0.0 p.0 p.2 c.in_err-cancelled.ensures.quiet);
       shows = λ u o. tt;
       only = steps.of_fault c.in_err-cancelled.field-0.0 p.0 p.2;
@@ -31,8 +31,8 @@ pub returns-in_err-cancels : goal.returns-in_err-cancels
 returns-in_err-cancels g c =
     let p = err_from_is_err_and c.from_residual-in_err-cancels.result c.from_residual-in_err-cancels.ensures.1 in
     rw p.1 (record {
-      read = read_next g.K.Keeper c.args.keeper.now c.bookings.new.self c.cancels.new.self 0 _ (read_ok g.K.Keeper c.args.keeper.now c.bookings.new.self 0 _ c.in_ok-bookings.ensures.quiet)
-          (read_next g.K.Keeper c.bookings.new.self c.cancelled.new.self c.cancels.new.self 0 _ (read_ok g.K.Keeper c.bookings.new.self c.cancelled.new.self 0 _ c.in_ok-cancelled.ensures.quiet)
+      read = read_next g.K.Keeper c.args.keeper.now c.bookings.new.self c.cancels.new.self true _ (read_ok g.K.Keeper c.args.keeper.now c.bookings.new.self true _ c.in_ok-bookings.ensures.quiet)
+          (read_next g.K.Keeper c.bookings.new.self c.cancelled.new.self c.cancels.new.self true _ (read_ok g.K.Keeper c.bookings.new.self c.cancelled.new.self true _ c.in_ok-cancelled.ensures.quiet)
           (read_err g.K.Keeper c.cancelled.new.self c.cancels.new.self c.in_err-cancels.field-0.0 p.0 p.2 c.in_err-cancels.ensures.quiet));
       shows = λ u o. tt;
       only = steps.of_fault c.in_err-cancels.field-0.0 p.0 p.2;
@@ -50,10 +50,10 @@ returns g c =
     let same_first : k.is_clean c.cancels.new.self → k.is_open c.args.keeper.now → k.tables c.bookings.new.self ≡ k.tables c.args.keeper.now = λ u o. c.bookings.ensures.quiet.same (first u) (open_first u o) in
     let same_next : k.is_clean c.cancels.new.self → k.is_open c.args.keeper.now → k.tables c.cancelled.new.self ≡ k.tables c.args.keeper.now = λ u o. c.cancelled.ensures.quiet.same (c.cancels.ensures.quiet.clean u) (open_next u o) ∙ same_first u o in
     record {
-      read = read_within k c.args.keeper.now c.cancels.new.self 0 c.committed_calendar.result
-          (read_next k c.args.keeper.now c.bookings.new.self c.cancels.new.self 0 _ (read_ok k c.args.keeper.now c.bookings.new.self 0 _ c.in_ok-bookings.ensures.quiet)
-          (read_next k c.bookings.new.self c.cancelled.new.self c.cancels.new.self 0 _ (read_ok k c.bookings.new.self c.cancelled.new.self 0 _ c.in_ok-cancelled.ensures.quiet)
-          (read_ok k c.cancelled.new.self c.cancels.new.self 0 _ c.in_ok-cancels.ensures.quiet)))
+      read = read_within k c.args.keeper.now c.cancels.new.self true c.committed_calendar.result
+          (read_next k c.args.keeper.now c.bookings.new.self c.cancels.new.self true _ (read_ok k c.args.keeper.now c.bookings.new.self true _ c.in_ok-bookings.ensures.quiet)
+          (read_next k c.bookings.new.self c.cancelled.new.self c.cancels.new.self true _ (read_ok k c.bookings.new.self c.cancelled.new.self true _ c.in_ok-cancelled.ensures.quiet)
+          (read_ok k c.cancelled.new.self c.cancels.new.self true _ c.in_ok-cancels.ensures.quiet)))
           c.committed_calendar.ensures.only;
       shows = λ u o.
           both_ok c.committed_calendar.result (λ shown. IsPermutation (committed_rows bookings cancelled cancels) shown.items) (λ shown. IsSortedBy booking_before shown.items) (λ shown. Shows Committed c.args.room.now (k.tables c.args.keeper.now) shown.items)
