@@ -134,21 +134,23 @@ module _ (r : Replica) (room : Text) (requests : List ErrorRow) (cancels : List 
     where
       made_apart : {R : Type 0} (key : R → Id) (make : R → LogLine) (xs : List R) → ((x : R) → line_id (make x) ≡ key x) → Sorted (λ x y. same_id (key x) (key y) ≡ false) xs → Sorted (λ x y. same_id (line_id x) (line_id y) ≡ false) (map make xs)
       made_apart key make [] e s = tt
-      made_apart key make (x ∷ xs) e s =
-          (has_all (λ l. same_id (line_id (make x)) (line_id l) ≡ false) (map make xs)
-          (λ l a. let (y, b, f) = map_has make l xs a in (λ i. same_id (e x i) ((ap line_id f ∙ e y) i)) ∙ all_has (λ z. same_id (key x) (key z) ≡ false) y xs s.0 b), made_apart key make xs e s.1)
+      made_apart key make (x ∷ xs) e s = (
+        has_all (λ l. same_id (line_id (make x)) (line_id l) ≡ false) (map make xs)
+            (λ l a. let (y, b, f) = map_has make l xs a in (λ i. same_id (e x i) ((ap line_id f ∙ e y) i)) ∙ all_has (λ z. same_id (key x) (key z) ≡ false) y xs s.0 b),
+        made_apart key make xs e s.1,
+      )
 
       across : (x y : LogLine) → Has x (map (λ row. OfRequest row) requests) → Has y (map (λ row. OfVoid row) (filter (λ (row : CancelRow). not row.done) cancels)) → same_id (line_id x) (line_id y) ≡ false
       across x y a b =
           false_from_ne_true (same_id (line_id x) (line_id y))
           (λ e.
-              let (row, c, s) = map_has (λ row. OfRequest row) x requests a in
-              let (gone, d, t) = map_has (λ row. OfVoid row) y (filter (λ (row : CancelRow). not row.done) cancels) b in
-              let bad : rows.Erred row ≡ rows.Cancel gone =
-              one_place r (rows.Erred row) (rows.Cancel gone) h (of_request row c).0 (of_cancel gone (filter_has (λ (x : CancelRow). not x.done) gone cancels d).0).0
-              (sym (ap line_id s) ∙ same_id-true (line_id x) (line_id y) e ∙ ap line_id t)
-              in
-              cc bad)
+          let (row, c, s) = map_has (λ row. OfRequest row) x requests a in
+          let (gone, d, t) = map_has (λ row. OfVoid row) y (filter (λ (row : CancelRow). not row.done) cancels) b in
+          let bad : rows.Erred row ≡ rows.Cancel gone =
+          one_place r (rows.Erred row) (rows.Cancel gone) h (of_request row c).0 (of_cancel gone (filter_has (λ (x : CancelRow). not x.done) gone cancels d).0).0
+          (sym (ap line_id s) ∙ same_id-true (line_id x) (line_id y) e ∙ ap line_id t)
+          in
+          cc bad)
 
   log_all : (lines : List replies.LogLine) → IsPermutation (lines_of requests cancels) (map line_of lines) → IsSortedByKey line_key log_key_cmp lines → filter_map logging_of (whole_list (view_of r room)) ≡ map line_logging (map line_of lines)
   log_all lines moved up =
@@ -159,9 +161,9 @@ module _ (r : Replica) (room : Text) (requests : List ErrorRow) (cancels : List 
       (λ x y z p q. line_transitive (line_of x) (line_of y) (line_of z) p q) (λ x y p. key_tested (line_of x) (line_of y) p)
       lines (sorted_map (λ x y. same_id (line_id x) (line_id y) ≡ false) line_of lines (permuted_apart line_id (lines_of requests cancels) (map line_of lines) moved lines_apart)) up
       (λ x y a b apart.
-          either_before LineBefore (line_of x) (line_of y) (room_lines r room) (lines_sorted r room h)
-          (is_of_line r room (line_of x) h (is_given (line_of x) (has_map line_of x lines a))) (is_of_line r room (line_of y) h (is_given (line_of y) (has_map line_of y lines b)))
-          (λ e. true≢false (sym (same_id_from (line_id (line_of x)) (line_id (line_of y)) (ap line_id e)) ∙ apart))))))
+      either_before LineBefore (line_of x) (line_of y) (room_lines r room) (lines_sorted r room h)
+      (is_of_line r room (line_of x) h (is_given (line_of x) (has_map line_of x lines a))) (is_of_line r room (line_of y) h (is_given (line_of y) (has_map line_of y lines b)))
+      (λ e. true≢false (sym (same_id_from (line_id (line_of x)) (line_id (line_of y)) (ap line_id e)) ∙ apart))))))
       (λ l. (is_given l, λ p. permuted_has l (lines_of requests cancels) (map line_of lines) moved (is_line l p)))
     where
       is_given : (l : LogLine) → Has l (map line_of lines) → IsLineOf r room l

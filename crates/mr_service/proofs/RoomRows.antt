@@ -69,9 +69,9 @@ bookings_sorted : (r : Replica) (room : Text) (day : Option Date) (rows : List B
 bookings_sorted r room day rows h are =
     sorted_rows booking_id BookingBefore booking_before booking_trans booking_tested (λ x. bytes_eq x.room room && is_asked day x.day) (tables_of r).booking rows (tables_in_order r h).booking are.0 are.1
     (λ x y a b apart.
-        let p = picked_has r room day x a in
-        let q = picked_has r room day y b in
-        either_shown x y (entries (whole_list (view_of r room))) (entries_sorted r room h) (row_has_entry r room x h p.0 p.1) (row_has_entry r room y h q.0 q.1) apart)
+    let p = picked_has r room day x a in
+    let q = picked_has r room day y b in
+    either_shown x y (entries (whole_list (view_of r room))) (entries_sorted r room h) (row_has_entry r room x h p.0 p.1) (row_has_entry r room y h q.0 q.1) apart)
 
 -- one order in the words of the laws
 start_order : (rows : List BookingRow) → Sorted BookingBefore rows → AreInStartOrder rows
@@ -187,19 +187,21 @@ module _ (r : Replica) (room : Text) (bookings : List BookingRow) (cancelled : L
     where
       booked_apart : (gs : List CancelledRow) → Sorted (λ x y. same_id (cancelled_id x) (cancelled_id y) ≡ false) gs → Sorted (λ x y. same_id (booking_id x) (booking_id y) ≡ false) (map as_booked gs)
       booked_apart [] s = tt
-      booked_apart (g ∷ gs) s =
-          (has_all (λ y. same_id (booking_id (as_booked g)) (booking_id y) ≡ false) (map as_booked gs)
-          (λ y a. let (z, b, e) = map_has as_booked y gs a in subst (λ u. same_id (cancelled_id g) (booking_id u) ≡ false) (sym e) (all_has (λ u. same_id (cancelled_id g) (cancelled_id u) ≡ false) z gs s.0 b)), booked_apart gs s.1)
+      booked_apart (g ∷ gs) s = (
+        has_all (λ y. same_id (booking_id (as_booked g)) (booking_id y) ≡ false) (map as_booked gs)
+            (λ y a. let (z, b, e) = map_has as_booked y gs a in subst (λ u. same_id (cancelled_id g) (booking_id u) ≡ false) (sym e) (all_has (λ u. same_id (cancelled_id g) (cancelled_id u) ≡ false) z gs s.0 b)),
+        booked_apart gs s.1,
+      )
 
       across : (x y : BookingRow) → Has x (filter (λ (x : BookingRow). x.committed) bookings) → Has y (map as_booked (filter (λ (x : CancelledRow). x.committed && has_tentative x.by cancels) cancelled)) → same_id (booking_id x) (booking_id y) ≡ false
       across x y a b =
           false_from_ne_true (same_id (booking_id x) (booking_id y))
           (λ e.
-              let (gone, c, s) = map_has as_booked y _ b in
-              let p = of_booking x (filter_has (λ (x : BookingRow). x.committed) x bookings a).0 in
-              let q = of_cancelled gone (filter_has (λ (x : CancelledRow). x.committed && has_tentative x.by cancels) gone cancelled c).0 in
-              let one : rows.Booked x ≡ rows.Cancelled gone = one_place r (rows.Booked x) (rows.Cancelled gone) h p.0 q.0 (same_id-true (booking_id x) (booking_id y) e ∙ ap booking_id s) in
-              cc one)
+          let (gone, c, s) = map_has as_booked y _ b in
+          let p = of_booking x (filter_has (λ (x : BookingRow). x.committed) x bookings a).0 in
+          let q = of_cancelled gone (filter_has (λ (x : CancelledRow). x.committed && has_tentative x.by cancels) gone cancelled c).0 in
+          let one : rows.Booked x ≡ rows.Cancelled gone = one_place r (rows.Booked x) (rows.Cancelled gone) h p.0 q.0 (same_id-true (booking_id x) (booking_id y) e ∙ ap booking_id s) in
+          cc one)
 
   committed_all : (shown : List BookingRow) → IsPermutation (committed_rows bookings cancelled cancels) shown → IsSortedBy booking_before shown → entries (committed_list (view_of r room)) ≡ map row_entry shown
   committed_all shown moved up =
@@ -207,9 +209,9 @@ module _ (r : Replica) (room : Text) (bookings : List BookingRow) (cancelled : L
       (start_order shown
       (in_strict_order booking_id BookingBefore booking_before booking_trans booking_tested shown (permuted_apart booking_id (committed_rows bookings cancelled cancels) shown moved shown_apart) up
       (λ x y a b apart.
-          either_shown x y (entries (committed_list (view_of r room))) (committed_sorted r room h)
-          (row_has_committed r room x h (shown_is x (has_permuted x (committed_rows bookings cancelled cancels) shown moved a)))
-          (row_has_committed r room y h (shown_is y (has_permuted y (committed_rows bookings cancelled cancels) shown moved b))) apart)))
+      either_shown x y (entries (committed_list (view_of r room))) (committed_sorted r room h)
+      (row_has_committed r room x h (shown_is x (has_permuted x (committed_rows bookings cancelled cancels) shown moved a)))
+      (row_has_committed r room y h (shown_is y (has_permuted y (committed_rows bookings cancelled cancels) shown moved b))) apart)))
       (λ row. (
         (λ a. shown_is row (has_permuted row (committed_rows bookings cancelled cancels) shown moved a)),
         λ c. permuted_has row (committed_rows bookings cancelled cancels) shown moved (is_shown row c),

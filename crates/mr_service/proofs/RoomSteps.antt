@@ -222,10 +222,10 @@ pub outcome_step : (t u : Tables) (room found id : Text) (i : Id) (place : code.
 outcome_step t u room found id i place o read same finds at tells =
     answered t u room found (AskOutcome id) (λ v. outcome_reply (find_request id v)) (OutcomeIs (outcome_of o)) (λ v. refl) same finds
     (λ a sound stands.
-        let of = place_found a room i place (subst (λ x. IsPlaceOf x i (tables_of a) (Some place)) finds.0 (subst (λ x. IsPlaceOf found i x (Some place)) stands at)) in
-        let said = subst (λ x. TellsOf x t (place_row_of place) (Ok o)) finds.0 tells a (record { sound = sound; are = stands }) (subst (λ x. IsRowIn x (place_row_of place)) (sym stands) of.there) of.in_room in
-        sym (subst (λ x. outcome_reply (told_of x (whole_list (view_of a room))) ≡ OutcomeIs (outcome_of o)) of.of_id said)
-        ∙ ap outcome_reply (sym (id_found id i (view_of a room) (ok_read (read_id id) refusal.NoSuchRequest i read))))
+    let of = place_found a room i place (subst (λ x. IsPlaceOf x i (tables_of a) (Some place)) finds.0 (subst (λ x. IsPlaceOf found i x (Some place)) stands at)) in
+    let said = subst (λ x. TellsOf x t (place_row_of place) (Ok o)) finds.0 tells a (record { sound = sound; are = stands }) (subst (λ x. IsRowIn x (place_row_of place)) (sym stands) of.there) of.in_room in
+    sym (subst (λ x. outcome_reply (told_of x (whole_list (view_of a room))) ≡ OutcomeIs (outcome_of o)) of.of_id said)
+    ∙ ap outcome_reply (sym (id_found id i (view_of a room) (ok_read (read_id id) refusal.NoSuchRequest i read))))
 
 -- or memory or the store failed where the row of a cancel was looked up
 pub outcome_failed : (t u : Tables) (room found id : Text) (i : Id) (place : code.PlaceRow) (e : Refusal) → u ≡ t → Finds t.room room (Ok found) → IsPlaceOf found i t (Some place)

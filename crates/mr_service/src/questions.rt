@@ -83,7 +83,11 @@ pub(crate) fn errors<K: Keeper>(keeper: &mut K, alloc: Global, room: &str) -> Re
 }
 
 /// The room of this name, where the keeper knows it.
-pub(crate) fn known_room<K: Keeper>(keeper: &mut K, alloc: Global, room: &str) -> Result<RoomName, Refusal>
+pub(crate) fn known_room<K: Keeper>(
+    keeper: &mut K,
+    alloc: Global,
+    room: &str,
+) -> Result<RoomName, Refusal>
     ensures read { IsRead K.Keeper keeper.old keeper.new result }
     ensures finds { K.is_clean keeper.new → K.is_open keeper.old → Finds (K.tables keeper.old).room room.now result }
 {

@@ -59,7 +59,10 @@ pub enum LogLine {
 pub enum Outcome {
     /// It has the minutes of the day from `start` up to, not with, `stop`.
     Booked(Booking),
-    Logged { id: WriteId, is_committed: bool },
+    Logged {
+        id: WriteId,
+        is_committed: bool,
+    },
     /// The cancel `by` took the booking back. Each of the two has its own mark.
     Cancelled {
         id: WriteId,

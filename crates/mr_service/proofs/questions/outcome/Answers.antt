@@ -52,7 +52,7 @@ returns-in_err-outcome-in-Some g c =
     let same_place : k.is_clean c.outcome_at.new.keeper → k.is_open c.outcome_at.new.keeper → k.tables c.place_of.new.self ≡ k.tables c.args.keeper.now = λ u o. c.place_of.ensures.quiet.same (before u) (open_before u o) ∙ same_room u o in
     record {
       served = rw (p.1, p.2) (refused_by k c.args.keeper.now c.outcome_at.new.keeper c.in_err-outcome-in-Some.field-0.0 (Ask c.args.room.now (AskOutcome c.args.id.now))
-          (read_next k c.args.keeper.now c.known_room.new.keeper c.outcome_at.new.keeper c.in_ok-room.room _ c.in_ok-room.ensures.read (read_next k c.known_room.new.keeper c.place_of.new.self c.outcome_at.new.keeper tt _ (read_ok k c.known_room.new.keeper c.place_of.new.self true _ c.in_ok-place.ensures.quiet) c.in_err-outcome-in-Some.ensures.read))
+          (read_next k c.args.keeper.now c.known_room.new.keeper c.outcome_at.new.keeper c.in_ok-room.room _ c.in_ok-room.ensures.read (read_next k c.known_room.new.keeper c.place_of.new.self c.outcome_at.new.keeper true _ (read_ok k c.known_room.new.keeper c.place_of.new.self true _ c.in_ok-place.ensures.quiet) c.in_err-outcome-in-Some.ensures.read))
           (λ u o. steps.outcome_failed (k.tables c.args.keeper.now) (k.tables c.outcome_at.new.keeper) c.args.room.now c.in_ok-room.room c.args.id.now c.in_ok-id.id c.in-Some.place c.in_err-outcome-in-Some.field-0.0
           (c.outcome_at.ensures.read.same u o ∙ same_place u o) (c.in_ok-room.ensures.finds (c.place_of.ensures.quiet.clean (before u)) (c.known_room.ensures.read.opens (c.place_of.ensures.quiet.clean (before u)) (c.place_of.ensures.quiet.opens (before u) (open_before u o))))
           (subst (λ t. IsPlaceOf c.in_ok-room.room c.in_ok-id.id t (Some c.in-Some.place)) (same_room u o) (subst (IsPlaceOf c.in_ok-room.room c.in_ok-id.id (k.tables c.known_room.new.keeper)) c.in-Some.is (c.in_ok-place.ensures.place (before u) (c.place_of.ensures.quiet.opens (before u) (open_before u o)))))
@@ -68,7 +68,7 @@ returns-in-Some g c =
     let same_place : k.is_clean c.outcome_at.new.keeper → k.is_open c.outcome_at.new.keeper → k.tables c.place_of.new.self ≡ k.tables c.args.keeper.now = λ u o. c.place_of.ensures.quiet.same (before u) (open_before u o) ∙ same_room u o in
     record {
       served = answered_by k c.args.keeper.now c.outcome_at.new.keeper c.in_ok-outcome-in-Some.outcome (Ask c.args.room.now (AskOutcome c.args.id.now)) _
-          (read_next k c.args.keeper.now c.known_room.new.keeper c.outcome_at.new.keeper c.in_ok-room.room _ c.in_ok-room.ensures.read (read_next k c.known_room.new.keeper c.place_of.new.self c.outcome_at.new.keeper tt _ (read_ok k c.known_room.new.keeper c.place_of.new.self true _ c.in_ok-place.ensures.quiet) c.in_ok-outcome-in-Some.ensures.read))
+          (read_next k c.args.keeper.now c.known_room.new.keeper c.outcome_at.new.keeper c.in_ok-room.room _ c.in_ok-room.ensures.read (read_next k c.known_room.new.keeper c.place_of.new.self c.outcome_at.new.keeper true _ (read_ok k c.known_room.new.keeper c.place_of.new.self true _ c.in_ok-place.ensures.quiet) c.in_ok-outcome-in-Some.ensures.read))
           (λ u o. steps.outcome_step (k.tables c.args.keeper.now) (k.tables c.outcome_at.new.keeper) c.args.room.now c.in_ok-room.room c.args.id.now c.in_ok-id.id c.in-Some.place c.in_ok-outcome-in-Some.outcome c.in_ok-id.ensures.value
           (c.outcome_at.ensures.read.same u o ∙ same_place u o) (c.in_ok-room.ensures.finds (c.place_of.ensures.quiet.clean (before u)) (c.known_room.ensures.read.opens (c.place_of.ensures.quiet.clean (before u)) (c.place_of.ensures.quiet.opens (before u) (open_before u o))))
           (subst (λ t. IsPlaceOf c.in_ok-room.room c.in_ok-id.id t (Some c.in-Some.place)) (same_room u o) (subst (IsPlaceOf c.in_ok-room.room c.in_ok-id.id (k.tables c.known_room.new.keeper)) c.in-Some.is (c.in_ok-place.ensures.place (before u) (c.place_of.ensures.quiet.opens (before u) (open_before u o)))))
