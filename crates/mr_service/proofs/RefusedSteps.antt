@@ -1,15 +1,15 @@
 -- A step that is refused leaves its replica.
 use Rattle.std.proofs.Common.{◌≡◌, refl, sym, ap, subst, ◌∙◌, eqb, ltb, not, [], ◌∷◌, length, inl, Option, Some, None, Result, Ok, Err}
 use Rattle.mr_model.specs.Texts.{only_if}
-use Rattle.mr_model.specs.Writes.{Write, id_of, is_room_name}
+use Rattle.mr_model.specs.Writes.{Write, is_room_name}
 use Rattle.mr_model.specs.Refusals.{Refusal, BadRoomName, RoomThere, PrimaryKeepsAll, BeyondCommitted, NotPrimary, WrongPrimary, first_refusal}
 use Rattle.mr_model.specs.Replica.{Replica, IsReplica, knows_room, add_write}
 use Rattle.mr_model.specs.Exchange.{Header, Batch, read_batch}
 use Rattle.mr_model.specs.Taking.{Progress}
 use Rattle.mr_model.specs.Replies.{Refused, OutcomeIs}
-use Rattle.mr_model.specs.View.{outcome_of, outcome_reply, told_of}
+use Rattle.mr_model.specs.View.{outcome_of, outcome_reply}
 use Rattle.mr_model.specs.Step.{After, Command, AddRoom, Submit, Cancel, Receive, Commit, Truncate, AskPosition, BatchFor, Ask, step, step_unless, after_write, outcome_at, write_of, submit_faults, cancel_write, cancel_faults, after_items, receive_under, receive_read}
-use Rattle.mr_model.proofs.RoomTold.{known_told, room_list, told_of_room}
+use Rattle.mr_model.proofs.RoomTold.{known_told, told_of_room}
 use Rattle.mr_model.proofs.StepsKeep.{step_keeps}
 use Rattle.mr_model.proofs.WithWrite.{has_with_write}
 

@@ -1,5 +1,5 @@
 -- From the rows of the error log and of cancels, and the row of one write, to what the view of a replica tells of a room.
-use Rattle.std.proofs.Common.{◌≡◌, refl, sym, ap, ◌∙◌, subst, ℕ, ◌<◌, Bool, true, false, not, cond, ◌&&◌, eqb, List, [], ◌∷◌, ◌++◌, map, ◌⊎◌, inl, inr, Some, None, Option, arith, lt-ltb, eq-eqb, ne_eqb, is_lt, nat_cmp}
+use Rattle.std.proofs.Common.{◌≡◌, refl, sym, ap, ◌∙◌, subst, ℕ, ◌<◌, Bool, true, false, not, cond, ◌&&◌, eqb, List, [], ◌∷◌, map, ◌⊎◌, inl, inr, Some, None, Option, arith, lt-ltb, eq-eqb, ne_eqb, is_lt, nat_cmp}
 use Rattle.std.proofs.lemmas.Bool.{true≢false, and_parts, and_from, false_from_ne_true}
 use Rattle.std.specs.List.{filter, filter_map, find}
 use Rattle.std.specs.List.Sorted.{IsPermutation, IsSortedByKey}
@@ -9,15 +9,15 @@ use Rattle.mr_model.specs.Texts.{Text}
 use Rattle.mr_model.specs.Writes.{Id, same_id}
 use Rattle.mr_model.specs.Refusals.{NoSuchRequest}
 use Rattle.mr_model.specs.Replica.{Replica, IsReplica}
-use Rattle.mr_model.specs.Replies.{Reply, OutcomeIs, Refused}
+use Rattle.mr_model.specs.Replies.{OutcomeIs, Refused}
 use Rattle.mr_model.specs.View.{view_of, whole_list, logging_of, told_of, outcome_reply}
 use Rattle.mr_model.specs.Tables.{BookingRow, ErrorRow, CancelledRow, CancelRow, PlaceRow, tables_of}
 use Rattle.mr_model.specs.Tables as rows
 use Rattle.mr_model.specs.Dropped.{Has}
-use Rattle.mr_model.specs.Queries.{LogLine, OfRequest, OfVoid, line_seq, line_time, line_server, line_logging, LineBefore, both, one, none, AreInLogOrder, IsLineOf, booking_id, error_id, cancelled_id, cancel_id, booked_outcome, logged_outcome, cancelled_outcome, cancel_outcome, IsCancelOf, IsRowIn, row_id, row_room}
+use Rattle.mr_model.specs.Queries.{LogLine, OfRequest, OfVoid, line_seq, line_time, line_server, line_logging, LineBefore, both, one, none, AreInLogOrder, IsLineOf, booking_id, error_id, cancelled_id, cancel_id, cancelled_outcome, IsCancelOf, IsRowIn, row_id, row_room}
 use Rattle.mr_model.proofs.Members.{has_filter, filter_has, has_map, map_has, has_left, has_right, has_split, find_has, has_all, all_has, Sorted, sorted_filter, same_id-true, same_id_from}
 use Rattle.mr_model.proofs.Runs.{sorted_append}
-use Rattle.mr_model.proofs.RowsTell.{booked_tell, erred_tell, cancelled_tell, cancel_tell, none_in_room}
+use Rattle.mr_model.proofs.RowsTell.{cancelled_tell, none_in_room}
 use Rattle.mr_model.proofs.ErrorsTell.{lines_sorted, room_lines, is_of_line, errors_told, sorted_map}
 use Rattle.mr_model.proofs.KeyOrder.{tables_in_order}
 use Rattle.mr_tables.specs.declared.place_rows.PlaceRow as code

@@ -1,13 +1,13 @@
 -- From the rows that a keeper picks of the tables of a replica to the calendars of a room.
-use Rattle.std.proofs.Common.{◌≡◌, refl, sym, ap, ◌∙◌, subst, true, false, ◌||◌, ◌&&◌, eqb, ltb, List, [], ◌∷◌, ◌++◌, map, ◌⊎◌, inl, inr, Option, Some, None, lt-ltb, eqb-true, eq-eqb}
+use Rattle.std.proofs.Common.{◌≡◌, refl, sym, ap, ◌∙◌, subst, true, false, ◌||◌, ◌&&◌, eqb, ltb, List, [], ◌∷◌, map, ◌⊎◌, inl, inr, Option, Some, None, lt-ltb, eqb-true, eq-eqb}
 use Rattle.std.proofs.lemmas.Bool.{true≢false, and_parts, and_from, or_left, or_right, false_from_ne_true}
-use Rattle.std.specs.List.{filter, list_any}
+use Rattle.std.specs.List.{filter}
 use Rattle.std.specs.List.Sorted.{IsPermutation, IsSortedBy}
 use Rattle.std.specs.Str.{bytes_eq}
 use Rattle.mr_replay.proofs.Lists.{one_name, same_name}
 use Rattle.mr_model.specs.Texts.{Text}
 use Rattle.mr_model.specs.Calendar.{Date, same_date, date_before}
-use Rattle.mr_model.specs.Writes.{Id, same_id}
+use Rattle.mr_model.specs.Writes.{same_id}
 use Rattle.mr_model.specs.Replica.{Replica, IsReplica}
 use Rattle.mr_model.specs.Replies.{Entry}
 use Rattle.mr_model.specs.View.{view_of, whole_list, committed_list, entries}

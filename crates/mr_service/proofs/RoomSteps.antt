@@ -16,7 +16,7 @@ use Rattle.mr_model.specs.Step.{After, Ask, Cancel, IsOfMachine, no_memory, refu
 use Rattle.mr_model.specs.Serving.{TakesStep}
 use Rattle.mr_model.specs.Tables.{BookingRow, ErrorRow, CancelledRow, CancelRow, PlaceRow, Tables, Stands, tables_of}
 use Rattle.mr_model.specs.Tables as rows
-use Rattle.mr_model.specs.Queries.{LogLine, row_entry, line_logging, booked_outcome, logged_outcome, cancelled_outcome, cancel_outcome, IsRowIn, row_id}
+use Rattle.mr_model.specs.Queries.{LogLine, row_entry, line_logging, booked_outcome, logged_outcome, cancelled_outcome, cancel_outcome, IsRowIn}
 use Rattle.mr_model.proofs.RowsTell.{booked_tell, erred_tell, cancel_tell}
 use Rattle.mr_model.proofs.UniqueReplay.{some_inj, none_some}
 use Rattle.mr_base.specs.Answers.{ok_if}

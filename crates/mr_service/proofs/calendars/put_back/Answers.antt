@@ -1,4 +1,3 @@
-use Rattle.std.proofs.Common.{[], ◌∷◌}
 use Rattle.mr_model.specs.Tables.{as_booked}
 use Rattle.mr_service.specs.Questions.{is_back}
 use Rattle.mr_service.proofs.Lines.{picked_more}

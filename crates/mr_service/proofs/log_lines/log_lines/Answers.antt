@@ -2,7 +2,7 @@ use Rattle.std.proofs.Common.{not, ap, ◌∙◌, ◌++◌, map, subst}
 use Rattle.std.proofs.lemmas.List.Sorted.{IsPermutation-map}
 use Rattle.std.specs.List.{filter}
 use Rattle.std.specs.List.Sorted.{IsPermutation}
-use Rattle.mr_model.specs.Queries.{LogLine, OfVoid}
+use Rattle.mr_model.specs.Queries.{OfVoid}
 use Rattle.mr_model.specs.Tables.{CancelRow}
 use Rattle.mr_service.specs.Asked.{line_of}
 use Rattle.mr_service.proofs.log_lines.log_lines.Goals as goal

@@ -1,4 +1,4 @@
-use Rattle.std.proofs.Common.{sym, ap, subst, Ok}
+use Rattle.std.proofs.Common.{sym, subst, Ok}
 use Rattle.mr_tables.specs.Cells.{place_row_of}
 use Rattle.mr_service.specs.Questions.{TellsOf}
 use Rattle.mr_service.proofs.KeeperReads.{read_none}

@@ -1,4 +1,3 @@
-use Rattle.std.proofs.Common.{map}
 use Rattle.std.specs.String.{string_bytes}
 use Rattle.mr_model.specs.Queries.{line_logging}
 use Rattle.mr_model.specs.Replies.{logging_line}
