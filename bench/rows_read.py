@@ -4,9 +4,9 @@
     rows_read.py PROGRAM FOLDER [BOOKINGS]
 
 makes two databases of so many bookings (10,000 where no number is given) in five rooms: that of the primary, and that of another
-replica, which drops some commits. A fifth of the bookings is committed. For each kind of command it runs the statements of
-crates/mr_rows/src/queries.rt that the command's scope asks (crates/mr_sql/specs/Questions.antt), and prints how many they are and how
-many rows they find. The rows of meta, room and vector are not counted: each command reads all of them.
+replica, which drops some commits. A fifth of the bookings is committed, and each of the two cancels one in 101 of all. For each kind of
+command it runs the statements of crates/mr_rows/src/queries.rt that the command's scope asks (crates/mr_sql/specs/Questions.antt), and
+prints how many they are and how many rows they find. The rows of meta, room and vector are not counted: each command reads all of them.
 """
 
 import contextlib
@@ -23,8 +23,9 @@ from calls import done, empty
 
 ROOMS = 5
 LINES = 64
+TABLES = ('log', 'booking', 'errorlog', 'cancelled')
 
-Row = namedtuple('Row', 'server n time room length choices title seq')
+Row = namedtuple('Row', 'server n time room kind length choices title tserver tn place seq')
 Write = namedtuple('Write', 'server n time room')
 Commit = namedtuple('Commit', 'seq server n')
 
@@ -44,6 +45,16 @@ def booking(n):
     return f'W 2 {n} {n} oak-{n % ROOMS} 15 {date} {slot // 4:02}:{slot % 4 * 15:02} 0 Meeting {n}'
 
 
+def cancelled(bookings):
+    """The numbers of the bookings that are cancelled, as many in each room."""
+    return range(1, bookings + 1, 101)
+
+
+def cancel(program, database, bookings):
+    for n in cancelled(bookings):
+        done(program, 'cancel', database, f'oak-{n % ROOMS}', f'2-{n}')
+
+
 def make(program, folder, bookings):
     """The database of the primary, and that of the other replica."""
     commits, dropped = bookings // 5, bookings // 20
@@ -58,20 +69,18 @@ def make(program, folder, bookings):
     done(program, 'init', f'{folder}/other.db', 3, 1)
     done(program, 'import', f'{folder}/other.db', f'{folder}/all')
     done(program, 'truncate', f'{folder}/other.db', dropped)
+    for name in ('primary', 'other'):
+        cancel(program, f'{folder}/{name}.db', bookings)
 
 
 # ---- what a command reads
-
-def is_before(row, write):
-    return (row.time, row.server) < (write.time, write.server)
-
 
 class Command:
     """The questions of one command, and the rows that they find."""
 
     def __init__(self, database, sql):
         self.database, self.sql = database, sql
-        self.asked = {'write_log': 0, 'undo': 0, 'booking': 0}
+        self.asked = dict.fromkeys(TABLES, 0)
         self.found = dict(self.asked)
         self.commits, self.dropped = database.execute('SELECT commits, dropped FROM meta').fetchone()
 
@@ -86,22 +95,27 @@ class Command:
     def logs_between(self, low, high):
         return [Row(*row) for row in self.ask('select_between_log', low, high)]
 
-    def undo_of(self, rows):
-        for row in rows:
-            self.ask('select_key_undo', row.server, row.n)
+    def in_room(self, room):
+        self.ask('select_room_booking', room)
+        self.ask('select_room_cancelled', room)
 
     def nothing(self):
         pass
 
     def submit(self, room):
-        self.ask('select_room_booking', room)
+        self.in_room(room)
+
+    def cancel(self, server, n):
+        for query in ('select_key_booking', 'select_key_error', 'select_key_cancelled'):
+            self.ask(query, server, n)
 
     def commit(self, count):
         rows = self.logs_between(0, 0)
-        self.undo_of(sorted(rows, key=lambda row: (row.time, row.server))[:count])
+        for row in sorted(rows, key=lambda row: (row.time, row.server))[:count]:
+            self.ask('select_key_cancelled', row.server, row.n)
 
     def truncate(self, number):
-        self.undo_of(self.logs_between(1, min(number, self.commits)))
+        self.logs_between(1, min(number, self.commits))
 
     def batch_for(self, commits):
         self.logs_between(0, 0)
@@ -114,27 +128,13 @@ class Command:
             rows |= {Row(*row) for row in self.ask('select_key_log', item.server, item.n)}
             if isinstance(item, Commit) and item.seq <= self.commits:
                 rows |= set(self.logs_between(item.seq, item.seq))
-        rooms = self.touched(items, rows)
-        self.undo_of(self.in_scope(items, rows, rooms))
-        for room in rooms:
-            self.ask('select_room_booking', room)
+        for room in self.touched(items, rows):
+            self.in_room(room)
 
     def touched(self, items, rows):
         """The rooms of the writes, and of those that new commits name."""
         moved = {(item.server, item.n) for item in items if isinstance(item, Commit) and item.seq > self.commits}
         return {item.room for item in items if isinstance(item, Write)} | {row.room for row in rows if (row.server, row.n) in moved}
-
-    def in_scope(self, items, rows, rooms):
-        """The rows that the items name, and the late tentative ones of these rooms."""
-        writes = [item for item in items if isinstance(item, Write)]
-        commits = [item for item in items if isinstance(item, Commit)]
-        ids, numbers = {(item.server, item.n) for item in items}, {item.seq for item in commits}
-        all_late = any(item.seq > self.commits for item in commits)
-
-        def is_late(row):
-            return row.seq == 0 and row.room in rooms and (all_late or any(not is_before(row, write) for write in writes))
-
-        return [row for row in rows if (row.server, row.n) in ids or (row.seq and row.seq in numbers) or is_late(row)]
 
 
 # ---- the table
@@ -142,25 +142,22 @@ class Command:
 def commands(bookings):
     """The database, the words and the questions of each kind of command."""
     commits, dropped = bookings // 5, bookings // 20
-    middle = (bookings + commits) // 2
-    on_top = [Write(2, bookings + k, bookings + k, f'oak-{k % ROOMS}') for k in range(1, LINES + 1)]
-    in_one = [Write(2, bookings + k, bookings + k, 'oak-1') for k in range(1, LINES + 1)]
-    late = [Write(4, k, middle + k, f'oak-{k % ROOMS}') for k in range(1, LINES + 1)]
-    late_in_one = [Write(4, k, middle + k, 'oak-1') for k in range(1, LINES + 1)]
+    last = bookings + len(cancelled(bookings))
+    on_top = [Write(2, bookings + k, last + k, f'oak-{k % ROOMS}') for k in range(1, LINES + 1)]
+    in_one = [Write(2, bookings + k, last + k, 'oak-1') for k in range(1, LINES + 1)]
     known = [Commit(dropped + k, 2, dropped + k) for k in range(1, LINES + 1)]
     new = [Commit(commits + k, 2, commits + k) for k in range(1, LINES + 1)]
     return [
         ('other', 'a room is added, the position', lambda it: it.nothing()),
         ('other', 'a submission', lambda it: it.submit('oak-1')),
+        ('other', 'a cancel', lambda it: it.cancel(2, 2)),
         ('primary', f'a commit of {LINES}', lambda it: it.commit(LINES)),
-        ('primary', 'a commit of all', lambda it: it.commit(bookings)),
+        ('primary', 'a commit of all', lambda it: it.commit(last)),
         ('other', f'a truncation, {LINES} commits more', lambda it: it.truncate(dropped + LINES)),
         ('other', 'a batch for a position with all commits', lambda it: it.batch_for(commits)),
         ('other', 'a batch for a position with the dropped commits alone', lambda it: it.batch_for(dropped)),
-        ('other', f'{LINES} writes received, behind all others, in five rooms', lambda it: it.receive(on_top)),
-        ('other', f'{LINES} writes received, behind all others, in one room', lambda it: it.receive(in_one)),
-        ('other', f'{LINES} writes received, before half of the tentative ones, in five rooms', lambda it: it.receive(late)),
-        ('other', f'{LINES} writes received, before half of the tentative ones, in one room', lambda it: it.receive(late_in_one)),
+        ('other', f'{LINES} writes received, in five rooms', lambda it: it.receive(on_top)),
+        ('other', f'{LINES} writes received, in one room', lambda it: it.receive(in_one)),
         ('other', f'{LINES} commits received that are known', lambda it: it.receive(known)),
         ('other', f'{LINES} commits received that are new, in five rooms', lambda it: it.receive(new)),
     ]
@@ -171,8 +168,8 @@ def main():
     bookings = int(more[0]) if more else 10000
     make(program, empty(folder), bookings)
     sql = statements()
-    print('| Command | Statements | Rows of `write_log` | of `undo` | of `booking` | in all |')
-    print('|---|---|---|---|---|---|')
+    print('| Command | Statements | Rows of `log` | of `booking` | of `errorlog` | of `cancelled` | in all |')
+    print('|---|---|---|---|---|---|---|')
     for name, words, questions in commands(bookings):
         with contextlib.closing(sqlite3.connect(f'{folder}/{name}.db')) as database:
             command = Command(database, sql)

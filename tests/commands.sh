@@ -117,6 +117,11 @@ strange() {
     expect_line "$1" "$2" "$3" sheet "$database" oak 1995-12-18
 }
 
+# strange_write NAME VALUES: the log has a write with these values from its kind to its place, which no write has
+strange_write() {
+    strange "$1" 1 'refused 25 Store' "INSERT INTO log VALUES (1, 1, 1, 'oak', $2, 0)"
+}
+
 run_strange() {
     if ! command -v sqlite3 > /dev/null; then
         echo 'skipped: rows that the stock sqlite3 wrote (no sqlite3)'
@@ -124,8 +129,20 @@ run_strange() {
     fi
     strange 'a room of another hand' 1 'refused 7 UnknownRoom' "INSERT INTO room VALUES ('elm')"
     strange 'a room with a blank' 1 'refused 25 Store' "INSERT INTO room VALUES ('Oak tree')"
-    strange 'a place of no choice' 1 'refused 25 Store' 'INSERT INTO undo VALUES (1, 1, -2)'
-    strange 'another form of the tables' 1 'refused 25 Store' 'UPDATE meta SET schema = 2'
+    strange 'the number of another schema' 1 'refused 25 Store' 'UPDATE meta SET schema = 1'
+    strange 'a second number of the one row' 1 'refused 25 Store' 'UPDATE meta SET one = 2'
+    strange 'a place in the undo rows of the first schema' 1 'refused 25 Store' 'INSERT INTO undo VALUES (1, 1, 0)'
+    strange 'a write in the log of the first schema' 1 'refused 25 Store' \
+        "INSERT INTO write_log VALUES (1, 1, 1, 'oak', 60, '1995-12-18 09:00', 'Alpha', 0)"
+    strange_write 'a place of no choice' "0, 60, '1995-12-18 09:00', 'Alpha', 0, 0, 17"
+    strange_write 'a place below all' "1, 0, '', '', 1, 1, -4"
+    strange_write 'a place that a cancel has' "0, 60, '1995-12-18 09:00', 'Alpha', 0, 0, -2"
+    strange_write 'a cancel that is booked' "1, 0, '', '', 1, 1, 0"
+    strange_write 'a cancel with a length' "1, 60, '', '', 1, 1, -3"
+    strange_write 'a cancel with a title' "1, 0, '', 'Alpha', 1, 1, -3"
+    strange_write 'a booking with a target' "0, 60, '1995-12-18 09:00', 'Alpha', 1, 1, 0"
+    strange_write 'neither a booking nor a cancel' "2, 0, '', '', 1, 1, -3"
+    strange 'a cancel that is half done' 1 'refused 25 Store' "INSERT INTO cancel VALUES (1, 2, 'oak', 1, 1, 2, 2, 0)"
     strange 'no row of the replica' 1 'refused 26 NotAReplica' 'DELETE FROM meta'
     strange 'a table too many' 1 'refused 26 NotAReplica' 'CREATE TABLE other (a INTEGER) STRICT'
     strange 'a table too few' 1 'refused 26 NotAReplica' 'DROP TABLE errorlog'

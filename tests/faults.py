@@ -19,13 +19,14 @@ import time
 import resource
 
 from calls import Served, call, done, empty
+from oracle import RULES
 from tables import copy_database, rows_of
 
 BOOKINGS = 3000
 BOOK = ['book', 'elm', '60', '1995-12-18', '14:00', 'Alpha', '1995-12-18T15:00']
 STORE = (b'refused 25 Store\n', 1)
 # how many of a hundred kills each command gets; the rest are those of a server
-SHARES = {'book': 30, 'commit': 25, 'import': 25}
+SHARES = {'book': 20, 'commit': 20, 'import': 20, 'cancel': 20} if RULES.has_cancels else {'book': 30, 'commit': 25, 'import': 25}
 
 
 def batch_of(server, count, first=1):
@@ -52,6 +53,8 @@ class Faults:
             done(program, *words)
         self.before = rows_of(self.base)
         self.commands = {'book': BOOK, 'commit': ['commit', '500'], 'import': ['import', self.batch]}
+        if RULES.has_cancels:
+            self.commands['cancel'] = ['cancel', 'oak-1', '2-1']
 
     def words(self, name):
         first, *rest = self.commands[name]
@@ -76,7 +79,7 @@ class Faults:
         rows = rows_of(self.file)
         self.told(f'{name}: before or after', rows == after or rows == self.before and not is_acknowledged)
         position, status = call(self.program, 'position', self.file)
-        self.told(f'{name}: the position', status == 0 and position.startswith(b'mp1 1 1\nK %d\n' % rows[0][0][4]))
+        self.told(f'{name}: the position', status == 0 and position.startswith(b'mp%d 1 1\nK %d\n' % (RULES.version, rows['meta'][0][4])))
         self.told(f'{name}: no row is lost by showing it', rows_of(self.file) == rows)
         return rows
 
@@ -117,7 +120,7 @@ class Faults:
     def own_bookings(self):
         """The ids of the server's own requests that are known."""
         rows = rows_of(self.file)
-        return {(row[4], row[5]) for row in rows[5] + rows[6] if row[4] == 1}
+        return {(row[4], row[5]) for row in rows['booking'] + rows['errorlog'] if row[4] == 1}
 
     def submit(self, served, ids):
         while True:
@@ -221,9 +224,9 @@ class Faults:
             names = [name for name in told if told[name] != STORE]
             self.told(f'different commands at once: {told}', all(told[name][1] == 0 for name in names))
             rows = rows_of(self.file)
-            is_there = {'book': (1, 1) in self.own_bookings(), 'commit': rows[0][0][4] > self.before[0][0][4],
-                        'import': any(row[0] == 3 for row in rows[2])}
-            self.told(f'different commands at once, {names}: {is_there}', all(is_there[name] == (name in names) for name in is_there))
+            is_there = {'book': bool(self.own_bookings()), 'commit': rows['meta'][0][4] > self.before['meta'][0][4],
+                        'import': any(row[0] == 3 for row in rows['vector']), 'cancel': bool(rows.get('cancel'))}
+            self.told(f'different commands at once, {names}: {is_there}', all(is_there[name] == (name in names) for name in told))
             done_names[len(names)] = done_names.get(len(names), 0) + 1
         print(f'different commands at once, 8 times: {done_names}')
 

@@ -18,19 +18,23 @@ import seeds
 import wire
 from calls import Served
 from offices import DAYS, ROOMS, Difference, Office
+from oracle import RULES
 from turned import limit_batches, limit_positions, turned_batch, turned_position
 
 ROUNDS, BY_FILES, OVER_HTTP = 4, 20, 80
 
 
 def make_offices(program, folder, rng):
-    """A primary and three others; one has dropped commits, all know committed and tentative writes."""
+    """A primary and three others; one has dropped commits, all know committed and tentative writes. Where requests can be cancelled all
+    cancel some, or the last one alone where the exchange text can't say it."""
     servers = rng.sample(range(1, 100), 4)
     offices = [Office(program, f'{folder}/{server}.db', server, servers[0]) for server in servers]
     primary, dropper = offices[0], offices[1]
     for step in range(18):
         office = rng.choice(offices)
         office.book(rng)
+        if RULES.version > 1 and step % 3 == 1:
+            office.cancel(rng)
         rng.choice([other for other in offices if other is not office]).receive(office)
         if step % 6 == 5:
             primary.receive(office)
@@ -40,6 +44,8 @@ def make_offices(program, folder, rng):
     number = rng.randint(1, len(dropper.replica.commits))
     dropper.is_told('truncate', number, dropper.replica.truncate(number))
     offices[2].receive(primary, rng.choice([3, 9, 100000]))
+    for _ in range(3 if RULES.has_cancels else 0):
+        offices[3].cancel(rng)
     return offices
 
 

@@ -47,5 +47,6 @@ run_refused_memory() {
         return
     fi
     tried 'memory that is refused' tests/refused_memory.py "$program" crates/mr_served/out/mr_served crates/mr_asked/out/mr_asked \
-        "$quick/memory" tests/scripts/equal_times.script examples/commit_reorders.script tests/scripts/chain.script tests/scripts/dropped_commits.script
+        "$quick/memory" tests/scripts/equal_times.script examples/commit_reorders.script tests/scripts/chain.script tests/scripts/dropped_commits.script \
+        tests/scripts/cancel_of_moved.script tests/scripts/cancel_and_rebook.script
 }

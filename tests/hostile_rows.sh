@@ -21,6 +21,7 @@ run_bad_lines() {
     bad 'a title of 61 bytes' "W 1 1 1 $slot 0 $title"
     bad 'a room of 17 bytes' 'W 1 1 1 aaaaaaaaaaaaaaaaa 30 1995-12-18 09:00 0 Alpha'
     bad 'nine alternatives' "W 1 1 1 $slot 9$more$more$more$more$more$more$more$more$more Alpha"
+    bad 'a cancel in the first exchange text' 'X 1 1 1 oak 2 1'
     bad 'a meeting past midnight' 'W 1 1 1 oak 2 1995-12-18 23:59 0 Late'
     bad 'a day that is none' 'W 1 1 1 oak 30 2023-02-29 09:00 0 Leap'
     hostile 'a server of three digits' 'refused 15 BadLine 1' 'mr1 100 1'

@@ -238,6 +238,51 @@ run_exchanges() {
     run_other_family "$folder/two.db"
 }
 
+# what is served of cancels, by an office that has two of them
+run_served_cancels() {
+    local folder=$scratch/cancels line=$'\n'
+    printf 'mp1 9 1\nK 0\nE\n' > "$folder/nothing"
+    cp -- "$folder/one.db" "$folder/served.db"
+    serve "$folder/served.db" 6
+    asked 'a cancelled request over HTTP' 200 '{"by":"1-2","bymark":"T","id":"1-1","mark":"T","state":"cancelled"}' /rooms/oak/requests/1-1
+    asked 'a cancel over HTTP' 200 '{"id":"1-2","mark":"T","state":"cancels","target":"1-1"}' /rooms/oak/requests/1-2
+    asked 'a void cancel over HTTP' 200 '{"id":"1-3","mark":"T","state":"void","target":"1-1"}' /rooms/oak/requests/1-3
+    asked 'a void cancel in the error log over HTTP' 200 "oak errors${line}T 1-3 cancel 1-1${line}" /rooms/oak/errors
+    asked 'a batch with a cancel over HTTP' 409 '{"name":"NeedsVersion2","refusal":27}' /pull --data-binary "@$folder/nothing"
+    asked 'nothing is cancelled over HTTP' 404 '{"error":"not found"}' /cancel --data-binary '{"id":"1-1","room":"oak"}'
+    served 'the lines of served cancels' 200 200 200 200 409 404
+}
+
+# an office that has cancels takes what others have, and hands nothing over
+run_kept_cancels() {
+    local folder=$scratch/cancels
+    mkdir "$folder"
+    expect_line 'init of an office that cancels' 0 'ok' init "$folder/one.db" 1 1
+    expect_line 'init of an office that does not' 0 'ok' init "$folder/two.db" 2 1
+    expect_line 'a room of the office that cancels' 0 'ok' add-room "$folder/one.db" oak
+    expect_line 'a room of the other' 0 'ok' add-room "$folder/two.db" oak
+    expect_line 'a booking to be cancelled' 0 '1-1 T 1995-12-18 14:00-15:00' book "$folder/one.db" oak 60 1995-12-18 14:00 Alpha
+    expect_line 'its cancel' 0 '1-2 T cancels 1-1' cancel "$folder/one.db" oak 1-1
+    expect_line 'a second cancel of it' 0 '1-3 T void 1-1' cancel "$folder/one.db" oak 1-1
+    expect_line 'a booking of the other' 0 '2-1 T 1995-12-18 16:00-17:00' book "$folder/two.db" oak 60 1995-12-18 16:00 Beta
+    printf 'pulled 1 writes 0 commits\nrefused 27 NeedsVersion2\n' > "$folder/first"
+    printf 'pulled 0 writes 0 commits\nrefused 27 NeedsVersion2\n' > "$folder/again"
+    printf 'mp1 9 1\nK 0\nE\n' > "$folder/position"
+    printf 'mr1 1 1\nW 1 1 1 oak 60 1995-12-18 14:00 0 Alpha\nM\n' > "$folder/front"
+    expect_line 'an export of the line before a cancel' 0 'wrote 50 bytes' export "$folder/one.db" "$folder/position" "$folder/batch" 1
+    same 'the batch that ends before a cancel' "$folder/batch" "$folder/front"
+    expect_line 'an export with a cancel' 1 'refused 27 NeedsVersion2' export "$folder/one.db" "$folder/position" "$folder/none" 2
+    gone 'no batch with a cancel is written' "$folder/none"
+    serve "$folder/two.db" 3
+    expect 'an exchange of an office that has cancels' 1 "$folder/first" exchange "$folder/one.db" "http://127.0.0.1:$port/"
+    served 'the lines of that exchange: nothing is asked over the third connection' 200 200 400
+    serve "$folder/one.db" 1
+    expect_line 'an exchange with an office that has cancels' 1 'peer answered 409' exchange "$folder/two.db" "http://127.0.0.1:$port/"
+    served 'the line of its refusal' 409
+    expect 'a bridge from an office that has cancels' 1 "$folder/again" bridge "$folder/one.db" "$folder/two.db"
+    expect_line 'a bridge to it' 1 'peer answered 409' bridge "$folder/two.db" "$folder/one.db"
+}
+
 # a peer at an address of version 6, which answers 503
 run_other_family() {
     if ! command -v python3 > /dev/null; then
@@ -280,4 +325,6 @@ run_http() {
         echo 'skipped: a served database, cut requests, a killed server (no curl)'
     fi
     run_exchanges
+    run_kept_cancels
+    if command -v curl > /dev/null; then run_served_cancels; fi
 }

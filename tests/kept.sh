@@ -20,13 +20,12 @@ shows() {
     expect "kept: ${words[*]}" 0 "$scratch/kept/wanted" "${words[0]}" "$database" "${words[@]:1}"
 }
 
+# a program of the second schema refuses it, and leaves it as it is
 run_kept() {
     local database=$scratch/kept/first.sqlite
     mkdir -p "$scratch/kept"
     cp -- tests/kept/first.sqlite "$database"
-    shows "$database" tests/kept/first.replies
-    expect_line 'kept: a batch for a position' 0 "wrote $(wc -c < tests/kept/first.batch) bytes" \
-        export "$database" tests/kept/first.position "$scratch/kept/batch" 100000
-    same 'kept: the batch' "$scratch/kept/batch" tests/kept/first.batch
-    shows "$database" tests/kept/first.after
+    damaged "$database" 'refused 26 NotAReplica'
+    expect_line 'kept: init of the first tables' 1 'refused 26 NotAReplica' init "$database" 7 3
+    same 'kept: the first tables after init' "$database" tests/kept/first.sqlite
 }

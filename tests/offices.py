@@ -2,7 +2,8 @@
 
 import wire
 from calls import call, done
-from oracle import Replica
+from oracle import MOST_TOLD, RULES, Booking, Replica, id_text
+from tables import rows_for, rows_of
 
 ROOMS = ['oak', 'elm', 'a-room-of-16-byt']
 DAYS = ['1990-01-01', '2024-02-29', '2099-12-31']
@@ -16,7 +17,7 @@ class Difference(Exception):
 def batch_text(maker, commits, counts, limit):
     """The bytes of the batch that this replica makes for a claim, or None where it is refused."""
     lines = maker.batch_for(wire.Claim(commits, counts), limit)
-    return None if lines is None else ''.join(line + '\n' for line in lines).encode('ascii')
+    return None if isinstance(lines, str) else ''.join(line + '\n' for line in lines).encode('ascii')
 
 
 class Office:
@@ -35,12 +36,21 @@ class Office:
 
     def book(self, rng):
         room, length = rng.choice(ROOMS[:2]), rng.choice([30, 60, 90])
-        slots = [(rng.choice(DAYS), rng.choice(TIMES[:4])) for _ in range(rng.choice([1, 1, 2, 3, 9]))]
+        # at the most as many alternatives as the exchange text can say
+        slots = [(rng.choice(DAYS), rng.choice(TIMES[:4])) for _ in range(rng.choice([1, 1, 2, 3, MOST_TOLD[RULES.version] + 1]))]
         if room not in self.replica.rooms:
             self.is_told('add-room', room, self.replica.add_room(room))
         title = rng.choice(['Alpha', 'Beta', 'a"b~c'])
         others = [f'{day}T{time}' for day, time in slots[1:]]
         self.is_told('book', room, length, *slots[0], title, *others, self.replica.book(room, str(length), slots, title))
+
+    def cancel(self, rng):
+        """A cancel of a booking that is known."""
+        bookings = sorted((write for write in self.replica.known.values() if isinstance(write, Booking)), key=Booking.id)
+        if bookings:
+            write = rng.choice(bookings)
+            request = id_text(write.id())
+            self.is_told('cancel', write.room, request, self.replica.cancel(write.room, request))
 
     def import_bytes(self, text):
         """The batch with these bytes, through a file."""
@@ -62,7 +72,7 @@ class Office:
             self.is_told('calendar', room, 'full', self.replica.calendar(room, 'full'))
 
     def check(self):
-        """All that the database shows."""
+        """All that the database shows, and its rows."""
         self.check_sheets()
         for room in ROOMS:
             self.is_told('errors', room, self.replica.errors(room))
@@ -72,3 +82,6 @@ class Office:
         for server, count in self.replica.counts().items():
             write = self.replica.known[(server, count)]
             self.is_told('outcome', write.room, f'{server}-{count}', self.replica.outcome_of(write.room, write.id()))
+        rows, wanted = rows_of(self.path), rows_for(self.replica)
+        if rows != wanted:
+            raise Difference(f'the rows of {[name for name in wanted if rows.get(name) != wanted[name]]}: {rows}, wanted {wanted}')

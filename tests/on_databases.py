@@ -12,7 +12,7 @@ import subprocess
 import sys
 
 # The words of a script for a command whose database and other words are the line's own.
-SAME = {'room': 'add-room', 'sheet': 'sheet', 'calendar': 'calendar', 'outcome': 'outcome', 'errors': 'errors',
+SAME = {'room': 'add-room', 'cancel': 'cancel', 'sheet': 'sheet', 'calendar': 'calendar', 'outcome': 'outcome', 'errors': 'errors',
         'commit': 'commit', 'truncate': 'truncate', 'position': 'position'}
 
 

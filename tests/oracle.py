@@ -6,12 +6,24 @@
 writes a script of about that many lines to the file SCRIPT, and to EXPECTED what the program has to print for it. Here a replica
 is the set of the writes that it knows and the list of commits; each answer replays a room's whole list from an empty calendar.
 Nothing is kept beside, and nothing is ever undone. What holds of every world is checked of the replicas after each exchange.
+
+The variable ROOMS_RULES of the environment chooses the rules of all tests in Python: `bookings` (where it isn't set), `cancels`, or
+`second` for cancels and the second exchange text.
 """
 
+import collections
 import datetime
+import os
 import random
 import re
 import sys
+
+# How many alternatives a request may have, whether requests can be cancelled, and the exchange text that a replica asks for.
+Rules = collections.namedtuple('Rules', 'alternatives has_cancels version')
+RULES = {'bookings': Rules(8, False, 1), 'cancels': Rules(16, True, 1),
+         'second': Rules(16, True, 2)}[os.environ.get('ROOMS_RULES', 'bookings')]
+# How many alternatives each version of the exchange text can say.
+MOST_TOLD = {1: 8, 2: 16}
 
 WEEKDAYS = ['Monday', 'Tuesday', 'Wednesday', 'Thursday', 'Friday', 'Saturday', 'Sunday']
 
@@ -57,10 +69,20 @@ def is_title(text):
     return re.fullmatch(r'[ -~]{1,60}', text) is not None and text[0] != ' ' and text[-1] != ' '
 
 
+def read_id(text):
+    match = re.fullmatch(r'([1-9][0-9]?)-([1-9][0-9]{0,8})', text)
+    return (int(match[1]), int(match[2])) if match else None
+
+
+def id_text(request):
+    return f'{request[0]}-{request[1]}'
+
+
 class Write:
-    def __init__(self, server, n, time, room, length, choices, title):
-        self.server, self.n, self.time = server, n, time
-        self.room, self.length, self.choices, self.title = room, length, choices, title
+    """What bookings and cancels share: a stamp and a room."""
+
+    def __init__(self, server, n, time, room):
+        self.server, self.n, self.time, self.room = server, n, time, room
 
     def id(self):
         return (self.server, self.n)
@@ -68,31 +90,76 @@ class Write:
     def stamp(self):
         return (self.time, self.server)
 
+
+class Booking(Write):
+    """A request for a room: the slots that it may take, the wish first. Times are minutes."""
+
+    def __init__(self, server, n, time, room, length, choices, title):
+        super().__init__(server, n, time, room)
+        self.length, self.choices, self.title = length, choices, title
+
+    def slot_text(self, choice):
+        day, start = self.choices[choice]
+        return f'{day} {span(start, self.length)}'
+
     def line(self):
         slots = [f'{day} {time_text(start)}' for day, start in self.choices]
         others = ''.join(' ' + slot for slot in slots[1:])
         return (f'W {self.server} {self.n} {self.time} {self.room} {self.length} {slots[0]} '
                 f'{len(slots) - 1}{others} {self.title}')
 
+    def is_told(self, version):
+        """The exchange text of this version can say it."""
+        return len(self.choices) - 1 <= MOST_TOLD[version]
+
+
+class Cancel(Write):
+    """A request that the booking with the id `target` be taken back."""
+
+    def __init__(self, server, n, time, room, target):
+        super().__init__(server, n, time, room)
+        self.target = target
+
+    def line(self):
+        return f'X {self.server} {self.n} {self.time} {self.room} {self.target[0]} {self.target[1]}'
+
+    def is_told(self, version):
+        return version > 1
+
+
+# A write, its mark, its place (the number of the choice that a booking takes, 'logged', 'done' or 'void'), and of a booking that was
+# taken back the entry of the cancel that did it.
+Entry = collections.namedtuple('Entry', 'write mark place cancel')
+
 
 def replay(writes):
-    """The choice that each write of one room takes, or None where all are taken."""
-    taken, places = [], []
-    for write in writes:
-        place = None
-        for number, (day, start) in enumerate(write.choices):
-            if all(day != d or start + write.length <= s or e <= start for d, s, e in taken):
-                place = number
-                taken.append((day, start, start + write.length))
-                break
-        places.append(place)
-    return places
+    """The place of each write of one room, executed one after the other from an empty calendar, and the index of the cancel that took
+    it back, or None."""
+    places, cancels = [], [None] * len(writes)
+    for index, write in enumerate(writes):
+        standing = [at for at in range(index) if isinstance(places[at], int) and cancels[at] is None]
+        if isinstance(write, Cancel):
+            targets = [at for at in standing if writes[at].id() == write.target]
+            for at in targets:
+                cancels[at] = index
+            places.append('done' if targets else 'void')
+        else:
+            taken = [(writes[at].choices[places[at]], writes[at].length) for at in standing]
+            places.append(next((number for number, choice in enumerate(write.choices) if is_free(choice, write.length, taken)), 'logged'))
+    return list(zip(places, cancels))
+
+
+def is_free(choice, length, taken):
+    """None of the slots that are taken has a minute of this choice."""
+    day, start = choice
+    return all(day != d or start + length <= s or s + size <= start for (d, s), size in taken)
 
 
 class Replica:
     def __init__(self, server, primary):
         self.server, self.primary = server, primary
         self.known, self.commits, self.dropped, self.rooms = {}, [], 0, set()
+        self.version = RULES.version
 
     def count(self, server):
         return max((n for s, n in self.known if s == server), default=0)
@@ -108,13 +175,17 @@ class Replica:
         return sorted((w for i, w in self.known.items() if i not in committed), key=Write.stamp)
 
     def told(self, room, committed_alone=False):
+        """The entries of a room's writes in the order of execution, of all or of the committed ones alone."""
         committed = [self.known[i] for i in self.commits if self.known[i].room == room]
         others = [] if committed_alone else [w for w in self.tentative() if w.room == room]
-        marks = ['C'] * len(committed) + ['T'] * len(others)
-        return list(zip(committed + others, marks, replay(committed + others)))
+        writes, marks = committed + others, ['C'] * len(committed) + ['T'] * len(others)
+        return [Entry(write, mark, place, None if cancel is None else Entry(writes[cancel], marks[cancel], 'done', None))
+                for write, mark, (place, cancel) in zip(writes, marks, replay(writes))]
 
-    def entries(self, told):
-        rows = [(*write.choices[place], write, mark) for write, mark, place in told if place is not None]
+    def standing(self, told):
+        """The bookings that stand at the end: day, start, write and mark, by day and start."""
+        rows = [(*entry.write.choices[entry.place], entry.write, entry.mark) for entry in told
+                if isinstance(entry.place, int) and entry.cancel is None]
         return sorted(rows, key=lambda row: (row[0], row[1]))
 
     def room_fault(self, room):
@@ -143,31 +214,53 @@ class Replica:
             return refused(4, 'BadRoomName')
         if not is_title(title):
             return refused(5, 'BadTitle')
-        if len(slots) > 9:
+        if len(slots) > RULES.alternatives + 1:
             return refused(6, 'TooManyAlternatives')
         if room not in self.rooms:
             return refused(7, 'UnknownRoom')
         choices = [(day, start) for (day, _), start in zip(slots, starts)]
-        write = Write(self.server, self.count(self.server) + 1, self.clock() + 1, room, int(length), choices, title)
+        return self.number_fault() or self.accept(Booking(*self.next_stamp(), room, int(length), choices, title))
+
+    def cancel(self, room, text):
+        target = self.known.get(read_id(text))
+        if self.room_fault(room):
+            return self.room_fault(room)
+        if not isinstance(target, Booking) or target.room != room:
+            return refused(9, 'NoSuchRequest')
+        return self.number_fault() or self.accept(Cancel(*self.next_stamp(), room, target.id()))
+
+    def number_fault(self):
+        """Of a new write: no time or no count is left for it."""
+        if self.clock() == 999999999999:
+            return refused(13, 'ClockExhausted')
+        return refused(14, 'CountExhausted') if self.count(self.server) == 999999999 else None
+
+    def next_stamp(self):
+        return self.server, self.count(self.server) + 1, self.clock() + 1
+
+    def accept(self, write):
+        """A new write of its own; its outcome."""
         self.known[write.id()] = write
-        return self.outcome_of(room, write.id())
+        return self.outcome_of(write.room, write.id())
 
     def outcome_of(self, room, request):
-        for write, mark, place in self.told(room):
-            if write.id() == request:
-                head = f'{write.server}-{write.n} {mark}'
-                if place is None:
-                    return f'{head} logged'
-                day, start = write.choices[place]
-                return f'{head} {day} {span(start, write.length)}'
+        for entry in self.told(room):
+            if entry.write.id() == request:
+                return f'{id_text(request)} {entry.mark} {self.fate(entry)}'
         return refused(9, 'NoSuchRequest')
 
+    def fate(self, entry):
+        """What became of a write, in words."""
+        if entry.place in ('done', 'void'):
+            return f'{"cancels" if entry.place == "done" else "void"} {id_text(entry.write.target)}'
+        if entry.place == 'logged':
+            return 'logged'
+        if entry.cancel:
+            return f'cancelled {entry.cancel.mark} {id_text(entry.cancel.write.id())}'
+        return entry.write.slot_text(entry.place)
+
     def outcome(self, room, text):
-        fault = self.room_fault(room)
-        if fault:
-            return fault
-        match = re.fullmatch(r'([1-9][0-9]?)-([1-9][0-9]{0,8})', text)
-        return self.outcome_of(room, (int(match[1]), int(match[2]))) if match else refused(9, 'NoSuchRequest')
+        return self.room_fault(room) or self.outcome_of(room, read_id(text))
 
     def sheet(self, room, day):
         if day_of(day) is None:
@@ -176,7 +269,7 @@ class Replica:
         if fault:
             return fault
         rows = [f'{span(start, w.length)} {mark} {w.server}-{w.n} {w.title}'
-                for d, start, w, mark in self.entries(self.told(room)) if d == day]
+                for d, start, w, mark in self.standing(self.told(room)) if d == day]
         return '\n'.join([f'{room} {day} {WEEKDAYS[day_of(day).weekday()]}'] + (rows or ['(no bookings)']))
 
     def calendar(self, room, part):
@@ -184,15 +277,16 @@ class Replica:
         if fault:
             return fault
         rows = [f'{day} {span(start, w.length)} {mark} {w.server}-{w.n} {w.title}'
-                for day, start, w, mark in self.entries(self.told(room, part == 'committed'))]
+                for day, start, w, mark in self.standing(self.told(room, part == 'committed'))]
         return '\n'.join([f'{room} {part}'] + (rows or ['(no bookings)']))
 
     def errors(self, room):
         fault = self.room_fault(room)
         if fault:
             return fault
-        rows = [f'{mark} {w.server}-{w.n} {w.choices[0][0]} {span(w.choices[0][1], w.length)} {w.title}'
-                for w, mark, place in self.told(room) if place is None]
+        rows = [f'{entry.mark} {id_text(entry.write.id())} ' + (f'cancel {id_text(entry.write.target)}' if entry.place == 'void'
+                else f'{entry.write.slot_text(0)} {entry.write.title}')
+                for entry in self.told(room) if entry.place in ('logged', 'void')]
         return '\n'.join([f'{room} errors'] + (rows or ['(no errors)']))
 
     def commit(self, k):
@@ -215,20 +309,23 @@ class Replica:
 
     def position(self):
         counts = [f'V {server} {count}' for server, count in self.counts().items()]
-        return '\n'.join([f'mp1 {self.server} {self.primary}', f'K {len(self.commits)}'] + counts + ['E'])
+        return '\n'.join([f'mp{self.version} {self.server} {self.primary}', f'K {len(self.commits)}'] + counts + ['E'])
 
     def batch_for(self, other, limit):
-        """The lines of the batch for the other replica's position, or None where it is refused as Truncated."""
+        """The lines of the batch for what the other replica has, in the version in which it says so, or the refusal."""
         if len(other.commits) < self.dropped:
-            return None
-        counts, lines = other.counts(), []
+            return refused(22, 'Truncated')
+        counts, items = other.counts(), []
         for number, request in enumerate(self.commits[len(other.commits):], len(other.commits) + 1):
             write = self.known[request]
-            if write.n > counts.get(write.server, 0):
-                lines.append(write.line())
-            lines.append(f'C {number} {write.server} {write.n}')
-        lines += [write.line() for write in self.tentative() if write.n > counts.get(write.server, 0)]
-        return [f'mr1 {self.server} {self.primary}'] + lines[:limit] + ['M' if len(lines) > limit else 'E']
+            items += [write] if write.n > counts.get(write.server, 0) else []
+            items.append(f'C {number} {write.server} {write.n}')
+        items += [write for write in self.tentative() if write.n > counts.get(write.server, 0)]
+        given = items[:limit]
+        if not all(isinstance(item, str) or item.is_told(other.version) for item in given):
+            return refused(27, 'NeedsVersion2')
+        lines = [item if isinstance(item, str) else item.line() for item in given]
+        return [f'mr{other.version} {self.server} {self.primary}'] + lines + ['M' if len(items) > limit else 'E']
 
     def receive(self, text):
         lines = text.split('\n')[:-1]
@@ -251,11 +348,14 @@ class Replica:
         words = line.split(' ')
         if words[0] == 'C':
             return self.take_commit(number, int(words[1]), (int(words[2]), int(words[3])))
+        if words[0] == 'X':
+            server, n, time, room, *target = words[1:]
+            return self.take_write(number, Cancel(int(server), int(n), int(time), room, tuple(map(int, target))))
         extra = int(words[8])
         slots = [words[6:8]] + [words[9 + 2 * i:11 + 2 * i] for i in range(extra)]
         choices = [(day, minute_of(time)) for day, time in slots]
-        write = Write(int(words[1]), int(words[2]), int(words[3]), words[4], int(words[5]), choices,
-                      ' '.join(words[9 + 2 * extra:]))
+        write = Booking(int(words[1]), int(words[2]), int(words[3]), words[4], int(words[5]), choices,
+                        ' '.join(words[9 + 2 * extra:]))
         return self.take_write(number, write)
 
     def take_write(self, number, write):
@@ -291,6 +391,7 @@ class Replica:
 class World:
     def __init__(self, rng):
         self.rng, self.replicas, self.pool, self.script, self.replies = rng, {}, [], [], []
+        self.cancelling = []
 
     def say(self, line, reply):
         self.script.append(line)
@@ -312,8 +413,8 @@ class World:
         if maker not in self.replicas or taker not in self.replicas:
             return self.say(line, 'no replica')
         lines = self.replicas[maker].batch_for(self.replicas[taker], limit)
-        if lines is None:
-            return self.say(line, refused(22, 'Truncated'))
+        if isinstance(lines, str):
+            return self.say(line, lines)
         text = ''.join(each + '\n' for each in lines)
         self.pool.append(text)
         return self.say(line, f'batch {len(self.pool)} {len(text)} bytes')
@@ -341,9 +442,9 @@ class World:
                 own = self.replicas[server].known[(server, n)]
                 assert own.line() == write.line()
             for room in {write.room for write in replica.known.values()}:
-                for write, mark, place in replica.told(room):
-                    if mark == 'C':
-                        assert places.setdefault(write.id(), place) == place
+                for entry in replica.told(room):
+                    if entry.mark == 'C':
+                        assert places.setdefault(entry.write.id(), entry.place) == entry.place
 
     def exchange(self, one, other):
         """Both ways, whole, with no other step between: both then answer alike."""
@@ -361,6 +462,42 @@ class World:
             for server in (one, other):
                 self.at(server, f'calendar {server} {room} full', lambda r: r.calendar(room, 'full'))
             assert self.replies[-1] == self.replies[-2]
+            assert a.errors(room) == b.errors(room) and a.calendar(room, 'committed') == b.calendar(room, 'committed')
+
+    def begin_cancels(self):
+        """Which servers cancel, and ask for more alternatives than the first exchange text can say: all where the second one is used,
+        else some, since they can't hand on what they have then."""
+        servers = list(self.replicas)
+        if RULES.has_cancels:
+            number = len(servers) if RULES.version > 1 else self.rng.randint(1, max(1, len(servers) - 1))
+            self.cancelling = sorted(self.rng.sample(servers, number))
+
+    def turn(self):
+        if self.cancelling and self.rng.random() < 0.12:
+            self.cancel(self.rng.choice(self.cancelling))
+        else:
+            self.step()
+
+    def cancel(self, server):
+        """A cancel, mostly of a write that is known, and perhaps what became of another one."""
+        rng, replica = self.rng, self.replicas[server]
+        writes = sorted(replica.known.values(), key=Write.stamp)
+        some = rng.choice([writes, writes[-10:]])
+        room, request = rng.choice(['oak', 'elm', 'ash', 'Oak']), rng.choice([f'{server}-{rng.randint(1, 40)}', '1-0', '01-1', '1'])
+        if some and rng.random() < 0.92:
+            write = rng.choice(some)
+            room, request = write.room if rng.random() < 0.95 else room, id_text(write.id())
+        self.at(server, f'cancel {server} {room} {request}', lambda r: r.cancel(room, request))
+        if some and rng.random() < 0.4:
+            other = rng.choice(some)
+            request = id_text(other.id())
+            self.at(server, f'outcome {server} {other.room} {request}', lambda r: r.outcome(other.room, request))
+
+    def too_many(self, server):
+        """A number of alternatives that is refused, or that not every replica can hand on."""
+        if not RULES.has_cancels:
+            return 9
+        return self.rng.choice([9, 16, 17]) if server in self.cancelling else 17
 
     def step(self):
         rng = self.rng
@@ -405,7 +542,7 @@ class World:
         length = rng.choice(['30', '60', '90', '15', '240']) if rng.random() < 0.97 else rng.choice(['0', '060', '1441', 'x'])
         times = ['08:00', '08:30', '09:00', '09:15', '10:00', '11:30', '14:00', '23:30']
         time = rng.choice(times) if rng.random() < 0.97 else rng.choice(['24:00', '9:00'])
-        others = [(day, rng.choice(times)) for _ in range(rng.choice([0, 0, 1, 2, 3, 9 if rng.random() < 0.1 else 1]))]
+        others = [(day, rng.choice(times)) for _ in range(rng.choice([0, 0, 1, 2, 3, self.too_many(server) if rng.random() < 0.1 else 1]))]
         title = rng.choice(['Planning', 'Audit of 12', 'Interview', 'a"b~c']) if rng.random() < 0.98 else rng.choice(['', ' lead', 'y' * 61])
         words = ' '.join([f'book {server} {room} {length} {day} {time} {len(others)}'] + [f'{d} {t}' for d, t in others])
         self.at(server, f'{words} {title}', lambda r: r.book(room, length, [(day, time)] + others, title))
@@ -424,8 +561,9 @@ def main():
         world.add(server)
         for room in ('oak', 'elm'):
             world.at(server, f'room {server} {room}', lambda r: r.add_room(room))
+    world.begin_cancels()
     while len(world.script) < int(lines):
-        world.step()
+        world.turn()
     with open(script, 'w', encoding='ascii') as out:
         out.write(''.join(line + '\n' for line in world.script))
     with open(expected, 'w', encoding='ascii') as out:

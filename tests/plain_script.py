@@ -1,8 +1,13 @@
+#!/usr/bin/env python3
 """A plain form of scripts: what `rehearse` prints for one, line by line, where some lines may have been refused for want of memory.
 
-A replica is that of oracle.py: the set of the writes that it knows and the list of commits. A line that was refused is not done here,
+    plain_script.py SCRIPT
+
+prints the replies to the script's lines, none of which may be a bad one. A replica is that of oracle.py: the set of the writes that it knows and the list of commits. A line that was refused is not done here,
 so that what is printed afterwards shows whether the program did it.
 """
+
+import sys
 
 import oracle
 
@@ -34,8 +39,8 @@ class World:
         if maker not in self.replicas or taker not in self.replicas:
             return 'no replica'
         lines = self.replicas[maker].batch_for(self.replicas[taker], limit)
-        if lines is None:
-            return oracle.refused(22, 'Truncated')
+        if isinstance(lines, str):
+            return lines
         self.batches.append(''.join(line + '\n' for line in lines))
         return f'batch {len(self.batches)} {len(self.batches[-1])} bytes'
 
@@ -102,3 +107,7 @@ def refused_in(lines, printed):
             return f'line {number + 1}, `{line}`: printed {printed[at:at + 200]}, wanted {reply}'
         at += len(reply)
     return refused if at == len(printed) else f'printed beyond the last reply: {printed[at:at + 200]}'
+
+
+if __name__ == '__main__':
+    sys.stdout.buffer.write(printed_by(lines_in(sys.argv[1])))

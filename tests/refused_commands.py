@@ -1,6 +1,6 @@
 """Commands over each keeper with each allocation refused in turn, by the shim refuse_each.c under the program of the crate mr_asked.
 
-The program asks three replicas the commands of four scripts, first over lists and then over databases in memory. Each allocation of each
+The program asks three replicas the commands of six scripts, first over lists and then over databases in memory. Each allocation of each
 command, and of opening each keeper, is refused in a child of the process: there the reply is that of the script, or that there is no
 memory. In the second case all that can be seen of the three replicas is as before the command, the command has its reply once it is
 asked again, and then what can be seen is as after it. What is wanted comes from the plain form of scripts.

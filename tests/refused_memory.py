@@ -62,7 +62,7 @@ class Lists(Tried):
             kind, *words = line.split(' ')
             if kind == 'deliver':
                 line = f'deliver {2 * int(words[0]) - 1} {words[1]} {words[2]}'
-            if kind in ('replica', 'room', 'book', 'commit', 'truncate', 'deliver'):
+            if kind in ('replica', 'room', 'book', 'cancel', 'commit', 'truncate', 'deliver'):
                 server = words[1] if kind == 'deliver' else words[0]
                 made += [line, f'position {server}', f'calendar {server} oak full', line]
             else:
@@ -358,7 +358,7 @@ def main():
     start_of_server(tried[Databases])
     served(tried[Servers])
     tried[Requests].requests()
-    tried[Commands].scripts(list(scripts.values()))
+    tried[Commands].scripts(scripts.values())
     counts = [f'{kind.__name__.lower()} {it.allocations} allocations, {it.refused} refused, {it.late} done and not told, {it.wrong} wrong'
               for kind, it in tried.items()]
     print('; '.join(counts))

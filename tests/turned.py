@@ -1,6 +1,7 @@
 """Turned batches and positions: real ones, with what a broken line or a hostile hand makes of them."""
 
 from offices import DAYS, ROOMS, TIMES, batch_text
+from oracle import MOST_TOLD, RULES
 
 NUMBERS = ['0', '1', '01', '2', '8', '9', '99', '100', '1440', '1441', '999999999', '1000000000', '999999999999',
            '1000000000000', '18446744073709551615', '18446744073709551616', '9' * 400, '-1', '+1', '1.0', '', 'x']
@@ -10,13 +11,15 @@ WORDS = ['oak', 'a' * 16, 'a' * 17, 'Oak', '2023-02-29', '2024-02-30', '1989-12-
          '1995-12-18', '14:00', 'W', 'C', 'E', 'M', 'X', 'mr1', 'mr2', 'mp1', 'K', 'V', 'w']
 
 SERVERS, COUNTS, LATEST = ['0', '1', '99', '100'], ['0', '1', '999999999', '1000000000'], ['0', '1', '999999999999', '1000000000000']
+NAMES, EXTRAS = ['', 'a', 'a' * 16, 'a' * 17], ['0', '8', '9', '10', '16', '17']
 # What each word of a line may be at the most and at the least, and just beyond.
 LIMITS = {
-    'mr1': [SERVERS, SERVERS],
-    'W': [SERVERS, COUNTS, LATEST, ['', 'a', 'a' * 16, 'a' * 17], ['0', '1', '1440', '1441'],
-          ['1989-12-31', '1990-01-01', '2099-12-31', '2100-01-01'], ['00:00', '23:59', '23:60', '24:00'], ['0', '8', '9', '10']],
+    'mr1': [SERVERS, SERVERS], 'mr2': [SERVERS, SERVERS],
+    'W': [SERVERS, COUNTS, LATEST, NAMES, ['0', '1', '1440', '1441'],
+          ['1989-12-31', '1990-01-01', '2099-12-31', '2100-01-01'], ['00:00', '23:59', '23:60', '24:00'], EXTRAS],
+    'X': [SERVERS, COUNTS, LATEST, NAMES, SERVERS, COUNTS],
     'C': [LATEST, SERVERS, COUNTS],
-    'mp1': [SERVERS, SERVERS],
+    'mp1': [SERVERS, SERVERS], 'mp2': [SERVERS, SERVERS],
     'K': [LATEST],
     'V': [SERVERS, COUNTS],
 }
@@ -33,6 +36,20 @@ def at_each_limit(line):
 
 def limit_batches():
     """For server 7 of the primary 3, which knows the writes 3-1, committed, and 5-1: lines that would be taken otherwise."""
+    yield from first_limit_batches()
+    for line in at_each_limit('mr2 5 3'):
+        yield f'{line}\nW 9 2 1 elm 1 2024-02-29 00:00 0 x\nE\n'
+    for server, line in enumerate(at_each_limit('X 75 1 1 elm 10 1'), 75):
+        yield 'mr2 5 3\n' + line.replace('X 75 ', f'X {server} ') + '\nE\n'
+    for server, extra in enumerate(EXTRAS, 50):
+        yield f'mr2 5 3\nW {server} 1 1 elm 1 2024-02-29 00:00 {extra} {"2024-02-29 09:00 " * int(extra)}x\nE\n'
+    yield 'mr1 5 3\nX 99 1 1 elm 10 1\nE\n'
+    yield 'mr2 5 3\nX 99 1 1 elm 10 1\nX 99 2 2 elm 99 1\nX 99 3 3 elm 99 3\nE\n'
+    yield 'mr2 5 3\nX 5 1 2 oak 3 1\nE\n'
+
+
+def first_limit_batches():
+    """Those of the first exchange text."""
     for server, line in enumerate(at_each_limit('W 10 1 1 elm 1 2024-02-29 00:00 0 x'), 10):
         yield 'mr1 5 3\n' + line.replace('W 10 ', f'W {server} ') + '\nE\n'
     for server, title in enumerate(TITLES, 60):
@@ -44,7 +61,7 @@ def limit_batches():
 
 
 def limit_positions():
-    for line in at_each_limit('mp1 9 3'):
+    for line in [*at_each_limit('mp1 9 3'), *at_each_limit('mp2 9 3')]:
         yield f'{line}\nK 0\nE\n'
     for line in at_each_limit('K 1'):
         yield f'mp1 9 3\n{line}\nE\n'
@@ -129,6 +146,12 @@ def forged_commit(rng, taker, server, n):
     return f'C {max(0, number)} {server} {rng.choice([committed, committed + 1, committed + 1, n])}'
 
 
+def forged_cancel(rng, taker, stamp, room):
+    """A cancel of something that is known, or nearly."""
+    server, n = rng.choice(sorted(taker.known) or [(taker.server, 1)])
+    return f'X {stamp} {room} {server} {rng.choice([n, n, n, n + 1, 0])}'
+
+
 def forged_line(rng, taker, other):
     """A line that follows on what the taker knows, or nearly does."""
     counts = taker.counts()
@@ -139,7 +162,9 @@ def forged_line(rng, taker, other):
     is_wild = rng.random() < 0.15
     time = max(0, taker.last_time(server) + rng.choice([0, 1, 1, 1, 5]))
     time = rng.choice([999999999999, 1000000000000]) if is_wild and rng.random() < 0.1 else time
-    extra = rng.choice([0, 9] if is_wild else [0, 0, 1, 2, 8])
+    if rng.random() < (0.3 if RULES.version > 1 else 0.05):
+        return forged_cancel(rng, taker, f'{server} {n} {time}', rng.choice(ROOMS))
+    extra = rng.choice([0, MOST_TOLD[RULES.version] + 1] if is_wild else [0, 0, 1, 2, MOST_TOLD[RULES.version]])
     slots = [f'{rng.choice(DAYS)} {rng.choice(TIMES if is_wild else TIMES[:4])}' for _ in range(extra + 1)]
     line = f'W {server} {n} {time} {rng.choice(ROOMS)} {rng.choice([1, 30, 1440] if is_wild else [30, 60])} {slots[0]} {extra} '
     return line + ''.join(slot + ' ' for slot in slots[1:]) + rng.choice(TITLES if is_wild else ['x', 'Alpha', TITLES[1]])
@@ -148,7 +173,8 @@ def forged_line(rng, taker, other):
 def forged_batch(rng, taker, other):
     """A batch of one or a few lines, each of which follows on what the taker knows, or nearly does."""
     lines = [forged_line(rng, taker, other) for _ in range(rng.choice([1, 1, 1, 2, 3]))]
-    return f'mr1 {other.server} {taker.primary}\n{"".join(line + chr(10) for line in lines)}E\n'.encode('latin-1')
+    version = rng.choice([1, 2, 2]) if RULES.version > 1 else 1
+    return f'mr{version} {other.server} {taker.primary}\n{"".join(line + chr(10) for line in lines)}E\n'.encode('latin-1')
 
 
 def turned_batch(rng, taker, offices):
@@ -171,7 +197,8 @@ def turned_position(rng, maker, offices):
     if rng.random() < 0.6:
         counts = ''.join(f'V {s} {max(rng.randint(0, 1), n + rng.choice([-1, 0, 0, 1]))}\n' for s, n in maker.counts().items())
         commits = max(0, rng.choice([maker.dropped, len(maker.commits)]) + rng.choice([-1, 0, 1]))
-        text = f'mp1 {rng.randint(1, 99)} {maker.primary}\nK {commits}\n{counts}E\n'.encode('ascii')
+        version = rng.choice([1, 2]) if RULES.version > 1 else 1
+        text = f'mp{version} {rng.randint(1, 99)} {maker.primary}\nK {commits}\n{counts}E\n'.encode('ascii')
         if rng.random() < 0.7:
             return text
     return turn(rng, text, lambda: f'V {rng.randint(0, 100)} {rng.choice(NUMBERS)}')

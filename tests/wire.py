@@ -10,18 +10,29 @@ import oracle
 from oracle import refused
 
 SERVER, COUNT, TIME = r'([1-9][0-9]?)', r'([1-9][0-9]{0,8})', r'([1-9][0-9]{0,11})'
-SLOT = r'([0-9]{4}-[0-9]{2}-[0-9]{2}) ([0-9]{2}:[0-9]{2})'
-HEADER = re.compile(rf'mr1 {SERVER} {SERVER}')
+ROOM, SLOT = r'([a-z0-9-]{1,16})', r'([0-9]{4}-[0-9]{2}-[0-9]{2}) ([0-9]{2}:[0-9]{2})'
+VERSION = '([12])' if oracle.RULES.version == 2 else '(1)'
+HEADER = re.compile(rf'mr{VERSION} {SERVER} {SERVER}')
 COMMIT = re.compile(rf'C {TIME} {SERVER} {COUNT}')
-WRITE = re.compile(rf'W {SERVER} {COUNT} {TIME} ([a-z0-9-]{{1,16}}) ([1-9][0-9]{{0,3}}) {SLOT} ([0-8]) ([ -~]*)')
+WRITE = re.compile(rf'W {SERVER} {COUNT} {TIME} {ROOM} ([1-9][0-9]{{0,3}}) {SLOT} (0|[1-9][0-9]?) ([ -~]*)')
+CANCEL = re.compile(rf'X {SERVER} {COUNT} {TIME} {ROOM} {SERVER} {COUNT}')
 PAIR = re.compile(rf'{SLOT} ')
-POSITION = re.compile(rf'mp1 {SERVER} {SERVER}\nK (0|[1-9][0-9]{{0,11}})\n((?:V {SERVER} {COUNT}\n)*)E\n')
+POSITION = re.compile(rf'mp{VERSION} {SERVER} {SERVER}\nK (0|[1-9][0-9]{{0,11}})\n((?:V {SERVER} {COUNT}\n)*)E\n')
 
 
-def read_write(line):
-    """The write of a W line, or None."""
-    match = WRITE.fullmatch(line)
+def read_cancel(line):
+    """The write of an X line, or None."""
+    match = CANCEL.fullmatch(line)
     if not match:
+        return None
+    server, n, time, room, *target = match.groups()
+    return oracle.Cancel(int(server), int(n), int(time), room, tuple(map(int, target)))
+
+
+def read_write(line, version):
+    """The write of a W line, or None; each version of the text has so many alternatives at the most."""
+    match = WRITE.fullmatch(line)
+    if not match or int(match[8]) > oracle.MOST_TOLD[version]:
         return None
     server, n, time, room, length, day, start, extra, rest = match.groups()
     slots = [(day, start)]
@@ -36,15 +47,17 @@ def read_write(line):
     is_slot = all(start is not None and start + int(length) <= 1440 for _, start in choices)
     if not (is_day and is_slot and oracle.is_title(rest)):
         return None
-    return oracle.Write(int(server), int(n), int(time), room, int(length), choices, rest)
+    return oracle.Booking(int(server), int(n), int(time), room, int(length), choices, rest)
 
 
-def read_item(line):
+def read_item(line, version):
     """A write, a commit's (number, id), 'end', or None."""
     if line in ('E', 'M'):
         return 'end'
     match = COMMIT.fullmatch(line)
-    return (int(match[1]), (int(match[2]), int(match[3]))) if match else read_write(line)
+    if match:
+        return int(match[1]), (int(match[2]), int(match[3]))
+    return version > 1 and read_cancel(line) or read_write(line, version)
 
 
 def read_batch(text):
@@ -57,13 +70,13 @@ def read_batch(text):
         return refused(15, 'BadLine', 1)
     items, is_over = [], False
     for number, line in enumerate(lines[1:], 2):
-        item = None if is_over else read_item(line)
+        item = None if is_over else read_item(line, int(header[1]))
         if item is None:
             return refused(15, 'BadLine', number)
         is_over = item == 'end'
         if not is_over:
             items.append(item)
-    return int(header[2]), items
+    return int(header[3]), items
 
 
 def receive(replica, text):
@@ -89,10 +102,10 @@ def receive(replica, text):
 
 
 class Claim:
-    """What a position claims: a number of commits, and counts."""
+    """What a position claims: a number of commits, and counts; and the version in which it is answered."""
 
-    def __init__(self, commits, counts):
-        self.commits, self.told = [None] * min(commits, 1000000), counts
+    def __init__(self, commits, counts, version=oracle.RULES.version):
+        self.commits, self.told, self.version = [None] * min(commits, 1000000), counts, version
 
     def counts(self):
         return self.told
@@ -101,14 +114,14 @@ class Claim:
 def answer_position(replica, text, limit):
     """The reply to a position's bytes: a batch of at most this many lines, or a refusal."""
     match = POSITION.fullmatch(text.decode('latin-1'))
-    rows = [tuple(map(int, row)) for row in re.findall(r'V (\d+) (\d+)\n', match[4])] if match else []
+    rows = [tuple(map(int, row)) for row in re.findall(r'V (\d+) (\d+)\n', match[5])] if match else []
     servers = [server for server, _ in rows]
     if not match or servers != sorted(set(servers)):
         return refused(23, 'BadPosition')
-    if int(match[2]) != replica.primary:
+    if int(match[3]) != replica.primary:
         return refused(16, 'WrongPrimary')
-    lines = replica.batch_for(Claim(int(match[3]), dict(rows)), limit)
-    return refused(22, 'Truncated') if lines is None else ''.join(line + '\n' for line in lines)
+    lines = replica.batch_for(Claim(int(match[4]), dict(rows), int(match[1])), limit)
+    return lines if isinstance(lines, str) else ''.join(line + '\n' for line in lines)
 
 
 # What is answered over HTTP (docs/FORMATS.md, "HTTP").

@@ -85,8 +85,16 @@ async function askSheets(day) {
   return sheets;
 }
 
+/** What became of it may still change: it is tentative, or it may be cancelled before its day is over. */
+function isOpen(entry) {
+  const now = entry.now;
+  if (!now || now.mark !== 'C') return Boolean(now);
+  if (now.state === 'cancelled') return now.bymark !== 'C';
+  return now.state === 'booked' && (now.day === desk.day || now.day >= dayOf(new Date()));
+}
+
 async function askMine() {
-  for (const entry of mine.filter(each => each.now && each.now.mark !== 'C')) {
+  for (const entry of mine.filter(isOpen)) {
     const reply = await ask('/rooms/' + entry.room + '/requests/' + entry.now.id);
     failing(reply);
     entry.gone = reply.status !== 200;
@@ -266,7 +274,7 @@ const REFUSALS = {
   3: ['length', LENGTH],
   4: ['room', 'That is not the name of a room.'],
   5: ['title', 'A title has 1 to 60 plain letters, digits and signs (no accents), and no space at either end.'],
-  6: ['choices', 'At most 8 alternatives.'],
+  6: ['choices', 'At most 16 alternatives.'],
   7: ['room', 'This replica does not know the room: the operator has to add it, or exchange with an office that has it.'],
   13: ['send', 'The greatest logical time is reached: this replica takes no more requests. Tell the operator.'],
   14: ['send', 'This server’s numbers are used up: the office needs a new replica. Tell the operator.'],
@@ -425,6 +433,9 @@ function stateOf(entry) {
   const outcome = entry.now, sure = outcome.mark === 'C';
   if (entry.gone) return ['not known', 'logged', 'This replica does not know the request any more. Tell the operator.'];
   if (outcome.state === 'logged') return [sure ? 'logged for good' : 'logged', 'logged', 'It found no free slot and is in the error log.'];
+  if (outcome.state === 'cancelled') {
+    return [outcome.bymark === 'C' ? 'cancelled for good' : 'cancelled', 'cancelled', 'Request ' + outcome.by + ' cancelled it.'];
+  }
   return [sure ? '✓ committed' : '? tentative', sure ? 'committed' : 'tentative', outcome.day + ' ' + outcome.start + '–' + outcome.stop];
 }
 
@@ -450,7 +461,9 @@ function showMine() {
 }
 
 function showErrors(lines) {
-  byId('errors').replaceChildren(...lines.map(line => el('li', {}, line.replace(/^C /, 'committed: ').replace(/^T /, 'tentative: '))));
+  byId('errors').replaceChildren(...lines.map(line => el('li', {}, line
+    .replace(/^([CT]) (\d+-\d+) cancel (\d+-\d+)$/, '$1 $2, a cancel that found no booking of $3')
+    .replace(/^C /, 'committed: ').replace(/^T /, 'tentative: '))));
 }
 
 // ---- the page as a whole

@@ -1,12 +1,14 @@
 """Requests of strangers: real ones, nearly real ones, and ones at each limit. Each function gives the bytes of one of its kind."""
 
+import cancellations
 import submissions
+from oracle import RULES
 
 ROOMS = ['oak', 'oak', 'elm', 'ash', 'a' * 16, 'a' * 17, 'Oak', '..', '%6fak', '\u00e9', 'o~k', 'days', 'errors']
 DAYS = ['1995-12-18', '2099-12-31', '1990-01-01', '2023-02-29', '2100-01-01', '1995-12-18?x=1', '%31', '\u00e9', '1995-12-18#']
 IDS = ['1-1', '1-2', '7-1', '01-1', '1-0', '99-999999999', '100-1', '1-1000000000', '1', '-', '1-1-1', '1-01', '0-1']
 TARGETS = ['/', '/submit/', '//submit', '/Submit', '/rooms', '/rooms/oak', '/rooms//errors', '/rooms/oak/errors/', '*', '/pull?x',
-           '/rooms/oak/days', '/rooms/oak/days/', '/rooms/oak/days/1995-12-18/x', '/rooms/a/b/errors', 'http://a/position', '/submit%20',
+           '/cancel', '/cancel/', '/Cancel', '/rooms/oak/days', '/rooms/oak/days/', '/rooms/oak/days/1995-12-18/x', '/rooms/a/b/errors', 'http://a/position', '/submit%20',
            '/position#x', '/p\u00e9', '/rooms/errors/errors', '/rooms/days/days/days', '/rooms/{room}/errors', 'position', '/./position']
 METHODS = [b'GET', b'POST', b'PUT', b'HEAD', b'OPTIONS', b'get', b'Post', b'P@ST', b'', b'G T', b'DELETE', b'GET\t', b'G\xc3\x89T', b'A' * 300]
 VERSIONS = [b'HTTP/1.0', b'HTTP/2', b'HTTP/1.2', b'HTTP/1.11', b'http/1.1', b'', b'HTTP/1.1 ', b' HTTP/1.1', b'HTTP/0.9', b'HTTP/1.', b'HTTPS/1.1',
@@ -16,10 +18,12 @@ LENGTHS = ['1', '0', '00', '0000000086', '00000000086', '-1', '+1', '1 ', '1\t',
 PUSHED = [b'mr1 2 1\nE\n', b'', b'mr1 2 3\nE\n', b'mr1 2 1\nW 2 1 1 elm 30 1995-12-18 09:00 0 Beta\nE\n', b'x\n', b'mr1 2 1', b'\n',
           b'mr1 2 1\nW 2 2 5 oak 30 1995-12-18 09:00 0 Caf\xc3\xa9\nE\n', b'mr1 2 1\nC 1 1 1\nE\n', b'mr1 2 1\r\nE\r\n', b'mr1 2 1\nE\nE\n',
           b'mr1 2 1\nW 1 1 1 oak 30 1995-12-18 09:00 0 Own\nE\n', b'mr1 2 1\nW 3 2 1 elm 30 1995-12-18 09:00 0 x\n', b'mr1 100 1\nE\n',
-          b'mr1 2 1\nW 2 1 1 elm 30 1995-12-18 09:00 0 Other\nE\n', b'mr1 2 1\nM\n', b'mr1 2 1\n' + b'E' * 9000]
+          b'mr1 2 1\nW 2 1 1 elm 30 1995-12-18 09:00 0 Other\nE\n', b'mr1 2 1\nM\n', b'mr1 2 1\n' + b'E' * 9000,
+          b'mr2 2 1\nE\n', b'mr1 4 1\nX 4 1 1 oak 1 1\nE\n', b'mr2 4 1\nX 4 1 1 oak 1 1\nE\n', b'mr2 4 1\nX 4 1 1 oak 1 1\nX 4 2 2 elm 9 9\n',
+          b'mr2 4 1\nX 4 1 1 oak 1 2\nE\n', b'mr2 4 1\nX 4 3 3 oak 01 1\nE\n', b'mr3 4 1\nE\n']
 PULLED = [b'mp1 9 1\nK 0\nE\n', b'', b'mp1 9 1\nK 0\nE', b'mp1 9 2\nK 0\nE\n', b'mp1 9 1\nK 5\nV 1 3\nE\n', b'mp1 9 1\nK 0\nV 2 1\nV 1 1\nE\n',
           b'mp1 9 1\nK 999999999999\nE\n', b'mp1 9 1\nK 1000000000000\nE\n', b'mp1 9 1\nK 0\nV 1 999999999\nE\n', b'mp1 9 1\nK 00\nE\n',
-          b'mp1 9 1\nK 0\nE\n\n', b'mp1 9 1\nK 0\nV 1 0\nE\n']
+          b'mp1 9 1\nK 0\nE\n\n', b'mp1 9 1\nK 0\nV 1 0\nE\n', b'mp2 9 1\nK 0\nE\n', b'mp2 9 1\nK 0\nV 1 2\nV 3 1\nE\n', b'mp3 9 1\nK 0\nE\n']
 
 
 class Request:
@@ -48,17 +52,19 @@ class Request:
 def real(rng):
     """A request of some route."""
     room, day, request = rng.choice(['oak', 'oak', 'elm']), '1995-12-18', rng.choice(IDS[:3])
+    cancels = [lambda: Request(b'POST', '/cancel', cancellations.whole(rng))] * 2 if RULES.version > 1 else []
     return rng.choice([
         lambda: Request(b'POST', '/submit', submissions.whole(rng)), lambda: Request(b'GET', f'/rooms/{room}/days/{day}'),
         lambda: Request(b'GET', f'/rooms/{room}/requests/{request}'), lambda: Request(b'GET', f'/rooms/{room}/errors'),
         lambda: Request(b'GET', '/position'), lambda: Request(b'POST', '/pull', PULLED[0]),
-        lambda: Request(b'POST', '/push', rng.choice(PUSHED[:4]))])()
+        lambda: Request(b'POST', '/push', rng.choice(PUSHED[:4])), *cancels])()
 
 
 def posted(rng):
     """A request that has a body."""
+    cancels = [Request(b'POST', '/cancel', cancellations.whole(rng))] if RULES.version > 1 else []
     return rng.choice([Request(b'POST', '/submit', submissions.whole(rng)), Request(b'POST', '/pull', PULLED[0]),
-                       Request(b'POST', '/push', PUSHED[0])])
+                       Request(b'POST', '/push', PUSHED[0]), *cancels])
 
 
 def as_it_is(rng):
@@ -259,18 +265,19 @@ def no_bytes(rng):
     return rng.choice([b'', b'\r\n', b'\0', b'\r\n\r\n', b'\xff' * 9000, b'\n' * 9000, b'\x16\x03\x01\x02\x00\x01'])
 
 
-def submitted(kind):
-    """The submissions of this kind as requests."""
+def posted_to(target, kind):
+    """The bodies of this kind as requests."""
     def request(rng):
-        return Request(b'POST', '/submit', kind(rng)).data()
-    request.__name__ = kind.__name__
+        return Request(b'POST', target, kind(rng)).data()
+    request.__name__ = f'{target[1:]} {kind.__name__}'
     return request
 
 
 KINDS = [as_it_is, cut_head, cut_body, turned_byte, dropped_byte, more_behind, more_before, method, version, target, target_bytes,
          words_of_a_path, number_of_fields, size_of_head, size_of_target, head_without_end, ends_of_lines, length_twice, length_spelled, no_length,
          length_of_a_question, transfer_encoding, length_beyond, length_short, size_of_body, field_of_another_form, names_of_fields, two_faults,
-         push, pull, no_bytes, *map(submitted, submissions.KINDS)]
+         push, pull, no_bytes, *[posted_to('/submit', kind) for kind in submissions.KINDS],
+         *[posted_to('/cancel', kind) for kind in cancellations.KINDS if RULES.version > 1]]
 
 
 def pieces(rng, data):

@@ -6,6 +6,7 @@ import math
 import re
 
 import wire
+from oracle import RULES
 from wire import reply
 
 TOKEN = rb"[!#$%&'*+\-.^_`|~0-9A-Za-z]+"
@@ -15,6 +16,7 @@ END = re.compile(rb'\r?\n')
 ROUTES = [('POST', rb'/submit', 'submit'), ('GET', rb'/rooms/([^/]+)/days/([^/]+)', 'sheet'),
           ('GET', rb'/rooms/([^/]+)/requests/([^/]+)', 'outcome'), ('GET', rb'/rooms/([^/]+)/errors', 'errors'),
           ('GET', rb'/position', 'position'), ('POST', rb'/pull', 'pull'), ('POST', rb'/push', 'push')]
+ROUTES += [('POST', rb'/cancel', 'cancel')] if RULES.version > 1 else []
 STRINGS = {'room', 'day', 'start', 'title'}
 MOST_DEPTH = 127  # of the lists and objects that serde_json reads in one another
 
@@ -95,14 +97,26 @@ def is_strings(value, names):
     return isinstance(value, dict) and set(value) == names and all(isinstance(each, str) for each in value.values())
 
 
-def read_submission(body):
-    """The room, length, slots and title of a submission, or None."""
+def read_object(body):
+    """The members of the object that is this JSON text, or None."""
     try:
         text = body.decode('utf-8')
         value = json.loads(text, object_pairs_hook=pairs, parse_constant=no_constant, parse_int=number, parse_float=number)
     except (ValueError, RecursionError):
         return None
-    if not isinstance(value, dict) or depth_of(text) > MOST_DEPTH:
+    return value if isinstance(value, dict) and depth_of(text) <= MOST_DEPTH else None
+
+
+def read_cancellation(body):
+    """The room and the id of a cancellation, or None."""
+    value = read_object(body)
+    return (value['room'], value['id']) if is_strings(value, {'id', 'room'}) else None
+
+
+def read_submission(body):
+    """The room, length, slots and title of a submission, or None."""
+    value = read_object(body)
+    if value is None:
         return None
     length, others = value.pop('length', None), value.pop('alternatives', [])
     is_number = isinstance(length, tuple) and re.fullmatch(r'[0-9]+', length[1]) and int(length[1]) < 2 ** 64
@@ -116,11 +130,15 @@ def read_submission(body):
 def outcome_reply(text):
     if text.startswith('refused '):
         return wire.refusal_reply(text)
-    request, mark, day, *span = text.split(' ')
-    if day == 'logged':
+    request, mark, state, *more = text.split(' ')
+    if state == 'logged':
         return reply(200, f'{{"id":"{request}","mark":"{mark}","state":"logged"}}')
-    start, stop = span[0].split('-')
-    return reply(200, f'{{"day":"{day}","id":"{request}","mark":"{mark}","start":"{start}","state":"booked","stop":"{stop}"}}')
+    if state in ('cancels', 'void'):
+        return reply(200, f'{{"id":"{request}","mark":"{mark}","state":"{state}","target":"{more[0]}"}}')
+    if state == 'cancelled':
+        return reply(200, f'{{"by":"{more[1]}","bymark":"{more[0]}","id":"{request}","mark":"{mark}","state":"cancelled"}}')
+    start, stop = more[0].split('-')
+    return reply(200, f'{{"day":"{state}","id":"{request}","mark":"{mark}","start":"{start}","state":"booked","stop":"{stop}"}}')
 
 
 def command(replica, name, words, body):
@@ -128,6 +146,9 @@ def command(replica, name, words, body):
     if name == 'submit':
         submission = read_submission(body)
         return error(400, 'bad request') if submission is None else outcome_reply(replica.book(*submission))
+    if name == 'cancel':
+        cancellation = read_cancellation(body)
+        return error(400, 'bad request') if cancellation is None else outcome_reply(replica.cancel(*cancellation))
     if name == 'outcome':
         return outcome_reply(replica.outcome(*words))
     if name == 'pull':

@@ -16,7 +16,7 @@ use Rattle.mr_model.specs.Texts.{Text, words, within, only_if}
 use Rattle.mr_model.specs.Writes.{is_server}
 use Rattle.mr_model.specs.Replies.{Part, Full, Committed, part_text}
 use Rattle.mr_model.specs.View.{AskSheet, AskCalendar, AskOutcome, AskErrors}
-use Rattle.mr_model.specs.Step.{AddRoom, Submit, Commit, Truncate, AskPosition, Ask, Submission, SlotWords}
+use Rattle.mr_model.specs.Step.{AddRoom, Submit, Cancel, Commit, Truncate, AskPosition, Ask, Submission, SlotWords}
 use Rattle.mr_model.specs.World.{Step, Add, Make, Deliver}
 use Rattle.mr_model.proofs.LinesReadBack.{words-cons}
 use Rattle.mr_model.proofs.BatchesReadBack.{only_if_some}
@@ -24,7 +24,7 @@ use Rattle.mr.specs.Script.{is_word, slot_words, booking_words, all_bytes, lengt
 use Rattle.mr_base.specs.Readings.{number_from_to}
 use Rattle.mr_base.proofs.Decimals.{within-below}
 use Rattle.mr_words.specs.Rows.{◌>>=◌, server_in, part_in}
-use Rattle.mr.specs.LineSteps.{cut, cut_server, cut_slot, with_slot, cut_slots, number_of_slots, booking_in, room_step, sheet_step, book_step, calendar_step, outcome_step, errors_step, commit_step, truncate_step, position_step, batch_step, length_in, cut_batch, deliver_step, replica_step, exchange_by, question_by, step_by, step_in}
+use Rattle.mr.specs.LineSteps.{cut, cut_server, cut_slot, with_slot, cut_slots, number_of_slots, booking_in, room_step, sheet_step, book_step, cancel_step, calendar_step, outcome_step, errors_step, commit_step, truncate_step, position_step, batch_step, length_in, cut_batch, deliver_step, replica_step, exchange_by, question_by, step_by, step_in}
 use Rattle.mr.proofs.WordLaws.{cut_of, cut_parts, number_from_parts, number_from_decimal, decimal_word}
 
 -- ---- chains
@@ -161,6 +161,15 @@ book_parts server t s h e =
     let read = booking_parts t b is_b in (
       sym (ap has_line same) ∙ and_from (is_server server) (is_booking b) h read.0,
       ap (λ (u : Text). codes "book" ++ 32 ∷ (decimal server ++ 32 ∷ u)) read.1 ∙ ap step_line same,
+    )
+
+cancel_parts : (server : ℕ) (t : Text) (s : Step) → is_server server ≡ true → cancel_step server t ≡ Some s → (has_line s ≡ true) × (codes "cancel" ++ 32 ∷ (decimal server ++ 32 ∷ t) ≡ step_line s)
+cancel_parts server t s h e =
+    let (room, room_cut, more) = bind_some (cut t) (λ room. only_if (is_word room.1) (Step.Do server (Cancel room.0 room.1))) s e in
+    let o = only_if_some (is_word room.1) (Step.Do server (Cancel room.0 room.1)) s more in
+    let r = cut_parts t room.0 room.1 room_cut in (
+      sym (ap has_line o.1) ∙ and_from (is_server server) (is_word room.0 && is_word room.1) h (and_from (is_word room.0) (is_word room.1) r.0 o.0),
+      ap (λ (u : Text). codes "cancel" ++ 32 ∷ (decimal server ++ 32 ∷ u)) r.1 ∙ ap step_line o.1,
     )
 
 sheet_parts : (server : ℕ) (t : Text) (s : Step) → is_server server ≡ true → sheet_step server t ≡ Some s → (has_line s ≡ true) × (codes "sheet" ++ 32 ∷ (decimal server ++ 32 ∷ t) ≡ step_line s)
@@ -327,7 +336,9 @@ step_by_parts verb t s e =
     (λ is g. with_verb verb (codes "room") t s is (at_server_parts (codes "room") room_step room_parts t s g))
     (λ _ g. if_some (bytes_eq verb (codes "book")) _ _ s g
     (λ is h. with_verb verb (codes "book") t s is (at_server_parts (codes "book") book_step book_parts t s h))
-    (λ _ h. question_parts verb t s h)))
+    (λ _ h. if_some (bytes_eq verb (codes "cancel")) _ _ s h
+    (λ is k. with_verb verb (codes "cancel") t s is (at_server_parts (codes "cancel") cancel_step cancel_parts t s k))
+    (λ _ k. question_parts verb t s k))))
 
 -- a line that was read is the line of its step
 pub step_in_parts : (line : Text) (s : Step) → step_in line ≡ Some s → (has_line s ≡ true) × (line ≡ step_line s)
@@ -444,6 +455,12 @@ step_in_of (Step.Do server (Submit b)) h =
     let rest : Text = words (booking_words b) in
     verb_cut (codes "book") (decimal server ++ 32 ∷ rest) refl ∙ server_cut book_step server rest both.0
     ∙ bound (booking_in rest) b (λ x. Some (Step.Do server (Submit x))) (booking_of b both.1)
+step_in_of (Step.Do server (Cancel room id)) h =
+    let both = and_parts (is_server server) (is_word room && is_word id) h in
+    let two = and_parts (is_word room) (is_word id) both.1 in
+    verb_cut (codes "cancel") (decimal server ++ 32 ∷ (room ++ 32 ∷ id)) refl ∙ server_cut cancel_step server (room ++ 32 ∷ id) both.0
+    ∙ bound (cut (room ++ 32 ∷ id)) (room, id) (λ p. only_if (is_word p.1) (Step.Do server (Cancel p.0 p.1))) (cut_of room id two.0)
+    ∙ ap (λ b. only_if b (Step.Do server (Cancel room id))) two.1
 step_in_of (Step.Do server (Ask room (AskSheet day))) h =
     let both = and_parts (is_server server) (is_word room && is_word day) h in
     let two = and_parts (is_word room) (is_word day) both.1 in

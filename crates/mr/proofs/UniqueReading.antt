@@ -4,7 +4,7 @@ use Rattle.std.proofs.lemmas.Bool.{true≢false, false≢true, cases_order}
 use Rattle.std.specs.Prelude.{Ok, Err}
 use Rattle.mr_model.specs.Texts.{Text}
 use Rattle.mr_model.specs.View.{AskSheet, AskCalendar, AskOutcome, AskErrors}
-use Rattle.mr_model.specs.Step.{AddRoom, Submit, Commit, Truncate, AskPosition, Ask}
+use Rattle.mr_model.specs.Step.{AddRoom, Submit, Cancel, Commit, Truncate, AskPosition, Ask}
 use Rattle.mr_model.specs.World.{Step, Add, Make, Deliver}
 use Rattle.mr.specs.Script.{is_passed_over, has_line, step_line, script_lines, IsLineOf, IsBad, TakesLine, IsRead, begun, taken, IsBadLine, ReadsOneWay}
 use Rattle.mr.proofs.LineLaws.{one_step}
@@ -58,6 +58,7 @@ begins_otherwise : (s : Step) → has_line s ≡ true → is_passed_over (step_l
 begins_otherwise (Add server) h = refl
 begins_otherwise (Step.Do server (AddRoom room)) h = refl
 begins_otherwise (Step.Do server (Submit b)) h = refl
+begins_otherwise (Step.Do server (Cancel room id)) h = refl
 begins_otherwise (Step.Do server (Ask room (AskSheet day))) h = refl
 begins_otherwise (Step.Do server (Ask room (AskCalendar part))) h = refl
 begins_otherwise (Step.Do server (Ask room (AskOutcome id))) h = refl

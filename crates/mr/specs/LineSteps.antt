@@ -3,7 +3,7 @@ use Rattle.std.specs.Prelude.{ℕ, zero, suc, ◌&&◌, if◌then◌else◌, Lis
 use Rattle.std.specs.List.{list_any}
 use Rattle.mr_model.specs.Texts.{Text, is_space, first_word, after_word, only_if}
 use Rattle.mr_model.specs.View.{AskSheet, AskCalendar, AskOutcome, AskErrors}
-use Rattle.mr_model.specs.Step.{AddRoom, Submit, Commit, Truncate, AskPosition, Ask, Submission, SlotWords}
+use Rattle.mr_model.specs.Step.{AddRoom, Submit, Cancel, Commit, Truncate, AskPosition, Ask, Submission, SlotWords}
 use Rattle.mr_model.specs.World.{Step, Add, Make, Deliver}
 use Rattle.mr_base.specs.Readings.{number_from_to}
 use Rattle.mr_words.specs.Rows.{◌>>=◌, server_in, count_in, line_count_in, part_in}
@@ -46,6 +46,9 @@ sheet_step server t = cut t >>= λ room. only_if (is_word room.1) (Step.Do serve
 
 abbrev pub book_step : ℕ → Text → Option Step
 book_step server t = booking_in t >>= λ booking. Some (Step.Do server (Submit booking))
+
+abbrev pub cancel_step : ℕ → Text → Option Step
+cancel_step server t = cut t >>= λ room. only_if (is_word room.1) (Step.Do server (Cancel room.0 room.1))
 
 abbrev pub calendar_step : ℕ → Text → Option Step
 calendar_step server t = cut t >>= λ room. (part_in room.1 >>= λ part. Some (Step.Do server (Ask room.0 (AskCalendar part))))
@@ -110,7 +113,8 @@ step_by verb t =
     if bytes_eq verb (codes "replica") then replica_step t
     else (if bytes_eq verb (codes "room") then at_server room_step t
     else (if bytes_eq verb (codes "book") then at_server book_step t
-    else question_by verb t))
+    else (if bytes_eq verb (codes "cancel") then at_server cancel_step t
+    else question_by verb t)))
 
 -- the step of a line, if it is of the table
 abbrev pub step_in : Text → Option Step

@@ -5,7 +5,7 @@ use Rattle.mr_model.specs.Texts.{Text, within, is_space, words}
 use Rattle.mr_model.specs.Writes.{is_server}
 use Rattle.mr_model.specs.Replies.{part_text}
 use Rattle.mr_model.specs.View.{AskSheet, AskCalendar, AskOutcome, AskErrors}
-use Rattle.mr_model.specs.Step.{AddRoom, Submit, Commit, Truncate, AskPosition, Ask, Submission, SlotWords}
+use Rattle.mr_model.specs.Step.{AddRoom, Submit, Cancel, Commit, Truncate, AskPosition, Ask, Submission, SlotWords}
 use Rattle.mr_model.specs.World.{Step, Add, Make, Deliver}
 
 -- ---- lines
@@ -50,6 +50,7 @@ abbrev pub step_words : Step → List Text
 step_words (Add server) = codes "replica" ∷ decimal server ∷ []
 step_words (Step.Do server (AddRoom room)) = codes "room" ∷ decimal server ∷ room ∷ []
 step_words (Step.Do server (Submit booking)) = codes "book" ∷ decimal server ∷ booking_words booking
+step_words (Step.Do server (Cancel room id)) = codes "cancel" ∷ decimal server ∷ room ∷ id ∷ []
 step_words (Step.Do server (Ask room (AskSheet day))) = codes "sheet" ∷ decimal server ∷ room ∷ day ∷ []
 step_words (Step.Do server (Ask room (AskCalendar part))) = codes "calendar" ∷ decimal server ∷ room ∷ part_text part ∷ []
 step_words (Step.Do server (Ask room (AskOutcome id))) = codes "outcome" ∷ decimal server ∷ room ∷ id ∷ []
@@ -83,6 +84,7 @@ abbrev pub has_line : Step → Bool
 has_line (Add server) = is_server server
 has_line (Step.Do server (AddRoom room)) = is_server server && is_word room
 has_line (Step.Do server (Submit booking)) = is_server server && is_booking booking
+has_line (Step.Do server (Cancel room id)) = is_server server && (is_word room && is_word id)
 has_line (Step.Do server (Ask room (AskSheet day))) = is_server server && (is_word room && is_word day)
 has_line (Step.Do server (Ask room (AskCalendar part))) = is_server server && is_word room
 has_line (Step.Do server (Ask room (AskOutcome id))) = is_server server && (is_word room && is_word id)

@@ -2,7 +2,7 @@
 
 ghost use Rattle.std.specs.Prelude.{◌≡◌, MatchOption, IfOk, Some, None};
 ghost use Rattle.mr_service.specs.Stepping.{step_of};
-ghost use Rattle.mr.specs.LineSteps.{replica_step, room_step, sheet_step, book_step, calendar_step, outcome_step, errors_step, commit_step, truncate_step, position_step, batch_step, deliver_step, at_server, exchange_by, question_by, step_by, step_in};
+ghost use Rattle.mr.specs.LineSteps.{replica_step, room_step, sheet_step, book_step, cancel_step, calendar_step, outcome_step, errors_step, commit_step, truncate_step, position_step, batch_step, deliver_step, at_server, exchange_by, question_by, step_by, step_in};
 
 use crate::words::{Words, is_word, read_length};
 use mr_service::{Local, Step};
@@ -28,6 +28,7 @@ fn step_by(alloc: Global, verb: &str, words: Words<'_>) -> Result<Option<Step>, 
         "replica" => Ok(replica(words)),
         "room" => room(alloc, words),
         "book" => book(alloc, words),
+        "cancel" => cancel(alloc, words),
         _ => question_by(alloc, verb, words),
     }
 }
@@ -90,6 +91,26 @@ fn book(alloc: Global, mut words: Words<'_>) -> Result<Option<Step>, AllocError>
         Some(booking) => Ok(Some(Step::Do(server, Local::Submit(booking)))),
         None => Ok(None),
     }
+}
+
+fn cancel(alloc: Global, mut words: Words<'_>) -> Result<Option<Step>, AllocError>
+    ensures { IfOk result (λ found. MatchOption found (at_server cancel_step words.entry ≡ None) (λ step. at_server cancel_step words.entry ≡ Some (step_of step))) }
+{
+    let Some(server) = words.server() else {
+        return Ok(None);
+    };
+    let Some(room) = words.next() else {
+        return Ok(None);
+    };
+    let id = words.rest();
+    if !is_word(id) {
+        return Ok(None);
+    }
+    let local = Local::Cancel {
+        room: String::from_str(alloc, room)?,
+        id: String::from_str(alloc, id)?,
+    };
+    Ok(Some(Step::Do(server, local)))
 }
 
 fn sheet(alloc: Global, mut words: Words<'_>) -> Result<Option<Step>, AllocError>

@@ -10,6 +10,8 @@ pub(crate) enum Ask {
     Room,
     /// The length, the wish, the alternatives and the title.
     Book(&'static str, &'static str, &'static [&'static str], &'static str),
+    /// The booking with this id is taken back.
+    Cancel(&'static str),
     Commit(u64),
     Truncate(u64),
     Position,
@@ -76,6 +78,14 @@ fn outcome(alloc: Global, id: &str) -> Result<Local, AllocError> {
     })
 }
 
+fn cancel(alloc: Global, id: &str) -> Result<Local, AllocError> {
+    let room = text(alloc, "oak")?;
+    Ok(Local::Cancel {
+        room,
+        id: text(alloc, id)?,
+    })
+}
+
 fn batch_for(alloc: Global, position: &[u8], lines: u32) -> Result<Local, Refusal> {
     let max_lines = LineCount::new(lines).ok_or(Refusal::BadPosition)?;
     Ok(Local::BatchFor {
@@ -91,6 +101,7 @@ fn local(alloc: Global, ask: Ask, replied: &[u8]) -> Result<Local, Refusal> {
         Ask::Book(length, wish, others, title) => {
             Ok(booking(alloc, (length, wish, others, title))?)
         }
+        Ask::Cancel(id) => Ok(cancel(alloc, id)?),
         Ask::Commit(count) => Ok(Local::Commit(count)),
         Ask::Truncate(number) => Ok(Local::Truncate(number)),
         Ask::Batch(lines) => batch_for(alloc, replied, lines),

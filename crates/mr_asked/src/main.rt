@@ -1,5 +1,5 @@
 //! A program for tests: commands that three replicas are asked over each keeper, so that what each does can be tried where an allocation
-//! is refused. Four scripts are asked over lists and then over databases in memory. A replica is made, or a command asked, between the
+//! is refused. Six scripts are asked over lists and then over databases in memory. A replica is made, or a command asked, between the
 //! lines `now` and `then`; what it takes besides is made before. Behind these is the reply. Where it is that there is no memory, all that
 //! can be seen of the three replicas follows, the reply once the same is asked again, and what can be seen then.
 #![tactic(auto)]

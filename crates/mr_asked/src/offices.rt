@@ -2,7 +2,9 @@
 
 use crate::asks::{Ask, command, seen};
 use crate::opening::Opening;
-use crate::rows::{CHAIN, COMMIT_REORDERS, DROPPED_COMMITS, EQUAL_TIMES, Row};
+use crate::rows::{
+    CHAIN, COMMIT_REORDERS, DROPPED_COMMITS, EQUAL_TIMES, MADE_VOID, Row, TAKEN_BACK,
+};
 use mr_base::Refusal;
 use mr_service::{Command, Reply, Service, reply_text};
 use mr_store::Keeper;
@@ -165,6 +167,8 @@ pub(crate) fn all_rows<K: Opening + Drop, W: Write>(
         &COMMIT_REORDERS[..],
         &CHAIN[..],
         &DROPPED_COMMITS[..],
+        &MADE_VOID[..],
+        &TAKEN_BACK[..],
     ] {
         rows::<K, W>(alloc, script, out)?;
     }

@@ -75,3 +75,35 @@ pub(crate) static DROPPED_COMMITS: [Row; 17] = [
     (2, Ask::Sheet),
     (3, Ask::Sheet),
 ];
+
+/// An earlier write takes the slot of a booking that was taken back, and the cancel is void.
+pub(crate) static MADE_VOID: [Row; 10] = [
+    (1, Ask::Room),
+    (2, Ask::Room),
+    (2, Ask::Book("60", "09:00", &[], "Alpha")),
+    (2, Ask::Cancel("2-1")),
+    (1, Ask::Book("60", "09:30", &[], "Xray")),
+    (2, Ask::Position),
+    (1, Ask::Batch(10)),
+    (2, Ask::Receive),
+    (2, Ask::Sheet),
+    (2, Ask::Errors),
+];
+
+/// A committed booking is taken back by a tentative cancel, and its slot is booked again.
+pub(crate) static TAKEN_BACK: [Row; 14] = [
+    (1, Ask::Room),
+    (1, Ask::Book("60", "09:00", &[], "Alpha")),
+    (1, Ask::Book("60", "09:00", &["10:00"], "Beta")),
+    (1, Ask::Commit(1)),
+    (1, Ask::Cancel("1-1")),
+    (1, Ask::Book("60", "09:00", &[], "Gamma")),
+    (1, Ask::Sheet),
+    (1, Ask::Calendar(Part::Committed)),
+    (1, Ask::Outcome("1-1")),
+    (1, Ask::Cancel("1-1")),
+    (1, Ask::Errors),
+    (1, Ask::Cancel("1-3")),
+    (2, Ask::Position),
+    (1, Ask::Batch(10)),
+];

@@ -12,7 +12,7 @@ use Rattle.std.proofs.lemmas.Str.Parse.{IsNumeralModel, IsDigitsTest, numerals_b
 use Rattle.std.proofs.lemmas.Fmt.{decimal-digits_value, digits_decimal, digits_value-decimal, decimal_digit, decimal_nonempty, first_decimal}
 use Rattle.mr_model.specs.Texts.{Text, within, number_in, only_if}
 use Rattle.mr_model.proofs.BatchesReadBack.{only_if_some}
-use Rattle.mr_model.proofs.TwinTables.{bool_same}
+use Rattle.mr_model.proofs.MembersAlike.{bool_same}
 use Rattle.mr_base.proofs.Readers.{bytes_same, same_bytes, only_if_true}
 use Rattle.mr_base.specs.Readings.{is_number, number_by_digits, number_from_to}
 

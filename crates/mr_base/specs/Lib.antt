@@ -1,9 +1,10 @@
--- A reader of the contracts trusts Refusals, Answers, Ids, Readings, Limits and Batches. The other, Positions, serves private
--- clauses and proofs alone.
+-- A reader of the contracts trusts Refusals, Answers, Ids, Readings, Limits, Actions and Batches. The other, Positions, serves
+-- private clauses and proofs alone.
 pub mod Refusals
 pub mod Answers
 pub mod Ids
 pub mod Readings
 pub mod Limits
+pub mod Actions
 pub mod Batches
 pub mod Positions

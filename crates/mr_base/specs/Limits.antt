@@ -25,4 +25,4 @@ request_of room title minutes wish alternatives =
     unless
     ((not (is_length_for minutes (wish ∷ alternatives)), BadLength) ∷ (not (is_room_name room), BadRoomName)
     ∷ (not (is_title title), BadTitle) ∷ (nat_lt greatest_alternatives (length alternatives), TooManyAlternatives) ∷ [])
-    (record { room = room; title = title; length = minutes; wish = wish; alternatives = alternatives })
+    (record { room = room; meeting = record { title = title; length = minutes; wish = wish; alternatives = alternatives } })

@@ -2,7 +2,7 @@
 use Rattle.std.specs.Prelude.{Result, Ok, Err}
 use Rattle.mr_model.specs.Refusals as model
 use Rattle.mr_base.specs.declared.refusals.Refusal.{Refusal}
-use Rattle.mr_base.specs.declared.refusals.Refusal.TheVariants.{BadDay, BadTime, BadLength, BadRoomName, BadTitle, TooManyAlternatives, UnknownRoom, RoomThere, NoSuchRequest, NotPrimary, PrimaryKeepsAll, BeyondCommitted, ClockExhausted, CountExhausted, BadLine, WrongPrimary, Gap, OutOfOrder, Forged, OwnWrite, PrimaryOnly, Truncated, BadPosition, OutOfMemory, Store, NotAReplica}
+use Rattle.mr_base.specs.declared.refusals.Refusal.TheVariants.{BadDay, BadTime, BadLength, BadRoomName, BadTitle, TooManyAlternatives, UnknownRoom, RoomThere, NoSuchRequest, NotPrimary, PrimaryKeepsAll, BeyondCommitted, ClockExhausted, CountExhausted, BadLine, WrongPrimary, Gap, OutOfOrder, Forged, OwnWrite, PrimaryOnly, Truncated, BadPosition, OutOfMemory, Store, NotAReplica, NeedsVersion2}
 
 -- the refusal of the definitions that a refusal stands for
 abbrev pub refusal_of : Refusal → model.Refusal
@@ -32,6 +32,7 @@ refusal_of BadPosition = model.BadPosition
 refusal_of OutOfMemory = model.OutOfMemory
 refusal_of Store = model.Store
 refusal_of NotAReplica = model.NotAReplica
+refusal_of NeedsVersion2 = model.NeedsVersion2
 
 -- an answer of the program as one of the definitions
 abbrev pub answer_of : {T : Type 0} → Result T Refusal → Result T model.Refusal

@@ -1,4 +1,4 @@
-use crate::{CommitNumber, ServerId, Write, WriteId};
+use crate::{CommitNumber, Refusal, ServerId, Write, WriteId};
 use std::marker::Model;
 
 /// A line of a batch: a write, or a commit of a write that is named.
@@ -38,17 +38,36 @@ impl Model for Batch {
 }
 
 impl Batch {
-    ghost use Rattle.std.specs.Prelude.{◌≡◌, Some, [], IsTrue};
-    ghost use Rattle.mr_model.specs.Exchange.{no_lines, is_batch};
-    ghost use Rattle.mr_base.specs.Batches.{batch_of};
+    ghost use Rattle.std.specs.Prelude.{◌≡◌, Some, [], map, IsTrue};
+    ghost use Rattle.std.specs.List.{list_all};
+    ghost use Rattle.mr_model.specs.Exchange.{no_lines, is_item, is_batch};
+    ghost use Rattle.mr_base.specs.Answers.{ok_if};
+    ghost use Rattle.mr_base.specs.Batches.{item_of, batch_of};
 
-    /// The batch of these items, which `from` made.
-    pub fn new(from: ServerId, primary: ServerId, items: Vec<Item>, ending: Ending) -> Batch
+    /// The batch of these items, which `from` made, if the exchange text can say each of them: it has bookings of at most 8
+    /// alternatives and no cancels.
+    pub fn new(
+        from: ServerId,
+        primary: ServerId,
+        items: Vec<Item>,
+        ending: Ending,
+    ) -> Result<Batch, Refusal>
+        ensures { result ≡ ok_if (list_all is_item (map item_of items.items))
+            (batch_of (Some (from, primary)) items.items ending) Refusal.NeedsVersion2 }
+    {
+        if !can_all_be_said(items.as_slice()) {
+            return Err(Refusal::NeedsVersion2);
+        }
+        Ok(Batch::of_said(from, primary, items, ending))
+    }
+
+    /// The batch of items that the exchange text can say.
+    pub fn of_said(from: ServerId, primary: ServerId, items: Vec<Item>, ending: Ending) -> Batch
+        requires { IsTrue (list_all is_item (map item_of items.items)) }
         ensures { result ≡ batch_of (Some (from, primary)) items.items ending }
     {
         from.number();
         primary.number();
-        items_are_within_limits(items.as_slice());
         Batch {
             header: Some((from, primary)),
             items,
@@ -76,28 +95,36 @@ impl Batch {
     }
 }
 
-ghost use Rattle.std.specs.Prelude.{map, IsTrue};
+ghost use Rattle.std.specs.Prelude.{◌≡◌, map};
 ghost use Rattle.std.specs.List.{list_all};
 ghost use Rattle.mr_model.specs.Exchange.{is_item};
 ghost use Rattle.mr_base.specs.Batches.{item_of};
 
-// Says to proofs that items are within the limits.
-fn items_are_within_limits(items: &[Item])
-    ensures { IsTrue (list_all is_item (map item_of items.now)) }
+/// Whether the exchange text can say all these items.
+fn can_all_be_said(items: &[Item]) -> bool
+    ensures { result ≡ list_all is_item (map item_of items.now) }
 {
     for item in items {
-        item_is_within_limits(item);
+        if !can_be_said(item) {
+            return false;
+        }
     }
+    true
 }
 
-fn item_is_within_limits(item: &Item)
-    ensures { IsTrue (is_item (item_of item.now)) }
+/// Whether the exchange text can say the item: it is no cancel, and no booking of more than 8 alternatives.
+fn can_be_said(item: &Item) -> bool
+    ensures { result ≡ is_item (item_of item.now) }
 {
     match item {
-        Item::W(write) => write.is_within_limits(),
+        Item::W(write) => {
+            write.is_within_limits();
+            write.can_be_said()
+        }
         Item::C { seq, id } => {
             seq.number();
             let _count = id.n;
+            true
         }
     }
 }

@@ -4,6 +4,7 @@
 //! files of `specs` say how the program's refusals, items and words are those of the definitions.
 #![tactic(auto)]
 
+mod actions;
 mod alternatives;
 mod batches;
 mod commits;
@@ -11,6 +12,7 @@ mod days;
 mod digits;
 mod ids;
 mod line_counts;
+mod meetings;
 mod numbers;
 mod positions;
 mod refusals;
@@ -22,12 +24,14 @@ mod times;
 mod titles;
 mod writes;
 
+pub use actions::Action;
 pub use alternatives::Alternatives;
 pub use batches::{Batch, Ending, Item};
 pub use commits::CommitNumber;
 pub use days::{Day, weekday_name};
 pub use jiff::civil::Weekday;
 pub use line_counts::LineCount;
+pub use meetings::Meeting;
 pub use numbers::read_number;
 pub use positions::Position;
 pub use refusals::Refusal;

@@ -34,10 +34,11 @@ pub enum Refusal {
     OutOfMemory,
     Store,
     NotAReplica,
+    NeedsVersion2,
 }
 
 impl Refusal {
-    /// Its number, from 1 to 26.
+    /// Its number, from 1 to 27.
     pub fn number(&self) -> u32
         ensures { result ≡ number_of (refusal_of self.now) }
     {
@@ -68,6 +69,7 @@ impl Refusal {
             Refusal::OutOfMemory => 24,
             Refusal::Store => 25,
             Refusal::NotAReplica => 26,
+            Refusal::NeedsVersion2 => 27,
         }
     }
 
@@ -102,6 +104,7 @@ impl Refusal {
             Refusal::OutOfMemory => "OutOfMemory",
             Refusal::Store => "Store",
             Refusal::NotAReplica => "NotAReplica",
+            Refusal::NeedsVersion2 => "NeedsVersion2",
         }
     }
 

@@ -1,43 +1,26 @@
-ghost use Rattle.std.specs.Prelude.{◌≡◌, ◌∷◌, ◌&&◌, nat_lt, length, IsTrue, Err};
-ghost use Rattle.std.specs.List.{list_all};
-ghost use Rattle.mr_model.specs.Slots.{is_slot};
-ghost use Rattle.mr_model.specs.Writes.{fits_day, greatest_alternatives};
-ghost use Rattle.mr_model.specs.Requests.{Request as RequestForRoom, is_request, is_length_for};
+ghost use Rattle.std.specs.Prelude.{◌≡◌, IsTrue, Err};
+ghost use Rattle.mr_model.specs.Requests.{Request as RequestForRoom, is_request};
 ghost use Rattle.mr_base.specs.Answers.{OrOutOfMemory};
 ghost use Rattle.mr_base.specs.Limits.{limited, request_of};
 
-use crate::{Alternatives, Refusal, RoomName, Slot, Title, is_room_text, is_title_text};
+use crate::meetings::{are_too_many, fits};
+use crate::{Alternatives, Meeting, Refusal, RoomName, Slot, Title, is_room_text, is_title_text};
 use std::alloc::Global;
 use std::marker::Model;
 
-/// A request for a room, its length in minutes: a write without its stamp.
+/// A request: a booking without its stamp.
 #[derive(Debug, Drop)]
 pub struct Request {
     pub room: RoomName,
-    pub title: Title,
-    pub length: u32,
-    pub wish: Slot,
-    pub alternatives: Alternatives,
+    pub meeting: Meeting,
 }
 
 impl Model for Request {
     ghost Value = { RequestForRoom };
 
-    ghost view = { λ r. record {
-      room = r.room;
-      title = r.title;
-      length = r.length;
-      wish = r.wish;
-      alternatives = r.alternatives;
-    } };
+    ghost view = { λ r. record { room = r.room; meeting = r.meeting } };
 
-    ghost invariant = { λ r. IsTrue (is_request (record {
-      room = r.room;
-      title = r.title;
-      length = r.length;
-      wish = r.wish;
-      alternatives = r.alternatives;
-    })) };
+    ghost invariant = { λ r. IsTrue (is_request (record { room = r.room; meeting = r.meeting })) };
 }
 
 impl Request {
@@ -51,27 +34,22 @@ impl Request {
     ) -> Result<Request, Refusal>
         ensures { result ≡ limited length wish alternatives (record {
           room = room;
-          title = title;
-          length = length;
-          wish = wish;
-          alternatives = alternatives;
+          meeting = record { title = title; length = length; wish = wish; alternatives = alternatives };
         }) }
     {
-        if !fits(length, wish, alternatives.as_slice()) {
-            return Err(Refusal::BadLength);
+        match Meeting::new(title, length, wish, alternatives) {
+            Ok(meeting) => Ok(Request::of_meeting(room, meeting)),
+            Err(refusal) => Err(refusal),
         }
-        if are_too_many(alternatives.as_slice()) {
-            return Err(Refusal::TooManyAlternatives);
-        }
+    }
+
+    /// The request for this meeting in the room.
+    pub fn of_meeting(room: RoomName, meeting: Meeting) -> Request
+        ensures { result ≡ record { room = room; meeting = meeting } }
+    {
         room.as_str();
-        title.as_str();
-        Ok(Request {
-            room,
-            title,
-            length,
-            wish,
-            alternatives,
-        })
+        meeting.is_within_limits();
+        Request { room, meeting }
     }
 
     /// The request with these words; else the smallest refusal that applies.
@@ -101,30 +79,12 @@ impl Request {
         }
         let room = RoomName::make(alloc, room)?;
         let title = Title::make(alloc, title)?;
-        Ok(Request {
-            room,
+        let meeting = Meeting {
             title,
             length,
             wish,
             alternatives,
-        })
+        };
+        Ok(Request { room, meeting })
     }
-}
-
-fn are_too_many(alternatives: &[Slot]) -> bool
-    ensures { result ≡ nat_lt greatest_alternatives (length alternatives.now) }
-{
-    alternatives.len() > 8
-}
-
-fn fits(length: u32, wish: Slot, alternatives: &[Slot]) -> bool
-    ensures { result ≡ is_length_for length (wish ∷ alternatives.now) }
-{
-    length >= 1 && length <= 1440 && wish.fits_day(length) && all_fit_day(length, alternatives)
-}
-
-fn all_fit_day(length: u32, slots: &[Slot]) -> bool
-    ensures { result ≡ list_all (λ s. is_slot s && fits_day length s) slots.now }
-{
-    slots.iter().all(|slot| slot.fits_day(length))
 }

@@ -1,70 +1,51 @@
 ghost use Rattle.std.specs.Prelude.{◌≡◌, ◌↔◌, ◌&&◌, IsTrue, Ok};
-ghost use Rattle.mr_model.specs.Writes.{Write as WriteOfRoom, is_write, same_slots, same_write, stamp_before as is_before};
+ghost use Rattle.mr_model.specs.Writes.{Write as WriteOfRoom, Books, Cancels, is_write, same_write, stamp_before as is_before};
 ghost use Rattle.mr_model.specs.Requests.{stamped};
+ghost use Rattle.mr_model.specs.Exchange.{is_told_write};
 ghost use Rattle.mr_base.specs.Answers.{OrOutOfMemory};
+ghost use Rattle.mr_base.specs.Actions.{action_of};
 ghost use Rattle.mr_base.specs.Limits.{limited};
 
-use crate::{Alternatives, Refusal, Request, RoomName, Slot, Stamp, Title};
+use crate::actions::{are_same, copy_of};
+use crate::{Action, Alternatives, Refusal, Request, RoomName, Slot, Stamp, Title, WriteId};
 use std::alloc::Global;
 use std::marker::Model;
 
-/// A write: a request with its stamp.
+/// A write: a booking or a cancel, with its stamp and its room.
 #[derive(Debug, Drop)]
 pub struct Write {
     pub stamp: Stamp,
     pub room: RoomName,
-    pub title: Title,
-    pub length: u32,
-    pub wish: Slot,
-    pub alternatives: Alternatives,
+    pub action: Action,
 }
 
 impl Model for Write {
     ghost Value = { WriteOfRoom };
 
-    ghost view = { λ w. record {
-      stamp = w.stamp;
-      room = w.room;
-      title = w.title;
-      length = w.length;
-      wish = w.wish;
-      alternatives = w.alternatives;
-    } };
+    ghost view = { λ w. record { stamp = w.stamp; room = w.room; action = action_of w.action } };
 
     ghost invariant = { λ w. IsTrue (is_write (record {
       stamp = w.stamp;
       room = w.room;
-      title = w.title;
-      length = w.length;
-      wish = w.wish;
-      alternatives = w.alternatives;
+      action = action_of w.action;
     })) };
 }
 
 impl Write {
-    /// The request with that stamp.
+    /// The booking of that request, with that stamp.
     pub fn of_request(stamp: Stamp, request: Request) -> Write
         ensures { result ≡ stamped stamp request }
     {
         let Stamp { server, n, time } = stamp;
-        let Request {
-            room,
-            title,
-            length,
-            wish,
-            alternatives,
-        } = request;
+        let Request { room, meeting } = request;
         Write {
             stamp: Stamp { server, n, time },
             room,
-            title,
-            length,
-            wish,
-            alternatives,
+            action: Action::Books(meeting),
         }
     }
 
-    /// The write, where the length and the choices are within the limits; else the smallest refusal that applies.
+    /// The booking, where the length and the choices are within the limits; else the smallest refusal that applies.
     pub fn new(
         stamp: Stamp,
         room: RoomName,
@@ -76,10 +57,7 @@ impl Write {
         ensures { result ≡ limited length wish alternatives (record {
           stamp = stamp;
           room = room;
-          title = title;
-          length = length;
-          wish = wish;
-          alternatives = alternatives;
+          action = Books (record { title = title; length = length; wish = wish; alternatives = alternatives });
         }) }
     {
         match Request::new(room, title, length, wish, alternatives) {
@@ -88,20 +66,30 @@ impl Write {
         }
     }
 
+    /// The cancel of the booking with this id.
+    pub fn cancel(stamp: Stamp, room: RoomName, target: WriteId) -> Write
+        ensures { result ≡ record { stamp = stamp; room = room; action = Cancels target } }
+    {
+        room.as_str();
+        let Stamp { server, n, time } = stamp;
+        let _count = target.n;
+        Write {
+            stamp: Stamp { server, n, time },
+            room,
+            action: Action::Cancels(target),
+        }
+    }
+
     /// An equal write.
     pub fn copy(&self, alloc: Global) -> Result<Write, Refusal>
         ensures { OrOutOfMemory result (Ok self.now) }
     {
         let room = self.room.copy(alloc)?;
-        let title = self.title.copy(alloc)?;
-        let alternatives = self.alternatives.copy(alloc)?;
+        let action = copy_of(&self.action, alloc)?;
         Ok(Write {
             stamp: self.stamp,
             room,
-            title,
-            length: self.length,
-            wish: self.wish,
-            alternatives,
+            action,
         })
     }
 
@@ -109,7 +97,17 @@ impl Write {
     pub fn is_within_limits(&self)
         ensures { IsTrue (is_write self.now) }
     {
-        let _length = self.length;
+        let _stamp = self.stamp;
+    }
+
+    /// Whether the exchange text can say it: it is no cancel, and no booking of more than 8 alternatives.
+    pub fn can_be_said(&self) -> bool
+        ensures { result ≡ is_told_write self.now }
+    {
+        match &self.action {
+            Action::Books(meeting) => meeting.alternatives.as_slice().len() <= 8,
+            Action::Cancels(_) => false,
+        }
     }
 
     /// Whether the two are equal in all parts.
@@ -124,18 +122,7 @@ impl Write {
 fn have_same_parts(a: &Write, b: &Write) -> bool
     ensures { result ≡ same_write a.now b.now }
 {
-    a.stamp == b.stamp
-        && a.room.as_str() == b.room.as_str()
-        && a.title.as_str() == b.title.as_str()
-        && a.length == b.length
-        && a.wish == b.wish
-        && are_same_slots(a.alternatives.as_slice(), b.alternatives.as_slice())
-}
-
-fn are_same_slots(a: &[Slot], b: &[Slot]) -> bool
-    ensures { result ≡ same_slots a.now b.now }
-{
-    a == b
+    a.stamp == b.stamp && a.room.as_str() == b.room.as_str() && are_same(&a.action, &b.action)
 }
 
 /// Whether the first stands before the second in the order of stamps: by time, then by server.

@@ -2,8 +2,9 @@
 // What a test compares is made by functions without clauses, so that its proof carries no values that own memory.
 
 use mr_base::{
-    Alternatives, Batch, CommitNumber, Day, Ending, Item, LineCount, Position, Refusal, Request,
-    RoomName, ServerId, Slot, Stamp, Title, Write, WriteId, overlaps, stamp_before,
+    Action, Alternatives, Batch, CommitNumber, Day, Ending, Item, LineCount, Meeting, Position,
+    Refusal, Request, RoomName, ServerId, Slot, Stamp, Title, Write, WriteId, overlaps,
+    stamp_before,
 };
 use std::alloc::Global;
 use std::test::Fail;
@@ -237,21 +238,85 @@ fn writes_are_copied_and_compared(rt: HostRuntime) -> Result<(), Fail> {
     Ok(())
 }
 
+// a cancel's stamp and its target; what it and its copy are to the cancel 2-2 of 1-1 at time 2; and whether that cancel stands
+// before it
+static CANCELS: [((u32, u32, u64), (u32, u32), Result<(bool, bool), Refusal>); 5] = [
+    ((2, 2, 2), (1, 1), Ok((true, false))),
+    ((2, 2, 2), (1, 2), Ok((false, false))),
+    ((2, 2, 2), (2, 1), Ok((false, false))),
+    ((2, 3, 2), (1, 1), Ok((false, false))),
+    ((3, 2, 2), (1, 1), Ok((false, true))),
+];
+
+fn id((number, n): (u32, u32)) -> Result<WriteId, Refusal> {
+    match WriteId::new(server(number)?, n) {
+        Some(id) => Ok(id),
+        None => Err(Refusal::CountExhausted),
+    }
+}
+
+// The cancel for oak with this stamp.
+fn cancel(alloc: Global, numbers: (u32, u32, u64), target: (u32, u32)) -> Result<Write, Refusal> {
+    let Some(stamp) = stamp(numbers) else {
+        return Err(Refusal::ClockExhausted);
+    };
+    Ok(Write::cancel(stamp, RoomName::new(alloc, "oak")?, id(target)?))
+}
+
+// What a cancel and the copy of another are to each other.
+fn compared_cancels(
+    alloc: Global,
+    first: &Write,
+    numbers: (u32, u32, u64),
+    target: (u32, u32),
+) -> Result<(bool, bool), Refusal> {
+    let other = cancel(alloc, numbers, target)?.copy(alloc)?;
+    Ok((first.is_same(&other), stamp_before(first, &other)))
+}
+
+fn is_cancel_of(write: &Write, target: (u32, u32)) -> Result<bool, Refusal> {
+    let wanted = id(target)?;
+    match &write.action {
+        Action::Cancels(found) => Ok(*found == wanted),
+        Action::Books(_) => Ok(false),
+    }
+}
+
+// Whether a booking and a cancel under one stamp are the same.
+fn are_kinds_same(alloc: Global) -> Result<bool, Refusal> {
+    let booking = write(alloc, (2, 2, 2), 60, &[540])?;
+    let other = cancel(alloc, (2, 2, 2), (1, 1))?;
+    Ok(booking.is_same(&other) || other.is_same(&booking))
+}
+
+#[test]
+fn cancels_are_copied_and_compared(rt: HostRuntime) -> Result<(), Fail> {
+    let first = cancel(rt.alloc(), (2, 2, 2), (1, 1))?;
+    assert_eq!(rt; is_cancel_of(&first, (1, 1)), Ok(true));
+    for (numbers, target, want) in &CANCELS {
+        let found = compared_cancels(rt.alloc(), &first, *numbers, *target);
+        assert_eq!(rt; found, *want, "at {numbers:?} and {target:?}");
+    }
+    assert_eq!(rt; are_kinds_same(rt.alloc()), Ok(false));
+    Ok(())
+}
+
 // the words of a request that wishes 14:00, its length and its alternatives, and its smallest refusal
-static REQUESTS: [((&str, &str), u32, &[u32], Result<bool, Refusal>); 13] = [
+static REQUESTS: [((&str, &str), u32, &[u32], Result<bool, Refusal>); 14] = [
     (("oak", "Audit"), 60, &[], Ok(true)),
     (("oak", "Audit"), 600, &[540, 600], Ok(true)),
-    (("oak", "Audit"), 60, &[540; 8], Ok(true)),
+    (("oak", "Audit"), 60, &[540; 9], Ok(true)),
+    (("oak", "Audit"), 60, &[540; 16], Ok(true)),
     (
         ("oak", "Audit"),
         60,
-        &[540; 9],
+        &[540; 17],
         Err(Refusal::TooManyAlternatives),
     ),
-    (("oak", ""), 60, &[540; 9], Err(Refusal::BadTitle)),
-    (("Oak", ""), 60, &[540; 9], Err(Refusal::BadRoomName)),
-    (("Oak", ""), 0, &[540; 9], Err(Refusal::BadLength)),
-    (("Oak", "Audit"), 60, &[540; 9], Err(Refusal::BadRoomName)),
+    (("oak", ""), 60, &[540; 17], Err(Refusal::BadTitle)),
+    (("Oak", ""), 60, &[540; 17], Err(Refusal::BadRoomName)),
+    (("Oak", ""), 0, &[540; 17], Err(Refusal::BadLength)),
+    (("Oak", "Audit"), 60, &[540; 17], Err(Refusal::BadRoomName)),
     (("oak", " Audit"), 60, &[], Err(Refusal::BadTitle)),
     (("", "Audit"), 60, &[], Err(Refusal::BadRoomName)),
     (("oak", "Audit"), 601, &[], Err(Refusal::BadLength)),
@@ -268,13 +333,15 @@ fn is_request_of(
 ) -> Result<bool, Refusal> {
     let wish = slot(MONDAY, 840)?;
     let made = Request::of_words(alloc, room, title, length, wish, slots(alloc, others)?)?;
-    Ok(
-        made.room.as_str() == room
-            && made.title.as_str() == title
-            && made.length == length
-            && made.wish == wish
-            && made.alternatives.as_slice().len() == others.len(),
-    )
+    Ok(made.room.as_str() == room && is_meeting_of(&made.meeting, title, length, wish, others))
+}
+
+// Whether the meeting has these parts.
+fn is_meeting_of(meeting: &Meeting, title: &str, length: u32, wish: Slot, others: &[u32]) -> bool {
+    meeting.title.as_str() == title
+        && meeting.length == length
+        && meeting.wish == wish
+        && meeting.alternatives.as_slice().len() == others.len()
 }
 
 #[test]
@@ -298,17 +365,34 @@ fn is_batch_made(alloc: Global) -> Result<bool, Refusal> {
     let Some(seq) = CommitNumber::new(1) else {
         return Err(Refusal::NoSuchRequest);
     };
-    let made = write(alloc, (2, 1, 1), 60, &[540])?;
+    let made = write(alloc, (2, 1, 1), 60, &[540; 8])?;
     let id = made.stamp.id();
     let mut items = Vec::new(alloc);
     items.push(Item::W(made))?;
     items.push(Item::C { seq, id })?;
-    let batch = Batch::new(from, primary, items, Ending::More);
+    let batch = Batch::new(from, primary, items, Ending::More)?;
     Ok(
         batch.header == Some((from, primary))
             && batch.items.len() == 2
             && batch.ending == Ending::More,
     )
+}
+
+// Why there is no batch of this write: the exchange text can't say it.
+fn refused_batch(alloc: Global, write: Write) -> Result<Option<Refusal>, Refusal> {
+    let mut items = Vec::new(alloc);
+    items.push(Item::W(write))?;
+    Ok(Batch::new(server(2)?, server(1)?, items, Ending::Complete).err())
+}
+
+// Of a booking with this many alternatives.
+fn refused_booking(alloc: Global, others: &[u32]) -> Result<Option<Refusal>, Refusal> {
+    refused_batch(alloc, write(alloc, (2, 1, 1), 60, others)?)
+}
+
+// Of a cancel.
+fn refused_cancel(alloc: Global) -> Result<Option<Refusal>, Refusal> {
+    refused_batch(alloc, cancel(alloc, (2, 1, 1), (1, 1))?)
 }
 
 // the commits and the counts of a position, and whether they are one's
@@ -334,6 +418,10 @@ fn is_position(alloc: Global, commits: u64, of: &[(u32, u32)]) -> Result<bool, R
 #[test]
 fn batches_and_positions_are_made(rt: HostRuntime) {
     assert_eq!(rt; is_batch_made(rt.alloc()), Ok(true));
+    assert_eq!(rt; refused_booking(rt.alloc(), &[540; 8]), Ok(None));
+    let needs = Ok(Some(Refusal::NeedsVersion2));
+    assert_eq!(rt; refused_booking(rt.alloc(), &[540; 9]), needs);
+    assert_eq!(rt; refused_cancel(rt.alloc()), needs);
     let empty = Batch::without_header(Vec::new(rt.alloc()));
     assert!(rt; empty.header.is_none() && empty.ending == Ending::Cut);
     for (commits, counts, want) in &POSITIONS {
@@ -341,7 +429,7 @@ fn batches_and_positions_are_made(rt: HostRuntime) {
     }
 }
 
-static REFUSALS: [(Refusal, u32, &str, Option<u64>); 26] = [
+static REFUSALS: [(Refusal, u32, &str, Option<u64>); 27] = [
     (Refusal::BadDay, 1, "BadDay", None),
     (Refusal::BadTime, 2, "BadTime", None),
     (Refusal::BadLength, 3, "BadLength", None),
@@ -368,6 +456,7 @@ static REFUSALS: [(Refusal, u32, &str, Option<u64>); 26] = [
     (Refusal::OutOfMemory, 24, "OutOfMemory", None),
     (Refusal::Store, 25, "Store", None),
     (Refusal::NotAReplica, 26, "NotAReplica", None),
+    (Refusal::NeedsVersion2, 27, "NeedsVersion2", None),
 ];
 
 #[test]

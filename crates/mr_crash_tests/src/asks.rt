@@ -9,6 +9,7 @@ use std::alloc::{AllocError, Global};
 pub(crate) enum Ask {
     Room,
     Book,
+    Cancel,
     Position,
     Batch,
     Sheet,
@@ -54,6 +55,14 @@ fn sheet(alloc: Global) -> Result<Local, AllocError> {
     })
 }
 
+fn cancel(alloc: Global) -> Result<Local, AllocError> {
+    let room = text(alloc, "oak")?;
+    Ok(Local::Cancel {
+        room,
+        id: text(alloc, "2-1")?,
+    })
+}
+
 fn outcome(alloc: Global) -> Result<Local, AllocError> {
     let room = text(alloc, "oak")?;
     Ok(Local::Outcome {
@@ -66,6 +75,7 @@ fn command(alloc: Global, ask: Ask) -> Result<Command, AllocError> {
     match ask {
         Ask::Room => Ok(Command::Local(Local::AddRoom(text(alloc, "oak")?))),
         Ask::Book => Ok(Command::Local(booking(alloc)?)),
+        Ask::Cancel => Ok(Command::Local(cancel(alloc)?)),
         Ask::Position => Ok(Command::Local(Local::Position)),
         Ask::Batch => Ok(Command::Receive(BATCH.as_bytes().to_vec(alloc)?)),
         Ask::Sheet => Ok(Command::Local(sheet(alloc)?)),

@@ -27,8 +27,12 @@ const BOOKED: &str =
 const MOVED: &str =
     "oak 1995-12-18 Monday\n13:30-14:30 C 3-1 Beta\n16:00-17:00 T 2-1 Alpha\noak full\n1995-12-18 13:30-14:30 C 3-1 Beta\n1995-12-18 16:00-17:00 T 2-1 Alpha\noak committed\n1995-12-18 13:30-14:30 C 3-1 Beta\noak errors\n(no errors)\nmp1 2 1\nK 1\nV 2 1\nV 3 1\nE\n";
 
+/// What was moved is taken back.
+const TAKEN_BACK: &str =
+    "oak 1995-12-18 Monday\n13:30-14:30 C 3-1 Beta\noak full\n1995-12-18 13:30-14:30 C 3-1 Beta\noak committed\n1995-12-18 13:30-14:30 C 3-1 Beta\noak errors\n(no errors)\nmp1 2 1\nK 1\nV 2 2\nV 3 1\nE\n";
+
 /// The first one finds empty files, in which the tables are made.
-static ROWS: [Row; 8] = [
+static ROWS: [Row; 10] = [
     (Ask::Position, "mp1 2 1\nK 0\nE\n", NEW),
     (Ask::Room, "ok\n", EMPTY),
     (Ask::Book, "2-1 T 1995-12-18 14:00-15:00\n", BOOKED),
@@ -45,6 +49,8 @@ static ROWS: [Row; 8] = [
         MOVED,
     ),
     (Ask::Outcome, "2-1 T 1995-12-18 16:00-17:00\n", MOVED),
+    (Ask::Cancel, "2-2 T cancels 2-1\n", TAKEN_BACK),
+    (Ask::Outcome, "2-1 T cancelled T 2-2\n", TAKEN_BACK),
 ];
 
 /// More calls than a file is asked.
@@ -209,6 +215,20 @@ fn disks_stop_at_a_calendar(rt: HostRuntime) -> Result<(), Fail> {
 #[test]
 fn disks_stop_at_an_outcome(rt: HostRuntime) -> Result<(), Fail> {
     let (of_log, of_database) = stops_at(&rt, rt.alloc(), 7)?;
+    println!(rt; "{of_log} stops of the log, {of_database} of the database")?;
+    Ok(())
+}
+
+#[test]
+fn disks_stop_at_a_cancel(rt: HostRuntime) -> Result<(), Fail> {
+    let (of_log, of_database) = stops_at(&rt, rt.alloc(), 8)?;
+    println!(rt; "{of_log} stops of the log, {of_database} of the database")?;
+    Ok(())
+}
+
+#[test]
+fn disks_stop_at_the_outcome_of_what_was_taken_back(rt: HostRuntime) -> Result<(), Fail> {
+    let (of_log, of_database) = stops_at(&rt, rt.alloc(), 9)?;
     println!(rt; "{of_log} stops of the log, {of_database} of the database")?;
     Ok(())
 }

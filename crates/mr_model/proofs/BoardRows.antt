@@ -4,8 +4,8 @@ use Rattle.std.specs.Fmt.{digits}
 use Rattle.mr_model.specs.Texts.{Text, numbers_on}
 use Rattle.mr_model.specs.Calendar.{Date, days_in_february, days_in_month, read_date, weekday_name}
 use Rattle.mr_model.specs.Slots.{Slot, overlaps}
-use Rattle.mr_model.specs.Writes.{Write}
-use Rattle.mr_model.specs.Replay.{Taken, Logged}
+use Rattle.mr_model.specs.Writes.{Books, Cancels, Write}
+use Rattle.mr_model.specs.Replay.{Taken, Logged, Done, Void}
 use Rattle.mr_model.specs.Board.{board_replay}
 
 abbrev day : Date
@@ -63,16 +63,16 @@ februaries = refl
 -- ---- a board
 
 abbrev alpha : Write
-alpha = record { stamp = record { server = 2; n = 1; time = 1 }; room = codes "oak"; title = codes "Alpha"; length = 60; wish = record { day = day; start = 540 }; alternatives = record { day = day; start = 600 } ∷ [] }
+alpha = record { stamp = record { server = 2; n = 1; time = 1 }; room = codes "oak"; action = Books (record { title = codes "Alpha"; length = 60; wish = record { day = day; start = 540 }; alternatives = record { day = day; start = 600 } ∷ [] }) }
 
 abbrev beta : Write
-beta = record { stamp = record { server = 2; n = 2; time = 2 }; room = codes "oak"; title = codes "Beta"; length = 60; wish = record { day = day; start = 600 }; alternatives = [] }
+beta = record { stamp = record { server = 2; n = 2; time = 2 }; room = codes "oak"; action = Books (record { title = codes "Beta"; length = 60; wish = record { day = day; start = 600 }; alternatives = [] }) }
 
 abbrev xray : Write
-xray = record { stamp = record { server = 1; n = 1; time = 1 }; room = codes "oak"; title = codes "Xray"; length = 30; wish = record { day = day; start = 540 }; alternatives = [] }
+xray = record { stamp = record { server = 1; n = 1; time = 1 }; room = codes "oak"; action = Books (record { title = codes "Xray"; length = 30; wish = record { day = day; start = 540 }; alternatives = [] }) }
 
 abbrev other : Write
-other = record { stamp = record { server = 3; n = 1; time = 1 }; room = codes "elm"; title = codes "Other"; length = 60; wish = record { day = day; start = 540 }; alternatives = [] }
+other = record { stamp = record { server = 3; n = 1; time = 1 }; room = codes "elm"; action = Books (record { title = codes "Other"; length = 60; wish = record { day = day; start = 540 }; alternatives = [] }) }
 
 -- two requests at their wishes
 two_requests : board_replay (alpha ∷ beta ∷ []) ≡ Taken 0 ∷ Taken 0 ∷ []
@@ -81,3 +81,16 @@ two_requests = refl
 -- with an early one before them the first goes to its alternative, and the second finds that taken; another room is apart
 early_request : board_replay (xray ∷ alpha ∷ other ∷ beta ∷ []) ≡ Taken 0 ∷ Taken 1 ∷ Taken 0 ∷ Logged ∷ []
 early_request = refl
+
+abbrev cancel_of : ℕ → ℕ → Write
+cancel_of n time = record { stamp = record { server = 1; n = n; time = time }; room = codes "oak"; action = Cancels (record { server = 2; n = 1 }) }
+
+-- a cancel frees the slot of its target, once; in another room, and before its target, it finds nothing
+cancelled_once : board_replay (alpha ∷ cancel_of 2 2 ∷ xray ∷ cancel_of 3 3 ∷ []) ≡ Taken 0 ∷ Done ∷ Taken 0 ∷ Void ∷ []
+cancelled_once = refl
+
+cancelled_elsewhere : board_replay (alpha ∷ record (cancel_of 2 2) { room = codes "elm" } ∷ xray ∷ []) ≡ Taken 0 ∷ Void ∷ Logged ∷ []
+cancelled_elsewhere = refl
+
+cancelled_before : board_replay (cancel_of 2 1 ∷ alpha ∷ xray ∷ []) ≡ Void ∷ Taken 0 ∷ Logged ∷ []
+cancelled_before = refl

@@ -1,21 +1,19 @@
 -- The rows that a commit changes.
-use Rattle.std.proofs.Common.{◌≡◌, refl, sym, ap, ◌∙◌, ℕ, zero, suc, ◌+◌, Bool, true, false, cond, eqb, List, [], ◌∷◌, ◌++◌, length, map, Some, None, arith, length-append}
+use Rattle.std.proofs.Common.{◌≡◌, refl, ap, ◌∙◌, ℕ, zero, suc, ◌+◌, Bool, true, false, cond, eqb, List, [], ◌∷◌, ◌++◌, length, map, Some, arith, length-append}
 use Rattle.std.proofs.lemmas.List.{length-map}
 use Rattle.std.proofs.lemmas.List.Elements.{filter-append}
 use Rattle.std.specs.List.{slice_get}
 use Rattle.mr_model.specs.Writes.{Id, Write, id_of}
-use Rattle.mr_model.specs.Replica.{Replica, writes_of, clock_of, commits_of, committed_count, is_among, is_dropped, IsReplica}
-use Rattle.mr_model.specs.Tables.{by_id, undo_row, tables_of}
-use Rattle.mr_model.specs.Dropped.{Has}
+use Rattle.mr_model.specs.Replica.{Replica, writes_of, clock_of, commits_of, committed_count, IsReplica}
+use Rattle.mr_model.specs.View.{of_room}
 use Rattle.mr_model.specs.Changes.{first_tentative, after_commit, CommitChanges}
 use Rattle.mr_model.proofs.Members.{among_not}
 use Rattle.mr_model.proofs.KnownById.{committed_known, distinct_commits}
-use Rattle.mr_model.proofs.RowsById.{by_id_has, map_filter, seq_not, seq_at}
-use Rattle.mr_model.proofs.TwinTables.{kept_undo, among-append}
+use Rattle.mr_model.proofs.RowsById.{seq_not, seq_at}
+use Rattle.mr_model.proofs.Orders.{among-append, committed-commit, order-commit, place-commit}
 use Rattle.mr_model.proofs.TwinChanges.{seq_front}
-use Rattle.mr_model.proofs.CommandPlaces.{committed-commit, order-commit, place-commit}
+use Rattle.mr_model.proofs.Cancellers.{canceller-same}
 use Rattle.mr_model.proofs.UniqueReplay.{some_inj, none_some}
-use Rattle.mr_model.proofs.Fronts.{take-front}
 
 -- ---- a commit
 
@@ -45,6 +43,7 @@ commit_changes r k h g =
       order = order-commit r k h;
       commit_order = committed-commit r k h;
       places = λ v a. place-commit r k v h g a;
+      cancellers = λ v a. canceller-same (after_commit r k) r v g h a a (ap (of_room v.room) (order-commit r k h));
       marks = λ v. among-append (id_of v) r.commits ids;
       old_numbers = λ v a. seq_front 1 r.commits ids (id_of v) (committed_known r v h a).1;
       new_numbers = λ i v e. seq_at 1 (r.commits ++ ids) (id_of v) (length r.commits + i) (distinct_commits (after_commit r k) g) (slice_behind r.commits ids i ∙ slice_map id_of (first_tentative r k) i v e) ∙ omega arith;
@@ -52,7 +51,6 @@ commit_changes r k h g =
       meta = (let l = long in λ i. record { server = r.server; primary = r.primary; commits = l i; dropped = r.dropped; clock = clock_of r });
       room = refl;
       committed_counts = λ s. ap length (filter-append (λ (id : Id). eqb id.server s) r.commits ids) ∙ length-append (commits_of s r.commits) (commits_of s ids) ∙ ap (λ m. committed_count r s + m) (ids_of_server s (first_tentative r k));
-      undo = undo;
     }
   where
     ids : List Id
@@ -60,18 +58,3 @@ commit_changes r k h g =
 
     long : length (r.commits ++ map id_of (first_tentative r k)) ≡ length r.commits + length (first_tentative r k)
     long = length-append r.commits ids ∙ ap (λ m. length r.commits + m) (length-map (first_tentative r k) id_of)
-
-    gone : (id : Id) → is_dropped (after_commit r k) id ≡ is_dropped r id
-    gone id = ap (is_among id) (take-front r.dropped r.commits ids h.dropped_committed)
-
-    rows : (v : Write) → Has v (by_id r.known) → kept_undo (after_commit r k) v ≡ kept_undo r v
-    rows v a =
-        let d = gone (id_of v) in
-        let p = place-commit r k v h g (by_id_has r v a) in
-        λ i. cond (d i) None (Some (record { server = v.stamp.server; n = v.stamp.n; place = p i }))
-
-    undo : (tables_of (after_commit r k)).undo ≡ (tables_of r).undo
-    undo =
-        map_filter (λ v. is_dropped (after_commit r k) (id_of v)) (undo_row (after_commit r k)) (by_id r.known)
-        ∙ Rattle.mr_model.proofs.TwinTables.filter_map_same (kept_undo (after_commit r k)) (kept_undo r) (by_id r.known) rows
-        ∙ sym (map_filter (λ v. is_dropped r (id_of v)) (undo_row r) (by_id r.known))

@@ -1,20 +1,22 @@
 -- Replicas with equal tables reply alike to every command, and have equal tables after it.
 use Rattle.std.proofs.Common.{◌≡◌, refl, sym, ap, ◌∙◌, subst, List, inl, inr}
 use Rattle.mr_model.specs.Replica.{Replica, IsReplica}
+use Rattle.mr_model.specs.Writes.{id_in}
 use Rattle.mr_model.specs.Positions.{read_position}
 use Rattle.mr_model.specs.Replies.{Reply, PositionIs}
 use Rattle.mr_model.specs.Tables.{tables_of}
-use Rattle.mr_model.specs.Step.{Command, AddRoom, Submit, Receive, Commit, Truncate, AskPosition, BatchFor, Ask, After, step, IsStep, IsRun, ended, stepped}
+use Rattle.mr_model.specs.Step.{Command, AddRoom, Submit, Cancel, Receive, Commit, Truncate, AskPosition, BatchFor, Ask, After, step, IsStep, IsRun, ended, stepped}
 use Rattle.mr_model.proofs.StepsKeep.{step_keeps}
 use Rattle.mr_model.proofs.TablesTell.{from_tables}
 use Rattle.mr_model.proofs.TwinTables.{to_tables}
 use Rattle.mr_model.proofs.TwinTaking.{Twins}
-use Rattle.mr_model.proofs.TwinSteps.{TwinAfter, twin_add_room_step, twin_submit, twin_receive, twin_commit_step, twin_truncate_step, same_position, same_to_position}
-use Rattle.mr_model.proofs.RoomEntries.{same_answer, same_outcome_at}
+use Rattle.mr_model.proofs.TwinSteps.{TwinAfter, twin_add_room_step, twin_submit, twin_cancel, twin_receive, twin_commit_step, twin_truncate_step, same_position, same_to_position}
+use Rattle.mr_model.proofs.AnswersAlike.{same_answer, same_outcome_at, same_knows}
 
 pub twin_step : (a b : Replica) (c : Command) → Twins a b → TwinAfter (step a c) (step b c)
 twin_step a b (AddRoom room) t = twin_add_room_step a b room t
 twin_step a b (Submit s) t = twin_submit a b s t same_outcome_at
+twin_step a b (Cancel room id) t = twin_cancel a b room id t same_outcome_at (same_knows a b room (id_in id) t)
 twin_step a b (Receive bytes) t = twin_receive a b bytes t
 twin_step a b (Commit k) t = twin_commit_step a b k t
 twin_step a b (Truncate n) t = twin_truncate_step a b n t

@@ -1,27 +1,37 @@
 -- What the rows in scope tell of a replica.
 use Rattle.std.proofs.Common.{◌≡◌, refl, sym, ap, ◌∙◌, subst, ℕ, zero, suc, ◌+◌, ◌-◌, ◌<◌, ◌≤◌, Bool, true, false, not, cond, ◌&&◌, ◌||◌, ◌↔◌, eqb, ltb, leb, List, [], ◌∷◌, ◌++◌, length, map, take, drop, ◌⊎◌, inl, inr, arith, append_assoc, append-nil, IsTrue, Option, Some, None}
 use Rattle.std.proofs.lemmas.Bool.Decides.{nat_tests}
-use Rattle.std.proofs.lemmas.Bool.{cond-true, cond-false, true≢false, false_from_ne_true, and_parts}
+use Rattle.std.proofs.lemmas.Bool.{cond-true, cond-false, true≢false, false_from_ne_true, and_parts, and_from}
 use Rattle.std.proofs.lemmas.List.Elements.{filter-append}
 use Rattle.std.specs.List.{AllByRecursion, filter, slice_get}
-use Rattle.mr_model.specs.Texts.{within}
-use Rattle.mr_model.specs.Writes.{Id, Write, id_of, stamp_before}
-use Rattle.mr_model.specs.Replica.{Replica, count_of, is_dropped, is_committed, write_with, tentative, IsReplica, AreInStampOrder, is_among}
-use Rattle.mr_model.specs.Tables.{LogRow, UndoRow, log_row, undo_row, seq_of, tables_of}
+use Rattle.std.specs.Str.{bytes_eq}
+use Rattle.std.proofs.lemmas.Slice.Eq.{bytes_eq-Decides}
+use Rattle.mr_model.specs.Texts.{Text, within}
+use Rattle.mr_model.specs.Writes.{Id, Action, Books, Cancels, Write, id_of, same_id, is_booking, stamp_before}
+use Rattle.mr_model.specs.Replay.{Done, Booking}
+use Rattle.mr_model.specs.Board.{place_on, board_after}
+use Rattle.mr_model.specs.Replica.{Replica, count_of, is_dropped, is_committed, write_with, committed, tentative, order_of, IsReplica, AreInStampOrder, is_among}
+use Rattle.mr_model.specs.Step.{knows_booking}
+use Rattle.mr_model.specs.Tables.{LogRow, BookingRow, ErrorRow, CancelledRow, PlaceRow, log_row, place_row, cancelled_row, seq_of, tables_of}
+use Rattle.mr_model.specs.Tables as rows
+use Rattle.mr_model.specs.Queries.{booking_id, error_id, cancelled_id, row_id, row_room, IsRowFor, IsRowIn}
 use Rattle.mr_model.specs.Dropped.{Has}
 use Rattle.mr_model.specs.Kept.{kept_in_order, LogBefore, AreInRunOrder}
 use Rattle.mr_model.specs.Changes.{IdBefore, RiseById, SameRows, first_tentative}
+use Rattle.mr_model.specs.Scopes.{OfTarget, NextCommits, UpTo, Above, log_row_id, is_tentative, row_before, put_row, by_stamp, in_scope}
+use Rattle.mr_model.specs.RowsInScope.{kept_commits, told_booking, HasRowOfRoom, booked, logged, cancelled}
 use Rattle.mr_model.proofs.KeyOrder.{tables_in_order}
-use Rattle.mr_model.proofs.RoomPlaces.{known_in_order}
-use Rattle.mr_model.proofs.Members.{has_filter, filter_has, has_map, map_has, all_has, has_all, has_among, among_has, Sorted, sorted_same}
+use Rattle.mr_model.proofs.PlacesOfOrder.{known_in_order}
+use Rattle.mr_model.proofs.Members.{has_filter, filter_has, has_map, map_has, all_has, has_all, has_among, among_has, Sorted, sorted_same, same_id-true, same_id_from, any_has, has_any}
 use Rattle.mr_model.proofs.KnownById.{tentative_known, committed_known, tentative_sorted, known_at, one_known, found_ids, commit_found, distinct_commits}
 use Rattle.mr_model.proofs.RowsById.{seq_not, seq_has, seq_at, slice_drop}
 use Rattle.mr_model.proofs.CommitRows.{slice_map}
 use Rattle.mr_model.proofs.RowsOfKnown.{rows_of_known}
-use Rattle.mr_model.proofs.TablesTell.{not_committed_kept}
+use Rattle.mr_model.proofs.DroppedApart.{not_committed_kept}
+use Rattle.mr_model.proofs.TablesTell.{key-row}
+use Rattle.mr_model.proofs.RowsTell.{one_row, row_is_in, row_in_is, cancelled_is}
 use Rattle.mr_model.proofs.LogOrder.{kept_is_the_log}
-use Rattle.mr_model.specs.Scopes.{NextCommits, UpTo, Above, log_row_id, undo_row_id, is_tentative, row_before, put_row, by_stamp, in_scope}
-use Rattle.mr_model.specs.RowsInScope.{kept_commits}
+use Rattle.mr_model.proofs.BookedRows.{StandsIn, stands_row, row_stands, done_target, target_done}
 
 -- ---- rows that are picked
 
@@ -34,26 +44,26 @@ run_filter f p (w ∷ ws) s = go (p w) (run_filter f p ws s.1)
     go false r = r
     go true r = (has_all (LogBefore (f w)) (map f (filter p ws)) (λ row h. let (v, g, e) = map_has f row (filter p ws) h in subst (LogBefore (f w)) (sym e) (all_has (LogBefore (f w)) (f v) (map f ws) s.0 (has_map f v ws (filter_has p v ws g).0))), r)
 
-pub picked_rows : (r : Replica) (test : LogRow → Bool) → IsReplica r → SameRows (filter test (tables_of r).write_log) (map (log_row r) (filter (λ w. test (log_row r w)) (kept_in_order r))) × AreInRunOrder (map (log_row r) (filter (λ w. test (log_row r w)) (kept_in_order r)))
+pub picked_rows : (r : Replica) (test : LogRow → Bool) → IsReplica r → SameRows (filter test (tables_of r).log) (map (log_row r) (filter (λ w. test (log_row r w)) (kept_in_order r))) × AreInRunOrder (map (log_row r) (filter (λ w. test (log_row r w)) (kept_in_order r)))
 picked_rows r test h = (λ row. (there row, back row), run_filter (log_row r) (λ w. test (log_row r w)) (kept_in_order r) (kept_is_the_log r h).in_order)
   where
-    there : (row : LogRow) → Has row (filter test (tables_of r).write_log) → Has row (map (log_row r) (filter (λ w. test (log_row r w)) (kept_in_order r)))
+    there : (row : LogRow) → Has row (filter test (tables_of r).log) → Has row (map (log_row r) (filter (λ w. test (log_row r w)) (kept_in_order r)))
     there row a =
-        let f = filter_has test row (tables_of r).write_log a in
+        let f = filter_has test row (tables_of r).log a in
         let (w, g, e) = map_has (log_row r) row (kept_in_order r) (((kept_is_the_log r h).same_rows row).0 f.0) in
         subst (λ x. Has x (map (log_row r) (filter (λ w. test (log_row r w)) (kept_in_order r)))) (sym e)
         (has_map (log_row r) w (filter (λ w. test (log_row r w)) (kept_in_order r)) (has_filter (λ w. test (log_row r w)) w (kept_in_order r) (ap test (sym e) ∙ f.1) g))
 
-    back : (row : LogRow) → Has row (map (log_row r) (filter (λ w. test (log_row r w)) (kept_in_order r))) → Has row (filter test (tables_of r).write_log)
+    back : (row : LogRow) → Has row (map (log_row r) (filter (λ w. test (log_row r w)) (kept_in_order r))) → Has row (filter test (tables_of r).log)
     back row a =
         let (w, g, e) = map_has (log_row r) row (filter (λ w. test (log_row r w)) (kept_in_order r)) a in
         let f = filter_has (λ w. test (log_row r w)) w (kept_in_order r) g in
-        has_filter test row (tables_of r).write_log (ap test e ∙ f.1)
+        has_filter test row (tables_of r).log (ap test e ∙ f.1)
         (((kept_is_the_log r h).same_rows row).1 (subst (λ x. Has x (map (log_row r) (kept_in_order r))) (sym e) (has_map (log_row r) w (kept_in_order r) f.0)))
 
 -- where the picked writes are these, the rows are theirs
-picked_are : (r : Replica) (test : LogRow → Bool) (ws : List Write) → IsReplica r → filter (λ w. test (log_row r w)) (kept_in_order r) ≡ ws → SameRows (filter test (tables_of r).write_log) (map (log_row r) ws)
-picked_are r test ws h e = subst (λ vs. SameRows (filter test (tables_of r).write_log) (map (log_row r) vs)) e (picked_rows r test h).0
+picked_are : (r : Replica) (test : LogRow → Bool) (ws : List Write) → IsReplica r → filter (λ w. test (log_row r w)) (kept_in_order r) ≡ ws → SameRows (filter test (tables_of r).log) (map (log_row r) ws)
+picked_are r test ws h e = subst (λ vs. SameRows (filter test (tables_of r).log) (map (log_row r) vs)) e (picked_rows r test h).0
 
 -- ---- commit numbers
 
@@ -126,7 +136,7 @@ get_has x (y ∷ ys) (inl e) = (zero, ap Some (sym e))
 get_has x (y ∷ ys) (inr h) = let (i, e) = get_has x ys h in (suc i, e)
 
 -- a batch for a position
-pub lacked : (r : Replica) (commits : ℕ) → IsReplica r → r.dropped ≤ commits → SameRows (in_scope (Above commits) (tables_of r)).write_log (map (log_row r) (drop (commits - r.dropped) (kept_commits r) ++ tentative r))
+pub lacked : (r : Replica) (commits : ℕ) → IsReplica r → r.dropped ≤ commits → SameRows (in_scope (Above commits) (tables_of r)).log (map (log_row r) (drop (commits - r.dropped) (kept_commits r) ++ tentative r))
 lacked r commits h low =
     picked_are r test (drop (commits - r.dropped) (kept_commits r) ++ tentative r) h
     (filter-append (λ w. test (log_row r w)) (kept_commits r) (tentative r)
@@ -145,7 +155,7 @@ lacked r commits h low =
         positive n l = false_from_ne_true (eqb n 0) (λ e. let z : n ≡ 0 = Rattle.std.proofs.Common.eqb-true n 0 e in omega (arith, z, l))
 
 -- a truncation
-pub truncated : (r : Replica) (d : ℕ) → IsReplica r → SameRows (in_scope (UpTo d) (tables_of r)).write_log (map (log_row r) (take (d - r.dropped) (kept_commits r)))
+pub truncated : (r : Replica) (d : ℕ) → IsReplica r → SameRows (in_scope (UpTo d) (tables_of r)).log (map (log_row r) (take (d - r.dropped) (kept_commits r)))
 truncated r d h =
     picked_are r (λ row. within 1 d row.seq) (take (d - r.dropped) (kept_commits r)) h
     (filter-append (λ w. within 1 d (seq_of r w)) (kept_commits r) (tentative r)
@@ -159,20 +169,20 @@ truncated r d h =
 
 -- ---- a missing row
 
-pub missing : (r : Replica) (id : Id) → IsReplica r → 1 ≤ id.n → id.n ≤ count_of r id.server → (is_dropped r id ≡ true) ↔ ((row : LogRow) → Has row (tables_of r).write_log → log_row_id row ≡ id → ⊥)
+pub missing : (r : Replica) (id : Id) → IsReplica r → 1 ≤ id.n → id.n ≤ count_of r id.server → (is_dropped r id ≡ true) ↔ ((row : LogRow) → Has row (tables_of r).log → log_row_id row ≡ id → ⊥)
 missing r id h low high = (there, back (is_dropped r id) refl)
   where
-    there : is_dropped r id ≡ true → (row : LogRow) → Has row (tables_of r).write_log → log_row_id row ≡ id → ⊥
+    there : is_dropped r id ≡ true → (row : LogRow) → Has row (tables_of r).log → log_row_id row ≡ id → ⊥
     there d row a e =
-        let (w, k, f, g) = ((rows_of_known r h).write_log row).0 a in
+        let (w, k, f, g) = ((rows_of_known r h).log row).0 a in
         let same : id_of w ≡ id = ap log_row_id (sym g) ∙ e in
         true≢false (sym d ∙ ap (is_dropped r) (sym same) ∙ f)
 
-    back : (b : Bool) → is_dropped r id ≡ b → ((row : LogRow) → Has row (tables_of r).write_log → log_row_id row ≡ id → ⊥) → is_dropped r id ≡ true
+    back : (b : Bool) → is_dropped r id ≡ b → ((row : LogRow) → Has row (tables_of r).log → log_row_id row ≡ id → ⊥) → is_dropped r id ≡ true
     back true d none = d
     back false d none =
         let (w, k, e) = known_at r id h low high in
-        absurd (none (log_row r w) (((rows_of_known r h).write_log (log_row r w)).1 (w, k, ap (is_dropped r) e ∙ d, refl)) e)
+        absurd (none (log_row r w) (((rows_of_known r h).log (log_row r w)).1 (w, k, ap (is_dropped r) e ∙ d, refl)) e)
 
 -- ---- the first tentative writes
 
@@ -285,10 +295,10 @@ sorted_rows r [] s = tt
 sorted_rows r (w ∷ ws) s = (has_all (RowBefore (log_row r w)) (map (log_row r) ws) (λ row h. let (v, g, e) = map_has (log_row r) row ws h in subst (RowBefore (log_row r w)) (sym e) (all_has (λ b. IsTrue (stamp_before w b)) v ws s.0 g)), sorted_rows r ws s.1)
 
 -- a row without a number is that of a tentative write
-tentative_row : (r : Replica) (row : LogRow) → IsReplica r → Has row (filter is_tentative (tables_of r).write_log) → (w : Write) × Has w (tentative r) × (row ≡ log_row r w)
+tentative_row : (r : Replica) (row : LogRow) → IsReplica r → Has row (filter is_tentative (tables_of r).log) → (w : Write) × Has w (tentative r) × (row ≡ log_row r w)
 tentative_row r row h a =
-    let f = filter_has is_tentative row (tables_of r).write_log a in
-    let (w, k, d, e) = ((rows_of_known r h).write_log row).0 f.0 in
+    let f = filter_has is_tentative row (tables_of r).log a in
+    let (w, k, d, e) = ((rows_of_known r h).log row).0 f.0 in
     (w, go w k (known_in_order r w h k) (ap is_tentative (sym e) ∙ f.1), e)
   where
     go : (w : Write) → Has w r.known → Has w (Rattle.mr_model.specs.Replica.committed r) ⊎ Has w (tentative r) → eqb (seq_of r w) 0 ≡ true → Has w (tentative r)
@@ -297,21 +307,21 @@ tentative_row r row h a =
         let l : 1 ≤ seq_of r w = seq_has 1 r.commits (id_of w) (committed_known r w h g).1 in
         let n : seq_of r w ≡ 0 = Rattle.std.proofs.Common.eqb-true (seq_of r w) 0 z in absurd (omega (arith, l, n))
 
-row_tentative : (r : Replica) (w : Write) → IsReplica r → Has w (tentative r) → Has (log_row r w) (filter is_tentative (tables_of r).write_log)
+row_tentative : (r : Replica) (w : Write) → IsReplica r → Has w (tentative r) → Has (log_row r w) (filter is_tentative (tables_of r).log)
 row_tentative r w h g =
     let t = tentative_known r w g in
-    has_filter is_tentative (log_row r w) (tables_of r).write_log (ap (λ n. eqb n 0) (no_number r w g)) (((rows_of_known r h).write_log (log_row r w)).1 (w, t.0, not_committed_kept r (id_of w) t.1, refl))
+    has_filter is_tentative (log_row r w) (tables_of r).log (ap (λ n. eqb n 0) (no_number r w g)) (((rows_of_known r h).log (log_row r w)).1 (w, t.0, not_committed_kept r (id_of w) t.1, refl))
 
-pub tentative_rows : (r : Replica) → IsReplica r → by_stamp (filter is_tentative (tables_of r).write_log) ≡ map (log_row r) (tentative r)
+pub tentative_rows : (r : Replica) → IsReplica r → by_stamp (filter is_tentative (tables_of r).log) ≡ map (log_row r) (tentative r)
 tentative_rows r h =
     sorted_same RowBefore row_irr row_trans (by_stamp rows) (map (log_row r) (tentative r))
-    (by_stamp_sorted rows (rise_apart rows (rise_filter is_tentative (tables_of r).write_log (tables_in_order r h).write_log) apart))
+    (by_stamp_sorted rows (rise_apart rows (rise_filter is_tentative (tables_of r).log (tables_in_order r h).log) apart))
     (sorted_rows r (tentative r) (tentative_sorted r h))
     (λ row a. let (w, g, e) = tentative_row r row h (sorted_has row rows a) in subst (λ x. Has x (map (log_row r) (tentative r))) (sym e) (has_map (log_row r) w (tentative r) g))
     (λ row a. let (w, g, e) = map_has (log_row r) row (tentative r) a in subst (λ x. Has x (by_stamp rows)) (sym e) (has_sorted (log_row r w) rows (row_tentative r w h g)))
   where
     rows : List LogRow
-    rows = filter is_tentative (tables_of r).write_log
+    rows = filter is_tentative (tables_of r).log
 
     apart : (x y : LogRow) → Has x rows → Has y rows → (x ≡ y → ⊥) → Apart x y
     apart x y a b d =
@@ -334,34 +344,100 @@ taken_has (suc n) x [] h = absurd h
 taken_has (suc n) x (y ∷ ys) (inl e) = inl e
 taken_has (suc n) x (y ∷ ys) (inr h) = inr (taken_has n x ys h)
 
--- the undo rows in scope are those of the writes whose log rows are
-pub undo_rows : (r : Replica) (ws : List Write) (u : UndoRow) → IsReplica r → ((w : Write) → Has w ws → Has w r.known × (is_dropped r (id_of w) ≡ false)) → Has u (filter (λ u. is_among (undo_row_id u) (map log_row_id (map (log_row r) ws))) (tables_of r).undo) ↔ ((w : Write) × Has w ws × (u ≡ undo_row r w))
-undo_rows r ws u h kept = (there, back)
+-- the cancelled rows in scope are those of the writes whose log rows are
+pub cancelled_rows : (r : Replica) (ws : List Write) (row : CancelledRow) → IsReplica r → ((w : Write) → Has w ws → Has w r.known) → Has row (filter (λ c. is_among (cancelled_id c) (map log_row_id (map (log_row r) ws))) (tables_of r).cancelled) ↔ ((w : Write) × Has w ws × (cancelled_row r w ≡ Some row))
+cancelled_rows r ws row h kept = (there, back)
   where
     ids : List Id
     ids = map log_row_id (map (log_row r) ws)
 
-    there : Has u (filter (λ u. is_among (undo_row_id u) ids) (tables_of r).undo) → (w : Write) × Has w ws × (u ≡ undo_row r w)
+    key : (w : Write) → cancelled_row r w ≡ Some row → cancelled_id row ≡ id_of w
+    key w e = sym (ap row_id (cancelled_is row (place_row r w) e)) ∙ key-row r w
+
+    there : Has row (filter (λ c. is_among (cancelled_id c) ids) (tables_of r).cancelled) → (w : Write) × Has w ws × (cancelled_row r w ≡ Some row)
     there a =
-        let f = filter_has (λ u. is_among (undo_row_id u) ids) u (tables_of r).undo a in
-        let (w, k, d, e) = ((rows_of_known r h).undo u).0 f.0 in
-        let (row, g, i) = map_has log_row_id (undo_row_id u) (map (log_row r) ws) (among_has (undo_row_id u) ids f.1) in
-        let (v, l, m) = map_has (log_row r) row ws g in
-        let same : v ≡ w = one_known r v w h (kept v l).0 k (sym (ap log_row_id m) ∙ sym i ∙ ap undo_row_id e) in
-        (v, l, e ∙ ap (undo_row r) (sym same))
+        let f = filter_has (λ c. is_among (cancelled_id c) ids) row (tables_of r).cancelled a in
+        let (w, k, e) = ((rows_of_known r h).cancelled row).0 f.0 in
+        let (line, g, i) = map_has log_row_id (cancelled_id row) (map (log_row r) ws) (among_has (cancelled_id row) ids f.1) in
+        let (v, l, m) = map_has (log_row r) line ws g in
+        let same : v ≡ w = one_known r v w h (kept v l) k (sym (ap log_row_id m) ∙ sym i ∙ key w e) in
+        (v, l, ap (cancelled_row r) same ∙ e)
 
-    back : (w : Write) × Has w ws × (u ≡ undo_row r w) → Has u (filter (λ u. is_among (undo_row_id u) ids) (tables_of r).undo)
+    back : (w : Write) × Has w ws × (cancelled_row r w ≡ Some row) → Has row (filter (λ c. is_among (cancelled_id c) ids) (tables_of r).cancelled)
     back (w, g, e) =
-        let k = kept w g in
-        has_filter (λ u. is_among (undo_row_id u) ids) u (tables_of r).undo
-        (ap (λ i. is_among i ids) (ap undo_row_id e) ∙ has_among (id_of w) ids (has_map log_row_id (log_row r w) (map (log_row r) ws) (has_map (log_row r) w ws g)))
-        (((rows_of_known r h).undo u).1 (w, k.0, k.1, e))
+        has_filter (λ c. is_among (cancelled_id c) ids) row (tables_of r).cancelled
+        (ap (λ i. is_among i ids) (key w e) ∙ has_among (id_of w) ids (has_map log_row_id (log_row r w) (map (log_row r) ws) (has_map (log_row r) w ws g)))
+        (((rows_of_known r h).cancelled row).1 (w, kept w g, e))
 
-pub next_commits : (r : Replica) (k : ℕ) → IsReplica r → ((in_scope (NextCommits k) (tables_of r)).write_log ≡ map (log_row r) (first_tentative r k)) × ((u : UndoRow) → Has u (in_scope (NextCommits k) (tables_of r)).undo ↔ ((w : Write) × Has w (first_tentative r k) × (u ≡ undo_row r w)))
-next_commits r k h = (logs, λ u. subst (λ rows. Has u (filter (λ u. is_among (undo_row_id u) (map log_row_id rows)) (tables_of r).undo) ↔ ((w : Write) × Has w (first_tentative r k) × (u ≡ undo_row r w))) (sym logs) (undo_rows r (first_tentative r k) u h kept))
+pub next_commits : (r : Replica) (k : ℕ) → IsReplica r → ((in_scope (NextCommits k) (tables_of r)).log ≡ map (log_row r) (first_tentative r k)) × ((row : CancelledRow) → Has row (in_scope (NextCommits k) (tables_of r)).cancelled ↔ ((w : Write) × Has w (first_tentative r k) × (cancelled_row r w ≡ Some row)))
+next_commits r k h = (logs, λ row. subst (λ rows. Has row (filter (λ c. is_among (cancelled_id c) (map log_row_id rows)) (tables_of r).cancelled) ↔ ((w : Write) × Has w (first_tentative r k) × (cancelled_row r w ≡ Some row))) (sym logs) (cancelled_rows r (first_tentative r k) row h known))
   where
-    logs : take k (by_stamp (filter is_tentative (tables_of r).write_log)) ≡ map (log_row r) (first_tentative r k)
+    logs : take k (by_stamp (filter is_tentative (tables_of r).log)) ≡ map (log_row r) (first_tentative r k)
     logs = ap (take k) (tentative_rows r h) ∙ map_take (log_row r) k (tentative r)
 
-    kept : (w : Write) → Has w (first_tentative r k) → Has w r.known × (is_dropped r (id_of w) ≡ false)
-    kept w g = let t = tentative_known r w (taken_has k w (tentative r) g) in (t.0, not_committed_kept r (id_of w) t.1)
+    known : (w : Write) → Has w (first_tentative r k) → Has w r.known
+    known w g = (tentative_known r w (taken_has k w (tentative r) g)).0
+
+-- ---- the target of a cancel
+
+-- the booking row under the target's id is what the cancel takes back
+pub target_place : (r : Replica) (w : Write) (target : Id) → IsReplica r → w.action ≡ Cancels target → (place_on (board_after [] (order_of r)) w ≡ Done) ↔ ((row : BookingRow) × Has row (in_scope (OfTarget target) (tables_of r)).booking × (row.room ≡ w.room))
+target_place r w target h e = (there, back)
+  where
+    there : place_on (board_after [] (order_of r)) w ≡ Done → (row : BookingRow) × Has row (in_scope (OfTarget target) (tables_of r)).booking × (row.room ≡ w.room)
+    there d =
+        let (b, o, i) = done_target r w target h e d in
+        let (row, p, s, g, own) = stands_row r w.room b h o in
+        (row, has_filter (λ x. same_id (booking_id x) target) row (tables_of r).booking (same_id_from (booking_id row) target (ap (λ (x : Booking). x.id) (sym s) ∙ i)) g, own)
+
+    back : (row : BookingRow) × Has row (in_scope (OfTarget target) (tables_of r)).booking × (row.room ≡ w.room) → place_on (board_after [] (order_of r)) w ≡ Done
+    back (row, a, own) =
+        let f = filter_has (λ x. same_id (booking_id x) target) row (tables_of r).booking a in
+        target_done r w target (told_booking row) h e (subst (λ x. StandsIn r x (told_booking row)) own (row_stands r row h f.0).0) (same_id-true (booking_id row) target f.1)
+
+-- the rows under an id tell whether a booking of the room is known with it
+pub target_known : (r : Replica) (room : Text) (target : Id) → IsReplica r → (knows_booking r room target ≡ true) ↔ HasRowOfRoom (in_scope (OfTarget target) (tables_of r)) room
+target_known r room target h = (there, back)
+  where
+    there : knows_booking r room target ≡ true → HasRowOfRoom (in_scope (OfTarget target) (tables_of r)) room
+    there e =
+        let (w, k, f) = has_any (λ v. same_id (id_of v) target && bytes_eq v.room room && is_booking v.action) r.known e in
+        let p = and_parts (same_id (id_of w) target && bytes_eq w.room room) (is_booking w.action) f in
+        let q = and_parts (same_id (id_of w) target) (bytes_eq w.room room) p.0 in
+        let o = one_row r w h k in
+        go (place_row r w) (row_is_in r (place_row r w) h w k refl) (o.1 ∙ same_id-true (id_of w) target q.0) (o.2 ∙ (bytes_eq-Decides w.room room).0 q.1) w.action p.1 o.0
+      where
+        go : (p : PlaceRow) → IsRowIn (tables_of r) p → row_id p ≡ target → row_room p ≡ room → (a : Action) → is_booking a ≡ true → IsRowFor a p → HasRowOfRoom (in_scope (OfTarget target) (tables_of r)) room
+        go (rows.Booked row) i s m a b f = booked row (has_filter (λ x. same_id (booking_id x) target) row (tables_of r).booking (same_id_from (booking_id row) target s) i) m
+        go (rows.Erred row) i s m a b f = logged row (has_filter (λ x. same_id (error_id x) target) row (tables_of r).errorlog (same_id_from (error_id row) target s) i) m
+        go (rows.Cancelled row) i s m a b f = cancelled row (has_filter (λ x. same_id (cancelled_id x) target) row (tables_of r).cancelled (same_id_from (cancelled_id row) target s) i) m
+        go (rows.Cancel row) i s m (Books n) b f = absurd f
+        go (rows.Cancel row) i s m (Cancels t) b f = absurd (true≢false (sym b))
+
+    -- a row of one of these tables is that of a known booking
+    known : (p : PlaceRow) → IsRowIn (tables_of r) p → row_id p ≡ target → row_room p ≡ room → ((a : Action) → IsRowFor a p → is_booking a ≡ true) → knows_booking r room target ≡ true
+    known p i s m books =
+        let (w, k, e) = row_in_is r p i in
+        let o = one_row r w h k in
+        any_has (λ v. same_id (id_of v) target && bytes_eq v.room room && is_booking v.action) w r.known
+        (and_from (same_id (id_of w) target && bytes_eq w.room room) (is_booking w.action)
+        (and_from (same_id (id_of w) target) (bytes_eq w.room room) (same_id_from (id_of w) target (sym o.1 ∙ ap row_id e ∙ s)) ((bytes_eq-Decides w.room room).1 (sym o.2 ∙ ap row_room e ∙ m)))
+        (books w.action (subst (IsRowFor w.action) e o.0)))
+        k
+
+    back : HasRowOfRoom (in_scope (OfTarget target) (tables_of r)) room → knows_booking r room target ≡ true
+    back (booked row a m) = let f = filter_has (λ x. same_id (booking_id x) target) row (tables_of r).booking a in known (rows.Booked row) f.0 (same_id-true (booking_id row) target f.1) m (λ b g. of_booked row b g)
+      where
+        of_booked : (x : BookingRow) (b : Action) → IsRowFor b (rows.Booked x) → is_booking b ≡ true
+        of_booked x (Books n) g = refl
+        of_booked x (Cancels t) g = absurd g
+    back (logged row a m) = let f = filter_has (λ x. same_id (error_id x) target) row (tables_of r).errorlog a in known (rows.Erred row) f.0 (same_id-true (error_id row) target f.1) m (λ b g. of_logged row b g)
+      where
+        of_logged : (x : ErrorRow) (b : Action) → IsRowFor b (rows.Erred x) → is_booking b ≡ true
+        of_logged x (Books n) g = refl
+        of_logged x (Cancels t) g = absurd g
+    back (cancelled row a m) = let f = filter_has (λ x. same_id (cancelled_id x) target) row (tables_of r).cancelled a in known (rows.Cancelled row) f.0 (same_id-true (cancelled_id row) target f.1) m (λ b g. of_cancelled row b g)
+      where
+        of_cancelled : (x : CancelledRow) (b : Action) → IsRowFor b (rows.Cancelled x) → is_booking b ≡ true
+        of_cancelled x (Books n) g = refl
+        of_cancelled x (Cancels t) g = absurd g

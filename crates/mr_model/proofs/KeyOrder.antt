@@ -1,22 +1,20 @@
--- The rows of tables stand in the order of their keys.
-use Rattle.std.proofs.Common.{◌≡◌, refl, sym, ap, ◌∙◌, subst, ℕ, zero, suc, ◌+◌, ◌<◌, ◌≤◌, Bool, true, false, cond, eqb, List, [], ◌∷◌, length, map, drop, inl, inr, Option, Some, None, arith, eqb-true, slice_index}
+-- The rows of each table stand by rising id, so that none is there twice.
+use Rattle.std.proofs.Common.{◌≡◌, sym, ap, ◌∙◌, subst, ℕ, zero, suc, ◌+◌, ◌<◌, ◌≤◌, not, eqb, List, [], ◌∷◌, map, drop, length, inl, inr, Option, Some, arith, eqb-true, slice_index}
 use Rattle.std.specs.Prelude.{flat_map}
 use Rattle.std.specs.List.{filter_map}
+use Rattle.mr_model.specs.Dropped.{Has}
 use Rattle.mr_model.specs.Texts.{numbers_on}
 use Rattle.mr_model.specs.Writes.{Id, Write, id_of}
 use Rattle.mr_model.specs.Replica.{Replica, writes_of, is_dropped, IsReplica}
-use Rattle.mr_model.specs.Tables.{LogRow, UndoRow, BookingRow, ErrorRow, by_id, log_row, undo_row, booking_row, error_row, tables_of}
-use Rattle.mr_model.specs.Dropped.{Has}
+use Rattle.mr_model.specs.Tables.{LogRow, PlaceRow, by_id, place_row, as_booking, as_error, as_cancelled, as_cancel, log_row, kept, tables_of}
 use Rattle.mr_model.specs.Changes.{IdBefore, RiseById, AreInKeyOrder}
-use Rattle.mr_model.proofs.Members.{filter_has, map_has, all_has, has_all, Sorted}
+use Rattle.mr_model.specs.Queries.{booking_id, error_id, cancelled_id, cancel_id, row_id}
+use Rattle.mr_model.proofs.Members.{filter_has, map_has, has_all, all_has, Sorted, sorted_filter}
 use Rattle.mr_model.proofs.KnownById.{numbered_bounds, numbered_writes}
-use Rattle.mr_model.proofs.RowsById.{flat_has, map_filter}
-use Rattle.mr_model.proofs.TablesTell.{kept_log, booked_row, logged_row}
-use Rattle.mr_model.proofs.TwinTables.{kept_undo}
-use Rattle.mr_model.proofs.RowsTell.{sorted_append, sorted_within, sorted_filter_map}
-use Rattle.mr_model.proofs.UniqueReplay.{some_inj, none_some}
-
--- ---- keys rise
+use Rattle.mr_model.proofs.RowsById.{flat_has, by_id_has}
+use Rattle.mr_model.proofs.Runs.{sorted_append}
+use Rattle.mr_model.proofs.ErrorsTell.{sorted_within, sorted_filter_map}
+use Rattle.mr_model.proofs.RowsTell.{one_row, booked_is, erred_is, cancelled_is, cancel_is}
 
 numbered_sorted : {A : Type 0} (f : A → ℕ) (k : ℕ) (xs : List A) → map f xs ≡ numbers_on k (length xs) → Sorted (λ x y. f x < f y) xs
 numbered_sorted f k [] e = tt
@@ -59,29 +57,29 @@ rise_by : {R : Type 0} (key : R → Id) (rows : List R) → Sorted (λ a b. IdBe
 rise_by key [] s = tt
 rise_by key (x ∷ xs) s = (has_all (IdBefore (key x)) (map key xs) (λ i h. let (y, g, e) = map_has key i xs h in subst (IdBefore (key x)) (sym e) (all_has (λ b. IdBefore (key x) (key b)) y xs s.0 g)), rise_by key xs s.1)
 
-rows_rise : {R : Type 0} (r : Replica) (f : Write → Option R) (key : R → Id) → IsReplica r → ((w : Write) (row : R) → f w ≡ Some row → key row ≡ id_of w) → RiseById (map key (filter_map f (by_id r.known)))
-rows_rise r f key h keyed =
-    rise_by key (filter_map f (by_id r.known))
-    (sorted_filter_map WriteBefore (λ a b. IdBefore (key a) (key b)) f (by_id r.known)
-    (λ x y u v l e g. subst (λ i. IdBefore i (key v)) (sym (keyed x u e)) (subst (λ i. IdBefore (id_of x) i) (sym (keyed y v g)) l)) (by_id_sorted r h))
+sorted_of : {A B : Type 0} (P : B → B → Type 0) (f : A → B) (xs : List A) → Sorted (λ x y. P (f x) (f y)) xs → Sorted P (map f xs)
+sorted_of P f [] s = tt
+sorted_of P f (x ∷ xs) s = (has_all (P (f x)) (map f xs) (λ z h. let (y, g, e) = map_has f z xs h in subst (P (f x)) (sym e) (all_has (λ w. P (f x) (f w)) y xs s.0 g)), sorted_of P f xs s.1)
 
-kept_key : {R : Type 0} (r : Replica) (f : Write → R) (key : R → Id) → ((w : Write) → key (f w) ≡ id_of w) → (w : Write) (row : R) → cond (is_dropped r (id_of w)) None (Some (f w)) ≡ Some row → key row ≡ id_of w
-kept_key {R = R} r f key keyed w row e = go (is_dropped r (id_of w)) e
-  where
-    go : (b : Bool) → cond b None (Some (f w)) ≡ Some row → key row ≡ id_of w
-    go true g = absurd (none_some row g)
-    go false g = ap key (sym (some_inj (f w) row g)) ∙ keyed w
+-- the rows of one table
+table_rises : {R : Type 0} (r : Replica) (f : PlaceRow → Option R) (key : R → Id) → IsReplica r → ((p : PlaceRow) (row : R) → f p ≡ Some row → key row ≡ row_id p) → RiseById (map key (filter_map (λ w. f (place_row r w)) (by_id r.known)))
+table_rises r f key h keyed =
+    rise_by key (filter_map (λ w. f (place_row r w)) (by_id r.known))
+    (sorted_filter_map (λ x y. IdBefore (row_id (place_row r x)) (row_id (place_row r y))) (λ a b. IdBefore (key a) (key b)) (λ w. f (place_row r w)) (by_id r.known)
+    (λ x y u v l e g. subst (λ i. IdBefore i (key v)) (sym (keyed (place_row r x) u e)) (subst (λ i. IdBefore (row_id (place_row r x)) i) (sym (keyed (place_row r y) v g)) l))
+    (sorted_within WriteBefore (λ x y. IdBefore (row_id (place_row r x)) (row_id (place_row r y))) (by_id r.known)
+    (λ x y a b l. subst (λ i. IdBefore i (row_id (place_row r y))) (sym (one_row r x h (by_id_has r x a)).1) (subst (λ i. IdBefore (id_of x) i) (sym (one_row r y h (by_id_has r y b)).1) l))
+    (by_id_sorted r h)))
 
--- the rows of each table of requests stand by rising id
 pub tables_in_order : (r : Replica) → IsReplica r → AreInKeyOrder (tables_of r)
 tables_in_order r h =
     record {
-      write_log =
-          subst (λ rows. RiseById (map (λ (row : LogRow). record { server = row.server; n = row.n }) rows)) (sym (map_filter (λ w. is_dropped r (id_of w)) (log_row r) (by_id r.known)))
-          (rows_rise r (kept_log r) (λ row. record { server = row.server; n = row.n }) h (kept_key r (log_row r) (λ row. record { server = row.server; n = row.n }) (λ w. refl)));
-      undo =
-          subst (λ rows. RiseById (map (λ (row : UndoRow). record { server = row.server; n = row.n }) rows)) (sym (map_filter (λ w. is_dropped r (id_of w)) (undo_row r) (by_id r.known)))
-          (rows_rise r (kept_undo r) (λ row. record { server = row.server; n = row.n }) h (kept_key r (undo_row r) (λ row. record { server = row.server; n = row.n }) (λ w. refl)));
-      booking = rows_rise r (booking_row r) (λ row. record { server = row.server; n = row.n }) h (λ w row e. let (s, p, f) = booked_row r w row e in ap (λ (x : BookingRow). record { server = x.server; n = x.n }) f);
-      errorlog = rows_rise r (error_row r) (λ row. record { server = row.server; n = row.n }) h (λ w row e. ap (λ (x : ErrorRow). record { server = x.server; n = x.n }) (logged_row r w row e).1);
+      log =
+          rise_by (λ row. record { server = row.server; n = row.n }) (map (log_row r) (kept r))
+          (sorted_of (λ (a b : LogRow). IdBefore (record { server = a.server; n = a.n }) (record { server = b.server; n = b.n })) (log_row r) (kept r)
+          (sorted_filter WriteBefore (λ w. not (is_dropped r (id_of w))) (by_id r.known) (by_id_sorted r h)));
+      booking = table_rises r as_booking booking_id h (λ p row e. sym (ap row_id (booked_is row p e)));
+      errorlog = table_rises r as_error error_id h (λ p row e. sym (ap row_id (erred_is row p e)));
+      cancelled = table_rises r as_cancelled cancelled_id h (λ p row e. sym (ap row_id (cancelled_is row p e)));
+      cancels = table_rises r as_cancel cancel_id h (λ p row e. sym (ap row_id (cancel_is row p e)));
     }

@@ -1,5 +1,5 @@
 -- What a batch moves, room by room.
-use Rattle.std.proofs.Common.{◌≡◌, refl, sym, ap, ◌∙◌, subst, ℕ, zero, suc, ◌+◌, Bool, true, false, not, cond, ◌&&◌, ◌||◌, ltb, List, [], ◌∷◌, ◌++◌, length, map, take, ◌⊎◌, inl, inr, arith, append_assoc, append-nil, IsTrue, Ok}
+use Rattle.std.proofs.Common.{◌≡◌, refl, sym, ap, ◌∙◌, subst, ℕ, zero, suc, ◌+◌, Bool, true, false, not, cond, ◌&&◌, ◌||◌, eqb, ltb, List, [], ◌∷◌, ◌++◌, length, map, take, ◌⊎◌, inl, inr, arith, append_assoc, append-nil, IsTrue, Ok}
 use Rattle.std.proofs.lemmas.Bool.{cond-true, cond-false, true≢false, false_from_ne_true, and_parts, lt-ltb}
 use Rattle.std.proofs.lemmas.List.{map-append, length-map}
 use Rattle.std.proofs.lemmas.List.Elements.{filter-append}
@@ -10,47 +10,31 @@ use Rattle.mr_model.specs.Texts.{Text}
 use Rattle.mr_model.specs.Writes.{Id, Write, id_of, same_id, stamp_before}
 use Rattle.mr_model.specs.Replay.{replay, replay_among}
 use Rattle.mr_model.specs.Board.{after}
-use Rattle.mr_model.specs.Replica.{Replica, is_dropped, committed, tentative, order_of, IsReplica, AreInStampOrder}
+use Rattle.mr_model.specs.Replica.{Replica, is_dropped, is_committed, committed, tentative, order_of, IsReplica, AreInStampOrder}
 use Rattle.mr_model.specs.Exchange.{Item, W, C}
 use Rattle.mr_model.specs.Taking.{Progress, take_items}
-use Rattle.mr_model.specs.View.{of_room}
-use Rattle.mr_model.specs.Tables.{LogRow, log_row, seq_among, seq_of, place_of, tables_of}
+use Rattle.mr_model.specs.View.{of_room, place_of}
+use Rattle.mr_model.specs.Tables.{LogRow, log_row, seq_among, seq_of, place_row_for, place_row, tables_of}
 use Rattle.mr_model.specs.Dropped.{Has}
 use Rattle.mr_model.proofs.Fronts.{take-front}
 use Rattle.mr_model.proofs.OrderedSets.{Before, before-true, before_from, before_trans}
-use Rattle.mr_model.proofs.Members.{has_left, has_right, has_split, has_filter, filter_has, has_map, all_has, has_all, has_among, not_among, Distinct, distinct_parts, same_id_from}
+use Rattle.mr_model.proofs.Members.{has_left, has_right, has_split, has_filter, filter_has, has_map, all_has, has_all, has_among, not_among, Distinct, distinct_parts, same_id_from, any_has, has_any}
 use Rattle.mr_model.proofs.KnownById.{committed_known, tentative_known, tentative_sorted, order-filter, distinct_commits}
-use Rattle.mr_model.proofs.RoomPlaces.{known_in_order}
+use Rattle.mr_model.proofs.PlacesOfOrder.{known_in_order, room-replay, map_at}
 use Rattle.mr_model.proofs.RowsById.{has_flat, seq_not}
 use Rattle.mr_model.proofs.RowsOfKnown.{rows_of_known}
-use Rattle.mr_model.proofs.TablesTell.{not_committed_kept}
-use Rattle.mr_model.proofs.CommandPlaces.{room-places, map_at}
-use Rattle.mr_model.proofs.ToldInOrder.{replay-append}
+use Rattle.mr_model.proofs.DroppedApart.{not_committed_kept}
+use Rattle.mr_model.proofs.RoomsApart.{replay-append}
+use Rattle.mr_model.proofs.RoomTold.{committed-seq}
+use Rattle.mr_model.proofs.Cancellers.{canceller-same}
 use Rattle.mr_model.proofs.UniqueReplay.{length-replay}
-use Rattle.mr_model.proofs.ReceivedPlaces.{append_split}
+use Rattle.mr_model.proofs.Orders.{append_split}
 use Rattle.mr_model.proofs.TakingKeeps.{IsItem}
 use Rattle.mr_model.specs.Scopes.{log_row_id, is_new_commit, is_behind_item, is_late, rooms_of_item, touched_rooms, is_touched}
 use Rattle.mr_model.specs.Moving.{may_move, again, BatchMoves}
 use Rattle.mr_model.proofs.Reaching.{Reached, reached-none, ItemMoves, ReachedBy, items_taken}
 
--- ---- tests of lists
-
-pub any_has : {A : Type 0} (p : A → Bool) (x : A) (xs : List A) → p x ≡ true → Has x xs → list_any p xs ≡ true
-any_has p x [] e h = absurd h
-any_has p x (y ∷ ys) e (inl s) = let here : p y ≡ true = ap p (sym s) ∙ e in (λ i. here i || list_any p ys)
-any_has p x (y ∷ ys) e (inr h) = go (p y) (any_has p x ys e h)
-  where
-    go : (b : Bool) → list_any p ys ≡ true → (b || list_any p ys) ≡ true
-    go true r = refl
-    go false r = r
-
-pub has_any : {A : Type 0} (p : A → Bool) (xs : List A) → list_any p xs ≡ true → (x : A) × Has x xs × (p x ≡ true)
-has_any p [] e = absurd (true≢false (sym e))
-has_any {A} p (y ∷ ys) e = go (p y) refl e (has_any p ys)
-  where
-    go : (b : Bool) → p y ≡ b → (b || list_any p ys) ≡ true → (list_any p ys ≡ true → (x : A) × Has x ys × (p x ≡ true)) → (x : A) × Has x (y ∷ ys) × (p x ≡ true)
-    go true f g ih = (y, inl refl, f)
-    go false f g ih = let (x, h, k) = ih g in (x, inr h, k)
+-- ---- tests
 
 not-true : (b : Bool) → not b ≡ true → b ≡ false
 not-true true e = absurd (true≢false (sym e))
@@ -113,9 +97,9 @@ touches a items room = is_touched (tables_of a) items room
 room_true : (w : Write) (room : Text) → bytes_eq w.room room ≡ true → w.room ≡ room
 room_true w room e = (bytes_eq-Decides w.room room).0 e
 
-is_touched-by : (a : Replica) (items : List Item) (x : Item) (room : Text) → Has x items → Has room (rooms_of_item (length a.commits) (tables_of a).write_log x) → touches a items room ≡ true
+is_touched-by : (a : Replica) (items : List Item) (x : Item) (room : Text) → Has x items → Has room (rooms_of_item (length a.commits) (tables_of a).log x) → touches a items room ≡ true
 is_touched-by a items x room h g =
-    any_has (bytes_eq room) room (touched_rooms (tables_of a) items) ((bytes_eq-Decides room room).1 refl) (has_flat (rooms_of_item (length a.commits) (tables_of a).write_log) room x items h g)
+    any_has (bytes_eq room) room (touched_rooms (tables_of a) items) ((bytes_eq-Decides room room).1 refl) (has_flat (rooms_of_item (length a.commits) (tables_of a).log) room x items h g)
 
 abbrev Whole : Replica → List Item → Type 0
 Whole a items = (v : Write) → is_late (length a.commits) items v.stamp.time v.stamp.server ≡ true
@@ -143,13 +127,13 @@ item_moves a items (C seq id) sound h = λ above.
     let whole : Whole a items = λ v. ap (λ b. b || list_any (is_behind_item v.stamp.time v.stamp.server) items) some in (
       whole,
       λ w known same open_.
-          let row = (rows_of_known a sound).write_log (log_row a w) in
-          let there : Has (log_row a w) (tables_of a).write_log = row.1 (w, known, not_committed_kept a (id_of w) open_, refl) in
+          let row = (rows_of_known a sound).log (log_row a w) in
+          let there : Has (log_row a w) (tables_of a).log = row.1 (w, known, not_committed_kept a (id_of w) open_, refl) in
           stays_not a items w
           (is_touched-by a items (C seq id) w.room h
           (subst (λ rs. Has w.room rs) (sym (cond-true (ltb (length a.commits) seq) _ [] new))
-          (has_map (λ (r : LogRow). r.room) (log_row a w) (filter (λ r. same_id (log_row_id r) id) (tables_of a).write_log)
-          (has_filter (λ r. same_id (log_row_id r) id) (log_row a w) (tables_of a).write_log (same_id_from (id_of w) id same) there))))
+          (has_map (λ (r : LogRow). r.room) (log_row a w) (filter (λ r. same_id (log_row_id r) id) (tables_of a).log)
+          (has_filter (λ r. same_id (log_row_id r) id) (log_row a w) (tables_of a).log (same_id_from (id_of w) id same) there))))
           (whole w),
     )
 
@@ -233,7 +217,7 @@ room_replayed : (r : Replica) (room : Text) (front rest : List Write) → IsRepl
 room_replayed r room front rest sound e =
     append_split (map (place_of r) front) (replay front) (map (place_of r) rest) (replay_among (after [] front) rest)
     (length-map front (place_of r) ∙ sym (length-replay [] front))
-    (sym (map-append (place_of r) front rest) ∙ ap (map (place_of r)) (sym e) ∙ room-places r room sound ∙ ap replay e ∙ replay-append [] front rest)
+    (sym (map-append (place_of r) front rest) ∙ ap (map (place_of r)) (sym e) ∙ room-replay r room sound ∙ ap replay e ∙ replay-append [] front rest)
 
 seq_left : (k : ℕ) (xs ys : List Id) (id : Id) → Has id xs → seq_among k (xs ++ ys) id ≡ seq_among k xs id
 seq_left k [] ys id h = absurd h
@@ -256,6 +240,7 @@ batch_moves a b items sound r =
       touched = λ w h. (and_parts (touches a items w.room) (is_late (length a.commits) items w.stamp.time w.stamp.server) (moves w h)).0;
       moved = λ w h. moved w (has_split w r.news (filter (may_move a items) (tentative b)) h);
       others = λ w h. other w (known_in_order b w r.sound h);
+      untouched = untouched;
       rooms = λ room. record { front = front_of a items room; was = room_was a items room sound; is = room_is a b items room r; places = (room_replayed b room (front_of a items room) (of_room room (again a items r.news b)) r.sound (room_is a b items room r)).1 };
     }
   where
@@ -314,6 +299,28 @@ batch_moves a b items sound r =
               front_place w (has_right w (of_room w.room (committed a)) (of_room w.room (filter (Stays a items) (tentative a))) (has_filter (λ v. bytes_eq v.room w.room) w (filter (Stays a items) (tentative a)) (own w) s)),
               seq_not 1 a.commits (id_of w) (λ c. true≢false (sym (has_among (id_of w) a.commits c) ∙ t.1)) ∙ sym (seq_not 1 b.commits (id_of w) (λ c. true≢false (sym (has_among (id_of w) b.commits c) ∙ u.1))),
             )
+
+    -- a room that is not touched has one order, so that all stays in it
+    none_of : (ws : List Write) (room : Text) → touches a items room ≡ false → ((v : Write) → Has v ws → touches a items v.room ≡ true) → of_room room ws ≡ []
+    none_of ws room e f = none_left (λ v. bytes_eq v.room room) ws (λ v h. false_from_ne_true (bytes_eq v.room room) (λ s. true≢false (sym (f v h) ∙ ap (touches a items) (room_true v room s) ∙ e)))
+
+    same_order : (room : Text) → touches a items room ≡ false → of_room room (order_of a) ≡ of_room room (order_of b)
+    same_order room e =
+        room_was a items room sound
+        ∙ ap (λ ws. front_of a items room ++ ws)
+        (none_of (filter (may_move a items) (tentative a)) room e (λ v h. (and_parts (touches a items v.room) (is_late (length a.commits) items v.stamp.time v.stamp.server) (filter_has (may_move a items) v (tentative a) h).1).0)
+        ∙ sym (none_of (again a items r.news b) room e (λ v h. (and_parts (touches a items v.room) (is_late (length a.commits) items v.stamp.time v.stamp.server) (moves v h)).0)))
+        ∙ sym (room_is a b items room r)
+
+    untouched : (w : Write) → Has w b.known → touches a items w.room ≡ false → Has w a.known × (place_row a w ≡ place_row b w)
+    untouched w h e = go (other w (known_in_order b w r.sound h))
+      where
+        go : Has w (again a items r.news b) ⊎ (Has w a.known × (place_of a w ≡ place_of b w) × (seq_of a w ≡ seq_of b w)) → Has w a.known × (place_row a w ≡ place_row b w)
+        go (inl g) = absurd (true≢false (sym (and_parts (touches a items w.room) (is_late (length a.commits) items w.stamp.time w.stamp.server) (moves w g)).0 ∙ e))
+        go (inr (k, p, n)) =
+            let c = canceller-same a b w sound r.sound k h (same_order w.room e) in
+            let m : is_committed a (id_of w) ≡ is_committed b (id_of w) = committed-seq a w ∙ ap (λ x. not (eqb x 0)) n ∙ sym (committed-seq b w) in
+            (k, λ i. place_row_for w w.action (p i) (c i) (m i) (n i))
 
 items_move : (a : Replica) (items xs : List Item) → IsReplica a → ((x : Item) → Has x xs → Has x items) → AllByRecursion (ItemMoves (Stays a items) (Whole a items) a) xs
 items_move a items xs sound f = has_all (ItemMoves (Stays a items) (Whole a items) a) xs (λ x h. item_moves a items x sound (f x h))

@@ -8,10 +8,11 @@ use Rattle.mr_model.specs.Texts.{Text, within}
 use Rattle.mr_model.specs.Writes.{same_id}
 use Rattle.mr_model.specs.Replica.{is_among}
 use Rattle.mr_model.specs.Exchange.{Item, W, C}
-use Rattle.mr_model.specs.Tables.{LogRow, UndoRow, BookingRow, Tables}
+use Rattle.mr_model.specs.Tables.{LogRow, BookingRow, ErrorRow, CancelledRow, Tables}
+use Rattle.mr_model.specs.Queries.{booking_id, error_id, cancelled_id}
 use Rattle.mr_model.specs.Dropped.{Has}
 use Rattle.mr_model.proofs.Members.{has_filter, has_among, has_map, same_id-true}
-use Rattle.mr_model.specs.Scopes.{Scope, Nothing, InRoom, NextCommits, UpTo, Above, OfItems, log_row_id, undo_row_id, is_tentative, by_stamp, item_id, has_number, is_named, is_in_tail, rooms_of_item, with_logs, in_scope}
+use Rattle.mr_model.specs.Scopes.{Scope, Nothing, InRoom, OfTarget, NextCommits, UpTo, Above, OfItems, log_row_id, is_tentative, by_stamp, item_id, has_number, is_named, is_in_tail, rooms_of_item, with_rows, in_scope}
 use Rattle.mr_model.specs.RowsRead.{rows_read, Reads}
 
 filter_read : {A : Type 0} (f p : A → Bool) (xs : List A) → ((x : A) → Has x xs → f x ≡ true → p x ≡ true) → filter f (filter p xs) ≡ filter f xs
@@ -23,14 +24,6 @@ filter_read {A} f p (x ∷ xs) g = go (p x) refl (f x) refl (filter_read f p xs 
     go true e false k ih = cond-false (f x) (x ∷ filter f (filter p xs)) (filter f (filter p xs)) k ∙ ih
     go false e true k ih = absurd (true≢false (sym (g x (inl refl) k) ∙ e))
     go false e false k ih = ih
-
-with_read : (p : LogRow → Bool) (q : UndoRow → Bool) (b : BookingRow → Bool) (t : Tables) (logs logs' : List LogRow) (bookings bookings' : List BookingRow) → logs' ≡ logs → bookings' ≡ bookings → ((u : UndoRow) → Has u t.undo → is_among (undo_row_id u) (map log_row_id logs) ≡ true → q u ≡ true) → with_logs (rows_read p q b t) logs' bookings' ≡ with_logs t logs bookings
-with_read p q b t logs logs' bookings bookings' e f g =
-    (λ i. with_logs (rows_read p q b t) (e i) (f i))
-    ∙ (λ i. record t { write_log = logs; undo = filter_read (λ u. is_among (undo_row_id u) (map log_row_id logs)) q t.undo g i; booking = bookings; errorlog = [] })
-
-undo_in : (t : Tables) (logs : List LogRow) (u : UndoRow) → Has u t.undo → is_among (undo_row_id u) (map log_row_id logs) ≡ true → Has u (filter (λ v. is_among (undo_row_id v) (map log_row_id logs)) t.undo)
-undo_in t logs u h e = has_filter (λ v. is_among (undo_row_id v) (map log_row_id logs)) u t.undo e h
 
 rooms_read : (commits : ℕ) (items xs : List Item) (rows : List LogRow) (p : LogRow → Bool) → ((x : Item) → Has x xs → Has x items) → ((row : LogRow) → Has row rows → is_named items row ≡ true → p row ≡ true) → flat_map (rooms_of_item commits (filter p rows)) xs ≡ flat_map (rooms_of_item commits rows) xs
 rooms_read commits items [] rows p f g = refl
@@ -45,43 +38,65 @@ rooms_read commits items (x ∷ xs) rows p f g = (λ i. one x (f x (inl refl)) i
             let among : is_among (log_row_id row) (map item_id items) ≡ true = ap (λ i. is_among i (map item_id items)) (same_id-true (log_row_id row) id e) ∙ has_among id (map item_id items) (has_map item_id (C seq id) items h) in
             ap (λ c. c || (not (is_tentative row) && list_any (has_number row.seq) items)) among
 
-pub read_rows : (s : Scope) (t : Tables) (p : LogRow → Bool) (q : UndoRow → Bool) (b : BookingRow → Bool) → Reads s t p q b → in_scope s (rows_read p q b t) ≡ in_scope s t
-read_rows Nothing t p q b r = with_read p q b t [] [] [] [] refl refl (λ u h e. absurd (true≢false (sym e)))
-read_rows (InRoom room) t p q b r =
-    with_read p q b t [] [] (filter (λ k. bytes_eq k.room room) t.booking) (filter (λ k. bytes_eq k.room room) (filter b t.booking)) refl
-    (filter_read (λ k. bytes_eq k.room room) b t.booking (λ k h e. r.booking k (has_filter (λ k. bytes_eq k.room room) k t.booking e h)))
-    (λ u h e. absurd (true≢false (sym e)))
-read_rows (NextCommits k) t p q b r =
-    let logs = ap (λ rows. take k (by_stamp rows)) (filter_read is_tentative p t.write_log (r.tentative tt)) in
-    with_read p q b t (take k (by_stamp (filter is_tentative t.write_log))) (take k (by_stamp (filter is_tentative (filter p t.write_log)))) [] [] logs refl
-    (λ u h e. r.undo u (undo_in t (take k (by_stamp (filter is_tentative t.write_log))) u h e))
-read_rows (UpTo d) t p q b r =
+-- of the rows that were read these are the rows in scope
+with_read : (t : Tables) (logs logs' : List LogRow) (bookings bookings' : List BookingRow) (errors errors' : List ErrorRow) (gone gone' : List CancelledRow)
+    → logs' ≡ logs → bookings' ≡ bookings → errors' ≡ errors → gone' ≡ gone → with_rows t logs' bookings' errors' gone' ≡ with_rows t logs bookings errors gone
+with_read t logs logs' bookings bookings' errors errors' gone gone' e f g k = λ i. with_rows t (e i) (f i) (g i) (k i)
+
+pub read_rows : (s : Scope) (t : Tables) (p : LogRow → Bool) (b : BookingRow → Bool) (e : ErrorRow → Bool) (c : CancelledRow → Bool) → Reads s t p b e c → in_scope s (rows_read p b e c t) ≡ in_scope s t
+read_rows Nothing t p b e c r = refl
+read_rows (InRoom room) t p b e c r =
+    with_read t [] [] (filter (λ k. bytes_eq k.room room) t.booking) (filter (λ k. bytes_eq k.room room) (filter b t.booking)) [] []
+    (filter (λ k. bytes_eq k.room room) t.cancelled) (filter (λ k. bytes_eq k.room room) (filter c t.cancelled)) refl
+    (filter_read (λ k. bytes_eq k.room room) b t.booking (λ k h f. r.booking k (has_filter (λ k. bytes_eq k.room room) k t.booking f h)))
+    refl
+    (filter_read (λ k. bytes_eq k.room room) c t.cancelled (λ k h f. r.cancelled k (has_filter (λ k. bytes_eq k.room room) k t.cancelled f h)))
+read_rows (OfTarget target) t p b e c r =
+    with_read t [] [] (filter (λ k. same_id (booking_id k) target) t.booking) (filter (λ k. same_id (booking_id k) target) (filter b t.booking))
+    (filter (λ k. same_id (error_id k) target) t.errorlog) (filter (λ k. same_id (error_id k) target) (filter e t.errorlog))
+    (filter (λ k. same_id (cancelled_id k) target) t.cancelled) (filter (λ k. same_id (cancelled_id k) target) (filter c t.cancelled)) refl
+    (filter_read (λ k. same_id (booking_id k) target) b t.booking (λ k h f. r.booking k (has_filter (λ k. same_id (booking_id k) target) k t.booking f h)))
+    (filter_read (λ k. same_id (error_id k) target) e t.errorlog (λ k h f. r.errorlog k (has_filter (λ k. same_id (error_id k) target) k t.errorlog f h)))
+    (filter_read (λ k. same_id (cancelled_id k) target) c t.cancelled (λ k h f. r.cancelled k (has_filter (λ k. same_id (cancelled_id k) target) k t.cancelled f h)))
+read_rows (NextCommits k) t p b e c r =
+    with_read t (take k (by_stamp (filter is_tentative t.log))) (take k (by_stamp (filter is_tentative (filter p t.log)))) [] [] [] []
+    (filter (among (take k (by_stamp (filter is_tentative t.log)))) t.cancelled) (filter (among (take k (by_stamp (filter is_tentative (filter p t.log))))) (filter c t.cancelled))
+    logs refl refl
+    (ap (λ rows. filter (among rows) (filter c t.cancelled)) logs
+    ∙ filter_read (among (take k (by_stamp (filter is_tentative t.log)))) c t.cancelled (λ row h f. r.cancelled row (has_filter (among (take k (by_stamp (filter is_tentative t.log)))) row t.cancelled f h)))
+  where
+    among : List LogRow → CancelledRow → Bool
+    among rows row = is_among (cancelled_id row) (map log_row_id rows)
+
+    logs : take k (by_stamp (filter is_tentative (filter p t.log))) ≡ take k (by_stamp (filter is_tentative t.log))
+    logs = ap (λ rows. take k (by_stamp rows)) (filter_read is_tentative p t.log (r.tentative tt))
+read_rows (UpTo d) t p b e c r =
     let test : LogRow → Bool = λ row. within 1 d row.seq in
-    with_read p q b t (filter test t.write_log) (filter test (filter p t.write_log)) [] []
-    (filter_read test p t.write_log (λ row h e. r.logs row (has_filter test row t.write_log e h))) refl
-    (λ u h e. r.undo u (undo_in t (filter test t.write_log) u h e))
-read_rows (Above commits) t p q b r =
+    with_read t (filter test t.log) (filter test (filter p t.log)) [] [] [] [] [] []
+    (filter_read test p t.log (λ row h f. r.logs row (has_filter test row t.log f h))) refl refl refl
+read_rows (Above commits) t p b e c r =
     let test : LogRow → Bool = λ row. is_tentative row || ltb commits row.seq in
-    let logs = filter_read test p t.write_log (λ row h e. r.logs row (has_filter test row t.write_log e h)) in
-    let none = filter_read (λ u. is_among (undo_row_id u) []) q t.undo (λ u h e. absurd (true≢false (sym e))) in
-    λ i. record t { write_log = logs i; undo = none i; booking = []; errorlog = [] }
-read_rows (OfItems items) t p q b r =
-    with_read p q b t (filter (test rooms) t.write_log) (filter (test rooms') (filter p t.write_log)) (filter (λ k. list_any (bytes_eq k.room) rooms) t.booking) (filter (λ k. list_any (bytes_eq k.room) rooms') (filter b t.booking))
-    (ap (λ rs. filter (test rs) (filter p t.write_log)) same ∙ filter_read (test rooms) p t.write_log (λ row h e. r.logs row (has_filter (test rooms) row t.write_log e h)))
-    (ap (λ rs. filter (λ (k : BookingRow). list_any (bytes_eq k.room) rs) (filter b t.booking)) same ∙ filter_read (λ (k : BookingRow). list_any (bytes_eq k.room) rooms) b t.booking (λ k h e. r.booking k (has_filter (λ k. list_any (bytes_eq k.room) rooms) k t.booking e h)))
-    (λ u h e. r.undo u (undo_in t (filter (test rooms) t.write_log) u h e))
+    with_read t (filter test t.log) (filter test (filter p t.log)) [] [] [] [] [] []
+    (filter_read test p t.log (λ row h f. r.logs row (has_filter test row t.log f h))) refl refl refl
+read_rows (OfItems items) t p b e c r =
+    with_read t (filter (test rooms) t.log) (filter (test rooms') (filter p t.log)) (filter (λ k. list_any (bytes_eq k.room) rooms) t.booking) (filter (λ k. list_any (bytes_eq k.room) rooms') (filter b t.booking))
+    [] [] (filter (λ k. list_any (bytes_eq k.room) rooms) t.cancelled) (filter (λ k. list_any (bytes_eq k.room) rooms') (filter c t.cancelled))
+    (ap (λ rs. filter (test rs) (filter p t.log)) same ∙ filter_read (test rooms) p t.log (λ row h f. r.logs row (has_filter (test rooms) row t.log f h)))
+    (ap (λ rs. filter (λ (k : BookingRow). list_any (bytes_eq k.room) rs) (filter b t.booking)) same ∙ filter_read (λ (k : BookingRow). list_any (bytes_eq k.room) rooms) b t.booking (λ k h f. r.booking k (has_filter (λ k. list_any (bytes_eq k.room) rooms) k t.booking f h)))
+    refl
+    (ap (λ rs. filter (λ (k : CancelledRow). list_any (bytes_eq k.room) rs) (filter c t.cancelled)) same ∙ filter_read (λ (k : CancelledRow). list_any (bytes_eq k.room) rooms) c t.cancelled (λ k h f. r.cancelled k (has_filter (λ k. list_any (bytes_eq k.room) rooms) k t.cancelled f h)))
   where
     rooms : List Text
-    rooms = flat_map (rooms_of_item t.meta.commits t.write_log) items
+    rooms = flat_map (rooms_of_item t.meta.commits t.log) items
 
     rooms' : List Text
-    rooms' = flat_map (rooms_of_item t.meta.commits (filter p t.write_log)) items
+    rooms' = flat_map (rooms_of_item t.meta.commits (filter p t.log)) items
 
     test : List Text → LogRow → Bool
     test rs row = is_named items row || (is_in_tail t.meta.commits items row && list_any (bytes_eq row.room) rs)
 
-    named : (row : LogRow) → Has row t.write_log → is_named items row ≡ true → p row ≡ true
-    named row h e = r.logs row (has_filter (test rooms) row t.write_log (ap (λ c. c || (is_in_tail t.meta.commits items row && list_any (bytes_eq row.room) rooms)) e) h)
+    named : (row : LogRow) → Has row t.log → is_named items row ≡ true → p row ≡ true
+    named row h f = r.logs row (has_filter (test rooms) row t.log (ap (λ x. x || (is_in_tail t.meta.commits items row && list_any (bytes_eq row.room) rooms)) f) h)
 
     same : rooms' ≡ rooms
-    same = rooms_read t.meta.commits items items t.write_log p (λ x h. h) named
+    same = rooms_read t.meta.commits items items t.log p (λ x h. h) named

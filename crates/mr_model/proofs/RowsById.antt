@@ -3,16 +3,16 @@ use Rattle.std.proofs.Common.{◌≡◌, refl, sym, ap, ◌∙◌, subst, ℕ, z
 use Rattle.std.proofs.lemmas.Bool.{and_parts, or_parts, cond-true, cond-false, false_from_ne_true, cases_eq}
 use Rattle.std.proofs.lemmas.List.Elements.{filter_map-append}
 use Rattle.std.specs.Prelude.{flat_map}
-use Rattle.std.specs.List.{AllByRecursion, filter, filter_map, cons_option, slice_get}
+use Rattle.std.specs.List.{AllByRecursion, list_all, filter, filter_map, cons_option, slice_get}
 use Rattle.mr_model.specs.Texts.{Text, words, numbers_on}
 use Rattle.mr_model.specs.Calendar.{date_text, time_text}
 use Rattle.mr_model.specs.Slots.{Slot, is_slot, slot_words}
-use Rattle.mr_model.specs.Writes.{Id, Write, id_of, same_id, choices, is_write, is_server, is_count, is_time}
+use Rattle.mr_model.specs.Writes.{Id, Meeting, Action, Books, Cancels, Write, id_of, same_id, choices_of, is_title, is_length, fits_day, greatest_alternatives, is_meeting, is_action, is_write, is_server, is_count, is_time}
 use Rattle.mr_model.specs.Replica.{Replica, writes_of, count_of, is_among, IsReplica}
 use Rattle.mr_model.specs.Exchange.{slots_at}
-use Rattle.mr_model.specs.Tables.{LogRow, by_id, seq_among, choices_text, log_row}
+use Rattle.mr_model.specs.Tables.{MeetingCells, OfMeeting, OfCancel, LogRow, by_id, seq_among, choices_text, cells_of, log_row}
 use Rattle.mr_model.proofs.ChangesKeep.{within}
-use Rattle.mr_model.proofs.LinesReadBack.{write_facts, slots_all, slots-read, words-cons}
+use Rattle.mr_model.proofs.LinesReadBack.{slots_all, slots-read, words-cons}
 use Rattle.mr_model.specs.Dropped.{Has}
 use Rattle.mr_model.proofs.Members.{has_left, has_right, has_split, filter_has, has_filter_map, filter_map_has, all_has, slice_has, same_id-true, same_id_refl, among_not, Distinct}
 use Rattle.mr_model.proofs.KnownById.{one_known, numbered_writes, own_has_at}
@@ -151,11 +151,41 @@ slots_same ss ts a b e =
     ∙ ap (λ l. slots_at (length ss) 0 l) e ∙ ap (λ k. slots_at k 0 (words (flat_map slot_words ts ++ [] ∷ []))) n
     ∙ slots-read ts 0 (words (flat_map slot_words ts ++ [] ∷ [])) [] b refl
 
-choices_same : (x y : Write) → IsTrue (is_write x) → IsTrue (is_write y) → choices_text x ≡ choices_text y → choices x ≡ choices y
+meeting_slots : (m : Meeting) → is_meeting m ≡ true → AllByRecursion (λ s. is_slot s ≡ true) (choices_of m)
+meeting_slots m ok =
+    slots_all m.length (choices_of m)
+    (and_parts (is_title m.title && is_length m.length && leb (length m.alternatives) greatest_alternatives) (list_all (λ s. is_slot s && fits_day m.length s) (choices_of m)) ok).1
+
+choices_same : (x y : Meeting) → is_meeting x ≡ true → is_meeting y ≡ true → choices_text x ≡ choices_text y → choices_of x ≡ choices_of y
 choices_same x y a b e =
-    slots_same (choices x) (choices y) (slots_all x.length (choices x) (write_facts x a).slots) (slots_all y.length (choices y) (write_facts y b).slots)
+    slots_same (choices_of x) (choices_of y) (meeting_slots x a) (meeting_slots y b)
     (words-snoc (date_text x.wish.day) (time_text x.wish.start ∷ flat_map slot_words x.alternatives) ∙ ap (λ t. t ++ 32 ∷ []) e
     ∙ sym (words-snoc (date_text y.wish.day) (time_text y.wish.start ∷ flat_map slot_words y.alternatives)))
+
+cells_inj : (a b : MeetingCells) → OfMeeting a ≡ OfMeeting b → a ≡ b
+cells_inj a b e = cc
+
+choices_inj : (x y : Meeting) → choices_of x ≡ choices_of y → (x.wish ≡ y.wish) × (x.alternatives ≡ y.alternatives)
+choices_inj x y e = let cs : x.wish ∷ x.alternatives ≡ y.wish ∷ y.alternatives = e in ((cc), (cc))
+
+meeting_same : (x y : Meeting) → is_meeting x ≡ true → is_meeting y ≡ true → cells_of (Books x) ≡ cells_of (Books y) → x ≡ y
+meeting_same x y a b e =
+    let cells = cells_inj (record { length = x.length; choices = choices_text x; title = x.title }) (record { length = y.length; choices = choices_text y; title = y.title }) e in
+    let long = ap (λ (c : MeetingCells). c.length) cells in
+    let title = ap (λ (c : MeetingCells). c.title) cells in
+    let slots = choices_inj x y (choices_same x y a b (ap (λ (c : MeetingCells). c.choices) cells)) in
+    let wish = slots.0 in
+    let others = slots.1 in
+    λ i. record { title = title i; length = long i; wish = wish i; alternatives = others i }
+
+pub cells_same : (a b : Action) → is_action a ≡ true → is_action b ≡ true → cells_of a ≡ cells_of b → a ≡ b
+cells_same (Books x) (Books y) p q e = ap Books (meeting_same x y p q e)
+cells_same (Books x) (Cancels u) p q e = absurd (let f : OfMeeting (record { length = x.length; choices = choices_text x; title = x.title }) ≡ OfCancel u = e in cc)
+cells_same (Cancels t) (Books y) p q e = absurd (let f : OfCancel t ≡ OfMeeting (record { length = y.length; choices = choices_text y; title = y.title }) = e in cc)
+cells_same (Cancels t) (Cancels u) p q e = ap Cancels (let f : OfCancel t ≡ OfCancel u = e in cc)
+
+pub action_within : (w : Write) → IsTrue (is_write w) → is_action w.action ≡ true
+action_within w ok = (and_parts (Rattle.mr_model.specs.Writes.is_stamp w.stamp && Rattle.mr_model.specs.Writes.is_room_name w.room) (is_action w.action) ok).1
 
 -- a write is known again from its log row
 pub log_row_same : (a b : Replica) (x y : Write) → IsTrue (is_write x) → IsTrue (is_write y) → log_row a x ≡ log_row b y → x ≡ y
@@ -164,12 +194,8 @@ log_row_same a b x y p q e =
     let n = ap (λ (r : LogRow). r.n) e in
     let t = ap (λ (r : LogRow). r.time) e in
     let room = ap (λ (r : LogRow). r.room) e in
-    let title = ap (λ (r : LogRow). r.title) e in
-    let long = ap (λ (r : LogRow). r.length) e in
-    let cs : x.wish ∷ x.alternatives ≡ y.wish ∷ y.alternatives = choices_same x y p q (ap (λ (r : LogRow). r.choices) e) in
-    let wish : x.wish ≡ y.wish = (cc) in
-    let others : x.alternatives ≡ y.alternatives = (cc) in
-    λ i. record { stamp = record { server = s i; n = n i; time = t i }; room = room i; title = title i; length = long i; wish = wish i; alternatives = others i }
+    let action = cells_same x.action y.action (action_within x p) (action_within y q) (ap (λ (r : LogRow). r.action) e) in
+    λ i. record { stamp = record { server = s i; n = n i; time = t i }; room = room i; action = action i }
 
 -- ---- commit numbers
 

@@ -6,13 +6,13 @@ use Rattle.std.specs.List.{filter, filter_map}
 use Rattle.mr_model.specs.Texts.{numbers_on}
 use Rattle.mr_model.specs.Writes.{Id, Write, id_of}
 use Rattle.mr_model.specs.Replica.{Replica, count_of, is_dropped, IsReplica}
-use Rattle.mr_model.specs.Tables.{VectorRow, Tables, by_id, vector_row, log_row, undo_row, booking_row, error_row, tables_of}
+use Rattle.mr_model.specs.Tables.{VectorRow, Tables, by_id, vector_row, log_row, booking_row, error_row, cancelled_row, cancel_row, tables_of}
 use Rattle.mr_model.specs.Dropped.{Has}
 use Rattle.mr_model.specs.Changes.{IdBefore, RiseById, AreInKeyOrder, HasRowsOfKnown, SameRows, HaveSameRows, AreSameTables}
 use Rattle.mr_model.proofs.Members.{has_filter, filter_has, has_filter_map, filter_map_has, has_map, map_has}
 use Rattle.mr_model.proofs.RowsById.{has_flat, flat_has, has_numbers, has_by_id, by_id_has}
 use Rattle.mr_model.proofs.TablesTell.{vector_entry, in_row, counted_server}
-use Rattle.mr_model.proofs.RowsTell.{sorted_map}
+use Rattle.mr_model.proofs.ErrorsTell.{sorted_map}
 
 -- ---- rows of tables, and lists in key order by their members
 
@@ -54,10 +54,11 @@ pub rows_of_known : (r : Replica) → IsReplica r → HasRowsOfKnown r
 rows_of_known r h =
     record {
       vector = λ row. vector_rows r row h;
-      write_log = λ row. kept_rows r (log_row r) row h;
-      undo = λ row. kept_rows r (undo_row r) row h;
+      log = λ row. kept_rows r (log_row r) row h;
       booking = λ row. told_rows r (booking_row r) row h;
       errorlog = λ row. told_rows r (error_row r) row h;
+      cancelled = λ row. told_rows r (cancelled_row r) row h;
+      cancels = λ row. told_rows r (cancel_row r) row h;
     }
 
 id_irreflexive : (a : Id) → IdBefore a a → ⊥
@@ -79,8 +80,9 @@ one_in_key_order key xs ys a b m =
 pub same_in_key_order : (a b : Tables) → AreInKeyOrder a → AreInKeyOrder b → HaveSameRows a b → AreSameTables a b
 same_in_key_order a b p q m =
     record {
-      write_log = one_in_key_order (λ row. record { server = row.server; n = row.n }) a.write_log b.write_log p.write_log q.write_log m.write_log;
-      undo = one_in_key_order (λ row. record { server = row.server; n = row.n }) a.undo b.undo p.undo q.undo m.undo;
+      log = one_in_key_order (λ row. record { server = row.server; n = row.n }) a.log b.log p.log q.log m.log;
       booking = one_in_key_order (λ row. record { server = row.server; n = row.n }) a.booking b.booking p.booking q.booking m.booking;
       errorlog = one_in_key_order (λ row. record { server = row.server; n = row.n }) a.errorlog b.errorlog p.errorlog q.errorlog m.errorlog;
+      cancelled = one_in_key_order (λ row. record { server = row.server; n = row.n }) a.cancelled b.cancelled p.cancelled q.cancelled m.cancelled;
+      cancels = one_in_key_order (λ row. record { server = row.server; n = row.n }) a.cancels b.cancels p.cancels q.cancels m.cancels;
     }

@@ -1,306 +1,355 @@
--- Replicas that differ in dropped writes alone answer questions alike: answers are told by the rows of the tables.
-use Rattle.std.proofs.Common.{◌≡◌, refl, sym, ap, ◌∙◌, subst, ℕ, ◌+◌, ◌<◌, ◌≤◌, Bool, true, false, not, eqb, List, [], ◌∷◌, ◌++◌, map, ◌⊎◌, inl, inr, Option, Some, None, arith, IsTrue, eq-eqb, ne_eqb, add-zero}
-use Rattle.std.proofs.lemmas.Bool.{cond-true, cond-false, false_from_ne_true}
-use Rattle.std.proofs.lemmas.List.{map-append}
-use Rattle.std.proofs.lemmas.List.Elements.{filter-append}
+-- The row of each known write, and the answers that rows tell.
+use Rattle.std.proofs.Common.{◌≡◌, refl, sym, ap, ◌∙◌, subst, ◌+◌, Bool, true, false, Option, Some, None}
+use Rattle.std.proofs.lemmas.Bool.{true≢false, false_from_ne_true}
 use Rattle.std.specs.Prelude.{option_map}
-use Rattle.std.specs.List.{filter_map, cons_option}
-use Rattle.std.specs.Str.{bytes_eq}
+use Rattle.std.specs.List.{filter_map}
+use Rattle.mr_model.specs.Dropped.{Has}
 use Rattle.mr_model.specs.Texts.{Text}
 use Rattle.mr_model.specs.Slots.{Slot}
-use Rattle.mr_model.specs.Writes.{Id, Write, id_of, same_id, choices, stamp_before}
-use Rattle.mr_model.specs.Replay.{Place, Taken, Logged, Booking, place_among, slot_at, booked_with}
-use Rattle.mr_model.specs.Replica.{Replica, is_committed, committed, tentative, order_of, IsReplica}
-use Rattle.mr_model.specs.Replies.{Entry, NotBooked, OutcomeIs}
-use Rattle.mr_model.specs.View.{of_room, view_of, Told, whole_list, entry_with, entry_of, logging_of, outcome_with, outcome_of, told_of, outcome_reply}
-use Rattle.mr_model.specs.Tables.{BookingRow, ErrorRow, seq_among, seq_of, place_of, booking_row_at, booking_row, error_row_at, error_row}
-use Rattle.mr_model.specs.Dropped.{Has}
-use Rattle.mr_model.specs.Queries.{row_entry, row_logging, RowBefore, both, one, none}
-use Rattle.mr_model.proofs.OrderedSets.{before-true}
-use Rattle.mr_model.proofs.UniqueReplay.{Choice, choice, one_free, none_free, first_free_taken, first_free_logged, none_some}
-use Rattle.mr_model.proofs.Members.{has_left, has_right, has_split, has_filter, filter_has, has_map, has_filter_map, filter_map_has, has_all, all_has, find_has, Sorted, sorted_same, sorted_filter, same_id-true, same_id_refl, among_has, among_not, Distinct}
-use Rattle.mr_model.proofs.KnownById.{partner, committed_ids, committed_known, tentative_known, tentative_sorted, distinct_commits}
-use Rattle.mr_model.specs.Board.{after}
-use Rattle.mr_model.proofs.ToldInOrder.{told_among, told_id, told-writes, told_here}
-use Rattle.mr_model.proofs.RoomPlaces.{room_list, room-list, told, room_told, told_room, known_in_order, distinct_room, room_true, room_from}
-use Rattle.mr_model.proofs.RowsById.{seq_not, seq_has}
-use Rattle.mr_model.proofs.TablesTell.{booked_as, booked_row, row_booked, logged_as, logged_row}
-use Rattle.mr_model.proofs.TwinTables.{same_booking, same_error, same_committed}
-use Rattle.mr_model.proofs.TwinTaking.{Twins}
+use Rattle.mr_model.specs.Writes.{Id, Meeting, Action, Books, Cancels, Write, id_of, same_id, length_in, title_in}
+use Rattle.mr_model.specs.Replay.{Place, Taken, Logged, Done, Void, slot_at}
+use Rattle.mr_model.specs.Replica.{Replica, is_committed, IsReplica}
+use Rattle.mr_model.specs.Replies.{NotBooked, Cancelled, CancelDone, CancelVoid, Reply, OutcomeIs, Refused}
+use Rattle.mr_model.specs.View.{View, Placed, Told, view_of, cancels_it, tell, whole_list, entry_with, entry_unless, entry_of, logging_with, logging_of, outcome_with, booking_outcome, cancel_outcome, outcome_for, outcome_of, told_of, outcome_reply}
+use Rattle.mr_model.specs.Step.{outcome_at}
+use Rattle.mr_model.specs.Tables.{BookingRow, ErrorRow, CancelledRow, CancelRow, PlaceRow, by_id, seq_of, booked_in, erred_in, taken_back, cancel_in, booking_place_row, place_row_for, place_row, as_booking, as_error, as_cancelled, as_cancel, tables_of}
+use Rattle.mr_model.specs.Tables as rows
+use Rattle.mr_model.specs.Queries as told
+use Rattle.mr_model.specs.Queries.{booking_id, error_id, cancelled_id, cancel_id, is_marked, row_entry, booked_outcome, logged_outcome, cancelled_outcome, IsCancelOf, TellsOutcome, IsRowFor}
+use Rattle.mr_model.proofs.Members.{has_filter_map, filter_map_has, find_none, same_id-true}
+use Rattle.mr_model.proofs.KnownById.{one_known}
+use Rattle.mr_model.proofs.UniqueReplay.{some_inj, none_some}
+use Rattle.mr_model.proofs.PlacesOfOrder.{room_places, room_placed}
+use Rattle.mr_model.proofs.RowsById.{has_by_id, by_id_has}
+use Rattle.mr_model.proofs.Runs.{Went, took, failed, did, missed}
+use Rattle.mr_model.proofs.RoomTold.{IsToldOf, told_of_room, room_list, room-list, canceller, known_told, told_id, placed_told, told_cancel, committed-seq}
 
--- ---- each known write has a row
+-- ---- rows
 
-valid_place : (bs : List Booking) (w : Write) → ((s : Slot) × (slot_at w (place_among bs w) ≡ Some s)) ⊎ (place_among bs w ≡ Logged)
-valid_place bs w = go (choice bs w.length (choices w))
+abbrev pub booked_as : Replica → Write → Meeting → Slot → BookingRow
+booked_as r w m s = booked_in w m s (is_committed r (id_of w))
+
+abbrev pub erred_as : Replica → Write → Meeting → ErrorRow
+erred_as r w m = erred_in w m (seq_of r w)
+
+abbrev pub cancelled_as : Replica → Write → Meeting → Slot → Placed → CancelledRow
+cancelled_as r w m s by = taken_back (id_of by.write) (booked_as r w m s)
+
+abbrev pub cancel_as : Replica → Write → Id → Bool → CancelRow
+cancel_as r w t d =
+    record { server = w.stamp.server; n = w.stamp.n; room = w.room; target = t; done = d; time = w.stamp.time; seq = seq_of r w }
+
+-- what became of a write that is told, and its row
+pub data Case (r : Replica) (t : Told) : Type 0 where
+  stood : (m : Meeting) (s : Slot) → t.write.action ≡ Books m → slot_at t.write t.place ≡ Some s → t.cancelled_by ≡ None → place_row r t.write ≡ rows.Booked (booked_as r t.write m s) → Case r t
+  gone : (m : Meeting) (s : Slot) (c : Placed) → t.write.action ≡ Books m → slot_at t.write t.place ≡ Some s → t.cancelled_by ≡ Some c → place_row r t.write ≡ rows.Cancelled (cancelled_as r t.write m s c) → Case r t
+  erred : (m : Meeting) → t.write.action ≡ Books m → t.place ≡ Logged → t.cancelled_by ≡ None → place_row r t.write ≡ rows.Erred (erred_as r t.write m) → Case r t
+  done : (x : Id) → t.write.action ≡ Cancels x → t.place ≡ Done → place_row r t.write ≡ rows.Cancel (cancel_as r t.write x true) → Case r t
+  void : (x : Id) → t.write.action ≡ Cancels x → t.place ≡ Void → place_row r t.write ≡ rows.Cancel (cancel_as r t.write x false) → Case r t
+
+pub case_of : (r : Replica) (room : Text) (t : Told) → IsToldOf r room t → Case r t
+case_of r room t k = go k.went
   where
-    go : Choice bs w.length (choices w) → ((s : Slot) × (slot_at w (place_among bs w) ≡ Some s)) ⊎ (place_among bs w ≡ Logged)
-    go (one_free c f) = inl (f.slot, ap (slot_at w) (first_free_taken bs w.length 0 (choices w) c f ∙ ap Taken (add-zero c)) ∙ f.is_choice)
-    go (none_free all) = inr (first_free_logged bs w.length 0 (choices w) all)
+    told_row : place_row r t.write ≡ place_row_for t.write t.write.action t.place (canceller t) (is_committed r (told_id t)) (seq_of r t.write)
+    told_row = let p = k.place in let c = k.cancelled in λ j. place_row_for t.write t.write.action (p j) (c j) (is_committed r (told_id t)) (seq_of r t.write)
 
-told_valid : (mark : Bool) (bs : List Booking) (ws : List Write) (t : Told) → Has t (told_among mark bs ws) → ((s : Slot) × (slot_at t.write t.place ≡ Some s)) ⊎ (t.place ≡ Logged)
-told_valid mark bs [] t h = absurd h
-told_valid mark bs (w ∷ ws) t (inl e) = subst (λ (u : Told). ((s : Slot) × (slot_at u.write u.place ≡ Some s)) ⊎ (u.place ≡ Logged)) (sym e) (valid_place bs w)
-told_valid mark bs (w ∷ ws) t (inr h) = told_valid mark (booked_with bs w (place_among bs w)) ws t h
+    of_meeting : (m : Meeting) (o : Option Slot) (c : Option Placed) → t.write.action ≡ Books m → slot_at t.write t.place ≡ o → t.cancelled_by ≡ c
+        → place_row r t.write ≡ booking_place_row t.write m o (option_map (λ x. id_of x.write) c) (is_committed r (told_id t)) (seq_of r t.write)
+    of_meeting m o c f s e =
+        told_row ∙ ap (λ a. place_row_for t.write a t.place (canceller t) (is_committed r (told_id t)) (seq_of r t.write)) f
+        ∙ (λ j. booking_place_row t.write m (s j) (option_map (λ x. id_of x.write) (e j)) (is_committed r (told_id t)) (seq_of r t.write))
 
-pub row_of : (r : Replica) (w : Write) → IsReplica r → Has w r.known → ((s : Slot) × (slot_at w (place_of r w) ≡ Some s)) ⊎ (place_of r w ≡ Logged)
-row_of r w h a = go (has_split (told r w) (told_among true [] cs) (told_among false (after [] cs) ts) (told_room r w h a))
+    of_cancel : (x : Id) (p : Place) → t.write.action ≡ Cancels x → t.place ≡ p → place_row r t.write ≡ rows.Cancel (cancel_in t.write x p (seq_of r t.write))
+    of_cancel x p f at =
+        told_row ∙ ap (λ a. place_row_for t.write a t.place (canceller t) (is_committed r (told_id t)) (seq_of r t.write)) f
+        ∙ ap (λ q. rows.Cancel (cancel_in t.write x q (seq_of r t.write))) at
+
+    go : Went t.write t.place → Case r t
+    go (took m i s f at o) = by_cancel t.cancelled_by refl
+      where
+        by_cancel : (c : Option Placed) → t.cancelled_by ≡ c → Case r t
+        by_cancel None e = stood m s f o e (of_meeting m (Some s) None f o e)
+        by_cancel (Some c) e = gone m s c f o e (of_meeting m (Some s) (Some c) f o e)
+    go (failed m f at) = by_cancel t.cancelled_by refl
+      where
+        by_cancel : (c : Option Placed) → t.cancelled_by ≡ c → Case r t
+        by_cancel None e = erred m f at e (of_meeting m None None f (ap (slot_at t.write) at) e)
+        by_cancel (Some c) e = let (s, o) = k.booked c e in absurd (none_some s (sym (ap (slot_at t.write) at) ∙ o))
+    go (did x f at) = done x f at (of_cancel x Done f at)
+    go (missed x f at) = void x f at (of_cancel x Void f at)
+
+-- ---- rows in the tables
+
+pub of_known : {A : Type 0} (f : PlaceRow → Option A) (r : Replica) (x : A) → IsReplica r → (w : Write) → Has w r.known → f (place_row r w) ≡ Some x → Has x (filter_map (λ v. f (place_row r v)) (by_id r.known))
+of_known f r x h w a e = has_filter_map (λ v. f (place_row r v)) w x (by_id r.known) e (has_by_id r w h a)
+
+pub known_of : {A : Type 0} (f : PlaceRow → Option A) (r : Replica) (x : A) → Has x (filter_map (λ v. f (place_row r v)) (by_id r.known)) → (w : Write) × Has w r.known × (f (place_row r w) ≡ Some x)
+known_of f r x h = let (w, g, e) = filter_map_has (λ v. f (place_row r v)) x (by_id r.known) h in (w, by_id_has r w g, e)
+
+-- ---- entries
+
+pub entry-row : (r : Replica) (room : Text) (t : Told) → IsToldOf r room t → entry_of t ≡ option_map row_entry (as_booking (place_row r t.write))
+entry-row r room t k = go (case_of r room t k)
   where
-    cs : List Write
-    cs = of_room w.room (committed r)
+    none : (row : PlaceRow) → place_row r t.write ≡ row → as_booking row ≡ None → entry_of t ≡ None → entry_of t ≡ option_map row_entry (as_booking (place_row r t.write))
+    none row e b n = n ∙ sym (ap (λ x. option_map row_entry (as_booking x)) e ∙ ap (option_map row_entry) b)
 
-    ts : List Write
-    ts = of_room w.room (tentative r)
+    no_slot : t.cancelled_by ≡ None → slot_at t.write t.place ≡ None → entry_of t ≡ None
+    no_slot c o = ap (λ b. entry_unless b t) c ∙ ap (entry_with t) o
 
-    go : Has (told r w) (told_among true [] cs) ⊎ Has (told r w) (told_among false (after [] cs) ts) → ((s : Slot) × (slot_at w (place_of r w) ≡ Some s)) ⊎ (place_of r w ≡ Logged)
-    go (inl g) = told_valid true [] cs (told r w) g
-    go (inr g) = told_valid false (after [] cs) ts (told r w) g
+    no_cancel : (c : Option Placed) → t.cancelled_by ≡ c → slot_at t.write t.place ≡ None → entry_of t ≡ None
+    no_cancel None c o = no_slot c o
+    no_cancel (Some x) c o = ap (λ b. entry_unless b t) c
 
--- so that its room is the same
-pub same_room : (a b : Replica) (x y : Write) → Twins a b → Has x a.known → Has y b.known → id_of x ≡ id_of y → x.room ≡ y.room
-same_room a b x y t h g e = go (row_of a x t.first h)
-  where
-    go : ((s : Slot) × (slot_at x (place_of a x) ≡ Some s)) ⊎ (place_of a x ≡ Logged) → x.room ≡ y.room
-    go (inl (s, p)) =
-        let (v, q, same) = booked_row b y (booked_as a x s) (sym (same_booking a b t.first t.second t.alike x y h g e) ∙ row_booked a x s p) in
-        ap (λ (r : BookingRow). r.room) same
-    go (inr p) =
-        let row : error_row a x ≡ Some (logged_as a x) = ap (error_row_at a x) p in
-        let l = logged_row b y (logged_as a x) (sym (same_error a b t.first t.second t.alike x y h g e) ∙ row) in
-        ap (λ (r : ErrorRow). r.room) l.1
-
--- ---- entries and loggings are told by rows
-
-pub entry-row : (r : Replica) (w : Write) → entry_of (told r w) ≡ option_map row_entry (booking_row r w)
-entry-row r w = go (slot_at w (place_of r w))
-  where
-    go : (o : Option Slot) → entry_with (told r w) o ≡ option_map row_entry (booking_row_at r w o)
-    go None = refl
-    go (Some s) = refl
-
-pub same_entry : (a b : Replica) (x y : Write) → Twins a b → Has x a.known → Has y b.known → id_of x ≡ id_of y → entry_of (told a x) ≡ entry_of (told b y)
-same_entry a b x y t h g e = entry-row a x ∙ ap (option_map row_entry) (same_booking a b t.first t.second t.alike x y h g e) ∙ sym (entry-row b y)
-
-pub committed-seq : (r : Replica) (w : Write) → is_committed r (id_of w) ≡ not (eqb (seq_of r w) 0)
-committed-seq r w = go (is_committed r (id_of w)) refl
-  where
-    go : (b : Bool) → is_committed r (id_of w) ≡ b → is_committed r (id_of w) ≡ not (eqb (seq_of r w) 0)
-    go true e = e ∙ sym (ap not (ne_eqb (seq_of r w) 0 (λ z. let l : 1 ≤ seq_of r w = seq_has 1 r.commits (id_of w) (among_has (id_of w) r.commits e) in omega (arith, l, z))))
-    go false e = e ∙ sym (ap not (eq-eqb (seq_of r w) 0 (seq_not 1 r.commits (id_of w) (among_not (id_of w) r.commits e))))
-
-pub logging-row : (r : Replica) (w : Write) → logging_of (told r w) ≡ option_map row_logging (error_row r w)
-logging-row r w = go (place_of r w)
-  where
-    go : (p : Place) → logging_of (record { write = w; is_committed = is_committed r (id_of w); place = p }) ≡ option_map row_logging (error_row_at r w p)
-    go (Taken k) = refl
-    go Logged = let m = committed-seq r w in λ i. Some (record { is_committed = m i; id = id_of w; day = w.wish.day; start = w.wish.start; stop = w.wish.start + w.length; title = w.title })
-
--- ---- what is told of a room is told of its known writes in their order
-
-filter_map-map : {A B C : Type 0} (f : A → B) (g : B → Option C) (xs : List A) → filter_map g (map f xs) ≡ filter_map (λ x. g (f x)) xs
-filter_map-map f g [] = refl
-filter_map-map f g (x ∷ xs) = ap (cons_option (g (f x))) (filter_map-map f g xs)
-
-filter_map-option : {A B C : Type 0} (f : A → Option B) (g : B → C) (xs : List A) → filter_map (λ x. option_map g (f x)) xs ≡ map g (filter_map f xs)
-filter_map-option f g [] = refl
-filter_map-option {B = B} f g (x ∷ xs) = go (f x) (filter_map-option f g xs)
-  where
-    go : (o : Option B) → filter_map (λ y. option_map g (f y)) xs ≡ map g (filter_map f xs) → cons_option (option_map g o) (filter_map (λ y. option_map g (f y)) xs) ≡ map g (cons_option o (filter_map f xs))
-    go None e = e
-    go (Some u) e = ap (λ ys. g u ∷ ys) e
-
-map_back : {A B : Type 0} (f : B → A) (g : A → B) (xs : List A) → ((x : A) → Has x xs → x ≡ f (g x)) → xs ≡ map f (map g xs)
-map_back f g [] e = refl
-map_back f g (x ∷ xs) e = let a = e x (inl refl) in let b = map_back f g xs (λ y h. e y (inr h)) in λ i. a i ∷ b i
-
-pub room-told : (r : Replica) (room : Text) → IsReplica r → room_list r room ≡ map (told r) (of_room room (order_of r))
-room-told r room h =
-    map_back (told r) (λ (t : Told). t.write) (room_list r room) (λ t a. (room_told r room t h a).0)
-    ∙ ap (map (told r)) (map-append (λ (t : Told). t.write) (told_among true [] cs) (told_among false (after [] cs) ts)
-    ∙ ap (λ ws. ws ++ map (λ (t : Told). t.write) (told_among false (after [] cs) ts)) (told-writes true [] cs)
-    ∙ ap (λ ws. cs ++ ws) (told-writes false (after [] cs) ts)
-    ∙ sym (filter-append (λ w. bytes_eq w.room room) (committed r) (tentative r)))
-  where
-    cs : List Write
-    cs = of_room room (committed r)
-
-    ts : List Write
-    ts = of_room room (tentative r)
-
-pub order_known : (r : Replica) (w : Write) → IsReplica r → Has w (order_of r) → Has w r.known
-order_known r w h a = go (has_split w (committed r) (tentative r) a)
-  where
-    go : Has w (committed r) ⊎ Has w (tentative r) → Has w r.known
-    go (inl g) = (committed_known r w h g).0
-    go (inr g) = (tentative_known r w g).0
-
-pub known_order : (r : Replica) (w : Write) → IsReplica r → Has w r.known → Has w (order_of r)
-known_order r w h a = go (known_in_order r w h a)
-  where
-    go : Has w (committed r) ⊎ Has w (tentative r) → Has w (order_of r)
-    go (inl g) = has_left w (committed r) (tentative r) g
-    go (inr g) = has_right w (committed r) (tentative r) g
+    go : Case r t → entry_of t ≡ option_map row_entry (as_booking (place_row r t.write))
+    go (stood m s f o c e) =
+        ap (λ b. entry_unless b t) c ∙ ap (entry_with t) o
+        ∙ (let mark = k.mark in λ i. Some (record { day = s.day; start = s.start; stop = s.start + length_in (f i); is_committed = mark i; id = id_of t.write; title = title_in (f i) }))
+        ∙ sym (ap (λ x. option_map row_entry (as_booking x)) e)
+    go (gone m s c f o b e) = none (rows.Cancelled (cancelled_as r t.write m s c)) e refl (ap (λ x. entry_unless x t) b)
+    go (erred m f p c e) = none (rows.Erred (erred_as r t.write m)) e refl (no_slot c (ap (slot_at t.write) p))
+    go (done x f p e) = none (rows.Cancel (cancel_as r t.write x true)) e refl (no_cancel t.cancelled_by refl (ap (slot_at t.write) p))
+    go (void x f p e) = none (rows.Cancel (cancel_as r t.write x false)) e refl (no_cancel t.cancelled_by refl (ap (slot_at t.write) p))
 
 -- ---- outcomes
 
-pub none_outcome : (r : Replica) (room : Text) (id : Id) → IsReplica r → ((w : Write) → Has w r.known → w.room ≡ room → id_of w ≡ id → ⊥) → told_of id (room_list r room) ≡ None
-none_outcome r room id h f =
-    Rattle.mr_model.proofs.Members.find_none (λ t. same_id (told_id t) id) (room_list r room)
-    (λ t a. let k = room_told r room t h a in false_from_ne_true (same_id (told_id t) id) (λ s. f t.write k.1 k.2 (same_id-true (told_id t) id s)))
+-- what is told of the cancel that took a booking back
+pub record IsTakenBack (r : Replica) (t : Told) (c : Placed) : Type 0 where
+  pub known : Has c.write r.known
+  pub mark : c.is_committed ≡ is_committed r (id_of c.write)
+  pub target : Id
+  pub is_cancel : c.write.action ≡ Cancels target
+  pub is_target : target ≡ told_id t
+  pub same_room : c.write.room ≡ t.write.room
+  pub row : place_row r c.write ≡ rows.Cancel (cancel_as r c.write target true)
 
-pub some_outcome : (r : Replica) (room : Text) (w : Write) (id : Id) → IsReplica r → Has w r.known → w.room ≡ room → id_of w ≡ id → told_of id (room_list r room) ≡ Some (told r w)
-some_outcome r room w id h a e f =
-    ap (λ i. told_of i (room_list r room)) (sym f)
-    ∙ told_here (told r w) (room_list r room) (distinct_room r room h) (subst (λ x. Has (told r w) (room_list r x)) e (told_room r w h a))
+pub cancels_done : (id : Id) (a : Action) (p : Place) → cancels_it id a p ≡ true → (x : Id) × (a ≡ Cancels x) × (p ≡ Done) × (x ≡ id)
+cancels_done id (Books m) p e = absurd (true≢false (sym e))
+cancels_done id (Cancels x) (Taken k) e = absurd (true≢false (sym e))
+cancels_done id (Cancels x) Logged e = absurd (true≢false (sym e))
+cancels_done id (Cancels x) Void e = absurd (true≢false (sym e))
+cancels_done id (Cancels x) Done e = (x, refl, refl, sym (same_id-true id x e))
 
-same_outcome_of : (a b : Replica) (x y : Write) → Twins a b → Has x a.known → Has y b.known → id_of x ≡ id_of y → outcome_of (told a x) ≡ outcome_of (told b y)
-same_outcome_of a b x y t h g e =
-    ap (outcome_with (told a x)) (same_entry a b x y t h g e) ∙ go (entry_of (told b y))
+pub back_of : (r : Replica) (room : Text) (t : Told) (c : Placed) → IsReplica r → Has t (room_list r room) → t.cancelled_by ≡ Some c → IsTakenBack r t c
+back_of r room t c h a e =
+    let f = told_cancel (room_places r room) t c a e in
+    let (e2, known, here) = room_placed r room c h f.0 in
+    let (x, g, p, s) = cancels_done (told_id t) c.write.action c.place f.1 in
+    let (u, i, q) = placed_told (room_places r room) c f.0 in
+    let own = told_of_room r room u h i in
+    record {
+      known = known;
+      mark = ap (λ (y : Placed). y.is_committed) e2;
+      target = x;
+      is_cancel = g;
+      is_target = s;
+      same_room = here ∙ sym (told_of_room r room t h a).in_room;
+      row = subst (λ (y : Placed). y.write.action ≡ Cancels x → y.place ≡ Done → place_row r y.write ≡ rows.Cancel (cancel_as r y.write x true)) q (done_row u own x) g p;
+    }
   where
-    go : (o : Option Entry) → outcome_with (told a x) o ≡ outcome_with (told b y) o
-    go None = let m = same_committed a b (id_of x) t.alike ∙ ap (is_committed b) e in λ i. NotBooked (e i) (m i)
-    go (Some s) = refl
+    done_row : (u : Told) → IsToldOf r room u → (x : Id) → u.write.action ≡ Cancels x → u.place ≡ Done → place_row r u.write ≡ rows.Cancel (cancel_as r u.write x true)
+    done_row u k x g p =
+        (let q = k.place in let c = k.cancelled in λ j. place_row_for u.write (g j) (q j) (c j) (is_committed r (told_id u)) (seq_of r u.write))
+        ∙ ap (λ q. rows.Cancel (cancel_in u.write x q (seq_of r u.write))) p
 
-pub same_outcome : (a b : Replica) (room : Text) (id : Id) → Twins a b → outcome_reply (told_of id (whole_list (view_of a room))) ≡ outcome_reply (told_of id (whole_list (view_of b room)))
-same_outcome a b room id t =
-    ap (λ ts. outcome_reply (told_of id ts)) (room-list a room) ∙ go (told_of id (room_list a room)) refl ∙ ap (λ ts. outcome_reply (told_of id ts)) (sym (room-list b room))
+-- as is told, the reply
+record Tells (r : Replica) (w : Write) (p : PlaceRow) (reply told_reply : Reply) : Type 0 where
+  is_row : place_row r w ≡ p
+  is_reply : reply ≡ told_reply
+  tells : TellsOutcome (tables_of r) p told_reply
+
+outcome_told : (r : Replica) (room : Text) (t : Told) → IsReplica r → Has t (room_list r room) → TellsOutcome (tables_of r) (place_row r t.write) (OutcomeIs (outcome_of t))
+outcome_told r room t h a = go (case_of r room t k)
   where
-    go : (o : Option Told) → told_of id (room_list a room) ≡ o → outcome_reply (told_of id (room_list a room)) ≡ outcome_reply (told_of id (room_list b room))
-    go (Some u) e =
-        let f = find_has (λ v. same_id (told_id v) id) u (room_list a room) e in
-        let (is, known, in_room) = room_told a room u t.first f.0 in
-        let same : told_id u ≡ id = same_id-true (told_id u) id f.1 in
-        let (y, k, g) = partner a b u.write t.first t.second t.alike.counts known in
-        ap outcome_reply (some_outcome a room u.write id t.first known in_room same)
-        ∙ ap OutcomeIs (same_outcome_of a b u.write y t known k (sym g))
-        ∙ ap outcome_reply (sym (some_outcome b room y id t.second k (sym (same_room a b u.write y t known k (sym g)) ∙ in_room) (g ∙ same)))
-    go None e =
-        ap outcome_reply (e ∙ sym (none_outcome b room id t.second (λ y k r f. let (x, h, g) = partner b a y t.second t.first (λ s. sym (t.alike.counts s)) k in none_some (told a x) (sym e ∙ some_outcome a room x id t.first h (same_room a b x y t h k g ∙ r) (g ∙ f)))))
+    k : IsToldOf r room t
+    k = told_of_room r room t h a
 
--- ---- the error log, in its order
+    seq-mark : is_committed r (told_id t) ≡ is_marked (seq_of r t.write)
+    seq-mark = committed-seq r t.write
 
-pub sorted_within : {A : Type 0} (P Q : A → A → Type 0) (xs : List A) → ((x y : A) → Has x xs → Has y xs → P x y → Q x y) → Sorted P xs → Sorted Q xs
-sorted_within P Q [] f s = tt
-sorted_within P Q (x ∷ xs) f s = (has_all (Q x) xs (λ y h. f x y (inl refl) (inr h) (all_has (P x) y xs s.0 h)), sorted_within P Q xs (λ y z h g. f y z (inr h) (inr g)) s.1)
+    turn : (p : PlaceRow) → place_row r t.write ≡ p → (told_reply : Reply) → OutcomeIs (outcome_of t) ≡ told_reply → TellsOutcome (tables_of r) p told_reply → TellsOutcome (tables_of r) (place_row r t.write) (OutcomeIs (outcome_of t))
+    turn p e q f x = subst (λ z. TellsOutcome (tables_of r) z (OutcomeIs (outcome_of t))) (sym e) (subst (λ z. TellsOutcome (tables_of r) p z) (sym f) x)
 
-pub sorted_map : {A B : Type 0} (P : B → B → Type 0) (f : A → B) (xs : List A) → Sorted P (map f xs) → Sorted (λ x y. P (f x) (f y)) xs
-sorted_map P f [] s = tt
-sorted_map P f (x ∷ xs) s = (has_all (λ y. P (f x) (f y)) xs (λ y h. all_has (P (f x)) (f y) (map f xs) s.0 (has_map f y xs h)), sorted_map P f xs s.1)
+    go : Case r t → TellsOutcome (tables_of r) (place_row r t.write) (OutcomeIs (outcome_of t))
+    go (stood m s f o c e) =
+        turn (rows.Booked (booked_as r t.write m s)) e (OutcomeIs (booked_outcome (booked_as r t.write m s)))
+        (ap (λ x. OutcomeIs (outcome_for t x)) f ∙ ap (λ x. OutcomeIs (booking_outcome t x)) c
+        ∙ ap (λ x. OutcomeIs (outcome_with t x)) (entry-row r room t k ∙ ap (λ x. option_map row_entry (as_booking x)) e))
+        (told.of_booking (booked_as r t.write m s))
+    go (gone m s c f o b e) =
+        let back = back_of r room t c h a b in
+        let row = cancel_as r c.write back.target true in
+        turn (rows.Cancelled (cancelled_as r t.write m s c)) e (OutcomeIs (cancelled_outcome (cancelled_as r t.write m s c) row))
+        (ap (λ x. OutcomeIs (outcome_for t x)) f ∙ ap (λ x. OutcomeIs (booking_outcome t x)) b
+        ∙ (let own = k.mark in let other = back.mark ∙ committed-seq r c.write in λ i. OutcomeIs (Cancelled (told_id t) (own i) (other i) (id_of c.write))))
+        (told.of_cancelled (cancelled_as r t.write m s c) row (record {
+          is_there = of_known as_cancel r row h c.write back.known (ap as_cancel back.row);
+          is_by = refl;
+          is_done = refl;
+          is_target = back.is_target;
+          same_room = back.same_room;
+        }))
+    go (erred m f p c e) =
+        turn (rows.Erred (erred_as r t.write m)) e (OutcomeIs (logged_outcome (erred_as r t.write m)))
+        (ap (λ x. OutcomeIs (outcome_for t x)) f ∙ ap (λ x. OutcomeIs (booking_outcome t x)) c
+        ∙ ap (λ x. OutcomeIs (outcome_with t x)) (ap (λ b. entry_unless b t) c ∙ ap (λ q. entry_with t (slot_at t.write q)) p)
+        ∙ ap (λ x. OutcomeIs (NotBooked (told_id t) x)) (k.mark ∙ seq-mark))
+        (told.of_error (erred_as r t.write m))
+    go (done x f p e) =
+        turn (rows.Cancel (cancel_as r t.write x true)) e (OutcomeIs (told.cancel_outcome (cancel_as r t.write x true)))
+        (ap (λ y. OutcomeIs (outcome_for t y)) f ∙ ap (λ q. OutcomeIs (Rattle.mr_model.specs.View.cancel_outcome t x q)) p
+        ∙ ap (λ y. OutcomeIs (CancelDone (told_id t) y x)) (k.mark ∙ seq-mark))
+        (told.of_cancel (cancel_as r t.write x true))
+    go (void x f p e) =
+        turn (rows.Cancel (cancel_as r t.write x false)) e (OutcomeIs (told.cancel_outcome (cancel_as r t.write x false)))
+        (ap (λ y. OutcomeIs (outcome_for t y)) f ∙ ap (λ q. OutcomeIs (Rattle.mr_model.specs.View.cancel_outcome t x q)) p
+        ∙ ap (λ y. OutcomeIs (CancelVoid (told_id t) y x)) (k.mark ∙ seq-mark))
+        (told.of_cancel (cancel_as r t.write x false))
 
-pub sorted_append : {A : Type 0} (P : A → A → Type 0) (xs ys : List A) → Sorted P xs → Sorted P ys → ((x y : A) → Has x xs → Has y ys → P x y) → Sorted P (xs ++ ys)
-sorted_append P [] ys s t f = t
-sorted_append P (x ∷ xs) ys s t f = (has_all (P x) (xs ++ ys) here, sorted_append P xs ys s.1 t (λ y z h g. f y z (inr h) g))
+-- the outcome of a known write is that of its row
+pub outcome_is_row : (r : Replica) (w : Write) → IsReplica r → Has w r.known → TellsOutcome (tables_of r) (place_row r w) (outcome_at r w)
+outcome_is_row r w h a =
+    let (t, g, e) = known_told r w h a in
+    let k = told_of_room r w.room t h g in
+    let found : told_of (id_of w) (whole_list (view_of r w.room)) ≡ Some t = ap (λ (v : Write). told_of (id_of v) (whole_list (view_of r v.room))) (sym e) ∙ k.is_told in
+    subst (λ x. TellsOutcome (tables_of r) (place_row r w) x) (sym (ap outcome_reply found)) (subst (λ v. TellsOutcome (tables_of r) (place_row r v) (OutcomeIs (outcome_of t))) e (outcome_told r w.room t h g))
+
+-- ---- the row of a write
+
+row_of_action : (r : Replica) (t : Told) → Case r t → IsRowFor t.write.action (place_row r t.write) × (told.row_id (place_row r t.write) ≡ told_id t) × (told.row_room (place_row r t.write) ≡ t.write.room)
+row_of_action r t (stood m s f o c e) = (subst (λ p. IsRowFor t.write.action p) (sym e) (subst (λ a. IsRowFor a (rows.Booked (booked_as r t.write m s))) (sym f) tt), ap told.row_id e, ap told.row_room e)
+row_of_action r t (gone m s c f o b e) = (subst (λ p. IsRowFor t.write.action p) (sym e) (subst (λ a. IsRowFor a (rows.Cancelled (cancelled_as r t.write m s c))) (sym f) tt), ap told.row_id e, ap told.row_room e)
+row_of_action r t (erred m f p c e) = (subst (λ p. IsRowFor t.write.action p) (sym e) (subst (λ a. IsRowFor a (rows.Erred (erred_as r t.write m))) (sym f) tt), ap told.row_id e, ap told.row_room e)
+row_of_action r t (done x f p e) = (subst (λ p. IsRowFor t.write.action p) (sym e) (subst (λ a. IsRowFor a (rows.Cancel (cancel_as r t.write x true))) (sym f) refl), ap told.row_id e, ap told.row_room e)
+row_of_action r t (void x f p e) = (subst (λ p. IsRowFor t.write.action p) (sym e) (subst (λ a. IsRowFor a (rows.Cancel (cancel_as r t.write x false))) (sym f) refl), ap told.row_id e, ap told.row_room e)
+
+pub one_row : (r : Replica) (w : Write) → IsReplica r → Has w r.known → IsRowFor w.action (place_row r w) × (told.row_id (place_row r w) ≡ id_of w) × (told.row_room (place_row r w) ≡ w.room)
+one_row r w h a =
+    let (t, g, e) = known_told r w h a in
+    subst (λ v. IsRowFor v.action (place_row r v) × (told.row_id (place_row r v) ≡ id_of v) × (told.row_room (place_row r v) ≡ v.room)) e (row_of_action r t (case_of r w.room t (told_of_room r w.room t h g)))
+
+-- a row of the tables is that of a known write
+pub row_is_in : (r : Replica) (p : PlaceRow) → IsReplica r → (w : Write) → Has w r.known → place_row r w ≡ p → told.IsRowIn (tables_of r) p
+row_is_in r (rows.Booked row) h w a e = of_known as_booking r row h w a (ap as_booking e)
+row_is_in r (rows.Erred row) h w a e = of_known as_error r row h w a (ap as_error e)
+row_is_in r (rows.Cancelled row) h w a e = of_known as_cancelled r row h w a (ap as_cancelled e)
+row_is_in r (rows.Cancel row) h w a e = of_known as_cancel r row h w a (ap as_cancel e)
+
+pub booked_is : (row : BookingRow) (q : PlaceRow) → as_booking q ≡ Some row → q ≡ rows.Booked row
+booked_is row (rows.Booked x) e = ap rows.Booked (some_inj x row e)
+booked_is row (rows.Erred x) e = absurd (none_some row e)
+booked_is row (rows.Cancelled x) e = absurd (none_some row e)
+booked_is row (rows.Cancel x) e = absurd (none_some row e)
+
+pub erred_is : (row : ErrorRow) (q : PlaceRow) → as_error q ≡ Some row → q ≡ rows.Erred row
+erred_is row (rows.Booked x) e = absurd (none_some row e)
+erred_is row (rows.Erred x) e = ap rows.Erred (some_inj x row e)
+erred_is row (rows.Cancelled x) e = absurd (none_some row e)
+erred_is row (rows.Cancel x) e = absurd (none_some row e)
+
+pub cancelled_is : (row : CancelledRow) (q : PlaceRow) → as_cancelled q ≡ Some row → q ≡ rows.Cancelled row
+cancelled_is row (rows.Booked x) e = absurd (none_some row e)
+cancelled_is row (rows.Erred x) e = absurd (none_some row e)
+cancelled_is row (rows.Cancelled x) e = ap rows.Cancelled (some_inj x row e)
+cancelled_is row (rows.Cancel x) e = absurd (none_some row e)
+
+pub cancel_is : (row : CancelRow) (q : PlaceRow) → as_cancel q ≡ Some row → q ≡ rows.Cancel row
+cancel_is row (rows.Booked x) e = absurd (none_some row e)
+cancel_is row (rows.Erred x) e = absurd (none_some row e)
+cancel_is row (rows.Cancelled x) e = absurd (none_some row e)
+cancel_is row (rows.Cancel x) e = ap rows.Cancel (some_inj x row e)
+
+pub row_in_is : (r : Replica) (p : PlaceRow) → told.IsRowIn (tables_of r) p → (w : Write) × Has w r.known × (place_row r w ≡ p)
+row_in_is r (rows.Booked row) h = let (w, a, e) = known_of as_booking r row h in (w, a, booked_is row (place_row r w) e)
+row_in_is r (rows.Erred row) h = let (w, a, e) = known_of as_error r row h in (w, a, erred_is row (place_row r w) e)
+row_in_is r (rows.Cancelled row) h = let (w, a, e) = known_of as_cancelled r row h in (w, a, cancelled_is row (place_row r w) e)
+row_in_is r (rows.Cancel row) h = let (w, a, e) = known_of as_cancel r row h in (w, a, cancel_is row (place_row r w) e)
+
+-- an id with no row of the room is no request or cancel of it
+pub none_told : (r : Replica) (room : Text) (id : Id) → IsReplica r → ((p : PlaceRow) → told.IsRowIn (tables_of r) p → told.row_room p ≡ room → told.row_id p ≡ id → ⊥) → outcome_reply (told_of id (whole_list (view_of r room))) ≡ Refused Rattle.mr_model.specs.Refusals.NoSuchRequest
+none_told r room id h f =
+    ap (λ ts. outcome_reply (told_of id ts)) (room-list r room)
+    ∙ ap outcome_reply (find_none (λ t. same_id (told_id t) id) (room_list r room) none)
   where
-    here : (y : _) → Has y (xs ++ ys) → P x y
-    here y h = go (has_split y xs ys h)
-      where
-        go : Has y xs ⊎ Has y ys → P x y
-        go (inl g) = all_has (P x) y xs s.0 g
-        go (inr g) = f x y (inl refl) g
+    none : (t : Told) → Has t (room_list r room) → same_id (told_id t) id ≡ false
+    none t a =
+        let k = told_of_room r room t h a in
+        let o = one_row r t.write h k.known in
+        false_from_ne_true (same_id (told_id t) id)
+        (λ s. f (place_row r t.write) (row_is_in r (place_row r t.write) h t.write k.known refl) (o.2 ∙ k.in_room) (o.1 ∙ same_id-true (told_id t) id s))
 
-pub sorted_filter_map : {A B : Type 0} (P : A → A → Type 0) (Q : B → B → Type 0) (f : A → Option B) (xs : List A) → ((x y : A) (u v : B) → P x y → f x ≡ Some u → f y ≡ Some v → Q u v) → Sorted P xs → Sorted Q (filter_map f xs)
-sorted_filter_map P Q f [] k s = tt
-sorted_filter_map {A = A} {B = B} P Q f (x ∷ xs) k s = go (f x) refl (sorted_filter_map P Q f xs k s.1)
+pub none_in_room : (r : Replica) (room : Text) (id : Id) → IsReplica r
+    → ((row : BookingRow) → Has row (tables_of r).booking → row.room ≡ room → booking_id row ≡ id → ⊥)
+    → ((row : ErrorRow) → Has row (tables_of r).errorlog → row.room ≡ room → error_id row ≡ id → ⊥)
+    → ((row : CancelledRow) → Has row (tables_of r).cancelled → row.room ≡ room → cancelled_id row ≡ id → ⊥)
+    → ((row : CancelRow) → Has row (tables_of r).cancels → row.room ≡ room → cancel_id row ≡ id → ⊥)
+    → outcome_reply (told_of id (whole_list (view_of r room))) ≡ Refused Rattle.mr_model.specs.Refusals.NoSuchRequest
+none_in_room r room id h a b c d = none_told r room id h each
   where
-    go : (o : Option B) → f x ≡ o → Sorted Q (filter_map f xs) → Sorted Q (cons_option o (filter_map f xs))
-    go None e t = t
-    go (Some u) e t = (has_all (Q u) (filter_map f xs) (λ v h. let (y, g, i) = filter_map_has f v xs h in k x y u v (all_has (P x) y xs s.0 g) e i), t)
+    each : (p : PlaceRow) → told.IsRowIn (tables_of r) p → told.row_room p ≡ room → told.row_id p ≡ id → ⊥
+    each (rows.Booked row) g e f = a row g e f
+    each (rows.Erred row) g e f = b row g e f
+    each (rows.Cancelled row) g e f = c row g e f
+    each (rows.Cancel row) g e f = d row g e f
 
-pub row_irreflexive : (r : ErrorRow) → RowBefore r r → ⊥
-row_irreflexive r (both p q) = omega (arith, q)
-row_irreflexive r (one p q) = omega (arith, p, q)
-row_irreflexive r (none p q (inl l)) = omega (arith, l)
-row_irreflexive r (none p q (inr l)) = omega (arith, l.1)
+-- ---- the outcomes that rows tell
 
-pub row_transitive : (r s t : ErrorRow) → RowBefore r s → RowBefore s t → RowBefore r t
-row_transitive r s t (both p q) (both u v) = both p (omega (arith, q, v))
-row_transitive r s t (both p q) (one u v) = one p v
-row_transitive r s t (both p q) (none u v w) = absurd (omega (arith, q, u))
-row_transitive r s t (one p q) (both u v) = absurd (omega (arith, q, u))
-row_transitive r s t (one p q) (one u v) = absurd (omega (arith, q, u))
-row_transitive r s t (one p q) (none u v w) = one p v
-row_transitive r s t (none p q l) (both u v) = absurd (omega (arith, q, u))
-row_transitive r s t (none p q l) (one u v) = absurd (omega (arith, q, u))
-row_transitive r s t (none p q l) (none u v m) = none p v (go l m)
-  where
-    go : (r.time < s.time) ⊎ ((r.time ≡ s.time) × (r.server < s.server)) → (s.time < t.time) ⊎ ((s.time ≡ t.time) × (s.server < t.server)) → (r.time < t.time) ⊎ ((r.time ≡ t.time) × (r.server < t.server))
-    go (inl a) (inl b) = inl (omega (arith, a, b))
-    go (inl a) (inr b) = inl (let e = b.0 in omega (arith, a, e))
-    go (inr a) (inl b) = inl (let e = a.0 in omega (arith, b, e))
-    go (inr a) (inr b) = inr (a.0 ∙ b.0, omega (arith, a.1, b.1))
+-- a row of a write of the room tells what is told of its id
+told_by_row : (r : Replica) (room : Text) (p : PlaceRow) → IsReplica r → told.IsRowIn (tables_of r) p → told.row_room p ≡ room
+    → TellsOutcome (tables_of r) p (outcome_reply (told_of (told.row_id p) (whole_list (view_of r room))))
+told_by_row r room p h g e =
+    let (w, a, s) = row_in_is r p g in
+    let o = one_row r w h a in
+    let id : told.row_id p ≡ id_of w = sym (ap told.row_id s) ∙ o.1 in
+    let at : room ≡ w.room = sym e ∙ sym (ap told.row_room s) ∙ o.2 in
+    subst (λ q. TellsOutcome (tables_of r) q (outcome_reply (told_of (told.row_id p) (whole_list (view_of r room))))) s
+    (subst (λ x. TellsOutcome (tables_of r) (place_row r w) x)
+    (λ i. outcome_reply (told_of (sym id i) (whole_list (view_of r (sym at i)))))
+    (outcome_is_row r w h a))
 
-seq_sorted : (k : ℕ) (ids : List Id) → Distinct ids → Sorted (λ i j. seq_among k ids i < seq_among k ids j) ids
-seq_sorted k [] d = tt
-seq_sorted k (x ∷ xs) d = (
-  has_all (λ j. seq_among k (x ∷ xs) x < seq_among k (x ∷ xs) j) xs (λ j h. let l : k + 1 ≤ seq_among (k + 1) xs j = seq_has (k + 1) xs j h in let f : seq_among k (x ∷ xs) x ≡ k = first in let g : seq_among k (x ∷ xs) j ≡ seq_among (k + 1) xs j = later j h in omega (arith, l, f, g)),
-  sorted_within (λ i j. seq_among (k + 1) xs i < seq_among (k + 1) xs j) (λ i j. seq_among k (x ∷ xs) i < seq_among k (x ∷ xs) j) xs
-      (λ i j h g l. let p : seq_among k (x ∷ xs) i ≡ seq_among (k + 1) xs i = later i h in let q : seq_among k (x ∷ xs) j ≡ seq_among (k + 1) xs j = later j g in omega (arith, l, p, q)) (seq_sorted (k + 1) xs d.1),
+-- and that outcome is one
+pub booked_tells : (r : Replica) (row : BookingRow) (reply : Reply) → TellsOutcome (tables_of r) (rows.Booked row) reply → reply ≡ OutcomeIs (booked_outcome row)
+booked_tells r row reply (told.of_booking x) = refl
+
+pub erred_tells : (r : Replica) (row : ErrorRow) (reply : Reply) → TellsOutcome (tables_of r) (rows.Erred row) reply → reply ≡ OutcomeIs (logged_outcome row)
+erred_tells r row reply (told.of_error x) = refl
+
+pub cancel_tells : (r : Replica) (row : CancelRow) (reply : Reply) → TellsOutcome (tables_of r) (rows.Cancel row) reply → reply ≡ OutcomeIs (told.cancel_outcome row)
+cancel_tells r row reply (told.of_cancel x) = refl
+
+pub cancelled_tells : (r : Replica) (row : CancelledRow) (reply : Reply) → TellsOutcome (tables_of r) (rows.Cancelled row) reply → (c : CancelRow) × IsCancelOf (tables_of r) row c × (reply ≡ OutcomeIs (cancelled_outcome row c))
+cancelled_tells r row reply (told.of_cancelled x c is) = (c, is, refl)
+
+pub booked_tell : (r : Replica) (room : Text) (row : BookingRow) → IsReplica r → Has row (tables_of r).booking → row.room ≡ room → outcome_reply (told_of (booking_id row) (whole_list (view_of r room))) ≡ OutcomeIs (booked_outcome row)
+booked_tell r room row h g e = booked_tells r row _ (told_by_row r room (rows.Booked row) h g e)
+
+pub erred_tell : (r : Replica) (room : Text) (row : ErrorRow) → IsReplica r → Has row (tables_of r).errorlog → row.room ≡ room → outcome_reply (told_of (error_id row) (whole_list (view_of r room))) ≡ OutcomeIs (logged_outcome row)
+erred_tell r room row h g e = erred_tells r row _ (told_by_row r room (rows.Erred row) h g e)
+
+pub cancel_tell : (r : Replica) (room : Text) (row : CancelRow) → IsReplica r → Has row (tables_of r).cancels → row.room ≡ room → outcome_reply (told_of (cancel_id row) (whole_list (view_of r room))) ≡ OutcomeIs (told.cancel_outcome row)
+cancel_tell r room row h g e = cancel_tells r row _ (told_by_row r room (rows.Cancel row) h g e)
+
+-- one row of cancels has an id
+pub one_cancel : (r : Replica) (c d : CancelRow) → IsReplica r → Has c (tables_of r).cancels → Has d (tables_of r).cancels → cancel_id c ≡ cancel_id d → c ≡ d
+one_cancel r c d h g k e =
+    let (v, a, s) = row_in_is r (rows.Cancel c) g in
+    let (w, b, t) = row_in_is r (rows.Cancel d) k in
+    let same : v ≡ w = one_known r v w h a b (sym (one_row r v h a).1 ∙ ap told.row_id s ∙ e ∙ sym (ap told.row_id t) ∙ (one_row r w h b).1) in
+    some_inj c d (ap as_cancel (sym s) ∙ ap (λ x. as_cancel (place_row r x)) same ∙ ap as_cancel t)
+
+pub cancelled_tell : (r : Replica) (room : Text) (row : CancelledRow) → IsReplica r → Has row (tables_of r).cancelled → row.room ≡ room
+    → ((c : CancelRow) × IsCancelOf (tables_of r) row c)
+    × ((c : CancelRow) → Has c (tables_of r).cancels → cancel_id c ≡ row.by → outcome_reply (told_of (cancelled_id row) (whole_list (view_of r room))) ≡ OutcomeIs (cancelled_outcome row c))
+cancelled_tell r room row h g e =
+    let (c, is, s) = cancelled_tells r row _ (told_by_row r room (rows.Cancelled row) h g e) in
+    ((c, is), λ d k by. s ∙ ap (λ x. OutcomeIs (cancelled_outcome row x)) (one_cancel r c d h is.is_there k (is.is_by ∙ sym by)))
+
+pub replies_tell : (r : Replica) (w : Write) → IsReplica r → Has w r.known
+    → ((row : BookingRow) → as_booking (place_row r w) ≡ Some row → outcome_at r w ≡ OutcomeIs (booked_outcome row))
+    × ((row : ErrorRow) → as_error (place_row r w) ≡ Some row → outcome_at r w ≡ OutcomeIs (logged_outcome row))
+    × ((row : CancelRow) → as_cancel (place_row r w) ≡ Some row → outcome_at r w ≡ OutcomeIs (told.cancel_outcome row))
+replies_tell r w h a = (
+  λ row e. booked_tells r row _ (subst (λ p. TellsOutcome (tables_of r) p (outcome_at r w)) (booked_is row (place_row r w) e) (outcome_is_row r w h a)),
+  λ row e. erred_tells r row _ (subst (λ p. TellsOutcome (tables_of r) p (outcome_at r w)) (erred_is row (place_row r w) e) (outcome_is_row r w h a)),
+  λ row e. cancel_tells r row _ (subst (λ p. TellsOutcome (tables_of r) p (outcome_at r w)) (cancel_is row (place_row r w) e) (outcome_is_row r w h a)),
 )
-  where
-    first : seq_among k (x ∷ xs) x ≡ k
-    first = cond-true (same_id x x) k (seq_among (k + 1) xs x) (same_id_refl x)
-
-    later : (j : Id) → Has j xs → seq_among k (x ∷ xs) j ≡ seq_among (k + 1) xs j
-    later j h = cond-false (same_id x j) k (seq_among (k + 1) xs j) (false_from_ne_true (same_id x j) (λ e. among_not x xs d.0 (subst (λ i. Has i xs) (sym (same_id-true x j e)) h)))
-
--- a write comes before another in the order
-abbrev pub OrderBefore : Replica → Write → Write → Type 0
-OrderBefore r x y =
-    ((0 < seq_of r x) × (seq_of r x < seq_of r y)) ⊎ (((0 < seq_of r x) × (seq_of r y ≡ 0)) ⊎ ((seq_of r x ≡ 0) × (seq_of r y ≡ 0) × IsTrue (stamp_before x y)))
-
-pub order_sorted : (r : Replica) → IsReplica r → Sorted (OrderBefore r) (order_of r)
-order_sorted r h =
-    sorted_append (OrderBefore r) (committed r) (tentative r)
-    (sorted_within (λ x y. seq_of r x < seq_of r y) (OrderBefore r) (committed r) (λ x y p q l. inl (positive x p, l))
-    (sorted_map (λ i j. seq_among 1 r.commits i < seq_among 1 r.commits j) id_of (committed r) (subst (λ is. Sorted (λ i j. seq_among 1 r.commits i < seq_among 1 r.commits j) is) (sym (committed_ids r h)) (seq_sorted 1 r.commits (distinct_commits r h)))))
-    (sorted_within (λ x y. IsTrue (stamp_before x y)) (OrderBefore r) (tentative r) (λ x y p q l. inr (inr (nothing x p, nothing y q, l))) (tentative_sorted r h))
-    (λ x y p q. inr (inl (positive x p, nothing y q)))
-  where
-    positive : (x : Write) → Has x (committed r) → 0 < seq_of r x
-    positive x p = let l : 1 ≤ seq_of r x = seq_has 1 r.commits (id_of x) (committed_known r x h p).1 in omega (arith, l)
-
-    nothing : (x : Write) → Has x (tentative r) → seq_of r x ≡ 0
-    nothing x p = seq_not 1 r.commits (id_of x) (among_not (id_of x) r.commits (tentative_known r x p).1)
-
-abbrev pub room_rows : Replica → Text → List ErrorRow
-room_rows r room = filter_map (error_row r) (of_room room (order_of r))
-
-pub rows_sorted : (r : Replica) (room : Text) → IsReplica r → Sorted RowBefore (room_rows r room)
-rows_sorted r room h =
-    sorted_filter_map (OrderBefore r) RowBefore (error_row r) (of_room room (order_of r)) step
-    (sorted_filter (OrderBefore r) (λ w. bytes_eq w.room room) (order_of r) (order_sorted r h))
-  where
-    of_writes : (x y : Write) → OrderBefore r x y → RowBefore (logged_as r x) (logged_as r y)
-    of_writes x y (inl p) = both p.0 p.1
-    of_writes x y (inr (inl p)) = one p.0 p.1
-    of_writes x y (inr (inr p)) = none p.0 p.1 (before-true x y p.2)
-
-    step : (x y : Write) (u v : ErrorRow) → OrderBefore r x y → error_row r x ≡ Some u → error_row r y ≡ Some v → RowBefore u v
-    step x y u v o e f =
-        subst (λ w. RowBefore u w) (sym (logged_row r y v f).1) (subst (λ w. RowBefore w (logged_as r y)) (sym (logged_row r x u e).1) (of_writes x y o))
-
-rows_over : (a b : Replica) (room : Text) (row : ErrorRow) → Twins a b → Has row (room_rows a room) → Has row (room_rows b room)
-rows_over a b room row t h =
-    let (x, g, e) = filter_map_has (error_row a) row (of_room room (order_of a)) h in
-    let f = filter_has (λ w. bytes_eq w.room room) x (order_of a) g in
-    let known = order_known a x t.first f.0 in
-    let (y, k, i) = partner a b x t.first t.second t.alike.counts known in
-    let in_room : y.room ≡ room = sym (same_room a b x y t known k (sym i)) ∙ room_true x room f.1 in
-    has_filter_map (error_row b) y row (of_room room (order_of b)) (sym (same_error a b t.first t.second t.alike x y known k (sym i)) ∙ e)
-    (has_filter (λ w. bytes_eq w.room room) y (order_of b) (room_from y room in_room) (known_order b y t.second k))
-
-pub twins_turned : (a b : Replica) → Twins a b → Twins b a
-twins_turned a b t = record { first = t.second; second = t.first; alike = Rattle.mr_model.proofs.TwinTables.twin_turned a b t.alike }
-
-pub same_rows : (a b : Replica) (room : Text) → Twins a b → room_rows a room ≡ room_rows b room
-same_rows a b room t =
-    sorted_same RowBefore row_irreflexive row_transitive (room_rows a room) (room_rows b room) (rows_sorted a room t.first) (rows_sorted b room t.second)
-    (λ row h. rows_over a b room row t h) (λ row h. rows_over b a room row (twins_turned a b t) h)
-
-pub loggings : (r : Replica) (room : Text) → IsReplica r → filter_map logging_of (whole_list (view_of r room)) ≡ map row_logging (room_rows r room)
-loggings r room h =
-    ap (filter_map logging_of) (room-list r room ∙ room-told r room h) ∙ filter_map-map (told r) logging_of (of_room room (order_of r))
-    ∙ Rattle.mr_model.proofs.TwinTables.filter_map_same (λ w. logging_of (told r w)) (λ w. option_map row_logging (error_row r w)) (of_room room (order_of r)) (λ w a. logging-row r w)
-    ∙ filter_map-option (error_row r) row_logging (of_room room (order_of r))
-
-pub same_loggings : (a b : Replica) (room : Text) → Twins a b → filter_map logging_of (whole_list (view_of a room)) ≡ filter_map logging_of (whole_list (view_of b room))
-same_loggings a b room t = loggings a room t.first ∙ ap (map row_logging) (same_rows a b room t) ∙ sym (loggings b room t.second)

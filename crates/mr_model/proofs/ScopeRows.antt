@@ -7,7 +7,8 @@ use Rattle.mr_model.specs.Replica.{opening}
 use Rattle.mr_model.specs.Exchange.{Item, Batch, read_batch}
 use Rattle.mr_model.specs.Tables.{Tables, tables_of}
 use Rattle.mr_model.proofs.Script.{Bytes, elm_batch, q, replica_after}
-use Rattle.mr_model.specs.Scopes.{OfItems, in_scope, counted_rows}
+use Rattle.mr_model.proofs.TableRows.{cancelled_alpha}
+use Rattle.mr_model.specs.Scopes.{OfTarget, NextCommits, OfItems, in_scope, counted_rows}
 
 -- the items of a batch with these lines
 abbrev items_read : Result Batch Rattle.mr_model.specs.Refusals.Refusal → List Item
@@ -46,15 +47,21 @@ beside_tentative : counted_rows (in_scope (OfItems gamma) tentative_tables) ≡ 
 unfolding digits
 beside_tentative = refl
 
--- a commit needs all tentative writes of its room: 50, 50 and one booking
-committing : length (in_scope (OfItems first_of_elm) tentative_tables).write_log ≡ 50
+-- a commit needs all tentative writes of its room: 50, and one booking
+committing : length (in_scope (OfItems first_of_elm) tentative_tables).log ≡ 50
 unfolding digits
 committing = refl
 
-committing_undo : length (in_scope (OfItems first_of_elm) tentative_tables).undo ≡ 50
-unfolding digits
-committing_undo = refl
-
-committing_rows : counted_rows (in_scope (OfItems first_of_elm) tentative_tables) ≡ 101
+committing_rows : counted_rows (in_scope (OfItems first_of_elm) tentative_tables) ≡ 51
 unfolding digits
 committing_rows = refl
+
+-- the commit of a booking that a tentative cancel took back needs its row in the log and that in cancelled
+committing_cancelled : counted_rows (in_scope (NextCommits 1) (tables_of cancelled_alpha)) ≡ 2
+unfolding digits
+committing_cancelled = refl
+
+-- another cancel of it needs the latter
+cancelling_cancelled : counted_rows (in_scope (OfTarget (record { server = 1; n = 1 })) (tables_of cancelled_alpha)) ≡ 1
+unfolding digits
+cancelling_cancelled = refl

@@ -5,21 +5,26 @@ use Rattle.std.proofs.lemmas.Slice.Eq.{bytes_eq-Decides}
 use Rattle.std.specs.List.{AllByRecursion, filter_map, list_any}
 use Rattle.std.specs.Str.{bytes_eq}
 use Rattle.mr_model.specs.Texts.{Text, numbers_on}
-use Rattle.mr_model.specs.Writes.{Write, id_of}
+use Rattle.mr_model.specs.Writes.{Id, Write, id_of}
 use Rattle.mr_model.specs.Replica.{Replica, count_of, clock_of, last_time, committed_count, is_committed, is_dropped, knows_room, with_write, with_room, text_before, AreInNameOrder, add_write, IsReplica}
-use Rattle.mr_model.specs.Tables.{VectorRow, LogRow, UndoRow, by_id, vector_row, log_row, undo_row, booking_row_at, booking_row, error_row_at, error_row, tables_of}
-use Rattle.mr_model.specs.Replay.{slot_at}
+use Rattle.mr_model.specs.Tables.{VectorRow, LogRow, BookingRow, CancelledRow, PlaceRow, by_id, seq_of, taken_back, as_booked, as_booking, as_error, as_cancelled, as_cancel, vector_row, log_row_with, log_row, place_row, booking_row, error_row, cancelled_row, cancel_row, tables_of}
+use Rattle.mr_model.specs.Tables as rows
+use Rattle.mr_model.specs.View.{canceller_of}
+use Rattle.mr_model.specs.Queries.{booking_id, row_id}
+use Rattle.mr_model.specs.RowsInScope.{told_booking}
 use Rattle.mr_model.specs.Dropped.{Has}
-use Rattle.mr_model.specs.Changes.{new_vector_row, SubmitChanges, IsNext}
+use Rattle.mr_model.specs.Changes.{new_vector_row, takes_back, SubmitChanges, IsNext}
 use Rattle.mr_model.proofs.Members.{has_filter_map, filter_map_has, all_has, has_all, not_among}
 use Rattle.mr_model.proofs.OrderedSets.{name_trans}
 use Rattle.mr_model.proofs.RowsById.{has_flat, flat_has, has_numbers, server_bounds, has_by_id, by_id_has, map_filter, seq_not}
-use Rattle.mr_model.proofs.TablesTell.{vector_entry, in_row, kept_log, dropped_commit}
-use Rattle.mr_model.proofs.TwinTables.{kept_undo}
+use Rattle.mr_model.proofs.DroppedApart.{dropped_commit}
+use Rattle.mr_model.proofs.TablesTell.{vector_entry, in_row, kept_log, key-row}
+use Rattle.mr_model.proofs.RowsTell.{of_known, known_of, booked_is}
+use Rattle.mr_model.proofs.RowCancels.{row_booking, row_by, row-made, row-cancel, recancel}
 use Rattle.mr_model.proofs.WithWrite.{clock-with_write, count-with_write, greatest-with_write, with_write_has, has_with_write}
-use Rattle.mr_model.proofs.TwinChanges.{added, new_not_committed}
-use Rattle.mr_model.proofs.CommandPlaces.{order-submit, places-submit, place-submit}
-use Rattle.mr_model.proofs.UniqueReplay.{some_inj}
+use Rattle.mr_model.proofs.Orders.{added, new_not_committed, order-submit, places-submit, place-submit}
+use Rattle.mr_model.proofs.OwnCancels.{others_stay, stands_itself, row_next, row_same, row_taken}
+use Rattle.mr_model.proofs.UniqueReplay.{some_inj, none_some}
 
 -- ---- a submission
 
@@ -82,14 +87,17 @@ submit_changes r w h n late known =
       place = (places-submit r w h n late).1;
       tentative = open_;
       number = seq_not 1 r.commits (id_of w) (new_not_committed r w h n);
+      standing = stands_itself r w h n late;
       places = λ v a. place-submit r w v h n late a;
+      others = others_stay r w h n late;
       meta = clock;
       room = same_rooms w.room r.rooms h.rooms_in_order known;
       vector = λ row. (vector_to row, vector_from row);
-      write_log = λ row. (log_to row, log_from row);
-      undo = λ row. (undo_to row, undo_from row);
-      booking = λ row. (row_more r w (booking_row new) (booking_row r) row h k same_booking_row, more_row r w (booking_row new) (booking_row r) row h k same_booking_row);
+      log = λ row. (log_to row, log_from row);
+      booking = λ row. (booking_to row, booking_from row);
       errorlog = λ row. (row_more r w (error_row new) (error_row r) row h k same_error_row, more_row r w (error_row new) (error_row r) row h k same_error_row);
+      cancelled = λ row. (cancelled_to row, cancelled_from row);
+      cancels = λ row. (row_more r w (cancel_row new) (cancel_row r) row h k same_cancel_row, more_row r w (cancel_row new) (cancel_row r) row h k same_cancel_row);
     }
   where
     new : Replica
@@ -109,44 +117,122 @@ submit_changes r w h n late known =
         let c : clock_of (add_write r w) ≡ w.stamp.time = clock-with_write w r.known ∙ (let l : clock_of r < w.stamp.time = late in omega (arith, l)) in
         λ i. record { server = r.server; primary = r.primary; commits = length r.commits; dropped = r.dropped; clock = c i }
 
-    same_booking_row : (v : Write) → Has v r.known → booking_row (add_write r w) v ≡ booking_row r v
-    same_booking_row v a = ap (λ p. booking_row_at r v (slot_at v p)) (place-submit r w v h n late a)
+    -- a cancel more touches no row of errorlog or cancels
+    as_error-recancel : (c : Option Id) (p : PlaceRow) → as_error (recancel c p) ≡ as_error p
+    as_error-recancel None (rows.Booked row) = refl
+    as_error-recancel (Some i) (rows.Booked row) = refl
+    as_error-recancel None (rows.Cancelled row) = refl
+    as_error-recancel (Some i) (rows.Cancelled row) = refl
+    as_error-recancel c (rows.Erred row) = refl
+    as_error-recancel c (rows.Cancel row) = refl
+
+    as_cancel-recancel : (c : Option Id) (p : PlaceRow) → as_cancel (recancel c p) ≡ as_cancel p
+    as_cancel-recancel None (rows.Booked row) = refl
+    as_cancel-recancel (Some i) (rows.Booked row) = refl
+    as_cancel-recancel None (rows.Cancelled row) = refl
+    as_cancel-recancel (Some i) (rows.Cancelled row) = refl
+    as_cancel-recancel c (rows.Erred row) = refl
+    as_cancel-recancel c (rows.Cancel row) = refl
 
     same_error_row : (v : Write) → Has v r.known → error_row (add_write r w) v ≡ error_row r v
-    same_error_row v a = ap (error_row_at r v) (place-submit r w v h n late a)
+    same_error_row v a = ap as_error (row_next r w h n late v a) ∙ as_error-recancel (canceller_of (add_write r w) v) (place_row r v)
 
-    same_undo_row : (v : Write) → Has v r.known → kept_undo (add_write r w) v ≡ kept_undo r v
-    same_undo_row v a = ap (λ p. cond (is_dropped r (id_of v)) None (Some (record { server = v.stamp.server; n = v.stamp.n; place = p }))) (place-submit r w v h n late a)
+    same_cancel_row : (v : Write) → Has v r.known → cancel_row (add_write r w) v ≡ cancel_row r v
+    same_cancel_row v a = ap as_cancel (row_next r w h n late v a) ∙ as_cancel-recancel (canceller_of (add_write r w) v) (place_row r v)
 
-    log_to : (row : LogRow) → Has row (tables_of (add_write r w)).write_log → (row ≡ log_row (add_write r w) w) ⊎ Has row (tables_of r).write_log
-    log_to row a = go (row_more r w (kept_log (add_write r w)) (kept_log r) row h k (λ v b. refl) (subst (λ rows. Has row rows) (map_filter (λ v. is_dropped r (id_of v)) (log_row (add_write r w)) (by_id (with_write w r.known))) a))
+    -- the write of a row of the new tables
+    of_new : {R : Type 0} (f : Write → Option R) (row : R) → Has row (filter_map f (by_id (with_write w r.known))) → (x : Write) × ((x ≡ w) ⊎ Has x r.known) × (f x ≡ Some row)
+    of_new f row a =
+        let (x, b, e) = filter_map_has f row (by_id (with_write w r.known)) a in
+        (x, with_write_has w x r.known (by_id_has (add_write r w) x b), e)
+
+    in_new : {R : Type 0} (f : Write → Option R) (row : R) (x : Write) → (x ≡ w) ⊎ Has x r.known → f x ≡ Some row → Has row (filter_map f (by_id (with_write w r.known)))
+    in_new f row x b e = has_filter_map f x row (by_id (with_write w r.known)) e (has_by_id (add_write r w) x k (has_with_write w x r.known b))
+
+    booking_to : (row : BookingRow) → Has row (tables_of (add_write r w)).booking → (booking_row (add_write r w) w ≡ Some row) ⊎ (Has row (tables_of r).booking × (takes_back r w (booking_id row) ≡ false))
+    booking_to row a = let (x, b, e) = of_new (booking_row (add_write r w)) row a in go x b e
       where
-        go : (kept_log (add_write r w) w ≡ Some row) ⊎ Has row (filter_map (kept_log r) (by_id r.known)) → (row ≡ log_row (add_write r w) w) ⊎ Has row (tables_of r).write_log
+        old : (x : Write) → Has x r.known → as_booking (place_row (add_write r w) x) ≡ Some row → (t : Bool) → takes_back r w (id_of x) ≡ t → Has row (tables_of r).booking × (takes_back r w (booking_id row) ≡ false)
+        old x c e false f =
+            let is : as_booking (place_row r x) ≡ Some row = ap as_booking (sym (row_same r w h n late x c f)) ∙ e in (
+              of_known as_booking r row h x c is,
+              ap (takes_back r w) (sym (ap row_id (booked_is row (place_row r x) is)) ∙ key-row r x) ∙ f,
+            )
+        old x c e true f = let (b, g, i) = row_taken r w h n late x c f in absurd (none_some row (sym (ap as_booking i) ∙ e))
+
+        go : (x : Write) → (x ≡ w) ⊎ Has x r.known → as_booking (place_row (add_write r w) x) ≡ Some row → (booking_row (add_write r w) w ≡ Some row) ⊎ (Has row (tables_of r).booking × (takes_back r w (booking_id row) ≡ false))
+        go x (inl s) e = inl (ap (booking_row (add_write r w)) (sym s) ∙ e)
+        go x (inr c) e = inr (old x c e (takes_back r w (id_of x)) refl)
+
+    booking_from : (row : BookingRow) → (booking_row (add_write r w) w ≡ Some row) ⊎ (Has row (tables_of r).booking × (takes_back r w (booking_id row) ≡ false)) → Has row (tables_of (add_write r w)).booking
+    booking_from row (inl e) = in_new (booking_row (add_write r w)) row w (inl refl) e
+    booking_from row (inr p) =
+        let (x, c, e) = known_of as_booking r row p.0 in
+        let key : booking_id row ≡ id_of x = sym (ap row_id (booked_is row (place_row r x) e)) ∙ key-row r x in
+        in_new (booking_row (add_write r w)) row x (inr c) (ap as_booking (row_same r w h n late x c (ap (takes_back r w) (sym key) ∙ p.1)) ∙ e)
+
+    -- the write itself is not cancelled
+    not_own : (row : CancelledRow) → as_cancelled (place_row (add_write r w) w) ≡ Some row → ⊥
+    not_own row e = go (place_row (add_write r w) w) refl e
+      where
+        go : (p : PlaceRow) → place_row (add_write r w) w ≡ p → as_cancelled p ≡ Some row → ⊥
+        go (rows.Booked x) f g = none_some row g
+        go (rows.Erred x) f g = none_some row g
+        go (rows.Cancel x) f g = none_some row g
+        go (rows.Cancelled x) f g =
+            none_some x.by
+            (sym (stands_itself r w h n late) ∙ sym (row-cancel (add_write r w) w (told_booking (as_booked x)) (sym (row-made (add_write r w) w) ∙ ap row_booking f)) ∙ ap row_by f)
+
+    cancelled_to : (row : CancelledRow) → Has row (tables_of (add_write r w)).cancelled → ((b : BookingRow) × Has b (tables_of r).booking × (takes_back r w (booking_id b) ≡ true) × (row ≡ taken_back (id_of w) b)) ⊎ Has row (tables_of r).cancelled
+    cancelled_to row a = let (x, b, e) = of_new (cancelled_row (add_write r w)) row a in go x b e
+      where
+        old : (x : Write) → Has x r.known → as_cancelled (place_row (add_write r w) x) ≡ Some row → (t : Bool) → takes_back r w (id_of x) ≡ t → ((b : BookingRow) × Has b (tables_of r).booking × (takes_back r w (booking_id b) ≡ true) × (row ≡ taken_back (id_of w) b)) ⊎ Has row (tables_of r).cancelled
+        old x c e false f = inr (of_known as_cancelled r row h x c (ap as_cancelled (sym (row_same r w h n late x c f)) ∙ e))
+        old x c e true f =
+            let (b, g, i) = row_taken r w h n late x c f in
+            inl (
+              b,
+              of_known as_booking r b h x c (ap as_booking g),
+              ap (takes_back r w) (sym (ap row_id g) ∙ key-row r x) ∙ f,
+              some_inj row (taken_back (id_of w) b) (sym e ∙ ap as_cancelled i),
+            )
+
+        go : (x : Write) → (x ≡ w) ⊎ Has x r.known → as_cancelled (place_row (add_write r w) x) ≡ Some row → ((b : BookingRow) × Has b (tables_of r).booking × (takes_back r w (booking_id b) ≡ true) × (row ≡ taken_back (id_of w) b)) ⊎ Has row (tables_of r).cancelled
+        go x (inl s) e = absurd (not_own row (ap (cancelled_row (add_write r w)) (sym s) ∙ e))
+        go x (inr c) e = old x c e (takes_back r w (id_of x)) refl
+
+    cancelled_from : (row : CancelledRow) → ((b : BookingRow) × Has b (tables_of r).booking × (takes_back r w (booking_id b) ≡ true) × (row ≡ taken_back (id_of w) b)) ⊎ Has row (tables_of r).cancelled → Has row (tables_of (add_write r w)).cancelled
+    cancelled_from row (inl (b, a, t, s)) =
+        let (x, c, e) = known_of as_booking r b a in
+        let is : place_row r x ≡ rows.Booked b = booked_is b (place_row r x) e in
+        let (d, g, i) = row_taken r w h n late x c (ap (takes_back r w) (sym (key-row r x) ∙ ap row_id is) ∙ t) in
+        let same : d ≡ b = some_inj d b (ap as_booking (sym g ∙ is)) in
+        in_new (cancelled_row (add_write r w)) row x (inr c) (ap as_cancelled i ∙ ap (λ y. Some (taken_back (id_of w) y)) same ∙ ap Some (sym s))
+    cancelled_from row (inr a) =
+        let (x, c, e) = known_of as_cancelled r row a in
+        in_new (cancelled_row (add_write r w)) row x (inr c) (ap as_cancelled (row_same r w h n late x c (go x c e (takes_back r w (id_of x)) refl)) ∙ e)
+      where
+        go : (x : Write) → Has x r.known → as_cancelled (place_row r x) ≡ Some row → (t : Bool) → takes_back r w (id_of x) ≡ t → takes_back r w (id_of x) ≡ false
+        go x c e false f = f
+        go x c e true f = let (b, g, i) = row_taken r w h n late x c f in absurd (none_some row (sym (ap as_cancelled g) ∙ e))
+
+    same_log : (v : Write) → Has v r.known → kept_log (add_write r w) v ≡ kept_log r v
+    same_log v a = ap (λ p. cond (is_dropped r (id_of v)) None (Some (log_row_with v p (seq_of r v)))) (place-submit r w v h n late a)
+
+    log_to : (row : LogRow) → Has row (tables_of (add_write r w)).log → (row ≡ log_row (add_write r w) w) ⊎ Has row (tables_of r).log
+    log_to row a = go (row_more r w (kept_log (add_write r w)) (kept_log r) row h k same_log (subst (λ rows. Has row rows) (map_filter (λ v. is_dropped r (id_of v)) (log_row (add_write r w)) (by_id (with_write w r.known))) a))
+      where
+        go : (kept_log (add_write r w) w ≡ Some row) ⊎ Has row (filter_map (kept_log r) (by_id r.known)) → (row ≡ log_row (add_write r w) w) ⊎ Has row (tables_of r).log
         go (inl e) = inl (sym (some_inj (log_row (add_write r w) w) row (sym (cond-false (is_dropped r (id_of w)) None (Some (log_row (add_write r w) w)) kept_new) ∙ e)))
         go (inr b) = inr (subst (λ rows. Has row rows) (sym (map_filter (λ v. is_dropped r (id_of v)) (log_row r) (by_id r.known))) b)
 
-    log_from : (row : LogRow) → (row ≡ log_row (add_write r w) w) ⊎ Has row (tables_of r).write_log → Has row (tables_of (add_write r w)).write_log
-    log_from row s = subst (λ rows. Has row rows) (sym (map_filter (λ v. is_dropped r (id_of v)) (log_row (add_write r w)) (by_id (with_write w r.known)))) (more_row r w (kept_log (add_write r w)) (kept_log r) row h k (λ v b. refl) (go s))
+    log_from : (row : LogRow) → (row ≡ log_row (add_write r w) w) ⊎ Has row (tables_of r).log → Has row (tables_of (add_write r w)).log
+    log_from row s = subst (λ rows. Has row rows) (sym (map_filter (λ v. is_dropped r (id_of v)) (log_row (add_write r w)) (by_id (with_write w r.known)))) (more_row r w (kept_log (add_write r w)) (kept_log r) row h k same_log (go s))
       where
-        go : (row ≡ log_row (add_write r w) w) ⊎ Has row (tables_of r).write_log → (kept_log (add_write r w) w ≡ Some row) ⊎ Has row (filter_map (kept_log r) (by_id r.known))
+        go : (row ≡ log_row (add_write r w) w) ⊎ Has row (tables_of r).log → (kept_log (add_write r w) w ≡ Some row) ⊎ Has row (filter_map (kept_log r) (by_id r.known))
         go (inl e) = inl (cond-false (is_dropped r (id_of w)) None (Some (log_row (add_write r w) w)) kept_new ∙ ap Some (sym e))
         go (inr b) = inr (subst (λ rows. Has row rows) (map_filter (λ v. is_dropped r (id_of v)) (log_row r) (by_id r.known)) b)
 
-    undo_to : (row : UndoRow) → Has row (tables_of (add_write r w)).undo → (row ≡ undo_row (add_write r w) w) ⊎ Has row (tables_of r).undo
-    undo_to row a = go (row_more r w (kept_undo (add_write r w)) (kept_undo r) row h k same_undo_row (subst (λ rows. Has row rows) (map_filter (λ v. is_dropped r (id_of v)) (undo_row (add_write r w)) (by_id (with_write w r.known))) a))
-      where
-        go : (kept_undo (add_write r w) w ≡ Some row) ⊎ Has row (filter_map (kept_undo r) (by_id r.known)) → (row ≡ undo_row (add_write r w) w) ⊎ Has row (tables_of r).undo
-        go (inl e) = inl (sym (some_inj (undo_row (add_write r w) w) row (sym (cond-false (is_dropped r (id_of w)) None (Some (undo_row (add_write r w) w)) kept_new) ∙ e)))
-        go (inr b) = inr (subst (λ rows. Has row rows) (sym (map_filter (λ v. is_dropped r (id_of v)) (undo_row r) (by_id r.known))) b)
-
-    undo_from : (row : UndoRow) → (row ≡ undo_row (add_write r w) w) ⊎ Has row (tables_of r).undo → Has row (tables_of (add_write r w)).undo
-    undo_from row s = subst (λ rows. Has row rows) (sym (map_filter (λ v. is_dropped r (id_of v)) (undo_row (add_write r w)) (by_id (with_write w r.known)))) (more_row r w (kept_undo (add_write r w)) (kept_undo r) row h k same_undo_row (go s))
-      where
-        go : (row ≡ undo_row (add_write r w) w) ⊎ Has row (tables_of r).undo → (kept_undo (add_write r w) w ≡ Some row) ⊎ Has row (filter_map (kept_undo r) (by_id r.known))
-        go (inl e) = inl (cond-false (is_dropped r (id_of w)) None (Some (undo_row (add_write r w) w)) kept_new ∙ ap Some (sym e))
-        go (inr b) = inr (subst (λ rows. Has row rows) (map_filter (λ v. is_dropped r (id_of v)) (undo_row r) (by_id r.known)) b)
-
-    -- the vector
     count_own : count_of (add_write r w) w.stamp.server ≡ w.stamp.n
     count_own =
         let e = count-with_write (λ v. eqb v.stamp.server w.stamp.server) w r.known ∙ cond-true (eqb w.stamp.server w.stamp.server) (suc (count_of r w.stamp.server)) (count_of r w.stamp.server) (eq-eqb w.stamp.server w.stamp.server refl) in

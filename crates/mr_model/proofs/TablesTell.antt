@@ -6,16 +6,21 @@ use Rattle.std.specs.Prelude.{flat_map}
 use Rattle.std.specs.List.{filter_map, slice_get}
 use Rattle.mr_model.specs.Texts.{numbers_on}
 use Rattle.mr_model.specs.Slots.{Slot}
-use Rattle.mr_model.specs.Writes.{Id, Write, id_of, stamp_before}
-use Rattle.mr_model.specs.Replay.{Place, Taken, Logged, slot_at}
+use Rattle.mr_model.specs.Writes.{Id, Action, Books, Cancels, Write, id_of, stamp_before}
+use Rattle.mr_model.specs.Replay.{Place, slot_at}
 use Rattle.mr_model.specs.Replica.{Replica, writes_of, count_of, last_time, greatest, committed_count, is_committed, is_dropped, write_with, tentative, IsReplica}
-use Rattle.mr_model.specs.Tables.{VectorRow, LogRow, BookingRow, ErrorRow, Tables, by_id, seq_among, seq_of, place_of, vector_row, log_row, booking_row_at, booking_row, error_row_at, error_row, tables_of}
+use Rattle.mr_model.specs.Tables.{VectorRow, LogRow, PlaceRow, Tables, by_id, seq_among, seq_of, vector_row, log_row, booking_place_row, place_row_for, place_row, as_booking, as_error, as_cancelled, as_cancel, tables_of}
+use Rattle.mr_model.specs.Tables as rows
+use Rattle.mr_model.specs.View.{place_of, canceller_of}
+use Rattle.mr_model.specs.Queries.{booking_id, error_id, cancelled_id, cancel_id, row_id}
 use Rattle.mr_model.specs.Dropped.{Has, DifferInDropped}
 use Rattle.mr_model.proofs.OrderedSets.{Before, before-true, before_from, before_trans}
-use Rattle.mr_model.proofs.Members.{has_left, has_filter, filter_has, slice_has, sorted_same, among_has, among_not, not_among, Distinct, distinct_parts, take_drop}
+use Rattle.mr_model.proofs.Members.{has_filter, filter_has, slice_has, sorted_same, among_not, not_among, Distinct, distinct_parts, take_drop}
 use Rattle.mr_model.proofs.KnownById.{partner, known_with, with_id, commit_known, distinct_commits, tentative_known, tentative_sorted}
 use Rattle.mr_model.proofs.RowsById.{has_flat, flat_has, has_numbers, server_bounds, known_write, Paired, pairs_from_rows, map_filter, log_row_same, seq_not, seq_has, seq_at, at_seq, list_ext, slice_drop}
 use Rattle.mr_model.proofs.UniqueReplay.{some_inj, none_some}
+use Rattle.mr_model.proofs.RowsTell.{booked_is, erred_is, cancelled_is, cancel_is}
+use Rattle.mr_model.proofs.DroppedApart.{dropped_commit, not_committed_kept}
 
 -- ---- the vector
 
@@ -86,7 +91,7 @@ same_vector a b s ha hb e = go (cases_eq (count_of a s) 0) (cases_eq (count_of b
 abbrev pub kept_log : Replica → Write → Option LogRow
 kept_log r w = cond (is_dropped r (id_of w)) None (Some (log_row r w))
 
-log-rows : (r : Replica) → (tables_of r).write_log ≡ filter_map (kept_log r) (by_id r.known)
+log-rows : (r : Replica) → (tables_of r).log ≡ filter_map (kept_log r) (by_id r.known)
 log-rows r = map_filter (λ w. is_dropped r (id_of w)) (log_row r) (by_id r.known)
 
 log_key : (r : Replica) (x : Write) (row : LogRow) → kept_log r x ≡ Some row → record { server = row.server; n = row.n } ≡ id_of x
@@ -116,10 +121,6 @@ turned a b p =
       commits = sym p.commits;
       logs = λ x y h g e. sym (p.logs y x g h (sym e));
     }
-
--- a dropped id is committed
-pub dropped_commit : (r : Replica) (id : Id) → is_dropped r id ≡ true → Has id r.commits
-dropped_commit r id e = subst (λ is. Has id is) (take_drop r.dropped r.commits) (has_left id (take r.dropped r.commits) (drop r.dropped r.commits) (among_has id (take r.dropped r.commits) e))
 
 not_dropped_both : (a b : Replica) (id : Id) → Pair a b → is_dropped a id ≡ true → is_dropped b id ≡ false → ⊥
 not_dropped_both a b id p da db =
@@ -174,9 +175,6 @@ same_with a b id p d = go (write_with a id) refl (write_with b id) refl
     go None e (Some y) f = back y f ∙ sym f
     go None e None f = e ∙ sym f
 
-pub not_committed_kept : (r : Replica) (id : Id) → is_committed r id ≡ false → is_dropped r id ≡ false
-not_committed_kept r id e = false_from_ne_true (is_dropped r id) (λ d. among_not id r.commits e (dropped_commit r id d))
-
 tentative_over : (a b : Replica) (x : Write) → Pair a b → Has x (tentative a) → Has x (tentative b)
 tentative_over a b x p h =
     let t = tentative_known a x h in
@@ -217,63 +215,41 @@ same_commits a b p =
     (let x = length-drop a.dropped a.commits in let y = length-drop b.dropped b.commits in let l = p.commits in let d = p.dropped in omega (arith, x, y, l, d))
     (λ i id e. commit_over a b i id p e)
 
--- ---- rows of bookings and errors
+-- ---- rows of what became of a write
 
-abbrev pub booked_as : Replica → Write → Slot → BookingRow
-booked_as r w s =
-    record {
-      room = w.room;
-      day = s.day;
-      start = s.start;
-      stop = s.start + w.length;
-      server = w.stamp.server;
-      n = w.stamp.n;
-      title = w.title;
-      committed = is_committed r (id_of w);
-    }
-
-pub booked_row : (r : Replica) (w : Write) (row : BookingRow) → booking_row r w ≡ Some row → (s : Slot) × (slot_at w (place_of r w) ≡ Some s) × (row ≡ booked_as r w s)
-booked_row r w row e = go (slot_at w (place_of r w)) refl e
+row_key : (w : Write) (a : Action) (p : Place) (by : Option Id) (m : Bool) (n : ℕ) → row_id (place_row_for w a p by m n) ≡ id_of w
+row_key w (Books m) p by c n = go (slot_at w p) by
   where
-    go : (o : Option Slot) → slot_at w (place_of r w) ≡ o → booking_row_at r w o ≡ Some row → (s : Slot) × (slot_at w (place_of r w) ≡ Some s) × (row ≡ booked_as r w s)
-    go None p f = absurd (none_some row f)
-    go (Some s) p f = (s, p, sym (some_inj (booked_as r w s) row f))
+    go : (o : Option Slot) (by : Option Id) → row_id (booking_place_row w m o by c n) ≡ id_of w
+    go None by = refl
+    go (Some s) None = refl
+    go (Some s) (Some x) = refl
+row_key w (Cancels t) p by c n = refl
 
-pub row_booked : (r : Replica) (w : Write) (s : Slot) → slot_at w (place_of r w) ≡ Some s → booking_row r w ≡ Some (booked_as r w s)
-row_booked r w s e = ap (booking_row_at r w) e
+pub key-row : (r : Replica) (w : Write) → row_id (place_row r w) ≡ id_of w
+key-row r w = row_key w w.action (place_of r w) (canceller_of r w) (is_committed r (id_of w)) (seq_of r w)
 
-booking_key : (r : Replica) (w : Write) (row : BookingRow) → booking_row r w ≡ Some row → record { server = row.server; n = row.n } ≡ id_of w
-booking_key r w row e = let (s, p, f) = booked_row r w row e in ap (λ (x : BookingRow). record { server = x.server; n = x.n }) f
+-- a row is told by the four tables it may be in
+pub one_of_four : (p q : PlaceRow) → as_booking p ≡ as_booking q → as_error p ≡ as_error q → as_cancelled p ≡ as_cancelled q → as_cancel p ≡ as_cancel q → p ≡ q
+one_of_four (rows.Booked x) q a b c d = sym (booked_is x q (sym a))
+one_of_four (rows.Erred x) q a b c d = sym (erred_is x q (sym b))
+one_of_four (rows.Cancelled x) q a b c d = sym (cancelled_is x q (sym c))
+one_of_four (rows.Cancel x) q a b c d = sym (cancel_is x q (sym d))
 
-abbrev pub logged_as : Replica → Write → ErrorRow
-logged_as r w =
-    record {
-      room = w.room;
-      day = w.wish.day;
-      start = w.wish.start;
-      stop = w.wish.start + w.length;
-      server = w.stamp.server;
-      n = w.stamp.n;
-      title = w.title;
-      time = w.stamp.time;
-      seq = seq_of r w;
-    }
+-- the rows of one table pair by id
+pairs_of : {R : Type 0} (f : PlaceRow → Option R) (key : R → Id) (a b : Replica) → IsReplica a → IsReplica b → ((p : PlaceRow) (row : R) → f p ≡ Some row → key row ≡ row_id p)
+    → filter_map (λ w. f (place_row a w)) (by_id a.known) ≡ filter_map (λ w. f (place_row b w)) (by_id b.known) → Paired a b (λ w. f (place_row a w)) (λ w. f (place_row b w))
+pairs_of f key a b ha hb keyed e =
+    pairs_from_rows a b (λ w. f (place_row a w)) (λ w. f (place_row b w)) key ha hb
+    (λ x row g. keyed (place_row a x) row g ∙ key-row a x) (λ y row g. keyed (place_row b y) row g ∙ key-row b y) e
 
-pub logged_row : (r : Replica) (w : Write) (row : ErrorRow) → error_row r w ≡ Some row → (place_of r w ≡ Logged) × (row ≡ logged_as r w)
-logged_row r w row e = go (place_of r w) refl e
-  where
-    go : (p : Place) → place_of r w ≡ p → error_row_at r w p ≡ Some row → (place_of r w ≡ Logged) × (row ≡ logged_as r w)
-    go (Taken k) q f = absurd (none_some row f)
-    go Logged q f = (q, sym (some_inj (logged_as r w) row f))
-
-error_key : (r : Replica) (w : Write) (row : ErrorRow) → error_row r w ≡ Some row → record { server = row.server; n = row.n } ≡ id_of w
-error_key r w row e = ap (λ (x : ErrorRow). record { server = x.server; n = x.n }) (logged_row r w row e).1
-
-pub booking_pairs : (a b : Replica) → IsReplica a → IsReplica b → (tables_of a).booking ≡ (tables_of b).booking → Paired a b (booking_row a) (booking_row b)
-booking_pairs a b ha hb e = pairs_from_rows a b (booking_row a) (booking_row b) (λ r. record { server = r.server; n = r.n }) ha hb (booking_key a) (booking_key b) e
-
-pub error_pairs : (a b : Replica) → IsReplica a → IsReplica b → (tables_of a).errorlog ≡ (tables_of b).errorlog → Paired a b (error_row a) (error_row b)
-error_pairs a b ha hb e = pairs_from_rows a b (error_row a) (error_row b) (λ r. record { server = r.server; n = r.n }) ha hb (error_key a) (error_key b) e
+pub row_pairs : (a b : Replica) → IsReplica a → IsReplica b → tables_of a ≡ tables_of b → Paired a b (place_row a) (place_row b)
+row_pairs a b ha hb e = λ x y h g s.
+    one_of_four (place_row a x) (place_row b y)
+    (pairs_of as_booking booking_id a b ha hb (λ p row f. sym (ap row_id (booked_is row p f))) (ap (λ (t : Tables). t.booking) e) x y h g s)
+    (pairs_of as_error error_id a b ha hb (λ p row f. sym (ap row_id (erred_is row p f))) (ap (λ (t : Tables). t.errorlog) e) x y h g s)
+    (pairs_of as_cancelled cancelled_id a b ha hb (λ p row f. sym (ap row_id (cancelled_is row p f))) (ap (λ (t : Tables). t.cancelled) e) x y h g s)
+    (pairs_of as_cancel cancel_id a b ha hb (λ p row f. sym (ap row_id (cancel_is row p f))) (ap (λ (t : Tables). t.cancels) e) x y h g s)
 
 -- ---- equal tables, and replicas that differ in dropped writes alone
 
@@ -294,8 +270,7 @@ from_tables a b ha hb e =
       dropped_ids = λ id. same_dropped a b id p;
       kept_writes = λ id d. same_with a b id p d;
       tentative = same_tentative a b p;
-      bookings = λ x y h g s d. booking_pairs a b ha hb (ap (λ (t : Tables). t.booking) e) x y h g s;
-      errors = λ x y h g s d. error_pairs a b ha hb (ap (λ (t : Tables). t.errorlog) e) x y h g s;
+      rows = λ x y h g s d. row_pairs a b ha hb e x y h g s;
     }
   where
     p : Pair a b
@@ -308,5 +283,5 @@ from_tables a b ha hb e =
           commits = ap (λ (t : Tables). t.meta.commits) e;
           logs =
               pairs_from_rows a b (kept_log a) (kept_log b) (λ r. record { server = r.server; n = r.n }) ha hb (log_key a) (log_key b)
-              (sym (log-rows a) ∙ ap (λ (t : Tables). t.write_log) e ∙ log-rows b);
+              (sym (log-rows a) ∙ ap (λ (t : Tables). t.log) e ∙ log-rows b);
         }

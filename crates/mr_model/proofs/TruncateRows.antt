@@ -5,13 +5,13 @@ use Rattle.std.specs.List.{filter, slice_get}
 use Rattle.mr_model.specs.Texts.{within}
 use Rattle.mr_model.specs.Writes.{Id, Write, id_of, same_id}
 use Rattle.mr_model.specs.Replica.{Replica, is_among, is_dropped, IsReplica}
-use Rattle.mr_model.specs.Tables.{LogRow, UndoRow, by_id, seq_among, seq_of, log_row, undo_row, tables_of}
+use Rattle.mr_model.specs.Tables.{LogRow, by_id, seq_among, seq_of, log_row, tables_of}
 use Rattle.mr_model.specs.Dropped.{Has}
 use Rattle.mr_model.specs.Changes.{after_truncate, TruncateChanges}
 use Rattle.mr_model.proofs.Members.{has_filter, filter_has, has_map, map_has, has_among, among_has, same_id_refl}
 use Rattle.mr_model.proofs.RowsById.{seq_has, at_seq}
-use Rattle.mr_model.proofs.TwinTables.{bool_same}
-use Rattle.mr_model.proofs.CommandPlaces.{taken_has}
+use Rattle.mr_model.proofs.MembersAlike.{bool_same}
+use Rattle.mr_model.proofs.Orders.{taken_has}
 use Rattle.mr_model.proofs.UniqueReplay.{some_inj, none_some}
 
 -- ---- a truncation
@@ -51,7 +51,7 @@ front-seq n ids id = bool_same (is_among id (take n ids)) (within 1 n (seq_among
         let high : seq_among 1 ids id ≤ n = leb-true (seq_among 1 ids id) n p.1 in
         has_among id (take n ids) (slice_in_front n (seq_among 1 ids id - 1) id ids (at_seq 1 ids id (seq_among 1 ids id - 1) (le_refl 1) (omega (arith, low))) (omega (arith, low, high)))
 
--- a truncation takes the rows of the dropped writes out of write_log and undo, and changes nothing else
+-- a truncation takes the rows of the dropped writes out of the log, and changes nothing else
 pub truncate_changes : (r : Replica) (n : ℕ) → IsReplica r → TruncateChanges r n
 truncate_changes r n h =
     record {
@@ -61,8 +61,9 @@ truncate_changes r n h =
       vector = refl;
       booking = refl;
       errorlog = refl;
-      write_log = λ row. (log_to row, log_from row);
-      undo = λ row. (undo_to row, undo_from row);
+      log = λ row. (log_to row, log_from row);
+      cancelled = refl;
+      cancels = refl;
     }
   where
     d : Write → Bool
@@ -86,32 +87,17 @@ truncate_changes r n h =
     to_kept : (x : Replica) (v : Write) → Has v (by_id x.known) → is_dropped x (id_of v) ≡ false → Has v (filter (λ u. not (is_dropped x (id_of u))) (by_id x.known))
     to_kept x v a e = has_filter (λ u. not (is_dropped x (id_of u))) v (by_id x.known) (ap not e) a
 
-    log_to : (row : LogRow) → Has row (tables_of (after_truncate r n)).write_log → Has row (tables_of r).write_log × (within 1 (max r.dropped n) row.seq ≡ false)
+    log_to : (row : LogRow) → Has row (tables_of (after_truncate r n)).log → Has row (tables_of r).log × (within 1 (max r.dropped n) row.seq ≡ false)
     log_to row a =
         let (v, b, e) = map_has (log_row (after_truncate r n)) row (filter (λ u. not (is_dropped (after_truncate r n) (id_of u))) (by_id r.known)) a in
         let p = kept_from (after_truncate r n) v b in (
-          subst (λ x. Has x (tables_of r).write_log) (sym e) (has_map (log_row r) v (filter (λ u. not (is_dropped r (id_of u))) (by_id r.known)) (to_kept r v p.0 (was_kept v p.1))),
+          subst (λ x. Has x (tables_of r).log) (sym e) (has_map (log_row r) v (filter (λ u. not (is_dropped r (id_of u))) (by_id r.known)) (to_kept r v p.0 (was_kept v p.1))),
           ap (λ (x : LogRow). within 1 (max r.dropped n) x.seq) e ∙ sym (front-seq (max r.dropped n) r.commits (id_of v)) ∙ p.1,
         )
 
-    log_from : (row : LogRow) → Has row (tables_of r).write_log × (within 1 (max r.dropped n) row.seq ≡ false) → Has row (tables_of (after_truncate r n)).write_log
+    log_from : (row : LogRow) → Has row (tables_of r).log × (within 1 (max r.dropped n) row.seq ≡ false) → Has row (tables_of (after_truncate r n)).log
     log_from row q =
         let (v, b, e) = map_has (log_row r) row (filter (λ u. not (is_dropped r (id_of u))) (by_id r.known)) q.0 in
         let p = kept_from r v b in
         let gone : is_dropped (after_truncate r n) (id_of v) ≡ false = front-seq (max r.dropped n) r.commits (id_of v) ∙ ap (λ (x : LogRow). within 1 (max r.dropped n) x.seq) (sym e) ∙ q.1 in
-        subst (λ x. Has x (tables_of (after_truncate r n)).write_log) (sym e) (has_map (log_row (after_truncate r n)) v (filter (λ u. not (is_dropped (after_truncate r n) (id_of u))) (by_id r.known)) (to_kept (after_truncate r n) v p.0 gone))
-
-    undo_to : (row : UndoRow) → Has row (tables_of (after_truncate r n)).undo → Has row (tables_of r).undo × (is_dropped (after_truncate r n) (record { server = row.server; n = row.n }) ≡ false)
-    undo_to row a =
-        let (v, b, e) = map_has (undo_row (after_truncate r n)) row (filter (λ u. not (is_dropped (after_truncate r n) (id_of u))) (by_id r.known)) a in
-        let p = kept_from (after_truncate r n) v b in (
-          subst (λ x. Has x (tables_of r).undo) (sym e) (has_map (undo_row r) v (filter (λ u. not (is_dropped r (id_of u))) (by_id r.known)) (to_kept r v p.0 (was_kept v p.1))),
-          ap (λ (x : UndoRow). is_dropped (after_truncate r n) (record { server = x.server; n = x.n })) e ∙ p.1,
-        )
-
-    undo_from : (row : UndoRow) → Has row (tables_of r).undo × (is_dropped (after_truncate r n) (record { server = row.server; n = row.n }) ≡ false) → Has row (tables_of (after_truncate r n)).undo
-    undo_from row q =
-        let (v, b, e) = map_has (undo_row r) row (filter (λ u. not (is_dropped r (id_of u))) (by_id r.known)) q.0 in
-        let p = kept_from r v b in
-        let gone : is_dropped (after_truncate r n) (id_of v) ≡ false = ap (λ (x : UndoRow). is_dropped (after_truncate r n) (record { server = x.server; n = x.n })) (sym e) ∙ q.1 in
-        subst (λ x. Has x (tables_of (after_truncate r n)).undo) (sym e) (has_map (undo_row (after_truncate r n)) v (filter (λ u. not (is_dropped (after_truncate r n) (id_of u))) (by_id r.known)) (to_kept (after_truncate r n) v p.0 gone))
+        subst (λ x. Has x (tables_of (after_truncate r n)).log) (sym e) (has_map (log_row (after_truncate r n)) v (filter (λ u. not (is_dropped (after_truncate r n) (id_of u))) (by_id r.known)) (to_kept (after_truncate r n) v p.0 gone))

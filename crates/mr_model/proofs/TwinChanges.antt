@@ -1,66 +1,101 @@
 -- One change made at two replicas that differ in dropped writes alone leaves two such replicas.
-use Rattle.std.proofs.Common.{◌≡◌, refl, sym, ap, ◌∙◌, subst, ℕ, zero, suc, ◌+◌, ◌-◌, ◌<◌, ◌≤◌, max, Bool, true, false, not, cond, ◌||◌, eqb, List, [], ◌∷◌, ◌++◌, length, take, drop, ◌⊎◌, inl, inr, Option, Some, None, arith, length-append, not-suc-le-zero, le_of_suc-le-suc}
-use Rattle.std.proofs.lemmas.Bool.{or_parts, cond-true, cond-false, false_from_ne_true}
+use Rattle.std.proofs.Common.{◌≡◌, refl, sym, ap, ◌∙◌, subst, ℕ, zero, suc, ◌+◌, ◌-◌, ◌<◌, ◌≤◌, max, true, false, not, cond, ◌||◌, eqb, List, [], ◌∷◌, ◌++◌, length, take, drop, ◌⊎◌, inl, inr, Option, Some, None, arith, length-append, not-suc-le-zero, le_of_suc-le-suc}
+use Rattle.std.proofs.lemmas.Bool.{or_parts, cond-true}
 use Rattle.std.proofs.lemmas.List.Elements.{filter-append}
 use Rattle.std.specs.List.{filter, filter_map}
+use Rattle.std.specs.Prelude.{option_map}
 use Rattle.mr_model.specs.Texts.{Text}
-use Rattle.mr_model.specs.Slots.{Slot}
 use Rattle.mr_model.specs.Writes.{Id, Write, id_of, same_id}
-use Rattle.mr_model.specs.Replay.{Place, Taken, Logged, slot_at}
-use Rattle.mr_model.specs.Replica.{Replica, count_of, last_time, committed_count, commits_of, is_among, is_committed, is_dropped, write_with, tentative, with_write, with_room, add_write, IsReplica}
-use Rattle.mr_model.specs.Tables.{seq_among, seq_of, place_or_logged, place_of, booking_row_at, booking_row, error_row_at, error_row}
-use Rattle.mr_model.specs.View.{told_of, of_room}
+use Rattle.mr_model.specs.Replay.{Booking}
+use Rattle.mr_model.specs.Replica.{Replica, last_time, committed_count, commits_of, is_among, is_committed, is_dropped, write_with, with_write, with_room, add_write, IsReplica}
+use Rattle.mr_model.specs.Tables.{seq_among, seq_of, place_row_for, place_row}
+use Rattle.mr_model.specs.View.{Placed, of_room, cancel_of, placed_in, place_or_logged, place_of, canceller_of}
 use Rattle.mr_model.specs.Dropped.{Has, DifferInDropped}
+use Rattle.mr_model.specs.Kept.{dropped_in_order, kept_in_order}
 use Rattle.mr_model.specs.Changes.{IsNext}
-use Rattle.mr_model.proofs.ChangesKeep.{keeps-add_write}
-use Rattle.mr_model.proofs.Members.{has_left, same_id-true, same_id_from, has_among, not_among, take_drop}
-use Rattle.mr_model.proofs.KnownById.{known_bounds, commit_known}
-use Rattle.mr_model.proofs.RoomPlaces.{dropped_writes, place-dropped}
-use Rattle.mr_model.proofs.ToldInOrder.{told_among}
-use Rattle.mr_model.proofs.TablesTell.{dropped_commit}
-use Rattle.mr_model.proofs.TwinTables.{among-append, filter_map_same, same_booking, same_error}
-use Rattle.mr_model.proofs.WithWrite.{clock-with_write, count-with_write, filter-with_write, find-with_write, greatest-with_write, has_with_write, with_write_has}
+use Rattle.mr_model.proofs.Members.{has_left, same_id_from, has_among, take_drop}
+use Rattle.mr_model.proofs.PlacedInOrder.{placed_among, placed_id}
+use Rattle.mr_model.proofs.MembersAlike.{among_alike}
+use Rattle.mr_model.proofs.Cancellers.{or_else}
+use Rattle.mr_model.proofs.DroppedApart.{dropped_commit, dropped_board, later_from, later_list, place-dropped, canceller-parts}
+use Rattle.mr_model.proofs.RowCancels.{row_booking, row-made, recancel, row-recancel, same_recancel}
+use Rattle.mr_model.proofs.TwinTables.{Pair, pair_room, dropped_cancel, same_cancel, same_boards, same_kept_from, same_row}
+use Rattle.mr_model.proofs.Orders.{among-append, added, new_not_committed, with-add_write, tentative-add_write, committed-with, with_commits, tentative-commits}
+use Rattle.mr_model.proofs.WithWrite.{clock-with_write, count-with_write, greatest-with_write, has_with_write, with_write_has}
 use Rattle.mr_model.proofs.Fronts.{take-front}
 
--- ---- a write more at a replica
+-- ---- dropped writes
 
-pub added : (r : Replica) (w : Write) → IsReplica r → IsNext r w → IsReplica (add_write r w)
-added r w h n = keeps-add_write r w h n.is_write n.number n.late
+-- a change leaves dropped writes where they are
+pub record DroppedStay (r new : Replica) : Type 0 where
+  pub was : IsReplica r
+  pub sound : IsReplica new
+  pub list : dropped_in_order new ≡ dropped_in_order r
+  pub known : (w : Write) → Has w r.known → Has w new.known
+  pub gone : (id : Id) → is_dropped new id ≡ is_dropped r id
+  pub numbers : (w : Write) → is_dropped r (id_of w) ≡ true → seq_of new w ≡ seq_of r w
 
-pub new_id : (r : Replica) (w v : Write) → IsReplica r → IsNext r w → Has v r.known → id_of v ≡ id_of w → ⊥
-new_id r w v h next a e =
-    let b = known_bounds r v h a in
-    let top : v.stamp.n ≤ count_of r v.stamp.server = b.1 in
-    let s : v.stamp.server ≡ w.stamp.server = ap (λ (i : Id). i.server) e in
-    let n : v.stamp.n ≡ w.stamp.n = ap (λ (i : Id). i.n) e in
-    let same : count_of r v.stamp.server ≡ count_of r w.stamp.server = ap (count_of r) s in
-    let new : w.stamp.n ≡ count_of r w.stamp.server + 1 = next.number in
-    omega (arith, top, n, same, new)
+-- so their rows are what they were, but for the cancel that took a booking back
+row_stays : (r new : Replica) (w : Write) → DroppedStay r new → Has w r.known → is_dropped r (id_of w) ≡ true → place_row new w ≡ recancel (canceller_of new w) (place_row r w)
+row_stays r new w s h e =
+    (λ i. place_row_for w w.action (place i) (canceller_of new w) (mark i) (s.numbers w e i))
+    ∙ row-recancel w w.action (place_of r w) (canceller_of r w) (canceller_of new w) (is_committed r (id_of w)) (seq_of r w)
+  where
+    gone : is_dropped new (id_of w) ≡ true
+    gone = s.gone (id_of w) ∙ e
 
-pub new_not_committed : (r : Replica) (w : Write) → IsReplica r → IsNext r w → Has (id_of w) r.commits → ⊥
-new_not_committed r w h next c = let (v, a, e) = commit_known r (id_of w) h c in new_id r w v h next a e
+    place : place_of new w ≡ place_of r w
+    place =
+        place-dropped new w s.sound (s.known w h) gone ∙ ap (λ ws. place_or_logged (placed_in (id_of w) (placed_among false [] (of_room w.room ws)))) s.list
+        ∙ sym (place-dropped r w s.was h e)
 
-pub with-add_write : (r : Replica) (w : Write) (id : Id) → IsReplica r → IsNext r w → write_with (add_write r w) id ≡ cond (same_id (id_of w) id) (Some w) (write_with r id)
-with-add_write r w id h next =
-    find-with_write (λ v. same_id (id_of v) id) w r.known
-    (λ t v a. false_from_ne_true (same_id (id_of v) id) (λ s. new_id r w v h next a (same_id-true (id_of v) id s ∙ sym (same_id-true (id_of w) id t))))
+    mark : is_committed new (id_of w) ≡ is_committed r (id_of w)
+    mark = has_among (id_of w) new.commits (dropped_commit new (id_of w) gone) ∙ sym (has_among (id_of w) r.commits (dropped_commit r (id_of w) e))
 
-pub tentative-add_write : (r : Replica) (w : Write) → IsReplica r → IsNext r w → tentative (add_write r w) ≡ with_write w (tentative r)
-tentative-add_write r w h next =
-    filter-with_write (λ v. not (is_committed r (id_of v))) w r.known h.in_stamp_order (ap not (not_among (id_of w) r.commits (new_not_committed r w h next)))
+abbrev ids : Option Placed → Option Id
+ids o = option_map placed_id o
 
-pub committed-with : (r : Replica) (w : Write) (ids : List Id) → IsReplica r → IsNext r w → ((id : Id) → Has id ids → Has id r.commits) → filter_map (write_with (add_write r w)) ids ≡ filter_map (write_with r) ids
-committed-with r w ids h next inside =
-    filter_map_same (write_with (add_write r w)) (write_with r) ids
-    (λ id a. with-add_write r w id h next ∙ cond-false (same_id (id_of w) id) (Some w) (write_with r id) (false_from_ne_true (same_id (id_of w) id) (λ s. new_not_committed r w h next (subst (λ i. Has i r.commits) (sym (same_id-true (id_of w) id s)) (inside id a)))))
+ids-else : (o u l : Option Placed) → ids o ≡ ids u → ids (or_else o l) ≡ ids (or_else u l)
+ids-else None None l e = refl
+ids-else None (Some d) l e = absurd (let f : ◌≡◌ {A = Option Id} None (Some (placed_id d)) = e in cc)
+ids-else (Some c) None l e = absurd (let f : ◌≡◌ {A = Option Id} None (Some (placed_id c)) = sym e in cc)
+ids-else (Some c) (Some d) l e = e
 
-pub dropped-add_write : (r : Replica) (w : Write) → IsReplica r → IsNext r w → dropped_writes (add_write r w) ≡ dropped_writes r
+-- of twins both changed, with the same kept writes, the dropped ones with one id have one row
+twin_rows : (a b a' b' : Replica) → DroppedStay a a' → DroppedStay b b' → DifferInDropped a b → kept_in_order a' ≡ kept_in_order b' → (x y : Write) → Has x a.known → Has y b.known → id_of x ≡ id_of y → is_dropped a (id_of x) ≡ true → place_row a' x ≡ place_row b' y
+twin_rows a b a' b' s t d kept x y h g e f =
+    row_stays a a' x s h f
+    ∙ same_recancel (place_row a x) (place_row b y) (canceller_of a' x) (canceller_of b' y) p.row cancellers
+    ∙ sym (row_stays b b' y t g (sym (d.dropped_ids (id_of y)) ∙ ap (is_dropped a) (sym e) ∙ f))
+  where
+    p : Pair a b x y
+    p = record { first = h; second = g; one_id = e; row = d.rows x y h g e f }
+
+    -- by the cancels of both parts of the order
+    parts : (r new : Replica) (w : Write) → DroppedStay r new → Has w r.known → canceller_of new w ≡ ids (or_else (dropped_cancel r w) (cancel_of (id_of w) (later_list new w.room)))
+    parts r new w q k =
+        canceller-parts new w q.sound (q.known w k)
+        ∙ ap (λ ws. ids (or_else (cancel_of (id_of w) (placed_among false [] (of_room w.room ws))) (cancel_of (id_of w) (later_list new w.room)))) q.list
+
+    board : (r new : Replica) (room : Text) → DroppedStay r new → later_list new room ≡ later_from room (dropped_board r room) (kept_in_order new)
+    board r new room q = ap (λ ws. later_from room (Rattle.mr_model.specs.Board.after [] (of_room room ws)) (kept_in_order new)) q.list
+
+    later : later_list a' x.room ≡ later_list b' y.room
+    later =
+        board a a' x.room s ∙ among_alike false (dropped_board a x.room) (dropped_board b x.room) (of_room x.room (kept_in_order a')) (same_boards a b x.room s.was t.was d)
+        ∙ ap (later_from x.room (dropped_board b x.room)) kept ∙ sym (board b b' x.room t) ∙ ap (later_list b') (pair_room a b x y s.was t.was p)
+
+    cancellers : (m : Booking) → row_booking (place_row a x) ≡ Some m → canceller_of a' x ≡ canceller_of b' y
+    cancellers m k =
+        parts a a' x s h
+        ∙ ids-else (dropped_cancel a x) (dropped_cancel b y) (cancel_of (id_of x) (later_list a' x.room)) (same_cancel a b x y m s.was t.was d.dropped_ids p (sym (row-made a x) ∙ k))
+        ∙ (λ i. ids (or_else (dropped_cancel b y) (cancel_of (e i) (later i))))
+        ∙ sym (parts b b' y t g)
+
+-- ---- a write more
+
+pub dropped-add_write : (r : Replica) (w : Write) → IsReplica r → IsNext r w → dropped_in_order (add_write r w) ≡ dropped_in_order r
 dropped-add_write r w h next = committed-with r w (take r.dropped r.commits) h next (λ id a. subst (λ is. Has id is) (take_drop r.dropped r.commits) (has_left id (take r.dropped r.commits) (drop r.dropped r.commits) a))
-
--- a dropped write stays where it is
-pub place_stays : (r new : Replica) (v : Write) → IsReplica r → IsReplica new → Has v r.known → Has v new.known → is_dropped r (id_of v) ≡ true → is_dropped new (id_of v) ≡ true → dropped_writes new ≡ dropped_writes r → place_of new v ≡ place_of r v
-place_stays r new v h k a b d e same =
-    place-dropped new v k b e ∙ ap (λ ws. place_or_logged (told_of (id_of v) (told_among true [] (of_room v.room ws)))) same ∙ sym (place-dropped r v h a d)
 
 pub next_over : (a b : Replica) (w : Write) → DifferInDropped a b → IsNext a w → IsNext b w
 next_over a b w d n =
@@ -86,8 +121,7 @@ twin_add_write a b w ha hb d next =
       dropped_ids = d.dropped_ids;
       kept_writes = λ id e. with-add_write a w id ha next ∙ ap (λ o. cond (same_id (id_of w) id) (Some w) o) (d.kept_writes id e) ∙ sym (with-add_write b w id hb next_b);
       tentative = tentative-add_write a w ha next ∙ ap (with_write w) d.tentative ∙ sym (tentative-add_write b w hb next_b);
-      bookings = λ x y h g e f. booking a ha next x (old a ha next x h f) f ∙ d.bookings x y (old a ha next x h f) (old b hb next_b y g (over x y e f)) e f ∙ sym (booking b hb next_b y (old b hb next_b y g (over x y e f)) (over x y e f));
-      errors = λ x y h g e f. error a ha next x (old a ha next x h f) f ∙ d.errors x y (old a ha next x h f) (old b hb next_b y g (over x y e f)) e f ∙ sym (error b hb next_b y (old b hb next_b y g (over x y e f)) (over x y e f));
+      rows = λ x y h g e f. twin_rows a b (add_write a w) (add_write b w) (stay a ha next) (stay b hb next_b) d kept x y (old a ha next x h f) (old b hb next_b y g (over x y e f)) e f;
     }
   where
     next_b : IsNext b w
@@ -106,14 +140,22 @@ twin_add_write a b w ha hb d next =
         go (inr k) = k
         go (inl e) = absurd (new_not_committed r w h n (subst (λ v. Has (id_of v) r.commits) e (dropped_commit r (id_of x) f)))
 
-    place : (r : Replica) → IsReplica r → IsNext r w → (x : Write) → Has x r.known → is_dropped r (id_of x) ≡ true → place_of (add_write r w) x ≡ place_of r x
-    place r h n x k f = place_stays r (add_write r w) x h (added r w h n) k (has_with_write w x r.known (inr k)) f f (dropped-add_write r w h n)
+    stay : (r : Replica) → IsReplica r → IsNext r w → DroppedStay r (add_write r w)
+    stay r h n =
+        record {
+          was = h;
+          sound = added r w h n;
+          list = dropped-add_write r w h n;
+          known = λ v g. has_with_write w v r.known (inr g);
+          gone = λ id. refl;
+          numbers = λ v f. refl;
+        }
 
-    booking : (r : Replica) → IsReplica r → IsNext r w → (x : Write) → Has x r.known → is_dropped r (id_of x) ≡ true → booking_row (add_write r w) x ≡ booking_row r x
-    booking r h n x k f = ap (λ p. booking_row_at r x (slot_at x p)) (place r h n x k f)
-
-    error : (r : Replica) → IsReplica r → IsNext r w → (x : Write) → Has x r.known → is_dropped r (id_of x) ≡ true → error_row (add_write r w) x ≡ error_row r x
-    error r h n x k f = ap (error_row_at r x) (place r h n x k f)
+    kept : kept_in_order (add_write a w) ≡ kept_in_order (add_write b w)
+    kept =
+        same_kept_from (add_write a w) (add_write b w) (added a w ha next) d.kept_commits
+        (λ id e. with-add_write a w id ha next ∙ ap (λ o. cond (same_id (id_of w) id) (Some w) o) (d.kept_writes id e) ∙ sym (with-add_write b w id hb next_b))
+        (tentative-add_write a w ha next ∙ ap (with_write w) d.tentative ∙ sym (tentative-add_write b w hb next_b))
 
 -- ---- a room more
 
@@ -133,8 +175,7 @@ twin_add_room a b room d =
       dropped_ids = d.dropped_ids;
       kept_writes = d.kept_writes;
       tentative = d.tentative;
-      bookings = d.bookings;
-      errors = d.errors;
+      rows = d.rows;
     }
 
 -- ---- more commits
@@ -150,23 +191,6 @@ seq_front k (x ∷ xs) ys id (inl e) =
     let t : same_id x id ≡ true = same_id_from x id (sym e) in
     cond-true (same_id x id) k (seq_among (k + 1) (xs ++ ys) id) t ∙ sym (cond-true (same_id x id) k (seq_among (k + 1) xs id) t)
 seq_front k (x ∷ xs) ys id (inr h) = ap (λ n. cond (same_id x id) k n) (seq_front (k + 1) xs ys id h)
-
-filter_or : {A : Type 0} (p q pq : A → Bool) (xs : List A) → ((x : A) → pq x ≡ (p x || q x)) → filter (λ x. not (pq x)) xs ≡ filter (λ x. not (q x)) (filter (λ x. not (p x)) xs)
-filter_or p q pq [] e = refl
-filter_or p q pq (x ∷ xs) e =
-    ap (λ b. cond (not b) (x ∷ filter (λ y. not (pq y)) xs) (filter (λ y. not (pq y)) xs)) (e x)
-    ∙ ap (λ ys. cond (not (p x || q x)) (x ∷ ys) ys) (filter_or p q pq xs e) ∙ go (p x)
-  where
-    go : (b : Bool) → cond (not (b || q x)) (x ∷ filter (λ y. not (q y)) (filter (λ y. not (p y)) xs)) (filter (λ y. not (q y)) (filter (λ y. not (p y)) xs)) ≡ filter (λ y. not (q y)) (cond (not b) (x ∷ filter (λ y. not (p y)) xs) (filter (λ y. not (p y)) xs))
-    go true = refl
-    go false = refl
-
-abbrev pub with_commits : Replica → List Id → Replica
-with_commits r ids = record r { commits = r.commits ++ ids }
-
-pub tentative-commits : (r : Replica) (ids : List Id) → tentative (with_commits r ids) ≡ filter (λ w. not (is_among (id_of w) ids)) (tentative r)
-tentative-commits r ids =
-    filter_or (λ (w : Write). is_among (id_of w) r.commits) (λ w. is_among (id_of w) ids) (λ w. is_among (id_of w) (r.commits ++ ids)) r.known (λ w. among-append (id_of w) r.commits ids)
 
 pub twin_commits : (a b : Replica) (ids : List Id) → IsReplica a → IsReplica b → IsReplica (with_commits a ids) → IsReplica (with_commits b ids) → DifferInDropped a b → DifferInDropped (with_commits a ids) (with_commits b ids)
 twin_commits a b ids ha hb ka kb d =
@@ -184,8 +208,7 @@ twin_commits a b ids ha hb ka kb d =
       dropped_ids = λ id. gone a ha id ∙ d.dropped_ids id ∙ sym (gone b hb id);
       kept_writes = λ id e. d.kept_writes id (sym (gone a ha id) ∙ e);
       tentative = tentative-commits a ids ∙ ap (filter (λ w. not (is_among (id_of w) ids))) d.tentative ∙ sym (tentative-commits b ids);
-      bookings = λ x y h g e f. booking a ha ka x h (was x f) ∙ d.bookings x y h g e (was x f) ∙ sym (booking b hb kb y g (over x y e f));
-      errors = λ x y h g e f. error a ha ka x h (was x f) ∙ d.errors x y h g e (was x f) ∙ sym (error b hb kb y g (over x y e f));
+      rows = λ x y h g e f. twin_rows a b (with_commits a ids) (with_commits b ids) (stay a ha ka) (stay b hb kb) d kept x y h g e (was x f);
     }
   where
     counted : (r : Replica) (s : ℕ) → committed_count (with_commits r ids) s ≡ committed_count r s + length (commits_of s ids)
@@ -197,31 +220,23 @@ twin_commits a b ids ha hb ka kb d =
     was : (x : Write) → is_dropped (with_commits a ids) (id_of x) ≡ true → is_dropped a (id_of x) ≡ true
     was x f = sym (gone a ha (id_of x)) ∙ f
 
-    over : (x y : Write) → id_of x ≡ id_of y → is_dropped (with_commits a ids) (id_of x) ≡ true → is_dropped b (id_of y) ≡ true
-    over x y e f = sym (d.dropped_ids (id_of y)) ∙ ap (is_dropped a) (sym e) ∙ was x f
+    stay : (r : Replica) → IsReplica r → IsReplica (with_commits r ids) → DroppedStay r (with_commits r ids)
+    stay r h k =
+        record {
+          was = h;
+          sound = k;
+          list = ap (λ is. filter_map (write_with r) is) (take-front r.dropped r.commits ids h.dropped_committed);
+          known = λ v g. g;
+          gone = gone r h;
+          numbers = λ v f. seq_front 1 r.commits ids (id_of v) (dropped_commit r (id_of v) f);
+        }
 
-    place : (r : Replica) → IsReplica r → IsReplica (with_commits r ids) → (x : Write) → Has x r.known → is_dropped r (id_of x) ≡ true → place_of (with_commits r ids) x ≡ place_of r x
-    place r h k x i f =
-        place_stays r (with_commits r ids) x h k i i f (gone r h (id_of x) ∙ f) (ap (λ is. filter_map (write_with r) is) (take-front r.dropped r.commits ids h.dropped_committed))
-
-    marked : (r : Replica) (x : Write) → is_dropped r (id_of x) ≡ true → is_committed (with_commits r ids) (id_of x) ≡ is_committed r (id_of x)
-    marked r x f =
-        let c = dropped_commit r (id_of x) f in
-        has_among (id_of x) (r.commits ++ ids) (has_left (id_of x) r.commits ids c) ∙ sym (has_among (id_of x) r.commits c)
-
-    booking : (r : Replica) → IsReplica r → IsReplica (with_commits r ids) → (x : Write) → Has x r.known → is_dropped r (id_of x) ≡ true → booking_row (with_commits r ids) x ≡ booking_row r x
-    booking r h k x i f = ap (λ p. booking_row_at (with_commits r ids) x (slot_at x p)) (place r h k x i f) ∙ go (slot_at x (place_of r x)) (marked r x f)
-      where
-        go : (o : Option Slot) → is_committed (with_commits r ids) (id_of x) ≡ is_committed r (id_of x) → booking_row_at (with_commits r ids) x o ≡ booking_row_at r x o
-        go None m = refl
-        go (Some s) m = λ j. Some (record { room = x.room; day = s.day; start = s.start; stop = s.start + x.length; server = x.stamp.server; n = x.stamp.n; title = x.title; committed = m j })
-
-    error : (r : Replica) → IsReplica r → IsReplica (with_commits r ids) → (x : Write) → Has x r.known → is_dropped r (id_of x) ≡ true → error_row (with_commits r ids) x ≡ error_row r x
-    error r h k x i f = ap (error_row_at (with_commits r ids) x) (place r h k x i f) ∙ go (place_of r x) (seq_front 1 r.commits ids (id_of x) (dropped_commit r (id_of x) f))
-      where
-        go : (p : Place) → seq_of (with_commits r ids) x ≡ seq_of r x → error_row_at (with_commits r ids) x p ≡ error_row_at r x p
-        go (Taken c) m = refl
-        go Logged m = λ j. Some (record { room = x.room; day = x.wish.day; start = x.wish.start; stop = x.wish.start + x.length; server = x.stamp.server; n = x.stamp.n; title = x.title; time = x.stamp.time; seq = m j })
+    kept : kept_in_order (with_commits a ids) ≡ kept_in_order (with_commits b ids)
+    kept =
+        same_kept_from (with_commits a ids) (with_commits b ids) ka
+        (drop-front a.dropped a.commits ids ha.dropped_committed ∙ ap (λ is. is ++ ids) d.kept_commits ∙ sym (drop-front b.dropped b.commits ids hb.dropped_committed))
+        (λ id e. d.kept_writes id (sym (gone a ha id) ∙ e))
+        (tentative-commits a ids ∙ ap (filter (λ w. not (is_among (id_of w) ids))) d.tentative ∙ sym (tentative-commits b ids))
 
 -- ---- more dropped
 
@@ -263,8 +278,7 @@ twin_truncate a b n ha hb d =
       dropped_ids = same_gone;
       kept_writes = λ id e. d.kept_writes id (or_parts (is_dropped a id) (is_among id (take (more_than n a.dropped) (drop a.dropped a.commits))) (sym (gone a id) ∙ e)).0;
       tentative = d.tentative;
-      bookings = λ x y h g e f. same_booking a b ha hb d x y h g e;
-      errors = λ x y h g e f. same_error a b ha hb d x y h g e;
+      rows = λ x y h g e f. same_row a b ha hb d x y h g e;
     }
   where
     sum : (m : ℕ) → max m n ≡ m + more_than n m

@@ -3,7 +3,7 @@ use Rattle.std.proofs.Common.{◌≡◌, refl, subst, ℕ, List, [], ◌∷◌, 
 use Rattle.std.specs.Prelude.{codes}
 use Rattle.std.specs.Fmt.{digits}
 use Rattle.mr_model.specs.Slots.{Slot}
-use Rattle.mr_model.specs.Writes.{Id, Write}
+use Rattle.mr_model.specs.Writes.{Id, Books, Write}
 use Rattle.mr_model.specs.Replica.{Replica, opening, IsReplica}
 use Rattle.mr_model.specs.Exchange.{W, C, Complete, Batch, batch_text}
 use Rattle.mr_model.specs.Step.{Command, Receive, Truncate, step}
@@ -16,10 +16,10 @@ abbrev at : ℕ → Slot
 at minute = record { day = record { year = 2024; month = 1; day = 1 }; start = minute }
 
 abbrev alpha : List Slot → Write
-alpha others = record { stamp = record { server = 1; n = 1; time = 1 }; room = codes "oak"; title = codes "Alpha"; length = 30; wish = at 540; alternatives = others }
+alpha others = record { stamp = record { server = 1; n = 1; time = 1 }; room = codes "oak"; action = Books (record { title = codes "Alpha"; length = 30; wish = at 540; alternatives = others }) }
 
 abbrev beta : Write
-beta = record { stamp = record { server = 3; n = 1; time = 2 }; room = codes "oak"; title = codes "Beta"; length = 30; wish = at 600; alternatives = [] }
+beta = record { stamp = record { server = 3; n = 1; time = 2 }; room = codes "oak"; action = Books (record { title = codes "Beta"; length = 30; wish = at 600; alternatives = [] }) }
 
 abbrev one : Replica
 one =

@@ -1,24 +1,26 @@
 -- Each step of two replicas that differ in dropped writes alone leaves two such replicas, and most replies are plainly the same.
-use Rattle.std.proofs.Common.{◌≡◌, refl, sym, ap, ◌∙◌, subst, ℕ, zero, suc, ◌+◌, ◌-◌, ◌≤◌, max, Bool, true, false, not, cond, eqb, ltb, List, [], ◌∷◌, ◌++◌, length, map, take, drop, inl, inr, Option, Some, None, Result, Ok, Err, arith, ltb-false, le_refl}
+use Rattle.std.proofs.Common.{◌≡◌, refl, sym, ap, ◌∙◌, subst, ℕ, zero, suc, ◌+◌, ◌-◌, ◌≤◌, max, Bool, true, false, not, cond, ◌&&◌, eqb, ltb, List, [], ◌∷◌, ◌++◌, length, map, take, drop, inl, inr, Option, Some, None, Result, Ok, Err, arith, ltb-false}
 use Rattle.std.specs.Prelude.{flat_map}
 use Rattle.std.specs.List.{AllByRecursion, list_any, enumerate_from}
 use Rattle.std.specs.Str.{bytes_eq}
 use Rattle.mr_model.specs.Texts.{Text, only_if, numbers_on}
-use Rattle.mr_model.specs.Writes.{Id, Write, id_of, is_room_name, is_title, greatest_count, greatest_time, greatest_alternatives}
-use Rattle.mr_model.specs.Refusals.{Refusal, BadDay, BadTime, BadLength, BadRoomName, BadTitle, TooManyAlternatives, UnknownRoom, RoomThere, ClockExhausted, CountExhausted, NotPrimary, PrimaryKeepsAll, BeyondCommitted, WrongPrimary, Truncated, first_refusal}
-use Rattle.mr_model.specs.Replica.{Replica, count_of, clock_of, last_time, tentative, add_write, IsReplica}
+use Rattle.mr_model.specs.Writes.{Id, Write, id_of, id_in, is_id_text, is_room_name, is_title, greatest_count, greatest_time, greatest_alternatives}
+use Rattle.mr_model.specs.Refusals.{Refusal, BadDay, BadTime, BadLength, BadRoomName, BadTitle, TooManyAlternatives, UnknownRoom, RoomThere, ClockExhausted, CountExhausted, NotPrimary, PrimaryKeepsAll, BeyondCommitted, NoSuchRequest, WrongPrimary, Truncated, NeedsVersion2, first_refusal}
+use Rattle.mr_model.specs.Replica.{Replica, count_of, tentative, add_write, IsReplica}
 use Rattle.mr_model.specs.Exchange.{Item, C, Header, Batch, read_batch}
 use Rattle.mr_model.specs.Positions.{Position, counts_of, position_of}
 use Rattle.mr_model.specs.Taking.{Progress, take_items}
 use Rattle.mr_model.specs.Replies.{Reply, Took, CommittedIs, DroppedIs, Refused}
-use Rattle.mr_model.specs.Step.{After, Submission, refuse, step_unless, add_room, submit_faults, write_of, outcome_at, after_write, submit, after_items, receive_under, receive_read, receive, commit, truncate, item_if_lacked, commit_items, items_for, ending_of, batch_of, batch_reply, reply_to_position, leave}
+use Rattle.mr_model.specs.Step.{After, Submission, refuse, step_unless, add_room, submit_faults, write_of, outcome_at, after_write, submit, knows_booking, cancel_faults, cancel_write, cancel, after_items, receive_under, receive_read, receive, commit, truncate, item_if_lacked, commit_items, items_for, ending_of, batch_of, batch_unless, is_untold, batch_faults, batch_reply, reply_to_position, leave}
 use Rattle.mr_model.specs.Dropped.{Has, DifferInDropped}
 use Rattle.mr_model.specs.Changes.{IsNext}
 use Rattle.mr_model.proofs.TakingKeeps.{IsItem, BatchWithin, batch_within}
 use Rattle.mr_model.proofs.CommitsKeep.{keeps-commit}
-use Rattle.mr_model.proofs.StepsKeep.{submitted_within, last_below_clock, times_below}
-use Rattle.mr_model.proofs.TwinTables.{kept_id, flat_map_same}
-use Rattle.mr_model.proofs.TwinChanges.{added, next_over, twin_add_write, twin_add_room, twin_commits, twin_truncate, drop-add}
+use Rattle.mr_model.proofs.StepsKeep.{submitted_within, cancelled_within}
+use Rattle.mr_model.proofs.TwinTables.{flat_map_same}
+use Rattle.mr_model.proofs.DroppedApart.{kept_id}
+use Rattle.mr_model.proofs.Orders.{added, is_next}
+use Rattle.mr_model.proofs.TwinChanges.{next_over, twin_add_write, twin_add_room, twin_commits, twin_truncate, drop-add}
 use Rattle.mr_model.proofs.TwinTaking.{TwinResult, Twins, twin_items}
 
 -- ---- steps
@@ -113,23 +115,44 @@ same_faults a b s d =
     ∷ (eqb (n i) greatest_count, CountExhausted) ∷ []
 
 pub submitted_next : (r : Replica) (s : Submission) → IsReplica r → first_refusal (submit_faults r s) ≡ None → IsNext r (write_of r s)
-submitted_next r s h none =
-    record {
-      is_write = submitted_within r s h none;
-      number = refl;
-      late = let low : last_time r r.server ≤ clock_of r = last_below_clock (clock_of r) r.server r.known (times_below r.known (clock_of r) (le_refl (clock_of r))) in omega (arith, low);
-    }
+submitted_next r s h none = is_next r (write_of r s) (submitted_within r s h none) refl
 
 -- with the same reply where replicas that differ in dropped writes alone tell the same outcome
+twin_write : (a b : Replica) (w : Write) → Twins a b → ((x y : Replica) (v : Write) → Twins x y → outcome_at x v ≡ outcome_at y v) → IsNext a w → TwinAfter (after_write a w) (after_write b w)
+twin_write a b w t same n =
+    let d = twin_add_write a b w t.first t.second t.alike n in
+    record { reply = same (add_write a w) (add_write b w) w (record { first = added a w t.first n; second = added b w t.second (next_over a b w t.alike n); alike = d }); replicas = d }
+
 pub twin_submit : (a b : Replica) (s : Submission) → Twins a b → ((x y : Replica) (w : Write) → Twins x y → outcome_at x w ≡ outcome_at y w) → TwinAfter (submit a s) (submit b s)
 twin_submit a b s t same =
     unless_twin a b _ _ _ _ t.alike (ap first_refusal (same_faults a b s t.alike))
-    (λ none. subst (λ v. TwinAfter (after_write a (write_of a s)) (after_write b v)) (same_write_of a b s t.alike) (go (write_of a s) (submitted_next a s t.first none)))
-  where
-    go : (w : Write) → IsNext a w → TwinAfter (after_write a w) (after_write b w)
-    go w n =
-        let d = twin_add_write a b w t.first t.second t.alike n in
-        record { reply = same (add_write a w) (add_write b w) w (record { first = added a w t.first n; second = added b w t.second (next_over a b w t.alike n); alike = d }); replicas = d }
+    (λ none. subst (λ v. TwinAfter (after_write a (write_of a s)) (after_write b v)) (same_write_of a b s t.alike) (twin_write a b (write_of a s) t same (submitted_next a s t.first none)))
+
+-- ---- cancels
+
+same_cancel_write : (a b : Replica) (room id : Text) → DifferInDropped a b → cancel_write a room id ≡ cancel_write b room id
+same_cancel_write a b room id d =
+    let sv = d.server in
+    let n = own_counts a b d in
+    let c = d.clock in
+    λ i. record (cancel_write a room id) { stamp = record { server = sv i; n = n i + 1; time = c i + 1 } }
+
+same_cancel_faults : (a b : Replica) (room id : Text) → DifferInDropped a b → knows_booking a room (id_in id) ≡ knows_booking b room (id_in id) → cancel_faults a room id ≡ cancel_faults b room id
+same_cancel_faults a b room id d k =
+    let rs = d.rooms in
+    let n = own_counts a b d in
+    let c = d.clock in
+    λ i. (not (is_room_name room), BadRoomName)
+    ∷ (not (list_any (bytes_eq room) (rs i)), UnknownRoom)
+    ∷ (not (is_id_text id && k i), NoSuchRequest)
+    ∷ (eqb (c i) greatest_time, ClockExhausted)
+    ∷ (eqb (n i) greatest_count, CountExhausted) ∷ []
+
+pub twin_cancel : (a b : Replica) (room id : Text) → Twins a b → ((x y : Replica) (w : Write) → Twins x y → outcome_at x w ≡ outcome_at y w) → knows_booking a room (id_in id) ≡ knows_booking b room (id_in id) → TwinAfter (cancel a room id) (cancel b room id)
+twin_cancel a b room id t same k =
+    unless_twin a b _ _ _ _ t.alike (ap first_refusal (same_cancel_faults a b room id t.alike k))
+    (λ none. subst (λ v. TwinAfter (after_write a (cancel_write a room id)) (after_write b v)) (same_cancel_write a b room id t.alike)
+    (twin_write a b (cancel_write a room id) t same (is_next a (cancel_write a room id) (cancelled_within a room id t.first none) refl)))
 
 -- ---- positions and batches
 
@@ -195,22 +218,20 @@ same_batch_reply a b p m t = go (ltb p.commits a.dropped) refl
     dropped : a.dropped ≡ b.dropped
     dropped = t.alike.dropped
 
-    refusals : first_refusal ((not (eqb p.primary a.primary), WrongPrimary) ∷ (ltb p.commits a.dropped, Truncated) ∷ []) ≡ first_refusal ((not (eqb p.primary b.primary), WrongPrimary) ∷ (ltb p.commits b.dropped, Truncated) ∷ [])
-    refusals = λ i. first_refusal ((not (eqb p.primary (primary i)), WrongPrimary) ∷ (ltb p.commits (dropped i), Truncated) ∷ [])
-
-    cut : (c : Bool) (x y : Batch) → Rattle.mr_model.specs.Step.batch_unless (first_refusal ((c, WrongPrimary) ∷ (true, Truncated) ∷ [])) x ≡ Rattle.mr_model.specs.Step.batch_unless (first_refusal ((c, WrongPrimary) ∷ (true, Truncated) ∷ [])) y
+    -- where too much is dropped the batch does not matter
+    cut : (c : Bool) (x y : Batch) → batch_unless (first_refusal ((c, WrongPrimary) ∷ (true, Truncated) ∷ (list_any is_untold x.items, NeedsVersion2) ∷ [])) x ≡ batch_unless (first_refusal ((c, WrongPrimary) ∷ (true, Truncated) ∷ (list_any is_untold y.items, NeedsVersion2) ∷ [])) y
     cut true x y = refl
     cut false x y = refl
 
     go : (g : Bool) → ltb p.commits a.dropped ≡ g → batch_reply a p m ≡ batch_reply b p m
     go true e =
-        ap (λ g. Rattle.mr_model.specs.Step.batch_unless (first_refusal ((not (eqb p.primary a.primary), WrongPrimary) ∷ (g, Truncated) ∷ [])) (batch_of a p m)) e
+        ap (λ g. batch_unless (first_refusal ((not (eqb p.primary a.primary), WrongPrimary) ∷ (g, Truncated) ∷ (list_any is_untold (batch_of a p m).items, NeedsVersion2) ∷ [])) (batch_of a p m)) e
         ∙ cut (not (eqb p.primary a.primary)) (batch_of a p m) (batch_of b p m)
-        ∙ ap (λ g. Rattle.mr_model.specs.Step.batch_unless (first_refusal ((not (eqb p.primary a.primary), WrongPrimary) ∷ (g, Truncated) ∷ [])) (batch_of b p m)) (sym e)
-        ∙ ap (λ o. Rattle.mr_model.specs.Step.batch_unless o (batch_of b p m)) refusals
+        ∙ ap (λ g. batch_unless (first_refusal ((not (eqb p.primary a.primary), WrongPrimary) ∷ (g, Truncated) ∷ (list_any is_untold (batch_of b p m).items, NeedsVersion2) ∷ [])) (batch_of b p m)) (sym e)
+        ∙ (λ i. batch_unless (first_refusal ((not (eqb p.primary (primary i)), WrongPrimary) ∷ (ltb p.commits (dropped i), Truncated) ∷ (list_any is_untold (batch_of b p m).items, NeedsVersion2) ∷ [])) (batch_of b p m))
     go false e =
         let bs = same_batch a b p m t (ltb-false p.commits a.dropped e) in
-        λ i. Rattle.mr_model.specs.Step.batch_unless (refusals i) (bs i)
+        λ i. batch_unless (first_refusal ((not (eqb p.primary (primary i)), WrongPrimary) ∷ (ltb p.commits (dropped i), Truncated) ∷ (list_any is_untold (bs i).items, NeedsVersion2) ∷ [])) (bs i)
 
 pub same_to_position : (a b : Replica) (o : Option Position) (m : ℕ) → Twins a b → reply_to_position a o m ≡ reply_to_position b o m
 same_to_position a b None m t = refl

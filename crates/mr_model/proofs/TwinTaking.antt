@@ -12,7 +12,8 @@ use Rattle.mr_model.specs.Changes.{IsNext}
 use Rattle.mr_model.proofs.TakingKeeps.{IsItem}
 use Rattle.mr_model.proofs.ChangesKeep.{keeps-add_commit}
 use Rattle.mr_model.proofs.RowsById.{slice_drop}
-use Rattle.mr_model.proofs.TwinChanges.{added, next_over, twin_add_write, twin_commits}
+use Rattle.mr_model.proofs.TwinChanges.{next_over, twin_add_write, twin_commits}
+use Rattle.mr_model.proofs.Orders.{added}
 
 -- ---- taking items
 

@@ -2,13 +2,15 @@
 use Rattle.std.specs.Prelude.{◌≡◌, ℕ, true, false, List, [], ◌∷◌, length, drop, ◌⊎◌}
 use Rattle.mr_model.specs.Writes.{Id, Write, id_of}
 use Rattle.mr_model.specs.Replica.{Replica, count_of, clock_of, last_time, committed_count, is_dropped, write_with, tentative}
-use Rattle.mr_model.specs.Tables.{booking_row, error_row}
+use Rattle.mr_model.specs.Tables.{place_row}
 
 -- the element is in the list
 abbrev pub Has : {A : Type 0} → A → List A → Type 0
 Has x [] = ⊥
 Has x (y ∷ ys) = (x ≡ y) ⊎ Has x ys
 
+-- no table keeps of a dropped booking its time, its alternatives and, where it was not logged, its wish and its commit number; of a
+-- dropped cancel the tables keep all
 pub record DifferInDropped (a b : Replica) : Type 0 where
   pub server : a.server ≡ b.server
   pub primary : a.primary ≡ b.primary
@@ -24,6 +26,5 @@ pub record DifferInDropped (a b : Replica) : Type 0 where
   pub dropped_ids : (id : Id) → is_dropped a id ≡ is_dropped b id
   pub kept_writes : (id : Id) → is_dropped a id ≡ false → write_with a id ≡ write_with b id
   pub tentative : tentative a ≡ tentative b
-  -- of dropped writes with one id the rows in booking and errorlog are the same
-  pub bookings : (x y : Write) → Has x a.known → Has y b.known → id_of x ≡ id_of y → is_dropped a (id_of x) ≡ true → booking_row a x ≡ booking_row b y
-  pub errors : (x y : Write) → Has x a.known → Has y b.known → id_of x ≡ id_of y → is_dropped a (id_of x) ≡ true → error_row a x ≡ error_row b y
+  -- dropped writes with one id have one row
+  pub rows : (x y : Write) → Has x a.known → Has y b.known → id_of x ≡ id_of y → is_dropped a (id_of x) ≡ true → place_row a x ≡ place_row b y

@@ -4,7 +4,8 @@ use Rattle.std.specs.List.{AllByRecursion}
 use Rattle.mr_model.specs.Writes.{Write}
 use Rattle.mr_model.specs.Replica.{Replica, write_with, tentative, order_of}
 use Rattle.mr_model.specs.Board.{replay_on, board_after}
-use Rattle.mr_model.specs.Tables.{LogRow, log_row, place_of, tables_of}
+use Rattle.mr_model.specs.Tables.{LogRow, log_row, tables_of}
+use Rattle.mr_model.specs.View.{place_of}
 use Rattle.mr_model.specs.Changes.{SameRows}
 
 abbrev pub dropped_in_order : Replica → List Write
@@ -23,9 +24,9 @@ abbrev pub AreInRunOrder : List LogRow → Type 0
 AreInRunOrder [] = Unit {0}
 AreInRunOrder (r ∷ rs) = AllByRecursion (LogBefore r) rs × AreInRunOrder rs
 
--- sorting the rows of write_log gives the kept writes in their order; they run on the board of the dropped ones
+-- sorting the rows of the log gives the kept writes in their order; they run on the board of the dropped ones
 pub record KeptIsTheLog (r : Replica) : Type 0 where
   pub parts : order_of r ≡ dropped_in_order r ++ kept_in_order r
   pub in_order : AreInRunOrder (map (log_row r) (kept_in_order r))
-  pub same_rows : SameRows (tables_of r).write_log (map (log_row r) (kept_in_order r))
+  pub same_rows : SameRows (tables_of r).log (map (log_row r) (kept_in_order r))
   pub places : map (place_of r) (kept_in_order r) ≡ replay_on (board_after [] (dropped_in_order r)) (kept_in_order r)

@@ -1,24 +1,26 @@
 -- The laws of the definitions, as statements.
-use Rattle.std.specs.Prelude.{◌≡◌, ℕ, ◌+◌, ◌≤◌, ◌<◌, length, true, ◌↔◌, ◌⊎◌, List, [], ◌∷◌, ◌++◌, take, map, filter_map, Some, None, Ok, Err, IsTrue}
+use Rattle.std.specs.Prelude.{◌≡◌, ℕ, ◌+◌, ◌≤◌, ◌<◌, length, true, false, ◌↔◌, ◌⊎◌, List, [], ◌∷◌, ◌++◌, take, drop, map, filter, filter_map, flat_map, if◌then◌else◌, Option, Some, None, option_map, Ok, Err, IsTrue}
+use Rattle.std.specs.List.{AllByRecursion}
 use Rattle.mr_model.specs.Texts.{Text, lines_text, whole_lines}
 use Rattle.mr_model.specs.Calendar.{Date, is_date, next_date, number_of_day}
 use Rattle.mr_model.specs.Slots.{Slot, Overlap, overlaps}
-use Rattle.mr_model.specs.Writes.{Id, Write, is_server, is_write, same_write}
+use Rattle.mr_model.specs.Writes.{Id, Write, id_of, is_server, is_write, same_write}
 use Rattle.mr_model.specs.Refusals.{BadLine, NoSuchRequest, first_refusal}
-use Rattle.mr_model.specs.Replay.{Place, IsReplay, place_among, replay_among, replay}
+use Rattle.mr_model.specs.Replay.{Place, IsReplay, Booking, StandsBefore, place_among, replay_among, replay}
 use Rattle.mr_model.specs.Replica.{Replica, opening, count_of, committed_count, order_of, knows_room, IsReplica}
 use Rattle.mr_model.specs.Exchange.{Batch, is_batch, batch_lines, batch_text, ReadsAs, IsFirstBadLine, read_batch, lines_within, front_of}
 use Rattle.mr_model.specs.Positions.{Position, position_of, is_position, position_text, read_position}
-use Rattle.mr_model.specs.Replies.{Reply, OutcomeIs, Refused}
-use Rattle.mr_model.specs.View.{Question, of_room, view_of, whole_list, committed_list, entries, logging_of, told_of, outcome_reply, answer}
-use Rattle.mr_model.specs.Step.{Command, Ask, Submission, submit_faults, next_stamp, write_of, outcome_at, batch_of, step, IsStep, IsOfMachine, IsRun, BatchFor, batch_reply}
-use Rattle.mr_model.specs.Tables.{Tables, BookingRow, ErrorRow, booking_row, error_row, place_of, tables_of, Stands}
-use Rattle.mr_model.specs.Serving.{TakesStep, TakesRun, Answered, Serves, Reaches}
+use Rattle.mr_model.specs.Replies.{Entry, Reply, OutcomeIs, BatchIs, Refused}
+use Rattle.mr_model.specs.View.{View, Placed, Told, Question, of_room, view_of, placed_with, whole_places, committed_places, booked_told, whole_list, committed_list, place_of, entries, logging_of, told_of, outcome_reply, answer}
+use Rattle.mr_model.specs.Step.{Command, Ask, Submission, submit_faults, cancel_faults, next_stamp, write_of, outcome_at, cancel_write, step, IsStep, IsOfMachine, IsRun, BatchFor, batch_reply}
+use Rattle.mr_model.specs.Changes.{IsNext, WriteInserted, CommitMoved, SubmitChanges, after_commit, CommitChanges, TruncateChanges, AreInKeyOrder, HasRowsOfKnown, HaveSameRows, AreSameTables}
 use Rattle.mr_model.specs.Dropped.{Has, DifferInDropped}
-use Rattle.mr_model.specs.Board.{RoomBooking, after, bookings_in, place_on, booked_on, replay_on, board_replay, board_after, places_of_room}
+use Rattle.mr_model.specs.Tables.{Tables, BookingRow, ErrorRow, CancelledRow, CancelRow, PlaceRow, place_row, booking_row, error_row, cancel_row, tables_of, Stands}
+use Rattle.mr_model.specs.Serving.{TakesStep, TakesRun, Answered, Serves, Reaches}
 use Rattle.mr_model.specs.Kept.{KeptIsTheLog}
-use Rattle.mr_model.specs.Queries.{row_entry, row_logging, booking_id, error_id, booked_outcome, logged_outcome, AreInStartOrder, AreInLogOrder, AreBookingsOf, AreCommittedBookingsOf, AreErrorsOf}
-use Rattle.mr_model.specs.Changes.{AreInKeyOrder, HasRowsOfKnown, HaveSameRows, AreSameTables, IsNext, WriteInserted, CommitMoved, SubmitChanges, CommitChanges, TruncateChanges}
+use Rattle.mr_model.specs.Queries.{row_entry, booking_id, error_id, cancelled_id, cancel_id, booked_outcome, logged_outcome, cancelled_outcome, cancel_outcome, IsCancelOf, TellsOutcome, row_id, row_room, IsRowFor, IsRowIn, AreInStartOrder, AreBookingsOf, AreCommittedBookingsOf, LogLine, line_logging, AreInLogOrder, AreErrorsOf}
+use Rattle.mr_model.specs.First.{FirstTables, StandsFirst, HavePlaces, moved}
+use Rattle.mr_model.specs.Board.{RoomBooking, after, bookings_in, place_on, booked_on, replay_on, board_replay, board_after, places_of_room}
 
 -- two slots overlap exactly where the test says so
 abbrev pub OverlapIsTested : Type 0
@@ -31,6 +33,81 @@ OneReplay = (writes : List Write) (places : List Place) → IsReplay writes plac
 -- the places of a front of a list are a front of its places
 abbrev pub FrontsReplayToFronts : Type 0
 FrontsReplayToFronts = (n : ℕ) (writes : List Write) → replay (take n writes) ≡ take n (replay writes)
+
+-- with more writes behind them the committed ones have the places that they have by themselves
+abbrev pub CommittedPlacesStandAlone : Type 0
+CommittedPlacesStandAlone =
+    (v : View)
+    → whole_places v ≡ committed_places v ++ placed_with false v.tentative (drop (length v.committed) (replay (v.committed ++ v.tentative)))
+
+-- the bookings after some writes are those that stand before the end of their list
+abbrev pub StandingIsBooked : Type 0
+StandingIsBooked = (writes : List Write) (b : Booking) → Has b (after [] writes) ↔ StandsBefore writes (replay writes) (length writes) b
+
+-- and they are what is told of the writes as booked and not cancelled, in the same order
+abbrev pub StandingIsTold : Type 0
+StandingIsTold = (v : View) → flat_map booked_told (whole_list v) ≡ after [] (v.committed ++ v.tentative)
+
+-- of the committed list too
+abbrev pub StandingIsToldOfCommitted : Type 0
+StandingIsToldOfCommitted = (v : View) → flat_map booked_told (committed_list v) ≡ after [] v.committed
+
+-- the entry of a calendar shows this booking
+pub record Shows (e : Entry) (b : Booking) : Type 0 where
+  pub day : e.day ≡ b.slot.day
+  pub start : e.start ≡ b.slot.start
+  pub stop : e.stop ≡ b.slot.start + b.length
+  pub id : e.id ≡ b.id
+
+-- the calendar of these told writes shows just the bookings that stand at the end of this list
+pub record ShowsStanding (ts : List Told) (writes : List Write) : Type 0 where
+  pub shown : (e : Entry) → Has e (entries ts) → (b : Booking) × StandsBefore writes (replay writes) (length writes) b × Shows e b
+  pub all : (b : Booking) → StandsBefore writes (replay writes) (length writes) b → (e : Entry) × Has e (entries ts) × Shows e b
+
+-- the full calendar those at the end of the whole list, the committed one those at the end of the committed list
+abbrev pub CalendarsShowStanding : Type 0
+CalendarsShowStanding =
+    (v : View) → ShowsStanding (whole_list v) (v.committed ++ v.tentative) × ShowsStanding (committed_list v) v.committed
+
+-- each of them apart from all behind it
+abbrev pub AreApart : List Booking → Type 0
+AreApart [] = Unit {0}
+AreApart (b ∷ bs) = AllByRecursion (λ c. ¬ (Overlap b.slot b.length c.slot c.length)) bs × AreApart bs
+
+-- no two bookings that stand overlap
+abbrev pub StandingAreApart : Type 0
+StandingAreApart = (writes : List Write) → AreApart (after [] writes)
+
+-- told with the cancels that are committed alone
+abbrev pub of_committed : Option Placed → Option Placed
+of_committed None = None
+of_committed (Some c) = if c.is_committed then Some c else None
+
+abbrev pub as_committed : Told → Told
+as_committed t = record { write = t.write; is_committed = t.is_committed; place = t.place; cancelled_by = of_committed t.cancelled_by }
+
+-- the committed list is the committed part of the whole one, where a tentative cancel took nothing back
+abbrev pub CommittedListIsAPart : Type 0
+CommittedListIsAPart = (v : View) → committed_list v ≡ map as_committed (filter (λ t. t.is_committed) (whole_list v))
+
+-- a tentative booking is cancelled by a tentative cancel, if by any
+abbrev pub CancelsComeLater : Type 0
+CancelsComeLater =
+    (v : View) (t : Told) (c : Placed) → Has t (whole_list v) → t.is_committed ≡ false → t.cancelled_by ≡ Some c → c.is_committed ≡ false
+
+-- what became of a write, marks aside: its place, and the cancel that took it back
+pub record Fate : Type 0 where
+  pub write : Write
+  pub place : Place
+  pub cancelled_by : Option Id
+
+abbrev pub fate_of : Told → Fate
+fate_of t = record { write = t.write; place = t.place; cancelled_by = option_map (λ c. id_of c.write) t.cancelled_by }
+
+-- what becomes of writes follows from their order alone, whichever of them are committed
+abbrev pub FatesFollowTheOrder : Type 0
+FatesFollowTheOrder =
+    (u v : View) → u.committed ++ u.tentative ≡ v.committed ++ v.tentative → map fate_of (whole_list u) ≡ map fate_of (whole_list v)
 
 -- a reply about a room is the answer of the replica's view of it, unless memory or the store failed
 abbrev pub RepliesAreAnswers : Type 0
@@ -186,11 +263,7 @@ RoomsReplayApartOnBoards =
     → (places_of_room room writes (replay_on board writes) ≡ replay_among (bookings_in room board) (of_room room writes))
     × (bookings_in room (board_after board writes) ≡ after (bookings_in room board) (of_room room writes))
 
--- the places of a replica's writes are those that its order has on the board
-abbrev pub PlacesAreTheBoards : Type 0
-PlacesAreTheBoards = (r : Replica) → IsReplica r → map (place_of r) (order_of r) ≡ board_replay (order_of r)
-
--- one write more goes to its first free choice among the bookings of those before, which stay
+-- one write more goes where the bookings that stand after those before it say, whose places stay
 abbrev pub OneWriteMore : Type 0
 OneWriteMore = (writes : List Write) (w : Write) → replay (writes ++ w ∷ []) ≡ replay writes ++ place_among (after [] writes) w ∷ []
 
@@ -211,30 +284,6 @@ MoreOnTheBoard =
 abbrev pub FrontsOnTheBoard : Type 0
 FrontsOnTheBoard = (n : ℕ) (board : List RoomBooking) (writes : List Write) → replay_on board (take n writes) ≡ take n (replay_on board writes)
 
--- ---- changes
-
--- the next write of a replica becomes the last of its order, and moves no other
-abbrev pub SubmissionsComeLast : Type 0
-SubmissionsComeLast =
-    (r : Replica) (w : Write) → IsReplica r → IsTrue (is_write w) → w.stamp ≡ next_stamp r → knows_room r w.room ≡ true → SubmitChanges r w
-
--- the next write of a server comes among the tentative ones by its stamp
-abbrev pub WritesAreInserted : Type 0
-WritesAreInserted = (r : Replica) (w : Write) → IsReplica r → IsNext r w → WriteInserted r w
-
--- the next commit takes its write from the tentative ones to the end of the committed
-abbrev pub CommitsMoveOne : Type 0
-CommitsMoveOne =
-    (r : Replica) (id : Id) → IsReplica r → id.n ≡ committed_count r id.server + 1 → id.n ≤ count_of r id.server → CommitMoved r id
-
--- a commit of the first tentative writes moves none
-abbrev pub CommitsMoveNothing : Type 0
-CommitsMoveNothing = (r : Replica) (k : ℕ) → IsReplica r → CommitChanges r k
-
--- a truncation takes rows of log and undo away, and nothing else
-abbrev pub TruncationsTakeRows : Type 0
-TruncationsTakeRows = (r : Replica) (n : ℕ) → IsReplica r → TruncateChanges r n
-
 -- ---- positions and batches of a replica
 
 -- a position is read exactly of its own text
@@ -254,11 +303,11 @@ PositionTextsAsk =
     (r asker : Replica) (max_lines : ℕ) → IsReplica asker
     → (step r (BatchFor (position_text (position_of asker)) max_lines)).reply ≡ batch_reply r (position_of asker) max_lines
 
--- each batch that a replica makes, for any position, is within the limits, and read back
+-- each batch that a replica gives, for any position, is within the limits, and read back
 abbrev pub OwnBatchIsReadBack : Type 0
 OwnBatchIsReadBack =
-    (r : Replica) (p : Position) (max_lines : ℕ) → IsReplica r
-    → (is_batch (batch_of r p max_lines) ≡ true) × (read_batch (batch_text (batch_of r p max_lines)) ≡ Ok (batch_of r p max_lines))
+    (r : Replica) (p : Position) (max_lines : ℕ) (b : Batch) → IsReplica r → batch_reply r p max_lines ≡ BatchIs b
+    → (is_batch b ≡ true) × (read_batch (batch_text b) ≡ Ok b)
 
 -- ---- fronts of a batch's text
 
@@ -285,12 +334,15 @@ WholeLinesFit =
 
 -- ---- answers read off the rows
 
--- each known write has one row in booking or in errorlog, and not in both
+-- each known write has one row: a booking in booking, errorlog or cancelled, a cancel in cancels. It bears the write's id and room
 abbrev pub EachWriteHasOneRow : Type 0
 EachWriteHasOneRow =
     (r : Replica) (w : Write) → IsReplica r → Has w r.known
-    → ((row : BookingRow) × (booking_row r w ≡ Some row) × (error_row r w ≡ None))
-    ⊎ ((row : ErrorRow) × (error_row r w ≡ Some row) × (booking_row r w ≡ None))
+    → IsRowFor w.action (place_row r w) × (row_id (place_row r w) ≡ id_of w) × (row_room (place_row r w) ≡ w.room)
+
+-- the rows of these tables are those of the known writes, dropped ones too
+abbrev pub RowsAreOfKnown : Type 0
+RowsAreOfKnown = (r : Replica) (p : PlaceRow) → IsReplica r → IsRowIn (tables_of r) p ↔ ((w : Write) × Has w r.known × (place_row r w ≡ p))
 
 -- the full calendar of a room: its booking rows, by day and start
 abbrev pub CalendarsAreBookingRows : Type 0
@@ -298,17 +350,17 @@ CalendarsAreBookingRows =
     (r : Replica) (room : Text) (rows : List BookingRow) → IsReplica r → AreInStartOrder rows → AreBookingsOf r room rows
     → entries (whole_list (view_of r room)) ≡ map row_entry rows
 
--- the committed one: those of them that have the mark
+-- the committed one: those of them that have the mark, and the marked ones that a tentative cancel took back
 abbrev pub CommittedCalendarsAreMarkedRows : Type 0
 CommittedCalendarsAreMarkedRows =
     (r : Replica) (room : Text) (rows : List BookingRow) → IsReplica r → AreInStartOrder rows → AreCommittedBookingsOf r room rows
     → entries (committed_list (view_of r room)) ≡ map row_entry rows
 
--- the error log of a room: its error rows, in their order
+-- the error log of a room: its error rows and its void cancels, in their order
 abbrev pub ErrorLogsAreErrorRows : Type 0
 ErrorLogsAreErrorRows =
-    (r : Replica) (room : Text) (rows : List ErrorRow) → IsReplica r → AreInLogOrder rows → AreErrorsOf r room rows
-    → filter_map logging_of (whole_list (view_of r room)) ≡ map row_logging rows
+    (r : Replica) (room : Text) (ls : List LogLine) → IsReplica r → AreInLogOrder ls → AreErrorsOf r room ls
+    → filter_map logging_of (whole_list (view_of r room)) ≡ map line_logging ls
 
 -- an outcome: the row of the id, if one of this room has it
 abbrev pub OutcomesOfBookedAreRows : Type 0
@@ -321,22 +373,91 @@ OutcomesOfLoggedAreRows =
     (r : Replica) (room : Text) (row : ErrorRow) → IsReplica r → Has row (tables_of r).errorlog → row.room ≡ room
     → outcome_reply (told_of (error_id row) (whole_list (view_of r room))) ≡ OutcomeIs (logged_outcome row)
 
+-- that of a cancelled booking: with the row of its cancel, which there is
+abbrev pub OutcomesOfCancelledAreRows : Type 0
+OutcomesOfCancelledAreRows =
+    (r : Replica) (room : Text) (row : CancelledRow) → IsReplica r → Has row (tables_of r).cancelled → row.room ≡ room
+    → ((c : CancelRow) × IsCancelOf (tables_of r) row c)
+    × ((c : CancelRow) → Has c (tables_of r).cancels → cancel_id c ≡ row.by
+    → outcome_reply (told_of (cancelled_id row) (whole_list (view_of r room))) ≡ OutcomeIs (cancelled_outcome row c))
+
+abbrev pub OutcomesOfCancelsAreRows : Type 0
+OutcomesOfCancelsAreRows =
+    (r : Replica) (room : Text) (row : CancelRow) → IsReplica r → Has row (tables_of r).cancels → row.room ≡ room
+    → outcome_reply (told_of (cancel_id row) (whole_list (view_of r room))) ≡ OutcomeIs (cancel_outcome row)
+
 abbrev pub NoRowNoSuchRequest : Type 0
 NoRowNoSuchRequest =
     (r : Replica) (room : Text) (id : Id) → IsReplica r
     → ((row : BookingRow) → Has row (tables_of r).booking → row.room ≡ room → ¬ (booking_id row ≡ id))
     → ((row : ErrorRow) → Has row (tables_of r).errorlog → row.room ≡ room → ¬ (error_id row ≡ id))
+    → ((row : CancelledRow) → Has row (tables_of r).cancelled → row.room ≡ room → ¬ (cancelled_id row ≡ id))
+    → ((row : CancelRow) → Has row (tables_of r).cancels → row.room ≡ room → ¬ (cancel_id row ≡ id))
     → outcome_reply (told_of id (whole_list (view_of r room))) ≡ Refused NoSuchRequest
 
--- the reply to a submission is told by the row of its write
+-- what the row of a write tells is its outcome, and the reply to its submission or to the cancel
+abbrev pub OutcomesAreRows : Type 0
+OutcomesAreRows =
+    (r : Replica) (w : Write) → IsReplica r → Has w r.known → TellsOutcome (tables_of r) (place_row r w) (outcome_at r w)
+
 abbrev pub RepliesToSubmissionsAreRows : Type 0
 RepliesToSubmissionsAreRows =
     (r : Replica) (w : Write) → IsReplica r → Has w r.known
     → ((row : BookingRow) → booking_row r w ≡ Some row → outcome_at r w ≡ OutcomeIs (booked_outcome row))
     × ((row : ErrorRow) → error_row r w ≡ Some row → outcome_at r w ≡ OutcomeIs (logged_outcome row))
+    × ((row : CancelRow) → cancel_row r w ≡ Some row → outcome_at r w ≡ OutcomeIs (cancel_outcome row))
 
--- a submission that nothing refuses makes the next write of the replica, of a room that it knows
+-- ---- moving up
+
+-- where first tables stand for a replica, what they move to stands for it
+abbrev pub MovedTablesStand : Type 0
+MovedTablesStand = (t : FirstTables) (r : Replica) → StandsFirst t r → Stands (moved t) r
+
+-- and the log has a row for each row of write_log
+abbrev pub FirstTablesHavePlaces : Type 0
+FirstTablesHavePlaces = (t : FirstTables) (r : Replica) → StandsFirst t r → HavePlaces t.write_log t.undo
+
+-- ---- what commands change of the order, the places and the fates
+
+-- the places of a replica's writes are those that its order has on the board
+abbrev pub PlacesAreTheBoards : Type 0
+PlacesAreTheBoards = (r : Replica) → IsReplica r → map (place_of r) (order_of r) ≡ board_replay (order_of r)
+
+-- a submission or a cancel that nothing refuses makes the next write of the replica, of a room that it knows
 abbrev pub AcceptedSubmissionsAreNext : Type 0
 AcceptedSubmissionsAreNext =
     (r : Replica) (s : Submission) → IsReplica r → first_refusal (submit_faults r s) ≡ None
     → IsTrue (is_write (write_of r s)) × ((write_of r s).stamp ≡ next_stamp r) × (knows_room r s.room ≡ true)
+
+abbrev pub AcceptedCancelsAreNext : Type 0
+AcceptedCancelsAreNext =
+    (r : Replica) (room id : Text) → IsReplica r → first_refusal (cancel_faults r room id) ≡ None
+    → IsTrue (is_write (cancel_write r room id)) × ((cancel_write r room id).stamp ≡ next_stamp r) × (knows_room r room ≡ true)
+
+-- the next write of a replica, of either kind, becomes the last of its order, and moves no other
+abbrev pub SubmissionsComeLast : Type 0
+SubmissionsComeLast =
+    (r : Replica) (w : Write) → IsReplica r → IsTrue (is_write w) → w.stamp ≡ next_stamp r → knows_room r w.room ≡ true → SubmitChanges r w
+
+-- the next write of a server comes among the tentative ones by its stamp
+abbrev pub WritesAreInserted : Type 0
+WritesAreInserted = (r : Replica) (w : Write) → IsReplica r → IsNext r w → WriteInserted r w
+
+-- the next commit takes its write from the tentative ones to the end of the committed
+abbrev pub CommitsMoveOne : Type 0
+CommitsMoveOne =
+    (r : Replica) (id : Id) → IsReplica r → id.n ≡ committed_count r id.server + 1 → id.n ≤ count_of r id.server → CommitMoved r id
+
+-- a commit of the first tentative writes moves none
+abbrev pub CommitsMoveNothing : Type 0
+CommitsMoveNothing = (r : Replica) (k : ℕ) → IsReplica r → CommitChanges r k
+
+-- and what was cancelled by a cancel stays cancelled by it, whichever of the two are committed
+abbrev pub CommitsChangeNoFate : Type 0
+CommitsChangeNoFate =
+    (r : Replica) (k : ℕ) (room : Text) → IsReplica r
+    → map fate_of (whole_list (view_of (after_commit r k) room)) ≡ map fate_of (whole_list (view_of r room))
+
+-- a truncation takes rows of the log away, and nothing else
+abbrev pub TruncationsTakeRows : Type 0
+TruncationsTakeRows = (r : Replica) (n : ℕ) → IsReplica r → TruncateChanges r n

@@ -8,8 +8,8 @@ use Rattle.mr_model.specs.Board.{after}
 use Rattle.mr_model.specs.Replica.{Replica, committed, tentative, order_of, is_dropped, IsReplica}
 use Rattle.mr_model.specs.Exchange.{Item, is_item}
 use Rattle.mr_model.specs.Taking.{Progress, take_items}
-use Rattle.mr_model.specs.View.{of_room}
-use Rattle.mr_model.specs.Tables.{seq_of, place_of, tables_of}
+use Rattle.mr_model.specs.View.{of_room, place_of}
+use Rattle.mr_model.specs.Tables.{seq_of, place_row, tables_of}
 use Rattle.mr_model.specs.Dropped.{Has}
 use Rattle.mr_model.specs.Scopes.{is_late, is_touched}
 
@@ -40,6 +40,8 @@ pub record BatchMoves (a b : Replica) (items : List Item) : Type 0 where
   pub moved : (w : Write) → Has w (again a items news b) → Has w b.known × (is_dropped b (id_of w) ≡ Bool.false)
   -- all else has the place and the commit number that it had
   pub others : (w : Write) → Has w b.known → Has w (again a items news b) ⊎ (Has w a.known × (place_of a w ≡ place_of b w) × (seq_of a w ≡ seq_of b w))
+  -- in rooms that are not touched nothing changes at all
+  pub untouched : (w : Write) → Has w b.known → is_touched (tables_of a) items w.room ≡ Bool.false → Has w a.known × (place_row a w ≡ place_row b w)
   pub rooms : (room : Text) → RoomMoves a b (filter (may_move a items) (tentative a)) (again a items news b) room
 
 -- what a batch that is taken leads to

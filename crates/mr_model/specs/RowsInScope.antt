@@ -1,15 +1,17 @@
 -- What the rows in scope tell of a replica.
-use Rattle.std.specs.Prelude.{◌≡◌, ℕ, ◌-◌, ◌≤◌, Bool, true, ◌↔◌, List, [], ◌++◌, take, drop, map, filter, filter_map}
-use Rattle.mr_model.specs.Writes.{Id, Write}
-use Rattle.mr_model.specs.Replay.{Booking, place_among}
+use Rattle.std.specs.Prelude.{◌≡◌, ℕ, ◌-◌, ◌≤◌, Bool, true, ◌↔◌, List, [], ◌++◌, take, drop, map, filter, filter_map, Some}
+use Rattle.mr_model.specs.Texts.{Text}
+use Rattle.mr_model.specs.Writes.{Id, Cancels, Write}
+use Rattle.mr_model.specs.Replay.{Done, Booking, place_among}
 use Rattle.mr_model.specs.Board.{place_on, board_after}
 use Rattle.mr_model.specs.Replica.{Replica, count_of, is_dropped, write_with, tentative, order_of, IsReplica}
-use Rattle.mr_model.specs.Tables.{LogRow, UndoRow, BookingRow, log_row, undo_row, tables_of}
+use Rattle.mr_model.specs.Step.{knows_booking}
+use Rattle.mr_model.specs.Tables.{LogRow, BookingRow, ErrorRow, CancelledRow, Tables, log_row, cancelled_row, tables_of}
 use Rattle.mr_model.specs.Dropped.{Has}
 use Rattle.mr_model.specs.Kept.{kept_in_order, AreInRunOrder}
 use Rattle.mr_model.specs.Queries.{AreBookingsOf}
 use Rattle.mr_model.specs.Changes.{SameRows, first_tentative}
-use Rattle.mr_model.specs.Scopes.{NextCommits, UpTo, Above, log_row_id, in_scope}
+use Rattle.mr_model.specs.Scopes.{OfTarget, NextCommits, UpTo, Above, log_row_id, in_scope}
 
 -- the committed writes that are kept
 abbrev pub kept_commits : Replica → List Write
@@ -17,13 +19,14 @@ kept_commits r = filter_map (write_with r) (drop r.dropped r.commits)
 
 -- the bookings that rows tell
 abbrev pub told_booking : BookingRow → Booking
-told_booking row = record { slot = record { day = row.day; start = row.start }; length = row.stop - row.start }
+told_booking row =
+    record { id = record { server = row.server; n = row.n }; slot = record { day = row.day; start = row.start }; length = row.stop - row.start }
 
--- Picking rows of write_log by a test is picking kept writes by it: sorted into the order of execution they are these.
+-- Picking rows of the log by a test is picking kept writes by it: sorted into the order of execution they are these.
 abbrev pub PickedRowsAreKept : Type 0
 PickedRowsAreKept =
     (r : Replica) (test : LogRow → Bool) → IsReplica r
-    → SameRows (filter test (tables_of r).write_log) (map (log_row r) (filter (λ w. test (log_row r w)) (kept_in_order r)))
+    → SameRows (filter test (tables_of r).log) (map (log_row r) (filter (λ w. test (log_row r w)) (kept_in_order r)))
     × AreInRunOrder (map (log_row r) (filter (λ w. test (log_row r w)) (kept_in_order r)))
 
 -- a submission: the bookings of the room tell where the next write goes, in whatever order they come
@@ -32,27 +35,46 @@ RoomRowsTellPlaces =
     (r : Replica) (w : Write) (rows : List BookingRow) → IsReplica r → AreBookingsOf r w.room rows
     → place_on (board_after [] (order_of r)) w ≡ place_among (map told_booking rows) w
 
+-- a cancel: the booking row under its target's id, if the cancel's room has it, is what it takes back
+abbrev pub TargetRowTellsPlace : Type 0
+TargetRowTellsPlace =
+    (r : Replica) (w : Write) (target : Id) → IsReplica r → w.action ≡ Cancels target
+    → (place_on (board_after [] (order_of r)) w ≡ Done)
+    ↔ ((row : BookingRow) × Has row (in_scope (OfTarget target) (tables_of r)).booking × (row.room ≡ w.room))
+
+-- one of these rows is of the room
+pub data HasRowOfRoom (t : Tables) (room : Text) : Type 0 where
+  booked : (row : BookingRow) → Has row t.booking → row.room ≡ room → HasRowOfRoom t room
+  logged : (row : ErrorRow) → Has row t.errorlog → row.room ≡ room → HasRowOfRoom t room
+  cancelled : (row : CancelledRow) → Has row t.cancelled → row.room ≡ room → HasRowOfRoom t room
+
+-- and the rows under that id tell whether such a booking of the room is known
+abbrev pub TargetRowsTellKnown : Type 0
+TargetRowsTellKnown =
+    (r : Replica) (room : Text) (target : Id) → IsReplica r
+    → (knows_booking r room target ≡ true) ↔ HasRowOfRoom (in_scope (OfTarget target) (tables_of r)) room
+
 -- a commit: the rows in scope are those of the first tentative writes
 abbrev pub NextCommitsAreInScope : Type 0
 NextCommitsAreInScope =
     (r : Replica) (k : ℕ) → IsReplica r
-    → ((in_scope (NextCommits k) (tables_of r)).write_log ≡ map (log_row r) (first_tentative r k))
-    × ((u : UndoRow) → Has u (in_scope (NextCommits k) (tables_of r)).undo ↔ ((w : Write) × Has w (first_tentative r k) × (u ≡ undo_row r w)))
+    → ((in_scope (NextCommits k) (tables_of r)).log ≡ map (log_row r) (first_tentative r k))
+    × ((row : CancelledRow) → Has row (in_scope (NextCommits k) (tables_of r)).cancelled ↔ ((w : Write) × Has w (first_tentative r k) × (cancelled_row r w ≡ Some row)))
 
 -- a truncation: those of the first kept commits
 abbrev pub TruncatedAreInScope : Type 0
 TruncatedAreInScope =
     (r : Replica) (d : ℕ) → IsReplica r
-    → SameRows (in_scope (UpTo d) (tables_of r)).write_log (map (log_row r) (take (d - r.dropped) (kept_commits r)))
+    → SameRows (in_scope (UpTo d) (tables_of r)).log (map (log_row r) (take (d - r.dropped) (kept_commits r)))
 
 -- a batch for a position: those of the kept commits above it, and of all tentative writes
 abbrev pub LackedAreInScope : Type 0
 LackedAreInScope =
     (r : Replica) (commits : ℕ) → IsReplica r → r.dropped ≤ commits
-    → SameRows (in_scope (Above commits) (tables_of r)).write_log (map (log_row r) (drop (commits - r.dropped) (kept_commits r) ++ tentative r))
+    → SameRows (in_scope (Above commits) (tables_of r)).log (map (log_row r) (drop (commits - r.dropped) (kept_commits r) ++ tentative r))
 
 -- an id that is counted and has no row is that of a dropped write
 abbrev pub MissingIsDropped : Type 0
 MissingIsDropped =
     (r : Replica) (id : Id) → IsReplica r → 1 ≤ id.n → id.n ≤ count_of r id.server
-    → (is_dropped r id ≡ true) ↔ ((row : LogRow) → Has row (tables_of r).write_log → ¬ (log_row_id row ≡ id))
+    → (is_dropped r id ≡ true) ↔ ((row : LogRow) → Has row (tables_of r).log → ¬ (log_row_id row ≡ id))

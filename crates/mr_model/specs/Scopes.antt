@@ -5,12 +5,14 @@ use Rattle.mr_model.specs.Texts.{Text, within}
 use Rattle.mr_model.specs.Writes.{Id, id_of, same_id}
 use Rattle.mr_model.specs.Replica.{is_among}
 use Rattle.mr_model.specs.Exchange.{Item, W, C}
-use Rattle.mr_model.specs.Tables.{LogRow, UndoRow, BookingRow, Tables}
+use Rattle.mr_model.specs.Tables.{LogRow, BookingRow, ErrorRow, CancelledRow, Tables}
+use Rattle.mr_model.specs.Queries.{booking_id, error_id, cancelled_id}
 
 -- what a command needs: one case for each kind of them
 pub data Scope : Type 0 where
   Nothing : Scope  -- a room more; the position
   InRoom : (room : Text) → Scope  -- a submission for the room
+  OfTarget : (target : Id) → Scope  -- a cancel of what has this id
   NextCommits : (count : ℕ) → Scope  -- a commit of so many
   UpTo : (number : ℕ) → Scope  -- a truncation to this commit number
   Above : (commits : ℕ) → Scope  -- a batch for a position with so many commits
@@ -20,9 +22,6 @@ pub data Scope : Type 0 where
 
 abbrev pub log_row_id : LogRow → Id
 log_row_id row = record { server = row.server; n = row.n }
-
-abbrev pub undo_row_id : UndoRow → Id
-undo_row_id row = record { server = row.server; n = row.n }
 
 abbrev pub is_tentative : LogRow → Bool
 is_tentative row = row.seq == 0
@@ -82,35 +81,49 @@ rooms_of_item commits rows (C seq id) =
     if nat_lt commits seq then map (λ row. row.room) (filter (λ row. same_id (log_row_id row) id) rows) else []
 
 abbrev pub touched_rooms : Tables → List Item → List Text
-touched_rooms t items = flat_map (rooms_of_item t.meta.commits t.write_log) items
+touched_rooms t items = flat_map (rooms_of_item t.meta.commits t.log) items
 
 abbrev pub is_touched : Tables → List Item → Text → Bool
 is_touched t items room = list_any (bytes_eq room) (touched_rooms t items)
 
 -- ---- the tables with the rows in scope alone
 
--- these rows of write_log with their rows of undo, and these bookings
-abbrev pub with_logs : Tables → List LogRow → List BookingRow → Tables
-with_logs t logs bookings =
+-- these rows of the log, and these of bookings, of logged ones and of cancelled ones
+abbrev pub with_rows : Tables → List LogRow → List BookingRow → List ErrorRow → List CancelledRow → Tables
+with_rows t logs bookings errors cancelled =
     record t {
-      write_log = logs;
-      undo = filter (λ u. is_among (undo_row_id u) (map log_row_id logs)) t.undo;
+      log = logs;
       booking = bookings;
-      errorlog = [];
+      errorlog = errors;
+      cancelled = cancelled;
+      cancels = [];
     }
 
-abbrev pub in_scope : Scope → Tables → Tables
-in_scope Nothing t = with_logs t [] []
-in_scope (InRoom room) t = with_logs t [] (filter (λ b. bytes_eq b.room room) t.booking)
-in_scope (NextCommits k) t = with_logs t (take k (by_stamp (filter is_tentative t.write_log))) []
-in_scope (UpTo d) t = with_logs t (filter (λ row. within 1 d row.seq) t.write_log) []
-in_scope (Above commits) t =
-    record (with_logs t [] []) { write_log = filter (λ row. is_tentative row || nat_lt commits row.seq) t.write_log }
-in_scope (OfItems items) t =
-    with_logs t
-    (filter (λ row. is_named items row || (is_in_tail t.meta.commits items row && is_touched t items row.room)) t.write_log)
-    (filter (λ b. is_touched t items b.room) t.booking)
+abbrev pub next_commits : ℕ → Tables → List LogRow
+next_commits k t = take k (by_stamp (filter is_tentative t.log))
 
--- how many rows these are
+abbrev pub in_scope : Scope → Tables → Tables
+in_scope Nothing t = with_rows t [] [] [] []
+in_scope (InRoom room) t =
+    with_rows t []
+    (filter (λ b. bytes_eq b.room room) t.booking) []
+    (filter (λ c. bytes_eq c.room room) t.cancelled)
+in_scope (OfTarget target) t =
+    with_rows t []
+    (filter (λ b. same_id (booking_id b) target) t.booking)
+    (filter (λ e. same_id (error_id e) target) t.errorlog)
+    (filter (λ c. same_id (cancelled_id c) target) t.cancelled)
+in_scope (NextCommits k) t =
+    with_rows t (next_commits k t) [] []
+    (filter (λ c. is_among (cancelled_id c) (map log_row_id (next_commits k t))) t.cancelled)
+in_scope (UpTo d) t = with_rows t (filter (λ row. within 1 d row.seq) t.log) [] [] []
+in_scope (Above commits) t = with_rows t (filter (λ row. is_tentative row || nat_lt commits row.seq) t.log) [] [] []
+in_scope (OfItems items) t =
+    with_rows t
+    (filter (λ row. is_named items row || (is_in_tail t.meta.commits items row && is_touched t items row.room)) t.log)
+    (filter (λ b. is_touched t items b.room) t.booking) []
+    (filter (λ c. is_touched t items c.room) t.cancelled)
+
+-- how many rows these are; those of cancels are not counted
 abbrev pub counted_rows : Tables → ℕ
-counted_rows t = length t.write_log + length t.undo + length t.booking + length t.errorlog
+counted_rows t = length t.log + length t.booking + length t.errorlog + length t.cancelled

@@ -4,12 +4,15 @@
 //! on the plain records of numbers, texts and lists that stand here for their types. Below it stands nothing but std.
 //!
 //! The definitions are in specs/, to be read in this order:
-//! - Texts, Calendar, Slots, Writes, Requests, Refusals: words and lines, days and times, what overlaps, what a write is;
-//! - Replay: where the writes of a room go, as a relation and as a function; Board: the same for all rooms at once;
+//! - Texts, Calendar, Slots, Writes, Requests, Refusals: words and lines, days and times, what overlaps, what a write is: a booking
+//!   or a cancel;
+//! - Replay: where the writes of a room go and which bookings stand, as a relation and as a function; Board: the same for all
+//!   rooms at once;
 //! - Replica: what a replica knows, its order of execution, and what holds of each;
 //! - Exchange, Positions: batches and positions, their texts, and what is read of a text; Taking: what each line of a batch does;
 //! - Replies, View, Step: replies and their bytes, answers about a room, and each command's step;
-//! - Tables, Serving: the rows that stand for a replica, and what commands do to them;
+//! - Tables, Serving: the rows that stand for a replica, and what commands do to them; First: the tables of the first schema, and
+//!   how they move up;
 //! - Scopes: the rows of the tables that a command needs; RowsInScope, RowsRead, Moving: what these tell, and what a batch moves;
 //! - World, Honest: replicas that exchange batches, and what holds of such worlds; Http: requests served over HTTP.
 //!

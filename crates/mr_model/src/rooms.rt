@@ -3,7 +3,9 @@
 ghost use Rattle.mr_model.specs.Laws.{OverlapIsTested};
 ghost use Rattle.mr_model.specs.Laws.{DaysAreNumbered};
 ghost use Rattle.mr_model.specs.Laws.{SameWriteIsTested};
-ghost use Rattle.mr_model.specs.Laws.{OneReplay, FrontsReplayToFronts};
+ghost use Rattle.mr_model.specs.Laws.{OneReplay, FrontsReplayToFronts, CommittedPlacesStandAlone};
+ghost use Rattle.mr_model.specs.Laws.{StandingIsBooked, StandingIsTold, StandingIsToldOfCommitted, StandingAreApart};
+ghost use Rattle.mr_model.specs.Laws.{CalendarsShowStanding, CommittedListIsAPart, CancelsComeLater, FatesFollowTheOrder};
 ghost use Rattle.mr_model.specs.Laws.{RoomsReplayApart, RoomsAreBookedApart, RoomsReplayApartOnBoards, PlacesAreTheBoards};
 ghost use Rattle.mr_model.specs.Laws.{OneWriteMore, OneMoreOnTheBoard, MoreOnTheBoard, FrontsOnTheBoard};
 
@@ -22,10 +24,27 @@ pub fn same_write_is_tested()
     ensures { SameWriteIsTested }
 {}
 
-/// A list of writes has one replay, and a front of it a front of that.
+/// A list of writes has one replay, and a front of it a front of that; so committed writes have the places of their own replay.
 pub fn replay_law()
     ensures one { OneReplay }
     ensures fronts { FrontsReplayToFronts }
+    ensures committed { CommittedPlacesStandAlone }
+{}
+
+/// The bookings that stand at the end of a list are what is told of it as booked and not cancelled.
+pub fn standing_law()
+    ensures booked { StandingIsBooked }
+    ensures told { StandingIsTold }
+    ensures told_of_committed { StandingIsToldOfCommitted }
+    ensures apart { StandingAreApart }
+{}
+
+/// Calendars show just the bookings that stand; and what becomes of writes follows from their order alone.
+pub fn telling_law()
+    ensures calendars { CalendarsShowStanding }
+    ensures committed { CommittedListIsAPart }
+    ensures later { CancelsComeLater }
+    ensures fates { FatesFollowTheOrder }
 {}
 
 /// On a board of all rooms each room's part is its own replay, and a replica's places are those of its order.

@@ -2,7 +2,7 @@
 
 ghost use Rattle.mr_model.specs.Moving.{BatchesMoveTouchedRooms};
 ghost use Rattle.mr_model.specs.RowsRead.{ReadRowsSuffice};
-ghost use Rattle.mr_model.specs.RowsInScope.{PickedRowsAreKept, RoomRowsTellPlaces, NextCommitsAreInScope, TruncatedAreInScope, LackedAreInScope, MissingIsDropped};
+ghost use Rattle.mr_model.specs.RowsInScope.{PickedRowsAreKept, RoomRowsTellPlaces, TargetRowTellsPlace, TargetRowsTellKnown, NextCommitsAreInScope, TruncatedAreInScope, LackedAreInScope, MissingIsDropped};
 
 /// A batch that is taken moves nothing but writes of the rooms that it touches, from its first place on.
 pub fn moving_law()
@@ -13,6 +13,8 @@ pub fn moving_law()
 pub fn scope_law()
     ensures picked { PickedRowsAreKept }
     ensures submission { RoomRowsTellPlaces }
+    ensures cancel { TargetRowTellsPlace }
+    ensures target { TargetRowsTellKnown }
     ensures commit { NextCommitsAreInScope }
     ensures truncation { TruncatedAreInScope }
     ensures batch { LackedAreInScope }

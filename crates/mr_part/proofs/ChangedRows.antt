@@ -1,4 +1,4 @@
--- Of the writes that a batch executes anew, those that get other rows: how they are picked.
+-- Of the writes that a batch executes anew, those that get other rows in the log: how they are picked.
 use Rattle.std.proofs.Common.{◌≡◌, ℕ, zero, suc, ◌+◌, ◌<◌, ◌≤◌, ◌||◌, ltb, Bool, true, false, not, cond, List, [], ◌∷◌, ◌++◌, length, get_or, take, drop, map, Some, refl, sym, ap, ◌∙◌, append_assoc, append-nil, arith, eqb-true}
 use Rattle.std.specs.List.{filter}
 use Rattle.std.specs.BTreeMap.{Updates}
@@ -6,7 +6,7 @@ use Rattle.std.proofs.lemmas.Bool.{true≢false}
 use Rattle.std.proofs.lemmas.Bool.Decides.{nat_tests}
 use Rattle.std.proofs.lemmas.List.{take-append-le, drop-append-le, drop_more, take_more, get_or-map, length-take-le, map-append, length-append}
 use Rattle.std.proofs.lemmas.List.Elements.{filter-append}
-use Rattle.mr_model.specs.Replay.{Place, Taken, Logged}
+use Rattle.mr_model.specs.Replay.{Place, Taken, Logged, Done, Void}
 use Rattle.mr_model.specs.Writes.{Write}
 use Rattle.mr_base.specs.Ids.{id_cmp}
 use Rattle.mr_replay.specs.Places.{UndoRow}
@@ -17,8 +17,20 @@ use Rattle.mr_replica.specs.Logged.{undo_with}
 pub same_place-true : (p q : Place) → same_place p q ≡ true → p ≡ q
 same_place-true (Taken j) (Taken k) e = ap Taken (eqb-true j k e)
 same_place-true (Taken j) Logged e = absurd (true≢false (sym e))
+same_place-true (Taken j) Done e = absurd (true≢false (sym e))
+same_place-true (Taken j) Void e = absurd (true≢false (sym e))
 same_place-true Logged (Taken k) e = absurd (true≢false (sym e))
 same_place-true Logged Logged e = refl
+same_place-true Logged Done e = absurd (true≢false (sym e))
+same_place-true Logged Void e = absurd (true≢false (sym e))
+same_place-true Done (Taken k) e = absurd (true≢false (sym e))
+same_place-true Done Logged e = absurd (true≢false (sym e))
+same_place-true Done Done e = refl
+same_place-true Done Void e = absurd (true≢false (sym e))
+same_place-true Void (Taken k) e = absurd (true≢false (sym e))
+same_place-true Void Logged e = absurd (true≢false (sym e))
+same_place-true Void Done e = absurd (true≢false (sym e))
+same_place-true Void Void e = refl
 
 -- ---- by ids
 

@@ -79,7 +79,7 @@ part_items a p s kept sound low is kept_is =
 -- ---- a room more
 
 pub part_room : (a : Replica) (t : Text) (p : PartView) (result : Result ChangeView Refusal) → IsReplica a → p ≡ part_of Nothing a → IsTrue (is_room_name t) → knows_room a t ≡ false
-    → IfOk result (λ change. change ≡ written (meta_of p.summary) (t ∷ []) [] p.summary.commits 1 [] []) → IfErr result (λ e. e ≡ OutOfMemory)
+    → IfOk result (λ change. change ≡ written (meta_of p.summary) (t ∷ []) [] p.summary.commits 1 [] [] []) → IfErr result (λ e. e ≡ OutOfMemory)
     → ((reply_with (λ change. RoomAdded) result ≡ (add_room a t).reply) × IfOk result (λ change. changed change (tables_of a) ≡ tables_of (add_room a t).replica)) ⊎ (result ≡ Err OutOfMemory)
 part_room a t p (Ok change) sound e name unknown change_is only =
     let step = room_added a t name unknown in
@@ -95,7 +95,7 @@ part_room a t p (Err refusal) sound e name unknown change_is only = inr (ap Err 
 
 -- a desk with these numbers and nothing else
 abbrev pub desk_by : Summary → DeskView
-desk_by s = desk_with s [] (record { kept = []; undo = []; board = [] }) []
+desk_by s = desk_with s [] (record { kept = []; undo = []; board = [] }) [] []
 
 -- the limits of these numbers are those of its position
 pub within_by : (s : Summary) → IsWithin s → IsWithinLimits (desk_by s)

@@ -1,57 +1,84 @@
--- What a batch writes into the tables of a replica, told from the part with its rows in scope, makes those of the replica after it.
-use Rattle.std.proofs.Common.{◌≡◌, refl, sym, ap, ◌∙◌, subst, ℕ, ◌+◌, ◌-◌, ◌<◌, false, not, List, ◌++◌, length, map, ◌⊎◌, inl, inr, Some, arith, length-append, Bool, true, None, Option}
-use Rattle.std.proofs.lemmas.Bool.{true≢false}
+-- What a batch writes into the tables of a replica, told from the part with its rows in scope.
+use Rattle.std.proofs.Common.{◌≡◌, refl, sym, ap, ◌∙◌, subst, ℕ, ◌+◌, ◌-◌, ◌<◌, Bool, true, false, not, List, [], ◌++◌, length, map, arith, length-append, Option, Some, None}
+use Rattle.std.proofs.lemmas.Bool.{true≢false, and_parts}
 use Rattle.std.proofs.lemmas.List.Filters.{length-filter_both}
 use Rattle.std.specs.List.{filter}
 use Rattle.mr_model.specs.Texts.{Text}
 use Rattle.mr_model.specs.Writes.{Write, id_of, same_id}
 use Rattle.mr_model.specs.Replica.{Replica, IsReplica, tentative}
 use Rattle.mr_model.specs.Exchange.{Item}
-use Rattle.mr_model.specs.Tables.{seq_of, place_of, tables_of}
+use Rattle.mr_model.specs.View.{place_of}
+use Rattle.mr_model.specs.Tables.{seq_of, tables_of}
 use Rattle.mr_model.specs.Dropped.{Has}
-use Rattle.mr_model.specs.Scopes.{is_touched}
+use Rattle.mr_model.specs.Scopes.{is_late, is_touched}
 use Rattle.mr_model.specs.Moving.{may_move, again, BatchMoves}
 use Rattle.mr_model.proofs.KnownById.{one_known, tentative_known}
-use Rattle.mr_model.proofs.Members.{has_left, has_right, has_filter, filter_has, map_has, has_among, has_split, find_has, same_id-true}
+use Rattle.mr_model.proofs.Members.{has_right, filter_has, map_has, find_has, has_among, same_id-true}
 use Rattle.mr_model.proofs.RowsById.{seq_not}
 use Rattle.mr_replay.specs.Places.{UndoRow}
-use Rattle.mr_replay.specs.Rows.{Rows, undone_all, undo_rows_of}
-use Rattle.mr_replay.specs.Bookings.{HasBookings}
-use Rattle.mr_replay.proofs.RoomBookings.{in_order-undone_all}
+use Rattle.mr_replay.specs.Rows.{Rows, executed_all, undone_all, undo_rows_of}
+use Rattle.mr_replay.specs.Holds.{if_of}
+use Rattle.mr_replay.specs.Bookings.{if_taken}
 use Rattle.mr_tables.specs.declared.summary.Summary.{Summary}
 use Rattle.mr_tables.specs.Change.{ChangeView, changed}
 use Rattle.mr_tables.specs.Rooms.{rooms_beside}
 use Rattle.mr_tables.specs.Written.{meta_of, changed_tallies, written}
-use Rattle.mr_part.specs.PartMoves.{MovesPart}
-use Rattle.mr_replica.proofs.Moving.{Moves, moves}
-use Rattle.mr_replica.proofs.Writing.{tallies_move, written_given, undo_rows_are}
-use Rattle.mr_replica.proofs.Changing.{vector_between}
-use Rattle.mr_replica.proofs.ReceivedRows.{rooms_complete}
-use Rattle.mr_replica.proofs.RoomBoards.{bookings_undone, places_executed}
-use Rattle.mr_part.proofs.PartBoards.{board_in, board_in_ordered, has_bookings}
+use Rattle.mr_replica.specs.ChangeLaws.{vector_between}
 use Rattle.mr_part.specs.Changed.{is_elsewhere, row_at, tells, same_place, picked}
+use Rattle.mr_part.specs.PartMoves.{MovesPart}
 use Rattle.mr_replica.specs.Logged.{undo_with}
+use Rattle.mr_replica.specs.Placing.{with_places_put, RowEnds, cancellers_on}
+use Rattle.mr_replica.specs.Targets.{aimed_at, moved_targets}
+use Rattle.mr_replica.proofs.BatchBoards.{moving, undone_rows, board_left, board_anew, ShowsAnew, replayed, undo_rows_are}
+use Rattle.mr_replica.proofs.BatchChanges.{again_few, batch_turns}
+use Rattle.mr_replica.proofs.BatchNumbers.{commits_long}
 use Rattle.mr_part.proofs.ChangedRows.{same_place-true, picked_parts}
-use Rattle.mr_replica.proofs.MovedWrites.{moving, commits_long, behind_numbered, again_few, apart, last, grows, named_by}
+use Rattle.mr_replica.proofs.DeskBoards.{tallies_of}
+use Rattle.mr_replica.proofs.DeskMoves.{board_holds}
+use Rattle.mr_part.proofs.PartBoards.{board_in, board_in_ordered, has_bookings}
+use Rattle.mr_replica.proofs.Replays.{bookings_view}
+use Rattle.mr_replica.proofs.Targeting.{Shows, targets_end}
+
+-- ---- boards
 
 module _ (a b : Replica) (items : List Item) (m : BatchMoves a b items) (sound : IsReplica a) where
+  -- the rooms that are touched
+  abbrev mine : Text → Bool
+  mine room = is_touched (tables_of a) items room
+
+  abbrev pub old : Rows
+  old = board_in mine a
+
+  abbrev pub new : Rows
+  new = board_anew a b items m sound old
+
+  of_moving : (w : Write) → Has w (moving a items a) → mine w.room ≡ true
+  of_moving w h = (and_parts (is_touched (tables_of a) items w.room) (is_late (length a.commits) items w.stamp.time w.stamp.server) (filter_has (may_move a items) w (tentative a) h).1).0
+
+  done : ShowsAnew a b items m sound mine of_moving m.touched (λ room o. if_taken (if_of room o)) if_taken old
+  done = replayed a b items m sound mine of_moving m.touched (λ room o. if_taken (if_of room o)) if_taken old bookings_view (board_in_ordered mine a) (has_bookings a mine sound)
+
+  shows_old : (w : Write) → Has w (again a items m.news b) → Shows a w.room old
+  shows_old w h q = has_bookings a mine sound w.room (m.touched w h) q ∙ sym (ap if_taken ((board_holds a sound).rooms w.room q))
+
+  shows_new : (w : Write) → Has w (again a items m.news b) → Shows b w.room new
+  shows_new w h q = done.has w.room (m.touched w h) q ∙ sym (ap if_taken ((board_holds b m.sound).rooms w.room q))
+
   -- executed on the part's board, where the others are undone, they get their places
-  again_places : (us : List UndoRow) → map (λ u. u.id) us ≡ map id_of (moving a items a) → map (λ u. u.place) (undo_rows_of (undone_all (board_in (is_touched (tables_of a) items) a) us) (again a items m.news b)) ≡ map (place_of b) (again a items m.news b)
-  again_places us named =
-      let board = board_in (is_touched (tables_of a) items) a in
-      let ordered = board_in_ordered (is_touched (tables_of a) items) a in
-      places_executed b (is_touched (tables_of a) items) (λ room. (m.rooms room).front) (again a items m.news b) (undone_all board us) (last a b items m sound) (in_order-undone_all us board ordered)
-      (λ room t. bookings_undone room (m.rooms room).front (moving a items a) us board named (apart a b items m sound room) ordered
-      (subst (λ (vs : List Write). HasBookings room vs board) (m.rooms room).was (has_bookings a (is_touched (tables_of a) items) sound room t)))
+  pub again_rows : undo_rows_of (board_left a items old) (again a items m.news b) ≡ map (undo_with (place_of b)) (again a items m.news b)
+  again_rows = undo_rows_are (place_of b) (board_left a items old) (again a items m.news b) done.places
 
-  -- ---- those whose rows change
+  pub again_end : (w : Write) → Has w (again a items m.news b) → RowEnds (if_taken (aimed_at new w.room w.action))
+  again_end w h = targets_end a b items m sound old new shows_old shows_new w h
 
-  abbrev pub changing : List UndoRow → List Write
-  changing us = m.news ++ filter (is_elsewhere us (place_of b)) (moving a items b)
+  -- ---- those whose rows in the log change
+
+  abbrev pub changing : List Write
+  changing = m.news ++ filter (is_elsewhere (undone_rows a items) (place_of b)) (moving a items b)
 
   -- a tentative write whose row tells its place keeps its rows
-  told : (us : List UndoRow) (w : Write) → us ≡ map (λ v. record { id = id_of v; place = place_of a v }) (moving a items a) → Has w (moving a items b) → is_elsewhere us (place_of b) w ≡ false → Has w a.known × (place_of a w ≡ place_of b w) × (seq_of a w ≡ seq_of b w)
-  told us w are h stays = go (row_at us (id_of w)) refl stays
+  told : (w : Write) → Has w (moving a items b) → is_elsewhere (undone_rows a items) (place_of b) w ≡ false → Has w a.known × (place_of a w ≡ place_of b w) × (seq_of a w ≡ seq_of b w)
+  told w h stays = go (row_at (undone_rows a items) (id_of w)) refl stays
     where
       number : (r : Replica) (v : Write) → Has v (tentative r) → seq_of r v ≡ 0
       number r v g = let t = tentative_known r v g in seq_not 1 r.commits (id_of v) (λ f. true≢false (sym (has_among (id_of v) r.commits f) ∙ t.1))
@@ -60,11 +87,11 @@ module _ (a b : Replica) (items : List Item) (m : BatchMoves a b items) (sound :
       not_not true e = refl
       not_not false e = absurd (true≢false e)
 
-      go : (o : Option UndoRow) → row_at us (id_of w) ≡ o → not (tells o (undo_with (place_of b) w)) ≡ false → Has w a.known × (place_of a w ≡ place_of b w) × (seq_of a w ≡ seq_of b w)
+      go : (o : Option UndoRow) → row_at (undone_rows a items) (id_of w) ≡ o → not (tells o (undo_with (place_of b) w)) ≡ false → Has w a.known × (place_of a w ≡ place_of b w) × (seq_of a w ≡ seq_of b w)
       go None is t = absurd (true≢false t)
       go (Some u) is t =
-          let there = find_has (λ (x : UndoRow). same_id x.id (id_of w)) u us is in
-          let (v, g, k) = map_has (λ x. record { id = id_of x; place = place_of a x }) u (moving a items a) (subst (Has u) are there.0) in
+          let there = find_has (λ (x : UndoRow). same_id x.id (id_of w)) u (undone_rows a items) is in
+          let (v, g, k) = map_has (undo_with (place_of a)) u (moving a items a) there.0 in
           let f = (filter_has (may_move a items) v (tentative a) g).0 in
           let known = (tentative_known a v f).0 in
           let mine : id_of v ≡ id_of w = sym (ap (λ (x : UndoRow). x.id) k) ∙ same_id-true u.id (id_of w) there.1 in
@@ -73,68 +100,65 @@ module _ (a b : Replica) (items : List Item) (m : BatchMoves a b items) (sound :
           let seq = sym (ap (seq_of a) same) ∙ number a v f ∙ sym (number b w (filter_has (may_move a items) w (tentative b) h).0) in
           (subst (λ x. Has x a.known) same known, place, seq)
 
-  changing_moves : (us : List UndoRow) → us ≡ map (λ v. record { id = id_of v; place = place_of a v }) (moving a items a) → Moves a b (changing us)
-  changing_moves us are = record { dropped = m.dropped; stays = m.stays; others = λ w h. go w (m.others w h); moved = λ w h. m.moved w (back w (has_split w m.news (filter (is_elsewhere us (place_of b)) (moving a items b)) h)) }
-    where
-      test : Write → Bool
-      test = is_elsewhere us (place_of b)
-
-      back : (w : Write) → Has w m.news ⊎ Has w (filter test (moving a items b)) → Has w (again a items m.news b)
-      back w (inl h) = has_left w m.news (moving a items b) h
-      back w (inr h) = has_right w m.news (moving a items b) (filter_has test w (moving a items b) h).0
-
-      elsewhere : (w : Write) → Has w (moving a items b) → (c : Bool) → test w ≡ c → Has w (changing us) ⊎ (Has w a.known × (place_of a w ≡ place_of b w) × (seq_of a w ≡ seq_of b w))
-      elsewhere w h true e = inl (has_right w m.news (filter test (moving a items b)) (has_filter test w (moving a items b) e h))
-      elsewhere w h false e = inr (told us w are h e)
-
-      parts : (w : Write) → Has w m.news ⊎ Has w (moving a items b) → Has w (changing us) ⊎ (Has w a.known × (place_of a w ≡ place_of b w) × (seq_of a w ≡ seq_of b w))
-      parts w (inl h) = inl (has_left w m.news (filter test (moving a items b)) h)
-      parts w (inr h) = elsewhere w h (test w) refl
-
-      go : (w : Write) → Has w (again a items m.news b) ⊎ (Has w a.known × (place_of a w ≡ place_of b w) × (seq_of a w ≡ seq_of b w)) → Has w (changing us) ⊎ (Has w a.known × (place_of a w ≡ place_of b w) × (seq_of a w ≡ seq_of b w))
-      go w (inl h) = parts w (has_split w m.news (moving a items b) h)
-      go w (inr same) = inr same
-
-  pub changing_few : (us : List UndoRow) → length a.commits + 1 + length (changing us) < 18446744073709551616
-  changing_few us =
-      let test = is_elsewhere us (place_of b) in
+  pub changing_few : length a.commits + 1 + length changing < 18446744073709551616
+  changing_few =
+      let test = is_elsewhere (undone_rows a items) (place_of b) in
       let few = again_few a b items m sound in
       let all : length (again a items m.news b) ≡ length m.news + length (moving a items b) = length-append m.news (moving a items b) in
-      let some : length (changing us) ≡ length m.news + length (filter test (moving a items b)) = length-append m.news (filter test (moving a items b)) in
+      let some : length changing ≡ length m.news + length (filter test (moving a items b)) = length-append m.news (filter test (moving a items b)) in
       let both = length-filter_both test (λ w. not (test w)) (λ w. refl) (moving a items b) in
       omega (arith, few, all, some, both)
 
-  pub changing_turns : (us : List UndoRow) → us ≡ map (λ v. record { id = id_of v; place = place_of a v }) (moving a items a) → ((t : Text) → Has t a.rooms → Has t b.rooms)
-      → changed (written (tables_of b).meta (rooms_beside a.rooms b.rooms) (vector_between a b) (length b.commits) (length a.commits + 1) (changing us) (map (undo_with (place_of b)) (changing us))) (tables_of a) ≡ tables_of b
-  changing_turns us are rooms =
-      let test = is_elsewhere us (place_of b) in
-      let numbers = behind_numbered a b items m sound (filter test (moving a items b)) (λ w h. (filter_has (may_move a items) w (tentative b) (filter_has test w (moving a items b) h).0).0) in
-      let change = written_given b (length a.commits + 1) (changing us) (rooms_beside a.rooms b.rooms) (vector_between a b) (omega arith) numbers in
-      ap (λ c. changed c (tables_of a)) change
-      ∙ moves a b (changing us) (rooms_beside a.rooms b.rooms) (vector_between a b) sound m.sound (changing_moves us are) (rooms_complete a b sound (grows a b items m sound rooms)) (tallies_move a b sound m.sound m.stays)
+  pub changing_turns : ((t : Text) → Has t a.rooms → Has t b.rooms)
+      → changed
+      (with_places_put
+      (written (tables_of b).meta (rooms_beside a.rooms b.rooms) (vector_between a b) (length b.commits) (length a.commits + 1) changing (map (undo_with (place_of b)) changing) (cancellers_on new changing))
+      (moved_targets (tallies_of b) old new (again a items m.news b)))
+      (tables_of a)
+      ≡ tables_of b
+  changing_turns rooms = batch_turns a b items m sound old new shows_old shows_new (is_elsewhere (undone_rows a items) (place_of b)) told rooms
 
--- what the part's board gives are the places that the writes have
-pub part_rows : (old : Summary) (known : List Text) (board : Rows) (items : List Item) (a b : Replica) (s : Summary) (rooms : List Text) (us : List UndoRow) (ws : List Write) → MovesPart old known board items a b s rooms us ws → undo_rows_of (undone_all board us) ws ≡ map (undo_with (place_of b)) ws
-part_rows old known board items a b s rooms us ws h =
-    let named : map (λ (u : UndoRow). u.id) us ≡ map id_of (moving a items a) = ap (map (λ (u : UndoRow). u.id)) h.undone_are ∙ named_by (λ w. record { id = id_of w; place = place_of a w }) (moving a items a) (λ w. refl) in
-    let before = board_in (is_touched (tables_of a) items) a in
-    (λ i. undo_rows_of (undone_all (h.board_is i) us) (h.writes_are i))
-    ∙ undo_rows_are (place_of b) (undone_all before us) (again a items h.moves.news b) (again_places a b items h.moves h.sound us named)
-    ∙ ap (map (undo_with (place_of b))) (sym h.writes_are)
+-- ---- a call of a part
 
-pub part_moved : (old : Summary) (known : List Text) (board : Rows) (items : List Item) (a b : Replica) (s : Summary) (rooms : List Text) (us : List UndoRow) (ws : List Write) (news : ℕ) (change : ChangeView) → MovesPart old known board items a b s rooms us ws → news ≡ s.commits - old.commits
-    → (old.commits + 1 + length (picked news us (place_of b) ws) < 18446744073709551616
-    → change ≡ written (meta_of s) (rooms_beside known rooms) (changed_tallies old.tallies s.tallies) s.commits (old.commits + 1) (picked news us (place_of b) ws) (map (undo_with (place_of b)) (picked news us (place_of b) ws)))
-    → changed change (tables_of a) ≡ tables_of b
-part_moved old known board items a b s rooms us ws news change h count change_is =
-    let commits : old.commits ≡ length a.commits = ap (λ (v : Summary). v.commits) h.old_is in
-    let now : s.commits ≡ length b.commits = ap (λ (v : Summary). v.commits) h.summary_is in
-    let long = commits_long a b items h.moves h.sound in
-    let new : news ≡ length h.moves.news = omega (arith, count, commits, now, long) in
-    let cs : picked news us (place_of b) ws ≡ changing a b items h.moves h.sound us = (λ i. picked (new i) us (place_of b) (h.writes_are i)) ∙ picked_parts us (place_of b) h.moves.news (moving a items b) in
-    let few = changing_few a b items h.moves h.sound us in
-    let size = ap length cs in
-    let small : old.commits + 1 + length (picked news us (place_of b) ws) < 18446744073709551616 = omega (arith, commits, few, size) in
-    let put = change_is small
-    ∙ (λ i. written (meta_of (h.summary_is i)) (rooms_beside (h.known_are i) (h.rooms_are i)) (changed_tallies (h.old_is i).tallies (h.summary_is i).tallies) (h.summary_is i).commits ((h.old_is i).commits + 1) (cs i) (map (undo_with (place_of b)) (cs i))) in
-    ap (λ c. changed c (tables_of a)) put ∙ changing_turns a b items h.moves h.sound us h.undone_are h.keeps_rooms
+module _ (was : Summary) (known : List Text) (board : Rows) (items : List Item) (a b : Replica) (s : Summary) (rooms : List Text) (us : List UndoRow) (ws : List Write) (h : MovesPart was known board items a b s rooms us ws) where
+  left_is : undone_all board us ≡ board_left a items (old a b items h.moves h.sound)
+  left_is = λ i. undone_all (h.board_is i) (h.undone_are i)
+
+  -- what the part's board gives are the places that the writes have
+  pub part_rows : undo_rows_of (undone_all board us) ws ≡ map (undo_with (place_of b)) ws
+  part_rows =
+      (λ i. undo_rows_of (left_is i) (h.writes_are i))
+      ∙ again_rows a b items h.moves h.sound
+      ∙ ap (map (undo_with (place_of b))) (sym h.writes_are)
+
+  pub part_board : executed_all (undone_all board us) ws ≡ new a b items h.moves h.sound
+  part_board = λ i. executed_all (left_is i) (h.writes_are i)
+
+  -- what they aim at ends on its day
+  pub part_ends : (w : Write) → Has w ws → RowEnds (if_taken (aimed_at (executed_all (undone_all board us) ws) w.room w.action))
+  part_ends w g = subst (λ c. RowEnds (if_taken (aimed_at c w.room w.action))) (sym part_board) (again_end a b items h.moves h.sound w (subst (λ vs. Has w vs) h.writes_are g))
+
+  pub part_moved : (news : ℕ) (change : ChangeView) → news ≡ s.commits - was.commits
+      → (was.commits + 1 + length (picked news us (place_of b) ws) < 18446744073709551616
+      → change
+      ≡ with_places_put
+      (written (meta_of s) (rooms_beside known rooms) (changed_tallies was.tallies s.tallies) s.commits (was.commits + 1) (picked news us (place_of b) ws) (map (undo_with (place_of b)) (picked news us (place_of b) ws))
+      (cancellers_on (executed_all (undone_all board us) ws) (picked news us (place_of b) ws)))
+      (moved_targets s.tallies board (executed_all (undone_all board us) ws) ws))
+      → changed change (tables_of a) ≡ tables_of b
+  part_moved news change count change_is =
+      let commits : was.commits ≡ length a.commits = ap (λ (v : Summary). v.commits) h.old_is in
+      let now : s.commits ≡ length b.commits = ap (λ (v : Summary). v.commits) h.summary_is in
+      let long = commits_long a b items h.moves h.sound in
+      let new_count : news ≡ length h.moves.news = omega (arith, count, commits, now, long) in
+      let cs : picked news us (place_of b) ws ≡ changing a b items h.moves h.sound = (λ i. picked (new_count i) (h.undone_are i) (place_of b) (h.writes_are i)) ∙ picked_parts (undone_rows a items) (place_of b) h.moves.news (moving a items b) in
+      let few = changing_few a b items h.moves h.sound in
+      let size = ap length cs in
+      let small : was.commits + 1 + length (picked news us (place_of b) ws) < 18446744073709551616 = omega (arith, commits, few, size) in
+      let put = change_is small
+      ∙ (λ i.
+      with_places_put
+      (written (meta_of (h.summary_is i)) (rooms_beside (h.known_are i) (h.rooms_are i)) (changed_tallies (h.old_is i).tallies (h.summary_is i).tallies) (h.summary_is i).commits ((h.old_is i).commits + 1) (cs i) (map (undo_with (place_of b)) (cs i))
+      (cancellers_on (part_board i) (cs i)))
+      (moved_targets (h.summary_is i).tallies (h.board_is i) (part_board i) (h.writes_are i))) in
+      ap (λ c. changed c (tables_of a)) put ∙ changing_turns a b items h.moves h.sound h.keeps_rooms

@@ -1,39 +1,45 @@
--- A part has as many writes, undo rows and bookings as rows are in scope.
-use Rattle.std.proofs.Common.{◌≡◌, refl, sym, ap, ◌∙◌, subst, ℕ, suc, ◌+◌, ◌-◌, ◌<◌, ◌≤◌, nat_lt, Bool, ◌||◌, ◌&&◌, true, false, cond, List, [], ◌∷◌, ◌++◌, length, map, take, drop, ◌⊎◌, inl, inr, arith, append_assoc}
+-- A part has as many writes and rows on its board as rows are in scope.
+use Rattle.std.proofs.Common.{◌≡◌, refl, sym, ap, ◌∙◌, subst, ℕ, suc, ◌+◌, ◌-◌, ◌<◌, ◌≤◌, nat_lt, Bool, ◌||◌, ◌&&◌, true, false, cond, List, [], ◌∷◌, ◌++◌, length, map, take, drop, ◌⊎◌, inl, inr, arith, append_assoc, Option, Some, None}
 use Rattle.std.specs.Prelude.{bytes_eq}
+use Rattle.std.proofs.lemmas.Bool.{cond-false, false_from_ne_true}
 use Rattle.std.proofs.lemmas.List.{length-append, length-map, map-append}
 use Rattle.std.specs.List.{filter}
 use Rattle.std.specs.BTreeMap.{insert_entry}
 use Rattle.std.specs.declared.cmp.Ordering.TheVariants.{Less, Equal, Greater}
 use Rattle.std.specs.Ordering.{match_ordering}
 use Rattle.mr_model.specs.Texts.{within}
-use Rattle.mr_model.specs.Writes.{Id, Write, id_of}
+use Rattle.mr_model.specs.Writes.{Id, Write, id_of, same_id}
 use Rattle.mr_model.specs.Replica.{Replica, IsReplica, committed, tentative, order_of, is_among}
 use Rattle.mr_model.specs.Kept.{dropped_in_order, kept_in_order}
-use Rattle.mr_model.specs.Tables.{LogRow, UndoRow, BookingRow, log_row, undo_row, tables_of}
+use Rattle.mr_model.specs.Tables.{LogRow, BookingRow, ErrorRow, CancelledRow, Tables, as_booking, as_error, as_cancelled, place_row, log_row, tables_of}
 use Rattle.mr_model.specs.Dropped.{Has}
-use Rattle.mr_model.specs.Queries.{booking_id}
+use Rattle.mr_model.specs.Queries.{booking_id, error_id, cancelled_id, row_id}
 use Rattle.mr_model.specs.Changes.{IdBefore, RiseById, SameRows, first_tentative}
-use Rattle.mr_model.specs.Scopes.{Scope, Nothing, InRoom, NextCommits, UpTo, Above, OfItems, is_tentative, log_row_id, undo_row_id, is_named, is_in_tail, is_touched, in_scope, counted_rows}
+use Rattle.mr_model.specs.Scopes.{Scope, Nothing, InRoom, OfTarget, NextCommits, UpTo, Above, OfItems, is_tentative, log_row_id, is_named, is_in_tail, is_touched, with_rows, in_scope, counted_rows}
 use Rattle.mr_model.specs.RowsInScope.{kept_commits}
-use Rattle.mr_model.proofs.Members.{has_left, has_right, has_map, map_has, has_filter, filter_has, all_has, has_among, among_has, among_not, take_drop, Distinct, distinct_parts}
-use Rattle.mr_model.proofs.KnownById.{distinct_order}
-use Rattle.mr_model.proofs.RoomPlaces.{known_in_order}
-use Rattle.mr_model.proofs.TablesTell.{booked_row}
+use Rattle.mr_model.proofs.DroppedApart.{order-parts, known_order}
+use Rattle.mr_model.proofs.InScope.{lacked, truncated}
+use Rattle.mr_model.proofs.InScope as scope
 use Rattle.mr_model.proofs.KeyOrder.{tables_in_order}
-use Rattle.mr_model.proofs.RowsOfKnown.{rows_of_known}
-use Rattle.mr_model.proofs.LogOrder.{order-parts, kept_known}
-use Rattle.mr_model.proofs.InScope.{picked_rows, lacked, truncated, next_commits}
+use Rattle.mr_model.proofs.KnownById.{distinct_order}
+use Rattle.mr_model.proofs.Members.{has_left, has_right, has_map, map_has, has_filter, filter_has, all_has, among_not, same_id-true, same_id_from, take_drop, Distinct, distinct_parts}
+use Rattle.mr_model.proofs.RowsTell.{known_of, booked_is, erred_is, cancelled_is}
+use Rattle.mr_model.proofs.TablesTell.{key-row}
+use Rattle.mr_model.proofs.UniqueReplay.{some_inj, none_some}
 use Rattle.mr_base.specs.Ids.{id_cmp}
+use Rattle.mr_replay.specs.declared.rows.Standing.{Standing}
+use Rattle.mr_replay.specs.declared.rows.Standing.TheVariants.{Booked, CancelledBy, InErrorLog}
+use Rattle.mr_replay.specs.declared.rows.Kept.{Kept}
+use Rattle.mr_replay.specs.declared.rows.Kept.TheVariants.{OfBooking, OfCancel}
 use Rattle.mr_replay.specs.declared.rows.Row.{Row}
-use Rattle.mr_replay.specs.Rows.{Rows}
+use Rattle.mr_replay.specs.Rows.{Rows, row_at}
+use Rattle.mr_replay.proofs.Entries.{row_at-put}
 use Rattle.mr_replay.proofs.Ids.{exact_ids}
-use Rattle.mr_tables.specs.Boards.{booking_entry, put_entries}
+use Rattle.mr_tables.specs.Boards.{booking_entry, error_entry, cancelled_entry, put_entries, board_of}
 use Rattle.mr_part.specs.Parts.{PartView, kept_in, part_of, IsAskedOf}
-use Rattle.mr_replica.proofs.BoardRows.{put_had}
-use Rattle.mr_replica.proofs.DeskRows.{dropped_long}
+use Rattle.mr_replica.proofs.DeskNumbers.{dropped_long}
+use Rattle.mr_part.proofs.PartBoards.{found, booked_here, erred_here, cancelled_here}
 use Rattle.mr_replica.proofs.SubmittedRows.{few_kept}
-use Rattle.mr_part.proofs.Parting.{undo_in_part}
 
 -- ---- lists in which nothing is twice
 
@@ -109,7 +115,7 @@ kept_differ a sound =
     let all : Differ (committed a ++ tentative a) = subst Distinct (sym (map-append id_of (committed a) (tentative a))) (distinct_order a sound) in
     (differ_parts (dropped_in_order a) (kept_in_order a) (subst Differ (order-parts a) all)).1
 
--- rows of write_log that are those of some kept writes
+-- rows of log that are those of some kept writes
 record RowsOf (a : Replica) (logs : List LogRow) (ws : List Write) : Type 0 where
   differ : Apart (map id_of ws)
   apart : Apart (map log_row_id logs)
@@ -130,82 +136,151 @@ logs_many a logs ws r = sym (length-map logs log_row_id) ∙ same_many (map log_
         let (w, k, m) = map_has id_of i ws h in
         subst (λ j. Has j (map log_row_id logs)) (sym m) (has_map log_row_id (log_row a w) logs ((r.same (log_row a w)).1 (has_map (log_row a) w ws k)))
 
--- the rows of undo beside them
-abbrev beside : Replica → List LogRow → List UndoRow
-beside a logs = filter (λ u. is_among (undo_row_id u) (map log_row_id logs)) (tables_of a).undo
-
-undo_many : (a : Replica) (logs : List LogRow) (ws : List Write) → IsReplica a → RowsOf a logs ws → length (beside a logs) ≡ length ws
-undo_many a logs ws sound r =
-    sym (length-map (beside a logs) undo_row_id)
-    ∙ same_many (map undo_row_id (beside a logs)) (map id_of ws)
-    (apart_picked undo_row_id (λ u. is_among (undo_row_id u) (map log_row_id logs)) (tables_of a).undo (apart_rise (map undo_row_id (tables_of a).undo) (tables_in_order a sound).undo))
-    r.differ there back
-    ∙ length-map ws id_of
-  where
-    there : (i : Id) → Has i (map undo_row_id (beside a logs)) → Has i (map id_of ws)
-    there i h =
-        let (u, g, e) = map_has undo_row_id i (beside a logs) h in
-        let f = filter_has (λ u. is_among (undo_row_id u) (map log_row_id logs)) u (tables_of a).undo g in
-        let (row, k, m) = map_has log_row_id (undo_row_id u) logs (among_has (undo_row_id u) (map log_row_id logs) f.1) in
-        let (w, l, n) = map_has (log_row a) row ws ((r.same row).0 k) in
-        subst (λ j. Has j (map id_of ws)) (sym (e ∙ m ∙ ap log_row_id n)) (has_map id_of w ws l)
-
-    back : (i : Id) → Has i (map id_of ws) → Has i (map undo_row_id (beside a logs))
-    back i h =
-        let (w, k, m) = map_has id_of i ws h in
-        let known = kept_known a w sound (r.kept w k) in
-        let row : Has (undo_row a w) (tables_of a).undo = ((rows_of_known a sound).undo (undo_row a w)).1 (w, known.0, known.1, refl) in
-        let log : Has (id_of w) (map log_row_id logs) = has_map log_row_id (log_row a w) logs ((r.same (log_row a w)).1 (has_map (log_row a) w ws k)) in
-        subst (λ j. Has j (map undo_row_id (beside a logs))) (sym m)
-        (has_map undo_row_id (undo_row a w) (beside a logs) (has_filter (λ u. is_among (undo_row_id u) (map log_row_id logs)) (undo_row a w) (tables_of a).undo (has_among (id_of w) (map log_row_id logs) log) row))
-
--- ---- the bookings
+-- ---- the board
 
 -- a row under a new id makes a board longer by one
-put_long : (b : Rows) (i : Id) (row : Row) → ((e : Id × Row) → Has e b → e.0 ≡ i → ⊥) → length (insert_entry id_cmp b i row) ≡ suc (length b)
+not_here : (c : Bool) (row : Row) (o : Option Row) → cond c (Some row) o ≡ None → (c ≡ false) × (o ≡ None)
+not_here true row o e = absurd (none_some row (sym e))
+not_here false row o e = (refl, e)
+
+put_long : (b : Rows) (i : Id) (row : Row) → row_at b i ≡ None → length (insert_entry id_cmp b i row) ≡ suc (length b)
 put_long [] i row new = refl
 put_long (x ∷ xs) i row new =
+    let other = not_here (same_id i x.0) x.1 (row_at xs i) new in
     elim (id_cmp i x.0) as (λ o. id_cmp i x.0 ≡ o → length (match_ordering o ((i, row) ∷ x ∷ xs) ((x.0, row) ∷ xs) (x ∷ insert_entry id_cmp xs i row)) ≡ suc (suc (length xs))) [
       | Less ↦ λ _. refl
-      | Equal ↦ λ p. absurd (new x (inl refl) (sym (exact_ids i x.0 p)))
-      | Greater ↦ λ _. ap (λ n. suc n) (put_long xs i row (λ e h. new e (inr h)))
+      | Equal ↦ λ p. absurd (let clash : true ≡ false = sym (same_id_from i x.0 (exact_ids i x.0 p)) ∙ other.0 in cc)
+      | Greater ↦ λ _. ap (λ n. suc n) (put_long xs i row other.1)
     ] refl
 
--- bookings of different ids, put on a board that has none of them
-all_long : (rows : List BookingRow) (b : Rows) → Apart (map booking_id rows) → ((row : BookingRow) (e : Id × Row) → Has row rows → Has e b → e.0 ≡ booking_id row → ⊥) → length (put_entries (map booking_entry rows) b) ≡ length rows + length b
+-- rows of different ids, put on a board that has none of them
+all_long : (es : List (Id × Row)) (b : Rows) → Apart (map (λ e. e.0) es) → ((e : Id × Row) → Has e es → row_at b e.0 ≡ None) → length (put_entries es b) ≡ length es + length b
 all_long [] b a new = let e : length b ≡ 0 + length b = omega arith in e
 all_long (x ∷ xs) b a new =
-    let one = put_long b (booking_entry x).0 (booking_entry x).1 (λ e h. new x e (inl refl) h) in
-    let rest = all_long xs (insert_entry id_cmp b (booking_entry x).0 (booking_entry x).1) a.1 (λ row e g h f. later row e g f (put_had e b (booking_entry x).0 (booking_entry x).1 h)) in
+    let one = put_long b x.0 x.1 (new x (inl refl)) in
+    let rest = all_long xs (insert_entry id_cmp b x.0 x.1) a.1 later in
     omega (arith, one, rest)
   where
-    later : (row : BookingRow) (e : Id × Row) → Has row xs → e.0 ≡ booking_id row → (e ≡ ((booking_entry x).0, (booking_entry x).1)) ⊎ Has e b → ⊥
-    later row e g f (inl m) = a.0 (subst (λ i. Has i (map booking_id xs)) (sym f ∙ ap (λ (y : Id × Row). y.0) m) (has_map booking_id row xs g))
-    later row e g f (inr h) = new row e (inr g) h f
+    later : (e : Id × Row) → Has e xs → row_at (insert_entry id_cmp b x.0 x.1) e.0 ≡ None
+    later e h =
+        row_at-put b x.0 x.1 e.0
+        ∙ cond-false (same_id e.0 x.0) (Some x.1) (row_at b e.0)
+        (false_from_ne_true (same_id e.0 x.0) (λ s. a.0 (subst (λ i. Has i (map (λ (y : Id × Row). y.0) xs)) (same_id-true e.0 x.0 s) (has_map (λ (y : Id × Row). y.0) e xs h))))
+        ∙ new e (inr h)
 
-board_long : (a : Replica) (p : BookingRow → Bool) → IsReplica a → length (put_entries (map booking_entry (filter p (tables_of a).booking)) []) ≡ length (filter p (tables_of a).booking)
-board_long a p sound =
-    let apart = apart_picked booking_id p (tables_of a).booking (apart_rise (map booking_id (tables_of a).booking) (tables_in_order a sound).booking) in
-    let long = all_long (filter p (tables_of a).booking) [] apart (λ row e g h f. h) in
-    omega (arith, long)
+standing_in : Kept → Standing
+standing_in (OfBooking slot length title standing) = standing
+standing_in (OfCancel target) = InErrorLog
+
+-- a row that a table put, and how it stands
+told_by : {R : Type 0} (entry : R → Id × Row) (rows : List R) (b : Rows) (i : Id) (row : Row) → row_at (put_entries (map entry rows) b) i ≡ Some row → ((x : R) × Has x rows × ((i, row) ≡ entry x)) ⊎ (row_at b i ≡ Some row)
+told_by entry rows b i row e = go (found (map entry rows) b i row e)
+  where
+    go : Has (i, row) (map entry rows) ⊎ (row_at b i ≡ Some row) → ((x : _) × Has x rows × ((i, row) ≡ entry x)) ⊎ (row_at b i ≡ Some row)
+    go (inl h) = inl (map_has entry (i, row) rows h)
+    go (inr n) = inr n
+
+-- these rows are some of the replica's, each once
+record Some3 (a : Replica) (bs : List BookingRow) (es : List ErrorRow) (cs : List CancelledRow) : Type 0 where
+  booking : (x : BookingRow) → Has x bs → Has x (tables_of a).booking
+  errorlog : (x : ErrorRow) → Has x es → Has x (tables_of a).errorlog
+  cancelled : (x : CancelledRow) → Has x cs → Has x (tables_of a).cancelled
+  bookings_apart : Apart (map booking_id bs)
+  errors_apart : Apart (map error_id es)
+  cancelled_apart : Apart (map cancelled_id cs)
+
+keys_of_rows : {R : Type 0} (entry : R → Id × Row) (rows : List R) → map (λ e. e.0) (map entry rows) ≡ map (λ x. (entry x).0) rows
+keys_of_rows entry [] = refl
+keys_of_rows entry (x ∷ xs) = ap (λ is. (entry x).0 ∷ is) (keys_of_rows entry xs)
+
+module _ (a : Replica) (logs : List LogRow) (bs : List BookingRow) (es : List ErrorRow) (cs : List CancelledRow) (sound : IsReplica a) (some : Some3 a bs es cs) where
+  abbrev first : Rows
+  first = put_entries (map booking_entry bs) []
+
+  abbrev second : Rows
+  second = put_entries (map error_entry es) first
+
+  -- what is found stands as its table says
+  booked : (i : Id) (row : Row) → row_at first i ≡ Some row → standing_in row.kept ≡ Booked
+  unfolding standing_in
+  booked i row e = go (told_by booking_entry bs [] i row e)
+    where
+      go : ((x : BookingRow) × Has x bs × ((i, row) ≡ booking_entry x)) ⊎ (row_at [] i ≡ Some row) → standing_in row.kept ≡ Booked
+      go (inl (x, h, s)) = ap (λ (y : Id × Row). standing_in y.1.kept) s
+      go (inr n) = absurd (none_some row n)
+
+  -- and is the replica's row
+  first_here : (i : Id) (row : Row) → row_at first i ≡ Some row → row_at (board_of (tables_of a)) i ≡ Some row
+  first_here i row e = go (told_by booking_entry bs [] i row e)
+    where
+      go : ((x : BookingRow) × Has x bs × ((i, row) ≡ booking_entry x)) ⊎ (row_at [] i ≡ Some row) → row_at (board_of (tables_of a)) i ≡ Some row
+      go (inl (x, h, s)) = subst (λ (y : Id × Row). row_at (board_of (tables_of a)) y.0 ≡ Some y.1) (sym s) (booked_here a x sound (some.booking x h))
+      go (inr n) = absurd (none_some row n)
+
+  second_here : (i : Id) (row : Row) → row_at second i ≡ Some row → (row_at (board_of (tables_of a)) i ≡ Some row) × ((standing_in row.kept ≡ Booked) ⊎ (standing_in row.kept ≡ InErrorLog))
+  unfolding standing_in
+  second_here i row e = go (told_by error_entry es first i row e)
+    where
+      go : ((x : ErrorRow) × Has x es × ((i, row) ≡ error_entry x)) ⊎ (row_at first i ≡ Some row) → (row_at (board_of (tables_of a)) i ≡ Some row) × ((standing_in row.kept ≡ Booked) ⊎ (standing_in row.kept ≡ InErrorLog))
+      go (inl (x, h, s)) = (
+        subst (λ (y : Id × Row). row_at (board_of (tables_of a)) y.0 ≡ Some y.1) (sym s) (erred_here a x sound (some.errorlog x h)),
+        inr (ap (λ (y : Id × Row). standing_in y.1.kept) s),
+      )
+      go (inr n) = (first_here i row n, inl (booked i row n))
+
+  -- no id is in two tables
+  errors_new : (x : ErrorRow) → Has x es → row_at first (error_entry x).0 ≡ None
+  unfolding standing_in
+  errors_new x h = go (row_at first (error_entry x).0) refl
+    where
+      go : (o : Option Row) → row_at first (error_entry x).0 ≡ o → o ≡ None
+      go None e = refl
+      go (Some row) e =
+          let same : row ≡ (error_entry x).1 = some_inj row (error_entry x).1 (sym (first_here (error_entry x).0 row e) ∙ erred_here a x sound (some.errorlog x h)) in
+          absurd (let clash : Booked ≡ InErrorLog = sym (booked (error_entry x).0 row e) ∙ ap (λ (r : Row). standing_in r.kept) same in cc)
+
+  cancelled_new : (x : CancelledRow) → Has x cs → row_at second (cancelled_entry x).0 ≡ None
+  unfolding standing_in
+  cancelled_new x h = go (row_at second (cancelled_entry x).0) refl
+    where
+      by : (row : Row) → standing_in row.kept ≡ CancelledBy x.by → (standing_in row.kept ≡ Booked) ⊎ (standing_in row.kept ≡ InErrorLog) → ⊥
+      by row s (inl e) = let clash : CancelledBy x.by ≡ Booked = sym s ∙ e in cc
+      by row s (inr e) = let clash : CancelledBy x.by ≡ InErrorLog = sym s ∙ e in cc
+
+      go : (o : Option Row) → row_at second (cancelled_entry x).0 ≡ o → o ≡ None
+      go None e = refl
+      go (Some row) e =
+          let there = second_here (cancelled_entry x).0 row e in
+          let same : row ≡ (cancelled_entry x).1 = some_inj row (cancelled_entry x).1 (sym there.0 ∙ cancelled_here a x sound (some.cancelled x h)) in
+          absurd (by row (ap (λ (r : Row). standing_in r.kept) same) there.1)
+
+  entry_new : {R : Type 0} (entry : R → Id × Row) (rows : List R) (b : Rows) → ((x : R) → Has x rows → row_at b (entry x).0 ≡ None) → (e : Id × Row) → Has e (map entry rows) → row_at b e.0 ≡ None
+  entry_new entry rows b new e h = let (x, g, s) = map_has entry e rows h in ap (λ (y : Id × Row). row_at b y.0) s ∙ new x g
+
+  board_long : length (board_of (with_rows (tables_of a) logs bs es cs)) ≡ length bs + length es + length cs
+  board_long =
+      let one = all_long (map booking_entry bs) [] (subst Apart (sym (keys_of_rows booking_entry bs)) some.bookings_apart) (λ e h. refl) in
+      let two = all_long (map error_entry es) first (subst Apart (sym (keys_of_rows error_entry es)) some.errors_apart) (entry_new error_entry es first errors_new) in
+      let three = all_long (map cancelled_entry cs) second (subst Apart (sym (keys_of_rows cancelled_entry cs)) some.cancelled_apart) (entry_new cancelled_entry cs second cancelled_new) in
+      let l = length-map bs booking_entry in
+      let m = length-map es error_entry in
+      let n = length-map cs cancelled_entry in
+      omega (arith, one, two, three, l, m, n)
 
 -- ---- scope by scope
-
-undo_long : (a : Replica) (ws : List Write) → length (map (undo_in_part a) ws) ≡ length ws
-undo_long a ws = length-map ws (undo_in_part a)
 
 none_kept : (a : Replica) → RowsOf a [] []
 none_kept a = record { differ = tt; apart = tt; same = λ row. (λ h. h, λ h. h); kept = λ w h. absurd h }
 
-logs_apart : (a : Replica) (p : LogRow → Bool) → IsReplica a → Apart (map log_row_id (filter p (tables_of a).write_log))
-logs_apart a p sound = apart_picked log_row_id p (tables_of a).write_log (apart_rise (map log_row_id (tables_of a).write_log) (tables_in_order a sound).write_log)
+logs_apart : (a : Replica) (p : LogRow → Bool) → IsReplica a → Apart (map log_row_id (filter p (tables_of a).log))
+logs_apart a p sound = apart_picked log_row_id p (tables_of a).log (apart_rise (map log_row_id (tables_of a).log) (tables_in_order a sound).log)
 
 tentative_differ : (a : Replica) → IsReplica a → Differ (kept_commits a) × Differ (tentative a)
 tentative_differ a sound = differ_parts (kept_commits a) (tentative a) (kept_differ a sound)
 
-next_kept : (a : Replica) (k : ℕ) → IsReplica a → RowsOf a (in_scope (NextCommits k) (tables_of a)).write_log (first_tentative a k)
+next_kept : (a : Replica) (k : ℕ) → IsReplica a → RowsOf a (in_scope (NextCommits k) (tables_of a)).log (first_tentative a k)
 next_kept a k sound =
-    let rows = (next_commits a k sound).0 in
+    let rows = (scope.next_commits a k sound).0 in
     let differ = (differ_parts (take k (tentative a)) (drop k (tentative a)) (subst Differ (sym (take_drop k (tentative a))) (tentative_differ a sound).1)).0 in
     record {
       differ = apart_distinct (map id_of (first_tentative a k)) differ;
@@ -218,7 +293,7 @@ next_kept a k sound =
     ids_told [] = refl
     ids_told (w ∷ ws) = ap (λ is. id_of w ∷ is) (ids_told ws)
 
-first_kept : (a : Replica) (d : ℕ) → IsReplica a → RowsOf a (in_scope (UpTo d) (tables_of a)).write_log (take (d - a.dropped) (kept_commits a))
+first_kept : (a : Replica) (d : ℕ) → IsReplica a → RowsOf a (in_scope (UpTo d) (tables_of a)).log (take (d - a.dropped) (kept_commits a))
 first_kept a d sound =
     let n = d - a.dropped in
     record {
@@ -228,7 +303,7 @@ first_kept a d sound =
       kept = λ w h. has_left w (kept_commits a) (tentative a) (subst (Has w) (take_drop n (kept_commits a)) (has_left w (take n (kept_commits a)) (drop n (kept_commits a)) h));
     }
 
-above_kept : (a : Replica) (commits : ℕ) → IsReplica a → a.dropped ≤ commits → RowsOf a (in_scope (Above commits) (tables_of a)).write_log (drop (commits - a.dropped) (kept_commits a) ++ tentative a)
+above_kept : (a : Replica) (commits : ℕ) → IsReplica a → a.dropped ≤ commits → RowsOf a (in_scope (Above commits) (tables_of a)).log (drop (commits - a.dropped) (kept_commits a) ++ tentative a)
 above_kept a commits sound low =
     let n = commits - a.dropped in
     let parts : kept_in_order a ≡ take n (kept_commits a) ++ (drop n (kept_commits a) ++ tentative a) =
@@ -241,49 +316,95 @@ above_kept a commits sound low =
     }
 
 -- rows that a test picks
-picked_kept : (a : Replica) (test : LogRow → Bool) → IsReplica a → RowsOf a (filter test (tables_of a).write_log) (filter (λ w. test (log_row a w)) (kept_in_order a))
+picked_kept : (a : Replica) (test : LogRow → Bool) → IsReplica a → RowsOf a (filter test (tables_of a).log) (filter (λ w. test (log_row a w)) (kept_in_order a))
 picked_kept a test sound = record {
   differ = apart_picked id_of (λ w. test (log_row a w)) (kept_in_order a) (apart_distinct (map id_of (kept_in_order a)) (kept_differ a sound));
   apart = logs_apart a test sound;
-  same = (picked_rows a test sound).0;
+  same = (scope.picked_rows a test sound).0;
   kept = λ w h. (filter_has (λ w. test (log_row a w)) w (kept_in_order a) h).0;
 }
 
+-- ---- rows of bookings in scope
+
+no_rows : (a : Replica) → Some3 a [] [] []
+no_rows a = record { booking = λ x h. absurd h; errorlog = λ x h. absurd h; cancelled = λ x h. absurd h; bookings_apart = tt; errors_apart = tt; cancelled_apart = tt }
+
+-- those that tests pick
+module _ (a : Replica) (sound : IsReplica a) where
+  bookings_apart : (p : BookingRow → Bool) → Apart (map booking_id (filter p (tables_of a).booking))
+  bookings_apart p = apart_picked booking_id p (tables_of a).booking (apart_rise (map booking_id (tables_of a).booking) (tables_in_order a sound).booking)
+
+  errors_apart : (p : ErrorRow → Bool) → Apart (map error_id (filter p (tables_of a).errorlog))
+  errors_apart p = apart_picked error_id p (tables_of a).errorlog (apart_rise (map error_id (tables_of a).errorlog) (tables_in_order a sound).errorlog)
+
+  cancelled_apart : (p : CancelledRow → Bool) → Apart (map cancelled_id (filter p (tables_of a).cancelled))
+  cancelled_apart p = apart_picked cancelled_id p (tables_of a).cancelled (apart_rise (map cancelled_id (tables_of a).cancelled) (tables_in_order a sound).cancelled)
+
+  of_rooms : (p : BookingRow → Bool) (r : CancelledRow → Bool) → Some3 a (filter p (tables_of a).booking) [] (filter r (tables_of a).cancelled)
+  of_rooms p r = record {
+    booking = λ x h. (filter_has p x (tables_of a).booking h).0;
+    errorlog = λ x h. absurd h;
+    cancelled = λ x h. (filter_has r x (tables_of a).cancelled h).0;
+    bookings_apart = bookings_apart p;
+    errors_apart = tt;
+    cancelled_apart = cancelled_apart r;
+  }
+
+  of_target : (p : BookingRow → Bool) (q : ErrorRow → Bool) (r : CancelledRow → Bool) → Some3 a (filter p (tables_of a).booking) (filter q (tables_of a).errorlog) (filter r (tables_of a).cancelled)
+  of_target p q r = record {
+    booking = λ x h. (filter_has p x (tables_of a).booking h).0;
+    errorlog = λ x h. (filter_has q x (tables_of a).errorlog h).0;
+    cancelled = λ x h. (filter_has r x (tables_of a).cancelled h).0;
+    bookings_apart = bookings_apart p;
+    errors_apart = errors_apart q;
+    cancelled_apart = cancelled_apart r;
+  }
+
+  of_cancelled : (r : CancelledRow → Bool) → Some3 a [] [] (filter r (tables_of a).cancelled)
+  of_cancelled r = record {
+    booking = λ x h. absurd h;
+    errorlog = λ x h. absurd h;
+    cancelled = λ x h. (filter_has r x (tables_of a).cancelled h).0;
+    bookings_apart = tt;
+    errors_apart = tt;
+    cancelled_apart = cancelled_apart r;
+  }
+
+-- what is in a scope
+record InPart (s : Scope) (a : Replica) : Type 0 where
+  rows : Tables
+  are : in_scope s (tables_of a) ≡ with_rows (tables_of a) rows.log rows.booking rows.errorlog rows.cancelled
+  logs : RowsOf a rows.log (kept_in s a)
+  bookings : Some3 a rows.booking rows.errorlog rows.cancelled
+
+in_part : (s : Scope) (a : Replica) → IsReplica a → IsAskedOf s a → InPart s a
+in_part Nothing a sound asked = record { rows = in_scope Nothing (tables_of a); are = refl; logs = none_kept a; bookings = no_rows a }
+in_part (InRoom room) a sound asked = record { rows = in_scope (InRoom room) (tables_of a); are = refl; logs = none_kept a; bookings = of_rooms a sound (λ b. bytes_eq b.room room) (λ c. bytes_eq c.room room) }
+in_part (OfTarget target) a sound asked =
+    record { rows = in_scope (OfTarget target) (tables_of a); are = refl; logs = none_kept a; bookings = of_target a sound (λ b. same_id (booking_id b) target) (λ e. same_id (error_id e) target) (λ c. same_id (cancelled_id c) target) }
+in_part (NextCommits k) a sound asked =
+    record { rows = in_scope (NextCommits k) (tables_of a); are = refl; logs = next_kept a k sound; bookings = of_cancelled a sound (λ c. is_among (cancelled_id c) (map log_row_id (in_scope (NextCommits k) (tables_of a)).log)) }
+in_part (UpTo d) a sound asked = record { rows = in_scope (UpTo d) (tables_of a); are = refl; logs = first_kept a d sound; bookings = no_rows a }
+in_part (Above commits) a sound asked = record { rows = in_scope (Above commits) (tables_of a); are = refl; logs = above_kept a commits sound asked; bookings = no_rows a }
+in_part (OfItems items) a sound asked =
+    record {
+      rows = in_scope (OfItems items) (tables_of a);
+      are = refl;
+      logs = picked_kept a (λ row. is_named items row || (is_in_tail (length a.commits) items row && is_touched (tables_of a) items row.room)) sound;
+      bookings = of_rooms a sound (λ b. is_touched (tables_of a) items b.room) (λ c. is_touched (tables_of a) items c.room);
+    }
+
 -- how many rows a part has
 abbrev pub rows_held : PartView → ℕ
-rows_held p = length p.kept + length p.undo + length p.board
-
--- where rows of undo stand beside the rows of write_log, and the bookings are those that a test picks
-held : (a : Replica) (logs : List LogRow) (ws : List Write) (p : BookingRow → Bool) → IsReplica a → RowsOf a logs ws
-    → length ws + length (map (undo_in_part a) ws) + length (put_entries (map booking_entry (filter p (tables_of a).booking)) []) ≡ length logs + length (beside a logs) + length (filter p (tables_of a).booking) + 0
-held a logs ws p sound r =
-    let l = logs_many a logs ws r in
-    let u = undo_many a logs ws sound r in
-    let v = undo_long a ws in
-    let b = board_long a p sound in
-    omega (arith, l, u, v, b)
-
--- and where there are none
-held_alone : (a : Replica) (logs : List LogRow) (ws : List Write) → IsReplica a → RowsOf a logs ws
-    → length ws + length (map (undo_in_part a) ws) + 0 ≡ length logs + length (beside a logs) + 0 + 0
-held_alone a logs ws sound r =
-    let l = logs_many a logs ws r in
-    let u = undo_many a logs ws sound r in
-    let v = undo_long a ws in
-    omega (arith, l, u, v)
+rows_held p = length p.kept + length p.board
 
 pub rows_counted : (s : Scope) (a : Replica) → IsReplica a → IsAskedOf s a → rows_held (part_of s a) ≡ counted_rows (in_scope s (tables_of a))
-rows_counted Nothing a sound asked = held_alone a [] [] sound (none_kept a)
-rows_counted (InRoom room) a sound asked = held a [] [] (λ b. bytes_eq b.room room) sound (none_kept a)
-rows_counted (NextCommits k) a sound asked = held_alone a (in_scope (NextCommits k) (tables_of a)).write_log (first_tentative a k) sound (next_kept a k sound)
-rows_counted (UpTo d) a sound asked = held_alone a (in_scope (UpTo d) (tables_of a)).write_log (take (d - a.dropped) (kept_commits a)) sound (first_kept a d sound)
-rows_counted (Above commits) a sound asked =
-    let l = logs_many a (in_scope (Above commits) (tables_of a)).write_log (drop (commits - a.dropped) (kept_commits a) ++ tentative a) (above_kept a commits sound asked) in
-    let none = undo_many a [] [] sound (none_kept a) in
-    omega (arith, l, none)
-rows_counted (OfItems items) a sound asked =
-    held a (in_scope (OfItems items) (tables_of a)).write_log (kept_in (OfItems items) a) (λ b. is_touched (tables_of a) items b.room) sound
-    (picked_kept a (λ row. is_named items row || (is_in_tail (length a.commits) items row && is_touched (tables_of a) items row.room)) sound)
+rows_counted s a sound asked =
+    let i = in_part s a sound asked in
+    let l = logs_many a i.rows.log (kept_in s a) i.logs in
+    let b = ap (λ t. length (board_of t)) i.are ∙ board_long a i.rows.log i.rows.booking i.rows.errorlog i.rows.cancelled sound i.bookings in
+    let n = ap counted_rows i.are in
+    omega (arith, l, b, n)
 
 -- what a part of a replica counts
 pub rows_of_part : (p : PartView) (s : Scope) (a : Replica) → IsReplica a → IsAskedOf s a → p ≡ part_of s a → rows_held p ≡ counted_rows (in_scope s (tables_of a))
@@ -309,51 +430,37 @@ logs_few a logs ws sound r =
     let most = few_kept a sound in
     omega (arith, l, m, n, same, most)
 
-bookings_few : (a : Replica) (p : BookingRow → Bool) → IsReplica a → length (filter p (tables_of a).booking) ≤ 999_999_999_999
-bookings_few a p sound =
-    let l = few (map booking_id (filter p (tables_of a).booking)) (map id_of (order_of a)) (apart_picked booking_id p (tables_of a).booking (apart_rise (map booking_id (tables_of a).booking) (tables_in_order a sound).booking)) there in
-    let m = length-map (filter p (tables_of a).booking) booking_id in
+-- rows of known writes, each once
+rows_few_of : {R : Type 0} (a : Replica) (key : R → Id) (rows : List R) → IsReplica a → Apart (map key rows) → ((x : R) → Has x rows → (w : Write) × Has w a.known × (key x ≡ id_of w)) → length rows ≤ 999_999_999_999
+rows_few_of a key rows sound apart known =
+    let l = few (map key rows) (map id_of (order_of a)) apart there in
+    let m = length-map rows key in
     let n = length-map (order_of a) id_of in
     let most = order_few a sound in
     omega (arith, l, m, n, most)
   where
-    known : (w : Write) → Has w (committed a) ⊎ Has w (tentative a) → Has w (order_of a)
-    known w (inl h) = has_left w (committed a) (tentative a) h
-    known w (inr h) = has_right w (committed a) (tentative a) h
-
-    there : (i : Id) → Has i (map booking_id (filter p (tables_of a).booking)) → Has i (map id_of (order_of a))
+    there : (i : Id) → Has i (map key rows) → Has i (map id_of (order_of a))
     there i h =
-        let (row, g, e) = map_has booking_id i (filter p (tables_of a).booking) h in
-        let (w, k, f) = ((rows_of_known a sound).booking row).0 (filter_has p row (tables_of a).booking g).0 in
-        let (s, q, m) = booked_row a w row f in
-        subst (λ j. Has j (map id_of (order_of a))) (sym (e ∙ ap booking_id m)) (has_map id_of w (order_of a) (known w (known_in_order a w sound k)))
+        let (x, g, e) = map_has key i rows h in
+        let (w, k, f) = known x g in
+        subst (λ j. Has j (map id_of (order_of a))) (sym (e ∙ f)) (has_map id_of w (order_of a) (known_order a w sound k))
 
-few_held : (a : Replica) (logs : List LogRow) (ws : List Write) (p : BookingRow → Bool) → IsReplica a → RowsOf a logs ws
-    → length logs + length (beside a logs) + length (filter p (tables_of a).booking) + 0 < 18446744073709551616
-few_held a logs ws p sound r =
-    let l = logs_few a logs ws sound r in
-    let m = logs_many a logs ws r in
-    let u = undo_many a logs ws sound r in
-    let b = bookings_few a p sound in
-    omega (arith, l, m, u, b)
+booking_known : (a : Replica) (x : BookingRow) → Has x (tables_of a).booking → (w : Write) × Has w a.known × (booking_id x ≡ id_of w)
+booking_known a x h = let (w, k, o) = known_of as_booking a x h in (w, k, sym (ap row_id (booked_is x (place_row a w) o)) ∙ key-row a w)
 
-few_alone : (a : Replica) (logs : List LogRow) (ws : List Write) → IsReplica a → RowsOf a logs ws → length logs + length (beside a logs) + 0 + 0 < 18446744073709551616
-few_alone a logs ws sound r =
-    let l = logs_few a logs ws sound r in
-    let m = logs_many a logs ws r in
-    let u = undo_many a logs ws sound r in
-    omega (arith, l, m, u)
+error_known : (a : Replica) (x : ErrorRow) → Has x (tables_of a).errorlog → (w : Write) × Has w a.known × (error_id x ≡ id_of w)
+error_known a x h = let (w, k, o) = known_of as_error a x h in (w, k, sym (ap row_id (erred_is x (place_row a w) o)) ∙ key-row a w)
+
+cancelled_known : (a : Replica) (x : CancelledRow) → Has x (tables_of a).cancelled → (w : Write) × Has w a.known × (cancelled_id x ≡ id_of w)
+cancelled_known a x h = let (w, k, o) = known_of as_cancelled a x h in (w, k, sym (ap row_id (cancelled_is x (place_row a w) o)) ∙ key-row a w)
 
 -- the rows in scope are few enough for a number of the machine
 pub rows_few : (s : Scope) (a : Replica) → IsReplica a → IsAskedOf s a → counted_rows (in_scope s (tables_of a)) < 18446744073709551616
-rows_few Nothing a sound asked = few_alone a [] [] sound (none_kept a)
-rows_few (InRoom room) a sound asked = few_held a [] [] (λ b. bytes_eq b.room room) sound (none_kept a)
-rows_few (NextCommits k) a sound asked = few_alone a (in_scope (NextCommits k) (tables_of a)).write_log (first_tentative a k) sound (next_kept a k sound)
-rows_few (UpTo d) a sound asked = few_alone a (in_scope (UpTo d) (tables_of a)).write_log (take (d - a.dropped) (kept_commits a)) sound (first_kept a d sound)
-rows_few (Above commits) a sound asked =
-    let l = logs_few a (in_scope (Above commits) (tables_of a)).write_log (drop (commits - a.dropped) (kept_commits a) ++ tentative a) sound (above_kept a commits sound asked) in
-    let none = undo_many a [] [] sound (none_kept a) in
-    omega (arith, l, none)
-rows_few (OfItems items) a sound asked =
-    few_held a (in_scope (OfItems items) (tables_of a)).write_log (kept_in (OfItems items) a) (λ b. is_touched (tables_of a) items b.room) sound
-    (picked_kept a (λ row. is_named items row || (is_in_tail (length a.commits) items row && is_touched (tables_of a) items row.room)) sound)
+rows_few s a sound asked =
+    let i = in_part s a sound asked in
+    let l = logs_few a i.rows.log (kept_in s a) sound i.logs in
+    let b = rows_few_of a booking_id i.rows.booking sound i.bookings.bookings_apart (λ x h. booking_known a x (i.bookings.booking x h)) in
+    let e = rows_few_of a error_id i.rows.errorlog sound i.bookings.errors_apart (λ x h. error_known a x (i.bookings.errorlog x h)) in
+    let c = rows_few_of a cancelled_id i.rows.cancelled sound i.bookings.cancelled_apart (λ x h. cancelled_known a x (i.bookings.cancelled x h)) in
+    let n = ap counted_rows i.are in
+    omega (arith, l, b, e, c, n)

@@ -1,197 +1,191 @@
--- What calls of a part answer, and what their changes make of the tables.
-use Rattle.std.proofs.Common.{◌≡◌, refl, sym, ap, ◌∙◌, subst, ℕ, ◌+◌, ◌<◌, ◌==◌, Bool, true, false, leb, List, [], ◌∷◌, ◌++◌, length, map, take, drop, ◌⊎◌, inl, inr, arith, Ok, Some, IsTrue}
+-- What the calls of a part answer that commit and that accept a write of the replica's own, and what their changes make of the tables.
+use Rattle.std.proofs.Common.{◌≡◌, refl, sym, ap, ◌∙◌, subst, ℕ, ◌+◌, ◌<◌, ◌==◌, Bool, true, false, cond, ◌&&◌, leb, List, [], ◌∷◌, ◌++◌, length, map, take, drop, ◌⊎◌, inl, inr, arith, Option, Some, None, Ok, IsTrue}
 use Rattle.std.proofs.Math.Seq.{take-length}
 use Rattle.std.proofs.lemmas.List.{length-append}
-use Rattle.std.proofs.lemmas.Bool.{leb-true, cond-false, true≢false, false_from_ne_true}
-use Rattle.std.proofs.lemmas.Slice.Eq.{bytes_eq-Decides}
+use Rattle.std.proofs.lemmas.Bool.{leb-true, cond-false, false_from_ne_true}
 use Rattle.std.specs.Str.{bytes_eq}
-use Rattle.std.specs.List.{filter, list_any, cons_option}
-use Rattle.std.specs.Map.{values_of}
-use Rattle.std.specs.BTreeMap.{insert_entry}
-use Rattle.mr_model.specs.Writes.{Id, Stamp, Write, id_of, same_id}
+use Rattle.std.specs.List.{list_any}
+use Rattle.mr_model.specs.Texts.{Text}
+use Rattle.mr_model.specs.Writes.{Id, Stamp, Action, Books, Cancels, Write, id_of, same_id, is_write, is_action, is_id, is_room_name}
 use Rattle.mr_model.specs.Requests.{Request, is_request, stamped}
-use Rattle.mr_model.specs.Replay.{Place, Booking, place_among, slot_at}
-use Rattle.mr_model.specs.Board as board
-use Rattle.mr_model.specs.Replica.{Replica, IsReplica, tentative, order_of, clock_of, knows_room, add_write}
+use Rattle.mr_model.specs.Replay.{Place, Taken, Logged, Done, Void, place_for}
+use Rattle.mr_model.specs.Replica.{Replica, IsReplica, tentative, order_of, knows_room, is_among}
 use Rattle.mr_model.specs.Replies.{CommittedIs}
-use Rattle.mr_model.specs.Step.{After, commit, next_stamp}
-use Rattle.mr_model.specs.Tables.{MetaRow, VectorRow, BookingRow, booking_row, place_of, tables_of}
+use Rattle.mr_model.specs.Step.{After, commit, next_stamp, knows_booking}
+use Rattle.mr_model.specs.Tables.{MetaRow, VectorRow, log_row, log_row_with, place_row_for, tables_of}
+use Rattle.mr_model.specs.View.{of_room, place_of, canceller_of}
 use Rattle.mr_model.specs.Dropped.{Has}
-use Rattle.mr_model.specs.Queries.{booking_id, AreBookingsOf}
 use Rattle.mr_model.specs.Changes.{first_tentative, after_commit}
 use Rattle.mr_model.specs.Kept.{kept_in_order}
-use Rattle.mr_model.proofs.Members.{take_drop, has_map, map_has, has_filter, filter_has, same_id-true, same_id_refl}
-use Rattle.mr_model.proofs.KnownById.{one_known}
-use Rattle.mr_model.proofs.RowsOfKnown.{rows_of_known}
-use Rattle.mr_model.proofs.TablesTell.{booked_row}
+use Rattle.mr_model.specs.Scopes.{InRoom, OfTarget, NextCommits, log_row_id, next_commits, in_scope}
+use Rattle.mr_model.proofs.ChangesKeep.{within}
 use Rattle.mr_model.proofs.CommitsKeep.{keeps-commit}
-use Rattle.mr_model.proofs.TwinChanges.{added}
-use Rattle.mr_model.proofs.SubmitRows as model
-use Rattle.mr_model.proofs.CommandPlaces.{order-submit}
-use Rattle.mr_base.specs.Ids.{id_cmp}
+use Rattle.mr_model.proofs.DroppedApart.{order-parts}
+use Rattle.mr_model.proofs.InScope as scope
+use Rattle.mr_model.proofs.Orders.{added}
+use Rattle.mr_model.proofs.RowsById.{action_within}
+use Rattle.mr_model.proofs.KnownById.{tentative_known}
+use Rattle.mr_model.proofs.Members.{has_left, has_map, has_among, same_id_refl, take_drop}
+use Rattle.mr_replay.specs.declared.rows.Standing.TheVariants.{Booked, CancelledBy, InErrorLog}
+use Rattle.mr_replay.specs.declared.rows.Kept.{Kept}
+use Rattle.mr_replay.specs.declared.rows.Kept.TheVariants.{OfBooking, OfCancel}
 use Rattle.mr_replay.specs.declared.rows.Row.{Row}
 use Rattle.mr_replay.specs.Places.{UndoRow}
-use Rattle.mr_replay.specs.Rows.{Rows, is_booking_of, bookings_of, place_on, executed, executed_all, undo_rows_of, undo_row_of}
-use Rattle.mr_model.specs.Scopes.{InRoom, NextCommits}
-use Rattle.mr_model.specs.RowsInScope.{told_booking}
-use Rattle.mr_model.proofs.RoomRows.{place_alike, room_rows}
+use Rattle.mr_replay.specs.Rows.{Rows, row_at, is_standing, is_booking_of, bookings_of, place_on, executed, undo_row_at, undo_row_of, undo_rows_of, target_of, taken_back as taken_back_by}
+use Rattle.mr_replay.specs.Bookings.{if_taken, HasBookings}
+use Rattle.mr_replay.specs.Holds.{HaveDistinctIds}
+use Rattle.mr_replay.specs.Index.{is_row}
+use Rattle.mr_replay.proofs.Entries.{IsInOrder}
+use Rattle.mr_replay.proofs.Lists.{same_name, distinct-part}
+use Rattle.mr_replay.proofs.Placing.{booked-row, place_by_bookings}
+use Rattle.mr_tables.specs.Boards as tables
 use Rattle.mr_tables.specs.declared.summary.Summary.{Summary}
+use Rattle.mr_tables.specs.declared.summary.Tally.{Tally}
 use Rattle.mr_tables.specs.Summary.{summary_of, noted_write, noted_commits, stamp_next}
-use Rattle.mr_replica.specs.Desk.{desk_of}
-use Rattle.mr_replica.specs.Steps.{submit_request, outcome_in}
-use Rattle.mr_replica.specs.Log.{pushed}
-use Rattle.mr_tables.specs.Boards.{booking_entry, put_entries}
 use Rattle.mr_tables.specs.Change.{ChangeView, changed}
+use Rattle.mr_tables.specs.Rows.{seq_on}
+use Rattle.mr_tables.specs.Written.{meta_of, changed_tallies, with_places, written}
+use Rattle.mr_tables.proofs.BoardsTold.{board_told}
+use Rattle.mr_replica.specs.Accepting.{summary_in, with_last, puts_last, CanPutLast}
 use Rattle.mr_replica.specs.ChangeLaws.{board_before, kept_committed}
-use Rattle.mr_tables.specs.Rows.{seq_on, log_row_with, undo_row_with, booking_with, error_with}
-use Rattle.mr_model.specs.Queries.{error_id}
+use Rattle.mr_replica.specs.Desk.{DeskView, desk_of}
 use Rattle.mr_replica.specs.DeskTables.{desk_tables}
-use Rattle.mr_replica.specs.Turning.{put_outcome}
-use Rattle.mr_tables.specs.Written.{meta_of, changed_tallies, written}
 use Rattle.mr_part.specs.Parts.{PartView, part_of}
-use Rattle.mr_replica.proofs.BoardRows.{places_head, put_had, put_there, put_keeps}
-use Rattle.mr_replica.proofs.DeskRows.{desk_tables-of}
-use Rattle.mr_replica.proofs.Writing.{part_places}
-use Rattle.mr_replica.proofs.Changing.{same_dropped, kept_committed_long}
+use Rattle.mr_part.specs.PartAccepting.{part_puts, CanPut}
+use Rattle.mr_replica.specs.Logged.{undo_with}
+use Rattle.mr_replica.specs.Placing.{with_places_put, kept_place, RowEnds, TargetEnds, kept_canceller, row_canceller, cancellers_on, kept_is_booking, is_booking_in, has_booking, taken_row, taken_on, taken_rows_of, taken_rows}
+use Rattle.mr_replica.specs.Steps.{submit_request, outcome_in, cancel_with, cancel_request, outcome_at_room}
+use Rattle.mr_replica.specs.Turning.{put_outcome, put_cancel_outcome}
+use Rattle.mr_replica.proofs.Changing.{kept_committed_long}
 use Rattle.mr_replica.proofs.Committing.{commit_done}
 use Rattle.mr_replica.proofs.CommandTurns.{numbers_after, commit_turns}
-use Rattle.mr_replica.proofs.Desks.{desk_with}
-use Rattle.mr_replica.proofs.Submitting.{Submits, submits, submitted_is_next}
-use Rattle.mr_replica.proofs.SubmittedRows.{few_kept, Submitted, submitted}
+use Rattle.mr_replica.proofs.DeskBoards.{board_of, board-told}
+use Rattle.mr_replica.proofs.DeskNumbers.{order_distinct}
+use Rattle.mr_replica.proofs.DeskRows.{desk_tables-of}
+use Rattle.mr_part.proofs.PartBoards.{if_picked, is_taken_back, is_in_part, part-row, board_in_order, board_in, board_in_ordered, has_bookings}
+use Rattle.mr_replica.proofs.Placings.{canceller-here, rows_end, booking-known}
+use Rattle.mr_replica.proofs.Submitting.{Submits, submits, Withdraws, withdraws, submitted_is_next, cancelled_is_next}
+use Rattle.mr_replica.proofs.SubmittedRows.{few_kept, booking_takes, PutsLast, submitted, withdrawn}
+use Rattle.mr_replica.proofs.Writing.{part_places}
 
 -- ---- a commit
-
--- the undo row of a kept write
-abbrev pub undo_in_part : Replica → Write → UndoRow
-undo_in_part a w = record { id = id_of w; place = place_of a w }
 
 -- as many elements of a list as it has are the list
 pub take_same : {A : Type 0} (k : ℕ) (xs ys : List A) → k ≡ length ys → xs ≡ ys → take k xs ≡ ys
 take_same k xs ys n e = (λ t. take (n t) (e t)) ∙ take-length ys
 
 -- undo rows with these places are these
-undo_told : (f : Write → Place) (b : Rows) (ws : List Write) → map (λ (u : UndoRow). u.place) (undo_rows_of b ws) ≡ map f ws → ◌≡◌ {A = List UndoRow} (map (λ w. record { id = id_of w; place = f w }) ws) (undo_rows_of b ws)
+undo_told : (f : Write → Place) (b : Rows) (ws : List Write) → map (λ (u : UndoRow). u.place) (undo_rows_of b ws) ≡ map f ws → map (undo_with f) ws ≡ undo_rows_of b ws
 undo_told f b [] e = refl
 undo_told f b (w ∷ ws) e =
-    let p = places_head f b w ws e in
-    let here : f w ≡ place_on b w = sym p.0 in
-    let rest = undo_told f (executed b w) ws p.1 in
-    λ i. record { id = id_of w; place = here i } ∷ rest i
+    let all : place_on b w ∷ map (λ (u : UndoRow). u.place) (undo_rows_of (executed b w) ws) ≡ f w ∷ map f ws = e in
+    let here : place_on b w ≡ f w = (cc) in
+    let later : map (λ (u : UndoRow). u.place) (undo_rows_of (executed b w) ws) ≡ map f ws = (cc) in
+    let rest = undo_told f (executed b w) ws later in
+    λ i. undo_row_at w (sym here i) ∷ rest i
 
-pub part_commit : (a : Replica) (k : ℕ) (p : PartView) (next : Summary) (change : ChangeView) → IsReplica a → p ≡ part_of (NextCommits k) a → (a.server == a.primary) ≡ true → next ≡ noted_commits p.summary (map id_of p.kept)
-    → (p.summary.commits + 1 + length p.kept < 18446744073709551616 → change ≡ written (meta_of next) [] (changed_tallies p.summary.tallies next.tallies) next.commits (p.summary.commits + 1) p.kept p.undo)
+taken_known : (a : Replica) (k : ℕ) (w : Write) → Has w (first_tentative a k) → Has w a.known
+taken_known a k w h = (tentative_known a w (subst (Has w) (take_drop k (tentative a)) (has_left w (take k (tentative a)) (drop k (tentative a)) h))).0
+
+-- the part's board has the rows of what was taken back
+canceller_picked : (c : Bool) (o : Option Row) → c ≡ true → row_canceller (if_picked (λ row. is_taken_back row.kept && c) o) ≡ row_canceller o
+canceller_picked c None h = refl
+canceller_picked c (Some row) h = ap (λ d. row_canceller (if_picked (λ r. is_taken_back r.kept && d) (Some row))) h ∙ go row.kept
+  where
+    go : (k : Kept) → row_canceller (cond (is_taken_back k && true) (Some (record { room = row.room; kept = k })) None) ≡ kept_canceller k
+    go (OfBooking s l t Booked) = refl
+    go (OfBooking s l t (CancelledBy c)) = refl
+    go (OfBooking s l t InErrorLog) = refl
+    go (OfCancel x) = refl
+
+-- so it tells the cancels of the writes that are committed
+commit_bys : (a : Replica) (k : ℕ) (ws : List Write) → IsReplica a → ((w : Write) → Has w ws → Has w (first_tentative a k)) → cancellers_on (tables.board_of (in_scope (NextCommits k) (tables_of a))) ws ≡ map (canceller_of a) ws
+commit_bys a k [] sound first = refl
+commit_bys a k (w ∷ ws) sound first =
+    let rest = commit_bys a k ws sound (λ v h. first v (inr h)) in
+    λ i. here i ∷ rest i
+  where
+    named : is_among (id_of w) (map log_row_id (next_commits k (tables_of a))) ≡ true
+    named =
+        ap (λ rows. is_among (id_of w) (map log_row_id rows)) (scope.next_commits a k sound).0
+        ∙ has_among (id_of w) (map log_row_id (map (log_row a) (first_tentative a k))) (has_map log_row_id (log_row a w) (map (log_row a) (first_tentative a k)) (has_map (log_row a) w (first_tentative a k) (first w (inl refl))))
+
+    here : row_canceller (row_at (tables.board_of (in_scope (NextCommits k) (tables_of a))) (id_of w)) ≡ canceller_of a w
+    here =
+        ap row_canceller (part-row (NextCommits k) a (id_of w) sound)
+        ∙ canceller_picked (is_among (id_of w) (map log_row_id (next_commits k (tables_of a)))) (row_at (tables.board_of (tables_of a)) (id_of w)) named
+        ∙ ap (λ b. row_canceller (row_at b (id_of w))) (sym (board-told a sound))
+        ∙ canceller-here a w sound (taken_known a k w (first w (inl refl)))
+
+pub part_commit : (a : Replica) (k : ℕ) (p : PartView) (next : Summary) (bys : List (Option Id)) (change : ChangeView) → IsReplica a → p ≡ part_of (NextCommits k) a → (a.server == a.primary) ≡ true → next ≡ noted_commits p.summary (map id_of p.kept) → bys ≡ cancellers_on p.board p.kept
+    → (p.summary.commits + 1 + length p.kept < 18446744073709551616 → change ≡ written (meta_of next) [] (changed_tallies p.summary.tallies next.tallies) next.commits (p.summary.commits + 1) p.kept p.undo bys)
     → (CommittedIs (length p.kept) ≡ (commit a k).reply) × (changed change (tables_of a) ≡ tables_of (commit a k).replica)
-part_commit a k p next change sound e own is change_is =
+part_commit a k p next bys change sound e own is bys_are change_is =
     let step = commit_done a k own in
     let writes : p.kept ≡ first_tentative a k = ap (λ (v : PartView). v.kept) e in
     let parts : kept_in_order a ≡ kept_committed a ++ (first_tentative a k ++ drop k (tentative a)) = ap (λ ws. kept_committed a ++ ws) (sym (take_drop k (tentative a))) in
     let rows : p.undo ≡ undo_rows_of (board_before a (kept_committed a)) (first_tentative a k) =
     ap (λ (v : PartView). v.undo) e ∙ undo_told (place_of a) (board_before a (kept_committed a)) (first_tentative a k) (part_places a (kept_committed a) (first_tentative a k) (drop k (tentative a)) sound parts) in
+    let cancels : bys ≡ map (canceller_of a) (first_tentative a k) = bys_are ∙ (λ i. cancellers_on (e i).board (e i).kept) ∙ commit_bys a k (first_tentative a k) sound (λ w h. h) in
     let summary = ap (λ (v : PartView). v.summary) e in
     let numbers = numbers_after a k p.summary next p.kept sound summary writes is in
-    let turned = commit_turns a k (desk_of a) (desk_of (after_commit a k)) p.summary next p.kept p.undo change sound refl refl summary numbers writes rows change_is in (
+    let turned = commit_turns a k (desk_of a) (desk_of (after_commit a k)) p.summary next p.kept p.undo bys change sound refl refl summary numbers writes rows cancels change_is in (
       ap (λ ws. CommittedIs (length ws)) writes ∙ ap (λ (s : After). s.reply) (sym step),
       ap (changed change) (sym (desk_tables-of a sound)) ∙ turned ∙ desk_tables-of (after_commit a k) (keeps-commit a k sound) ∙ ap (λ (s : After). tables_of s.replica) (sym step),
     )
 
--- ---- a board of bookings
+-- ---- a write of the replica's own
 
-put_all_had : (e : Id × Row) (es b : Rows) → Has e (put_entries es b) → Has e es ⊎ Has e b
-put_all_had e [] b h = inr h
-put_all_had e (x ∷ xs) b h = go (put_all_had e xs (insert_entry id_cmp b x.0 x.1) h)
+-- behind the last commit all numbers are the same
+written_last : (meta : MetaRow) (vector : List VectorRow) (c k j : ℕ) (w : Write) (u : UndoRow) (by : Option Id) → c < k → c < j → written meta [] vector c k (w ∷ []) (u ∷ []) (by ∷ []) ≡ written meta [] vector c j (w ∷ []) (u ∷ []) (by ∷ [])
+written_last meta vector c k j w u by l m =
+    let e : leb k c ≡ false = false_from_ne_true (leb k c) (λ t. let g = leb-true k c t in omega (arith, g, l)) in
+    let f : leb j c ≡ false = false_from_ne_true (leb j c) (λ t. let g = leb-true j c t in omega (arith, g, m)) in
+    let zero : seq_on c k ≡ seq_on c j = cond-false (leb k c) k 0 e ∙ sym (cond-false (leb j c) j 0 f) in
+    put-same meta vector w u by (leb k c) (leb j c) (seq_on c k) (seq_on c j) (e ∙ sym f) zero
   where
-    go : Has e xs ⊎ Has e (insert_entry id_cmp b x.0 x.1) → Has e (x ∷ xs) ⊎ Has e b
-    go (inl g) = inl (inr g)
-    go (inr g) = part (put_had e b x.0 x.1 g)
-      where
-        part : (e ≡ (x.0, x.1)) ⊎ Has e b → Has e (x ∷ xs) ⊎ Has e b
-        part (inl f) = inl (inl f)
-        part (inr f) = inr f
+    -- the rows are made of these numbers alone
+    put : MetaRow → List VectorRow → Write → UndoRow → Option Id → Bool → ℕ → ChangeView
+    put meta vector w u by mark seq = with_places meta [] vector (log_row_with w u.place seq ∷ []) (place_row_for w w.action u.place by mark seq ∷ [])
 
-put_all_there : (e : Id × Row) (es b : Rows) → ((x : Id × Row) → Has x es → x.0 ≡ e.0 → x ≡ e) → Has e es ⊎ Has e b → Has e (put_entries es b)
-put_all_there e [] b f (inl h) = absurd h
-put_all_there e [] b f (inr h) = h
-put_all_there e (x ∷ xs) b f h = put_all_there e xs (insert_entry id_cmp b x.0 x.1) (λ y g. f y (inr g)) (go h)
-  where
-    new : e ≡ x → Has e (insert_entry id_cmp b x.0 x.1)
-    new s = subst (λ y. Has y (insert_entry id_cmp b x.0 x.1)) (sym s) (put_there b x.0 x.1)
+    put-same : (meta : MetaRow) (vector : List VectorRow) (w : Write) (u : UndoRow) (by : Option Id) (a b : Bool) (x y : ℕ) → a ≡ b → x ≡ y → put meta vector w u by a x ≡ put meta vector w u by b y
+    put-same meta vector w u by a b x y p q = λ i. put meta vector w u by (p i) (q i)
 
-    old : Has e b → (c : Bool) → same_id e.0 x.0 ≡ c → Has e (insert_entry id_cmp b x.0 x.1)
-    old g true s = new (sym (f x (inl refl) (sym (same_id-true e.0 x.0 s))))
-    old g false s = put_keeps e b x.0 x.1 (λ t. true≢false (sym (subst (λ i. same_id e.0 i ≡ true) t (same_id_refl e.0)) ∙ s)) g
-
-    go : Has e (x ∷ xs) ⊎ Has e b → Has e xs ⊎ Has e (insert_entry id_cmp b x.0 x.1)
-    go (inl (inl s)) = inr (new s)
-    go (inl (inr g)) = inl g
-    go (inr g) = inr (old g (same_id e.0 x.0) refl)
-
--- on a board of the bookings of a room the next write of it goes where these bookings tell
-board_place : (rows : List BookingRow) (w : Write) → ((x : BookingRow) → Has x rows → x.room ≡ w.room) → ((x y : BookingRow) → Has x rows → Has y rows → booking_id x ≡ booking_id y → x ≡ y) → place_on (put_entries (map booking_entry rows) []) w ≡ place_among (map told_booking rows) w
-board_place rows w of one = place_alike (bookings_of w.room b) (map told_booking rows) w there back
-  where
-    b : Rows
-    b = put_entries (map booking_entry rows) []
-
-    there : (k : Booking) → Has k (bookings_of w.room b) → Has k (map told_booking rows)
-    there k h =
-        let (row, g, e) = map_has (λ (r : Row). record { slot = r.slot; length = r.length }) k (filter (is_booking_of w.room) (values_of b)) h in
-        let f = filter_has (is_booking_of w.room) row (values_of b) g in
-        let (x, i, j) = map_has (λ (x : Id × Row). x.1) row b f.0 in
-        go row x e j (put_all_had x (map booking_entry rows) [] i)
-      where
-        go : (row : Row) (x : Id × Row) → k ≡ record { slot = row.slot; length = row.length } → row ≡ x.1 → Has x (map booking_entry rows) ⊎ Has x [] → Has k (map told_booking rows)
-        go row x e j (inr g) = absurd g
-        go row x e j (inl g) =
-            let (y, m, n) = map_has booking_entry x rows g in
-            subst (λ z. Has z (map told_booking rows)) (sym (e ∙ ap (λ (r : Row). record { slot = r.slot; length = r.length }) (j ∙ ap (λ (z : Id × Row). z.1) n))) (has_map told_booking y rows m)
-
-    back : (k : Booking) → Has k (map told_booking rows) → Has k (bookings_of w.room b)
-    back k h =
-        let (y, m, n) = map_has told_booking k rows h in
-        let entry = booking_entry y in
-        let only = λ (x : Id × Row) (g : Has x (map booking_entry rows)) (s : x.0 ≡ entry.0). let (z, i, j) = map_has booking_entry x rows g in j ∙ ap booking_entry (one z y i m (sym (ap (λ (t : Id × Row). t.0) j) ∙ s)) in
-        let there : Has entry b = put_all_there entry (map booking_entry rows) [] only (inl (has_map booking_entry y rows m)) in
-        let row : Has entry.1 (values_of b) = has_map (λ (x : Id × Row). x.1) entry b there in
-        let booked : is_booking_of w.room entry.1 ≡ true = (bytes_eq-Decides y.room w.room).1 (of y m) in
-        subst (λ z. Has z (bookings_of w.room b)) (sym n) (has_map (λ (r : Row). record { slot = r.slot; length = r.length }) entry.1 (filter (is_booking_of w.room) (values_of b)) (has_filter (is_booking_of w.room) entry.1 (values_of b) booked row))
-
-one_booking : (a : Replica) (x y : BookingRow) → IsReplica a → Has x (tables_of a).booking → Has y (tables_of a).booking → booking_id x ≡ booking_id y → x ≡ y
-one_booking a x y sound g h e =
-    let (v, k, f) = ((rows_of_known a sound).booking x).0 g in
-    let (w, l, m) = ((rows_of_known a sound).booking y).0 h in
-    let (s, p, q) = booked_row a v x f in
-    let (t, r, u) = booked_row a w y m in
-    let same : v ≡ w = one_known a v w sound k l (sym (ap booking_id q) ∙ e ∙ ap booking_id u) in
-    some_same x y (sym f ∙ ap (booking_row a) same ∙ m)
-  where
-    some_same : (x y : BookingRow) → Some x ≡ Some y → x ≡ y
-    some_same x y e = cc
+-- where the part's board gives the write the place that the replica's gives it, and has the row of what it takes back, what is put is
+-- what the replica's desk puts
+part_puts_last : (a : Replica) (p : PartView) (w : Write) (change : ChangeView) → IsReplica a → p.summary ≡ summary_of a → place_on p.board w ≡ place_on (board_of a) w → taken_rows p.summary.tallies p.board (undo_row_of p.board w) ≡ taken_rows p.summary.tallies (board_of a) (undo_row_of p.board w) → TargetEnds p.board (target_of w.action)
+    → (CanPut p (noted_write p.summary w.stamp) w → change ≡ part_puts p (noted_write p.summary w.stamp) w) → PutsLast (desk_of a) w change
+part_puts_last a p w change sound summary place taken ends is can =
+    let s : Summary = noted_write (summary_of a) w.stamp in
+    let few = few_kept a sound in
+    let long = kept_committed_long a sound in
+    let all : length (kept_in_order a) ≡ length (kept_committed a) + length (tentative a) = length-append (kept_committed a) (tentative a) in
+    let commits : (noted_write p.summary w.stamp).commits ≡ length a.commits = ap (λ (x : Summary). x.commits) summary in
+    let small : (noted_write p.summary w.stamp).commits + 1 + 1 < 18446744073709551616 = omega (arith, commits, few, long, all) in
+    let above : length a.commits < a.dropped + 1 + length (kept_in_order a) = omega (arith, long, all) in
+    let next_up : length a.commits < length a.commits + 1 = omega arith in
+    let row : undo_row_of p.board w ≡ undo_row_of (board_of a) w = ap (undo_row_at w) place in
+    is (small, ends)
+    ∙ ap (with_places_put (written (meta_of (noted_write p.summary w.stamp)) [] (changed_tallies p.summary.tallies (noted_write p.summary w.stamp).tallies) (noted_write p.summary w.stamp).commits ((noted_write p.summary w.stamp).commits + 1) (w ∷ []) (undo_row_of p.board w ∷ []) (None ∷ []))) taken
+    ∙ (λ i.
+    let t : Summary = noted_write (summary i) w.stamp in
+    with_places_put (written (meta_of t) [] (changed_tallies (summary i).tallies t.tallies) t.commits (t.commits + 1) (w ∷ []) (row i ∷ []) (None ∷ []))
+    (taken_rows (summary i).tallies (board_of a) (row i)))
+    ∙ ap (λ c. with_places_put c (taken_rows (summary_of a).tallies (board_of a) (undo_row_of (board_of a) w)))
+    (written_last (meta_of s) (changed_tallies (summary_of a).tallies s.tallies) (length a.commits) (length a.commits + 1) (a.dropped + 1 + length (kept_in_order a)) w (undo_row_of (board_of a) w) None next_up above)
 
 -- ---- a submission
 
--- behind the last commit all numbers are the same
-made : MetaRow → List VectorRow → Write → UndoRow → Bool → ℕ → ChangeView
-made meta vector w u mark seq =
-    record {
-      meta = meta;
-      room = [];
-      vector = vector;
-      dropped = [];
-      write_log = log_row_with w seq ∷ [];
-      undo = undo_row_with u ∷ [];
-      unbooked = map error_id (cons_option (error_with w seq u.place) []);
-      booking = cons_option (booking_with w mark (slot_at w u.place)) [];
-      unlogged = map booking_id (cons_option (booking_with w mark (slot_at w u.place)) []);
-      errorlog = cons_option (error_with w seq u.place) [];
-    }
-
-written_last : (meta : MetaRow) (vector : List VectorRow) (c k j : ℕ) (w : Write) (u : UndoRow) → c < k → c < j → written meta [] vector c k (w ∷ []) (u ∷ []) ≡ written meta [] vector c j (w ∷ []) (u ∷ [])
-unfolding made
-written_last meta vector c k j w u l m =
-    let e : leb k c ≡ false = false_from_ne_true (leb k c) (λ t. let g = leb-true k c t in omega (arith, g, l)) in
-    let f : leb j c ≡ false = false_from_ne_true (leb j c) (λ t. let g = leb-true j c t in omega (arith, g, m)) in
-    let seq : seq_on c k ≡ seq_on c j = cond-false (leb k c) k 0 e ∙ sym (cond-false (leb j c) j 0 f) in
-    λ i. made meta vector w u ((e ∙ sym f) i) (seq i)
+-- on a board with the bookings of its room a write goes where the replica's board tells
+room_place : (a : Replica) (mine : Text → Bool) (w : Write) → IsReplica a → mine w.room ≡ true → place_on (board_in mine a) w ≡ place_on (board_of a) w
+room_place a mine w sound m =
+    let room = w.room in
+    let list = of_room room (order_of a) in
+    let holds = board_told a sound in
+    let distinct : HaveDistinctIds list = distinct-part room (order_of a) (subst (λ (ws : List Write). HaveDistinctIds ws) (sym (order-parts a)) (order_distinct a sound)) in
+    place_by_bookings room list (board_in mine a) w refl (board_in_ordered mine a) distinct (has_bookings a mine sound room m)
+    ∙ sym (place_by_bookings room list (tables.board_of (tables_of a)) w refl holds.ordered distinct (λ i. ap if_taken (holds.rooms room i)))
+    ∙ ap (λ b. place_on b w) (sym (board-told a sound))
 
 -- what is owed where a request was accepted: the step, and what the change does and says
 pub record PartSubmitted (a : Replica) (q : Request) (id : Id) (change : ChangeView) : Type 0 where
@@ -199,47 +193,149 @@ pub record PartSubmitted (a : Replica) (q : Request) (id : Id) (change : ChangeV
   pub turns : changed change (tables_of a) ≡ tables_of (submit_request q a).replica
   pub tells : outcome_in q (submit_request q a).replica id ≡ put_outcome change.booking change.errorlog
 
-pub part_submit : (a : Replica) (q : Request) (p : PartView) (stamp : Stamp) (w : Write) (s : Summary) (id : Id) (u : UndoRow) (change : ChangeView) → IsReplica a → p ≡ part_of (InRoom q.room) a → IsTrue (is_request q) → list_any (bytes_eq q.room) p.rooms ≡ true → stamp_next p.summary ≡ Ok stamp
-    → w ≡ stamped stamp q → s ≡ noted_write p.summary stamp → id ≡ record { server = stamp.server; n = stamp.n } → u ≡ record { id = id_of w; place = place_on p.board w }
-    → (s.commits + 1 + 1 < 18446744073709551616 → change ≡ written (meta_of s) [] (changed_tallies p.summary.tallies s.tallies) s.commits (s.commits + 1) (w ∷ []) (u ∷ []))
+-- a booking takes nothing back
+books_none : (ts : List Tally) (b c : Rows) (i : Id) (p : Place) → taken_rows_of ts b i (taken_back_by p None) ≡ taken_rows_of ts c i (taken_back_by p None)
+books_none ts b c i p = booking_takes ts b i p ∙ sym (booking_takes ts c i p)
+
+pub part_submit : (a : Replica) (q : Request) (p : PartView) (stamp : Stamp) (w : Write) (id : Id) (change : ChangeView) → IsReplica a → p ≡ part_of (InRoom q.room) a → IsTrue (is_request q) → list_any (bytes_eq q.room) p.rooms ≡ true → stamp_next p.summary ≡ Ok stamp
+    → w ≡ stamped stamp q → id ≡ record { server = stamp.server; n = stamp.n }
+    → (CanPut p (noted_write p.summary w.stamp) w → change ≡ part_puts p (noted_write p.summary w.stamp) w)
     → PartSubmitted a q id change
-part_submit a q p stamp w s id u change sound e within there stamp_is w_is s_is id_is u_is change_is =
+part_submit a q p stamp w id change sound e good there stamp_is w_is id_is change_is =
     let summary : p.summary ≡ summary_of a = ap (λ (v : PartView). v.summary) e in
     let rooms : p.rooms ≡ a.rooms = ap (λ (v : PartView). v.rooms) e in
+    let board : p.board ≡ board_in (λ name. bytes_eq name q.room) a = ap (λ (v : PartView). v.board) e in
+    let own : bytes_eq w.room q.room ≡ true = same_name w.room q.room (ap (λ (v : Write). v.room) w_is) in
+    let books : w.action ≡ Books q.meeting = ap (λ (v : Write). v.action) w_is in
+    let place : place_on p.board w ≡ place_on (board_of a) w = ap (λ b. place_on b w) board ∙ room_place a (λ name. bytes_eq name q.room) w sound own in
+    let u = undo_row_of p.board w in
+    let none : taken_rows p.summary.tallies p.board u ≡ taken_rows p.summary.tallies (board_of a) u =
+    ap (λ x. taken_rows_of p.summary.tallies p.board (id_of w) (taken_back_by (place_on p.board w) (target_of x))) books
+    ∙ books_none p.summary.tallies p.board (board_of a) (id_of w) (place_on p.board w)
+    ∙ ap (λ x. taken_rows_of p.summary.tallies (board_of a) (id_of w) (taken_back_by (place_on p.board w) (target_of x))) (sym books) in
+    let ends : TargetEnds p.board (target_of w.action) = subst (λ x. TargetEnds p.board (target_of x)) (sym books) tt in
+    let puts = part_puts_last a p w change sound summary place none ends change_is in
     let known : knows_room a q.room ≡ true = ap (λ rs. list_any (bytes_eq q.room) rs) (sym rooms) ∙ there in
-    let stamp_at : stamp_next (summary_of a) ≡ Ok stamp = ap stamp_next (sym summary) ∙ stamp_is in
-    let step = subst (Submits a q) stamp_at (submits a q sound known) in
-    let v : Write = stamped (next_stamp a) q in
-    let next = submitted_is_next a q sound within step.2 step.3 in
-    let late : clock_of a < clock_of a + 1 = omega arith in
-    let same : w ≡ v = w_is ∙ ap (λ t. stamped t q) step.0 in
-    let sound' = added a v sound next in
-    let order = order-submit a v sound next late in
-    let parts = same_dropped a (add_write a v) (v ∷ []) sound sound' refl order in
-    let rows : List BookingRow = filter (λ b. bytes_eq b.room q.room) (tables_of a).booking in
-    let of = λ (x : BookingRow) (h : Has x rows). (bytes_eq-Decides x.room q.room).0 (filter_has (λ b. bytes_eq b.room q.room) x (tables_of a).booking h).1 in
-    let one = λ (x y : BookingRow) (g : Has x rows) (h : Has y rows) (t : booking_id x ≡ booking_id y). one_booking a x y sound (filter_has (λ b. bytes_eq b.room q.room) x (tables_of a).booking g).0 (filter_has (λ b. bytes_eq b.room q.room) y (tables_of a).booking h).0 t in
-    let are : AreBookingsOf a q.room rows = λ row. (λ h. ((filter_has (λ b. bytes_eq b.room q.room) row (tables_of a).booking h).0, of row h), λ g. has_filter (λ b. bytes_eq b.room q.room) row (tables_of a).booking ((bytes_eq-Decides row.room q.room).1 g.1) g.0) in
-    let by_rows : place_on p.board v ≡ board.place_on (board.board_after [] (order_of a)) v = ap (λ (x : PartView). place_on x.board v) e ∙ board_place rows v of one ∙ sym (room_rows a v rows sound are) in
-    let by_desk : place_on (board_before (add_write a v) (kept_in_order a)) v ≡ place_of (add_write a v) v = (places_head (place_of (add_write a v)) (board_before (add_write a v) (kept_in_order a)) v [] (part_places (add_write a v) (kept_in_order a) (v ∷ []) [] sound' parts.1)).0 in
-    let desk : place_on (desk_of a).log.board v ≡ place_of (add_write a v) v = ap (λ ws. place_on (executed_all (executed_all [] ws) (kept_in_order a)) v) parts.0 ∙ by_desk in
-    let place : place_on p.board v ≡ place_on (desk_of a).log.board v = by_rows ∙ sym ((model.submit_changes a v sound next late known).place) ∙ sym desk in
-    let row : u ≡ undo_row_of (desk_of a).log.board w = u_is ∙ (λ i. record { id = id_of w; place = (ap (place_on p.board) same ∙ place ∙ ap (place_on (desk_of a).log.board) (sym same)) i }) in
-    let commits : s.commits ≡ length a.commits = ap (λ (x : Summary). x.commits) s_is ∙ ap (λ (x : Summary). x.commits) summary in
-    let few = few_kept a sound in
-    let long = kept_committed_long a sound in
-    let all : length (kept_in_order a) ≡ length (kept_committed a) + length (tentative a) = length-append (kept_committed a) (tentative a) in
-    let small : s.commits + 1 + 1 < 18446744073709551616 = omega (arith, commits, few, long, all) in
-    let above : s.commits < a.dropped + 1 + length (kept_in_order a) = omega (arith, commits, long, all) in
-    let next_up : s.commits < s.commits + 1 = omega arith in
-    let put : change ≡ written (meta_of s) [] (changed_tallies (desk_of a).tallies s.tallies) s.commits (a.dropped + 1 + length (kept_in_order a)) (w ∷ []) (undo_row_of (desk_of a).log.board w ∷ []) =
-    change_is small ∙ written_last (meta_of s) (changed_tallies p.summary.tallies s.tallies) s.commits (s.commits + 1) (a.dropped + 1 + length (kept_in_order a)) w u next_up above
-    ∙ (λ i. written (meta_of s) [] (changed_tallies (summary i).tallies s.tallies) s.commits (a.dropped + 1 + length (kept_in_order a)) (w ∷ []) (row i ∷ [])) in
-    let done : Submitted a q id change (desk_of a) (desk_with s a.rooms (pushed (desk_of a).log w) (desk_of a).old_errors) =
-    submitted a q (desk_of a) (desk_with s a.rooms (pushed (desk_of a).log w) (desk_of a).old_errors) stamp w s id change sound refl within known stamp_at w_is (s_is ∙ ap (λ x. noted_write x stamp) summary) id_is (λ l. put) refl in
-    let sound-after = subst (λ (s : After). IsReplica s.replica) (sym step.1) sound' in
+    let step = subst (Submits a q) (ap stamp_next (sym summary) ∙ stamp_is) (submits a q sound known) in
+    let sound-after = subst (λ (s : After). IsReplica s.replica) (sym step.1) (added a (stamped (next_stamp a) q) sound (submitted_is_next a q sound good step.2 step.3)) in
+    let done =
+    submitted a q (desk_of a) (with_last (desk_of a) w) stamp w id change sound refl good known (ap stamp_next (sym summary) ∙ stamp_is)
+    w_is id_is puts refl in
     record {
       step = done.step;
       turns = ap (changed change) (sym (desk_tables-of a sound)) ∙ done.turns ∙ ap desk_tables done.stands ∙ desk_tables-of (submit_request q a).replica sound-after;
       tells = done.tells;
     }
+
+-- ---- a cancel
+
+-- the part's board has the row of its target as the replica's board has it
+module _ (target : Id) where
+  abbrev picked : Option Row → Option Row
+  picked o = if_picked (λ row. kept_is_booking row.kept && same_id target target) o
+
+  here : same_id target target ≡ true
+  here = same_id_refl target
+
+  -- of a booking
+  kept_picked : {A : Type 0} (f : Option Row → A) (row : Row) → ((x : Id) → row.kept ≡ OfCancel x → f None ≡ f (Some row)) → f (picked (Some row)) ≡ f (Some row)
+  kept_picked f row none = go row.kept refl
+    where
+      go : (k : Kept) → row.kept ≡ k → f (picked (Some row)) ≡ f (Some row)
+      go (OfBooking s l t st) e = λ i. f (cond (kept_is_booking (e i) && here i) (Some row) None)
+      go (OfCancel x) e = (λ i. f (cond (kept_is_booking (e i) && same_id target target) (Some row) None)) ∙ none x e
+
+  standing_picked : (room : Text) (o : Option Row) → is_row (is_booking_of room) (picked o) ≡ is_row (is_booking_of room) o
+  standing_picked room None = refl
+  standing_picked room (Some row) = kept_picked (is_row (is_booking_of room)) row (λ x e. sym (λ i. is_standing (e i) && bytes_eq row.room room))
+
+  booking_picked : (room : Text) (o : Option Row) → is_booking_in room (picked o) ≡ is_booking_in room o
+  booking_picked room None = refl
+  booking_picked room (Some row) = kept_picked (is_booking_in room) row (λ x e. sym ((λ i. cond (bytes_eq row.room room) (kept_is_booking (e i)) false) ∙ never (bytes_eq row.room room)))
+    where
+      never : (b : Bool) → cond b false false ≡ false
+      never true = refl
+      never false = refl
+
+  taken_picked : (ts : List Tally) (by : Id) (o : Option Row) → taken_on ts by target (picked o) ≡ taken_on ts by target o
+  taken_picked ts by None = refl
+  taken_picked ts by (Some row) = kept_picked (taken_on ts by target) row (λ x e. sym (λ i. taken_row by (kept_place ts target row.room (e i))))
+
+  ends_picked : (o : Option Row) → RowEnds o → RowEnds (picked o)
+  ends_picked None h = tt
+  ends_picked (Some row) h = go (kept_is_booking row.kept && same_id target target)
+    where
+      go : (c : Bool) → RowEnds (cond c (Some row) None)
+      go true = h
+      go false = tt
+
+-- on a board with the row of its target a cancel goes where the replica's board tells
+target_place : (a : Replica) (target : Id) (b : Rows) (w : Write) → IsReplica a → w.action ≡ Cancels target → IsInOrder b → row_at b target ≡ picked target (row_at (tables.board_of (tables_of a)) target) → place_on b w ≡ place_on (board_of a) w
+target_place a target b w sound cancels ordered row =
+    let desk = tables.board_of (tables_of a) in
+    let booked = booked-row w.room b target ordered ∙ ap (is_row (is_booking_of w.room)) row ∙ standing_picked target w.room (row_at desk target) ∙ sym (booked-row w.room desk target (board_told a sound).ordered) in
+    ap (place_for (bookings_of w.room b)) cancels
+    ∙ ap (λ c. cond c Done Void) booked
+    ∙ ap (place_for (bookings_of w.room desk)) (sym cancels)
+    ∙ ap (λ c. place_on c w) (sym (board-told a sound))
+
+-- what is owed where a cancel was accepted
+pub record PartWithdrawn (a : Replica) (room : Text) (target : Id) (id : Id) (change : ChangeView) : Type 0 where
+  pub step : outcome_at_room room (cancel_request room target a).replica id ≡ (cancel_request room target a).reply
+  pub turns : changed change (tables_of a) ≡ tables_of (cancel_request room target a).replica
+  pub tells : outcome_at_room room (cancel_request room target a).replica id ≡ put_cancel_outcome change.cancels
+
+-- whether its target is known is told by the part
+target_known : (a : Replica) (room : Text) (target : Id) (p : PartView) → IsReplica a → p ≡ part_of (OfTarget target) a → has_booking p.board room target ≡ has_booking (board_of a) room target
+target_known a room target p sound e =
+    let desk = tables.board_of (tables_of a) in
+    ap (λ (v : PartView). is_booking_in room (row_at v.board target)) e ∙ ap (is_booking_in room) (part-row (OfTarget target) a target sound) ∙ booking_picked target room (row_at desk target)
+    ∙ ap (λ b. is_booking_in room (row_at b target)) (sym (board-told a sound))
+
+-- and so it is told whether the replica knows it
+pub target_booked : (a : Replica) (room : Text) (target : Id) (p : PartView) → IsReplica a → p ≡ part_of (OfTarget target) a → has_booking p.board room target ≡ knows_booking a room target
+target_booked a room target p sound e = target_known a room target p sound e ∙ booking-known a room target sound
+
+pub part_cancel : (a : Replica) (room : Text) (target : Id) (p : PartView) (stamp : Stamp) (w : Write) (id : Id) (change : ChangeView) → IsReplica a → p ≡ part_of (OfTarget target) a → IsTrue (is_write w) → list_any (bytes_eq room) p.rooms ≡ true → has_booking p.board room target ≡ true → stamp_next p.summary ≡ Ok stamp
+    → w ≡ cancel_with room target stamp → id ≡ record { server = stamp.server; n = stamp.n }
+    → (CanPut p (noted_write p.summary w.stamp) w → change ≡ part_puts p (noted_write p.summary w.stamp) w)
+    → PartWithdrawn a room target id change
+part_cancel a room target p stamp w id change sound e good there booked stamp_is w_is id_is change_is =
+    let desk = tables.board_of (tables_of a) in
+    let summary : p.summary ≡ summary_of a = ap (λ (v : PartView). v.summary) e in
+    let rooms : p.rooms ≡ a.rooms = ap (λ (v : PartView). v.rooms) e in
+    let cancels : w.action ≡ Cancels target = ap (λ (v : Write). v.action) w_is in
+    let name : IsTrue (is_room_name room) = subst (λ t. IsTrue (is_room_name t)) (ap (λ (v : Write). v.room) w_is) (within w good).room in
+    let is_target : IsTrue (is_id target) = sym (ap is_action cancels) ∙ action_within w good in
+    let board : p.board ≡ tables.board_of (in_scope (OfTarget target) (tables_of a)) = ap (λ (v : PartView). v.board) e in
+    let row : row_at p.board target ≡ picked target (row_at desk target) = ap (λ b. row_at b target) board ∙ part-row (OfTarget target) a target sound in
+    let ordered : IsInOrder p.board = subst IsInOrder (sym board) (board_in_order (in_scope (OfTarget target) (tables_of a))) in
+    let place = target_place a target p.board w sound cancels ordered row in
+    let u = undo_row_of p.board w in
+    let at : row_at desk target ≡ row_at (board_of a) target = ap (λ b. row_at b target) (sym (board-told a sound)) in
+    let taken : taken_rows p.summary.tallies p.board u ≡ taken_rows p.summary.tallies (board_of a) u =
+    ap (λ x. taken_rows_of p.summary.tallies p.board (id_of w) (taken_back_by (place_on p.board w) (target_of x))) cancels
+    ∙ taken_same p.summary.tallies p.board (board_of a) (id_of w) target (place_on p.board w)
+    (ap (taken_on p.summary.tallies (id_of w) target) row ∙ taken_picked target p.summary.tallies (id_of w) (row_at desk target) ∙ ap (taken_on p.summary.tallies (id_of w) target) at)
+    ∙ ap (λ x. taken_rows_of p.summary.tallies (board_of a) (id_of w) (taken_back_by (place_on p.board w) (target_of x))) (sym cancels) in
+    let ends : TargetEnds p.board (target_of w.action) =
+    subst (λ x. TargetEnds p.board (target_of x)) (sym cancels) (subst RowEnds (sym row) (ends_picked target (row_at desk target) (subst RowEnds (sym at) (rows_end a target sound)))) in
+    let puts = part_puts_last a p w change sound summary place taken ends change_is in
+    let known : knows_room a room ≡ true = ap (λ rs. list_any (bytes_eq room) rs) (sym rooms) ∙ there in
+    let there' : has_booking (board_of a) room target ≡ true = sym (target_known a room target p sound e) ∙ booked in
+    let step = subst (Withdraws a room target) (ap stamp_next (sym summary) ∙ stamp_is) (withdraws a room target sound known (sym (booking-known a room target sound) ∙ there')) in
+    let sound-after = subst (λ (s : After). IsReplica s.replica) (sym step.1) (added a (cancel_with room target (next_stamp a)) sound (cancelled_is_next a room target sound name is_target step.2 step.3)) in
+    let done =
+    withdrawn a room target (desk_of a) (with_last (desk_of a) w) stamp w id change sound refl name is_target known there' (ap stamp_next (sym summary) ∙ stamp_is)
+    w_is id_is puts refl in
+    record {
+      step = done.step;
+      turns = ap (changed change) (sym (desk_tables-of a sound)) ∙ done.turns ∙ ap desk_tables done.stands ∙ desk_tables-of (cancel_request room target a).replica sound-after;
+      tells = done.tells;
+    }
+  where
+    taken_same : (ts : List Tally) (b c : Rows) (i t : Id) (x : Place) → taken_on ts i t (row_at b t) ≡ taken_on ts i t (row_at c t) → taken_rows_of ts b i (taken_back_by x (Some t)) ≡ taken_rows_of ts c i (taken_back_by x (Some t))
+    taken_same ts b c i t (Taken k) s = refl
+    taken_same ts b c i t Logged s = refl
+    taken_same ts b c i t Done s = s
+    taken_same ts b c i t Void s = refl

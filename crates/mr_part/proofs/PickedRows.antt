@@ -1,19 +1,20 @@
--- Rows that are picked from write_log, read and sorted, are those of the kept writes in scope.
-use Rattle.std.proofs.Common.{◌≡◌, refl, sym, ap, subst, Bool, List, [], ◌∷◌, map, inl, inr, arith, IsTrue}
+-- Rows that are picked from log, read and sorted, are those of the kept writes in scope.
+use Rattle.std.proofs.Common.{◌≡◌, refl, sym, ap, subst, Bool, List, [], ◌∷◌, map, inl, inr, arith}
 use Rattle.std.specs.declared.cmp.Ordering.TheVariants.{Less}
 use Rattle.std.specs.List.Sorted.{IsPermutation, IsSortedByKey}
-use Rattle.mr_model.specs.Writes.{Write, id_of, is_write}
+use Rattle.mr_model.specs.Writes.{Write, id_of}
 use Rattle.mr_model.specs.Replica.{Replica, IsReplica}
 use Rattle.mr_model.specs.Tables.{LogRow, seq_of, log_row}
+use Rattle.mr_model.specs.View.{place_of}
 use Rattle.mr_model.specs.Kept.{LogBefore, AreInRunOrder}
 use Rattle.mr_model.specs.Changes.{IdBefore, RiseById}
 use Rattle.mr_model.specs.Dropped.{Has}
 use Rattle.mr_model.proofs.Members.{has_all, all_has, has_map, map_has, Sorted}
 use Rattle.mr_model.proofs.RowsById.{known_write}
-use Rattle.mr_replica.specs.declared.logged.LoggedWrite.{LoggedWrite}
+use Rattle.mr_part.specs.declared.scope_logs.LoggedWrite.{LoggedWrite}
 use Rattle.mr_replica.specs.KeptRows.{run_cmp}
-use Rattle.mr_replica.specs.Logged.{logged_of, logged_place}
-use Rattle.mr_part.specs.PickedLogs.{row_of, AreWithin, ArePicked}
+use Rattle.mr_part.specs.PickedLogs.{logged_of, row_of, IsWithin, AreWithin, logged_place, ArePicked}
+use Rattle.mr_replica.specs.Logged.{undo_with}
 use Rattle.mr_replica.proofs.KeptOrder.{run_order, before_less}
 use Rattle.mr_replica.proofs.Sorting.{Rises, sorted_is}
 
@@ -23,14 +24,22 @@ pub rows_of_logged : (a : Replica) (ws : List Write) → map row_of (map (logged
 rows_of_logged a [] = refl
 rows_of_logged a (w ∷ ws) = ap (λ rows. log_row a w ∷ rows) (rows_of_logged a ws)
 
+pub logged_writes : (a : Replica) (ws : List Write) → map (λ x. x.write) (map (logged_of a) ws) ≡ ws
+logged_writes a [] = refl
+logged_writes a (w ∷ ws) = ap (λ vs. w ∷ vs) (logged_writes a ws)
+
 pub logged_numbers : (a : Replica) (ws : List Write) → map (λ x. x.seq) (map (logged_of a) ws) ≡ map (seq_of a) ws
 logged_numbers a [] = refl
 logged_numbers a (w ∷ ws) = ap (λ ns. seq_of a w ∷ ns) (logged_numbers a ws)
 
+pub logged_undo : (a : Replica) (ws : List Write) → map (λ x. x.undo) (map (logged_of a) ws) ≡ map (undo_with (place_of a)) ws
+logged_undo a [] = refl
+logged_undo a (w ∷ ws) = ap (λ us. undo_with (place_of a) w ∷ us) (logged_undo a ws)
+
 pub logged_within : (a : Replica) (ws : List Write) → IsReplica a → ((w : Write) → Has w ws → Has w a.known) → AreWithin (map (logged_of a) ws)
 logged_within a ws h known =
-    has_all (λ (x : LoggedWrite). IsTrue (is_write x.write)) (map (logged_of a) ws)
-    (λ x g. let (w, b, e) = map_has (logged_of a) x ws g in subst (λ (y : LoggedWrite). IsTrue (is_write y.write)) (sym e) (known_write a w h (known w b)))
+    has_all IsWithin (map (logged_of a) ws)
+    (λ x g. let (w, b, e) = map_has (logged_of a) x ws g in subst IsWithin (sym e) (known_write a w h (known w b), refl))
 
 -- ---- sorted
 

@@ -1,5 +1,7 @@
--- Rows that pass a test, read one by one.
-use Rattle.std.proofs.Common.{◌≡◌, refl, sym, ◌∙◌, subst, ◌+◌, List, [], ◌∷◌, ◌++◌, map, inl, append_assoc, append-nil}
+-- Rows that are read one by one, some of them done, and what all rows that are picked keep.
+use Rattle.std.proofs.Common.{◌≡◌, refl, sym, ap, ◌∙◌, subst, ℕ, zero, suc, ◌+◌, ◌<◌, Bool, true, false, cond, List, [], ◌∷◌, ◌++◌, length, get_or, map, inl, append_assoc, append-nil, arith}
+use Rattle.std.proofs.lemmas.Bool.{true≢false}
+use Rattle.std.specs.List.{AllByRecursion, filter}
 use Rattle.mr_model.specs.Dropped.{Has}
 use Rattle.mr_model.proofs.Members.{has_right}
 
@@ -40,3 +42,17 @@ all_done {X} {R} f xs done d = go d.rest d.parts d.rows_are
     go : (rest : List X) → done ++ rest ≡ xs → [] ≡ map f rest → done ≡ xs
     go [] p e = sym (append-nil done) ∙ p
     go (x ∷ rest) p e = absurd (let g : ◌≡◌ {A = List R} [] (f x ∷ map f rest) = e in let never : ⊥ = cc in never)
+
+-- what all rows that are picked keep, each of them keeps
+pub of_picked : {R : Type 0} (P : R → Type 0) (p : R → Bool) (rows : List R) (k : ℕ) (row : R) → AllByRecursion P (filter p rows) → k < length rows → row ≡ get_or rows k row → p row ≡ true → P row
+of_picked P p [] k row all low at passed = absurd (omega (arith, low))
+of_picked P p (r ∷ rs) zero row all low at passed = subst P (sym at) (go (p r) (ap p (sym at) ∙ passed) all)
+  where
+    go : (b : Bool) → b ≡ true → AllByRecursion P (cond b (r ∷ filter p rs) (filter p rs)) → P r
+    go true e a = a.0
+    go false e a = absurd (true≢false (sym e))
+of_picked P p (r ∷ rs) (suc k) row all low at passed = of_picked P p rs k row (go (p r) all) (let l : suc k < suc (length rs) = low in omega (arith, l)) at passed
+  where
+    go : (b : Bool) → AllByRecursion P (cond b (r ∷ filter p rs) (filter p rs)) → AllByRecursion P (filter p rs)
+    go true a = a.1
+    go false a = a

@@ -16,14 +16,12 @@ use Rattle.mr_base.specs.declared.refusals.Refusal.{Refusal}
 use Rattle.mr_base.specs.declared.refusals.Refusal.TheVariants.{OutOfMemory}
 use Rattle.mr_tables.specs.declared.summary.Summary.{Summary}
 use Rattle.mr_tables.specs.Change.{ChangeView, changed}
-use Rattle.mr_tables.specs.Written.{meta_of, written}
-use Rattle.mr_replica.specs.Desk.{desk_of, nothing_taken, reply_with}
-use Rattle.mr_replica.specs.DeskTables.{desk_tables}
+use Rattle.mr_tables.specs.Written.{meta_of, with_places}
+use Rattle.mr_replica.specs.Desk.{nothing_taken, reply_with}
 use Rattle.mr_replica.specs.Taken.{ReachedView, ShowsPicked, is_inside}
 use Rattle.mr_part.specs.PartMoves.{AnswersItems}
 use Rattle.mr_part.specs.Parts.{PartView, part_of}
-use Rattle.mr_replica.proofs.DeskRows.{desk_tables-of}
-use Rattle.mr_replica.proofs.ReceivedRows.{nothing_written}
+use Rattle.mr_replica.proofs.Moves.{all_pass}
 use Rattle.mr_replica.proofs.Receiving.{items-bring}
 
 -- the answer is what the items give
@@ -48,11 +46,16 @@ part_refused a items r e p (inl t) = inl (
 part_refused a items r e p (inr t) = inr (p ∙ ap Err t)
 
 -- where nothing comes nothing changes
-pub part_unchanged : (a : Replica) (s : Scope) (part : PartView) (change : ChangeView) → IsReplica a → part ≡ part_of s a → change ≡ written (meta_of part.summary) [] [] 0 0 [] [] → changed change (tables_of a) ≡ tables_of a
-part_unchanged a s part change sound e is =
-    ap (changed change) (sym (desk_tables-of a sound))
-    ∙ ap (λ c. changed c (desk_tables (desk_of a))) (is ∙ ap (λ (v : PartView). written (meta_of v.summary) [] [] 0 0 [] []) e)
-    ∙ nothing_written (desk_of a) ∙ desk_tables-of a sound
+pub part_unchanged : (a : Replica) (s : Scope) (part : PartView) (change : ChangeView) → part ≡ part_of s a → change ≡ with_places (meta_of part.summary) [] [] [] [] → changed change (tables_of a) ≡ tables_of a
+part_unchanged a s part change e is =
+    let t = tables_of a in
+    ap (λ c. changed c t) (is ∙ ap (λ (v : PartView). with_places (meta_of v.summary) [] [] [] []) e)
+    ∙ (λ i. record t {
+      log = all_pass t.log i;
+      booking = all_pass t.booking i;
+      errorlog = all_pass t.errorlog i;
+      cancelled = all_pass t.cancelled i;
+    })
 
 -- ---- the whole batch
 

@@ -1,7 +1,7 @@
--- Of the writes that a batch executes anew, those that get other rows than they had.
+-- Of the writes that a batch executes anew, those that get another row in the log than they had.
 use Rattle.std.specs.Prelude.{◌≡◌, ℕ, ◌==◌, ◌++◌, Bool, true, false, not, List, take, drop, filter, find, Option, Some, None}
 use Rattle.std.specs.BTreeMap.{BTreeMap, get}
-use Rattle.mr_model.specs.Replay.{Place, Taken, Logged}
+use Rattle.mr_model.specs.Replay.{Place, Taken, Logged, Done, Void}
 use Rattle.mr_model.specs.Writes.{Id, Write, id_of, same_id}
 use Rattle.mr_base.specs.Ids.{id_cmp}
 use Rattle.mr_replay.specs.Places.{UndoRow}
@@ -20,9 +20,10 @@ AreById by_id undone = (id : Id) → get id_cmp by_id id ≡ row_at undone id
 
 abbrev pub same_place : Place → Place → Bool
 same_place (Taken j) (Taken k) = j == k
-same_place (Taken j) Logged = false
-same_place Logged (Taken k) = false
 same_place Logged Logged = true
+same_place Done Done = true
+same_place Void Void = true
+same_place _ _ = false
 
 -- whether there is a row, and it tells the place of the other
 abbrev pub tells : Option UndoRow → UndoRow → Bool

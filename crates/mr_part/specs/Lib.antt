@@ -1,11 +1,11 @@
--- A reader of the contracts trusts Parts and ScopeOf, and of mr_replica Desk, Steps and Turning. The others, PartMoves, Changed,
--- PickedLogs, PickedBookings, PickedUndo, Named and LogTests, serve private clauses and proofs alone.
+-- A reader of the contracts trusts Parts and ScopeOf, and of mr_replica Desk, Steps, Placing and Turning. The others, PartAccepting,
+-- PartMoves, Changed, PickedLogs, PickedBookings, Named and LogTests, serve private clauses and proofs alone.
 pub mod Parts
+pub mod PartAccepting
 pub mod PartMoves
 pub mod Changed
 pub mod ScopeOf
 pub mod PickedLogs
-pub mod Named
 pub mod LogTests
 pub mod PickedBookings
-pub mod PickedUndo
+pub mod Named

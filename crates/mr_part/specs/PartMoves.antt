@@ -1,13 +1,14 @@
 -- What a batch undoes and executes anew, as a call of a part gets it, and what the part answers.
 use Rattle.std.specs.Prelude.{◌≡◌, ℕ, List, map, filter, Result, Ok, Err, IfOk, ◌⊎◌}
 use Rattle.mr_model.specs.Texts.{Text}
-use Rattle.mr_model.specs.Writes.{Write, id_of}
+use Rattle.mr_model.specs.Writes.{Write}
 use Rattle.mr_model.specs.Replica.{Replica, IsReplica, tentative}
 use Rattle.mr_model.specs.Exchange.{Item}
 use Rattle.mr_model.specs.Replies.{Took}
 use Rattle.mr_model.specs.Step.{after_items}
-use Rattle.mr_model.specs.Tables.{place_of, tables_of}
+use Rattle.mr_model.specs.Tables.{tables_of}
 use Rattle.mr_model.specs.Taking.{take_items}
+use Rattle.mr_model.specs.View.{place_of}
 use Rattle.mr_model.specs.Dropped.{Has}
 use Rattle.mr_model.specs.Scopes.{OfItems}
 use Rattle.mr_model.specs.Moving.{may_move, again, BatchMoves}
@@ -20,6 +21,7 @@ use Rattle.mr_tables.specs.Summary.{summary_of}
 use Rattle.mr_tables.specs.Change.{ChangeView, changed}
 use Rattle.mr_replica.specs.Desk.{nothing_taken, reply_with}
 use Rattle.mr_part.specs.Parts.{part_of}
+use Rattle.mr_replica.specs.Logged.{undo_with}
 
 -- The batch leads from the first replica, whose part has these numbers, rooms and board, to the second one, whose numbers and rooms
 -- are those; the undo rows are those of the tentative writes that it may move, and the writes are those that it has executed anew.
@@ -32,7 +34,7 @@ pub record MovesPart (old : Summary) (known : List Text) (board : Rows) (items :
   pub keeps_rooms : (t : Text) → Has t a.rooms → Has t b.rooms
   pub summary_is : summary ≡ summary_of b
   pub rooms_are : rooms ≡ b.rooms
-  pub undone_are : undone ≡ map (λ w. record { id = id_of w; place = place_of a w }) (filter (may_move a items) (tentative a))
+  pub undone_are : undone ≡ map (undo_with (place_of a)) (filter (may_move a items) (tentative a))
   pub writes_are : writes ≡ again a items moves.news b
 
 -- the answer of a part that takes these items is that of the step, and its change turns the tables into those after it; or memory ran out

@@ -1,27 +1,29 @@
 -- What a part of a replica's tables is seen as, for which replicas it is the part, and what it means that a call is a step of them.
 use Rattle.std.specs.Prelude.{◌≡◌, ℕ, ◌-◌, ◌≤◌, ◌&&◌, ◌||◌, List, [], ◌++◌, length, take, drop, map, filter, Result, Err, IfOk, ◌⊎◌}
 use Rattle.mr_model.specs.Texts.{Text}
-use Rattle.mr_model.specs.Writes.{Write, id_of}
+use Rattle.mr_model.specs.Writes.{Write}
 use Rattle.mr_model.specs.Replica.{Replica, IsReplica, tentative}
 use Rattle.mr_model.specs.Kept.{kept_in_order}
 use Rattle.mr_model.specs.Changes.{first_tentative}
 use Rattle.mr_model.specs.Replies.{Reply}
 use Rattle.mr_model.specs.Step.{After}
-use Rattle.mr_model.specs.Tables.{seq_of, place_of, log_row, tables_of}
+use Rattle.mr_model.specs.Tables.{seq_of, log_row, tables_of}
+use Rattle.mr_model.specs.View.{place_of}
 use Rattle.mr_base.specs.declared.refusals.Refusal.{Refusal}
 use Rattle.mr_base.specs.declared.refusals.Refusal.TheVariants.{OutOfMemory}
 use Rattle.mr_replay.specs.Places.{UndoRow}
 use Rattle.mr_replay.specs.Rows.{Rows}
-use Rattle.mr_model.specs.Scopes.{Scope, Nothing, InRoom, NextCommits, UpTo, Above, OfItems, is_named, is_in_tail, is_touched, in_scope}
+use Rattle.mr_model.specs.Scopes.{Scope, Nothing, InRoom, OfTarget, NextCommits, UpTo, Above, OfItems, is_named, is_in_tail, is_touched, in_scope}
 use Rattle.mr_model.specs.RowsInScope.{kept_commits}
 use Rattle.mr_tables.specs.declared.summary.Summary.{Summary}
 use Rattle.mr_tables.specs.Summary.{summary_of}
-use Rattle.mr_tables.specs.Boards.{booking_entry, put_entries}
+use Rattle.mr_tables.specs.Boards.{board_of}
 use Rattle.mr_tables.specs.Change.{ChangeView, changed}
 use Rattle.mr_replica.specs.Desk.{reply_with}
+use Rattle.mr_replica.specs.Logged.{undo_with}
 
--- the numbers and the rooms; the kept writes in scope in the order of execution, with their commit numbers; what undoes those of them
--- whose undo rows are in scope; a board of the bookings in scope
+-- the numbers and the rooms; the kept writes in scope in the order of execution, with their commit numbers; what undoes each of them; a
+-- board of the bookings in scope, be they booked, logged or cancelled
 pub record PartView : Type 0 where
   pub summary : Summary
   pub rooms : List Text
@@ -34,6 +36,7 @@ pub record PartView : Type 0 where
 abbrev pub kept_in : Scope → Replica → List Write
 kept_in Nothing a = []
 kept_in (InRoom room) a = []
+kept_in (OfTarget target) a = []
 kept_in (NextCommits k) a = first_tentative a k
 kept_in (UpTo d) a = take (d - a.dropped) (kept_commits a)
 kept_in (Above commits) a = drop (commits - a.dropped) (kept_commits a) ++ tentative a
@@ -42,15 +45,6 @@ kept_in (OfItems items) a =
     (λ w. is_named items (log_row a w) || (is_in_tail (length a.commits) items (log_row a w) && is_touched (tables_of a) items w.room))
     (kept_in_order a)
 
--- those of them whose undo rows are in scope: of a batch that is made, none
-abbrev pub undone_in : Scope → Replica → List Write
-undone_in Nothing a = kept_in Nothing a
-undone_in (InRoom room) a = kept_in (InRoom room) a
-undone_in (NextCommits k) a = kept_in (NextCommits k) a
-undone_in (UpTo d) a = kept_in (UpTo d) a
-undone_in (Above commits) a = []
-undone_in (OfItems items) a = kept_in (OfItems items) a
-
 abbrev pub part_of : Scope → Replica → PartView
 part_of s a =
     record {
@@ -58,8 +52,8 @@ part_of s a =
       rooms = a.rooms;
       kept = kept_in s a;
       marks = map (seq_of a) (kept_in s a);
-      undo = map (λ w. record { id = id_of w; place = place_of a w }) (undone_in s a);
-      board = put_entries (map booking_entry (in_scope s (tables_of a)).booking) [];
+      undo = map (undo_with (place_of a)) (kept_in s a);
+      board = board_of (in_scope s (tables_of a));
     }
 
 -- the part of the replica's tables with the rows in scope, and no others

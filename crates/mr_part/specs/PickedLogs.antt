@@ -1,16 +1,19 @@
--- Which rows of write_log are in scope, told row by row, and the writes that such rows tell.
-use Rattle.std.specs.Prelude.{ℕ, suc, Bool, true, false, ◌&&◌, ◌||◌, if◌then◌else◌, nat_lt, List, [], ◌∷◌, map, filter, ◌↔◌, ◌≡◌, bytes_eq, IsTrue}
+-- Which rows of log are in scope, told row by row, and the writes that such rows tell.
+use Rattle.std.specs.Prelude.{ℕ, suc, Bool, true, false, ◌&&◌, ◌||◌, if◌then◌else◌, ◌==◌, nat_lt, List, [], ◌∷◌, map, filter, ◌↔◌, ◌≡◌, bytes_eq, IsTrue}
 use Rattle.std.specs.List.{list_any, AllByRecursion}
 use Rattle.mr_model.specs.Texts.{Text, within}
 use Rattle.mr_model.specs.Writes.{Write, id_of, is_write}
 use Rattle.mr_model.specs.Replica.{Replica}
-use Rattle.mr_model.specs.Tables.{LogRow, log_row}
+use Rattle.mr_model.specs.Tables.{LogRow, seq_of, log_row, log_row_with}
+use Rattle.mr_model.specs.View.{place_of}
+use Rattle.mr_replay.specs.Rows.{undo_row_at}
 use Rattle.mr_model.specs.Dropped.{Has}
 use Rattle.mr_model.specs.Kept.{AreInRunOrder}
 use Rattle.mr_model.specs.Changes.{RiseById}
 use Rattle.mr_model.specs.Scopes.{Scope, UpTo, Above, OfItems, is_tentative, is_named, is_in_tail, row_before}
-use Rattle.mr_tables.specs.Rows.{log_row_with}
-use Rattle.mr_replica.specs.declared.logged.LoggedWrite.{LoggedWrite}
+use Rattle.mr_replica.specs.declared.kept_rows.RunPlace.{RunPlace}
+use Rattle.mr_replica.specs.Logged.{undo_with}
+use Rattle.mr_part.specs.declared.scope_logs.LoggedWrite.{LoggedWrite}
 
 -- whether the row is in scope, where so many commits are known and a batch touches these rooms; of a commit no row is, since only all
 -- tentative rows tell which are its
@@ -20,19 +23,31 @@ is_log_in (Above number) commits touched row = is_tentative row || nat_lt number
 is_log_in (OfItems items) commits touched row = is_named items row || (is_in_tail commits items row && list_any (bytes_eq row.room) touched)
 is_log_in _ commits touched row = false
 
--- whether the scope's rows of write_log are told row by row, and there are such
+-- whether the scope's rows of log are told row by row, and there are such
 abbrev pub is_by_row : Scope → Bool
 is_by_row (UpTo number) = true
 is_by_row (Above number) = true
 is_by_row (OfItems items) = true
 is_by_row _ = false
 
--- the row that tells a kept write
+-- a write of a replica with what undoes it, and its commit number
+abbrev pub logged_of : Replica → Write → LoggedWrite
+logged_of a w = record { write = w; undo = undo_with (place_of a) w; seq = seq_of a w }
+
+-- the row that tells it
 abbrev pub row_of : LoggedWrite → LogRow
-row_of x = log_row_with x.write x.seq
+row_of x = log_row_with x.write x.undo.place x.seq
+
+-- within the limits, and undone by the row of its own place
+abbrev pub IsWithin : LoggedWrite → Type 0
+IsWithin x = IsTrue (is_write x.write) × (x.undo ≡ undo_row_at x.write x.undo.place)
 
 abbrev pub AreWithin : List LoggedWrite → Type 0
-AreWithin xs = AllByRecursion (λ x. IsTrue (is_write x.write)) xs
+AreWithin xs = AllByRecursion IsWithin xs
+
+-- where it stands in the order of execution
+abbrev pub logged_place : LoggedWrite → RunPlace
+logged_place x = record { is_tentative = x.seq == 0; seq = x.seq; time = x.write.stamp.time; server = x.write.stamp.server }
 
 -- how many of these rows a row does not stand before by its stamp, up to the first that it does
 abbrev pub stamp_place : LogRow → List LogRow → ℕ

@@ -8,6 +8,7 @@
 mod part;
 mod part_again;
 mod part_batch;
+mod part_cancel;
 mod part_changed;
 mod part_commit;
 mod part_from;
@@ -26,7 +27,6 @@ mod scope_items;
 mod scope_log_test;
 mod scope_logs;
 mod scope_touched;
-mod scope_undo;
 
 pub use part::Part;
 pub use rows_in_scope::logs_in_scope;

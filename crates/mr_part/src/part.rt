@@ -5,8 +5,8 @@ use std::alloc::Global;
 use std::marker::Model;
 
 /// The rows of a replica's tables that one command needs, as values: its numbers and its rooms; the kept writes in scope in the
-/// order of execution with their commit numbers, 0 of a tentative one, and what undoes them where the scope has it; and a board of
-/// the bookings in scope. It is read for one call: what the call changes is the tables.
+/// order of execution with their commit numbers, 0 of a tentative one, and what undoes them; and a board of the bookings in scope, be
+/// they booked, logged or cancelled. It is read for one call: what the call changes is the tables.
 #[derive(Drop)]
 pub struct Part {
     pub(crate) alloc: Global,

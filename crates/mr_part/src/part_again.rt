@@ -5,9 +5,10 @@ ghost use Rattle.mr_model.specs.Writes.{Write as WriteOfRoom, id_of};
 ghost use Rattle.mr_model.specs.Replica.{Replica, IsReplica, tentative};
 ghost use Rattle.mr_model.specs.Scopes.{OfItems};
 ghost use Rattle.mr_model.specs.Moving.{may_move as may_move_from};
-ghost use Rattle.mr_model.specs.Tables.{place_of};
+ghost use Rattle.mr_model.specs.View.{place_of};
 ghost use Rattle.mr_base.specs.Batches.{item_of};
 ghost use Rattle.mr_replay.specs.Places.{UndoRow as UndoRowOfWrite};
+ghost use Rattle.mr_replica.specs.Logged.{undo_with};
 ghost use Rattle.mr_replica.specs.Moves.{AreTouched, moves_in};
 ghost use Rattle.mr_replica.specs.Sets.{IsSetOf};
 ghost use Rattle.mr_replica.specs.Tails.{IsTail};
@@ -39,7 +40,7 @@ impl Part {
         items: &[Item],
     ) -> Result<Vec<UndoRow>, Refusal>
         ensures rows { (a : Replica) → IsReplica a → IsPartOf self.now (OfItems (map item_of items.now)) a → AreTouched touched.now a (map item_of items.now)
-            → IfOk result (λ rows. rows.items ≡ map (λ w. record { id = id_of w; place = place_of a w }) (filter (may_move_from a (map item_of items.now)) (tentative a))) }
+            → IfOk result (λ rows. rows.items ≡ map (undo_with (place_of a)) (filter (may_move_from a (map item_of items.now)) (tentative a))) }
         ensures only { IfErr result (λ e. e ≡ Refusal.OutOfMemory) }
     {
         let rooms = room_set(self.alloc, touched)?;

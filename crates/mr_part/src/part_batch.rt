@@ -8,11 +8,12 @@ ghost use Rattle.mr_tables.specs.Summary.{IsWithin};
 
 use crate::Part;
 use mr_base::{Batch, LineCount, Position, Refusal};
-use mr_replica::outgoing::batch_for;
+use mr_replica::outgoing::outgoing_for;
 
 impl Part {
     /// What a replica at this position lacks: the commits above its own, each behind its write where that is lacked, then
-    /// the tentative writes that it lacks, so many lines at most. It is refused where one of the commits is dropped.
+    /// the tentative writes that it lacks, so many lines at most. It is refused where one of the commits is dropped, and where
+    /// the exchange text can't say one of these writes.
     pub fn batch(&self, position: &Position, max_lines: LineCount) -> Result<Batch, Refusal>
         ensures step { AnswersPart (Above position.now.commits) (λ a. batch_reply a position.now max_lines) (λ batch. BatchIs batch) self.now result }
         // A refusal that is due is returned without memory.
@@ -29,7 +30,7 @@ impl Part {
         // The part has none of the commits that the position has: for it they are as good as dropped.
         let mut summary = self.summary;
         summary.dropped = position.commits;
-        let batch = batch_for(self.alloc, &summary, &self.kept, position, max_lines)?;
-        Ok(batch)
+        let outgoing = outgoing_for(self.alloc, &summary, &self.kept, position, max_lines)?;
+        outgoing.into_batch(summary.server, summary.primary)
     }
 }

@@ -15,14 +15,14 @@ use std::collections::BTreeMap;
 /// Undo rows by the ids of their writes.
 type RowsById = BTreeMap<WriteId, UndoRow>;
 
-/// Writes whose rows in the tables change, and what undoes each.
+/// Writes whose rows in the log change, and what undoes each.
 #[derive(Drop)]
 pub(crate) struct Changed {
     pub(crate) writes: Vec<Write>,
     pub(crate) rows: Vec<UndoRow>,
 }
 
-/// Of the writes that were executed anew those whose rows in the tables change: the new commits, of which there are so many and which
+/// Of the writes that were executed anew those whose rows in the log change: the new commits, of which there are so many and which
 /// stand first, and behind them those that have another place than the row says that undid them. The rows are those of the writes.
 pub(crate) fn changed_of(
     alloc: Global,
@@ -120,6 +120,8 @@ fn same_place(place: Place, other: Place) -> bool
     match (place, other) {
         (Place::Taken(number), Place::Taken(same)) => number == same,
         (Place::Logged, Place::Logged) => true,
-        (Place::Taken(_), Place::Logged) | (Place::Logged, Place::Taken(_)) => false,
+        (Place::Done, Place::Done) => true,
+        (Place::Void, Place::Void) => true,
+        _ => false,
     }
 }

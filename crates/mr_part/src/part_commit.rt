@@ -8,6 +8,7 @@ ghost use Rattle.mr_part.specs.Parts.{TakesPart};
 use crate::Part;
 use mr_base::Refusal;
 use mr_replica::after_commits;
+use mr_replica::placing::cancellers;
 use mr_tables::Change;
 
 impl Part {
@@ -25,7 +26,8 @@ impl Part {
         }
         let count = self.kept.len().min(self.undo.len());
         let (writes, rows) = (&self.kept[..count], &self.undo[..count]);
-        let (_, change) = after_commits(self.alloc, &self.summary, writes, rows)?;
+        let bys = cancellers(self.alloc, &self.board, writes)?;
+        let (_, change) = after_commits(self.alloc, &self.summary, writes, rows, &bys)?;
         Ok((count as u64, change))
     }
 }

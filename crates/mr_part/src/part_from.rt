@@ -1,26 +1,24 @@
-ghost use Rattle.std.specs.Prelude.{◌≡◌, ◌⊎◌, true, false, [], map, IfOk, IfErr};
+ghost use Rattle.std.specs.Prelude.{◌≡◌, ◌⊎◌, true, map, IfOk, IfErr};
 ghost use Rattle.mr_model.specs.Replica.{Replica, IsReplica};
 ghost use Rattle.mr_model.specs.Tables.{seq_of, tables_of};
+ghost use Rattle.mr_model.specs.View.{place_of};
 ghost use Rattle.mr_model.specs.Scopes.{in_scope};
-ghost use Rattle.mr_tables.specs.Boards.{booking_entry, put_entries};
+ghost use Rattle.mr_tables.specs.Boards.{board_of};
 ghost use Rattle.mr_part.specs.Parts.{kept_in, IsPartOf};
 ghost use Rattle.mr_replica.specs.Sets.{AreSameRooms};
 ghost use Rattle.mr_part.specs.PickedBookings.{touched_in};
-ghost use Rattle.mr_replica.specs.Logged.{logged_of};
-ghost use Rattle.mr_part.specs.PickedLogs.{is_by_row};
-ghost use Rattle.mr_part.specs.PickedUndo.{has_undo, undo_in};
+ghost use Rattle.mr_part.specs.PickedLogs.{logged_of, is_by_row};
+ghost use Rattle.mr_replica.specs.Logged.{undo_with};
 ghost use Rattle.mr_part.specs.ScopeOf.{scope_of};
 ghost use Rattle.mr_tables.specs.Summary.{IsWithin};
 
 use crate::scope_board::board_in;
 use crate::scope_commits::first_writes;
-use crate::scope_logs::{numbers_of, sorted_writes};
+use crate::scope_logs::{LoggedWrite, numbers_of, sorted_writes, undo_of, writes_alone};
 use crate::scope_touched::touched_rooms;
-use crate::scope_undo::undo_of;
 use crate::{Part, Scope};
 use mr_base::{Refusal, RoomName, Write};
 use mr_replay::{Board, UndoRow};
-use mr_replica::logged::{LoggedWrite, writes_alone};
 use mr_replica::of_store;
 use mr_tables::Tables;
 use mr_tables::rooms::copies_of;
@@ -28,9 +26,9 @@ use mr_tables::vector::summary_of;
 use std::alloc::Global;
 
 impl Part {
-    /// The part for a command of this scope. Of `write_log`, `undo` and `booking` only the rows in scope have to be there, for a
-    /// commit also all tentative rows of `write_log`; what other rows there are doesn't matter. Refused as the store's fault where a
-    /// row in scope breaks its limits or its undo row is missing, or the numbers are beyond the limits of positions.
+    /// The part for a command of this scope. Of `log`, `booking`, `errorlog` and `cancelled` only the rows in scope have to be there,
+    /// for a commit also all tentative rows of `log`; what other rows there are doesn't matter. Refused as the store's fault where a
+    /// row in scope breaks its limits, or the numbers are beyond the limits of positions.
     pub fn from_tables(alloc: Global, scope: &Scope<'_>, tables: &Tables) -> Result<Part, Refusal>
         ensures part { (a : Replica) → IsReplica a → in_scope (scope_of scope.now) tables.now ≡ in_scope (scope_of scope.now) (tables_of a)
             → IfOk result (λ part. IsPartOf part (scope_of scope.now) a) }
@@ -62,15 +60,11 @@ fn part_told(alloc: Global, scope: &Scope<'_>, tables: &Tables) -> Result<Part, 
         Ok(touched) => touched,
         Err(refusal) => return Err(refusal),
     };
-    let (kept, marks) = match kept_in(alloc, scope, tables, &touched) {
+    let (kept, undo, marks) = match kept_in(alloc, scope, tables, &touched) {
         Ok(kept) => kept,
         Err(refusal) => return Err(refusal),
     };
-    let undo = match undo_in(alloc, scope, tables, &kept) {
-        Ok(undo) => undo,
-        Err(refusal) => return Err(refusal),
-    };
-    let board = match bookings_in(alloc, scope, tables, &touched) {
+    let board = match bookings_in(alloc, scope, tables, &touched, &kept) {
         Ok(board) => board,
         Err(refusal) => return Err(refusal),
     };
@@ -94,28 +88,29 @@ fn touched_in(alloc: Global, scope: &Scope<'_>, tables: &Tables) -> Result<Vec<R
     ensures only { IfErr result (λ e. e ≡ Refusal.OutOfMemory) }
 {
     match *scope {
-        Scope::Items(items) => {
-            touched_rooms(alloc, &tables.write_log, items, tables.meta.commits)
-        }
+        Scope::Items(items) => { touched_rooms(alloc, &tables.log, items, tables.meta.commits) }
         Scope::Nothing
         | Scope::InRoom(_)
+        | Scope::OfTarget(_)
         | Scope::NextCommits(_)
         | Scope::UpTo(_)
         | Scope::Above(_) => Ok(Vec::new(alloc)),
     }
 }
 
-/// The kept writes in scope, in the order of execution, and their commit numbers.
+/// The kept writes in scope, in the order of execution, what undoes each, and their commit numbers.
 fn kept_in(
     alloc: Global,
     scope: &Scope<'_>,
     tables: &Tables,
     touched: &[RoomName],
-) -> Result<(Vec<Write>, Vec<u64>), Refusal>
+) -> Result<(Vec<Write>, Vec<UndoRow>, Vec<u64>), Refusal>
     ensures kept { (a : Replica) → IsReplica a → in_scope (scope_of scope.now) tables.now ≡ in_scope (scope_of scope.now) (tables_of a)
         → AreSameRooms touched.now (touched_in (scope_of scope.now) tables.now) → IfOk result (λ kept. kept.0.items ≡ kept_in (scope_of scope.now) a) }
+    ensures undo { (a : Replica) → IsReplica a → in_scope (scope_of scope.now) tables.now ≡ in_scope (scope_of scope.now) (tables_of a)
+        → AreSameRooms touched.now (touched_in (scope_of scope.now) tables.now) → IfOk result (λ kept. kept.1.items ≡ map (undo_with (place_of a)) (kept_in (scope_of scope.now) a)) }
     ensures marks { (a : Replica) → IsReplica a → in_scope (scope_of scope.now) tables.now ≡ in_scope (scope_of scope.now) (tables_of a)
-        → AreSameRooms touched.now (touched_in (scope_of scope.now) tables.now) → IfOk result (λ kept. kept.1.items ≡ map (seq_of a) (kept_in (scope_of scope.now) a)) }
+        → AreSameRooms touched.now (touched_in (scope_of scope.now) tables.now) → IfOk result (λ kept. kept.2.items ≡ map (seq_of a) (kept_in (scope_of scope.now) a)) }
     ensures only { (a : Replica) → IsReplica a → in_scope (scope_of scope.now) tables.now ≡ in_scope (scope_of scope.now) (tables_of a)
         → AreSameRooms touched.now (touched_in (scope_of scope.now) tables.now) → IfErr result (λ e. e ≡ Refusal.OutOfMemory) }
 {
@@ -127,8 +122,12 @@ fn kept_in(
         Ok(marks) => marks,
         Err(refusal) => return Err(refusal),
     };
+    let undo = match undo_of(alloc, &logged) {
+        Ok(undo) => undo,
+        Err(refusal) => return Err(refusal),
+    };
     match writes_alone(alloc, logged) {
-        Ok(kept) => Ok((kept, marks)),
+        Ok(kept) => Ok((kept, undo, marks)),
         Err(refusal) => Err(refusal),
     }
 }
@@ -147,14 +146,15 @@ fn logged_in(
 {
     match *scope {
         Scope::Nothing | Scope::InRoom(_) => Ok(Vec::new(alloc)),
-        Scope::NextCommits(count) => first_writes(alloc, &tables.write_log, count),
+        Scope::OfTarget(_) => Ok(Vec::new(alloc)),
+        Scope::NextCommits(count) => first_writes(alloc, &tables.log, count),
         Scope::UpTo(_) | Scope::Above(_) | Scope::Items(_) => {
             picked_in(alloc, scope, tables, touched)
         }
     }
 }
 
-/// The same in a scope whose rows of `write_log` are told row by row.
+/// The same in a scope whose rows of `log` are told row by row.
 fn picked_in(
     alloc: Global,
     scope: &Scope<'_>,
@@ -168,67 +168,23 @@ fn picked_in(
         → AreSameRooms touched.now (touched_in (scope_of scope.now) tables.now) → IfErr result (λ e. e ≡ Refusal.OutOfMemory) }
 {
     let meta = tables.meta;
-    sorted_writes(alloc, &tables.write_log, scope, meta.commits, touched)
+    sorted_writes(alloc, &tables.log, scope, meta.commits, touched)
 }
 
-/// What undoes each of the kept writes in scope. A batch for a position has no need of it.
-fn undo_in(
-    alloc: Global,
-    scope: &Scope<'_>,
-    tables: &Tables,
-    kept: &[Write],
-) -> Result<Vec<UndoRow>, Refusal>
-    ensures undo { (a : Replica) → IsReplica a → in_scope (scope_of scope.now) tables.now ≡ in_scope (scope_of scope.now) (tables_of a)
-        → kept.now ≡ kept_in (scope_of scope.now) a → IfOk result (λ undo. undo.items ≡ undo_in (scope_of scope.now) a) }
-    ensures only { (a : Replica) → IsReplica a → in_scope (scope_of scope.now) tables.now ≡ in_scope (scope_of scope.now) (tables_of a)
-        → kept.now ≡ kept_in (scope_of scope.now) a → IfErr result (λ e. e ≡ Refusal.OutOfMemory) }
-{
-    match *scope {
-        Scope::Nothing | Scope::InRoom(_) | Scope::Above(_) => Ok(no_undo(alloc, scope)),
-        Scope::NextCommits(_) | Scope::UpTo(_) | Scope::Items(_) => {
-            undo_rows(alloc, scope, tables, kept)
-        }
-    }
-}
-
-/// No rows, in a scope that has none. The scope is there for the contract alone.
-fn no_undo(alloc: Global, scope: &Scope<'_>) -> Vec<UndoRow>
-    requires { has_undo (scope_of scope.now) ≡ false }
-    ensures { (a : Replica) → result.items ≡ undo_in (scope_of scope.now) a }
-{
-    let _ = scope;
-    Vec::new(alloc)
-}
-
-/// The rows of the kept writes, in a scope that has them. The scope is there for the contract alone.
-fn undo_rows(
-    alloc: Global,
-    scope: &Scope<'_>,
-    tables: &Tables,
-    kept: &[Write],
-) -> Result<Vec<UndoRow>, Refusal>
-    requires { has_undo (scope_of scope.now) ≡ true }
-    ensures undo { (a : Replica) → IsReplica a → in_scope (scope_of scope.now) tables.now ≡ in_scope (scope_of scope.now) (tables_of a)
-        → kept.now ≡ kept_in (scope_of scope.now) a → IfOk result (λ undo. undo.items ≡ undo_in (scope_of scope.now) a) }
-    ensures only { (a : Replica) → IsReplica a → in_scope (scope_of scope.now) tables.now ≡ in_scope (scope_of scope.now) (tables_of a)
-        → kept.now ≡ kept_in (scope_of scope.now) a → IfErr result (λ e. e ≡ Refusal.OutOfMemory) }
-{
-    let _ = scope;
-    undo_of(alloc, kept, &tables.undo)
-}
-
-/// A board of the bookings in scope.
+/// A board of the bookings in scope, where these are the kept writes.
 fn bookings_in(
     alloc: Global,
     scope: &Scope<'_>,
     tables: &Tables,
     touched: &[RoomName],
+    kept: &[Write],
 ) -> Result<Board, Refusal>
     ensures board { (a : Replica) → IsReplica a → in_scope (scope_of scope.now) tables.now ≡ in_scope (scope_of scope.now) (tables_of a)
-        → AreSameRooms touched.now (touched_in (scope_of scope.now) tables.now)
-        → IfOk result (λ board. board ≡ put_entries (map booking_entry (in_scope (scope_of scope.now) (tables_of a)).booking) []) }
+        → AreSameRooms touched.now (touched_in (scope_of scope.now) tables.now) → kept.now ≡ kept_in (scope_of scope.now) a
+        → IfOk result (λ board. board ≡ board_of (in_scope (scope_of scope.now) (tables_of a))) }
     ensures only { (a : Replica) → IsReplica a → in_scope (scope_of scope.now) tables.now ≡ in_scope (scope_of scope.now) (tables_of a)
-        → AreSameRooms touched.now (touched_in (scope_of scope.now) tables.now) → IfErr result (λ e. e ≡ Refusal.OutOfMemory) }
+        → AreSameRooms touched.now (touched_in (scope_of scope.now) tables.now) → kept.now ≡ kept_in (scope_of scope.now) a
+        → IfErr result (λ e. e ≡ Refusal.OutOfMemory) }
 {
-    board_in(alloc, &tables.booking, scope, touched)
+    board_in(alloc, tables, scope, touched, kept)
 }

@@ -2,7 +2,7 @@ ghost use Rattle.std.specs.Prelude.{◌≡◌, List, IfOk, IfErr};
 ghost use Rattle.mr_model.specs.Replica.{Replica};
 ghost use Rattle.mr_model.specs.Exchange.{Item};
 ghost use Rattle.mr_model.specs.Tables.{tables_of};
-ghost use Rattle.mr_replay.specs.Rows.{undo_rows_of, undone_all};
+ghost use Rattle.mr_replay.specs.Rows.{executed_all, undo_rows_of, undone_all};
 ghost use Rattle.mr_tables.specs.Change.{changed};
 ghost use Rattle.mr_part.specs.PartMoves.{MovesPart};
 
@@ -10,15 +10,18 @@ use crate::part_changed::changed_of;
 use mr_base::{Refusal, RoomName, Write};
 use mr_replay::{Board, UndoRow};
 use mr_replica::candidate::Reached;
+use mr_replica::placing::put_places;
 use mr_replica::rewritten;
 use mr_replica::room_sets::unknown_rooms;
+use mr_replica::targets::{moved_targets, takers};
 use mr_tables::Change;
 use mr_tables::summary::Summary;
 use std::alloc::Global;
 
 /// What a batch changes in the tables that leads from these numbers and known rooms to what is reached: on the board, which has the
 /// bookings in the rooms that it touches, these executions are undone, and these writes are executed, the new commits first. A write that gets
-/// the place and the number that it had keeps its rows, and isn't put.
+/// the place and the number that it had keeps its row in the log, and isn't put; a booking that they cancel is put alone, where another cancel
+/// took that back before.
 pub(crate) fn moved(
     alloc: Global,
     old: &Summary,
@@ -32,29 +35,39 @@ pub(crate) fn moved(
         → IfOk result (λ change. changed change (tables_of a) ≡ tables_of b) }
     ensures only { IfErr result (λ e. e ≡ Refusal.OutOfMemory) }
 {
-    let rows = replayed(board, undone, again)?;
+    let was = takers(alloc, &board, again)?;
+    let replayed = replayed(board, undone, again)?;
+    let (board, rows) = replayed;
     let news = reached.summary.commits.saturating_sub(old.commits);
     let changed = changed_of(alloc, undone, news, again, &rows)?;
     let unknown = unknown_rooms(alloc, known, &reached.rooms)?;
-    let change = rewritten(
+    let mut change = rewritten(
         alloc,
         old,
         &reached.summary,
         unknown,
+        &board,
         &changed.writes,
         &changed.rows,
     )?;
+    let targets = moved_targets(alloc, &reached.summary, &board, again, &was)?;
+    put_places(&mut change, targets)?;
     Ok(change)
 }
 
-/// What undoes these writes, executed where those executions are undone. One board serves all rooms: the executions of
-/// one of them leave the bookings of the others as they are.
-fn replayed(board: Board, undone: &[UndoRow], again: &[Write]) -> Result<Vec<UndoRow>, Refusal>
-    ensures rows { IfOk result (λ rows. rows.items ≡ undo_rows_of (undone_all board undone.now) again.now) }
+/// The board where those executions are undone and these writes are executed, and what undoes them. One board serves all rooms: the
+/// executions of one of them leave the bookings of the others as they are.
+fn replayed(
+    board: Board,
+    undone: &[UndoRow],
+    again: &[Write],
+) -> Result<(Board, Vec<UndoRow>), Refusal>
+    ensures board { IfOk result (λ r. r.0 ≡ executed_all (undone_all board undone.now) again.now) }
+    ensures rows { IfOk result (λ r. r.1.items ≡ undo_rows_of (undone_all board undone.now) again.now) }
     ensures only { IfErr result (λ e. e ≡ Refusal.OutOfMemory) }
 {
     let mut board = board;
     board.undo_all(undone);
     let rows = board.redo_from(again)?;
-    Ok(rows)
+    Ok((board, rows))
 }

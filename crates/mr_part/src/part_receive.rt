@@ -6,15 +6,16 @@ ghost use Rattle.mr_model.specs.Replica.{Replica, IsReplica, tentative};
 ghost use Rattle.mr_model.specs.Replies.{Took};
 ghost use Rattle.mr_model.specs.Scopes.{Scope, OfItems};
 ghost use Rattle.mr_model.specs.Step.{receive_batch, after_items};
-ghost use Rattle.mr_model.specs.Tables.{place_of, tables_of};
+ghost use Rattle.mr_model.specs.Tables.{tables_of};
 ghost use Rattle.mr_model.specs.Taking.{take_items};
-ghost use Rattle.mr_model.specs.Writes.{id_of};
+ghost use Rattle.mr_model.specs.View.{place_of};
 ghost use Rattle.mr_base.specs.Batches.{item_of};
 ghost use Rattle.mr_tables.specs.Change.{changed};
 ghost use Rattle.mr_replica.specs.Desk.{NeverStore, nothing_taken};
 ghost use Rattle.mr_replica.specs.Moves.{AreTouched};
 ghost use Rattle.mr_part.specs.PartMoves.{AnswersItems};
 ghost use Rattle.mr_part.specs.Parts.{IsPartOf, TakesPart};
+ghost use Rattle.mr_replica.specs.Logged.{undo_with};
 
 use crate::Part;
 use crate::part_moved::moved;
@@ -78,7 +79,7 @@ impl Part {
         undone: &[UndoRow],
     ) -> Result<(u64, u64, Change), Refusal>
         ensures step { IsTrue (list_all is_item (map item_of items.now)) → length items.now + 2 < 2 ^ 64 → (a : Replica) → IsReplica a → IsPartOf self (OfItems (map item_of items.now)) a
-            → AreTouched touched.now a (map item_of items.now) → undone.now ≡ map (λ w. record { id = id_of w; place = place_of a w }) (filter (may_move a (map item_of items.now)) (tentative a))
+            → AreTouched touched.now a (map item_of items.now) → undone.now ≡ map (undo_with (place_of a)) (filter (may_move a (map item_of items.now)) (tentative a))
             → AnswersItems a (map item_of items.now) result }
         ensures own { NeverStore result }
     {

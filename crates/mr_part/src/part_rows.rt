@@ -7,13 +7,11 @@ ghost use Rattle.mr_part.specs.Parts.{IsPartOf, IsAskedOf};
 use crate::Part;
 
 impl Part {
-    /// How many rows of `write_log`, `undo` and `booking` the part has. It takes no memory.
+    /// How many rows of `log`, `booking`, `errorlog` and `cancelled` the part has. It takes no memory.
     pub fn rows(&self) -> u64
         ensures { (s : Scope) (a : Replica) → IsReplica a → IsAskedOf s a → IsPartOf self.now s a → result ≡ counted_rows (in_scope s (tables_of a)) }
     {
         let kept = self.kept.as_slice();
-        let undo = self.undo.as_slice();
-        let logs = (kept.len() as u64).saturating_add(undo.len() as u64);
-        logs.saturating_add(self.board.len() as u64)
+        (kept.len() as u64).saturating_add(self.board.len() as u64)
     }
 }

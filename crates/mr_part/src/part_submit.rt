@@ -1,19 +1,20 @@
-ghost use Rattle.std.specs.Prelude.{◌≡◌, ◌+◌, ◌<◌, ◌≤◌, ◌^◌, true, false, [], ◌∷◌, bytes_eq, Err, IfOk, IfErr};
+ghost use Rattle.std.specs.Prelude.{◌≡◌, ◌+◌, ◌<◌, ◌≤◌, ◌^◌, true, false, [], ◌∷◌, None, bytes_eq, Err, IfOk, IfErr};
 ghost use Rattle.std.specs.List.{list_any};
-ghost use Rattle.mr_model.specs.Writes.{id_of};
 ghost use Rattle.mr_model.specs.Replica.{Replica, IsReplica};
 ghost use Rattle.mr_model.specs.Scopes.{InRoom};
-ghost use Rattle.mr_replay.specs.Places.{place_of};
 ghost use Rattle.mr_replica.specs.Desk.{NeverStore};
 ghost use Rattle.mr_part.specs.Parts.{IsPartOf, TakesPart};
+ghost use Rattle.mr_part.specs.PartAccepting.{part_puts, CanPut};
 ghost use Rattle.mr_replica.specs.Steps.{submit_request, outcome_in};
-ghost use Rattle.mr_tables.specs.Summary.{tally_at};
+ghost use Rattle.mr_tables.specs.Summary.{tally_at, noted_write};
 ghost use Rattle.mr_replica.specs.Turning.{put_outcome};
 ghost use Rattle.mr_tables.specs.Written.{meta_of, changed_tallies as rows_changed, written};
 
 use crate::Part;
 use mr_base::{Refusal, Request, Write, WriteId};
-use mr_replay::{Place, UndoRow};
+use mr_replay::UndoRow;
+use mr_replica::kept_rows::target_of;
+use mr_replica::placing::{put_places, taken_rows};
 use mr_tables::Change;
 use mr_tables::rooms::is_known;
 use mr_tables::summary::Summary;
@@ -41,31 +42,44 @@ impl Part {
             return Err(Refusal::UnknownRoom);
         }
         let stamp = self.summary.next_stamp()?;
-        let mut summary = self.summary;
-        summary.note_write(stamp);
         let write = Write::of_request(stamp, request);
-        let place = self.board.merge(&write);
-        let change = last_write(self.alloc, &self.summary, &summary, &write, place)?;
+        let change = self.accept(&write)?;
         Ok((stamp.id(), change))
+    }
+
+    /// Accepts a write with the next stamp of the own server: it becomes the last of the order. Answers what that changes in the
+    /// tables: its rows are put, and that of the booking that it takes back.
+    pub(crate) fn accept(&self, write: &Write) -> Result<Change, Refusal>
+        ensures change { IfOk result (λ change. CanPut self.now (noted_write self.now.summary write.now.stamp) write.now
+            → change ≡ part_puts self.now (noted_write self.now.summary write.now.stamp) write.now) }
+        ensures only { IfErr result (λ e. e ≡ Refusal.OutOfMemory) }
+    {
+        let mut summary = self.summary;
+        summary.note_write(write.stamp);
+        let row = UndoRow {
+            id: write.stamp.id(),
+            place: self.board.merge(write),
+            target: target_of(&write.action),
+        };
+        let taken = taken_rows(self.alloc, &self.summary, &self.board, row)?;
+        let mut change = last_write(self.alloc, &self.summary, &summary, write, row)?;
+        put_places(&mut change, taken)?;
+        Ok(change)
     }
 }
 
-/// What changes in the tables where this write becomes the last of the order, at this place.
+/// What changes in the tables where this write becomes the last of the order, with what undoes it: its own rows are put.
 fn last_write(
     alloc: Global,
     old: &Summary,
     summary: &Summary,
     write: &Write,
-    place: Place,
+    row: UndoRow,
 ) -> Result<Change, Refusal>
     ensures change { IfOk result (λ change. summary.now.commits + 1 + 1 < 2 ^ 64
-        → change ≡ written (meta_of summary.now) [] (rows_changed old.now.tallies summary.now.tallies) summary.now.commits (summary.now.commits + 1) (write.now ∷ []) (record { id = id_of write.now; place = place_of place } ∷ [])) }
+        → change ≡ written (meta_of summary.now) [] (rows_changed old.now.tallies summary.now.tallies) summary.now.commits (summary.now.commits + 1) (write.now ∷ []) (row ∷ []) (None ∷ [])) }
     ensures only { IfErr result (λ e. e ≡ Refusal.OutOfMemory) }
 {
-    let row = UndoRow {
-        id: write.stamp.id(),
-        place,
-    };
     let vector = changed_tallies(alloc, old, summary)?;
     let first = summary.commits.saturating_add(1);
     written(
@@ -76,5 +90,6 @@ fn last_write(
         first,
         slice::from_ref(write),
         &[row],
+        &[None],
     )
 }

@@ -14,7 +14,7 @@ use mr_base::{Refusal, RoomName};
 use mr_tables::LogRow;
 use std::alloc::Global;
 
-/// The rows of `write_log` that are in scope, of tables with these rows and so many commits. Those of a commit come in the order of
+/// The rows of `log` that are in scope, of tables with these rows and so many commits. Those of a commit come in the order of
 /// stamps, others in the order that they have.
 pub fn logs_in_scope<'a>(
     alloc: Global,
@@ -22,12 +22,13 @@ pub fn logs_in_scope<'a>(
     rows: &'a [LogRow],
     commits: u64,
 ) -> Result<Vec<&'a LogRow>, Refusal>
-    ensures logs { (t : RowsOfTables) → t.write_log ≡ rows.now → t.meta.commits ≡ commits
-        → IfOk result (λ logs. map (λ row. row.now) logs.items ≡ (in_scope (scope_of scope.now) t).write_log) }
+    ensures logs { (t : RowsOfTables) → t.log ≡ rows.now → t.meta.commits ≡ commits
+        → IfOk result (λ logs. map (λ row. row.now) logs.items ≡ (in_scope (scope_of scope.now) t).log) }
     ensures only { IfErr result (λ e. e ≡ Refusal.OutOfMemory) }
 {
     match *scope {
         Scope::Nothing | Scope::InRoom(_) => Ok(Vec::new(alloc)),
+        Scope::OfTarget(_) => Ok(Vec::new(alloc)),
         Scope::NextCommits(count) => first_rows(alloc, rows, count as usize),
         Scope::UpTo(_) | Scope::Above(_) | Scope::Items(_) => {
             picked_rows(alloc, scope, rows, commits)
@@ -35,7 +36,7 @@ pub fn logs_in_scope<'a>(
     }
 }
 
-/// The same in a scope whose rows of `write_log` are told row by row.
+/// The same in a scope whose rows of `log` are told row by row.
 fn picked_rows<'a>(
     alloc: Global,
     scope: &Scope<'_>,
@@ -43,8 +44,8 @@ fn picked_rows<'a>(
     commits: u64,
 ) -> Result<Vec<&'a LogRow>, Refusal>
     requires { is_by_row (scope_of scope.now) ≡ true }
-    ensures logs { (t : RowsOfTables) → t.write_log ≡ rows.now → t.meta.commits ≡ commits
-        → IfOk result (λ logs. map (λ row. row.now) logs.items ≡ (in_scope (scope_of scope.now) t).write_log) }
+    ensures logs { (t : RowsOfTables) → t.log ≡ rows.now → t.meta.commits ≡ commits
+        → IfOk result (λ logs. map (λ row. row.now) logs.items ≡ (in_scope (scope_of scope.now) t).log) }
     ensures only { IfErr result (λ e. e ≡ Refusal.OutOfMemory) }
 {
     let touched = rooms_moved(alloc, scope, rows, commits)?;
@@ -58,7 +59,7 @@ fn rooms_moved(
     rows: &[LogRow],
     commits: u64,
 ) -> Result<Vec<RoomName>, Refusal>
-    ensures rooms { (t : RowsOfTables) → t.write_log ≡ rows.now → t.meta.commits ≡ commits
+    ensures rooms { (t : RowsOfTables) → t.log ≡ rows.now → t.meta.commits ≡ commits
         → IfOk result (λ rooms. AreSameRooms rooms.items (touched_in (scope_of scope.now) t)) }
     ensures only { IfErr result (λ e. e ≡ Refusal.OutOfMemory) }
 {
@@ -66,6 +67,7 @@ fn rooms_moved(
         Scope::Items(items) => touched_rooms(alloc, rows, items, commits),
         Scope::Nothing
         | Scope::InRoom(_)
+        | Scope::OfTarget(_)
         | Scope::NextCommits(_)
         | Scope::UpTo(_)
         | Scope::Above(_) => Ok(Vec::new(alloc)),

@@ -15,7 +15,7 @@ use mr_replica::tail::{Tail, tail_of};
 use mr_tables::LogRow;
 use std::alloc::Global;
 
-/// Which rows of `write_log` are in scope. It is made once, so that each row is asked at the cost of a logarithm.
+/// Which rows of `log` are in scope. It is made once, so that each row is asked at the cost of a logarithm.
 #[derive(Drop)]
 pub(crate) enum LogTest {
     /// No row. Of a commit none is told alone: only all tentative rows tell which are its.
@@ -44,7 +44,9 @@ impl LogTest {
         ensures only { IfErr result (λ e. e ≡ Refusal.OutOfMemory) }
     {
         match *scope {
-            Scope::Nothing | Scope::InRoom(_) | Scope::NextCommits(_) => Ok(LogTest::Never),
+            Scope::Nothing | Scope::InRoom(_) | Scope::OfTarget(_) | Scope::NextCommits(_) => {
+                Ok(LogTest::Never)
+            }
             Scope::UpTo(number) => Ok(LogTest::UpTo(number)),
             Scope::Above(number) => Ok(LogTest::Above(number)),
             Scope::Items(items) => Ok(LogTest::Items {

@@ -1,30 +1,66 @@
-ghost use Rattle.std.specs.Prelude.{◌≡◌, List, Ok, IfOk, IfErr, IsTrue, map, filter};
-ghost use Rattle.mr_model.specs.Writes.{Write as WriteOfRoom, is_write};
+ghost use Rattle.std.specs.Prelude.{◌≡◌, ℕ, List, Ok, IfOk, IfErr, map, filter};
+ghost use Rattle.std.specs.List.Sorted.{IsPermutation, IsSortedByKey};
+ghost use Rattle.mr_model.specs.Writes.{Write as WriteOfRoom};
 ghost use Rattle.mr_model.specs.Replica.{Replica, IsReplica};
 ghost use Rattle.mr_base.specs.Answers.{OrOutOfMemory};
-ghost use Rattle.mr_replica.specs.Logged.{logged_of};
-ghost use Rattle.mr_replica.specs.declared.logged.LoggedWrite.{LoggedWrite as LoggedWriteOfRow};
+ghost use Rattle.mr_replay.specs.Places.{place_of};
+ghost use Rattle.mr_replay.specs.Rows.{undo_row_at};
+ghost use Rattle.mr_replica.specs.KeptRows.{run_cmp};
 ghost use Rattle.mr_part.specs.ScopeOf.{scope_of};
-ghost use Rattle.mr_part.specs.PickedLogs.{is_log_in, row_of, AreWithin, ArePicked};
+ghost use Rattle.mr_part.specs.PickedLogs.{is_log_in, row_of, logged_of, IsWithin, AreWithin, ArePicked, logged_place};
+ghost use Rattle.mr_part.specs.declared.scope_logs.LoggedWrite.{LoggedWrite as LoggedWriteOfRow};
 
 use crate::Scope;
 use crate::scope_log_test::LogTest;
-use mr_base::{Refusal, RoomName};
-use mr_replica::logged::{LoggedWrite, sort_writes};
+use mr_base::{Refusal, RoomName, Write};
+use mr_replay::{Place, UndoRow};
+use mr_replica::kept_rows::{RunPlace, target_of};
 use mr_tables::LogRow;
 use mr_tables::reading::write_of;
 use std::alloc::Global;
 
-/// The kept write that a row tells. Refused where the row is that of no write.
-pub(crate) fn logged_of_row(alloc: Global, row: &LogRow) -> Result<LoggedWrite, Refusal>
-    ensures read { (x : LoggedWriteOfRow) → IsTrue (is_write x.write) → row.now ≡ row_of x → OrOutOfMemory result (Ok x) }
-{
-    match write_of(alloc, row) {
-        Ok(write) => Ok(LoggedWrite {
-            write,
-            seq: row.seq,
-        }),
-        Err(refusal) => Err(refusal),
+/// A kept write as its row of `log` tells it, with what undoes it. `seq` is its commit number, 0 where it is tentative.
+#[derive(Drop)]
+pub(crate) struct LoggedWrite {
+    pub write: Write,
+    pub undo: UndoRow,
+    pub seq: u64,
+}
+
+impl LoggedWrite {
+    /// That of a row. Refused where the row is that of no write.
+    pub(crate) fn of_row(alloc: Global, row: &LogRow) -> Result<LoggedWrite, Refusal>
+        ensures read { (x : LoggedWriteOfRow) → IsWithin x → row.now ≡ row_of x → OrOutOfMemory result (Ok x) }
+    {
+        match write_of(alloc, row) {
+            Ok(write) => Ok(LoggedWrite::with(write, row.place, row.seq)),
+            Err(refusal) => Err(refusal),
+        }
+    }
+
+    /// That of a write at its place.
+    fn with(write: Write, place: Place, seq: u64) -> LoggedWrite
+        ensures { result ≡ record { write = write; undo = undo_row_at write (place_of place); seq = seq } }
+    {
+        let undo = UndoRow {
+            id: write.stamp.id(),
+            place,
+            target: target_of(&write.action),
+        };
+        LoggedWrite { write, undo, seq }
+    }
+
+    /// Its place in the order of execution.
+    pub(crate) fn place(&self) -> RunPlace
+        ensures { result ≡ logged_place self.now }
+    {
+        let stamp = self.write.stamp;
+        RunPlace {
+            is_tentative: self.seq == 0,
+            seq: self.seq,
+            time: stamp.time,
+            server: stamp.server,
+        }
     }
 }
 
@@ -45,7 +81,7 @@ fn writes_in(
     let mut writes = Vec::new(alloc);
     for row in rows {
         if test.passes(row) {
-            match logged_of_row(alloc, row) {
+            match LoggedWrite::of_row(alloc, row) {
                 Ok(write) => writes.push(write)?,
                 Err(refusal) => return Err(refusal),
             }
@@ -76,6 +112,18 @@ pub(crate) fn sorted_writes(
     }
 }
 
+/// The writes alone.
+pub(crate) fn writes_alone(alloc: Global, logged: Vec<LoggedWrite>) -> Result<Vec<Write>, Refusal>
+    ensures writes { IfOk result (λ writes. writes.items ≡ map (λ x. x.write) logged.items) }
+    ensures only { IfErr result (λ e. e ≡ Refusal.OutOfMemory) }
+{
+    let mut writes = Vec::new(alloc);
+    for one in logged {
+        writes.push(one.write)?;
+    }
+    Ok(writes)
+}
+
 /// The commit numbers alone.
 pub(crate) fn numbers_of(alloc: Global, logged: &[LoggedWrite]) -> Result<Vec<u64>, Refusal>
     ensures numbers { IfOk result (λ numbers. numbers.items ≡ map (λ x. x.seq) logged.now) }
@@ -86,4 +134,24 @@ pub(crate) fn numbers_of(alloc: Global, logged: &[LoggedWrite]) -> Result<Vec<u6
         numbers.push(one.seq)?;
     }
     Ok(numbers)
+}
+
+/// What undoes each of them.
+pub(crate) fn undo_of(alloc: Global, logged: &[LoggedWrite]) -> Result<Vec<UndoRow>, Refusal>
+    ensures undo { IfOk result (λ rows. rows.items ≡ map (λ x. x.undo) logged.now) }
+    ensures only { IfErr result (λ e. e ≡ Refusal.OutOfMemory) }
+{
+    let mut rows = Vec::new(alloc);
+    for one in logged {
+        rows.push(one.undo)?;
+    }
+    Ok(rows)
+}
+
+/// Puts the writes into the order of execution.
+pub(crate) fn sort_writes(writes: &mut Vec<LoggedWrite>)
+    ensures moved { IsPermutation writes.old.items writes.new.items }
+    ensures sorted { IsSortedByKey logged_place run_cmp writes.new.items }
+{
+    writes.sort_unstable_by_key(|write| write.place());
 }

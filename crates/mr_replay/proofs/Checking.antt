@@ -1,50 +1,82 @@
 -- Whether a slot is free: as a test of rows, as one of bookings, and as what it means.
-use Rattle.std.proofs.Common.{◌≡◌, ℕ, Bool, true, false, not, cond, List, [], ◌∷◌, IsTrue, ap, refl, sym, ◌∙◌}
+use Rattle.std.proofs.Common.{◌≡◌, ℕ, Bool, true, false, not, cond, ◌&&◌, ◌||◌, List, [], ◌∷◌, ap, refl, sym, ◌∙◌}
 use Rattle.std.specs.List.{list_any, AllByRecursion}
 use Rattle.std.specs.Map.{values_of}
-use Rattle.std.proofs.lemmas.Bool.{true≢false, and_from, and_parts, or_parts, or_from, not-true, not_from_false, false_from_ne_true}
+use Rattle.std.specs.Str.{bytes_eq}
+use Rattle.std.proofs.lemmas.Bool.{true≢false, or_parts, or_from, false_from_ne_true}
+use Rattle.std.proofs.lemmas.List.Folds.{list_any-append}
 use Rattle.mr_model.specs.Texts.{Text}
 use Rattle.mr_model.specs.Slots.{Slot, Overlap, overlaps}
-use Rattle.mr_model.specs.Replay.{is_free}
+use Rattle.mr_model.specs.Writes.{Id}
+use Rattle.mr_model.specs.Replay.{Booking, is_free}
 use Rattle.mr_model.proofs.SlotTests.{overlaps-true, overlaps_from}
+use Rattle.mr_model.proofs.UniqueReplay.{meets}
+use Rattle.mr_replay.specs.declared.rows.Standing.TheVariants.{Booked, CancelledBy, InErrorLog}
+use Rattle.mr_replay.specs.declared.rows.Kept.{Kept}
+use Rattle.mr_replay.specs.declared.rows.Kept.TheVariants.{OfBooking, OfCancel}
 use Rattle.mr_replay.specs.declared.rows.Row.{Row}
-use Rattle.mr_replay.specs.Rows.{Rows, is_booking_of, is_in_the_way, bookings_of, IsFree}
-use Rattle.mr_replay.proofs.Placing.{meets-rows}
+use Rattle.mr_replay.specs.Rows.{Rows, booking_kept, booking_in, bookings_of, is_kept_in_the_way, is_in_the_way, IsFree}
 
 not-cond : (b : Bool) → not b ≡ cond b false true
 not-cond true = refl
 not-cond false = refl
 
-pub free-bookings : (room : Text) (slot : Slot) (length : ℕ) (b : Rows) → not (list_any (is_in_the_way room slot length) (values_of b)) ≡ is_free (bookings_of room b) length slot
-free-bookings room slot length b =
-    not-cond (list_any (is_in_the_way room slot length) (values_of b)) ∙ ap (λ t. cond t false true) (sym (meets-rows slot length room (values_of b)))
-
 module _ (room : Text) (slot : Slot) (length : ℕ) where
-  -- the row is no booking of the room that overlaps the slot
-  abbrev LeavesFree : Row → Type 0
-  LeavesFree row = IsTrue (is_booking_of room row) → ¬ (Overlap slot length row.slot row.length)
+  or_end : (b : Bool) → (b || false) ≡ b
+  or_end true = refl
+  or_end false = refl
 
-  leaves_free : (row : Row) → is_in_the_way room slot length row ≡ false → LeavesFree row
-  leaves_free row h booking overlap = true≢false (sym (and_from (is_booking_of room row) (overlaps slot length row.slot row.length) booking (overlaps_from slot length row.slot row.length overlap)) ∙ h)
+  kept_meets : (i : Id) (k : Kept) → meets (booking_kept i k) slot length ≡ is_kept_in_the_way slot length k
+  kept_meets i (OfBooking s l t Booked) = or_end (overlaps slot length s l)
+  kept_meets i (OfBooking s l t (CancelledBy c)) = refl
+  kept_meets i (OfBooking s l t InErrorLog) = refl
+  kept_meets i (OfCancel t) = refl
 
-  not_in_the_way : (row : Row) → LeavesFree row → is_in_the_way room slot length row ≡ false
-  not_in_the_way row h =
-      false_from_ne_true (is_in_the_way room slot length row) (λ e.
-      let parts = and_parts (is_booking_of room row) (overlaps slot length row.slot row.length) e in
-      h parts.0 (overlaps-true slot length row.slot row.length parts.1))
+  entry_meets : (e : Id × Row) → meets (booking_in room e) slot length ≡ is_in_the_way room slot length e.1
+  entry_meets e = go (bytes_eq e.1.room room) (kept_meets e.0 e.1.kept)
+    where
+      go : (c : Bool) → meets (booking_kept e.0 e.1.kept) slot length ≡ is_kept_in_the_way slot length e.1.kept → meets (cond c (booking_kept e.0 e.1.kept) []) slot length ≡ (is_kept_in_the_way slot length e.1.kept && c)
+      go true h = h ∙ both (is_kept_in_the_way slot length e.1.kept)
+        where
+          both : (b : Bool) → b ≡ (b && true)
+          both true = refl
+          both false = refl
+      go false h = none (is_kept_in_the_way slot length e.1.kept)
+        where
+          none : (b : Bool) → false ≡ (b && false)
+          none true = refl
+          none false = refl
 
-  all_leave_free : (rows : List Row) → list_any (is_in_the_way room slot length) rows ≡ false → AllByRecursion LeavesFree rows
+  -- some booking of the room overlaps the slot where some row is in the way
+  pub meets-rows : (b : Rows) → meets (bookings_of room b) slot length ≡ list_any (is_in_the_way room slot length) (values_of b)
+  meets-rows [] = refl
+  meets-rows (e ∷ es) =
+      list_any-append (λ (x : Booking). overlaps slot length x.slot x.length) (booking_in room e) (bookings_of room es)
+      ∙ ap (λ t. t || meets (bookings_of room es) slot length) (entry_meets e) ∙ ap (λ t. is_in_the_way room slot length e.1 || t) (meets-rows es)
+
+  pub free-bookings : (b : Rows) → not (list_any (is_in_the_way room slot length) (values_of b)) ≡ is_free (bookings_of room b) length slot
+  free-bookings b =
+      not-cond (list_any (is_in_the_way room slot length) (values_of b)) ∙ ap (λ t. cond t false true) (sym (meets-rows b))
+
+  -- ---- what the test means
+
+  all_leave_free : (bs : List Booking) → meets bs slot length ≡ false → AllByRecursion (λ x. ¬ (Overlap slot length x.slot x.length)) bs
   all_leave_free [] h = tt
-  all_leave_free (row ∷ rows) h =
-      let parts = or_parts (is_in_the_way room slot length row) (list_any (is_in_the_way room slot length) rows) h in
-      (leaves_free row parts.0, all_leave_free rows parts.1)
+  all_leave_free (x ∷ xs) h =
+      let parts = or_parts (overlaps slot length x.slot x.length) (meets xs slot length) h in
+      (λ overlap. true≢false (sym (overlaps_from slot length x.slot x.length overlap) ∙ parts.0), all_leave_free xs parts.1)
 
-  none_in_the_way : (rows : List Row) → AllByRecursion LeavesFree rows → list_any (is_in_the_way room slot length) rows ≡ false
-  none_in_the_way [] h = refl
-  none_in_the_way (row ∷ rows) h = or_from _ _ (not_in_the_way row h.0) (none_in_the_way rows h.1)
+  none_meets : (bs : List Booking) → AllByRecursion (λ x. ¬ (Overlap slot length x.slot x.length)) bs → meets bs slot length ≡ false
+  none_meets [] h = refl
+  none_meets (x ∷ xs) h =
+      or_from _ _ (false_from_ne_true (overlaps slot length x.slot x.length) (λ e. h.0 (overlaps-true slot length x.slot x.length e))) (none_meets xs h.1)
 
-  pub free-true : (b : Rows) → not (list_any (is_in_the_way room slot length) (values_of b)) ≡ true → IsFree room slot length b
-  free-true b h = all_leave_free (values_of b) (not-true (list_any (is_in_the_way room slot length) (values_of b)) h)
+  free_is : (t : Bool) → cond t false true ≡ true → t ≡ false
+  free_is true e = absurd (true≢false (sym e))
+  free_is false e = refl
 
-  pub free_from : (b : Rows) → IsFree room slot length b → not (list_any (is_in_the_way room slot length) (values_of b)) ≡ true
-  free_from b h = not_from_false (list_any (is_in_the_way room slot length) (values_of b)) (none_in_the_way (values_of b) h)
+  pub free-true : (b : Rows) → is_free (bookings_of room b) length slot ≡ true → IsFree room slot length b
+  free-true b h = all_leave_free (bookings_of room b) (free_is (meets (bookings_of room b) slot length) h)
+
+  pub free_from : (b : Rows) → IsFree room slot length b → is_free (bookings_of room b) length slot ≡ true
+  free_from b h = ap (λ t. cond t false true) (none_meets (bookings_of room b) h)

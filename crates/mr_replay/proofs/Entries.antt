@@ -12,8 +12,7 @@ use Rattle.std.proofs.lemmas.Map.Keys.{IsDistinct-from_sorted}
 use Rattle.mr_model.specs.Writes.{Id, same_id}
 use Rattle.mr_base.specs.Ids.{id_cmp}
 use Rattle.mr_replay.specs.declared.rows.Row.{Row}
-use Rattle.mr_replay.specs.Places.{UndoRow}
-use Rattle.mr_replay.specs.Rows.{Rows, row_at, undone}
+use Rattle.mr_replay.specs.Rows.{Rows, row_at}
 use Rattle.mr_replay.proofs.Ids.{exact_ids, ids_total, at, at_equivalence, at_one, at_is, same_id_equivalence}
 
 abbrev pub IsInOrder : Rows → Type 0
@@ -78,9 +77,6 @@ row_at-removed b i q h =
     (lookup-remove_entry at_equivalence (at i) (λ x y e. at_equivalence.congr i x y e) q b (IsDistinct-from_sorted id_cmp (keys_of b) h))
     ∙ ap (λ t. cond t None (row_at b q)) (same_id_equivalence.symm i q)
 
-pub row_at-undone : (b : Rows) (u : UndoRow) (q : Id) → IsInOrder b → row_at (undone b u) q ≡ cond (same_id q u.id) None (row_at b q)
-row_at-undone b u q h = row_at-removed b u.id q h
-
 each-removed : (P : Id → Type 0) (b : Rows) (i : Id) → AllByRecursion P (keys_of b) → AllByRecursion P (keys_of (remove_entry (same_id i) b))
 each-removed P [] i h = tt
 each-removed P (e ∷ es) i h =
@@ -91,9 +87,6 @@ unfolding IsStrictlySortedBy
 in_order-removed [] i h = tt
 in_order-removed (e ∷ es) i h =
     elim (same_id i e.0) as (λ t. IsStrictlySortedBy id_cmp (keys_of (cond t es (e ∷ remove_entry (same_id i) es)))) [ true ↦ h.1 | false ↦ (each-removed (λ k. id_cmp e.0 k ≡ Less) es i h.0, in_order-removed es i h.1) ]
-
-pub in_order-undone : (b : Rows) (u : UndoRow) → IsInOrder b → IsInOrder (undone b u)
-in_order-undone b u h = in_order-removed b u.id h
 
 -- ---- a row put in where its id was not, and taken away again
 

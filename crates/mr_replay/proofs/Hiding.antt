@@ -3,6 +3,7 @@ use Rattle.std.proofs.Common.{◌≡◌, ◌∙◌, Bool, true, false, not, cond
 use Rattle.std.specs.BTreeMap.{insert_entry}
 use Rattle.std.specs.BTreeSet.{BTreeSet, contains}
 use Rattle.std.specs.List.{AllByRecursion}
+use Rattle.std.specs.Prelude.{option_map}
 use Rattle.std.specs.List.Sorted.{IsStrictlySortedBy}
 use Rattle.std.specs.Map.{keys_of, remove_entry}
 use Rattle.std.specs.FinMap.Entries.{same_entries}
@@ -11,12 +12,13 @@ use Rattle.mr_model.specs.Writes.{Id, same_id}
 use Rattle.mr_base.specs.Ids.{id_cmp}
 use Rattle.mr_replay.specs.declared.rows.Row.{Row}
 use Rattle.mr_replay.specs.declared.index.IndexKey.{IndexKey}
-use Rattle.mr_replay.specs.Places.{UndoRow}
-use Rattle.mr_replay.specs.Rows.{Rows, row_at, undone}
+use Rattle.mr_replay.specs.declared.rows.Kept.{Kept}
+use Rattle.mr_replay.specs.Rows.{Rows, row_at, change, changed}
 use Rattle.mr_replay.specs.Index.{IsIndexed, IsNoted}
 use Rattle.mr_replay.specs.Hidden.{is_hidden, shown, put_back, put_all_back, HasPlace, HavePlaces, LeadsFrom}
 use Rattle.mr_replay.proofs.Ids.{exact_ids, ids_total, at, at_is, same_id_equivalence}
-use Rattle.mr_replay.proofs.Entries.{IsInOrder, row_at-put, in_order-put, row_at-removed, in_order-removed, row_at-undone, in_order-undone, undone-put}
+use Rattle.mr_replay.proofs.Entries.{IsInOrder, row_at-put, in_order-put, row_at-removed, in_order-removed, undone-put}
+use Rattle.mr_replay.proofs.Marked.{change_if, row_at-changed, in_order-changed}
 use Rattle.mr_replay.proofs.OneBoard.{sorted_test, find-row_at}
 use Rattle.mr_model.proofs.Members.{same_id-true}
 
@@ -89,12 +91,12 @@ hiding : {X : Type 0} (s h : Bool) (x y : X) → cond (cond s true h) x y ≡ co
 hiding true h x y = refl
 hiding false h x y = refl
 
--- hiding an id is undoing its execution
-pub shown-more : (old new : BTreeSet Id) (b : Rows) (u : UndoRow) → IsInOrder b → ChangesAt u.id true old new → shown new b ≡ undone (shown old b) u
-shown-more old new b u order h =
-    same_rows (shown new b) (undone (shown old b) u) (in_order-shown new b order) (in_order-undone (shown old b) u (in_order-shown old b order)) (λ q.
-    row_at-shown new b q ∙ ap (λ t. cond t None (row_at b q)) (h q) ∙ hiding (same_id q u.id) (is_hidden old q) None (row_at b q)
-    ∙ ap (cond (same_id q u.id) None) (sym (row_at-shown old b q)) ∙ sym (row_at-undone (shown old b) u q (in_order-shown old b order)))
+-- hiding an id is taking its row away
+pub shown-more : (old new : BTreeSet Id) (b : Rows) (i : Id) → IsInOrder b → ChangesAt i true old new → shown new b ≡ remove_entry (same_id i) (shown old b)
+shown-more old new b i order h =
+    same_rows (shown new b) (remove_entry (same_id i) (shown old b)) (in_order-shown new b order) (in_order-removed (shown old b) i (in_order-shown old b order)) (λ q.
+    row_at-shown new b q ∙ ap (λ t. cond t None (row_at b q)) (h q) ∙ hiding (same_id q i) (is_hidden old q) None (row_at b q)
+    ∙ ap (cond (same_id q i) None) (sym (row_at-shown old b q)) ∙ sym (row_at-removed (shown old b) i q (in_order-shown old b order)))
 
 showing : {X : Type 0} (s h : Bool) (x y z : X) → cond (cond s false h) x (cond s y z) ≡ cond s y (cond h x z)
 showing true h x y z = refl
@@ -121,6 +123,38 @@ shown-removed old new b i order there h =
     same_rows (shown new (remove_entry (same_id i) b)) (shown old b) (in_order-shown new _ (in_order-removed b i order)) (in_order-shown old b order) (λ q.
     row_at-shown new (remove_entry (same_id i) b) q ∙ (λ t. cond (h q t) None (row_at-removed b i q order t)) ∙ gone (same_id q i) (is_hidden old q) None (row_at b q)
     ∙ ap (λ t. cond t None (row_at b q)) (sym (same_hidden i old q (same_id q i) refl there)) ∙ sym (row_at-shown old b q))
+
+-- ---- a row changed
+
+changing : (f : Kept → Kept) (s : Bool) (row : Row) (o : Option Row) → (s ≡ true → o ≡ Some row) → cond s (Some (change f row)) o ≡ change_if f s o
+changing f true row o h = ap (option_map (change f)) (sym (h refl))
+changing f false row o h = refl
+
+-- a changed row put in the place of the one that was there
+pub put-changed : (f : Kept → Kept) (b : Rows) (i : Id) (row : Row) → IsInOrder b → row_at b i ≡ Some row → insert_entry id_cmp b i (change f row) ≡ changed f i b
+put-changed f b i row order there =
+    same_rows (insert_entry id_cmp b i (change f row)) (changed f i b) (in_order-put b i (change f row) order) (in_order-changed f i b order) (λ q.
+    row_at-put b i (change f row) q ∙ changing f (same_id q i) row (row_at b q) (λ e. ap (row_at b) (same_id-true q i e) ∙ there) ∙ sym (row_at-changed f i b q))
+
+found_shown : (hidden : BTreeSet Id) (b : Rows) (i : Id) (row : Row) → row_at (shown hidden b) i ≡ Some row → (is_hidden hidden i ≡ false) × (row_at b i ≡ Some row)
+found_shown hidden b i row h = go (is_hidden hidden i) refl (sym (row_at-shown hidden b i) ∙ h)
+  where
+    go : (t : Bool) → is_hidden hidden i ≡ t → cond t None (row_at b i) ≡ Some row → (is_hidden hidden i ≡ false) × (row_at b i ≡ Some row)
+    go true e f = cc
+    go false e f = (e, f)
+
+pub row_shown : (hidden : BTreeSet Id) (b : Rows) (i : Id) (row : Row) → row_at (shown hidden b) i ≡ Some row → row_at b i ≡ Some row
+row_shown hidden b i row h = (found_shown hidden b i row h).1
+
+unchanged_at : (hidden : BTreeSet Id) (i q : Id) (s : Bool) → same_id q i ≡ s → is_hidden hidden i ≡ false → is_hidden hidden q ≡ cond s false (is_hidden hidden q)
+unchanged_at hidden i q true e h = ap (is_hidden hidden) (same_id-true q i e) ∙ h
+unchanged_at hidden i q false e h = refl
+
+-- among the rows that are shown too
+pub shown-changed : (f : Kept → Kept) (hidden : BTreeSet Id) (b : Rows) (i : Id) (row : Row) → IsInOrder b → row_at (shown hidden b) i ≡ Some row → shown hidden (insert_entry id_cmp b i (change f row)) ≡ changed f i (shown hidden b)
+shown-changed f hidden b i row order there =
+    shown-put hidden hidden b i (change f row) order (λ q. unchanged_at hidden i q (same_id q i) refl (found_shown hidden b i row there).0)
+    ∙ put-changed f (shown hidden b) i row (in_order-shown hidden b order) there
 
 -- ---- a journal
 

@@ -9,7 +9,7 @@ use Rattle.std.proofs.lemmas.Cmp.{on_total, then_total}
 use Rattle.std.proofs.lemmas.Map.Lookups.{CmpEqualImpliesEq, exact_pairs, exact_unsigned}
 use Rattle.mr_model.specs.Writes.{Id, same_id}
 use Rattle.mr_model.proofs.Members.{same_id-true, same_id_from}
-use Rattle.mr_model.proofs.TwinTables.{bool_same}
+use Rattle.mr_model.proofs.MembersAlike.{bool_same}
 use Rattle.mr_base.specs.Ids.{id_cmp}
 
 -- ids that compare alike are one

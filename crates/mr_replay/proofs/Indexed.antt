@@ -25,14 +25,17 @@ use Rattle.mr_model.proofs.Members.{same_id-true}
 use Rattle.mr_model.proofs.SlotTests.{overlaps-true}
 use Rattle.mr_base.specs.Ids.{id_cmp}
 use Rattle.mr_replay.specs.declared.index.IndexKey.{IndexKey}
+use Rattle.mr_replay.specs.declared.rows.Standing.TheVariants.{Booked, CancelledBy, InErrorLog}
+use Rattle.mr_replay.specs.declared.rows.Kept.{Kept}
+use Rattle.mr_replay.specs.declared.rows.Kept.TheVariants.{OfBooking, OfCancel}
 use Rattle.mr_replay.specs.declared.rows.Row.{Row}
-use Rattle.mr_replay.specs.Rows.{Rows, row_at, is_booked, is_booking_of, is_in_the_way}
-use Rattle.mr_replay.specs.Index.{padded, day_cmp, key_cmp, key_of, first_key, last_key, has, Grows, key_if_booked, IsNoted, IsIndexed, way_at, is_in_the_way_at, of_day, is_row}
+use Rattle.mr_replay.specs.Rows.{Rows, row_at, is_kept_in_the_way, is_in_the_way, mark, unmark, change, changed}
+use Rattle.mr_replay.specs.Index.{padded, day_cmp, key_cmp, key_of, key_kept, key_if_taken, first_key, last_key, has, Grows, IsNoted, IsIndexed, way_at, is_in_the_way_at, of_day, is_row}
 use Rattle.mr_replay.proofs.Ids.{same_id_equivalence}
 use Rattle.mr_replay.proofs.Entries.{distinct_keys, in_order-put, in_order-removed, row_at-put, row_at-removed}
-use Rattle.mr_replay.proofs.Keys.{same_key, apart_keys}
+use Rattle.mr_replay.proofs.Marked.{change_if, row_at-changed, in_order-changed}
+use Rattle.mr_replay.proofs.Keys.{same_key, key_id, apart_keys, key-marked, key-unmarked}
 use Rattle.mr_replay.proofs.Lists.{one_name}
-use Rattle.mr_replay.proofs.Placing.{same_from_false}
 
 -- ---- a booking's key is between the ends of its day
 
@@ -71,6 +74,12 @@ any_in test inside key (k ∷ ks) found is holds = go (is_at (key_cmp key) k) re
         ap (λ b. list_any test (cond b (k ∷ rest) rest)) (ap inside one ∙ is) ∙ ap (λ b. b || list_any test rest) (ap test one ∙ holds)
     go false at f later = behind (inside k) (later f)
 
+-- two tests that fail together are one
+same_from_false : (a b : Bool) → (a ≡ false → b ≡ false) → (b ≡ false → a ≡ false) → a ≡ b
+same_from_false true true f g = refl
+same_from_false true false f g = g refl
+same_from_false false b f g = sym (f refl)
+
 -- ---- the index tells of all rows
 
 module _ (room : Text) (slot : Slot) (length : ℕ) where
@@ -99,18 +108,25 @@ module _ (room : Text) (slot : Slot) (length : ℕ) where
       go true later = or_from _ _ (ap (λ b. overlaps slot length k.slot k.length && b) (none_named rows k.id h) ∙ and-false (overlaps slot length k.slot k.length)) later
       go false later = later
 
+  -- a row in the way is a booking that stands and overlaps the slot, and has a key
+  way_key : (i : Id) (room_of : Text) (k : Kept) → is_kept_in_the_way slot length k ≡ true → (s : Slot) × (l : ℕ) × (key_kept i room_of k ≡ Some (key_of i room_of s l)) × (overlaps slot length s l ≡ true)
+  way_key i room_of (OfBooking s l t Booked) h = (s, l, refl, h)
+  way_key i room_of (OfBooking s l t (CancelledBy c)) h = absurd (true≢false (sym h))
+  way_key i room_of (OfBooking s l t InErrorLog) h = absurd (true≢false (sym h))
+  way_key i room_of (OfCancel t) h = absurd (true≢false (sym h))
+
   -- a row in the way is named
   row_named : (rows : Rows) (index : BTreeSet IndexKey) (i : Id) (row : Row) → row_at rows i ≡ Some row → IsNoted index i row → is_in_the_way room slot length row ≡ true → list_any (is_in_the_way_at room slot length rows) (of_day slot room index) ≡ true
   row_named rows index i row there noted way =
-      let parts = and_parts (is_booking_of room row) (overlaps slot length row.slot row.length) way in
-      let booking = and_parts (is_booked row.standing) (bytes_eq row.room room) parts.0 in
-      let overlap = overlaps-true slot length row.slot row.length parts.1 in
-      let day : row.slot.day ≡ slot.day = overlap.3.same_day ∙ sym overlap.2.same_day in
-      let key : key_of i row ≡ record { day = slot.day; room = padded room; edge = 1; id = i; slot = row.slot; length = row.length } =
-      λ t. record { day = day t; room = padded (one_name row.room room booking.1 t); edge = 1; id = i; slot = row.slot; length = row.length } in
-      any_in (is_in_the_way_at room slot length rows) (range_contains key_cmp (Included (first_key slot room)) (Included (last_key slot room))) (key_of i row) index.keys (noted booking.0)
-      (ap (range_contains key_cmp (Included (first_key slot room)) (Included (last_key slot room))) key ∙ in_day slot room i row.slot row.length)
-      (and_from _ _ parts.1 (ap (is_row (is_in_the_way room slot length)) there ∙ way))
+      let parts = and_parts (is_kept_in_the_way slot length row.kept) (bytes_eq row.room room) way in
+      let (at, long, is, meets) = way_key i row.room row.kept parts.0 in
+      let overlap = overlaps-true slot length at long meets in
+      let day : at.day ≡ slot.day = overlap.3.same_day ∙ sym overlap.2.same_day in
+      let key : key_of i row.room at long ≡ record { day = slot.day; room = padded room; edge = 1; id = i; slot = at; length = long } =
+      λ t. record { day = day t; room = padded (one_name row.room room parts.1 t); edge = 1; id = i; slot = at; length = long } in
+      any_in (is_in_the_way_at room slot length rows) (range_contains key_cmp (Included (first_key slot room)) (Included (last_key slot room))) (key_of i row.room at long) index.keys (noted (key_of i row.room at long) is)
+      (ap (range_contains key_cmp (Included (first_key slot room)) (Included (last_key slot room))) key ∙ in_day slot room i at long)
+      (and_from _ _ meets (ap (is_row (is_in_the_way room slot length)) there ∙ way))
 
   pub taken : (rows : Rows) (index : BTreeSet IndexKey) → IsIndexed rows index → list_any (is_in_the_way_at room slot length rows) (of_day slot room index) ≡ list_any (is_in_the_way room slot length) (values_of rows)
   taken rows index h =
@@ -160,13 +176,13 @@ IsIndexed-absent rows old new i absent h others = record { ordered = h.ordered; 
 
 -- a larger index keeps what is noted
 pub KeepsOthers-grown : (old new : BTreeSet IndexKey) (i : Id) → Grows old new → KeepsOthers old new i
-KeepsOthers-grown old new i grows = λ j r apart noted booked. grows (key_of j r) (noted booked)
+KeepsOthers-grown old new i grows = λ j r apart noted key is. grows key (noted key is)
 
 -- and serves as well
 pub IsIndexed-grown : (rows : Rows) (old new : BTreeSet IndexKey) → Grows old new → IsIndexed rows old → IsIndexed rows new
 IsIndexed-grown rows old new grows h = record {
   ordered = h.ordered;
-  bookings = λ q. IfSome-more (row_at rows q) (IsNoted old q) (IsNoted new q) (λ r noted booked. grows (key_of q r) (noted booked)) (h.bookings q);
+  bookings = λ q. IfSome-more (row_at rows q) (IsNoted old q) (IsNoted new q) (λ r noted key is. grows key (noted key is)) (h.bookings q);
 }
 
 -- ---- a key taken out
@@ -181,27 +197,44 @@ none_is a e = cc
 pub one_some : {A : Type 0} (a b : A) → Some a ≡ Some b → a ≡ b
 one_some a b e = cc
 
-if_key : (i j : Id) (r row : Row) (b : Bool) → same_id i j ≡ false → cond b (Some (key_of j row)) None ≡ Some (key_of i r) → ⊥
-if_key i j r row true apart e = apart_keys i j r row apart (sym (one_some (key_of j row) (key_of i r) e))
-if_key i j r row false apart e = none_is (key_of i r) e
-
 -- forgetting a row's key keeps those of rows of other ids
-pub Forgets-others : (old new : BTreeSet IndexKey) (key kept : Option IndexKey) (i : Id) (row : Row) → key ≡ key_if_booked i row → Forgets old new key kept → KeepsOthers old new i
-Forgets-others old new key kept i row is h = λ j r apart noted booked. h (key_of j r) (λ e. absurd (if_key j i r row (is_booked row.standing) apart (sym is ∙ e))) (noted booked)
+pub Forgets-others : (old new : BTreeSet IndexKey) (key kept : Option IndexKey) (i : Id) (row : Row) → key ≡ key_if_taken i row → Forgets old new key kept → KeepsOthers old new i
+Forgets-others old new key kept i row is h = λ j r apart noted k own. h k (λ e. absurd (apart_keys j i r row k apart own (sym is ∙ e))) (noted k own)
 
 -- and the key of the row that it keeps
-pub Forgets-kept : (old new : BTreeSet IndexKey) (key kept : Option IndexKey) (i : Id) (row : Row) → kept ≡ key_if_booked i row → Forgets old new key kept → IsNoted old i row → IsNoted new i row
-Forgets-kept old new key kept i row is h noted = λ booked. h (key_of i row) (λ _. is ∙ ap (λ b. cond b (Some (key_of i row)) None) booked) (noted booked)
+pub Forgets-kept : (old new : BTreeSet IndexKey) (key kept : Option IndexKey) (i : Id) (row : Row) → kept ≡ key_if_taken i row → Forgets old new key kept → IsNoted old i row → IsNoted new i row
+Forgets-kept old new key kept i row is h noted = λ k own. h k (λ _. is ∙ own) (noted k own)
 
 -- ---- a key that no row stands under
 
 -- taking it out leaves all rows noted, if what is kept is where the row of its id stands
-pub IsIndexed-swept : (rows : Rows) (old new : BTreeSet IndexKey) (key : IndexKey) (kept : Option IndexKey) → ((row : Row) → row_at rows key.id ≡ Some row → kept ≡ key_if_booked key.id row) → ((k : IndexKey) → (key ≡ k → kept ≡ Some k) → IsTrue (has old k) → IsTrue (has new k)) → IsIndexed rows old → IsIndexed rows new
+pub IsIndexed-swept : (rows : Rows) (old new : BTreeSet IndexKey) (key : IndexKey) (kept : Option IndexKey) → ((row : Row) → row_at rows key.id ≡ Some row → kept ≡ key_if_taken key.id row) → ((k : IndexKey) → (key ≡ k → kept ≡ Some k) → IsTrue (has old k) → IsTrue (has new k)) → IsIndexed rows old → IsIndexed rows new
 IsIndexed-swept rows old new key kept is forgets h = record { ordered = h.ordered; bookings = λ q. at q (row_at rows q) refl (h.bookings q) }
   where
     at : (q : Id) (o : Option Row) → row_at rows q ≡ o → IfSome o (IsNoted old q) → IfSome o (IsNoted new q)
     at q None there noted = tt
-    at q (Some row) there noted = λ booked.
-        forgets (key_of q row) (λ e.
-        let id : key.id ≡ q = ap (λ (k : IndexKey). k.id) e in
-        is row (ap (row_at rows) id ∙ there) ∙ ap (λ b. cond b (Some (key_of key.id row)) None) booked ∙ ap (λ i. Some (key_of i row)) id) (noted booked)
+    at q (Some row) there noted = λ k own.
+        forgets k (λ e.
+        let id : key.id ≡ q = ap (λ (x : IndexKey). x.id) e ∙ key_id q row.room row.kept k own in
+        is row (ap (row_at rows) id ∙ there) ∙ ap (λ i. key_if_taken i row) id ∙ own) (noted k own)
+
+-- ---- a row changed in place
+
+pub IsNoted-same : (index : BTreeSet IndexKey) (i : Id) (r s : Row) → key_if_taken i s ≡ key_if_taken i r → IsNoted index i r → IsNoted index i s
+IsNoted-same index i r s same noted = λ key is. noted key (sym same ∙ is)
+
+IsIndexed-changed : (f : Kept → Kept) → ((i : Id) (row : Row) → key_if_taken i (change f row) ≡ key_if_taken i row) → (t : Id) (rows : Rows) (index : BTreeSet IndexKey) → IsIndexed rows index → IsIndexed (changed f t rows) index
+IsIndexed-changed f same t rows index h = record {
+  ordered = in_order-changed f t rows h.ordered;
+  bookings = λ q. subst (λ o. IfSome o (IsNoted index q)) (sym (row_at-changed f t rows q)) (at q (same_id q t) (row_at rows q) (h.bookings q));
+} where
+  at : (q : Id) (c : Bool) (o : Option Row) → IfSome o (IsNoted index q) → IfSome (change_if f c o) (IsNoted index q)
+  at q false o noted = noted
+  at q true None noted = tt
+  at q true (Some row) noted = IsNoted-same index q row (change f row) (same q row) noted
+
+pub IsIndexed-marked : (c t : Id) (rows : Rows) (index : BTreeSet IndexKey) → IsIndexed rows index → IsIndexed (changed (mark c) t rows) index
+IsIndexed-marked c t rows index h = IsIndexed-changed (mark c) (λ i row. key-marked c i row) t rows index h
+
+pub IsIndexed-unmarked : (c t : Id) (rows : Rows) (index : BTreeSet IndexKey) → IsIndexed rows index → IsIndexed (changed (unmark c) t rows) index
+IsIndexed-unmarked c t rows index h = IsIndexed-changed (unmark c) (λ i row. key-unmarked c i row) t rows index h

@@ -1,18 +1,23 @@
 -- The index of a board's bookings: its keys, and what putting a row in or taking one out leaves noted.
-use Rattle.std.proofs.Common.{◌≡◌, ◌∙◌, ℕ, true, false, List, ap, sym}
+use Rattle.std.proofs.Common.{◌≡◌, ◌∙◌, ℕ, Bool, true, false, cond, List, Some, ap, refl, sym}
 use Rattle.std.specs.BTreeMap.{is_at}
 use Rattle.std.specs.Cmp.Lexicographic.{slice_cmp}
 use Rattle.std.specs.Ordering.{nat_cmp}
 use Rattle.std.proofs.lemmas.Bool.{true≢false}
 use Rattle.std.proofs.lemmas.Map.Lookups.{CmpEqualImpliesEq, exact_pairs, exact_unsigned, exact_bytes}
+use Rattle.mr_model.specs.Texts.{Text}
 use Rattle.mr_model.specs.Calendar.{Date}
 use Rattle.mr_model.specs.Slots.{Slot}
 use Rattle.mr_model.specs.Writes.{Id, same_id}
 use Rattle.mr_model.proofs.Members.{same_id_from}
 use Rattle.mr_base.specs.Ids.{id_cmp}
 use Rattle.mr_replay.specs.declared.index.IndexKey.{IndexKey}
+use Rattle.mr_replay.specs.declared.rows.Standing.TheVariants.{Booked, CancelledBy, InErrorLog}
+use Rattle.mr_replay.specs.declared.rows.Kept.{Kept}
+use Rattle.mr_replay.specs.declared.rows.Kept.TheVariants.{OfBooking, OfCancel}
 use Rattle.mr_replay.specs.declared.rows.Row.{Row}
-use Rattle.mr_replay.specs.Index.{day_cmp, slot_cmp, key_cmp, key_of}
+use Rattle.mr_replay.specs.Rows.{mark, unmark, change}
+use Rattle.mr_replay.specs.Index.{day_cmp, slot_cmp, key_cmp, key_of, key_kept, key_if_taken}
 use Rattle.mr_replay.proofs.Ids.{exact_ids, is_eq-Equal}
 
 -- ---- keys that compare alike are one
@@ -36,6 +41,37 @@ exact_keys a b h =
 pub same_key : (k q : IndexKey) → is_at (key_cmp k) q ≡ true → k ≡ q
 same_key k q e = exact_keys k q (is_eq-Equal (key_cmp k q) e)
 
+-- a row's key has its id
+pub key_id : (i : Id) (room : Text) (kept : Kept) (key : IndexKey) → key_kept i room kept ≡ Some key → key.id ≡ i
+key_id i room (OfBooking s l t Booked) key is = let one : key ≡ key_of i room s l = cc in ap (λ (k : IndexKey). k.id) one
+key_id i room (OfBooking s l t (CancelledBy c)) key is = let one : key ≡ key_of i room s l = cc in ap (λ (k : IndexKey). k.id) one
+key_id i room (OfBooking s l t InErrorLog) key is = cc
+key_id i room (OfCancel t) key is = cc
+
 -- rows of different ids stand under different keys
-pub apart_keys : (i id : Id) (r row : Row) → same_id i id ≡ false → key_of i r ≡ key_of id row → ⊥
-apart_keys i id r row apart one = true≢false (sym (same_id_from i id (ap (λ (k : IndexKey). k.id) one)) ∙ apart)
+pub apart_keys : (i j : Id) (r row : Row) (key : IndexKey) → same_id i j ≡ false → key_if_taken i r ≡ Some key → key_if_taken j row ≡ Some key → ⊥
+apart_keys i j r row key apart own other =
+    true≢false (sym (same_id_from i j (sym (key_id i r.room r.kept key own) ∙ key_id j row.room row.kept key other)) ∙ apart)
+
+-- a mark changes no key
+pub key-marked : (c : Id) (i : Id) (row : Row) → key_if_taken i (change (mark c) row) ≡ key_if_taken i row
+key-marked c i row = go row.kept
+  where
+    go : (k : Kept) → key_kept i row.room (mark c k) ≡ key_kept i row.room k
+    go (OfBooking s l t Booked) = refl
+    go (OfBooking s l t (CancelledBy d)) = refl
+    go (OfBooking s l t InErrorLog) = refl
+    go (OfCancel t) = refl
+
+pub key-unmarked : (c : Id) (i : Id) (row : Row) → key_if_taken i (change (unmark c) row) ≡ key_if_taken i row
+key-unmarked c i row = go row.kept
+  where
+    either : (s : Slot) (l : ℕ) (t : Text) (d : Id) (b : Bool) → key_kept i row.room (OfBooking s l t (cond b Booked (CancelledBy d))) ≡ Some (key_of i row.room s l)
+    either s l t d true = refl
+    either s l t d false = refl
+
+    go : (k : Kept) → key_kept i row.room (unmark c k) ≡ key_kept i row.room k
+    go (OfBooking s l t Booked) = refl
+    go (OfBooking s l t (CancelledBy d)) = either s l t d (same_id d c)
+    go (OfBooking s l t InErrorLog) = refl
+    go (OfCancel t) = refl

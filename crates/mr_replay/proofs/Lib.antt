@@ -2,7 +2,9 @@ pub mod Ids
 pub mod Keys
 pub mod Indexed
 pub mod Entries
+pub mod Marked
 pub mod Lists
+pub mod ToldRows
 pub mod Placing
 pub mod Checking
 pub mod OneRoom

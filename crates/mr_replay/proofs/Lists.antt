@@ -44,12 +44,6 @@ distinct_ids-back : (is js : List Id) → AreDistinct (is ++ js) → AreDistinct
 distinct_ids-back [] js h = h
 distinct_ids-back (i ∷ is) js h = distinct_ids-back is js h.1
 
-distinct_ids-push : (is : List Id) (i : Id) → AreDistinct is → is_among i is ≡ false → AreDistinct (is ++ i ∷ [])
-distinct_ids-push [] i d h = (refl, tt)
-distinct_ids-push (k ∷ is) i d h =
-    let parts = or_parts (same_id i k) (is_among i is) h in
-    (list_any-append (same_id k) is (i ∷ []) ∙ or_from _ _ d.0 (or_from _ _ (same_id_equivalence.symm k i ∙ parts.0) refl), distinct_ids-push is i d.1 parts.1)
-
 pub distinct_front : (ws vs : List Write) → HaveDistinctIds (ws ++ vs) → HaveDistinctIds ws
 distinct_front ws vs h = distinct_ids-front (map id_of ws) (map id_of vs) (subst (λ is. AreDistinct is) (map-append id_of ws vs) h)
 
@@ -70,9 +64,6 @@ distinct_ids-without (i ∷ is) j js h = (among_without i is j js h.0, distinct_
 
 pub distinct_without : (ws : List Write) (v : Write) (vs : List Write) → HaveDistinctIds (ws ++ v ∷ vs) → HaveDistinctIds (ws ++ vs)
 distinct_without ws v vs h = subst (λ is. AreDistinct is) (sym (map-append id_of ws vs)) (distinct_ids-without (map id_of ws) (id_of v) (map id_of vs) (subst (λ is. AreDistinct is) (map-append id_of ws (v ∷ vs)) h))
-
-pub distinct-push : (ws : List Write) (w : Write) → HaveDistinctIds ws → is_among (id_of w) (map id_of ws) ≡ false → HaveDistinctIds (ws ++ w ∷ [])
-distinct-push ws w d h = subst (λ is. AreDistinct is) (sym (map-append id_of ws (w ∷ []))) (distinct_ids-push (map id_of ws) (id_of w) d h)
 
 -- ---- the part of a room
 
@@ -146,3 +137,11 @@ pub part-all : (room own : Text) (ws : List Write) → own ≡ room → AreOfRoo
 part-all room own [] is h = refl
 part-all room own (w ∷ ws) is h =
     cond-true (bytes_eq w.room own) (w ∷ of_room own ws) (of_room own ws) (same_name w.room own (h.0 ∙ sym is)) ∙ ap (λ vs. w ∷ vs) (part-all room own ws is h.1)
+
+pub of_room-back : (room : Text) (ws vs : List Write) → AreOfRoom room (ws ++ vs) → AreOfRoom room vs
+of_room-back room [] vs h = h
+of_room-back room (w ∷ ws) vs h = of_room-back room ws vs h.1
+
+pub of_room-append : (room : Text) (ws vs : List Write) → AreOfRoom room ws → AreOfRoom room vs → AreOfRoom room (ws ++ vs)
+of_room-append room [] vs a c = c
+of_room-append room (w ∷ ws) vs a c = (a.0, of_room-append room ws vs a.1 c)

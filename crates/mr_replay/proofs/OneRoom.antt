@@ -1,69 +1,295 @@
 -- What executing a write and undoing it do to the rows of one room.
-use Rattle.std.proofs.Common.{◌≡◌, Bool, true, false, cond, List, [], ◌∷◌, ◌++◌, map, Option, Some, None, ap, refl, sym, ◌∙◌}
+use Rattle.std.proofs.Common.{◌≡◌, Bool, true, false, cond, List, [], ◌∷◌, ◌++◌, map, Option, Some, None, ap, refl, sym, ◌∙◌, subst}
+use Rattle.std.specs.Prelude.{option_map}
+use Rattle.std.specs.BTreeMap.{insert_entry}
 use Rattle.std.specs.Str.{bytes_eq}
-use Rattle.std.proofs.lemmas.Bool.{true≢false, or_parts, or_from}
+use Rattle.std.proofs.lemmas.Bool.{true≢false, false_from_ne_true}
 use Rattle.mr_model.specs.Texts.{Text}
-use Rattle.mr_model.specs.Slots.{Slot}
-use Rattle.mr_model.specs.Writes.{Id, Write, id_of, same_id}
-use Rattle.mr_model.specs.Replay.{Place, Booking, place_among, slot_at, booked_with, replay_among, replay}
+use Rattle.mr_model.specs.Writes.{Id, Action, Books, Cancels, Write, id_of, same_id}
+use Rattle.mr_model.specs.Replay.{Place, Taken, Logged, Done, Void, Booking, is_booked, place_for, place_among, slot_at}
 use Rattle.mr_model.specs.Replica.{is_among}
 use Rattle.mr_model.specs.Board.{after}
-use Rattle.mr_model.proofs.CommandPlaces.{replay-one_more}
-use Rattle.mr_model.proofs.Members.{same_id-true, same_id_from, same_id_refl}
+use Rattle.mr_model.specs.View.{cancels_it}
+use Rattle.mr_model.specs.Dropped.{Has}
+use Rattle.mr_model.proofs.Members.{same_id-true, same_id_refl}
+use Rattle.mr_model.proofs.UniqueReplay.{booked_has}
+use Rattle.mr_base.specs.Ids.{id_cmp}
+use Rattle.mr_replay.specs.declared.rows.Standing.TheVariants.{Booked, CancelledBy, InErrorLog}
+use Rattle.mr_replay.specs.declared.rows.Kept.{Kept}
+use Rattle.mr_replay.specs.declared.rows.Kept.TheVariants.{OfBooking, OfCancel}
 use Rattle.mr_replay.specs.declared.rows.Row.{Row}
-use Rattle.mr_replay.specs.Places.{UndoRow}
-use Rattle.mr_replay.specs.Rows.{Rows, row_at, row_with, row_of, place_on, executed, undone}
-use Rattle.mr_replay.specs.Holds.{HaveDistinctIds, row_in, if_of, HoldsIn}
-use Rattle.mr_replay.proofs.Entries.{IsInOrder, swapped, row_at-put, row_at-undone}
+use Rattle.mr_replay.specs.Rows.{Rows, row_at, bookings_of, kept_with, kept_for, row_of, place_on, mark, unmark, change, target_of, marked_by, with_row, executed_at, executed, undo_row_at, undone_by, undone}
+use Rattle.mr_replay.specs.Holds.{HaveDistinctIds, told_list, row_in, bears, if_of, HoldsIn}
+use Rattle.mr_replay.specs.Bookings.{is_taken, if_taken}
+use Rattle.mr_replay.proofs.Entries.{IsInOrder, row_at-put, row_at-removed, in_order-removed}
+use Rattle.mr_replay.proofs.Marked.{change_if, nothing-changed, row_at-changed, in_order-changed, in_order-with, change-back}
 use Rattle.mr_replay.proofs.Lists.{one_name, same_name, other_name}
-use Rattle.mr_replay.proofs.Placing.{row_in-none, same_place}
-
--- ---- the rows that a list gives
+use Rattle.mr_replay.proofs.ToldRows.{BearsNot, rows-push, rows-none, rows-bear, booked_at, after-row}
+use Rattle.mr_replay.proofs.Placing.{booking-row, same_place}
 
 some_not_none : {A : Type 0} (x : A) → Some x ≡ None → ⊥
 some_not_none x e = cc
 
--- one more write at the end of the list
-row_in-push : (bs : List Booking) (ws : List Write) (w : Write) (p : Place) (q : Id) → is_among (id_of w) (map id_of ws) ≡ false → row_in (ws ++ w ∷ []) (replay_among bs ws ++ p ∷ []) q ≡ cond (same_id q (id_of w)) (Some (row_of w p)) (row_in ws (replay_among bs ws) q)
-row_in-push bs [] w p q h = refl
-row_in-push bs (v ∷ ws) w p q h =
-    let parts = or_parts (same_id (id_of w) (id_of v)) (is_among (id_of w) (map id_of ws)) h in
-    ap (cond (same_id q (id_of v)) (Some (row_of v (place_among bs v)))) (row_in-push (booked_with bs v (place_among bs v)) ws w p q parts.1)
-    ∙ swapped (same_id q (id_of v)) (same_id q (id_of w)) _ _ _ (λ a c.
-    let one : id_of w ≡ id_of v = sym (same_id-true q (id_of w) c) ∙ same_id-true q (id_of v) a in
-    true≢false (sym (same_id_from (id_of w) (id_of v) one) ∙ parts.0))
+-- ---- order
 
-pub rows-push : (ws : List Write) (w : Write) (q : Id) → is_among (id_of w) (map id_of ws) ≡ false → row_in (ws ++ w ∷ []) (replay (ws ++ w ∷ [])) q ≡ cond (same_id q (id_of w)) (Some (row_of w (place_among (after [] ws) w))) (row_in ws (replay ws) q)
-rows-push ws w q h = ap (λ ps. row_in (ws ++ w ∷ []) ps q) (replay-one_more ws w) ∙ row_in-push [] ws w (place_among (after [] ws) w) q h
+in_order-marked : (c : Id) (p : Place) (o : Option Id) (b : Rows) → IsInOrder b → IsInOrder (marked_by c p o b)
+in_order-marked c Done (Some t) b h = in_order-changed (mark c) t b h
+in_order-marked c Done None b h = h
+in_order-marked c (Taken k) o b h = h
+in_order-marked c Logged o b h = h
+in_order-marked c Void o b h = h
 
--- an id that has no row is not in the list
-row_in-absent : (bs : List Booking) (ws : List Write) (i : Id) → row_in ws (replay_among bs ws) i ≡ None → is_among i (map id_of ws) ≡ false
-row_in-absent bs [] i h = refl
-row_in-absent bs (w ∷ ws) i h = go (same_id i (id_of w)) refl h (row_in-absent (booked_with bs w (place_among bs w)) ws i)
+pub in_order-executed : (b : Rows) (w : Write) (p : Place) → IsInOrder b → IsInOrder (executed_at b w p)
+in_order-executed b w p h = in_order-with (marked_by (id_of w) p (target_of w.action) b) (id_of w) (row_of w p None) (in_order-marked (id_of w) p (target_of w.action) b h)
+
+pub in_order-undone : (i : Id) (p : Place) (o : Option Id) (b : Rows) → IsInOrder b → IsInOrder (undone_by i p o b)
+in_order-undone i Done (Some t) b h = in_order-changed (unmark i) t b h
+in_order-undone i Done None b h = in_order-removed b i h
+in_order-undone i (Taken k) o b h = in_order-removed b i h
+in_order-undone i Logged o b h = in_order-removed b i h
+in_order-undone i Void o b h = in_order-removed b i h
+
+-- ---- an execution puts a row, or marks one
+
+pub executed-row : (b : Rows) (w : Write) (p : Place) (row : Row) → row_of w p None ≡ Some row → executed_at b w p ≡ insert_entry id_cmp b (id_of w) row
+executed-row b w p row is = go w.action p is
   where
-    go : (b : Bool) → same_id i (id_of w) ≡ b → cond b (Some (row_of w (place_among bs w))) (row_in ws (replay_among (booked_with bs w (place_among bs w)) ws) i) ≡ None
-        → (row_in ws (replay_among (booked_with bs w (place_among bs w)) ws) i ≡ None → is_among i (map id_of ws) ≡ false) → is_among i (map id_of (w ∷ ws)) ≡ false
-    go true e g ih = absurd (some_not_none _ g)
-    go false e g ih = or_from _ _ e (ih g)
+    go : (a : Action) (p : Place) → option_map (λ k. record { room = w.room; kept = k }) (kept_for w a p None) ≡ Some row
+        → with_row (id_of w) (option_map (λ k. record { room = w.room; kept = k }) (kept_for w a p None)) (marked_by (id_of w) p (target_of a) b) ≡ insert_entry id_cmp b (id_of w) row
+    go (Books m) (Taken k) e = ap (λ o. with_row (id_of w) o b) e
+    go (Books m) Logged e = ap (λ o. with_row (id_of w) o b) e
+    go (Books m) Done e = ap (λ o. with_row (id_of w) o b) e
+    go (Books m) Void e = ap (λ o. with_row (id_of w) o b) e
+    go (Cancels t) (Taken k) e = ap (λ o. with_row (id_of w) o b) e
+    go (Cancels t) Logged e = ap (λ o. with_row (id_of w) o b) e
+    go (Cancels t) Void e = ap (λ o. with_row (id_of w) o b) e
+    go (Cancels t) Done e = absurd (some_not_none row (sym e))
 
-pub not_in_list : (room : Text) (ws : List Write) (b : Rows) (i : Id) → HoldsIn room ws b → row_at b i ≡ None → is_among i (map id_of ws) ≡ false
-not_in_list room ws b i holds absent = row_in-absent [] ws i (sym (holds i) ∙ ap (if_of room) absent)
+pub executed-mark : (b : Rows) (w : Write) (p : Place) → row_of w p None ≡ None → executed_at b w p ≡ marked_by (id_of w) p (target_of w.action) b
+executed-mark b w p is = ap (λ o. with_row (id_of w) o (marked_by (id_of w) p (target_of w.action) b)) is
 
--- ---- the row, if it is of the room
+-- ---- the part of the rows that is looked at: those of a room, or the bookings of a room
 
-room-row : (w : Write) (o : Option Slot) → (row_with w o).room ≡ w.room
-room-row w None = refl
-room-row w (Some s) = refl
+-- a part of the rows: a row is in it or not, whether a cancel marks it or not
+pub record IsPart (see : Option Row → Option Row) : Type 0 where
+  pub none : see None ≡ None
+  pub marks : (c : Id) (row : Row) → see (Some (change (mark c) row)) ≡ option_map (change (mark c)) (see (Some row))
+  pub unmarks : (c : Id) (row : Row) → see (Some (change (unmark c) row)) ≡ option_map (change (unmark c)) (see (Some row))
 
-if_of-cond : (room : Text) (c : Bool) (p o : Option Row) → if_of room (cond c p o) ≡ cond c (if_of room p) (if_of room o)
-if_of-cond room true p o = refl
-if_of-cond room false p o = refl
+part-cond : (see : Option Row → Option Row) (c : Bool) (o p : Option Row) → see (cond c o p) ≡ cond c (see o) (see p)
+part-cond see true o p = refl
+part-cond see false o p = refl
 
-pub if_of-own : (room : Text) (w : Write) (p : Place) → w.room ≡ room → if_of room (Some (row_of w p)) ≡ Some (row_of w p)
-if_of-own room w p is = ap (λ t. cond t (Some (row_of w p)) None) (same_name (row_of w p).room room (room-row w (slot_at w p) ∙ is))
+part-marked : (see : Option Row → Option Row) → IsPart see → (c : Id) (t : Bool) (o : Option Row) → see (change_if (mark c) t o) ≡ change_if (mark c) t (see o)
+part-marked see part c false o = refl
+part-marked see part c true None = part.none ∙ ap (option_map (change (mark c))) (sym part.none)
+part-marked see part c true (Some row) = part.marks c row
 
-if_of-other : (room : Text) (w : Write) (p : Place) → bytes_eq w.room room ≡ false → if_of room (Some (row_of w p)) ≡ None
-if_of-other room w p e = ap (λ n. cond (bytes_eq n room) (Some (row_of w p)) None) (room-row w (slot_at w p)) ∙ ap (λ t. cond t (Some (row_of w p)) None) e
+part-unmarked : (see : Option Row → Option Row) → IsPart see → (c : Id) (t : Bool) (o : Option Row) → see (change_if (unmark c) t o) ≡ change_if (unmark c) t (see o)
+part-unmarked see part c false o = refl
+part-unmarked see part c true None = part.none ∙ ap (option_map (change (unmark c))) (sym part.none)
+part-unmarked see part c true (Some row) = part.unmarks c row
+
+pub room_part : (room : Text) → IsPart (if_of room)
+room_part room = record {
+  none = refl;
+  marks = λ c row. go (change (mark c)) (bytes_eq row.room room) row;
+  unmarks = λ c row. go (change (unmark c)) (bytes_eq row.room room) row;
+} where
+  go : (f : Row → Row) (t : Bool) (row : Row) → cond t (Some (f row)) None ≡ option_map f (cond t (Some row) None)
+  go f true row = refl
+  go f false row = refl
+
+taken-marked : (c : Id) (k : Kept) → is_taken (mark c k) ≡ is_taken k
+taken-marked c (OfBooking s l t Booked) = refl
+taken-marked c (OfBooking s l t (CancelledBy d)) = refl
+taken-marked c (OfBooking s l t InErrorLog) = refl
+taken-marked c (OfCancel t) = refl
+
+taken-unmarked : (c : Id) (k : Kept) → is_taken (unmark c k) ≡ is_taken k
+taken-unmarked c (OfBooking s l t Booked) = refl
+taken-unmarked c (OfBooking s l t (CancelledBy d)) = go (same_id d c)
+  where
+    go : (b : Bool) → is_taken (OfBooking s l t (cond b Booked (CancelledBy d))) ≡ true
+    go true = refl
+    go false = refl
+taken-unmarked c (OfBooking s l t InErrorLog) = refl
+taken-unmarked c (OfCancel t) = refl
+
+pub taken_part : IsPart if_taken
+taken_part = record {
+  none = refl;
+  marks = λ c row. ap (λ t. cond t (Some (change (mark c) row)) None) (taken-marked c row.kept) ∙ go (change (mark c)) (is_taken row.kept) row;
+  unmarks = λ c row. ap (λ t. cond t (Some (change (unmark c) row)) None) (taken-unmarked c row.kept) ∙ go (change (unmark c)) (is_taken row.kept) row;
+} where
+  go : (f : Row → Row) (t : Bool) (row : Row) → cond t (Some (f row)) None ≡ option_map f (cond t (Some row) None)
+  go f true row = refl
+  go f false row = refl
+
+pub bookings_part : (room : Text) → IsPart (λ o. if_taken (if_of room o))
+bookings_part room = record {
+  none = refl;
+  marks = λ c row. ap if_taken ((room_part room).marks c row) ∙ part-marked if_taken taken_part c true (if_of room (Some row));
+  unmarks = λ c row. ap if_taken ((room_part room).unmarks c row) ∙ part-unmarked if_taken taken_part c true (if_of room (Some row));
+}
+
+-- ---- a write executed
+
+pub row_at-marked : (c : Id) (a : Action) (p : Place) (b : Rows) (q : Id) → row_at (marked_by c p (target_of a) b) q ≡ change_if (mark c) (cancels_it q a p) (row_at b q)
+row_at-marked c (Books m) (Taken k) b q = refl
+row_at-marked c (Books m) Logged b q = refl
+row_at-marked c (Books m) Void b q = refl
+row_at-marked c (Books m) Done b q = refl
+row_at-marked c (Cancels t) (Taken k) b q = refl
+row_at-marked c (Cancels t) Logged b q = refl
+row_at-marked c (Cancels t) Void b q = refl
+row_at-marked c (Cancels t) Done b q = row_at-changed (mark c) t b q
+
+module _ (see : Option Row → Option Row) (part : IsPart see) where
+  part-with : (b : Rows) (i : Id) (o : Option Row) (q : Id) → see (row_at b i) ≡ None → see (row_at (with_row i o b) q) ≡ cond (same_id q i) (see o) (see (row_at b q))
+  part-with b i (Some row) q new = ap see (row_at-put b i row q) ∙ part-cond see (same_id q i) (Some row) (row_at b q)
+  part-with b i None q new = go (same_id q i) refl
+    where
+      go : (c : Bool) → same_id q i ≡ c → see (row_at b q) ≡ cond c (see None) (see (row_at b q))
+      go true e = ap (λ j. see (row_at b j)) (same_id-true q i e) ∙ new ∙ sym part.none
+      go false e = refl
+
+  pub part-executed : (b : Rows) (w : Write) (p : Place) (q : Id) → see (row_at b (id_of w)) ≡ None
+      → see (row_at (executed_at b w p) q) ≡ cond (same_id q (id_of w)) (see (row_of w p None)) (change_if (mark (id_of w)) (cancels_it q w.action p) (see (row_at b q)))
+  part-executed b w p q new =
+      part-with (marked_by (id_of w) p (target_of w.action) b) (id_of w) (row_of w p None) q
+      (marked (id_of w) ∙ ap (change_if (mark (id_of w)) (cancels_it (id_of w) w.action p)) new ∙ nothing-changed (mark (id_of w)) (cancels_it (id_of w) w.action p))
+      ∙ ap (cond (same_id q (id_of w)) (see (row_of w p None))) (marked q)
+    where
+      marked : (j : Id) → see (row_at (marked_by (id_of w) p (target_of w.action) b) j) ≡ change_if (mark (id_of w)) (cancels_it j w.action p) (see (row_at b j))
+      marked j = ap see (row_at-marked (id_of w) w.action p b j) ∙ part-marked see part (id_of w) (cancels_it j w.action p) (row_at b j)
+
+-- which undoings take the write's row away; the other ones take its mark away
+abbrev pub takes_away : Action → Place → Bool
+takes_away (Cancels t) Done = false
+takes_away _ _ = true
+
+open_undone : (i : Id) (a : Action) (p : Place) (b : Rows) (q : Id) → IsInOrder b → row_at (undone_by i p (target_of a) b) q ≡ cond (takes_away a p) (cond (same_id q i) None (row_at b q)) (change_if (unmark i) (cancels_it q a p) (row_at b q))
+open_undone i (Books m) (Taken k) b q h = row_at-removed b i q h
+open_undone i (Books m) Logged b q h = row_at-removed b i q h
+open_undone i (Books m) Done b q h = row_at-removed b i q h
+open_undone i (Books m) Void b q h = row_at-removed b i q h
+open_undone i (Cancels t) (Taken k) b q h = row_at-removed b i q h
+open_undone i (Cancels t) Logged b q h = row_at-removed b i q h
+open_undone i (Cancels t) Void b q h = row_at-removed b i q h
+open_undone i (Cancels t) Done b q h = row_at-changed (unmark i) t b q
+
+module _ (see : Option Row → Option Row) (part : IsPart see) where
+  pub part-undone : (b : Rows) (i : Id) (a : Action) (p : Place) (q : Id) → IsInOrder b
+      → see (row_at (undone_by i p (target_of a) b) q) ≡ cond (takes_away a p) (cond (same_id q i) None (see (row_at b q))) (change_if (unmark i) (cancels_it q a p) (see (row_at b q)))
+  part-undone b i a p q h =
+      ap see (open_undone i a p b q h)
+      ∙ part-cond see (takes_away a p) (cond (same_id q i) None (row_at b q)) (change_if (unmark i) (cancels_it q a p) (row_at b q))
+      ∙ ap (λ o. cond (takes_away a p) o (see (change_if (unmark i) (cancels_it q a p) (row_at b q))))
+      (part-cond see (same_id q i) None (row_at b q) ∙ ap (λ o. cond (same_id q i) o (see (row_at b q))) part.none)
+      ∙ ap (cond (takes_away a p) (cond (same_id q i) None (see (row_at b q)))) (part-unmarked see part i (cancels_it q a p) (row_at b q))
+
+-- ---- the last write of a list undone
+
+-- a write whose row is taken away marks none, and one that marks has no row
+taking_marks : (a : Action) (p : Place) (q : Id) → takes_away a p ≡ true → cancels_it q a p ≡ false
+taking_marks (Books m) p q e = refl
+taking_marks (Cancels t) (Taken k) q e = refl
+taking_marks (Cancels t) Logged q e = refl
+taking_marks (Cancels t) Void q e = refl
+taking_marks (Cancels t) Done q e = absurd (true≢false (sym e))
+
+kept_none : (w : Write) (a : Action) (p : Place) → takes_away a p ≡ false → kept_for w a p None ≡ None
+kept_none w (Books m) p e = absurd (true≢false e)
+kept_none w (Cancels t) (Taken k) e = absurd (true≢false e)
+kept_none w (Cancels t) Logged e = absurd (true≢false e)
+kept_none w (Cancels t) Void e = absurd (true≢false e)
+kept_none w (Cancels t) Done e = refl
+
+row_none : (w : Write) (p : Place) → takes_away w.action p ≡ false → row_of w p None ≡ None
+row_none w p e = ap (option_map (λ (k : Kept). record { room = w.room; kept = k })) (kept_none w w.action p e)
+
+kept_some : (w : Write) (a : Action) (p : Place) → takes_away a p ≡ true → (k : Kept) × (kept_for w a p None ≡ Some k)
+kept_some w (Books m) p e = (kept_with m (slot_at w p) None, refl)
+kept_some w (Cancels t) (Taken k) e = (OfCancel t, refl)
+kept_some w (Cancels t) Logged e = (OfCancel t, refl)
+kept_some w (Cancels t) Void e = (OfCancel t, refl)
+kept_some w (Cancels t) Done e = absurd (true≢false (sym e))
+
+back : (c : Id) (o : Option Row) (b : Bool) → BearsNot c o → change_if (unmark c) b (change_if (mark c) b o) ≡ o
+back c o false h = refl
+back c None true h = refl
+back c (Some row) true h = ap Some (change-back c row h)
+
+-- what was there before the last write is there again once it is undone
+restored : (i : Id) (t c x : Bool) (own before : Option Row) → (t ≡ true → x ≡ false) → (t ≡ false → own ≡ None) → (c ≡ true → before ≡ None) → BearsNot i before
+    → cond t (cond c None (cond c own (change_if (mark i) x before))) (change_if (unmark i) x (cond c own (change_if (mark i) x before))) ≡ before
+restored i true true x own before taking marking new bears = sym (new refl)
+restored i true false x own before taking marking new bears = ap (λ y. change_if (mark i) y before) (taking refl)
+restored i false true x own before taking marking new bears = ap (change_if (unmark i) x) (marking refl) ∙ nothing-changed (unmark i) x ∙ sym (new refl)
+restored i false false x own before taking marking new bears = back i before x bears
+
+pub bears_not-taken : (c : Id) (o : Option Row) → BearsNot c o → BearsNot c (if_taken o)
+bears_not-taken c None h = tt
+bears_not-taken c (Some row) h = go (is_taken row.kept)
+  where
+    go : (t : Bool) → BearsNot c (cond t (Some row) None)
+    go true = h
+    go false = tt
+
+-- what the list gives an id, with one write more, in a part of it
+part-push : (given : Option Row → Option Row) → IsPart given → (ws : List Write) (w : Write) (q : Id) → is_among (id_of w) (map id_of ws) ≡ false
+    → given (row_in (told_list (ws ++ w ∷ [])) q) ≡ cond (same_id q (id_of w)) (given (row_of w (place_among (after [] ws) w) None)) (change_if (mark (id_of w)) (cancels_it q w.action (place_among (after [] ws) w)) (given (row_in (told_list ws) q)))
+part-push given part ws w q new =
+    ap given (rows-push ws w q new)
+    ∙ part-cond given (same_id q (id_of w)) (row_of w (place_among (after [] ws) w) None) (change_if (mark (id_of w)) (cancels_it q w.action (place_among (after [] ws) w)) (row_in (told_list ws) q))
+    ∙ ap (cond (same_id q (id_of w)) (given (row_of w (place_among (after [] ws) w) None))) (part-marked given part (id_of w) (cancels_it q w.action (place_among (after [] ws) w)) (row_in (told_list ws) q))
+
+-- the part that is looked at has what the list gives it: with one write more, and with the last one undone
+abbrev pub PartHas : (Option Row → Option Row) → (Option Row → Option Row) → List Write → Rows → Type 0
+PartHas see given ws b = (i : Id) → see (row_at b i) ≡ given (row_in (told_list ws) i)
+
+module _ (see given : Option Row → Option Row) (part : IsPart see) (given_part : IsPart given) where
+  pub part_has-executed : (ws : List Write) (b : Rows) (w : Write) → see (row_of w (place_on b w) None) ≡ given (row_of w (place_on b w) None) → place_on b w ≡ place_among (after [] ws) w → is_among (id_of w) (map id_of ws) ≡ false
+      → PartHas see given ws b → PartHas see given (ws ++ w ∷ []) (executed b w)
+  part_has-executed ws b w own place new has q =
+      part-executed see part b w (place_on b w) q (has (id_of w) ∙ ap given (rows-none ws (id_of w) new) ∙ given_part.none)
+      ∙ ap (λ o. cond (same_id q (id_of w)) o (change_if (mark (id_of w)) (cancels_it q w.action (place_on b w)) (see (row_at b q)))) own
+      ∙ ap (λ o. cond (same_id q (id_of w)) (given (row_of w (place_on b w) None)) (change_if (mark (id_of w)) (cancels_it q w.action (place_on b w)) o)) (has q)
+      ∙ ap (λ p. cond (same_id q (id_of w)) (given (row_of w p None)) (change_if (mark (id_of w)) (cancels_it q w.action p) (given (row_in (told_list ws) q)))) place
+      ∙ sym (part-push given given_part ws w q new)
+
+  pub part_has-undone : (ws : List Write) (b : Rows) (w : Write) → ((c : Id) (o : Option Row) → BearsNot c o → BearsNot c (given o)) → IsInOrder b → is_among (id_of w) (map id_of ws) ≡ false
+      → PartHas see given (ws ++ w ∷ []) b → PartHas see given ws (undone b (undo_row_at w (place_among (after [] ws) w)))
+  part_has-undone ws b w bears ordered new has q =
+      let i = id_of w in
+      let p = place_among (after [] ws) w in
+      part-undone see part b i w.action p q ordered
+      ∙ ap (λ o. cond (takes_away w.action p) (cond (same_id q i) None o) (change_if (unmark i) (cancels_it q w.action p) o)) (has q ∙ part-push given given_part ws w q new)
+      ∙ restored i (takes_away w.action p) (same_id q i) (cancels_it q w.action p) (given (row_of w p None)) (given (row_in (told_list ws) q)) (taking_marks w.action p q)
+      (λ e. ap given (row_none w p e) ∙ given_part.none)
+      (λ e. ap given (rows-none ws q (ap (λ j. is_among j (map id_of ws)) (same_id-true q i e) ∙ new)) ∙ given_part.none)
+      (bears i (row_in (told_list ws) q) (rows-bear ws i q new))
+
+-- all that a list gives
+pub whole_part : IsPart (λ o. o)
+whole_part = record { none = refl; marks = λ c row. refl; unmarks = λ c row. refl }
+
+-- ---- the row of a write, if it is of the room
+
+pub row-own : (room : Text) (w : Write) (p : Place) → w.room ≡ room → if_of room (row_of w p None) ≡ row_of w p None
+row-own room w p is = go (kept_for w w.action p None)
+  where
+    go : (o : Option Kept) → if_of room (option_map (λ k. record { room = w.room; kept = k }) o) ≡ option_map (λ k. record { room = w.room; kept = k }) o
+    go None = refl
+    go (Some k) = ap (λ t. cond t (Some (record { room = w.room; kept = k })) None) (same_name w.room room is)
+
+row-other : (room : Text) (w : Write) (p : Place) → bytes_eq w.room room ≡ false → if_of room (row_of w p None) ≡ None
+row-other room w p e = go (kept_for w w.action p None)
+  where
+    go : (o : Option Kept) → if_of room (option_map (λ k. record { room = w.room; kept = k }) o) ≡ None
+    go None = refl
+    go (Some k) = ap (λ t. cond t (Some (record { room = w.room; kept = k })) None) e
 
 -- a row of one room is of no other
 if_of-apart : (room other : Text) (o : Option Row) (row : Row) → if_of room o ≡ Some row → bytes_eq other room ≡ false → if_of other o ≡ None
@@ -89,53 +315,99 @@ same_row (Some x) (Some y) h = by (bytes_eq y.room x.room) (sym (ap (λ t. cond 
     by true e = e
     by false e = absurd (some_not_none x e)
 
--- ---- a write executed
+-- ---- in its own room
 
-pub open_executed : (room : Text) (b : Rows) (w : Write) (q : Id) → if_of room (row_at (executed b w) q) ≡ cond (same_id q (id_of w)) (if_of room (Some (row_of w (place_on b w)))) (if_of room (row_at b q))
-open_executed room b w q = ap (if_of room) (row_at-put b (id_of w) (row_of w (place_on b w)) q) ∙ if_of-cond room (same_id q (id_of w)) (Some (row_of w (place_on b w))) (row_at b q)
-
--- in its own room
 pub HoldsIn-executed : (room : Text) (ws : List Write) (b : Rows) (w : Write) → w.room ≡ room → IsInOrder b → HaveDistinctIds ws → is_among (id_of w) (map id_of ws) ≡ false → HoldsIn room ws b → HoldsIn room (ws ++ w ∷ []) (executed b w)
-HoldsIn-executed room ws b w is ordered distinct new holds q =
-    open_executed room b w q
-    ∙ ap (λ o. cond (same_id q (id_of w)) o (if_of room (row_at b q))) (if_of-own room w (place_on b w) is)
-    ∙ ap (λ p. cond (same_id q (id_of w)) (Some (row_of w p)) (if_of room (row_at b q))) (same_place room ws b w is ordered distinct holds)
-    ∙ ap (cond (same_id q (id_of w)) (Some (row_of w (place_among (after [] ws) w)))) (holds q)
-    ∙ sym (rows-push ws w q new)
+HoldsIn-executed room ws b w is ordered distinct new holds =
+    part_has-executed (if_of room) (λ o. o) (room_part room) whole_part ws b w (row-own room w (place_on b w) is) (same_place room ws b w is ordered distinct holds) new holds
+
+pub HoldsIn-undone : (room : Text) (ws : List Write) (b : Rows) (w : Write) → IsInOrder b → is_among (id_of w) (map id_of ws) ≡ false → HoldsIn room (ws ++ w ∷ []) b → HoldsIn room ws (undone b (undo_row_at w (place_among (after [] ws) w)))
+HoldsIn-undone room ws b w ordered new holds = part_has-undone (if_of room) (λ o. o) (room_part room) whole_part ws b w (λ c o h. h) ordered new holds
+
+-- ---- in another room
+
+-- what a cancel takes back is of its own room
+target_row : (b : Rows) (room : Text) (t : Id) → IsInOrder b → is_booked t (bookings_of room b) ≡ true → (row : Row) × (if_of room (row_at b t) ≡ Some row)
+target_row b room t ordered e =
+    let (x, h, at) = booked_has t (bookings_of room b) e in
+    go x (if_of room (row_at b t)) refl (subst (λ i. Has x (booked_at i (if_of room (row_at b i)))) at (booking-row room b x ordered h))
+  where
+    go : (x : Booking) (o : Option Row) → if_of room (row_at b t) ≡ o → Has x (booked_at t o) → (row : Row) × (if_of room (row_at b t) ≡ Some row)
+    go x None is h = absurd h
+    go x (Some row) is h = (row, is)
+
+-- a place that cancels is that of a cancel which found its target booked
+cancels_booked : (bs : List Booking) (a : Action) (q : Id) → cancels_it q a (place_for bs a) ≡ true → is_booked q bs ≡ true
+cancels_booked bs (Books m) q e = absurd (true≢false (sym e))
+cancels_booked bs (Cancels t) q e = go (is_booked t bs) refl e
+  where
+    go : (c : Bool) → is_booked t bs ≡ c → cancels_it q (Cancels t) (cond c Done Void) ≡ true → is_booked q bs ≡ true
+    go true found f = ap (λ i. is_booked i bs) (same_id-true q t f) ∙ found
+    go false found f = absurd (true≢false (sym f))
 
 not_there : (room : Text) (b : Rows) (i q : Id) (o : Option Row) → o ≡ None → if_of room (row_at b i) ≡ None → cond (same_id q i) o (if_of room (row_at b q)) ≡ if_of room (row_at b q)
-not_there room b i q o none absent = go (same_id q i) refl
+not_there room b i q o none gone = go (same_id q i) refl
   where
     go : (c : Bool) → same_id q i ≡ c → cond c o (if_of room (row_at b q)) ≡ if_of room (row_at b q)
-    go true e = none ∙ sym (ap (λ j. if_of room (row_at b j)) (same_id-true q i e) ∙ absent)
+    go true e = none ∙ sym (ap (λ j. if_of room (row_at b j)) (same_id-true q i e) ∙ gone)
     go false e = refl
 
--- in another room, which has not its id
-pub other-executed : (room : Text) (b : Rows) (w : Write) → bytes_eq w.room room ≡ false → if_of room (row_at b (id_of w)) ≡ None → (q : Id) → if_of room (row_at (executed b w) q) ≡ if_of room (row_at b q)
-other-executed room b w other absent q =
-    open_executed room b w q ∙ not_there room b (id_of w) q (if_of room (Some (row_of w (place_on b w)))) (if_of-other room w (place_on b w) other) absent
+apart : (room other : Text) → bytes_eq room other ≡ false → bytes_eq other room ≡ false
+apart room other e = false_from_ne_true (bytes_eq other room) (λ s. true≢false (sym (same_name room other (sym (one_name other room s))) ∙ e))
 
--- ---- an execution undone
-
-pub open_undone : (room : Text) (b : Rows) (u : UndoRow) (q : Id) → IsInOrder b → if_of room (row_at (undone b u) q) ≡ cond (same_id q u.id) None (if_of room (row_at b q))
-open_undone room b u q ordered = ap (if_of room) (row_at-undone b u q ordered) ∙ if_of-cond room (same_id q u.id) None (row_at b q)
-
--- in its own room
-pub HoldsIn-undone : (room : Text) (ws : List Write) (b : Rows) (w : Write) (u : UndoRow) → u.id ≡ id_of w → IsInOrder b → is_among (id_of w) (map id_of ws) ≡ false → HoldsIn room (ws ++ w ∷ []) b → HoldsIn room ws (undone b u)
-HoldsIn-undone room ws b w u is ordered new holds q =
-    open_undone room b u q ordered
-    ∙ ap (λ i. cond (same_id q i) None (if_of room (row_at b q))) is
-    ∙ ap (cond (same_id q (id_of w)) None) (holds q ∙ rows-push ws w q new)
-    ∙ without (row_of w (place_among (after [] ws) w)) (same_id q (id_of w)) refl
+pub other-executed : (room : Text) (b : Rows) (w : Write) → bytes_eq w.room room ≡ false → IsInOrder b → if_of room (row_at b (id_of w)) ≡ None → (q : Id) → if_of room (row_at (executed b w) q) ≡ if_of room (row_at b q)
+other-executed room b w other ordered new q =
+    part-executed (if_of room) (room_part room) b w (place_on b w) q new
+    ∙ ap (cond (same_id q (id_of w)) (if_of room (row_of w (place_on b w) None))) (unchanged (cancels_it q w.action (place_on b w)) refl)
+    ∙ not_there room b (id_of w) q (if_of room (row_of w (place_on b w) None)) (row-other room w (place_on b w) other) new
   where
-    without : (row : Row) (c : Bool) → same_id q (id_of w) ≡ c → cond c None (cond c (Some row) (row_in ws (replay ws) q)) ≡ row_in ws (replay ws) q
-    without row true e = sym (row_in-none ws (replay ws) q (ap (λ i. is_among i (map id_of ws)) (same_id-true q (id_of w) e) ∙ new))
-    without row false e = refl
+    unchanged : (c : Bool) → cancels_it q w.action (place_on b w) ≡ c → change_if (mark (id_of w)) c (if_of room (row_at b q)) ≡ if_of room (row_at b q)
+    unchanged false e = refl
+    unchanged true e =
+        let (row, at) = target_row b w.room q ordered (cancels_booked (bookings_of w.room b) w.action q e) in
+        let none : if_of room (row_at b q) ≡ None = if_of-apart w.room room (row_at b q) row at (apart w.room room other) in
+        ap (option_map (change (mark (id_of w)))) none ∙ sym none
 
--- in another room
-pub other-undone : (room other : Text) (ws : List Write) (b : Rows) (w : Write) (u : UndoRow) → bytes_eq other room ≡ false → u.id ≡ id_of w → IsInOrder b → is_among (id_of w) (map id_of ws) ≡ false → HoldsIn room (ws ++ w ∷ []) b → (q : Id) → if_of other (row_at (undone b u) q) ≡ if_of other (row_at b q)
-other-undone room other ws b w u apart is ordered new holds q =
-    open_undone other b u q ordered ∙ not_there other b u.id q None refl (ap (λ i. if_of other (row_at b i)) is ∙ if_of-apart room other (row_at b (id_of w)) (row_of w (place_among (after [] ws) w)) there apart)
+pub other-undone : (room other : Text) (ws : List Write) (b : Rows) (w : Write) → bytes_eq other room ≡ false → IsInOrder b → HaveDistinctIds ws → is_among (id_of w) (map id_of ws) ≡ false → HoldsIn room (ws ++ w ∷ []) b
+    → (q : Id) → if_of other (row_at (undone b (undo_row_at w (place_among (after [] ws) w))) q) ≡ if_of other (row_at b q)
+other-undone room other ws b w away ordered distinct new holds q =
+    part-undone (if_of other) (room_part other) b i w.action p q ordered ∙ go (takes_away w.action p) refl (cancels_it q w.action p) refl
   where
-    there : if_of room (row_at b (id_of w)) ≡ Some (row_of w (place_among (after [] ws) w))
-    there = holds (id_of w) ∙ rows-push ws w (id_of w) new ∙ ap (λ t. cond t (Some (row_of w (place_among (after [] ws) w))) (row_in ws (replay ws) (id_of w))) (same_id_refl (id_of w))
+    i : Id
+    i = id_of w
+
+    p : Place
+    p = place_among (after [] ws) w
+
+    not_of_other : (j : Id) (row : Row) → row_in (told_list (ws ++ w ∷ [])) j ≡ Some row → if_of other (row_at b j) ≡ None
+    not_of_other j row e = if_of-apart room other (row_at b j) row (holds j ∙ e) away
+
+    -- its own row is of its room
+    own : takes_away w.action p ≡ true → if_of other (row_at b i) ≡ None
+    own e =
+        let (k, is) = kept_some w w.action p e in
+        not_of_other i (record { room = w.room; kept = k })
+        (rows-push ws w i new
+        ∙ ap (λ c. cond c (row_of w p None) (change_if (mark i) (cancels_it i w.action p) (row_in (told_list ws) i))) (same_id_refl i)
+        ∙ ap (option_map (λ (x : Kept). record { room = w.room; kept = x })) is)
+
+    some_row : (x : Booking) (o : Option Row) → Has x (booked_at x.id o) → (row : Row) × (o ≡ Some row)
+    some_row x None h = absurd h
+    some_row x (Some row) h = (row, refl)
+
+    -- and so is its target's
+    target : cancels_it q w.action p ≡ true → if_of other (row_at b q) ≡ None
+    target e =
+        let (x, h, at) = booked_has q (after [] ws) (cancels_booked (after [] ws) w.action q e) in
+        let (row, is) = some_row x (row_in (told_list ws) x.id) (after-row ws x distinct h) in
+        let there : row_in (told_list ws) q ≡ Some row = ap (row_in (told_list ws)) (sym at) ∙ is in
+        let not_own : same_id q i ≡ false = false_from_ne_true (same_id q i) (λ s. some_not_none row (sym there ∙ rows-none ws q (ap (λ j. is_among j (map id_of ws)) (same_id-true q i s) ∙ new))) in
+        not_of_other q (change (mark i) row)
+        (rows-push ws w q new
+        ∙ ap (λ c. cond c (row_of w p None) (change_if (mark i) (cancels_it q w.action p) (row_in (told_list ws) q))) not_own
+        ∙ ap (λ c. change_if (mark i) c (row_in (told_list ws) q)) e ∙ ap (option_map (change (mark i))) there)
+
+    go : (t : Bool) → takes_away w.action p ≡ t → (c : Bool) → cancels_it q w.action p ≡ c → cond t (cond (same_id q i) None (if_of other (row_at b q))) (change_if (unmark i) c (if_of other (row_at b q))) ≡ if_of other (row_at b q)
+    go true takes c cancels = not_there other b i q None refl (own takes)
+    go false takes false cancels = refl
+    go false takes true cancels = ap (option_map (change (unmark i))) (target cancels) ∙ sym (target cancels)

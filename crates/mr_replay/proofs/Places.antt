@@ -1,24 +1,21 @@
 -- The places of executed writes, against those of the definitions.
 use Rattle.std.proofs.Common.{◌≡◌, List, [], ◌∷◌, ◌++◌, map, ap, refl, sym, ◌∙◌, subst, append_assoc}
 use Rattle.mr_model.specs.Texts.{Text}
-use Rattle.mr_model.specs.Writes.{Write, id_of}
+use Rattle.mr_model.specs.Writes.{Write}
 use Rattle.mr_model.specs.Replay.{place_among, replay}
 use Rattle.mr_model.specs.Board.{after, place_on, replay_on, board_after, places_of_room}
 use Rattle.mr_model.specs.View.{of_room}
-use Rattle.mr_model.proofs.RoomsApart.{board_apart, rooms_apart}
-use Rattle.mr_model.proofs.CommandPlaces.{board_after-append}
+use Rattle.mr_model.proofs.RoomsApart.{board_apart, rooms_apart, board_after-append}
 use Rattle.mr_replay.specs.Places.{UndoRow}
-use Rattle.mr_replay.specs.Rows.{Rows, undo_row_of, executed, undo_rows_of}
-use Rattle.mr_replay.specs.Holds.{HaveDistinctIds, AreOfRoom, AreNew, HoldsEach, Holds, with_list, undo_row_after, undo_rows_after}
-use Rattle.mr_replay.proofs.Lists.{distinct_front, distinct-push, distinct-part, with_list-own, of_room-front, of_room-next, part-all}
+use Rattle.mr_replay.specs.Rows.{Rows, undo_row_at, undo_row_of, executed, undo_rows_of}
+use Rattle.mr_replay.specs.Holds.{HaveDistinctIds, AreOfRoom, HaveNoRows, HoldsEach, Holds, with_list, undo_row_after, undo_rows_after}
+use Rattle.mr_replay.proofs.Lists.{distinct_front, distinct_back, with_list-own, of_room-front, of_room-next, part-all}
 use Rattle.mr_replay.proofs.Placing.{same_place}
-use Rattle.mr_replay.proofs.OneRoom.{not_in_list}
-use Rattle.mr_replay.proofs.Holding.{Holds-empty, Holds-executed, HoldsEach-executed, AreNew-rest}
+use Rattle.mr_replay.proofs.Holding.{Holds-empty, places-are, Holds-executed, HoldsEach-executed, new_after}
 
 undo_row-after : (ws : List Write) (b : Rows) (w : Write) → HaveDistinctIds ws → Holds ws b → undo_row_of b w ≡ undo_row_after ws w
 undo_row-after ws b w distinct holds =
-    ap (λ p. record { id = record { server = w.stamp.server; n = w.stamp.n }; place = p })
-    (same_place w.room (of_room w.room ws) b w refl holds.ordered (distinct-part w.room ws distinct) (holds.rooms w.room))
+    ap (undo_row_at w) (places-are ws b w distinct holds)
 
 pub undo_rows-after : (ws vs : List Write) (b : Rows) → HaveDistinctIds (ws ++ vs) → Holds ws b → undo_rows_of b vs ≡ undo_rows_after ws vs
 undo_rows-after ws [] b distinct holds = refl
@@ -31,14 +28,17 @@ undo_rows-after ws (v ∷ vs) b distinct holds =
 -- the same where the board holds lists room by room
 undo_row-room : (lists : Text → List Write) (room : Text) (b : Rows) (w : Write) → HoldsEach lists b → HaveDistinctIds (lists room) → AreOfRoom room (lists room) → w.room ≡ room → undo_row_of b w ≡ undo_row_after (lists room) w
 undo_row-room lists room b w holds distinct of_it is =
-    ap (λ p. record { id = record { server = w.stamp.server; n = w.stamp.n }; place = p })
+    ap (undo_row_at w)
     (same_place room (lists room) b w is holds.ordered distinct (holds.rooms room) ∙ ap (λ l. place_among (after [] l) w) (sym (part-all room w.room (lists room) is of_it)))
 
-pub undo_rows-room : (lists : Text → List Write) (room : Text) (vs : List Write) (b : Rows) → HoldsEach lists b → HaveDistinctIds (lists room) → AreOfRoom room (lists room ++ vs) → AreNew b vs → undo_rows_of b vs ≡ undo_rows_after (lists room) vs
+pub undo_rows-room : (lists : Text → List Write) (room : Text) (vs : List Write) (b : Rows) → HoldsEach lists b → HaveDistinctIds (lists room ++ vs) → AreOfRoom room (lists room ++ vs) → HaveNoRows b vs → undo_rows_of b vs ≡ undo_rows_after (lists room) vs
 undo_rows-room lists room [] b holds distinct of_it new = refl
 undo_rows-room lists room (v ∷ vs) b holds distinct of_it new =
-    let here = undo_row-room lists room b v holds distinct (of_room-front room (lists room) (v ∷ vs) of_it) is in
-    let rest = undo_rows-room pushed room vs (executed b v) (HoldsEach-executed lists room b v is distinct new.1.0 holds) distinct_pushed of_pushed (AreNew-rest b v vs new) ∙ ap (λ l. undo_rows_after l vs) own in
+    let here = undo_row-room lists room b v holds (distinct_front (lists room) (v ∷ vs) distinct) (of_room-front room (lists room) (v ∷ vs) of_it) is in
+    let rest =
+    undo_rows-room pushed room vs (executed b v) (HoldsEach-executed lists room b v is (distinct_front (lists room ++ v ∷ []) vs distinct_joined) new.0 holds) distinct_pushed of_pushed
+    (new_after b v vs new.0 (distinct_back (lists room) (v ∷ vs) distinct).0 new.1)
+    ∙ ap (λ l. undo_rows_after l vs) own in
     λ t. here t ∷ rest t
   where
     is : v.room ≡ room
@@ -50,8 +50,11 @@ undo_rows-room lists room (v ∷ vs) b holds distinct of_it new =
     own : pushed room ≡ lists room ++ v ∷ []
     own = with_list-own room (lists room ++ v ∷ []) lists
 
-    distinct_pushed : HaveDistinctIds (pushed room)
-    distinct_pushed = subst (λ (l : List Write). HaveDistinctIds l) (sym own) (distinct-push (lists room) v distinct (not_in_list room (lists room) b (id_of v) (holds.rooms room) new.1.0))
+    distinct_joined : HaveDistinctIds ((lists room ++ v ∷ []) ++ vs)
+    distinct_joined = subst (λ (l : List Write). HaveDistinctIds l) (sym (append_assoc (lists room) (v ∷ []) vs)) distinct
+
+    distinct_pushed : HaveDistinctIds (pushed room ++ vs)
+    distinct_pushed = subst (λ (l : List Write). HaveDistinctIds (l ++ vs)) (sym own) distinct_joined
 
     of_pushed : AreOfRoom room (pushed room ++ vs)
     of_pushed = subst (λ (l : List Write). AreOfRoom room (l ++ vs)) (sym own) (subst (λ (l : List Write). AreOfRoom room l) (sym (append_assoc (lists room) (v ∷ []) vs)) of_it)

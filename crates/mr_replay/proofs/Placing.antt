@@ -1,162 +1,189 @@
--- A board that holds the replay of a room's list finds for a write of the room the place that the replay gives it.
-use Rattle.std.proofs.Common.{◌≡◌, ℕ, Bool, true, false, cond, ◌||◌, ◌&&◌, List, [], ◌∷◌, map, Option, Some, None, IfSome, ap, refl, sym, ◌∙◌, subst}
-use Rattle.std.specs.List.{list_any, filter}
+-- A board that has the bookings of a room's list finds for a write of the room the place that the replay gives it.
+use Rattle.std.proofs.Common.{◌≡◌, ℕ, ◌+◌, Bool, true, false, cond, ◌&&◌, List, [], ◌∷◌, ◌++◌, ◌⊎◌, inl, inr, Option, Some, None, ap, refl, sym, ◌∙◌, subst}
+use Rattle.std.specs.List.{AllByRecursion}
+use Rattle.std.specs.List.Sorted.{IsStrictlySortedBy}
+use Rattle.std.specs.declared.cmp.Ordering.TheVariants.{Less}
+use Rattle.std.specs.Ordering.{is_eq}
 use Rattle.std.specs.Str.{bytes_eq}
-use Rattle.std.specs.Map.{lookup, values_of}
-use Rattle.std.proofs.lemmas.Bool.{true≢false, or_parts, or_from}
-use Rattle.std.proofs.lemmas.List.Folds.{list_any_none}
-use Rattle.std.proofs.lemmas.Map.Views.{All-values_from_lookup}
+use Rattle.std.specs.Map.{keys_of, lookup}
+use Rattle.std.proofs.lemmas.Bool.{true≢false}
 use Rattle.mr_model.specs.Texts.{Text}
-use Rattle.mr_model.specs.Slots.{Slot, overlaps}
-use Rattle.mr_model.specs.Writes.{Id, Write, id_of, same_id}
-use Rattle.mr_model.specs.Replay.{Place, Booking, place_among, slot_at, booking_of, booked_with, replay_among, replay}
-use Rattle.mr_model.specs.Replica.{is_among}
+use Rattle.mr_model.specs.Slots.{Slot}
+use Rattle.mr_model.specs.Writes.{Id, Action, Books, Cancels, Write, same_id, choices_of}
+use Rattle.mr_model.specs.Replay.{Taken, Done, Void, Booking, first_free, is_booked, place_for, place_among}
 use Rattle.mr_model.specs.Board.{after}
-use Rattle.mr_model.proofs.UniqueReplay.{meets}
-use Rattle.mr_model.proofs.ToldInOrder.{alike_place, meets-append}
-use Rattle.mr_model.proofs.Members.{same_id-true, same_id_refl}
+use Rattle.mr_model.specs.Dropped.{Has}
+use Rattle.mr_model.proofs.Members.{has_left, has_right, has_split, same_id-true, same_id_from}
+use Rattle.mr_model.proofs.UniqueReplay.{Meets, meets, meets-true, meets_from, meets_has, has_meets, booked_has, has_booked}
+use Rattle.mr_base.specs.Ids.{id_cmp}
+use Rattle.mr_replay.specs.declared.rows.Standing.TheVariants.{Booked, CancelledBy, InErrorLog}
+use Rattle.mr_replay.specs.declared.rows.Kept.{Kept}
+use Rattle.mr_replay.specs.declared.rows.Kept.TheVariants.{OfBooking, OfCancel}
 use Rattle.mr_replay.specs.declared.rows.Row.{Row}
-use Rattle.mr_replay.specs.Rows.{Rows, row_at, is_booked, is_booking_of, is_in_the_way, bookings_of, place_on, row_with, row_of}
-use Rattle.mr_replay.specs.Holds.{HaveDistinctIds, row_in, if_of, HoldsIn}
-use Rattle.mr_replay.specs.Bookings.{if_booked, HasBookings}
-use Rattle.mr_replay.proofs.Ids.{same_id_equivalence}
-use Rattle.mr_replay.proofs.Entries.{IsInOrder, distinct_keys}
+use Rattle.mr_replay.specs.Rows.{Rows, row_at, is_standing, is_booking_of, booking_kept, booking_in, bookings_of, place_on}
+use Rattle.mr_replay.specs.Holds.{HaveDistinctIds, told_list, row_in, if_of, HoldsIn}
+use Rattle.mr_replay.specs.Bookings.{is_taken, if_taken, HasBookings}
+use Rattle.mr_replay.specs.Index.{is_row}
+use Rattle.mr_replay.proofs.Ids.{at, at_is}
+use Rattle.mr_replay.proofs.Entries.{IsInOrder}
+use Rattle.mr_replay.proofs.ToldRows.{booked_at, after-row, row-after}
 
--- two tests that fail together are one
-pub same_from_false : (a b : Bool) → (a ≡ false → b ≡ false) → (b ≡ false → a ≡ false) → a ≡ b
-same_from_false true true f g = refl
-same_from_false true false f g = g refl
-same_from_false false b f g = sym (f refl)
+-- two tests that pass together are one
+pub same_from_true : (a b : Bool) → (a ≡ true → b ≡ true) → (b ≡ true → a ≡ true) → a ≡ b
+same_from_true true b f g = sym (f refl)
+same_from_true false true f g = absurd (true≢false (sym (g refl)))
+same_from_true false false f g = refl
 
-IfSome-cond : {X : Type 0} (P : X → Type 0) (b : Bool) (x : X) (o : Option X) → (b ≡ true → P x) → (b ≡ false → IfSome o P) → IfSome (cond b (Some x) o) P
-IfSome-cond P true x o f g = f refl
-IfSome-cond P false x o f g = g refl
+-- ---- bookings with the same members place alike
 
-from_cond_true : {X : Type 0} (P : X → Type 0) (b : Bool) (x : X) (o : Option X) → b ≡ true → IfSome (cond b (Some x) o) P → P x
-from_cond_true P true x o e h = h
-from_cond_true P false x o e h = absurd (true≢false (sym e))
+abbrev SameMembers : List Booking → List Booking → Type 0
+SameMembers bs cs = (x : Booking) → (Has x bs → Has x cs) × (Has x cs → Has x bs)
 
-from_cond_false : {X : Type 0} (P : X → Type 0) (b : Bool) (x : X) (o : Option X) → b ≡ false → IfSome (cond b (Some x) o) P → IfSome o P
-from_cond_false P true x o e h = absurd (true≢false e)
-from_cond_false P false x o e h = h
+meets_by : (bs cs : List Booking) (s : Slot) (n : ℕ) → ((x : Booking) → Has x bs → Has x cs) → Meets bs s n → Meets cs s n
+meets_by bs cs s n f m = let (b, h, o) = meets_has bs s n m in has_meets cs s n b (f b h) o
 
--- an id that no write of the list has is not in its rows
-pub row_in-none : (ws : List Write) (ps : List Place) (i : Id) → is_among i (map id_of ws) ≡ false → row_in ws ps i ≡ None
-row_in-none [] ps i h = refl
-row_in-none (w ∷ ws) [] i h = refl
-row_in-none (w ∷ ws) (p ∷ ps) i h =
-    let parts = or_parts (same_id i (id_of w)) (is_among i (map id_of ws)) h in
-    ap (λ b. cond b (Some (row_of w p)) (row_in ws ps i)) parts.0 ∙ row_in-none ws ps i parts.1
+meets_alike : (bs cs : List Booking) → SameMembers bs cs → (s : Slot) (n : ℕ) → meets bs s n ≡ meets cs s n
+meets_alike bs cs same s n =
+    same_from_true (meets bs s n) (meets cs s n) (λ e. meets_from cs s n (meets_by bs cs s n (λ x. (same x).0) (meets-true bs s n e)))
+    (λ e. meets_from bs s n (meets_by cs bs s n (λ x. (same x).1) (meets-true cs s n e)))
 
-module _ (slot : Slot) (length : ℕ) where
-  -- the row is no booking that overlaps the slot
-  abbrev Quiet : Row → Type 0
-  Quiet row = (is_booked row.standing && overlaps slot length row.slot row.length) ≡ false
+free_alike : (bs cs : List Booking) → SameMembers bs cs → (n k : ℕ) (ss : List Slot) → first_free bs n k ss ≡ first_free cs n k ss
+free_alike bs cs same n k [] = refl
+free_alike bs cs same n k (s ∷ ss) =
+    ap (λ b. cond (cond b false true) (Taken k) (first_free bs n (k + 1) ss)) (meets_alike bs cs same s n)
+    ∙ ap (λ p. cond (cond (meets cs s n) false true) (Taken k) p) (free_alike bs cs same n (k + 1) ss)
 
-  or_end : (b : Bool) → b ≡ (b || false)
-  or_end true = refl
-  or_end false = refl
+booked_alike : (bs cs : List Booking) → SameMembers bs cs → (i : Id) → is_booked i bs ≡ is_booked i cs
+booked_alike bs cs same i =
+    same_from_true (is_booked i bs) (is_booked i cs) (λ e. let (b, h, at) = booked_has i bs e in has_booked i cs b ((same b).0 h) at)
+    (λ e. let (b, h, at) = booked_has i cs e in has_booked i bs b ((same b).1 h) at)
 
-  -- a write's row is in the way where its booking is
-  row_meets : (w : Write) (o : Option Slot) → (is_booked (row_with w o).standing && overlaps slot length (row_with w o).slot (row_with w o).length) ≡ meets (booking_of w.length o) slot length
-  row_meets w None = refl
-  row_meets w (Some s) = or_end (overlaps slot length s w.length)
+place_alike : (bs cs : List Booking) → SameMembers bs cs → (a : Action) → place_for bs a ≡ place_for cs a
+place_alike bs cs same (Books m) = free_alike bs cs same m.length 0 (choices_of m)
+place_alike bs cs same (Cancels t) = ap (λ b. cond b Done Void) (booked_alike bs cs same t)
 
-  quiet_from_bookings : (bs : List Booking) (ws : List Write) → meets (after bs ws) slot length ≡ false → (meets bs slot length ≡ false) × ((q : Id) → IfSome (row_in ws (replay_among bs ws) q) Quiet)
-  quiet_from_bookings bs [] h = (h, λ q. tt)
-  quiet_from_bookings bs (w ∷ ws) h =
-      let p = place_among bs w in
-      let rest = quiet_from_bookings (booked_with bs w p) ws h in
-      let parts = or_parts (meets bs slot length) (meets (booking_of w.length (slot_at w p)) slot length) (sym (meets-append bs (booking_of w.length (slot_at w p)) slot length) ∙ rest.0) in
-      (parts.0, λ q. IfSome-cond Quiet (same_id q (id_of w)) (row_of w p) (row_in ws (replay_among (booked_with bs w p) ws) q) (λ _. row_meets w (slot_at w p) ∙ parts.1) (λ _. rest.1 q))
+-- ---- the bookings of a room on a board are those of its rows
 
-  bookings_from_quiet : (bs : List Booking) (ws : List Write) → HaveDistinctIds ws → meets bs slot length ≡ false → ((q : Id) → IfSome (row_in ws (replay_among bs ws) q) Quiet) → meets (after bs ws) slot length ≡ false
-  bookings_from_quiet bs [] distinct h quiet = h
-  bookings_from_quiet bs (w ∷ ws) distinct h quiet =
-      let p = place_among bs w in
-      let later = replay_among (booked_with bs w p) ws in
-      let own : Quiet (row_of w p) = from_cond_true Quiet (same_id (id_of w) (id_of w)) (row_of w p) (row_in ws later (id_of w)) (same_id_refl (id_of w)) (quiet (id_of w)) in
-      let with = meets-append bs (booking_of w.length (slot_at w p)) slot length ∙ or_from _ _ h (sym (row_meets w (slot_at w p)) ∙ own) in
-      bookings_from_quiet (booked_with bs w p) ws distinct.1 with (λ q. at_other q (same_id q (id_of w)) refl)
-    where
-      at_other : (q : Id) (b : Bool) → same_id q (id_of w) ≡ b → IfSome (row_in ws (replay_among (booked_with bs w (place_among bs w)) ws) q) Quiet
-      at_other q true e = subst (λ o. IfSome o Quiet) (sym (row_in-none ws (replay_among (booked_with bs w (place_among bs w)) ws) q (ap (λ i. is_among i (map id_of ws)) (same_id-true q (id_of w) e) ∙ distinct.0))) tt
-      at_other q false e = from_cond_false Quiet (same_id q (id_of w)) (row_of w (place_among bs w)) (row_in ws (replay_among (booked_with bs w (place_among bs w)) ws) q) e (quiet q)
+-- an id in front of all rows has none
+later_absent : (i : Id) (b : Rows) → AllByRecursion (λ k. id_cmp i k ≡ Less) (keys_of b) → lookup (at i) b ≡ None
+later_absent i [] h = refl
+later_absent i (e ∷ es) h = ap (λ o. cond (is_eq o) (Some e.1) (lookup (at i) es)) h.0 ∙ later_absent i es h.1
 
-  module _ (room : Text) where
-    -- some booking of the room overlaps the slot where some row is in the way
-    pub meets-rows : (rows : List Row) → meets (map (λ row. record { slot = row.slot; length = row.length }) (filter (is_booking_of room) rows)) slot length ≡ list_any (is_in_the_way room slot length) rows
-    meets-rows [] = refl
-    meets-rows (row ∷ rows) = go (is_booking_of room row) (meets-rows rows)
-      where
-        go : (b : Bool) → meets (map (λ r. record { slot = r.slot; length = r.length }) (filter (is_booking_of room) rows)) slot length ≡ list_any (is_in_the_way room slot length) rows
-            → meets (map (λ r. record { slot = r.slot; length = r.length }) (cond b (row ∷ filter (is_booking_of room) rows) (filter (is_booking_of room) rows))) slot length ≡ ((b && overlaps slot length row.slot row.length) || list_any (is_in_the_way room slot length) rows)
-        go true ih = ap (λ t. overlaps slot length row.slot row.length || t) ih
-        go false ih = ih
+first_absent : (e : Id × Row) (es : Rows) → IsInOrder (e ∷ es) → row_at es e.0 ≡ None
+unfolding IsStrictlySortedBy
+first_absent e es h = subst (λ (f : Id → Id → Bool). lookup (f e.0) es ≡ None) at_is (later_absent e.0 es h.0)
 
-    abbrev Clear : Row → Type 0
-    Clear row = is_in_the_way room slot length row ≡ false
+rest_in_order : (e : Id × Row) (es : Rows) → IsInOrder (e ∷ es) → IsInOrder es
+unfolding IsStrictlySortedBy
+rest_in_order e es h = h.1
 
-    of_room-way : (row : Row) → bytes_eq row.room room ≡ true → is_in_the_way room slot length row ≡ (is_booked row.standing && overlaps slot length row.slot row.length)
-    of_room-way row e = ap (λ t. (is_booked row.standing && t) && overlaps slot length row.slot row.length) e ∙ go (is_booked row.standing)
-      where
-        go : (b : Bool) → ((b && true) && overlaps slot length row.slot row.length) ≡ (b && overlaps slot length row.slot row.length)
-        go true = refl
-        go false = refl
+kept_id : (i : Id) (k : Kept) (x : Booking) → Has x (booking_kept i k) → x.id ≡ i
+kept_id i (OfBooking s l t Booked) x (inl e) = ap (λ (b : Booking). b.id) e
+kept_id i (OfBooking s l t Booked) x (inr h) = absurd h
+kept_id i (OfBooking s l t (CancelledBy c)) x h = absurd h
+kept_id i (OfBooking s l t InErrorLog) x h = absurd h
+kept_id i (OfCancel t) x h = absurd h
 
-    other_room-way : (row : Row) → bytes_eq row.room room ≡ false → is_in_the_way room slot length row ≡ false
-    other_room-way row e = ap (λ t. (is_booked row.standing && t) && overlaps slot length row.slot row.length) e ∙ go (is_booked row.standing)
-      where
-        go : (b : Bool) → ((b && false) && overlaps slot length row.slot row.length) ≡ false
-        go true = refl
-        go false = refl
+entry_at : (room : Text) (e : Id × Row) → booking_in room e ≡ booked_at e.0 (if_of room (Some e.1))
+entry_at room e = go (bytes_eq e.1.room room)
+  where
+    go : (b : Bool) → cond b (booking_kept e.0 e.1.kept) [] ≡ booked_at e.0 (cond b (Some e.1) None)
+    go true = refl
+    go false = refl
 
-    clear_lookup : (b : Rows) → list_any (is_in_the_way room slot length) (values_of b) ≡ false → (q : Id) → IfSome (row_at b q) Clear
-    clear_lookup [] h q = tt
-    clear_lookup (e ∷ es) h q =
-        let parts = or_parts (is_in_the_way room slot length e.1) (list_any (is_in_the_way room slot length) (values_of es)) h in
-        IfSome-cond Clear (same_id q e.0) e.1 (lookup (same_id q) es) (λ _. parts.0) (λ _. clear_lookup es parts.1 q)
+entry_id : (room : Text) (e : Id × Row) (x : Booking) → Has x (booking_in room e) → x.id ≡ e.0
+entry_id room e x h = go (bytes_eq e.1.room room) h
+  where
+    go : (b : Bool) → Has x (cond b (booking_kept e.0 e.1.kept) []) → x.id ≡ e.0
+    go true g = kept_id e.0 e.1.kept x g
+    go false g = absurd g
 
-    quiet_if_of : (o : Option Row) → IfSome o Clear → IfSome (if_of room o) Quiet
-    quiet_if_of None h = tt
-    quiet_if_of (Some row) h = IfSome-cond Quiet (bytes_eq row.room room) row None (λ e. sym (of_room-way row e) ∙ h) (λ _. tt)
+pub booking-row : (room : Text) (b : Rows) (x : Booking) → IsInOrder b → Has x (bookings_of room b) → Has x (booked_at x.id (if_of room (row_at b x.id)))
+booking-row room [] x ordered h = absurd h
+booking-row room (e ∷ es) x ordered h = go (has_split x (booking_in room e) (bookings_of room es) h) (booking-row room es x (rest_in_order e es ordered))
+  where
+    other : (c : Bool) → same_id x.id e.0 ≡ c → Has x (booked_at x.id (if_of room (row_at es x.id))) → Has x (booked_at x.id (if_of room (cond c (Some e.1) (row_at es x.id))))
+    other false k g = g
+    other true k g = absurd (subst (λ o. Has x (booked_at x.id (if_of room o))) (ap (row_at es) (same_id-true x.id e.0 k) ∙ first_absent e es ordered) g)
 
-    clear_from_if_of : (o : Option Row) → IfSome (if_of room o) Quiet → IfSome o Clear
-    clear_from_if_of None h = tt
-    clear_from_if_of (Some row) h = by (bytes_eq row.room room) refl
-      where
-        by : (b : Bool) → bytes_eq row.room room ≡ b → Clear row
-        by true e = of_room-way row e ∙ from_cond_true Quiet (bytes_eq row.room room) row None e h
-        by false e = other_room-way row e
+    go : Has x (booking_in room e) ⊎ Has x (bookings_of room es) → (Has x (bookings_of room es) → Has x (booked_at x.id (if_of room (row_at es x.id)))) → Has x (booked_at x.id (if_of room (cond (same_id x.id e.0) (Some e.1) (row_at es x.id))))
+    go (inl g) rest =
+        let at : x.id ≡ e.0 = entry_id room e x g in
+        subst (λ c. Has x (booked_at x.id (if_of room (cond c (Some e.1) (row_at es x.id))))) (sym (same_id_from x.id e.0 at))
+        (subst (λ i. Has x (booked_at i (if_of room (Some e.1)))) (sym at) (subst (λ bs. Has x bs) (entry_at room e) g))
+    go (inr g) rest = other (same_id x.id e.0) refl (rest g)
 
-    clear_from_lookup : (b : Rows) → IsInOrder b → ((q : Id) → IfSome (if_of room (row_at b q)) Quiet) → list_any (is_in_the_way room slot length) (values_of b) ≡ false
-    clear_from_lookup b ordered h =
-        list_any_none (is_in_the_way room slot length) (values_of b) (All-values_from_lookup same_id_equivalence Clear b (distinct_keys b ordered) (λ q. clear_from_if_of (row_at b q) (h q)))
+pub row-booking : (room : Text) (b : Rows) (x : Booking) → Has x (booked_at x.id (if_of room (row_at b x.id))) → Has x (bookings_of room b)
+row-booking room [] x h = absurd h
+row-booking room (e ∷ es) x h = go (same_id x.id e.0) refl h (row-booking room es x)
+  where
+    go : (c : Bool) → same_id x.id e.0 ≡ c → Has x (booked_at x.id (if_of room (cond c (Some e.1) (row_at es x.id)))) → (Has x (booked_at x.id (if_of room (row_at es x.id))) → Has x (bookings_of room es)) → Has x (booking_in room e ++ bookings_of room es)
+    go true k g rest = has_left x (booking_in room e) (bookings_of room es) (subst (λ bs. Has x bs) (sym (entry_at room e)) (subst (λ i. Has x (booked_at i (if_of room (Some e.1)))) (same_id-true x.id e.0 k) g))
+    go false k g rest = has_right x (booking_in room e) (bookings_of room es) (rest g)
 
-    quiet_if_booked : (o : Option Row) → IfSome o Quiet → IfSome (if_booked o) Quiet
-    quiet_if_booked None h = tt
-    quiet_if_booked (Some row) h = IfSome-cond Quiet (is_booked row.standing) row None (λ _. h) (λ _. tt)
+-- ---- what a cancel finds: its target is among the bookings where its row is one of the room's that stand
 
-    quiet_from_booked : (o : Option Row) → IfSome (if_booked o) Quiet → IfSome o Quiet
-    quiet_from_booked None h = tt
-    quiet_from_booked (Some row) h = by (is_booked row.standing) refl
-      where
-        by : (b : Bool) → is_booked row.standing ≡ b → Quiet row
-        by true e = from_cond_true Quiet (is_booked row.standing) row None e h
-        by false e = ap (λ b. b && overlaps slot length row.slot row.length) e
+booking_here : (room : Text) (i : Id) (o : Option Row) → is_row (is_booking_of room) o ≡ true → (x : Booking) × Has x (booked_at i (if_of room o)) × (x.id ≡ i)
+booking_here room i None h = absurd (true≢false (sym h))
+booking_here room i (Some row) h = go row.kept (bytes_eq row.room room) h
+  where
+    go : (k : Kept) (c : Bool) → (is_standing k && c) ≡ true → (x : Booking) × Has x (booked_at i (cond c (Some (record { room = row.room; kept = k })) None)) × (x.id ≡ i)
+    go (OfBooking s l t Booked) true g = (record { id = i; slot = s; length = l }, inl refl, refl)
+    go (OfBooking s l t Booked) false g = absurd (true≢false (sym g))
+    go (OfBooking s l t (CancelledBy c)) d g = absurd (true≢false (sym g))
+    go (OfBooking s l t InErrorLog) d g = absurd (true≢false (sym g))
+    go (OfCancel t) d g = absurd (true≢false (sym g))
 
-    -- the board's bookings of the room overlap the slot where those of the room's list do
-    alike : (ws : List Write) (b : Rows) → IsInOrder b → HaveDistinctIds ws → HasBookings room ws b → meets (bookings_of room b) slot length ≡ meets (after [] ws) slot length
-    alike ws b ordered distinct has =
-        meets-rows (values_of b) ∙ same_from_false _ _
-        (λ clear. bookings_from_quiet [] ws distinct refl (λ q. quiet_from_booked (row_in ws (replay ws) q) (subst (λ o. IfSome o Quiet) (has q) (quiet_if_booked (if_of room (row_at b q)) (quiet_if_of (row_at b q) (clear_lookup b clear q))))))
-        (λ quiet. clear_from_lookup b ordered (λ q. quiet_from_booked (if_of room (row_at b q)) (subst (λ o. IfSome o Quiet) (sym (has q)) (quiet_if_booked (row_in ws (replay ws) q) ((quiet_from_bookings [] ws quiet).1 q)))))
+here_booking : (room : Text) (i : Id) (o : Option Row) (x : Booking) → Has x (booked_at i (if_of room o)) → is_row (is_booking_of room) o ≡ true
+here_booking room i None x h = absurd h
+here_booking room i (Some row) x h = go row.kept (bytes_eq row.room room) h
+  where
+    go : (k : Kept) (c : Bool) → Has x (booked_at i (cond c (Some (record { room = row.room; kept = k })) None)) → (is_standing k && c) ≡ true
+    go (OfBooking s l t Booked) true g = refl
+    go (OfBooking s l t Booked) false g = absurd g
+    go (OfBooking s l t (CancelledBy c)) true g = absurd g
+    go (OfBooking s l t (CancelledBy c)) false g = absurd g
+    go (OfBooking s l t InErrorLog) true g = absurd g
+    go (OfBooking s l t InErrorLog) false g = absurd g
+    go (OfCancel t) true g = absurd g
+    go (OfCancel t) false g = absurd g
+
+pub booked-row : (room : Text) (b : Rows) (i : Id) → IsInOrder b → is_booked i (bookings_of room b) ≡ is_row (is_booking_of room) (row_at b i)
+booked-row room b i ordered =
+    same_from_true (is_booked i (bookings_of room b)) (is_row (is_booking_of room) (row_at b i))
+    (λ e.
+    let (x, h, is) = booked_has i (bookings_of room b) e in
+    here_booking room i (row_at b i) x (subst (λ k. Has x (booked_at k (if_of room (row_at b k)))) is (booking-row room b x ordered h)))
+    (λ e.
+    let (x, h, is) = booking_here room i (row_at b i) e in
+    has_booked i (bookings_of room b) x (row-booking room b x (subst (λ k. Has x (booked_at k (if_of room (row_at b k)))) (sym is) h)) is)
+
+-- ---- where the board has the bookings of the room's list, these are the bookings after it
+
+-- a booking that stands took its slot
+standing_taken : (i : Id) (o : Option Row) → booked_at i (if_taken o) ≡ booked_at i o
+standing_taken i None = refl
+standing_taken i (Some row) = go row.kept
+  where
+    go : (k : Kept) → booked_at i (cond (is_taken k) (Some (record { room = row.room; kept = k })) None) ≡ booking_kept i k
+    go (OfBooking s l t Booked) = refl
+    go (OfBooking s l t (CancelledBy c)) = refl
+    go (OfBooking s l t InErrorLog) = refl
+    go (OfCancel t) = refl
+
+same_booked : (room : Text) (ws : List Write) (b : Rows) → HasBookings room ws b → (i : Id) → booked_at i (if_of room (row_at b i)) ≡ booked_at i (row_in (told_list ws) i)
+same_booked room ws b has i = sym (standing_taken i (if_of room (row_at b i))) ∙ ap (booked_at i) (has i) ∙ standing_taken i (row_in (told_list ws) i)
+
+same_members : (room : Text) (ws : List Write) (b : Rows) → IsInOrder b → HaveDistinctIds ws → HasBookings room ws b → SameMembers (bookings_of room b) (after [] ws)
+same_members room ws b ordered distinct has x = (
+  λ h. row-after ws x (subst (λ bs. Has x bs) (same_booked room ws b has x.id) (booking-row room b x ordered h)),
+  λ h. row-booking room b x (subst (λ bs. Has x bs) (sym (same_booked room ws b has x.id)) (after-row ws x distinct h)),
+)
 
 -- so a write of the room goes to the place that the room's replay gives it
 pub place_by_bookings : (room : Text) (ws : List Write) (b : Rows) (w : Write) → w.room ≡ room → IsInOrder b → HaveDistinctIds ws → HasBookings room ws b → place_on b w ≡ place_among (after [] ws) w
 place_by_bookings room ws b w is ordered distinct has =
-    ap (λ r. place_among (bookings_of r b) w) is
-    ∙ alike_place (bookings_of room b) (after [] ws) w (λ slot length. alike slot length room ws b ordered distinct has)
+    ap (λ r. place_among (bookings_of r b) w) is ∙ place_alike (bookings_of room b) (after [] ws) (same_members room ws b ordered distinct has) w.action
 
 pub same_place : (room : Text) (ws : List Write) (b : Rows) (w : Write) → w.room ≡ room → IsInOrder b → HaveDistinctIds ws → HoldsIn room ws b → place_on b w ≡ place_among (after [] ws) w
-same_place room ws b w is ordered distinct holds = place_by_bookings room ws b w is ordered distinct (λ i. ap if_booked (holds i))
+same_place room ws b w is ordered distinct holds = place_by_bookings room ws b w is ordered distinct (λ i. ap if_taken (holds i))

@@ -1,16 +1,11 @@
 -- Executing writes one after the other, and undoing what is done where one of them fails.
-use Rattle.std.proofs.Common.{◌≡◌, ℕ, ◌+◌, ◌<◌, List, [], ◌∷◌, ◌++◌, length, get_or, take, drop, None, ap, sym, ◌∙◌, append_assoc}
+use Rattle.std.proofs.Common.{◌≡◌, ℕ, ◌+◌, ◌<◌, List, [], ◌∷◌, ◌++◌, length, get_or, take, drop, ap, sym, ◌∙◌, append_assoc}
 use Rattle.std.proofs.lemmas.List.{at_drop_more, take_more}
-use Rattle.mr_model.specs.Writes.{Write, id_of}
+use Rattle.mr_model.specs.Writes.{Write}
 use Rattle.mr_replay.specs.Places.{UndoRow}
-use Rattle.mr_replay.specs.Rows.{Rows, row_at, row_of, place_on, executed, undo_row_of, undone, executed_all, undo_rows_of, undone_all}
+use Rattle.mr_replay.specs.Rows.{Rows, executed, undo_row_of, undone, executed_all, undo_rows_of, undone_all}
 use Rattle.mr_replay.specs.Holds.{AreNew}
-use Rattle.mr_replay.proofs.Entries.{undone-put}
-use Rattle.mr_replay.proofs.Holding.{AreNew-rest}
-
--- undoing the execution of a write that was not there gives the board back
-pub undone-executed : (b : Rows) (w : Write) → row_at b (id_of w) ≡ None → undone (executed b w) (undo_row_of b w) ≡ b
-undone-executed b w absent = undone-put b (id_of w) (row_of w (place_on b w)) absent
+use Rattle.mr_replay.proofs.Holding.{undone-executed, AreNew-rest}
 
 -- the last of these executions is undone first
 pub undone_all-push : (b : Rows) (us : List UndoRow) (u : UndoRow) → undone_all b (us ++ u ∷ []) ≡ undone_all (undone b u) us

@@ -1,34 +1,45 @@
 -- A board that has the bookings of one room, whatever else it has: what replaying that room's last writes gives on it.
-use Rattle.std.specs.Prelude.{◌≡◌, List, [], ◌++◌, map, Option, Some, None, if◌then◌else◌}
+use Rattle.std.specs.Prelude.{◌≡◌, Bool, true, false, List, [], ◌++◌, map, Option, Some, None, if◌then◌else◌}
 use Rattle.std.specs.List.Sorted.{IsStrictlySortedBy}
 use Rattle.std.specs.Map.{keys_of}
 use Rattle.mr_model.specs.Texts.{Text}
-use Rattle.mr_model.specs.Writes.{Id, Write, id_of}
-use Rattle.mr_model.specs.Replay.{replay_among, replay}
+use Rattle.mr_model.specs.Writes.{Id, Write}
+use Rattle.mr_model.specs.Replay.{replay_among}
 use Rattle.mr_model.specs.Board.{after}
 use Rattle.mr_base.specs.Ids.{id_cmp}
+use Rattle.mr_replay.specs.declared.rows.Standing.TheVariants.{Booked, CancelledBy, InErrorLog}
+use Rattle.mr_replay.specs.declared.rows.Kept.{Kept}
+use Rattle.mr_replay.specs.declared.rows.Kept.TheVariants.{OfBooking, OfCancel}
 use Rattle.mr_replay.specs.declared.rows.Row.{Row}
 use Rattle.mr_replay.specs.Places.{UndoRow}
-use Rattle.mr_replay.specs.Rows.{Rows, row_at, is_booked, undo_rows_of, executed_all, undone_all}
-use Rattle.mr_replay.specs.Holds.{HaveDistinctIds, AreOfRoom, row_in, if_of}
+use Rattle.mr_replay.specs.Rows.{Rows, row_at, undo_rows_of, executed_all, undone_all}
+use Rattle.mr_replay.specs.Holds.{HaveDistinctIds, AreOfRoom, told_list, row_in, if_of, undo_rows_after}
 
--- the row, if it is a booking
-abbrev pub if_booked : Option Row → Option Row
-if_booked None = None
-if_booked (Some row) = if is_booked row.standing then Some row else None
+-- whether it is a booking that took its slot, whether a cancel took it back or not
+abbrev pub is_taken : Kept → Bool
+is_taken (OfBooking slot length title Booked) = true
+is_taken (OfBooking slot length title (CancelledBy cancel)) = true
+is_taken (OfBooking slot length title InErrorLog) = false
+is_taken (OfCancel target) = false
 
--- in this room the board has for each id the booking that the replay of these writes gives it, and no other booking; what
--- it has of other rooms and of the error log is left open
+-- the row, if it is one of a booking that took its slot
+abbrev pub if_taken : Option Row → Option Row
+if_taken None = None
+if_taken (Some row) = if is_taken row.kept then Some row else None
+
+-- in this room the board has for each id the booking that the replay of these writes gives it, cancelled or not, and no other
+-- booking; what it has of other rooms, of the error log and of cancels is left open
 abbrev pub HasBookings : Text → List Write → Rows → Type 0
-HasBookings room ws b = (i : Id) → if_booked (if_of room (row_at b i)) ≡ if_booked (row_in ws (replay ws) i)
+HasBookings room ws b = (i : Id) → if_taken (if_of room (row_at b i)) ≡ if_taken (row_in (told_list ws) i)
 
--- the board has the room's bookings, and the undo rows name the last writes of its list; the others are of the room too,
+-- the board has the room's bookings, and the undo rows are those of the last writes of its list; the others are of the room too,
 -- and repeat no id of the first ones
 pub record CanReplayBookings (room : Text) (front tail : List Write) (b : Rows) (undone : List UndoRow) (again : List Write) : Type 0 where
   pub ordered : IsStrictlySortedBy id_cmp (keys_of b)
   pub bookings : HasBookings room (front ++ tail) b
   pub distinct : HaveDistinctIds (front ++ tail)
-  pub named : map (λ u. u.id) undone ≡ map id_of tail
+  pub of_room : AreOfRoom room (front ++ tail)
+  pub rows : undone ≡ undo_rows_after front tail
   pub again_of_room : AreOfRoom room again
   pub again_distinct : HaveDistinctIds (front ++ again)
 

@@ -39,3 +39,7 @@ HavePlaces b (e ∷ es) = HavePlaces b es × HasPlace (put_all_back b es) e
 pub record LeadsFrom (old : Rows) (journal : List (Id × Option Row)) (b : Rows) : Type 0 where
   pub back : put_all_back b journal ≡ old
   pub places : HavePlaces b journal
+
+-- whatever the old journal leads back to, the new one does
+abbrev pub StillLeads : List (Id × Option Row) → Rows → List (Id × Option Row) → Rows → Type 0
+StillLeads old_journal old journal new = (b : Rows) → LeadsFrom b old_journal old → LeadsFrom b journal new

@@ -1,5 +1,6 @@
--- The index of a board's bookings: by day, then by room, then by id.
-use Rattle.std.specs.Prelude.{ℕ, Bool, false, ◌&&◌, List, [], ◌∷◌, ◌++◌, length, drop, Option, Some, None, if◌then◌else◌, IsTrue, IfSome}
+-- The index of a board's bookings: by day, then by room, then by id. A booking keeps its key when a cancel takes it back, so that
+-- undoing the cancel takes no memory.
+use Rattle.std.specs.Prelude.{◌≡◌, ℕ, Bool, false, ◌&&◌, List, [], ◌∷◌, ◌++◌, length, drop, Option, Some, None, IsTrue, IfSome}
 use Rattle.std.specs.BTreeSet.{BTreeSet, contains, keys_between}
 use Rattle.std.specs.declared.ops.Bound.TheVariants.{Included}
 use Rattle.std.specs.Map.{keys_of}
@@ -13,8 +14,11 @@ use Rattle.mr_model.specs.Calendar.{Date}
 use Rattle.mr_model.specs.Writes.{Id}
 use Rattle.mr_base.specs.Ids.{id_cmp}
 use Rattle.mr_replay.specs.declared.index.IndexKey.{IndexKey}
+use Rattle.mr_replay.specs.declared.rows.Standing.TheVariants.{Booked, CancelledBy, InErrorLog}
+use Rattle.mr_replay.specs.declared.rows.Kept.{Kept}
+use Rattle.mr_replay.specs.declared.rows.Kept.TheVariants.{OfBooking, OfCancel}
 use Rattle.mr_replay.specs.declared.rows.Row.{Row}
-use Rattle.mr_replay.specs.Rows.{Rows, row_at, is_booked, is_in_the_way}
+use Rattle.mr_replay.specs.Rows.{Rows, row_at, is_in_the_way}
 
 abbrev pub zeros : List ℕ
 zeros = 0 ∷ 0 ∷ 0 ∷ 0 ∷ 0 ∷ 0 ∷ 0 ∷ 0 ∷ 0 ∷ 0 ∷ 0 ∷ 0 ∷ 0 ∷ 0 ∷ 0 ∷ 0 ∷ []
@@ -36,9 +40,9 @@ abbrev pub key_cmp : IndexKey → IndexKey → Ordering
 key_cmp = then_cmp (on (λ k. k.day) day_cmp) (then_cmp (on (λ k. k.room) (slice_cmp nat_cmp)) (then_cmp (on (λ k. k.edge) nat_cmp)
     (then_cmp (on (λ k. k.id) id_cmp) (then_cmp (on (λ k. k.slot) slot_cmp) (on (λ k. k.length) nat_cmp)))))
 
--- where the row of this id stands
-abbrev pub key_of : Id → Row → IndexKey
-key_of i row = record { day = row.slot.day; room = padded row.room; edge = 1; id = i; slot = row.slot; length = row.length }
+-- where a booking of the room stands
+abbrev pub key_of : Id → Text → Slot → ℕ → IndexKey
+key_of i room slot length = record { day = slot.day; room = padded room; edge = 1; id = i; slot = slot; length = length }
 
 -- the ends of the day of a slot in a room
 abbrev pub end_key : ℕ → Slot → Text → IndexKey
@@ -50,8 +54,15 @@ first_key slot room = end_key 0 slot room
 abbrev pub last_key : Slot → Text → IndexKey
 last_key slot room = end_key 2 slot room
 
-abbrev pub key_if_booked : Id → Row → Option IndexKey
-key_if_booked i row = if is_booked row.standing then Some (key_of i row) else None
+-- where a row stands, if it is that of a booking that took its slot, whether a cancel took it back or not
+abbrev pub key_kept : Id → Text → Kept → Option IndexKey
+key_kept i room (OfBooking slot length title Booked) = Some (key_of i room slot length)
+key_kept i room (OfBooking slot length title (CancelledBy cancel)) = Some (key_of i room slot length)
+key_kept i room (OfBooking slot length title InErrorLog) = None
+key_kept i room (OfCancel target) = None
+
+abbrev pub key_if_taken : Id → Row → Option IndexKey
+key_if_taken i row = key_kept i row.room row.kept
 
 -- whether the index has a key
 abbrev pub has : BTreeSet IndexKey → IndexKey → Bool
@@ -61,14 +72,18 @@ has index key = contains key_cmp index key
 abbrev pub Grows : BTreeSet IndexKey → BTreeSet IndexKey → Type 0
 Grows old new = (key : IndexKey) → IsTrue (has old key) → IsTrue (has new key)
 
--- the row, if it is a booking, is in the index
+-- the key of the row, if it has one, is in the index
 abbrev pub IsNoted : BTreeSet IndexKey → Id → Row → Type 0
-IsNoted index i row = IsTrue (is_booked row.standing) → IsTrue (has index (key_of i row))
+IsNoted index i row = (key : IndexKey) → key_if_taken i row ≡ Some key → IsTrue (has index key)
 
--- the rows stand in the order of their ids, and each booking of them is in the index
+-- the rows stand in the order of their ids, and the key of each is in the index
 pub record IsIndexed (rows : Rows) (index : BTreeSet IndexKey) : Type 0 where
   pub ordered : IsStrictlySortedBy id_cmp (keys_of rows)
   pub bookings : (i : Id) → IfSome (row_at rows i) (IsNoted index i)
+
+-- an index of the old rows is one of the new ones
+abbrev pub StayIndexed : Rows → Rows → Type 0
+StayIndexed old new = (index : BTreeSet IndexKey) → IsIndexed old index → IsIndexed new index
 
 -- ---- whether a slot is taken
 

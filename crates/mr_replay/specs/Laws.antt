@@ -1,12 +1,15 @@
 -- Laws of boards, as statements.
-use Rattle.std.specs.Prelude.{◌≡◌, List, [], ◌++◌, map, None}
+use Rattle.std.specs.Prelude.{◌≡◌, ℕ, List, [], ◌++◌, map, Some}
 use Rattle.mr_model.specs.Texts.{Text}
-use Rattle.mr_model.specs.Writes.{Write, id_of}
-use Rattle.mr_model.specs.Replay.{replay}
+use Rattle.mr_model.specs.Slots.{Slot}
+use Rattle.mr_model.specs.Writes.{Id, Cancels, Write, id_of}
+use Rattle.mr_model.specs.Replay.{Done, replay}
 use Rattle.mr_model.specs.Board.{replay_on, board_after, places_of_room}
 use Rattle.mr_model.specs.View.{of_room}
-use Rattle.mr_replay.specs.Rows.{Rows, row_at, executed, undo_row_of, undone, executed_all, undo_rows_of, undone_all}
-use Rattle.mr_replay.specs.Holds.{HaveDistinctIds, AreOfRoom, AreNew, HoldsEach, Holds, undo_rows_after}
+use Rattle.mr_replay.specs.declared.rows.Standing.TheVariants.{Booked, CancelledBy}
+use Rattle.mr_replay.specs.declared.rows.Kept.TheVariants.{OfBooking}
+use Rattle.mr_replay.specs.Rows.{Rows, row_at, place_on, executed, undo_row_of, undone, executed_all, undo_rows_of, undone_all}
+use Rattle.mr_replay.specs.Holds.{HaveDistinctIds, AreOfRoom, IsNew, HaveNoRows, AreNew, HoldsEach, Holds, undo_rows_after}
 
 -- one board at most holds these lists
 abbrev pub OneBoard : Type 0
@@ -27,9 +30,23 @@ AnotherOrderHolds =
     (ws vs others : List Write) (b : Rows) → HaveDistinctIds (ws ++ vs) → HaveDistinctIds (ws ++ others) → Holds (ws ++ vs) b
     → Holds (ws ++ others) (executed_all (undone_all b (undo_rows_after ws vs)) others)
 
--- undoing the execution of a write that was not on the board gives the board from before it
+-- undoing the execution of a write whose id was not on the board gives the board from before it
 abbrev pub UndoIsExact : Type 0
-UndoIsExact = (b : Rows) (w : Write) → row_at b (id_of w) ≡ None → undone (executed b w) (undo_row_of b w) ≡ b
+UndoIsExact = (b : Rows) (w : Write) → IsNew b (id_of w) → undone (executed b w) (undo_row_of b w) ≡ b
+
+-- and so does undoing the executions of more of them, the last one first: what was booked in a slot that a cancel made free is
+-- taken away before the cancel's target is booked again
+abbrev pub UndoInReverseIsExact : Type 0
+UndoInReverseIsExact = (b : Rows) (ws : List Write) → AreNew b ws → undone_all (executed_all b ws) (undo_rows_of b ws) ≡ b
+
+-- a cancel that is Done takes its target's booking back, and undoing it brings that back
+abbrev pub CancelsMark : Type 0
+CancelsMark =
+    (b : Rows) (w : Write) (target : Id) (room title : Text) (slot : Slot) (length : ℕ)
+    → IsNew b (id_of w) → w.action ≡ Cancels target → place_on b w ≡ Done
+    → row_at b target ≡ Some (record { room = room; kept = OfBooking slot length title Booked })
+    → (row_at (executed b w) target ≡ Some (record { room = room; kept = OfBooking slot length title (CancelledBy (id_of w)) }))
+    × (row_at (undone (executed b w) (undo_row_of b w)) target ≡ Some (record { room = room; kept = OfBooking slot length title Booked }))
 
 -- writes that do not repeat an id of the list are new to a board that holds it
 abbrev pub OthersAreNew : Type 0
@@ -44,7 +61,7 @@ UndoRowsAreOfTheList =
 abbrev pub UndoRowsAreOfTheRoom : Type 0
 UndoRowsAreOfTheRoom =
     (lists : Text → List Write) (room : Text) (vs : List Write) (b : Rows)
-    → HoldsEach lists b → HaveDistinctIds (lists room) → AreOfRoom room (lists room ++ vs) → AreNew b vs
+    → HoldsEach lists b → HaveDistinctIds (lists room ++ vs) → AreOfRoom room (lists room ++ vs) → HaveNoRows b vs
     → undo_rows_of b vs ≡ undo_rows_after (lists room) vs
 
 -- the places in them are those that the definitions give on the board of the list

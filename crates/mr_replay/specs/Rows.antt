@@ -1,15 +1,17 @@
 -- A board is seen as the list of its rows, in the order of their ids. What its calls do to that list.
-use Rattle.std.specs.Prelude.{Bool, true, false, ◌&&◌, ℕ, List, [], ◌∷◌, map, filter, bytes_eq, Option, Some, None, IsTrue}
+use Rattle.std.specs.Prelude.{Bool, true, false, ◌&&◌, if◌then◌else◌, ℕ, List, [], ◌∷◌, flat_map, bytes_eq, Option, Some, None, option_map, slice_get}
 use Rattle.std.specs.List.{AllByRecursion}
-use Rattle.std.specs.Map.{lookup, remove_entry, values_of}
+use Rattle.std.specs.Map.{lookup, remove_entry}
 use Rattle.std.specs.BTreeMap.{insert_entry}
 use Rattle.mr_model.specs.Texts.{Text}
 use Rattle.mr_model.specs.Slots.{Slot, Overlap, overlaps}
-use Rattle.mr_model.specs.Writes.{Id, Write, id_of, same_id}
-use Rattle.mr_model.specs.Replay.{Place, Booking, place_among, slot_at}
+use Rattle.mr_model.specs.Writes.{Id, Meeting, Action, Books, Cancels, Write, id_of, same_id, choices_of}
+use Rattle.mr_model.specs.Replay.{Place, Taken, Done, Booking, place_among, slot_at}
 use Rattle.mr_base.specs.Ids.{id_cmp}
 use Rattle.mr_replay.specs.declared.rows.Standing.{Standing}
-use Rattle.mr_replay.specs.declared.rows.Standing.TheVariants.{Booked, InErrorLog}
+use Rattle.mr_replay.specs.declared.rows.Standing.TheVariants.{Booked, CancelledBy, InErrorLog}
+use Rattle.mr_replay.specs.declared.rows.Kept.{Kept}
+use Rattle.mr_replay.specs.declared.rows.Kept.TheVariants.{OfBooking, OfCancel}
 use Rattle.mr_replay.specs.declared.rows.Row.{Row}
 use Rattle.mr_replay.specs.Places.{UndoRow}
 
@@ -20,53 +22,138 @@ Rows = List (Id × Row)
 abbrev pub row_at : Rows → Id → Option Row
 row_at b i = lookup (same_id i) b
 
-abbrev pub is_booked : Standing → Bool
-is_booked Booked = true
-is_booked InErrorLog = false
+-- ---- bookings
 
--- whether the row is a booking of the room
-abbrev pub is_booking_of : Text → Row → Bool
-is_booking_of room row = is_booked row.standing && bytes_eq row.room room
+-- the booking of an id, if it is one that stands
+abbrev pub booking_kept : Id → Kept → List Booking
+booking_kept i (OfBooking slot length title Booked) = record { id = i; slot = slot; length = length } ∷ []
+booking_kept i _ = []
 
--- the bookings of a room, as those of the definitions
+abbrev pub booking_in : Text → Id × Row → List Booking
+booking_in room e = if bytes_eq e.1.room room then booking_kept e.0 e.1.kept else []
+
+-- the bookings of a room that stand, as those of the definitions
 abbrev pub bookings_of : Text → Rows → List Booking
-bookings_of room b = map (λ row. record { slot = row.slot; length = row.length }) (filter (is_booking_of room) (values_of b))
+bookings_of room b = flat_map (booking_in room) b
 
--- whether the row is a booking of the room that overlaps the slot
+abbrev pub is_standing : Kept → Bool
+is_standing (OfBooking slot length title Booked) = true
+is_standing _ = false
+
+-- whether the row is a booking of the room that stands
+abbrev pub is_booking_of : Text → Row → Bool
+is_booking_of room row = is_standing row.kept && bytes_eq row.room room
+
+abbrev pub is_kept_in_the_way : Slot → ℕ → Kept → Bool
+is_kept_in_the_way slot length (OfBooking own own_length title Booked) = overlaps slot length own own_length
+is_kept_in_the_way slot length _ = false
+
+-- whether the row is a booking of the room that stands and overlaps the slot
 abbrev pub is_in_the_way : Text → Slot → ℕ → Row → Bool
-is_in_the_way room slot length row = is_booking_of room row && overlaps slot length row.slot row.length
+is_in_the_way room slot length row = is_kept_in_the_way slot length row.kept && bytes_eq row.room room
 
 -- no booking of the room overlaps the slot
 abbrev pub IsFree : Text → Slot → ℕ → Rows → Type 0
-IsFree room slot length b =
-    AllByRecursion (λ row. IsTrue (is_booking_of room row) → ¬ (Overlap slot length row.slot row.length)) (values_of b)
+IsFree room slot length b = AllByRecursion (λ x. ¬ (Overlap slot length x.slot x.length)) (bookings_of room b)
 
--- where a write goes: to its first choice that is free among the bookings of its room
+-- where a write goes by the bookings of its room: a booking to its first choice that is free among them, a cancel by whether its
+-- target is one of them
 abbrev pub place_on : Rows → Write → Place
 place_on b w = place_among (bookings_of w.room b) w
 
--- the row of a write that took a slot: a booking; of one that took none: in the error log, with its wish
-abbrev pub row_with : Write → Option Slot → Row
-row_with w (Some s) = record { room = w.room; slot = s; length = w.length; title = w.title; standing = Booked }
-row_with w None = record { room = w.room; slot = w.wish; length = w.length; title = w.title; standing = InErrorLog }
+-- ---- the row of a write
 
--- the row of a write at its place
-abbrev pub row_of : Write → Place → Row
-row_of w p = row_with w (slot_at w p)
+-- the choice that a meeting has at its place
+abbrev pub choice_at : Meeting → Place → Option Slot
+choice_at m (Taken k) = slice_get (choices_of m) k
+choice_at m _ = None
+
+abbrev pub standing_of : Option Id → Standing
+standing_of None = Booked
+standing_of (Some cancel) = CancelledBy cancel
+
+-- the slot that a booking took, or else its wish
+abbrev pub kept_with : Meeting → Option Slot → Option Id → Kept
+kept_with m None by = OfBooking m.wish m.length m.title InErrorLog
+kept_with m (Some slot) by = OfBooking slot m.length m.title (standing_of by)
+
+-- at its place, with the cancel that took it back. A cancel that is Done has no row: its id stands in its target's row
+abbrev pub kept_for : Write → Action → Place → Option Id → Option Kept
+kept_for w (Books m) p by = Some (kept_with m (slot_at w p) by)
+kept_for w (Cancels target) Done by = None
+kept_for w (Cancels target) _ by = Some (OfCancel target)
+
+abbrev pub row_of : Write → Place → Option Id → Option Row
+row_of w p by = option_map (λ k. record { room = w.room; kept = k }) (kept_for w w.action p by)
+
+-- ---- marks of cancels
+
+-- a booking that stands is taken back by this cancel, and stands again
+abbrev pub mark : Id → Kept → Kept
+mark cancel (OfBooking slot length title Booked) = OfBooking slot length title (CancelledBy cancel)
+mark cancel kept = kept
+
+abbrev pub unmark : Id → Kept → Kept
+unmark cancel (OfBooking slot length title (CancelledBy c)) =
+    OfBooking slot length title (if same_id c cancel then Booked else CancelledBy c)
+unmark cancel kept = kept
+
+abbrev pub change : (Kept → Kept) → Row → Row
+change f row = record { room = row.room; kept = f row.kept }
+
+-- the row of this id changed
+abbrev pub changed : (Kept → Kept) → Id → Rows → Rows
+changed f i [] = []
+changed f i (e ∷ es) = if same_id i e.0 then (e.0, change f e.1) ∷ es else e ∷ changed f i es
 
 -- ---- executing and undoing
 
+abbrev pub target_of : Action → Option Id
+target_of (Books m) = None
+target_of (Cancels target) = Some target
+
+-- what a write took back that went to this place: a cancel that is Done its target
+abbrev pub taken_back : Place → Option Id → Option Id
+taken_back Done target = target
+taken_back _ target = None
+
+abbrev pub marked_with : Id → Option Id → Rows → Rows
+marked_with cancel None b = b
+marked_with cancel (Some target) b = changed (mark cancel) target b
+
+-- with a mark in the row of what was taken back
+abbrev pub marked_by : Id → Place → Option Id → Rows → Rows
+marked_by cancel p target b = marked_with cancel (taken_back p target) b
+
+abbrev pub with_row : Id → Option Row → Rows → Rows
+with_row i None b = b
+with_row i (Some row) b = insert_entry id_cmp b i row
+
+-- the board after a write goes to this place: with a row more, or a mark in its target's row
+abbrev pub executed_at : Rows → Write → Place → Rows
+executed_at b w p = with_row (id_of w) (row_of w p None) (marked_by (id_of w) p (target_of w.action) b)
+
 -- the board after a write is executed
 abbrev pub executed : Rows → Write → Rows
-executed b w = insert_entry id_cmp b (id_of w) (row_of w (place_on b w))
+executed b w = executed_at b w (place_on b w)
 
 -- what undoes that execution
-abbrev pub undo_row_of : Rows → Write → UndoRow
-undo_row_of b w = record { id = id_of w; place = place_on b w }
+abbrev pub undo_row_at : Write → Place → UndoRow
+undo_row_at w p = record { id = id_of w; place = p; target = target_of w.action }
 
--- the board after an execution is undone
+abbrev pub undo_row_of : Rows → Write → UndoRow
+undo_row_of b w = undo_row_at w (place_on b w)
+
+abbrev pub undone_with : Id → Option Id → Rows → Rows
+undone_with i None b = remove_entry (same_id i) b
+undone_with i (Some target) b = changed (unmark i) target b
+
+abbrev pub undone_by : Id → Place → Option Id → Rows → Rows
+undone_by i p target b = undone_with i (taken_back p target) b
+
+-- the board after an execution is undone: without its row, or without its mark
 abbrev pub undone : Rows → UndoRow → Rows
-undone b u = remove_entry (same_id u.id) b
+undone b u = undone_by u.id u.place u.target b
 
 -- the board after these writes are executed, the first of them first
 abbrev pub executed_all : Rows → List Write → Rows

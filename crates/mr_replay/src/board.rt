@@ -7,13 +7,14 @@ ghost use Rattle.mr_model.specs.Replay.{is_free};
 ghost use Rattle.mr_base.specs.Answers.{OrOutOfMemory};
 ghost use Rattle.mr_base.specs.Ids.{id_cmp};
 ghost use Rattle.mr_replay.specs.Places.{place_of};
-ghost use Rattle.mr_replay.specs.Rows.{row_at, bookings_of, IsFree, place_on, executed, undo_row_of, undone, executed_all, undo_rows_of, undone_all};
-ghost use Rattle.mr_replay.specs.Holds.{HaveDistinctIds, AreNew, if_of, HoldsEach, Holds, with_list, undo_row_after, CanReplay};
+ghost use Rattle.mr_replay.specs.Rows.{row_at, bookings_of, IsFree, place_on, marked_by, executed, undo_row_of, undone, executed_all, undo_rows_of, undone_all};
+ghost use Rattle.mr_replay.specs.Holds.{HaveDistinctIds, IsNew, AreNew, if_of, HoldsEach, Holds, with_list, undo_row_after, CanReplay};
 
 use crate::choice::{is_free, place_among};
 use crate::giving_back::remove_row;
-use crate::index::{Index, forget, key_if_booked, note};
-use crate::replay::replay_of;
+use crate::index::{Index, forget, key_if_taken, note};
+use crate::marks::{mark_row, unmark_row};
+use crate::replay::Replay;
 use crate::rows::Rows;
 use crate::{Place, Row, UndoRow};
 use mr_base::{Refusal, RoomName, Slot, Write, WriteId};
@@ -21,7 +22,8 @@ use std::alloc::{AllocError, Global};
 use std::collections::{BTreeMap, BTreeSet};
 use std::marker::Model;
 
-/// The bookings and the error log of all rooms: one row for each write that was executed and not undone.
+/// The bookings and the error log of all rooms: one row for each write that was executed and not undone, but for the cancels that
+/// took a booking back, whose ids stand in the rows of these.
 #[derive(Drop)]
 pub struct Board {
     alloc: Global,
@@ -91,15 +93,19 @@ impl Board {
         ensures only { IfErr result (λ e. e ≡ Refusal.OutOfMemory) }
     {
         note(&mut self.index, id, &row)?;
-        let kept = key_if_booked(id, &row);
+        let kept = key_if_taken(id, &row);
         match self.rows.insert(id, row) {
             Ok(None) => Ok(()),
             Ok(Some(replaced)) => {
-                forget(&mut self.index, key_if_booked(id, &replaced), kept);
+                let gone = key_if_taken(id, &replaced);
+                drop(replaced);
+                forget(&mut self.index, gone, kept);
                 Ok(())
             }
             Err(failed) => {
-                forget(&mut self.index, key_if_booked(id, &failed.value.1), None);
+                let gone = key_if_taken(id, &failed.value.1);
+                drop(failed);
+                forget(&mut self.index, gone, None);
                 Err(Refusal::OutOfMemory)
             }
         }
@@ -114,7 +120,8 @@ impl Board {
         is_free(&self.rows, &self.index, &hidden, room, slot, length)
     }
 
-    /// Where the write would go: to its first choice that is free in its room, else into the error log.
+    /// Where the write would go. A booking: to its first choice that is free in its room, else into the error log. A cancel is done
+    /// where its target is a booking of its room that stands, else void.
     pub fn merge(&self, write: &Write) -> Place
         ensures { place_of result ≡ place_on self.now write.now }
     {
@@ -122,7 +129,7 @@ impl Board {
         place_among(&self.rows, &self.index, &hidden, write)
     }
 
-    /// Executes the write: puts its row at the place that `merge` finds.
+    /// Executes the write at the place that `merge` finds: puts its row, or marks its target's row.
     pub fn execute(&mut self, write: &Write) -> Result<UndoRow, Refusal>
         ensures row { IfOk result (λ row. row ≡ undo_row_of self.old write.now) }
         ensures board { OnOk result (self.new ≡ executed self.old write.now) }
@@ -131,20 +138,33 @@ impl Board {
         ensures err { OnErr result (self.new ≡ self.old) }
         ensures only { IfErr result (λ e. e ≡ Refusal.OutOfMemory) }
     {
-        let id = write.stamp.id();
-        let place = self.merge(write);
-        let row = Row::new(self.alloc, write, place)?;
-        self.put(id, row)?;
-        Ok(UndoRow { id, place })
+        let undo_row = UndoRow::of(write, self.merge(write));
+        match Row::of(self.alloc, write, undo_row.place)? {
+            Some(row) => self.put(undo_row.id, row)?,
+            None => self.mark_target(undo_row),
+        }
+        Ok(undo_row)
     }
 
-    /// Undoes the last execution, which this row is of.
+    /// Marks the row of its target, if this is of a cancel that is done.
+    fn mark_target(&mut self, row: UndoRow)
+        ensures { self.new ≡ marked_by row.id row.place row.target self.old }
+    {
+        if let Some(target) = row.taken_back() {
+            mark_row(&mut self.rows, target, row.id);
+        }
+    }
+
+    /// Undoes the last execution, which this row is of. It takes no memory: what a cancel took back is still there.
     pub fn undo(&mut self, row: UndoRow)
         ensures board { self.new ≡ undone self.old row }
         ensures holds { (ws : List Write) (w : Write) → HaveDistinctIds (ws ++ w ∷ [])
             → row ≡ undo_row_after ws w → Holds (ws ++ w ∷ []) self.old → Holds ws self.new }
     {
-        remove_row(&mut self.rows, &mut self.index, row.id);
+        match row.taken_back() {
+            Some(target) => unmark_row(&mut self.rows, target, row.id),
+            None => remove_row(&mut self.rows, &mut self.index, row.id),
+        }
     }
 
     /// Undoes these executions, the last of them first.
@@ -202,8 +222,8 @@ impl Board {
         ensures only { IfErr result (λ e. e ≡ Refusal.OutOfMemory) }
     {
         let _ = room;
-        let mut replay = replay_of(self.alloc, undone)?;
-        match replay.execute_all(&mut self.rows, &mut self.index, again) {
+        let mut replay = Replay::new(self.alloc);
+        match replay.replay(&mut self.rows, &mut self.index, undone, again) {
             Ok(()) => Ok(replay.finish(&mut self.rows, &mut self.index)),
             Err(refusal) => {
                 replay.give_up(&mut self.rows, &mut self.index, again);
@@ -217,7 +237,7 @@ impl Board {
         ensures rows { OnOk result (rows.new.items ≡ rows.old.items ++ undo_row_of self.old write.now ∷ []) }
         ensures board { OnOk result (self.new ≡ executed self.old write.now) }
         ensures rows_err { OnErr result (rows.new.items ≡ rows.old.items) }
-        ensures board_err { row_at self.old (id_of write.now) ≡ None → OnErr result (self.new ≡ self.old) }
+        ensures board_err { IsNew self.old (id_of write.now) → OnErr result (self.new ≡ self.old) }
         ensures only { IfErr result (λ e. e ≡ Refusal.OutOfMemory) }
     {
         let row = self.execute(write)?;

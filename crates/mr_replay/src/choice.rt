@@ -1,7 +1,10 @@
 ghost use Rattle.std.specs.Prelude.{◌≡◌};
 ghost use Rattle.std.specs.List.{list_any};
-ghost use Rattle.std.specs.Map.{values_of};
-ghost use Rattle.mr_model.specs.Replay.{is_free};
+ghost use Rattle.std.specs.List.Sorted.{IsStrictlySortedBy};
+ghost use Rattle.std.specs.Map.{keys_of, values_of};
+ghost use Rattle.mr_model.specs.Replay.{is_free, is_booked, first_free};
+ghost use Rattle.mr_model.specs.Writes.{choices_of};
+ghost use Rattle.mr_base.specs.Ids.{id_cmp};
 ghost use Rattle.mr_replay.specs.Places.{place_of};
 ghost use Rattle.mr_replay.specs.Rows.{bookings_of, is_in_the_way, place_on};
 ghost use Rattle.mr_replay.specs.Index.{IsIndexed, way_at};
@@ -10,7 +13,7 @@ ghost use Rattle.mr_replay.specs.Hidden.{shown};
 use crate::index::{Index, ends_of};
 use crate::rows::{Hidden, Rows};
 use crate::{Place, Row};
-use mr_base::{RoomName, Slot, Write, WriteId, overlaps};
+use mr_base::{Action, Meeting, RoomName, Slot, Write, WriteId, overlaps};
 use std::collections::{BTreeMap, BTreeSet};
 
 /// Whether some booking of the room overlaps the slot, those of the hidden ids aside.
@@ -71,22 +74,59 @@ pub(crate) fn is_free(
     !is_taken(rows, index, hidden, room, slot, length)
 }
 
-/// Where the write goes among the rows that aren't hidden: to its first choice that is free in its room, else into the error
-/// log.
-pub(crate) fn place_among(rows: &Rows, index: &Index, hidden: &Hidden, write: &Write) -> Place
-    requires { IsIndexed rows.now.entries index.now }
-    ensures { place_of result ≡ place_on (shown hidden.now rows.now.entries) write.now }
+/// Whether a booking of the room with this id stands and isn't hidden.
+fn is_booked(rows: &Rows, hidden: &Hidden, room: &RoomName, id: WriteId) -> bool
+    requires { IsStrictlySortedBy id_cmp (keys_of rows.now.entries) }
+    ensures { result ≡ is_booked id (bookings_of room.now (shown hidden.now rows.now.entries)) }
 {
-    let room = &write.room;
-    if is_free(rows, index, hidden, room, write.wish, write.length) {
+    if hidden.contains(&id) {
+        return false;
+    }
+    match rows.get(&id) {
+        Some(row) => row.is_booking_of(room),
+        None => false,
+    }
+}
+
+/// The first choice of the meeting that is free in the room, those of the hidden ids aside; else the error log.
+fn first_free(
+    rows: &Rows,
+    index: &Index,
+    hidden: &Hidden,
+    room: &RoomName,
+    meeting: &Meeting,
+) -> Place
+    requires { IsIndexed rows.now.entries index.now }
+    ensures { place_of result ≡ first_free (bookings_of room.now (shown hidden.now rows.now.entries))
+        meeting.now.length 0 (choices_of meeting.now) }
+{
+    if is_free(rows, index, hidden, room, meeting.wish, meeting.length) {
         return Place::Taken(0);
     }
     let mut k = 0;
-    for slot in write.alternatives.as_slice() {
+    for slot in meeting.alternatives.as_slice() {
         k += 1;
-        if is_free(rows, index, hidden, room, *slot, write.length) {
+        if is_free(rows, index, hidden, room, *slot, meeting.length) {
             return Place::Taken(k);
         }
     }
     Place::Logged
+}
+
+/// Where the write goes among the rows that aren't hidden. A booking: to its first choice that is free in its room, else into the
+/// error log. A cancel is done where its target is a booking of its room that stands, else void.
+pub(crate) fn place_among(rows: &Rows, index: &Index, hidden: &Hidden, write: &Write) -> Place
+    requires { IsIndexed rows.now.entries index.now }
+    ensures { place_of result ≡ place_on (shown hidden.now rows.now.entries) write.now }
+{
+    match &write.action {
+        Action::Books(meeting) => first_free(rows, index, hidden, &write.room, meeting),
+        Action::Cancels(target) => {
+            if is_booked(rows, hidden, &write.room, *target) {
+                Place::Done
+            } else {
+                Place::Void
+            }
+        }
+    }
 }

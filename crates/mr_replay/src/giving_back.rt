@@ -5,10 +5,10 @@ ghost use Rattle.mr_model.specs.Writes.{same_id};
 ghost use Rattle.mr_base.specs.Ids.{id_cmp};
 ghost use Rattle.mr_replay.specs.declared.rows.Row.{Row as RowOfBoard};
 ghost use Rattle.mr_replay.specs.Rows.{Rows as Board, row_at};
-ghost use Rattle.mr_replay.specs.Index.{IsIndexed, key_if_booked};
+ghost use Rattle.mr_replay.specs.Index.{IsIndexed, key_if_taken};
 ghost use Rattle.mr_replay.specs.Hidden.{shown, put_back, HasPlace, LeadsFrom};
 
-use crate::index::{Index, IndexKey, forget, key_at, key_if_booked, take_out};
+use crate::index::{Index, IndexKey, forget, key_at, key_if_taken, take_out};
 use crate::replay::{Journal, Replay};
 use crate::rows::{Hidden, Rows};
 use crate::{Row, UndoRow};
@@ -67,7 +67,7 @@ pub(crate) fn remove_row(rows: &mut Rows, index: &mut Index, id: WriteId)
     ensures indexed { IsIndexed rows.new.entries index.new }
 {
     if let Some(removed) = rows.remove(&id) {
-        forget(index, key_if_booked(id, &removed), None);
+        forget(index, key_if_taken(id, &removed), None);
     }
 }
 
@@ -106,7 +106,7 @@ fn sweep_replaced(rows: &Rows, index: &mut Index, journal: &Journal)
 {
     for entry in journal.as_slice() {
         if let Some(row) = &entry.1 {
-            sweep(rows, index, key_if_booked(entry.0, row));
+            sweep(rows, index, key_if_taken(entry.0, row));
         }
     }
 }
@@ -131,12 +131,12 @@ fn sweep(rows: &Rows, index: &mut Index, key: Option<IndexKey>)
     }
 }
 
-/// Where the row of this id stands; nowhere, if there is none or it is in the error log.
+/// Where the row of this id stands; nowhere, if there is none or it took no slot.
 fn key_now(rows: &Rows, id: WriteId) -> Option<IndexKey>
-    ensures { (row : RowOfBoard) → row_at rows.now.entries id ≡ Some row → result ≡ key_if_booked id row }
+    ensures { (row : RowOfBoard) → row_at rows.now.entries id ≡ Some row → result ≡ key_if_taken id row }
 {
     match rows.get(&id) {
-        Some(row) => key_if_booked(id, row),
+        Some(row) => key_if_taken(id, row),
         None => None,
     }
 }

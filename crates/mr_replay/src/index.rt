@@ -1,10 +1,10 @@
 ghost use Rattle.std.specs.Prelude.{◌≡◌, OnOk, OnErr, IfErr, IsTrue, Some};
 ghost use Rattle.mr_replay.specs.declared.index.IndexKey.{IndexKey as Key};
-ghost use Rattle.mr_replay.specs.Index.{padded, key_of, first_key, last_key, key_if_booked, has, Grows, IsNoted};
+ghost use Rattle.mr_replay.specs.Index.{padded, key_of, first_key, last_key, key_if_taken, has, Grows, IsNoted};
 
 use crate::rows::slot_at;
-use crate::{Place, Row, Standing};
-use mr_base::{Day, Refusal, RoomName, ServerId, Slot, Write, WriteId};
+use crate::{Kept, Place, Row, Standing};
+use mr_base::{Action, Day, Refusal, RoomName, ServerId, Slot, Write, WriteId};
 use std::alloc::AllocError;
 use std::collections::BTreeSet;
 
@@ -22,17 +22,17 @@ pub(crate) struct IndexKey {
     pub length: u32,
 }
 
-/// The bookings of a board, by day and room.
+/// The bookings of a board, those that a cancel took back too, by day and room.
 pub(crate) type Index = BTreeSet<IndexKey>;
 
-/// Notes the row, if it is a booking.
+/// Notes the row, if it is that of a booking that took its slot.
 pub(crate) fn note(index: &mut Index, id: WriteId, row: &Row) -> Result<(), Refusal>
     ensures noted { OnOk result (IsNoted index.new id row.now) }
     ensures grows { Grows index.old index.new }
     ensures only { IfErr result (λ e. e ≡ Refusal.OutOfMemory) }
 {
-    if row.standing == Standing::Booked {
-        index.insert(key_of(id, row))?;
+    if let Some(key) = key_if_taken(id, row) {
+        index.insert(key)?;
     }
     Ok(())
 }
@@ -56,8 +56,8 @@ pub(crate) fn take_out(index: &mut Index, key: IndexKey, kept: Option<IndexKey>)
 }
 
 /// Where a booking of the room stands.
-fn key(id: WriteId, room: &RoomName, slot: Slot, length: u32) -> IndexKey
-    ensures { result ≡ record { day = slot.day; room = padded room.now; edge = 1; id = id; slot = slot; length = length } }
+fn key_of(id: WriteId, room: &RoomName, slot: Slot, length: u32) -> IndexKey
+    ensures { result ≡ key_of id room.now slot length }
 {
     IndexKey {
         day: slot.day,
@@ -69,28 +69,33 @@ fn key(id: WriteId, room: &RoomName, slot: Slot, length: u32) -> IndexKey
     }
 }
 
-/// Where the row of this id stands, if it is a booking.
-fn key_of(id: WriteId, row: &Row) -> IndexKey
-    ensures { result ≡ key_of id row.now }
-{
-    key(id, &row.room, row.slot, row.length)
-}
-
-/// Where the write stands at its place; nowhere, if it is in the error log.
+/// Where the write stands at its place; nowhere, if it took no slot.
 pub(crate) fn key_at(write: &Write, place: Place) -> Option<IndexKey> {
-    match slot_at(write, place) {
-        Some(slot) => Some(key(write.stamp.id(), &write.room, slot, write.length)),
-        None => None,
+    match (&write.action, slot_at(write, place)) {
+        (Action::Books(meeting), Some(slot)) => {
+            Some(key_of(write.stamp.id(), &write.room, slot, meeting.length))
+        }
+        _ => None,
     }
 }
 
-/// Where it stands; nowhere, if it is in the error log.
-pub(crate) fn key_if_booked(id: WriteId, row: &Row) -> Option<IndexKey>
-    ensures { result ≡ key_if_booked id row.now }
+/// Where the row of this id stands, if it is that of a booking that took its slot.
+pub(crate) fn key_if_taken(id: WriteId, row: &Row) -> Option<IndexKey>
+    ensures { result ≡ key_if_taken id row.now }
 {
-    match row.standing {
-        Standing::Booked => Some(key_of(id, row)),
-        Standing::InErrorLog => None,
+    match &row.kept {
+        Kept::OfBooking {
+            slot,
+            length,
+            standing,
+            ..
+        } => {
+            if *standing == Standing::InErrorLog {
+                return None;
+            }
+            Some(key_of(id, &row.room, *slot, *length))
+        }
+        Kept::OfCancel { .. } => None,
     }
 }
 

@@ -1,4 +1,5 @@
-//! The board: the bookings and the error log of all rooms. It executes writes, undoes them and executes them anew.
+//! The board: the bookings and the error log of all rooms. It executes writes, bookings and cancels, undoes them and executes
+//! them anew.
 //!
 //! It stands on `mr_base`; `mr_replica` keeps a board beside its log of writes. Contracts see a board as the list of its
 //! rows in the order of their ids (specs/Rows.antt); that it holds, room by room, what the replay of a list of writes gives
@@ -9,23 +10,27 @@ mod board;
 mod choice;
 mod giving_back;
 mod index;
+mod marks;
 mod replay;
 mod rows;
 
-ghost use Rattle.mr_replay.specs.Laws.{OneBoard, ExecutingHolds, UndoingHolds, AnotherOrderHolds, UndoIsExact, OthersAreNew, UndoRowsAreOfTheList, UndoRowsAreOfTheRoom, PlacesAreOfTheBoard, RoomsReplayApart};
+ghost use Rattle.mr_replay.specs.Laws.{OneBoard, ExecutingHolds, UndoingHolds, AnotherOrderHolds, UndoIsExact, UndoInReverseIsExact, CancelsMark, OthersAreNew, UndoRowsAreOfTheList, UndoRowsAreOfTheRoom, PlacesAreOfTheBoard, RoomsReplayApart};
 ghost use Rattle.mr_replay.specs.Bookings.{BookingsReplay};
 
 pub use board::Board;
-pub use rows::{Place, Row, Standing, UndoRow};
+pub use rows::{Kept, Place, Row, Standing, UndoRow};
 
 /// A list of writes has one board. Executing writes leads from the board of a list to that of a longer one, undoing them
-/// leads back, and undoing an execution gives just the board from before it.
+/// leads back, and undoing an execution gives just the board from before it. A cancel marks its target's row, and undoing it takes
+/// the mark away.
 pub fn board_law()
     ensures one { OneBoard }
     ensures executed { ExecutingHolds }
     ensures undone { UndoingHolds }
     ensures replaced { AnotherOrderHolds }
     ensures exact { UndoIsExact }
+    ensures reverse { UndoInReverseIsExact }
+    ensures cancels { CancelsMark }
     ensures new { OthersAreNew }
 {}
 

@@ -1,7 +1,7 @@
-// A board's places, worked by hand: requests that are executed in order, and a room that is replayed in another order.
+// A board's places, worked by hand: bookings and cancels that are executed in order, and a room that is replayed in another order.
 
 use mr_base::{Alternatives, Day, Refusal, RoomName, ServerId, Slot, Stamp, Title, Write, WriteId};
-use mr_replay::{Board, Place, Standing, UndoRow};
+use mr_replay::{Board, Kept, Place, Standing, UndoRow};
 use std::alloc::Global;
 use std::test::Fail;
 
@@ -73,30 +73,65 @@ fn are(rows: &[UndoRow], wanted: &[((u32, u32), Place)]) -> bool {
     true
 }
 
-/// Whether the row of a write tells this room, start, length and title.
+/// Whether the row of a booking tells this room, start, length and title.
 fn tells(
     board: &Board,
     numbers: (u32, u32),
-    (room, start): (&str, u32),
-    (length, title): (u32, &str),
+    (in_room, start): (&str, u32),
+    (minutes, named): (u32, &str),
 ) -> Result<bool, Refusal> {
-    match board.row(id(numbers)?) {
-        Some(row) => Ok(
-            row.room.as_str() == room
-                && row.slot.start == start
-                && row.length == length
-                && row.title.as_str() == title,
+    let Some(row) = board.row(id(numbers)?) else {
+        return Err(Refusal::NoSuchRequest);
+    };
+    match &row.kept {
+        Kept::OfBooking {
+            slot,
+            length,
+            title,
+            ..
+        } => Ok(
+            row.room.as_str() == in_room
+                && slot.start == start
+                && *length == minutes
+                && title.as_str() == named,
         ),
-        None => Err(Refusal::NoSuchRequest),
+        Kept::OfCancel { .. } => Ok(false),
     }
 }
 
-/// The start and the standing on the row of a write.
+/// The start and the standing on the row of a booking.
 fn row_of(board: &Board, numbers: (u32, u32)) -> Result<(u32, Standing), Refusal> {
-    match board.row(id(numbers)?) {
-        Some(row) => Ok((row.slot.start, row.standing)),
-        None => Err(Refusal::NoSuchRequest),
+    let Some(row) = board.row(id(numbers)?) else {
+        return Err(Refusal::NoSuchRequest);
+    };
+    match &row.kept {
+        Kept::OfBooking { slot, standing, .. } => Ok((slot.start, *standing)),
+        Kept::OfCancel { .. } => Err(Refusal::NoSuchRequest),
     }
+}
+
+/// What the row of a cancel has as its target, if there is such a row.
+fn target_of(board: &Board, numbers: (u32, u32)) -> Result<Option<WriteId>, Refusal> {
+    let Some(row) = board.row(id(numbers)?) else {
+        return Ok(None);
+    };
+    match &row.kept {
+        Kept::OfBooking { .. } => Ok(None),
+        Kept::OfCancel { target } => Ok(Some(*target)),
+    }
+}
+
+/// A cancel for a room.
+fn cancel(
+    alloc: Global,
+    numbers: (u32, u32),
+    room: &str,
+    target: (u32, u32),
+) -> Result<Write, Refusal> {
+    let Some(stamp) = Stamp::new(id(numbers)?, 1) else {
+        return Err(Refusal::ClockExhausted);
+    };
+    Ok(Write::cancel(stamp, RoomName::new(alloc, room)?, id(target)?))
 }
 
 static PLACES: [((u32, u32), Place); 9] = [
@@ -187,5 +222,123 @@ fn a_room_is_replayed_in_another_order(rt: HostRuntime) -> Result<(), Fail> {
     copy.undo_all(rows.as_slice());
     assert!(rt; copy.row(elm.id).is_some() && copy.row(xray.stamp.id()).is_none());
     assert!(rt; board.row(xray.stamp.id()).is_some());
+    Ok(())
+}
+
+/// Alpha at 09:00; Beta at 09:00, else at 10:00; a cancel of Alpha; Gamma at 09:00; another cancel of Alpha, one of Gamma that
+/// is for another room, and one of a cancel.
+fn with_cancels(alloc: Global) -> Result<Vec<Write>, Refusal> {
+    let oak = ("oak", MONDAY);
+    let mut list = Vec::new(alloc);
+    list.push(request(alloc, (1, 1), oak, (60, 540), &[])?)?;
+    list.push(request(alloc, (1, 2), oak, (60, 540), &[600])?)?;
+    list.push(cancel(alloc, (1, 3), "oak", (1, 1))?)?;
+    list.push(request(alloc, (1, 4), oak, (60, 540), &[])?)?;
+    list.push(cancel(alloc, (1, 5), "oak", (1, 1))?)?;
+    list.push(cancel(alloc, (1, 6), "elm", (1, 4))?)?;
+    list.push(cancel(alloc, (1, 7), "oak", (1, 3))?)?;
+    Ok(list)
+}
+
+static CANCELLED: [((u32, u32), Place); 7] = [
+    ((1, 1), Place::Taken(0)),
+    ((1, 2), Place::Taken(1)),
+    ((1, 3), Place::Done),
+    ((1, 4), Place::Taken(0)),
+    ((1, 5), Place::Void),
+    ((1, 6), Place::Void),
+    ((1, 7), Place::Void),
+];
+
+#[test]
+fn a_cancel_takes_its_target_back_and_is_undone(rt: HostRuntime) -> Result<(), Fail> {
+    let writes = with_cancels(rt.alloc())?;
+    let mut board = Board::new(rt.alloc());
+    let rows = board.redo_from(writes.as_slice())?;
+    assert!(rt; are(rows.as_slice(), &CANCELLED));
+    let gone = Standing::CancelledBy(id((1, 3))?);
+    assert_eq!(rt; row_of(&board, (1, 1)), Ok((540, gone)));
+    assert_eq!(rt; row_of(&board, (1, 4)), Ok((540, Standing::Booked)));
+    assert_eq!(rt; target_of(&board, (1, 3)), Ok(None));
+    assert_eq!(rt; target_of(&board, (1, 5)), Ok(Some(id((1, 1))?)));
+    let late = rows.as_slice().get(2..).unwrap_or(&[]);
+    undo_each(&mut board, late);
+    assert_eq!(rt; row_of(&board, (1, 1)), Ok((540, Standing::Booked)));
+    assert_eq!(rt; board.len(), 2);
+    let slot = Slot::new(Day::read(MONDAY)?, 540)?;
+    let oak = RoomName::new(rt.alloc(), "oak")?;
+    assert!(rt; !board.check(&oak, slot, 60));
+    Ok(())
+}
+
+#[test]
+fn a_cancel_in_front_of_its_target_takes_nothing_back(rt: HostRuntime) -> Result<(), Fail> {
+    let alloc = rt.alloc();
+    let early = cancel(alloc, (2, 2), "oak", (2, 1))?;
+    let alpha = request(alloc, (2, 1), ("oak", MONDAY), (60, 540), &[])?;
+    let mut board = Board::new(alloc);
+    assert_eq!(rt; board.execute(&early)?.place, Place::Void);
+    assert_eq!(rt; board.execute(&alpha)?.place, Place::Taken(0));
+    assert_eq!(rt; row_of(&board, (2, 1)), Ok((540, Standing::Booked)));
+    assert_eq!(rt; target_of(&board, (2, 2)), Ok(Some(id((2, 1))?)));
+    Ok(())
+}
+
+static WITH_XRAY: [((u32, u32), Place); 3] = [
+    ((1, 1), Place::Taken(0)),
+    ((2, 1), Place::Logged),
+    ((2, 2), Place::Void),
+];
+
+static XRAY_ALONE: [((u32, u32), Place); 1] = [((1, 1), Place::Logged)];
+
+static CANCEL_FIRST: [((u32, u32), Place); 2] = [((2, 2), Place::Done), ((1, 1), Place::Taken(0))];
+
+/// Xray at 09:30; Alpha at 09:00; a cancel of Alpha.
+fn overlapping(alloc: Global) -> Result<Vec<Write>, Refusal> {
+    let mut list = Vec::new(alloc);
+    list.push(request(alloc, (1, 1), ("oak", MONDAY), (60, 570), &[])?)?;
+    list.push(request(alloc, (2, 1), ("oak", MONDAY), (60, 540), &[])?)?;
+    list.push(cancel(alloc, (2, 2), "oak", (2, 1))?)?;
+    Ok(list)
+}
+
+#[test]
+fn a_room_is_replayed_with_its_cancels(rt: HostRuntime) -> Result<(), Fail> {
+    let alloc = rt.alloc();
+    let oak = RoomName::new(alloc, "oak")?;
+    let writes = overlapping(alloc)?;
+    let [xray, alpha, gone] = writes.as_slice() else {
+        return Err(Fail::new("there are three writes"));
+    };
+    let mut board = Board::new(alloc);
+    board.execute(alpha)?;
+    let undone = [board.execute(gone)?];
+    assert_eq!(rt; board.merge(xray), Place::Taken(0));
+    // without the cancel Alpha stands again, and Xray is logged
+    let again = writes.as_slice().get(..1).unwrap_or(&[]);
+    let rows = board.replay_room(&oak, undone.as_slice(), again)?;
+    assert!(rt; are(rows.as_slice(), &XRAY_ALONE));
+    assert_eq!(rt; row_of(&board, (2, 1)), Ok((540, Standing::Booked)));
+    // with it executed in front of Xray, Xray has its slot
+    let again = [gone.copy(alloc)?, xray.copy(alloc)?];
+    let rows = board.replay_room(&oak, rows.as_slice(), again.as_slice())?;
+    assert!(rt; are(rows.as_slice(), &CANCEL_FIRST));
+    assert_eq!(rt; row_of(&board, (1, 1)), Ok((570, Standing::Booked)));
+    Ok(())
+}
+
+#[test]
+fn a_write_in_front_changes_what_a_cancel_finds(rt: HostRuntime) -> Result<(), Fail> {
+    let alloc = rt.alloc();
+    let oak = RoomName::new(alloc, "oak")?;
+    let writes = overlapping(alloc)?;
+    let mut board = Board::new(alloc);
+    let late = writes.as_slice().get(1..).unwrap_or(&[]);
+    let undone = board.redo_from(late)?;
+    let rows = board.replay_room(&oak, undone.as_slice(), writes.as_slice())?;
+    assert!(rt; are(rows.as_slice(), &WITH_XRAY));
+    assert_eq!(rt; row_of(&board, (2, 1)), Ok((540, Standing::InErrorLog)));
+    assert_eq!(rt; target_of(&board, (2, 2)), Ok(Some(id((2, 1))?)));
     Ok(())
 }

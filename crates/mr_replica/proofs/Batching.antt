@@ -1,27 +1,35 @@
 -- The items of a batch that is made.
-use Rattle.std.proofs.Common.{◌≡◌, ℕ, zero, suc, ◌+◌, ◌-◌, ◌<◌, ◌≤◌, ◌==◌, min, nat_lt, not, Bool, true, false, cond, List, [], ◌∷◌, ◌++◌, length, map, take, drop, Some, ap, refl, sym, ◌∙◌, subst, append_assoc, append-nil, inl, inr, arith}
+use Rattle.std.proofs.Common.{◌≡◌, ℕ, zero, suc, ◌+◌, ◌-◌, ◌<◌, ◌≤◌, ◌==◌, min, nat_lt, not, Bool, true, false, cond, List, [], ◌∷◌, ◌++◌, length, map, take, drop, Some, ap, refl, sym, ◌∙◌, subst, append_assoc, append-nil, ◌⊎◌, ◌&&◌, inl, inr, arith}
 use Rattle.std.specs.Prelude.{flat_map}
-use Rattle.std.specs.List.{filter_map, cons_option, enumerate_from}
+use Rattle.std.specs.List.{filter_map, cons_option, enumerate_from, list_any, list_all}
 use Rattle.std.proofs.Math.Seq.{take-append_seam}
+use Rattle.std.proofs.lemmas.Bool.{true≢false, or_cases}
 use Rattle.std.proofs.lemmas.Bool.Decides.{nat_tests}
 use Rattle.std.proofs.lemmas.List.{length-append, length-map, length-take, map-append, take_all, take-append-drop}
-use Rattle.mr_model.specs.Writes.{Id, Write, id_of}
+use Rattle.mr_model.specs.Writes.{Id, Write, id_of, is_write}
 use Rattle.mr_model.specs.Exchange as model
 use Rattle.mr_model.specs.Positions.{Position}
 use Rattle.mr_model.specs.Replica.{Replica, IsReplica, write_with, tentative}
-use Rattle.mr_model.specs.Refusals.{WrongPrimary, Truncated, first_refusal}
-use Rattle.mr_model.specs.Replies.{BatchIs}
+use Rattle.mr_model.specs.Refusals.{WrongPrimary, Truncated, NeedsVersion2, first_refusal}
+use Rattle.mr_model.specs.Replies.{Reply, BatchIs}
 use Rattle.mr_model.specs.Kept.{kept_in_order}
 use Rattle.mr_model.specs.Dropped.{Has}
-use Rattle.mr_model.specs.Step.{item_if_lacked, commit_items, items_for, batch_of, batch_unless, batch_reply}
+use Rattle.mr_model.specs.Step.{item_if_lacked, commit_items, items_for, is_untold, batch_of, batch_unless, batch_reply}
+use Rattle.mr_model.proofs.BatchItems.{list_of_all, IsOwn, items_own}
+use Rattle.mr_model.proofs.Fronts.{all_take}
 use Rattle.mr_model.proofs.Members.{has_right}
+use Rattle.mr_model.proofs.OrderedSets.{all_map}
 use Rattle.mr_model.proofs.KnownById.{known_with, commit_found}
-use Rattle.mr_model.proofs.RoomPlaces.{kept_committed}
+use Rattle.mr_model.proofs.TakingKeeps.{IsItem}
 use Rattle.mr_model.proofs.TwinChanges.{drop-add}
+use Rattle.mr_base.specs.Answers.{ok_if}
 use Rattle.mr_base.specs.declared.batches.Item.{Item}
+use Rattle.mr_base.specs.declared.refusals.Refusal.TheVariants as refusal
 use Rattle.mr_base.specs.Batches as base
 use Rattle.mr_base.specs.Batches.{item_of}
-use Rattle.mr_replica.specs.Outgoing.{Offers, committed_items, lacked_items, kept_items, ending_by, batch_with}
+use Rattle.mr_replica.specs.ChangeLaws.{kept_committed}
+use Rattle.mr_replica.specs.Desk.{reply_with}
+use Rattle.mr_replica.specs.Outgoing.{Offers, committed_items, lacked_items, kept_items, ending_by}
 use Rattle.mr_tables.specs.Summary.{summary_of, committed_len}
 use Rattle.mr_replica.proofs.Desks.{committed_kept, tentative_kept}
 
@@ -92,18 +100,53 @@ items-kept a p sound low =
     let front : take (committed_len (summary_of a) (kept_in_order a)) (kept_in_order a) ≡ kept_committed a = ap (λ n. take n (kept_in_order a)) (committed_kept a sound) ∙ take-append_seam (kept_committed a) (tentative a) in
     (λ t. committed_items p (p.commits + 1) (drop (p.commits - a.dropped) (front t)) ++ lacked_items p (tentative_kept a sound t)) ∙ sym (items-made a p sound low)
 
--- ---- the batch
+-- ---- what the text can say
 
--- the one with such items
-pub batch_offered : (from primary limit : ℕ) (items : List model.Item) (there : List Item) (more : Bool) → Offers limit items there more → base.batch_of (Some (from, primary)) there (ending_by more) ≡ batch_with from primary limit items
-batch_offered from primary limit items there more o =
-    let e = ending more ∙ ap (λ b. cond b model.More model.Complete) o.rest in
-    λ t. record { header = Some (record { from = from; primary = primary }); items = o.first t; ending = e t }
+untold_item : (x : model.Item) → is_untold x ≡ true → model.is_item x ≡ false
+untold_item (model.W w) e = go (is_write w) (model.is_told_write w) e
   where
+    go : (g t : Bool) → not t ≡ true → (g && t) ≡ false
+    go true true e = sym e
+    go true false e = refl
+    go false t e = refl
+untold_item (model.C seq id) e = absurd (true≢false (sym e))
+
+untold_items : (xs : List model.Item) → list_any is_untold xs ≡ true → list_all model.is_item xs ≡ false
+untold_items [] e = absurd (true≢false (sym e))
+untold_items (x ∷ xs) e = go (or_cases (is_untold x) (list_any is_untold xs) e) (untold_items xs)
+  where
+    behind : (b : Bool) → (b && false) ≡ false
+    behind true = refl
+    behind false = refl
+
+    go : (is_untold x ≡ true) ⊎ (list_any is_untold xs ≡ true) → (list_any is_untold xs ≡ true → list_all model.is_item xs ≡ false) → (model.is_item x && list_all model.is_item xs) ≡ false
+    go (inl f) ih = ap (λ b. b && list_all model.is_item xs) (untold_item x f)
+    go (inr f) ih = ap (λ b. model.is_item x && b) (ih f) ∙ behind (model.is_item x)
+
+-- a replica's items can be said where the text can tell all their writes
+items_said : (a : Replica) (p : Position) (m : ℕ) → IsReplica a → list_all model.is_item (take m (items_for a p)) ≡ not (list_any is_untold (take m (items_for a p)))
+items_said a p m sound = go (list_any is_untold (take m (items_for a p))) refl
+  where
+    go : (b : Bool) → list_any is_untold (take m (items_for a p)) ≡ b → list_all model.is_item (take m (items_for a p)) ≡ not b
+    go true e = untold_items (take m (items_for a p)) e
+    go false e = list_of_all (take m (items_for a p)) (all_map (IsOwn a sound) IsItem (λ x o. o.0) (take m (items_for a p)) (all_take (IsOwn a sound) m (items_for a p) (items_own a sound p))) e
+
+-- the batch that is made of them, or the refusal of one that the text can't say
+pub batch_made : (a : Replica) (p : Position) (m : ℕ) (there : List Item) (more : Bool) → IsReplica a → (p.primary == a.primary) ≡ true → nat_lt p.commits a.dropped ≡ false → Offers m (items_for a p) there more → reply_with BatchIs (ok_if (list_all model.is_item (map item_of there)) (base.batch_of (Some (a.server, a.primary)) there (ending_by more)) refusal.NeedsVersion2) ≡ batch_reply a p m
+batch_made a p m there more sound own whole o =
+    let e = ending more ∙ ap (λ b. cond b model.More model.Complete) o.rest in
+    (λ t. made (list_all model.is_item (o.first t)) (record { header = Some (record { from = a.server; primary = a.primary }); items = o.first t; ending = e t }))
+    ∙ ap (λ b. made b (batch_of a p m)) (items_said a p m sound)
+    ∙ go (list_any is_untold (take m (items_for a p)))
+    ∙ (λ t. batch_unless (first_refusal ((not (sym own t), WrongPrimary) ∷ (sym whole t, Truncated) ∷ (list_any is_untold (batch_of a p m).items, NeedsVersion2) ∷ [])) (batch_of a p m))
+  where
+    made : Bool → model.Batch → Reply
+    made b batch = reply_with BatchIs (ok_if b batch refusal.NeedsVersion2)
+
     ending : (b : Bool) → base.ending_of (ending_by b) ≡ cond b model.More model.Complete
     ending true = refl
     ending false = refl
 
--- that of the definitions
-pub batch_made : (a : Replica) (p : Position) (m : ℕ) → (p.primary == a.primary) ≡ true → nat_lt p.commits a.dropped ≡ false → BatchIs (batch_with a.server a.primary m (items_for a p)) ≡ batch_reply a p m
-batch_made a p m own whole = λ t. batch_unless (first_refusal ((not (sym own t), WrongPrimary) ∷ (sym whole t, Truncated) ∷ [])) (batch_of a p m)
+    go : (b : Bool) → made (not b) (batch_of a p m) ≡ batch_unless (first_refusal ((b, NeedsVersion2) ∷ [])) (batch_of a p m)
+    go true = refl
+    go false = refl

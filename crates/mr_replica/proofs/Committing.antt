@@ -15,13 +15,12 @@ use Rattle.mr_model.specs.Step.{commit, step_unless}
 use Rattle.mr_model.proofs.KnownById.{numbered_writes, tentative_known}
 use Rattle.mr_model.proofs.RowsById.{server_bounds, known_write}
 use Rattle.mr_model.proofs.CommitsKeep.{tentative_of, drop-numbers_on, keeps-commit}
-use Rattle.mr_model.proofs.CommandPlaces.{tentative-commit, order-commit}
-use Rattle.mr_model.proofs.LogOrder.{order-parts}
-use Rattle.mr_model.proofs.TwinChanges.{with_commits}
+use Rattle.mr_model.proofs.DroppedApart.{order-parts}
 use Rattle.mr_model.proofs.Fronts.{take-front}
+use Rattle.mr_model.proofs.Orders.{with_commits, tentative-commit, order-commit}
 use Rattle.mr_replica.specs.Log.{log_of}
 use Rattle.mr_tables.specs.Summary.{summary_of, noted_commits}
-use Rattle.mr_replica.specs.Desk.{desk_of, old_errors_of}
+use Rattle.mr_replica.specs.Desk.{desk_of, old_errors_of, old_cancels_of}
 use Rattle.mr_tables.proofs.Summaries.{summary-commit}
 use Rattle.mr_replica.proofs.Desks.{desk_with, kept_is}
 
@@ -81,5 +80,5 @@ module _ (a : Replica) (k : ℕ) (sound : IsReplica a) where
   kept-commit = kept_is a (after_commit a k) (kept_in_order a) dropped-commit (order-commit a k sound ∙ order-parts a)
 
   -- nothing moves in the log
-  pub desk-committed : desk_with (noted_commits (summary_of a) (map id_of (take k (tentative a)))) a.rooms (desk_of a).log (desk_of a).old_errors ≡ desk_of (after_commit a k)
-  desk-committed = λ i. desk_with (summary-commits k a sound i) a.rooms (log_of (sym dropped-commit i) (sym kept-commit i)) (old_errors_of (sym dropped-commit i))
+  pub desk-committed : desk_with (noted_commits (summary_of a) (map id_of (take k (tentative a)))) a.rooms (desk_of a).log (desk_of a).old_errors (desk_of a).old_cancels ≡ desk_of (after_commit a k)
+  desk-committed = λ i. desk_with (summary-commits k a sound i) a.rooms (log_of (sym dropped-commit i) (sym kept-commit i)) (old_errors_of (sym dropped-commit i)) (old_cancels_of (sym dropped-commit i))

@@ -11,34 +11,28 @@ use Rattle.mr_model.specs.Replica.{Replica, IsReplica, committed, tentative, ord
 use Rattle.mr_model.specs.Exchange.{Item}
 use Rattle.mr_model.specs.Kept.{dropped_in_order, kept_in_order}
 use Rattle.mr_model.specs.RowsInScope.{kept_commits}
-use Rattle.mr_model.specs.View.{of_room}
-use Rattle.mr_model.specs.Tables.{seq_of, place_of, tables_of}
+use Rattle.mr_model.specs.View.{of_room, place_of}
+use Rattle.mr_model.specs.Tables.{seq_of, tables_of}
 use Rattle.mr_model.specs.Dropped.{Has}
-use Rattle.mr_model.specs.Scopes.{is_touched}
 use Rattle.mr_model.specs.Moving.{may_move, again, BatchMoves}
 use Rattle.mr_model.proofs.KnownById.{one_known, tentative_known, committed_known, tentative_sorted}
-use Rattle.mr_model.proofs.LogOrder.{order-parts, kept_known}
+use Rattle.mr_model.proofs.DroppedApart.{order-parts, kept_known, committed-parts, order_known}
 use Rattle.mr_model.proofs.Members.{Distinct, sorted_same, sorted_filter, has_left, has_right, has_split, has_filter, filter_has, has_map, map_has, has_among, not_among, among_not, distinct_append, distinct_parts}
 use Rattle.mr_model.proofs.OrderedSets.{Before, before-true, before_from, before_trans}
-use Rattle.mr_model.proofs.ReceivedPlaces.{append_split}
-use Rattle.mr_model.proofs.RoomPlaces.{distinct_filter, known_in_order, committed-parts}
-use Rattle.mr_model.proofs.RowsTell.{order_known}
-use Rattle.mr_replay.specs.Places.{UndoRow}
-use Rattle.mr_replay.specs.Rows.{Rows, executed_all, undone_all, undo_rows_of}
-use Rattle.mr_replay.specs.Holds.{HaveDistinctIds, HoldsIn, Holds}
-use Rattle.mr_replay.specs.Bookings.{if_booked}
-use Rattle.mr_replay.proofs.Holding.{Holds-empty, Holds-executed_all}
+use Rattle.mr_model.proofs.Orders.{append_split}
+use Rattle.mr_model.proofs.PlacesOfOrder.{distinct_filter, known_in_order}
+use Rattle.mr_replay.specs.Rows.{undo_row_at, undo_rows_of}
+use Rattle.mr_replay.specs.Holds.{HaveDistinctIds, if_of, Holds}
 use Rattle.mr_replay.proofs.Lists.{distinct-part, same_name}
 use Rattle.mr_replay.proofs.OneBoard.{one_board}
-use Rattle.mr_replay.proofs.RoomBookings.{in_order-undone_all}
-use Rattle.mr_replica.specs.Desk.{desk_of}
 use Rattle.mr_replica.specs.Moves.{AreTouched, moves_in}
 use Rattle.mr_replica.specs.Logged.{undo_with}
-use Rattle.mr_replica.proofs.DeskRows.{order_distinct, dropped_long}
+use Rattle.mr_replica.proofs.DeskNumbers.{order_distinct, dropped_long}
 use Rattle.mr_replica.proofs.Moves.{none_passes, all_pass, moves_not, moves_as}
-use Rattle.mr_replica.proofs.Logs.{executed_all-append}
-use Rattle.mr_replica.proofs.MovedWrites.{moving, apart, last}
-use Rattle.mr_replica.proofs.RoomBoards.{holds_undone, places_executed}
+use Rattle.mr_replica.proofs.BatchBoards.{moving, board_left, board_anew, ShowsAnew, replayed}
+use Rattle.mr_replica.proofs.DeskBoards.{board_of, board-told}
+use Rattle.mr_replica.proofs.Replays.{whole_view}
+use Rattle.mr_tables.proofs.BoardsTold.{board_told}
 
 -- ---- lists
 
@@ -46,16 +40,6 @@ use Rattle.mr_replica.proofs.RoomBoards.{holds_undone, places_executed}
 filter_same : {A : Type 0} (p q : A → Bool) (xs : List A) → ((x : A) → Has x xs → p x ≡ q x) → filter p xs ≡ filter q xs
 filter_same p q [] e = refl
 filter_same p q (x ∷ xs) e = λ i. cond (e x (inl refl) i) (x ∷ filter_same p q xs (λ y h. e y (inr h)) i) (filter_same p q xs (λ y h. e y (inr h)) i)
-
-filter-comm : {A : Type 0} (p q : A → Bool) (xs : List A) → filter p (filter q xs) ≡ filter q (filter p xs)
-filter-comm {A} p q [] = refl
-filter-comm {A} p q (x ∷ xs) = go (p x) refl (q x) refl (filter-comm p q xs)
-  where
-    go : (b : Bool) → p x ≡ b → (c : Bool) → q x ≡ c → filter p (filter q xs) ≡ filter q (filter p xs) → filter p (cond c (x ∷ filter q xs) (filter q xs)) ≡ filter q (cond b (x ∷ filter p xs) (filter p xs))
-    go true e true f ih = cond-true (p x) (x ∷ filter p (filter q xs)) (filter p (filter q xs)) e ∙ ap (λ (ys : List A). x ∷ ys) ih ∙ sym (cond-true (q x) (x ∷ filter q (filter p xs)) (filter q (filter p xs)) f)
-    go true e false f ih = ih ∙ sym (cond-false (q x) (x ∷ filter q (filter p xs)) (filter q (filter p xs)) f)
-    go false e true f ih = cond-false (p x) (x ∷ filter p (filter q xs)) (filter p (filter q xs)) e ∙ ih
-    go false e false f ih = ih
 
 map_same : {A B : Type 0} (f g : A → B) (xs : List A) → ((x : A) → Has x xs → f x ≡ g x) → map f xs ≡ map g xs
 map_same f g [] e = refl
@@ -67,6 +51,10 @@ twice xs ys v d f g = (distinct_parts (map id_of xs) (map id_of ys) (subst Disti
 
 room_own : (w : Write) (ws : List Write) → Has w ws → Has w (of_room w.room ws)
 room_own w ws h = has_filter (λ (v : Write). bytes_eq v.room w.room) w ws (same_name w.room w.room refl) h
+
+-- the board of a replica holds its order
+pub board_holds : (r : Replica) → IsReplica r → Holds (order_of r) (board_of r)
+board_holds r h = subst (Holds (order_of r)) (sym (board-told r h)) (board_told r h)
 
 module _ (a b : Replica) (items : List Item) (m : BatchMoves a b items) (sound : IsReplica a) where
   abbrev stays : Write → Bool
@@ -103,6 +91,9 @@ module _ (a b : Replica) (items : List Item) (m : BatchMoves a b items) (sound :
 
   not_moving : (w : Write) → stays w ≡ true → may_move a items w ≡ false
   not_moving w e = not-true (may_move a items w) e
+
+  whole : Holds (order_of a) (board_of a) → ShowsAnew a b items m sound (λ room. true) (λ w h. refl) (λ w h. refl) if_of (λ o. o) (board_of a)
+  whole holds = replayed a b items m sound (λ room. true) (λ w h. refl) (λ w h. refl) if_of (λ o. o) (board_of a) whole_view holds.ordered (λ room t. holds.rooms room)
 
   -- the tentative writes that may not move stay as they are
   pub stays_same : filter stays (tentative a) ≡ filter stays (tentative b)
@@ -243,7 +234,7 @@ module _ (a b : Replica) (items : List Item) (m : BatchMoves a b items) (sound :
 
           go : Has w anew ⊎ (Has w a.known × (place_of a w ≡ place_of b w) × (seq_of a w ≡ seq_of b w)) → undo_with (place_of a) w ≡ undo_with (place_of b) w
           go (inl g) = absurd (true≢false (sym (has_among (id_of w) (map id_of anew) (has_map id_of w anew g)) ∙ not-true (is_new w) f.1))
-          go (inr g) = λ i. record { id = id_of w; place = g.1 i }
+          go (inr g) = ap (undo_row_at w) g.1
 
   -- the rows of those that stay, picked from all
   pub others_rows : (touched : List Text) → AreTouched touched a items → map (undo_with (place_of a)) (filter (λ w. not (seq_of a w == 0 && moves_in touched items (length a.commits) w)) (kept_in_order a)) ≡ map (undo_with (place_of b)) (filter (λ w. not (is_new w)) (kept_in_order b))
@@ -256,75 +247,11 @@ module _ (a b : Replica) (items : List Item) (m : BatchMoves a b items) (sound :
 
   -- ---- the board
 
-  abbrev left : List Write
-  left = filter (λ w. not (is_among (id_of w) (map id_of (moving a items a)))) (order_of a)
+  -- they get the places that the second replica gives them, and the board is that of the second replica
+  pub new_places : map (λ u. u.place) (undo_rows_of (board_left a items (board_of a)) anew) ≡ map (place_of b) anew
+  new_places = (whole (board_holds a sound)).places
 
-  -- what is left of a room is its front
-  front_is : (room : Text) → (m.rooms room).front ≡ of_room room left
-  front_is room =
-      let keep = λ (w : Write). not (is_among (id_of w) (map id_of (moving a items a))) in
-      let front = (m.rooms room).front in
-      let mine = of_room room (moving a items a) in
-      sym (append-nil front)
-      ∙ (λ i.
-      (sym (all_pass front) ∙ filter_same (λ w. true) keep front (λ w h. sym (ap not (stays_out w h)))) i
-      ++ (sym (none_passes mine) ∙ filter_same (λ w. false) keep mine (λ w h. sym (ap not (goes_out w h)))) i)
-      ∙ sym (filter-append keep front mine)
-      ∙ ap (filter keep) (sym (m.rooms room).was)
-      ∙ filter-comm keep (λ (w : Write). bytes_eq w.room room) (order_of a)
-    where
-      stays_out : (w : Write) → Has w (m.rooms room).front → is_among (id_of w) (map id_of (moving a items a)) ≡ false
-      stays_out w h =
-          not_among (id_of w) (map id_of (moving a items a)) (λ g.
-          let (v, k, e) = map_has id_of (id_of w) (moving a items a) g in
-          among_not (id_of v) (map id_of (m.rooms room).front) (apart a b items m sound room v k) (subst (λ i. Has i (map id_of (m.rooms room).front)) e (has_map id_of w (m.rooms room).front h)))
-
-      goes_out : (w : Write) → Has w (of_room room (moving a items a)) → is_among (id_of w) (map id_of (moving a items a)) ≡ true
-      goes_out w h = has_among (id_of w) (map id_of (moving a items a)) (has_map id_of w (moving a items a) (filter_has (λ (v : Write). bytes_eq v.room room) w (moving a items a) h).0)
-
-  -- the board of a replica holds its order
-  board_holds : (r : Replica) → IsReplica r → Holds (order_of r) (desk_of r).log.board
-  board_holds r h =
-      subst (λ (ws : List Write). Holds ws (desk_of r).log.board) (sym (order-parts r))
-      (subst (λ (c : Rows). Holds (dropped_in_order r ++ kept_in_order r) c) (executed_all-append [] (dropped_in_order r) (kept_in_order r)) (Holds-executed_all [] (dropped_in_order r ++ kept_in_order r) [] (order_distinct r h) Holds-empty))
-
-  module _ (us : List UndoRow) (named : map (λ u. u.id) us ≡ map id_of (moving a items a)) where
-    abbrev board : Rows
-    board = undone_all (desk_of a).log.board us
-
-    room_left : (room : Text) → HoldsIn room (m.rooms room).front board
-    room_left room =
-        holds_undone room (m.rooms room).front (moving a items a) us (desk_of a).log.board named (apart a b items m sound room) (board_holds a sound).ordered
-        (subst (λ (vs : List Write). HoldsIn room vs (desk_of a).log.board) (m.rooms room).was ((board_holds a sound).rooms room))
-
-    -- they get the places that the second replica gives them
-    pub new_places : map (λ u. u.place) (undo_rows_of board anew) ≡ map (place_of b) anew
-    new_places =
-        places_executed b (is_touched (tables_of a) items) (λ room. (m.rooms room).front) anew board (last a b items m sound) (in_order-undone_all us (desk_of a).log.board (board_holds a sound).ordered)
-        (λ room t q. ap if_booked (room_left room q))
-
-    ids_again : HaveDistinctIds (left ++ anew)
-    ids_again =
-        subst Distinct (sym (map-append id_of left anew))
-        (distinct_append (map id_of left) (map id_of anew) (distinct_filter (λ w. not (is_among (id_of w) (map id_of (moving a items a)))) (order_of a) ids_a)
-        (subst Distinct (sym (map-append id_of news (moving a items b)))
-        (distinct_append (map id_of news) (map id_of (moving a items b)) last_parts.0 (distinct_filter (may_move a items) (tentative b) last_parts.1)
-        (λ i f g. let (v, k, e) = map_has id_of i (moving a items b) g in last_parts.2 i f (subst (λ j. Has j (map id_of (tentative b))) (sym e) (has_map id_of v (tentative b) (filter_has (may_move a items) v (tentative b) k).0)))))
-        (λ i f g.
-        let (w, h, e) = map_has id_of i left f in
-        let (v, k, s) = map_has id_of i anew g in
-        let was = (filter_has (λ u. not (is_among (id_of u) (map id_of (moving a items a)))) w (order_of a) h).0 in
-        let same : w ≡ v = one_known b w v m.sound (m.stays w (order_known a w sound was)) (m.moved v k).0 (sym e ∙ s) in
-        twice (m.rooms w.room).front (of_room w.room anew) w (subst (λ (vs : List Write). HaveDistinctIds vs) (m.rooms w.room).is (distinct-part w.room (order_of b) ids_b))
-        (subst (λ vs. Has w vs) (sym (front_is w.room)) (room_own w left h))
-        (room_own w anew (subst (λ u. Has u anew) (sym same) k))))
-
-    -- and the board is that of the second replica
-    pub new_board : executed_all board anew ≡ (desk_of b).log.board
-    new_board =
-        let start : Holds left board = record { ordered = in_order-undone_all us (desk_of a).log.board (board_holds a sound).ordered; rooms = λ room. subst (λ (vs : List Write). HoldsIn room vs board) (front_is room) (room_left room) } in
-        let all = Holds-executed_all left anew board ids_again start in
-        let lists = λ (room : Text). filter-append (λ (w : Write). bytes_eq w.room room) left anew ∙ ap (λ ws. ws ++ of_room room anew) (sym (front_is room)) ∙ sym (m.rooms room).is in
-        one_board (λ room. of_room room (order_of b)) (executed_all board anew) (desk_of b).log.board
-        (record { ordered = all.ordered; rooms = λ room. subst (λ (vs : List Write). HoldsIn room vs (executed_all board anew)) (lists room) (all.rooms room) })
-        (board_holds b m.sound)
+  pub new_board : board_anew a b items m sound (board_of a) ≡ board_of b
+  new_board =
+      let r = whole (board_holds a sound) in
+      one_board (λ room. of_room room (order_of b)) (board_anew a b items m sound (board_of a)) (board_of b) (record { ordered = r.ordered; rooms = λ room. r.has room refl }) (board_holds b m.sound)

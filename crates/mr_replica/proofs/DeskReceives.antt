@@ -1,9 +1,11 @@
 -- A desk that takes a batch: its commit numbers, its candidate, its log and the change of its tables.
-use Rattle.std.proofs.Common.{◌≡◌, true, refl, sym, ap, ◌∙◌, ℕ, zero, suc, ◌+◌, ◌-◌, ◌<◌, ◌≤◌, ◌==◌, ◌&&◌, List, [], ◌∷◌, ◌++◌, length, map, take, ◌⊎◌, inl, inr, Some, Result, Ok, Err, arith}
+use Rattle.std.proofs.Common.{◌≡◌, true, refl, sym, ap, ◌∙◌, subst, ℕ, zero, suc, ◌+◌, ◌-◌, ◌<◌, ◌≤◌, ◌==◌, ◌&&◌, List, [], ◌∷◌, ◌++◌, length, map, take, ◌⊎◌, inl, inr, Some, Result, Ok, Err, arith}
 use Rattle.std.specs.List.{filter, slice_get, list_all}
+use Rattle.std.proofs.lemmas.Bool.{true≢false}
 use Rattle.std.proofs.lemmas.List.{length-map}
 use Rattle.mr_model.specs.Texts.{Text}
-use Rattle.mr_model.specs.Writes.{Write, id_of}
+use Rattle.mr_model.specs.Dropped.{Has}
+use Rattle.mr_model.specs.Writes.{Write}
 use Rattle.mr_model.specs.Exchange.{Item, is_item}
 use Rattle.mr_model.specs.Refusals as model
 use Rattle.mr_model.specs.Replica.{Replica, IsReplica}
@@ -11,40 +13,47 @@ use Rattle.mr_model.specs.Kept.{dropped_in_order, kept_in_order}
 use Rattle.mr_model.specs.Moving.{again}
 use Rattle.mr_model.specs.Replies.{Took}
 use Rattle.mr_model.specs.Step.{After, after_items}
-use Rattle.mr_model.specs.Tables.{seq_of, place_of, tables_of}
+use Rattle.mr_model.specs.Tables.{seq_of, tables_of}
+use Rattle.mr_model.specs.View.{place_of}
 use Rattle.mr_model.specs.Taking.{Progress, take_items}
 use Rattle.mr_model.proofs.Moved.{batches_move_touched_rooms}
 use Rattle.mr_base.specs.declared.refusals.Refusal.{Refusal}
 use Rattle.mr_base.specs.declared.refusals.Refusal.TheVariants.{OutOfMemory}
 use Rattle.mr_base.specs.Refusals.{refusal_of}
 use Rattle.mr_replay.specs.Places.{UndoRow}
-use Rattle.mr_replay.specs.Rows.{Rows, executed_all, undone_all, undo_rows_of}
-use Rattle.mr_replay.specs.Holds.{HaveDistinctIds}
+use Rattle.mr_replay.specs.Rows.{Rows, row_at, executed_all}
+use Rattle.mr_replay.specs.Holds.{HaveDistinctIds, if_of}
+use Rattle.mr_replay.specs.Bookings.{if_taken}
 use Rattle.mr_replay.proofs.Lists.{distinct_back}
 use Rattle.mr_tables.specs.declared.summary.Summary.{Summary}
 use Rattle.mr_tables.specs.Change.{ChangeView, changed}
 use Rattle.mr_tables.specs.Rooms.{rooms_beside}
 use Rattle.mr_tables.specs.Rows.{seq_on}
-use Rattle.mr_tables.specs.Written.{meta_of, changed_tallies, written}
-use Rattle.mr_replica.specs.declared.logged.LoggedWrite.{LoggedWrite}
-use Rattle.mr_replica.specs.Desk.{DeskView, desk_of, old_errors_of, nothing_taken, reply_with}
+use Rattle.mr_tables.specs.Written.{meta_of, changed_tallies, with_places, written}
+use Rattle.mr_replica.specs.declared.kept_writes.NumberedWrite.{NumberedWrite}
+use Rattle.mr_replica.specs.Desk.{DeskView, desk_of, old_errors_of, old_cancels_of, nothing_taken, reply_with}
 use Rattle.mr_replica.specs.DeskTables.{desk_tables}
 use Rattle.mr_replica.specs.Log.{KeptLog}
 use Rattle.mr_replica.specs.Moves.{AreTouched, moves_in}
 use Rattle.mr_replica.specs.Taken.{ReachedView, ShowsPicked}
-use Rattle.mr_replica.specs.Logged.{logged_of}
+use Rattle.mr_replica.specs.ChangeLaws.{vector_between}
+use Rattle.mr_replica.specs.KeptWrites.{numbered_of}
 use Rattle.mr_replica.specs.Logged.{undo_with}
+use Rattle.mr_replica.specs.Placing.{with_places_put, RowEnds, cancellers_on}
 use Rattle.mr_replica.specs.Received.{Reaches, all_writes}
-use Rattle.mr_replica.proofs.DeskMoves.{new_places}
-use Rattle.mr_replica.proofs.DeskRows.{kept_numbers, kept_places, order_distinct, desk_tables-of}
+use Rattle.mr_replica.specs.Targets.{aimed_at, moved_targets}
+use Rattle.mr_replica.proofs.BatchBoards.{moving, undone_rows, undo_rows_are}
+use Rattle.mr_replica.proofs.BatchChanges.{again_few, batch_turns}
+use Rattle.mr_replica.proofs.DeskBoards.{board_of, tallies_of}
+use Rattle.mr_replica.proofs.DeskRows.{desk_tables-of}
+use Rattle.mr_replica.proofs.DeskNumbers.{kept_numbers, kept_places, order_distinct}
 use Rattle.mr_replica.proofs.Desks.{desk_with}
 use Rattle.mr_replica.proofs.Moves.{all_pass, undone_picked}
-use Rattle.mr_replica.proofs.MovedWrites.{moving, again_few, again_turns, named_by}
-use Rattle.mr_replica.proofs.ReceivedRows.{items-grow}
+use Rattle.mr_replica.proofs.Growing.{items-grow}
 use Rattle.mr_replica.proofs.Receiving.{items-bring}
-use Rattle.mr_replica.proofs.TakingItems.{all_within}
 use Rattle.mr_replica.proofs.SubmittedRows.{few_kept}
-use Rattle.mr_replica.proofs.Writing.{undo_rows_are}
+use Rattle.mr_replica.proofs.Targeting.{Shows, targets_end}
+use Rattle.mr_replica.proofs.TakingItems.{all_within}
 
 -- ---- numbers
 
@@ -87,7 +96,7 @@ desk_reaches a d items c p sound stands good taken shows =
       keeps_rooms = (items-grow items 2 (nothing_taken a) p sound good taken).rooms;
       summary_is = shows.summary;
       rooms_are = shows.rooms;
-      kept_are = shows.kept ∙ ap (map (logged_of p.replica)) (all_pass (kept_in_order p.replica));
+      kept_are = shows.kept ∙ ap (map (numbered_of p.replica)) (all_pass (kept_in_order p.replica));
     }
 
 -- the answer is what the items give
@@ -115,22 +124,59 @@ log_is b kept undo board sound k u e =
 
 -- ---- the change
 
-pub desk_moved : (d : DeskView) (items : List Item) (a b : Replica) (s : Summary) (rooms : List Text) (kept : List LoggedWrite) (t : Reaches d items s rooms kept a b) (ws : List Write) (rows : List UndoRow) (change : ChangeView) → ws ≡ again a items t.moves.news b → rows ≡ map (undo_with (place_of b)) (again a items t.moves.news b)
-    → (d.commits + 1 + length ws < 18446744073709551616 → change ≡ written (meta_of s) (rooms_beside d.rooms rooms) (changed_tallies d.tallies s.tallies) s.commits (d.commits + 1) ws rows)
-    → changed change (tables_of a) ≡ tables_of b
-desk_moved d items a b s rooms kept t ws rows change writes undo change_is =
-    let us = map (undo_with (place_of a)) (moving a items a) in
-    let named = named_by (undo_with (place_of a)) (moving a items a) (λ w. refl) in
-    let places = new_places a b items t.moves t.sound us named in
-    let board = undone_all (desk_of a).log.board us in
-    let rows_are : rows ≡ undo_rows_of board (again a items t.moves.news b) = undo ∙ sym (undo_rows_are (place_of b) board (again a items t.moves.news b) places) in
-    let commits : d.commits ≡ length a.commits = ap (λ (v : DeskView). v.commits) t.stands in
-    let few = again_few a b items t.moves t.sound in
-    let size = ap length writes in
-    let small : d.commits + 1 + length ws < 18446744073709551616 = omega (arith, commits, few, size) in
-    let put = change_is small
-    ∙ (λ i. written (meta_of (t.summary_is i)) (rooms_beside (t.stands i).rooms (t.rooms_are i)) (changed_tallies (t.stands i).tallies (t.summary_is i).tallies) (t.summary_is i).commits ((t.stands i).commits + 1) (writes i) (rows_are i)) in
-    ap (λ c. changed c (tables_of a)) put ∙ again_turns a b items t.moves t.sound board places t.keeps_rooms
+-- a batch without items leaves the tables as they are
+pub nothing_put : (d : DeskView) (change : ChangeView) → change ≡ with_places (desk_tables d).meta [] [] [] [] → changed change (desk_tables d) ≡ desk_tables d
+nothing_put d change is =
+    let t = desk_tables d in
+    ap (λ c. changed c t) is
+    ∙ (λ i. record t {
+      log = all_pass t.log i;
+      booking = all_pass t.booking i;
+      errorlog = all_pass t.errorlog i;
+      cancelled = all_pass t.cancelled i;
+    })
+
+module _ (d : DeskView) (items : List Item) (a b : Replica) (s : Summary) (rooms : List Text) (kept : List NumberedWrite) (t : Reaches d items s rooms kept a b) (new : Rows) (board_is : new ≡ board_of b) where
+  abbrev anew : List Write
+  anew = again a items t.moves.news b
+
+  old_is : d.log.board ≡ board_of a
+  old_is = ap (λ (v : DeskView). v.log.board) t.stands
+
+  shows_new : (w : Write) → Has w anew → Shows b w.room new
+  shows_new w h q = ap (λ c. if_taken (if_of w.room (row_at c q))) board_is
+
+  shows_old : (w : Write) → Has w anew → Shows a w.room d.log.board
+  shows_old w h q = ap (λ c. if_taken (if_of w.room (row_at c q))) old_is
+
+  -- what is aimed at ends on its day
+  pub desk_ends : (ws : List Write) → ws ≡ anew → (w : Write) → Has w ws → RowEnds (if_taken (aimed_at new w.room w.action))
+  desk_ends ws is w h = targets_end a b items t.moves t.sound d.log.board new shows_old shows_new w (subst (λ vs. Has w vs) is h)
+
+  pub desk_moved : (ws : List Write) (rows : List UndoRow) (change : ChangeView) → ws ≡ anew → rows ≡ map (undo_with (place_of b)) anew
+      → (d.commits + 1 + length ws < 18446744073709551616
+      → change
+      ≡ with_places_put (written (meta_of s) (rooms_beside d.rooms rooms) (changed_tallies d.tallies s.tallies) s.commits (d.commits + 1) ws rows (cancellers_on new ws))
+      (moved_targets s.tallies d.log.board new ws))
+      → changed change (tables_of a) ≡ tables_of b
+  desk_moved ws rows change writes undo change_is =
+      let commits : d.commits ≡ length a.commits = ap (λ (v : DeskView). v.commits) t.stands in
+      let few = again_few a b items t.moves t.sound in
+      let size = ap length writes in
+      let small : d.commits + 1 + length ws < 18446744073709551616 = omega (arith, commits, few, size) in
+      -- all of them get their rows
+      let all : anew ≡ t.moves.news ++ filter (λ w. true) (moving a items b) = ap (λ ws. t.moves.news ++ ws) (sym (all_pass (moving a items b))) in
+      let put = change_is small
+      ∙ (λ i.
+      with_places_put
+      (written (meta_of (t.summary_is i)) (rooms_beside (t.stands i).rooms (t.rooms_are i)) (changed_tallies (t.stands i).tallies (t.summary_is i).tallies) (t.summary_is i).commits ((t.stands i).commits + 1) (writes i) (undo i) (cancellers_on new (writes i)))
+      (moved_targets (t.summary_is i).tallies d.log.board new (writes i)))
+      ∙ (λ i.
+      with_places_put
+      (written (tables_of b).meta (rooms_beside a.rooms b.rooms) (vector_between a b) (length b.commits) (length a.commits + 1) (all i) (map (undo_with (place_of b)) (all i)) (cancellers_on new (all i)))
+      (moved_targets (tallies_of b) d.log.board new anew)) in
+      ap (λ c. changed c (tables_of a)) put
+      ∙ batch_turns a b items t.moves t.sound d.log.board new shows_old shows_new (λ w. true) (λ w h e. absurd (true≢false e)) t.keeps_rooms
 
 pub same_length : (b : Replica) (kept : List Write) (undo : List UndoRow) → kept ≡ kept_in_order b → undo ≡ map (undo_with (place_of b)) (kept_in_order b) → length kept ≡ length undo
 same_length b kept undo k u = ap length k ∙ sym (length-map (kept_in_order b) (undo_with (place_of b))) ∙ sym (ap length u)
@@ -140,17 +186,17 @@ pub desk_undo : (a : Replica) → IsReplica a → (desk_of a).log.undo ≡ map (
 desk_undo a sound = undo_rows_are (place_of a) (executed_all [] (dropped_in_order a)) (kept_in_order a) (kept_places a sound)
 
 -- the rows of the writes that may move
-pub undone_named : (a : Replica) (items : List Item) (touched : List Text) → IsReplica a → AreTouched touched a items → map (λ (u : UndoRow). u.id) (map (undo_with (place_of a)) (filter (λ w. seq_of a w == 0 && moves_in touched items (length a.commits) w) (kept_in_order a))) ≡ map id_of (moving a items a)
-undone_named a items touched sound right =
-    ap (λ ws. map (λ (u : UndoRow). u.id) (map (undo_with (place_of a)) ws))
+pub undone_are : (a : Replica) (items : List Item) (touched : List Text) → IsReplica a → AreTouched touched a items → map (undo_with (place_of a)) (filter (λ w. seq_of a w == 0 && moves_in touched items (length a.commits) w) (kept_in_order a)) ≡ undone_rows a items
+undone_are a items touched sound right =
+    ap (map (undo_with (place_of a)))
     (ap (filter (λ w. seq_of a w == 0 && moves_in touched items (length a.commits) w)) (sym (all_pass (kept_in_order a))) ∙ undone_picked a items all_writes touched sound (λ w e. refl) right)
-    ∙ named_by (undo_with (place_of a)) (moving a items a) (λ w. refl)
 
--- the desk with these parts, and its own dropped errors, is that of the second replica
-pub desk_after : (d : DeskView) (items : List Item) (a b : Replica) (s : Summary) (rooms : List Text) (kept : List LoggedWrite) (log : KeptLog) {was : DeskView} → Reaches d items s rooms kept a b → log ≡ (desk_of b).log → was ≡ d → desk_with s rooms log was.old_errors ≡ desk_of b
+-- the desk with these parts, and what its dropped writes left, is that of the second replica
+pub desk_after : (d : DeskView) (items : List Item) (a b : Replica) (s : Summary) (rooms : List Text) (kept : List NumberedWrite) (log : KeptLog) {was : DeskView} → Reaches d items s rooms kept a b → log ≡ (desk_of b).log → was ≡ d → desk_with s rooms log was.old_errors was.old_cancels ≡ desk_of b
 desk_after d items a b s rooms kept log t is own =
     let errors = ap (λ (v : DeskView). v.old_errors) (own ∙ t.stands) ∙ ap old_errors_of (sym t.dropped) in
-    λ i. desk_with (t.summary_is i) (t.rooms_are i) (is i) (errors i)
+    let cancels = ap (λ (v : DeskView). v.old_cancels) (own ∙ t.stands) ∙ ap old_cancels_of (sym t.dropped) in
+    λ i. desk_with (t.summary_is i) (t.rooms_are i) (is i) (errors i) (cancels i)
 
 -- a batch that is refused leaves the desk as it was
 pub desk_refused : (a : Replica) (d : DeskView) (exact : Result Progress model.Refusal) (r : Result (ℕ × ℕ × ChangeView) Refusal) (e : Refusal) → r ≡ Err e → d ≡ desk_of a → (exact ≡ Err (refusal_of e)) ⊎ (e ≡ OutOfMemory)

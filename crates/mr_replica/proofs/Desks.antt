@@ -10,26 +10,22 @@ use Rattle.mr_model.specs.Replies.{RoomAdded}
 use Rattle.mr_model.specs.Step.{add_room, step_unless}
 use Rattle.mr_model.specs.Replica.{Replica, IsReplica, order_of, tentative, knows_room, with_room}
 use Rattle.mr_model.specs.Kept.{dropped_in_order, kept_in_order}
+use Rattle.mr_model.specs.Tables.{CancelRow}
 use Rattle.mr_model.specs.Dropped.{Has}
 use Rattle.mr_model.proofs.Members.{has_right}
 use Rattle.mr_model.proofs.KnownById.{commit_found, found_ids}
-use Rattle.mr_model.proofs.RoomPlaces.{kept_committed}
-use Rattle.mr_model.proofs.LogOrder.{order-parts}
-use Rattle.mr_model.proofs.ReceivedPlaces.{append_split}
+use Rattle.mr_model.proofs.DroppedApart.{order-parts}
+use Rattle.mr_model.proofs.Orders.{append_split}
 use Rattle.mr_tables.specs.declared.summary.Summary.{Summary}
 use Rattle.mr_tables.specs.declared.old_errors.OldError.{OldError}
 use Rattle.mr_replica.specs.Log.{KeptLog}
 use Rattle.mr_tables.specs.Summary.{summary_of, committed_len}
+use Rattle.mr_replica.specs.ChangeLaws.{kept_committed}
 use Rattle.mr_replica.specs.Desk.{DeskView}
 
--- the numbers of a desk
-abbrev pub summary_in : DeskView → Summary
-summary_in d =
-    record { server = d.server; primary = d.primary; commits = d.commits; dropped = d.dropped; clock = d.clock; tallies = d.tallies }
-
 -- the desk with these parts
-abbrev pub desk_with : Summary → List Text → KeptLog → List OldError → DeskView
-desk_with s rooms log old_errors =
+abbrev pub desk_with : Summary → List Text → KeptLog → List OldError → List CancelRow → DeskView
+desk_with s rooms log old_errors old_cancels =
     record {
       server = s.server;
       primary = s.primary;
@@ -40,6 +36,7 @@ desk_with s rooms log old_errors =
       tallies = s.tallies;
       log = log;
       old_errors = old_errors;
+      old_cancels = old_cancels;
     }
 
 -- where as many writes are dropped, the rest of an order is what is kept

@@ -14,7 +14,7 @@ use Rattle.mr_model.specs.Taking.{Progress, is_that_write, is_that_id, with_new_
 use Rattle.mr_model.proofs.Members.{has_right, find_one, find_none, same_id-true, same_id_from}
 use Rattle.mr_model.proofs.ChangesKeep.{within}
 use Rattle.mr_model.proofs.KnownById.{known_with, with_id, known_at, one_known, commit_found}
-use Rattle.mr_model.proofs.LogOrder.{kept_known, known_kept}
+use Rattle.mr_model.proofs.DroppedApart.{kept_known, known_kept}
 use Rattle.mr_model.proofs.RowsById.{server_bounds}
 use Rattle.mr_base.specs.Refusals.{refusal_of}
 use Rattle.mr_base.specs.declared.refusals.Refusal.{Refusal}

@@ -9,20 +9,22 @@ use Rattle.std.specs.Cmp.{IsTotalOrder, nat_cmp_total, bool_cmp_total, nat_cmp_i
 use Rattle.std.specs.List.Sorted.{IsPermutation, IsSortedByKey}
 use Rattle.mr_model.specs.Writes.{Write, id_of}
 use Rattle.mr_model.specs.Replica.{Replica, IsReplica, is_dropped}
-use Rattle.mr_model.specs.Tables.{LogRow, by_id, kept, place_of, log_row}
+use Rattle.mr_model.specs.View.{place_of}
+use Rattle.mr_model.specs.Tables.{LogRow, by_id, kept, log_row}
 use Rattle.mr_model.specs.Kept.{dropped_in_order, kept_in_order, LogBefore, both, one, none, AreInRunOrder}
 use Rattle.mr_model.specs.Changes.{IdBefore}
 use Rattle.mr_model.specs.Dropped.{Has}
 use Rattle.mr_model.proofs.KeyOrder.{WriteBefore, by_id_sorted}
-use Rattle.mr_model.proofs.LogOrder.{kept_is_the_log, kept_known, known_kept}
+use Rattle.mr_model.proofs.DroppedApart.{kept_known, known_kept}
+use Rattle.mr_model.proofs.LogOrder.{kept_is_the_log}
 use Rattle.mr_model.proofs.Members.{has_all, all_has, has_map, map_has, has_filter, filter_has, Sorted, sorted_filter}
 use Rattle.mr_model.proofs.RowsById.{has_by_id, by_id_has}
-use Rattle.mr_replay.specs.Rows.{Rows, executed, executed_all, undo_rows_of}
+use Rattle.mr_replay.specs.Places.{UndoRow}
+use Rattle.mr_replay.specs.Rows.{Rows, place_on, undo_row_at, executed, executed_all, undo_rows_of}
 use Rattle.mr_replica.specs.declared.kept_rows.KeptRow.{KeptRow}
 use Rattle.mr_replica.specs.declared.kept_rows.RunPlace.{RunPlace}
 use Rattle.mr_replica.specs.KeptRows.{kept_row, run_place, run_cmp}
-use Rattle.mr_replica.proofs.BoardRows.{places_head}
-use Rattle.mr_replica.proofs.DeskRows.{kept_places}
+use Rattle.mr_replica.proofs.DeskNumbers.{kept_places}
 use Rattle.mr_replica.proofs.Sorting.{Rises, sorted_is}
 
 pub run_order : IsTotalOrder run_cmp
@@ -39,7 +41,7 @@ nat_less m n l = sym (nat_cmp_is m n Less l)
 nat_tie : (m n : ℕ) → m ≡ n → nat_cmp m n ≡ Equal
 nat_tie m n e = sym (nat_cmp_is m n Equal e)
 
--- where a row of write_log stands in the order of execution
+-- where a row of log stands in the order of execution
 abbrev pub log_place : LogRow → RunPlace
 log_place row = record { is_tentative = eqb row.seq 0; seq = row.seq; time = row.time; server = row.server }
 
@@ -129,9 +131,11 @@ kept_writes a (w ∷ ws) = ap (λ vs. w ∷ vs) (kept_writes a ws)
 undo_told : (a : Replica) (b : Rows) (ws : List Write) → map (λ u. u.place) (undo_rows_of b ws) ≡ map (place_of a) ws → map (λ r. r.undo) (map (kept_row a) ws) ≡ undo_rows_of b ws
 undo_told a b [] e = refl
 undo_told a b (w ∷ ws) e =
-    let p = places_head (place_of a) b w ws e in
-    let rest = undo_told a (executed b w) ws p.1 in
-    λ i. record { id = id_of w; place = sym p.0 i } ∷ rest i
+    let all : place_on b w ∷ map (λ (u : UndoRow). u.place) (undo_rows_of (executed b w) ws) ≡ place_of a w ∷ map (place_of a) ws = e in
+    let here : place_on b w ≡ place_of a w = (cc) in
+    let later : map (λ (u : UndoRow). u.place) (undo_rows_of (executed b w) ws) ≡ map (place_of a) ws = (cc) in
+    let rest = undo_told a (executed b w) ws later in
+    λ i. undo_row_at w (sym here i) ∷ rest i
 
 pub kept_undo : (a : Replica) → IsReplica a → map (λ r. r.undo) (map (kept_row a) (kept_in_order a)) ≡ undo_rows_of (executed_all [] (dropped_in_order a)) (kept_in_order a)
 kept_undo a h = undo_told a (executed_all [] (dropped_in_order a)) (kept_in_order a) (kept_places a h)

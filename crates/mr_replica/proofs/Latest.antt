@@ -9,12 +9,12 @@ use Rattle.mr_model.proofs.Members.{filter_has, has_map, map_has}
 use Rattle.mr_model.proofs.RowsOfKnown.{rows_of_known}
 use Rattle.mr_model.proofs.TablesTell.{vector_entry}
 
-below_greatest : (n : ℕ) (ns : List ℕ) → Has n ns → n ≤ greatest ns
+pub below_greatest : (n : ℕ) (ns : List ℕ) → Has n ns → n ≤ greatest ns
 below_greatest n [] h = absurd h
 below_greatest n (m ∷ ms) (inl e) = omega (arith, e)
 below_greatest n (m ∷ ms) (inr h) = let l : n ≤ greatest ms = below_greatest n ms h in omega (arith, l)
 
-greatest_below : (g : ℕ) (ns : List ℕ) → ((n : ℕ) → Has n ns → n ≤ g) → greatest ns ≤ g
+pub greatest_below : (g : ℕ) (ns : List ℕ) → ((n : ℕ) → Has n ns → n ≤ g) → greatest ns ≤ g
 greatest_below g [] f = omega arith
 greatest_below g (m ∷ ms) f =
     let first : m ≤ g = f m (inl refl) in

@@ -13,8 +13,9 @@ use Rattle.mr_model.specs.Kept.{kept_in_order}
 use Rattle.mr_model.specs.Changes.{IsNext, CommitMoved}
 use Rattle.mr_model.proofs.Members.{has_right}
 use Rattle.mr_model.proofs.KnownById.{with_id, tentative_known}
-use Rattle.mr_model.proofs.RoomPlaces.{kept_committed}
-use Rattle.mr_model.proofs.TwinChanges.{committed-with, tentative-add_write, drop-front}
+use Rattle.mr_model.proofs.DroppedApart.{kept_committed}
+use Rattle.mr_model.proofs.TwinChanges.{drop-front}
+use Rattle.mr_model.proofs.Orders.{committed-with, tentative-add_write}
 
 -- ---- rooms
 

@@ -18,21 +18,19 @@ use Rattle.mr_model.specs.Taking.{Progress, with_new_write, with_new_commit}
 use Rattle.mr_model.proofs.Members.{has_right, has_filter, filter_has, find_one, find_has, same_id-true, same_id_from}
 use Rattle.mr_model.proofs.ChangesKeep.{keeps-add_write, keeps-add_commit}
 use Rattle.mr_model.proofs.KnownById.{one_known, tentative_known}
-use Rattle.mr_model.proofs.LogOrder.{kept_known}
-use Rattle.mr_model.proofs.RoomPlaces.{kept_committed}
+use Rattle.mr_model.proofs.DroppedApart.{kept_known, kept_committed}
 use Rattle.mr_model.proofs.RowsById.{seq_not, seq_behind}
-use Rattle.mr_model.proofs.TwinChanges.{new_not_committed}
+use Rattle.mr_model.proofs.Orders.{new_not_committed}
 use Rattle.mr_model.proofs.WithWrite.{has_with_write, count-with_write}
 use Rattle.mr_tables.specs.declared.summary.Summary.{Summary}
 use Rattle.mr_tables.specs.Summary.{noted_write, noted_commit, summary_of}
 use Rattle.mr_tables.proofs.Summaries.{summary-write, summary-commit}
-use Rattle.mr_replica.specs.declared.logged.LoggedWrite.{LoggedWrite}
+use Rattle.mr_replica.specs.declared.kept_writes.NumberedWrite.{NumberedWrite}
 use Rattle.mr_replica.specs.Candidate.{write_in}
-use Rattle.mr_replica.specs.KeptWrites.{logged_at, has_at, with_number}
+use Rattle.mr_replica.specs.KeptWrites.{logged_at, has_at, with_number, numbered_of}
 use Rattle.mr_replica.specs.Sets.{has_room}
 use Rattle.mr_replica.specs.declared.candidate.Candidate.{Candidate}
 use Rattle.mr_replica.specs.Taken.{ShowsTaken, Covers}
-use Rattle.mr_replica.specs.Logged.{logged_of}
 use Rattle.mr_replica.proofs.JudgingKept.{inside_named}
 use Rattle.mr_replica.proofs.Learning.{any-with_room, kept-learned, kept-moved}
 
@@ -87,7 +85,7 @@ found_by_id r inside w id sound pass h e =
 
 -- ---- a write
 
-abbrev opened : Write → LoggedWrite
+abbrev opened : Write → NumberedWrite
 opened w = record { write = w; seq = 0 }
 
 pub shows-learned : (a : Replica) (items : List Item) (inside : Write → Bool) (c new : Candidate) (p : Progress) (w : Write) → IsReplica p.replica → w.stamp.server < 100 → IsNext p.replica w → Has (W w) items → Covers a items inside → ShowsTaken a inside c p
@@ -117,12 +115,12 @@ shows-learned a items inside c new p w sound small next named covers shows summa
     there = subst (Has w) (sym (kept-learned r w sound next)) (has_right w (kept_committed r) (with_write w (tentative r)) (has_with_write w w (tentative r) (inl refl)))
 
     found : (id : Id) (b : Bool) → same_id (id_of w) id ≡ b
-        → cond b (Some (opened w)) (option_map (logged_of r) (write_in (filter inside (kept_in_order r)) id)) ≡ option_map (logged_of (add_write r w)) (write_in (filter inside (kept_in_order (add_write r w))) id)
+        → cond b (Some (opened w)) (option_map (numbered_of r) (write_in (filter inside (kept_in_order r)) id)) ≡ option_map (numbered_of (add_write r w)) (write_in (filter inside (kept_in_order (add_write r w))) id)
     found id true e =
         (λ i. Some (record { write = w; seq = sym (seq_not 1 r.commits (id_of w) (new_not_committed r w sound next)) i }))
-        ∙ ap (option_map (logged_of (add_write r w))) (sym (found_by_id (add_write r w) inside w id sound' is_in there e))
+        ∙ ap (option_map (numbered_of (add_write r w))) (sym (found_by_id (add_write r w) inside w id sound' is_in there e))
     found id false e =
-        ap (option_map (logged_of r))
+        ap (option_map (numbered_of r))
         (sym (find_with (λ v. same_id (id_of v) id) inside w (kept_committed r) (tentative r) e) ∙ ap (λ ws. write_in (filter inside ws) id) (sym (kept-learned r w sound next)))
 
 -- ---- a commit
@@ -158,11 +156,11 @@ module _ (a : Replica) (items : List Item) (inside : Write → Bool) (c : Candid
   there' : Has m.moved (kept_in_order r')
   there' = subst (Has m.moved) (sym (kept-moved r id sound m)) (has_right m.moved (kept_committed r) (m.moved ∷ (m.before ++ m.behind)) (inl refl))
 
-  found : logged_at c.kept id ≡ Some (logged_of r m.moved)
-  found = shows.kept id ∙ ap (option_map (logged_of r)) (found_by_id r inside m.moved id sound is_in there (same_id_from (id_of m.moved) id m.is_moved))
+  found : logged_at c.kept id ≡ Some (numbered_of r m.moved)
+  found = shows.kept id ∙ ap (option_map (numbered_of r)) (found_by_id r inside m.moved id sound is_in there (same_id_from (id_of m.moved) id m.is_moved))
 
   pub move_found : has_at c.kept id ≡ true
-  move_found = ap (λ (o : Option LoggedWrite). is_some o) found
+  move_found = ap (λ (o : Option NumberedWrite). is_some o) found
 
   number : seq_of r' m.moved ≡ 1 + length r.commits
   number =
@@ -184,18 +182,18 @@ module _ (a : Replica) (items : List Item) (inside : Write → Bool) (c : Candid
       ∙ ap (λ ws. find test (filter inside ws)) others ∙ sym (find_round test inside m.moved (kept_committed r) (m.before ++ m.behind) not_moved)
       ∙ ap (λ ws. find test (filter inside ws)) (sym (kept-moved r id sound m))
 
-  same_number : (other : Id) → same_id id other ≡ false → (o : Option Write) → write_in (filter inside (kept_in_order r')) other ≡ o → option_map (logged_of r) o ≡ option_map (logged_of r') o
+  same_number : (other : Id) → same_id id other ≡ false → (o : Option Write) → write_in (filter inside (kept_in_order r')) other ≡ o → option_map (numbered_of r) o ≡ option_map (numbered_of r') o
   same_number other e None is = refl
   same_number other e (Some v) is =
       let mine = same_id-true (id_of v) other (find_has (λ u. same_id (id_of u) other) v (filter inside (kept_in_order r')) is).1 in
       λ i. Some (record { write = v; seq = sym (seq_other 1 r.commits id (id_of v) (ap (same_id id) mine ∙ e)) i })
 
   moved_in : (other : Id) (b : Bool) → same_id id other ≡ b
-      → cond b (option_map (with_number (noted_commit c.summary id).commits) (logged_at c.kept id)) (logged_at c.kept other) ≡ option_map (logged_of r') (write_in (filter inside (kept_in_order r')) other)
+      → cond b (option_map (with_number (noted_commit c.summary id).commits) (logged_at c.kept id)) (logged_at c.kept other) ≡ option_map (numbered_of r') (write_in (filter inside (kept_in_order r')) other)
   moved_in other true e =
       ap (option_map (with_number (noted_commit c.summary id).commits)) found ∙ (λ i. Some (record { write = m.moved; seq = commits i }))
-      ∙ ap (option_map (logged_of r')) (sym (found_by_id r' inside m.moved other sound' is_in there' (ap (λ i. same_id i other) m.is_moved ∙ e)))
-  moved_in other false e = shows.kept other ∙ ap (option_map (logged_of r)) (same_write_in other e) ∙ same_number other e (write_in (filter inside (kept_in_order r')) other) refl
+      ∙ ap (option_map (numbered_of r')) (sym (found_by_id r' inside m.moved other sound' is_in there' (ap (λ i. same_id i other) m.is_moved ∙ e)))
+  moved_in other false e = shows.kept other ∙ ap (option_map (numbered_of r)) (same_write_in other e) ∙ same_number other e (write_in (filter inside (kept_in_order r')) other) refl
 
   marked : (v : Write) → (b : Bool) → same_id id (id_of v) ≡ b → (seq_of r v ≡ seq_of a v) ⊎ (inside v ≡ true) → (seq_of r' v ≡ seq_of a v) ⊎ (inside v ≡ true)
   marked v true e old = inr (covers v (inside_named a items (C q id) v named (sym (same_id-true id (id_of v) e))))

@@ -1,14 +1,16 @@
 -- Laws of the kept log.
-use Rattle.std.proofs.Common.{◌≡◌, ℕ, zero, suc, ◌+◌, ◌<◌, ◌≤◌, List, [], ◌∷◌, ◌++◌, length, get_or, take, drop, ap, refl, sym, ◌∙◌, subst, append_assoc, append-nil, arith}
+use Rattle.std.proofs.Common.{◌≡◌, ℕ, zero, suc, ◌+◌, ◌<◌, ◌≤◌, List, [], ◌∷◌, ◌++◌, length, get_or, take, drop, Option, Some, None, ap, refl, sym, ◌∙◌, subst, append_assoc, append-nil, arith}
 use Rattle.std.proofs.lemmas.List.{take-append-drop}
+use Rattle.std.specs.List.{cons_option}
 use Rattle.mr_model.specs.Writes.{Write}
+use Rattle.mr_model.specs.Tables.{CancelRow}
 use Rattle.mr_replay.specs.Places.{UndoRow}
 use Rattle.mr_replay.specs.Rows.{Rows, executed, undo_row_of, undone, executed_all, undo_rows_of, undone_all}
 use Rattle.mr_replay.specs.Holds.{HaveDistinctIds, AreNew}
-use Rattle.mr_replay.proofs.Redoing.{undone-executed}
-use Rattle.mr_replay.proofs.Holding.{AreNew-rest, Holds-empty, Holds-executed_all, AreNew-distinct}
+use Rattle.mr_replay.proofs.Holding.{undone-executed, AreNew-rest, Holds-empty, Holds-executed_all, AreNew-distinct}
 use Rattle.mr_replay.proofs.Lists.{distinct_front}
-use Rattle.mr_replica.specs.Log.{errors_in, old_error_at, log_of, pushed, board_at, without_front}
+use Rattle.mr_tables.specs.Rows.{seq_on}
+use Rattle.mr_replica.specs.Log.{errors_in, old_error_at, log_of, pushed, board_at, without_front, cancel_at, cancel_rows}
 
 pub executed_all-append : (b : Rows) (vs ws : List Write) → executed_all b (vs ++ ws) ≡ executed_all (executed_all b vs) ws
 executed_all-append b [] ws = refl
@@ -122,3 +124,32 @@ old_errors-dropped dropped kept n =
     ap (λ us. errors_in 1 dropped (undo_rows_of [] dropped) ++ errors_in (1 + length dropped) (take n kept) us) (take-undo_rows_of b kept n)
     ∙ sym (errors_in-append 1 dropped (take n kept) (undo_rows_of [] dropped) (undo_rows_of b (take n kept)) (length-undo_rows_of [] dropped))
     ∙ ap (errors_in 1 (dropped ++ take n kept)) (sym (undo_rows_of-append [] dropped (take n kept)))
+
+-- ---- rows of cancels
+
+-- one write more
+pub cancel_rows-more : (commits seq k : ℕ) (ws : List Write) (us : List UndoRow) (w : Write) (u : UndoRow) → k < length ws → k < length us → w ≡ get_or ws k w → u ≡ get_or us k u → cancel_rows commits seq (take (suc k) ws) (take (suc k) us) ≡ cancel_rows commits seq (take k ws) (take k us) ++ cons_option (cancel_at w w.action u.place (seq_on commits (seq + k))) []
+cancel_rows-more commits seq k [] us w u h g p q = absurd (omega arith)
+cancel_rows-more commits seq k (x ∷ xs) [] w u h g p q = absurd (omega arith)
+cancel_rows-more commits seq zero (x ∷ ws) (y ∷ us) w u h g p q = λ i. cons_option (cancel_at (sym p i) (sym p i).action (sym q i).place (seq_on commits (same seq i))) []
+  where
+    same : (n : ℕ) → n ≡ n + 0
+    same n = omega arith
+cancel_rows-more commits seq (suc k) (x ∷ ws) (y ∷ us) w u h g p q =
+    let rest = cancel_rows-more commits (seq + 1) k ws us w u (omega arith) (omega arith) p q in
+    let n : seq + 1 + k ≡ seq + suc k = omega arith in
+    let o = cancel_at x x.action y.place (seq_on commits seq) in
+    ap (cons_option o) (rest ∙ ap (λ m. cancel_rows commits (seq + 1) (take k ws) (take k us) ++ cons_option (cancel_at w w.action u.place (seq_on commits m)) []) n)
+    ∙ before o (cancel_rows commits (seq + 1) (take k ws) (take k us)) (cons_option (cancel_at w w.action u.place (seq_on commits (seq + suc k))) [])
+  where
+    before : (o : Option CancelRow) (xs ys : List CancelRow) → cons_option o (xs ++ ys) ≡ cons_option o xs ++ ys
+    before None xs ys = refl
+    before (Some z) xs ys = refl
+
+-- all writes
+pub cancel_rows-all : (commits seq k : ℕ) (ws : List Write) (us : List UndoRow) → length ws ≤ k → cancel_rows commits seq (take k ws) (take k us) ≡ cancel_rows commits seq ws us
+cancel_rows-all commits seq zero [] us h = refl
+cancel_rows-all commits seq (suc k) [] us h = refl
+cancel_rows-all commits seq zero (x ∷ ws) us h = absurd (omega arith)
+cancel_rows-all commits seq (suc k) (x ∷ ws) [] h = refl
+cancel_rows-all commits seq (suc k) (x ∷ ws) (y ∷ us) h = ap (cons_option (cancel_at x x.action y.place (seq_on commits seq))) (cancel_rows-all commits (seq + 1) k ws us (omega arith))

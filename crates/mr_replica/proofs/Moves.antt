@@ -1,8 +1,7 @@
 -- What a batch undoes and executes anew, picked from lists of kept writes.
 use Rattle.std.proofs.Common.{◌≡◌, sym, ap, ◌∙◌, subst, ℕ, zero, suc, ◌+◌, ◌<◌, ◌≤◌, Bool, true, false, cond, ◌&&◌, ◌||◌, ◌==◌, ltb, List, [], ◌∷◌, ◌++◌, length, get_or, drop, map, ◌⊎◌, inl, inr, Some, append_assoc, append-nil, arith, refl, leb, le-leb, lt-ltb, ltb-true, eq-eqb, eqb-true}
-use Rattle.std.proofs.lemmas.List.{get_or-map, at_drop_all}
+use Rattle.std.proofs.lemmas.List.{get_or-map, at_drop_all, length-append, length-map}
 use Rattle.std.proofs.lemmas.Bool.{true≢false, cond-true, cond-false, false_from_ne_true, and_parts, and_from, or_left, or_right}
-use Rattle.std.proofs.lemmas.List.{length-append, length-map}
 use Rattle.std.proofs.lemmas.List.Elements.{filter-append}
 use Rattle.std.specs.List.{filter, list_any, slice_get}
 use Rattle.std.specs.Prelude.{flat_map, bytes_eq}
@@ -17,23 +16,20 @@ use Rattle.mr_model.specs.Moving.{may_move, again}
 use Rattle.mr_model.specs.Tables.{LogRow, seq_of, log_row, tables_of}
 use Rattle.mr_model.specs.Dropped.{Has}
 use Rattle.mr_model.proofs.KnownById.{tentative_known, distinct_commits, committed_ids}
-use Rattle.mr_model.proofs.LogOrder.{kept_known, known_kept}
-use Rattle.mr_model.proofs.Members.{has_left, has_right, has_filter, filter_has, has_map, map_has, has_among, same_id-true, Distinct, distinct_parts}
-use Rattle.mr_model.proofs.Moved.{any_has, has_any}
-use Rattle.mr_model.proofs.ReceivedPlaces.{append_split}
-use Rattle.mr_model.proofs.RoomPlaces.{committed-parts}
+use Rattle.mr_model.proofs.DroppedApart.{kept_known, known_kept, committed-parts}
+use Rattle.mr_model.proofs.Members.{has_left, has_right, has_filter, filter_has, has_map, map_has, has_among, same_id-true, Distinct, distinct_parts, any_has, has_any}
+use Rattle.mr_model.proofs.Orders.{append_split}
 use Rattle.mr_model.proofs.RowsById.{flat_has, has_flat, seq_not}
 use Rattle.mr_model.proofs.RowsOfKnown.{rows_of_known}
-use Rattle.mr_model.proofs.TwinTables.{bool_same}
+use Rattle.mr_model.proofs.MembersAlike.{bool_same}
 use Rattle.mr_replica.specs.Moves.{rooms_named, AreTouched, moves_in, is_anew, ShowsMoves}
 use Rattle.mr_replica.specs.Sets.{AreSameRooms}
 use Rattle.mr_replica.specs.Taken.{Covers, is_inside}
-use Rattle.mr_replica.specs.Logged.{logged_of}
-use Rattle.mr_replica.specs.declared.logged.LoggedWrite.{LoggedWrite}
-use Rattle.mr_replica.proofs.DeskRows.{dropped_long, order_numbers, slice_left, slice_bound}
-use Rattle.mr_replica.proofs.Changing.{has_slice}
+use Rattle.mr_replica.specs.KeptWrites.{numbered_of}
+use Rattle.mr_replica.specs.declared.kept_writes.NumberedWrite.{NumberedWrite}
+use Rattle.mr_replica.proofs.DeskNumbers.{dropped_long, order_numbers, slice_left, slice_bound}
+use Rattle.mr_replica.proofs.BatchNumbers.{has_place, commits_long, new_number}
 use Rattle.mr_replica.proofs.Picking.{picked_here, left_here}
-use Rattle.mr_replica.proofs.MovedWrites.{commits_long, new_number}
 
 -- ---- picking one by one
 
@@ -71,39 +67,39 @@ same_any room xs ys f g =
     (λ e. let (t, h, k) = has_any (bytes_eq room) xs e in any_has (bytes_eq room) t ys k (f t h))
     (λ e. let (t, h, k) = has_any (bytes_eq room) ys e in any_has (bytes_eq room) t xs k (g t h))
 
--- the kept writes in scope name the rooms that all rows of write_log do
+-- the kept writes in scope name the rooms that all rows of the log do
 module _ (a : Replica) (items : List Item) (inside : Write → Bool) (sound : IsReplica a) (covers : Covers a items inside) where
-  here : (t : Text) (x : Item) → Has x items → Has t (rooms_named (length a.commits) (filter inside (kept_in_order a)) x) → Has t (rooms_of_item (length a.commits) (tables_of a).write_log x)
+  here : (t : Text) (x : Item) → Has x items → Has t (rooms_named (length a.commits) (filter inside (kept_in_order a)) x) → Has t (rooms_of_item (length a.commits) (tables_of a).log x)
   here t (W w) g h = h
   here t (C seq id) g h = go (ltb (length a.commits) seq) h
     where
       ws : List Write
       ws = filter inside (kept_in_order a)
 
-      go : (b : Bool) → Has t (cond b (map (λ w. w.room) (filter (λ w. same_id (id_of w) id) ws)) []) → Has t (cond b (map (λ r. r.room) (filter (λ r. same_id (log_row_id r) id) (tables_of a).write_log)) [])
+      go : (b : Bool) → Has t (cond b (map (λ w. w.room) (filter (λ w. same_id (id_of w) id) ws)) []) → Has t (cond b (map (λ r. r.room) (filter (λ r. same_id (log_row_id r) id) (tables_of a).log)) [])
       go false k = k
       go true k =
           let (w, m, e) = map_has (λ (v : Write). v.room) t (filter (λ v. same_id (id_of v) id) ws) k in
           let f = filter_has (λ (v : Write). same_id (id_of v) id) w ws m in
           let there = filter_has inside w (kept_in_order a) f.0 in
           let known = kept_known a w sound there.0 in
-          let row = ((rows_of_known a sound).write_log (log_row a w)).1 (w, known.0, known.1, refl) in
-          subst (λ u. Has u (map (λ (r : LogRow). r.room) (filter (λ r. same_id (log_row_id r) id) (tables_of a).write_log))) (sym e)
-          (has_map (λ (r : LogRow). r.room) (log_row a w) (filter (λ r. same_id (log_row_id r) id) (tables_of a).write_log) (has_filter (λ (r : LogRow). same_id (log_row_id r) id) (log_row a w) (tables_of a).write_log f.1 row))
+          let row = ((rows_of_known a sound).log (log_row a w)).1 (w, known.0, known.1, refl) in
+          subst (λ u. Has u (map (λ (r : LogRow). r.room) (filter (λ r. same_id (log_row_id r) id) (tables_of a).log))) (sym e)
+          (has_map (λ (r : LogRow). r.room) (log_row a w) (filter (λ r. same_id (log_row_id r) id) (tables_of a).log) (has_filter (λ (r : LogRow). same_id (log_row_id r) id) (log_row a w) (tables_of a).log f.1 row))
 
-  back : (t : Text) (x : Item) → Has x items → Has t (rooms_of_item (length a.commits) (tables_of a).write_log x) → Has t (rooms_named (length a.commits) (filter inside (kept_in_order a)) x)
+  back : (t : Text) (x : Item) → Has x items → Has t (rooms_of_item (length a.commits) (tables_of a).log x) → Has t (rooms_named (length a.commits) (filter inside (kept_in_order a)) x)
   back t (W w) g h = h
   back t (C seq id) g h = go (ltb (length a.commits) seq) h
     where
       ws : List Write
       ws = filter inside (kept_in_order a)
 
-      go : (b : Bool) → Has t (cond b (map (λ r. r.room) (filter (λ r. same_id (log_row_id r) id) (tables_of a).write_log)) []) → Has t (cond b (map (λ w. w.room) (filter (λ w. same_id (id_of w) id) ws)) [])
+      go : (b : Bool) → Has t (cond b (map (λ r. r.room) (filter (λ r. same_id (log_row_id r) id) (tables_of a).log)) []) → Has t (cond b (map (λ w. w.room) (filter (λ w. same_id (id_of w) id) ws)) [])
       go false k = k
       go true k =
-          let (r, m, e) = map_has (λ (r : LogRow). r.room) t (filter (λ r. same_id (log_row_id r) id) (tables_of a).write_log) k in
-          let f = filter_has (λ (r : LogRow). same_id (log_row_id r) id) r (tables_of a).write_log m in
-          let (w, known, kept, is) = ((rows_of_known a sound).write_log r).0 f.0 in
+          let (r, m, e) = map_has (λ (r : LogRow). r.room) t (filter (λ r. same_id (log_row_id r) id) (tables_of a).log) k in
+          let f = filter_has (λ (r : LogRow). same_id (log_row_id r) id) r (tables_of a).log m in
+          let (w, known, kept, is) = ((rows_of_known a sound).log r).0 f.0 in
           let own : same_id (id_of w) id ≡ true = ap (λ (v : LogRow). same_id (log_row_id v) id) (sym is) ∙ f.1 in
           let named : is_among (id_of w) (map item_id items) ≡ true = has_among (id_of w) (map item_id items) (subst (λ i. Has i (map item_id items)) (sym (same_id-true (id_of w) id own)) (has_map item_id (C seq id) items g)) in
           let there : Has w ws = has_filter inside w (kept_in_order a) (covers w (or_left _ _ (or_left _ _ named))) (known_kept a w sound known kept) in
@@ -114,8 +110,8 @@ module _ (a : Replica) (items : List Item) (inside : Write → Bool) (sound : Is
   touched_told rooms same room =
       same room
       ∙ same_any room (flat_map (rooms_named (length a.commits) (filter inside (kept_in_order a))) items) (touched_rooms (tables_of a) items)
-      (λ t h. let (x, g, k) = flat_has (rooms_named (length a.commits) (filter inside (kept_in_order a))) t items h in has_flat (rooms_of_item (length a.commits) (tables_of a).write_log) t x items g (here t x g k))
-      (λ t h. let (x, g, k) = flat_has (rooms_of_item (length a.commits) (tables_of a).write_log) t items h in has_flat (rooms_named (length a.commits) (filter inside (kept_in_order a))) t x items g (back t x g k))
+      (λ t h. let (x, g, k) = flat_has (rooms_named (length a.commits) (filter inside (kept_in_order a))) t items h in has_flat (rooms_of_item (length a.commits) (tables_of a).log) t x items g (here t x g k))
+      (λ t h. let (x, g, k) = flat_has (rooms_of_item (length a.commits) (tables_of a).log) t items h in has_flat (rooms_named (length a.commits) (filter inside (kept_in_order a))) t x items g (back t x g k))
 
 -- ---- those in scope
 
@@ -140,18 +136,18 @@ pub all_pass : {A : Type 0} (xs : List A) → filter (λ x. true) xs ≡ xs
 all_pass [] = refl
 all_pass (x ∷ xs) = ap (λ ys. x ∷ ys) (all_pass xs)
 
-filter_logged : (q : LoggedWrite → Bool) (r : Replica) (ws : List Write) → map (λ x. x.write) (filter q (map (logged_of r) ws)) ≡ filter (λ w. q (logged_of r w)) ws
+filter_logged : (q : NumberedWrite → Bool) (r : Replica) (ws : List Write) → map (λ x. x.write) (filter q (map (numbered_of r) ws)) ≡ filter (λ w. q (numbered_of r w)) ws
 filter_logged q r [] = refl
-filter_logged q r (w ∷ ws) = go (q (logged_of r w)) (filter_logged q r ws)
+filter_logged q r (w ∷ ws) = go (q (numbered_of r w)) (filter_logged q r ws)
   where
-    go : (b : Bool) → map (λ x. x.write) (filter q (map (logged_of r) ws)) ≡ filter (λ v. q (logged_of r v)) ws → map (λ x. x.write) (cond b (logged_of r w ∷ filter q (map (logged_of r) ws)) (filter q (map (logged_of r) ws))) ≡ cond b (w ∷ filter (λ v. q (logged_of r v)) ws) (filter (λ v. q (logged_of r v)) ws)
+    go : (b : Bool) → map (λ x. x.write) (filter q (map (numbered_of r) ws)) ≡ filter (λ v. q (numbered_of r v)) ws → map (λ x. x.write) (cond b (numbered_of r w ∷ filter q (map (numbered_of r) ws)) (filter q (map (numbered_of r) ws))) ≡ cond b (w ∷ filter (λ v. q (numbered_of r v)) ws) (filter (λ v. q (numbered_of r v)) ws)
     go true ih = ap (λ vs. w ∷ vs) ih
     go false ih = ih
 
 -- the first committed writes have the first numbers
 first_number : (r : Replica) (front rest : List Write) (w : Write) → IsReplica r → committed r ≡ front ++ rest → Has w front → (1 ≤ seq_of r w) × (seq_of r w ≤ length front)
 first_number r front rest w sound parts h =
-    let (i, e) = has_slice w front h in
+    let (i, e) = has_place w front h in
     let low = slice_bound front i w e in
     let more = length-append front rest in
     let long : length (committed r) ≡ length r.commits = sym (length-map (committed r) id_of) ∙ ap length (committed_ids r sound) in
@@ -200,14 +196,14 @@ undone_picked a items inside touched sound covers right =
         (λ w h e. covers w (moving_inside a items w (tentative_number a w h) e))
 
 abbrev anew : Replica → Replica → List Item → List Text → Write → Bool
-anew a b items touched w = is_anew touched items (length a.commits) (logged_of b w)
+anew a b items touched w = is_anew touched items (length a.commits) (numbered_of b w)
 
 not_above : (n k : ℕ) → k ≤ n → ltb n k ≡ false
 not_above n k l = false_from_ne_true (ltb n k) (λ t. let g = ltb-true n k t in omega (arith, g, l))
 
-pub again_picked : (a b : Replica) (items : List Item) (inside : Write → Bool) (touched : List Text) (commits : ℕ) (kept : List LoggedWrite) (m : ShowsMoves a b items inside touched commits kept) → map (λ x. x.write) (filter (is_anew touched items commits) kept) ≡ again a items m.moves.news b
+pub again_picked : (a b : Replica) (items : List Item) (inside : Write → Bool) (touched : List Text) (commits : ℕ) (kept : List NumberedWrite) (m : ShowsMoves a b items inside touched commits kept) → map (λ x. x.write) (filter (is_anew touched items commits) kept) ≡ again a items m.moves.news b
 again_picked a b items inside touched commits kept m =
-    (λ i. map (λ (x : LoggedWrite). x.write) (filter (is_anew touched items (m.commits_are i)) (m.kept_are i)))
+    (λ i. map (λ (x : NumberedWrite). x.write) (filter (is_anew touched items (m.commits_are i)) (m.kept_are i)))
     ∙ filter_logged (is_anew touched items (length a.commits)) b (filter inside (kept_in_order b))
     ∙ ap (λ ws. filter (anew a b items touched) (filter inside (ws ++ tentative b))) kept_is
     ∙ filter_apart (anew a b items touched) inside (kept_commits a ++ m.moves.news) (tentative b)
@@ -237,7 +233,7 @@ again_picked a b items inside touched commits kept m =
 
     number : (w : Write) → Has w m.moves.news → length a.commits < seq_of b w
     number w h =
-        let (i, e) = has_slice w m.moves.news h in
+        let (i, e) = has_place w m.moves.news h in
         let low = slice_bound m.moves.news i w e in
         let commits = commits_long a b items m.moves m.sound in
         let within : length a.commits + 1 + i ≤ length b.commits = omega (arith, low, commits) in

@@ -1,42 +1,35 @@
 -- The change between two replicas, where all but some writes keep their rows, turns the tables of the one into those of the other.
-use Rattle.std.proofs.Common.{◌≡◌, refl, sym, ap, ◌∙◌, subst, ℕ, zero, suc, ◌+◌, ◌≤◌, Bool, true, false, not, cond, eqb, ltb, List, [], ◌∷◌, length, map, ◌⊎◌, inl, inr, Option, Some, None, arith, lt-ltb}
+use Rattle.std.proofs.Common.{◌≡◌, refl, sym, ap, ◌∙◌, subst, ℕ, zero, suc, ◌+◌, ◌≤◌, Bool, true, false, cond, eqb, ltb, List, [], ◌∷◌, length, map, ◌⊎◌, inl, inr, Option, Some, None, arith, lt-ltb}
 use Rattle.std.proofs.lemmas.Bool.{true≢false, cond-false}
 use Rattle.std.specs.Prelude.{flat_map, ◌↔◌}
-use Rattle.std.specs.List.{filter, filter_map}
+use Rattle.std.specs.List.{filter_map, cons_option}
 use Rattle.mr_model.specs.Texts.{Text, numbers_on}
 use Rattle.mr_model.specs.Slots.{Slot}
-use Rattle.mr_model.specs.Writes.{Id, Write, id_of}
+use Rattle.mr_model.specs.Writes.{Id, Action, Books, Cancels, Write, id_of}
 use Rattle.mr_model.specs.Replica.{Replica, IsReplica, count_of, writes_of, text_before, is_among, is_dropped, is_committed}
-use Rattle.mr_model.specs.Replay.{Place, Taken, Logged, slot_at}
-use Rattle.mr_model.specs.Tables.{VectorRow, BookingRow, ErrorRow, by_id, seq_of, place_of, vector_row, log_row, undo_row, booking_row_at, booking_row, error_row_at, error_row, tables_of}
-use Rattle.mr_model.specs.Queries.{booking_id, error_id}
+use Rattle.mr_model.specs.Replay.{Place, slot_at}
+use Rattle.mr_model.specs.View.{place_of, canceller_of}
+use Rattle.mr_model.specs.Tables.{VectorRow, LogRow, BookingRow, ErrorRow, CancelledRow, CancelRow, PlaceRow, by_id, seq_of, vector_row, log_row, as_booking, as_error, as_cancelled, as_cancel, booking_place_row, place_row_for, place_row, tables_of}
+use Rattle.mr_model.specs.Queries.{booking_id, error_id, cancelled_id, cancel_id, row_id}
+use Rattle.mr_model.specs.Tables as rows
 use Rattle.mr_model.specs.Dropped.{Has}
-use Rattle.mr_model.specs.Changes.{IdBefore}
-use Rattle.mr_model.proofs.AnswersFromRows.{one_row}
-use Rattle.mr_model.proofs.KeyOrder.{numbers_low, WriteBefore, by_id_sorted}
+use Rattle.mr_model.proofs.KeyOrder.{numbers_low}
 use Rattle.mr_model.proofs.KnownById.{one_known}
 use Rattle.mr_model.proofs.Members.{has_map, map_has, has_filter, filter_has, has_filter_map, filter_map_has, has_among, among_has}
 use Rattle.mr_model.proofs.RowsById.{flat_has, has_by_id, by_id_has, map_filter}
 use Rattle.mr_model.proofs.RowsOfKnown.{rows_of_known}
-use Rattle.mr_model.proofs.RowsTell.{committed-seq, sorted_filter_map, sorted_append}
-use Rattle.mr_model.proofs.TablesTell.{vector_entry, in_row, counted_server, kept_log, booked_row, logged_row}
+use Rattle.mr_model.proofs.RowsTell.{booked_is, erred_is, cancelled_is, cancel_is}
+use Rattle.mr_model.proofs.Runs.{sorted_append}
+use Rattle.mr_model.proofs.TablesTell.{vector_entry, in_row, counted_server, key-row}
 use Rattle.mr_model.proofs.TruncateRows.{front-seq}
-use Rattle.mr_model.proofs.TwinTables.{kept_undo}
 use Rattle.mr_model.proofs.UniqueReplay.{some_inj, none_some}
-use Rattle.mr_tables.specs.Change.{put_all, without, id_before, log_id, undo_id, ChangeView, changed}
-use Rattle.mr_tables.specs.Rows.{booking_with, error_with}
-use Rattle.mr_tables.proofs.Putting.{InOrder, Lacks, id_before_from, number_order, name_order, puts_make, change_makes}
+use Rattle.mr_tables.specs.Change.{put_all, without, id_before, log_id, ChangeView, changed}
+use Rattle.mr_tables.specs.Written.{not_booked, not_erred, not_cancelled, with_places}
+use Rattle.mr_tables.proofs.Putting.{InOrder, Lacks, number_order, name_order, puts_make, change_makes}
+use Rattle.mr_replica.proofs.DeskBoards.{place_bears}
+use Rattle.mr_replica.proofs.DeskNumbers.{Bears, rows_in_order}
 
 -- ---- one table of writes
-
--- each row bears the id of its write
-abbrev pub Bears : {R : Type 0} → (R → Id) → (Write → Option R) → Type 0
-Bears {R} key f = (w : Write) (row : R) → f w ≡ Some row → key row ≡ id_of w
-
-pub rows_in_order : {R : Type 0} (r : Replica) (key : R → Id) (f : Write → Option R) → IsReplica r → Bears key f → InOrder id_before key (filter_map f (by_id r.known))
-rows_in_order r key f h keyed =
-    sorted_filter_map WriteBefore (λ a b. id_before (key a) (key b) ≡ true) f (by_id r.known)
-    (λ x y u v l e g. id_before_from (key u) (key v) (subst (λ i. IdBefore i (key v)) (sym (keyed x u e)) (subst (λ i. IdBefore (id_of x) i) (sym (keyed y v g)) l))) (by_id_sorted r h)
 
 -- the rows put are those that these writes have now, the ids taken away are of those that have none now, and all others have the rows
 -- that they had
@@ -82,28 +75,21 @@ rows_move {R} a b key fa fb ws rows gone ha hb ka kb m =
 
 -- ---- all tables
 
--- these writes are kept; all others are at the places and with the commit numbers that they had
-pub record Moves (a b : Replica) (ws : List Write) : Type 0 where
+-- These writes get their rows of the log, and these their rows of what became of them; all others have the rows that they had.
+pub record Moves (a b : Replica) (logs places : List Write) : Type 0 where
   pub dropped : a.dropped ≡ b.dropped
   pub stays : (w : Write) → Has w a.known → Has w b.known
-  pub others : (w : Write) → Has w b.known → Has w ws ⊎ (Has w a.known × (place_of a w ≡ place_of b w) × (seq_of a w ≡ seq_of b w))
-  pub moved : (w : Write) → Has w ws → Has w b.known × (is_dropped b (id_of w) ≡ false)
+  pub logged : (w : Write) → Has w b.known → Has w logs ⊎ (Has w a.known × (place_of a w ≡ place_of b w) × (seq_of a w ≡ seq_of b w))
+  pub placed : (w : Write) → Has w b.known → Has w places ⊎ (Has w a.known × (place_row a w ≡ place_row b w))
+  pub kept : (w : Write) → Has w logs → Has w b.known × (is_dropped b (id_of w) ≡ false)
+  pub known : (w : Write) → Has w places → Has w b.known
 
 -- what is put and taken away then, with these rooms and rows of servers
-abbrev pub change_of : Replica → List Write → List Text → List VectorRow → ChangeView
-change_of b ws rooms vector =
-    record {
-      meta = (tables_of b).meta;
-      room = rooms;
-      vector = vector;
-      dropped = [];
-      write_log = map (log_row b) ws;
-      undo = map (undo_row b) ws;
-      unbooked = map error_id (filter_map (error_row b) ws);
-      booking = filter_map (booking_row b) ws;
-      unlogged = map booking_id (filter_map (booking_row b) ws);
-      errorlog = filter_map (error_row b) ws;
-    }
+abbrev pub change_of : Replica → List Write → List Write → List Text → List VectorRow → ChangeView
+change_of b logs places rooms vector = with_places (tables_of b).meta rooms vector (map (log_row b) logs) (map (place_row b) places)
+
+abbrev kept_log : Replica → Write → Option LogRow
+kept_log r w = cond (is_dropped r (id_of w)) None (Some (log_row r w))
 
 pub log_bears : (r : Replica) → Bears log_id (kept_log r)
 log_bears r w row e = go (is_dropped r (id_of w)) e
@@ -112,18 +98,17 @@ log_bears r w row e = go (is_dropped r (id_of w)) e
     go true g = absurd (none_some row g)
     go false g = ap log_id (sym (some_inj (log_row r w) row g))
 
-pub undo_bears : (r : Replica) → Bears undo_id (kept_undo r)
-undo_bears r w row e = go (is_dropped r (id_of w)) e
-  where
-    go : (b : Bool) → cond b None (Some (undo_row r w)) ≡ Some row → undo_id row ≡ id_of w
-    go true g = absurd (none_some row g)
-    go false g = ap undo_id (sym (some_inj (undo_row r w) row g))
+pub booking_bears : (r : Replica) → Bears booking_id (λ w. as_booking (place_row r w))
+booking_bears r = place_bears r as_booking booking_id (λ q row e. sym (ap row_id (booked_is row q e)))
 
-pub booking_bears : (r : Replica) → Bears booking_id (booking_row r)
-booking_bears r w row e = let (s, p, f) = booked_row r w row e in ap booking_id f
+pub error_bears : (r : Replica) → Bears error_id (λ w. as_error (place_row r w))
+error_bears r = place_bears r as_error error_id (λ q row e. sym (ap row_id (erred_is row q e)))
 
-pub error_bears : (r : Replica) → Bears error_id (error_row r)
-error_bears r w row e = ap error_id (logged_row r w row e).1
+pub cancelled_bears : (r : Replica) → Bears cancelled_id (λ w. as_cancelled (place_row r w))
+cancelled_bears r = place_bears r as_cancelled cancelled_id (λ q row e. sym (ap row_id (cancelled_is row q e)))
+
+pub cancel_bears : (r : Replica) → Bears cancel_id (λ w. as_cancel (place_row r w))
+cancel_bears r = place_bears r as_cancel cancel_id (λ q row e. sym (ap row_id (cancel_is row q e)))
 
 -- ---- servers
 
@@ -189,108 +174,160 @@ pub rooms_move : (a b : Replica) (rooms : List Text) → IsReplica a → IsRepli
 rooms_move a b rooms ha hb are =
     puts_make text_before (λ name. name) name_order rooms a.rooms b.rooms ha.rooms_in_order hb.rooms_in_order (λ t h. (are t).1 (inl h)) (λ t h l. (are t).1 (inr h)) (λ t h. (are t).0 h)
 
--- ---- requests
+-- ---- the log
 
 -- a write with the same number is dropped at both or at neither
 dropped_same : (a b : Replica) (w : Write) → a.dropped ≡ b.dropped → seq_of a w ≡ seq_of b w → is_dropped a (id_of w) ≡ is_dropped b (id_of w)
 dropped_same a b w d e = front-seq a.dropped a.commits (id_of w) ∙ (λ i. Rattle.mr_model.specs.Texts.within 1 (d i) (e i)) ∙ sym (front-seq b.dropped b.commits (id_of w))
 
-log_same : (a b : Replica) (w : Write) → a.dropped ≡ b.dropped → seq_of a w ≡ seq_of b w → kept_log a w ≡ kept_log b w
-log_same a b w d e = let gone = dropped_same a b w d e in λ i. cond (gone i) None (Some (record (log_row a w) { seq = e i }))
+log_same : (a b : Replica) (w : Write) → a.dropped ≡ b.dropped → seq_of a w ≡ seq_of b w → place_of a w ≡ place_of b w → kept_log a w ≡ kept_log b w
+log_same a b w d e p = let gone = dropped_same a b w d e in λ i. cond (gone i) None (Some (record (log_row a w) { seq = e i; place = p i }))
 
-undo_same : (a b : Replica) (w : Write) → a.dropped ≡ b.dropped → seq_of a w ≡ seq_of b w → place_of a w ≡ place_of b w → kept_undo a w ≡ kept_undo b w
-undo_same a b w d e p = let gone = dropped_same a b w d e in λ i. cond (gone i) None (Some (record { server = w.stamp.server; n = w.stamp.n; place = p i }))
-
-pub booking-with : (r : Replica) (w : Write) (o : Option Slot) → booking_row_at r w o ≡ booking_with w (is_committed r (id_of w)) o
-booking-with r w None = refl
-booking-with r w (Some s) = refl
-
-booking_same : (a b : Replica) (w : Write) → seq_of a w ≡ seq_of b w → place_of a w ≡ place_of b w → booking_row a w ≡ booking_row b w
-booking_same a b w e p =
-    let mark : is_committed a (id_of w) ≡ is_committed b (id_of w) = committed-seq a w ∙ ap (λ q. not (eqb q 0)) e ∙ sym (committed-seq b w) in
-    booking-with a w (slot_at w (place_of a w)) ∙ (λ i. booking_with w (mark i) (slot_at w (p i))) ∙ sym (booking-with b w (slot_at w (place_of b w)))
-
-pub error-with : (r : Replica) (w : Write) (p : Place) → error_row_at r w p ≡ error_with w (seq_of r w) p
-error-with r w (Taken k) = refl
-error-with r w Logged = refl
-
-error_same : (a b : Replica) (w : Write) → seq_of a w ≡ seq_of b w → place_of a w ≡ place_of b w → error_row a w ≡ error_row b w
-error_same a b w e p = error-with a w (place_of a w) ∙ (λ i. error_with w (e i) (p i)) ∙ sym (error-with b w (place_of b w))
-
--- a table with a row for each kept write
-kept_move : {R : Type 0} (a b : Replica) (ws : List Write) (key : R → Id) (g : Replica → Write → R) → IsReplica a → IsReplica b → Moves a b ws → ((r : Replica) → Bears key (λ w. cond (is_dropped r (id_of w)) None (Some (g r w)))) → ((w : Write) → seq_of a w ≡ seq_of b w → place_of a w ≡ place_of b w → cond (is_dropped a (id_of w)) None (Some (g a w)) ≡ cond (is_dropped b (id_of w)) None (Some (g b w))) → put_all id_before key (map (g b) ws) (without key [] (map (g a) (filter (λ w. not (is_dropped a (id_of w))) (by_id a.known)))) ≡ map (g b) (filter (λ w. not (is_dropped b (id_of w))) (by_id b.known))
-kept_move {R} a b ws key g ha hb m keyed same =
-    ap (λ rows. put_all id_before key (map (g b) ws) (without key [] rows)) (map_filter (λ w. is_dropped a (id_of w)) (g a) (by_id a.known))
-    ∙ rows_move a b key (row a) (row b) ws (map (g b) ws) [] ha hb (keyed a) (keyed b)
+-- the rows of the kept writes
+log_move : (a b : Replica) (logs places : List Write) → IsReplica a → IsReplica b → Moves a b logs places → put_all id_before log_id (map (log_row b) logs) (without log_id [] (tables_of a).log) ≡ (tables_of b).log
+log_move a b logs places ha hb m =
+    ap (λ rows. put_all id_before log_id (map (log_row b) logs) (without log_id [] rows)) (map_filter (λ w. is_dropped a (id_of w)) (log_row a) (by_id a.known))
+    ∙ rows_move a b log_id (kept_log a) (kept_log b) logs (map (log_row b) logs) [] ha hb (log_bears a) (log_bears b)
     (record {
       stays = m.stays;
-      others = λ w h. go w (m.others w h);
-      moved = λ w h. (m.moved w h).0;
-      put_is = λ r h. let (w, c, e) = map_has (g b) r ws h in (w, c, cond-false (is_dropped b (id_of w)) None (Some (g b w)) (m.moved w c).1 ∙ ap Some (sym e));
-      is_put = λ w r h e. subst (λ x. Has x (map (g b) ws)) (some_inj (g b w) r (sym (cond-false (is_dropped b (id_of w)) None (Some (g b w)) (m.moved w h).1) ∙ e)) (has_map (g b) w ws h);
+      others = λ w h. go w (m.logged w h);
+      moved = λ w h. (m.kept w h).0;
+      put_is = λ r h. let (w, c, e) = map_has (log_row b) r logs h in (w, c, cond-false (is_dropped b (id_of w)) None (Some (log_row b w)) (m.kept w c).1 ∙ ap Some (sym e));
+      is_put = λ w r h e. subst (λ x. Has x (map (log_row b) logs)) (some_inj (log_row b w) r (sym (cond-false (is_dropped b (id_of w)) None (Some (log_row b w)) (m.kept w h).1) ∙ e)) (has_map (log_row b) w logs h);
       gone_is = λ i h. absurd h;
-      is_gone = λ w r h e f. absurd (none_some (g b w) (sym f ∙ cond-false (is_dropped b (id_of w)) None (Some (g b w)) (m.moved w h).1));
+      is_gone = λ w r h e f. absurd (none_some (log_row b w) (sym f ∙ cond-false (is_dropped b (id_of w)) None (Some (log_row b w)) (m.kept w h).1));
     })
-    ∙ sym (map_filter (λ w. is_dropped b (id_of w)) (g b) (by_id b.known))
+    ∙ sym (map_filter (λ w. is_dropped b (id_of w)) (log_row b) (by_id b.known))
   where
-    row : Replica → Write → Option R
-    row r w = cond (is_dropped r (id_of w)) None (Some (g r w))
-
-    go : (w : Write) → Has w ws ⊎ (Has w a.known × (place_of a w ≡ place_of b w) × (seq_of a w ≡ seq_of b w)) → Has w ws ⊎ (Has w a.known × (row a w ≡ row b w))
+    go : (w : Write) → Has w logs ⊎ (Has w a.known × (place_of a w ≡ place_of b w) × (seq_of a w ≡ seq_of b w)) → Has w logs ⊎ (Has w a.known × (kept_log a w ≡ kept_log b w))
     go w (inl c) = inl c
-    go w (inr (k, p, q)) = inr (k, same w q p)
+    go w (inr (k, p, q)) = inr (k, log_same a b w m.dropped q p)
 
--- a table of the writes at a place of its kind; the others are in a table of theirs
-told_move : {R S : Type 0} (a b : Replica) (ws : List Write) (key : R → Id) (other_key : S → Id) (f : Replica → Write → Option R) (other : Write → Option S) → IsReplica a → IsReplica b → Moves a b ws → Bears key (f a) → Bears key (f b) → Bears other_key other → ((w : Write) → seq_of a w ≡ seq_of b w → place_of a w ≡ place_of b w → f a w ≡ f b w) → ((w : Write) → Has w b.known → f b w ≡ None → (row : S) × (other w ≡ Some row)) → put_all id_before key (filter_map (f b) ws) (without key (map other_key (filter_map other ws)) (filter_map (f a) (by_id a.known))) ≡ filter_map (f b) (by_id b.known)
-told_move {R} {S} a b ws key other_key f other ha hb m ka kb ko same elsewhere =
-    rows_move a b key (f a) (f b) ws (filter_map (f b) ws) (map other_key (filter_map other ws)) ha hb ka kb
+-- ---- what became of writes
+
+-- rows that are picked off rows of writes
+picked : {A B C : Type 0} (f : B → Option C) (g : A → B) (xs : List A) → filter_map f (map g xs) ≡ filter_map (λ x. f (g x)) xs
+picked f g [] = refl
+picked f g (x ∷ xs) = ap (cons_option (f (g x))) (picked f g xs)
+
+pub without_none : {R : Type 0} (key : R → Id) (rows : List R) → without key [] rows ≡ rows
+without_none key [] = refl
+without_none key (x ∷ xs) = ap (λ ys. x ∷ ys) (without_none key xs)
+
+-- the ids that are taken away are those of rows, and a row that goes to another table leaves this one
+record Leaves (R : Type 0) (as_row : PlaceRow → Option R) (gone : PlaceRow → Option Id) : Type 0 where
+  is_key : (q : PlaceRow) (i : Id) → gone q ≡ Some i → i ≡ row_id q
+  leaves : (w : Write) (x : Action) (p q : Place) (c d : Option Id) (m n : Bool) (s t : ℕ) (row : R) → as_row (place_row_for w x p c m s) ≡ Some row → as_row (place_row_for w x q d n t) ≡ None → gone (place_row_for w x q d n t) ≡ Some (row_id (place_row_for w x q d n t))
+
+-- a table of the rows of one kind
+place_move : {R : Type 0} (a b : Replica) (logs places : List Write) (key : R → Id) (as_row : PlaceRow → Option R) (gone : PlaceRow → Option Id) → IsReplica a → IsReplica b → Moves a b logs places → Bears key (λ w. as_row (place_row a w)) → Bears key (λ w. as_row (place_row b w)) → Leaves R as_row gone → put_all id_before key (filter_map as_row (map (place_row b) places)) (without key (filter_map gone (map (place_row b) places)) (filter_map (λ w. as_row (place_row a w)) (by_id a.known))) ≡ filter_map (λ w. as_row (place_row b w)) (by_id b.known)
+place_move {R} a b logs places key as_row gone ha hb m ka kb l =
+    (λ i. put_all id_before key (picked as_row (place_row b) places i) (without key (picked gone (place_row b) places i) (filter_map (λ w. as_row (place_row a w)) (by_id a.known))))
+    ∙ rows_move a b key (λ w. as_row (place_row a w)) (λ w. as_row (place_row b w)) places (filter_map (λ w. as_row (place_row b w)) places) (filter_map (λ w. gone (place_row b w)) places) ha hb ka kb
     (record {
       stays = m.stays;
-      others = λ w h. go w (m.others w h);
-      moved = λ w h. (m.moved w h).0;
-      put_is = λ r h. filter_map_has (f b) r ws h;
-      is_put = λ w r h e. has_filter_map (f b) w r ws e h;
-      gone_is = λ i h. let (s, c, e) = map_has other_key i (filter_map other ws) h in let (w, d, g) = filter_map_has other s ws c in (w, d, sym (ko w s g) ∙ sym e);
-      is_gone = λ w r h e g. let (s, o) = elsewhere w (m.moved w h).0 g in subst (λ i. Has i (map other_key (filter_map other ws))) (ko w s o) (has_map other_key s (filter_map other ws) (has_filter_map other w s ws o h));
+      others = λ w h. go w (m.placed w h);
+      moved = m.known;
+      put_is = λ r h. filter_map_has (λ w. as_row (place_row b w)) r places h;
+      is_put = λ w r h e. has_filter_map (λ v. as_row (place_row b v)) w r places e h;
+      gone_is = λ i h. let (w, c, e) = filter_map_has (λ v. gone (place_row b v)) i places h in (w, c, sym (l.is_key (place_row b w) i e ∙ key-row b w));
+      is_gone = λ w r h e f.
+          has_filter_map (λ v. gone (place_row b v)) w (id_of w) places
+          (l.leaves w w.action (place_of a w) (place_of b w) (canceller_of a w) (canceller_of b w) (is_committed a (id_of w)) (is_committed b (id_of w)) (seq_of a w) (seq_of b w) r e f ∙ ap Some (key-row b w)) h;
     })
   where
-    go : (w : Write) → Has w ws ⊎ (Has w a.known × (place_of a w ≡ place_of b w) × (seq_of a w ≡ seq_of b w)) → Has w ws ⊎ (Has w a.known × (f a w ≡ f b w))
+    go : (w : Write) → Has w places ⊎ (Has w a.known × (place_row a w ≡ place_row b w)) → Has w places ⊎ (Has w a.known × (as_row (place_row a w) ≡ as_row (place_row b w)))
     go w (inl c) = inl c
-    go w (inr (k, p, q)) = inr (k, same w q p)
+    go w (inr (k, e)) = inr (k, ap as_row e)
 
-pub moves : (a b : Replica) (ws : List Write) (rooms : List Text) (vector : List VectorRow) → IsReplica a → IsReplica b → Moves a b ws → put_all text_before (λ name. name) rooms a.rooms ≡ b.rooms → put_all ltb (λ (row : VectorRow). row.server) vector (tables_of a).vector ≡ (tables_of b).vector → changed (change_of b ws rooms vector) (tables_of a) ≡ tables_of b
-moves a b ws rooms vector ha hb m e f = λ i. record {
+booking_leaves : Leaves BookingRow as_booking not_booked
+booking_leaves = record { is_key = is_key; leaves = leaves }
+  where
+    is_key : (q : PlaceRow) (i : Id) → not_booked q ≡ Some i → i ≡ row_id q
+    is_key (rows.Booked row) i e = absurd (none_some i e)
+    is_key (rows.Erred row) i e = sym (some_inj (error_id row) i e)
+    is_key (rows.Cancelled row) i e = sym (some_inj (cancelled_id row) i e)
+    is_key (rows.Cancel row) i e = absurd (none_some i e)
+
+    leaves : (w : Write) (x : Action) (p q : Place) (c d : Option Id) (m n : Bool) (s t : ℕ) (row : BookingRow) → as_booking (place_row_for w x p c m s) ≡ Some row → as_booking (place_row_for w x q d n t) ≡ None → not_booked (place_row_for w x q d n t) ≡ Some (row_id (place_row_for w x q d n t))
+    leaves w (Cancels y) p q c d m n s t row e f = absurd (none_some row e)
+    leaves w (Books y) p q c d m n s t row e f = go (slot_at w q) d f
+      where
+        go : (o : Option Slot) (d : Option Id) → as_booking (booking_place_row w y o d n t) ≡ None → not_booked (booking_place_row w y o d n t) ≡ Some (row_id (booking_place_row w y o d n t))
+        go None d f = refl
+        go (Some z) None f = absurd (none_some _ (sym f))
+        go (Some z) (Some k) f = refl
+
+error_leaves : Leaves ErrorRow as_error not_erred
+error_leaves = record { is_key = is_key; leaves = leaves }
+  where
+    is_key : (q : PlaceRow) (i : Id) → not_erred q ≡ Some i → i ≡ row_id q
+    is_key (rows.Booked row) i e = sym (some_inj (booking_id row) i e)
+    is_key (rows.Erred row) i e = absurd (none_some i e)
+    is_key (rows.Cancelled row) i e = sym (some_inj (cancelled_id row) i e)
+    is_key (rows.Cancel row) i e = absurd (none_some i e)
+
+    leaves : (w : Write) (x : Action) (p q : Place) (c d : Option Id) (m n : Bool) (s t : ℕ) (row : ErrorRow) → as_error (place_row_for w x p c m s) ≡ Some row → as_error (place_row_for w x q d n t) ≡ None → not_erred (place_row_for w x q d n t) ≡ Some (row_id (place_row_for w x q d n t))
+    leaves w (Cancels y) p q c d m n s t row e f = absurd (none_some row e)
+    leaves w (Books y) p q c d m n s t row e f = go (slot_at w q) d f
+      where
+        go : (o : Option Slot) (d : Option Id) → as_error (booking_place_row w y o d n t) ≡ None → not_erred (booking_place_row w y o d n t) ≡ Some (row_id (booking_place_row w y o d n t))
+        go None d f = absurd (none_some _ (sym f))
+        go (Some z) None f = refl
+        go (Some z) (Some k) f = refl
+
+cancelled_leaves : Leaves CancelledRow as_cancelled not_cancelled
+cancelled_leaves = record { is_key = is_key; leaves = leaves }
+  where
+    is_key : (q : PlaceRow) (i : Id) → not_cancelled q ≡ Some i → i ≡ row_id q
+    is_key (rows.Booked row) i e = sym (some_inj (booking_id row) i e)
+    is_key (rows.Erred row) i e = sym (some_inj (error_id row) i e)
+    is_key (rows.Cancelled row) i e = absurd (none_some i e)
+    is_key (rows.Cancel row) i e = absurd (none_some i e)
+
+    leaves : (w : Write) (x : Action) (p q : Place) (c d : Option Id) (m n : Bool) (s t : ℕ) (row : CancelledRow) → as_cancelled (place_row_for w x p c m s) ≡ Some row → as_cancelled (place_row_for w x q d n t) ≡ None → not_cancelled (place_row_for w x q d n t) ≡ Some (row_id (place_row_for w x q d n t))
+    leaves w (Cancels y) p q c d m n s t row e f = absurd (none_some row e)
+    leaves w (Books y) p q c d m n s t row e f = go (slot_at w q) d f
+      where
+        go : (o : Option Slot) (d : Option Id) → as_cancelled (booking_place_row w y o d n t) ≡ None → not_cancelled (booking_place_row w y o d n t) ≡ Some (row_id (booking_place_row w y o d n t))
+        go None d f = refl
+        go (Some z) None f = refl
+        go (Some z) (Some k) f = absurd (none_some _ (sym f))
+
+-- a row of cancels stays one
+stays_cancel : (w : Write) (x : Action) (p q : Place) (c d : Option Id) (m n : Bool) (s t : ℕ) (row : CancelRow) → as_cancel (place_row_for w x p c m s) ≡ Some row → as_cancel (place_row_for w x q d n t) ≡ None → ⊥
+stays_cancel w (Cancels y) p q c d m n s t row e f = none_some _ (sym f)
+stays_cancel w (Books y) p q c d m n s t row e f = go (slot_at w p) c e
+  where
+    go : (o : Option Slot) (c : Option Id) → as_cancel (booking_place_row w y o c m s) ≡ Some row → ⊥
+    go None c e = none_some row e
+    go (Some z) None e = none_some row e
+    go (Some z) (Some k) e = none_some row e
+
+gone_with : PlaceRow → Option Id
+gone_with q = None
+
+none_gone : (ps : List PlaceRow) → filter_map gone_with ps ≡ []
+unfolding gone_with
+none_gone [] = refl
+none_gone (p ∷ ps) = none_gone ps
+
+cancels_move : (a b : Replica) (logs places : List Write) → IsReplica a → IsReplica b → Moves a b logs places → put_all id_before cancel_id (filter_map as_cancel (map (place_row b) places)) (tables_of a).cancels ≡ (tables_of b).cancels
+unfolding gone_with
+cancels_move a b logs places ha hb m =
+    ap (put_all id_before cancel_id (filter_map as_cancel (map (place_row b) places))) (sym (without_none cancel_id (tables_of a).cancels))
+    ∙ (λ i. put_all id_before cancel_id (filter_map as_cancel (map (place_row b) places)) (without cancel_id (sym (none_gone (map (place_row b) places)) i) (tables_of a).cancels))
+    ∙ place_move a b logs places cancel_id as_cancel gone_with ha hb m (cancel_bears a) (cancel_bears b)
+    (record { is_key = λ q i e. absurd (none_some i e); leaves = λ w x p q c d k n s t row e f. absurd (stays_cancel w x p q c d k n s t row e f) })
+
+pub moves : (a b : Replica) (logs places : List Write) (rooms : List Text) (vector : List VectorRow) → IsReplica a → IsReplica b → Moves a b logs places → put_all text_before (λ name. name) rooms a.rooms ≡ b.rooms → put_all ltb (λ (row : VectorRow). row.server) vector (tables_of a).vector ≡ (tables_of b).vector → changed (change_of b logs places rooms vector) (tables_of a) ≡ tables_of b
+moves a b logs places rooms vector ha hb m e f = λ i. record {
   meta = (tables_of b).meta;
   room = e i;
   vector = f i;
-  write_log = write_log i;
-  undo = undo i;
-  booking = booking i;
-  errorlog = errorlog i;
+  log = log_move a b logs places ha hb m i;
+  booking = place_move a b logs places booking_id as_booking not_booked ha hb m (booking_bears a) (booking_bears b) booking_leaves i;
+  errorlog = place_move a b logs places error_id as_error not_erred ha hb m (error_bears a) (error_bears b) error_leaves i;
+  cancelled = place_move a b logs places cancelled_id as_cancelled not_cancelled ha hb m (cancelled_bears a) (cancelled_bears b) cancelled_leaves i;
+  cancels = cancels_move a b logs places ha hb m i;
 }
-  where
-    write_log : put_all id_before log_id (map (log_row b) ws) (without log_id [] (tables_of a).write_log) ≡ (tables_of b).write_log
-    write_log = kept_move a b ws log_id log_row ha hb m log_bears (λ w q p. log_same a b w m.dropped q)
-
-    undo : put_all id_before undo_id (map (undo_row b) ws) (without undo_id [] (tables_of a).undo) ≡ (tables_of b).undo
-    undo = kept_move a b ws undo_id undo_row ha hb m undo_bears (λ w q p. undo_same a b w m.dropped q p)
-
-    logged : (w : Write) → Has w b.known → booking_row b w ≡ None → (row : ErrorRow) × (error_row b w ≡ Some row)
-    logged w h e = go (one_row b w hb h)
-      where
-        go : ((row : BookingRow) × (booking_row b w ≡ Some row) × (error_row b w ≡ None)) ⊎ ((row : ErrorRow) × (error_row b w ≡ Some row) × (booking_row b w ≡ None)) → (row : ErrorRow) × (error_row b w ≡ Some row)
-        go (inl (row, f, g)) = absurd (none_some row (sym e ∙ f))
-        go (inr (row, f, g)) = (row, f)
-
-    booked : (w : Write) → Has w b.known → error_row b w ≡ None → (row : BookingRow) × (booking_row b w ≡ Some row)
-    booked w h e = go (one_row b w hb h)
-      where
-        go : ((row : BookingRow) × (booking_row b w ≡ Some row) × (error_row b w ≡ None)) ⊎ ((row : ErrorRow) × (error_row b w ≡ Some row) × (booking_row b w ≡ None)) → (row : BookingRow) × (booking_row b w ≡ Some row)
-        go (inl (row, f, g)) = (row, f)
-        go (inr (row, f, g)) = absurd (none_some row (sym e ∙ f))
-
-    booking : put_all id_before booking_id (filter_map (booking_row b) ws) (without booking_id (map error_id (filter_map (error_row b) ws)) (tables_of a).booking) ≡ (tables_of b).booking
-    booking = told_move a b ws booking_id error_id booking_row (error_row b) ha hb m (booking_bears a) (booking_bears b) (error_bears b) (booking_same a b) logged
-
-    errorlog : put_all id_before error_id (filter_map (error_row b) ws) (without error_id (map booking_id (filter_map (booking_row b) ws)) (tables_of a).errorlog) ≡ (tables_of b).errorlog
-    errorlog = told_move a b ws error_id booking_id error_row (booking_row b) ha hb m (error_bears a) (error_bears b) (booking_bears b) (error_same a b) booked

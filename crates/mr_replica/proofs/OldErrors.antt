@@ -6,18 +6,19 @@ use Rattle.std.specs.Ordering.{nat_cmp}
 use Rattle.std.specs.Cmp.{nat_cmp_total}
 use Rattle.std.specs.List.{AllByRecursion, filter, slice_get}
 use Rattle.std.specs.List.Sorted.{IsPermutation, IsSortedByKey}
+use Rattle.mr_model.specs.Texts.{within}
 use Rattle.mr_model.specs.Writes.{Write, id_of, is_count}
-use Rattle.mr_model.specs.Replay.{Place, Taken, Logged}
+use Rattle.mr_model.specs.Replay.{Place, Taken, Logged, Done, Void}
 use Rattle.mr_model.specs.Replica.{Replica, IsReplica}
-use Rattle.mr_model.specs.Tables.{ErrorRow, by_id, seq_of, place_of, error_row_at, error_row, tables_of}
-use Rattle.mr_model.specs.Queries.{error_id}
+use Rattle.mr_model.specs.View.{place_of}
+use Rattle.mr_model.specs.Tables.{ErrorRow, by_id, seq_of, as_error, error_row, tables_of}
+use Rattle.mr_model.specs.Queries.{error_id, row_id}
 use Rattle.mr_model.specs.Kept.{dropped_in_order, kept_in_order}
 use Rattle.mr_model.specs.Dropped.{Has}
-use Rattle.mr_model.proofs.LogOrder.{order-parts}
+use Rattle.mr_model.proofs.DroppedApart.{order-parts, known_order, order_known}
 use Rattle.mr_model.proofs.Members.{has_left, has_split, has_all, all_has, has_map, map_has, has_filter, filter_has, has_filter_map, filter_map_has, Sorted, sorted_filter}
 use Rattle.mr_model.proofs.RowsById.{has_by_id, by_id_has}
-use Rattle.mr_model.proofs.RowsTell.{known_order, order_known}
-use Rattle.mr_model.proofs.TablesTell.{logged_as, logged_row}
+use Rattle.mr_model.proofs.RowsTell.{erred_is}
 use Rattle.mr_replay.specs.Places.{UndoRow}
 use Rattle.mr_replay.specs.Rows.{undo_rows_of}
 use Rattle.mr_tables.specs.declared.old_errors.OldError.{OldError}
@@ -27,13 +28,14 @@ use Rattle.mr_tables.specs.Boards.{IsRowWithin}
 use Rattle.mr_replica.specs.Desk.{old_errors_of}
 use Rattle.mr_tables.specs.SoundRows.{Rise}
 use Rattle.mr_tables.specs.OldErrors.{is_old, told_error}
-use Rattle.mr_replica.proofs.Boarding.{errors_within}
-use Rattle.mr_replica.proofs.Changing.{has_slice}
-use Rattle.mr_replica.proofs.DeskRows.{note, old_noted, kept_numbers, dropped_numbers, dropped_long, dropped_places, slice_bound}
+use Rattle.mr_tables.proofs.BoardLimits.{rows_within}
+use Rattle.mr_replica.proofs.DeskBoards.{place_bears}
+use Rattle.mr_replica.proofs.DeskNumbers.{Bears, rows_in_order, kept_numbers, dropped_numbers, dropped_long, dropped_places, slice_bound}
+use Rattle.mr_replica.proofs.DeskRows.{note, old_noted}
 use Rattle.mr_replica.proofs.KeptOrder.{nat_less}
-use Rattle.mr_replica.proofs.Moving.{rows_in_order, error_bears}
+use Rattle.mr_replica.proofs.RowParts.{error_of, logged_row}
 use Rattle.mr_tables.proofs.Putting.{id_order}
-use Rattle.mr_replica.proofs.Sorting.{sorted_is, weaker}
+use Rattle.mr_replica.proofs.Sorting.{sorted_is, weaker, has_slice}
 use Rattle.mr_replica.proofs.SoundRows.{neighbours}
 
 -- ---- the errors of a replica rise by their numbers
@@ -45,6 +47,8 @@ errors_low k (w ∷ ws) (u ∷ us) x h = go u.place h (λ g. let l : k + 1 ≤ x
   where
     go : (p : Place) → Has x (old_error_at k w p ++ errors_in (k + 1) ws us) → (Has x (errors_in (k + 1) ws us) → k ≤ x.seq) → k ≤ x.seq
     go (Taken j) g later = later g
+    go Done g later = later g
+    go Void g later = later g
     go Logged (inl e) later = let same : x.seq ≡ k = ap (λ (y : OldError). y.seq) e in omega (arith, same)
     go Logged (inr g) later = later g
 
@@ -55,6 +59,8 @@ errors_rise k (w ∷ ws) (u ∷ us) = go u.place (errors_rise (k + 1) ws us)
   where
     go : (p : Place) → Sorted (λ (x y : OldError). x.seq < y.seq) (errors_in (k + 1) ws us) → Sorted (λ (x y : OldError). x.seq < y.seq) (old_error_at k w p ++ errors_in (k + 1) ws us)
     go (Taken j) rest = rest
+    go Done rest = rest
+    go Void rest = rest
     go Logged rest = (has_all (λ (e : OldError). k < e.seq) (errors_in (k + 1) ws us) (λ e h. let l : k + 1 ≤ e.seq = errors_low (k + 1) ws us e h in omega (arith, l)), rest)
 
 pub old_rise : (dropped : List Write) → Rise nat_lt (λ (e : OldError). e.seq) (old_errors_of dropped)
@@ -68,6 +74,8 @@ logged_at : (r : Replica) (k : ℕ) (v : Write) (q : Place) (x : OldError) → s
 logged_at r k v (Taken c) x e h = absurd h
 logged_at r k v Logged x e (inl s) = (refl, s ∙ (λ i. record { id = id_of v; time = v.stamp.time; seq = sym e i }))
 logged_at r k v Logged x e (inr h) = absurd h
+logged_at r k v Done x e h = absurd h
+logged_at r k v Void x e h = absurd h
 
 old_logged : (r : Replica) (k : ℕ) (ws : List Write) (us : List UndoRow) → map (λ u. u.place) us ≡ map (place_of r) ws → ((i : ℕ) (w : Write) → slice_get ws i ≡ Some w → seq_of r w ≡ k + i) → (x : OldError) → Has x (errors_in k ws us) → (w : Write) × Has w ws × (place_of r w ≡ Logged) × (x ≡ note r w)
 old_logged r k [] us p f x h = absurd h
@@ -110,38 +118,55 @@ kept_above a w h g low high =
     go i true s = let n : seq_of a w ≡ a.dropped + 1 + i = s in omega (arith, n, high)
     go i false s = let n : seq_of a w ≡ 0 = s in omega (arith, n, low)
 
+-- a known write with the number of a dropped one is dropped
+pub dropped_one : (a : Replica) (w : Write) → IsReplica a → Has w a.known → 1 ≤ seq_of a w → seq_of a w ≤ a.dropped → Has w (dropped_in_order a)
+dropped_one a w h known low high = go (has_split w (dropped_in_order a) (kept_in_order a) (subst (λ ws. Has w ws) (order-parts a) (known_order a w h known)))
+  where
+    go : Has w (dropped_in_order a) ⊎ Has w (kept_in_order a) → Has w (dropped_in_order a)
+    go (inl k) = k
+    go (inr k) = absurd (kept_above a w h k low high)
+
+-- and a dropped write is known, and has such a number
+pub dropped_is : (a : Replica) (w : Write) → IsReplica a → Has w (dropped_in_order a) → Has w a.known × (1 ≤ seq_of a w) × (seq_of a w ≤ a.dropped)
+dropped_is a w h b =
+    let (i, s) = has_slice w (dropped_in_order a) b in
+    let low : i < length (dropped_in_order a) = slice_bound (dropped_in_order a) i w s in
+    let long : length (dropped_in_order a) ≡ a.dropped = dropped_long a h in
+    let number : seq_of a w ≡ 1 + i = dropped_numbers a i w h s in
+    (order_known a w h (subst (λ ws. Has w ws) (sym (order-parts a)) (has_left w (dropped_in_order a) (kept_in_order a) b)), omega (arith, number), omega (arith, number, low, long))
+
+-- a number from 1 to this one
+pub old_parts : (seq dropped : ℕ) → within 1 dropped seq ≡ true → (1 ≤ seq) × (seq ≤ dropped)
+old_parts seq dropped e = let p = and_parts (leb 1 seq) (leb seq dropped) e in (leb-true 1 seq p.0, leb-true seq dropped p.1)
+
+pub old_from : (seq dropped : ℕ) → 1 ≤ seq → seq ≤ dropped → within 1 dropped seq ≡ true
+old_from seq dropped low high = and_from (leb 1 seq) (leb seq dropped) (le-leb 1 seq low) (le-leb seq dropped high)
+
 old_there : (a : Replica) (x : OldError) → IsReplica a → Has x (map told_error (filter (is_old a.dropped) (tables_of a).errorlog)) → Has x (old_errors_of (dropped_in_order a))
 old_there a x h g =
     let (row, b, e) = map_has told_error x (filter (is_old a.dropped) (tables_of a).errorlog) g in
     let (c, old) = filter_has (is_old a.dropped) row (tables_of a).errorlog b in
     let (w, d, o) = filter_map_has (error_row a) row (by_id a.known) c in
-    let (logged, same) = logged_row a w row o in
-    let number : row.seq ≡ seq_of a w = ap (λ (r : ErrorRow). r.seq) same in
-    let bounds = and_parts (leb 1 row.seq) (leb row.seq a.dropped) old in
-    let low : 1 ≤ row.seq = leb-true 1 row.seq bounds.0 in
-    let high : row.seq ≤ a.dropped = leb-true row.seq a.dropped bounds.1 in
-    let noted : x ≡ note a w = e ∙ ap told_error same in
-    subst (λ y. Has y (old_errors_of (dropped_in_order a))) (sym noted)
-    (old_noted a 1 (dropped_in_order a) (undo_rows_of [] (dropped_in_order a)) (dropped_places a h) (λ i v s. dropped_numbers a i v h s) w
-    (is_dropped_one w (has_split w (dropped_in_order a) (kept_in_order a) (subst (λ ws. Has w ws) (order-parts a) (known_order a w h (by_id_has a w d)))) (omega (arith, low, number)) (omega (arith, high, number))) logged)
-  where
-    is_dropped_one : (w : Write) → Has w (dropped_in_order a) ⊎ Has w (kept_in_order a) → 1 ≤ seq_of a w → seq_of a w ≤ a.dropped → Has w (dropped_in_order a)
-    is_dropped_one w (inl k) low high = k
-    is_dropped_one w (inr k) low high = absurd (kept_above a w h k low high)
+    let known = by_id_has a w d in
+    let is = error_of a w row h known o in
+    let bounds = old_parts row.seq a.dropped old in
+    let low = subst (λ n. 1 ≤ n) is.number bounds.0 in
+    let high = subst (λ n. n ≤ a.dropped) is.number bounds.1 in
+    subst (λ y. Has y (old_errors_of (dropped_in_order a))) (sym (e ∙ is.told))
+    (old_noted a 1 (dropped_in_order a) (undo_rows_of [] (dropped_in_order a)) (dropped_places a h) (λ i v s. dropped_numbers a i v h s) w (dropped_one a w h known low high) is.logged)
 
 old_back : (a : Replica) (x : OldError) → IsReplica a → Has x (old_errors_of (dropped_in_order a)) → Has x (map told_error (filter (is_old a.dropped) (tables_of a).errorlog))
 old_back a x h g =
     let (w, b, logged, e) = old_logged a 1 (dropped_in_order a) (undo_rows_of [] (dropped_in_order a)) (dropped_places a h) (λ i v s. dropped_numbers a i v h s) x g in
-    let (i, s) = has_slice w (dropped_in_order a) b in
-    let low : i < length (dropped_in_order a) = slice_bound (dropped_in_order a) i w s in
-    let long : length (dropped_in_order a) ≡ a.dropped = dropped_long a h in
-    let number : seq_of a w ≡ 1 + i = dropped_numbers a i w h s in
-    let known = order_known a w h (subst (λ ws. Has w ws) (sym (order-parts a)) (has_left w (dropped_in_order a) (kept_in_order a) b)) in
-    subst (λ y. Has y (map told_error (filter (is_old a.dropped) (tables_of a).errorlog))) (sym e)
-    (has_map told_error (logged_as a w) (filter (is_old a.dropped) (tables_of a).errorlog)
-    (has_filter (is_old a.dropped) (logged_as a w) (tables_of a).errorlog
-    (and_from (leb 1 (seq_of a w)) (leb (seq_of a w) a.dropped) (le-leb 1 (seq_of a w) (omega (arith, number))) (le-leb (seq_of a w) a.dropped (omega (arith, number, low, long))))
-    (has_filter_map (error_row a) w (logged_as a w) (by_id a.known) (ap (error_row_at a w) logged) (has_by_id a w h known))))
+    let (known, low, high) = dropped_is a w h b in
+    let (row, o, told, number) = logged_row a w h known logged in
+    subst (λ y. Has y (map told_error (filter (is_old a.dropped) (tables_of a).errorlog))) (told ∙ sym e)
+    (has_map told_error row (filter (is_old a.dropped) (tables_of a).errorlog)
+    (has_filter (is_old a.dropped) row (tables_of a).errorlog (ap (within 1 a.dropped) number ∙ old_from (seq_of a w) a.dropped low high)
+    (has_filter_map (error_row a) w row (by_id a.known) o (has_by_id a w h known))))
+
+pub error_bears : (a : Replica) → Bears error_id (error_row a)
+error_bears a = place_bears a as_error error_id (λ q row e. sym (ap row_id (erred_is row q e)))
 
 pub old_sorted : (a : Replica) (rows : List ErrorRow) (dropped : ℕ) (errors sorted : List OldError) → IsReplica a → rows ≡ (tables_of a).errorlog → dropped ≡ a.dropped → errors ≡ map told_error (filter (is_old dropped) rows) → IsPermutation errors sorted → IsSortedByKey (λ (e : OldError). e.seq) nat_cmp sorted → sorted ≡ old_errors_of (dropped_in_order a)
 old_sorted a rows dropped errors sorted h e d f p s =
@@ -157,4 +182,4 @@ old_sorted a rows dropped errors sorted h e d f p s =
 -- ---- limits
 
 pub counts_within : (a : Replica) → IsReplica a → AllByRecursion (λ r. IsTrue (is_count r.n)) (tables_of a).errorlog
-counts_within a h = has_all (λ (r : ErrorRow). IsTrue (is_count r.n)) (tables_of a).errorlog (λ row g. (all_has (λ (r : ErrorRow). IsRowWithin r.n r.start) row (tables_of a).errorlog (errors_within a h) g).0)
+counts_within a h = has_all (λ (r : ErrorRow). IsTrue (is_count r.n)) (tables_of a).errorlog (λ row g. (all_has (λ (r : ErrorRow). IsRowWithin r.n r.start) row (tables_of a).errorlog (rows_within a h).errorlog g).0)

@@ -13,12 +13,12 @@ use Rattle.mr_model.specs.Replica.{Replica, IsReplica, write_with, with_write, t
 use Rattle.mr_model.specs.Kept.{dropped_in_order, kept_in_order}
 use Rattle.mr_model.specs.Taking.{Progress, take_item, take_items, take_write, take_commit, is_that_id, with_new_write, with_new_commit}
 use Rattle.mr_model.specs.Step.{after_items, step_unless, receive_under, receive_batch}
-use Rattle.mr_model.proofs.TakingKeeps.{IsItem, KeepsReplica, item_keeps}
+use Rattle.mr_model.proofs.TakingKeeps.{IsItem, KeepsReplica, told_item, item_keeps}
 use Rattle.mr_model.proofs.TwinChanges.{dropped-add_write}
 use Rattle.mr_model.proofs.Fronts.{take-front}
-use Rattle.mr_model.proofs.RoomPlaces.{kept_committed}
+use Rattle.mr_model.proofs.DroppedApart.{kept_committed}
 use Rattle.mr_model.proofs.BatchesReadBack.{ok_inj}
-use Rattle.mr_model.proofs.ReceivedPlaces.{commit_moved}
+use Rattle.mr_model.proofs.Orders.{commit_moved}
 use Rattle.mr_base.specs.declared.refusals.Refusal.{Refusal}
 use Rattle.mr_base.specs.Refusals.{refusal_of}
 use Rattle.mr_tables.specs.Summary.{summary_of}
@@ -97,12 +97,11 @@ commit-brings line p q n id sound small e = go (commit_verdict line (summary_of 
     go (Err x) j = absurd (err≢ok (refusal_of x) q (sym j ∙ e))
 
 item-brings : (line : ℕ) (p q : Progress) (x : Item) → IsReplica p.replica → IsTrue (is_item x) → take_item line p x ≡ Ok q → Brings p q
-item-brings line p q (W w) sound good e = write-brings line p q w sound good e
+item-brings line p q (W w) sound good e = write-brings line p q w sound (told_item (W w) good) e
 item-brings line p q (C n id) sound good e = commit-brings line p q n id sound (let g = good in grind (arith, nat_tests)) e
 
 pub item-within : (x : Item) → IsTrue (is_item x) → IsItem x
-item-within (W w) h = h
-item-within (C n id) h = h
+item-within x h = told_item x h
 
 -- what items bring one after the other
 pub items-bring : (items : List Item) (line : ℕ) (p q : Progress) → IsReplica p.replica → list_all is_item items ≡ true → take_items items line (Ok p) ≡ Ok q → Brings p q

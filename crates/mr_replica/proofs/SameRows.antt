@@ -1,13 +1,15 @@
 -- The test of a board's row says that it is the row that is wanted.
-use Rattle.std.proofs.Common.{◌≡◌, refl, sym, ap, subst, ℕ, ◌&&◌, ◌↔◌, Bool, eqb, IsTrue, eqb-true, eq-eqb}
-use Rattle.std.proofs.lemmas.Bool.{true≢false}
+use Rattle.std.proofs.Common.{◌≡◌, refl, sym, ap, subst, ℕ, ◌&&◌, ◌↔◌, Bool, eqb, Some, None, Option, IsTrue, eqb-true, eq-eqb}
+use Rattle.mr_model.specs.Texts.{Text}
 use Rattle.mr_model.specs.Slots.{Slot}
+use Rattle.mr_model.specs.Writes.{Id, Meeting}
 use Rattle.mr_replay.specs.declared.rows.Row.{Row}
+use Rattle.mr_replay.specs.declared.rows.Kept.{Kept}
+use Rattle.mr_replay.specs.declared.rows.Kept.TheVariants.{OfBooking}
 use Rattle.mr_replay.specs.declared.rows.Standing.{Standing}
-use Rattle.mr_replay.specs.declared.rows.Standing.TheVariants.{Booked, InErrorLog}
-use Rattle.mr_replay.specs.contracts.rows.Standing.{the_type}
+use Rattle.mr_replay.specs.Rows.{kept_with}
+use Rattle.mr_replica.specs.SoundLog.{mark_of}
 use Rattle.mr_tables.proofs.Rising.{both}
-use denote.Enum.Bare.{sameb}
 
 pub told_by : (a b : Bool) {A : Type 0} → a ≡ b → IsTrue b ↔ A → IsTrue a ↔ A
 told_by a b {A} e f = subst (λ (c : Bool). IsTrue c ↔ A) (sym e) f
@@ -22,17 +24,30 @@ same_slot a b =
       λ e. parts.1 ((ap (λ (s : Slot). s.day.year) e, (ap (λ (s : Slot). s.day.month) e, ap (λ (s : Slot). s.day.day) e)), ap (λ (s : Slot). s.start) e),
     )
 
-pub same_standing : (a b : Standing) → IsTrue (sameb the_type a b) ↔ (a ≡ b)
-same_standing Booked Booked = (λ t. refl, λ e. refl)
-same_standing Booked InErrorLog = (λ t. absurd (true≢false (sym t)), λ e. absurd (let never : ⊥ = cc in never))
-same_standing InErrorLog Booked = (λ t. absurd (true≢false (sym t)), λ e. absurd (let never : ⊥ = cc in never))
-same_standing InErrorLog InErrorLog = (λ t. refl, λ e. refl)
+-- ---- what is kept of a booking
 
-abbrev pub SameParts : Row → Row → Type 0
-SameParts x y = ((((x.room ≡ y.room) × (x.title ≡ y.title)) × (x.slot ≡ y.slot)) × (x.length ≡ y.length)) × (x.standing ≡ y.standing)
+abbrev pub SameParts : (slot other : Slot) (length long : ℕ) (title name : Text) (standing wanted : Standing) → Type 0
+SameParts slot other length long title name standing wanted = (((title ≡ name) × (slot ≡ other)) × (length ≡ long)) × (standing ≡ wanted)
 
-pub same_row : (x y : Row) (b : Bool) → IsTrue b ↔ SameParts x y → IsTrue b ↔ (x ≡ y)
-same_row x y b f = (
-  λ t. let p = f.0 t in λ i. record { room = p.0.0.0.0 i; slot = p.0.0.1 i; length = p.0.1 i; title = p.0.0.0.1 i; standing = p.1 i },
-  λ e. f.1 ((((ap (λ (r : Row). r.room) e, ap (λ (r : Row). r.title) e), ap (λ (r : Row). r.slot) e), ap (λ (r : Row). r.length) e), ap (λ (r : Row). r.standing) e),
+pub same_kept : (slot other : Slot) (length long : ℕ) (title name : Text) (standing wanted : Standing) (b : Bool) → IsTrue b ↔ SameParts slot other length long title name standing wanted → IsTrue b ↔ (OfBooking slot length title standing ≡ OfBooking other long name wanted)
+same_kept slot other length long title name standing wanted b f = (
+  λ t. let p = f.0 t in λ i. OfBooking (p.0.0.1 i) (p.0.1 i) (p.0.0.0 i) (p.1 i),
+  λ e.
+      let slots : slot ≡ other = (let k : ◌≡◌ {A = Kept} (OfBooking slot length title standing) (OfBooking other long name wanted) = e in cc) in
+      let lengths : length ≡ long = (let k : ◌≡◌ {A = Kept} (OfBooking slot length title standing) (OfBooking other long name wanted) = e in cc) in
+      let titles : title ≡ name = (let k : ◌≡◌ {A = Kept} (OfBooking slot length title standing) (OfBooking other long name wanted) = e in cc) in
+      let standings : standing ≡ wanted = (let k : ◌≡◌ {A = Kept} (OfBooking slot length title standing) (OfBooking other long name wanted) = e in cc) in
+      f.1 (((titles, slots), lengths), standings),
 )
+
+pub same_row : (x y : Row) (b : Bool) → IsTrue b ↔ ((x.room ≡ y.room) × (x.kept ≡ y.kept)) → IsTrue b ↔ (x ≡ y)
+same_row x y b f = (
+  λ t. let p = f.0 t in λ i. record { room = p.0 i; kept = p.1 i },
+  λ e. f.1 (ap (λ (r : Row). r.room) e, ap (λ (r : Row). r.kept) e),
+)
+
+-- ---- the cancel that took it back
+
+pub mark-kept : (m : Meeting) (s : Slot) (by : Option Id) → mark_of (kept_with m (Some s) by) ≡ by
+mark-kept m s None = refl
+mark-kept m s (Some c) = refl

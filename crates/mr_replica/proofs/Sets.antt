@@ -14,9 +14,8 @@ use Rattle.mr_model.specs.Texts.{Text}
 use Rattle.mr_model.specs.Replica.{text_before, AreInNameOrder}
 use Rattle.mr_model.specs.Dropped.{Has}
 use Rattle.mr_model.specs.Writes.{Id, same_id}
-use Rattle.mr_model.proofs.Members.{has_all, all_has, Sorted, sorted_same}
-use Rattle.mr_model.proofs.Moved.{any_has, has_any}
-use Rattle.mr_model.proofs.TwinTables.{bool_same}
+use Rattle.mr_model.proofs.Members.{has_all, all_has, Sorted, sorted_same, any_has, has_any}
+use Rattle.mr_model.proofs.MembersAlike.{bool_same}
 use Rattle.mr_replay.proofs.Ids.{at_is}
 use Rattle.mr_tables.proofs.Naming.{before-cmp}
 use Rattle.mr_tables.proofs.Putting.{name_order}

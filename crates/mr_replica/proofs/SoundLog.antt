@@ -1,37 +1,36 @@
 -- The kept rows of a replica, sorted, are sound.
-use Rattle.std.proofs.Common.{◌≡◌, refl, sym, ap, ◌∙◌, subst, ℕ, zero, suc, ◌-◌, ◌<◌, ◌≤◌, true, false, List, [], ◌∷◌, ◌++◌, length, get_or, map, ◌⊎◌, inl, inr, Some, arith, IsTrue, length-append}
-use Rattle.std.proofs.lemmas.Bool.{and_from, cond-true, cond-false, false_from_ne_true}
+use Rattle.std.proofs.Common.{◌≡◌, refl, sym, ap, ◌∙◌, subst, ℕ, zero, suc, ◌-◌, ◌<◌, ◌≤◌, List, [], ◌∷◌, ◌++◌, length, get_or, map, Some, arith, length-append}
 use Rattle.std.proofs.lemmas.List.{length-map}
 use Rattle.std.proofs.lemmas.List.Elements.{All-from_recursion}
 use Rattle.std.specs.declared.cmp.Ordering.TheVariants.{Less}
 use Rattle.std.specs.Ordering.{is_lt}
-use Rattle.std.specs.List.{All, slice_get}
-use Rattle.std.specs.Map.{lookup}
-use Rattle.mr_model.specs.Slots.{Slot}
-use Rattle.mr_model.specs.Writes.{Id, Write, id_of, same_id, is_count}
-use Rattle.mr_model.specs.Replay.{Place, Taken, Logged, slot_at}
+use Rattle.std.specs.List.{slice_get}
+use Rattle.std.specs.List.Sorted.{IsPermutation}
+use Rattle.std.specs.Prelude.{Result, Ok, Err, IfOk}
+use Rattle.std.specs.Option.{option_map}
+use Rattle.mr_model.specs.Writes.{Action, Books, Cancels, Write, id_of, choices_of, choices_in}
+use Rattle.mr_model.specs.Replay.{Place, Taken, Logged, Done, Void, slot_at}
 use Rattle.mr_model.specs.Replica.{Replica, IsReplica, committed, tentative}
-use Rattle.mr_model.specs.Tables.{BookingRow, by_id, place_of, booking_row, tables_of}
-use Rattle.mr_model.specs.Queries.{booking_id}
+use Rattle.mr_model.specs.View.{place_of, canceller_of}
 use Rattle.mr_model.specs.Kept.{dropped_in_order, kept_in_order}
 use Rattle.mr_model.specs.Dropped.{Has}
+use Rattle.mr_model.proofs.DroppedApart.{order-parts, kept_known}
 use Rattle.mr_model.proofs.KnownById.{committed_ids}
-use Rattle.mr_model.proofs.LogOrder.{kept_is_the_log, order-parts, kept_known}
-use Rattle.mr_model.proofs.Members.{all_has, has_all, map_has, filter_map_has, same_id-true, same_id_from}
-use Rattle.mr_model.proofs.RowsById.{by_id_has}
-use Rattle.mr_model.proofs.RowsTell.{row_of as slot_or_logged}
-use Rattle.mr_model.proofs.TablesTell.{booked_row}
-use Rattle.mr_replay.specs.declared.rows.Row.{Row}
-use Rattle.mr_replay.specs.Rows.{Rows, row_at, row_with, row_of}
+use Rattle.mr_model.proofs.LogOrder.{kept_is_the_log}
+use Rattle.mr_model.proofs.Members.{has_all, map_has}
+use Rattle.mr_model.proofs.RoomTold.{known_went}
+use Rattle.mr_model.proofs.Runs.{Went, took, failed, did, missed}
+use Rattle.mr_base.specs.declared.refusals.Refusal.{Refusal}
+use Rattle.mr_replay.specs.Rows.{Rows, row_at, kept_with, kept_for}
+use Rattle.mr_tables.proofs.BoardsTold.{known_row, known_at}
 use Rattle.mr_replica.specs.declared.kept_rows.KeptRow.{KeptRow}
-use Rattle.mr_tables.specs.Boards.{IsRowWithin}
-use Rattle.mr_tables.specs.Change.{id_before}
 use Rattle.mr_replica.specs.KeptRows.{kept_row, run_place, run_cmp}
-use Rattle.mr_replica.specs.SoundLog.{AreNumbered, HasTaken, HasPlace, IsAtPlace, IsLogSound, is_booked_row, is_on_board}
-use Rattle.mr_replica.proofs.Boarding.{bookings_within}
-use Rattle.mr_replica.proofs.DeskRows.{board_of, row_board, board_ordered, kept_numbers, dropped_long}
+use Rattle.mr_replica.specs.Log.{KeptLog}
+use Rattle.mr_replica.specs.SoundLog.{AreNumbered, HasTaken, HasPlace, IsAtPlace, IsLogSound, kept_told, IsOfSoundRows}
+use Rattle.mr_replica.proofs.DeskBoards.{board_of, board-told}
+use Rattle.mr_replica.proofs.DeskNumbers.{kept_numbers, dropped_long}
 use Rattle.mr_replica.proofs.KeptOrder.{rows_rise}
-use Rattle.mr_tables.proofs.Putting.{InOrder, id_order}
+use Rattle.mr_replica.proofs.Marks.{done_marked}
 use Rattle.mr_replica.proofs.SoundRows.{neighbours}
 
 -- ---- numbers
@@ -63,27 +62,28 @@ numbered a h = record {
 
 -- ---- places
 
--- a row of a board is found
-row_found : (b : Rows) (i : Id) (row : Row) → InOrder id_before (λ (e : Id × Row). e.0) b → Has (i, row) b → row_at b i ≡ Some row
-row_found [] i row s h = absurd h
-row_found (x ∷ xs) i row s (inl e) =
-    let key : i ≡ x.0 = ap (λ (y : Id × Row). y.0) e in
-    let value : row ≡ x.1 = ap (λ (y : Id × Row). y.1) e in
-    cond-true (same_id i x.0) (Some x.1) (lookup (same_id i) xs) (same_id_from i x.0 key) ∙ ap Some (sym value)
-row_found (x ∷ xs) i row s (inr h) =
-    let later : id_before x.0 i ≡ true = all_has (λ (e : Id × Row). id_before x.0 e.0 ≡ true) (i, row) xs s.0 h in
-    let other : same_id i x.0 ≡ false = false_from_ne_true (same_id i x.0) (λ t. id_order.irreflexive i (subst (λ k. id_before k i ≡ true) (sym (same_id-true i x.0 t)) later)) in
-    cond-false (same_id i x.0) (Some x.1) (lookup (same_id i) xs) other ∙ row_found xs i row s.1 h
+-- the row of a known write on the board
+pub row_known : (a : Replica) (w : Write) → IsReplica a → Has w a.known → row_at (board_of a) (id_of w) ≡ known_row a w
+row_known a w h g = ap (λ b. row_at b (id_of w)) (board-told a h) ∙ known_at a w h g
 
--- of a known write that has a slot or is logged
-at_its_place : (b : Rows) (w : Write) (p : Place) → row_at b (id_of w) ≡ Some (row_of w p) → ((s : Slot) × (slot_at w p ≡ Some s)) ⊎ (p ≡ Logged) → HasPlace b w p
-at_its_place b w Logged e c = e
-at_its_place b w (Taken k) e (inl (s, f)) = subst (HasTaken b w) (sym f) (e ∙ ap (λ o. Some (row_with w o)) f)
-at_its_place b w (Taken k) e (inr f) = absurd (let g : ◌≡◌ {A = Place} (Taken k) Logged = f in let never : ⊥ = cc in never)
+known_at_place : (a : Replica) (w : Write) → IsReplica a → Has w a.known → HasPlace (board_of a) w w.action (place_of a w)
+known_at_place a w h g = go (known_went a w h g)
+  where
+    row : (x : Action) (p : Place) → w.action ≡ x → place_of a w ≡ p → row_at (board_of a) (id_of w) ≡ option_map (λ k. record { room = w.room; kept = k }) (kept_for w x p (canceller_of a w))
+    row x p e f = row_known a w h g ∙ (λ i. option_map (λ k. record { room = w.room; kept = k }) (kept_for w (e i) (f i) (canceller_of a w)))
 
-known_at_place : (a : Replica) (w : Write) → IsReplica a → Has w a.known → HasPlace (board_of a) w (place_of a w)
-known_at_place a w h g =
-    at_its_place (board_of a) w (place_of a w) (row_found (board_of a) (id_of w) (row_of w (place_of a w)) (board_ordered a h) (row_board a w h g)) (slot_or_logged a w h g)
+    at : (x : Action) (p : Place) → w.action ≡ x → place_of a w ≡ p → HasPlace (board_of a) w x p → HasPlace (board_of a) w w.action (place_of a w)
+    at x p e f k = subst (λ y. HasPlace (board_of a) w y (place_of a w)) (sym e) (subst (λ q. HasPlace (board_of a) w x q) (sym f) k)
+
+    go : Went w (place_of a w) → HasPlace (board_of a) w w.action (place_of a w)
+    go (took m k s e f o) =
+        let own = ap (λ y. slice_get (choices_in y) k) e in
+        let slot : slice_get (choices_of m) k ≡ Some s = sym own ∙ sym (ap (slot_at w) f) ∙ o in
+        at (Books m) (Taken k) e f
+        (subst (HasTaken (board_of a) w m) (sym slot) (canceller_of a w, row (Books m) (Taken k) e f ∙ (let t = own ∙ slot in λ i. Some (record { room = w.room; kept = kept_with m (t i) (canceller_of a w) }))))
+    go (failed m e f) = at (Books m) Logged e f (row (Books m) Logged e f)
+    go (did t e f) = at (Cancels t) Done e f (done_marked a w t h g e f)
+    go (missed t e f) = at (Cancels t) Void e f (row (Cancels t) Void e f)
 
 -- ---- all tests
 
@@ -98,16 +98,10 @@ log_sound a h = record {
       subst (IsAtPlace (board_of a)) (sym e) (known_at_place a w h (kept_known a w h b).0)));
 }
 
--- each booking is on the board as one
-pub all_booked : (a : Replica) → IsReplica a → All (λ row. IsTrue (is_on_board (board_of a) row)) (tables_of a).booking
-all_booked a h =
-    All-from_recursion (λ (row : BookingRow). IsTrue (is_on_board (board_of a) row)) (tables_of a).booking
-    (has_all (λ (row : BookingRow). IsTrue (is_on_board (board_of a) row)) (tables_of a).booking (λ row g.
-    let (w, b, o) = filter_map_has (booking_row a) row (by_id a.known) g in
-    let (s, p, e) = booked_row a w row o in
-    let count = (all_has (λ (r : BookingRow). IsRowWithin r.n r.start) row (tables_of a).booking (bookings_within a h) g).0 in
-    let found = row_found (board_of a) (id_of w) (row_of w (place_of a w)) (board_ordered a h) (row_board a w h (by_id_has a w b)) in
-    let id : booking_id row ≡ id_of w = ap booking_id e in
-    let booked : is_booked_row (row_at (board_of a) (booking_id row)) ≡ true =
-    ap (λ i. is_booked_row (row_at (board_of a) i)) id ∙ ap is_booked_row (found ∙ ap (λ q. Some (row_with w q)) p) in
-    and_from (is_count row.n) (is_booked_row (row_at (board_of a) (booking_id row))) count booked))
+-- ---- a log of sound rows
+
+pub of_log : (told : List (Place × ℕ)) (commits dropped : ℕ) (b : Rows) (rows : List KeptRow) → IsLogSound commits dropped b rows → IsPermutation told (map kept_told rows) → (r : Result KeptLog Refusal) → IfOk r (λ log. log ≡ record { kept = map (λ x. x.write) rows; undo = map (λ x. x.undo) rows; board = b }) → IfOk r (λ log. IsOfSoundRows told commits dropped log)
+of_log told commits dropped b rows sound moved (Err e) h = tt
+of_log told commits dropped b rows sound moved (Ok log) h =
+    let board : log.board ≡ b = ap (λ (l : KeptLog). l.board) h in
+    (rows, h ∙ ap (λ c. record { kept = map (λ (x : KeptRow). x.write) rows; undo = map (λ (x : KeptRow). x.undo) rows; board = c }) (sym board), subst (λ c. IsLogSound commits dropped c rows) (sym board) sound, moved)

@@ -1,27 +1,37 @@
 -- Taking all items of a batch at a candidate.
-use Rattle.std.proofs.Common.{◌≡◌, ℕ, zero, suc, ◌+◌, ◌<◌, ◌≤◌, Bool, true, List, [], ◌∷◌, length, map, drop, get_or, Ok, Err, ap, refl, ◌∙◌, subst, inl, inr, arith, IsTrue}
+use Rattle.std.proofs.Common.{◌≡◌, ℕ, zero, suc, ◌+◌, ◌-◌, ◌<◌, ◌≤◌, ◌==◌, not, Bool, true, false, None, Some, List, [], ◌∷◌, length, map, drop, get_or, ◌⊎◌, Result, Ok, Err, IfOk, ap, refl, sym, ◌∙◌, subst, inl, inr, arith, IsTrue}
 use Rattle.std.specs.List.{list_all, filter, AllByRecursion}
 use Rattle.std.proofs.lemmas.Bool.{and_parts}
+use Rattle.std.proofs.lemmas.Bool.Decides.{nat_tests}
 use Rattle.std.proofs.lemmas.List.{length-map}
-use Rattle.mr_model.specs.Texts.{Text}
+use Rattle.mr_model.specs.Texts.{Text, only_if}
 use Rattle.mr_model.specs.Dropped.{Has}
-use Rattle.mr_model.specs.Exchange.{Item, is_item}
+use Rattle.mr_model.specs.Exchange.{Item, Header, Batch, is_item}
 use Rattle.mr_model.specs.Kept.{kept_in_order}
+use Rattle.mr_model.specs.Refusals as model
 use Rattle.mr_model.specs.Replica.{Replica, IsReplica}
-use Rattle.mr_model.specs.Tables.{seq_of}
+use Rattle.mr_model.specs.Replies.{Took, Refused}
+use Rattle.mr_model.specs.Scopes.{Scope, OfItems}
+use Rattle.mr_model.specs.Step.{After, after_items, step_unless, receive_under, receive_batch}
+use Rattle.mr_model.specs.Tables.{seq_of, tables_of}
 use Rattle.mr_model.specs.Taking.{Progress, take_item, take_items}
 use Rattle.mr_model.specs.Writes.{Write}
 use Rattle.mr_model.proofs.TakingKeeps.{IsItem, KeepsReplica, item_keeps}
+use Rattle.mr_base.specs.Refusals.{refusal_of}
 use Rattle.mr_base.specs.declared.refusals.Refusal.{Refusal}
+use Rattle.mr_base.specs.declared.refusals.Refusal.TheVariants.{OutOfMemory}
+use Rattle.mr_tables.specs.declared.summary.Summary.{Summary}
 use Rattle.mr_tables.specs.Summary.{summary_of}
-use Rattle.mr_replica.specs.declared.logged.LoggedWrite.{LoggedWrite}
-use Rattle.mr_replica.specs.Desk.{nothing_taken}
-use Rattle.mr_replica.specs.KeptWrites.{HasKept}
+use Rattle.mr_tables.specs.Change.{ChangeView, changed}
+use Rattle.mr_tables.specs.Written.{meta_of, with_places}
+use Rattle.mr_replica.specs.declared.kept_writes.NumberedWrite.{NumberedWrite}
+use Rattle.mr_replica.specs.Desk.{nothing_taken, reply_with}
+use Rattle.mr_replica.specs.KeptWrites.{HasKept, numbered_of}
 use Rattle.mr_replica.specs.declared.candidate.Candidate.{Candidate}
-use Rattle.mr_replica.specs.Taken.{ShowsTaken, ShowsPicked, TakesPicked}
+use Rattle.mr_replica.specs.Taken.{ReachedView, ShowsTaken, ShowsPicked, TakesPicked, is_inside}
 use Rattle.mr_replica.specs.Sets.{IsSetOf}
-use Rattle.mr_replica.specs.Logged.{logged_of}
-use Rattle.mr_replica.proofs.Receiving.{drop_at, all_at, drop_none, item-within}
+use Rattle.mr_replica.proofs.Moves.{all_pass}
+use Rattle.mr_replica.proofs.Receiving.{drop_at, all_at, drop_none, item-within, items-bring}
 
 -- after k items there is a progress that the candidate shows, and the rest leads from it to what all lead to
 pub record IsAtInside (a : Replica) (inside : Write → Bool) (items : List Item) (k : ℕ) (start : Progress) (c : Candidate) : Type 0 where
@@ -63,10 +73,10 @@ pub taken-none : (a : Replica) (inside : Write → Bool) (c : Candidate) → c.s
 taken-none a inside c summary rooms kept = record { summary = summary; rooms = rooms; kept = kept; writes = omega arith; marks = λ w. inl refl }
 
 -- behind the last one, where the rooms and the writes are put into their orders
-pub taken-all : (a : Replica) (inside : Write → Bool) (c : Candidate) (p : Progress) (rooms : List Text) (kept : List LoggedWrite) → ShowsTaken a inside c p → rooms ≡ p.replica.rooms → kept ≡ map (logged_of p.replica) (filter inside (kept_in_order p.replica))
+pub taken-all : (a : Replica) (inside : Write → Bool) (c : Candidate) (p : Progress) (rooms : List Text) (kept : List NumberedWrite) → ShowsTaken a inside c p → rooms ≡ p.replica.rooms → kept ≡ map (numbered_of p.replica) (filter inside (kept_in_order p.replica))
     → ShowsPicked a inside (record { summary = c.summary; rooms = rooms; kept = kept }) p
 taken-all a inside c p rooms kept shows rooms_are kept_are =
-    let size = ap length kept_are ∙ length-map (filter inside (kept_in_order p.replica)) (logged_of p.replica) in
+    let size = ap length kept_are ∙ length-map (filter inside (kept_in_order p.replica)) (numbered_of p.replica) in
     let was = shows.writes in
     record { summary = shows.summary; rooms = rooms_are; kept = kept_are; writes = omega (arith, size, was); marks = shows.marks }
 

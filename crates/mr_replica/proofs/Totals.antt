@@ -1,5 +1,5 @@
 -- The totals of the vector of a replica: its writes, each of which has one row, and its commits.
-use Rattle.std.proofs.Common.{◌≡◌, refl, sym, ap, ◌∙◌, ℕ, zero, suc, ◌+◌, ◌<◌, ◌≤◌, min, Bool, true, false, cond, eqb, List, [], ◌∷◌, length, ◌⊎◌, inl, inr, Some, None, arith, eqb-true, eq-eqb, length-append}
+use Rattle.std.proofs.Common.{◌≡◌, refl, sym, ap, ◌∙◌, ℕ, zero, suc, ◌+◌, ◌<◌, ◌≤◌, min, Bool, true, false, cond, eqb, List, [], ◌∷◌, length, ◌⊎◌, inl, inr, arith, eqb-true, eq-eqb, length-append}
 use Rattle.std.proofs.lemmas.Bool.{cases_eq, cond-true, cond-false, false_from_ne_true}
 use Rattle.std.proofs.lemmas.List.Sums.{sum_by-append}
 use Rattle.std.specs.Prelude.{flat_map}
@@ -7,11 +7,10 @@ use Rattle.std.specs.List.{sum_by, filter_map, cons_option}
 use Rattle.mr_model.specs.Texts.{numbers_on}
 use Rattle.mr_model.specs.Writes.{Id, Write}
 use Rattle.mr_model.specs.Replica.{Replica, IsReplica, writes_of, commits_of, count_of, committed_count}
-use Rattle.mr_model.specs.Tables.{VectorRow, BookingRow, ErrorRow, by_id, vector_row, booking_row, error_row, tables_of}
+use Rattle.mr_model.specs.Tables.{VectorRow, BookingRow, ErrorRow, CancelledRow, CancelRow, PlaceRow, Booked, Erred, Cancelled, Cancel, by_id, vector_row, as_booking, as_error, as_cancelled, as_cancel, place_row, booking_row, error_row, cancelled_row, cancel_row, tables_of}
 use Rattle.mr_model.specs.Dropped.{Has}
-use Rattle.mr_model.proofs.AnswersFromRows.{one_row}
 use Rattle.mr_model.proofs.KnownById.{commit_known}
-use Rattle.mr_model.proofs.RowsById.{server_bounds, known_write, by_id_has}
+use Rattle.mr_model.proofs.RowsById.{server_bounds, known_write}
 use Rattle.mr_model.proofs.TablesTell.{vector_entry}
 use Rattle.mr_tables.specs.SoundRows.{capped, AreTotalsSound}
 use Rattle.mr_replica.proofs.Latest.{latest}
@@ -31,20 +30,20 @@ sum_counts a k (suc n) =
     one true e = sym (eqb-true (count_of a k) 0 e)
     one false e = let z : 0 + count_of a k ≡ count_of a k = omega arith in z
 
--- each known write has a row in one of the two tables
-one_each : (a : Replica) (ws : List Write) → IsReplica a → ((w : Write) → Has w ws → Has w a.known) → length (filter_map (booking_row a) ws) + length (filter_map (error_row a) ws) ≡ length ws
-one_each a [] h k = refl
-one_each a (w ∷ ws) h k = go (one_row a w h (k w (inl refl))) (one_each a ws h (λ v g. k v (inr g)))
-  where
-    go : ((row : BookingRow) × (booking_row a w ≡ Some row) × (error_row a w ≡ None)) ⊎ ((row : ErrorRow) × (error_row a w ≡ Some row) × (booking_row a w ≡ None)) → length (filter_map (booking_row a) ws) + length (filter_map (error_row a) ws) ≡ length ws → length (cons_option (booking_row a w) (filter_map (booking_row a) ws)) + length (cons_option (error_row a w) (filter_map (error_row a) ws)) ≡ suc (length ws)
-    go (inl (row, e, f)) ih =
-        let b : length (cons_option (booking_row a w) (filter_map (booking_row a) ws)) ≡ suc (length (filter_map (booking_row a) ws)) = ap (λ o. length (cons_option o (filter_map (booking_row a) ws))) e in
-        let l : length (cons_option (error_row a w) (filter_map (error_row a) ws)) ≡ length (filter_map (error_row a) ws) = ap (λ o. length (cons_option o (filter_map (error_row a) ws))) f in
-        omega (arith, b, l, ih)
-    go (inr (row, e, f)) ih =
-        let b : length (cons_option (booking_row a w) (filter_map (booking_row a) ws)) ≡ length (filter_map (booking_row a) ws) = ap (λ o. length (cons_option o (filter_map (booking_row a) ws))) f in
-        let l : length (cons_option (error_row a w) (filter_map (error_row a) ws)) ≡ suc (length (filter_map (error_row a) ws)) = ap (λ o. length (cons_option o (filter_map (error_row a) ws))) e in
-        omega (arith, b, l, ih)
+-- each known write has a row in one of the four tables
+one_more : (p : PlaceRow) (bs : List BookingRow) (es : List ErrorRow) (gs : List CancelledRow) (cs : List CancelRow)
+    → length (cons_option (as_booking p) bs) + length (cons_option (as_error p) es) + length (cons_option (as_cancelled p) gs) + length (cons_option (as_cancel p) cs)
+    ≡ suc (length bs + length es + length gs + length cs)
+one_more (Booked row) bs es gs cs = omega arith
+one_more (Erred row) bs es gs cs = omega arith
+one_more (Cancelled row) bs es gs cs = omega arith
+one_more (Cancel row) bs es gs cs = omega arith
+
+one_each : (a : Replica) (ws : List Write) → length (filter_map (booking_row a) ws) + length (filter_map (error_row a) ws) + length (filter_map (cancelled_row a) ws) + length (filter_map (cancel_row a) ws) ≡ length ws
+one_each a [] = refl
+one_each a (w ∷ ws) =
+    one_more (place_row a w) (filter_map (booking_row a) ws) (filter_map (error_row a) ws) (filter_map (cancelled_row a) ws) (filter_map (cancel_row a) ws)
+    ∙ ap (λ n. suc n) (one_each a ws)
 
 -- ---- commits
 
@@ -112,7 +111,7 @@ all_counted (x ∷ ids) k n f = let b = f x (inl refl) in counted x ids k n b.0 
 
 pub totals_sound : (a : Replica) → IsReplica a → AreTotalsSound (tables_of a)
 totals_sound a h = record {
-  rows = ap capped (one_each a (by_id a.known) h (λ w g. by_id_has a w g) ∙ sym (sum_counts a 1 99));
+  rows = ap capped (one_each a (by_id a.known) ∙ sym (sum_counts a 1 99));
   commits =
       let servers = λ (x : Id) (g : Has x a.commits).
       let (w, known, e) = commit_known a x h g in

@@ -10,8 +10,7 @@ use Rattle.mr_model.specs.Writes.{Id, Write, same_id}
 use Rattle.mr_model.specs.Exchange.{Item, W, C}
 use Rattle.mr_model.proofs.CommittedPlaces.{same_id_comm}
 use Rattle.mr_replica.specs.declared.touched.Touched.{Touched}
-use Rattle.mr_replica.specs.Sets.{has_id, has_room}
-use Rattle.mr_replica.specs.Sets.{AreSameRooms}
+use Rattle.mr_replica.specs.Sets.{has_id, has_room, AreSameRooms}
 use Rattle.mr_replica.specs.Touched.{commits_id, writes_in, IsTouchedBy}
 use Rattle.mr_replica.proofs.Sets.{set_of_keys}
 

@@ -1,51 +1,52 @@
 -- The rows that the calls of a desk put and take away make the tables of the desk before those of the desk after.
-use Rattle.std.proofs.Common.{◌≡◌, refl, sym, ap, ◌∙◌, subst, ℕ, zero, suc, ◌+◌, ◌≤◌, Bool, true, false, not, cond, ◌&&◌, eqb, leb, ltb, List, [], ◌∷◌, ◌++◌, length, map, ◌⊎◌, inl, inr, Some, arith, eqb-true}
+use Rattle.std.proofs.Common.{◌≡◌, refl, sym, ap, ◌∙◌, subst, ℕ, ◌+◌, ◌≤◌, Bool, true, false, not, cond, ◌&&◌, eqb, leb, ltb, List, [], ◌∷◌, ◌++◌, length, map, ◌⊎◌, inl, inr, Some, arith, append_assoc, append-nil, eqb-true}
 use Rattle.std.proofs.lemmas.Bool.{and_parts, cond-false, false_from_ne_true}
 use Rattle.std.proofs.lemmas.List.{length-map, map-append}
 use Rattle.std.specs.Prelude.{flat_map}
-use Rattle.std.specs.List.{cons_option, filter_map, slice_get}
+use Rattle.std.specs.List.{slice_get}
 use Rattle.mr_model.specs.Texts.{Text, numbers_on}
 use Rattle.mr_model.specs.Writes.{Write, id_of}
 use Rattle.mr_model.specs.Replica.{Replica, IsReplica, count_of, is_committed, text_before}
-use Rattle.mr_model.specs.Replay.{Place, slot_at}
+use Rattle.mr_model.specs.Replay.{Place}
 use Rattle.mr_model.specs.Kept.{dropped_in_order, kept_in_order}
-use Rattle.mr_model.specs.Tables.{VectorRow, seq_of, place_of, vector_row, undo_row, booking_row, error_row, tables_of}
-use Rattle.mr_model.specs.Queries.{booking_id, error_id}
+use Rattle.mr_model.specs.View.{place_of, canceller_of}
+use Rattle.mr_model.specs.Tables.{MetaRow, VectorRow, LogRow, PlaceRow, seq_of, log_row, place_row_for, place_row, vector_row, tables_of}
 use Rattle.mr_model.specs.Dropped.{Has}
-use Rattle.mr_model.proofs.ReceivedPlaces.{append_split}
 use Rattle.mr_model.proofs.CommitRows.{slice_behind}
+use Rattle.mr_model.proofs.Orders.{append_split}
+use Rattle.mr_model.proofs.RoomTold.{committed-seq}
 use Rattle.mr_model.proofs.RowsById.{flat_has, has_flat, has_numbers}
-use Rattle.mr_model.proofs.RowsTell.{committed-seq}
 use Rattle.mr_model.proofs.TablesTell.{vector_entry}
 use Rattle.mr_model.proofs.TwinTables.{flat_map_same}
 use Rattle.mr_replay.specs.Places.{UndoRow}
-use Rattle.mr_replay.specs.Rows.{Rows, executed, executed_all, undo_rows_of}
+use Rattle.mr_replay.specs.Rows.{Rows, executed_all, undo_row_at, undo_rows_of}
 use Rattle.mr_tables.specs.declared.summary.Tally.{Tally}
 use Rattle.mr_tables.specs.Summary.{tally_at, tally_of}
-use Rattle.mr_replica.specs.Desk.{desk_of}
 use Rattle.mr_tables.specs.Change.{put_all, changed}
-use Rattle.mr_tables.specs.Rows.{seq_on, undo_row_with, booking_with, error_with, booking_rows, error_rows}
+use Rattle.mr_tables.specs.Rows.{seq_on, place_rows}
 use Rattle.mr_tables.specs.Tallied.{tally_rows}
-use Rattle.mr_replica.specs.DeskTables.{desk_tables}
-use Rattle.mr_replica.specs.Logged.{undo_with}
-use Rattle.mr_tables.specs.Written.{same_tally, changed_tallies, written}
-use Rattle.mr_replica.proofs.Logs.{length-undo_rows_of, undo_rows_of-append}
-use Rattle.mr_replica.proofs.BoardRows.{places_head}
-use Rattle.mr_replica.proofs.Moving.{Moves, change_of, moves, booking-with, error-with, vectors_move}
+use Rattle.mr_tables.specs.Written.{same_tally, changed_tallies, with_places, written}
+use Rattle.mr_tables.proofs.Adding.{place-push}
 use Rattle.mr_tables.proofs.Summaries.{tally-of}
-use Rattle.mr_replica.proofs.DeskRows.{numbered, kept_numbers, kept_places, undo_rows_told, slice_left, slice_bound, tally_row, numbers_below, desk_tables-of}
+use Rattle.mr_replica.specs.Desk.{desk_of}
+use Rattle.mr_replica.specs.DeskTables.{desk_tables}
+use Rattle.mr_replica.specs.Placing.{with_places_put}
+use Rattle.mr_replica.proofs.Logs.{length-undo_rows_of, undo_rows_of-append}
+use Rattle.mr_replica.proofs.DeskNumbers.{AreNumbered, numbered_first, numbered_rest, unplaced, numbered_logs, kept_numbers, kept_places, slice_left, slice_bound}
+use Rattle.mr_replica.proofs.DeskRows.{tally_row, numbers_below, desk_tables-of}
+use Rattle.mr_replica.proofs.Moving.{Moves, change_of, moves, vectors_move}
 
--- ---- the rows of writes in a row
+-- ---- rows that are put one after the other
 
--- the commit numbers of writes that follow each other in the order, the first of them being the k-th
-abbrev pub AreNumbered : Replica → ℕ → List Write → Type 0
-AreNumbered r k ws = (i : ℕ) (w : Write) → slice_get ws i ≡ Some w → seq_of r w ≡ seq_on (length r.commits) (k + i)
+-- they come behind those that were put
+pub places-put : (meta : MetaRow) (rooms : List Text) (vector : List VectorRow) (log : List LogRow) (ps qs : List PlaceRow) → with_places_put (with_places meta rooms vector log ps) qs ≡ with_places meta rooms vector log (ps ++ qs)
+places-put meta rooms vector log ps [] = ap (with_places meta rooms vector log) (sym (append-nil ps))
+places-put meta rooms vector log ps (q ∷ qs) =
+    ap (λ c. with_places_put c qs) (place-push meta rooms vector log ps q)
+    ∙ places-put meta rooms vector log (ps ++ q ∷ []) qs
+    ∙ ap (with_places meta rooms vector log) (append_assoc ps (q ∷ []) qs)
 
-numbered_rest : (r : Replica) (k : ℕ) (w : Write) (ws : List Write) → AreNumbered r k (w ∷ ws) → AreNumbered r (k + 1) ws
-numbered_rest r k w ws f i v e = f (suc i) v e ∙ (let g : k + suc i ≡ k + 1 + i = omega arith in ap (seq_on (length r.commits)) g)
-
-numbered_first : (r : Replica) (k : ℕ) (w : Write) (ws : List Write) → AreNumbered r k (w ∷ ws) → seq_of r w ≡ seq_on (length r.commits) k
-numbered_first r k w ws f = f zero w refl ∙ (let g : k + 0 ≡ k = omega arith in ap (seq_on (length r.commits)) g)
+-- ---- the rows of writes that follow each other in the order
 
 marked : (r : Replica) (k : ℕ) (w : Write) → 1 ≤ k → seq_of r w ≡ seq_on (length r.commits) k → is_committed r (id_of w) ≡ leb k (length r.commits)
 marked r k w low e = committed-seq r w ∙ ap (λ q. not (eqb q 0)) e ∙ go (leb k (length r.commits))
@@ -54,103 +55,46 @@ marked r k w low e = committed-seq r w ∙ ap (λ q. not (eqb q 0)) e ∙ go (le
     go true = ap not (false_from_ne_true (eqb k 0) (λ z. let n = eqb-true k 0 z in omega (arith, low, n)))
     go false = refl
 
-pub booking-rows : (r : Replica) (b : Rows) (k : ℕ) (ws : List Write) → 1 ≤ k → AreNumbered r k ws → map (λ u. u.place) (undo_rows_of b ws) ≡ map (place_of r) ws → booking_rows (length r.commits) k ws (undo_rows_of b ws) ≡ filter_map (booking_row r) ws
-booking-rows r b k [] low f p = refl
-booking-rows r b k (w ∷ ws) low f p =
-    let q = places_head (place_of r) b w ws p in
-    let mark = marked r k w low (numbered_first r k w ws f) in
-    let rest = booking-rows r (executed b w) (k + 1) ws (omega (arith, low)) (numbered_rest r k w ws f) q.1 in
-    (λ i. cons_option (booking_with w (sym mark i) (slot_at w (q.0 i))) (rest i))
-    ∙ ap (λ o. cons_option o (filter_map (booking_row r) ws)) (sym (booking-with r w (slot_at w (place_of r w))))
+pub numbered_places : (r : Replica) (k : ℕ) (ws : List Write) (us : List UndoRow) → 1 ≤ k → AreNumbered r (length r.commits) k ws us → place_rows (length r.commits) k ws us (map (canceller_of r) ws) ≡ map (place_row r) ws
+numbered_places r k [] us low n = refl
+numbered_places r k (w ∷ ws) [] low n = absurd (unplaced r w ws n.places)
+numbered_places r k (w ∷ ws) (u ∷ us) low n =
+    let here = numbered_first r (length r.commits) k w ws u us n in
+    let mark = sym (marked r k w low (sym here.0)) in
+    let rest = numbered_places r (k + 1) ws us (omega (arith, low)) (numbered_rest r (length r.commits) k w ws u us n) in
+    λ i. place_row_for w w.action (here.1 i) (canceller_of r w) (mark i) (here.0 i) ∷ rest i
 
-pub error-rows : (r : Replica) (b : Rows) (k : ℕ) (ws : List Write) → AreNumbered r k ws → map (λ u. u.place) (undo_rows_of b ws) ≡ map (place_of r) ws → error_rows (length r.commits) k ws (undo_rows_of b ws) ≡ filter_map (error_row r) ws
-error-rows r b k [] f p = refl
-error-rows r b k (w ∷ ws) f p =
-    let q = places_head (place_of r) b w ws p in
-    let seq = numbered_first r k w ws f in
-    let rest = error-rows r (executed b w) (k + 1) ws (numbered_rest r k w ws f) q.1 in
-    (λ i. cons_option (error_with w (sym seq i) (q.0 i)) (rest i))
-    ∙ ap (λ o. cons_option o (filter_map (error_row r) ws)) (sym (error-with r w (place_of r w)))
+-- so numbered, at their places, and with the cancels that took them back, they are put as the rows that the replica has of them
+pub written-of : (r : Replica) (k : ℕ) (ws : List Write) (us : List UndoRow) (rooms : List Text) (vector : List VectorRow) → 1 ≤ k → AreNumbered r (length r.commits) k ws us → written (tables_of r).meta rooms vector (length r.commits) k ws us (map (canceller_of r) ws) ≡ change_of r ws ws rooms vector
+written-of r k ws us rooms vector low n =
+    let logs = numbered_logs r (length r.commits) k ws us n in
+    let places = numbered_places r k ws us low n in
+    λ i. with_places (tables_of r).meta rooms vector (logs i) (places i)
 
-pub written-of : (r : Replica) (b : Rows) (k : ℕ) (ws : List Write) (rooms : List Text) (vector : List VectorRow) → 1 ≤ k → AreNumbered r k ws → map (λ u. u.place) (undo_rows_of b ws) ≡ map (place_of r) ws → written (tables_of r).meta rooms vector (length r.commits) k ws (undo_rows_of b ws) ≡ change_of r ws rooms vector
-written-of r b k ws rooms vector low f p =
-    let logs = numbered r k ws f in
-    let undos = undo_rows_told (place_of r) b ws p in
-    let books = booking-rows r b k ws low f p in
-    let errors = error-rows r b k ws f p in
-    λ i. record {
-      meta = (tables_of r).meta;
-      room = rooms;
-      vector = vector;
-      dropped = [];
-      write_log = logs i;
-      undo = undos i;
-      unbooked = map error_id (errors i);
-      booking = books i;
-      unlogged = map booking_id (books i);
-      errorlog = errors i;
-    }
+-- with the rows of more writes behind them
+pub written-more : (r : Replica) (k : ℕ) (ws older : List Write) (us : List UndoRow) (rooms : List Text) (vector : List VectorRow) → 1 ≤ k → AreNumbered r (length r.commits) k ws us → with_places_put (written (tables_of r).meta rooms vector (length r.commits) k ws us (map (canceller_of r) ws)) (map (place_row r) older) ≡ change_of r ws (ws ++ older) rooms vector
+written-more r k ws older us rooms vector low n =
+    ap (λ c. with_places_put c (map (place_row r) older)) (written-of r k ws us rooms vector low n)
+    ∙ places-put (tables_of r).meta rooms vector (map (log_row r) ws) (map (place_row r) ws) (map (place_row r) older)
+    ∙ ap (with_places (tables_of r).meta rooms vector (map (log_row r) ws)) (sym (map-append (place_row r) ws older))
 
 -- what undoes writes that get these places
-pub undo_rows_are : (f : Write → Place) (b : Rows) (ws : List Write) → map (λ u. u.place) (undo_rows_of b ws) ≡ map f ws → undo_rows_of b ws ≡ map (undo_with f) ws
-undo_rows_are f b [] e = refl
-undo_rows_are f b (w ∷ ws) e =
-    let p = places_head f b w ws e in
-    let rest = undo_rows_are f (executed b w) ws p.1 in
-    λ i. record { id = id_of w; place = p.0 i } ∷ rest i
+abbrev undo_at : (Write → Place) → Write → UndoRow
+undo_at f w = undo_row_at w (f w)
 
--- ---- the rows of writes with the places that they have
+places_of_undo : (f : Write → Place) (ws : List Write) → map (λ u. u.place) (map (undo_at f) ws) ≡ map f ws
+places_of_undo f [] = refl
+places_of_undo f (w ∷ ws) = ap (λ ps. f w ∷ ps) (places_of_undo f ws)
 
-undo_given : (r : Replica) (ws : List Write) → map undo_row_with (map (undo_with (place_of r)) ws) ≡ map (undo_row r) ws
-undo_given r [] = refl
-undo_given r (w ∷ ws) = ap (λ rows. undo_row r w ∷ rows) (undo_given r ws)
-
-booking_given : (r : Replica) (k : ℕ) (ws : List Write) → 1 ≤ k → AreNumbered r k ws → booking_rows (length r.commits) k ws (map (undo_with (place_of r)) ws) ≡ filter_map (booking_row r) ws
-booking_given r k [] low f = refl
-booking_given r k (w ∷ ws) low f =
-    let mark = marked r k w low (numbered_first r k w ws f) in
-    let rest = booking_given r (k + 1) ws (omega (arith, low)) (numbered_rest r k w ws f) in
-    (λ i. cons_option (booking_with w (sym mark i) (slot_at w (place_of r w))) (rest i))
-    ∙ ap (λ o. cons_option o (filter_map (booking_row r) ws)) (sym (booking-with r w (slot_at w (place_of r w))))
-
-error_given : (r : Replica) (k : ℕ) (ws : List Write) → AreNumbered r k ws → error_rows (length r.commits) k ws (map (undo_with (place_of r)) ws) ≡ filter_map (error_row r) ws
-error_given r k [] f = refl
-error_given r k (w ∷ ws) f =
-    let seq = numbered_first r k w ws f in
-    let rest = error_given r (k + 1) ws (numbered_rest r k w ws f) in
-    (λ i. cons_option (error_with w (sym seq i) (place_of r w)) (rest i))
-    ∙ ap (λ o. cons_option o (filter_map (error_row r) ws)) (sym (error-with r w (place_of r w)))
-
-pub written_given : (r : Replica) (k : ℕ) (ws : List Write) (rooms : List Text) (vector : List VectorRow) → 1 ≤ k → AreNumbered r k ws → written (tables_of r).meta rooms vector (length r.commits) k ws (map (undo_with (place_of r)) ws) ≡ change_of r ws rooms vector
-written_given r k ws rooms vector low f =
-    let logs = numbered r k ws f in
-    let undos = undo_given r ws in
-    let books = booking_given r k ws low f in
-    let errors = error_given r k ws f in
-    λ i. record {
-      meta = (tables_of r).meta;
-      room = rooms;
-      vector = vector;
-      dropped = [];
-      write_log = logs i;
-      undo = undos i;
-      unbooked = map error_id (errors i);
-      booking = books i;
-      unlogged = map booking_id (books i);
-      errorlog = errors i;
-    }
+-- rows that are given with the places that the writes have
+pub given_numbered : (r : Replica) (k : ℕ) (ws : List Write) → ((i : ℕ) (w : Write) → slice_get ws i ≡ Some w → seq_of r w ≡ seq_on (length r.commits) (k + i)) → AreNumbered r (length r.commits) k ws (map (λ w. undo_row_at w (place_of r w)) ws)
+given_numbered r k ws f = record { numbers = f; places = places_of_undo (place_of r) ws }
 
 -- ---- a part of the kept writes
 
 -- the board before a place among the kept writes
 abbrev pub board_before : Replica → List Write → Rows
 board_before r front = executed_all (executed_all [] (dropped_in_order r)) front
-
-pub part_numbered : (r : Replica) (front ws back : List Write) → IsReplica r → kept_in_order r ≡ front ++ (ws ++ back) → AreNumbered r (r.dropped + 1 + length front) ws
-part_numbered r front ws back h parts i w e =
-    kept_numbers r (length front + i) w h
-    (ap (λ vs. slice_get vs (length front + i)) parts ∙ slice_behind front (ws ++ back) i ∙ slice_left ws back i (slice_bound ws i w e) ∙ e)
-    ∙ (let g : r.dropped + 1 + (length front + i) ≡ r.dropped + 1 + length front + i = omega arith in ap (seq_on (length r.commits)) g)
 
 places_append : (f : Write → Place) (b : Rows) (vs ws : List Write) → map (λ u. u.place) (undo_rows_of b (vs ++ ws)) ≡ map f (vs ++ ws) → (map (λ u. u.place) (undo_rows_of b vs) ≡ map f vs) × (map (λ u. u.place) (undo_rows_of (executed_all b vs) ws) ≡ map f ws)
 places_append f b vs ws p =
@@ -165,12 +109,23 @@ part_places r front ws back h parts =
     let behind = (places_append (place_of r) b front (ws ++ back) all).1 in
     (places_append (place_of r) (board_before r front) ws back behind).0
 
--- the change of a part of the log: where all other writes keep their rows, it makes the tables of the one desk those of the other
-pub part_changes : (a b : Replica) (front ws back : List Write) (rooms : List Text) (vector : List VectorRow) → IsReplica a → IsReplica b → Moves a b ws → kept_in_order b ≡ front ++ (ws ++ back) → put_all text_before (λ name. name) rooms a.rooms ≡ b.rooms → put_all ltb (λ (row : VectorRow). row.server) vector (tables_of a).vector ≡ (tables_of b).vector → changed (written (tables_of b).meta rooms vector (length b.commits) (b.dropped + 1 + length front) ws (undo_rows_of (board_before b front) ws)) (desk_tables (desk_of a)) ≡ desk_tables (desk_of b)
-part_changes a b front ws back rooms vector ha hb m parts e f =
-    let change = written-of b (board_before b front) (b.dropped + 1 + length front) ws rooms vector (omega arith) (part_numbered b front ws back hb parts) (part_places b front ws back hb parts) in
+-- their numbers and places
+pub part_numbered : (r : Replica) (front ws back : List Write) → IsReplica r → kept_in_order r ≡ front ++ (ws ++ back) → AreNumbered r (length r.commits) (r.dropped + 1 + length front) ws (undo_rows_of (board_before r front) ws)
+part_numbered r front ws back h parts = record {
+  numbers = λ i w e.
+      kept_numbers r (length front + i) w h
+      (ap (λ vs. slice_get vs (length front + i)) parts ∙ slice_behind front (ws ++ back) i ∙ slice_left ws back i (slice_bound ws i w e) ∙ e)
+      ∙ (let g : r.dropped + 1 + (length front + i) ≡ r.dropped + 1 + length front + i = omega arith in ap (seq_on (length r.commits)) g);
+  places = part_places r front ws back h parts;
+}
+
+-- the change of a part of the log, with the rows of more writes: where all others keep their rows, it makes the tables of the one
+-- desk those of the other
+pub part_changes : (a b : Replica) (front ws back older : List Write) (rooms : List Text) (vector : List VectorRow) → IsReplica a → IsReplica b → Moves a b ws (ws ++ older) → kept_in_order b ≡ front ++ (ws ++ back) → put_all text_before (λ name. name) rooms a.rooms ≡ b.rooms → put_all ltb (λ (row : VectorRow). row.server) vector (tables_of a).vector ≡ (tables_of b).vector → changed (with_places_put (written (tables_of b).meta rooms vector (length b.commits) (b.dropped + 1 + length front) ws (undo_rows_of (board_before b front) ws) (map (canceller_of b) ws)) (map (place_row b) older)) (desk_tables (desk_of a)) ≡ desk_tables (desk_of b)
+part_changes a b front ws back older rooms vector ha hb m parts e f =
+    let change = written-more b (b.dropped + 1 + length front) ws older (undo_rows_of (board_before b front) ws) rooms vector (omega arith) (part_numbered b front ws back hb parts) in
     let before = desk_tables-of a ha in
-    (λ i. changed (change i) (before i)) ∙ moves a b ws rooms vector ha hb m e f ∙ sym (desk_tables-of b hb)
+    (λ i. changed (change i) (before i)) ∙ moves a b ws (ws ++ older) rooms vector ha hb m e f ∙ sym (desk_tables-of b hb)
 
 -- ---- servers
 

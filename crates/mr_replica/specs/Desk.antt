@@ -5,6 +5,7 @@ use Rattle.mr_model.specs.Texts.{Text, numbers_on}
 use Rattle.mr_model.specs.Writes.{Write}
 use Rattle.mr_model.specs.Replica.{Replica, IsReplica, clock_of}
 use Rattle.mr_model.specs.Kept.{dropped_in_order, kept_in_order}
+use Rattle.mr_model.specs.Tables.{CancelRow}
 use Rattle.mr_model.specs.Replies.{Reply, Refused}
 use Rattle.mr_model.specs.Step.{After}
 use Rattle.mr_model.specs.Taking.{Progress}
@@ -14,7 +15,7 @@ use Rattle.mr_base.specs.declared.refusals.Refusal.TheVariants.{OutOfMemory, Sto
 use Rattle.mr_replay.specs.Rows.{undo_rows_of}
 use Rattle.mr_tables.specs.declared.summary.Tally.{Tally}
 use Rattle.mr_tables.specs.declared.old_errors.OldError.{OldError}
-use Rattle.mr_replica.specs.Log.{KeptLog, log_of, errors_in}
+use Rattle.mr_replica.specs.Log.{KeptLog, log_of, errors_in, cancel_rows}
 use Rattle.mr_tables.specs.Summary.{tally_of}
 
 pub record DeskView : Type 0 where
@@ -26,12 +27,16 @@ pub record DeskView : Type 0 where
   pub rooms : List Text  -- in the order of their names
   pub tallies : List Tally  -- of servers 0 to 99
   pub log : KeptLog
-  pub old_errors : List OldError  -- by rising commit number
+  pub old_errors : List OldError  -- of dropped requests that were logged, by rising commit number
+  pub old_cancels : List CancelRow  -- of dropped cancels, by rising commit number
 
 -- ---- the desk of a replica
 
 abbrev pub old_errors_of : List Write → List OldError
 old_errors_of dropped = errors_in 1 dropped (undo_rows_of [] dropped)
+
+abbrev pub old_cancels_of : List Write → List CancelRow
+old_cancels_of dropped = cancel_rows (length dropped) 1 dropped (undo_rows_of [] dropped)
 
 abbrev pub desk_of : Replica → DeskView
 desk_of a =
@@ -45,6 +50,7 @@ desk_of a =
       tallies = map (tally_of a) (numbers_on 0 100);
       log = log_of (dropped_in_order a) (kept_in_order a);
       old_errors = old_errors_of (dropped_in_order a);
+      old_cancels = old_cancels_of (dropped_in_order a);
     }
 
 -- A replica has one desk; a desk may stand for several replicas, which differ in dropped writes alone.

@@ -1,16 +1,18 @@
--- A kept write as its rows in write_log and undo tell it, and the order of execution of such rows.
+-- A kept write as its row in log tells it, and the order of execution of such rows.
 use Rattle.std.specs.Prelude.{ℕ, ◌==◌}
 use Rattle.std.specs.Ordering.{on, nat_cmp, bool_cmp, then_cmp}
 use Rattle.std.specs.declared.cmp.Ordering.{Ordering}
-use Rattle.mr_model.specs.Writes.{Write, id_of}
+use Rattle.mr_model.specs.Writes.{Write}
 use Rattle.mr_model.specs.Replay.{Place}
 use Rattle.mr_model.specs.Replica.{Replica}
-use Rattle.mr_model.specs.Tables.{seq_of, place_of}
+use Rattle.mr_model.specs.Tables.{seq_of}
+use Rattle.mr_model.specs.View.{place_of}
+use Rattle.mr_replay.specs.Rows.{undo_row_at}
 use Rattle.mr_replica.specs.declared.kept_rows.KeptRow.{KeptRow}
 use Rattle.mr_replica.specs.declared.kept_rows.RunPlace.{RunPlace}
 
 abbrev pub kept_row_with : Write → ℕ → Place → KeptRow
-kept_row_with w seq place = record { write = w; undo = record { id = id_of w; place = place }; seq = seq }
+kept_row_with w seq place = record { write = w; undo = undo_row_at w place; seq = seq }
 
 -- that of a write of a replica
 abbrev pub kept_row : Replica → Write → KeptRow

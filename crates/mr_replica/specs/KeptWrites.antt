@@ -3,30 +3,43 @@ use Rattle.std.specs.Prelude.{◌≡◌, ℕ, ◌==◌, Bool, false, List, is_so
 use Rattle.std.specs.BTreeMap.{BTreeMap, get}
 use Rattle.std.specs.Option.{option_map}
 use Rattle.mr_model.specs.Writes.{Id, Write}
+use Rattle.mr_model.specs.Replica.{Replica}
+use Rattle.mr_model.specs.Tables.{seq_of}
 use Rattle.mr_base.specs.Ids.{id_cmp}
-use Rattle.mr_replica.specs.declared.logged.LoggedWrite.{LoggedWrite}
+use Rattle.mr_replica.specs.declared.kept_rows.RunPlace.{RunPlace}
+use Rattle.mr_replica.specs.declared.kept_writes.NumberedWrite.{NumberedWrite}
 use Rattle.mr_replica.specs.Candidate.{write_in}
 
+-- a write of a replica with its commit number
+abbrev pub numbered_of : Replica → Write → NumberedWrite
+numbered_of r w = record { write = w; seq = seq_of r w }
+
+-- where it stands in the order of execution
+abbrev pub numbered_place : NumberedWrite → RunPlace
+numbered_place x = record { is_tentative = x.seq == 0; seq = x.seq; time = x.write.stamp.time; server = x.write.stamp.server }
+
+-- ---- by ids
+
 abbrev pub KeptWrites : Type 0
-KeptWrites = BTreeMap Id LoggedWrite
+KeptWrites = BTreeMap Id NumberedWrite
 
 -- the kept write of an id
-abbrev pub logged_at : KeptWrites → Id → Option LoggedWrite
+abbrev pub logged_at : KeptWrites → Id → Option NumberedWrite
 logged_at kept id = get id_cmp kept id
 
 abbrev pub has_at : KeptWrites → Id → Bool
 has_at kept id = is_some (logged_at kept id)
 
 -- whether there is such a write, and it has this commit number
-abbrev pub is_number_of : ℕ → Option LoggedWrite → Bool
+abbrev pub is_number_of : ℕ → Option NumberedWrite → Bool
 is_number_of number None = false
 is_number_of number (Some x) = x.seq == number
 
-abbrev pub with_number : ℕ → LoggedWrite → LoggedWrite
+abbrev pub with_number : ℕ → NumberedWrite → NumberedWrite
 with_number number x = record { write = x.write; seq = number }
 
 -- a write with the number that it has
-abbrev pub marked_by : (Write → ℕ) → Write → LoggedWrite
+abbrev pub marked_by : (Write → ℕ) → Write → NumberedWrite
 marked_by mark w = record { write = w; seq = mark w }
 
 -- these are the writes, with these numbers

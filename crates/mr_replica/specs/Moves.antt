@@ -9,8 +9,8 @@ use Rattle.mr_model.specs.Kept.{kept_in_order}
 use Rattle.mr_model.specs.Scopes.{is_late, is_touched}
 use Rattle.mr_model.specs.Moving.{BatchMoves}
 use Rattle.mr_model.specs.Tables.{seq_of, tables_of}
-use Rattle.mr_replica.specs.declared.logged.LoggedWrite.{LoggedWrite}
-use Rattle.mr_replica.specs.Logged.{logged_of}
+use Rattle.mr_replica.specs.declared.kept_writes.NumberedWrite.{NumberedWrite}
+use Rattle.mr_replica.specs.KeptWrites.{numbered_of}
 use Rattle.mr_replica.specs.Taken.{Covers}
 
 -- the rooms that an item touches, where so many commits are known and these are the kept writes that it may name
@@ -27,20 +27,20 @@ abbrev pub moves_in : List Text → List Item → ℕ → Write → Bool
 moves_in touched items commits w = list_any (bytes_eq w.room) touched && is_late commits items w.stamp.time w.stamp.server
 
 -- the same of a write with its commit number
-abbrev pub moves_open : List Text → List Item → ℕ → LoggedWrite → Bool
+abbrev pub moves_open : List Text → List Item → ℕ → NumberedWrite → Bool
 moves_open touched items commits x = x.seq == 0 && moves_in touched items commits x.write
 
 -- whether a write is executed anew: it is newly committed, or tentative and may move
-abbrev pub is_anew : List Text → List Item → ℕ → LoggedWrite → Bool
+abbrev pub is_anew : List Text → List Item → ℕ → NumberedWrite → Bool
 is_anew touched items commits x = nat_lt commits x.seq || moves_open touched items commits x
 
 -- the batch leads from the first replica to the second one, of whose kept writes these are those that pass the test
-pub record ShowsMoves (a b : Replica) (items : List Item) (inside : Write → Bool) (touched : List Text) (commits : ℕ) (kept : List LoggedWrite) : Type 0 where
+pub record ShowsMoves (a b : Replica) (items : List Item) (inside : Write → Bool) (touched : List Text) (commits : ℕ) (kept : List NumberedWrite) : Type 0 where
   pub sound : IsReplica a
   pub moves : BatchMoves a b items
   pub are_touched : AreTouched touched a items
   pub commits_are : commits ≡ length a.commits
   pub covers : Covers a items inside
-  pub kept_are : kept ≡ map (logged_of b) (filter inside (kept_in_order b))
+  pub kept_are : kept ≡ map (numbered_of b) (filter inside (kept_in_order b))
   -- a write that doesn't pass has the commit number that it had
   pub marks : (w : Write) → (seq_of b w ≡ seq_of a w) ⊎ (inside w ≡ true)

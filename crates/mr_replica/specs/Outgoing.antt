@@ -3,7 +3,7 @@ use Rattle.std.specs.Prelude.{◌≡◌, ℕ, ◌+◌, ◌-◌, Bool, nat_lt, if
 use Rattle.mr_model.specs.Writes.{Write, id_of}
 use Rattle.mr_model.specs.Exchange as model
 use Rattle.mr_model.specs.Positions.{Position}
-use Rattle.mr_model.specs.Step.{item_if_lacked, ending_of}
+use Rattle.mr_model.specs.Step.{item_if_lacked}
 use Rattle.mr_tables.specs.declared.summary.Summary.{Summary}
 use Rattle.mr_tables.specs.Summary.{committed_len}
 use Rattle.mr_base.specs.declared.batches.Item.{Item}
@@ -35,8 +35,3 @@ abbrev pub kept_items : Position → Summary → List Write → List model.Item
 kept_items p s kept =
     committed_items p (p.commits + 1) (drop (p.commits - s.dropped) (take (committed_len s kept) kept))
     ++ lacked_items p (drop (committed_len s kept) kept)
-
--- the batch with the first of these items, at most so many, which tells whether there are more
-abbrev pub batch_with : ℕ → ℕ → ℕ → List model.Item → model.Batch
-batch_with from primary limit items =
-    record { header = Some (record { from = from; primary = primary }); items = take limit items; ending = ending_of items limit }

@@ -7,21 +7,22 @@ use Rattle.mr_model.specs.Exchange.{Item}
 use Rattle.mr_model.specs.Kept.{dropped_in_order, kept_in_order}
 use Rattle.mr_model.specs.Dropped.{Has}
 use Rattle.mr_model.specs.Moving.{BatchMoves}
-use Rattle.mr_model.specs.Tables.{place_of}
+use Rattle.mr_model.specs.View.{place_of}
 use Rattle.mr_replay.specs.Places.{UndoRow}
 use Rattle.mr_replay.specs.Rows.{Rows}
 use Rattle.mr_tables.specs.declared.summary.Summary.{Summary}
 use Rattle.mr_tables.specs.Summary.{summary_of}
-use Rattle.mr_replica.specs.declared.logged.LoggedWrite.{LoggedWrite}
+use Rattle.mr_replica.specs.declared.kept_writes.NumberedWrite.{NumberedWrite}
 use Rattle.mr_replica.specs.Desk.{DeskView, StandsFor, desk_of}
-use Rattle.mr_replica.specs.Logged.{logged_of, undo_with}
+use Rattle.mr_replica.specs.KeptWrites.{numbered_of}
+use Rattle.mr_replica.specs.Logged.{undo_with}
 
 -- a desk's candidate has all kept writes
 abbrev pub all_writes : Write → Bool
 all_writes w = true
 
 -- the batch leads from the first replica, for which the desk stands, to the second one, whose numbers, rooms and kept writes these are
-pub record Reaches (d : DeskView) (items : List Item) (summary : Summary) (rooms : List Text) (kept : List LoggedWrite) (a b : Replica) : Type 0 where
+pub record Reaches (d : DeskView) (items : List Item) (summary : Summary) (rooms : List Text) (kept : List NumberedWrite) (a b : Replica) : Type 0 where
   pub sound : IsReplica a
   pub stands : StandsFor d a
   pub moves : BatchMoves a b items
@@ -29,7 +30,7 @@ pub record Reaches (d : DeskView) (items : List Item) (summary : Summary) (rooms
   pub keeps_rooms : (t : Text) → Has t a.rooms → Has t b.rooms
   pub summary_is : summary ≡ summary_of b
   pub rooms_are : rooms ≡ b.rooms
-  pub kept_are : kept ≡ map (logged_of b) (kept_in_order b)
+  pub kept_are : kept ≡ map (numbered_of b) (kept_in_order b)
 
 -- these are executed anew, with these rows and those of the other kept writes, on a board that is then that of the second replica
 pub record IsReplayed (b : Replica) (anew again : List Write) (rows others : List UndoRow) (board : Rows) : Type 0 where

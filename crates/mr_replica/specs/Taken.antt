@@ -16,17 +16,16 @@ use Rattle.mr_base.specs.declared.refusals.Refusal.TheVariants.{OutOfMemory}
 use Rattle.mr_tables.specs.declared.summary.Summary.{Summary}
 use Rattle.mr_tables.specs.Summary.{tally_at, summary_of}
 use Rattle.mr_replica.specs.declared.candidate.Candidate.{Candidate}
-use Rattle.mr_replica.specs.declared.logged.LoggedWrite.{LoggedWrite}
+use Rattle.mr_replica.specs.declared.kept_writes.NumberedWrite.{NumberedWrite}
 use Rattle.mr_replica.specs.Candidate.{write_verdict_with, commit_verdict}
-use Rattle.mr_replica.specs.KeptWrites.{KeptWrites, HasKept, logged_at, is_number_of}
-use Rattle.mr_replica.specs.Logged.{logged_of}
+use Rattle.mr_replica.specs.KeptWrites.{KeptWrites, HasKept, logged_at, is_number_of, numbered_of}
 use Rattle.mr_replica.specs.Sets.{IsSetOf}
 
 -- the numbers, the rooms in the order of names and the kept writes in that of execution, as all items leave them
 pub record ReachedView : Type 0 where
   pub summary : Summary
   pub rooms : List Text
-  pub kept : List LoggedWrite
+  pub kept : List NumberedWrite
 
 -- whether a write of the replica is in scope of the items
 abbrev pub is_inside : Replica → List Item → Write → Bool
@@ -51,7 +50,7 @@ pub record ShowsTaken (a : Replica) (inside : Write → Bool) (c : Candidate) (p
 pub record ShowsPicked (a : Replica) (inside : Write → Bool) (c : ReachedView) (p : Progress) : Type 0 where
   pub summary : c.summary ≡ summary_of p.replica
   pub rooms : c.rooms ≡ p.replica.rooms
-  pub kept : c.kept ≡ map (logged_of p.replica) (filter inside (kept_in_order p.replica))
+  pub kept : c.kept ≡ map (numbered_of p.replica) (filter inside (kept_in_order p.replica))
   pub writes : length c.kept ≡ length (filter inside (kept_in_order a)) + p.writes
   pub marks : (w : Write) → (seq_of p.replica w ≡ seq_of a w) ⊎ (inside w ≡ true)
 

@@ -3,8 +3,8 @@ use Rattle.std.specs.Prelude.{◌≡◌, List, [], ◌∷◌, Result, IfOk}
 use Rattle.mr_model.specs.Replica.{Replica, IsReplica}
 use Rattle.mr_model.specs.Refusals.{NoSuchRequest}
 use Rattle.mr_model.specs.Replies.{Reply, OutcomeIs, Refused}
-use Rattle.mr_model.specs.Queries.{booked_outcome, logged_outcome}
-use Rattle.mr_model.specs.Tables.{BookingRow, ErrorRow}
+use Rattle.mr_model.specs.Queries.{booked_outcome, logged_outcome, cancel_outcome}
+use Rattle.mr_model.specs.Tables.{BookingRow, ErrorRow, CancelRow}
 use Rattle.mr_base.specs.declared.refusals.Refusal.{Refusal}
 use Rattle.mr_tables.specs.Change.{ChangeView, changed}
 use Rattle.mr_replica.specs.Desk.{DeskView, StandsFor}
@@ -20,3 +20,8 @@ abbrev pub put_outcome : List BookingRow → List ErrorRow → Reply
 put_outcome (row ∷ rows) errors = OutcomeIs (booked_outcome row)
 put_outcome [] (row ∷ rows) = OutcomeIs (logged_outcome row)
 put_outcome [] [] = Refused NoSuchRequest
+
+-- what the row of a cancel tells, which is put into cancels
+abbrev pub put_cancel_outcome : List CancelRow → Reply
+put_cancel_outcome (row ∷ rows) = OutcomeIs (cancel_outcome row)
+put_cancel_outcome [] = Refused NoSuchRequest

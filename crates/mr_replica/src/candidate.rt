@@ -18,9 +18,8 @@ ghost use Rattle.mr_replica.specs.Taken.{Covers, ShowsTaken, ShowsPicked, TakesP
 
 use crate::judge::{judge_commit, judge_write};
 use crate::kept_writes::{
-    KeptWrites, find_write, has_number, in_run_order, kept_writes, number_write,
+    KeptWrites, NumberedWrite, find_write, has_number, in_run_order, kept_writes, number_write,
 };
-use crate::logged::LoggedWrite;
 use crate::room_sets::{RoomSet, add_room, names_of, room_set};
 use mr_base::{CommitNumber, Item, Refusal, RoomName, Write, WriteId};
 use mr_tables::summary::Summary;
@@ -44,7 +43,7 @@ pub struct Reached {
     /// In the order of names.
     pub rooms: Vec<RoomName>,
     /// In the order of execution.
-    pub kept: Vec<LoggedWrite>,
+    pub kept: Vec<NumberedWrite>,
 }
 
 impl Model for Reached {
@@ -180,7 +179,8 @@ impl Candidate {
         add_room(self.alloc, &mut self.rooms, &write.room)?;
         let write = write.copy(self.alloc)?;
         let stamp = write.stamp;
-        self.kept.insert(stamp.id(), LoggedWrite { write, seq: 0 })?;
+        self.kept
+            .insert(stamp.id(), NumberedWrite { write, seq: 0 })?;
         self.summary.note_write(stamp);
         Ok(())
     }

@@ -4,13 +4,14 @@ ghost use Rattle.std.specs.Prelude.{◌≡◌};
 
 use crate::log::Log;
 use mr_base::{RoomName, ServerId};
+use mr_tables::CancelRow;
 use mr_tables::old_errors::OldError;
 use mr_tables::summary::{Summary, Tally};
 use std::alloc::Global;
 use std::marker::Model;
 
 /// The working value of one replica: its numbers, its rooms in the order of their names, the log of its kept writes, and what
-/// the error log keeps of dropped ones.
+/// the error log and the rows of cancels keep of dropped ones.
 #[derive(Drop)]
 pub struct Desk {
     pub(crate) alloc: Global,
@@ -18,6 +19,7 @@ pub struct Desk {
     pub(crate) rooms: Vec<RoomName>,
     pub(crate) log: Log,
     pub(crate) old_errors: Vec<OldError>,
+    pub(crate) old_cancels: Vec<CancelRow>,
 }
 
 impl Model for Desk {
@@ -35,6 +37,7 @@ impl Model for Desk {
       tallies = d.summary.tallies;
       log = d.log;
       old_errors = d.old_errors.items;
+      old_cancels = d.old_cancels.items;
     } };
 }
 
@@ -49,6 +52,7 @@ impl Desk {
             rooms: Vec::new(alloc),
             log: Log::new(alloc),
             old_errors: Vec::new(alloc),
+            old_cancels: Vec::new(alloc),
         }
     }
 }

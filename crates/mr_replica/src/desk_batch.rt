@@ -4,12 +4,13 @@ ghost use Rattle.mr_model.specs.Step.{leave, batch_reply};
 ghost use Rattle.mr_replica.specs.Desk.{TakesStep, NeverStore, IsWithinLimits};
 
 use crate::Desk;
-use crate::outgoing::batch_for;
+use crate::outgoing::outgoing_for;
 use mr_base::{Batch, LineCount, Position, Refusal};
 
 impl Desk {
     /// What a replica at this position lacks: the commits above its own, each behind its write where that is lacked, then
-    /// the tentative writes that it lacks, so many lines at most. It is refused where one of the commits is dropped.
+    /// the tentative writes that it lacks, so many lines at most. It is refused where one of the commits is dropped, and where
+    /// the exchange text can't say one of these writes.
     pub fn batch(&self, position: &Position, max_lines: LineCount) -> Result<Batch, Refusal>
         ensures step { TakesStep (λ a. leave a (batch_reply a position.now max_lines)) (λ _ batch. BatchIs batch) self.now result self.now }
         // A refusal that is due is told without memory.
@@ -23,13 +24,13 @@ impl Desk {
         if position.commits < self.summary.dropped {
             return Err(Refusal::Truncated);
         }
-        let batch = batch_for(
+        let outgoing = outgoing_for(
             self.alloc,
             &self.summary,
             self.log.kept(),
             position,
             max_lines,
         )?;
-        Ok(batch)
+        outgoing.into_batch(self.summary.server, self.summary.primary)
     }
 }

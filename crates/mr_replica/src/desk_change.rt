@@ -1,9 +1,11 @@
 ghost use Rattle.std.specs.Prelude.{◌≡◌, ◌+◌, ◌<◌, ◌^◌, length, IfOk, IfErr};
 ghost use Rattle.mr_tables.specs.Written.{meta_of, changed_tallies as rows_changed, written};
+ghost use Rattle.mr_replica.specs.Placing.{cancellers_on};
 
 use crate::Desk;
-use mr_base::{Refusal, RoomName, Write};
-use mr_replay::UndoRow;
+use crate::placing::cancellers;
+use mr_base::{Refusal, RoomName, Write, WriteId};
+use mr_replay::{Board, UndoRow};
 use mr_tables::Change;
 use mr_tables::summary::Summary;
 use mr_tables::vector::changed_tallies;
@@ -11,8 +13,8 @@ use mr_tables::written::written;
 use std::alloc::Global;
 
 impl Desk {
-    /// The change to a desk of those numbers, with these rooms more, where these writes, with what undoes each, are the
-    /// kept ones from that place on.
+    /// The change to a desk of those numbers, with these rooms more, where these writes, with what undoes each and the cancels
+    /// that took them back, are the kept ones from that place on.
     pub(crate) fn change_to(
         &self,
         summary: &Summary,
@@ -20,10 +22,11 @@ impl Desk {
         place: usize,
         writes: &[Write],
         rows: &[UndoRow],
+        bys: &[Option<WriteId>],
     ) -> Result<Change, Refusal>
-        requires { length writes.now ≡ length rows.now }
+        requires { (length writes.now ≡ length rows.now) × (length writes.now ≡ length bys.now) }
         ensures change { IfOk result (λ change. self.now.dropped + 1 + place + length writes.now < 2 ^ 64
-            → change ≡ written (meta_of summary.now) rooms.items (rows_changed self.now.tallies summary.now.tallies) summary.now.commits (self.now.dropped + 1 + place) writes.now rows.now) }
+            → change ≡ written (meta_of summary.now) rooms.items (rows_changed self.now.tallies summary.now.tallies) summary.now.commits (self.now.dropped + 1 + place) writes.now rows.now bys.now) }
         ensures only { IfErr result (λ e. e ≡ Refusal.OutOfMemory) }
     {
         let vector = changed_tallies(self.alloc, &self.summary, summary)?;
@@ -32,25 +35,28 @@ impl Desk {
             .dropped
             .saturating_add(1)
             .saturating_add(place as u64);
-        written(self.alloc, summary, rooms, vector, first, writes, rows)
+        written(self.alloc, summary, rooms, vector, first, writes, rows, bys)
     }
 }
 
-/// The change from the old numbers to the new ones, with these rooms more, where these writes stand behind the old commits.
+/// The change from the old numbers to the new ones, with these rooms more, where these writes stand behind the old commits, and the board
+/// tells which cancels took them back.
 pub fn rewritten(
     alloc: Global,
     old: &Summary,
     summary: &Summary,
     rooms: Vec<RoomName>,
+    board: &Board,
     writes: &[Write],
     rows: &[UndoRow],
 ) -> Result<Change, Refusal>
     requires { length writes.now ≡ length rows.now }
     ensures change { IfOk result (λ change. old.now.commits + 1 + length writes.now < 2 ^ 64
-        → change ≡ written (meta_of summary.now) rooms.items (rows_changed old.now.tallies summary.now.tallies) summary.now.commits (old.now.commits + 1) writes.now rows.now) }
+        → change ≡ written (meta_of summary.now) rooms.items (rows_changed old.now.tallies summary.now.tallies) summary.now.commits (old.now.commits + 1) writes.now rows.now (cancellers_on board.now writes.now)) }
     ensures only { IfErr result (λ e. e ≡ Refusal.OutOfMemory) }
 {
     let vector = changed_tallies(alloc, old, summary)?;
+    let bys = cancellers(alloc, board, writes)?;
     let first = old.commits.saturating_add(1);
-    written(alloc, summary, rooms, vector, first, writes, rows)
+    written(alloc, summary, rooms, vector, first, writes, rows, &bys)
 }

@@ -9,7 +9,8 @@ ghost use Rattle.mr_tables.specs.Written.{meta_of, changed_tallies, written};
 
 use crate::Desk;
 use crate::log::Log;
-use mr_base::{Refusal, Write};
+use crate::placing::cancellers;
+use mr_base::{Refusal, Write, WriteId};
 use mr_replay::UndoRow;
 use mr_tables::Change;
 use mr_tables::summary::Summary;
@@ -33,7 +34,8 @@ impl Desk {
         }
         let (writes, rows) = next_commits(&self.summary, &self.log, k);
         let count = writes.len() as u64;
-        let (summary, change) = after_commits(self.alloc, &self.summary, writes, rows)?;
+        let bys = cancellers(self.alloc, self.log.board(), writes)?;
+        let (summary, change) = after_commits(self.alloc, &self.summary, writes, rows, &bys)?;
         self.summary = summary;
         Ok((count, change))
     }
@@ -51,17 +53,19 @@ fn next_commits<'a>(summary: &Summary, log: &'a Log, k: u64) -> (&'a [Write], &'
     (&kept[first..end], &log.undo()[first..end])
 }
 
-/// The numbers after the commits of these writes, and what these change in the tables.
+/// The numbers after the commits of these writes, and what these change in the tables: each has its undo row and the cancel that
+/// took it back.
 pub fn after_commits(
     alloc: Global,
     summary: &Summary,
     writes: &[Write],
     rows: &[UndoRow],
+    bys: &[Option<WriteId>],
 ) -> Result<(Summary, Change), Refusal>
-    requires { length writes.now ≡ length rows.now }
+    requires { (length writes.now ≡ length rows.now) × (length writes.now ≡ length bys.now) }
     ensures numbers { IfOk result (λ done. done.0 ≡ noted_commits summary.now (map id_of writes.now)) }
     ensures change { IfOk result (λ done. summary.now.commits + 1 + length writes.now < 2 ^ 64
-        → done.1 ≡ written (meta_of done.0) [] (changed_tallies summary.now.tallies done.0.tallies) done.0.commits (summary.now.commits + 1) writes.now rows.now) }
+        → done.1 ≡ written (meta_of done.0) [] (changed_tallies summary.now.tallies done.0.tallies) done.0.commits (summary.now.commits + 1) writes.now rows.now bys.now) }
     ensures only { IfErr result (λ e. e ≡ Refusal.OutOfMemory) }
 {
     let mut numbers = *summary;
@@ -69,6 +73,6 @@ pub fn after_commits(
     let vector = changed_tallies(alloc, summary, &numbers)?;
     let first = summary.commits.saturating_add(1);
     let rooms = Vec::new(alloc);
-    let change = written(alloc, &numbers, rooms, vector, first, writes, rows)?;
+    let change = written(alloc, &numbers, rooms, vector, first, writes, rows, bys)?;
     Ok((numbers, change))
 }

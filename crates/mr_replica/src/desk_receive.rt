@@ -1,6 +1,6 @@
 ghost use Rattle.std.specs.Prelude.{◌≡◌, ◌≢◌, ◌+◌, ◌<◌, ◌^◌, List, IsTrue, Ok, Err, Some, map, filter, length, OnOk, OnErr, IfOk, IfErr};
 ghost use Rattle.std.specs.List.{list_all};
-ghost use Rattle.mr_model.specs.Exchange.{is_item, Header};
+ghost use Rattle.mr_model.specs.Exchange.{is_item, Header, Item as ItemOfBatch};
 ghost use Rattle.mr_model.specs.Kept.{kept_in_order};
 ghost use Rattle.mr_model.specs.Moving.{again};
 ghost use Rattle.mr_model.specs.Replica.{Replica, IsReplica, is_among};
@@ -17,19 +17,22 @@ ghost use Rattle.mr_tables.specs.Rows.{seq_on};
 ghost use Rattle.mr_replica.specs.Desk.{TakesStep, NeverStore, StandsFor, desk_of, nothing_taken};
 ghost use Rattle.mr_replica.specs.DeskTables.{desk_tables};
 ghost use Rattle.mr_replica.specs.Taken.{TakenPicked};
-ghost use Rattle.mr_replica.specs.Logged.{logged_of};
+ghost use Rattle.mr_replica.specs.KeptWrites.{numbered_of};
 ghost use Rattle.mr_replica.specs.Received.{Reaches, IsReplayed, all_writes};
 ghost use Rattle.mr_replica.specs.Turning.{TurnsTables};
+ghost use Rattle.mr_replica.specs.declared.kept_writes.NumberedWrite.{NumberedWrite as NumberedWriteOfReplica};
 
 use crate::Desk;
 use crate::candidate::{Reached, reached_with};
 use crate::desk_change::rewritten;
 use crate::desk_replay::{joined_rows, parted_rows};
+use crate::kept_writes::{NumberedWrite, writes_alone};
 use crate::log::Log;
-use crate::logged::{LoggedWrite, writes_alone};
 use crate::movable::{again_in, rooms_touched};
+use crate::placing::put_places;
 use crate::room_sets::unknown_rooms;
-use mr_base::{Batch, Item, Refusal, Write};
+use crate::targets::{moved_targets, takers};
+use mr_base::{Batch, Item, Refusal, RoomName, Write};
 use mr_replay::{Board, UndoRow};
 use mr_tables::Change;
 use mr_tables::summary::Summary;
@@ -126,15 +129,7 @@ impl Desk {
             kept,
         } = reached;
         let replay = self.replay(items, marks, &kept)?;
-        let unknown = unknown_rooms(self.alloc, &self.rooms, &rooms)?;
-        let change = rewritten(
-            self.alloc,
-            &self.summary,
-            &summary,
-            unknown,
-            &replay.again,
-            &replay.rows,
-        )?;
+        let change = self.change_after(&summary, &rooms, &replay)?;
         let log = log_with(self.alloc, kept, replay)?;
         self.log = log;
         self.summary = summary;
@@ -142,9 +137,44 @@ impl Desk {
         Ok(change)
     }
 
+    /// What the replay changes in the tables, where the desk's numbers and rooms become these: the rows of the writes that were
+    /// executed anew, and those of the bookings that they cancel, where other cancels took these back before.
+    fn change_after(
+        &self,
+        summary: &Summary,
+        rooms: &[RoomName],
+        replay: &Replay,
+    ) -> Result<Change, Refusal>
+        requires { length replay.now.again.items ≡ length replay.now.rows.items }
+        ensures turns { (a b : Replica) (items : List ItemOfBatch) (kept : List NumberedWriteOfReplica) (t : Reaches self.now items summary.now rooms.now kept a b)
+            → IsReplayed b (again a items t.moves.news b) replay.now.again.items replay.now.rows.items replay.now.others.items replay.now.board
+            → IfOk result (λ change. changed change (tables_of a) ≡ tables_of b) }
+        ensures only { IfErr result (λ e. e ≡ Refusal.OutOfMemory) }
+    {
+        let was = takers(self.alloc, self.log.board(), &replay.again)?;
+        let unknown = unknown_rooms(self.alloc, &self.rooms, rooms)?;
+        let mut change = rewritten(
+            self.alloc,
+            &self.summary,
+            summary,
+            unknown,
+            &replay.board,
+            &replay.again,
+            &replay.rows,
+        )?;
+        let targets = moved_targets(self.alloc, summary, &replay.board, &replay.again, &was)?;
+        put_places(&mut change, targets)?;
+        Ok(change)
+    }
+
     /// Undoes what the items may move, on a copy of the board, and executes the new order, in the rooms that they touch. The
     /// desk's kept writes have these commit numbers, and with all items they are those.
-    fn replay(&self, items: &[Item], marks: &[u64], kept: &[LoggedWrite]) -> Result<Replay, Refusal>
+    fn replay(
+        &self,
+        items: &[Item],
+        marks: &[u64],
+        kept: &[NumberedWrite],
+    ) -> Result<Replay, Refusal>
         ensures replayed { (a b : Replica) (summary : SummaryOfDesk) (rooms : List Text) (t : Reaches self.now (map item_of items.now) summary rooms kept.now a b) → marks.now ≡ map (seq_of a) (kept_in_order a)
             → IfOk result (λ r. IsReplayed b (again a (map item_of items.now) t.moves.news b) r.again.items r.rows.items r.others.items r.board) }
         ensures as_many { IfOk result (λ r. length r.again.items ≡ length r.rows.items) }
@@ -192,8 +222,8 @@ fn mark_at(summary: &Summary, place: usize) -> u64
 }
 
 /// The log of these kept writes, after the replay.
-fn log_with(alloc: Global, kept: Vec<LoggedWrite>, replay: Replay) -> Result<Log, Refusal>
-    ensures log { (b : Replica) (anew : List WriteOfRoom) → IsReplica b → kept.items ≡ map (logged_of b) (kept_in_order b) → filter (λ w. is_among (id_of w) (map id_of anew)) (kept_in_order b) ≡ anew
+fn log_with(alloc: Global, kept: Vec<NumberedWrite>, replay: Replay) -> Result<Log, Refusal>
+    ensures log { (b : Replica) (anew : List WriteOfRoom) → IsReplica b → kept.items ≡ map (numbered_of b) (kept_in_order b) → filter (λ w. is_among (id_of w) (map id_of anew)) (kept_in_order b) ≡ anew
         → IsReplayed b anew replay.again.items replay.rows.items replay.others.items replay.board → IfOk result (λ log. log ≡ (desk_of b).log) }
     ensures only { IfErr result (λ e. e ≡ Refusal.OutOfMemory) }
 {

@@ -36,10 +36,10 @@ impl Desk {
 
 /// Puts a room more.
 pub fn room_change(alloc: Global, summary: &Summary, room: &RoomName) -> Result<Change, Refusal>
-    ensures change { IfOk result (λ change. change ≡ written (meta_of summary.now) (room.now ∷ []) [] summary.now.commits 1 [] []) }
+    ensures change { IfOk result (λ change. change ≡ written (meta_of summary.now) (room.now ∷ []) [] summary.now.commits 1 [] [] []) }
     ensures only { IfErr result (λ e. e ≡ Refusal.OutOfMemory) }
 {
     let mut rooms = Vec::new(alloc);
     rooms.push(room.copy(alloc)?)?;
-    written(alloc, summary, rooms, Vec::new(alloc), 1, &[], &[])
+    written(alloc, summary, rooms, Vec::new(alloc), 1, &[], &[], &[])
 }

@@ -1,14 +1,15 @@
-ghost use Rattle.std.specs.Prelude.{◌≡◌, ◌+◌, ◌<◌, ◌≤◌, ◌^◌, true, false, [], ◌∷◌, bytes_eq, length, Err, OnErr, IfOk, IfErr};
+ghost use Rattle.std.specs.Prelude.{◌≡◌, ◌<◌, ◌≤◌, true, false, bytes_eq, map, Err, OnOk, OnErr, IfOk, IfErr};
 ghost use Rattle.std.specs.List.{list_any};
 ghost use Rattle.mr_model.specs.Replica.{Replica, IsReplica};
-ghost use Rattle.mr_replay.specs.Rows.{undo_row_of};
+ghost use Rattle.mr_replica.specs.Accepting.{summary_in, with_last, puts_last, CanPutLast};
 ghost use Rattle.mr_replica.specs.Desk.{TakesStep, NeverStore, StandsFor};
 ghost use Rattle.mr_replica.specs.Steps.{submit_request, outcome_in};
-ghost use Rattle.mr_tables.specs.Summary.{tally_at};
 ghost use Rattle.mr_replica.specs.Turning.{TurnsTables, put_outcome};
-ghost use Rattle.mr_tables.specs.Written.{meta_of, changed_tallies, written};
+ghost use Rattle.mr_tables.specs.Summary.{noted_write, tally_at};
 
 use crate::Desk;
+use crate::kept_rows::target_of;
+use crate::placing::{put_places, taken_rows};
 use mr_base::{Refusal, Request, Write, WriteId};
 use mr_replay::UndoRow;
 use mr_tables::Change;
@@ -36,32 +37,48 @@ impl Desk {
             return Err(Refusal::UnknownRoom);
         }
         let stamp = self.summary.next_stamp()?;
-        let mut summary = self.summary;
-        summary.note_write(stamp);
-        let write = Write::of_request(stamp, request);
-        let change = self.submission(&summary, &write)?;
-        self.log.push(write)?;
-        self.summary = summary;
+        let change = self.accept(Write::of_request(stamp, request))?;
         Ok((stamp.id(), change))
     }
 
-    /// What changes in the tables where this write becomes the last of the order.
-    fn submission(&self, summary: &Summary, write: &Write) -> Result<Change, Refusal>
-        ensures change { IfOk result (λ change. self.now.dropped + 1 + length self.now.log.kept + 1 < 2 ^ 64
-            → change ≡ written (meta_of summary.now) [] (changed_tallies self.now.tallies summary.now.tallies) summary.now.commits (self.now.dropped + 1 + length self.now.log.kept) (write.now ∷ []) (undo_row_of self.now.log.board write.now ∷ [])) }
+    /// Accepts a write with the next stamp of the own server: it becomes the last of the order. Answers what that changes in
+    /// the tables.
+    pub(crate) fn accept(&mut self, write: Write) -> Result<Change, Refusal>
+        ensures change { IfOk result (λ change. CanPutLast self.old write → change ≡ puts_last self.old (noted_write (summary_in self.old) write.stamp) write) }
+        ensures ok { OnOk result (self.new ≡ with_last self.old write) }
+        ensures err { OnErr result (self.new ≡ self.old) }
         ensures only { IfErr result (λ e. e ≡ Refusal.OutOfMemory) }
     {
+        let mut summary = self.summary;
+        summary.note_write(write.stamp);
+        let change = self.submission(&summary, &write)?;
+        self.log.push(write)?;
+        self.summary = summary;
+        Ok(change)
+    }
+
+    /// What changes in the tables where this write becomes the last of the order: its rows are put, and that of the booking
+    /// that it takes back.
+    fn submission(&self, summary: &Summary, write: &Write) -> Result<Change, Refusal>
+        ensures change { IfOk result (λ change. CanPutLast self.now write.now → change ≡ puts_last self.now summary.now write.now) }
+        ensures only { IfErr result (λ e. e ≡ Refusal.OutOfMemory) }
+    {
+        let board = self.log.board();
         let row = UndoRow {
             id: write.stamp.id(),
-            place: self.log.board().merge(write),
+            place: board.merge(write),
+            target: target_of(&write.action),
         };
-        let place = self.log.kept().len();
-        self.change_to(
+        let taken = taken_rows(self.alloc, &self.summary, board, row)?;
+        let mut change = self.change_to(
             summary,
             Vec::new(self.alloc),
-            place,
+            self.log.kept().len(),
             slice::from_ref(write),
             &[row],
-        )
+            &[None],
+        )?;
+        put_places(&mut change, taken)?;
+        Ok(change)
     }
 }

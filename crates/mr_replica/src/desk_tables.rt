@@ -1,25 +1,29 @@
-ghost use Rattle.std.specs.Prelude.{◌≡◌, ◌⊎◌, nat_lt, IfOk, IfErr, IsTrue};
-ghost use Rattle.std.specs.List.{All};
+ghost use Rattle.std.specs.Prelude.{◌≡◌, ◌⊎◌, nat_lt, IfOk, IfErr, map};
 ghost use Rattle.mr_model.specs.Replica.{Replica, IsReplica};
 ghost use Rattle.mr_model.specs.Tables.{tables_of};
 ghost use Rattle.mr_replica.specs.Desk.{desk_of, StandsFor, IsWithinLimits};
-ghost use Rattle.mr_replica.specs.SoundLog.{IsOfSoundRows, is_on_board};
+ghost use Rattle.mr_replica.specs.SoundLog.{log_told, IsOfSoundRows};
+ghost use Rattle.mr_replica.specs.SoundNotes.{AreNotesSound};
+ghost use Rattle.mr_replica.specs.SoundStamps.{AreStampsSound, AreSlotsSound};
+ghost use Rattle.mr_replica.specs.OnBoard.{AreOnBoard};
 ghost use Rattle.mr_tables.specs.SoundRows.{AreSound, Rise};
 ghost use Rattle.mr_tables.specs.Summary.{summary_of as summary_of_replica, IsWithin};
 
 use crate::Desk;
 use crate::kept_rows::log_of;
 use crate::log::Log;
-use crate::sound_log::are_booked;
+use crate::old_rows::{old_cancels_in, old_errors_in};
+use crate::on_board::are_on_board;
+use crate::sound_notes::are_notes_sound;
+use crate::sound_stamps::{are_slots_sound, are_stamps_sound};
 use mr_base::Refusal;
 use mr_replay::Board;
+use mr_tables::Tables;
 use mr_tables::boards::board_with;
-use mr_tables::old_errors::{OldError, are_rising, dropped_errors, sort_errors};
 use mr_tables::rooms::copies_of;
 use mr_tables::sound_rows::are_sound;
 use mr_tables::summary::Summary;
 use mr_tables::vector::summary_of;
-use mr_tables::{ErrorRow, Tables};
 use std::alloc::Global;
 
 impl Desk {
@@ -30,9 +34,13 @@ impl Desk {
         ensures only { (a : Replica) → IsReplica a → tables.now ≡ tables_of a → IfErr result (λ e. e ≡ Refusal.OutOfMemory) }
         ensures within { IfOk result IsWithinLimits }
         ensures sound { IfOk result (λ desk. AreSound tables.now desk.commits desk.tallies) }
-        ensures kept { IfOk result (λ desk. IsOfSoundRows desk.commits desk.dropped desk.log) }
-        ensures booked { IfOk result (λ desk. All (λ row. IsTrue (is_on_board desk.log.board row)) tables.now.booking) }
+        ensures stamps { IfOk result (λ desk. AreStampsSound desk.commits desk.tallies tables.now) }
+        ensures slots { IfOk result (λ desk. AreSlotsSound tables.now) }
+        ensures notes { IfOk result (λ desk. AreNotesSound desk.dropped tables.now) }
+        ensures kept { IfOk result (λ desk. IsOfSoundRows (map log_told tables.now.log) desk.commits desk.dropped desk.log) }
+        ensures on_board { IfOk result (λ desk. AreOnBoard desk.log.board tables.now) }
         ensures rising { IfOk result (λ desk. Rise nat_lt (λ e. e.seq) desk.old_errors) }
+        ensures cancels_rising { IfOk result (λ desk. Rise nat_lt (λ c. c.seq) desk.old_cancels) }
         ensures cause { IfErr result (λ e. (e ≡ Refusal.OutOfMemory) ⊎ (e ≡ Refusal.Store)) }
     {
         match desk_told(alloc, tables) {
@@ -59,9 +67,13 @@ fn desk_told(alloc: Global, tables: &Tables) -> Result<Desk, Refusal>
     ensures only { (a : Replica) → IsReplica a → tables.now ≡ tables_of a → IfErr result (λ e. e ≡ Refusal.OutOfMemory) }
     ensures within { IfOk result IsWithinLimits }
     ensures sound { IfOk result (λ desk. AreSound tables.now desk.commits desk.tallies) }
-    ensures kept { IfOk result (λ desk. IsOfSoundRows desk.commits desk.dropped desk.log) }
-    ensures booked { IfOk result (λ desk. All (λ row. IsTrue (is_on_board desk.log.board row)) tables.now.booking) }
+    ensures stamps { IfOk result (λ desk. AreStampsSound desk.commits desk.tallies tables.now) }
+    ensures slots { IfOk result (λ desk. AreSlotsSound tables.now) }
+    ensures notes { IfOk result (λ desk. AreNotesSound desk.dropped tables.now) }
+    ensures kept { IfOk result (λ desk. IsOfSoundRows (map log_told tables.now.log) desk.commits desk.dropped desk.log) }
+    ensures on_board { IfOk result (λ desk. AreOnBoard desk.log.board tables.now) }
     ensures rising { IfOk result (λ desk. Rise nat_lt (λ e. e.seq) desk.old_errors) }
+    ensures cancels_rising { IfOk result (λ desk. Rise nat_lt (λ c. c.seq) desk.old_cancels) }
 {
     let summary = summary_of(tables);
     if !summary.is_within() {
@@ -70,7 +82,13 @@ fn desk_told(alloc: Global, tables: &Tables) -> Result<Desk, Refusal>
     if !are_sound(tables, &summary) {
         return Err(Refusal::Store);
     }
-    match log_told(alloc, tables, &summary) {
+    if !are_stamps_sound(tables, &summary) {
+        return Err(Refusal::Store);
+    }
+    if !are_slots_sound(tables) {
+        return Err(Refusal::Store);
+    }
+    match noted_log(alloc, tables, &summary) {
         Ok(log) => desk_with(alloc, tables, summary, log),
         Err(refusal) => Err(refusal),
     }
@@ -87,18 +105,24 @@ fn desk_with(alloc: Global, tables: &Tables, summary: Summary, log: Log) -> Resu
     ensures numbers { IfOk result (λ desk. (desk.commits ≡ summary.commits) × (desk.dropped ≡ summary.dropped) × (desk.tallies ≡ summary.tallies)) }
     ensures log { IfOk result (λ desk. desk.log ≡ log) }
     ensures rising { IfOk result (λ desk. Rise nat_lt (λ e. e.seq) desk.old_errors) }
+    ensures cancels_rising { IfOk result (λ desk. Rise nat_lt (λ c. c.seq) desk.old_cancels) }
 {
     let rooms = match copies_of(alloc, &tables.room) {
         Ok(rooms) => rooms,
         Err(refusal) => return Err(refusal),
     };
-    match old_errors_in(alloc, &tables.errorlog, summary.dropped) {
-        Ok(old_errors) => Ok(Desk {
+    let old_errors = match old_errors_in(alloc, &tables.errorlog, summary.dropped) {
+        Ok(old_errors) => old_errors,
+        Err(refusal) => return Err(refusal),
+    };
+    match old_cancels_in(alloc, &tables.cancels, summary.dropped) {
+        Ok(old_cancels) => Ok(Desk {
             alloc,
             summary,
             rooms,
             log,
             old_errors,
+            old_cancels,
         }),
         Err(refusal) => Err(refusal),
     }
@@ -108,13 +132,33 @@ fn desk_with(alloc: Global, tables: &Tables, summary: Summary, log: Log) -> Resu
 fn log_told(alloc: Global, tables: &Tables, summary: &Summary) -> Result<Log, Refusal>
     ensures log { (a : Replica) → IsReplica a → tables.now ≡ tables_of a → IfOk result (λ log. log ≡ (desk_of a).log) }
     ensures only { (a : Replica) → IsReplica a → tables.now ≡ tables_of a → summary.now ≡ summary_of_replica a → IfErr result (λ e. e ≡ Refusal.OutOfMemory) }
-    ensures sound { IfOk result (λ log. IsOfSoundRows summary.now.commits summary.now.dropped log) }
-    ensures booked { IfOk result (λ log. All (λ row. IsTrue (is_on_board log.board row)) tables.now.booking) }
+    ensures sound { IfOk result (λ log. IsOfSoundRows (map log_told tables.now.log) summary.now.commits summary.now.dropped log) }
+    ensures on_board { IfOk result (λ log. AreOnBoard log.board tables.now) }
 {
     match board_of(alloc, tables) {
         Ok(board) => {
-            if are_booked(&tables.booking, &board) {
+            if are_on_board(tables, &board) {
                 log_of(alloc, tables, summary, board)
+            } else {
+                Err(Refusal::Store)
+            }
+        }
+        Err(refusal) => Err(refusal),
+    }
+}
+
+/// The kept log, where the error log and the rows of cancels tell of kept writes what it tells of them.
+fn noted_log(alloc: Global, tables: &Tables, summary: &Summary) -> Result<Log, Refusal>
+    ensures log { (a : Replica) → IsReplica a → tables.now ≡ tables_of a → IfOk result (λ log. log ≡ (desk_of a).log) }
+    ensures only { (a : Replica) → IsReplica a → tables.now ≡ tables_of a → summary.now ≡ summary_of_replica a → IfErr result (λ e. e ≡ Refusal.OutOfMemory) }
+    ensures sound { IfOk result (λ log. IsOfSoundRows (map log_told tables.now.log) summary.now.commits summary.now.dropped log) }
+    ensures on_board { IfOk result (λ log. AreOnBoard log.board tables.now) }
+    ensures notes { IfOk result (λ log. AreNotesSound summary.now.dropped tables.now) }
+{
+    match are_notes_sound(alloc, tables, summary.dropped) {
+        Ok(sound) => {
+            if sound {
+                log_told(alloc, tables, summary)
             } else {
                 Err(Refusal::Store)
             }
@@ -128,27 +172,5 @@ fn board_of(alloc: Global, tables: &Tables) -> Result<Board, Refusal>
     ensures board { (a : Replica) → IsReplica a → tables.now ≡ tables_of a → IfOk result (λ board. board ≡ (desk_of a).log.board) }
     ensures only { (a : Replica) → IsReplica a → tables.now ≡ tables_of a → IfErr result (λ e. e ≡ Refusal.OutOfMemory) }
 {
-    board_with(alloc, &tables.booking, &tables.errorlog)
-}
-
-/// What the rows of `errorlog` keep of dropped writes, by rising commit number, where so many are dropped. Refused where two
-/// have one number.
-fn old_errors_in(alloc: Global, rows: &[ErrorRow], dropped: u64) -> Result<Vec<OldError>, Refusal>
-    ensures errors { (a : Replica) → IsReplica a → rows.now ≡ (tables_of a).errorlog → dropped ≡ a.dropped
-        → IfOk result (λ errors. errors.items ≡ (desk_of a).old_errors) }
-    ensures only { (a : Replica) → IsReplica a → rows.now ≡ (tables_of a).errorlog → dropped ≡ a.dropped
-        → IfErr result (λ e. e ≡ Refusal.OutOfMemory) }
-    ensures rising { IfOk result (λ errors. Rise nat_lt (λ e. e.seq) errors.items) }
-{
-    match dropped_errors(alloc, rows, dropped) {
-        Ok(mut errors) => {
-            sort_errors(&mut errors);
-            if are_rising(&errors) {
-                Ok(errors)
-            } else {
-                Err(Refusal::Store)
-            }
-        }
-        Err(refusal) => Err(refusal),
-    }
+    board_with(alloc, tables)
 }

@@ -29,14 +29,17 @@ impl Desk {
         }
         let dropped = self.summary.dropped;
         let more = number.saturating_sub(dropped) as usize;
-        let mut errors = self
-            .log
-            .errors_in_front(self.alloc, dropped.saturating_add(1), more)?;
+        let first = dropped.saturating_add(1);
+        let mut errors = self.log.errors_in_front(self.alloc, first, more)?;
+        let commits = self.summary.commits;
+        let mut cancels = self.log.cancels_in_front(self.alloc, commits, first, more)?;
         let mut summary = self.summary;
         summary.dropped = dropped.max(number);
         let kept = self.log.kept();
         let change = forgotten(self.alloc, &summary, &kept[..more.min(kept.len())])?;
+        self.old_cancels.reserve(cancels.len())?;
         self.old_errors.append(&mut errors)?;
+        let _ = self.old_cancels.append(&mut cancels);
         self.log.drop_front(more);
         self.summary = summary;
         Ok((summary.dropped, change))

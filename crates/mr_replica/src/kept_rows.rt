@@ -1,26 +1,28 @@
 ghost use Rattle.std.specs.Prelude.{◌≡◌, ℕ, Ok, IfOk, IfErr, IsTrue, map};
 ghost use Rattle.std.specs.List.Sorted.{IsPermutation, IsSortedByKey};
 ghost use Rattle.mr_model.specs.Writes.{Write as WriteOfRoom, is_write};
-ghost use Rattle.mr_model.specs.Replay.{Place};
+ghost use Rattle.mr_model.specs.Replay.{Place as PlaceOfWrite};
 ghost use Rattle.mr_model.specs.Replica.{Replica, IsReplica};
-ghost use Rattle.mr_model.specs.Tables.{kept, log_row, undo_row, tables_of};
+ghost use Rattle.mr_model.specs.Tables.{kept, log_row, log_row_with, tables_of};
 ghost use Rattle.mr_base.specs.Answers.{OrOutOfMemory};
 ghost use Rattle.mr_replica.specs.Desk.{desk_of};
-ghost use Rattle.mr_tables.specs.Rows.{log_row_with};
+ghost use Rattle.mr_base.specs.Actions.{action_of};
+ghost use Rattle.mr_replay.specs.Places.{place_of};
+ghost use Rattle.mr_replay.specs.Rows.{target_of};
 ghost use Rattle.mr_tables.specs.Summary.{summary_of};
-ghost use Rattle.mr_replica.specs.SoundLog.{IsOfSoundRows};
+ghost use Rattle.mr_replica.specs.SoundLog.{log_told, kept_told, IsOfSoundRows};
 ghost use Rattle.mr_replica.specs.KeptRows.{kept_row_with, kept_row as kept_row_of, run_place, run_cmp};
 
 use crate::log::Log;
 use crate::sound_log::is_log_sound;
-use mr_base::{Refusal, ServerId, Write};
-use mr_replay::{Board, UndoRow};
+use mr_base::{Action, Refusal, ServerId, Write, WriteId};
+use mr_replay::{Board, Place, UndoRow};
 use mr_tables::reading::write_of;
 use mr_tables::summary::Summary;
-use mr_tables::{LogRow, Tables, WriteUndoRow};
+use mr_tables::{LogRow, Tables};
 use std::alloc::Global;
 
-/// A kept write as `write_log` and `undo` tell it. `seq` is its commit number, 0 where it is tentative.
+/// A kept write as `log` tells it. `seq` is its commit number, 0 where it is tentative.
 #[derive(Drop)]
 pub(crate) struct KeptRow {
     pub write: Write,
@@ -30,7 +32,7 @@ pub(crate) struct KeptRow {
 
 /// Where a kept write stands in the order of execution.
 #[derive(Clone, Copy, PartialEq, Eq, PartialOrd, Ord)]
-pub(crate) struct RunPlace {
+pub struct RunPlace {
     pub is_tentative: bool,
     pub seq: u64,
     pub time: u64,
@@ -52,8 +54,8 @@ impl KeptRow {
     }
 }
 
-/// The log that the tables tell: its rows sorted, and this board. Refused where rows are of no write, not in pairs, or
-/// contradict each other or the board.
+/// The log that the tables tell: its rows sorted, and this board. Refused where rows are of no write, or contradict each other
+/// or the board.
 pub(crate) fn log_of(
     alloc: Global,
     tables: &Tables,
@@ -63,10 +65,10 @@ pub(crate) fn log_of(
     ensures log { (a : Replica) → IsReplica a → tables.now ≡ tables_of a → board ≡ (desk_of a).log.board → IfOk result (λ log. log ≡ (desk_of a).log) }
     ensures only { (a : Replica) → IsReplica a → tables.now ≡ tables_of a → summary.now ≡ summary_of a → board ≡ (desk_of a).log.board
         → IfErr result (λ e. e ≡ Refusal.OutOfMemory) }
-    ensures sound { IfOk result (λ log. IsOfSoundRows summary.now.commits summary.now.dropped log) }
+    ensures sound { IfOk result (λ log. IsOfSoundRows (map log_told tables.now.log) summary.now.commits summary.now.dropped log) }
     ensures board { IfOk result (λ log. log.board ≡ board) }
 {
-    match kept_rows(alloc, &tables.write_log, &tables.undo) {
+    match kept_rows(alloc, &tables.log) {
         Ok(rows) => log_with(alloc, rows, summary, board),
         Err(refusal) => Err(refusal),
     }
@@ -82,7 +84,7 @@ fn log_with(
         → IfOk result (λ log. log ≡ (desk_of a).log) }
     ensures only { (a : Replica) → IsReplica a → rows.items ≡ map (kept_row_of a) (kept a) → summary.now ≡ summary_of a → board ≡ (desk_of a).log.board
         → IfErr result (λ e. e ≡ Refusal.OutOfMemory) }
-    ensures sound { IfOk result (λ log. IsOfSoundRows summary.now.commits summary.now.dropped log) }
+    ensures sound { IfOk result (λ log. IsOfSoundRows (map kept_told rows.items) summary.now.commits summary.now.dropped log) }
     ensures board { IfOk result (λ log. log.board ≡ board) }
 {
     sort_rows(&mut rows);
@@ -100,23 +102,15 @@ fn sort_rows(rows: &mut Vec<KeptRow>)
     rows.sort_unstable_by_key(|row| row.place());
 }
 
-/// The kept writes of the rows of `write_log` and of `undo`, in the order of these.
-fn kept_rows(
-    alloc: Global,
-    logs: &[LogRow],
-    undos: &[WriteUndoRow],
-) -> Result<Vec<KeptRow>, Refusal>
-    ensures rows { (a : Replica) → IsReplica a → logs.now ≡ map (log_row a) (kept a) → undos.now ≡ map (undo_row a) (kept a)
-        → IfOk result (λ rows. rows.items ≡ map (kept_row_of a) (kept a)) }
-    ensures only { (a : Replica) → IsReplica a → logs.now ≡ map (log_row a) (kept a) → undos.now ≡ map (undo_row a) (kept a)
-        → IfErr result (λ e. e ≡ Refusal.OutOfMemory) }
+/// The kept writes of the rows of `log`, in the order of these. Refused where a row is that of no write.
+fn kept_rows(alloc: Global, logs: &[LogRow]) -> Result<Vec<KeptRow>, Refusal>
+    ensures rows { (a : Replica) → IsReplica a → logs.now ≡ map (log_row a) (kept a) → IfOk result (λ rows. rows.items ≡ map (kept_row_of a) (kept a)) }
+    ensures only { (a : Replica) → IsReplica a → logs.now ≡ map (log_row a) (kept a) → IfErr result (λ e. e ≡ Refusal.OutOfMemory) }
+    ensures told { IfOk result (λ rows. map kept_told rows.items ≡ map log_told logs.now) }
 {
-    if logs.len() != undos.len() {
-        return Err(Refusal::Store);
-    }
     let mut rows = Vec::new(alloc);
-    for (k, log) in logs.iter().enumerate() {
-        match kept_row(alloc, log, undos[k]) {
+    for log in logs {
+        match kept_row(alloc, log) {
             Ok(row) => rows.push(row)?,
             Err(refusal) => return Err(refusal),
         }
@@ -124,28 +118,35 @@ fn kept_rows(
     Ok(rows)
 }
 
-/// The kept write of a row of `write_log` and a row of `undo`. Refused where these are of different writes, or of none.
-fn kept_row(alloc: Global, log: &LogRow, undo: WriteUndoRow) -> Result<KeptRow, Refusal>
-    ensures read { (w : WriteOfRoom) (seq : ℕ) (place : Place) → IsTrue (is_write w) → log.now ≡ log_row_with w seq
-        → undo ≡ record { server = w.stamp.server; n = w.stamp.n; place = place } → OrOutOfMemory result (Ok (kept_row_with w seq place)) }
+/// The kept write of a row of `log`. Refused where it is that of no write.
+fn kept_row(alloc: Global, log: &LogRow) -> Result<KeptRow, Refusal>
+    ensures read { (w : WriteOfRoom) (place : PlaceOfWrite) (seq : ℕ) → IsTrue (is_write w) → log.now ≡ log_row_with w place seq
+        → OrOutOfMemory result (Ok (kept_row_with w seq place)) }
+    ensures told { IfOk result (λ row. kept_told row ≡ log_told log.now) }
 {
     match write_of(alloc, log) {
-        Ok(write) => kept_with(write, undo, log.seq),
+        Ok(write) => Ok(kept_with(write, log.place, log.seq)),
         Err(refusal) => Err(refusal),
     }
 }
 
-fn kept_with(write: Write, undo: WriteUndoRow, seq: u64) -> Result<KeptRow, Refusal>
-    ensures { (place : Place) → undo ≡ record { server = write.stamp.server; n = write.stamp.n; place = place }
-        → result ≡ Ok (kept_row_with write seq place) }
+fn kept_with(write: Write, place: Place, seq: u64) -> KeptRow
+    ensures { result ≡ kept_row_with write seq (place_of place) }
 {
-    let id = write.stamp.id();
-    if undo.server != id.server || undo.n != id.n {
-        return Err(Refusal::Store);
-    }
     let undo = UndoRow {
-        id,
-        place: undo.place,
+        id: write.stamp.id(),
+        place,
+        target: target_of(&write.action),
     };
-    Ok(KeptRow { write, undo, seq })
+    KeptRow { write, undo, seq }
+}
+
+/// What a cancel would take back.
+pub fn target_of(action: &Action) -> Option<WriteId>
+    ensures { result ≡ target_of (action_of action.now) }
+{
+    match action {
+        Action::Books(_) => None,
+        Action::Cancels(target) => Some(*target),
+    }
 }

@@ -2,22 +2,45 @@ ghost use Rattle.std.specs.Prelude.{◌≡◌, ℕ, Bool, true, map, if◌then�
 ghost use Rattle.std.specs.Option.{option_map, option_copied};
 ghost use Rattle.std.specs.BTreeMap.{IsOrdered, values as values_of};
 ghost use Rattle.std.specs.List.{filter, slice_index_or};
+ghost use Rattle.std.specs.List.Sorted.{IsPermutation, IsSortedByKey};
 ghost use Rattle.mr_model.specs.Kept.{kept_in_order};
 ghost use Rattle.mr_model.specs.Replica.{Replica, IsReplica};
 ghost use Rattle.mr_model.specs.Tables.{seq_of};
 ghost use Rattle.mr_model.specs.Writes.{Id, Write as WriteOfRoom, same_id};
 ghost use Rattle.mr_base.specs.Ids.{id_cmp};
-ghost use Rattle.mr_replica.specs.KeptWrites.{logged_at, has_at, is_number_of, with_number, HasKept};
-ghost use Rattle.mr_replica.specs.Logged.{logged_of};
-ghost use Rattle.mr_replica.specs.declared.logged.LoggedWrite.{LoggedWrite as LoggedWriteOfRow};
+ghost use Rattle.mr_replica.specs.KeptRows.{run_cmp};
+ghost use Rattle.mr_replica.specs.KeptWrites.{logged_at, has_at, is_number_of, with_number, HasKept, numbered_of, numbered_place};
+ghost use Rattle.mr_replica.specs.declared.kept_writes.NumberedWrite.{NumberedWrite as NumberedWriteOfMap};
 
-use crate::logged::{LoggedWrite, sort_writes};
+use crate::kept_rows::RunPlace;
 use mr_base::{Refusal, Write, WriteId};
 use std::alloc::Global;
 use std::collections::BTreeMap;
 
+/// A kept write with its commit number, 0 where it is tentative.
+#[derive(Drop)]
+pub struct NumberedWrite {
+    pub write: Write,
+    pub seq: u64,
+}
+
+impl NumberedWrite {
+    /// Its place in the order of execution.
+    pub(crate) fn place(&self) -> RunPlace
+        ensures { result ≡ numbered_place self.now }
+    {
+        let stamp = self.write.stamp;
+        RunPlace {
+            is_tentative: self.seq == 0,
+            seq: self.seq,
+            time: stamp.time,
+            server: stamp.server,
+        }
+    }
+}
+
 /// Kept writes with their commit numbers, by the ids of the writes. An item of a batch is asked of them at the cost of a logarithm.
-pub(crate) type KeptWrites = BTreeMap<WriteId, LoggedWrite>;
+pub(crate) type KeptWrites = BTreeMap<WriteId, NumberedWrite>;
 
 /// These writes, which have these commit numbers.
 pub(crate) fn kept_writes(
@@ -32,7 +55,7 @@ pub(crate) fn kept_writes(
     let mut left = writes;
     while let Some(write) = left.pop() {
         let seq = mark_at(marks, left.len());
-        kept.insert(write.stamp.id(), LoggedWrite { write, seq })?;
+        kept.insert(write.stamp.id(), NumberedWrite { write, seq })?;
     }
     Ok(kept)
 }
@@ -80,9 +103,9 @@ pub(crate) fn number_write(kept: &mut KeptWrites, id: WriteId, seq: u64) -> bool
 }
 
 /// The writes in the order of execution.
-pub(crate) fn in_run_order(alloc: Global, kept: KeptWrites) -> Result<Vec<LoggedWrite>, Refusal>
+pub(crate) fn in_run_order(alloc: Global, kept: KeptWrites) -> Result<Vec<NumberedWrite>, Refusal>
     ensures sorted { (a : Replica) (inside : WriteOfRoom → Bool) → IsReplica a → HasKept kept (seq_of a) (filter inside (kept_in_order a))
-        → IfOk result (λ writes. writes.items ≡ map (logged_of a) (filter inside (kept_in_order a))) }
+        → IfOk result (λ writes. writes.items ≡ map (numbered_of a) (filter inside (kept_in_order a))) }
     ensures only { IfErr result (λ e. e ≡ Refusal.OutOfMemory) }
 {
     let mut writes = all_of(alloc, kept)?;
@@ -91,7 +114,7 @@ pub(crate) fn in_run_order(alloc: Global, kept: KeptWrites) -> Result<Vec<Logged
 }
 
 /// The writes in the order of their ids.
-fn all_of(alloc: Global, kept: KeptWrites) -> Result<Vec<LoggedWrite>, Refusal>
+fn all_of(alloc: Global, kept: KeptWrites) -> Result<Vec<NumberedWrite>, Refusal>
     ensures values { IfOk result (λ writes. writes.items ≡ values_of kept) }
     ensures ordered { IsOrdered id_cmp kept }
     ensures only { IfErr result (λ e. e ≡ Refusal.OutOfMemory) }
@@ -99,6 +122,29 @@ fn all_of(alloc: Global, kept: KeptWrites) -> Result<Vec<LoggedWrite>, Refusal>
     let mut writes = Vec::with_capacity(alloc, kept.len())?;
     for (_, one) in kept {
         writes.push(one)?;
+    }
+    Ok(writes)
+}
+
+/// Puts the writes into the order of execution.
+fn sort_writes(writes: &mut Vec<NumberedWrite>)
+    ensures moved { IsPermutation writes.old.items writes.new.items }
+    ensures sorted { IsSortedByKey numbered_place run_cmp writes.new.items }
+{
+    writes.sort_unstable_by_key(|write| write.place());
+}
+
+/// The writes alone.
+pub(crate) fn writes_alone(
+    alloc: Global,
+    numbered: Vec<NumberedWrite>,
+) -> Result<Vec<Write>, Refusal>
+    ensures writes { IfOk result (λ writes. writes.items ≡ map (λ x. x.write) numbered.items) }
+    ensures only { IfErr result (λ e. e ≡ Refusal.OutOfMemory) }
+{
+    let mut writes = Vec::new(alloc);
+    for one in numbered {
+        writes.push(one.write)?;
     }
     Ok(writes)
 }

@@ -10,6 +10,7 @@
 pub mod candidate;
 mod desk;
 mod desk_batch;
+mod desk_cancel;
 mod desk_change;
 mod desk_commit;
 mod desk_position;
@@ -20,19 +21,24 @@ mod desk_submit;
 mod desk_tables;
 mod desk_truncate;
 mod judge;
-mod kept_rows;
-mod kept_writes;
+pub mod kept_rows;
+pub mod kept_writes;
 mod log;
-pub mod logged;
 pub mod movable;
+mod old_rows;
+mod on_board;
 pub mod outgoing;
+pub mod placing;
 pub mod room_sets;
 mod sound_log;
+mod sound_notes;
+mod sound_stamps;
 pub mod tail;
+pub mod targets;
 pub mod touched;
 
 ghost use Rattle.mr_replica.specs.ChangeLaws.{DesksHaveTheTables, RoomsArePut, SubmissionsArePut, TailsArePut, CommitsArePut, TruncationsForget};
-ghost use Rattle.mr_replica.specs.Steps.{SubmissionsAreRequests};
+ghost use Rattle.mr_replica.specs.Steps.{SubmissionsAreRequests, CancelsAreRequests, OtherCancelsAreRefused};
 
 pub use desk::Desk;
 pub use desk_change::rewritten;
@@ -40,9 +46,12 @@ pub use desk_commit::after_commits;
 pub use desk_rooms::room_change;
 pub use desk_tables::of_store;
 
-/// A submission in words, where nothing is at fault with these, is the request that they make.
+/// A submission in words, where nothing is at fault with these, is the request that they make; a cancel in words, where the first
+/// are a room's name, is that of the id in the others, or is refused where these are none.
 pub fn submission_law()
-    ensures { SubmissionsAreRequests }
+    ensures submission { SubmissionsAreRequests }
+    ensures cancellation { CancelsAreRequests }
+    ensures others { OtherCancelsAreRefused }
 {}
 
 /// The tables of a desk are those of each replica that it stands for, and what each call puts and takes away makes the tables

@@ -1,11 +1,16 @@
-ghost use Rattle.std.specs.Prelude.{◌≡◌, [], map, take, drop, length, ◌≤◌, ◌<◌, ◌+◌, ◌^◌, OnOk, OnErr, IfOk, IfErr};
+ghost use Rattle.std.specs.Prelude.{◌≡◌, [], ◌++◌, map, take, drop, length, ◌≤◌, ◌<◌, ◌+◌, ◌^◌, OnOk, OnErr, IfOk, IfErr};
+ghost use Rattle.std.specs.List.{cons_option};
 ghost use Rattle.mr_replay.specs.Rows.{executed_all, undo_rows_of, undone_all};
-ghost use Rattle.mr_replica.specs.Log.{pushed, without_front, errors_in, is_logged as is_logged_at};
+ghost use Rattle.mr_replay.specs.Places.{place_of};
+ghost use Rattle.mr_tables.specs.Rows.{seq_on};
+ghost use Rattle.mr_replica.specs.Log.{pushed, without_front, errors_in, is_logged as is_logged_at, cancel_at, cancel_rows};
 
 use crate::kept_rows::KeptRow;
-use mr_base::{Refusal, Write};
+use mr_base::{Action, Refusal, Write};
 use mr_replay::{Board, Place, UndoRow};
+use mr_tables::CancelRow;
 use mr_tables::old_errors::OldError;
+use mr_tables::place_rows::cancel_row;
 use std::alloc::Global;
 use std::marker::Model;
 
@@ -144,6 +149,29 @@ impl Log {
         errors_of(alloc, first, &self.kept[..count], &self.undo[..count])
     }
 
+    /// The rows of the dropped cancels that dropping the first `count` writes makes, numbered from `first` on, where there are so
+    /// many commits.
+    pub(crate) fn cancels_in_front(
+        &self,
+        alloc: Global,
+        commits: u64,
+        first: u64,
+        count: usize,
+    ) -> Result<Vec<CancelRow>, Refusal>
+        ensures cancels { IfOk result (λ cancels. first + count < 2 ^ 64
+            → cancels.items ≡ cancel_rows commits first (take count self.now.kept) (take count self.now.undo)) }
+        ensures only { IfErr result (λ e. e ≡ Refusal.OutOfMemory) }
+    {
+        let count = count.min(self.kept.len());
+        cancels_of(
+            alloc,
+            commits,
+            first,
+            &self.kept[..count],
+            &self.undo[..count],
+        )
+    }
+
     /// Keeps the first writes no longer. What they did stays on the board.
     pub(crate) fn drop_front(&mut self, count: usize)
         ensures { self.new ≡ without_front self.old count }
@@ -177,9 +205,56 @@ fn errors_of(
 fn is_logged(row: UndoRow) -> bool
     ensures { result ≡ is_logged_at row.place }
 {
-    match row.place {
-        Place::Taken(_) => false,
-        Place::Logged => true,
+    row.place == Place::Logged
+}
+
+/// The rows of those of these writes that are cancels, the first of the writes being the `first`-th of the order.
+fn cancels_of(
+    alloc: Global,
+    commits: u64,
+    first: u64,
+    writes: &[Write],
+    rows: &[UndoRow],
+) -> Result<Vec<CancelRow>, Refusal>
+    requires { length writes.now ≤ length rows.now }
+    ensures cancels { IfOk result (λ cancels. first + length writes.now < 2 ^ 64
+        → cancels.items ≡ cancel_rows commits first writes.now rows.now) }
+    ensures only { IfErr result (λ e. e ≡ Refusal.OutOfMemory) }
+{
+    let mut cancels = Vec::new(alloc);
+    for (k, write) in writes.iter().enumerate() {
+        let row = rows[k];
+        let seq = seq_on(commits, first.saturating_add(k as u64));
+        push_cancel(&mut cancels, alloc, write, row.place, seq)?;
+    }
+    Ok(cancels)
+}
+
+/// The commit number of a write with this number in the order, 0 where it is tentative.
+fn seq_on(commits: u64, number: u64) -> u64
+    ensures { result ≡ seq_on commits number }
+{
+    if number <= commits { number } else { 0 }
+}
+
+/// Adds the row of a write that is a cancel.
+fn push_cancel(
+    rows: &mut Vec<CancelRow>,
+    alloc: Global,
+    write: &Write,
+    place: Place,
+    seq: u64,
+) -> Result<(), Refusal>
+    ensures rows { OnOk result (rows.new.items ≡ rows.old.items ++ cons_option (cancel_at write.now write.now.action (place_of place) seq) []) }
+    ensures only { IfErr result (λ e. e ≡ Refusal.OutOfMemory) }
+{
+    match &write.action {
+        Action::Books(_) => Ok(()),
+        Action::Cancels(target) => {
+            let row = cancel_row(alloc, write, *target, place, seq)?;
+            rows.push(row)?;
+            Ok(())
+        }
     }
 }
 

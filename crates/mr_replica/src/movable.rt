@@ -10,7 +10,7 @@ ghost use Rattle.mr_replica.specs.Moves.{ShowsMoves, rooms_named, moves_in, is_a
 ghost use Rattle.mr_replica.specs.Sets.{has_id, has_room, IsSetOf, AreSameRooms};
 ghost use Rattle.mr_replica.specs.Tails.{IsTail};
 
-use crate::logged::LoggedWrite;
+use crate::kept_writes::NumberedWrite;
 use crate::room_sets::{RoomSet, names_of, room_set};
 use crate::tail::{Tail, tail_of};
 use crate::touched::{IdSet, Touched, add_if_named};
@@ -67,7 +67,7 @@ pub fn may_move(write: &Write, rooms: &RoomSet, tail: &Tail) -> bool
 /// behind them the tentative ones that may move.
 pub fn again_in(
     alloc: Global,
-    kept: &[LoggedWrite],
+    kept: &[NumberedWrite],
     touched: &[RoomName],
     items: &[Item],
     commits: u64,
@@ -84,7 +84,7 @@ pub fn again_in(
 
 fn writes_anew(
     alloc: Global,
-    kept: &[LoggedWrite],
+    kept: &[NumberedWrite],
     rooms: &RoomSet,
     tail: &Tail,
     commits: u64,
@@ -102,7 +102,7 @@ fn writes_anew(
     Ok(writes)
 }
 
-fn is_anew(one: &LoggedWrite, rooms: &RoomSet, tail: &Tail, commits: u64) -> bool
+fn is_anew(one: &NumberedWrite, rooms: &RoomSet, tail: &Tail, commits: u64) -> bool
     ensures { (touched : List Text) (items : List ItemOfBatch) → IsSetOf rooms.now touched → IsTail tail.now commits items
         → result ≡ is_anew touched items commits one.now }
 {

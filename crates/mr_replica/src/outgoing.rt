@@ -1,10 +1,12 @@
-ghost use Rattle.std.specs.Prelude.{◌≡◌, ◌≤◌, ◌+◌, ◌++◌, [], ◌∷◌, List, Some, length, OnOk, IfOk, IfErr};
-ghost use Rattle.mr_model.specs.Exchange.{Item as ItemOfBatch, W as WriteLine, C as CommitLine};
+ghost use Rattle.std.specs.Prelude.{◌≡◌, ◌≤◌, ◌+◌, ◌++◌, [], ◌∷◌, List, Some, length, map, OnOk, IfOk, IfErr};
+ghost use Rattle.std.specs.List.{list_all};
+ghost use Rattle.mr_model.specs.Exchange.{Item as ItemOfBatch, W as WriteLine, C as CommitLine, is_item};
 ghost use Rattle.mr_model.specs.Positions.{count_among};
 ghost use Rattle.mr_model.specs.Step.{lacks};
 ghost use Rattle.mr_base.specs.Positions.{counts_of};
-ghost use Rattle.mr_base.specs.Batches.{batch_of};
-ghost use Rattle.mr_replica.specs.Outgoing.{Offers, committed_items, lacked_items, kept_items, ending_by, batch_with};
+ghost use Rattle.mr_base.specs.Answers.{ok_if};
+ghost use Rattle.mr_base.specs.Batches.{item_of, batch_of};
+ghost use Rattle.mr_replica.specs.Outgoing.{Offers, committed_items, lacked_items, kept_items, ending_by};
 
 use mr_base::{
     Batch, CommitNumber, Ending, Item, LineCount, Position, Refusal, ServerId, Write, WriteId,
@@ -14,7 +16,7 @@ use std::alloc::Global;
 
 /// The items of a batch that is made: the first ones, up to a limit, and whether there are more.
 #[derive(Drop)]
-struct Outgoing {
+pub struct Outgoing {
     alloc: Global,
     limit: LineCount,
     items: Vec<Item>,
@@ -35,9 +37,10 @@ impl Outgoing {
         }
     }
 
-    /// The batch of these items, which `from` makes.
-    fn into_batch(self, from: ServerId, primary: ServerId) -> Batch
-        ensures { result ≡ batch_of (Some (from, primary)) self.items.items (ending_by self.more) }
+    /// The batch of these items, which `from` makes, if the exchange text can say each of them.
+    pub fn into_batch(self, from: ServerId, primary: ServerId) -> Result<Batch, Refusal>
+        ensures { result ≡ ok_if (list_all is_item (map item_of self.items.items))
+            (batch_of (Some (from, primary)) self.items.items (ending_by self.more)) Refusal.NeedsVersion2 }
     {
         let ending = if self.more {
             Ending::More
@@ -128,24 +131,9 @@ impl Outgoing {
     }
 }
 
-/// The batch that a replica with these numbers and these kept writes makes for one at the position, where no commit that is
-/// asked for is dropped: so many lines at most.
-pub fn batch_for(
-    alloc: Global,
-    summary: &Summary,
-    kept: &[Write],
-    position: &Position,
-    limit: LineCount,
-) -> Result<Batch, Refusal>
-    ensures batch { IfOk result (λ batch. batch ≡ batch_with summary.now.server summary.now.primary limit (kept_items position.now summary.now kept.now)) }
-    ensures only { summary.now.dropped ≤ position.now.commits → summary.now.commits ≤ 999_999_999_999 → IfErr result (λ e. e ≡ Refusal.OutOfMemory) }
-{
-    let outgoing = outgoing_for(alloc, summary, kept, position, limit)?;
-    Ok(outgoing.into_batch(summary.server, summary.primary))
-}
-
-/// Its items.
-fn outgoing_for(
+/// What a replica with these numbers and these kept writes has for one at the position, where no commit that is asked for
+/// is dropped.
+pub fn outgoing_for(
     alloc: Global,
     summary: &Summary,
     kept: &[Write],

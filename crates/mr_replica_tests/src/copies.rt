@@ -12,10 +12,12 @@ use std::test::Fail;
 const ONE_EACH: Rows = Rows {
     meta: (7, 5, 9),
     vector: &[(2, 8, 1)],
-    write_log: &[(2, 8, "1995-12-18 14:00", 6)],
-    undo: &[(4, Place::Taken(3))],
+    log: &[(2, 8, "1995-12-18 14:00", Place::Taken(3), 6)],
+    kept_cancels: &[(4, 9, Place::Done, 0, 7)],
     booking: &[5],
     errorlog: &[(6, 2)],
+    cancelled: &[(7, 4, true)],
+    cancels: &[(4, 7, true, 9, 0)],
 };
 
 /// Whether the two are told alike.
@@ -35,10 +37,10 @@ fn numbers_are_copied(alloc: Global, tables: &Tables) -> Result<bool, Refusal> {
 
 fn logs_are_copied(alloc: Global, tables: &Tables) -> Result<bool, Refusal> {
     let mut are = true;
-    for row in &tables.write_log {
+    for row in &tables.log {
         are = are && are_alike(alloc, row, &row.copy(alloc)?)?;
     }
-    for row in &tables.undo {
+    for row in &tables.cancels {
         are = are && are_alike(alloc, row, &row.copy(alloc)?)?;
     }
     Ok(are)
@@ -50,6 +52,9 @@ fn places_are_copied(alloc: Global, tables: &Tables) -> Result<bool, Refusal> {
         are = are && are_alike(alloc, row, &row.copy(alloc)?)?;
     }
     for row in &tables.errorlog {
+        are = are && are_alike(alloc, row, &row.copy(alloc)?)?;
+    }
+    for row in &tables.cancelled {
         are = are && are_alike(alloc, row, &row.copy(alloc)?)?;
     }
     Ok(are)

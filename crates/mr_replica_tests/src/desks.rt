@@ -35,6 +35,8 @@ pub(crate) enum Call {
     Read(&'static Rows),
     AddOak,
     Submit(Ask),
+    /// A cancel of that server's write with that number.
+    Cancel(u32, u32),
     /// A batch for the replicas of that primary, or one without a header or a line where that is 0.
     Receive(u32, &'static [Line]),
     /// What this desk lacks of that server's, so many lines at most.
@@ -98,7 +100,7 @@ pub(crate) fn batch(alloc: Global, primary: u32, lines: &[Line]) -> Result<Batch
         items.push(item(alloc, *line)?)?;
     }
     match ServerId::new(primary) {
-        Some(primary) => Ok(Batch::new(server(1)?, primary, items, Ending::Complete)),
+        Some(primary) => Batch::new(server(1)?, primary, items, Ending::Complete),
         None => Ok(Batch::without_header(Vec::new(alloc))),
     }
 }
@@ -148,6 +150,11 @@ fn called(
             let (id, change) = desk.submit(request(alloc, ask)?)?;
             Ok(((u64::from(id.n), 0), Some(change)))
         }
+        Call::Cancel(number, n) => {
+            let target = WriteId::new(server(number)?, n).ok_or(Refusal::NoSuchRequest)?;
+            let (id, change) = desk.cancel(RoomName::new(alloc, "oak")?, target)?;
+            Ok(((u64::from(id.n), 0), Some(change)))
+        }
         Call::Receive(_, _) | Call::HandOver(_, _) => {
             let (writes, commits, change) = desk.receive(batch)?;
             Ok(((writes, commits), Some(change)))
@@ -181,11 +188,20 @@ fn logged(change: &Change) -> (u32, u64, u64) {
     }
 }
 
-/// Whether the change puts these rows, and a write that it books or logs leaves the other table.
+/// Whether each write that the change books, logs or takes back leaves the two other tables.
+fn leaves_others(change: &Change) -> bool {
+    let (books, logs) = (change.booking.len(), change.errorlog.len());
+    let takes = change.cancelled.len();
+    books + takes == change.unlogged.len()
+        && logs + takes == change.unbooked.len()
+        && books + logs == change.uncancelled.len()
+}
+
+/// Whether the change puts these rows, and a write that it books, logs or takes back leaves the other tables.
 pub(crate) fn puts(change: &Change, put: Put) -> bool {
     let (books, logs) = (change.booking.len(), change.errorlog.len());
     (booked_at(change, 0), booked_at(change, 1), logged(change)) == put
-        && (books, logs) == (change.unlogged.len(), change.unbooked.len())
+        && leaves_others(change)
         && books < 3
         && logs < 2
 }

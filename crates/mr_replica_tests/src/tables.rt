@@ -1,25 +1,35 @@
 // Tables of server 3, whose primary is 1, written out by hand: each server has one write, its first, for an hour of oak.
 
 use crate::desks::server;
-use mr_base::{Day, Refusal, RoomName, Title};
+use mr_base::{Day, Refusal, RoomName, Title, WriteId};
 use mr_replay::Place;
-use mr_tables::{BookingRow, ErrorRow, LogRow, MetaRow, Tables, VectorRow, WriteUndoRow};
+use mr_tables::{
+    ActionCells, BookingRow, CancelRow, CancelledRow, ErrorRow, LogRow, MeetingCells, MetaRow,
+    Tables, VectorRow,
+};
 use std::alloc::Global;
 
 /// The rows of the tables.
+#[derive(Clone, Copy)]
 pub(crate) struct Rows {
     /// How many commits there are, how many of them are dropped, and the greatest time.
     pub meta: (u64, u64, u64),
     /// Each server's number, the time of its write, and how many of its writes are committed.
     pub vector: &'static [(u32, u64, u32)],
-    /// The server, the time, the choices and the commit number of each kept write.
-    pub write_log: &'static [(u32, u64, &'static str, u64)],
-    /// The server of each kept write, and where it went.
-    pub undo: &'static [(u32, Place)],
+    /// The server, the time, the choices, the place and the commit number of each kept write.
+    pub log: &'static [(u32, u64, &'static str, Place, u64)],
+    /// The server, the time, the place and the commit number of each kept cancel, and the server of what it cancels. Its server is
+    /// below those of the other kept writes, since the rows come in the order of keys.
+    pub kept_cancels: &'static [(u32, u64, Place, u64, u32)],
     /// The servers whose write is committed and has the hour from 14:30 on.
     pub booking: &'static [u32],
     /// The server of each write that wished the hour from 14:00 on at time 1, and its commit number.
     pub errorlog: &'static [(u32, u64)],
+    /// The server of each write that had the hour from 14:30 on, that of the cancel that took it back, and whether the write is
+    /// committed.
+    pub cancelled: &'static [(u32, u32, bool)],
+    /// The server of each cancel, that of what it cancels, whether it is done, its time and its commit number.
+    pub cancels: &'static [(u32, u32, bool, u64, u64)],
 }
 
 fn names(alloc: Global) -> Result<(RoomName, Title), Refusal> {
@@ -40,31 +50,39 @@ fn vector(alloc: Global, of: &[(u32, u64, u32)]) -> Result<Vec<VectorRow>, Refus
     Ok(rows)
 }
 
-fn write_log(alloc: Global, of: &[(u32, u64, &str, u64)]) -> Result<Vec<LogRow>, Refusal> {
+/// The id of a server's first write.
+fn first_of(number: u32) -> Result<WriteId, Refusal> {
+    WriteId::new(server(number)?, 1).ok_or(Refusal::NoSuchRequest)
+}
+
+fn log(alloc: Global, of: &Rows) -> Result<Vec<LogRow>, Refusal> {
     let mut rows = Vec::new(alloc);
-    for (number, time, choices, seq) in of {
+    for (number, time, place, seq, target) in of.kept_cancels {
+        rows.push(LogRow {
+            server: server(*number)?,
+            n: 1,
+            time: *time,
+            room: RoomName::new(alloc, "oak")?,
+            action: ActionCells::OfCancel(first_of(*target)?),
+            place: *place,
+            seq: *seq,
+        })?;
+    }
+    for (number, time, choices, place, seq) in of.log {
         let (room, title) = names(alloc)?;
+        let choices = String::from_str(alloc, choices)?;
         rows.push(LogRow {
             server: server(*number)?,
             n: 1,
             time: *time,
             room,
-            length: 60,
-            choices: String::from_str(alloc, choices)?,
-            title,
-            seq: *seq,
-        })?;
-    }
-    Ok(rows)
-}
-
-fn undo(alloc: Global, of: &[(u32, Place)]) -> Result<Vec<WriteUndoRow>, Refusal> {
-    let mut rows = Vec::new(alloc);
-    for (number, place) in of {
-        rows.push(WriteUndoRow {
-            server: server(*number)?,
-            n: 1,
+            action: ActionCells::OfMeeting(MeetingCells {
+                length: 60,
+                choices,
+                title,
+            }),
             place: *place,
+            seq: *seq,
         })?;
     }
     Ok(rows)
@@ -107,10 +125,45 @@ fn errorlog(alloc: Global, of: &[(u32, u64)]) -> Result<Vec<ErrorRow>, Refusal> 
     Ok(rows)
 }
 
+fn cancelled(alloc: Global, of: &[(u32, u32, bool)]) -> Result<Vec<CancelledRow>, Refusal> {
+    let mut rows = Vec::new(alloc);
+    for (number, by, committed) in of {
+        let (room, title) = names(alloc)?;
+        rows.push(CancelledRow {
+            room,
+            day: Day::read("1995-12-18")?,
+            start: 870,
+            stop: 930,
+            server: server(*number)?,
+            n: 1,
+            title,
+            committed: *committed,
+            by: first_of(*by)?,
+        })?;
+    }
+    Ok(rows)
+}
+
+fn cancels(alloc: Global, of: &[(u32, u32, bool, u64, u64)]) -> Result<Vec<CancelRow>, Refusal> {
+    let mut rows = Vec::new(alloc);
+    for (number, target, done, time, seq) in of {
+        rows.push(CancelRow {
+            server: server(*number)?,
+            n: 1,
+            room: RoomName::new(alloc, "oak")?,
+            target: first_of(*target)?,
+            done: *done,
+            time: *time,
+            seq: *seq,
+        })?;
+    }
+    Ok(rows)
+}
+
 /// The tables with these rows; oak is known where a row speaks of it.
 pub(crate) fn tables(alloc: Global, rows: &Rows) -> Result<Tables, Refusal> {
     let mut room = Vec::new(alloc);
-    if !rows.booking.is_empty() {
+    if !rows.booking.is_empty() || !rows.cancelled.is_empty() {
         room.push(RoomName::new(alloc, "oak")?)?;
     }
     let (commits, dropped, clock) = rows.meta;
@@ -124,9 +177,10 @@ pub(crate) fn tables(alloc: Global, rows: &Rows) -> Result<Tables, Refusal> {
         },
         room,
         vector: vector(alloc, rows.vector)?,
-        write_log: write_log(alloc, rows.write_log)?,
-        undo: undo(alloc, rows.undo)?,
+        log: log(alloc, rows)?,
         booking: booking(alloc, rows.booking)?,
         errorlog: errorlog(alloc, rows.errorlog)?,
+        cancelled: cancelled(alloc, rows.cancelled)?,
+        cancels: cancels(alloc, rows.cancels)?,
     })
 }

@@ -6,7 +6,7 @@ use crate::desks::{
 use crate::tables::Rows;
 use mr_base::Refusal;
 use mr_replay::Place;
-use mr_tables::{Change, LogRow};
+use mr_tables::{ActionCells, Change, LogRow};
 use std::alloc::Global;
 use std::test::Fail;
 
@@ -128,43 +128,58 @@ const COMMIT_OF_THIRD: &[Line] = &[Line::C(1, 3, 1)];
 
 const COMMIT_OF_EARLIER: &[Line] = &[Line::C(2, 2, 1)];
 
-const OPENING: Rows = Rows {
+pub(crate) const OPENING: Rows = Rows {
     meta: (0, 0, 0),
     vector: &[],
-    write_log: &[],
-    undo: &[],
+    log: &[],
+    kept_cancels: &[],
     booking: &[],
     errorlog: &[],
+    cancelled: &[],
+    cancels: &[],
 };
 
 /// Server 3's write is committed, server 2's is tentative and in the error log, and both are kept.
 pub(crate) const KEPT: Rows = Rows {
     meta: (1, 0, 2),
     vector: &[(2, 1, 0), (3, 2, 1)],
-    write_log: &[(2, 1, "1995-12-18 14:00", 0), (3, 2, "1995-12-18 14:30", 1)],
-    undo: &[(2, Place::Logged), (3, Place::Taken(0))],
+    log: &[
+        (2, 1, "1995-12-18 14:00", Place::Logged, 0),
+        (3, 2, "1995-12-18 14:30", Place::Taken(0), 1),
+    ],
     booking: &[3],
     errorlog: &[(2, 0)],
+    ..OPENING
 };
 
 /// Both are committed, and dropped.
 const DROPPED: Rows = Rows {
     meta: (2, 2, 2),
     vector: &[(2, 1, 1), (3, 2, 1)],
-    write_log: &[],
-    undo: &[],
     booking: &[3],
     errorlog: &[(2, 2)],
+    ..OPENING
 };
 
 /// So is one of server 1, which is in the error log too.
 const THREE_DROPPED: Rows = Rows {
     meta: (3, 3, 2),
     vector: &[(1, 1, 1), (2, 1, 1), (3, 2, 1)],
-    write_log: &[],
-    undo: &[],
     booking: &[3],
     errorlog: &[(1, 3), (2, 2)],
+    ..OPENING
+};
+
+/// Server 3's write is committed, and server 2's cancel, which is tentative, took it back.
+pub(crate) const TAKEN_BACK: Rows = Rows {
+    meta: (1, 0, 3),
+    vector: &[(2, 3, 0), (3, 2, 1)],
+    log: &[(3, 2, "1995-12-18 14:30", Place::Taken(0), 1)],
+    kept_cancels: &[(2, 3, Place::Done, 0, 3)],
+    booking: &[],
+    errorlog: &[],
+    cancelled: &[(3, 2, true)],
+    cancels: &[(2, 3, true, 3, 0)],
 };
 
 static CASES: [(&str, &[Row]); 14] = [
@@ -492,17 +507,12 @@ fn calls_are_answered(rt: HostRuntime) -> Result<(), Fail> {
 }
 
 /// Tables that no replica has: rows that are broken, and rows that contradict each other.
-static BROKEN: [Rows; 9] = [
+static BROKEN: [Rows; 13] = [
     Rows {
-        write_log: &[(2, 1, "1995-12-18", 0), (3, 2, "1995-12-18 14:30", 1)],
-        ..KEPT
-    },
-    Rows {
-        undo: &[(2, Place::Logged)],
-        ..KEPT
-    },
-    Rows {
-        undo: &[(2, Place::Logged), (4, Place::Taken(0))],
+        log: &[
+            (2, 1, "1995-12-18", Place::Logged, 0),
+            (3, 2, "1995-12-18 14:30", Place::Taken(0), 1),
+        ],
         ..KEPT
     },
     Rows {
@@ -518,17 +528,50 @@ static BROKEN: [Rows; 9] = [
         ..DROPPED
     },
     Rows {
-        undo: &[(2, Place::Taken(0)), (3, Place::Taken(0))],
+        log: &[
+            (2, 1, "1995-12-18 14:00", Place::Taken(0), 0),
+            (3, 2, "1995-12-18 14:30", Place::Taken(0), 1),
+        ],
         ..KEPT
     },
     Rows {
-        undo: &[(2, Place::Logged), (3, Place::Logged)],
+        log: &[
+            (2, 1, "1995-12-18 14:00", Place::Logged, 0),
+            (3, 2, "1995-12-18 14:30", Place::Logged, 1),
+        ],
         ..KEPT
     },
     // The dropped error of server 2 has the commit number 2, so that another one has not.
     Rows {
         errorlog: &[(1, 2), (2, 2)],
         ..THREE_DROPPED
+    },
+    // The booking that was taken back stands too, or was taken back by no cancel.
+    Rows {
+        booking: &[3],
+        ..TAKEN_BACK
+    },
+    Rows {
+        cancelled: &[(3, 4, true)],
+        ..TAKEN_BACK
+    },
+    Rows {
+        booking: &[3],
+        cancelled: &[],
+        ..TAKEN_BACK
+    },
+    // The cancel is done in one of its rows alone.
+    Rows {
+        cancels: &[(2, 3, false, 3, 0)],
+        ..TAKEN_BACK
+    },
+    Rows {
+        kept_cancels: &[(2, 3, Place::Void, 0, 3)],
+        ..TAKEN_BACK
+    },
+    Rows {
+        cancels: &[],
+        ..TAKEN_BACK
     },
 ];
 
@@ -549,11 +592,16 @@ static CALLS: [Call; 3] = [
 ];
 
 fn is_log_row(row: &LogRow, time: u64, choices: &str, seq: u64) -> bool {
-    row.time == time && row.choices.as_str() == choices && row.seq == seq
+    match &row.action {
+        ActionCells::OfMeeting(meeting) => {
+            row.time == time && meeting.choices.as_str() == choices && row.seq == seq
+        }
+        ActionCells::OfCancel(_) => false,
+    }
 }
 
 fn have_log_rows(change: &Change) -> bool {
-    match change.write_log.as_slice() {
+    match change.log.as_slice() {
         [first, second] => {
             is_log_row(first, 2, "1995-12-18 14:30", 1)
                 && is_log_row(second, 1, "1995-12-18 14:00", 0)
@@ -564,7 +612,7 @@ fn have_log_rows(change: &Change) -> bool {
 
 /// The places of both writes that a change puts.
 fn places_of(change: &Change) -> Option<[Place; 2]> {
-    match change.undo.as_slice() {
+    match change.log.as_slice() {
         [first, second] => Some([first.place, second.place]),
         _ => None,
     }

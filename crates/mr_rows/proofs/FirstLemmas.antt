@@ -8,14 +8,14 @@ use Rattle.sqlite_rules.specs.Lists as rules
 use Rattle.sqlite_rules.proofs.ListLemmas.{has_contained, contains_had}
 use Rattle.mr_model.specs.Writes.{Id, same_id}
 use Rattle.mr_model.specs.Replica.{is_among}
-use Rattle.mr_model.specs.Tables.{MetaRow, BookingRow, ErrorRow}
-use Rattle.mr_model.specs.Queries.{booking_id, error_id}
+use Rattle.mr_model.specs.Tables.{MetaRow, BookingRow, ErrorRow, CancelledRow, CancelRow}
+use Rattle.mr_model.specs.Queries.{booking_id, error_id, cancelled_id, cancel_id}
 use Rattle.mr_model.specs.Dropped.{Has}
 use Rattle.mr_model.proofs.Members.{has_filter, filter_has, find_none, find_one}
 use Rattle.mr_tables.specs.Change.{id_before}
 use Rattle.mr_tables.proofs.Putting.{OneAKey, one_a_key, id_order, number_order}
 use Rattle.mr_rows.specs.Kept.{first_meta, tables_in}
-use Rattle.mr_rows.specs.Cells.{meta_in, booking_in, error_in}
+use Rattle.mr_rows.specs.Cells.{meta_in, booking_in, error_in, cancelled_in, cancel_in}
 use Rattle.mr_rows.specs.Reads.{metas_in, first_of}
 use Rattle.mr_rows.proofs.KeyOrder.{ordered_in_order}
 use Rattle.mr_rows.proofs.ValueLemmas.{among_one, or_false}
@@ -56,6 +56,14 @@ pub errors_apart : (trees : Trees) → OneAKey error_id (tables_in trees).errorl
 unfolding tables_in
 errors_apart trees = one_a_key id_before error_id id_order _ (ordered_in_order id_before error_id id_order (map error_in (trees 12)))
 
+pub cancelled_apart : (trees : Trees) → OneAKey cancelled_id (tables_in trees).cancelled
+unfolding tables_in
+cancelled_apart trees = one_a_key id_before cancelled_id id_order _ (ordered_in_order id_before cancelled_id id_order (map cancelled_in (trees 16)))
+
+pub cancels_apart : (trees : Trees) → OneAKey cancel_id (tables_in trees).cancels
+unfolding tables_in
+cancels_apart trees = one_a_key id_before cancel_id id_order _ (ordered_in_order id_before cancel_id id_order (map cancel_in (trees 18)))
+
 pub found_booking : (id : Id) (trees : Trees) (shown : List BookingRow) → IsPermutation (filter (λ (r : BookingRow). is_among (booking_id r) (id ∷ [])) (tables_in trees).booking) shown
     → first_of shown ≡ find (λ r. same_id (booking_id r) id) (tables_in trees).booking
 found_booking id trees shown = found booking_id id (tables_in trees).booking shown (bookings_apart trees)
@@ -63,6 +71,14 @@ found_booking id trees shown = found booking_id id (tables_in trees).booking sho
 pub found_error : (id : Id) (trees : Trees) (shown : List ErrorRow) → IsPermutation (filter (λ (r : ErrorRow). is_among (error_id r) (id ∷ [])) (tables_in trees).errorlog) shown
     → first_of shown ≡ find (λ r. same_id (error_id r) id) (tables_in trees).errorlog
 found_error id trees shown = found error_id id (tables_in trees).errorlog shown (errors_apart trees)
+
+pub found_cancelled : (id : Id) (trees : Trees) (shown : List CancelledRow) → IsPermutation (filter (λ (r : CancelledRow). is_among (cancelled_id r) (id ∷ [])) (tables_in trees).cancelled) shown
+    → first_of shown ≡ find (λ r. same_id (cancelled_id r) id) (tables_in trees).cancelled
+found_cancelled id trees shown = found cancelled_id id (tables_in trees).cancelled shown (cancelled_apart trees)
+
+pub found_cancel : (id : Id) (trees : Trees) (shown : List CancelRow) → IsPermutation (filter (λ (r : CancelRow). is_among (cancel_id r) (id ∷ [])) (tables_in trees).cancels) shown
+    → first_of shown ≡ find (λ r. same_id (cancel_id r) id) (tables_in trees).cancels
+found_cancel id trees shown = found cancel_id id (tables_in trees).cancels shown (cancels_apart trees)
 
 -- ---- the row of `meta`
 

@@ -37,7 +37,7 @@ use Rattle.mr_tables.specs.Change.{put, put_all}
 use Rattle.mr_rows.specs.Cells.{meta_in}
 use Rattle.mr_rows.specs.Schema.{our_schema}
 use Rattle.mr_rows.specs.Shelf.{IsShelf}
-use Rattle.mr_rows.specs.Form.{Form, meta_form, room_form, vector_form, log_form, undo_form, booking_form, error_form}
+use Rattle.mr_rows.specs.Form.{Form, meta_form, room_form, vector_form, log_form, booking_form, error_form, cancelled_form, cancel_form}
 use Rattle.mr_rows.specs.Kept.{IsRowOf, IsHeld, AreHeld, first_meta, tables_in}
 use Rattle.mr_rows.specs.Shown.{columns_from, IsShownAs, IsStoredAs, AreStoredAs, AreOurRows, IsMeta, listed}
 use Rattle.mr_rows.specs.Shelf.{HasShelves}
@@ -73,6 +73,15 @@ meta_found trees shown (Ok m) same all is = (
     twice [] = refl
     twice (r ∷ rows) = ap (λ more. meta_in r ∷ more) (twice rows)
 meta_found trees shown (Err e) same all is = tt
+
+-- a table of which no row is shown has none
+pub none_there : (show : Row → Row) (stored : List Row) → IsPermutation (map show stored) [] → stored ≡ []
+none_there show [] same = refl
+none_there show (r ∷ stored) same = absurd (has_moved _ [] same (show r) (inl refl))
+
+pub none_found : {X : Type 0} (show : Row → Row) (stored shown : List Row) (r : Result X Error) → IsPermutation (map show stored) shown → OnOk r (shown ≡ []) → IfOk r (λ _. stored ≡ [])
+none_found show stored shown (Ok x) same none = none_there show stored (subst (IsPermutation (map show stored)) none same)
+none_found show stored shown (Err e) same none = tt
 
 -- the row of `meta` that was found is the tables' own
 pub meta_is_found : (trees : Trees) (m : MetaRow) → IsMeta trees (Some m) → (tables_in trees).meta ≡ m
@@ -247,32 +256,6 @@ ids_agree at bt r s x y a b c d same =
     and_from _ _ (equal_numbers (column r at) (column s at) x.server y.server a b (ap (λ (i : Id). i.server) same))
     (and_from _ _ (equal_numbers (column r bt) (column s bt) x.n y.n c d (ap (λ (i : Id). i.n) same)) refl)
 
-log_ruled : Ruled log_form
-unfolding first_key
-log_ruled = record {
-  listed = inr (inr (inr (inl refl)));
-  keyless = refl;
-  required = refl;
-  index = _;
-  indexed = inr (inr (inr (inl refl)));
-  guarding = refl;
-  agrees = λ r s a b same.
-      ids_agree 1 2 r s (log_form.key (log_form.row_in r)) (log_form.key (log_form.row_in s)) (ap (λ x. column x 1) a) (ap (λ x. column x 1) b) (ap (λ x. column x 2) a) (ap (λ x. column x 2) b) same;
-}
-
-undo_ruled : Ruled undo_form
-unfolding first_key
-undo_ruled = record {
-  listed = inr (inr (inr (inr (inl refl))));
-  keyless = refl;
-  required = refl;
-  index = _;
-  indexed = inr (inr (inr (inr (inl refl))));
-  guarding = refl;
-  agrees = λ r s a b same.
-      ids_agree 1 2 r s (undo_form.key (undo_form.row_in r)) (undo_form.key (undo_form.row_in s)) (ap (λ x. column x 1) a) (ap (λ x. column x 1) b) (ap (λ x. column x 2) a) (ap (λ x. column x 2) b) same;
-}
-
 booking_ruled : Ruled booking_form
 unfolding first_key
 booking_ruled = record {
@@ -299,6 +282,45 @@ error_ruled = record {
       ids_agree 5 6 r s (error_form.key (error_form.row_in r)) (error_form.key (error_form.row_in s)) (ap (λ x. column x 5) a) (ap (λ x. column x 5) b) (ap (λ x. column x 6) a) (ap (λ x. column x 6) b) same;
 }
 
+log_ruled : Ruled log_form
+unfolding first_key
+log_ruled = record {
+  listed = inr (inr (inr (inr (inr (inr (inr (inl refl)))))));
+  keyless = refl;
+  required = refl;
+  index = _;
+  indexed = inr (inr (inr (inr (inr (inr (inr (inl refl)))))));
+  guarding = refl;
+  agrees = λ r s a b same.
+      ids_agree 1 2 r s (log_form.key (log_form.row_in r)) (log_form.key (log_form.row_in s)) (ap (λ x. column x 1) a) (ap (λ x. column x 1) b) (ap (λ x. column x 2) a) (ap (λ x. column x 2) b) same;
+}
+
+cancelled_ruled : Ruled cancelled_form
+unfolding first_key
+cancelled_ruled = record {
+  listed = inr (inr (inr (inr (inr (inr (inr (inr (inl refl))))))));
+  keyless = refl;
+  required = refl;
+  index = _;
+  indexed = inr (inr (inr (inr (inr (inr (inr (inr (inl refl))))))));
+  guarding = refl;
+  agrees = λ r s a b same.
+      ids_agree 5 6 r s (cancelled_form.key (cancelled_form.row_in r)) (cancelled_form.key (cancelled_form.row_in s)) (ap (λ x. column x 5) a) (ap (λ x. column x 5) b) (ap (λ x. column x 6) a) (ap (λ x. column x 6) b) same;
+}
+
+cancel_ruled : Ruled cancel_form
+unfolding first_key
+cancel_ruled = record {
+  listed = inr (inr (inr (inr (inr (inr (inr (inr (inr (inl refl)))))))));
+  keyless = refl;
+  required = refl;
+  index = _;
+  indexed = inr (inr (inr (inr (inr (inr (inr (inr (inr (inl refl)))))))));
+  guarding = refl;
+  agrees = λ r s a b same.
+      ids_agree 1 2 r s (cancel_form.key (cancel_form.row_in r)) (cancel_form.key (cancel_form.row_in s)) (ap (λ x. column x 1) a) (ap (λ x. column x 1) b) (ap (λ x. column x 2) a) (ap (λ x. column x 2) b) same;
+}
+
 -- ---- all of them
 
 pub all_held : (db : Database) → db.schema ≡ our_schema → IsDatabase db → HasShelves db → AreOurRows db.trees → AreHeld db.trees
@@ -309,8 +331,11 @@ all_held db ours sound shelves rows =
       meta = held meta_form meta_ruled db.trees whole (shelf _ meta_ruled.listed) rows.meta;
       room = held room_form room_ruled db.trees whole (shelf _ room_ruled.listed) rows.room;
       vector = held vector_form vector_ruled db.trees whole (shelf _ vector_ruled.listed) rows.vector;
-      write_log = held log_form log_ruled db.trees whole (shelf _ log_ruled.listed) rows.write_log;
-      undo = held undo_form undo_ruled db.trees whole (shelf _ undo_ruled.listed) rows.undo;
+      log = held log_form log_ruled db.trees whole (shelf _ log_ruled.listed) rows.log;
       booking = held booking_form booking_ruled db.trees whole (shelf _ booking_ruled.listed) rows.booking;
       errorlog = held error_form error_ruled db.trees whole (shelf _ error_ruled.listed) rows.errorlog;
+      cancelled = held cancelled_form cancelled_ruled db.trees whole (shelf _ cancelled_ruled.listed) rows.cancelled;
+      cancels = held cancel_form cancel_ruled db.trees whole (shelf _ cancel_ruled.listed) rows.cancels;
+      no_write_log = rows.no_write_log;
+      no_undo = rows.no_undo;
     }

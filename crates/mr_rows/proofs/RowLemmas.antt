@@ -17,7 +17,7 @@ use Rattle.sqlite_rules.specs.Edit.{id_in, next_rowid, without_all}
 use Rattle.sqlite_rules.proofs.ListLemmas.{all_has, some_has, some_from}
 use Rattle.sqlite_rules.proofs.TableLemmas.{int_is}
 use Rattle.sqlite_rules.proofs.PlaceLemmas.{Tied, tied_same}
-use Rattle.mr_model.proofs.TwinTables.{bool_same}
+use Rattle.mr_model.proofs.MembersAlike.{bool_same}
 use Rattle.mr_rows.specs.Shelf.{IsShelf}
 
 pub filter_same : {X : Type 0} (p q : X → Bool) (xs : List X) → ((x : X) → Has xs x → p x ≡ q x) → filter p xs ≡ filter q xs

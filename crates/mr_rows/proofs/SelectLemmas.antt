@@ -1,33 +1,37 @@
 -- What the rows are that each query shows.
 use Rattle.std.proofs.Common.{◌≡◌, ℕ, pos, List, [], ◌∷◌, map, filter, true, refl, ap, subst, ◌∙◌}
 use Rattle.std.specs.List.Sorted.{IsPermutation}
+use Rattle.sqlite_value.specs.declared.value.Value.{Value}
 use Rattle.sqlite_value.specs.declared.value.Value.TheVariants.{Null, Int, Text}
 use Rattle.sqlite_value.specs.Order.{Row}
+use Rattle.sqlite_trees.specs.Tree.{Trees, rowid}
+use Rattle.sqlite_rules.specs.Edit.{id_in}
 use Rattle.sqlite_sql.specs.Term.{Term, eval_all}
+use Rattle.sqlite_sql.specs.Program.{overlay}
 use Rattle.sqlite_schema.specs.declared.program.Program.{Program}
 use Rattle.sqlite.specs.Command.TheVariants.{Select}
 use Rattle.sqlite.specs.State.{State, Shown}
 use Rattle.sqlite.proofs.Callers.{reads_as}
 use Rattle.mr_model.specs.Texts as texts
-use Rattle.mr_tables.specs.Change.{log_id, undo_id}
+use Rattle.mr_tables.specs.Change.{log_id}
 use Rattle.mr_model.specs.Writes.{Id}
 use Rattle.mr_model.specs.Replica.{is_among}
-use Rattle.mr_model.specs.Tables.{LogRow, UndoRow, BookingRow, ErrorRow}
-use Rattle.mr_model.specs.Queries.{booking_id, error_id}
-use Rattle.mr_rows.specs.RowQuestions.{is_booking_asked, is_error_asked}
+use Rattle.mr_model.specs.Tables.{ActionCells, OfMeeting, OfCancel, LogRow, BookingRow, ErrorRow, CancelledRow, CancelRow}
+use Rattle.mr_model.specs.Queries.{booking_id, error_id, cancelled_id, cancel_id}
+use Rattle.mr_rows.specs.RowQuestions.{is_booking_asked, is_error_asked, is_cancelled_asked, is_cancel_asked}
 use Rattle.mr_rows.specs.Meaning.{passes}
-use Rattle.mr_rows.specs.Cells.{meta_in, room_in, vector_in, log_in, undo_in, booking_in, error_in}
+use Rattle.mr_rows.specs.Cells.{meta_in, room_in, vector_in, log_in, booking_in, error_in, cancelled_in, cancel_in}
 use Rattle.mr_rows.specs.Schema.{our_schema}
 use Rattle.mr_rows.specs.Shown.{columns_from}
-use Rattle.mr_rows.specs.Form.{Form, meta_form, room_form, vector_form, log_form, undo_form, booking_form, error_form}
+use Rattle.mr_rows.specs.Form.{Form, meta_form, room_form, vector_form, log_form, booking_form, error_form, cancelled_form, cancel_form}
 use Rattle.mr_rows.specs.Kept.{IsOurs, IsRowOf, IsHeld, in_order, tables_in}
 use Rattle.mr_rows.specs.Reads.{metas_in}
-use Rattle.mr_rows.proofs.Texts.{MeansQuery, program_of, all_meta_text, all_meta_is, meta_columns, meta_names, all_room_text, all_room_is, room_columns, room_names, all_vector_text, all_vector_is, vector_columns, vector_names, all_log_text, all_log_is, log_columns, log_names, all_undo_text, all_undo_is, undo_columns, undo_names, key_log_text, key_log_is, log_key_tests, between_log_text, between_log_is, log_seq_tests, key_undo_text, key_undo_is, undo_key_tests, all_booking_text, all_booking_is, booking_columns, booking_names, all_error_text, all_error_is, error_columns, error_names, room_booking_text, room_booking_is, booking_room_tests, key_booking_text, key_booking_is, booking_key_tests, room_error_text, room_error_is, error_room_tests, key_error_text, key_error_is, error_key_tests}
+use Rattle.mr_rows.proofs.Texts.{MeansQuery, program_of, all_meta_text, all_meta_is, meta_columns, meta_names, all_room_text, all_room_is, room_columns, room_names, all_vector_text, all_vector_is, vector_columns, vector_names, all_booking_text, all_booking_is, booking_columns, booking_names, all_error_text, all_error_is, error_columns, error_names, all_log_text, all_log_is, log_columns, log_names, all_cancelled_text, all_cancelled_is, cancelled_columns, cancelled_names, all_cancel_text, all_cancel_is, cancel_columns, cancel_names, key_log_text, key_log_is, log_key_tests, between_log_text, between_log_is, log_seq_tests, room_booking_text, room_booking_is, booking_room_tests, key_booking_text, key_booking_is, booking_key_tests, room_error_text, room_error_is, error_room_tests, key_error_text, key_error_is, error_key_tests, room_cancelled_text, room_cancelled_is, cancelled_room_tests, key_cancelled_text, key_cancelled_is, cancelled_key_tests, room_cancel_text, room_cancel_is, cancel_room_tests, key_cancel_text, key_cancel_is, cancel_key_tests, write_log_text, write_log_is, undo_text, undo_is, server_columns, server_names}
 use Rattle.mr_rows.proofs.ValueLemmas.{equal_text, and_true, id_test, between_test}
 use Rattle.mr_rows.proofs.RowLemmas.{filter_all_true}
 use Rattle.mr_rows.proofs.FormLemmas.{shows}
 use Rattle.mr_rows.proofs.TableLemmas.{Facts, finds_rows}
-use Rattle.mr_rows.proofs.TableFacts.{meta_facts, room_facts, vector_facts, log_facts, undo_facts, booking_facts, error_facts}
+use Rattle.mr_rows.proofs.TableFacts.{meta_facts, room_facts, vector_facts, log_facts, booking_facts, error_facts, cancelled_facts, cancel_facts}
 
 -- a query without tests shows the table
 shows_all : {R K : Type 0} (f : Form R K) (facts : Facts f) (text : List ℕ) (project : List Term) (names : List (List ℕ)) (old new : State) (rows : List Row)
@@ -49,13 +53,9 @@ pub shows_all_vector : (old new : State) (rows : List Row) → IsOurs old.now �
 unfolding tables_in
 shows_all_vector old new rows ours = shows_all vector_form vector_facts all_vector_text vector_columns vector_names old new rows all_vector_is (λ r is. refl) ours.schema ours.held.vector
 
-pub shows_all_log : (old new : State) (rows : List Row) → IsOurs old.now → Shown all_log_text [] old new rows → IsPermutation ((tables_in old.now.trees).write_log) (map (λ r. log_in (Null ∷ r)) rows)
+pub shows_all_log : (old new : State) (rows : List Row) → IsOurs old.now → Shown all_log_text [] old new rows → IsPermutation ((tables_in old.now.trees).log) (map (λ r. log_in (Null ∷ r)) rows)
 unfolding tables_in
-shows_all_log old new rows ours = shows_all log_form log_facts all_log_text log_columns log_names old new rows all_log_is (λ r is. refl) ours.schema ours.held.write_log
-
-pub shows_all_undo : (old new : State) (rows : List Row) → IsOurs old.now → Shown all_undo_text [] old new rows → IsPermutation ((tables_in old.now.trees).undo) (map (λ r. undo_in (Null ∷ r)) rows)
-unfolding tables_in
-shows_all_undo old new rows ours = shows_all undo_form undo_facts all_undo_text undo_columns undo_names old new rows all_undo_is (λ r is. refl) ours.schema ours.held.undo
+shows_all_log old new rows ours = shows_all log_form log_facts all_log_text log_columns log_names old new rows all_log_is (λ r is. refl) ours.schema ours.held.log
 
 pub shows_all_booking : (old new : State) (rows : List Row) → IsOurs old.now → Shown all_booking_text [] old new rows → IsPermutation ((tables_in old.now.trees).booking) (map (λ r. booking_in (Null ∷ r)) rows)
 unfolding tables_in
@@ -65,26 +65,35 @@ pub shows_all_error : (old new : State) (rows : List Row) → IsOurs old.now →
 unfolding tables_in
 shows_all_error old new rows ours = shows_all error_form error_facts all_error_text error_columns error_names old new rows all_error_is (λ r is. refl) ours.schema ours.held.errorlog
 
+pub shows_all_cancelled : (old new : State) (rows : List Row) → IsOurs old.now → Shown all_cancelled_text [] old new rows → IsPermutation ((tables_in old.now.trees).cancelled) (map (λ r. cancelled_in (Null ∷ r)) rows)
+unfolding tables_in
+shows_all_cancelled old new rows ours = shows_all cancelled_form cancelled_facts all_cancelled_text cancelled_columns cancelled_names old new rows all_cancelled_is (λ r is. refl) ours.schema ours.held.cancelled
+
+pub shows_all_cancel : (old new : State) (rows : List Row) → IsOurs old.now → Shown all_cancel_text [] old new rows → IsPermutation ((tables_in old.now.trees).cancels) (map (λ r. cancel_in (Null ∷ r)) rows)
+unfolding tables_in
+shows_all_cancel old new rows ours = shows_all cancel_form cancel_facts all_cancel_text cancel_columns cancel_names old new rows all_cancel_is (λ r is. refl) ours.schema ours.held.cancels
+
 pub shows_key_log : (id : Id) (old new : State) (rows : List Row) → IsOurs old.now → Shown key_log_text (Int (pos id.server) ∷ Int (pos id.n) ∷ []) old new rows
-    → IsPermutation (filter (λ (r : LogRow). is_among (log_id r) (id ∷ [])) (tables_in old.now.trees).write_log) (map (λ r. log_in (Null ∷ r)) rows)
+    → IsPermutation (filter (λ (r : LogRow). is_among (log_id r) (id ∷ [])) (tables_in old.now.trees).log) (map (λ r. log_in (Null ∷ r)) rows)
 unfolding tables_in
 shows_key_log id old new rows ours shown =
     finds_rows log_form log_facts key_log_text log_key_tests log_columns log_names (Int (pos id.server) ∷ Int (pos id.n) ∷ []) old new (λ r. is_among (log_id r) (id ∷ [])) rows key_log_is
-    (λ r is. ap (passes log_key_tests (Int (pos id.server) ∷ Int (pos id.n) ∷ [])) is ∙ id_test (log_in r).server (log_in r).n id) (λ r is. refl) ours.schema ours.held.write_log shown
+    (λ r is. ap (passes log_key_tests (Int (pos id.server) ∷ Int (pos id.n) ∷ [])) is ∙ id_test (log_in r).server (log_in r).n id) (λ r is. refl) ours.schema ours.held.log shown
+
+-- the numbers of rows of the log, which stand behind their actions
+log_within : (low high : ℕ) (v : Value) (w : LogRow) → passes log_seq_tests (Int (pos low) ∷ Int (pos high) ∷ []) (v ∷ log_form.cells w) ≡ texts.within low high w.seq
+log_within low high v w = go w.action
+  where
+    go : (a : ActionCells) → let x : LogRow = record w { action = a } in passes log_seq_tests (Int (pos low) ∷ Int (pos high) ∷ []) (v ∷ log_form.cells x) ≡ texts.within low high w.seq
+    go (OfMeeting m) = between_test low high w.seq
+    go (OfCancel t) = between_test low high w.seq
 
 pub shows_between_log : (low high : ℕ) (old new : State) (rows : List Row) → IsOurs old.now → Shown between_log_text (Int (pos low) ∷ Int (pos high) ∷ []) old new rows
-    → IsPermutation (filter (λ (r : LogRow). texts.within low high r.seq) (tables_in old.now.trees).write_log) (map (λ r. log_in (Null ∷ r)) rows)
+    → IsPermutation (filter (λ (r : LogRow). texts.within low high r.seq) (tables_in old.now.trees).log) (map (λ r. log_in (Null ∷ r)) rows)
 unfolding tables_in
 shows_between_log low high old new rows ours shown =
     finds_rows log_form log_facts between_log_text log_seq_tests log_columns log_names (Int (pos low) ∷ Int (pos high) ∷ []) old new (λ r. texts.within low high r.seq) rows between_log_is
-    (λ r is. ap (passes log_seq_tests (Int (pos low) ∷ Int (pos high) ∷ [])) is ∙ between_test low high (log_in r).seq) (λ r is. refl) ours.schema ours.held.write_log shown
-
-pub shows_key_undo : (id : Id) (old new : State) (rows : List Row) → IsOurs old.now → Shown key_undo_text (Int (pos id.server) ∷ Int (pos id.n) ∷ []) old new rows
-    → IsPermutation (filter (λ (r : UndoRow). is_among (undo_id r) (id ∷ [])) (tables_in old.now.trees).undo) (map (λ r. undo_in (Null ∷ r)) rows)
-unfolding tables_in
-shows_key_undo id old new rows ours shown =
-    finds_rows undo_form undo_facts key_undo_text undo_key_tests undo_columns undo_names (Int (pos id.server) ∷ Int (pos id.n) ∷ []) old new (λ r. is_among (undo_id r) (id ∷ [])) rows key_undo_is
-    (λ r is. ap (passes undo_key_tests (Int (pos id.server) ∷ Int (pos id.n) ∷ [])) is ∙ id_test (undo_in r).server (undo_in r).n id) (λ r is. refl) ours.schema ours.held.undo shown
+    (λ r is. ap (passes log_seq_tests (Int (pos low) ∷ Int (pos high) ∷ [])) is ∙ log_within low high (Int (id_in (rowid r))) (log_in r)) (λ r is. refl) ours.schema ours.held.log shown
 
 pub shows_room_booking : (room : texts.Text) (old new : State) (rows : List Row) → IsOurs old.now → Shown room_booking_text (Text room ∷ []) old new rows
     → IsPermutation (filter (is_booking_asked room) (tables_in old.now.trees).booking) (map (λ r. booking_in (Null ∷ r)) rows)
@@ -114,16 +123,49 @@ shows_key_error id old new rows ours shown =
     finds_rows error_form error_facts key_error_text error_key_tests error_columns error_names (Int (pos id.server) ∷ Int (pos id.n) ∷ []) old new (λ r. is_among (error_id r) (id ∷ [])) rows key_error_is
     (λ r is. ap (passes error_key_tests (Int (pos id.server) ∷ Int (pos id.n) ∷ [])) is ∙ id_test (error_in r).server (error_in r).n id) (λ r is. refl) ours.schema ours.held.errorlog shown
 
+pub shows_room_cancelled : (room : texts.Text) (old new : State) (rows : List Row) → IsOurs old.now → Shown room_cancelled_text (Text room ∷ []) old new rows
+    → IsPermutation (filter (is_cancelled_asked room) (tables_in old.now.trees).cancelled) (map (λ r. cancelled_in (Null ∷ r)) rows)
+unfolding tables_in
+shows_room_cancelled room old new rows ours shown =
+    finds_rows cancelled_form cancelled_facts room_cancelled_text cancelled_room_tests cancelled_columns cancelled_names (Text room ∷ []) old new (is_cancelled_asked room) rows room_cancelled_is
+    (λ r is. ap (passes cancelled_room_tests (Text room ∷ [])) is ∙ and_true _ ∙ equal_text (cancelled_in r).room room) (λ r is. refl) ours.schema ours.held.cancelled shown
+
+pub shows_key_cancelled : (id : Id) (old new : State) (rows : List Row) → IsOurs old.now → Shown key_cancelled_text (Int (pos id.server) ∷ Int (pos id.n) ∷ []) old new rows
+    → IsPermutation (filter (λ (r : CancelledRow). is_among (cancelled_id r) (id ∷ [])) (tables_in old.now.trees).cancelled) (map (λ r. cancelled_in (Null ∷ r)) rows)
+unfolding tables_in
+shows_key_cancelled id old new rows ours shown =
+    finds_rows cancelled_form cancelled_facts key_cancelled_text cancelled_key_tests cancelled_columns cancelled_names (Int (pos id.server) ∷ Int (pos id.n) ∷ []) old new (λ r. is_among (cancelled_id r) (id ∷ [])) rows key_cancelled_is
+    (λ r is. ap (passes cancelled_key_tests (Int (pos id.server) ∷ Int (pos id.n) ∷ [])) is ∙ id_test (cancelled_in r).server (cancelled_in r).n id) (λ r is. refl) ours.schema ours.held.cancelled shown
+
+pub shows_room_cancel : (room : texts.Text) (old new : State) (rows : List Row) → IsOurs old.now → Shown room_cancel_text (Text room ∷ []) old new rows
+    → IsPermutation (filter (is_cancel_asked room) (tables_in old.now.trees).cancels) (map (λ r. cancel_in (Null ∷ r)) rows)
+unfolding tables_in
+shows_room_cancel room old new rows ours shown =
+    finds_rows cancel_form cancel_facts room_cancel_text cancel_room_tests cancel_columns cancel_names (Text room ∷ []) old new (is_cancel_asked room) rows room_cancel_is
+    (λ r is. ap (passes cancel_room_tests (Text room ∷ [])) is ∙ and_true _ ∙ equal_text (cancel_in r).room room) (λ r is. refl) ours.schema ours.held.cancels shown
+
+pub shows_key_cancel : (id : Id) (old new : State) (rows : List Row) → IsOurs old.now → Shown key_cancel_text (Int (pos id.server) ∷ Int (pos id.n) ∷ []) old new rows
+    → IsPermutation (filter (λ (r : CancelRow). is_among (cancel_id r) (id ∷ [])) (tables_in old.now.trees).cancels) (map (λ r. cancel_in (Null ∷ r)) rows)
+unfolding tables_in
+shows_key_cancel id old new rows ours shown =
+    finds_rows cancel_form cancel_facts key_cancel_text cancel_key_tests cancel_columns cancel_names (Int (pos id.server) ∷ Int (pos id.n) ∷ []) old new (λ r. is_among (cancel_id r) (id ∷ [])) rows key_cancel_is
+    (λ r is. ap (passes cancel_key_tests (Int (pos id.server) ∷ Int (pos id.n) ∷ [])) is ∙ id_test (cancel_in r).server (cancel_in r).n id) (λ r is. refl) ours.schema ours.held.cancels shown
+
 -- ---- the same of rows that may be any
+
+sees_tree : (tree : ℕ) → ((db : Trees) → overlay db [] tree ≡ db tree) → (text : List ℕ) (project : List Term) (names : List (List ℕ)) (old new : State) (rows : List Row)
+    → MeansQuery text (Select (program_of tree [] project) names) → old.now.schema ≡ our_schema → Shown text [] old new rows
+    → IsPermutation (map (λ r. eval_all project ([] ∷ r ∷ [])) (old.now.trees tree)) rows
+sees_tree tree alone text project names old new rows means schema h =
+    let program : Program = program_of tree [] project in
+    let read = reads_as text [] old new our_schema schema (Select program names) means.0.0 means.0.1 means.1 rows h in
+    let moved = shows tree [] project old.now.trees [] rows (alone old.now.trees) (read.answer Null) in
+    subst (λ xs. IsPermutation (map (λ r. eval_all project ([] ∷ r ∷ [])) xs) rows) (filter_all_true _) moved
 
 sees : {R K : Type 0} (f : Form R K) (facts : Facts f) (text : List ℕ) (project : List Term) (names : List (List ℕ)) (old new : State) (rows : List Row)
     → MeansQuery text (Select (program_of f.table.tree [] project) names) → old.now.schema ≡ our_schema → Shown text [] old new rows
     → IsPermutation (map (λ r. eval_all project ([] ∷ r ∷ [])) (old.now.trees f.table.tree)) rows
-sees f facts text project names old new rows means schema h =
-    let program : Program = program_of f.table.tree [] project in
-    let read = reads_as text [] old new our_schema schema (Select program names) means.0.0 means.0.1 means.1 rows h in
-    let moved = shows f.table.tree [] project old.now.trees [] rows (facts.alone old.now.trees) (read.answer Null) in
-    subst (λ xs. IsPermutation (map (λ r. eval_all project ([] ∷ r ∷ [])) xs) rows) (filter_all_true _) moved
+sees f facts = sees_tree f.table.tree facts.alone
 
 pub sees_all_meta : (old new : State) (rows : List Row) → old.now.schema ≡ our_schema → Shown all_meta_text [] old new rows → IsPermutation (map (columns_from 1 7) (old.now.trees 0)) rows
 sees_all_meta old new rows = sees meta_form meta_facts all_meta_text meta_columns meta_names old new rows all_meta_is
@@ -134,14 +176,24 @@ sees_all_room old new rows = sees room_form room_facts all_room_text room_column
 pub sees_all_vector : (old new : State) (rows : List Row) → old.now.schema ≡ our_schema → Shown all_vector_text [] old new rows → IsPermutation (map (columns_from 1 4) (old.now.trees 4)) rows
 sees_all_vector old new rows = sees vector_form vector_facts all_vector_text vector_columns vector_names old new rows all_vector_is
 
-pub sees_all_log : (old new : State) (rows : List Row) → old.now.schema ≡ our_schema → Shown all_log_text [] old new rows → IsPermutation (map (columns_from 1 8) (old.now.trees 6)) rows
+pub sees_all_log : (old new : State) (rows : List Row) → old.now.schema ≡ our_schema → Shown all_log_text [] old new rows → IsPermutation (map (columns_from 1 12) (old.now.trees 14)) rows
 sees_all_log old new rows = sees log_form log_facts all_log_text log_columns log_names old new rows all_log_is
-
-pub sees_all_undo : (old new : State) (rows : List Row) → old.now.schema ≡ our_schema → Shown all_undo_text [] old new rows → IsPermutation (map (columns_from 1 3) (old.now.trees 8)) rows
-sees_all_undo old new rows = sees undo_form undo_facts all_undo_text undo_columns undo_names old new rows all_undo_is
 
 pub sees_all_booking : (old new : State) (rows : List Row) → old.now.schema ≡ our_schema → Shown all_booking_text [] old new rows → IsPermutation (map (columns_from 1 8) (old.now.trees 10)) rows
 sees_all_booking old new rows = sees booking_form booking_facts all_booking_text booking_columns booking_names old new rows all_booking_is
 
 pub sees_all_error : (old new : State) (rows : List Row) → old.now.schema ≡ our_schema → Shown all_error_text [] old new rows → IsPermutation (map (columns_from 1 9) (old.now.trees 12)) rows
 sees_all_error old new rows = sees error_form error_facts all_error_text error_columns error_names old new rows all_error_is
+
+pub sees_all_cancelled : (old new : State) (rows : List Row) → old.now.schema ≡ our_schema → Shown all_cancelled_text [] old new rows → IsPermutation (map (columns_from 1 10) (old.now.trees 16)) rows
+sees_all_cancelled old new rows = sees cancelled_form cancelled_facts all_cancelled_text cancelled_columns cancelled_names old new rows all_cancelled_is
+
+pub sees_all_cancel : (old new : State) (rows : List Row) → old.now.schema ≡ our_schema → Shown all_cancel_text [] old new rows → IsPermutation (map (columns_from 1 8) (old.now.trees 18)) rows
+sees_all_cancel old new rows = sees cancel_form cancel_facts all_cancel_text cancel_columns cancel_names old new rows all_cancel_is
+
+-- those of the first schema's logs, for which nothing else is computed
+pub sees_write_log : (old new : State) (rows : List Row) → old.now.schema ≡ our_schema → Shown write_log_text [] old new rows → IsPermutation (map (columns_from 1 1) (old.now.trees 6)) rows
+sees_write_log old new rows = sees_tree 6 (λ db. refl) write_log_text server_columns server_names old new rows write_log_is
+
+pub sees_undo : (old new : State) (rows : List Row) → old.now.schema ≡ our_schema → Shown undo_text [] old new rows → IsPermutation (map (columns_from 1 1) (old.now.trees 8)) rows
+sees_undo old new rows = sees_tree 8 (λ db. refl) undo_text server_columns server_names old new rows undo_is

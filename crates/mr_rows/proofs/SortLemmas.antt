@@ -14,16 +14,16 @@ use Rattle.sqlite_keyed.proofs.SortLemmas.{sorted_unique}
 use Rattle.mr_model.specs.Texts.{Text}
 use Rattle.mr_model.specs.Writes.{Id}
 use Rattle.mr_model.specs.Replica.{text_before}
-use Rattle.mr_model.specs.Tables.{VectorRow, LogRow, UndoRow, BookingRow, ErrorRow}
-use Rattle.mr_model.specs.Queries.{booking_id, error_id}
+use Rattle.mr_model.specs.Tables.{VectorRow, LogRow, BookingRow, ErrorRow, CancelledRow, CancelRow}
+use Rattle.mr_model.specs.Queries.{booking_id, error_id, cancelled_id, cancel_id}
 use Rattle.mr_model.specs.Changes.{IdBefore}
-use Rattle.mr_tables.specs.Change.{id_before, log_id, undo_id}
+use Rattle.mr_tables.specs.Change.{id_before, log_id}
 use Rattle.mr_tables.proofs.Putting.{InOrder, id_before-true, id_order, number_order, name_order}
 use Rattle.mr_base.specs.Ids.{id_cmp}
 use Rattle.mr_replay.proofs.Ids.{ids_total}
 use Rattle.mr_rows.specs.Reads.{time_cmp}
 use Rattle.sqlite_trees.specs.Tree.{Trees}
-use Rattle.mr_rows.specs.Cells.{room_in, vector_in, log_in, undo_in, booking_in, error_in}
+use Rattle.mr_rows.specs.Cells.{room_in, vector_in, log_in, booking_in, error_in, cancelled_in, cancel_in}
 use Rattle.mr_rows.specs.Kept.{tables_in}
 use Rattle.mr_rows.proofs.KeyOrder.{ordered_in_order}
 
@@ -38,14 +38,17 @@ server_total = on_total (λ (a : VectorRow). a.server) nat_cmp_total
 pub log_total : IsTotalOrder (λ (a b : LogRow). id_cmp (log_id a) (log_id b))
 log_total = on_total log_id ids_total
 
-pub undo_total : IsTotalOrder (λ (a b : UndoRow). id_cmp (undo_id a) (undo_id b))
-undo_total = on_total undo_id ids_total
-
 pub booking_total : IsTotalOrder (λ (a b : BookingRow). id_cmp (booking_id a) (booking_id b))
 booking_total = on_total booking_id ids_total
 
 pub error_total : IsTotalOrder (λ (a b : ErrorRow). id_cmp (error_id a) (error_id b))
 error_total = on_total error_id ids_total
+
+pub cancelled_total : IsTotalOrder (λ (a b : CancelledRow). id_cmp (cancelled_id a) (cancelled_id b))
+cancelled_total = on_total cancelled_id ids_total
+
+pub cancel_total : IsTotalOrder (λ (a b : CancelRow). id_cmp (cancel_id a) (cancel_id b))
+cancel_total = on_total cancel_id ids_total
 
 pub time_total : IsTotalOrder time_cmp
 time_total =
@@ -102,13 +105,9 @@ pub vectors_rise : (trees : Trees) → IsAscending (λ a b. nat_cmp a.server b.s
 unfolding tables_in
 vectors_rise trees = rising nat_lt (λ (v : VectorRow). v.server) _ (λ a b. number_less a.server b.server) _ (ordered_in_order nat_lt (λ (v : VectorRow). v.server) number_order (map vector_in (trees 4)))
 
-pub logs_rise : (trees : Trees) → IsAscending (λ a b. id_cmp (log_id a) (log_id b) ≡ Less) (tables_in trees).write_log
+pub logs_rise : (trees : Trees) → IsAscending (λ a b. id_cmp (log_id a) (log_id b) ≡ Less) (tables_in trees).log
 unfolding tables_in
-logs_rise trees = rising id_before log_id _ (λ a b. id_less (log_id a) (log_id b)) _ (ordered_in_order id_before log_id id_order (map log_in (trees 6)))
-
-pub undos_rise : (trees : Trees) → IsAscending (λ a b. id_cmp (undo_id a) (undo_id b) ≡ Less) (tables_in trees).undo
-unfolding tables_in
-undos_rise trees = rising id_before undo_id _ (λ a b. id_less (undo_id a) (undo_id b)) _ (ordered_in_order id_before undo_id id_order (map undo_in (trees 8)))
+logs_rise trees = rising id_before log_id _ (λ a b. id_less (log_id a) (log_id b)) _ (ordered_in_order id_before log_id id_order (map log_in (trees 14)))
 
 pub bookings_rise : (trees : Trees) → IsAscending (λ a b. id_cmp (booking_id a) (booking_id b) ≡ Less) (tables_in trees).booking
 unfolding tables_in
@@ -117,3 +116,11 @@ bookings_rise trees = rising id_before booking_id _ (λ a b. id_less (booking_id
 pub errors_rise : (trees : Trees) → IsAscending (λ a b. id_cmp (error_id a) (error_id b) ≡ Less) (tables_in trees).errorlog
 unfolding tables_in
 errors_rise trees = rising id_before error_id _ (λ a b. id_less (error_id a) (error_id b)) _ (ordered_in_order id_before error_id id_order (map error_in (trees 12)))
+
+pub cancelled_rise : (trees : Trees) → IsAscending (λ a b. id_cmp (cancelled_id a) (cancelled_id b) ≡ Less) (tables_in trees).cancelled
+unfolding tables_in
+cancelled_rise trees = rising id_before cancelled_id _ (λ a b. id_less (cancelled_id a) (cancelled_id b)) _ (ordered_in_order id_before cancelled_id id_order (map cancelled_in (trees 16)))
+
+pub cancels_rise : (trees : Trees) → IsAscending (λ a b. id_cmp (cancel_id a) (cancel_id b) ≡ Less) (tables_in trees).cancels
+unfolding tables_in
+cancels_rise trees = rising id_before cancel_id _ (λ a b. id_less (cancel_id a) (cancel_id b)) _ (ordered_in_order id_before cancel_id id_order (map cancel_in (trees 18)))

@@ -11,20 +11,20 @@ use Rattle.sqlite.specs.State.{State, HasCleanDisk, ExecutesInside, KeepsCommit}
 use Rattle.mr_model.specs.Texts.{Text}
 use Rattle.mr_model.specs.Calendar.{is_date}
 use Rattle.mr_model.specs.Writes.{Id}
-use Rattle.mr_model.specs.Replay.{Place, Taken, Logged}
-use Rattle.mr_model.specs.Tables.{MetaRow, VectorRow, LogRow, UndoRow, BookingRow, ErrorRow, Tables}
+use Rattle.mr_model.specs.Replay.{Place, Taken, Logged, Done, Void}
+use Rattle.mr_model.specs.Tables.{MetaRow, VectorRow, ActionCells, OfMeeting, OfCancel, LogRow, BookingRow, ErrorRow, CancelledRow, CancelRow, Tables}
 use Rattle.mr_model.proofs.WordsReadBack.{date-text}
 use Rattle.mr_rows.specs.Cells.{mark, nat_of, place_number, place_in}
-use Rattle.mr_rows.specs.Form.{meta_form, room_form, vector_form, log_form, undo_form, booking_form, error_form}
+use Rattle.mr_rows.specs.Form.{meta_form, room_form, vector_form, log_form, booking_form, error_form, cancelled_form, cancel_form}
 use Rattle.std.specs.Prelude.{nat_lt}
 use Rattle.mr_tables.specs.Change.{put}
 use Rattle.mr_rows.specs.Kept.{first_meta, IsOurs, IsStep, Makes, tables_in}
-use Rattle.mr_rows.specs.Parts.{take_logs, take_undos, take_bookings, take_errors, put_meta, put_rooms, put_vector, put_logs, put_undos, put_bookings, put_errors}
-use Rattle.mr_rows.proofs.Texts.{take_log_text, take_log_is, take_undo_text, take_undo_is, take_booking_text, take_booking_is, take_error_text, take_error_is, put_meta_text, put_meta_is, put_room_text, put_room_is, put_vector_text, put_vector_is, put_log_text, put_log_is, put_undo_text, put_undo_is, put_booking_text, put_booking_is, put_error_text, put_error_is}
+use Rattle.mr_rows.specs.Parts.{take_logs, take_bookings, take_errors, take_cancelled, put_meta, put_rooms, put_vector, put_logs, put_bookings, put_errors, put_cancelled, put_cancels}
+use Rattle.mr_rows.proofs.Texts.{take_log_text, take_log_is, take_booking_text, take_booking_is, take_error_text, take_error_is, take_cancelled_text, take_cancelled_is, put_meta_text, put_meta_is, put_room_text, put_room_is, put_vector_text, put_vector_is, put_log_text, put_log_is, put_booking_text, put_booking_is, put_error_text, put_error_is, put_cancelled_text, put_cancelled_is, put_cancel_text, put_cancel_is}
 use Rattle.mr_rows.proofs.TableLemmas.{takes, puts}
-use Rattle.mr_rows.proofs.TableFacts.{meta_facts, room_facts, vector_facts, log_facts, undo_facts, booking_facts, error_facts}
+use Rattle.mr_rows.proofs.TableFacts.{meta_facts, room_facts, vector_facts, log_facts, booking_facts, error_facts, cancelled_facts, cancel_facts}
 use Rattle.std.proofs.lemmas.Result.{on_ok_weaker}
-use Rattle.mr_rows.proofs.StepLemmas.{meta_step, room_step, vector_step, log_step, undo_step, booking_step, error_step}
+use Rattle.mr_rows.proofs.StepLemmas.{meta_step, room_step, vector_step, log_step, booking_step, error_step, cancelled_step, cancel_step}
 
 -- ---- plain rows are read back off their cells
 
@@ -35,15 +35,27 @@ marked false = refl
 placed : (p : Place) → place_in (place_number p) ≡ p
 placed (Taken k) = refl
 placed Logged = refl
+placed Done = refl
+placed Void = refl
 
-pub undo_back : (v : Value) (u : UndoRow) → undo_form.row_in (v ∷ undo_form.cells u) ≡ u
-undo_back v u = ap (λ p. record u { place = p }) (placed u.place)
+pub log_back : (v : Value) (w : LogRow) → log_form.row_in (v ∷ log_form.cells w) ≡ w
+log_back v w = go w.action
+  where
+    go : (a : ActionCells) → let x : LogRow = record w { action = a } in log_form.row_in (v ∷ log_form.cells x) ≡ x
+    go (OfMeeting m) = ap (λ p. record w { action = OfMeeting m; place = p }) (placed w.place)
+    go (OfCancel t) = ap (λ p. record w { action = OfCancel t; place = p }) (placed w.place)
 
 pub booking_back : (v : Value) (b : BookingRow) → IsTrue (is_date b.day) → booking_form.row_in (v ∷ booking_form.cells b) ≡ b
 booking_back v b is = let day = date-text b.day is in let c = marked b.committed in λ i. record b { day = day i; committed = c i }
 
 pub error_back : (v : Value) (e : ErrorRow) → IsTrue (is_date e.day) → error_form.row_in (v ∷ error_form.cells e) ≡ e
 error_back v e is = let day = date-text e.day is in λ i. record e { day = day i }
+
+pub cancelled_back : (v : Value) (c : CancelledRow) → IsTrue (is_date c.day) → cancelled_form.row_in (v ∷ cancelled_form.cells c) ≡ c
+cancelled_back v c is = let day = date-text c.day is in let m = marked c.committed in λ i. record c { day = day i; committed = m i }
+
+pub cancel_back : (v : Value) (c : CancelRow) → cancel_form.row_in (v ∷ cancel_form.cells c) ≡ c
+cancel_back v c = ap (λ d. record c { done = d }) (marked c.done)
 
 -- ---- a statement inside a transaction, whatever it does, commits nothing
 
@@ -76,11 +88,7 @@ makes g old new text params turn r does ran after =
 
 pub takes_log : (id : Id) → Does take_log_text (Int (pos id.server) ∷ Int (pos id.n) ∷ []) (take_logs (id ∷ []))
 unfolding tables_in log_facts
-takes_log id old new r ours ran = on_ok_weaker r (log_step old new _ ours) (takes log_form log_facts take_log_text old new id r take_log_is ours.schema ours.held.write_log ran)
-
-pub takes_undo : (id : Id) → Does take_undo_text (Int (pos id.server) ∷ Int (pos id.n) ∷ []) (take_undos (id ∷ []))
-unfolding tables_in undo_facts
-takes_undo id old new r ours ran = on_ok_weaker r (undo_step old new _ ours) (takes undo_form undo_facts take_undo_text old new id r take_undo_is ours.schema ours.held.undo ran)
+takes_log id old new r ours ran = on_ok_weaker r (log_step old new _ ours) (takes log_form log_facts take_log_text old new id r take_log_is ours.schema ours.held.log ran)
 
 pub takes_booking : (id : Id) → Does take_booking_text (Int (pos id.server) ∷ Int (pos id.n) ∷ []) (take_bookings (id ∷ []))
 unfolding tables_in booking_facts
@@ -89,6 +97,11 @@ takes_booking id old new r ours ran = on_ok_weaker r (booking_step old new _ our
 pub takes_error : (id : Id) → Does take_error_text (Int (pos id.server) ∷ Int (pos id.n) ∷ []) (take_errors (id ∷ []))
 unfolding tables_in error_facts
 takes_error id old new r ours ran = on_ok_weaker r (error_step old new _ ours) (takes error_form error_facts take_error_text old new id r take_error_is ours.schema ours.held.errorlog ran)
+
+pub takes_cancelled : (id : Id) → Does take_cancelled_text (Int (pos id.server) ∷ Int (pos id.n) ∷ []) (take_cancelled (id ∷ []))
+unfolding tables_in cancelled_facts
+takes_cancelled id old new r ours ran =
+    on_ok_weaker r (cancelled_step old new _ ours) (takes cancelled_form cancelled_facts take_cancelled_text old new id r take_cancelled_is ours.schema ours.held.cancelled ran)
 
 -- ---- rows put
 
@@ -111,11 +124,7 @@ puts_vector x old new r ours ran = on_ok_weaker r (vector_step old new _ ours) (
 
 pub puts_log : (x : LogRow) → Does put_log_text (log_form.cells x) (put_logs (x ∷ []))
 unfolding tables_in log_facts
-puts_log x old new r ours ran = on_ok_weaker r (log_step old new _ ours) (puts log_form log_facts put_log_text old new x r put_log_is (λ _. refl) ours.schema ours.held.write_log ran)
-
-pub puts_undo : (x : UndoRow) → Does put_undo_text (undo_form.cells x) (put_undos (x ∷ []))
-unfolding tables_in undo_facts
-puts_undo x old new r ours ran = on_ok_weaker r (undo_step old new _ ours) (puts undo_form undo_facts put_undo_text old new x r put_undo_is (λ id. undo_back (Int id) x) ours.schema ours.held.undo ran)
+puts_log x old new r ours ran = on_ok_weaker r (log_step old new _ ours) (puts log_form log_facts put_log_text old new x r put_log_is (λ id. log_back (Int id) x) ours.schema ours.held.log ran)
 
 pub puts_booking : (x : BookingRow) → IsTrue (is_date x.day) → Does put_booking_text (booking_form.cells x) (put_bookings (x ∷ []))
 unfolding tables_in booking_facts
@@ -124,3 +133,12 @@ puts_booking x is old new r ours ran = on_ok_weaker r (booking_step old new _ ou
 pub puts_error : (x : ErrorRow) → IsTrue (is_date x.day) → Does put_error_text (error_form.cells x) (put_errors (x ∷ []))
 unfolding tables_in error_facts
 puts_error x is old new r ours ran = on_ok_weaker r (error_step old new _ ours) (puts error_form error_facts put_error_text old new x r put_error_is (λ id. error_back (Int id) x is) ours.schema ours.held.errorlog ran)
+
+pub puts_cancelled : (x : CancelledRow) → IsTrue (is_date x.day) → Does put_cancelled_text (cancelled_form.cells x) (put_cancelled (x ∷ []))
+unfolding tables_in cancelled_facts
+puts_cancelled x is old new r ours ran =
+    on_ok_weaker r (cancelled_step old new _ ours) (puts cancelled_form cancelled_facts put_cancelled_text old new x r put_cancelled_is (λ id. cancelled_back (Int id) x is) ours.schema ours.held.cancelled ran)
+
+pub puts_cancel : (x : CancelRow) → Does put_cancel_text (cancel_form.cells x) (put_cancels (x ∷ []))
+unfolding tables_in cancel_facts
+puts_cancel x old new r ours ran = on_ok_weaker r (cancel_step old new _ ours) (puts cancel_form cancel_facts put_cancel_text old new x r put_cancel_is (λ id. cancel_back (Int id) x) ours.schema ours.held.cancels ran)

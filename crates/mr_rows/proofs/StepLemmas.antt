@@ -9,9 +9,9 @@ use Rattle.sqlite_rules.specs.Edit.{IsNoIndex}
 use Rattle.sqlite.specs.State.{State, HasCleanDisk, KeepsCommit, Survives}
 use Rattle.sqlite.proofs.StateLemmas.{survives_then}
 use Rattle.mr_model.specs.Texts.{Text}
-use Rattle.mr_model.specs.Tables.{MetaRow, VectorRow, LogRow, UndoRow, BookingRow, ErrorRow, Tables}
+use Rattle.mr_model.specs.Tables.{MetaRow, VectorRow, LogRow, BookingRow, ErrorRow, CancelledRow, CancelRow, Tables}
 use Rattle.mr_rows.specs.Schema.{our_schema}
-use Rattle.mr_rows.specs.Form.{Form, meta_form, room_form, vector_form, log_form, undo_form, booking_form, error_form}
+use Rattle.mr_rows.specs.Form.{Form, meta_form, room_form, vector_form, log_form, booking_form, error_form, cancelled_form, cancel_form}
 use Rattle.mr_rows.specs.Kept.{IsHeld, AreHeld, IsOurs, IsStep, IsAsked, IsUnderWay, first_meta, in_order, tables_in}
 use Rattle.mr_rows.proofs.TableLemmas.{overlaid, Turns}
 
@@ -45,6 +45,15 @@ no_index-10 = none_of 10 our_schema.indexes refl
 no_index-12 : IsNoIndex our_schema 12
 no_index-12 = none_of 12 our_schema.indexes refl
 
+no_index-14 : IsNoIndex our_schema 14
+no_index-14 = none_of 14 our_schema.indexes refl
+
+no_index-16 : IsNoIndex our_schema 16
+no_index-16 = none_of 16 our_schema.indexes refl
+
+no_index-18 : IsNoIndex our_schema 18
+no_index-18 = none_of 18 our_schema.indexes refl
+
 abbrev SameTrees : Trees → Trees → Type 0
 SameTrees a b = (t : ℕ) → IsNoIndex our_schema t → a t ≡ b t
 
@@ -54,18 +63,20 @@ tables_same a b same =
     let meta = same 0 no_index-0 in
     let room = same 2 no_index-2 in
     let vector = same 4 no_index-4 in
-    let log = same 6 no_index-6 in
-    let undo = same 8 no_index-8 in
+    let log = same 14 no_index-14 in
     let booking = same 10 no_index-10 in
     let error = same 12 no_index-12 in
+    let cancelled = same 16 no_index-16 in
+    let cancel = same 18 no_index-18 in
     λ i. record {
       meta = first_meta (in_order meta_form (meta i));
       room = in_order room_form (room i);
       vector = in_order vector_form (vector i);
-      write_log = in_order log_form (log i);
-      undo = in_order undo_form (undo i);
+      log = in_order log_form (log i);
       booking = in_order booking_form (booking i);
       errorlog = in_order error_form (error i);
+      cancelled = in_order cancelled_form (cancelled i);
+      cancels = in_order cancel_form (cancel i);
     }
 
 held_same : (a b : Trees) → SameTrees a b → AreHeld b → AreHeld a
@@ -73,10 +84,13 @@ held_same a b same held = record {
   meta = subst (IsHeld meta_form) (sym (same 0 no_index-0)) held.meta;
   room = subst (IsHeld room_form) (sym (same 2 no_index-2)) held.room;
   vector = subst (IsHeld vector_form) (sym (same 4 no_index-4)) held.vector;
-  write_log = subst (IsHeld log_form) (sym (same 6 no_index-6)) held.write_log;
-  undo = subst (IsHeld undo_form) (sym (same 8 no_index-8)) held.undo;
+  log = subst (IsHeld log_form) (sym (same 14 no_index-14)) held.log;
   booking = subst (IsHeld booking_form) (sym (same 10 no_index-10)) held.booking;
   errorlog = subst (IsHeld error_form) (sym (same 12 no_index-12)) held.errorlog;
+  cancelled = subst (IsHeld cancelled_form) (sym (same 16 no_index-16)) held.cancelled;
+  cancels = subst (IsHeld cancel_form) (sym (same 18 no_index-18)) held.cancels;
+  no_write_log = same 6 no_index-6 ∙ held.no_write_log;
+  no_undo = same 8 no_index-8 ∙ held.no_undo;
 }
 
 -- where one table turns, the others stay
@@ -94,7 +108,7 @@ unfolding tables_in
 meta_step old new xs ours turns =
     let was = ours.held in
     step_of meta_form old new xs _ turns
-    (record { meta = turns.held; room = was.room; vector = was.vector; write_log = was.write_log; undo = was.undo; booking = was.booking; errorlog = was.errorlog })
+    (record { meta = turns.held; room = was.room; vector = was.vector; log = was.log; booking = was.booking; errorlog = was.errorlog; cancelled = was.cancelled; cancels = was.cancels; no_write_log = was.no_write_log; no_undo = was.no_undo })
     (ap (λ ys. record (tables_in old.now.trees) { meta = first_meta ys }) turns.rows_are)
 
 pub room_step : (old new : State) (xs : List Text) → IsOurs old.now → Turns room_form old new xs → IsStep old new (record (tables_in old.now.trees) { room = xs })
@@ -102,7 +116,7 @@ unfolding tables_in
 room_step old new xs ours turns =
     let was = ours.held in
     step_of room_form old new xs _ turns
-    (record { meta = was.meta; room = turns.held; vector = was.vector; write_log = was.write_log; undo = was.undo; booking = was.booking; errorlog = was.errorlog })
+    (record { meta = was.meta; room = turns.held; vector = was.vector; log = was.log; booking = was.booking; errorlog = was.errorlog; cancelled = was.cancelled; cancels = was.cancels; no_write_log = was.no_write_log; no_undo = was.no_undo })
     (ap (λ ys. record (tables_in old.now.trees) { room = ys }) turns.rows_are)
 
 pub vector_step : (old new : State) (xs : List VectorRow) → IsOurs old.now → Turns vector_form old new xs → IsStep old new (record (tables_in old.now.trees) { vector = xs })
@@ -110,31 +124,23 @@ unfolding tables_in
 vector_step old new xs ours turns =
     let was = ours.held in
     step_of vector_form old new xs _ turns
-    (record { meta = was.meta; room = was.room; vector = turns.held; write_log = was.write_log; undo = was.undo; booking = was.booking; errorlog = was.errorlog })
+    (record { meta = was.meta; room = was.room; vector = turns.held; log = was.log; booking = was.booking; errorlog = was.errorlog; cancelled = was.cancelled; cancels = was.cancels; no_write_log = was.no_write_log; no_undo = was.no_undo })
     (ap (λ ys. record (tables_in old.now.trees) { vector = ys }) turns.rows_are)
 
-pub log_step : (old new : State) (xs : List LogRow) → IsOurs old.now → Turns log_form old new xs → IsStep old new (record (tables_in old.now.trees) { write_log = xs })
+pub log_step : (old new : State) (xs : List LogRow) → IsOurs old.now → Turns log_form old new xs → IsStep old new (record (tables_in old.now.trees) { log = xs })
 unfolding tables_in
 log_step old new xs ours turns =
     let was = ours.held in
     step_of log_form old new xs _ turns
-    (record { meta = was.meta; room = was.room; vector = was.vector; write_log = turns.held; undo = was.undo; booking = was.booking; errorlog = was.errorlog })
-    (ap (λ ys. record (tables_in old.now.trees) { write_log = ys }) turns.rows_are)
-
-pub undo_step : (old new : State) (xs : List UndoRow) → IsOurs old.now → Turns undo_form old new xs → IsStep old new (record (tables_in old.now.trees) { undo = xs })
-unfolding tables_in
-undo_step old new xs ours turns =
-    let was = ours.held in
-    step_of undo_form old new xs _ turns
-    (record { meta = was.meta; room = was.room; vector = was.vector; write_log = was.write_log; undo = turns.held; booking = was.booking; errorlog = was.errorlog })
-    (ap (λ ys. record (tables_in old.now.trees) { undo = ys }) turns.rows_are)
+    (record { meta = was.meta; room = was.room; vector = was.vector; log = turns.held; booking = was.booking; errorlog = was.errorlog; cancelled = was.cancelled; cancels = was.cancels; no_write_log = was.no_write_log; no_undo = was.no_undo })
+    (ap (λ ys. record (tables_in old.now.trees) { log = ys }) turns.rows_are)
 
 pub booking_step : (old new : State) (xs : List BookingRow) → IsOurs old.now → Turns booking_form old new xs → IsStep old new (record (tables_in old.now.trees) { booking = xs })
 unfolding tables_in
 booking_step old new xs ours turns =
     let was = ours.held in
     step_of booking_form old new xs _ turns
-    (record { meta = was.meta; room = was.room; vector = was.vector; write_log = was.write_log; undo = was.undo; booking = turns.held; errorlog = was.errorlog })
+    (record { meta = was.meta; room = was.room; vector = was.vector; log = was.log; booking = turns.held; errorlog = was.errorlog; cancelled = was.cancelled; cancels = was.cancels; no_write_log = was.no_write_log; no_undo = was.no_undo })
     (ap (λ ys. record (tables_in old.now.trees) { booking = ys }) turns.rows_are)
 
 pub error_step : (old new : State) (xs : List ErrorRow) → IsOurs old.now → Turns error_form old new xs → IsStep old new (record (tables_in old.now.trees) { errorlog = xs })
@@ -142,8 +148,24 @@ unfolding tables_in
 error_step old new xs ours turns =
     let was = ours.held in
     step_of error_form old new xs _ turns
-    (record { meta = was.meta; room = was.room; vector = was.vector; write_log = was.write_log; undo = was.undo; booking = was.booking; errorlog = turns.held })
+    (record { meta = was.meta; room = was.room; vector = was.vector; log = was.log; booking = was.booking; errorlog = turns.held; cancelled = was.cancelled; cancels = was.cancels; no_write_log = was.no_write_log; no_undo = was.no_undo })
     (ap (λ ys. record (tables_in old.now.trees) { errorlog = ys }) turns.rows_are)
+
+pub cancelled_step : (old new : State) (xs : List CancelledRow) → IsOurs old.now → Turns cancelled_form old new xs → IsStep old new (record (tables_in old.now.trees) { cancelled = xs })
+unfolding tables_in
+cancelled_step old new xs ours turns =
+    let was = ours.held in
+    step_of cancelled_form old new xs _ turns
+    (record { meta = was.meta; room = was.room; vector = was.vector; log = was.log; booking = was.booking; errorlog = was.errorlog; cancelled = turns.held; cancels = was.cancels; no_write_log = was.no_write_log; no_undo = was.no_undo })
+    (ap (λ ys. record (tables_in old.now.trees) { cancelled = ys }) turns.rows_are)
+
+pub cancel_step : (old new : State) (xs : List CancelRow) → IsOurs old.now → Turns cancel_form old new xs → IsStep old new (record (tables_in old.now.trees) { cancels = xs })
+unfolding tables_in
+cancel_step old new xs ours turns =
+    let was = ours.held in
+    step_of cancel_form old new xs _ turns
+    (record { meta = was.meta; room = was.room; vector = was.vector; log = was.log; booking = was.booking; errorlog = was.errorlog; cancelled = was.cancelled; cancels = turns.held; no_write_log = was.no_write_log; no_undo = was.no_undo })
+    (ap (λ ys. record (tables_in old.now.trees) { cancels = ys }) turns.rows_are)
 
 -- ---- one after another
 

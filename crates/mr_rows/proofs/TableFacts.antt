@@ -1,6 +1,6 @@
 -- What is computed of each table.
 use Rattle.std.proofs.Common.{◌≡◌, pos, [], ◌∷◌, ◌==◌, refl, ap, ◌∙◌, eqb-true, eq-eqb}
-use Rattle.std.specs.Prelude.{bytes_eq}
+use Rattle.std.specs.Prelude.{bytes_eq, length, ◌/◌}
 use Rattle.std.proofs.lemmas.Slice.Eq.{bytes_eq-Decides}
 use Rattle.sqlite_value.specs.declared.value.Value.{Value}
 use Rattle.sqlite_value.specs.declared.value.Value.TheVariants.{Null, Int, Text}
@@ -10,15 +10,18 @@ use Rattle.sqlite_trees.specs.Tree.{rowid}
 use Rattle.sqlite_schema.specs.Rules.{equal}
 use Rattle.sqlite_rules.specs.Cast.{cast, cast_row}
 use Rattle.sqlite.specs.Collation.TheVariants.{Binary}
+use Rattle.sqlite.specs.Effect.{value_rows}
+use Rattle.sqlite.specs.Rows.{stamped, mended}
+use Rattle.sqlite_schema.specs.declared.command.Conflict.TheVariants.{Replace}
 use Rattle.sqlite.specs.Kind.TheVariants.{Integer}
 use Rattle.mr_model.specs.Texts as texts
 use Rattle.mr_model.specs.Replica.{is_among}
-use Rattle.mr_model.specs.Tables.{MetaRow, VectorRow, LogRow, UndoRow, BookingRow, ErrorRow}
+use Rattle.mr_model.specs.Tables.{MetaRow, VectorRow, ActionCells, OfMeeting, OfCancel, LogRow, BookingRow, ErrorRow, CancelledRow, CancelRow}
 use Rattle.mr_tables.proofs.Putting.{id_order, number_order, name_order}
 use Rattle.mr_rows.specs.Meaning.{passes}
-use Rattle.mr_rows.specs.Cells.{mark, place_number, room_in, vector_in, log_in, undo_in, booking_in, error_in}
-use Rattle.mr_rows.specs.Form.{meta_form, room_form, vector_form, log_form, undo_form, booking_form, error_form}
-use Rattle.mr_rows.proofs.Texts.{put_meta_terms, put_room_terms, put_vector_terms, put_log_terms, put_undo_terms, put_booking_terms, put_error_terms, meta_key_tests, room_key_tests, vector_key_tests, log_key_tests, undo_key_tests, booking_key_tests, error_key_tests}
+use Rattle.mr_rows.specs.Cells.{mark, place_number, room_in, vector_in, log_in, booking_in, error_in, cancelled_in, cancel_in}
+use Rattle.mr_rows.specs.Form.{meta_form, room_form, vector_form, log_form, booking_form, error_form, cancelled_form, cancel_form}
+use Rattle.mr_rows.proofs.Texts.{put_meta_terms, put_room_terms, put_vector_terms, put_booking_terms, put_error_terms, put_log_terms, put_cancelled_terms, put_cancel_terms, meta_key_tests, room_key_tests, vector_key_tests, booking_key_tests, error_key_tests, log_key_tests, cancelled_key_tests, cancel_key_tests}
 use Rattle.mr_rows.proofs.ValueLemmas.{equal_nat, equal_text, equal_apart, and_true, id_test, among_one, one_among, clash_one, clash_two, cast_null, cast_int}
 use Rattle.mr_rows.proofs.TableLemmas.{Facts}
 
@@ -27,7 +30,7 @@ use Rattle.mr_rows.proofs.TableLemmas.{Facts}
 pub cast_meta : (v : Value) (m : MetaRow) → cast Integer v ≡ v → cast_row meta_form.table (v ∷ meta_form.cells m) ≡ v ∷ meta_form.cells m
 cast_meta v m same =
     rw (same, cast_int (pos m.server), cast_int (pos m.primary), cast_int (pos m.commits), cast_int (pos m.dropped), cast_int (pos m.clock))
-    (let one = cast_int (pos 1) in λ i. v ∷ one i ∷ one i ∷ Int (pos m.server) ∷ Int (pos m.primary) ∷ Int (pos m.commits) ∷ Int (pos m.dropped) ∷ Int (pos m.clock) ∷ [])
+    (let one = cast_int (pos 1) in let two = cast_int (pos 2) in λ i. v ∷ one i ∷ two i ∷ Int (pos m.server) ∷ Int (pos m.primary) ∷ Int (pos m.commits) ∷ Int (pos m.dropped) ∷ Int (pos m.clock) ∷ [])
 
 unfoldable pub meta_facts : Facts meta_form
 unfolding first_key
@@ -109,60 +112,6 @@ vector_facts = record {
 
 -- ---- tables with the key server, n
 
-pub cast_log : (v : Value) (w : LogRow) → cast Integer v ≡ v → cast_row log_form.table (v ∷ log_form.cells w) ≡ v ∷ log_form.cells w
-cast_log v w same = rw (same, cast_int (pos w.server), cast_int (pos w.n), cast_int (pos w.time), cast_int (pos w.length), cast_int (pos w.seq))
-
-unfoldable pub log_facts : Facts log_form
-unfolding first_key
-log_facts = record {
-  order = id_order;
-  place = 3;
-  key_cells = λ id. Int (pos id.server) ∷ Int (pos id.n) ∷ [];
-  key_tests = log_key_tests;
-  has_key = λ id w. is_among (log_form.key w) (id ∷ []);
-  finds = λ id r is. ap (passes log_key_tests (Int (pos id.server) ∷ Int (pos id.n) ∷ [])) is ∙ id_test (log_in r).server (log_in r).n id;
-  same_key = λ id w h. among_one (log_form.key w) id h;
-  own_key = λ x y same. one_among (log_form.key y) (log_form.key x) same;
-  terms = put_log_terms;
-  width = 9;
-  given = λ w. refl;
-  fresh = λ w. cast_log Null w cast_null;
-  fits = λ w id. cast_log (Int id) w (cast_int id);
-  clashes = λ w id r low. clash_two (equal Binary (rowid r) (Int id)) (equal Binary (column r 1) (Int (pos w.server))) (equal Binary (column r 2) (Int (pos w.n))) (equal_apart (rowid r) (Int id) low);
-  alone = λ db. refl;
-  uncounted = refl;
-  free = λ _ _. refl;
-  on_rows = λ limit mode params db text out done. done;
-  on_taken = λ limit mode params db text q out done. done;
-}
-
-pub cast_undo : (v : Value) (u : UndoRow) → cast Integer v ≡ v → cast_row undo_form.table (v ∷ undo_form.cells u) ≡ v ∷ undo_form.cells u
-cast_undo v u same = rw (same, cast_int (pos u.server), cast_int (pos u.n), cast_int (place_number u.place))
-
-unfoldable pub undo_facts : Facts undo_form
-unfolding first_key
-undo_facts = record {
-  order = id_order;
-  place = 4;
-  key_cells = λ id. Int (pos id.server) ∷ Int (pos id.n) ∷ [];
-  key_tests = undo_key_tests;
-  has_key = λ id u. is_among (undo_form.key u) (id ∷ []);
-  finds = λ id r is. ap (passes undo_key_tests (Int (pos id.server) ∷ Int (pos id.n) ∷ [])) is ∙ id_test (undo_in r).server (undo_in r).n id;
-  same_key = λ id u h. among_one (undo_form.key u) id h;
-  own_key = λ x y same. one_among (undo_form.key y) (undo_form.key x) same;
-  terms = put_undo_terms;
-  width = 4;
-  given = λ u. refl;
-  fresh = λ u. cast_undo Null u cast_null;
-  fits = λ u id. cast_undo (Int id) u (cast_int id);
-  clashes = λ u id r low. clash_two (equal Binary (rowid r) (Int id)) (equal Binary (column r 1) (Int (pos u.server))) (equal Binary (column r 2) (Int (pos u.n))) (equal_apart (rowid r) (Int id) low);
-  alone = λ db. refl;
-  uncounted = refl;
-  free = λ _ _. refl;
-  on_rows = λ limit mode params db text out done. done;
-  on_taken = λ limit mode params db text q out done. done;
-}
-
 pub cast_booking : (v : Value) (b : BookingRow) → cast Integer v ≡ v → cast_row booking_form.table (v ∷ booking_form.cells b) ≡ v ∷ booking_form.cells b
 cast_booking v b same = rw (same, cast_int (pos b.start), cast_int (pos b.stop), cast_int (pos b.server), cast_int (pos b.n), cast_int (mark b.committed))
 
@@ -210,6 +159,116 @@ error_facts = record {
   fresh = λ e. cast_error Null e cast_null;
   fits = λ e id. cast_error (Int id) e (cast_int id);
   clashes = λ e id r low. clash_two (equal Binary (rowid r) (Int id)) (equal Binary (column r 5) (Int (pos e.server))) (equal Binary (column r 6) (Int (pos e.n))) (equal_apart (rowid r) (Int id) low);
+  alone = λ db. refl;
+  uncounted = refl;
+  free = λ _ _. refl;
+  on_rows = λ limit mode params db text out done. done;
+  on_taken = λ limit mode params db text q out done. done;
+}
+
+-- a row of the log, by its action
+
+pub cast_log : (v : Value) (w : LogRow) → cast Integer v ≡ v → cast_row log_form.table (v ∷ log_form.cells w) ≡ v ∷ log_form.cells w
+cast_log v w same = go w.action
+  where
+    go : (a : ActionCells) → let x : LogRow = record w { action = a } in cast_row log_form.table (v ∷ log_form.cells x) ≡ v ∷ log_form.cells x
+    go (OfMeeting m) =
+        rw (same, cast_int (pos w.server), cast_int (pos w.n), cast_int (pos w.time), cast_int (pos m.length), cast_int (place_number w.place), cast_int (pos w.seq))
+        (let none = cast_int (pos 0) in λ i.
+        v ∷ Int (pos w.server) ∷ Int (pos w.n) ∷ Int (pos w.time) ∷ Text w.room ∷ none i ∷ Int (pos m.length) ∷ Text m.choices ∷ Text m.title ∷ none i ∷ none i ∷ Int (place_number w.place) ∷ Int (pos w.seq) ∷ [])
+    go (OfCancel t) =
+        rw (same, cast_int (pos w.server), cast_int (pos w.n), cast_int (pos w.time), cast_int (pos t.server), cast_int (pos t.n), cast_int (place_number w.place), cast_int (pos w.seq))
+        (let one = cast_int (pos 1) in
+        let none = cast_int (pos 0) in λ i.
+        v ∷ Int (pos w.server) ∷ Int (pos w.n) ∷ Int (pos w.time) ∷ Text w.room ∷ one i ∷ none i ∷ Text [] ∷ Text [] ∷ Int (pos t.server) ∷ Int (pos t.n) ∷ Int (place_number w.place) ∷ Int (pos w.seq) ∷ [])
+
+pub log_fresh : (w : LogRow) → cast_row log_form.table (mended Replace log_form.table (Null ∷ log_form.cells w)) ≡ Null ∷ log_form.cells w
+log_fresh w = go w.action
+  where
+    go : (a : ActionCells) → let x : LogRow = record w { action = a } in cast_row log_form.table (mended Replace log_form.table (Null ∷ log_form.cells x)) ≡ Null ∷ log_form.cells x
+    go (OfMeeting m) = cast_log Null (record w { action = OfMeeting m }) cast_null
+    go (OfCancel t) = cast_log Null (record w { action = OfCancel t }) cast_null
+
+pub log_given : (w : LogRow) → value_rows (stamped log_form.table (log_form.cells w)) 13 (length put_log_terms / 13) put_log_terms ≡ (Null ∷ log_form.cells w) ∷ []
+log_given w = go w.action
+  where
+    go : (a : ActionCells) → let x : LogRow = record w { action = a } in value_rows (stamped log_form.table (log_form.cells x)) 13 (length put_log_terms / 13) put_log_terms ≡ (Null ∷ log_form.cells x) ∷ []
+    go (OfMeeting m) = refl
+    go (OfCancel t) = refl
+
+unfoldable pub log_facts : Facts log_form
+unfolding first_key
+log_facts = record {
+  order = id_order;
+  place = 7;
+  key_cells = λ id. Int (pos id.server) ∷ Int (pos id.n) ∷ [];
+  key_tests = log_key_tests;
+  has_key = λ id w. is_among (log_form.key w) (id ∷ []);
+  finds = λ id r is. ap (passes log_key_tests (Int (pos id.server) ∷ Int (pos id.n) ∷ [])) is ∙ id_test (log_in r).server (log_in r).n id;
+  same_key = λ id w h. among_one (log_form.key w) id h;
+  own_key = λ x y same. one_among (log_form.key y) (log_form.key x) same;
+  terms = put_log_terms;
+  width = 13;
+  given = λ w. log_given w;
+  fresh = λ w. log_fresh w;
+  fits = λ w id. cast_log (Int id) w (cast_int id);
+  clashes = λ w id r low. clash_two (equal Binary (rowid r) (Int id)) (equal Binary (column r 1) (Int (pos w.server))) (equal Binary (column r 2) (Int (pos w.n))) (equal_apart (rowid r) (Int id) low);
+  alone = λ db. refl;
+  uncounted = refl;
+  free = λ _ _. refl;
+  on_rows = λ limit mode params db text out done. done;
+  on_taken = λ limit mode params db text q out done. done;
+}
+
+pub cast_cancelled : (v : Value) (c : CancelledRow) → cast Integer v ≡ v → cast_row cancelled_form.table (v ∷ cancelled_form.cells c) ≡ v ∷ cancelled_form.cells c
+cast_cancelled v c same =
+    rw (same, cast_int (pos c.start), cast_int (pos c.stop), cast_int (pos c.server), cast_int (pos c.n), cast_int (mark c.committed), cast_int (pos c.by.server), cast_int (pos c.by.n))
+
+unfoldable pub cancelled_facts : Facts cancelled_form
+unfolding first_key
+cancelled_facts = record {
+  order = id_order;
+  place = 8;
+  key_cells = λ id. Int (pos id.server) ∷ Int (pos id.n) ∷ [];
+  key_tests = cancelled_key_tests;
+  has_key = λ id c. is_among (cancelled_form.key c) (id ∷ []);
+  finds = λ id r is. ap (passes cancelled_key_tests (Int (pos id.server) ∷ Int (pos id.n) ∷ [])) is ∙ id_test (cancelled_in r).server (cancelled_in r).n id;
+  same_key = λ id c h. among_one (cancelled_form.key c) id h;
+  own_key = λ x y same. one_among (cancelled_form.key y) (cancelled_form.key x) same;
+  terms = put_cancelled_terms;
+  width = 11;
+  given = λ c. refl;
+  fresh = λ c. cast_cancelled Null c cast_null;
+  fits = λ c id. cast_cancelled (Int id) c (cast_int id);
+  clashes = λ c id r low. clash_two (equal Binary (rowid r) (Int id)) (equal Binary (column r 5) (Int (pos c.server))) (equal Binary (column r 6) (Int (pos c.n))) (equal_apart (rowid r) (Int id) low);
+  alone = λ db. refl;
+  uncounted = refl;
+  free = λ _ _. refl;
+  on_rows = λ limit mode params db text out done. done;
+  on_taken = λ limit mode params db text q out done. done;
+}
+
+pub cast_cancel : (v : Value) (c : CancelRow) → cast Integer v ≡ v → cast_row cancel_form.table (v ∷ cancel_form.cells c) ≡ v ∷ cancel_form.cells c
+cast_cancel v c same =
+    rw (same, cast_int (pos c.server), cast_int (pos c.n), cast_int (pos c.target.server), cast_int (pos c.target.n), cast_int (mark c.done), cast_int (pos c.time), cast_int (pos c.seq))
+
+unfoldable pub cancel_facts : Facts cancel_form
+unfolding first_key
+cancel_facts = record {
+  order = id_order;
+  place = 9;
+  key_cells = λ id. Int (pos id.server) ∷ Int (pos id.n) ∷ [];
+  key_tests = cancel_key_tests;
+  has_key = λ id c. is_among (cancel_form.key c) (id ∷ []);
+  finds = λ id r is. ap (passes cancel_key_tests (Int (pos id.server) ∷ Int (pos id.n) ∷ [])) is ∙ id_test (cancel_in r).server (cancel_in r).n id;
+  same_key = λ id c h. among_one (cancel_form.key c) id h;
+  own_key = λ x y same. one_among (cancel_form.key y) (cancel_form.key x) same;
+  terms = put_cancel_terms;
+  width = 9;
+  given = λ c. refl;
+  fresh = λ c. cast_cancel Null c cast_null;
+  fits = λ c id. cast_cancel (Int id) c (cast_int id);
+  clashes = λ c id r low. clash_two (equal Binary (rowid r) (Int id)) (equal Binary (column r 1) (Int (pos c.server))) (equal Binary (column r 2) (Int (pos c.n))) (equal_apart (rowid r) (Int id) low);
   alone = λ db. refl;
   uncounted = refl;
   free = λ _ _. refl;

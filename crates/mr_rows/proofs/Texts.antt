@@ -120,99 +120,27 @@ pub all_vector_is : MeansQuery all_vector_text (Select (program_of 4 [] vector_c
 unfolding understood everything
 all_vector_is = ((refl, (refl, refl)), refl)
 
--- ---- write_log
+-- ---- write_log and undo, which have no rows
 
-abbrev pub put_log_text : List ℕ
-put_log_text = codes "INSERT OR REPLACE INTO write_log (server, n, tm, room, length, choices, title, seq) VALUES (?1, ?2, ?3, ?4, ?5, ?6, ?7, ?8)"
+abbrev pub server_columns : List Term
+server_columns = col 1 1 ∷ []
 
-abbrev pub put_log_terms : List Term
-put_log_terms = lit Null ∷ col 0 0 ∷ col 0 1 ∷ col 0 2 ∷ col 0 3 ∷ col 0 4 ∷ col 0 5 ∷ col 0 6 ∷ col 0 7 ∷ []
+abbrev pub server_names : List (List ℕ)
+server_names = codes "server" ∷ []
 
-pub put_log_is : Means put_log_text (InsertOr 3 Replace (Values put_log_terms 9) [])
+abbrev pub write_log_text : List ℕ
+write_log_text = codes "SELECT server FROM write_log"
+
+pub write_log_is : MeansQuery write_log_text (Select (program_of 6 [] server_columns) server_names)
 unfolding understood everything
-put_log_is = (refl, (refl, refl))
+write_log_is = ((refl, (refl, refl)), refl)
 
-abbrev pub log_key_tests : List Term
-log_key_tests = same (col 1 1) (col 0 0) ∷ same (col 1 2) (col 0 1) ∷ []
+abbrev pub undo_text : List ℕ
+undo_text = codes "SELECT server FROM undo"
 
-abbrev pub take_log_text : List ℕ
-take_log_text = codes "DELETE FROM write_log WHERE server = ?1 AND n = ?2"
-
-pub take_log_is : Means take_log_text (Delete 3 (program_of 6 log_key_tests (col 1 0 ∷ [])))
+pub undo_is : MeansQuery undo_text (Select (program_of 8 [] server_columns) server_names)
 unfolding understood everything
-take_log_is = (refl, (refl, refl))
-
-abbrev pub log_columns : List Term
-log_columns = col 1 1 ∷ col 1 2 ∷ col 1 3 ∷ col 1 4 ∷ col 1 5 ∷ col 1 6 ∷ col 1 7 ∷ col 1 8 ∷ []
-
-abbrev pub log_names : List (List ℕ)
-log_names = codes "server" ∷ codes "n" ∷ codes "tm" ∷ codes "room" ∷ codes "length" ∷ codes "choices" ∷ codes "title" ∷ codes "seq" ∷ []
-
-abbrev pub all_log_text : List ℕ
-all_log_text = codes "SELECT server, n, tm, room, length, choices, title, seq FROM write_log"
-
-pub all_log_is : MeansQuery all_log_text (Select (program_of 6 [] log_columns) log_names)
-unfolding understood everything
-all_log_is = ((refl, (refl, refl)), refl)
-
-abbrev pub key_log_text : List ℕ
-key_log_text = codes "SELECT server, n, tm, room, length, choices, title, seq FROM write_log WHERE server = ?1 AND n = ?2"
-
-pub key_log_is : MeansQuery key_log_text (Select (program_of 6 log_key_tests log_columns) log_names)
-unfolding understood everything
-key_log_is = ((refl, (refl, refl)), refl)
-
-abbrev pub between_log_text : List ℕ
-between_log_text = codes "SELECT server, n, tm, room, length, choices, title, seq FROM write_log WHERE seq >= ?1 AND seq <= ?2"
-
-abbrev pub log_seq_tests : List Term
-log_seq_tests = at_least (col 1 8) (col 0 0) ∷ at_most (col 1 8) (col 0 1) ∷ []
-
-pub between_log_is : MeansQuery between_log_text (Select (program_of 6 log_seq_tests log_columns) log_names)
-unfolding understood everything
-between_log_is = ((refl, (refl, refl)), refl)
-
--- ---- undo
-
-abbrev pub put_undo_text : List ℕ
-put_undo_text = codes "INSERT OR REPLACE INTO undo (server, n, place) VALUES (?1, ?2, ?3)"
-
-abbrev pub put_undo_terms : List Term
-put_undo_terms = lit Null ∷ col 0 0 ∷ col 0 1 ∷ col 0 2 ∷ []
-
-pub put_undo_is : Means put_undo_text (InsertOr 4 Replace (Values put_undo_terms 4) [])
-unfolding understood everything
-put_undo_is = (refl, (refl, refl))
-
-abbrev pub undo_key_tests : List Term
-undo_key_tests = same (col 1 1) (col 0 0) ∷ same (col 1 2) (col 0 1) ∷ []
-
-abbrev pub take_undo_text : List ℕ
-take_undo_text = codes "DELETE FROM undo WHERE server = ?1 AND n = ?2"
-
-pub take_undo_is : Means take_undo_text (Delete 4 (program_of 8 undo_key_tests (col 1 0 ∷ [])))
-unfolding understood everything
-take_undo_is = (refl, (refl, refl))
-
-abbrev pub undo_columns : List Term
-undo_columns = col 1 1 ∷ col 1 2 ∷ col 1 3 ∷ []
-
-abbrev pub undo_names : List (List ℕ)
-undo_names = codes "server" ∷ codes "n" ∷ codes "place" ∷ []
-
-abbrev pub all_undo_text : List ℕ
-all_undo_text = codes "SELECT server, n, place FROM undo"
-
-pub all_undo_is : MeansQuery all_undo_text (Select (program_of 8 [] undo_columns) undo_names)
-unfolding understood everything
-all_undo_is = ((refl, (refl, refl)), refl)
-
-abbrev pub key_undo_text : List ℕ
-key_undo_text = codes "SELECT server, n, place FROM undo WHERE server = ?1 AND n = ?2"
-
-pub key_undo_is : MeansQuery key_undo_text (Select (program_of 8 undo_key_tests undo_columns) undo_names)
-unfolding understood everything
-key_undo_is = ((refl, (refl, refl)), refl)
+undo_is = ((refl, (refl, refl)), refl)
 
 -- ---- booking
 
@@ -317,3 +245,152 @@ key_error_text = codes "SELECT room, day, start, stop, server, n, title, tm, seq
 pub key_error_is : MeansQuery key_error_text (Select (program_of 12 error_key_tests error_columns) error_names)
 unfolding understood everything
 key_error_is = ((refl, (refl, refl)), refl)
+
+-- ---- log
+
+abbrev pub put_log_text : List ℕ
+put_log_text = codes "INSERT OR REPLACE INTO log (server, n, tm, room, kind, length, choices, title, tserver, tn, place, seq) VALUES (?1, ?2, ?3, ?4, ?5, ?6, ?7, ?8, ?9, ?10, ?11, ?12)"
+
+abbrev pub put_log_terms : List Term
+put_log_terms = lit Null ∷ col 0 0 ∷ col 0 1 ∷ col 0 2 ∷ col 0 3 ∷ col 0 4 ∷ col 0 5 ∷ col 0 6 ∷ col 0 7 ∷ col 0 8 ∷ col 0 9 ∷ col 0 10 ∷ col 0 11 ∷ []
+
+pub put_log_is : Means put_log_text (InsertOr 7 Replace (Values put_log_terms 13) [])
+unfolding understood everything
+put_log_is = (refl, (refl, refl))
+
+abbrev pub log_key_tests : List Term
+log_key_tests = same (col 1 1) (col 0 0) ∷ same (col 1 2) (col 0 1) ∷ []
+
+abbrev pub take_log_text : List ℕ
+take_log_text = codes "DELETE FROM log WHERE server = ?1 AND n = ?2"
+
+pub take_log_is : Means take_log_text (Delete 7 (program_of 14 log_key_tests (col 1 0 ∷ [])))
+unfolding understood everything
+take_log_is = (refl, (refl, refl))
+
+abbrev pub log_columns : List Term
+log_columns = col 1 1 ∷ col 1 2 ∷ col 1 3 ∷ col 1 4 ∷ col 1 5 ∷ col 1 6 ∷ col 1 7 ∷ col 1 8 ∷ col 1 9 ∷ col 1 10 ∷ col 1 11 ∷ col 1 12 ∷ []
+
+abbrev pub log_names : List (List ℕ)
+log_names = codes "server" ∷ codes "n" ∷ codes "tm" ∷ codes "room" ∷ codes "kind" ∷ codes "length" ∷ codes "choices" ∷ codes "title" ∷ codes "tserver" ∷ codes "tn" ∷ codes "place" ∷ codes "seq" ∷ []
+
+abbrev pub all_log_text : List ℕ
+all_log_text = codes "SELECT server, n, tm, room, kind, length, choices, title, tserver, tn, place, seq FROM log"
+
+pub all_log_is : MeansQuery all_log_text (Select (program_of 14 [] log_columns) log_names)
+unfolding understood everything
+all_log_is = ((refl, (refl, refl)), refl)
+
+abbrev pub key_log_text : List ℕ
+key_log_text = codes "SELECT server, n, tm, room, kind, length, choices, title, tserver, tn, place, seq FROM log WHERE server = ?1 AND n = ?2"
+
+pub key_log_is : MeansQuery key_log_text (Select (program_of 14 log_key_tests log_columns) log_names)
+unfolding understood everything
+key_log_is = ((refl, (refl, refl)), refl)
+
+abbrev pub log_seq_tests : List Term
+log_seq_tests = at_least (col 1 12) (col 0 0) ∷ at_most (col 1 12) (col 0 1) ∷ []
+
+abbrev pub between_log_text : List ℕ
+between_log_text = codes "SELECT server, n, tm, room, kind, length, choices, title, tserver, tn, place, seq FROM log WHERE seq >= ?1 AND seq <= ?2"
+
+pub between_log_is : MeansQuery between_log_text (Select (program_of 14 log_seq_tests log_columns) log_names)
+unfolding understood everything
+between_log_is = ((refl, (refl, refl)), refl)
+
+-- ---- cancelled
+
+abbrev pub put_cancelled_text : List ℕ
+put_cancelled_text = codes "INSERT OR REPLACE INTO cancelled (room, day, start, stop, server, n, title, committed, bserver, bn) VALUES (?1, ?2, ?3, ?4, ?5, ?6, ?7, ?8, ?9, ?10)"
+
+abbrev pub put_cancelled_terms : List Term
+put_cancelled_terms = lit Null ∷ col 0 0 ∷ col 0 1 ∷ col 0 2 ∷ col 0 3 ∷ col 0 4 ∷ col 0 5 ∷ col 0 6 ∷ col 0 7 ∷ col 0 8 ∷ col 0 9 ∷ []
+
+pub put_cancelled_is : Means put_cancelled_text (InsertOr 8 Replace (Values put_cancelled_terms 11) [])
+unfolding understood everything
+put_cancelled_is = (refl, (refl, refl))
+
+abbrev pub cancelled_key_tests : List Term
+cancelled_key_tests = same (col 1 5) (col 0 0) ∷ same (col 1 6) (col 0 1) ∷ []
+
+abbrev pub take_cancelled_text : List ℕ
+take_cancelled_text = codes "DELETE FROM cancelled WHERE server = ?1 AND n = ?2"
+
+pub take_cancelled_is : Means take_cancelled_text (Delete 8 (program_of 16 cancelled_key_tests (col 1 0 ∷ [])))
+unfolding understood everything
+take_cancelled_is = (refl, (refl, refl))
+
+abbrev pub cancelled_columns : List Term
+cancelled_columns = col 1 1 ∷ col 1 2 ∷ col 1 3 ∷ col 1 4 ∷ col 1 5 ∷ col 1 6 ∷ col 1 7 ∷ col 1 8 ∷ col 1 9 ∷ col 1 10 ∷ []
+
+abbrev pub cancelled_names : List (List ℕ)
+cancelled_names = codes "room" ∷ codes "day" ∷ codes "start" ∷ codes "stop" ∷ codes "server" ∷ codes "n" ∷ codes "title" ∷ codes "committed" ∷ codes "bserver" ∷ codes "bn" ∷ []
+
+abbrev pub all_cancelled_text : List ℕ
+all_cancelled_text = codes "SELECT room, day, start, stop, server, n, title, committed, bserver, bn FROM cancelled"
+
+pub all_cancelled_is : MeansQuery all_cancelled_text (Select (program_of 16 [] cancelled_columns) cancelled_names)
+unfolding understood everything
+all_cancelled_is = ((refl, (refl, refl)), refl)
+
+abbrev pub cancelled_room_tests : List Term
+cancelled_room_tests = same (col 1 1) (col 0 0) ∷ []
+
+abbrev pub room_cancelled_text : List ℕ
+room_cancelled_text = codes "SELECT room, day, start, stop, server, n, title, committed, bserver, bn FROM cancelled WHERE room = ?1"
+
+pub room_cancelled_is : MeansQuery room_cancelled_text (Select (program_of 16 cancelled_room_tests cancelled_columns) cancelled_names)
+unfolding understood everything
+room_cancelled_is = ((refl, (refl, refl)), refl)
+
+abbrev pub key_cancelled_text : List ℕ
+key_cancelled_text = codes "SELECT room, day, start, stop, server, n, title, committed, bserver, bn FROM cancelled WHERE server = ?1 AND n = ?2"
+
+pub key_cancelled_is : MeansQuery key_cancelled_text (Select (program_of 16 cancelled_key_tests cancelled_columns) cancelled_names)
+unfolding understood everything
+key_cancelled_is = ((refl, (refl, refl)), refl)
+
+-- ---- cancel
+
+abbrev pub put_cancel_text : List ℕ
+put_cancel_text = codes "INSERT OR REPLACE INTO cancel (server, n, room, tserver, tn, done, tm, seq) VALUES (?1, ?2, ?3, ?4, ?5, ?6, ?7, ?8)"
+
+abbrev pub put_cancel_terms : List Term
+put_cancel_terms = lit Null ∷ col 0 0 ∷ col 0 1 ∷ col 0 2 ∷ col 0 3 ∷ col 0 4 ∷ col 0 5 ∷ col 0 6 ∷ col 0 7 ∷ []
+
+pub put_cancel_is : Means put_cancel_text (InsertOr 9 Replace (Values put_cancel_terms 9) [])
+unfolding understood everything
+put_cancel_is = (refl, (refl, refl))
+
+abbrev pub cancel_key_tests : List Term
+cancel_key_tests = same (col 1 1) (col 0 0) ∷ same (col 1 2) (col 0 1) ∷ []
+
+abbrev pub cancel_columns : List Term
+cancel_columns = col 1 1 ∷ col 1 2 ∷ col 1 3 ∷ col 1 4 ∷ col 1 5 ∷ col 1 6 ∷ col 1 7 ∷ col 1 8 ∷ []
+
+abbrev pub cancel_names : List (List ℕ)
+cancel_names = codes "server" ∷ codes "n" ∷ codes "room" ∷ codes "tserver" ∷ codes "tn" ∷ codes "done" ∷ codes "tm" ∷ codes "seq" ∷ []
+
+abbrev pub all_cancel_text : List ℕ
+all_cancel_text = codes "SELECT server, n, room, tserver, tn, done, tm, seq FROM cancel"
+
+pub all_cancel_is : MeansQuery all_cancel_text (Select (program_of 18 [] cancel_columns) cancel_names)
+unfolding understood everything
+all_cancel_is = ((refl, (refl, refl)), refl)
+
+abbrev pub cancel_room_tests : List Term
+cancel_room_tests = same (col 1 3) (col 0 0) ∷ []
+
+abbrev pub room_cancel_text : List ℕ
+room_cancel_text = codes "SELECT server, n, room, tserver, tn, done, tm, seq FROM cancel WHERE room = ?1"
+
+pub room_cancel_is : MeansQuery room_cancel_text (Select (program_of 18 cancel_room_tests cancel_columns) cancel_names)
+unfolding understood everything
+room_cancel_is = ((refl, (refl, refl)), refl)
+
+abbrev pub key_cancel_text : List ℕ
+key_cancel_text = codes "SELECT server, n, room, tserver, tn, done, tm, seq FROM cancel WHERE server = ?1 AND n = ?2"
+
+pub key_cancel_is : MeansQuery key_cancel_text (Select (program_of 18 cancel_key_tests cancel_columns) cancel_names)
+unfolding understood everything
+key_cancel_is = ((refl, (refl, refl)), refl)

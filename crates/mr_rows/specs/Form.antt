@@ -4,12 +4,12 @@ use Rattle.sqlite_value.specs.Order.{Row}
 use Rattle.mr_model.specs.Texts.{Text}
 use Rattle.mr_model.specs.Writes.{Id}
 use Rattle.mr_model.specs.Replica.{text_before}
-use Rattle.mr_model.specs.Tables.{MetaRow, VectorRow, LogRow, UndoRow, BookingRow, ErrorRow}
-use Rattle.mr_model.specs.Queries.{booking_id, error_id}
-use Rattle.mr_tables.specs.Change.{id_before, log_id, undo_id}
+use Rattle.mr_model.specs.Tables.{MetaRow, VectorRow, LogRow, BookingRow, ErrorRow, CancelledRow, CancelRow}
+use Rattle.mr_model.specs.Queries.{booking_id, error_id, cancelled_id, cancel_id}
+use Rattle.mr_tables.specs.Change.{id_before, log_id}
 use Rattle.sqlite_schema.specs.declared.schema.Table.{Table}
-use Rattle.mr_rows.specs.Schema.{meta_table, room_table, vector_table, log_table, undo_table, booking_table, error_table}
-use Rattle.mr_rows.specs.Cells.{meta_cells, meta_in, room_cells, room_in, vector_cells, vector_in, log_cells, log_in, undo_cells, undo_in, booking_cells, booking_in, error_cells, error_in}
+use Rattle.mr_rows.specs.Schema.{meta_table, room_table, vector_table, booking_table, error_table, log_table, cancelled_table, cancel_table}
+use Rattle.mr_rows.specs.Cells.{meta_cells, meta_in, room_cells, room_in, vector_cells, vector_in, log_cells, log_in, booking_cells, booking_in, error_cells, error_in, cancelled_cells, cancelled_in, cancel_cells, cancel_in}
 
 -- plain rows R with keys K
 pub record Form (R K : Type 0) : Type 0 where
@@ -29,14 +29,18 @@ room_form = record { table = record room_table { tree = 2 }; cells = room_cells;
 abbrev pub vector_form : Form VectorRow ℕ
 vector_form = record { table = record vector_table { tree = 4 }; cells = vector_cells; row_in = vector_in; key = λ row. row.server; before = nat_lt }
 
-abbrev pub log_form : Form LogRow Id
-log_form = record { table = record log_table { tree = 6 }; cells = log_cells; row_in = log_in; key = log_id; before = id_before }
-
-abbrev pub undo_form : Form UndoRow Id
-undo_form = record { table = record undo_table { tree = 8 }; cells = undo_cells; row_in = undo_in; key = undo_id; before = id_before }
-
 abbrev pub booking_form : Form BookingRow Id
 booking_form = record { table = record booking_table { tree = 10 }; cells = booking_cells; row_in = booking_in; key = booking_id; before = id_before }
 
 abbrev pub error_form : Form ErrorRow Id
 error_form = record { table = record error_table { tree = 12 }; cells = error_cells; row_in = error_in; key = error_id; before = id_before }
+
+-- the trees 6 and 8 are those of `write_log` and `undo`
+abbrev pub log_form : Form LogRow Id
+log_form = record { table = record log_table { tree = 14 }; cells = log_cells; row_in = log_in; key = log_id; before = id_before }
+
+abbrev pub cancelled_form : Form CancelledRow Id
+cancelled_form = record { table = record cancelled_table { tree = 16 }; cells = cancelled_cells; row_in = cancelled_in; key = cancelled_id; before = id_before }
+
+abbrev pub cancel_form : Form CancelRow Id
+cancel_form = record { table = record cancel_table { tree = 18 }; cells = cancel_cells; row_in = cancel_in; key = cancel_id; before = id_before }

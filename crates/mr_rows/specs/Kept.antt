@@ -12,7 +12,7 @@ use Rattle.mr_model.specs.Tables.{MetaRow, Tables}
 use Rattle.mr_tables.specs.Change.{put_all}
 use Rattle.mr_rows.specs.Schema.{our_schema}
 use Rattle.mr_rows.specs.Shelf.{IsShelf}
-use Rattle.mr_rows.specs.Form.{Form, meta_form, room_form, vector_form, log_form, undo_form, booking_form, error_form}
+use Rattle.mr_rows.specs.Form.{Form, meta_form, room_form, vector_form, log_form, booking_form, error_form, cancelled_form, cancel_form}
 
 -- ---- one table
 
@@ -36,10 +36,14 @@ pub record AreHeld (trees : Trees) : Type 0 where
   pub meta : IsHeld meta_form (trees 0)
   pub room : IsHeld room_form (trees 2)
   pub vector : IsHeld vector_form (trees 4)
-  pub write_log : IsHeld log_form (trees 6)
-  pub undo : IsHeld undo_form (trees 8)
+  pub log : IsHeld log_form (trees 14)
   pub booking : IsHeld booking_form (trees 10)
   pub errorlog : IsHeld error_form (trees 12)
+  pub cancelled : IsHeld cancelled_form (trees 16)
+  pub cancels : IsHeld cancel_form (trees 18)
+  -- of the first schema's logs nothing is left
+  pub no_write_log : trees 6 ≡ []
+  pub no_undo : trees 8 ≡ []
 
 pub record IsOurs (db : Database) : Type 0 where
   pub schema : db.schema ≡ our_schema
@@ -56,10 +60,11 @@ tables_in trees = record {
   meta = first_meta (in_order meta_form (trees 0));
   room = in_order room_form (trees 2);
   vector = in_order vector_form (trees 4);
-  write_log = in_order log_form (trees 6);
-  undo = in_order undo_form (trees 8);
+  log = in_order log_form (trees 14);
   booking = in_order booking_form (trees 10);
   errorlog = in_order error_form (trees 12);
+  cancelled = in_order cancelled_form (trees 16);
+  cancels = in_order cancel_form (trees 18);
 }
 
 -- ---- within a transaction

@@ -3,23 +3,23 @@ use Rattle.std.specs.Prelude.{nat_lt, List}
 use Rattle.mr_model.specs.Texts.{Text}
 use Rattle.mr_model.specs.Writes.{Id}
 use Rattle.mr_model.specs.Replica.{text_before}
-use Rattle.mr_model.specs.Tables.{MetaRow, VectorRow, LogRow, UndoRow, BookingRow, ErrorRow, Tables}
-use Rattle.mr_model.specs.Queries.{booking_id, error_id}
-use Rattle.mr_tables.specs.Change.{ChangeView, put_all, without, id_before, log_id, undo_id}
+use Rattle.mr_model.specs.Tables.{MetaRow, VectorRow, LogRow, BookingRow, ErrorRow, CancelledRow, CancelRow, Tables}
+use Rattle.mr_model.specs.Queries.{booking_id, error_id, cancelled_id, cancel_id}
+use Rattle.mr_tables.specs.Change.{ChangeView, put_all, without, id_before, log_id}
 
 -- ---- rows taken away
 
 abbrev pub take_logs : List Id → Tables → Tables
-take_logs gone t = record t { write_log = without log_id gone t.write_log }
-
-abbrev pub take_undos : List Id → Tables → Tables
-take_undos gone t = record t { undo = without undo_id gone t.undo }
+take_logs gone t = record t { log = without log_id gone t.log }
 
 abbrev pub take_bookings : List Id → Tables → Tables
 take_bookings gone t = record t { booking = without booking_id gone t.booking }
 
 abbrev pub take_errors : List Id → Tables → Tables
 take_errors gone t = record t { errorlog = without error_id gone t.errorlog }
+
+abbrev pub take_cancelled : List Id → Tables → Tables
+take_cancelled gone t = record t { cancelled = without cancelled_id gone t.cancelled }
 
 -- ---- rows put
 
@@ -33,10 +33,7 @@ abbrev pub put_vector : List VectorRow → Tables → Tables
 put_vector rows t = record t { vector = put_all nat_lt (λ row. row.server) rows t.vector }
 
 abbrev pub put_logs : List LogRow → Tables → Tables
-put_logs rows t = record t { write_log = put_all id_before log_id rows t.write_log }
-
-abbrev pub put_undos : List UndoRow → Tables → Tables
-put_undos rows t = record t { undo = put_all id_before undo_id rows t.undo }
+put_logs rows t = record t { log = put_all id_before log_id rows t.log }
 
 abbrev pub put_bookings : List BookingRow → Tables → Tables
 put_bookings rows t = record t { booking = put_all id_before booking_id rows t.booking }
@@ -44,25 +41,28 @@ put_bookings rows t = record t { booking = put_all id_before booking_id rows t.b
 abbrev pub put_errors : List ErrorRow → Tables → Tables
 put_errors rows t = record t { errorlog = put_all id_before error_id rows t.errorlog }
 
--- ---- in the order of a change
+abbrev pub put_cancelled : List CancelledRow → Tables → Tables
+put_cancelled rows t = record t { cancelled = put_all id_before cancelled_id rows t.cancelled }
 
-abbrev pub logs_taken : ChangeView → Tables → Tables
-logs_taken c t = take_undos c.dropped (take_logs c.dropped t)
+abbrev pub put_cancels : List CancelRow → Tables → Tables
+put_cancels rows t = record t { cancels = put_all id_before cancel_id rows t.cancels }
+
+-- ---- in the order of a change; rows of cancels are never taken away
 
 abbrev pub board_taken : ChangeView → Tables → Tables
 board_taken c t = take_errors c.unlogged (take_bookings c.unbooked t)
 
 abbrev pub rows_taken : ChangeView → Tables → Tables
-rows_taken c t = board_taken c (logs_taken c t)
+rows_taken c t = take_cancelled c.uncancelled (board_taken c (take_logs c.dropped t))
 
 abbrev pub heads_put : ChangeView → Tables → Tables
 heads_put c t = put_vector c.vector (put_rooms c.room (put_meta c.meta t))
 
-abbrev pub logs_put : ChangeView → Tables → Tables
-logs_put c t = put_undos c.undo (put_logs c.write_log t)
-
 abbrev pub board_put : ChangeView → Tables → Tables
 board_put c t = put_errors c.errorlog (put_bookings c.booking t)
 
+abbrev pub cancels_put : ChangeView → Tables → Tables
+cancels_put c t = put_cancels c.cancels (put_cancelled c.cancelled t)
+
 abbrev pub rows_put : ChangeView → Tables → Tables
-rows_put c t = board_put c (logs_put c (heads_put c t))
+rows_put c t = cancels_put c (board_put c (put_logs c.log (heads_put c t)))

@@ -1,4 +1,6 @@
 -- The tables of the database. Each key is declared so that no column is another name of the rowid.
+-- Those of the first schema come first, `write_log` and `undo` among them, which have no rows in the second: so a database that moved up
+-- from the first schema has the tables of one that was made anew.
 use Rattle.std.specs.Prelude.{true, false, List, [], ◌∷◌, None, codes, ℕ}
 use Rattle.sqlite.specs.Collation.TheVariants.{Binary}
 use Rattle.sqlite.specs.declared.types.Value.TheVariants.{Null}
@@ -47,8 +49,8 @@ room_text = codes "CREATE TABLE room (name TEXT NOT NULL PRIMARY KEY) STRICT"
 abbrev pub vector_text : List ℕ
 vector_text = codes "CREATE TABLE vector (server INTEGER NOT NULL UNIQUE, n INTEGER NOT NULL, tm INTEGER NOT NULL, committed INTEGER NOT NULL) STRICT"
 
-abbrev pub log_text : List ℕ
-log_text = codes "CREATE TABLE write_log (server INTEGER NOT NULL, n INTEGER NOT NULL, tm INTEGER NOT NULL, room TEXT NOT NULL, length INTEGER NOT NULL, choices TEXT NOT NULL, title TEXT NOT NULL, seq INTEGER NOT NULL, PRIMARY KEY (server, n)) STRICT"
+abbrev pub write_log_text : List ℕ
+write_log_text = codes "CREATE TABLE write_log (server INTEGER NOT NULL, n INTEGER NOT NULL, tm INTEGER NOT NULL, room TEXT NOT NULL, length INTEGER NOT NULL, choices TEXT NOT NULL, title TEXT NOT NULL, seq INTEGER NOT NULL, PRIMARY KEY (server, n)) STRICT"
 
 abbrev pub undo_text : List ℕ
 undo_text = codes "CREATE TABLE undo (server INTEGER NOT NULL, n INTEGER NOT NULL, place INTEGER NOT NULL, PRIMARY KEY (server, n)) STRICT"
@@ -58,6 +60,15 @@ booking_text = codes "CREATE TABLE booking (room TEXT NOT NULL, day TEXT NOT NUL
 
 abbrev pub error_text : List ℕ
 error_text = codes "CREATE TABLE errorlog (room TEXT NOT NULL, day TEXT NOT NULL, start INTEGER NOT NULL, stop INTEGER NOT NULL, server INTEGER NOT NULL, n INTEGER NOT NULL, title TEXT NOT NULL, tm INTEGER NOT NULL, seq INTEGER NOT NULL, PRIMARY KEY (server, n)) STRICT"
+
+abbrev pub log_text : List ℕ
+log_text = codes "CREATE TABLE log (server INTEGER NOT NULL, n INTEGER NOT NULL, tm INTEGER NOT NULL, room TEXT NOT NULL, kind INTEGER NOT NULL, length INTEGER NOT NULL, choices TEXT NOT NULL, title TEXT NOT NULL, tserver INTEGER NOT NULL, tn INTEGER NOT NULL, place INTEGER NOT NULL, seq INTEGER NOT NULL, PRIMARY KEY (server, n)) STRICT"
+
+abbrev pub cancelled_text : List ℕ
+cancelled_text = codes "CREATE TABLE cancelled (room TEXT NOT NULL, day TEXT NOT NULL, start INTEGER NOT NULL, stop INTEGER NOT NULL, server INTEGER NOT NULL, n INTEGER NOT NULL, title TEXT NOT NULL, committed INTEGER NOT NULL, bserver INTEGER NOT NULL, bn INTEGER NOT NULL, PRIMARY KEY (server, n)) STRICT"
+
+abbrev pub cancel_text : List ℕ
+cancel_text = codes "CREATE TABLE cancel (server INTEGER NOT NULL, n INTEGER NOT NULL, room TEXT NOT NULL, tserver INTEGER NOT NULL, tn INTEGER NOT NULL, done INTEGER NOT NULL, tm INTEGER NOT NULL, seq INTEGER NOT NULL, PRIMARY KEY (server, n)) STRICT"
 
 -- ---- the tables that these texts define
 
@@ -73,8 +84,8 @@ room_table = table_of (codes "room") (text (codes "name") ∷ []) (1 ∷ []) (1 
 abbrev pub vector_table : Table
 vector_table = table_of (codes "vector") (int (codes "server") ∷ int (codes "n") ∷ int (codes "tm") ∷ int (codes "committed") ∷ []) [] (1 ∷ [])
 
-abbrev pub log_table : Table
-log_table =
+abbrev pub write_log_table : Table
+write_log_table =
     table_of (codes "write_log")
     (int (codes "server") ∷ int (codes "n") ∷ int (codes "tm") ∷ text (codes "room") ∷ int (codes "length") ∷ text (codes "choices") ∷ text (codes "title") ∷ int (codes "seq") ∷ [])
     (1 ∷ 2 ∷ []) (1 ∷ 2 ∷ [])
@@ -94,7 +105,25 @@ error_table =
     (text (codes "room") ∷ text (codes "day") ∷ int (codes "start") ∷ int (codes "stop") ∷ int (codes "server") ∷ int (codes "n") ∷ text (codes "title") ∷ int (codes "tm") ∷ int (codes "seq") ∷ [])
     (5 ∷ 6 ∷ []) (5 ∷ 6 ∷ [])
 
--- ---- the schema, table by table
+abbrev pub log_table : Table
+log_table =
+    table_of (codes "log")
+    (int (codes "server") ∷ int (codes "n") ∷ int (codes "tm") ∷ text (codes "room") ∷ int (codes "kind") ∷ int (codes "length") ∷ text (codes "choices") ∷ text (codes "title") ∷ int (codes "tserver") ∷ int (codes "tn") ∷ int (codes "place") ∷ int (codes "seq") ∷ [])
+    (1 ∷ 2 ∷ []) (1 ∷ 2 ∷ [])
+
+abbrev pub cancelled_table : Table
+cancelled_table =
+    table_of (codes "cancelled")
+    (text (codes "room") ∷ text (codes "day") ∷ int (codes "start") ∷ int (codes "stop") ∷ int (codes "server") ∷ int (codes "n") ∷ text (codes "title") ∷ int (codes "committed") ∷ int (codes "bserver") ∷ int (codes "bn") ∷ [])
+    (5 ∷ 6 ∷ []) (5 ∷ 6 ∷ [])
+
+abbrev pub cancel_table : Table
+cancel_table =
+    table_of (codes "cancel")
+    (int (codes "server") ∷ int (codes "n") ∷ text (codes "room") ∷ int (codes "tserver") ∷ int (codes "tn") ∷ int (codes "done") ∷ int (codes "tm") ∷ int (codes "seq") ∷ [])
+    (1 ∷ 2 ∷ []) (1 ∷ 2 ∷ [])
+
+-- ---- the schemas, table by table
 
 abbrev pub no_schema : Schema
 no_schema = record { tables = []; indexes = []; views = [] }
@@ -108,14 +137,24 @@ with_room = created with_meta room_table
 abbrev pub with_vector : Schema
 with_vector = created with_room vector_table
 
-abbrev pub with_log : Schema
-with_log = created with_vector log_table
+abbrev pub with_write_log : Schema
+with_write_log = created with_vector write_log_table
 
 abbrev pub with_undo : Schema
-with_undo = created with_log undo_table
+with_undo = created with_write_log undo_table
 
 abbrev pub with_booking : Schema
 with_booking = created with_undo booking_table
 
+-- the whole first schema
+abbrev pub first_schema : Schema
+first_schema = created with_booking error_table
+
+abbrev pub with_log : Schema
+with_log = created first_schema log_table
+
+abbrev pub with_cancelled : Schema
+with_cancelled = created with_log cancelled_table
+
 abbrev pub our_schema : Schema
-our_schema = created with_booking error_table
+our_schema = created with_cancelled cancel_table

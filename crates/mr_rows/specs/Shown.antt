@@ -6,7 +6,7 @@ use Rattle.sqlite_value.specs.declared.value.Value.TheVariants.{Null}
 use Rattle.sqlite_value.specs.Order.{Row, column}
 use Rattle.sqlite_trees.specs.Tree.{Trees}
 use Rattle.mr_model.specs.Tables.{MetaRow}
-use Rattle.mr_rows.specs.Form.{Form, meta_form, room_form, vector_form, log_form, undo_form, booking_form, error_form}
+use Rattle.mr_rows.specs.Form.{Form, meta_form, room_form, vector_form, log_form, booking_form, error_form, cancelled_form, cancel_form}
 use Rattle.mr_rows.specs.Cells.{meta_in}
 
 -- so many columns of a row, from one on
@@ -25,15 +25,18 @@ IsStoredAs f r = f.cells (f.row_in r) ≡ columns_from 1 (length f.table.columns
 abbrev pub AreStoredAs : {R K : Type 0} → Form R K → Trees → Type 0
 AreStoredAs f trees = AllByRecursion (IsStoredAs f) (trees f.table.tree)
 
--- all tables have rows of their own
+-- all tables have rows of their own, and the first schema's logs have none
 pub record AreOurRows (trees : Trees) : Type 0 where
   pub meta : AreStoredAs meta_form trees
   pub room : AreStoredAs room_form trees
   pub vector : AreStoredAs vector_form trees
-  pub write_log : AreStoredAs log_form trees
-  pub undo : AreStoredAs undo_form trees
+  pub log : AreStoredAs log_form trees
   pub booking : AreStoredAs booking_form trees
   pub errorlog : AreStoredAs error_form trees
+  pub cancelled : AreStoredAs cancelled_form trees
+  pub cancels : AreStoredAs cancel_form trees
+  pub no_write_log : trees 6 ≡ []
+  pub no_undo : trees 8 ≡ []
 
 abbrev pub listed : {X : Type 0} → Option X → List X
 listed None = []

@@ -3,9 +3,9 @@ use Rattle.std.proofs.Common.{◌≡◌, List, [], ◌∷◌, Bool, true, false,
 use Rattle.mr_model.specs.Writes.{Id, same_id}
 use Rattle.mr_model.specs.Replica.{is_among}
 use Rattle.mr_model.specs.Tables.{Tables}
-use Rattle.mr_model.specs.Queries.{booking_id, error_id}
-use Rattle.mr_tables.specs.Change.{without, log_id, undo_id}
-use Rattle.mr_rows.specs.Parts.{take_logs, take_undos, take_bookings, take_errors}
+use Rattle.mr_model.specs.Queries.{booking_id, error_id, cancelled_id}
+use Rattle.mr_tables.specs.Change.{without, log_id}
+use Rattle.mr_rows.specs.Parts.{take_logs, take_bookings, take_errors, take_cancelled}
 
 -- the first, and then the others
 without_more : {R : Type 0} (key : R → Id) (id : Id) (ids : List Id) (rows : List R) → without key (id ∷ ids) rows ≡ without key ids (without key (id ∷ []) rows)
@@ -26,16 +26,10 @@ without_none key (row ∷ rows) = ap (λ more. row ∷ more) (without_none key r
 -- ---- from each table
 
 pub logs_none : (t : Tables) → take_logs [] t ≡ t
-logs_none t = ap (λ rows. record t { write_log = rows }) (without_none log_id t.write_log)
+logs_none t = ap (λ rows. record t { log = rows }) (without_none log_id t.log)
 
 pub logs_more : (id : Id) (ids : List Id) (t : Tables) → take_logs (id ∷ ids) t ≡ take_logs ids (take_logs (id ∷ []) t)
-logs_more id ids t = ap (λ rows. record t { write_log = rows }) (without_more log_id id ids t.write_log)
-
-pub undos_none : (t : Tables) → take_undos [] t ≡ t
-undos_none t = ap (λ rows. record t { undo = rows }) (without_none undo_id t.undo)
-
-pub undos_more : (id : Id) (ids : List Id) (t : Tables) → take_undos (id ∷ ids) t ≡ take_undos ids (take_undos (id ∷ []) t)
-undos_more id ids t = ap (λ rows. record t { undo = rows }) (without_more undo_id id ids t.undo)
+logs_more id ids t = ap (λ rows. record t { log = rows }) (without_more log_id id ids t.log)
 
 pub bookings_none : (t : Tables) → take_bookings [] t ≡ t
 bookings_none t = ap (λ rows. record t { booking = rows }) (without_none booking_id t.booking)
@@ -48,3 +42,9 @@ errors_none t = ap (λ rows. record t { errorlog = rows }) (without_none error_i
 
 pub errors_more : (id : Id) (ids : List Id) (t : Tables) → take_errors (id ∷ ids) t ≡ take_errors ids (take_errors (id ∷ []) t)
 errors_more id ids t = ap (λ rows. record t { errorlog = rows }) (without_more error_id id ids t.errorlog)
+
+pub cancelled_none : (t : Tables) → take_cancelled [] t ≡ t
+cancelled_none t = ap (λ rows. record t { cancelled = rows }) (without_none cancelled_id t.cancelled)
+
+pub cancelled_more : (id : Id) (ids : List Id) (t : Tables) → take_cancelled (id ∷ ids) t ≡ take_cancelled ids (take_cancelled (id ∷ []) t)
+cancelled_more id ids t = ap (λ rows. record t { cancelled = rows }) (without_more cancelled_id id ids t.cancelled)

@@ -6,7 +6,9 @@ ghost use Rattle.mr_rows.specs.Reads.{Reads};
 use crate::meta_row::the_meta;
 use crate::whole::all_rows;
 use mr_base::RoomName;
-use mr_tables::{BookingRow, ErrorRow, LogRow, MetaRow, Tables, VectorRow, WriteUndoRow};
+use mr_tables::{
+    BookingRow, CancelRow, CancelledRow, ErrorRow, LogRow, MetaRow, Tables, VectorRow,
+};
 use sqlite::{Alter, Connection, Error};
 use std::alloc::Global;
 
@@ -25,20 +27,6 @@ pub fn read_heads<S: Alter>(
     Ok((meta, room, vector))
 }
 
-/// Both logs.
-fn read_logs<S: Alter>(
-    conn: &mut Connection<S>,
-    alloc: Global,
-) -> Result<(Vec<LogRow>, Vec<WriteUndoRow>), Error>
-    requires autocommit { conn.old.in_transaction ≡ false }
-    ensures autocommit { conn.new.in_transaction ≡ false }
-    ensures reads { Reads (state S.Store conn.old) (state S.Store conn.new) result (λ r. (r.0.items ≡ (tables_in (state S.Store conn.old).now.trees).write_log) × (r.1.items ≡ (tables_in (state S.Store conn.old).now.trees).undo)) }
-{
-    let write_log = all_rows(conn, alloc)?;
-    let undo = all_rows(conn, alloc)?;
-    Ok((write_log, undo))
-}
-
 /// Both tables of the board.
 fn read_board<S: Alter>(
     conn: &mut Connection<S>,
@@ -53,6 +41,20 @@ fn read_board<S: Alter>(
     Ok((booking, errorlog))
 }
 
+/// Both tables that cancels fill.
+fn read_cancels<S: Alter>(
+    conn: &mut Connection<S>,
+    alloc: Global,
+) -> Result<(Vec<CancelledRow>, Vec<CancelRow>), Error>
+    requires autocommit { conn.old.in_transaction ≡ false }
+    ensures autocommit { conn.new.in_transaction ≡ false }
+    ensures reads { Reads (state S.Store conn.old) (state S.Store conn.new) result (λ r. (r.0.items ≡ (tables_in (state S.Store conn.old).now.trees).cancelled) × (r.1.items ≡ (tables_in (state S.Store conn.old).now.trees).cancels)) }
+{
+    let cancelled = all_rows(conn, alloc)?;
+    let cancels = all_rows(conn, alloc)?;
+    Ok((cancelled, cancels))
+}
+
 /// All tables.
 pub fn read_tables<S: Alter>(conn: &mut Connection<S>, alloc: Global) -> Result<Tables, Error>
     requires autocommit { conn.old.in_transaction ≡ false }
@@ -60,15 +62,17 @@ pub fn read_tables<S: Alter>(conn: &mut Connection<S>, alloc: Global) -> Result<
     ensures reads { Reads (state S.Store conn.old) (state S.Store conn.new) result (λ tables. tables ≡ tables_in (state S.Store conn.old).now.trees) }
 {
     let heads = read_heads(conn, alloc)?;
-    let logs = read_logs(conn, alloc)?;
+    let log = all_rows(conn, alloc)?;
     let board = read_board(conn, alloc)?;
+    let cancels = read_cancels(conn, alloc)?;
     Ok(Tables {
         meta: heads.0,
         room: heads.1,
         vector: heads.2,
-        write_log: logs.0,
-        undo: logs.1,
+        log,
         booking: board.0,
         errorlog: board.1,
+        cancelled: cancels.0,
+        cancels: cancels.1,
     })
 }

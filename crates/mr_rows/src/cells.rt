@@ -1,11 +1,11 @@
-ghost use Rattle.std.specs.Prelude.{◌≡◌, ◌≢◌, ℕ, ◌<◌, ◌≤◌, ◌^◌, ◌==◌, pos, length, IfOk, IfErr, string_bytes};
+ghost use Rattle.std.specs.Prelude.{◌≡◌, ◌≢◌, ℕ, ◌+◌, ◌<◌, ◌≤◌, ◌^◌, ◌==◌, pos, length, IfOk, IfErr, string_bytes};
 ghost use Rattle.sqlite_value.specs.declared.value.Value.TheVariants.{Int, Text};
 ghost use Rattle.sqlite_value.specs.Order.{column, bytes};
 ghost use Rattle.mr_model.specs.Calendar.{date_in, date_text};
 ghost use Rattle.mr_replay.specs.Places.{place_of};
 ghost use Rattle.mr_rows.specs.Cells.{mark, nat_of, whole_of, place_in, place_number};
 
-use mr_base::{Day, Refusal, RoomName, ServerId, Title};
+use mr_base::{Day, Refusal, RoomName, ServerId, Title, WriteId};
 use mr_replay::Place;
 use sqlite::types::Type;
 use sqlite::{Error, ErrorCode, Row};
@@ -106,6 +106,21 @@ pub(crate) fn read_count(row: &Row, at: usize) -> Result<u32, Error>
     Ok(count)
 }
 
+/// The id in this column and the next.
+pub(crate) fn read_id(row: &Row, at: usize) -> Result<WriteId, Error>
+    requires at { at < 100 }
+    ensures id { IfOk result (λ id. id ≡ record { server = nat_of (column row.now at); n = nat_of (column row.now (at + 1)) }) }
+    ensures server { IfOk result (λ id. column row.now at ≡ Int (pos id.server)) }
+    ensures count { IfOk result (λ id. column row.now (at + 1) ≡ Int (pos id.n)) }
+{
+    let server = read_server(row, at)?;
+    let n = read_count(row, at + 1)?;
+    match WriteId::new(server, n) {
+        Some(id) => Ok(id),
+        None => Err(Error::IntegralValueOutOfRange(at)),
+    }
+}
+
 /// The number in this column.
 pub(crate) fn read_u64(row: &Row, at: usize) -> Result<u64, Error>
     ensures number { IfOk result (λ number. number ≡ nat_of (column row.now at)) }
@@ -114,19 +129,19 @@ pub(crate) fn read_u64(row: &Row, at: usize) -> Result<u64, Error>
     row.get(at)
 }
 
-/// The place in this column: the number of its choice, or -1.
+/// The place in this column: the number of its choice, -1 for the error log, -2 and -3 for a cancel that is done or void.
 pub(crate) fn read_place(row: &Row, at: usize) -> Result<Place, Error>
     ensures place { IfOk result (λ place. place_of place ≡ place_in (whole_of (column row.now at))) }
     ensures cell { IfOk result (λ place. column row.now at ≡ Int (place_number (place_of place))) }
 {
     let number: i64 = row.get(at)?;
-    if number == -1 {
-        return Ok(Place::Logged);
+    match number {
+        0..=16 => Ok(Place::Taken(number as u32)),
+        -1 => Ok(Place::Logged),
+        -2 => Ok(Place::Done),
+        -3 => Ok(Place::Void),
+        _ => Err(Error::IntegralValueOutOfRange(at)),
     }
-    if number < 0 || number > u32::MAX as i64 {
-        return Err(Error::IntegralValueOutOfRange(at));
-    }
-    Ok(Place::Taken(number as u32))
 }
 
 /// The text in this column.

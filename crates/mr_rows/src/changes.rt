@@ -3,12 +3,12 @@ ghost use Rattle.sqlite.specs.State.{HasCleanDisk, Survives};
 ghost use Rattle.sqlite.specs.Held.{state};
 ghost use Rattle.mr_tables.specs.Change.{changed};
 ghost use Rattle.mr_rows.specs.Kept.{Makes, Applies, IsReached, tables_in};
-ghost use Rattle.mr_rows.specs.Parts.{logs_taken, board_taken, rows_taken, heads_put, logs_put, board_put, rows_put};
+ghost use Rattle.mr_rows.specs.Parts.{board_taken, rows_taken, heads_put, board_put, cancels_put, rows_put};
 
 use crate::puts::put_meta;
 use crate::stored_rows::{RequestRow, StoredRow};
 use mr_base::{RoomName, WriteId};
-use mr_tables::{BookingRow, Change, ErrorRow, LogRow, VectorRow, WriteUndoRow};
+use mr_tables::{BookingRow, CancelRow, CancelledRow, Change, ErrorRow, LogRow, VectorRow};
 use sqlite::{Alter, Connection, Error, Transaction};
 use std::alloc::Global;
 
@@ -41,16 +41,6 @@ fn put_all<R: StoredRow, S: Alter>(
     Ok(())
 }
 
-/// Takes rows away from both logs.
-fn take_from_logs<S: Alter>(tx: &mut Transaction<'_, S>, change: &Change) -> Result<(), Error>
-    ensures same_reference { tx.new.conn.ghost_name ≡ tx.old.conn.ghost_name }
-    ensures made { Makes (state S.Store tx.old.conn.now) (state S.Store tx.new.conn.now) (logs_taken change.now (tables_in (state S.Store tx.old.conn.now).now.trees)) result }
-    ensures survives { Survives (state S.Store tx.old.conn.now) (state S.Store tx.new.conn.now) (λ _. ⊥) }
-{
-    take_all::<LogRow, S>(tx, &change.dropped)?;
-    take_all::<WriteUndoRow, S>(tx, &change.dropped)
-}
-
 /// Takes rows away from both tables of a board.
 fn take_from_board<S: Alter>(tx: &mut Transaction<'_, S>, change: &Change) -> Result<(), Error>
     ensures same_reference { tx.new.conn.ghost_name ≡ tx.old.conn.ghost_name }
@@ -76,20 +66,6 @@ fn put_heads<S: Alter>(
     put_all::<VectorRow, S>(tx, alloc, &change.vector)
 }
 
-/// Puts rows into both logs.
-fn put_into_logs<S: Alter>(
-    tx: &mut Transaction<'_, S>,
-    alloc: Global,
-    change: &Change,
-) -> Result<(), Error>
-    ensures same_reference { tx.new.conn.ghost_name ≡ tx.old.conn.ghost_name }
-    ensures made { Makes (state S.Store tx.old.conn.now) (state S.Store tx.new.conn.now) (logs_put change.now (tables_in (state S.Store tx.old.conn.now).now.trees)) result }
-    ensures survives { Survives (state S.Store tx.old.conn.now) (state S.Store tx.new.conn.now) (λ _. ⊥) }
-{
-    put_all::<LogRow, S>(tx, alloc, &change.write_log)?;
-    put_all::<WriteUndoRow, S>(tx, alloc, &change.undo)
-}
-
 /// Puts rows into both tables of a board.
 fn put_into_board<S: Alter>(
     tx: &mut Transaction<'_, S>,
@@ -104,14 +80,29 @@ fn put_into_board<S: Alter>(
     put_all::<ErrorRow, S>(tx, alloc, &change.errorlog)
 }
 
+/// Puts rows into both tables that cancels fill.
+fn put_into_cancels<S: Alter>(
+    tx: &mut Transaction<'_, S>,
+    alloc: Global,
+    change: &Change,
+) -> Result<(), Error>
+    ensures same_reference { tx.new.conn.ghost_name ≡ tx.old.conn.ghost_name }
+    ensures made { Makes (state S.Store tx.old.conn.now) (state S.Store tx.new.conn.now) (cancels_put change.now (tables_in (state S.Store tx.old.conn.now).now.trees)) result }
+    ensures survives { Survives (state S.Store tx.old.conn.now) (state S.Store tx.new.conn.now) (λ _. ⊥) }
+{
+    put_all::<CancelledRow, S>(tx, alloc, &change.cancelled)?;
+    put_all::<CancelRow, S>(tx, alloc, &change.cancels)
+}
+
 /// Takes the rows away.
 fn take_rows<S: Alter>(tx: &mut Transaction<'_, S>, change: &Change) -> Result<(), Error>
     ensures same_reference { tx.new.conn.ghost_name ≡ tx.old.conn.ghost_name }
     ensures made { Makes (state S.Store tx.old.conn.now) (state S.Store tx.new.conn.now) (rows_taken change.now (tables_in (state S.Store tx.old.conn.now).now.trees)) result }
     ensures survives { Survives (state S.Store tx.old.conn.now) (state S.Store tx.new.conn.now) (λ _. ⊥) }
 {
-    take_from_logs(tx, change)?;
-    take_from_board(tx, change)
+    take_all::<LogRow, S>(tx, &change.dropped)?;
+    take_from_board(tx, change)?;
+    take_all::<CancelledRow, S>(tx, &change.uncancelled)
 }
 
 /// Puts the rows.
@@ -125,8 +116,9 @@ fn put_rows<S: Alter>(
     ensures survives { Survives (state S.Store tx.old.conn.now) (state S.Store tx.new.conn.now) (λ _. ⊥) }
 {
     put_heads(tx, alloc, change)?;
-    put_into_logs(tx, alloc, change)?;
-    put_into_board(tx, alloc, change)
+    put_all::<LogRow, S>(tx, alloc, &change.log)?;
+    put_into_board(tx, alloc, change)?;
+    put_into_cancels(tx, alloc, change)
 }
 
 /// Takes the rows away, and then puts the rows.

@@ -1,17 +1,17 @@
-ghost use Rattle.std.specs.Prelude.{◌≡◌, ◌∷◌, false, map, IfOk, OnOk};
+ghost use Rattle.std.specs.Prelude.{◌≡◌, [], ◌∷◌, false, map, IfOk, OnOk};
 ghost use Rattle.std.specs.List.{All};
 ghost use Rattle.sqlite_value.specs.declared.value.Value.TheVariants.{Null};
 ghost use Rattle.sqlite.specs.Held.{state};
 ghost use Rattle.mr_rows.specs.Cells.{meta_in};
-ghost use Rattle.mr_rows.specs.Form.{meta_form, room_form, vector_form, log_form, undo_form, booking_form, error_form};
+ghost use Rattle.mr_rows.specs.Form.{meta_form, room_form, vector_form, log_form, booking_form, error_form, cancelled_form, cancel_form};
 ghost use Rattle.mr_rows.specs.Shown.{IsShownAs, AreStoredAs, AreOurRows, IsMeta, listed};
 ghost use Rattle.mr_rows.specs.Reads.{Looks};
 
 use crate::meta_row::read_meta;
-use crate::queries::select_all_meta;
+use crate::queries::{select_all_meta, select_all_undo, select_all_write_log};
 use crate::stored_rows::StoredRow;
 use mr_base::RoomName;
-use mr_tables::{BookingRow, ErrorRow, LogRow, MetaRow, VectorRow, WriteUndoRow};
+use mr_tables::{BookingRow, CancelRow, CancelledRow, ErrorRow, LogRow, MetaRow, VectorRow};
 use sqlite::{Alter, Connection, Error, Row};
 use std::alloc::Global;
 
@@ -65,16 +65,6 @@ fn find_heads<S: Alter>(conn: &mut Connection<S>, alloc: Global) -> Result<(), E
     find_stored::<VectorRow, S>(conn, alloc)
 }
 
-// Both logs.
-fn find_both_logs<S: Alter>(conn: &mut Connection<S>, alloc: Global) -> Result<(), Error>
-    requires autocommit { conn.old.in_transaction ≡ false }
-    ensures autocommit { conn.new.in_transaction ≡ false }
-    ensures looks { Looks (state S.Store conn.old) (state S.Store conn.new) result (λ _. AreStoredAs log_form (state S.Store conn.old).now.trees × AreStoredAs undo_form (state S.Store conn.old).now.trees) }
-{
-    find_stored::<LogRow, S>(conn, alloc)?;
-    find_stored::<WriteUndoRow, S>(conn, alloc)
-}
-
 // Both tables of the board.
 fn find_board<S: Alter>(conn: &mut Connection<S>, alloc: Global) -> Result<(), Error>
     requires autocommit { conn.old.in_transaction ≡ false }
@@ -85,6 +75,55 @@ fn find_board<S: Alter>(conn: &mut Connection<S>, alloc: Global) -> Result<(), E
     find_stored::<ErrorRow, S>(conn, alloc)
 }
 
+// Both tables that cancels fill.
+fn find_cancels<S: Alter>(conn: &mut Connection<S>, alloc: Global) -> Result<(), Error>
+    requires autocommit { conn.old.in_transaction ≡ false }
+    ensures autocommit { conn.new.in_transaction ≡ false }
+    ensures looks { Looks (state S.Store conn.old) (state S.Store conn.new) result (λ _. AreStoredAs cancelled_form (state S.Store conn.old).now.trees × AreStoredAs cancel_form (state S.Store conn.old).now.trees) }
+{
+    find_stored::<CancelledRow, S>(conn, alloc)?;
+    find_stored::<CancelRow, S>(conn, alloc)
+}
+
+fn are_none(rows: &[Row]) -> Result<(), Error>
+    ensures { OnOk result (rows.now ≡ []) }
+{
+    match rows {
+        [] => Ok(()),
+        _ => Err(Error::InvalidQuery),
+    }
+}
+
+// That `write_log` has no row.
+fn find_no_writes<S: Alter>(conn: &mut Connection<S>) -> Result<(), Error>
+    requires autocommit { conn.old.in_transaction ≡ false }
+    ensures autocommit { conn.new.in_transaction ≡ false }
+    ensures looks { Looks (state S.Store conn.old) (state S.Store conn.new) result (λ _. (state S.Store conn.old).now.trees 6 ≡ []) }
+{
+    let rows = select_all_write_log(conn)?;
+    are_none(&rows)
+}
+
+// That `undo` has no row.
+fn find_no_undo<S: Alter>(conn: &mut Connection<S>) -> Result<(), Error>
+    requires autocommit { conn.old.in_transaction ≡ false }
+    ensures autocommit { conn.new.in_transaction ≡ false }
+    ensures looks { Looks (state S.Store conn.old) (state S.Store conn.new) result (λ _. (state S.Store conn.old).now.trees 8 ≡ []) }
+{
+    let rows = select_all_undo(conn)?;
+    are_none(&rows)
+}
+
+// That the logs of the first schema have no row.
+fn find_no_old_logs<S: Alter>(conn: &mut Connection<S>) -> Result<(), Error>
+    requires autocommit { conn.old.in_transaction ≡ false }
+    ensures autocommit { conn.new.in_transaction ≡ false }
+    ensures looks { Looks (state S.Store conn.old) (state S.Store conn.new) result (λ _. ((state S.Store conn.old).now.trees 6 ≡ []) × ((state S.Store conn.old).now.trees 8 ≡ [])) }
+{
+    find_no_writes(conn)?;
+    find_no_undo(conn)
+}
+
 /// Finds the row of `meta`, if there is one, and that all rows of all tables keep the tables' rules and the limits.
 pub fn find_all<S: Alter>(conn: &mut Connection<S>, alloc: Global) -> Result<Option<MetaRow>, Error>
     requires autocommit { conn.old.in_transaction ≡ false }
@@ -92,7 +131,9 @@ pub fn find_all<S: Alter>(conn: &mut Connection<S>, alloc: Global) -> Result<Opt
     ensures looks { Looks (state S.Store conn.old) (state S.Store conn.new) result (λ m. AreOurRows (state S.Store conn.old).now.trees × IsMeta (state S.Store conn.old).now.trees m) }
 {
     find_heads(conn, alloc)?;
-    find_both_logs(conn, alloc)?;
+    find_stored::<LogRow, S>(conn, alloc)?;
     find_board(conn, alloc)?;
+    find_cancels(conn, alloc)?;
+    find_no_old_logs(conn)?;
     find_meta(conn)
 }

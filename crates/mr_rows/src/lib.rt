@@ -2,12 +2,15 @@
 //!
 //! It stands on `mr_tables`, which has the rows, and on the kit's `sqlite`; `mr_sql`, whose keeper has such a database, stands above it.
 //! Contracts see the database through `tables_in` (specs/Kept.antt), which makes canonical tables of its rows; the tables themselves are
-//! in specs/Schema.antt, and their rows as cells in specs/Cells.antt. Six tables are alike (trait `StoredRow`): what differs of them,
-//! their SQL texts above all, stands in src/table_rows.rt; `meta` has one row. All is read and put by statements under our schema.
+//! in specs/Schema.antt, and their rows as cells in specs/Cells.antt. Seven tables are alike (trait `StoredRow`): what differs of them,
+//! their SQL texts above all, stands in src/table_rows.rt and src/cancel_rows.rt; `meta` has one row. `write_log` and `undo`, of the
+//! first schema, have no rows. All is read and put by statements under our schema.
 #![tactic(auto)]
 
+mod actions;
 pub mod all_tables;
 pub mod asked_rows;
+mod cancel_rows;
 mod cells;
 pub mod changes;
 pub mod found;
@@ -21,6 +24,6 @@ mod stored_rows;
 mod table_rows;
 mod whole;
 
-pub use questions::{LogQuestion, Question, UndoQuestion};
+pub use questions::{IdQuestion, LogQuestion, Question};
 pub use stored_rows::{StoredRow, read_all};
 pub use whole::all_rows;

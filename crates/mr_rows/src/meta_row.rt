@@ -18,7 +18,7 @@ pub(crate) fn read_meta(row: &Row) -> Result<MetaRow, Error>
 {
     let one = read_u32(row, 0)?;
     let schema = read_u32(row, 1)?;
-    if one != 1 || schema != 1 {
+    if one != 1 || schema != 2 {
         return Err(Error::IntegralValueOutOfRange(0));
     }
     let server = read_server(row, 2)?;

@@ -35,7 +35,7 @@ impl<'a> ToSql<'a> for Number {
     }
 }
 
-/// A place as the number of its choice, -1 for the error log.
+/// A place as the number of its choice, -1 for the error log, -2 and -3 for a cancel that is done or void.
 #[derive(Clone, Copy, Debug, PartialEq, Eq)]
 pub(crate) struct PlaceNumber {
     pub(crate) place: Place,
@@ -48,6 +48,8 @@ impl<'a> ToSql<'a> for PlaceNumber {
         match self.place {
             Place::Taken(choice) => ValueRef::Int(i64::from(choice)),
             Place::Logged => ValueRef::Int(-1),
+            Place::Done => ValueRef::Int(-2),
+            Place::Void => ValueRef::Int(-3),
         }
     }
 }

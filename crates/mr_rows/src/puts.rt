@@ -1,13 +1,17 @@
-ghost use Rattle.std.specs.Prelude.{◌≡◌, [], ◌∷◌, IsTrue, IfOk, string_bytes};
+ghost use Rattle.std.specs.Prelude.{◌≡◌, [], ◌∷◌, pos, IsTrue, IfOk, string_bytes};
 ghost use Rattle.sqlite.specs.State.{Survives};
 ghost use Rattle.sqlite.specs.Held.{state};
 ghost use Rattle.mr_model.specs.Calendar.{is_date, date_text};
+ghost use Rattle.sqlite_value.specs.declared.value.Value.TheVariants.{Int, Text};
+ghost use Rattle.mr_rows.specs.Cells.{action_row};
 ghost use Rattle.mr_rows.specs.Kept.{Makes, tables_in};
-ghost use Rattle.mr_rows.specs.Parts.{put_meta as with_meta, put_vector, put_logs, put_bookings, put_errors};
+ghost use Rattle.mr_rows.specs.Parts.{put_meta as with_meta, put_vector, put_logs, put_bookings, put_errors, put_cancelled, put_cancels};
 
-use crate::numbers::Number;
-use mr_base::Day;
-use mr_tables::{BookingRow, ErrorRow, LogRow, MetaRow, VectorRow};
+use crate::numbers::{Number, PlaceNumber};
+use mr_base::{Day, WriteId};
+use mr_tables::{
+    ActionCells, BookingRow, CancelRow, CancelledRow, ErrorRow, LogRow, MetaRow, VectorRow,
+};
 use sqlite::{Alter, Error, Transaction, params};
 use std::alloc::Global;
 
@@ -29,7 +33,7 @@ fn put_meta_cells<S: Alter>(
         "INSERT OR REPLACE INTO meta (one, schema, server, prim, commits, dropped, clock) VALUES (?1, ?2, ?3, ?4, ?5, ?6, ?7)",
         params![
             1u32,
-            1u32,
+            2u32,
             row.server.number(),
             row.primary.number(),
             commits,
@@ -67,31 +71,78 @@ pub(crate) fn put_vector_cells<S: Alter>(
     )
 }
 
-pub(crate) fn put_log_cells<S: Alter>(
+// What `log` has of an action, as it is told apart: these numbers and texts.
+fn put_log_parts<S: Alter>(
     tx: &mut Transaction<'_, S>,
     row: &LogRow,
-    time: Number,
-    seq: Number,
+    numbers: LogNumbers,
+    kind: u32,
+    length: u32,
+    choices: &str,
+    title: &str,
+    target: (u32, u32),
 ) -> Result<usize, Error>
-    requires time { time.value ≡ row.now.time }
-    requires seq { seq.value ≡ row.now.seq }
+    requires time { numbers.time.value ≡ row.now.time }
+    requires seq { numbers.seq.value ≡ row.now.seq }
+    requires action { action_row row.now.action ≡ Int (pos kind) ∷ Int (pos length) ∷ Text choices.now ∷ Text title.now ∷ Int (pos target.0) ∷ Int (pos target.1) ∷ [] }
     ensures same_reference { tx.new.conn.ghost_name ≡ tx.old.conn.ghost_name }
     ensures put { Makes (state S.Store tx.old.conn.now) (state S.Store tx.new.conn.now) (put_logs (row.now ∷ []) (tables_in (state S.Store tx.old.conn.now).now.trees)) result }
     ensures survives { Survives (state S.Store tx.old.conn.now) (state S.Store tx.new.conn.now) (λ _. ⊥) }
 {
     tx.execute(
-        "INSERT OR REPLACE INTO write_log (server, n, tm, room, length, choices, title, seq) VALUES (?1, ?2, ?3, ?4, ?5, ?6, ?7, ?8)",
+        "INSERT OR REPLACE INTO log (server, n, tm, room, kind, length, choices, title, tserver, tn, place, seq) VALUES (?1, ?2, ?3, ?4, ?5, ?6, ?7, ?8, ?9, ?10, ?11, ?12)",
         params![
             row.server.number(),
             row.n,
-            time,
+            numbers.time,
             row.room.as_str(),
-            row.length,
-            &row.choices,
-            row.title.as_str(),
-            seq
+            kind,
+            length,
+            choices,
+            title,
+            target.0,
+            target.1,
+            PlaceNumber { place: row.place },
+            numbers.seq
         ],
     )
+}
+
+/// The time and the commit number of a row of `log`.
+#[derive(Clone, Copy)]
+pub(crate) struct LogNumbers {
+    pub(crate) time: Number,
+    pub(crate) seq: Number,
+}
+
+pub(crate) fn put_log_cells<S: Alter>(
+    tx: &mut Transaction<'_, S>,
+    row: &LogRow,
+    numbers: LogNumbers,
+) -> Result<usize, Error>
+    requires time { numbers.time.value ≡ row.now.time }
+    requires seq { numbers.seq.value ≡ row.now.seq }
+    ensures same_reference { tx.new.conn.ghost_name ≡ tx.old.conn.ghost_name }
+    ensures put { Makes (state S.Store tx.old.conn.now) (state S.Store tx.new.conn.now) (put_logs (row.now ∷ []) (tables_in (state S.Store tx.old.conn.now).now.trees)) result }
+    ensures survives { Survives (state S.Store tx.old.conn.now) (state S.Store tx.new.conn.now) (λ _. ⊥) }
+{
+    match &row.action {
+        ActionCells::OfMeeting(m) => {
+            let title = m.title.as_str();
+            put_log_parts(tx, row, numbers, 0, m.length, &m.choices, title, (0, 0))
+        }
+        ActionCells::OfCancel(id) => {
+            let target = (id.server.number(), id.n);
+            put_log_parts(tx, row, numbers, 1, 0, "", "", target)
+        }
+    }
+}
+
+/// The two numbers of an id.
+pub(crate) fn parts_of(id: WriteId) -> (u32, u32)
+    ensures { id ≡ record { server = result.0; n = result.1 } }
+{
+    (id.server.number(), id.n)
 }
 
 /// The text of a day, which is within the calendar.
@@ -153,6 +204,65 @@ pub(crate) fn put_error_cells<S: Alter>(
             row.server.number(),
             row.n,
             row.title.as_str(),
+            time,
+            seq
+        ],
+    )
+}
+
+pub(crate) fn put_cancelled_cells<S: Alter>(
+    tx: &mut Transaction<'_, S>,
+    row: &CancelledRow,
+    day: &str,
+    by: (u32, u32),
+) -> Result<usize, Error>
+    requires by { row.now.by ≡ record { server = by.0; n = by.1 } }
+    requires day { day.now ≡ date_text row.now.day }
+    requires is_date { IsTrue (is_date row.now.day) }
+    ensures same_reference { tx.new.conn.ghost_name ≡ tx.old.conn.ghost_name }
+    ensures put { Makes (state S.Store tx.old.conn.now) (state S.Store tx.new.conn.now) (put_cancelled (row.now ∷ []) (tables_in (state S.Store tx.old.conn.now).now.trees)) result }
+    ensures survives { Survives (state S.Store tx.old.conn.now) (state S.Store tx.new.conn.now) (λ _. ⊥) }
+{
+    tx.execute(
+        "INSERT OR REPLACE INTO cancelled (room, day, start, stop, server, n, title, committed, bserver, bn) VALUES (?1, ?2, ?3, ?4, ?5, ?6, ?7, ?8, ?9, ?10)",
+        params![
+            row.room.as_str(),
+            day,
+            row.start,
+            row.stop,
+            row.server.number(),
+            row.n,
+            row.title.as_str(),
+            row.committed,
+            by.0,
+            by.1
+        ],
+    )
+}
+
+pub(crate) fn put_cancel_cells<S: Alter>(
+    tx: &mut Transaction<'_, S>,
+    row: &CancelRow,
+    target: (u32, u32),
+    time: Number,
+    seq: Number,
+) -> Result<usize, Error>
+    requires target { row.now.target ≡ record { server = target.0; n = target.1 } }
+    requires time { time.value ≡ row.now.time }
+    requires seq { seq.value ≡ row.now.seq }
+    ensures same_reference { tx.new.conn.ghost_name ≡ tx.old.conn.ghost_name }
+    ensures put { Makes (state S.Store tx.old.conn.now) (state S.Store tx.new.conn.now) (put_cancels (row.now ∷ []) (tables_in (state S.Store tx.old.conn.now).now.trees)) result }
+    ensures survives { Survives (state S.Store tx.old.conn.now) (state S.Store tx.new.conn.now) (λ _. ⊥) }
+{
+    tx.execute(
+        "INSERT OR REPLACE INTO cancel (server, n, room, tserver, tn, done, tm, seq) VALUES (?1, ?2, ?3, ?4, ?5, ?6, ?7, ?8)",
+        params![
+            row.server.number(),
+            row.n,
+            row.room.as_str(),
+            target.0,
+            target.1,
+            row.done,
             time,
             seq
         ],

@@ -8,14 +8,14 @@ ghost use Rattle.sqlite.specs.State.{Shown};
 ghost use Rattle.sqlite.specs.Held.{state};
 ghost use Rattle.mr_model.specs.Texts.{within};
 ghost use Rattle.mr_model.specs.Replica.{is_among};
-ghost use Rattle.mr_model.specs.Queries.{booking_id, error_id};
-ghost use Rattle.mr_tables.specs.Change.{log_id, undo_id};
+ghost use Rattle.mr_model.specs.Queries.{booking_id, error_id, cancelled_id, cancel_id};
+ghost use Rattle.mr_tables.specs.Change.{log_id};
 ghost use Rattle.mr_rows.specs.Schema.{our_schema};
-ghost use Rattle.mr_rows.specs.Cells.{meta_in, log_in, undo_in, booking_in, error_in};
+ghost use Rattle.mr_rows.specs.Cells.{meta_in, log_in, booking_in, error_in, cancelled_in, cancel_in};
 ghost use Rattle.mr_rows.specs.Kept.{tables_in};
 ghost use Rattle.mr_rows.specs.Shown.{columns_from};
 ghost use Rattle.mr_rows.specs.Reads.{Reads, Looks, metas_in};
-ghost use Rattle.mr_rows.specs.RowQuestions.{is_booking_asked, is_error_asked};
+ghost use Rattle.mr_rows.specs.RowQuestions.{is_booking_asked, is_error_asked, is_cancelled_asked, is_cancel_asked};
 
 use crate::numbers::Number;
 use mr_base::RoomName;
@@ -51,7 +51,7 @@ pub(crate) fn select_all_meta<S: Alter>(conn: &mut Connection<S>) -> Result<Vec<
     )
 }
 
-/// The rows of an id in `write_log`.
+/// The rows of an id in `log`.
 pub(crate) fn select_key_log<S: Alter>(
     conn: &mut Connection<S>,
     server: u32,
@@ -59,16 +59,16 @@ pub(crate) fn select_key_log<S: Alter>(
 ) -> Result<Vec<Row>, Error>
     requires autocommit { conn.old.in_transaction ≡ false }
     ensures autocommit { conn.new.in_transaction ≡ false }
-    ensures reads { Reads (state S.Store conn.old) (state S.Store conn.new) result (λ rows. IsPermutation (filter (λ r. is_among (log_id r) (record { server = server; n = n } ∷ [])) (tables_in (state S.Store conn.old).now.trees).write_log) (map (λ row. log_in (Null ∷ row)) rows.items)) }
+    ensures reads { Reads (state S.Store conn.old) (state S.Store conn.new) result (λ rows. IsPermutation (filter (λ r. is_among (log_id r) (record { server = server; n = n } ∷ [])) (tables_in (state S.Store conn.old).now.trees).log) (map (λ row. log_in (Null ∷ row)) rows.items)) }
 {
     ask(
         conn,
-        "SELECT server, n, tm, room, length, choices, title, seq FROM write_log WHERE server = ?1 AND n = ?2",
+        "SELECT server, n, tm, room, kind, length, choices, title, tserver, tn, place, seq FROM log WHERE server = ?1 AND n = ?2",
         params![server, n],
     )
 }
 
-/// The rows of `write_log` whose `seq` is between these numbers.
+/// The rows of `log` whose `seq` is between these numbers.
 pub(crate) fn select_between_log<S: Alter>(
     conn: &mut Connection<S>,
     low: Number,
@@ -76,29 +76,12 @@ pub(crate) fn select_between_log<S: Alter>(
 ) -> Result<Vec<Row>, Error>
     requires autocommit { conn.old.in_transaction ≡ false }
     ensures autocommit { conn.new.in_transaction ≡ false }
-    ensures reads { Reads (state S.Store conn.old) (state S.Store conn.new) result (λ rows. IsPermutation (filter (λ r. within low.value high.value r.seq) (tables_in (state S.Store conn.old).now.trees).write_log) (map (λ row. log_in (Null ∷ row)) rows.items)) }
+    ensures reads { Reads (state S.Store conn.old) (state S.Store conn.new) result (λ rows. IsPermutation (filter (λ r. within low.value high.value r.seq) (tables_in (state S.Store conn.old).now.trees).log) (map (λ row. log_in (Null ∷ row)) rows.items)) }
 {
     ask(
         conn,
-        "SELECT server, n, tm, room, length, choices, title, seq FROM write_log WHERE seq >= ?1 AND seq <= ?2",
+        "SELECT server, n, tm, room, kind, length, choices, title, tserver, tn, place, seq FROM log WHERE seq >= ?1 AND seq <= ?2",
         params![low, high],
-    )
-}
-
-/// The rows of an id in `undo`.
-pub(crate) fn select_key_undo<S: Alter>(
-    conn: &mut Connection<S>,
-    server: u32,
-    n: u32,
-) -> Result<Vec<Row>, Error>
-    requires autocommit { conn.old.in_transaction ≡ false }
-    ensures autocommit { conn.new.in_transaction ≡ false }
-    ensures reads { Reads (state S.Store conn.old) (state S.Store conn.new) result (λ rows. IsPermutation (filter (λ r. is_among (undo_id r) (record { server = server; n = n } ∷ [])) (tables_in (state S.Store conn.old).now.trees).undo) (map (λ row. undo_in (Null ∷ row)) rows.items)) }
-{
-    ask(
-        conn,
-        "SELECT server, n, place FROM undo WHERE server = ?1 AND n = ?2",
-        params![server, n],
     )
 }
 
@@ -166,4 +149,88 @@ pub fn select_key_error<S: Alter>(
         "SELECT room, day, start, stop, server, n, title, tm, seq FROM errorlog WHERE server = ?1 AND n = ?2",
         params![server, n],
     )
+}
+
+/// The rows of a room in `cancelled`.
+pub fn select_room_cancelled<S: Alter>(
+    conn: &mut Connection<S>,
+    room: &RoomName,
+) -> Result<Vec<Row>, Error>
+    requires autocommit { conn.old.in_transaction ≡ false }
+    ensures autocommit { conn.new.in_transaction ≡ false }
+    ensures reads { Reads (state S.Store conn.old) (state S.Store conn.new) result (λ rows. IsPermutation (filter (is_cancelled_asked room.now) (tables_in (state S.Store conn.old).now.trees).cancelled) (map (λ row. cancelled_in (Null ∷ row)) rows.items)) }
+{
+    ask(
+        conn,
+        "SELECT room, day, start, stop, server, n, title, committed, bserver, bn FROM cancelled WHERE room = ?1",
+        params![room.as_str()],
+    )
+}
+
+/// The rows of an id in `cancelled`.
+pub fn select_key_cancelled<S: Alter>(
+    conn: &mut Connection<S>,
+    server: u32,
+    n: u32,
+) -> Result<Vec<Row>, Error>
+    requires autocommit { conn.old.in_transaction ≡ false }
+    ensures autocommit { conn.new.in_transaction ≡ false }
+    ensures reads { Reads (state S.Store conn.old) (state S.Store conn.new) result (λ rows. IsPermutation (filter (λ r. is_among (cancelled_id r) (record { server = server; n = n } ∷ [])) (tables_in (state S.Store conn.old).now.trees).cancelled) (map (λ row. cancelled_in (Null ∷ row)) rows.items)) }
+{
+    ask(
+        conn,
+        "SELECT room, day, start, stop, server, n, title, committed, bserver, bn FROM cancelled WHERE server = ?1 AND n = ?2",
+        params![server, n],
+    )
+}
+
+/// The rows of a room in `cancel`.
+pub fn select_room_cancel<S: Alter>(
+    conn: &mut Connection<S>,
+    room: &RoomName,
+) -> Result<Vec<Row>, Error>
+    requires autocommit { conn.old.in_transaction ≡ false }
+    ensures autocommit { conn.new.in_transaction ≡ false }
+    ensures reads { Reads (state S.Store conn.old) (state S.Store conn.new) result (λ rows. IsPermutation (filter (is_cancel_asked room.now) (tables_in (state S.Store conn.old).now.trees).cancels) (map (λ row. cancel_in (Null ∷ row)) rows.items)) }
+{
+    ask(
+        conn,
+        "SELECT server, n, room, tserver, tn, done, tm, seq FROM cancel WHERE room = ?1",
+        params![room.as_str()],
+    )
+}
+
+/// The rows of an id in `cancel`.
+pub fn select_key_cancel<S: Alter>(
+    conn: &mut Connection<S>,
+    server: u32,
+    n: u32,
+) -> Result<Vec<Row>, Error>
+    requires autocommit { conn.old.in_transaction ≡ false }
+    ensures autocommit { conn.new.in_transaction ≡ false }
+    ensures reads { Reads (state S.Store conn.old) (state S.Store conn.new) result (λ rows. IsPermutation (filter (λ r. is_among (cancel_id r) (record { server = server; n = n } ∷ [])) (tables_in (state S.Store conn.old).now.trees).cancels) (map (λ row. cancel_in (Null ∷ row)) rows.items)) }
+{
+    ask(
+        conn,
+        "SELECT server, n, room, tserver, tn, done, tm, seq FROM cancel WHERE server = ?1 AND n = ?2",
+        params![server, n],
+    )
+}
+
+/// The servers of all rows of `write_log`, which has no row in a keeper's database.
+pub(crate) fn select_all_write_log<S: Alter>(conn: &mut Connection<S>) -> Result<Vec<Row>, Error>
+    requires autocommit { conn.old.in_transaction ≡ false }
+    ensures autocommit { conn.new.in_transaction ≡ false }
+    ensures looks { Looks (state S.Store conn.old) (state S.Store conn.new) result (λ rows. IsPermutation (map (columns_from 1 1) ((state S.Store conn.old).now.trees 6)) rows.items) }
+{
+    ask(conn, "SELECT server FROM write_log", &[])
+}
+
+/// The servers of all rows of `undo`, which has no row in a keeper's database.
+pub(crate) fn select_all_undo<S: Alter>(conn: &mut Connection<S>) -> Result<Vec<Row>, Error>
+    requires autocommit { conn.old.in_transaction ≡ false }
+    ensures autocommit { conn.new.in_transaction ≡ false }
+    ensures looks { Looks (state S.Store conn.old) (state S.Store conn.new) result (λ rows. IsPermutation (map (columns_from 1 1) ((state S.Store conn.old).now.trees 8)) rows.items) }
+{
+    ask(conn, "SELECT server FROM undo", &[])
 }

@@ -6,14 +6,17 @@ ghost use Rattle.mr_model.specs.Texts.{within};
 ghost use Rattle.mr_model.specs.Writes.{Id};
 ghost use Rattle.mr_rows.specs.Cells.{log_in};
 ghost use Rattle.mr_rows.specs.Kept.{tables_in};
-ghost use Rattle.mr_rows.specs.RowQuestions.{is_log_asked, is_undo_asked, is_booking_asked};
+ghost use Rattle.mr_rows.specs.RowQuestions.{is_log_asked, is_booking_asked, is_cancelled_asked, is_booking_of, is_error_of, is_cancelled_of};
 ghost use Rattle.mr_rows.specs.Reads.{Reads};
 
 use crate::numbers::Number;
-use crate::queries::{select_between_log, select_key_log, select_key_undo, select_room_booking};
+use crate::queries::{
+    select_between_log, select_key_booking, select_key_cancelled, select_key_error, select_key_log,
+    select_room_booking, select_room_cancelled,
+};
 use crate::stored_rows::StoredRow;
 use mr_base::{RoomName, ServerId, WriteId};
-use mr_tables::{BookingRow, LogRow, WriteUndoRow};
+use mr_tables::{BookingRow, CancelledRow, ErrorRow, LogRow};
 use sqlite::{Alter, Connection, Error, Row};
 use std::marker::Model;
 
@@ -29,7 +32,7 @@ pub trait Question<R: StoredRow> {
         ensures reads { Reads (state S.Store conn.old) (state S.Store conn.new) result (λ rows. IsPermutation (filter (asks self.now) (R.rows_of (tables_in (state S.Store conn.old).now.trees))) (map (λ row. R.form.row_in (Null ∷ row)) rows.items)) };
 }
 
-/// A question for rows of `write_log`: for that of an id, or for those whose `seq` is between two numbers.
+/// A question for rows of `log`: for that of an id, or for those whose `seq` is between two numbers.
 #[derive(Clone, Copy)]
 pub enum LogQuestion {
     OfId(WriteId),
@@ -39,10 +42,10 @@ pub enum LogQuestion {
 fn ask_between<S: Alter>(conn: &mut Connection<S>, low: u64, high: u64) -> Result<Vec<Row>, Error>
     requires autocommit { conn.old.in_transaction ≡ false }
     ensures autocommit { conn.new.in_transaction ≡ false }
-    ensures reads { Reads (state S.Store conn.old) (state S.Store conn.new) result (λ rows. IsPermutation (filter (λ r. within low high r.seq) (tables_in (state S.Store conn.old).now.trees).write_log) (map (λ row. log_in (Null ∷ row)) rows.items)) }
+    ensures reads { Reads (state S.Store conn.old) (state S.Store conn.new) result (λ rows. IsPermutation (filter (λ r. within low high r.seq) (tables_in (state S.Store conn.old).now.trees).log) (map (λ row. log_in (Null ∷ row)) rows.items)) }
 {
-    let low = Number::new(low, 7)?;
-    let high = Number::new(high, 7)?;
+    let low = Number::new(low, 11)?;
+    let high = Number::new(high, 11)?;
     select_between_log(conn, low, high)
 }
 
@@ -57,14 +60,14 @@ impl Question<LogRow> for LogQuestion {
     }
 }
 
-/// A question for the row of `undo` of an id.
+/// A question for the row of an id, in `booking`, in `errorlog` or in `cancelled`.
 #[derive(Clone, Copy)]
-pub struct UndoQuestion {
+pub struct IdQuestion {
     pub server: ServerId,
     pub n: u32,
 }
 
-impl Model for UndoQuestion {
+impl Model for IdQuestion {
     ghost Value = { Id };
 
     ghost view = { λ q. record { server = q.server; n = q.n } };
@@ -72,11 +75,27 @@ impl Model for UndoQuestion {
     ghost inverse = { λ v. record { server = v.server; n = v.n } };
 }
 
-impl Question<WriteUndoRow> for UndoQuestion {
-    ghost asks = { is_undo_asked };
+impl Question<BookingRow> for IdQuestion {
+    ghost asks = { is_booking_of };
 
     fn ask<S: Alter>(&self, conn: &mut Connection<S>) -> Result<Vec<Row>, Error> {
-        select_key_undo(conn, self.server.number(), self.n)
+        select_key_booking(conn, self.server.number(), self.n)
+    }
+}
+
+impl Question<ErrorRow> for IdQuestion {
+    ghost asks = { is_error_of };
+
+    fn ask<S: Alter>(&self, conn: &mut Connection<S>) -> Result<Vec<Row>, Error> {
+        select_key_error(conn, self.server.number(), self.n)
+    }
+}
+
+impl Question<CancelledRow> for IdQuestion {
+    ghost asks = { is_cancelled_of };
+
+    fn ask<S: Alter>(&self, conn: &mut Connection<S>) -> Result<Vec<Row>, Error> {
+        select_key_cancelled(conn, self.server.number(), self.n)
     }
 }
 
@@ -86,5 +105,14 @@ impl Question<BookingRow> for RoomName {
 
     fn ask<S: Alter>(&self, conn: &mut Connection<S>) -> Result<Vec<Row>, Error> {
         select_room_booking(conn, self)
+    }
+}
+
+/// For the cancelled bookings of this room.
+impl Question<CancelledRow> for RoomName {
+    ghost asks = { is_cancelled_asked };
+
+    fn ask<S: Alter>(&self, conn: &mut Connection<S>) -> Result<Vec<Row>, Error> {
+        select_room_cancelled(conn, self)
     }
 }

@@ -5,21 +5,24 @@ ghost use Rattle.mr_model.specs.Texts.{Text};
 ghost use Rattle.mr_model.specs.Writes.{Id};
 ghost use Rattle.mr_model.specs.Queries.{booking_id, error_id};
 ghost use Rattle.mr_base.specs.Ids.{id_cmp};
-ghost use Rattle.mr_tables.specs.Change.{log_id, undo_id};
-ghost use Rattle.mr_rows.specs.Form.{room_form, vector_form, log_form, undo_form, booking_form, error_form};
-ghost use Rattle.mr_rows.specs.Parts.{take_logs, take_undos, take_bookings, take_errors, put_rooms, put_vector, put_logs, put_undos, put_bookings, put_errors};
-ghost use Rattle.mr_rows.specs.TakeLaws.{logs_none, undos_none, bookings_none, errors_none, logs_more, undos_more, bookings_more, errors_more};
+ghost use Rattle.mr_tables.specs.Change.{log_id};
+ghost use Rattle.mr_rows.specs.Form.{room_form, vector_form, log_form, booking_form, error_form};
+ghost use Rattle.mr_rows.specs.Parts.{take_logs, take_bookings, take_errors, put_rooms, put_vector, put_logs, put_bookings, put_errors};
+ghost use Rattle.mr_rows.specs.TakeLaws.{logs_none, bookings_none, errors_none, logs_more, bookings_more, errors_more};
 
+use crate::actions::{read_action, read_place_of};
 use crate::cells::{
-    read_count, read_day, read_mark, read_minute, read_name, read_place, read_server, read_text,
-    read_title, read_u32, read_u64,
+    read_count, read_day, read_mark, read_minute, read_name, read_server, read_title, read_u32,
+    read_u64,
 };
-use crate::numbers::{Number, PlaceNumber};
-use crate::puts::{day_text, put_booking_cells, put_error_cells, put_log_cells, put_vector_cells};
+use crate::numbers::Number;
+use crate::puts::{
+    LogNumbers, day_text, put_booking_cells, put_error_cells, put_log_cells, put_vector_cells,
+};
 use crate::queries::ask;
 use crate::stored_rows::{RequestRow, StoredRow};
 use mr_base::{RoomName, ServerId, WriteId};
-use mr_tables::{BookingRow, ErrorRow, LogRow, VectorRow, WriteUndoRow};
+use mr_tables::{BookingRow, ErrorRow, LogRow, VectorRow};
 use sqlite::{Alter, Connection, Error, Row, Transaction, params};
 use std::alloc::Global;
 use std::cmp::Ordering;
@@ -118,7 +121,7 @@ impl StoredRow for LogRow {
 
     ghost order = { λ a b. id_cmp (log_id a) (log_id b) };
 
-    ghost rows_of = { λ t. t.write_log };
+    ghost rows_of = { λ t. t.log };
 
     ghost put_in = { put_logs };
 
@@ -127,18 +130,16 @@ impl StoredRow for LogRow {
         let n = read_u32(row, 1)?;
         let time = read_u64(row, 2)?;
         let room = read_name(alloc, row, 3)?;
-        let length = read_u32(row, 4)?;
-        let choices = read_text(row, 5)?;
-        let title = read_title(alloc, row, 6)?;
-        let seq = read_u64(row, 7)?;
+        let action = read_action(alloc, row)?;
+        let place = read_place_of(row, &action)?;
+        let seq = read_u64(row, 11)?;
         Ok(LogRow {
             server,
             n,
             time,
             room,
-            length,
-            choices,
-            title,
+            action,
+            place,
             seq,
         })
     }
@@ -152,15 +153,15 @@ impl StoredRow for LogRow {
     fn select_all<S: Alter>(conn: &mut Connection<S>) -> Result<Vec<Row>, Error> {
         ask(
             conn,
-            "SELECT server, n, tm, room, length, choices, title, seq FROM write_log",
+            "SELECT server, n, tm, room, kind, length, choices, title, tserver, tn, place, seq FROM log",
             &[],
         )
     }
 
     fn put<S: Alter>(&self, tx: &mut Transaction<'_, S>, _alloc: Global) -> Result<usize, Error> {
         let time = Number::new(self.time, 2)?;
-        let seq = Number::new(self.seq, 7)?;
-        put_log_cells(tx, self, time, seq)
+        let seq = Number::new(self.seq, 11)?;
+        put_log_cells(tx, self, LogNumbers { time, seq })
     }
 
     ghost stored_is = { λ r is. is };
@@ -175,7 +176,7 @@ impl RequestRow for LogRow {
 
     fn take<S: Alter>(tx: &mut Transaction<'_, S>, id: WriteId) -> Result<usize, Error> {
         tx.execute(
-            "DELETE FROM write_log WHERE server = ?1 AND n = ?2",
+            "DELETE FROM log WHERE server = ?1 AND n = ?2",
             params![id.server.number(), id.n],
         )
     }
@@ -183,67 +184,6 @@ impl RequestRow for LogRow {
     ghost take_none = { logs_none };
 
     ghost take_more = { logs_more };
-}
-
-impl StoredRow for WriteUndoRow {
-    ghost Key = { Id };
-
-    ghost form = { undo_form };
-
-    ghost order = { λ a b. id_cmp (undo_id a) (undo_id b) };
-
-    ghost rows_of = { λ t. t.undo };
-
-    ghost put_in = { put_undos };
-
-    fn read(_alloc: Global, row: &Row) -> Result<WriteUndoRow, Error> {
-        let server = read_server(row, 0)?;
-        let n = read_u32(row, 1)?;
-        let place = read_place(row, 2)?;
-        Ok(WriteUndoRow { server, n, place })
-    }
-
-    fn compare(a: &WriteUndoRow, b: &WriteUndoRow) -> Ordering {
-        compare_ids((a.server, a.n), (b.server, b.n))
-    }
-
-    fn keeps_order() {}
-
-    fn select_all<S: Alter>(conn: &mut Connection<S>) -> Result<Vec<Row>, Error> {
-        ask(conn, "SELECT server, n, place FROM undo", &[])
-    }
-
-    fn put<S: Alter>(&self, tx: &mut Transaction<'_, S>, _alloc: Global) -> Result<usize, Error> {
-        tx.execute(
-            "INSERT OR REPLACE INTO undo (server, n, place) VALUES (?1, ?2, ?3)",
-            params![
-                self.server.number(),
-                self.n,
-                PlaceNumber { place: self.place }
-            ],
-        )
-    }
-
-    ghost stored_is = { λ r is. is };
-
-    ghost put_none = { λ t. refl };
-
-    ghost put_more = { λ x xs t. refl };
-}
-
-impl RequestRow for WriteUndoRow {
-    ghost take_from = { take_undos };
-
-    fn take<S: Alter>(tx: &mut Transaction<'_, S>, id: WriteId) -> Result<usize, Error> {
-        tx.execute(
-            "DELETE FROM undo WHERE server = ?1 AND n = ?2",
-            params![id.server.number(), id.n],
-        )
-    }
-
-    ghost take_none = { undos_none };
-
-    ghost take_more = { undos_more };
 }
 
 impl StoredRow for BookingRow {
@@ -397,7 +337,7 @@ impl RequestRow for ErrorRow {
 }
 
 /// By server, then by count.
-fn compare_ids(a: (ServerId, u32), b: (ServerId, u32)) -> Ordering
+pub(crate) fn compare_ids(a: (ServerId, u32), b: (ServerId, u32)) -> Ordering
     ensures { result ≡ id_cmp (record { server = a.0; n = a.1 }) (record { server = b.0; n = b.1 }) }
 {
     a.0.number().cmp(&b.0.number()).then(a.1.cmp(&b.1))

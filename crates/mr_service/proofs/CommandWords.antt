@@ -1,22 +1,23 @@
 -- Commands whose words are read first: what they do with words that are read, and how others are refused.
-use Rattle.std.proofs.Common.{◌≡◌, refl, ap, ◌∙◌, Bool, true, false, List, [], ◌∷◌, Option, Some, None, ◌⊎◌, inl, inr, Ok, Err}
+use Rattle.std.proofs.Common.{◌≡◌, refl, sym, ap, ◌∙◌, Bool, true, false, List, [], ◌∷◌, Option, Some, None, ◌⊎◌, inl, inr, Result, Ok, Err}
 use Rattle.std.specs.Prelude.{ok_or, ℕ}
 use Rattle.mr_model.specs.Replica.{Replica}
-use Rattle.mr_model.specs.Texts.{Text}
-use Rattle.mr_model.specs.Writes.{is_room_name}
+use Rattle.mr_model.specs.Texts.{Text, only_if}
+use Rattle.mr_model.specs.Writes.{Id, is_room_name, is_id_text, id_in}
 use Rattle.mr_model.specs.Replies.{Refused}
 use Rattle.mr_model.specs.Exchange.{Batch, read_batch}
 use Rattle.mr_model.specs.Positions.{Position, read_position}
 use Rattle.mr_model.specs.Refusals as model
-use Rattle.mr_model.specs.Step.{AddRoom, Submit, Receive, BatchFor, Submission, refuse, leave, add_room, receive_batch, receive_read, batch_reply, reply_to_position}
+use Rattle.mr_model.specs.Step.{AddRoom, Submit, Cancel, Receive, BatchFor, Submission, refuse, leave, add_room, receive_batch, receive_read, batch_reply, reply_to_position}
 use Rattle.mr_model.specs.Requests.{Request}
 use Rattle.mr_wire.specs.Answers.{IsRefusedFor}
 use Rattle.mr_base.specs.Answers.{OrOutOfMemory, Gives, ok_if}
 use Rattle.mr_base.specs.Refusals.{refusal_of}
 use Rattle.mr_base.specs.declared.refusals.Refusal.{Refusal}
 use Rattle.mr_base.specs.declared.refusals.Refusal.TheVariants as refusal
-use Rattle.mr_replica.specs.Steps.{word_faults, request_in, submit_request}
-use Rattle.mr_replica.proofs.Submitting.{submission_is_request}
+use Rattle.mr_base.specs.Readings.{read_id}
+use Rattle.mr_replica.specs.Steps.{word_faults, request_in, submit_request, cancel_request}
+use Rattle.mr_replica.proofs.Submitting.{submission_is_request, cancel_is_request}
 use Rattle.mr_service.specs.Requests.{ok_unless, request_or_fault}
 use Rattle.mr_service.proofs.DeskSteps.{Does}
 use Rattle.mr_service.proofs.Submissions.{request_known, submit_refused}
@@ -50,6 +51,38 @@ pub room_not_store : (b : Bool) (room : Text) (e : Refusal) → OrOutOfMemory (E
 room_not_store b room e (inr out) = λ told. absurd (cc (told, ap refusal_of out))
 room_not_store true room e (inl bad) = absurd (cc bad)
 room_not_store false room e (inl said) = λ told. absurd (let own : refusal.BadRoomName ≡ e = cc said in cc (told, ap refusal_of own))
+
+-- ---- cancels
+
+cancel_refused_at : (room id : Text) (e : Refusal) (b : Bool) → is_room_name room ≡ b
+    → (ok_if b room refusal.BadRoomName ≡ Err e) ⊎ (e ≡ refusal.OutOfMemory)
+    → Does (Cancel room id) (λ a. refuse a (refusal_of e)) ⊎ (e ≡ refusal.OutOfMemory)
+cancel_refused_at room id e b is (inr out) = inr out
+cancel_refused_at room id e true is (inl bad) = absurd (cc bad)
+cancel_refused_at room id e false is (inl said) =
+    let own : refusal.BadRoomName ≡ e = cc said in
+    inl (λ a. rw is (ap (λ x. refuse a (refusal_of x)) own))
+
+-- words that name no room are refused as such
+pub cancel_refused : (room id : Text) (e : Refusal) → OrOutOfMemory (Err e) (ok_if (is_room_name room) room refusal.BadRoomName)
+    → Does (Cancel room id) (λ a. refuse a (refusal_of e)) ⊎ (e ≡ refusal.OutOfMemory)
+cancel_refused room id e said = cancel_refused_at room id e (is_room_name room) refl said
+
+-- the words of a room and of an id are the cancel of this id there
+pub cancel_read : (room name id : Text) (target : Id) → OrOutOfMemory (Ok name) (ok_if (is_room_name room) room refusal.BadRoomName) → ◌≡◌ {A = Result Id Refusal} (Ok target) (ok_or (read_id id) refusal.NoSuchRequest)
+    → Does (Cancel room id) (cancel_request name target)
+cancel_read room name id target said read = λ a.
+    let named : (is_room_name room ≡ true) × (room ≡ name) = room_at (is_room_name room) said in
+    let is : (is_id_text id ≡ true) × (id_in id ≡ target) = id_at (is_id_text id) read in
+    cancel_is_request a room id named.0 is.0 ∙ (λ i. cancel_request (named.1 i) (is.1 i) a)
+  where
+    room_at : (b : Bool) → ok_if b room refusal.BadRoomName ≡ Ok name → (b ≡ true) × (room ≡ name)
+    room_at true e = (refl, cc e)
+    room_at false e = absurd (cc e)
+
+    id_at : (b : Bool) → ◌≡◌ {A = Result Id Refusal} (Ok target) (ok_or (only_if b (id_in id)) refusal.NoSuchRequest) → (b ≡ true) × (id_in id ≡ target)
+    id_at true e = (refl, sym (cc e))
+    id_at false e = absurd (cc e)
 
 -- ---- batches
 

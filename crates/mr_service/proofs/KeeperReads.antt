@@ -1,12 +1,14 @@
 -- Calls of a keeper that leave its tables, as one record, and commands that are served by them.
-use Rattle.std.proofs.Common.{◌≡◌, refl, sym, subst, ◌∙◌, ℕ, ◌⊎◌, inl, inr, Result, Ok, Err, le_refl, arith}
+use Rattle.std.specs.Prelude.{OnOk, IfOk, IfErr}
+use Rattle.std.proofs.Common.{◌≡◌, refl, sym, ap, subst, ◌∙◌, ℕ, ◌⊎◌, inl, inr, Result, Ok, Err, le_refl, arith}
 use Rattle.mr_model.specs.Replies.{Reply, Refused}
-use Rattle.mr_model.specs.Step.{Command}
+use Rattle.mr_model.specs.Step.{Command, IsOfMachine, no_memory}
 use Rattle.mr_model.specs.Refusals as model
 use Rattle.mr_model.specs.Tables.{Tables, Stands}
 use Rattle.mr_model.specs.Serving.{TakesStep, Reaches}
 use Rattle.mr_base.specs.Refusals.{refusal_of}
 use Rattle.mr_base.specs.declared.refusals.Refusal.{Refusal}
+use Rattle.mr_base.specs.declared.refusals.Refusal.TheVariants as refusal
 use Rattle.mr_store.specs.Kept.{fault_refusal, IsQuiet}
 use Rattle.mr_store.specs.declared.keeper.Fault.{Fault}
 use Rattle.mr_store.specs.declared.keeper.Keeper.{Ghosts}
@@ -54,27 +56,93 @@ read_err k old new e r is quiet =
       crash = quiet.crash;
     }
 
+-- no call
+pub read_none : {K X : Type 0} (k : Ghosts K) (at : K) (x : X) → IsRead k at at (Ok x)
+read_none k at x =
+    record {
+      clean = λ u. u;
+      opens = λ u o. o;
+      same = λ u o. refl;
+      failures = refl;
+      counts = tt;
+      rise = tt;
+      sure = λ s u o a h. refl;
+      lasts = λ u o. o;
+      fails = λ u o. tt;
+      settled = λ u o before. before;
+      crash = λ u o t left. left;
+    }
+
 -- ---- two calls
 
+none_fails : (t0 t1 : Tables) (n0 n1 n2 : ℕ) → t1 ≡ t0 → n1 ≡ n0 → NoneFails t1 n1 n2 → NoneFails t0 n0 n2
+none_fails t0 t1 n0 n1 n2 same first second = λ a h. second a (subst (λ x. Stands x a) (sym same) h) ∙ first
+
 -- two reads, one after the other
-pub read_both : {K X Y : Type 0} (k : Ghosts K) (a b z : K) (x : X) (y : Y) → IsRead k a b (Ok x) → IsRead k b z (Ok y) → IsRead k a z (Ok y)
-read_both k a b z x y first next =
+pub read_next : {K X Y : Type 0} (k : Ghosts K) (a b z : K) (x : X) (result : Result Y Refusal) → IsRead k a b (Ok x) → IsRead k b z result → IsRead k a z result
+read_next k a b z x result first next =
     record {
       clean = λ u. first.clean (next.clean u);
       opens = λ u o. first.opens (next.clean u) (next.opens u o);
       same = λ u o. next.same u o ∙ first.same (next.clean u) (next.opens u o);
-      failures = next.failures ∙ first.failures;
-      counts = tt;
-      rise = tt;
-      sure = λ s u o a h. next.failures ∙ first.failures;
+      failures = subst (λ n. OnOk result (k.failures z ≡ n)) first.failures next.failures;
+      counts = subst (λ n. IfErr result (λ e. Counts (Refused (refusal_of e)) n (k.failures z))) first.failures next.counts;
+      rise = subst (λ n. IfErr result (λ e. TellsRise (Refused (refusal_of e)) n (k.failures z))) first.failures next.rise;
+      sure = λ s u o. none_fails (k.tables a) (k.tables b) (k.failures a) (k.failures b) (k.failures z) (first.same (next.clean u) (next.opens u o)) first.failures (next.sure s u o);
       lasts = λ u o. next.lasts u (first.lasts (next.clean u) o);
-      fails = λ u o. tt;
+      fails = λ u o. next.fails u (first.lasts (next.clean u) o);
       settled = λ u o before. next.settled u o (first.settled (next.clean u) (next.opens u o) before);
       crash = λ u o t left. first.crash (next.clean u) o t (next.crash u (first.lasts (next.clean u) o) t left);
     }
 
-none_fails : (t0 t1 : Tables) (n0 n1 n2 : ℕ) → t1 ≡ t0 → n1 ≡ n0 → NoneFails t1 n1 n2 → NoneFails t0 n0 n2
-none_fails t0 t1 n0 n1 n2 same first second = λ a h. second a (subst (λ x. Stands x a) (sym same) h) ∙ first
+-- what is made of what was read: a refusal of it is none of the store's
+pub read_made : {K X Y : Type 0} (k : Ghosts K) (a z : K) (x : X) (result : Result Y Refusal) → IsRead k a z (Ok x) → IfErr result (λ e. ¬ (Refused (refusal_of e) ≡ Refused model.Store)) → IsRead k a z result
+read_made k a z x (Ok y) read not_store =
+    record {
+      clean = read.clean;
+      opens = read.opens;
+      same = read.same;
+      failures = read.failures;
+      counts = tt;
+      rise = tt;
+      sure = read.sure;
+      lasts = read.lasts;
+      fails = λ u o. tt;
+      settled = read.settled;
+      crash = read.crash;
+    }
+read_made k a z x (Err e) read not_store =
+    record {
+      clean = read.clean;
+      opens = read.opens;
+      same = read.same;
+      failures = tt;
+      counts = (let same : k.failures z ≡ k.failures a = read.failures in omega arith, λ s. absurd (not_store s));
+      rise = inl read.failures;
+      sure = read.sure;
+      lasts = λ u o. tt;
+      fails = λ u o. inr (read.lasts u o);
+      settled = read.settled;
+      crash = read.crash;
+    }
+
+-- where memory is wanting, it is refused so
+pub of_memory : {Y : Type 0} (result : Result Y Refusal) → IfErr result (λ e. e ≡ refusal.OutOfMemory) → IfErr result (λ e. IsOfMachine (Refused (refusal_of e)))
+of_memory (Ok y) only = tt
+of_memory (Err e) only = subst (λ x. IsOfMachine (Refused (refusal_of x))) (sym only) no_memory
+
+-- what is so of what is made where two things are so of it
+pub both_ok : {T : Type 0} (result : Result T Refusal) (P Q R : T → Type 0) → ((x : T) → P x → Q x → R x) → IfOk result P → IfOk result Q → IfOk result R
+both_ok (Ok x) P Q R f p q = f x p q
+both_ok (Err e) P Q R f p q = tt
+
+-- as is want of memory
+pub read_within : {K X Y : Type 0} (k : Ghosts K) (a z : K) (x : X) (result : Result Y Refusal) → IsRead k a z (Ok x) → IfErr result (λ e. e ≡ refusal.OutOfMemory) → IsRead k a z result
+read_within k a z x result read only = read_made k a z x result read (go result only)
+  where
+    go : {Y : Type 0} (r : Result Y Refusal) → IfErr r (λ e. e ≡ refusal.OutOfMemory) → IfErr r (λ e. ¬ (Refused (refusal_of e) ≡ Refused model.Store))
+    go (Ok y) o = tt
+    go (Err e) o = λ told. absurd (cc (told, ap refusal_of o))
 
 -- a command that was served after the keeper was read
 pub read_then : {K X : Type 0} (k : Ghosts K) (a b z : K) (x : X) (c : Command) (reply : Reply) → IsRead k a b (Ok x) → IsServed k b z c reply → IsServed k a z c reply
@@ -155,6 +223,10 @@ refused_by k old new e c read step =
       settled = read.settled;
       crash = λ u o t left. inl (read.crash u o t left);
     }
+
+-- a read for which memory or the store failed serves every command
+pub failed_by : {K X : Type 0} (k : Ghosts K) (old new : K) (e : Refusal) (c : Command) → IsRead {X = X} k old new (Err e) → IsOfMachine (Refused (refusal_of e)) → IsServed k old new c (Refused (refusal_of e))
+failed_by k old new e c read machine = refused_by k old new e c read (λ u o a h. (a, inr (machine, refl), subst (λ t. Stands t a) (sym (read.same u o)) h))
 
 -- a read that failed serves every command, by the refusal that tells of the failure
 pub fails_all : {K X : Type 0} (k : Ghosts K) (old new : K) (e : Fault) (r : Refusal) → r ≡ fault_refusal e → Quiet {X = X} k old new (Err e)

@@ -2,6 +2,7 @@ pub mod CommandWords
 pub mod DeskSteps
 pub mod KeeperChanges
 pub mod KeeperReads
+pub mod OneRow
 pub mod RoomLog
 pub mod RoomRows
 pub mod RoomSteps

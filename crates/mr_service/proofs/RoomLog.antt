@@ -1,50 +1,37 @@
--- From the rows of the error log, and the row of one request, to what the view of a replica tells of a room.
-use Rattle.std.proofs.Common.{◌≡◌, refl, sym, ap, ◌∙◌, subst, ℕ, ◌<◌, Bool, true, false, cond, ◌&&◌, eqb, List, [], ◌∷◌, map, ◌⊎◌, inl, inr, Some, None, arith, lt-ltb, eq-eqb, ne_eqb, is_lt, nat_cmp}
-use Rattle.std.proofs.lemmas.Bool.{true≢false, and_parts, and_from}
-use Rattle.std.specs.List.{filter_map, find}
+-- From the rows of the error log and of cancels, and the row of one write, to what the view of a replica tells of a room.
+use Rattle.std.proofs.Common.{◌≡◌, refl, sym, ap, ◌∙◌, subst, ℕ, ◌<◌, Bool, true, false, not, cond, ◌&&◌, eqb, List, [], ◌∷◌, map, ◌⊎◌, inl, inr, Some, None, Option, arith, lt-ltb, eq-eqb, ne_eqb, is_lt, nat_cmp}
+use Rattle.std.proofs.lemmas.Bool.{true≢false, and_parts, and_from, false_from_ne_true}
+use Rattle.std.specs.List.{filter, filter_map, find}
 use Rattle.std.specs.List.Sorted.{IsPermutation, IsSortedByKey}
 use Rattle.std.specs.declared.cmp.Ordering.TheVariants.{Less, Equal, Greater}
 use Rattle.std.specs.Str.{bytes_eq}
 use Rattle.mr_model.specs.Texts.{Text}
 use Rattle.mr_model.specs.Writes.{Id, same_id}
 use Rattle.mr_model.specs.Refusals.{NoSuchRequest}
-use Rattle.mr_model.specs.Replica.{Replica, order_of, IsReplica}
+use Rattle.mr_model.specs.Replica.{Replica, IsReplica}
 use Rattle.mr_model.specs.Replies.{OutcomeIs, Refused}
-use Rattle.mr_model.specs.View.{of_room, view_of, whole_list, logging_of, told_of, outcome_reply}
-use Rattle.mr_model.specs.Tables.{BookingRow, ErrorRow, by_id, error_row, tables_of}
+use Rattle.mr_model.specs.View.{view_of, whole_list, logging_of, told_of, outcome_reply}
+use Rattle.mr_model.specs.Tables.{BookingRow, ErrorRow, CancelledRow, CancelRow, PlaceRow, tables_of}
+use Rattle.mr_model.specs.Tables as rows
 use Rattle.mr_model.specs.Dropped.{Has}
-use Rattle.mr_model.specs.Queries.{row_logging, booking_id, error_id, RowBefore, both, one, none, AreInLogOrder}
-use Rattle.mr_model.proofs.Members.{has_filter, filter_has, has_filter_map, filter_map_has, find_has, Sorted, same_id-true, same_id_from}
-use Rattle.mr_model.proofs.RoomPlaces.{room_from}
-use Rattle.mr_model.proofs.RowsById.{by_id_has}
-use Rattle.mr_model.proofs.TablesTell.{logged_row}
-use Rattle.mr_model.proofs.RowsTell.{known_order, row_transitive, room_rows, rows_sorted}
+use Rattle.mr_model.specs.Queries.{LogLine, OfRequest, OfVoid, line_seq, line_time, line_server, line_logging, LineBefore, both, one, none, AreInLogOrder, IsLineOf, booking_id, error_id, cancelled_id, cancel_id, cancelled_outcome, IsCancelOf, IsRowIn, row_id, row_room}
+use Rattle.mr_model.proofs.Members.{has_filter, filter_has, has_map, map_has, has_left, has_right, has_split, find_has, has_all, all_has, Sorted, sorted_filter, same_id-true, same_id_from}
+use Rattle.mr_model.proofs.Runs.{sorted_append}
+use Rattle.mr_model.proofs.RowsTell.{cancelled_tell, none_in_room}
+use Rattle.mr_model.proofs.ErrorsTell.{lines_sorted, room_lines, is_of_line, errors_told, sorted_map}
 use Rattle.mr_model.proofs.KeyOrder.{tables_in_order}
-use Rattle.mr_model.proofs.AnswersFromRows.{errors_told, booked_told, logged_told, none_told}
-use Rattle.mr_store.specs.Picked.{picked_errors, IsPlaceOf}
-use Rattle.mr_store.specs.declared.keeper.PlaceRow.{PlaceRow}
-use Rattle.mr_store.specs.declared.keeper.PlaceRow.TheVariants.{Booked, Logged}
-use Rattle.mr_service.specs.Questions.{log_key, log_key_cmp, place_outcome}
-use Rattle.mr_service.proofs.RowOrder.{either_before, permuted_has, has_permuted, sorted_rows}
+use Rattle.mr_tables.specs.declared.place_rows.PlaceRow as code
+use Rattle.mr_tables.specs.declared.place_rows.PlaceRow.TheVariants as place
+use Rattle.mr_tables.specs.Cells.{place_row_of}
+use Rattle.mr_store.specs.Picked.{picked_errors, picked_cancels, IsPlaceOf}
+use Rattle.mr_service.specs.Asked.{line_of}
+use Rattle.mr_service.specs.declared.replies.LogLine as replies
+use Rattle.mr_service.specs.Questions.{lines_of, log_key, line_key, log_key_cmp, row_of_cancel}
+use Rattle.mr_service.proofs.OneRow.{one_place}
+use Rattle.mr_service.proofs.RowOrder.{either_before, permuted_has, has_permuted, table_apart, permuted_apart, in_strict_order}
 use Rattle.mr_replay.proofs.Lists.{one_name, same_name}
 
--- ---- the error log
-
--- what is picked are the rows of the room
-logged_has : (r : Replica) (room : Text) (row : ErrorRow) → Has row (picked_errors room (tables_of r)) → Has row (tables_of r).errorlog × (row.room ≡ room)
-logged_has r room row a =
-    let f = filter_has (λ (x : ErrorRow). bytes_eq x.room room) row (tables_of r).errorlog a in
-    (f.0, one_name row.room room f.1)
-
-has_logged : (r : Replica) (room : Text) (row : ErrorRow) → Has row (tables_of r).errorlog × (row.room ≡ room) → Has row (picked_errors room (tables_of r))
-has_logged r room row p = has_filter (λ (x : ErrorRow). bytes_eq x.room room) row (tables_of r).errorlog (same_name row.room room p.1) p.0
-
--- a room's error rows are those of its writes, in the order of these
-row_in_order : (r : Replica) (room : Text) (row : ErrorRow) → IsReplica r → Has row (tables_of r).errorlog → row.room ≡ room → Has row (room_rows r room)
-row_in_order r room row h a own =
-    let (w, b, e) = filter_map_has (error_row r) row (by_id r.known) a in
-    let at : w.room ≡ room = sym (ap (λ (y : ErrorRow). y.room) (logged_row r w row e).1) ∙ own in
-    has_filter_map (error_row r) w row (of_room room (order_of r)) e (has_filter (λ v. bytes_eq v.room room) w (order_of r) (room_from w room at) (known_order r w h (by_id_has r w b)))
+-- ---- the order of the error log
 
 -- how numbers compare
 number_less : (a b : ℕ) → a < b → nat_cmp a b ≡ Less
@@ -53,40 +40,142 @@ number_less a b l = ap (λ c. cond c Less (cond (eqb a b) Equal Greater)) (lt-lt
 number_same : (a b : ℕ) → a ≡ b → nat_cmp a b ≡ Equal
 number_same a b e = grind (arith, e)
 
+-- each before the next, so before all that follow
+line_transitive : (a b c : LogLine) → LineBefore a b → LineBefore b c → LineBefore a c
+line_transitive a b c (both p q) (both u v) = both p (omega (arith, q, v))
+line_transitive a b c (both p q) (one u v) = one p v
+line_transitive a b c (both p q) (none u v w) = absurd (omega (arith, q, u))
+line_transitive a b c (one p q) (both u v) = absurd (omega (arith, q, u))
+line_transitive a b c (one p q) (one u v) = absurd (omega (arith, q, u))
+line_transitive a b c (one p q) (none u v w) = one p v
+line_transitive a b c (none p q l) (both u v) = absurd (omega (arith, q, u))
+line_transitive a b c (none p q l) (one u v) = absurd (omega (arith, q, u))
+line_transitive a b c (none p q l) (none u v m) = none p v (go l m)
+  where
+    go : (line_time a < line_time b) ⊎ ((line_time a ≡ line_time b) × (line_server a < line_server b)) → (line_time b < line_time c) ⊎ ((line_time b ≡ line_time c) × (line_server b < line_server c)) → (line_time a < line_time c) ⊎ ((line_time a ≡ line_time c) × (line_server a < line_server c))
+    go (inl x) (inl y) = inl (omega (arith, x, y))
+    go (inl x) (inr y) = inl (let e = y.0 in omega (arith, x, e))
+    go (inr x) (inl y) = inl (let e = x.0 in omega (arith, y, e))
+    go (inr x) (inr y) = inr (x.0 ∙ y.0, omega (arith, x.1, y.1))
+
 -- the keys come in the order of the log
-key_tested : (a b : ErrorRow) → RowBefore a b → is_lt (log_key_cmp (log_key a) (log_key b)) ≡ true
+key_tested : (a b : LogLine) → LineBefore a b → is_lt (log_key_cmp (log_key a) (log_key b)) ≡ true
 key_tested a b (both p q) =
-    rw (ne_eqb a.seq 0 (λ z. omega (arith, p, z)), ne_eqb b.seq 0 (λ z. omega (arith, p, q, z)), number_less a.seq b.seq q) refl
-key_tested a b (one p q) = rw (ne_eqb a.seq 0 (λ z. omega (arith, p, z)), eq-eqb b.seq 0 q) refl
+    rw (ne_eqb (line_seq a) 0 (λ z. omega (arith, p, z)), ne_eqb (line_seq b) 0 (λ z. omega (arith, p, q, z)), number_less (line_seq a) (line_seq b) q) refl
+key_tested a b (one p q) = rw (ne_eqb (line_seq a) 0 (λ z. omega (arith, p, z)), eq-eqb (line_seq b) 0 q) refl
 key_tested a b (none p q (inl l)) =
-    rw (eq-eqb a.seq 0 p, eq-eqb b.seq 0 q, number_same a.seq b.seq (p ∙ sym q), number_less a.time b.time l) refl
+    rw (eq-eqb (line_seq a) 0 p, eq-eqb (line_seq b) 0 q, number_same (line_seq a) (line_seq b) (p ∙ sym q), number_less (line_time a) (line_time b) l) refl
 key_tested a b (none p q (inr l)) =
-    rw (eq-eqb a.seq 0 p, eq-eqb b.seq 0 q, number_same a.seq b.seq (p ∙ sym q), number_same a.time b.time l.0, number_less a.server b.server l.1) refl
+    rw (eq-eqb (line_seq a) 0 p, eq-eqb (line_seq b) 0 q, number_same (line_seq a) (line_seq b) (p ∙ sym q), number_same (line_time a) (line_time b) l.0, number_less (line_server a) (line_server b) l.1) refl
 
 -- one order in the words of the law
-log_order : (rows : List ErrorRow) → Sorted RowBefore rows → AreInLogOrder rows
+log_order : (ls : List LogLine) → Sorted LineBefore ls → AreInLogOrder ls
 log_order [] s = tt
 log_order (x ∷ xs) s = (s.0, log_order xs s.1)
 
--- the error log of a room is its error rows, sorted by these keys
-pub error_rows : (r : Replica) (room : Text) (rows : List ErrorRow) → IsReplica r → IsPermutation (picked_errors room (tables_of r)) rows → IsSortedByKey log_key log_key_cmp rows
-    → filter_map logging_of (whole_list (view_of r room)) ≡ map row_logging rows
-error_rows r room rows h moved up =
-    errors_told r room rows h
-    (log_order rows (sorted_rows error_id RowBefore (λ a b. is_lt (log_key_cmp (log_key a) (log_key b))) row_transitive key_tested (λ row. bytes_eq row.room room) (tables_of r).errorlog rows (tables_in_order r h).errorlog moved up either))
-    (λ row. (
-      (λ a. logged_has r room row (has_permuted row (picked_errors room (tables_of r)) rows moved a)),
-      λ p. permuted_has row (picked_errors room (tables_of r)) rows moved (has_logged r room row p),
-    ))
-  where
-    either : (x y : ErrorRow) → Has x (picked_errors room (tables_of r)) → Has y (picked_errors room (tables_of r)) → same_id (error_id x) (error_id y) ≡ false → RowBefore x y ⊎ RowBefore y x
-    either x y a b apart =
-        let p = logged_has r room x a in
-        let q = logged_has r room y b in
-        either_before RowBefore x y (room_rows r room) (rows_sorted r room h) (row_in_order r room x h p.0 p.1) (row_in_order r room y h q.0 q.1)
-        (λ e. true≢false (sym (same_id_from (error_id x) (error_id y) (ap error_id e)) ∙ apart))
+lines_mapped : (ls : List replies.LogLine) → Sorted (λ x y. LineBefore (line_of x) (line_of y)) ls → Sorted LineBefore (map line_of ls)
+lines_mapped [] s = tt
+lines_mapped (x ∷ xs) s =
+    (has_all (LineBefore (line_of x)) (map line_of xs) (λ l a. let (y, b, e) = map_has line_of l xs a in subst (LineBefore (line_of x)) (sym e) (all_has (λ z. LineBefore (line_of x) (line_of z)) y xs s.0 b)), lines_mapped xs s.1)
 
--- ---- outcomes
+-- ---- its lines
+
+abbrev line_id : LogLine → Id
+line_id (OfRequest row) = error_id row
+line_id (OfVoid row) = cancel_id row
+
+-- what a keeper gives of a room: its error rows and its cancels
+pub record AreLogged (r : Replica) (room : Text) (requests : List ErrorRow) (cancels : List CancelRow) : Type 0 where
+  pub requests_are : IsPermutation (picked_errors room (tables_of r)) requests
+  pub cancels_are : IsPermutation (picked_cancels room (tables_of r)) cancels
+
+module _ (r : Replica) (room : Text) (requests : List ErrorRow) (cancels : List CancelRow) (h : IsReplica r) (are : AreLogged r room requests cancels) where
+  of_request : (row : ErrorRow) → Has row requests → Has row (tables_of r).errorlog × (row.room ≡ room)
+  of_request row a =
+      let f = filter_has (λ (x : ErrorRow). bytes_eq x.room room) row (tables_of r).errorlog (has_permuted row (picked_errors room (tables_of r)) requests are.requests_are a) in
+      (f.0, one_name row.room room f.1)
+
+  of_cancel : (row : CancelRow) → Has row cancels → Has row (tables_of r).cancels × (row.room ≡ room)
+  of_cancel row a =
+      let f = filter_has (λ (x : CancelRow). bytes_eq x.room room) row (tables_of r).cancels (has_permuted row (picked_cancels room (tables_of r)) cancels are.cancels_are a) in
+      (f.0, one_name row.room room f.1)
+
+  line_is : (l : LogLine) → Has l (lines_of requests cancels) → IsLineOf r room l
+  line_is l a = go (has_split l (map (λ row. OfRequest row) requests) _ a)
+    where
+      go : Has l (map (λ row. OfRequest row) requests) ⊎ Has l (map (λ row. OfVoid row) (filter (λ (row : CancelRow). not row.done) cancels)) → IsLineOf r room l
+      go (inl b) = let (row, c, s) = map_has (λ row. OfRequest row) l requests b in subst (IsLineOf r room) (sym s) (of_request row c)
+      go (inr b) =
+          let (row, c, s) = map_has (λ row. OfVoid row) l (filter (λ (row : CancelRow). not row.done) cancels) b in
+          let f = filter_has (λ (x : CancelRow). not x.done) row cancels c in
+          let p = of_cancel row f.0 in
+          subst (IsLineOf r room) (sym s) (p.0, p.1, f.1)
+
+  is_line : (l : LogLine) → IsLineOf r room l → Has l (lines_of requests cancels)
+  is_line (OfRequest row) p =
+      has_left (OfRequest row) (map (λ x. OfRequest x) requests) _
+      (has_map (λ x. OfRequest x) row requests (permuted_has row (picked_errors room (tables_of r)) requests are.requests_are (has_filter (λ (x : ErrorRow). bytes_eq x.room room) row (tables_of r).errorlog (same_name row.room room p.1) p.0)))
+  is_line (OfVoid row) p =
+      has_right (OfVoid row) (map (λ x. OfRequest x) requests) _
+      (has_map (λ x. OfVoid x) row (filter (λ (x : CancelRow). not x.done) cancels)
+      (has_filter (λ (x : CancelRow). not x.done) row cancels p.2
+      (permuted_has row (picked_cancels room (tables_of r)) cancels are.cancels_are (has_filter (λ (x : CancelRow). bytes_eq x.room room) row (tables_of r).cancels (same_name row.room room p.1) p.0))))
+
+  -- they are of different ids
+  lines_apart : Sorted (λ x y. same_id (line_id x) (line_id y) ≡ false) (lines_of requests cancels)
+  lines_apart =
+      sorted_append (λ x y. same_id (line_id x) (line_id y) ≡ false) (map (λ row. OfRequest row) requests) (map (λ row. OfVoid row) (filter (λ (row : CancelRow). not row.done) cancels))
+      (made_apart error_id (λ row. OfRequest row) requests (λ x. refl)
+      (permuted_apart error_id (picked_errors room (tables_of r)) requests are.requests_are (table_apart error_id (λ x. bytes_eq x.room room) (tables_of r).errorlog (tables_in_order r h).errorlog)))
+      (made_apart cancel_id (λ row. OfVoid row) (filter (λ (row : CancelRow). not row.done) cancels) (λ x. refl)
+      (sorted_filter (λ x y. same_id (cancel_id x) (cancel_id y) ≡ false) (λ (row : CancelRow). not row.done) cancels
+      (permuted_apart cancel_id (picked_cancels room (tables_of r)) cancels are.cancels_are (table_apart cancel_id (λ x. bytes_eq x.room room) (tables_of r).cancels (tables_in_order r h).cancels))))
+      across
+    where
+      made_apart : {R : Type 0} (key : R → Id) (make : R → LogLine) (xs : List R) → ((x : R) → line_id (make x) ≡ key x) → Sorted (λ x y. same_id (key x) (key y) ≡ false) xs → Sorted (λ x y. same_id (line_id x) (line_id y) ≡ false) (map make xs)
+      made_apart key make [] e s = tt
+      made_apart key make (x ∷ xs) e s = (
+        has_all (λ l. same_id (line_id (make x)) (line_id l) ≡ false) (map make xs)
+            (λ l a. let (y, b, f) = map_has make l xs a in (λ i. same_id (e x i) ((ap line_id f ∙ e y) i)) ∙ all_has (λ z. same_id (key x) (key z) ≡ false) y xs s.0 b),
+        made_apart key make xs e s.1,
+      )
+
+      across : (x y : LogLine) → Has x (map (λ row. OfRequest row) requests) → Has y (map (λ row. OfVoid row) (filter (λ (row : CancelRow). not row.done) cancels)) → same_id (line_id x) (line_id y) ≡ false
+      across x y a b =
+          false_from_ne_true (same_id (line_id x) (line_id y))
+          (λ e.
+          let (row, c, s) = map_has (λ row. OfRequest row) x requests a in
+          let (gone, d, t) = map_has (λ row. OfVoid row) y (filter (λ (row : CancelRow). not row.done) cancels) b in
+          let bad : rows.Erred row ≡ rows.Cancel gone =
+          one_place r (rows.Erred row) (rows.Cancel gone) h (of_request row c).0 (of_cancel gone (filter_has (λ (x : CancelRow). not x.done) gone cancels d).0).0
+          (sym (ap line_id s) ∙ same_id-true (line_id x) (line_id y) e ∙ ap line_id t)
+          in
+          cc bad)
+
+  log_all : (lines : List replies.LogLine) → IsPermutation (lines_of requests cancels) (map line_of lines) → IsSortedByKey line_key log_key_cmp lines → filter_map logging_of (whole_list (view_of r room)) ≡ map line_logging (map line_of lines)
+  log_all lines moved up =
+      errors_told r room (map line_of lines) h
+      (log_order (map line_of lines)
+      (lines_mapped lines
+      (in_strict_order (λ x. line_id (line_of x)) (λ x y. LineBefore (line_of x) (line_of y)) (λ a b. is_lt (log_key_cmp (line_key a) (line_key b)))
+      (λ x y z p q. line_transitive (line_of x) (line_of y) (line_of z) p q) (λ x y p. key_tested (line_of x) (line_of y) p)
+      lines (sorted_map (λ x y. same_id (line_id x) (line_id y) ≡ false) line_of lines (permuted_apart line_id (lines_of requests cancels) (map line_of lines) moved lines_apart)) up
+      (λ x y a b apart.
+      either_before LineBefore (line_of x) (line_of y) (room_lines r room) (lines_sorted r room h)
+      (is_of_line r room (line_of x) h (is_given (line_of x) (has_map line_of x lines a))) (is_of_line r room (line_of y) h (is_given (line_of y) (has_map line_of y lines b)))
+      (λ e. true≢false (sym (same_id_from (line_id (line_of x)) (line_id (line_of y)) (ap line_id e)) ∙ apart))))))
+      (λ l. (is_given l, λ p. permuted_has l (lines_of requests cancels) (map line_of lines) moved (is_line l p)))
+    where
+      is_given : (l : LogLine) → Has l (map line_of lines) → IsLineOf r room l
+      is_given l a = line_is l (has_permuted l (lines_of requests cancels) (map line_of lines) moved a)
+
+-- the error log of a room is its error rows and void cancels, sorted by these keys
+pub log_rows : (r : Replica) (room : Text) (requests : List ErrorRow) (cancels : List CancelRow) (lines : List replies.LogLine) → IsReplica r → AreLogged r room requests cancels
+    → IsPermutation (lines_of requests cancels) (map line_of lines) → IsSortedByKey line_key log_key_cmp lines
+    → filter_map logging_of (whole_list (view_of r room)) ≡ map line_logging (map line_of lines)
+log_rows r room requests cancels lines h are moved up = log_all r room requests cancels h are lines moved up
+
+-- ---- the row of a write
 
 -- where a search finds nothing, no element passes
 none_found : {A : Type 0} (p : A → Bool) (x : A) (xs : List A) → find p xs ≡ None → Has x xs → p x ≡ true → ⊥
@@ -98,20 +187,60 @@ none_found {A = A} p x (y ∷ ys) e h t = go (p y) refl e h (none_found p x ys)
     go false s f (inl same) ih = true≢false (sym t ∙ ap p same ∙ s)
     go false s f (inr g) ih = ih f g t
 
--- the outcome of a request is told by the row that has its id, which is of the room
-pub place_told : (r : Replica) (room : Text) (id : Id) (place : PlaceRow) → IsReplica r → IsPlaceOf room id (tables_of r) (Some place) → outcome_reply (told_of id (whole_list (view_of r room))) ≡ OutcomeIs (place_outcome place)
-place_told r room id (Booked row) h is =
-    let f = find_has (λ (x : BookingRow). same_id (booking_id x) id && bytes_eq x.room room) row (tables_of r).booking is in
-    let p = and_parts (same_id (booking_id row) id) (bytes_eq row.room room) f.1 in
-    subst (λ i. outcome_reply (told_of i (whole_list (view_of r room))) ≡ OutcomeIs (place_outcome (Booked row))) (same_id-true (booking_id row) id p.0) (booked_told r room row h f.0 (one_name row.room room p.1))
-place_told r room id (Logged row) h is =
-    let f = find_has (λ (x : ErrorRow). same_id (error_id x) id && bytes_eq x.room room) row (tables_of r).errorlog is.1 in
-    let p = and_parts (same_id (error_id row) id) (bytes_eq row.room room) f.1 in
-    subst (λ i. outcome_reply (told_of i (whole_list (view_of r room))) ≡ OutcomeIs (place_outcome (Logged row))) (same_id-true (error_id row) id p.0) (logged_told r room row h f.0 (one_name row.room room p.1))
+-- what is found is a row of the write with this id, of the room
+pub record IsRowOf (r : Replica) (room : Text) (id : Id) (p : PlaceRow) : Type 0 where
+  pub there : IsRowIn (tables_of r) p
+  pub in_room : row_room p ≡ room
+  pub of_id : row_id p ≡ id
 
--- and where no row has it, there is no such request
+found_row : {R : Type 0} (r : Replica) (room : Text) (id : Id) (key : R → Id) (own : R → Text) (make : R → PlaceRow) (table : List R) (row : R)
+    → ((x : R) → Has x table → IsRowIn (tables_of r) (make x)) → ((x : R) → row_room (make x) ≡ own x) → ((x : R) → row_id (make x) ≡ key x)
+    → find (λ x. same_id (key x) id && bytes_eq (own x) room) table ≡ Some row → IsRowOf r room id (make row)
+found_row r room id key own make table row in_table its_room its_id is =
+    let f = find_has (λ x. same_id (key x) id && bytes_eq (own x) room) row table is in
+    let p = and_parts (same_id (key row) id) (bytes_eq (own row) room) f.1 in
+    record { there = in_table row f.0; in_room = its_room row ∙ one_name (own row) room p.1; of_id = its_id row ∙ same_id-true (key row) id p.0 }
+
+pub place_found : (r : Replica) (room : Text) (id : Id) (found : code.PlaceRow) → IsPlaceOf room id (tables_of r) (Some found) → IsRowOf r room id (place_row_of found)
+place_found r room id (place.Booked row) is = found_row r room id booking_id (λ x. x.room) rows.Booked (tables_of r).booking row (λ x a. a) (λ x. refl) (λ x. refl) is
+place_found r room id (place.Erred row) is = found_row r room id error_id (λ x. x.room) rows.Erred (tables_of r).errorlog row (λ x a. a) (λ x. refl) (λ x. refl) is.1
+place_found r room id (place.Cancelled row) is = found_row r room id cancelled_id (λ x. x.room) rows.Cancelled (tables_of r).cancelled row (λ x a. a) (λ x. refl) (λ x. refl) is.2
+place_found r room id (place.Cancel row) is = found_row r room id cancel_id (λ x. x.room) rows.Cancel (tables_of r).cancels row (λ x a. a) (λ x. refl) (λ x. refl) is.3
+
+-- where no row has the id, there is no such request
 pub no_place_told : (r : Replica) (room : Text) (id : Id) → IsReplica r → IsPlaceOf room id (tables_of r) None → outcome_reply (told_of id (whole_list (view_of r room))) ≡ Refused NoSuchRequest
 no_place_told r room id h is =
-    none_told r room id h
+    none_in_room r room id h
     (λ row a own e. none_found (λ (x : BookingRow). same_id (booking_id x) id && bytes_eq x.room room) row (tables_of r).booking is.0 a (and_from (same_id (booking_id row) id) (bytes_eq row.room room) (same_id_from (booking_id row) id e) (same_name row.room room own)))
     (λ row a own e. none_found (λ (x : ErrorRow). same_id (error_id x) id && bytes_eq x.room room) row (tables_of r).errorlog is.1 a (and_from (same_id (error_id row) id) (bytes_eq row.room room) (same_id_from (error_id row) id e) (same_name row.room room own)))
+    (λ row a own e. none_found (λ (x : CancelledRow). same_id (cancelled_id x) id && bytes_eq x.room room) row (tables_of r).cancelled is.2 a (and_from (same_id (cancelled_id row) id) (bytes_eq row.room room) (same_id_from (cancelled_id row) id e) (same_name row.room room own)))
+    (λ row a own e. none_found (λ (x : CancelRow). same_id (cancel_id x) id && bytes_eq x.room room) row (tables_of r).cancels is.3 a (and_from (same_id (cancel_id row) id) (bytes_eq row.room room) (same_id_from (cancel_id row) id e) (same_name row.room room own)))
+
+-- a booking that was taken back has the row of its cancel, which a keeper finds in the room
+pub cancel_found : (r : Replica) (room : Text) (row : CancelledRow) (found : Option code.PlaceRow) → IsReplica r → Has row (tables_of r).cancelled → row.room ≡ room → IsPlaceOf room row.by (tables_of r) found
+    → (c : CancelRow) × (row_of_cancel found ≡ Some c) × (outcome_reply (told_of (cancelled_id row) (whole_list (view_of r room))) ≡ OutcomeIs (cancelled_outcome row c))
+cancel_found r room row found h a own is = go found is
+  where
+    told : ((c : CancelRow) × IsCancelOf (tables_of r) row c)
+        × ((c : CancelRow) → Has c (tables_of r).cancels → cancel_id c ≡ row.by → outcome_reply (told_of (cancelled_id row) (whole_list (view_of r room))) ≡ OutcomeIs (cancelled_outcome row c))
+    told = cancelled_tell r room row h a own
+
+    cancel : CancelRow
+    cancel = told.0.0
+
+    -- the row that is found is the cancel's
+    same : (p : PlaceRow) → IsRowOf r room row.by p → p ≡ rows.Cancel cancel
+    same p of = one_place r p (rows.Cancel cancel) h of.there told.0.1.is_there (of.of_id ∙ sym told.0.1.is_by)
+
+    none_is : IsPlaceOf room row.by (tables_of r) None → ⊥
+    none_is at =
+        none_found (λ (x : CancelRow). same_id (cancel_id x) row.by && bytes_eq x.room room) cancel (tables_of r).cancels at.3 told.0.1.is_there
+        (and_from (same_id (cancel_id cancel) row.by) (bytes_eq cancel.room room) (same_id_from (cancel_id cancel) row.by told.0.1.is_by) (same_name cancel.room room (told.0.1.same_room ∙ own)))
+
+    go : (o : Option code.PlaceRow) → IsPlaceOf room row.by (tables_of r) o
+        → (c : CancelRow) × (row_of_cancel o ≡ Some c) × (outcome_reply (told_of (cancelled_id row) (whole_list (view_of r room))) ≡ OutcomeIs (cancelled_outcome row c))
+    go None at = absurd (none_is at)
+    go (Some (place.Booked x)) at = absurd (let bad : rows.Booked x ≡ rows.Cancel cancel = same (rows.Booked x) (place_found r room row.by (place.Booked x) at) in cc bad)
+    go (Some (place.Erred x)) at = absurd (let bad : rows.Erred x ≡ rows.Cancel cancel = same (rows.Erred x) (place_found r room row.by (place.Erred x) at) in cc bad)
+    go (Some (place.Cancelled x)) at = absurd (let bad : rows.Cancelled x ≡ rows.Cancel cancel = same (rows.Cancelled x) (place_found r room row.by (place.Cancelled x) at) in cc bad)
+    go (Some (place.Cancel x)) at = let of = place_found r room row.by (place.Cancel x) at in (x, refl, told.1 x of.there of.of_id)

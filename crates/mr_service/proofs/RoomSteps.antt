@@ -1,32 +1,39 @@
 -- From what a question reads of a keeper to its step, for every replica that the keeper's tables stand for.
 use Rattle.std.proofs.Common.{◌≡◌, refl, sym, ap, ◌∙◌, subst, Bool, true, false, not, cond, ◌&&◌, List, [], ◌∷◌, map, ◌⊎◌, inl, inr, Option, Some, None, Result, Ok, Err}
-use Rattle.std.proofs.lemmas.List.Sorted.{IsPermutation-trans, list_any-IsPermutation}
-use Rattle.std.specs.Prelude.{is_none, ok_or}
+use Rattle.std.proofs.lemmas.List.Sorted.{list_any-IsPermutation}
+use Rattle.std.specs.Prelude.{◌==◌, is_none, ok_or}
 use Rattle.std.specs.List.{filter_map, list_any}
-use Rattle.std.specs.List.Sorted.{IsPermutation, IsSortedByKey}
+use Rattle.std.specs.List.Sorted.{IsPermutation, IsSortedBy, IsSortedByKey}
 use Rattle.std.specs.Str.{bytes_eq}
 use Rattle.mr_model.specs.Texts.{Text, only_if}
 use Rattle.mr_model.specs.Calendar.{Date, is_date, date_in, date_text, read_date}
-use Rattle.mr_model.specs.Writes.{Id, is_room_name, id_in, is_id_text}
+use Rattle.mr_model.specs.Writes.{Id, is_room_name, id_in, is_id_text, greatest_time, greatest_count}
 use Rattle.mr_model.specs.Refusals as model
-use Rattle.mr_model.specs.Replica.{Replica, IsReplica}
-use Rattle.mr_model.specs.Replies.{Outcome, Part, Full, Committed, Reply, Calendar, Sheet, OutcomeIs, Errors, Refused}
+use Rattle.mr_model.specs.Replica.{Replica, IsReplica, knows_room, clock_of, count_of}
+use Rattle.mr_model.specs.Replies.{Part, Full, Committed, Reply, Calendar, Sheet, OutcomeIs, Errors, Refused}
 use Rattle.mr_model.specs.View.{View, view_of, whole_list, calendar_list, entries, entries_of_day, logging_of, find_request, outcome_reply, told_of, Question, AskSheet, AskCalendar, AskOutcome, AskErrors, unless, answer}
-use Rattle.mr_model.specs.Step.{Ask, IsOfMachine, no_memory}
+use Rattle.mr_model.specs.Step.{After, Ask, Cancel, IsOfMachine, no_memory, refuse, step_unless, after_write, cancel, cancel_write, knows_booking}
 use Rattle.mr_model.specs.Serving.{TakesStep}
-use Rattle.mr_model.specs.Tables.{BookingRow, ErrorRow, Tables, Stands, tables_of}
-use Rattle.mr_model.specs.Queries.{row_entry, row_logging}
+use Rattle.mr_model.specs.Tables.{BookingRow, ErrorRow, CancelledRow, CancelRow, PlaceRow, Tables, Stands, tables_of}
+use Rattle.mr_model.specs.Tables as rows
+use Rattle.mr_model.specs.Queries.{LogLine, row_entry, line_logging, booked_outcome, logged_outcome, cancelled_outcome, cancel_outcome, IsRowIn}
+use Rattle.mr_model.proofs.RowsTell.{booked_tell, erred_tell, cancel_tell}
+use Rattle.mr_model.proofs.UniqueReplay.{some_inj, none_some}
 use Rattle.mr_base.specs.Answers.{ok_if}
 use Rattle.mr_base.specs.Readings.{read_id}
 use Rattle.mr_base.specs.Refusals.{refusal_of}
 use Rattle.mr_base.specs.declared.refusals.Refusal.{Refusal}
 use Rattle.mr_base.specs.declared.refusals.Refusal.TheVariants as refusal
-use Rattle.mr_store.specs.Picked.{picked_errors, AreBookings, IsPlaceOf}
-use Rattle.mr_store.specs.declared.keeper.PlaceRow.{PlaceRow}
-use Rattle.mr_service.specs.Questions.{room_fault, Finds, rows_of_part, place_outcome, log_key, log_key_cmp}
+use Rattle.mr_tables.specs.declared.place_rows.PlaceRow as code
+use Rattle.mr_tables.specs.Cells.{place_row_of}
+use Rattle.mr_store.specs.Picked.{picked_bookings, picked_errors, picked_cancelled, picked_cancels, booking_before, AreBookings, IsPlaceOf}
+use Rattle.mr_service.specs.Asked.{line_of, outcome_of}
+use Rattle.mr_service.specs.declared.replies.LogLine as replies
+use Rattle.mr_service.specs.declared.replies.Outcome.{Outcome}
+use Rattle.mr_service.specs.Questions.{room_fault, Finds, Shows, ShowsLines, TellsOf, committed_rows, row_of_cancel, lines_of, line_key, log_key_cmp}
 pub use Rattle.mr_service.proofs.DeskSteps.{of_fault, fault_step}
-use Rattle.mr_service.proofs.RoomRows.{calendar_rows, committed_rows, sheet_rows}
-use Rattle.mr_service.proofs.RoomLog.{error_rows, place_told, no_place_told}
+use Rattle.mr_service.proofs.RoomRows.{calendar_rows, committed_calendar_rows, sheet_rows}
+use Rattle.mr_service.proofs.RoomLog.{log_rows, place_found, cancel_found, no_place_told}
 
 -- ---- rooms
 
@@ -140,19 +147,30 @@ sheet_step t u room found day d rows read same finds are =
 pub calendar_refused : (t u : Tables) (room : Text) (part : Part) (e : Refusal) → u ≡ t → Finds t.room room (Err e) → TakesStep t (Ask room (AskCalendar part)) (Refused (refusal_of e)) u
 calendar_refused t u room part e same finds = refused t u room (AskCalendar part) (λ v. Calendar room part (entries (calendar_list part v))) e (λ v. refl) same finds
 
--- the rows of either calendar
-part_rows : (a : Replica) (room : Text) (part : Part) (rows : List BookingRow) → IsReplica a → AreBookings room None (tables_of a) rows → map row_entry (rows_of_part part rows) ≡ entries (calendar_list part (view_of a room))
-part_rows a room Full rows sound are = sym (calendar_rows a room rows sound are)
-part_rows a room Committed rows sound are = sym (committed_rows a room rows sound are)
+-- the bookings of all days show the full calendar
+pub all_shown : (t : Tables) (room : Text) (given : List BookingRow) → AreBookings room None t given → Shows Full room t given
+all_shown t room given are = λ a h. calendar_rows a room given h.sound (subst (λ u. AreBookings room None u given) h.are are)
 
--- a calendar has the rows of all days, or of these the committed ones
-pub calendar_step : (t u : Tables) (room found : Text) (part : Part) (rows shown : List BookingRow) → u ≡ t → Finds t.room room (Ok found) → AreBookings found None t rows → shown ≡ rows_of_part part rows
+-- those that are committed, with those that a tentative cancel took back, show the committed one
+pub committed_shown : (t : Tables) (room : Text) (bookings : List BookingRow) (cancelled : List CancelledRow) (cancels : List CancelRow) (shown : List BookingRow)
+    → AreBookings room None t bookings → IsPermutation (picked_cancelled room t) cancelled → IsPermutation (picked_cancels room t) cancels
+    → IsPermutation (committed_rows bookings cancelled cancels) shown → IsSortedBy booking_before shown → Shows Committed room t shown
+committed_shown t room bookings cancelled cancels shown are back by moved up = λ a h.
+    committed_calendar_rows a room bookings cancelled cancels shown h.sound
+    (record {
+      bookings_are = subst (λ u. IsPermutation (picked_bookings room None u) bookings) h.are are.0;
+      cancelled_are = subst (λ u. IsPermutation (picked_cancelled room u) cancelled) h.are back;
+      cancels_are = subst (λ u. IsPermutation (picked_cancels room u) cancels) h.are by;
+    })
+    moved up
+
+-- a calendar has the rows that show it
+pub calendar_step : (t u : Tables) (room found : Text) (part : Part) (shown : List BookingRow) → u ≡ t → Finds t.room room (Ok found) → Shows part found t shown
     → TakesStep t (Ask room (AskCalendar part)) (Calendar found part (map row_entry shown)) u
-calendar_step t u room found part rows shown same finds are is =
+calendar_step t u room found part shown same finds shows =
     answered t u room found (AskCalendar part) (λ v. Calendar room part (entries (calendar_list part v))) (Calendar found part (map row_entry shown)) (λ v. refl) same finds
     (λ a sound stands. ap (λ x. Calendar x part (map row_entry shown)) finds.0
-    ∙ ap (λ xs. Calendar room part (map row_entry xs)) is
-    ∙ ap (Calendar room part) (part_rows a room part rows sound (subst (λ x. AreBookings x None (tables_of a) rows) finds.0 (subst (λ x. AreBookings found None x rows) stands are))))
+    ∙ ap (Calendar room part) (sym (subst (λ x. Shows part x t shown) finds.0 shows a (record { sound = sound; are = stands }))))
 
 -- ---- outcomes
 
@@ -175,14 +193,46 @@ no_id_found id v e = go (is_id_text id) e
     go true f = absurd (let never : Some (id_in id) ≡ None = f in cc)
     go false f = refl
 
--- the outcome of a request is told by its row
-pub outcome_step : (t u : Tables) (room found id : Text) (i : Id) (place : PlaceRow) (o : Outcome) → Ok i ≡ ok_or (read_id id) refusal.NoSuchRequest → u ≡ t → Finds t.room room (Ok found) → IsPlaceOf found i t (Some place) → o ≡ place_outcome place
-    → TakesStep t (Ask room (AskOutcome id)) (OutcomeIs o) u
-outcome_step t u room found id i place o read same finds at is =
-    answered t u room found (AskOutcome id) (λ v. outcome_reply (find_request id v)) (OutcomeIs o) (λ v. refl) same finds
-    (λ a sound stands. ap OutcomeIs is
-    ∙ sym (place_told a room i place sound (subst (λ x. IsPlaceOf x i (tables_of a) (Some place)) finds.0 (subst (λ x. IsPlaceOf found i x (Some place)) stands at)))
+-- a row tells of its write
+pub booked_tells : (t : Tables) (room : Text) (row : BookingRow) (o : Outcome) → outcome_of o ≡ booked_outcome row → TellsOf room t (rows.Booked row) (Ok o)
+booked_tells t room row o is = λ a h there own. booked_tell a room row h.sound (subst (λ u. IsRowIn u (rows.Booked row)) h.are there) own ∙ ap OutcomeIs (sym is)
+
+pub logged_tells : (t : Tables) (room : Text) (row : ErrorRow) (o : Outcome) → outcome_of o ≡ logged_outcome row → TellsOf room t (rows.Erred row) (Ok o)
+logged_tells t room row o is = λ a h there own. erred_tell a room row h.sound (subst (λ u. IsRowIn u (rows.Erred row)) h.are there) own ∙ ap OutcomeIs (sym is)
+
+pub cancel_tells : (t : Tables) (room : Text) (row : CancelRow) (o : Outcome) → outcome_of o ≡ cancel_outcome row → TellsOf room t (rows.Cancel row) (Ok o)
+cancel_tells t room row o is = λ a h there own. cancel_tell a room row h.sound (subst (λ u. IsRowIn u (rows.Cancel row)) h.are there) own ∙ ap OutcomeIs (sym is)
+
+-- that of a booking that was taken back with the row of the cancel, which there is
+pub cancelled_tells : (t : Tables) (room : Text) (row : CancelledRow) (found : Option code.PlaceRow) (by : CancelRow) (o : Outcome)
+    → IsPlaceOf room row.by t found → row_of_cancel found ≡ Some by → outcome_of o ≡ cancelled_outcome row by → TellsOf room t (rows.Cancelled row) (Ok o)
+cancelled_tells t room row found by o at is said = λ a h there own.
+    let (c, e, told) = cancel_found a room row found h.sound (subst (λ u. IsRowIn u (rows.Cancelled row)) h.are there) own (subst (λ u. IsPlaceOf room row.by u found) h.are at) in
+    told ∙ ap (λ x. OutcomeIs (cancelled_outcome row x)) (some_inj c by (sym e ∙ is)) ∙ ap OutcomeIs (sym said)
+
+pub never_without : (t : Tables) (room : Text) (row : CancelledRow) (found : Option code.PlaceRow) (e : Refusal)
+    → IsPlaceOf room row.by t found → row_of_cancel found ≡ None → TellsOf room t (rows.Cancelled row) (Err e)
+never_without t room row found e at is = λ a h there own.
+    let (c, f, told) = cancel_found a room row found h.sound (subst (λ u. IsRowIn u (rows.Cancelled row)) h.are there) own (subst (λ u. IsPlaceOf room row.by u found) h.are at) in
+    absurd (none_some c (sym is ∙ f))
+
+-- the outcome of a write is what its row tells
+pub outcome_step : (t u : Tables) (room found id : Text) (i : Id) (place : code.PlaceRow) (o : Outcome) → Ok i ≡ ok_or (read_id id) refusal.NoSuchRequest → u ≡ t → Finds t.room room (Ok found) → IsPlaceOf found i t (Some place)
+    → TellsOf found t (place_row_of place) (Ok o) → TakesStep t (Ask room (AskOutcome id)) (OutcomeIs (outcome_of o)) u
+outcome_step t u room found id i place o read same finds at tells =
+    answered t u room found (AskOutcome id) (λ v. outcome_reply (find_request id v)) (OutcomeIs (outcome_of o)) (λ v. refl) same finds
+    (λ a sound stands.
+    let of = place_found a room i place (subst (λ x. IsPlaceOf x i (tables_of a) (Some place)) finds.0 (subst (λ x. IsPlaceOf found i x (Some place)) stands at)) in
+    let said = subst (λ x. TellsOf x t (place_row_of place) (Ok o)) finds.0 tells a (record { sound = sound; are = stands }) (subst (λ x. IsRowIn x (place_row_of place)) (sym stands) of.there) of.in_room in
+    sym (subst (λ x. outcome_reply (told_of x (whole_list (view_of a room))) ≡ OutcomeIs (outcome_of o)) of.of_id said)
     ∙ ap outcome_reply (sym (id_found id i (view_of a room) (ok_read (read_id id) refusal.NoSuchRequest i read))))
+
+-- or memory or the store failed where the row of a cancel was looked up
+pub outcome_failed : (t u : Tables) (room found id : Text) (i : Id) (place : code.PlaceRow) (e : Refusal) → u ≡ t → Finds t.room room (Ok found) → IsPlaceOf found i t (Some place)
+    → TellsOf found t (place_row_of place) (Err e) → TakesStep t (Ask room (AskOutcome id)) (Refused (refusal_of e)) u
+outcome_failed t u room found id i place e same finds at tells = λ a h.
+    let of = place_found a found i place (subst (λ x. IsPlaceOf found i x (Some place)) h.are at) in
+    (a, inr (tells a h (subst (λ x. IsRowIn x (place_row_of place)) (sym h.are) of.there) of.in_room, refl), subst (λ x. Stands x a) (sym same) h)
 
 -- no row of the room has the id
 pub no_request_step : (t u : Tables) (room found id : Text) (i : Id) → Ok i ≡ ok_or (read_id id) refusal.NoSuchRequest → u ≡ t → Finds t.room room (Ok found) → IsPlaceOf found i t None
@@ -209,11 +259,73 @@ id_not_store id e is = λ told. absurd (let p : e ≡ refusal.NoSuchRequest = (e
 pub errors_refused : (t u : Tables) (room : Text) (e : Refusal) → u ≡ t → Finds t.room room (Err e) → TakesStep t (Ask room AskErrors) (Refused (refusal_of e)) u
 errors_refused t u room e same finds = refused t u room AskErrors (λ v. Errors room (filter_map logging_of (whole_list v))) e (λ v. refl) same finds
 
--- an error log has the error rows, sorted
-pub errors_step : (t u : Tables) (room found : Text) (given rows : List ErrorRow) → u ≡ t → Finds t.room room (Ok found) → IsPermutation (picked_errors found t) given → IsPermutation given rows → IsSortedByKey log_key log_key_cmp rows
-    → TakesStep t (Ask room AskErrors) (Errors found (map row_logging rows)) u
-errors_step t u room found given rows same finds picked moved up =
-    answered t u room found AskErrors (λ v. Errors room (filter_map logging_of (whole_list v))) (Errors found (map row_logging rows)) (λ v. refl) same finds
-    (λ a sound stands. let all : IsPermutation (picked_errors found t) rows = IsPermutation-trans (picked_errors found t) given rows picked moved in
-    ap (λ x. Errors x (map row_logging rows)) finds.0
-    ∙ ap (Errors room) (sym (error_rows a room rows sound (subst (λ x. IsPermutation (picked_errors x (tables_of a)) rows) finds.0 (subst (λ x. IsPermutation (picked_errors found x) rows) stands all)) up)))
+-- error rows and void cancels, sorted, show it
+pub lines_shown : (t : Tables) (room : Text) (requests : List ErrorRow) (cancels : List CancelRow) (lines : List replies.LogLine)
+    → IsPermutation (picked_errors room t) requests → IsPermutation (picked_cancels room t) cancels
+    → IsPermutation (lines_of requests cancels) (map line_of lines) → IsSortedByKey line_key log_key_cmp lines → ShowsLines room t (map line_of lines)
+lines_shown t room requests cancels lines erred by moved up = λ a h.
+    log_rows a room requests cancels lines h.sound
+    (record {
+      requests_are = subst (λ u. IsPermutation (picked_errors room u) requests) h.are erred;
+      cancels_are = subst (λ u. IsPermutation (picked_cancels room u) cancels) h.are by;
+    })
+    moved up
+
+-- an error log has the lines that show it
+pub errors_step : (t u : Tables) (room found : Text) (lines : List LogLine) → u ≡ t → Finds t.room room (Ok found) → ShowsLines found t lines
+    → TakesStep t (Ask room AskErrors) (Errors found (map line_logging lines)) u
+errors_step t u room found lines same finds shows =
+    answered t u room found AskErrors (λ v. Errors room (filter_map logging_of (whole_list v))) (Errors found (map line_logging lines)) (λ v. refl) same finds
+    (λ a sound stands. ap (λ x. Errors x (map line_logging lines)) finds.0
+    ∙ ap (Errors room) (sym (subst (λ x. ShowsLines x t lines) finds.0 shows a (record { sound = sound; are = stands }))))
+
+-- ---- cancels whose target is no id
+
+fault_or_none : Option model.Refusal → model.Refusal
+fault_or_none None = model.NoSuchRequest
+fault_or_none (Some e) = e
+
+-- the room is looked at before the id
+cancel_faulty : (a : Replica) (room id : Text) → is_id_text id ≡ false → cancel a room id ≡ refuse a (fault_or_none (room_fault a.rooms room))
+unfolding fault_or_none
+cancel_faulty a room id bad =
+    (λ i. at (is_room_name room) (knows_room a room) (bad i && knows_booking a room (id_in id))) ∙ go (is_room_name room) (knows_room a room)
+  where
+    at : Bool → Bool → Bool → After
+    at named known booked =
+        step_unless a
+        (model.first_refusal
+        ((not named, model.BadRoomName) ∷ (not known, model.UnknownRoom) ∷ (not booked, model.NoSuchRequest) ∷ (clock_of a == greatest_time, model.ClockExhausted)
+        ∷ (count_of a a.server == greatest_count, model.CountExhausted) ∷ []))
+        (after_write a (cancel_write a room id))
+
+    go : (named known : Bool) → at named known false ≡ refuse a (fault_or_none (model.first_refusal ((not named, model.BadRoomName) ∷ (not known, model.UnknownRoom) ∷ [])))
+    go true true = refl
+    go true false = refl
+    go false known = refl
+
+no_id_text : (id : Text) → read_id id ≡ None → is_id_text id ≡ false
+no_id_text id e = go (is_id_text id) e
+  where
+    go : (b : Bool) → only_if b (id_in id) ≡ None → b ≡ false
+    go true f = absurd (let never : Some (id_in id) ≡ None = f in cc)
+    go false f = refl
+
+-- the cancel at one replica, by what is at fault with the room
+cancel_at : (t : Tables) (a : Replica) (room id : Text) (fault : Option model.Refusal) → read_id id ≡ None → room_fault t.room room ≡ fault → t ≡ tables_of a → cancel a room id ≡ refuse a (fault_or_none fault)
+cancel_at t a room id fault none is are =
+    cancel_faulty a room id (no_id_text id none) ∙ ap (λ o. refuse a (fault_or_none o)) (ap (λ (x : Tables). room_fault x.room room) (sym are) ∙ is)
+
+-- a cancel in a room that is not known
+pub no_cancel_refused : (t u : Tables) (room id : Text) (bad e : Refusal) → Err bad ≡ ok_or (read_id id) refusal.NoSuchRequest → u ≡ t → Finds t.room room (Err e) → TakesStep t (Cancel room id) (Refused (refusal_of e)) u
+unfolding fault_or_none
+no_cancel_refused t u room id bad e read same (inl own) =
+    λ a h. (a, inl (sym (cancel_at t a room id (Some (refusal_of e)) (err_read (read_id id) refusal.NoSuchRequest bad read).0 own h.are)), subst (λ x. Stands x a) (sym same) h)
+no_cancel_refused t u room id bad e read same (inr machine) = λ a h. (a, inr (machine, refl), subst (λ x. Stands x a) (sym same) h)
+
+-- a cancel in a known room
+pub no_cancel_step : (t u : Tables) (room found id : Text) (e : Refusal) → Err e ≡ ok_or (read_id id) refusal.NoSuchRequest → u ≡ t → Finds t.room room (Ok found) → TakesStep t (Cancel room id) (Refused (refusal_of e)) u
+unfolding fault_or_none
+no_cancel_step t u room found id e read same finds =
+    let p = err_read (read_id id) refusal.NoSuchRequest e read in
+    λ a h. (a, inl (ap (λ x. refuse a (refusal_of x)) p.1 ∙ sym (cancel_at t a room id None p.0 finds.1 h.are)), subst (λ x. Stands x a) (sym same) h)

@@ -6,7 +6,7 @@ use Rattle.mr_model.specs.Refusals.{Refusal}
 use Rattle.mr_model.specs.Replica.{Replica, count_of, last_time, is_dropped, write_with, committed_count}
 use Rattle.mr_model.specs.Exchange.{Item, W, C, Header, Batch, read_batch}
 use Rattle.mr_model.specs.Taking.{Progress, take_item, take_items, take_write, take_commit, is_that_write, is_that_id}
-use Rattle.mr_model.specs.Step.{Command, AddRoom, Submit, Receive, Commit, Truncate, AskPosition, BatchFor, Ask, After, step, step_unless, after_items, receive_under, receive_read}
+use Rattle.mr_model.specs.Step.{Command, AddRoom, Submit, Cancel, Receive, Commit, Truncate, AskPosition, BatchFor, Ask, After, step, step_unless, after_items, receive_under, receive_read}
 
 -- the same server and the same primary
 pub record IsSameServer (a b : Replica) : Type 0 where
@@ -82,6 +82,7 @@ read_same r (Ok b) = under_same r b.header b.items
 pub step_same : (r : Replica) (c : Command) → IsSameServer r (step r c).replica
 step_same r (AddRoom room) = unless_same r _ _ (record { server = refl; primary = refl })
 step_same r (Submit s) = unless_same r _ _ (record { server = refl; primary = refl })
+step_same r (Cancel room id) = unless_same r _ _ (record { server = refl; primary = refl })
 step_same r (Receive bytes) = read_same r (read_batch bytes)
 step_same r (Commit k) = unless_same r _ _ (record { server = refl; primary = refl })
 step_same r (Truncate n) = unless_same r _ _ (record { server = refl; primary = refl })

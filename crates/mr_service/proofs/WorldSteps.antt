@@ -31,6 +31,7 @@ wants v s reply c e w stands = (w, (c, inr (e, refl)), stands)
 pub is_local : (l : Local) → IsLocal (local_of l)
 is_local (local.AddRoom room) = tt
 is_local (local.Submit s) = tt
+is_local (local.Cancel room id) = tt
 is_local (local.Commit k) = tt
 is_local (local.Truncate d) = tt
 is_local local.Position = tt

@@ -4,7 +4,8 @@ use Rattle.std.specs.String.{string_bytes}
 use Rattle.mr_model.specs.View.{AskSheet, AskCalendar, AskOutcome, AskErrors}
 use Rattle.mr_model.specs.Step as model
 use Rattle.mr_model.specs.Replies as replies
-use Rattle.mr_model.specs.Queries.{row_entry, row_logging}
+use Rattle.mr_model.specs.Queries as queries
+use Rattle.mr_model.specs.Queries.{row_entry, line_logging}
 use Rattle.mr_base.specs.declared.refusals.Refusal.{Refusal}
 use Rattle.mr_base.specs.Refusals.{refusal_of}
 use Rattle.mr_service.specs.declared.commands.Command.{Command}
@@ -17,6 +18,8 @@ use Rattle.mr_service.specs.declared.commands.Submission.{Submission}
 use Rattle.mr_service.specs.declared.commands.SlotWords.{SlotWords}
 use Rattle.mr_service.specs.declared.replies.Reply.{Reply}
 use Rattle.mr_service.specs.declared.replies.Reply.TheVariants as reply
+use Rattle.mr_service.specs.declared.replies.LogLine.{LogLine}
+use Rattle.mr_service.specs.declared.replies.LogLine.TheVariants as log_line
 use Rattle.mr_service.specs.declared.replies.Outcome.{Outcome}
 use Rattle.mr_service.specs.declared.replies.Outcome.TheVariants as outcome
 
@@ -42,6 +45,7 @@ part_of part.Committed = replies.Committed
 abbrev pub local_of : Local → model.Command
 local_of (local.AddRoom room) = model.AddRoom (string_bytes room)
 local_of (local.Submit s) = model.Submit (submission_of s)
+local_of (local.Cancel room id) = model.Cancel (string_bytes room) (string_bytes id)
 local_of (local.Commit k) = model.Commit k
 local_of (local.Truncate d) = model.Truncate d
 local_of local.Position = model.AskPosition
@@ -60,6 +64,13 @@ command_of (command.Receive bytes) = model.Receive bytes.items
 abbrev pub outcome_of : Outcome → replies.Outcome
 outcome_of (outcome.Booked b) = replies.Booked b.id b.is_committed b.day b.start b.stop
 outcome_of (outcome.Logged id is_committed) = replies.NotBooked id is_committed
+outcome_of (outcome.Cancelled id is_committed by by_committed) = replies.Cancelled id is_committed by_committed by
+outcome_of (outcome.Cancels id is_committed target) = replies.CancelDone id is_committed target
+outcome_of (outcome.Void id is_committed target) = replies.CancelVoid id is_committed target
+
+abbrev pub line_of : LogLine → queries.LogLine
+line_of (log_line.Request row) = queries.OfRequest row
+line_of (log_line.VoidCancel row) = queries.OfVoid row
 
 abbrev pub reply_of : Reply → replies.Reply
 reply_of reply.RoomAdded = replies.RoomAdded
@@ -71,7 +82,7 @@ reply_of (reply.Position p) = replies.PositionIs p
 reply_of (reply.Batch b) = replies.BatchIs b
 reply_of (reply.Sheet room day rows) = replies.Sheet room day (map row_entry rows.items)
 reply_of (reply.Calendar room part rows) = replies.Calendar room (part_of part) (map row_entry rows.items)
-reply_of (reply.Errors room rows) = replies.Errors room (map row_logging rows.items)
+reply_of (reply.Errors room lines) = replies.Errors room (map line_logging (map line_of lines.items))
 reply_of (reply.Refused e) = replies.Refused (refusal_of e)
 
 -- what is replied where a call answers this

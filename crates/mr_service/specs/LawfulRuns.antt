@@ -6,7 +6,7 @@ use Rattle.mr_model.specs.Refusals.{Truncated, OutOfMemory}
 use Rattle.mr_model.specs.Replica.{Replica, writes_of, knows_room, is_committed}
 use Rattle.mr_model.specs.Exchange.{C, Batch, ReadsAs}
 use Rattle.mr_model.specs.Replies.{Reply, Took, Refused}
-use Rattle.mr_model.specs.View.{Told, Question}
+use Rattle.mr_model.specs.View.{Placed, Question}
 use Rattle.mr_model.specs.Step.{Ask, step}
 use Rattle.mr_model.specs.World.{World, Step, Deliver, StepReply, Said, replica_of, batch_numbered}
 use Rattle.mr_model.specs.Honest.{IsFront, accepted, commit_list, IsHonest, IsWorldStep, IsWorldRun}
@@ -70,10 +70,10 @@ pub record AgreesByExchange (first last : World) : Type 0 where
 -- told of it so tells the same later
 pub record KeepsPlaces (first last : World) : Type 0 where
   pub told : (at : ℕ) (r : Replica) (w : Write) → replica_of last at ≡ Some r → Contains r.known w → is_committed r (id_of w) ≡ true
-      → (told : Told) × TellsCommitted r w.room (id_of w) told × (told.write ≡ w)
-  pub agree : (s t : ℕ) (a b : Replica) (room : Text) (id : Id) (x y : Told)
+      → (told : Placed) × TellsCommitted r w.room (id_of w) told × (told.write ≡ w)
+  pub agree : (s t : ℕ) (a b : Replica) (room : Text) (id : Id) (x y : Placed)
       → replica_of first s ≡ Some a → replica_of last t ≡ Some b → TellsCommitted a room id x → TellsCommitted b room id y → x ≡ y
-  pub stay : (s : ℕ) (a : Replica) (room : Text) (id : Id) (x : Told)
+  pub stay : (s : ℕ) (a : Replica) (room : Text) (id : Id) (x : Placed)
       → replica_of first s ≡ Some a → TellsCommitted a room id x → (b : Replica) × (replica_of last s ≡ Some b) × TellsCommitted b room id x
 
 -- the primary never answers that it has dropped what is asked for

@@ -1,19 +1,26 @@
 -- What questions read on the way to their answers.
-use Rattle.std.specs.Prelude.{◌≡◌, ℕ, Bool, not, ◌==◌, List, [], ◌∷◌, filter, bytes_eq, Option, Some, None, Result, Ok, Err, ◌⊎◌}
+use Rattle.std.specs.Prelude.{◌≡◌, ℕ, Bool, not, ◌&&◌, ◌==◌, List, [], ◌∷◌, ◌++◌, map, filter, filter_map, bytes_eq, Option, Some, None, Result, Ok, Err, ◌⊎◌}
+use Rattle.std.specs.BTreeSet.{BTreeSet}
 use Rattle.std.specs.List.{list_any}
 use Rattle.std.specs.Ordering.{nat_cmp, bool_cmp, ordering_then}
 use Rattle.std.specs.declared.cmp.Ordering.{Ordering}
 use Rattle.mr_model.specs.Texts.{Text}
-use Rattle.mr_model.specs.Writes.{is_room_name}
+use Rattle.mr_model.specs.Writes.{Id, same_id, is_room_name}
 use Rattle.mr_model.specs.Refusals as model
-use Rattle.mr_model.specs.Replies.{Outcome, Part, Full, Committed, Refused}
-use Rattle.mr_model.specs.Queries.{booked_outcome, logged_outcome}
+use Rattle.mr_model.specs.Replica.{Replica}
+use Rattle.mr_model.specs.Replies.{Reply, OutcomeIs, Part, Refused}
+use Rattle.mr_model.specs.View.{view_of, entries, calendar_list, whole_list, told_of, outcome_reply, logging_of}
+use Rattle.mr_model.specs.Queries.{LogLine, OfRequest, OfVoid, row_entry, cancel_id, line_seq, line_time, line_server, line_logging, IsRowIn, row_id, row_room}
 use Rattle.mr_model.specs.Step.{IsOfMachine}
-use Rattle.mr_model.specs.Tables.{BookingRow, ErrorRow}
+use Rattle.mr_model.specs.Tables.{BookingRow, ErrorRow, CancelledRow, CancelRow, PlaceRow, Tables, as_booked, Stands}
 use Rattle.mr_base.specs.declared.refusals.Refusal.{Refusal}
 use Rattle.mr_base.specs.Refusals.{refusal_of}
-use Rattle.mr_store.specs.declared.keeper.PlaceRow.{PlaceRow}
-use Rattle.mr_store.specs.declared.keeper.PlaceRow.TheVariants.{Booked, Logged}
+use Rattle.mr_replica.specs.Sets.{has_id}
+use Rattle.mr_tables.specs.declared.place_rows.PlaceRow as code
+use Rattle.mr_tables.specs.declared.place_rows.PlaceRow.TheVariants as place
+use Rattle.mr_service.specs.Asked.{line_of, outcome_of}
+use Rattle.mr_service.specs.declared.replies.LogLine as replies
+use Rattle.mr_service.specs.declared.replies.Outcome.{Outcome}
 
 -- what is at fault with the name of a room, where these rooms are known
 abbrev pub room_fault : List Text → Text → Option model.Refusal
@@ -25,21 +32,69 @@ abbrev pub Finds : List Text → Text → Result Text Refusal → Type 0
 Finds rooms room (Ok found) = (found ≡ room) × (room_fault rooms room ≡ None)
 Finds rooms room (Err e) = (room_fault rooms room ≡ Some (refusal_of e)) ⊎ IsOfMachine (Refused (refusal_of e))
 
--- the rows of a calendar, of all that a room has
-abbrev pub rows_of_part : Part → List BookingRow → List BookingRow
-rows_of_part Full rows = rows
-rows_of_part Committed rows = filter (λ row. row.committed) rows
+-- ---- calendars
 
-abbrev pub place_outcome : PlaceRow → Outcome
-place_outcome (Booked row) = booked_outcome row
-place_outcome (Logged row) = logged_outcome row
+-- for each replica that the tables stand for, the rows are those of this calendar of the room
+abbrev pub Shows : Part → Text → Tables → List BookingRow → Type 0
+Shows part room t rows = (a : Replica) → Stands t a → entries (calendar_list part (view_of a room)) ≡ map row_entry rows
 
--- rows of the error log come by these keys: committed ones first, by their number; then the others, by time and server
+-- a cancel with this id is among these, and is not committed
+abbrev pub is_tentative : Id → CancelRow → Bool
+is_tentative id c = same_id (cancel_id c) id && (c.seq == 0)
+
+abbrev pub has_tentative : Id → List CancelRow → Bool
+has_tentative id cancels = list_any (is_tentative id) cancels
+
+-- a committed booking that a cancel of this set took back
+abbrev pub is_back : BTreeSet (ℕ × ℕ) → CancelledRow → Bool
+is_back tentative row = row.committed && has_id tentative row.by
+
+-- the rows of a room's committed calendar, of all its bookings, those that were taken back, and its cancels
+abbrev pub committed_rows : List BookingRow → List CancelledRow → List CancelRow → List BookingRow
+committed_rows bookings cancelled cancels =
+    filter (λ row. row.committed) bookings
+    ++ map as_booked (filter (λ row. row.committed && has_tentative row.by cancels) cancelled)
+
+-- ---- outcomes
+
+-- the outcome that is replied; or memory or the store failed
+abbrev pub IsOutcome : Reply → Result Outcome Refusal → Type 0
+IsOutcome reply (Ok o) = reply ≡ OutcomeIs (outcome_of o)
+IsOutcome reply (Err e) = IsOfMachine (Refused (refusal_of e))
+
+-- for each replica that the tables stand for, of which this is the row of a write of the room: what became of that write
+abbrev pub TellsOf : Text → Tables → PlaceRow → Result Outcome Refusal → Type 0
+TellsOf room t p result =
+    (a : Replica) → Stands t a → IsRowIn t p → row_room p ≡ room
+    → IsOutcome (outcome_reply (told_of (row_id p) (whole_list (view_of a room)))) result
+
+-- the row, if it is that of a cancel
+abbrev pub row_of_cancel : Option code.PlaceRow → Option CancelRow
+row_of_cancel None = None
+row_of_cancel (Some (place.Booked row)) = None
+row_of_cancel (Some (place.Erred row)) = None
+row_of_cancel (Some (place.Cancelled row)) = None
+row_of_cancel (Some (place.Cancel row)) = Some row
+
+-- ---- error logs
+
+-- the lines of a room's error log, of its error rows and all its cancels
+abbrev pub lines_of : List ErrorRow → List CancelRow → List LogLine
+lines_of requests cancels = map (λ row. OfRequest row) requests ++ map (λ row. OfVoid row) (filter (λ row. not row.done) cancels)
+
+-- for each replica that the tables stand for, these are the lines of the room's error log
+abbrev pub ShowsLines : Text → Tables → List LogLine → Type 0
+ShowsLines room t lines = (a : Replica) → Stands t a → filter_map logging_of (whole_list (view_of a room)) ≡ map line_logging lines
+
+-- lines come by these keys: committed ones first, by their number; then the others, by time and server
 abbrev pub LogKey : Type 0
 LogKey = Bool × ℕ × ℕ × ℕ
 
-abbrev pub log_key : ErrorRow → LogKey
-log_key row = (row.seq == 0, row.seq, row.time, row.server)
+abbrev pub log_key : LogLine → LogKey
+log_key l = (line_seq l == 0, line_seq l, line_time l, line_server l)
+
+abbrev pub line_key : replies.LogLine → LogKey
+line_key line = log_key (line_of line)
 
 -- by the first part that differs, false before true
 abbrev pub log_key_cmp : LogKey → LogKey → Ordering

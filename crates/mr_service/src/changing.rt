@@ -1,15 +1,19 @@
 //! Commands that change a replica, and those that ask for exchange. Words are read first, and the change is made last.
 
+ghost use Rattle.std.specs.Prelude.{◌≡◌, ok_or, Result, Ok, Err};
+ghost use Rattle.mr_model.specs.Writes.{Id};
 ghost use Rattle.mr_model.specs.Step as model;
+ghost use Rattle.mr_base.specs.Readings.{read_id};
 ghost use Rattle.mr_service.specs.Asked.{submission_of, reply_in};
 ghost use Rattle.mr_service.specs.Served.{IsServed};
 
 use crate::change::{change, load};
 use crate::commands::Submission;
+use crate::questions::known_room;
 use crate::replies::Reply;
 use crate::turns;
 use crate::words::read_request;
-use mr_base::{LineCount, Refusal, RoomName};
+use mr_base::{LineCount, Refusal, RoomName, WriteId};
 use mr_part::Scope;
 use mr_store::Keeper;
 use mr_wire::{read_batch, read_position};
@@ -39,6 +43,52 @@ pub(crate) fn submit<K: Keeper>(
     let request = read_request(alloc, words)?;
     let part = load(keeper, &Scope::InRoom(&request.room))?;
     change(keeper, turns::submit(&part, request))
+}
+
+/// Cancels the booking with this id, which is of the room.
+pub(crate) fn cancel<K: Keeper>(
+    keeper: &mut K,
+    alloc: Global,
+    room: &str,
+    id: &str,
+) -> Result<Reply, Refusal>
+    ensures served { IsServed K.Keeper keeper.old keeper.new (model.Cancel room.now id.now) (reply_in result) }
+{
+    match WriteId::read(id) {
+        Ok(target) => cancel_of(keeper, alloc, room, id, target),
+        Err(refusal) => cancel_of_none(keeper, alloc, room, id, refusal),
+    }
+}
+
+/// The text `id` is that of the target.
+fn cancel_of<K: Keeper>(
+    keeper: &mut K,
+    alloc: Global,
+    room: &str,
+    id: &str,
+    target: WriteId,
+) -> Result<Reply, Refusal>
+    requires { ◌≡◌ {A = Result Id Refusal} (Ok target) (ok_or (read_id id.now) Refusal.NoSuchRequest) }
+    ensures served { IsServed K.Keeper keeper.old keeper.new (model.Cancel room.now id.now) (reply_in result) }
+{
+    let room = RoomName::new(alloc, room)?;
+    let part = load(keeper, &Scope::OfTarget(target))?;
+    change(keeper, turns::cancel(&part, room, target))
+}
+
+/// The text `id` is that of no request: it is refused so, where the room is known.
+fn cancel_of_none<K: Keeper>(
+    keeper: &mut K,
+    alloc: Global,
+    room: &str,
+    id: &str,
+    refusal: Refusal,
+) -> Result<Reply, Refusal>
+    requires { ◌≡◌ {A = Result Id Refusal} (Err refusal) (ok_or (read_id id.now) Refusal.NoSuchRequest) }
+    ensures served { IsServed K.Keeper keeper.old keeper.new (model.Cancel room.now id.now) (reply_in result) }
+{
+    known_room(keeper, alloc, room)?;
+    Err(refusal)
 }
 
 /// Takes the batch with this text, or refuses all of it.

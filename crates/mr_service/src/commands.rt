@@ -16,6 +16,11 @@ pub enum Local {
     AddRoom(String),
     /// Books a room.
     Submit(Submission),
+    /// Takes back the booking with this id, which is of the room.
+    Cancel {
+        room: String,
+        id: String,
+    },
     /// Commits that many tentative writes, at the primary.
     Commit(u64),
     /// Keeps commits up to this number no longer, at another replica.
@@ -37,12 +42,12 @@ pub enum Local {
         room: String,
         day: String,
     },
-    /// Asks what became of the request with this id.
+    /// Asks what became of the request or cancel with this id.
     Outcome {
         room: String,
         id: String,
     },
-    /// Asks for the requests of a room that found no free slot.
+    /// Asks for the requests of a room that found no free slot, and its cancels that found nothing to take back.
     Errors {
         room: String,
     },

@@ -6,9 +6,11 @@
 //! that of `World::run` that lists of steps of many replicas are runs of the definitions' world, and keep the world law.
 #![tactic(auto)]
 
+mod calendars;
 mod change;
 mod changing;
 mod commands;
+mod log_lines;
 mod members;
 mod outcomes;
 mod questions;
@@ -24,7 +26,7 @@ mod world_steps;
 mod worlds;
 
 pub use commands::{Command, Local, Part, SlotWords, Submission};
-pub use replies::{Booking, Outcome, Reply};
+pub use replies::{Booking, LogLine, Outcome, Reply};
 pub use runs::{run, run_over_lists};
 pub use services::Service;
 pub use steps::{Step, StepReply};

@@ -1,17 +1,17 @@
 ghost use Rattle.std.specs.Prelude.{◌≡◌};
-ghost use Rattle.mr_model.specs.Queries.{booking_id, error_id, booked_outcome, logged_outcome};
+ghost use Rattle.mr_model.specs.Queries.{booked_outcome, logged_outcome, cancelled_outcome, cancel_outcome};
 ghost use Rattle.mr_service.specs.Asked.{outcome_of};
 
 use crate::replies::{Booking, Outcome};
-use mr_base::{TimeOfDay, WriteId};
-use mr_tables::{BookingRow, ErrorRow};
+use mr_base::TimeOfDay;
+use mr_tables::{BookingRow, CancelRow, CancelledRow, ErrorRow};
 
 /// What became of the request of a row of `booking`.
 pub(crate) fn booked(row: &BookingRow) -> Outcome
     ensures { outcome_of result ≡ booked_outcome row.now }
 {
     Outcome::Booked(Booking {
-        id: booked_id(row),
+        id: row.id(),
         is_committed: row.committed,
         day: row.day,
         start: TimeOfDay::new(row.start),
@@ -24,25 +24,39 @@ pub(crate) fn logged(row: &ErrorRow) -> Outcome
     ensures { outcome_of result ≡ logged_outcome row.now }
 {
     Outcome::Logged {
-        id: logged_id(row),
+        id: row.id(),
         is_committed: row.seq != 0,
     }
 }
 
-/// The id of the request of a row of `booking`.
-pub(crate) fn booked_id(row: &BookingRow) -> WriteId
-    ensures { result ≡ booking_id row.now }
+/// What became of the request of a row of `cancelled`, with the row of the cancel that took it back.
+pub(crate) fn cancelled(row: &CancelledRow, by: &CancelRow) -> Outcome
+    ensures { outcome_of result ≡ cancelled_outcome row.now by.now }
 {
-    let server = row.server;
-    server.number();
-    WriteId { server, n: row.n }
+    Outcome::Cancelled {
+        id: row.id(),
+        is_committed: row.committed,
+        by: by.id(),
+        by_committed: by.seq != 0,
+    }
 }
 
-/// The id of the request of a row of `errorlog`.
-pub(crate) fn logged_id(row: &ErrorRow) -> WriteId
-    ensures { result ≡ error_id row.now }
+/// What became of the cancel of a row of `cancels`.
+pub(crate) fn cancel(row: &CancelRow) -> Outcome
+    ensures { outcome_of result ≡ cancel_outcome row.now }
 {
-    let server = row.server;
-    server.number();
-    WriteId { server, n: row.n }
+    let (id, is_committed, target) = (row.id(), row.seq != 0, row.target);
+    if row.done {
+        Outcome::Cancels {
+            id,
+            is_committed,
+            target,
+        }
+    } else {
+        Outcome::Void {
+            id,
+            is_committed,
+            target,
+        }
+    }
 }

@@ -1,21 +1,27 @@
 //! Questions about a room, answered from the rows that the keeper picks.
 
-ghost use Rattle.std.specs.Prelude.{◌≡◌};
+ghost use Rattle.std.specs.Prelude.{◌≡◌, map, IfOk, IfErr};
 ghost use Rattle.std.specs.List.{list_any};
-ghost use Rattle.std.specs.List.Sorted.{IsPermutation, IsSortedByKey};
 ghost use Rattle.std.specs.Str.{bytes_eq};
+ghost use Rattle.mr_model.specs.Replies as replies;
 ghost use Rattle.mr_model.specs.Step as model;
+ghost use Rattle.mr_model.specs.Step.{IsOfMachine};
+ghost use Rattle.mr_base.specs.Refusals.{refusal_of};
+ghost use Rattle.mr_model.specs.Tables as rows;
 ghost use Rattle.mr_model.specs.View.{AskSheet, AskCalendar, AskOutcome, AskErrors};
-ghost use Rattle.mr_service.specs.Asked.{part_of, outcome_of, reply_in};
-ghost use Rattle.mr_service.specs.Questions.{Finds, log_key, log_key_cmp, place_outcome, rows_of_part};
+ghost use Rattle.mr_tables.specs.Cells.{place_row_of};
+ghost use Rattle.mr_service.specs.Asked.{part_of, line_of, outcome_of, reply_in};
+ghost use Rattle.mr_service.specs.Questions.{Finds, Shows, ShowsLines, TellsOf, row_of_cancel};
 ghost use Rattle.mr_service.specs.Served.{IsRead, IsServed};
 
+use crate::calendars::committed_calendar;
 use crate::commands::Part;
-use crate::outcomes::{booked, logged};
-use crate::replies::{Outcome, Reply};
+use crate::log_lines::log_lines;
+use crate::outcomes::{booked, cancel, cancelled, logged};
+use crate::replies::{LogLine, Outcome, Reply};
 use mr_base::{Day, Refusal, RoomName, WriteId};
 use mr_store::{Keeper, PlaceRow};
-use mr_tables::{BookingRow, ErrorRow};
+use mr_tables::{BookingRow, CancelRow, CancelledRow};
 use std::alloc::Global;
 
 /// The bookings of a room on a day.
@@ -43,11 +49,11 @@ pub(crate) fn calendar<K: Keeper>(
     ensures served { IsServed K.Keeper keeper.old keeper.new (model.Ask room.now (AskCalendar (part_of part))) (reply_in result) }
 {
     let room = known_room(keeper, alloc, room)?;
-    let rows = of_part(part, keeper.bookings(&room, None)?);
+    let rows = rows_of_part(keeper, alloc, &room, part)?;
     Ok(Reply::Calendar { room, part, rows })
 }
 
-/// What became of the request with this id, which is of the room.
+/// What became of the request or cancel with this id, which is of the room.
 pub(crate) fn outcome<K: Keeper>(
     keeper: &mut K,
     alloc: Global,
@@ -59,22 +65,29 @@ pub(crate) fn outcome<K: Keeper>(
     let room = known_room(keeper, alloc, room)?;
     let id = WriteId::read(id)?;
     match keeper.place_of(&room, id)? {
-        Some(place) => Ok(Reply::Outcome(outcome_at(&place))),
+        Some(place) => {
+            let outcome = outcome_at(keeper, &room, &place)?;
+            Ok(Reply::Outcome(outcome))
+        }
         None => Err(Refusal::NoSuchRequest),
     }
 }
 
-/// The requests of a room that found no free slot.
+/// The requests of a room that found no free slot, and its cancels that found nothing to take back.
 pub(crate) fn errors<K: Keeper>(keeper: &mut K, alloc: Global, room: &str) -> Result<Reply, Refusal>
     ensures served { IsServed K.Keeper keeper.old keeper.new (model.Ask room.now AskErrors) (reply_in result) }
 {
     let room = known_room(keeper, alloc, room)?;
-    let rows = in_log_order(keeper.errors(&room)?);
-    Ok(Reply::Errors { room, rows })
+    let lines = lines_in(keeper, alloc, &room)?;
+    Ok(Reply::Errors { room, lines })
 }
 
 /// The room of this name, where the keeper knows it.
-fn known_room<K: Keeper>(keeper: &mut K, alloc: Global, room: &str) -> Result<RoomName, Refusal>
+pub(crate) fn known_room<K: Keeper>(
+    keeper: &mut K,
+    alloc: Global,
+    room: &str,
+) -> Result<RoomName, Refusal>
     ensures read { IsRead K.Keeper keeper.old keeper.new result }
     ensures finds { K.is_clean keeper.new → K.is_open keeper.old → Finds (K.tables keeper.old).room room.now result }
 {
@@ -94,34 +107,107 @@ fn is_among(room: &RoomName, rooms: &[RoomName]) -> bool
     rooms.iter().any(|known| *room == *known)
 }
 
-/// The rows that a calendar of that part has.
-fn of_part(part: Part, mut rows: Vec<BookingRow>) -> Vec<BookingRow>
-    ensures { result.items ≡ rows_of_part (part_of part) rows.items }
+// ---- calendars
+
+/// The rows of a calendar of that part.
+fn rows_of_part<K: Keeper>(
+    keeper: &mut K,
+    alloc: Global,
+    room: &RoomName,
+    part: Part,
+) -> Result<Vec<BookingRow>, Refusal>
+    ensures read { IsRead K.Keeper keeper.old keeper.new result }
+    ensures shows { K.is_clean keeper.new → K.is_open keeper.old → IfOk result (λ rows. Shows (part_of part) room.now (K.tables keeper.old) rows.items) }
+    ensures only { IfErr result (λ e. IsOfMachine (replies.Refused (refusal_of e))) }
 {
     match part {
-        Part::Full => rows,
-        Part::Committed => {
-            rows.retain(|row| row.committed);
-            rows
-        }
+        Part::Full => rows_of_all(keeper, room),
+        Part::Committed => rows_of_committed(keeper, alloc, room),
     }
 }
 
-/// What the row of a request tells of it.
-fn outcome_at(place: &PlaceRow) -> Outcome
-    ensures { outcome_of result ≡ place_outcome place.now }
+fn rows_of_all<K: Keeper>(keeper: &mut K, room: &RoomName) -> Result<Vec<BookingRow>, Refusal>
+    ensures read { IsRead K.Keeper keeper.old keeper.new result }
+    ensures shows { K.is_clean keeper.new → K.is_open keeper.old → IfOk result (λ rows. Shows replies.Full room.now (K.tables keeper.old) rows.items) }
+    ensures only { IfErr result (λ e. IsOfMachine (replies.Refused (refusal_of e))) }
+{
+    let rows = keeper.bookings(room, None)?;
+    Ok(rows)
+}
+
+fn rows_of_committed<K: Keeper>(
+    keeper: &mut K,
+    alloc: Global,
+    room: &RoomName,
+) -> Result<Vec<BookingRow>, Refusal>
+    ensures read { IsRead K.Keeper keeper.old keeper.new result }
+    ensures shows { K.is_clean keeper.new → K.is_open keeper.old → IfOk result (λ rows. Shows replies.Committed room.now (K.tables keeper.old) rows.items) }
+    ensures only { IfErr result (λ e. IsOfMachine (replies.Refused (refusal_of e))) }
+{
+    let bookings = keeper.bookings(room, None)?;
+    let cancelled = keeper.cancelled(room)?;
+    let cancels = keeper.cancels(room)?;
+    committed_calendar(alloc, bookings, cancelled, cancels.as_slice())
+}
+
+// ---- outcomes
+
+/// What the row of a write of the room tells of it; of a booking that was taken back with the row of the cancel, which is looked up.
+fn outcome_at<K: Keeper>(
+    keeper: &mut K,
+    room: &RoomName,
+    place: &PlaceRow,
+) -> Result<Outcome, Refusal>
+    ensures read { IsRead K.Keeper keeper.old keeper.new result }
+    ensures tells { K.is_clean keeper.new → K.is_open keeper.old → TellsOf room.now (K.tables keeper.old) (place_row_of place.now) result }
 {
     match place {
-        PlaceRow::Booked(row) => booked(row),
-        PlaceRow::Logged(row) => logged(row),
+        PlaceRow::Booked(row) => Ok(booked(row)),
+        PlaceRow::Erred(row) => Ok(logged(row)),
+        PlaceRow::Cancel(row) => Ok(cancel(row)),
+        PlaceRow::Cancelled(row) => outcome_of_cancelled(keeper, room, row),
     }
 }
 
-/// The rows in the order of the log: committed ones by their number, and then the others by time and server.
-fn in_log_order(mut rows: Vec<ErrorRow>) -> Vec<ErrorRow>
-    ensures same { IsPermutation rows.items result.items }
-    ensures order { IsSortedByKey log_key log_key_cmp result.items }
+/// Rows of which none is that of the cancel, which no replica has, tell of no request.
+fn outcome_of_cancelled<K: Keeper>(
+    keeper: &mut K,
+    room: &RoomName,
+    row: &CancelledRow,
+) -> Result<Outcome, Refusal>
+    ensures read { IsRead K.Keeper keeper.old keeper.new result }
+    ensures tells { K.is_clean keeper.new → K.is_open keeper.old → TellsOf room.now (K.tables keeper.old) (rows.Cancelled row.now) result }
 {
-    rows.sort_unstable_by_key(|row| (row.seq == 0, row.seq, row.time, row.server));
-    rows
+    let place = keeper.place_of(room, row.by)?;
+    match cancel_in(place) {
+        Some(by) => Ok(cancelled(row, &by)),
+        None => Err(Refusal::NoSuchRequest),
+    }
+}
+
+/// The row, if it is that of a cancel.
+fn cancel_in(place: Option<PlaceRow>) -> Option<CancelRow>
+    ensures { result ≡ row_of_cancel place }
+{
+    match place {
+        Some(PlaceRow::Cancel(row)) => Some(row),
+        _ => None,
+    }
+}
+
+// ---- error logs
+
+/// The lines of the error log of a room.
+fn lines_in<K: Keeper>(
+    keeper: &mut K,
+    alloc: Global,
+    room: &RoomName,
+) -> Result<Vec<LogLine>, Refusal>
+    ensures read { IsRead K.Keeper keeper.old keeper.new result }
+    ensures shows { K.is_clean keeper.new → K.is_open keeper.old → IfOk result (λ lines. ShowsLines room.now (K.tables keeper.old) (map line_of lines.items)) }
+    ensures only { IfErr result (λ e. IsOfMachine (replies.Refused (refusal_of e))) }
+{
+    let requests = keeper.errors(room)?;
+    let cancels = keeper.cancels(room)?;
+    log_lines(alloc, requests, cancels)
 }

@@ -1,13 +1,13 @@
 use crate::commands::Part;
 use mr_base::{Batch, Day, Position, Refusal, RoomName, WriteId};
-use mr_tables::{BookingRow, ErrorRow};
+use mr_tables::{BookingRow, CancelRow, ErrorRow};
 
 /// What a replica replies to a command.
 #[derive(Debug, Drop)]
 pub enum Reply {
     /// The room was added.
     RoomAdded,
-    /// What became of a request.
+    /// What became of a request or a cancel.
     Outcome(Outcome),
     /// How many writes and commits of a batch were new.
     Took {
@@ -34,21 +34,54 @@ pub enum Reply {
         part: Part,
         rows: Vec<BookingRow>,
     },
-    /// The requests of a room that found no free slot, in the order of their execution.
+    /// The requests of a room that found no free slot, and its cancels that found nothing to take back, in the order of their
+    /// execution.
     Errors {
         room: RoomName,
-        rows: Vec<ErrorRow>,
+        lines: Vec<LogLine>,
     },
     /// The command was refused, and changed nothing.
     Refused(Refusal),
 }
 
-/// What became of a request: it was booked, or logged as an error because all its choices were taken.
+/// An entry of an error log.
+#[derive(Debug, Drop)]
+pub enum LogLine {
+    /// A request that found no free slot.
+    Request(ErrorRow),
+    /// A cancel that found nothing to take back.
+    VoidCancel(CancelRow),
+}
+
+/// What became of a request, which was booked, or logged as an error because all its choices were taken, or booked and then taken
+/// back by a cancel; or of a cancel.
 #[derive(Clone, Copy, Debug)]
 pub enum Outcome {
     /// It has the minutes of the day from `start` up to, not with, `stop`.
     Booked(Booking),
-    Logged { id: WriteId, is_committed: bool },
+    Logged {
+        id: WriteId,
+        is_committed: bool,
+    },
+    /// The cancel `by` took the booking back. Each of the two has its own mark.
+    Cancelled {
+        id: WriteId,
+        is_committed: bool,
+        by: WriteId,
+        by_committed: bool,
+    },
+    /// It is a cancel, which took its target back.
+    Cancels {
+        id: WriteId,
+        is_committed: bool,
+        target: WriteId,
+    },
+    /// It is a cancel, which found nothing to take back.
+    Void {
+        id: WriteId,
+        is_committed: bool,
+        target: WriteId,
+    },
 }
 
 /// The slot that a request has.

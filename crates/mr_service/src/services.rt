@@ -8,7 +8,7 @@ ghost use Rattle.mr_service.specs.Asking.{Counts, LeavesOnRefusal, NoneFails, Te
 ghost use Rattle.mr_service.specs.Replied.{RepliesTo};
 ghost use Rattle.mr_service.specs.Served.{IsServed};
 
-use crate::changing::{add_room, batch_for, commit, position, receive, submit, truncate};
+use crate::changing::{add_room, batch_for, cancel, commit, position, receive, submit, truncate};
 use crate::commands::{Command, Local};
 use crate::questions::{calendar, errors, outcome, sheet};
 use crate::replies::Reply;
@@ -92,6 +92,7 @@ pub(crate) fn ask_local<K: Keeper>(
     match command {
         Local::AddRoom(room) => add_room(keeper, alloc, room.as_str()),
         Local::Submit(words) => submit(keeper, alloc, words),
+        Local::Cancel { room, id } => cancel(keeper, alloc, room.as_str(), id.as_str()),
         Local::Commit(count) => commit(keeper, *count),
         Local::Truncate(number) => truncate(keeper, *number),
         Local::Position => position(keeper),

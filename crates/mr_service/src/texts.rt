@@ -1,19 +1,20 @@
 ghost use Rattle.std.specs.Prelude.{◌≡◌, [], ◌∷◌, ◌++◌, map, codes, OnOk, IfOk, IfErr};
 ghost use Rattle.std.specs.String.{string_bytes};
 ghost use Rattle.mr_model.specs.Texts.{line, lines_text, words};
+ghost use Rattle.mr_model.specs.Texts as shown;
 ghost use Rattle.mr_model.specs.Calendar.{date_text};
-ghost use Rattle.mr_model.specs.Queries.{row_entry, row_logging};
+ghost use Rattle.mr_model.specs.Writes.{id_text};
+ghost use Rattle.mr_model.specs.Queries.{row_entry, row_logging, line_logging, OfVoid};
 ghost use Rattle.mr_model.specs.Replies.{sheet_line, calendar_line, logging_line, lines_or};
 ghost use Rattle.mr_model.specs.Replies as replies;
 ghost use Rattle.mr_model.specs.Refusals as refusals;
 ghost use Rattle.mr_base.specs.Refusals.{refusal_of};
-ghost use Rattle.mr_service.specs.Asked.{part_of, outcome_of, reply_of};
+ghost use Rattle.mr_service.specs.Asked.{part_of, line_of, outcome_of, reply_of};
 
 use crate::commands::Part;
-use crate::outcomes::{booked_id, logged_id};
-use crate::replies::{Outcome, Reply};
-use mr_base::{Day, Refusal, RoomName, TimeOfDay, weekday_name};
-use mr_tables::{BookingRow, ErrorRow};
+use crate::replies::{LogLine, Outcome, Reply};
+use mr_base::{Day, Refusal, RoomName, TimeOfDay, WriteId, weekday_name};
+use mr_tables::{BookingRow, CancelRow, ErrorRow};
 use mr_wire::{write_batch, write_position};
 use std::alloc::{AllocError, Global};
 use std::fmt;
@@ -35,7 +36,7 @@ pub fn reply_text(alloc: Global, reply: &Reply) -> Result<Vec<u8>, Refusal>
         Reply::Calendar { room, part, rows } => {
             calendar_text(alloc, room, *part, rows.as_slice())
         }
-        Reply::Errors { room, rows } => errors_text(alloc, room, rows.as_slice()),
+        Reply::Errors { room, lines } => errors_text(alloc, room, lines.as_slice()),
         Reply::Refused(refusal) => refusal_text(alloc, refusal),
     }
 }
@@ -84,13 +85,13 @@ fn calendar_text(
     Ok(text.into_bytes())
 }
 
-fn errors_text(alloc: Global, room: &RoomName, rows: &[ErrorRow]) -> Result<Vec<u8>, Refusal>
-    ensures text { IfOk result (λ bytes. bytes.items ≡ replies.reply_text (replies.Errors room.now (map row_logging rows.now))) }
+fn errors_text(alloc: Global, room: &RoomName, lines: &[LogLine]) -> Result<Vec<u8>, Refusal>
+    ensures text { IfOk result (λ bytes. bytes.items ≡ replies.reply_text (replies.Errors room.now (map line_logging (map line_of lines.now)))) }
     ensures memory { IfErr result (λ e. e ≡ Refusal.OutOfMemory) }
 {
     let mut text = String::new(alloc);
     push_head(&mut text, room.as_str(), "errors")?;
-    push_error_rows(&mut text, rows)?;
+    push_log_lines(&mut text, lines)?;
     Ok(text.into_bytes())
 }
 
@@ -153,7 +154,54 @@ fn push_outcome(text: &mut String, outcome: &Outcome) -> Result<(), AllocError>
             };
             write!(text, "{id} {mark} logged\n")
         }
+        Outcome::Cancelled {
+            id,
+            is_committed,
+            by,
+            by_committed,
+        } => push_cancel(
+            text,
+            *id,
+            *is_committed,
+            cancelled_words(*by_committed),
+            *by,
+        ),
+        Outcome::Cancels {
+            id,
+            is_committed,
+            target,
+        } => push_cancel(text, *id, *is_committed, "cancels", *target),
+        Outcome::Void {
+            id,
+            is_committed,
+            target,
+        } => push_cancel(text, *id, *is_committed, "void", *target),
     }
+}
+
+/// That a booking was taken back, and the mark of the cancel.
+fn cancelled_words(by_committed: bool) -> &'static str
+    ensures { result.now ≡ codes "cancelled" ++ 32 ∷ replies.mark by_committed }
+{
+    if by_committed {
+        "cancelled C"
+    } else {
+        "cancelled T"
+    }
+}
+
+/// What a write and a cancel have to do with one another, as these words say.
+fn push_cancel(
+    text: &mut String,
+    id: WriteId,
+    is_committed: bool,
+    word: &str,
+    target: WriteId,
+) -> Result<(), AllocError>
+    ensures { OnOk result (string_bytes text.new ≡ string_bytes text.old ++ line (words (id_text id ∷ replies.mark is_committed ∷ word.now ∷ id_text target ∷ []))) }
+{
+    let mark = Mark { is_committed };
+    write!(text, "{id} {mark} {word} {target}\n")
 }
 
 fn push_sheet_head(text: &mut String, room: &str, day: Day, weekday: &str) -> Result<(), AllocError>
@@ -192,14 +240,14 @@ fn push_calendar_rows(text: &mut String, rows: &[BookingRow]) -> Result<(), Allo
     Ok(())
 }
 
-fn push_error_rows(text: &mut String, rows: &[ErrorRow]) -> Result<(), AllocError>
-    ensures { OnOk result (string_bytes text.new ≡ string_bytes text.old ++ lines_text (lines_or (codes "(no errors)") (map logging_line (map row_logging rows.now)))) }
+fn push_log_lines(text: &mut String, lines: &[LogLine]) -> Result<(), AllocError>
+    ensures { OnOk result (string_bytes text.new ≡ string_bytes text.old ++ lines_text (lines_or (codes "(no errors)") (map logging_line (map line_logging (map line_of lines.now))))) }
 {
-    if rows.is_empty() {
+    if lines.is_empty() {
         return text.push_str("(no errors)\n");
     }
-    for row in rows {
-        push_error_row(text, row)?;
+    for line in lines {
+        push_log_line(text, line)?;
     }
     Ok(())
 }
@@ -211,7 +259,7 @@ fn push_sheet_row(text: &mut String, row: &BookingRow) -> Result<(), AllocError>
     let mark = Mark {
         is_committed: row.committed,
     };
-    let (id, title) = (booked_id(row), row.title.as_str());
+    let (id, title) = (row.id(), row.title.as_str());
     write!(text, "{start}-{stop} {mark} {id} {title}\n")
 }
 
@@ -223,6 +271,25 @@ fn push_calendar_row(text: &mut String, row: &BookingRow) -> Result<(), AllocErr
     push_sheet_row(text, row)
 }
 
+fn push_log_line(text: &mut String, line: &LogLine) -> Result<(), AllocError>
+    ensures { OnOk result (string_bytes text.new ≡ string_bytes text.old ++ shown.line (logging_line (line_logging (line_of line.now)))) }
+{
+    match line {
+        LogLine::Request(row) => push_error_row(text, row),
+        LogLine::VoidCancel(row) => push_void_row(text, row),
+    }
+}
+
+fn push_void_row(text: &mut String, row: &CancelRow) -> Result<(), AllocError>
+    ensures { OnOk result (string_bytes text.new ≡ string_bytes text.old ++ line (logging_line (line_logging (OfVoid row.now)))) }
+{
+    let mark = Mark {
+        is_committed: row.seq != 0,
+    };
+    let (id, target) = (row.id(), row.target);
+    write!(text, "{mark} {id} cancel {target}\n")
+}
+
 fn push_error_row(text: &mut String, row: &ErrorRow) -> Result<(), AllocError>
     ensures { OnOk result (string_bytes text.new ≡ string_bytes text.old ++ line (logging_line (row_logging row.now))) }
 {
@@ -231,7 +298,7 @@ fn push_error_row(text: &mut String, row: &ErrorRow) -> Result<(), AllocError>
     };
     let day = row.day;
     let (start, stop) = (TimeOfDay::new(row.start), TimeOfDay::new(row.stop));
-    let (id, title) = (logged_id(row), row.title.as_str());
+    let (id, title) = (row.id(), row.title.as_str());
     write!(text, "{mark} {id} {day} {start}-{stop} {title}\n")
 }
 

@@ -5,15 +5,16 @@ ghost use Rattle.mr_model.specs.Positions.{position_of};
 ghost use Rattle.mr_model.specs.Replies.{OutcomeIs, PositionIs};
 ghost use Rattle.mr_model.specs.Scopes as scopes;
 ghost use Rattle.mr_model.specs.Step as model;
-ghost use Rattle.mr_replica.specs.Steps.{submit_request};
-ghost use Rattle.mr_replica.specs.Turning.{put_outcome};
+ghost use Rattle.mr_replica.specs.Steps.{submit_request, cancel_request};
+ghost use Rattle.mr_replica.specs.Turning.{put_outcome, put_cancel_outcome};
 ghost use Rattle.mr_tables.specs.Summary.{IsWithin};
 ghost use Rattle.mr_service.specs.Asked.{outcome_of};
 ghost use Rattle.mr_service.specs.Turns.{Tells, TurnsBy};
 
+use crate::outcomes;
 use crate::outcomes::{booked, logged};
 use crate::replies::{Outcome, Reply};
-use mr_base::{Batch, LineCount, Position, Refusal, Request, RoomName};
+use mr_base::{Batch, LineCount, Position, Refusal, Request, RoomName, WriteId};
 use mr_part::Part;
 use mr_tables::Change;
 
@@ -46,6 +47,30 @@ fn outcome_in(change: &Change) -> Option<Outcome>
     }
     let row = change.errorlog.first()?;
     Some(logged(row))
+}
+
+/// Cancels the booking with this id, which is of the room.
+pub(crate) fn cancel(
+    part: &Part,
+    room: RoomName,
+    target: WriteId,
+) -> Result<(Reply, Change), Refusal>
+    ensures { TurnsBy (scopes.OfTarget target) (cancel_request room target) part.now result }
+{
+    let (_, change) = part.cancel(room, target)?;
+    match cancel_outcome_in(&change) {
+        Some(made) => Ok((Reply::Outcome(made), change)),
+        None => Err(Refusal::OutOfMemory),
+    }
+}
+
+/// What became of the cancel whose row stands in the change that it made. A change without a row, which no replica's cancel makes,
+/// has no outcome.
+fn cancel_outcome_in(change: &Change) -> Option<Outcome>
+    ensures { IfSome result (λ o. OutcomeIs (outcome_of o) ≡ put_cancel_outcome change.now.cancels) }
+{
+    let row = change.cancels.first()?;
+    Some(outcomes::cancel(row))
 }
 
 /// Takes a batch, or refuses all of it.

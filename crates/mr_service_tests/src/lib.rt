@@ -3,6 +3,8 @@
 #![tactic(auto)]
 
 #[cfg(test)]
+mod cancel_tests;
+#[cfg(test)]
 mod running_tests;
 #[cfg(test)]
 mod text_tests;

@@ -4,8 +4,8 @@ use mr_base::{
     Batch, CommitNumber, Day, Ending, Item, Position, Refusal, RoomName, ServerId, TimeOfDay,
     Title, WriteId, read_minute,
 };
-use mr_service::{Booking, Outcome, Part, Reply, refusal_text, reply_text, sheet_text};
-use mr_tables::{BookingRow, ErrorRow};
+use mr_service::{Booking, LogLine, Outcome, Part, Reply, refusal_text, reply_text, sheet_text};
+use mr_tables::{BookingRow, CancelRow, ErrorRow};
 use std::alloc::Global;
 use std::process::Abort;
 use std::test::Fail;
@@ -66,6 +66,21 @@ fn logged(alloc: Global, time: &str, seq: u64, id: &str, title: &str) -> Result<
     })
 }
 
+// A tentative cancel in oak of this target, which found nothing to take back.
+fn void(alloc: Global, id: &str, target: &str) -> Result<CancelRow, Refusal> {
+    let WriteId { server, n } = WriteId::read(id)?;
+    let room = RoomName::new(alloc, "oak")?;
+    Ok(CancelRow {
+        server,
+        n,
+        room,
+        target: WriteId::read(target)?,
+        done: false,
+        time: 5,
+        seq: 0,
+    })
+}
+
 #[test]
 fn changes_are_told(rt: HostRuntime) -> Result<(), Fail> {
     let alloc = rt.alloc();
@@ -104,6 +119,40 @@ fn a_request_without_a_slot_is_told(rt: HostRuntime) -> Result<(), Fail> {
 }
 
 #[test]
+fn a_cancelled_booking_is_told(rt: HostRuntime) -> Result<(), Fail> {
+    let alloc = rt.alloc();
+    let cancelled = Outcome::Cancelled {
+        id: WriteId::read("1-1")?,
+        is_committed: true,
+        by: WriteId::read("1-3")?,
+        by_committed: false,
+    };
+    check(
+        &rt,
+        alloc,
+        &Reply::Outcome(cancelled),
+        "1-1 C cancelled T 1-3\n",
+    )
+}
+
+#[test]
+fn a_cancel_is_told(rt: HostRuntime) -> Result<(), Fail> {
+    let alloc = rt.alloc();
+    let cancels = Outcome::Cancels {
+        id: WriteId::read("1-3")?,
+        is_committed: false,
+        target: WriteId::read("1-1")?,
+    };
+    check(&rt, alloc, &Reply::Outcome(cancels), "1-3 T cancels 1-1\n")?;
+    let void = Outcome::Void {
+        id: WriteId::read("1-5")?,
+        is_committed: true,
+        target: WriteId::read("1-1")?,
+    };
+    check(&rt, alloc, &Reply::Outcome(void), "1-5 C void 1-1\n")
+}
+
+#[test]
 fn a_position_is_told(rt: HostRuntime) -> Result<(), Fail> {
     let alloc = rt.alloc();
     let counts = vec![in alloc; (server(1)?, 1), (server(2)?, 1)]?;
@@ -118,7 +167,7 @@ fn a_batch_is_told(rt: HostRuntime) -> Result<(), Fail> {
     let seq = CommitNumber::new(1).ok_or("no commit number")?;
     let id = WriteId::read("1-1")?;
     let items = vec![in alloc; Item::C { seq, id }]?;
-    let batch = Batch::new(server(1)?, server(1)?, items, Ending::Complete);
+    let batch = Batch::new(server(1)?, server(1)?, items, Ending::Complete)?;
     check(&rt, alloc, &Reply::Batch(batch), "mr1 1 1\nC 1 1 1\nE\n")
 }
 
@@ -175,24 +224,26 @@ fn an_empty_calendar_is_shown(rt: HostRuntime) -> Result<(), Fail> {
 #[test]
 fn errors_are_shown(rt: HostRuntime) -> Result<(), Fail> {
     let alloc = rt.alloc();
-    let rows = vec![in alloc;
-        logged(alloc, "08:00", 4, "1-2", "Full")?,
-        logged(alloc, "10:00", 0, "2-2", "Beta")?,
+    let lines = vec![in alloc;
+        LogLine::Request(logged(alloc, "08:00", 4, "1-2", "Full")?),
+        LogLine::Request(logged(alloc, "10:00", 0, "2-2", "Beta")?),
+        LogLine::VoidCancel(void(alloc, "1-5", "1-1")?),
     ]?;
     let room = RoomName::new(alloc, "oak")?;
-    let want = "oak errors\nC 1-2 1995-12-18 08:00-09:00 Full\nT 2-2 1995-12-18 10:00-11:00 Beta\n";
-    check(&rt, alloc, &Reply::Errors { room, rows }, want)
+    let want =
+        "oak errors\nC 1-2 1995-12-18 08:00-09:00 Full\nT 2-2 1995-12-18 10:00-11:00 Beta\nT 1-5 cancel 1-1\n";
+    check(&rt, alloc, &Reply::Errors { room, lines }, want)
 }
 
 #[test]
 fn no_errors_are_shown(rt: HostRuntime) -> Result<(), Fail> {
     let alloc = rt.alloc();
     let room = RoomName::new(alloc, "oak")?;
-    let rows = Vec::new(alloc);
+    let lines = Vec::new(alloc);
     check(
         &rt,
         alloc,
-        &Reply::Errors { room, rows },
+        &Reply::Errors { room, lines },
         "oak errors\n(no errors)\n",
     )
 }

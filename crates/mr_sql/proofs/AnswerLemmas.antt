@@ -9,19 +9,19 @@ use Rattle.sqlite_trees.specs.Tree.{Trees}
 use Rattle.mr_model.specs.Texts.{Text}
 use Rattle.mr_model.specs.Calendar.{Date, same_date, date_before}
 use Rattle.mr_model.specs.Writes.{Id, same_id}
-use Rattle.mr_model.specs.Tables.{BookingRow, ErrorRow, Tables}
-use Rattle.mr_model.specs.Queries.{booking_id, error_id}
+use Rattle.mr_model.specs.Tables.{BookingRow, ErrorRow, CancelledRow, CancelRow, Tables}
+use Rattle.mr_model.specs.Queries.{booking_id, error_id, cancelled_id, cancel_id}
 use Rattle.mr_model.specs.Dropped.{Has}
 use Rattle.mr_model.proofs.Members.{find_none}
 use Rattle.mr_tables.proofs.Putting.{OneAKey}
 use Rattle.mr_rows.specs.Kept.{tables_in}
 use Rattle.mr_rows.specs.Reads.{date_cmp, time_cmp}
 use Rattle.mr_rows.specs.RowQuestions.{is_booking_asked}
-use Rattle.mr_rows.proofs.FirstLemmas.{bookings_apart, errors_apart}
+use Rattle.mr_rows.proofs.FirstLemmas.{bookings_apart, errors_apart, cancelled_apart, cancels_apart}
 use Rattle.mr_rows.proofs.ValueLemmas.{among_one, or_false}
-use Rattle.mr_store.specs.Picked.{is_asked, booking_before, AreBookings, find_booking, find_error, IsPlaceOf}
-use Rattle.mr_store.specs.declared.keeper.PlaceRow.TheVariants.{Booked, Logged}
-use Rattle.mr_sql.specs.Places.{AreRowsOf, logged_in, chosen}
+use Rattle.mr_store.specs.Picked.{is_asked, booking_before, AreBookings, find_booking, find_error, find_cancelled, find_cancel, IsPlaceOf}
+use Rattle.mr_tables.specs.declared.place_rows.PlaceRow.TheVariants.{Booked, Erred, Cancelled, Cancel}
+use Rattle.mr_sql.specs.Places.{AreRowsOf, AreCancelRowsOf, cancel_in, taken_in, erred_in, chosen}
 
 -- ---- a calendar
 
@@ -104,7 +104,7 @@ calendar_is room day t shown out read same sorted = (
   λ k d low high. sym (same_order (get_or out (k + 1) d) (get_or out k d)) ∙ sorted k d low high,
 )
 
--- ---- the one of the two rows that is of the room
+-- ---- the one of the rows of an id that is of the room
 
 abbrev keep : {X : Type 0} → (X → Bool) → Option X → Option X
 keep q None = None
@@ -129,32 +129,59 @@ find_both {X} p q (x ∷ xs) one = go (p x) refl (find_both p q xs (λ y z h k. 
         pick true f = refl
         pick false f = none f e
 
-pub chosen_is : (room : Text) (id : Id) (trees : Trees) (booking : Option BookingRow) (error : Option ErrorRow) → AreRowsOf id (tables_in trees) booking error → IsPlaceOf room id (tables_in trees) (chosen room booking error)
-chosen_is room id trees booking error rows = choose booking error (here ∙ ap (keep (λ r. bytes_eq r.room room)) (sym rows.0)) (there ∙ ap (keep (λ r. bytes_eq r.room room)) (sym rows.1))
+-- by the order of the tables, of rows that are those of the id wherever they are of the room
+module _ (room : Text) (id : Id) (t : Tables) where
+  cancel_is : (cancel : Option CancelRow) → find_booking room id t ≡ None → find_error room id t ≡ None → find_cancelled room id t ≡ None → find_cancel room id t ≡ keep (λ r. bytes_eq r.room room) cancel
+      → IsPlaceOf room id t (cancel_in room cancel)
+  cancel_is None unbooked unlogged untaken e = (unbooked, unlogged, untaken, e)
+  cancel_is (Some row) unbooked unlogged untaken e = go (bytes_eq row.room room) e
+    where
+      go : (b : Bool) → find_cancel room id t ≡ cond b (Some row) None → IsPlaceOf room id t (cond b (Some (Cancel row)) None)
+      go true e = (unbooked, unlogged, untaken, e)
+      go false e = (unbooked, unlogged, untaken, e)
+
+  taken_is : (cancelled : Option CancelledRow) (cancel : Option CancelRow) → find_booking room id t ≡ None → find_error room id t ≡ None → find_cancelled room id t ≡ keep (λ r. bytes_eq r.room room) cancelled
+      → find_cancel room id t ≡ keep (λ r. bytes_eq r.room room) cancel → IsPlaceOf room id t (taken_in room cancelled cancel)
+  taken_is None cancel unbooked unlogged e last = cancel_is cancel unbooked unlogged e last
+  taken_is (Some row) cancel unbooked unlogged e last = go (bytes_eq row.room room) e
+    where
+      go : (b : Bool) → find_cancelled room id t ≡ cond b (Some row) None → IsPlaceOf room id t (cond b (Some (Cancelled row)) (cancel_in room cancel))
+      go true e = (unbooked, unlogged, e)
+      go false e = cancel_is cancel unbooked unlogged e last
+
+  erred_is : (error : Option ErrorRow) (cancelled : Option CancelledRow) (cancel : Option CancelRow) → find_booking room id t ≡ None → find_error room id t ≡ keep (λ r. bytes_eq r.room room) error
+      → find_cancelled room id t ≡ keep (λ r. bytes_eq r.room room) cancelled → find_cancel room id t ≡ keep (λ r. bytes_eq r.room room) cancel → IsPlaceOf room id t (erred_in room error (taken_in room cancelled cancel))
+  erred_is None cancelled cancel unbooked e third last = taken_is cancelled cancel unbooked e third last
+  erred_is (Some row) cancelled cancel unbooked e third last = go (bytes_eq row.room room) e
+    where
+      go : (b : Bool) → find_error room id t ≡ cond b (Some row) None → IsPlaceOf room id t (cond b (Some (Erred row)) (taken_in room cancelled cancel))
+      go true e = (unbooked, e)
+      go false e = taken_is cancelled cancel unbooked e third last
+
+  booked_is : (booking : Option BookingRow) (error : Option ErrorRow) (cancelled : Option CancelledRow) (cancel : Option CancelRow) → find_booking room id t ≡ keep (λ r. bytes_eq r.room room) booking
+      → find_error room id t ≡ keep (λ r. bytes_eq r.room room) error → find_cancelled room id t ≡ keep (λ r. bytes_eq r.room room) cancelled → find_cancel room id t ≡ keep (λ r. bytes_eq r.room room) cancel
+      → IsPlaceOf room id t (chosen room booking error (taken_in room cancelled cancel))
+  booked_is None error cancelled cancel e second third last = erred_is error cancelled cancel e second third last
+  booked_is (Some row) error cancelled cancel e second third last = go (bytes_eq row.room room) e
+    where
+      go : (b : Bool) → find_booking room id t ≡ cond b (Some row) None → IsPlaceOf room id t (cond b (Some (Booked row)) (erred_in room error (taken_in room cancelled cancel)))
+      go true e = e
+      go false e = erred_is error cancelled cancel e second third last
+
+-- the row of a table with this id and of the room is the row with the id, where that is of the room
+find_kept : {R : Type 0} (key : R → Id) (room_of : R → Text) (room : Text) (id : Id) (table : List R) → OneAKey key table
+    → find (λ r. same_id (key r) id && bytes_eq (room_of r) room) table ≡ keep (λ r. bytes_eq (room_of r) room) (find (λ r. same_id (key r) id) table)
+find_kept {R} key room_of room id table one = find_both (λ r. same_id (key r) id) (λ r. bytes_eq (room_of r) room) table same_key
   where
-    same_key : {R : Type 0} (key : R → Id) (table : List R) → OneAKey key table → (x y : R) → Has x table → Has y table → same_id (key x) id ≡ true → same_id (key y) id ≡ true → x ≡ y
-    same_key key table one x y h k e f =
+    same_key : (x y : R) → Has x table → Has y table → same_id (key x) id ≡ true → same_id (key y) id ≡ true → x ≡ y
+    same_key x y h k e f =
         one x y h k (among_one (key x) id (or_false (same_id (key x) id) ∙ e) ∙ sym (among_one (key y) id (or_false (same_id (key y) id) ∙ f)))
 
-    here : find_booking room id (tables_in trees) ≡ keep (λ r. bytes_eq r.room room) (find (λ r. same_id (booking_id r) id) (tables_in trees).booking)
-    here = find_both (λ r. same_id (booking_id r) id) (λ r. bytes_eq r.room room) (tables_in trees).booking (same_key booking_id (tables_in trees).booking (bookings_apart trees))
-
-    there : find_error room id (tables_in trees) ≡ keep (λ r. bytes_eq r.room room) (find (λ r. same_id (error_id r) id) (tables_in trees).errorlog)
-    there = find_both (λ r. same_id (error_id r) id) (λ r. bytes_eq r.room room) (tables_in trees).errorlog (same_key error_id (tables_in trees).errorlog (errors_apart trees))
-
-    logged : (e : Option ErrorRow) → find_booking room id (tables_in trees) ≡ None → find_error room id (tables_in trees) ≡ keep (λ r. bytes_eq r.room room) e → IsPlaceOf room id (tables_in trees) (logged_in room e)
-    logged None unbooked e = (unbooked, e)
-    logged (Some row) unbooked e = go (bytes_eq row.room room) e
-      where
-        go : (b : Bool) → find_error room id (tables_in trees) ≡ cond b (Some row) None → IsPlaceOf room id (tables_in trees) (cond b (Some (Logged row)) None)
-        go true e = (unbooked, e)
-        go false e = (unbooked, e)
-
-    choose : (b : Option BookingRow) (e : Option ErrorRow) → find_booking room id (tables_in trees) ≡ keep (λ r. bytes_eq r.room room) b → find_error room id (tables_in trees) ≡ keep (λ r. bytes_eq r.room room) e
-        → IsPlaceOf room id (tables_in trees) (chosen room b e)
-    choose None e f g = logged e f g
-    choose (Some row) e f g = go (bytes_eq row.room room) f
-      where
-        go : (b : Bool) → find_booking room id (tables_in trees) ≡ cond b (Some row) None → IsPlaceOf room id (tables_in trees) (cond b (Some (Booked row)) (logged_in room e))
-        go true f = f
-        go false f = logged e f g
+pub chosen_is : (room : Text) (id : Id) (trees : Trees) (booking : Option BookingRow) (error : Option ErrorRow) (cancelled : Option CancelledRow) (cancel : Option CancelRow)
+    → AreRowsOf id (tables_in trees) booking error → AreCancelRowsOf id (tables_in trees) cancelled cancel → IsPlaceOf room id (tables_in trees) (chosen room booking error (taken_in room cancelled cancel))
+chosen_is room id trees booking error cancelled cancel rows others =
+    booked_is room id (tables_in trees) booking error cancelled cancel
+    (find_kept booking_id (λ r. r.room) room id (tables_in trees).booking (bookings_apart trees) ∙ ap (keep (λ r. bytes_eq r.room room)) (sym rows.0))
+    (find_kept error_id (λ r. r.room) room id (tables_in trees).errorlog (errors_apart trees) ∙ ap (keep (λ r. bytes_eq r.room room)) (sym rows.1))
+    (find_kept cancelled_id (λ r. r.room) room id (tables_in trees).cancelled (cancelled_apart trees) ∙ ap (keep (λ r. bytes_eq r.room room)) (sym others.0))
+    (find_kept cancel_id (λ r. r.room) room id (tables_in trees).cancels (cancels_apart trees) ∙ ap (keep (λ r. bytes_eq r.room room)) (sym others.1))

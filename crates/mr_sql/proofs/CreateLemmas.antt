@@ -17,8 +17,8 @@ use Rattle.sqlite.specs.State.{State, HasCleanDisk, Survives, Writes, ExecutesIn
 use Rattle.sqlite.proofs.Callers.{IsPlain, command_of, statement_of, runs_as}
 use Rattle.sqlite.specs.Steps.{FailsToCommit}
 use Rattle.mr_model.specs.Tables.{MetaRow, Tables}
-use Rattle.mr_rows.specs.Schema.{no_schema, with_meta, with_room, with_vector, with_log, with_undo, with_booking, our_schema, meta_text, room_text, vector_text, log_text, undo_text, booking_text, error_text, meta_table, room_table, vector_table, log_table, undo_table, booking_table, error_table}
-use Rattle.mr_rows.specs.Form.{Form, meta_form, room_form, vector_form, log_form, undo_form, booking_form, error_form}
+use Rattle.mr_rows.specs.Schema.{no_schema, with_meta, with_room, with_vector, with_write_log, with_undo, with_booking, first_schema, with_log, with_cancelled, our_schema, meta_text, room_text, vector_text, write_log_text, undo_text, booking_text, error_text, log_text, cancelled_text, cancel_text, meta_table, room_table, vector_table, write_log_table, undo_table, booking_table, error_table, log_table, cancelled_table, cancel_table}
+use Rattle.mr_rows.specs.Form.{Form, meta_form, room_form, vector_form, log_form, booking_form, error_form, cancelled_form, cancel_form}
 use Rattle.mr_rows.specs.Kept.{IsHeld, IsOurs, IsStep, first_meta, in_order, tables_in}
 use Rattle.mr_rows.specs.Parts.{put_meta}
 use Rattle.mr_sql.specs.Blank.{IsBlank, IsGrown, Grows, no_tables}
@@ -78,19 +78,19 @@ vector_made = (refl, (refl, refl), refl, refl, refl)
 pub makes_vector : (old new : State) (r : Result ℕ Error) → IsBlank with_room old.now → ExecutesInside 0 vector_text [] old new r → OnOk r (IsGrown with_vector old new)
 makes_vector old new r = makes with_room vector_text vector_table old new r vector_made
 
-log_made : MakesTable with_vector log_text log_table
+write_log_made : MakesTable with_vector write_log_text write_log_table
 unfolding understood everything
-log_made = (refl, (refl, refl), refl, refl, refl)
+write_log_made = (refl, (refl, refl), refl, refl, refl)
 
-pub makes_log : (old new : State) (r : Result ℕ Error) → IsBlank with_vector old.now → ExecutesInside 0 log_text [] old new r → OnOk r (IsGrown with_log old new)
-makes_log old new r = makes with_vector log_text log_table old new r log_made
+pub makes_write_log : (old new : State) (r : Result ℕ Error) → IsBlank with_vector old.now → ExecutesInside 0 write_log_text [] old new r → OnOk r (IsGrown with_write_log old new)
+makes_write_log old new r = makes with_vector write_log_text write_log_table old new r write_log_made
 
-undo_made : MakesTable with_log undo_text undo_table
+undo_made : MakesTable with_write_log undo_text undo_table
 unfolding understood everything
 undo_made = (refl, (refl, refl), refl, refl, refl)
 
-pub makes_undo : (old new : State) (r : Result ℕ Error) → IsBlank with_log old.now → ExecutesInside 0 undo_text [] old new r → OnOk r (IsGrown with_undo old new)
-makes_undo old new r = makes with_log undo_text undo_table old new r undo_made
+pub makes_undo : (old new : State) (r : Result ℕ Error) → IsBlank with_write_log old.now → ExecutesInside 0 undo_text [] old new r → OnOk r (IsGrown with_undo old new)
+makes_undo old new r = makes with_write_log undo_text undo_table old new r undo_made
 
 booking_made : MakesTable with_undo booking_text booking_table
 unfolding understood everything
@@ -103,8 +103,29 @@ error_made : MakesTable with_booking error_text error_table
 unfolding understood everything
 error_made = (refl, (refl, refl), refl, refl, refl)
 
-pub makes_error : (old new : State) (r : Result ℕ Error) → IsBlank with_booking old.now → ExecutesInside 0 error_text [] old new r → OnOk r (IsGrown our_schema old new)
+pub makes_error : (old new : State) (r : Result ℕ Error) → IsBlank with_booking old.now → ExecutesInside 0 error_text [] old new r → OnOk r (IsGrown first_schema old new)
 makes_error old new r = makes with_booking error_text error_table old new r error_made
+
+log_made : MakesTable first_schema log_text log_table
+unfolding understood everything
+log_made = (refl, (refl, refl), refl, refl, refl)
+
+pub makes_log : (old new : State) (r : Result ℕ Error) → IsBlank first_schema old.now → ExecutesInside 0 log_text [] old new r → OnOk r (IsGrown with_log old new)
+makes_log old new r = makes first_schema log_text log_table old new r log_made
+
+cancelled_made : MakesTable with_log cancelled_text cancelled_table
+unfolding understood everything
+cancelled_made = (refl, (refl, refl), refl, refl, refl)
+
+pub makes_cancelled : (old new : State) (r : Result ℕ Error) → IsBlank with_log old.now → ExecutesInside 0 cancelled_text [] old new r → OnOk r (IsGrown with_cancelled old new)
+makes_cancelled old new r = makes with_log cancelled_text cancelled_table old new r cancelled_made
+
+cancel_made : MakesTable with_cancelled cancel_text cancel_table
+unfolding understood everything
+cancel_made = (refl, (refl, refl), refl, refl, refl)
+
+pub makes_cancel : (old new : State) (r : Result ℕ Error) → IsBlank with_cancelled old.now → ExecutesInside 0 cancel_text [] old new r → OnOk r (IsGrown our_schema old new)
+makes_cancel old new r = makes with_cancelled cancel_text cancel_table old new r cancel_made
 
 -- one after the other
 pub grows_then : {X : Type 0} (a b c : State) (first second third : Schema) (r : Result X Error) → Survives b c (λ _. ⊥)
@@ -130,10 +151,13 @@ blank_ours db blank =
         meta = subst (IsHeld meta_form) (sym rows.0) (held_none meta_form);
         room = subst (IsHeld room_form) (sym rows.1.0) (held_none room_form);
         vector = subst (IsHeld vector_form) (sym rows.1.1.0) (held_none vector_form);
-        write_log = subst (IsHeld log_form) (sym rows.1.1.1.0) (held_none log_form);
-        undo = subst (IsHeld undo_form) (sym rows.1.1.1.1.0) (held_none undo_form);
         booking = subst (IsHeld booking_form) (sym rows.1.1.1.1.1.0) (held_none booking_form);
         errorlog = subst (IsHeld error_form) (sym rows.1.1.1.1.1.1.0) (held_none error_form);
+        log = subst (IsHeld log_form) (sym rows.1.1.1.1.1.1.1.0) (held_none log_form);
+        cancelled = subst (IsHeld cancelled_form) (sym rows.1.1.1.1.1.1.1.1.0) (held_none cancelled_form);
+        cancels = subst (IsHeld cancel_form) (sym rows.1.1.1.1.1.1.1.1.1.0) (held_none cancel_form);
+        no_write_log = rows.1.1.1.0;
+        no_undo = rows.1.1.1.1.0;
       };
     }
 
@@ -144,18 +168,20 @@ blank_tables db blank =
     let meta = rows.0 in
     let room = rows.1.0 in
     let vector = rows.1.1.0 in
-    let log = rows.1.1.1.0 in
-    let undo = rows.1.1.1.1.0 in
     let booking = rows.1.1.1.1.1.0 in
     let error = rows.1.1.1.1.1.1.0 in
+    let log = rows.1.1.1.1.1.1.1.0 in
+    let cancelled = rows.1.1.1.1.1.1.1.1.0 in
+    let cancel = rows.1.1.1.1.1.1.1.1.1.0 in
     λ i. record {
       meta = first_meta (in_order meta_form (meta i));
       room = in_order room_form (room i);
       vector = in_order vector_form (vector i);
-      write_log = in_order log_form (log i);
-      undo = in_order undo_form (undo i);
+      log = in_order log_form (log i);
       booking = in_order booking_form (booking i);
       errorlog = in_order error_form (error i);
+      cancelled = in_order cancelled_form (cancelled i);
+      cancels = in_order cancel_form (cancel i);
     }
 
 -- the row of `meta` is put into them

@@ -1,5 +1,6 @@
 pub mod ScopeLemmas
 pub mod CreateLemmas
+pub mod SchemaLemmas
 pub mod AnswerLemmas
 pub mod OpeningLemmas
 pub mod TakenLemmas

@@ -8,27 +8,22 @@ use Rattle.mr_model.specs.Texts.{Text, within}
 use Rattle.mr_model.specs.Writes.{Id, same_id}
 use Rattle.mr_model.specs.Replica.{Replica, is_among}
 use Rattle.mr_model.specs.Exchange.{Item, W, C}
-use Rattle.mr_model.specs.Tables.{MetaRow, VectorRow, LogRow, UndoRow, BookingRow, Tables, log_row, kept, seq_among, tables_of}
+use Rattle.mr_model.specs.Tables.{MetaRow, VectorRow, LogRow, BookingRow, ErrorRow, CancelledRow, Tables, log_row, kept, seq_among, tables_of}
+use Rattle.mr_model.specs.Queries.{booking_id, error_id, cancelled_id}
 use Rattle.mr_model.specs.Dropped.{Has}
-use Rattle.mr_model.specs.Scopes.{Scope, Nothing, InRoom, NextCommits, UpTo, Above, OfItems, log_row_id, undo_row_id, is_tentative, row_before, put_row, by_stamp, item_id, has_number, is_named, is_in_tail, is_touched, in_scope}
+use Rattle.mr_model.specs.Scopes.{Scope, Nothing, InRoom, OfTarget, NextCommits, UpTo, Above, OfItems, log_row_id, is_tentative, row_before, put_row, by_stamp, item_id, has_number, is_named, is_in_tail, is_touched, next_commits, with_rows, in_scope}
 use Rattle.mr_model.specs.RowsRead.{rows_read, IsOfCommits}
 use Rattle.mr_model.proofs.ReadRows.{read_rows}
-use Rattle.mr_model.proofs.Members.{filter_has, has_map, map_has, among_has}
-use Rattle.mr_tables.specs.Change.{log_id, undo_id}
+use Rattle.mr_model.proofs.Members.{filter_has, map_has}
 use Rattle.mr_rows.specs.declared.questions.LogQuestion.{LogQuestion}
 use Rattle.mr_rows.specs.declared.questions.LogQuestion.TheVariants.{OfId, Between}
-use Rattle.mr_rows.specs.RowQuestions.{is_asked, is_log_asked, is_undo_asked, is_booking_asked}
-use Rattle.mr_sql.specs.Questions.{item_questions, tentative_question, log_questions, logs_alone, undo_questions, booking_questions, AreRead, AreNumbered, AreEnough}
+use Rattle.mr_rows.specs.RowQuestions.{is_asked, is_log_asked, is_booking_asked, is_cancelled_asked, is_booking_of, is_error_of, is_cancelled_of}
+use Rattle.mr_sql.specs.Questions.{item_questions, tentative_question, log_questions, logs_alone, room_questions, target_questions, taken_questions, asks_booking, asks_cancelled, AreRead, AreNumbered, AreEnough}
 use Rattle.mr_replica.specs.Sets.{AreSameRooms}
 use Rattle.mr_rows.proofs.RowLemmas.{filter_same}
-use Rattle.mr_rows.proofs.ValueLemmas.{one_among}
+use Rattle.mr_rows.proofs.ValueLemmas.{or_false}
 
 -- ---- lists
-
-any_has : {X : Type 0} (p : X → Bool) (x : X) (xs : List X) → Has x xs → p x ≡ true → list_any p xs ≡ true
-any_has p x [] h e = absurd h
-any_has p x (y ∷ ys) (inl f) e = or_left (p y) (list_any p ys) (ap p (sym f) ∙ e)
-any_has p x (y ∷ ys) (inr g) e = or_right (p y) (list_any p ys) (any_has p x ys g e)
 
 take_has : {X : Type 0} (k : ℕ) (x : X) (xs : List X) → Has x (take k xs) → Has x xs
 take_has zero x xs h = absurd h
@@ -107,7 +102,7 @@ number_asked commits (x ∷ items) row low e = go (or_cases (has_number row.seq 
     go (inl f) ih = asked_behind (item_questions commits x) (flat_map (item_questions commits) items) row (here x f)
     go (inr f) ih = asked_before (item_questions commits x) (flat_map (item_questions commits) items) row (ih f)
 
--- ---- rows of write_log
+-- ---- rows of the log
 
 up_to_asked : (commits d : ℕ) (row : LogRow) → row.seq ≤ commits → within 1 d row.seq ≡ true → is_asked is_log_asked (log_questions commits (UpTo d)) row ≡ true
 up_to_asked commits d row low e = or_left (is_log_asked (Between 1 (cond (ltb commits d) commits d)) row) false (go (ltb commits d))
@@ -140,136 +135,193 @@ items_asked commits items touched row low e = go (or_cases (is_named items row) 
         let tail = (and_parts (is_in_tail commits items row) touched f).0 in
         or_left (is_log_asked tentative_question row) _ (tentative_asked row (and_parts (is_tentative row) _ tail).0)
 
-log_asked : (s : Scope) (t : Tables) → AreNumbered t → (row : LogRow) → Has row (in_scope s t).write_log → Has row t.write_log × (is_asked is_log_asked (log_questions t.meta.commits s) row ≡ true)
+log_asked : (s : Scope) (t : Tables) → AreNumbered t → (row : LogRow) → Has row (in_scope s t).log → Has row t.log × (is_asked is_log_asked (log_questions t.meta.commits s) row ≡ true)
 log_asked Nothing t numbered row h = absurd h
 log_asked (InRoom room) t numbered row h = absurd h
+log_asked (OfTarget target) t numbered row h = absurd h
 log_asked (NextCommits k) t numbered row h =
-    let g = filter_has is_tentative row t.write_log (by_stamp_has row (filter is_tentative t.write_log) (take_has k row (by_stamp (filter is_tentative t.write_log)) h)) in
+    let g = filter_has is_tentative row t.log (by_stamp_has row (filter is_tentative t.log) (take_has k row (by_stamp (filter is_tentative t.log)) h)) in
     (g.0, or_left (is_log_asked tentative_question row) false (tentative_asked row g.1))
 log_asked (UpTo d) t numbered row h =
-    let g = filter_has (λ (r : LogRow). within 1 d r.seq) row t.write_log h in
+    let g = filter_has (λ (r : LogRow). within 1 d r.seq) row t.log h in
     (g.0, up_to_asked t.meta.commits d row (numbered row g.0) g.1)
 log_asked (Above c) t numbered row h =
-    let g = filter_has (λ r. is_tentative r || ltb c r.seq) row t.write_log h in
+    let g = filter_has (λ r. is_tentative r || ltb c r.seq) row t.log h in
     (g.0, above_asked t.meta.commits c row (numbered row g.0) g.1)
 log_asked (OfItems items) t numbered row h =
-    let g = filter_has (λ r. is_named items r || (is_in_tail t.meta.commits items r && is_touched t items r.room)) row t.write_log h in
+    let g = filter_has (λ r. is_named items r || (is_in_tail t.meta.commits items r && is_touched t items r.room)) row t.log h in
     (g.0, items_asked t.meta.commits items (is_touched t items row.room) row (numbered row g.0) g.1)
 
--- the rows of write_log that are asked for
+-- the rows of the log that are asked for
 abbrev logs_of : Scope → Tables → List LogRow
-logs_of s t = filter (is_asked is_log_asked (log_questions t.meta.commits s)) t.write_log
+logs_of s t = filter (is_asked is_log_asked (log_questions t.meta.commits s)) t.log
 
 -- all tentative rows, where the scope is that of a commit
 tentative_read : (s : Scope) (commits : ℕ) → IsOfCommits s → (row : LogRow) → is_tentative row ≡ true → is_asked is_log_asked (log_questions commits s) row ≡ true
 tentative_read Nothing commits of row e = absurd of
 tentative_read (InRoom room) commits of row e = absurd of
+tentative_read (OfTarget target) commits of row e = absurd of
 tentative_read (NextCommits k) commits of row e = or_left (is_log_asked tentative_question row) false (tentative_asked row e)
 tentative_read (UpTo d) commits of row e = absurd of
 tentative_read (Above c) commits of row e = absurd of
 tentative_read (OfItems items) commits of row e = absurd of
 
--- with the rows of write_log that are asked for, and all of the other tables, what is in scope stays
-logs_suffice : (s : Scope) (t : Tables) → AreNumbered t → in_scope s (rows_read (is_asked is_log_asked (log_questions t.meta.commits s)) (λ _. true) (λ _. true) t) ≡ in_scope s t
-logs_suffice s t numbered = read_rows s t (is_asked is_log_asked (log_questions t.meta.commits s)) (λ _. true) (λ _. true) (record {
+-- the tables with the rows of the log that are asked for, and all of the other tables but cancels
+abbrev logs_read : Scope → Tables → Tables
+logs_read s t = rows_read (is_asked is_log_asked (log_questions t.meta.commits s)) (λ _. true) (λ _. true) (λ _. true) t
+
+-- of these what is in scope stays
+logs_suffice : (s : Scope) (t : Tables) → AreNumbered t → in_scope s (logs_read s t) ≡ in_scope s t
+logs_suffice s t numbered = read_rows s t (is_asked is_log_asked (log_questions t.meta.commits s)) (λ _. true) (λ _. true) (λ _. true) (record {
   logs = λ row h. (log_asked s t numbered row h).1;
-  undo = λ u h. refl;
   booking = λ b h. refl;
+  errorlog = λ e h. refl;
+  cancelled = λ c h. refl;
   tentative = λ of row h. tentative_read s t.meta.commits of row;
 })
 
--- what is in scope of write_log goes by its rows and the number of commits alone
-logs_same : (s : Scope) (t : Tables) → AreNumbered t → (in_scope s (logs_alone t.meta.commits (logs_of s t))).write_log ≡ (in_scope s t).write_log
-logs_same s t numbered = alone s ∙ ap (λ (u : Tables). u.write_log) (logs_suffice s t numbered)
+-- what is in scope of the log goes by its rows and the number of commits alone
+logs_same : (s : Scope) (t : Tables) → AreNumbered t → (in_scope s (logs_alone t.meta.commits (logs_of s t))).log ≡ (in_scope s t).log
+logs_same s t numbered = alone s ∙ ap (λ (u : Tables). u.log) (logs_suffice s t numbered)
   where
-    read : Tables
-    read = rows_read (is_asked is_log_asked (log_questions t.meta.commits s)) (λ _. true) (λ _. true) t
-
-    alone : (r : Scope) → (in_scope r (logs_alone t.meta.commits (logs_of s t))).write_log ≡ (in_scope r read).write_log
+    alone : (r : Scope) → (in_scope r (logs_alone t.meta.commits (logs_of s t))).log ≡ (in_scope r (logs_read s t)).log
     alone Nothing = refl
     alone (InRoom room) = refl
+    alone (OfTarget target) = refl
     alone (NextCommits k) = refl
     alone (UpTo d) = refl
     alone (Above c) = refl
     alone (OfItems items) = refl
 
--- ---- rows of undo
-
-undo_among : (u : UndoRow) (t : Tables) (inside : List LogRow) → Has u (filter (λ v. is_among (undo_row_id v) (map log_row_id inside)) t.undo) → is_among (undo_row_id u) (map log_row_id inside) ≡ true
-undo_among u t inside h = (filter_has (λ v. is_among (undo_row_id v) (map log_row_id inside)) u t.undo h).1
-
--- the row of one of these is asked for
-undo_by_row : (u : UndoRow) (inside : List LogRow) → is_among (undo_row_id u) (map log_row_id inside) ≡ true → is_asked is_undo_asked (map log_id inside) u ≡ true
-undo_by_row u inside e =
-    let (row, g, f) = map_has log_row_id (undo_row_id u) inside (among_has (undo_row_id u) (map log_row_id inside) e) in
-    any_has (λ id. is_undo_asked id u) (log_id row) (map log_id inside) (has_map log_id row inside g) (one_among (undo_id u) (log_id row) f)
-
--- the same where the rows in scope are told by those that were read
-undo_by_read : (s : Scope) (t : Tables) → AreNumbered t → (u : UndoRow) → Has u (filter (λ v. is_among (undo_row_id v) (map log_row_id (in_scope s t).write_log)) t.undo)
-    → is_asked is_undo_asked (map log_id (in_scope s (logs_alone t.meta.commits (logs_of s t))).write_log) u ≡ true
-undo_by_read s t numbered u h =
-    subst (λ (rows : List LogRow). is_asked is_undo_asked (map log_id rows) u ≡ true) (sym (logs_same s t numbered)) (undo_by_row u (in_scope s t).write_log (undo_among u t (in_scope s t).write_log h))
-
-undo_read : (s : Scope) (t : Tables) → AreNumbered t → (u : UndoRow) → Has u (in_scope s t).undo → is_asked is_undo_asked (undo_questions t.meta.commits s (logs_of s t)) u ≡ true
-undo_read Nothing t numbered u h = undo_by_read Nothing t numbered u h
-undo_read (InRoom room) t numbered u h = undo_by_read (InRoom room) t numbered u h
-undo_read (NextCommits k) t numbered u h = undo_by_read (NextCommits k) t numbered u h
-undo_read (UpTo d) t numbered u h = undo_by_read (UpTo d) t numbered u h
-undo_read (Above c) t numbered u h = absurd (true≢false (sym (undo_among u t [] h)))
-undo_read (OfItems items) t numbered u h = undo_by_read (OfItems items) t numbered u h
-
 -- ---- bookings
 
 -- the rooms that the rows read touch are those that all rows touch
-touched_read : (items : List Item) (t : Tables) → AreNumbered t → (b : BookingRow) → Has b (in_scope (OfItems items) t).booking
-    → is_asked is_booking_asked (booking_questions t.meta.commits (OfItems items) (logs_of (OfItems items) t)) b ≡ true
-touched_read items t numbered b h =
-    let read : Tables = rows_read (is_asked is_log_asked (log_questions t.meta.commits (OfItems items))) (λ _. true) (λ _. true) t in
+touched_booking : (items : List Item) (t : Tables) → AreNumbered t → (b : BookingRow) → Has b (in_scope (OfItems items) t).booking
+    → is_asked is_booking_asked (room_questions t.meta.commits (OfItems items) (logs_of (OfItems items) t)) b ≡ true
+touched_booking items t numbered b h =
+    let read = logs_read (OfItems items) t in
     let same = logs_suffice (OfItems items) t numbered in
     (filter_has (λ c. is_touched read items c.room) b read.booking (subst (λ (u : Tables). Has b u.booking) (sym same) h)).1
 
-booking_read : (s : Scope) (t : Tables) → AreNumbered t → (b : BookingRow) → Has b (in_scope s t).booking → is_asked is_booking_asked (booking_questions t.meta.commits s (logs_of s t)) b ≡ true
+booking_read : (s : Scope) (t : Tables) → AreNumbered t → (b : BookingRow) → Has b (in_scope s t).booking → asks_booking t.meta.commits s (logs_of s t) b ≡ true
 booking_read Nothing t numbered b h = absurd h
-booking_read (InRoom room) t numbered b h = or_left (is_booking_asked room b) false (filter_has (λ (c : BookingRow). bytes_eq c.room room) b t.booking h).1
+booking_read (InRoom room) t numbered b h =
+    or_left (is_asked is_booking_asked (room ∷ []) b) false (or_left (is_booking_asked room b) false (filter_has (λ (c : BookingRow). bytes_eq c.room room) b t.booking h).1)
+booking_read (OfTarget target) t numbered b h =
+    or_left (is_booking_of target b) false (or_left (same_id (booking_id b) target) false (filter_has (λ (c : BookingRow). same_id (booking_id c) target) b t.booking h).1)
 booking_read (NextCommits k) t numbered b h = absurd h
 booking_read (UpTo d) t numbered b h = absurd h
 booking_read (Above c) t numbered b h = absurd h
-booking_read (OfItems items) t numbered b h = touched_read items t numbered b h
+booking_read (OfItems items) t numbered b h =
+    or_left (is_asked is_booking_asked (room_questions t.meta.commits (OfItems items) (logs_of (OfItems items) t)) b) false (touched_booking items t numbered b h)
+
+-- ---- the error log
+
+error_read : (s : Scope) (t : Tables) (e : ErrorRow) → Has e (in_scope s t).errorlog → is_asked is_error_of (target_questions s) e ≡ true
+error_read Nothing t e h = absurd h
+error_read (InRoom room) t e h = absurd h
+error_read (OfTarget target) t e h =
+    or_left (is_error_of target e) false (or_left (same_id (error_id e) target) false (filter_has (λ (c : ErrorRow). same_id (error_id c) target) e t.errorlog h).1)
+error_read (NextCommits k) t e h = absurd h
+error_read (UpTo d) t e h = absurd h
+error_read (Above c) t e h = absurd h
+error_read (OfItems items) t e h = absurd h
+
+-- ---- cancelled bookings
+
+touched_cancelled : (items : List Item) (t : Tables) → AreNumbered t → (b : CancelledRow) → Has b (in_scope (OfItems items) t).cancelled
+    → is_asked is_cancelled_asked (room_questions t.meta.commits (OfItems items) (logs_of (OfItems items) t)) b ≡ true
+touched_cancelled items t numbered b h =
+    let read = logs_read (OfItems items) t in
+    let same = logs_suffice (OfItems items) t numbered in
+    (filter_has (λ c. is_touched read items c.room) b read.cancelled (subst (λ (u : Tables). Has b u.cancelled) (sym same) h)).1
+
+-- the row of one of these ids is asked for
+cancelled_of_ids : (ids : List Id) (c : CancelledRow) → is_asked is_cancelled_of ids c ≡ is_among (cancelled_id c) ids
+cancelled_of_ids [] c = refl
+cancelled_of_ids (id ∷ ids) c = let first = or_false (same_id (cancelled_id c) id) in let more = cancelled_of_ids ids c in λ i. first i || more i
+
+-- those of the writes that are committed next, which the rows read tell
+next_cancelled : (k : ℕ) (t : Tables) → AreNumbered t → (c : CancelledRow) → Has c (in_scope (NextCommits k) t).cancelled
+    → is_asked is_cancelled_of (taken_questions t.meta.commits (NextCommits k) (logs_of (NextCommits k) t)) c ≡ true
+next_cancelled k t numbered c h =
+    let among = (filter_has (λ (d : CancelledRow). is_among (cancelled_id d) (map log_row_id (next_commits k t))) c t.cancelled h).1 in
+    let asked : is_asked is_cancelled_of (map log_row_id (next_commits k t)) c ≡ true = cancelled_of_ids (map log_row_id (next_commits k t)) c ∙ among in
+    subst (λ (rows : List LogRow). is_asked is_cancelled_of (map log_row_id rows) c ≡ true) (sym (logs_same (NextCommits k) t numbered)) asked
+
+cancelled_read : (s : Scope) (t : Tables) → AreNumbered t → (c : CancelledRow) → Has c (in_scope s t).cancelled → asks_cancelled t.meta.commits s (logs_of s t) c ≡ true
+cancelled_read Nothing t numbered c h = absurd h
+cancelled_read (InRoom room) t numbered c h =
+    or_left (is_asked is_cancelled_asked (room ∷ []) c) false (or_left (is_cancelled_asked room c) false (filter_has (λ (d : CancelledRow). bytes_eq d.room room) c t.cancelled h).1)
+cancelled_read (OfTarget target) t numbered c h =
+    or_left (is_cancelled_of target c) false (or_left (same_id (cancelled_id c) target) false (filter_has (λ (d : CancelledRow). same_id (cancelled_id d) target) c t.cancelled h).1)
+cancelled_read (NextCommits k) t numbered c h = next_cancelled k t numbered c h
+cancelled_read (UpTo d) t numbered c h = absurd h
+cancelled_read (Above n) t numbered c h = absurd h
+cancelled_read (OfItems items) t numbered c h =
+    or_left (is_asked is_cancelled_asked (room_questions t.meta.commits (OfItems items) (logs_of (OfItems items) t)) c) false (touched_cancelled items t numbered c h)
 
 -- ---- all tables
 
-pub enough : (s : Scope) (t : Tables) (log_rows : List LogRow) (undo_rows : List UndoRow) (booking_rows : List BookingRow) → AreRead t.meta.commits s t log_rows undo_rows booking_rows
-    → AreEnough s t (record t { write_log = log_rows; undo = undo_rows; booking = booking_rows; errorlog = [] })
-enough s t log_rows undo_rows booking_rows read numbered =
+-- of all heads with the rows that were read
+enough : (s : Scope) (t : Tables) (logs : List LogRow) (bookings : List BookingRow) (errors : List ErrorRow) (gone : List CancelledRow) → AreRead t.meta.commits s t logs bookings errors gone
+    → AreEnough s t (with_rows t logs bookings errors gone)
+enough s t logs bookings errors gone read numbered =
     ap (in_scope s) are
-    ∙ read_rows s t (is_asked is_log_asked (log_questions t.meta.commits s)) (is_asked is_undo_asked (undo_questions t.meta.commits s (logs_of s t))) (is_asked is_booking_asked (booking_questions t.meta.commits s (logs_of s t))) (record {
+    ∙ read_rows s t (is_asked is_log_asked (log_questions t.meta.commits s)) (asks_booking t.meta.commits s (logs_of s t)) (is_asked is_error_of (target_questions s)) (asks_cancelled t.meta.commits s (logs_of s t)) (record {
       logs = λ row h. (log_asked s t numbered row h).1;
-      undo = undo_read s t numbered;
       booking = booking_read s t numbered;
+      errorlog = error_read s t;
+      cancelled = cancelled_read s t numbered;
       tentative = λ of row h. tentative_read s t.meta.commits of row;
     })
   where
-    undo_are : undo_rows ≡ filter (is_asked is_undo_asked (undo_questions t.meta.commits s (logs_of s t))) t.undo
-    undo_are = read.undo ∙ ap (λ logs. filter (is_asked is_undo_asked (undo_questions t.meta.commits s logs)) t.undo) read.logs
+    bookings_are : bookings ≡ filter (asks_booking t.meta.commits s (logs_of s t)) t.booking
+    bookings_are = read.places.booking ∙ ap (λ rows. filter (asks_booking t.meta.commits s rows) t.booking) read.log
 
-    bookings_are : booking_rows ≡ filter (is_asked is_booking_asked (booking_questions t.meta.commits s (logs_of s t))) t.booking
-    bookings_are = read.booking ∙ ap (λ logs. filter (is_asked is_booking_asked (booking_questions t.meta.commits s logs)) t.booking) read.logs
+    gone_are : gone ≡ filter (asks_cancelled t.meta.commits s (logs_of s t)) t.cancelled
+    gone_are = read.places.taken ∙ ap (λ rows. filter (asks_cancelled t.meta.commits s rows) t.cancelled) read.log
 
-    are : record t { write_log = log_rows; undo = undo_rows; booking = booking_rows; errorlog = [] }
-        ≡ rows_read (is_asked is_log_asked (log_questions t.meta.commits s)) (is_asked is_undo_asked (undo_questions t.meta.commits s (logs_of s t))) (is_asked is_booking_asked (booking_questions t.meta.commits s (logs_of s t))) t
-    are = let logs = read.logs in let undo = undo_are in let bookings = bookings_are in λ i. record t { write_log = logs i; undo = undo i; booking = bookings i; errorlog = [] }
+    are : with_rows t logs bookings errors gone
+        ≡ rows_read (is_asked is_log_asked (log_questions t.meta.commits s)) (asks_booking t.meta.commits s (logs_of s t)) (is_asked is_error_of (target_questions s)) (asks_cancelled t.meta.commits s (logs_of s t)) t
+    are = let log = read.log in let booking = bookings_are in let error = read.places.errorlog in let taken = gone_are in λ i. with_rows t (log i) (booking i) (error i) (taken i)
 
 -- the same where the heads were read too
-pub read_enough : (s : Scope) (t : Tables) (meta : MetaRow) (room : List Text) (vector : List VectorRow) (log_rows : List LogRow) (undo_rows : List UndoRow) (booking_rows : List BookingRow)
-    → (meta ≡ t.meta) × (room ≡ t.room) × (vector ≡ t.vector) → AreRead meta.commits s t log_rows undo_rows booking_rows
-    → AreEnough s t (record { meta = meta; room = room; vector = vector; write_log = log_rows; undo = undo_rows; booking = booking_rows; errorlog = [] })
-read_enough s t meta room vector log_rows undo_rows booking_rows heads read numbered =
-    (let m = heads.0 in let r = heads.1 in let v = heads.2 in λ i. in_scope s (record { meta = m i; room = r i; vector = v i; write_log = log_rows; undo = undo_rows; booking = booking_rows; errorlog = [] }))
-    ∙ enough s t log_rows undo_rows booking_rows (subst (λ (m : MetaRow). AreRead m.commits s t log_rows undo_rows booking_rows) heads.0 read) numbered
+pub read_enough : (s : Scope) (t : Tables) (meta : MetaRow) (room : List Text) (vector : List VectorRow) (logs : List LogRow) (bookings : List BookingRow) (errors : List ErrorRow) (gone : List CancelledRow)
+    → (meta ≡ t.meta) × (room ≡ t.room) × (vector ≡ t.vector) → AreRead meta.commits s t logs bookings errors gone
+    → AreEnough s t (record { meta = meta; room = room; vector = vector; log = logs; booking = bookings; errorlog = errors; cancelled = gone; cancels = [] })
+read_enough s t meta room vector logs bookings errors gone heads read numbered =
+    (let m = heads.0 in let r = heads.1 in let v = heads.2 in λ i. in_scope s (record { meta = m i; room = r i; vector = v i; log = logs; booking = bookings; errorlog = errors; cancelled = gone; cancels = [] }))
+    ∙ enough s t logs bookings errors gone (subst (λ (m : MetaRow). AreRead m.commits s t logs bookings errors gone) heads.0 read) numbered
 
 -- questions for the same rooms ask for the same bookings
 pub rooms_asked : (xs ys : List Text) → AreSameRooms xs ys → (bookings : List BookingRow) → filter (is_asked is_booking_asked xs) bookings ≡ filter (is_asked is_booking_asked ys) bookings
 rooms_asked xs ys same bookings = filter_same (is_asked is_booking_asked xs) (is_asked is_booking_asked ys) bookings (λ b _. same b.room)
+
+pub taken_rooms_asked : (xs ys : List Text) → AreSameRooms xs ys → (rows : List CancelledRow) → filter (is_asked is_cancelled_asked xs) rows ≡ filter (is_asked is_cancelled_asked ys) rows
+taken_rooms_asked xs ys same rows = filter_same (is_asked is_cancelled_asked xs) (is_asked is_cancelled_asked ys) rows (λ c _. same c.room)
+
+-- where nothing is asked by id, what is asked by room is all that is asked
+pub by_room : (commits : ℕ) (s : Scope) (logs : List LogRow) → target_questions s ≡ [] → (bookings : List BookingRow)
+    → filter (is_asked is_booking_asked (room_questions commits s logs)) bookings ≡ filter (asks_booking commits s logs) bookings
+by_room commits s logs none bookings = filter_same (is_asked is_booking_asked (room_questions commits s logs)) (asks_booking commits s logs) bookings
+    (λ b _. sym (or_false (is_asked is_booking_asked (room_questions commits s logs) b)) ∙ ap (λ ids. is_asked is_booking_asked (room_questions commits s logs) b || is_asked is_booking_of ids b) (sym none))
+
+pub taken_by_room : (commits : ℕ) (s : Scope) (logs : List LogRow) → taken_questions commits s logs ≡ [] → (rows : List CancelledRow)
+    → filter (is_asked is_cancelled_asked (room_questions commits s logs)) rows ≡ filter (asks_cancelled commits s logs) rows
+taken_by_room commits s logs none rows = filter_same (is_asked is_cancelled_asked (room_questions commits s logs)) (asks_cancelled commits s logs) rows
+    (λ c _. sym (or_false (is_asked is_cancelled_asked (room_questions commits s logs) c)) ∙ ap (λ ids. is_asked is_cancelled_asked (room_questions commits s logs) c || is_asked is_cancelled_of ids c) (sym none))
+
+-- where nothing is asked by room, what is asked by id is all that is asked
+pub by_id : (commits : ℕ) (s : Scope) (logs : List LogRow) → room_questions commits s logs ≡ [] → (bookings : List BookingRow)
+    → filter (is_asked is_booking_of (target_questions s)) bookings ≡ filter (asks_booking commits s logs) bookings
+by_id commits s logs none bookings = filter_same (is_asked is_booking_of (target_questions s)) (asks_booking commits s logs) bookings
+    (λ b _. ap (λ rooms. is_asked is_booking_asked rooms b || is_asked is_booking_of (target_questions s) b) (sym none))
+
+pub taken_by_id : (commits : ℕ) (s : Scope) (logs : List LogRow) → room_questions commits s logs ≡ [] → (rows : List CancelledRow)
+    → filter (is_asked is_cancelled_of (taken_questions commits s logs)) rows ≡ filter (asks_cancelled commits s logs) rows
+taken_by_id commits s logs none rows = filter_same (is_asked is_cancelled_of (taken_questions commits s logs)) (asks_cancelled commits s logs) rows
+    (λ c _. ap (λ rooms. is_asked is_cancelled_asked rooms c || is_asked is_cancelled_of (taken_questions commits s logs) c) (sym none))
 
 -- ---- commit numbers of a replica's tables
 

@@ -125,7 +125,7 @@ of_schema trees s schema taken sound =
 pub not_blank : (trees : Trees) (s : State) → IsTaken trees s → s.now.schema ≡ our_schema → IsSound no_schema trees → ⊥
 not_blank trees s taken ours blank =
     let same : our_schema ≡ no_schema = sym ours ∙ of_schema trees s no_schema taken blank in
-    let none : 7 ≡ 0 = ap (λ (x : Schema). length x.tables) same in
+    let none : 10 ≡ 0 = ap (λ (x : Schema). length x.tables) same in
     omega (arith, none)
 
 -- a refusal that is handed on

@@ -22,4 +22,4 @@ abbrev pub Grows : {X : Type 0} → Schema → Schema → State → State → Re
 Grows before after old new result = HasCleanDisk new → IsTrue old.in_transaction → IsBlank before old.now → OnOk result (IsGrown after old new)
 
 abbrev pub no_tables : Tables
-no_tables = record { meta = first_meta []; room = []; vector = []; write_log = []; undo = []; booking = []; errorlog = [] }
+no_tables = record { meta = first_meta []; room = []; vector = []; log = []; booking = []; errorlog = []; cancelled = []; cancels = [] }

@@ -1,21 +1,34 @@
--- The place of a request, of the rows that the tables have of its id.
+-- The place of a write, of the rows that the tables have of its id.
 use Rattle.std.specs.Prelude.{◌≡◌, find, bytes_eq, if◌then◌else◌, Option, Some, None}
 use Rattle.mr_model.specs.Texts.{Text}
 use Rattle.mr_model.specs.Writes.{Id, same_id}
-use Rattle.mr_model.specs.Queries.{booking_id, error_id}
-use Rattle.mr_model.specs.Tables.{BookingRow, ErrorRow, Tables}
-use Rattle.mr_store.specs.declared.keeper.PlaceRow.{PlaceRow}
-use Rattle.mr_store.specs.declared.keeper.PlaceRow.TheVariants.{Booked, Logged}
+use Rattle.mr_model.specs.Queries.{booking_id, error_id, cancelled_id, cancel_id}
+use Rattle.mr_model.specs.Tables.{BookingRow, ErrorRow, CancelledRow, CancelRow, Tables}
+use Rattle.mr_tables.specs.declared.place_rows.PlaceRow.{PlaceRow}
+use Rattle.mr_tables.specs.declared.place_rows.PlaceRow.TheVariants.{Booked, Erred, Cancelled, Cancel}
 
--- what the tables have of an id
+-- what the tables of bookings have of an id
 abbrev pub AreRowsOf : Id → Tables → Option BookingRow → Option ErrorRow → Type 0
 AreRowsOf id t booking error = (booking ≡ find (λ r. same_id (booking_id r) id) t.booking) × (error ≡ find (λ r. same_id (error_id r) id) t.errorlog)
 
--- the one that is of the room
-abbrev pub logged_in : Text → Option ErrorRow → Option PlaceRow
-logged_in room None = None
-logged_in room (Some row) = if bytes_eq row.room room then Some (Logged row) else None
+-- what the tables that cancels fill have of an id
+abbrev pub AreCancelRowsOf : Id → Tables → Option CancelledRow → Option CancelRow → Type 0
+AreCancelRowsOf id t cancelled cancel =
+    (cancelled ≡ find (λ r. same_id (cancelled_id r) id) t.cancelled) × (cancel ≡ find (λ r. same_id (cancel_id r) id) t.cancels)
 
-abbrev pub chosen : Text → Option BookingRow → Option ErrorRow → Option PlaceRow
-chosen room None error = logged_in room error
-chosen room (Some row) error = if bytes_eq row.room room then Some (Booked row) else logged_in room error
+-- the one that is of the room, by the order of the tables
+abbrev pub cancel_in : Text → Option CancelRow → Option PlaceRow
+cancel_in room None = None
+cancel_in room (Some row) = if bytes_eq row.room room then Some (Cancel row) else None
+
+abbrev pub taken_in : Text → Option CancelledRow → Option CancelRow → Option PlaceRow
+taken_in room None cancel = cancel_in room cancel
+taken_in room (Some row) cancel = if bytes_eq row.room room then Some (Cancelled row) else cancel_in room cancel
+
+abbrev pub erred_in : Text → Option ErrorRow → Option PlaceRow → Option PlaceRow
+erred_in room None other = other
+erred_in room (Some row) other = if bytes_eq row.room room then Some (Erred row) else other
+
+abbrev pub chosen : Text → Option BookingRow → Option ErrorRow → Option PlaceRow → Option PlaceRow
+chosen room None error other = erred_in room error other
+chosen room (Some row) error other = if bytes_eq row.room room then Some (Booked row) else erred_in room error other

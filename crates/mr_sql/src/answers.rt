@@ -3,21 +3,21 @@ ghost use Rattle.std.specs.List.Sorted.{IsPermutation, IsSorted};
 ghost use Rattle.sqlite_value.specs.declared.value.Value.TheVariants.{Null};
 ghost use Rattle.sqlite.specs.Held.{state};
 ghost use Rattle.mr_model.specs.Writes.{same_id};
-ghost use Rattle.mr_model.specs.Queries.{booking_id, error_id};
-ghost use Rattle.mr_store.specs.Picked.{is_asked as day_is_asked, picked_errors, AreBookings, IsPlaceOf};
+ghost use Rattle.mr_model.specs.Queries.{booking_id, error_id, cancelled_id, cancel_id};
+ghost use Rattle.mr_store.specs.Picked.{is_asked as day_is_asked, picked_errors, picked_cancelled, picked_cancels, AreBookings, IsPlaceOf};
 ghost use Rattle.mr_rows.specs.Cells.{booking_in};
 ghost use Rattle.mr_rows.specs.Kept.{tables_in};
 ghost use Rattle.mr_rows.specs.Reads.{Reads, first_of, time_cmp};
-ghost use Rattle.mr_sql.specs.Places.{AreRowsOf, chosen};
+ghost use Rattle.mr_sql.specs.Places.{AreRowsOf, AreCancelRowsOf, taken_in, chosen};
 
 use mr_base::{Day, RoomName, WriteId};
 use mr_rows::order::sort_by_time;
 use mr_rows::queries::{
-    select_key_booking, select_key_error, select_room_booking, select_room_error,
+    select_key_booking, select_key_cancel, select_key_cancelled, select_key_error,
+    select_room_booking, select_room_cancel, select_room_cancelled, select_room_error,
 };
 use mr_rows::{StoredRow, all_rows, read_all};
-use mr_store::PlaceRow;
-use mr_tables::{BookingRow, ErrorRow};
+use mr_tables::{BookingRow, CancelRow, CancelledRow, ErrorRow, PlaceRow};
 use sqlite::{Alter, Connection, Error, Row};
 use std::alloc::Global;
 
@@ -90,6 +90,34 @@ pub(crate) fn errors_of<S: Alter>(
     read_all(alloc, &rows)
 }
 
+/// The rows of a room's bookings that a cancel took back.
+pub(crate) fn cancelled_of<S: Alter>(
+    conn: &mut Connection<S>,
+    alloc: Global,
+    room: &RoomName,
+) -> Result<Vec<CancelledRow>, Error>
+    requires autocommit { conn.old.in_transaction ≡ false }
+    ensures autocommit { conn.new.in_transaction ≡ false }
+    ensures reads { Reads (state S.Store conn.old) (state S.Store conn.new) result (λ rows. IsPermutation (picked_cancelled room.now (tables_in (state S.Store conn.old).now.trees)) rows.items) }
+{
+    let rows = select_room_cancelled(conn, room)?;
+    read_all(alloc, &rows)
+}
+
+/// The rows of a room's cancels.
+pub(crate) fn cancels_of<S: Alter>(
+    conn: &mut Connection<S>,
+    alloc: Global,
+    room: &RoomName,
+) -> Result<Vec<CancelRow>, Error>
+    requires autocommit { conn.old.in_transaction ≡ false }
+    ensures autocommit { conn.new.in_transaction ≡ false }
+    ensures reads { Reads (state S.Store conn.old) (state S.Store conn.new) result (λ rows. IsPermutation (picked_cancels room.now (tables_in (state S.Store conn.old).now.trees)) rows.items) }
+{
+    let rows = select_room_cancel(conn, room)?;
+    read_all(alloc, &rows)
+}
+
 fn first_row<R: StoredRow>(alloc: Global, rows: &[Row]) -> Result<Option<R>, Error>
     ensures { IfOk result (λ row. row ≡ first_of (map (λ row. R.form.row_in (Null ∷ row)) rows.now)) }
 {
@@ -129,7 +157,37 @@ fn error_of<S: Alter>(
     first_row(alloc, &rows)
 }
 
-/// The rows of both tables with this id.
+/// The row of `cancelled` with this id.
+fn taken_of<S: Alter>(
+    conn: &mut Connection<S>,
+    alloc: Global,
+    server: u32,
+    n: u32,
+) -> Result<Option<CancelledRow>, Error>
+    requires autocommit { conn.old.in_transaction ≡ false }
+    ensures autocommit { conn.new.in_transaction ≡ false }
+    ensures reads { Reads (state S.Store conn.old) (state S.Store conn.new) result (λ row. row ≡ find (λ r. same_id (cancelled_id r) (record { server = server; n = n })) (tables_in (state S.Store conn.old).now.trees).cancelled) }
+{
+    let rows = select_key_cancelled(conn, server, n)?;
+    first_row(alloc, &rows)
+}
+
+/// The row of `cancel` with this id.
+fn cancel_of<S: Alter>(
+    conn: &mut Connection<S>,
+    alloc: Global,
+    server: u32,
+    n: u32,
+) -> Result<Option<CancelRow>, Error>
+    requires autocommit { conn.old.in_transaction ≡ false }
+    ensures autocommit { conn.new.in_transaction ≡ false }
+    ensures reads { Reads (state S.Store conn.old) (state S.Store conn.new) result (λ row. row ≡ find (λ r. same_id (cancel_id r) (record { server = server; n = n })) (tables_in (state S.Store conn.old).now.trees).cancels) }
+{
+    let rows = select_key_cancel(conn, server, n)?;
+    first_row(alloc, &rows)
+}
+
+/// The rows of `booking` and `errorlog` with this id.
 fn rows_of<S: Alter>(
     conn: &mut Connection<S>,
     alloc: Global,
@@ -151,20 +209,58 @@ fn parts_of(id: WriteId) -> (u32, u32)
     (id.server.number(), id.n)
 }
 
-// Of the rows with one id the one that is of the room.
-fn choose(room: &RoomName, booking: Option<BookingRow>, error: Option<ErrorRow>) -> Option<PlaceRow>
-    ensures { result ≡ chosen room.now booking error }
+/// The rows of `cancelled` and `cancel` with this id.
+fn cancel_rows_of<S: Alter>(
+    conn: &mut Connection<S>,
+    alloc: Global,
+    id: WriteId,
+) -> Result<(Option<CancelledRow>, Option<CancelRow>), Error>
+    requires autocommit { conn.old.in_transaction ≡ false }
+    ensures autocommit { conn.new.in_transaction ≡ false }
+    ensures reads { Reads (state S.Store conn.old) (state S.Store conn.new) result (λ row. AreCancelRowsOf id (tables_in (state S.Store conn.old).now.trees) row.0 row.1) }
 {
-    match booking {
-        Some(row) if row.room == *room => Some(PlaceRow::Booked(row)),
-        _ => match error {
-            Some(row) if row.room == *room => Some(PlaceRow::Logged(row)),
+    let (server, n) = parts_of(id);
+    let cancelled = taken_of(conn, alloc, server, n)?;
+    let cancel = cancel_of(conn, alloc, server, n)?;
+    Ok((cancelled, cancel))
+}
+
+// Of the rows that cancels fill the one that is of the room.
+fn choose_taken(
+    room: &RoomName,
+    cancelled: Option<CancelledRow>,
+    cancel: Option<CancelRow>,
+) -> Option<PlaceRow>
+    ensures { result ≡ taken_in room.now cancelled cancel }
+{
+    match cancelled {
+        Some(row) if row.room == *room => Some(PlaceRow::Cancelled(row)),
+        _ => match cancel {
+            Some(row) if row.room == *room => Some(PlaceRow::Cancel(row)),
             _ => None,
         },
     }
 }
 
-/// The row of the request with this id, where it is of that room.
+// Of the rows with one id the one that is of the room.
+fn choose(
+    room: &RoomName,
+    booking: Option<BookingRow>,
+    error: Option<ErrorRow>,
+    other: Option<PlaceRow>,
+) -> Option<PlaceRow>
+    ensures { result ≡ chosen room.now booking error other }
+{
+    match booking {
+        Some(row) if row.room == *room => Some(PlaceRow::Booked(row)),
+        _ => match error {
+            Some(row) if row.room == *room => Some(PlaceRow::Erred(row)),
+            _ => other,
+        },
+    }
+}
+
+/// The row of the write with this id, where it is of that room.
 pub(crate) fn place_of<S: Alter>(
     conn: &mut Connection<S>,
     alloc: Global,
@@ -176,5 +272,7 @@ pub(crate) fn place_of<S: Alter>(
     ensures reads { Reads (state S.Store conn.old) (state S.Store conn.new) result (λ row. IsPlaceOf room.now id (tables_in (state S.Store conn.old).now.trees) row) }
 {
     let rows = rows_of(conn, alloc, id)?;
-    Ok(choose(room, rows.0, rows.1))
+    let others = cancel_rows_of(conn, alloc, id)?;
+    let other = choose_taken(room, others.0, others.1);
+    Ok(choose(room, rows.0, rows.1, other))
 }

@@ -1,7 +1,7 @@
 ghost use Rattle.std.specs.Prelude.{◌≡◌, false, IsTrue, OnOk, OnErr};
 ghost use Rattle.sqlite.specs.State.{HasCleanDisk, KeepsCommit, Survives};
 ghost use Rattle.sqlite.specs.Held.{state};
-ghost use Rattle.mr_rows.specs.Schema.{no_schema, with_meta, with_room, with_vector, with_log, with_undo, with_booking, our_schema};
+ghost use Rattle.mr_rows.specs.Schema.{no_schema, with_meta, with_room, with_vector, with_write_log, with_undo, with_booking, first_schema, with_log, with_cancelled, our_schema};
 ghost use Rattle.mr_rows.specs.Kept.{IsKept, IsStep, tables_in};
 ghost use Rattle.mr_rows.specs.Parts.{put_meta as meta_put};
 ghost use Rattle.mr_sql.specs.Blank.{IsBlank, Grows, no_tables};
@@ -46,9 +46,9 @@ fn create_vector<S: Alter>(tx: &mut Transaction<'_, S>) -> Result<usize, Error>
     )
 }
 
-fn create_log<S: Alter>(tx: &mut Transaction<'_, S>) -> Result<usize, Error>
+fn create_write_log<S: Alter>(tx: &mut Transaction<'_, S>) -> Result<usize, Error>
     ensures same_reference { tx.new.conn.ghost_name ≡ tx.old.conn.ghost_name }
-    ensures grown { Grows with_vector with_log (state S.Store tx.old.conn.now) (state S.Store tx.new.conn.now) result }
+    ensures grown { Grows with_vector with_write_log (state S.Store tx.old.conn.now) (state S.Store tx.new.conn.now) result }
     ensures kept { HasCleanDisk (state S.Store tx.new.conn.now) → KeepsCommit (state S.Store tx.old.conn.now) (state S.Store tx.new.conn.now) }
     ensures survives { Survives (state S.Store tx.old.conn.now) (state S.Store tx.new.conn.now) (λ _. ⊥) }
 {
@@ -60,7 +60,7 @@ fn create_log<S: Alter>(tx: &mut Transaction<'_, S>) -> Result<usize, Error>
 
 fn create_undo<S: Alter>(tx: &mut Transaction<'_, S>) -> Result<usize, Error>
     ensures same_reference { tx.new.conn.ghost_name ≡ tx.old.conn.ghost_name }
-    ensures grown { Grows with_log with_undo (state S.Store tx.old.conn.now) (state S.Store tx.new.conn.now) result }
+    ensures grown { Grows with_write_log with_undo (state S.Store tx.old.conn.now) (state S.Store tx.new.conn.now) result }
     ensures kept { HasCleanDisk (state S.Store tx.new.conn.now) → KeepsCommit (state S.Store tx.old.conn.now) (state S.Store tx.new.conn.now) }
     ensures survives { Survives (state S.Store tx.old.conn.now) (state S.Store tx.new.conn.now) (λ _. ⊥) }
 {
@@ -84,12 +84,48 @@ fn create_booking<S: Alter>(tx: &mut Transaction<'_, S>) -> Result<usize, Error>
 
 fn create_error<S: Alter>(tx: &mut Transaction<'_, S>) -> Result<usize, Error>
     ensures same_reference { tx.new.conn.ghost_name ≡ tx.old.conn.ghost_name }
-    ensures grown { Grows with_booking our_schema (state S.Store tx.old.conn.now) (state S.Store tx.new.conn.now) result }
+    ensures grown { Grows with_booking first_schema (state S.Store tx.old.conn.now) (state S.Store tx.new.conn.now) result }
     ensures kept { HasCleanDisk (state S.Store tx.new.conn.now) → KeepsCommit (state S.Store tx.old.conn.now) (state S.Store tx.new.conn.now) }
     ensures survives { Survives (state S.Store tx.old.conn.now) (state S.Store tx.new.conn.now) (λ _. ⊥) }
 {
     tx.execute(
         "CREATE TABLE errorlog (room TEXT NOT NULL, day TEXT NOT NULL, start INTEGER NOT NULL, stop INTEGER NOT NULL, server INTEGER NOT NULL, n INTEGER NOT NULL, title TEXT NOT NULL, tm INTEGER NOT NULL, seq INTEGER NOT NULL, PRIMARY KEY (server, n)) STRICT",
+        &[],
+    )
+}
+
+fn create_log<S: Alter>(tx: &mut Transaction<'_, S>) -> Result<usize, Error>
+    ensures same_reference { tx.new.conn.ghost_name ≡ tx.old.conn.ghost_name }
+    ensures grown { Grows first_schema with_log (state S.Store tx.old.conn.now) (state S.Store tx.new.conn.now) result }
+    ensures kept { HasCleanDisk (state S.Store tx.new.conn.now) → KeepsCommit (state S.Store tx.old.conn.now) (state S.Store tx.new.conn.now) }
+    ensures survives { Survives (state S.Store tx.old.conn.now) (state S.Store tx.new.conn.now) (λ _. ⊥) }
+{
+    tx.execute(
+        "CREATE TABLE log (server INTEGER NOT NULL, n INTEGER NOT NULL, tm INTEGER NOT NULL, room TEXT NOT NULL, kind INTEGER NOT NULL, length INTEGER NOT NULL, choices TEXT NOT NULL, title TEXT NOT NULL, tserver INTEGER NOT NULL, tn INTEGER NOT NULL, place INTEGER NOT NULL, seq INTEGER NOT NULL, PRIMARY KEY (server, n)) STRICT",
+        &[],
+    )
+}
+
+fn create_cancelled<S: Alter>(tx: &mut Transaction<'_, S>) -> Result<usize, Error>
+    ensures same_reference { tx.new.conn.ghost_name ≡ tx.old.conn.ghost_name }
+    ensures grown { Grows with_log with_cancelled (state S.Store tx.old.conn.now) (state S.Store tx.new.conn.now) result }
+    ensures kept { HasCleanDisk (state S.Store tx.new.conn.now) → KeepsCommit (state S.Store tx.old.conn.now) (state S.Store tx.new.conn.now) }
+    ensures survives { Survives (state S.Store tx.old.conn.now) (state S.Store tx.new.conn.now) (λ _. ⊥) }
+{
+    tx.execute(
+        "CREATE TABLE cancelled (room TEXT NOT NULL, day TEXT NOT NULL, start INTEGER NOT NULL, stop INTEGER NOT NULL, server INTEGER NOT NULL, n INTEGER NOT NULL, title TEXT NOT NULL, committed INTEGER NOT NULL, bserver INTEGER NOT NULL, bn INTEGER NOT NULL, PRIMARY KEY (server, n)) STRICT",
+        &[],
+    )
+}
+
+fn create_cancel<S: Alter>(tx: &mut Transaction<'_, S>) -> Result<usize, Error>
+    ensures same_reference { tx.new.conn.ghost_name ≡ tx.old.conn.ghost_name }
+    ensures grown { Grows with_cancelled our_schema (state S.Store tx.old.conn.now) (state S.Store tx.new.conn.now) result }
+    ensures kept { HasCleanDisk (state S.Store tx.new.conn.now) → KeepsCommit (state S.Store tx.old.conn.now) (state S.Store tx.new.conn.now) }
+    ensures survives { Survives (state S.Store tx.old.conn.now) (state S.Store tx.new.conn.now) (λ _. ⊥) }
+{
+    tx.execute(
+        "CREATE TABLE cancel (server INTEGER NOT NULL, n INTEGER NOT NULL, room TEXT NOT NULL, tserver INTEGER NOT NULL, tn INTEGER NOT NULL, done INTEGER NOT NULL, tm INTEGER NOT NULL, seq INTEGER NOT NULL, PRIMARY KEY (server, n)) STRICT",
         &[],
     )
 }
@@ -107,17 +143,30 @@ fn create_heads<S: Alter>(tx: &mut Transaction<'_, S>) -> Result<(), Error>
     Ok(())
 }
 
-/// Makes the tables of both logs and of the board.
-fn create_rows<S: Alter>(tx: &mut Transaction<'_, S>) -> Result<(), Error>
+/// Makes the tables of requests as the first schema has them. In a fresh database `write_log` and `undo` stay without rows.
+fn create_first_rows<S: Alter>(tx: &mut Transaction<'_, S>) -> Result<(), Error>
     ensures same_reference { tx.new.conn.ghost_name ≡ tx.old.conn.ghost_name }
-    ensures grown { Grows with_vector our_schema (state S.Store tx.old.conn.now) (state S.Store tx.new.conn.now) result }
+    ensures grown { Grows with_vector first_schema (state S.Store tx.old.conn.now) (state S.Store tx.new.conn.now) result }
+    ensures kept { HasCleanDisk (state S.Store tx.new.conn.now) → KeepsCommit (state S.Store tx.old.conn.now) (state S.Store tx.new.conn.now) }
+    ensures survives { Survives (state S.Store tx.old.conn.now) (state S.Store tx.new.conn.now) (λ _. ⊥) }
+{
+    create_write_log(tx)?;
+    create_undo(tx)?;
+    create_booking(tx)?;
+    create_error(tx)?;
+    Ok(())
+}
+
+/// Makes the tables that the second schema has beside those: of writes of either kind, of bookings that a cancel took back, and of cancels.
+fn create_second_rows<S: Alter>(tx: &mut Transaction<'_, S>) -> Result<(), Error>
+    ensures same_reference { tx.new.conn.ghost_name ≡ tx.old.conn.ghost_name }
+    ensures grown { Grows first_schema our_schema (state S.Store tx.old.conn.now) (state S.Store tx.new.conn.now) result }
     ensures kept { HasCleanDisk (state S.Store tx.new.conn.now) → KeepsCommit (state S.Store tx.old.conn.now) (state S.Store tx.new.conn.now) }
     ensures survives { Survives (state S.Store tx.old.conn.now) (state S.Store tx.new.conn.now) (λ _. ⊥) }
 {
     create_log(tx)?;
-    create_undo(tx)?;
-    create_booking(tx)?;
-    create_error(tx)?;
+    create_cancelled(tx)?;
+    create_cancel(tx)?;
     Ok(())
 }
 
@@ -130,7 +179,8 @@ fn fill<S: Alter>(tx: &mut Transaction<'_, S>, row: &MetaRow) -> Result<(), Erro
     ensures survives { Survives (state S.Store tx.old.conn.now) (state S.Store tx.new.conn.now) (λ _. ⊥) }
 {
     create_heads(tx)?;
-    create_rows(tx)?;
+    create_first_rows(tx)?;
+    create_second_rows(tx)?;
     put_meta(tx, row)?;
     Ok(())
 }
@@ -160,7 +210,8 @@ pub(crate) fn lay_out<S: Alter>(conn: &mut Connection<S>) -> Result<(), Error>
 {
     let mut tx = conn.transaction();
     create_heads(&mut tx)?;
-    create_rows(&mut tx)?;
+    create_first_rows(&mut tx)?;
+    create_second_rows(&mut tx)?;
     tx.commit()?;
     Ok(())
 }

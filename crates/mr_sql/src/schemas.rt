@@ -215,7 +215,8 @@ pub(crate) fn is_blank<S: Alter>(conn: &Connection<S>) -> bool
     schema.tables.len() == 0 && schema.indexes.len() == 0 && schema.views.len() == 0
 }
 
-/// Whether the database has these tables with their indexes, and nothing else. No disk fails in memory: where no sample can be had to
+/// Whether the database has these tables with their indexes, and nothing else. A database of the first schema, which has seven of these ten
+/// tables, is not ours: its rows are not moved up yet, and it is refused as that of no replica. No disk fails in memory: where no sample can be had to
 /// compare with, memory is wanting.
 pub(crate) fn is_ours<S: Alter>(alloc: Global, conn: &Connection<S>) -> Result<bool, Refusal>
     ensures same { IfOk result (λ ours. IsTrue ours → (state S.Store conn.now).now.schema ≡ our_schema) }

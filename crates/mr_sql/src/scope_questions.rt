@@ -1,14 +1,14 @@
-ghost use Rattle.std.specs.Prelude.{◌≡◌, ◌∷◌, [], ◌++◌, map, flat_map, if◌then◌else◌, nat_lt, ◌+◌, IfOk, OnOk};
+ghost use Rattle.std.specs.Prelude.{◌≡◌, ◌∷◌, [], ◌++◌, List, ℕ, map, flat_map, if◌then◌else◌, nat_lt, ◌+◌, false, IfOk, OnOk, IsTrue};
 ghost use Rattle.mr_base.specs.Batches.{item_of};
-ghost use Rattle.mr_model.specs.Scopes.{in_scope};
+ghost use Rattle.mr_model.specs.Scopes.{in_scope, log_row_id};
+ghost use Rattle.mr_model.specs.Tables.{LogRow as Row};
 ghost use Rattle.mr_part.specs.ScopeOf.{scope_of};
-ghost use Rattle.mr_tables.specs.Change.{log_id};
-ghost use Rattle.mr_sql.specs.Questions.{tentative_question, item_questions, log_questions, logs_alone, undo_questions};
+ghost use Rattle.mr_sql.specs.Questions.{tentative_question, item_questions, log_questions, logs_alone, room_questions, target_questions, taken_questions};
 ghost use Rattle.mr_rows.specs.declared.questions.LogQuestion.TheVariants as asked;
 
-use mr_base::{Item, Refusal};
+use mr_base::{Item, Refusal, WriteId};
 use mr_part::{Scope, logs_in_scope};
-use mr_rows::{LogQuestion, UndoQuestion};
+use mr_rows::{IdQuestion, LogQuestion};
 use mr_tables::LogRow;
 use std::alloc::{AllocError, Global};
 
@@ -76,7 +76,7 @@ fn rows_of_items(
     Ok(questions)
 }
 
-/// What is asked of `write_log` for a scope, where so many commits are known: for all rows in scope, and for a commit or a batch
+/// What is asked of `log` for a scope, where so many commits are known: for all rows in scope, and for a commit or a batch
 /// that is received for all tentative rows.
 pub(crate) fn log_questions(
     alloc: Global,
@@ -86,7 +86,7 @@ pub(crate) fn log_questions(
     ensures { IfOk result (λ questions. questions.items ≡ log_questions commits (scope_of scope.now)) }
 {
     match *scope {
-        Scope::Nothing | Scope::InRoom(_) => Ok(Vec::new(alloc)),
+        Scope::Nothing | Scope::InRoom(_) | Scope::OfTarget(_) => Ok(Vec::new(alloc)),
         Scope::NextCommits(_) => tentative_rows(alloc),
         Scope::UpTo(number) => rows_up_to(alloc, number, commits),
         Scope::Above(number) => rows_above(alloc, number, commits),
@@ -94,12 +94,23 @@ pub(crate) fn log_questions(
     }
 }
 
-fn ids_of(alloc: Global, logs: &[&LogRow]) -> Result<Vec<UndoQuestion>, AllocError>
-    ensures { IfOk result (λ ids. ids.items ≡ map log_id (map (λ row. row.now) logs.now)) }
+fn one_id(alloc: Global, id: WriteId) -> Result<Vec<IdQuestion>, AllocError>
+    ensures { IfOk result (λ ids. ids.items ≡ id ∷ []) }
+{
+    let mut ids = Vec::new(alloc);
+    ids.push(IdQuestion {
+        server: id.server,
+        n: id.n,
+    })?;
+    Ok(ids)
+}
+
+fn ids_of(alloc: Global, logs: &[&LogRow]) -> Result<Vec<IdQuestion>, AllocError>
+    ensures { IfOk result (λ ids. ids.items ≡ map log_row_id (map (λ row. row.now) logs.now)) }
 {
     let mut ids = Vec::new(alloc);
     'rows: for row in logs {
-        ids.push(UndoQuestion {
+        ids.push(IdQuestion {
             server: row.server,
             n: row.n,
         })?;
@@ -107,34 +118,72 @@ fn ids_of(alloc: Global, logs: &[&LogRow]) -> Result<Vec<UndoQuestion>, AllocErr
     Ok(ids)
 }
 
-/// For the rows of those of `write_log` that are in scope.
+/// For the rows of those of `log` that are in scope.
 fn ids_in_scope(
     alloc: Global,
     scope: &Scope<'_>,
     logs: &[LogRow],
     commits: u64,
-) -> Result<Vec<UndoQuestion>, Refusal>
-    ensures { IfOk result (λ ids. ids.items ≡ map log_id (in_scope (scope_of scope.now) (logs_alone commits logs.now)).write_log) }
+) -> Result<Vec<IdQuestion>, Refusal>
+    ensures { IfOk result (λ ids. ids.items ≡ map log_row_id (in_scope (scope_of scope.now) (logs_alone commits logs.now)).log) }
 {
     let inside = logs_in_scope(alloc, scope, logs, commits)?;
     let ids = ids_of(alloc, &inside)?;
     Ok(ids)
 }
 
-/// What is asked of `undo` for a scope, where these rows of `write_log` were read and so many commits are known: for the row of each
-/// of them that is in scope.
-pub(crate) fn undo_questions(
+/// What is asked of `booking` and `errorlog` by id for a scope: for the row of the booking that is to be cancelled.
+pub(crate) fn target_questions(
+    alloc: Global,
+    scope: &Scope<'_>,
+) -> Result<Vec<IdQuestion>, AllocError>
+    ensures { IfOk result (λ ids. ids.items ≡ target_questions (scope_of scope.now)) }
+{
+    match *scope {
+        Scope::OfTarget(target) => one_id(alloc, target),
+        _ => Ok(Vec::new(alloc)),
+    }
+}
+
+/// Whether bookings are asked for by id in a scope. Else they are by room.
+pub(crate) fn asks_by_id(scope: &Scope<'_>) -> bool
+    ensures by_id { IsTrue result → (commits : ℕ) (logs : List Row) → room_questions commits (scope_of scope.now) logs ≡ [] }
+    ensures by_room { result ≡ false → target_questions (scope_of scope.now) ≡ [] }
+{
+    match *scope {
+        Scope::OfTarget(_) => true,
+        _ => false,
+    }
+}
+
+/// The same of cancelled bookings.
+pub(crate) fn takes_by_id(scope: &Scope<'_>) -> bool
+    ensures by_id { IsTrue result → (commits : ℕ) (logs : List Row) → room_questions commits (scope_of scope.now) logs ≡ [] }
+    ensures by_room { result ≡ false → (commits : ℕ) (logs : List Row) → taken_questions commits (scope_of scope.now) logs ≡ [] }
+{
+    match *scope {
+        Scope::OfTarget(_) => true,
+        Scope::NextCommits(_) => true,
+        _ => false,
+    }
+}
+
+/// What is asked of `cancelled` by id for a scope, where these rows of `log` were read and so many commits are known: for the row of
+/// the booking that is to be cancelled, or for those of the writes that are committed next.
+pub(crate) fn taken_questions(
     alloc: Global,
     scope: &Scope<'_>,
     logs: &[LogRow],
     commits: u64,
-) -> Result<Vec<UndoQuestion>, Refusal>
-    ensures { IfOk result (λ ids. ids.items ≡ undo_questions commits (scope_of scope.now) logs.now) }
+) -> Result<Vec<IdQuestion>, Refusal>
+    ensures { IfOk result (λ ids. ids.items ≡ taken_questions commits (scope_of scope.now) logs.now) }
 {
     match *scope {
-        Scope::Nothing | Scope::InRoom(_) | Scope::Above(_) => Ok(Vec::new(alloc)),
-        Scope::NextCommits(_) | Scope::UpTo(_) | Scope::Items(_) => {
-            ids_in_scope(alloc, scope, logs, commits)
+        Scope::OfTarget(target) => {
+            let ids = one_id(alloc, target)?;
+            Ok(ids)
         }
+        Scope::NextCommits(_) => ids_in_scope(alloc, scope, logs, commits),
+        _ => Ok(Vec::new(alloc)),
     }
 }

@@ -2,16 +2,18 @@ ghost use Rattle.std.specs.Prelude.{◌≡◌, false, filter};
 ghost use Rattle.sqlite.specs.Held.{state};
 ghost use Rattle.mr_part.specs.ScopeOf.{scope_of};
 ghost use Rattle.mr_rows.specs.Kept.{tables_in};
-ghost use Rattle.mr_rows.specs.RowQuestions.{is_asked, is_log_asked, is_undo_asked, is_booking_asked};
-ghost use Rattle.mr_sql.specs.Questions.{log_questions, undo_questions, booking_questions, AreRead, AreEnough};
+ghost use Rattle.mr_rows.specs.RowQuestions.{is_asked, is_log_asked, is_booking_asked, is_cancelled_asked, is_booking_of, is_error_of, is_cancelled_of};
+ghost use Rattle.mr_sql.specs.Questions.{log_questions, room_questions, target_questions, taken_questions, asks_booking, asks_cancelled, ArePlacesRead, AreRead, AreEnough};
 ghost use Rattle.mr_rows.specs.Reads.{Reads, ReadsInUse};
 
-use crate::scope_questions::{log_questions, undo_questions};
-use crate::scope_rooms::booking_questions;
+use crate::scope_questions::{
+    asks_by_id, log_questions, taken_questions, takes_by_id, target_questions,
+};
+use crate::scope_rooms::room_questions;
 use mr_part::Scope;
 use mr_rows::all_tables::read_heads;
 use mr_rows::asked_rows::asked_rows;
-use mr_tables::{BookingRow, LogRow, MetaRow, Tables, WriteUndoRow};
+use mr_tables::{BookingRow, CancelledRow, ErrorRow, LogRow, MetaRow, Tables};
 use sqlite::{Alter, Connection, Error, ErrorCode};
 use std::alloc::Global;
 
@@ -23,29 +25,45 @@ fn read_logs<S: Alter>(
 ) -> Result<Vec<LogRow>, Error>
     requires autocommit { conn.old.in_transaction ≡ false }
     ensures autocommit { conn.new.in_transaction ≡ false }
-    ensures reads { ReadsInUse (state S.Store conn.old) (state S.Store conn.new) result (λ rows. rows.items ≡ filter (is_asked is_log_asked (log_questions commits (scope_of scope.now))) (tables_in (state S.Store conn.old).now.trees).write_log) }
+    ensures reads { ReadsInUse (state S.Store conn.old) (state S.Store conn.new) result (λ rows. rows.items ≡ filter (is_asked is_log_asked (log_questions commits (scope_of scope.now))) (tables_in (state S.Store conn.old).now.trees).log) }
 {
     let questions = log_questions(alloc, scope, commits)?;
     asked_rows(conn, alloc, &questions)
 }
 
-fn read_undo<S: Alter>(
+/// The bookings of the rooms that are asked for.
+fn read_room_bookings<S: Alter>(
     conn: &mut Connection<S>,
     alloc: Global,
     scope: &Scope<'_>,
     logs: &[LogRow],
     commits: u64,
-) -> Result<Vec<WriteUndoRow>, Error>
+) -> Result<Vec<BookingRow>, Error>
     requires autocommit { conn.old.in_transaction ≡ false }
     ensures autocommit { conn.new.in_transaction ≡ false }
-    ensures reads { ReadsInUse (state S.Store conn.old) (state S.Store conn.new) result (λ rows. rows.items ≡ filter (is_asked is_undo_asked (undo_questions commits (scope_of scope.now) logs.now)) (tables_in (state S.Store conn.old).now.trees).undo) }
+    ensures reads { ReadsInUse (state S.Store conn.old) (state S.Store conn.new) result (λ rows. rows.items ≡ filter (is_asked is_booking_asked (room_questions commits (scope_of scope.now) logs.now)) (tables_in (state S.Store conn.old).now.trees).booking) }
 {
-    match undo_questions(alloc, scope, logs, commits) {
-        Ok(ids) => asked_rows(conn, alloc, &ids),
+    match room_questions(alloc, scope, logs, commits) {
+        Ok(asked) => asked_rows(conn, alloc, &asked),
         Err(_) => Err(Error::SqliteFailure(ErrorCode::OutOfMemory)),
     }
 }
 
+/// The booking of the target that is asked for.
+fn read_target_booking<S: Alter>(
+    conn: &mut Connection<S>,
+    alloc: Global,
+    scope: &Scope<'_>,
+) -> Result<Vec<BookingRow>, Error>
+    requires autocommit { conn.old.in_transaction ≡ false }
+    ensures autocommit { conn.new.in_transaction ≡ false }
+    ensures reads { ReadsInUse (state S.Store conn.old) (state S.Store conn.new) result (λ rows. rows.items ≡ filter (is_asked is_booking_of (target_questions (scope_of scope.now))) (tables_in (state S.Store conn.old).now.trees).booking) }
+{
+    let asked = target_questions(alloc, scope)?;
+    asked_rows(conn, alloc, &asked)
+}
+
+/// The bookings that are asked for. No scope asks both by room and by id.
 fn read_bookings<S: Alter>(
     conn: &mut Connection<S>,
     alloc: Global,
@@ -55,29 +73,122 @@ fn read_bookings<S: Alter>(
 ) -> Result<Vec<BookingRow>, Error>
     requires autocommit { conn.old.in_transaction ≡ false }
     ensures autocommit { conn.new.in_transaction ≡ false }
-    ensures reads { ReadsInUse (state S.Store conn.old) (state S.Store conn.new) result (λ rows. rows.items ≡ filter (is_asked is_booking_asked (booking_questions commits (scope_of scope.now) logs.now)) (tables_in (state S.Store conn.old).now.trees).booking) }
+    ensures reads { ReadsInUse (state S.Store conn.old) (state S.Store conn.new) result (λ rows. rows.items ≡ filter (asks_booking commits (scope_of scope.now) logs.now) (tables_in (state S.Store conn.old).now.trees).booking) }
 {
-    match booking_questions(alloc, scope, logs, commits) {
-        Ok(rooms) => asked_rows(conn, alloc, &rooms),
+    if asks_by_id(scope) {
+        read_target_booking(conn, alloc, scope)
+    } else {
+        read_room_bookings(conn, alloc, scope, logs, commits)
+    }
+}
+
+/// The logged request of the target that is asked for.
+fn read_errors<S: Alter>(
+    conn: &mut Connection<S>,
+    alloc: Global,
+    scope: &Scope<'_>,
+) -> Result<Vec<ErrorRow>, Error>
+    requires autocommit { conn.old.in_transaction ≡ false }
+    ensures autocommit { conn.new.in_transaction ≡ false }
+    ensures reads { ReadsInUse (state S.Store conn.old) (state S.Store conn.new) result (λ rows. rows.items ≡ filter (is_asked is_error_of (target_questions (scope_of scope.now))) (tables_in (state S.Store conn.old).now.trees).errorlog) }
+{
+    let asked = target_questions(alloc, scope)?;
+    asked_rows(conn, alloc, &asked)
+}
+
+/// The cancelled bookings of the rooms that are asked for.
+fn read_room_cancelled<S: Alter>(
+    conn: &mut Connection<S>,
+    alloc: Global,
+    scope: &Scope<'_>,
+    logs: &[LogRow],
+    commits: u64,
+) -> Result<Vec<CancelledRow>, Error>
+    requires autocommit { conn.old.in_transaction ≡ false }
+    ensures autocommit { conn.new.in_transaction ≡ false }
+    ensures reads { ReadsInUse (state S.Store conn.old) (state S.Store conn.new) result (λ rows. rows.items ≡ filter (is_asked is_cancelled_asked (room_questions commits (scope_of scope.now) logs.now)) (tables_in (state S.Store conn.old).now.trees).cancelled) }
+{
+    match room_questions(alloc, scope, logs, commits) {
+        Ok(asked) => asked_rows(conn, alloc, &asked),
         Err(_) => Err(Error::SqliteFailure(ErrorCode::OutOfMemory)),
     }
 }
 
-/// The rows of a scope: of `write_log`, of `undo` and of `booking`. `commits` are known.
+/// The cancelled bookings of the ids that are asked for.
+fn read_taken<S: Alter>(
+    conn: &mut Connection<S>,
+    alloc: Global,
+    scope: &Scope<'_>,
+    logs: &[LogRow],
+    commits: u64,
+) -> Result<Vec<CancelledRow>, Error>
+    requires autocommit { conn.old.in_transaction ≡ false }
+    ensures autocommit { conn.new.in_transaction ≡ false }
+    ensures reads { ReadsInUse (state S.Store conn.old) (state S.Store conn.new) result (λ rows. rows.items ≡ filter (is_asked is_cancelled_of (taken_questions commits (scope_of scope.now) logs.now)) (tables_in (state S.Store conn.old).now.trees).cancelled) }
+{
+    match taken_questions(alloc, scope, logs, commits) {
+        Ok(asked) => asked_rows(conn, alloc, &asked),
+        Err(_) => Err(Error::SqliteFailure(ErrorCode::OutOfMemory)),
+    }
+}
+
+/// The cancelled bookings that are asked for. No scope asks both by room and by id.
+fn read_cancelled<S: Alter>(
+    conn: &mut Connection<S>,
+    alloc: Global,
+    scope: &Scope<'_>,
+    logs: &[LogRow],
+    commits: u64,
+) -> Result<Vec<CancelledRow>, Error>
+    requires autocommit { conn.old.in_transaction ≡ false }
+    ensures autocommit { conn.new.in_transaction ≡ false }
+    ensures reads { ReadsInUse (state S.Store conn.old) (state S.Store conn.new) result (λ rows. rows.items ≡ filter (asks_cancelled commits (scope_of scope.now) logs.now) (tables_in (state S.Store conn.old).now.trees).cancelled) }
+{
+    if takes_by_id(scope) {
+        read_taken(conn, alloc, scope, logs, commits)
+    } else {
+        read_room_cancelled(conn, alloc, scope, logs, commits)
+    }
+}
+
+/// Of the tables that show what became of writes the rows that are asked for: those of `booking`, `errorlog` and `cancelled`.
+fn read_places<S: Alter>(
+    conn: &mut Connection<S>,
+    alloc: Global,
+    scope: &Scope<'_>,
+    logs: &[LogRow],
+    commits: u64,
+) -> Result<(Vec<BookingRow>, Vec<ErrorRow>, Vec<CancelledRow>), Error>
+    requires autocommit { conn.old.in_transaction ≡ false }
+    ensures autocommit { conn.new.in_transaction ≡ false }
+    ensures reads { ReadsInUse (state S.Store conn.old) (state S.Store conn.new) result (λ rows. ArePlacesRead commits (scope_of scope.now) (tables_in (state S.Store conn.old).now.trees) logs.now rows.0.items rows.1.items rows.2.items) }
+{
+    let booking = read_bookings(conn, alloc, scope, logs, commits)?;
+    let errorlog = read_errors(conn, alloc, scope)?;
+    let cancelled = read_cancelled(conn, alloc, scope, logs, commits)?;
+    Ok((booking, errorlog, cancelled))
+}
+
+/// The rows of a scope: of `log`, and of those tables. `commits` are known.
 fn read_rows<S: Alter>(
     conn: &mut Connection<S>,
     alloc: Global,
     scope: &Scope<'_>,
     commits: u64,
-) -> Result<(Vec<LogRow>, Vec<WriteUndoRow>, Vec<BookingRow>), Error>
+) -> Result<
+    (
+        Vec<LogRow>,
+        (Vec<BookingRow>, Vec<ErrorRow>, Vec<CancelledRow>),
+    ),
+    Error,
+>
     requires autocommit { conn.old.in_transaction ≡ false }
     ensures autocommit { conn.new.in_transaction ≡ false }
-    ensures reads { ReadsInUse (state S.Store conn.old) (state S.Store conn.new) result (λ rows. AreRead commits (scope_of scope.now) (tables_in (state S.Store conn.old).now.trees) rows.0.items rows.1.items rows.2.items) }
+    ensures reads { ReadsInUse (state S.Store conn.old) (state S.Store conn.new) result (λ rows. AreRead commits (scope_of scope.now) (tables_in (state S.Store conn.old).now.trees) rows.0.items rows.1.0.items rows.1.1.items rows.1.2.items) }
 {
     let logs = read_logs(conn, alloc, scope, commits)?;
-    let undo = read_undo(conn, alloc, scope, &logs, commits)?;
-    let booking = read_bookings(conn, alloc, scope, &logs, commits)?;
-    Ok((logs, undo, booking))
+    let places = read_places(conn, alloc, scope, &logs, commits)?;
+    Ok((logs, places))
 }
 
 fn commits_of(meta: &MetaRow) -> u64
@@ -86,8 +197,8 @@ fn commits_of(meta: &MetaRow) -> u64
     meta.commits
 }
 
-/// Tables with the rows that a command of this scope needs, beside others perhaps: all of `meta`, `room` and `vector`; of `write_log`,
-/// `undo` and `booking` those that `log_questions`, `undo_questions` and `booking_questions` ask for; and none of `errorlog`.
+/// Tables with the rows that a command of this scope needs, beside others perhaps: all of `meta`, `room` and `vector`; of `log`,
+/// `booking`, `errorlog` and `cancelled` those that the questions of the scope ask for; and none of `cancel`.
 pub(crate) fn read_scope<S: Alter>(
     conn: &mut Connection<S>,
     alloc: Global,
@@ -103,9 +214,10 @@ pub(crate) fn read_scope<S: Alter>(
         meta: heads.0,
         room: heads.1,
         vector: heads.2,
-        write_log: rows.0,
-        undo: rows.1,
-        booking: rows.2,
-        errorlog: Vec::new(alloc),
+        log: rows.0,
+        booking: rows.1.0,
+        errorlog: rows.1.1,
+        cancelled: rows.1.2,
+        cancels: Vec::new(alloc),
     })
 }

@@ -21,8 +21,8 @@ use mr_part::{Part, Scope};
 use mr_replica::Desk;
 use mr_rows::all_tables::read_tables;
 use mr_rows::changes;
-use mr_store::{Fault, Keeper, PlaceRow};
-use mr_tables::{BookingRow, Change, ErrorRow, MetaRow, Tables};
+use mr_store::{Fault, Keeper};
+use mr_tables::{BookingRow, CancelRow, CancelledRow, Change, ErrorRow, MetaRow, PlaceRow, Tables};
 use sqlite::{Alter, Connection, Error, ErrorCode, MemStore};
 use std::alloc::Global;
 use std::marker::Model;
@@ -120,6 +120,20 @@ impl<S: Alter> Keeper for SqlKeeper<S> {
 
     fn errors(&mut self, room: &RoomName) -> Result<Vec<ErrorRow>, Fault> {
         match answers::errors_of(&mut self.conn, self.alloc, room) {
+            Ok(value) => Ok(value),
+            Err(error) => Err(told(&mut self.failures, error)),
+        }
+    }
+
+    fn cancelled(&mut self, room: &RoomName) -> Result<Vec<CancelledRow>, Fault> {
+        match answers::cancelled_of(&mut self.conn, self.alloc, room) {
+            Ok(value) => Ok(value),
+            Err(error) => Err(told(&mut self.failures, error)),
+        }
+    }
+
+    fn cancels(&mut self, room: &RoomName) -> Result<Vec<CancelRow>, Fault> {
+        match answers::cancels_of(&mut self.conn, self.alloc, room) {
             Ok(value) => Ok(value),
             Err(error) => Err(told(&mut self.failures, error)),
         }

@@ -13,6 +13,8 @@ pub(crate) enum Act {
     Room(&'static str),
     /// The length, the wish, the alternatives and the title.
     Book(&'static str, &'static str, &'static [&'static str], &'static str),
+    /// The booking with this id is taken back.
+    Cancel(&'static str),
     Commit(u64),
     Truncate(u64),
     Position,
@@ -86,6 +88,14 @@ fn outcome(alloc: Global, id: &str) -> Result<Local, AllocError> {
     })
 }
 
+fn cancel(alloc: Global, id: &str) -> Result<Local, AllocError> {
+    let room = text(alloc, "oak")?;
+    Ok(Local::Cancel {
+        room,
+        id: text(alloc, id)?,
+    })
+}
+
 /// The command for what a replica lacks that is at this position.
 pub(crate) fn batch_for(position: Vec<u8>, lines: u32) -> Result<Local, Refusal> {
     let max_lines = LineCount::new(lines).ok_or(Refusal::BadPosition)?;
@@ -117,6 +127,7 @@ fn local(alloc: Global, act: Act) -> Result<Local, Refusal> {
         Act::Book(length, wish, others, title) => {
             Ok(booking(alloc, (length, wish, others, title))?)
         }
+        Act::Cancel(id) => Ok(cancel(alloc, id)?),
         Act::Commit(count) => Ok(Local::Commit(count)),
         Act::Truncate(number) => Ok(Local::Truncate(number)),
         Act::BatchFor(position) => batch_for(position.as_bytes().to_vec(alloc)?, 10),

@@ -3,7 +3,7 @@
 
 use crate::offices::{Offices, Step, opened};
 use crate::opening::Opening;
-use crate::scripts::{CHAIN, EQUAL_TIMES, Row, TRUNCATED, TURNED};
+use crate::scripts::{CHAIN, COMMITTED_FIRST, EQUAL_TIMES, MADE_VOID, Row, TRUNCATED, TURNED};
 use mr_base::Refusal;
 use mr_service::refusal_text;
 use mr_sql::SqlKeeper;
@@ -146,16 +146,21 @@ fn check<K: Opening + Drop>(
     Ok(())
 }
 
-// The offices and the calls of their keepers: a question takes two, for the rooms and for rows; a change takes two, unless it is refused; a
-// position or a batch takes one.
+// The offices and the calls of their keepers: a question takes two, for the rooms and for rows; the outcome of a booking that was taken
+// back asks for the cancel besides, the error log and the committed calendar for cancels, and the calendar for what was taken back; a change
+// takes two, unless it is refused; a position or a batch takes one.
 
 const OF_EQUAL_TIMES: [(u32, u64); 2] = [(1, 10), (2, 10)];
 
-const OF_TURNED: [(u32, u64); 3] = [(1, 6), (2, 13), (3, 5)];
+const OF_TURNED: [(u32, u64); 3] = [(1, 6), (2, 15), (3, 5)];
 
-const OF_CHAIN: [(u32, u64); 2] = [(1, 5), (2, 15)];
+const OF_CHAIN: [(u32, u64); 2] = [(1, 5), (2, 16)];
 
 const OF_TRUNCATED: [(u32, u64); 3] = [(1, 11), (2, 9), (3, 6)];
+
+const OF_MADE_VOID: [(u32, u64); 2] = [(1, 5), (2, 14)];
+
+const OF_COMMITTED_FIRST: [(u32, u64); 1] = [(1, 21)];
 
 #[test]
 fn calls_fail_over_lists(rt: HostRuntime) -> Result<(), Fail> {
@@ -165,6 +170,8 @@ fn calls_fail_over_lists(rt: HostRuntime) -> Result<(), Fail> {
         check::<ListKeeper>(&rt, alloc, fault, &TURNED, &OF_TURNED)?;
         check::<ListKeeper>(&rt, alloc, fault, &CHAIN, &OF_CHAIN)?;
         check::<ListKeeper>(&rt, alloc, fault, &TRUNCATED, &OF_TRUNCATED)?;
+        check::<ListKeeper>(&rt, alloc, fault, &MADE_VOID, &OF_MADE_VOID)?;
+        check::<ListKeeper>(&rt, alloc, fault, &COMMITTED_FIRST, &OF_COMMITTED_FIRST)?;
     }
     Ok(())
 }
@@ -198,4 +205,14 @@ fn calls_fail_over_a_database_in_a_chain(rt: HostRuntime) -> Result<(), Fail> {
 #[test]
 fn calls_fail_over_a_database_with_truncation(rt: HostRuntime) -> Result<(), Fail> {
     check_database(&rt, rt.alloc(), &TRUNCATED, &OF_TRUNCATED)
+}
+
+#[test]
+fn calls_fail_over_a_database_as_a_cancel_is_void(rt: HostRuntime) -> Result<(), Fail> {
+    check_database(&rt, rt.alloc(), &MADE_VOID, &OF_MADE_VOID)
+}
+
+#[test]
+fn calls_fail_over_a_database_as_cancels_are_committed(rt: HostRuntime) -> Result<(), Fail> {
+    check_database(&rt, rt.alloc(), &COMMITTED_FIRST, &OF_COMMITTED_FIRST)
 }

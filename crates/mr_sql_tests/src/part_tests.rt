@@ -2,9 +2,9 @@
 // one slot, of which one is booked, and two writes of oak, which are booked. The memory is ample.
 
 use crate::acts::{Act, said};
-use crate::opening::Opening;
+use crate::opening::{Opening, server};
 use crate::receiving_tests::TWO;
-use mr_base::{Refusal, RoomName};
+use mr_base::{Refusal, RoomName, WriteId};
 use mr_part::Scope;
 use mr_service::Service;
 use mr_sql::SqlKeeper;
@@ -26,6 +26,8 @@ const FIRST: &str = "mr1 1 1\nC 1 3 1\nE\n";
 enum For {
     Position,
     Submission(&'static str),
+    /// A cancel of the write of replica 9 with this count.
+    Cancel(u32),
     Commit(u64),
     Truncation(u64),
     /// A batch for a position with so many commits.
@@ -34,28 +36,28 @@ enum For {
     Batch(&'static str),
 }
 
-/// The writes of elm are committed: 52 rows of `write_log` and of `undo`, 3 of `booking`.
+/// The writes of elm are committed: 52 rows of `log`, 3 of `booking`, 49 of `errorlog`.
 static OF_COMMITTED: [(For, u64); 12] = [
     (For::Position, 0),
     (For::Submission("oak"), 2),
     (For::Submission("elm"), 1),
     (For::Submission("ash"), 0),
-    (For::Commit(1), 2),
-    (For::Commit(9), 4),
-    (For::Truncation(10), 20),
-    (For::Truncation(50), 100),
+    (For::Commit(1), 1),
+    (For::Commit(9), 2),
+    (For::Truncation(10), 10),
+    (For::Truncation(50), 50),
     (For::Above(40), 12),
     (For::Above(50), 2),
     // the bookings of oak
     (For::Batch(GAMMA), 2),
     // the write, which is committed already
-    (For::Batch(FIRST), 2),
+    (For::Batch(FIRST), 1),
 ];
 
-/// They are committed and dropped: 2 rows of `write_log` and of `undo`, 3 of `booking`.
+/// They are committed and dropped: 2 rows of `log`, 3 of `booking`.
 static OF_DROPPED: [(For, u64); 5] = [
     (For::Submission("elm"), 1),
-    (For::Commit(9), 4),
+    (For::Commit(9), 2),
     (For::Above(50), 2),
     (For::Batch(GAMMA), 2),
     (For::Batch(FIRST), 0),
@@ -64,13 +66,27 @@ static OF_DROPPED: [(For, u64); 5] = [
 /// They are tentative.
 static OF_TENTATIVE: [(For, u64); 6] = [
     (For::Submission("elm"), 1),
-    (For::Commit(3), 6),
+    (For::Commit(3), 3),
     (For::Truncation(0), 0),
     (For::Above(0), 52),
     // the bookings of oak
     (For::Batch(GAMMA), 2),
-    // the writes of elm with their undo rows, and the one booking of elm
-    (For::Batch(FIRST), 101),
+    // the writes of elm, and the one booking of elm
+    (For::Batch(FIRST), 51),
+];
+
+/// Two requests of oak, one of which found no free slot, and two cancels: 4 rows of `log`, one each of `errorlog` and `cancelled`.
+static OF_CANCELLED: [(For, u64); 9] = [
+    (For::Submission("oak"), 1),
+    (For::Cancel(1), 1),
+    (For::Cancel(2), 1),
+    (For::Cancel(3), 0),
+    (For::Cancel(9), 0),
+    // the write, and what it has in `cancelled`
+    (For::Commit(1), 2),
+    (For::Commit(9), 5),
+    (For::Truncation(0), 0),
+    (For::Above(0), 4),
 ];
 
 fn rows_in<K: Keeper>(keeper: &mut K, scope: &Scope<'_>) -> Result<u64, Refusal> {
@@ -90,11 +106,17 @@ fn rows_of_batch<K: Keeper>(alloc: Global, keeper: &mut K, text: &str) -> Result
     rows_in(keeper, &Scope::Items(&batch.items))
 }
 
+fn rows_of_target<K: Keeper>(keeper: &mut K, n: u32) -> Result<u64, Refusal> {
+    let target = WriteId::new(server(9)?, n).ok_or(Refusal::NoSuchRequest)?;
+    rows_in(keeper, &Scope::OfTarget(target))
+}
+
 /// How many rows the part has.
 fn rows<K: Keeper>(alloc: Global, keeper: &mut K, part: For) -> Result<u64, Refusal> {
     match part {
         For::Position => rows_in(keeper, &Scope::Nothing),
         For::Submission(room) => rows_of_room(alloc, keeper, room),
+        For::Cancel(n) => rows_of_target(keeper, n),
         For::Commit(count) => rows_in(keeper, &Scope::NextCommits(count)),
         For::Truncation(number) => rows_in(keeper, &Scope::UpTo(number)),
         For::Above(commits) => rows_in(keeper, &Scope::Above(commits)),
@@ -102,11 +124,15 @@ fn rows<K: Keeper>(alloc: Global, keeper: &mut K, part: For) -> Result<u64, Refu
     }
 }
 
-/// How many requests of elm found no free slot.
-fn errors<K: Keeper>(alloc: Global, keeper: &mut K) -> Result<usize, Refusal> {
-    let elm = RoomName::new(alloc, "elm")?;
-    match keeper.errors(&elm) {
-        Ok(rows) => Ok(rows.len()),
+/// How many rows there are of `log`, `booking`, `errorlog` and `cancelled`.
+fn all_rows<K: Keeper>(keeper: &mut K) -> Result<[usize; 4], Refusal> {
+    match keeper.read() {
+        Ok(tables) => Ok([
+            tables.log.len(),
+            tables.booking.len(),
+            tables.errorlog.len(),
+            tables.cancelled.len(),
+        ]),
         Err(fault) => Err(Refusal::from(fault)),
     }
 }
@@ -153,14 +179,28 @@ const TENTATIVE: [(Act, &str); 2] = [
     (Act::Batch(TWO), "took 2 writes 0 commits\n"),
 ];
 
+const CANCELLED: [(Act, &str); 5] = [
+    (Act::Room("oak"), "ok\n"),
+    (
+        Act::Book("60", "09:00", &[], "Alpha"),
+        "9-1 T 1995-12-18 09:00-10:00\n",
+    ),
+    (Act::Book("60", "09:30", &[], "Beta"), "9-2 T logged\n"),
+    (Act::Cancel("9-1"), "9-3 T cancels 9-1\n"),
+    (Act::Cancel("9-2"), "9-4 T void 9-2\n"),
+];
+
 fn check_all<K: Opening + Drop>(rt: &impl Abort, alloc: Global) -> Result<(), Fail> {
     let mut committed = filled::<K>(rt, alloc, &COMMITTED)?;
-    assert_eq!(rt; errors(alloc, &mut committed)?, 49);
+    assert_eq!(rt; all_rows(&mut committed)?, [52, 3, 49, 0]);
     check_parts(rt, alloc, committed, &OF_COMMITTED)?;
     let dropped = filled::<K>(rt, alloc, &DROPPED)?;
     check_parts(rt, alloc, dropped, &OF_DROPPED)?;
     let tentative = filled::<K>(rt, alloc, &TENTATIVE)?;
     check_parts(rt, alloc, tentative, &OF_TENTATIVE)?;
+    let mut cancelled = filled::<K>(rt, alloc, &CANCELLED)?;
+    assert_eq!(rt; all_rows(&mut cancelled)?, [4, 0, 1, 1]);
+    check_parts(rt, alloc, cancelled, &OF_CANCELLED)?;
     let mut service = Service::new(alloc, filled::<K>(rt, alloc, &TENTATIVE)?);
     let text = said(alloc, &mut service, Act::Batch(FIRST))?;
     assert_eq!(rt; text.as_slice(), b"took 0 writes 1 commits\n".as_slice());

@@ -5,7 +5,8 @@ use crate::acts::{Act, said};
 use crate::offices::{Offices, opened};
 use crate::opening::Opening;
 use crate::scripts::{
-    BOOKED, CHAIN, EMPTY, ENDS, EQUAL_TIMES, LONGEST, MET, Row, TOUCHING, TRUNCATED, TURNED,
+    BOOKED, CHAIN, COMMITTED_FIRST, EMPTY, ENDS, EQUAL_TIMES, LONGEST, MADE_VOID, MET, Row,
+    TAKEN_BACK, TOUCHING, TRUNCATED, TURNED,
 };
 use crate::without_desk::WithoutDesk;
 use mr_base::Refusal;
@@ -57,6 +58,9 @@ fn check_all<K: Opening + Drop>(rt: &impl Abort, alloc: Global) -> Result<(), Fa
         &ENDS[..],
         &TRUNCATED[..],
         &MET[..],
+        &TAKEN_BACK[..],
+        &MADE_VOID[..],
+        &COMMITTED_FIRST[..],
     ] {
         check_new::<K>(rt, alloc, script)?;
     }
@@ -120,7 +124,13 @@ fn check_desks<K: Opening + Drop>(
 #[test]
 fn offices_that_exchanged_have_their_desks(rt: HostRuntime) -> Result<(), Fail> {
     let alloc = rt.alloc();
-    for script in [&TURNED[..], &TRUNCATED[..], &MET[..]] {
+    for script in [
+        &TURNED[..],
+        &TRUNCATED[..],
+        &MET[..],
+        &TAKEN_BACK[..],
+        &MADE_VOID[..],
+    ] {
         check_desks::<ListKeeper>(&rt, alloc, script)?;
         check_desks::<SqlKeeper<MemStore>>(&rt, alloc, script)?;
     }

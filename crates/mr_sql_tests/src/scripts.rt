@@ -152,12 +152,18 @@ const EIGHT: [&str; 8] = [
     "09:00", "10:00", "11:00", "12:00", "13:00", "14:00", "15:00", "16:00",
 ];
 
-const NINE: [&str; 9] = [
-    "09:00", "10:00", "11:00", "12:00", "13:00", "14:00", "15:00", "16:00", "17:00",
+const SIXTEEN: [&str; 16] = [
+    "06:00", "07:00", "08:00", "09:00", "10:00", "11:00", "12:00", "13:00", "14:00", "15:00",
+    "16:00", "17:00", "18:00", "19:00", "20:00", "21:00",
 ];
 
-/// The longest list of alternatives, none of them free, and one more alternative.
-pub(crate) static LONGEST: [Row; 5] = [
+const SEVENTEEN: [&str; 17] = [
+    "06:00", "07:00", "08:00", "09:00", "10:00", "11:00", "12:00", "13:00", "14:00", "15:00",
+    "16:00", "17:00", "18:00", "19:00", "20:00", "21:00", "22:00",
+];
+
+/// The longest list of alternatives that the exchange text says, the longest of all, none of them free, and one more alternative.
+pub(crate) static LONGEST: [Row; 8] = [
     OAK_AT_1,
     CLOSED,
     (
@@ -169,8 +175,93 @@ pub(crate) static LONGEST: [Row; 5] = [
         "oak errors\nT 1-2 1995-12-18 08:00-09:00 Full\n",
     ),
     (
-        Step::At(1, Act::Book("60", "08:00", &NINE, "Full")),
+        Step::At(1, Act::Book("60", "05:00", &SIXTEEN, "Fuller")),
+        "1-3 T logged\n",
+    ),
+    (
+        Step::At(1, Act::Book("60", "05:00", &SEVENTEEN, "Fullest")),
         "refused 6 TooManyAlternatives\n",
+    ),
+    (Step::Batch(1, 2, 2), "batch 1 228 bytes\n"),
+    (Step::Batch(1, 2, 3), "refused 27 NeedsVersion2\n"),
+];
+
+const ALPHA: Row = (
+    Step::At(1, Act::Book("60", "09:00", &[], "Alpha")),
+    "1-1 T 1995-12-18 09:00-10:00\n",
+);
+
+/// A committed booking is taken back by a tentative cancel, and its slot is booked again.
+pub(crate) static TAKEN_BACK: [Row; 15] = [
+    OAK_AT_1,
+    ALPHA,
+    (
+        Step::At(1, Act::Book("60", "09:00", &["10:00"], "Beta")),
+        "1-2 T 1995-12-18 10:00-11:00\n",
+    ),
+    (Step::At(1, Act::Commit(1)), "committed 1\n"),
+    (Step::At(1, Act::Cancel("1-1")), "1-3 T cancels 1-1\n"),
+    (
+        Step::At(1, Act::Book("60", "09:00", &[], "Gamma")),
+        "1-4 T 1995-12-18 09:00-10:00\n",
+    ),
+    (
+        Step::At(1, Act::Sheet),
+        "oak 1995-12-18 Monday\n09:00-10:00 T 1-4 Gamma\n10:00-11:00 T 1-2 Beta\n",
+    ),
+    (
+        Step::At(1, Act::Calendar(Part::Committed)),
+        "oak committed\n1995-12-18 09:00-10:00 C 1-1 Alpha\n",
+    ),
+    (Step::At(1, Act::Outcome("1-1")), "1-1 C cancelled T 1-3\n"),
+    (Step::At(1, Act::Cancel("1-1")), "1-5 T void 1-1\n"),
+    (Step::At(1, Act::Outcome("1-5")), "1-5 T void 1-1\n"),
+    (Step::At(1, Act::Errors), "oak errors\nT 1-5 cancel 1-1\n"),
+    (Step::At(1, Act::Cancel("1-3")), "refused 9 NoSuchRequest\n"),
+    (Step::Batch(1, 2, 10), "refused 27 NeedsVersion2\n"),
+    (Step::Batch(1, 2, 3), "batch 1 114 bytes\n"),
+];
+
+/// An earlier write takes the slot of a booking that was taken back, and the cancel is void.
+pub(crate) static MADE_VOID: [Row; 9] = [
+    OAK_AT_1,
+    OAK_AT_2,
+    (
+        Step::At(2, Act::Book("60", "09:00", &[], "Alpha")),
+        "2-1 T 1995-12-18 09:00-10:00\n",
+    ),
+    (Step::At(2, Act::Cancel("2-1")), "2-2 T cancels 2-1\n"),
+    (
+        Step::At(1, Act::Book("60", "09:30", &[], "Xray")),
+        "1-1 T 1995-12-18 09:30-10:30\n",
+    ),
+    (Step::Batch(1, 2, 10), "batch 1 49 bytes\n"),
+    (Step::Deliver(1, 2), "took 1 writes 0 commits\n"),
+    (
+        Step::At(2, Act::Sheet),
+        "oak 1995-12-18 Monday\n09:30-10:30 T 1-1 Xray\n",
+    ),
+    (
+        Step::At(2, Act::Errors),
+        "oak errors\nT 2-1 1995-12-18 09:00-10:00 Alpha\nT 2-2 cancel 2-1\n",
+    ),
+];
+
+/// A booking that was taken back is committed before its cancel is.
+pub(crate) static COMMITTED_FIRST: [Row; 8] = [
+    OAK_AT_1,
+    ALPHA,
+    (Step::At(1, Act::Cancel("1-1")), "1-2 T cancels 1-1\n"),
+    (Step::At(1, Act::Commit(1)), "committed 1\n"),
+    (Step::At(1, Act::Outcome("1-1")), "1-1 C cancelled T 1-2\n"),
+    (
+        Step::At(1, Act::Calendar(Part::Committed)),
+        "oak committed\n1995-12-18 09:00-10:00 C 1-1 Alpha\n",
+    ),
+    (Step::At(1, Act::Commit(1)), "committed 1\n"),
+    (
+        Step::At(1, Act::Calendar(Part::Committed)),
+        "oak committed\n(no bookings)\n",
     ),
 ];
 

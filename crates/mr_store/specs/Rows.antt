@@ -6,8 +6,8 @@ use Rattle.std.specs.List.{AllByRecursion-prop}
 use Rattle.mr_model.specs.Dropped.{Has}
 use Rattle.mr_model.specs.Replica.{text_before}
 use Rattle.mr_model.specs.Tables.{Tables}
-use Rattle.mr_model.specs.Queries.{booking_id, error_id}
-use Rattle.mr_tables.specs.Change.{id_before, log_id, undo_id}
+use Rattle.mr_model.specs.Queries.{booking_id, error_id, cancelled_id, cancel_id}
+use Rattle.mr_tables.specs.Change.{id_before, log_id}
 use Rattle.mr_tables.proofs.Putting.{InOrder}
 
 -- the rows in front of a place, and those behind it, the next one last
@@ -22,10 +22,11 @@ Precede {R} before key x rows = (y : R) → Has y rows → before (key y) (key x
 pub record AreInOrder (t : Tables) : Type 0 where
   pub room : InOrder text_before (λ name. name) t.room
   pub vector : InOrder nat_lt (λ row. row.server) t.vector
-  pub write_log : InOrder id_before log_id t.write_log
-  pub undo : InOrder id_before undo_id t.undo
+  pub log : InOrder id_before log_id t.log
   pub booking : InOrder id_before booking_id t.booking
   pub errorlog : InOrder id_before error_id t.errorlog
+  pub cancelled : InOrder id_before cancelled_id t.cancelled
+  pub cancels : InOrder id_before cancel_id t.cancels
 
 pub in_order-prop : {R K : Type 0} (before : K → K → Bool) (key : R → K) (rows : List R) → IsProp (InOrder before key rows)
 in_order-prop before key [] = Unit-prop

@@ -2,11 +2,11 @@ ghost use Rattle.std.specs.Prelude.{◌≡◌, ℕ, false, IfOk};
 ghost use Rattle.mr_store.specs.Kept.{failures_after, IsQuiet};
 ghost use Rattle.mr_store.specs.Cached.{IsMemoryAfter, IsMemoryOf, NeverFails};
 
-use crate::{Fault, Keeper, ListKeeper, PlaceRow};
+use crate::{Fault, Keeper, ListKeeper};
 use mr_base::{Day, RoomName, WriteId};
 use mr_part::{Part, Scope};
 use mr_replica::Desk;
-use mr_tables::{BookingRow, Change, ErrorRow, Tables};
+use mr_tables::{BookingRow, CancelRow, CancelledRow, Change, ErrorRow, PlaceRow, Tables};
 use std::alloc::Global;
 use std::marker::Model;
 
@@ -186,6 +186,30 @@ impl<K: Keeper> Keeper for Cached<K> {
         let answer = memory.errors(room);
         if is_failure(&answer) {
             return self.keeper.errors(room);
+        }
+        self.memory = Some(memory);
+        answer
+    }
+
+    fn cancelled(&mut self, room: &RoomName) -> Result<Vec<CancelledRow>, Fault> {
+        let Some(mut memory) = self.recall()? else {
+            return self.keeper.cancelled(room);
+        };
+        let answer = memory.cancelled(room);
+        if is_failure(&answer) {
+            return self.keeper.cancelled(room);
+        }
+        self.memory = Some(memory);
+        answer
+    }
+
+    fn cancels(&mut self, room: &RoomName) -> Result<Vec<CancelRow>, Fault> {
+        let Some(mut memory) = self.recall()? else {
+            return self.keeper.cancels(room);
+        };
+        let answer = memory.cancels(room);
+        if is_failure(&answer) {
+            return self.keeper.cancels(room);
         }
         self.memory = Some(memory);
         answer

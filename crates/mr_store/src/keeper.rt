@@ -7,12 +7,12 @@ ghost use Rattle.mr_replica.specs.Desk.{StandsFor, IsWithinLimits};
 ghost use Rattle.mr_part.specs.Parts.{IsPartOf};
 ghost use Rattle.mr_part.specs.ScopeOf.{scope_of};
 ghost use Rattle.mr_store.specs.Kept.{failures_for, IsAtomic, IsQuiet};
-ghost use Rattle.mr_store.specs.Picked.{picked_errors, AreBookings, IsPlaceOf};
+ghost use Rattle.mr_store.specs.Picked.{picked_errors, picked_cancelled, picked_cancels, AreBookings, IsPlaceOf};
 
 use mr_base::{Day, Refusal, RoomName, WriteId};
 use mr_part::{Part, Scope};
 use mr_replica::Desk;
-use mr_tables::{BookingRow, Change, ErrorRow, Tables};
+use mr_tables::{BookingRow, CancelRow, CancelledRow, Change, ErrorRow, PlaceRow, Tables};
 
 /// Why a keeper answers nothing.
 #[derive(Clone, Copy, Debug, PartialEq, Eq)]
@@ -49,13 +49,6 @@ impl Fault {
         *failures += 1;
         Fault::Store
     }
-}
-
-/// Where a request stands: each known request has one row, in `booking` or in `errorlog`.
-#[derive(Debug, Drop)]
-pub enum PlaceRow {
-    Booked(BookingRow),
-    Logged(ErrorRow),
 }
 
 /// What holds a replica's tables. Contracts see it as the tables; a call that is refused leaves them as they are.
@@ -99,7 +92,7 @@ pub trait Keeper {
         ensures quiet { IsQuiet tables failures is_clean is_open may_leave never_fails self.old self.new result }
         ensures bookings { is_clean self.new → is_open self.old → IfOk result (λ rows. AreBookings room.now day (tables self.old) rows.items) };
 
-    /// The row of the request with this id, where it is of that room.
+    /// The row of the write with this id, where it is of that room.
     fn place_of(&mut self, room: &RoomName, id: WriteId) -> Result<Option<PlaceRow>, Fault>
         ensures quiet { IsQuiet tables failures is_clean is_open may_leave never_fails self.old self.new result }
         ensures place { is_clean self.new → is_open self.old → IfOk result (λ row. IsPlaceOf room.now id (tables self.old) row) };
@@ -108,6 +101,16 @@ pub trait Keeper {
     fn errors(&mut self, room: &RoomName) -> Result<Vec<ErrorRow>, Fault>
         ensures quiet { IsQuiet tables failures is_clean is_open may_leave never_fails self.old self.new result }
         ensures errors { is_clean self.new → is_open self.old → IfOk result (λ rows. IsPermutation (picked_errors room.now (tables self.old)) rows.items) };
+
+    /// The rows of a room's bookings that a cancel took back, in any order.
+    fn cancelled(&mut self, room: &RoomName) -> Result<Vec<CancelledRow>, Fault>
+        ensures quiet { IsQuiet tables failures is_clean is_open may_leave never_fails self.old self.new result }
+        ensures cancelled { is_clean self.new → is_open self.old → IfOk result (λ rows. IsPermutation (picked_cancelled room.now (tables self.old)) rows.items) };
+
+    /// The rows of a room's cancels, in any order.
+    fn cancels(&mut self, room: &RoomName) -> Result<Vec<CancelRow>, Fault>
+        ensures quiet { IsQuiet tables failures is_clean is_open may_leave never_fails self.old self.new result }
+        ensures cancels { is_clean self.new → is_open self.old → IfOk result (λ rows. IsPermutation (picked_cancels room.now (tables self.old)) rows.items) };
 
     /// All rows of all tables.
     fn read(&mut self) -> Result<Tables, Fault>

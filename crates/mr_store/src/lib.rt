@@ -16,6 +16,8 @@ mod table_rows;
 mod tripped;
 
 pub use cached::Cached;
-pub use keeper::{Fault, Keeper, PlaceRow};
+pub use keeper::{Fault, Keeper};
 pub use lists::ListKeeper;
+pub use mr_tables::PlaceRow;
+pub use order::sort_bookings;
 pub use tripped::Tripped;

@@ -7,13 +7,13 @@ ghost use Rattle.std.proofs.Props.{props};
 ghost use Rattle.mr_store.specs.Rows.{AreInOrder, in_order-prop};
 
 use crate::puts::{change_rows, prepare, put_rows};
-use crate::queries::{bookings_of, errors_of, place_of};
+use crate::queries::{bookings_of, place_of, rows_in};
 use crate::rows::{copies_of, is_in_order};
-use crate::{Fault, Keeper, PlaceRow};
+use crate::{Fault, Keeper};
 use mr_base::{Day, Refusal, RoomName, ServerId, WriteId};
 use mr_part::{Part, Scope};
 use mr_replica::Desk;
-use mr_tables::{BookingRow, Change, ErrorRow, MetaRow, Tables};
+use mr_tables::{BookingRow, CancelRow, CancelledRow, Change, ErrorRow, MetaRow, PlaceRow, Tables};
 use std::alloc::{AllocError, Global};
 use std::marker::Model;
 
@@ -65,11 +65,12 @@ fn are_in_order(tables: &Tables) -> bool
 {
     let room = is_in_order(&tables.room);
     let vector = is_in_order(&tables.vector);
-    let write_log = is_in_order(&tables.write_log);
-    let undo = is_in_order(&tables.undo);
+    let log = is_in_order(&tables.log);
     let booking = is_in_order(&tables.booking);
     let errorlog = is_in_order(&tables.errorlog);
-    room & vector & write_log & undo & booking & errorlog
+    let cancelled = is_in_order(&tables.cancelled);
+    let cancels = is_in_order(&tables.cancels);
+    room & vector & log & booking & errorlog & cancelled & cancels
 }
 
 /// Makes the change in place. All that can fail comes first: equal rows and the room for them.
@@ -85,22 +86,24 @@ fn change_tables(
 {
     let room = prepare(alloc, &mut tables.room, &change.room, is_ordered)?;
     let vector = prepare(alloc, &mut tables.vector, &change.vector, is_ordered)?;
-    let write_log = prepare(alloc, &mut tables.write_log, &change.write_log, is_ordered)?;
-    let undo = prepare(alloc, &mut tables.undo, &change.undo, is_ordered)?;
+    let log = prepare(alloc, &mut tables.log, &change.log, is_ordered)?;
     let booking = prepare(alloc, &mut tables.booking, &change.booking, is_ordered)?;
     let errorlog = prepare(alloc, &mut tables.errorlog, &change.errorlog, is_ordered)?;
+    let cancelled = prepare(alloc, &mut tables.cancelled, &change.cancelled, is_ordered)?;
+    let cancels = prepare(alloc, &mut tables.cancels, &change.cancels, is_ordered)?;
     tables.meta = change.meta;
     put_rows(&mut tables.room, room, is_ordered);
     put_rows(&mut tables.vector, vector, is_ordered);
-    change_rows(
-        &mut tables.write_log,
-        &change.dropped,
-        write_log,
-        is_ordered,
-    );
-    change_rows(&mut tables.undo, &change.dropped, undo, is_ordered);
+    put_rows(&mut tables.cancels, cancels, is_ordered);
+    change_rows(&mut tables.log, &change.dropped, log, is_ordered);
     change_rows(&mut tables.booking, &change.unbooked, booking, is_ordered);
     change_rows(&mut tables.errorlog, &change.unlogged, errorlog, is_ordered);
+    change_rows(
+        &mut tables.cancelled,
+        &change.uncancelled,
+        cancelled,
+        is_ordered,
+    );
     Ok(())
 }
 
@@ -114,10 +117,11 @@ fn opening_tables(alloc: Global, server: ServerId, primary: ServerId) -> Tables
         meta: MetaRow::opening(server, primary),
         room: Vec::new(alloc),
         vector: Vec::new(alloc),
-        write_log: Vec::new(alloc),
-        undo: Vec::new(alloc),
+        log: Vec::new(alloc),
         booking: Vec::new(alloc),
         errorlog: Vec::new(alloc),
+        cancelled: Vec::new(alloc),
+        cancels: Vec::new(alloc),
     }
 }
 
@@ -129,10 +133,11 @@ fn copied(alloc: Global, tables: &Tables) -> Result<Tables, AllocError>
         meta: tables.meta,
         room: copies_of(alloc, &tables.room)?,
         vector: copies_of(alloc, &tables.vector)?,
-        write_log: copies_of(alloc, &tables.write_log)?,
-        undo: copies_of(alloc, &tables.undo)?,
+        log: copies_of(alloc, &tables.log)?,
         booking: copies_of(alloc, &tables.booking)?,
         errorlog: copies_of(alloc, &tables.errorlog)?,
+        cancelled: copies_of(alloc, &tables.cancelled)?,
+        cancels: copies_of(alloc, &tables.cancels)?,
     })
 }
 
@@ -200,7 +205,21 @@ impl Keeper for ListKeeper {
     }
 
     fn errors(&mut self, room: &RoomName) -> Result<Vec<ErrorRow>, Fault> {
-        match errors_of(self.alloc, &self.tables.errorlog, room) {
+        match rows_in(self.alloc, &self.tables.errorlog, room) {
+            Ok(rows) => Ok(rows),
+            Err(AllocError) => Err(Fault::OutOfMemory),
+        }
+    }
+
+    fn cancelled(&mut self, room: &RoomName) -> Result<Vec<CancelledRow>, Fault> {
+        match rows_in(self.alloc, &self.tables.cancelled, room) {
+            Ok(rows) => Ok(rows),
+            Err(AllocError) => Err(Fault::OutOfMemory),
+        }
+    }
+
+    fn cancels(&mut self, room: &RoomName) -> Result<Vec<CancelRow>, Fault> {
+        match rows_in(self.alloc, &self.tables.cancels, room) {
             Ok(rows) => Ok(rows),
             Err(AllocError) => Err(Fault::OutOfMemory),
         }

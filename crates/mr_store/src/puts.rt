@@ -4,7 +4,7 @@ ghost use Rattle.mr_tables.specs.Change.{put, put_all, without};
 ghost use Rattle.mr_tables.proofs.Putting.{InOrder};
 ghost use Rattle.mr_store.specs.Rows.{around, Precede};
 
-use crate::rows::{RequestRow, TableRow, copies_of, is_in_order, take_away};
+use crate::rows::{TableRow, WriteRow, copies_of, is_in_order, take_away};
 use mr_base::WriteId;
 use std::alloc::{AllocError, Global};
 use std::cmp::Ordering;
@@ -88,8 +88,8 @@ pub(crate) fn put_rows<R: TableRow>(rows: &mut Vec<R>, puts: Puts<R>, is_ordered
     go_to_end(rows, &mut behind);
 }
 
-/// Takes the rows of these requests away, and puts the others then.
-pub(crate) fn change_rows<R: RequestRow>(
+/// Takes the rows of these writes away, and puts the others then.
+pub(crate) fn change_rows<R: WriteRow>(
     rows: &mut Vec<R>,
     gone: &[WriteId],
     puts: Puts<R>,

@@ -1,13 +1,11 @@
 ghost use Rattle.std.specs.Prelude.{◌≡◌, ◌&&◌, bytes_eq, filter, find, IfOk};
 ghost use Rattle.mr_model.specs.Writes.{same_id};
-ghost use Rattle.mr_model.specs.Queries.{booking_id, error_id};
-ghost use Rattle.mr_store.specs.Picked.{is_asked, picked_bookings, picked_errors, AreBookings, IsPlaceOf};
+ghost use Rattle.mr_store.specs.Picked.{is_asked, picked_bookings, AreBookings, IsPlaceOf};
 
-use crate::PlaceRow;
 use crate::order::sort_bookings;
-use crate::rows::{RequestRow, TableRow};
+use crate::rows::{TableRow, WriteRow};
 use mr_base::{Day, RoomName, WriteId};
-use mr_tables::{BookingRow, ErrorRow, Tables};
+use mr_tables::{BookingRow, PlaceRow, Tables};
 use std::alloc::{AllocError, Global};
 
 /// Copies of the bookings of a room, of a day or of all days, in the order of a calendar.
@@ -51,24 +49,24 @@ fn is_on(day: Day, asked: Option<Day>) -> bool
     }
 }
 
-/// Copies of the error log's rows of a room.
-pub(crate) fn errors_of(
+/// Copies of the rows of a room.
+pub(crate) fn rows_in<R: WriteRow>(
     alloc: Global,
-    rows: &[ErrorRow],
+    rows: &[R],
     room: &RoomName,
-) -> Result<Vec<ErrorRow>, AllocError>
-    ensures { IfOk result (λ picked. picked.items ≡ filter (λ r. bytes_eq r.room room.now) rows.now) }
+) -> Result<Vec<R>, AllocError>
+    ensures { IfOk result (λ picked. picked.items ≡ filter (λ r. bytes_eq (R.room r) room.now) rows.now) }
 {
     let mut picked = Vec::new(alloc);
     for row in rows {
-        if row.room == *room {
+        if row.is_in(room) {
             picked.push(row.copied(alloc)?)?;
         }
     }
     Ok(picked)
 }
 
-/// A copy of the row of the request with this id, where it is of that room.
+/// A copy of the row of the write with this id, where it is of that room.
 pub(crate) fn place_of(
     alloc: Global,
     tables: &Tables,
@@ -77,42 +75,32 @@ pub(crate) fn place_of(
 ) -> Result<Option<PlaceRow>, AllocError>
     ensures { IfOk result (λ row. IsPlaceOf room.now id tables.now row) }
 {
-    match find_booking(alloc, &tables.booking, room, id)? {
-        Some(row) => Ok(Some(PlaceRow::Booked(row))),
-        None => match find_error(alloc, &tables.errorlog, room, id)? {
-            Some(row) => Ok(Some(PlaceRow::Logged(row))),
-            None => Ok(None),
-        },
+    if let Some(row) = row_of(alloc, &tables.booking, room, id)? {
+        return Ok(Some(PlaceRow::Booked(row)));
+    }
+    if let Some(row) = row_of(alloc, &tables.errorlog, room, id)? {
+        return Ok(Some(PlaceRow::Erred(row)));
+    }
+    if let Some(row) = row_of(alloc, &tables.cancelled, room, id)? {
+        return Ok(Some(PlaceRow::Cancelled(row)));
+    }
+    match row_of(alloc, &tables.cancels, room, id)? {
+        Some(row) => Ok(Some(PlaceRow::Cancel(row))),
+        None => Ok(None),
     }
 }
 
-fn find_booking(
+fn row_of<R: WriteRow>(
     alloc: Global,
-    rows: &[BookingRow],
+    rows: &[R],
     room: &RoomName,
     id: WriteId,
-) -> Result<Option<BookingRow>, AllocError>
-    ensures { IfOk result (λ found. found ≡ find (λ r. same_id (booking_id r) id && bytes_eq r.room room.now) rows.now) }
+) -> Result<Option<R>, AllocError>
+    ensures { IfOk result (λ found. found ≡ find (λ r. same_id (R.id r) id && bytes_eq (R.room r) room.now) rows.now) }
 {
-    for booking in rows {
-        if booking.is_of(id) && booking.room == *room {
-            return Ok(Some(booking.copied(alloc)?));
-        }
-    }
-    Ok(None)
-}
-
-fn find_error(
-    alloc: Global,
-    rows: &[ErrorRow],
-    room: &RoomName,
-    id: WriteId,
-) -> Result<Option<ErrorRow>, AllocError>
-    ensures { IfOk result (λ found. found ≡ find (λ r. same_id (error_id r) id && bytes_eq r.room room.now) rows.now) }
-{
-    for error in rows {
-        if error.is_of(id) && error.room == *room {
-            return Ok(Some(error.copied(alloc)?));
+    for row in rows {
+        if row.is_of(id) && row.is_in(room) {
+            return Ok(Some(row.copied(alloc)?));
         }
     }
     Ok(None)

@@ -1,11 +1,12 @@
-ghost use Rattle.std.specs.Prelude.{◌≡◌, ◌≤◌, Bool, true, IfOk};
+ghost use Rattle.std.specs.Prelude.{◌≡◌, ◌≤◌, Bool, true, bytes_eq, IfOk};
+ghost use Rattle.mr_model.specs.Texts.{Text};
 ghost use Rattle.mr_model.specs.Writes.{Id, same_id};
 ghost use Rattle.mr_model.specs.Replica.{is_among};
 ghost use Rattle.mr_tables.specs.Change.{without};
 ghost use Rattle.mr_tables.proofs.Putting.{IsOrder, InOrder};
 ghost use Rattle.std.specs.Vec.{vec_len, vec_capacity};
 
-use mr_base::WriteId;
+use mr_base::{RoomName, WriteId};
 use std::alloc::{AllocError, Global};
 
 /// A row of a table, whose key has its place in the order of the table's keys.
@@ -27,13 +28,19 @@ pub(crate) trait TableRow: Drop {
     ghost order: { IsOrder Key before };
 }
 
-/// A row of a table that has rows of requests.
-pub(crate) trait RequestRow: TableRow {
+/// A row of a table that has rows of writes.
+pub(crate) trait WriteRow: TableRow {
     ghost id: { Self → Id };
 
-    /// Whether it is of the request with this id.
-    fn is_of(&self, request: WriteId) -> bool
-        ensures { result ≡ same_id (id self.now) request };
+    ghost room: { Self → Text };
+
+    /// Whether it is of the write with this id.
+    fn is_of(&self, write: WriteId) -> bool
+        ensures { result ≡ same_id (id self.now) write };
+
+    /// Whether its write is of this room.
+    fn is_in(&self, name: &RoomName) -> bool
+        ensures { result ≡ bytes_eq (room self.now) name.now };
 }
 
 /// Equal rows in the same order.
@@ -54,8 +61,8 @@ pub(crate) fn is_in_order<R: TableRow>(rows: &[R]) -> bool
     rows.is_sorted_by(|one, next| one.is_before(next))
 }
 
-/// Takes the rows of these requests away, in one pass where there are any.
-pub(crate) fn take_away<R: RequestRow>(rows: &mut Vec<R>, gone: &[WriteId])
+/// Takes the rows of these writes away, in one pass where there are any.
+pub(crate) fn take_away<R: WriteRow>(rows: &mut Vec<R>, gone: &[WriteId])
     ensures items { rows.new.items ≡ without R.id gone.now rows.old.items }
     ensures len { vec_len rows.new ≤ vec_len rows.old }
     ensures capacity { vec_capacity rows.new ≡ vec_capacity rows.old }
@@ -66,11 +73,11 @@ pub(crate) fn take_away<R: RequestRow>(rows: &mut Vec<R>, gone: &[WriteId])
     rows.retain(|row| !is_of_any(row, gone));
 }
 
-fn is_of_any<R: RequestRow>(row: &R, requests: &[WriteId]) -> bool
-    ensures { result ≡ is_among (R.id row.now) requests.now }
+fn is_of_any<R: WriteRow>(row: &R, writes: &[WriteId]) -> bool
+    ensures { result ≡ is_among (R.id row.now) writes.now }
 {
-    for request in requests {
-        if row.is_of(*request) {
+    for write in writes {
+        if row.is_of(*write) {
             return true;
         }
     }

@@ -1,14 +1,14 @@
-ghost use Rattle.std.specs.Prelude.{◌≡◌, ℕ, nat_lt};
+ghost use Rattle.std.specs.Prelude.{◌≡◌, ℕ, nat_lt, bytes_eq};
 ghost use Rattle.mr_model.specs.Texts.{Text};
 ghost use Rattle.mr_model.specs.Writes.{Id, same_id};
 ghost use Rattle.mr_model.specs.Replica.{text_before};
-ghost use Rattle.mr_model.specs.Queries.{booking_id, error_id};
-ghost use Rattle.mr_tables.specs.Change.{id_before, log_id, undo_id};
+ghost use Rattle.mr_model.specs.Queries.{booking_id, error_id, cancelled_id, cancel_id};
+ghost use Rattle.mr_tables.specs.Change.{id_before, log_id};
 ghost use Rattle.mr_tables.proofs.Putting.{name_order, number_order, id_order};
 
-use crate::rows::{RequestRow, TableRow};
+use crate::rows::{TableRow, WriteRow};
 use mr_base::{RoomName, ServerId, WriteId};
-use mr_tables::{BookingRow, ErrorRow, LogRow, VectorRow, WriteUndoRow};
+use mr_tables::{BookingRow, CancelRow, CancelledRow, ErrorRow, LogRow, VectorRow};
 use std::alloc::{AllocError, Global};
 
 impl TableRow for RoomName {
@@ -71,37 +71,17 @@ impl TableRow for LogRow {
     }
 }
 
-impl RequestRow for LogRow {
+impl WriteRow for LogRow {
     ghost id = { log_id };
 
-    fn is_of(&self, request: WriteId) -> bool {
-        self.server == request.server && self.n == request.n
-    }
-}
+    ghost room = { λ row. row.room };
 
-impl TableRow for WriteUndoRow {
-    ghost Key = { Id };
-
-    ghost key = { undo_id };
-
-    ghost before = { id_before };
-
-    ghost order = { id_order };
-
-    fn is_before(&self, other: &WriteUndoRow) -> bool {
-        is_id_before((self.server, self.n), (other.server, other.n))
+    fn is_of(&self, write: WriteId) -> bool {
+        self.server == write.server && self.n == write.n
     }
 
-    fn copied(&self, _alloc: Global) -> Result<WriteUndoRow, AllocError> {
-        Ok(*self)
-    }
-}
-
-impl RequestRow for WriteUndoRow {
-    ghost id = { undo_id };
-
-    fn is_of(&self, request: WriteId) -> bool {
-        self.server == request.server && self.n == request.n
+    fn is_in(&self, name: &RoomName) -> bool {
+        self.room == *name
     }
 }
 
@@ -126,11 +106,17 @@ impl TableRow for BookingRow {
     }
 }
 
-impl RequestRow for BookingRow {
+impl WriteRow for BookingRow {
     ghost id = { booking_id };
 
-    fn is_of(&self, request: WriteId) -> bool {
-        self.server == request.server && self.n == request.n
+    ghost room = { λ row. row.room };
+
+    fn is_of(&self, write: WriteId) -> bool {
+        self.server == write.server && self.n == write.n
+    }
+
+    fn is_in(&self, name: &RoomName) -> bool {
+        self.room == *name
     }
 }
 
@@ -155,11 +141,87 @@ impl TableRow for ErrorRow {
     }
 }
 
-impl RequestRow for ErrorRow {
+impl WriteRow for ErrorRow {
     ghost id = { error_id };
 
-    fn is_of(&self, request: WriteId) -> bool {
-        self.server == request.server && self.n == request.n
+    ghost room = { λ row. row.room };
+
+    fn is_of(&self, write: WriteId) -> bool {
+        self.server == write.server && self.n == write.n
+    }
+
+    fn is_in(&self, name: &RoomName) -> bool {
+        self.room == *name
+    }
+}
+
+impl TableRow for CancelledRow {
+    ghost Key = { Id };
+
+    ghost key = { cancelled_id };
+
+    ghost before = { id_before };
+
+    ghost order = { id_order };
+
+    fn is_before(&self, other: &CancelledRow) -> bool {
+        is_id_before((self.server, self.n), (other.server, other.n))
+    }
+
+    fn copied(&self, alloc: Global) -> Result<CancelledRow, AllocError> {
+        match self.copy(alloc) {
+            Ok(row) => Ok(row),
+            Err(_) => Err(AllocError),
+        }
+    }
+}
+
+impl WriteRow for CancelledRow {
+    ghost id = { cancelled_id };
+
+    ghost room = { λ row. row.room };
+
+    fn is_of(&self, write: WriteId) -> bool {
+        self.server == write.server && self.n == write.n
+    }
+
+    fn is_in(&self, name: &RoomName) -> bool {
+        self.room == *name
+    }
+}
+
+impl TableRow for CancelRow {
+    ghost Key = { Id };
+
+    ghost key = { cancel_id };
+
+    ghost before = { id_before };
+
+    ghost order = { id_order };
+
+    fn is_before(&self, other: &CancelRow) -> bool {
+        is_id_before((self.server, self.n), (other.server, other.n))
+    }
+
+    fn copied(&self, alloc: Global) -> Result<CancelRow, AllocError> {
+        match self.copy(alloc) {
+            Ok(row) => Ok(row),
+            Err(_) => Err(AllocError),
+        }
+    }
+}
+
+impl WriteRow for CancelRow {
+    ghost id = { cancel_id };
+
+    ghost room = { λ row. row.room };
+
+    fn is_of(&self, write: WriteId) -> bool {
+        self.server == write.server && self.n == write.n
+    }
+
+    fn is_in(&self, name: &RoomName) -> bool {
+        self.room == *name
     }
 }
 

@@ -1,11 +1,11 @@
 ghost use Rattle.std.specs.Prelude.{◌≡◌, ◌-◌, ◌==◌, false, not, ◌||◌, ◌&&◌};
 ghost use Rattle.mr_store.specs.Kept.{failures_for};
 
-use crate::{Fault, Keeper, PlaceRow};
+use crate::{Fault, Keeper};
 use mr_base::{Day, RoomName, WriteId};
 use mr_part::{Part, Scope};
 use mr_replica::Desk;
-use mr_tables::{BookingRow, Change, ErrorRow, Tables};
+use mr_tables::{BookingRow, CancelRow, CancelledRow, Change, ErrorRow, PlaceRow, Tables};
 
 /// A keeper for tests, which fails once: it passes `left` calls on, answers the fault to the next one without passing it on,
 /// and passes on all others.
@@ -100,6 +100,20 @@ impl<K: Keeper> Keeper for Tripped<K> {
             return Err(self.fault);
         }
         self.keeper.errors(room)
+    }
+
+    fn cancelled(&mut self, room: &RoomName) -> Result<Vec<CancelledRow>, Fault> {
+        if self.trips() {
+            return Err(self.fault);
+        }
+        self.keeper.cancelled(room)
+    }
+
+    fn cancels(&mut self, room: &RoomName) -> Result<Vec<CancelRow>, Fault> {
+        if self.trips() {
+            return Err(self.fault);
+        }
+        self.keeper.cancels(room)
     }
 
     fn read(&mut self) -> Result<Tables, Fault> {

@@ -87,11 +87,11 @@ fn questions_ask_the_keeper_once(rt: HostRuntime) -> Result<(), Fail> {
     let request = id(2, 1)?;
     let change = first_change(alloc)?;
     let mut keeper = cached(alloc, 1, Fault::Store)?;
-    for call in 0..14 {
-        let fault = fault_of(&mut keeper, call % 7, &oak, request, &change);
+    for call in 0..18 {
+        let fault = fault_of(&mut keeper, call % 9, &oak, request, &change);
         assert_eq!(rt; fault, None, "at question {call}");
     }
-    let fault = fault_of(&mut keeper, 7, &oak, request, &change);
+    let fault = fault_of(&mut keeper, 9, &oak, request, &change);
     assert_eq!(rt; fault, Some(Fault::Store));
     Ok(())
 }

@@ -1,7 +1,9 @@
 // Rows and changes of replica 2, whose primary is 1.
 
 use mr_base::{Day, Refusal, RoomName, ServerId, Title, WriteId};
-use mr_tables::{BookingRow, Change, ErrorRow, MetaRow, Tables, VectorRow};
+use mr_tables::{
+    BookingRow, CancelRow, CancelledRow, Change, ErrorRow, MetaRow, Tables, VectorRow,
+};
 use std::alloc::Global;
 
 pub(crate) const MONDAY: &str = "1995-12-18";
@@ -118,31 +120,67 @@ fn no_change(alloc: Global, meta: MetaRow) -> Change {
         room: Vec::new(alloc),
         vector: Vec::new(alloc),
         dropped: Vec::new(alloc),
-        write_log: Vec::new(alloc),
-        undo: Vec::new(alloc),
+        log: Vec::new(alloc),
         unbooked: Vec::new(alloc),
         booking: Vec::new(alloc),
         unlogged: Vec::new(alloc),
         errorlog: Vec::new(alloc),
+        uncancelled: Vec::new(alloc),
+        cancelled: Vec::new(alloc),
+        cancels: Vec::new(alloc),
     }
 }
 
-/// Six bookings of two rooms, and a request that was logged.
+/// 2-6 was taken back by 2-7, and 2-8 found nothing to take back: rows of them in oak, on Monday.
+fn taken_back(alloc: Global) -> Result<Vec<CancelledRow>, Refusal> {
+    let row = booking(alloc, ("oak", MONDAY, 600, (2, 6), false))?;
+    let mut rows = Vec::new(alloc);
+    rows.push(CancelledRow::of_booking(row, id(2, 7)?))?;
+    Ok(rows)
+}
+
+/// A tentative cancel of 2-6 in oak.
+fn cancel(alloc: Global, n: u32, done: bool) -> Result<CancelRow, Refusal> {
+    let WriteId { server, n } = id(2, n)?;
+    let room = RoomName::new(alloc, "oak")?;
+    let target = id(2, 6)?;
+    Ok(CancelRow {
+        server,
+        n,
+        room,
+        target,
+        done,
+        time: 9,
+        seq: 0,
+    })
+}
+
+fn cancels(alloc: Global) -> Result<Vec<CancelRow>, Refusal> {
+    let mut rows = Vec::new(alloc);
+    rows.push(cancel(alloc, 8, false)?)?;
+    rows.push(cancel(alloc, 7, true)?)?;
+    Ok(rows)
+}
+
+/// Six bookings of two rooms, a request that was logged, a booking that was taken back, and two cancels of it.
 pub(crate) fn first_change(alloc: Global) -> Result<Change, Refusal> {
     let mut change = no_change(alloc, meta(0)?);
     change.room = rooms(alloc, &["oak", "elm"])?;
     change.booking = bookings(alloc, &FIRST_BOOKED)?;
     change.errorlog = logged(alloc, 3)?;
+    change.cancelled = taken_back(alloc)?;
+    change.cancels = cancels(alloc)?;
     Ok(change)
 }
 
-/// 2-1 loses its slot, 2-3 gets one, and 1-1 is committed.
+/// 2-1 loses its slot, 2-3 gets one, 1-1 is committed, and 2-6 is taken back no more.
 pub(crate) fn second_change(alloc: Global) -> Result<Change, Refusal> {
     let mut change = no_change(alloc, meta(1)?);
     change.unbooked = ids(alloc, 1)?;
     change.booking = bookings(alloc, &THEN_BOOKED)?;
     change.unlogged = ids(alloc, 3)?;
     change.errorlog = logged(alloc, 1)?;
+    change.uncancelled = ids(alloc, 6)?;
     Ok(change)
 }
 
@@ -160,9 +198,10 @@ pub(crate) fn tables(alloc: Global, commits: u64, count: u32) -> Result<Tables, 
         meta,
         room: Vec::new(alloc),
         vector,
-        write_log: Vec::new(alloc),
-        undo: Vec::new(alloc),
+        log: Vec::new(alloc),
         booking: Vec::new(alloc),
         errorlog: Vec::new(alloc),
+        cancelled: Vec::new(alloc),
+        cancels: Vec::new(alloc),
     })
 }

@@ -5,16 +5,18 @@ use crate::changes::{MONDAY, first_change, id, second_change, server, tables};
 use mr_base::{Day, Refusal, RoomName, WriteId};
 use mr_part::Scope;
 use mr_store::{Fault, Keeper, ListKeeper, PlaceRow, Tripped};
-use mr_tables::{BookingRow, Change, ErrorRow};
+use mr_tables::{BookingRow, CancelRow, CancelledRow, Change, ErrorRow};
 use std::alloc::Global;
 use std::process::Abort;
 use std::test::Fail;
 
-/// What became of a request in a room.
+/// What became of a request in a room, or that a cancel has the id.
 #[derive(Clone, Copy, PartialEq)]
 pub(crate) enum Place {
     Booked,
     Logged,
+    Cancelled,
+    Cancel,
     Nowhere,
 }
 
@@ -31,6 +33,10 @@ pub(crate) enum Call {
     Committed(&'static [bool]),
     /// The requests in a room's error log.
     Errors(&'static str, &'static [(u32, u32)]),
+    /// The requests in a room that were taken back.
+    Cancelled(&'static str, &'static [(u32, u32)]),
+    /// The cancels in a room, which the keepers have in the order of their ids.
+    Cancels(&'static str, &'static [(u32, u32)]),
     /// What became of a request of replica 2.
     PlaceOf(&'static str, u32, Place),
     /// How many rows there are of rooms, bookings and logged requests.
@@ -122,10 +128,48 @@ fn has_errors<K: Keeper>(
     Ok(are_errors_of(rows.as_slice(), requests))
 }
 
+fn are_cancelled(rows: &[CancelledRow], requests: &[(u32, u32)]) -> bool {
+    for (row, of) in rows.iter().zip(requests) {
+        if row.server.number() != of.0 || row.n != of.1 {
+            return false;
+        }
+    }
+    rows.len() == requests.len()
+}
+
+fn has_cancelled<K: Keeper>(
+    keeper: &mut K,
+    room: &RoomName,
+    requests: &[(u32, u32)],
+) -> Result<bool, Refusal> {
+    let rows = told(keeper.cancelled(room))?;
+    Ok(are_cancelled(rows.as_slice(), requests))
+}
+
+fn are_cancels(rows: &[CancelRow], ids: &[(u32, u32)]) -> bool {
+    for (row, of) in rows.iter().zip(ids) {
+        if row.server.number() != of.0 || row.n != of.1 {
+            return false;
+        }
+    }
+    rows.len() == ids.len()
+}
+
+fn has_cancels<K: Keeper>(
+    keeper: &mut K,
+    room: &RoomName,
+    ids: &[(u32, u32)],
+) -> Result<bool, Refusal> {
+    let rows = told(keeper.cancels(room))?;
+    Ok(are_cancels(rows.as_slice(), ids))
+}
+
 fn place_in(row: &Option<PlaceRow>) -> Place {
     match row {
         Some(PlaceRow::Booked(_)) => Place::Booked,
-        Some(PlaceRow::Logged(_)) => Place::Logged,
+        Some(PlaceRow::Erred(_)) => Place::Logged,
+        Some(PlaceRow::Cancelled(_)) => Place::Cancelled,
+        Some(PlaceRow::Cancel(_)) => Place::Cancel,
         None => Place::Nowhere,
     }
 }
@@ -172,6 +216,10 @@ pub(crate) fn answers<K: Keeper>(
         Call::Errors(room, requests) => {
             has_errors(keeper, &RoomName::new(alloc, room)?, requests)
         }
+        Call::Cancelled(room, requests) => {
+            has_cancelled(keeper, &RoomName::new(alloc, room)?, requests)
+        }
+        Call::Cancels(room, ids) => has_cancels(keeper, &RoomName::new(alloc, room)?, ids),
         Call::PlaceOf(room, n, wanted) => {
             has_place(keeper, &RoomName::new(alloc, room)?, n, wanted)
         }
@@ -195,10 +243,12 @@ fn has_first_position<K: Keeper>(keeper: &mut K) -> Result<bool, Refusal> {
     Ok(position.server.number() == 2 && position.commits == 0 && position.counts.is_empty())
 }
 
-static OF_NOTHING: [Call; 4] = [
+static OF_NOTHING: [Call; 6] = [
     Call::Rooms(&[]),
     Call::Bookings("oak", false, &[]),
     Call::Errors("oak", &[]),
+    Call::Cancelled("oak", &[]),
+    Call::Cancels("oak", &[]),
     Call::PlaceOf("oak", 1, Place::Nowhere),
 ];
 
@@ -216,7 +266,7 @@ fn a_new_keeper_has_a_desk(rt: HostRuntime) -> Result<(), Fail> {
     Ok(())
 }
 
-static OF_THE_FIRST_CHANGE: [Call; 14] = [
+static OF_THE_FIRST_CHANGE: [Call; 20] = [
     Call::ApplyFirst,
     Call::Rooms(&["elm", "oak"]),
     Call::Bookings("oak", false, &[(1, 1), (1, 3), (2, 4), (2, 1), (2, 2)]),
@@ -230,6 +280,12 @@ static OF_THE_FIRST_CHANGE: [Call; 14] = [
     Call::PlaceOf("elm", 3, Place::Nowhere),
     Call::PlaceOf("oak", 5, Place::Nowhere),
     Call::PlaceOf("elm", 5, Place::Nowhere),
+    Call::Cancelled("oak", &[(2, 6)]),
+    Call::Cancelled("elm", &[]),
+    Call::Cancels("oak", &[(2, 7), (2, 8)]),
+    Call::PlaceOf("oak", 6, Place::Cancelled),
+    Call::PlaceOf("oak", 7, Place::Cancel),
+    Call::PlaceOf("elm", 7, Place::Nowhere),
     Call::Read(2, 6, 1),
 ];
 
@@ -240,12 +296,14 @@ fn rows_that_are_put_are_found(rt: HostRuntime) -> Result<(), Fail> {
     Ok(())
 }
 
-pub(crate) static OF_BOTH_CHANGES: [Call; 6] = [
+pub(crate) static OF_BOTH_CHANGES: [Call; 8] = [
     Call::ApplyFirst,
     Call::ApplySecond,
     Call::Bookings("oak", false, &[(1, 1), (1, 3), (2, 4), (2, 3), (2, 2)]),
     Call::Errors("oak", &[(2, 1)]),
     Call::Committed(&[true, false]),
+    Call::Cancelled("oak", &[]),
+    Call::Cancels("oak", &[(2, 7), (2, 8)]),
     Call::Read(2, 6, 1),
 ];
 
@@ -285,7 +343,7 @@ fn a_trip_comes_after_its_calls(rt: HostRuntime) -> Result<(), Fail> {
     Ok(())
 }
 
-/// The fault of one of the eight calls, where it has one.
+/// The fault of one of the ten calls, where it has one.
 pub(crate) fn fault_of<K: Keeper>(
     keeper: &mut K,
     call: u32,
@@ -300,7 +358,9 @@ pub(crate) fn fault_of<K: Keeper>(
         3 => keeper.bookings(room, None).err(),
         4 => keeper.place_of(room, id).err(),
         5 => keeper.errors(room).err(),
-        6 => keeper.read().err(),
+        6 => keeper.cancelled(room).err(),
+        7 => keeper.cancels(room).err(),
+        8 => keeper.read().err(),
         _ => keeper.apply(change).err(),
     }
 }
@@ -311,7 +371,7 @@ fn each_call_trips_once(rt: HostRuntime) -> Result<(), Fail> {
     let oak = RoomName::new(alloc, "oak")?;
     let request = id(2, 1)?;
     let change = first_change(alloc)?;
-    for call in 0..8 {
+    for call in 0..10 {
         let mut keeper = Tripped::new(opening(alloc)?, 0, Fault::Store);
         let first = fault_of(&mut keeper, call, &oak, request, &change);
         assert_eq!(rt; first, Some(Fault::Store), "at call {call}");
@@ -319,6 +379,11 @@ fn each_call_trips_once(rt: HostRuntime) -> Result<(), Fail> {
         assert_eq!(rt; second, None, "at call {call} again");
     }
     Ok(())
+}
+
+/// The fault of a part without rows of writes, where it has one.
+fn fault_of_part<K: Keeper>(keeper: &mut K) -> Option<Fault> {
+    keeper.load_part(&Scope::Nothing).err()
 }
 
 /// The faults of a keeper with so many commits and so many writes of a server, whose desk is loaded and then a part.
@@ -329,7 +394,7 @@ fn faults_of_loads(
 ) -> Result<(Option<Fault>, Option<Fault>), Refusal> {
     let mut keeper = ListKeeper::over(alloc, tables(alloc, commits, count)?);
     let desk = keeper.load().err();
-    Ok((desk, keeper.load_part(&Scope::Nothing).err()))
+    Ok((desk, fault_of_part(&mut keeper)))
 }
 
 #[test]

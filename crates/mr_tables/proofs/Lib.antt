@@ -12,3 +12,5 @@ pub mod LogRows
 pub mod Rising
 pub mod BoardEntries
 pub mod Fitting
+pub mod BoardLimits
+pub mod BoardsTold

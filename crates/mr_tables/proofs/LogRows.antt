@@ -1,31 +1,62 @@
--- A write is known again from its row in write_log.
-use Rattle.std.proofs.Common.{◌≡◌, ap, sym, subst, ℕ, List, ◌∷◌, inl, inr, Result, Ok, Err, IsTrue}
+-- A write is known again from its row in log.
+use Rattle.std.proofs.Common.{◌≡◌, refl, ap, sym, subst, ◌&&◌, ℕ, List, ◌∷◌, inl, inr, Result, Ok, Err, IsTrue}
+use Rattle.std.proofs.lemmas.Bool.{and_parts}
 use Rattle.mr_model.specs.Texts.{Text}
 use Rattle.mr_model.specs.Slots.{Slot}
-use Rattle.mr_model.specs.Writes.{Stamp, Write, is_write, is_stamp, choices}
-use Rattle.mr_model.specs.Tables.{LogRow, choices_text}
-use Rattle.mr_model.proofs.LinesReadBack.{write_facts, slots_all}
+use Rattle.mr_model.specs.Writes.{Id, Stamp, Meeting, Action, Books, Cancels, Write, is_write, is_stamp, is_room_name, is_action, is_meeting, choices_of}
+use Rattle.mr_model.specs.Replay.{Place}
+use Rattle.mr_model.specs.Tables.{MeetingCells, OfMeeting, OfCancel, LogRow, cells_of, choices_text, log_row_with}
+use Rattle.mr_model.proofs.LinesReadBack.{slots_all}
 use Rattle.mr_model.proofs.ChangesKeep.{within}
 use Rattle.mr_base.specs.Answers.{OrOutOfMemory}
 use Rattle.mr_base.specs.declared.refusals.Refusal.{Refusal}
-use Rattle.mr_tables.specs.Rows.{log_row_with}
+use Rattle.mr_tables.specs.Cells.{meeting_cells}
 use Rattle.mr_tables.specs.Choices.{IsTextOf}
+use Rattle.mr_tables.proofs.Fitting.{choices_pass}
 
-pub text_of_write : (w : Write) (text : Text) → IsTrue (is_write w) → text ≡ choices_text w → IsTextOf text (w.wish ∷ w.alternatives)
-text_of_write w text ok e = record { slots = slots_all w.length (choices w) (write_facts w ok).slots; text_is = e }
+pub text_of_meeting : (m : Meeting) (text : Text) → IsTrue (is_meeting m) → text ≡ choices_text m → IsTextOf text (m.wish ∷ m.alternatives)
+text_of_meeting m text ok e = record { slots = slots_all m.length (choices_of m) (choices_pass m ok); text_is = e }
 
-pub stamp_of_row : (w : Write) (seq : ℕ) (row : LogRow) → row ≡ log_row_with w seq → record { server = row.server; n = row.n; time = row.time } ≡ w.stamp
-stamp_of_row w seq row e = ap (λ (r : LogRow). record { server = r.server; n = r.n; time = r.time }) e
+-- the meeting with these cells and choices
+pub meeting_again : (m : Meeting) (cells : MeetingCells) (wish : Slot) (others : List Slot) → cells ≡ meeting_cells m → wish ≡ m.wish → others ≡ m.alternatives → record { title = cells.title; length = cells.length; wish = wish; alternatives = others } ≡ m
+meeting_again m cells wish others e w o = λ i. record { title = (e i).title; length = (e i).length; wish = w i; alternatives = o i }
+
+-- ---- the parts of a row
+
+pub stamp_of_row : (w : Write) (place : Place) (seq : ℕ) (row : LogRow) → row ≡ log_row_with w place seq → record { server = row.server; n = row.n; time = row.time } ≡ w.stamp
+stamp_of_row w place seq row e = ap (λ (r : LogRow). record { server = r.server; n = r.n; time = r.time }) e
 
 pub stamp_within : (w : Write) (s : Stamp) → IsTrue (is_write w) → s ≡ w.stamp → IsTrue (is_stamp s)
 stamp_within w s ok e = subst (λ t. IsTrue (is_stamp t)) (sym e) (within w ok).stamp
 
--- the write with these parts
-abbrev pub parts : LogRow → Stamp → Slot → List Slot → Write
-parts row stamp wish others = record { stamp = stamp; room = row.room; title = row.title; length = row.length; wish = wish; alternatives = others }
+-- cells of a meeting are those of a write that books one
+pub record IsBookingOf (w : Write) (cells : MeetingCells) : Type 0 where
+  pub meeting : Meeting
+  pub books : w.action ≡ Books meeting
+  pub are : cells ≡ meeting_cells meeting
 
-pub again : (w : Write) (seq : ℕ) (row : LogRow) (stamp : Stamp) (wish : Slot) (others : List Slot) → row ≡ log_row_with w seq → stamp ≡ w.stamp → wish ≡ w.wish → others ≡ w.alternatives → parts row stamp wish others ≡ w
-again w seq row stamp wish others e s c o = λ i. parts (e i) (s i) (c i) (o i)
+pub booking_told : (w : Write) (cells : MeetingCells) → OfMeeting cells ≡ cells_of w.action → IsBookingOf w cells
+booking_told w cells e = go w.action refl e
+  where
+    go : (a : Action) → w.action ≡ a → OfMeeting cells ≡ cells_of a → IsBookingOf w cells
+    go (Books m) same f = record { meeting = m; books = same; are = cc }
+    go (Cancels t) same f = absurd (let never : ⊥ = cc in never)
+
+-- and a target is that of a cancel
+pub cancel_told : (w : Write) (target : Id) → OfCancel target ≡ cells_of w.action → w.action ≡ Cancels target
+cancel_told w target e = go w.action refl e
+  where
+    go : (a : Action) → w.action ≡ a → OfCancel target ≡ cells_of a → w.action ≡ Cancels target
+    go (Books m) same f = absurd (let never : ⊥ = cc in never)
+    go (Cancels t) same f = cc
+
+pub meeting_within : (w : Write) (m : Meeting) → IsTrue (is_write w) → w.action ≡ Books m → IsTrue (is_meeting m)
+meeting_within w m ok e =
+    subst (λ (a : Action). IsTrue (is_action a)) e (and_parts (is_stamp w.stamp && is_room_name w.room) (is_action w.action) ok).1
+
+-- the write with these parts
+pub again : (w : Write) (place : Place) (seq : ℕ) (row : LogRow) (stamp : Stamp) (action : Action) → row ≡ log_row_with w place seq → stamp ≡ w.stamp → w.action ≡ action → record { stamp = stamp; room = row.room; action = action } ≡ w
+again w place seq row stamp action e s a = λ i. record { stamp = s i; room = (e i).room; action = sym a i }
 
 -- ---- answers where memory may be wanting
 

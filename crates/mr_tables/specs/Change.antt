@@ -3,8 +3,8 @@ use Rattle.std.specs.Prelude.{Bool, not, ◌&&◌, ◌||◌, if◌then◌else◌
 use Rattle.mr_model.specs.Texts.{Text}
 use Rattle.mr_model.specs.Writes.{Id}
 use Rattle.mr_model.specs.Replica.{is_among, text_before}
-use Rattle.mr_model.specs.Tables.{MetaRow, VectorRow, LogRow, UndoRow, BookingRow, ErrorRow, Tables}
-use Rattle.mr_model.specs.Queries.{booking_id, error_id}
+use Rattle.mr_model.specs.Tables.{MetaRow, VectorRow, LogRow, BookingRow, ErrorRow, CancelledRow, CancelRow, Tables}
+use Rattle.mr_model.specs.Queries.{booking_id, error_id, cancelled_id, cancel_id}
 
 -- ---- one table, its rows in the order of their keys
 
@@ -32,23 +32,22 @@ id_before a b = nat_lt a.server b.server || (a.server == b.server && nat_lt a.n 
 abbrev pub log_id : LogRow → Id
 log_id row = record { server = row.server; n = row.n }
 
-abbrev pub undo_id : UndoRow → Id
-undo_id row = record { server = row.server; n = row.n }
-
 -- ---- all tables
 
--- of write_log and undo the same ids are taken away
+-- rooms, rows of the vector and those of cancels are put alone
 pub record ChangeView : Type 0 where
   pub meta : MetaRow
   pub room : List Text
   pub vector : List VectorRow
   pub dropped : List Id
-  pub write_log : List LogRow
-  pub undo : List UndoRow
+  pub log : List LogRow
   pub unbooked : List Id
   pub booking : List BookingRow
   pub unlogged : List Id
   pub errorlog : List ErrorRow
+  pub uncancelled : List Id
+  pub cancelled : List CancelledRow
+  pub cancels : List CancelRow
 
 -- the tables after a change: rows are taken away first, then rows are put
 abbrev pub changed : ChangeView → Tables → Tables
@@ -57,8 +56,9 @@ changed c t =
       meta = c.meta;
       room = put_all text_before (λ name. name) c.room t.room;
       vector = put_all nat_lt (λ row. row.server) c.vector t.vector;
-      write_log = put_all id_before log_id c.write_log (without log_id c.dropped t.write_log);
-      undo = put_all id_before undo_id c.undo (without undo_id c.dropped t.undo);
+      log = put_all id_before log_id c.log (without log_id c.dropped t.log);
       booking = put_all id_before booking_id c.booking (without booking_id c.unbooked t.booking);
       errorlog = put_all id_before error_id c.errorlog (without error_id c.unlogged t.errorlog);
+      cancelled = put_all id_before cancelled_id c.cancelled (without cancelled_id c.uncancelled t.cancelled);
+      cancels = put_all id_before cancel_id c.cancels t.cancels;
     }

@@ -2,6 +2,7 @@
 pub mod Summary
 pub mod Rooms
 pub mod Change
+pub mod Cells
 pub mod Rows
 pub mod Tallied
 pub mod Written
@@ -9,3 +10,4 @@ pub mod Choices
 pub mod Boards
 pub mod OldErrors
 pub mod SoundRows
+pub mod Laws

@@ -2,8 +2,8 @@
 use Rattle.std.specs.Prelude.{◌≡◌, ℕ, ◌+◌, ◌≤◌, min, Bool, true, nat_le, nat_lt, List, length, map, IsTrue}
 use Rattle.std.specs.List.{All, AllAdjacentBelow, sum_by}
 use Rattle.mr_model.specs.Replica.{text_before, greatest}
-use Rattle.mr_model.specs.Tables.{MetaRow, VectorRow, BookingRow, ErrorRow, Tables}
-use Rattle.mr_model.specs.Queries.{booking_id, error_id}
+use Rattle.mr_model.specs.Tables.{MetaRow, VectorRow, Tables}
+use Rattle.mr_model.specs.Queries.{booking_id, error_id, cancelled_id, cancel_id}
 use Rattle.mr_tables.specs.declared.summary.Tally.{Tally}
 use Rattle.mr_tables.specs.Summary.{tally_at}
 use Rattle.mr_tables.specs.Change.{id_before, log_id}
@@ -17,9 +17,11 @@ Rise before key rows = AllAdjacentBelow (λ x y. before (key x) (key y) ≡ true
 pub record AreKeysRising (t : Tables) : Type 0 where
   pub room : Rise text_before (λ name. name) t.room
   pub vector : Rise nat_lt (λ row. row.server) t.vector
-  pub write_log : Rise id_before log_id t.write_log
+  pub log : Rise id_before log_id t.log
   pub booking : Rise id_before booking_id t.booking
   pub errorlog : Rise id_before error_id t.errorlog
+  pub cancelled : Rise id_before cancelled_id t.cancelled
+  pub cancels : Rise id_before cancel_id t.cancels
 
 -- ---- numbers
 
@@ -40,13 +42,21 @@ abbrev pub is_first : List Tally → ℕ → ℕ → Bool
 is_first ts server n = nat_le n (tally_at ts server).committed
 
 -- a booking is that of a counted write, and is marked where this is committed
-abbrev pub IsMarkSound : List Tally → BookingRow → Type 0
-IsMarkSound ts row = IsTrue (is_counted ts row.server row.n) × (row.committed ≡ is_first ts row.server row.n)
+abbrev pub IsMarkSound : List Tally → ℕ → ℕ → Bool → Type 0
+IsMarkSound ts server n committed = IsTrue (is_counted ts server n) × (committed ≡ is_first ts server n)
 
--- likewise a logged request, which has a commit number where it is committed
-abbrev pub IsNumberSound : ℕ → List Tally → ErrorRow → Type 0
-IsNumberSound commits ts row =
-    IsTrue (is_counted ts row.server row.n) × (nat_le 1 row.seq ≡ is_first ts row.server row.n) × (row.seq ≤ commits)
+pub record HaveSoundMarks (ts : List Tally) (t : Tables) : Type 0 where
+  pub booking : All (λ row. IsMarkSound ts row.server row.n row.committed) t.booking
+  pub cancelled : All (λ row. IsMarkSound ts row.server row.n row.committed) t.cancelled
+
+-- likewise a logged request and a cancel, which have a commit number where they are committed
+abbrev pub IsNumberSound : ℕ → List Tally → ℕ → ℕ → ℕ → Type 0
+IsNumberSound commits ts server n seq =
+    IsTrue (is_counted ts server n) × (nat_le 1 seq ≡ is_first ts server n) × (seq ≤ commits)
+
+pub record HaveSoundNumbers (commits : ℕ) (ts : List Tally) (t : Tables) : Type 0 where
+  pub errorlog : All (λ row. IsNumberSound commits ts row.server row.n row.seq) t.errorlog
+  pub cancels : All (λ row. IsNumberSound commits ts row.server row.n row.seq) t.cancels
 
 -- ---- totals, of which a number of 64 bits tells no more than its greatest
 
@@ -55,7 +65,7 @@ capped n = min n 18_446_744_073_709_551_615
 
 -- each write that is counted has a row, the committed ones are as many as the commits, and the clock is the last time of all
 pub record AreTotalsSound (t : Tables) : Type 0 where
-  pub rows : capped (length t.booking + length t.errorlog) ≡ capped (sum_by (λ row. row.count) t.vector)
+  pub rows : capped (length t.booking + length t.errorlog + length t.cancelled + length t.cancels) ≡ capped (sum_by (λ row. row.count) t.vector)
   pub commits : t.meta.commits ≡ capped (sum_by (λ row. row.committed) t.vector)
   pub clock : t.meta.clock ≡ greatest (map (λ row. row.last_time) t.vector)
 
@@ -66,6 +76,6 @@ pub record AreSound (t : Tables) (commits : ℕ) (ts : List Tally) : Type 0 wher
   pub meta : IsMetaSound t.meta
   pub counts : All IsCountSound t.vector
   pub keys : AreKeysRising t
-  pub marks : All (IsMarkSound ts) t.booking
-  pub numbers : All (IsNumberSound commits ts) t.errorlog
+  pub marks : HaveSoundMarks ts t
+  pub numbers : HaveSoundNumbers commits ts t
   pub totals : AreTotalsSound t

@@ -1,29 +1,27 @@
-ghost use Rattle.std.specs.Prelude.{◌≡◌, [], map, OnOk, IfOk, IfErr, Ok};
+ghost use Rattle.std.specs.Prelude.{◌≡◌, [], map, filter, OnOk, IfOk, IfErr, Ok};
 ghost use Rattle.std.specs.List.{AllByRecursion};
 ghost use Rattle.std.specs.BTreeMap.{insert_entry};
 ghost use Rattle.mr_base.specs.Answers.{OrOutOfMemory};
 ghost use Rattle.mr_base.specs.Ids.{id_cmp};
-ghost use Rattle.mr_tables.specs.Boards.{booking_entry, error_entry, put_entries, IsRowWithin};
+ghost use Rattle.mr_replay.specs.declared.rows.Kept.TheVariants.{OfBooking};
+ghost use Rattle.mr_tables.specs.Boards.{booking_entry, error_entry, cancelled_entry, cancel_entry, is_void, put_entries, board_of, AreWithin, IsRowWithin};
 
-use crate::{BookingRow, ErrorRow};
+use crate::{BookingRow, CancelRow, CancelledRow, ErrorRow, Tables};
 use mr_base::{Day, Refusal, RoomName, ServerId, Slot, Title, WriteId};
-use mr_replay::{Board, Row, Standing};
+use mr_replay::{Board, Kept, Row, Standing};
 use std::alloc::Global;
 
-/// The board that these rows tell. Refused where one is out of the limits.
-pub fn board_with(
-    alloc: Global,
-    bookings: &[BookingRow],
-    errors: &[ErrorRow],
-) -> Result<Board, Refusal>
-    ensures board { AllByRecursion (λ r. IsRowWithin r.n r.start) bookings.now → AllByRecursion (λ r. IsRowWithin r.n r.start) errors.now
-        → IfOk result (λ board. board ≡ put_entries (map error_entry errors.now) (put_entries (map booking_entry bookings.now) [])) }
-    ensures only { AllByRecursion (λ r. IsRowWithin r.n r.start) bookings.now → AllByRecursion (λ r. IsRowWithin r.n r.start) errors.now
-        → IfErr result (λ e. e ≡ Refusal.OutOfMemory) }
+/// The board that the rows of the tables tell: a row for each booking, and one for each cancel that found nothing to take back.
+/// Refused where one is out of the limits.
+pub fn board_with(alloc: Global, tables: &Tables) -> Result<Board, Refusal>
+    ensures board { AreWithin tables.now → IfOk result (λ board. board ≡ board_of tables.now) }
+    ensures only { AreWithin tables.now → IfErr result (λ e. e ≡ Refusal.OutOfMemory) }
 {
     let mut board = Board::new(alloc);
-    put_bookings(&mut board, alloc, bookings)?;
-    put_errors(&mut board, alloc, errors)?;
+    put_bookings(&mut board, alloc, &tables.booking)?;
+    put_errors(&mut board, alloc, &tables.errorlog)?;
+    put_cancelled(&mut board, alloc, &tables.cancelled)?;
+    put_cancels(&mut board, alloc, &tables.cancels)?;
     Ok(board)
 }
 
@@ -76,6 +74,51 @@ fn put_error(board: &mut Board, alloc: Global, row: &ErrorRow) -> Result<(), Ref
     board.put(id, row)
 }
 
+/// Puts the rows of `cancelled` on the board. Refused where one is out of the limits.
+pub fn put_cancelled(board: &mut Board, alloc: Global, rows: &[CancelledRow]) -> Result<(), Refusal>
+    ensures put { AllByRecursion (λ r. IsRowWithin r.n r.start) rows.now → OnOk result (board.new ≡ put_entries (map cancelled_entry rows.now) board.old) }
+    ensures only { AllByRecursion (λ r. IsRowWithin r.n r.start) rows.now → IfErr result (λ e. e ≡ Refusal.OutOfMemory) }
+{
+    for row in rows {
+        put_taken_back(board, alloc, row)?;
+    }
+    Ok(())
+}
+
+pub fn put_taken_back(board: &mut Board, alloc: Global, row: &CancelledRow) -> Result<(), Refusal>
+    ensures put { IsRowWithin row.now.n row.now.start → OnOk result (board.new ≡ insert_entry id_cmp board.old (cancelled_entry row.now).0 (cancelled_entry row.now).1) }
+    ensures only { IsRowWithin row.now.n row.now.start → IfErr result (λ e. e ≡ Refusal.OutOfMemory) }
+{
+    let (id, slot) = place_of(row.server, row.n, row.day, row.start)?;
+    let length = row.stop.saturating_sub(row.start);
+    let standing = Standing::CancelledBy(row.by);
+    let row = row_with(alloc, &row.room, slot, length, &row.title, standing)?;
+    board.put(id, row)
+}
+
+/// Puts those rows of `cancels` on the board that found nothing to take back.
+fn put_cancels(board: &mut Board, alloc: Global, rows: &[CancelRow]) -> Result<(), Refusal>
+    ensures put { OnOk result (board.new ≡ put_entries (map cancel_entry (filter is_void rows.now)) board.old) }
+    ensures only { IfErr result (λ e. e ≡ Refusal.OutOfMemory) }
+{
+    for row in rows {
+        if !row.done {
+            put_cancel(board, alloc, row)?;
+        }
+    }
+    Ok(())
+}
+
+fn put_cancel(board: &mut Board, alloc: Global, row: &CancelRow) -> Result<(), Refusal>
+    ensures put { OnOk result (board.new ≡ insert_entry id_cmp board.old (cancel_entry row.now).0 (cancel_entry row.now).1) }
+    ensures only { IfErr result (λ e. e ≡ Refusal.OutOfMemory) }
+{
+    let id = row.id();
+    let room = row.room.copy(alloc)?;
+    let kept = Kept::OfCancel { target: row.target };
+    board.put(id, Row { room, kept })
+}
+
 /// The id and the slot of a row. Refused where one is out of the limits.
 fn place_of(server: ServerId, n: u32, day: Day, start: u32) -> Result<(WriteId, Slot), Refusal>
     ensures { IsRowWithin n start → result ≡ Ok (record { server = server; n = n }, record { day = day; start = start }) }
@@ -89,7 +132,7 @@ fn place_of(server: ServerId, n: u32, day: Day, start: u32) -> Result<(WriteId, 
     }
 }
 
-/// The row on the board, with an equal room and title.
+/// The row on the board of a booking, with an equal room and title.
 fn row_with(
     alloc: Global,
     room: &RoomName,
@@ -98,15 +141,15 @@ fn row_with(
     title: &Title,
     standing: Standing,
 ) -> Result<Row, Refusal>
-    ensures { OrOutOfMemory result (Ok (record { room = room.now; slot = slot; length = length; title = title.now; standing = standing })) }
+    ensures { OrOutOfMemory result (Ok (record { room = room.now; kept = OfBooking slot length title.now standing })) }
 {
     let room = room.copy(alloc)?;
     let title = title.copy(alloc)?;
-    Ok(Row {
-        room,
+    let kept = Kept::OfBooking {
         slot,
         length,
         title,
         standing,
-    })
+    };
+    Ok(Row { room, kept })
 }

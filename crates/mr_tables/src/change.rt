@@ -1,22 +1,24 @@
-use crate::{BookingRow, ErrorRow, LogRow, MetaRow, VectorRow, WriteUndoRow};
+use crate::{BookingRow, CancelRow, CancelledRow, ErrorRow, LogRow, MetaRow, VectorRow};
 use mr_base::{RoomName, WriteId};
 use std::marker::Model;
 
 /// What a call of a desk changes in its tables: keys of rows to take away first, and rows to put then, each in the stead of the
-/// row that has its key. A write in `dropped` leaves both `write_log` and `undo`; one in `unbooked` leaves `booking`, one in
-/// `unlogged` leaves `errorlog`. Rooms and rows of the vector never leave.
+/// row that has its key. A write in `dropped` leaves `log`, one in `unbooked` leaves `booking`, one in `unlogged` leaves
+/// `errorlog`, one in `uncancelled` leaves `cancelled`. Rooms, rows of the vector and those of cancels never leave.
 #[derive(Debug, Drop)]
 pub struct Change {
     pub meta: MetaRow,
     pub room: Vec<RoomName>,
     pub vector: Vec<VectorRow>,
     pub dropped: Vec<WriteId>,
-    pub write_log: Vec<LogRow>,
-    pub undo: Vec<WriteUndoRow>,
+    pub log: Vec<LogRow>,
     pub unbooked: Vec<WriteId>,
     pub booking: Vec<BookingRow>,
     pub unlogged: Vec<WriteId>,
     pub errorlog: Vec<ErrorRow>,
+    pub uncancelled: Vec<WriteId>,
+    pub cancelled: Vec<CancelledRow>,
+    pub cancels: Vec<CancelRow>,
 }
 
 impl Model for Change {
@@ -29,11 +31,13 @@ impl Model for Change {
       room = c.room.items;
       vector = c.vector.items;
       dropped = c.dropped.items;
-      write_log = c.write_log.items;
-      undo = c.undo.items;
+      log = c.log.items;
       unbooked = c.unbooked.items;
       booking = c.booking.items;
       unlogged = c.unlogged.items;
       errorlog = c.errorlog.items;
+      uncancelled = c.uncancelled.items;
+      cancelled = c.cancelled.items;
+      cancels = c.cancels.items;
     } };
 }

@@ -3,14 +3,14 @@ ghost use Rattle.std.specs.List.{slice_get};
 ghost use Rattle.std.specs.String.{string_bytes};
 ghost use Rattle.mr_model.specs.Texts.{words};
 ghost use Rattle.mr_model.specs.Slots.{slot_words};
-ghost use Rattle.mr_model.specs.Writes.{choices};
+ghost use Rattle.mr_model.specs.Writes.{choices_of};
 ghost use Rattle.mr_tables.specs.Rows.{slot_text, more_slots};
 
-use mr_base::{Slot, TimeOfDay, Write};
+use mr_base::{Meeting, Slot, TimeOfDay};
 use std::alloc::{AllocError, Global};
 use std::fmt;
 
-/// The choices of a write as `write_log` has them: `<day> <HH:MM>` for the wish and each alternative, parted by one space.
+/// The choices of a meeting as `log` has them: `<day> <HH:MM>` for the wish and each alternative, parted by one space.
 pub(crate) fn choices_text(alloc: Global, wish: Slot, others: &[Slot]) -> Result<String, AllocError>
     ensures { IfOk result (λ text. string_bytes text ≡ words (flat_map slot_words (wish ∷ others.now))) }
 {
@@ -21,21 +21,21 @@ pub(crate) fn choices_text(alloc: Global, wish: Slot, others: &[Slot]) -> Result
 }
 
 /// The choice of this number: 0 is the wish, 1 the first alternative. It ends on its day.
-pub fn choice_of(write: &Write, number: u32) -> Option<Slot>
-    ensures choice { result ≡ slice_get (choices write.now) number }
-    ensures fits { IfSome result (λ s. s.start + write.now.length ≤ 1440) }
+pub fn choice_of(meeting: &Meeting, number: u32) -> Option<Slot>
+    ensures choice { result ≡ slice_get (choices_of meeting.now) number }
+    ensures fits { IfSome result (λ s. s.start + meeting.now.length ≤ 1440) }
 {
-    write.is_within_limits();
-    choice_numbered(write, number)
+    meeting.is_within_limits();
+    choice_numbered(meeting, number)
 }
 
-fn choice_numbered(write: &Write, number: u32) -> Option<Slot>
-    ensures { result ≡ slice_get (choices write.now) number }
+fn choice_numbered(meeting: &Meeting, number: u32) -> Option<Slot>
+    ensures { result ≡ slice_get (choices_of meeting.now) number }
 {
     if number == 0 {
-        return Some(write.wish);
+        return Some(meeting.wish);
     }
-    write
+    meeting
         .alternatives
         .as_slice()
         .get(number as usize - 1)

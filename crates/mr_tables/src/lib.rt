@@ -6,10 +6,15 @@
 //! public are there for `mr_replica` and `mr_part`, which make rows of their own values, and read these off rows.
 #![tactic(auto)]
 
+ghost use Rattle.mr_tables.specs.Laws.{RowsAreWithin, RowsTellTheBoard};
+
 pub mod boards;
+mod cancel_rows;
 mod change;
 pub mod choices;
+mod log_rows;
 pub mod old_errors;
+pub mod place_rows;
 pub mod reading;
 pub mod rooms;
 mod rows;
@@ -19,6 +24,16 @@ mod tables;
 pub mod vector;
 pub mod written;
 
+pub use cancel_rows::{CancelRow, CancelledRow};
 pub use change::Change;
-pub use rows::{BookingRow, ErrorRow, LogRow, MetaRow, VectorRow, WriteUndoRow};
+pub use log_rows::{ActionCells, LogRow, MeetingCells};
+pub use place_rows::PlaceRow;
+pub use rows::{BookingRow, ErrorRow, MetaRow, VectorRow};
 pub use tables::Tables;
+
+/// The rows of a replica's tables, and no others, tell the board of its writes: what `board_with` makes of them holds, room by
+/// room, what the replay of these writes gives.
+pub fn board_law()
+    ensures within { RowsAreWithin }
+    ensures told { RowsTellTheBoard }
+{}

@@ -2,11 +2,12 @@ ghost use Rattle.std.specs.Prelude.{◌≡◌, ◌↔◌, nat_lt, Ok, IfOk, IfEr
 ghost use Rattle.std.specs.List.{AllByRecursion};
 ghost use Rattle.std.specs.List.Sorted.{IsPermutation, IsSortedByKey};
 ghost use Rattle.std.specs.Ordering.{nat_cmp};
+ghost use Rattle.mr_model.specs.Texts.{within};
 ghost use Rattle.mr_model.specs.Writes.{is_count};
-ghost use Rattle.mr_tables.specs.OldErrors.{old_error_of, is_old, told_error};
+ghost use Rattle.mr_tables.specs.OldErrors.{old_error_of, is_old, is_old_cancel, told_error};
 ghost use Rattle.mr_tables.specs.SoundRows.{Rise};
 
-use crate::ErrorRow;
+use crate::{CancelRow, ErrorRow};
 use mr_base::{Refusal, Write, WriteId};
 use std::alloc::Global;
 
@@ -45,6 +46,13 @@ impl OldError {
     }
 }
 
+/// Whether this is the commit number of a dropped write, where so many are dropped.
+fn is_of_dropped(seq: u64, dropped: u64) -> bool
+    ensures { result ≡ within 1 dropped seq }
+{
+    seq >= 1 && seq <= dropped
+}
+
 /// Sorts them by commit number.
 pub fn sort_errors(errors: &mut Vec<OldError>)
     ensures moved { IsPermutation errors.old.items errors.new.items }
@@ -73,7 +81,7 @@ pub fn dropped_errors(
 {
     let mut errors = Vec::new(alloc);
     for row in rows {
-        if row.seq >= 1 && row.seq <= dropped {
+        if is_of_dropped(row.seq, dropped) {
             match OldError::of_row(row) {
                 Ok(error) => errors.push(error)?,
                 Err(refusal) => return Err(refusal),
@@ -81,4 +89,22 @@ pub fn dropped_errors(
         }
     }
     Ok(errors)
+}
+
+/// Equal rows of the dropped cancels, in the order of the rows, where so many writes are dropped.
+pub fn dropped_cancels(
+    alloc: Global,
+    rows: &[CancelRow],
+    dropped: u64,
+) -> Result<Vec<CancelRow>, Refusal>
+    ensures cancels { IfOk result (λ cancels. cancels.items ≡ filter (is_old_cancel dropped) rows.now) }
+    ensures only { IfErr result (λ e. e ≡ Refusal.OutOfMemory) }
+{
+    let mut cancels = Vec::new(alloc);
+    for row in rows {
+        if is_of_dropped(row.seq, dropped) {
+            cancels.push(row.copy(alloc)?)?;
+        }
+    }
+    Ok(cancels)
 }

@@ -2,43 +2,74 @@ ghost use Rattle.std.specs.Prelude.{◌≡◌, ◌<◌, ◌∷◌, List, length,
 ghost use Rattle.std.specs.Str.{IsUtf8};
 ghost use Rattle.mr_model.specs.Texts.{first_word, after_word, words};
 ghost use Rattle.mr_model.specs.Slots.{Slot as SlotOfDay, slot_words};
-ghost use Rattle.mr_model.specs.Writes.{Write as WriteOfRoom, is_write, is_stamp};
+ghost use Rattle.mr_model.specs.Writes.{Meeting as MeetingInRoom, Books, Cancels, Write as WriteOfRoom, is_meeting, is_write, is_stamp};
+ghost use Rattle.mr_model.specs.Replay.{Place as PlaceOfWrite};
+ghost use Rattle.mr_model.specs.Tables.{log_row_with};
 ghost use Rattle.mr_base.specs.Answers.{OrOutOfMemory};
-ghost use Rattle.mr_tables.specs.Rows.{log_row_with};
+ghost use Rattle.mr_tables.specs.Cells.{meeting_cells};
 ghost use Rattle.mr_tables.specs.Choices.{IsTextOf, Gives};
 
-use crate::LogRow;
+use crate::{ActionCells, LogRow, MeetingCells};
 use mr_base::{
     Alternatives, Day, Refusal, RoomName, ServerId, Slot, Stamp, Title, Write, WriteId, read_minute,
 };
 use std::alloc::Global;
 
-/// The write of a row of `write_log`. Refused where the row is that of no write.
+/// The write of a row of `log`. Refused where the row is that of no write.
 pub fn write_of(alloc: Global, row: &LogRow) -> Result<Write, Refusal>
-    ensures read { (w : WriteOfRoom) (seq : ℕ) → IsTrue (is_write w) → row.now ≡ log_row_with w seq → OrOutOfMemory result (Ok w) }
+    ensures read { (w : WriteOfRoom) (place : PlaceOfWrite) (seq : ℕ) → IsTrue (is_write w) → row.now ≡ log_row_with w place seq → OrOutOfMemory result (Ok w) }
 {
     let Some(stamp) = stamp_of(row.server, row.n, row.time) else {
         return Err(Refusal::Store);
     };
-    match choices_of(alloc, row.choices.as_str()) {
-        Ok(choices) => write_with_choices(alloc, row, stamp, choices.0, choices.1),
+    match &row.action {
+        ActionCells::OfMeeting(cells) => booking_of(alloc, stamp, &row.room, cells),
+        ActionCells::OfCancel(target) => cancel_of(alloc, stamp, &row.room, *target),
+    }
+}
+
+fn cancel_of(
+    alloc: Global,
+    stamp: Stamp,
+    room: &RoomName,
+    target: WriteId,
+) -> Result<Write, Refusal>
+    ensures { OrOutOfMemory result (Ok (record { stamp = stamp; room = room.now; action = Cancels target })) }
+{
+    let room = room.copy(alloc)?;
+    Ok(Write::cancel(stamp, room, target))
+}
+
+/// The booking of a meeting with these cells. Refused where they are those of no meeting.
+fn booking_of(
+    alloc: Global,
+    stamp: Stamp,
+    room: &RoomName,
+    cells: &MeetingCells,
+) -> Result<Write, Refusal>
+    ensures read { (m : MeetingInRoom) → IsTrue (is_meeting m) → cells.now ≡ meeting_cells m
+        → OrOutOfMemory result (Ok (record { stamp = stamp; room = room.now; action = Books m })) }
+{
+    match choices_of(alloc, cells.choices.as_str()) {
+        Ok(choices) => booking_with(alloc, stamp, room, cells, choices.0, choices.1),
         Err(refusal) => Err(refusal),
     }
 }
 
-fn write_with_choices(
+fn booking_with(
     alloc: Global,
-    row: &LogRow,
     stamp: Stamp,
+    room: &RoomName,
+    cells: &MeetingCells,
     wish: Slot,
     alternatives: Alternatives,
 ) -> Result<Write, Refusal>
-    ensures { IsTrue (is_write (record { stamp = stamp; room = row.now.room; title = row.now.title; length = row.now.length; wish = wish; alternatives = alternatives }))
-        → OrOutOfMemory result (Ok (record { stamp = stamp; room = row.now.room; title = row.now.title; length = row.now.length; wish = wish; alternatives = alternatives })) }
+    ensures { IsTrue (is_meeting (record { title = cells.now.title; length = cells.now.length; wish = wish; alternatives = alternatives }))
+        → OrOutOfMemory result (Ok (record { stamp = stamp; room = room.now; action = Books (record { title = cells.now.title; length = cells.now.length; wish = wish; alternatives = alternatives }) })) }
 {
-    let room = row.room.copy(alloc)?;
-    let title = row.title.copy(alloc)?;
-    write_with(stamp, room, title, row.length, wish, alternatives)
+    let room = room.copy(alloc)?;
+    let title = cells.title.copy(alloc)?;
+    write_with(stamp, room, title, cells.length, wish, alternatives)
 }
 
 fn stamp_of(server: ServerId, n: u32, time: u64) -> Option<Stamp>
@@ -56,8 +87,8 @@ fn write_with(
     wish: Slot,
     alternatives: Alternatives,
 ) -> Result<Write, Refusal>
-    ensures { IsTrue (is_write (record { stamp = stamp; room = room; title = title; length = length; wish = wish; alternatives = alternatives }))
-        → result ≡ Ok (record { stamp = stamp; room = room; title = title; length = length; wish = wish; alternatives = alternatives }) }
+    ensures { IsTrue (is_meeting (record { title = title; length = length; wish = wish; alternatives = alternatives }))
+        → result ≡ Ok (record { stamp = stamp; room = room; action = Books (record { title = title; length = length; wish = wish; alternatives = alternatives }) }) }
 {
     match Write::new(stamp, room, title, length, wish, alternatives) {
         Ok(write) => Ok(write),

@@ -1,10 +1,10 @@
 ghost use Rattle.std.specs.Prelude.{◌≡◌, Ok};
 ghost use Rattle.mr_model.specs.Replica.{opening};
 ghost use Rattle.mr_model.specs.Tables.{tables_of};
+ghost use Rattle.mr_model.specs.Queries.{booking_id, error_id};
 ghost use Rattle.mr_base.specs.Answers.{OrOutOfMemory};
 
-use mr_base::{Day, Refusal, RoomName, ServerId, Title};
-use mr_replay::Place;
+use mr_base::{Day, Refusal, RoomName, ServerId, Title, WriteId};
 use std::alloc::Global;
 use std::marker::Model;
 
@@ -101,88 +101,7 @@ impl VectorRow {
     }
 }
 
-/// A row of `write_log`: a kept write. `choices` is `<day> <HH:MM>` for the wish and each alternative, parted by one space;
-/// `seq` is its commit number, 0 where it is tentative.
-#[derive(Debug, Drop)]
-pub struct LogRow {
-    pub server: ServerId,
-    pub n: u32,
-    pub time: u64,
-    pub room: RoomName,
-    pub length: u32,
-    pub choices: String,
-    pub title: Title,
-    pub seq: u64,
-}
-
-impl Model for LogRow {
-    ghost use Rattle.std.specs.String.{string_bytes};
-    ghost use Rattle.mr_model.specs.Tables as tables;
-
-    ghost Value = { tables.LogRow };
-
-    ghost view = { λ r. record {
-      server = r.server;
-      n = r.n;
-      time = r.time;
-      room = r.room;
-      length = r.length;
-      choices = string_bytes r.choices;
-      title = r.title;
-      seq = r.seq;
-    } };
-}
-
-impl LogRow {
-    /// An equal row.
-    pub fn copy(&self, alloc: Global) -> Result<LogRow, Refusal>
-        ensures { OrOutOfMemory result (Ok self.now) }
-    {
-        let room = self.room.copy(alloc)?;
-        let choices = String::from_str(alloc, self.choices.as_str())?;
-        let title = self.title.copy(alloc)?;
-        Ok(LogRow {
-            server: self.server,
-            n: self.n,
-            time: self.time,
-            room,
-            length: self.length,
-            choices,
-            title,
-            seq: self.seq,
-        })
-    }
-}
-
-/// A row of `undo`: the place that a kept write has.
-#[derive(Clone, Copy, Debug)]
-pub struct WriteUndoRow {
-    pub server: ServerId,
-    pub n: u32,
-    pub place: Place,
-}
-
-impl Model for WriteUndoRow {
-    ghost use Rattle.mr_model.specs.Tables as tables;
-    ghost use Rattle.mr_replay.specs.Places.{place_of, place_from};
-
-    ghost Value = { tables.UndoRow };
-
-    ghost view = { λ r. record { server = r.server; n = r.n; place = place_of r.place } };
-
-    ghost inverse = { λ v. record { server = v.server; n = v.n; place = place_from v.place } };
-}
-
-impl WriteUndoRow {
-    /// An equal row. It takes no memory.
-    pub fn copy(&self, _alloc: Global) -> Result<WriteUndoRow, Refusal>
-        ensures { result ≡ Ok self.now }
-    {
-        Ok(*self)
-    }
-}
-
-/// A row of `booking`: a request that has its slot. `start` and `stop` are minutes of the day, from 0 to 1440.
+/// A row of `booking`: a booking that stands. `start` and `stop` are minutes of the day, from 0 to 1440.
 #[derive(Debug, Drop)]
 pub struct BookingRow {
     pub room: RoomName,
@@ -217,6 +136,15 @@ impl Model for BookingRow {
 }
 
 impl BookingRow {
+    /// The id of the booking.
+    pub fn id(&self) -> WriteId
+        ensures { result ≡ booking_id self.now }
+    {
+        let (server, n) = (self.server, self.n);
+        server.number();
+        WriteId { server, n }
+    }
+
     /// An equal row.
     pub fn copy(&self, alloc: Global) -> Result<BookingRow, Refusal>
         ensures { OrOutOfMemory result (Ok self.now) }
@@ -274,6 +202,15 @@ impl Model for ErrorRow {
 }
 
 impl ErrorRow {
+    /// The id of the request.
+    pub fn id(&self) -> WriteId
+        ensures { result ≡ error_id self.now }
+    {
+        let (server, n) = (self.server, self.n);
+        server.number();
+        WriteId { server, n }
+    }
+
     /// An equal row.
     pub fn copy(&self, alloc: Global) -> Result<ErrorRow, Refusal>
         ensures { OrOutOfMemory result (Ok self.now) }

@@ -1,4 +1,4 @@
-use crate::{BookingRow, ErrorRow, LogRow, MetaRow, VectorRow, WriteUndoRow};
+use crate::{BookingRow, CancelRow, CancelledRow, ErrorRow, LogRow, MetaRow, VectorRow};
 use mr_base::RoomName;
 use std::marker::Model;
 
@@ -9,10 +9,11 @@ pub struct Tables {
     pub meta: MetaRow,
     pub room: Vec<RoomName>,
     pub vector: Vec<VectorRow>,
-    pub write_log: Vec<LogRow>,
-    pub undo: Vec<WriteUndoRow>,
+    pub log: Vec<LogRow>,
     pub booking: Vec<BookingRow>,
     pub errorlog: Vec<ErrorRow>,
+    pub cancelled: Vec<CancelledRow>,
+    pub cancels: Vec<CancelRow>,
 }
 
 impl Model for Tables {
@@ -24,9 +25,10 @@ impl Model for Tables {
       meta = t.meta;
       room = t.room.items;
       vector = t.vector.items;
-      write_log = t.write_log.items;
-      undo = t.undo.items;
+      log = t.log.items;
       booking = t.booking.items;
       errorlog = t.errorlog.items;
+      cancelled = t.cancelled.items;
+      cancels = t.cancels.items;
     } };
 }

@@ -1,17 +1,24 @@
-ghost use Rattle.std.specs.Prelude.{◌≡◌, ◌+◌, ◌<◌, ◌≤◌, ◌^◌, [], length, map, OnOk, IfOk, IfErr, IfSome};
+ghost use Rattle.std.specs.Prelude.{◌≡◌, ◌+◌, ◌<◌, ◌^◌, [], length, map, OnOk, IfOk, IfErr};
 ghost use Rattle.mr_model.specs.Writes.{id_of};
-ghost use Rattle.mr_tables.specs.Rows.{log_row_with, undo_row_with, booking_at, error_at};
-ghost use Rattle.mr_tables.specs.Written.{meta_of, written, forgotten, with_logs, with_booking, with_slot, with_error, with_rows};
+ghost use Rattle.mr_model.specs.Tables.{cells_of, log_row_with, Booked, Erred, Cancelled, Cancel};
+ghost use Rattle.mr_base.specs.Actions.{action_of};
+ghost use Rattle.mr_replay.specs.Places.{place_of};
+ghost use Rattle.mr_tables.specs.Cells.{action_cells, meeting_cells, place_row_of};
+ghost use Rattle.mr_tables.specs.Written.{meta_of, with_places, written, forgotten, with_log, with_place, with_rows};
 
-use crate::choices::{choice_of, choices_text};
+use crate::choices::choices_text;
 use crate::summary::Summary;
-use crate::{BookingRow, Change, ErrorRow, LogRow, MetaRow, VectorRow, WriteUndoRow};
-use mr_base::{Refusal, RoomName, Slot, Write, WriteId};
+use crate::{
+    ActionCells, BookingRow, CancelledRow, Change, ErrorRow, LogRow, MeetingCells, MetaRow,
+    PlaceRow, VectorRow,
+};
+use mr_base::{Action, Meeting, Refusal, RoomName, Write, WriteId};
 use mr_replay::{Place, UndoRow};
 use std::alloc::Global;
 
 /// Puts the rows of writes that follow each other in the order, the first of them being the `first`-th, each with what undoes
-/// it: each one gets its row in one of `booking` and `errorlog`, and leaves the other.
+/// it, and the cancel that took it back: a booking gets its row in one of `booking`, `errorlog` and `cancelled`, and leaves the
+/// two others, a cancel gets one in `cancels`. The target of a cancel is left as it is.
 pub fn written(
     alloc: Global,
     summary: &Summary,
@@ -20,21 +27,30 @@ pub fn written(
     first: u64,
     writes: &[Write],
     rows: &[UndoRow],
+    bys: &[Option<WriteId>],
 ) -> Result<Change, Refusal>
-    requires { length writes.now ≡ length rows.now }
+    requires { (length writes.now ≡ length rows.now) × (length writes.now ≡ length bys.now) }
     ensures change { IfOk result (λ change. first + length writes.now < 2 ^ 64
-        → change ≡ written (meta_of summary.now) room.items vector.items summary.now.commits first writes.now rows.now) }
+        → change ≡ written (meta_of summary.now) room.items vector.items summary.now.commits first writes.now rows.now bys.now) }
     ensures only { IfErr result (λ e. e ≡ Refusal.OutOfMemory) }
 {
     let mut change = empty(alloc, summary, room, vector);
     for (k, write) in writes.iter().enumerate() {
         let number = first.saturating_add(k as u64);
-        add_rows(&mut change, alloc, write, rows[k], summary.commits, number)?;
+        add_rows(
+            &mut change,
+            alloc,
+            write,
+            rows[k],
+            bys[k],
+            summary.commits,
+            number,
+        )?;
     }
     Ok(change)
 }
 
-/// Takes the rows of these writes out of the logs.
+/// Takes the rows of these writes out of the log.
 pub fn forgotten(alloc: Global, summary: &Summary, writes: &[Write]) -> Result<Change, Refusal>
     ensures change { IfOk result (λ change. change ≡ forgotten (meta_of summary.now) (map id_of writes.now)) }
     ensures only { IfErr result (λ e. e ≡ Refusal.OutOfMemory) }
@@ -54,6 +70,12 @@ fn ids_of(alloc: Global, writes: &[Write]) -> Result<Vec<WriteId>, Refusal>
         ids.push(write_id(write))?;
     }
     Ok(ids)
+}
+
+fn write_id(write: &Write) -> WriteId
+    ensures { result ≡ id_of write.now }
+{
+    write.stamp.id()
 }
 
 /// The row of `meta`.
@@ -76,19 +98,21 @@ pub fn empty(
     room: Vec<RoomName>,
     vector: Vec<VectorRow>,
 ) -> Change
-    ensures { result ≡ written (meta_of summary.now) room.items vector.items 0 0 [] [] }
+    ensures { result ≡ with_places (meta_of summary.now) room.items vector.items [] [] }
 {
     Change {
         meta: meta_row(summary),
         room,
         vector,
         dropped: Vec::new(alloc),
-        write_log: Vec::new(alloc),
-        undo: Vec::new(alloc),
+        log: Vec::new(alloc),
         unbooked: Vec::new(alloc),
         booking: Vec::new(alloc),
         unlogged: Vec::new(alloc),
         errorlog: Vec::new(alloc),
+        uncancelled: Vec::new(alloc),
+        cancelled: Vec::new(alloc),
+        cancels: Vec::new(alloc),
     }
 }
 
@@ -98,170 +122,109 @@ fn add_rows(
     alloc: Global,
     write: &Write,
     row: UndoRow,
+    by: Option<WriteId>,
     commits: u64,
     number: u64,
 ) -> Result<(), Refusal>
-    ensures rows { OnOk result (change.new ≡ with_rows change.old commits number write.now row) }
+    ensures rows { OnOk result (change.new ≡ with_rows change.old commits number write.now row by) }
     ensures only { IfErr result (λ e. e ≡ Refusal.OutOfMemory) }
 {
     let committed = number <= commits;
     let seq = if committed { number } else { 0 };
-    add_logs(change, alloc, write, row, seq)?;
-    match row.place {
-        Place::Taken(choice) => add_slot(change, alloc, write, choice_of(write, choice), committed),
-        Place::Logged => add_error(change, alloc, write, seq),
+    let log = log_row(alloc, write, row.place, seq)?;
+    let place = PlaceRow::of_write(alloc, write, row.place, by, committed, seq)?;
+    change.log.push(log)?;
+    put_row(change, place)
+}
+
+/// Puts the row of what became of a write into its table, too. That of a booking is taken away from the two other tables of
+/// bookings.
+pub fn put_row(change: &mut Change, row: PlaceRow) -> Result<(), Refusal>
+    ensures rows { OnOk result (change.new ≡ with_place change.old (place_row_of row)) }
+    ensures only { IfErr result (λ e. e ≡ Refusal.OutOfMemory) }
+{
+    match row {
+        PlaceRow::Booked(row) => put_booking(change, row),
+        PlaceRow::Erred(row) => put_error(change, row),
+        PlaceRow::Cancelled(row) => put_cancelled(change, row),
+        PlaceRow::Cancel(row) => {
+            change.cancels.push(row)?;
+            Ok(())
+        }
     }
 }
 
-fn add_logs(
-    change: &mut Change,
-    alloc: Global,
-    write: &Write,
-    row: UndoRow,
-    seq: u64,
-) -> Result<(), Refusal>
-    ensures rows { OnOk result (change.new ≡ with_logs change.old write.now row seq) }
+fn put_booking(change: &mut Change, row: BookingRow) -> Result<(), Refusal>
+    ensures rows { OnOk result (change.new ≡ with_place change.old (Booked row)) }
     ensures only { IfErr result (λ e. e ≡ Refusal.OutOfMemory) }
 {
-    let log = log_row(alloc, write, seq)?;
-    change.write_log.push(log)?;
-    change.undo.push(undo_row(row))?;
+    let id = row.id();
+    change.unlogged.push(id)?;
+    change.uncancelled.push(id)?;
+    change.booking.push(row)?;
     Ok(())
 }
 
-fn add_slot(
-    change: &mut Change,
-    alloc: Global,
-    write: &Write,
-    slot: Option<Slot>,
-    committed: bool,
-) -> Result<(), Refusal>
-    requires { IfSome slot (λ s. s.start + write.now.length ≤ 1440) }
-    ensures rows { OnOk result (change.new ≡ with_slot change.old write.now committed slot) }
+fn put_error(change: &mut Change, row: ErrorRow) -> Result<(), Refusal>
+    ensures rows { OnOk result (change.new ≡ with_place change.old (Erred row)) }
     ensures only { IfErr result (λ e. e ≡ Refusal.OutOfMemory) }
 {
-    match slot {
-        Some(slot) => add_booking(change, alloc, write, slot, committed),
-        None => Ok(()),
-    }
-}
-
-fn add_booking(
-    change: &mut Change,
-    alloc: Global,
-    write: &Write,
-    slot: Slot,
-    committed: bool,
-) -> Result<(), Refusal>
-    requires { slot.start + write.now.length ≤ 1440 }
-    ensures rows { OnOk result (change.new ≡ with_booking change.old write.now committed slot) }
-    ensures only { IfErr result (λ e. e ≡ Refusal.OutOfMemory) }
-{
-    let booking = booking_row(alloc, write, slot, committed)?;
-    change.unlogged.push(write_id(write))?;
-    change.booking.push(booking)?;
+    let id = row.id();
+    change.unbooked.push(id)?;
+    change.uncancelled.push(id)?;
+    change.errorlog.push(row)?;
     Ok(())
 }
 
-fn add_error(change: &mut Change, alloc: Global, write: &Write, seq: u64) -> Result<(), Refusal>
-    ensures rows { OnOk result (change.new ≡ with_error change.old write.now seq) }
+fn put_cancelled(change: &mut Change, row: CancelledRow) -> Result<(), Refusal>
+    ensures rows { OnOk result (change.new ≡ with_place change.old (Cancelled row)) }
     ensures only { IfErr result (λ e. e ≡ Refusal.OutOfMemory) }
 {
-    let error = error_row(alloc, write, seq)?;
-    change.unbooked.push(write_id(write))?;
-    change.errorlog.push(error)?;
+    let id = row.id();
+    change.unbooked.push(id)?;
+    change.unlogged.push(id)?;
+    change.cancelled.push(row)?;
     Ok(())
 }
 
-fn write_id(write: &Write) -> WriteId
-    ensures { result ≡ id_of write.now }
-{
-    write.stamp.id()
-}
+// ---- rows of the log
 
-fn undo_row(row: UndoRow) -> WriteUndoRow
-    ensures { result ≡ undo_row_with row }
-{
-    let UndoRow { id, place } = row;
-    let WriteId { server, n } = id;
-    WriteUndoRow { server, n, place }
-}
-
-fn log_row(alloc: Global, write: &Write, seq: u64) -> Result<LogRow, Refusal>
-    ensures row { IfOk result (λ row. row ≡ log_row_with write.now seq) }
+fn log_row(alloc: Global, write: &Write, place: Place, seq: u64) -> Result<LogRow, Refusal>
+    ensures row { IfOk result (λ row. row ≡ log_row_with write.now (place_of place) seq) }
     ensures only { IfErr result (λ e. e ≡ Refusal.OutOfMemory) }
 {
     let room = write.room.copy(alloc)?;
-    let choices = choices_text(alloc, write.wish, write.alternatives.as_slice())?;
-    let title = write.title.copy(alloc)?;
+    let action = action_cells(alloc, &write.action)?;
     Ok(LogRow {
         server: write.stamp.server,
         n: write.stamp.n,
         time: write.stamp.time,
         room,
-        length: write.length,
+        action,
+        place,
+        seq,
+    })
+}
+
+fn action_cells(alloc: Global, action: &Action) -> Result<ActionCells, Refusal>
+    ensures cells { IfOk result (λ cells. action_cells cells ≡ cells_of (action_of action.now)) }
+    ensures only { IfErr result (λ e. e ≡ Refusal.OutOfMemory) }
+{
+    match action {
+        Action::Books(meeting) => Ok(ActionCells::OfMeeting(meeting_cells(alloc, meeting)?)),
+        Action::Cancels(target) => Ok(ActionCells::OfCancel(*target)),
+    }
+}
+
+fn meeting_cells(alloc: Global, meeting: &Meeting) -> Result<MeetingCells, Refusal>
+    ensures cells { IfOk result (λ cells. cells ≡ meeting_cells meeting.now) }
+    ensures only { IfErr result (λ e. e ≡ Refusal.OutOfMemory) }
+{
+    let choices = choices_text(alloc, meeting.wish, meeting.alternatives.as_slice())?;
+    let title = meeting.title.copy(alloc)?;
+    Ok(MeetingCells {
+        length: meeting.length,
         choices,
         title,
-        seq,
-    })
-}
-
-fn booking_row(
-    alloc: Global,
-    write: &Write,
-    slot: Slot,
-    committed: bool,
-) -> Result<BookingRow, Refusal>
-    requires { slot.start + write.now.length ≤ 1440 }
-    ensures row { IfOk result (λ row. row ≡ booking_at write.now committed slot) }
-    ensures only { IfErr result (λ e. e ≡ Refusal.OutOfMemory) }
-{
-    let room = write.room.copy(alloc)?;
-    let title = write.title.copy(alloc)?;
-    Ok(BookingRow {
-        room,
-        day: slot.day,
-        start: slot.start,
-        stop: slot.start + write.length,
-        server: write.stamp.server,
-        n: write.stamp.n,
-        title,
-        committed,
-    })
-}
-
-/// The minute at which the wish ends.
-fn wish_end(write: &Write) -> u32
-    ensures stop { result ≡ write.now.wish.start + write.now.length }
-    ensures fits { result ≤ 1440 }
-{
-    write.is_within_limits();
-    wish_stop(write)
-}
-
-fn wish_stop(write: &Write) -> u32
-    ensures { result ≡ write.now.wish.start + write.now.length }
-{
-    write.wish.start + write.length
-}
-
-fn error_row(alloc: Global, write: &Write, seq: u64) -> Result<ErrorRow, Refusal>
-    ensures row { IfOk result (λ row. row ≡ error_at write.now seq) }
-    ensures only { IfErr result (λ e. e ≡ Refusal.OutOfMemory) }
-{
-    let room = write.room.copy(alloc)?;
-    let title = write.title.copy(alloc)?;
-    let wish = write.wish;
-    let stop = wish_end(write);
-    Ok(ErrorRow {
-        room,
-        day: wish.day,
-        start: wish.start,
-        stop,
-        server: write.stamp.server,
-        n: write.stamp.n,
-        title,
-        time: write.stamp.time,
-        seq,
     })
 }

@@ -39,7 +39,7 @@ fn remove(rt: &HostRuntime, names: &[&'static str]) -> Result<(), AllocError> {
 }
 
 /// Command lines that have nothing to do with a database.
-static LINES: [Row; 19] = [
+static LINES: [Row; 21] = [
     ("rehearse lines_good", 0, "ok\nok\n"),
     ("rehearse lines_bad", 1, "bad script line 2\n"),
     ("rehearse absent.script", 3, "fault file\n"),
@@ -52,6 +52,8 @@ static LINES: [Row; 19] = [
     ("Rehearse lines_good", 2, "bad command line\n"),
     ("", 2, "bad command line\n"),
     ("sheet lines_good", 2, "bad command line\n"),
+    ("cancel a.db oak", 2, "bad command line\n"),
+    ("cancel a.db oak 1-1 1-2", 2, "bad command line\n"),
     ("exchange a.db", 2, "bad command line\n"),
     ("serve a.db 0 1", 2, "bad command line\n"),
     ("bridge a.db", 2, "bad command line\n"),
@@ -125,7 +127,7 @@ fn two_databases(rt: HostRuntime) -> Result<(), Fail> {
 }
 
 /// Every command on a database.
-static EVERY: [Row; 25] = [
+static EVERY: [Row; 35] = [
     ("init every.db 1 1", 0, "ok\n"),
     ("position every.db", 0, "mp1 1 1\nK 0\nE\n"),
     ("add-room every.db oak", 0, "ok\n"),
@@ -206,7 +208,25 @@ static EVERY: [Row; 25] = [
         "oak errors\nT 1-3 1995-12-18 09:30-10:30 Gamma\n",
     ),
     ("position every.db", 0, "mp1 1 1\nK 1\nV 1 3\nE\n"),
-    ("commit every.db 9", 0, "committed 2\n"),
+    ("cancel every.db oak 1-1", 0, "1-4 T cancels 1-1\n"),
+    ("cancel every.db oak 1-3", 0, "1-5 T void 1-3\n"),
+    ("cancel every.db elm 1-1", 1, "refused 7 UnknownRoom\n"),
+    ("cancel every.db oak 1-4", 1, "refused 9 NoSuchRequest\n"),
+    ("cancel every.db oak x", 1, "refused 9 NoSuchRequest\n"),
+    ("outcome every.db oak 1-1", 0, "1-1 C cancelled T 1-4\n"),
+    ("outcome every.db oak 1-4", 0, "1-4 T cancels 1-1\n"),
+    (
+        "calendar every.db oak full",
+        0,
+        "oak full\n1995-12-18 10:00-11:00 T 1-2 Beta\n",
+    ),
+    (
+        "errors every.db oak",
+        0,
+        "oak errors\nT 1-3 1995-12-18 09:30-10:30 Gamma\nT 1-5 cancel 1-3\n",
+    ),
+    ("commit every.db 9", 0, "committed 4\n"),
+    ("outcome every.db oak 1-1", 0, "1-1 C cancelled C 1-4\n"),
 ];
 
 #[test]

@@ -1,7 +1,7 @@
 // What a keeper of tables in memory answers once the change by hand is made.
 
-use crate::change::{MONDAY, server};
-use mr_base::{Day, Refusal, RoomName, WriteId};
+use crate::change::{MONDAY, id};
+use mr_base::{Day, Refusal, RoomName};
 use mr_sql::SqlKeeper;
 use mr_store::{Keeper, PlaceRow};
 use sqlite::MemStore;
@@ -16,7 +16,7 @@ fn has_oak(keeper: &mut SqlKeeper<MemStore>) -> bool {
 
 fn is_booked(keeper: &mut SqlKeeper<MemStore>, room: &RoomName, day: Option<Day>) -> bool {
     match keeper.bookings(room, day) {
-        Ok(rows) => rows.len() == 1 && rows[0].n == 1 && rows[0].start == 540,
+        Ok(rows) => rows.len() == 1 && rows[0].n == 4 && rows[0].start == 540,
         Err(_) => false,
     }
 }
@@ -28,28 +28,66 @@ fn is_logged(keeper: &mut SqlKeeper<MemStore>, room: &RoomName) -> bool {
     }
 }
 
-/// The count of the row that the write of this count has, with whether it is a booking; 0 where there is none.
+fn is_cancelled(keeper: &mut SqlKeeper<MemStore>, room: &RoomName) -> bool {
+    match keeper.cancelled(room) {
+        Ok(rows) => rows.len() == 1 && rows[0].n == 1 && rows[0].by.n == 3,
+        Err(_) => false,
+    }
+}
+
+fn has_cancels(keeper: &mut SqlKeeper<MemStore>, room: &RoomName) -> bool {
+    match keeper.cancels(room) {
+        Ok(rows) => rows.len() == 2 && rows[0].done != rows[1].done,
+        Err(_) => false,
+    }
+}
+
+/// What the row is that a write has.
+#[derive(Clone, Copy, Debug, PartialEq)]
+enum Kind {
+    Booked,
+    Logged,
+    Cancelled,
+    Cancel,
+    Nowhere,
+}
+
+/// The row that the write of this count has, with its count; 0 where there is none.
 fn place(
     keeper: &mut SqlKeeper<MemStore>,
     room: &RoomName,
     n: u32,
-) -> Result<(u32, bool), Refusal> {
-    let id = WriteId::new(server(1)?, n).ok_or(Refusal::NoSuchRequest)?;
+) -> Result<(u32, Kind), Refusal> {
+    let id = id(n)?;
     match keeper.place_of(room, id) {
-        Ok(Some(PlaceRow::Booked(row))) => Ok((row.n, true)),
-        Ok(Some(PlaceRow::Logged(row))) => Ok((row.n, false)),
-        _ => Ok((0, false)),
+        Ok(Some(PlaceRow::Booked(row))) => Ok((row.n, Kind::Booked)),
+        Ok(Some(PlaceRow::Erred(row))) => Ok((row.n, Kind::Logged)),
+        Ok(Some(PlaceRow::Cancelled(row))) => Ok((row.n, Kind::Cancelled)),
+        Ok(Some(PlaceRow::Cancel(row))) => Ok((row.n, Kind::Cancel)),
+        _ => Ok((0, Kind::Nowhere)),
     }
 }
 
-/// Whether the desk that is loaded has the position of the two requests.
+/// Whether each write has the row that it is wanted to have.
+fn has_places(keeper: &mut SqlKeeper<MemStore>, room: &RoomName) -> Result<bool, Refusal> {
+    Ok(
+        place(keeper, room, 1)? == (1, Kind::Cancelled)
+            && place(keeper, room, 2)? == (2, Kind::Logged)
+            && place(keeper, room, 3)? == (3, Kind::Cancel)
+            && place(keeper, room, 4)? == (4, Kind::Booked)
+            && place(keeper, room, 5)? == (5, Kind::Cancel)
+            && place(keeper, room, 6)? == (0, Kind::Nowhere),
+    )
+}
+
+/// Whether the desk that is loaded has the position of the five writes.
 fn has_position(keeper: &mut SqlKeeper<MemStore>) -> Result<bool, Refusal> {
     let Ok(desk) = keeper.load() else {
         return Err(Refusal::Store);
     };
     let position = desk.position()?;
     let counts = &position.counts;
-    Ok(position.commits == 0 && counts.len() == 1 && counts[0].1 == 2)
+    Ok(position.commits == 0 && counts.len() == 1 && counts[0].1 == 5)
 }
 
 /// Whether the keeper has the rows of the change, and no others.
@@ -58,9 +96,7 @@ pub(crate) fn has_all(keeper: &mut SqlKeeper<MemStore>, alloc: Global) -> Result
     let monday = Day::read(MONDAY)?;
     let tuesday = Day::read("1995-12-19")?;
     let lists = has_oak(keeper) && is_booked(keeper, &oak, None) && is_logged(keeper, &oak);
+    let taken_back = is_cancelled(keeper, &oak) && has_cancels(keeper, &oak);
     let days = is_booked(keeper, &oak, Some(monday)) && !is_booked(keeper, &oak, Some(tuesday));
-    let places = place(keeper, &oak, 1)? == (1, true)
-        && place(keeper, &oak, 2)? == (2, false)
-        && place(keeper, &oak, 3)? == (0, false);
-    Ok(lists && days && places && has_position(keeper)?)
+    Ok(lists && taken_back && days && has_places(keeper, &oak)? && has_position(keeper)?)
 }

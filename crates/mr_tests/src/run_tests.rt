@@ -12,7 +12,7 @@ fn is_told(alloc: Global, script: &str, status: u8, printed: &str) -> bool {
 }
 
 /// Scripts with what they print; each is run to its end.
-static RUN: [(&str, &str); 17] = [
+static RUN: [(&str, &str); 20] = [
     // a booking on its sheet
     (
         "replica 1\nroom 1 oak\nbook 1 oak 60 1995-12-18 13:30 0 Budget Meeting\nsheet 1 oak 1995-12-18\n",
@@ -60,11 +60,23 @@ static RUN: [(&str, &str); 17] = [
         "ok\nrefused 1 BadDay\nrefused 2 BadTime\nrefused 3 BadLength\nrefused 4 BadRoomName\nrefused 5 BadTitle\n\
          refused 7 UnknownRoom\n",
     ),
-    // nine alternatives
+    // seventeen alternatives
     (
-        "replica 1\nroom 1 oak\nbook 1 oak 60 1995-12-18 08:00 9 1995-12-18 09:00 1995-12-18 10:00 1995-12-18 11:00 \
-         1995-12-18 12:00 1995-12-18 13:00 1995-12-18 14:00 1995-12-18 15:00 1995-12-18 16:00 1995-12-18 17:00 Full\n",
+        "replica 1\nroom 1 oak\nbook 1 oak 60 1995-12-18 05:00 17 1995-12-18 06:00 1995-12-18 07:00 1995-12-18 08:00 \
+         1995-12-18 09:00 1995-12-18 10:00 1995-12-18 11:00 1995-12-18 12:00 1995-12-18 13:00 1995-12-18 14:00 \
+         1995-12-18 15:00 1995-12-18 16:00 1995-12-18 17:00 1995-12-18 18:00 1995-12-18 19:00 1995-12-18 20:00 \
+         1995-12-18 21:00 1995-12-18 22:00 Full\n",
         "ok\nok\nrefused 6 TooManyAlternatives\n",
+    ),
+    // sixteen, of which the last is free, and which the exchange text can't say
+    (
+        "replica 1\nreplica 2\nroom 1 oak\nbook 1 oak 1080 1995-12-18 05:00 0 Long\n\
+         book 1 oak 60 1995-12-18 05:00 16 1995-12-18 06:00 1995-12-18 07:00 1995-12-18 08:00 1995-12-18 09:00 \
+         1995-12-18 10:00 1995-12-18 11:00 1995-12-18 12:00 1995-12-18 13:00 1995-12-18 14:00 1995-12-18 15:00 \
+         1995-12-18 16:00 1995-12-18 17:00 1995-12-18 18:00 1995-12-18 19:00 1995-12-18 20:00 1995-12-18 23:00 Last\n\
+         batch 1 2 1\nbatch 1 2 2\n",
+        "ok\nok\nok\n1-1 T 1995-12-18 05:00-23:00\n1-2 T 1995-12-18 23:00-24:00\nbatch 1 51 bytes\n\
+         refused 27 NeedsVersion2\n",
     ),
     // equal times, decided by the server
     (
@@ -105,13 +117,33 @@ static RUN: [(&str, &str); 17] = [
          errors 1 oak\n",
         "ok\nok\n1-1 T 1995-12-18 00:00-24:00\n1-2 T logged\noak errors\nT 1-2 1995-12-18 08:00-09:00 Full\n",
     ),
-    // nine alternatives where none is free
+    // nine alternatives, none of them free
     (
         "replica 1\nroom 1 oak\nbook 1 oak 1440 1995-12-18 00:00 0 Closed\n\
          book 1 oak 60 1995-12-18 08:00 9 1995-12-18 09:00 1995-12-18 10:00 1995-12-18 11:00 \
          1995-12-18 12:00 1995-12-18 13:00 1995-12-18 14:00 1995-12-18 15:00 1995-12-18 16:00 1995-12-18 17:00 Full\n\
          errors 1 oak\n",
-        "ok\nok\n1-1 T 1995-12-18 00:00-24:00\nrefused 6 TooManyAlternatives\noak errors\n(no errors)\n",
+        "ok\nok\n1-1 T 1995-12-18 00:00-24:00\n1-2 T logged\noak errors\nT 1-2 1995-12-18 08:00-09:00 Full\n",
+    ),
+    // a committed booking is taken back, and its slot is booked again
+    (
+        "replica 1\nreplica 2\nroom 1 oak\nbook 1 oak 60 1995-12-18 09:00 0 Alpha\n\
+         book 1 oak 60 1995-12-18 09:00 1 1995-12-18 10:00 Beta\ncommit 1 1\ncancel 1 oak 1-1\n\
+         book 1 oak 60 1995-12-18 09:00 0 Gamma\nsheet 1 oak 1995-12-18\ncalendar 1 oak committed\n\
+         outcome 1 oak 1-1\ncancel 1 oak 1-1\nerrors 1 oak\ncancel 1 oak 1-3\nbatch 1 2 10\n",
+        "ok\nok\nok\n1-1 T 1995-12-18 09:00-10:00\n1-2 T 1995-12-18 10:00-11:00\ncommitted 1\n\
+         1-3 T cancels 1-1\n1-4 T 1995-12-18 09:00-10:00\noak 1995-12-18 Monday\n09:00-10:00 T 1-4 Gamma\n\
+         10:00-11:00 T 1-2 Beta\noak committed\n1995-12-18 09:00-10:00 C 1-1 Alpha\n1-1 C cancelled T 1-3\n\
+         1-5 T void 1-1\noak errors\nT 1-5 cancel 1-1\nrefused 9 NoSuchRequest\nrefused 27 NeedsVersion2\n",
+    ),
+    // an earlier meeting takes the slot of a booking that was taken back, and the cancel is void
+    (
+        "replica 1\nreplica 2\nroom 1 oak\nroom 2 oak\nbook 2 oak 60 1995-12-18 09:00 0 Alpha\ncancel 2 oak 2-1\n\
+         book 1 oak 60 1995-12-18 09:30 0 Xray\nbatch 1 2 10\ndeliver 1 2 all\nsheet 2 oak 1995-12-18\n\
+         errors 2 oak\n",
+        "ok\nok\nok\nok\n2-1 T 1995-12-18 09:00-10:00\n2-2 T cancels 2-1\n1-1 T 1995-12-18 09:30-10:30\n\
+         batch 1 49 bytes\ntook 1 writes 0 commits\noak 1995-12-18 Monday\n09:30-10:30 T 1-1 Xray\noak errors\n\
+         T 2-1 1995-12-18 09:00-10:00 Alpha\nT 2-2 cancel 2-1\n",
     ),
     // committed writes are dropped, and a replica that lacks them turns to the primary
     (
@@ -174,7 +206,7 @@ fn scripts_are_run(rt: HostRuntime) {
 }
 
 /// Lines that are not of the table.
-static BAD: [&str; 81] = [
+static BAD: [&str; 88] = [
     "replica",
     "replica ",
     "replica 0",
@@ -220,6 +252,13 @@ static BAD: [&str; 81] = [
     "book 1 oak 60 1995-12-18 13:30 0 Bri\u{e9}f",
     "book 1 oak 60 1995-12-18 13:30 0 Brief\r",
     "book 1  60 1995-12-18 13:30 0 Brief",
+    "cancel",
+    "cancel oak 1-1",
+    "cancel 1 oak",
+    "cancel 1 oak ",
+    "cancel 1  1-1",
+    "cancel 1 oak 1-1 1-2",
+    "cancel 100 oak 1-1",
     "calendar 1 oak",
     "calendar 1 full",
     "calendar 1 oak Full",

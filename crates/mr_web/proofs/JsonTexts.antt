@@ -81,6 +81,45 @@ booked_text day id mark start stop d i m s e =
     ∙ (λ j. model.object (model.member (codes "day") (p j) ∷ model.member (codes "id") (q j) ∷ model.member (codes "mark") (r j)
     ∷ model.member (codes "start") (t j) ∷ model.member (codes "state") (state j) ∷ model.member (codes "stop") (u j) ∷ []))
 
+pub cancelled_text : (by by_mark id mark : Text) → IsPlain by → IsPlain by_mark → IsPlain id → IsPlain mark
+    → compact_text (
+    object (
+    member (codes "by") (string by) (member (codes "bymark") (string by_mark) (member (codes "id") (string id) (member (codes "mark") (string mark)
+    (member (codes "state") (string (codes "cancelled")) no_members))))))
+    ≡ model.object (model.member (codes "by") (model.quoted by) ∷ model.member (codes "bymark") (model.quoted by_mark)
+    ∷ model.member (codes "id") (model.quoted id) ∷ model.member (codes "mark") (model.quoted mark)
+    ∷ model.member (codes "state") (model.quoted (codes "cancelled")) ∷ [])
+cancelled_text by by_mark id mark b d i m =
+    let state = quoted_plain (codes "cancelled") refl in
+    let p = quoted_plain by b in
+    let q = quoted_plain by_mark d in
+    let r = quoted_plain id i in
+    let t = quoted_plain mark m in
+    object_shown (codes "by") (string by)
+    (member (codes "bymark") (string by_mark) (member (codes "id") (string id) (member (codes "mark") (string mark)
+    (member (codes "state") (string (codes "cancelled")) no_members))))
+    (refl, (refl, (refl, (refl, (refl, tt)))))
+    ∙ (λ j. model.object (model.member (codes "by") (p j) ∷ model.member (codes "bymark") (q j) ∷ model.member (codes "id") (r j)
+    ∷ model.member (codes "mark") (t j) ∷ model.member (codes "state") (state j) ∷ []))
+
+pub cancel_text : (id mark state target : Text) → IsPlain id → IsPlain mark → IsPlain state → IsPlain target
+    → compact_text (
+    object (
+    member (codes "id") (string id) (member (codes "mark") (string mark) (member (codes "state") (string state)
+    (member (codes "target") (string target) no_members)))))
+    ≡ model.object (model.member (codes "id") (model.quoted id) ∷ model.member (codes "mark") (model.quoted mark)
+    ∷ model.member (codes "state") (model.quoted state) ∷ model.member (codes "target") (model.quoted target) ∷ [])
+cancel_text id mark state target i m s t =
+    let p = quoted_plain id i in
+    let q = quoted_plain mark m in
+    let r = quoted_plain state s in
+    let u = quoted_plain target t in
+    object_shown (codes "id") (string id)
+    (member (codes "mark") (string mark) (member (codes "state") (string state) (member (codes "target") (string target) no_members)))
+    (refl, (refl, (refl, (refl, tt))))
+    ∙ (λ j. model.object (model.member (codes "id") (p j) ∷ model.member (codes "mark") (q j) ∷ model.member (codes "state") (r j)
+    ∷ model.member (codes "target") (u j) ∷ []))
+
 pub refusal_text : (name : Text) (n : ℕ) → IsPlain name
     → compact_text (object (member (codes "name") (string name) (member (codes "refusal") (number (unsigned n)) no_members)))
     ≡ model.object (model.member (codes "name") (model.quoted name) ∷ model.member (codes "refusal") (decimal n) ∷ [])

@@ -8,7 +8,7 @@ use Rattle.json.specs.Print.{escape, escape_byte}
 use Rattle.mr_model.specs.Texts.{Text, two_digits, four_digits}
 use Rattle.mr_model.specs.Calendar.{Date, is_date, date_text, time_text}
 use Rattle.mr_model.specs.Writes.{Id, id_text, is_id, is_server, is_count}
-use Rattle.mr_model.specs.Refusals.{Refusal, name_of, BadDay, BadTime, BadLength, BadRoomName, BadTitle, TooManyAlternatives, UnknownRoom, RoomThere, NoSuchRequest, NotPrimary, PrimaryKeepsAll, BeyondCommitted, ClockExhausted, CountExhausted, BadLine, WrongPrimary, Gap, OutOfOrder, Forged, OwnWrite, PrimaryOnly, Truncated, BadPosition, OutOfMemory, Store, NotAReplica}
+use Rattle.mr_model.specs.Refusals.{Refusal, name_of, BadDay, BadTime, BadLength, BadRoomName, BadTitle, TooManyAlternatives, UnknownRoom, RoomThere, NoSuchRequest, NotPrimary, PrimaryKeepsAll, BeyondCommitted, ClockExhausted, CountExhausted, BadLine, WrongPrimary, Gap, OutOfOrder, Forged, OwnWrite, PrimaryOnly, Truncated, BadPosition, OutOfMemory, Store, NotAReplica, NeedsVersion2}
 use Rattle.mr_model.proofs.WordsReadBack.{date_facts}
 use Rattle.mr_web.specs.Plain.{is_plain_byte, is_plain_text, IsPlain}
 
@@ -113,3 +113,4 @@ plain_name BadPosition = refl
 plain_name OutOfMemory = refl
 plain_name Store = refl
 plain_name NotAReplica = refl
+plain_name NeedsVersion2 = refl

@@ -1,7 +1,7 @@
 ghost use Rattle.std.specs.Prelude.{◌≡◌, [], ◌∷◌, codes, decimal, IfOk, string_bytes};
 ghost use Rattle.mr_base.specs.Refusals.{refusal_of};
 ghost use Rattle.mr_model.specs.Http as model;
-ghost use Rattle.mr_model.specs.Replies.{mark, NotBooked};
+ghost use Rattle.mr_model.specs.Replies.{mark, NotBooked, Cancelled};
 ghost use Rattle.mr_service.specs.Asked.{outcome_of};
 ghost use Rattle.mr_model.specs.Refusals.{name_of};
 ghost use Rattle.mr_model.specs.Calendar.{date_text, time_text as text_of_time};
@@ -85,6 +85,79 @@ fn booked_text(
     value.to_string(alloc)
 }
 
+fn cancelled_value(
+    alloc: Global,
+    by: &str,
+    by_mark: &str,
+    id: &str,
+    mark: &str,
+) -> Result<Value, AllocError>
+    ensures { IfOk result (λ v. view v ≡ object (
+        member (codes "by") (string by.now) (member (codes "bymark") (string by_mark.now) (member (codes "id") (string id.now)
+        (member (codes "mark") (string mark.now) (member (codes "state") (string (codes "cancelled")) no_members)))))) }
+{
+    json!(in alloc; {
+        "by": by,
+        "bymark": by_mark,
+        "id": id,
+        "mark": mark,
+        "state": "cancelled",
+    })
+}
+
+fn cancelled_text(
+    alloc: Global,
+    by: &str,
+    by_mark: &str,
+    id: &str,
+    mark: &str,
+) -> Result<String, AllocError>
+    requires by { IsPlain by.now }
+    requires by_mark { IsPlain by_mark.now }
+    requires id { IsPlain id.now }
+    requires mark { IsPlain mark.now }
+    ensures { IfOk result (λ s. string_bytes s ≡ model.object (
+        model.member (codes "by") (model.quoted by.now) ∷ model.member (codes "bymark") (model.quoted by_mark.now)
+        ∷ model.member (codes "id") (model.quoted id.now) ∷ model.member (codes "mark") (model.quoted mark.now)
+        ∷ model.member (codes "state") (model.quoted (codes "cancelled")) ∷ [])) }
+{
+    let value = cancelled_value(alloc, by, by_mark, id, mark)?;
+    value.to_string(alloc)
+}
+
+fn cancel_value(
+    alloc: Global,
+    id: &str,
+    mark: &str,
+    state: &str,
+    target: &str,
+) -> Result<Value, AllocError>
+    ensures { IfOk result (λ v. view v ≡ object (
+        member (codes "id") (string id.now) (member (codes "mark") (string mark.now)
+        (member (codes "state") (string state.now) (member (codes "target") (string target.now) no_members))))) }
+{
+    json!(in alloc; {"id": id, "mark": mark, "state": state, "target": target})
+}
+
+fn cancel_text(
+    alloc: Global,
+    id: &str,
+    mark: &str,
+    state: &str,
+    target: &str,
+) -> Result<String, AllocError>
+    requires id { IsPlain id.now }
+    requires mark { IsPlain mark.now }
+    requires state { IsPlain state.now }
+    requires target { IsPlain target.now }
+    ensures { IfOk result (λ s. string_bytes s ≡ model.object (
+        model.member (codes "id") (model.quoted id.now) ∷ model.member (codes "mark") (model.quoted mark.now)
+        ∷ model.member (codes "state") (model.quoted state.now) ∷ model.member (codes "target") (model.quoted target.now) ∷ [])) }
+{
+    let value = cancel_value(alloc, id, mark, state, target)?;
+    value.to_string(alloc)
+}
+
 fn day_text(alloc: Global, day: Day) -> Result<String, AllocError>
     ensures text { IfOk result (λ s. string_bytes s ≡ date_text day) }
     ensures plain { IfOk result (λ s. IsPlain (string_bytes s)) }
@@ -135,13 +208,62 @@ fn booked_json(alloc: Global, booking: &Booking) -> Result<String, AllocError>
     )
 }
 
-/// The JSON that tells what became of a request.
+fn cancelled_json(
+    alloc: Global,
+    id: WriteId,
+    is_committed: bool,
+    by: WriteId,
+    by_committed: bool,
+) -> Result<String, AllocError>
+    ensures { IfOk result (λ s. string_bytes s ≡ model.outcome_json (Cancelled id is_committed by_committed by)) }
+{
+    let by = id_text(alloc, by)?;
+    let by_mark = mark_text(by_committed);
+    let id = id_text(alloc, id)?;
+    let mark = mark_text(is_committed);
+    cancelled_text(alloc, by.as_str(), by_mark, id.as_str(), mark)
+}
+
+/// The JSON of a cancel with this state.
+fn cancel_json(
+    alloc: Global,
+    id: WriteId,
+    is_committed: bool,
+    state: &str,
+    target: WriteId,
+) -> Result<String, AllocError>
+    requires { IsPlain state.now }
+    ensures { IfOk result (λ s. string_bytes s ≡ model.cancel_json state.now id is_committed target) }
+{
+    let id = id_text(alloc, id)?;
+    let mark = mark_text(is_committed);
+    let target = id_text(alloc, target)?;
+    cancel_text(alloc, id.as_str(), mark, state, target.as_str())
+}
+
+/// The JSON that tells what became of a request or a cancel.
 pub(crate) fn outcome_json(alloc: Global, outcome: &Outcome) -> Result<String, AllocError>
     ensures { IfOk result (λ s. string_bytes s ≡ model.outcome_json (outcome_of outcome.now)) }
 {
     match outcome {
         Outcome::Booked(booking) => booked_json(alloc, booking),
         Outcome::Logged { id, is_committed } => logged_json(alloc, *id, *is_committed),
+        Outcome::Cancelled {
+            id,
+            is_committed,
+            by,
+            by_committed,
+        } => cancelled_json(alloc, *id, *is_committed, *by, *by_committed),
+        Outcome::Cancels {
+            id,
+            is_committed,
+            target,
+        } => cancel_json(alloc, *id, *is_committed, "cancels", *target),
+        Outcome::Void {
+            id,
+            is_committed,
+            target,
+        } => cancel_json(alloc, *id, *is_committed, "void", *target),
     }
 }
 

@@ -108,7 +108,7 @@ fn pulls_and_pushes(rt: HostRuntime) -> Result<(), Fail> {
 }
 
 // What this replica answers where it is to push to a peer at that position.
-fn pushed_to(
+pub(crate) fn pushed_to(
     alloc: Global,
     service: &mut Service<ListKeeper>,
     told: &[u8],

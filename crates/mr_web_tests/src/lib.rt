@@ -5,6 +5,8 @@
 #[cfg(test)]
 mod asking_tests;
 #[cfg(test)]
+mod cancel_tests;
+#[cfg(test)]
 mod connections;
 #[cfg(test)]
 mod head_tests;

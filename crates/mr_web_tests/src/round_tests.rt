@@ -36,7 +36,7 @@ fn replied(
     Ok(writer)
 }
 
-fn pull_from(
+pub(crate) fn pull_from(
     alloc: Global,
     client: &mut Service<ListKeeper>,
     server: &mut Service<ListKeeper>,

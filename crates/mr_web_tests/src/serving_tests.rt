@@ -12,7 +12,7 @@ use std::process::Abort;
 use std::test::Fail;
 
 // A submission, and requests that change nothing.
-const FIRST: [(&str, u16, &str); 7] = [
+pub(crate) const FIRST: [(&str, u16, &str); 7] = [
     (
         "POST /submit HTTP/1.1\r\nContent-Length: 86\r\n\r\n{\"day\":\"1995-12-18\",\"length\":60,\"room\":\"oak\",\"start\":\"13:30\",\"title\":\"Budget Meeting\"}",
         200,
@@ -202,7 +202,7 @@ pub(crate) fn opening(alloc: Global) -> Result<Service<ListKeeper>, Fail> {
 }
 
 // The request is answered by this status and these bytes.
-fn check<K: Keeper>(
+pub(crate) fn check<K: Keeper>(
     rt: &impl Abort,
     alloc: Global,
     service: &mut Service<K>,
@@ -219,7 +219,7 @@ fn check<K: Keeper>(
     Ok(())
 }
 
-fn check_all<K: Keeper>(
+pub(crate) fn check_all<K: Keeper>(
     rt: &impl Abort,
     alloc: Global,
     service: &mut Service<K>,

@@ -2,7 +2,7 @@ use mr_base::{Day, RoomName, WriteId};
 use mr_part::{Part, Scope};
 use mr_replica::Desk;
 use mr_store::{Fault, Keeper, ListKeeper, PlaceRow};
-use mr_tables::{BookingRow, Change, ErrorRow, Tables};
+use mr_tables::{BookingRow, CancelRow, CancelledRow, Change, ErrorRow, Tables};
 
 /// A keeper over lists that loads no desk: to ask for one is answered as a failure of the store. It passes on all other calls.
 #[derive(Drop)]
@@ -59,6 +59,14 @@ impl Keeper for WithoutDesk {
 
     fn errors(&mut self, room: &RoomName) -> Result<Vec<ErrorRow>, Fault> {
         self.lists.errors(room)
+    }
+
+    fn cancelled(&mut self, room: &RoomName) -> Result<Vec<CancelledRow>, Fault> {
+        self.lists.cancelled(room)
+    }
+
+    fn cancels(&mut self, room: &RoomName) -> Result<Vec<CancelRow>, Fault> {
+        self.lists.cancels(room)
     }
 
     fn read(&mut self) -> Result<Tables, Fault> {

@@ -1,6 +1,6 @@
 -- Each line of a batch and of a position is ASCII, and so it is text.
-use Rattle.std.proofs.Common.{◌≡◌, refl, sym, subst, ℕ, ◌+◌, ◌-◌, ◌/◌, ◌%◌, ◌^◌, ◌<◌, ◌≤◌, Bool, true, not, ◌||◌, eqb, leb, List, [], ◌∷◌, length, ◌⊎◌, inl, inr, Option, Some, None, arith, lit<, leb-true, eqb-true}
-use Rattle.std.proofs.lemmas.Bool.{and_parts, or_cases}
+use Rattle.std.proofs.Common.{◌≡◌, refl, sym, subst, ℕ, ◌+◌, ◌-◌, ◌/◌, ◌%◌, ◌^◌, ◌<◌, ◌≤◌, Bool, true, false, not, ◌||◌, eqb, leb, List, [], ◌∷◌, length, ◌⊎◌, inl, inr, Option, Some, None, arith, lit<, leb-true, eqb-true}
+use Rattle.std.proofs.lemmas.Bool.{true≢false, and_parts, or_cases}
 use Rattle.std.proofs.lemmas.Fmt.{decimal_by_steps}
 use Rattle.std.proofs.lemmas.Str.{IsUtf8-from_ascii}
 use Rattle.std.proofs.lemmas.Str.Ascii.{IsAscii-nil, IsAscii-cons}
@@ -11,10 +11,10 @@ use Rattle.std.specs.List.{AllByRecursion, list_all}
 use Rattle.mr_model.specs.Texts.{Text, words, within, two_digits}
 use Rattle.mr_model.specs.Calendar.{Date, is_date, date_text, time_text}
 use Rattle.mr_model.specs.Slots.{Slot, is_slot, slot_words}
-use Rattle.mr_model.specs.Writes.{Write, is_write, is_id, is_server, is_count, is_commit_number, is_room_byte, is_room_name, is_title, choices, greatest_count, greatest_time}
+use Rattle.mr_model.specs.Writes.{Stamp, Meeting, Action, Books, Cancels, is_write, is_id, is_server, is_count, is_commit_number, is_room_byte, is_room_name, is_title, choices_of, greatest_count, greatest_time}
 use Rattle.mr_model.specs.Exchange.{Header, Item, W, C, BodyLine, ItemLine, LastLine, Complete, More, Cut, is_header, is_item, header_line, write_words, write_line, item_line, read_header, read_body_line}
 use Rattle.mr_model.proofs.WordsReadBack.{all_append, date_facts}
-use Rattle.mr_model.proofs.LinesReadBack.{within-high, small, write_facts, slots_all}
+use Rattle.mr_model.proofs.LinesReadBack.{within-high, small, booking, write_facts, slots_all}
 use Rattle.mr_model.proofs.BatchesReadBack.{own_text, IsLineOf, body_line_of}
 
 abbrev pub Low : Text → Type 0
@@ -88,30 +88,30 @@ slots_low : (ss : List Slot) → AllByRecursion (λ s. is_slot s ≡ true) ss �
 slots_low [] h = tt
 slots_low (s ∷ ss) h = let p = slot_low s h.0 in (p.0, (p.1, slots_low ss h.1))
 
-write_low : (w : Write) → is_write w ≡ true → Low (write_line w)
-write_low w ok =
-    let f = write_facts w ok in
-    let all : AllByRecursion (λ s. is_slot s ≡ true) (choices w) = slots_all w.length (choices w) f.slots in
-    let wish = slot_low w.wish all.0 in
-    words_low (write_words w) (
+booking_low : (stamp : Stamp) (room : Text) (m : Meeting) → is_item (W (booking stamp room m)) ≡ true → Low (write_line (booking stamp room m))
+booking_low stamp room m ok =
+    let f = write_facts stamp room m ok in
+    let all : AllByRecursion (λ s. is_slot s ≡ true) (choices_of m) = slots_all m.length (choices_of m) f.slots in
+    let wish = slot_low m.wish all.0 in
+    words_low (write_words (booking stamp room m)) (
       (lit< tt, tt),
       (
-        number_low w.stamp.server 99 f.server (lit< tt),
+        number_low stamp.server 99 f.server (lit< tt),
         (
-          number_low w.stamp.n greatest_count f.n (lit< tt),
+          number_low stamp.n greatest_count f.n (lit< tt),
           (
-            number_low w.stamp.time greatest_time f.time (lit< tt),
+            number_low stamp.time greatest_time f.time (lit< tt),
             (
-              room_low w.room f.room,
+              room_low room f.name,
               (
-                number_low w.length 1440 f.long (lit< tt),
+                number_low m.length 1440 f.long (lit< tt),
                 (
                   wish.0,
                   (
                     wish.1,
                     (
-                      number_low (length w.alternatives) 8 f.few (lit< tt),
-                      all_append Low (flat_map slot_words w.alternatives) (w.title ∷ []) (slots_low w.alternatives all.1) (title_low w.title f.title, tt),
+                      number_low (length m.alternatives) 8 f.few (lit< tt),
+                      all_append Low (flat_map slot_words m.alternatives) (m.title ∷ []) (slots_low m.alternatives all.1) (title_low m.title f.title, tt),
                     ),
                   ),
                 ),
@@ -122,8 +122,12 @@ write_low w ok =
       ),
     )
 
+write_low : (stamp : Stamp) (room : Text) (a : Action) → is_item (W (record { stamp = stamp; room = room; action = a })) ≡ true → Low (write_line (record { stamp = stamp; room = room; action = a }))
+write_low stamp room (Books m) ok = booking_low stamp room m ok
+write_low stamp room (Cancels t) ok = absurd (true≢false (sym (and_parts (is_write (record { stamp = stamp; room = room; action = Cancels t })) false ok).1))
+
 item_low : (x : Item) → is_item x ≡ true → Low (item_line x)
-item_low (W w) ok = write_low w ok
+item_low (W w) ok = write_low w.stamp w.room w.action ok
 item_low (C q id) ok =
     let a = and_parts (is_commit_number q) (is_id id) ok in
     let b = and_parts (is_server id.server) (is_count id.n) a.1 in

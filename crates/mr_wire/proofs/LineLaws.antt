@@ -1,6 +1,6 @@
 -- A line is read as the fields on it exactly where it is their line.
 use Rattle.std.proofs.Common.{◌≡◌, refl, sym, ap, ◌∙◌, subst, ℕ, ◌^◌, ◌<◌, ◌≤◌, Bool, true, false, not, cond, ◌&&◌, leb, ltb, List, [], ◌∷◌, ◌++◌, length, arith, Option, Some, None, Ok, Err, lit<, lit≤, le-leb, leb-true}
-use Rattle.std.proofs.lemmas.Bool.{and_parts, and_from, le-ltb}
+use Rattle.std.proofs.lemmas.Bool.{true≢false, and_parts, and_from, le-ltb}
 use Rattle.std.proofs.lemmas.Option.{same_Some}
 use Rattle.std.proofs.lemmas.Slice.Eq.{bytes_eq-Decides}
 use Rattle.std.specs.Prelude.{flat_map, codes}
@@ -10,11 +10,11 @@ use Rattle.std.specs.List.{AllByRecursion, list_all}
 use Rattle.mr_model.specs.Texts.{Text, within, only_if, words}
 use Rattle.mr_model.specs.Calendar.{date_text, time_text}
 use Rattle.mr_model.specs.Slots.{Slot, is_slot, slot_words}
-use Rattle.mr_model.specs.Writes.{Id, Stamp, Write, is_write, is_stamp, is_server, is_count, is_id, is_commit_number, is_room_name, is_title, is_length, fits_day, choices, greatest_alternatives}
+use Rattle.mr_model.specs.Writes.{Id, Stamp, Meeting, Action, Books, Cancels, Write, is_write, is_meeting, is_stamp, is_server, is_count, is_id, is_commit_number, is_room_name, is_title, is_length, fits_day, choices_of, greatest_alternatives}
 use Rattle.mr_model.specs.Requests.{is_length_for}
-use Rattle.mr_model.specs.Exchange.{Header, Item, W, C, BodyLine, ItemLine, LastLine, Complete, More, Cut, is_header, is_item, header_line, write_line, item_line, read_header, read_body_line}
+use Rattle.mr_model.specs.Exchange.{Header, Item, W, C, BodyLine, ItemLine, LastLine, Complete, More, Cut, is_header, greatest_alternatives_told, is_item, header_line, write_line, item_line, read_header, read_body_line}
 use Rattle.mr_model.proofs.WordsReadBack.{Plain}
-use Rattle.mr_model.proofs.LinesReadBack.{words-cons, slots_all, room_plain}
+use Rattle.mr_model.proofs.LinesReadBack.{words-cons, booking, slots_all, room_plain}
 use Rattle.mr_model.proofs.BatchesReadBack.{only_if_some, own_text, IsLineOf, body_line_of, read-item_line, read-header_line}
 use Rattle.mr_base.specs.declared.refusals.Refusal.{Refusal}
 use Rattle.mr_base.specs.declared.refusals.Refusal.TheVariants.{BadLength, TooManyAlternatives}
@@ -78,37 +78,39 @@ choices_again wish others title ok all few =
     ∙ ap (λ o. o >>= λ (k : ℕ × Text). slots_off k.0 k.1 >>= λ s. Some ((wish, s.0), s.1)) (number_off_again 0 8 (length others) tail within8 (lit< tt))
     ∙ ap (λ o. o >>= λ (s : List Slot × Text). Some ((wish, s.0), s.1)) (slots_off_again others title all)
 
--- what stands behind the W
-unfoldable pub write_rest : Write → Text
-write_rest w =
-    decimal w.stamp.server ++ 32 ∷ (decimal w.stamp.n ++ 32 ∷ (decimal w.stamp.time ++ 32 ∷ (w.room ++ 32 ∷ (decimal w.length ++ 32 ∷ choices_rest w.wish w.alternatives w.title))))
+-- what stands behind the W of a booking
+unfoldable pub write_rest : Stamp → Text → Meeting → Text
+write_rest stamp room m =
+    decimal stamp.server ++ 32 ∷ (decimal stamp.n ++ 32 ∷ (decimal stamp.time ++ 32 ∷ (room ++ 32 ∷ (decimal m.length ++ 32 ∷ choices_rest m.wish m.alternatives m.title))))
 
-pub write_line_is : (w : Write) → write_line w ≡ 87 ∷ 32 ∷ write_rest w
+pub write_line_is : (stamp : Stamp) (room : Text) (m : Meeting) → write_line (booking stamp room m) ≡ 87 ∷ 32 ∷ write_rest stamp room m
 unfolding write_rest choices_rest
-write_line_is w = ap (λ (t : Text). 87 ∷ 32 ∷ (
-    decimal w.stamp.server ++ 32 ∷ (decimal w.stamp.n ++ 32 ∷ (decimal w.stamp.time ++ 32 ∷ (w.room ++ 32 ∷ (decimal w.length ++ 32 ∷ (
-    date_text w.wish.day ++ 32 ∷ (time_text w.wish.start ++ 32 ∷ t))))))))
-    (words-cons (decimal (length w.alternatives)) (flat_map slot_words w.alternatives) w.title)
+write_line_is stamp room m = ap (λ (t : Text). 87 ∷ 32 ∷ (
+    decimal stamp.server ++ 32 ∷ (decimal stamp.n ++ 32 ∷ (decimal stamp.time ++ 32 ∷ (room ++ 32 ∷ (decimal m.length ++ 32 ∷ (
+    date_text m.wish.day ++ 32 ∷ (time_text m.wish.start ++ 32 ∷ t))))))))
+    (words-cons (decimal (length m.alternatives)) (flat_map slot_words m.alternatives) m.title)
 
+-- the text is what stands behind the W of the write's line
 record IsWriteOf (text : Text) (w : Write) : Type 0 where
-  ok : is_write w ≡ true
-  is : text ≡ write_rest w
+  ok : is_item (W w) ≡ true
+  is : 87 ∷ 32 ∷ text ≡ write_line w
 
-write_ok : (w : Write) → is_stamp w.stamp ≡ true → is_room_name w.room ≡ true → is_title w.title ≡ true → is_length_for w.length (w.wish ∷ w.alternatives) ≡ true → length w.alternatives ≤ 8 → is_write w ≡ true
-write_ok w s r t f few =
-    let fits = and_parts (is_length w.length) (list_all (λ c. is_slot c && fits_day w.length c) (choices w)) f in
-    and_from (is_stamp w.stamp && is_room_name w.room && is_title w.title && is_length w.length && leb (length w.alternatives) greatest_alternatives) (list_all (λ c. is_slot c && fits_day w.length c) (choices w))
-    (and_from (is_stamp w.stamp && is_room_name w.room && is_title w.title && is_length w.length) (leb (length w.alternatives) greatest_alternatives)
-    (and_from (is_stamp w.stamp && is_room_name w.room && is_title w.title) (is_length w.length)
-    (and_from (is_stamp w.stamp && is_room_name w.room) (is_title w.title) (and_from (is_stamp w.stamp) (is_room_name w.room) s r) t)
-    fits.0)
-    (le-leb (length w.alternatives) 8 few))
-    fits.1
+write_ok : (stamp : Stamp) (room : Text) (m : Meeting) → is_stamp stamp ≡ true → is_room_name room ≡ true → is_title m.title ≡ true → is_length_for m.length (choices_of m) ≡ true → length m.alternatives ≤ 8 → is_item (W (booking stamp room m)) ≡ true
+write_ok stamp room m s r t f few =
+    let fits = and_parts (is_length m.length) (list_all (λ c. is_slot c && fits_day m.length c) (choices_of m)) f in
+    and_from (is_write (booking stamp room m)) (leb (length m.alternatives) greatest_alternatives_told)
+    (and_from (is_stamp stamp && is_room_name room) (is_meeting m) (and_from (is_stamp stamp) (is_room_name room) s r)
+    (and_from (is_title m.title && is_length m.length && leb (length m.alternatives) greatest_alternatives) (list_all (λ c. is_slot c && fits_day m.length c) (choices_of m))
+    (and_from (is_title m.title && is_length m.length) (leb (length m.alternatives) greatest_alternatives) (and_from (is_title m.title) (is_length m.length) t fits.0)
+    (le-leb (length m.alternatives) greatest_alternatives (omega (arith, few))))
+    fits.1))
+    (le-leb (length m.alternatives) greatest_alternatives_told few)
 
 write_made : (text : Text) (s : Stamp × Text) (r : Text × Text) (m : ℕ × Text) (c : (Slot × List Slot) × Text) (w : Write) → stamp_off text ≡ Some s → cut 32 s.1 ≡ Some r → number_off 1 1440 r.1 ≡ Some m → choices_off m.1 ≡ Some c → write_with s.0 r.0 m.0 c.0.0 c.0.1 c.1 ≡ Some w → IsWriteOf text w
 unfolding write_with write_rest
 write_made text s r m c w es er em ec ew =
-    let made : Write = record { stamp = s.0; room = r.0; title = c.1; length = m.0; wish = c.0.0; alternatives = c.0.1 } in
+    let meeting : Meeting = record { title = c.1; length = m.0; wish = c.0.0; alternatives = c.0.1 } in
+    let made : Write = booking s.0 r.0 meeting in
     let few = not (ltb greatest_alternatives (length c.0.1)) in
     let ends = only_if_some (is_room_name r.0 && (is_title c.1 && (is_length_for m.0 (c.0.0 ∷ c.0.1) && few))) made w ew in
     let named = and_parts (is_room_name r.0) (is_title c.1 && (is_length_for m.0 (c.0.0 ∷ c.0.1) && few)) ends.0 in
@@ -117,10 +119,12 @@ write_made text s r m c w es er em ec ew =
     let ts = stamp_off_takes text s es in
     let tm = number_off_takes 1 1440 r.1 m em in
     let tc = choices_take m.1 c ec in
+    let is : text ≡ write_rest s.0 r.0 meeting =
+    ts.1 ∙ ap (λ (t : Text). decimal s.0.server ++ 32 ∷ (decimal s.0.n ++ 32 ∷ (decimal s.0.time ++ 32 ∷ t)))
+    (cut_takes 32 s.1 r.0 r.1 er ∙ ap (λ (t : Text). r.0 ++ 32 ∷ t) (tm.1 ∙ ap (λ (t : Text). decimal m.0 ++ 32 ∷ t) tc.is)) in
     subst (λ v. IsWriteOf text v) {x = made} ends.1 (record {
-      ok = write_ok made ts.0 named.0 titled.0 long.0 tc.few;
-      is = ts.1 ∙ ap (λ (t : Text). decimal s.0.server ++ 32 ∷ (decimal s.0.n ++ 32 ∷ (decimal s.0.time ++ 32 ∷ t)))
-          (cut_takes 32 s.1 r.0 r.1 er ∙ ap (λ (t : Text). r.0 ++ 32 ∷ t) (tm.1 ∙ ap (λ (t : Text). decimal m.0 ++ 32 ∷ t) tc.is));
+      ok = write_ok s.0 r.0 meeting ts.0 named.0 titled.0 long.0 tc.few;
+      is = ap (λ (t : Text). 87 ∷ 32 ∷ t) is ∙ sym (write_line_is s.0 r.0 meeting);
     })
 
 write_takes : (text : Text) (w : Write) → write_of text ≡ Some w → IsWriteOf text w
@@ -132,26 +136,28 @@ write_takes text w e =
     let c = bind_some (choices_off m.0.1) (λ c. write_with s.0.0 r.0.0 m.0.0 c.0.0 c.0.1 c.1) w m.2 in
     write_made text s.0 r.0 m.0 c.0 w s.1 r.1 m.1 c.1 c.2
 
-write_again : (w : Write) → is_write w ≡ true → write_of (write_rest w) ≡ Some w
+write_again : (stamp : Stamp) (room : Text) (m : Meeting) → is_item (W (booking stamp room m)) ≡ true → write_of (write_rest stamp room m) ≡ Some (booking stamp room m)
 unfolding write_of write_with write_rest
-write_again w ok =
-    let p = and_parts _ (list_all (λ s. is_slot s && fits_day w.length s) (choices w)) ok in
-    let q = and_parts _ (leb (length w.alternatives) greatest_alternatives) p.0 in
-    let r = and_parts _ (is_length w.length) q.0 in
-    let t = and_parts _ (is_title w.title) r.0 in
-    let n = and_parts (is_stamp w.stamp) (is_room_name w.room) t.0 in
-    let all : AllByRecursion (λ s. is_slot s ≡ true) (choices w) = slots_all w.length (choices w) p.1 in
-    let few : length w.alternatives ≤ 8 = leb-true (length w.alternatives) 8 q.1 in
-    let tail : Text = choices_rest w.wish w.alternatives w.title in
-    let middle : Text = decimal w.length ++ 32 ∷ tail in
-    let fits : is_length_for w.length (choices w) ≡ true = and_from (is_length w.length) (list_all (λ s. is_slot s && fits_day w.length s) (choices w)) r.1 p.1 in
-    ap (λ o. o >>= λ (s : Stamp × Text). cut 32 s.1 >>= λ room. number_off 1 1440 room.1 >>= λ minutes. choices_off minutes.1 >>= λ c. write_with s.0 room.0 minutes.0 c.0.0 c.0.1 c.1) (stamp_off_again w.stamp (w.room ++ 32 ∷ middle) n.0)
-    ∙ ap (λ o. o >>= λ (room : Text × Text). number_off 1 1440 room.1 >>= λ minutes. choices_off minutes.1 >>= λ c. write_with w.stamp room.0 minutes.0 c.0.0 c.0.1 c.1) (word_again w.room middle (room_plain w.room n.1))
-    ∙ ap (λ o. o >>= λ (minutes : ℕ × Text). choices_off minutes.1 >>= λ c. write_with w.stamp w.room minutes.0 c.0.0 c.0.1 c.1) (number_off_again 1 1440 w.length tail r.1 (lit< tt))
-    ∙ ap (λ o. o >>= λ (c : (Slot × List Slot) × Text). write_with w.stamp w.room w.length c.0.0 c.0.1 c.1) (choices_again w.wish w.alternatives w.title all.0 all.1 few)
-    ∙ ap (λ b. only_if b w) (and_from (is_room_name w.room) (is_title w.title && (is_length_for w.length (choices w) && not (ltb greatest_alternatives (length w.alternatives)))) n.1
-    (and_from (is_title w.title) (is_length_for w.length (choices w) && not (ltb greatest_alternatives (length w.alternatives))) t.1
-    (and_from (is_length_for w.length (choices w)) (not (ltb greatest_alternatives (length w.alternatives))) fits (ap not (le-ltb greatest_alternatives (length w.alternatives) few)))))
+write_again stamp room m ok =
+    let told = and_parts (is_write (booking stamp room m)) (leb (length m.alternatives) greatest_alternatives_told) ok in
+    let o = and_parts (is_stamp stamp && is_room_name room) (is_meeting m) told.0 in
+    let n = and_parts (is_stamp stamp) (is_room_name room) o.0 in
+    let p = and_parts _ (list_all (λ s. is_slot s && fits_day m.length s) (choices_of m)) o.1 in
+    let q = and_parts _ (leb (length m.alternatives) greatest_alternatives) p.0 in
+    let r = and_parts (is_title m.title) (is_length m.length) q.0 in
+    let all : AllByRecursion (λ s. is_slot s ≡ true) (choices_of m) = slots_all m.length (choices_of m) p.1 in
+    let few : length m.alternatives ≤ 8 = leb-true (length m.alternatives) 8 told.1 in
+    let many : length m.alternatives ≤ greatest_alternatives = leb-true (length m.alternatives) greatest_alternatives q.1 in
+    let tail : Text = choices_rest m.wish m.alternatives m.title in
+    let middle : Text = decimal m.length ++ 32 ∷ tail in
+    let fits : is_length_for m.length (choices_of m) ≡ true = and_from (is_length m.length) (list_all (λ s. is_slot s && fits_day m.length s) (choices_of m)) r.1 p.1 in
+    ap (λ o. o >>= λ (s : Stamp × Text). cut 32 s.1 >>= λ name. number_off 1 1440 name.1 >>= λ minutes. choices_off minutes.1 >>= λ c. write_with s.0 name.0 minutes.0 c.0.0 c.0.1 c.1) (stamp_off_again stamp (room ++ 32 ∷ middle) n.0)
+    ∙ ap (λ o. o >>= λ (name : Text × Text). number_off 1 1440 name.1 >>= λ minutes. choices_off minutes.1 >>= λ c. write_with stamp name.0 minutes.0 c.0.0 c.0.1 c.1) (word_again room middle (room_plain room n.1))
+    ∙ ap (λ o. o >>= λ (minutes : ℕ × Text). choices_off minutes.1 >>= λ c. write_with stamp room minutes.0 c.0.0 c.0.1 c.1) (number_off_again 1 1440 m.length tail r.1 (lit< tt))
+    ∙ ap (λ o. o >>= λ (c : (Slot × List Slot) × Text). write_with stamp room m.length c.0.0 c.0.1 c.1) (choices_again m.wish m.alternatives m.title all.0 all.1 few)
+    ∙ ap (λ b. only_if b (booking stamp room m)) (and_from (is_room_name room) (is_title m.title && (is_length_for m.length (choices_of m) && not (ltb greatest_alternatives (length m.alternatives)))) n.1
+    (and_from (is_title m.title) (is_length_for m.length (choices_of m) && not (ltb greatest_alternatives (length m.alternatives))) r.0
+    (and_from (is_length_for m.length (choices_of m)) (not (ltb greatest_alternatives (length m.alternatives))) fits (ap not (le-ltb greatest_alternatives (length m.alternatives) many)))))
 
 -- ---- lines of a word, a server and a number
 
@@ -240,12 +246,18 @@ header_is text =
 
 -- ---- lines below the header
 
+write_line_again : (stamp : Stamp) (room : Text) (a : Action) → is_item (W (record { stamp = stamp; room = room; action = a })) ≡ true
+    → line_of (write_line (record { stamp = stamp; room = room; action = a })) ≡ Some (ItemLine (W (record { stamp = stamp; room = room; action = a })))
+unfolding worded_line
+write_line_again stamp room (Books m) ok =
+    ap line_of (write_line_is stamp room m)
+    ∙ ap (line_by (87 ∷ 32 ∷ write_rest stamp room m)) (word_again (codes "W") (write_rest stamp room m) (lit≤ tt, tt))
+    ∙ ap (λ o. o >>= λ (v : Write). Some (ItemLine (W v))) (write_again stamp room m ok)
+write_line_again stamp room (Cancels t) ok = absurd (true≢false (sym (and_parts (is_write (record { stamp = stamp; room = room; action = Cancels t })) false ok).1))
+
 line_again : (x : Item) → is_item x ≡ true → line_of (item_line x) ≡ Some (ItemLine x)
 unfolding worded_line commit_rest
-line_again (W w) ok =
-    ap line_of (write_line_is w)
-    ∙ ap (line_by (87 ∷ 32 ∷ write_rest w)) (word_again (codes "W") (write_rest w) (lit≤ tt, tt))
-    ∙ ap (λ o. o >>= λ (v : Write). Some (ItemLine (W v))) (write_again w ok)
+line_again (W w) ok = write_line_again w.stamp w.room w.action ok
 line_again (C q id) ok =
     ap (line_by (item_line (C q id))) (word_again (codes "C") (commit_rest q id) (lit≤ tt, tt))
     ∙ ap (λ o. o >>= λ (c : Item). Some (ItemLine c)) (commit_again q id ok)
@@ -259,7 +271,7 @@ worded_takes text word rest x is = go (bytes_eq word (codes "W")) refl (bytes_eq
         let w = bind_some (write_of rest) (λ w. Some (ItemLine (W w))) x e in
         let t = write_takes rest w.0 w.1 in
         subst (λ y. IsLineOf text (Some y)) (same_Some (ItemLine (W w.0)) x w.2)
-        (t.ok, is ∙ ap (λ (v : Text). v ++ 32 ∷ rest) ((bytes_eq-Decides word (codes "W")).0 a) ∙ ap (λ (r : Text). 87 ∷ 32 ∷ r) t.is ∙ sym (write_line_is w.0))
+        (t.ok, is ∙ ap (λ (v : Text). v ++ 32 ∷ rest) ((bytes_eq-Decides word (codes "W")).0 a) ∙ t.is)
     go false a true eb e =
         let c = bind_some (commit_of rest) (λ c. Some (ItemLine c)) x e in
         let t = commit_takes rest c.0 c.1 in
@@ -319,13 +331,13 @@ refused false d v e f g h = refl
 all_four : (a b d : Bool) → a ≡ true → b ≡ true → d ≡ true → (a && (b && d)) ≡ true
 all_four a b d ha hb hd = and_from a (b && d) ha (and_from b d hb hd)
 
-pub made_write : (stamp : Stamp) (room title : Text) (m : ℕ) (wish : Slot) (others : List Slot) (r t : Text) (w : Write) → r ≡ room → t ≡ title → is_room_name room ≡ true → is_title title ≡ true → limited m wish others (record { stamp = stamp; room = r; title = t; length = m; wish = wish; alternatives = others }) ≡ Ok w
+pub made_write : (stamp : Stamp) (room title : Text) (m : ℕ) (wish : Slot) (others : List Slot) (r t : Text) (w : Write) → r ≡ room → t ≡ title → is_room_name room ≡ true → is_title title ≡ true → limited m wish others (record { stamp = stamp; room = r; action = Books (record { title = t; length = m; wish = wish; alternatives = others }) }) ≡ Ok w
     → write_with stamp room m wish others title ≡ Some w
 unfolding write_with
 made_write stamp room title m wish others r t w er et hr ht h =
-    let made : Write = record { stamp = stamp; room = r; title = t; length = m; wish = wish; alternatives = others } in
-    let asked : Write = record { stamp = stamp; room = room; title = title; length = m; wish = wish; alternatives = others } in
-    let same : asked ≡ made = (λ i. record { stamp = stamp; room = sym er i; title = sym et i; length = m; wish = wish; alternatives = others }) in
+    let made : Write = record { stamp = stamp; room = r; action = Books (record { title = t; length = m; wish = wish; alternatives = others }) } in
+    let asked : Write = record { stamp = stamp; room = room; action = Books (record { title = title; length = m; wish = wish; alternatives = others }) } in
+    let same : asked ≡ made = (λ i. record { stamp = stamp; room = sym er i; action = Books (record { title = sym et i; length = m; wish = wish; alternatives = others }) }) in
     let k = kept (is_length_for m (wish ∷ others)) (ltb greatest_alternatives (length others)) made w BadLength TooManyAlternatives h in
     ap (λ b. only_if b asked) (all_four (is_room_name room) (is_title title) (is_length_for m (wish ∷ others) && not (ltb greatest_alternatives (length others))) hr ht k.0) ∙ ap (λ (v : Write). Some v) (same ∙ k.1)
 
@@ -333,7 +345,7 @@ pub no_write : (stamp : Stamp) (room title : Text) (m : ℕ) (wish : Slot) (othe
 unfolding write_with
 no_write stamp room title m wish others v g h =
     let k = refused (is_length_for m (wish ∷ others)) (ltb greatest_alternatives (length others)) v BadLength TooManyAlternatives g h in
-    let made : Write = record { stamp = stamp; room = room; title = title; length = m; wish = wish; alternatives = others } in
+    let made : Write = record { stamp = stamp; room = room; action = Books (record { title = title; length = m; wish = wish; alternatives = others }) } in
     ap (λ b. only_if (is_room_name room && (is_title title && b)) made) k ∙ none (is_room_name room) (is_title title) made
   where
     none : (a b : Bool) (x : Write) → only_if (a && (b && false)) x ≡ None

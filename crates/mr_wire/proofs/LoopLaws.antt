@@ -1,12 +1,15 @@
 -- What is read one after the other, as a loop does.
 use Rattle.std.proofs.Common.{◌≡◌, refl, sym, ap, ◌∙◌, ℕ, suc, ◌+◌, ◌-◌, ◌<◌, ◌≤◌, Bool, true, false, cond, eqb, List, [], ◌∷◌, ◌++◌, append_assoc, arith, Option, Some, None, Result, Ok, Err, ◌⊎◌, inl, inr}
+use Rattle.std.proofs.lemmas.Bool.{and_parts}
 use Rattle.std.proofs.lemmas.List.{append-nil}
 use Rattle.std.specs.Prelude.{option_map, codes}
+use Rattle.std.specs.List.{list_all}
 use Rattle.std.specs.Str.{bytes_eq}
 use Rattle.mr_model.specs.Texts.{Text, whole_lines, in_first_line}
 use Rattle.mr_model.specs.Slots.{Slot}
 use Rattle.mr_model.specs.Refusals as model
-use Rattle.mr_model.specs.Exchange.{Item, Ending, Cut, Header, BodyLine, ItemLine, LastLine, read_header, read_body_line, with_item, read_end, read_line, read_body, under_header, read_lines, read_batch, no_lines}
+use Rattle.mr_model.specs.Exchange.{Item, Ending, Cut, Header, BodyLine, ItemLine, LastLine, is_header, is_item, read_header, read_body_line, with_item, read_end, read_line, read_body, under_header, read_lines, read_batch, no_lines}
+use Rattle.mr_model.proofs.BatchesReadBack.{read_reads}
 use Rattle.mr_base.specs.Refusals.{refusal_of}
 use Rattle.mr_base.specs.declared.refusals.Refusal.{Refusal}
 use Rattle.mr_base.specs.declared.refusals.Refusal.TheVariants.{OutOfMemory}
@@ -126,6 +129,11 @@ bad_body bytes line rest h e is head (inr m) = inr m
 
 pub whole_batch : (bytes line rest : Text) (h : Header) (body : List Item × Ending) → Some (line, rest) ≡ cut 10 bytes → Some h ≡ read_header line → read_body 2 (whole_lines rest) ≡ Ok body → read_batch bytes ≡ Ok (record { header = Some h; items = body.0; ending = body.1 })
 whole_batch bytes line rest h body is head read = read_under bytes line rest h is (sym head) ∙ ap (under_header (Some h)) read
+
+-- all items that are read are ones that the text can say
+pub said_items : (bytes line rest : Text) (h : Header) (body : List Item × Ending) → Some (line, rest) ≡ cut 10 bytes → Some h ≡ read_header line → read_body 2 (whole_lines rest) ≡ Ok body → list_all is_item body.0 ≡ true
+said_items bytes line rest h body is head read =
+    (and_parts (is_header h) (list_all is_item body.0) (read_reads bytes (record { header = Some h; items = body.0; ending = body.1 }) (whole_batch bytes line rest h body is head read)).is_a_batch).1
 
 -- ---- the counts of a position
 

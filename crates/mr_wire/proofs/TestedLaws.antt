@@ -8,7 +8,7 @@ use Rattle.std.specs.Str.{bytes_eq}
 use Rattle.std.specs.List.{list_all}
 use Rattle.mr_model.specs.Texts.{Text, only_if, whole_lines}
 use Rattle.mr_model.specs.Slots.{Slot, is_slot}
-use Rattle.mr_model.specs.Writes.{Stamp, Write, is_room_name, is_title, is_length, fits_day, greatest_alternatives}
+use Rattle.mr_model.specs.Writes.{Stamp, Books, Write, is_room_name, is_title, is_length, fits_day, greatest_alternatives}
 use Rattle.mr_model.specs.Requests.{is_length_for}
 use Rattle.mr_model.specs.Refusals as model
 use Rattle.mr_model.specs.Exchange.{Item, Ending, Complete, More, Cut, Header, W, BodyLine, ItemLine, LastLine, read_header, read_body_line, with_item, read_end, read_line, read_body, under_header, read_lines, read_batch}
@@ -99,7 +99,7 @@ module _ (s : Stamp) (r : Text) (m : ℕ) (long : is_length m ≡ true) where
   abbrev makes : (Slot × List Slot) × Text → Option Write
   makes c =
       only_if (is_room_name r && (is_title c.1 && (is_length_for m (c.0.0 ∷ c.0.1) && not (ltb greatest_alternatives (length c.0.1)))))
-      (record { stamp = s; room = r; title = c.1; length = m; wish = c.0.0; alternatives = c.0.1 })
+      (record { stamp = s; room = r; action = Books (record { title = c.1; length = m; wish = c.0.0; alternatives = c.0.1 }) })
 
   none_named : (b : Bool) → false ≡ are_named (cond {A = Option (Text × Text)} b None None)
   none_named true = refl
@@ -114,7 +114,7 @@ module _ (s : Stamp) (r : Text) (m : ℕ) (long : is_length m ≡ true) where
       → is_some ((o >>= λ x. Some ((w, x.0), x.1)) >>= makes) ≡ are_named (cond (fits m w) ((o >>= λ x. only_if (all_fit m x.0) x.1) >>= λ title. Some (r, title)) None)
   at_slots w k few None many = none_named (fits m w)
   at_slots w k few (Some x) many =
-      let made : Write = record { stamp = s; room = r; title = x.1; length = m; wish = w; alternatives = x.0 } in
+      let made : Write = record { stamp = s; room = r; action = Books (record { title = x.1; length = m; wish = w; alternatives = x.0 }) } in
       let so_many : length x.0 ≡ k = many x refl in
       let not_more : ltb greatest_alternatives (length x.0) ≡ false = le-ltb greatest_alternatives (length x.0) (omega (arith, few, so_many)) in
       ap (λ l. is_some (only_if (is_room_name r && (is_title x.1 && ((l && (fits m w && all_fit m x.0)) && not (ltb greatest_alternatives (length x.0))))) made)) long

@@ -5,10 +5,10 @@ use Rattle.std.specs.Fmt.{decimal}
 use Rattle.mr_model.specs.Texts.{Text, words, line}
 use Rattle.mr_model.specs.Calendar.{date_text, time_text}
 use Rattle.mr_model.specs.Slots.{Slot, slot_words}
-use Rattle.mr_model.specs.Writes.{Write}
+use Rattle.mr_model.specs.Writes.{Stamp, Meeting, Action, Books, Cancels, Write}
 use Rattle.mr_model.specs.Exchange.{write_line}
-use Rattle.mr_model.proofs.LinesReadBack.{words-cons}
-use Rattle.mr_wire.specs.Writing.{slot_front, slots_front, front_text, choices_text, write_text}
+use Rattle.mr_model.proofs.LinesReadBack.{words-cons, booking}
+use Rattle.mr_wire.specs.Writing.{slot_front, slots_front, front_text, choices_text, meeting_text, action_text, write_text}
 use Rattle.mr_wire.proofs.LineLaws.{choices_rest, write_rest, write_line_is}
 
 -- a word and a space in front
@@ -38,22 +38,41 @@ choices_then wish others title tail =
     ∙ slot_then wish ((count ++ 32 ∷ slots) ++ (title ++ tail))
     ∙ ap (λ (u : Text). date_text wish.day ++ 32 ∷ (time_text wish.start ++ 32 ∷ u)) (behind count slots (slots ++ (title ++ tail)) (title ++ tail) refl))
 
-fronted : Write → Text → Text
-fronted w t = 87 ∷ 32 ∷ (decimal w.stamp.server ++ 32 ∷ (decimal w.stamp.n ++ 32 ∷ (decimal w.stamp.time ++ 32 ∷ (w.room ++ 32 ∷ (decimal w.length ++ 32 ∷ t)))))
+-- the stamp and the room of a write, and what stands behind them
+fronted : Stamp → Text → Text → Text
+fronted stamp room t = 87 ∷ 32 ∷ (decimal stamp.server ++ 32 ∷ (decimal stamp.n ++ 32 ∷ (decimal stamp.time ++ 32 ∷ (room ++ t))))
 
-front_then : (w : Write) (x y t : Text) → x ++ t ≡ y → fronted w x ++ t ≡ fronted w y
+front_then : (stamp : Stamp) (room x y t : Text) → x ++ t ≡ y → fronted stamp room x ++ t ≡ fronted stamp room y
 unfolding fronted
-front_then w x y t e =
-    let e4 = behind (decimal w.length) x y t e in
-    let e3 = behind w.room (decimal w.length ++ 32 ∷ x) (decimal w.length ++ 32 ∷ y) t e4 in
-    let e2 = behind (decimal w.stamp.time) (w.room ++ 32 ∷ (decimal w.length ++ 32 ∷ x)) (w.room ++ 32 ∷ (decimal w.length ++ 32 ∷ y)) t e3 in
-    let e1 = behind (decimal w.stamp.n) (decimal w.stamp.time ++ 32 ∷ (w.room ++ 32 ∷ (decimal w.length ++ 32 ∷ x))) (decimal w.stamp.time ++ 32 ∷ (w.room ++ 32 ∷ (decimal w.length ++ 32 ∷ y))) t e2 in
+front_then stamp room x y t e =
+    let e3 : (room ++ x) ++ t ≡ room ++ y = append_assoc room x t ∙ ap (λ (u : Text). room ++ u) e in
+    let e2 = behind (decimal stamp.time) (room ++ x) (room ++ y) t e3 in
+    let e1 = behind (decimal stamp.n) (decimal stamp.time ++ 32 ∷ (room ++ x)) (decimal stamp.time ++ 32 ∷ (room ++ y)) t e2 in
     ap (λ (u : Text). 87 ∷ 32 ∷ u)
-    (behind (decimal w.stamp.server) (decimal w.stamp.n ++ 32 ∷ (decimal w.stamp.time ++ 32 ∷ (w.room ++ 32 ∷ (decimal w.length ++ 32 ∷ x)))) (decimal w.stamp.n ++ 32 ∷ (decimal w.stamp.time ++ 32 ∷ (w.room ++ 32 ∷ (decimal w.length ++ 32 ∷ y)))) t e1)
+    (behind (decimal stamp.server) (decimal stamp.n ++ 32 ∷ (decimal stamp.time ++ 32 ∷ (room ++ x))) (decimal stamp.n ++ 32 ∷ (decimal stamp.time ++ 32 ∷ (room ++ y))) t e1)
+
+front_is : (stamp : Stamp) (room t : Text) → front_text stamp room ++ t ≡ fronted stamp room t
+unfolding front_text fronted
+front_is stamp room t =
+    let e2 = behind (decimal stamp.time) room (room ++ t) t refl in
+    let e1 = behind (decimal stamp.n) (decimal stamp.time ++ 32 ∷ room) (decimal stamp.time ++ 32 ∷ (room ++ t)) t e2 in
+    ap (λ (u : Text). 87 ∷ 32 ∷ u) (behind (decimal stamp.server) (decimal stamp.n ++ 32 ∷ (decimal stamp.time ++ 32 ∷ room)) (decimal stamp.n ++ 32 ∷ (decimal stamp.time ++ 32 ∷ (room ++ t))) t e1)
+
+booking_text_is : (stamp : Stamp) (room : Text) (m : Meeting) → front_text stamp room ++ meeting_text m ≡ line (write_line (booking stamp room m))
+unfolding meeting_text write_rest fronted
+booking_text_is stamp room m =
+    let rest : Text = choices_rest m.wish m.alternatives m.title in
+    let end : Text = choices_text m.wish m.alternatives ++ (m.title ++ 10 ∷ []) in
+    let choices : rest ++ 10 ∷ [] ≡ end = choices_then m.wish m.alternatives m.title (10 ∷ []) in
+    front_is stamp room (32 ∷ (decimal m.length ++ 32 ∷ end))
+    ∙ sym (ap (λ (u : Text). u ++ 10 ∷ []) (write_line_is stamp room m)
+    ∙ front_then stamp room (32 ∷ (decimal m.length ++ 32 ∷ rest)) (32 ∷ (decimal m.length ++ 32 ∷ end)) (10 ∷ []) (ap (λ (u : Text). 32 ∷ u) (behind (decimal m.length) rest end (10 ∷ []) choices)))
+
+action_text_is : (stamp : Stamp) (room : Text) (a : Action) → front_text stamp room ++ action_text a ≡ line (write_line (record { stamp = stamp; room = room; action = a }))
+unfolding front_text
+action_text_is stamp room (Books m) = booking_text_is stamp room m
+action_text_is stamp room (Cancels t) = refl
 
 pub write_text_is : (w : Write) → write_text w ≡ line (write_line w)
-unfolding write_text front_text write_rest fronted
-write_text_is w =
-    let tail : Text = choices_text w.wish w.alternatives ++ (w.title ++ 10 ∷ []) in
-    front_then w [] tail tail refl
-    ∙ sym (ap (λ (u : Text). u ++ 10 ∷ []) (write_line_is w) ∙ front_then w (choices_rest w.wish w.alternatives w.title) tail (10 ∷ []) (choices_then w.wish w.alternatives w.title (10 ∷ [])))
+unfolding write_text
+write_text_is w = action_text_is w.stamp w.room w.action

@@ -3,7 +3,7 @@ use Rattle.std.specs.Prelude.{ℕ, zero, suc, not, ◌&&◌, nat_lt, if◌then�
 use Rattle.mr_model.specs.Texts.{Text, whole_lines, only_if}
 use Rattle.mr_model.specs.Calendar.{read_date, read_time}
 use Rattle.mr_model.specs.Slots.{Slot}
-use Rattle.mr_model.specs.Writes.{Stamp, Write, is_room_name, is_title, greatest_alternatives}
+use Rattle.mr_model.specs.Writes.{Stamp, Books, Write, is_room_name, is_title, greatest_alternatives}
 use Rattle.mr_model.specs.Requests.{is_length_for}
 use Rattle.mr_model.specs.Exchange.{Header, Item, W, C, BodyLine, ItemLine, LastLine, Complete, More}
 use Rattle.mr_model.specs.Positions.{Count, Position, is_position}
@@ -59,7 +59,11 @@ unfoldable pub write_with : Stamp → Text → ℕ → Slot → List Slot → Te
 write_with stamp room minutes wish others title =
     only_if
     (is_room_name room && (is_title title && (is_length_for minutes (wish ∷ others) && not (nat_lt greatest_alternatives (length others)))))
-    (record { stamp = stamp; room = room; title = title; length = minutes; wish = wish; alternatives = others })
+    (record {
+      stamp = stamp;
+      room = room;
+      action = Books (record { title = title; length = minutes; wish = wish; alternatives = others });
+    })
 
 -- what stands behind the W of a write's line
 unfoldable pub write_of : Text → Option Write

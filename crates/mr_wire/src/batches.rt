@@ -61,7 +61,7 @@ fn batch_of(alloc: Global, bytes: &[u8]) -> Result<Batch, Refusal>
         return Err(Refusal::BadLine(1));
     };
     let (items, ending) = read_body(alloc, rest)?;
-    Ok(Batch::new(from, primary, items, ending))
+    Ok(Batch::of_said(from, primary, items, ending))
 }
 
 /// The items and the ending on the lines below the header. The first of these lines has the number 2.

@@ -6,9 +6,12 @@ ghost use Rattle.mr_model.specs.Positions.{Position as PositionOfReplica, is_pos
 ghost use Rattle.mr_base.specs.Batches.{item_of, ending_of};
 ghost use Rattle.mr_base.specs.Positions.{counts_of};
 ghost use Rattle.mr_wire.specs.Answers.{GivesSeen};
-ghost use Rattle.mr_wire.specs.Writing.{slot_front, slots_front, front_text, choices_text, write_text};
+ghost use Rattle.mr_wire.specs.Writing.{slot_front, slots_front, front_text, choices_text, meeting_text, write_text};
 
-use mr_base::{Batch, Ending, Item, Position, Refusal, ServerId, Slot, TimeOfDay, Write};
+use mr_base::{
+    Action, Batch, Ending, Item, Meeting, Position, Refusal, RoomName, ServerId, Slot, Stamp,
+    TimeOfDay, Write,
+};
 use std::alloc::{AllocError, Global};
 use std::fmt;
 
@@ -85,24 +88,38 @@ fn push_choices(text: &mut String, wish: Slot, alternatives: &[Slot]) -> Result<
     push_slots(text, alternatives)
 }
 
+/// A write's stamp and its room.
 #[tactic(auto, unfolding(crate::specs::Writing::front_text))]
-fn push_front(text: &mut String, write: &Write) -> Result<(), AllocError>
-    ensures { OnOk result (string_bytes text.new ≡ string_bytes text.old ++ front_text write.now) }
+fn push_front(text: &mut String, stamp: Stamp, room: &RoomName) -> Result<(), AllocError>
+    ensures { OnOk result (string_bytes text.new ≡ string_bytes text.old ++ front_text stamp room.now) }
 {
-    let (server, n, time) = (write.stamp.server, write.stamp.n, write.stamp.time);
-    let room = write.room.as_str();
-    let length = write.length;
-    write!(text, "W {server} {n} {time} {room} {length} ")
+    let (server, n, time) = (stamp.server, stamp.n, stamp.time);
+    let room = room.as_str();
+    write!(text, "W {server} {n} {time} {room}")
 }
 
+/// The length, the choices and the title, up to the end of the line.
+#[tactic(auto, unfolding(crate::specs::Writing::meeting_text))]
+fn push_meeting(text: &mut String, meeting: &Meeting) -> Result<(), AllocError>
+    ensures { OnOk result (string_bytes text.new ≡ string_bytes text.old ++ meeting_text meeting.now) }
+{
+    let length = meeting.length;
+    write!(text, " {length} ")?;
+    push_choices(text, meeting.wish, meeting.alternatives.as_slice())?;
+    let title = meeting.title.as_str();
+    write!(text, "{title}\n")
+}
+
+/// A write's line. No batch has a cancel: of one there would be its stamp and its room alone.
 #[tactic(auto, unfolding(crate::specs::Writing::write_text))]
 fn push_write(text: &mut String, write: &Write) -> Result<(), AllocError>
     ensures { OnOk result (string_bytes text.new ≡ string_bytes text.old ++ write_text write.now) }
 {
-    push_front(text, write)?;
-    push_choices(text, write.wish, write.alternatives.as_slice())?;
-    let title = write.title.as_str();
-    write!(text, "{title}\n")
+    push_front(text, write.stamp, &write.room)?;
+    match &write.action {
+        Action::Books(meeting) => push_meeting(text, meeting),
+        Action::Cancels(_) => text.push_str("\n"),
+    }
 }
 
 fn push_item(text: &mut String, item: &Item) -> Result<(), AllocError>

@@ -79,7 +79,7 @@ fn batch(alloc: Global, from: u32, lines: &[Line], ending: Ending) -> Result<Bat
     for line in lines {
         items.push(item(alloc, *line)?)?;
     }
-    Ok(Batch::new(from, primary, items, ending))
+    Batch::new(from, primary, items, ending)
 }
 
 fn is_written_as(alloc: Global, batch: &Batch, text: &str) -> Result<bool, Refusal> {

@@ -7,7 +7,7 @@ use Rattle.clap.proofs.CutLemmas.{before_first-at, after_first-at}
 use Rattle.mr_model.specs.Texts.{Text}
 use Rattle.mr_model.specs.Replies.{Full, Committed}
 use Rattle.mr_model.specs.View.{AskSheet, AskCalendar, AskOutcome, AskErrors}
-use Rattle.mr_model.specs.Step.{AddRoom, Submit, Receive, Commit, Truncate, AskPosition, BatchFor, SlotWords}
+use Rattle.mr_model.specs.Step.{AddRoom, Submit, Cancel, Receive, Commit, Truncate, AskPosition, BatchFor, SlotWords}
 use Rattle.mr_model.specs.Step as step
 use Rattle.mr_base.proofs.Decimals.{number_from_to-decimal}
 use Rattle.mr_words.specs.Rows.{Asked, Init, Ask, Export, Import, Rehearse, Serve, Exchange, Bridge, invocation_of, is_t, slot_in, server_in, count_in, connections_in, ◌>>=◌}
@@ -61,6 +61,7 @@ lines_read_back (Exchange database url) h = refl
 lines_read_back (Bridge database other) h = refl
 lines_read_back (Ask database (AddRoom room)) h = refl
 lines_read_back (Ask database (Submit s)) h = ap (λ (ss : List SlotWords). Some (Ask database (Submit (record s { alternatives = ss })))) (slots_back s.alternatives h)
+lines_read_back (Ask database (Cancel room id)) h = refl
 lines_read_back (Ask database (Commit count)) h =
     ap (λ o. (o >>= λ n. Some (Commit n)) >>= λ c. Some (Ask database c)) (count_back count h)
 lines_read_back (Ask database (Truncate count)) h =

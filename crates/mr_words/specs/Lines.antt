@@ -4,7 +4,7 @@ use Rattle.std.specs.List.{list_all, list_any}
 use Rattle.mr_model.specs.Texts.{Text}
 use Rattle.mr_model.specs.Replies.{part_text}
 use Rattle.mr_model.specs.View.{AskSheet, AskCalendar, AskOutcome, AskErrors}
-use Rattle.mr_model.specs.Step.{AddRoom, Submit, Receive, Commit, Truncate, AskPosition, BatchFor, SlotWords}
+use Rattle.mr_model.specs.Step.{AddRoom, Submit, Cancel, Receive, Commit, Truncate, AskPosition, BatchFor, SlotWords}
 use Rattle.mr_model.specs.Step as step
 use Rattle.mr_words.specs.Rows.{Asked, Init, Ask, Export, Import, Rehearse, Serve, Exchange, Bridge, invocation_of, is_t}
 
@@ -22,6 +22,7 @@ command_line (Bridge database other) = codes "bridge" ∷ database ∷ other ∷
 command_line (Ask database (AddRoom room)) = codes "add-room" ∷ database ∷ room ∷ []
 command_line (Ask database (Submit s)) =
     codes "book" ∷ database ∷ s.room ∷ s.length ∷ s.wish.day ∷ s.wish.time ∷ s.title ∷ map slot_word s.alternatives
+command_line (Ask database (Cancel room id)) = codes "cancel" ∷ database ∷ room ∷ id ∷ []
 command_line (Ask database (Commit count)) = codes "commit" ∷ database ∷ decimal count ∷ []
 command_line (Ask database (Truncate count)) = codes "truncate" ∷ database ∷ decimal count ∷ []
 command_line (Ask database AskPosition) = codes "position" ∷ database ∷ []

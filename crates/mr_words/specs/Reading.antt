@@ -8,7 +8,7 @@ use Rattle.mr_model.specs.Step.{Command}
 use Rattle.mr_service.specs.Asked.{local_of}
 use Rattle.mr_words.specs.declared.invocations.Invocation.{Invocation}
 use Rattle.mr_words.specs.declared.invocations.Invocation.TheVariants as invocation
-use Rattle.mr_words.specs.Rows.{Asked, Init, Ask, Export, Import, Rehearse, Serve, Exchange, Bridge, init_row, export_row, import_row, rehearse_row, serve_row, exchange_row, bridge_row, asking, add_room_of, booking_of, commit_of, truncation_of, position_of, sheet_of, calendar_of, outcome_of, errors_of}
+use Rattle.mr_words.specs.Rows.{Asked, Init, Ask, Export, Import, Rehearse, Serve, Exchange, Bridge, init_row, export_row, import_row, rehearse_row, serve_row, exchange_row, bridge_row, asking, add_room_of, booking_of, cancel_of, commit_of, truncation_of, position_of, sheet_of, calendar_of, outcome_of, errors_of}
 
 -- what an invocation asks for
 abbrev pub asked_of : Invocation → Asked
@@ -37,10 +37,11 @@ abbrev pub command_by : Text → List Text → Option Command
 command_by name words =
     if bytes_eq name (codes "add-room") then add_room_of words
     else (if bytes_eq name (codes "book") then booking_of words
+    else (if bytes_eq name (codes "cancel") then cancel_of words
     else (if bytes_eq name (codes "commit") then commit_of words
     else (if bytes_eq name (codes "truncate") then truncation_of words
     else (if bytes_eq name (codes "position") then position_of words
-    else question_by name words))))
+    else question_by name words)))))
 
 abbrev pub row_by : Text → List Text → Option Asked
 row_by name words =

@@ -4,7 +4,7 @@ use Rattle.std.specs.List.{list_all, before_first, after_first}
 use Rattle.mr_model.specs.Texts.{Text}
 use Rattle.mr_model.specs.Replies.{Part, Full, Committed}
 use Rattle.mr_model.specs.View.{AskSheet, AskCalendar, AskOutcome, AskErrors}
-use Rattle.mr_model.specs.Step.{Command, AddRoom, Submit, Commit, Truncate, AskPosition, SlotWords}
+use Rattle.mr_model.specs.Step.{Command, AddRoom, Submit, Cancel, Commit, Truncate, AskPosition, SlotWords}
 use Rattle.mr_model.specs.Step as step
 use Rattle.mr_base.specs.Readings.{number_from_to}
 
@@ -77,6 +77,10 @@ booking_of (room ∷ minutes ∷ day ∷ time ∷ title ∷ alternatives) =
       alternatives = map slot_in alternatives;
     }))
 booking_of _ = None
+
+abbrev pub cancel_of : List Text → Option Command
+cancel_of (room ∷ id ∷ []) = Some (Cancel room id)
+cancel_of _ = None
 
 abbrev pub commit_of : List Text → Option Command
 commit_of (count ∷ []) = count_in count >>= λ n. Some (Commit n)
@@ -157,6 +161,7 @@ abbrev pub commands : Rows Command
 commands =
     (codes "add-room", add_room_of)
     ∷ (codes "book", booking_of)
+    ∷ (codes "cancel", cancel_of)
     ∷ (codes "commit", commit_of)
     ∷ (codes "truncate", truncation_of)
     ∷ (codes "position", position_of)

@@ -2,7 +2,7 @@
 
 ghost use Rattle.std.specs.Prelude.{◌≡◌, IfOk, MatchOption, Some, None, map};
 ghost use Rattle.mr_service.specs.Asked.{local_of};
-ghost use Rattle.mr_words.specs.Rows.{add_room_of, booking_of, commit_of, truncation_of, position_of, sheet_of, calendar_of, outcome_of, errors_of};
+ghost use Rattle.mr_words.specs.Rows.{add_room_of, booking_of, cancel_of, commit_of, truncation_of, position_of, sheet_of, calendar_of, outcome_of, errors_of};
 ghost use Rattle.mr_words.specs.Reading.{command_by, question_by};
 
 use crate::words::{read_count, read_part, slots};
@@ -20,6 +20,7 @@ pub(crate) fn command(
     match name {
         "add-room" => add_room(alloc, words),
         "book" => booking(alloc, words),
+        "cancel" => cancel(alloc, words),
         "commit" => Ok(commit(words)),
         "truncate" => Ok(truncation(words)),
         "position" => Ok(position(words)),
@@ -65,6 +66,18 @@ fn booking(alloc: Global, words: &[&str]) -> Result<Option<Local>, AllocError>
         },
         alternatives: slots(alloc, alternatives)?,
     })))
+}
+
+fn cancel(alloc: Global, words: &[&str]) -> Result<Option<Local>, AllocError>
+    ensures { IfOk result (λ found. MatchOption found (cancel_of (map (λ w. w.now) words.now) ≡ None) (λ local. cancel_of (map (λ w. w.now) words.now) ≡ Some (local_of local))) }
+{
+    let [room, id] = words else {
+        return Ok(None);
+    };
+    Ok(Some(Local::Cancel {
+        room: String::from_str(alloc, room)?,
+        id: String::from_str(alloc, id)?,
+    }))
 }
 
 fn commit(words: &[&str]) -> Option<Local>

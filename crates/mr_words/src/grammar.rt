@@ -8,9 +8,9 @@ use clap::{Arg, Command};
 use std::alloc::{AllocError, Global};
 
 /// The names of the table's rows.
-static ROWS: [&str; 16] = [
+static ROWS: [&str; 17] = [
     "init", "export", "import", "rehearse", "serve", "exchange", "bridge", "add-room", "book",
-    "commit", "truncate", "position", "sheet", "calendar", "outcome", "errors",
+    "cancel", "commit", "truncate", "position", "sheet", "calendar", "outcome", "errors",
 ];
 
 /// A row of the table, with one positional for all its words.

@@ -76,6 +76,10 @@ fn commands(rt: HostRuntime) -> Result<(), Fail> {
             "Ask { database: \"a.db\", local: AddRoom(\"oak\") }",
         ),
         (
+            &["cancel", "a.db", "oak", "2-1"],
+            "Ask { database: \"a.db\", local: Cancel { room: \"oak\", id: \"2-1\" } }",
+        ),
+        (
             &["commit", "a.db", "999999999999"],
             "Ask { database: \"a.db\", local: Commit(999999999999) }",
         ),
@@ -178,6 +182,8 @@ fn other_numbers_of_words(rt: HostRuntime) -> Result<(), Fail> {
         &["add-room", "a.db"],
         &["add-room", "a.db", "oak", "elm"],
         &["book", "a.db", "oak", "60", "1995-12-18", "14:00"],
+        &["cancel", "a.db", "oak"],
+        &["cancel", "a.db", "oak", "2-1", "2-2"],
         &["commit", "a.db"],
         &["position"],
         &["position", "a.db", "1"],

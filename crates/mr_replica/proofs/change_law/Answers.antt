@@ -1,3 +1,5 @@
+use Rattle.mr_replica.proofs.SubmittedRows.{submitted}
+use Rattle.mr_replica.proofs.Placings.{cancellers-of}
 use Rattle.std.proofs.Common.{◌∙◌, ap}
 use Rattle.mr_replica.specs.DeskTables.{desk_tables}
 use Rattle.mr_replica.proofs.DeskRows.{desk_tables-of}

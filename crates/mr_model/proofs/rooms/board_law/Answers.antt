@@ -1,6 +1,6 @@
 use Rattle.std.proofs.Common.{[]}
 use Rattle.mr_model.proofs.RoomsApart.{rooms_apart, board_apart}
-use Rattle.mr_model.proofs.CommandPlaces.{order-places}
+use Rattle.mr_model.proofs.PlacesOfOrder.{order-places}
 use Rattle.mr_model.proofs.rooms.board_law.Goals as goal
 
 pub returns-clause-apart : goal.returns-clause-apart

@@ -15,11 +15,11 @@ returns-clause-replies c = equal_replies
 pub returns-clause-after : goal.returns-clause-after
 returns-clause-after c = equal_after
 
+pub returns-clause-runs : goal.returns-clause-runs
+returns-clause-runs c a b end commands replies ha hb e run = equal_runs a b end commands replies ha hb e run
+
 pub returns-clause-keys : goal.returns-clause-keys
 returns-clause-keys c = tables_in_order
-
-pub returns-clause-runs : goal.returns-clause-runs
-returns-clause-runs c = equal_runs
 
 pub returns-clause-rows : goal.returns-clause-rows
 returns-clause-rows c = rows_of_known

@@ -23,28 +23,23 @@ returns-in-Err-kept_in-clause-only c = λ a h e.
     let touched = subst (λ (names : List Text). AreSameRooms names rooms) (sym c.deref.ensures.value) c.in-Ok.ensures.rooms in
     c.in-Err-kept_in.ensures.only a h e touched
 
-pub returns-in-Err-undo_in-clause-only : goal.returns-in-Err-undo_in-clause-only
-returns-in-Err-undo_in-clause-only c = λ a h e.
-    let rooms = touched_in (scope_of c.args.scope.now) c.args.tables.now in
-    let touched = subst (λ (names : List Text). AreSameRooms names rooms) (sym c.deref.ensures.value) c.in-Ok.ensures.rooms in
-    c.in-Err-undo_in.ensures.only a h e (c.deref-2.ensures.value ∙ c.in-Ok-kept_in.ensures.kept a h e touched)
-
 pub returns-in-Err-bookings_in-clause-only : goal.returns-in-Err-bookings_in-clause-only
 returns-in-Err-bookings_in-clause-only c = λ a h e.
     let rooms = touched_in (scope_of c.args.scope.now) c.args.tables.now in
-    let touched = subst (λ (names : List Text). AreSameRooms names rooms) (sym c.deref-3.ensures.value) c.in-Ok.ensures.rooms in
-    c.in-Err-bookings_in.ensures.only a h e touched
+    let touched = subst (λ (names : List Text). AreSameRooms names rooms) (sym c.deref.ensures.value) c.in-Ok.ensures.rooms in
+    let still = subst (λ (names : List Text). AreSameRooms names rooms) (sym c.deref-2.ensures.value) c.in-Ok.ensures.rooms in
+    c.in-Err-bookings_in.ensures.only a h e still (c.deref-3.ensures.value ∙ c.in-Ok-kept_in.ensures.kept a h e touched)
 
 pub returns-in-Ok-copies_of-clause-part : goal.returns-in-Ok-copies_of-clause-part
 returns-in-Ok-copies_of-clause-part c = λ a h e.
     let s = scope_of c.args.scope.now in
     let t = c.args.tables.now in
     let touched = subst (λ (names : List Text). AreSameRooms names (touched_in s t)) (sym c.deref.ensures.value) c.in-Ok.ensures.rooms in
-    let touched_still = subst (λ (names : List Text). AreSameRooms names (touched_in s t)) (sym c.deref-3.ensures.value) c.in-Ok.ensures.rooms in
+    let touched_still = subst (λ (names : List Text). AreSameRooms names (touched_in s t)) (sym c.deref-2.ensures.value) c.in-Ok.ensures.rooms in
     let numbers = c.summary_of-summary.ensures a h (same_meta s t (tables_of a) e) (same_vector s t (tables_of a) e) in
     let rooms = c.in-Ok-copies_of.ensures.copies ∙ c.deref-4.ensures.value ∙ ap (λ (t : Tables). t.room) c.tables.view_is ∙ same_room s t (tables_of a) e in
     let kept = c.in-Ok-kept_in.ensures.kept a h e touched in
-    let undo = c.in-Ok-undo_in.ensures.undo a h e (c.deref-2.ensures.value ∙ kept) in
+    let undo = c.in-Ok-kept_in.ensures.undo a h e touched in
     let marks = c.in-Ok-kept_in.ensures.marks a h e touched in
-    let board = c.in-Ok-bookings_in.ensures.board a h e touched_still in
+    let board = c.in-Ok-bookings_in.ensures.board a h e touched_still (c.deref-3.ensures.value ∙ kept) in
     λ i. record { summary = numbers i; rooms = rooms i; kept = kept i; marks = marks i; undo = undo i; board = board i }

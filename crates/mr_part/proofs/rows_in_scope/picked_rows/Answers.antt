@@ -16,6 +16,6 @@ returns-clause-logs c = λ t rows commits.
     let s = scope_of c.args.scope.now in
     let touched = c.deref.result.now in
     let same = subst (λ (names : List Text). AreSameRooms names (touched_in s t)) (sym c.deref.ensures.value) (c.in_ok-touched.ensures.rooms t rows commits) in
-    let told : filter (is_log_in s c.args.commits touched) c.args.rows.now ≡ (in_scope s t).write_log =
+    let told : filter (is_log_in s c.args.commits touched) c.args.rows.now ≡ (in_scope s t).log =
     (λ i. filter (is_log_in s (sym commits i) touched) (sym rows i)) ∙ logs_by_row s t touched c.requires same in
     subst (λ (rs : List LogRow). IfOk c.rows_where.result (λ logs. map (λ row. row.now) logs.items ≡ rs)) told c.rows_where.ensures.logs

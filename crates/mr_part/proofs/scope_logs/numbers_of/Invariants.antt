@@ -1,5 +1,5 @@
 use Rattle.std.proofs.Common.{◌≡◌, map, take}
-use Rattle.mr_replica.specs.declared.logged.LoggedWrite.{LoggedWrite}
+use Rattle.mr_part.specs.declared.scope_logs.LoggedWrite.{LoggedWrite}
 use Rattle.mr_part.proofs.scope_logs.numbers_of.Given as goal
 
 -- the numbers so far

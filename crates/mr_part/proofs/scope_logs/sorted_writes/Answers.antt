@@ -1,9 +1,8 @@
 use Rattle.std.proofs.Common.{◌∙◌, sym, subst, List, map}
 use Rattle.std.specs.List.Sorted.{IsPermutation}
-use Rattle.mr_replica.specs.declared.logged.LoggedWrite.{LoggedWrite}
+use Rattle.mr_part.specs.declared.scope_logs.LoggedWrite.{LoggedWrite}
 use Rattle.mr_part.specs.ScopeOf.{scope_of}
-use Rattle.mr_part.specs.PickedLogs.{is_log_in}
-use Rattle.mr_replica.specs.Logged.{logged_of}
+use Rattle.mr_part.specs.PickedLogs.{is_log_in, logged_of}
 use Rattle.mr_part.proofs.PickedRows.{rows_of_logged, logged_within, picked_sorted}
 use Rattle.mr_part.proofs.scope_logs.sorted_writes.Goals as goal
 

@@ -1,11 +1,9 @@
-use Rattle.std.proofs.Common.{◌∙◌, ap, sym, subst, ◌∷◌, [], ◌++◌, drop, IsTrue, ◌+◌}
+use Rattle.std.proofs.Common.{◌∙◌, ap, sym, subst, ◌∷◌, [], ◌++◌, drop, ◌+◌}
 use Rattle.std.proofs.lemmas.List.{at_drop_all}
 use Rattle.std.specs.List.{filter}
-use Rattle.mr_model.specs.Writes.{is_write}
 use Rattle.mr_model.proofs.Members.{all_has}
-use Rattle.mr_replica.specs.declared.logged.LoggedWrite.{LoggedWrite}
 use Rattle.mr_part.specs.ScopeOf.{scope_of}
-use Rattle.mr_part.specs.PickedLogs.{is_log_in, row_of}
+use Rattle.mr_part.specs.PickedLogs.{is_log_in, row_of, IsWithin}
 use Rattle.mr_tables.proofs.LogRows.{answered, never_refused}
 use Rattle.mr_part.proofs.Picking.{IsDone, first_left, all_done}
 use Rattle.mr_replica.proofs.Picking.{picked_here, left_here}
@@ -17,7 +15,7 @@ returns-in-Err-clause-only c = λ xs ok e.
     let test = is_log_in (scope_of c.args.scope.now) c.args.commits c.args.touched.now in
     let here = picked_here test c.args.rows.now c.loop-row.row-index c.row-item.result c.loop-row-test.true c.row-item.is (sym (c.passes.ensures (scope_of c.args.scope.now) c.args.commits c.args.touched.now c.loop-row.invariant.0) ∙ c.if-passes.true) in
     let left = first_left row_of xs c.loop-row.writes.items c.row-item.result (filter test (drop (c.loop-row.row-index + 1) c.args.rows.now)) (subst (IsDone row_of xs c.loop-row.writes.items) here (c.loop-row.invariant.1 xs ok e)) in
-    never_refused left.first c.in-Err.refusal (c.in-Err.ensures.read left.first (all_has (λ (x : LoggedWrite). IsTrue (is_write x.write)) left.first xs ok left.has) left.row_is)
+    never_refused left.first c.in-Err.refusal (c.in-Err.ensures.read left.first (all_has IsWithin left.first xs ok left.has) left.row_is)
 
 pub loop-row-preserved : goal.loop-row-preserved
 loop-row-preserved c = (
@@ -28,7 +26,7 @@ loop-row-preserved c = (
         | then-passes+in-Ok+in_ok-push-in-Ok w ↦
             (let here = picked_here test c.args.rows.now c.loop-row.row-index c.row-item.result c.loop-row-test.true c.row-item.is (sym (c.passes.ensures (scope_of c.args.scope.now) c.args.commits c.args.touched.now c.loop-row.invariant.0) ∙ w.if-passes.true) in
             let left = first_left row_of xs c.loop-row.writes.items c.row-item.result (filter test (drop (c.loop-row.row-index + 1) c.args.rows.now)) (subst (IsDone row_of xs c.loop-row.writes.items) here (c.loop-row.invariant.1 xs ok e)) in
-            let one = answered w.in-Ok.write left.first (w.in-Ok.ensures.read left.first (all_has (λ (x : LoggedWrite). IsTrue (is_write x.write)) left.first xs ok left.has) left.row_is) in
+            let one = answered w.in-Ok.write left.first (w.in-Ok.ensures.read left.first (all_has IsWithin left.first xs ok left.has) left.row_is) in
             let items = ap (λ v. v.items) w.writes-is ∙ w.in_ok-push-in-Ok.ensures.items ∙ ap (λ x. c.loop-row.writes.items ++ x ∷ []) one in
             subst (λ done. IsDone row_of xs done (filter test (drop (c.loop-row.row-index + 1) c.args.rows.now))) (sym items) left.next)
         | else-passes w ↦

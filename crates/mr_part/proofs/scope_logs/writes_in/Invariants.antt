@@ -1,6 +1,6 @@
 use Rattle.std.proofs.Common.{◌≡◌, List, drop, map}
 use Rattle.std.specs.List.{filter}
-use Rattle.mr_replica.specs.declared.logged.LoggedWrite.{LoggedWrite}
+use Rattle.mr_part.specs.declared.scope_logs.LoggedWrite.{LoggedWrite}
 use Rattle.mr_part.specs.LogTests.{IsTestOf}
 use Rattle.mr_part.specs.ScopeOf.{scope_of}
 use Rattle.mr_part.specs.PickedLogs.{is_log_in, row_of, AreWithin}

@@ -13,4 +13,4 @@ pub returns-in-Some-clause-indexed : goal.returns-in-Some-clause-indexed
 returns-in-Some-clause-indexed c =
     subst (λ (rows : Rows). IsIndexed rows c.forget.new.index) (sym (returns-in-Some-clause-board c))
     (IsIndexed-removed c.args.rows.now.entries c.args.index.now c.forget.new.index c.args.id c.requires
-    (Forgets-others c.args.index.now c.forget.new.index c.key_if_booked.result None c.args.id c.in-Some.removed c.key_if_booked.ensures c.forget.ensures))
+    (Forgets-others c.args.index.now c.forget.new.index c.key_if_taken.result None c.args.id c.in-Some.removed c.key_if_taken.ensures c.forget.ensures))

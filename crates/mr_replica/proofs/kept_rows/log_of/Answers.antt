@@ -4,18 +4,15 @@ use Rattle.mr_replica.proofs.kept_rows.log_of.Goals as goal
 
 pub returns-in-Ok-clause-log : goal.returns-in-Ok-clause-log
 returns-in-Ok-clause-log c = λ a h e board.
-    let logs = c.deref.ensures.value ∙ ap (λ (t : Tables). t.write_log) (c.tables.view_is ∙ e) in
-    let undos = c.deref-2.ensures.value ∙ ap (λ (t : Tables). t.undo) (c.tables.view_is ∙ e) in
-    c.log_with.ensures.log a h (c.in-Ok.ensures.rows a h logs undos) board
+    let logs = c.deref.ensures.value ∙ ap (λ (t : Tables). t.log) (c.tables.view_is ∙ e) in
+    c.log_with.ensures.log a h (c.in-Ok.ensures.rows a h logs) board
 
 pub returns-in-Err-clause-only : goal.returns-in-Err-clause-only
 returns-in-Err-clause-only c = λ a h e numbers board.
-    let logs = c.deref.ensures.value ∙ ap (λ (t : Tables). t.write_log) (c.tables.view_is ∙ e) in
-    let undos = c.deref-2.ensures.value ∙ ap (λ (t : Tables). t.undo) (c.tables.view_is ∙ e) in
-    c.in-Err.ensures.only a h logs undos
+    let logs = c.deref.ensures.value ∙ ap (λ (t : Tables). t.log) (c.tables.view_is ∙ e) in
+    c.in-Err.ensures.only a h logs
 
 pub returns-in-Ok-clause-only : goal.returns-in-Ok-clause-only
 returns-in-Ok-clause-only c = λ a h e numbers board.
-    let logs = c.deref.ensures.value ∙ ap (λ (t : Tables). t.write_log) (c.tables.view_is ∙ e) in
-    let undos = c.deref-2.ensures.value ∙ ap (λ (t : Tables). t.undo) (c.tables.view_is ∙ e) in
-    c.log_with.ensures.only a h (c.in-Ok.ensures.rows a h logs undos) numbers board
+    let logs = c.deref.ensures.value ∙ ap (λ (t : Tables). t.log) (c.tables.view_is ∙ e) in
+    c.log_with.ensures.only a h (c.in-Ok.ensures.rows a h logs) numbers board

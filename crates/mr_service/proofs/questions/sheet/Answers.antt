@@ -3,7 +3,7 @@ use Rattle.std.proofs.lemmas.Result.{err_from_is_err_and}
 use Rattle.mr_model.specs.Step.{Ask}
 use Rattle.mr_model.specs.View.{AskSheet}
 use Rattle.mr_store.specs.Picked.{AreBookings}
-use Rattle.mr_service.proofs.KeeperReads.{read_ok, read_then, read_both, fails_all, refused_by, answered_by, unread}
+use Rattle.mr_service.proofs.KeeperReads.{read_ok, read_then, read_next, fails_all, refused_by, answered_by, unread}
 use Rattle.mr_service.proofs.RoomSteps as steps
 use Rattle.mr_service.proofs.questions.sheet.Goals as goal
 
@@ -29,7 +29,7 @@ pub returns : goal.returns
 returns g c =
     let same : g.K.Keeper.is_clean c.bookings.new.self → g.K.Keeper.is_open c.bookings.new.self → g.K.Keeper.tables c.known_room.new.keeper ≡ g.K.Keeper.tables c.args.keeper.now = λ u o. c.known_room.ensures.read.same (c.bookings.ensures.quiet.clean u) (c.bookings.ensures.quiet.opens u o) in
     record {
-      served = answered_by g.K.Keeper c.args.keeper.now c.bookings.new.self c.in_ok-rows.rows.items (Ask c.args.room.now (AskSheet c.args.day.now)) _ (read_both g.K.Keeper c.args.keeper.now c.known_room.new.keeper c.bookings.new.self c.in_ok-room.room c.in_ok-rows.rows.items c.in_ok-room.ensures.read (read_ok g.K.Keeper c.known_room.new.keeper c.bookings.new.self c.in_ok-rows.rows.items _ c.in_ok-rows.ensures.quiet))
+      served = answered_by g.K.Keeper c.args.keeper.now c.bookings.new.self c.in_ok-rows.rows.items (Ask c.args.room.now (AskSheet c.args.day.now)) _ (read_next g.K.Keeper c.args.keeper.now c.known_room.new.keeper c.bookings.new.self c.in_ok-room.room _ c.in_ok-room.ensures.read (read_ok g.K.Keeper c.known_room.new.keeper c.bookings.new.self c.in_ok-rows.rows.items _ c.in_ok-rows.ensures.quiet))
           (λ u o. steps.sheet_step (g.K.Keeper.tables c.args.keeper.now) (g.K.Keeper.tables c.bookings.new.self) c.args.room.now c.in_ok-room.room c.args.day.now c.in_ok-day.day c.in_ok-rows.rows.items c.in_ok-day.ensures.value
           (c.bookings.ensures.quiet.same u o ∙ same u o) (c.in_ok-room.ensures.finds (c.bookings.ensures.quiet.clean u) (c.known_room.ensures.read.opens (c.bookings.ensures.quiet.clean u) (c.bookings.ensures.quiet.opens u o)))
           (subst (λ t. AreBookings c.in_ok-room.room (Some c.in_ok-day.day) t c.in_ok-rows.rows.items) (same u o) (c.in_ok-rows.ensures.bookings u (c.bookings.ensures.quiet.opens u o))))

@@ -1,7 +1,7 @@
 use Rattle.std.proofs.Common.{sym, ap, subst, ◌∙◌}
 use Rattle.std.specs.String.{string_bytes}
 use Rattle.mr_model.specs.View.{AskSheet, AskCalendar, AskOutcome, AskErrors}
-use Rattle.mr_model.specs.Step.{Command, AddRoom, BatchFor, Ask}
+use Rattle.mr_model.specs.Step.{Command, AddRoom, Cancel, BatchFor, Ask}
 use Rattle.mr_service.specs.Asked.{local_of, part_of, reply_in}
 use Rattle.mr_service.specs.Served.{IsServed}
 use Rattle.mr_service.proofs.services.ask_local.Goals as goal
@@ -13,6 +13,10 @@ returns-in-AddRoom g c =
 pub returns-in-Submit : goal.returns-in-Submit
 returns-in-Submit g c =
     record { served = subst (λ (l : Command). IsServed g.K.Keeper c.args.keeper.now c.submit.new.keeper l (reply_in c.submit.result)) (ap local_of (sym c.in-Submit.is)) c.submit.ensures.served }
+
+pub returns-in-Cancel : goal.returns-in-Cancel
+returns-in-Cancel g c =
+    record { served = subst (λ (l : Command). IsServed g.K.Keeper c.args.keeper.now c.cancel.new.keeper l (reply_in c.cancel.result)) (ap (λ room. Cancel room c.as_str-in-Cancel-2.result.now) c.as_str-in-Cancel.ensures.value ∙ ap (λ id. Cancel (string_bytes c.in-Cancel.room) id) c.as_str-in-Cancel-2.ensures.value ∙ ap local_of (sym c.in-Cancel.is)) c.cancel.ensures.served }
 
 pub returns-in-Commit : goal.returns-in-Commit
 returns-in-Commit g c =

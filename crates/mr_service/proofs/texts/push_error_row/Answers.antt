@@ -19,6 +19,6 @@ returns c =
     let m : ErrorRow → Text = λ x. mark (not (x.seq == 0)) in
     let slot : ErrorRow → ℕ → ℕ → Text → Text = λ x from to t. date_text x.day ++ 32 ∷ (span from to ++ 32 ∷ t) in
     on_ok c.write.result _ _
-    (λ h. h ∙ (λ i. string_bytes c.args.text.now ++ (m (c.row.view_is i) ++ 32 ∷ (id_text (c.logged_id-id.ensures i) ++ 32 ∷ (slot (c.row.view_is i) (start i) (stop i) (title i) ++ 10 ∷ []))))
+    (λ h. h ∙ (λ i. string_bytes c.args.text.now ++ (m (c.row.view_is i) ++ 32 ∷ (id_text (c.id-id.ensures i) ++ 32 ∷ (slot (c.row.view_is i) (start i) (stop i) (title i) ++ 10 ∷ []))))
     ∙ ap (λ t. string_bytes c.args.text.now ++ t) (sym (line_of_three (m r) (id_text (error_id r)) (slot r r.start r.stop r.title))))
     c.write.ensures.bytes

@@ -17,6 +17,6 @@ returns c =
     let title : c.as_str-title.result.now ≡ r.title = c.as_str-title.ensures.text ∙ ap (λ (x : BookingRow). x.title) c.row.view_is in
     let behind : ℕ → ℕ → Text → Text = λ from to t. string_bytes c.args.text.now ++ (time_text from ++ 45 ∷ (time_text to ++ 32 ∷ t)) in
     on_ok c.write.result _ _
-    (λ h. h ∙ (λ i. behind (start i) (stop i) (mark (c.row.view_is i).committed ++ 32 ∷ (id_text (c.booked_id-id.ensures i) ++ 32 ∷ (title i ++ 10 ∷ []))))
+    (λ h. h ∙ (λ i. behind (start i) (stop i) (mark (c.row.view_is i).committed ++ 32 ∷ (id_text (c.id-id.ensures i) ++ 32 ∷ (title i ++ 10 ∷ []))))
     ∙ ap (behind r.start r.stop) (sym (line_of_three (mark r.committed) (id_text (booking_id r)) r.title)))
     c.write.ensures.bytes

@@ -1,18 +1,31 @@
-use Rattle.std.proofs.Common.{sym, subst}
+use Rattle.std.proofs.Common.{◌≡◌, ◌∙◌, Ok, ap, sym, subst, rules}
 use Rattle.sqlite.specs.Held.{state}
 use Rattle.mr_store.specs.Picked.{IsPlaceOf}
 use Rattle.mr_rows.specs.Kept.{tables_in}
+use Rattle.mr_sql.specs.Places.{AreRowsOf, AreCancelRowsOf, taken_in, chosen}
+use Rattle.mr_rows.proofs.QueryLemmas.{reads_then}
 use Rattle.mr_sql.proofs.AnswerLemmas.{chosen_is}
 use Rattle.mr_sql.proofs.answers.place_of.Goals as goal
 
+pub returns-in_err-others-clause-reads : goal.returns-in_err-others-clause-reads
+returns-in_err-others-clause-reads g c =
+    let a = state g.S.Store c.args.conn.now in
+    let read =
+    reads_then a (state g.S.Store c.rows_of.new.conn) (state g.S.Store c.cancel_rows_of.new.conn) c.in_ok-rows.rows (λ rows. AreRowsOf c.args.id (tables_in a.now.trees) rows.0 rows.1) c.cancel_rows_of.result
+    (λ db rows. AreCancelRowsOf c.args.id (tables_in db.trees) rows.0 rows.1) (λ _. Unit {0}) (λ _ _ _ _. tt) c.in_ok-rows.ensures.reads c.cancel_rows_of.ensures.reads in
+    (read.0, read.1, λ clean kept. (search rules, search rules))
+
 pub returns-clause-reads : goal.returns-clause-reads
 returns-clause-reads g c =
-    let trees = (state g.S.Store c.args.conn.now).now.trees in
+    let a = state g.S.Store c.args.conn.now in
+    let trees = a.now.trees in
+    let room = c.args.room.now in
+    let id = c.args.id in
     let rows = c.in_ok-rows.rows in
-    let read = c.in_ok-rows.ensures.reads in (
-      read.0,
-      read.1,
-      λ clean kept.
-          let told = read.2 clean kept in
-          (told.0, subst (IsPlaceOf c.args.room.now c.args.id (tables_in trees)) (sym c.choose.ensures) (chosen_is c.args.room.now c.args.id trees rows.0 rows.1 told.1)),
-    )
+    let others = c.in_ok-others.others in
+    let read =
+    reads_then a (state g.S.Store c.rows_of.new.conn) (state g.S.Store c.cancel_rows_of.new.conn) rows (λ rows. AreRowsOf id (tables_in trees) rows.0 rows.1) (Ok others)
+    (λ db rows. AreCancelRowsOf id (tables_in db.trees) rows.0 rows.1) (λ others. IsPlaceOf room id (tables_in trees) (chosen room rows.0 rows.1 (taken_in room others.0 others.1)))
+    (λ kept others x y. chosen_is room id trees rows.0 rows.1 others.0 others.1 x y) c.in_ok-rows.ensures.reads c.in_ok-others.ensures.reads in
+    let same = c.choose.ensures ∙ ap (chosen room rows.0 rows.1) c.choose_taken-other.ensures in
+    (read.0, read.1, λ clean kept. let told = read.2 clean kept in (told.0, subst (IsPlaceOf room id (tables_in trees)) (sym same) told.1))

@@ -1,21 +1,25 @@
-use Rattle.std.proofs.Common.{◌≡◌, ◌∙◌, filter, refl, rules}
+use Rattle.std.proofs.Common.{◌≡◌, ◌∙◌, filter, refl}
 use Rattle.sqlite.specs.Held.{state}
 use Rattle.mr_part.specs.ScopeOf.{scope_of}
 use Rattle.mr_rows.specs.Kept.{tables_in}
-use Rattle.mr_rows.specs.RowQuestions.{is_asked, is_booking_asked}
-use Rattle.mr_sql.specs.Questions.{booking_questions}
-use Rattle.mr_rows.proofs.QueryLemmas.{survives_itself, uses_so}
-use Rattle.mr_sql.proofs.ScopeLemmas.{rooms_asked}
+use Rattle.mr_rows.specs.RowQuestions.{is_asked, is_booking_asked, is_booking_of}
+use Rattle.mr_sql.specs.Questions.{room_questions, target_questions}
+use Rattle.mr_rows.proofs.QueryLemmas.{uses_so}
+use Rattle.mr_sql.proofs.ScopeLemmas.{by_room, by_id}
 use Rattle.mr_sql.proofs.scope_rows.read_bookings.Goals as goal
 
-pub returns-in-Ok-clause-reads : goal.returns-in-Ok-clause-reads
-returns-in-Ok-clause-reads g c =
+pub returns-then-asks_by_id-clause-reads : goal.returns-then-asks_by_id-clause-reads
+returns-then-asks_by_id-clause-reads g c =
     let old = state g.S.Store c.args.conn.now in
-    let same : c.deref.result.now ≡ c.in-Ok.rooms.items = c.deref.ensures.value in
-    let bookings = (tables_in old.now.trees).booking in
-    let rooms = booking_questions c.args.commits (scope_of c.args.scope.now) c.args.logs.now in
-    uses_so old (state g.S.Store c.asked_rows.new.conn) c.asked_rows.result (λ rows. rows.items ≡ filter (is_asked is_booking_asked c.in-Ok.rooms.items) bookings) _
-    (λ held rows is. is ∙ rooms_asked c.in-Ok.rooms.items rooms c.in-Ok.ensures bookings) (rw same at c.asked_rows.ensures.reads)
+    let scope = scope_of c.args.scope.now in
+    let rows_of = (tables_in old.now.trees).booking in
+    uses_so old (state g.S.Store c.read_target_booking.new.conn) c.read_target_booking.result (λ rows. rows.items ≡ filter (is_asked is_booking_of (target_questions scope)) rows_of) _
+    (λ held rows is. is ∙ by_id c.args.commits scope c.args.logs.now (c.if-asks_by_id.ensures.by_id refl c.args.commits c.args.logs.now) rows_of) c.read_target_booking.ensures.reads
 
-pub returns-in-Err-clause-reads : goal.returns-in-Err-clause-reads
-returns-in-Err-clause-reads g c = (survives_itself (state g.S.Store c.args.conn.now) _, λ clean now. (now, λ held. (refl, refl)), λ clean held. (search rules, search rules))
+pub returns-else-asks_by_id-clause-reads : goal.returns-else-asks_by_id-clause-reads
+returns-else-asks_by_id-clause-reads g c =
+    let old = state g.S.Store c.args.conn.now in
+    let scope = scope_of c.args.scope.now in
+    let rows_of = (tables_in old.now.trees).booking in
+    uses_so old (state g.S.Store c.read_room_bookings.new.conn) c.read_room_bookings.result (λ rows. rows.items ≡ filter (is_asked is_booking_asked (room_questions c.args.commits scope c.args.logs.now)) rows_of) _
+    (λ held rows is. is ∙ by_room c.args.commits scope c.args.logs.now (c.if-asks_by_id.ensures.by_room refl) rows_of) c.read_room_bookings.ensures.reads

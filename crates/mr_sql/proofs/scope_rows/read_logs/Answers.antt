@@ -12,4 +12,4 @@ returns-in_err-questions-clause-reads g c = (survives_itself (state g.S.Store c.
 pub returns-clause-reads : goal.returns-clause-reads
 returns-clause-reads g c =
     let old = state g.S.Store c.args.conn.now in
-    subst (λ asked. ReadsInUse old (state g.S.Store c.asked_rows.new.conn) c.asked_rows.result (λ rows. rows.items ≡ filter (is_asked is_log_asked asked) (tables_in old.now.trees).write_log)) (c.deref.ensures.value ∙ c.in_ok-questions.ensures) c.asked_rows.ensures.reads
+    subst (λ asked. ReadsInUse old (state g.S.Store c.asked_rows.new.conn) c.asked_rows.result (λ rows. rows.items ≡ filter (is_asked is_log_asked asked) (tables_in old.now.trees).log)) (c.deref.ensures.value ∙ c.in_ok-questions.ensures) c.asked_rows.ensures.reads

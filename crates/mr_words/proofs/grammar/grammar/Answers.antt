@@ -7,6 +7,6 @@ use Rattle.mr_words.proofs.grammar.grammar.Goals as goal
 pub loop-name-preserved : goal.loop-name-preserved
 loop-name-preserved c =
     let local = (plain_fields c.in_ok-row.field-0 (ap (λ (s : Shape). s.is_plain) c.in_ok-row.ensures)).globals in
-    let below : c.loop-name.name-index < 16 = omega arith in
+    let below : c.loop-name.name-index < 17 = omega arith in
     c.in_ok-command.ensures.shape local ∙ ap₂ with_subcommand c.loop-name.invariant c.in_ok-row.ensures
     ∙ sym (program_more (λ s. s.now) _ c.loop-name.name-index _ below)

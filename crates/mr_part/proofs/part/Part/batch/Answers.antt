@@ -1,33 +1,40 @@
-use Rattle.std.proofs.Common.{◌≡◌, ◌≤◌, ◌==◌, ◌-◌, ◌++◌, nat_lt, true, false, drop, Err, ap, ◌∙◌, inl, inr, arith}
+use Rattle.std.proofs.Common.{◌≡◌, ◌≤◌, ◌==◌, ◌-◌, ◌++◌, nat_lt, true, false, drop, map, Some, Err, ap, ◌∙◌, subst, inl, inr, arith}
 use Rattle.std.proofs.lemmas.Bool.Decides.{nat_tests}
 use Rattle.std.proofs.lemmas.Result.{err_from_is_err_and}
 use Rattle.mr_model.specs.Positions.{Position}
 use Rattle.mr_model.specs.Replica.{tentative}
 use Rattle.mr_model.specs.Replies.{BatchIs}
 use Rattle.mr_model.specs.RowsInScope.{kept_commits}
+use Rattle.std.specs.List.{list_all}
+use Rattle.mr_model.specs.Exchange.{is_item}
+use Rattle.mr_base.specs.Answers.{ok_if}
+use Rattle.mr_base.specs.Batches.{item_of, batch_of}
+use Rattle.mr_base.specs.declared.refusals.Refusal.TheVariants.{NeedsVersion2}
+use Rattle.mr_replica.specs.Desk.{reply_with}
 use Rattle.mr_tables.specs.declared.summary.Summary.{Summary}
+use Rattle.mr_replica.specs.Outgoing.{Offers, ending_by}
 use Rattle.mr_tables.specs.Summary.{summary_of}
-use Rattle.mr_tables.proofs.Limits.{few_commits}
-use Rattle.mr_replica.specs.Outgoing.{batch_with}
-use Rattle.mr_replica.proofs.Batching.{batch_made}
 use Rattle.mr_part.specs.Parts.{PartView}
+use Rattle.mr_tables.proofs.Limits.{few_commits}
+use Rattle.mr_replica.proofs.Batching.{batch_made}
 use Rattle.mr_part.proofs.PartCalls.{part_items}
 use Rattle.mr_part.proofs.part.Part.batch.Goals as goal
 
-pub returns-in_err-batch-clause-step : goal.returns-in_err-batch-clause-step
-returns-in_err-batch-clause-step c = λ a sound part.
+pub returns-in_err-outgoing-clause-step : goal.returns-in_err-outgoing-clause-step
+returns-in_err-outgoing-clause-step c = λ a sound part.
     let x = err_from_is_err_and c.from_residual.result c.from_residual.ensures.1 in
     let e = c.self.view_is ∙ part in
     let is : c.position.inside.commits ≡ c.args.position.now.commits = ap (λ (p : Position). p.commits) c.position.view_is in
     let commits : c.self.inside.summary.commits ≡ _ = ap (λ (v : PartView). v.summary.commits) e in
     let few = few_commits a sound in
-    inr (x.1 ∙ ap Err (x.2 ∙ c.in_err-batch.ensures.only (omega arith) (omega arith)))
+    inr (x.1 ∙ ap Err (x.2 ∙ c.in_err-outgoing.ensures.only (omega arith) (omega arith)))
 
 pub returns-clause-step : goal.returns-clause-step
 returns-clause-step c = λ a sound part.
     let p = c.args.position.now in
-    let m = c.args.max_lines in
     let i = c.self.inside in
+    let there = c.in_ok-outgoing.outgoing.items.items in
+    let more = c.in_ok-outgoing.outgoing.more in
     let e = c.self.view_is ∙ part in
     let primary : i.summary.primary ≡ a.primary = ap (λ (v : PartView). v.summary.primary) e in
     let dropped : i.summary.dropped ≡ a.dropped = ap (λ (v : PartView). v.summary.dropped) e in
@@ -43,4 +50,6 @@ returns-clause-step c = λ a sound part.
     let numbers : s ≡ record (summary_of a) { dropped = p.commits } = λ t. record (e t).summary { dropped = commits t } in
     let kept : c.deref.result.now ≡ drop (p.commits - a.dropped) (kept_commits a) ++ tentative a = c.deref.ensures.value ∙ ap (λ (v : PartView). v.kept) e in
     let items = part_items a p s c.deref.result.now sound low numbers kept in
-    inl (ap BatchIs (c.in_ok-batch.ensures.batch ∙ (λ t. batch_with (e t).summary.server (e t).summary.primary m (items t))) ∙ batch_made a p m own whole)
+    let offers = subst (λ xs. Offers c.args.max_lines xs there more) items c.in_ok-outgoing.ensures.items in
+    let made = batch_made a p c.args.max_lines there more sound own whole offers in
+    inl (ap (reply_with BatchIs) (c.into_batch.ensures ∙ (λ t. ok_if (list_all is_item (map item_of there)) (batch_of (Some ((e t).summary.server, (e t).summary.primary)) there (ending_by more)) NeedsVersion2)) ∙ made)

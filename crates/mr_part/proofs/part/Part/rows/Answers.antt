@@ -9,11 +9,9 @@ pub returns : goal.returns
 returns c = λ s a sound asked part.
     let i = c.self.inside in
     let p : PartView = record { summary = i.summary; rooms = i.rooms.items; kept = i.kept.items; marks = i.marks.items; undo = i.undo.items; board = i.board } in
-    let all : length i.kept.items + length i.undo.items + length i.board ≡ counted_rows (in_scope s (tables_of a)) = rows_of_part p s a sound asked (c.self.view_is ∙ part) in
+    let all : length i.kept.items + length i.board ≡ counted_rows (in_scope s (tables_of a)) = rows_of_part p s a sound asked (c.self.view_is ∙ part) in
     let small = rows_few s a sound asked in
     let kept = ap length c.as_slice-kept.ensures.value in
-    let undo = ap length c.as_slice-undo.ensures.value in
     let board = c.len.ensures in
-    let logs = c.saturating_add-logs.ensures in
     let sum = c.saturating_add.ensures in
-    omega (arith, all, kept, undo, board, logs, sum, small)
+    omega (arith, all, kept, board, sum, small)

@@ -2,20 +2,18 @@ use Rattle.std.proofs.Common.{◌≡◌, Err, IfOk, true, ap, sym, ◌∙◌, su
 use Rattle.std.specs.Prelude.{bytes_eq}
 use Rattle.std.specs.List.{list_any}
 use Rattle.std.proofs.lemmas.Result.{err_from_is_err_and}
-use Rattle.mr_model.specs.Writes.{Id, id_of}
+use Rattle.mr_model.specs.Writes.{Id}
 use Rattle.mr_model.specs.Requests.{Request, is_request}
-use Rattle.mr_model.specs.Replica.{Replica, IsReplica, knows_room}
-use Rattle.mr_model.specs.Scopes.{InRoom}
+use Rattle.mr_model.specs.Replica.{knows_room}
 use Rattle.mr_model.specs.Step.{After}
 use Rattle.mr_model.specs.Tables.{tables_of}
-use Rattle.mr_replay.specs.Places.{UndoRow, place_of}
 use Rattle.mr_tables.specs.Change.{ChangeView, changed}
 use Rattle.mr_tables.specs.Summary.{stamp_next}
 use Rattle.mr_replica.specs.Desk.{reply_with}
-use Rattle.mr_part.specs.Parts.{PartView, IsPartOf}
+use Rattle.mr_part.specs.Parts.{PartView}
 use Rattle.mr_replica.specs.Steps.{submit_request, outcome_in}
 use Rattle.mr_replica.proofs.Submitting.{Submits, submits}
-use Rattle.mr_part.proofs.Parting.{PartSubmitted, part_submit}
+use Rattle.mr_part.proofs.Parting.{part_submit}
 use Rattle.mr_part.proofs.part.Part.submit.Goals as goal
 
 pub returns-in_err-stamp-clause-step : goal.returns-in_err-stamp-clause-step
@@ -33,22 +31,30 @@ returns-in_err-stamp-clause-step c = λ a sound part.
       subst (λ r. IfOk r (λ (x : Id × ChangeView). changed x.1 (tables_of a) ≡ tables_of (submit_request q a).replica)) (sym answer) tt,
     )
 
--- what is owed where the request is accepted
-accepted : (c : goal.After-drop-write-inside-4) (a : Replica) → IsReplica a → IsPartOf c.args.self.now (InRoom c.args.request.room) a → PartSubmitted a c.args.request c.id.result c.in_ok-change.change
-accepted c a sound part =
-    let i = c.self.inside in
-    let q = c.args.request in
-    let p : PartView = record { summary = i.summary; rooms = i.rooms.items; kept = i.kept.items; marks = i.marks.items; undo = i.undo.items; board = i.board } in
-    let request = c.request.view_is in
-    let within : IsTrue (is_request q) = subst (λ (r : Request). IsTrue (is_request r)) request c.request.invariant in
-    let there : list_any (bytes_eq q.room) i.rooms.items ≡ true = sym (λ t. list_any (bytes_eq (request t).room) (c.deref.ensures.value t)) ∙ sym c.is_known.ensures ∙ c.if-not-is_known.false in
-    let w = c.of_request-write.result in
-    let row : UndoRow = record { id = id_of w; place = place_of c.merge-place.result } in
-    part_submit a q p c.in_ok-stamp.stamp w c.note_write.new.self c.id.result row c.in_ok-change.change sound (c.self.view_is ∙ part) within there (sym c.next_stamp.ensures ∙ c.in_ok-stamp.was)
-    c.of_request-write.ensures c.note_write.ensures c.id.ensures (λ t. record { id = id_of w; place = c.merge-place.ensures t }) c.in_ok-change.ensures.change
-
 pub returns-clause-step : goal.returns-clause-step
-returns-clause-step c = λ a sound part. let done = accepted c a sound part in inl (done.step, done.turns)
+returns-clause-step c = λ a sound part.
+    let q = c.args.request in
+    let p = c.args.self.now in
+    let request = c.request.view_is in
+    let good : IsTrue (is_request q) = subst (λ (r : Request). IsTrue (is_request r)) request c.request.invariant in
+    let rooms = c.deref.ensures.value ∙ ap (λ (v : PartView). v.rooms) c.self.view_is in
+    let there : list_any (bytes_eq q.room) p.rooms ≡ true = sym (λ t. list_any (bytes_eq (request t).room) (rooms t)) ∙ sym c.is_known.ensures ∙ c.if-not-is_known.false in
+    let stamp = sym (ap stamp_next (ap (λ (v : PartView). v.summary) c.self.view_is)) ∙ sym c.next_stamp.ensures ∙ c.in_ok-stamp.was in
+    let done =
+    part_submit a q p c.in_ok-stamp.stamp c.of_request-write.result c.id.result c.in_ok-change.change sound part good there stamp
+    c.of_request-write.ensures c.id.ensures c.in_ok-change.ensures.change in
+    inl (done.step, done.turns)
 
 pub returns-clause-told : goal.returns-clause-told
-returns-clause-told c = λ a sound part. (accepted c a sound part).tells
+returns-clause-told c = λ a sound part.
+    let q = c.args.request in
+    let p = c.args.self.now in
+    let request = c.request.view_is in
+    let good : IsTrue (is_request q) = subst (λ (r : Request). IsTrue (is_request r)) request c.request.invariant in
+    let rooms = c.deref.ensures.value ∙ ap (λ (v : PartView). v.rooms) c.self.view_is in
+    let there : list_any (bytes_eq q.room) p.rooms ≡ true = sym (λ t. list_any (bytes_eq (request t).room) (rooms t)) ∙ sym c.is_known.ensures ∙ c.if-not-is_known.false in
+    let stamp = sym (ap stamp_next (ap (λ (v : PartView). v.summary) c.self.view_is)) ∙ sym c.next_stamp.ensures ∙ c.in_ok-stamp.was in
+    let done =
+    part_submit a q p c.in_ok-stamp.stamp c.of_request-write.result c.id.result c.in_ok-change.change sound part good there stamp
+    c.of_request-write.ensures c.id.ensures c.in_ok-change.ensures.change in
+    done.tells

@@ -8,8 +8,8 @@ use Rattle.mr_base.specs.Batches.{item_of}
 use Rattle.mr_replica.specs.Desk.{nothing_taken}
 use Rattle.mr_replica.specs.Taken.{ReachedView, is_inside}
 use Rattle.mr_part.specs.Parts.{PartView}
-use Rattle.mr_replica.specs.Logged.{logged_of}
-use Rattle.mr_replica.proofs.ReceivedRows.{items-grow}
+use Rattle.mr_replica.specs.KeptWrites.{numbered_of}
+use Rattle.mr_replica.proofs.Growing.{items-grow}
 use Rattle.mr_replica.proofs.TakingItems.{all_within}
 use Rattle.mr_part.proofs.ReceivingPart.{part_received, part_refused}
 use Rattle.mr_part.proofs.part.Part.take_undone.Goals as goal
@@ -42,7 +42,7 @@ returns-clause-step c = λ good short a sound part touched undone.
     let b = p.replica in
     let view = c.reached.view_is in
     let m = batches_move_touched_rooms items 2 (nothing_taken a) p sound (all_within items good) exact in
-    let kept : c.deref-3.result.now ≡ map (logged_of b) (filter (is_inside a items) (kept_in_order b)) = c.deref-3.ensures.value ∙ ap (λ (v : ReachedView). v.kept) view ∙ shows.kept in
+    let kept : c.deref-3.result.now ≡ map (numbered_of b) (filter (is_inside a items) (kept_in_order b)) = c.deref-3.ensures.value ∙ ap (λ (v : ReachedView). v.kept) view ∙ shows.kept in
     let writes = c.in_ok-again.ensures.writes a b (is_inside a items) (record { sound = sound; moves = m; are_touched = touched; commits_are = ap (λ (v : PartView). v.summary.commits) e; covers = λ w h. h; kept_are = kept; marks = shows.marks }) in
     let turns = c.in_ok-change.ensures.turns items a b (record {
       sound = sound;

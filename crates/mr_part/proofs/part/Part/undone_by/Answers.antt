@@ -1,10 +1,11 @@
 use Rattle.std.proofs.Common.{◌≡◌, ◌∙◌, ◌==◌, ◌&&◌, IfOk, map, ap, sym, subst}
 use Rattle.std.proofs.lemmas.Result.{err_from_is_err_and}
 use Rattle.std.specs.List.{filter}
-use Rattle.mr_model.specs.Writes.{Write, id_of}
+use Rattle.mr_model.specs.Writes.{Write}
 use Rattle.mr_model.specs.Replica.{tentative}
 use Rattle.mr_model.specs.Moving.{may_move}
-use Rattle.mr_model.specs.Tables.{seq_of, place_of}
+use Rattle.mr_model.specs.Tables.{seq_of}
+use Rattle.mr_model.specs.View.{place_of}
 use Rattle.mr_base.specs.Batches.{item_of}
 use Rattle.mr_replica.specs.Moves.{moves_in}
 use Rattle.mr_part.specs.Parts.{PartView}
@@ -29,9 +30,9 @@ returns-clause-rows c = λ a sound part right.
 pub returns-in_err-rows-clause-rows : goal.returns-in_err-rows-clause-rows
 returns-in_err-rows-clause-rows c = λ a sound part right.
     let p = err_from_is_err_and c.from_residual-in_err-rows.result c.from_residual-in_err-rows.ensures.1 in
-    subst (λ r. IfOk r (λ rows. rows.items ≡ map (λ w. record { id = id_of w; place = place_of a w }) (filter (may_move a (map item_of c.args.items.now)) (tentative a)))) (sym p.1) tt
+    subst (λ r. IfOk r (λ rows. rows.items ≡ map (undo_with (place_of a)) (filter (may_move a (map item_of c.args.items.now)) (tentative a)))) (sym p.1) tt
 
 pub returns-in_err-rooms-clause-rows : goal.returns-in_err-rooms-clause-rows
 returns-in_err-rooms-clause-rows c = λ a sound part right.
     let p = err_from_is_err_and c.from_residual.result c.from_residual.ensures.1 in
-    subst (λ r. IfOk r (λ rows. rows.items ≡ map (λ w. record { id = id_of w; place = place_of a w }) (filter (may_move a (map item_of c.args.items.now)) (tentative a)))) (sym p.1) tt
+    subst (λ r. IfOk r (λ rows. rows.items ≡ map (undo_with (place_of a)) (filter (may_move a (map item_of c.args.items.now)) (tentative a)))) (sym p.1) tt

@@ -1,7 +1,7 @@
 use Rattle.std.proofs.Common.{ap, sym, ◌∙◌}
 use Rattle.mr_model.specs.Replay.{is_free}
 use Rattle.mr_replay.specs.Rows.{bookings_of}
-use Rattle.mr_replay.proofs.Checking.{free-bookings, free-true, free_from}
+use Rattle.mr_replay.proofs.Checking.{free-true, free_from}
 use Rattle.mr_replay.proofs.Hiding.{shown-empty}
 use Rattle.mr_replay.proofs.board.Board.check.Goals as goal
 
@@ -11,5 +11,5 @@ returns-clause-test c =
 
 pub returns-clause-meaning : goal.returns-clause-meaning
 returns-clause-meaning c =
-    let is = returns-clause-test c ∙ sym (free-bookings c.args.room.now c.args.slot c.args.length c.args.self.now) in
+    let is = returns-clause-test c in
     (λ h. free-true c.args.room.now c.args.slot c.args.length c.args.self.now (sym is ∙ h), λ h. is ∙ free_from c.args.room.now c.args.slot c.args.length c.args.self.now h)

@@ -1,18 +1,27 @@
-use Rattle.std.proofs.Common.{◌≡◌, [], ◌∷◌, ◌++◌, ap, sym, ◌∙◌, subst}
+use Rattle.std.proofs.Common.{◌≡◌, [], ◌∷◌, ◌++◌, None, ap, sym, ◌∙◌, subst}
 use Rattle.std.specs.BTreeMap.{insert_entry}
-use Rattle.mr_model.specs.Writes.{id_of}
 use Rattle.mr_base.specs.Ids.{id_cmp}
-use Rattle.mr_replay.specs.Rows.{Rows, row_of, place_on}
+use Rattle.mr_replay.specs.Places.{UndoRow, place_of}
+use Rattle.mr_replay.specs.Rows.{Rows, row_of, place_on, marked_by, undo_row_at}
 use Rattle.mr_replay.specs.Holds.{Holds}
+use Rattle.mr_replay.proofs.OneRoom.{executed-row, executed-mark}
 use Rattle.mr_replay.proofs.Holding.{Holds-executed}
 use Rattle.mr_replay.proofs.board.Board.execute.Goals as goal
+use Rattle.mr_replay.proofs.board.Board.execute.Goals.{in-Some+in_ok-put-in-Some, in-None}
 
 pub returns-clause-board : goal.returns-clause-board
 returns-clause-board c =
+    let b = c.args.self.now in
     let w = c.args.write.now in
-    let id : c.id-id.result ≡ id_of w = c.id-id.ensures ∙ ap id_of c.write.view_is in
-    let row : c.in_ok-row.row ≡ row_of w (place_on c.args.self.now w) = c.in_ok-row.ensures.row ∙ ap (row_of w) c.merge-place.ensures in
-    c.in_ok-put.ensures.ok ∙ (λ t. insert_entry id_cmp c.args.self.now (id t) (row t))
+    let view : UndoRow = record { id = c.undo_row.inside.id; place = place_of c.undo_row.inside.place; target = c.undo_row.inside.target } in
+    let undo : view ≡ undo_row_at w (place_on b w) = c.undo_row.view_is ∙ c.of-undo_row.ensures ∙ ap (undo_row_at w) c.merge.ensures in
+    let row : c.in_ok-row.field-0 ≡ row_of w (place_on b w) None = c.in_ok-row.ensures.row ∙ ap (λ (u : UndoRow). row_of w u.place None) undo in
+    elim c.match-branch-2.branch [
+      | in-Some+in_ok-put-in-Some v ↦ v.self-is ∙ v.in_ok-put-in-Some.ensures.ok ∙ ap (λ (u : UndoRow). insert_entry id_cmp b u.id v.in-Some.row) undo
+          ∙ sym (executed-row b w (place_on b w) v.in-Some.row (sym row ∙ v.in-Some.is))
+      | in-None v ↦ v.self-is ∙ v.mark_target.ensures ∙ ap (λ (u : UndoRow). marked_by u.id u.place u.target b) (sym c.undo_row.view_is ∙ undo)
+          ∙ sym (executed-mark b w (place_on b w) (sym row ∙ v.in-None.is))
+    ]
 
 pub returns-clause-holds : goal.returns-clause-holds
 returns-clause-holds c = λ ws distinct holds.

@@ -1,4 +1,4 @@
-use Rattle.mr_replay.proofs.Redoing.{undone-executed}
+use Rattle.mr_replay.proofs.Holding.{undone-executed}
 use Rattle.mr_replay.proofs.board.Board.execute_next.Goals as goal
 
 pub returns-in-Err-clause-board_err : goal.returns-in-Err-clause-board_err

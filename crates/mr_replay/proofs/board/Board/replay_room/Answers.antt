@@ -13,14 +13,14 @@ use Rattle.mr_replay.proofs.board.Board.replay_room.Goals as goal
 done : (c : goal.After-finish) → c.finish.new.rows.entries ≡ executed_all (undone_all c.args.self.now c.args.undone.now) c.args.again.now
 done c =
     c.finish.ensures.board ∙ c.in-Ok.ensures.board
-    ∙ ap (λ r. executed_all r c.args.again.now) (c.in_ok-replay.ensures.shown c.self.inside.rows.entries c.self.invariant.ordered ∙ ap (λ b. undone_all b c.args.undone.now) c.self.view_is)
+    ∙ ap (λ r. executed_all (undone_all r c.args.undone.now) c.args.again.now) (c.new-replay.ensures.shown c.self.inside.rows.entries ∙ c.self.view_is)
 
 -- or all is as it was
 back : (c : goal.After-give_up) → (c.give_up.new.rows.entries ≡ c.self.inside.rows.entries) × IsIndexed c.self.inside.rows.entries c.give_up.new.index
 back c =
     let rows = c.self.inside.rows.entries in
-    let start : LeadsFrom rows c.in_ok-replay.replay.journal.items rows = subst (λ (js : List (Id × Option Row)). LeadsFrom rows js rows) (sym c.in_ok-replay.ensures.journal) (record { back = refl; places = tt }) in
-    c.give_up.ensures rows (c.execute_all.ensures.leads rows start) (IsIndexed-grown rows c.self.inside.index c.execute_all.new.index c.execute_all.ensures.grows c.self.invariant)
+    let start : LeadsFrom rows c.new-replay.result.journal.items rows = subst (λ (js : List (Id × Option Row)). LeadsFrom rows js rows) (sym c.new-replay.ensures.journal) (record { back = refl; places = tt }) in
+    c.give_up.ensures rows (c.replay.ensures.leads rows start) (IsIndexed-grown rows c.self.inside.index c.replay.new.index c.replay.ensures.grows c.self.invariant)
 
 pub invariant_of-self-in-Err : goal.invariant_of-self-in-Err
 invariant_of-self-in-Err c =

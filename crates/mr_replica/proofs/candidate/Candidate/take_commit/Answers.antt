@@ -2,7 +2,7 @@ use Rattle.std.proofs.Common.{true, false, Ok, Err, ap, sym, ◌∙◌, subst, i
 use Rattle.std.proofs.lemmas.Bool.{true≢false}
 use Rattle.std.proofs.lemmas.Result.{err_from_is_err_and}
 use Rattle.mr_model.specs.Taking.{take_commit, with_new_commit}
-use Rattle.mr_model.proofs.ReceivedPlaces.{commit_moved}
+use Rattle.mr_model.proofs.Orders.{commit_moved}
 use Rattle.mr_replica.specs.Taken.{TakesPicked}
 use Rattle.mr_replica.proofs.JudgingKept.{commit_judged}
 use Rattle.mr_replica.proofs.LearningKept.{move_found, shows-moved}

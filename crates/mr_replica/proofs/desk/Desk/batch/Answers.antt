@@ -1,29 +1,35 @@
-use Rattle.std.proofs.Common.{◌≡◌, ◌≤◌, ◌==◌, nat_lt, true, false, Err, ap, ◌∙◌, inl, inr, arith}
+use Rattle.std.proofs.Common.{◌≡◌, ◌≤◌, ◌==◌, nat_lt, true, false, Some, Err, map, ap, ◌∙◌, subst, inl, inr, arith}
 use Rattle.std.proofs.lemmas.Bool.Decides.{nat_tests}
 use Rattle.std.proofs.lemmas.Result.{err_from_is_err_and}
+use Rattle.std.specs.List.{list_all}
+use Rattle.mr_model.specs.Exchange.{is_item}
 use Rattle.mr_model.specs.Positions.{Position}
 use Rattle.mr_model.specs.Replies.{BatchIs}
 use Rattle.mr_tables.proofs.Limits.{few_commits}
-use Rattle.mr_replica.specs.Outgoing.{kept_items, batch_with}
-use Rattle.mr_replica.specs.Desk.{DeskView}
-use Rattle.mr_replica.proofs.Desks.{summary_in}
+use Rattle.mr_base.specs.Answers.{ok_if}
+use Rattle.mr_base.specs.Batches.{item_of, batch_of}
+use Rattle.mr_base.specs.declared.refusals.Refusal.TheVariants.{NeedsVersion2}
+use Rattle.mr_replica.specs.Outgoing.{Offers, kept_items, ending_by}
+use Rattle.mr_replica.specs.Desk.{DeskView, reply_with}
+use Rattle.mr_replica.specs.Accepting.{summary_in}
 use Rattle.mr_replica.proofs.Batching.{items-kept, batch_made}
 use Rattle.mr_replica.proofs.desk.Desk.batch.Goals as goal
 
-pub returns-in_err-batch-clause-step : goal.returns-in_err-batch-clause-step
-returns-in_err-batch-clause-step c = λ a sound stands.
+pub returns-in_err-outgoing-clause-step : goal.returns-in_err-outgoing-clause-step
+returns-in_err-outgoing-clause-step c = λ a sound stands.
     let x = err_from_is_err_and c.from_residual.result c.from_residual.ensures.1 in
     let e = c.self.view_is ∙ stands in
     let is : c.position.inside.commits ≡ c.args.position.now.commits = ap (λ (p : Position). p.commits) c.position.view_is in
     let commits : c.self.inside.summary.commits ≡ _ = ap (λ (d : DeskView). d.commits) e in
     let few = few_commits a sound in
     let whole = c.if-position-self.false in
-    inr (x.1 ∙ ap Err (x.2 ∙ c.in_err-batch.ensures.only (omega arith) (omega arith)), λ _. c.args.self.now)
+    inr (x.1 ∙ ap Err (x.2 ∙ c.in_err-outgoing.ensures.only (omega arith) (omega arith)), λ _. c.args.self.now)
 
 pub returns-clause-step : goal.returns-clause-step
 returns-clause-step c = λ a sound stands.
     let p = c.args.position.now in
-    let m = c.args.max_lines in
+    let there = c.in_ok-outgoing.outgoing.items.items in
+    let more = c.in_ok-outgoing.outgoing.more in
     let e = c.self.view_is ∙ stands in
     let primary : c.self.inside.summary.primary ≡ a.primary = ap (λ (d : DeskView). d.primary) e in
     let dropped : c.self.inside.summary.dropped ≡ a.dropped = ap (λ (d : DeskView). d.dropped) e in
@@ -37,4 +43,6 @@ returns-clause-step c = λ a sound stands.
     let whole : nat_lt p.commits a.dropped ≡ false = grind (arith, nat_tests) in
     let kept = c.kept.ensures in
     let items = (λ t. kept_items p c.self.inside.summary (kept t)) ∙ (λ t. kept_items p (summary_in (e t)) (e t).log.kept) ∙ items-kept a p sound low in
-    inl (ap BatchIs (c.in_ok-batch.ensures.batch ∙ (λ t. batch_with (e t).server (e t).primary m (items t))) ∙ batch_made a p m own whole, stands)
+    let offers = subst (λ xs. Offers c.args.max_lines xs there more) items c.in_ok-outgoing.ensures.items in
+    let made = batch_made a p c.args.max_lines there more sound own whole offers in
+    inl (ap (reply_with BatchIs) (c.into_batch.ensures ∙ (λ t. ok_if (list_all is_item (map item_of there)) (batch_of (Some ((e t).server, (e t).primary)) there (ending_by more)) NeedsVersion2)) ∙ made, stands)

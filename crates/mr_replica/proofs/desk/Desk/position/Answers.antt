@@ -35,7 +35,7 @@ returns-clause-step c = λ a sound stands.
 pub returns-clause-own : goal.returns-clause-own
 returns-clause-own c = λ limits.
     let i = c.self.inside in
-    let d = desk_with i.summary i.rooms.items i.log i.old_errors.items in
+    let d = desk_with i.summary i.rooms.items i.log i.old_errors.items i.old_cancels.items in
     let within = subst IsWithinLimits (sym c.self.view_is) limits in
     let server = subst (λ (s : ℕ). IsTrue (is_server s)) c.number.ensures.value c.number.ensures.in_range in
     let primary = subst (λ (s : ℕ). IsTrue (is_server s)) c.number-2.ensures.value c.number-2.ensures.in_range in

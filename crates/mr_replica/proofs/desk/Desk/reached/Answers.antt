@@ -7,7 +7,7 @@ use Rattle.mr_base.specs.Batches.{item_of}
 use Rattle.mr_replica.specs.Desk.{DeskView, nothing_taken}
 use Rattle.mr_replica.specs.Taken.{TakenPicked}
 use Rattle.mr_replica.specs.Received.{all_writes}
-use Rattle.mr_replica.proofs.Desks.{summary_in}
+use Rattle.mr_replica.specs.Accepting.{summary_in}
 use Rattle.mr_replica.proofs.Moves.{all_pass}
 use Rattle.mr_replica.proofs.desk.Desk.reached.Goals as goal
 

@@ -7,25 +7,25 @@ use Rattle.mr_model.specs.Exchange.{Item}
 use Rattle.mr_model.specs.Kept.{kept_in_order}
 use Rattle.mr_model.specs.Replica.{Replica, is_among}
 use Rattle.mr_model.specs.Moving.{again}
-use Rattle.mr_model.specs.Tables.{seq_of, place_of}
+use Rattle.mr_model.specs.Tables.{seq_of}
+use Rattle.mr_model.specs.View.{place_of}
 use Rattle.mr_base.specs.Batches.{item_of}
-use Rattle.mr_replay.specs.Places.{UndoRow}
 use Rattle.mr_replay.specs.Rows.{executed_all, undone_all, undo_rows_of}
 use Rattle.mr_tables.specs.declared.summary.Summary.{Summary}
 use Rattle.mr_model.specs.Texts.{Text}
 use Rattle.mr_replica.specs.Desk.{DeskView, desk_of}
 use Rattle.mr_replica.specs.Moves.{rooms_named, AreTouched, moves_in}
 use Rattle.mr_replica.specs.Sets.{AreSameRooms}
-use Rattle.mr_replica.specs.Logged.{logged_of}
+use Rattle.mr_replica.specs.KeptWrites.{numbered_of}
 use Rattle.mr_replica.specs.Logged.{undo_with}
 use Rattle.mr_replica.specs.Received.{Reaches, IsReplayed, all_writes}
 use Rattle.mr_replica.proofs.DeskMoves.{others_rows, new_places, new_board}
-use Rattle.mr_replica.proofs.DeskReceives.{undone_named, desk_undo}
+use Rattle.mr_replica.proofs.BatchBoards.{undone_rows, board_left, undo_rows_are}
+use Rattle.mr_replica.proofs.DeskBoards.{board_of}
+use Rattle.mr_replica.proofs.DeskReceives.{undone_are, desk_undo}
 use Rattle.mr_replica.proofs.Moves.{touched_told, all_pass}
-use Rattle.mr_replica.proofs.MovedWrites.{moving}
 use Rattle.mr_replica.proofs.Logs.{length-undo_rows_of}
 use Rattle.mr_replica.proofs.desk.Desk.replay.Goals as goal
-use Rattle.mr_replica.proofs.Writing.{undo_rows_are}
 
 module _ (c : goal.After-drop-touched-2) (a b : Replica) (summary : Summary) (rooms : List Text) (t : Reaches c.args.self.now (map item_of c.args.items.now) summary rooms c.args.kept.now a b) (marks : c.args.marks.now ≡ map (seq_of a) (kept_in_order a)) where
   abbrev items : List Item
@@ -54,12 +54,12 @@ module _ (c : goal.After-drop-touched-2) (a b : Replica) (summary : Summary) (ro
   numbers : c.args.marks.now ≡ map (seq_of a) c.kept-old.result.now
   numbers = marks ∙ ap (map (seq_of a)) (sym old)
 
-  named : map (λ (u : UndoRow). u.id) c.in_ok-parted.parted.0.items ≡ map id_of (moving a items a)
-  named =
-      ap (map (λ (u : UndoRow). u.id))
-      (c.in_ok-parted.ensures.moving (seq_of a) (undo_with (place_of a)) numbers undo
-      ∙ (λ i. map (undo_with (place_of a)) (filter (λ w. seq_of a w == 0 && moves_in c.deref.result.now items (commits i) w) (old i))))
-      ∙ undone_named a items c.deref.result.now t.sound touched_here
+  undone : c.deref-3.result.now ≡ undone_rows a items
+  undone =
+      c.deref-3.ensures.value
+      ∙ c.in_ok-parted.ensures.moving (seq_of a) (undo_with (place_of a)) numbers undo
+      ∙ (λ i. map (undo_with (place_of a)) (filter (λ w. seq_of a w == 0 && moves_in c.deref.result.now items (commits i) w) (old i)))
+      ∙ undone_are a items c.deref.result.now t.sound touched_here
 
   others : c.in_ok-parted.parted.1.items ≡ map (undo_with (place_of b)) (filter (λ w. not (is_among (id_of w) (map id_of (again a items t.moves.news b)))) (kept_in_order b))
   others =
@@ -76,12 +76,9 @@ module _ (c : goal.After-drop-touched-2) (a b : Replica) (summary : Summary) (ro
         are_touched = subst (λ names. AreTouched names a items) (sym c.deref-2.ensures.value) touched;
         commits_are = commits;
         covers = λ w h. refl;
-        kept_are = t.kept_are ∙ ap (map (logged_of b)) (sym (all_pass (kept_in_order b)));
+        kept_are = t.kept_are ∙ ap (map (numbered_of b)) (sym (all_pass (kept_in_order b)));
         marks = λ w. inr refl;
       })
-
-  abbrev us : List UndoRow
-  us = c.in_ok-parted.parted.0.items
 
   board : c.self.inside.log.board ≡ (desk_of a).log.board
   board = ap (λ (v : DeskView). v.log.board) (c.self.view_is ∙ desk)
@@ -91,12 +88,12 @@ module _ (c : goal.After-drop-touched-2) (a b : Replica) (summary : Summary) (ro
       record {
         again_are = writes;
         rows_are = c.in_ok-replayed.ensures.rows
-            ∙ (λ i. undo_rows_of (undone_all (board i) (c.deref-3.ensures.value i)) ((c.deref-4.ensures.value ∙ writes) i))
-            ∙ undo_rows_are (place_of b) (undone_all (desk_of a).log.board us) (again a items t.moves.news b) (new_places a b items t.moves t.sound us named);
+            ∙ (λ i. undo_rows_of (undone_all (board i) (undone i)) ((c.deref-4.ensures.value ∙ writes) i))
+            ∙ undo_rows_are (place_of b) (board_left a items (board_of a)) (again a items t.moves.news b) (new_places a b items t.moves t.sound);
         others_are = others;
         board_is = c.in_ok-replayed.ensures.board
-            ∙ (λ i. executed_all (undone_all (board i) (c.deref-3.ensures.value i)) ((c.deref-4.ensures.value ∙ writes) i))
-            ∙ new_board a b items t.moves t.sound us named;
+            ∙ (λ i. executed_all (undone_all (board i) (undone i)) ((c.deref-4.ensures.value ∙ writes) i))
+            ∙ new_board a b items t.moves t.sound;
       }
 
 pub returns-clause-replayed : goal.returns-clause-replayed

@@ -7,11 +7,10 @@ use Rattle.mr_model.specs.Requests.{Request, is_request}
 use Rattle.mr_model.specs.Replica.{Replica, IsReplica, knows_room}
 use Rattle.mr_model.specs.Step.{After}
 use Rattle.mr_tables.specs.Change.{ChangeView}
-use Rattle.mr_replica.specs.Log.{pushed}
-use Rattle.mr_tables.specs.Summary.{noted_write, stamp_next}
+use Rattle.mr_tables.specs.Summary.{stamp_next}
 use Rattle.mr_replica.specs.Desk.{DeskView, desk_of, StandsFor, reply_with}
 use Rattle.mr_replica.specs.Steps.{submit_request, outcome_in}
-use Rattle.mr_replica.proofs.Desks.{summary_in, desk_with}
+use Rattle.mr_replica.specs.Accepting.{summary_in}
 use Rattle.mr_replica.proofs.Submitting.{Submits, submits}
 use Rattle.mr_replica.proofs.SubmittedRows.{Submitted, submitted}
 use Rattle.mr_replica.proofs.desk.Desk.submit.Goals as goal
@@ -34,31 +33,22 @@ returns-in_err-stamp-clause-step c = λ a sound stands.
 pub returns-in_err-change-clause-step : goal.returns-in_err-change-clause-step
 returns-in_err-change-clause-step c = λ a sound stands.
     let p = err_from_is_err_and c.from_residual-in_err-change.result c.from_residual-in_err-change.ensures.1 in
-    inr (p.1 ∙ ap Err (p.2 ∙ c.in_err-change.ensures.only), λ _. c.args.self.now)
-
-pub returns-in_err-push-clause-step : goal.returns-in_err-push-clause-step
-returns-in_err-push-clause-step c = λ a sound stands.
-    let p = err_from_is_err_and c.from_residual-in_err-push.result c.from_residual-in_err-push.ensures.1 in
-    inr (p.1 ∙ ap Err (p.2 ∙ c.in_err-push.ensures.only), ap (λ l. desk_with c.self.inside.summary c.self.inside.rooms.items l c.self.inside.old_errors.items) c.in_err-push.ensures.err ∙ c.self.view_is)
+    inr (p.1 ∙ ap Err (p.2 ∙ c.in_err-change.ensures.only), c.in_err-change.ensures.err)
 
 -- what is owed where the request is accepted
-accepted : (c : goal.After-id) (a : Replica) → IsReplica a → StandsFor c.args.self.now a → Submitted a c.args.request c.id.result c.in_ok-change.change c.args.self.now (desk_with c.note_write.new.self c.self.inside.rooms.items c.push.new.self c.self.inside.old_errors.items)
+accepted : (c : goal.After-id) (a : Replica) → IsReplica a → StandsFor c.args.self.now a → Submitted a c.args.request c.id.result c.in_ok-change.change c.args.self.now c.accept.new.self
 accepted c a sound stands =
     let q = c.args.request in
     let d = c.args.self.now in
     let e = c.self.view_is in
     let stamp = c.in_ok-stamp.stamp in
-    let s = c.note_write.new.self in
-    let w = c.of_request-write.result in
+    let w = c.of_request.result in
     let request = c.request.view_is in
     let within : IsTrue (is_request q) = subst (λ (r : Request). IsTrue (is_request r)) request c.request.invariant in
     let rooms = c.deref.ensures.value ∙ ap (λ (v : DeskView). v.rooms) e in
     let known : list_any (bytes_eq q.room) d.rooms ≡ true = sym (λ t. list_any (bytes_eq (request t).room) (rooms t)) ∙ sym c.is_known.ensures ∙ c.if-not-is_known.false in
     let next : stamp_next (summary_in d) ≡ Ok stamp = sym (ap (λ v. stamp_next (summary_in v)) e) ∙ sym c.next_stamp.ensures ∙ c.in_ok-stamp.was in
-    let noted : s ≡ noted_write (summary_in d) stamp = c.note_write.ensures ∙ ap (λ v. noted_write (summary_in v) stamp) e in
-    let log : c.push.new.self ≡ pushed d.log w = c.in_ok-push.ensures.ok ∙ ap (λ (v : DeskView). pushed v.log w) e in
-    submitted a q d (desk_with s c.self.inside.rooms.items c.push.new.self c.self.inside.old_errors.items) stamp w s c.id.result c.in_ok-change.change sound stands within known next c.of_request-write.ensures noted c.id.ensures
-    c.in_ok-change.ensures.change (λ t. desk_with s (e t).rooms (log t) (e t).old_errors)
+    submitted a q d c.accept.new.self stamp w c.id.result c.in_ok-change.change sound stands within known next c.of_request.ensures c.id.ensures c.in_ok-change.ensures.change c.in_ok-change.ensures.ok
 
 pub returns-clause-step : goal.returns-clause-step
 returns-clause-step c = λ a sound stands. let done = accepted c a sound stands in inl (done.step, done.stands)

@@ -1,5 +1,5 @@
-use Rattle.std.proofs.Common.{◌≡◌, ◌-◌, ◌≤◌, ◌==◌, nat_lt, max, false, Err, length, take, ap, sym, ◌∙◌, inl, inr, arith}
-use Rattle.std.proofs.lemmas.Bool.{eqb-false}
+use Rattle.std.proofs.Common.{◌≡◌, ◌++◌, ◌-◌, ◌≤◌, ◌==◌, nat_lt, max, true, false, cond, is_ok, List, Result, Err, length, take, ap, sym, ◌∙◌, inl, inr, arith}
+use Rattle.std.proofs.lemmas.Bool.{eqb-false, cond-true}
 use Rattle.std.proofs.lemmas.Bool.Decides.{nat_tests}
 use Rattle.std.proofs.lemmas.List.{take_min}
 use Rattle.std.proofs.lemmas.Result.{err_from_is_err_and}
@@ -7,10 +7,22 @@ use Rattle.mr_model.specs.Replies.{DroppedIs}
 use Rattle.mr_model.specs.Step.{After}
 use Rattle.mr_tables.specs.declared.summary.Summary.{Summary}
 use Rattle.mr_replica.specs.Desk.{DeskView, desk_of}
-use Rattle.mr_replica.proofs.Desks.{summary_in, desk_with}
+use Rattle.mr_replica.specs.Accepting.{summary_in}
+use Rattle.mr_replica.proofs.Desks.{desk_with}
 use Rattle.mr_replica.proofs.Truncating.{truncate_done}
 use Rattle.mr_replica.proofs.CommandTurns.{truncated_is, truncate_turns}
 use Rattle.mr_replica.proofs.desk.Desk.truncate.Goals as goal
+
+-- an append that had the room
+all_added : {T E X : Type 0} (r : Result T E) (new was xs : List X) → is_ok r ≡ true → new ≡ cond (is_ok r) (was ++ xs) was → new ≡ was ++ xs
+all_added r new was xs ok e = e ∙ cond-true (is_ok r) (was ++ xs) was ok
+
+-- the rows of the dropped cancels come behind the old ones
+cancels_added : (c : goal.After-drop-errors-2) → c.append-2.new.self.items ≡ c.self.inside.old_cancels.items ++ c.in_ok-cancels.cancels.items
+cancels_added c =
+    let fits = c.append-2.ensures.succeeds (omega (arith, c.in_ok-reserve.ensures.ok, c.len.ensures)) in
+    all_added c.append-2.result c.append-2.new.self.items _ c.in_ok-cancels.cancels.items fits c.append-2.ensures.items
+    ∙ ap (λ xs. xs ++ c.in_ok-cancels.cancels.items) c.in_ok-reserve.ensures.items
 
 pub returns-in_err-errors-clause-step : goal.returns-in_err-errors-clause-step
 returns-in_err-errors-clause-step c = λ a sound stands.
@@ -26,7 +38,7 @@ pub returns-clause-step : goal.returns-clause-step
 returns-clause-step c = λ a sound stands.
     let i = c.self.inside in
     let n = c.args.number in
-    let d = desk_with i.summary i.rooms.items i.log i.old_errors.items in
+    let d = desk_with i.summary i.rooms.items i.log i.old_errors.items i.old_cancels.items in
     let e = c.self.view_is ∙ stands in
     let server : i.summary.server ≡ a.server = ap (λ (d : DeskView). d.server) e in
     let primary : i.summary.primary ≡ a.primary = ap (λ (d : DeskView). d.primary) e in
@@ -38,14 +50,14 @@ returns-clause-step c = λ a sound stands.
     let late : nat_lt (length a.commits) n ≡ false = grind (arith, nat_tests) in
     let step = truncate_done a n own late in
     let top : c.max.result ≡ max a.dropped n = c.max.ensures ∙ ap (λ k. max k n) dropped in
-    let new = truncated_is a n d c.saturating_sub-more.result c.saturating_add.result c.max.result c.drop_front.new.self c.in_ok-errors.errors.items c.append.new.self.items sound within e c.saturating_sub-more.ensures c.saturating_add.ensures c.max.ensures c.drop_front.ensures c.in_ok-errors.ensures.errors c.in_ok-append.ensures.items in
+    let new = truncated_is a n d c.saturating_sub-more.result c.saturating_add-first.result c.max.result c.drop_front.new.self c.in_ok-errors.errors.items c.append.new.self.items c.in_ok-cancels.cancels.items c.append-2.new.self.items sound within e c.saturating_sub-more.ensures c.saturating_add-first.ensures c.max.ensures c.drop_front.ensures c.in_ok-errors.ensures.errors c.in_ok-append.ensures.items c.in_ok-cancels.ensures.cancels (cancels_added c) in
     inl (ap DroppedIs top ∙ ap (λ (s : After). s.reply) (sym step), new ∙ ap (λ (s : After). desk_of s.replica) (sym step))
 
 pub returns-clause-change : goal.returns-clause-change
 returns-clause-change c = λ a sound stands.
     let i = c.self.inside in
     let n = c.args.number in
-    let d = desk_with i.summary i.rooms.items i.log i.old_errors.items in
+    let d = desk_with i.summary i.rooms.items i.log i.old_errors.items i.old_cancels.items in
     let e = c.self.view_is ∙ stands in
     let server : i.summary.server ≡ a.server = ap (λ (d : DeskView). d.server) e in
     let primary : i.summary.primary ≡ a.primary = ap (λ (d : DeskView). d.primary) e in
@@ -56,8 +68,13 @@ returns-clause-change c = λ a sound stands.
     let within : n ≤ length a.commits = omega arith in
     let top : c.max.result ≡ max a.dropped n = c.max.ensures ∙ ap (λ k. max k n) dropped in
     let more = c.saturating_sub-more.result in
-    let new = truncated_is a n d more c.saturating_add.result c.max.result c.drop_front.new.self c.in_ok-errors.errors.items c.append.new.self.items sound within e c.saturating_sub-more.ensures c.saturating_add.ensures c.max.ensures c.drop_front.ensures c.in_ok-errors.ensures.errors c.in_ok-append.ensures.items in
+    let new = truncated_is a n d more c.saturating_add-first.result c.max.result c.drop_front.new.self c.in_ok-errors.errors.items c.append.new.self.items c.in_ok-cancels.cancels.items c.append-2.new.self.items sound within e c.saturating_sub-more.ensures c.saturating_add-first.ensures c.max.ensures c.drop_front.ensures c.in_ok-errors.ensures.errors c.in_ok-append.ensures.items c.in_ok-cancels.ensures.cancels (cancels_added c) in
     let numbers : Summary = record i.summary { dropped = c.max.result } in
     let kept = c.kept-kept.ensures in
     let front = (λ t. take (c.min.ensures t) (c.kept-kept.result.now)) ∙ take_min more c.kept-kept.result.now ∙ (λ t. take ((c.saturating_sub-more.ensures ∙ ap (λ k. n - k) dropped) t) ((kept ∙ ap (λ (d : DeskView). d.log.kept) e) t)) in
-    truncate_turns a n c.args.self.now (desk_with numbers i.rooms.items c.drop_front.new.self c.append.new.self.items) numbers (take c.min.result c.kept-kept.result.now) c.in_ok-change.change sound (eqb-false a.server a.primary own) within stands new (λ t. record (summary_in (e t)) { dropped = top t }) front c.in_ok-change.ensures.change
+    truncate_turns a n c.args.self.now (desk_with numbers i.rooms.items c.drop_front.new.self c.append.new.self.items c.append-2.new.self.items) numbers (take c.min.result c.kept-kept.result.now) c.in_ok-change.change sound (eqb-false a.server a.primary own) within stands new (λ t. record (summary_in (e t)) { dropped = top t }) front c.in_ok-change.ensures.change
+
+pub returns-in_err-cancels-clause-step : goal.returns-in_err-cancels-clause-step
+returns-in_err-cancels-clause-step c = λ a sound stands.
+    let p = err_from_is_err_and c.from_residual-in_err-cancels.result c.from_residual-in_err-cancels.ensures.1 in
+    inr (p.1 ∙ ap Err (p.2 ∙ c.in_err-cancels.ensures.only), λ _. c.args.self.now)

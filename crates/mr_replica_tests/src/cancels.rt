@@ -1,0 +1,312 @@
+// Cancels at desks and at parts: what each call answers, and which rows it puts.
+
+use crate::desks::{Ask, Call, NO_ERROR, NONE, NOTHING, Put, Told, answer, opening, puts};
+use crate::tables::{Rows, tables};
+use crate::tests::{OPENING, TAKEN_BACK};
+use mr_base::{Item, Refusal, RoomName, WriteId};
+use mr_part::{Part, Scope};
+use mr_replay::Place;
+use mr_tables::Change;
+use std::alloc::Global;
+use std::process::Abort;
+use std::test::Fail;
+
+const ALPHA: Ask = Ask {
+    title: "Alpha",
+    length: 60,
+    wish: 540,
+    other: None,
+};
+
+const BETA: Ask = Ask {
+    title: "Beta",
+    length: 60,
+    wish: 540,
+    other: Some(600),
+};
+
+const GAMMA: Ask = Ask {
+    title: "Gamma",
+    length: 60,
+    wish: 540,
+    other: None,
+};
+
+const XRAY: Ask = Ask {
+    title: "Xray",
+    length: 60,
+    wish: 570,
+    other: None,
+};
+
+/// The rows that a call puts into `cancelled` and `cancels`, the first of each: the server, the number and the start of a booking,
+/// the cancel that took it back, and whether the booking is committed; the server and the number of a cancel, whether it is done,
+/// and its commit number. The servers are 0 where there is none.
+type Taken = ((u32, u32, u32), (u32, u32), bool, (u32, u32, bool, u64));
+
+const NO_CANCEL: (u32, u32, bool, u64) = (0, 0, false, 0);
+
+const NOTHING_TAKEN: Taken = (NONE, (0, 0), false, NO_CANCEL);
+
+/// A call of a server's desk, what it answers, and which rows it puts.
+type Row = (usize, Call, Result<Told, Refusal>, Put, Taken);
+
+static CASES: [(&str, &[Row]); 4] = [
+    // A tentative cancel takes a committed booking back, and its slot is free.
+    (
+        "a booking is taken back",
+        &[
+            (1, Call::AddOak, Ok((0, 0)), NOTHING, NOTHING_TAKEN),
+            (
+                1,
+                Call::Submit(ALPHA),
+                Ok((1, 0)),
+                ((1, 1, 540), NONE, NO_ERROR),
+                NOTHING_TAKEN,
+            ),
+            (
+                1,
+                Call::Submit(BETA),
+                Ok((2, 0)),
+                ((1, 2, 600), NONE, NO_ERROR),
+                NOTHING_TAKEN,
+            ),
+            (
+                1,
+                Call::Commit(1),
+                Ok((1, 0)),
+                ((1, 1, 540), NONE, NO_ERROR),
+                NOTHING_TAKEN,
+            ),
+            (
+                1,
+                Call::Cancel(1, 1),
+                Ok((3, 0)),
+                NOTHING,
+                ((1, 1, 540), (1, 3), true, (1, 3, true, 0)),
+            ),
+            (
+                1,
+                Call::Submit(GAMMA),
+                Ok((4, 0)),
+                ((1, 4, 540), NONE, NO_ERROR),
+                NOTHING_TAKEN,
+            ),
+            // What is taken back already stays so, and the cancel is void.
+            (
+                1,
+                Call::Cancel(1, 1),
+                Ok((5, 0)),
+                NOTHING,
+                (NONE, (0, 0), false, (1, 5, false, 0)),
+            ),
+            // A cancel is no booking.
+            (
+                1,
+                Call::Cancel(1, 3),
+                Err(Refusal::NoSuchRequest),
+                NOTHING,
+                NOTHING_TAKEN,
+            ),
+            (
+                2,
+                Call::HandOver(1, 10),
+                Err(Refusal::NeedsVersion2),
+                NOTHING,
+                NOTHING_TAKEN,
+            ),
+            (
+                2,
+                Call::HandOver(1, 3),
+                Ok((2, 1)),
+                ((1, 1, 540), (1, 2, 600), NO_ERROR),
+                NOTHING_TAKEN,
+            ),
+        ],
+    ),
+    // The write of server 1 comes before both of server 2: the booking is logged, and the cancel is void.
+    (
+        "a cancel finds nothing to take back",
+        &[
+            (1, Call::AddOak, Ok((0, 0)), NOTHING, NOTHING_TAKEN),
+            (2, Call::AddOak, Ok((0, 0)), NOTHING, NOTHING_TAKEN),
+            (
+                2,
+                Call::Submit(ALPHA),
+                Ok((1, 0)),
+                ((2, 1, 540), NONE, NO_ERROR),
+                NOTHING_TAKEN,
+            ),
+            (
+                2,
+                Call::Cancel(2, 1),
+                Ok((2, 0)),
+                NOTHING,
+                ((2, 1, 540), (2, 2), false, (2, 2, true, 0)),
+            ),
+            (
+                1,
+                Call::Submit(XRAY),
+                Ok((1, 0)),
+                ((1, 1, 570), NONE, NO_ERROR),
+                NOTHING_TAKEN,
+            ),
+            (
+                2,
+                Call::HandOver(1, 10),
+                Ok((1, 0)),
+                ((1, 1, 570), NONE, (2, 1, 0)),
+                (NONE, (0, 0), false, (2, 2, false, 0)),
+            ),
+        ],
+    ),
+    // A commit keeps what was taken back so.
+    (
+        "a booking that was taken back is committed",
+        &[
+            (1, Call::AddOak, Ok((0, 0)), NOTHING, NOTHING_TAKEN),
+            (
+                1,
+                Call::Submit(ALPHA),
+                Ok((1, 0)),
+                ((1, 1, 540), NONE, NO_ERROR),
+                NOTHING_TAKEN,
+            ),
+            (
+                1,
+                Call::Cancel(1, 1),
+                Ok((2, 0)),
+                NOTHING,
+                ((1, 1, 540), (1, 2), false, (1, 2, true, 0)),
+            ),
+            (
+                1,
+                Call::Commit(1),
+                Ok((1, 0)),
+                NOTHING,
+                ((1, 1, 540), (1, 2), true, NO_CANCEL),
+            ),
+            (
+                1,
+                Call::Commit(1),
+                Ok((1, 0)),
+                NOTHING,
+                (NONE, (0, 0), false, (1, 2, true, 2)),
+            ),
+        ],
+    ),
+    // What was read goes on: the committed booking is dropped, and stays taken back.
+    (
+        "a booking that was taken back is read",
+        &[
+            (
+                3,
+                Call::Cancel(3, 1),
+                Err(Refusal::UnknownRoom),
+                NOTHING,
+                NOTHING_TAKEN,
+            ),
+            (
+                3,
+                Call::Read(&TAKEN_BACK),
+                Ok((0, 0)),
+                NOTHING,
+                NOTHING_TAKEN,
+            ),
+            (3, Call::Position, Ok((1, 2)), NOTHING, NOTHING_TAKEN),
+            (3, Call::Truncate(1), Ok((1, 1)), NOTHING, NOTHING_TAKEN),
+            (
+                3,
+                Call::Cancel(3, 1),
+                Ok((2, 0)),
+                NOTHING,
+                (NONE, (0, 0), false, (3, 2, false, 0)),
+            ),
+        ],
+    ),
+];
+
+fn cancelled(change: &Change) -> ((u32, u32, u32), (u32, u32), bool) {
+    match change.cancelled.first() {
+        Some(row) => (
+            (row.server.number(), row.n, row.start),
+            (row.by.server.number(), row.by.n),
+            row.committed,
+        ),
+        None => (NONE, (0, 0), false),
+    }
+}
+
+fn cancel(change: &Change) -> (u32, u32, bool, u64) {
+    match change.cancels.first() {
+        Some(row) => (row.server.number(), row.n, row.done, row.seq),
+        None => NO_CANCEL,
+    }
+}
+
+/// Whether the change puts these rows into `cancelled` and `cancels`.
+fn takes(change: &Change, taken: Taken) -> bool {
+    let (booking, by, committed, row) = taken;
+    cancelled(change) == (booking, by, committed)
+        && cancel(change) == row
+        && change.cancelled.len() < 2
+        && change.cancels.len() < 2
+}
+
+/// The desks, asked one call after the other, answer so and put these rows.
+fn check_calls(rt: &impl Abort, alloc: Global, name: &str, rows: &[Row]) -> Result<(), Fail> {
+    let mut desks = opening(alloc)?;
+    for (index, (own, call, wanted, put, taken)) in rows.iter().enumerate() {
+        let is_so = match answer(alloc, &mut desks, *own, *call) {
+            Ok((told, Some(change))) => {
+                *wanted == Ok(told) && puts(&change, *put) && takes(&change, *taken)
+            }
+            Ok((told, None)) => *wanted == Ok(told),
+            Err(refusal) => *wanted == Err(refusal),
+        };
+        assert!(rt; is_so, "{name}, at {index}");
+    }
+    Ok(())
+}
+
+#[test]
+fn cancels_are_answered(rt: HostRuntime) -> Result<(), Fail> {
+    for (name, rows) in &CASES {
+        check_calls(&rt, rt.alloc(), name, rows)?;
+    }
+    Ok(())
+}
+
+/// Server 3's write, and server 2's cancel that took it back, are tentative.
+const BOTH_TENTATIVE: Rows = Rows {
+    meta: (0, 0, 3),
+    vector: &[(2, 3, 0), (3, 2, 0)],
+    log: &[(3, 2, "1995-12-18 14:30", Place::Taken(0), 0)],
+    kept_cancels: &[(2, 3, Place::Done, 0, 3)],
+    cancelled: &[(3, 2, false)],
+    cancels: &[(2, 3, true, 3, 0)],
+    ..OPENING
+};
+
+fn rows_of(alloc: Global, rows: &Rows, scope: &Scope<'_>) -> Result<u64, Refusal> {
+    let part = Part::from_tables(alloc, scope, &tables(alloc, rows)?)?;
+    Ok(part.rows())
+}
+
+/// How many rows the part for the next commit has, that for a request, that for a cancel of server 3's write, and that for a batch without lines.
+fn counts(alloc: Global) -> Result<[u64; 4], Refusal> {
+    let room = RoomName::new(alloc, "oak")?;
+    let target = WriteId::new(crate::desks::server(3)?, 1).ok_or(Refusal::NoSuchRequest)?;
+    let of_commit = rows_of(alloc, &BOTH_TENTATIVE, &Scope::NextCommits(1))?;
+    let of_room = rows_of(alloc, &BOTH_TENTATIVE, &Scope::InRoom(&room))?;
+    let of_target = rows_of(alloc, &BOTH_TENTATIVE, &Scope::OfTarget(target))?;
+    let no_items: &[Item] = &[];
+    let of_batch = rows_of(alloc, &BOTH_TENTATIVE, &Scope::Items(no_items))?;
+    Ok([of_commit, of_room, of_target, of_batch])
+}
+
+/// A commit's part has the row of the log and that of the booking that was taken back.
+#[test]
+fn rows_of_parts_are_counted(rt: HostRuntime) {
+    assert!(rt; counts(rt.alloc()) == Ok([2, 1, 1, 0]));
+}

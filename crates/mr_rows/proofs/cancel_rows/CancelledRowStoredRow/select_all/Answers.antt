@@ -1,0 +1,22 @@
+use Rattle.std.proofs.Common.{[]}
+use Rattle.sqlite.specs.State.{Shown}
+use Rattle.sqlite.specs.Held.{state}
+use Rattle.mr_rows.proofs.Texts.{all_cancelled_text, all_cancelled_is}
+use Rattle.mr_rows.proofs.QueryLemmas.{reads_so, looks_so}
+use Rattle.mr_rows.proofs.SelectLemmas.{shows_all_cancelled, sees_all_cancelled}
+use Rattle.mr_rows.proofs.cancel_rows.CancelledRowStoredRow.select_all.Goals as goal
+
+pub ask-requires-clause-plain : goal.ask-requires-clause-plain
+ask-requires-clause-plain g c = all_cancelled_is.0.1
+
+pub returns-clause-reads : goal.returns-clause-reads
+returns-clause-reads g c =
+    let old = state g.S.Store c.args.conn.now in
+    let new = state g.S.Store c.ask.new.conn in
+    reads_so old new c.ask.result (λ rows. Shown all_cancelled_text ([]) old new rows.items) _ (λ kept rows shown. shows_all_cancelled old new rows.items kept.ours shown) (c.ask.ensures.reads)
+
+pub returns-clause-looks : goal.returns-clause-looks
+returns-clause-looks g c =
+    let old = state g.S.Store c.args.conn.now in
+    let new = state g.S.Store c.ask.new.conn in
+    looks_so old new c.ask.result (λ rows. Shown all_cancelled_text ([]) old new rows.items) _ (λ here rows shown. sees_all_cancelled old new rows.items here.schema shown) (c.ask.ensures.looks)

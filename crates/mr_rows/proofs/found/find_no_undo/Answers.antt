@@ -1,0 +1,18 @@
+use Rattle.std.proofs.Common.{◌≡◌, [], map, rules}
+use Rattle.std.specs.List.Sorted.{IsPermutation}
+use Rattle.sqlite.specs.Held.{state}
+use Rattle.mr_rows.specs.Shown.{columns_from}
+use Rattle.mr_rows.proofs.QueryLemmas.{looks_made}
+use Rattle.mr_rows.proofs.FoundLemmas.{none_found}
+use Rattle.mr_rows.proofs.found.find_no_undo.Goals as goal
+
+pub returns-in_err-rows-clause-looks : goal.returns-in_err-rows-clause-looks
+returns-in_err-rows-clause-looks g c = let read = c.select_all_undo.ensures.looks in (read.0, read.1, λ clean here. (search rules, search rules))
+
+pub returns-clause-looks : goal.returns-clause-looks
+returns-clause-looks g c =
+    let old = state g.S.Store c.args.conn.now in
+    let shown = c.in_ok-rows.rows.items in
+    let same : c.deref.result.now ≡ shown = search rules in
+    looks_made old (state g.S.Store c.select_all_undo.new.conn) c.in_ok-rows.rows (λ rows. IsPermutation (map (columns_from 1 1) (old.now.trees 8)) rows.items) c.are_none.result (λ _. old.now.trees 8 ≡ [])
+    (λ here read. none_found (columns_from 1 1) (old.now.trees 8) shown c.are_none.result read (rw same at c.are_none.ensures)) c.in_ok-rows.ensures.looks

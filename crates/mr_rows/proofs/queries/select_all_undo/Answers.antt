@@ -1,0 +1,16 @@
+use Rattle.std.proofs.Common.{[]}
+use Rattle.sqlite.specs.State.{Shown}
+use Rattle.sqlite.specs.Held.{state}
+use Rattle.mr_rows.proofs.Texts.{undo_text, undo_is}
+use Rattle.mr_rows.proofs.QueryLemmas.{looks_so}
+use Rattle.mr_rows.proofs.SelectLemmas.{sees_undo}
+use Rattle.mr_rows.proofs.queries.select_all_undo.Goals as goal
+
+pub ask-requires-clause-plain : goal.ask-requires-clause-plain
+ask-requires-clause-plain g c = undo_is.0.1
+
+pub returns-clause-looks : goal.returns-clause-looks
+returns-clause-looks g c =
+    let old = state g.S.Store c.args.conn.now in
+    let new = state g.S.Store c.ask.new.conn in
+    looks_so old new c.ask.result (λ rows. Shown undo_text ([]) old new rows.items) _ (λ here rows shown. sees_undo old new rows.items here.schema shown) (c.ask.ensures.looks)

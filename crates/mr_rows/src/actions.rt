@@ -1,0 +1,97 @@
+ghost use Rattle.std.specs.Prelude.{◌≡◌, [], ◌∷◌, pos, IfOk};
+ghost use Rattle.sqlite_value.specs.declared.value.Value.TheVariants.{Int, Text};
+ghost use Rattle.sqlite_value.specs.Order.{column, bytes};
+ghost use Rattle.mr_model.specs.Tables.{OfMeeting, OfCancel};
+ghost use Rattle.mr_replay.specs.Places.{place_of};
+ghost use Rattle.mr_tables.specs.Cells.{action_cells};
+ghost use Rattle.mr_rows.specs.Cells.{nat_of, whole_of, action_row, action_in, place_in, place_number};
+ghost use Rattle.mr_rows.specs.Shown.{columns_from};
+
+use crate::cells::{read_id, read_mark, read_place, read_text, read_title, read_u32};
+use mr_base::WriteId;
+use mr_replay::Place;
+use mr_tables::{ActionCells, MeetingCells};
+use sqlite::{Error, Row};
+use std::alloc::Global;
+
+// The cells of an action are the columns 4 to 9 of a row of `log`.
+
+/// Nothing, where this column has 0.
+fn read_zero(row: &Row, at: usize) -> Result<(), Error>
+    ensures { IfOk result (λ _. column row.now at ≡ Int (pos 0)) }
+{
+    if read_u32(row, at)? != 0 {
+        return Err(Error::IntegralValueOutOfRange(at));
+    }
+    Ok(())
+}
+
+/// Nothing, where this column has the empty text.
+fn read_empty(row: &Row, at: usize) -> Result<(), Error>
+    ensures { IfOk result (λ _. column row.now at ≡ Text []) }
+{
+    let text = read_text(row, at)?;
+    if !text.is_empty() {
+        return Err(Error::IntegralValueOutOfRange(at));
+    }
+    Ok(())
+}
+
+/// The meeting of a row that has no target.
+fn read_meeting(alloc: Global, row: &Row) -> Result<MeetingCells, Error>
+    ensures meeting { IfOk result (λ m. m ≡ record { length = nat_of (column row.now 5); choices = bytes (column row.now 6); title = bytes (column row.now 7) }) }
+    ensures cells { IfOk result (λ m. action_row (OfMeeting m) ≡ Int (pos 0) ∷ columns_from 5 5 row.now) }
+{
+    let length = read_u32(row, 5)?;
+    let choices = read_text(row, 6)?;
+    let title = read_title(alloc, row, 7)?;
+    read_zero(row, 8)?;
+    read_zero(row, 9)?;
+    Ok(MeetingCells {
+        length,
+        choices,
+        title,
+    })
+}
+
+/// The target of a row that has no meeting.
+fn read_target(row: &Row) -> Result<WriteId, Error>
+    ensures target { IfOk result (λ id. id ≡ record { server = nat_of (column row.now 8); n = nat_of (column row.now 9) }) }
+    ensures cells { IfOk result (λ id. action_row (OfCancel id) ≡ Int (pos 1) ∷ columns_from 5 5 row.now) }
+{
+    read_zero(row, 5)?;
+    read_empty(row, 6)?;
+    read_empty(row, 7)?;
+    read_id(row, 8)
+}
+
+/// The meeting that a row books, or the target that it cancels, by its kind.
+pub(crate) fn read_action(alloc: Global, row: &Row) -> Result<ActionCells, Error>
+    ensures action { IfOk result (λ a. action_cells a
+        ≡ action_in (nat_of (column row.now 4)) (record { length = nat_of (column row.now 5); choices = bytes (column row.now 6); title = bytes (column row.now 7) })
+        (record { server = nat_of (column row.now 8); n = nat_of (column row.now 9) })) }
+    ensures cells { IfOk result (λ a. action_row (action_cells a) ≡ columns_from 4 6 row.now) }
+{
+    let is_cancel = read_mark(row, 4)?;
+    if is_cancel {
+        Ok(ActionCells::OfCancel(read_target(row)?))
+    } else {
+        Ok(ActionCells::OfMeeting(read_meeting(alloc, row)?))
+    }
+}
+
+/// The place of a write with this action, in the column 10: a booking has a choice or is in the error log, a cancel is done or void.
+pub(crate) fn read_place_of(row: &Row, action: &ActionCells) -> Result<Place, Error>
+    ensures place { IfOk result (λ place. place_of place ≡ place_in (whole_of (column row.now 10))) }
+    ensures cell { IfOk result (λ place. column row.now 10 ≡ Int (place_number (place_of place))) }
+{
+    let place = read_place(row, 10)?;
+    let fits = match action {
+        ActionCells::OfMeeting(_) => matches!(place, Place::Taken(_) | Place::Logged),
+        ActionCells::OfCancel(_) => matches!(place, Place::Done | Place::Void),
+    };
+    if !fits {
+        return Err(Error::IntegralValueOutOfRange(10));
+    }
+    Ok(place)
+}

@@ -1,0 +1,156 @@
+ghost use Rattle.std.specs.Prelude.{◌≡◌, refl};
+ghost use Rattle.mr_model.specs.Writes.{Id};
+ghost use Rattle.mr_model.specs.Queries.{cancelled_id, cancel_id};
+ghost use Rattle.mr_base.specs.Ids.{id_cmp};
+ghost use Rattle.mr_rows.specs.Form.{cancelled_form, cancel_form};
+ghost use Rattle.mr_rows.specs.Parts.{take_cancelled, put_cancelled, put_cancels};
+ghost use Rattle.mr_rows.specs.TakeLaws.{cancelled_none, cancelled_more};
+
+use crate::cells::{
+    read_count, read_day, read_id, read_mark, read_minute, read_name, read_server, read_title,
+    read_u64,
+};
+use crate::numbers::Number;
+use crate::puts::{day_text, parts_of, put_cancel_cells, put_cancelled_cells};
+use crate::queries::ask;
+use crate::stored_rows::{RequestRow, StoredRow};
+use crate::table_rows::compare_ids;
+use mr_base::WriteId;
+use mr_tables::{CancelRow, CancelledRow};
+use sqlite::{Alter, Connection, Error, Row, Transaction, params};
+use std::alloc::Global;
+use std::cmp::Ordering;
+
+// The columns are counted from 0, in the order of the table.
+
+impl StoredRow for CancelledRow {
+    ghost Key = { Id };
+
+    ghost form = { cancelled_form };
+
+    ghost order = { λ a b. id_cmp (cancelled_id a) (cancelled_id b) };
+
+    ghost rows_of = { λ t. t.cancelled };
+
+    ghost put_in = { put_cancelled };
+
+    fn read(alloc: Global, row: &Row) -> Result<CancelledRow, Error> {
+        let room = read_name(alloc, row, 0)?;
+        let day = read_day(row, 1)?;
+        let start = read_minute(row, 2)?;
+        let stop = read_minute(row, 3)?;
+        let server = read_server(row, 4)?;
+        let n = read_count(row, 5)?;
+        let title = read_title(alloc, row, 6)?;
+        let committed = read_mark(row, 7)?;
+        let by = read_id(row, 8)?;
+        Ok(CancelledRow {
+            room,
+            day,
+            start,
+            stop,
+            server,
+            n,
+            title,
+            committed,
+            by,
+        })
+    }
+
+    fn compare(a: &CancelledRow, b: &CancelledRow) -> Ordering {
+        compare_ids((a.server, a.n), (b.server, b.n))
+    }
+
+    fn keeps_order() {}
+
+    fn select_all<S: Alter>(conn: &mut Connection<S>) -> Result<Vec<Row>, Error> {
+        ask(
+            conn,
+            "SELECT room, day, start, stop, server, n, title, committed, bserver, bn FROM cancelled",
+            &[],
+        )
+    }
+
+    fn put<S: Alter>(&self, tx: &mut Transaction<'_, S>, alloc: Global) -> Result<usize, Error> {
+        let day = day_text(alloc, self.day)?;
+        put_cancelled_cells(tx, self, &day, parts_of(self.by))
+    }
+
+    ghost stored_is = { λ r is. is };
+
+    ghost put_none = { λ t. refl };
+
+    ghost put_more = { λ x xs t. refl };
+}
+
+impl RequestRow for CancelledRow {
+    ghost take_from = { take_cancelled };
+
+    fn take<S: Alter>(tx: &mut Transaction<'_, S>, id: WriteId) -> Result<usize, Error> {
+        tx.execute(
+            "DELETE FROM cancelled WHERE server = ?1 AND n = ?2",
+            params![id.server.number(), id.n],
+        )
+    }
+
+    ghost take_none = { cancelled_none };
+
+    ghost take_more = { cancelled_more };
+}
+
+impl StoredRow for CancelRow {
+    ghost Key = { Id };
+
+    ghost form = { cancel_form };
+
+    ghost order = { λ a b. id_cmp (cancel_id a) (cancel_id b) };
+
+    ghost rows_of = { λ t. t.cancels };
+
+    ghost put_in = { put_cancels };
+
+    fn read(alloc: Global, row: &Row) -> Result<CancelRow, Error> {
+        let server = read_server(row, 0)?;
+        let n = read_count(row, 1)?;
+        let room = read_name(alloc, row, 2)?;
+        let target = read_id(row, 3)?;
+        let done = read_mark(row, 5)?;
+        let time = read_u64(row, 6)?;
+        let seq = read_u64(row, 7)?;
+        Ok(CancelRow {
+            server,
+            n,
+            room,
+            target,
+            done,
+            time,
+            seq,
+        })
+    }
+
+    fn compare(a: &CancelRow, b: &CancelRow) -> Ordering {
+        compare_ids((a.server, a.n), (b.server, b.n))
+    }
+
+    fn keeps_order() {}
+
+    fn select_all<S: Alter>(conn: &mut Connection<S>) -> Result<Vec<Row>, Error> {
+        ask(
+            conn,
+            "SELECT server, n, room, tserver, tn, done, tm, seq FROM cancel",
+            &[],
+        )
+    }
+
+    fn put<S: Alter>(&self, tx: &mut Transaction<'_, S>, _alloc: Global) -> Result<usize, Error> {
+        let time = Number::new(self.time, 6)?;
+        let seq = Number::new(self.seq, 7)?;
+        put_cancel_cells(tx, self, parts_of(self.target), time, seq)
+    }
+
+    ghost stored_is = { λ r is. is };
+
+    ghost put_none = { λ t. refl };
+
+    ghost put_more = { λ x xs t. refl };
+}

@@ -1,7 +1,0 @@
-use Rattle.std.proofs.Common.{◌≡◌, rules}
-use Rattle.std.proofs.lemmas.Fn.{always_returns_same}
-use Rattle.mr_service.specs.Questions.{log_key}
-use Rattle.mr_service.proofs.questions.in_log_order.Goals as goal
-
-pub returns-clause-order : goal.returns-clause-order
-returns-clause-order c = c.sort_unstable_by_key.ensures.sorted log_key (always_returns_same _ (λ a r. r ≡ log_key a.0.now) _ (λ a r q k. search rules))

@@ -1,0 +1,127 @@
+# Databases of the first schema, which a program moves up to the second one when it opens them. ./test doesn't source this file yet: the
+# program refuses them (tests/kept.sh). The functions of tests/lib.sh, tests/kept.sh and tests/hostile.sh and the variables of ./test are used here. What is wanted of the kept database is
+# what it showed before (tests/kept), with its position in the second version, and rows worked by hand.
+
+y60=$(printf 'y%.0s' $(seq 60))
+
+# first_tables NAME: $database is a copy of the kept one
+first_tables() {
+    database=$scratch/kept/$1.db
+    rm -f -- "$database" "$database"-*
+    cp -- tests/kept/first.sqlite "$database"
+}
+
+# rows NAME SQL LINE..: the stock sqlite3 reads these rows
+rows() {
+    local name=$1 query=$2
+    shift 2
+    sqlite3 "$database" "$query" > "$scratch/out" 2>&1
+    : > "$scratch/wanted"
+    if [ $# -gt 0 ]; then printf '%s\n' "$@" > "$scratch/wanted"; fi
+    told "$name" $? 0 "$scratch/wanted"
+}
+
+# replies NAME COMMAND LINE..: the command of these words prints these lines
+replies() {
+    local name=$1
+    local -a words=($2)
+    shift 2
+    printf '%s\n' "$@" > "$scratch/kept/lines"
+    expect "$name" 0 "$scratch/kept/lines" "${words[0]}" "$database" "${words[@]:1}"
+}
+
+run_moved_replies() {
+    first_tables moved
+    sed 's/^mp1 /mp2 /' tests/kept/first.replies > "$scratch/kept/replies"
+    sed 's/^mp1 /mp2 /' tests/kept/first.after > "$scratch/kept/after"
+    sed 's/^mp1 /mp2 /' tests/kept/first.position > "$scratch/kept/position"
+    sed 's/^mr1 /mr2 /' tests/kept/first.batch > "$scratch/kept/second"
+    shows "$database" "$scratch/kept/replies"
+    expect_line 'moved: a batch for a position' 0 "wrote $(wc -c < tests/kept/first.batch) bytes" \
+        export "$database" tests/kept/first.position "$scratch/kept/batch" 100000
+    same 'moved: the batch' "$scratch/kept/batch" tests/kept/first.batch
+    expect_line 'moved: a batch of the second version' 0 "wrote $(wc -c < tests/kept/first.batch) bytes" \
+        export "$database" "$scratch/kept/position" "$scratch/kept/batch" 100000
+    same 'moved: the batch of the second version' "$scratch/kept/batch" "$scratch/kept/second"
+    shows "$database" "$scratch/kept/after"
+}
+
+# the rows after the first command, which only asks
+run_moved_rows() {
+    local twelve='2099-12-31 12:00' nine
+    if ! command -v sqlite3 > /dev/null; then
+        echo 'skipped: the rows of tables that moved up (no sqlite3)'
+        return
+    fi
+    nine="$twelve $twelve $twelve $twelve $twelve $twelve $twelve $twelve $twelve"
+    first_tables rows
+    replies 'moved: the first command' 'errors unused' 'unused errors' '(no errors)'
+    rows 'moved: the row of the replica' 'SELECT one, schema, server, prim, commits, dropped, clock FROM meta' '1|2|7|3|6|4|6'
+    rows 'moved: the log' 'SELECT server, n, tm, room, kind, length, choices, title, tserver, tn, place, seq FROM log ORDER BY server, n' \
+        "3|3|3|oak|0|30|2024-02-29 09:15 2024-02-29 09:30 2099-12-31 23:30|$y60|0|0|2|5" \
+        "7|3|3|a-room-of-16-byt|0|15|$nine|Eight others|0|0|0|6" "7|4|4|a-room-of-16-byt|0|15|$nine|Eight in vain|0|0|-1|0" \
+        '7|5|5|oak|0|90|2024-02-29 10:30 2024-02-29 14:00|Gamma|0|0|1|0' '7|6|6|oak|0|240|2024-02-29 08:00 2024-02-29 13:00|Delta|0|0|-1|0'
+    rows 'moved: the old tables have no rows' 'SELECT server FROM write_log UNION ALL SELECT server FROM undo'
+    rows 'moved: nothing is cancelled' 'SELECT n FROM cancelled UNION ALL SELECT n FROM cancel'
+    rows 'moved: the bookings, dropped ones too' 'SELECT room, day, start, stop, server, n, title, committed FROM booking ORDER BY server, n' \
+        'oak|2024-02-29|540|600|3|1|Alpha|1' 'elm-2|1990-01-01|0|1440|3|2|Closed|1' "oak|2099-12-31|1410|1440|3|3|$y60|1" \
+        'oak|2024-02-29|600|660|7|1|Beta|1' 'a-room-of-16-byt|2099-12-31|720|735|7|3|Eight others|1' 'oak|2024-02-29|840|930|7|5|Gamma|0'
+    rows 'moved: the error log, dropped ones too' 'SELECT room, day, start, stop, server, n, title, tm, seq FROM errorlog ORDER BY n' \
+        'elm-2|1990-01-01|1439|1440|7|2|"quoted" ~ text|2|4' 'a-room-of-16-byt|2099-12-31|720|735|7|4|Eight in vain|4|0' \
+        'oak|2024-02-29|480|720|7|6|Delta|6|0'
+    rows 'moved: it is whole' 'PRAGMA integrity_check' ok
+}
+
+# a booking and a request without a slot that were dropped before the move are cancelled after it
+run_moved_cancels() {
+    first_tables cancels
+    replies 'moved: a dropped booking is cancelled' 'cancel oak 3-1' '7-7 T cancels 3-1'
+    replies 'moved: its outcome' 'outcome oak 3-1' '3-1 C cancelled T 7-7'
+    replies 'moved: it has left the sheet' 'sheet oak 2024-02-29' 'oak 2024-02-29 Thursday' '10:00-11:00 C 7-1 Beta' '14:00-15:30 T 7-5 Gamma'
+    replies 'moved: it stays committed' 'calendar oak committed' 'oak committed' '2024-02-29 09:00-10:00 C 3-1 Alpha' \
+        '2024-02-29 10:00-11:00 C 7-1 Beta' "2099-12-31 23:30-24:00 C 3-3 $y60"
+    replies 'moved: its slot is free' 'book oak 60 2024-02-29 09:00 Again' '7-8 T 2024-02-29 09:00-10:00'
+    replies 'moved: a dropped request without a slot' 'cancel elm-2 7-2' '7-9 T void 7-2'
+    replies 'moved: the error log has both' 'errors elm-2' 'elm-2 errors' 'C 7-2 1990-01-01 23:59-24:00 "quoted" ~ text' 'T 7-9 cancel 7-2'
+}
+
+# refused_move NAME REFUSAL SQL: the stock sqlite3 ran this text in the first tables; they stay as they are
+refused_move() {
+    first_tables refused
+    sqlite3 "$database" "$3" > "$scratch/out" 2>&1
+    cp -- "$database" "$scratch/kept/before"
+    expect_line "$1" 1 "$2" sheet "$database" oak 2024-02-29
+    same "$1: the database" "$database" "$scratch/kept/before"
+}
+
+run_moved_inits() {
+    first_tables init
+    expect_line 'moved: init of another server' 1 'refused 26 NotAReplica' init "$database" 8 3
+    expect_line 'moved: init of another primary' 1 'refused 26 NotAReplica' init "$database" 7 1
+    same 'moved: the first tables after init of another' "$database" tests/kept/first.sqlite
+    expect_line 'moved: init of the same' 0 'ok' init "$database" 7 3
+    if ! command -v sqlite3 > /dev/null; then
+        echo 'skipped: first tables that stand for no replica (no sqlite3)'
+        return
+    fi
+    rows 'moved: the schema after init' 'SELECT schema FROM meta' 2
+    refused_move 'moved: a schema that is none' 'refused 26 NotAReplica' 'UPDATE meta SET schema = 3'
+    refused_move 'moved: the number of the second schema on the first tables' 'refused 26 NotAReplica' 'UPDATE meta SET schema = 2'
+    refused_move 'moved: a write without a place' 'refused 25 Store' 'DELETE FROM undo WHERE n = 5'
+    refused_move 'moved: a place without a write' 'refused 25 Store' 'INSERT INTO undo VALUES (9, 9, 0)'
+    refused_move 'moved: a place of no choice' 'refused 25 Store' 'UPDATE undo SET place = -2 WHERE n = 6'
+}
+
+run_moved() {
+    local database
+    mkdir -p "$scratch/kept"
+    run_moved_replies
+    run_moved_rows
+    run_moved_cancels
+    run_moved_inits
+    if ! command -v python3 > /dev/null; then
+        echo 'skipped: first tables of many replicas, killed while they move up (no python3)'
+        return
+    fi
+    tried 'first tables of many replicas' tests/moved.py "$program" "$quick/moved" 30
+}
