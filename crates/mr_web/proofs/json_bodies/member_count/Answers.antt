@@ -2,8 +2,8 @@ use Rattle.std.proofs.Common.{◌≡◌, ◌∙◌, sym, map, Some}
 use Rattle.std.proofs.lemmas.List.{length-map}
 use Rattle.serde_json.specs.Find.{as_object}
 use Rattle.serde_json.specs.View.{view, members_view}
-use Rattle.mr_web.proofs.MemberCounts.{count_of_members, members_in_object}
-use Rattle.mr_web.proofs.submissions.member_count.Goals as goal
+use Rattle.mr_web.proofs.JsonBodies.{count_of_members, members_in_object}
+use Rattle.mr_web.proofs.json_bodies.member_count.Goals as goal
 
 pub returns-in-Some : goal.returns-in-Some
 returns-in-Some c =
