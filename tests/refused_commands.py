@@ -3,8 +3,8 @@
 The program asks three replicas the commands of six scripts, first over lists and then over databases in memory. Each allocation of each
 command, and of opening each keeper, is refused in a child of the process: there the reply is that of the script, or that there is no
 memory. In the second case all that can be seen of the three replicas is as before the command, the command has its reply once it is
-asked again, and then what can be seen is as after it. Then two databases of the first schema are moved up in memory: each allocation of that is
-refused, too, and the database is moved up once that is done again. What is wanted comes from the plain form of scripts.
+asked again, and then what can be seen is as after it. Then two databases of the first schema are made and moved up in memory: each
+allocation of either is refused, too, and it is done once it is tried again. What is wanted comes from the plain form of scripts.
 """
 
 import os
@@ -56,13 +56,14 @@ def steps(scripts):
 
 
 def moves():
-    """Of each database that is moved up: that it is, and what is seen of its replica, and the same where it is refused at first."""
+    """Of each database: that it is made; that it is moved up, and what is seen of its replica; and each of these where it is refused at first."""
     for server, batches in MOVED:
         world = plain_script.World()
         replica = world.replicas[server] = oracle.Replica(server, 1)
         for batch, dropped in batches:
             replica.receive(batch)
             replica.truncate(dropped)
+        yield b'ok\n', REFUSED + b'ok\n'
         shown = b'ok\n' + seen(world, (server,))
         yield shown, REFUSED + shown
 

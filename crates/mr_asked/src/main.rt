@@ -2,7 +2,7 @@
 //! is refused. Six scripts are asked over lists and then over databases in memory. A replica is made, or a command asked, between the
 //! lines `now` and `then`; what it takes besides is made before. Behind these is the reply. Where it is that there is no memory, all that
 //! can be seen of the three replicas follows, the reply once the same is asked again, and what can be seen then. Then two databases of the
-//! first schema are moved up.
+//! first schema are made and moved up.
 #![tactic(auto)]
 
 mod asks;

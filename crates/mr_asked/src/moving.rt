@@ -1,5 +1,6 @@
-// Tables of the first schema that are moved up in memory: between the lines `now` and `then`, as a command is asked. Behind these is `ok`, or
-// that there is no memory and then `ok`, once it is done again; and all that can be seen of the replica.
+// Tables of the first schema that are made and then moved up in memory: each between the lines `now` and `then`, as a command is asked.
+// Behind these is `ok`, or that there is no memory and then `ok`, once it is done again; and behind the second all that can be seen of the
+// replica.
 
 use crate::asks::seen;
 use crate::offices::Stopped;
@@ -122,11 +123,35 @@ fn first_of(alloc: Global, tables: Tables) -> Result<First, Stopped> {
     })
 }
 
-/// A database of the first schema that has the tables of this keeper.
-fn first_keeper(alloc: Global, keeper: &mut ListKeeper) -> Result<FirstKeeper<MemStore>, Stopped> {
+/// The tables of the first schema that stand for this keeper's replica.
+fn first_tables(alloc: Global, keeper: &mut ListKeeper) -> Result<First, Stopped> {
     match keeper.read() {
-        Ok(tables) => Ok(FirstKeeper::from_tables(alloc, &first_of(alloc, tables)?)?),
+        Ok(tables) => first_of(alloc, tables),
         Err(_) => Err(Stopped),
+    }
+}
+
+fn print_refusal<W: Write>(alloc: Global, refusal: Refusal, out: &mut W) -> Result<(), Stopped> {
+    let text = reply_text(alloc, &Reply::Refused(refusal))?;
+    out.write_all(text.as_slice())?;
+    Ok(())
+}
+
+/// A database of these tables. What was refused for want of memory is made once more.
+fn made<W: Write>(
+    alloc: Global,
+    tables: &First,
+    out: &mut W,
+) -> Result<FirstKeeper<MemStore>, Stopped> {
+    out.write_all(b"now\n")?;
+    let made = FirstKeeper::from_tables(alloc, tables);
+    out.write_all(b"then\n")?;
+    match made {
+        Ok(first) => Ok(first),
+        Err(refusal) => {
+            print_refusal(alloc, refusal, out)?;
+            Ok(FirstKeeper::from_tables(alloc, tables)?)
+        }
     }
 }
 
@@ -137,32 +162,49 @@ fn moved_again<W: Write>(
     refusal: Refusal,
     out: &mut W,
 ) -> Result<SqlKeeper<MemStore>, Stopped> {
-    let text = reply_text(alloc, &Reply::Refused(refusal))?;
-    out.write_all(text.as_slice())?;
+    print_refusal(alloc, refusal, out)?;
     match first.move_up() {
         Ok(keeper) => Ok(keeper),
         Err(_) => Err(Stopped),
     }
 }
 
-fn moved<W: Write>(alloc: Global, keeper: ListKeeper, out: &mut W) -> Result<(), Stopped> {
-    let mut keeper = keeper;
-    let first = first_keeper(alloc, &mut keeper)?;
+fn moved<W: Write>(
+    alloc: Global,
+    first: FirstKeeper<MemStore>,
+    out: &mut W,
+) -> Result<SqlKeeper<MemStore>, Stopped> {
     out.write_all(b"now\n")?;
     let moved = first.move_up();
     out.write_all(b"then\n")?;
-    let keeper = match moved {
-        Ok(keeper) => keeper,
-        Err((first, refusal)) => moved_again(alloc, first, refusal, out)?,
-    };
-    out.write_all(b"ok\n")?;
+    match moved {
+        Ok(keeper) => Ok(keeper),
+        Err((first, refusal)) => moved_again(alloc, first, refusal, out),
+    }
+}
+
+fn print_seen<W: Write>(
+    alloc: Global,
+    keeper: SqlKeeper<MemStore>,
+    out: &mut W,
+) -> Result<(), Stopped> {
     let mut service = Service::new(alloc, keeper);
     let texts = seen(alloc, &mut service)?;
     out.write_all(texts.as_slice())?;
     Ok(())
 }
 
+fn made_and_moved<W: Write>(alloc: Global, tables: &First, out: &mut W) -> Result<(), Stopped> {
+    let first = made(alloc, tables, out)?;
+    out.write_all(b"ok\n")?;
+    let keeper = moved(alloc, first, out)?;
+    out.write_all(b"ok\n")?;
+    print_seen(alloc, keeper, out)
+}
+
 pub(crate) fn all_moved<W: Write>(alloc: Global, out: &mut W) -> Result<(), Stopped> {
-    moved(alloc, with_elm(alloc)?, out)?;
-    moved(alloc, truncated(alloc)?, out)
+    let tables = first_tables(alloc, &mut with_elm(alloc)?)?;
+    made_and_moved(alloc, &tables, out)?;
+    let tables = first_tables(alloc, &mut truncated(alloc)?)?;
+    made_and_moved(alloc, &tables, out)
 }

@@ -84,7 +84,7 @@ fn number(conn: &mut Connection<FileStore<Fuse<Memory>>>, query: &str) -> Result
     Ok(conn.query_row(query, &[])?.get(0)?)
 }
 
-fn layout(conn: &mut Connection<FileStore<Fuse<Memory>>>) -> Result<Layout, Fail> {
+fn found_in(conn: &mut Connection<FileStore<Fuse<Memory>>>) -> Result<Layout, Fail> {
     Ok(Layout {
         number: number(conn, "SELECT schema FROM meta")?,
         tables: number(
@@ -101,7 +101,7 @@ pub(crate) fn layout_of(alloc: Global, bytes: &Bytes) -> Result<Layout, Fail> {
     let Ok(mut conn) = connected(alloc, disks(alloc, bytes, NO_STOP)?) else {
         return Err("the files can't be opened again")?;
     };
-    let found = layout(&mut conn);
+    let found = found_in(&mut conn);
     closed(conn);
     found
 }
