@@ -271,14 +271,22 @@ fn a_cancel_takes_its_target_back_and_is_undone(rt: HostRuntime) -> Result<(), F
     Ok(())
 }
 
+/// A cancel of Alpha, and then Alpha at 09:00.
+fn cancel_first(alloc: Global) -> Result<Vec<Write>, Refusal> {
+    let mut list = Vec::new(alloc);
+    list.push(cancel(alloc, (2, 2), "oak", (2, 1))?)?;
+    list.push(request(alloc, (2, 1), ("oak", MONDAY), (60, 540), &[])?)?;
+    Ok(list)
+}
+
+static NOTHING_BACK: [((u32, u32), Place); 2] = [((2, 2), Place::Void), ((2, 1), Place::Taken(0))];
+
 #[test]
 fn a_cancel_in_front_of_its_target_takes_nothing_back(rt: HostRuntime) -> Result<(), Fail> {
-    let alloc = rt.alloc();
-    let early = cancel(alloc, (2, 2), "oak", (2, 1))?;
-    let alpha = request(alloc, (2, 1), ("oak", MONDAY), (60, 540), &[])?;
-    let mut board = Board::new(alloc);
-    assert_eq!(rt; board.execute(&early)?.place, Place::Void);
-    assert_eq!(rt; board.execute(&alpha)?.place, Place::Taken(0));
+    let writes = cancel_first(rt.alloc())?;
+    let mut board = Board::new(rt.alloc());
+    let rows = board.redo_from(writes.as_slice())?;
+    assert!(rt; are(rows.as_slice(), &NOTHING_BACK));
     assert_eq!(rt; row_of(&board, (2, 1)), Ok((540, Standing::Booked)));
     assert_eq!(rt; target_of(&board, (2, 2)), Ok(Some(id((2, 1))?)));
     Ok(())
