@@ -1,5 +1,5 @@
 -- What taking all rows of a table away makes of the trees, and that of several tables.
-use Rattle.std.proofs.Common.{◌≡◌, ◌≢◌, ℕ, List, [], ◌∷◌, filter, false, None, Ok, Err, Result, OnOk, IsTrue, refl, sym, subst, ◌∙◌, false-eqb}
+use Rattle.std.proofs.Common.{◌≡◌, ℕ, List, [], ◌∷◌, filter, false, None, Ok, Err, Result, OnOk, IsTrue, refl, sym, subst, ◌∙◌, false-eqb}
 use Rattle.sqlite_value.specs.Order.{Row}
 use Rattle.sqlite_sql.specs.Term.{col}
 use Rattle.sqlite_schema.specs.declared.schema.Keys.TheVariants.{Enforced}

@@ -13,8 +13,7 @@ use Rattle.sqlite.specs.Does.{Tally, lacks_sequence}
 use Rattle.sqlite.specs.Listing.{understood}
 use Rattle.sqlite.specs.State.{State, HasCleanDisk, Survives, Writes, ExecutesInside}
 use Rattle.sqlite.proofs.Callers.{IsPlain, command_of, statement_of, runs_as}
-use Rattle.mr_model.specs.Tables.{Tables}
-use Rattle.mr_rows.specs.Schema.{first_schema, with_log, with_cancelled, our_schema, log_text, cancelled_text, cancel_text, log_table, cancelled_table, cancel_table}
+use Rattle.mr_rows.specs.Schema.{first_schema, with_log, with_cancelled, log_text, cancelled_text, cancel_text, log_table, cancelled_table, cancel_table}
 use Rattle.mr_rows.specs.Form.{Form, meta_form, room_form, vector_form, log_form, booking_form, error_form, cancelled_form, cancel_form}
 use Rattle.mr_rows.specs.Kept.{IsHeld, IsStep, first_meta, in_order, tables_in}
 use Rattle.mr_rows.proofs.FormLemmas.{went, same_value}

@@ -1,5 +1,5 @@
 -- Tables that were read and then rewritten have moved up.
-use Rattle.std.proofs.Common.{◌≡◌, List, Ok, Err, Result, OnOk, OnErr, IsTrue, ap, ◌∙◌, arith}
+use Rattle.std.proofs.Common.{◌≡◌, List, Ok, Err, Result, OnOk, OnErr, ap, ◌∙◌, arith}
 use Rattle.sqlite_trees.specs.Tree.{Trees}
 use Rattle.sqlite.specs.declared.error.Error.{Error}
 use Rattle.sqlite.specs.Effect.{Database}
@@ -7,7 +7,7 @@ use Rattle.sqlite.specs.State.{State, HasCleanDisk, Survives}
 use Rattle.sqlite.proofs.StateLemmas.{survives_then}
 use Rattle.mr_model.specs.Tables.{MetaRow, LogRow, Tables}
 use Rattle.mr_model.specs.First.{moved, moved_log}
-use Rattle.mr_rows.specs.Kept.{IsApplied, tables_in}
+use Rattle.mr_rows.specs.Kept.{IsApplied}
 use Rattle.mr_first.specs.Kept.{IsKeptFirst, ReadsFirst, first_in}
 use Rattle.mr_first.specs.Moves.{MovesTo, IsMoved}
 use Rattle.mr_first.specs.Steps.{filled}
@@ -50,7 +50,7 @@ module _ (a b c : State) (m : MetaRow) (log : List LogRow) (r : Result (Unit {0}
   survives_moving =
       survives_then a b c (λ _. ¬ IsKeptFirst a) (IsMoved b (filled m log (first_in b.now.trees))) (IsMoved a (moved (first_in a.now.trees))) (λ _ db none kept. absurd (none kept))
       (λ clean db left kept.
-          let told = read.2 (clean_b clean) kept in
-          let same = (read.1 (clean_b clean) told.0).1 kept in
-          left (still_kept a b kept same) ∙ same_tables (clean_b clean) kept same)
+      let told = read.2 (clean_b clean) kept in
+      let same = (read.1 (clean_b clean) told.0).1 kept in
+      left (still_kept a b kept same) ∙ same_tables (clean_b clean) kept same)
       read.0 survives

@@ -1,6 +1,6 @@
 -- Rows of both logs, paired, are the log that takes their place.
-use Rattle.std.proofs.Common.{◌≡◌, ◌≢◌, ℕ, ◌+◌, ◌<◌, ◌≤◌, zero, suc, List, [], ◌∷◌, ◌++◌, map, length, take, get_or, true, false, Bool, ◌&&◌, ◌==◌, inl, inr, Some, None, Option, refl, sym, ap, subst, ◌∙◌, arith, eqb-true, eq-eqb}
-use Rattle.std.specs.Prelude.{option_map, filter_map}
+use Rattle.std.proofs.Common.{◌≡◌, ℕ, ◌<◌, zero, suc, List, [], ◌∷◌, ◌++◌, map, length, take, get_or, true, Bool, ◌&&◌, ◌==◌, inl, inr, Some, None, Option, refl, sym, ap, subst, ◌∙◌, arith, eqb-true, eq-eqb}
+use Rattle.std.specs.Prelude.{option_map}
 use Rattle.std.specs.List.{cons_option, AllByRecursion}
 use Rattle.std.proofs.lemmas.Bool.{and_from, and_parts}
 use Rattle.sqlite_trees.specs.Tree.{Trees}
@@ -9,7 +9,7 @@ use Rattle.mr_model.specs.Replica.{Replica}
 use Rattle.mr_model.specs.Tables.{MetaRow, LogRow, kept}
 use Rattle.mr_model.specs.First.{WriteRow, UndoRow, FirstTables, write_row, undo_row, StandsFirst, undo_of, moved_row, moved_log, moved}
 use Rattle.mr_model.specs.Dropped.{Has}
-use Rattle.mr_model.proofs.Members.{find_one, Sorted, all_has, has_all}
+use Rattle.mr_model.proofs.Members.{find_one, all_has, has_all}
 use Rattle.mr_tables.specs.Change.{put_all, id_before, log_id}
 use Rattle.mr_tables.proofs.Putting.{IsOrder, InOrder, OneAKey, one_a_key, id_order, in_order_same}
 use Rattle.mr_rows.proofs.KeyOrder.{Apart, ordered_in_order, ordered_has, has_ordered}

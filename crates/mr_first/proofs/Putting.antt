@@ -1,6 +1,6 @@
 -- First tables put into a database that has no row are then those of the database.
-use Rattle.std.proofs.Common.{◌≡◌, refl, sym, ap, subst, ◌∙◌, ℕ, zero, suc, ◌+◌, ◌<◌, nat_lt, true, Bool, List, [], ◌∷◌, length, get_or, arith}
-use Rattle.std.specs.List.{AllByRecursion, AllAdjacentBelow}
+use Rattle.std.proofs.Common.{◌≡◌, sym, subst, suc, ◌+◌, ◌<◌, nat_lt, true, Bool, List, [], ◌∷◌, length, get_or, arith}
+use Rattle.std.specs.List.{AllByRecursion}
 use Rattle.sqlite_schema.specs.declared.schema.Table.{Table}
 use Rattle.sqlite.specs.Effect.{Database}
 use Rattle.mr_model.specs.Texts.{Text}
@@ -8,12 +8,11 @@ use Rattle.mr_model.specs.Replica.{text_before}
 use Rattle.mr_model.specs.Tables.{VectorRow}
 use Rattle.mr_model.specs.Queries.{booking_id, error_id}
 use Rattle.mr_model.specs.First.{FirstTables}
-use Rattle.mr_model.proofs.Members.{Sorted}
 use Rattle.mr_tables.specs.Change.{put_all, id_before}
 use Rattle.mr_tables.specs.SoundRows.{Rise}
 use Rattle.mr_tables.proofs.Putting.{IsOrder, InOrder, id_order, number_order, name_order}
 use Rattle.mr_rows.specs.Schema.{first_schema}
-use Rattle.mr_rows.specs.Form.{Form, room_form, vector_form, booking_form, error_form}
+use Rattle.mr_rows.specs.Form.{room_form, vector_form, booking_form, error_form}
 use Rattle.mr_rows.specs.Kept.{IsHeld, first_meta, in_order}
 use Rattle.mr_first.specs.Forms.{write_id, undo_id, first_meta_form, write_form, undo_form}
 use Rattle.mr_first.specs.Kept.{IsFirst, first_in}

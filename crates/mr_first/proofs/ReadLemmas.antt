@@ -1,7 +1,6 @@
 -- Reads of a database of the first schema, one after another, and rows that were read in the order of their keys.
-use Rattle.std.proofs.Common.{◌≡◌, ℤ, List, [], ◌∷◌, map, Ok, Err, Result, Option, Some, IfOk, IsTrue, OnOk, refl, sym, ap, subst, ◌∙◌, Ordering, Less}
+use Rattle.std.proofs.Common.{◌≡◌, ℤ, List, [], ◌∷◌, map, Ok, Err, Result, Option, Some, IfOk, OnOk, refl, sym, ap, subst, ◌∙◌}
 use Rattle.std.specs.List.Sorted.{IsPermutation, IsSorted}
-use Rattle.std.specs.Cmp.{IsTotalOrder}
 use Rattle.std.proofs.lemmas.Cmp.{on_total}
 use Rattle.std.proofs.lemmas.List.Sorted.{IsPermutation-map, IsPermutation-sym, IsPermutation-trans}
 use Rattle.std.specs.List.{All}
@@ -11,7 +10,7 @@ use Rattle.sqlite_value.specs.Order.{Row, column}
 use Rattle.sqlite_trees.specs.Tree.{Trees}
 use Rattle.sqlite.specs.declared.error.Error.{Error}
 use Rattle.sqlite.specs.Effect.{Database}
-use Rattle.sqlite.specs.State.{State, HasCleanDisk, Survives}
+use Rattle.sqlite.specs.State.{State}
 use Rattle.sqlite.proofs.StateLemmas.{survives_weaker}
 use Rattle.mr_base.specs.Ids.{id_cmp}
 use Rattle.mr_replay.proofs.Ids.{ids_total}
@@ -25,13 +24,13 @@ use Rattle.mr_rows.specs.Schema.{first_schema}
 use Rattle.mr_rows.specs.Form.{Form}
 use Rattle.mr_rows.specs.Kept.{IsHeld, in_order, tables_in}
 use Rattle.mr_rows.specs.Shown.{columns_from, IsShownAs, AreStoredAs, IsMeta, listed}
-use Rattle.mr_rows.specs.Reads.{IsPlacedIn, ReadsWhere, first_of, metas_in}
+use Rattle.mr_rows.specs.Reads.{IsPlacedIn, first_of}
 use Rattle.mr_rows.proofs.KeyOrder.{ordered_same, ordered_in_order}
 use Rattle.mr_rows.proofs.TableLemmas.{Facts, plain_apart}
 use Rattle.mr_rows.proofs.SortLemmas.{table_is, rising, id_less}
 use Rattle.mr_rows.proofs.FirstLemmas.{meta_is}
 use Rattle.mr_rows.proofs.FoundLemmas.{stored_so, meta_is_found}
-use Rattle.mr_rows.proofs.QueryLemmas.{asked_where, told_where, made_where, then_where}
+use Rattle.mr_rows.proofs.QueryLemmas.{told_where, made_where, then_where}
 use Rattle.mr_first.specs.Cells.{write_in, undo_in}
 use Rattle.mr_first.specs.Forms.{write_id, undo_id, first_meta_form, write_form, undo_form}
 use Rattle.mr_first.specs.Kept.{IsFirst, IsKeptFirst, ReadsFirst, LooksFirst, first_in}

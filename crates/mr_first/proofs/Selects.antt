@@ -1,5 +1,5 @@
 -- What the rows are that each query shows, whichever the table has.
-use Rattle.std.proofs.Common.{◌≡◌, ℕ, [], map}
+use Rattle.std.proofs.Common.{◌≡◌, [], map}
 use Rattle.std.specs.List.Sorted.{IsPermutation}
 use Rattle.std.specs.Prelude.{List}
 use Rattle.sqlite_value.specs.Order.{Row}

@@ -1,5 +1,5 @@
 -- First tables put into a database, part by part.
-use Rattle.std.specs.Prelude.{◌≡◌, nat_lt, List, [], map, IsTrue}
+use Rattle.std.specs.Prelude.{nat_lt, List, []}
 use Rattle.mr_model.specs.Texts.{Text}
 use Rattle.mr_model.specs.Replica.{text_before}
 use Rattle.mr_model.specs.Tables.{MetaRow, VectorRow, BookingRow, ErrorRow}

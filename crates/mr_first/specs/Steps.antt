@@ -1,12 +1,11 @@
 -- The steps of moving up within its transaction: rows taken away, tables made, and what is then there.
 use Rattle.std.specs.Prelude.{◌≡◌, ◌≢◌, ℕ, List, [], IsTrue, Result, OnOk}
-use Rattle.sqlite_trees.specs.Tree.{Trees}
 use Rattle.sqlite_schema.specs.declared.schema.Schema.{Schema}
 use Rattle.sqlite_schema.specs.declared.schema.Table.{Table}
 use Rattle.sqlite_rules.specs.Edit.{IsNoIndex}
 use Rattle.sqlite_catalog.specs.Change.{KeepsRows}
 use Rattle.sqlite.specs.Change.{created, next_tree}
-use Rattle.sqlite.specs.State.{State, HasCleanDisk, KeepsCommit}
+use Rattle.sqlite.specs.State.{State, HasCleanDisk}
 use Rattle.sqlite.specs.declared.error.Error.{Error}
 use Rattle.mr_model.specs.Tables.{MetaRow, LogRow, Tables}
 use Rattle.mr_model.specs.First.{FirstTables}
@@ -14,7 +13,7 @@ use Rattle.mr_rows.specs.Schema.{first_schema, our_schema}
 use Rattle.mr_rows.specs.Shelf.{IsShelf}
 use Rattle.mr_rows.specs.Kept.{first_meta, IsStep}
 use Rattle.mr_rows.specs.Parts.{put_meta, put_logs}
-use Rattle.mr_first.specs.Kept.{IsFirst, first_in}
+use Rattle.mr_first.specs.Kept.{IsFirst}
 
 -- ---- all rows of a table taken away
 

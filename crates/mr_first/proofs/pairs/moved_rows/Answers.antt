@@ -1,4 +1,4 @@
-use Rattle.std.proofs.Common.{◌≡◌, ◌≢◌, ◌∙◌, sym, ap, subst, [], ◌∷◌, ◌++◌, ◌≤◌, map, take, length, get_or, Err, Result, IfErr, OnErr, List, add-one, rules}
+use Rattle.std.proofs.Common.{◌≡◌, ◌≢◌, ◌∙◌, sym, ap, subst, [], ◌∷◌, ◌++◌, ◌≤◌, map, take, Err, IfErr, List, add-one, rules}
 use Rattle.std.proofs.lemmas.List.{take_all}
 use Rattle.sqlite.specs.declared.error.Error.{Error}
 use Rattle.sqlite.specs.declared.error.ErrorCode.{ErrorCode}

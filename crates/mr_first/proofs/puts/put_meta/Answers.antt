@@ -1,4 +1,4 @@
-use Rattle.std.proofs.Common.{[], ◌∷◌, IsTrue, subst, sym, ap, ◌∙◌}
+use Rattle.std.proofs.Common.{IsTrue, subst}
 use Rattle.sqlite.specs.State.{HasCleanDisk}
 use Rattle.sqlite.specs.Held.{state}
 use Rattle.mr_model.specs.Tables.{MetaRow}

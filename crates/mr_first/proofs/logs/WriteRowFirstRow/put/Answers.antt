@@ -1,4 +1,4 @@
-use Rattle.std.proofs.Common.{string_bytes, [], ◌∷◌, IsTrue, subst, sym, ap, ◌∙◌}
+use Rattle.std.proofs.Common.{string_bytes, [], ◌∷◌, IsTrue, subst, ap, ◌∙◌}
 use Rattle.sqlite.specs.State.{HasCleanDisk}
 use Rattle.sqlite.specs.Held.{state}
 use Rattle.mr_model.specs.First.{WriteRow}
