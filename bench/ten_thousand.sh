@@ -21,7 +21,7 @@ awk -v count="$count" 'BEGIN {
     }
     print "E"
 }' > "$folder/batch"
-printf 'mp1 9 1\nK 0\nE\n' > "$folder/position"
+printf 'mp2 9 1\nK 0\nE\n' > "$folder/position"
 
 # timed WORD..: the seconds of the program with these words, and the first line that it prints
 timed() {

@@ -28,7 +28,7 @@ has() {
 alpha='W 1 1 1 oak 30 1995-12-18 09:00 0 Alpha'
 two=('mr1 1 1' 'W 1 1 1 oak 60 1995-12-18 14:00 0 Alpha' 'W 2 1 1 oak 60 1995-12-18 13:30 1 1995-12-18 15:00 Beta' 'E')
 sheet_of_two=('oak 1995-12-18 Monday' '14:00-15:00 T 1-1 Alpha' '15:00-16:00 T 2-1 Beta')
-position_of_two=('mp1 9 1' 'K 0' 'V 1 1' 'V 2 1' 'E')
+position_of_two=('mp2 9 1' 'K 0' 'V 1 1' 'V 2 1' 'E')
 
 run_repeats() {
     blank 9 1
@@ -75,7 +75,7 @@ hostile() {
     shift 2
     blank 2 1
     brings "$name" 1 "$reply" "$@" 'E'
-    has "nothing is known after $name" position 'mp1 2 1' 'K 0' 'E'
+    has "nothing is known after $name" position 'mp2 2 1' 'K 0' 'E'
     expect_line "no room after $name" 1 'refused 7 UnknownRoom' sheet "$database" oak 1995-12-18
 }
 
@@ -107,6 +107,79 @@ run_primary() {
     expect_line 'the room again' 1 'refused 8 RoomThere' add-room "$database" oak
 }
 
+# gives NAME STATUS REPLY LINES WANTED.. -- CLAIM..: for a position of the lines behind the hyphens a batch of at most LINES lines is made,
+# which has the wanted lines; or none, where the status isn't 0
+gives() {
+    local name=$1 status=$2 reply=$3 lines=$4
+    shift 4
+    : > "$scratch/commands/wanted"
+    while [ "$1" != -- ]; do
+        printf '%s\n' "$1" >> "$scratch/commands/wanted"
+        shift
+    done
+    shift
+    printf '%s\n' "$@" > "$scratch/commands/claim"
+    rm -f -- "$scratch/commands/made"
+    expect_line "$name" "$status" "$reply" export "$database" "$scratch/commands/claim" "$scratch/commands/made" "$lines"
+    if [ "$status" = 0 ]; then
+        same "the batch of $name" "$scratch/commands/made" "$scratch/commands/wanted"
+    else
+        gone "no batch of $name" "$scratch/commands/made"
+    fi
+}
+
+# what each version of the exchange text can say
+run_versions() {
+    local gamma='W 1 4 4 oak 60 1995-12-18 09:00 0 Gamma' beta='W 1 2 2 oak 60 1995-12-18 09:00 1 1995-12-18 10:00 Beta'
+    local first='W 1 1 1 oak 60 1995-12-18 09:00 0 Alpha'
+    blank 1 1
+    expect_line 'a room that is rebooked' 0 'ok' add-room "$database" oak
+    expect_line 'Alpha' 0 '1-1 T 1995-12-18 09:00-10:00' book "$database" oak 60 1995-12-18 09:00 Alpha
+    expect_line 'Beta' 0 '1-2 T 1995-12-18 10:00-11:00' book "$database" oak 60 1995-12-18 09:00 Beta 1995-12-18T10:00
+    expect_line 'Alpha is committed' 0 'committed 1' commit "$database" 1
+    expect_line 'Alpha is cancelled' 0 '1-3 T cancels 1-1' cancel "$database" oak 1-1
+    expect_line 'Gamma' 0 '1-4 T 1995-12-18 09:00-10:00' book "$database" oak 60 1995-12-18 09:00 Gamma
+    expect_line 'Alpha is cancelled again' 0 '1-5 T void 1-1' cancel "$database" oak 1-1
+    gives 'a batch in the second version' 0 'wrote 186 bytes' 10 \
+        'mr2 1 1' "$first" 'C 1 1 1' "$beta" 'X 1 3 3 oak 1 1' "$gamma" 'X 1 5 5 oak 1 1' 'E' -- 'mp2 2 1' 'K 0' 'E'
+    gives 'a batch in the first version, cut before a cancel' 0 'wrote 114 bytes' 3 \
+        'mr1 1 1' "$first" 'C 1 1 1' "$beta" 'M' -- 'mp1 9 1' 'K 0' 'E'
+    gives 'a batch in the first version, with a cancel' 1 'refused 27 NeedsVersion2' 4 -- 'mp1 9 1' 'K 0' 'E'
+    gives 'another primary before that' 1 'refused 16 WrongPrimary' 4 -- 'mp1 9 2' 'K 0' 'E'
+    gives 'a third version' 1 'refused 23 BadPosition' 4 -- 'mp3 9 1' 'K 0' 'E'
+    blank 2 1
+    brings 'a batch of the second version' 0 'took 2 writes 1 commits' 'mr2 1 1' "$first" 'C 1 1 1' "$beta" 'E'
+    expect_line 'a commit is dropped' 0 'dropped 1' truncate "$database" 1
+    brings 'a cancel of what was dropped' 0 'took 1 writes 0 commits' 'mr2 1 1' 'X 1 3 3 oak 1 1' 'E'
+    has 'it is cancelled' 'outcome oak 1-1' '1-1 C cancelled T 1-3'
+    has 'it stays committed' 'calendar oak committed' 'oak committed' '1995-12-18 09:00-10:00 C 1-1 Alpha'
+    gives 'what was dropped comes before the version' 1 'refused 22 Truncated' 4 -- 'mp1 9 1' 'K 0' 'E'
+}
+
+# a cancel comes alone: void, and void for good where its request comes behind it, done where the request comes before it
+run_lone_cancels() {
+    blank 9 1
+    brings 'a cancel of nothing' 0 'took 1 writes 0 commits' 'mr2 1 1' 'X 1 1 1 oak 2 1' 'E'
+    has 'it is in the error log' 'errors oak' 'oak errors' 'T 1-1 cancel 2-1'
+    brings 'a request behind it' 0 'took 1 writes 0 commits' 'mr1 1 1' 'W 2 1 2 oak 30 1995-12-18 09:00 0 Late' 'E'
+    has 'the request has its slot' 'sheet oak 1995-12-18' 'oak 1995-12-18 Monday' '09:00-09:30 T 2-1 Late'
+    has 'the cancel stays void' 'outcome oak 1-1' '1-1 T void 2-1'
+    gives 'a position that has the cancel, in the first version' 0 'wrote 49 bytes' 10 \
+        'mr1 9 1' 'W 2 1 2 oak 30 1995-12-18 09:00 0 Late' 'E' -- 'mp1 8 1' 'K 0' 'V 1 1' 'E'
+    blank 9 1
+    brings 'a later cancel of nothing' 0 'took 1 writes 0 commits' 'mr2 1 1' 'X 1 1 5 oak 2 1' 'E'
+    brings 'a request before it' 0 'took 1 writes 0 commits' 'mr1 2 1' 'W 2 1 2 oak 30 1995-12-18 09:00 0 Early' 'E'
+    has 'the request is cancelled' 'outcome oak 2-1' '2-1 T cancelled T 1-1'
+    has 'the cancel is done' 'outcome oak 1-1' '1-1 T cancels 2-1'
+    has 'the error log is empty again' 'errors oak' 'oak errors' '(no errors)'
+    brings 'a cancel from another room' 0 'took 1 writes 0 commits' 'mr2 1 1' 'X 1 2 6 elm 2 1' 'E'
+    has 'it finds nothing there' 'outcome elm 1-2' '1-2 T void 2-1'
+    expect_line 'one of its own is refused' 1 'refused 9 NoSuchRequest' cancel "$database" elm 2-1
+    brings 'the cancel again' 0 'took 0 writes 0 commits' 'mr2 1 1' 'X 1 2 6 elm 2 1' 'E'
+    brings 'the cancel with another target' 1 'refused 19 Forged 2' 'mr2 1 1' 'X 1 2 6 elm 2 2' 'E'
+    brings 'a request in its place' 1 'refused 19 Forged 2' 'mr2 1 1' 'W 1 2 6 elm 30 1995-12-18 09:00 0 Other' 'E'
+}
+
 # strange NAME STATUS LINE SQL: the stock sqlite3 ran this text in the database of a replica, which then answers so
 strange() {
     blank 1 1
@@ -129,7 +202,8 @@ run_strange() {
     fi
     strange 'a room of another hand' 1 'refused 7 UnknownRoom' "INSERT INTO room VALUES ('elm')"
     strange 'a room with a blank' 1 'refused 25 Store' "INSERT INTO room VALUES ('Oak tree')"
-    strange 'the number of another schema' 1 'refused 25 Store' 'UPDATE meta SET schema = 1'
+    strange 'the number of the first schema on these tables' 1 'refused 26 NotAReplica' 'UPDATE meta SET schema = 1'
+    strange 'the number of a schema to come' 1 'refused 26 NotAReplica' 'UPDATE meta SET schema = 3'
     strange 'a second number of the one row' 1 'refused 25 Store' 'UPDATE meta SET one = 2'
     strange 'a place in the undo rows of the first schema' 1 'refused 25 Store' 'INSERT INTO undo VALUES (1, 1, 0)'
     strange 'a write in the log of the first schema' 1 'refused 25 Store' \
@@ -164,6 +238,8 @@ run_commands() {
     run_forged
     run_hostile
     run_primary
+    run_versions
+    run_lone_cancels
     run_strange
     if ! command -v python3 > /dev/null; then
         echo 'skipped: scripts on databases (no python3)'

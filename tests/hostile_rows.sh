@@ -30,6 +30,46 @@ run_bad_lines() {
     hostile 'a last line twice' 'refused 15 BadLine 3' 'mr1 1 1' 'E'
 }
 
+# bad_second NAME LINE: after a header of the second version the line is none
+bad_second() {
+    hostile "$1" 'refused 15 BadLine 2' 'mr2 1 1' "$2"
+}
+
+# what the second version of the exchange text has besides
+run_second_lines() {
+    local more=' 1995-12-18 10:00' sixteen=
+    sixteen=$(printf "$more%.0s" $(seq 16))
+    bad_second 'a cancel with a target too few' 'X 1 1 1 oak 2'
+    bad_second 'a cancel with a word too many' 'X 1 1 1 oak 2 1 Alpha'
+    bad_second 'a cancel with a space behind it' 'X 1 1 1 oak 2 1 '
+    bad_second 'a cancel of server 0' 'X 1 1 1 oak 0 1'
+    bad_second 'a cancel of server 100' 'X 1 1 1 oak 100 1'
+    bad_second 'a cancel of the request 0' 'X 1 1 1 oak 2 0'
+    bad_second 'a cancel of a count of ten digits' 'X 1 1 1 oak 2 1000000000'
+    bad_second 'a cancel with a leading zero' 'X 1 1 1 oak 02 1'
+    bad_second 'a cancel in no room' 'X 1 1 1 Oak 2 1'
+    bad_second 'a cancel at the time 0' 'X 1 1 0 oak 2 1'
+    bad_second 'a cancel in small letters' 'x 1 1 1 oak 2 1'
+    bad_second 'a cancel with CR' $'X 1 1 1 oak 2 1\r'
+    bad_second 'seventeen alternatives' "W 1 1 1 $slot 17$sixteen$more Alpha"
+    hostile 'a third version' 'refused 15 BadLine 1' 'mr3 1 1'
+    hostile 'a second version of another primary' 'refused 16 WrongPrimary' 'mr2 1 3'
+    hostile 'a cancel in its own name' 'refused 20 OwnWrite 2' 'mr2 1 1' 'X 2 1 1 oak 1 1'
+    hostile 'a gap before a cancel' 'refused 17 Gap 2' 'mr2 1 1' 'X 1 2 5 oak 1 1'
+    hostile 'a cancel at the time of its request' 'refused 18 OutOfOrder 3' 'mr2 1 1' "W 1 1 1 $slot 0 Alpha" 'X 1 2 1 oak 1 1'
+    hostile 'a request and a cancel under one id' 'refused 19 Forged 3' 'mr2 1 1' "W 1 1 1 $slot 0 Alpha" 'X 1 1 1 oak 1 1'
+    hostile 'a cancel and a request under one id' 'refused 19 Forged 3' 'mr2 1 1' 'X 1 1 1 oak 1 1' "W 1 1 1 $slot 0 Alpha"
+    hostile 'a cancel committed before its request' 'refused 18 OutOfOrder 4' 'mr2 1 1' "W 1 1 1 $slot 0 Alpha" 'X 1 2 2 oak 1 1' 'C 1 1 2'
+    blank 2 1
+    brings 'sixteen alternatives' 0 'took 1 writes 0 commits' 'mr2 1 1' "W 1 1 1 $slot 16$sixteen Alpha" 'E'
+    blank 2 1
+    brings 'a cancel of the greatest id' 0 'took 1 writes 0 commits' 'mr2 1 1' 'X 1 1 1 oak 99 999999999' 'E'
+    has 'it is void' 'errors oak' 'oak errors' 'T 1-1 cancel 99-999999999'
+    blank 2 1
+    brings 'a cancel of itself' 0 'took 1 writes 0 commits' 'mr2 1 1' 'X 1 1 1 oak 1 1' 'E'
+    has 'it is void too' 'outcome oak 1-1' '1-1 T void 1-1'
+}
+
 run_edge_lines() {
     local last=999999999999
     hostile 'the greatest count' 'refused 17 Gap 2' 'mr1 1 1' "W 1 999999999 1 $slot 0 Far"
@@ -67,7 +107,7 @@ run_great_batch() {
     { printf 'mr1 2 1\nW 2 1 1 oak 30 1995-12-18 09:00 0 Last\n'; head -c 16777169 /dev/zero; } > "$great"
     printf 'y' >> "$great"
     expect_line 'a batch of 16 MiB and one byte' 3 'fault file' import "$database" "$great"
-    has 'nothing is known after it' position 'mp1 9 1' 'K 0' 'E'
+    has 'nothing is known after it' position 'mp2 9 1' 'K 0' 'E'
     expect_line 'no room after it' 1 'refused 7 UnknownRoom' sheet "$database" oak 1995-12-18
     truncate -s 16777216 "$great"
     expect_line 'a batch of 16 MiB' 0 'took 1 writes 0 commits' import "$database" "$great"
@@ -77,6 +117,7 @@ run_great_batch() {
 run_hostile_rows() {
     mkdir -p "$scratch/commands"
     run_bad_lines
+    run_second_lines
     run_edge_lines
     run_cut_batch
     run_great_batch

@@ -84,7 +84,7 @@ run_served() {
     asked 'an outcome over HTTP' 200 \
         '{"day":"1995-12-18","id":"1-1","mark":"T","start":"13:30","state":"booked","stop":"14:30"}' /rooms/oak/requests/1-1
     asked 'the error log over HTTP' 200 "oak errors${line}T 1-2 1995-12-18 14:00-14:15 Late${line}" /rooms/oak/errors
-    asked 'the position over HTTP' 200 "mp1 1 1${line}K 0${line}V 1 2${line}E${line}" /position
+    asked 'the position over HTTP' 200 "mp2 1 1${line}K 0${line}V 1 2${line}E${line}" /position
     asked 'a batch over HTTP' 200 "mr1 1 1${line}W 1 1 1 oak 60 1995-12-18 13:30 0 Budget Meeting${line}W 1 2 2 oak 15 1995-12-18 14:00 0 Late${line}E${line}" \
         /pull --data-binary "@$folder/nothing"
     asked 'a batch taken over HTTP' 200 "took 1 writes 0 commits${line}" /push --data-binary "@$folder/beta"
@@ -97,6 +97,44 @@ run_served() {
     expect_line 'serving where no database is' 1 'refused 26 NotAReplica' serve "$folder/none.db" 20000 1
     expect_line 'serving nobody' 0 'serving 127.0.0.1:20321' serve "$folder/a.db" 20321 0
     expect_line 'a port that is none' 2 'bad command line' serve "$folder/a.db" 0 1
+}
+
+# cancelled NAME STATUS BODY JSON: the cancellation with this text is answered so
+cancelled() {
+    asked "$1" "$2" "$3" /cancel --data-binary "$4"
+}
+
+# a request is cancelled over HTTP
+run_cancelled() {
+    local folder=$scratch/served.d line=$'\n' gone='{"by":"1-2","bymark":"T","id":"1-1","mark":"T","state":"cancelled"}'
+    printf 'mp2 9 1\nK 0\nE\n' > "$folder/second"
+    expect_line 'init of what is cancelled' 0 'ok' init "$folder/c.db" 1 1
+    expect_line 'a room of what is cancelled' 0 'ok' add-room "$folder/c.db" oak
+    serve "$folder/c.db" 20
+    submitted 'a submission that is cancelled' 200 \
+        '{"day":"1995-12-18","id":"1-1","mark":"T","start":"13:30","state":"booked","stop":"14:30"}' \
+        '{"day":"1995-12-18","length":60,"room":"oak","start":"13:30","title":"Budget Meeting"}'
+    cancelled 'a cancel' 200 '{"id":"1-2","mark":"T","state":"cancels","target":"1-1"}' '{"id":"1-1","room":"oak"}'
+    asked 'the outcome of what was cancelled' 200 "$gone" /rooms/oak/requests/1-1
+    asked 'the outcome of a cancel' 200 '{"id":"1-2","mark":"T","state":"cancels","target":"1-1"}' /rooms/oak/requests/1-2
+    cancelled 'a cancel of what was cancelled' 200 '{"id":"1-3","mark":"T","state":"void","target":"1-1"}' '{"room":"oak","id":"1-1"}'
+    asked 'the error log with a void cancel' 200 "oak errors${line}T 1-3 cancel 1-1${line}" /rooms/oak/errors
+    asked 'the sheet without it' 200 "oak 1995-12-18 Monday${line}(no bookings)${line}" /rooms/oak/days/1995-12-18
+    cancelled 'a cancel of a cancel' 404 '{"name":"NoSuchRequest","refusal":9}' '{"id":"1-2","room":"oak"}'
+    cancelled 'a cancel of no id' 404 '{"name":"NoSuchRequest","refusal":9}' '{"id":"","room":"oak"}'
+    cancelled 'a cancel in a room that is not there' 404 '{"name":"UnknownRoom","refusal":7}' '{"id":"1-1","room":"ash"}'
+    cancelled 'a cancel in a room that is none' 400 '{"name":"BadRoomName","refusal":4}' '{"id":"1-1","room":"Oak"}'
+    cancelled 'a cancellation without its room' 400 '{"error":"bad request"}' '{"id":"1-1"}'
+    cancelled 'a cancellation with another member' 400 '{"error":"bad request"}' '{"id":"1-1","room":"oak","by":"me"}'
+    cancelled 'a cancellation with a number' 400 '{"error":"bad request"}' '{"id":11,"room":"oak"}'
+    cancelled 'a cancellation that is no object' 400 '{"error":"bad request"}' '["1-1","oak"]'
+    cancelled 'no cancellation' 400 '{"error":"bad request"}' ''
+    asked 'a question where a cancellation goes' 405 '{"error":"method not allowed"}' /cancel
+    asked 'a batch with cancels' 200 "mr2 1 1${line}W 1 1 1 oak 60 1995-12-18 13:30 0 Budget Meeting${line}X 1 2 2 oak 1 1${line}X 1 3 3 oak 1 1${line}E${line}" \
+        /pull --data-binary "@$folder/second"
+    asked 'a batch with cancels in the first version' 409 '{"name":"NeedsVersion2","refusal":27}' /pull --data-binary "@$folder/nothing"
+    asked 'the position with cancels' 200 "mp2 1 1${line}K 0${line}V 1 3${line}E${line}" /position
+    served 'the lines of cancels' 200 200 200 200 200 200 200 404 404 404 400 400 400 400 400 400 405 200 409 200
 }
 
 # raw NAME WANTED TEXT: what is answered to these bytes, with nothing behind them, begins with this line
@@ -238,49 +276,49 @@ run_exchanges() {
     run_other_family "$folder/two.db"
 }
 
-# what is served of cancels, by an office that has two of them
-run_served_cancels() {
-    local folder=$scratch/cancels line=$'\n'
-    printf 'mp1 9 1\nK 0\nE\n' > "$folder/nothing"
-    cp -- "$folder/one.db" "$folder/served.db"
-    serve "$folder/served.db" 6
-    asked 'a cancelled request over HTTP' 200 '{"by":"1-2","bymark":"T","id":"1-1","mark":"T","state":"cancelled"}' /rooms/oak/requests/1-1
-    asked 'a cancel over HTTP' 200 '{"id":"1-2","mark":"T","state":"cancels","target":"1-1"}' /rooms/oak/requests/1-2
-    asked 'a void cancel over HTTP' 200 '{"id":"1-3","mark":"T","state":"void","target":"1-1"}' /rooms/oak/requests/1-3
-    asked 'a void cancel in the error log over HTTP' 200 "oak errors${line}T 1-3 cancel 1-1${line}" /rooms/oak/errors
-    asked 'a batch with a cancel over HTTP' 409 '{"name":"NeedsVersion2","refusal":27}' /pull --data-binary "@$folder/nothing"
-    asked 'nothing is cancelled over HTTP' 404 '{"error":"not found"}' /cancel --data-binary '{"id":"1-1","room":"oak"}'
-    served 'the lines of served cancels' 200 200 200 200 409 404
+# shows_two NAME LINE..: both offices that exchange cancels print these lines of what is asked by the words in $words
+shows_two() {
+    local name=$1 office
+    shift
+    printf '%s\n' "$@" > "$scratch/cancels/wanted"
+    for office in one two; do
+        expect "$name, office $office" 0 "$scratch/cancels/wanted" "${words[0]}" "$scratch/cancels/$office.db" "${words[@]:1}"
+    done
 }
 
-# an office that has cancels takes what others have, and hands nothing over
-run_kept_cancels() {
+# one office cancels a request of the other, which learns of it over HTTP; the primary commits both, and a bridge brings that back
+run_exchanged_cancels() {
     local folder=$scratch/cancels
+    local -a words
     mkdir "$folder"
-    expect_line 'init of an office that cancels' 0 'ok' init "$folder/one.db" 1 1
-    expect_line 'init of an office that does not' 0 'ok' init "$folder/two.db" 2 1
-    expect_line 'a room of the office that cancels' 0 'ok' add-room "$folder/one.db" oak
-    expect_line 'a room of the other' 0 'ok' add-room "$folder/two.db" oak
+    printf 'pulled 1 writes 0 commits\npushed 1 writes 0 commits\n' > "$folder/first"
+    printf 'pulled 0 writes 0 commits\npushed 2 writes 0 commits\n' > "$folder/cancels"
+    printf 'pulled 1 writes 5 commits\npushed 0 writes 0 commits\n' > "$folder/commits"
+    expect_line 'init of an office whose request is cancelled' 0 'ok' init "$folder/one.db" 1 1
+    expect_line 'init of an office that cancels' 0 'ok' init "$folder/two.db" 2 1
+    expect_line 'a room of the first of them' 0 'ok' add-room "$folder/one.db" oak
+    expect_line 'a room of the second of them' 0 'ok' add-room "$folder/two.db" oak
     expect_line 'a booking to be cancelled' 0 '1-1 T 1995-12-18 14:00-15:00' book "$folder/one.db" oak 60 1995-12-18 14:00 Alpha
-    expect_line 'its cancel' 0 '1-2 T cancels 1-1' cancel "$folder/one.db" oak 1-1
-    expect_line 'a second cancel of it' 0 '1-3 T void 1-1' cancel "$folder/one.db" oak 1-1
-    expect_line 'a booking of the other' 0 '2-1 T 1995-12-18 16:00-17:00' book "$folder/two.db" oak 60 1995-12-18 16:00 Beta
-    printf 'pulled 1 writes 0 commits\nrefused 27 NeedsVersion2\n' > "$folder/first"
-    printf 'pulled 0 writes 0 commits\nrefused 27 NeedsVersion2\n' > "$folder/again"
-    printf 'mp1 9 1\nK 0\nE\n' > "$folder/position"
-    printf 'mr1 1 1\nW 1 1 1 oak 60 1995-12-18 14:00 0 Alpha\nM\n' > "$folder/front"
-    expect_line 'an export of the line before a cancel' 0 'wrote 50 bytes' export "$folder/one.db" "$folder/position" "$folder/batch" 1
-    same 'the batch that ends before a cancel' "$folder/batch" "$folder/front"
-    expect_line 'an export with a cancel' 1 'refused 27 NeedsVersion2' export "$folder/one.db" "$folder/position" "$folder/none" 2
-    gone 'no batch with a cancel is written' "$folder/none"
-    serve "$folder/two.db" 3
-    expect 'an exchange of an office that has cancels' 1 "$folder/first" exchange "$folder/one.db" "http://127.0.0.1:$port/"
-    served 'the lines of that exchange: nothing is asked over the third connection' 200 200 400
-    serve "$folder/one.db" 1
-    expect_line 'an exchange with an office that has cancels' 1 'peer answered 409' exchange "$folder/two.db" "http://127.0.0.1:$port/"
-    served 'the line of its refusal' 409
-    expect 'a bridge from an office that has cancels' 1 "$folder/again" bridge "$folder/one.db" "$folder/two.db"
-    expect_line 'a bridge to it' 1 'peer answered 409' bridge "$folder/two.db" "$folder/one.db"
+    expect_line 'a booking that stays' 0 '2-1 T 1995-12-18 16:00-17:00' book "$folder/two.db" oak 60 1995-12-18 16:00 Beta
+    expect 'a bridge before the cancel' 0 "$folder/first" bridge "$folder/two.db" "$folder/one.db"
+    expect_line 'a cancel of a request of another office' 0 '2-2 T cancels 1-1' cancel "$folder/two.db" oak 1-1
+    expect_line 'a second cancel of it' 0 '2-3 T void 1-1' cancel "$folder/two.db" oak 1-1
+    serve "$folder/one.db" 3
+    expect 'an exchange of cancels' 0 "$folder/cancels" exchange "$folder/two.db" "http://127.0.0.1:$port/"
+    served 'the lines of that exchange' 200 200 200
+    words=(outcome oak 1-1)
+    shows_two 'the outcome of what was cancelled' '1-1 T cancelled T 2-2'
+    words=(sheet oak 1995-12-18)
+    shows_two 'the sheet without it' 'oak 1995-12-18 Monday' '16:00-17:00 T 2-1 Beta'
+    words=(errors oak)
+    shows_two 'the void cancel' 'oak errors' 'T 2-3 cancel 1-1'
+    expect_line 'its slot is booked again' 0 '1-2 T 1995-12-18 14:00-15:00' book "$folder/one.db" oak 60 1995-12-18 14:00 Gamma
+    expect_line 'the primary commits all of it' 0 'committed 5' commit "$folder/one.db" 10
+    expect 'a bridge after that' 0 "$folder/commits" bridge "$folder/two.db" "$folder/one.db"
+    words=(outcome oak 1-1)
+    shows_two 'the outcome once all is committed' '1-1 C cancelled C 2-2'
+    words=(calendar oak committed)
+    shows_two 'the committed calendar' 'oak committed' '1995-12-18 14:00-15:00 C 1-2 Gamma' '1995-12-18 16:00-17:00 C 2-1 Beta'
 }
 
 # a peer at an address of version 6, which answers 503
@@ -319,12 +357,12 @@ PYTHON
 run_http() {
     if command -v curl > /dev/null; then
         run_served
+        run_cancelled
         run_raw_requests
         run_killed
     else
         echo 'skipped: a served database, cut requests, a killed server (no curl)'
     fi
     run_exchanges
-    run_kept_cancels
-    if command -v curl > /dev/null; then run_served_cancels; fi
+    run_exchanged_cancels
 }

@@ -1,6 +1,6 @@
-# A database of the first schema that is kept, and what it must show. ./test sources this file; the functions of tests/lib.sh and the
-# variables of ./test are used here. tests/kept/make.py made the files, once; the store's
-# log beside the database had no rows and isn't kept.
+# A database of the first schema that is kept, and what it must show once the program has moved it up. ./test sources this file; the
+# functions of tests/lib.sh and the variables of ./test are used here. tests/kept/make.py made the files, once, with a program of the
+# first schema; the store's log beside the database had no rows and isn't kept.
 
 # shows DATABASE FILE: each line `$ <command> <word>..` of the file is a command on the database, and what follows is its reply
 shows() {
@@ -20,12 +20,27 @@ shows() {
     expect "kept: ${words[*]}" 0 "$scratch/kept/wanted" "${words[0]}" "$database" "${words[@]:1}"
 }
 
-# a program of the second schema refuses it, and leaves it as it is
+# in_present_version FILE: its batches and positions in the version of the exchange text that replicas write by the present rules
+in_present_version() {
+    local version=1
+    if [ "$ROOMS_RULES" = second ]; then version=2; fi
+    sed "s/^m\([pr]\)1 /m\1$version /" "$1"
+}
+
+# it is moved up with the first command, and shows what it showed before; it goes on to receive, undo and execute again as it did
 run_kept() {
-    local database=$scratch/kept/first.sqlite
+    local database=$scratch/kept/first.sqlite file
     mkdir -p "$scratch/kept"
     cp -- tests/kept/first.sqlite "$database"
-    damaged "$database" 'refused 26 NotAReplica'
-    expect_line 'kept: init of the first tables' 1 'refused 26 NotAReplica' init "$database" 7 3
-    same 'kept: the first tables after init' "$database" tests/kept/first.sqlite
+    for file in replies after position batch; do
+        in_present_version "tests/kept/first.$file" > "$scratch/kept/$file"
+    done
+    shows "$database" "$scratch/kept/replies"
+    expect_line 'kept: a batch for a position' 0 "wrote $(wc -c < tests/kept/first.batch) bytes" \
+        export "$database" tests/kept/first.position "$scratch/kept/made" 100000
+    same 'kept: the batch' "$scratch/kept/made" tests/kept/first.batch
+    expect_line 'kept: a batch for a position of the present version' 0 "wrote $(wc -c < tests/kept/first.batch) bytes" \
+        export "$database" "$scratch/kept/position" "$scratch/kept/made" 100000
+    same 'kept: the batch of the present version' "$scratch/kept/made" "$scratch/kept/batch"
+    shows "$database" "$scratch/kept/after"
 }

@@ -1,6 +1,6 @@
-# Databases of the first schema, which a program moves up to the second one when it opens them. ./test doesn't source this file yet: the
-# program refuses them (tests/kept.sh). The functions of tests/lib.sh, tests/kept.sh and tests/hostile.sh and the variables of ./test are used here. What is wanted of the kept database is
-# what it showed before (tests/kept), with its position in the second version, and rows worked by hand.
+# Databases of the first schema, which the program moves up to the second one when it opens them: their rows, what is cancelled then, and what
+# isn't moved. ./test sources this file; the functions of tests/lib.sh and tests/hostile.sh and the variables of ./test are used here.
+# What is wanted of the kept database (tests/kept.sh) is worked by hand.
 
 y60=$(printf 'y%.0s' $(seq 60))
 
@@ -30,22 +30,6 @@ replies() {
     expect "$name" 0 "$scratch/kept/lines" "${words[0]}" "$database" "${words[@]:1}"
 }
 
-run_moved_replies() {
-    first_tables moved
-    sed 's/^mp1 /mp2 /' tests/kept/first.replies > "$scratch/kept/replies"
-    sed 's/^mp1 /mp2 /' tests/kept/first.after > "$scratch/kept/after"
-    sed 's/^mp1 /mp2 /' tests/kept/first.position > "$scratch/kept/position"
-    sed 's/^mr1 /mr2 /' tests/kept/first.batch > "$scratch/kept/second"
-    shows "$database" "$scratch/kept/replies"
-    expect_line 'moved: a batch for a position' 0 "wrote $(wc -c < tests/kept/first.batch) bytes" \
-        export "$database" tests/kept/first.position "$scratch/kept/batch" 100000
-    same 'moved: the batch' "$scratch/kept/batch" tests/kept/first.batch
-    expect_line 'moved: a batch of the second version' 0 "wrote $(wc -c < tests/kept/first.batch) bytes" \
-        export "$database" "$scratch/kept/position" "$scratch/kept/batch" 100000
-    same 'moved: the batch of the second version' "$scratch/kept/batch" "$scratch/kept/second"
-    shows "$database" "$scratch/kept/after"
-}
-
 # the rows after the first command, which only asks
 run_moved_rows() {
     local twelve='2099-12-31 12:00' nine
@@ -53,7 +37,7 @@ run_moved_rows() {
         echo 'skipped: the rows of tables that moved up (no sqlite3)'
         return
     fi
-    nine="$twelve $twelve $twelve $twelve $twelve $twelve $twelve $twelve $twelve"
+    nine=$(printf "$twelve %.0s" $(seq 8))$twelve
     first_tables rows
     replies 'moved: the first command' 'errors unused' 'unused errors' '(no errors)'
     rows 'moved: the row of the replica' 'SELECT one, schema, server, prim, commits, dropped, clock FROM meta' '1|2|7|3|6|4|6'
@@ -83,6 +67,36 @@ run_moved_cancels() {
     replies 'moved: its slot is free' 'book oak 60 2024-02-29 09:00 Again' '7-8 T 2024-02-29 09:00-10:00'
     replies 'moved: a dropped request without a slot' 'cancel elm-2 7-2' '7-9 T void 7-2'
     replies 'moved: the error log has both' 'errors elm-2' 'elm-2 errors' 'C 7-2 1990-01-01 23:59-24:00 "quoted" ~ text' 'T 7-9 cancel 7-2'
+}
+
+# first_command STATUS LINE WORD..: the first command on first tables is of these words, with the database in place of @, and prints this
+# line; whatever it replies, they are moved up
+first_command() {
+    local status=$1 reply=$2
+    local -a words=("${@:3}")
+    first_tables command
+    expect_line "moved: $3 first" "$status" "$reply" "${words[@]//@/$database}"
+    if command -v sqlite3 > /dev/null; then
+        rows "moved: the schema after $3" 'SELECT schema, (SELECT count(*) FROM write_log) + (SELECT count(*) FROM undo) FROM meta' '2|0'
+    fi
+}
+
+run_moved_commands() {
+    first_command 0 ok add-room @ new
+    first_command 1 'refused 8 RoomThere' add-room @ unused
+    first_command 0 '7-7 T 2099-12-31 09:00-10:00' book @ oak 60 2099-12-31 09:00 New
+    first_command 0 '7-7 T cancels 7-5' cancel @ oak 7-5
+    first_command 1 'refused 9 NoSuchRequest' cancel @ oak 7-7
+    first_command 0 '7-5 T 2024-02-29 14:00-15:30' outcome @ oak 7-5
+    first_command 1 'refused 10 NotPrimary' commit @ 1
+    first_command 0 'dropped 6' truncate @ 6
+    first_command 0 'took 2 writes 3 commits' import @ tests/kept/first.next
+    first_command 0 "wrote $(wc -c < tests/kept/first.batch) bytes" export @ tests/kept/first.position "$scratch/kept/made" 100000
+    first_command 0 'serving 127.0.0.1:20322' serve @ 20322 0
+    first_tables client
+    cp -- tests/kept/first.sqlite "$scratch/kept/server.db"
+    printf 'pulled 0 writes 0 commits\npushed 0 writes 0 commits\n' > "$scratch/kept/lines"
+    expect 'moved: a bridge of two' 0 "$scratch/kept/lines" bridge "$database" "$scratch/kept/server.db"
 }
 
 # refused_move NAME REFUSAL SQL: the stock sqlite3 ran this text in the first tables; they stay as they are
@@ -115,9 +129,9 @@ run_moved_inits() {
 run_moved() {
     local database
     mkdir -p "$scratch/kept"
-    run_moved_replies
     run_moved_rows
     run_moved_cancels
+    run_moved_commands
     run_moved_inits
     if ! command -v python3 > /dev/null; then
         echo 'skipped: first tables of many replicas, killed while they move up (no python3)'

@@ -4,7 +4,8 @@
     peers.py PROGRAM FOLDER
 
 `exchange` with a peer whose reply to a pull ends after each of its bytes, with one that breaks the connection after each byte of each
-of its replies, and with one whose reply is none; a submission to a served database by clients that go away at once. What was taken stays; what was answered is there. The last line counts.
+of its replies, with one whose reply is none, and with one that knows the first exchange text alone; a submission to a served database
+by clients that go away at once. What was taken stays; what was answered is there. The last line counts.
 """
 
 import socket
@@ -14,9 +15,9 @@ import threading
 
 from calls import Served, call, done, empty
 
-BATCH = (b'mr1 1 1\nW 1 1 1 oak 60 1995-12-18 14:00 0 Alpha\n'
+BATCH = (b'mr2 1 1\nW 1 1 1 oak 60 1995-12-18 14:00 0 Alpha\n'
          b'W 2 1 1 oak 60 1995-12-18 13:30 1 1995-12-18 15:00 Beta\nE\n')
-POSITION = b'mp1 1 1\nK 0\nV 1 1\nV 2 1\nE\n'
+POSITION = b'mp2 1 1\nK 0\nV 1 1\nV 2 1\nE\n'
 NONE = b'took 0 writes 0 commits\n'
 
 
@@ -82,7 +83,7 @@ class Tried:
         peer.listener.close()
         self.told(f'{name}: {printed}', printed == (wanted, status))
         counts = b''.join(b'V %d 1\n' % server for server in range(1, writes + 1))
-        self.told(f'{name}: the position', done(self.program, 'position', self.file) == b'mp1 9 1\nK 0\n' + counts + b'E\n')
+        self.told(f'{name}: the position', done(self.program, 'position', self.file) == b'mp2 9 1\nK 0\n' + counts + b'E\n')
 
     def cut_pulls(self):
         """The reply's body ends after each of its bytes: whole lines are taken, and the exchange goes on."""
@@ -125,6 +126,25 @@ class Tried:
         self.exchange('a push answered with a great number', pulled + fault, 3, 2, pull=whole,
                       push=head(43) + b'took 18446744073709551616 writes 0 commits\n')
 
+    def first_peers(self):
+        """A peer whose batch and position are of the first version is pulled from, and handed what that version can say."""
+        empty(self.folder)
+        done(self.program, 'init', self.file, 9, 1)
+        first, position = BATCH.replace(b'mr2', b'mr1'), b'mp1 1 1\nK 0\nV 1 1\nV 2 1\nE\n'
+        peer = Peer(pull=head(len(first)) + first, position=head(len(position)) + position)
+        words = ['exchange', self.file, f'http://127.0.0.1:{peer.port}/']
+        printed = call(self.program, *words)
+        self.told(f'a peer of the first version: {printed}', printed == (b'pulled 2 writes 0 commits\npushed 0 writes 0 commits\n', 0))
+        done(self.program, 'cancel', self.file, 'oak', '1-1')
+        printed = call(self.program, *words)
+        self.told(f'a cancel for it: {printed}', printed == (b'pulled 0 writes 0 commits\nrefused 27 NeedsVersion2\n', 1))
+        peer.listener.close()
+        body = b'{"name":"BadPosition","refusal":23}'
+        old = Peer(pull=head(len(body), b'400 Bad Request') + body)
+        printed = call(self.program, 'exchange', self.file, f'http://127.0.0.1:{old.port}/')
+        self.told(f'a peer that reads no position of the second version: {printed}', printed == (b'peer answered 400\n', 1))
+        old.listener.close()
+
     def leaving_clients(self):
         """A whole submission whose client goes away at once is booked; half of one isn't."""
         body = b'{"day":"1995-12-18","length":60,"room":"oak","start":"13:30","title":"Budget Meeting"}'
@@ -138,11 +158,11 @@ class Tried:
                 peer.sendall(request[:size])
                 peer.setsockopt(socket.SOL_SOCKET, socket.SO_LINGER, struct.pack('ii', 1, 0))
         position = served.ask(b'GET /position HTTP/1.1\r\n\r\n')
-        self.told('nothing is booked by half a request', position.endswith(b'\r\n\r\nmp1 1 1\nK 0\nE\n'))
+        self.told('nothing is booked by half a request', position.endswith(b'\r\n\r\nmp2 1 1\nK 0\nE\n'))
         with socket.create_connection(('127.0.0.1', served.port), 30) as peer:
             peer.sendall(request)
         position = served.ask(b'GET /position HTTP/1.1\r\n\r\n')
-        self.told('a whole request is booked', position.endswith(b'\r\n\r\nmp1 1 1\nK 0\nV 1 1\nE\n'))
+        self.told('a whole request is booked', position.endswith(b'\r\n\r\nmp2 1 1\nK 0\nV 1 1\nE\n'))
         told = served.statuses(7)
         is_right = len(told) == 7 and set(told[:4]) <= {b'fault', b'400'} and told[4] == told[6] == b'200'
         self.told(f'one line for each of them: {told}', is_right)
@@ -154,6 +174,7 @@ def main():
     tried.cut_pulls()
     tried.broken_connections()
     tried.bad_peers()
+    tried.first_peers()
     tried.leaving_clients()
     print(f'{tried.passed} passed, {tried.failed} failed')
     sys.exit(1 if tried.failed else 0)

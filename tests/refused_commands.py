@@ -3,22 +3,29 @@
 The program asks three replicas the commands of six scripts, first over lists and then over databases in memory. Each allocation of each
 command, and of opening each keeper, is refused in a child of the process: there the reply is that of the script, or that there is no
 memory. In the second case all that can be seen of the three replicas is as before the command, the command has its reply once it is
-asked again, and then what can be seen is as after it. What is wanted comes from the plain form of scripts.
+asked again, and then what can be seen is as after it. Then two databases of the first schema are made and moved up in memory: each
+allocation of either is refused, too, and it is done once it is tried again. What is wanted comes from the plain form of scripts.
 """
 
 import os
 import subprocess
 
+import oracle
 import plain_script
 from plain_script import REFUSED
 from shim import built
 
 SERVERS = (1, 2, 3)
+# Replicas whose tables are moved up: the batches that each has received, each with how many writes are dropped then.
+TWO = 'mr1 1 1\nW 1 1 1 oak 60 1995-12-18 14:00 0 Alpha\nW 2 1 1 oak 60 1995-12-18 13:30 1 1995-12-18 15:00 Beta\nE\n'
+COMMITTED = 'mr1 1 1\nW 1 1 1 oak 60 1995-12-18 13:30 0 Audit\nC 1 1 1\nW 1 2 2 oak 30 1995-12-18 14:30 0 Brief\nC 2 1 2\nE\n'
+ELM = 'mr1 3 1\n' + ''.join(f'W 3 {i} {i} elm 15 1995-12-18 09:00 0 Elm\nC {i} 3 {i}\n' for i in range(1, 51)) + 'E\n'
+MOVED = ((9, ((ELM, 50), (TWO, 50))), (2, ((COMMITTED, 2),)))
 
 
-def seen(world):
+def seen(world, servers=SERVERS):
     """What the program prints of its replicas."""
-    return b''.join(world.reply(line).encode('ascii') + b'\n' for line in plain_script.questions(SERVERS))
+    return b''.join(world.reply(line).encode('ascii') + b'\n' for line in plain_script.questions(servers))
 
 
 def replies(world, line):
@@ -48,13 +55,26 @@ def steps(scripts):
                 yield reply, REFUSED + before + reply + after
 
 
+def moves():
+    """Of each database: that it is made; that it is moved up, and what is seen of its replica; and each of these where it is refused at first."""
+    for server, batches in MOVED:
+        world = plain_script.World()
+        replica = world.replicas[server] = oracle.Replica(server, 1)
+        for batch, dropped in batches:
+            replica.receive(batch)
+            replica.truncate(dropped)
+        yield b'ok\n', REFUSED + b'ok\n'
+        shown = b'ok\n' + seen(world, (server,))
+        yield shown, REFUSED + shown
+
+
 class Commands:
     """Counts what was tried."""
 
     def __init__(self, program, folder):
         self.program, self.folder = program, folder
         self.allocations, self.refused, self.late, self.wrong = 0, 0, 0, 0
-        self.by_keeper = {'over lists': 0, 'over databases': 0}
+        self.by_keeper = {'over lists': 0, 'over databases': 0, 'moving up': 0}
 
     def told(self, name, fault):
         """Without a fault it is right."""
@@ -83,18 +103,19 @@ class Commands:
     def each(self, wanted, has_rest=False):
         """Tries the program, which is to print so on each keeper."""
         printed, begun, child = [], 0, None
-        names = list(self.by_keeper)
+        names, moved = list(self.by_keeper), list(moves())
+        wanted_of = wanted * 2 + moved
         for piece in self.pieces(has_rest):
             if piece.startswith(b'r'):
                 child = piece[1:]
                 continue
             if child is not None:
-                self.check_child(begun, wanted[(begun - 1) % len(wanted)], child, piece[:1])
-                self.by_keeper[names[begun > len(wanted)]] += 1
+                self.check_child(begun, wanted_of[begun - 1], child, piece[:1])
+                self.by_keeper[names[(begun - 1) // len(wanted)]] += 1
                 piece = piece[1:]
             printed.append(piece)
             begun += piece.count(b'now\n')
-        whole = b''.join(b'now\nthen\n' + reply for reply, _ in wanted) * 2
+        whole = b''.join(b'now\nthen\n' + reply for reply, _ in wanted_of)
         self.told('with no refusal', None if b''.join(printed) == whole else f'printed {b"".join(printed)}')
 
     def scripts(self, scripts):

@@ -6,10 +6,11 @@
 Each script is run by `rehearse`, so over lists, with each of its allocations refused in turn: what is printed is that of its plain form,
 in which the refused line is not done. It is run once more with each of its lines given twice and questions between, and with all
 allocations refused from one on. Then its lines are commands on databases, with some of the allocations of each, most of them near
-its end; and a served database is sent requests, with each allocation of each refused. SERVED is the built program of the crate mr_served,
-which serves requests over lists: each of its allocations is refused. ASKED is that of the crate mr_asked, which asks the same scripts of
-replicas over lists and over databases in memory: each allocation of each command is refused. After a refusal everything is as before, and
-what was asked is done when it is asked again. A process that ends otherwise is reported. The last line counts.
+its end; a database of the first schema is moved up, with each fifth allocation; and a served database is sent requests, with each
+allocation of each refused. SERVED is the built program of the crate mr_served, which serves requests over lists: each of its allocations
+is refused. ASKED is that of the crate mr_asked, which asks the same scripts of replicas over lists and over databases in memory: each
+allocation of each command is refused. After a refusal everything is as before, and what was asked is done when it is asked again. A
+process that ends otherwise is reported. The last line counts.
 """
 
 import itertools
@@ -21,14 +22,17 @@ import time
 import on_databases
 import plain_script
 from calls import Served, call, done, empty
+from oracle import RULES
 from plain_script import REFUSED
 from refused_commands import Commands
 from shim import Shim, compiler
-from tables import copy_database, rows_or_none
+from tables import KEPT, copy_database, rows_or_none
 
 TEXT, JSON, NO_MEMORY = b'text/plain', b'application/json', b'{"name":"OutOfMemory","refusal":24}'
 # Of a command on a database: its last allocations, of which one in OFTEN is refused, and of those before, one in SELDOM.
 LAST, SELDOM, OFTEN = 700, 701, 23
+# Of the command that moves a database up one in so many is refused.
+MOVING = 5
 
 
 class Tried:
@@ -110,7 +114,7 @@ class Databases(Tried, on_databases.Offices):
     def __init__(self, program, folder):
         Tried.__init__(self, program, folder)
         on_databases.Offices.__init__(self, program, folder)
-        self.commands = 0
+        self.commands, self.is_moving = 0, False
 
     def state(self, words):
         """The rows of the database, and the batch that is written."""
@@ -127,6 +131,8 @@ class Databases(Tried, on_databases.Offices):
 
     def numbers(self, count):
         """The allocations that are refused: others with each command, and the last one always."""
+        if self.is_moving:
+            return [*range(1, count, MOVING), count]
         seldom, often = SELDOM - self.commands % 7 * 20, OFTEN - self.commands % 5
         border = max(1, count - LAST)
         return [*range(1 + self.commands * 37 % seldom, border, seldom), *range(border + self.commands % often, count, often), count]
@@ -175,6 +181,18 @@ class Databases(Tried, on_databases.Offices):
         on_databases.Offices.__init__(self, self.program, self.folder)
         printed = b''.join(map(self.take, lines))
         self.told(f'{name}, as commands', None if printed == plain_script.printed_by(lines) else f'printed {printed}')
+
+    def moved_up(self):
+        """A database of the first schema is moved up by its first command: where that is refused its tables are those of the first schema
+        still, or it was moved up before, and the command given again does it."""
+        database = f'{self.folder}/7.db'
+        copy_database(KEPT, database)
+        self.is_moving = True
+        printed = self.call('position', database)[0]
+        self.is_moving = False
+        wanted = b'mp%d 7 3\nK 6\nV 3 3\nV 7 6\nE\n' % RULES.version
+        self.told('a database is moved up', None if printed == wanted else f'printed {printed}')
+        self.told('its schema', None if rows_or_none(database)['meta'][0][1] == 2 else 'is not the second')
 
 
 class Requests(Tried):
@@ -317,7 +335,7 @@ def answer(body, kind, status=b'200 OK'):
 
 
 def served(servers):
-    """A submission, a batch that is taken and one that is handed out, and the questions."""
+    """A submission, a batch that is taken and one that is handed out, the questions, and a cancellation."""
     done(servers.program, 'init', servers.base, 1, 1)
     done(servers.program, 'add-room', servers.base, 'oak')
     outcome = b'{"day":"1995-12-18","id":"1-1","mark":"T","start":"13:30","state":"booked","stop":"14:30"}'
@@ -329,8 +347,10 @@ def served(servers):
     sheet = b'oak 1995-12-18 Monday\n13:30-14:30 T 1-1 Budget Meeting\n15:00-16:00 T 2-1 Beta\n'
     for path, reply in ((b'/rooms/oak/requests/7-1', answer(b'{"name":"NoSuchRequest","refusal":9}', JSON, b'404 Not Found')),
                         (b'/rooms/oak/requests/1-1', answer(outcome, JSON)), (b'/rooms/oak/errors', answer(b'oak errors\n(no errors)\n', TEXT)),
-                        (b'/rooms/oak/days/1995-12-18', answer(sheet, TEXT)), (b'/position', answer(b'mp1 1 1\nK 0\nV 1 1\nV 2 1\nE\n', TEXT))):
+                        (b'/rooms/oak/days/1995-12-18', answer(sheet, TEXT)), (b'/position', answer(b'mp2 1 1\nK 0\nV 1 1\nV 2 1\nE\n', TEXT))):
         servers.request(path.decode(), b'GET %s HTTP/1.1\r\n\r\n' % path, reply)
+    cancel = answer(b'{"id":"1-2","mark":"T","state":"cancels","target":"1-1"}', JSON)
+    servers.request('a cancellation', posted(b'/cancel', b'{"id":"1-1","room":"oak"}'), cancel)
 
 
 def start_of_server(databases):
@@ -356,9 +376,10 @@ def main():
         for kind in (Lists, Databases):
             tried[kind].script(name, lines)
     start_of_server(tried[Databases])
+    tried[Databases].moved_up()
     served(tried[Servers])
     tried[Requests].requests()
-    tried[Commands].scripts(scripts.values())
+    tried[Commands].scripts(list(scripts.values()))
     counts = [f'{kind.__name__.lower()} {it.allocations} allocations, {it.refused} refused, {it.late} done and not told, {it.wrong} wrong'
               for kind, it in tried.items()]
     print('; '.join(counts))

@@ -7,6 +7,9 @@ import sqlite3
 
 import oracle
 
+# A database of the first schema.
+KEPT = os.path.join(os.path.dirname(os.path.abspath(__file__)), 'kept', 'first.sqlite')
+
 # The columns of the tables of the first schema, and of the second one, which has `log` in place of `write_log` and `undo`: in a database
 # of the second schema these two may be there, without rows.
 COMMON = {'meta': 'one schema server prim commits dropped clock', 'room': 'name', 'vector': 'server n tm committed',

@@ -8,7 +8,7 @@ NUMBERS = ['0', '1', '01', '2', '8', '9', '99', '100', '1440', '1441', '99999999
 BYTES = [b' ', b'\n', b'\r', b'\t', b'\0', b'\x7f', b'\xff', b'0', b'9', b'-', b'A', b'a', b'~', b':']
 TITLES = ['x', 'y' * 60, 'y' * 61, '', ' x', 'x ', 'a  b', '1995-12-18 10:00 x', 'caf\xe9', 'tab\t', '~!"\\']
 WORDS = ['oak', 'a' * 16, 'a' * 17, 'Oak', '2023-02-29', '2024-02-30', '1989-12-31', '2100-01-01', '24:00', '23:60', '9:00',
-         '1995-12-18', '14:00', 'W', 'C', 'E', 'M', 'X', 'mr1', 'mr2', 'mp1', 'K', 'V', 'w']
+         '1995-12-18', '14:00', 'W', 'C', 'E', 'M', 'X', 'mr1', 'mr2', 'mr3', 'mp1', 'mp2', 'K', 'V', 'w']
 
 SERVERS, COUNTS, LATEST = ['0', '1', '99', '100'], ['0', '1', '999999999', '1000000000'], ['0', '1', '999999999999', '1000000000000']
 NAMES, EXTRAS = ['', 'a', 'a' * 16, 'a' * 17], ['0', '8', '9', '10', '16', '17']
@@ -61,12 +61,13 @@ def first_limit_batches():
 
 
 def limit_positions():
-    for line in [*at_each_limit('mp1 9 3'), *at_each_limit('mp2 9 3')]:
-        yield f'{line}\nK 0\nE\n'
-    for line in at_each_limit('K 1'):
-        yield f'mp1 9 3\n{line}\nE\n'
-    for line in at_each_limit('V 3 1'):
-        yield f'mp1 9 3\nK 0\n{line}\nE\n'
+    for word in ('mp1', 'mp2'):
+        for line in at_each_limit(f'{word} 9 3'):
+            yield f'{line}\nK 0\nE\n'
+        for line in at_each_limit('K 1'):
+            yield f'{word} 9 3\n{line}\nE\n'
+        for line in at_each_limit('V 3 1'):
+            yield f'{word} 9 3\nK 0\n{line}\nE\n'
 
 
 def at_limit(rng, line):

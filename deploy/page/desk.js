@@ -7,6 +7,7 @@ const byId = id => document.getElementById(id);
 const office = { name: 'Rooms', rooms: [], from: 28, to: 80 };   // from and to in quarter hours
 const desk = { day: '', sheet: null, rounds: 0, failures: 0, since: null, timer: 0, cursor: null, door: null };
 const request = { alternatives: [], sending: null };
+const cancel = { armed: null, sending: null };   // the entry whose cancel waits for a second press, and the one under way
 let mine = [];
 
 // ---- small things
@@ -280,6 +281,13 @@ const REFUSALS = {
   14: ['send', 'This server’s numbers are used up: the office needs a new replica. Tell the operator.'],
 };
 
+const CANCEL_REFUSALS = {
+  7: 'Not cancelled: this replica does not know the room.',
+  9: 'Not cancelled: this replica does not know the request.',
+  13: 'Not cancelled: the greatest logical time is reached. Tell the operator.',
+  14: 'Not cancelled: this server’s numbers are used up. Tell the operator.',
+};
+
 const wish = () => ({ day: byId('wish-day').value, start: byId('wish-start').value });
 
 function complain(field, words) {
@@ -447,17 +455,76 @@ function movedText(entry) {
   return first.state === 'booked' ? 'Moved from ' + slotText(first) + ' to ' + slotText(now) + '.' : 'It has found a slot by now.';
 }
 
+/** A button of an entry, which is found again by its key when the list is made anew. */
+function buttonOf(entry, word, act) {
+  const button = el('button', { type: 'button' }, word);
+  button.dataset.key = act.name + ' ' + entry.sent;
+  button.addEventListener('click', () => act(entry));
+  return button;
+}
+
+function goTo(entry) { showDay(entry.now && entry.now.day || entry.wish.day); }
+
+/** Cancel, a question whether it is meant, or nothing where there is nothing to cancel. */
+function cancelButtonOf(entry) {
+  if (!entry.now || entry.gone || entry.now.state !== 'booked') return null;
+  const button = buttonOf(entry, cancel.sending === entry ? 'Cancelling' : cancel.armed === entry ? 'Really cancel?' : 'Cancel', pressCancel);
+  button.classList.toggle('armed', cancel.armed === entry);
+  button.setAttribute('aria-label', button.textContent + ' ' + entry.now.id + ' ' + entry.title);
+  button.disabled = cancel.sending !== null;
+  return button;
+}
+
+function itemOf(entry) {
+  const [word, kind, words] = stateOf(entry), moved = movedText(entry);
+  return el('li', {}, el('span', { className: 'state ' + kind }, word), ' ', el('b', {}, entry.title),
+    ' ' + (entry.now ? entry.now.id + ', ' : '') + labelOf(entry.room) + ', wish ' + slotText(entry.wish) + '. ', words, ' ',
+    moved ? el('span', { className: 'moved' }, moved) : null,
+    entry.trouble && entry.now.state === 'booked' ? el('span', { className: 'error' }, entry.trouble) : null,
+    buttonOf(entry, 'Show the day', goTo), cancelButtonOf(entry), buttonOf(entry, 'Forget', forget));
+}
+
 function showMine() {
-  byId('mine').replaceChildren(...mine.map(entry => {
-    const [word, kind, words] = stateOf(entry), moved = movedText(entry), day = entry.now && entry.now.day || entry.wish.day;
-    const go = el('button', { type: 'button' }, 'Show the day'), drop = el('button', { type: 'button' }, 'Forget');
-    go.addEventListener('click', () => showDay(day));
-    drop.addEventListener('click', () => forget(entry));
-    return el('li', {}, el('span', { className: 'state ' + kind }, word), ' ', el('b', {}, entry.title),
-      ' ' + (entry.now ? entry.now.id + ', ' : '') + labelOf(entry.room) + ', wish ' + slotText(entry.wish) + '. ', words, ' ',
-      moved ? el('span', { className: 'moved' }, moved) : null, go, drop);
-  }));
+  const held = document.activeElement && document.activeElement.dataset.key;
+  byId('mine').replaceChildren(...mine.map(itemOf));
   if (!mine.length) byId('mine').append(el('li', {}, 'None yet.'));
+  if (held) ([...byId('mine').querySelectorAll('button')].find(each => each.dataset.key === held && !each.disabled) || byId('mine')).focus();
+}
+
+// ---- cancelling
+
+/** The first press asks, the second one sends. */
+function pressCancel(entry) {
+  if (cancel.armed === entry) return sendCancel(entry);
+  cancel.armed = entry;
+  showMine();
+}
+
+/** Sends the cancel once. Without a reply the round that follows shows what became of the request. */
+async function sendCancel(entry) {
+  cancel.armed = null;
+  cancel.sending = entry;
+  entry.trouble = '';
+  showMine();
+  try {
+    const reply = await ask('/cancel', JSON.stringify({ id: entry.now.id, room: entry.room }));
+    if (reply.status === 200) {
+      report(reply.json.state === 'cancels'
+        ? 'Request ' + entry.now.id + ' is cancelled by ' + reply.json.id + ', tentative until the primary commits it.'
+        : 'Request ' + entry.now.id + ' has no booking to cancel; the cancel ' + reply.json.id + ' is in the error log.');
+    } else if (reply.status === 503) {
+      entry.trouble = 'Perhaps cancelled (' + reply.json.name + '): its state here shows it.';
+    } else {
+      entry.trouble = CANCEL_REFUSALS[reply.json.refusal] || 'Not cancelled: ' + (reply.json.name || 'the cancel cannot be read') + '.';
+    }
+  } catch (fault) {
+    if (!(fault instanceof Fault)) throw fault;
+    entry.trouble = fault.sent ? 'Perhaps cancelled (' + fault.message + '): its state here shows it.'
+      : 'Not cancelled: ' + fault.message + '. You may press Cancel again.';
+  }
+  cancel.sending = null;
+  showMine();
+  round();
 }
 
 function showErrors(lines) {

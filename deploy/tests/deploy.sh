@@ -103,7 +103,7 @@ body() { is "$1" "$(cat -- "$deploy_scratch/body")" "$2"; }
 
 deploy_proxy() {
     local day=/rooms/oak/days/1995-12-18 json='{"room":"oak","day":"1995-12-18","start":"13:30","length":60,"title":"Budget Meeting"}'
-    local sheet='oak 1995-12-18 Monday
+    local cancel='{"id":"7-1","room":"oak"}' sheet='oak 1995-12-18 Monday
 13:30-14:30 T 1-1 Budget Meeting'
     through 'a request while nothing serves' 502 bookers /submit -d "$json"
     body 'it was not sent' '{"error":"not sent"}'
@@ -115,6 +115,8 @@ deploy_proxy() {
     through 'the page' 200 readers /
     through 'the rooms of the office' 200 readers /rooms.json
     through 'a reader who books' 401 readers /submit -d "$json"
+    through 'a reader who cancels' 401 readers /cancel -d "$cancel"
+    through 'a cancel without a password' 401 '' /cancel -d "$cancel"
     through 'a reader who exchanges' 401 readers /position
     through 'one who books and exchanges' 401 bookers /push -d x
     through 'a request' 200 bookers /submit -d "$json"
@@ -124,6 +126,9 @@ deploy_proxy() {
     through 'a sheet with a great head' 200 readers "$day" -H "Cookie: $(head -c 6000 /dev/zero | tr '\0' x)"
     through 'a request in chunks' 200 bookers /submit -H 'Transfer-Encoding: chunked' -d "${json/13:30/15:00}"
     through 'a request by another site' 403 bookers /submit -H 'Sec-Fetch-Site: cross-site' -d "$json"
+    through 'a cancel of a request that is not there' 404 bookers /cancel -d "$cancel"
+    body 'its refusal' '{"name":"NoSuchRequest","refusal":9}'
+    through 'a cancel by another site' 403 bookers /cancel -H 'Sec-Fetch-Site: cross-site' -d "$cancel"
     through 'a refusal goes through' 400 bookers /submit -d "${json/13:30/25:00}"
     body 'as it is' '{"name":"BadTime","refusal":2}'
     head -c 1048577 /dev/zero > "$deploy_scratch/large"
@@ -176,7 +181,7 @@ deploy_courier() {
     "$program" calendar "$folder/1.db" oak full > "$folder/one"
     "$program" calendar "$folder/2.db" oak full > "$folder/two"
     held 'both offices answer alike' cmp "$folder/one" "$folder/two"
-    is 'all writes are there' "$("$program" position "$folder/2.db" | tr '\n' ' ')" 'mp1 2 1 K 0 V 3 200 V 4 200 E '
+    is 'all writes are there' "$("$program" position "$folder/2.db" | tr '\n' ' ')" 'mp2 2 1 K 0 V 3 200 V 4 200 E '
     ROOMS_TRIES=0 carry "$a" "$b" > "$folder/cut"
     is 'nobody serves' "$?" 3
     carry "$a" > "$folder/cut"

@@ -38,6 +38,16 @@ def until(name, selector, words, patience=20):
         time.sleep(0.2)
 
 
+def gone(name, selector, words, patience=20):
+    """The text at this place has these words no longer, before long."""
+    end = time.time() + patience
+    while words in (browser.text(selector) or ''):
+        if time.time() > end:
+            return check(name, False, words)
+        time.sleep(0.2)
+    return check(name, True)
+
+
 def rooms(*words):
     return subprocess.run([program, *words], stdout=subprocess.PIPE, stdin=subprocess.DEVNULL, text=True).stdout
 
@@ -112,6 +122,34 @@ def a_request_by_clicking():
     until('the booking in the grid', '#grid', 'Budget <b>Meeting</b>')
     until('the request among mine', '#mine', '? tentative')
     check('the grid has no markup of a title', browser.run('return document.querySelector("#grid td b b") === null') is True)
+
+
+def a_cancel_arrives():
+    """The other office cancels a committed request of this one."""
+    check('the other office cancels', rooms('cancel', f'{folder}/other.db', 'oak', '2-2') == '1-2 T cancels 2-2\n')
+    other = serve('other.db', int(free))
+    subprocess.run([courier, f'http://127.0.0.1:{port}', f'http://127.0.0.1:{free}'], stdout=subprocess.DEVNULL)
+    stop(other)
+    look()
+    until('a cancel of another office', '#mine', 'Request 1-2 cancelled it')
+    gone('a cancelled booking has left the grid', '#grid', 'Budget <b>Meeting</b>')
+
+
+def a_cancel():
+    wish('oak', '17:45')
+    browser.write('#title', 'Taken back')
+    send()
+    until('a request that is cancelled', '#outcome', '17:45–18:45')
+    until('its booking', '#grid', 'Taken back')
+    browser.click('#mine li:first-child button[data-key^="pressCancel"]')
+    until('a cancel asks first', '#mine', 'Really cancel?')
+    check('one press cancels nothing', 'Taken back' in browser.text('#grid'))
+    browser.click('#mine li:first-child button[data-key^="pressCancel"]')
+    until('a cancel', '#outcome', 'is cancelled by 2-')
+    until('it is cancelled among mine', '#mine', 'cancelled it')
+    gone('its booking has left the grid', '#grid', 'Taken back')
+    check('its slot is free', browser.run('return document.querySelector(arguments[0]) !== null', slot('oak', '17:45')) is True)
+    check('it is not cancelled twice', browser.run('return document.querySelector("#mine li:first-child button[data-key^=pressCancel]") === null') is True)
 
 
 def a_request_by_keys():
@@ -242,7 +280,9 @@ try:
     a_day_is_shown()
     a_request_by_clicking()
     a_move_arrives()
+    a_cancel_arrives()
     a_request_by_keys()
+    a_cancel()
     a_refused_room()
     an_error_log()
     pictures_and_print()

@@ -77,7 +77,7 @@ def with_other_alternatives(rng):
     other = rng.choice([
         '[[]]', f'[{{"day":"{DAY}"}}]', f'[{{"start":"{TIME}"}}]', f'[{{"day":1,"start":"{TIME}"}}]', '{}', 'null', '[null]', '[{}]', '[,]',
         f'[{slot[:-1]},"x":""}}]', f'[{slot[:-1]},"day":"{DAY}"}}]', f'[{slot},]', f'[{slot} {slot}]', f'["{DAY}T{TIME}"]', slot,
-        '[' + ','.join([slot] * rng.choice([7, 8, 9, 10, 1000])) + ']', f'[{{"day":"1995-13-01","start":"{TIME}"}}]',
+        '[' + ','.join([slot] * rng.choice([7, 8, 9, 15, 16, 17, 1000])) + ']', f'[{{"day":"1995-13-01","start":"{TIME}"}}]',
         f'[{{"day":"{DAY}","start":"24:00"}}]', f'[{{"day":"{DAY}","start":"23:31"}}]'])
     members = [member for member in members_of(rng) if member[0] != 'alternatives'] + [('alternatives', other)]
     return written(members).encode('utf-8')

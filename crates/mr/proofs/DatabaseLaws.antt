@@ -12,11 +12,11 @@ use Rattle.mr.specs.declared.orders.Order.{Order}
 use Rattle.mr.specs.declared.orders.Task.TheVariants as kind
 use Rattle.mr.specs.Tasks.{IsCommandFor, IsCommandWith, IsOrderFor}
 
--- the tables of an adopted database are those of a replica that knows nothing yet, or they name this server and primary
+-- the tables of an adopted database are those of a replica that knows nothing yet, or they name this server and primary, moved up or not
 pub adopted_tables : (server primary : ℕ) (before after : Trees) → IsAdopted server primary before after
     → Stands (tables_in after) (opening server primary) ⊎ (((tables_in after).meta.server ≡ server) × ((tables_in after).meta.primary ≡ primary))
 adopted_tables server primary before after (inl blank) = inl blank.1
-adopted_tables server primary before after (inr ours) = inr (ours.2, ours.3)
+adopted_tables server primary before after (inr ours) = inr ours.1
 
 -- a task is known by its kind
 pub as_task : {task given : Task} (Has : Text → Type 0) (order : Order) → task ≡ given → IsOrderFor given Has order → IsOrderFor task Has order

@@ -69,7 +69,8 @@ pub record IsOpened {K : Type 0} (keeper : Ghosts K) (k : K) : Type 0 where
   pub opens : keeper.is_clean k → keeper.is_open k
   pub settled : keeper.is_clean k → IsSettled (keeper.may_leave k) (keeper.tables k)
 
--- as that of this server and primary: the tables of a replica that knows nothing yet, or those that were there
+-- as that of this server and primary: the tables of a replica that knows nothing yet, or those that were there, moved up where they were
+-- of the first schema
 pub record IsOpenedFor {K : Type 0} (keeper : Ghosts K) (server primary : ℕ) (k : K) : Type 0 where
   pub opened : IsOpened keeper k
   pub tables : keeper.is_clean k

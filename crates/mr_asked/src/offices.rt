@@ -8,7 +8,7 @@ use crate::rows::{
 use mr_base::Refusal;
 use mr_service::{Command, Reply, Service, reply_text};
 use mr_store::Keeper;
-use std::alloc::{AllocError, Global};
+use std::alloc::{AllocError, AllocFailed, Global};
 use std::io::{self, Write};
 
 /// The output took not all, or there was no memory for what is no command.
@@ -22,6 +22,12 @@ impl From<Refusal> for Stopped {
 
 impl From<AllocError> for Stopped {
     fn from(_error: AllocError) -> Stopped {
+        Stopped
+    }
+}
+
+impl<T: Drop> From<AllocFailed<T>> for Stopped {
+    fn from(_error: AllocFailed<T>) -> Stopped {
         Stopped
     }
 }

@@ -90,8 +90,8 @@ pub(crate) static MADE_VOID: [Row; 10] = [
     (2, Ask::Errors),
 ];
 
-/// A committed booking is taken back by a tentative cancel, and its slot is booked again.
-pub(crate) static TAKEN_BACK: [Row; 14] = [
+/// A committed booking is taken back by a tentative cancel, and its slot is booked again; another replica hears of all of it.
+pub(crate) static TAKEN_BACK: [Row; 16] = [
     (1, Ask::Room),
     (1, Ask::Book("60", "09:00", &[], "Alpha")),
     (1, Ask::Book("60", "09:00", &["10:00"], "Beta")),
@@ -106,4 +106,6 @@ pub(crate) static TAKEN_BACK: [Row; 14] = [
     (1, Ask::Cancel("1-3")),
     (2, Ask::Position),
     (1, Ask::Batch(10)),
+    (2, Ask::Receive),
+    (2, Ask::Sheet),
 ];

@@ -1,6 +1,8 @@
 -- Batches of the program as those of the definitions.
 use Rattle.std.specs.Prelude.{ℕ, List, map, Option, option_map}
 use Rattle.mr_model.specs.Exchange as model
+use Rattle.mr_base.specs.Versions.{version_of}
+use Rattle.mr_base.specs.declared.versions.Version.{Version}
 use Rattle.mr_base.specs.declared.batches.Item.{Item}
 use Rattle.mr_base.specs.declared.batches.Item.TheVariants.{W, C}
 use Rattle.mr_base.specs.declared.batches.Ending.{Ending}
@@ -19,6 +21,6 @@ ending_of Cut = model.Cut
 abbrev pub header_of : Option (ℕ × ℕ) → Option model.Header
 header_of header = option_map (λ h. record { from = h.0; primary = h.1 }) header
 
-abbrev pub batch_of : Option (ℕ × ℕ) → List Item → Ending → model.Batch
-batch_of header items ending =
-    record { header = header_of header; items = map item_of items; ending = ending_of ending }
+abbrev pub batch_of : Version → Option (ℕ × ℕ) → List Item → Ending → model.Batch
+batch_of version header items ending =
+    record { version = version_of version; header = header_of header; items = map item_of items; ending = ending_of ending }

@@ -1,5 +1,5 @@
 ghost use Rattle.std.specs.Prelude.{◌≡◌, IsTrue, OnOk, OnErr, IfOk, IfErr};
-ghost use Rattle.mr_model.specs.Writes.{is_action, same_action};
+ghost use Rattle.mr_model.specs.Writes.{is_action, is_first_action, same_action};
 ghost use Rattle.mr_base.specs.Actions.{action_of};
 
 use crate::{Meeting, Refusal, WriteId};
@@ -32,6 +32,16 @@ pub(crate) fn is_within_limits(action: &Action)
         Action::Cancels(target) => {
             let _count = target.n;
         }
+    }
+}
+
+/// Whether it is a booking of at most 8 alternatives.
+pub(crate) fn is_first(action: &Action) -> bool
+    ensures { result ≡ is_first_action (action_of action.now) }
+{
+    match action {
+        Action::Books(meeting) => meeting.alternatives.as_slice().len() <= 8,
+        Action::Cancels(_) => false,
     }
 }
 

@@ -1,4 +1,4 @@
-use crate::{CommitNumber, Refusal, ServerId, Write, WriteId};
+use crate::{CommitNumber, Refusal, ServerId, Version, Write, WriteId};
 use std::marker::Model;
 
 /// A line of a batch: a write, or a commit of a write that is named.
@@ -16,10 +16,11 @@ pub enum Ending {
     Cut,
 }
 
-/// What one replica hands another: who made it and the primary, the lines, and how they end. Without a header it has
-/// no items and was cut.
+/// What one replica hands another: the version of its text, who made it and the primary, the lines, and how they end. Each
+/// write is one that its version can say. Without a header it is of the first version, has no items and was cut.
 #[derive(Debug, Drop)]
 pub struct Batch {
+    pub version: Version,
     pub header: Option<(ServerId, ServerId)>,
     pub items: Vec<Item>,
     pub ending: Ending,
@@ -32,9 +33,9 @@ impl Model for Batch {
 
     ghost Value = { BatchOfLines };
 
-    ghost view = { λ b. batch_of b.header b.items.items b.ending };
+    ghost view = { λ b. batch_of b.version b.header b.items.items b.ending };
 
-    ghost invariant = { λ b. IsTrue (is_batch (batch_of b.header b.items.items b.ending)) };
+    ghost invariant = { λ b. IsTrue (is_batch (batch_of b.version b.header b.items.items b.ending)) };
 }
 
 impl Batch {
@@ -42,33 +43,42 @@ impl Batch {
     ghost use Rattle.std.specs.List.{list_all};
     ghost use Rattle.mr_model.specs.Exchange.{no_lines, is_item, is_batch};
     ghost use Rattle.mr_base.specs.Answers.{ok_if};
+    ghost use Rattle.mr_base.specs.Versions.{version_of};
     ghost use Rattle.mr_base.specs.Batches.{item_of, batch_of};
 
-    /// The batch of these items, which `from` made, if the exchange text can say each of them: it has bookings of at most 8
-    /// alternatives and no cancels.
+    /// The batch of these items, which `from` made, if this version of the exchange text can say each of them. The second can say
+    /// all.
     pub fn new(
+        version: Version,
         from: ServerId,
         primary: ServerId,
         items: Vec<Item>,
         ending: Ending,
     ) -> Result<Batch, Refusal>
-        ensures { result ≡ ok_if (list_all is_item (map item_of items.items))
-            (batch_of (Some (from, primary)) items.items ending) Refusal.NeedsVersion2 }
+        ensures { result ≡ ok_if (list_all (is_item (version_of version)) (map item_of items.items))
+            (batch_of version (Some (from, primary)) items.items ending) Refusal.NeedsVersion2 }
     {
-        if !can_all_be_said(items.as_slice()) {
+        if !are_in_version(version, items.as_slice()) {
             return Err(Refusal::NeedsVersion2);
         }
-        Ok(Batch::of_said(from, primary, items, ending))
+        Ok(Batch::of_said(version, from, primary, items, ending))
     }
 
-    /// The batch of items that the exchange text can say.
-    pub fn of_said(from: ServerId, primary: ServerId, items: Vec<Item>, ending: Ending) -> Batch
-        requires { IsTrue (list_all is_item (map item_of items.items)) }
-        ensures { result ≡ batch_of (Some (from, primary)) items.items ending }
+    /// The batch of items that this version of the exchange text can say.
+    pub fn of_said(
+        version: Version,
+        from: ServerId,
+        primary: ServerId,
+        items: Vec<Item>,
+        ending: Ending,
+    ) -> Batch
+        requires { IsTrue (list_all (is_item (version_of version)) (map item_of items.items)) }
+        ensures { result ≡ batch_of version (Some (from, primary)) items.items ending }
     {
         from.number();
         primary.number();
         Batch {
+            version,
             header: Some((from, primary)),
             items,
             ending,
@@ -81,6 +91,7 @@ impl Batch {
         ensures { result ≡ no_lines }
     {
         Batch {
+            version: Version::First,
             header: None,
             items,
             ending: Ending::Cut,
@@ -98,28 +109,29 @@ impl Batch {
 ghost use Rattle.std.specs.Prelude.{◌≡◌, map};
 ghost use Rattle.std.specs.List.{list_all};
 ghost use Rattle.mr_model.specs.Exchange.{is_item};
+ghost use Rattle.mr_base.specs.Versions.{version_of};
 ghost use Rattle.mr_base.specs.Batches.{item_of};
 
-/// Whether the exchange text can say all these items.
-fn can_all_be_said(items: &[Item]) -> bool
-    ensures { result ≡ list_all is_item (map item_of items.now) }
+/// Whether this version of the exchange text can say all these items.
+fn are_in_version(version: Version, items: &[Item]) -> bool
+    ensures { result ≡ list_all (is_item (version_of version)) (map item_of items.now) }
 {
     for item in items {
-        if !can_be_said(item) {
+        if !is_in_version(version, item) {
             return false;
         }
     }
     true
 }
 
-/// Whether the exchange text can say the item: it is no cancel, and no booking of more than 8 alternatives.
-fn can_be_said(item: &Item) -> bool
-    ensures { result ≡ is_item (item_of item.now) }
+/// Whether this version of the exchange text can say the item. Both can say every commit.
+fn is_in_version(version: Version, item: &Item) -> bool
+    ensures { result ≡ is_item (version_of version) (item_of item.now) }
 {
     match item {
         Item::W(write) => {
             write.is_within_limits();
-            write.can_be_said()
+            write.is_in_version(version)
         }
         Item::C { seq, id } => {
             seq.number();

@@ -22,6 +22,7 @@ mod slots;
 mod stamps;
 mod times;
 mod titles;
+mod versions;
 mod writes;
 
 pub use actions::Action;
@@ -41,4 +42,5 @@ pub use slots::{Slot, overlaps};
 pub use stamps::{ServerId, Stamp, WriteId};
 pub use times::{TimeOfDay, read_minute};
 pub use titles::{Title, is_title_text};
+pub use versions::Version;
 pub use writes::{Write, stamp_before};

@@ -4,13 +4,16 @@ ghost use Rattle.mr_model.specs.Texts.{only_if};
 ghost use Rattle.mr_model.specs.Writes.{is_server, is_count};
 ghost use Rattle.mr_model.specs.Positions.{Position as PositionOfReplica, is_position, are_rising};
 ghost use Rattle.mr_base.specs.Positions.{counts_of, are_rising_above};
+ghost use Rattle.mr_base.specs.Versions.{version_of};
 
-use crate::ServerId;
+use crate::{ServerId, Version};
 use std::marker::Model;
 
-/// What a replica has: how many commits, and how many writes of each server of which it has one, by rising server.
+/// What a replica has: how many commits, and how many writes of each server of which it has one, by rising server. And the
+/// version of the batches that it asks for.
 #[derive(Debug, Drop)]
 pub struct Position {
+    pub version: Version,
     pub server: ServerId,
     pub primary: ServerId,
     pub commits: u64,
@@ -21,6 +24,7 @@ impl Model for Position {
     ghost Value = { PositionOfReplica };
 
     ghost view = { λ p. record {
+      version = version_of p.version;
       server = p.server;
       primary = p.primary;
       commits = p.commits;
@@ -28,6 +32,7 @@ impl Model for Position {
     } };
 
     ghost invariant = { λ p. IsTrue (is_position (record {
+      version = version_of p.version;
       server = p.server;
       primary = p.primary;
       commits = p.commits;
@@ -38,12 +43,14 @@ impl Model for Position {
 impl Position {
     /// The position, where the number of commits and the counts are within the limits and the servers rise.
     pub fn new(
+        version: Version,
         server: ServerId,
         primary: ServerId,
         commits: u64,
         counts: Vec<(ServerId, u32)>,
     ) -> Option<Position>
         ensures { let p : PositionOfReplica = record {
+          version = version_of version;
           server = server;
           primary = primary;
           commits = commits;
@@ -59,6 +66,7 @@ impl Position {
             return None;
         }
         Some(Position {
+            version,
             server,
             primary,
             commits,

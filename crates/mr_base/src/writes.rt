@@ -1,13 +1,16 @@
 ghost use Rattle.std.specs.Prelude.{◌≡◌, ◌↔◌, ◌&&◌, IsTrue, Ok};
 ghost use Rattle.mr_model.specs.Writes.{Write as WriteOfRoom, Books, Cancels, is_write, same_write, stamp_before as is_before};
 ghost use Rattle.mr_model.specs.Requests.{stamped};
-ghost use Rattle.mr_model.specs.Exchange.{is_told_write};
+ghost use Rattle.mr_model.specs.Exchange.{is_in_version};
 ghost use Rattle.mr_base.specs.Answers.{OrOutOfMemory};
 ghost use Rattle.mr_base.specs.Actions.{action_of};
 ghost use Rattle.mr_base.specs.Limits.{limited};
+ghost use Rattle.mr_base.specs.Versions.{version_of};
 
-use crate::actions::{are_same, copy_of};
-use crate::{Action, Alternatives, Refusal, Request, RoomName, Slot, Stamp, Title, WriteId};
+use crate::actions::{are_same, copy_of, is_first};
+use crate::{
+    Action, Alternatives, Refusal, Request, RoomName, Slot, Stamp, Title, Version, WriteId,
+};
 use std::alloc::Global;
 use std::marker::Model;
 
@@ -100,13 +103,14 @@ impl Write {
         let _stamp = self.stamp;
     }
 
-    /// Whether the exchange text can say it: it is no cancel, and no booking of more than 8 alternatives.
-    pub fn can_be_said(&self) -> bool
-        ensures { result ≡ is_told_write self.now }
+    /// Whether this version of the exchange text can say it: the first can say bookings of at most 8 alternatives, the second
+    /// every write.
+    pub fn is_in_version(&self, version: Version) -> bool
+        ensures { result ≡ is_in_version (version_of version) self.now }
     {
-        match &self.action {
-            Action::Books(meeting) => meeting.alternatives.as_slice().len() <= 8,
-            Action::Cancels(_) => false,
+        match version {
+            Version::First => is_first(&self.action),
+            Version::Second => true,
         }
     }
 

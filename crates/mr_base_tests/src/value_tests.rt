@@ -3,7 +3,7 @@
 
 use mr_base::{
     Action, Alternatives, Batch, CommitNumber, Day, Ending, Item, LineCount, Meeting, Position,
-    Refusal, Request, RoomName, ServerId, Slot, Stamp, Title, Write, WriteId, overlaps,
+    Refusal, Request, RoomName, ServerId, Slot, Stamp, Title, Version, Write, WriteId, overlaps,
     stamp_before,
 };
 use std::alloc::Global;
@@ -359,8 +359,8 @@ fn server(number: u32) -> Result<ServerId, Refusal> {
     }
 }
 
-// Whether a batch of a write and its commit has its servers, its items and its ending.
-fn is_batch_made(alloc: Global) -> Result<bool, Refusal> {
+// Whether a batch of a write and its commit has its version, its servers, its items and its ending.
+fn is_batch_made(alloc: Global, version: Version) -> Result<bool, Refusal> {
     let (from, primary) = (server(2)?, server(1)?);
     let Some(seq) = CommitNumber::new(1) else {
         return Err(Refusal::NoSuchRequest);
@@ -370,62 +370,118 @@ fn is_batch_made(alloc: Global) -> Result<bool, Refusal> {
     let mut items = Vec::new(alloc);
     items.push(Item::W(made))?;
     items.push(Item::C { seq, id })?;
-    let batch = Batch::new(from, primary, items, Ending::More)?;
+    let batch = Batch::new(version, from, primary, items, Ending::More)?;
     Ok(
-        batch.header == Some((from, primary))
+        batch.version == version
+            && batch.header == Some((from, primary))
             && batch.items.len() == 2
             && batch.ending == Ending::More,
     )
 }
 
-// Why there is no batch of this write: the exchange text can't say it.
-fn refused_batch(alloc: Global, write: Write) -> Result<Option<Refusal>, Refusal> {
+// Whether this version of the exchange text can say the write; and why there is no batch of that version of it.
+fn said(alloc: Global, version: Version, write: Write) -> Result<(bool, Option<Refusal>), Refusal> {
+    let is_said = write.is_in_version(version);
     let mut items = Vec::new(alloc);
     items.push(Item::W(write))?;
-    Ok(Batch::new(server(2)?, server(1)?, items, Ending::Complete).err())
+    let made = Batch::new(version, server(2)?, server(1)?, items, Ending::Complete);
+    Ok((is_said, made.err()))
 }
 
-// Of a booking with this many alternatives.
-fn refused_booking(alloc: Global, others: &[u32]) -> Result<Option<Refusal>, Refusal> {
-    refused_batch(alloc, write(alloc, (2, 1, 1), 60, others)?)
+// Of a booking with these alternatives.
+fn said_booking(
+    alloc: Global,
+    version: Version,
+    others: &[u32],
+) -> Result<(bool, Option<Refusal>), Refusal> {
+    said(alloc, version, write(alloc, (2, 1, 1), 60, others)?)
 }
 
 // Of a cancel.
-fn refused_cancel(alloc: Global) -> Result<Option<Refusal>, Refusal> {
-    refused_batch(alloc, cancel(alloc, (2, 1, 1), (1, 1))?)
+fn said_cancel(alloc: Global, version: Version) -> Result<(bool, Option<Refusal>), Refusal> {
+    said(alloc, version, cancel(alloc, (2, 1, 1), (1, 1))?)
 }
 
-// the commits and the counts of a position, and whether they are one's
-static POSITIONS: [(u64, &[(u32, u32)], bool); 7] = [
-    (999_999_999_999, &[], true),
-    (999_999_999_999, &[(1, 5), (2, 999_999_999)], true),
-    (999_999_999_999, &[(2, 1), (1, 1)], false),
-    (999_999_999_999, &[(1, 1), (1, 1)], false),
-    (999_999_999_999, &[(1, 0)], false),
-    (999_999_999_999, &[(1, 1_000_000_000)], false),
-    (1_000_000_000_000, &[], false),
+const IS_SAID: Result<(bool, Option<Refusal>), Refusal> = Ok((true, None));
+
+const IS_REFUSED: Result<(bool, Option<Refusal>), Refusal> = Ok((
+    false,
+    Some(Refusal::NeedsVersion2),
+));
+
+// the alternatives of a booking, and whether the first version can say it
+static BOOKINGS: [(&[u32], bool); 4] = [
+    (&[], true),
+    (&[540; 8], true),
+    (&[540; 9], false),
+    (&[540; 16], false),
 ];
 
-fn is_position(alloc: Global, commits: u64, of: &[(u32, u32)]) -> Result<bool, Refusal> {
+#[test]
+fn the_first_version_has_fewer_writes(rt: HostRuntime) {
+    for (others, is_said) in &BOOKINGS {
+        let want = if *is_said { IS_SAID } else { IS_REFUSED };
+        assert_eq!(rt; said_booking(rt.alloc(), Version::First, others), want);
+        assert_eq!(rt; said_booking(rt.alloc(), Version::Second, others), IS_SAID);
+    }
+    assert_eq!(rt; said_cancel(rt.alloc(), Version::First), IS_REFUSED);
+    assert_eq!(rt; said_cancel(rt.alloc(), Version::Second), IS_SAID);
+}
+
+// the version, the commits and the counts of a position, and whether they are one's
+static POSITIONS: [(Version, u64, &[(u32, u32)], bool); 8] = [
+    (Version::First, 999_999_999_999, &[], true),
+    (Version::Second, 0, &[], true),
+    (
+        Version::Second,
+        999_999_999_999,
+        &[(1, 5), (2, 999_999_999)],
+        true,
+    ),
+    (Version::First, 999_999_999_999, &[(2, 1), (1, 1)], false),
+    (Version::Second, 999_999_999_999, &[(1, 1), (1, 1)], false),
+    (Version::First, 999_999_999_999, &[(1, 0)], false),
+    (
+        Version::Second,
+        999_999_999_999,
+        &[(1, 1_000_000_000)],
+        false,
+    ),
+    (Version::Second, 1_000_000_000_000, &[], false),
+];
+
+// Whether there is a position with these, and has the version that is asked for.
+fn is_position(
+    alloc: Global,
+    version: Version,
+    commits: u64,
+    of: &[(u32, u32)],
+) -> Result<bool, Refusal> {
     let (own, primary) = (server(2)?, server(1)?);
     let mut counts = Vec::new(alloc);
     for (number, n) in of {
         counts.push((server(*number)?, *n))?;
     }
-    Ok(Position::new(own, primary, commits, counts).is_some())
+    match Position::new(version, own, primary, commits, counts) {
+        Some(position) => Ok(position.version == version),
+        None => Ok(false),
+    }
 }
 
 #[test]
 fn batches_and_positions_are_made(rt: HostRuntime) {
-    assert_eq!(rt; is_batch_made(rt.alloc()), Ok(true));
-    assert_eq!(rt; refused_booking(rt.alloc(), &[540; 8]), Ok(None));
-    let needs = Ok(Some(Refusal::NeedsVersion2));
-    assert_eq!(rt; refused_booking(rt.alloc(), &[540; 9]), needs);
-    assert_eq!(rt; refused_cancel(rt.alloc()), needs);
+    assert_eq!(rt; is_batch_made(rt.alloc(), Version::First), Ok(true));
+    assert_eq!(rt; is_batch_made(rt.alloc(), Version::Second), Ok(true));
     let empty = Batch::without_header(Vec::new(rt.alloc()));
     assert!(rt; empty.header.is_none() && empty.ending == Ending::Cut);
-    for (commits, counts, want) in &POSITIONS {
-        assert_eq!(rt; is_position(rt.alloc(), *commits, counts), Ok(*want));
+    assert_eq!(rt; empty.version, Version::First);
+    for (version, commits, counts, want) in &POSITIONS {
+        let found = is_position(rt.alloc(), *version, *commits, counts);
+        assert_eq!(rt;
+            found,
+            Ok(*want),
+            "at {version:?}, {commits} and {counts:?}"
+        );
     }
 }
 

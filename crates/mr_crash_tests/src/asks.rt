@@ -18,7 +18,7 @@ pub(crate) enum Ask {
     Errors,
 }
 
-const BATCH: &str = "mr1 1 1\nW 3 1 1 oak 60 1995-12-18 13:30 0 Beta\nC 1 3 1\nE\n";
+const BATCH: &str = "mr2 1 1\nW 3 1 1 oak 60 1995-12-18 13:30 0 Beta\nC 1 3 1\nE\n";
 
 fn text(alloc: Global, text: &str) -> Result<String, AllocError> {
     String::from_str(alloc, text)

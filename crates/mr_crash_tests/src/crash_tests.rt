@@ -15,28 +15,28 @@ type Row = (Ask, &'static str, &'static str);
 
 /// Oak isn't known.
 const NEW: &str =
-    "refused 7 UnknownRoom\nrefused 7 UnknownRoom\nrefused 7 UnknownRoom\nrefused 7 UnknownRoom\nmp1 2 1\nK 0\nE\n";
+    "refused 7 UnknownRoom\nrefused 7 UnknownRoom\nrefused 7 UnknownRoom\nrefused 7 UnknownRoom\nmp2 2 1\nK 0\nE\n";
 
 const EMPTY: &str =
-    "oak 1995-12-18 Monday\n(no bookings)\noak full\n(no bookings)\noak committed\n(no bookings)\noak errors\n(no errors)\nmp1 2 1\nK 0\nE\n";
+    "oak 1995-12-18 Monday\n(no bookings)\noak full\n(no bookings)\noak committed\n(no bookings)\noak errors\n(no errors)\nmp2 2 1\nK 0\nE\n";
 
 const BOOKED: &str =
-    "oak 1995-12-18 Monday\n14:00-15:00 T 2-1 Alpha\noak full\n1995-12-18 14:00-15:00 T 2-1 Alpha\noak committed\n(no bookings)\noak errors\n(no errors)\nmp1 2 1\nK 0\nV 2 1\nE\n";
+    "oak 1995-12-18 Monday\n14:00-15:00 T 2-1 Alpha\noak full\n1995-12-18 14:00-15:00 T 2-1 Alpha\noak committed\n(no bookings)\noak errors\n(no errors)\nmp2 2 1\nK 0\nV 2 1\nE\n";
 
 /// The commit of an earlier meeting has come.
-const MOVED: &str =
-    "oak 1995-12-18 Monday\n13:30-14:30 C 3-1 Beta\n16:00-17:00 T 2-1 Alpha\noak full\n1995-12-18 13:30-14:30 C 3-1 Beta\n1995-12-18 16:00-17:00 T 2-1 Alpha\noak committed\n1995-12-18 13:30-14:30 C 3-1 Beta\noak errors\n(no errors)\nmp1 2 1\nK 1\nV 2 1\nV 3 1\nE\n";
+pub(crate) const MOVED: &str =
+    "oak 1995-12-18 Monday\n13:30-14:30 C 3-1 Beta\n16:00-17:00 T 2-1 Alpha\noak full\n1995-12-18 13:30-14:30 C 3-1 Beta\n1995-12-18 16:00-17:00 T 2-1 Alpha\noak committed\n1995-12-18 13:30-14:30 C 3-1 Beta\noak errors\n(no errors)\nmp2 2 1\nK 1\nV 2 1\nV 3 1\nE\n";
 
 /// What was moved is taken back.
 const TAKEN_BACK: &str =
-    "oak 1995-12-18 Monday\n13:30-14:30 C 3-1 Beta\noak full\n1995-12-18 13:30-14:30 C 3-1 Beta\noak committed\n1995-12-18 13:30-14:30 C 3-1 Beta\noak errors\n(no errors)\nmp1 2 1\nK 1\nV 2 2\nV 3 1\nE\n";
+    "oak 1995-12-18 Monday\n13:30-14:30 C 3-1 Beta\noak full\n1995-12-18 13:30-14:30 C 3-1 Beta\noak committed\n1995-12-18 13:30-14:30 C 3-1 Beta\noak errors\n(no errors)\nmp2 2 1\nK 1\nV 2 2\nV 3 1\nE\n";
 
 /// The first one finds empty files, in which the tables are made.
 static ROWS: [Row; 10] = [
-    (Ask::Position, "mp1 2 1\nK 0\nE\n", NEW),
+    (Ask::Position, "mp2 2 1\nK 0\nE\n", NEW),
     (Ask::Room, "ok\n", EMPTY),
     (Ask::Book, "2-1 T 1995-12-18 14:00-15:00\n", BOOKED),
-    (Ask::Position, "mp1 2 1\nK 0\nV 2 1\nE\n", BOOKED),
+    (Ask::Position, "mp2 2 1\nK 0\nV 2 1\nE\n", BOOKED),
     (Ask::Batch, "took 1 writes 1 commits\n", MOVED),
     (
         Ask::Sheet,
@@ -54,7 +54,7 @@ static ROWS: [Row; 10] = [
 ];
 
 /// More calls than a file is asked.
-const MANY: u64 = 1000;
+pub(crate) const MANY: u64 = 1000;
 
 /// What is asked and its reply, with what is seen before and after it.
 #[derive(Clone, Copy)]
@@ -102,7 +102,7 @@ fn is_stopped(
     Ok(is_stopped)
 }
 
-fn stop_at(calls: u64, is_log: bool) -> Stop {
+pub(crate) fn stop_at(calls: u64, is_log: bool) -> Stop {
     if is_log {
         return Stop {
             log: calls,

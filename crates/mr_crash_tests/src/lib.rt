@@ -9,4 +9,8 @@ mod crash_tests;
 #[cfg(test)]
 mod disks;
 #[cfg(test)]
+mod first_files;
+#[cfg(test)]
+mod moving_tests;
+#[cfg(test)]
 mod on_disks;

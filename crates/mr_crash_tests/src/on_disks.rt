@@ -16,7 +16,7 @@ fn server(number: u32) -> Result<ServerId, Refusal> {
 }
 
 /// A connection to the database in the files, or the files where it can't be opened.
-fn connected<D: Disk + Drop>(
+pub(crate) fn connected<D: Disk + Drop>(
     alloc: Global,
     files: Files<D>,
 ) -> Result<Connection<FileStore<D>>, Files<D>> {

@@ -6,8 +6,7 @@ use Rattle.std.specs.List.{filter_map, cons_option}
 use Rattle.mr_model.specs.Dropped.{Has}
 use Rattle.mr_model.specs.Texts.{Text}
 use Rattle.mr_model.specs.Slots.{Slot}
-use Rattle.mr_model.specs.Writes.{Id, Meeting, Action, Books, Cancels, Write, id_of, same_id, length_in, title_in}
-use Rattle.mr_model.specs.Exchange.{is_told_action, is_told_write}
+use Rattle.mr_model.specs.Writes.{Id, Meeting, Action, Books, Cancels, Write, id_of, same_id, length_in, title_in, is_first_action, is_first_write}
 use Rattle.mr_model.specs.Replay.{Place, slot_at, replay}
 use Rattle.mr_model.specs.Replica.{Replica, is_committed, write_with, committed, tentative, IsReplica}
 use Rattle.mr_model.specs.View.{View, Placed, Told, of_room, view_of, placed_with, whole_places, cancels_it, cancel_of, tell, whole_list, told_of, place_of, canceller_in, canceller_of}
@@ -20,26 +19,26 @@ use Rattle.mr_model.proofs.RowsById.{by_id_has}
 -- ---- known writes are bookings
 
 abbrev AreFirst : List Write → Type 0
-AreFirst ws = (w : Write) → Has w ws → is_told_write w ≡ true
+AreFirst ws = (w : Write) → Has w ws → is_first_write w ≡ true
 
 -- a booking that is told has no cancel
 abbrev IsPlain : Told → Type 0
-IsPlain t = (t.cancelled_by ≡ None) × (is_told_write t.write ≡ true)
+IsPlain t = (t.cancelled_by ≡ None) × (is_first_write t.write ≡ true)
 
 abbrev HasFirst : List Placed → Type 0
-HasFirst ps = (p : Placed) → Has p ps → is_told_write p.write ≡ true
+HasFirst ps = (p : Placed) → Has p ps → is_first_write p.write ≡ true
 
 placed_first : (mark : Bool) (ws : List Write) (places : List Place) → AreFirst ws → HasFirst (placed_with mark ws places)
 placed_first mark [] places f p h = absurd h
 placed_first mark (w ∷ ws) [] f p h = absurd h
-placed_first mark (w ∷ ws) (q ∷ qs) f p (inl e) = ap (λ (x : Placed). is_told_write x.write) e ∙ f w (inl refl)
+placed_first mark (w ∷ ws) (q ∷ qs) f p (inl e) = ap (λ (x : Placed). is_first_write x.write) e ∙ f w (inl refl)
 placed_first mark (w ∷ ws) (q ∷ qs) f p (inr h) = placed_first mark ws qs (λ x g. f x (inr g)) p h
 
 -- no booking takes another away
-not_away : (id : Id) (p : Placed) → is_told_write p.write ≡ true → cancels_it id p.write.action p.place ≡ false
+not_away : (id : Id) (p : Placed) → is_first_write p.write ≡ true → cancels_it id p.write.action p.place ≡ false
 not_away id p e = go p.write.action e
   where
-    go : (a : Action) → is_told_action a ≡ true → cancels_it id a p.place ≡ false
+    go : (a : Action) → is_first_action a ≡ true → cancels_it id a p.place ≡ false
     go (Books m) f = refl
     go (Cancels t) f = absurd (true≢false (sym f))
 
@@ -51,7 +50,7 @@ none_away id (p ∷ ps) f =
 told_plain : (ps : List Placed) → HasFirst ps → (t : Told) → Has t (tell ps) → IsPlain t
 told_plain [] f t h = absurd h
 told_plain (p ∷ ps) f t (inl e) =
-    (ap (λ (x : Told). x.cancelled_by) e ∙ none_away (id_of p.write) ps (λ q h. f q (inr h)), ap (λ (x : Told). is_told_write x.write) e ∙ f p (inl refl))
+    (ap (λ (x : Told). x.cancelled_by) e ∙ none_away (id_of p.write) ps (λ q h. f q (inr h)), ap (λ (x : Told). is_first_write x.write) e ∙ f p (inl refl))
 told_plain (p ∷ ps) f t (inr h) = told_plain ps (λ q g. f q (inr g)) t h
 
 committed_first : (r : Replica) → AreFirst r.known → AreFirst (committed r)
@@ -75,7 +74,7 @@ view_plain r room f = told_plain (whole_places v) both
     both : HasFirst (whole_places v)
     both p h = go (has_split p (placed_with true v.committed ps) (placed_with false v.tentative (drop (length v.committed) ps)) h)
       where
-        go : Has p (placed_with true v.committed ps) ⊎ Has p (placed_with false v.tentative (drop (length v.committed) ps)) → is_told_write p.write ≡ true
+        go : Has p (placed_with true v.committed ps) ⊎ Has p (placed_with false v.tentative (drop (length v.committed) ps)) → is_first_write p.write ≡ true
         go (inl g) = placed_first true v.committed ps (room_first room (committed r) (committed_first r f)) p g
         go (inr g) = placed_first false v.tentative (drop (length v.committed) ps) (room_first room (tentative r) (tentative_first r f)) p g
 
@@ -98,7 +97,7 @@ row_old r w f h = go w.action (f w h)
     slot m None = (refl, refl)
     slot m (Some s) = (refl, refl)
 
-    go : (a : Action) → is_told_action a ≡ true → IsOld (place_row_for w a (place_of r w) (canceller_of r w) (is_committed r (id_of w)) (seq_of r w))
+    go : (a : Action) → is_first_action a ≡ true → IsOld (place_row_for w a (place_of r w) (canceller_of r w) (is_committed r (id_of w)) (seq_of r w))
     go (Books m) e = subst (λ (by : Option Id). IsOld (booking_place_row w m (slot_at w (place_of r w)) by (is_committed r (id_of w)) (seq_of r w))) (sym (uncancelled r w f)) (slot m (slot_at w (place_of r w)))
     go (Cancels x) e = absurd (true≢false (sym e))
 
@@ -121,10 +120,10 @@ undo_found r w h g known =
         let same : same_id (id_of v) (id_of w) ≡ true = subst (λ (x : UndoRow). (eqb x.server w.stamp.server && eqb x.n w.stamp.n) ≡ true) f e in
         f ∙ ap (undo_row r) (one_known r v w h (known v j) (known w g) (same_id-true (id_of v) (id_of w) same))
 
-moved_is_log : (r : Replica) (w : Write) → is_told_write w ≡ true → moved_row (write_row r w) (undo_row r w) ≡ log_row r w
+moved_is_log : (r : Replica) (w : Write) → is_first_write w ≡ true → moved_row (write_row r w) (undo_row r w) ≡ log_row r w
 moved_is_log r w f = ap (λ c. record { server = w.stamp.server; n = w.stamp.n; time = w.stamp.time; room = w.room; action = c; place = place_of r w; seq = seq_of r w }) (cells w.action f)
   where
-    cells : (a : Action) → is_told_action a ≡ true → OfMeeting (record { length = length_in a; choices = choices_in_cells (cells_of a); title = title_in a }) ≡ cells_of a
+    cells : (a : Action) → is_first_action a ≡ true → OfMeeting (record { length = length_in a; choices = choices_in_cells (cells_of a); title = title_in a }) ≡ cells_of a
     cells (Books m) e = refl
     cells (Cancels t) e = absurd (true≢false (sym e))
 
@@ -148,7 +147,7 @@ log_moves r h f = all_found (write_row r) (λ row. option_map (moved_row row) (u
 -- ---- the whole
 
 known_first : (t : FirstTables) (r : Replica) → StandsFirst t r → AreFirst r.known
-known_first t r s w h = all_has (λ v. IsTrue (is_told_write v)) w r.known s.all_first h
+known_first t r s w h = all_has (λ v. IsTrue (is_first_write v)) w r.known s.all_first h
 
 tables_move : (r : Replica) → IsReplica r → AreFirst r.known → moved (first_tables_of r) ≡ tables_of r
 tables_move r h f = λ i. record (tables_of r) { log = log i; cancelled = cancelled i; cancels = cancels i }

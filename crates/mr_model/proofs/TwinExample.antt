@@ -5,7 +5,7 @@ use Rattle.std.specs.Fmt.{digits}
 use Rattle.mr_model.specs.Slots.{Slot}
 use Rattle.mr_model.specs.Writes.{Id, Books, Write}
 use Rattle.mr_model.specs.Replica.{Replica, opening, IsReplica}
-use Rattle.mr_model.specs.Exchange.{W, C, Complete, Batch, batch_text}
+use Rattle.mr_model.specs.Exchange.{First, W, C, Complete, Batch, batch_text}
 use Rattle.mr_model.specs.Step.{Command, Receive, Truncate, step}
 use Rattle.mr_model.specs.Tables.{tables_of}
 use Rattle.mr_model.proofs.StepsKeep.{step_keeps}
@@ -49,7 +49,7 @@ equal_tables = refl
 -- both are reached by a batch and a truncation, so both are sound
 abbrev batch : List Slot → Id → Id → Batch
 batch others first second =
-    record { header = Some (record { from = 1; primary = 1 }); items = W (alpha others) ∷ W beta ∷ C 1 first ∷ C 2 second ∷ []; ending = Complete }
+    record { version = First; header = Some (record { from = 1; primary = 1 }); items = W (alpha others) ∷ W beta ∷ C 1 first ∷ C 2 second ∷ []; ending = Complete }
 
 abbrev reached : Batch → Replica
 reached b = (step (step (opening 2 1) (Receive (batch_text b))).replica (Truncate 2)).replica

@@ -7,11 +7,11 @@ use Rattle.mr_model.specs.Texts.{Text, only_if, numbers_on}
 use Rattle.mr_model.specs.Writes.{Id, Write, id_of, id_in, is_id_text, is_room_name, is_title, greatest_count, greatest_time, greatest_alternatives}
 use Rattle.mr_model.specs.Refusals.{Refusal, BadDay, BadTime, BadLength, BadRoomName, BadTitle, TooManyAlternatives, UnknownRoom, RoomThere, ClockExhausted, CountExhausted, NotPrimary, PrimaryKeepsAll, BeyondCommitted, NoSuchRequest, WrongPrimary, Truncated, NeedsVersion2, first_refusal}
 use Rattle.mr_model.specs.Replica.{Replica, count_of, tentative, add_write, IsReplica}
-use Rattle.mr_model.specs.Exchange.{Item, C, Header, Batch, read_batch}
+use Rattle.mr_model.specs.Exchange.{Second, Item, C, Header, Batch, read_batch}
 use Rattle.mr_model.specs.Positions.{Position, counts_of, position_of}
 use Rattle.mr_model.specs.Taking.{Progress, take_items}
 use Rattle.mr_model.specs.Replies.{Reply, Took, CommittedIs, DroppedIs, Refused}
-use Rattle.mr_model.specs.Step.{After, Submission, refuse, step_unless, add_room, submit_faults, write_of, outcome_at, after_write, submit, knows_booking, cancel_faults, cancel_write, cancel, after_items, receive_under, receive_read, receive, commit, truncate, item_if_lacked, commit_items, items_for, ending_of, batch_of, batch_unless, is_untold, batch_faults, batch_reply, reply_to_position, leave}
+use Rattle.mr_model.specs.Step.{After, Submission, refuse, step_unless, add_room, submit_faults, write_of, outcome_at, after_write, submit, knows_booking, cancel_faults, cancel_write, cancel, after_items, receive_under, receive_read, receive, commit, truncate, item_if_lacked, commit_items, items_for, ending_of, batch_of, batch_unless, is_beyond, batch_faults, batch_reply, reply_to_position, leave}
 use Rattle.mr_model.specs.Dropped.{Has, DifferInDropped}
 use Rattle.mr_model.specs.Changes.{IsNext}
 use Rattle.mr_model.proofs.TakingKeeps.{IsItem, BatchWithin, batch_within}
@@ -169,7 +169,7 @@ same_position a b d =
     let p = d.primary in
     let l = d.commits in
     let c = same_counts_of a b (numbers_on 1 99) d in
-    λ i. record { server = s i; primary = p i; commits = l i; counts = c i }
+    λ i. record { version = Second; server = s i; primary = p i; commits = l i; counts = c i }
 
 enumerated : {A : Type 0} (k : ℕ) (x : ℕ × A) (xs : List A) → Has x (enumerate_from k xs) → Has x.1 xs
 enumerated k x [] h = absurd h
@@ -207,7 +207,7 @@ same_batch a b p m t l =
     let s = t.alike.server in
     let n = t.alike.primary in
     let xs = same_items_for a b p t l in
-    λ i. record { header = Some (record { from = s i; primary = n i }); items = take m (xs i); ending = ending_of (xs i) m }
+    λ i. record { version = p.version; header = Some (record { from = s i; primary = n i }); items = take m (xs i); ending = ending_of (xs i) m }
 
 pub same_batch_reply : (a b : Replica) (p : Position) (m : ℕ) → Twins a b → batch_reply a p m ≡ batch_reply b p m
 same_batch_reply a b p m t = go (ltb p.commits a.dropped) refl
@@ -219,19 +219,19 @@ same_batch_reply a b p m t = go (ltb p.commits a.dropped) refl
     dropped = t.alike.dropped
 
     -- where too much is dropped the batch does not matter
-    cut : (c : Bool) (x y : Batch) → batch_unless (first_refusal ((c, WrongPrimary) ∷ (true, Truncated) ∷ (list_any is_untold x.items, NeedsVersion2) ∷ [])) x ≡ batch_unless (first_refusal ((c, WrongPrimary) ∷ (true, Truncated) ∷ (list_any is_untold y.items, NeedsVersion2) ∷ [])) y
+    cut : (c : Bool) (x y : Batch) → batch_unless (first_refusal ((c, WrongPrimary) ∷ (true, Truncated) ∷ (list_any (is_beyond p.version) x.items, NeedsVersion2) ∷ [])) x ≡ batch_unless (first_refusal ((c, WrongPrimary) ∷ (true, Truncated) ∷ (list_any (is_beyond p.version) y.items, NeedsVersion2) ∷ [])) y
     cut true x y = refl
     cut false x y = refl
 
     go : (g : Bool) → ltb p.commits a.dropped ≡ g → batch_reply a p m ≡ batch_reply b p m
     go true e =
-        ap (λ g. batch_unless (first_refusal ((not (eqb p.primary a.primary), WrongPrimary) ∷ (g, Truncated) ∷ (list_any is_untold (batch_of a p m).items, NeedsVersion2) ∷ [])) (batch_of a p m)) e
+        ap (λ g. batch_unless (first_refusal ((not (eqb p.primary a.primary), WrongPrimary) ∷ (g, Truncated) ∷ (list_any (is_beyond p.version) (batch_of a p m).items, NeedsVersion2) ∷ [])) (batch_of a p m)) e
         ∙ cut (not (eqb p.primary a.primary)) (batch_of a p m) (batch_of b p m)
-        ∙ ap (λ g. batch_unless (first_refusal ((not (eqb p.primary a.primary), WrongPrimary) ∷ (g, Truncated) ∷ (list_any is_untold (batch_of b p m).items, NeedsVersion2) ∷ [])) (batch_of b p m)) (sym e)
-        ∙ (λ i. batch_unless (first_refusal ((not (eqb p.primary (primary i)), WrongPrimary) ∷ (ltb p.commits (dropped i), Truncated) ∷ (list_any is_untold (batch_of b p m).items, NeedsVersion2) ∷ [])) (batch_of b p m))
+        ∙ ap (λ g. batch_unless (first_refusal ((not (eqb p.primary a.primary), WrongPrimary) ∷ (g, Truncated) ∷ (list_any (is_beyond p.version) (batch_of b p m).items, NeedsVersion2) ∷ [])) (batch_of b p m)) (sym e)
+        ∙ (λ i. batch_unless (first_refusal ((not (eqb p.primary (primary i)), WrongPrimary) ∷ (ltb p.commits (dropped i), Truncated) ∷ (list_any (is_beyond p.version) (batch_of b p m).items, NeedsVersion2) ∷ [])) (batch_of b p m))
     go false e =
         let bs = same_batch a b p m t (ltb-false p.commits a.dropped e) in
-        λ i. batch_unless (first_refusal ((not (eqb p.primary (primary i)), WrongPrimary) ∷ (ltb p.commits (dropped i), Truncated) ∷ (list_any is_untold (bs i).items, NeedsVersion2) ∷ [])) (bs i)
+        λ i. batch_unless (first_refusal ((not (eqb p.primary (primary i)), WrongPrimary) ∷ (ltb p.commits (dropped i), Truncated) ∷ (list_any (is_beyond p.version) (bs i).items, NeedsVersion2) ∷ [])) (bs i)
 
 pub same_to_position : (a b : Replica) (o : Option Position) (m : ℕ) → Twins a b → reply_to_position a o m ≡ reply_to_position b o m
 same_to_position a b None m t = refl

@@ -2,10 +2,9 @@
 use Rattle.std.specs.Prelude.{◌≡◌, ℕ, ◌&&◌, ◌==◌, List, [], length, map, flat_map, filter_map, find, Option, Some, option_map, IsTrue}
 use Rattle.std.specs.List.{AllByRecursion}
 use Rattle.mr_model.specs.Texts.{Text, numbers_on}
-use Rattle.mr_model.specs.Writes.{Write, length_of, title_of}
+use Rattle.mr_model.specs.Writes.{Write, length_of, title_of, is_first_write}
 use Rattle.mr_model.specs.Replay.{Place}
 use Rattle.mr_model.specs.Replica.{Replica, clock_of, IsReplica}
-use Rattle.mr_model.specs.Exchange.{is_told_write}
 use Rattle.mr_model.specs.View.{place_of}
 use Rattle.mr_model.specs.Tables.{MetaRow, VectorRow, ActionCells, OfMeeting, OfCancel, cells_of, LogRow, BookingRow, ErrorRow, Tables, seq_of, by_id, booking_row, error_row, vector_row, kept}
 
@@ -73,7 +72,7 @@ first_tables_of r =
 -- First tables stand for replicas that know bookings alone, with at most 8 alternatives.
 pub record StandsFirst (t : FirstTables) (r : Replica) : Type 0 where
   pub sound : IsReplica r
-  pub all_first : AllByRecursion (λ w. IsTrue (is_told_write w)) r.known
+  pub all_first : AllByRecursion (λ w. IsTrue (is_first_write w)) r.known
   pub are : t ≡ first_tables_of r
 
 -- ---- moving up

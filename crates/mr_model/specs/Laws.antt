@@ -5,14 +5,14 @@ use Rattle.mr_model.specs.Texts.{Text, lines_text, whole_lines}
 use Rattle.mr_model.specs.Calendar.{Date, is_date, next_date, number_of_day}
 use Rattle.mr_model.specs.Slots.{Slot, Overlap, overlaps}
 use Rattle.mr_model.specs.Writes.{Id, Write, id_of, is_server, is_write, same_write}
-use Rattle.mr_model.specs.Refusals.{BadLine, NoSuchRequest, first_refusal}
+use Rattle.mr_model.specs.Refusals.{BadLine, NoSuchRequest, NeedsVersion2, first_refusal}
 use Rattle.mr_model.specs.Replay.{Place, IsReplay, Booking, StandsBefore, place_among, replay_among, replay}
 use Rattle.mr_model.specs.Replica.{Replica, opening, count_of, committed_count, order_of, knows_room, IsReplica}
-use Rattle.mr_model.specs.Exchange.{Batch, is_batch, batch_lines, batch_text, ReadsAs, IsFirstBadLine, read_batch, lines_within, front_of}
+use Rattle.mr_model.specs.Exchange.{Second, Batch, is_batch, batch_lines, batch_text, ReadsAs, IsFirstBadLine, read_batch, lines_within, front_of}
 use Rattle.mr_model.specs.Positions.{Position, position_of, is_position, position_text, read_position}
 use Rattle.mr_model.specs.Replies.{Entry, Reply, OutcomeIs, BatchIs, Refused}
 use Rattle.mr_model.specs.View.{View, Placed, Told, Question, of_room, view_of, placed_with, whole_places, committed_places, booked_told, whole_list, committed_list, place_of, entries, logging_of, told_of, outcome_reply, answer}
-use Rattle.mr_model.specs.Step.{Command, Ask, Submission, submit_faults, cancel_faults, next_stamp, write_of, outcome_at, cancel_write, step, IsStep, IsOfMachine, IsRun, BatchFor, batch_reply}
+use Rattle.mr_model.specs.Step.{Command, Ask, Submission, submit_faults, cancel_faults, next_stamp, write_of, outcome_at, cancel_write, step, IsStep, IsOfMachine, IsRun, BatchFor, batch_of, batch_reply}
 use Rattle.mr_model.specs.Changes.{IsNext, WriteInserted, CommitMoved, SubmitChanges, after_commit, CommitChanges, TruncateChanges, AreInKeyOrder, HasRowsOfKnown, HaveSameRows, AreSameTables}
 use Rattle.mr_model.specs.Dropped.{Has, DifferInDropped}
 use Rattle.mr_model.specs.Tables.{Tables, BookingRow, ErrorRow, CancelledRow, CancelRow, PlaceRow, place_row, booking_row, error_row, cancel_row, tables_of, Stands}
@@ -139,9 +139,13 @@ RunsAnswer =
     (old new : Replica) (commands : List Command) (replies : List Reply)
     → IsRun old commands replies new → Answered old commands replies new
 
--- no text is that of two batches
+-- no text is that of two batches, also not of one of each version
 abbrev pub OneBatchAText : Type 0
 OneBatchAText = (a b : Batch) → is_batch a ≡ true → is_batch b ≡ true → batch_text a ≡ batch_text b → a ≡ b
+
+-- a batch is read back from its text
+abbrev pub BatchesReadBack : Type 0
+BatchesReadBack = (b : Batch) → is_batch b ≡ true → read_batch (batch_text b) ≡ Ok b
 
 -- reading gives a batch exactly where the bytes read as it
 abbrev pub ReadingIsExact : Type 0
@@ -286,16 +290,17 @@ FrontsOnTheBoard = (n : ℕ) (board : List RoomBooking) (writes : List Write) �
 
 -- ---- positions and batches of a replica
 
--- a position is read exactly of its own text
+-- a position is read exactly of its own text, in its version
 abbrev pub PositionsAreReadExactly : Type 0
 PositionsAreReadExactly =
     (bytes : Text) (p : Position) → (read_position bytes ≡ Some p) ↔ ((is_position p ≡ true) × (bytes ≡ position_text p))
 
--- a replica's position is within the limits, and read back
+-- a replica's position is within the limits, of the second version, and read back
 abbrev pub OwnPositionIsReadBack : Type 0
 OwnPositionIsReadBack =
     (r : Replica) → IsReplica r
-    → (is_position (position_of r) ≡ true) × (read_position (position_text (position_of r)) ≡ Some (position_of r))
+    → (is_position (position_of r) ≡ true) × ((position_of r).version ≡ Second)
+    × (read_position (position_text (position_of r)) ≡ Some (position_of r))
 
 -- so a replica that is asked by another's position text gives the batch that is made for it
 abbrev pub PositionTextsAsk : Type 0
@@ -303,7 +308,18 @@ PositionTextsAsk =
     (r asker : Replica) (max_lines : ℕ) → IsReplica asker
     → (step r (BatchFor (position_text (position_of asker)) max_lines)).reply ≡ batch_reply r (position_of asker) max_lines
 
--- each batch that a replica gives, for any position, is within the limits, and read back
+-- a batch is made in the version of the position that asks for it
+abbrev pub BatchesAnswerTheirVersion : Type 0
+BatchesAnswerTheirVersion =
+    (r : Replica) (p : Position) (max_lines : ℕ) (b : Batch) → batch_reply r p max_lines ≡ BatchIs b
+    → (b ≡ batch_of r p max_lines) × (b.version ≡ p.version)
+
+-- a position of the second version is never answered that the first is too small
+abbrev pub SecondIsEnough : Type 0
+SecondIsEnough =
+    (r : Replica) (p : Position) (max_lines : ℕ) → p.version ≡ Second → ¬ (batch_reply r p max_lines ≡ Refused NeedsVersion2)
+
+-- each batch that a replica gives, for any position, is within the limits of its version, and read back
 abbrev pub OwnBatchIsReadBack : Type 0
 OwnBatchIsReadBack =
     (r : Replica) (p : Position) (max_lines : ℕ) (b : Batch) → IsReplica r → batch_reply r p max_lines ≡ BatchIs b

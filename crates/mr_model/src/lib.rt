@@ -9,7 +9,8 @@
 //! - Replay: where the writes of a room go and which bookings stand, as a relation and as a function; Board: the same for all
 //!   rooms at once;
 //! - Replica: what a replica knows, its order of execution, and what holds of each;
-//! - Exchange, Positions: batches and positions, their texts, and what is read of a text; Taking: what each line of a batch does;
+//! - Exchange, Positions: batches and positions, their texts in two versions, and what is read of a text; Taking: what each line of
+//!   a batch does;
 //! - Replies, View, Step: replies and their bytes, answers about a room, and each command's step;
 //! - Tables, Serving: the rows that stand for a replica, and what commands do to them; First: the tables of the first schema, and
 //!   how they move up;

@@ -38,8 +38,8 @@ const STRANGERS: u32 = 1_000;
 
 /// Another database of this machine: each request is asked, served and its reply taken in turn.
 ///
-/// So nobody reads while the other end writes: what is written waits in the sockets. That is at most 64 lines of 266 bytes, two lines
-/// and a head, under 18,000 bytes in all, and loopback takes it at once: by default the end of a connection that is not read takes
+/// So nobody reads while the other end writes: what is written waits in the sockets. That is at most 64 lines of 403 bytes, two lines
+/// and a head, under 27,000 bytes in all, and loopback takes it at once: by default the end of a connection that is not read takes
 /// 64 KiB or more, on Linux and on macOS.
 #[derive(Drop)]
 struct Neighbour<'a, C: Keeper, S: Keeper> {

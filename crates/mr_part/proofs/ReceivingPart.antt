@@ -3,7 +3,7 @@ use Rattle.std.proofs.Common.{◌≡◌, ℕ, ◌-◌, ◌==◌, not, Bool, true
 use Rattle.std.specs.List.{list_all}
 use Rattle.std.proofs.lemmas.Bool.Decides.{nat_tests}
 use Rattle.mr_model.specs.Texts.{only_if}
-use Rattle.mr_model.specs.Exchange.{Item, Header, Batch, is_item}
+use Rattle.mr_model.specs.Exchange.{Second, Item, Header, Batch, is_item}
 use Rattle.mr_model.specs.Refusals as model
 use Rattle.mr_model.specs.Replica.{Replica, IsReplica}
 use Rattle.mr_model.specs.Replies.{Took, Refused}
@@ -25,7 +25,7 @@ use Rattle.mr_replica.proofs.Moves.{all_pass}
 use Rattle.mr_replica.proofs.Receiving.{items-bring}
 
 -- the answer is what the items give
-pub part_received : (a : Replica) (items : List Item) (part : PartView) (c : ReachedView) (q : Progress) (x : ℕ × ℕ × ChangeView) → IsReplica a → part ≡ part_of (OfItems items) a → list_all is_item items ≡ true → take_items items 2 (Ok (nothing_taken a)) ≡ Ok q → ShowsPicked a (is_inside a items) c q → x.0 ≡ length c.kept - length part.kept → x.1 ≡ c.summary.commits - part.summary.commits → changed x.2 (tables_of a) ≡ tables_of q.replica → AnswersItems a items (Ok x)
+pub part_received : (a : Replica) (items : List Item) (part : PartView) (c : ReachedView) (q : Progress) (x : ℕ × ℕ × ChangeView) → IsReplica a → part ≡ part_of (OfItems items) a → list_all (is_item Second) items ≡ true → take_items items 2 (Ok (nothing_taken a)) ≡ Ok q → ShowsPicked a (is_inside a items) c q → x.0 ≡ length c.kept - length part.kept → x.1 ≡ c.summary.commits - part.summary.commits → changed x.2 (tables_of a) ≡ tables_of q.replica → AnswersItems a items (Ok x)
 part_received a items part c q x sound is_part good taken shows writes commits turns =
     let step = ap (after_items a) taken in
     let brings = (items-bring items 2 (nothing_taken a) q sound good taken).commits in

@@ -12,8 +12,8 @@ use mr_replica::outgoing::outgoing_for;
 
 impl Part {
     /// What a replica at this position lacks: the commits above its own, each behind its write where that is lacked, then
-    /// the tentative writes that it lacks, so many lines at most. It is refused where one of the commits is dropped, and where
-    /// the exchange text can't say one of these writes.
+    /// the tentative writes that it lacks, so many lines at most, in the position's version. It is refused where one of the commits
+    /// is dropped, and where that version can't say one of these writes, which the second always can.
     pub fn batch(&self, position: &Position, max_lines: LineCount) -> Result<Batch, Refusal>
         ensures step { AnswersPart (Above position.now.commits) (λ a. batch_reply a position.now max_lines) (λ batch. BatchIs batch) self.now result }
         // A refusal that is due is returned without memory.
@@ -31,6 +31,6 @@ impl Part {
         let mut summary = self.summary;
         summary.dropped = position.commits;
         let outgoing = outgoing_for(self.alloc, &summary, &self.kept, position, max_lines)?;
-        outgoing.into_batch(summary.server, summary.primary)
+        outgoing.into_batch(position.version, summary.server, summary.primary)
     }
 }

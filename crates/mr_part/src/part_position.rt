@@ -6,10 +6,11 @@ ghost use Rattle.mr_part.specs.Parts.{AnswersPart};
 ghost use Rattle.mr_tables.specs.Summary.{IsWithin};
 
 use crate::Part;
-use mr_base::{Position, Refusal};
+use mr_base::{Position, Refusal, Version};
 
 impl Part {
-    /// How far the replica's knowledge goes. Numbers beyond the limits, which no replica has, are refused as the store's.
+    /// How far the replica's knowledge goes, in the second version, so that it asks for batches that can say every write. Numbers
+    /// beyond the limits, which no replica has, are refused as the store's.
     pub fn position(&self) -> Result<Position, Refusal>
         ensures step { AnswersPart Nothing (λ a. PositionIs (position_of a)) PositionIs self.now result }
         ensures own { IsWithin self.now.summary → NeverStore result }
@@ -18,8 +19,13 @@ impl Part {
         let summary = &self.summary;
         summary.server.number();
         summary.primary.number();
-        Position::new(summary.server, summary.primary, summary.commits, counts).ok_or(
-            Refusal::Store,
+        Position::new(
+            Version::Second,
+            summary.server,
+            summary.primary,
+            summary.commits,
+            counts,
         )
+        .ok_or(Refusal::Store)
     }
 }

@@ -1,6 +1,6 @@
 ghost use Rattle.std.specs.Prelude.{◌≡◌, ◌≢◌, ◌+◌, ◌<◌, ◌^◌, IsTrue, Ok, Err, Some, map, filter, length};
 ghost use Rattle.std.specs.List.{list_all};
-ghost use Rattle.mr_model.specs.Exchange.{is_item, Header};
+ghost use Rattle.mr_model.specs.Exchange.{Second, is_item, Header};
 ghost use Rattle.mr_model.specs.Moving.{may_move};
 ghost use Rattle.mr_model.specs.Replica.{Replica, IsReplica, tentative};
 ghost use Rattle.mr_model.specs.Replies.{Took};
@@ -60,7 +60,7 @@ impl Part {
 
     /// Takes the items of a batch, all or none.
     fn take_items(self, items: &[Item]) -> Result<(u64, u64, Change), Refusal>
-        ensures step { IsTrue (list_all is_item (map item_of items.now)) → length items.now + 2 < 2 ^ 64
+        ensures step { IsTrue (list_all (is_item Second) (map item_of items.now)) → length items.now + 2 < 2 ^ 64
             → TakesPart (OfItems (map item_of items.now)) (λ a. after_items a (take_items (map item_of items.now) 2 (Ok (nothing_taken a)))) (λ _ taken. Took taken.0 taken.1) (λ taken. taken.2) self result }
         ensures own { NeverStore result }
     {
@@ -78,7 +78,7 @@ impl Part {
         touched: &[RoomName],
         undone: &[UndoRow],
     ) -> Result<(u64, u64, Change), Refusal>
-        ensures step { IsTrue (list_all is_item (map item_of items.now)) → length items.now + 2 < 2 ^ 64 → (a : Replica) → IsReplica a → IsPartOf self (OfItems (map item_of items.now)) a
+        ensures step { IsTrue (list_all (is_item Second) (map item_of items.now)) → length items.now + 2 < 2 ^ 64 → (a : Replica) → IsReplica a → IsPartOf self (OfItems (map item_of items.now)) a
             → AreTouched touched.now a (map item_of items.now) → undone.now ≡ map (undo_with (place_of a)) (filter (may_move a (map item_of items.now)) (tentative a))
             → AnswersItems a (map item_of items.now) result }
         ensures own { NeverStore result }

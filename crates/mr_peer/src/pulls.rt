@@ -24,7 +24,7 @@ use mr_wire::{read_batch, write_position};
 use std::alloc::Global;
 use std::io::{Read, Write};
 
-/// Asks a peer for what this replica lacks, telling its position.
+/// Asks a peer for what this replica lacks, telling its position, which is of the second version.
 pub fn pull_ask<K: Keeper, W: Write>(
     alloc: Global,
     service: &mut Service<K>,

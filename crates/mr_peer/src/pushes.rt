@@ -27,7 +27,8 @@ use mr_wire::{write_batch, write_position};
 use std::alloc::Global;
 use std::io::{Read, Write};
 
-/// Hands a peer that is at this position what it lacks, 64 lines at most, and answers how the batch ended.
+/// Hands a peer that is at this position what it lacks, 64 lines at most, in the position's version, and answers how the batch ended. A
+/// batch that the first version can't tell is the fault `Own`, with the refusal `NeedsVersion2`.
 pub fn push_ask<K: Keeper, W: Write>(
     alloc: Global,
     service: &mut Service<K>,

@@ -14,7 +14,7 @@ use Rattle.mr_model.specs.Refusals.{WrongPrimary, Truncated, NeedsVersion2, firs
 use Rattle.mr_model.specs.Replies.{Reply, BatchIs}
 use Rattle.mr_model.specs.Kept.{kept_in_order}
 use Rattle.mr_model.specs.Dropped.{Has}
-use Rattle.mr_model.specs.Step.{item_if_lacked, commit_items, items_for, is_untold, batch_of, batch_unless, batch_reply}
+use Rattle.mr_model.specs.Step.{item_if_lacked, commit_items, items_for, is_beyond, batch_of, batch_unless, batch_reply}
 use Rattle.mr_model.proofs.BatchItems.{list_of_all, IsOwn, items_own}
 use Rattle.mr_model.proofs.Fronts.{all_take}
 use Rattle.mr_model.proofs.Members.{has_right}
@@ -23,6 +23,8 @@ use Rattle.mr_model.proofs.KnownById.{known_with, commit_found}
 use Rattle.mr_model.proofs.TakingKeeps.{IsItem}
 use Rattle.mr_model.proofs.TwinChanges.{drop-add}
 use Rattle.mr_base.specs.Answers.{ok_if}
+use Rattle.mr_base.specs.declared.versions.Version.{Version}
+use Rattle.mr_base.specs.Versions.{version_of}
 use Rattle.mr_base.specs.declared.batches.Item.{Item}
 use Rattle.mr_base.specs.declared.refusals.Refusal.TheVariants as refusal
 use Rattle.mr_base.specs.Batches as base
@@ -100,45 +102,46 @@ items-kept a p sound low =
     let front : take (committed_len (summary_of a) (kept_in_order a)) (kept_in_order a) ≡ kept_committed a = ap (λ n. take n (kept_in_order a)) (committed_kept a sound) ∙ take-append_seam (kept_committed a) (tentative a) in
     (λ t. committed_items p (p.commits + 1) (drop (p.commits - a.dropped) (front t)) ++ lacked_items p (tentative_kept a sound t)) ∙ sym (items-made a p sound low)
 
--- ---- what the text can say
+-- ---- what a version of the text can say
 
-untold_item : (x : model.Item) → is_untold x ≡ true → model.is_item x ≡ false
-untold_item (model.W w) e = go (is_write w) (model.is_told_write w) e
+beyond_item : (v : model.Version) (x : model.Item) → is_beyond v x ≡ true → model.is_item v x ≡ false
+beyond_item v (model.W w) e = go (is_write w) (model.is_in_version v w) e
   where
     go : (g t : Bool) → not t ≡ true → (g && t) ≡ false
     go true true e = sym e
     go true false e = refl
     go false t e = refl
-untold_item (model.C seq id) e = absurd (true≢false (sym e))
+beyond_item v (model.C seq id) e = absurd (true≢false (sym e))
 
-untold_items : (xs : List model.Item) → list_any is_untold xs ≡ true → list_all model.is_item xs ≡ false
-untold_items [] e = absurd (true≢false (sym e))
-untold_items (x ∷ xs) e = go (or_cases (is_untold x) (list_any is_untold xs) e) (untold_items xs)
+beyond_items : (v : model.Version) (xs : List model.Item) → list_any (is_beyond v) xs ≡ true → list_all (model.is_item v) xs ≡ false
+beyond_items v [] e = absurd (true≢false (sym e))
+beyond_items v (x ∷ xs) e = go (or_cases (is_beyond v x) (list_any (is_beyond v) xs) e) (beyond_items v xs)
   where
     behind : (b : Bool) → (b && false) ≡ false
     behind true = refl
     behind false = refl
 
-    go : (is_untold x ≡ true) ⊎ (list_any is_untold xs ≡ true) → (list_any is_untold xs ≡ true → list_all model.is_item xs ≡ false) → (model.is_item x && list_all model.is_item xs) ≡ false
-    go (inl f) ih = ap (λ b. b && list_all model.is_item xs) (untold_item x f)
-    go (inr f) ih = ap (λ b. model.is_item x && b) (ih f) ∙ behind (model.is_item x)
+    go : (is_beyond v x ≡ true) ⊎ (list_any (is_beyond v) xs ≡ true) → (list_any (is_beyond v) xs ≡ true → list_all (model.is_item v) xs ≡ false) → (model.is_item v x && list_all (model.is_item v) xs) ≡ false
+    go (inl f) ih = ap (λ b. b && list_all (model.is_item v) xs) (beyond_item v x f)
+    go (inr f) ih = ap (λ b. model.is_item v x && b) (ih f) ∙ behind (model.is_item v x)
 
--- a replica's items can be said where the text can tell all their writes
-items_said : (a : Replica) (p : Position) (m : ℕ) → IsReplica a → list_all model.is_item (take m (items_for a p)) ≡ not (list_any is_untold (take m (items_for a p)))
-items_said a p m sound = go (list_any is_untold (take m (items_for a p))) refl
+-- a replica's items can be said where the position's version has all their writes
+items_said : (a : Replica) (p : Position) (m : ℕ) → IsReplica a → list_all (model.is_item p.version) (take m (items_for a p)) ≡ not (list_any (is_beyond p.version) (take m (items_for a p)))
+items_said a p m sound = go (list_any (is_beyond p.version) (take m (items_for a p))) refl
   where
-    go : (b : Bool) → list_any is_untold (take m (items_for a p)) ≡ b → list_all model.is_item (take m (items_for a p)) ≡ not b
-    go true e = untold_items (take m (items_for a p)) e
-    go false e = list_of_all (take m (items_for a p)) (all_map (IsOwn a sound) IsItem (λ x o. o.0) (take m (items_for a p)) (all_take (IsOwn a sound) m (items_for a p) (items_own a sound p))) e
+    go : (b : Bool) → list_any (is_beyond p.version) (take m (items_for a p)) ≡ b → list_all (model.is_item p.version) (take m (items_for a p)) ≡ not b
+    go true e = beyond_items p.version (take m (items_for a p)) e
+    go false e = list_of_all p.version (take m (items_for a p)) (all_map (IsOwn a sound) IsItem (λ x o. o.0) (take m (items_for a p)) (all_take (IsOwn a sound) m (items_for a p) (items_own a sound p))) e
 
--- the batch that is made of them, or the refusal of one that the text can't say
-pub batch_made : (a : Replica) (p : Position) (m : ℕ) (there : List Item) (more : Bool) → IsReplica a → (p.primary == a.primary) ≡ true → nat_lt p.commits a.dropped ≡ false → Offers m (items_for a p) there more → reply_with BatchIs (ok_if (list_all model.is_item (map item_of there)) (base.batch_of (Some (a.server, a.primary)) there (ending_by more)) refusal.NeedsVersion2) ≡ batch_reply a p m
-batch_made a p m there more sound own whole o =
+-- the batch that is made of them in the position's version, or the refusal of one that this version can't say
+pub batch_made : (a : Replica) (p : Position) (m : ℕ) (v : Version) (there : List Item) (more : Bool) → IsReplica a → version_of v ≡ p.version → (p.primary == a.primary) ≡ true → nat_lt p.commits a.dropped ≡ false → Offers m (items_for a p) there more
+    → reply_with BatchIs (ok_if (list_all (model.is_item (version_of v)) (map item_of there)) (base.batch_of v (Some (a.server, a.primary)) there (ending_by more)) refusal.NeedsVersion2) ≡ batch_reply a p m
+batch_made a p m v there more sound version own whole o =
     let e = ending more ∙ ap (λ b. cond b model.More model.Complete) o.rest in
-    (λ t. made (list_all model.is_item (o.first t)) (record { header = Some (record { from = a.server; primary = a.primary }); items = o.first t; ending = e t }))
+    (λ t. made (list_all (model.is_item (version t)) (o.first t)) (record { version = version t; header = Some (record { from = a.server; primary = a.primary }); items = o.first t; ending = e t }))
     ∙ ap (λ b. made b (batch_of a p m)) (items_said a p m sound)
-    ∙ go (list_any is_untold (take m (items_for a p)))
-    ∙ (λ t. batch_unless (first_refusal ((not (sym own t), WrongPrimary) ∷ (sym whole t, Truncated) ∷ (list_any is_untold (batch_of a p m).items, NeedsVersion2) ∷ [])) (batch_of a p m))
+    ∙ go (list_any (is_beyond p.version) (take m (items_for a p)))
+    ∙ (λ t. batch_unless (first_refusal ((not (sym own t), WrongPrimary) ∷ (sym whole t, Truncated) ∷ (list_any (is_beyond p.version) (batch_of a p m).items, NeedsVersion2) ∷ [])) (batch_of a p m))
   where
     made : Bool → model.Batch → Reply
     made b batch = reply_with BatchIs (ok_if b batch refusal.NeedsVersion2)

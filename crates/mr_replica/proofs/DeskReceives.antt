@@ -6,7 +6,7 @@ use Rattle.std.proofs.lemmas.List.{length-map}
 use Rattle.mr_model.specs.Texts.{Text}
 use Rattle.mr_model.specs.Dropped.{Has}
 use Rattle.mr_model.specs.Writes.{Write}
-use Rattle.mr_model.specs.Exchange.{Item, is_item}
+use Rattle.mr_model.specs.Exchange.{Second, Item, is_item}
 use Rattle.mr_model.specs.Refusals as model
 use Rattle.mr_model.specs.Replica.{Replica, IsReplica}
 use Rattle.mr_model.specs.Kept.{dropped_in_order, kept_in_order}
@@ -86,7 +86,7 @@ marks_end a d k done stands all was = was ∙ take_all_of (seq_of a) (kept_in_or
 -- ---- what is reached
 
 -- with all items there is what they lead to
-pub desk_reaches : (a : Replica) (d : DeskView) (items : List Item) (c : ReachedView) (p : Progress) → IsReplica a → d ≡ desk_of a → list_all is_item items ≡ true → take_items items 2 (Ok (nothing_taken a)) ≡ Ok p → ShowsPicked a all_writes c p → Reaches d items c.summary c.rooms c.kept a p.replica
+pub desk_reaches : (a : Replica) (d : DeskView) (items : List Item) (c : ReachedView) (p : Progress) → IsReplica a → d ≡ desk_of a → list_all (is_item Second) items ≡ true → take_items items 2 (Ok (nothing_taken a)) ≡ Ok p → ShowsPicked a all_writes c p → Reaches d items c.summary c.rooms c.kept a p.replica
 desk_reaches a d items c p sound stands good taken shows =
     record {
       sound = sound;
@@ -100,7 +100,7 @@ desk_reaches a d items c p sound stands good taken shows =
     }
 
 -- the answer is what the items give
-pub desk_took : (a : Replica) (d : DeskView) (items : List Item) (c : ReachedView) (p : Progress) (x y : ℕ) → IsReplica a → d ≡ desk_of a → list_all is_item items ≡ true → take_items items 2 (Ok (nothing_taken a)) ≡ Ok p → ShowsPicked a all_writes c p → x ≡ length c.kept - length d.log.kept → y ≡ c.summary.commits - d.commits → Took x y ≡ (after_items a (take_items items 2 (Ok (nothing_taken a)))).reply
+pub desk_took : (a : Replica) (d : DeskView) (items : List Item) (c : ReachedView) (p : Progress) (x y : ℕ) → IsReplica a → d ≡ desk_of a → list_all (is_item Second) items ≡ true → take_items items 2 (Ok (nothing_taken a)) ≡ Ok p → ShowsPicked a all_writes c p → x ≡ length c.kept - length d.log.kept → y ≡ c.summary.commits - d.commits → Took x y ≡ (after_items a (take_items items 2 (Ok (nothing_taken a)))).reply
 desk_took a d items c p x y sound stands good taken shows writes commits =
     let brings = (items-bring items 2 (nothing_taken a) p sound good taken).commits in
     let more = shows.writes in

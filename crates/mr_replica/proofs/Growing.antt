@@ -8,7 +8,7 @@ use Rattle.std.proofs.lemmas.Slice.Eq.{bytes_eq-Decides}
 use Rattle.mr_model.specs.Texts.{Text}
 use Rattle.mr_model.specs.Writes.{Id, Write, is_write}
 use Rattle.mr_model.specs.Refusals as model
-use Rattle.mr_model.specs.Exchange.{Item, W, C, is_item}
+use Rattle.mr_model.specs.Exchange.{Second, Item, W, C, is_item}
 use Rattle.mr_model.specs.Replica.{Replica, IsReplica, text_before}
 use Rattle.mr_model.specs.Kept.{kept_in_order}
 use Rattle.mr_model.specs.Dropped.{Has}
@@ -18,7 +18,7 @@ use Rattle.mr_model.proofs.ChangesKeep.{keeps-add_commit}
 use Rattle.mr_model.proofs.Fronts.{take-front}
 use Rattle.mr_model.proofs.Members.{filter_has, has_filter}
 use Rattle.mr_model.proofs.Orders.{added}
-use Rattle.mr_model.proofs.TakingKeeps.{told_item}
+use Rattle.mr_model.proofs.TakingKeeps.{versions_item}
 use Rattle.mr_model.proofs.WithWrite.{has_with_write}
 use Rattle.mr_base.specs.Refusals.{refusal_of}
 use Rattle.mr_base.specs.declared.refusals.Refusal.{Refusal}
@@ -71,18 +71,18 @@ commit-grows line p q n id sound small e = go (commit_verdict line (summary_of p
     go (Ok false) j = subst (λ (x : Progress). Grows p.replica x.replica) (ok_inj p q (sym j ∙ e)) (grows-not p.replica sound)
     go (Err x) j = absurd (err≢ok (refusal_of x) q (sym j ∙ e))
 
-item-grows : (line : ℕ) (p q : Progress) (x : Item) → IsReplica p.replica → IsTrue (is_item x) → take_item line p x ≡ Ok q → Grows p.replica q.replica
-item-grows line p q (W w) sound good e = write-grows line p q w sound (told_item (W w) good) e
+item-grows : (line : ℕ) (p q : Progress) (x : Item) → IsReplica p.replica → IsTrue (is_item Second x) → take_item line p x ≡ Ok q → Grows p.replica q.replica
+item-grows line p q (W w) sound good e = write-grows line p q w sound (versions_item Second (W w) good) e
 item-grows line p q (C n id) sound good e = commit-grows line p q n id sound (let g = good in grind (arith, nat_tests)) e
 
-pub items-grow : (items : List Item) (line : ℕ) (p q : Progress) → IsReplica p.replica → list_all is_item items ≡ true → take_items items line (Ok p) ≡ Ok q → Grows p.replica q.replica
+pub items-grow : (items : List Item) (line : ℕ) (p q : Progress) → IsReplica p.replica → list_all (is_item Second) items ≡ true → take_items items line (Ok p) ≡ Ok q → Grows p.replica q.replica
 items-grow [] line p q sound good e = subst (λ (x : Progress). Grows p.replica x.replica) (ok_inj p q e) (grows-not p.replica sound)
 items-grow (x ∷ xs) line p q sound good e = go (take_item line p x) refl e (λ m. items-grow xs (line + 1) m q)
   where
-    parts : (is_item x ≡ true) × (list_all is_item xs ≡ true)
-    parts = and_parts (is_item x) (list_all is_item xs) good
+    parts : (is_item Second x ≡ true) × (list_all (is_item Second) xs ≡ true)
+    parts = and_parts (is_item Second x) (list_all (is_item Second) xs) good
 
-    go : (o : Result Progress model.Refusal) → take_item line p x ≡ o → take_items xs (line + 1) o ≡ Ok q → ((m : Progress) → IsReplica m.replica → list_all is_item xs ≡ true → take_items xs (line + 1) (Ok m) ≡ Ok q → Grows m.replica q.replica) → Grows p.replica q.replica
+    go : (o : Result Progress model.Refusal) → take_item line p x ≡ o → take_items xs (line + 1) o ≡ Ok q → ((m : Progress) → IsReplica m.replica → list_all (is_item Second) xs ≡ true → take_items xs (line + 1) (Ok m) ≡ Ok q → Grows m.replica q.replica) → Grows p.replica q.replica
     go (Ok m) t f rest = let one = item-grows line p m x sound parts.0 t in grows-more p.replica m.replica q.replica one (rest m one.sound parts.1 f)
     go (Err r) t f rest = absurd (err≢ok r q f)
 

@@ -4,6 +4,7 @@ use Rattle.std.proofs.lemmas.Bool.{and_from, eqb-false}
 use Rattle.std.specs.List.{AllByRecursion, list_all}
 use Rattle.mr_model.specs.Texts.{numbers_on}
 use Rattle.mr_model.specs.Writes.{is_server, is_count, greatest_count}
+use Rattle.mr_model.specs.Exchange.{Second}
 use Rattle.mr_model.specs.Positions.{Count, Position, are_rising, is_position}
 use Rattle.mr_model.proofs.PositionsReadBack.{rising_on}
 use Rattle.mr_model.proofs.StepsKeep.{within_from}
@@ -11,9 +12,9 @@ use Rattle.mr_tables.specs.declared.summary.Tally.{Tally}
 use Rattle.mr_tables.specs.Summary.{no_tally, tally_at, counts_in}
 use Rattle.mr_replica.specs.Desk.{DeskView, IsWithinLimits}
 
--- the position of a desk with these counts
+-- the position of a desk with these counts, of the second version
 abbrev pub position_with : DeskView → List Count → Position
-position_with d counts = record { server = d.server; primary = d.primary; commits = d.commits; counts = counts }
+position_with d counts = record { version = Second; server = d.server; primary = d.primary; commits = d.commits; counts = counts }
 
 -- the tallies have few writes
 abbrev AreFew : List Tally → Type 0

@@ -2,18 +2,18 @@
 use Rattle.std.proofs.Common.{◌≡◌, ℕ, zero, suc, ◌+◌, ◌-◌, ◌<◌, ◌≤◌, ◌==◌, cond, not, Some, Bool, true, false, List, [], ◌∷◌, ◌++◌, length, drop, get_or, Result, Ok, Err, ap, refl, sym, ◌∙◌, subst, arith, IsTrue}
 use Rattle.std.specs.List.{list_all, filter_map, slice_get}
 use Rattle.std.specs.Result.{is_ok}
-use Rattle.std.proofs.lemmas.Bool.{true≢false, and_parts}
+use Rattle.std.proofs.lemmas.Bool.{true≢false, and_parts, and_from}
 use Rattle.std.proofs.lemmas.Bool.Decides.{nat_tests}
 use Rattle.std.proofs.lemmas.List.{length-append}
 use Rattle.mr_model.specs.Texts.{only_if}
 use Rattle.mr_model.specs.Writes.{Id, Write, is_write, stamp_before}
 use Rattle.mr_model.specs.Refusals as model
-use Rattle.mr_model.specs.Exchange.{Item, W, C, Header, Batch, is_header, is_item, is_batch, is_batch_of}
+use Rattle.mr_model.specs.Exchange.{Version, Second, Item, W, C, Header, Batch, is_header, is_in_version, is_item, is_batch, is_batch_of}
 use Rattle.mr_model.specs.Replica.{Replica, IsReplica, write_with, with_write, tentative}
 use Rattle.mr_model.specs.Kept.{dropped_in_order, kept_in_order}
 use Rattle.mr_model.specs.Taking.{Progress, take_item, take_items, take_write, take_commit, is_that_id, with_new_write, with_new_commit}
 use Rattle.mr_model.specs.Step.{after_items, step_unless, receive_under, receive_batch}
-use Rattle.mr_model.proofs.TakingKeeps.{IsItem, KeepsReplica, told_item, item_keeps}
+use Rattle.mr_model.proofs.TakingKeeps.{IsItem, KeepsReplica, versions_item, item_keeps}
 use Rattle.mr_model.proofs.TwinChanges.{dropped-add_write}
 use Rattle.mr_model.proofs.Fronts.{take-front}
 use Rattle.mr_model.proofs.DroppedApart.{kept_committed}
@@ -96,22 +96,22 @@ commit-brings line p q n id sound small e = go (commit_verdict line (summary_of 
     go (Ok false) j = subst (Brings p) (ok_inj p q (sym j ∙ e)) (brings-none p)
     go (Err x) j = absurd (err≢ok (refusal_of x) q (sym j ∙ e))
 
-item-brings : (line : ℕ) (p q : Progress) (x : Item) → IsReplica p.replica → IsTrue (is_item x) → take_item line p x ≡ Ok q → Brings p q
-item-brings line p q (W w) sound good e = write-brings line p q w sound (told_item (W w) good) e
+item-brings : (line : ℕ) (p q : Progress) (x : Item) → IsReplica p.replica → IsTrue (is_item Second x) → take_item line p x ≡ Ok q → Brings p q
+item-brings line p q (W w) sound good e = write-brings line p q w sound (versions_item Second (W w) good) e
 item-brings line p q (C n id) sound good e = commit-brings line p q n id sound (let g = good in grind (arith, nat_tests)) e
 
-pub item-within : (x : Item) → IsTrue (is_item x) → IsItem x
-item-within x h = told_item x h
+pub item-within : (x : Item) → IsTrue (is_item Second x) → IsItem x
+item-within x h = versions_item Second x h
 
 -- what items bring one after the other
-pub items-bring : (items : List Item) (line : ℕ) (p q : Progress) → IsReplica p.replica → list_all is_item items ≡ true → take_items items line (Ok p) ≡ Ok q → Brings p q
+pub items-bring : (items : List Item) (line : ℕ) (p q : Progress) → IsReplica p.replica → list_all (is_item Second) items ≡ true → take_items items line (Ok p) ≡ Ok q → Brings p q
 items-bring [] line p q sound good e = subst (Brings p) (ok_inj p q e) (brings-none p)
 items-bring (x ∷ xs) line p q sound good e = go (take_item line p x) refl e (λ m. items-bring xs (line + 1) m q)
   where
-    parts : (is_item x ≡ true) × (list_all is_item xs ≡ true)
-    parts = and_parts (is_item x) (list_all is_item xs) good
+    parts : (is_item Second x ≡ true) × (list_all (is_item Second) xs ≡ true)
+    parts = and_parts (is_item Second x) (list_all (is_item Second) xs) good
 
-    go : (o : Result Progress model.Refusal) → take_item line p x ≡ o → take_items xs (line + 1) o ≡ Ok q → ((m : Progress) → IsReplica m.replica → list_all is_item xs ≡ true → take_items xs (line + 1) (Ok m) ≡ Ok q → Brings m q) → Brings p q
+    go : (o : Result Progress model.Refusal) → take_item line p x ≡ o → take_items xs (line + 1) o ≡ Ok q → ((m : Progress) → IsReplica m.replica → list_all (is_item Second) xs ≡ true → take_items xs (line + 1) (Ok m) ≡ Ok q → Brings m q) → Brings p q
     go (Ok m) t f rest = brings-more p m q (item-brings line p m x sound parts.0 t) (rest m (subst KeepsReplica t (item_keeps line p x sound (item-within x parts.0))) parts.1 f)
     go (Err r) t f rest = absurd (err≢ok r q f)
 
@@ -120,10 +120,10 @@ drop_at [] k x h e = absurd (omega arith)
 drop_at (y ∷ ys) zero x h e = ap (λ z. z ∷ ys) (sym e)
 drop_at (y ∷ ys) (suc k) x h e = drop_at ys k x (omega arith) e
 
-pub all_at : (xs : List Item) (k : ℕ) (x : Item) → k < length xs → x ≡ get_or xs k x → list_all is_item xs ≡ true → is_item x ≡ true
+pub all_at : (xs : List Item) (k : ℕ) (x : Item) → k < length xs → x ≡ get_or xs k x → list_all (is_item Second) xs ≡ true → is_item Second x ≡ true
 all_at [] k x h e all = absurd (omega arith)
-all_at (y ∷ ys) zero x h e all = ap is_item e ∙ (and_parts (is_item y) (list_all is_item ys) all).0
-all_at (y ∷ ys) (suc k) x h e all = all_at ys k x (omega arith) e (and_parts (is_item y) (list_all is_item ys) all).1
+all_at (y ∷ ys) zero x h e all = ap (is_item Second) e ∙ (and_parts (is_item Second y) (list_all (is_item Second) ys) all).0
+all_at (y ∷ ys) (suc k) x h e all = all_at ys k x (omega arith) e (and_parts (is_item Second y) (list_all (is_item Second) ys) all).1
 
 pub drop_none : (xs : List Item) (n : ℕ) → length xs ≤ n → drop n xs ≡ []
 drop_none [] zero g = refl
@@ -131,9 +131,22 @@ drop_none [] (suc n) g = refl
 drop_none (y ∷ ys) zero g = absurd (omega arith)
 drop_none (y ∷ ys) (suc n) g = drop_none ys n (omega arith)
 
--- the items of a batch that has a header are within the limits
-pub items_good : (b : Batch) (h : Header) (items : List Item) → b.header ≡ Some h → items ≡ b.items → IsTrue (is_batch b) → list_all is_item items ≡ true
-items_good b h items header same within = ap (list_all is_item) same ∙ (and_parts (is_header h) (list_all is_item b.items) (subst (λ o. IsTrue (is_batch_of o b.items b.ending)) header within)).1
+-- an item of one version is one of the second, which has all
+in_second : (v : Version) (x : Item) → is_item v x ≡ true → is_item Second x ≡ true
+in_second v (W w) h = and_from (is_write w) true (and_parts (is_write w) (is_in_version v w) h).0 refl
+in_second v (C seq id) h = h
+
+all_in_second : (v : Version) (xs : List Item) → list_all (is_item v) xs ≡ true → list_all (is_item Second) xs ≡ true
+all_in_second v [] h = refl
+all_in_second v (x ∷ xs) h =
+    let p = and_parts (is_item v x) (list_all (is_item v) xs) h in
+    and_from (is_item Second x) (list_all (is_item Second) xs) (in_second v x p.0) (all_in_second v xs p.1)
+
+-- the items of a batch that has a header are within the limits, whatever its version
+pub items_good : (b : Batch) (h : Header) (items : List Item) → b.header ≡ Some h → items ≡ b.items → IsTrue (is_batch b) → list_all (is_item Second) items ≡ true
+items_good b h items header same within =
+    ap (list_all (is_item Second)) same
+    ∙ all_in_second b.version b.items (and_parts (is_header h) (list_all (is_item b.version) b.items) (subst (λ o. IsTrue (is_batch_of b.version o b.items b.ending)) header within)).1
 
 -- a primary that is found to be no other
 pub own_primary : (x p q : ℕ) (other : Bool) → other ≡ not (x == p) → other ≡ false → p ≡ q → (x == q) ≡ true

@@ -6,7 +6,7 @@ use Rattle.std.proofs.lemmas.Bool.Decides.{nat_tests}
 use Rattle.std.proofs.lemmas.List.{length-map}
 use Rattle.mr_model.specs.Texts.{Text, only_if}
 use Rattle.mr_model.specs.Dropped.{Has}
-use Rattle.mr_model.specs.Exchange.{Item, Header, Batch, is_item}
+use Rattle.mr_model.specs.Exchange.{Second, Item, Header, Batch, is_item}
 use Rattle.mr_model.specs.Kept.{kept_in_order}
 use Rattle.mr_model.specs.Refusals as model
 use Rattle.mr_model.specs.Replica.{Replica, IsReplica}
@@ -49,7 +49,7 @@ item_at [] k x h e = absurd (omega arith)
 item_at (y ∷ ys) zero x h e = inl e
 item_at (y ∷ ys) (suc k) x h e = inr (item_at ys k x (omega arith) e)
 
-pub inside-next : (a : Replica) (inside : Write → Bool) (items : List Item) (k : ℕ) (x : Item) (p : Progress) (c new : Candidate) → k < length items → x ≡ get_or items k x → IsTrue (list_all is_item items) → (at : IsAtInside a inside items k p c) → TakesPicked a inside (take_item (2 + k) at.progress x) (Ok tt) new → IsAtInside a inside items (suc k) p new
+pub inside-next : (a : Replica) (inside : Write → Bool) (items : List Item) (k : ℕ) (x : Item) (p : Progress) (c new : Candidate) → k < length items → x ≡ get_or items k x → IsTrue (list_all (is_item Second) items) → (at : IsAtInside a inside items k p c) → TakesPicked a inside (take_item (2 + k) at.progress x) (Ok tt) new → IsAtInside a inside items (suc k) p new
 inside-next a inside items k x p c new h e all at t =
     let good = all_at items k x h e all in
     let line : 2 + k + 1 ≡ 2 + suc k = omega arith in
@@ -81,6 +81,6 @@ taken-all a inside c p rooms kept shows rooms_are kept_are =
     record { summary = shows.summary; rooms = rooms_are; kept = kept_are; writes = omega (arith, size, was); marks = shows.marks }
 
 -- items within the limits, one by one
-pub all_within : (items : List Item) → list_all is_item items ≡ true → AllByRecursion IsItem items
+pub all_within : (items : List Item) → list_all (is_item Second) items ≡ true → AllByRecursion IsItem items
 all_within [] good = tt
-all_within (x ∷ xs) good = let p = and_parts (is_item x) (list_all is_item xs) good in (item-within x p.0, all_within xs p.1)
+all_within (x ∷ xs) good = let p = and_parts (is_item Second x) (list_all (is_item Second) xs) good in (item-within x p.0, all_within xs p.1)

@@ -2,7 +2,7 @@ ghost use Rattle.std.specs.Prelude.{◌≡◌, ◌||◌, ◌<◌, ◌+◌, ◌^�
 ghost use Rattle.std.specs.Option.{option_map};
 ghost use Rattle.std.specs.List.{list_all};
 ghost use Rattle.mr_model.specs.Dropped.{Has};
-ghost use Rattle.mr_model.specs.Exchange.{is_item, Item as ItemOfBatch};
+ghost use Rattle.mr_model.specs.Exchange.{Second, is_item, Item as ItemOfBatch};
 ghost use Rattle.mr_model.specs.Kept.{kept_in_order};
 ghost use Rattle.mr_model.specs.Replica.{Replica, IsReplica};
 ghost use Rattle.mr_model.specs.Tables.{seq_of};
@@ -64,7 +64,7 @@ pub fn reached_with(
     marks: &[u64],
     items: &[Item],
 ) -> Result<Reached, Refusal>
-    ensures takes { (a : Replica) (inside : WriteOfReplica → Bool) → IsReplica a → IsTrue (list_all is_item (map item_of items.now)) → length items.now + 2 < 2 ^ 64
+    ensures takes { (a : Replica) (inside : WriteOfReplica → Bool) → IsReplica a → IsTrue (list_all (is_item Second) (map item_of items.now)) → length items.now + 2 < 2 ^ 64
         → Covers a (map item_of items.now) inside → summary ≡ summary_of a → rooms.now ≡ a.rooms → kept.items ≡ filter inside (kept_in_order a)
         → marks.now ≡ map (seq_of a) kept.items → TakenPicked a inside (take_items (map item_of items.now) 2 (Ok (nothing_taken a))) result }
     ensures own { NeverStore result }
@@ -100,7 +100,7 @@ impl Candidate {
 
     /// Takes these items, the first of which stands in line 2, or tells why the batch is refused.
     fn take_all(&mut self, items: &[Item]) -> Result<(), Refusal>
-        ensures takes { (a : Replica) (inside : WriteOfReplica → Bool) (p : Progress) → IsReplica p.replica → IsTrue (list_all is_item (map item_of items.now))
+        ensures takes { (a : Replica) (inside : WriteOfReplica → Bool) (p : Progress) → IsReplica p.replica → IsTrue (list_all (is_item Second) (map item_of items.now))
             → length items.now + 2 < 2 ^ 64 → Covers a (map item_of items.now) inside → ShowsTaken a inside self.old p
             → TakesPicked a inside (take_items (map item_of items.now) 2 (Ok p)) result self.new }
         ensures own { NeverStore result }

@@ -9,8 +9,8 @@ use mr_base::{Batch, LineCount, Position, Refusal};
 
 impl Desk {
     /// What a replica at this position lacks: the commits above its own, each behind its write where that is lacked, then
-    /// the tentative writes that it lacks, so many lines at most. It is refused where one of the commits is dropped, and where
-    /// the exchange text can't say one of these writes.
+    /// the tentative writes that it lacks, so many lines at most, in the position's version. It is refused where one of the commits
+    /// is dropped, and where that version can't say one of these writes, which the second always can.
     pub fn batch(&self, position: &Position, max_lines: LineCount) -> Result<Batch, Refusal>
         ensures step { TakesStep (λ a. leave a (batch_reply a position.now max_lines)) (λ _ batch. BatchIs batch) self.now result self.now }
         // A refusal that is due is told without memory.
@@ -31,6 +31,6 @@ impl Desk {
             position,
             max_lines,
         )?;
-        outgoing.into_batch(self.summary.server, self.summary.primary)
+        outgoing.into_batch(position.version, self.summary.server, self.summary.primary)
     }
 }

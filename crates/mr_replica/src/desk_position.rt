@@ -4,10 +4,11 @@ ghost use Rattle.mr_model.specs.Step.{leave};
 ghost use Rattle.mr_replica.specs.Desk.{TakesStep, NeverStore, IsWithinLimits};
 
 use crate::Desk;
-use mr_base::{Position, Refusal};
+use mr_base::{Position, Refusal, Version};
 
 impl Desk {
-    /// How far the replica's knowledge goes. Numbers beyond the limits, which no replica has, are refused as the store's.
+    /// How far the replica's knowledge goes, in the second version, so that it asks for batches that can say every write. Numbers
+    /// beyond the limits, which no replica has, are refused as the store's.
     pub fn position(&self) -> Result<Position, Refusal>
         ensures step { TakesStep (λ a. leave a (PositionIs (position_of a))) (λ _ position. PositionIs position) self.now result self.now }
         ensures own { IsWithinLimits self.now → NeverStore result }
@@ -16,8 +17,13 @@ impl Desk {
         let summary = &self.summary;
         summary.server.number();
         summary.primary.number();
-        Position::new(summary.server, summary.primary, summary.commits, counts).ok_or(
-            Refusal::Store,
+        Position::new(
+            Version::Second,
+            summary.server,
+            summary.primary,
+            summary.commits,
+            counts,
         )
+        .ok_or(Refusal::Store)
     }
 }

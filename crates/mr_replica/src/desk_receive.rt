@@ -1,6 +1,6 @@
 ghost use Rattle.std.specs.Prelude.{◌≡◌, ◌≢◌, ◌+◌, ◌<◌, ◌^◌, List, IsTrue, Ok, Err, Some, map, filter, length, OnOk, OnErr, IfOk, IfErr};
 ghost use Rattle.std.specs.List.{list_all};
-ghost use Rattle.mr_model.specs.Exchange.{is_item, Header, Item as ItemOfBatch};
+ghost use Rattle.mr_model.specs.Exchange.{Second, is_item, Header, Item as ItemOfBatch};
 ghost use Rattle.mr_model.specs.Kept.{kept_in_order};
 ghost use Rattle.mr_model.specs.Moving.{again};
 ghost use Rattle.mr_model.specs.Replica.{Replica, IsReplica, is_among};
@@ -75,9 +75,9 @@ impl Desk {
 
     /// Takes the items of a batch, all or none.
     fn take_items(&mut self, items: &[Item]) -> Result<(u64, u64, Change), Refusal>
-        ensures step { IsTrue (list_all is_item (map item_of items.now)) → length items.now + 2 < 2 ^ 64
+        ensures step { IsTrue (list_all (is_item Second) (map item_of items.now)) → length items.now + 2 < 2 ^ 64
             → TakesStep (λ a. after_items a (take_items (map item_of items.now) 2 (Ok (nothing_taken a)))) (λ _ taken. Took taken.0 taken.1) self.old result self.new }
-        ensures change { IsTrue (list_all is_item (map item_of items.now)) → length items.now + 2 < 2 ^ 64
+        ensures change { IsTrue (list_all (is_item Second) (map item_of items.now)) → length items.now + 2 < 2 ^ 64
             → TurnsTables (λ taken. taken.2) self.old result self.new }
         ensures err { OnErr result (self.new ≡ self.old) }
         ensures own { NeverStore result }
@@ -105,7 +105,7 @@ impl Desk {
 
     /// What the desk is with all items, or why the batch is refused. Its kept writes have these commit numbers.
     fn reached(&self, items: &[Item], marks: &[u64]) -> Result<Reached, Refusal>
-        ensures takes { IsTrue (list_all is_item (map item_of items.now)) → length items.now + 2 < 2 ^ 64
+        ensures takes { IsTrue (list_all (is_item Second) (map item_of items.now)) → length items.now + 2 < 2 ^ 64
             → (a : Replica) → IsReplica a → StandsFor self.now a → marks.now ≡ map (seq_of a) (kept_in_order a)
             → TakenPicked a all_writes (take_items (map item_of items.now) 2 (Ok (nothing_taken a))) result }
         ensures own { NeverStore result }

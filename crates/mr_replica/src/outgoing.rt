@@ -6,10 +6,12 @@ ghost use Rattle.mr_model.specs.Step.{lacks};
 ghost use Rattle.mr_base.specs.Positions.{counts_of};
 ghost use Rattle.mr_base.specs.Answers.{ok_if};
 ghost use Rattle.mr_base.specs.Batches.{item_of, batch_of};
+ghost use Rattle.mr_base.specs.Versions.{version_of};
 ghost use Rattle.mr_replica.specs.Outgoing.{Offers, committed_items, lacked_items, kept_items, ending_by};
 
 use mr_base::{
-    Batch, CommitNumber, Ending, Item, LineCount, Position, Refusal, ServerId, Write, WriteId,
+    Batch, CommitNumber, Ending, Item, LineCount, Position, Refusal, ServerId, Version, Write,
+    WriteId,
 };
 use mr_tables::summary::Summary;
 use std::alloc::Global;
@@ -37,17 +39,22 @@ impl Outgoing {
         }
     }
 
-    /// The batch of these items, which `from` makes, if the exchange text can say each of them.
-    pub fn into_batch(self, from: ServerId, primary: ServerId) -> Result<Batch, Refusal>
-        ensures { result ≡ ok_if (list_all is_item (map item_of self.items.items))
-            (batch_of (Some (from, primary)) self.items.items (ending_by self.more)) Refusal.NeedsVersion2 }
+    /// The batch of these items, which `from` makes, if this version of the exchange text can say each of them.
+    pub fn into_batch(
+        self,
+        version: Version,
+        from: ServerId,
+        primary: ServerId,
+    ) -> Result<Batch, Refusal>
+        ensures { result ≡ ok_if (list_all (is_item (version_of version)) (map item_of self.items.items))
+            (batch_of version (Some (from, primary)) self.items.items (ending_by self.more)) Refusal.NeedsVersion2 }
     {
         let ending = if self.more {
             Ending::More
         } else {
             Ending::Complete
         };
-        Batch::new(from, primary, self.items, ending)
+        Batch::new(version, from, primary, self.items, ending)
     }
 
     /// One item more: a write.

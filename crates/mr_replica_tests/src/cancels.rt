@@ -1,6 +1,6 @@
 // Cancels at desks and at parts: what each call answers, and which rows it puts.
 
-use crate::desks::{Ask, Call, NO_ERROR, NONE, NOTHING, Put, Told, answer, opening, puts};
+use crate::desks::{Ask, Call, Line, NO_ERROR, NONE, NOTHING, Put, Told, answer, opening, puts};
 use crate::tables::{Rows, tables};
 use crate::tests::{OPENING, TAKEN_BACK};
 use mr_base::{Item, Refusal, RoomName, WriteId};
@@ -51,7 +51,20 @@ const NOTHING_TAKEN: Taken = (NONE, (0, 0), false, NO_CANCEL);
 /// A call of a server's desk, what it answers, and which rows it puts.
 type Row = (usize, Call, Result<Told, Refusal>, Put, Taken);
 
-static CASES: [(&str, &[Row]); 4] = [
+const LATE: Ask = Ask {
+    title: "Late",
+    length: 30,
+    wish: 540,
+    other: None,
+};
+
+/// A cancel of server 1, of a booking of server 2 that hasn't come.
+const CANCEL_FIRST: &[Line] = &[Line::X(1, 1, 1, 2, 1)];
+
+/// That booking.
+const BOOKING_THEN: &[Line] = &[Line::W(2, 1, 2, LATE)];
+
+static CASES: [(&str, &[Row]); 5] = [
     // A tentative cancel takes a committed booking back, and its slot is free.
     (
         "a booking is taken back",
@@ -108,18 +121,97 @@ static CASES: [(&str, &[Row]); 4] = [
                 NOTHING,
                 NOTHING_TAKEN,
             ),
+            // The first version can say what stands in front of the cancel.
             (
                 2,
-                Call::HandOver(1, 10),
+                Call::HandOverFirst(1, 4),
                 Err(Refusal::NeedsVersion2),
                 NOTHING,
                 NOTHING_TAKEN,
             ),
             (
                 2,
-                Call::HandOver(1, 3),
+                Call::HandOverFirst(1, 3),
                 Ok((2, 1)),
                 ((1, 1, 540), (1, 2, 600), NO_ERROR),
+                NOTHING_TAKEN,
+            ),
+            // The second can say all of it.
+            (
+                2,
+                Call::HandOver(1, 1),
+                Ok((1, 0)),
+                NOTHING,
+                ((1, 1, 540), (1, 3), true, (1, 3, true, 0)),
+            ),
+            // The booking behind the cancel isn't the last line.
+            (
+                2,
+                Call::HandOverFirst(1, 10),
+                Err(Refusal::NeedsVersion2),
+                NOTHING,
+                NOTHING_TAKEN,
+            ),
+            (
+                2,
+                Call::HandOverFirst(1, 1),
+                Ok((1, 0)),
+                ((1, 4, 540), NONE, NO_ERROR),
+                NOTHING_TAKEN,
+            ),
+            (
+                2,
+                Call::HandOver(1, 10),
+                Ok((1, 0)),
+                NOTHING,
+                (NONE, (0, 0), false, (1, 5, false, 0)),
+            ),
+            (
+                2,
+                Call::HandOverFirst(1, 10),
+                Ok((0, 0)),
+                NOTHING,
+                NOTHING_TAKEN,
+            ),
+        ],
+    ),
+    // What comes behind a cancel of it stands. The first version can say it to one that has the cancel.
+    (
+        "a cancel comes before its booking",
+        &[
+            (
+                3,
+                Call::Receive(1, CANCEL_FIRST),
+                Ok((1, 0)),
+                NOTHING,
+                (NONE, (0, 0), false, (1, 1, false, 0)),
+            ),
+            (
+                3,
+                Call::Receive(1, BOOKING_THEN),
+                Ok((1, 0)),
+                ((2, 1, 540), NONE, NO_ERROR),
+                NOTHING_TAKEN,
+            ),
+            (
+                4,
+                Call::HandOverFirst(3, 1),
+                Err(Refusal::NeedsVersion2),
+                NOTHING,
+                NOTHING_TAKEN,
+            ),
+            (
+                4,
+                Call::HandOver(3, 1),
+                Ok((1, 0)),
+                NOTHING,
+                (NONE, (0, 0), false, (1, 1, false, 0)),
+            ),
+            (
+                4,
+                Call::HandOverFirst(3, 10),
+                Ok((1, 0)),
+                ((2, 1, 540), NONE, NO_ERROR),
                 NOTHING_TAKEN,
             ),
         ],

@@ -3,8 +3,8 @@
 
 use crate::tables::{Rows, tables};
 use mr_base::{
-    Alternatives, Batch, CommitNumber, Day, Ending, Item, LineCount, Refusal, Request, RoomName,
-    ServerId, Slot, Stamp, Write, WriteId,
+    Alternatives, Batch, CommitNumber, Day, Ending, Item, LineCount, Position, Refusal, Request,
+    RoomName, ServerId, Slot, Stamp, Version, Write, WriteId,
 };
 use mr_replica::Desk;
 use mr_tables::Change;
@@ -21,10 +21,12 @@ pub(crate) struct Ask {
     pub other: Option<u32>,
 }
 
-/// A line of a batch: a write with its server, its number and its time, or a commit with its number and the write's.
+/// A line of a batch: a booking with its server, its number and its time; a cancel with the same, and the server and the number of
+/// what it cancels; or a commit with its number and the write's.
 #[derive(Clone, Copy)]
 pub(crate) enum Line {
     W(u32, u32, u64, Ask),
+    X(u32, u32, u64, u32, u32),
     C(u64, u32, u32),
 }
 
@@ -37,10 +39,13 @@ pub(crate) enum Call {
     Submit(Ask),
     /// A cancel of that server's write with that number.
     Cancel(u32, u32),
-    /// A batch for the replicas of that primary, or one without a header or a line where that is 0.
+    /// A batch for the replicas of that primary, or one without a header or a line where that is 0. It is of the first version
+    /// where that can say its lines.
     Receive(u32, &'static [Line]),
     /// What this desk lacks of that server's, so many lines at most.
     HandOver(usize, u32),
+    /// The same in the first version.
+    HandOverFirst(usize, u32),
     Commit(u64),
     Truncate(u64),
     Position,
@@ -79,12 +84,17 @@ fn request(alloc: Global, ask: Ask) -> Result<Request, Refusal> {
 }
 
 fn item(alloc: Global, line: Line) -> Result<Item, Refusal> {
-    let (Line::W(number, n, _, _) | Line::C(_, number, n)) = line;
+    let (Line::W(number, n, _, _) | Line::X(number, n, _, _, _) | Line::C(_, number, n)) = line;
     let id = WriteId::new(server(number)?, n).ok_or(Refusal::NoSuchRequest)?;
     match line {
         Line::W(_, _, time, ask) => {
             let stamp = Stamp::new(id, time).ok_or(Refusal::ClockExhausted)?;
             Ok(Item::W(Write::of_request(stamp, request(alloc, ask)?)))
+        }
+        Line::X(_, _, time, of, which) => {
+            let stamp = Stamp::new(id, time).ok_or(Refusal::ClockExhausted)?;
+            let target = WriteId::new(server(of)?, which).ok_or(Refusal::NoSuchRequest)?;
+            Ok(Item::W(Write::cancel(stamp, RoomName::new(alloc, "oak")?, target)))
         }
         Line::C(seq, _, _) => {
             let seq = CommitNumber::new(seq).ok_or(Refusal::NoSuchRequest)?;
@@ -93,14 +103,26 @@ fn item(alloc: Global, line: Line) -> Result<Item, Refusal> {
     }
 }
 
-/// A batch that server 1 made.
+/// The version that can say the line, the first of both.
+fn version_of(line: &Line) -> Version {
+    match line {
+        Line::X(_, _, _, _, _) => Version::Second,
+        Line::W(_, _, _, _) | Line::C(_, _, _) => Version::First,
+    }
+}
+
+/// A batch that server 1 made, of the first version where that can say its lines.
 pub(crate) fn batch(alloc: Global, primary: u32, lines: &[Line]) -> Result<Batch, Refusal> {
     let mut items = Vec::new(alloc);
+    let mut version = Version::First;
     for line in lines {
+        if version_of(line) == Version::Second {
+            version = Version::Second;
+        }
         items.push(item(alloc, *line)?)?;
     }
     match ServerId::new(primary) {
-        Some(primary) => Batch::new(server(1)?, primary, items, Ending::Complete),
+        Some(primary) => Batch::new(version, server(1)?, primary, items, Ending::Complete),
         None => Ok(Batch::without_header(Vec::new(alloc))),
     }
 }
@@ -114,16 +136,36 @@ pub(crate) fn opening(alloc: Global) -> Result<Vec<Desk>, Refusal> {
     Ok(desks)
 }
 
+/// The desk's position as one of the first version.
+fn first_position(desk: &Desk) -> Result<Position, Refusal> {
+    let Position {
+        version: _,
+        server,
+        primary,
+        commits,
+        counts,
+    } = desk.position()?;
+    Position::new(Version::First, server, primary, commits, counts).ok_or(Refusal::Store)
+}
+
+/// The position by which the desk asks in the call.
+fn asking(desk: &Desk, call: Call) -> Result<Position, Refusal> {
+    match call {
+        Call::HandOverFirst(_, _) => first_position(desk),
+        _ => desk.position(),
+    }
+}
+
 /// The batch that the desk at this place receives by the call, which is empty where it receives none.
 fn brought(alloc: Global, desks: &[Desk], own: usize, call: Call) -> Result<Batch, Refusal> {
     match call {
         Call::Receive(primary, lines) => batch(alloc, primary, lines),
-        Call::HandOver(from, most) => match (
+        Call::HandOver(from, most) | Call::HandOverFirst(from, most) => match (
             desks.get(from),
             desks.get(own),
             LineCount::new(most),
         ) {
-            (Some(from), Some(own), Some(most)) => from.batch(&own.position()?, most),
+            (Some(from), Some(own), Some(most)) => from.batch(&asking(own, call)?, most),
             _ => Err(Refusal::NotAReplica),
         },
         _ => Ok(Batch::without_header(Vec::new(alloc))),
@@ -155,7 +197,7 @@ fn called(
             let (id, change) = desk.cancel(RoomName::new(alloc, "oak")?, target)?;
             Ok(((u64::from(id.n), 0), Some(change)))
         }
-        Call::Receive(_, _) | Call::HandOver(_, _) => {
+        Call::Receive(_, _) | Call::HandOver(_, _) | Call::HandOverFirst(_, _) => {
             let (writes, commits, change) = desk.receive(batch)?;
             Ok(((writes, commits), Some(change)))
         }

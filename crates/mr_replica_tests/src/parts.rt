@@ -20,7 +20,7 @@ const AT_TWO_ELSE_FOUR: Ask = Ask {
 /// A batch for the replicas of a primary, what a part answers to it, and which rows the change puts.
 type Case = (u32, &'static [Line], Result<Told, Refusal>, Put);
 
-static CASES: [Case; 7] = [
+static CASES: [Case; 9] = [
     (0, &[], Ok((0, 0)), NOTHING),
     (2, &[Line::C(2, 2, 1)], Err(Refusal::WrongPrimary), NOTHING),
     (1, &[Line::C(1, 3, 1)], Ok((0, 0)), NOTHING),
@@ -34,6 +34,9 @@ static CASES: [Case; 7] = [
         Ok((1, 0)),
         ((1, 1, 960), NONE, NO_ERROR),
     ),
+    // A cancel before what it is of, which is logged, and one behind what it takes back.
+    (1, &[Line::X(1, 1, 1, 2, 1)], Ok((1, 0)), NOTHING),
+    (1, &[Line::X(1, 1, 3, 3, 1)], Ok((1, 0)), NOTHING),
 ];
 
 fn received(alloc: Global, rows: &Rows, batch: &Batch) -> Result<(Told, Change), Refusal> {

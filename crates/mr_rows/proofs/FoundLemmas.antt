@@ -20,6 +20,7 @@ use Rattle.sqlite_schema.specs.declared.schema.Column.{Column}
 use Rattle.sqlite_schema.specs.declared.schema.Constraint.{Constraint}
 use Rattle.sqlite_schema.specs.declared.schema.Constraint.TheVariants.{Datatype, NotNull, Unique}
 use Rattle.sqlite_schema.specs.declared.schema.Index.{Index}
+use Rattle.sqlite_schema.specs.declared.schema.Schema.{Schema}
 use Rattle.sqlite_schema.specs.declared.schema.Table.{Table}
 use Rattle.sqlite.specs.declared.error.Error.{Error}
 use Rattle.sqlite.specs.Effect.{Database, IsDatabase}
@@ -135,10 +136,10 @@ counted (c ∷ columns) at r (v ∷ vs) same none typed present =
 
 -- ---- two rows of different rowids aren't of one key
 
-equal_numbers : (v w : Value) (a b : ℕ) → v ≡ Int (pos a) → w ≡ Int (pos b) → a ≡ b → equal Binary v w ≡ true
+pub equal_numbers : (v w : Value) (a b : ℕ) → v ≡ Int (pos a) → w ≡ Int (pos b) → a ≡ b → equal Binary v w ≡ true
 equal_numbers v w a b p q same = (λ i. equal Binary (p i) (q i)) ∙ equal_nat a b ∙ eq-eqb a b same
 
-equal_texts : (v w : Value) (a b : texts.Text) → v ≡ Text a → w ≡ Text b → a ≡ b → equal Binary v w ≡ true
+pub equal_texts : (v w : Value) (a b : texts.Text) → v ≡ Text a → w ≡ Text b → a ≡ b → equal Binary v w ≡ true
 equal_texts v w a b p q same = (λ i. equal Binary (p i) (q i)) ∙ equal_text a b ∙ (bytes_eq-Decides a b).1 same
 
 other_rowids : (a b : Value) → IsTrue (is_int a) → IsTrue (is_int b) → value_cmp a b ≡ Less → differ a b ≡ true
@@ -153,25 +154,25 @@ other_rowids (Real x) b h k low = absurd (let never = h in cc)
 other_rowids (Text t) b h k low = absurd (let never = h in cc)
 other_rowids (Blob t) b h k low = absurd (let never = h in cc)
 
--- What is computed of a table: its columns and the index of its key.
-record Ruled {R K : Type 0} (f : Form R K) : Type 1 where
-  listed : Has our_schema.tables f.table
-  keyless : f.table.key ≡ None
-  required : list_all (λ (c : Column). c.not_null) f.table.columns ≡ true
-  index : Index
-  indexed : Has our_schema.indexes index
-  guarding : guards index f.table ≡ true
-  agrees : (r s : Row) → IsRowOf f r → IsRowOf f s → f.key (f.row_in r) ≡ f.key (f.row_in s) → agree index.order index.columns r index.columns s ≡ true
+-- What is computed of a table under a schema: its columns and the index of its key.
+pub record Ruled (under : Schema) {R K : Type 0} (f : Form R K) : Type 1 where
+  pub listed : Has under.tables f.table
+  pub keyless : f.table.key ≡ None
+  pub required : list_all (λ (c : Column). c.not_null) f.table.columns ≡ true
+  pub index : Index
+  pub indexed : Has under.indexes index
+  pub guarding : guards index f.table ≡ true
+  pub agrees : (r s : Row) → IsRowOf f r → IsRowOf f s → f.key (f.row_in r) ≡ f.key (f.row_in s) → agree index.order index.columns r index.columns s ≡ true
 
-module _ {R K : Type 0} (f : Form R K) (ruled : Ruled f) (db : Trees) (sound : IsSound our_schema db) (shelf : IsShelf (db f.table.tree)) (read : AreStoredAs f db) where
+module _ {under : Schema} {R K : Type 0} (f : Form R K) (ruled : Ruled under f) (db : Trees) (sound : IsSound under db) (shelf : IsShelf (db f.table.tree)) (read : AreStoredAs f db) where
   abbrev rows : List Row
   rows = db f.table.tree
 
   -- each row keeps each rule
-  ruled_by : (rule : Constraint) (r : Row) → Has rows r → passes rule our_schema db f.table r ≡ true
+  ruled_by : (rule : Constraint) (r : Row) → Has rows r → passes rule under db f.table r ≡ true
   ruled_by rule r here =
-      all_has (λ row. passes rule our_schema db f.table row ≡ true) rows r
-      (all_has (λ (t : Table). AllByRecursion (λ row. passes rule our_schema db t row ≡ true) (db t.tree)) our_schema.tables f.table (sound.obeys.rules rule) ruled.listed) here
+      all_has (λ row. passes rule under db f.table row ≡ true) rows r
+      (all_has (λ (t : Table). AllByRecursion (λ row. passes rule under db t row ≡ true) (db t.tree)) under.tables f.table (sound.obeys.rules rule) ruled.listed) here
 
   keyed_by : (r : Row) → Has rows r → IsTrue (is_int (rowid r))
   keyed_by r here = all_has (λ row. IsTrue (is_int (rowid row))) rows r shelf.keyed here
@@ -197,7 +198,7 @@ module _ {R K : Type 0} (f : Form R K) (ruled : Ruled f) (db : Trees) (sound : I
       let order = ruled.index.order in
       let places = ruled.index.columns in
       let rule : (not (guards ruled.index f.table && clashes order places rows s)) ≡ true =
-      test_has (λ i. not (guards i f.table && clashes i.order i.columns rows s)) our_schema.indexes ruled.index (ruled_by Unique s at_s) ruled.indexed in
+      test_has (λ i. not (guards i f.table && clashes i.order i.columns rows s)) under.indexes ruled.index (ruled_by Unique s at_s) ruled.indexed in
       let clash : clashes order places rows s ≡ true =
       some_from (λ other. agree order places other places s && differ (rowid other) (rowid s)) rows r at_r
       (and_from (agree order places r places s) (differ (rowid r) (rowid s)) (ruled.agrees r s (row_of r at_r) (row_of s at_s) same) (other_rowids (rowid r) (rowid s) (keyed_by r at_r) (keyed_by s at_s) low)) in
@@ -208,12 +209,12 @@ module _ {R K : Type 0} (f : Form R K) (ruled : Ruled f) (db : Trees) (sound : I
   all_apart (r ∷ xs) inside up =
       (all_from (λ s. f.key (f.row_in r) ≡ f.key (f.row_in s) → ⊥) xs (λ s h. apart_from r s (inside r (inl refl)) (inside s (inr h)) (all_has (λ s. value_cmp (rowid r) (rowid s) ≡ Less) xs s up.0 h)), all_apart xs (λ s h. inside s (inr h)) up.1)
 
-  held : IsHeld f rows
+  pub held : IsHeld f rows
   held = record { shelf = shelf; whole = all_from (IsRowOf f) rows row_of; apart = all_apart rows (λ r h. h) shelf.rise }
 
 -- ---- each table
 
-meta_ruled : Ruled meta_form
+meta_ruled : Ruled our_schema meta_form
 unfolding first_key
 meta_ruled = record {
   listed = inl refl;
@@ -225,7 +226,7 @@ meta_ruled = record {
   agrees = λ r s a b same. and_from _ _ (equal_numbers (column r 1) (column s 1) 1 1 (ap (λ x. column x 1) a) (ap (λ x. column x 1) b) refl) refl;
 }
 
-room_ruled : Ruled room_form
+room_ruled : Ruled our_schema room_form
 unfolding first_key
 room_ruled = record {
   listed = inr (inl refl);
@@ -237,7 +238,7 @@ room_ruled = record {
   agrees = λ r s a b same. and_from _ _ (equal_texts (column r 1) (column s 1) _ _ (ap (λ x. column x 1) a) (ap (λ x. column x 1) b) same) refl;
 }
 
-vector_ruled : Ruled vector_form
+vector_ruled : Ruled our_schema vector_form
 unfolding first_key
 vector_ruled = record {
   listed = inr (inr (inl refl));
@@ -250,13 +251,13 @@ vector_ruled = record {
 }
 
 -- a key of two numbers
-ids_agree : (at bt : ℕ) (r s : Row) (x y : Id) → column r at ≡ Int (pos x.server) → column s at ≡ Int (pos y.server) → column r bt ≡ Int (pos x.n) → column s bt ≡ Int (pos y.n) → x ≡ y
+pub ids_agree : (at bt : ℕ) (r s : Row) (x y : Id) → column r at ≡ Int (pos x.server) → column s at ≡ Int (pos y.server) → column r bt ≡ Int (pos x.n) → column s bt ≡ Int (pos y.n) → x ≡ y
     → (equal Binary (column r at) (column s at) && (equal Binary (column r bt) (column s bt) && true)) ≡ true
 ids_agree at bt r s x y a b c d same =
     and_from _ _ (equal_numbers (column r at) (column s at) x.server y.server a b (ap (λ (i : Id). i.server) same))
     (and_from _ _ (equal_numbers (column r bt) (column s bt) x.n y.n c d (ap (λ (i : Id). i.n) same)) refl)
 
-booking_ruled : Ruled booking_form
+booking_ruled : Ruled our_schema booking_form
 unfolding first_key
 booking_ruled = record {
   listed = inr (inr (inr (inr (inr (inl refl)))));
@@ -269,7 +270,7 @@ booking_ruled = record {
       ids_agree 5 6 r s (booking_form.key (booking_form.row_in r)) (booking_form.key (booking_form.row_in s)) (ap (λ x. column x 5) a) (ap (λ x. column x 5) b) (ap (λ x. column x 6) a) (ap (λ x. column x 6) b) same;
 }
 
-error_ruled : Ruled error_form
+error_ruled : Ruled our_schema error_form
 unfolding first_key
 error_ruled = record {
   listed = inr (inr (inr (inr (inr (inr (inl refl))))));
@@ -282,7 +283,7 @@ error_ruled = record {
       ids_agree 5 6 r s (error_form.key (error_form.row_in r)) (error_form.key (error_form.row_in s)) (ap (λ x. column x 5) a) (ap (λ x. column x 5) b) (ap (λ x. column x 6) a) (ap (λ x. column x 6) b) same;
 }
 
-log_ruled : Ruled log_form
+log_ruled : Ruled our_schema log_form
 unfolding first_key
 log_ruled = record {
   listed = inr (inr (inr (inr (inr (inr (inr (inl refl)))))));
@@ -295,7 +296,7 @@ log_ruled = record {
       ids_agree 1 2 r s (log_form.key (log_form.row_in r)) (log_form.key (log_form.row_in s)) (ap (λ x. column x 1) a) (ap (λ x. column x 1) b) (ap (λ x. column x 2) a) (ap (λ x. column x 2) b) same;
 }
 
-cancelled_ruled : Ruled cancelled_form
+cancelled_ruled : Ruled our_schema cancelled_form
 unfolding first_key
 cancelled_ruled = record {
   listed = inr (inr (inr (inr (inr (inr (inr (inr (inl refl))))))));
@@ -308,7 +309,7 @@ cancelled_ruled = record {
       ids_agree 5 6 r s (cancelled_form.key (cancelled_form.row_in r)) (cancelled_form.key (cancelled_form.row_in s)) (ap (λ x. column x 5) a) (ap (λ x. column x 5) b) (ap (λ x. column x 6) a) (ap (λ x. column x 6) b) same;
 }
 
-cancel_ruled : Ruled cancel_form
+cancel_ruled : Ruled our_schema cancel_form
 unfolding first_key
 cancel_ruled = record {
   listed = inr (inr (inr (inr (inr (inr (inr (inr (inr (inl refl)))))))));

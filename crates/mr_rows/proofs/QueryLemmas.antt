@@ -4,6 +4,7 @@ use Rattle.sqlite_value.specs.Order.{Row}
 use Rattle.sqlite_trees.specs.Tree.{Trees}
 use Rattle.sqlite.specs.declared.error.Error.{Error}
 use Rattle.sqlite_schema.specs.declared.command.Returning.{Returning}
+use Rattle.sqlite_schema.specs.declared.schema.Schema.{Schema}
 use Rattle.sqlite.specs.Clock.{timed}
 use Rattle.sqlite.specs.Listing.{understood}
 use Rattle.sqlite.specs.State.{State, HasCleanDisk, IsUnchanged, IsRolledBack, Shown, ShowsRows, FailsToShow, FailsToQuery, IsNotRun, Survives, CommitsShowing}
@@ -12,12 +13,12 @@ use Rattle.sqlite.proofs.Callers.{IsPlain, never_commits}
 use Rattle.mr_rows.specs.Schema.{our_schema}
 use Rattle.sqlite.specs.Effect.{Database}
 use Rattle.mr_rows.specs.Kept.{IsKept, IsOurs}
-use Rattle.mr_rows.specs.Reads.{Reads, IsPlaced, Looks, ReadsWhere, IsInUse, ReadsInUse}
+use Rattle.mr_rows.specs.Reads.{Reads, IsPlacedIn, IsPlaced, Looks, ReadsWhere, IsInUse, ReadsInUse}
 
 placed : (s : State) → IsKept s → IsPlaced s
 placed s kept = record { schema = kept.ours.schema; settled = kept.settled }
 
-plain_here : (s : State) (sql : List ℕ) → IsPlaced s → IsPlain (understood our_schema sql) → IsPlain (understood s.now.schema sql)
+plain_here : {under : Schema} (s : State) (sql : List ℕ) → IsPlacedIn under s → IsPlain (understood under sql) → IsPlain (understood s.now.schema sql)
 plain_here s sql here plain = subst (λ schema. IsPlain (understood schema sql)) (sym here.schema) plain
 
 shown_same : (sql : List ℕ) (params : Row) (old new : State) (rows : List Row) → IsPlain (understood old.now.schema sql) → Shown sql params old new rows → IsUnchanged old new
@@ -34,7 +35,7 @@ fails_same sql params old new e plain (inr (c, it, shows)) =
     let none = (subst IsPlain it.is plain).0 in
     inl (subst (FailsToShow old new sql c (timed params c.formats it.now) e) none shows).3
 
-left_same : (old new : State) → IsPlaced old → IsTrue new.is_open → IsUnchanged old new ⊎ IsRolledBack old new → (new.now ≡ old.now) × (new.committed ≡ old.committed)
+left_same : {under : Schema} (old new : State) → IsPlacedIn under old → IsTrue new.is_open → IsUnchanged old new ⊎ IsRolledBack old new → (new.now ≡ old.now) × (new.committed ≡ old.committed)
 left_same old new here now (inl same) = (same.0.now_is, same.0.committed_is)
 left_same old new here now (inr back) = ((back.undone now).0 ∙ sym here.settled, (back.undone now).1)
 
@@ -58,7 +59,7 @@ fails_open sql params old new e (inr (c, it, shows)) now = by_returning c.return
     by_returning (Some what) (inl h) = h.1.0.was_open
     by_returning (Some what) (inr fails) = fails.3.was_open now
 
-module _ (sql : List ℕ) (params : Row) (old new : State) (plain : IsPlain (understood our_schema sql)) (Known : State → Type 0) (here : Known old → IsPlaced old) where
+module _ {under : Schema} (sql : List ℕ) (params : Row) (old new : State) (plain : IsPlain (understood under sql)) (Known : State → Type 0) (here : Known old → IsPlacedIn under old) where
   commits_none : Survives old new (CommitsShowing sql params old) → Survives old new (λ _. ¬ Known old)
   commits_none h = survives_weaker old new _ _ (λ _ db commits known. never_commits sql params old db (plain_here old sql (here known) plain) commits) h
 
@@ -102,15 +103,15 @@ clean_before s clean = let less = s.clean in omega (arith, less, clean)
 
 -- of a database of which this is known
 module _ (Known : State → Type 0) where
-  told_where : {X : Type 0} (old new : State) (r : Result X Error) (P Q : X → Type 0) → (Known old → (x : X) → P x → Q x) → ReadsWhere Known old new r P → ReadsWhere Known old new r Q
+  pub told_where : {X : Type 0} (old new : State) (r : Result X Error) (P Q : X → Type 0) → (Known old → (x : X) → P x → Q x) → ReadsWhere Known old new r P → ReadsWhere Known old new r Q
   told_where old new r P Q way h = (h.0, h.1, λ clean known. let told = h.2 clean known in (told.0, told_so r P Q (way known) told.1))
 
-  made_where : {X Y : Type 0} (old new : State) (x : X) (P : X → Type 0) (r : Result Y Error) (Q : Y → Type 0) → (Known old → P x → IfOk r Q) → ReadsWhere Known old new (Ok x) P → ReadsWhere Known old new r Q
+  pub made_where : {X Y : Type 0} (old new : State) (x : X) (P : X → Type 0) (r : Result Y Error) (Q : Y → Type 0) → (Known old → P x → IfOk r Q) → ReadsWhere Known old new (Ok x) P → ReadsWhere Known old new r Q
   made_where old new x P (Ok y) Q way h = (h.0, h.1, λ clean known. let told = h.2 clean known in (told.0, way known told.1))
   made_where old new x P (Err e) Q way h = (h.0, h.1, λ clean known. (tt, tt))
 
   -- a second read finds what the first found
-  then_where : {X Y : Type 0} (Later : State → Type 0) (a b c : State) → (Known a → IsTrue b.is_open → (b.now ≡ a.now) × (b.committed ≡ a.committed) → Later b)
+  pub then_where : {X Y : Type 0} (Later : State → Type 0) (a b c : State) → (Known a → IsTrue b.is_open → (b.now ≡ a.now) × (b.committed ≡ a.committed) → Later b)
       → (x : X) (P : X → Type 0) (r : Result Y Error) (Q : Database → Y → Type 0) (R : Y → Type 0)
       → (Known a → (y : Y) → P x → Q a.now y → R y) → ReadsWhere Known a b (Ok x) P → ReadsWhere Later b c r (Q b.now) → ReadsWhere Known a c r R
   then_where Later a b c still x P r Q R way p q =

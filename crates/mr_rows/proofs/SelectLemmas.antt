@@ -9,6 +9,7 @@ use Rattle.sqlite_rules.specs.Edit.{id_in}
 use Rattle.sqlite_sql.specs.Term.{Term, eval_all}
 use Rattle.sqlite_sql.specs.Program.{overlay}
 use Rattle.sqlite_schema.specs.declared.program.Program.{Program}
+use Rattle.sqlite_schema.specs.declared.schema.Schema.{Schema}
 use Rattle.sqlite.specs.Command.TheVariants.{Select}
 use Rattle.sqlite.specs.State.{State, Shown}
 use Rattle.sqlite.proofs.Callers.{reads_as}
@@ -26,7 +27,7 @@ use Rattle.mr_rows.specs.Shown.{columns_from}
 use Rattle.mr_rows.specs.Form.{Form, meta_form, room_form, vector_form, log_form, booking_form, error_form, cancelled_form, cancel_form}
 use Rattle.mr_rows.specs.Kept.{IsOurs, IsRowOf, IsHeld, in_order, tables_in}
 use Rattle.mr_rows.specs.Reads.{metas_in}
-use Rattle.mr_rows.proofs.Texts.{MeansQuery, program_of, all_meta_text, all_meta_is, meta_columns, meta_names, all_room_text, all_room_is, room_columns, room_names, all_vector_text, all_vector_is, vector_columns, vector_names, all_booking_text, all_booking_is, booking_columns, booking_names, all_error_text, all_error_is, error_columns, error_names, all_log_text, all_log_is, log_columns, log_names, all_cancelled_text, all_cancelled_is, cancelled_columns, cancelled_names, all_cancel_text, all_cancel_is, cancel_columns, cancel_names, key_log_text, key_log_is, log_key_tests, between_log_text, between_log_is, log_seq_tests, room_booking_text, room_booking_is, booking_room_tests, key_booking_text, key_booking_is, booking_key_tests, room_error_text, room_error_is, error_room_tests, key_error_text, key_error_is, error_key_tests, room_cancelled_text, room_cancelled_is, cancelled_room_tests, key_cancelled_text, key_cancelled_is, cancelled_key_tests, room_cancel_text, room_cancel_is, cancel_room_tests, key_cancel_text, key_cancel_is, cancel_key_tests, write_log_text, write_log_is, undo_text, undo_is, server_columns, server_names}
+use Rattle.mr_rows.proofs.Texts.{MeansQuery, MeansQueryIn, program_of, all_meta_text, all_meta_is, meta_columns, meta_names, all_room_text, all_room_is, room_columns, room_names, all_vector_text, all_vector_is, vector_columns, vector_names, all_booking_text, all_booking_is, booking_columns, booking_names, all_error_text, all_error_is, error_columns, error_names, all_log_text, all_log_is, log_columns, log_names, all_cancelled_text, all_cancelled_is, cancelled_columns, cancelled_names, all_cancel_text, all_cancel_is, cancel_columns, cancel_names, key_log_text, key_log_is, log_key_tests, between_log_text, between_log_is, log_seq_tests, room_booking_text, room_booking_is, booking_room_tests, key_booking_text, key_booking_is, booking_key_tests, room_error_text, room_error_is, error_room_tests, key_error_text, key_error_is, error_key_tests, room_cancelled_text, room_cancelled_is, cancelled_room_tests, key_cancelled_text, key_cancelled_is, cancelled_key_tests, room_cancel_text, room_cancel_is, cancel_room_tests, key_cancel_text, key_cancel_is, cancel_key_tests, write_log_text, write_log_is, undo_text, undo_is, server_columns, server_names}
 use Rattle.mr_rows.proofs.ValueLemmas.{equal_text, and_true, id_test, between_test}
 use Rattle.mr_rows.proofs.RowLemmas.{filter_all_true}
 use Rattle.mr_rows.proofs.FormLemmas.{shows}
@@ -34,7 +35,7 @@ use Rattle.mr_rows.proofs.TableLemmas.{Facts, finds_rows}
 use Rattle.mr_rows.proofs.TableFacts.{meta_facts, room_facts, vector_facts, log_facts, booking_facts, error_facts, cancelled_facts, cancel_facts}
 
 -- a query without tests shows the table
-shows_all : {R K : Type 0} (f : Form R K) (facts : Facts f) (text : List ℕ) (project : List Term) (names : List (List ℕ)) (old new : State) (rows : List Row)
+shows_all : {R K : Type 0} (f : Form R K) (facts : Facts our_schema f) (text : List ℕ) (project : List Term) (names : List (List ℕ)) (old new : State) (rows : List Row)
     → MeansQuery text (Select (program_of f.table.tree [] project) names) → ((r : Row) → IsRowOf f r → f.row_in (Null ∷ eval_all project ([] ∷ r ∷ [])) ≡ f.row_in r) → old.now.schema ≡ our_schema → IsHeld f (old.now.trees f.table.tree) → Shown text [] old new rows
     → IsPermutation (in_order f (old.now.trees f.table.tree)) (map (λ r. f.row_in (Null ∷ r)) rows)
 shows_all f facts text project names old new rows means reads schema held shown =
@@ -153,17 +154,17 @@ shows_key_cancel id old new rows ours shown =
 
 -- ---- the same of rows that may be any
 
-sees_tree : (tree : ℕ) → ((db : Trees) → overlay db [] tree ≡ db tree) → (text : List ℕ) (project : List Term) (names : List (List ℕ)) (old new : State) (rows : List Row)
-    → MeansQuery text (Select (program_of tree [] project) names) → old.now.schema ≡ our_schema → Shown text [] old new rows
+sees_tree : {under : Schema} (tree : ℕ) → ((db : Trees) → overlay db [] tree ≡ db tree) → (text : List ℕ) (project : List Term) (names : List (List ℕ)) (old new : State) (rows : List Row)
+    → MeansQueryIn under text (Select (program_of tree [] project) names) → old.now.schema ≡ under → Shown text [] old new rows
     → IsPermutation (map (λ r. eval_all project ([] ∷ r ∷ [])) (old.now.trees tree)) rows
-sees_tree tree alone text project names old new rows means schema h =
+sees_tree {under} tree alone text project names old new rows means schema h =
     let program : Program = program_of tree [] project in
-    let read = reads_as text [] old new our_schema schema (Select program names) means.0.0 means.0.1 means.1 rows h in
+    let read = reads_as text [] old new under schema (Select program names) means.0.0 means.0.1 means.1 rows h in
     let moved = shows tree [] project old.now.trees [] rows (alone old.now.trees) (read.answer Null) in
     subst (λ xs. IsPermutation (map (λ r. eval_all project ([] ∷ r ∷ [])) xs) rows) (filter_all_true _) moved
 
-sees : {R K : Type 0} (f : Form R K) (facts : Facts f) (text : List ℕ) (project : List Term) (names : List (List ℕ)) (old new : State) (rows : List Row)
-    → MeansQuery text (Select (program_of f.table.tree [] project) names) → old.now.schema ≡ our_schema → Shown text [] old new rows
+pub sees : {under : Schema} {R K : Type 0} (f : Form R K) (facts : Facts under f) (text : List ℕ) (project : List Term) (names : List (List ℕ)) (old new : State) (rows : List Row)
+    → MeansQueryIn under text (Select (program_of f.table.tree [] project) names) → old.now.schema ≡ under → Shown text [] old new rows
     → IsPermutation (map (λ r. eval_all project ([] ∷ r ∷ [])) (old.now.trees f.table.tree)) rows
 sees f facts = sees_tree f.table.tree facts.alone
 

@@ -64,7 +64,7 @@ number_less a b h = rw h
 tied : (a : ℕ) → nat_cmp a a ≡ Equal
 tied a = grind (arith)
 
-id_less : (a b : Id) → id_before a b ≡ true → id_cmp a b ≡ Less
+pub id_less : (a b : Id) → id_before a b ≡ true → id_cmp a b ≡ Less
 id_less a b h = go (id_before-true a b h)
   where
     go : IdBefore a b → id_cmp a b ≡ Less
@@ -85,7 +85,7 @@ name_less (c ∷ cs) (d ∷ ds) h = go (or_cases (nat_lt c d) (eqb c d && text_b
 
 -- ---- a table
 
-rising : {R K : Type 0} (before : K → K → Bool) (key : R → K) (cmp : R → R → Ordering) → ((a b : R) → before (key a) (key b) ≡ true → cmp a b ≡ Less) → (xs : List R) → InOrder before key xs → IsAscending (λ a b. cmp a b ≡ Less) xs
+pub rising : {R K : Type 0} (before : K → K → Bool) (key : R → K) (cmp : R → R → Ordering) → ((a b : R) → before (key a) (key b) ≡ true → cmp a b ≡ Less) → (xs : List R) → InOrder before key xs → IsAscending (λ a b. cmp a b ≡ Less) xs
 rising {R} {K} before key cmp less [] up = tt
 rising {R} {K} before key cmp less (x ∷ xs) up = (all xs up.0, rising before key cmp less xs up.1)
   where

@@ -32,7 +32,7 @@ marked : (c : Bool) → (nat_of (Int (mark c)) == 1) ≡ c
 marked true = refl
 marked false = refl
 
-placed : (p : Place) → place_in (place_number p) ≡ p
+pub placed : (p : Place) → place_in (place_number p) ≡ p
 placed (Taken k) = refl
 placed Logged = refl
 placed Done = refl

@@ -20,7 +20,7 @@ use Rattle.mr_rows.proofs.TableLemmas.{overlaid, Turns}
 apart : (a b : ℕ) → (a == b) ≡ false → a ≢ b
 apart a b e same = absurd (let own : (a == b) ≡ true = eq-eqb a b same in let never = sym own ∙ e in cc)
 
-none_of : (t : ℕ) (indexes : List Index) → list_all (λ i. not (i.tree == t)) indexes ≡ true → AllByRecursion (λ (i : Index). i.tree ≢ t) indexes
+pub none_of : (t : ℕ) (indexes : List Index) → list_all (λ i. not (i.tree == t)) indexes ≡ true → AllByRecursion (λ (i : Index). i.tree ≢ t) indexes
 none_of t [] e = tt
 none_of t (i ∷ indexes) e = let both = and_parts (not (i.tree == t)) (list_all (λ i. not (i.tree == t)) indexes) e in (apart i.tree t (not-true (i.tree == t) both.0), none_of t indexes both.1)
 
@@ -94,7 +94,7 @@ held_same a b same held = record {
 }
 
 -- where one table turns, the others stay
-step_of : {R K : Type 0} (f : Form R K) (old new : State) (xs : List R) (t : Tables) (turns : Turns f old new xs) → AreHeld (overlaid old.now.trees f.table.tree turns.rows) → tables_in (overlaid old.now.trees f.table.tree turns.rows) ≡ t
+step_of : {R K : Type 0} (f : Form R K) (old new : State) (xs : List R) (t : Tables) (turns : Turns our_schema f old new xs) → AreHeld (overlaid old.now.trees f.table.tree turns.rows) → tables_in (overlaid old.now.trees f.table.tree turns.rows) ≡ t
     → IsStep old new t
 step_of f old new xs t turns held tables = record {
   ours = record { schema = turns.schema; held = held_same _ _ turns.trees held };
@@ -103,7 +103,7 @@ step_of f old new xs t turns held tables = record {
   within = turns.within;
 }
 
-pub meta_step : (old new : State) (xs : List MetaRow) → IsOurs old.now → Turns meta_form old new xs → IsStep old new (record (tables_in old.now.trees) { meta = first_meta xs })
+pub meta_step : (old new : State) (xs : List MetaRow) → IsOurs old.now → Turns our_schema meta_form old new xs → IsStep old new (record (tables_in old.now.trees) { meta = first_meta xs })
 unfolding tables_in
 meta_step old new xs ours turns =
     let was = ours.held in
@@ -111,7 +111,7 @@ meta_step old new xs ours turns =
     (record { meta = turns.held; room = was.room; vector = was.vector; log = was.log; booking = was.booking; errorlog = was.errorlog; cancelled = was.cancelled; cancels = was.cancels; no_write_log = was.no_write_log; no_undo = was.no_undo })
     (ap (λ ys. record (tables_in old.now.trees) { meta = first_meta ys }) turns.rows_are)
 
-pub room_step : (old new : State) (xs : List Text) → IsOurs old.now → Turns room_form old new xs → IsStep old new (record (tables_in old.now.trees) { room = xs })
+pub room_step : (old new : State) (xs : List Text) → IsOurs old.now → Turns our_schema room_form old new xs → IsStep old new (record (tables_in old.now.trees) { room = xs })
 unfolding tables_in
 room_step old new xs ours turns =
     let was = ours.held in
@@ -119,7 +119,7 @@ room_step old new xs ours turns =
     (record { meta = was.meta; room = turns.held; vector = was.vector; log = was.log; booking = was.booking; errorlog = was.errorlog; cancelled = was.cancelled; cancels = was.cancels; no_write_log = was.no_write_log; no_undo = was.no_undo })
     (ap (λ ys. record (tables_in old.now.trees) { room = ys }) turns.rows_are)
 
-pub vector_step : (old new : State) (xs : List VectorRow) → IsOurs old.now → Turns vector_form old new xs → IsStep old new (record (tables_in old.now.trees) { vector = xs })
+pub vector_step : (old new : State) (xs : List VectorRow) → IsOurs old.now → Turns our_schema vector_form old new xs → IsStep old new (record (tables_in old.now.trees) { vector = xs })
 unfolding tables_in
 vector_step old new xs ours turns =
     let was = ours.held in
@@ -127,7 +127,7 @@ vector_step old new xs ours turns =
     (record { meta = was.meta; room = was.room; vector = turns.held; log = was.log; booking = was.booking; errorlog = was.errorlog; cancelled = was.cancelled; cancels = was.cancels; no_write_log = was.no_write_log; no_undo = was.no_undo })
     (ap (λ ys. record (tables_in old.now.trees) { vector = ys }) turns.rows_are)
 
-pub log_step : (old new : State) (xs : List LogRow) → IsOurs old.now → Turns log_form old new xs → IsStep old new (record (tables_in old.now.trees) { log = xs })
+pub log_step : (old new : State) (xs : List LogRow) → IsOurs old.now → Turns our_schema log_form old new xs → IsStep old new (record (tables_in old.now.trees) { log = xs })
 unfolding tables_in
 log_step old new xs ours turns =
     let was = ours.held in
@@ -135,7 +135,7 @@ log_step old new xs ours turns =
     (record { meta = was.meta; room = was.room; vector = was.vector; log = turns.held; booking = was.booking; errorlog = was.errorlog; cancelled = was.cancelled; cancels = was.cancels; no_write_log = was.no_write_log; no_undo = was.no_undo })
     (ap (λ ys. record (tables_in old.now.trees) { log = ys }) turns.rows_are)
 
-pub booking_step : (old new : State) (xs : List BookingRow) → IsOurs old.now → Turns booking_form old new xs → IsStep old new (record (tables_in old.now.trees) { booking = xs })
+pub booking_step : (old new : State) (xs : List BookingRow) → IsOurs old.now → Turns our_schema booking_form old new xs → IsStep old new (record (tables_in old.now.trees) { booking = xs })
 unfolding tables_in
 booking_step old new xs ours turns =
     let was = ours.held in
@@ -143,7 +143,7 @@ booking_step old new xs ours turns =
     (record { meta = was.meta; room = was.room; vector = was.vector; log = was.log; booking = turns.held; errorlog = was.errorlog; cancelled = was.cancelled; cancels = was.cancels; no_write_log = was.no_write_log; no_undo = was.no_undo })
     (ap (λ ys. record (tables_in old.now.trees) { booking = ys }) turns.rows_are)
 
-pub error_step : (old new : State) (xs : List ErrorRow) → IsOurs old.now → Turns error_form old new xs → IsStep old new (record (tables_in old.now.trees) { errorlog = xs })
+pub error_step : (old new : State) (xs : List ErrorRow) → IsOurs old.now → Turns our_schema error_form old new xs → IsStep old new (record (tables_in old.now.trees) { errorlog = xs })
 unfolding tables_in
 error_step old new xs ours turns =
     let was = ours.held in
@@ -151,7 +151,7 @@ error_step old new xs ours turns =
     (record { meta = was.meta; room = was.room; vector = was.vector; log = was.log; booking = was.booking; errorlog = turns.held; cancelled = was.cancelled; cancels = was.cancels; no_write_log = was.no_write_log; no_undo = was.no_undo })
     (ap (λ ys. record (tables_in old.now.trees) { errorlog = ys }) turns.rows_are)
 
-pub cancelled_step : (old new : State) (xs : List CancelledRow) → IsOurs old.now → Turns cancelled_form old new xs → IsStep old new (record (tables_in old.now.trees) { cancelled = xs })
+pub cancelled_step : (old new : State) (xs : List CancelledRow) → IsOurs old.now → Turns our_schema cancelled_form old new xs → IsStep old new (record (tables_in old.now.trees) { cancelled = xs })
 unfolding tables_in
 cancelled_step old new xs ours turns =
     let was = ours.held in
@@ -159,7 +159,7 @@ cancelled_step old new xs ours turns =
     (record { meta = was.meta; room = was.room; vector = was.vector; log = was.log; booking = was.booking; errorlog = was.errorlog; cancelled = turns.held; cancels = was.cancels; no_write_log = was.no_write_log; no_undo = was.no_undo })
     (ap (λ ys. record (tables_in old.now.trees) { cancelled = ys }) turns.rows_are)
 
-pub cancel_step : (old new : State) (xs : List CancelRow) → IsOurs old.now → Turns cancel_form old new xs → IsStep old new (record (tables_in old.now.trees) { cancels = xs })
+pub cancel_step : (old new : State) (xs : List CancelRow) → IsOurs old.now → Turns our_schema cancel_form old new xs → IsStep old new (record (tables_in old.now.trees) { cancels = xs })
 unfolding tables_in
 cancel_step old new xs ours turns =
     let was = ours.held in
@@ -175,7 +175,7 @@ keeps_then a b c p q = record { was_open = λ now. p.was_open (q.was_open now); 
 pub none_commits : (a b c : State) → Survives a b (λ _. ⊥) → Survives b c (λ _. ⊥) → Survives a c (λ _. ⊥)
 none_commits a b c = survives_then a b c (λ _. ⊥) (λ _. ⊥) (λ _. ⊥) (λ _ db none. none) (λ _ db none. none)
 
-clean_before : (a b : State) → Survives a b (λ _. ⊥) → HasCleanDisk b → HasCleanDisk a
+pub clean_before : (a b : State) → Survives a b (λ _. ⊥) → HasCleanDisk b → HasCleanDisk a
 clean_before a b s clean = let less = s.clean in omega (arith, less, clean)
 
 -- a step is made of those that are left

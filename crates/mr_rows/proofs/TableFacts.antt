@@ -19,6 +19,7 @@ use Rattle.mr_model.specs.Replica.{is_among}
 use Rattle.mr_model.specs.Tables.{MetaRow, VectorRow, ActionCells, OfMeeting, OfCancel, LogRow, BookingRow, ErrorRow, CancelledRow, CancelRow}
 use Rattle.mr_tables.proofs.Putting.{id_order, number_order, name_order}
 use Rattle.mr_rows.specs.Meaning.{passes}
+use Rattle.mr_rows.specs.Schema.{our_schema}
 use Rattle.mr_rows.specs.Cells.{mark, place_number, room_in, vector_in, log_in, booking_in, error_in, cancelled_in, cancel_in}
 use Rattle.mr_rows.specs.Form.{meta_form, room_form, vector_form, log_form, booking_form, error_form, cancelled_form, cancel_form}
 use Rattle.mr_rows.proofs.Texts.{put_meta_terms, put_room_terms, put_vector_terms, put_booking_terms, put_error_terms, put_log_terms, put_cancelled_terms, put_cancel_terms, meta_key_tests, room_key_tests, vector_key_tests, booking_key_tests, error_key_tests, log_key_tests, cancelled_key_tests, cancel_key_tests}
@@ -32,7 +33,7 @@ cast_meta v m same =
     rw (same, cast_int (pos m.server), cast_int (pos m.primary), cast_int (pos m.commits), cast_int (pos m.dropped), cast_int (pos m.clock))
     (let one = cast_int (pos 1) in let two = cast_int (pos 2) in λ i. v ∷ one i ∷ two i ∷ Int (pos m.server) ∷ Int (pos m.primary) ∷ Int (pos m.commits) ∷ Int (pos m.dropped) ∷ Int (pos m.clock) ∷ [])
 
-unfoldable pub meta_facts : Facts meta_form
+unfoldable pub meta_facts : Facts our_schema meta_form
 unfolding first_key
 meta_facts = record {
   order = number_order;
@@ -59,7 +60,7 @@ meta_facts = record {
 pub cast_room : (v : Value) (name : texts.Text) → cast Integer v ≡ v → cast_row room_form.table (v ∷ room_form.cells name) ≡ v ∷ room_form.cells name
 cast_room v name same = rw (same)
 
-unfoldable pub room_facts : Facts room_form
+unfoldable pub room_facts : Facts our_schema room_form
 unfolding first_key
 room_facts = record {
   order = name_order;
@@ -86,7 +87,7 @@ room_facts = record {
 pub cast_vector : (v : Value) (w : VectorRow) → cast Integer v ≡ v → cast_row vector_form.table (v ∷ vector_form.cells w) ≡ v ∷ vector_form.cells w
 cast_vector v w same = rw (same, cast_int (pos w.server), cast_int (pos w.count), cast_int (pos w.last_time), cast_int (pos w.committed))
 
-unfoldable pub vector_facts : Facts vector_form
+unfoldable pub vector_facts : Facts our_schema vector_form
 unfolding first_key
 vector_facts = record {
   order = number_order;
@@ -115,7 +116,7 @@ vector_facts = record {
 pub cast_booking : (v : Value) (b : BookingRow) → cast Integer v ≡ v → cast_row booking_form.table (v ∷ booking_form.cells b) ≡ v ∷ booking_form.cells b
 cast_booking v b same = rw (same, cast_int (pos b.start), cast_int (pos b.stop), cast_int (pos b.server), cast_int (pos b.n), cast_int (mark b.committed))
 
-unfoldable pub booking_facts : Facts booking_form
+unfoldable pub booking_facts : Facts our_schema booking_form
 unfolding first_key
 booking_facts = record {
   order = id_order;
@@ -142,7 +143,7 @@ booking_facts = record {
 pub cast_error : (v : Value) (e : ErrorRow) → cast Integer v ≡ v → cast_row error_form.table (v ∷ error_form.cells e) ≡ v ∷ error_form.cells e
 cast_error v e same = rw (same, cast_int (pos e.start), cast_int (pos e.stop), cast_int (pos e.server), cast_int (pos e.n), cast_int (pos e.time), cast_int (pos e.seq))
 
-unfoldable pub error_facts : Facts error_form
+unfoldable pub error_facts : Facts our_schema error_form
 unfolding first_key
 error_facts = record {
   order = id_order;
@@ -196,7 +197,7 @@ log_given w = go w.action
     go (OfMeeting m) = refl
     go (OfCancel t) = refl
 
-unfoldable pub log_facts : Facts log_form
+unfoldable pub log_facts : Facts our_schema log_form
 unfolding first_key
 log_facts = record {
   order = id_order;
@@ -224,7 +225,7 @@ pub cast_cancelled : (v : Value) (c : CancelledRow) → cast Integer v ≡ v →
 cast_cancelled v c same =
     rw (same, cast_int (pos c.start), cast_int (pos c.stop), cast_int (pos c.server), cast_int (pos c.n), cast_int (mark c.committed), cast_int (pos c.by.server), cast_int (pos c.by.n))
 
-unfoldable pub cancelled_facts : Facts cancelled_form
+unfoldable pub cancelled_facts : Facts our_schema cancelled_form
 unfolding first_key
 cancelled_facts = record {
   order = id_order;
@@ -252,7 +253,7 @@ pub cast_cancel : (v : Value) (c : CancelRow) → cast Integer v ≡ v → cast_
 cast_cancel v c same =
     rw (same, cast_int (pos c.server), cast_int (pos c.n), cast_int (pos c.target.server), cast_int (pos c.target.n), cast_int (mark c.done), cast_int (pos c.time), cast_int (pos c.seq))
 
-unfoldable pub cancel_facts : Facts cancel_form
+unfoldable pub cancel_facts : Facts our_schema cancel_form
 unfolding first_key
 cancel_facts = record {
   order = id_order;

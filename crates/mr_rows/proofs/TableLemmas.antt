@@ -12,6 +12,7 @@ use Rattle.sqlite_sql.specs.Term.{Term, col, eval_all}
 use Rattle.sqlite_sql.specs.Program.{overlay}
 use Rattle.sqlite_schema.specs.declared.schema.Keys.TheVariants.{Enforced}
 use Rattle.sqlite_schema.specs.declared.program.Program.{Program}
+use Rattle.sqlite_schema.specs.declared.schema.Schema.{Schema}
 use Rattle.sqlite_schema.specs.declared.command.Conflict.TheVariants.{Replace}
 use Rattle.sqlite_rules.specs.Lists.{Has}
 use Rattle.sqlite_rules.proofs.ListLemmas.{all_has, all_from, has_filtered}
@@ -31,17 +32,16 @@ use Rattle.sqlite.specs.State.{State, mode_of, ExecutesInside, Shown}
 use Rattle.sqlite.proofs.Callers.{statement_of, runs_as, reads_as}
 use Rattle.mr_tables.specs.Change.{put, put_all}
 use Rattle.mr_tables.proofs.Putting.{IsOrder}
-use Rattle.mr_rows.specs.Schema.{our_schema}
 use Rattle.mr_rows.specs.Meaning.{passes}
 use Rattle.mr_rows.specs.Form.{Form}
 use Rattle.mr_rows.specs.Kept.{IsRowOf, IsHeld, in_order}
-use Rattle.mr_rows.proofs.Texts.{Means, MeansQuery, program_of}
+use Rattle.mr_rows.proofs.Texts.{MeansIn, MeansQueryIn, program_of}
 use Rattle.mr_rows.proofs.RowLemmas.{shelf_filter, shelf_push, next_above, ascending_push}
 use Rattle.mr_rows.proofs.FormLemmas.{deletes, upserts, shows, Leaves}
 use Rattle.mr_rows.proofs.KeyOrder.{Apart, ordered-filter, ordered-put, ordered_same}
 
--- What is computed of a table: how a statement finds the rows of a key, and how it makes a row of parameters.
-pub record Facts {R K : Type 0} (f : Form R K) : Type 1 where
+-- What is computed of a table under a schema: how a statement finds the rows of a key, and how it makes a row of parameters.
+pub record Facts (under : Schema) {R K : Type 0} (f : Form R K) : Type 1 where
   pub order : IsOrder K f.before
   -- its place in the schema
   pub place : ℕ
@@ -58,33 +58,33 @@ pub record Facts {R K : Type 0} (f : Form R K) : Type 1 where
   pub given : (x : R) → value_rows (stamped f.table (f.cells x)) width (length terms / width) terms ≡ (Null ∷ f.cells x) ∷ []
   pub fresh : (x : R) → cast_row f.table (mended Replace f.table (Null ∷ f.cells x)) ≡ Null ∷ f.cells x
   pub fits : (x : R) (id : ℤ) → cast_row f.table (Int id ∷ f.cells x) ≡ Int id ∷ f.cells x
-  pub clashes : (x : R) (id : ℤ) (r : Row) → value_cmp (rowid r) (Int id) ≡ Less → conflicts None our_schema.indexes f.table (Int id ∷ f.cells x) r ≡ passes key_tests (key_cells (f.key x)) r
+  pub clashes : (x : R) (id : ℤ) (r : Row) → value_cmp (rowid r) (Int id) ≡ Less → conflicts None under.indexes f.table (Int id ∷ f.cells x) r ≡ passes key_tests (key_cells (f.key x)) r
   pub alone : (db : Trees) → overlay db [] f.table.tree ≡ db f.table.tree
   pub uncounted : f.table.is_counted ≡ false
-  pub free : (taken news : List Row) → works our_schema Enforced 0 f.table.tree taken news ≡ []
+  pub free : (taken news : List Row) → works under Enforced 0 f.table.tree taken news ≡ []
   -- the statements are on this table
   pub on_rows : (limit : Option ℕ) (mode : Mode) (params : Row) (db : Trees) (text : List ℕ)
-      → (out : _) → Does limit mode params (record { schema = our_schema; trees = db }) text None (InsertOr place Replace (Values terms width) []) out
-      → OnRows (record { limit = limit; keys = mode.keys; schema = our_schema; table = f.table; params = params }) mode None (InsertOr place Replace (Values terms width) []) db out
+      → (out : _) → Does limit mode params (record { schema = under; trees = db }) text None (InsertOr place Replace (Values terms width) []) out
+      → OnRows (record { limit = limit; keys = mode.keys; schema = under; table = f.table; params = params }) mode None (InsertOr place Replace (Values terms width) []) db out
   pub on_taken : (limit : Option ℕ) (mode : Mode) (params : Row) (db : Trees) (text : List ℕ) (q : Program)
-      → (out : _) → Does limit mode params (record { schema = our_schema; trees = db }) text None (Delete place q) out
-      → OnRows (record { limit = limit; keys = mode.keys; schema = our_schema; table = f.table; params = params }) mode None (Delete place q) db out
+      → (out : _) → Does limit mode params (record { schema = under; trees = db }) text None (Delete place q) out
+      → OnRows (record { limit = limit; keys = mode.keys; schema = under; table = f.table; params = params }) mode None (Delete place q) db out
 
 -- the trees with other rows in one of them
 abbrev pub overlaid : Trees → ℕ → List Row → Trees
 overlaid db tree rows t = if t == tree then rows else db t
 
 -- within a transaction, one table has these rows from now on
-pub record Turns {R K : Type 0} (f : Form R K) (old new : State) (xs : List R) : Type 0 where
+pub record Turns (under : Schema) {R K : Type 0} (f : Form R K) (old new : State) (xs : List R) : Type 0 where
   pub rows : List Row
-  pub schema : new.now.schema ≡ our_schema
-  pub trees : (t : ℕ) → IsNoIndex our_schema t → new.now.trees t ≡ overlaid old.now.trees f.table.tree rows t
+  pub schema : new.now.schema ≡ under
+  pub trees : (t : ℕ) → IsNoIndex under t → new.now.trees t ≡ overlaid old.now.trees f.table.tree rows t
   pub held : IsHeld f rows
   pub rows_are : in_order f rows ≡ xs
   pub committed : new.committed ≡ old.committed
   pub within : IsTrue new.in_transaction
 
-turned : (task : Task) (db : Trees) (after : Database) (rows : List Row) → task.schema ≡ our_schema → Leaves task db after rows → (t : ℕ) → IsNoIndex our_schema t → after.trees t ≡ overlaid db task.table.tree rows t
+turned : {under : Schema} (task : Task) (db : Trees) (after : Database) (rows : List Row) → task.schema ≡ under → Leaves task db after rows → (t : ℕ) → IsNoIndex under t → after.trees t ≡ overlaid db task.table.tree rows t
 turned task db after rows ours left t none = go (t == task.table.tree) refl
   where
     go : (b : Bool) → (t == task.table.tree) ≡ b → after.trees t ≡ cond b rows (db t)
@@ -94,7 +94,7 @@ turned task db after rows ours left t none = go (t == task.table.tree) refl
         itself : (n : ℕ) → (n == n) ≡ true
         itself n = grind (arith)
 
-module _ {R K : Type 0} (f : Form R K) (facts : Facts f) where
+module _ {under : Schema} {R K : Type 0} (f : Form R K) (facts : Facts under f) where
   -- a test of stored rows that is one of plain rows
   pub kept_through : (test : Row → Bool) (plain : R → Bool) (rows : List Row) → AllByRecursion (IsRowOf f) rows → ((r : Row) → IsRowOf f r → test r ≡ plain (f.row_in r))
       → map f.row_in (filter test rows) ≡ filter plain (map f.row_in rows)
@@ -124,18 +124,18 @@ module _ {R K : Type 0} (f : Form R K) (facts : Facts f) where
   }
 
   -- the rows of a key are taken away
-  pub takes : (text : List ℕ) (old new : State) (k : K) (r : Result ℕ Error) → Means text (Delete facts.place (program_of f.table.tree facts.key_tests (col 1 0 ∷ [])))
-      → old.now.schema ≡ our_schema → IsHeld f (old.now.trees f.table.tree) → ExecutesInside 0 text (facts.key_cells k) old new r
-      → OnOk r (Turns f old new (filter (λ x. not (facts.has_key k x)) (in_order f (old.now.trees f.table.tree))))
+  pub takes : (text : List ℕ) (old new : State) (k : K) (r : Result ℕ Error) → MeansIn under text (Delete facts.place (program_of f.table.tree facts.key_tests (col 1 0 ∷ [])))
+      → old.now.schema ≡ under → IsHeld f (old.now.trees f.table.tree) → ExecutesInside 0 text (facts.key_cells k) old new r
+      → OnOk r (Turns under f old new (filter (λ x. not (facts.has_key k x)) (in_order f (old.now.trees f.table.tree))))
   takes text old new k (Err e) means schema held h = tt
   takes text old new k (Ok count) means schema held h =
       let params = facts.key_cells k in
       let program : Program = program_of f.table.tree facts.key_tests (col 1 0 ∷ []) in
       let command = Delete facts.place program in
-      let w = runs_as text params old new our_schema schema command means.0 means.1 count h.0 in
-      let whole = statement_of text (understood our_schema text) in
+      let w = runs_as text params old new under schema command means.0 means.1 count h.0 in
+      let whole = statement_of text (understood under text) in
       let done = subst (λ s. Does old.step_limit (mode_of old) params (record old.now { schema = s }) whole None command (Ok (w.tally, new.now))) schema w.changed in
-      let task : Task = record { limit = old.step_limit; keys = Enforced; schema = our_schema; table = f.table; params = params } in
+      let task : Task = record { limit = old.step_limit; keys = Enforced; schema = under; table = f.table; params = params } in
       let on = facts.on_taken old.step_limit (mode_of old) params old.now.trees whole program (Ok (w.tally, new.now)) done in
       let left = deletes task (mode_of old) facts.free facts.place facts.key_tests program old.now.trees w.tally new.now refl (facts.alone old.now.trees) held.shelf on in
       let stored = old.now.trees f.table.tree in
@@ -153,18 +153,18 @@ module _ {R K : Type 0} (f : Form R K) (facts : Facts f) where
       }
 
   -- a row is put in the stead of the one that has its key
-  pub puts : (text : List ℕ) (old new : State) (x : R) (r : Result ℕ Error) → Means text (InsertOr facts.place Replace (Values facts.terms facts.width) [])
-      → ((id : ℤ) → f.row_in (Int id ∷ f.cells x) ≡ x) → old.now.schema ≡ our_schema → IsHeld f (old.now.trees f.table.tree) → ExecutesInside 0 text (f.cells x) old new r
-      → OnOk r (Turns f old new (put f.before f.key x (in_order f (old.now.trees f.table.tree))))
+  pub puts : (text : List ℕ) (old new : State) (x : R) (r : Result ℕ Error) → MeansIn under text (InsertOr facts.place Replace (Values facts.terms facts.width) [])
+      → ((id : ℤ) → f.row_in (Int id ∷ f.cells x) ≡ x) → old.now.schema ≡ under → IsHeld f (old.now.trees f.table.tree) → ExecutesInside 0 text (f.cells x) old new r
+      → OnOk r (Turns under f old new (put f.before f.key x (in_order f (old.now.trees f.table.tree))))
   puts text old new x (Err e) means back schema held h = tt
   puts text old new x (Ok count) means back schema held h =
       let params = f.cells x in
       let key = facts.key_cells (f.key x) in
       let command = InsertOr facts.place Replace (Values facts.terms facts.width) [] in
-      let w = runs_as text params old new our_schema schema command means.0 means.1 count h.0 in
-      let whole = statement_of text (understood our_schema text) in
+      let w = runs_as text params old new under schema command means.0 means.1 count h.0 in
+      let whole = statement_of text (understood under text) in
       let done = subst (λ s. Does old.step_limit (mode_of old) params (record old.now { schema = s }) whole None command (Ok (w.tally, new.now))) schema w.changed in
-      let task : Task = record { limit = old.step_limit; keys = Enforced; schema = our_schema; table = f.table; params = params } in
+      let task : Task = record { limit = old.step_limit; keys = Enforced; schema = under; table = f.table; params = params } in
       let on = facts.on_rows old.step_limit (mode_of old) params old.now.trees whole (Ok (w.tally, new.now)) done in
       let stored = old.now.trees f.table.tree in
       let test = λ (r : Row). not (passes facts.key_tests key r) in
@@ -208,13 +208,13 @@ module _ {R K : Type 0} (f : Form R K) (facts : Facts f) where
 
   -- the rows that a query finds, as plain rows
   pub finds_rows : (text : List ℕ) (tests project : List Term) (names : List (List ℕ)) (params : Row) (old new : State) (plain : R → Bool) (rows : List Row)
-      → MeansQuery text (Select (program_of f.table.tree tests project) names) → ((r : Row) → IsRowOf f r → passes tests params r ≡ plain (f.row_in r))
+      → MeansQueryIn under text (Select (program_of f.table.tree tests project) names) → ((r : Row) → IsRowOf f r → passes tests params r ≡ plain (f.row_in r))
       → ((r : Row) → IsRowOf f r → f.row_in (Null ∷ eval_all project (params ∷ r ∷ [])) ≡ f.row_in r)
-      → old.now.schema ≡ our_schema → IsHeld f (old.now.trees f.table.tree) → Shown text params old new rows
+      → old.now.schema ≡ under → IsHeld f (old.now.trees f.table.tree) → Shown text params old new rows
       → IsPermutation (filter plain (in_order f (old.now.trees f.table.tree))) (map (λ r. f.row_in (Null ∷ r)) rows)
   finds_rows text tests project names params old new plain rows means same shown schema held h =
       let program : Program = program_of f.table.tree tests project in
-      let read = reads_as text params old new our_schema schema (Select program names) means.0.0 means.0.1 means.1 rows h in
+      let read = reads_as text params old new under schema (Select program names) means.0.0 means.0.1 means.1 rows h in
       let stored = old.now.trees f.table.tree in
       let moved = shows f.table.tree tests project old.now.trees params rows (facts.alone old.now.trees) (read.answer Null) in
       let found = filter (passes tests params) stored in

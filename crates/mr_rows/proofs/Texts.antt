@@ -1,4 +1,4 @@
--- What the statements mean under our schema.
+-- What the statements mean, first of all under our schema.
 use Rattle.std.proofs.Common.{◌≡◌, ℕ, List, [], ◌∷◌, codes, false, refl}
 use Rattle.sqlite_value.specs.declared.value.Value.TheVariants.{Null}
 use Rattle.sqlite_sql.specs.Term.{Term, lit, col, op2}
@@ -8,6 +8,7 @@ use Rattle.sqlite_tied.specs.Compute.{everything}
 use Rattle.sqlite_schema.specs.declared.command.Command.{Command}
 use Rattle.sqlite_schema.specs.declared.command.Conflict.TheVariants.{Replace}
 use Rattle.sqlite_schema.specs.declared.program.Program.{Program}
+use Rattle.sqlite_schema.specs.declared.schema.Schema.{Schema}
 use Rattle.sqlite.specs.Collation.TheVariants.{Binary}
 use Rattle.sqlite.specs.Listing.{understood, reads_listing}
 use Rattle.sqlite.specs.Source.TheVariants.{Values}
@@ -16,13 +17,21 @@ use Rattle.sqlite.proofs.Callers.{IsPlain, command_of}
 use Rattle.mr_rows.specs.Meaning.{query_of}
 use Rattle.mr_rows.specs.Schema.{our_schema}
 
--- the text means the command, and shows no rows of its own
-abbrev pub Means : List ℕ → Command → Type 0
-Means text command = (command_of (understood our_schema text) ≡ command) × IsPlain (understood our_schema text)
+-- under this schema the text means the command, and shows no rows of its own
+abbrev pub MeansIn : Schema → List ℕ → Command → Type 0
+MeansIn under text command = (command_of (understood under text) ≡ command) × IsPlain (understood under text)
 
 -- it is a query, which reads no catalog
+abbrev pub MeansQueryIn : Schema → List ℕ → Command → Type 0
+MeansQueryIn under text command = MeansIn under text command × (reads_listing under text ≡ false)
+
+-- ---- under our schema
+
+abbrev pub Means : List ℕ → Command → Type 0
+Means text command = MeansIn our_schema text command
+
 abbrev pub MeansQuery : List ℕ → Command → Type 0
-MeansQuery text command = Means text command × (reads_listing our_schema text ≡ false)
+MeansQuery text command = MeansQueryIn our_schema text command
 
 abbrev pub program_of : ℕ → List Term → List Term → Program
 program_of tree tests project = record { lets = []; body = query_of tree tests project }

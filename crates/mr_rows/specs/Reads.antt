@@ -7,14 +7,19 @@ use Rattle.sqlite.specs.declared.error.Error.{Error}
 use Rattle.mr_model.specs.Calendar.{Date}
 use Rattle.mr_model.specs.Tables.{MetaRow, BookingRow}
 use Rattle.sqlite_trees.specs.Tree.{Trees}
+use Rattle.sqlite_schema.specs.declared.schema.Schema.{Schema}
 use Rattle.mr_rows.specs.Schema.{our_schema}
 use Rattle.mr_rows.specs.Form.{meta_form}
 use Rattle.mr_rows.specs.Kept.{IsKept, in_order}
 
--- our tables are there, and nothing is uncommitted
-pub record IsPlaced (s : State) : Type 0 where
-  pub schema : s.now.schema ≡ our_schema
+-- the tables of this schema are there, and nothing is uncommitted
+pub record IsPlacedIn (under : Schema) (s : State) : Type 0 where
+  pub schema : s.now.schema ≡ under
   pub settled : s.now ≡ s.committed
+
+-- our tables are there
+abbrev pub IsPlaced : State → Type 0
+IsPlaced s = IsPlacedIn our_schema s
 
 -- Where this is known of the database, it stays what it is, and an answer tells that of it.
 abbrev pub ReadsWhere : {X : Type 0} → (State → Type 0) → State → State → Result X Error → (X → Type 0) → Type 0

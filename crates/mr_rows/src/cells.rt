@@ -23,7 +23,7 @@ fn broken(refusal: Refusal, at: usize) -> Error
 }
 
 /// The name of a room in this column.
-pub(crate) fn read_name(alloc: Global, row: &Row, at: usize) -> Result<RoomName, Error>
+pub fn read_name(alloc: Global, row: &Row, at: usize) -> Result<RoomName, Error>
     ensures name { IfOk result (λ name. name ≡ bytes (column row.now at)) }
     ensures cell { IfOk result (λ name. column row.now at ≡ Text name) }
 {
@@ -35,7 +35,7 @@ pub(crate) fn read_name(alloc: Global, row: &Row, at: usize) -> Result<RoomName,
 }
 
 /// The title in this column.
-pub(crate) fn read_title(alloc: Global, row: &Row, at: usize) -> Result<Title, Error>
+pub fn read_title(alloc: Global, row: &Row, at: usize) -> Result<Title, Error>
     ensures title { IfOk result (λ title. title ≡ bytes (column row.now at)) }
     ensures cell { IfOk result (λ title. column row.now at ≡ Text title) }
 {
@@ -47,7 +47,7 @@ pub(crate) fn read_title(alloc: Global, row: &Row, at: usize) -> Result<Title, E
 }
 
 /// The day in this column.
-pub(crate) fn read_day(row: &Row, at: usize) -> Result<Day, Error>
+pub fn read_day(row: &Row, at: usize) -> Result<Day, Error>
     ensures day { IfOk result (λ day. day ≡ date_in (bytes (column row.now at))) }
     ensures cell { IfOk result (λ day. column row.now at ≡ Text (date_text day)) }
 {
@@ -59,7 +59,7 @@ pub(crate) fn read_day(row: &Row, at: usize) -> Result<Day, Error>
 }
 
 /// The server in this column.
-pub(crate) fn read_server(row: &Row, at: usize) -> Result<ServerId, Error>
+pub fn read_server(row: &Row, at: usize) -> Result<ServerId, Error>
     ensures server { IfOk result (λ server. server ≡ nat_of (column row.now at)) }
     ensures cell { IfOk result (λ server. column row.now at ≡ Int (pos server)) }
 {
@@ -71,7 +71,7 @@ pub(crate) fn read_server(row: &Row, at: usize) -> Result<ServerId, Error>
 }
 
 /// The small number in this column.
-pub(crate) fn read_u32(row: &Row, at: usize) -> Result<u32, Error>
+pub fn read_u32(row: &Row, at: usize) -> Result<u32, Error>
     ensures number { IfOk result (λ number. number ≡ nat_of (column row.now at)) }
     ensures cell { IfOk result (λ number. column row.now at ≡ Int (pos number)) }
     ensures refused { IfErr result (λ e. e ≢ Error.SqliteFailure ErrorCode.OutOfMemory → at < length row.now → (n : ℕ) → n < 2 ^ 32 → column row.now at ≢ Int (pos n)) }
@@ -80,7 +80,7 @@ pub(crate) fn read_u32(row: &Row, at: usize) -> Result<u32, Error>
 }
 
 /// The minute of a day in this column, or the day's end.
-pub(crate) fn read_minute(row: &Row, at: usize) -> Result<u32, Error>
+pub fn read_minute(row: &Row, at: usize) -> Result<u32, Error>
     ensures minute { IfOk result (λ minute. minute ≡ nat_of (column row.now at)) }
     ensures cell { IfOk result (λ minute. column row.now at ≡ Int (pos minute)) }
     ensures within { IfOk result (λ minute. minute ≤ 1440) }
@@ -94,7 +94,7 @@ pub(crate) fn read_minute(row: &Row, at: usize) -> Result<u32, Error>
 }
 
 /// The count of a write in this column.
-pub(crate) fn read_count(row: &Row, at: usize) -> Result<u32, Error>
+pub fn read_count(row: &Row, at: usize) -> Result<u32, Error>
     ensures count { IfOk result (λ count. count ≡ nat_of (column row.now at)) }
     ensures cell { IfOk result (λ count. column row.now at ≡ Int (pos count)) }
     ensures within { IfOk result (λ count. (1 ≤ count) × (count ≤ 999_999_999)) }
@@ -107,7 +107,7 @@ pub(crate) fn read_count(row: &Row, at: usize) -> Result<u32, Error>
 }
 
 /// The id in this column and the next.
-pub(crate) fn read_id(row: &Row, at: usize) -> Result<WriteId, Error>
+pub fn read_id(row: &Row, at: usize) -> Result<WriteId, Error>
     requires at { at < 100 }
     ensures id { IfOk result (λ id. id ≡ record { server = nat_of (column row.now at); n = nat_of (column row.now (at + 1)) }) }
     ensures server { IfOk result (λ id. column row.now at ≡ Int (pos id.server)) }
@@ -122,7 +122,7 @@ pub(crate) fn read_id(row: &Row, at: usize) -> Result<WriteId, Error>
 }
 
 /// The number in this column.
-pub(crate) fn read_u64(row: &Row, at: usize) -> Result<u64, Error>
+pub fn read_u64(row: &Row, at: usize) -> Result<u64, Error>
     ensures number { IfOk result (λ number. number ≡ nat_of (column row.now at)) }
     ensures cell { IfOk result (λ number. column row.now at ≡ Int (pos number)) }
 {
@@ -130,7 +130,7 @@ pub(crate) fn read_u64(row: &Row, at: usize) -> Result<u64, Error>
 }
 
 /// The place in this column: the number of its choice, -1 for the error log, -2 and -3 for a cancel that is done or void.
-pub(crate) fn read_place(row: &Row, at: usize) -> Result<Place, Error>
+pub fn read_place(row: &Row, at: usize) -> Result<Place, Error>
     ensures place { IfOk result (λ place. place_of place ≡ place_in (whole_of (column row.now at))) }
     ensures cell { IfOk result (λ place. column row.now at ≡ Int (place_number (place_of place))) }
 {
@@ -145,7 +145,7 @@ pub(crate) fn read_place(row: &Row, at: usize) -> Result<Place, Error>
 }
 
 /// The text in this column.
-pub(crate) fn read_text(row: &Row, at: usize) -> Result<String, Error>
+pub fn read_text(row: &Row, at: usize) -> Result<String, Error>
     ensures text { IfOk result (λ text. string_bytes text ≡ bytes (column row.now at)) }
     ensures cell { IfOk result (λ text. column row.now at ≡ Text (string_bytes text)) }
 {
@@ -153,7 +153,7 @@ pub(crate) fn read_text(row: &Row, at: usize) -> Result<String, Error>
 }
 
 /// The mark in this column, which is 0 or 1.
-pub(crate) fn read_mark(row: &Row, at: usize) -> Result<bool, Error>
+pub fn read_mark(row: &Row, at: usize) -> Result<bool, Error>
     ensures mark { IfOk result (λ m. m ≡ (nat_of (column row.now at) == 1)) }
     ensures cell { IfOk result (λ m. column row.now at ≡ Int (mark m)) }
 {

@@ -26,7 +26,8 @@ fn take_all<R: RequestRow, S: Alter>(
     Ok(())
 }
 
-fn put_all<R: StoredRow, S: Alter>(
+/// Puts the rows, one after the other.
+pub fn put_all<R: StoredRow, S: Alter>(
     tx: &mut Transaction<'_, S>,
     alloc: Global,
     rows: &[R],

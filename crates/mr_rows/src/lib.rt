@@ -4,18 +4,19 @@
 //! Contracts see the database through `tables_in` (specs/Kept.antt), which makes canonical tables of its rows; the tables themselves are
 //! in specs/Schema.antt, and their rows as cells in specs/Cells.antt. Seven tables are alike (trait `StoredRow`): what differs of them,
 //! their SQL texts above all, stands in src/table_rows.rt and src/cancel_rows.rt; `meta` has one row. `write_log` and `undo`, of the
-//! first schema, have no rows. All is read and put by statements under our schema.
+//! first schema, have no rows. All is read and put by statements under our schema; `mr_first`, which has the first schema's, uses the
+//! reading of cells (src/cells.rt, src/numbers.rt) and what is proved of any table.
 #![tactic(auto)]
 
 mod actions;
 pub mod all_tables;
 pub mod asked_rows;
 mod cancel_rows;
-mod cells;
+pub mod cells;
 pub mod changes;
 pub mod found;
 mod meta_row;
-mod numbers;
+pub mod numbers;
 pub mod order;
 pub mod puts;
 pub mod queries;
@@ -26,4 +27,5 @@ mod whole;
 
 pub use questions::{IdQuestion, LogQuestion, Question};
 pub use stored_rows::{StoredRow, read_all};
+pub use table_rows::compare_ids;
 pub use whole::all_rows;

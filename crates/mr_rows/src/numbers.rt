@@ -9,14 +9,14 @@ use sqlite::types::{ToSql, ValueRef};
 
 /// A number that a column of the kind INTEGER has room for.
 #[derive(Clone, Copy, Debug, PartialEq, Eq)]
-pub(crate) struct Number {
+pub struct Number {
     value: u64,
     ghost fits: { value < 2 ^ 63 },
 }
 
 impl Number {
     /// The number, if it fits. Those of replicas do; another is refused as out of the range of the column at this place.
-    pub(crate) fn new(value: u64, at: usize) -> Result<Number, Error>
+    pub fn new(value: u64, at: usize) -> Result<Number, Error>
         ensures value { IfOk result (λ n. n.value ≡ value) }
         ensures refused { IfErr result (λ _. 2 ^ 63 ≤ value) }
     {
@@ -37,8 +37,8 @@ impl<'a> ToSql<'a> for Number {
 
 /// A place as the number of its choice, -1 for the error log, -2 and -3 for a cancel that is done or void.
 #[derive(Clone, Copy, Debug, PartialEq, Eq)]
-pub(crate) struct PlaceNumber {
-    pub(crate) place: Place,
+pub struct PlaceNumber {
+    pub place: Place,
 }
 
 impl<'a> ToSql<'a> for PlaceNumber {

@@ -146,7 +146,7 @@ pub(crate) fn parts_of(id: WriteId) -> (u32, u32)
 }
 
 /// The text of a day, which is within the calendar.
-pub(crate) fn day_text(alloc: Global, day: Day) -> Result<String, Error>
+pub fn day_text(alloc: Global, day: Day) -> Result<String, Error>
     ensures { IfOk result (λ text. (string_bytes text ≡ date_text day) × IsTrue (is_date day)) }
 {
     day.is_within_calendar();

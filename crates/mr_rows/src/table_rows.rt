@@ -337,7 +337,7 @@ impl RequestRow for ErrorRow {
 }
 
 /// By server, then by count.
-pub(crate) fn compare_ids(a: (ServerId, u32), b: (ServerId, u32)) -> Ordering
+pub fn compare_ids(a: (ServerId, u32), b: (ServerId, u32)) -> Ordering
     ensures { result ≡ id_cmp (record { server = a.0; n = a.1 }) (record { server = b.0; n = b.1 }) }
 {
     a.0.number().cmp(&b.0.number()).then(a.1.cmp(&b.1))

@@ -1,5 +1,5 @@
-// Cancels among bookings, over a keeper of lists: the replies to two lists of commands, and how many alternatives a request may have.
-// The memory is ample.
+// Cancels among bookings, over a keeper of lists: the replies to lists of commands, batches that tell cancels, and how many alternatives a
+// request may have. The memory is ample.
 
 use mr_base::{LineCount, Refusal, ServerId};
 use mr_service::{Command, Local, Part, Service, SlotWords, Submission, reply_text};
@@ -22,8 +22,11 @@ enum Asked {
     Committed,
     Outcome(&'static str),
     Errors,
-    /// At most ten lines for a replica that knows nothing.
-    Batch,
+    Position,
+    /// At most so many lines for a position with this text.
+    Batch(&'static str, u32),
+    /// The batch with this text is received.
+    Receive(&'static str),
 }
 
 fn text(alloc: Global, text: &str) -> Result<String, AllocError> {
@@ -51,14 +54,15 @@ fn booking(alloc: Global, time: &str, others: &[&str], title: &str) -> Result<Lo
     }))
 }
 
-fn batch(alloc: Global) -> Result<Local, Refusal> {
-    let position = text(alloc, "mp1 2 1\nK 0\nE\n")?;
+fn batch_for(alloc: Global, position: &str, lines: u32) -> Result<Local, Refusal> {
+    let position = text(alloc, position)?;
     Ok(Local::BatchFor {
         position: position.into_bytes(),
-        max_lines: LineCount::new(10).ok_or(Refusal::BadPosition)?,
+        max_lines: LineCount::new(lines).ok_or(Refusal::BadPosition)?,
     })
 }
 
+/// The command of somebody at the replica; the position where it is none of these.
 fn local(alloc: Global, asked: Asked) -> Result<Local, Refusal> {
     let room = text(alloc, "oak")?;
     Ok(match asked {
@@ -82,21 +86,40 @@ fn local(alloc: Global, asked: Asked) -> Result<Local, Refusal> {
             id: text(alloc, id)?,
         },
         Asked::Errors => Local::Errors { room },
-        Asked::Batch => batch(alloc)?,
+        Asked::Batch(position, lines) => batch_for(alloc, position, lines)?,
+        Asked::Position | Asked::Receive(_) => Local::Position,
     })
+}
+
+fn command(alloc: Global, asked: Asked) -> Result<Command, Refusal> {
+    match asked {
+        Asked::Receive(batch) => Ok(Command::Receive(text(alloc, batch)?.into_bytes())),
+        _ => Ok(Command::Local(local(alloc, asked)?)),
+    }
 }
 
 /// The text of the reply.
 fn told(alloc: Global, lists: &mut Service<ListKeeper>, asked: Asked) -> Result<Vec<u8>, Refusal> {
-    let command = Command::Local(local(alloc, asked)?);
+    let command = command(alloc, asked)?;
     let reply = lists.ask(&command);
     reply_text(alloc, &reply)
 }
 
-/// A replica that is the primary is replied so, command by command.
+/// A replica that is the primary replies so, command by command.
 fn check(rt: &impl Abort, alloc: Global, list: &[(Asked, &str)]) -> Result<(), Fail> {
-    let server = ServerId::new(1).ok_or("no server")?;
-    let mut lists = Service::new(alloc, ListKeeper::new(alloc, server, server));
+    check_at(rt, alloc, 1, list)
+}
+
+/// The replica of this server, whose primary is 1, replies so.
+fn check_at(
+    rt: &impl Abort,
+    alloc: Global,
+    server: u32,
+    list: &[(Asked, &str)],
+) -> Result<(), Fail> {
+    let server = ServerId::new(server).ok_or("no server")?;
+    let primary = ServerId::new(1).ok_or("no server")?;
+    let mut lists = Service::new(alloc, ListKeeper::new(alloc, server, primary));
     for (asked, want) in list {
         let said = told(alloc, &mut lists, *asked)?;
         assert_eq!(rt; said.as_slice(), want.as_bytes(), "where {want} is wanted");
@@ -104,7 +127,15 @@ fn check(rt: &impl Abort, alloc: Global, list: &[(Asked, &str)]) -> Result<(), F
     Ok(())
 }
 
-static AMONG_BOOKINGS: [(Asked, &str); 13] = [
+/// All that the primary knows then, in 186 bytes.
+const ALL_OF_OAK: &str =
+    "mr2 1 1\nW 1 1 1 oak 60 1995-12-18 09:00 0 Alpha\nC 1 1 1\nW 1 2 2 oak 60 1995-12-18 09:00 1 1995-12-18 10:00 Beta\nX 1 3 3 oak 1 1\nW 1 4 4 oak 60 1995-12-18 09:00 0 Gamma\nX 1 5 5 oak 1 1\nE\n";
+
+/// The first three lines of that, which are no cancels, in 114 bytes.
+const FIRST_OF_OAK: &str =
+    "mr1 1 1\nW 1 1 1 oak 60 1995-12-18 09:00 0 Alpha\nC 1 1 1\nW 1 2 2 oak 60 1995-12-18 09:00 1 1995-12-18 10:00 Beta\nM\n";
+
+static AMONG_BOOKINGS: [(Asked, &str); 16] = [
     (Asked::AddRoom, "ok\n"),
     (
         Asked::Book("09:00", &[], "Alpha"),
@@ -132,12 +163,67 @@ static AMONG_BOOKINGS: [(Asked, &str); 13] = [
     (Asked::Cancel("1-1"), "1-5 T void 1-1\n"),
     (Asked::Errors, "oak errors\nT 1-5 cancel 1-1\n"),
     (Asked::Cancel("1-3"), "refused 9 NoSuchRequest\n"),
-    (Asked::Batch, "refused 27 NeedsVersion2\n"),
+    (Asked::Batch("mp2 2 1\nK 0\nE\n", 10), ALL_OF_OAK),
+    (Asked::Batch("mp1 9 1\nK 0\nE\n", 3), FIRST_OF_OAK),
+    (
+        Asked::Batch("mp1 9 1\nK 0\nE\n", 4),
+        "refused 27 NeedsVersion2\n",
+    ),
+    (
+        Asked::Batch("mp2 9 1\nK 1\nV 1 4\nE\n", 10),
+        "mr2 1 1\nX 1 5 5 oak 1 1\nE\n",
+    ),
 ];
 
 #[test]
 fn a_cancel_frees_the_slot(rt: HostRuntime) -> Result<(), Fail> {
+    assert_eq!(rt; ALL_OF_OAK.len(), 186);
+    assert_eq!(rt; FIRST_OF_OAK.len(), 114);
     check(&rt, rt.alloc(), &AMONG_BOOKINGS)
+}
+
+/// A replica takes all of that, and replies as the primary does.
+static RECEIVED: [(Asked, &str); 6] = [
+    (Asked::Receive(ALL_OF_OAK), "took 5 writes 1 commits\n"),
+    (Asked::Position, "mp2 2 1\nK 1\nV 1 5\nE\n"),
+    (
+        Asked::Sheet,
+        "oak 1995-12-18 Monday\n09:00-10:00 T 1-4 Gamma\n10:00-11:00 T 1-2 Beta\n",
+    ),
+    (Asked::Outcome("1-1"), "1-1 C cancelled T 1-3\n"),
+    (Asked::Errors, "oak errors\nT 1-5 cancel 1-1\n"),
+    (Asked::Receive(ALL_OF_OAK), "took 0 writes 0 commits\n"),
+];
+
+#[test]
+fn cancels_are_received(rt: HostRuntime) -> Result<(), Fail> {
+    check_at(&rt, rt.alloc(), 2, &RECEIVED)
+}
+
+/// A cancel comes before what it would take back, which it leaves then.
+static CANCEL_FIRST: [(Asked, &str); 5] = [
+    (
+        Asked::Receive("mr2 1 1\nX 1 1 1 oak 2 1\nE\n"),
+        "took 1 writes 0 commits\n",
+    ),
+    (Asked::Errors, "oak errors\nT 1-1 cancel 2-1\n"),
+    (
+        Asked::Receive("mr1 1 1\nW 2 1 2 oak 30 1995-12-18 09:00 0 Late\nE\n"),
+        "took 1 writes 0 commits\n",
+    ),
+    (
+        Asked::Sheet,
+        "oak 1995-12-18 Monday\n09:00-09:30 T 2-1 Late\n",
+    ),
+    (
+        Asked::Batch("mp1 8 1\nK 0\nV 1 1\nE\n", 64),
+        "mr1 9 1\nW 2 1 2 oak 30 1995-12-18 09:00 0 Late\nE\n",
+    ),
+];
+
+#[test]
+fn a_cancel_that_comes_first_is_void(rt: HostRuntime) -> Result<(), Fail> {
+    check_at(&rt, rt.alloc(), 9, &CANCEL_FIRST)
 }
 
 static THEN_COMMITTED: [(Asked, &str); 6] = [

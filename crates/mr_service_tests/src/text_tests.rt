@@ -2,7 +2,7 @@
 
 use mr_base::{
     Batch, CommitNumber, Day, Ending, Item, Position, Refusal, RoomName, ServerId, TimeOfDay,
-    Title, WriteId, read_minute,
+    Title, Version, WriteId, read_minute,
 };
 use mr_service::{Booking, LogLine, Outcome, Part, Reply, refusal_text, reply_text, sheet_text};
 use mr_tables::{BookingRow, CancelRow, ErrorRow};
@@ -156,8 +156,10 @@ fn a_cancel_is_told(rt: HostRuntime) -> Result<(), Fail> {
 fn a_position_is_told(rt: HostRuntime) -> Result<(), Fail> {
     let alloc = rt.alloc();
     let counts = vec![in alloc; (server(1)?, 1), (server(2)?, 1)]?;
-    let position = Position::new(server(9)?, server(1)?, 0, counts).ok_or("no position")?;
-    let want = "mp1 9 1\nK 0\nV 1 1\nV 2 1\nE\n";
+    let position = Position::new(Version::Second, server(9)?, server(1)?, 0, counts).ok_or(
+        "no position",
+    )?;
+    let want = "mp2 9 1\nK 0\nV 1 1\nV 2 1\nE\n";
     check(&rt, alloc, &Reply::Position(position), want)
 }
 
@@ -166,9 +168,15 @@ fn a_batch_is_told(rt: HostRuntime) -> Result<(), Fail> {
     let alloc = rt.alloc();
     let seq = CommitNumber::new(1).ok_or("no commit number")?;
     let id = WriteId::read("1-1")?;
-    let items = vec![in alloc; Item::C { seq, id }]?;
-    let batch = Batch::new(server(1)?, server(1)?, items, Ending::Complete)?;
-    check(&rt, alloc, &Reply::Batch(batch), "mr1 1 1\nC 1 1 1\nE\n")
+    for (version, want) in [
+        (Version::First, "mr1 1 1\nC 1 1 1\nE\n"),
+        (Version::Second, "mr2 1 1\nC 1 1 1\nE\n"),
+    ] {
+        let items = vec![in alloc; Item::C { seq, id }]?;
+        let batch = Batch::new(version, server(1)?, server(1)?, items, Ending::Complete)?;
+        check(&rt, alloc, &Reply::Batch(batch), want)?;
+    }
+    Ok(())
 }
 
 #[test]

@@ -21,6 +21,10 @@ use Rattle.mr_rows.specs.Schema.{no_schema, with_meta, with_room, with_vector, w
 use Rattle.mr_rows.specs.Form.{Form, meta_form, room_form, vector_form, log_form, booking_form, error_form, cancelled_form, cancel_form}
 use Rattle.mr_rows.specs.Kept.{IsHeld, IsOurs, IsStep, first_meta, in_order, tables_in}
 use Rattle.mr_rows.specs.Parts.{put_meta}
+use Rattle.mr_model.specs.First.{FirstTables}
+use Rattle.mr_first.specs.Kept.{IsFirst, IsFirstStep, first_in}
+use Rattle.mr_first.specs.Parts.{tables_put, no_first_tables}
+use Rattle.mr_first.proofs.Putting.{blank_first}
 use Rattle.mr_sql.specs.Blank.{IsBlank, IsGrown, Grows, no_tables}
 use Rattle.mr_rows.proofs.FormLemmas.{went, same_value}
 
@@ -192,6 +196,19 @@ fills a b c m s grown put clean within blank =
     let one = grown (omega (arith, less, clean)) within blank in
     let two = put (clean, one.within, blank_ours b.now one.blank) in
     record { ours = two.ours; tables_are = two.tables_are ∙ ap (put_meta m) (blank_tables b.now one.blank); committed = two.committed ∙ one.committed; within = two.within }
+
+-- ---- and so are those of the first schema
+
+pub fills_first : {X : Type 0} (a b c : State) (t : FirstTables) (r : Result X Error) → Survives b c (λ _. ⊥) → (HasCleanDisk b → IsTrue a.in_transaction → IsBlank no_schema a.now → IsGrown first_schema a b)
+    → (HasCleanDisk c × IsTrue b.in_transaction × IsFirst b.now → OnOk r (IsFirstStep b c (tables_put t (first_in b.now.trees)))) → HasCleanDisk c → IsTrue a.in_transaction → IsBlank no_schema a.now
+    → OnOk r (IsFirstStep a c (tables_put t no_first_tables))
+fills_first a b c t (Err e) s grown put clean within blank = tt
+fills_first a b c t (Ok x) s grown put clean within blank =
+    let less = s.clean in
+    let one = grown (omega (arith, less, clean)) within blank in
+    let empty = blank_first b.now one.blank.0 one.blank.1 in
+    let two = put (clean, one.within, empty.0) in
+    record { ours = two.ours; tables_are = two.tables_are ∙ ap (tables_put t) empty.1; committed = two.committed ∙ one.committed; within = two.within }
 
 -- ---- a commit that fails
 

@@ -4,3 +4,5 @@ pub mod SchemaLemmas
 pub mod AnswerLemmas
 pub mod OpeningLemmas
 pub mod TakenLemmas
+pub mod NumberLemmas
+pub mod FirstTaken

@@ -5,7 +5,7 @@ use Rattle.std.proofs.lemmas.List.Elements.{All-from_recursion}
 use Rattle.sqlite_value.specs.declared.value.Value.TheVariants.{Null}
 use Rattle.sqlite_schema.specs.declared.schema.Column.{Column}
 use Rattle.sqlite_schema.specs.declared.schema.Table.{Table}
-use Rattle.mr_rows.specs.Schema.{our_schema}
+use Rattle.mr_rows.specs.Schema.{first_schema, our_schema}
 use Rattle.mr_sql.specs.Same.{IsFitTable, IsPlainTable}
 
 fit : {t : Table} → IsPlainTable t → AllByRecursion (λ (c : Column). c.default ≡ Null) t.columns → IsFitTable t
@@ -14,3 +14,7 @@ fit {t} plain all = record { plain = plain; defaults = All-from_recursion (λ (c
 pub ours_fit : All IsFitTable our_schema.tables
 ours_fit = All-from_recursion IsFitTable our_schema.tables
     (fit (record { key = refl; checks = refl; references = refl; computed = refl; stamps = refl; uncounted = refl }) (refl, (refl, (refl, (refl, (refl, (refl, (refl, tt))))))), (fit (record { key = refl; checks = refl; references = refl; computed = refl; stamps = refl; uncounted = refl }) (refl, tt), (fit (record { key = refl; checks = refl; references = refl; computed = refl; stamps = refl; uncounted = refl }) (refl, (refl, (refl, (refl, tt)))), (fit (record { key = refl; checks = refl; references = refl; computed = refl; stamps = refl; uncounted = refl }) (refl, (refl, (refl, (refl, (refl, (refl, (refl, (refl, tt)))))))), (fit (record { key = refl; checks = refl; references = refl; computed = refl; stamps = refl; uncounted = refl }) (refl, (refl, (refl, tt))), (fit (record { key = refl; checks = refl; references = refl; computed = refl; stamps = refl; uncounted = refl }) (refl, (refl, (refl, (refl, (refl, (refl, (refl, (refl, tt)))))))), (fit (record { key = refl; checks = refl; references = refl; computed = refl; stamps = refl; uncounted = refl }) (refl, (refl, (refl, (refl, (refl, (refl, (refl, (refl, (refl, tt))))))))), (fit (record { key = refl; checks = refl; references = refl; computed = refl; stamps = refl; uncounted = refl }) (refl, (refl, (refl, (refl, (refl, (refl, (refl, (refl, (refl, (refl, (refl, (refl, tt)))))))))))), (fit (record { key = refl; checks = refl; references = refl; computed = refl; stamps = refl; uncounted = refl }) (refl, (refl, (refl, (refl, (refl, (refl, (refl, (refl, (refl, (refl, tt)))))))))), (fit (record { key = refl; checks = refl; references = refl; computed = refl; stamps = refl; uncounted = refl }) (refl, (refl, (refl, (refl, (refl, (refl, (refl, (refl, tt)))))))), tt))))))))))
+
+pub first_fit : All IsFitTable first_schema.tables
+first_fit = All-from_recursion IsFitTable first_schema.tables
+    (fit (record { key = refl; checks = refl; references = refl; computed = refl; stamps = refl; uncounted = refl }) (refl, (refl, (refl, (refl, (refl, (refl, (refl, tt))))))), (fit (record { key = refl; checks = refl; references = refl; computed = refl; stamps = refl; uncounted = refl }) (refl, tt), (fit (record { key = refl; checks = refl; references = refl; computed = refl; stamps = refl; uncounted = refl }) (refl, (refl, (refl, (refl, tt)))), (fit (record { key = refl; checks = refl; references = refl; computed = refl; stamps = refl; uncounted = refl }) (refl, (refl, (refl, (refl, (refl, (refl, (refl, (refl, tt)))))))), (fit (record { key = refl; checks = refl; references = refl; computed = refl; stamps = refl; uncounted = refl }) (refl, (refl, (refl, tt))), (fit (record { key = refl; checks = refl; references = refl; computed = refl; stamps = refl; uncounted = refl }) (refl, (refl, (refl, (refl, (refl, (refl, (refl, (refl, tt)))))))), (fit (record { key = refl; checks = refl; references = refl; computed = refl; stamps = refl; uncounted = refl }) (refl, (refl, (refl, (refl, (refl, (refl, (refl, (refl, (refl, tt))))))))), tt)))))))

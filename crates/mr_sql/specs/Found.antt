@@ -1,15 +1,18 @@
 -- What is found in a database that its keeper didn't make.
 use Rattle.std.specs.Prelude.{◌≡◌, ℕ, ◌⊎◌, IsTrue}
 use Rattle.sqlite_trees.specs.Tree.{Trees}
+use Rattle.sqlite_schema.specs.declared.schema.Schema.{Schema}
 use Rattle.sqlite_catalog.specs.Listing.{IsSound}
 use Rattle.sqlite.specs.Effect.{IsDatabase}
 use Rattle.sqlite.specs.State.{State}
-use Rattle.mr_model.specs.Replica.{opening}
+use Rattle.mr_model.specs.Replica.{Replica, opening}
 use Rattle.mr_model.specs.Tables.{MetaRow, Stands}
+use Rattle.mr_model.specs.First.{StandsFirst, moved}
 use Rattle.mr_store.specs.Kept.{IsSettled}
-use Rattle.mr_rows.specs.Schema.{no_schema, our_schema}
+use Rattle.mr_rows.specs.Schema.{no_schema, first_schema, our_schema}
 use Rattle.mr_rows.specs.Shelf.{HasShelves}
 use Rattle.mr_rows.specs.Kept.{IsKept, tables_in}
+use Rattle.mr_first.specs.Kept.{IsKeptFirst, first_in}
 
 -- a database with these trees, opened anew
 pub record IsTaken (trees : Trees) (s : State) : Type 0 where
@@ -19,23 +22,49 @@ pub record IsTaken (trees : Trees) (s : State) : Type 0 where
   pub sound : IsDatabase s.now
   pub shelves : HasShelves s.now
 
+-- and with this schema
+abbrev pub IsTakenAs : Schema → Trees → State → Type 0
+IsTakenAs under trees s = IsTaken trees s × (s.now.schema ≡ under)
+
 -- the database has these trees, and nothing uncommitted
 abbrev pub StaysAs : Trees → State → Type 0
 StaysAs trees s = (s.now.trees ≡ trees) × (s.now ≡ s.committed)
+
+-- tables of the first schema moved up: the new ones stand for each replica that the old ones stood for
+pub record IsRaised (before after : Trees) : Type 0 where
+  pub tables_are : tables_in after ≡ moved (first_in before)
+  pub stands : (a : Replica) → StandsFirst (first_in before) a → Stands (tables_in after) a
+
+-- the tables of a keeper stay as they are, and those of the first schema are moved up
+abbrev pub IsResumed : Trees → Trees → Type 0
+IsResumed before after = (IsSound our_schema before × (after ≡ before)) ⊎ (IsSound first_schema before × IsRaised before after)
+
+abbrev pub Names : ℕ → ℕ → MetaRow → Type 0
+Names server primary m = (m.server ≡ server) × (m.primary ≡ primary)
 
 -- where these trees are no tables yet, or the tables of this server and primary, they become the tables of a keeper
 abbrev pub IsAdopted : ℕ → ℕ → Trees → Trees → Type 0
 IsAdopted server primary before after =
     (IsSound no_schema before × Stands (tables_in after) (opening server primary))
-    ⊎ (IsSound our_schema before × (after ≡ before) × ((tables_in after).meta.server ≡ server) × ((tables_in after).meta.primary ≡ primary))
+    ⊎ (IsResumed before after × Names server primary (tables_in after).meta)
 
--- these trees are the tables of a keeper, with this row of `meta`
+-- these trees are now the tables of a keeper, with this row of `meta`
 pub record IsFound (trees : Trees) (m : MetaRow) (s : State) : Type 0 where
   pub kept : IsKept s
-  pub sound : IsSound our_schema trees
-  pub trees_are : s.now.trees ≡ trees
+  pub resumed : IsResumed trees s.now.trees
   pub meta : (tables_in s.now.trees).meta ≡ m
+
+-- these trees are tables of the first schema, with this row of `meta`
+pub record IsFoundFirst (trees : Trees) (m : MetaRow) (s : State) : Type 0 where
+  pub kept : IsKeptFirst s
+  pub sound : IsSound first_schema trees
+  pub trees_are : s.now.trees ≡ trees
+  pub meta : (first_in trees).meta ≡ m
 
 -- a crash would leave the tables and nothing else
 abbrev pub LeavesTables : State → Type 0
 LeavesTables s = IsSettled (λ t. (trees : Trees) × s.may_leave trees × (t ≡ tables_in trees)) (tables_in s.now.trees)
+
+-- a crash would leave the rows that are there, and nothing else
+abbrev pub LeavesRows : State → Type 0
+LeavesRows s = (trees : Trees) → s.may_leave trees → trees ≡ s.now.trees

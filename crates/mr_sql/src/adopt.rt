@@ -6,12 +6,14 @@ ghost use Rattle.sqlite.specs.State.{HasCleanDisk};
 ghost use Rattle.sqlite.specs.Held.{state};
 ghost use Rattle.mr_rows.specs.Schema.{no_schema, our_schema};
 ghost use Rattle.mr_rows.specs.Kept.{IsKept};
-ghost use Rattle.mr_sql.specs.Found.{IsTaken, IsFound, IsAdopted, StaysAs};
+ghost use Rattle.mr_sql.specs.Found.{IsTaken, IsTakenAs, IsFound, IsAdopted, IsResumed, Names, StaysAs};
 ghost use Rattle.mr_rows.specs.Shown.{IsMeta};
-ghost use Rattle.mr_sql.specs.Refused.{IsAnothers, IsNobodys};
+ghost use Rattle.mr_sql.specs.Refused.{AreSomebodys, HasNoMeta, IsAnothers, IsNobodys};
 
 use crate::create::create;
 use crate::faults::refusal_of;
+use crate::first::{recover_first, settle_first};
+use crate::schema_number::check_number;
 use crate::schemas::{is_blank, is_ours};
 use mr_base::{Refusal, ServerId};
 use mr_rows::found::find_all;
@@ -60,16 +62,15 @@ fn begin<S: Alter>(
     }
 }
 
-/// Finds the row of `meta` in the database of a replica. It is refused where there is none.
-pub(crate) fn find<S: Alter>(conn: &mut Connection<S>, alloc: Global) -> Result<MetaRow, Refusal>
+// Finds the row of `meta` in a database with our tables. It is refused where there is none.
+fn find_row<S: Alter>(conn: &mut Connection<S>, alloc: Global) -> Result<MetaRow, Refusal>
     requires autocommit { conn.old.in_transaction ≡ false }
-    requires ours { (state S.Store conn.old).now.schema ≡ our_schema }
     ensures autocommit { conn.new.in_transaction ≡ false }
     ensures clean { HasCleanDisk (state S.Store conn.new) → HasCleanDisk (state S.Store conn.old) }
-    ensures found { (trees : Trees) → HasCleanDisk (state S.Store conn.new) → IsTaken trees (state S.Store conn.old) → IfOk result (λ m. IsTrue (state S.Store conn.new).is_open → IsFound trees m (state S.Store conn.new)) }
-    ensures opens { (trees : Trees) → HasCleanDisk (state S.Store conn.new) → IsTaken trees (state S.Store conn.old) → OnOk result (IsTrue (state S.Store conn.new).is_open) }
-    ensures stays { (trees : Trees) → HasCleanDisk (state S.Store conn.new) → IsTaken trees (state S.Store conn.old) → OnErr result (IsTrue (state S.Store conn.new).is_open → StaysAs trees (state S.Store conn.new)) }
-    ensures strange { (trees : Trees) → HasCleanDisk (state S.Store conn.new) → IsTaken trees (state S.Store conn.old) → IfErr result (λ e. e ≡ Refusal.NotAReplica → IsMeta trees None) }
+    ensures found { (trees : Trees) → HasCleanDisk (state S.Store conn.new) → IsTakenAs our_schema trees (state S.Store conn.old) → IfOk result (λ m. IsTrue (state S.Store conn.new).is_open → IsFound trees m (state S.Store conn.new)) }
+    ensures opens { (trees : Trees) → HasCleanDisk (state S.Store conn.new) → IsTakenAs our_schema trees (state S.Store conn.old) → OnOk result (IsTrue (state S.Store conn.new).is_open) }
+    ensures stays { (trees : Trees) → HasCleanDisk (state S.Store conn.new) → IsTakenAs our_schema trees (state S.Store conn.old) → OnErr result (IsTrue (state S.Store conn.new).is_open → StaysAs trees (state S.Store conn.new)) }
+    ensures strange { (trees : Trees) → HasCleanDisk (state S.Store conn.new) → IsTakenAs our_schema trees (state S.Store conn.old) → IfErr result (λ e. e ≡ Refusal.NotAReplica → IsMeta trees None) }
     ensures cause { IfErr result (λ e. (e ≡ Refusal.OutOfMemory) ⊎ ((e ≡ Refusal.Store) ⊎ (e ≡ Refusal.NotAReplica))) }
 {
     match find_all(conn, alloc) {
@@ -79,10 +80,25 @@ pub(crate) fn find<S: Alter>(conn: &mut Connection<S>, alloc: Global) -> Result<
     }
 }
 
-// Whether the row is that of this server and primary.
-fn is_of(meta: &MetaRow, server: ServerId, primary: ServerId) -> bool
-    ensures same { IsTrue result → (meta.now.server ≡ server) × (meta.now.primary ≡ primary) }
-    ensures other { result ≡ false → (meta.now.server ≡ server) × (meta.now.primary ≡ primary) → ⊥ }
+/// Finds the row of `meta` in a database with our tables. It is refused where there is none, or one of another schema.
+fn find<S: Alter>(conn: &mut Connection<S>, alloc: Global) -> Result<MetaRow, Refusal>
+    requires autocommit { conn.old.in_transaction ≡ false }
+    ensures autocommit { conn.new.in_transaction ≡ false }
+    ensures clean { HasCleanDisk (state S.Store conn.new) → HasCleanDisk (state S.Store conn.old) }
+    ensures found { (trees : Trees) → HasCleanDisk (state S.Store conn.new) → IsTakenAs our_schema trees (state S.Store conn.old) → IfOk result (λ m. IsTrue (state S.Store conn.new).is_open → IsFound trees m (state S.Store conn.new)) }
+    ensures opens { (trees : Trees) → HasCleanDisk (state S.Store conn.new) → IsTakenAs our_schema trees (state S.Store conn.old) → OnOk result (IsTrue (state S.Store conn.new).is_open) }
+    ensures stays { (trees : Trees) → HasCleanDisk (state S.Store conn.new) → IsTakenAs our_schema trees (state S.Store conn.old) → OnErr result (IsTrue (state S.Store conn.new).is_open → StaysAs trees (state S.Store conn.new)) }
+    ensures strange { (trees : Trees) → HasCleanDisk (state S.Store conn.new) → IsTakenAs our_schema trees (state S.Store conn.old) → IfErr result (λ e. e ≡ Refusal.NotAReplica → HasNoMeta 2 trees) }
+    ensures cause { IfErr result (λ e. (e ≡ Refusal.OutOfMemory) ⊎ ((e ≡ Refusal.Store) ⊎ (e ≡ Refusal.NotAReplica))) }
+{
+    check_number(conn, 2)?;
+    find_row(conn, alloc)
+}
+
+/// Whether the row is that of this server and primary.
+pub(crate) fn is_of(meta: &MetaRow, server: ServerId, primary: ServerId) -> bool
+    ensures same { IsTrue result → Names server primary meta.now }
+    ensures other { result ≡ false → Names server primary meta.now → ⊥ }
 {
     meta.server == server && meta.primary == primary
 }
@@ -112,7 +128,7 @@ fn resume<S: Alter>(
     }
 }
 
-/// Makes the tables of this server and primary where there are none, or finds them.
+/// Makes the tables of this server and primary where there are none, or finds them, and moves those of the first schema up.
 pub(crate) fn settle<S: Alter>(
     conn: &mut Connection<S>,
     alloc: Global,
@@ -126,7 +142,7 @@ pub(crate) fn settle<S: Alter>(
     ensures opens { (trees : Trees) → HasCleanDisk (state S.Store conn.new) → IsTaken trees (state S.Store conn.old) → OnOk result (IsTrue (state S.Store conn.new).is_open) }
     ensures stays { (trees : Trees) → HasCleanDisk (state S.Store conn.new) → IsTaken trees (state S.Store conn.old) → OnErr result (IsTrue (state S.Store conn.new).is_open → StaysAs trees (state S.Store conn.new)) }
     ensures strange { (trees : Trees) → HasCleanDisk (state S.Store conn.new) → IsTaken trees (state S.Store conn.old) → IfErr result (λ e. e ≡ Refusal.NotAReplica → IsAnothers server primary trees) }
-    ensures store { (trees : Trees) → HasCleanDisk (state S.Store conn.new) → IsTaken trees (state S.Store conn.old) → IfErr result (λ e. e ≡ Refusal.Store → IsSound no_schema trees ⊎ IsSound our_schema trees) }
+    ensures store { (trees : Trees) → HasCleanDisk (state S.Store conn.new) → IsTaken trees (state S.Store conn.old) → IfErr result (λ e. e ≡ Refusal.Store → IsSound no_schema trees ⊎ AreSomebodys trees) }
     ensures cause { IfErr result (λ e. (e ≡ Refusal.OutOfMemory) ⊎ ((e ≡ Refusal.Store) ⊎ (e ≡ Refusal.NotAReplica))) }
 {
     if is_blank(conn) {
@@ -134,21 +150,21 @@ pub(crate) fn settle<S: Alter>(
     }
     match is_ours(alloc, conn) {
         Ok(true) => resume(conn, alloc, server, primary),
-        Ok(false) => Err(Refusal::NotAReplica),
+        Ok(false) => settle_first(conn, alloc, server, primary),
         Err(refusal) => Err(refusal),
     }
 }
 
-/// Finds the tables of a replica, whichever it is.
+/// Finds the tables of a replica, whichever it is, and moves those of the first schema up.
 pub(crate) fn recover<S: Alter>(conn: &mut Connection<S>, alloc: Global) -> Result<(), Refusal>
     requires autocommit { conn.old.in_transaction ≡ false }
     ensures autocommit { conn.new.in_transaction ≡ false }
     ensures clean { HasCleanDisk (state S.Store conn.new) → HasCleanDisk (state S.Store conn.old) }
-    ensures recovered { (trees : Trees) → HasCleanDisk (state S.Store conn.new) → IsTaken trees (state S.Store conn.old) → OnOk result (IsTrue (state S.Store conn.new).is_open → IsKept (state S.Store conn.new) × IsSound our_schema trees × ((state S.Store conn.new).now.trees ≡ trees)) }
+    ensures recovered { (trees : Trees) → HasCleanDisk (state S.Store conn.new) → IsTaken trees (state S.Store conn.old) → OnOk result (IsTrue (state S.Store conn.new).is_open → IsKept (state S.Store conn.new) × IsResumed trees (state S.Store conn.new).now.trees) }
     ensures opens { (trees : Trees) → HasCleanDisk (state S.Store conn.new) → IsTaken trees (state S.Store conn.old) → OnOk result (IsTrue (state S.Store conn.new).is_open) }
     ensures stays { (trees : Trees) → HasCleanDisk (state S.Store conn.new) → IsTaken trees (state S.Store conn.old) → OnErr result (IsTrue (state S.Store conn.new).is_open → StaysAs trees (state S.Store conn.new)) }
     ensures strange { (trees : Trees) → HasCleanDisk (state S.Store conn.new) → IsTaken trees (state S.Store conn.old) → IfErr result (λ e. e ≡ Refusal.NotAReplica → IsNobodys trees) }
-    ensures store { (trees : Trees) → HasCleanDisk (state S.Store conn.new) → IsTaken trees (state S.Store conn.old) → IfErr result (λ e. e ≡ Refusal.Store → IsSound our_schema trees) }
+    ensures store { (trees : Trees) → HasCleanDisk (state S.Store conn.new) → IsTaken trees (state S.Store conn.old) → IfErr result (λ e. e ≡ Refusal.Store → AreSomebodys trees) }
     ensures cause { IfErr result (λ e. (e ≡ Refusal.OutOfMemory) ⊎ ((e ≡ Refusal.Store) ⊎ (e ≡ Refusal.NotAReplica))) }
 {
     match is_ours(alloc, conn) {
@@ -156,7 +172,7 @@ pub(crate) fn recover<S: Alter>(conn: &mut Connection<S>, alloc: Global) -> Resu
             find(conn, alloc)?;
             Ok(())
         }
-        Ok(false) => Err(Refusal::NotAReplica),
+        Ok(false) => recover_first(conn, alloc),
         Err(refusal) => Err(refusal),
     }
 }

@@ -2,14 +2,12 @@
 
 ghost use Rattle.std.specs.Prelude.{◌≡◌, ◌⊎◌, Some, None, IfOk, IfErr, IsTrue};
 ghost use Rattle.sqlite_trees.specs.Tree.{Trees};
-ghost use Rattle.sqlite_catalog.specs.Listing.{IsSound};
 ghost use Rattle.sqlite.specs.WalFiles.{image_at};
 ghost use Rattle.sqlite.specs.WalReads.{AreClean};
 ghost use Rattle.sqlite.specs.State.{HasCleanDisk};
 ghost use Rattle.sqlite.specs.Files.{file_state, IsClosed};
 ghost use Rattle.sqlite.specs.Closing.{IsCopied};
-ghost use Rattle.mr_rows.specs.Schema.{our_schema};
-ghost use Rattle.mr_sql.specs.Found.{IsAdopted, LeavesTables, StaysAs};
+ghost use Rattle.mr_sql.specs.Found.{IsAdopted, IsResumed, LeavesTables, StaysAs};
 ghost use Rattle.mr_sql.specs.Refused.{IsAnothers, IsFoundIn, IsNobodys};
 
 use crate::faults::refusal_of;
@@ -52,10 +50,10 @@ fn is_missing(rt: &HostRuntime, path: &str) -> bool {
 }
 
 impl<B: Start> SqlKeeper<FileStore<FileFrom<B>>> {
-    /// Opens the file as the database of this server and primary, and makes file and tables where there are none yet. A file
-    /// that can't be opened as a database is refused with 25, and the database of another program or replica with 26. What was
-    /// opened of a file that is refused is given back. That the path is that of the files which the type stands for is up to the
-    /// caller.
+    /// Opens the file as the database of this server and primary, and makes file and tables where there are none yet. Tables of
+    /// the first schema are moved up. A file that can't be opened as a database is refused with 25, and the database of another
+    /// program or replica with 26. What was opened of a file that is refused is given back. That the path is that of the files
+    /// which the type stands for is up to the caller.
     pub fn init_from(
         rt: &HostRuntime,
         path: &str,
@@ -84,11 +82,12 @@ impl<B: Start> SqlKeeper<FileStore<FileFrom<B>>> {
         }
     }
 
-    /// Opens the file as the database of a replica, whichever it is. A file that can't be opened as a database is refused
-    /// with 25. Where there is no file, or its database isn't that of a replica, it is refused with 26. It makes no file.
+    /// Opens the file as the database of a replica, whichever it is. Tables of the first schema are moved up before it answers. A
+    /// file that can't be opened as a database is refused with 25. Where there is no file, or its database isn't that of a
+    /// replica, it is refused with 26. It makes no file.
     pub fn open_from(rt: &HostRuntime, path: &str, start: B) -> Result<KeeperFrom<B>, NotTaken<B>>
         ensures opened { IfOk result (λ k. HasCleanDisk (file_state k.0) → IsTrue (file_state k.0).is_open
-            → (before : Trees) × IsFoundIn (image_at B.Start) before × IsSound our_schema before × ((file_state k.0).now.trees ≡ before)) }
+            → (before : Trees) × IsFoundIn (image_at B.Start) before × IsResumed before (file_state k.0).now.trees) }
         ensures opens { IfOk result (λ k. HasCleanDisk (file_state k.0) → IsTrue (file_state k.0).is_open) }
         ensures settled { IfOk result (λ k. HasCleanDisk (file_state k.0) → IsTrue (file_state k.0).is_open → LeavesTables (file_state k.0)) }
         ensures uncounted { IfOk result (λ k. k.1 ≡ 0) }
@@ -150,7 +149,7 @@ impl SqlKeeper<FileStore<sqlite::File>> {
     /// As `open_from`, of whatever the files at the path hold. What is refused is let go.
     pub fn open_file(rt: &HostRuntime, path: &str) -> Result<FileKeeper, Refusal>
         ensures opened { IfOk result (λ k. HasCleanDisk (file_state k.0) → IsTrue (file_state k.0).is_open
-            → (before : Trees) × IsFoundIn (image_at ⟦<Unknown as Start>⟧) before × IsSound our_schema before × ((file_state k.0).now.trees ≡ before)) }
+            → (before : Trees) × IsFoundIn (image_at ⟦<Unknown as Start>⟧) before × IsResumed before (file_state k.0).now.trees) }
         ensures opens { IfOk result (λ k. HasCleanDisk (file_state k.0) → IsTrue (file_state k.0).is_open) }
         ensures settled { IfOk result (λ k. HasCleanDisk (file_state k.0) → IsTrue (file_state k.0).is_open → LeavesTables (file_state k.0)) }
         ensures uncounted { IfOk result (λ k. k.1 ≡ 0) }

@@ -8,9 +8,14 @@
 mod adopt;
 mod answers;
 mod create;
+mod create_first;
 mod faults;
 mod files;
+mod first;
+mod first_keeper;
+mod first_schemas;
 mod load;
+mod schema_number;
 mod schemas;
 mod scope_questions;
 mod scope_rooms;
@@ -18,4 +23,5 @@ mod scope_rows;
 mod sql_keeper;
 
 pub use files::{FileKeeper, KeeperFrom, NotTaken};
+pub use first_keeper::FirstKeeper;
 pub use sql_keeper::{GivenBack, SqlKeeper, memory_is_honest};

@@ -177,8 +177,8 @@ fn same_indexes(a: &[Index], b: &[Index]) -> bool
     true
 }
 
-// Of schemas with a view none are the same.
-fn same_schema(a: &Schema, b: &Schema) -> bool
+/// Whether both schemas are one. Of schemas with a view none are the same.
+pub(crate) fn same_schema(a: &Schema, b: &Schema) -> bool
     ensures same { IsTrue result → a.now ≡ b.now }
     ensures other { result ≡ false → a.now ≡ b.now → All IsFitTable a.now.tables → a.now.views ≡ [] → ⊥ }
 {
@@ -188,7 +188,8 @@ fn same_schema(a: &Schema, b: &Schema) -> bool
         && b.views.len() == 0
 }
 
-fn empty(alloc: Global) -> Result<Connection<MemStore>, Error>
+/// A database in memory that has no table.
+pub(crate) fn empty(alloc: Global) -> Result<Connection<MemStore>, Error>
     ensures { IfOk result (λ c. IsEmpty (state over_memory c)) }
 {
     match Connection::open_in_memory(alloc) {
@@ -215,9 +216,8 @@ pub(crate) fn is_blank<S: Alter>(conn: &Connection<S>) -> bool
     schema.tables.len() == 0 && schema.indexes.len() == 0 && schema.views.len() == 0
 }
 
-/// Whether the database has these tables with their indexes, and nothing else. A database of the first schema, which has seven of these ten
-/// tables, is not ours: its rows are not moved up yet, and it is refused as that of no replica. No disk fails in memory: where no sample can be had to
-/// compare with, memory is wanting.
+/// Whether the database has these tables with their indexes, and nothing else. One of the first schema, which has seven of these ten tables,
+/// hasn't. No disk fails in memory: where no sample can be had to compare with, memory is wanting.
 pub(crate) fn is_ours<S: Alter>(alloc: Global, conn: &Connection<S>) -> Result<bool, Refusal>
     ensures same { IfOk result (λ ours. IsTrue ours → (state S.Store conn.now).now.schema ≡ our_schema) }
     ensures other { IfOk result (λ ours. ours ≡ false → (state S.Store conn.now).now.schema ≡ our_schema → ⊥) }

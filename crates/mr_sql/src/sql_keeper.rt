@@ -1,4 +1,4 @@
-ghost use Rattle.std.specs.Prelude.{◌≡◌, ◌≢◌, ◌<◌, ◌⊎◌, IfOk, IfErr, IsTrue};
+ghost use Rattle.std.specs.Prelude.{◌≡◌, ◌≢◌, ◌<◌, ◌⊎◌, false, IfOk, IfErr, IsTrue};
 ghost use Rattle.sqlite_trees.specs.View.{IsClean};
 ghost use Rattle.sqlite.specs.Steps.{over_memory, IsEmpty};
 ghost use Rattle.sqlite.specs.State.{HasCleanDisk};
@@ -7,10 +7,10 @@ ghost use Rattle.mr_model.specs.Replica.{opening};
 ghost use Rattle.mr_model.specs.Tables.{Stands};
 ghost use Rattle.mr_store.specs.Kept.{failures_for};
 ghost use Rattle.sqlite_catalog.specs.Listing.{IsSound};
-ghost use Rattle.mr_rows.specs.Schema.{no_schema, our_schema};
-ghost use Rattle.mr_rows.specs.Kept.{tables_in};
-ghost use Rattle.mr_sql.specs.Found.{IsAdopted, LeavesTables, StaysAs};
-ghost use Rattle.mr_sql.specs.Refused.{IsAnothers, IsNobodys};
+ghost use Rattle.mr_rows.specs.Schema.{no_schema};
+ghost use Rattle.mr_rows.specs.Kept.{IsKept, tables_in};
+ghost use Rattle.mr_sql.specs.Found.{IsAdopted, IsResumed, LeavesTables, StaysAs};
+ghost use Rattle.mr_sql.specs.Refused.{AreSomebodys, IsAnothers, IsNobodys};
 
 use crate::adopt::{recover, retaken, settle};
 use crate::create::create;
@@ -154,7 +154,8 @@ impl<S: Alter> Keeper for SqlKeeper<S> {
     }
 }
 
-fn open_connection(alloc: Global) -> Result<Connection<MemStore>, Refusal>
+/// A connection to a database in memory that has no table.
+pub(crate) fn open_connection(alloc: Global) -> Result<Connection<MemStore>, Refusal>
     ensures empty { IfOk result (λ c. IsEmpty (state over_memory c)) }
     ensures cause { IfErr result (λ e. e ≡ Refusal.OutOfMemory) }
 {
@@ -200,8 +201,9 @@ pub enum GivenBack<S: Alter> {
 
 impl<S: Alter + Drop> SqlKeeper<S> {
     /// Makes the database of a connection the keeper's. Where it has no table, it gets those of a replica that knows nothing
-    /// yet; where it is the database of this server and primary, it stays as it is. Any other is refused with 26, and one
-    /// whose rows break their rules with 25. What the connection hasn't committed is rolled back.
+    /// yet; where it is the database of this server and primary, it stays as it is, or is moved up from the first schema. Any
+    /// other is refused with 26, with nothing written, and one whose rows break their rules with 25. What the connection hasn't
+    /// committed is rolled back.
     pub fn adopt(
         alloc: Global,
         conn: Connection<S>,
@@ -215,7 +217,7 @@ impl<S: Alter + Drop> SqlKeeper<S> {
         ensures cause { IfErr result (λ e. (e.0 ≡ Refusal.OutOfMemory) ⊎ ((e.0 ≡ Refusal.Store) ⊎ (e.0 ≡ Refusal.NotAReplica))) }
         ensures clean { IfOk result (λ k. HasCleanDisk (state S.Store k.0) → HasCleanDisk (state S.Store conn)) }
         ensures strange { IfErr result (λ e. e.0 ≡ Refusal.NotAReplica → (c : _) × (e.1 ≡ GivenBack.Connection c) × (HasCleanDisk (state S.Store c) → IsAnothers server primary (state S.Store conn).committed.trees)) }
-        ensures store { IfErr result (λ e. (c : _) → e.1 ≡ GivenBack.Connection c → e.0 ≡ Refusal.Store → HasCleanDisk (state S.Store c) → IsSound no_schema (state S.Store conn).committed.trees ⊎ IsSound our_schema (state S.Store conn).committed.trees) }
+        ensures store { IfErr result (λ e. (c : _) → e.1 ≡ GivenBack.Connection c → e.0 ≡ Refusal.Store → HasCleanDisk (state S.Store c) → IsSound no_schema (state S.Store conn).committed.trees ⊎ AreSomebodys (state S.Store conn).committed.trees) }
         ensures was_clean { IfErr result (λ e. (c : _) → e.1 ≡ GivenBack.Connection c → HasCleanDisk (state S.Store c) → HasCleanDisk (state S.Store conn)) }
         ensures stays { IfErr result (λ e. (c : _) → e.1 ≡ GivenBack.Connection c → HasCleanDisk (state S.Store c) → IsTrue (state S.Store c).is_open → StaysAs (state S.Store conn).committed.trees (state S.Store c)) }
         ensures back { IfErr result (λ e. (s : _) → e.1 ≡ GivenBack.Store s → IsClean (S.Store.view s) → IsTrue (S.Store.view s).is_open → (S.Store.view s).trees ≡ (state S.Store conn).committed.trees) }
@@ -234,20 +236,20 @@ impl<S: Alter + Drop> SqlKeeper<S> {
         }
     }
 
-    /// Makes a keeper of a connection to the database of a replica, whichever it is. Any other database is refused with 26,
-    /// and one whose rows break their rules with 25.
+    /// Makes a keeper of a connection to the database of a replica, whichever it is. One of the first schema is moved up. Any
+    /// other database is refused with 26, and one whose rows break their rules with 25.
     pub fn resume(
         alloc: Global,
         conn: Connection<S>,
     ) -> Result<SqlKeeper<S>, (Refusal, GivenBack<S>)>
         ensures opens { IfOk result (λ k. HasCleanDisk (state S.Store k.0) → IsTrue (state S.Store k.0).is_open) }
-        ensures resumed { IfOk result (λ k. HasCleanDisk (state S.Store k.0) → IsTrue (state S.Store k.0).is_open → IsSound our_schema (state S.Store conn).committed.trees × ((state S.Store k.0).now.trees ≡ (state S.Store conn).committed.trees)) }
+        ensures resumed { IfOk result (λ k. HasCleanDisk (state S.Store k.0) → IsTrue (state S.Store k.0).is_open → IsResumed (state S.Store conn).committed.trees (state S.Store k.0).now.trees) }
         ensures settled { IfOk result (λ k. HasCleanDisk (state S.Store k.0) → IsTrue (state S.Store k.0).is_open → LeavesTables (state S.Store k.0)) }
         ensures uncounted { IfOk result (λ k. k.1 ≡ 0) }
         ensures cause { IfErr result (λ e. (e.0 ≡ Refusal.OutOfMemory) ⊎ ((e.0 ≡ Refusal.Store) ⊎ (e.0 ≡ Refusal.NotAReplica))) }
         ensures clean { IfOk result (λ k. HasCleanDisk (state S.Store k.0) → HasCleanDisk (state S.Store conn)) }
         ensures strange { IfErr result (λ e. e.0 ≡ Refusal.NotAReplica → (c : _) × (e.1 ≡ GivenBack.Connection c) × (HasCleanDisk (state S.Store c) → IsNobodys (state S.Store conn).committed.trees)) }
-        ensures store { IfErr result (λ e. (c : _) → e.1 ≡ GivenBack.Connection c → e.0 ≡ Refusal.Store → HasCleanDisk (state S.Store c) → IsSound our_schema (state S.Store conn).committed.trees) }
+        ensures store { IfErr result (λ e. (c : _) → e.1 ≡ GivenBack.Connection c → e.0 ≡ Refusal.Store → HasCleanDisk (state S.Store c) → AreSomebodys (state S.Store conn).committed.trees) }
         ensures was_clean { IfErr result (λ e. (c : _) → e.1 ≡ GivenBack.Connection c → HasCleanDisk (state S.Store c) → HasCleanDisk (state S.Store conn)) }
         ensures stays { IfErr result (λ e. (c : _) → e.1 ≡ GivenBack.Connection c → HasCleanDisk (state S.Store c) → IsTrue (state S.Store c).is_open → StaysAs (state S.Store conn).committed.trees (state S.Store c)) }
         ensures back { IfErr result (λ e. (s : _) → e.1 ≡ GivenBack.Store s → IsClean (S.Store.view s) → IsTrue (S.Store.view s).is_open → (S.Store.view s).trees ≡ (state S.Store conn).committed.trees) }
@@ -268,6 +270,19 @@ impl<S: Alter + Drop> SqlKeeper<S> {
 }
 
 impl<S: Alter> SqlKeeper<S> {
+    /// The keeper of this connection, of which no call has failed.
+    pub(crate) fn opened(alloc: Global, conn: Connection<S>) -> SqlKeeper<S>
+        requires autocommit { conn.in_transaction ≡ false }
+        requires kept { HasCleanDisk (state S.Store conn) → IsTrue (state S.Store conn).is_open → IsKept (state S.Store conn) }
+        ensures { result ≡ (conn, 0) }
+    {
+        SqlKeeper {
+            conn,
+            failures: 0,
+            alloc,
+        }
+    }
+
     /// Gives the connection back.
     pub fn release(self) -> Connection<S>
         ensures { result ≡ self.0 }

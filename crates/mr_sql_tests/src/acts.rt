@@ -18,8 +18,8 @@ pub(crate) enum Act {
     Commit(u64),
     Truncate(u64),
     Position,
-    /// A batch for the position of this text, of ten lines at most.
-    BatchFor(&'static str),
+    /// A batch for the position of this text, of so many lines at most.
+    BatchFor(&'static str, u32),
     /// The batch of this text is received.
     Batch(&'static str),
     /// So many first bytes of it are received.
@@ -33,6 +33,10 @@ pub(crate) enum Act {
     Calendar(Part),
     Outcome(&'static str),
     Errors,
+    /// These of any room.
+    CalendarOf(&'static str, Part),
+    OutcomeOf(&'static str, &'static str),
+    ErrorsOf(&'static str),
 }
 
 fn text(alloc: Global, text: &str) -> Result<String, AllocError> {
@@ -80,12 +84,17 @@ fn sheet(alloc: Global, room: &str, day: &str) -> Result<Local, AllocError> {
     })
 }
 
-fn outcome(alloc: Global, id: &str) -> Result<Local, AllocError> {
-    let room = text(alloc, "oak")?;
+fn outcome(alloc: Global, room: &str, id: &str) -> Result<Local, AllocError> {
+    let room = text(alloc, room)?;
     Ok(Local::Outcome {
         room,
         id: text(alloc, id)?,
     })
+}
+
+fn calendar(alloc: Global, room: &str, part: Part) -> Result<Local, AllocError> {
+    let room = text(alloc, room)?;
+    Ok(Local::Calendar { room, part })
 }
 
 fn cancel(alloc: Global, id: &str) -> Result<Local, AllocError> {
@@ -130,16 +139,18 @@ fn local(alloc: Global, act: Act) -> Result<Local, Refusal> {
         Act::Cancel(id) => Ok(cancel(alloc, id)?),
         Act::Commit(count) => Ok(Local::Commit(count)),
         Act::Truncate(number) => Ok(Local::Truncate(number)),
-        Act::BatchFor(position) => batch_for(position.as_bytes().to_vec(alloc)?, 10),
+        Act::BatchFor(position, lines) => batch_for(position.as_bytes().to_vec(alloc)?, lines),
         Act::Sheet => Ok(sheet(alloc, "oak", MONDAY)?),
         Act::SheetOf(room, day) => Ok(sheet(alloc, room, day)?),
-        Act::Calendar(part) => Ok(Local::Calendar {
-            room: text(alloc, "oak")?,
-            part,
-        }),
-        Act::Outcome(id) => Ok(outcome(alloc, id)?),
+        Act::Calendar(part) => Ok(calendar(alloc, "oak", part)?),
+        Act::CalendarOf(room, part) => Ok(calendar(alloc, room, part)?),
+        Act::Outcome(id) => Ok(outcome(alloc, "oak", id)?),
+        Act::OutcomeOf(room, id) => Ok(outcome(alloc, room, id)?),
         Act::Errors => Ok(Local::Errors {
             room: text(alloc, "oak")?,
+        }),
+        Act::ErrorsOf(room) => Ok(Local::Errors {
+            room: text(alloc, room)?,
         }),
         _ => Ok(Local::Position),
     }

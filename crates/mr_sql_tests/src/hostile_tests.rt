@@ -12,7 +12,7 @@ use std::process::Abort;
 use std::test::Fail;
 
 /// Batches, each to a replica that knows nothing, and their refusals.
-static REFUSED: [(&str, &str); 22] = [
+static REFUSED: [(&str, &str); 31] = [
     (
         "mr1 1 1\nW 1 1000000000 1 oak 30 1995-12-18 09:00 0 Alpha\n",
         "refused 15 BadLine 2\n",
@@ -77,10 +77,25 @@ static REFUSED: [(&str, &str); 22] = [
         "mr1 1 1\nW 2 1 1 oak 30 1995-12-18 09:00 0 Own\n",
         "refused 20 OwnWrite 2\n",
     ),
+    ("mr1 1 1\nX 1 1 1 oak 2 1\nE\n", "refused 15 BadLine 2\n"),
+    ("mr2 1 1\nX 1 1 1 oak 2 0\nE\n", "refused 15 BadLine 2\n"),
+    ("mr2 1 1\nX 1 1 1 oak 100 1\nE\n", "refused 15 BadLine 2\n"),
+    ("mr2 1 1\nX 1 1 1 oak 2 1 1\nE\n", "refused 15 BadLine 2\n"),
+    ("mr2 1 1\nX 1 1 1 oak 2-1\nE\n", "refused 15 BadLine 2\n"),
+    (
+        "mr2 1 1\nW 1 1 1 oak 30 1995-12-18 09:00 17 1995-12-18 10:00 1995-12-18 10:00 1995-12-18 10:00 1995-12-18 10:00 1995-12-18 10:00 1995-12-18 10:00 1995-12-18 10:00 1995-12-18 10:00 1995-12-18 10:00 1995-12-18 10:00 1995-12-18 10:00 1995-12-18 10:00 1995-12-18 10:00 1995-12-18 10:00 1995-12-18 10:00 1995-12-18 10:00 1995-12-18 10:00 Alpha\n",
+        "refused 15 BadLine 2\n",
+    ),
+    ("mr3 1 1\nE\n", "refused 15 BadLine 1\n"),
+    (
+        "mr2 1 1\nW 1 1 1 oak 30 1995-12-18 09:00 0 Alpha\nX 1 1 1 oak 2 1\n",
+        "refused 19 Forged 3\n",
+    ),
+    ("mr2 1 1\nX 2 1 1 oak 1 1\n", "refused 20 OwnWrite 2\n"),
 ];
 
 /// Batches, each to a replica that knows nothing, that look hostile and are taken; and the sheet then.
-static TAKEN: [(&str, &str, &str); 2] = [
+static TAKEN: [(&str, &str, &str); 4] = [
     (
         "mr1 1 1\nW 1 1 1 oak 30 1995-12-18 09:00 0 1995-12-18 10:00 x\nE\n",
         "took 1 writes 0 commits\n",
@@ -90,6 +105,16 @@ static TAKEN: [(&str, &str, &str); 2] = [
         "mr1 1 1\nW 1 1 1 oak 30 1995-12-18 09:00 0 Alpha\nC 1 1 1\nC 1 1 1\nE\n",
         "took 1 writes 1 commits\n",
         "oak 1995-12-18 Monday\n09:00-09:30 C 1-1 Alpha\n",
+    ),
+    (
+        "mr2 1 1\nW 1 1 1 oak 30 1995-12-18 09:00 9 1995-12-18 10:00 1995-12-18 10:00 1995-12-18 10:00 1995-12-18 10:00 1995-12-18 10:00 1995-12-18 10:00 1995-12-18 10:00 1995-12-18 10:00 1995-12-18 10:00 Alpha\nE\n",
+        "took 1 writes 0 commits\n",
+        "oak 1995-12-18 Monday\n09:00-09:30 T 1-1 Alpha\n",
+    ),
+    (
+        "mr2 1 1\nX 1 1 1 oak 1 1\nE\n",
+        "took 1 writes 0 commits\n",
+        "oak 1995-12-18 Monday\n(no bookings)\n",
     ),
 ];
 
@@ -115,7 +140,7 @@ fn check_refused<K: Opening + Drop>(
 ) -> Result<(), Fail> {
     let mut service = Service::new(alloc, K::open(alloc, 2)?);
     check(rt, alloc, &mut service, Act::Batch(batch), refusal)?;
-    check(rt, alloc, &mut service, Act::Position, "mp1 2 1\nK 0\nE\n")?;
+    check(rt, alloc, &mut service, Act::Position, "mp2 2 1\nK 0\nE\n")?;
     check(
         rt,
         alloc,

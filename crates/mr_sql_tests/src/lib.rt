@@ -8,7 +8,11 @@ mod acts;
 #[cfg(test)]
 mod fault_tests;
 #[cfg(test)]
+mod firsts;
+#[cfg(test)]
 mod hostile_tests;
+#[cfg(test)]
+mod moving_tests;
 #[cfg(test)]
 mod offices;
 #[cfg(test)]

@@ -19,7 +19,7 @@ pub(crate) const TWO: &str =
 const SHEET_OF_TWO: &str =
     "oak 1995-12-18 Monday\n14:00-15:00 T 1-1 Alpha\n15:00-16:00 T 2-1 Beta\n";
 
-const POSITION_OF_TWO: &str = "mp1 9 1\nK 0\nV 1 1\nV 2 1\nE\n";
+const POSITION_OF_TWO: &str = "mp2 9 1\nK 0\nV 1 1\nV 2 1\nE\n";
 
 const ALPHA: &str = "mr1 1 1\nW 1 1 1 oak 30 1995-12-18 09:00 0 Alpha\nE\n";
 
@@ -46,14 +46,23 @@ const TURNED: &str =
 
 const SECOND_COMMIT: &str = "mr1 1 1\nC 2 1 1\nE\n";
 
+/// A cancel of a booking that isn't known, in the second version.
+const CANCEL: &str = "mr2 1 1\nX 1 1 1 oak 2 1\nE\n";
+
+/// The booking, which has come later.
+const LATE: &str = "mr1 1 1\nW 2 1 2 oak 30 1995-12-18 09:00 0 Late\nE\n";
+
+/// A booking under the id of the cancel.
+const BOOKING_FOR_CANCEL: &str = "mr2 1 1\nW 1 1 1 oak 30 1995-12-18 09:00 0 Alpha\nE\n";
+
 const OTHER_PRIMARY: &str = "mr1 1 3\nE\n";
 
 const LEADING_ZERO: &str = "mr1 1 1\nW 1 01 1 oak 30 1995-12-18 09:00 0 Alpha\nE\n";
 
 /// The position of replica 2 that knows nothing.
-const NOTHING: &str = "mp1 2 1\nK 0\nE\n";
+const NOTHING: &str = "mp2 2 1\nK 0\nE\n";
 
-const NOTHING_AT_9: &str = "mp1 9 1\nK 0\nE\n";
+const NOTHING_AT_9: &str = "mp2 9 1\nK 0\nE\n";
 
 /// What happens to a replica.
 #[derive(Clone, Copy)]
@@ -63,7 +72,7 @@ enum Event {
     Asked(Act),
 }
 
-static ROWS: [(Event, &str); 59] = [
+static ROWS: [(Event, &str); 67] = [
     // a repeat brings nothing
     (Event::New(9), ""),
     (Event::Asked(Act::Batch(TWO)), "took 2 writes 0 commits\n"),
@@ -103,6 +112,26 @@ static ROWS: [(Event, &str); 59] = [
     (Event::Asked(Act::Truncate(1)), "dropped 1\n"),
     (Event::Asked(Act::Batch(OTHER)), "took 0 writes 0 commits\n"),
     (Event::Asked(Act::Sheet), SHEET_OF_ALPHA),
+    // a cancel comes before what it would take back, which it leaves then
+    (Event::New(9), ""),
+    (
+        Event::Asked(Act::Batch(CANCEL)),
+        "took 1 writes 0 commits\n",
+    ),
+    (Event::Asked(Act::Errors), "oak errors\nT 1-1 cancel 2-1\n"),
+    (Event::Asked(Act::Batch(LATE)), "took 1 writes 0 commits\n"),
+    (
+        Event::Asked(Act::Sheet),
+        "oak 1995-12-18 Monday\n09:00-09:30 T 2-1 Late\n",
+    ),
+    (
+        Event::Asked(Act::BatchFor("mp1 8 1\nK 0\nV 1 1\nE\n", 10)),
+        "mr1 9 1\nW 2 1 2 oak 30 1995-12-18 09:00 0 Late\nE\n",
+    ),
+    (
+        Event::Asked(Act::Batch(BOOKING_FOR_CANCEL)),
+        "refused 19 Forged 2\n",
+    ),
     // after the greatest time nothing is booked
     (Event::New(2), ""),
     (Event::Asked(Act::Batch(LAST)), "took 1 writes 0 commits\n"),
@@ -152,15 +181,19 @@ static ROWS: [(Event, &str); 59] = [
     ),
     (Event::Asked(Act::Commit(5)), "committed 1\n"),
     (
-        Event::Asked(Act::BatchFor("mp1 9 1\nK 0\nE\n")),
+        Event::Asked(Act::BatchFor("mp1 9 1\nK 0\nE\n", 10)),
         "mr1 1 1\nW 1 1 1 oak 30 1995-12-18 09:00 0 Alpha\nC 1 1 1\nE\n",
+    ),
+    (
+        Event::Asked(Act::BatchFor("mp2 9 1\nK 0\nE\n", 10)),
+        "mr2 1 1\nW 1 1 1 oak 30 1995-12-18 09:00 0 Alpha\nC 1 1 1\nE\n",
     ),
     (Event::New(2), ""),
     (Event::Asked(Act::Commit(1)), "refused 10 NotPrimary\n"),
     (Event::Asked(Act::Room("oak")), "ok\n"),
     (Event::Asked(Act::Room("oak")), "refused 8 RoomThere\n"),
     (
-        Event::Asked(Act::BatchFor("mp1 9 1\n")),
+        Event::Asked(Act::BatchFor("mp1 9 1\n", 10)),
         "refused 23 BadPosition\n",
     ),
     (Event::Asked(Act::Truncate(0)), "dropped 0\n"),

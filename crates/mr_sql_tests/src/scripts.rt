@@ -162,8 +162,8 @@ const SEVENTEEN: [&str; 17] = [
     "16:00", "17:00", "18:00", "19:00", "20:00", "21:00", "22:00",
 ];
 
-/// The longest list of alternatives that the exchange text says, the longest of all, none of them free, and one more alternative.
-pub(crate) static LONGEST: [Row; 8] = [
+/// The longest list of alternatives that the first exchange text says, the longest of all, none of them free, and one more alternative.
+pub(crate) static LONGEST: [Row; 11] = [
     OAK_AT_1,
     CLOSED,
     (
@@ -183,7 +183,13 @@ pub(crate) static LONGEST: [Row; 8] = [
         "refused 6 TooManyAlternatives\n",
     ),
     (Step::Batch(1, 2, 2), "batch 1 228 bytes\n"),
-    (Step::Batch(1, 2, 3), "refused 27 NeedsVersion2\n"),
+    (Step::Batch(1, 2, 3), "batch 2 542 bytes\n"),
+    (
+        Step::At(1, Act::BatchFor(NOTHING, 3)),
+        "refused 27 NeedsVersion2\n",
+    ),
+    (Step::Deliver(2, 2), "took 3 writes 0 commits\n"),
+    (Step::At(2, Act::Outcome("1-3")), "1-3 T logged\n"),
 ];
 
 const ALPHA: Row = (
@@ -191,8 +197,15 @@ const ALPHA: Row = (
     "1-1 T 1995-12-18 09:00-10:00\n",
 );
 
-/// A committed booking is taken back by a tentative cancel, and its slot is booked again.
-pub(crate) static TAKEN_BACK: [Row; 15] = [
+/// A position of the first version, of a replica that knows nothing.
+const NOTHING: &str = "mp1 9 1\nK 0\nE\n";
+
+const SHEET_OF_TAKEN_BACK: &str =
+    "oak 1995-12-18 Monday\n09:00-10:00 T 1-4 Gamma\n10:00-11:00 T 1-2 Beta\n";
+
+/// A committed booking is taken back by a tentative cancel, and its slot is booked again. All of it is told in the second version, and in
+/// the first what comes before the cancel.
+pub(crate) static TAKEN_BACK: [Row; 20] = [
     OAK_AT_1,
     ALPHA,
     (
@@ -205,10 +218,7 @@ pub(crate) static TAKEN_BACK: [Row; 15] = [
         Step::At(1, Act::Book("60", "09:00", &[], "Gamma")),
         "1-4 T 1995-12-18 09:00-10:00\n",
     ),
-    (
-        Step::At(1, Act::Sheet),
-        "oak 1995-12-18 Monday\n09:00-10:00 T 1-4 Gamma\n10:00-11:00 T 1-2 Beta\n",
-    ),
+    (Step::At(1, Act::Sheet), SHEET_OF_TAKEN_BACK),
     (
         Step::At(1, Act::Calendar(Part::Committed)),
         "oak committed\n1995-12-18 09:00-10:00 C 1-1 Alpha\n",
@@ -218,8 +228,19 @@ pub(crate) static TAKEN_BACK: [Row; 15] = [
     (Step::At(1, Act::Outcome("1-5")), "1-5 T void 1-1\n"),
     (Step::At(1, Act::Errors), "oak errors\nT 1-5 cancel 1-1\n"),
     (Step::At(1, Act::Cancel("1-3")), "refused 9 NoSuchRequest\n"),
-    (Step::Batch(1, 2, 10), "refused 27 NeedsVersion2\n"),
-    (Step::Batch(1, 2, 3), "batch 1 114 bytes\n"),
+    (Step::Batch(1, 2, 10), "batch 1 186 bytes\n"),
+    (Step::Deliver(1, 2), "took 5 writes 1 commits\n"),
+    (Step::At(1, Act::Sheet), SHEET_OF_TAKEN_BACK),
+    (Step::At(2, Act::Sheet), SHEET_OF_TAKEN_BACK),
+    (Step::At(2, Act::Outcome("1-1")), "1-1 C cancelled T 1-3\n"),
+    (
+        Step::At(1, Act::BatchFor(NOTHING, 3)),
+        "mr1 1 1\nW 1 1 1 oak 60 1995-12-18 09:00 0 Alpha\nC 1 1 1\nW 1 2 2 oak 60 1995-12-18 09:00 1 1995-12-18 10:00 Beta\nM\n",
+    ),
+    (
+        Step::At(1, Act::BatchFor(NOTHING, 4)),
+        "refused 27 NeedsVersion2\n",
+    ),
 ];
 
 /// An earlier write takes the slot of a booking that was taken back, and the cancel is void.

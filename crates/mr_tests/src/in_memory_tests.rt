@@ -11,7 +11,7 @@ const DAY: &str = "1995-12-18";
 
 /// What replica 2, which isn't the primary, replies to the six commands.
 const WANTED: &str =
-    "ok\nrefused 10 NotPrimary\n2-1 T 1995-12-18 13:30-14:30\noak 1995-12-18 Monday\n13:30-14:30 T 2-1 Budget Meeting\nrefused 12 BeyondCommitted\nmp1 2 1\nK 0\nV 2 1\nE\n";
+    "ok\nrefused 10 NotPrimary\n2-1 T 1995-12-18 13:30-14:30\noak 1995-12-18 Monday\n13:30-14:30 T 2-1 Budget Meeting\nrefused 12 BeyondCommitted\nmp2 2 1\nK 0\nV 2 1\nE\n";
 
 fn text(alloc: Global, text: &str) -> Result<String, AllocError> {
     String::from_str(alloc, text)

@@ -129,7 +129,7 @@ fn two_databases(rt: HostRuntime) -> Result<(), Fail> {
 /// Every command on a database.
 static EVERY: [Row; 35] = [
     ("init every.db 1 1", 0, "ok\n"),
-    ("position every.db", 0, "mp1 1 1\nK 0\nE\n"),
+    ("position every.db", 0, "mp2 1 1\nK 0\nE\n"),
     ("add-room every.db oak", 0, "ok\n"),
     ("add-room every.db oak", 1, "refused 8 RoomThere\n"),
     (
@@ -207,7 +207,7 @@ static EVERY: [Row; 35] = [
         0,
         "oak errors\nT 1-3 1995-12-18 09:30-10:30 Gamma\n",
     ),
-    ("position every.db", 0, "mp1 1 1\nK 1\nV 1 3\nE\n"),
+    ("position every.db", 0, "mp2 1 1\nK 1\nV 1 3\nE\n"),
     ("cancel every.db oak 1-1", 0, "1-4 T cancels 1-1\n"),
     ("cancel every.db oak 1-3", 0, "1-5 T void 1-3\n"),
     ("cancel every.db elm 1-1", 1, "refused 7 UnknownRoom\n"),
@@ -280,7 +280,7 @@ static FAULTS: [Row; 17] = [
         "refused 26 NotAReplica\n",
     ),
     ("init faults.db 1 1", 1, "refused 26 NotAReplica\n"),
-    ("position faults.db", 0, "mp1 2 1\nK 0\nE\n"),
+    ("position faults.db", 0, "mp2 2 1\nK 0\nE\n"),
 ];
 
 #[test]

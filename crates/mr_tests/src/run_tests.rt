@@ -68,15 +68,15 @@ static RUN: [(&str, &str); 20] = [
          1995-12-18 21:00 1995-12-18 22:00 Full\n",
         "ok\nok\nrefused 6 TooManyAlternatives\n",
     ),
-    // sixteen, of which the last is free, and which the exchange text can't say
+    // sixteen, of which the last is free, and which the exchange tells
     (
         "replica 1\nreplica 2\nroom 1 oak\nbook 1 oak 1080 1995-12-18 05:00 0 Long\n\
          book 1 oak 60 1995-12-18 05:00 16 1995-12-18 06:00 1995-12-18 07:00 1995-12-18 08:00 1995-12-18 09:00 \
          1995-12-18 10:00 1995-12-18 11:00 1995-12-18 12:00 1995-12-18 13:00 1995-12-18 14:00 1995-12-18 15:00 \
          1995-12-18 16:00 1995-12-18 17:00 1995-12-18 18:00 1995-12-18 19:00 1995-12-18 20:00 1995-12-18 23:00 Last\n\
-         batch 1 2 1\nbatch 1 2 2\n",
+         batch 1 2 1\nbatch 1 2 2\ndeliver 2 2 all\noutcome 2 oak 1-2\n",
         "ok\nok\nok\n1-1 T 1995-12-18 05:00-23:00\n1-2 T 1995-12-18 23:00-24:00\nbatch 1 51 bytes\n\
-         refused 27 NeedsVersion2\n",
+         batch 2 363 bytes\ntook 2 writes 0 commits\n1-2 T 1995-12-18 23:00-24:00\n",
     ),
     // equal times, decided by the server
     (
@@ -125,16 +125,19 @@ static RUN: [(&str, &str); 20] = [
          errors 1 oak\n",
         "ok\nok\n1-1 T 1995-12-18 00:00-24:00\n1-2 T logged\noak errors\nT 1-2 1995-12-18 08:00-09:00 Full\n",
     ),
-    // a committed booking is taken back, and its slot is booked again
+    // a committed booking is taken back, and its slot is booked again; another replica hears of all of it
     (
         "replica 1\nreplica 2\nroom 1 oak\nbook 1 oak 60 1995-12-18 09:00 0 Alpha\n\
          book 1 oak 60 1995-12-18 09:00 1 1995-12-18 10:00 Beta\ncommit 1 1\ncancel 1 oak 1-1\n\
          book 1 oak 60 1995-12-18 09:00 0 Gamma\nsheet 1 oak 1995-12-18\ncalendar 1 oak committed\n\
-         outcome 1 oak 1-1\ncancel 1 oak 1-1\nerrors 1 oak\ncancel 1 oak 1-3\nbatch 1 2 10\n",
+         outcome 1 oak 1-1\ncancel 1 oak 1-1\nerrors 1 oak\ncancel 1 oak 1-3\nbatch 1 2 10\n\
+         deliver 1 2 all\nsheet 1 oak 1995-12-18\nsheet 2 oak 1995-12-18\n",
         "ok\nok\nok\n1-1 T 1995-12-18 09:00-10:00\n1-2 T 1995-12-18 10:00-11:00\ncommitted 1\n\
          1-3 T cancels 1-1\n1-4 T 1995-12-18 09:00-10:00\noak 1995-12-18 Monday\n09:00-10:00 T 1-4 Gamma\n\
          10:00-11:00 T 1-2 Beta\noak committed\n1995-12-18 09:00-10:00 C 1-1 Alpha\n1-1 C cancelled T 1-3\n\
-         1-5 T void 1-1\noak errors\nT 1-5 cancel 1-1\nrefused 9 NoSuchRequest\nrefused 27 NeedsVersion2\n",
+         1-5 T void 1-1\noak errors\nT 1-5 cancel 1-1\nrefused 9 NoSuchRequest\nbatch 1 186 bytes\n\
+         took 5 writes 1 commits\noak 1995-12-18 Monday\n09:00-10:00 T 1-4 Gamma\n10:00-11:00 T 1-2 Beta\n\
+         oak 1995-12-18 Monday\n09:00-10:00 T 1-4 Gamma\n10:00-11:00 T 1-2 Beta\n",
     ),
     // an earlier meeting takes the slot of a booking that was taken back, and the cancel is void
     (
@@ -172,7 +175,7 @@ static RUN: [(&str, &str); 20] = [
          errors 4 oak\noutcome 4 oak 4-1\nerrors 2 oak\ncommit 4 999999999999\ncommit 2 0\n\
          truncate 2 999999999999\ntruncate 2 0\nposition 9\nbatch 9 2 1\nbatch 2 9 1\ndeliver 1 9 all\n\
          deliver 999999999 2 999999999\nbatch 2 4 100000\ndeliver 1 4 0\ndeliver 0 4 all\n",
-        "ok\nok\nok\nmp1 2 4\nK 0\nE\noak full\n(no bookings)\noak committed\n(no bookings)\noak errors\n\
+        "ok\nok\nok\nmp2 2 4\nK 0\nE\noak full\n(no bookings)\noak committed\n(no bookings)\noak errors\n\
          (no errors)\nrefused 9 NoSuchRequest\nrefused 7 UnknownRoom\ncommitted 0\nrefused 10 NotPrimary\n\
          refused 12 BeyondCommitted\ndropped 0\nno replica\nno replica\nno replica\nno replica\nno batch\n\
          batch 1 10 bytes\ntook 0 writes 0 commits\nno batch\n",

@@ -1,6 +1,6 @@
 pub mod Fitting
+pub mod JsonBodies
 pub mod JsonTexts
-pub mod MemberCounts
 pub mod OneReading
 pub mod PathWords
 pub mod PlainTexts

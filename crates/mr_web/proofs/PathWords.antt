@@ -200,7 +200,7 @@ table_taken target =
     let room = IsUtf8-from_ascii (codes "room") room_ascii in
     let day = IsUtf8-from_ascii (codes "day") day_ascii in
     let id = IsUtf8-from_ascii (codes "id") id_ascii in
-    ((refl, λ f. record { fits = f; names = tt; small = lit< tt }), ((refl, λ f. record { fits = f; names = tt; small = lit< tt }), ((refl, λ f. record { fits = f; names = tt; small = lit< tt }), ((refl, λ f. record { fits = f; names = (room, (day, tt)); small = lit< tt }), ((refl, λ f. record { fits = f; names = (room, tt); small = lit< tt }), ((refl, λ f. record { fits = f; names = (room, (id, tt)); small = lit< tt }), ((refl, λ f. record { fits = f; names = tt; small = lit< tt }), tt)))))))
+    ((refl, λ f. record { fits = f; names = tt; small = lit< tt }), ((refl, λ f. record { fits = f; names = tt; small = lit< tt }), ((refl, λ f. record { fits = f; names = tt; small = lit< tt }), ((refl, λ f. record { fits = f; names = tt; small = lit< tt }), ((refl, λ f. record { fits = f; names = (room, (day, tt)); small = lit< tt }), ((refl, λ f. record { fits = f; names = (room, tt); small = lit< tt }), ((refl, λ f. record { fits = f; names = (room, (id, tt)); small = lit< tt }), ((refl, λ f. record { fits = f; names = tt; small = lit< tt }), tt))))))))
 
 -- the words of a target at the parameters of its route
 pub words_are_text : (target : List ℕ) (r : RouteOf Resource) → IsUtf8 target → first table target ≡ Some r → AllText (taken target r)

@@ -8,7 +8,7 @@ use Rattle.mr_model.specs.Replica.{Replica}
 use Rattle.mr_model.specs.Replies.{Reply}
 use Rattle.mr_model.specs.Tables.{Tables, Stands}
 use Rattle.mr_model.specs.Step as model
-use Rattle.mr_model.specs.Http.{Head, Route, Submissions, Day, Request, ErrorLog, PositionOf, Pull, Push, Response, Asked, Faulty, Runs, Serves, is_post, method_name, command_of, body_length, greatest_body, bad_request, not_allowed, too_large, ask_command, ask_length, ask_route, response_of, response_text, asked as asked_of}
+use Rattle.mr_model.specs.Http.{Head, Route, Submissions, Cancellations, Day, Request, ErrorLog, PositionOf, Pull, Push, Response, Asked, Faulty, Runs, Serves, is_post, method_name, command_of, body_length, greatest_body, bad_request, not_allowed, too_large, ask_command, ask_length, ask_route, response_of, response_text, asked as asked_of}
 use Rattle.mr_service.specs.declared.commands.Command.{Command}
 use Rattle.mr_service.specs.Asked.{command_of as command_view}
 use Rattle.mr_http.specs.Faults.{web_fault}
@@ -32,6 +32,7 @@ use Rattle.mr_web.specs.declared.rejections.Stop.TheVariants as stop
 -- the head is of no weight for a command
 command_same : (head : Option Head) (route : Route) (body : Text) → command_of (readings head) route body ≡ command_of (readings None) route body
 command_same head Submissions body = refl
+command_same head Cancellations body = refl
 command_same head (Day room day) body = refl
 command_same head (Request room id) body = refl
 command_same head (ErrorLog room) body = refl

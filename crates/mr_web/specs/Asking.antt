@@ -7,6 +7,7 @@ use Rattle.mr_model.specs.Step.{Command}
 use Rattle.mr_model.specs.Http.{Head, Field, Readings, Route, Response, Served, Asked, Faulty, Runs, is_post, method_name, command_of, body_length, greatest_body, bad_request, not_found, too_large, not_allowed, asked as asked_of}
 use Rattle.mr_http.specs.Heads.{IsHead, HasNoHead}
 use Rattle.mr_http.specs.Fields.{fields_of}
+use Rattle.mr_web.specs.Cancellations.{cancellation_of}
 use Rattle.mr_web.specs.Routes.{route_of}
 use Rattle.mr_web.specs.Submissions.{submission_of}
 
@@ -30,7 +31,7 @@ ReadsHead input (Some head) = (h : RequestHead) × (rest : Text) × IsHead input
 
 -- the readings of the libraries, where this is the head of the input at hand
 abbrev pub readings : Option Head → Readings
-readings head = record { head = λ input. head; route = route_of; submission = submission_of }
+readings head = record { head = λ input. head; route = route_of; submission = submission_of; cancellation = cancellation_of }
 
 -- the input is served, with the readings of the libraries
 abbrev pub IsServed : Text → Replica → Text → ℕ → Replica → Type 0

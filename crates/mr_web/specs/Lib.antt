@@ -1,6 +1,8 @@
--- A reader of the contracts trusts Asking, Laws, Read, Routes, Served, Steps, Submissions, Views, Words and Written. The others, Plain
--- and Replies, serve private clauses and proofs alone.
+-- A reader of the contracts trusts Asking, Cancellations, JsonBodies, Laws, Read, Routes, Served, Steps, Submissions, Views, Words and
+-- Written. The others, Plain and Replies, serve private clauses and proofs alone.
 pub mod Asking
+pub mod Cancellations
+pub mod JsonBodies
 pub mod Laws
 pub mod Plain
 pub mod Read

@@ -8,7 +8,7 @@ use Rattle.matchit.specs.Params.{walk, named}
 use Rattle.matchit.specs.Seek.{first}
 use Rattle.matchit.specs.declared.error.InsertError.{InsertError}
 use Rattle.mr_model.specs.Texts.{Text}
-use Rattle.mr_model.specs.Http.{Route, Submissions, Day, Request, ErrorLog, PositionOf, Pull, Push}
+use Rattle.mr_model.specs.Http.{Route, Submissions, Cancellations, Day, Request, ErrorLog, PositionOf, Pull, Push}
 use Rattle.mr_web.specs.declared.routes.Resource.{Resource}
 use Rattle.mr_web.specs.declared.routes.Resource.TheVariants as at
 
@@ -26,7 +26,8 @@ table =
     put (parse_route (codes "/rooms/{room}/errors")) at.ErrorLog (
     put (parse_route (codes "/rooms/{room}/requests/{id}")) at.Request (
     put (parse_route (codes "/rooms/{room}/days/{day}")) at.Day (
-    put (parse_route (codes "/submit")) at.Submissions []))))))
+    put (parse_route (codes "/cancel")) at.Cancellations (
+    put (parse_route (codes "/submit")) at.Submissions [])))))))
 
 -- the names of the parameters, each with the word that it has in the target
 abbrev pub taken : Text → RouteOf Resource → List (Text × Text)
@@ -37,6 +38,7 @@ word_of name words = unwrap_or (named name words) []
 
 abbrev pub route_at : Resource → List (Text × Text) → Route
 route_at at.Submissions words = Submissions
+route_at at.Cancellations words = Cancellations
 route_at at.Day words = Day (word_of (codes "room") words) (word_of (codes "day") words)
 route_at at.Request words = Request (word_of (codes "room") words) (word_of (codes "id") words)
 route_at at.ErrorLog words = ErrorLog (word_of (codes "room") words)

@@ -1,27 +1,10 @@
 -- Submissions: JSON objects with exactly the members of one.
-use Rattle.std.specs.Prelude.{ℕ, suc, List, [], ◌∷◌, Option, Some, None, codes, decimal, if◌then◌else◌, ◌==◌, option_and_then, option_map}
-use Rattle.std.specs.Str.{is_utf8}
-use Rattle.serde_json.specs.Data.{Data, null, boolean, number, string, array, object, Items, no_items, item, Members, no_members, member}
-use Rattle.serde_json.specs.Find.{get, as_str, as_number, as_u64, as_array}
-use Rattle.serde_json.specs.Read.{read}
+use Rattle.std.specs.Prelude.{ℕ, List, [], ◌∷◌, Option, Some, None, codes, decimal, if◌then◌else◌, ◌==◌, option_and_then, option_map}
+use Rattle.serde_json.specs.Data.{Data, Items, no_items, item}
+use Rattle.serde_json.specs.Find.{get, as_number, as_u64, as_array}
 use Rattle.mr_model.specs.Texts.{Text}
 use Rattle.mr_model.specs.Step.{Submission, SlotWords}
-
-abbrev pub member_count : Members → ℕ
-member_count no_members = 0
-member_count (member k d ms) = suc (member_count ms)
-
--- how many members an object has; what is none has none
-abbrev pub members_in : Data → ℕ
-members_in (object ms) = member_count ms
-members_in null = 0
-members_in (boolean b) = 0
-members_in (number n) = 0
-members_in (string s) = 0
-members_in (array ds) = 0
-
-abbrev pub text_at : Text → Data → Option Text
-text_at key d = option_and_then as_str (get key d)
+use Rattle.mr_web.specs.JsonBodies.{json_of, members_in, text_at}
 
 abbrev pub number_at : Text → Data → Option ℕ
 number_at key d = option_and_then as_u64 (option_and_then as_number (get key d))
@@ -102,4 +85,4 @@ submission_in d =
 
 -- the submission that a body is, as the library reads it
 abbrev pub submission_of : Text → Option Submission
-submission_of body = if is_utf8 body then option_and_then submission_in (read body) else None
+submission_of body = option_and_then submission_in (json_of body)

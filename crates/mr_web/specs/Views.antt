@@ -1,6 +1,7 @@
 -- What the code's values mean.
 use Rattle.std.specs.Prelude.{◌≡◌, ◌⊎◌, ◌++◌, ℕ, List, map, Option, Some, None, Result, Ok, Err, take}
 use Rattle.std.specs.Io.KnownBytes.{Appends, Keeps}
+use Rattle.std.specs.String.{string_bytes}
 use Rattle.mr_model.specs.Texts.{Text}
 use Rattle.mr_model.specs.Replica.{Replica}
 use Rattle.mr_model.specs.Tables.{Tables, Stands}
@@ -16,6 +17,7 @@ use Rattle.mr_service.specs.Asked.{command_of, words_of}
 use Rattle.mr_web.specs.Asking.{IsServed, Asks}
 use Rattle.mr_web.specs.Submissions.{Wish}
 use Rattle.mr_web.specs.Words.{route_view}
+use Rattle.mr_web.specs.declared.cancellations.CancelWords.{CancelWords}
 use Rattle.mr_web.specs.declared.checks.Asked.{Asked as AskedWords}
 use Rattle.mr_web.specs.declared.rejections.Rejection.{Rejection}
 use Rattle.mr_web.specs.declared.rejections.Rejection.TheVariants as rejection
@@ -62,6 +64,11 @@ AddsSlots slots old new (Ok u) = (more : List model.SlotWords) × (slots ≡ Som
 AddsSlots slots old new (Err (stop.Fault read.Read)) = ⊥
 AddsSlots slots old new (Err (stop.Fault read.Memory)) = Unit {0}
 AddsSlots slots old new (Err (stop.Rejected r)) = (slots ≡ None) × (r ≡ rejection.BadRequest)
+
+-- ---- cancellations
+
+abbrev pub cancellation_view : CancelWords → Text × Text
+cancellation_view c = (string_bytes c.room, string_bytes c.id)
 
 -- ---- replies
 

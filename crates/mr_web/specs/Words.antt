@@ -14,6 +14,7 @@ words_in p = walk p.pattern.now p.text.now p.path.now p.names.now 0 0
 
 abbrev pub route_view : Route → model.Route
 route_view route.Submissions = model.Submissions
+route_view route.Cancellations = model.Cancellations
 route_view (route.Day room day) = model.Day (string_bytes room) (string_bytes day)
 route_view (route.Request room id) = model.Request (string_bytes room) (string_bytes id)
 route_view (route.ErrorLog room) = model.ErrorLog (string_bytes room)

@@ -27,7 +27,7 @@ fn takes_post(resource: Resource) -> bool
     ensures { (words : List (Text × Text)) → result ≡ is_post (route_at resource words) }
 {
     match resource {
-        Resource::Submissions | Resource::Pull | Resource::Push => true,
+        Resource::Submissions | Resource::Cancellations | Resource::Pull | Resource::Push => true,
         Resource::Day | Resource::Request | Resource::ErrorLog | Resource::Position => false,
     }
 }

@@ -6,7 +6,9 @@
 //! Of a reader that doesn't tell its bytes, as a socket doesn't, it says so for some request.
 #![tactic(auto)]
 
+mod cancellations;
 mod checks;
+mod json_bodies;
 mod json_texts;
 mod laws;
 mod rejections;

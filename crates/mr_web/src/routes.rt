@@ -10,6 +10,7 @@ use std::alloc::{AllocError, Global};
 #[derive(Clone, Copy)]
 pub(crate) enum Resource {
     Submissions,
+    Cancellations,
     Day,
     Request,
     ErrorLog,
@@ -22,6 +23,7 @@ pub(crate) enum Resource {
 #[derive(Drop)]
 pub(crate) enum Route {
     Submissions,
+    Cancellations,
     Day { room: String, day: String },
     Request { room: String, id: String },
     ErrorLog { room: String },
@@ -45,6 +47,7 @@ fn add_routes(router: &mut Router<Resource>) -> Result<(), InsertError>
     ensures { IfOk result (λ _. router.new ≡ spec.table) }
 {
     router.insert("/submit", Resource::Submissions)?;
+    router.insert("/cancel", Resource::Cancellations)?;
     router.insert("/rooms/{room}/days/{day}", Resource::Day)?;
     router.insert("/rooms/{room}/requests/{id}", Resource::Request)?;
     router.insert("/rooms/{room}/errors", Resource::ErrorLog)?;
@@ -72,6 +75,7 @@ pub(crate) fn with_words(
 {
     match resource {
         Resource::Submissions => Ok(Route::Submissions),
+        Resource::Cancellations => Ok(Route::Cancellations),
         Resource::Day => Ok(Route::Day {
             room: word(alloc, params, "room")?,
             day: word(alloc, params, "day")?,

@@ -15,6 +15,7 @@ ghost use Rattle.mr_web.specs.Views.{AnswersTo, Ends, Gives, IsServeFault, Settl
 ghost use Rattle.mr_web.specs.Words.{route_view};
 ghost use Rattle.mr_web.specs.Written.{Makes, Writes};
 
+use crate::cancellations::cancellation;
 use crate::checks::asked_by;
 use crate::rejections::{Rejection, Stop};
 use crate::replies::{Answer, answer_to_rejection, answer_to_reply};
@@ -43,6 +44,13 @@ fn command_of(alloc: Global, route: Route, body: &[u8]) -> Result<Command, Stop>
         Route::Submissions => {
             let words = submission(alloc, body)?;
             Ok(Command::Local(Local::Submit(words)))
+        }
+        Route::Cancellations => {
+            let words = cancellation(alloc, body)?;
+            Ok(Command::Local(Local::Cancel {
+                room: words.room,
+                id: words.id,
+            }))
         }
         Route::Day { room, day } => Ok(Command::Local(Local::Sheet { room, day })),
         Route::Request { room, id } => Ok(Command::Local(Local::Outcome { room, id })),

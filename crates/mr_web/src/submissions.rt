@@ -6,13 +6,11 @@ ghost use Rattle.mr_service.specs.Asked.{words_of, submission_of};
 ghost use Rattle.mr_web.specs.Submissions as spec;
 ghost use Rattle.mr_web.specs.Views.{AddsSlots, Gives, slots_view, wish_view};
 
-use crate::rejections::{Rejection, Stop};
-use mr_http::ReadFault;
+use crate::json_bodies::{BAD_REQUEST, json_in, member_count, text_at};
+use crate::rejections::Stop;
 use mr_service::{SlotWords, Submission};
 use serde_json::Value;
 use std::alloc::{AllocError, Global};
-
-const BAD_REQUEST: Stop = Stop::Rejected(Rejection::BadRequest);
 
 // What a submission says beside its alternatives.
 #[derive(Clone, Copy)]
@@ -22,21 +20,6 @@ struct Words<'v> {
     minutes: u64,
     day: &'v str,
     time: &'v str,
-}
-
-fn member_count(value: &Value) -> usize
-    ensures { result ≡ spec.members_in (view value.now) }
-{
-    match value.as_object() {
-        Some(members) => members.len(),
-        None => 0,
-    }
-}
-
-fn text_at<'v>(value: &'v Value, key: &str) -> Option<&'v str>
-    ensures { option_map (λ s. s.now) result ≡ spec.text_at key.now (view value.now) }
-{
-    value.get(key).and_then(Value::as_str)
 }
 
 fn minutes_of(value: &Value) -> Option<u64>
@@ -158,18 +141,10 @@ fn submission_in(alloc: Global, value: &Value) -> Result<Submission, Stop>
     Ok(submission_with(alloc, wish, alternatives)?)
 }
 
-/// The submission that a body is. Want of memory is apart from a body that is none.
+/// The submission that a body is. Out of memory is apart from a body that is none.
 pub(crate) fn submission(alloc: Global, body: &[u8]) -> Result<Submission, Stop>
     ensures { Gives submission_of result (ok_or (spec.submission_of body.now) bad_request) }
 {
-    match Value::from_slice(alloc, body) {
-        Ok(value) => submission_in(alloc, &value),
-        Err(error) => {
-            if error.is_memory() {
-                Err(Stop::Fault(ReadFault::Memory))
-            } else {
-                Err(BAD_REQUEST)
-            }
-        }
-    }
+    let value = json_in(alloc, body)?;
+    submission_in(alloc, &value)
 }

@@ -11,7 +11,7 @@ use std::process::Abort;
 use std::test::Fail;
 
 pub(crate) const BATCH: &[u8] =
-    b"mr1 1 1\nW 1 1 1 oak 60 1995-12-18 14:00 0 Alpha\nW 2 1 1 oak 60 1995-12-18 13:30 1 1995-12-18 15:00 Beta\nE\n";
+    b"mr2 1 1\nW 1 1 1 oak 60 1995-12-18 14:00 0 Alpha\nW 2 1 1 oak 60 1995-12-18 13:30 1 1995-12-18 15:00 Beta\nE\n";
 
 const HEAD: &[u8] = b"HTTP/1.1 200 OK\r\nContent-Length: 106\r\n\r\n";
 
@@ -71,12 +71,12 @@ fn asks_for_a_batch(rt: HostRuntime) -> Result<(), Fail> {
     assert!(rt; pull_ask(alloc, &mut service, "a", &mut writer) == Ok(()));
     assert_eq!(rt;
         writer.as_slice(),
-        &b"POST /pull HTTP/1.1\r\nHost: a\r\nContent-Length: 14\r\nConnection: close\r\n\r\nmp1 9 1\nK 0\nE\n"[..]
+        &b"POST /pull HTTP/1.1\r\nHost: a\r\nContent-Length: 14\r\nConnection: close\r\n\r\nmp2 9 1\nK 0\nE\n"[..]
     );
     Ok(())
 }
 
-// A replica pulls the batch, and pushes on what a peer lacks, under its own name.
+// A replica pulls the batch, and pushes on what a peer lacks, under its own name and in the version of the peer's position.
 #[test]
 fn pulls_and_pushes(rt: HostRuntime) -> Result<(), Fail> {
     let alloc = rt.alloc();
@@ -86,24 +86,36 @@ fn pulls_and_pushes(rt: HostRuntime) -> Result<(), Fail> {
     let mut writer = Vec::new(alloc);
     let pulled = pull(alloc, &mut service, "a", &mut reader, &mut writer);
     assert!(rt; pulled == Ok((2, 0, Ending::Complete)));
-    assert!(rt; writer.as_slice().ends_with(b"mp1 9 1\nK 0\nE\n"));
-    let told = b"HTTP/1.1 200 OK\r\nContent-Length: 20\r\n\r\nmp1 1 1\nK 0\nV 1 1\nE\n";
+    assert!(rt; writer.as_slice().ends_with(b"mp2 9 1\nK 0\nE\n"));
+    for (told, pushed) in [
+        (
+            &b"HTTP/1.1 200 OK\r\nContent-Length: 20\r\n\r\nmp2 1 1\nK 0\nV 1 1\nE\n"[..],
+            &b"POST /push HTTP/1.1\r\nHost: a\r\nContent-Length: 66\r\nConnection: close\r\n\r\nmr2 9 1\nW 2 1 1 oak 60 1995-12-18 13:30 1 1995-12-18 15:00 Beta\nE\n"[..],
+        ),
+        (
+            &b"HTTP/1.1 200 OK\r\nContent-Length: 20\r\n\r\nmp1 1 1\nK 0\nV 1 1\nE\n"[..],
+            &b"POST /push HTTP/1.1\r\nHost: a\r\nContent-Length: 66\r\nConnection: close\r\n\r\nmr1 9 1\nW 2 1 1 oak 60 1995-12-18 13:30 1 1995-12-18 15:00 Beta\nE\n"[..],
+        ),
+    ] {
+        check_pushed(&rt, alloc, &mut service, told, pushed)?;
+    }
+    Ok(())
+}
+
+// To a peer that tells this position the replica pushes this.
+fn check_pushed(
+    rt: &impl Abort,
+    alloc: Global,
+    service: &mut Service<ListKeeper>,
+    told: &[u8],
+    pushed: &[u8],
+) -> Result<(), Fail> {
     let position = took_position(alloc, told).ok().ok_or("no position")?;
     let mut reader = &b"HTTP/1.1 200 OK\r\nContent-Length: 24\r\n\r\ntook 1 writes 0 commits\n"[..];
-    writer.clear();
-    let pushed = push(
-        alloc,
-        &mut service,
-        &position,
-        "a",
-        &mut reader,
-        &mut writer,
-    );
-    assert!(rt; pushed == Ok((1, 0, Ending::Complete)));
-    assert_eq!(rt;
-        writer.as_slice(),
-        &b"POST /push HTTP/1.1\r\nHost: a\r\nContent-Length: 66\r\nConnection: close\r\n\r\nmr1 9 1\nW 2 1 1 oak 60 1995-12-18 13:30 1 1995-12-18 15:00 Beta\nE\n"[..]
-    );
+    let mut writer = Vec::new(alloc);
+    let took = push(alloc, service, &position, "a", &mut reader, &mut writer);
+    assert!(rt; took == Ok((1, 0, Ending::Complete)));
+    assert_eq!(rt; writer.as_slice(), pushed);
     Ok(())
 }
 
@@ -133,11 +145,11 @@ fn refused_pushes(rt: HostRuntime) -> Result<(), Fail> {
     service.ask(&Command::Local(Local::Truncate(1)));
     for (told, refusal) in [
         (
-            &b"HTTP/1.1 200 OK\r\nContent-Length: 14\r\n\r\nmp1 2 1\nK 0\nE\n"[..],
+            &b"HTTP/1.1 200 OK\r\nContent-Length: 14\r\n\r\nmp2 2 1\nK 0\nE\n"[..],
             Refusal::Truncated,
         ),
         (
-            &b"HTTP/1.1 200 OK\r\nContent-Length: 14\r\n\r\nmp1 2 3\nK 0\nE\n"[..],
+            &b"HTTP/1.1 200 OK\r\nContent-Length: 14\r\n\r\nmp2 2 3\nK 0\nE\n"[..],
             Refusal::WrongPrimary,
         ),
     ] {
@@ -156,15 +168,19 @@ fn positions_told(rt: HostRuntime) {
             WebFault::BadReply,
         ),
         (
-            &b"HTTP/1.1 200 OK\r\nContent-Length: 20\r\n\r\nmp1 1 1\nK 0\nV 1 1\nE"[..],
+            &b"HTTP/1.1 200 OK\r\nContent-Length: 20\r\n\r\nmp2 1 1\nK 0\nV 1 1\nE"[..],
             WebFault::BadReply,
         ),
         (
-            &b"HTTP/1.1 200 OK\r\nTransfer-Encoding: chunked\r\nContent-Length: 14\r\n\r\nmp1 2 1\nK 0\nE\n"[..],
+            &b"HTTP/1.1 200 OK\r\nTransfer-Encoding: chunked\r\nContent-Length: 14\r\n\r\nmp2 2 1\nK 0\nE\n"[..],
             WebFault::BadReply,
         ),
         (
             &b"HTTP/1.0 200 OK\r\nContent-Length: 14\r\n\r\nmp1 2 1\nK 0\nE\n"[..],
+            WebFault::BadReply,
+        ),
+        (
+            &b"HTTP/1.1 200 OK\r\nContent-Length: 14\r\n\r\nmp3 2 1\nK 0\nE\n"[..],
             WebFault::BadReply,
         ),
         (
@@ -309,7 +325,7 @@ fn knows_nothing(
 ) -> Result<(), Fail> {
     let mut writer = Vec::new(alloc);
     assert!(rt; pull_ask(alloc, service, "a", &mut writer) == Ok(()));
-    assert!(rt; writer.as_slice().ends_with(b"mp1 9 1\nK 0\nE\n"));
+    assert!(rt; writer.as_slice().ends_with(b"mp2 9 1\nK 0\nE\n"));
     Ok(())
 }
 

@@ -1,19 +1,112 @@
-// What HTTP replies to a replica's cancels, which it has no route for, to the byte; and exchanges, whose first text tells no cancel. The
-// memory is ample.
+// What HTTP replies to cancels, to the byte; and exchanges, whose second text tells cancels and whose first does not. The memory is
+// ample.
 
 use crate::asking_tests::{pushed_to, service};
-use crate::round_tests::pull_from;
+use crate::round_tests::{pull_from, push_to};
 use crate::serving_tests::{FIRST, check, check_all, opening};
-use mr_base::Refusal;
+use mr_base::{Ending, Refusal};
 use mr_http::WebFault;
 use mr_service::{Command, Local, Service};
 use mr_store::ListKeeper;
-use std::alloc::{AllocError, Global};
+use std::alloc::Global;
 use std::process::Abort;
 use std::test::Fail;
 
-// A booking, the cancel that takes it back, and one that comes too late, all of them tentative.
-const TENTATIVE: [(&str, u16, &str); 8] = [
+// A cancel that takes the booking back, and one that comes too late.
+const CANCELS: [(&str, u16, &str); 2] = [
+    (
+        "POST /cancel HTTP/1.1\r\nContent-Length: 25\r\n\r\n{\"id\":\"1-1\",\"room\":\"oak\"}",
+        200,
+        "HTTP/1.1 200 OK\r\nContent-Type: application/json\r\nContent-Length: 56\r\nConnection: close\r\n\r\n{\"id\":\"1-2\",\"mark\":\"T\",\"state\":\"cancels\",\"target\":\"1-1\"}",
+    ),
+    (
+        "POST /cancel HTTP/1.1\r\nContent-Length: 25\r\n\r\n{\"room\":\"oak\",\"id\":\"1-1\"}",
+        200,
+        "HTTP/1.1 200 OK\r\nContent-Type: application/json\r\nContent-Length: 53\r\nConnection: close\r\n\r\n{\"id\":\"1-3\",\"mark\":\"T\",\"state\":\"void\",\"target\":\"1-1\"}",
+    ),
+];
+
+// Bodies that are no cancels, and cancels of what there is not; the last is one of a cancel.
+const NO_CANCELS: [(&str, u16, &str); 15] = [
+    (
+        "POST /cancel HTTP/1.1\r\nContent-Length: 31\r\n\r\n{\"id\":\"1-1\",\"room\":\"oak\",\"x\":1}",
+        400,
+        "HTTP/1.1 400 Bad Request\r\nContent-Type: application/json\r\nContent-Length: 23\r\nConnection: close\r\n\r\n{\"error\":\"bad request\"}",
+    ),
+    (
+        "POST /cancel HTTP/1.1\r\nContent-Length: 12\r\n\r\n{\"id\":\"1-1\"}",
+        400,
+        "HTTP/1.1 400 Bad Request\r\nContent-Type: application/json\r\nContent-Length: 23\r\nConnection: close\r\n\r\n{\"error\":\"bad request\"}",
+    ),
+    (
+        "POST /cancel HTTP/1.1\r\nContent-Length: 25\r\n\r\n{\"id\":\"1-1\",\"name\":\"oak\"}",
+        400,
+        "HTTP/1.1 400 Bad Request\r\nContent-Type: application/json\r\nContent-Length: 23\r\nConnection: close\r\n\r\n{\"error\":\"bad request\"}",
+    ),
+    (
+        "POST /cancel HTTP/1.1\r\nContent-Length: 21\r\n\r\n{\"id\":1,\"room\":\"oak\"}",
+        400,
+        "HTTP/1.1 400 Bad Request\r\nContent-Type: application/json\r\nContent-Length: 23\r\nConnection: close\r\n\r\n{\"error\":\"bad request\"}",
+    ),
+    (
+        "POST /cancel HTTP/1.1\r\nContent-Length: 24\r\n\r\n{\"id\":\"1-1\",\"room\":null}",
+        400,
+        "HTTP/1.1 400 Bad Request\r\nContent-Type: application/json\r\nContent-Length: 23\r\nConnection: close\r\n\r\n{\"error\":\"bad request\"}",
+    ),
+    (
+        "POST /cancel HTTP/1.1\r\nContent-Length: 13\r\n\r\n[\"1-1\",\"oak\"]",
+        400,
+        "HTTP/1.1 400 Bad Request\r\nContent-Type: application/json\r\nContent-Length: 23\r\nConnection: close\r\n\r\n{\"error\":\"bad request\"}",
+    ),
+    (
+        "POST /cancel HTTP/1.1\r\nContent-Length: 24\r\n\r\n{\"id\":\"1-1\",\"room\":\"oak\"",
+        400,
+        "HTTP/1.1 400 Bad Request\r\nContent-Type: application/json\r\nContent-Length: 23\r\nConnection: close\r\n\r\n{\"error\":\"bad request\"}",
+    ),
+    (
+        "POST /cancel HTTP/1.1\r\n\r\n",
+        400,
+        "HTTP/1.1 400 Bad Request\r\nContent-Type: application/json\r\nContent-Length: 23\r\nConnection: close\r\n\r\n{\"error\":\"bad request\"}",
+    ),
+    (
+        "GET /cancel HTTP/1.1\r\n\r\n",
+        405,
+        "HTTP/1.1 405 Method Not Allowed\r\nContent-Type: application/json\r\nAllow: POST\r\nContent-Length: 30\r\nConnection: close\r\n\r\n{\"error\":\"method not allowed\"}",
+    ),
+    (
+        "POST /cancel/1-1 HTTP/1.1\r\nContent-Length: 0\r\n\r\n",
+        404,
+        "HTTP/1.1 404 Not Found\r\nContent-Type: application/json\r\nContent-Length: 21\r\nConnection: close\r\n\r\n{\"error\":\"not found\"}",
+    ),
+    (
+        "POST /cancel HTTP/1.1\r\nContent-Length: 25\r\n\r\n{\"id\":\"1-1\",\"room\":\"o k\"}",
+        400,
+        "HTTP/1.1 400 Bad Request\r\nContent-Type: application/json\r\nContent-Length: 34\r\nConnection: close\r\n\r\n{\"name\":\"BadRoomName\",\"refusal\":4}",
+    ),
+    (
+        "POST /cancel HTTP/1.1\r\nContent-Length: 25\r\n\r\n{\"id\":\"1-1\",\"room\":\"elm\"}",
+        404,
+        "HTTP/1.1 404 Not Found\r\nContent-Type: application/json\r\nContent-Length: 34\r\nConnection: close\r\n\r\n{\"name\":\"UnknownRoom\",\"refusal\":7}",
+    ),
+    (
+        "POST /cancel HTTP/1.1\r\nContent-Length: 26\r\n\r\n{\"id\":\"1-01\",\"room\":\"oak\"}",
+        404,
+        "HTTP/1.1 404 Not Found\r\nContent-Type: application/json\r\nContent-Length: 36\r\nConnection: close\r\n\r\n{\"name\":\"NoSuchRequest\",\"refusal\":9}",
+    ),
+    (
+        "POST /cancel HTTP/1.1\r\nContent-Length: 25\r\n\r\n{\"id\":\"7-1\",\"room\":\"oak\"}",
+        404,
+        "HTTP/1.1 404 Not Found\r\nContent-Type: application/json\r\nContent-Length: 36\r\nConnection: close\r\n\r\n{\"name\":\"NoSuchRequest\",\"refusal\":9}",
+    ),
+    (
+        "POST /cancel HTTP/1.1\r\nContent-Length: 25\r\n\r\n{\"id\":\"1-2\",\"room\":\"oak\"}",
+        404,
+        "HTTP/1.1 404 Not Found\r\nContent-Type: application/json\r\nContent-Length: 36\r\nConnection: close\r\n\r\n{\"name\":\"NoSuchRequest\",\"refusal\":9}",
+    ),
+];
+
+// The booking and both cancels, all of them tentative. The first text tells no cancel.
+const TENTATIVE: [(&str, u16, &str); 11] = [
     (
         "GET /rooms/oak/requests/1-1 HTTP/1.1\r\n\r\n",
         200,
@@ -54,6 +147,21 @@ const TENTATIVE: [(&str, u16, &str); 8] = [
         200,
         "HTTP/1.1 200 OK\r\nContent-Type: text/plain\r\nContent-Length: 10\r\nConnection: close\r\n\r\nmr1 1 1\nE\n",
     ),
+    (
+        "POST /pull HTTP/1.1\r\nContent-Length: 14\r\n\r\nmp2 9 1\nK 0\nE\n",
+        200,
+        "HTTP/1.1 200 OK\r\nContent-Type: text/plain\r\nContent-Length: 91\r\nConnection: close\r\n\r\nmr2 1 1\nW 1 1 1 oak 60 1995-12-18 13:30 0 Budget Meeting\nX 1 2 2 oak 1 1\nX 1 3 3 oak 1 1\nE\n",
+    ),
+    (
+        "POST /pull HTTP/1.1\r\nContent-Length: 20\r\n\r\nmp2 9 1\nK 0\nV 1 2\nE\n",
+        200,
+        "HTTP/1.1 200 OK\r\nContent-Type: text/plain\r\nContent-Length: 26\r\nConnection: close\r\n\r\nmr2 1 1\nX 1 3 3 oak 1 1\nE\n",
+    ),
+    (
+        "POST /pull HTTP/1.1\r\nContent-Length: 20\r\n\r\nmp2 9 1\nK 0\nV 1 3\nE\n",
+        200,
+        "HTTP/1.1 200 OK\r\nContent-Type: text/plain\r\nContent-Length: 10\r\nConnection: close\r\n\r\nmr2 1 1\nE\n",
+    ),
 ];
 
 // The booking is committed, and its cancel is not.
@@ -71,7 +179,7 @@ const HALF_COMMITTED: [(&str, u16, &str); 2] = [
 ];
 
 // All three are committed.
-const COMMITTED: [(&str, u16, &str); 6] = [
+const COMMITTED: [(&str, u16, &str); 7] = [
     (
         "GET /rooms/oak/requests/1-1 HTTP/1.1\r\n\r\n",
         200,
@@ -102,22 +210,18 @@ const COMMITTED: [(&str, u16, &str); 6] = [
         200,
         "HTTP/1.1 200 OK\r\nContent-Type: text/plain\r\nContent-Length: 34\r\nConnection: close\r\n\r\nmr1 1 1\nC 1 1 1\nC 2 1 2\nC 3 1 3\nE\n",
     ),
+    (
+        "POST /pull HTTP/1.1\r\nContent-Length: 14\r\n\r\nmp2 9 1\nK 0\nE\n",
+        200,
+        "HTTP/1.1 200 OK\r\nContent-Type: text/plain\r\nContent-Length: 115\r\nConnection: close\r\n\r\nmr2 1 1\nW 1 1 1 oak 60 1995-12-18 13:30 0 Budget Meeting\nC 1 1 1\nX 1 2 2 oak 1 1\nC 2 1 2\nX 1 3 3 oak 1 1\nC 3 1 3\nE\n",
+    ),
 ];
-
-// Cancels the booking of oak with this id.
-fn cancel(alloc: Global, service: &mut Service<ListKeeper>, id: &str) -> Result<(), AllocError> {
-    let room = String::from_str(alloc, "oak")?;
-    let id = String::from_str(alloc, id)?;
-    service.ask(&Command::Local(Local::Cancel { room, id }));
-    Ok(())
-}
 
 // The primary, with the booking and both cancels.
 fn cancelled_twice(rt: &impl Abort, alloc: Global) -> Result<Service<ListKeeper>, Fail> {
     let mut service = opening(alloc)?;
     check(rt, alloc, &mut service, FIRST[0])?;
-    cancel(alloc, &mut service, "1-1")?;
-    cancel(alloc, &mut service, "1-1")?;
+    check_all(rt, alloc, &mut service, &CANCELS)?;
     Ok(service)
 }
 
@@ -132,27 +236,46 @@ fn tells_of_cancels(rt: HostRuntime) -> Result<(), Fail> {
     check_all(&rt, alloc, &mut service, &COMMITTED)
 }
 
-// A replica that lacks a cancel gets no batch, and takes nothing.
+// What is no cancel, or is refused, leaves all as it was.
 #[test]
-fn pulls_no_cancel(rt: HostRuntime) -> Result<(), Fail> {
+fn refuses_what_is_no_cancel(rt: HostRuntime) -> Result<(), Fail> {
+    let alloc = rt.alloc();
+    let mut service = cancelled_twice(&rt, alloc)?;
+    check_all(&rt, alloc, &mut service, &NO_CANCELS)?;
+    check_all(&rt, alloc, &mut service, &TENTATIVE)
+}
+
+// A replica pulls the booking and both cancels, of which it has heard nothing, and nothing then.
+#[test]
+fn pulls_cancels(rt: HostRuntime) -> Result<(), Fail> {
     let alloc = rt.alloc();
     let mut server = cancelled_twice(&rt, alloc)?;
     let mut client = service(alloc, 2)?;
-    for _ in 0..2u32 {
+    for writes in [3, 0] {
         let pulled = pull_from(alloc, &mut client, &mut server);
-        assert!(rt; pulled == Err(WebFault::Peer(409)));
+        assert!(rt; pulled == Ok((writes, 0, Ending::Complete)));
     }
     Ok(())
 }
 
-// A replica makes no batch of a cancel, and writes nothing.
+// The same pushed.
 #[test]
-fn pushes_no_cancel(rt: HostRuntime) -> Result<(), Fail> {
+fn pushes_cancels(rt: HostRuntime) -> Result<(), Fail> {
     let alloc = rt.alloc();
-    let mut service = service(alloc, 9)?;
-    let batch = b"mr1 1 1\nW 1 1 1 oak 60 1995-12-18 14:00 0 Alpha\nE\n";
-    service.ask(&Command::Receive(Vec::from_slice(alloc, batch)?));
-    cancel(alloc, &mut service, "1-1")?;
+    let mut client = cancelled_twice(&rt, alloc)?;
+    let mut server = service(alloc, 2)?;
+    for writes in [3, 0] {
+        let pushed = push_to(alloc, &mut client, &mut server);
+        assert!(rt; pushed == Ok((writes, 0, Ending::Complete)));
+    }
+    Ok(())
+}
+
+// A replica makes no batch of a cancel for a position of the first version, and writes nothing.
+#[test]
+fn pushes_no_cancel_in_the_first_text(rt: HostRuntime) -> Result<(), Fail> {
+    let alloc = rt.alloc();
+    let mut service = cancelled_twice(&rt, alloc)?;
     let lacking = b"HTTP/1.1 200 OK\r\nContent-Length: 20\r\n\r\nmp1 2 1\nK 0\nV 1 1\nE\n";
     let asked = pushed_to(alloc, &mut service, lacking)?;
     assert!(rt; asked == Err(WebFault::Own(Refusal::NeedsVersion2)));

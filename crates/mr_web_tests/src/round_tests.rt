@@ -64,7 +64,7 @@ fn push_request(
     Ok((request, ending))
 }
 
-fn push_to(
+pub(crate) fn push_to(
     alloc: Global,
     client: &mut Service<ListKeeper>,
     server: &mut Service<ListKeeper>,

@@ -51,7 +51,7 @@ pub(crate) const FIRST: [(&str, u16, &str); 7] = [
 ];
 
 // The other routes, once each.
-const ROUTES: [(&str, u16, &str); 6] = [
+const ROUTES: [(&str, u16, &str); 8] = [
     (
         "POST /push HTTP/1.1\r\nContent-Length: 66\r\n\r\nmr1 2 1\nW 2 1 1 oak 60 1995-12-18 13:30 1 1995-12-18 15:00 Beta\nE\n",
         200,
@@ -75,12 +75,22 @@ const ROUTES: [(&str, u16, &str); 6] = [
     (
         "GET /position HTTP/1.1\r\n\r\n",
         200,
-        "HTTP/1.1 200 OK\r\nContent-Type: text/plain\r\nContent-Length: 26\r\nConnection: close\r\n\r\nmp1 1 1\nK 0\nV 1 1\nV 2 1\nE\n",
+        "HTTP/1.1 200 OK\r\nContent-Type: text/plain\r\nContent-Length: 26\r\nConnection: close\r\n\r\nmp2 1 1\nK 0\nV 1 1\nV 2 1\nE\n",
     ),
     (
         "POST /pull HTTP/1.1\r\nContent-Length: 14\r\n\r\nmp1 9 1\nK 0\nE\n",
         200,
         "HTTP/1.1 200 OK\r\nContent-Type: text/plain\r\nContent-Length: 115\r\nConnection: close\r\n\r\nmr1 1 1\nW 1 1 1 oak 60 1995-12-18 13:30 0 Budget Meeting\nW 2 1 1 oak 60 1995-12-18 13:30 1 1995-12-18 15:00 Beta\nE\n",
+    ),
+    (
+        "POST /pull HTTP/1.1\r\nContent-Length: 14\r\n\r\nmp2 9 1\nK 0\nE\n",
+        200,
+        "HTTP/1.1 200 OK\r\nContent-Type: text/plain\r\nContent-Length: 115\r\nConnection: close\r\n\r\nmr2 1 1\nW 1 1 1 oak 60 1995-12-18 13:30 0 Budget Meeting\nW 2 1 1 oak 60 1995-12-18 13:30 1 1995-12-18 15:00 Beta\nE\n",
+    ),
+    (
+        "POST /cancel HTTP/1.1\r\nContent-Length: 25\r\n\r\n{\"id\":\"1-1\",\"room\":\"oak\"}",
+        200,
+        "HTTP/1.1 200 OK\r\nContent-Type: application/json\r\nContent-Length: 56\r\nConnection: close\r\n\r\n{\"id\":\"1-2\",\"mark\":\"T\",\"state\":\"cancels\",\"target\":\"1-1\"}",
     ),
 ];
 

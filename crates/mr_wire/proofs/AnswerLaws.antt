@@ -7,7 +7,7 @@ use Rattle.mr_model.specs.Positions.{Position, is_position, read_position, posit
 use Rattle.mr_model.proofs.PositionsReadBack.{read-position_text, read_position_text}
 use Rattle.mr_model.specs.Texts.{Text, whole_lines}
 use Rattle.mr_model.specs.Refusals as model
-use Rattle.mr_model.specs.Exchange.{Item, Ending, Header, Batch, is_batch, batch_text, BodyLine, ItemLine, LastLine, read_header, read_body_line, read_end, read_line, read_body, under_header, read_lines, read_batch, ReadsAs, IsFirstBadLine}
+use Rattle.mr_model.specs.Exchange.{Version, Item, Ending, Heading, Batch, is_batch, batch_text, BodyLine, ItemLine, LastLine, read_header, read_body_line, read_end, read_line, read_body, under_heading, under_header, read_lines, read_batch, ReadsAs, IsFirstBadLine}
 use Rattle.mr_model.proofs.BatchesReadBack.{one_text, read_reads, ok_inj}
 use Rattle.mr_model.proofs.FirstBadLine.{err_inj, ok_err, bad_line_is_first}
 use Rattle.mr_base.specs.Refusals.{refusal_of}
@@ -24,10 +24,10 @@ ok_reads bytes (Err e) h = tt
 IsBadLine : model.Refusal → Type 0
 IsBadLine e = (i : ℕ) × (e ≡ model.BadLine i)
 
-bad_body : (k : ℕ) (ls : List Text) (e : model.Refusal) → read_body k ls ≡ Err e → IsBadLine e
+bad_body : (v : Version) (k : ℕ) (ls : List Text) (e : model.Refusal) → read_body v k ls ≡ Err e → IsBadLine e
 unfolding IsBadLine
-bad_body k [] e h = absurd (ok_err _ e h)
-bad_body k (l ∷ ls) e h = go (read_body_line l) (read_body (k + 1) ls) (λ d. bad_body (k + 1) ls d) h
+bad_body v k [] e h = absurd (ok_err _ e h)
+bad_body v k (l ∷ ls) e h = go (read_body_line v l) (read_body v (k + 1) ls) (λ d. bad_body v (k + 1) ls d) h
   where
     ended : (ending : Ending) (ms : List Text) → read_end ending k ms ≡ Err e → (i : ℕ) × (e ≡ model.BadLine i)
     ended ending [] q = absurd (ok_err _ e q)
@@ -42,12 +42,15 @@ bad_body k (l ∷ ls) e h = go (read_body_line l) (read_body (k + 1) ls) (λ d. 
 bad_lines : (ls : List Text) (e : model.Refusal) → read_lines ls ≡ Err e → IsBadLine e
 unfolding IsBadLine
 bad_lines [] e h = absurd (ok_err _ e h)
-bad_lines (l ∷ ls) e h = go (read_header l) (read_body 2 ls) (λ d. bad_body 2 ls d) h
+bad_lines (l ∷ ls) e h = go (read_header l) h
   where
-    go : (o : Option Header) (body : Result (List Item × Ending) model.Refusal) → ((d : model.Refusal) → body ≡ Err d → (i : ℕ) × (d ≡ model.BadLine i)) → under_header o body ≡ Err e → (i : ℕ) × (e ≡ model.BadLine i)
-    go None body f q = (1, sym (err_inj (model.BadLine 1) e q))
-    go (Some d) (Ok body) f q = absurd (ok_err _ e q)
-    go (Some d) (Err x) f q = f e (ap Err (err_inj x e q))
+    under : (d : Heading) (body : Result (List Item × Ending) model.Refusal) → ((x : model.Refusal) → body ≡ Err x → (i : ℕ) × (x ≡ model.BadLine i)) → under_heading d body ≡ Err e → (i : ℕ) × (e ≡ model.BadLine i)
+    under d (Ok body) f q = absurd (ok_err _ e q)
+    under d (Err x) f q = f e (ap Err (err_inj x e q))
+
+    go : (o : Option Heading) → under_header o ls ≡ Err e → (i : ℕ) × (e ≡ model.BadLine i)
+    go None q = (1, sym (err_inj (model.BadLine 1) e q))
+    go (Some d) q = under d (read_body d.version 2 ls) (λ x. bad_body d.version 2 ls x) q
 
 first_bad_of : (bytes : Text) (e : model.Refusal) → read_batch bytes ≡ Err e → (i : ℕ) × (e ≡ model.BadLine i) × IsFirstBadLine bytes i
 unfolding IsBadLine

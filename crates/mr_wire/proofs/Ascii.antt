@@ -1,6 +1,6 @@
 -- Each line of a batch and of a position is ASCII, and so it is text.
-use Rattle.std.proofs.Common.{◌≡◌, refl, sym, subst, ℕ, ◌+◌, ◌-◌, ◌/◌, ◌%◌, ◌^◌, ◌<◌, ◌≤◌, Bool, true, false, not, ◌||◌, eqb, leb, List, [], ◌∷◌, length, ◌⊎◌, inl, inr, Option, Some, None, arith, lit<, leb-true, eqb-true}
-use Rattle.std.proofs.lemmas.Bool.{true≢false, and_parts, or_cases}
+use Rattle.std.proofs.Common.{◌≡◌, refl, sym, subst, ℕ, ◌+◌, ◌-◌, ◌/◌, ◌%◌, ◌^◌, ◌<◌, ◌≤◌, Bool, true, not, ◌||◌, eqb, leb, List, [], ◌∷◌, length, ◌⊎◌, inl, inr, Option, Some, None, arith, lit<, leb-true, eqb-true}
+use Rattle.std.proofs.lemmas.Bool.{and_parts, or_cases}
 use Rattle.std.proofs.lemmas.Fmt.{decimal_by_steps}
 use Rattle.std.proofs.lemmas.Str.{IsUtf8-from_ascii}
 use Rattle.std.proofs.lemmas.Str.Ascii.{IsAscii-nil, IsAscii-cons}
@@ -11,10 +11,10 @@ use Rattle.std.specs.List.{AllByRecursion, list_all}
 use Rattle.mr_model.specs.Texts.{Text, words, within, two_digits}
 use Rattle.mr_model.specs.Calendar.{Date, is_date, date_text, time_text}
 use Rattle.mr_model.specs.Slots.{Slot, is_slot, slot_words}
-use Rattle.mr_model.specs.Writes.{Stamp, Meeting, Action, Books, Cancels, is_write, is_id, is_server, is_count, is_commit_number, is_room_byte, is_room_name, is_title, choices_of, greatest_count, greatest_time}
-use Rattle.mr_model.specs.Exchange.{Header, Item, W, C, BodyLine, ItemLine, LastLine, Complete, More, Cut, is_header, is_item, header_line, write_words, write_line, item_line, read_header, read_body_line}
+use Rattle.mr_model.specs.Writes.{Stamp, Meeting, Action, Books, Cancels, is_write, is_stamp, is_meeting, is_action, is_id, is_server, is_count, is_commit_number, is_room_byte, is_room_name, is_title, choices_of, greatest_count, greatest_time}
+use Rattle.mr_model.specs.Exchange.{Version, First, Second, Heading, Item, W, C, BodyLine, ItemLine, LastLine, Complete, More, Cut, is_heading, is_in_version, is_item, version_word, heading_line, heading_in, stamp_words, meeting_words, target_words, write_words_of, item_line, read_header, read_body_line}
 use Rattle.mr_model.proofs.WordsReadBack.{all_append, date_facts}
-use Rattle.mr_model.proofs.LinesReadBack.{within-high, small, booking, write_facts, slots_all}
+use Rattle.mr_model.proofs.LinesReadBack.{within-high, small, stamp_facts, meeting_facts, id_facts, write_parts, slots_all}
 use Rattle.mr_model.proofs.BatchesReadBack.{own_text, IsLineOf, body_line_of}
 
 abbrev pub Low : Text → Type 0
@@ -88,77 +88,74 @@ slots_low : (ss : List Slot) → AllByRecursion (λ s. is_slot s ≡ true) ss �
 slots_low [] h = tt
 slots_low (s ∷ ss) h = let p = slot_low s h.0 in (p.0, (p.1, slots_low ss h.1))
 
-booking_low : (stamp : Stamp) (room : Text) (m : Meeting) → is_item (W (booking stamp room m)) ≡ true → Low (write_line (booking stamp room m))
-booking_low stamp room m ok =
-    let f = write_facts stamp room m ok in
+stamp_low : (kind : Text) → Low kind → (stamp : Stamp) → is_stamp stamp ≡ true → (room : Text) → is_room_name room ≡ true → (rest : List Text) → AllByRecursion Low rest → AllByRecursion Low (stamp_words kind stamp room rest)
+stamp_low kind k stamp ok room named rest r =
+    let f = stamp_facts stamp ok in
+    (k, (number_low stamp.server 99 f.server (lit< tt), (number_low stamp.n greatest_count f.n (lit< tt), (number_low stamp.time greatest_time f.time (lit< tt), (room_low room named, r)))))
+
+meeting_low : (m : Meeting) → is_meeting m ≡ true → AllByRecursion Low (meeting_words m)
+meeting_low m ok =
+    let f = meeting_facts m ok in
     let all : AllByRecursion (λ s. is_slot s ≡ true) (choices_of m) = slots_all m.length (choices_of m) f.slots in
-    let wish = slot_low m.wish all.0 in
-    words_low (write_words (booking stamp room m)) (
-      (lit< tt, tt),
+    let wish = slot_low m.wish all.0 in (
+      number_low m.length 1440 f.long (lit< tt),
       (
-        number_low stamp.server 99 f.server (lit< tt),
+        wish.0,
         (
-          number_low stamp.n greatest_count f.n (lit< tt),
+          wish.1,
           (
-            number_low stamp.time greatest_time f.time (lit< tt),
-            (
-              room_low room f.name,
-              (
-                number_low m.length 1440 f.long (lit< tt),
-                (
-                  wish.0,
-                  (
-                    wish.1,
-                    (
-                      number_low (length m.alternatives) 8 f.few (lit< tt),
-                      all_append Low (flat_map slot_words m.alternatives) (m.title ∷ []) (slots_low m.alternatives all.1) (title_low m.title f.title, tt),
-                    ),
-                  ),
-                ),
-              ),
-            ),
+            number_low (length m.alternatives) 16 f.few (lit< tt),
+            all_append Low (flat_map slot_words m.alternatives) (m.title ∷ []) (slots_low m.alternatives all.1) (title_low m.title f.title, tt),
           ),
         ),
       ),
     )
 
-write_low : (stamp : Stamp) (room : Text) (a : Action) → is_item (W (record { stamp = stamp; room = room; action = a })) ≡ true → Low (write_line (record { stamp = stamp; room = room; action = a }))
-write_low stamp room (Books m) ok = booking_low stamp room m ok
-write_low stamp room (Cancels t) ok = absurd (true≢false (sym (and_parts (is_write (record { stamp = stamp; room = room; action = Cancels t })) false ok).1))
+action_low : (stamp : Stamp) → is_stamp stamp ≡ true → (room : Text) → is_room_name room ≡ true → (a : Action) → is_action a ≡ true → AllByRecursion Low (write_words_of stamp room a)
+action_low stamp ok room named (Books m) good = stamp_low (codes "W") (lit< tt, tt) stamp ok room named (meeting_words m) (meeting_low m good)
+action_low stamp ok room named (Cancels t) good =
+    let f = id_facts t good in
+    stamp_low (codes "X") (lit< tt, tt) stamp ok room named (target_words t) (number_low t.server 99 f.0 (lit< tt), (number_low t.n greatest_count f.1 (lit< tt), tt))
 
-item_low : (x : Item) → is_item x ≡ true → Low (item_line x)
-item_low (W w) ok = write_low w.stamp w.room w.action ok
-item_low (C q id) ok =
+item_low : (v : Version) (x : Item) → is_item v x ≡ true → Low (item_line x)
+item_low v (W w) ok =
+    let p = write_parts w (and_parts (is_write w) (is_in_version v w) ok).0 in
+    words_low (write_words_of w.stamp w.room w.action) (action_low w.stamp p.0 w.room p.1 w.action p.2)
+item_low v (C q id) ok =
     let a = and_parts (is_commit_number q) (is_id id) ok in
     let b = and_parts (is_server id.server) (is_count id.n) a.1 in
     words_low (codes "C" ∷ decimal q ∷ decimal id.server ∷ decimal id.n ∷ [])
     ((lit< tt, tt), (number_low q 999_999_999_999 (within-high 1 999_999_999_999 q a.0) (lit< tt), (number_low id.server 99 (within-high 1 99 id.server b.0) (lit< tt), (number_low id.n 999_999_999 (within-high 1 999_999_999 id.n b.1) (lit< tt), tt))))
 
-header_low : (h : Header) → is_header h ≡ true → Low (header_line h)
-header_low h ok =
-    let a = and_parts (is_server h.from) (is_server h.primary) ok in
-    words_low (codes "mr1" ∷ decimal h.from ∷ decimal h.primary ∷ [])
-    ((lit< tt, (lit< tt, (lit< tt, tt))), (number_low h.from 99 (within-high 1 99 h.from a.0) (lit< tt), (number_low h.primary 99 (within-high 1 99 h.primary a.1) (lit< tt), tt)))
+version_low : (v : Version) → Low (version_word v)
+version_low First = (lit< tt, (lit< tt, (lit< tt, tt)))
+version_low Second = (lit< tt, (lit< tt, (lit< tt, tt)))
+
+heading_low : (h : Heading) → is_heading h ≡ true → Low (heading_line h)
+heading_low h ok =
+    let a = and_parts (is_server h.header.from) (is_server h.header.primary) ok in
+    words_low (version_word h.version ∷ decimal h.header.from ∷ decimal h.header.primary ∷ [])
+    (version_low h.version, (number_low h.header.from 99 (within-high 1 99 h.header.from a.0) (lit< tt), (number_low h.header.primary 99 (within-high 1 99 h.header.primary a.1) (lit< tt), tt)))
 
 -- what isn't text is no header, and no line below it
 pub no_header : (bytes : Text) → (IsUtf8 bytes → ⊥) → read_header bytes ≡ None
 no_header bytes bad = go (read_header bytes) refl
   where
-    go : (o : Option Header) → read_header bytes ≡ o → read_header bytes ≡ None
+    go : (o : Option Heading) → read_header bytes ≡ o → read_header bytes ≡ None
     go None e = e
     go (Some h) e =
-        let own = own_text is_header header_line (record { from = Rattle.mr_model.specs.Texts.number_at 1 bytes; primary = Rattle.mr_model.specs.Texts.number_at 2 bytes }) h bytes e in
-        absurd (bad (subst IsUtf8 own.1 (is_text (header_line h) (header_low h own.0))))
+        let own = own_text is_heading heading_line (heading_in bytes) h bytes e in
+        absurd (bad (subst IsUtf8 own.1 (is_text (heading_line h) (heading_low h own.0))))
 
-pub no_body_line : (bytes : Text) → (IsUtf8 bytes → ⊥) → read_body_line bytes ≡ None
-no_body_line bytes bad = go (read_body_line bytes) refl (body_line_of bytes)
+pub no_body_line : (v : Version) (bytes : Text) → (IsUtf8 bytes → ⊥) → read_body_line v bytes ≡ None
+no_body_line v bytes bad = go (read_body_line v bytes) refl (body_line_of v bytes)
   where
     only_line : (t u : Text) → t ∷ [] ≡ u ∷ [] → t ≡ u
     only_line t u e = cc
 
-    go : (o : Option BodyLine) → read_body_line bytes ≡ o → IsLineOf bytes (read_body_line bytes) → read_body_line bytes ≡ None
+    go : (o : Option BodyLine) → read_body_line v bytes ≡ o → IsLineOf v bytes (read_body_line v bytes) → read_body_line v bytes ≡ None
     go None e t = e
-    go (Some (ItemLine x)) e t = let own = subst (λ o. IsLineOf bytes o) e t in absurd (bad (subst IsUtf8 (sym own.1) (is_text (item_line x) (item_low x own.0))))
-    go (Some (LastLine Complete)) e t = let own : bytes ∷ [] ≡ codes "E" ∷ [] = subst (λ o. IsLineOf bytes o) e t in absurd (bad (subst IsUtf8 (sym (only_line bytes (codes "E") own)) (is_text (codes "E") (lit< tt, tt))))
-    go (Some (LastLine More)) e t = let own : bytes ∷ [] ≡ codes "M" ∷ [] = subst (λ o. IsLineOf bytes o) e t in absurd (bad (subst IsUtf8 (sym (only_line bytes (codes "M") own)) (is_text (codes "M") (lit< tt, tt))))
-    go (Some (LastLine Cut)) e t = let own : ◌≡◌ {A = List Text} (bytes ∷ []) [] = subst (λ o. IsLineOf bytes o) e t in absurd (cc)
+    go (Some (ItemLine x)) e t = let own = subst (λ o. IsLineOf v bytes o) e t in absurd (bad (subst IsUtf8 (sym own.1) (is_text (item_line x) (item_low v x own.0))))
+    go (Some (LastLine Complete)) e t = let own : bytes ∷ [] ≡ codes "E" ∷ [] = subst (λ o. IsLineOf v bytes o) e t in absurd (bad (subst IsUtf8 (sym (only_line bytes (codes "E") own)) (is_text (codes "E") (lit< tt, tt))))
+    go (Some (LastLine More)) e t = let own : bytes ∷ [] ≡ codes "M" ∷ [] = subst (λ o. IsLineOf v bytes o) e t in absurd (bad (subst IsUtf8 (sym (only_line bytes (codes "M") own)) (is_text (codes "M") (lit< tt, tt))))
+    go (Some (LastLine Cut)) e t = let own : ◌≡◌ {A = List Text} (bytes ∷ []) [] = subst (λ o. IsLineOf v bytes o) e t in absurd (cc)

@@ -10,13 +10,13 @@ use Rattle.std.specs.List.{AllByRecursion}
 use Rattle.mr_model.specs.Texts.{Text, within, number_in, only_if, words}
 use Rattle.mr_model.specs.Calendar.{Date, is_date, date_text, time_text, read_date, read_time, date_in, time_in}
 use Rattle.mr_model.specs.Slots.{Slot, is_slot, slot_words}
-use Rattle.mr_model.specs.Writes.{Stamp, is_stamp, is_server, is_count, is_time}
+use Rattle.mr_model.specs.Writes.{Stamp, is_stamp, is_server, is_count, is_time, is_room_name}
 use Rattle.mr_model.proofs.WordsReadBack.{Plain, decimal-plain, number-decimal, date-plain, time-plain, date-text, time-text}
-use Rattle.mr_model.proofs.LinesReadBack.{words-cons}
-use Rattle.mr_model.proofs.BatchesReadBack.{only_own, own_text}
+use Rattle.mr_model.proofs.LinesReadBack.{words-cons, room_plain}
+use Rattle.mr_model.proofs.BatchesReadBack.{only_own, own_text, only_if_some}
 use Rattle.mr_wire.specs.Words.{cut}
 use Rattle.mr_base.specs.Readings.{number_from_to}
-use Rattle.mr_wire.specs.Fields.{◌>>=◌, number_off, slot_off, slots_off, stamp_off}
+use Rattle.mr_wire.specs.Fields.{◌>>=◌, number_off, slot_off, slots_off, stamp_off, front_off}
 
 -- the value of a step that gave one
 pub bind_some : {A B : Type 0} (o : Option A) (f : A → Option B) (y : B) → (o >>= f) ≡ Some y → (x : A) × (o ≡ Some x) × (f x ≡ Some y)
@@ -107,6 +107,31 @@ stamp_off_again s rest ok =
     ap (λ o. o >>= λ (server : ℕ × Text). number_off 1 999_999_999 server.1 >>= λ n. number_off 1 999_999_999_999 n.1 >>= λ time. Some (record { server = server.0; n = n.0; time = time.0 }, time.1)) (number_off_again 1 99 s.server (decimal s.n ++ 32 ∷ last) b.0 (lit< tt))
     ∙ ap (λ o. o >>= λ (n : ℕ × Text). number_off 1 999_999_999_999 n.1 >>= λ time. Some (record { server = s.server; n = n.0; time = time.0 }, time.1)) (number_off_again 1 999_999_999 s.n last b.1 (lit< tt))
     ∙ ap (λ o. o >>= λ (time : ℕ × Text). Some (record { server = s.server; n = s.n; time = time.0 }, time.1)) (number_off_again 1 999_999_999_999 s.time rest a.1 (lit< tt))
+
+-- a stamp and a room, and what stands behind them
+unfoldable pub front_rest : Stamp → Text → Text → Text
+front_rest stamp room rest = decimal stamp.server ++ 32 ∷ (decimal stamp.n ++ 32 ∷ (decimal stamp.time ++ 32 ∷ (room ++ 32 ∷ rest)))
+
+pub front_off_takes : (text : Text) (x : Stamp × Text × Text) → front_off text ≡ Some x → (is_stamp x.0 ≡ true) × (is_room_name x.1 ≡ true) × (text ≡ front_rest x.0 x.1 x.2)
+unfolding front_off front_rest
+front_off_takes text x e =
+    let s = bind_some (stamp_off text) (λ stamp. cut 32 stamp.1 >>= λ room. only_if (is_room_name room.0) (stamp.0, room.0, room.1)) x e in
+    let r = bind_some (cut 32 s.0.1) (λ room. only_if (is_room_name room.0) (s.0.0, room.0, room.1)) x s.2 in
+    let made : Stamp × Text × Text = (s.0.0, r.0.0, r.0.1) in
+    let named = only_if_some (is_room_name r.0.0) made x r.2 in
+    let ts = stamp_off_takes text s.0 s.1 in
+    subst (λ (y : Stamp × Text × Text). (is_stamp y.0 ≡ true) × (is_room_name y.1 ≡ true) × (text ≡ decimal y.0.server ++ 32 ∷ (decimal y.0.n ++ 32 ∷ (decimal y.0.time ++ 32 ∷ (y.1 ++ 32 ∷ y.2))))) {x = made} named.1 (
+      ts.0,
+      named.0,
+      ts.1 ∙ ap (λ (t : Text). decimal s.0.0.server ++ 32 ∷ (decimal s.0.0.n ++ 32 ∷ (decimal s.0.0.time ++ 32 ∷ t))) (cut_takes 32 s.0.1 r.0.0 r.0.1 r.1),
+    )
+
+pub front_off_again : (stamp : Stamp) (room rest : Text) → is_stamp stamp ≡ true → is_room_name room ≡ true → front_off (front_rest stamp room rest) ≡ Some (stamp, room, rest)
+unfolding front_off front_rest
+front_off_again stamp room rest ok named =
+    ap (λ o. o >>= λ (s : Stamp × Text). cut 32 s.1 >>= λ name. only_if (is_room_name name.0) (s.0, name.0, name.1)) (stamp_off_again stamp (room ++ 32 ∷ rest) ok)
+    ∙ ap (λ o. o >>= λ (name : Text × Text). only_if (is_room_name name.0) (stamp, name.0, name.1)) (word_again room rest (room_plain room named))
+    ∙ ap (λ b. only_if b (stamp, room, rest)) named
 
 -- ---- slots
 

@@ -12,17 +12,17 @@ use Rattle.mr_model.specs.Calendar.{date_text, time_text}
 use Rattle.mr_model.specs.Slots.{Slot, is_slot, slot_words}
 use Rattle.mr_model.specs.Writes.{Id, Stamp, Meeting, Action, Books, Cancels, Write, is_write, is_meeting, is_stamp, is_server, is_count, is_id, is_commit_number, is_room_name, is_title, is_length, fits_day, choices_of, greatest_alternatives}
 use Rattle.mr_model.specs.Requests.{is_length_for}
-use Rattle.mr_model.specs.Exchange.{Header, Item, W, C, BodyLine, ItemLine, LastLine, Complete, More, Cut, is_header, greatest_alternatives_told, is_item, header_line, write_line, item_line, read_header, read_body_line}
+use Rattle.mr_model.specs.Exchange.{Version, First, Second, Header, Heading, Item, W, C, BodyLine, ItemLine, LastLine, Complete, More, Cut, is_heading, is_in_version, is_item, version_word, heading_line, heading_in, write_line, item_line, read_header, read_body_line}
 use Rattle.mr_model.proofs.WordsReadBack.{Plain}
-use Rattle.mr_model.proofs.LinesReadBack.{words-cons, booking, slots_all, room_plain}
+use Rattle.mr_model.proofs.LinesReadBack.{words-cons, slots_all, meeting_facts, write_parts}
 use Rattle.mr_model.proofs.BatchesReadBack.{only_if_some, own_text, IsLineOf, body_line_of, read-item_line, read-header_line}
 use Rattle.mr_base.specs.declared.refusals.Refusal.{Refusal}
 use Rattle.mr_base.specs.declared.refusals.Refusal.TheVariants.{BadLength, TooManyAlternatives}
 use Rattle.mr_base.specs.Limits.{limited}
 use Rattle.mr_wire.specs.Words.{cut}
 use Rattle.mr_base.specs.Readings.{number_from_to}
-use Rattle.mr_wire.specs.Fields.{◌>>=◌, number_off, slot_off, slots_off, stamp_off, choices_off, write_with, write_of, behind_word, server_and, commit_of, header_of, worded_line, bare_line, line_by, line_of}
-use Rattle.mr_wire.proofs.FieldLaws.{bind_some, cut_takes, word_again, number_takes, number_again, number_off_takes, number_off_again, stamp_off_takes, stamp_off_again, slot_off_takes, slot_off_again, slots_off_take, slots_off_again}
+use Rattle.mr_wire.specs.Fields.{◌>>=◌, number_off, slot_off, slots_off, front_off, most_alternatives, choices_off, booking_with, booking_of, behind_word, server_and, id_of, cancel_parts, cancel_of, commit_of, version_among, servers_under, heading_of, worded_line, bare_line, line_by, line_of}
+use Rattle.mr_wire.proofs.FieldLaws.{bind_some, cut_takes, word_again, number_takes, number_again, number_off_takes, number_off_again, front_rest, front_off_takes, front_off_again, slot_off_takes, slot_off_again, slots_off_take, slots_off_again}
 
 -- two that give the same values are the same
 pub agree : {A : Type 0} (o p : Option A) → ((x : A) → o ≡ Some x → p ≡ Some x) → ((x : A) → p ≡ Some x → o ≡ Some x) → o ≡ p
@@ -30,26 +30,57 @@ agree (Some x) p f g = sym (f x refl)
 agree None (Some x) f g = g x refl
 agree None None f g = refl
 
--- ---- writes
+-- the booking and the cancel of these parts
+abbrev pub booking : Stamp → Text → Meeting → Write
+booking stamp room m = record { stamp = stamp; room = room; action = Books m }
+
+abbrev pub cancel : Stamp → Text → Id → Write
+cancel stamp room t = record { stamp = stamp; room = room; action = Cancels t }
+
+-- the text is what stands behind the word of the write's line, whose first byte this is
+record IsWriteOf (letter : ℕ) (v : Version) (text : Text) (w : Write) : Type 0 where
+  ok : is_item v (W w) ≡ true
+  is : letter ∷ 32 ∷ text ≡ write_line w
+
+-- ---- how many alternatives a version has
+
+most_small : (v : Version) → most_alternatives v < 2 ^ 64
+most_small First = lit< tt
+most_small Second = lit< tt
+
+pub most_within : (v : Version) (n : ℕ) → n ≤ most_alternatives v → n ≤ greatest_alternatives
+most_within First n h = omega (arith, h)
+most_within Second n h = h
+
+-- a booking is of this version where it has so many alternatives
+in_version : (v : Version) (stamp : Stamp) (room : Text) (m : Meeting) → length m.alternatives ≤ most_alternatives v → is_in_version v (booking stamp room m) ≡ true
+in_version First stamp room m few = le-leb (length m.alternatives) 8 few
+in_version Second stamp room m few = refl
+
+few_in_version : (v : Version) (stamp : Stamp) (room : Text) (m : Meeting) → is_in_version v (booking stamp room m) ≡ true → length m.alternatives ≤ 16 → length m.alternatives ≤ most_alternatives v
+few_in_version First stamp room m e few = leb-true (length m.alternatives) 8 e
+few_in_version Second stamp room m e few = few
+
+-- ---- bookings
 
 -- the text of the choices, and behind it the title
 unfoldable pub choices_rest : Slot → List Slot → Text → Text
 choices_rest wish others title =
     date_text wish.day ++ 32 ∷ (time_text wish.start ++ 32 ∷ (decimal (length others) ++ 32 ∷ words (flat_map slot_words others ++ title ∷ [])))
 
-record AreChoices (text : Text) (wish : Slot) (others : List Slot) (title : Text) : Type 0 where
+record AreChoices (most : ℕ) (text : Text) (wish : Slot) (others : List Slot) (title : Text) : Type 0 where
   wish_ok : is_slot wish ≡ true
   others_ok : AllByRecursion (λ s. is_slot s ≡ true) others
-  few : length others ≤ 8
+  few : length others ≤ most
   is : text ≡ choices_rest wish others title
 
-choices_made : (text : Text) (a : Slot × Text) (k : ℕ × Text) (o : List Slot × Text) → slot_off text ≡ Some a → number_off 0 8 a.1 ≡ Some k → slots_off k.0 k.1 ≡ Some o → AreChoices text a.0 o.0 o.1
+choices_made : (most : ℕ) (text : Text) (a : Slot × Text) (k : ℕ × Text) (o : List Slot × Text) → slot_off text ≡ Some a → number_off 0 most a.1 ≡ Some k → slots_off k.0 k.1 ≡ Some o → AreChoices most text a.0 o.0 o.1
 unfolding choices_rest
-choices_made text a k o ea ek eo =
+choices_made most text a k o ea ek eo =
     let ta = slot_off_takes text a ea in
-    let tk = number_off_takes 0 8 a.1 k ek in
+    let tk = number_off_takes 0 most a.1 k ek in
     let to = slots_off_take k.0 k.1 o eo in
-    let low : k.0 ≤ 8 = leb-true k.0 8 (and_parts (leb 0 k.0) (leb k.0 8) tk.0).1 in
+    let low : k.0 ≤ most = leb-true k.0 most (and_parts (leb 0 k.0) (leb k.0 most) tk.0).1 in
     let many : length o.0 ≡ k.0 = to.0 in
     record {
       wish_ok = ta.0;
@@ -59,105 +90,91 @@ choices_made text a k o ea ek eo =
           (tk.1 ∙ ap (λ (n : ℕ). decimal n ++ 32 ∷ k.1) (sym many) ∙ ap (λ (t : Text). decimal (length o.0) ++ 32 ∷ t) to.2);
     }
 
-choices_take : (text : Text) (x : (Slot × List Slot) × Text) → choices_off text ≡ Some x → AreChoices text x.0.0 x.0.1 x.1
+choices_take : (most : ℕ) (text : Text) (x : (Slot × List Slot) × Text) → choices_off most text ≡ Some x → AreChoices most text x.0.0 x.0.1 x.1
 unfolding choices_off
-choices_take text x e =
-    let a = bind_some (slot_off text) (λ wish. number_off 0 8 wish.1 >>= λ few. slots_off few.0 few.1 >>= λ others. Some ((wish.0, others.0), others.1)) x e in
-    let k = bind_some (number_off 0 8 a.0.1) (λ few. slots_off few.0 few.1 >>= λ others. Some ((a.0.0, others.0), others.1)) x a.2 in
+choices_take most text x e =
+    let a = bind_some (slot_off text) (λ wish. number_off 0 most wish.1 >>= λ few. slots_off few.0 few.1 >>= λ others. Some ((wish.0, others.0), others.1)) x e in
+    let k = bind_some (number_off 0 most a.0.1) (λ few. slots_off few.0 few.1 >>= λ others. Some ((a.0.0, others.0), others.1)) x a.2 in
     let o = bind_some (slots_off k.0.0 k.0.1) (λ others. Some ((a.0.0, others.0), others.1)) x k.2 in
     let made : (Slot × List Slot) × Text = ((a.0.0, o.0.0), o.0.1) in
-    subst (λ (y : (Slot × List Slot) × Text). AreChoices text y.0.0 y.0.1 y.1) {x = made} (same_Some made x o.2) (choices_made text a.0 k.0 o.0 a.1 k.1 o.1)
+    subst (λ (y : (Slot × List Slot) × Text). AreChoices most text y.0.0 y.0.1 y.1) {x = made} (same_Some made x o.2) (choices_made most text a.0 k.0 o.0 a.1 k.1 o.1)
 
-choices_again : (wish : Slot) (others : List Slot) (title : Text) → is_slot wish ≡ true → AllByRecursion (λ s. is_slot s ≡ true) others → length others ≤ 8 → choices_off (choices_rest wish others title) ≡ Some ((wish, others), title)
+choices_again : (most : ℕ) (wish : Slot) (others : List Slot) (title : Text) → most < 2 ^ 64 → is_slot wish ≡ true → AllByRecursion (λ s. is_slot s ≡ true) others → length others ≤ most → choices_off most (choices_rest wish others title) ≡ Some ((wish, others), title)
 unfolding choices_rest choices_off
-choices_again wish others title ok all few =
+choices_again most wish others title top ok all few =
     let tail : Text = words (flat_map slot_words others ++ title ∷ []) in
     let count : Text = decimal (length others) ++ 32 ∷ tail in
-    let within8 : within 0 8 (length others) ≡ true = and_from (leb 0 (length others)) (leb (length others) 8) (le-leb 0 (length others) (omega arith)) (le-leb (length others) 8 few) in
-    ap (λ o. o >>= λ (w : Slot × Text). number_off 0 8 w.1 >>= λ k. slots_off k.0 k.1 >>= λ s. Some ((w.0, s.0), s.1)) (slot_off_again wish count ok)
-    ∙ ap (λ o. o >>= λ (k : ℕ × Text). slots_off k.0 k.1 >>= λ s. Some ((wish, s.0), s.1)) (number_off_again 0 8 (length others) tail within8 (lit< tt))
+    let so_many : within 0 most (length others) ≡ true = and_from (leb 0 (length others)) (leb (length others) most) (le-leb 0 (length others) (omega arith)) (le-leb (length others) most few) in
+    ap (λ o. o >>= λ (w : Slot × Text). number_off 0 most w.1 >>= λ k. slots_off k.0 k.1 >>= λ s. Some ((w.0, s.0), s.1)) (slot_off_again wish count ok)
+    ∙ ap (λ o. o >>= λ (k : ℕ × Text). slots_off k.0 k.1 >>= λ s. Some ((wish, s.0), s.1)) (number_off_again 0 most (length others) tail so_many top)
     ∙ ap (λ o. o >>= λ (s : List Slot × Text). Some ((wish, s.0), s.1)) (slots_off_again others title all)
 
--- what stands behind the W of a booking
-unfoldable pub write_rest : Stamp → Text → Meeting → Text
-write_rest stamp room m =
-    decimal stamp.server ++ 32 ∷ (decimal stamp.n ++ 32 ∷ (decimal stamp.time ++ 32 ∷ (room ++ 32 ∷ (decimal m.length ++ 32 ∷ choices_rest m.wish m.alternatives m.title))))
+-- what stands behind the room of a booking
+unfoldable pub meeting_rest : Meeting → Text
+meeting_rest m = decimal m.length ++ 32 ∷ choices_rest m.wish m.alternatives m.title
 
-pub write_line_is : (stamp : Stamp) (room : Text) (m : Meeting) → write_line (booking stamp room m) ≡ 87 ∷ 32 ∷ write_rest stamp room m
-unfolding write_rest choices_rest
-write_line_is stamp room m = ap (λ (t : Text). 87 ∷ 32 ∷ (
+pub booking_line_is : (stamp : Stamp) (room : Text) (m : Meeting) → write_line (booking stamp room m) ≡ 87 ∷ 32 ∷ front_rest stamp room (meeting_rest m)
+unfolding front_rest meeting_rest choices_rest
+booking_line_is stamp room m = ap (λ (t : Text). 87 ∷ 32 ∷ (
     decimal stamp.server ++ 32 ∷ (decimal stamp.n ++ 32 ∷ (decimal stamp.time ++ 32 ∷ (room ++ 32 ∷ (decimal m.length ++ 32 ∷ (
     date_text m.wish.day ++ 32 ∷ (time_text m.wish.start ++ 32 ∷ t))))))))
     (words-cons (decimal (length m.alternatives)) (flat_map slot_words m.alternatives) m.title)
 
--- the text is what stands behind the W of the write's line
-record IsWriteOf (text : Text) (w : Write) : Type 0 where
-  ok : is_item (W w) ≡ true
-  is : 87 ∷ 32 ∷ text ≡ write_line w
-
-write_ok : (stamp : Stamp) (room : Text) (m : Meeting) → is_stamp stamp ≡ true → is_room_name room ≡ true → is_title m.title ≡ true → is_length_for m.length (choices_of m) ≡ true → length m.alternatives ≤ 8 → is_item (W (booking stamp room m)) ≡ true
-write_ok stamp room m s r t f few =
+booking_ok : (v : Version) (stamp : Stamp) (room : Text) (m : Meeting) → is_stamp stamp ≡ true → is_room_name room ≡ true → is_title m.title ≡ true → is_length_for m.length (choices_of m) ≡ true → length m.alternatives ≤ most_alternatives v → is_item v (W (booking stamp room m)) ≡ true
+booking_ok v stamp room m s r t f few =
     let fits = and_parts (is_length m.length) (list_all (λ c. is_slot c && fits_day m.length c) (choices_of m)) f in
-    and_from (is_write (booking stamp room m)) (leb (length m.alternatives) greatest_alternatives_told)
+    and_from (is_write (booking stamp room m)) (is_in_version v (booking stamp room m))
     (and_from (is_stamp stamp && is_room_name room) (is_meeting m) (and_from (is_stamp stamp) (is_room_name room) s r)
     (and_from (is_title m.title && is_length m.length && leb (length m.alternatives) greatest_alternatives) (list_all (λ c. is_slot c && fits_day m.length c) (choices_of m))
     (and_from (is_title m.title && is_length m.length) (leb (length m.alternatives) greatest_alternatives) (and_from (is_title m.title) (is_length m.length) t fits.0)
-    (le-leb (length m.alternatives) greatest_alternatives (omega (arith, few))))
+    (le-leb (length m.alternatives) greatest_alternatives (most_within v (length m.alternatives) few)))
     fits.1))
-    (le-leb (length m.alternatives) greatest_alternatives_told few)
+    (in_version v stamp room m few)
 
-write_made : (text : Text) (s : Stamp × Text) (r : Text × Text) (m : ℕ × Text) (c : (Slot × List Slot) × Text) (w : Write) → stamp_off text ≡ Some s → cut 32 s.1 ≡ Some r → number_off 1 1440 r.1 ≡ Some m → choices_off m.1 ≡ Some c → write_with s.0 r.0 m.0 c.0.0 c.0.1 c.1 ≡ Some w → IsWriteOf text w
-unfolding write_with write_rest
-write_made text s r m c w es er em ec ew =
+booking_made : (v : Version) (text : Text) (f : Stamp × Text × Text) (m : ℕ × Text) (c : (Slot × List Slot) × Text) (w : Write) → front_off text ≡ Some f → number_off 1 1440 f.2 ≡ Some m → choices_off (most_alternatives v) m.1 ≡ Some c → booking_with f.0 f.1 m.0 c.0.0 c.0.1 c.1 ≡ Some w → IsWriteOf 87 v text w
+unfolding booking_with meeting_rest
+booking_made v text f m c w ef em ec ew =
     let meeting : Meeting = record { title = c.1; length = m.0; wish = c.0.0; alternatives = c.0.1 } in
-    let made : Write = booking s.0 r.0 meeting in
+    let made : Write = booking f.0 f.1 meeting in
     let few = not (ltb greatest_alternatives (length c.0.1)) in
-    let ends = only_if_some (is_room_name r.0 && (is_title c.1 && (is_length_for m.0 (c.0.0 ∷ c.0.1) && few))) made w ew in
-    let named = and_parts (is_room_name r.0) (is_title c.1 && (is_length_for m.0 (c.0.0 ∷ c.0.1) && few)) ends.0 in
-    let titled = and_parts (is_title c.1) (is_length_for m.0 (c.0.0 ∷ c.0.1) && few) named.1 in
+    let ends = only_if_some (is_title c.1 && (is_length_for m.0 (c.0.0 ∷ c.0.1) && few)) made w ew in
+    let titled = and_parts (is_title c.1) (is_length_for m.0 (c.0.0 ∷ c.0.1) && few) ends.0 in
     let long = and_parts (is_length_for m.0 (c.0.0 ∷ c.0.1)) few titled.1 in
-    let ts = stamp_off_takes text s es in
-    let tm = number_off_takes 1 1440 r.1 m em in
-    let tc = choices_take m.1 c ec in
-    let is : text ≡ write_rest s.0 r.0 meeting =
-    ts.1 ∙ ap (λ (t : Text). decimal s.0.server ++ 32 ∷ (decimal s.0.n ++ 32 ∷ (decimal s.0.time ++ 32 ∷ t)))
-    (cut_takes 32 s.1 r.0 r.1 er ∙ ap (λ (t : Text). r.0 ++ 32 ∷ t) (tm.1 ∙ ap (λ (t : Text). decimal m.0 ++ 32 ∷ t) tc.is)) in
-    subst (λ v. IsWriteOf text v) {x = made} ends.1 (record {
-      ok = write_ok s.0 r.0 meeting ts.0 named.0 titled.0 long.0 tc.few;
-      is = ap (λ (t : Text). 87 ∷ 32 ∷ t) is ∙ sym (write_line_is s.0 r.0 meeting);
+    let tf = front_off_takes text f ef in
+    let tm = number_off_takes 1 1440 f.2 m em in
+    let tc = choices_take (most_alternatives v) m.1 c ec in
+    let is : text ≡ front_rest f.0 f.1 (meeting_rest meeting) = tf.2 ∙ ap (front_rest f.0 f.1) (tm.1 ∙ ap (λ (t : Text). decimal m.0 ++ 32 ∷ t) tc.is) in
+    subst (λ w. IsWriteOf 87 v text w) {x = made} ends.1 (record {
+      ok = booking_ok v f.0 f.1 meeting tf.0 tf.1 titled.0 long.0 tc.few;
+      is = ap (λ (t : Text). 87 ∷ 32 ∷ t) is ∙ sym (booking_line_is f.0 f.1 meeting);
     })
 
-write_takes : (text : Text) (w : Write) → write_of text ≡ Some w → IsWriteOf text w
-unfolding write_of
-write_takes text w e =
-    let s = bind_some (stamp_off text) (λ stamp. cut 32 stamp.1 >>= λ room. number_off 1 1440 room.1 >>= λ minutes. choices_off minutes.1 >>= λ c. write_with stamp.0 room.0 minutes.0 c.0.0 c.0.1 c.1) w e in
-    let r = bind_some (cut 32 s.0.1) (λ room. number_off 1 1440 room.1 >>= λ minutes. choices_off minutes.1 >>= λ c. write_with s.0.0 room.0 minutes.0 c.0.0 c.0.1 c.1) w s.2 in
-    let m = bind_some (number_off 1 1440 r.0.1) (λ minutes. choices_off minutes.1 >>= λ c. write_with s.0.0 r.0.0 minutes.0 c.0.0 c.0.1 c.1) w r.2 in
-    let c = bind_some (choices_off m.0.1) (λ c. write_with s.0.0 r.0.0 m.0.0 c.0.0 c.0.1 c.1) w m.2 in
-    write_made text s.0 r.0 m.0 c.0 w s.1 r.1 m.1 c.1 c.2
+booking_takes : (v : Version) (text : Text) (w : Write) → booking_of v text ≡ Some w → IsWriteOf 87 v text w
+unfolding booking_of
+booking_takes v text w e =
+    let f = bind_some (front_off text) (λ front. number_off 1 1440 front.2 >>= λ minutes. choices_off (most_alternatives v) minutes.1 >>= λ c. booking_with front.0 front.1 minutes.0 c.0.0 c.0.1 c.1) w e in
+    let m = bind_some (number_off 1 1440 f.0.2) (λ minutes. choices_off (most_alternatives v) minutes.1 >>= λ c. booking_with f.0.0 f.0.1 minutes.0 c.0.0 c.0.1 c.1) w f.2 in
+    let c = bind_some (choices_off (most_alternatives v) m.0.1) (λ c. booking_with f.0.0 f.0.1 m.0.0 c.0.0 c.0.1 c.1) w m.2 in
+    booking_made v text f.0 m.0 c.0 w f.1 m.1 c.1 c.2
 
-write_again : (stamp : Stamp) (room : Text) (m : Meeting) → is_item (W (booking stamp room m)) ≡ true → write_of (write_rest stamp room m) ≡ Some (booking stamp room m)
-unfolding write_of write_with write_rest
-write_again stamp room m ok =
-    let told = and_parts (is_write (booking stamp room m)) (leb (length m.alternatives) greatest_alternatives_told) ok in
-    let o = and_parts (is_stamp stamp && is_room_name room) (is_meeting m) told.0 in
-    let n = and_parts (is_stamp stamp) (is_room_name room) o.0 in
-    let p = and_parts _ (list_all (λ s. is_slot s && fits_day m.length s) (choices_of m)) o.1 in
-    let q = and_parts _ (leb (length m.alternatives) greatest_alternatives) p.0 in
-    let r = and_parts (is_title m.title) (is_length m.length) q.0 in
-    let all : AllByRecursion (λ s. is_slot s ≡ true) (choices_of m) = slots_all m.length (choices_of m) p.1 in
-    let few : length m.alternatives ≤ 8 = leb-true (length m.alternatives) 8 told.1 in
-    let many : length m.alternatives ≤ greatest_alternatives = leb-true (length m.alternatives) greatest_alternatives q.1 in
+booking_again : (v : Version) (stamp : Stamp) (room : Text) (m : Meeting) → is_item v (W (booking stamp room m)) ≡ true → booking_of v (front_rest stamp room (meeting_rest m)) ≡ Some (booking stamp room m)
+unfolding booking_of booking_with meeting_rest
+booking_again v stamp room m ok =
+    let version = and_parts (is_write (booking stamp room m)) (is_in_version v (booking stamp room m)) ok in
+    let p = write_parts (booking stamp room m) version.0 in
+    let f = meeting_facts m p.2 in
+    let a = and_parts _ (list_all (λ s. is_slot s && fits_day m.length s) (choices_of m)) p.2 in
+    let b = and_parts _ (leb (length m.alternatives) greatest_alternatives) a.0 in
+    let long : is_length m.length ≡ true = (and_parts (is_title m.title) (is_length m.length) b.0).1 in
+    let all : AllByRecursion (λ s. is_slot s ≡ true) (choices_of m) = slots_all m.length (choices_of m) f.slots in
+    let few : length m.alternatives ≤ most_alternatives v = few_in_version v stamp room m version.1 f.few in
     let tail : Text = choices_rest m.wish m.alternatives m.title in
-    let middle : Text = decimal m.length ++ 32 ∷ tail in
-    let fits : is_length_for m.length (choices_of m) ≡ true = and_from (is_length m.length) (list_all (λ s. is_slot s && fits_day m.length s) (choices_of m)) r.1 p.1 in
-    ap (λ o. o >>= λ (s : Stamp × Text). cut 32 s.1 >>= λ name. number_off 1 1440 name.1 >>= λ minutes. choices_off minutes.1 >>= λ c. write_with s.0 name.0 minutes.0 c.0.0 c.0.1 c.1) (stamp_off_again stamp (room ++ 32 ∷ middle) n.0)
-    ∙ ap (λ o. o >>= λ (name : Text × Text). number_off 1 1440 name.1 >>= λ minutes. choices_off minutes.1 >>= λ c. write_with stamp name.0 minutes.0 c.0.0 c.0.1 c.1) (word_again room middle (room_plain room n.1))
-    ∙ ap (λ o. o >>= λ (minutes : ℕ × Text). choices_off minutes.1 >>= λ c. write_with stamp room minutes.0 c.0.0 c.0.1 c.1) (number_off_again 1 1440 m.length tail r.1 (lit< tt))
-    ∙ ap (λ o. o >>= λ (c : (Slot × List Slot) × Text). write_with stamp room m.length c.0.0 c.0.1 c.1) (choices_again m.wish m.alternatives m.title all.0 all.1 few)
-    ∙ ap (λ b. only_if b (booking stamp room m)) (and_from (is_room_name room) (is_title m.title && (is_length_for m.length (choices_of m) && not (ltb greatest_alternatives (length m.alternatives)))) n.1
-    (and_from (is_title m.title) (is_length_for m.length (choices_of m) && not (ltb greatest_alternatives (length m.alternatives))) r.0
-    (and_from (is_length_for m.length (choices_of m)) (not (ltb greatest_alternatives (length m.alternatives))) fits (ap not (le-ltb greatest_alternatives (length m.alternatives) many)))))
+    let fits : is_length_for m.length (choices_of m) ≡ true = and_from (is_length m.length) (list_all (λ s. is_slot s && fits_day m.length s) (choices_of m)) long f.slots in
+    ap (λ o. o >>= λ (front : Stamp × Text × Text). number_off 1 1440 front.2 >>= λ minutes. choices_off (most_alternatives v) minutes.1 >>= λ c. booking_with front.0 front.1 minutes.0 c.0.0 c.0.1 c.1) (front_off_again stamp room (decimal m.length ++ 32 ∷ tail) p.0 p.1)
+    ∙ ap (λ o. o >>= λ (minutes : ℕ × Text). choices_off (most_alternatives v) minutes.1 >>= λ c. booking_with stamp room minutes.0 c.0.0 c.0.1 c.1) (number_off_again 1 1440 m.length tail long (lit< tt))
+    ∙ ap (λ o. o >>= λ (c : (Slot × List Slot) × Text). booking_with stamp room m.length c.0.0 c.0.1 c.1) (choices_again (most_alternatives v) m.wish m.alternatives m.title (most_small v) all.0 all.1 few)
+    ∙ ap (λ b. only_if b (booking stamp room m)) (and_from (is_title m.title) (is_length_for m.length (choices_of m) && not (ltb greatest_alternatives (length m.alternatives))) f.title
+    (and_from (is_length_for m.length (choices_of m)) (not (ltb greatest_alternatives (length m.alternatives))) fits (ap not (le-ltb greatest_alternatives (length m.alternatives) f.few))))
 
 -- ---- lines of a word, a server and a number
 
@@ -191,109 +208,236 @@ server_and_again high s n server ok top =
     ap (λ o. o >>= λ (server : ℕ × Text). number_from_to 1 high server.1 >>= λ n. Some (server.0, n)) (number_off_again 1 99 s (decimal n) server (lit< tt))
     ∙ ap (λ o. o >>= λ n. Some (s, n)) (number_again 1 high n ok top)
 
--- ---- commits
+-- ---- identities, cancels and commits
 
-commit_rest : ℕ → Id → Text
-commit_rest q id = decimal q ++ 32 ∷ (decimal id.server ++ 32 ∷ decimal id.n)
+-- the text of an identity that ends a line
+unfoldable pub target_rest : Id → Text
+target_rest t = decimal t.server ++ 32 ∷ decimal t.n
 
-commit_takes : (text : Text) (x : Item) → commit_of text ≡ Some x → (is_item x ≡ true) × (67 ∷ 32 ∷ text ≡ item_line x)
-unfolding commit_of
-commit_takes text x e =
-    let a = bind_some (number_off 1 999_999_999_999 text) (λ seq. server_and 999_999_999 seq.1 >>= λ id. Some (C seq.0 (record { server = id.0; n = id.1 }))) x e in
-    let b = bind_some (server_and 999_999_999 a.0.1) (λ id. Some (C a.0.0 (record { server = id.0; n = id.1 }))) x a.2 in
-    let ta = number_off_takes 1 999_999_999_999 text a.0 a.1 in
-    let tb = server_and_takes 999_999_999 a.0.1 b.0 b.1 in
-    let made : Item = C a.0.0 (record { server = b.0.0; n = b.0.1 }) in
-    subst (λ (y : Item). (is_item y ≡ true) × (67 ∷ 32 ∷ text ≡ item_line y)) {x = made} (same_Some made x b.2) (
-      and_from (is_commit_number a.0.0) (is_server b.0.0 && is_count b.0.1) ta.0 (and_from (is_server b.0.0) (is_count b.0.1) tb.0 tb.1),
-      ap (λ (t : Text). 67 ∷ 32 ∷ t) (ta.1 ∙ ap (λ (t : Text). decimal a.0.0 ++ 32 ∷ t) tb.2),
+id_takes : (text : Text) (t : Id) → id_of text ≡ Some t → (is_id t ≡ true) × (text ≡ target_rest t)
+unfolding id_of target_rest
+id_takes text t e =
+    let a = bind_some (server_and 999_999_999 text) (λ parts. Some (record { server = parts.0; n = parts.1 })) t e in
+    let p = server_and_takes 999_999_999 text a.0 a.1 in
+    let made : Id = record { server = a.0.0; n = a.0.1 } in
+    subst (λ (y : Id). (is_id y ≡ true) × (text ≡ decimal y.server ++ 32 ∷ decimal y.n)) {x = made} (same_Some made t a.2)
+    (and_from (is_server a.0.0) (is_count a.0.1) p.0 p.1, p.2)
+
+id_again : (t : Id) → is_id t ≡ true → id_of (target_rest t) ≡ Some t
+unfolding id_of target_rest
+id_again t ok =
+    let p = and_parts (is_server t.server) (is_count t.n) ok in
+    ap (λ o. o >>= λ (parts : ℕ × ℕ). Some (record { server = parts.0; n = parts.1 })) (server_and_again 999_999_999 t.server t.n p.0 p.1 (lit< tt))
+
+pub cancel_line_is : (stamp : Stamp) (room : Text) (t : Id) → write_line (cancel stamp room t) ≡ 88 ∷ 32 ∷ front_rest stamp room (target_rest t)
+unfolding front_rest target_rest
+cancel_line_is stamp room t = refl
+
+parts_take : (text : Text) (x : Stamp × Text × Id) → cancel_parts text ≡ Some x → (is_item Second (W (cancel x.0 x.1 x.2)) ≡ true) × (text ≡ front_rest x.0 x.1 (target_rest x.2))
+unfolding cancel_parts
+parts_take text x e =
+    let f = bind_some (front_off text) (λ front. id_of front.2 >>= λ target. Some (front.0, front.1, target)) x e in
+    let t = bind_some (id_of f.0.2) (λ target. Some (f.0.0, f.0.1, target)) x f.2 in
+    let tf = front_off_takes text f.0 f.1 in
+    let ti = id_takes f.0.2 t.0 t.1 in
+    let made : Stamp × Text × Id = (f.0.0, f.0.1, t.0) in
+    subst (λ (y : Stamp × Text × Id). (is_item Second (W (cancel y.0 y.1 y.2)) ≡ true) × (text ≡ front_rest y.0 y.1 (target_rest y.2))) {x = made} (same_Some made x t.2) (
+      and_from (is_write (cancel f.0.0 f.0.1 t.0)) true (and_from (is_stamp f.0.0 && is_room_name f.0.1) (is_id t.0) (and_from (is_stamp f.0.0) (is_room_name f.0.1) tf.0 tf.1) ti.0) refl,
+      tf.2 ∙ ap (front_rest f.0.0 f.0.1) ti.1,
     )
 
-commit_again : (q : ℕ) (id : Id) → is_item (C q id) ≡ true → commit_of (commit_rest q id) ≡ Some (C q id)
+parts_again : (stamp : Stamp) (room : Text) (t : Id) → is_stamp stamp ≡ true → is_room_name room ≡ true → is_id t ≡ true → cancel_parts (front_rest stamp room (target_rest t)) ≡ Some (stamp, room, t)
+unfolding cancel_parts
+parts_again stamp room t ok named good =
+    ap (λ o. o >>= λ (front : Stamp × Text × Text). id_of front.2 >>= λ target. Some (front.0, front.1, target)) (front_off_again stamp room (target_rest t) ok named)
+    ∙ ap (λ o. o >>= λ (target : Id). Some (stamp, room, target)) (id_again t good)
+
+cancel_takes : (v : Version) (text : Text) (w : Write) → cancel_of v text ≡ Some w → IsWriteOf 88 v text w
+cancel_takes First text w e = absurd (let f : ◌≡◌ {A = Option Write} None (Some w) = e in cc)
+cancel_takes Second text w e =
+    let c = bind_some (cancel_parts text) (λ c. Some (cancel c.0 c.1 c.2)) w e in
+    let t = parts_take text c.0 c.1 in
+    let made : Write = cancel c.0.0 c.0.1 c.0.2 in
+    subst (λ w. IsWriteOf 88 Second text w) {x = made} (same_Some made w c.2)
+    (record { ok = t.0; is = ap (λ (t : Text). 88 ∷ 32 ∷ t) t.1 ∙ sym (cancel_line_is c.0.0 c.0.1 c.0.2) })
+
+cancel_again : (v : Version) (stamp : Stamp) (room : Text) (t : Id) → is_item v (W (cancel stamp room t)) ≡ true → cancel_of v (front_rest stamp room (target_rest t)) ≡ Some (cancel stamp room t)
+cancel_again First stamp room t ok = absurd (true≢false (sym (and_parts (is_write (cancel stamp room t)) false ok).1))
+cancel_again Second stamp room t ok =
+    let p = write_parts (cancel stamp room t) (and_parts (is_write (cancel stamp room t)) true ok).0 in
+    ap (λ o. o >>= λ (c : Stamp × Text × Id). Some (cancel c.0 c.1 c.2)) (parts_again stamp room t p.0 p.1 p.2)
+
+commit_rest : ℕ → Id → Text
+commit_rest q id = decimal q ++ 32 ∷ target_rest id
+
+commit_takes : (v : Version) (text : Text) (x : Item) → commit_of text ≡ Some x → (is_item v x ≡ true) × (67 ∷ 32 ∷ text ≡ item_line x)
+unfolding commit_of target_rest
+commit_takes v text x e =
+    let a = bind_some (number_off 1 999_999_999_999 text) (λ seq. id_of seq.1 >>= λ id. Some (C seq.0 id)) x e in
+    let b = bind_some (id_of a.0.1) (λ id. Some (C a.0.0 id)) x a.2 in
+    let ta = number_off_takes 1 999_999_999_999 text a.0 a.1 in
+    let tb = id_takes a.0.1 b.0 b.1 in
+    let made : Item = C a.0.0 b.0 in
+    subst (λ (y : Item). (is_item v y ≡ true) × (67 ∷ 32 ∷ text ≡ item_line y)) {x = made} (same_Some made x b.2) (
+      and_from (is_commit_number a.0.0) (is_id b.0) ta.0 tb.0,
+      ap (λ (t : Text). 67 ∷ 32 ∷ t) (ta.1 ∙ ap (λ (t : Text). decimal a.0.0 ++ 32 ∷ t) tb.1),
+    )
+
+commit_again : (v : Version) (q : ℕ) (id : Id) → is_item v (C q id) ≡ true → commit_of (commit_rest q id) ≡ Some (C q id)
 unfolding commit_of commit_rest
-commit_again q id ok =
+commit_again v q id ok =
     let a = and_parts (is_commit_number q) (is_id id) ok in
-    let b = and_parts (is_server id.server) (is_count id.n) a.1 in
-    ap (λ o. o >>= λ (seq : ℕ × Text). server_and 999_999_999 seq.1 >>= λ i. Some (C seq.0 (record { server = i.0; n = i.1 }))) (number_off_again 1 999_999_999_999 q (decimal id.server ++ 32 ∷ decimal id.n) a.0 (lit< tt))
-    ∙ ap (λ o. o >>= λ (i : ℕ × ℕ). Some (C q (record { server = i.0; n = i.1 }))) (server_and_again 999_999_999 id.server id.n b.0 b.1 (lit< tt))
+    ap (λ o. o >>= λ (seq : ℕ × Text). id_of seq.1 >>= λ i. Some (C seq.0 i)) (number_off_again 1 999_999_999_999 q (target_rest id) a.0 (lit< tt))
+    ∙ ap (λ o. o >>= λ (i : Id). Some (C q i)) (id_again id a.1)
+
+-- ---- a version's word and two servers
+
+abbrev pub word_among : Text → Text → Version → Text
+word_among first second First = first
+word_among first second Second = second
+
+version_takes : (first second word : Text) (v : Version) → version_among first second word ≡ Some v → word ≡ word_among first second v
+unfolding version_among
+version_takes first second word v = go (bytes_eq word first) refl (bytes_eq word second) refl
+  where
+    go : (a : Bool) → bytes_eq word first ≡ a → (b : Bool) → bytes_eq word second ≡ b → cond a (Some First) (cond b (Some Second) None) ≡ Some v → word ≡ word_among first second v
+    go true a b eb e = (bytes_eq-Decides word first).0 a ∙ ap (word_among first second) (same_Some First v e)
+    go false a true eb e = (bytes_eq-Decides word second).0 eb ∙ ap (word_among first second) (same_Some Second v e)
+    go false a false eb e = absurd (let f : ◌≡◌ {A = Option Version} None (Some v) = e in cc)
+
+version_again : (first second : Text) (v : Version) → bytes_eq second first ≡ false → version_among first second (word_among first second v) ≡ Some v
+unfolding version_among
+version_again first second First differ = ap (λ b. cond b (Some First) (cond (bytes_eq first second) (Some Second) None)) ((bytes_eq-Decides first first).1 refl)
+version_again first second Second differ =
+    ap (λ b. cond b (Some First) (cond (bytes_eq second second) (Some Second) None)) differ
+    ∙ ap (λ b. cond b (Some Second) None) ((bytes_eq-Decides second second).1 refl)
+
+-- the words are the version's, and the servers are within the limits
+pub record AreServersUnder (first second text : Text) (v : Version) (server primary : ℕ) : Type 0 where
+  pub server_ok : is_server server ≡ true
+  pub primary_ok : is_server primary ≡ true
+  pub is : text ≡ word_among first second v ++ 32 ∷ (decimal server ++ 32 ∷ decimal primary)
+
+pub servers_under_take : (first second text : Text) (x : Version × ℕ × ℕ) → servers_under first second text ≡ Some x → AreServersUnder first second text x.0 x.1 x.2
+unfolding servers_under
+servers_under_take first second text x e =
+    let w = bind_some (cut 32 text) (λ word. version_among first second word.0 >>= λ version. server_and 99 word.1 >>= λ servers. Some (version, servers.0, servers.1)) x e in
+    let v = bind_some (version_among first second w.0.0) (λ version. server_and 99 w.0.1 >>= λ servers. Some (version, servers.0, servers.1)) x w.2 in
+    let s = bind_some (server_and 99 w.0.1) (λ servers. Some (v.0, servers.0, servers.1)) x v.2 in
+    let t = server_and_takes 99 w.0.1 s.0 s.1 in
+    let made : Version × ℕ × ℕ = (v.0, s.0.0, s.0.1) in
+    subst (λ (y : Version × ℕ × ℕ). AreServersUnder first second text y.0 y.1 y.2) {x = made} (same_Some made x s.2) (record {
+      server_ok = t.0;
+      primary_ok = t.1;
+      is = cut_takes 32 text w.0.0 w.0.1 w.1 ∙ ap (λ (u : Text). u ++ 32 ∷ w.0.1) (version_takes first second w.0.0 v.0 v.1)
+          ∙ ap (λ (u : Text). word_among first second v.0 ++ 32 ∷ u) t.2;
+    })
+
+pub servers_under_again : (first second : Text) → Plain first → Plain second → bytes_eq second first ≡ false → (v : Version) (server primary : ℕ) → is_server server ≡ true → is_server primary ≡ true
+    → servers_under first second (word_among first second v ++ 32 ∷ (decimal server ++ 32 ∷ decimal primary)) ≡ Some (v, server, primary)
+unfolding servers_under
+servers_under_again first second pf ps differ v server primary a b =
+    let rest : Text = decimal server ++ 32 ∷ decimal primary in
+    ap (λ o. o >>= λ (word : Text × Text). version_among first second word.0 >>= λ version. server_and 99 word.1 >>= λ servers. Some (version, servers.0, servers.1)) (word_again (word_among first second v) rest (plain v))
+    ∙ ap (λ o. o >>= λ (version : Version). server_and 99 rest >>= λ servers. Some (version, servers.0, servers.1)) (version_again first second v differ)
+    ∙ ap (λ o. o >>= λ (servers : ℕ × ℕ). Some (v, servers.0, servers.1)) (server_and_again 99 server primary a b (lit< tt))
+  where
+    plain : (u : Version) → Plain (word_among first second u)
+    plain First = pf
+    plain Second = ps
 
 -- ---- headers
 
-header_takes : (text : Text) (h : Header) → header_of text ≡ Some h → (is_header h ≡ true) × (text ≡ header_line h)
-unfolding header_of
-header_takes text h e =
-    let a = bind_some (behind_word (codes "mr1") text) (λ rest. server_and 99 rest >>= λ servers. Some (record { from = servers.0; primary = servers.1 })) h e in
-    let b = bind_some (server_and 99 a.0) (λ servers. Some (record { from = servers.0; primary = servers.1 })) h a.2 in
-    let t = server_and_takes 99 a.0 b.0 b.1 in
-    let made : Header = record { from = b.0.0; primary = b.0.1 } in
-    subst (λ (y : Header). (is_header y ≡ true) × (text ≡ header_line y)) {x = made} (same_Some made h b.2)
-    (and_from (is_server b.0.0) (is_server b.0.1) t.0 t.1, behind_takes (codes "mr1") text a.0 a.1 ∙ ap (λ (r : Text). codes "mr1" ++ 32 ∷ r) t.2)
+header_word : (v : Version) → word_among (version_word First) (version_word Second) v ≡ version_word v
+header_word First = refl
+header_word Second = refl
 
-header_again : (h : Header) → is_header h ≡ true → header_of (header_line h) ≡ Some h
-unfolding header_of
-header_again h ok =
-    let a = and_parts (is_server h.from) (is_server h.primary) ok in
-    let rest = decimal h.from ++ 32 ∷ decimal h.primary in
-    ap (λ o. o >>= λ (r : Text). server_and 99 r >>= λ s. Some (record { from = s.0; primary = s.1 })) (behind_again (codes "mr1") rest (lit≤ tt, (lit≤ tt, (lit≤ tt, tt))))
-    ∙ ap (λ o. o >>= λ (s : ℕ × ℕ). Some (record { from = s.0; primary = s.1 })) (server_and_again 99 h.from h.primary a.0 a.1 (lit< tt))
+heading_takes : (text : Text) (h : Heading) → heading_of text ≡ Some h → (is_heading h ≡ true) × (text ≡ heading_line h)
+unfolding heading_of
+heading_takes text h e =
+    let s = bind_some (servers_under (version_word First) (version_word Second) text) (λ found. Some (record { version = found.0; header = record { from = found.1; primary = found.2 } })) h e in
+    let t = servers_under_take (version_word First) (version_word Second) text s.0 s.1 in
+    let made : Heading = record { version = s.0.0; header = record { from = s.0.1; primary = s.0.2 } } in
+    subst (λ (y : Heading). (is_heading y ≡ true) × (text ≡ heading_line y)) {x = made} (same_Some made h s.2) (
+      and_from (is_server s.0.1) (is_server s.0.2) t.server_ok t.primary_ok,
+      t.is ∙ ap (λ (w : Text). w ++ 32 ∷ (decimal s.0.1 ++ 32 ∷ decimal s.0.2)) (header_word s.0.0),
+    )
+
+heading_again : (h : Heading) → is_heading h ≡ true → heading_of (heading_line h) ≡ Some h
+unfolding heading_of
+heading_again h ok =
+    let d : Header = h.header in
+    let a = and_parts (is_server h.header.from) (is_server h.header.primary) ok in
+    ap (λ (w : Text). servers_under (version_word First) (version_word Second) (w ++ 32 ∷ (decimal h.header.from ++ 32 ∷ decimal h.header.primary)) >>= λ found. Some (record { version = found.0; header = record { from = found.1; primary = found.2 } })) (sym (header_word h.version))
+    ∙ ap (λ o. o >>= λ (found : Version × ℕ × ℕ). Some (record { version = found.0; header = record { from = found.1; primary = found.2 } }))
+    (servers_under_again (version_word First) (version_word Second) (lit≤ tt, (lit≤ tt, (lit≤ tt, tt))) (lit≤ tt, (lit≤ tt, (lit≤ tt, tt))) refl h.version h.header.from h.header.primary a.0 a.1)
 
 -- a line is read as a header just where the definitions read it so
-pub header_is : (text : Text) → header_of text ≡ read_header text
+pub header_is : (text : Text) → heading_of text ≡ read_header text
 header_is text =
-    agree (header_of text) (read_header text)
-    (λ h e. let t = header_takes text h e in ap read_header t.1 ∙ read-header_line h t.0)
-    (λ h e. let o = own_text is_header header_line (record { from = Rattle.mr_model.specs.Texts.number_at 1 text; primary = Rattle.mr_model.specs.Texts.number_at 2 text }) h text e in ap header_of (sym o.1) ∙ header_again h o.0)
+    agree (heading_of text) (read_header text)
+    (λ h e. let t = heading_takes text h e in ap read_header t.1 ∙ read-header_line h t.0)
+    (λ h e. let o = own_text is_heading heading_line (heading_in text) h text e in ap heading_of (sym o.1) ∙ heading_again h o.0)
 
 -- ---- lines below the header
 
-write_line_again : (stamp : Stamp) (room : Text) (a : Action) → is_item (W (record { stamp = stamp; room = room; action = a })) ≡ true
-    → line_of (write_line (record { stamp = stamp; room = room; action = a })) ≡ Some (ItemLine (W (record { stamp = stamp; room = room; action = a })))
+write_line_again : (v : Version) (stamp : Stamp) (room : Text) (a : Action) → is_item v (W (record { stamp = stamp; room = room; action = a })) ≡ true
+    → line_of v (write_line (record { stamp = stamp; room = room; action = a })) ≡ Some (ItemLine (W (record { stamp = stamp; room = room; action = a })))
 unfolding worded_line
-write_line_again stamp room (Books m) ok =
-    ap line_of (write_line_is stamp room m)
-    ∙ ap (line_by (87 ∷ 32 ∷ write_rest stamp room m)) (word_again (codes "W") (write_rest stamp room m) (lit≤ tt, tt))
-    ∙ ap (λ o. o >>= λ (v : Write). Some (ItemLine (W v))) (write_again stamp room m ok)
-write_line_again stamp room (Cancels t) ok = absurd (true≢false (sym (and_parts (is_write (record { stamp = stamp; room = room; action = Cancels t })) false ok).1))
+write_line_again v stamp room (Books m) ok =
+    let rest : Text = front_rest stamp room (meeting_rest m) in
+    ap (line_of v) (booking_line_is stamp room m)
+    ∙ ap (line_by v (87 ∷ 32 ∷ rest)) (word_again (codes "W") rest (lit≤ tt, tt))
+    ∙ ap (λ o. o >>= λ (w : Write). Some (ItemLine (W w))) (booking_again v stamp room m ok)
+write_line_again v stamp room (Cancels t) ok =
+    let rest : Text = front_rest stamp room (target_rest t) in
+    ap (line_of v) (cancel_line_is stamp room t)
+    ∙ ap (line_by v (88 ∷ 32 ∷ rest)) (word_again (codes "X") rest (lit≤ tt, tt))
+    ∙ ap (λ o. o >>= λ (w : Write). Some (ItemLine (W w))) (cancel_again v stamp room t ok)
 
-line_again : (x : Item) → is_item x ≡ true → line_of (item_line x) ≡ Some (ItemLine x)
-unfolding worded_line commit_rest
-line_again (W w) ok = write_line_again w.stamp w.room w.action ok
-line_again (C q id) ok =
-    ap (line_by (item_line (C q id))) (word_again (codes "C") (commit_rest q id) (lit≤ tt, tt))
-    ∙ ap (λ o. o >>= λ (c : Item). Some (ItemLine c)) (commit_again q id ok)
+line_again : (v : Version) (x : Item) → is_item v x ≡ true → line_of v (item_line x) ≡ Some (ItemLine x)
+unfolding worded_line commit_rest target_rest
+line_again v (W w) ok = write_line_again v w.stamp w.room w.action ok
+line_again v (C q id) ok =
+    ap (line_by v (item_line (C q id))) (word_again (codes "C") (commit_rest q id) (lit≤ tt, tt))
+    ∙ ap (λ o. o >>= λ (c : Item). Some (ItemLine c)) (commit_again v q id ok)
 
-worded_takes : (text word rest : Text) (x : BodyLine) → text ≡ word ++ 32 ∷ rest → worded_line word rest ≡ Some x → IsLineOf text (Some x)
+worded_takes : (v : Version) (text word rest : Text) (x : BodyLine) → text ≡ word ++ 32 ∷ rest → worded_line v word rest ≡ Some x → IsLineOf v text (Some x)
 unfolding worded_line
-worded_takes text word rest x is = go (bytes_eq word (codes "W")) refl (bytes_eq word (codes "C")) refl
+worded_takes v text word rest x is = go (bytes_eq word (codes "W")) refl (bytes_eq word (codes "X")) refl (bytes_eq word (codes "C")) refl
   where
-    go : (a : Bool) → bytes_eq word (codes "W") ≡ a → (b : Bool) → bytes_eq word (codes "C") ≡ b → cond a (write_of rest >>= λ w. Some (ItemLine (W w))) (cond b (commit_of rest >>= λ c. Some (ItemLine c)) None) ≡ Some x → IsLineOf text (Some x)
-    go true a b eb e =
-        let w = bind_some (write_of rest) (λ w. Some (ItemLine (W w))) x e in
-        let t = write_takes rest w.0 w.1 in
-        subst (λ y. IsLineOf text (Some y)) (same_Some (ItemLine (W w.0)) x w.2)
-        (t.ok, is ∙ ap (λ (v : Text). v ++ 32 ∷ rest) ((bytes_eq-Decides word (codes "W")).0 a) ∙ t.is)
-    go false a true eb e =
+    written : (letter : ℕ) (o : Option Write) → word ≡ letter ∷ [] → ((w : Write) → o ≡ Some w → IsWriteOf letter v rest w) → (o >>= λ w. Some (ItemLine (W w))) ≡ Some x → IsLineOf v text (Some x)
+    written letter o same takes e =
+        let w = bind_some o (λ w. Some (ItemLine (W w))) x e in
+        let t = takes w.0 w.1 in
+        subst (λ y. IsLineOf v text (Some y)) (same_Some (ItemLine (W w.0)) x w.2) (t.ok, is ∙ ap (λ (u : Text). u ++ 32 ∷ rest) same ∙ t.is)
+
+    go : (a : Bool) → bytes_eq word (codes "W") ≡ a → (d : Bool) → bytes_eq word (codes "X") ≡ d → (b : Bool) → bytes_eq word (codes "C") ≡ b
+        → cond a (booking_of v rest >>= λ w. Some (ItemLine (W w))) (cond d (cancel_of v rest >>= λ w. Some (ItemLine (W w))) (cond b (commit_of rest >>= λ c. Some (ItemLine c)) None)) ≡ Some x → IsLineOf v text (Some x)
+    go true a d ed b eb e = written 87 (booking_of v rest) ((bytes_eq-Decides word (codes "W")).0 a) (λ w. booking_takes v rest w) e
+    go false a true ed b eb e = written 88 (cancel_of v rest) ((bytes_eq-Decides word (codes "X")).0 ed) (λ w. cancel_takes v rest w) e
+    go false a false ed true eb e =
         let c = bind_some (commit_of rest) (λ c. Some (ItemLine c)) x e in
-        let t = commit_takes rest c.0 c.1 in
-        subst (λ y. IsLineOf text (Some y)) (same_Some (ItemLine c.0) x c.2)
-        (t.0, is ∙ ap (λ (v : Text). v ++ 32 ∷ rest) ((bytes_eq-Decides word (codes "C")).0 eb) ∙ t.1)
-    go false a false eb e = absurd (let f : ◌≡◌ {A = Option BodyLine} None (Some x) = e in cc)
+        let t = commit_takes v rest c.0 c.1 in
+        subst (λ y. IsLineOf v text (Some y)) (same_Some (ItemLine c.0) x c.2)
+        (t.0, is ∙ ap (λ (u : Text). u ++ 32 ∷ rest) ((bytes_eq-Decides word (codes "C")).0 eb) ∙ t.1)
+    go false a false ed false eb e = absurd (let f : ◌≡◌ {A = Option BodyLine} None (Some x) = e in cc)
 
-bare_takes : (text : Text) (x : BodyLine) → bare_line text ≡ Some x → IsLineOf text (Some x)
+bare_takes : (v : Version) (text : Text) (x : BodyLine) → bare_line text ≡ Some x → IsLineOf v text (Some x)
 unfolding bare_line
-bare_takes text x = go (bytes_eq text (codes "E")) refl (bytes_eq text (codes "M")) refl
+bare_takes v text x = go (bytes_eq text (codes "E")) refl (bytes_eq text (codes "M")) refl
   where
-    go : (a : Bool) → bytes_eq text (codes "E") ≡ a → (b : Bool) → bytes_eq text (codes "M") ≡ b → cond a (Some (LastLine Complete)) (cond b (Some (LastLine More)) None) ≡ Some x → IsLineOf text (Some x)
-    go true a b eb e = subst (λ y. IsLineOf text (Some y)) (same_Some (LastLine Complete) x e) (ap (λ (t : Text). t ∷ []) ((bytes_eq-Decides text (codes "E")).0 a))
-    go false a true eb e = subst (λ y. IsLineOf text (Some y)) (same_Some (LastLine More) x e) (ap (λ (t : Text). t ∷ []) ((bytes_eq-Decides text (codes "M")).0 eb))
+    go : (a : Bool) → bytes_eq text (codes "E") ≡ a → (b : Bool) → bytes_eq text (codes "M") ≡ b → cond a (Some (LastLine Complete)) (cond b (Some (LastLine More)) None) ≡ Some x → IsLineOf v text (Some x)
+    go true a b eb e = subst (λ y. IsLineOf v text (Some y)) (same_Some (LastLine Complete) x e) (ap (λ (t : Text). t ∷ []) ((bytes_eq-Decides text (codes "E")).0 a))
+    go false a true eb e = subst (λ y. IsLineOf v text (Some y)) (same_Some (LastLine More) x e) (ap (λ (t : Text). t ∷ []) ((bytes_eq-Decides text (codes "M")).0 eb))
     go false a false eb e = absurd (let f : ◌≡◌ {A = Option BodyLine} None (Some x) = e in cc)
 
-line_takes : (text : Text) (x : BodyLine) → line_of text ≡ Some x → IsLineOf text (Some x)
-line_takes text x = go (cut 32 text) refl
+line_takes : (v : Version) (text : Text) (x : BodyLine) → line_of v text ≡ Some x → IsLineOf v text (Some x)
+line_takes v text x = go (cut 32 text) refl
   where
-    go : (o : Option (Text × Text)) → cut 32 text ≡ o → line_by text o ≡ Some x → IsLineOf text (Some x)
-    go (Some p) c e = worded_takes text p.0 p.1 x (cut_takes 32 text p.0 p.1 c) e
-    go None c e = bare_takes text x e
+    go : (o : Option (Text × Text)) → cut 32 text ≡ o → line_by v text o ≡ Some x → IsLineOf v text (Some x)
+    go (Some p) c e = worded_takes v text p.0 p.1 x (cut_takes 32 text p.0 p.1 c) e
+    go None c e = bare_takes v text x e
 
 only_line : (t u : Text) → t ∷ [] ≡ u ∷ [] → t ≡ u
 only_line t u e = cc
@@ -302,19 +446,19 @@ no_line : (t : Text) → ◌≡◌ {A = List Text} (t ∷ []) [] → ⊥
 no_line t e = cc
 
 -- what both read of a line of a kind
-same_read : (read : Text → Option BodyLine) → ((x : Item) → is_item x ≡ true → read (item_line x) ≡ Some (ItemLine x)) → read (codes "E") ≡ Some (LastLine Complete) → read (codes "M") ≡ Some (LastLine More) → (text : Text) (x : BodyLine) → IsLineOf text (Some x) → read text ≡ Some x
-same_read read items e m text (ItemLine x) t = ap read t.1 ∙ items x t.0
-same_read read items e m text (LastLine Complete) t = ap read (only_line text (codes "E") t) ∙ e
-same_read read items e m text (LastLine More) t = ap read (only_line text (codes "M") t) ∙ m
-same_read read items e m text (LastLine Cut) t = absurd (no_line text t)
+same_read : (v : Version) (read : Text → Option BodyLine) → ((x : Item) → is_item v x ≡ true → read (item_line x) ≡ Some (ItemLine x)) → read (codes "E") ≡ Some (LastLine Complete) → read (codes "M") ≡ Some (LastLine More) → (text : Text) (x : BodyLine) → IsLineOf v text (Some x) → read text ≡ Some x
+same_read v read items e m text (ItemLine x) t = ap read t.1 ∙ items x t.0
+same_read v read items e m text (LastLine Complete) t = ap read (only_line text (codes "E") t) ∙ e
+same_read v read items e m text (LastLine More) t = ap read (only_line text (codes "M") t) ∙ m
+same_read v read items e m text (LastLine Cut) t = absurd (no_line text t)
 
 -- a line below the header is read just as the definitions read it
-pub line_is : (text : Text) → line_of text ≡ read_body_line text
+pub line_is : (v : Version) (text : Text) → line_of v text ≡ read_body_line v text
 unfolding bare_line
-line_is text =
-    agree (line_of text) (read_body_line text)
-    (λ x e. same_read read_body_line read-item_line refl refl text x (line_takes text x e))
-    (λ x e. same_read line_of line_again refl refl text x (subst (λ o. IsLineOf text o) e (body_line_of text)))
+line_is v text =
+    agree (line_of v text) (read_body_line v text)
+    (λ x e. same_read v (read_body_line v) (read-item_line v) refl refl text x (line_takes v text x e))
+    (λ x e. same_read v (line_of v) (line_again v) refl refl text x (subst (λ o. IsLineOf v text o) e (body_line_of v text)))
 
 -- ---- what `Write::new` answers
 
@@ -328,27 +472,23 @@ refused true false v e f g h = absurd (cc)
 refused true true v e f g h = refl
 refused false d v e f g h = refl
 
-all_four : (a b d : Bool) → a ≡ true → b ≡ true → d ≡ true → (a && (b && d)) ≡ true
-all_four a b d ha hb hd = and_from a (b && d) ha (and_from b d hb hd)
-
-pub made_write : (stamp : Stamp) (room title : Text) (m : ℕ) (wish : Slot) (others : List Slot) (r t : Text) (w : Write) → r ≡ room → t ≡ title → is_room_name room ≡ true → is_title title ≡ true → limited m wish others (record { stamp = stamp; room = r; action = Books (record { title = t; length = m; wish = wish; alternatives = others }) }) ≡ Ok w
-    → write_with stamp room m wish others title ≡ Some w
-unfolding write_with
-made_write stamp room title m wish others r t w er et hr ht h =
-    let made : Write = record { stamp = stamp; room = r; action = Books (record { title = t; length = m; wish = wish; alternatives = others }) } in
-    let asked : Write = record { stamp = stamp; room = room; action = Books (record { title = title; length = m; wish = wish; alternatives = others }) } in
+pub made_booking : (stamp : Stamp) (room title : Text) (m : ℕ) (wish : Slot) (others : List Slot) (r t : Text) (w : Write) → r ≡ room → t ≡ title → is_title title ≡ true → limited m wish others (booking stamp r (record { title = t; length = m; wish = wish; alternatives = others })) ≡ Ok w
+    → booking_with stamp room m wish others title ≡ Some w
+unfolding booking_with
+made_booking stamp room title m wish others r t w er et ht h =
+    let made : Write = booking stamp r (record { title = t; length = m; wish = wish; alternatives = others }) in
+    let asked : Write = booking stamp room (record { title = title; length = m; wish = wish; alternatives = others }) in
     let same : asked ≡ made = (λ i. record { stamp = stamp; room = sym er i; action = Books (record { title = sym et i; length = m; wish = wish; alternatives = others }) }) in
     let k = kept (is_length_for m (wish ∷ others)) (ltb greatest_alternatives (length others)) made w BadLength TooManyAlternatives h in
-    ap (λ b. only_if b asked) (all_four (is_room_name room) (is_title title) (is_length_for m (wish ∷ others) && not (ltb greatest_alternatives (length others))) hr ht k.0) ∙ ap (λ (v : Write). Some v) (same ∙ k.1)
+    ap (λ b. only_if b asked) (and_from (is_title title) (is_length_for m (wish ∷ others) && not (ltb greatest_alternatives (length others))) ht k.0) ∙ ap (λ (v : Write). Some v) (same ∙ k.1)
 
-pub no_write : (stamp : Stamp) (room title : Text) (m : ℕ) (wish : Slot) (others : List Slot) (v : Write) (g : Refusal) → limited m wish others v ≡ Err g → write_with stamp room m wish others title ≡ None
-unfolding write_with
-no_write stamp room title m wish others v g h =
+pub no_booking : (stamp : Stamp) (room title : Text) (m : ℕ) (wish : Slot) (others : List Slot) (v : Write) (g : Refusal) → limited m wish others v ≡ Err g → booking_with stamp room m wish others title ≡ None
+unfolding booking_with
+no_booking stamp room title m wish others v g h =
     let k = refused (is_length_for m (wish ∷ others)) (ltb greatest_alternatives (length others)) v BadLength TooManyAlternatives g h in
-    let made : Write = record { stamp = stamp; room = room; action = Books (record { title = title; length = m; wish = wish; alternatives = others }) } in
-    ap (λ b. only_if (is_room_name room && (is_title title && b)) made) k ∙ none (is_room_name room) (is_title title) made
+    let made : Write = booking stamp room (record { title = title; length = m; wish = wish; alternatives = others }) in
+    ap (λ b. only_if (is_title title && b) made) k ∙ none (is_title title) made
   where
-    none : (a b : Bool) (x : Write) → only_if (a && (b && false)) x ≡ None
-    none true true x = refl
-    none true false x = refl
-    none false b x = refl
+    none : (a : Bool) (x : Write) → only_if (a && false) x ≡ None
+    none true x = refl
+    none false x = refl

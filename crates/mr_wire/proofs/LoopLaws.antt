@@ -8,7 +8,7 @@ use Rattle.std.specs.Str.{bytes_eq}
 use Rattle.mr_model.specs.Texts.{Text, whole_lines, in_first_line}
 use Rattle.mr_model.specs.Slots.{Slot}
 use Rattle.mr_model.specs.Refusals as model
-use Rattle.mr_model.specs.Exchange.{Item, Ending, Cut, Header, BodyLine, ItemLine, LastLine, is_header, is_item, read_header, read_body_line, with_item, read_end, read_line, read_body, under_header, read_lines, read_batch, no_lines}
+use Rattle.mr_model.specs.Exchange.{Version, Item, Ending, Cut, Heading, BodyLine, ItemLine, LastLine, is_heading, is_item, read_header, read_body_line, with_item, read_end, read_line, read_body, under_heading, under_header, read_lines, read_batch, no_lines}
 use Rattle.mr_model.proofs.BatchesReadBack.{read_reads}
 use Rattle.mr_base.specs.Refusals.{refusal_of}
 use Rattle.mr_base.specs.declared.refusals.Refusal.{Refusal}
@@ -84,26 +84,26 @@ regroup_items : (front : List Item) (x : Item) (read : Result (List Item × Endi
 regroup_items front x (Ok body) = ap (λ (xs : List Item). Ok (xs, body.1)) (sym (append_assoc front (x ∷ []) body.0))
 regroup_items front x (Err e) = refl
 
-module _ (front : List Item) (k : ℕ) (rest line behind : Text) (total : Result (List Item × Ending) model.Refusal) (is : Some (line, behind) ≡ cut 10 rest) (so_far : with_front front (read_body (k + 1) (whole_lines rest)) ≡ total) where
+module _ (v : Version) (front : List Item) (k : ℕ) (rest line behind : Text) (total : Result (List Item × Ending) model.Refusal) (is : Some (line, behind) ≡ cut 10 rest) (so_far : with_front front (read_body v (k + 1) (whole_lines rest)) ≡ total) where
   -- what is read of the first line, and of those behind it
-  by_first : (o : Option BodyLine) → read_body_line line ≡ o → with_front front (read_line (k + 1) o (whole_lines behind) (read_body (k + 1 + 1) (whole_lines behind))) ≡ total
+  by_first : (o : Option BodyLine) → read_body_line v line ≡ o → with_front front (read_line (k + 1) o (whole_lines behind) (read_body v (k + 1 + 1) (whole_lines behind))) ≡ total
   by_first o e =
-      ap (λ b. with_front front (read_line (k + 1) b (whole_lines behind) (read_body (k + 1 + 1) (whole_lines behind)))) (sym e)
-      ∙ ap (λ ls. with_front front (read_body (k + 1) ls)) (sym (first_line_is rest line behind is)) ∙ so_far
+      ap (λ b. with_front front (read_line (k + 1) b (whole_lines behind) (read_body v (k + 1 + 1) (whole_lines behind)))) (sym e)
+      ∙ ap (λ ls. with_front front (read_body v (k + 1) ls)) (sym (first_line_is rest line behind is)) ∙ so_far
 
-  pub body_goes_on : (x : Item) → read_body_line line ≡ Some (ItemLine x) → with_front (front ++ x ∷ []) (read_body (k + 1 + 1) (whole_lines behind)) ≡ total
-  body_goes_on x e = sym (regroup_items front x (read_body (k + 1 + 1) (whole_lines behind))) ∙ by_first (Some (ItemLine x)) e
+  pub body_goes_on : (x : Item) → read_body_line v line ≡ Some (ItemLine x) → with_front (front ++ x ∷ []) (read_body v (k + 1 + 1) (whole_lines behind)) ≡ total
+  body_goes_on x e = sym (regroup_items front x (read_body v (k + 1 + 1) (whole_lines behind))) ∙ by_first (Some (ItemLine x)) e
 
-  pub body_ends : (ending : Ending) → read_body_line line ≡ Some (LastLine ending) → with_front front (read_end ending (k + 1) (whole_lines behind)) ≡ total
+  pub body_ends : (ending : Ending) → read_body_line v line ≡ Some (LastLine ending) → with_front front (read_end ending (k + 1) (whole_lines behind)) ≡ total
   body_ends ending e = by_first (Some (LastLine ending)) e
 
-  pub body_refused : (fault : Fault) → Fails fault (read_body_line line) → (total ≡ Err (refusal_of (refusal_at (k + 1) fault))) ⊎ (refusal_at (k + 1) fault ≡ OutOfMemory)
+  pub body_refused : (fault : Fault) → Fails fault (read_body_line v line) → (total ≡ Err (refusal_of (refusal_at (k + 1) fault))) ⊎ (refusal_at (k + 1) fault ≡ OutOfMemory)
   body_refused faults.NotALine e = inl (sym (by_first None e))
   body_refused faults.OutOfMemory e = inr refl
 
-pub body_is_done : (front : List Item) (k : ℕ) (rest : Text) (total : Result (List Item × Ending) model.Refusal) → None ≡ cut 10 rest → with_front front (read_body k (whole_lines rest)) ≡ total → total ≡ Ok (front, Cut)
-body_is_done front k rest total is so_far =
-    sym so_far ∙ ap (λ ls. with_front front (read_body k ls)) (no_line_left rest is) ∙ ap (λ (xs : List Item). Ok (xs, Cut)) (append-nil front)
+pub body_is_done : (v : Version) (front : List Item) (k : ℕ) (rest : Text) (total : Result (List Item × Ending) model.Refusal) → None ≡ cut 10 rest → with_front front (read_body v k (whole_lines rest)) ≡ total → total ≡ Ok (front, Cut)
+body_is_done v front k rest total is so_far =
+    sym so_far ∙ ap (λ ls. with_front front (read_body v k ls)) (no_line_left rest is) ∙ ap (λ (xs : List Item). Ok (xs, Cut)) (append-nil front)
 
 -- behind the last line
 pub ends_there : (front : List Item) (ending : Ending) (n : ℕ) (behind : Text) → None ≡ cut 10 behind → with_front front (read_end ending n (whole_lines behind)) ≡ Ok (front, ending)
@@ -118,22 +118,22 @@ pub no_header_line : (bytes : Text) → None ≡ cut 10 bytes → read_batch byt
 no_header_line bytes is = ap read_lines (no_line_left bytes is)
 
 pub bad_header : (bytes line rest : Text) → Some (line, rest) ≡ cut 10 bytes → read_header line ≡ None → read_batch bytes ≡ Err (model.BadLine 1)
-bad_header bytes line rest is e = ap read_lines (first_line_is bytes line rest is) ∙ ap (λ o. under_header o (read_body 2 (whole_lines rest))) e
+bad_header bytes line rest is e = ap read_lines (first_line_is bytes line rest is) ∙ ap (λ o. under_header o (whole_lines rest)) e
 
-pub read_under : (bytes line rest : Text) (h : Header) → Some (line, rest) ≡ cut 10 bytes → read_header line ≡ Some h → read_batch bytes ≡ under_header (Some h) (read_body 2 (whole_lines rest))
-read_under bytes line rest h is e = ap read_lines (first_line_is bytes line rest is) ∙ ap (λ o. under_header o (read_body 2 (whole_lines rest))) e
+pub read_under : (bytes line rest : Text) (h : Heading) → Some (line, rest) ≡ cut 10 bytes → read_header line ≡ Some h → read_batch bytes ≡ under_heading h (read_body h.version 2 (whole_lines rest))
+read_under bytes line rest h is e = ap read_lines (first_line_is bytes line rest is) ∙ ap (λ o. under_header o (whole_lines rest)) e
 
-pub bad_body : (bytes line rest : Text) (h : Header) (e : Refusal) → Some (line, rest) ≡ cut 10 bytes → read_header line ≡ Some h → (read_body 2 (whole_lines rest) ≡ Err (refusal_of e)) ⊎ (e ≡ OutOfMemory) → (read_batch bytes ≡ Err (refusal_of e)) ⊎ (e ≡ OutOfMemory)
-bad_body bytes line rest h e is head (inl b) = inl (read_under bytes line rest h is head ∙ ap (under_header (Some h)) b)
+pub bad_body : (bytes line rest : Text) (h : Heading) (e : Refusal) → Some (line, rest) ≡ cut 10 bytes → read_header line ≡ Some h → (read_body h.version 2 (whole_lines rest) ≡ Err (refusal_of e)) ⊎ (e ≡ OutOfMemory) → (read_batch bytes ≡ Err (refusal_of e)) ⊎ (e ≡ OutOfMemory)
+bad_body bytes line rest h e is head (inl b) = inl (read_under bytes line rest h is head ∙ ap (under_heading h) b)
 bad_body bytes line rest h e is head (inr m) = inr m
 
-pub whole_batch : (bytes line rest : Text) (h : Header) (body : List Item × Ending) → Some (line, rest) ≡ cut 10 bytes → Some h ≡ read_header line → read_body 2 (whole_lines rest) ≡ Ok body → read_batch bytes ≡ Ok (record { header = Some h; items = body.0; ending = body.1 })
-whole_batch bytes line rest h body is head read = read_under bytes line rest h is (sym head) ∙ ap (under_header (Some h)) read
+pub whole_batch : (bytes line rest : Text) (h : Heading) (body : List Item × Ending) → Some (line, rest) ≡ cut 10 bytes → Some h ≡ read_header line → read_body h.version 2 (whole_lines rest) ≡ Ok body → read_batch bytes ≡ Ok (record { version = h.version; header = Some h.header; items = body.0; ending = body.1 })
+whole_batch bytes line rest h body is head read = read_under bytes line rest h is (sym head) ∙ ap (under_heading h) read
 
--- all items that are read are ones that the text can say
-pub said_items : (bytes line rest : Text) (h : Header) (body : List Item × Ending) → Some (line, rest) ≡ cut 10 bytes → Some h ≡ read_header line → read_body 2 (whole_lines rest) ≡ Ok body → list_all is_item body.0 ≡ true
+-- all items that are read are ones that the version can say
+pub said_items : (bytes line rest : Text) (h : Heading) (body : List Item × Ending) → Some (line, rest) ≡ cut 10 bytes → Some h ≡ read_header line → read_body h.version 2 (whole_lines rest) ≡ Ok body → list_all (is_item h.version) body.0 ≡ true
 said_items bytes line rest h body is head read =
-    (and_parts (is_header h) (list_all is_item body.0) (read_reads bytes (record { header = Some h; items = body.0; ending = body.1 }) (whole_batch bytes line rest h body is head read)).is_a_batch).1
+    (and_parts (is_heading h) (list_all (is_item h.version) body.0) (read_reads bytes (record { version = h.version; header = Some h.header; items = body.0; ending = body.1 }) (whole_batch bytes line rest h body is head read)).is_a_batch).1
 
 -- ---- the counts of a position
 

@@ -7,16 +7,16 @@ use Rattle.std.specs.Str.{bytes_eq}
 use Rattle.std.specs.List.{list_all}
 use Rattle.mr_model.specs.Texts.{Text, only_if, whole_lines}
 use Rattle.mr_model.specs.Writes.{is_server, is_count}
+use Rattle.mr_model.specs.Exchange.{Version}
 use Rattle.mr_model.specs.Positions.{Count, Position, are_rising, is_position}
 use Rattle.mr_base.specs.Positions.{are_rising_above}
 use Rattle.mr_base.proofs.Rising.{rising_behind}
 use Rattle.mr_wire.specs.Words.{cut}
-use Rattle.mr_wire.specs.Fields.{◌>>=◌, behind_word, server_and, servers_of, commits_of, count_of, no_more, counts_until_end, if_position, position_on}
+use Rattle.mr_wire.specs.Fields.{◌>>=◌, behind_word, servers_of, commits_of, count_of, no_more, counts_until_end, if_position, position_on}
 use Rattle.mr_base.specs.Readings.{number_from_to}
 use Rattle.mr_wire.specs.Tested.{behind_commits, is_none_left, rises_above, counts_rise}
 use Rattle.mr_wire.proofs.FieldLaws.{bind_some, number_takes}
-use Rattle.mr_wire.proofs.LineLaws.{server_and_takes}
-use Rattle.mr_wire.proofs.PositionTexts.{count_takes, count_ok}
+use Rattle.mr_wire.proofs.PositionTexts.{count_takes, count_ok, servers_take}
 use Rattle.mr_wire.proofs.LoopLaws.{first_line_is, no_line_left}
 
 -- the counts that are read, where they rise above the last
@@ -76,11 +76,11 @@ do_rise None = false
 
 -- the lines of a position: its first two, and counts that rise
 pub position_tested : (text : Text) → do_rise (behind_commits text) ≡ is_some (position_on text)
-unfolding behind_commits position_on servers_of commits_of
+unfolding behind_commits position_on commits_of
 position_tested text = at_first (cut 10 text)
   where
-    limits : (server primary commits : ℕ) (cs : List Count) → is_server server ≡ true → is_server primary ≡ true → leb commits 999_999_999_999 ≡ true → list_all count_ok cs ≡ true → are_rising_above 0 cs ≡ is_position (record { server = server; primary = primary; commits = commits; counts = cs })
-    limits server primary commits cs s p k ok =
+    limits : (version : Version) (server primary commits : ℕ) (cs : List Count) → is_server server ≡ true → is_server primary ≡ true → leb commits 999_999_999_999 ≡ true → list_all count_ok cs ≡ true → are_rising_above 0 cs ≡ is_position (record { version = version; server = server; primary = primary; commits = commits; counts = cs })
+    limits version server primary commits cs s p k ok =
         above_none cs ok ∙ ap (λ t. t && are_rising cs)
         (sym (and_from (is_server server && is_server primary && leb commits 999_999_999_999) (list_all count_ok cs)
         (and_from (is_server server && is_server primary) (leb commits 999_999_999_999) (and_from (is_server server) (is_server primary) s p) k) ok))
@@ -91,43 +91,40 @@ position_tested text = at_first (cut 10 text)
     some_of true false x y e = absurd (cc e)
     some_of false true x y e = absurd (cc e)
 
-    at_counts : (server primary commits : ℕ) → is_server server ≡ true → is_server primary ≡ true → leb commits 999_999_999_999 ≡ true → (ls : List Text) → counts_rise 0 ls ≡ is_some (counts_until_end ls >>= λ counts. if_position (record { server = server; primary = primary; commits = commits; counts = counts }))
-    at_counts server primary commits s p k ls = rising_read 0 ls ∙ go (counts_until_end ls) refl
+    at_counts : (version : Version) (server primary commits : ℕ) → is_server server ≡ true → is_server primary ≡ true → leb commits 999_999_999_999 ≡ true → (ls : List Text) → counts_rise 0 ls ≡ is_some (counts_until_end ls >>= λ counts. if_position (record { version = version; server = server; primary = primary; commits = commits; counts = counts }))
+    at_counts version server primary commits s p k ls = rising_read 0 ls ∙ go (counts_until_end ls) refl
       where
-        go : (o : Option (List Count)) → counts_until_end ls ≡ o → is_some (if_rising 0 o) ≡ is_some (o >>= λ counts. if_position (record { server = server; primary = primary; commits = commits; counts = counts }))
+        go : (o : Option (List Count)) → counts_until_end ls ≡ o → is_some (if_rising 0 o) ≡ is_some (o >>= λ counts. if_position (record { version = version; server = server; primary = primary; commits = commits; counts = counts }))
         go None e = refl
         go (Some cs) e =
-            let made : Position = record { server = server; primary = primary; commits = commits; counts = cs } in
-            some_of (are_rising_above 0 cs) (is_position made) cs made (limits server primary commits cs s p k (counts_ok ls cs e))
+            let made : Position = record { version = version; server = server; primary = primary; commits = commits; counts = cs } in
+            some_of (are_rising_above 0 cs) (is_position made) cs made (limits version server primary commits cs s p k (counts_ok ls cs e))
 
-    at_commits : (s : ℕ × ℕ) → is_server s.0 ≡ true → is_server s.1 ≡ true → (rest : Text) (o : Option ℕ) → ((k : ℕ) → o ≡ Some k → leb k 999_999_999_999 ≡ true)
-        → do_rise (o >>= λ commits. Some rest) ≡ is_some (o >>= λ commits. counts_until_end (whole_lines rest) >>= λ counts. if_position (record { server = s.0; primary = s.1; commits = commits; counts = counts }))
+    at_commits : (s : Version × ℕ × ℕ) → is_server s.1 ≡ true → is_server s.2 ≡ true → (rest : Text) (o : Option ℕ) → ((k : ℕ) → o ≡ Some k → leb k 999_999_999_999 ≡ true)
+        → do_rise (o >>= λ commits. Some rest) ≡ is_some (o >>= λ commits. counts_until_end (whole_lines rest) >>= λ counts. if_position (record { version = s.0; server = s.1; primary = s.2; commits = commits; counts = counts }))
     at_commits s a b rest None few = refl
-    at_commits s a b rest (Some k) few = at_counts s.0 s.1 k a b (few k refl) (whole_lines rest)
+    at_commits s a b rest (Some k) few = at_counts s.0 s.1 s.2 k a b (few k refl) (whole_lines rest)
 
     few_commits : (line : Text) (k : ℕ) → commits_of line ≡ Some k → leb k 999_999_999_999 ≡ true
     few_commits line k e =
         let a = bind_some (behind_word (codes "K") line) (λ rest. number_from_to 0 999_999_999_999 rest) k e in
         (and_parts (leb 0 k) (leb k 999_999_999_999) (number_takes 0 999_999_999_999 a.0 k a.2).0).1
 
-    two_servers : (line : Text) (s : ℕ × ℕ) → servers_of line ≡ Some s → (is_server s.0 ≡ true) × (is_server s.1 ≡ true)
-    two_servers line s e =
-        let a = bind_some (behind_word (codes "mp1") line) (λ rest. server_and 99 rest) s e in
-        let t = server_and_takes 99 a.0 s a.2 in
-        (t.0, t.1)
+    two_servers : (line : Text) (s : Version × ℕ × ℕ) → servers_of line ≡ Some s → (is_server s.1 ≡ true) × (is_server s.2 ≡ true)
+    two_servers line s e = let t = servers_take line s e in (t.server_ok, t.primary_ok)
 
-    at_servers : (line next rest : Text) (o : Option (ℕ × ℕ)) → ((s : ℕ × ℕ) → o ≡ Some s → (is_server s.0 ≡ true) × (is_server s.1 ≡ true))
-        → do_rise (o >>= λ servers. commits_of next >>= λ commits. Some rest) ≡ is_some (o >>= λ servers. commits_of next >>= λ commits. counts_until_end (whole_lines rest) >>= λ counts. if_position (record { server = servers.0; primary = servers.1; commits = commits; counts = counts }))
+    at_servers : (line next rest : Text) (o : Option (Version × ℕ × ℕ)) → ((s : Version × ℕ × ℕ) → o ≡ Some s → (is_server s.1 ≡ true) × (is_server s.2 ≡ true))
+        → do_rise (o >>= λ servers. commits_of next >>= λ commits. Some rest) ≡ is_some (o >>= λ servers. commits_of next >>= λ commits. counts_until_end (whole_lines rest) >>= λ counts. if_position (record { version = servers.0; server = servers.1; primary = servers.2; commits = commits; counts = counts }))
     at_servers line next rest None are = refl
     at_servers line next rest (Some s) are = at_commits s (are s refl).0 (are s refl).1 rest (commits_of next) (few_commits next)
 
     at_second : (line : Text) (o : Option (Text × Text)) → do_rise (o >>= λ second. servers_of line >>= λ servers. commits_of second.0 >>= λ commits. Some second.1)
-        ≡ is_some (o >>= λ second. servers_of line >>= λ servers. commits_of second.0 >>= λ commits. counts_until_end (whole_lines second.1) >>= λ counts. if_position (record { server = servers.0; primary = servers.1; commits = commits; counts = counts }))
+        ≡ is_some (o >>= λ second. servers_of line >>= λ servers. commits_of second.0 >>= λ commits. counts_until_end (whole_lines second.1) >>= λ counts. if_position (record { version = servers.0; server = servers.1; primary = servers.2; commits = commits; counts = counts }))
     at_second line None = refl
     at_second line (Some b) = at_servers line b.0 b.1 (servers_of line) (two_servers line)
 
     at_first : (o : Option (Text × Text)) → do_rise (o >>= λ first. cut 10 first.1 >>= λ second. servers_of first.0 >>= λ servers. commits_of second.0 >>= λ commits. Some second.1)
-        ≡ is_some (o >>= λ first. cut 10 first.1 >>= λ second. servers_of first.0 >>= λ servers. commits_of second.0 >>= λ commits. counts_until_end (whole_lines second.1) >>= λ counts. if_position (record { server = servers.0; primary = servers.1; commits = commits; counts = counts }))
+        ≡ is_some (o >>= λ first. cut 10 first.1 >>= λ second. servers_of first.0 >>= λ servers. commits_of second.0 >>= λ commits. counts_until_end (whole_lines second.1) >>= λ counts. if_position (record { version = servers.0; server = servers.1; primary = servers.2; commits = commits; counts = counts }))
     at_first None = refl
     at_first (Some a) = at_second a.0 (cut 10 a.1)
 

@@ -11,16 +11,17 @@ use Rattle.std.specs.Fmt.{decimal}
 use Rattle.std.specs.List.{AllByRecursion, list_all}
 use Rattle.mr_model.specs.Texts.{Text, within, only_if, words, line, lines_text, in_first_line, whole_lines}
 use Rattle.mr_model.specs.Writes.{is_server, is_count, greatest_count}
-use Rattle.mr_model.specs.Positions.{Count, Position, are_rising, is_position, count_line, position_lines, position_text, read_position}
+use Rattle.mr_model.specs.Exchange.{Version, First, Second}
+use Rattle.mr_model.specs.Positions.{Count, Position, are_rising, is_position, count_line, position_word, position_lines, position_text, read_position}
 use Rattle.mr_model.proofs.WordsReadBack.{OneLine, all_append, lines-text}
 use Rattle.mr_model.proofs.LinesReadBack.{within-high}
 use Rattle.mr_model.proofs.BatchesReadBack.{only_if_some, words-one_line, number-one_line}
 use Rattle.mr_model.proofs.PositionsReadBack.{read-position_text, read_position_text}
 use Rattle.mr_wire.specs.Words.{cut}
-use Rattle.mr_wire.specs.Fields.{◌>>=◌, behind_word, server_and, servers_of, commits_of, count_of, no_more, counts_until_end, if_position, position_on}
+use Rattle.mr_wire.specs.Fields.{◌>>=◌, behind_word, server_and, servers_under, servers_of, commits_of, count_of, no_more, counts_until_end, if_position, position_on}
 use Rattle.mr_base.specs.Readings.{number_from_to}
 use Rattle.mr_wire.proofs.FieldLaws.{bind_some, number_takes, number_again}
-use Rattle.mr_wire.proofs.LineLaws.{agree, behind_takes, behind_again, server_and_takes, server_and_again}
+use Rattle.mr_wire.proofs.LineLaws.{agree, behind_takes, behind_again, server_and_takes, server_and_again, word_among, servers_under_take, servers_under_again}
 use Rattle.mr_wire.proofs.Ascii.{Low, is_text, words_low, number_low}
 use Rattle.mr_wire.proofs.LoopLaws.{first_line_is, no_line_left}
 
@@ -71,6 +72,30 @@ counts_again (c ∷ cs) ok =
     ap (λ o. o >>= λ d. (counts_until_end ls >>= λ ds. Some (d ∷ ds))) (count_again c p.0)
     ∙ ap (λ o. o >>= λ ds. Some (c ∷ ds)) (counts_again cs p.1)
 
+-- ---- the first line
+
+first_word_is : (v : Version) → word_among (position_word First) (position_word Second) v ≡ position_word v
+first_word_is First = refl
+first_word_is Second = refl
+
+-- the word is the version's, and the servers are within the limits
+pub record AreServersOf (text : Text) (v : Version) (server primary : ℕ) : Type 0 where
+  pub server_ok : is_server server ≡ true
+  pub primary_ok : is_server primary ≡ true
+  pub is : text ≡ position_word v ++ 32 ∷ (decimal server ++ 32 ∷ decimal primary)
+
+pub servers_take : (text : Text) (s : Version × ℕ × ℕ) → servers_of text ≡ Some s → AreServersOf text s.0 s.1 s.2
+unfolding servers_of
+servers_take text s e =
+    let t = servers_under_take (position_word First) (position_word Second) text s e in
+    record { server_ok = t.server_ok; primary_ok = t.primary_ok; is = t.is ∙ ap (λ (w : Text). w ++ 32 ∷ (decimal s.1 ++ 32 ∷ decimal s.2)) (first_word_is s.0) }
+
+servers_again : (v : Version) (server primary : ℕ) → is_server server ≡ true → is_server primary ≡ true → servers_of (position_word v ++ 32 ∷ (decimal server ++ 32 ∷ decimal primary)) ≡ Some (v, server, primary)
+unfolding servers_of
+servers_again v server primary a b =
+    ap (λ (w : Text). servers_under (position_word First) (position_word Second) (w ++ 32 ∷ (decimal server ++ 32 ∷ decimal primary))) (sym (first_word_is v))
+    ∙ servers_under_again (position_word First) (position_word Second) (lit≤ tt, (lit≤ tt, (lit≤ tt, tt))) (lit≤ tt, (lit≤ tt, (lit≤ tt, tt))) refl v server primary a b
+
 -- ---- the whole
 
 -- what is read of all lines
@@ -79,16 +104,16 @@ lines_position [] = None
 lines_position (a ∷ []) = None
 lines_position (a ∷ k ∷ vs) =
     servers_of a >>= λ servers. commits_of k >>= λ commits. counts_until_end vs >>= λ counts.
-    if_position (record { server = servers.0; primary = servers.1; commits = commits; counts = counts })
+    if_position (record { version = servers.0; server = servers.1; primary = servers.2; commits = commits; counts = counts })
 
 position_on_lines : (text : Text) → position_on text ≡ lines_position (whole_lines text)
 unfolding position_on lines_position
 position_on_lines text = go (cut 10 text) refl
   where
     first : (Text × Text) → Option Position
-    first a = cut 10 a.1 >>= λ b. servers_of a.0 >>= λ servers. commits_of b.0 >>= λ commits. counts_until_end (whole_lines b.1) >>= λ counts. if_position (record { server = servers.0; primary = servers.1; commits = commits; counts = counts })
+    first a = cut 10 a.1 >>= λ b. servers_of a.0 >>= λ servers. commits_of b.0 >>= λ commits. counts_until_end (whole_lines b.1) >>= λ counts. if_position (record { version = servers.0; server = servers.1; primary = servers.2; commits = commits; counts = counts })
 
-    second : (a : Text × Text) (o : Option (Text × Text)) → o ≡ cut 10 a.1 → (o >>= λ b. servers_of a.0 >>= λ servers. commits_of b.0 >>= λ commits. counts_until_end (whole_lines b.1) >>= λ counts. if_position (record { server = servers.0; primary = servers.1; commits = commits; counts = counts })) ≡ lines_position (a.0 ∷ whole_lines a.1)
+    second : (a : Text × Text) (o : Option (Text × Text)) → o ≡ cut 10 a.1 → (o >>= λ b. servers_of a.0 >>= λ servers. commits_of b.0 >>= λ commits. counts_until_end (whole_lines b.1) >>= λ counts. if_position (record { version = servers.0; server = servers.1; primary = servers.2; commits = commits; counts = counts })) ≡ lines_position (a.0 ∷ whole_lines a.1)
     second a None e = sym (ap (λ ls. lines_position (a.0 ∷ ls)) (no_line_left a.1 e))
     second a (Some b) e = sym (ap (λ ls. lines_position (a.0 ∷ ls)) (first_line_is a.1 b.0 b.1 e))
 
@@ -97,20 +122,18 @@ position_on_lines text = go (cut 10 text) refl
     go (Some a) e = second a (cut 10 a.1) refl ∙ sym (ap lines_position (first_line_is text a.0 a.1 e))
 
 lines_take : (ls : List Text) (p : Position) → lines_position ls ≡ Some p → (is_position p ≡ true) × (ls ≡ position_lines p)
-unfolding lines_position servers_of commits_of
+unfolding lines_position commits_of
 lines_take [] p e = absurd (let f : ◌≡◌ {A = Option Position} None (Some p) = e in cc)
 lines_take (a ∷ []) p e = absurd (let f : ◌≡◌ {A = Option Position} None (Some p) = e in cc)
 lines_take (a ∷ k ∷ vs) p e =
-    let s = bind_some (servers_of a) (λ servers. commits_of k >>= λ commits. counts_until_end vs >>= λ counts. if_position (record { server = servers.0; primary = servers.1; commits = commits; counts = counts })) p e in
-    let c = bind_some (commits_of k) (λ commits. counts_until_end vs >>= λ counts. if_position (record { server = s.0.0; primary = s.0.1; commits = commits; counts = counts })) p s.2 in
-    let v = bind_some (counts_until_end vs) (λ counts. if_position (record { server = s.0.0; primary = s.0.1; commits = c.0; counts = counts })) p c.2 in
-    let made : Position = record { server = s.0.0; primary = s.0.1; commits = c.0; counts = v.0 } in
+    let s = bind_some (servers_of a) (λ servers. commits_of k >>= λ commits. counts_until_end vs >>= λ counts. if_position (record { version = servers.0; server = servers.1; primary = servers.2; commits = commits; counts = counts })) p e in
+    let c = bind_some (commits_of k) (λ commits. counts_until_end vs >>= λ counts. if_position (record { version = s.0.0; server = s.0.1; primary = s.0.2; commits = commits; counts = counts })) p s.2 in
+    let v = bind_some (counts_until_end vs) (λ counts. if_position (record { version = s.0.0; server = s.0.1; primary = s.0.2; commits = c.0; counts = counts })) p c.2 in
+    let made : Position = record { version = s.0.0; server = s.0.1; primary = s.0.2; commits = c.0; counts = v.0 } in
     let ends = only_if_some (is_position made) made p v.2 in
-    let sa = bind_some (behind_word (codes "mp1") a) (λ rest. server_and 99 rest) s.0 s.1 in
-    let st = server_and_takes 99 sa.0 s.0 sa.2 in
     let ca = bind_some (behind_word (codes "K") k) (λ rest. number_from_to 0 999_999_999_999 rest) c.0 c.1 in
     let ct = number_takes 0 999_999_999_999 ca.0 c.0 ca.2 in
-    let first : a ≡ 109 ∷ 112 ∷ 49 ∷ 32 ∷ (decimal s.0.0 ++ 32 ∷ decimal s.0.1) = behind_takes (codes "mp1") a sa.0 sa.1 ∙ ap (λ (r : Text). 109 ∷ 112 ∷ 49 ∷ 32 ∷ r) st.2 in
+    let first : a ≡ position_word s.0.0 ++ 32 ∷ (decimal s.0.1 ++ 32 ∷ decimal s.0.2) = (servers_take a s.0 s.1).is in
     let next : k ≡ 75 ∷ 32 ∷ decimal c.0 = behind_takes (codes "K") k ca.0 ca.1 ∙ ap (λ (r : Text). 75 ∷ 32 ∷ r) ct.1 in
     let others = counts_take vs v.0 v.1 in
     subst (λ (y : Position). (is_position y ≡ true) × (a ∷ k ∷ vs ≡ position_lines y)) {x = made} ends.1 (ends.0, (λ i. first i ∷ next i ∷ others i))
@@ -130,17 +153,17 @@ parts p ok =
     record { server = d.0; primary = d.1; commits = leb-true p.commits 999_999_999_999 c.1; counts = b.1 }
 
 lines_again : (p : Position) → is_position p ≡ true → lines_position (position_lines p) ≡ Some p
-unfolding lines_position servers_of commits_of
+unfolding lines_position commits_of
 lines_again p ok =
     let f = parts p ok in
     let vs = map count_line p.counts ++ codes "E" ∷ [] in
     let rest : Text = decimal p.server ++ 32 ∷ decimal p.primary in
     let few : within 0 999_999_999_999 p.commits ≡ true = and_from (leb 0 p.commits) (leb p.commits 999_999_999_999) (le-leb 0 p.commits (omega arith)) (le-leb p.commits 999_999_999_999 f.commits) in
-    let servers : servers_of (109 ∷ 112 ∷ 49 ∷ 32 ∷ rest) ≡ Some (p.server, p.primary) = ap (λ o. o >>= λ (r : Text). server_and 99 r) (behind_again (codes "mp1") rest (lit≤ tt, (lit≤ tt, (lit≤ tt, tt)))) ∙ server_and_again 99 p.server p.primary f.server f.primary (lit< tt) in
+    let servers : servers_of (position_word p.version ++ 32 ∷ rest) ≡ Some (p.version, p.server, p.primary) = servers_again p.version p.server p.primary f.server f.primary in
     let commits : commits_of (75 ∷ 32 ∷ decimal p.commits) ≡ Some p.commits = ap (λ o. o >>= λ (r : Text). number_from_to 0 999_999_999_999 r) (behind_again (codes "K") (decimal p.commits) (lit≤ tt, tt)) ∙ number_again 0 999_999_999_999 p.commits few (lit< tt) in
-    ap (λ o. o >>= λ (s : ℕ × ℕ). commits_of (75 ∷ 32 ∷ decimal p.commits) >>= λ commits. counts_until_end vs >>= λ counts. if_position (record { server = s.0; primary = s.1; commits = commits; counts = counts })) servers
-    ∙ ap (λ o. o >>= λ commits. counts_until_end vs >>= λ counts. if_position (record { server = p.server; primary = p.primary; commits = commits; counts = counts })) commits
-    ∙ ap (λ o. o >>= λ counts. if_position (record { server = p.server; primary = p.primary; commits = p.commits; counts = counts })) (counts_again p.counts f.counts)
+    ap (λ o. o >>= λ (s : Version × ℕ × ℕ). commits_of (75 ∷ 32 ∷ decimal p.commits) >>= λ commits. counts_until_end vs >>= λ counts. if_position (record { version = s.0; server = s.1; primary = s.2; commits = commits; counts = counts })) servers
+    ∙ ap (λ o. o >>= λ commits. counts_until_end vs >>= λ counts. if_position (record { version = p.version; server = p.server; primary = p.primary; commits = commits; counts = counts })) commits
+    ∙ ap (λ o. o >>= λ counts. if_position (record { version = p.version; server = p.server; primary = p.primary; commits = p.commits; counts = counts })) (counts_again p.counts f.counts)
     ∙ ap (λ b. only_if b p) ok
 
 -- ---- the text
@@ -180,7 +203,7 @@ ends_in_lf ls l =
     ap (λ (t : Text). slice_index t (length t - 1)) is ∙ ap (λ n. slice_index (front ++ 10 ∷ []) n) long ∙ get_or-append_seam front 10 [] 0
 
 position_ends : (p : Position) → slice_index (position_text p) (length (position_text p) - 1) ≡ 10
-position_ends p = ends_in_lf (words (codes "mp1" ∷ decimal p.server ∷ decimal p.primary ∷ []) ∷ words (codes "K" ∷ decimal p.commits ∷ []) ∷ map count_line p.counts) (codes "E")
+position_ends p = ends_in_lf (words (position_word p.version ∷ decimal p.server ∷ decimal p.primary ∷ []) ∷ words (codes "K" ∷ decimal p.commits ∷ []) ∷ map count_line p.counts) (codes "E")
 
 counts_one_line : (cs : List Count) → list_all count_ok cs ≡ true → AllByRecursion OneLine (map count_line cs)
 counts_one_line [] ok = tt
@@ -189,10 +212,18 @@ counts_one_line (c ∷ cs) ok =
     let a = and_parts (is_server c.server) (is_count c.count) p.0 in
     (words-one_line (codes "V" ∷ decimal c.server ∷ decimal c.count ∷ []) ((lit≤ tt, tt), (number-one_line c.server 99 (within-high 1 99 c.server a.0) (lit< tt), (number-one_line c.count greatest_count (within-high 1 greatest_count c.count a.1) (lit< tt), tt))), counts_one_line cs p.1)
 
+word_one_line : (v : Version) → OneLine (position_word v)
+word_one_line First = (lit≤ tt, (lit≤ tt, (lit≤ tt, tt)))
+word_one_line Second = (lit≤ tt, (lit≤ tt, (lit≤ tt, tt)))
+
+word_low : (v : Version) → Low (position_word v)
+word_low First = (lit< tt, (lit< tt, (lit< tt, tt)))
+word_low Second = (lit< tt, (lit< tt, (lit< tt, tt)))
+
 one_lines : (p : Position) → is_position p ≡ true → AllByRecursion OneLine (position_lines p)
 one_lines p ok =
     let f = parts p ok in (
-      words-one_line (codes "mp1" ∷ decimal p.server ∷ decimal p.primary ∷ []) ((lit≤ tt, (lit≤ tt, (lit≤ tt, tt))), (number-one_line p.server 99 (within-high 1 99 p.server f.server) (lit< tt), (number-one_line p.primary 99 (within-high 1 99 p.primary f.primary) (lit< tt), tt))),
+      words-one_line (position_word p.version ∷ decimal p.server ∷ decimal p.primary ∷ []) (word_one_line p.version, (number-one_line p.server 99 (within-high 1 99 p.server f.server) (lit< tt), (number-one_line p.primary 99 (within-high 1 99 p.primary f.primary) (lit< tt), tt))),
       (
         words-one_line (codes "K" ∷ decimal p.commits ∷ []) ((lit≤ tt, tt), (number-one_line p.commits 999_999_999_999 f.commits (lit< tt), tt)),
         all_append OneLine (map count_line p.counts) (codes "E" ∷ []) (counts_one_line p.counts f.counts) ((lit≤ tt, tt), tt),
@@ -214,7 +245,7 @@ position_low : (p : Position) → is_position p ≡ true → Low (position_text 
 position_low p ok =
     let f = parts p ok in
     text_low (position_lines p) (
-      words_low (codes "mp1" ∷ decimal p.server ∷ decimal p.primary ∷ []) ((lit< tt, (lit< tt, (lit< tt, tt))), (number_low p.server 99 (within-high 1 99 p.server f.server) (lit< tt), (number_low p.primary 99 (within-high 1 99 p.primary f.primary) (lit< tt), tt))),
+      words_low (position_word p.version ∷ decimal p.server ∷ decimal p.primary ∷ []) (word_low p.version, (number_low p.server 99 (within-high 1 99 p.server f.server) (lit< tt), (number_low p.primary 99 (within-high 1 99 p.primary f.primary) (lit< tt), tt))),
       (
         words_low (codes "K" ∷ decimal p.commits ∷ []) ((lit< tt, tt), (number_low p.commits 999_999_999_999 f.commits (lit< tt), tt)),
         all_append Low (map count_line p.counts) (codes "E" ∷ []) (counts_low p.counts f.counts) ((lit< tt, tt), tt),

@@ -8,14 +8,15 @@ use Rattle.std.specs.Str.{bytes_eq}
 use Rattle.std.specs.List.{list_all}
 use Rattle.mr_model.specs.Texts.{Text, only_if, whole_lines}
 use Rattle.mr_model.specs.Slots.{Slot, is_slot}
-use Rattle.mr_model.specs.Writes.{Stamp, Books, Write, is_room_name, is_title, is_length, fits_day, greatest_alternatives}
+use Rattle.mr_model.specs.Writes.{Stamp, Cancels, Write, is_title, is_length, fits_day, greatest_alternatives}
 use Rattle.mr_model.specs.Requests.{is_length_for}
 use Rattle.mr_model.specs.Refusals as model
-use Rattle.mr_model.specs.Exchange.{Item, Ending, Complete, More, Cut, Header, W, BodyLine, ItemLine, LastLine, read_header, read_body_line, with_item, read_end, read_line, read_body, under_header, read_lines, read_batch}
+use Rattle.mr_model.specs.Exchange.{Version, Second, Item, Ending, Complete, More, Cut, Heading, W, BodyLine, ItemLine, LastLine, read_header, read_body_line, with_item, read_end, read_line, read_body, under_heading, under_header, read_lines, read_batch}
 use Rattle.mr_wire.specs.Words.{cut}
-use Rattle.mr_wire.specs.Fields.{◌>>=◌, number_off, slot_off, slots_off, stamp_off, choices_off, write_with, write_of, commit_of, worded_line, bare_line}
-use Rattle.mr_wire.specs.Tested.{behind_slots, room_and_title, are_named, is_last}
+use Rattle.mr_wire.specs.Fields.{◌>>=◌, number_off, slot_off, slots_off, front_off, most_alternatives, choices_off, booking_with, booking_of, cancel_parts, cancel_of, commit_of, worded_line, bare_line}
+use Rattle.mr_wire.specs.Tested.{behind_slots, title_in, is_titled, is_last}
 use Rattle.mr_wire.proofs.FieldLaws.{number_off_takes, slots_off_take}
+use Rattle.mr_wire.proofs.LineLaws.{booking, most_within}
 use Rattle.mr_wire.proofs.LoopLaws.{first_line_is, no_line_left}
 
 -- ---- slots
@@ -75,87 +76,76 @@ passed_or_read minutes (suc k) text = go (passed_or_read minutes k) (slot_off te
         only_then (fits minutes s.0) s.1 (λ rest. behind_slots minutes k rest)
         ∙ ap (λ o. cond (fits minutes s.0) o None) (ih s.1) ∙ others s.0 (fits minutes s.0) refl (slots_off k s.1)
 
--- ---- a write's line
+-- ---- a booking's line
 
-all_parts : (made : Write) (room title wish others : Bool) → is_some (only_if (room && (title && ((true && (wish && others)) && true))) made) ≡ cond wish (cond others (room && title) false) false
-all_parts made true true true true = refl
-all_parts made true true true false = refl
-all_parts made true true false true = refl
-all_parts made true true false false = refl
-all_parts made true false true true = refl
-all_parts made true false true false = refl
-all_parts made true false false true = refl
-all_parts made true false false false = refl
-all_parts made false true true true = refl
-all_parts made false true true false = refl
-all_parts made false true false true = refl
-all_parts made false true false false = refl
-all_parts made false false true true = refl
-all_parts made false false true false = refl
-all_parts made false false false true = refl
-all_parts made false false false false = refl
+all_parts : (made : Write) (title wish others : Bool) → is_some (only_if (title && ((true && (wish && others)) && true)) made) ≡ cond wish (cond others title false) false
+all_parts made true true true = refl
+all_parts made true true false = refl
+all_parts made true false true = refl
+all_parts made true false false = refl
+all_parts made false true true = refl
+all_parts made false true false = refl
+all_parts made false false true = refl
+all_parts made false false false = refl
 
-module _ (s : Stamp) (r : Text) (m : ℕ) (long : is_length m ≡ true) where
+module _ (v : Version) (s : Stamp) (r : Text) (m : ℕ) (long : is_length m ≡ true) where
   abbrev makes : (Slot × List Slot) × Text → Option Write
   makes c =
-      only_if (is_room_name r && (is_title c.1 && (is_length_for m (c.0.0 ∷ c.0.1) && not (ltb greatest_alternatives (length c.0.1)))))
-      (record { stamp = s; room = r; action = Books (record { title = c.1; length = m; wish = c.0.0; alternatives = c.0.1 }) })
+      only_if (is_title c.1 && (is_length_for m (c.0.0 ∷ c.0.1) && not (ltb greatest_alternatives (length c.0.1))))
+      (booking s r (record { title = c.1; length = m; wish = c.0.0; alternatives = c.0.1 }))
 
-  none_named : (b : Bool) → false ≡ are_named (cond {A = Option (Text × Text)} b None None)
-  none_named true = refl
-  none_named false = refl
+  none_titled : (b : Bool) → false ≡ is_titled (cond {A = Option Text} b None None)
+  none_titled true = refl
+  none_titled false = refl
 
-  named_if : (b c : Bool) (t : Text) → are_named (cond b (only_if c t >>= λ title. Some (r, title)) None) ≡ cond b (cond c (is_room_name r && is_title t) false) false
-  named_if true true t = refl
-  named_if true false t = refl
-  named_if false c t = refl
+  titled_if : (b c : Bool) (t : Text) → is_titled (cond b (only_if c t) None) ≡ cond b (cond c (is_title t) false) false
+  titled_if true true t = refl
+  titled_if true false t = refl
+  titled_if false c t = refl
 
-  at_slots : (w : Slot) (k : ℕ) → k ≤ 8 → (o : Option (List Slot × Text)) → ((x : List Slot × Text) → o ≡ Some x → length x.0 ≡ k)
-      → is_some ((o >>= λ x. Some ((w, x.0), x.1)) >>= makes) ≡ are_named (cond (fits m w) ((o >>= λ x. only_if (all_fit m x.0) x.1) >>= λ title. Some (r, title)) None)
-  at_slots w k few None many = none_named (fits m w)
+  at_slots : (w : Slot) (k : ℕ) → k ≤ most_alternatives v → (o : Option (List Slot × Text)) → ((x : List Slot × Text) → o ≡ Some x → length x.0 ≡ k)
+      → is_some ((o >>= λ x. Some ((w, x.0), x.1)) >>= makes) ≡ is_titled (cond (fits m w) (o >>= λ x. only_if (all_fit m x.0) x.1) None)
+  at_slots w k few None many = none_titled (fits m w)
   at_slots w k few (Some x) many =
-      let made : Write = record { stamp = s; room = r; action = Books (record { title = x.1; length = m; wish = w; alternatives = x.0 }) } in
+      let made : Write = booking s r (record { title = x.1; length = m; wish = w; alternatives = x.0 }) in
       let so_many : length x.0 ≡ k = many x refl in
-      let not_more : ltb greatest_alternatives (length x.0) ≡ false = le-ltb greatest_alternatives (length x.0) (omega (arith, few, so_many)) in
-      ap (λ l. is_some (only_if (is_room_name r && (is_title x.1 && ((l && (fits m w && all_fit m x.0)) && not (ltb greatest_alternatives (length x.0))))) made)) long
-      ∙ ap (λ l. is_some (only_if (is_room_name r && (is_title x.1 && ((true && (fits m w && all_fit m x.0)) && not l))) made)) not_more
-      ∙ all_parts made (is_room_name r) (is_title x.1) (fits m w) (all_fit m x.0) ∙ sym (named_if (fits m w) (all_fit m x.0) x.1)
+      let within : k ≤ greatest_alternatives = most_within v k few in
+      let not_more : ltb greatest_alternatives (length x.0) ≡ false = le-ltb greatest_alternatives (length x.0) (omega (arith, within, so_many)) in
+      ap (λ l. is_some (only_if (is_title x.1 && ((l && (fits m w && all_fit m x.0)) && not (ltb greatest_alternatives (length x.0)))) made)) long
+      ∙ ap (λ l. is_some (only_if (is_title x.1 && ((true && (fits m w && all_fit m x.0)) && not l)) made)) not_more
+      ∙ all_parts made (is_title x.1) (fits m w) (all_fit m x.0) ∙ sym (titled_if (fits m w) (all_fit m x.0) x.1)
 
-  at_count : (w : Slot) (o : Option (ℕ × Text)) → ((k : ℕ × Text) → o ≡ Some k → k.0 ≤ 8)
-      → is_some ((o >>= λ few. slots_off few.0 few.1 >>= λ x. Some ((w, x.0), x.1)) >>= makes) ≡ are_named (cond (fits m w) (o >>= λ few. behind_slots m few.0 few.1 >>= λ title. Some (r, title)) None)
-  at_count w None few = none_named (fits m w)
+  at_count : (w : Slot) (o : Option (ℕ × Text)) → ((k : ℕ × Text) → o ≡ Some k → k.0 ≤ most_alternatives v)
+      → is_some ((o >>= λ few. slots_off few.0 few.1 >>= λ x. Some ((w, x.0), x.1)) >>= makes) ≡ is_titled (cond (fits m w) (o >>= λ few. behind_slots m few.0 few.1) None)
+  at_count w None few = none_titled (fits m w)
   at_count w (Some k) few =
       at_slots w k.0 (few k refl) (slots_off k.0 k.1) (λ x e. (slots_off_take k.0 k.1 x e).0)
-      ∙ ap (λ p. are_named (cond (fits m w) (p >>= λ title. Some (r, title)) None)) (sym (passed_or_read m k.0 k.1))
+      ∙ ap (λ p. is_titled (cond (fits m w) p None)) (sym (passed_or_read m k.0 k.1))
 
   at_wish : (o : Option (Slot × Text))
-      → is_some ((o >>= λ wish. number_off 0 8 wish.1 >>= λ few. slots_off few.0 few.1 >>= λ x. Some ((wish.0, x.0), x.1)) >>= makes)
-      ≡ are_named ((o >>= λ slot. only_if (fits m slot.0) slot.1 >>= λ rest. Some rest) >>= λ wished. number_off 0 8 wished >>= λ few. behind_slots m few.0 few.1 >>= λ title. Some (r, title))
+      → is_some ((o >>= λ wish. number_off 0 (most_alternatives v) wish.1 >>= λ few. slots_off few.0 few.1 >>= λ x. Some ((wish.0, x.0), x.1)) >>= makes)
+      ≡ is_titled ((o >>= λ slot. only_if (fits m slot.0) slot.1 >>= λ rest. Some rest) >>= λ wished. number_off 0 (most_alternatives v) wished >>= λ few. behind_slots m few.0 few.1)
   at_wish None = refl
   at_wish (Some w) =
-      at_count w.0 (number_off 0 8 w.1) (λ k e. leb-true k.0 8 (and_parts (leb 0 k.0) (leb k.0 8) (number_off_takes 0 8 w.1 k e).0).1) ∙ wished (fits m w.0)
+      at_count w.0 (number_off 0 (most_alternatives v) w.1) (λ k e. leb-true k.0 (most_alternatives v) (and_parts (leb 0 k.0) (leb k.0 (most_alternatives v)) (number_off_takes 0 (most_alternatives v) w.1 k e).0).1) ∙ wished (fits m w.0)
     where
-      wished : (b : Bool) → are_named (cond b (number_off 0 8 w.1 >>= λ few. behind_slots m few.0 few.1 >>= λ title. Some (r, title)) None) ≡ are_named ((only_if b w.1 >>= λ rest. Some rest) >>= λ wished. number_off 0 8 wished >>= λ few. behind_slots m few.0 few.1 >>= λ title. Some (r, title))
+      wished : (b : Bool) → is_titled (cond b (number_off 0 (most_alternatives v) w.1 >>= λ few. behind_slots m few.0 few.1) None) ≡ is_titled ((only_if b w.1 >>= λ rest. Some rest) >>= λ wished. number_off 0 (most_alternatives v) wished >>= λ few. behind_slots m few.0 few.1)
       wished true = refl
       wished false = refl
 
--- a write's line is one where its room and its title are names, and the other parts are there
-pub write_tested : (text : Text) → is_some (write_of text) ≡ are_named (room_and_title text)
-unfolding write_of choices_off write_with room_and_title behind_slots
-write_tested text = at_stamp (stamp_off text)
+-- a booking's line is one where a title stands in its place, and the other parts are there
+pub booking_tested : (v : Version) (text : Text) → is_some (booking_of v text) ≡ is_titled (title_in v text)
+unfolding booking_of choices_off booking_with title_in behind_slots
+booking_tested v text = at_front (front_off text)
   where
     at_minutes : (s : Stamp) (r : Text) (o : Option (ℕ × Text)) → ((m : ℕ × Text) → o ≡ Some m → is_length m.0 ≡ true)
-        → is_some (o >>= λ m. choices_off m.1 >>= λ c. write_with s r m.0 c.0.0 c.0.1 c.1) ≡ are_named (o >>= λ m. behind_slots m.0 1 m.1 >>= λ wished. number_off 0 8 wished >>= λ few. behind_slots m.0 few.0 few.1 >>= λ title. Some (r, title))
+        → is_some (o >>= λ m. choices_off (most_alternatives v) m.1 >>= λ c. booking_with s r m.0 c.0.0 c.0.1 c.1) ≡ is_titled (o >>= λ m. behind_slots m.0 1 m.1 >>= λ wished. number_off 0 (most_alternatives v) wished >>= λ few. behind_slots m.0 few.0 few.1)
     at_minutes s r None long = refl
-    at_minutes s r (Some m) long = at_wish s r m.0 (long m refl) (slot_off m.1)
+    at_minutes s r (Some m) long = at_wish v s r m.0 (long m refl) (slot_off m.1)
 
-    at_room : (s : Stamp) (o : Option (Text × Text)) → is_some (o >>= λ r. number_off 1 1440 r.1 >>= λ m. choices_off m.1 >>= λ c. write_with s r.0 m.0 c.0.0 c.0.1 c.1) ≡ are_named (o >>= λ r. number_off 1 1440 r.1 >>= λ m. behind_slots m.0 1 m.1 >>= λ wished. number_off 0 8 wished >>= λ few. behind_slots m.0 few.0 few.1 >>= λ title. Some (r.0, title))
-    at_room s None = refl
-    at_room s (Some r) = at_minutes s r.0 (number_off 1 1440 r.1) (λ m e. (number_off_takes 1 1440 r.1 m e).0)
-
-    at_stamp : (o : Option (Stamp × Text)) → is_some (o >>= λ s. cut 32 s.1 >>= λ r. number_off 1 1440 r.1 >>= λ m. choices_off m.1 >>= λ c. write_with s.0 r.0 m.0 c.0.0 c.0.1 c.1) ≡ are_named (o >>= λ s. cut 32 s.1 >>= λ r. number_off 1 1440 r.1 >>= λ m. behind_slots m.0 1 m.1 >>= λ wished. number_off 0 8 wished >>= λ few. behind_slots m.0 few.0 few.1 >>= λ title. Some (r.0, title))
-    at_stamp None = refl
-    at_stamp (Some s) = at_room s.0 (cut 32 s.1)
+    at_front : (o : Option (Stamp × Text × Text)) → is_some (o >>= λ f. number_off 1 1440 f.2 >>= λ m. choices_off (most_alternatives v) m.1 >>= λ c. booking_with f.0 f.1 m.0 c.0.0 c.0.1 c.1) ≡ is_titled (o >>= λ f. number_off 1 1440 f.2 >>= λ m. behind_slots m.0 1 m.1 >>= λ wished. number_off 0 (most_alternatives v) wished >>= λ few. behind_slots m.0 few.0 few.1)
+    at_front None = refl
+    at_front (Some f) = at_minutes f.0 f.1 (number_off 1 1440 f.2) (λ m e. (number_off_takes 1 1440 f.2 m e).0)
 
 -- ---- a line by its first word
 
@@ -163,43 +153,56 @@ some_behind : {A B : Type 0} (o : Option A) (f : A → B) → is_some (o >>= λ 
 some_behind (Some x) f = refl
 some_behind None f = refl
 
-pub write_worded : (word rest : Text) → bytes_eq word (codes "W") ≡ true → is_some (write_of rest) ≡ is_some (worded_line word rest)
-unfolding worded_line
-write_worded word rest e =
-    sym (ap (λ b. is_some (cond b (write_of rest >>= λ w. Some (ItemLine (W w))) (cond (bytes_eq word (codes "C")) (commit_of rest >>= λ c. Some (ItemLine c)) None))) e ∙ some_behind (write_of rest) (λ w. ItemLine (W w)))
-
 -- a value that is seen is there where what is seen is
 pub seen_some : {A B : Type 0} (r : Option A) (seen : A → B) (o : Option B) → option_map seen r ≡ o → is_some r ≡ is_some o
 seen_some (Some x) seen o e = ap (λ p. is_some p) e
 seen_some None seen o e = ap (λ p. is_some p) e
 
-pub commit_worded : (word rest : Text) → bytes_eq word (codes "W") ≡ false → bytes_eq word (codes "C") ≡ true → is_some (commit_of rest) ≡ is_some (worded_line word rest)
-unfolding worded_line
-commit_worded word rest w c =
-    sym (some_behind (commit_of rest) ItemLine) ∙ ap (λ b. is_some (cond b (commit_of rest >>= λ c. Some (ItemLine c)) None)) (sym c)
-    ∙ ap (λ b. is_some (cond b (write_of rest >>= λ w. Some (ItemLine (W w))) (cond (bytes_eq word (codes "C")) (commit_of rest >>= λ c. Some (ItemLine c)) None))) (sym w)
+pub cancel_tested : (text : Text) → is_some (cancel_of Second text) ≡ is_some (cancel_parts text)
+cancel_tested text = some_behind (cancel_parts text) (λ c. record { stamp = c.0; room = c.1; action = Cancels c.2 })
 
-pub nothing_worded : (word rest : Text) → bytes_eq word (codes "W") ≡ false → bytes_eq word (codes "C") ≡ false → false ≡ is_some (worded_line word rest)
-unfolding worded_line
-nothing_worded word rest w c =
-    ap (λ b. is_some (cond b (commit_of rest >>= λ c. Some (ItemLine c)) None)) (sym c)
-    ∙ ap (λ b. is_some (cond b (write_of rest >>= λ w. Some (ItemLine (W w))) (cond (bytes_eq word (codes "C")) (commit_of rest >>= λ c. Some (ItemLine c)) None))) (sym w)
+-- what the tests of the first word choose
+module _ (v : Version) (word rest : Text) where
+  abbrev chosen : Bool → Bool → Bool → Option BodyLine
+  chosen a d b =
+      cond a (booking_of v rest >>= λ w. Some (ItemLine (W w))) (cond d (cancel_of v rest >>= λ w. Some (ItemLine (W w))) (cond b (commit_of rest >>= λ c. Some (ItemLine c)) None))
+
+  chosen_is : (a d b : Bool) → bytes_eq word (codes "W") ≡ a → bytes_eq word (codes "X") ≡ d → bytes_eq word (codes "C") ≡ b → worded_line v word rest ≡ chosen a d b
+  unfolding worded_line
+  chosen_is a d b ea ed eb =
+      ap (λ t. chosen t (bytes_eq word (codes "X")) (bytes_eq word (codes "C"))) ea ∙ ap (λ t. chosen a t (bytes_eq word (codes "C"))) ed ∙ ap (chosen a d) eb
+
+  pub booking_worded : bytes_eq word (codes "W") ≡ true → is_some (booking_of v rest) ≡ is_some (worded_line v word rest)
+  booking_worded w = sym (ap (λ o. is_some o) (chosen_is true (bytes_eq word (codes "X")) (bytes_eq word (codes "C")) w refl refl) ∙ some_behind (booking_of v rest) (λ w. ItemLine (W w)))
+
+  pub cancel_worded : bytes_eq word (codes "W") ≡ false → bytes_eq word (codes "X") ≡ true → is_some (cancel_of v rest) ≡ is_some (worded_line v word rest)
+  cancel_worded w x = sym (ap (λ o. is_some o) (chosen_is false true (bytes_eq word (codes "C")) w x refl) ∙ some_behind (cancel_of v rest) (λ w. ItemLine (W w)))
+
+  pub commit_worded : bytes_eq word (codes "W") ≡ false → bytes_eq word (codes "X") ≡ false → bytes_eq word (codes "C") ≡ true → is_some (commit_of rest) ≡ is_some (worded_line v word rest)
+  commit_worded w x c = sym (ap (λ o. is_some o) (chosen_is false false true w x c) ∙ some_behind (commit_of rest) ItemLine)
+
+  pub nothing_worded : bytes_eq word (codes "W") ≡ false → bytes_eq word (codes "X") ≡ false → bytes_eq word (codes "C") ≡ false → false ≡ is_some (worded_line v word rest)
+  nothing_worded w x c = sym (ap (λ o. is_some o) (chosen_is false false false w x c))
 
 pub some_if : {A : Type 0} (b : Bool) (x : A) → then_some b x ≡ cond b (Some x) None
 some_if true x = refl
 some_if false x = refl
 
 -- a line with a space is an item's, if it is of its place
-pub worded_item : (word rest : Text) → cond (is_some (worded_line word rest)) (Some false) None ≡ option_map is_last (worded_line word rest)
+pub worded_item : (v : Version) (word rest : Text) → cond (is_some (worded_line v word rest)) (Some false) None ≡ option_map is_last (worded_line v word rest)
 unfolding worded_line
-worded_item word rest = go (bytes_eq word (codes "W")) (bytes_eq word (codes "C")) (write_of rest) (commit_of rest)
+worded_item v word rest = go (bytes_eq word (codes "W")) (bytes_eq word (codes "X")) (bytes_eq word (codes "C")) (booking_of v rest) (cancel_of v rest) (commit_of rest)
   where
-    go : (a b : Bool) (w : Option Write) (c : Option Item) → cond (is_some (cond a (w >>= λ x. Some (ItemLine (W x))) (cond b (c >>= λ x. Some (ItemLine x)) None))) (Some false) None ≡ option_map is_last (cond a (w >>= λ x. Some (ItemLine (W x))) (cond b (c >>= λ x. Some (ItemLine x)) None))
-    go true b (Some w) c = refl
-    go true b None c = refl
-    go false true w (Some c) = refl
-    go false true w None = refl
-    go false false w c = refl
+    go : (a d b : Bool) (w x : Option Write) (c : Option Item)
+        → cond (is_some (cond a (w >>= λ y. Some (ItemLine (W y))) (cond d (x >>= λ y. Some (ItemLine (W y))) (cond b (c >>= λ y. Some (ItemLine y)) None)))) (Some false) None
+        ≡ option_map is_last (cond a (w >>= λ y. Some (ItemLine (W y))) (cond d (x >>= λ y. Some (ItemLine (W y))) (cond b (c >>= λ y. Some (ItemLine y)) None)))
+    go true d b (Some w) x c = refl
+    go true d b None x c = refl
+    go false true b w (Some x) c = refl
+    go false true b w None c = refl
+    go false false true w x (Some c) = refl
+    go false false true w x None = refl
+    go false false false w x c = refl
 
 -- and one without is the last, if it is of its place
 pub bare_last : (text : Text) → cond (bytes_eq text (codes "E") || bytes_eq text (codes "M")) (Some true) None ≡ option_map is_last (bare_line text)
@@ -221,37 +224,37 @@ ended : (d : Ending) (n : ℕ) (ls : List Text) → result_err (read_end Cut n l
 ended d n [] = refl
 ended d n (l ∷ ls) = refl
 
-module _ (k : ℕ) (rest line behind : Text) (total : Option model.Refusal) (is : Some (line, behind) ≡ cut 10 rest) (so_far : result_err (read_body (k + 1) (whole_lines rest)) ≡ total) where
-  by_line : (o : Option BodyLine) → read_body_line line ≡ o → result_err (read_line (k + 1) o (whole_lines behind) (read_body (k + 1 + 1) (whole_lines behind))) ≡ total
+module _ (v : Version) (k : ℕ) (rest line behind : Text) (total : Option model.Refusal) (is : Some (line, behind) ≡ cut 10 rest) (so_far : result_err (read_body v (k + 1) (whole_lines rest)) ≡ total) where
+  by_line : (o : Option BodyLine) → read_body_line v line ≡ o → result_err (read_line (k + 1) o (whole_lines behind) (read_body v (k + 1 + 1) (whole_lines behind))) ≡ total
   by_line o e =
-      ap (λ b. result_err (read_line (k + 1) b (whole_lines behind) (read_body (k + 1 + 1) (whole_lines behind)))) (sym e)
-      ∙ ap (λ ls. result_err (read_body (k + 1) ls)) (sym (first_line_is rest line behind is)) ∙ so_far
+      ap (λ b. result_err (read_line (k + 1) b (whole_lines behind) (read_body v (k + 1 + 1) (whole_lines behind)))) (sym e)
+      ∙ ap (λ ls. result_err (read_body v (k + 1) ls)) (sym (first_line_is rest line behind is)) ∙ so_far
 
-  pub item_passed : Some false ≡ option_map is_last (read_body_line line) → result_err (read_body (k + 1 + 1) (whole_lines behind)) ≡ total
-  item_passed e = go (read_body_line line) refl e
+  pub item_passed : Some false ≡ option_map is_last (read_body_line v line) → result_err (read_body v (k + 1 + 1) (whole_lines behind)) ≡ total
+  item_passed e = go (read_body_line v line) refl e
     where
-      go : (o : Option BodyLine) → read_body_line line ≡ o → Some false ≡ option_map is_last o → result_err (read_body (k + 1 + 1) (whole_lines behind)) ≡ total
-      go (Some (ItemLine x)) q h = sym (read_behind x (read_body (k + 1 + 1) (whole_lines behind))) ∙ by_line (Some (ItemLine x)) q
+      go : (o : Option BodyLine) → read_body_line v line ≡ o → Some false ≡ option_map is_last o → result_err (read_body v (k + 1 + 1) (whole_lines behind)) ≡ total
+      go (Some (ItemLine x)) q h = sym (read_behind x (read_body v (k + 1 + 1) (whole_lines behind))) ∙ by_line (Some (ItemLine x)) q
       go (Some (LastLine d)) q h = absurd (cc h)
       go None q h = absurd (cc h)
 
-  pub last_passed : Some true ≡ option_map is_last (read_body_line line) → result_err (read_end Cut (k + 1) (whole_lines behind)) ≡ total
-  last_passed e = go (read_body_line line) refl e
+  pub last_passed : Some true ≡ option_map is_last (read_body_line v line) → result_err (read_end Cut (k + 1) (whole_lines behind)) ≡ total
+  last_passed e = go (read_body_line v line) refl e
     where
-      go : (o : Option BodyLine) → read_body_line line ≡ o → Some true ≡ option_map is_last o → result_err (read_end Cut (k + 1) (whole_lines behind)) ≡ total
+      go : (o : Option BodyLine) → read_body_line v line ≡ o → Some true ≡ option_map is_last o → result_err (read_end Cut (k + 1) (whole_lines behind)) ≡ total
       go (Some (ItemLine x)) q h = absurd (cc h)
       go (Some (LastLine d)) q h = ended d (k + 1) (whole_lines behind) ∙ by_line (Some (LastLine d)) q
       go None q h = absurd (cc h)
 
-  pub line_is_bad : None ≡ option_map is_last (read_body_line line) → total ≡ Some (model.BadLine (k + 1))
-  line_is_bad e = go (read_body_line line) refl e
+  pub line_is_bad : None ≡ option_map is_last (read_body_line v line) → total ≡ Some (model.BadLine (k + 1))
+  line_is_bad e = go (read_body_line v line) refl e
     where
-      go : (o : Option BodyLine) → read_body_line line ≡ o → None ≡ option_map is_last o → total ≡ Some (model.BadLine (k + 1))
+      go : (o : Option BodyLine) → read_body_line v line ≡ o → None ≡ option_map is_last o → total ≡ Some (model.BadLine (k + 1))
       go (Some x) q h = absurd (cc h)
       go None q h = sym (by_line None q)
 
-pub none_is_bad : (k : ℕ) (rest : Text) (total : Option model.Refusal) → None ≡ cut 10 rest → result_err (read_body k (whole_lines rest)) ≡ total → total ≡ None
-none_is_bad k rest total is so_far = sym so_far ∙ ap (λ ls. result_err (read_body k ls)) (no_line_left rest is)
+pub none_is_bad : (v : Version) (k : ℕ) (rest : Text) (total : Option model.Refusal) → None ≡ cut 10 rest → result_err (read_body v k (whole_lines rest)) ≡ total → total ≡ None
+none_is_bad v k rest total is so_far = sym so_far ∙ ap (λ ls. result_err (read_body v k ls)) (no_line_left rest is)
 
 pub no_line_behind : (n : ℕ) (behind : Text) → None ≡ cut 10 behind → result_err (read_end Cut n (whole_lines behind)) ≡ None
 no_line_behind n behind is = ap (λ ls. result_err (read_end Cut n ls)) (no_line_left behind is)
@@ -265,12 +268,12 @@ pub no_line_at_all : (bytes : Text) → None ≡ cut 10 bytes → result_err (re
 no_line_at_all bytes is = ap (λ ls. result_err (read_lines ls)) (no_line_left bytes is)
 
 pub header_is_bad : (bytes line rest : Text) → Some (line, rest) ≡ cut 10 bytes → read_header line ≡ None → result_err (read_batch bytes) ≡ Some (model.BadLine 1)
-header_is_bad bytes line rest is e = ap (λ ls. result_err (read_lines ls)) (first_line_is bytes line rest is) ∙ ap (λ o. result_err (under_header o (read_body 2 (whole_lines rest)))) e
+header_is_bad bytes line rest is e = ap (λ ls. result_err (read_lines ls)) (first_line_is bytes line rest is) ∙ ap (λ o. result_err (under_header o (whole_lines rest))) e
 
-pub bad_below : (bytes line rest : Text) (h : Header) → Some (line, rest) ≡ cut 10 bytes → read_header line ≡ Some h → result_err (read_body 2 (whole_lines rest)) ≡ result_err (read_batch bytes)
+pub bad_below : (bytes line rest : Text) (h : Heading) → Some (line, rest) ≡ cut 10 bytes → read_header line ≡ Some h → result_err (read_body h.version 2 (whole_lines rest)) ≡ result_err (read_batch bytes)
 bad_below bytes line rest h is e =
-    under (read_body 2 (whole_lines rest)) ∙ sym (ap (λ ls. result_err (read_lines ls)) (first_line_is bytes line rest is) ∙ ap (λ o. result_err (under_header o (read_body 2 (whole_lines rest)))) e)
+    under (read_body h.version 2 (whole_lines rest)) ∙ sym (ap (λ ls. result_err (read_lines ls)) (first_line_is bytes line rest is) ∙ ap (λ o. result_err (under_header o (whole_lines rest))) e)
   where
-    under : (body : Result (List Item × Ending) model.Refusal) → result_err body ≡ result_err (under_header (Some h) body)
+    under : (body : Result (List Item × Ending) model.Refusal) → result_err body ≡ result_err (under_heading h body)
     under (Ok b) = refl
     under (Err d) = refl

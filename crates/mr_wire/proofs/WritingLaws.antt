@@ -1,15 +1,16 @@
 -- The pieces that are written make a write's line.
 use Rattle.std.proofs.Common.{◌≡◌, refl, sym, ap, ◌∙◌, List, [], ◌∷◌, ◌++◌, length, append_assoc}
-use Rattle.std.specs.Prelude.{flat_map}
+use Rattle.std.specs.Prelude.{flat_map, codes}
 use Rattle.std.specs.Fmt.{decimal}
 use Rattle.mr_model.specs.Texts.{Text, words, line}
 use Rattle.mr_model.specs.Calendar.{date_text, time_text}
 use Rattle.mr_model.specs.Slots.{Slot, slot_words}
-use Rattle.mr_model.specs.Writes.{Stamp, Meeting, Action, Books, Cancels, Write}
+use Rattle.mr_model.specs.Writes.{Stamp, Action, Books, Cancels, Write}
 use Rattle.mr_model.specs.Exchange.{write_line}
-use Rattle.mr_model.proofs.LinesReadBack.{words-cons, booking}
-use Rattle.mr_wire.specs.Writing.{slot_front, slots_front, front_text, choices_text, meeting_text, action_text, write_text}
-use Rattle.mr_wire.proofs.LineLaws.{choices_rest, write_rest, write_line_is}
+use Rattle.mr_model.proofs.LinesReadBack.{words-cons}
+use Rattle.mr_wire.specs.Writing.{slot_front, slots_front, front_text, choices_text, meeting_text, target_text, action_word, action_text, write_text}
+use Rattle.mr_wire.proofs.FieldLaws.{front_rest}
+use Rattle.mr_wire.proofs.LineLaws.{booking, cancel, choices_rest, meeting_rest, booking_line_is, target_rest, cancel_line_is}
 
 -- a word and a space in front
 behind : (a x y z : Text) → x ++ z ≡ y → (a ++ 32 ∷ x) ++ z ≡ a ++ 32 ∷ y
@@ -38,40 +39,43 @@ choices_then wish others title tail =
     ∙ slot_then wish ((count ++ 32 ∷ slots) ++ (title ++ tail))
     ∙ ap (λ (u : Text). date_text wish.day ++ 32 ∷ (time_text wish.start ++ 32 ∷ u)) (behind count slots (slots ++ (title ++ tail)) (title ++ tail) refl))
 
--- the stamp and the room of a write, and what stands behind them
-fronted : Stamp → Text → Text → Text
-fronted stamp room t = 87 ∷ 32 ∷ (decimal stamp.server ++ 32 ∷ (decimal stamp.n ++ 32 ∷ (decimal stamp.time ++ 32 ∷ (room ++ t))))
+-- the word, the stamp and the room of a write, and what stands behind them
+fronted : Text → Stamp → Text → Text → Text
+fronted word stamp room t = word ++ 32 ∷ (decimal stamp.server ++ 32 ∷ (decimal stamp.n ++ 32 ∷ (decimal stamp.time ++ 32 ∷ (room ++ t))))
 
-front_then : (stamp : Stamp) (room x y t : Text) → x ++ t ≡ y → fronted stamp room x ++ t ≡ fronted stamp room y
+front_then : (word : Text) (stamp : Stamp) (room x y t : Text) → x ++ t ≡ y → fronted word stamp room x ++ t ≡ fronted word stamp room y
 unfolding fronted
-front_then stamp room x y t e =
+front_then word stamp room x y t e =
     let e3 : (room ++ x) ++ t ≡ room ++ y = append_assoc room x t ∙ ap (λ (u : Text). room ++ u) e in
     let e2 = behind (decimal stamp.time) (room ++ x) (room ++ y) t e3 in
     let e1 = behind (decimal stamp.n) (decimal stamp.time ++ 32 ∷ (room ++ x)) (decimal stamp.time ++ 32 ∷ (room ++ y)) t e2 in
-    ap (λ (u : Text). 87 ∷ 32 ∷ u)
-    (behind (decimal stamp.server) (decimal stamp.n ++ 32 ∷ (decimal stamp.time ++ 32 ∷ (room ++ x))) (decimal stamp.n ++ 32 ∷ (decimal stamp.time ++ 32 ∷ (room ++ y))) t e1)
+    let e0 = behind (decimal stamp.server) (decimal stamp.n ++ 32 ∷ (decimal stamp.time ++ 32 ∷ (room ++ x))) (decimal stamp.n ++ 32 ∷ (decimal stamp.time ++ 32 ∷ (room ++ y))) t e1 in
+    behind word (decimal stamp.server ++ 32 ∷ (decimal stamp.n ++ 32 ∷ (decimal stamp.time ++ 32 ∷ (room ++ x)))) (decimal stamp.server ++ 32 ∷ (decimal stamp.n ++ 32 ∷ (decimal stamp.time ++ 32 ∷ (room ++ y)))) t e0
 
-front_is : (stamp : Stamp) (room t : Text) → front_text stamp room ++ t ≡ fronted stamp room t
+front_is : (word : Text) (stamp : Stamp) (room t : Text) → front_text word stamp room ++ t ≡ fronted word stamp room t
 unfolding front_text fronted
-front_is stamp room t =
+front_is word stamp room t =
     let e2 = behind (decimal stamp.time) room (room ++ t) t refl in
     let e1 = behind (decimal stamp.n) (decimal stamp.time ++ 32 ∷ room) (decimal stamp.time ++ 32 ∷ (room ++ t)) t e2 in
-    ap (λ (u : Text). 87 ∷ 32 ∷ u) (behind (decimal stamp.server) (decimal stamp.n ++ 32 ∷ (decimal stamp.time ++ 32 ∷ room)) (decimal stamp.n ++ 32 ∷ (decimal stamp.time ++ 32 ∷ (room ++ t))) t e1)
+    let e0 = behind (decimal stamp.server) (decimal stamp.n ++ 32 ∷ (decimal stamp.time ++ 32 ∷ room)) (decimal stamp.n ++ 32 ∷ (decimal stamp.time ++ 32 ∷ (room ++ t))) t e1 in
+    behind word (decimal stamp.server ++ 32 ∷ (decimal stamp.n ++ 32 ∷ (decimal stamp.time ++ 32 ∷ room))) (decimal stamp.server ++ 32 ∷ (decimal stamp.n ++ 32 ∷ (decimal stamp.time ++ 32 ∷ (room ++ t)))) t e0
 
-booking_text_is : (stamp : Stamp) (room : Text) (m : Meeting) → front_text stamp room ++ meeting_text m ≡ line (write_line (booking stamp room m))
-unfolding meeting_text write_rest fronted
-booking_text_is stamp room m =
+-- a write's line of its word, its stamp, its room and what stands behind these
+line_text_is : (word : Text) (stamp : Stamp) (room rest end text : Text) → text ≡ fronted word stamp room (32 ∷ rest) → rest ++ 10 ∷ [] ≡ end → front_text word stamp room ++ 32 ∷ end ≡ line text
+line_text_is word stamp room rest end text is e =
+    front_is word stamp room (32 ∷ end)
+    ∙ sym (ap (λ (u : Text). u ++ 10 ∷ []) is ∙ front_then word stamp room (32 ∷ rest) (32 ∷ end) (10 ∷ []) (ap (λ (u : Text). 32 ∷ u) e))
+
+action_text_is : (stamp : Stamp) (room : Text) (a : Action) → front_text (action_word a) stamp room ++ action_text a ≡ line (write_line (record { stamp = stamp; room = room; action = a }))
+unfolding meeting_text target_text front_rest meeting_rest target_rest fronted
+action_text_is stamp room (Books m) =
     let rest : Text = choices_rest m.wish m.alternatives m.title in
     let end : Text = choices_text m.wish m.alternatives ++ (m.title ++ 10 ∷ []) in
-    let choices : rest ++ 10 ∷ [] ≡ end = choices_then m.wish m.alternatives m.title (10 ∷ []) in
-    front_is stamp room (32 ∷ (decimal m.length ++ 32 ∷ end))
-    ∙ sym (ap (λ (u : Text). u ++ 10 ∷ []) (write_line_is stamp room m)
-    ∙ front_then stamp room (32 ∷ (decimal m.length ++ 32 ∷ rest)) (32 ∷ (decimal m.length ++ 32 ∷ end)) (10 ∷ []) (ap (λ (u : Text). 32 ∷ u) (behind (decimal m.length) rest end (10 ∷ []) choices)))
-
-action_text_is : (stamp : Stamp) (room : Text) (a : Action) → front_text stamp room ++ action_text a ≡ line (write_line (record { stamp = stamp; room = room; action = a }))
-unfolding front_text
-action_text_is stamp room (Books m) = booking_text_is stamp room m
-action_text_is stamp room (Cancels t) = refl
+    line_text_is (codes "W") stamp room (decimal m.length ++ 32 ∷ rest) (decimal m.length ++ 32 ∷ end) (write_line (booking stamp room m)) (booking_line_is stamp room m)
+    (behind (decimal m.length) rest end (10 ∷ []) (choices_then m.wish m.alternatives m.title (10 ∷ [])))
+action_text_is stamp room (Cancels t) =
+    line_text_is (codes "X") stamp room (decimal t.server ++ 32 ∷ decimal t.n) (decimal t.server ++ 32 ∷ (decimal t.n ++ 10 ∷ [])) (write_line (cancel stamp room t)) (cancel_line_is stamp room t)
+    (behind (decimal t.server) (decimal t.n) (decimal t.n ++ 10 ∷ []) (10 ∷ []) refl)
 
 pub write_text_is : (w : Write) → write_text w ≡ line (write_line w)
 unfolding write_text

@@ -2,11 +2,11 @@
 use Rattle.std.specs.Prelude.{ℕ, zero, suc, Bool, true, false, ◌&&◌, nat_lt, if◌then◌else◌, List, [], ◌∷◌, codes, bytes_eq, Option, Some, None}
 use Rattle.mr_model.specs.Texts.{Text, only_if}
 use Rattle.mr_model.specs.Slots.{is_slot}
-use Rattle.mr_model.specs.Writes.{is_room_name, is_title, fits_day}
-use Rattle.mr_model.specs.Exchange.{BodyLine, ItemLine, LastLine}
+use Rattle.mr_model.specs.Writes.{is_title, fits_day}
+use Rattle.mr_model.specs.Exchange.{Version, BodyLine, ItemLine, LastLine}
 use Rattle.mr_model.specs.Positions.{Count}
 use Rattle.mr_wire.specs.Words.{cut}
-use Rattle.mr_wire.specs.Fields.{◌>>=◌, number_off, slot_off, stamp_off, servers_of, commits_of, count_of}
+use Rattle.mr_wire.specs.Fields.{◌>>=◌, number_off, slot_off, front_off, most_alternatives, servers_of, commits_of, count_of}
 
 -- what stands behind so many slots, of which each ends on its day with that length
 unfoldable pub behind_slots : ℕ → ℕ → Text → Option Text
@@ -16,21 +16,18 @@ behind_slots minutes (suc k) text = do
   rest ← only_if (is_slot slot.0 && fits_day minutes slot.0) slot.1
   behind_slots minutes k rest
 
--- the room and the title of a write's line, where its other parts are of their places and within the limits
-unfoldable pub room_and_title : Text → Option (Text × Text)
-room_and_title text = do
-  stamp ← stamp_off text
-  room ← cut 32 stamp.1
-  minutes ← number_off 1 1440 room.1
+-- what stands in the place of the title on a booking's line, where its other parts are of their places and within the limits
+unfoldable pub title_in : Version → Text → Option Text
+title_in v text = do
+  front ← front_off text
+  minutes ← number_off 1 1440 front.2
   wished ← behind_slots minutes.0 1 minutes.1
-  few ← number_off 0 8 wished
-  title ← behind_slots minutes.0 few.0 few.1
-  Some (room.0, title)
+  few ← number_off 0 (most_alternatives v) wished
+  behind_slots minutes.0 few.0 few.1
 
--- these are a room's name and a title
-abbrev pub are_named : Option (Text × Text) → Bool
-are_named (Some x) = is_room_name x.0 && is_title x.1
-are_named None = false
+abbrev pub is_titled : Option Text → Bool
+is_titled (Some title) = is_title title
+is_titled None = false
 
 abbrev pub is_last : BodyLine → Bool
 is_last (ItemLine item) = false

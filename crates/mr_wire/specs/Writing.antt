@@ -3,7 +3,7 @@ use Rattle.std.specs.Prelude.{List, [], ◌∷◌, ◌++◌, length, codes, deci
 use Rattle.mr_model.specs.Texts.{Text}
 use Rattle.mr_model.specs.Calendar.{date_text, time_text}
 use Rattle.mr_model.specs.Slots.{Slot}
-use Rattle.mr_model.specs.Writes.{Stamp, Meeting, Action, Books, Cancels, Write}
+use Rattle.mr_model.specs.Writes.{Id, Stamp, Meeting, Action, Books, Cancels, Write}
 
 -- a slot's day and time, each with a space behind it
 unfoldable pub slot_front : Slot → Text
@@ -13,11 +13,11 @@ abbrev pub slots_front : List Slot → Text
 slots_front ss = flat_map slot_front ss
 
 -- a write's line up to its room
-unfoldable pub front_text : Stamp → Text → Text
-front_text stamp room =
-    codes "W " ++ (decimal stamp.server ++ 32 ∷ (decimal stamp.n ++ 32 ∷ (decimal stamp.time ++ 32 ∷ room)))
+unfoldable pub front_text : Text → Stamp → Text → Text
+front_text word stamp room =
+    word ++ 32 ∷ (decimal stamp.server ++ 32 ∷ (decimal stamp.n ++ 32 ∷ (decimal stamp.time ++ 32 ∷ room)))
 
--- its choices, up to its title
+-- a booking's choices, up to its title
 unfoldable pub choices_text : Slot → List Slot → Text
 choices_text wish others = slot_front wish ++ (decimal (length others) ++ 32 ∷ slots_front others)
 
@@ -25,10 +25,19 @@ choices_text wish others = slot_front wish ++ (decimal (length others) ++ 32 ∷
 unfoldable pub meeting_text : Meeting → Text
 meeting_text m = 32 ∷ (decimal m.length ++ 32 ∷ (choices_text m.wish m.alternatives ++ (m.title ++ 10 ∷ [])))
 
+-- what stands behind the room of a cancel, with its LF
+unfoldable pub target_text : Id → Text
+target_text t = 32 ∷ (decimal t.server ++ 32 ∷ (decimal t.n ++ 10 ∷ []))
+
+-- the first word of a write's line
+abbrev pub action_word : Action → Text
+action_word (Books m) = codes "W"
+action_word (Cancels t) = codes "X"
+
 abbrev pub action_text : Action → Text
 action_text (Books m) = meeting_text m
-action_text (Cancels t) = 10 ∷ []
+action_text (Cancels t) = target_text t
 
 -- all of it
 unfoldable pub write_text : Write → Text
-write_text w = front_text w.stamp w.room ++ action_text w.action
+write_text w = front_text (action_word w.action) w.stamp w.room ++ action_text w.action

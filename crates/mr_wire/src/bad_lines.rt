@@ -2,16 +2,17 @@ ghost use Rattle.std.specs.Prelude.{◌≡◌, ◌+◌, ◌<◌, ◌^◌, ◌&&�
 ghost use Rattle.std.specs.Result.{result_err};
 ghost use Rattle.std.specs.Str.{IsUtf8};
 ghost use Rattle.mr_model.specs.Texts.{whole_lines};
-ghost use Rattle.mr_model.specs.Writes.{is_room_name, is_title};
 ghost use Rattle.mr_model.specs.Refusals.{BadLine};
 ghost use Rattle.mr_model.specs.Exchange.{Cut, read_body_line, read_body, read_end, read_batch};
-ghost use Rattle.mr_wire.specs.Fields.{write_of, worded_line, line_of};
-ghost use Rattle.mr_wire.specs.Tested.{behind_slots, room_and_title, are_named, is_last};
+ghost use Rattle.mr_base.specs.Versions.{version_of};
+ghost use Rattle.mr_wire.specs.Fields.{booking_of, cancel_of, worded_line, line_of};
+ghost use Rattle.mr_wire.specs.Tested.{behind_slots, title_in, is_last};
 
-use crate::fields::{number_off, slot_off, stamp_off};
-use crate::lines::{commit_of, read_header};
+use crate::fields::{front_off, number_off, slot_off};
+use crate::lines::{cancel_parts, commit_of, read_header};
+use crate::versions::most_alternatives;
 use crate::words::{first_line, first_word};
-use mr_base::{is_room_text, is_title_text};
+use mr_base::{Version, is_title_text};
 
 /// The number of the first line that isn't of its place, where there is one. It takes no memory.
 pub(crate) fn first_bad_line(bytes: &[u8]) -> Option<u64>
@@ -21,21 +22,21 @@ pub(crate) fn first_bad_line(bytes: &[u8]) -> Option<u64>
         return None;
     };
     match read_header(line) {
-        Some(_) => first_bad_below(rest),
+        Some((version, _, _)) => first_bad_below(version, rest),
         None => Some(1),
     }
 }
 
 /// The same, of the lines below the header, of which the first has the number 2.
-fn first_bad_below(bytes: &[u8]) -> Option<u64>
+fn first_bad_below(version: Version, bytes: &[u8]) -> Option<u64>
     requires { length bytes.now + 1 < 2 ^ 64 }
-    ensures { option_map BadLine result ≡ result_err (read_body 2 (whole_lines bytes.now)) }
+    ensures { option_map BadLine result ≡ result_err (read_body (version_of version) 2 (whole_lines bytes.now)) }
 {
     let mut rest = bytes;
     let mut before = 1u64;
     while let Some((line, behind)) = first_line(rest) {
         let number = before + 1;
-        match is_last(line) {
+        match is_last(version, line) {
             Some(false) => {}
             Some(true) => return line_behind(number, behind),
             None => return Some(number),
@@ -58,20 +59,20 @@ fn line_behind(number: u64, behind: &[u8]) -> Option<u64>
 }
 
 /// Whether a line below the header is the last one; none where it isn't of its place.
-fn is_last(line: &[u8]) -> Option<bool>
-    ensures { result ≡ option_map is_last (read_body_line line.now) }
+fn is_last(version: Version, line: &[u8]) -> Option<bool>
+    ensures { result ≡ option_map is_last (read_body_line (version_of version) line.now) }
 {
     match str::from_utf8(line) {
-        Ok(text) => is_last_text(text),
+        Ok(text) => is_last_text(version, text),
         Err(_) => None,
     }
 }
 
-fn is_last_text(text: &str) -> Option<bool>
-    ensures { result ≡ option_map is_last (line_of text.now) }
+fn is_last_text(version: Version, text: &str) -> Option<bool>
+    ensures { result ≡ option_map is_last (line_of (version_of version) text.now) }
 {
     match first_word(text) {
-        Some((word, rest)) => is_item(word, rest).then_some(false),
+        Some((word, rest)) => is_item(version, word, rest).then_some(false),
         None => is_bare(text).then_some(true),
     }
 }
@@ -82,11 +83,14 @@ fn is_bare(text: &str) -> bool
     text == "E" || text == "M"
 }
 
-fn is_item(word: &str, rest: &str) -> bool
-    ensures { result ≡ is_some (worded_line word.now rest.now) }
+fn is_item(version: Version, word: &str, rest: &str) -> bool
+    ensures { result ≡ is_some (worded_line (version_of version) word.now rest.now) }
 {
     if word == "W" {
-        return is_write(rest);
+        return is_booking(version, rest);
+    }
+    if word == "X" {
+        return is_cancel(version, rest);
     }
     if word == "C" {
         return commit_of(rest).is_some();
@@ -94,36 +98,39 @@ fn is_item(word: &str, rest: &str) -> bool
     false
 }
 
-/// Whether a text is that of a write's line, of which this stands behind the `W` and its space.
-fn is_write(text: &str) -> bool
-    ensures { result ≡ is_some (write_of text.now) }
+/// Whether a text is that of a booking's line, of which this stands behind the `W` and its space.
+fn is_booking(version: Version, text: &str) -> bool
+    ensures { result ≡ is_some (booking_of (version_of version) text.now) }
 {
-    match room_and_title(text) {
-        Some((room, title)) => are_named(room, title),
+    match title_in(version, text) {
+        Some(title) => is_title_text(title.as_bytes()),
         None => false,
     }
 }
 
-fn are_named(room: &str, title: &str) -> bool
-    ensures { result ≡ (is_room_name room.now && is_title title.now) }
+/// Whether a text is that of a cancel's line, of which this stands behind the `X` and its space.
+fn is_cancel(version: Version, text: &str) -> bool
+    ensures { result ≡ is_some (cancel_of (version_of version) text.now) }
 {
-    is_room_text(room.as_bytes()) && is_title_text(title.as_bytes())
+    match version {
+        Version::First => false,
+        Version::Second => cancel_parts(text).is_some(),
+    }
 }
 
-/// The room and the title of a write's line, where its other parts are of their places and within the limits.
-#[tactic(auto, using(std::proofs::lemmas::Bool::Decides::nat_tests), unfolding(crate::specs::Tested::room_and_title))]
-fn room_and_title(text: &str) -> Option<(&str, &str)>
-    ensures { option_map (λ x. (x.0.now, x.1.now)) result ≡ room_and_title text.now }
+/// What stands in the place of the title on a booking's line, where its other parts are of their places and within the
+/// limits.
+#[tactic(auto, using(std::proofs::lemmas::Bool::Decides::nat_tests), unfolding(crate::specs::Tested::title_in))]
+fn title_in(version: Version, text: &str) -> Option<&str>
+    ensures { option_map (λ x. x.now) result ≡ title_in (version_of version) text.now }
 {
-    let Some((_, rest)) = stamp_off(text) else {
+    let Some((_, _, rest)) = front_off(text) else {
         return None;
     };
-    let (room, rest) = first_word(rest)?;
     let (length, rest) = number_off(rest, 1, 1440)?;
     let rest = behind_slots(rest, 1, length as u32)?;
-    let (count, rest) = number_off(rest, 0, 8)?;
-    let title = behind_slots(rest, count, length as u32)?;
-    Some((room, title))
+    let (count, rest) = number_off(rest, 0, most_alternatives(version))?;
+    behind_slots(rest, count, length as u32)
 }
 
 /// What stands behind so many slots, of which each ends on its day with that length.

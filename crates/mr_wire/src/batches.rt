@@ -3,17 +3,19 @@ ghost use Rattle.mr_model.specs.Texts.{whole_lines};
 ghost use Rattle.mr_model.specs.Exchange.{Batch as BatchOfLines, is_batch, batch_text, batch_lines, read_body, read_end, read_batch, ReadsAs, IsFirstBadLine, front_of, lines_within};
 ghost use Rattle.mr_base.specs.Answers.{Gives};
 ghost use Rattle.mr_base.specs.Batches.{item_of, ending_of};
+ghost use Rattle.mr_base.specs.Versions.{version_of};
 ghost use Rattle.mr_wire.specs.Answers.{GivesDue, IsDue, GivesSeen, IsRefusedFor, body_seen, with_front, refusal_at};
 
 use crate::bad_lines::first_bad_line;
 use crate::fault::Fault;
 use crate::lines::{Line, read_header, read_line};
 use crate::words::first_line;
-use mr_base::{Batch, Ending, Item, Refusal};
+use mr_base::{Batch, Ending, Item, Refusal, Version};
 use std::alloc::Global;
 
-/// The batch that the bytes read as. A last piece without LF is dropped, and bytes without a whole line are the batch
-/// without a header. `BadLine(i)` where line i, counted from 1, is the first whole line that isn't of its place.
+/// The batch that the bytes read as, of the version that its header names. A last piece without LF is dropped, and bytes
+/// without a whole line are the batch without a header. `BadLine(i)` where line i, counted from 1, is the first whole line
+/// that isn't of its place in this version.
 pub fn read_batch(alloc: Global, bytes: &[u8]) -> Result<Batch, Refusal>
     ensures exact { Gives result (read_batch bytes.now) }
     // What is read is what the bytes read as.
@@ -57,24 +59,24 @@ fn batch_of(alloc: Global, bytes: &[u8]) -> Result<Batch, Refusal>
     let Some((line, rest)) = first_line(bytes) else {
         return Ok(Batch::without_header(Vec::new(alloc)));
     };
-    let Some((from, primary)) = read_header(line) else {
+    let Some((version, from, primary)) = read_header(line) else {
         return Err(Refusal::BadLine(1));
     };
-    let (items, ending) = read_body(alloc, rest)?;
-    Ok(Batch::of_said(from, primary, items, ending))
+    let (items, ending) = read_body(alloc, version, rest)?;
+    Ok(Batch::of_said(version, from, primary, items, ending))
 }
 
 /// The items and the ending on the lines below the header. The first of these lines has the number 2.
-fn read_body(alloc: Global, bytes: &[u8]) -> Result<(Vec<Item>, Ending), Refusal>
+fn read_body(alloc: Global, version: Version, bytes: &[u8]) -> Result<(Vec<Item>, Ending), Refusal>
     requires { length bytes.now + 1 < 2 ^ 64 }
-    ensures { GivesSeen (λ x. body_seen x.0.items x.1) result (read_body 2 (whole_lines bytes.now)) }
+    ensures { GivesSeen (λ x. body_seen x.0.items x.1) result (read_body (version_of version) 2 (whole_lines bytes.now)) }
 {
     let mut items = Vec::new(alloc);
     let mut rest = bytes;
     let mut before = 1u64;
     while let Some((line, behind)) = first_line(rest) {
         let number = before + 1;
-        match read_line(alloc, line) {
+        match read_line(alloc, version, line) {
             Ok(Line::Item(item)) => items.push(item)?,
             Ok(Line::Last(ending)) => return end_body(items, ending, number, behind),
             Err(fault) => return Err(refuse(fault, number)),

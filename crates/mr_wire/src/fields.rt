@@ -2,12 +2,15 @@ ghost use Rattle.std.specs.Prelude.{◌≡◌, ◌≤◌, ℕ, IsTrue, IfSome, o
 ghost use Rattle.std.specs.Str.{IsUtf8};
 ghost use Rattle.mr_model.specs.Texts.{within};
 ghost use Rattle.mr_model.specs.Calendar.{read_date, read_time};
-ghost use Rattle.mr_wire.specs.Fields.{number_off, stamp_off, slot_off, slots_off, choices_off, server_and, behind_word};
+ghost use Rattle.mr_model.specs.Writes.{is_room_name};
+ghost use Rattle.mr_wire.specs.Fields.{number_off, stamp_off, front_off, slot_off, slots_off, choices_off, server_and, id_of, behind_word};
 ghost use Rattle.mr_wire.specs.Reading.{Reads};
 
 use crate::fault::Fault;
 use crate::words::first_word;
-use mr_base::{Alternatives, Day, ServerId, Slot, Stamp, read_minute, read_number};
+use mr_base::{
+    Alternatives, Day, ServerId, Slot, Stamp, WriteId, is_room_text, read_minute, read_number,
+};
 use std::alloc::Global;
 
 /// A number from `low` to `high` in front of a space, and what stands behind that.
@@ -49,6 +52,22 @@ pub(crate) fn stamp_off(text: &str) -> Option<(Stamp, &str)>
         },
         rest,
     ))
+}
+
+/// The stamp and the room of a write, behind the word of its line.
+#[tactic(auto, unfolding(crate::specs::Fields::front_off))]
+pub(crate) fn front_off(text: &str) -> Option<(Stamp, &str, &str)>
+    ensures value { option_map (λ x. (x.0, x.1.now, x.2.now)) result ≡ front_off text.now }
+    ensures named { IfSome result (λ x. IsTrue (is_room_name x.1.now)) }
+{
+    let Some((stamp, rest)) = stamp_off(text) else {
+        return None;
+    };
+    let (room, rest) = first_word(rest)?;
+    if !is_room_text(room.as_bytes()) {
+        return None;
+    }
+    Some((stamp, room, rest))
 }
 
 fn day_of(word: &str) -> Option<Day>
@@ -98,15 +117,19 @@ pub(crate) fn slots_off(
     Ok((Alternatives::from_vec(slots), rest))
 }
 
-/// The wish, the number of alternatives and the alternatives, and the title behind them.
+/// The wish, the number of alternatives, of which there may be `most`, and the alternatives; the title stands behind them.
 #[tactic(auto, unfolding(crate::specs::Fields::choices_off))]
-pub(crate) fn choices_off(alloc: Global, text: &str) -> Result<((Slot, Alternatives), &str), Fault>
-    ensures { Reads (λ x. (x.0, x.1.now)) result (choices_off text.now) }
+pub(crate) fn choices_off(
+    alloc: Global,
+    most: u64,
+    text: &str,
+) -> Result<((Slot, Alternatives), &str), Fault>
+    ensures { Reads (λ x. (x.0, x.1.now)) result (choices_off most text.now) }
 {
     let Some((wish, rest)) = slot_off(text) else {
         return Err(Fault::NotALine);
     };
-    let Some((count, rest)) = number_off(rest, 0, 8) else {
+    let Some((count, rest)) = number_off(rest, 0, most) else {
         return Err(Fault::NotALine);
     };
     let (alternatives, title) = slots_off(alloc, count, rest)?;
@@ -124,6 +147,18 @@ pub(crate) fn server_and(text: &str, high: u64) -> Option<(ServerId, u64)>
     };
     let number = read_number(rest, 1, high)?;
     Some((server, number))
+}
+
+/// The identity of a write that ends the line.
+#[tactic(auto, using(std::proofs::lemmas::Bool::Decides::nat_tests), unfolding(crate::specs::Fields::id_of))]
+pub(crate) fn id_of(text: &str) -> Option<WriteId>
+    ensures { result ≡ id_of text.now }
+{
+    let (server, n) = server_and(text, 999_999_999)?;
+    Some(WriteId {
+        server,
+        n: n as u32,
+    })
 }
 
 /// What stands behind the word and a space, where the text begins with these.

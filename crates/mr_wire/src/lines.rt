@@ -1,22 +1,25 @@
 ghost use Rattle.std.specs.Prelude.{◌≡◌, ℕ, IsTrue, IfSome, option_map};
-ghost use Rattle.mr_wire.specs.Fields.{write_with, write_of, commit_of, header_of, server_and, worded_line, bare_line, line_of};
-ghost use Rattle.mr_base.specs.Batches.{item_of, header_of as header_seen};
-ghost use Rattle.mr_model.specs.Exchange.{read_header, read_body_line};
-ghost use Rattle.mr_wire.specs.Lines.{line_seen};
+ghost use Rattle.mr_model.specs.Writes.{is_room_name};
+ghost use Rattle.mr_model.specs.Exchange.{Second, read_header, read_body_line};
+ghost use Rattle.mr_base.specs.Batches.{item_of};
+ghost use Rattle.mr_base.specs.Versions.{version_of};
+ghost use Rattle.mr_wire.specs.Fields.{booking_with, booking_of, cancel_parts, cancel_of, commit_of, heading_of, worded_line, bare_line, line_of};
+ghost use Rattle.mr_wire.specs.Lines.{line_seen, heading_seen};
 ghost use Rattle.mr_wire.specs.Reading.{Reads};
 
 use crate::fault::Fault;
-use crate::fields::{behind_word, choices_off, number_off, server_and, stamp_off};
+use crate::fields::{choices_off, front_off, id_of, number_off};
+use crate::versions::{batch_word, most_alternatives, servers_under};
 use crate::words::first_word;
 use mr_base::{
-    Alternatives, CommitNumber, Ending, Item, RoomName, ServerId, Slot, Stamp, Title, Write,
-    WriteId, is_room_text, is_title_text,
+    Alternatives, CommitNumber, Ending, Item, RoomName, ServerId, Slot, Stamp, Title, Version,
+    Write, WriteId, is_title_text,
 };
 use std::alloc::Global;
 
-/// The write of these parts, where they are within the limits.
-#[tactic(auto, unfolding(crate::specs::Fields::write_with))]
-fn write_with(
+/// The booking of these parts, where they are within the limits.
+#[tactic(auto, unfolding(crate::specs::Fields::booking_with))]
+fn booking_with(
     alloc: Global,
     stamp: Stamp,
     room: &str,
@@ -25,9 +28,10 @@ fn write_with(
     alternatives: Alternatives,
     title: &str,
 ) -> Result<Write, Fault>
-    ensures { Reads (λ w. w) result (write_with stamp room.now length wish alternatives title.now) }
+    requires { IsTrue (is_room_name room.now) }
+    ensures { Reads (λ w. w) result (booking_with stamp room.now length wish alternatives title.now) }
 {
-    if !is_room_text(room.as_bytes()) || !is_title_text(title.as_bytes()) {
+    if !is_title_text(title.as_bytes()) {
         return Err(Fault::NotALine);
     }
     let room = RoomName::make(alloc, room)?;
@@ -38,22 +42,53 @@ fn write_with(
     }
 }
 
-/// The write on a line, of which this stands behind the `W` and its space.
-#[tactic(auto, using(std::proofs::lemmas::Bool::Decides::nat_tests), unfolding(crate::specs::Fields::write_of))]
-pub(crate) fn write_of(alloc: Global, text: &str) -> Result<Write, Fault>
-    ensures { Reads (λ w. w) result (write_of text.now) }
+/// The booking on a line, of which this stands behind the `W` and its space.
+#[tactic(auto, using(std::proofs::lemmas::Bool::Decides::nat_tests), unfolding(crate::specs::Fields::booking_of))]
+fn booking_of(alloc: Global, version: Version, text: &str) -> Result<Write, Fault>
+    ensures { Reads (λ w. w) result (booking_of (version_of version) text.now) }
 {
-    let Some((stamp, rest)) = stamp_off(text) else {
-        return Err(Fault::NotALine);
-    };
-    let Some((room, rest)) = first_word(rest) else {
+    let Some((stamp, room, rest)) = front_off(text) else {
         return Err(Fault::NotALine);
     };
     let Some((length, rest)) = number_off(rest, 1, 1440) else {
         return Err(Fault::NotALine);
     };
-    let ((wish, alternatives), title) = choices_off(alloc, rest)?;
-    write_with(alloc, stamp, room, length as u32, wish, alternatives, title)
+    let most = most_alternatives(version);
+    let ((wish, alternatives), title) = choices_off(alloc, most, rest)?;
+    booking_with(alloc, stamp, room, length as u32, wish, alternatives, title)
+}
+
+/// The stamp, the room and the target of a cancel, of whose line this stands behind the `X` and its space.
+#[tactic(auto, unfolding(crate::specs::Fields::cancel_parts))]
+pub(crate) fn cancel_parts(text: &str) -> Option<(Stamp, &str, WriteId)>
+    ensures value { option_map (λ x. (x.0, x.1.now, x.2)) result ≡ cancel_parts text.now }
+    ensures named { IfSome result (λ x. IsTrue (is_room_name x.1.now)) }
+{
+    let Some((stamp, room, rest)) = front_off(text) else {
+        return None;
+    };
+    let target = id_of(rest)?;
+    Some((stamp, room, target))
+}
+
+/// The cancel on a line, of which this stands behind the `X` and its space. The first version has none.
+fn cancel_of(alloc: Global, version: Version, text: &str) -> Result<Write, Fault>
+    ensures { Reads (λ w. w) result (cancel_of (version_of version) text.now) }
+{
+    match version {
+        Version::First => Err(Fault::NotALine),
+        Version::Second => cancel_on(alloc, text),
+    }
+}
+
+fn cancel_on(alloc: Global, text: &str) -> Result<Write, Fault>
+    ensures { Reads (λ w. w) result (cancel_of Second text.now) }
+{
+    let Some((stamp, room, target)) = cancel_parts(text) else {
+        return Err(Fault::NotALine);
+    };
+    let room = RoomName::make(alloc, room)?;
+    Ok(Write::cancel(stamp, room, target))
 }
 
 /// The commit on a line, of which this stands behind the `C` and its space.
@@ -63,40 +98,27 @@ pub(crate) fn commit_of(text: &str) -> Option<Item>
 {
     let (seq, rest) = number_off(text, 1, 999_999_999_999)?;
     let seq = CommitNumber::new(seq)?;
-    let (server, n) = server_and(rest, 999_999_999)?;
-    Some(Item::C {
-        seq,
-        id: WriteId {
-            server,
-            n: n as u32,
-        },
-    })
+    let id = id_of(rest)?;
+    Some(Item::C { seq, id })
 }
 
-/// Two servers, of which the second ends the line.
-#[tactic(auto, using(std::proofs::lemmas::Bool::Decides::nat_tests))]
-pub(crate) fn servers_of(text: &str) -> Option<(ServerId, ServerId)>
-    ensures { result ≡ server_and 99 text.now }
+#[tactic(auto, unfolding(crate::specs::Fields::heading_of))]
+fn heading_of(text: &str) -> Option<(Version, ServerId, ServerId)>
+    ensures { heading_seen result ≡ heading_of text.now }
 {
-    let (first, number) = server_and(text, 99)?;
-    let second = ServerId::new(number as u32)?;
-    Some((first, second))
+    servers_under(
+        text,
+        batch_word(Version::First),
+        batch_word(Version::Second),
+    )
 }
 
-#[tactic(auto, unfolding(crate::specs::Fields::header_of))]
-fn header_of(text: &str) -> Option<(ServerId, ServerId)>
-    ensures { header_seen result ≡ header_of text.now }
-{
-    let rest = behind_word("mr1", text)?;
-    servers_of(rest)
-}
-
-/// The two servers of a header line: who made the batch, and the primary.
-pub(crate) fn read_header(line: &[u8]) -> Option<(ServerId, ServerId)>
-    ensures { header_seen result ≡ read_header line.now }
+/// The version of a header line and its two servers: who made the batch, and the primary.
+pub(crate) fn read_header(line: &[u8]) -> Option<(Version, ServerId, ServerId)>
+    ensures { heading_seen result ≡ read_header line.now }
 {
     match str::from_utf8(line) {
-        Ok(text) => header_of(text),
+        Ok(text) => heading_of(text),
         Err(_) => None,
     }
 }
@@ -109,11 +131,15 @@ pub(crate) enum Line {
 }
 
 #[tactic(auto, unfolding(crate::specs::Fields::worded_line))]
-fn worded_line(alloc: Global, word: &str, rest: &str) -> Result<Line, Fault>
-    ensures { Reads line_seen result (worded_line word.now rest.now) }
+fn worded_line(alloc: Global, version: Version, word: &str, rest: &str) -> Result<Line, Fault>
+    ensures { Reads line_seen result (worded_line (version_of version) word.now rest.now) }
 {
     if word == "W" {
-        let write = write_of(alloc, rest)?;
+        let write = booking_of(alloc, version, rest)?;
+        return Ok(Line::Item(Item::W(write)));
+    }
+    if word == "X" {
+        let write = cancel_of(alloc, version, rest)?;
         return Ok(Line::Item(Item::W(write)));
     }
     if word == "C" {
@@ -138,21 +164,21 @@ fn bare_line(text: &str) -> Result<Line, Fault>
     Err(Fault::NotALine)
 }
 
-fn line_of(alloc: Global, text: &str) -> Result<Line, Fault>
-    ensures { Reads line_seen result (line_of text.now) }
+fn line_of(alloc: Global, version: Version, text: &str) -> Result<Line, Fault>
+    ensures { Reads line_seen result (line_of (version_of version) text.now) }
 {
     match first_word(text) {
-        Some((word, rest)) => worded_line(alloc, word, rest),
+        Some((word, rest)) => worded_line(alloc, version, word, rest),
         None => bare_line(text),
     }
 }
 
-/// A line below the header: a write, a commit or a last line.
-pub(crate) fn read_line(alloc: Global, line: &[u8]) -> Result<Line, Fault>
-    ensures { Reads line_seen result (read_body_line line.now) }
+/// A line below a header of this version: a booking, a cancel, a commit or a last line.
+pub(crate) fn read_line(alloc: Global, version: Version, line: &[u8]) -> Result<Line, Fault>
+    ensures { Reads line_seen result (read_body_line (version_of version) line.now) }
 {
     match str::from_utf8(line) {
-        Ok(text) => line_of(alloc, text),
+        Ok(text) => line_of(alloc, version, text),
         Err(_) => Err(Fault::NotALine),
     }
 }

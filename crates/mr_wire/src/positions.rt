@@ -5,15 +5,16 @@ ghost use Rattle.mr_model.specs.Refusals.{BadPosition};
 ghost use Rattle.mr_model.specs.Positions.{Position as PositionOfReplica, is_position, position_text, read_position};
 ghost use Rattle.mr_base.specs.Answers.{Gives};
 ghost use Rattle.mr_base.specs.Positions.{counts_of};
+ghost use Rattle.mr_base.specs.Versions.{version_of};
 ghost use Rattle.mr_wire.specs.Fields.{servers_of as servers_read, commits_of as commits_read, count_of as count_read, counts_until_end, no_more, with_counts, position_on};
 ghost use Rattle.mr_wire.specs.Reading.{Reads};
 
 use crate::bad_positions::is_position_text;
 use crate::fault::Fault;
 use crate::fields::{behind_word, server_and};
-use crate::lines::servers_of;
+use crate::versions::{position_word, servers_under};
 use crate::words::first_line_of_text;
-use mr_base::{Position, Refusal, ServerId, read_number};
+use mr_base::{Position, Refusal, ServerId, Version, read_number};
 use std::alloc::Global;
 
 /// The position whose text the bytes are, all of them; `BadPosition` for anything else, a cut text too.
@@ -72,25 +73,28 @@ fn position_of_lines(alloc: Global, text: &str) -> Result<Position, Fault>
     let Some((commits, rest)) = first_line_of_text(rest) else {
         return Err(Fault::NotALine);
     };
-    let Some((server, primary)) = servers_in(servers) else {
+    let Some((version, server, primary)) = servers_in(servers) else {
         return Err(Fault::NotALine);
     };
     let Some(commits) = commits_in(commits) else {
         return Err(Fault::NotALine);
     };
     let counts = counts_in(alloc, rest)?;
-    match Position::new(server, primary, commits, counts) {
+    match Position::new(version, server, primary, commits, counts) {
         Some(position) => Ok(position),
         None => Err(Fault::NotALine),
     }
 }
 
 #[tactic(auto, unfolding(crate::specs::Fields::servers_of))]
-pub(crate) fn servers_in(line: &str) -> Option<(ServerId, ServerId)>
-    ensures { result ≡ servers_read line.now }
+pub(crate) fn servers_in(line: &str) -> Option<(Version, ServerId, ServerId)>
+    ensures { option_map (λ x. (version_of x.0, x.1, x.2)) result ≡ servers_read line.now }
 {
-    let rest = behind_word("mp1", line)?;
-    servers_of(rest)
+    servers_under(
+        line,
+        position_word(Version::First),
+        position_word(Version::Second),
+    )
 }
 
 #[tactic(auto, unfolding(crate::specs::Fields::commits_of))]

@@ -3,19 +3,21 @@ ghost use Rattle.std.specs.String.{string_bytes};
 ghost use Rattle.mr_model.specs.Texts.{line, lines_text};
 ghost use Rattle.mr_model.specs.Exchange.{Batch as BatchOfLines, is_batch, batch_text, item_line, ending_lines};
 ghost use Rattle.mr_model.specs.Positions.{Position as PositionOfReplica, is_position, position_text, count_line};
+ghost use Rattle.mr_base.specs.Actions.{action_of};
 ghost use Rattle.mr_base.specs.Batches.{item_of, ending_of};
 ghost use Rattle.mr_base.specs.Positions.{counts_of};
 ghost use Rattle.mr_wire.specs.Answers.{GivesSeen};
-ghost use Rattle.mr_wire.specs.Writing.{slot_front, slots_front, front_text, choices_text, meeting_text, write_text};
+ghost use Rattle.mr_wire.specs.Writing.{slot_front, slots_front, front_text, choices_text, meeting_text, target_text, action_word as word_of_action, action_text, write_text};
 
+use crate::versions::{batch_word, position_word};
 use mr_base::{
     Action, Batch, Ending, Item, Meeting, Position, Refusal, RoomName, ServerId, Slot, Stamp,
-    TimeOfDay, Write,
+    TimeOfDay, Write, WriteId,
 };
 use std::alloc::{AllocError, Global};
 use std::fmt;
 
-/// The exchange text of a batch: its header, a line for each item, and the last line where it wasn't cut.
+/// The exchange text of a batch in its version: its header, a line for each item, and the last line where it wasn't cut.
 pub fn write_batch(alloc: Global, batch: &Batch) -> Result<Vec<u8>, Refusal>
     ensures exact { GivesSeen (λ v. v.items) result (Ok (batch_text batch.now)) }
     // No other batch has this text.
@@ -30,7 +32,8 @@ fn batch_bytes(alloc: Global, batch: &Batch) -> Result<Vec<u8>, Refusal>
 {
     let mut text = String::new(alloc);
     if let Some((from, primary)) = batch.header {
-        write!(text, "mr1 {from} {primary}\n")?;
+        let word = batch_word(batch.version);
+        write!(text, "{word} {from} {primary}\n")?;
         push_items(&mut text, batch.items.as_slice())?;
         push_ending(&mut text, batch.ending)?;
     }
@@ -52,7 +55,8 @@ fn position_bytes(alloc: Global, position: &Position) -> Result<Vec<u8>, Refusal
 {
     let mut text = String::new(alloc);
     let (server, primary, commits) = (position.server, position.primary, position.commits);
-    write!(text, "mp1 {server} {primary}\nK {commits}\n")?;
+    let word = position_word(position.version);
+    write!(text, "{word} {server} {primary}\nK {commits}\n")?;
     push_counts(&mut text, position.counts.as_slice())?;
     text.push_str("E\n")?;
     Ok(text.into_bytes())
@@ -88,14 +92,19 @@ fn push_choices(text: &mut String, wish: Slot, alternatives: &[Slot]) -> Result<
     push_slots(text, alternatives)
 }
 
-/// A write's stamp and its room.
+/// The word of a write's line, its stamp and its room.
 #[tactic(auto, unfolding(crate::specs::Writing::front_text))]
-fn push_front(text: &mut String, stamp: Stamp, room: &RoomName) -> Result<(), AllocError>
-    ensures { OnOk result (string_bytes text.new ≡ string_bytes text.old ++ front_text stamp room.now) }
+fn push_front(
+    text: &mut String,
+    word: &str,
+    stamp: Stamp,
+    room: &RoomName,
+) -> Result<(), AllocError>
+    ensures { OnOk result (string_bytes text.new ≡ string_bytes text.old ++ front_text word.now stamp room.now) }
 {
     let (server, n, time) = (stamp.server, stamp.n, stamp.time);
     let room = room.as_str();
-    write!(text, "W {server} {n} {time} {room}")
+    write!(text, "{word} {server} {n} {time} {room}")
 }
 
 /// The length, the choices and the title, up to the end of the line.
@@ -110,16 +119,41 @@ fn push_meeting(text: &mut String, meeting: &Meeting) -> Result<(), AllocError>
     write!(text, "{title}\n")
 }
 
-/// A write's line. No batch has a cancel: of one there would be its stamp and its room alone.
+/// The target of a cancel, up to the end of the line.
+#[tactic(auto, unfolding(crate::specs::Writing::target_text))]
+fn push_target(text: &mut String, target: WriteId) -> Result<(), AllocError>
+    ensures { OnOk result (string_bytes text.new ≡ string_bytes text.old ++ target_text target) }
+{
+    let (server, n) = (target.server, target.n);
+    write!(text, " {server} {n}\n")
+}
+
+/// The first word of a write's line.
+fn action_word(action: &Action) -> &'static str
+    ensures { result.now ≡ word_of_action (action_of action.now) }
+{
+    match action {
+        Action::Books(_) => "W",
+        Action::Cancels(_) => "X",
+    }
+}
+
+fn push_action(text: &mut String, action: &Action) -> Result<(), AllocError>
+    ensures { OnOk result (string_bytes text.new ≡ string_bytes text.old ++ action_text (action_of action.now)) }
+{
+    match action {
+        Action::Books(meeting) => push_meeting(text, meeting),
+        Action::Cancels(target) => push_target(text, *target),
+    }
+}
+
+/// A write's line.
 #[tactic(auto, unfolding(crate::specs::Writing::write_text))]
 fn push_write(text: &mut String, write: &Write) -> Result<(), AllocError>
     ensures { OnOk result (string_bytes text.new ≡ string_bytes text.old ++ write_text write.now) }
 {
-    push_front(text, write.stamp, &write.room)?;
-    match &write.action {
-        Action::Books(meeting) => push_meeting(text, meeting),
-        Action::Cancels(_) => text.push_str("\n"),
-    }
+    push_front(text, action_word(&write.action), write.stamp, &write.room)?;
+    push_action(text, &write.action)
 }
 
 fn push_item(text: &mut String, item: &Item) -> Result<(), AllocError>

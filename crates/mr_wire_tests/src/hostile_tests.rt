@@ -40,7 +40,7 @@ fn items_in(
     Ok(batch.items.len())
 }
 
-// How many commits are told by the position that these bytes are.
+// How many commits the position has that these bytes are.
 fn commits_in(
     alloc: Global,
     first: &str,
@@ -53,9 +53,11 @@ fn commits_in(
     Ok(position.commits)
 }
 
-// lines of which each is refused under a header: lines of no kind, bad stamps, bad titles and counts, bad rooms, lengths
-// and slots, and bad commits
-static BAD_LINES: [&str; 59] = [
+const HEADERS: [&str; 2] = ["mr1 1 1\n", "mr2 1 1\n"];
+
+// lines of which each is refused under a header of either version: lines of no kind, bad stamps, bad titles and counts, bad
+// rooms, lengths and slots, bad commits, and bad cancels
+static BAD_LINES: [&str; 85] = [
     "",
     " ",
     "Z",
@@ -88,7 +90,8 @@ static BAD_LINES: [&str; 59] = [
     "W 1 1 1 oak 30 1995-12-18 09:00 00 Alpha",
     "W 1 1 1 oak 30 1995-12-18 09:00 1 Alpha",
     "W 1 1 1 oak 30 1995-12-18 09:00 2 1995-12-18 10:00 Alpha",
-    "W 1 1 1 oak 30 1995-12-18 09:00 9 1995-12-18 10:00 1995-12-18 10:00 1995-12-18 10:00 1995-12-18 10:00 1995-12-18 10:00 1995-12-18 10:00 1995-12-18 10:00 1995-12-18 10:00 1995-12-18 10:00 Alpha",
+    "W 1 1 1 oak 30 1995-12-18 09:00 16 1995-12-18 10:00 1995-12-18 10:00 1995-12-18 10:00 1995-12-18 10:00 1995-12-18 10:00 1995-12-18 10:00 1995-12-18 10:00 1995-12-18 10:00 1995-12-18 10:00 1995-12-18 10:00 1995-12-18 10:00 1995-12-18 10:00 1995-12-18 10:00 1995-12-18 10:00 1995-12-18 10:00 Alpha",
+    "W 1 1 1 oak 30 1995-12-18 09:00 17 1995-12-18 10:00 1995-12-18 10:00 1995-12-18 10:00 1995-12-18 10:00 1995-12-18 10:00 1995-12-18 10:00 1995-12-18 10:00 1995-12-18 10:00 1995-12-18 10:00 1995-12-18 10:00 1995-12-18 10:00 1995-12-18 10:00 1995-12-18 10:00 1995-12-18 10:00 1995-12-18 10:00 1995-12-18 10:00 1995-12-18 10:00 Alpha",
     "W 1 1 1  30 1995-12-18 09:00 0 Alpha",
     "W 1 1 1 Oak 30 1995-12-18 09:00 0 Alpha",
     "W 1 1 1 oak 30 1995-12-18 09:00 0 1234567890123456789012345678901234567890123456789012345678901",
@@ -115,9 +118,34 @@ static BAD_LINES: [&str; 59] = [
     "C 1 1 1 ",
     "C 1 1 1 1",
     "C 1 1",
+    "X",
+    "X ",
+    "x 1 1 1 oak 2 1",
+    "Y 1 1 1 oak 2 1",
+    "X  1 1 1 oak 2 1",
+    "X 0 1 1 oak 2 1",
+    "X 1 0 1 oak 2 1",
+    "X 1 1 0 oak 2 1",
+    "X 1 1 01 oak 2 1",
+    "X 1 1 1 Oak 2 1",
+    "X 1 1 1  2 1",
+    "X 1 1 1 abcdefghijklmnopq 2 1",
+    "X 1 1 1 oak",
+    "X 1 1 1 oak ",
+    "X 1 1 1 oak 2",
+    "X 1 1 1 oak 2-1",
+    "X 1 1 1 oak 0 1",
+    "X 1 1 1 oak 02 1",
+    "X 1 1 1 oak 100 1",
+    "X 1 1 1 oak 2 0",
+    "X 1 1 1 oak 2 01",
+    "X 1 1 1 oak 2 1000000000",
+    "X 1 1 1 oak 2 1 ",
+    "X 1 1 1 oak 2 1 1",
+    "X 1 1 1 oak 2 1\r",
 ];
 
-// lines under the header, and how many items they are, or their refusal
+// lines under a header of either version, and how many items they are, or their refusal
 static LINES: [(&str, Result<usize, Refusal>); 15] = [
     ("E\nE", Err(Refusal::BadLine(3))),
     ("M\nE", Err(Refusal::BadLine(3))),
@@ -154,7 +182,43 @@ static LINES: [(&str, Result<usize, Refusal>); 15] = [
     ),
 ];
 
-static BAD_HEADERS: [&str; 17] = [
+// lines under the header of the first version and of the second, and how many items they are, or their refusal
+static LINES_OF_VERSIONS: [(&str, Result<usize, Refusal>, Result<usize, Refusal>); 8] = [
+    ("X 1 1 1 oak 2 1\nE", Err(Refusal::BadLine(2)), Ok(1)),
+    ("X 1 1 1 oak 1 1", Err(Refusal::BadLine(2)), Ok(1)),
+    (
+        "X 99 999999999 999999999999 oak 99 999999999",
+        Err(Refusal::BadLine(2)),
+        Ok(1),
+    ),
+    (
+        "C 1 1 1\nX 1 2 2 oak 1 1\nC 2 1 2\nE",
+        Err(Refusal::BadLine(3)),
+        Ok(3),
+    ),
+    (
+        "X 1 1 1 oak 2 1\nE\nE",
+        Err(Refusal::BadLine(2)),
+        Err(Refusal::BadLine(4)),
+    ),
+    (
+        "W 1 1 1 oak 30 1995-12-18 09:00 8 1995-12-18 10:00 1995-12-18 10:00 1995-12-18 10:00 1995-12-18 10:00 1995-12-18 10:00 1995-12-18 10:00 1995-12-18 10:00 1995-12-18 10:00 Eight",
+        Ok(1),
+        Ok(1),
+    ),
+    (
+        "W 1 1 1 oak 30 1995-12-18 09:00 9 1995-12-18 09:00 1995-12-18 10:00 1995-12-18 11:00 1995-12-18 12:00 1995-12-18 13:00 1995-12-18 14:00 1995-12-18 15:00 1995-12-18 16:00 1995-12-18 17:00 Nine",
+        Err(Refusal::BadLine(2)),
+        Ok(1),
+    ),
+    (
+        "W 1 1 1 oak 30 1995-12-18 09:00 16 1995-12-18 10:00 1995-12-18 10:00 1995-12-18 10:00 1995-12-18 10:00 1995-12-18 10:00 1995-12-18 10:00 1995-12-18 10:00 1995-12-18 10:00 1995-12-18 10:00 1995-12-18 10:00 1995-12-18 10:00 1995-12-18 10:00 1995-12-18 10:00 1995-12-18 10:00 1995-12-18 10:00 1995-12-18 10:00 Sixteen",
+        Err(Refusal::BadLine(2)),
+        Ok(1),
+    ),
+];
+
+static BAD_HEADERS: [&str; 26] = [
     "mr1 100 1",
     "mr1 0 1",
     "mr1 01 1",
@@ -168,21 +232,32 @@ static BAD_HEADERS: [&str; 17] = [
     "mr1  1 1",
     " mr1 1 1",
     "MR1 1 1",
-    "mr2 1 1",
+    "mr2 100 1",
+    "mr2 1 0",
+    "mr2 1 1\r",
+    "mr2 1 1 ",
+    "mr2 1",
+    "mr2",
+    "mr0 1 1",
+    "mr3 1 1",
+    "mr21 1 1",
     "mp1 1 1",
+    "mp2 1 1",
     "E",
     "",
 ];
 
 #[test]
-fn the_first_bad_line_is_told(rt: HostRuntime) {
-    for line in &BAD_LINES {
-        let found = items_in(rt.alloc(), "mr1 1 1\n", line.as_bytes(), 1, "\n");
-        assert_eq!(rt; found, Err(Refusal::BadLine(2)), "at {line}");
-    }
-    for (lines, want) in &LINES {
-        let found = items_in(rt.alloc(), "mr1 1 1\n", lines.as_bytes(), 1, "\n");
-        assert_eq!(rt; found, *want, "at {lines}");
+fn the_first_bad_line_is_reported(rt: HostRuntime) {
+    for header in &HEADERS {
+        for line in &BAD_LINES {
+            let found = items_in(rt.alloc(), header, line.as_bytes(), 1, "\n");
+            assert_eq!(rt; found, Err(Refusal::BadLine(2)), "at {line} under {header}");
+        }
+        for (lines, want) in &LINES {
+            let found = items_in(rt.alloc(), header, lines.as_bytes(), 1, "\n");
+            assert_eq!(rt; found, *want, "at {lines} under {header}");
+        }
     }
     for line in &BAD_HEADERS {
         let found = items_in(rt.alloc(), "", line.as_bytes(), 1, "\nE\n");
@@ -190,9 +265,19 @@ fn the_first_bad_line_is_told(rt: HostRuntime) {
     }
 }
 
+#[test]
+fn a_version_reads_its_own_lines(rt: HostRuntime) {
+    for (lines, first, second) in &LINES_OF_VERSIONS {
+        let found = items_in(rt.alloc(), "mr1 1 1\n", lines.as_bytes(), 1, "\n");
+        assert_eq!(rt; found, *first, "at {lines}");
+        let found = items_in(rt.alloc(), "mr2 1 1\n", lines.as_bytes(), 1, "\n");
+        assert_eq!(rt; found, *second, "at {lines}");
+    }
+}
+
 // a text, what follows it many times and what stands at the end, and how many items these are, or their refusal; reading
 // takes time in proportion to the bytes
-static LARGE: [((&str, &str), usize, &str, Result<usize, Refusal>); 9] = [
+static LARGE: [((&str, &str), usize, &str, Result<usize, Refusal>); 13] = [
     (
         ("mr1 1 1\nW ", SIXTY),
         50_000,
@@ -232,6 +317,25 @@ static LARGE: [((&str, &str), usize, &str, Result<usize, Refusal>); 9] = [
     ),
     (("mr1 1 1\n", PAIRS), 50_000, "", Ok(0)),
     (("mr1 1 1", "\nC 1 1 1"), 1_000_000, "\n", Ok(1_000_000)),
+    (
+        ("mr2 1 1\nW 1 1 1 oak 30 1995-12-18 09:00 16", PAIRS),
+        10_000,
+        "\n",
+        Err(Refusal::BadLine(2)),
+    ),
+    (
+        ("mr2 1 1\nX 1 1 1 ", SIXTY),
+        10_000,
+        "\n",
+        Err(Refusal::BadLine(2)),
+    ),
+    (
+        ("mr2 1 1\nX 1 1 1 oak 2 ", SIXTY),
+        10_000,
+        "\n",
+        Err(Refusal::BadLine(2)),
+    ),
+    (("mr2 1 1", "\nX 1 1 1 oak 2 1"), 10_000, "\n", Ok(10_000)),
 ];
 
 #[test]
@@ -248,62 +352,83 @@ fn large_batches_and_what_is_no_text_are_read(rt: HostRuntime) {
         "ha\n",
     );
     assert_eq!(rt; found, Err(Refusal::BadLine(2)));
+    let found = items_in(rt.alloc(), "mr2 1 1\nX 1 1 1 oa", b"\xff", 1, "k 2 1\n");
+    assert_eq!(rt; found, Err(Refusal::BadLine(2)));
     let found = items_in(rt.alloc(), "mr1 1 ", b"\xc3", 1, "\n");
     assert_eq!(rt; found, Err(Refusal::BadLine(1)));
     let found = items_in(rt.alloc(), "mr1 1 1\n", b"\xff\xfe", 1, "");
     assert_eq!(rt; found, Ok(0));
 }
 
-static BAD_POSITIONS: [&str; 34] = [
+// texts that are no position's, whatever stands behind their first word
+static NO_POSITIONS: [&str; 9] = [
     "",
     "\n",
-    "mp1 9 1\n",
-    "mp1 9 1\nE\n",
-    "mp1 9 1\nK 0\n",
-    "mp1 9 1\nK 0\nE",
-    "mp1 9 1\nK 0\nM\n",
-    "mp1 9 1\nK 0\nE\n\n",
-    "mp1 9 1\nK 0\nE\nE\n",
-    "mp1 9 1\nK 0\nE\nx",
     "\nmp1 9 1\nK 0\nE\n",
-    "mp1 9 1\n\nK 0\nE\n",
-    "mp1 9 1\r\nK 0\r\nE\r\n",
-    "mp1 9 1 \nK 0\nE\n",
-    "mp1 09 1\nK 0\nE\n",
-    "mp1 0 1\nK 0\nE\n",
-    "mp1 100 1\nK 0\nE\n",
-    "mp1 9 100\nK 0\nE\n",
-    "mp2 9 1\nK 0\nE\n",
+    "mp3 9 1\nK 0\nE\n",
+    "mp 9 1\nK 0\nE\n",
+    "mp12 9 1\nK 0\nE\n",
+    "MP2 9 1\nK 0\nE\n",
     "mr1 9 1\nK 0\nE\n",
-    "mp1 9 1\nK 00\nE\n",
-    "mp1 9 1\nK 1000000000000\nE\n",
-    "mp1 9 1\nK -1\nE\n",
-    "mp1 9 1\nK\nE\n",
-    "mp1 9 1\nK 0 0\nE\n",
-    "mp1 9 1\nK 0\nV 1 0\nE\n",
-    "mp1 9 1\nK 0\nV 1 01\nE\n",
-    "mp1 9 1\nK 0\nV 1 1000000000\nE\n",
-    "mp1 9 1\nK 0\nV 0 1\nE\n",
-    "mp1 9 1\nK 0\nV 100 1\nE\n",
-    "mp1 9 1\nK 0\nV 1 1\nV 1 1\nE\n",
-    "mp1 9 1\nK 0\nV 2 1\nV 1 1\nE\n",
-    "mp1 9 1\nV 1 1\nK 0\nE\n",
-    "mp1 9 1\nK 0\nV 1 1 \nE\n",
+    "mr2 9 1\nK 0\nE\n",
+];
+
+const POSITION_WORDS: [&str; 2] = ["mp1", "mp2"];
+
+// what is bad behind the first word of either version
+static BAD_POSITIONS: [&str; 30] = [
+    "\n",
+    " 9 1\n",
+    " 9 1\nE\n",
+    " 9 1\nK 0\n",
+    " 9 1\nK 0\nE",
+    " 9 1\nK 0\nM\n",
+    " 9 1\nK 0\nE\n\n",
+    " 9 1\nK 0\nE\nE\n",
+    " 9 1\nK 0\nE\nx",
+    " 9 1\n\nK 0\nE\n",
+    " 9 1\r\nK 0\r\nE\r\n",
+    " 9 1 \nK 0\nE\n",
+    " 09 1\nK 0\nE\n",
+    " 0 1\nK 0\nE\n",
+    " 100 1\nK 0\nE\n",
+    " 9 100\nK 0\nE\n",
+    " 9 1\nK 00\nE\n",
+    " 9 1\nK 1000000000000\nE\n",
+    " 9 1\nK -1\nE\n",
+    " 9 1\nK\nE\n",
+    " 9 1\nK 0 0\nE\n",
+    " 9 1\nK 0\nV 1 0\nE\n",
+    " 9 1\nK 0\nV 1 01\nE\n",
+    " 9 1\nK 0\nV 1 1000000000\nE\n",
+    " 9 1\nK 0\nV 0 1\nE\n",
+    " 9 1\nK 0\nV 100 1\nE\n",
+    " 9 1\nK 0\nV 1 1\nV 1 1\nE\n",
+    " 9 1\nK 0\nV 2 1\nV 1 1\nE\n",
+    " 9 1\nV 1 1\nK 0\nE\n",
+    " 9 1\nK 0\nV 1 1 \nE\n",
 ];
 
 // a text, and what follows it many times
-static LARGE_POSITIONS: [(&str, &str); 4] = [
+static LARGE_POSITIONS: [(&str, &str); 5] = [
     ("mp1 1 1\nK 0", "\nV 1 1\nV 1 1\nV 1 1\nV 1 1\nV 1 1"),
     ("mp1 1 1\nK 0\nE", "\n\n\n\n\n\n\n\n"),
     ("mp1 1 1\nK ", SIXTY),
+    ("mp2 1 1\nK 0\nV 1 ", SIXTY),
     ("", SIXTY),
 ];
 
 #[test]
 fn bad_positions_are_refused(rt: HostRuntime) {
-    for text in &BAD_POSITIONS {
+    for text in &NO_POSITIONS {
         let found = commits_in(rt.alloc(), "", text.as_bytes(), 1, "");
         assert_eq!(rt; found, Err(Refusal::BadPosition), "at {text}");
+    }
+    for word in &POSITION_WORDS {
+        for text in &BAD_POSITIONS {
+            let found = commits_in(rt.alloc(), word, text.as_bytes(), 1, "");
+            assert_eq!(rt; found, Err(Refusal::BadPosition), "at {word}{text}");
+        }
     }
     for (first, more) in &LARGE_POSITIONS {
         let found = commits_in(rt.alloc(), first, more.as_bytes(), 50_000, "\n");
@@ -314,7 +439,7 @@ fn bad_positions_are_refused(rt: HostRuntime) {
 }
 
 // batches whose first bad line stands behind lines that need memory, and that line
-static BAD_BEHIND_GOOD: [(&str, u64); 5] = [
+static BAD_BEHIND_GOOD: [(&str, u64); 9] = [
     ("mr1 1 1\nW 1 1 1 oak 30 1995-12-18 09:00 0 Alpha\nZ\n", 3),
     (
         "mr1 1 1\nW 1 1 1 oak 30 1995-12-18 09:00 1 1995-12-18 10:00 Alpha\nC 1 1 1\nE\nE\n",
@@ -332,12 +457,26 @@ static BAD_BEHIND_GOOD: [(&str, u64); 5] = [
         "mr1 1 1\nC 1 1 1\nC 2 1 2\nW 1 1 1 oak_2 30 1995-12-18 09:00 0 Alpha\nE\n",
         4,
     ),
+    (
+        "mr1 1 1\nW 1 1 1 oak 30 1995-12-18 09:00 0 Alpha\nX 1 2 2 oak 1 1\nE\n",
+        3,
+    ),
+    (
+        "mr1 1 1\nW 1 1 1 oak 30 1995-12-18 09:00 0 Alpha\nW 1 2 2 oak 30 1995-12-18 09:00 9 1995-12-18 09:00 1995-12-18 10:00 1995-12-18 11:00 1995-12-18 12:00 1995-12-18 13:00 1995-12-18 14:00 1995-12-18 15:00 1995-12-18 16:00 1995-12-18 17:00 Nine\nE\n",
+        3,
+    ),
+    ("mr2 1 1\nX 1 1 1 oak 2 1\nX 1 2 2 oak_2 2 1\nE\n", 3),
+    (
+        "mr2 1 1\nX 1 1 1 oak 2 1\nW 1 2 2 oak 30 1995-12-18 09:00 17 1995-12-18 10:00 1995-12-18 10:00 1995-12-18 10:00 1995-12-18 10:00 1995-12-18 10:00 1995-12-18 10:00 1995-12-18 10:00 1995-12-18 10:00 1995-12-18 10:00 1995-12-18 10:00 1995-12-18 10:00 1995-12-18 10:00 1995-12-18 10:00 1995-12-18 10:00 1995-12-18 10:00 1995-12-18 10:00 1995-12-18 10:00 Late\n",
+        3,
+    ),
 ];
 
-static BAD_COUNTS: [&str; 3] = [
+static BAD_COUNTS: [&str; 4] = [
     "mp1 9 1\nK 0\nV 1 1\nV 1 1\nE\n",
     "mp1 9 1\nK 0\nV 1 1\nV 3 1\nV 2 1\nE\n",
     "mp1 9 1\nK 0\nV 1 1\nV 2 1\nE\nE\n",
+    "mp2 9 1\nK 0\nV 1 1\nV 2 1\nV 1 1\nE\n",
 ];
 
 // The line for which the bytes are refused, 0 where they are read.
@@ -351,7 +490,7 @@ fn bad_line_of(alloc: Global, text: &str) -> Result<u64, Refusal> {
 
 // The same with each allocation refused: `rt try --test --fail-alloc N`.
 #[test]
-fn bad_lines_are_told_whatever_memory_there_is(rt: HostRuntime) {
+fn bad_lines_are_reported_whatever_memory_there_is(rt: HostRuntime) {
     for (text, line) in &BAD_BEHIND_GOOD {
         assert_eq!(rt; bad_line_of(rt.alloc(), text), Ok(*line), "at {text}");
     }

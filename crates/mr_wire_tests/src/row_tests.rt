@@ -3,7 +3,7 @@
 
 use mr_base::{
     Alternatives, Batch, CommitNumber, Day, Ending, Item, Position, Refusal, RoomName, ServerId,
-    Slot, Stamp, Title, Write, WriteId, read_minute,
+    Slot, Stamp, Title, Version, Write, WriteId, read_minute,
 };
 use mr_wire::{read_batch, read_position, write_batch, write_position};
 use std::alloc::Global;
@@ -17,10 +17,12 @@ struct Booking {
     title: &'static str,
 }
 
-/// A line of a batch: a write with its server, its number and its time, or a commit with its number and the write's.
+/// A line of a batch: a booking with its server, its number and its time, a cancel of oak with these and with the server
+/// and the number of its target, or a commit with its number and the write's.
 #[derive(Clone, Copy)]
 enum Line {
     W(u32, u32, u64, Booking),
+    X(u32, u32, u64, u32, u32),
     C(u64, u32, u32),
 }
 
@@ -42,10 +44,14 @@ fn slot(time: &str) -> Result<Slot, Refusal> {
     Slot::new(Day::read("1995-12-18")?, read_minute(time)?)
 }
 
-fn write(alloc: Global, id: WriteId, time: u64, booking: Booking) -> Result<Write, Refusal> {
-    let Some(stamp) = Stamp::new(id, time) else {
-        return Err(Refusal::ClockExhausted);
-    };
+fn stamp(number: u32, n: u32, time: u64) -> Result<Stamp, Refusal> {
+    match Stamp::new(id(number, n)?, time) {
+        Some(stamp) => Ok(stamp),
+        None => Err(Refusal::ClockExhausted),
+    }
+}
+
+fn write(alloc: Global, stamp: Stamp, booking: Booking) -> Result<Write, Refusal> {
     let wish = slot(booking.wish)?;
     let mut others = Vec::new(alloc);
     for other in booking.others {
@@ -60,7 +66,12 @@ fn write(alloc: Global, id: WriteId, time: u64, booking: Booking) -> Result<Writ
 fn item(alloc: Global, line: Line) -> Result<Item, Refusal> {
     match line {
         Line::W(number, n, time, booking) => {
-            Ok(Item::W(write(alloc, id(number, n)?, time, booking)?))
+            Ok(Item::W(write(alloc, stamp(number, n, time)?, booking)?))
+        }
+        Line::X(number, n, time, of, target) => {
+            let room = RoomName::new(alloc, "oak")?;
+            let (stamp, target) = (stamp(number, n, time)?, id(of, target)?);
+            Ok(Item::W(Write::cancel(stamp, room, target)))
         }
         Line::C(seq, number, n) => {
             let id = id(number, n)?;
@@ -73,13 +84,19 @@ fn item(alloc: Global, line: Line) -> Result<Item, Refusal> {
 }
 
 /// A batch that this server made, whose primary is 1.
-fn batch(alloc: Global, from: u32, lines: &[Line], ending: Ending) -> Result<Batch, Refusal> {
+fn batch(
+    alloc: Global,
+    version: Version,
+    from: u32,
+    lines: &[Line],
+    ending: Ending,
+) -> Result<Batch, Refusal> {
     let (from, primary) = (server(from)?, server(1)?);
     let mut items = Vec::new(alloc);
     for line in lines {
         items.push(item(alloc, *line)?)?;
     }
-    Batch::new(from, primary, items, ending)
+    Batch::new(version, from, primary, items, ending)
 }
 
 fn is_written_as(alloc: Global, batch: &Batch, text: &str) -> Result<bool, Refusal> {
@@ -90,12 +107,13 @@ fn is_written_as(alloc: Global, batch: &Batch, text: &str) -> Result<bool, Refus
 /// Whether the batch has this text, and what is read of the text has it too.
 fn is_exchanged(
     alloc: Global,
+    version: Version,
     from: u32,
     lines: &[Line],
     ending: Ending,
     text: &str,
 ) -> Result<bool, Refusal> {
-    let batch = batch(alloc, from, lines, ending)?;
+    let batch = batch(alloc, version, from, lines, ending)?;
     let found = read_batch(alloc, text.as_bytes())?;
     Ok(is_written_as(alloc, &batch, text)? && is_written_as(alloc, &found, text)?)
 }
@@ -160,7 +178,85 @@ const BRIEF: Line = Line::W(
     },
 );
 
-/// At all of its limits.
+const LATE: Line = Line::W(
+    2,
+    1,
+    2,
+    Booking {
+        length: 30,
+        wish: "09:00",
+        others: &[],
+        title: "Late",
+    },
+);
+
+const MORNING_ALPHA: Line = Line::W(
+    1,
+    1,
+    1,
+    Booking {
+        length: 60,
+        wish: "09:00",
+        others: &[],
+        title: "Alpha",
+    },
+);
+
+const MORNING_BETA: Line = Line::W(
+    1,
+    2,
+    2,
+    Booking {
+        length: 60,
+        wish: "09:00",
+        others: &["10:00"],
+        title: "Beta",
+    },
+);
+
+const GAMMA: Line = Line::W(
+    1,
+    4,
+    4,
+    Booking {
+        length: 60,
+        wish: "09:00",
+        others: &[],
+        title: "Gamma",
+    },
+);
+
+const NINE: Line = Line::W(
+    1,
+    1,
+    1,
+    Booking {
+        length: 60,
+        wish: "08:00",
+        others: &[
+            "09:00", "10:00", "11:00", "12:00", "13:00", "14:00", "15:00", "16:00", "17:00",
+        ],
+        title: "Nine",
+    },
+);
+
+/// At all limits of the second version.
+const SIXTEEN: Line = Line::W(
+    99,
+    999_999_999,
+    999_999_999_999,
+    Booking {
+        length: 60,
+        wish: "08:00",
+        others: &[
+            "09:00", "10:00", "11:00", "12:00", "13:00", "14:00", "15:00", "16:00", "17:00",
+            "18:00", "19:00", "20:00", "21:00", "22:00", "23:00", "07:00",
+        ],
+        title: "a title of sixty bytes,  with two spaces in it, and a point.",
+    },
+);
+
+/// At all limits of the first version.
 const FULL: Line = Line::W(
     99,
     999_999_999,
@@ -178,9 +274,10 @@ const FULL: Line = Line::W(
 const ALPHA_AND_BETA: &str =
     "mr1 1 1\nW 1 1 1 oak 60 1995-12-18 14:00 0 Alpha\nW 2 1 1 oak 60 1995-12-18 13:30 1 1995-12-18 15:00 Beta\nE\n";
 
-/// Batches: who made them, their lines and their ending, their text and how many bytes it has.
-static BATCHES: [(u32, &[Line], Ending, &str, usize); 9] = [
+/// Batches: their version, who made them, their lines and their ending, their text and how many bytes it has.
+static BATCHES: [(Version, u32, &[Line], Ending, &str, usize); 17] = [
     (
+        Version::First,
         1,
         &[ALPHA],
         Ending::Complete,
@@ -188,6 +285,7 @@ static BATCHES: [(u32, &[Line], Ending, &str, usize); 9] = [
         50,
     ),
     (
+        Version::First,
         2,
         &[BETA],
         Ending::Complete,
@@ -195,14 +293,23 @@ static BATCHES: [(u32, &[Line], Ending, &str, usize); 9] = [
         66,
     ),
     (
+        Version::First,
         3,
         &[LATER_BETA],
         Ending::Complete,
         "mr1 3 1\nW 3 1 1 oak 60 1995-12-18 13:30 0 Beta\nE\n",
         49,
     ),
-    (1, &[ALPHA, BETA], Ending::Complete, ALPHA_AND_BETA, 106),
     (
+        Version::First,
+        1,
+        &[ALPHA, BETA],
+        Ending::Complete,
+        ALPHA_AND_BETA,
+        106,
+    ),
+    (
+        Version::First,
         1,
         &[LATER_BETA, Line::C(1, 3, 1)],
         Ending::Complete,
@@ -210,6 +317,7 @@ static BATCHES: [(u32, &[Line], Ending, &str, usize); 9] = [
         57,
     ),
     (
+        Version::First,
         1,
         &[AUDIT, Line::C(1, 1, 1), BRIEF, Line::C(2, 1, 2)],
         Ending::Complete,
@@ -217,19 +325,89 @@ static BATCHES: [(u32, &[Line], Ending, &str, usize); 9] = [
         106,
     ),
     (
+        Version::First,
         1,
         &[AUDIT, Line::C(1, 1, 1), BRIEF],
         Ending::More,
         "mr1 1 1\nW 1 1 1 oak 60 1995-12-18 13:30 0 Audit\nC 1 1 1\nW 1 2 2 oak 30 1995-12-18 14:30 0 Brief\nM\n",
         98,
     ),
-    (99, &[], Ending::Cut, "mr1 99 1\n", 9),
+    (Version::First, 99, &[], Ending::Cut, "mr1 99 1\n", 9),
+    (Version::Second, 99, &[], Ending::Cut, "mr2 99 1\n", 9),
     (
+        Version::First,
         1,
         &[FULL, Line::C(999_999_999_999, 99, 999_999_999)],
         Ending::Cut,
         "mr1 1 1\nW 99 999999999 999999999999 oak 60 1995-12-18 08:00 8 1995-12-18 09:00 1995-12-18 10:00 1995-12-18 11:00 1995-12-18 12:00 1995-12-18 13:00 1995-12-18 14:00 1995-12-18 15:00 1995-12-18 16:00 a title of sixty bytes,  with two spaces in it, and a point.\nC 999999999999 99 999999999\n",
         287,
+    ),
+    (
+        Version::Second,
+        1,
+        &[ALPHA, BETA],
+        Ending::Complete,
+        "mr2 1 1\nW 1 1 1 oak 60 1995-12-18 14:00 0 Alpha\nW 2 1 1 oak 60 1995-12-18 13:30 1 1995-12-18 15:00 Beta\nE\n",
+        106,
+    ),
+    (
+        Version::Second,
+        1,
+        &[
+            MORNING_ALPHA,
+            Line::C(1, 1, 1),
+            MORNING_BETA,
+            Line::X(1, 3, 3, 1, 1),
+            GAMMA,
+            Line::X(1, 5, 5, 1, 1),
+        ],
+        Ending::Complete,
+        "mr2 1 1\nW 1 1 1 oak 60 1995-12-18 09:00 0 Alpha\nC 1 1 1\nW 1 2 2 oak 60 1995-12-18 09:00 1 1995-12-18 10:00 Beta\nX 1 3 3 oak 1 1\nW 1 4 4 oak 60 1995-12-18 09:00 0 Gamma\nX 1 5 5 oak 1 1\nE\n",
+        186,
+    ),
+    (
+        Version::First,
+        1,
+        &[MORNING_ALPHA, Line::C(1, 1, 1), MORNING_BETA],
+        Ending::More,
+        "mr1 1 1\nW 1 1 1 oak 60 1995-12-18 09:00 0 Alpha\nC 1 1 1\nW 1 2 2 oak 60 1995-12-18 09:00 1 1995-12-18 10:00 Beta\nM\n",
+        114,
+    ),
+    (
+        Version::Second,
+        1,
+        &[Line::X(1, 1, 1, 2, 1)],
+        Ending::Complete,
+        "mr2 1 1\nX 1 1 1 oak 2 1\nE\n",
+        26,
+    ),
+    (
+        Version::First,
+        9,
+        &[LATE],
+        Ending::Complete,
+        "mr1 9 1\nW 2 1 2 oak 30 1995-12-18 09:00 0 Late\nE\n",
+        49,
+    ),
+    (
+        Version::Second,
+        1,
+        &[NINE],
+        Ending::Complete,
+        "mr2 1 1\nW 1 1 1 oak 60 1995-12-18 08:00 9 1995-12-18 09:00 1995-12-18 10:00 1995-12-18 11:00 1995-12-18 12:00 1995-12-18 13:00 1995-12-18 14:00 1995-12-18 15:00 1995-12-18 16:00 1995-12-18 17:00 Nine\nE\n",
+        202,
+    ),
+    (
+        Version::Second,
+        99,
+        &[
+            SIXTEEN,
+            Line::X(99, 999_999_998, 999_999_999_998, 99, 999_999_999),
+            Line::C(999_999_999_999, 99, 999_999_999),
+        ],
+        Ending::Cut,
+        "mr2 99 1\nW 99 999999999 999999999999 oak 60 1995-12-18 08:00 16 1995-12-18 09:00 1995-12-18 10:00 1995-12-18 11:00 1995-12-18 12:00 1995-12-18 13:00 1995-12-18 14:00 1995-12-18 15:00 1995-12-18 16:00 1995-12-18 17:00 1995-12-18 18:00 1995-12-18 19:00 1995-12-18 20:00 1995-12-18 21:00 1995-12-18 22:00 1995-12-18 23:00 1995-12-18 07:00 a title of sixty bytes,  with two spaces in it, and a point.\nX 99 999999998 999999999998 oak 99 999999999\nC 999999999999 99 999999999\n",
+        470,
     ),
 ];
 
@@ -251,8 +429,8 @@ fn parts_of(alloc: Global, bytes: &[u8]) -> Result<(bool, usize, Ending), Refusa
 
 #[test]
 fn batches_are_exchanged(rt: HostRuntime) {
-    for (from, lines, ending, text, size) in &BATCHES {
-        let is_exchanged = is_exchanged(rt.alloc(), *from, lines, *ending, text);
+    for (version, from, lines, ending, text, size) in &BATCHES {
+        let is_exchanged = is_exchanged(rt.alloc(), *version, *from, lines, *ending, text);
         assert_eq!(rt; (is_exchanged, text.len()), (Ok(true), *size), "at {text}");
     }
     let empty = Batch::without_header(Vec::new(rt.alloc()));
@@ -267,13 +445,19 @@ fn batches_are_exchanged(rt: HostRuntime) {
 }
 
 /// A position whose primary is 1.
-fn position(alloc: Global, own: u32, commits: u64, of: &[(u32, u32)]) -> Result<Position, Refusal> {
+fn position(
+    alloc: Global,
+    version: Version,
+    own: u32,
+    commits: u64,
+    of: &[(u32, u32)],
+) -> Result<Position, Refusal> {
     let (own, primary) = (server(own)?, server(1)?);
     let mut counts = Vec::new(alloc);
     for (number, n) in of {
         counts.push((server(*number)?, *n))?;
     }
-    match Position::new(own, primary, commits, counts) {
+    match Position::new(version, own, primary, commits, counts) {
         Some(position) => Ok(position),
         None => Err(Refusal::BadPosition),
     }
@@ -287,12 +471,13 @@ fn is_position_written_as(alloc: Global, position: &Position, text: &str) -> Res
 /// Whether the position has this text, and what is read of the text has it too.
 fn is_position_exchanged(
     alloc: Global,
+    version: Version,
     own: u32,
     commits: u64,
     of: &[(u32, u32)],
     text: &str,
 ) -> Result<bool, Refusal> {
-    let position = position(alloc, own, commits, of)?;
+    let position = position(alloc, version, own, commits, of)?;
     let found = read_position(alloc, text.as_bytes())?;
     Ok(
         is_position_written_as(alloc, &position, text)?
@@ -304,23 +489,53 @@ fn refusal_of_position(alloc: Global, bytes: &[u8]) -> Option<Refusal> {
     read_position(alloc, bytes).err()
 }
 
-/// Positions: the own server, the commits and the counts, and their text.
-static POSITIONS: [(u32, u64, &[(u32, u32)], &str); 3] = [
-    (2, 0, &[], "mp1 2 1\nK 0\nE\n"),
-    (9, 0, &[(1, 1), (2, 1)], "mp1 9 1\nK 0\nV 1 1\nV 2 1\nE\n"),
+/// Positions: their version, the own server, the commits and the counts, and their text.
+static POSITIONS: [(Version, u32, u64, &[(u32, u32)], &str); 7] = [
+    (Version::First, 2, 0, &[], "mp1 2 1\nK 0\nE\n"),
+    (Version::Second, 2, 0, &[], "mp2 2 1\nK 0\nE\n"),
+    (Version::First, 8, 0, &[(1, 1)], "mp1 8 1\nK 0\nV 1 1\nE\n"),
     (
+        Version::First,
+        9,
+        0,
+        &[(1, 1), (2, 1)],
+        "mp1 9 1\nK 0\nV 1 1\nV 2 1\nE\n",
+    ),
+    (
+        Version::Second,
+        9,
+        0,
+        &[(1, 1), (2, 1)],
+        "mp2 9 1\nK 0\nV 1 1\nV 2 1\nE\n",
+    ),
+    (
+        Version::First,
         99,
         999_999_999_999,
         &[(1, 999_999_999), (99, 10)],
         "mp1 99 1\nK 999999999999\nV 1 999999999\nV 99 10\nE\n",
+    ),
+    (
+        Version::Second,
+        99,
+        999_999_999_999,
+        &[(1, 999_999_999), (99, 10)],
+        "mp2 99 1\nK 999999999999\nV 1 999999999\nV 99 10\nE\n",
     ),
 ];
 
 /// No front of a position's text is a position's.
 #[test]
 fn positions_are_exchanged(rt: HostRuntime) {
-    for (own, commits, counts, text) in &POSITIONS {
-        let is_exchanged = is_position_exchanged(rt.alloc(), *own, *commits, counts, text);
+    for (version, own, commits, counts, text) in &POSITIONS {
+        let is_exchanged = is_position_exchanged(
+            rt.alloc(),
+            *version,
+            *own,
+            *commits,
+            counts,
+            text,
+        );
         assert_eq!(rt; is_exchanged, Ok(true), "at {text}");
         for j in 0..text.len() {
             let refusal = refusal_of_position(rt.alloc(), text.as_bytes().get(..j).unwrap_or(&[]));

@@ -1,22 +1,28 @@
-use Rattle.std.proofs.Common.{None, subst}
-use Rattle.sqlite.specs.Held.{state}
-use Rattle.mr_rows.specs.Shown.{IsMeta}
-use Rattle.mr_rows.specs.Reads.{IsPlaced}
-use Rattle.mr_sql.proofs.TakenLemmas.{finds}
+use Rattle.std.proofs.Common.{inl, inr, ◌≡◌, refl}
+use Rattle.mr_base.specs.declared.refusals.Refusal.TheVariants as refusal
+use Rattle.mr_rows.specs.Schema.{our_schema}
+use Rattle.mr_sql.specs.Refused.{HasNoMeta}
+use Rattle.mr_sql.proofs.CreateLemmas.{on_err_any}
+use Rattle.mr_sql.proofs.TakenLemmas.{failed_of, handed_on}
 use Rattle.mr_sql.proofs.adopt.find.Goals as goal
 
-pub returns-in-Ok-Some-clause-found : goal.returns-in-Ok-Some-clause-found
-returns-in-Ok-Some-clause-found g c trees clean taken now =
-    let old = state g.S.Store c.args.conn.now in
-    let new = state g.S.Store c.find_all.new.conn in
-    let placed : IsPlaced old = record { schema = c.requires.ours; settled = taken.settled } in
-    let looks = rw c.in-Ok-Some.field-0-is at c.in-Ok-Some.ensures.looks in
-    let told = (looks.2 clean placed).1 in
-    finds trees _ old new taken c.requires.ours ((looks.1 clean now).1 placed) told.0 told.1
+pub returns-in_err-check_number-clause-stays : goal.returns-in_err-check_number-clause-stays
+returns-in_err-check_number-clause-stays g c trees clean taken =
+    on_err_any c.from_residual.result (c.in_err-check_number.ensures.stays our_schema trees (inl refl) clean taken)
 
-pub returns-in-Ok-None-clause-strange : goal.returns-in-Ok-None-clause-strange
-returns-in-Ok-None-clause-strange g c trees clean taken is =
-    let old = state g.S.Store c.args.conn.now in
-    let placed : IsPlaced old = record { schema = c.requires.ours; settled = taken.settled } in
-    let looks = rw c.in-Ok-None.field-0-is at c.in-Ok-None.ensures.looks in
-    subst (λ t. IsMeta t None) taken.trees_are (looks.2 clean placed).1.1
+pub returns-in_err-check_number-clause-strange : goal.returns-in_err-check_number-clause-strange
+returns-in_err-check_number-clause-strange g c trees clean taken =
+    handed_on (λ e. e ≡ refusal.NotAReplica → HasNoMeta 2 trees) c.in_err-check_number.field-0.0 c.from_residual.result (λ is. inr (c.in_err-check_number.ensures.strange our_schema trees (inl refl) clean taken is)) c.from_residual.ensures.1
+
+pub returns-clause-found : goal.returns-clause-found
+returns-clause-found g c trees clean taken = c.find_row.ensures.found trees clean (c.in_ok-check_number.ensures.taken our_schema trees (inl refl) (c.find_row.ensures.clean clean) taken)
+
+pub returns-clause-opens : goal.returns-clause-opens
+returns-clause-opens g c trees clean taken = c.find_row.ensures.opens trees clean (c.in_ok-check_number.ensures.taken our_schema trees (inl refl) (c.find_row.ensures.clean clean) taken)
+
+pub returns-clause-stays : goal.returns-clause-stays
+returns-clause-stays g c trees clean taken = c.find_row.ensures.stays trees clean (c.in_ok-check_number.ensures.taken our_schema trees (inl refl) (c.find_row.ensures.clean clean) taken)
+
+pub returns-clause-strange : goal.returns-clause-strange
+returns-clause-strange g c trees clean taken =
+    failed_of c.find_row.result _ _ (λ e none is. inl (none is)) (c.find_row.ensures.strange trees clean (c.in_ok-check_number.ensures.taken our_schema trees (inl refl) (c.find_row.ensures.clean clean) taken))

@@ -1,6 +1,15 @@
-use Rattle.mr_rows.specs.Schema.{our_schema}
-use Rattle.mr_sql.proofs.TakenLemmas.{of_schema}
+use Rattle.std.proofs.Common.{◌≡◌}
+use Rattle.sqlite.specs.Held.{state}
+use Rattle.mr_base.specs.declared.refusals.Refusal.TheVariants as refusal
+use Rattle.mr_sql.specs.Refused.{IsNobodys}
+use Rattle.mr_sql.proofs.TakenLemmas.{handed_on, nobodys_ours}
 use Rattle.mr_sql.proofs.adopt.recover.Goals as goal
 
-pub returns-in-Ok-false-clause-strange : goal.returns-in-Ok-false-clause-strange
-returns-in-Ok-false-clause-strange g c trees clean taken is ours = absurd (c.in-Ok-false.ensures.other c.in-Ok-false.field-0-test (of_schema trees _ our_schema taken ours))
+pub recover_first-requires-clause-others : goal.recover_first-requires-clause-others
+recover_first-requires-clause-others g c = c.in-Ok-false.ensures.other c.in-Ok-false.field-0-test
+
+pub returns-in_err-find-in-Ok-true-clause-strange : goal.returns-in_err-find-in-Ok-true-clause-strange
+returns-in_err-find-in-Ok-true-clause-strange g c trees clean taken =
+    let ours = c.in-Ok-true.ensures.same c.in-Ok-true.field-0-test in
+    handed_on (λ e. e ≡ refusal.NotAReplica → IsNobodys trees) c.in_err-find-in-Ok-true.field-0.0 c.from_residual.result
+    (λ is. nobodys_ours trees (state g.S.Store c.args.conn.now) taken ours (c.in_err-find-in-Ok-true.ensures.strange trees clean (taken, ours) is)) c.from_residual.ensures.1

@@ -1,18 +1,32 @@
-use Rattle.std.proofs.Common.{◌≡◌, refl, inl, inr, subst, ap, ◌∙◌, sym}
-use Rattle.sqlite_trees.specs.Tree.{Trees}
+use Rattle.std.proofs.Common.{◌≡◌, refl, inl, inr}
+use Rattle.sqlite.specs.Held.{state}
 use Rattle.mr_base.specs.declared.refusals.Refusal.TheVariants as refusal
-use Rattle.mr_rows.specs.Kept.{tables_in}
 use Rattle.mr_sql.specs.Refused.{IsAnothers}
-use Rattle.mr_sql.proofs.TakenLemmas.{handed_on, not_blank}
+use Rattle.mr_sql.proofs.CreateLemmas.{on_err_any}
+use Rattle.mr_sql.proofs.TakenLemmas.{adopts, anothers_ours, found_stays, handed_on, named_as}
 use Rattle.mr_sql.proofs.adopt.resume.Goals as goal
+
+pub returns-in_err-meta-clause-stays : goal.returns-in_err-meta-clause-stays
+returns-in_err-meta-clause-stays g c trees clean taken = on_err_any c.from_residual.result (c.in_err-meta.ensures.stays trees clean (taken, c.requires.ours))
 
 pub returns-in_err-meta-clause-strange : goal.returns-in_err-meta-clause-strange
 returns-in_err-meta-clause-strange g c trees clean taken =
     handed_on (λ e. e ≡ refusal.NotAReplica → IsAnothers c.args.server c.args.primary trees) c.in_err-meta.field-0.0 c.from_residual.result
-    (λ is. (not_blank trees _ taken c.requires.ours, λ ours. inl (c.in_err-meta.ensures.strange trees clean taken is))) c.from_residual.ensures.1
+    (λ is. anothers_ours c.args.server c.args.primary trees (state g.S.Store c.args.conn.now) taken c.requires.ours (inl (c.in_err-meta.ensures.strange trees clean (taken, c.requires.ours) is))) c.from_residual.ensures.1
+
+pub returns-then-is_of-clause-resumed : goal.returns-then-is_of-clause-resumed
+returns-then-is_of-clause-resumed g c trees clean taken now =
+    adopts c.args.server c.args.primary trees _ (state g.S.Store c.find.new.conn) (c.in_ok-meta.ensures.found trees clean (taken, c.requires.ours) now) (c.if-is_of.ensures.same refl)
+
+pub returns-then-is_of-clause-opens : goal.returns-then-is_of-clause-opens
+returns-then-is_of-clause-opens g c trees clean taken = c.in_ok-meta.ensures.opens trees clean (taken, c.requires.ours)
+
+pub returns-else-is_of-clause-stays : goal.returns-else-is_of-clause-stays
+returns-else-is_of-clause-stays g c trees clean taken now =
+    found_stays trees _ (state g.S.Store c.args.conn.now) (state g.S.Store c.find.new.conn) taken c.requires.ours (c.in_ok-meta.ensures.found trees clean (taken, c.requires.ours) now)
 
 pub returns-else-is_of-clause-strange : goal.returns-else-is_of-clause-strange
 returns-else-is_of-clause-strange g c trees clean taken is =
-    let found = c.in_ok-meta.ensures.found trees clean taken (c.in_ok-meta.ensures.opens trees clean taken) in
-    let told : (tables_in trees).meta ≡ c.in_ok-meta.meta = subst (λ (t : Trees). (tables_in t).meta ≡ c.in_ok-meta.meta) found.trees_are found.meta in
-    (not_blank trees _ taken c.requires.ours, λ ours. inr (λ named. c.if-is_of.ensures.other refl (ap (λ m. m.server) (sym told) ∙ named.0, ap (λ m. m.primary) (sym told) ∙ named.1)))
+    let found = c.in_ok-meta.ensures.found trees clean (taken, c.requires.ours) (c.in_ok-meta.ensures.opens trees clean (taken, c.requires.ours)) in
+    anothers_ours c.args.server c.args.primary trees (state g.S.Store c.args.conn.now) taken c.requires.ours
+    (inr (named_as c.args.server c.args.primary trees _ (state g.S.Store c.args.conn.now) (state g.S.Store c.find.new.conn) taken c.requires.ours found (c.if-is_of.ensures.other refl)))

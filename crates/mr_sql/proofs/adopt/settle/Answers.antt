@@ -1,10 +1,22 @@
-use Rattle.std.proofs.Common.{refl}
+use Rattle.std.proofs.Common.{inl, inr, refl}
+use Rattle.sqlite.specs.Held.{state}
 use Rattle.mr_rows.specs.Schema.{no_schema, our_schema}
-use Rattle.mr_sql.proofs.TakenLemmas.{of_schema}
+use Rattle.mr_sql.proofs.TakenLemmas.{err_all, failed_of, sound_as}
 use Rattle.mr_sql.proofs.adopt.settle.Goals as goal
 
-pub returns-in-Ok-false-clause-strange : goal.returns-in-Ok-false-clause-strange
-returns-in-Ok-false-clause-strange g c trees clean taken is = (
-  (λ blank. c.if-is_blank.ensures.other refl (of_schema trees _ no_schema taken blank)),
-  (λ ours. absurd (c.in-Ok-false.ensures.other c.in-Ok-false.field-0-test (of_schema trees _ our_schema taken ours))),
-)
+pub returns-then-is_blank-clause-store : goal.returns-then-is_blank-clause-store
+returns-then-is_blank-clause-store g c trees clean taken =
+    err_all c.begin.result _ (λ e is. inl (sound_as trees (state g.S.Store c.args.conn.now) no_schema taken (c.if-is_blank.ensures.same refl)))
+
+pub returns-in-Ok-true-clause-store : goal.returns-in-Ok-true-clause-store
+returns-in-Ok-true-clause-store g c trees clean taken =
+    err_all c.resume.result _ (λ e is. inr (inl (sound_as trees (state g.S.Store c.args.conn.now) our_schema taken (c.in-Ok-true.ensures.same c.in-Ok-true.field-0-test))))
+
+pub settle_first-requires-clause-filled : goal.settle_first-requires-clause-filled
+settle_first-requires-clause-filled g c = c.if-is_blank.ensures.other refl
+
+pub settle_first-requires-clause-others : goal.settle_first-requires-clause-others
+settle_first-requires-clause-others g c = c.in-Ok-false.ensures.other c.in-Ok-false.field-0-test
+
+pub returns-in-Ok-false-clause-store : goal.returns-in-Ok-false-clause-store
+returns-in-Ok-false-clause-store g c trees clean taken = failed_of c.settle_first.result _ _ (λ e known is. inr (known is)) (c.settle_first.ensures.store trees clean taken)

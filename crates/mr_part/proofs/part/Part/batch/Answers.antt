@@ -9,6 +9,7 @@ use Rattle.std.specs.List.{list_all}
 use Rattle.mr_model.specs.Exchange.{is_item}
 use Rattle.mr_base.specs.Answers.{ok_if}
 use Rattle.mr_base.specs.Batches.{item_of, batch_of}
+use Rattle.mr_base.specs.Versions.{version_of}
 use Rattle.mr_base.specs.declared.refusals.Refusal.TheVariants.{NeedsVersion2}
 use Rattle.mr_replica.specs.Desk.{reply_with}
 use Rattle.mr_tables.specs.declared.summary.Summary.{Summary}
@@ -51,5 +52,7 @@ returns-clause-step c = λ a sound part.
     let kept : c.deref.result.now ≡ drop (p.commits - a.dropped) (kept_commits a) ++ tentative a = c.deref.ensures.value ∙ ap (λ (v : PartView). v.kept) e in
     let items = part_items a p s c.deref.result.now sound low numbers kept in
     let offers = subst (λ xs. Offers c.args.max_lines xs there more) items c.in_ok-outgoing.ensures.items in
-    let made = batch_made a p c.args.max_lines there more sound own whole offers in
-    inl (ap (reply_with BatchIs) (c.into_batch.ensures ∙ (λ t. ok_if (list_all is_item (map item_of there)) (batch_of (Some ((e t).summary.server, (e t).summary.primary)) there (ending_by more)) NeedsVersion2)) ∙ made)
+    let v = c.position.inside.version in
+    let version : version_of v ≡ p.version = ap (λ (q : Position). q.version) c.position.view_is in
+    let made = batch_made a p c.args.max_lines v there more sound version own whole offers in
+    inl (ap (reply_with BatchIs) (c.into_batch.ensures ∙ (λ t. ok_if (list_all (is_item (version_of v)) (map item_of there)) (batch_of v (Some ((e t).summary.server, (e t).summary.primary)) there (ending_by more)) NeedsVersion2)) ∙ made)

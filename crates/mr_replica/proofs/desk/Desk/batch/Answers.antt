@@ -8,6 +8,7 @@ use Rattle.mr_model.specs.Replies.{BatchIs}
 use Rattle.mr_tables.proofs.Limits.{few_commits}
 use Rattle.mr_base.specs.Answers.{ok_if}
 use Rattle.mr_base.specs.Batches.{item_of, batch_of}
+use Rattle.mr_base.specs.Versions.{version_of}
 use Rattle.mr_base.specs.declared.refusals.Refusal.TheVariants.{NeedsVersion2}
 use Rattle.mr_replica.specs.Outgoing.{Offers, kept_items, ending_by}
 use Rattle.mr_replica.specs.Desk.{DeskView, reply_with}
@@ -44,5 +45,7 @@ returns-clause-step c = λ a sound stands.
     let kept = c.kept.ensures in
     let items = (λ t. kept_items p c.self.inside.summary (kept t)) ∙ (λ t. kept_items p (summary_in (e t)) (e t).log.kept) ∙ items-kept a p sound low in
     let offers = subst (λ xs. Offers c.args.max_lines xs there more) items c.in_ok-outgoing.ensures.items in
-    let made = batch_made a p c.args.max_lines there more sound own whole offers in
-    inl (ap (reply_with BatchIs) (c.into_batch.ensures ∙ (λ t. ok_if (list_all is_item (map item_of there)) (batch_of (Some ((e t).server, (e t).primary)) there (ending_by more)) NeedsVersion2)) ∙ made, stands)
+    let v = c.position.inside.version in
+    let version : version_of v ≡ p.version = ap (λ (q : Position). q.version) c.position.view_is in
+    let made = batch_made a p c.args.max_lines v there more sound version own whole offers in
+    inl (ap (reply_with BatchIs) (c.into_batch.ensures ∙ (λ t. ok_if (list_all (is_item (version_of v)) (map item_of there)) (batch_of v (Some ((e t).server, (e t).primary)) there (ending_by more)) NeedsVersion2)) ∙ made, stands)

@@ -1,7 +1,7 @@
 use Rattle.std.proofs.Common.{◌≡◌, ℕ, ◌+◌, ◌<◌, ◌==◌, ◌⊎◌, true, Some, Ok, Err, Result, map, length, ap, sym, ◌∙◌, subst, arith}
 use Rattle.std.specs.List.{list_all}
 use Rattle.std.proofs.lemmas.Result.{err_from_is_err_and}
-use Rattle.mr_model.specs.Exchange.{Batch, Header, is_item}
+use Rattle.mr_model.specs.Exchange.{Second, Batch, Header, is_item}
 use Rattle.mr_model.specs.Replies.{Took}
 use Rattle.mr_model.specs.Taking.{take_items}
 use Rattle.mr_model.specs.Step.{After, after_items, receive_batch}
@@ -36,7 +36,7 @@ returns-in_err-taken-clause-step c = λ a sound stands.
     (subst (Owed c.args.self.now c.take_items.new.self (Err c.in_err-taken.field-0.0)) step (c.in_err-taken.ensures.step good short a sound stands))
 
 -- the items are within the limits, and few enough
-ready : (c : goal.In_ok-taken) → (list_all is_item (map item_of c.deref.result.now) ≡ true) × (length c.deref.result.now + 2 < 18446744073709551616)
+ready : (c : goal.In_ok-taken) → (list_all (is_item Second) (map item_of c.deref.result.now) ≡ true) × (length c.deref.result.now + 2 < 18446744073709551616)
 ready c =
     let b = c.batch.view_is in
     let h : Header = record { from = c.in-Some.field-0-0; primary = c.in-Some.primary } in

@@ -6,8 +6,7 @@ use Rattle.mr_sql.proofs.files.SqlKeeper+FileStore+FileFrom+B.open_from.Goals as
 
 pub returns-in-Ok-resume-clause-opened : goal.returns-in-Ok-resume-clause-opened
 returns-in-Ok-resume-clause-opened g c clean now =
-    let resumed = c.in-Ok-resume.ensures.resumed clean now in
-    ((file_state c.in-Ok.conn).committed.trees, c.in-Ok.ensures.found (c.in-Ok-resume.ensures.clean clean), resumed.0, resumed.1)
+    ((file_state c.in-Ok.conn).committed.trees, c.in-Ok.ensures.found (c.in-Ok-resume.ensures.clean clean), c.in-Ok-resume.ensures.resumed clean now)
 
 pub returns-in-Err-resume-clause-strange : goal.returns-in-Err-resume-clause-strange
 returns-in-Err-resume-clause-strange g c is =

@@ -1,8 +1,0 @@
-use Rattle.std.proofs.Common.{◌≡◌, map, drop}
-use Rattle.std.specs.List.{list_all}
-use Rattle.mr_model.specs.Exchange.{is_item}
-use Rattle.mr_base.specs.Batches.{item_of}
-use Rattle.mr_base.proofs.batches.can_all_be_said.Given as goal
-
-abbrev pub invariant-loop-item : goal.invariant-loop-item
-invariant-loop-item l = list_all is_item (map item_of l.items) ≡ list_all is_item (map item_of (drop l.item-index l.items))

@@ -1,0 +1,12 @@
+pub mod Texts
+pub mod Facts
+pub mod Steps
+pub mod Statements
+pub mod Selects
+pub mod ClearLemmas
+pub mod MakeLemmas
+pub mod ReadLemmas
+pub mod PairLemmas
+pub mod Held
+pub mod Putting
+pub mod MoveLemmas

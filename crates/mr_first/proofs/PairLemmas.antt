@@ -1,0 +1,145 @@
+-- Rows of both logs, paired, are the log that takes their place.
+use Rattle.std.proofs.Common.{◌≡◌, ℕ, ◌<◌, zero, suc, List, [], ◌∷◌, ◌++◌, map, length, take, get_or, true, Bool, ◌&&◌, ◌==◌, inl, inr, Some, None, Option, refl, sym, ap, subst, ◌∙◌, arith, eqb-true, eq-eqb}
+use Rattle.std.specs.Prelude.{option_map}
+use Rattle.std.specs.List.{cons_option, AllByRecursion}
+use Rattle.std.proofs.lemmas.Bool.{and_from, and_parts}
+use Rattle.sqlite_trees.specs.Tree.{Trees}
+use Rattle.mr_model.specs.Writes.{Id, Write}
+use Rattle.mr_model.specs.Replica.{Replica}
+use Rattle.mr_model.specs.Tables.{MetaRow, LogRow, kept}
+use Rattle.mr_model.specs.First.{WriteRow, UndoRow, FirstTables, write_row, undo_row, StandsFirst, undo_of, moved_row, moved_log, moved}
+use Rattle.mr_model.specs.Dropped.{Has}
+use Rattle.mr_model.proofs.Members.{find_one, all_has, has_all}
+use Rattle.mr_tables.specs.Change.{put_all, id_before, log_id}
+use Rattle.mr_tables.proofs.Putting.{IsOrder, InOrder, OneAKey, one_a_key, id_order, in_order_same}
+use Rattle.mr_rows.proofs.KeyOrder.{Apart, ordered_in_order, ordered_has, has_ordered}
+use Rattle.mr_first.specs.Cells.{write_in, undo_in}
+use Rattle.mr_first.specs.Forms.{write_id, undo_id}
+use Rattle.mr_first.specs.Kept.{first_in}
+use Rattle.mr_first.specs.Moves.{ArePaired}
+use Rattle.mr_first.specs.Steps.{filled}
+
+-- ---- pairs
+
+-- as many rows as have a partner at their place
+abbrev pub joined : List WriteRow → List UndoRow → List LogRow
+joined [] us = []
+joined (w ∷ ws) [] = []
+joined (w ∷ ws) (u ∷ us) = moved_row w u ∷ joined ws us
+
+-- a row's partner has its id
+partner : (w : WriteRow) (u : UndoRow) → write_id w ≡ undo_id u → (u.server == w.server && u.n == w.n) ≡ true
+partner w u same = and_from (u.server == w.server) (u.n == w.n) (eq-eqb u.server w.server (sym (ap (λ (i : Id). i.server) same))) (eq-eqb u.n w.n (sym (ap (λ (i : Id). i.n) same)))
+
+partners_id : (w : WriteRow) (u : UndoRow) → (u.server == w.server && u.n == w.n) ≡ true → write_id w ≡ undo_id u
+partners_id w u h =
+    let both = and_parts (u.server == w.server) (u.n == w.n) h in
+    let s : u.server ≡ w.server = eqb-true u.server w.server both.0 in
+    let n : u.n ≡ w.n = eqb-true u.n w.n both.1 in
+    λ i. record { server = sym s i; n = sym n i }
+
+-- rows that are paired, among all of the other log
+joined_is : (ws : List WriteRow) (us all : List UndoRow) → OneAKey undo_id all → ((u : UndoRow) → Has u us → Has u all) → map write_id ws ≡ map undo_id us → joined ws us ≡ moved_log ws all
+joined_is [] us all one inside same = refl
+joined_is (w ∷ ws) [] all one inside same = absurd (cc)
+joined_is (w ∷ ws) (u ∷ us) all one inside same =
+    let here : write_id w ≡ undo_id u = head_same _ _ _ _ same in
+    let found : undo_of w all ≡ Some u =
+    find_one (λ v. v.server == w.server && v.n == w.n) u all (inside u (inl refl)) (partner w u here) (λ v h e. one v u h (inside u (inl refl)) (sym (partners_id w v e) ∙ here)) in
+    let more = joined_is ws us all one (λ v h. inside v (inr h)) (tail_same _ _ _ _ same) in
+    λ i. cons_option (option_map (moved_row w) (sym found i)) (more i)
+  where
+    head_same : (x y : Id) (xs ys : List Id) → x ∷ xs ≡ y ∷ ys → x ≡ y
+    head_same x y xs ys e = cc
+
+    tail_same : (x y : Id) (xs ys : List Id) → x ∷ xs ≡ y ∷ ys → xs ≡ ys
+    tail_same x y xs ys e = cc
+
+undo_apart : (trees : Trees) → OneAKey undo_id (first_in trees).undo
+unfolding first_in
+undo_apart trees = one_a_key id_before undo_id id_order _ (ordered_in_order id_before undo_id id_order (map undo_in (trees 8)))
+
+pub paired_is : (ws : List WriteRow) (us : List UndoRow) (trees : Trees) → ArePaired ws us → us ≡ (first_in trees).undo → joined ws us ≡ moved_log ws us
+paired_is ws us trees paired is = joined_is ws us us (subst (λ rows. OneAKey undo_id rows) (sym is) (undo_apart trees)) (λ u h. h) paired
+
+-- ---- pairs one after the other
+
+-- what is at a place of both, of rows of one write each
+pub paired_at : (ws : List WriteRow) (us : List UndoRow) (i : ℕ) (w : WriteRow) (u : UndoRow) → i < length ws → length ws ≡ length us → w ≡ get_or ws i w → u ≡ get_or us i u → ArePaired ws us → write_id w ≡ undo_id u
+paired_at [] us i w u low many at_w at_u same = absurd (omega (arith, low))
+paired_at (x ∷ ws) [] i w u low many at_w at_u same = absurd (cc)
+paired_at (x ∷ ws) (y ∷ us) zero w u low many at_w at_u same = let head : write_id x ≡ undo_id y = cc in ap write_id at_w ∙ head ∙ ap undo_id (sym at_u)
+paired_at (x ∷ ws) (y ∷ us) (suc i) w u low many at_w at_u same =
+    let rest : map write_id ws ≡ map undo_id us = cc in
+    let lengths : length ws ≡ length us = omega (arith, many) in
+    paired_at ws us i w u (omega (arith, low)) lengths at_w at_u rest
+
+-- one pair more
+pub more_paired : (ws : List WriteRow) (us : List UndoRow) (i : ℕ) (w : WriteRow) (u : UndoRow) → i < length ws → length ws ≡ length us → w ≡ get_or ws i w → u ≡ get_or us i u → write_id w ≡ undo_id u
+    → ArePaired (take i ws) (take i us) → ArePaired (take (suc i) ws) (take (suc i) us)
+more_paired [] us i w u low many at_w at_u here same = absurd (omega (arith, low))
+more_paired (x ∷ ws) [] i w u low many at_w at_u here same = absurd (cc)
+more_paired (x ∷ ws) (y ∷ us) zero w u low many at_w at_u here same = ap (λ id. id ∷ []) (ap write_id (sym at_w) ∙ here ∙ ap undo_id at_u)
+more_paired (x ∷ ws) (y ∷ us) (suc i) w u low many at_w at_u here same =
+    let head : write_id x ≡ undo_id y = cc in
+    let rest : map write_id (take i ws) ≡ map undo_id (take i us) = cc in
+    let lengths : length ws ≡ length us = omega (arith, many) in
+    let more = more_paired ws us i w u (omega (arith, low)) lengths at_w at_u here rest in
+    λ j. head j ∷ more j
+
+pub more_joined : (ws : List WriteRow) (us : List UndoRow) (i : ℕ) (w : WriteRow) (u : UndoRow) → i < length ws → length ws ≡ length us → w ≡ get_or ws i w → u ≡ get_or us i u
+    → joined (take (suc i) ws) (take (suc i) us) ≡ joined (take i ws) (take i us) ++ moved_row w u ∷ []
+more_joined [] us i w u low many at_w at_u = absurd (omega (arith, low))
+more_joined (x ∷ ws) [] i w u low many at_w at_u = absurd (cc)
+more_joined (x ∷ ws) (y ∷ us) zero w u low many at_w at_u = λ j. moved_row (sym at_w j) (sym at_u j) ∷ []
+more_joined (x ∷ ws) (y ∷ us) (suc i) w u low many at_w at_u =
+    let lengths : length ws ≡ length us = omega (arith, many) in
+    ap (λ rows. moved_row x y ∷ rows) (more_joined ws us i w u (omega (arith, low)) lengths at_w at_u)
+
+-- the logs of a replica's first tables
+pub replicas_paired : (t : FirstTables) (r : Replica) → StandsFirst t r → ArePaired t.write_log t.undo
+replicas_paired t r stands = subst (λ (x : FirstTables). ArePaired x.write_log x.undo) (sym stands.are) (go (kept r))
+  where
+    go : (ws : List Write) → map write_id (map (write_row r) ws) ≡ map undo_id (map (undo_row r) ws)
+    go [] = refl
+    go (w ∷ ws) = ap (λ ids. write_id (write_row r w) ∷ ids) (go ws)
+
+-- ---- rows in order, put into none, are these
+
+pub put_into_empty : {R K : Type 0} (before : K → K → Bool) (key : R → K) → IsOrder K before → (rows : List R) → InOrder before key rows → put_all before key rows [] ≡ rows
+put_into_empty {R} {K} before key o rows up =
+    in_order_same before key o (put_all before key rows []) rows (ordered_in_order before key o rows) up (λ row h. ordered_has before key o rows row h) (λ row h. has_ordered before key o rows (apart rows up) row h)
+  where
+    apart : (xs : List R) → InOrder before key xs → Apart before key xs
+    apart [] s = tt
+    apart (x ∷ xs) s = (has_all (λ y. key x ≡ key y → ⊥) xs (λ y h same. o.irreflexive (key x) (subst (λ k. before (key x) k ≡ true) (sym same) (all_has (λ y. before (key x) (key y) ≡ true) y xs s.0 h))), apart xs s.1)
+
+-- ---- the log is in order
+
+log_in_order : (ws : List WriteRow) (us : List UndoRow) → InOrder id_before write_id ws → InOrder id_before log_id (moved_log ws us)
+log_in_order [] us s = tt
+log_in_order (w ∷ ws) us s = go (undo_of w us) (log_in_order ws us s.1)
+  where
+    above : (xs : List WriteRow) → AllByRecursion (λ x. id_before (write_id w) (write_id x) ≡ true) xs → AllByRecursion (λ y. id_before (write_id w) (log_id y) ≡ true) (moved_log xs us)
+    above [] h = tt
+    above (x ∷ xs) h = pick (undo_of x us) (above xs h.1)
+      where
+        pick : (o : Option UndoRow) → AllByRecursion (λ y. id_before (write_id w) (log_id y) ≡ true) (moved_log xs us) → AllByRecursion (λ y. id_before (write_id w) (log_id y) ≡ true) (cons_option (option_map (moved_row x) o) (moved_log xs us))
+        pick None more = more
+        pick (Some u) more = (h.0, more)
+
+    go : (o : Option UndoRow) → InOrder id_before log_id (moved_log ws us) → InOrder id_before log_id (cons_option (option_map (moved_row w) o) (moved_log ws us))
+    go None more = more
+    go (Some u) more = (above ws s.0, more)
+
+writes_in_order : (trees : Trees) → InOrder id_before write_id (first_in trees).write_log
+unfolding first_in
+writes_in_order trees = ordered_in_order id_before write_id id_order (map write_in (trees 6))
+
+-- the first tables with their own row of `meta` and their log are the moved ones
+pub filled_is : (trees : Trees) (m : MetaRow) (log : List LogRow) → m ≡ (first_in trees).meta → log ≡ moved_log (first_in trees).write_log (first_in trees).undo → filled m log (first_in trees) ≡ moved (first_in trees)
+filled_is trees m log meta is =
+    let t = first_in trees in
+    let put : put_all id_before log_id log [] ≡ moved_log t.write_log t.undo =
+    ap (λ rows. put_all id_before log_id rows []) is ∙ put_into_empty id_before log_id id_order _ (log_in_order t.write_log t.undo (writes_in_order trees)) in
+    λ i. record { meta = meta i; room = t.room; vector = t.vector; log = put i; booking = t.booking; errorlog = t.errorlog; cancelled = []; cancels = [] }

@@ -1,0 +1,169 @@
+-- What a step on one table makes of the first tables, and steps one after another.
+use Rattle.std.proofs.Common.{◌≡◌, ℕ, List, [], ◌∷◌, ◌+◌, ◌<◌, ◌≤◌, length, drop, get_or, refl, sym, ap, subst, ◌∙◌}
+use Rattle.std.proofs.lemmas.List.{drop_more, drop_all}
+use Rattle.sqlite_trees.specs.Tree.{Trees}
+use Rattle.sqlite_rules.specs.Edit.{IsNoIndex}
+use Rattle.sqlite.specs.State.{State, HasCleanDisk, KeepsCommit, Survives}
+use Rattle.mr_model.specs.Texts.{Text}
+use Rattle.mr_model.specs.Tables.{MetaRow, VectorRow, BookingRow, ErrorRow}
+use Rattle.mr_model.specs.First.{WriteRow, UndoRow, FirstTables}
+use Rattle.mr_rows.specs.Schema.{first_schema}
+use Rattle.mr_rows.specs.Form.{Form, room_form, vector_form, booking_form, error_form}
+use Rattle.mr_rows.specs.Kept.{IsHeld, first_meta, in_order}
+use Rattle.mr_rows.proofs.TableLemmas.{overlaid, Turns}
+use Rattle.mr_rows.proofs.StepLemmas.{none_of, keeps_then, clean_before}
+use Rattle.mr_first.specs.Forms.{first_meta_form, write_form, undo_form}
+use Rattle.mr_first.specs.Kept.{AreHeldFirst, IsFirst, IsFirstStep, IsAskedFirst, IsFirstUnderWay, first_in}
+
+-- ---- the tables lie in trees that are no indexes
+
+pub no_index-0 : IsNoIndex first_schema 0
+no_index-0 = none_of 0 first_schema.indexes refl
+
+pub no_index-2 : IsNoIndex first_schema 2
+no_index-2 = none_of 2 first_schema.indexes refl
+
+pub no_index-4 : IsNoIndex first_schema 4
+no_index-4 = none_of 4 first_schema.indexes refl
+
+pub no_index-6 : IsNoIndex first_schema 6
+no_index-6 = none_of 6 first_schema.indexes refl
+
+pub no_index-8 : IsNoIndex first_schema 8
+no_index-8 = none_of 8 first_schema.indexes refl
+
+pub no_index-10 : IsNoIndex first_schema 10
+no_index-10 = none_of 10 first_schema.indexes refl
+
+pub no_index-12 : IsNoIndex first_schema 12
+no_index-12 = none_of 12 first_schema.indexes refl
+
+abbrev SameTrees : Trees → Trees → Type 0
+SameTrees a b = (t : ℕ) → IsNoIndex first_schema t → a t ≡ b t
+
+tables_same : (a b : Trees) → SameTrees a b → first_in a ≡ first_in b
+unfolding first_in
+tables_same a b same =
+    let meta = same 0 no_index-0 in
+    let room = same 2 no_index-2 in
+    let vector = same 4 no_index-4 in
+    let write = same 6 no_index-6 in
+    let undo = same 8 no_index-8 in
+    let booking = same 10 no_index-10 in
+    let error = same 12 no_index-12 in
+    λ i. record {
+      meta = first_meta (in_order first_meta_form (meta i));
+      room = in_order room_form (room i);
+      vector = in_order vector_form (vector i);
+      write_log = in_order write_form (write i);
+      undo = in_order undo_form (undo i);
+      booking = in_order booking_form (booking i);
+      errorlog = in_order error_form (error i);
+    }
+
+held_same : (a b : Trees) → SameTrees a b → AreHeldFirst b → AreHeldFirst a
+held_same a b same held = record {
+  meta = subst (IsHeld first_meta_form) (sym (same 0 no_index-0)) held.meta;
+  room = subst (IsHeld room_form) (sym (same 2 no_index-2)) held.room;
+  vector = subst (IsHeld vector_form) (sym (same 4 no_index-4)) held.vector;
+  write_log = subst (IsHeld write_form) (sym (same 6 no_index-6)) held.write_log;
+  undo = subst (IsHeld undo_form) (sym (same 8 no_index-8)) held.undo;
+  booking = subst (IsHeld booking_form) (sym (same 10 no_index-10)) held.booking;
+  errorlog = subst (IsHeld error_form) (sym (same 12 no_index-12)) held.errorlog;
+}
+
+-- where one table turns, the others stay
+step_of : {R K : Type 0} (f : Form R K) (old new : State) (xs : List R) (t : FirstTables) (turns : Turns first_schema f old new xs) → AreHeldFirst (overlaid old.now.trees f.table.tree turns.rows)
+    → first_in (overlaid old.now.trees f.table.tree turns.rows) ≡ t → IsFirstStep old new t
+step_of f old new xs t turns held tables = record {
+  ours = record { schema = turns.schema; held = held_same _ _ turns.trees held };
+  tables_are = tables_same _ _ turns.trees ∙ tables;
+  committed = turns.committed;
+  within = turns.within;
+}
+
+pub meta_step : (old new : State) (xs : List MetaRow) → IsFirst old.now → Turns first_schema first_meta_form old new xs → IsFirstStep old new (record (first_in old.now.trees) { meta = first_meta xs })
+unfolding first_in
+meta_step old new xs first turns =
+    let was = first.held in
+    step_of first_meta_form old new xs _ turns (record { meta = turns.held; room = was.room; vector = was.vector; write_log = was.write_log; undo = was.undo; booking = was.booking; errorlog = was.errorlog }) (ap (λ ys. record (first_in old.now.trees) { meta = first_meta ys }) turns.rows_are)
+
+pub room_step : (old new : State) (xs : List Text) → IsFirst old.now → Turns first_schema room_form old new xs → IsFirstStep old new (record (first_in old.now.trees) { room = xs })
+unfolding first_in
+room_step old new xs first turns =
+    let was = first.held in
+    step_of room_form old new xs _ turns (record { meta = was.meta; room = turns.held; vector = was.vector; write_log = was.write_log; undo = was.undo; booking = was.booking; errorlog = was.errorlog }) (ap (λ ys. record (first_in old.now.trees) { room = ys }) turns.rows_are)
+
+pub vector_step : (old new : State) (xs : List VectorRow) → IsFirst old.now → Turns first_schema vector_form old new xs → IsFirstStep old new (record (first_in old.now.trees) { vector = xs })
+unfolding first_in
+vector_step old new xs first turns =
+    let was = first.held in
+    step_of vector_form old new xs _ turns (record { meta = was.meta; room = was.room; vector = turns.held; write_log = was.write_log; undo = was.undo; booking = was.booking; errorlog = was.errorlog }) (ap (λ ys. record (first_in old.now.trees) { vector = ys }) turns.rows_are)
+
+pub write_step : (old new : State) (xs : List WriteRow) → IsFirst old.now → Turns first_schema write_form old new xs → IsFirstStep old new (record (first_in old.now.trees) { write_log = xs })
+unfolding first_in
+write_step old new xs first turns =
+    let was = first.held in
+    step_of write_form old new xs _ turns (record { meta = was.meta; room = was.room; vector = was.vector; write_log = turns.held; undo = was.undo; booking = was.booking; errorlog = was.errorlog }) (ap (λ ys. record (first_in old.now.trees) { write_log = ys }) turns.rows_are)
+
+pub undo_step : (old new : State) (xs : List UndoRow) → IsFirst old.now → Turns first_schema undo_form old new xs → IsFirstStep old new (record (first_in old.now.trees) { undo = xs })
+unfolding first_in
+undo_step old new xs first turns =
+    let was = first.held in
+    step_of undo_form old new xs _ turns (record { meta = was.meta; room = was.room; vector = was.vector; write_log = was.write_log; undo = turns.held; booking = was.booking; errorlog = was.errorlog }) (ap (λ ys. record (first_in old.now.trees) { undo = ys }) turns.rows_are)
+
+pub booking_step : (old new : State) (xs : List BookingRow) → IsFirst old.now → Turns first_schema booking_form old new xs → IsFirstStep old new (record (first_in old.now.trees) { booking = xs })
+unfolding first_in
+booking_step old new xs first turns =
+    let was = first.held in
+    step_of booking_form old new xs _ turns (record { meta = was.meta; room = was.room; vector = was.vector; write_log = was.write_log; undo = was.undo; booking = turns.held; errorlog = was.errorlog }) (ap (λ ys. record (first_in old.now.trees) { booking = ys }) turns.rows_are)
+
+pub error_step : (old new : State) (xs : List ErrorRow) → IsFirst old.now → Turns first_schema error_form old new xs → IsFirstStep old new (record (first_in old.now.trees) { errorlog = xs })
+unfolding first_in
+error_step old new xs first turns =
+    let was = first.held in
+    step_of error_form old new xs _ turns (record { meta = was.meta; room = was.room; vector = was.vector; write_log = was.write_log; undo = was.undo; booking = was.booking; errorlog = turns.held }) (ap (λ ys. record (first_in old.now.trees) { errorlog = ys }) turns.rows_are)
+
+-- ---- one after another
+
+-- a step is made of those that are left
+goes_on : (first now next : State) (one rest both : FirstTables → FirstTables) (whole : FirstTables) → ((t : FirstTables) → both t ≡ rest (one t)) → IsFirstUnderWay first now (both (first_in now.now.trees)) whole
+    → (IsAskedFirst now next → IsFirstStep now next (one (first_in now.now.trees))) × (HasCleanDisk next → KeepsCommit now next) → Survives now next (λ _. ⊥)
+    → IsFirstUnderWay first next (rest (first_in next.now.trees)) whole
+goes_on first now next one rest both whole parts way made s = (
+  λ asked.
+      let so_far = way.0 (clean_before now next s asked.0, asked.1, asked.2) in
+      let step = made.0 (asked.0, so_far.0.within, so_far.0.ours) in (
+        record { ours = step.ours; tables_are = refl; committed = step.committed ∙ so_far.0.committed; within = step.within },
+        ap rest step.tables_are ∙ sym (parts (first_in now.now.trees)) ∙ so_far.1,
+      ),
+  λ clean. keeps_then first now next (way.1 (clean_before now next s clean)) (made.1 clean),
+)
+
+-- the same at an element of a list, of which the elements behind it are left
+pub goes_on_at : {X : Type 0} (first now next : State) (part : List X → FirstTables → FirstTables) (xs : List X) (i : ℕ) (x : X) (whole : FirstTables)
+    → ((x : X) (rest : List X) (t : FirstTables) → part (x ∷ rest) t ≡ part rest (part (x ∷ []) t)) → i < length xs → x ≡ get_or xs i x
+    → IsFirstUnderWay first now (part (drop i xs) (first_in now.now.trees)) whole
+    → (IsAskedFirst now next → IsFirstStep now next (part (x ∷ []) (first_in now.now.trees))) × (HasCleanDisk next → KeepsCommit now next) → Survives now next (λ _. ⊥)
+    → IsFirstUnderWay first next (part (drop (i + 1) xs) (first_in next.now.trees)) whole
+goes_on_at first now next part xs i x whole parts low is way made s =
+    let rest = drop (i + 1) xs in
+    let split : drop i xs ≡ x ∷ rest = drop_more xs i x low ∙ ap (λ y. y ∷ rest) (sym is) in
+    goes_on first now next (part (x ∷ [])) (part rest) (part (drop i xs)) whole (λ t. ap (λ ys. part ys t) split ∙ parts x rest t) way made s
+
+-- behind the last element
+pub all_made : {X : Type 0} (first now : State) (part : List X → FirstTables → FirstTables) (xs : List X) (i : ℕ) → ((t : FirstTables) → part [] t ≡ t) → length xs ≤ i
+    → IsFirstUnderWay first now (part (drop i xs) (first_in now.now.trees)) (part xs (first_in first.now.trees))
+    → (IsAskedFirst first now → IsFirstStep first now (part xs (first_in first.now.trees))) × (HasCleanDisk now → KeepsCommit first now)
+all_made first now part xs i none high way = (
+  λ asked.
+      let so_far = way.0 asked in
+      let here = first_in now.now.trees in
+      record {
+        ours = so_far.0.ours;
+        tables_are = sym (none here) ∙ ap (λ ys. part ys here) (sym (drop_all i xs high)) ∙ so_far.1;
+        committed = so_far.0.committed;
+        within = so_far.0.within;
+      },
+  way.1,
+)

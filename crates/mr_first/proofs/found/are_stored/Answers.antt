@@ -1,0 +1,13 @@
+use Rattle.std.proofs.Common.{rules, arith, sym, ap, ◌∙◌}
+use Rattle.mr_rows.specs.Shown.{IsShownAs}
+use Rattle.mr_rows.proofs.FoundLemmas.{one_more, all_of}
+use Rattle.mr_first.proofs.found.are_stored.Goals as goal
+
+pub rows-preserved : goal.rows-preserved
+rows-preserved g c =
+    let form = g.R.FirstRow.form in
+    let read = c.in_ok-read.ensures in
+    one_more (IsShownAs form) _ c.rows.row-index c.row-item.result (search rules) (search rules) (ap form.cells (sym read.row) ∙ read.cells) c.rows.invariant
+
+pub returns : goal.returns
+returns g c = all_of (IsShownAs g.R.FirstRow.form) _ c.rows.row-index (search (rules, arith)) c.rows.invariant

@@ -1,0 +1,26 @@
+use Rattle.std.proofs.Common.{rules}
+use Rattle.sqlite_trees.specs.Tree.{Trees}
+use Rattle.sqlite.specs.Held.{state}
+use Rattle.mr_rows.specs.Form.{room_form, vector_form, booking_form, error_form}
+use Rattle.mr_rows.specs.Shown.{AreStoredAs, IsMeta}
+use Rattle.mr_first.specs.Forms.{first_meta_form, write_form, undo_form}
+use Rattle.mr_first.specs.Shown.{AreFirstRows}
+use Rattle.mr_first.proofs.ReadLemmas.{looks_then}
+use Rattle.mr_first.proofs.found.find_first.Goals as goal
+
+-- what the tables beside `meta` have
+abbrev Rows : Trees → Type 0
+Rows t =
+    (AreStoredAs room_form t × AreStoredAs vector_form t)
+    × ((AreStoredAs write_form t × AreStoredAs undo_form t) × (AreStoredAs booking_form t × AreStoredAs error_form t))
+
+pub returns-in_err-find_rows-clause-looks : goal.returns-in_err-find_rows-clause-looks
+returns-in_err-find_rows-clause-looks g c = let read = c.find_rows.ensures.looks in (read.0, read.1, λ clean here. (search rules, search rules))
+
+pub returns-clause-looks : goal.returns-clause-looks
+returns-clause-looks g c =
+    let a = state g.S.Store c.args.conn.now in
+    let b = state g.S.Store c.find_rows.new.conn in
+    let d = state g.S.Store c.find_meta.new.conn in
+    looks_then a b d c.in_ok-find_rows.field-0 (λ _. Rows a.now.trees) c.find_meta.result (λ db m. AreStoredAs first_meta_form db.trees × IsMeta db.trees m) (λ m. AreFirstRows a.now.trees × IsMeta a.now.trees m)
+    (λ here m p q. (record { meta = q.0; room = p.0.0; vector = p.0.1; write_log = p.1.0.0; undo = p.1.0.1; booking = p.1.1.0; errorlog = p.1.1.1 }, q.1)) c.in_ok-find_rows.ensures.looks c.find_meta.ensures.looks

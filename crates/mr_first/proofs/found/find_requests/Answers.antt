@@ -1,0 +1,18 @@
+use Rattle.std.proofs.Common.{rules}
+use Rattle.sqlite.specs.Held.{state}
+use Rattle.mr_rows.specs.Form.{booking_form, error_form}
+use Rattle.mr_rows.specs.Shown.{AreStoredAs}
+use Rattle.mr_first.specs.Forms.{write_form, undo_form}
+use Rattle.mr_first.proofs.ReadLemmas.{looks_then}
+use Rattle.mr_first.proofs.found.find_requests.Goals as goal
+
+pub returns-in_err-find_two-clause-looks : goal.returns-in_err-find_two-clause-looks
+returns-in_err-find_two-clause-looks g c = let read = c.find_two.ensures.looks in (read.0, read.1, λ clean here. (search rules, search rules))
+
+pub returns-clause-looks : goal.returns-clause-looks
+returns-clause-looks g c =
+    let a = state g.S.Store c.args.conn.now in
+    let b = state g.S.Store c.find_two.new.conn in
+    let d = state g.S.Store c.find_two-2.new.conn in
+    looks_then a b d c.in_ok-find_two.field-0 (λ _. AreStoredAs write_form a.now.trees × AreStoredAs undo_form a.now.trees) c.find_two-2.result (λ db _. AreStoredAs booking_form db.trees × AreStoredAs error_form db.trees) (λ _. (AreStoredAs write_form a.now.trees × AreStoredAs undo_form a.now.trees) × (AreStoredAs booking_form a.now.trees × AreStoredAs error_form a.now.trees)) (λ here y p q. (p, q))
+    c.in_ok-find_two.ensures.looks c.find_two-2.ensures.looks

@@ -1,0 +1,11 @@
+use Rattle.std.proofs.Common.{rules}
+use Rattle.std.proofs.lemmas.Cmp.{on_total}
+use Rattle.std.proofs.lemmas.List.MinMax.{ranks_by}
+use Rattle.std.proofs.lemmas.List.Sorted.{answers_always}
+use Rattle.std.proofs.lemmas.Result.{on_ok_weaker}
+use Rattle.mr_replay.proofs.Ids.{ids_total}
+use Rattle.mr_first.specs.Forms.{write_id}
+use Rattle.mr_first.proofs.logs.sort_writes.Goals as goal
+
+pub returns-clause-sorted : goal.returns-clause-sorted
+returns-clause-sorted c = on_ok_weaker c.sort_by.result (λ sorted. sorted _ (ranks_by (on_total write_id ids_total) (λ row. row)) (answers_always _ _ _ (λ f a r q k. search rules))) c.sort_by.ensures.sorted

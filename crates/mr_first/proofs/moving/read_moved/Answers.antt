@@ -1,0 +1,21 @@
+use Rattle.std.proofs.Common.{◌≡◌, ◌∙◌, rules}
+use Rattle.sqlite.specs.Held.{state}
+use Rattle.mr_model.specs.First.{moved_log}
+use Rattle.mr_rows.proofs.QueryLemmas.{told_so}
+use Rattle.mr_first.specs.Kept.{first_in}
+use Rattle.mr_first.proofs.ReadLemmas.{reads_made}
+use Rattle.mr_first.proofs.moving.read_moved.Goals as goal
+
+pub returns-in_err-logs-clause-reads : goal.returns-in_err-logs-clause-reads
+returns-in_err-logs-clause-reads g c = let read = c.read_logs.ensures.reads in (read.0, read.1, λ clean kept. (search rules, search rules))
+
+pub returns-clause-reads : goal.returns-clause-reads
+returns-clause-reads g c =
+    let a = state g.S.Store c.args.conn.now in
+    let b = state g.S.Store c.read_logs.new.conn in
+    let first = first_in a.now.trees in
+    let logs = c.in_ok-logs.logs in
+    let writes : c.deref.result.now ≡ logs.0.items = search rules in
+    let undo : c.deref-2.result.now ≡ logs.1.items = search rules in
+    reads_made a b logs (λ r. (r.0.items ≡ first.write_log) × (r.1.items ≡ first.undo)) c.moved_rows.result _
+    (λ kept read. told_so c.moved_rows.result _ _ (λ rows is. is a.now.trees (undo ∙ read.1) ∙ (let w = writes ∙ read.0 in let u = undo ∙ read.1 in λ i. moved_log (w i) (u i))) c.moved_rows.ensures.moved) c.in_ok-logs.ensures.reads

@@ -1,0 +1,103 @@
+ghost use Rattle.std.specs.Prelude.{◌≡◌, false, OnOk};
+ghost use Rattle.std.specs.List.{All};
+ghost use Rattle.sqlite.specs.Held.{state};
+ghost use Rattle.mr_rows.specs.Form.{room_form, vector_form, booking_form, error_form};
+ghost use Rattle.mr_rows.specs.Shown.{IsShownAs, AreStoredAs, IsMeta};
+ghost use Rattle.mr_first.specs.Forms.{first_meta_form, write_form, undo_form};
+ghost use Rattle.mr_first.specs.Kept.{LooksFirst};
+ghost use Rattle.mr_first.specs.Shown.{AreFirstRows, IsNumbered};
+
+use crate::first_rows::FirstRow;
+use crate::meta_row::{only_meta, only_number};
+use crate::queries::{select_all_meta, select_numbers};
+use crate::rows::{UndoRow, WriteRow};
+use mr_base::RoomName;
+use mr_tables::{BookingRow, ErrorRow, MetaRow, VectorRow};
+use sqlite::{Alter, Connection, Error, Row};
+use std::alloc::Global;
+
+// Of each table all rows are read, so that a row that breaks the table's rules or the limits is found.
+
+fn find_meta<S: Alter>(conn: &mut Connection<S>) -> Result<Option<MetaRow>, Error>
+    requires autocommit { conn.old.in_transaction ≡ false }
+    ensures autocommit { conn.new.in_transaction ≡ false }
+    ensures looks { LooksFirst (state S.Store conn.old) (state S.Store conn.new) result (λ m. AreStoredAs first_meta_form (state S.Store conn.old).now.trees × IsMeta (state S.Store conn.old).now.trees m) }
+{
+    let rows = select_all_meta(conn)?;
+    only_meta(&rows)
+}
+
+fn are_stored<R: FirstRow>(alloc: Global, rows: &[Row]) -> Result<(), Error>
+    ensures { OnOk result (All (IsShownAs R.form) rows.now) }
+{
+    'rows: for row in rows {
+        R::read(alloc, row)?;
+    }
+    Ok(())
+}
+
+fn find_stored<R: FirstRow, S: Alter>(conn: &mut Connection<S>, alloc: Global) -> Result<(), Error>
+    requires autocommit { conn.old.in_transaction ≡ false }
+    ensures autocommit { conn.new.in_transaction ≡ false }
+    ensures looks { LooksFirst (state S.Store conn.old) (state S.Store conn.new) result (λ _. AreStoredAs R.form (state S.Store conn.old).now.trees) }
+{
+    let rows = R::select_all(conn)?;
+    are_stored::<R>(alloc, &rows)
+}
+
+// The rows of two tables.
+fn find_two<A: FirstRow, B: FirstRow, S: Alter>(
+    conn: &mut Connection<S>,
+    alloc: Global,
+) -> Result<(), Error>
+    requires autocommit { conn.old.in_transaction ≡ false }
+    ensures autocommit { conn.new.in_transaction ≡ false }
+    ensures looks { LooksFirst (state S.Store conn.old) (state S.Store conn.new) result (λ _. AreStoredAs A.form (state S.Store conn.old).now.trees × AreStoredAs B.form (state S.Store conn.old).now.trees) }
+{
+    find_stored::<A, S>(conn, alloc)?;
+    find_stored::<B, S>(conn, alloc)
+}
+
+// Both logs, and both tables of the board.
+fn find_requests<S: Alter>(conn: &mut Connection<S>, alloc: Global) -> Result<(), Error>
+    requires autocommit { conn.old.in_transaction ≡ false }
+    ensures autocommit { conn.new.in_transaction ≡ false }
+    ensures looks { LooksFirst (state S.Store conn.old) (state S.Store conn.new) result (λ _. (AreStoredAs write_form (state S.Store conn.old).now.trees × AreStoredAs undo_form (state S.Store conn.old).now.trees) × (AreStoredAs booking_form (state S.Store conn.old).now.trees × AreStoredAs error_form (state S.Store conn.old).now.trees)) }
+{
+    find_two::<WriteRow, UndoRow, S>(conn, alloc)?;
+    find_two::<BookingRow, ErrorRow, S>(conn, alloc)
+}
+
+// The rooms and the vector, and then the tables of requests.
+fn find_rows<S: Alter>(conn: &mut Connection<S>, alloc: Global) -> Result<(), Error>
+    requires autocommit { conn.old.in_transaction ≡ false }
+    ensures autocommit { conn.new.in_transaction ≡ false }
+    ensures looks { LooksFirst (state S.Store conn.old) (state S.Store conn.new) result (λ _. (AreStoredAs room_form (state S.Store conn.old).now.trees × AreStoredAs vector_form (state S.Store conn.old).now.trees) × ((AreStoredAs write_form (state S.Store conn.old).now.trees × AreStoredAs undo_form (state S.Store conn.old).now.trees) × (AreStoredAs booking_form (state S.Store conn.old).now.trees × AreStoredAs error_form (state S.Store conn.old).now.trees))) }
+{
+    find_two::<RoomName, VectorRow, S>(conn, alloc)?;
+    find_requests(conn, alloc)
+}
+
+/// Finds the row of `meta`, if there is one, and that all rows of all tables of the first schema keep the tables' rules and the limits.
+pub fn find_first<S: Alter>(
+    conn: &mut Connection<S>,
+    alloc: Global,
+) -> Result<Option<MetaRow>, Error>
+    requires autocommit { conn.old.in_transaction ≡ false }
+    ensures autocommit { conn.new.in_transaction ≡ false }
+    ensures looks { LooksFirst (state S.Store conn.old) (state S.Store conn.new) result (λ m. AreFirstRows (state S.Store conn.old).now.trees × IsMeta (state S.Store conn.old).now.trees m) }
+{
+    find_rows(conn, alloc)?;
+    find_meta(conn)
+}
+
+/// The number of the schema that the row of `meta` has, if there is one. It is asked before all rows are looked at: a database with the
+/// tables of the first schema and another number isn't of that schema.
+pub fn first_number<S: Alter>(conn: &mut Connection<S>) -> Result<Option<i64>, Error>
+    requires autocommit { conn.old.in_transaction ≡ false }
+    ensures autocommit { conn.new.in_transaction ≡ false }
+    ensures looks { LooksFirst (state S.Store conn.old) (state S.Store conn.new) result (IsNumbered (state S.Store conn.old).now.trees) }
+{
+    let rows = select_numbers(conn)?;
+    only_number(&rows)
+}

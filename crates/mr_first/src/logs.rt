@@ -1,0 +1,213 @@
+ghost use Rattle.std.specs.Prelude.{◌≡◌, [], ◌∷◌, false, map, pos, IfOk, OnOk, refl};
+ghost use Rattle.std.specs.List.Sorted.{IsPermutation, IsSorted};
+ghost use Rattle.sqlite_value.specs.declared.value.Value.TheVariants.{Null, Int, Text};
+ghost use Rattle.sqlite_value.specs.Order.{column, bytes};
+ghost use Rattle.sqlite.specs.Held.{state};
+ghost use Rattle.mr_model.specs.Writes.{Id};
+ghost use Rattle.mr_base.specs.Ids.{id_cmp};
+ghost use Rattle.mr_rows.specs.Cells.{nat_of};
+ghost use Rattle.mr_rows.specs.Shown.{columns_from};
+ghost use Rattle.mr_first.specs.Cells.{write_in, undo_in};
+ghost use Rattle.mr_first.specs.Forms.{write_id, undo_id, write_form, undo_form};
+ghost use Rattle.mr_first.specs.Kept.{ReadsFirst, first_in};
+ghost use Rattle.mr_first.specs.Parts.{put_writes, put_undo};
+
+use crate::cells::read_first_place;
+use crate::first_rows::{FirstRow, is_id_before};
+use crate::queries::ask_first;
+use crate::rows::{UndoRow, WriteRow};
+use mr_rows::cells::{read_name, read_server, read_text, read_title, read_u32, read_u64};
+use mr_rows::compare_ids;
+use mr_rows::numbers::{Number, PlaceNumber};
+use mr_tables::MeetingCells;
+use sqlite::{Alter, Connection, Error, Row, Transaction, params};
+use std::alloc::{AllocError, Global};
+
+// The columns are counted from 0, in the order of the table.
+
+impl FirstRow for WriteRow {
+    ghost Key = { Id };
+
+    ghost form = { write_form };
+
+    ghost put_in = { put_writes };
+
+    fn is_before(a: &WriteRow, b: &WriteRow) -> bool {
+        is_id_before((a.server, a.n), (b.server, b.n))
+    }
+
+    fn read(alloc: Global, row: &Row) -> Result<WriteRow, Error> {
+        let server = read_server(row, 0)?;
+        let n = read_u32(row, 1)?;
+        let time = read_u64(row, 2)?;
+        let room = read_name(alloc, row, 3)?;
+        let meeting = read_meeting(alloc, row)?;
+        let seq = read_u64(row, 7)?;
+        Ok(WriteRow {
+            server,
+            n,
+            time,
+            room,
+            meeting,
+            seq,
+        })
+    }
+
+    fn select_all<S: Alter>(conn: &mut Connection<S>) -> Result<Vec<Row>, Error> {
+        ask_first(
+            conn,
+            "SELECT server, n, tm, room, length, choices, title, seq FROM write_log",
+        )
+    }
+
+    fn put<S: Alter>(&self, tx: &mut Transaction<'_, S>, _alloc: Global) -> Result<usize, Error> {
+        let time = Number::new(self.time, 2)?;
+        let seq = Number::new(self.seq, 7)?;
+        let meeting = &self.meeting;
+        tx.execute(
+            "INSERT OR REPLACE INTO write_log (server, n, tm, room, length, choices, title, seq) VALUES (?1, ?2, ?3, ?4, ?5, ?6, ?7, ?8)",
+            params![
+                self.server.number(),
+                self.n,
+                time,
+                self.room.as_str(),
+                meeting.length,
+                meeting.choices.as_str(),
+                meeting.title.as_str(),
+                seq
+            ],
+        )
+    }
+
+    ghost stored_is = { λ r is. is };
+
+    ghost put_none = { λ t. refl };
+
+    ghost put_more = { λ x xs t. refl };
+}
+
+/// The meeting in the columns 4 to 6 of a row of `write_log`.
+fn read_meeting(alloc: Global, row: &Row) -> Result<MeetingCells, Error>
+    ensures meeting { IfOk result (λ m. m ≡ record { length = nat_of (column row.now 4); choices = bytes (column row.now 5); title = bytes (column row.now 6) }) }
+    ensures cells { IfOk result (λ m. Int (pos m.length) ∷ Text m.choices ∷ Text m.title ∷ [] ≡ columns_from 4 3 row.now) }
+{
+    let length = read_u32(row, 4)?;
+    let choices = read_text(row, 5)?;
+    let title = read_title(alloc, row, 6)?;
+    Ok(MeetingCells {
+        length,
+        choices,
+        title,
+    })
+}
+
+impl FirstRow for UndoRow {
+    ghost Key = { Id };
+
+    ghost form = { undo_form };
+
+    ghost put_in = { put_undo };
+
+    fn is_before(a: &UndoRow, b: &UndoRow) -> bool {
+        is_id_before((a.server, a.n), (b.server, b.n))
+    }
+
+    fn read(_alloc: Global, row: &Row) -> Result<UndoRow, Error> {
+        let server = read_server(row, 0)?;
+        let n = read_u32(row, 1)?;
+        let place = read_first_place(row, 2)?;
+        Ok(UndoRow { server, n, place })
+    }
+
+    fn select_all<S: Alter>(conn: &mut Connection<S>) -> Result<Vec<Row>, Error> {
+        ask_first(conn, "SELECT server, n, place FROM undo")
+    }
+
+    fn put<S: Alter>(&self, tx: &mut Transaction<'_, S>, _alloc: Global) -> Result<usize, Error> {
+        tx.execute(
+            "INSERT OR REPLACE INTO undo (server, n, place) VALUES (?1, ?2, ?3)",
+            params![
+                self.server.number(),
+                self.n,
+                PlaceNumber { place: self.place }
+            ],
+        )
+    }
+
+    ghost stored_is = { λ r is. is };
+
+    ghost put_none = { λ t. refl };
+
+    ghost put_more = { λ x xs t. refl };
+}
+
+/// The rows of an answer, in its order.
+fn read_all<R: FirstRow>(alloc: Global, rows: &[Row]) -> Result<Vec<R>, Error>
+    ensures { IfOk result (λ out. out.items ≡ map (λ row. R.form.row_in (Null ∷ row)) rows.now) }
+{
+    let mut out = Vec::new(alloc);
+    'rows: for row in rows {
+        out.push(R::read(alloc, row)?)?;
+    }
+    Ok(out)
+}
+
+/// Sorts the rows by their ids.
+fn sort_writes(rows: &mut Vec<WriteRow>) -> Result<(), AllocError>
+    ensures same { IsPermutation rows.old.items rows.new.items }
+    ensures sorted { OnOk result (IsSorted (λ a b. id_cmp (write_id a) (write_id b)) rows.new.items) }
+{
+    rows.sort_by(|a, b| compare_ids((a.server, a.n), (b.server, b.n)))
+}
+
+/// The same of the other log.
+fn sort_undo(rows: &mut Vec<UndoRow>) -> Result<(), AllocError>
+    ensures same { IsPermutation rows.old.items rows.new.items }
+    ensures sorted { OnOk result (IsSorted (λ a b. id_cmp (undo_id a) (undo_id b)) rows.new.items) }
+{
+    rows.sort_by(|a, b| compare_ids((a.server, a.n), (b.server, b.n)))
+}
+
+fn ordered_writes(alloc: Global, rows: &[Row]) -> Result<Vec<WriteRow>, Error>
+    ensures same { IfOk result (λ out. IsPermutation (map (λ row. write_in (Null ∷ row)) rows.now) out.items) }
+    ensures sorted { IfOk result (λ out. IsSorted (λ a b. id_cmp (write_id a) (write_id b)) out.items) }
+{
+    let mut out = read_all(alloc, rows)?;
+    sort_writes(&mut out)?;
+    Ok(out)
+}
+
+fn ordered_undo(alloc: Global, rows: &[Row]) -> Result<Vec<UndoRow>, Error>
+    ensures same { IfOk result (λ out. IsPermutation (map (λ row. undo_in (Null ∷ row)) rows.now) out.items) }
+    ensures sorted { IfOk result (λ out. IsSorted (λ a b. id_cmp (undo_id a) (undo_id b)) out.items) }
+{
+    let mut out = read_all(alloc, rows)?;
+    sort_undo(&mut out)?;
+    Ok(out)
+}
+
+/// All rows of `write_log`, by id.
+pub(crate) fn all_writes<S: Alter>(
+    conn: &mut Connection<S>,
+    alloc: Global,
+) -> Result<Vec<WriteRow>, Error>
+    requires autocommit { conn.old.in_transaction ≡ false }
+    ensures autocommit { conn.new.in_transaction ≡ false }
+    ensures reads { ReadsFirst (state S.Store conn.old) (state S.Store conn.new) result (λ rows. rows.items ≡ (first_in (state S.Store conn.old).now.trees).write_log) }
+{
+    let rows = WriteRow::select_all(conn)?;
+    ordered_writes(alloc, &rows)
+}
+
+/// All rows of `undo`, by id.
+pub(crate) fn all_undo<S: Alter>(
+    conn: &mut Connection<S>,
+    alloc: Global,
+) -> Result<Vec<UndoRow>, Error>
+    requires autocommit { conn.old.in_transaction ≡ false }
+    ensures autocommit { conn.new.in_transaction ≡ false }
+    ensures reads { ReadsFirst (state S.Store conn.old) (state S.Store conn.new) result (λ rows. rows.items ≡ (first_in (state S.Store conn.old).now.trees).undo) }
+{
+    let rows = UndoRow::select_all(conn)?;
+    ordered_undo(alloc, &rows)
+}

@@ -1,0 +1,82 @@
+ghost use Rattle.std.specs.Prelude.{◌≡◌, ◌∷◌, false, map, IfOk, OnOk, Some};
+ghost use Rattle.std.specs.List.{All};
+ghost use Rattle.sqlite_value.specs.declared.value.Value.TheVariants.{Null, Int};
+ghost use Rattle.sqlite_value.specs.Order.{column};
+ghost use Rattle.sqlite.specs.Held.{state};
+ghost use Rattle.mr_rows.specs.Cells.{meta_in};
+ghost use Rattle.mr_rows.specs.Reads.{first_of};
+ghost use Rattle.mr_rows.specs.Shown.{columns_from, IsShownAs, listed};
+ghost use Rattle.mr_first.specs.Cells.{first_meta_cells};
+ghost use Rattle.mr_first.specs.Forms.{first_meta_form};
+ghost use Rattle.mr_first.specs.Kept.{ReadsFirst, first_in};
+
+use crate::queries::select_all_meta;
+use mr_rows::cells::{read_server, read_u32, read_u64};
+use mr_tables::MetaRow;
+use sqlite::{Alter, Connection, Error, Row};
+
+/// The row of `meta` of the first schema; its columns are counted from 0.
+fn read_meta(row: &Row) -> Result<MetaRow, Error>
+    ensures row { IfOk result (λ r. r ≡ meta_in (Null ∷ row.now)) }
+    ensures cells { IfOk result (λ r. first_meta_cells r ≡ columns_from 0 7 row.now) }
+{
+    let one = read_u32(row, 0)?;
+    let schema = read_u32(row, 1)?;
+    if one != 1 || schema != 1 {
+        return Err(Error::IntegralValueOutOfRange(0));
+    }
+    let server = read_server(row, 2)?;
+    let primary = read_server(row, 3)?;
+    let commits = read_u64(row, 4)?;
+    let dropped = read_u64(row, 5)?;
+    let clock = read_u64(row, 6)?;
+    Ok(MetaRow {
+        server,
+        primary,
+        commits,
+        dropped,
+        clock,
+    })
+}
+
+/// The row, if there is one. More than one are refused.
+pub(crate) fn only_meta(rows: &[Row]) -> Result<Option<MetaRow>, Error>
+    ensures whole { OnOk result (All (IsShownAs first_meta_form) rows.now) }
+    ensures row { IfOk result (λ m. map (λ row. meta_in (Null ∷ row)) rows.now ≡ listed m) }
+{
+    match rows {
+        [] => Ok(None),
+        [row] => Ok(Some(read_meta(row)?)),
+        _ => Err(Error::InvalidQuery),
+    }
+}
+
+/// The schema's number that the row has, if there is one. More than one are refused.
+pub(crate) fn only_number(rows: &[Row]) -> Result<Option<i64>, Error>
+    ensures { IfOk result (λ n. map (λ row. column row 0) rows.now ≡ map Int (listed n)) }
+{
+    match rows {
+        [] => Ok(None),
+        [row] => Ok(Some(row.get(0)?)),
+        _ => Err(Error::InvalidQuery),
+    }
+}
+
+fn first_meta(rows: &[Row]) -> Result<MetaRow, Error>
+    ensures { IfOk result (λ row. first_of (map (λ row. meta_in (Null ∷ row)) rows.now) ≡ Some row) }
+{
+    match rows.first() {
+        None => Err(Error::QueryReturnedNoRows),
+        Some(row) => read_meta(row),
+    }
+}
+
+/// The row of `meta`.
+pub(crate) fn the_meta<S: Alter>(conn: &mut Connection<S>) -> Result<MetaRow, Error>
+    requires autocommit { conn.old.in_transaction ≡ false }
+    ensures autocommit { conn.new.in_transaction ≡ false }
+    ensures reads { ReadsFirst (state S.Store conn.old) (state S.Store conn.new) result (λ row. row ≡ (first_in (state S.Store conn.old).now.trees).meta) }
+{
+    let rows = select_all_meta(conn)?;
+    first_meta(&rows)
+}

@@ -1,0 +1,188 @@
+ghost use Rattle.std.specs.Prelude.{◌≡◌, ◌↔◌, [], ◌∷◌, IsTrue};
+ghost use Rattle.sqlite.specs.State.{Survives};
+ghost use Rattle.sqlite.specs.Held.{state};
+ghost use Rattle.mr_model.specs.Calendar.{is_date, date_text};
+ghost use Rattle.mr_tables.specs.SoundRows.{Rise};
+ghost use Rattle.mr_first.specs.Kept.{MakesFirst, first_in};
+ghost use Rattle.mr_first.specs.Parts.{put_meta as with_meta, put_bookings, put_errors, heads_put, logs_put, board_put, tables_put, AreKeysRising};
+
+use crate::first_rows::FirstRow;
+use crate::rows::{UndoRow, WriteRow};
+use crate::tables::First;
+use mr_base::RoomName;
+use mr_rows::numbers::Number;
+use mr_tables::{BookingRow, ErrorRow, MetaRow, VectorRow};
+use sqlite::{Alter, Error, Transaction, params};
+use std::alloc::Global;
+
+fn put_meta<S: Alter>(tx: &mut Transaction<'_, S>, row: &MetaRow) -> Result<usize, Error>
+    ensures same_reference { tx.new.conn.ghost_name ≡ tx.old.conn.ghost_name }
+    ensures put { MakesFirst (state S.Store tx.old.conn.now) (state S.Store tx.new.conn.now) (with_meta row.now (first_in (state S.Store tx.old.conn.now).now.trees)) result }
+    ensures survives { Survives (state S.Store tx.old.conn.now) (state S.Store tx.new.conn.now) (λ _. ⊥) }
+{
+    let commits = Number::new(row.commits, 4)?;
+    let dropped = Number::new(row.dropped, 5)?;
+    let clock = Number::new(row.clock, 6)?;
+    tx.execute(
+        "INSERT OR REPLACE INTO meta (one, schema, server, prim, commits, dropped, clock) VALUES (?1, ?2, ?3, ?4, ?5, ?6, ?7)",
+        params![
+            1u32,
+            1u32,
+            row.server.number(),
+            row.primary.number(),
+            commits,
+            dropped,
+            clock
+        ],
+    )
+}
+
+pub(crate) fn put_booking_cells<S: Alter>(
+    tx: &mut Transaction<'_, S>,
+    row: &BookingRow,
+    day: &str,
+) -> Result<usize, Error>
+    requires day { day.now ≡ date_text row.now.day }
+    requires is_date { IsTrue (is_date row.now.day) }
+    ensures same_reference { tx.new.conn.ghost_name ≡ tx.old.conn.ghost_name }
+    ensures put { MakesFirst (state S.Store tx.old.conn.now) (state S.Store tx.new.conn.now) (put_bookings (row.now ∷ []) (first_in (state S.Store tx.old.conn.now).now.trees)) result }
+    ensures survives { Survives (state S.Store tx.old.conn.now) (state S.Store tx.new.conn.now) (λ _. ⊥) }
+{
+    tx.execute(
+        "INSERT OR REPLACE INTO booking (room, day, start, stop, server, n, title, committed) VALUES (?1, ?2, ?3, ?4, ?5, ?6, ?7, ?8)",
+        params![
+            row.room.as_str(),
+            day,
+            row.start,
+            row.stop,
+            row.server.number(),
+            row.n,
+            row.title.as_str(),
+            row.committed
+        ],
+    )
+}
+
+pub(crate) fn put_error_cells<S: Alter>(
+    tx: &mut Transaction<'_, S>,
+    row: &ErrorRow,
+    day: &str,
+) -> Result<usize, Error>
+    requires day { day.now ≡ date_text row.now.day }
+    requires is_date { IsTrue (is_date row.now.day) }
+    ensures same_reference { tx.new.conn.ghost_name ≡ tx.old.conn.ghost_name }
+    ensures put { MakesFirst (state S.Store tx.old.conn.now) (state S.Store tx.new.conn.now) (put_errors (row.now ∷ []) (first_in (state S.Store tx.old.conn.now).now.trees)) result }
+    ensures survives { Survives (state S.Store tx.old.conn.now) (state S.Store tx.new.conn.now) (λ _. ⊥) }
+{
+    let time = Number::new(row.time, 7)?;
+    let seq = Number::new(row.seq, 8)?;
+    tx.execute(
+        "INSERT OR REPLACE INTO errorlog (room, day, start, stop, server, n, title, tm, seq) VALUES (?1, ?2, ?3, ?4, ?5, ?6, ?7, ?8, ?9)",
+        params![
+            row.room.as_str(),
+            day,
+            row.start,
+            row.stop,
+            row.server.number(),
+            row.n,
+            row.title.as_str(),
+            time,
+            seq
+        ],
+    )
+}
+
+fn put_all<R: FirstRow, S: Alter>(
+    tx: &mut Transaction<'_, S>,
+    alloc: Global,
+    rows: &[R],
+) -> Result<(), Error>
+    ensures same_reference { tx.new.conn.ghost_name ≡ tx.old.conn.ghost_name }
+    ensures made { MakesFirst (state S.Store tx.old.conn.now) (state S.Store tx.new.conn.now) (R.put_in rows.now (first_in (state S.Store tx.old.conn.now).now.trees)) result }
+    ensures survives { Survives (state S.Store tx.old.conn.now) (state S.Store tx.new.conn.now) (λ _. ⊥) }
+{
+    'rows: for row in rows {
+        row.put(tx, alloc)?;
+    }
+    Ok(())
+}
+
+/// Puts the numbers of the replica, rooms and rows of the vector.
+fn put_heads<S: Alter>(
+    tx: &mut Transaction<'_, S>,
+    alloc: Global,
+    first: &First,
+) -> Result<(), Error>
+    ensures same_reference { tx.new.conn.ghost_name ≡ tx.old.conn.ghost_name }
+    ensures made { MakesFirst (state S.Store tx.old.conn.now) (state S.Store tx.new.conn.now) (heads_put first.now (first_in (state S.Store tx.old.conn.now).now.trees)) result }
+    ensures survives { Survives (state S.Store tx.old.conn.now) (state S.Store tx.new.conn.now) (λ _. ⊥) }
+{
+    put_meta(tx, &first.meta)?;
+    put_all::<RoomName, S>(tx, alloc, &first.room)?;
+    put_all::<VectorRow, S>(tx, alloc, &first.vector)
+}
+
+/// Puts rows into both logs.
+fn put_logs<S: Alter>(
+    tx: &mut Transaction<'_, S>,
+    alloc: Global,
+    first: &First,
+) -> Result<(), Error>
+    ensures same_reference { tx.new.conn.ghost_name ≡ tx.old.conn.ghost_name }
+    ensures made { MakesFirst (state S.Store tx.old.conn.now) (state S.Store tx.new.conn.now) (logs_put first.now (first_in (state S.Store tx.old.conn.now).now.trees)) result }
+    ensures survives { Survives (state S.Store tx.old.conn.now) (state S.Store tx.new.conn.now) (λ _. ⊥) }
+{
+    put_all::<WriteRow, S>(tx, alloc, &first.write_log)?;
+    put_all::<UndoRow, S>(tx, alloc, &first.undo)
+}
+
+/// Puts rows into both tables of the board.
+fn put_board<S: Alter>(
+    tx: &mut Transaction<'_, S>,
+    alloc: Global,
+    first: &First,
+) -> Result<(), Error>
+    ensures same_reference { tx.new.conn.ghost_name ≡ tx.old.conn.ghost_name }
+    ensures made { MakesFirst (state S.Store tx.old.conn.now) (state S.Store tx.new.conn.now) (board_put first.now (first_in (state S.Store tx.old.conn.now).now.trees)) result }
+    ensures survives { Survives (state S.Store tx.old.conn.now) (state S.Store tx.new.conn.now) (λ _. ⊥) }
+{
+    put_all::<BookingRow, S>(tx, alloc, &first.booking)?;
+    put_all::<ErrorRow, S>(tx, alloc, &first.errorlog)
+}
+
+/// Puts first tables, a row in place of the one with its key, if there is one. Where the keys of each table rise and the database has no
+/// row yet, its first tables are then these.
+pub fn put_tables<S: Alter>(
+    tx: &mut Transaction<'_, S>,
+    alloc: Global,
+    first: &First,
+) -> Result<(), Error>
+    ensures same_reference { tx.new.conn.ghost_name ≡ tx.old.conn.ghost_name }
+    ensures made { MakesFirst (state S.Store tx.old.conn.now) (state S.Store tx.new.conn.now) (tables_put first.now (first_in (state S.Store tx.old.conn.now).now.trees)) result }
+    ensures survives { Survives (state S.Store tx.old.conn.now) (state S.Store tx.new.conn.now) (λ _. ⊥) }
+{
+    put_heads(tx, alloc, first)?;
+    put_logs(tx, alloc, first)?;
+    put_board(tx, alloc, first)
+}
+
+// ---- keys
+
+fn are_rising<R: FirstRow>(rows: &[R]) -> bool
+    ensures { IsTrue result ↔ Rise R.form.before R.form.key rows.now }
+{
+    rows.is_sorted_by(|one, next| R::is_before(one, next))
+}
+
+/// Whether the key of each row is before that of the next in its table, so that none is there twice.
+pub fn are_keys_rising(first: &First) -> bool
+    ensures { IsTrue result ↔ AreKeysRising first.now }
+{
+    let rooms = are_rising::<RoomName>(&first.room);
+    let servers = are_rising::<VectorRow>(&first.vector);
+    let writes = are_rising::<WriteRow>(&first.write_log);
+    let undo = are_rising::<UndoRow>(&first.undo);
+    let bookings = are_rising::<BookingRow>(&first.booking);
+    let errors = are_rising::<ErrorRow>(&first.errorlog);
+    rooms & servers & writes & undo & bookings & errors
+}

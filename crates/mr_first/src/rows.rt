@@ -1,0 +1,51 @@
+use mr_base::{RoomName, ServerId};
+use mr_replay::Place;
+use mr_tables::MeetingCells;
+use std::marker::Model;
+
+/// A row of `write_log`: a kept write, which is a booking. `seq` is its commit number, 0 where it is tentative.
+#[derive(Debug, Drop)]
+pub struct WriteRow {
+    pub server: ServerId,
+    pub n: u32,
+    pub time: u64,
+    pub room: RoomName,
+    pub meeting: MeetingCells,
+    pub seq: u64,
+}
+
+impl Model for WriteRow {
+    ghost use Rattle.mr_model.specs.First as tables;
+
+    ghost Value = { tables.WriteRow };
+
+    ghost view = { λ r. record {
+      server = r.server;
+      n = r.n;
+      time = r.time;
+      room = r.room;
+      length = r.meeting.length;
+      choices = r.meeting.choices;
+      title = r.meeting.title;
+      seq = r.seq;
+    } };
+}
+
+/// A row of `undo`: the place of a kept write, the number of its choice or the error log.
+#[derive(Clone, Copy, Debug)]
+pub struct UndoRow {
+    pub server: ServerId,
+    pub n: u32,
+    pub place: Place,
+}
+
+impl Model for UndoRow {
+    ghost use Rattle.mr_model.specs.First as tables;
+    ghost use Rattle.mr_replay.specs.Places.{place_of, place_from};
+
+    ghost Value = { tables.UndoRow };
+
+    ghost view = { λ r. record { server = r.server; n = r.n; place = place_of r.place } };
+
+    ghost inverse = { λ v. record { server = v.server; n = v.n; place = place_from v.place } };
+}

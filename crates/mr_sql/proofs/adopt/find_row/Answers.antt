@@ -1,0 +1,22 @@
+use Rattle.std.proofs.Common.{None, subst}
+use Rattle.sqlite.specs.Held.{state}
+use Rattle.mr_rows.specs.Shown.{IsMeta}
+use Rattle.mr_rows.specs.Reads.{IsPlaced}
+use Rattle.mr_sql.proofs.TakenLemmas.{finds}
+use Rattle.mr_sql.proofs.adopt.find_row.Goals as goal
+
+pub returns-in-Ok-Some-clause-found : goal.returns-in-Ok-Some-clause-found
+returns-in-Ok-Some-clause-found g c trees clean taken now =
+    let old = state g.S.Store c.args.conn.now in
+    let new = state g.S.Store c.find_all.new.conn in
+    let placed : IsPlaced old = record { schema = taken.1; settled = taken.0.settled } in
+    let looks = rw c.in-Ok-Some.field-0-is at c.in-Ok-Some.ensures.looks in
+    let told = (looks.2 clean placed).1 in
+    finds trees _ old new taken.0 taken.1 ((looks.1 clean now).1 placed) told.0 told.1
+
+pub returns-in-Ok-None-clause-strange : goal.returns-in-Ok-None-clause-strange
+returns-in-Ok-None-clause-strange g c trees clean taken is =
+    let old = state g.S.Store c.args.conn.now in
+    let placed : IsPlaced old = record { schema = taken.1; settled = taken.0.settled } in
+    let looks = rw c.in-Ok-None.field-0-is at c.in-Ok-None.ensures.looks in
+    subst (λ t. IsMeta t None) taken.0.trees_are (looks.2 clean placed).1.1

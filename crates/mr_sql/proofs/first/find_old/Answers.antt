@@ -1,0 +1,28 @@
+use Rattle.std.proofs.Common.{inl, inr, ◌≡◌, refl}
+use Rattle.mr_base.specs.declared.refusals.Refusal.TheVariants as refusal
+use Rattle.mr_rows.specs.Schema.{first_schema}
+use Rattle.mr_sql.specs.Refused.{HasNoMeta}
+use Rattle.mr_sql.proofs.CreateLemmas.{on_err_any}
+use Rattle.mr_sql.proofs.TakenLemmas.{failed_of, handed_on}
+use Rattle.mr_sql.proofs.first.find_old.Goals as goal
+
+pub returns-in_err-check_number-clause-stays : goal.returns-in_err-check_number-clause-stays
+returns-in_err-check_number-clause-stays g c trees clean taken =
+    on_err_any c.from_residual.result (c.in_err-check_number.ensures.stays first_schema trees (inr refl) clean taken)
+
+pub returns-in_err-check_number-clause-strange : goal.returns-in_err-check_number-clause-strange
+returns-in_err-check_number-clause-strange g c trees clean taken =
+    handed_on (λ e. e ≡ refusal.NotAReplica → HasNoMeta 1 trees) c.in_err-check_number.field-0.0 c.from_residual.result (λ is. inr (c.in_err-check_number.ensures.strange first_schema trees (inr refl) clean taken is)) c.from_residual.ensures.1
+
+pub returns-clause-found : goal.returns-clause-found
+returns-clause-found g c trees clean taken = c.find_first_row.ensures.found trees clean (c.in_ok-check_number.ensures.taken first_schema trees (inr refl) (c.find_first_row.ensures.clean clean) taken)
+
+pub returns-clause-opens : goal.returns-clause-opens
+returns-clause-opens g c trees clean taken = c.find_first_row.ensures.opens trees clean (c.in_ok-check_number.ensures.taken first_schema trees (inr refl) (c.find_first_row.ensures.clean clean) taken)
+
+pub returns-clause-stays : goal.returns-clause-stays
+returns-clause-stays g c trees clean taken = c.find_first_row.ensures.stays trees clean (c.in_ok-check_number.ensures.taken first_schema trees (inr refl) (c.find_first_row.ensures.clean clean) taken)
+
+pub returns-clause-strange : goal.returns-clause-strange
+returns-clause-strange g c trees clean taken =
+    failed_of c.find_first_row.result _ _ (λ e none is. inl (none is)) (c.find_first_row.ensures.strange trees clean (c.in_ok-check_number.ensures.taken first_schema trees (inr refl) (c.find_first_row.ensures.clean clean) taken))

@@ -1,0 +1,67 @@
+//! How tables of the first schema are made.
+
+ghost use Rattle.std.specs.Prelude.{◌≡◌, false, IsTrue, OnOk};
+ghost use Rattle.sqlite.specs.State.{HasCleanDisk, KeepsCommit, Survives};
+ghost use Rattle.sqlite.specs.Held.{state};
+ghost use Rattle.mr_rows.specs.Schema.{no_schema, first_schema};
+ghost use Rattle.mr_first.specs.Kept.{IsKeptFirst, IsFirstStep, first_in};
+ghost use Rattle.mr_first.specs.Parts.{tables_put, no_first_tables};
+ghost use Rattle.mr_sql.specs.Blank.{IsBlank, Grows};
+
+use crate::create::{create_first_rows, create_heads};
+use mr_first::First;
+use mr_first::puts::put_tables;
+use sqlite::{Alter, Connection, Error, Transaction};
+use std::alloc::Global;
+
+/// Makes the tables of the first schema.
+fn create_tables<S: Alter>(tx: &mut Transaction<'_, S>) -> Result<(), Error>
+    ensures same_reference { tx.new.conn.ghost_name ≡ tx.old.conn.ghost_name }
+    ensures grown { Grows no_schema first_schema (state S.Store tx.old.conn.now) (state S.Store tx.new.conn.now) result }
+    ensures kept { HasCleanDisk (state S.Store tx.new.conn.now) → KeepsCommit (state S.Store tx.old.conn.now) (state S.Store tx.new.conn.now) }
+    ensures survives { Survives (state S.Store tx.old.conn.now) (state S.Store tx.new.conn.now) (λ _. ⊥) }
+{
+    create_heads(tx)?;
+    create_first_rows(tx)
+}
+
+/// Makes the tables, and puts these rows.
+fn fill<S: Alter>(tx: &mut Transaction<'_, S>, alloc: Global, tables: &First) -> Result<(), Error>
+    ensures same_reference { tx.new.conn.ghost_name ≡ tx.old.conn.ghost_name }
+    ensures filled { HasCleanDisk (state S.Store tx.new.conn.now) → IsTrue (state S.Store tx.old.conn.now).in_transaction → IsBlank no_schema (state S.Store tx.old.conn.now).now
+        → OnOk result (IsFirstStep (state S.Store tx.old.conn.now) (state S.Store tx.new.conn.now) (tables_put tables.now no_first_tables)) }
+    ensures kept { HasCleanDisk (state S.Store tx.new.conn.now) → KeepsCommit (state S.Store tx.old.conn.now) (state S.Store tx.new.conn.now) }
+    ensures survives { Survives (state S.Store tx.old.conn.now) (state S.Store tx.new.conn.now) (λ _. ⊥) }
+{
+    create_tables(tx)?;
+    put_tables(tx, alloc, tables)
+}
+
+/// Makes the tables of the first schema with these rows, in one transaction.
+pub(crate) fn create_first<S: Alter>(
+    conn: &mut Connection<S>,
+    alloc: Global,
+    tables: &First,
+) -> Result<(), Error>
+    requires autocommit { conn.old.in_transaction ≡ false }
+    ensures autocommit { conn.new.in_transaction ≡ false }
+    ensures kept { HasCleanDisk (state S.Store conn.new) → IsBlank no_schema (state S.Store conn.old).now → OnOk result (IsKeptFirst (state S.Store conn.new)) }
+    ensures tables { HasCleanDisk (state S.Store conn.new) → IsBlank no_schema (state S.Store conn.old).now
+        → OnOk result (first_in (state S.Store conn.new).now.trees ≡ tables_put tables.now no_first_tables) }
+{
+    let mut tx = conn.transaction();
+    fill(&mut tx, alloc, tables)?;
+    tx.commit()?;
+    Ok(())
+}
+
+/// Makes the tables of the first schema, with no row in any of them.
+pub(crate) fn lay_out_first<S: Alter>(conn: &mut Connection<S>) -> Result<(), Error>
+    requires autocommit { conn.old.in_transaction ≡ false }
+    ensures laid { HasCleanDisk (state S.Store conn.new) → IsBlank no_schema (state S.Store conn.old).now → OnOk result ((state S.Store conn.new).now.schema ≡ first_schema) }
+{
+    let mut tx = conn.transaction();
+    create_tables(&mut tx)?;
+    tx.commit()?;
+    Ok(())
+}

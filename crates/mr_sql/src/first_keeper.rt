@@ -1,0 +1,130 @@
+//! A database of the first schema, by itself.
+
+ghost use Rattle.std.specs.Prelude.{◌≡◌, ◌⊎◌, false, Err, IfOk, IfErr, OnOk, IsTrue};
+ghost use Rattle.sqlite_trees.specs.Tree.{Trees};
+ghost use Rattle.sqlite_trees.specs.View.{IsClean};
+ghost use Rattle.sqlite_catalog.specs.Listing.{IsSound};
+ghost use Rattle.sqlite.specs.State.{HasCleanDisk};
+ghost use Rattle.sqlite.specs.Held.{state};
+ghost use Rattle.sqlite.specs.Steps.{over_memory};
+ghost use Rattle.mr_rows.specs.Schema.{first_schema};
+ghost use Rattle.mr_first.specs.Kept.{first_in};
+ghost use Rattle.mr_first.specs.Parts.{AreKeysRising};
+ghost use Rattle.mr_sql.specs.Found.{IsRaised, LeavesRows, LeavesTables, StaysAs};
+ghost use Rattle.mr_sql.specs.Refused.{HasNoMeta};
+
+use crate::adopt::retaken;
+use crate::create_first::create_first;
+use crate::faults::refusal_of;
+use crate::first::claim;
+use crate::sql_keeper::{GivenBack, SqlKeeper, open_connection};
+use mr_base::Refusal;
+use mr_first::puts::are_keys_rising;
+use mr_first::{First, moving};
+use sqlite::{Alter, Connection, MemStore};
+use std::alloc::Global;
+use std::marker::Model;
+
+/// A database with the tables of the first schema. It can do nothing but move up. Contracts see it as its connection.
+#[derive(Drop)]
+pub struct FirstKeeper<S: Alter> {
+    conn: Connection<S>,
+    alloc: Global,
+}
+
+impl<S: Alter> Model for FirstKeeper<S> {
+    ghost use Rattle.std.specs.Prelude.{◌≡◌, false, IsTrue};
+    ghost use Rattle.sqlite.specs.State.{HasCleanDisk};
+    ghost use Rattle.sqlite.specs.Held.{Held, state, held_code};
+    ghost use Rattle.mr_first.specs.Kept.{IsKeptFirst};
+
+    ghost Value = { Held S };
+
+    ghost coded = { held_code S.code };
+
+    ghost view = { λ k. k.conn };
+
+    ghost invariant = { λ k. (k.conn.in_transaction ≡ false) × (HasCleanDisk (state S.Store k.conn) → IsTrue (state S.Store k.conn).is_open → IsKeptFirst (state S.Store k.conn)) };
+}
+
+impl FirstKeeper<MemStore> {
+    /// A database in memory that has these tables. Tables in which a key is there twice, or whose rows don't stand in the order of
+    /// their keys, are refused with 25, and so is a number that no column has room for.
+    pub fn from_tables(alloc: Global, tables: &First) -> Result<FirstKeeper<MemStore>, Refusal>
+        ensures made { IfOk result (λ k. first_in (state over_memory k).now.trees ≡ tables.now) }
+        ensures settled { IfOk result (λ k. LeavesRows (state over_memory k)) }
+        ensures rising { OnOk result (AreKeysRising tables.now) }
+        ensures twice { (AreKeysRising tables.now → ⊥) → result ≡ Err Refusal.Store }
+        ensures cause { IfErr result (λ e. (e ≡ Refusal.OutOfMemory) ⊎ (e ≡ Refusal.Store)) }
+    {
+        if !are_keys_rising(tables) {
+            return Err(Refusal::Store);
+        }
+        let mut conn = open_connection(alloc)?;
+        match create_first(&mut conn, alloc, tables) {
+            Ok(()) => Ok(FirstKeeper { conn, alloc }),
+            Err(error) => Err(refusal_of(error)),
+        }
+    }
+}
+
+impl<S: Alter + Drop> FirstKeeper<S> {
+    /// Makes a keeper of a connection to the database of a replica of the first schema, whichever it is, and leaves it as it is. Any
+    /// other database is refused with 26, and one whose rows break their rules with 25.
+    pub fn resume(
+        alloc: Global,
+        conn: Connection<S>,
+    ) -> Result<FirstKeeper<S>, (Refusal, GivenBack<S>)>
+        ensures opens { IfOk result (λ k. HasCleanDisk (state S.Store k) → IsTrue (state S.Store k).is_open) }
+        ensures resumed { IfOk result (λ k. HasCleanDisk (state S.Store k) → IsTrue (state S.Store k).is_open → IsSound first_schema (state S.Store conn).committed.trees × ((state S.Store k).now.trees ≡ (state S.Store conn).committed.trees)) }
+        ensures settled { IfOk result (λ k. HasCleanDisk (state S.Store k) → IsTrue (state S.Store k).is_open → LeavesRows (state S.Store k)) }
+        ensures cause { IfErr result (λ e. (e.0 ≡ Refusal.OutOfMemory) ⊎ ((e.0 ≡ Refusal.Store) ⊎ (e.0 ≡ Refusal.NotAReplica))) }
+        ensures clean { IfOk result (λ k. HasCleanDisk (state S.Store k) → HasCleanDisk (state S.Store conn)) }
+        ensures strange { IfErr result (λ e. e.0 ≡ Refusal.NotAReplica → (c : _) × (e.1 ≡ GivenBack.Connection c) × (HasCleanDisk (state S.Store c) → IsSound first_schema (state S.Store conn).committed.trees → HasNoMeta 1 (state S.Store conn).committed.trees)) }
+        ensures was_clean { IfErr result (λ e. (c : _) → e.1 ≡ GivenBack.Connection c → HasCleanDisk (state S.Store c) → HasCleanDisk (state S.Store conn)) }
+        ensures stays { IfErr result (λ e. (c : _) → e.1 ≡ GivenBack.Connection c → HasCleanDisk (state S.Store c) → IsTrue (state S.Store c).is_open → StaysAs (state S.Store conn).committed.trees (state S.Store c)) }
+        ensures back { IfErr result (λ e. (s : _) → e.1 ≡ GivenBack.Store s → IsClean (S.Store.view s) → IsTrue (S.Store.view s).is_open → (S.Store.view s).trees ≡ (state S.Store conn).committed.trees) }
+    {
+        let mut conn = match retaken(alloc, conn) {
+            Ok(conn) => conn,
+            Err((error, store)) => return Err((refusal_of(error), GivenBack::Store(store))),
+        };
+        match claim(&mut conn, alloc) {
+            Ok(()) => Ok(FirstKeeper { conn, alloc }),
+            Err(refusal) => Err((refusal, GivenBack::Connection(conn))),
+        }
+    }
+
+    /// Moves the tables up to the second schema, in one transaction. `log` takes the place of `write_log` and `undo`, which stay there
+    /// without rows; all other rows stay. Where a row of either has no partner in the other, it is refused with 25. What a refusal gives
+    /// back can be moved up again, unless the store failed.
+    pub fn move_up(self) -> Result<SqlKeeper<S>, (FirstKeeper<S>, Refusal)>
+        ensures opens { IfOk result (λ k. HasCleanDisk (state S.Store k.0) → IsTrue (state S.Store k.0).is_open) }
+        ensures raised { IfOk result (λ k. HasCleanDisk (state S.Store k.0) → IsRaised (state S.Store self).now.trees (state S.Store k.0).now.trees) }
+        ensures settled { IfOk result (λ k. HasCleanDisk (state S.Store k.0) → LeavesTables (state S.Store k.0)) }
+        ensures uncounted { IfOk result (λ k. k.1 ≡ 0) }
+        ensures cause { IfErr result (λ e. (e.1 ≡ Refusal.OutOfMemory) ⊎ (e.1 ≡ Refusal.Store)) }
+        ensures stays { IfErr result (λ e. HasCleanDisk (state S.Store e.0) → IsTrue (state S.Store e.0).is_open
+            → ((state S.Store e.0).now ≡ (state S.Store self).now) × ((state S.Store e.0).committed ≡ (state S.Store self).committed)) }
+        ensures crash { IfErr result (λ e. HasCleanDisk (state S.Store e.0) → IsTrue (state S.Store self).is_open → (trees : Trees) → (state S.Store e.0).may_leave trees
+            → (state S.Store self).may_leave trees ⊎ IsRaised (state S.Store self).now.trees trees) }
+        ensures clean_after { IfOk result (λ k. HasCleanDisk (state S.Store k.0) → HasCleanDisk (state S.Store self)) }
+        ensures clean { IfErr result (λ e. HasCleanDisk (state S.Store e.0) → HasCleanDisk (state S.Store self)) }
+    {
+        let FirstKeeper { mut conn, alloc } = self;
+        match moving::move_up(&mut conn, alloc) {
+            Ok(()) => Ok(SqlKeeper::opened(alloc, conn)),
+            Err(error) => Err((FirstKeeper { conn, alloc }, refusal_of(error))),
+        }
+    }
+}
+
+impl<S: Alter> FirstKeeper<S> {
+    /// Gives the connection back.
+    pub fn release(self) -> Connection<S>
+        ensures { result ≡ self }
+    {
+        let FirstKeeper { conn, .. } = self;
+        conn
+    }
+}
