@@ -1,6 +1,7 @@
-# A database of the first schema that is kept, and what it must show once the program has moved it up. ./test sources this file; the
-# functions of tests/lib.sh and the variables of ./test are used here. tests/kept/make.py made the files, once, with a program of the
-# first schema; the store's log beside the database had no rows and isn't kept.
+# A database of the first schema that is kept, with batches and a position of the first version of the exchange text, and what it must show
+# once the program has moved it up. ./test sources this file; the functions of tests/lib.sh and tests/http.sh and the variables of ./test are
+# used here. tests/kept/make.py made the files, once, with a program of the first schema; the store's log beside the database had no rows
+# and isn't kept.
 
 # shows DATABASE FILE: each line `$ <command> <word>..` of the file is a command on the database, and what follows is its reply
 shows() {
@@ -27,6 +28,31 @@ in_present_version() {
     sed "s/^m\([pr]\)1 /m\1$version /" "$1"
 }
 
+# it is served: who asks by the kept position, of the first version, is handed the kept batch, and the kept batch of another office is taken;
+# a cancel is handed to positions of the second version alone
+run_kept_served() {
+    local database=$scratch/kept/served.sqlite folder=$scratch/kept line=$'\n'
+    if ! command -v curl > /dev/null; then
+        echo 'skipped: the kept database over HTTP (no curl)'
+        return
+    fi
+    cp -- tests/kept/first.sqlite "$database"
+    printf 'mp1 9 3\nK 9\nV 3 5\nV 7 6\nE\n' > "$folder/lacks"
+    printf 'mp1 9 3\nK 9\nV 3 5\nV 7 7\nE\n' > "$folder/has"
+    serve "$database" 9
+    asked 'kept: a pull by the kept position' 200 "$(cat tests/kept/first.batch)$line" /pull --data-binary @tests/kept/first.position
+    asked 'kept: a pull in the present version' 200 "$(cat "$folder/batch")$line" /pull --data-binary "@$folder/position"
+    asked 'kept: a push of the kept batch' 200 "took 2 writes 3 commits$line" /push --data-binary @tests/kept/first.next
+    asked 'kept: a push of it again' 200 "took 0 writes 0 commits$line" /push --data-binary @tests/kept/first.next
+    asked 'kept: a cancel' 200 '{"id":"7-7","mark":"T","state":"cancels","target":"3-4"}' /cancel --data-binary '{"id":"3-4","room":"oak"}'
+    asked 'kept: a pull by the kept position after it' 409 '{"name":"NeedsVersion2","refusal":27}' /pull --data-binary @tests/kept/first.position
+    asked 'kept: a pull that lacks the cancel alone' 409 '{"name":"NeedsVersion2","refusal":27}' /pull --data-binary "@$folder/lacks"
+    asked 'kept: a pull that lacks nothing' 200 "mr1 7 3${line}E${line}" /pull --data-binary "@$folder/has"
+    sed -i 's/^mp1 /mp2 /' "$folder/lacks"
+    asked 'kept: the same lack in the second version' 200 "mr2 7 3${line}X 7 7 7 oak 3 4${line}E${line}" /pull --data-binary "@$folder/lacks"
+    served 'the lines of the kept database' 200 200 200 200 200 409 409 200 200
+}
+
 # it is moved up with the first command, and shows what it showed before; it goes on to receive, undo and execute again as it did
 run_kept() {
     local database=$scratch/kept/first.sqlite file
@@ -43,4 +69,5 @@ run_kept() {
         export "$database" "$scratch/kept/position" "$scratch/kept/made" 100000
     same 'kept: the batch of the present version' "$scratch/kept/made" "$scratch/kept/batch"
     shows "$database" "$scratch/kept/after"
+    run_kept_served
 }
