@@ -100,6 +100,16 @@ def taker(server, *batches):
     return replica
 
 
+def shows_all(office):
+    """What each office is asked, the sheets of the day, and the outcome of every request."""
+    replica = office.replica
+    for room in sorted(replica.rooms):
+        office.is_told('sheet', room, DAY, replica.sheet(room, DAY))
+    for write in replica.known.values():
+        office.is_told('outcome', write.room, oracle.id_text(write.id()), replica.outcome_of(write.room, write.id()))
+    office.check()
+
+
 def worked(program, folder):
     """Two replicas that dropped all of their commits; of one of them 49 of 50 requests are in an error log."""
     elm = ''.join(f'W 3 {n} {n} elm 15 {DAY} 09:00 0 Elm\nC {n} 3 {n}\n' for n in range(1, 51))
@@ -109,14 +119,16 @@ def worked(program, folder):
     office.is_told('sheet', 'elm', DAY, f'elm {DAY} Monday\n09:00-09:15 C 3-1 Elm')
     office.is_told('errors', 'elm', '\n'.join(['elm errors', *[f'C 3-{n} {DAY} 09:00-09:15 Elm' for n in range(2, 51)]]))
     office.is_told('position', f'mp{oracle.RULES.version} 9 1\nK 50\nV 1 1\nV 2 1\nV 3 50\nE')
-    office.check()
+    shows_all(office)
     oak = f'W 1 1 1 oak 60 {DAY} 13:30 0 Audit\nC 1 1 1\nW 1 2 2 oak 30 {DAY} 14:30 0 Brief\nC 2 1 2\n'
     office = Moved(program, f'{folder}/other.db', taker(2, (oak, 'took 2 writes 2 commits', 2)))
+    office.is_told('sheet', 'oak', DAY, f'oak {DAY} Monday\n13:30-14:30 C 1-1 Audit\n14:30-15:00 C 1-2 Brief')
+    shows_all(office)
     office.is_told('cancel', 'oak', '1-1', '2-1 T cancels 1-1')
     office.is_told('calendar', 'oak', 'committed', f'oak committed\n{DAY} 13:30-14:30 C 1-1 Audit\n{DAY} 14:30-15:00 C 1-2 Brief')
     office.is_told('sheet', 'oak', DAY, f'oak {DAY} Monday\n14:30-15:00 C 1-2 Brief')
     office.replica.cancel('oak', '1-1')
-    office.check()
+    shows_all(office)
 
 
 def line(n):
