@@ -1,0 +1,2 @@
+-- A reader of the contracts trusts all of these.
+pub mod Sparing
