@@ -1,10 +1,12 @@
-//! A disk that is synced only where something was written since the last sync.
+//! The two files of a database, as disks that are synced only where something was written since the last sync.
 //!
-//! It stands on the kit's `sqlite_disk`, whose trait `Disk` it meets over any disk below it; `mr_sql` opens the files of a database over
-//! it. The kit's open syncs both files at each step, since it can't know that they were synced before it; here that is known, so
-//! that a file which nobody writes isn't synced again.
+//! It stands on the kit's `sqlite_disk`, whose trait `Disk` is met here over any disk below, and on `sqlite_std_file`, which opens the
+//! files; `mr_sql` opens a database over them. The kit's open of a database syncs both files at each of its steps, since it can't know
+//! that they were synced before; here that is known, so that a file which nobody writes isn't synced again.
 #![tactic(auto)]
 
+mod files;
 mod sparing;
 
+pub use files::{SparingFile, open};
 pub use sparing::Sparing;
