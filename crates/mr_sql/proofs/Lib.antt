@@ -6,3 +6,4 @@ pub mod OpeningLemmas
 pub mod TakenLemmas
 pub mod NumberLemmas
 pub mod FirstTaken
+pub mod FileLemmas

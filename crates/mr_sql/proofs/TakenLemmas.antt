@@ -10,7 +10,7 @@ use Rattle.sqlite_value.proofs.OrderLemmas.{value_cmp_total}
 use Rattle.sqlite_trees.specs.declared.store.Shape.{Shape}
 use Rattle.sqlite_trees.specs.declared.store.Shape.TheVariants as shape
 use Rattle.sqlite_trees.specs.Tree.{Trees, has_rowid}
-use Rattle.sqlite_trees.specs.View.{View, IsShaped, IsOrdered}
+use Rattle.sqlite_trees.specs.View.{IsShaped, IsOrdered}
 use Rattle.sqlite_trees.specs.Objects.{catalog_tree, number_in, row_for, shape_code, IsListed}
 use Rattle.sqlite_schema.specs.declared.schema.Table.{Table}
 use Rattle.sqlite_schema.specs.declared.schema.Schema.{Schema}
@@ -35,7 +35,7 @@ use Rattle.mr_rows.specs.Shown.{AreOurRows, IsMeta}
 use Rattle.mr_rows.proofs.FoundLemmas.{all_held, meta_is_found}
 use Rattle.mr_rows.specs.Shelf.{IsShelf}
 
-zip_row : {A B : Type 0} (R : A → B → Type 0) (xs : List A) (ys : List B) (y : B) → AllZip R xs ys → Has ys y → (x : A) × Has xs x × R x y
+pub zip_row : {A B : Type 0} (R : A → B → Type 0) (xs : List A) (ys : List B) (y : B) → AllZip R xs ys → Has ys y → (x : A) × Has xs x × R x y
 zip_row R [] [] y all h = absurd h
 zip_row R [] (z ∷ ys) y all h = absurd all
 zip_row R (x ∷ xs) [] y all h = absurd all
@@ -50,10 +50,10 @@ is_table shape.Pageless h = absurd (omega arith)
 is_table shape.FrozenTable h = absurd (omega arith)
 is_table (shape.FrozenIndex o) h = absurd (omega arith)
 
-pub rises : (v : View) (schema : Schema) (table : Table) → IsOrdered v.shape v.trees → IsListed (v.trees catalog_tree) v.shape v.reals → IsSound schema v.trees → Has schema.tables table
-    → IsShelf (v.trees table.tree)
-rises v schema table ordered listed sound here =
-    let objects = v.trees catalog_tree in
+pub rises : (shapes : ℕ → Shape) (reals : ℕ → ℕ) (trees : Trees) (schema : Schema) (table : Table) → IsOrdered shapes trees → IsListed (trees catalog_tree) shapes reals → IsSound schema trees → Has schema.tables table
+    → IsShelf (trees table.tree)
+rises shapes reals trees schema table ordered listed sound here =
+    let objects = trees catalog_tree in
     let found = zip_row IsTableRow _ _ table sound.lists.listed.tables here in
     let row = found.0 in
     let among = (has_filtered _ objects row found.1).0 in
@@ -63,13 +63,13 @@ rises v schema table ordered listed sound here =
     let keyed : has_rowid (pos (tree + 1)) row ≡ true = subst (λ k. is_eq (value_cmp k (Int (pos (tree + 1)))) ≡ true) (sym it.id) (ap is_eq (tied_itself value_cmp_total (Int (pos (tree + 1))))) in
     let same : row_for objects tree ≡ row = row_at_is objects (pos (tree + 1)) row up among keyed in
     let low = it.low in
-    let code : shape_code (v.shape tree) ≡ 1 = listed.shapes tree (λ e. absurd (omega arith)) (λ e. absurd (omega arith)) ∙ ap (λ r. number_in (column r 5)) same ∙ it.shape_is in
-    let shaped = subst (λ s. IsShaped s (v.trees tree)) (is_table _ code) (ordered tree) in
+    let code : shape_code (shapes tree) ≡ 1 = listed.shapes tree (λ e. absurd (omega arith)) (λ e. absurd (omega arith)) ∙ ap (λ r. number_in (column r 5)) same ∙ it.shape_is in
+    let shaped = subst (λ s. IsShaped s (trees tree)) (is_table _ code) (ordered tree) in
     record { rise = shaped.0; keyed = shaped.1 }
 
-pub has_shelves : (v : View) (db : Database) → IsOrdered v.shape v.trees → IsListed (v.trees catalog_tree) v.shape v.reals → db.trees ≡ v.trees → IsSound db.schema db.trees → HasShelves db
-has_shelves v db ordered listed same sound table here =
-    subst (λ (trees : Trees). IsShelf (trees table.tree)) (sym same) (rises v db.schema table ordered listed (subst (IsSound db.schema) same sound) here)
+pub has_shelves : (shapes : ℕ → Shape) (reals : ℕ → ℕ) (trees : Trees) (db : Database) → IsOrdered shapes trees → IsListed (trees catalog_tree) shapes reals → db.trees ≡ trees → IsSound db.schema db.trees → HasShelves db
+has_shelves shapes reals trees db ordered listed same sound table here =
+    subst (λ (all : Trees). IsShelf (all table.tree)) (sym same) (rises shapes reals trees db.schema table ordered listed (subst (IsSound db.schema) same sound) here)
 
 -- ---- what is told by an answer
 
@@ -216,3 +216,11 @@ found_stays trees m old new taken ours found = (there found.resumed, found.kept.
     there : IsResumed trees new.now.trees → new.now.trees ≡ trees
     there (inl kept) = kept.1
     there (inr first) = absurd (not_first trees old taken ours first.0)
+
+-- ---- once more, by the trees that are committed
+
+pub committed_are : (trees : Trees) (s : State) → IsTaken trees s → s.committed.trees ≡ trees
+committed_are trees s taken = ap (λ (db : Database). db.trees) (sym taken.settled) ∙ taken.trees_are
+
+pub taken_again : (trees : Trees) (s : State) → IsTaken trees s → IsTaken s.committed.trees s
+taken_again trees s taken = subst (λ (t : Trees). IsTaken t s) (sym (committed_are trees s taken)) taken

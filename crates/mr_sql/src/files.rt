@@ -1,21 +1,24 @@
 //! Keepers in files.
 
-ghost use Rattle.std.specs.Prelude.{◌≡◌, ◌⊎◌, Some, None, IfOk, IfErr, IsTrue};
+ghost use Rattle.std.specs.Prelude.{◌≡◌, ◌⊎◌, false, Some, None, IfOk, IfErr, IsTrue};
 ghost use Rattle.sqlite_trees.specs.Tree.{Trees};
 ghost use Rattle.sqlite.specs.WalFiles.{image_at};
 ghost use Rattle.sqlite.specs.WalReads.{AreClean};
 ghost use Rattle.sqlite.specs.State.{HasCleanDisk};
-ghost use Rattle.sqlite.specs.Files.{file_state, IsClosed};
+ghost use Rattle.sqlite.specs.Files.{file_state, image_of, IsClosed};
 ghost use Rattle.sqlite.specs.Closing.{IsCopied};
-ghost use Rattle.mr_sql.specs.Found.{IsAdopted, IsResumed, LeavesTables, StaysAs};
+ghost use Rattle.mr_sql.specs.Found.{IsAdopted, IsResumed, IsTaken, LeavesTables, StaysAs};
 ghost use Rattle.mr_sql.specs.Refused.{IsAnothers, IsFoundIn, IsNobodys};
 
 use crate::faults::refusal_of;
 use crate::sql_keeper::{GivenBack, SqlKeeper};
 use mr_base::{Refusal, ServerId};
-use sqlite::{Connection, FileFrom, FileStore, Files, Start, Unknown};
+use mr_disk::SparingFile;
+use sqlite::{Connection, FileStore, Files, Options, Start, Unknown};
 use sqlite_disk::Disk;
+use sqlite_std_file::OpenError;
 use std::fs::File;
+use std::hash::{BuildHasher, RandomState};
 use std::io::ErrorKind;
 use std::rt::HostRuntime;
 
@@ -23,20 +26,58 @@ use std::rt::HostRuntime;
 pub type FileKeeper = KeeperFrom<Unknown>;
 
 /// A keeper whose tables lie in a file, where the type stands for what that and its log held.
-pub type KeeperFrom<B> = SqlKeeper<FileStore<FileFrom<B>>>;
+pub type KeeperFrom<B> = SqlKeeper<FileStore<SparingFile<B>>>;
 
 /// Why a file isn't taken as a database, with what was opened.
-pub type NotTaken<B> = (Refusal, Option<GivenBack<FileStore<FileFrom<B>>>>);
+pub type NotTaken<B> = (Refusal, Option<GivenBack<FileStore<SparingFile<B>>>>);
 
+// Opens the two files. A path that the kit's own open refuses, as that of memory or a URI, is refused.
+fn open_pair<B: Start>(
+    rt: &HostRuntime,
+    path: &str,
+    start: B,
+) -> Result<Files<SparingFile<B>>, Refusal>
+    ensures log { IfOk result (λ files. IsTrue (⟦<SparingFile<B> as Disk>⟧.is_usable files.log)) }
+    ensures db { IfOk result (λ files. IsTrue (⟦<SparingFile<B> as Disk>⟧.is_usable files.db)) }
+    ensures held { IfOk result (λ files. image_of ⟦<SparingFile<B> as Disk>⟧ files ≡ image_at B.Start) }
+    ensures cause { IfErr result (λ e. (e ≡ Refusal.OutOfMemory) ⊎ (e ≡ Refusal.Store)) }
+{
+    if path == ":memory:" || path.starts_with("file:") {
+        return Err(Refusal::Store);
+    }
+    match mr_disk::open(rt, path, start) {
+        Ok(files) => Ok(files),
+        Err(OpenError::OutOfMemory) => Err(Refusal::OutOfMemory),
+        Err(OpenError::Io(error)) if error.kind() == ErrorKind::OutOfMemory => {
+            Err(Refusal::OutOfMemory)
+        }
+        Err(_) => Err(Refusal::Store),
+    }
+}
+
+fn options(rt: &HostRuntime) -> Result<Options, Refusal>
+    ensures { IfErr result (λ e. e ≡ Refusal.Store) }
+{
+    match RandomState::new(rt) {
+        Ok(state) => Ok(Options::new(state.hash_one(&0u8))),
+        Err(_) => Err(Refusal::Store),
+    }
+}
+
+// Opens the database, once: what the open finds of the files says in which order its rows are.
 fn open<B: Start>(
     rt: &HostRuntime,
     path: &str,
     start: B,
-) -> Result<Connection<FileStore<FileFrom<B>>>, Refusal>
+) -> Result<Connection<FileStore<SparingFile<B>>>, Refusal>
     ensures found { IfOk result (λ c. HasCleanDisk (file_state c) → IsFoundIn (image_at B.Start) (file_state c).committed.trees) }
+    ensures taken { IfOk result (λ c. HasCleanDisk (file_state c) → IsTaken (file_state c).committed.trees (file_state c)) }
+    ensures autocommit { IfOk result (λ c. c.in_transaction ≡ false) }
     ensures cause { IfErr result (λ e. (e ≡ Refusal.OutOfMemory) ⊎ (e ≡ Refusal.Store)) }
 {
-    match Connection::open_from(rt, path, false, start) {
+    let files = open_pair(rt, path, start)?;
+    let options = options(rt)?;
+    match Connection::open_files(rt.alloc(), files, options) {
         Ok(conn) => Ok(conn),
         Err((error, _)) => Err(refusal_of(error)),
     }
@@ -49,7 +90,7 @@ fn is_missing(rt: &HostRuntime, path: &str) -> bool {
     }
 }
 
-impl<B: Start> SqlKeeper<FileStore<FileFrom<B>>> {
+impl<B: Start> SqlKeeper<FileStore<SparingFile<B>>> {
     /// Opens the file as the database of this server and primary, and makes file and tables where there are none yet. Tables of
     /// the first schema are moved up. A file that can't be opened as a database is refused with 25, and the database of another
     /// program or replica with 26. What was opened of a file that is refused is given back. That the path is that of the files
@@ -76,9 +117,9 @@ impl<B: Start> SqlKeeper<FileStore<FileFrom<B>>> {
             Ok(conn) => conn,
             Err(refusal) => return Err((refusal, None)),
         };
-        match SqlKeeper::adopt(rt.alloc(), conn, server, primary) {
+        match SqlKeeper::settled(rt.alloc(), conn, server, primary) {
             Ok(keeper) => Ok(keeper),
-            Err((refusal, back)) => Err((refusal, Some(back))),
+            Err((refusal, conn)) => Err((refusal, Some(GivenBack::Connection(conn)))),
         }
     }
 
@@ -104,9 +145,9 @@ impl<B: Start> SqlKeeper<FileStore<FileFrom<B>>> {
             Ok(conn) => conn,
             Err(refusal) => return Err((refusal, None)),
         };
-        match SqlKeeper::resume(rt.alloc(), conn) {
+        match SqlKeeper::recovered(rt.alloc(), conn) {
             Ok(keeper) => Ok(keeper),
-            Err((refusal, back)) => Err((refusal, Some(back))),
+            Err((refusal, conn)) => Err((refusal, Some(GivenBack::Connection(conn)))),
         }
     }
 }
@@ -125,7 +166,7 @@ impl<D: Disk + Drop> SqlKeeper<FileStore<D>> {
     }
 }
 
-impl SqlKeeper<FileStore<sqlite::File>> {
+impl SqlKeeper<FileStore<SparingFile<Unknown>>> {
     /// As `init_from`, of whatever the files at the path hold. What is refused is let go.
     pub fn init_file(
         rt: &HostRuntime,

@@ -9,7 +9,7 @@ ghost use Rattle.mr_store.specs.Kept.{failures_for};
 ghost use Rattle.sqlite_catalog.specs.Listing.{IsSound};
 ghost use Rattle.mr_rows.specs.Schema.{no_schema};
 ghost use Rattle.mr_rows.specs.Kept.{IsKept, tables_in};
-ghost use Rattle.mr_sql.specs.Found.{IsAdopted, IsResumed, LeavesTables, StaysAs};
+ghost use Rattle.mr_sql.specs.Found.{IsAdopted, IsResumed, IsTaken, LeavesTables, StaysAs};
 ghost use Rattle.mr_sql.specs.Refused.{AreSomebodys, IsAnothers, IsNobodys};
 
 use crate::adopt::{recover, retaken, settle};
@@ -222,17 +222,13 @@ impl<S: Alter + Drop> SqlKeeper<S> {
         ensures stays { IfErr result (λ e. (c : _) → e.1 ≡ GivenBack.Connection c → HasCleanDisk (state S.Store c) → IsTrue (state S.Store c).is_open → StaysAs (state S.Store conn).committed.trees (state S.Store c)) }
         ensures back { IfErr result (λ e. (s : _) → e.1 ≡ GivenBack.Store s → IsClean (S.Store.view s) → IsTrue (S.Store.view s).is_open → (S.Store.view s).trees ≡ (state S.Store conn).committed.trees) }
     {
-        let mut conn = match retaken(alloc, conn) {
+        let conn = match retaken(alloc, conn) {
             Ok(conn) => conn,
             Err((error, store)) => return Err((refusal_of(error), GivenBack::Store(store))),
         };
-        match settle(&mut conn, alloc, server, primary) {
-            Ok(()) => Ok(SqlKeeper {
-                conn,
-                failures: 0,
-                alloc,
-            }),
-            Err(refusal) => Err((refusal, GivenBack::Connection(conn))),
+        match SqlKeeper::settled(alloc, conn, server, primary) {
+            Ok(keeper) => Ok(keeper),
+            Err((refusal, conn)) => Err((refusal, GivenBack::Connection(conn))),
         }
     }
 
@@ -254,17 +250,13 @@ impl<S: Alter + Drop> SqlKeeper<S> {
         ensures stays { IfErr result (λ e. (c : _) → e.1 ≡ GivenBack.Connection c → HasCleanDisk (state S.Store c) → IsTrue (state S.Store c).is_open → StaysAs (state S.Store conn).committed.trees (state S.Store c)) }
         ensures back { IfErr result (λ e. (s : _) → e.1 ≡ GivenBack.Store s → IsClean (S.Store.view s) → IsTrue (S.Store.view s).is_open → (S.Store.view s).trees ≡ (state S.Store conn).committed.trees) }
     {
-        let mut conn = match retaken(alloc, conn) {
+        let conn = match retaken(alloc, conn) {
             Ok(conn) => conn,
             Err((error, store)) => return Err((refusal_of(error), GivenBack::Store(store))),
         };
-        match recover(&mut conn, alloc) {
-            Ok(()) => Ok(SqlKeeper {
-                conn,
-                failures: 0,
-                alloc,
-            }),
-            Err(refusal) => Err((refusal, GivenBack::Connection(conn))),
+        match SqlKeeper::recovered(alloc, conn) {
+            Ok(keeper) => Ok(keeper),
+            Err((refusal, conn)) => Err((refusal, GivenBack::Connection(conn))),
         }
     }
 }
@@ -280,6 +272,56 @@ impl<S: Alter> SqlKeeper<S> {
             conn,
             failures: 0,
             alloc,
+        }
+    }
+
+    /// The keeper of a connection that was just opened, as `adopt` makes it.
+    pub(crate) fn settled(
+        alloc: Global,
+        mut conn: Connection<S>,
+        server: ServerId,
+        primary: ServerId,
+    ) -> Result<SqlKeeper<S>, (Refusal, Connection<S>)>
+        requires autocommit { conn.in_transaction ≡ false }
+        requires taken { HasCleanDisk (state S.Store conn) → IsTaken (state S.Store conn).committed.trees (state S.Store conn) }
+        ensures opens { IfOk result (λ k. HasCleanDisk (state S.Store k.0) → IsTrue (state S.Store k.0).is_open) }
+        ensures adopted { IfOk result (λ k. HasCleanDisk (state S.Store k.0) → IsTrue (state S.Store k.0).is_open → IsAdopted server primary (state S.Store conn).committed.trees (state S.Store k.0).now.trees) }
+        ensures settled { IfOk result (λ k. HasCleanDisk (state S.Store k.0) → IsTrue (state S.Store k.0).is_open → LeavesTables (state S.Store k.0)) }
+        ensures uncounted { IfOk result (λ k. k.1 ≡ 0) }
+        ensures clean { IfOk result (λ k. HasCleanDisk (state S.Store k.0) → HasCleanDisk (state S.Store conn)) }
+        ensures was_clean { IfErr result (λ e. HasCleanDisk (state S.Store e.1) → HasCleanDisk (state S.Store conn)) }
+        ensures cause { IfErr result (λ e. (e.0 ≡ Refusal.OutOfMemory) ⊎ ((e.0 ≡ Refusal.Store) ⊎ (e.0 ≡ Refusal.NotAReplica))) }
+        ensures strange { IfErr result (λ e. HasCleanDisk (state S.Store e.1) → e.0 ≡ Refusal.NotAReplica → IsAnothers server primary (state S.Store conn).committed.trees) }
+        ensures store { IfErr result (λ e. HasCleanDisk (state S.Store e.1) → e.0 ≡ Refusal.Store → IsSound no_schema (state S.Store conn).committed.trees ⊎ AreSomebodys (state S.Store conn).committed.trees) }
+        ensures stays { IfErr result (λ e. HasCleanDisk (state S.Store e.1) → IsTrue (state S.Store e.1).is_open → StaysAs (state S.Store conn).committed.trees (state S.Store e.1)) }
+    {
+        match settle(&mut conn, alloc, server, primary) {
+            Ok(()) => Ok(SqlKeeper::opened(alloc, conn)),
+            Err(refusal) => Err((refusal, conn)),
+        }
+    }
+
+    /// The keeper of a connection that was just opened, as `resume` makes it.
+    pub(crate) fn recovered(
+        alloc: Global,
+        mut conn: Connection<S>,
+    ) -> Result<SqlKeeper<S>, (Refusal, Connection<S>)>
+        requires autocommit { conn.in_transaction ≡ false }
+        requires taken { HasCleanDisk (state S.Store conn) → IsTaken (state S.Store conn).committed.trees (state S.Store conn) }
+        ensures opens { IfOk result (λ k. HasCleanDisk (state S.Store k.0) → IsTrue (state S.Store k.0).is_open) }
+        ensures resumed { IfOk result (λ k. HasCleanDisk (state S.Store k.0) → IsTrue (state S.Store k.0).is_open → IsResumed (state S.Store conn).committed.trees (state S.Store k.0).now.trees) }
+        ensures settled { IfOk result (λ k. HasCleanDisk (state S.Store k.0) → IsTrue (state S.Store k.0).is_open → LeavesTables (state S.Store k.0)) }
+        ensures uncounted { IfOk result (λ k. k.1 ≡ 0) }
+        ensures clean { IfOk result (λ k. HasCleanDisk (state S.Store k.0) → HasCleanDisk (state S.Store conn)) }
+        ensures was_clean { IfErr result (λ e. HasCleanDisk (state S.Store e.1) → HasCleanDisk (state S.Store conn)) }
+        ensures cause { IfErr result (λ e. (e.0 ≡ Refusal.OutOfMemory) ⊎ ((e.0 ≡ Refusal.Store) ⊎ (e.0 ≡ Refusal.NotAReplica))) }
+        ensures strange { IfErr result (λ e. HasCleanDisk (state S.Store e.1) → e.0 ≡ Refusal.NotAReplica → IsNobodys (state S.Store conn).committed.trees) }
+        ensures store { IfErr result (λ e. HasCleanDisk (state S.Store e.1) → e.0 ≡ Refusal.Store → AreSomebodys (state S.Store conn).committed.trees) }
+        ensures stays { IfErr result (λ e. HasCleanDisk (state S.Store e.1) → IsTrue (state S.Store e.1).is_open → StaysAs (state S.Store conn).committed.trees (state S.Store e.1)) }
+    {
+        match recover(&mut conn, alloc) {
+            Ok(()) => Ok(SqlKeeper::opened(alloc, conn)),
+            Err(refusal) => Err((refusal, conn)),
         }
     }
 

@@ -36,7 +36,7 @@ returns-clause-taken g c =
       trees_are = both.1 now ∙ back.0;
       settled = o.0.clean;
       sound = sound;
-      shelves = has_shelves v (state g.S.Store conn).now (g.met.S.Store.ordered store unbroken) (g.met.S.Alter.listed store unbroken) (both.1 now) sound;
+      shelves = has_shelves v.shape v.reals v.trees (state g.S.Store conn).now (g.met.S.Store.ordered store unbroken) (g.met.S.Alter.listed store unbroken) (both.1 now) sound;
     })
     (told_of_two c.over.result P Q Both (λ conn a b. (a, b)) c.over.ensures.clean c.over.ensures.trees) c.over.ensures.opens
 
