@@ -105,6 +105,7 @@ deploy_proxy() {
     local day=/rooms/oak/days/1995-12-18 json='{"room":"oak","day":"1995-12-18","start":"13:30","length":60,"title":"Budget Meeting"}'
     local cancel='{"id":"7-1","room":"oak"}' sheet='oak 1995-12-18 Monday
 13:30-14:30 T 1-1 Budget Meeting'
+    local -a workers=()
     through 'a request while nothing serves' 502 bookers /submit -d "$json"
     body 'it was not sent' '{"error":"not sent"}'
     serve_at "$west" "$ports"
@@ -137,7 +138,10 @@ deploy_proxy() {
     through 'the position of an office' 200 offices /position
     is 'no password goes on, and no request twice' "$(grep -c '^200$' "$west.served")" 5
     sed -i 's/auth_basic "west: reading";/auth_basic off;/' "$ROOMS_ETC/west.nginx"
+    # the worker of the old configuration may take a connection until it ends
+    read -r -a workers < <(cat -- "/proc/$nginx/task/$nginx/children" 2> /dev/null)
     kill -HUP "$nginx"
+    reached 'a worker of the old configuration goes on' 30 ended "${workers[@]}"
     reached 'the page is not open to everybody' 10 curl -sf --cacert "$ROOMS_ETC/west.crt" "https://localhost:$((ports + 1))/"
     through 'a sheet where everybody may read' 200 '' "$day"
     through 'a request there' 401 '' /submit -d "$json"

@@ -57,6 +57,14 @@ until_held() {
 
 taken() { (exec 3<> "/dev/tcp/127.0.0.1/$1") 2> /dev/null; }
 
+# ended PID..: none of these processes is there
+ended() {
+    local it
+    for it in "$@"; do
+        if [ -e "/proc/$it" ]; then return 1; fi
+    done
+}
+
 # ten ports that nobody serves, from $ports on
 free_ports() {
     local n
