@@ -238,6 +238,9 @@ run_exchanges() {
     expect 'a bridge again' 0 "$folder/none" bridge "$folder/four.db" "$folder/three.db"
     expect 'the sheet of a bridge' 0 "$folder/sheet" sheet "$folder/three.db" oak 1995-12-18
     expect 'the sheet at its other end' 0 "$folder/sheet" sheet "$folder/four.db" oak 1995-12-18
+    # without its log, which was copied into it
+    cp -- "$folder/three.db" "$folder/alone.db"
+    expect 'the sheet of the file alone' 0 "$folder/sheet" sheet "$folder/alone.db" oak 1995-12-18
     expect_line 'a bridge to nowhere' 1 'refused 26 NotAReplica' bridge "$folder/four.db" "$folder/five.db"
 
     serve "$folder/one.db" 3
