@@ -15,7 +15,7 @@ use Rattle.mr_net.specs.declared.ways.Way.{Way}
 use Rattle.mr_net.specs.declared.ways.Way.TheVariants.{Pull, Push}
 use Rattle.mr_net.specs.declared.ways.Round.{Round}
 use Rattle.mr_net.specs.Connections.{IsConnection, AreConnections}
-use Rattle.mr_net.specs.Rounds.{ComesTo, IsClient, IsServer}
+use Rattle.mr_net.specs.Rounds.{Brings, ComesTo, IsClient, IsServer}
 
 -- ---- the server's
 
@@ -51,6 +51,12 @@ is_err P (Err e) is = refl
 pub no_round : (P : Round → Type 0) (result : Result Round WebFault) → IsErr result → IfOk result P
 no_round P (Ok round) is = absurd (let never : false ≡ true = is in cc)
 no_round P (Err e) is = tt
+
+-- a round that some counts make has the ending of its batch
+pub ends_so : (counts : Result (ℕ × ℕ) WebFault) (ending : Ending) (result : Result Round WebFault) → Brings counts ending result
+    → IfOk result (λ round. ◌≡◌ {A = Result Ending WebFault} (Ok ending) (Ok round.ending))
+ends_so (Ok counts) ending result made = subst (λ r. IfOk r (λ round. ◌≡◌ {A = Result Ending WebFault} (Ok ending) (Ok round.ending))) (sym made) refl
+ends_so (Err fault) ending result made = subst (λ r. IfOk r (λ round. ◌≡◌ {A = Result Ending WebFault} (Ok ending) (Ok round.ending))) (sym made) tt
 
 -- it told its position, and no reply was taken
 pub untaken : {K : Type 0} (keeper : Ghosts K) (a m d : K) (host : Text) (held holds : Option Text) (asked : Result (Unit {0}) WebFault) (result : Result Round WebFault)

@@ -21,6 +21,11 @@ abbrev pub ComesTo : Result (ℕ × ℕ × Ending) WebFault → Result Round Web
 ComesTo (Ok parts) result = result ≡ Ok (record { writes = parts.0; commits = parts.1; ending = parts.2 })
 ComesTo (Err fault) result = result ≡ Err fault
 
+-- the counts that a peer told make a round whose batch ended so
+abbrev pub Brings : Result (ℕ × ℕ) WebFault → Ending → Result Round WebFault → Type 0
+Brings (Ok counts) ending result = result ≡ Ok (record { writes = counts.0; commits = counts.1; ending = ending })
+Brings (Err fault) ending result = result ≡ Err fault
+
 -- the round fails, and nothing was asked of the replica
 abbrev pub FailsUnasked : {K : Type 0} → K → Result Round WebFault → K → Type 0
 FailsUnasked old result new = IsErr result × (new ≡ old)

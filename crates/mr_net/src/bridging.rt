@@ -7,11 +7,13 @@ ghost use Rattle.mr_model.specs.Step.{AskPosition};
 ghost use Rattle.mr_say.specs.Told.{no_memory_line};
 ghost use Rattle.mr_peer.specs.Asking.{AsksPull, AsksPush, lacking};
 ghost use Rattle.mr_peer.specs.Exchanged.{IsExchanged};
+ghost use Rattle.mr_peer.specs.Replies.{told_took};
 ghost use Rattle.mr_peer.specs.Requests.{is_host};
 ghost use Rattle.mr_peer.specs.Steps.{TakesBody, TakesPulled};
+ghost use Rattle.mr_peer.specs.Taking.{Tells};
 ghost use Rattle.mr_net.specs.Bridged.{TellsBridge};
 ghost use Rattle.mr_net.specs.Printed.{EndsExchange, Stops};
-ghost use Rattle.mr_net.specs.Rounds.{ComesTo, IsServer, RunsBridged};
+ghost use Rattle.mr_net.specs.Rounds.{Brings, ComesTo, IsServer, RunsBridged};
 ghost use Rattle.mr_net.specs.declared.ways.Way.TheVariants.{Pull, Push};
 
 use crate::connecting::connect;
@@ -27,7 +29,7 @@ use mr_say::{NO_MEMORY, REFUSED, say, say_refusal};
 use mr_service::Service;
 use mr_store::Keeper;
 use std::alloc::Global;
-use std::io::Write;
+use std::io::{Read, Write};
 use std::net::{Ipv4Addr, TcpListener, TcpStream};
 
 /// The address of this machine alone.
@@ -97,12 +99,7 @@ impl<C: Keeper, S: Keeper> Neighbour<'_, C, S> {
         let host = self.host.as_str();
         let ending = ask_push(self.alloc, &mut self.client, &position, host, &stream)?;
         self.serve(&stream)?;
-        let (writes, commits) = push_take(self.alloc, &mut &stream)?;
-        Ok(Round {
-            writes,
-            commits,
-            ending,
-        })
+        take_push(self.alloc, ending, &mut &stream)
     }
 }
 
@@ -148,6 +145,16 @@ fn ask_push<C: Keeper>(
 {
     let mut writer = stream;
     push_ask(alloc, client, position, host, &mut writer)
+}
+
+/// Takes the reply to a batch that was handed over and ended so.
+fn take_push<R: Read>(alloc: Global, ending: Ending, reader: &mut R) -> Result<Round, WebFault>
+    ensures { (counts : _) × Tells told_took (R.remaining reader.old) counts × Brings counts ending result }
+{
+    match push_take(alloc, reader) {
+        Ok(counts) => Ok(Round::of((counts.0, counts.1, ending))),
+        Err(fault) => Err(fault),
+    }
 }
 
 /// The other end of this connection. Whoever else connects meanwhile is sent away.

@@ -1,6 +1,5 @@
 use Rattle.std.proofs.Common.{inl, refl, Ok, Err}
-use Rattle.mr_net.specs.declared.ways.Round.{Round}
-use Rattle.mr_net.proofs.BridgeLaws.{asked_once, asked_twice, handed, is_err, no_round}
+use Rattle.mr_net.proofs.BridgeLaws.{asked_once, asked_twice, ends_so, handed, is_err, no_round}
 use Rattle.mr_net.proofs.bridging.Neighbour.push.Goals as goal
 
 pub returns-in_err-position : goal.returns-in_err-position
@@ -34,21 +33,12 @@ returns-in_err-serve g c =
       asked_twice g.S.Keeper c.args.self.now.server c.position.new.self.server c.serve.new.self.server c.in_ok-position.ensures.server c.in_err-serve.ensures.server,
     )
 
-pub returns-in_err-writes : goal.returns-in_err-writes
-returns-in_err-writes g c =
-    let (held, holds, gave) = c.in_ok-ending.ensures in
-    let result = c.from_residual-in_err-writes.result in (
-      handed g.C.Keeper c.args.self.now.client c.position.new.self.client c.ask_push.new.client c.serve.new.self.client c.in_ok-position.position c.as_str-host.result.now held
-          holds (Ok c.in_ok-ending.ending) result c.in_ok-position.ensures.client gave c.in_ok-serve.ensures.client
-          (no_round _ result (is_err _ result c.from_residual-in_err-writes.ensures.1)),
-      asked_twice g.S.Keeper c.args.self.now.server c.position.new.self.server c.serve.new.self.server c.in_ok-position.ensures.server c.in_ok-serve.ensures.server,
-    )
-
 pub returns : goal.returns
 returns g c =
     let (held, holds, gave) = c.in_ok-ending.ensures in
-    let round : Round = record { writes = c.in_ok-writes.writes; commits = c.in_ok-writes.commits; ending = c.in_ok-ending.ending } in (
+    let (counts, told, brings) = c.take_push.ensures in (
       handed g.C.Keeper c.args.self.now.client c.position.new.self.client c.ask_push.new.client c.serve.new.self.client c.in_ok-position.position c.as_str-host.result.now held
-          holds (Ok c.in_ok-ending.ending) (Ok round) c.in_ok-position.ensures.client gave c.in_ok-serve.ensures.client refl,
+          holds (Ok c.in_ok-ending.ending) c.take_push.result c.in_ok-position.ensures.client gave c.in_ok-serve.ensures.client
+          (ends_so counts c.in_ok-ending.ending c.take_push.result brings),
       asked_twice g.S.Keeper c.args.self.now.server c.position.new.self.server c.serve.new.self.server c.in_ok-position.ensures.server c.in_ok-serve.ensures.server,
     )
