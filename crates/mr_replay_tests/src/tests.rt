@@ -1,15 +1,74 @@
 // A board's places, worked by hand: bookings and cancels that are executed in order, and a room that is replayed in another order.
+// A test is a list of writes, and steps on a new board. The functions that call the board have no clause, so that the proof of a
+// test does not carry its state.
 
 use mr_base::{Alternatives, Day, Refusal, RoomName, ServerId, Slot, Stamp, Title, Write, WriteId};
 use mr_replay::{Board, Kept, Place, Standing, UndoRow};
 use std::alloc::Global;
+use std::process::Abort;
 use std::test::Fail;
 
 const MONDAY: &str = "1995-12-18";
 
 const TUESDAY: &str = "1995-12-19";
 
-fn id((server, n): (u32, u32)) -> Result<WriteId, Refusal> {
+/// The server and the number of a write.
+type Numbers = (u32, u32);
+
+/// What a write is: a request with its day, its length, the start of its wish and those of its alternatives; or a cancel of
+/// the write with these numbers.
+#[derive(Clone, Copy)]
+enum Act {
+    Books(&'static str, u32, u32, &'static [u32]),
+    Cancels(Numbers),
+}
+
+/// A write with its numbers and its room.
+type Ask = (Numbers, &'static str, Act);
+
+/// What is done on a board, or asked of it, and what has to come of it.
+#[derive(Clone, Copy)]
+enum Step {
+    /// The writes from one place of the list up to another are executed together, and get these places.
+    Redo(usize, usize, &'static [(Numbers, Place)]),
+    /// They are executed one by one.
+    Execute(usize, usize, &'static [(Numbers, Place)]),
+    /// They are executed in oak once what was executed last is undone.
+    Replay(usize, usize, &'static [(Numbers, Place)]),
+    /// What was executed last is undone, the last one first, but for so many of the first.
+    Undo(usize),
+    /// Where the write at that place of the list would stand.
+    Merge(usize, Place),
+    /// The booking stands at that start.
+    Stands(Numbers, u32),
+    /// Its row is in the error log, with that start.
+    Logged(Numbers, u32),
+    /// It had that start until the cancel with the last numbers took it back.
+    TakenBack(Numbers, u32, Numbers),
+    /// Its row tells this room, start, length and title.
+    Tells(Numbers, (&'static str, u32), (u32, &'static str)),
+    /// What the row of a cancel has as its target, if there is such a row.
+    Target(Numbers, Option<Numbers>),
+    /// Whether oak is free on Monday from that start for that length.
+    Free(u32, u32, bool),
+    /// How many rows there are.
+    Rows(usize),
+    /// Whether there is a row of this write.
+    Has(Numbers, bool),
+    /// Whether a copy has one on which what was executed last is undone.
+    CopyHas(Numbers, bool),
+}
+
+/// A board, and the undo rows of what was executed on it last.
+#[derive(Drop)]
+struct Tried {
+    alloc: Global,
+    oak: RoomName,
+    board: Board,
+    rows: Vec<UndoRow>,
+}
+
+fn id((server, n): Numbers) -> Result<WriteId, Refusal> {
     let Some(server) = ServerId::new(server) else {
         return Err(Refusal::NotAReplica);
     };
@@ -22,7 +81,7 @@ fn id((server, n): (u32, u32)) -> Result<WriteId, Refusal> {
 /// A request for a room: its length, the start of its wish, and those of its alternatives.
 fn request(
     alloc: Global,
-    numbers: (u32, u32),
+    numbers: Numbers,
     (room, day): (&str, &str),
     (length, wish): (u32, u32),
     others: &[u32],
@@ -42,26 +101,43 @@ fn request(
     Write::new(stamp, room, title, length, wish, alternatives)
 }
 
-/// Xray at 09:00; Alpha at 09:00, else at 10:00; Beta at 10:00. Then requests that touch one of these, that are for another
-/// room or another day, and that the error log is not in the way of.
-fn requests(alloc: Global) -> Result<Vec<Write>, Refusal> {
-    let oak = ("oak", MONDAY);
-    let elm = ("elm", MONDAY);
+/// A cancel for a room.
+fn cancel(alloc: Global, numbers: Numbers, room: &str, target: Numbers) -> Result<Write, Refusal> {
+    let Some(stamp) = Stamp::new(id(numbers)?, 1) else {
+        return Err(Refusal::ClockExhausted);
+    };
+    Ok(Write::cancel(stamp, RoomName::new(alloc, room)?, id(target)?))
+}
+
+fn write(alloc: Global, (numbers, room, act): Ask) -> Result<Write, Refusal> {
+    match act {
+        Act::Books(day, length, wish, others) => {
+            request(alloc, numbers, (room, day), (length, wish), others)
+        }
+        Act::Cancels(target) => cancel(alloc, numbers, room, target),
+    }
+}
+
+fn writes(alloc: Global, asks: &[Ask]) -> Result<Vec<Write>, Refusal> {
     let mut list = Vec::new(alloc);
-    list.push(request(alloc, (1, 1), oak, (30, 540), &[])?)?;
-    list.push(request(alloc, (2, 1), oak, (60, 540), &[600])?)?;
-    list.push(request(alloc, (2, 2), oak, (60, 600), &[])?)?;
-    list.push(request(alloc, (1, 2), oak, (30, 510), &[])?)?;
-    list.push(request(alloc, (1, 3), oak, (31, 510), &[480, 479])?)?;
-    list.push(request(alloc, (3, 1), elm, (60, 540), &[])?)?;
-    list.push(request(alloc, (3, 2), ("oak", TUESDAY), (60, 540), &[])?)?;
-    list.push(request(alloc, (3, 3), elm, (60, 570), &[])?)?;
-    list.push(request(alloc, (2, 3), elm, (30, 600), &[])?)?;
+    for ask in asks {
+        list.push(write(alloc, *ask)?)?;
+    }
     Ok(list)
 }
 
+fn new_board(alloc: Global) -> Result<Tried, Refusal> {
+    let oak = RoomName::new(alloc, "oak")?;
+    Ok(Tried {
+        alloc,
+        oak,
+        board: Board::new(alloc),
+        rows: Vec::new(alloc),
+    })
+}
+
 /// Whether these are the undo rows of the writes with these numbers, at these places.
-fn are(rows: &[UndoRow], wanted: &[((u32, u32), Place)]) -> bool {
+fn are(rows: &[UndoRow], wanted: &[(Numbers, Place)]) -> bool {
     if rows.len() != wanted.len() {
         return false;
     }
@@ -73,10 +149,87 @@ fn are(rows: &[UndoRow], wanted: &[((u32, u32), Place)]) -> bool {
     true
 }
 
+fn redo(tried: &mut Tried, writes: &[Write], places: &[(Numbers, Place)]) -> Result<bool, Refusal> {
+    tried.rows = tried.board.redo_from(writes)?;
+    Ok(are(tried.rows.as_slice(), places))
+}
+
+fn execute(
+    tried: &mut Tried,
+    writes: &[Write],
+    places: &[(Numbers, Place)],
+) -> Result<bool, Refusal> {
+    let mut rows = Vec::new(tried.alloc);
+    for write in writes {
+        rows.push(tried.board.execute(write)?)?;
+    }
+    tried.rows = rows;
+    Ok(are(tried.rows.as_slice(), places))
+}
+
+fn replay(
+    tried: &mut Tried,
+    writes: &[Write],
+    places: &[(Numbers, Place)],
+) -> Result<bool, Refusal> {
+    let undone = tried.rows.as_slice();
+    tried.rows = tried.board.replay_room(&tried.oak, undone, writes)?;
+    Ok(are(tried.rows.as_slice(), places))
+}
+
+/// Undoes the executions of these rows, the last one first.
+fn undo_each(board: &mut Board, rows: &[UndoRow]) {
+    for row in rows.iter().rev() {
+        board.undo(*row);
+    }
+}
+
+/// What was executed last is undone, but for so many of the first.
+fn undo_behind(tried: &mut Tried, first: usize) {
+    let rows = tried.rows.as_slice().get(first..).unwrap_or(&[]);
+    undo_each(&mut tried.board, rows);
+}
+
+fn would_stand(board: &Board, write: Option<&Write>, place: Place) -> bool {
+    match write {
+        Some(write) => board.merge(write) == place,
+        None => false,
+    }
+}
+
+/// The start and the standing on the row of a booking.
+fn row_of(board: &Board, numbers: Numbers) -> Result<(u32, Standing), Refusal> {
+    let Some(row) = board.row(id(numbers)?) else {
+        return Err(Refusal::NoSuchRequest);
+    };
+    match &row.kept {
+        Kept::OfBooking { slot, standing, .. } => Ok((slot.start, *standing)),
+        Kept::OfCancel { .. } => Err(Refusal::NoSuchRequest),
+    }
+}
+
+fn is_row(
+    board: &Board,
+    numbers: Numbers,
+    start: u32,
+    standing: Standing,
+) -> Result<bool, Refusal> {
+    Ok(row_of(board, numbers)? == (start, standing))
+}
+
+fn is_taken_back(
+    board: &Board,
+    numbers: Numbers,
+    start: u32,
+    by: Numbers,
+) -> Result<bool, Refusal> {
+    is_row(board, numbers, start, Standing::CancelledBy(id(by)?))
+}
+
 /// Whether the row of a booking tells this room, start, length and title.
 fn tells(
     board: &Board,
-    numbers: (u32, u32),
+    numbers: Numbers,
     (in_room, start): (&str, u32),
     (minutes, named): (u32, &str),
 ) -> Result<bool, Refusal> {
@@ -99,19 +252,8 @@ fn tells(
     }
 }
 
-/// The start and the standing on the row of a booking.
-fn row_of(board: &Board, numbers: (u32, u32)) -> Result<(u32, Standing), Refusal> {
-    let Some(row) = board.row(id(numbers)?) else {
-        return Err(Refusal::NoSuchRequest);
-    };
-    match &row.kept {
-        Kept::OfBooking { slot, standing, .. } => Ok((slot.start, *standing)),
-        Kept::OfCancel { .. } => Err(Refusal::NoSuchRequest),
-    }
-}
-
 /// What the row of a cancel has as its target, if there is such a row.
-fn target_of(board: &Board, numbers: (u32, u32)) -> Result<Option<WriteId>, Refusal> {
+fn target_of(board: &Board, numbers: Numbers) -> Result<Option<WriteId>, Refusal> {
     let Some(row) = board.row(id(numbers)?) else {
         return Ok(None);
     };
@@ -121,20 +263,81 @@ fn target_of(board: &Board, numbers: (u32, u32)) -> Result<Option<WriteId>, Refu
     }
 }
 
-/// A cancel for a room.
-fn cancel(
-    alloc: Global,
-    numbers: (u32, u32),
-    room: &str,
-    target: (u32, u32),
-) -> Result<Write, Refusal> {
-    let Some(stamp) = Stamp::new(id(numbers)?, 1) else {
-        return Err(Refusal::ClockExhausted);
-    };
-    Ok(Write::cancel(stamp, RoomName::new(alloc, room)?, id(target)?))
+fn is_target(board: &Board, numbers: Numbers, target: Option<Numbers>) -> Result<bool, Refusal> {
+    match (target_of(board, numbers)?, target) {
+        (Some(found), Some(target)) => Ok((found.server.number(), found.n) == target),
+        (found, target) => Ok(found.is_none() && target.is_none()),
+    }
 }
 
-static PLACES: [((u32, u32), Place); 9] = [
+fn is_free(tried: &Tried, start: u32, length: u32, wanted: bool) -> Result<bool, Refusal> {
+    let slot = Slot::new(Day::read(MONDAY)?, start)?;
+    Ok(tried.board.check(&tried.oak, slot, length) == wanted)
+}
+
+fn has(board: &Board, numbers: Numbers, wanted: bool) -> Result<bool, Refusal> {
+    Ok(board.row(id(numbers)?).is_some() == wanted)
+}
+
+fn copy_has(tried: &Tried, numbers: Numbers, wanted: bool) -> Result<bool, Refusal> {
+    let mut copy = tried.board.copy()?;
+    copy.undo_all(tried.rows.as_slice());
+    has(&copy, numbers, wanted)
+}
+
+fn part(writes: &[Write], from: usize, to: usize) -> &[Write] {
+    writes.get(from..to).unwrap_or(&[])
+}
+
+/// Does what the step says; whether what has to come of it does.
+fn is_met(tried: &mut Tried, writes: &[Write], step: Step) -> Result<bool, Refusal> {
+    match step {
+        Step::Redo(from, to, places) => redo(tried, part(writes, from, to), places),
+        Step::Execute(from, to, places) => execute(tried, part(writes, from, to), places),
+        Step::Replay(from, to, places) => replay(tried, part(writes, from, to), places),
+        Step::Undo(first) => {
+            undo_behind(tried, first);
+            Ok(true)
+        }
+        Step::Merge(at, place) => Ok(would_stand(&tried.board, writes.get(at), place)),
+        Step::Stands(numbers, start) => is_row(&tried.board, numbers, start, Standing::Booked),
+        Step::Logged(numbers, start) => is_row(&tried.board, numbers, start, Standing::InErrorLog),
+        Step::TakenBack(numbers, start, by) => is_taken_back(&tried.board, numbers, start, by),
+        Step::Tells(numbers, place, words) => tells(&tried.board, numbers, place, words),
+        Step::Target(numbers, target) => is_target(&tried.board, numbers, target),
+        Step::Free(start, length, wanted) => is_free(tried, start, length, wanted),
+        Step::Rows(count) => Ok(tried.board.len() == count),
+        Step::Has(numbers, wanted) => has(&tried.board, numbers, wanted),
+        Step::CopyHas(numbers, wanted) => copy_has(tried, numbers, wanted),
+    }
+}
+
+/// Each of these steps is met, on a new board.
+fn check(rt: &impl Abort, alloc: Global, asks: &[Ask], steps: &[Step]) -> Result<(), Fail> {
+    let writes = writes(alloc, asks)?;
+    let mut tried = new_board(alloc)?;
+    for (at, step) in steps.iter().enumerate() {
+        let is_met = is_met(&mut tried, writes.as_slice(), *step)?;
+        assert!(rt; is_met, "step {at}");
+    }
+    Ok(())
+}
+
+/// Xray at 09:00; Alpha at 09:00, else at 10:00; Beta at 10:00. Then requests that touch one of these, that are for another
+/// room or another day, and that the error log is not in the way of.
+static REQUESTS: [Ask; 9] = [
+    ((1, 1), "oak", Act::Books(MONDAY, 30, 540, &[])),
+    ((2, 1), "oak", Act::Books(MONDAY, 60, 540, &[600])),
+    ((2, 2), "oak", Act::Books(MONDAY, 60, 600, &[])),
+    ((1, 2), "oak", Act::Books(MONDAY, 30, 510, &[])),
+    ((1, 3), "oak", Act::Books(MONDAY, 31, 510, &[480, 479])),
+    ((3, 1), "elm", Act::Books(MONDAY, 60, 540, &[])),
+    ((3, 2), "oak", Act::Books(TUESDAY, 60, 540, &[])),
+    ((3, 3), "elm", Act::Books(MONDAY, 60, 570, &[])),
+    ((2, 3), "elm", Act::Books(MONDAY, 30, 600, &[])),
+];
+
+const PLACES: &[(Numbers, Place)] = &[
     ((1, 1), Place::Taken(0)),
     ((2, 1), Place::Taken(1)),
     ((2, 2), Place::Logged),
@@ -147,100 +350,81 @@ static PLACES: [((u32, u32), Place); 9] = [
 ];
 
 /// The first three of them.
-static CHAIN: [((u32, u32), Place); 3] = [
+const CHAIN: &[(Numbers, Place)] = &[
     ((1, 1), Place::Taken(0)),
     ((2, 1), Place::Taken(1)),
     ((2, 2), Place::Logged),
 ];
 
 /// The second and the third where the first isn't there.
-static ALONE: [((u32, u32), Place); 2] = [((2, 1), Place::Taken(0)), ((2, 2), Place::Taken(0))];
+const ALONE: &[(Numbers, Place)] = &[((2, 1), Place::Taken(0)), ((2, 2), Place::Taken(0))];
+
+static IN_ORDER: [Step; 5] = [
+    Step::Redo(0, 9, PLACES),
+    Step::Stands((1, 3), 479),
+    Step::Logged((2, 2), 600),
+    Step::Free(449, 30, true),
+    Step::Free(449, 31, false),
+];
 
 #[test]
 fn requests_are_executed_in_order(rt: HostRuntime) -> Result<(), Fail> {
-    let slot = Slot::new(Day::read(MONDAY)?, 449)?;
-    let requests = requests(rt.alloc())?;
-    let mut board = Board::new(rt.alloc());
-    let rows = board.redo_from(requests.as_slice())?;
-    assert!(rt; are(rows.as_slice(), &PLACES));
-    assert_eq!(rt; row_of(&board, (1, 3)), Ok((479, Standing::Booked)));
-    assert_eq!(rt; row_of(&board, (2, 2)), Ok((600, Standing::InErrorLog)));
-    let oak = RoomName::new(rt.alloc(), "oak")?;
-    assert!(rt; board.check(&oak, slot, 30) && !board.check(&oak, slot, 31));
-    Ok(())
+    check(&rt, rt.alloc(), &REQUESTS, &IN_ORDER)
 }
 
-/// Undoes the executions of these rows, the last one first.
-fn undo_each(board: &mut Board, rows: &[UndoRow]) {
-    for row in rows.iter().rev() {
-        board.undo(*row);
-    }
-}
+static UNDONE: [Step; 5] = [
+    Step::Redo(1, 3, ALONE),
+    Step::Undo(0),
+    Step::Redo(0, 3, CHAIN),
+    Step::Undo(0),
+    Step::Redo(1, 3, ALONE),
+];
 
 #[test]
 fn a_chain_is_undone_and_executed_again(rt: HostRuntime) -> Result<(), Fail> {
-    let requests = requests(rt.alloc())?;
-    let chain = requests.as_slice().get(..3).unwrap_or(&[]);
-    let late = chain.get(1..).unwrap_or(&[]);
-    let mut board = Board::new(rt.alloc());
-    let rows = board.redo_from(late)?;
-    assert!(rt; are(rows.as_slice(), &ALONE));
-    undo_each(&mut board, rows.as_slice());
-    let rows = board.redo_from(chain)?;
-    assert!(rt; are(rows.as_slice(), &CHAIN));
-    undo_each(&mut board, rows.as_slice());
-    let rows = board.redo_from(late)?;
-    assert!(rt; are(rows.as_slice(), &ALONE));
-    Ok(())
+    check(&rt, rt.alloc(), &REQUESTS, &UNDONE)
 }
+
+static ONE: [Ask; 1] = [((1, 3), "elm", Act::Books(MONDAY, 31, 510, &[]))];
+
+static TELLING: [Step; 2] = [
+    Step::Execute(0, 1, &[((1, 3), Place::Taken(0))]),
+    Step::Tells((1, 3), ("elm", 510), (31, "Alpha")),
+];
 
 #[test]
 fn a_row_tells_its_request(rt: HostRuntime) -> Result<(), Fail> {
-    let write = request(rt.alloc(), (1, 3), ("elm", MONDAY), (31, 510), &[])?;
-    let mut board = Board::new(rt.alloc());
-    board.execute(&write)?;
-    assert!(rt; tells(&board, (1, 3), ("elm", 510), (31, "Alpha"))?);
-    Ok(())
+    check(&rt, rt.alloc(), &ONE, &TELLING)
 }
+
+static IN_ANOTHER_ORDER: [Step; 7] = [
+    Step::Execute(5, 6, &[((3, 1), Place::Taken(0))]),
+    Step::Merge(2, Place::Taken(0)),
+    Step::Execute(1, 3, ALONE),
+    Step::Replay(0, 3, CHAIN),
+    Step::CopyHas((3, 1), true),
+    Step::CopyHas((1, 1), false),
+    Step::Has((1, 1), true),
+];
 
 #[test]
 fn a_room_is_replayed_in_another_order(rt: HostRuntime) -> Result<(), Fail> {
-    let alloc = rt.alloc();
-    let requests = requests(alloc)?;
-    let [xray, alpha, beta, _, _, elm, ..] = requests.as_slice() else {
-        return Err(Fail::new("there are six requests"));
-    };
-    let mut board = Board::new(alloc);
-    let elm = board.execute(elm)?;
-    assert_eq!(rt; board.merge(beta), Place::Taken(0));
-    let undone = [board.execute(alpha)?, board.execute(beta)?];
-    let oak = RoomName::new(alloc, "oak")?;
-    let again = requests.as_slice().get(..3).unwrap_or(&[]);
-    let rows = board.replay_room(&oak, undone.as_slice(), again)?;
-    assert!(rt; are(rows.as_slice(), &CHAIN));
-    let mut copy = board.copy()?;
-    copy.undo_all(rows.as_slice());
-    assert!(rt; copy.row(elm.id).is_some() && copy.row(xray.stamp.id()).is_none());
-    assert!(rt; board.row(xray.stamp.id()).is_some());
-    Ok(())
+    check(&rt, rt.alloc(), &REQUESTS, &IN_ANOTHER_ORDER)
 }
 
 /// Alpha at 09:00; Beta at 09:00, else at 10:00; a cancel of Alpha; Gamma at 09:00; another cancel of Alpha, one of Gamma that
 /// is for another room, and one of a cancel.
-fn with_cancels(alloc: Global) -> Result<Vec<Write>, Refusal> {
-    let oak = ("oak", MONDAY);
-    let mut list = Vec::new(alloc);
-    list.push(request(alloc, (1, 1), oak, (60, 540), &[])?)?;
-    list.push(request(alloc, (1, 2), oak, (60, 540), &[600])?)?;
-    list.push(cancel(alloc, (1, 3), "oak", (1, 1))?)?;
-    list.push(request(alloc, (1, 4), oak, (60, 540), &[])?)?;
-    list.push(cancel(alloc, (1, 5), "oak", (1, 1))?)?;
-    list.push(cancel(alloc, (1, 6), "elm", (1, 4))?)?;
-    list.push(cancel(alloc, (1, 7), "oak", (1, 3))?)?;
-    Ok(list)
-}
+static WITH_CANCELS: [Ask; 7] = [
+    ((1, 1), "oak", Act::Books(MONDAY, 60, 540, &[])),
+    ((1, 2), "oak", Act::Books(MONDAY, 60, 540, &[600])),
+    ((1, 3), "oak", Act::Cancels((1, 1))),
+    ((1, 4), "oak", Act::Books(MONDAY, 60, 540, &[])),
+    ((1, 5), "oak", Act::Cancels((1, 1))),
+    ((1, 6), "elm", Act::Cancels((1, 4))),
+    ((1, 7), "oak", Act::Cancels((1, 3))),
+];
 
-static CANCELLED: [((u32, u32), Place); 7] = [
+const CANCELLED: &[(Numbers, Place)] = &[
     ((1, 1), Place::Taken(0)),
     ((1, 2), Place::Taken(1)),
     ((1, 3), Place::Done),
@@ -250,103 +434,79 @@ static CANCELLED: [((u32, u32), Place); 7] = [
     ((1, 7), Place::Void),
 ];
 
+static TAKEN_BACK: [Step; 9] = [
+    Step::Redo(0, 7, CANCELLED),
+    Step::TakenBack((1, 1), 540, (1, 3)),
+    Step::Stands((1, 4), 540),
+    Step::Target((1, 3), None),
+    Step::Target((1, 5), Some((1, 1))),
+    Step::Undo(2),
+    Step::Stands((1, 1), 540),
+    Step::Rows(2),
+    Step::Free(540, 60, false),
+];
+
 #[test]
 fn a_cancel_takes_its_target_back_and_is_undone(rt: HostRuntime) -> Result<(), Fail> {
-    let writes = with_cancels(rt.alloc())?;
-    let mut board = Board::new(rt.alloc());
-    let rows = board.redo_from(writes.as_slice())?;
-    assert!(rt; are(rows.as_slice(), &CANCELLED));
-    let gone = Standing::CancelledBy(id((1, 3))?);
-    assert_eq!(rt; row_of(&board, (1, 1)), Ok((540, gone)));
-    assert_eq!(rt; row_of(&board, (1, 4)), Ok((540, Standing::Booked)));
-    assert_eq!(rt; target_of(&board, (1, 3)), Ok(None));
-    assert_eq!(rt; target_of(&board, (1, 5)), Ok(Some(id((1, 1))?)));
-    let late = rows.as_slice().get(2..).unwrap_or(&[]);
-    undo_each(&mut board, late);
-    assert_eq!(rt; row_of(&board, (1, 1)), Ok((540, Standing::Booked)));
-    assert_eq!(rt; board.len(), 2);
-    let slot = Slot::new(Day::read(MONDAY)?, 540)?;
-    let oak = RoomName::new(rt.alloc(), "oak")?;
-    assert!(rt; !board.check(&oak, slot, 60));
-    Ok(())
+    check(&rt, rt.alloc(), &WITH_CANCELS, &TAKEN_BACK)
 }
 
 /// A cancel of Alpha, and then Alpha at 09:00.
-fn cancel_first(alloc: Global) -> Result<Vec<Write>, Refusal> {
-    let mut list = Vec::new(alloc);
-    list.push(cancel(alloc, (2, 2), "oak", (2, 1))?)?;
-    list.push(request(alloc, (2, 1), ("oak", MONDAY), (60, 540), &[])?)?;
-    Ok(list)
-}
+static CANCEL_FIRST: [Ask; 2] = [
+    ((2, 2), "oak", Act::Cancels((2, 1))),
+    ((2, 1), "oak", Act::Books(MONDAY, 60, 540, &[])),
+];
 
-static NOTHING_BACK: [((u32, u32), Place); 2] = [((2, 2), Place::Void), ((2, 1), Place::Taken(0))];
+static NOTHING_BACK: [Step; 3] = [
+    Step::Redo(0, 2, &[((2, 2), Place::Void), ((2, 1), Place::Taken(0))]),
+    Step::Stands((2, 1), 540),
+    Step::Target((2, 2), Some((2, 1))),
+];
 
 #[test]
 fn a_cancel_in_front_of_its_target_takes_nothing_back(rt: HostRuntime) -> Result<(), Fail> {
-    let writes = cancel_first(rt.alloc())?;
-    let mut board = Board::new(rt.alloc());
-    let rows = board.redo_from(writes.as_slice())?;
-    assert!(rt; are(rows.as_slice(), &NOTHING_BACK));
-    assert_eq!(rt; row_of(&board, (2, 1)), Ok((540, Standing::Booked)));
-    assert_eq!(rt; target_of(&board, (2, 2)), Ok(Some(id((2, 1))?)));
-    Ok(())
+    check(&rt, rt.alloc(), &CANCEL_FIRST, &NOTHING_BACK)
 }
 
-static WITH_XRAY: [((u32, u32), Place); 3] = [
+/// Xray at 09:30; Alpha at 09:00; a cancel of Alpha; and Xray once more, for the order in which the cancel comes first.
+static OVERLAPPING: [Ask; 4] = [
+    ((1, 1), "oak", Act::Books(MONDAY, 60, 570, &[])),
+    ((2, 1), "oak", Act::Books(MONDAY, 60, 540, &[])),
+    ((2, 2), "oak", Act::Cancels((2, 1))),
+    ((1, 1), "oak", Act::Books(MONDAY, 60, 570, &[])),
+];
+
+static WITH_ITS_CANCELS: [Step; 7] = [
+    Step::Execute(1, 2, &[((2, 1), Place::Taken(0))]),
+    Step::Execute(2, 3, &[((2, 2), Place::Done)]),
+    Step::Merge(0, Place::Taken(0)),
+    // without the cancel Alpha stands again, and Xray is logged
+    Step::Replay(0, 1, &[((1, 1), Place::Logged)]),
+    Step::Stands((2, 1), 540),
+    // with it executed in front of Xray, Xray has its slot
+    Step::Replay(2, 4, &[((2, 2), Place::Done), ((1, 1), Place::Taken(0))]),
+    Step::Stands((1, 1), 570),
+];
+
+#[test]
+fn a_room_is_replayed_with_its_cancels(rt: HostRuntime) -> Result<(), Fail> {
+    check(&rt, rt.alloc(), &OVERLAPPING, &WITH_ITS_CANCELS)
+}
+
+const BEHIND_XRAY: &[(Numbers, Place)] = &[
     ((1, 1), Place::Taken(0)),
     ((2, 1), Place::Logged),
     ((2, 2), Place::Void),
 ];
 
-static XRAY_ALONE: [((u32, u32), Place); 1] = [((1, 1), Place::Logged)];
-
-static CANCEL_FIRST: [((u32, u32), Place); 2] = [((2, 2), Place::Done), ((1, 1), Place::Taken(0))];
-
-/// Xray at 09:30; Alpha at 09:00; a cancel of Alpha.
-fn overlapping(alloc: Global) -> Result<Vec<Write>, Refusal> {
-    let mut list = Vec::new(alloc);
-    list.push(request(alloc, (1, 1), ("oak", MONDAY), (60, 570), &[])?)?;
-    list.push(request(alloc, (2, 1), ("oak", MONDAY), (60, 540), &[])?)?;
-    list.push(cancel(alloc, (2, 2), "oak", (2, 1))?)?;
-    Ok(list)
-}
-
-#[test]
-fn a_room_is_replayed_with_its_cancels(rt: HostRuntime) -> Result<(), Fail> {
-    let alloc = rt.alloc();
-    let oak = RoomName::new(alloc, "oak")?;
-    let writes = overlapping(alloc)?;
-    let [xray, alpha, gone] = writes.as_slice() else {
-        return Err(Fail::new("there are three writes"));
-    };
-    let mut board = Board::new(alloc);
-    board.execute(alpha)?;
-    let undone = [board.execute(gone)?];
-    assert_eq!(rt; board.merge(xray), Place::Taken(0));
-    // without the cancel Alpha stands again, and Xray is logged
-    let again = writes.as_slice().get(..1).unwrap_or(&[]);
-    let rows = board.replay_room(&oak, undone.as_slice(), again)?;
-    assert!(rt; are(rows.as_slice(), &XRAY_ALONE));
-    assert_eq!(rt; row_of(&board, (2, 1)), Ok((540, Standing::Booked)));
-    // with it executed in front of Xray, Xray has its slot
-    let again = [gone.copy(alloc)?, xray.copy(alloc)?];
-    let rows = board.replay_room(&oak, rows.as_slice(), again.as_slice())?;
-    assert!(rt; are(rows.as_slice(), &CANCEL_FIRST));
-    assert_eq!(rt; row_of(&board, (1, 1)), Ok((570, Standing::Booked)));
-    Ok(())
-}
+static WRITE_IN_FRONT: [Step; 4] = [
+    Step::Redo(1, 3, &[((2, 1), Place::Taken(0)), ((2, 2), Place::Done)]),
+    Step::Replay(0, 3, BEHIND_XRAY),
+    Step::Logged((2, 1), 540),
+    Step::Target((2, 2), Some((2, 1))),
+];
 
 #[test]
 fn a_write_in_front_changes_what_a_cancel_finds(rt: HostRuntime) -> Result<(), Fail> {
-    let alloc = rt.alloc();
-    let oak = RoomName::new(alloc, "oak")?;
-    let writes = overlapping(alloc)?;
-    let mut board = Board::new(alloc);
-    let late = writes.as_slice().get(1..).unwrap_or(&[]);
-    let undone = board.redo_from(late)?;
-    let rows = board.replay_room(&oak, undone.as_slice(), writes.as_slice())?;
-    assert!(rt; are(rows.as_slice(), &WITH_XRAY));
-    assert_eq!(rt; row_of(&board, (2, 1)), Ok((540, Standing::InErrorLog)));
-    assert_eq!(rt; target_of(&board, (2, 2)), Ok(Some(id((2, 1))?)));
-    Ok(())
+    check(&rt, rt.alloc(), &OVERLAPPING, &WRITE_IN_FRONT)
 }
