@@ -1,18 +1,16 @@
 -- Of the writes that a batch executes anew, those that get other rows in the log: how they are picked.
 use Rattle.std.proofs.Common.{◌≡◌, ℕ, zero, suc, ◌+◌, ◌<◌, ◌≤◌, ◌||◌, ltb, Bool, true, false, not, cond, List, [], ◌∷◌, ◌++◌, length, get_or, take, drop, map, Some, refl, sym, ap, ◌∙◌, append_assoc, append-nil, arith, eqb-true}
 use Rattle.std.specs.List.{filter}
-use Rattle.std.specs.BTreeMap.{Updates}
 use Rattle.std.proofs.lemmas.Bool.{true≢false}
 use Rattle.std.proofs.lemmas.Bool.Decides.{nat_tests}
 use Rattle.std.proofs.lemmas.List.{take-append-le, drop-append-le, drop_more, take_more, get_or-map, length-take-le, map-append, length-append}
 use Rattle.std.proofs.lemmas.List.Elements.{filter-append}
 use Rattle.mr_model.specs.Replay.{Place, Taken, Logged, Done, Void}
 use Rattle.mr_model.specs.Writes.{Write}
-use Rattle.mr_base.specs.Ids.{id_cmp}
 use Rattle.mr_replay.specs.Places.{UndoRow}
-use Rattle.mr_replay.proofs.Ids.{at_is}
-use Rattle.mr_part.specs.Changed.{AreById, RowsById, row_at, tells, same_place, is_elsewhere, picked}
+use Rattle.mr_part.specs.Changed.{tells, same_place, is_elsewhere, picked}
 use Rattle.mr_replica.specs.Logged.{undo_with}
+use Rattle.mr_replica.specs.RoomMoves.{row_at}
 
 pub same_place-true : (p q : Place) → same_place p q ≡ true → p ≡ q
 same_place-true (Taken j) (Taken k) e = ap Taken (eqb-true j k e)
@@ -31,14 +29,6 @@ same_place-true Void (Taken k) e = absurd (true≢false (sym e))
 same_place-true Void Logged e = absurd (true≢false (sym e))
 same_place-true Void Done e = absurd (true≢false (sym e))
 same_place-true Void Void e = refl
-
--- ---- by ids
-
--- a row that is put in takes the place of the later rows of its id
-pub by_id-more : (rows : List UndoRow) (k : ℕ) (row : UndoRow) (old new : RowsById) → k < length rows → row ≡ get_or rows k row → Updates id_cmp old new row.id (Some row) → AreById old (drop (k + 1) rows) → AreById new (drop k rows)
-by_id-more rows k row old new h is put had = λ id.
-    put.0 id ∙ (λ t. cond (at_is t row.id id) (Some row) (had id t))
-    ∙ ap (λ us. row_at us id) (ap (λ u. u ∷ drop (k + 1) rows) is ∙ sym (drop_more rows k row h))
 
 -- ---- one by one
 

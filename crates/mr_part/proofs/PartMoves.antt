@@ -7,7 +7,7 @@ use Rattle.mr_model.specs.Texts.{Text}
 use Rattle.mr_model.specs.Writes.{Write, id_of, same_id}
 use Rattle.mr_model.specs.Replica.{Replica, IsReplica, tentative}
 use Rattle.mr_model.specs.Exchange.{Item}
-use Rattle.mr_model.specs.View.{place_of}
+use Rattle.mr_model.specs.View.{of_room, place_of}
 use Rattle.mr_model.specs.Tables.{seq_of, tables_of}
 use Rattle.mr_model.specs.Dropped.{Has}
 use Rattle.mr_model.specs.Scopes.{is_late, is_touched}
@@ -16,7 +16,7 @@ use Rattle.mr_model.proofs.KnownById.{one_known, tentative_known}
 use Rattle.mr_model.proofs.Members.{has_right, filter_has, map_has, find_has, has_among, same_id-true}
 use Rattle.mr_model.proofs.RowsById.{seq_not}
 use Rattle.mr_replay.specs.Places.{UndoRow}
-use Rattle.mr_replay.specs.Rows.{Rows, executed_all, undone_all, undo_rows_of}
+use Rattle.mr_replay.specs.Rows.{Rows}
 use Rattle.mr_replay.specs.Holds.{if_of}
 use Rattle.mr_replay.specs.Bookings.{if_taken}
 use Rattle.mr_tables.specs.declared.summary.Summary.{Summary}
@@ -24,12 +24,13 @@ use Rattle.mr_tables.specs.Change.{ChangeView, changed}
 use Rattle.mr_tables.specs.Rooms.{rooms_beside}
 use Rattle.mr_tables.specs.Written.{meta_of, changed_tallies, written}
 use Rattle.mr_replica.specs.ChangeLaws.{vector_between}
-use Rattle.mr_part.specs.Changed.{is_elsewhere, row_at, tells, same_place, picked}
+use Rattle.mr_part.specs.Changed.{is_elsewhere, tells, same_place, picked}
 use Rattle.mr_part.specs.PartMoves.{MovesPart}
 use Rattle.mr_replica.specs.Logged.{undo_with}
+use Rattle.mr_replica.specs.RoomMoves.{RoomMoves, ReplaysRooms, undone_at, board_after, rows_after, row_at}
 use Rattle.mr_replica.specs.Placing.{with_places_put, RowEnds, cancellers_on}
 use Rattle.mr_replica.specs.Targets.{aimed_at, moved_targets}
-use Rattle.mr_replica.proofs.BatchBoards.{moving, undone_rows, board_left, board_anew, ShowsAnew, replayed, undo_rows_are}
+use Rattle.mr_replica.proofs.BatchBoards.{moving, undone_rows}
 use Rattle.mr_replica.proofs.BatchChanges.{again_few, batch_turns}
 use Rattle.mr_replica.proofs.BatchNumbers.{commits_long}
 use Rattle.mr_part.proofs.ChangedRows.{same_place-true, picked_parts}
@@ -37,6 +38,7 @@ use Rattle.mr_replica.proofs.DeskBoards.{tallies_of}
 use Rattle.mr_replica.proofs.DeskMoves.{board_holds}
 use Rattle.mr_part.proofs.PartBoards.{board_in, board_in_ordered, has_bookings}
 use Rattle.mr_replica.proofs.Replays.{bookings_view}
+use Rattle.mr_replica.proofs.RoomsApart.{IsGrouped, ShowsApart, rooms_apart}
 use Rattle.mr_replica.proofs.Targeting.{Shows, targets_end}
 
 -- ---- boards
@@ -49,27 +51,11 @@ module _ (a b : Replica) (items : List Item) (m : BatchMoves a b items) (sound :
   abbrev pub old : Rows
   old = board_in mine a
 
-  abbrev pub new : Rows
-  new = board_anew a b items m sound old
-
   of_moving : (w : Write) → Has w (moving a items a) → mine w.room ≡ true
   of_moving w h = (and_parts (is_touched (tables_of a) items w.room) (is_late (length a.commits) items w.stamp.time w.stamp.server) (filter_has (may_move a items) w (tentative a) h).1).0
 
-  done : ShowsAnew a b items m sound mine of_moving m.touched (λ room o. if_taken (if_of room o)) if_taken old
-  done = replayed a b items m sound mine of_moving m.touched (λ room o. if_taken (if_of room o)) if_taken old bookings_view (board_in_ordered mine a) (has_bookings a mine sound)
-
   shows_old : (w : Write) → Has w (again a items m.news b) → Shows a w.room old
   shows_old w h q = has_bookings a mine sound w.room (m.touched w h) q ∙ sym (ap if_taken ((board_holds a sound).rooms w.room q))
-
-  shows_new : (w : Write) → Has w (again a items m.news b) → Shows b w.room new
-  shows_new w h q = done.has w.room (m.touched w h) q ∙ sym (ap if_taken ((board_holds b m.sound).rooms w.room q))
-
-  -- executed on the part's board, where the others are undone, they get their places
-  pub again_rows : undo_rows_of (board_left a items old) (again a items m.news b) ≡ map (undo_with (place_of b)) (again a items m.news b)
-  again_rows = undo_rows_are (place_of b) (board_left a items old) (again a items m.news b) done.places
-
-  pub again_end : (w : Write) → Has w (again a items m.news b) → RowEnds (if_taken (aimed_at new w.room w.action))
-  again_end w h = targets_end a b items m sound old new shows_old shows_new w h
 
   -- ---- those whose rows in the log change
 
@@ -109,42 +95,66 @@ module _ (a b : Replica) (items : List Item) (m : BatchMoves a b items) (sound :
       let both = length-filter_both test (λ w. not (test w)) (λ w. refl) (moving a items b) in
       omega (arith, few, all, some, both)
 
-  pub changing_turns : ((t : Text) → Has t a.rooms → Has t b.rooms)
-      → changed
-      (with_places_put
-      (written (tables_of b).meta (rooms_beside a.rooms b.rooms) (vector_between a b) (length b.commits) (length a.commits + 1) changing (map (undo_with (place_of b)) changing) (cancellers_on new changing))
-      (moved_targets (tallies_of b) old new (again a items m.news b)))
-      (tables_of a)
-      ≡ tables_of b
-  changing_turns rooms = batch_turns a b items m sound old new shows_old shows_new (is_elsewhere (undone_rows a items) (place_of b)) told rooms
+  -- ---- the rooms replayed one after the other
+
+  module _ (moves : RoomMoves) (grouped : IsGrouped a b items m sound moves) where
+    abbrev pub new : Rows
+    new = board_after moves.entries old
+
+    done : ShowsApart a b items m sound mine of_moving m.touched (λ room o. if_taken (if_of room o)) if_taken bookings_view moves grouped old
+    done = rooms_apart a b items m sound mine of_moving m.touched (λ room o. if_taken (if_of room o)) if_taken bookings_view moves grouped old (board_in_ordered mine a) (has_bookings a mine sound)
+
+    -- executed on the part's board, where the others are undone, they get their places
+    pub again_found : (w : Write) → Has w (again a items m.news b) → row_at (rows_after moves.entries old) (id_of w) ≡ Some (undo_with (place_of b) w)
+    again_found = done.found
+
+    shows_new : (w : Write) → Has w (again a items m.news b) → Shows b w.room new
+    shows_new w h q = done.has w.room (m.touched w h) q ∙ sym (ap if_taken ((board_holds b m.sound).rooms w.room q))
+
+    pub again_end : (w : Write) → Has w (again a items m.news b) → RowEnds (if_taken (aimed_at new w.room w.action))
+    again_end w h = targets_end a b items m sound old new shows_old shows_new w h
+
+    pub changing_turns : ((t : Text) → Has t a.rooms → Has t b.rooms)
+        → changed
+        (with_places_put
+        (written (tables_of b).meta (rooms_beside a.rooms b.rooms) (vector_between a b) (length b.commits) (length a.commits + 1) changing (map (undo_with (place_of b)) changing) (cancellers_on new changing))
+        (moved_targets (tallies_of b) old new (again a items m.news b)))
+        (tables_of a)
+        ≡ tables_of b
+    changing_turns rooms = batch_turns a b items m sound old new shows_old shows_new (is_elsewhere (undone_rows a items) (place_of b)) told rooms
 
 -- ---- a call of a part
 
-module _ (was : Summary) (known : List Text) (board : Rows) (items : List Item) (a b : Replica) (s : Summary) (rooms : List Text) (us : List UndoRow) (ws : List Write) (h : MovesPart was known board items a b s rooms us ws) where
-  left_is : undone_all board us ≡ board_left a items (old a b items h.moves h.sound)
-  left_is = λ i. undone_all (h.board_is i) (h.undone_are i)
+module _ (was : Summary) (known : List Text) (board : Rows) (items : List Item) (a b : Replica) (s : Summary) (rooms : List Text) (us : List UndoRow) (in_rooms : RoomMoves) (ws : List Write) (h : MovesPart was known board items a b s rooms us in_rooms ws) (after : Rows) (rows : List UndoRow) (r : ReplaysRooms (undone_at in_rooms) ws board after rows) where
+  grouped : IsGrouped a b items h.moves h.sound r.moves
+  grouped = record {
+    undone = λ name. r.undone_are name ∙ (h.rooms_undone name).0;
+    again = λ name. r.again_are name ∙ ap (of_room name) h.writes_are;
+    ordered = r.ordered;
+  }
+
+  anew_has : (w : Write) → Has w ws → Has w (again a items h.moves.news b)
+  anew_has w g = subst (λ (vs : List Write). Has w vs) h.writes_are g
 
   -- what the part's board gives are the places that the writes have
-  pub part_rows : undo_rows_of (undone_all board us) ws ≡ map (undo_with (place_of b)) ws
+  pub part_rows : rows ≡ map (undo_with (place_of b)) ws
   part_rows =
-      (λ i. undo_rows_of (left_is i) (h.writes_are i))
-      ∙ again_rows a b items h.moves h.sound
-      ∙ ap (map (undo_with (place_of b))) (sym h.writes_are)
+      r.rows_are (undo_with (place_of b)) (λ w g. ap (λ c. row_at (rows_after r.moves.entries c) (id_of w)) h.board_is ∙ again_found a b items h.moves h.sound r.moves grouped w (anew_has w g))
 
-  pub part_board : executed_all (undone_all board us) ws ≡ new a b items h.moves h.sound
-  part_board = λ i. executed_all (left_is i) (h.writes_are i)
+  part_board : after ≡ new a b items h.moves h.sound r.moves grouped
+  part_board = r.board_is ∙ ap (board_after r.moves.entries) h.board_is
 
   -- what they aim at ends on its day
-  pub part_ends : (w : Write) → Has w ws → RowEnds (if_taken (aimed_at (executed_all (undone_all board us) ws) w.room w.action))
-  part_ends w g = subst (λ c. RowEnds (if_taken (aimed_at c w.room w.action))) (sym part_board) (again_end a b items h.moves h.sound w (subst (λ vs. Has w vs) h.writes_are g))
+  pub part_ends : (w : Write) → Has w ws → RowEnds (if_taken (aimed_at after w.room w.action))
+  part_ends w g = subst (λ c. RowEnds (if_taken (aimed_at c w.room w.action))) (sym part_board) (again_end a b items h.moves h.sound r.moves grouped w (anew_has w g))
 
   pub part_moved : (news : ℕ) (change : ChangeView) → news ≡ s.commits - was.commits
       → (was.commits + 1 + length (picked news us (place_of b) ws) < 18446744073709551616
       → change
       ≡ with_places_put
       (written (meta_of s) (rooms_beside known rooms) (changed_tallies was.tallies s.tallies) s.commits (was.commits + 1) (picked news us (place_of b) ws) (map (undo_with (place_of b)) (picked news us (place_of b) ws))
-      (cancellers_on (executed_all (undone_all board us) ws) (picked news us (place_of b) ws)))
-      (moved_targets s.tallies board (executed_all (undone_all board us) ws) ws))
+      (cancellers_on after (picked news us (place_of b) ws)))
+      (moved_targets s.tallies board after ws))
       → changed change (tables_of a) ≡ tables_of b
   part_moved news change count change_is =
       let commits : was.commits ≡ length a.commits = ap (λ (v : Summary). v.commits) h.old_is in
@@ -161,4 +171,4 @@ module _ (was : Summary) (known : List Text) (board : Rows) (items : List Item) 
       (written (meta_of (h.summary_is i)) (rooms_beside (h.known_are i) (h.rooms_are i)) (changed_tallies (h.old_is i).tallies (h.summary_is i).tallies) (h.summary_is i).commits ((h.old_is i).commits + 1) (cs i) (map (undo_with (place_of b)) (cs i))
       (cancellers_on (part_board i) (cs i)))
       (moved_targets (h.summary_is i).tallies (h.board_is i) (part_board i) (h.writes_are i))) in
-      ap (λ c. changed c (tables_of a)) put ∙ changing_turns a b items h.moves h.sound h.keeps_rooms
+      ap (λ c. changed c (tables_of a)) put ∙ changing_turns a b items h.moves h.sound r.moves grouped h.keeps_rooms

@@ -1,22 +1,10 @@
 -- Of the writes that a batch executes anew, those that get another row in the log than they had.
-use Rattle.std.specs.Prelude.{◌≡◌, ℕ, ◌==◌, ◌++◌, Bool, true, false, not, List, take, drop, filter, find, Option, Some, None}
-use Rattle.std.specs.BTreeMap.{BTreeMap, get}
+use Rattle.std.specs.Prelude.{ℕ, ◌==◌, ◌++◌, Bool, true, false, not, List, take, drop, filter, Option, Some, None}
 use Rattle.mr_model.specs.Replay.{Place, Taken, Logged, Done, Void}
-use Rattle.mr_model.specs.Writes.{Id, Write, id_of, same_id}
-use Rattle.mr_base.specs.Ids.{id_cmp}
+use Rattle.mr_model.specs.Writes.{Write, id_of}
 use Rattle.mr_replay.specs.Places.{UndoRow}
 use Rattle.mr_replica.specs.Logged.{undo_with}
-
--- the first row of an id
-abbrev pub row_at : List UndoRow → Id → Option UndoRow
-row_at undone id = find (λ u. same_id u.id id) undone
-
-abbrev pub RowsById : Type 0
-RowsById = BTreeMap Id UndoRow
-
--- the map has, for each id, the first row of it
-abbrev pub AreById : RowsById → List UndoRow → Type 0
-AreById by_id undone = (id : Id) → get id_cmp by_id id ≡ row_at undone id
+use Rattle.mr_replica.specs.RoomMoves.{row_at}
 
 abbrev pub same_place : Place → Place → Bool
 same_place (Taken j) (Taken k) = j == k

@@ -12,12 +12,14 @@ ghost use Rattle.mr_replica.specs.Logged.{undo_with};
 ghost use Rattle.mr_replica.specs.Moves.{AreTouched, moves_in};
 ghost use Rattle.mr_replica.specs.Sets.{IsSetOf};
 ghost use Rattle.mr_replica.specs.Tails.{IsTail};
+ghost use Rattle.mr_part.specs.PartMoves.{AreUndone};
 ghost use Rattle.mr_part.specs.Parts.{IsPartOf};
 
 use crate::Part;
 use mr_base::{Item, Refusal, RoomName, Write};
 use mr_replay::UndoRow;
 use mr_replica::movable::{may_move, rooms_touched};
+use mr_replica::room_moves::{RoomMoves, undone_in_rooms};
 use mr_replica::room_sets::{RoomSet, room_set};
 use mr_replica::tail::{Tail, tail_of};
 use std::alloc::Global;
@@ -33,14 +35,17 @@ impl Part {
         Ok(rooms)
     }
 
-    /// What undoes the tentative writes that the items may move, where they touch these rooms.
+    /// What undoes the tentative writes that the items may move, where they touch these rooms: in the order of execution, and by
+    /// rooms.
     pub(crate) fn undone_by(
         &self,
         touched: &[RoomName],
         items: &[Item],
-    ) -> Result<Vec<UndoRow>, Refusal>
+    ) -> Result<(Vec<UndoRow>, RoomMoves), Refusal>
         ensures rows { (a : Replica) → IsReplica a → IsPartOf self.now (OfItems (map item_of items.now)) a → AreTouched touched.now a (map item_of items.now)
-            → IfOk result (λ rows. rows.items ≡ map (undo_with (place_of a)) (filter (may_move_from a (map item_of items.now)) (tentative a))) }
+            → IfOk result (λ undone. undone.0.items ≡ map (undo_with (place_of a)) (filter (may_move_from a (map item_of items.now)) (tentative a))) }
+        ensures rooms { (a : Replica) → IsReplica a → IsPartOf self.now (OfItems (map item_of items.now)) a → AreTouched touched.now a (map item_of items.now)
+            → IfOk result (λ undone. AreUndone undone.1 a (map item_of items.now)) }
         ensures only { IfErr result (λ e. e ≡ Refusal.OutOfMemory) }
     {
         let rooms = room_set(self.alloc, touched)?;
@@ -53,7 +58,9 @@ impl Part {
             &rooms,
             &tail,
         )?;
-        Ok(rows)
+        let undo = self.undo.as_slice();
+        let in_rooms = undone_in_rooms(self.alloc, &self.kept, &self.marks, undo, &rooms, &tail)?;
+        Ok((rows, in_rooms))
     }
 }
 

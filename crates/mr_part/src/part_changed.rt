@@ -4,16 +4,14 @@ ghost use Rattle.mr_model.specs.Replay.{Place as PlaceOfWrite};
 ghost use Rattle.mr_model.specs.Writes.{Write as WriteOfRoom};
 ghost use Rattle.mr_base.specs.Ids.{id_cmp};
 ghost use Rattle.mr_replay.specs.Places.{place_of, UndoRow as UndoRowOfWrite};
-ghost use Rattle.mr_part.specs.Changed.{AreById, same_place, tells, picked};
+ghost use Rattle.mr_part.specs.Changed.{same_place, tells, picked};
 ghost use Rattle.mr_replica.specs.Logged.{undo_with};
+ghost use Rattle.mr_replica.specs.RoomMoves.{AreById};
 
-use mr_base::{Refusal, Write, WriteId};
+use mr_base::{Refusal, Write};
 use mr_replay::{Place, UndoRow};
+use mr_replica::rows_by_id::{RowsById, rows_by_id};
 use std::alloc::Global;
-use std::collections::BTreeMap;
-
-/// Undo rows by the ids of their writes.
-type RowsById = BTreeMap<WriteId, UndoRow>;
 
 /// Writes whose rows in the log change, and what undoes each.
 #[derive(Drop)]
@@ -39,22 +37,6 @@ pub(crate) fn changed_of(
     let was = rows_by_id(alloc, undone)?;
     let changed = changed_by(alloc, &was, news, again, rows)?;
     Ok(changed)
-}
-
-/// The rows, by the ids of their writes. The first row of an id is the one that counts.
-fn rows_by_id(alloc: Global, undone: &[UndoRow]) -> Result<RowsById, Refusal>
-    ensures by_id { IfOk result (λ by_id. AreById by_id undone.now) }
-    ensures only { IfErr result (λ e. e ≡ Refusal.OutOfMemory) }
-{
-    let mut by_id = BTreeMap::new(alloc);
-    let mut left = undone.len();
-    // From the last row to the first, which then takes the place of the later rows of its id.
-    while left > 0 {
-        left -= 1;
-        let row = undone[left];
-        by_id.insert(row.id, row)?;
-    }
-    Ok(by_id)
 }
 
 /// The same, where the rows that undid the writes stand by their ids.

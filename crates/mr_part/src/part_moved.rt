@@ -2,7 +2,6 @@ ghost use Rattle.std.specs.Prelude.{◌≡◌, List, IfOk, IfErr};
 ghost use Rattle.mr_model.specs.Replica.{Replica};
 ghost use Rattle.mr_model.specs.Exchange.{Item};
 ghost use Rattle.mr_model.specs.Tables.{tables_of};
-ghost use Rattle.mr_replay.specs.Rows.{executed_all, undo_rows_of, undone_all};
 ghost use Rattle.mr_tables.specs.Change.{changed};
 ghost use Rattle.mr_part.specs.PartMoves.{MovesPart};
 
@@ -12,6 +11,7 @@ use mr_replay::{Board, UndoRow};
 use mr_replica::candidate::Reached;
 use mr_replica::placing::put_places;
 use mr_replica::rewritten;
+use mr_replica::room_moves::{RoomMoves, replayed_in_rooms};
 use mr_replica::room_sets::unknown_rooms;
 use mr_replica::targets::{moved_targets, takers};
 use mr_tables::Change;
@@ -19,7 +19,7 @@ use mr_tables::summary::Summary;
 use std::alloc::Global;
 
 /// What a batch changes in the tables that leads from these numbers and known rooms to what is reached: on the board, which has the
-/// bookings in the rooms that it touches, these executions are undone, and these writes are executed, the new commits first. A write that gets
+/// bookings in the rooms that it touches, these executions are undone, and these writes are executed, the new commits first, room by room. A write that gets
 /// the place and the number that it had keeps its row in the log, and isn't put; a booking that they cancel is put alone, where another cancel
 /// took that back before.
 pub(crate) fn moved(
@@ -29,15 +29,16 @@ pub(crate) fn moved(
     board: Board,
     reached: &Reached,
     undone: &[UndoRow],
+    in_rooms: RoomMoves,
     again: &[Write],
 ) -> Result<Change, Refusal>
-    ensures turns { (items : List Item) (a b : Replica) → MovesPart old.now known.now board items a b reached.now.summary reached.now.rooms undone.now again.now
+    ensures turns { (items : List Item) (a b : Replica) → MovesPart old.now known.now board items a b reached.now.summary reached.now.rooms undone.now in_rooms again.now
         → IfOk result (λ change. changed change (tables_of a) ≡ tables_of b) }
     ensures only { IfErr result (λ e. e ≡ Refusal.OutOfMemory) }
 {
     let was = takers(alloc, &board, again)?;
-    let replayed = replayed(board, undone, again)?;
-    let (board, rows) = replayed;
+    let mut board = board;
+    let rows = replayed_in_rooms(alloc, &mut board, in_rooms, again)?;
     let news = reached.summary.commits.saturating_sub(old.commits);
     let changed = changed_of(alloc, undone, news, again, &rows)?;
     let unknown = unknown_rooms(alloc, known, &reached.rooms)?;
@@ -53,21 +54,4 @@ pub(crate) fn moved(
     let targets = moved_targets(alloc, &reached.summary, &board, again, &was)?;
     put_places(&mut change, targets)?;
     Ok(change)
-}
-
-/// The board where those executions are undone and these writes are executed, and what undoes them. One board serves all rooms: the
-/// executions of one of them leave the bookings of the others as they are.
-fn replayed(
-    board: Board,
-    undone: &[UndoRow],
-    again: &[Write],
-) -> Result<(Board, Vec<UndoRow>), Refusal>
-    ensures board { IfOk result (λ r. r.0 ≡ executed_all (undone_all board undone.now) again.now) }
-    ensures rows { IfOk result (λ r. r.1.items ≡ undo_rows_of (undone_all board undone.now) again.now) }
-    ensures only { IfErr result (λ e. e ≡ Refusal.OutOfMemory) }
-{
-    let mut board = board;
-    board.undo_all(undone);
-    let rows = board.redo_from(again)?;
-    Ok((board, rows))
 }

@@ -13,7 +13,7 @@ ghost use Rattle.mr_base.specs.Batches.{item_of};
 ghost use Rattle.mr_tables.specs.Change.{changed};
 ghost use Rattle.mr_replica.specs.Desk.{NeverStore, nothing_taken};
 ghost use Rattle.mr_replica.specs.Moves.{AreTouched};
-ghost use Rattle.mr_part.specs.PartMoves.{AnswersItems};
+ghost use Rattle.mr_part.specs.PartMoves.{AnswersItems, AreUndone};
 ghost use Rattle.mr_part.specs.Parts.{IsPartOf, TakesPart};
 ghost use Rattle.mr_replica.specs.Logged.{undo_with};
 
@@ -23,6 +23,7 @@ use mr_base::{Batch, Item, Refusal, RoomName};
 use mr_replay::UndoRow;
 use mr_replica::candidate::reached_with;
 use mr_replica::movable::again_in;
+use mr_replica::room_moves::RoomMoves;
 use mr_tables::Change;
 use mr_tables::written::empty;
 
@@ -66,21 +67,23 @@ impl Part {
     {
         let touched = self.touched_by(items)?;
         let undone = self.undone_by(&touched, items)?;
-        let taken = self.take_undone(items, &touched, &undone)?;
+        let (undone, in_rooms) = undone;
+        let taken = self.take_undone(items, &touched, &undone, in_rooms)?;
         Ok(taken)
     }
 
-    /// The same, where the items touch these rooms, and these executions are undone in them. The kept writes and the board are
-    /// moved into what is reached.
+    /// The same, where the items touch these rooms, and these executions are undone in them, which stand there by rooms too. The
+    /// kept writes and the board are moved into what is reached.
     fn take_undone(
         self,
         items: &[Item],
         touched: &[RoomName],
         undone: &[UndoRow],
+        in_rooms: RoomMoves,
     ) -> Result<(u64, u64, Change), Refusal>
         ensures step { IsTrue (list_all (is_item Second) (map item_of items.now)) → length items.now + 2 < 2 ^ 64 → (a : Replica) → IsReplica a → IsPartOf self (OfItems (map item_of items.now)) a
             → AreTouched touched.now a (map item_of items.now) → undone.now ≡ map (undo_with (place_of a)) (filter (may_move a (map item_of items.now)) (tentative a))
-            → AnswersItems a (map item_of items.now) result }
+            → AreUndone in_rooms a (map item_of items.now) → AnswersItems a (map item_of items.now) result }
         ensures own { NeverStore result }
     {
         let had = self.kept.len() as u64;
@@ -97,7 +100,9 @@ impl Part {
         let writes = (reached.kept.len() as u64).saturating_sub(had);
         let commits = reached.summary.commits.saturating_sub(summary.commits);
         let again = again_in(alloc, &reached.kept, touched, items, summary.commits)?;
-        let change = moved(alloc, &summary, &rooms, board, &reached, undone, &again)?;
+        let change = moved(
+            alloc, &summary, &rooms, board, &reached, undone, in_rooms, &again,
+        )?;
         Ok((writes, commits, change))
     }
 }

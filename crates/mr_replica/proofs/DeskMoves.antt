@@ -1,6 +1,6 @@
 -- What a batch makes of a desk's log: the board, and what undoes each kept write.
-use Rattle.std.proofs.Common.{◌≡◌, refl, sym, ap, ◌∙◌, subst, ◌==◌, ◌&&◌, Bool, true, false, not, length, cond, List, [], ◌∷◌, ◌++◌, map, ◌⊎◌, inl, inr, IsTrue, arith, append_assoc, append-nil}
-use Rattle.std.proofs.lemmas.Bool.{true≢false, cond-true, cond-false, not-true}
+use Rattle.std.proofs.Common.{◌≡◌, refl, sym, ap, ◌∙◌, subst, ◌==◌, ◌&&◌, Bool, true, false, not, length, cond, List, [], ◌∷◌, ◌++◌, map, ◌⊎◌, inl, inr, Some, IsTrue, arith, append_assoc, append-nil}
+use Rattle.std.proofs.lemmas.Bool.{true≢false, not-true}
 use Rattle.std.proofs.lemmas.List.{map-append}
 use Rattle.std.proofs.lemmas.List.Elements.{filter-append}
 use Rattle.std.specs.List.{filter}
@@ -12,26 +12,28 @@ use Rattle.mr_model.specs.Exchange.{Item}
 use Rattle.mr_model.specs.Kept.{dropped_in_order, kept_in_order}
 use Rattle.mr_model.specs.RowsInScope.{kept_commits}
 use Rattle.mr_model.specs.View.{of_room, place_of}
-use Rattle.mr_model.specs.Tables.{seq_of, tables_of}
+use Rattle.mr_model.specs.Tables.{seq_of}
 use Rattle.mr_model.specs.Dropped.{Has}
 use Rattle.mr_model.specs.Moving.{may_move, again, BatchMoves}
 use Rattle.mr_model.proofs.KnownById.{one_known, tentative_known, committed_known, tentative_sorted}
-use Rattle.mr_model.proofs.DroppedApart.{order-parts, kept_known, committed-parts, order_known}
-use Rattle.mr_model.proofs.Members.{Distinct, sorted_same, sorted_filter, has_left, has_right, has_split, has_filter, filter_has, has_map, map_has, has_among, not_among, among_not, distinct_append, distinct_parts}
+use Rattle.mr_model.proofs.DroppedApart.{order-parts, kept_known, committed-parts}
+use Rattle.mr_model.proofs.Members.{Distinct, sorted_same, sorted_filter, has_left, has_right, has_split, has_filter, filter_has, has_map, map_has, has_among, not_among, distinct_parts}
 use Rattle.mr_model.proofs.OrderedSets.{Before, before-true, before_from, before_trans}
 use Rattle.mr_model.proofs.Orders.{append_split}
-use Rattle.mr_model.proofs.PlacesOfOrder.{distinct_filter, known_in_order}
-use Rattle.mr_replay.specs.Rows.{undo_row_at, undo_rows_of}
+use Rattle.mr_model.proofs.PlacesOfOrder.{known_in_order}
+use Rattle.mr_replay.specs.Rows.{undo_row_at}
 use Rattle.mr_replay.specs.Holds.{HaveDistinctIds, if_of, Holds}
 use Rattle.mr_replay.proofs.Lists.{distinct-part, same_name}
 use Rattle.mr_replay.proofs.OneBoard.{one_board}
 use Rattle.mr_replica.specs.Moves.{AreTouched, moves_in}
 use Rattle.mr_replica.specs.Logged.{undo_with}
+use Rattle.mr_replica.specs.RoomMoves.{RoomMoves, board_after, rows_after, row_at}
 use Rattle.mr_replica.proofs.DeskNumbers.{order_distinct, dropped_long}
 use Rattle.mr_replica.proofs.Moves.{none_passes, all_pass, moves_not, moves_as}
-use Rattle.mr_replica.proofs.BatchBoards.{moving, board_left, board_anew, ShowsAnew, replayed}
+use Rattle.mr_replica.proofs.BatchBoards.{moving}
 use Rattle.mr_replica.proofs.DeskBoards.{board_of, board-told}
 use Rattle.mr_replica.proofs.Replays.{whole_view}
+use Rattle.mr_replica.proofs.RoomsApart.{IsGrouped, ShowsApart, rooms_apart}
 use Rattle.mr_tables.proofs.BoardsTold.{board_told}
 
 -- ---- lists
@@ -91,9 +93,6 @@ module _ (a b : Replica) (items : List Item) (m : BatchMoves a b items) (sound :
 
   not_moving : (w : Write) → stays w ≡ true → may_move a items w ≡ false
   not_moving w e = not-true (may_move a items w) e
-
-  whole : Holds (order_of a) (board_of a) → ShowsAnew a b items m sound (λ room. true) (λ w h. refl) (λ w h. refl) if_of (λ o. o) (board_of a)
-  whole holds = replayed a b items m sound (λ room. true) (λ w h. refl) (λ w h. refl) if_of (λ o. o) (board_of a) whole_view holds.ordered (λ room t. holds.rooms room)
 
   -- the tentative writes that may not move stay as they are
   pub stays_same : filter stays (tentative a) ≡ filter stays (tentative b)
@@ -247,11 +246,15 @@ module _ (a b : Replica) (items : List Item) (m : BatchMoves a b items) (sound :
 
   -- ---- the board
 
-  -- they get the places that the second replica gives them, and the board is that of the second replica
-  pub new_places : map (λ u. u.place) (undo_rows_of (board_left a items (board_of a)) anew) ≡ map (place_of b) anew
-  new_places = (whole (board_holds a sound)).places
+  module _ (moves : RoomMoves) (grouped : IsGrouped a b items m sound moves) where
+    whole : ShowsApart a b items m sound (λ room. true) (λ w h. refl) (λ w h. refl) if_of (λ o. o) whole_view moves grouped (board_of a)
+    whole =
+        let holds = board_holds a sound in
+        rooms_apart a b items m sound (λ room. true) (λ w h. refl) (λ w h. refl) if_of (λ o. o) whole_view moves grouped (board_of a) holds.ordered (λ room t. holds.rooms room)
 
-  pub new_board : board_anew a b items m sound (board_of a) ≡ board_of b
-  new_board =
-      let r = whole (board_holds a sound) in
-      one_board (λ room. of_room room (order_of b)) (board_anew a b items m sound (board_of a)) (board_of b) (record { ordered = r.ordered; rooms = λ room. r.has room refl }) (board_holds b m.sound)
+    -- room by room they get the places that the second replica gives them, and the board is that of the second replica
+    pub new_found : (w : Write) → Has w anew → row_at (rows_after moves.entries (board_of a)) (id_of w) ≡ Some (undo_with (place_of b) w)
+    new_found = whole.found
+
+    pub new_board : board_after moves.entries (board_of a) ≡ board_of b
+    new_board = one_board (λ room. of_room room (order_of b)) (board_after moves.entries (board_of a)) (board_of b) (record { ordered = whole.ordered; rooms = λ room. whole.has room refl }) (board_holds b m.sound)

@@ -42,7 +42,7 @@ use Rattle.mr_replica.specs.Logged.{undo_with}
 use Rattle.mr_replica.specs.Placing.{with_places_put, RowEnds, cancellers_on}
 use Rattle.mr_replica.specs.Received.{Reaches, all_writes}
 use Rattle.mr_replica.specs.Targets.{aimed_at, moved_targets}
-use Rattle.mr_replica.proofs.BatchBoards.{moving, undone_rows, undo_rows_are}
+use Rattle.mr_replica.proofs.BatchBoards.{moving, undo_rows_are}
 use Rattle.mr_replica.proofs.BatchChanges.{again_few, batch_turns}
 use Rattle.mr_replica.proofs.DeskBoards.{board_of, tallies_of}
 use Rattle.mr_replica.proofs.DeskRows.{desk_tables-of}
@@ -185,11 +185,10 @@ same_length b kept undo k u = ap length k ∙ sym (length-map (kept_in_order b) 
 pub desk_undo : (a : Replica) → IsReplica a → (desk_of a).log.undo ≡ map (undo_with (place_of a)) (kept_in_order a)
 desk_undo a sound = undo_rows_are (place_of a) (executed_all [] (dropped_in_order a)) (kept_in_order a) (kept_places a sound)
 
--- the rows of the writes that may move
-pub undone_are : (a : Replica) (items : List Item) (touched : List Text) → IsReplica a → AreTouched touched a items → map (undo_with (place_of a)) (filter (λ w. seq_of a w == 0 && moves_in touched items (length a.commits) w) (kept_in_order a)) ≡ undone_rows a items
-undone_are a items touched sound right =
-    ap (map (undo_with (place_of a)))
-    (ap (filter (λ w. seq_of a w == 0 && moves_in touched items (length a.commits) w)) (sym (all_pass (kept_in_order a))) ∙ undone_picked a items all_writes touched sound (λ w e. refl) right)
+-- the writes that may move
+pub moving_are : (a : Replica) (items : List Item) (touched : List Text) → IsReplica a → AreTouched touched a items → filter (λ w. seq_of a w == 0 && moves_in touched items (length a.commits) w) (kept_in_order a) ≡ moving a items a
+moving_are a items touched sound right =
+    ap (filter (λ w. seq_of a w == 0 && moves_in touched items (length a.commits) w)) (sym (all_pass (kept_in_order a))) ∙ undone_picked a items all_writes touched sound (λ w e. refl) right
 
 -- the desk with these parts, and what its dropped writes left, is that of the second replica
 pub desk_after : (d : DeskView) (items : List Item) (a b : Replica) (s : Summary) (rooms : List Text) (kept : List NumberedWrite) (log : KeptLog) {was : DeskView} → Reaches d items s rooms kept a b → log ≡ (desk_of b).log → was ≡ d → desk_with s rooms log was.old_errors was.old_cancels ≡ desk_of b

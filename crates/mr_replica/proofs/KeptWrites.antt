@@ -84,7 +84,7 @@ values_rise (e ∷ es) s f = (
   values_rise es (sorted_tail id_cmp e.0 (keys_of es) s) (λ d h. f d (inr h)),
 )
 
-place_of_entry : {A : Type 0} (xs : List A) (x : A) → Has x xs → (i : ℕ) × (slice_get xs i ≡ Some x)
+pub place_of_entry : {A : Type 0} (xs : List A) (x : A) → Has x xs → (i : ℕ) × (slice_get xs i ≡ Some x)
 place_of_entry [] x h = absurd h
 place_of_entry (y ∷ ys) x (inl e) = (0, ap Some (sym e))
 place_of_entry (y ∷ ys) x (inr h) = let (i, e) = place_of_entry ys x h in (suc i, e)

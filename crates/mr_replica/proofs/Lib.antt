@@ -31,6 +31,8 @@ pub mod SameRows
 pub mod Marks
 pub mod SoundLog
 pub mod OnBoard
+pub mod RoomMoves
+pub mod RoomsApart
 pub mod SoundStamps
 pub mod SoundNotes
 pub mod Replays

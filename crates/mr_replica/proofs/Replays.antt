@@ -24,7 +24,7 @@ use Rattle.mr_replay.specs.declared.rows.Kept.{Kept}
 use Rattle.mr_replay.specs.declared.rows.Kept.TheVariants.{OfBooking, OfCancel}
 use Rattle.mr_replay.specs.declared.rows.Row.{Row}
 use Rattle.mr_replay.specs.Places.{UndoRow}
-use Rattle.mr_replay.specs.Rows.{Rows, row_at, bookings_of, kept_for, row_of, place_on, mark, unmark, change, target_of, executed, undo_row_at, undone_by, undone, executed_all, undone_all, undo_rows_of}
+use Rattle.mr_replay.specs.Rows.{Rows, row_at, bookings_of, kept_for, row_of, place_on, mark, unmark, target_of, executed, undo_row_at, undone, executed_all, undone_all, undo_rows_of}
 use Rattle.mr_replay.specs.Holds.{HaveDistinctIds, told_list, row_in, bears, if_of}
 use Rattle.mr_replay.specs.Bookings.{if_taken, HasBookings}
 use Rattle.mr_replay.proofs.Entries.{IsInOrder}
@@ -139,7 +139,7 @@ module _ (see : Text → Option Row → Option Row) (given : Option Row → Opti
       go true e = sym (ap (λ j. see room (row_at b j)) (same_id-true q i e) ∙ none)
       go false e = refl
 
-  beside-executed : (room : Text) (ws : List Write) (b : Rows) (w : Write) → bytes_eq w.room room ≡ false → IsInOrder b → is_among (id_of w) (map id_of ws) ≡ false → PartHas (see room) given ws b → PartHas (see room) given ws (executed b w)
+  pub beside-executed : (room : Text) (ws : List Write) (b : Rows) (w : Write) → bytes_eq w.room room ≡ false → IsInOrder b → is_among (id_of w) (map id_of ws) ≡ false → PartHas (see room) given ws b → PartHas (see room) given ws (executed b w)
   beside-executed room ws b w away ordered new has q =
       part-executed (see room) (v.part room) b w (place_on b w) q none
       ∙ ap (λ o. cond (same_id q (id_of w)) o (change_if (mark (id_of w)) (cancels_it q w.action (place_on b w)) (see room (row_at b q)))) (v.other room w (place_on b w) away)
@@ -158,7 +158,7 @@ module _ (see : Text → Option Row → Option Row) (given : Option Row → Opti
           let away_too = v.apart w.room room (row_at b q) row at (apart_names w.room room away) in
           ap (change_if (mark (id_of w)) true) away_too ∙ sym away_too
 
-  beside-undone : (room : Text) (ws : List Write) (b : Rows) (w : Write) (p : Place) → IsInOrder b → is_among (id_of w) (map id_of ws) ≡ false → PartHas (see room) given ws b → PartHas (see room) given ws (undone b (undo_row_at w p))
+  pub beside-undone : (room : Text) (ws : List Write) (b : Rows) (w : Write) (p : Place) → IsInOrder b → is_among (id_of w) (map id_of ws) ≡ false → PartHas (see room) given ws b → PartHas (see room) given ws (undone b (undo_row_at w p))
   beside-undone room ws b w p ordered new has q =
       part-undone (see room) (v.part room) b (id_of w) w.action p q ordered
       ∙ (λ t. cond (takes_away w.action p) (not_own room b (id_of w) q (gone room ws b (id_of w) new has) t) (stays-unmarked (id_of w) (cancels_it q w.action p) (see room (row_at b q)) bare t))

@@ -30,6 +30,7 @@ use crate::kept_writes::{NumberedWrite, writes_alone};
 use crate::log::Log;
 use crate::movable::{again_in, rooms_touched};
 use crate::placing::put_places;
+use crate::room_moves::replayed_in_rooms;
 use crate::room_sets::unknown_rooms;
 use crate::targets::{moved_targets, takers};
 use mr_base::{Batch, Item, Refusal, RoomName, Write};
@@ -167,8 +168,8 @@ impl Desk {
         Ok(change)
     }
 
-    /// Undoes what the items may move, on a copy of the board, and executes the new order, in the rooms that they touch. The
-    /// desk's kept writes have these commit numbers, and with all items they are those.
+    /// Undoes what the items may move, on a copy of the board, and executes the new order, room by room in those that they touch.
+    /// The desk's kept writes have these commit numbers, and with all items they are those.
     fn replay(
         &self,
         items: &[Item],
@@ -187,8 +188,8 @@ impl Desk {
         let parted = parted_rows(self.alloc, old, marks, undo, &touched, items, commits)?;
         let (undone, others) = parted;
         let again = again_in(self.alloc, kept, &touched, items, commits)?;
-        let replayed = self.log.replayed(&undone, &again)?;
-        let (board, rows) = replayed;
+        let mut board = self.log.board().copy()?;
+        let rows = replayed_in_rooms(self.alloc, &mut board, undone, &again)?;
         Ok(Replay {
             again,
             rows,

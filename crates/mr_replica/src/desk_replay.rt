@@ -1,26 +1,29 @@
-ghost use Rattle.std.specs.Prelude.{◌≡◌, ◌==◌, ◌&&◌, ℕ, Bool, not, List, map, filter, slice_get, IfOk, IfErr};
+ghost use Rattle.std.specs.Prelude.{◌≡◌, ◌==◌, ◌&&◌, ℕ, Bool, not, List, [], map, filter, slice_get, IfOk, IfErr};
 ghost use Rattle.mr_model.specs.Texts.{Text};
 ghost use Rattle.mr_model.specs.Exchange.{Item as ItemOfBatch};
 ghost use Rattle.mr_model.specs.Writes.{Write as WriteOfRoom};
 ghost use Rattle.mr_model.specs.Replay.{Place};
+ghost use Rattle.mr_model.specs.View.{of_room};
 ghost use Rattle.mr_base.specs.Batches.{item_of};
 ghost use Rattle.mr_replay.specs.Holds.{HaveDistinctIds};
 ghost use Rattle.mr_replay.specs.Places.{UndoRow as UndoRowOfWrite};
 ghost use Rattle.mr_replica.specs.Moves.{moves_in};
+ghost use Rattle.mr_replica.specs.RoomMoves.{undone_at, again_at};
 ghost use Rattle.mr_replica.specs.Sets.{IsSetOf};
 ghost use Rattle.mr_replica.specs.Received.{row_of_id};
 ghost use Rattle.mr_replica.specs.Logged.{undo_with};
 ghost use Rattle.mr_replica.specs.Tails.{IsTail};
 
 use crate::movable::may_move;
+use crate::room_moves::{RoomMoves, undone_in_rooms};
 use crate::room_sets::{RoomSet, room_set};
 use crate::tail::{Tail, tail_of};
 use mr_base::{Item, Refusal, RoomName, Write, WriteId};
 use mr_replay::UndoRow;
 use std::alloc::Global;
 
-/// What undoes those of these writes that are tentative and may move, and what undoes the others. The numbers and the undo
-/// rows are those of the writes.
+/// What undoes those of these writes that are tentative and may move, by their rooms, and what undoes the others. The numbers and the
+/// undo rows are those of the writes.
 pub(crate) fn parted_rows(
     alloc: Global,
     writes: &[Write],
@@ -29,47 +32,51 @@ pub(crate) fn parted_rows(
     touched: &[RoomName],
     items: &[Item],
     commits: u64,
-) -> Result<(Vec<UndoRow>, Vec<UndoRow>), Refusal>
+) -> Result<(RoomMoves, Vec<UndoRow>), Refusal>
     ensures moving { (mark : WriteOfRoom → ℕ) (row : WriteOfRoom → UndoRowOfWrite) → marks.now ≡ map mark writes.now → undo.now ≡ map row writes.now
-        → IfOk result (λ rows. rows.0.items ≡ map row (filter (λ w. mark w == 0 && moves_in touched.now (map item_of items.now) commits w) writes.now)) }
+        → IfOk result (λ parted. (name : Text) → undone_at parted.0 name ≡ map row (of_room name (filter (λ w. mark w == 0 && moves_in touched.now (map item_of items.now) commits w) writes.now))) }
+    ensures again { IfOk result (λ parted. (name : Text) → again_at parted.0 name ≡ []) }
     ensures others { (mark : WriteOfRoom → ℕ) (row : WriteOfRoom → UndoRowOfWrite) → marks.now ≡ map mark writes.now → undo.now ≡ map row writes.now
-        → IfOk result (λ rows. rows.1.items ≡ map row (filter (λ w. not (mark w == 0 && moves_in touched.now (map item_of items.now) commits w)) writes.now)) }
+        → IfOk result (λ parted. parted.1.items ≡ map row (filter (λ w. not (mark w == 0 && moves_in touched.now (map item_of items.now) commits w)) writes.now)) }
     ensures only { IfErr result (λ e. e ≡ Refusal.OutOfMemory) }
 {
     let rooms = room_set(alloc, touched)?;
     let tail = tail_of(items, commits);
-    let rows = parted_by(alloc, writes, marks, undo, &rooms, &tail)?;
-    Ok(rows)
+    let moving = undone_in_rooms(alloc, writes, marks, undo, &rooms, &tail)?;
+    let others = staying_rows(alloc, writes, marks, undo, &rooms, &tail)?;
+    Ok((moving, others))
 }
 
-/// The same, where the items touch these rooms and have this tail.
-fn parted_by(
+/// What undoes those of these writes that are committed or may not move.
+fn staying_rows(
     alloc: Global,
     writes: &[Write],
     marks: &[u64],
     undo: &[UndoRow],
     rooms: &RoomSet,
     tail: &Tail,
-) -> Result<(Vec<UndoRow>, Vec<UndoRow>), Refusal>
-    ensures moving { (touched : List Text) (items : List ItemOfBatch) (commits : ℕ) → IsSetOf rooms.now touched → IsTail tail.now commits items
+) -> Result<Vec<UndoRow>, Refusal>
+    ensures rows { (touched : List Text) (items : List ItemOfBatch) (commits : ℕ) → IsSetOf rooms.now touched → IsTail tail.now commits items
         → (mark : WriteOfRoom → ℕ) (row : WriteOfRoom → UndoRowOfWrite) → marks.now ≡ map mark writes.now → undo.now ≡ map row writes.now
-        → IfOk result (λ rows. rows.0.items ≡ map row (filter (λ w. mark w == 0 && moves_in touched items commits w) writes.now)) }
-    ensures others { (touched : List Text) (items : List ItemOfBatch) (commits : ℕ) → IsSetOf rooms.now touched → IsTail tail.now commits items
-        → (mark : WriteOfRoom → ℕ) (row : WriteOfRoom → UndoRowOfWrite) → marks.now ≡ map mark writes.now → undo.now ≡ map row writes.now
-        → IfOk result (λ rows. rows.1.items ≡ map row (filter (λ w. not (mark w == 0 && moves_in touched items commits w)) writes.now)) }
+        → IfOk result (λ rows. rows.items ≡ map row (filter (λ w. not (mark w == 0 && moves_in touched items commits w)) writes.now)) }
     ensures only { IfErr result (λ e. e ≡ Refusal.OutOfMemory) }
 {
-    let mut moving = Vec::new(alloc);
-    let mut others = Vec::new(alloc);
+    let mut rows = Vec::new(alloc);
     let count = writes.len().min(marks.len()).min(undo.len());
     for k in 0..count {
-        if marks[k] == 0 && may_move(&writes[k], rooms, tail) {
-            moving.push(undo[k])?;
-        } else {
-            others.push(undo[k])?;
+        if stays(&writes[k], marks[k], rooms, tail) {
+            rows.push(undo[k])?;
         }
     }
-    Ok((moving, others))
+    Ok(rows)
+}
+
+/// Whether the write, which has this commit number, is committed or may not move.
+fn stays(write: &Write, mark: u64, rooms: &RoomSet, tail: &Tail) -> bool
+    ensures { (touched : List Text) (items : List ItemOfBatch) (commits : ℕ) → IsSetOf rooms.now touched → IsTail tail.now commits items
+        → result ≡ not (mark == 0 && moves_in touched items commits write.now) }
+{
+    mark != 0 || !may_move(write, rooms, tail)
 }
 
 /// What undoes each of these writes, where these are the rows of those that were executed anew and those of the others,

@@ -118,22 +118,6 @@ impl Log {
         Log { kept, undo, board }
     }
 
-    /// The board where these executions are undone and these writes are executed, and what undoes them.
-    pub(crate) fn replayed(
-        &self,
-        undone: &[UndoRow],
-        again: &[Write],
-    ) -> Result<(Board, Vec<UndoRow>), Refusal>
-        ensures board { IfOk result (λ r. r.0 ≡ executed_all (undone_all self.now.board undone.now) again.now) }
-        ensures rows { IfOk result (λ r. r.1.items ≡ undo_rows_of (undone_all self.now.board undone.now) again.now) }
-        ensures only { IfErr result (λ e. e ≡ Refusal.OutOfMemory) }
-    {
-        let mut board = self.board.copy()?;
-        board.undo_all(undone);
-        let rows = board.redo_from(again)?;
-        Ok((board, rows))
-    }
-
     /// The dropped errors that dropping the first `count` writes makes, numbered from `first` on.
     pub(crate) fn errors_in_front(
         &self,

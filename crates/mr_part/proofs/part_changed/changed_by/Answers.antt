@@ -1,7 +1,8 @@
 use Rattle.std.proofs.Common.{◌≡◌, ◌<◌, ◌∙◌, length, ap, refl, sym, arith}
 use Rattle.std.proofs.lemmas.List.{get_or_default}
 use Rattle.mr_replay.specs.Places.{UndoRow}
-use Rattle.mr_part.specs.Changed.{row_at, tells}
+use Rattle.mr_replica.specs.RoomMoves.{row_at}
+use Rattle.mr_part.specs.Changed.{tells}
 use Rattle.mr_part.proofs.ChangedRows.{changed_more, as_many-more}
 use Rattle.mr_part.proofs.part_changed.changed_by.Goals as goal
 

@@ -23,7 +23,8 @@ returns-in_err-taken-clause-step c = λ good short a sound part.
     let touched = subst (λ rooms. AreTouched rooms a items) (sym c.deref.ensures.value) mine in
     let touched' = subst (λ rooms. AreTouched rooms a items) (sym c.deref-2.ensures.value) mine in
     let undone = c.deref-3.ensures.value ∙ c.in_ok-undone.ensures.rows a sound part touched in
-    subst (AnswersItems a items) (sym (x.1 ∙ ap Err x.2)) (c.in_err-taken.ensures.step good short a sound part touched' undone)
+    let in_rooms = c.in_ok-undone.ensures.rooms a sound part touched in
+    subst (AnswersItems a items) (sym (x.1 ∙ ap Err x.2)) (c.in_err-taken.ensures.step good short a sound part touched' undone in_rooms)
 
 pub returns-clause-step : goal.returns-clause-step
 returns-clause-step c = λ good short a sound part.
@@ -32,4 +33,5 @@ returns-clause-step c = λ good short a sound part.
     let touched = subst (λ rooms. AreTouched rooms a items) (sym c.deref.ensures.value) mine in
     let touched' = subst (λ rooms. AreTouched rooms a items) (sym c.deref-2.ensures.value) mine in
     let undone = c.deref-3.ensures.value ∙ c.in_ok-undone.ensures.rows a sound part touched in
-    c.in_ok-taken.ensures.step good short a sound part touched' undone
+    let in_rooms = c.in_ok-undone.ensures.rooms a sound part touched in
+    c.in_ok-taken.ensures.step good short a sound part touched' undone in_rooms

@@ -15,7 +15,7 @@ use Rattle.mr_part.proofs.ReceivingPart.{part_received, part_refused}
 use Rattle.mr_part.proofs.part.Part.take_undone.Goals as goal
 
 pub returns-in_err-reached-clause-step : goal.returns-in_err-reached-clause-step
-returns-in_err-reached-clause-step c = λ good short a sound part touched undone.
+returns-in_err-reached-clause-step c = λ good short a sound part touched undone in_rooms.
     let x = err_from_is_err_and c.from_residual.result c.from_residual.ensures.1 in
     let items = map item_of c.args.items.now in
     let e = c.self.view_is ∙ part in
@@ -24,17 +24,17 @@ returns-in_err-reached-clause-step c = λ good short a sound part touched undone
     (c.in_err-reached.ensures.takes a (is_inside a items) sound good short (λ w h. h) (ap (λ (v : PartView). v.summary) e) (c.deref.ensures.value ∙ ap (λ (v : PartView). v.rooms) e) (ap (λ (v : PartView). v.kept) e) marks)
 
 pub returns-in_err-again-clause-step : goal.returns-in_err-again-clause-step
-returns-in_err-again-clause-step c = λ good short a sound part touched undone.
+returns-in_err-again-clause-step c = λ good short a sound part touched undone in_rooms.
     let x = err_from_is_err_and c.from_residual-in_err-again.result c.from_residual-in_err-again.ensures.1 in
     inr (x.1 ∙ ap Err (x.2 ∙ c.in_err-again.ensures.only))
 
 pub returns-in_err-change-clause-step : goal.returns-in_err-change-clause-step
-returns-in_err-change-clause-step c = λ good short a sound part touched undone.
+returns-in_err-change-clause-step c = λ good short a sound part touched undone in_rooms.
     let x = err_from_is_err_and c.from_residual-in_err-change.result c.from_residual-in_err-change.ensures.1 in
     inr (x.1 ∙ ap Err (x.2 ∙ c.in_err-change.ensures.only))
 
 pub returns-clause-step : goal.returns-clause-step
-returns-clause-step c = λ good short a sound part touched undone.
+returns-clause-step c = λ good short a sound part touched undone in_rooms.
     let items = map item_of c.args.items.now in
     let e = c.self.view_is ∙ part in
     let marks = c.deref-2.ensures.value ∙ ap (λ (v : PartView). v.marks) e ∙ ap (λ (v : PartView). map (seq_of a) v.kept) (sym e) in
@@ -54,6 +54,7 @@ returns-clause-step c = λ good short a sound part touched undone.
       summary_is = shows.summary;
       rooms_are = shows.rooms;
       undone_are = undone;
+      rooms_undone = in_rooms;
       writes_are = c.deref-5.ensures.value ∙ writes;
     }) in
     let had = c.len-had.ensures in

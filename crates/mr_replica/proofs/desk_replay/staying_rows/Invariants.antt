@@ -7,12 +7,11 @@ use Rattle.mr_replay.specs.Places.{UndoRow}
 use Rattle.mr_replica.specs.Moves.{moves_in}
 use Rattle.mr_replica.specs.Sets.{IsSetOf}
 use Rattle.mr_replica.specs.Tails.{IsTail}
-use Rattle.mr_replica.proofs.desk_replay.parted_by.Given as goal
+use Rattle.mr_replica.proofs.desk_replay.staying_rows.Given as goal
 
 -- with those of the writes that are left, the rows are those of all
 abbrev pub invariant-loop-k : goal.invariant-loop-k
 invariant-loop-k l =
     (touched : List Text) (items : List Item) (commits : ℕ) → IsSetOf l.rooms touched → IsTail l.tail commits items
     → (mark : Write → ℕ) (row : Write → UndoRow) → l.marks ≡ map mark l.writes → l.undo ≡ map row l.writes
-    → (l.moving.items ++ map row (filter (λ w. mark w == 0 && moves_in touched items commits w) (drop l.k l.writes)) ≡ map row (filter (λ w. mark w == 0 && moves_in touched items commits w) l.writes))
-    × (l.others.items ++ map row (filter (λ w. not (mark w == 0 && moves_in touched items commits w)) (drop l.k l.writes)) ≡ map row (filter (λ w. not (mark w == 0 && moves_in touched items commits w)) l.writes))
+    → l.rows.items ++ map row (filter (λ w. not (mark w == 0 && moves_in touched items commits w)) (drop l.k l.writes)) ≡ map row (filter (λ w. not (mark w == 0 && moves_in touched items commits w)) l.writes)
