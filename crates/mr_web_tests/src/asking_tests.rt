@@ -22,6 +22,11 @@ pub(crate) fn service(alloc: Global, number: u32) -> Result<Service<ListKeeper>,
     Ok(Service::new(alloc, ListKeeper::new(alloc, server, primary)))
 }
 
+// Gives the replica this command. It has no clause, so that the proof of a test does not carry what the replica is from then on.
+pub(crate) fn give(service: &mut Service<ListKeeper>, command: Command) {
+    service.ask(&command);
+}
+
 // The reply of a peer that hands over the first so many bytes of the batch, though all were promised.
 fn batch_reply(alloc: Global, size: usize) -> Result<Vec<u8>, Fail> {
     let mut bytes = Vec::new(alloc);
@@ -141,8 +146,11 @@ fn refused_pushes(rt: HostRuntime) -> Result<(), Fail> {
     let alloc = rt.alloc();
     let mut service = service(alloc, 9)?;
     let batch = b"mr1 1 1\nW 1 1 1 oak 60 1995-12-18 14:00 0 Alpha\nC 1 1 1\nE\n";
-    service.ask(&Command::Receive(Vec::from_slice(alloc, batch)?));
-    service.ask(&Command::Local(Local::Truncate(1)));
+    give(
+        &mut service,
+        Command::Receive(Vec::from_slice(alloc, batch)?),
+    );
+    give(&mut service, Command::Local(Local::Truncate(1)));
     for (told, refusal) in [
         (
             &b"HTTP/1.1 200 OK\r\nContent-Length: 14\r\n\r\nmp2 2 1\nK 0\nE\n"[..],

@@ -1,7 +1,7 @@
 // What HTTP replies to cancels, to the byte; and exchanges, whose second text tells cancels and whose first does not. The memory is
 // ample.
 
-use crate::asking_tests::{pushed_to, service};
+use crate::asking_tests::{give, pushed_to, service};
 use crate::round_tests::{pull_from, push_to};
 use crate::serving_tests::{FIRST, check, check_all, opening};
 use mr_base::{Ending, Refusal};
@@ -230,9 +230,9 @@ fn tells_of_cancels(rt: HostRuntime) -> Result<(), Fail> {
     let alloc = rt.alloc();
     let mut service = cancelled_twice(&rt, alloc)?;
     check_all(&rt, alloc, &mut service, &TENTATIVE)?;
-    service.ask(&Command::Local(Local::Commit(1)));
+    give(&mut service, Command::Local(Local::Commit(1)));
     check_all(&rt, alloc, &mut service, &HALF_COMMITTED)?;
-    service.ask(&Command::Local(Local::Commit(2)));
+    give(&mut service, Command::Local(Local::Commit(2)));
     check_all(&rt, alloc, &mut service, &COMMITTED)
 }
 

@@ -1,5 +1,6 @@
 // Requests and their replies over a keeper of lists, to the byte. The memory is ample.
 
+use crate::asking_tests::give;
 use crate::connections::{Drip, Narrow};
 use crate::without_desk::WithoutDesk;
 use mr_base::ServerId;
@@ -207,7 +208,7 @@ pub(crate) fn opening(alloc: Global) -> Result<Service<ListKeeper>, Fail> {
     let server = ServerId::new(1).ok_or("a server")?;
     let mut service = Service::new(alloc, ListKeeper::new(alloc, server, server));
     let room = String::from_str(alloc, "oak")?;
-    service.ask(&Command::Local(Local::AddRoom(room)));
+    give(&mut service, Command::Local(Local::AddRoom(room)));
     Ok(service)
 }
 
