@@ -14,7 +14,7 @@ use Rattle.mr_http.specs.declared.faults.WebFault.{WebFault}
 use Rattle.mr_http.specs.declared.faults.WebFault.TheVariants as fault
 use Rattle.mr_service.specs.Worlds.{IsPositionText}
 use Rattle.mr_peer.specs.Rounds.{Runs}
-use Rattle.mr_peer.specs.Asking.{IsSendFault, IsAskFault, Wrote, OwnRefuses, ReadsOff, HandsOut, IsBatchWith, IsSomePosition, IsSomeBatch}
+use Rattle.mr_peer.specs.Asking.{IsSendFault, IsAskFault, GivesBatch, GivesWritten, Wrote, OwnRefuses, ReadsOff, HandsOut, IsBatchWith, IsSomePosition, IsSomeBatch}
 use Rattle.mr_peer.specs.Taking.{IsOwnFault}
 
 -- a step of a command that leaves the replica as it is
@@ -90,13 +90,14 @@ unless_batch (Some f) made b e = absurd (let g : BatchIs b ≡ Refused f = e in 
 pub batch_handed : {X : Type 0} (text_of : X → Text) (ending : X → Ending) (reply : Reply) (p : Position) (m : ℕ) (result : Result X WebFault)
     → is_position p ≡ true → ReadsOff reply (λ x. IsBatchWith reply (text_of x) (ending x)) result
     → (a b : Replica) → IsStep a (BatchFor (position_text p) m) reply b
-    → (b ≡ a) × HandsOut a (BatchFor (position_text p) m) (λ x. (text_of x ≡ batch_text (batch_of a p m)) × (ending x ≡ (batch_of a p m).ending)) result
+    → (b ≡ a) × HandsOut a (BatchFor (position_text p) m)
+    (λ x. (text_of x ≡ batch_text (batch_of a p m)) × (ending x ≡ (batch_of a p m).ending) × ((step a (BatchFor (position_text p) m)).reply ≡ BatchIs (batch_of a p m))) result
 batch_handed {X} text_of ending reply p m result ok reads a b =
     handed (BatchFor (position_text p) m) reply (λ x. IsBatchWith reply (text_of x) (ending x))
-    (λ x. (text_of x ≡ batch_text (batch_of a p m)) × (ending x ≡ (batch_of a p m).ending)) a b result refl
+    (λ x. (text_of x ≡ batch_text (batch_of a p m)) × (ending x ≡ (batch_of a p m).ending) × ((step a (BatchFor (position_text p) m)).reply ≡ BatchIs (batch_of a p m))) a b result refl
     (λ x is e.
     let same = made x is e in
-    (is.2 ∙ ap batch_text same, is.3 ∙ ap (λ (b : Batch). b.ending) same))
+    (is.2 ∙ ap batch_text same, is.3 ∙ ap (λ (b : Batch). b.ending) same, sym e ∙ is.1 ∙ ap BatchIs same))
     (λ x is machine. not_batch reply is.0 is.1 machine) reads
   where
     made : (x : X) → (is : IsBatchWith reply (text_of x) (ending x)) → reply ≡ (step a (BatchFor (position_text p) m)).reply → is.0 ≡ batch_of a p m
@@ -158,6 +159,24 @@ unsent X Y a command Q request held fault.Read u = absurd u
 unsent X Y a command Q request held fault.Write u = absurd u
 unsent X Y a command Q request held fault.BadReply u = absurd u
 unsent X Y a command Q request held (fault.Peer n) u = absurd u
+
+-- with a fault of this replica nothing was written
+pub unwritten : (X : Type 0) (a : Replica) (position : Position) (e : WebFault) → IsOwnFault e → GivesWritten {X = X} a position (Err e)
+unwritten X a position (fault.Own e) u = tt
+unwritten X a position fault.Memory u = tt
+unwritten X a position fault.Read u = absurd u
+unwritten X a position fault.Write u = absurd u
+unwritten X a position fault.BadReply u = absurd u
+unwritten X a position (fault.Peer n) u = absurd u
+
+-- what was begun to be written is a batch that the step gives
+pub begun : (X : Type 0) (a : Replica) (position : Position) (e : WebFault) → GivesBatch a position → GivesWritten {X = X} a position (Err e)
+begun X a position (fault.Own e) gives = tt
+begun X a position fault.Memory gives = tt
+begun X a position fault.Read gives = tt
+begun X a position fault.Write gives = gives
+begun X a position fault.BadReply gives = tt
+begun X a position (fault.Peer n) gives = tt
 
 -- a fault of writing
 pub sent_short : (X Y : Type 0) (a : Replica) (command : Command) (request : Text) (held holds : Option (List ℕ)) (e : WebFault)

@@ -7,7 +7,7 @@ use Rattle.mr_model.specs.Replica.{Replica}
 use Rattle.mr_model.specs.Exchange.{Batch, Ending, batch_text}
 use Rattle.mr_model.specs.Http.{lines_over_http}
 use Rattle.mr_model.specs.Positions.{Position, position_of, position_text}
-use Rattle.mr_model.specs.Step.{Command, AskPosition, BatchFor, IsStep, batch_of}
+use Rattle.mr_model.specs.Step.{Command, AskPosition, BatchFor, IsStep, batch_of, step}
 use Rattle.mr_model.specs.Replies.{Reply, Refused, BatchIs}
 use Rattle.mr_base.specs.Batches.{ending_of}
 use Rattle.mr_base.specs.Refusals.{refusal_of}
@@ -61,12 +61,23 @@ AsksPull host held holds a result b =
 abbrev pub lacking : Position → Command
 lacking position = BatchFor (position_text position) lines_over_http
 
+-- the step of this replica replies its batch for the position, and doesn't refuse it
+abbrev pub GivesBatch : Replica → Position → Type 0
+GivesBatch a position = (step a (lacking position)).reply ≡ BatchIs (batch_of a position lines_over_http)
+
+-- where anything was written, or may have been, the batch is one that the step gives
+abbrev pub GivesWritten : {X : Type 0} → Replica → Position → Result X WebFault → Type 0
+GivesWritten a position (Ok _) = GivesBatch a position
+GivesWritten a position (Err fault.Write) = GivesBatch a position
+GivesWritten a position (Err _) = Unit {0}
+
 -- a peer at the position is handed what it lacks of this replica, which stays as it was
 abbrev pub AsksPush : Position → Text → Option (List ℕ) → Option (List ℕ) → Replica → Result BatchEnding WebFault → Replica → Type 0
 AsksPush position host held holds a result b =
     (b ≡ a) × OwnRefuses a (lacking position) result
     × Wrote (push_request host (batch_text (batch_of a position lines_over_http))) held holds result
     × IfOk result (λ ending. ending_of ending ≡ (batch_of a position lines_over_http).ending)
+    × GivesWritten a position result
 
 -- ---- on the way
 
@@ -105,4 +116,4 @@ abbrev pub HandsBatch : Position → Replica → Result (Vec ℕ Global × Batch
 HandsBatch position a result b =
     (b ≡ a)
     × HandsOut a (lacking position)
-    (λ x. (x.0.items ≡ batch_text (batch_of a position lines_over_http)) × (ending_of x.1 ≡ (batch_of a position lines_over_http).ending)) result
+    (λ x. (x.0.items ≡ batch_text (batch_of a position lines_over_http)) × (ending_of x.1 ≡ (batch_of a position lines_over_http).ending) × GivesBatch a position) result

@@ -10,7 +10,7 @@ use Rattle.mr_model.specs.Step.{Command, AskPosition, batch_of}
 use Rattle.mr_base.specs.Batches.{ending_of}
 use Rattle.mr_base.specs.declared.batches.Ending.{Ending}
 use Rattle.mr_http.specs.declared.faults.WebFault.{WebFault}
-use Rattle.mr_peer.specs.Asking.{IsAskFault, Wrote, OwnRefuses, SendsPull, SendsPush, lacking}
+use Rattle.mr_peer.specs.Asking.{GivesBatch, IsAskFault, Wrote, OwnRefuses, SendsPull, SendsPush, lacking}
 use Rattle.mr_peer.specs.Replies.{told_took}
 use Rattle.mr_peer.specs.Requests.{pull_request, push_request}
 use Rattle.mr_peer.specs.Steps.{ReceivesSome}
@@ -44,7 +44,7 @@ abbrev pub Pushes : Position → Text → Option (List ℕ) → Option (List ℕ
 Pushes position host held holds known a result b =
     (b ≡ a)
     × Runs a (lacking position) (push_request host (exchange.batch_text (batch_of a position lines_over_http))) held holds result
-    (TellsTook known (batch_of a position lines_over_http).ending result)
+    (TellsTook known (batch_of a position lines_over_http).ending result × GivesBatch a position)
 
 -- ---- whatever this replica is
 

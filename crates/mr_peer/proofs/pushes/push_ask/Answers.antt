@@ -10,10 +10,10 @@ use Rattle.mr_model.specs.Step.{batch_of}
 use Rattle.mr_base.specs.Batches.{ending_of}
 use Rattle.mr_base.specs.declared.batches.Ending.{Ending}
 use Rattle.mr_http.specs.declared.faults.WebFault.{WebFault}
-use Rattle.mr_peer.specs.Asking.{Wrote, AsksPush, HandsBatch, IsAskFault, SendsPush, lacking}
+use Rattle.mr_peer.specs.Asking.{GivesBatch, Wrote, AsksPush, HandsBatch, IsAskFault, SendsPush, lacking}
 use Rattle.mr_peer.specs.Exchanged.{IsExchanged}
 use Rattle.mr_peer.specs.Requests.{push_request}
-use Rattle.mr_peer.proofs.AskLemmas.{own_asks, unsent, sent_short, wrote_as}
+use Rattle.mr_peer.proofs.AskLemmas.{begun, own_asks, unsent, unwritten, sent_short, wrote_as}
 use Rattle.mr_peer.proofs.Exchanges.{onward}
 use Rattle.mr_peer.proofs.FaultLemmas.{handed_on}
 use Rattle.mr_peer.proofs.pushes.push_ask.Goals as goal
@@ -34,9 +34,9 @@ returns-in_err-text-clause-exchanged g c =
     (onward g.K.Keeper old new (Err e) (Err e) (HandsBatch position) (AsksPush position host held held) R c.in_err-text.ensures.exchanged (λ L u. u)
     (λ a b h.
     let made = batch_of a position lines_over_http in
-    let n = unsent (Vec ℕ Global × Ending) Ending a (lacking position) (λ x. (x.0.items ≡ batch_text made) × (ending_of x.1 ≡ made.ending))
+    let n = unsent (Vec ℕ Global × Ending) Ending a (lacking position) (λ x. (x.0.items ≡ batch_text made) × (ending_of x.1 ≡ made.ending) × GivesBatch a position)
     (push_request host (batch_text made)) held e h.1 in
-    (h.0, n.0, n.1, tt)))
+    (h.0, n.0, n.1, tt, unwritten Ending a position e c.in_err-text.ensures.fault)))
 
 -- a write failed, or memory ran out before it
 pub returns-in_err-ask_full-clause-exchanged : goal.returns-in_err-ask_full-clause-exchanged
@@ -58,7 +58,7 @@ returns-in_err-ask_full-clause-exchanged g c =
     (λ a b h.
     let n = sent_short (Unit {0}) Ending a (lacking position) (push_request host (batch_text (batch_of a position lines_over_http))) held holds e
     c.in_err-ask_full.ensures.fault (subst W (c.as_slice.ensures.value ∙ h.1.0) c.in_err-ask_full.ensures.wrote) in
-    (h.0, n.0, n.1, tt)))
+    (h.0, n.0, n.1, tt, begun Ending a position e h.1.2)))
 
 pub returns-clause-exchanged : goal.returns-clause-exchanged
 returns-clause-exchanged g c =
@@ -70,7 +70,7 @@ returns-clause-exchanged g c =
     let W : Text → Type 0 = λ body. Appends held holds (push_request host body) in
     onward g.K.Keeper old c.own_batch.new.service (Ok (c.in_ok-text.text, c.in_ok-text.ending)) (Ok c.in_ok-text.ending) (HandsBatch position)
     (AsksPush position host held holds) (Reaches (g.K.Keeper.tables old) (lacking position)) c.in_ok-text.ensures.exchanged (λ L l. l)
-    (λ a b h. (h.0, tt, subst W (c.as_slice.ensures.value ∙ h.1.0) c.in_ok-ask_full.ensures.wrote, h.1.1))
+    (λ a b h. (h.0, tt, subst W (c.as_slice.ensures.value ∙ h.1.0) c.in_ok-ask_full.ensures.wrote, h.1.1, h.1.2))
 
 -- ---- whatever the replica is
 

@@ -7,7 +7,7 @@ use Rattle.mr_model.specs.Step.{batch_of}
 use Rattle.mr_base.specs.Batches.{ending_of}
 use Rattle.mr_base.specs.declared.batches.Ending.{Ending}
 use Rattle.mr_http.specs.declared.faults.WebFault.{WebFault}
-use Rattle.mr_peer.specs.Asking.{AsksPush, lacking}
+use Rattle.mr_peer.specs.Asking.{GivesBatch, AsksPush, lacking}
 use Rattle.mr_peer.specs.Exchanged.{IsExchanged}
 use Rattle.mr_peer.specs.Requests.{push_request}
 use Rattle.mr_peer.specs.Rounds.{Pushes, TellsTook}
@@ -36,7 +36,7 @@ returns-in_err-ending-clause-exchanged g c =
     let made = batch_of a position lines_over_http in (
       h.0,
       ask_failed Ending (ℕ × ℕ × Ending) a (lacking position) (push_request host (batch_text made)) held holds e
-          (TellsTook known made.ending (Err e)) c.in_err-ending.ensures.fault h.1 h.2,
+          (TellsTook known made.ending (Err e) × GivesBatch a position) c.in_err-ending.ensures.fault h.1 h.2,
     )))
 
 -- the peer's reply was not taken
@@ -56,7 +56,7 @@ returns-in_err-writes-clause-exchanged g c =
     let P : Result (ℕ × ℕ × Ending) WebFault → Type 0 = λ r. IsExchanged g.K.Keeper old new r Q R in
     subst P (sym (p.1 ∙ ap Err p.2))
     (onward g.K.Keeper old new (Ok c.in_ok-ending.ending) (Err e) (AsksPush position host held holds) Q R c.in_ok-ending.ensures.exchanged (λ L l. tt)
-    (λ a b h. (h.0, inr (h.2, (Err e, c.in_err-writes.ensures.tells, refl)))))
+    (λ a b h. (h.0, inr (h.2, ((Err e, c.in_err-writes.ensures.tells, refl), h.4)))))
 
 pub returns-clause-exchanged : goal.returns-clause-exchanged
 returns-clause-exchanged g c =
@@ -70,7 +70,7 @@ returns-clause-exchanged g c =
     let took : ℕ × ℕ × Ending = (c.in_ok-writes.writes, c.in_ok-writes.commits, c.in_ok-ending.ending) in
     onward g.K.Keeper old c.push_ask.new.service (Ok c.in_ok-ending.ending) (Ok took) (AsksPush position host held holds)
     (Pushes position host held holds known) (Reaches (g.K.Keeper.tables old) (lacking position)) c.in_ok-ending.ensures.exchanged (λ L l. l)
-    (λ a b h. (h.0, inr (h.2, (Ok counts, c.in_ok-writes.ensures.tells, (refl, refl, h.3)))))
+    (λ a b h. (h.0, inr (h.2, ((Ok counts, c.in_ok-writes.ensures.tells, (refl, refl, h.3)), h.4))))
 
 -- ---- whatever this replica is
 
