@@ -138,4 +138,9 @@ run_moved() {
         return
     fi
     tried 'first tables of many replicas' tests/moved.py "$program" "$quick/moved" 30
+    if ! command -v cc > /dev/null && ! command -v gcc > /dev/null && ! command -v clang > /dev/null; then
+        echo 'skipped: a move that is stopped at each call of the disk (no C compiler)'
+        return
+    fi
+    tried 'a move that is stopped at each call of the disk' tests/stopped.py "$program" "$quick/stopped"
 }
