@@ -1,12 +1,12 @@
 -- Reads of a database of the first schema, one after another, and rows that were read in the order of their keys.
-use Rattle.std.proofs.Common.{◌≡◌, ℤ, List, [], ◌∷◌, map, Ok, Err, Result, Option, Some, IfOk, OnOk, refl, sym, ap, subst, ◌∙◌}
+use Rattle.std.proofs.Common.{◌≡◌, List, [], ◌∷◌, map, Ok, Err, Result, Option, Some, IfOk, OnOk, refl, sym, ap, subst, ◌∙◌}
 use Rattle.std.specs.List.Sorted.{IsPermutation, IsSorted}
 use Rattle.std.proofs.lemmas.Cmp.{on_total}
 use Rattle.std.proofs.lemmas.List.Sorted.{IsPermutation-map, IsPermutation-sym, IsPermutation-trans}
 use Rattle.std.specs.List.{All}
 use Rattle.std.proofs.lemmas.List.Elements.{recursion_from_All}
-use Rattle.sqlite_value.specs.declared.value.Value.TheVariants.{Null, Int}
-use Rattle.sqlite_value.specs.Order.{Row, column}
+use Rattle.sqlite_value.specs.declared.value.Value.TheVariants.{Null}
+use Rattle.sqlite_value.specs.Order.{Row}
 use Rattle.sqlite_trees.specs.Tree.{Trees}
 use Rattle.sqlite.specs.declared.error.Error.{Error}
 use Rattle.sqlite.specs.Effect.{Database}
@@ -34,7 +34,6 @@ use Rattle.mr_rows.proofs.QueryLemmas.{told_where, made_where, then_where}
 use Rattle.mr_first.specs.Cells.{write_in, undo_in}
 use Rattle.mr_first.specs.Forms.{write_id, undo_id, first_meta_form, write_form, undo_form}
 use Rattle.mr_first.specs.Kept.{IsFirst, IsKeptFirst, ReadsFirst, LooksFirst, first_in}
-use Rattle.mr_first.specs.Shown.{IsNumbered}
 use Rattle.mr_first.proofs.Facts.{meta_facts, write_facts, undo_facts}
 
 -- ---- looks and reads
@@ -127,14 +126,3 @@ meta_found trees shown (Ok m) same all is = (
     twice [] = refl
     twice (r ∷ rows) = ap (λ more. meta_in r ∷ more) (twice rows)
 meta_found trees shown (Err e) same all is = tt
-
--- and of the schema's number in it
-pub number_found : (trees : Trees) (shown : List Row) (r : Result (Option ℤ) Error) → IsPermutation (map (columns_from 2 1) (trees 0)) shown
-    → IfOk r (λ n. map (λ row. column row 0) shown ≡ map Int (listed n)) → IfOk r (IsNumbered trees)
-number_found trees shown (Ok n) same is =
-    subst (λ xs. IsPermutation xs (map Int (listed n))) (twice (trees 0)) (subst (IsPermutation (map (λ row. column row 0) (map (columns_from 2 1) (trees 0)))) is (IsPermutation-map (λ row. column row 0) _ shown same))
-  where
-    twice : (rows : List Row) → map (λ row. column row 0) (map (columns_from 2 1) rows) ≡ map (λ r. column r 2) rows
-    twice [] = refl
-    twice (r ∷ rows) = ap (λ more. column r 2 ∷ more) (twice rows)
-number_found trees shown (Err e) same is = tt

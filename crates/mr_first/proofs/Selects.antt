@@ -10,7 +10,7 @@ use Rattle.mr_rows.specs.Shown.{columns_from}
 use Rattle.mr_rows.proofs.Texts.{all_meta_text, meta_columns, meta_names, all_room_text, room_columns, room_names, all_vector_text, vector_columns, vector_names, all_booking_text, booking_columns, booking_names, all_error_text, error_columns, error_names}
 use Rattle.mr_rows.proofs.SelectLemmas.{sees}
 use Rattle.mr_first.specs.Forms.{first_meta_form, write_form, undo_form}
-use Rattle.mr_first.proofs.Texts.{all_meta_is, numbers_text, number_columns, number_names, numbers_is, all_room_is, all_vector_is, all_write_text, write_columns, write_names, all_write_is, all_undo_text, undo_columns, undo_names, all_undo_is, all_booking_is, all_error_is}
+use Rattle.mr_first.proofs.Texts.{all_meta_is, all_room_is, all_vector_is, all_write_text, write_columns, write_names, all_write_is, all_undo_text, undo_columns, undo_names, all_undo_is, all_booking_is, all_error_is}
 use Rattle.mr_first.proofs.Facts.{meta_facts, room_facts, vector_facts, write_facts, undo_facts, booking_facts, error_facts}
 
 pub sees_meta : (old new : State) (rows : List Row) → old.now.schema ≡ first_schema → Shown all_meta_text [] old new rows → IsPermutation (map (columns_from 1 7) (old.now.trees 0)) rows
@@ -33,7 +33,3 @@ sees_booking old new rows = sees booking_form booking_facts all_booking_text boo
 
 pub sees_error : (old new : State) (rows : List Row) → old.now.schema ≡ first_schema → Shown all_error_text [] old new rows → IsPermutation (map (columns_from 1 9) (old.now.trees 12)) rows
 sees_error old new rows = sees error_form error_facts all_error_text error_columns error_names old new rows all_error_is
-
--- of `meta` the schema's number alone
-pub sees_numbers : (old new : State) (rows : List Row) → old.now.schema ≡ first_schema → Shown numbers_text [] old new rows → IsPermutation (map (columns_from 2 1) (old.now.trees 0)) rows
-sees_numbers old new rows = sees first_meta_form meta_facts numbers_text number_columns number_names old new rows numbers_is

@@ -20,19 +20,6 @@ pub all_meta_is : MeansQueryIn first_schema all_meta_text (Select (program_of 0 
 unfolding understood everything
 all_meta_is = ((refl, (refl, refl)), refl)
 
-abbrev pub number_columns : List Term
-number_columns = col 1 2 ∷ []
-
-abbrev pub number_names : List (List ℕ)
-number_names = codes "schema" ∷ []
-
-abbrev pub numbers_text : List ℕ
-numbers_text = codes "SELECT schema FROM meta"
-
-pub numbers_is : MeansQueryIn first_schema numbers_text (Select (program_of 0 [] number_columns) number_names)
-unfolding understood everything
-numbers_is = ((refl, (refl, refl)), refl)
-
 abbrev pub clear_meta_text : List ℕ
 clear_meta_text = codes "DELETE FROM meta"
 

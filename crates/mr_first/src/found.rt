@@ -5,11 +5,11 @@ ghost use Rattle.mr_rows.specs.Form.{room_form, vector_form, booking_form, error
 ghost use Rattle.mr_rows.specs.Shown.{IsShownAs, AreStoredAs, IsMeta};
 ghost use Rattle.mr_first.specs.Forms.{first_meta_form, write_form, undo_form};
 ghost use Rattle.mr_first.specs.Kept.{LooksFirst};
-ghost use Rattle.mr_first.specs.Shown.{AreFirstRows, IsNumbered};
+ghost use Rattle.mr_first.specs.Shown.{AreFirstRows};
 
 use crate::first_rows::FirstRow;
-use crate::meta_row::{only_meta, only_number};
-use crate::queries::{select_all_meta, select_numbers};
+use crate::meta_row::only_meta;
+use crate::queries::select_all_meta;
 use crate::rows::{UndoRow, WriteRow};
 use mr_base::RoomName;
 use mr_tables::{BookingRow, ErrorRow, MetaRow, VectorRow};
@@ -89,15 +89,4 @@ pub fn find_first<S: Alter>(
 {
     find_rows(conn, alloc)?;
     find_meta(conn)
-}
-
-/// The number of the schema that the row of `meta` has, if there is one. It is asked before all rows are looked at: a database with the
-/// tables of the first schema and another number isn't of that schema.
-pub fn first_number<S: Alter>(conn: &mut Connection<S>) -> Result<Option<i64>, Error>
-    requires autocommit { conn.old.in_transaction ≡ false }
-    ensures autocommit { conn.new.in_transaction ≡ false }
-    ensures looks { LooksFirst (state S.Store conn.old) (state S.Store conn.new) result (IsNumbered (state S.Store conn.old).now.trees) }
-{
-    let rows = select_numbers(conn)?;
-    only_number(&rows)
 }

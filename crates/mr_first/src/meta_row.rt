@@ -1,7 +1,6 @@
 ghost use Rattle.std.specs.Prelude.{◌≡◌, ◌∷◌, false, map, IfOk, OnOk, Some};
 ghost use Rattle.std.specs.List.{All};
-ghost use Rattle.sqlite_value.specs.declared.value.Value.TheVariants.{Null, Int};
-ghost use Rattle.sqlite_value.specs.Order.{column};
+ghost use Rattle.sqlite_value.specs.declared.value.Value.TheVariants.{Null};
 ghost use Rattle.sqlite.specs.Held.{state};
 ghost use Rattle.mr_rows.specs.Cells.{meta_in};
 ghost use Rattle.mr_rows.specs.Reads.{first_of};
@@ -47,17 +46,6 @@ pub(crate) fn only_meta(rows: &[Row]) -> Result<Option<MetaRow>, Error>
     match rows {
         [] => Ok(None),
         [row] => Ok(Some(read_meta(row)?)),
-        _ => Err(Error::InvalidQuery),
-    }
-}
-
-/// The schema's number that the row has, if there is one. More than one are refused.
-pub(crate) fn only_number(rows: &[Row]) -> Result<Option<i64>, Error>
-    ensures { IfOk result (λ n. map (λ row. column row 0) rows.now ≡ map Int (listed n)) }
-{
-    match rows {
-        [] => Ok(None),
-        [row] => Ok(Some(row.get(0)?)),
         _ => Err(Error::InvalidQuery),
     }
 }

@@ -31,12 +31,3 @@ pub(crate) fn select_all_meta<S: Alter>(conn: &mut Connection<S>) -> Result<Vec<
         "SELECT one, schema, server, prim, commits, dropped, clock FROM meta",
     )
 }
-
-/// The schema's number in each row of `meta`.
-pub(crate) fn select_numbers<S: Alter>(conn: &mut Connection<S>) -> Result<Vec<Row>, Error>
-    requires autocommit { conn.old.in_transaction ≡ false }
-    ensures autocommit { conn.new.in_transaction ≡ false }
-    ensures looks { LooksFirst (state S.Store conn.old) (state S.Store conn.new) result (λ rows. IsPermutation (map (columns_from 2 1) ((state S.Store conn.old).now.trees 0)) rows.items) }
-{
-    ask_first(conn, "SELECT schema FROM meta")
-}

@@ -5,7 +5,7 @@ use Rattle.mr_model.specs.Texts.{Text, within}
 use Rattle.mr_model.specs.Writes.{Id}
 use Rattle.mr_model.specs.Replica.{is_among}
 use Rattle.mr_model.specs.Tables.{LogRow, BookingRow, ErrorRow, CancelledRow, CancelRow}
-use Rattle.mr_model.specs.Queries.{booking_id, error_id, cancelled_id, cancel_id}
+use Rattle.mr_model.specs.Queries.{booking_id, error_id, cancelled_id}
 use Rattle.mr_tables.specs.Change.{log_id}
 use Rattle.mr_rows.specs.declared.questions.LogQuestion.{LogQuestion}
 use Rattle.mr_rows.specs.declared.questions.LogQuestion.TheVariants.{OfId, Between}
@@ -24,9 +24,6 @@ is_error_of id row = is_among (error_id row) (id ∷ [])
 
 abbrev pub is_cancelled_of : Id → CancelledRow → Bool
 is_cancelled_of id row = is_among (cancelled_id row) (id ∷ [])
-
-abbrev pub is_cancel_of : Id → CancelRow → Bool
-is_cancel_of id row = is_among (cancel_id row) (id ∷ [])
 
 -- ---- those of a room
 

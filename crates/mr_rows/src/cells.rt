@@ -47,7 +47,7 @@ pub fn read_title(alloc: Global, row: &Row, at: usize) -> Result<Title, Error>
 }
 
 /// The day in this column.
-pub fn read_day(row: &Row, at: usize) -> Result<Day, Error>
+pub(crate) fn read_day(row: &Row, at: usize) -> Result<Day, Error>
     ensures day { IfOk result (λ day. day ≡ date_in (bytes (column row.now at))) }
     ensures cell { IfOk result (λ day. column row.now at ≡ Text (date_text day)) }
 {
@@ -80,7 +80,7 @@ pub fn read_u32(row: &Row, at: usize) -> Result<u32, Error>
 }
 
 /// The minute of a day in this column, or the day's end.
-pub fn read_minute(row: &Row, at: usize) -> Result<u32, Error>
+pub(crate) fn read_minute(row: &Row, at: usize) -> Result<u32, Error>
     ensures minute { IfOk result (λ minute. minute ≡ nat_of (column row.now at)) }
     ensures cell { IfOk result (λ minute. column row.now at ≡ Int (pos minute)) }
     ensures within { IfOk result (λ minute. minute ≤ 1440) }
@@ -94,7 +94,7 @@ pub fn read_minute(row: &Row, at: usize) -> Result<u32, Error>
 }
 
 /// The count of a write in this column.
-pub fn read_count(row: &Row, at: usize) -> Result<u32, Error>
+pub(crate) fn read_count(row: &Row, at: usize) -> Result<u32, Error>
     ensures count { IfOk result (λ count. count ≡ nat_of (column row.now at)) }
     ensures cell { IfOk result (λ count. column row.now at ≡ Int (pos count)) }
     ensures within { IfOk result (λ count. (1 ≤ count) × (count ≤ 999_999_999)) }
@@ -107,7 +107,7 @@ pub fn read_count(row: &Row, at: usize) -> Result<u32, Error>
 }
 
 /// The id in this column and the next.
-pub fn read_id(row: &Row, at: usize) -> Result<WriteId, Error>
+pub(crate) fn read_id(row: &Row, at: usize) -> Result<WriteId, Error>
     requires at { at < 100 }
     ensures id { IfOk result (λ id. id ≡ record { server = nat_of (column row.now at); n = nat_of (column row.now (at + 1)) }) }
     ensures server { IfOk result (λ id. column row.now at ≡ Int (pos id.server)) }
@@ -153,7 +153,7 @@ pub fn read_text(row: &Row, at: usize) -> Result<String, Error>
 }
 
 /// The mark in this column, which is 0 or 1.
-pub fn read_mark(row: &Row, at: usize) -> Result<bool, Error>
+pub(crate) fn read_mark(row: &Row, at: usize) -> Result<bool, Error>
     ensures mark { IfOk result (λ m. m ≡ (nat_of (column row.now at) == 1)) }
     ensures cell { IfOk result (λ m. column row.now at ≡ Int (mark m)) }
 {
