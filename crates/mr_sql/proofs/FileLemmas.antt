@@ -1,5 +1,5 @@
 -- What an open finds of two files is known as well as what a second open would find: its rows are in order.
-use Rattle.std.proofs.Common.{◌≡◌, inl, inr, sym, ap, subst}
+use Rattle.std.proofs.Common.{inl, inr, sym, ap, subst}
 use Rattle.std.proofs.Math.Logic.{∥∥₁_elim}
 use Rattle.sqlite_trees.specs.View.{IsOrdered}
 use Rattle.sqlite_trees.specs.Props.{IsOrdered-prop}

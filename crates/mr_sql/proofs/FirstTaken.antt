@@ -1,5 +1,5 @@
 -- Databases of the first schema that were taken over, and what they move up to.
-use Rattle.std.proofs.Common.{◌≡◌, inl, inr, IsTrue, Some, refl, sym, ap, subst, subst₂, ◌∙◌}
+use Rattle.std.proofs.Common.{◌≡◌, inr, Some, sym, ap, subst, subst₂, ◌∙◌}
 use Rattle.sqlite_trees.specs.Tree.{Trees}
 use Rattle.sqlite_catalog.specs.Listing.{IsSound}
 use Rattle.sqlite.specs.Effect.{Database}

@@ -1,6 +1,5 @@
 pub mod ScopeLemmas
 pub mod CreateLemmas
-pub mod SchemaLemmas
 pub mod AnswerLemmas
 pub mod OpeningLemmas
 pub mod TakenLemmas

@@ -1,7 +1,7 @@
--- A reader of the contracts trusts Found and Refused. The others, Places, Questions, Blank and Same, serve private clauses and proofs alone.
+-- A reader of the contracts trusts Found and Refused. The others, Places, Questions, Blank and Told, serve private clauses and proofs alone.
 pub mod Places
 pub mod Questions
 pub mod Blank
-pub mod Same
+pub mod Told
 pub mod Found
 pub mod Refused

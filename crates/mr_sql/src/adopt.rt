@@ -148,11 +148,10 @@ pub(crate) fn settle<S: Alter>(
     if is_blank(conn) {
         return begin(conn, server, primary);
     }
-    match is_ours(alloc, conn) {
-        Ok(true) => resume(conn, alloc, server, primary),
-        Ok(false) => settle_first(conn, alloc, server, primary),
-        Err(refusal) => Err(refusal),
+    if is_ours(conn) {
+        return resume(conn, alloc, server, primary);
     }
+    settle_first(conn, alloc, server, primary)
 }
 
 /// Finds the tables of a replica, whichever it is, and moves those of the first schema up.
@@ -167,12 +166,9 @@ pub(crate) fn recover<S: Alter>(conn: &mut Connection<S>, alloc: Global) -> Resu
     ensures store { (trees : Trees) → HasCleanDisk (state S.Store conn.new) → IsTaken trees (state S.Store conn.old) → IfErr result (λ e. e ≡ Refusal.Store → AreSomebodys trees) }
     ensures cause { IfErr result (λ e. (e ≡ Refusal.OutOfMemory) ⊎ ((e ≡ Refusal.Store) ⊎ (e ≡ Refusal.NotAReplica))) }
 {
-    match is_ours(alloc, conn) {
-        Ok(true) => {
-            find(conn, alloc)?;
-            Ok(())
-        }
-        Ok(false) => recover_first(conn, alloc),
-        Err(refusal) => Err(refusal),
+    if !is_ours(conn) {
+        return recover_first(conn, alloc);
     }
+    find(conn, alloc)?;
+    Ok(())
 }

@@ -202,16 +202,3 @@ pub(crate) fn create<S: Alter>(conn: &mut Connection<S>, row: &MetaRow) -> Resul
     tx.commit()?;
     Ok(())
 }
-
-/// Makes the tables, with no row in any of them.
-pub(crate) fn lay_out<S: Alter>(conn: &mut Connection<S>) -> Result<(), Error>
-    requires autocommit { conn.old.in_transaction ≡ false }
-    ensures laid { HasCleanDisk (state S.Store conn.new) → IsBlank no_schema (state S.Store conn.old).now → OnOk result ((state S.Store conn.new).now.schema ≡ our_schema) }
-{
-    let mut tx = conn.transaction();
-    create_heads(&mut tx)?;
-    create_first_rows(&mut tx)?;
-    create_second_rows(&mut tx)?;
-    tx.commit()?;
-    Ok(())
-}

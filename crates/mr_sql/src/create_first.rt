@@ -54,14 +54,3 @@ pub(crate) fn create_first<S: Alter>(
     tx.commit()?;
     Ok(())
 }
-
-/// Makes the tables of the first schema, with no row in any of them.
-pub(crate) fn lay_out_first<S: Alter>(conn: &mut Connection<S>) -> Result<(), Error>
-    requires autocommit { conn.old.in_transaction ≡ false }
-    ensures laid { HasCleanDisk (state S.Store conn.new) → IsBlank no_schema (state S.Store conn.old).now → OnOk result ((state S.Store conn.new).now.schema ≡ first_schema) }
-{
-    let mut tx = conn.transaction();
-    create_tables(&mut tx)?;
-    tx.commit()?;
-    Ok(())
-}

@@ -15,8 +15,8 @@ ghost use Rattle.mr_sql.specs.Refused.{AreSomebodys, HasNoMeta, IsAnothers, IsNo
 
 use crate::adopt::is_of;
 use crate::faults::refusal_of;
-use crate::first_schemas::is_first;
 use crate::schema_number::check_number;
+use crate::schemas::is_first;
 use mr_base::{Refusal, ServerId};
 use mr_first::found::find_first;
 use mr_first::moving::move_up;
@@ -120,10 +120,10 @@ pub(crate) fn settle_first<S: Alter>(
     ensures store { (trees : Trees) → HasCleanDisk (state S.Store conn.new) → IsTaken trees (state S.Store conn.old) → IfErr result (λ e. e ≡ Refusal.Store → AreSomebodys trees) }
     ensures cause { IfErr result (λ e. (e ≡ Refusal.OutOfMemory) ⊎ ((e ≡ Refusal.Store) ⊎ (e ≡ Refusal.NotAReplica))) }
 {
-    match is_first(alloc, conn) {
-        Ok(true) => resume_first(conn, alloc, server, primary),
-        Ok(false) => Err(Refusal::NotAReplica),
-        Err(refusal) => Err(refusal),
+    if is_first(conn) {
+        resume_first(conn, alloc, server, primary)
+    } else {
+        Err(Refusal::NotAReplica)
     }
 }
 
@@ -143,10 +143,10 @@ pub(crate) fn recover_first<S: Alter>(
     ensures store { (trees : Trees) → HasCleanDisk (state S.Store conn.new) → IsTaken trees (state S.Store conn.old) → IfErr result (λ e. e ≡ Refusal.Store → AreSomebodys trees) }
     ensures cause { IfErr result (λ e. (e ≡ Refusal.OutOfMemory) ⊎ ((e ≡ Refusal.Store) ⊎ (e ≡ Refusal.NotAReplica))) }
 {
-    match is_first(alloc, conn) {
-        Ok(true) => raise_any(conn, alloc),
-        Ok(false) => Err(Refusal::NotAReplica),
-        Err(refusal) => Err(refusal),
+    if is_first(conn) {
+        raise_any(conn, alloc)
+    } else {
+        Err(Refusal::NotAReplica)
     }
 }
 
@@ -177,12 +177,9 @@ pub(crate) fn claim<S: Alter>(conn: &mut Connection<S>, alloc: Global) -> Result
     ensures strange { (trees : Trees) → HasCleanDisk (state S.Store conn.new) → IsTaken trees (state S.Store conn.old) → IfErr result (λ e. e ≡ Refusal.NotAReplica → IsSound first_schema trees → HasNoMeta 1 trees) }
     ensures cause { IfErr result (λ e. (e ≡ Refusal.OutOfMemory) ⊎ ((e ≡ Refusal.Store) ⊎ (e ≡ Refusal.NotAReplica))) }
 {
-    match is_first(alloc, conn) {
-        Ok(true) => {
-            find_old(conn, alloc)?;
-            Ok(())
-        }
-        Ok(false) => Err(Refusal::NotAReplica),
-        Err(refusal) => Err(refusal),
+    if !is_first(conn) {
+        return Err(Refusal::NotAReplica);
     }
+    find_old(conn, alloc)?;
+    Ok(())
 }

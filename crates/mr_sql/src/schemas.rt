@@ -1,91 +1,68 @@
-ghost use Rattle.std.specs.Prelude.{◌≡◌, [], IsTrue, IfOk, IfErr, false, All};
-ghost use Rattle.sqlite_value.specs.declared.value.Value.TheVariants.{Null};
-ghost use Rattle.sqlite.specs.Held.{state};
-ghost use Rattle.sqlite.specs.Steps.{over_memory, IsEmpty};
-ghost use Rattle.mr_rows.specs.Schema.{no_schema, our_schema};
-ghost use Rattle.mr_sql.specs.Same.{IsFitTable, IsPlainTable, IsSameShape};
+//! Whether a database has our tables, those of the first schema, or none.
 
-use crate::create::lay_out;
-use mr_base::Refusal;
-use sqlite::{Alter, Connection, Error, ErrorCode, MemStore};
+ghost use Rattle.std.specs.Prelude.{◌≡◌, [], ◌∷◌, IsTrue, false, map};
+ghost use Rattle.sqlite_value.specs.Keys.{plain};
+ghost use Rattle.sqlite.specs.Held.{state};
+ghost use Rattle.mr_rows.specs.Schema.{no_schema, column_of, first_schema, our_schema};
+ghost use Rattle.mr_sql.specs.Told.{IsPlainTable, table_told, index_told, schema_told};
+
+use crate::our_tables::{OURS, Wanted};
+use sqlite::{Alter, Connection};
 use sqlite_items::Items;
 use sqlite_schema::code::Terms;
-use sqlite_schema::schema::{Column, Index, Schema, Stamps, Table};
-use sqlite_value::keys::Order;
-use sqlite_value::value::{Bytes, Value};
-use std::alloc::Global;
+use sqlite_schema::schema::{Column, Index, Kind, Schema, Stamps, Table};
+use sqlite_value::keys::{Collation, Order};
+use sqlite_value::value::Value;
 
-fn same_name(a: &Bytes, b: &Bytes) -> bool
-    ensures same { IsTrue result → a.now ≡ b.now }
-    ensures other { result ≡ false → a.now ≡ b.now → ⊥ }
+// Strict, never NULL, compared byte by byte, and with no default.
+fn is_column(column: &Column, name: &str, kind: Kind) -> bool
+    ensures same { IsTrue result → column.now ≡ column_of name.now kind }
+    ensures other { result ≡ false → column.now ≡ column_of name.now kind → ⊥ }
 {
-    a.as_slice() == b.as_slice()
+    column.name.as_slice() == name.as_bytes()
+        && column.kind == kind
+        && column.is_strict
+        && column.not_null
+        && matches!(column.default, Value::Null)
+        && column.collation == Collation::Binary
 }
 
-fn same_places(a: &Items<usize>, b: &Items<usize>) -> bool
-    ensures same { IsTrue result → a.now ≡ b.now }
-    ensures other { result ≡ false → a.now ≡ b.now → ⊥ }
+fn are_columns(columns: &[Column], wanted: &[(&str, Kind)]) -> bool
+    ensures same { IsTrue result → columns.now ≡ map (λ c. column_of c.0.now c.1) wanted.now }
+    ensures other { result ≡ false → columns.now ≡ map (λ c. column_of c.0.now c.1) wanted.now → ⊥ }
 {
-    a.as_slice() == b.as_slice()
-}
-
-// Of columns with a default none are the same.
-fn same_column(a: &Column, b: &Column) -> bool
-    ensures same { IsTrue result → a.now ≡ b.now }
-    ensures other { result ≡ false → a.now ≡ b.now → a.now.default ≡ Null → ⊥ }
-{
-    same_name(&a.name, &b.name)
-        && a.kind == b.kind
-        && a.is_strict == b.is_strict
-        && a.not_null == b.not_null
-        && matches!(a.default, Value::Null)
-        && matches!(b.default, Value::Null)
-        && a.collation == b.collation
-}
-
-fn same_columns(a: &[Column], b: &[Column]) -> bool
-    ensures same { IsTrue result → a.now ≡ b.now }
-    ensures other { result ≡ false → a.now ≡ b.now → All (λ c. c.default ≡ Null) a.now → ⊥ }
-{
-    if a.len() != b.len() {
+    if columns.len() != wanted.len() {
         return false;
     }
-    'at: for at in 0..a.len() {
-        if !same_column(&a[at], &b[at]) {
+    'at: for at in 0..columns.len() {
+        if !is_column(&columns[at], wanted[at].0, wanted[at].1) {
             return false;
         }
     }
     true
 }
 
-fn same_keys(a: &[Items<usize>], b: &[Items<usize>]) -> bool
-    ensures same { IsTrue result → a.now ≡ b.now }
-    ensures other { result ≡ false → a.now ≡ b.now → ⊥ }
+fn are_places(places: &Items<usize>, wanted: &[usize]) -> bool
+    ensures same { IsTrue result → places.now ≡ wanted.now }
+    ensures other { result ≡ false → places.now ≡ wanted.now → ⊥ }
 {
-    if a.len() != b.len() {
-        return false;
-    }
-    'at: for at in 0..a.len() {
-        if !same_places(&a[at], &b[at]) {
-            return false;
-        }
-    }
-    true
+    places.as_slice() == wanted
 }
 
-fn same_orders(a: &[Order], b: &[Order]) -> bool
-    ensures same { IsTrue result → a.now ≡ b.now }
-    ensures other { result ≡ false → a.now ≡ b.now → ⊥ }
+// One key, by these places.
+fn is_one_key(keys: &[Items<usize>], key: &[usize]) -> bool
+    ensures same { IsTrue result → keys.now ≡ key.now ∷ [] }
+    ensures other { result ≡ false → keys.now ≡ key.now ∷ [] → ⊥ }
 {
-    if a.len() != b.len() {
-        return false;
-    }
-    'at: for at in 0..a.len() {
-        if a[at].digits != b[at].digits {
-            return false;
-        }
-    }
-    true
+    keys.len() == 1 && are_places(&keys[0], key)
+}
+
+// The order of one key, in which each column ascends.
+fn is_one_order(orders: &[Order]) -> bool
+    ensures same { IsTrue result → orders.now ≡ plain ∷ [] }
+    ensures other { result ≡ false → orders.now ≡ plain ∷ [] → ⊥ }
+{
+    orders.len() == 1 && orders[0].digits == 0
 }
 
 fn has_no_terms(terms: &Terms) -> bool
@@ -115,96 +92,83 @@ fn is_plain(table: &Table) -> bool
         && !table.is_counted
 }
 
-// What is said of a table beside its rules.
-fn same_shape(a: &Table, b: &Table) -> bool
-    ensures same { IsTrue result → IsSameShape a.now b.now }
-    ensures other { result ≡ false → a.now ≡ b.now → All (λ c. c.default ≡ Null) a.now.columns → ⊥ }
+fn is_table(table: &Table, wanted: &Wanted) -> bool
+    ensures same { IsTrue result → table.now ≡ table_told wanted.now }
+    ensures other { result ≡ false → table.now ≡ table_told wanted.now → ⊥ }
 {
-    same_name(&a.name, &b.name)
-        && a.tree == b.tree
-        && same_columns(a.columns.as_slice(), b.columns.as_slice())
-        && same_places(&a.primary, &b.primary)
-        && same_keys(a.uniques.as_slice(), b.uniques.as_slice())
-        && same_orders(a.orders.as_slice(), b.orders.as_slice())
+    is_plain(table)
+        && table.name.as_slice() == wanted.name.as_bytes()
+        && table.tree == wanted.tree
+        && are_columns(table.columns.as_slice(), wanted.columns)
+        && are_places(&table.primary, wanted.primary)
+        && is_one_key(table.uniques.as_slice(), wanted.key)
+        && is_one_order(table.orders.as_slice())
 }
 
-fn same_table(a: &Table, b: &Table) -> bool
-    ensures same { IsTrue result → a.now ≡ b.now }
-    ensures other { result ≡ false → a.now ≡ b.now → IsFitTable a.now → ⊥ }
+fn is_index(index: &Index, wanted: &Wanted) -> bool
+    ensures same { IsTrue result → index.now ≡ index_told wanted.now }
+    ensures other { result ≡ false → index.now ≡ index_told wanted.now → ⊥ }
 {
-    is_plain(a) && is_plain(b) && same_shape(a, b)
+    index.name.as_slice() == wanted.index.0.as_bytes()
+        && index.tree == wanted.index.1
+        && index.table == wanted.tree
+        && are_places(&index.columns, wanted.key)
+        && index.order.digits == 0
+        && index.is_unique
 }
 
-fn same_tables(a: &[Table], b: &[Table]) -> bool
-    ensures same { IsTrue result → a.now ≡ b.now }
-    ensures other { result ≡ false → a.now ≡ b.now → All IsFitTable a.now → ⊥ }
+fn are_tables(tables: &[Table], wanted: &[Wanted]) -> bool
+    ensures same { IsTrue result → tables.now ≡ map table_told wanted.now }
+    ensures other { result ≡ false → tables.now ≡ map table_told wanted.now → ⊥ }
 {
-    if a.len() != b.len() {
+    if tables.len() != wanted.len() {
         return false;
     }
-    'at: for at in 0..a.len() {
-        if !same_table(&a[at], &b[at]) {
+    'at: for at in 0..tables.len() {
+        if !is_table(&tables[at], &wanted[at]) {
             return false;
         }
     }
     true
 }
 
-fn same_index(a: &Index, b: &Index) -> bool
-    ensures same { IsTrue result → a.now ≡ b.now }
-    ensures other { result ≡ false → a.now ≡ b.now → ⊥ }
+fn are_indexes(indexes: &[Index], wanted: &[Wanted]) -> bool
+    ensures same { IsTrue result → indexes.now ≡ map index_told wanted.now }
+    ensures other { result ≡ false → indexes.now ≡ map index_told wanted.now → ⊥ }
 {
-    same_name(&a.name, &b.name)
-        && a.tree == b.tree
-        && a.table == b.table
-        && same_places(&a.columns, &b.columns)
-        && a.order.digits == b.order.digits
-        && a.is_unique == b.is_unique
-}
-
-fn same_indexes(a: &[Index], b: &[Index]) -> bool
-    ensures same { IsTrue result → a.now ≡ b.now }
-    ensures other { result ≡ false → a.now ≡ b.now → ⊥ }
-{
-    if a.len() != b.len() {
+    if indexes.len() != wanted.len() {
         return false;
     }
-    'at: for at in 0..a.len() {
-        if !same_index(&a[at], &b[at]) {
+    'at: for at in 0..indexes.len() {
+        if !is_index(&indexes[at], &wanted[at]) {
             return false;
         }
     }
     true
 }
 
-/// Whether both schemas are one. Of schemas with a view none are the same.
-pub(crate) fn same_schema(a: &Schema, b: &Schema) -> bool
-    ensures same { IsTrue result → a.now ≡ b.now }
-    ensures other { result ≡ false → a.now ≡ b.now → All IsFitTable a.now.tables → a.now.views ≡ [] → ⊥ }
+// These tables with their indexes, and nothing else.
+fn has_only(schema: &Schema, wanted: &[Wanted]) -> bool
+    ensures same { IsTrue result → schema.now ≡ schema_told wanted.now }
+    ensures other { result ≡ false → schema.now ≡ schema_told wanted.now → ⊥ }
 {
-    same_tables(a.tables.as_slice(), b.tables.as_slice())
-        && same_indexes(a.indexes.as_slice(), b.indexes.as_slice())
-        && a.views.len() == 0
-        && b.views.len() == 0
+    are_tables(schema.tables.as_slice(), wanted)
+        && are_indexes(schema.indexes.as_slice(), wanted)
+        && schema.views.len() == 0
 }
 
-/// A database in memory that has no table.
-pub(crate) fn empty(alloc: Global) -> Result<Connection<MemStore>, Error>
-    ensures { IfOk result (λ c. IsEmpty (state over_memory c)) }
+fn has_ours(schema: &Schema) -> bool
+    ensures same { IsTrue result → schema.now ≡ our_schema }
+    ensures other { result ≡ false → schema.now ≡ our_schema → ⊥ }
 {
-    match Connection::open_in_memory(alloc) {
-        Ok(conn) => Ok(conn),
-        Err(_) => Err(Error::SqliteFailure(ErrorCode::OutOfMemory)),
-    }
+    has_only(schema, &OURS)
 }
 
-// A database in memory that has these tables.
-fn sample(alloc: Global) -> Result<Connection<MemStore>, Error>
-    ensures { IfOk result (λ c. (state over_memory c).now.schema ≡ our_schema) }
+fn has_first(schema: &Schema) -> bool
+    ensures same { IsTrue result → schema.now ≡ first_schema }
+    ensures other { result ≡ false → schema.now ≡ first_schema → ⊥ }
 {
-    let mut conn = empty(alloc)?;
-    lay_out(&mut conn)?;
-    Ok(conn)
+    has_only(schema, &OURS[..7])
 }
 
 /// Whether the database has no table, index or view.
@@ -216,15 +180,19 @@ pub(crate) fn is_blank<S: Alter>(conn: &Connection<S>) -> bool
     schema.tables.len() == 0 && schema.indexes.len() == 0 && schema.views.len() == 0
 }
 
-/// Whether the database has these tables with their indexes, and nothing else. One of the first schema, which has seven of these ten tables,
-/// hasn't. No disk fails in memory: where no sample can be had to compare with, memory is wanting.
-pub(crate) fn is_ours<S: Alter>(alloc: Global, conn: &Connection<S>) -> Result<bool, Refusal>
-    ensures same { IfOk result (λ ours. IsTrue ours → (state S.Store conn.now).now.schema ≡ our_schema) }
-    ensures other { IfOk result (λ ours. ours ≡ false → (state S.Store conn.now).now.schema ≡ our_schema → ⊥) }
-    ensures memory { IfErr result (λ e. e ≡ Refusal.OutOfMemory) }
+/// Whether the database has our tables with their indexes, and nothing else. One of the first schema, which has seven of these ten tables,
+/// hasn't.
+pub(crate) fn is_ours<S: Alter>(conn: &Connection<S>) -> bool
+    ensures same { IsTrue result → (state S.Store conn.now).now.schema ≡ our_schema }
+    ensures other { result ≡ false → (state S.Store conn.now).now.schema ≡ our_schema → ⊥ }
 {
-    match sample(alloc) {
-        Ok(wanted) => Ok(same_schema(conn.schema(), wanted.schema())),
-        Err(_) => Err(Refusal::OutOfMemory),
-    }
+    has_ours(conn.schema())
+}
+
+/// Whether the database has the tables of the first schema with their indexes, and nothing else.
+pub(crate) fn is_first<S: Alter>(conn: &Connection<S>) -> bool
+    ensures same { IsTrue result → (state S.Store conn.now).now.schema ≡ first_schema }
+    ensures other { result ≡ false → (state S.Store conn.now).now.schema ≡ first_schema → ⊥ }
+{
+    has_first(conn.schema())
 }

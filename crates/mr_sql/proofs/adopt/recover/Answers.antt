@@ -6,10 +6,10 @@ use Rattle.mr_sql.proofs.TakenLemmas.{handed_on, nobodys_ours}
 use Rattle.mr_sql.proofs.adopt.recover.Goals as goal
 
 pub recover_first-requires-clause-others : goal.recover_first-requires-clause-others
-recover_first-requires-clause-others g c = c.in-Ok-false.ensures.other c.in-Ok-false.field-0-test
+recover_first-requires-clause-others g c = c.is_ours.ensures.other c.if-not-is_ours.true
 
-pub returns-in_err-find-in-Ok-true-clause-strange : goal.returns-in_err-find-in-Ok-true-clause-strange
-returns-in_err-find-in-Ok-true-clause-strange g c trees clean taken =
-    let ours = c.in-Ok-true.ensures.same c.in-Ok-true.field-0-test in
-    handed_on (λ e. e ≡ refusal.NotAReplica → IsNobodys trees) c.in_err-find-in-Ok-true.field-0.0 c.from_residual.result
-    (λ is. nobodys_ours trees (state g.S.Store c.args.conn.now) taken ours (c.in_err-find-in-Ok-true.ensures.strange trees clean (taken, ours) is)) c.from_residual.ensures.1
+pub returns-in_err-find-clause-strange : goal.returns-in_err-find-clause-strange
+returns-in_err-find-clause-strange g c trees clean taken =
+    let ours = c.is_ours.ensures.same c.if-not-is_ours.false in
+    handed_on (λ e. e ≡ refusal.NotAReplica → IsNobodys trees) c.in_err-find.field-0.0 c.from_residual.result
+    (λ is. nobodys_ours trees (state g.S.Store c.args.conn.now) taken ours (c.in_err-find.ensures.strange trees clean (taken, ours) is)) c.from_residual.ensures.1

@@ -8,15 +8,15 @@ pub returns-then-is_blank-clause-store : goal.returns-then-is_blank-clause-store
 returns-then-is_blank-clause-store g c trees clean taken =
     err_all c.begin.result _ (λ e is. inl (sound_as trees (state g.S.Store c.args.conn.now) no_schema taken (c.if-is_blank.ensures.same refl)))
 
-pub returns-in-Ok-true-clause-store : goal.returns-in-Ok-true-clause-store
-returns-in-Ok-true-clause-store g c trees clean taken =
-    err_all c.resume.result _ (λ e is. inr (inl (sound_as trees (state g.S.Store c.args.conn.now) our_schema taken (c.in-Ok-true.ensures.same c.in-Ok-true.field-0-test))))
+pub returns-then-is_ours-clause-store : goal.returns-then-is_ours-clause-store
+returns-then-is_ours-clause-store g c trees clean taken =
+    err_all c.resume.result _ (λ e is. inr (inl (sound_as trees (state g.S.Store c.args.conn.now) our_schema taken (c.if-is_ours.ensures.same refl))))
 
 pub settle_first-requires-clause-filled : goal.settle_first-requires-clause-filled
 settle_first-requires-clause-filled g c = c.if-is_blank.ensures.other refl
 
 pub settle_first-requires-clause-others : goal.settle_first-requires-clause-others
-settle_first-requires-clause-others g c = c.in-Ok-false.ensures.other c.in-Ok-false.field-0-test
+settle_first-requires-clause-others g c = c.if-is_ours.ensures.other refl
 
-pub returns-in-Ok-false-clause-store : goal.returns-in-Ok-false-clause-store
-returns-in-Ok-false-clause-store g c trees clean taken = failed_of c.settle_first.result _ _ (λ e known is. inr (known is)) (c.settle_first.ensures.store trees clean taken)
+pub returns-clause-store : goal.returns-clause-store
+returns-clause-store g c trees clean taken = failed_of c.settle_first.result _ _ (λ e known is. inr (known is)) (c.settle_first.ensures.store trees clean taken)

@@ -1,4 +1,4 @@
-use Rattle.std.proofs.Common.{◌≡◌, ◌∙◌, Ok, ap, sym, subst, rules}
+use Rattle.std.proofs.Common.{◌∙◌, Ok, ap, sym, subst, rules}
 use Rattle.sqlite.specs.Held.{state}
 use Rattle.mr_store.specs.Picked.{IsPlaceOf}
 use Rattle.mr_rows.specs.Kept.{tables_in}

@@ -2,5 +2,5 @@ use Rattle.mr_rows.specs.Schema.{first_schema}
 use Rattle.mr_sql.proofs.TakenLemmas.{of_schema}
 use Rattle.mr_sql.proofs.first.claim.Goals as goal
 
-pub returns-in-Ok-false-clause-strange : goal.returns-in-Ok-false-clause-strange
-returns-in-Ok-false-clause-strange g c trees clean taken is sound = absurd (c.in-Ok-false.ensures.other c.in-Ok-false.field-0-test (of_schema trees _ first_schema taken sound))
+pub returns-then-not-is_first-clause-strange : goal.returns-then-not-is_first-clause-strange
+returns-then-not-is_first-clause-strange g c trees clean taken is sound = absurd (c.is_first.ensures.other c.if-not-is_first.true (of_schema trees _ first_schema taken sound))

@@ -1,16 +1,16 @@
-use Rattle.std.proofs.Common.{inr}
+use Rattle.std.proofs.Common.{inr, refl}
 use Rattle.sqlite.specs.Held.{state}
 use Rattle.mr_rows.specs.Schema.{no_schema, first_schema, our_schema}
 use Rattle.mr_sql.proofs.TakenLemmas.{err_all, of_schema, sound_as}
 use Rattle.mr_sql.proofs.first.settle_first.Goals as goal
 
-pub returns-in-Ok-true-clause-store : goal.returns-in-Ok-true-clause-store
-returns-in-Ok-true-clause-store g c trees clean taken =
-    err_all c.resume_first.result _ (λ e is. inr (sound_as trees (state g.S.Store c.args.conn.now) first_schema taken (c.in-Ok-true.ensures.same c.in-Ok-true.field-0-test)))
+pub returns-then-is_first-clause-store : goal.returns-then-is_first-clause-store
+returns-then-is_first-clause-store g c trees clean taken =
+    err_all c.resume_first.result _ (λ e is. inr (sound_as trees (state g.S.Store c.args.conn.now) first_schema taken (c.if-is_first.ensures.same refl)))
 
-pub returns-in-Ok-false-clause-strange : goal.returns-in-Ok-false-clause-strange
-returns-in-Ok-false-clause-strange g c trees clean taken is = (
+pub returns-else-is_first-clause-strange : goal.returns-else-is_first-clause-strange
+returns-else-is_first-clause-strange g c trees clean taken is = (
   (λ blank. c.requires.filled (of_schema trees _ no_schema taken blank)),
   (λ ours. absurd (c.requires.others (of_schema trees _ our_schema taken ours))),
-  (λ first. absurd (c.in-Ok-false.ensures.other c.in-Ok-false.field-0-test (of_schema trees _ first_schema taken first))),
+  (λ first. absurd (c.if-is_first.ensures.other refl (of_schema trees _ first_schema taken first))),
 )

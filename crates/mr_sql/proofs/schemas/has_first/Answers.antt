@@ -1,0 +1,10 @@
+use Rattle.std.specs.Fmt.{digits}
+use Rattle.mr_sql.proofs.schemas.has_first.Goals as goal
+
+pub returns-clause-same : goal.returns-clause-same
+unfolding digits
+returns-clause-same c = c.has_only.ensures.same
+
+pub returns-clause-other : goal.returns-clause-other
+unfolding digits
+returns-clause-other c = c.has_only.ensures.other

@@ -1,5 +1,0 @@
-use Rattle.sqlite.proofs.Callers.{memory_is_clean}
-use Rattle.mr_sql.proofs.schemas.sample.Goals as goal
-
-pub returns : goal.returns
-returns c = c.in_ok-lay_out.ensures.laid (memory_is_clean c.lay_out.new.conn) (c.in_ok-conn.ensures.2, tt)
