@@ -6,8 +6,8 @@ use Rattle.mr_model.specs.Dropped.{Has}
 use Rattle.mr_model.specs.Writes.{Write, id_of}
 use Rattle.mr_model.specs.Exchange.{Item}
 use Rattle.mr_model.specs.Kept.{kept_in_order}
-use Rattle.mr_model.specs.Replica.{Replica, is_among}
-use Rattle.mr_model.specs.Moving.{again}
+use Rattle.mr_model.specs.Replica.{Replica, is_among, tentative}
+use Rattle.mr_model.specs.Moving.{again, may_move}
 use Rattle.mr_model.specs.Tables.{seq_of}
 use Rattle.mr_model.specs.View.{of_room, place_of}
 use Rattle.mr_base.specs.Answers.{OrOutOfMemory}
@@ -21,13 +21,14 @@ use Rattle.mr_replica.specs.Sets.{AreSameRooms}
 use Rattle.mr_replica.specs.KeptWrites.{numbered_of}
 use Rattle.mr_replica.specs.Logged.{undo_with}
 use Rattle.mr_replica.specs.RoomMoves.{ReplaysRooms, undone_at, board_after, rows_after, row_at}
-use Rattle.mr_replica.specs.Received.{Reaches, IsReplayed, all_writes}
-use Rattle.mr_replica.proofs.DeskMoves.{others_rows, new_found, new_board}
+use Rattle.mr_replica.specs.Received.{Reaches, IsPlanned, all_writes}
+use Rattle.mr_replica.specs.Targets.{taken_by}
+use Rattle.mr_replica.proofs.DeskMoves.{others_rows}
 use Rattle.mr_replica.proofs.RoomsApart.{IsGrouped, rows_of}
 use Rattle.mr_replica.proofs.DeskBoards.{board_of}
 use Rattle.mr_replica.proofs.DeskReceives.{moving_are, desk_undo}
 use Rattle.mr_replica.proofs.Moves.{touched_told, all_pass}
-use Rattle.mr_replica.proofs.desk.Desk.replay.Goals as goal
+use Rattle.mr_replica.proofs.desk.Desk.plan.Goals as goal
 
 module _ (c : goal.After-drop-touched-2) (a b : Replica) (summary : Summary) (rooms : List Text) (t : Reaches c.args.self.now (map item_of c.args.items.now) summary rooms c.args.kept.now a b) (marks : c.args.marks.now ≡ map (seq_of a) (kept_in_order a)) where
   abbrev items : List Item
@@ -56,7 +57,7 @@ module _ (c : goal.After-drop-touched-2) (a b : Replica) (summary : Summary) (ro
   numbers : c.args.marks.now ≡ map (seq_of a) c.kept-old.result.now
   numbers = marks ∙ ap (map (seq_of a)) (sym old)
 
-  undone : (name : Text) → undone_at c.in_ok-parted.parted.0 name ≡ rows_of a b items t.moves t.sound name
+  undone : (name : Text) → undone_at c.in_ok-parted.parted.0 name ≡ map (undo_with (place_of a)) (of_room name (filter (may_move a items) (tentative a)))
   undone name =
       c.in_ok-parted.ensures.moving (seq_of a) (undo_with (place_of a)) numbers undo name
       ∙ (λ i. map (undo_with (place_of a)) (of_room name (filter (λ w. seq_of a w == 0 && moves_in c.deref.result.now items (commits i) w) (old i))))
@@ -81,66 +82,31 @@ module _ (c : goal.After-drop-touched-2) (a b : Replica) (summary : Summary) (ro
         marks = λ w. inr refl;
       })
 
-  abbrev anew : List Write
-  anew = again a items t.moves.news b
+  was : c.in_ok-was.was'.items ≡ map (taken_by (desk_of a).log.board) (again a items t.moves.news b)
+  was = c.in_ok-was.ensures.takers ∙ (λ i. map (taken_by ((c.board.ensures ∙ ap (λ (v : DeskView). v.log.board) (c.self.view_is ∙ desk)) i)) ((c.deref-3.ensures.value ∙ writes) i))
 
-  again_is : c.deref-3.result.now ≡ anew
-  again_is = c.deref-3.ensures.value ∙ writes
+  all : IsPlanned a b items t.moves (record { undone = c.in_ok-parted.parted.0; others = c.in_ok-parted.parted.1; again = c.in_ok-again.again; was = c.in_ok-was.was' })
+  all = record { undone_are = undone; nothing_again = c.in_ok-parted.ensures.again; others_are = others; again_are = writes; was_are = was }
 
-  board : c.in_ok-board.board ≡ board_of a
-  board =
-      answered c.in_ok-board.board c.board.result.now (subst (λ r. OrOutOfMemory r (Ok c.board.result.now)) c.in_ok-board.was c.copy.ensures)
-      ∙ c.board.ensures ∙ ap (λ (v : DeskView). v.log.board) (c.self.view_is ∙ desk)
+pub returns-clause-planned : goal.returns-clause-planned
+returns-clause-planned c = λ a b summary rooms t marks. all c a b summary rooms t marks
 
-  replays : ReplaysRooms (undone_at c.in_ok-parted.parted.0) c.deref-3.result.now c.in_ok-board.board c.replayed_in_rooms.new.board c.in_ok-rows.rows.items
-  replays = c.in_ok-rows.ensures.replayed c.in_ok-parted.ensures.again
-
-  grouped : IsGrouped a b items t.moves t.sound replays.moves
-  grouped = record {
-    undone = λ name. replays.undone_are name ∙ undone name;
-    again = λ name. replays.again_are name ∙ ap (of_room name) again_is;
-    ordered = replays.ordered;
-  }
-
-  found : (w : Write) → Has w c.deref-3.result.now → row_at (rows_after replays.moves.entries c.in_ok-board.board) (id_of w) ≡ Some (undo_with (place_of b) w)
-  found w h = ap (λ x. row_at (rows_after replays.moves.entries x) (id_of w)) board ∙ new_found a b items t.moves t.sound replays.moves grouped w (subst (λ (ws : List Write). Has w ws) again_is h)
-
-  all : IsReplayed b anew c.in_ok-again.again.items c.in_ok-rows.rows.items c.in_ok-parted.parted.1.items c.replayed_in_rooms.new.board
-  all =
-      record {
-        again_are = writes;
-        rows_are = replays.rows_are (undo_with (place_of b)) found ∙ ap (map (undo_with (place_of b))) again_is;
-        others_are = others;
-        board_is = replays.board_is ∙ ap (board_after replays.moves.entries) board ∙ new_board a b items t.moves t.sound replays.moves grouped;
-      }
-
-pub returns-clause-replayed : goal.returns-clause-replayed
-returns-clause-replayed c = λ a b summary rooms t marks. all c a b summary rooms t marks
-
-pub returns-clause-as_many : goal.returns-clause-as_many
-returns-clause-as_many c = sym (c.in_ok-rows.ensures.as_many ∙ ap length c.deref-3.ensures.value)
-
-pub returns-in_err-touched-clause-replayed : goal.returns-in_err-touched-clause-replayed
-returns-in_err-touched-clause-replayed c = λ a b summary rooms t marks.
+pub returns-in_err-touched-clause-planned : goal.returns-in_err-touched-clause-planned
+returns-in_err-touched-clause-planned c = λ a b summary rooms t marks.
     let p = err_from_is_err_and c.from_residual.result c.from_residual.ensures.1 in
-    subst (λ r. IfOk r (λ x. IsReplayed b (again a (map item_of c.args.items.now) t.moves.news b) x.again.items x.rows.items x.others.items x.board)) (sym p.1) tt
+    subst (λ r. IfOk r (IsPlanned a b (map item_of c.args.items.now) t.moves)) (sym p.1) tt
 
-pub returns-in_err-parted-clause-replayed : goal.returns-in_err-parted-clause-replayed
-returns-in_err-parted-clause-replayed c = λ a b summary rooms t marks.
+pub returns-in_err-parted-clause-planned : goal.returns-in_err-parted-clause-planned
+returns-in_err-parted-clause-planned c = λ a b summary rooms t marks.
     let p = err_from_is_err_and c.from_residual-in_err-parted.result c.from_residual-in_err-parted.ensures.1 in
-    subst (λ r. IfOk r (λ x. IsReplayed b (again a (map item_of c.args.items.now) t.moves.news b) x.again.items x.rows.items x.others.items x.board)) (sym p.1) tt
+    subst (λ r. IfOk r (IsPlanned a b (map item_of c.args.items.now) t.moves)) (sym p.1) tt
 
-pub returns-in_err-again-clause-replayed : goal.returns-in_err-again-clause-replayed
-returns-in_err-again-clause-replayed c = λ a b summary rooms t marks.
+pub returns-in_err-again-clause-planned : goal.returns-in_err-again-clause-planned
+returns-in_err-again-clause-planned c = λ a b summary rooms t marks.
     let p = err_from_is_err_and c.from_residual-in_err-again.result c.from_residual-in_err-again.ensures.1 in
-    subst (λ r. IfOk r (λ x. IsReplayed b (again a (map item_of c.args.items.now) t.moves.news b) x.again.items x.rows.items x.others.items x.board)) (sym p.1) tt
+    subst (λ r. IfOk r (IsPlanned a b (map item_of c.args.items.now) t.moves)) (sym p.1) tt
 
-pub returns-in_err-rows-clause-replayed : goal.returns-in_err-rows-clause-replayed
-returns-in_err-rows-clause-replayed c = λ a b summary rooms t marks.
-    let p = err_from_is_err_and c.from_residual-in_err-rows.result c.from_residual-in_err-rows.ensures.1 in
-    subst (λ r. IfOk r (λ x. IsReplayed b (again a (map item_of c.args.items.now) t.moves.news b) x.again.items x.rows.items x.others.items x.board)) (sym p.1) tt
-
-pub returns-in_err-board-clause-replayed : goal.returns-in_err-board-clause-replayed
-returns-in_err-board-clause-replayed c = λ a b summary rooms t marks.
-    let p = err_from_is_err_and c.from_residual-in_err-board.result c.from_residual-in_err-board.ensures.1 in
-    subst (λ r. IfOk r (λ x. IsReplayed b (again a (map item_of c.args.items.now) t.moves.news b) x.again.items x.rows.items x.others.items x.board)) (sym p.1) tt
+pub returns-in_err-was-clause-planned : goal.returns-in_err-was-clause-planned
+returns-in_err-was-clause-planned c = λ a b summary rooms t marks.
+    let p = err_from_is_err_and c.from_residual-in_err-was.result c.from_residual-in_err-was.ensures.1 in
+    subst (λ r. IfOk r (IsPlanned a b (map item_of c.args.items.now) t.moves)) (sym p.1) tt
