@@ -1,18 +1,15 @@
-use Rattle.std.proofs.Common.{◌≡◌, ◌==◌, ◌&&◌, List, Some, Ok, IfOk, not, length, map, ap, sym, ◌∙◌, subst, refl, inr}
+use Rattle.std.proofs.Common.{◌≡◌, ◌==◌, ◌&&◌, List, IfOk, not, map, ap, sym, ◌∙◌, subst, refl, inr}
 use Rattle.std.specs.List.{filter}
 use Rattle.std.specs.Prelude.{flat_map}
 use Rattle.std.proofs.lemmas.Result.{err_from_is_err_and}
-use Rattle.mr_model.specs.Dropped.{Has}
-use Rattle.mr_model.specs.Writes.{Write, id_of}
+use Rattle.mr_model.specs.Writes.{id_of}
 use Rattle.mr_model.specs.Exchange.{Item}
 use Rattle.mr_model.specs.Kept.{kept_in_order}
 use Rattle.mr_model.specs.Replica.{Replica, is_among, tentative}
 use Rattle.mr_model.specs.Moving.{again, may_move}
 use Rattle.mr_model.specs.Tables.{seq_of}
 use Rattle.mr_model.specs.View.{of_room, place_of}
-use Rattle.mr_base.specs.Answers.{OrOutOfMemory}
 use Rattle.mr_base.specs.Batches.{item_of}
-use Rattle.mr_tables.proofs.LogRows.{answered}
 use Rattle.mr_tables.specs.declared.summary.Summary.{Summary}
 use Rattle.mr_model.specs.Texts.{Text}
 use Rattle.mr_replica.specs.Desk.{DeskView, desk_of}
@@ -20,12 +17,10 @@ use Rattle.mr_replica.specs.Moves.{rooms_named, AreTouched, moves_in}
 use Rattle.mr_replica.specs.Sets.{AreSameRooms}
 use Rattle.mr_replica.specs.KeptWrites.{numbered_of}
 use Rattle.mr_replica.specs.Logged.{undo_with}
-use Rattle.mr_replica.specs.RoomMoves.{ReplaysRooms, undone_at, board_after, rows_after, row_at}
+use Rattle.mr_replica.specs.RoomMoves.{undone_at}
 use Rattle.mr_replica.specs.Received.{Reaches, IsPlanned, all_writes}
 use Rattle.mr_replica.specs.Targets.{taken_by}
 use Rattle.mr_replica.proofs.DeskMoves.{others_rows}
-use Rattle.mr_replica.proofs.RoomsApart.{IsGrouped, rows_of}
-use Rattle.mr_replica.proofs.DeskBoards.{board_of}
 use Rattle.mr_replica.proofs.DeskReceives.{moving_are, desk_undo}
 use Rattle.mr_replica.proofs.Moves.{touched_told, all_pass}
 use Rattle.mr_replica.proofs.desk.Desk.plan.Goals as goal
