@@ -7,7 +7,7 @@ ghost use Rattle.mr_part.specs.PartMoves.{MovesPart};
 
 use crate::part_changed::changed_of;
 use mr_base::{Refusal, RoomName, Write};
-use mr_replay::{Board, UndoRow};
+use mr_replay::{Board, Trial, UndoRow};
 use mr_replica::candidate::Reached;
 use mr_replica::placing::put_places;
 use mr_replica::rewritten;
@@ -37,8 +37,8 @@ pub(crate) fn moved(
     ensures only { IfErr result (λ e. e ≡ Refusal.OutOfMemory) }
 {
     let was = takers(alloc, &board, again)?;
-    let mut board = board;
-    let rows = replayed_in_rooms(alloc, &mut board, in_rooms, again)?;
+    let mut trial = Trial::new(board);
+    let rows = replayed_in_rooms(alloc, &mut trial, in_rooms, again)?;
     let news = reached.summary.commits.saturating_sub(old.commits);
     let changed = changed_of(alloc, undone, news, again, &rows)?;
     let unknown = unknown_rooms(alloc, known, &reached.rooms)?;
@@ -47,11 +47,11 @@ pub(crate) fn moved(
         old,
         &reached.summary,
         unknown,
-        &board,
+        &trial,
         &changed.writes,
         &changed.rows,
     )?;
-    let targets = moved_targets(alloc, &reached.summary, &board, again, &was)?;
+    let targets = moved_targets(alloc, &reached.summary, &trial, again, &was)?;
     put_places(&mut change, targets)?;
     Ok(change)
 }

@@ -1,5 +1,5 @@
 -- Rows that are hidden, and a journal that leads back: what a replay in place does to the list of rows.
-use Rattle.std.proofs.Common.{◌≡◌, ◌∙◌, Bool, true, false, not, cond, length, List, [], ◌∷◌, ◌++◌, Option, Some, None, IfSome, IsTrue, is_some, Result, Ok, Err, OnOk, OnErr, ap, refl, sym, subst, arith}
+use Rattle.std.proofs.Common.{◌≡◌, ◌∙◌, Bool, true, false, not, cond, length, ℕ, take, List, [], ◌∷◌, ◌++◌, Option, Some, None, IfSome, IsTrue, is_some, Result, Ok, Err, OnOk, OnErr, ap, refl, sym, subst, arith}
 use Rattle.std.specs.BTreeMap.{insert_entry}
 use Rattle.std.specs.BTreeSet.{BTreeSet, contains}
 use Rattle.std.specs.List.{AllByRecursion}
@@ -212,6 +212,18 @@ pub no_more : {X : Type 0} (xs : List X) → length xs ≡ 0 → xs ≡ []
 no_more [] h = refl
 no_more (x ∷ xs) h = let never : ⊥ = omega arith in absurd never
 
+pub none_left : {X : Type 0} (k : ℕ) (xs : List X) → k ≡ 0 → take k xs ≡ []
+none_left k xs h = rw h refl
+
 pub never_refused : {A E P Q : Type 0} (r : Result A E) → OnOk r P → OnErr r Q → (Q → ⊥) → P
 never_refused (Ok a) ok err never = ok
 never_refused (Err e) ok err never = absurd (never err)
+
+-- what more follows from what a call gave, or from its refusal
+pub on_ok : {A E P Q : Type 0} (r : Result A E) → (P → Q) → OnOk r P → OnOk r Q
+on_ok (Ok a) f h = f h
+on_ok (Err e) f h = tt
+
+pub on_err : {A E P Q : Type 0} (r : Result A E) → (P → Q) → OnErr r P → OnErr r Q
+on_err (Ok a) f h = tt
+on_err (Err e) f h = f h

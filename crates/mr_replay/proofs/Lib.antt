@@ -9,6 +9,7 @@ pub mod Placing
 pub mod Checking
 pub mod OneRoom
 pub mod Hiding
+pub mod Trials
 pub mod Holding
 pub mod Redoing
 pub mod Replaying

@@ -3,6 +3,7 @@ pub mod Places
 pub mod Rows
 pub mod Index
 pub mod Hidden
+pub mod Trials
 pub mod Holds
 pub mod Bookings
 pub mod Laws

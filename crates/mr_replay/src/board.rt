@@ -14,22 +14,22 @@ use crate::choice::{is_free, place_among};
 use crate::giving_back::remove_row;
 use crate::index::{Index, forget, key_if_taken, note};
 use crate::marks::{mark_row, unmark_row};
-use crate::replay::Replay;
 use crate::rows::Rows;
-use crate::{Place, Row, UndoRow};
+use crate::{Place, Row, Trial, UndoRow};
 use mr_base::{Refusal, RoomName, Slot, Write, WriteId};
 use std::alloc::{AllocError, Global};
 use std::collections::{BTreeMap, BTreeSet};
 use std::marker::Model;
+use std::mem;
 
 /// The bookings and the error log of all rooms: one row for each write that was executed and not undone, but for the cancels that
 /// took a booking back, whose ids stand in the rows of these.
 #[derive(Drop)]
 pub struct Board {
-    alloc: Global,
-    rows: Rows,
+    pub(crate) alloc: Global,
+    pub(crate) rows: Rows,
     /// The bookings of the rows, by day and room.
-    index: Index,
+    pub(crate) index: Index,
 }
 
 impl Model for Board {
@@ -222,14 +222,18 @@ impl Board {
         ensures only { IfErr result (λ e. e ≡ Refusal.OutOfMemory) }
     {
         let _ = room;
-        let mut replay = Replay::new(self.alloc);
-        match replay.replay(&mut self.rows, &mut self.index, undone, again) {
-            Ok(()) => Ok(replay.finish(&mut self.rows, &mut self.index)),
-            Err(refusal) => {
-                replay.give_up(&mut self.rows, &mut self.index, again);
-                Err(refusal)
-            }
-        }
+        let mut trial = Trial::new(self.taken());
+        let rows = trial.replay(undone, again);
+        *self = trial.keep();
+        rows
+    }
+
+    /// Its rows, all of them moved; it is empty then.
+    fn taken(&mut self) -> Board
+        ensures { result ≡ self.old }
+    {
+        let alloc = self.alloc;
+        mem::replace(self, Board::new(alloc))
     }
 
     /// Executes the write and notes its undo row.

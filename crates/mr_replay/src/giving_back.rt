@@ -1,4 +1,4 @@
-ghost use Rattle.std.specs.Prelude.{◌≡◌, Some, IsTrue, is_some};
+ghost use Rattle.std.specs.Prelude.{◌≡◌, [], Some, IsTrue, is_some};
 ghost use Rattle.std.specs.BTreeMap.{insert_entry};
 ghost use Rattle.std.specs.Map.{remove_entry};
 ghost use Rattle.mr_model.specs.Writes.{same_id};
@@ -8,44 +8,40 @@ ghost use Rattle.mr_replay.specs.Rows.{Rows as Board, row_at};
 ghost use Rattle.mr_replay.specs.Index.{IsIndexed, key_if_taken};
 ghost use Rattle.mr_replay.specs.Hidden.{shown, put_back, HasPlace, LeadsFrom};
 
-use crate::index::{Index, IndexKey, forget, key_at, key_if_taken, take_out};
-use crate::replay::{Journal, Replay};
+use crate::Row;
+use crate::index::{Index, IndexKey, forget, key_if_taken, take_out};
+use crate::replay::Replay;
 use crate::rows::{Hidden, Rows};
-use crate::{Row, UndoRow};
-use mr_base::{Write, WriteId};
+use mr_base::WriteId;
 use std::collections::{BTreeMap, BTreeSet};
 
 impl Replay {
-    /// Takes the rows away that are undone and were not executed anew. The answer has the undo rows of the writes that were.
-    pub(crate) fn finish(self, rows: &mut Rows, index: &mut Index) -> Vec<UndoRow>
+    /// Takes the rows away that are undone and were not executed anew.
+    pub(crate) fn finish(self, rows: &mut Rows, index: &mut Index)
         requires { IsIndexed rows.old.entries index.old }
-        ensures done { result.items ≡ self.done.items }
         ensures board { rows.new.entries ≡ shown self.hidden rows.old.entries }
         ensures indexed { IsIndexed rows.new.entries index.new }
     {
         let Replay {
             mut hidden,
             journal,
-            done,
             ..
         } = self;
         remove_all(rows, index, &mut hidden);
-        sweep_replaced(rows, index, &journal);
-        done
+        sweep_replaced(rows, index, journal.as_slice());
     }
 
-    /// Leaves the rows as they were before these writes were executed. This takes no memory.
-    pub(crate) fn give_up(self, rows: &mut Rows, index: &mut Index, writes: &[Write])
-        ensures { (b : Board) → LeadsFrom b self.journal.items rows.old.entries → IsIndexed b index.old
+    /// Leaves the rows as they were before anything was replayed, and is then a replay in which nothing is. This takes no memory.
+    pub(crate) fn give_up(&mut self, rows: &mut Rows, index: &mut Index)
+        ensures back { (b : Board) → LeadsFrom b self.old.journal.items rows.old.entries → IsIndexed b index.old
             → (rows.new.entries ≡ b) × IsIndexed b index.new }
+        ensures shown { (b : Board) → shown self.new.hidden b ≡ b }
+        ensures journal { self.new.journal.items ≡ [] }
     {
-        let Replay {
-            mut journal,
-            done,
-            ..
-        } = self;
-        put_all_back(rows, &mut journal);
-        sweep_executed(rows, index, writes, done.as_slice());
+        put_all_back(rows, self.journal.as_mut_slice());
+        sweep_replaced(rows, index, self.journal.as_slice());
+        self.journal.clear();
+        self.hidden.clear();
     }
 }
 
@@ -71,53 +67,52 @@ pub(crate) fn remove_row(rows: &mut Rows, index: &mut Index, id: WriteId)
     }
 }
 
-/// Puts all back that the journal has, the last first.
-fn put_all_back(rows: &mut Rows, journal: &mut Journal)
-    ensures { (b : Board) → LeadsFrom b journal.old.items rows.old.entries → rows.new.entries ≡ b }
+/// Puts all back that the journal has, the last first. The journal keeps what stood in its place.
+fn put_all_back(rows: &mut Rows, journal: &mut [(WriteId, Option<Row>)])
+    ensures { (b : Board) → LeadsFrom b journal.old rows.old.entries → rows.new.entries ≡ b }
 {
-    while let Some(entry) = journal.pop() {
-        put_one_back(rows, entry.0, entry.1);
+    let mut left = journal.len();
+    while left > 0 {
+        left -= 1;
+        swap_back(rows, &mut journal[left]);
     }
 }
 
-/// Puts back what the id had.
-fn put_one_back(rows: &mut Rows, id: WriteId, old: Option<Row>)
+/// Puts back what the id of the entry had, and has it keep what stood in its place.
+fn swap_back(rows: &mut Rows, entry: &mut (WriteId, Option<Row>))
+    ensures { HasPlace rows.old.entries entry.old → rows.new.entries ≡ put_back rows.old.entries entry.old }
+{
+    let old = entry.1.take();
+    entry.1 = put_one_back(rows, entry.0, old);
+}
+
+/// Puts back what the id had. The answer is what stood in its place.
+fn put_one_back(rows: &mut Rows, id: WriteId, old: Option<Row>) -> Option<Row>
     ensures { HasPlace rows.old.entries (id, old) → rows.new.entries ≡ put_back rows.old.entries (id, old) }
 {
     match old {
         Some(row) => put_row_back(rows, id, row),
-        None => {
-            rows.remove(&id);
-        }
+        None => rows.remove(&id),
     }
 }
 
-/// Puts a row in the place of the one that its id has, which takes no memory.
-fn put_row_back(rows: &mut Rows, id: WriteId, row: Row)
+/// Puts a row in the place of the one that its id has, which takes no memory. The answer is that one.
+fn put_row_back(rows: &mut Rows, id: WriteId, row: Row) -> Option<Row>
     ensures { IsTrue (is_some (row_at rows.old.entries id)) → rows.new.entries ≡ insert_entry id_cmp rows.old.entries id row }
 {
-    let _ = rows.insert(id, row);
-}
-
-/// Takes the keys out that the replaced rows had.
-fn sweep_replaced(rows: &Rows, index: &mut Index, journal: &Journal)
-    requires { IsIndexed rows.now.entries index.old }
-    ensures { IsIndexed rows.now.entries index.new }
-{
-    for entry in journal.as_slice() {
-        if let Some(row) = &entry.1 {
-            sweep(rows, index, key_if_taken(entry.0, row));
-        }
+    match rows.insert(id, row) {
+        Ok(replaced) => replaced,
+        Err(_) => None,
     }
 }
 
-/// Takes the keys out that these writes had where their executions put them.
-fn sweep_executed(rows: &Rows, index: &mut Index, writes: &[Write], done: &[UndoRow])
+/// Takes the keys out that these rows had, where no row stands.
+fn sweep_replaced(rows: &Rows, index: &mut Index, replaced: &[(WriteId, Option<Row>)])
     ensures { IsIndexed rows.now.entries index.old → IsIndexed rows.now.entries index.new }
 {
-    for (k, row) in done.iter().enumerate() {
-        if let Some(write) = writes.get(k) {
-            sweep(rows, index, key_at(write, row.place));
+    for entry in replaced {
+        if let Some(row) = &entry.1 {
+            sweep(rows, index, key_if_taken(entry.0, row));
         }
     }
 }

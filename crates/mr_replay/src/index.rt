@@ -2,9 +2,8 @@ ghost use Rattle.std.specs.Prelude.{◌≡◌, OnOk, OnErr, IfErr, IsTrue, Some}
 ghost use Rattle.mr_replay.specs.declared.index.IndexKey.{IndexKey as Key};
 ghost use Rattle.mr_replay.specs.Index.{padded, key_of, first_key, last_key, key_if_taken, has, Grows, IsNoted};
 
-use crate::rows::slot_at;
-use crate::{Kept, Place, Row, Standing};
-use mr_base::{Action, Day, Refusal, RoomName, ServerId, Slot, Write, WriteId};
+use crate::{Kept, Row, Standing};
+use mr_base::{Day, Refusal, RoomName, ServerId, Slot, WriteId};
 use std::alloc::AllocError;
 use std::collections::BTreeSet;
 
@@ -66,16 +65,6 @@ fn key_of(id: WriteId, room: &RoomName, slot: Slot, length: u32) -> IndexKey
         id,
         slot,
         length,
-    }
-}
-
-/// Where the write stands at its place; nowhere, if it took no slot.
-pub(crate) fn key_at(write: &Write, place: Place) -> Option<IndexKey> {
-    match (&write.action, slot_at(write, place)) {
-        (Action::Books(meeting), Some(slot)) => {
-            Some(key_of(write.stamp.id(), &write.room, slot, meeting.length))
-        }
-        _ => None,
     }
 }
 

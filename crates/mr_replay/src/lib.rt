@@ -13,12 +13,14 @@ mod index;
 mod marks;
 mod replay;
 mod rows;
+mod trial;
 
 ghost use Rattle.mr_replay.specs.Laws.{OneBoard, ExecutingHolds, UndoingHolds, AnotherOrderHolds, UndoIsExact, UndoInReverseIsExact, CancelsMark, OthersAreNew, UndoRowsAreOfTheList, UndoRowsAreOfTheRoom, PlacesAreOfTheBoard, RoomsReplayApart};
 ghost use Rattle.mr_replay.specs.Bookings.{BookingsReplay};
 
 pub use board::Board;
 pub use rows::{Kept, Place, Row, Standing, UndoRow};
+pub use trial::Trial;
 
 /// A list of writes has one board. Executing writes leads from the board of a list to that of a longer one, undoing them
 /// leads back, and undoing an execution gives just the board from before it. A cancel marks its target's row, and undoing it takes

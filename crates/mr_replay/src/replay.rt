@@ -18,14 +18,13 @@ use std::collections::{BTreeMap, BTreeSet};
 /// What ids had before: a row or none, in the order in which that was changed.
 pub(crate) type Journal = Vec<(WriteId, Option<Row>)>;
 
-/// A replay that can still be given up: it takes no row away, so that giving it up needs no memory.
+/// Replays that can still be given up: they take no row away, so that giving them up needs no memory.
 #[derive(Drop)]
 pub(crate) struct Replay {
     pub alloc: Global,
     /// The ids that are undone and not yet executed anew. Their rows are still there.
     pub hidden: Hidden,
     pub journal: Journal,
-    pub done: Vec<UndoRow>,
 }
 
 impl Replay {
@@ -33,32 +32,30 @@ impl Replay {
     pub(crate) fn new(alloc: Global) -> Replay
         ensures shown { (b : Board) → shown result.hidden b ≡ b }
         ensures journal { result.journal.items ≡ [] }
-        ensures done { result.done.items ≡ [] }
     {
         Replay {
             alloc,
             hidden: BTreeSet::new(alloc),
             journal: Vec::new(alloc),
-            done: Vec::new(alloc),
         }
     }
 
-    /// Undoes these executions, and executes the writes.
+    /// Undoes these executions, and executes the writes. The answer has the undo rows of these.
     pub(crate) fn replay(
         &mut self,
         rows: &mut Rows,
         index: &mut Index,
         undone: &[UndoRow],
         again: &[Write],
-    ) -> Result<(), Refusal>
+    ) -> Result<Vec<UndoRow>, Refusal>
         requires { IsIndexed rows.old.entries index.old }
         ensures leads { StillLeads self.old.journal.items rows.old.entries self.new.journal.items rows.new.entries }
         ensures grows { Grows index.old index.new }
         ensures indexed { OnOk result (IsIndexed rows.new.entries index.new) }
         ensures board { OnOk result (shown self.new.hidden rows.new.entries
             ≡ executed_all (undone_all (shown self.old.hidden rows.old.entries) undone.now) again.now) }
-        ensures done { OnOk result (self.new.done.items ≡ self.old.done.items
-            ++ undo_rows_of (undone_all (shown self.old.hidden rows.old.entries) undone.now) again.now) }
+        ensures rows { IfOk result (λ done. done.items
+            ≡ undo_rows_of (undone_all (shown self.old.hidden rows.old.entries) undone.now) again.now) }
         ensures only { IfErr result (λ e. e ≡ Refusal.OutOfMemory) }
     {
         self.undo_all(rows, undone)?;
@@ -72,7 +69,6 @@ impl Replay {
         ensures indexed { OnOk result (StayIndexed rows.old.entries rows.new.entries) }
         ensures board { OnOk result (shown self.new.hidden rows.new.entries
             ≡ undone_all (shown self.old.hidden rows.old.entries) undone.now) }
-        ensures done { self.new.done.items ≡ self.old.done.items }
         ensures only { IfErr result (λ e. e ≡ Refusal.OutOfMemory) }
     {
         let mut left = undone.len();
@@ -91,7 +87,6 @@ impl Replay {
         ensures ordered { OnOk result (IsStrictlySortedBy id_cmp (keys_of rows.new.entries)) }
         ensures board { OnOk result (shown self.new.hidden rows.new.entries
             ≡ undone (shown self.old.hidden rows.old.entries) row) }
-        ensures done { self.new.done.items ≡ self.old.done.items }
         ensures only { IfErr result (λ e. e ≡ Refusal.OutOfMemory) }
     {
         match row.taken_back() {
@@ -103,46 +98,52 @@ impl Replay {
         }
     }
 
-    /// Executes the writes in order.
+    /// Executes the writes in order. Their undo rows stand in the same order.
     fn execute_all(
         &mut self,
         rows: &mut Rows,
         index: &mut Index,
         writes: &[Write],
-    ) -> Result<(), Refusal>
+    ) -> Result<Vec<UndoRow>, Refusal>
         requires { IsIndexed rows.old.entries index.old }
         ensures leads { StillLeads self.old.journal.items rows.old.entries self.new.journal.items rows.new.entries }
         ensures grows { Grows index.old index.new }
         ensures indexed { OnOk result (IsIndexed rows.new.entries index.new) }
         ensures board { OnOk result (shown self.new.hidden rows.new.entries
             ≡ executed_all (shown self.old.hidden rows.old.entries) writes.now) }
-        ensures done { OnOk result (self.new.done.items
-            ≡ self.old.done.items ++ undo_rows_of (shown self.old.hidden rows.old.entries) writes.now) }
+        ensures rows { IfOk result (λ done. done.items
+            ≡ undo_rows_of (shown self.old.hidden rows.old.entries) writes.now) }
         ensures only { IfErr result (λ e. e ≡ Refusal.OutOfMemory) }
     {
+        let mut done = Vec::new(self.alloc);
         for write in writes {
-            self.execute(rows, index, write)?;
+            let row = self.execute(rows, index, write)?;
+            done.push(row)?;
         }
-        Ok(())
+        Ok(done)
     }
 
     /// Executes the write: marks its target's row, and puts its own in the place of the one that its id has.
-    fn execute(&mut self, rows: &mut Rows, index: &mut Index, write: &Write) -> Result<(), Refusal>
+    fn execute(
+        &mut self,
+        rows: &mut Rows,
+        index: &mut Index,
+        write: &Write,
+    ) -> Result<UndoRow, Refusal>
         requires { IsIndexed rows.old.entries index.old }
         ensures leads { StillLeads self.old.journal.items rows.old.entries self.new.journal.items rows.new.entries }
         ensures grows { Grows index.old index.new }
         ensures indexed { OnOk result (IsIndexed rows.new.entries index.new) }
         ensures board { OnOk result (shown self.new.hidden rows.new.entries
             ≡ executed (shown self.old.hidden rows.old.entries) write.now) }
-        ensures done { OnOk result (self.new.done.items
-            ≡ self.old.done.items ++ undo_row_of (shown self.old.hidden rows.old.entries) write.now ∷ []) }
+        ensures row { IfOk result (λ row. row ≡ undo_row_of (shown self.old.hidden rows.old.entries) write.now) }
         ensures only { IfErr result (λ e. e ≡ Refusal.OutOfMemory) }
     {
         let undo_row = UndoRow::of(write, place_among(rows, index, &self.hidden, write));
         let row = Row::of(self.alloc, write, undo_row.place)?;
-        self.done.push(undo_row)?;
         self.mark_target(rows, undo_row)?;
-        self.put(rows, index, undo_row.id, row)
+        self.put(rows, index, undo_row.id, row)?;
+        Ok(undo_row)
     }
 
     /// Marks the row of its target, if this is of a cancel that is done.
@@ -152,7 +153,6 @@ impl Replay {
         ensures indexed { OnOk result (StayIndexed rows.old.entries rows.new.entries) }
         ensures board { OnOk result (shown self.new.hidden rows.new.entries
             ≡ marked_by row.id row.place row.target (shown self.old.hidden rows.old.entries)) }
-        ensures done { self.new.done.items ≡ self.old.done.items }
         ensures only { IfErr result (λ e. e ≡ Refusal.OutOfMemory) }
     {
         match row.taken_back() {
@@ -175,7 +175,6 @@ impl Replay {
         ensures indexed { OnOk result (IsIndexed rows.new.entries index.new) }
         ensures board { OnOk result (shown self.new.hidden rows.new.entries
             ≡ with_row id row (shown self.old.hidden rows.old.entries)) }
-        ensures done { self.new.done.items ≡ self.old.done.items }
         ensures only { IfErr result (λ e. e ≡ Refusal.OutOfMemory) }
     {
         if let Some(row) = row {
@@ -194,7 +193,6 @@ impl Replay {
         ensures ordered { OnOk result (IsStrictlySortedBy id_cmp (keys_of rows.new.entries)) }
         ensures board { OnOk result (shown self.new.hidden rows.new.entries
             ≡ changed (mark cancel) target (shown self.old.hidden rows.old.entries)) }
-        ensures done { self.new.done.items ≡ self.old.done.items }
         ensures only { IfErr result (λ e. e ≡ Refusal.OutOfMemory) }
     {
         if let Some(mut row) = self.copy_of(rows, target)? {
@@ -212,7 +210,6 @@ impl Replay {
         ensures ordered { OnOk result (IsStrictlySortedBy id_cmp (keys_of rows.new.entries)) }
         ensures board { OnOk result (shown self.new.hidden rows.new.entries
             ≡ changed (unmark cancel) target (shown self.old.hidden rows.old.entries)) }
-        ensures done { self.new.done.items ≡ self.old.done.items }
         ensures only { IfErr result (λ e. e ≡ Refusal.OutOfMemory) }
     {
         if let Some(mut row) = self.copy_of(rows, target)? {

@@ -21,13 +21,14 @@ use Rattle.mr_model.proofs.Members.{Distinct, sorted_same, sorted_filter, has_le
 use Rattle.mr_model.proofs.OrderedSets.{Before, before-true, before_from, before_trans}
 use Rattle.mr_model.proofs.Orders.{append_split}
 use Rattle.mr_model.proofs.PlacesOfOrder.{known_in_order}
-use Rattle.mr_replay.specs.Rows.{undo_row_at}
+use Rattle.mr_replay.specs.Places.{UndoRow}
+use Rattle.mr_replay.specs.Rows.{Rows, undo_row_at}
 use Rattle.mr_replay.specs.Holds.{HaveDistinctIds, if_of, Holds}
 use Rattle.mr_replay.proofs.Lists.{distinct-part, same_name}
 use Rattle.mr_replay.proofs.OneBoard.{one_board}
 use Rattle.mr_replica.specs.Moves.{AreTouched, moves_in}
 use Rattle.mr_replica.specs.Logged.{undo_with}
-use Rattle.mr_replica.specs.RoomMoves.{RoomMoves, board_after, rows_after, row_at}
+use Rattle.mr_replica.specs.RoomMoves.{RoomMoves, ReplaysRooms, undone_at, board_after, rows_after, row_at}
 use Rattle.mr_replica.proofs.DeskNumbers.{order_distinct, dropped_long}
 use Rattle.mr_replica.proofs.Moves.{none_passes, all_pass, moves_not, moves_as}
 use Rattle.mr_replica.proofs.BatchBoards.{moving}
@@ -258,3 +259,20 @@ module _ (a b : Replica) (items : List Item) (m : BatchMoves a b items) (sound :
 
     pub new_board : board_after moves.entries (board_of a) ≡ board_of b
     new_board = one_board (λ room. of_room room (order_of b)) (board_after moves.entries (board_of a)) (board_of b) (record { ordered = whole.ordered; rooms = λ room. whole.has room refl }) (board_holds b m.sound)
+
+-- where what may move is undone in rooms, and the new order is executed, the rows are those of the second replica, and so is the board
+pub desk_replayed : (a b : Replica) (items : List Item) (m : BatchMoves a b items) → IsReplica a → (undone : RoomMoves) (ws : List Write) (old new : Rows) (rows : List UndoRow) → old ≡ board_of a
+    → ((name : Text) → undone_at undone name ≡ map (undo_with (place_of a)) (of_room name (filter (may_move a items) (tentative a)))) → ws ≡ again a items m.news b
+    → ReplaysRooms (undone_at undone) ws old new rows → (rows ≡ map (undo_with (place_of b)) (again a items m.news b)) × (new ≡ board_of b)
+desk_replayed a b items m sound undone ws old new rows board_is undone_are again_are replays =
+    (replays.rows_are (undo_with (place_of b)) found ∙ ap (map (undo_with (place_of b))) again_are, replays.board_is ∙ ap (board_after replays.moves.entries) board_is ∙ new_board a b items m sound replays.moves grouped)
+  where
+    grouped : IsGrouped a b items m sound replays.moves
+    grouped = record {
+      undone = λ name. replays.undone_are name ∙ undone_are name;
+      again = λ name. replays.again_are name ∙ ap (of_room name) again_are;
+      ordered = replays.ordered;
+    }
+
+    found : (w : Write) → Has w ws → row_at (rows_after replays.moves.entries old) (id_of w) ≡ Some (undo_with (place_of b) w)
+    found w h = ap (λ x. row_at (rows_after replays.moves.entries x) (id_of w)) board_is ∙ new_found a b items m sound replays.moves grouped w (subst (λ (vs : List Write). Has w vs) again_are h)

@@ -99,6 +99,20 @@ desk_reaches a d items c p sound stands good taken shows =
       kept_are = shows.kept ∙ ap (map (numbered_of p.replica)) (all_pass (kept_in_order p.replica));
     }
 
+-- the same of equal parts
+abbrev pub reaches_as : (d e : DeskView) (items : List Item) (s t : Summary) (rooms names : List Text) (kept xs : List NumberedWrite) (a b : Replica) → e ≡ desk_of a → t ≡ s → names ≡ rooms → xs ≡ kept → Reaches d items s rooms kept a b → Reaches e items t names xs a b
+reaches_as d e items s t rooms names kept xs a b stands summary named logged r =
+    record {
+      sound = r.sound;
+      stands = stands;
+      moves = r.moves;
+      dropped = r.dropped;
+      keeps_rooms = r.keeps_rooms;
+      summary_is = summary ∙ r.summary_is;
+      rooms_are = named ∙ r.rooms_are;
+      kept_are = logged ∙ r.kept_are;
+    }
+
 -- the answer is what the items give
 pub desk_took : (a : Replica) (d : DeskView) (items : List Item) (c : ReachedView) (p : Progress) (x y : ℕ) → IsReplica a → d ≡ desk_of a → list_all (is_item Second) items ≡ true → take_items items 2 (Ok (nothing_taken a)) ≡ Ok p → ShowsPicked a all_writes c p → x ≡ length c.kept - length d.log.kept → y ≡ c.summary.commits - d.commits → Took x y ≡ (after_items a (take_items items 2 (Ok (nothing_taken a)))).reply
 desk_took a d items c p x y sound stands good taken shows writes commits =
@@ -121,6 +135,10 @@ pub log_is : (b : Replica) (kept : List Write) (undo : List UndoRow) (board : Ro
 log_is b kept undo board sound k u e =
     let rows = u ∙ sym (undo_rows_are (place_of b) (executed_all [] (dropped_in_order b)) (kept_in_order b) (kept_places b sound)) in
     λ i. record { kept = k i; undo = rows i; board = e i }
+
+-- the log with its board moved out and put back is as it was
+pub board_put_back : (l without with : KeptLog) (b : Rows) → without ≡ record l { board = [] } → with ≡ record without { board = b } → b ≡ l.board → with ≡ l
+board_put_back l without with b out back same = back ∙ (λ i. record { kept = (out i).kept; undo = (out i).undo; board = same i })
 
 -- ---- the change
 

@@ -1,24 +1,23 @@
-ghost use Rattle.std.specs.Prelude.{◌≡◌, ◌≢◌, ◌+◌, ◌<◌, ◌^◌, List, IsTrue, Ok, Err, Some, map, filter, length, OnOk, OnErr, IfOk, IfErr};
+ghost use Rattle.std.specs.Prelude.{◌≡◌, ◌≢◌, ◌+◌, ◌<◌, ◌^◌, List, IsTrue, Ok, Err, Some, map, length, OnErr, IfOk, IfErr};
 ghost use Rattle.std.specs.List.{list_all};
 ghost use Rattle.mr_model.specs.Exchange.{Second, is_item, Header, Item as ItemOfBatch};
 ghost use Rattle.mr_model.specs.Kept.{kept_in_order};
-ghost use Rattle.mr_model.specs.Moving.{again};
-ghost use Rattle.mr_model.specs.Replica.{Replica, IsReplica, is_among};
+ghost use Rattle.mr_model.specs.Moving.{BatchMoves};
+ghost use Rattle.mr_model.specs.Replica.{Replica, IsReplica};
 ghost use Rattle.mr_model.specs.Replies.{Took};
 ghost use Rattle.mr_model.specs.Step.{receive_batch, after_items};
 ghost use Rattle.mr_model.specs.Tables.{seq_of, tables_of};
 ghost use Rattle.mr_model.specs.Taking.{take_items};
 ghost use Rattle.mr_model.specs.Texts.{Text};
-ghost use Rattle.mr_model.specs.Writes.{Write as WriteOfRoom, id_of};
 ghost use Rattle.mr_base.specs.Batches.{item_of};
 ghost use Rattle.mr_tables.specs.Change.{changed};
 ghost use Rattle.mr_tables.specs.declared.summary.Summary.{Summary as SummaryOfDesk};
 ghost use Rattle.mr_tables.specs.Rows.{seq_on};
+ghost use Rattle.mr_tables.specs.Summary.{summary_of};
 ghost use Rattle.mr_replica.specs.Desk.{TakesStep, NeverStore, StandsFor, desk_of, nothing_taken};
 ghost use Rattle.mr_replica.specs.DeskTables.{desk_tables};
 ghost use Rattle.mr_replica.specs.Taken.{TakenPicked};
-ghost use Rattle.mr_replica.specs.KeptWrites.{numbered_of};
-ghost use Rattle.mr_replica.specs.Received.{Reaches, IsReplayed, all_writes};
+ghost use Rattle.mr_replica.specs.Received.{Reaches, IsPlanned, IsReplayed, IsCarriedOut, all_writes};
 ghost use Rattle.mr_replica.specs.Turning.{TurnsTables};
 ghost use Rattle.mr_replica.specs.declared.kept_writes.NumberedWrite.{NumberedWrite as NumberedWriteOfReplica};
 
@@ -30,11 +29,11 @@ use crate::kept_writes::{NumberedWrite, writes_alone};
 use crate::log::Log;
 use crate::movable::{again_in, rooms_touched};
 use crate::placing::put_places;
-use crate::room_moves::replayed_in_rooms;
+use crate::room_moves::{RoomMoves, replayed_in_rooms};
 use crate::room_sets::unknown_rooms;
 use crate::targets::{moved_targets, takers};
-use mr_base::{Batch, Item, Refusal, RoomName, Write};
-use mr_replay::{Board, UndoRow};
+use mr_base::{Batch, Item, Refusal, RoomName, Write, WriteId};
+use mr_replay::{Trial, UndoRow};
 use mr_tables::Change;
 use mr_tables::summary::Summary;
 use mr_tables::written::empty;
@@ -117,7 +116,8 @@ impl Desk {
     }
 
     /// Becomes what is reached, and answers what that changes in the tables: in the rooms that the items touch the
-    /// executions that they may move are undone, and the new order is executed.
+    /// executions that they may move are undone, and the new order is executed. That is tried on the desk's own board: where
+    /// something fails behind it, the trial is given up, and the board is as it was.
     fn adopt(&mut self, items: &[Item], marks: &[u64], reached: Reached) -> Result<Change, Refusal>
         ensures reached { (a b : Replica) → Reaches self.old (map item_of items.now) reached.summary reached.rooms reached.kept a b → marks.now ≡ map (seq_of a) (kept_in_order a)
             → IfOk result (λ change. (changed change (tables_of a) ≡ tables_of b) × StandsFor self.new b) }
@@ -129,56 +129,37 @@ impl Desk {
             rooms,
             kept,
         } = reached;
-        let replay = self.replay(items, marks, &kept)?;
-        let change = self.change_after(&summary, &rooms, &replay)?;
-        let log = log_with(self.alloc, kept, replay)?;
-        self.log = log;
-        self.summary = summary;
-        self.rooms = rooms;
-        Ok(change)
-    }
-
-    /// What the replay changes in the tables, where the desk's numbers and rooms become these: the rows of the writes that were
-    /// executed anew, and those of the bookings that they cancel, where other cancels took these back before.
-    fn change_after(
-        &self,
-        summary: &Summary,
-        rooms: &[RoomName],
-        replay: &Replay,
-    ) -> Result<Change, Refusal>
-        requires { length replay.now.again.items ≡ length replay.now.rows.items }
-        ensures turns { (a b : Replica) (items : List ItemOfBatch) (kept : List NumberedWriteOfReplica) (t : Reaches self.now items summary.now rooms.now kept a b)
-            → IsReplayed b (again a items t.moves.news b) replay.now.again.items replay.now.rows.items replay.now.others.items replay.now.board
-            → IfOk result (λ change. changed change (tables_of a) ≡ tables_of b) }
-        ensures only { IfErr result (λ e. e ≡ Refusal.OutOfMemory) }
-    {
-        let was = takers(self.alloc, self.log.board(), &replay.again)?;
-        let unknown = unknown_rooms(self.alloc, &self.rooms, rooms)?;
-        let mut change = rewritten(
+        let plan = self.plan(items, marks, &kept)?;
+        let mut trial = Trial::new(self.log.board_taken(self.alloc));
+        let done = carried_out(
             self.alloc,
+            &mut trial,
             &self.summary,
-            summary,
-            unknown,
-            &replay.board,
-            &replay.again,
-            &replay.rows,
-        )?;
-        let targets = moved_targets(self.alloc, summary, &replay.board, &replay.again, &was)?;
-        put_places(&mut change, targets)?;
-        Ok(change)
+            &self.rooms,
+            &summary,
+            &rooms,
+            kept,
+            plan,
+        );
+        match done {
+            Ok(Done { change, kept, undo }) => {
+                self.log = Log::of_parts(kept, undo, trial.keep());
+                self.summary = summary;
+                self.rooms = rooms;
+                Ok(change)
+            }
+            Err(refusal) => {
+                self.log.put_board(trial.give_up());
+                Err(refusal)
+            }
+        }
     }
 
-    /// Undoes what the items may move, on a copy of the board, and executes the new order, room by room in those that they touch.
-    /// The desk's kept writes have these commit numbers, and with all items they are those.
-    fn replay(
-        &self,
-        items: &[Item],
-        marks: &[u64],
-        kept: &[NumberedWrite],
-    ) -> Result<Replay, Refusal>
-        ensures replayed { (a b : Replica) (summary : SummaryOfDesk) (rooms : List Text) (t : Reaches self.now (map item_of items.now) summary rooms kept.now a b) → marks.now ≡ map (seq_of a) (kept_in_order a)
-            → IfOk result (λ r. IsReplayed b (again a (map item_of items.now) t.moves.news b) r.again.items r.rows.items r.others.items r.board) }
-        ensures as_many { IfOk result (λ r. length r.again.items ≡ length r.rows.items) }
+    /// What the items undo on the board and execute anew, in the rooms that they touch. The desk's kept writes have these commit
+    /// numbers, and with all items they are those.
+    fn plan(&self, items: &[Item], marks: &[u64], kept: &[NumberedWrite]) -> Result<Plan, Refusal>
+        ensures planned { (a b : Replica) (summary : SummaryOfDesk) (rooms : List Text) (t : Reaches self.now (map item_of items.now) summary rooms kept.now a b) → marks.now ≡ map (seq_of a) (kept_in_order a)
+            → IfOk result (IsPlanned a b (map item_of items.now) t.moves) }
         ensures only { IfErr result (λ e. e ≡ Refusal.OutOfMemory) }
     {
         let commits = self.summary.commits;
@@ -188,27 +169,128 @@ impl Desk {
         let parted = parted_rows(self.alloc, old, marks, undo, &touched, items, commits)?;
         let (undone, others) = parted;
         let again = again_in(self.alloc, kept, &touched, items, commits)?;
-        let mut board = self.log.board().copy()?;
-        let rows = replayed_in_rooms(self.alloc, &mut board, undone, &again)?;
-        Ok(Replay {
-            again,
-            rows,
+        let was = takers(self.alloc, self.log.board(), &again)?;
+        Ok(Plan {
+            undone,
             others,
-            board,
+            again,
+            was,
         })
     }
 }
 
-/// What a batch leads to in the rooms that it touches.
+/// What a batch undoes on a board, and what it executes anew there.
 #[derive(Drop)]
-struct Replay {
-    /// The writes that were executed anew, in the order of execution.
-    again: Vec<Write>,
-    /// What undoes them.
-    rows: Vec<UndoRow>,
+struct Plan {
+    /// What is undone, by rooms.
+    undone: RoomMoves,
     /// What undoes the other kept writes, as before.
     others: Vec<UndoRow>,
-    board: Board,
+    /// The writes that are executed anew, in the order of execution.
+    again: Vec<Write>,
+    /// The cancels that took back what they cancel.
+    was: Vec<Option<WriteId>>,
+}
+
+/// What a batch led to in the rooms that it touches.
+#[derive(Drop)]
+struct Replay {
+    /// What undoes the other kept writes, as before.
+    others: Vec<UndoRow>,
+    /// The writes that were executed anew, in the order of execution.
+    again: Vec<Write>,
+    /// The cancels that took back what they cancel, before.
+    was: Vec<Option<WriteId>>,
+    /// What undoes them.
+    rows: Vec<UndoRow>,
+}
+
+/// What a batch changes in the tables, and the kept writes with what undoes each.
+#[derive(Drop)]
+struct Done {
+    change: Change,
+    kept: Vec<Write>,
+    undo: Vec<UndoRow>,
+}
+
+/// Carries the plan out on the trial's board, and answers what it changes in the tables of these numbers and rooms, and the kept
+/// writes that are reached with what undoes each.
+fn carried_out(
+    alloc: Global,
+    trial: &mut Trial,
+    old: &Summary,
+    known: &[RoomName],
+    summary: &Summary,
+    rooms: &[RoomName],
+    kept: Vec<NumberedWrite>,
+    plan: Plan,
+) -> Result<Done, Refusal>
+    ensures done { (a b : Replica) (items : List ItemOfBatch) (t : Reaches (desk_of a) items summary.now rooms.now kept.items a b)
+        → old.now ≡ summary_of a → known.now ≡ a.rooms → trial.old.rows ≡ (desk_of a).log.board → IsPlanned a b items t.moves plan
+        → IfOk result (λ done. IsCarriedOut a b done.change done.kept.items done.undo.items trial.new.rows) }
+    ensures before { trial.new.before ≡ trial.old.before }
+    ensures only { IfErr result (λ e. e ≡ Refusal.OutOfMemory) }
+{
+    let replay = replayed(alloc, trial, plan)?;
+    let change = change_after(alloc, trial, old, known, summary, rooms, &replay)?;
+    let kept = writes_alone(alloc, kept)?;
+    let undo = joined_rows(alloc, &kept, &replay.rows, &replay.others)?;
+    Ok(Done { change, kept, undo })
+}
+
+/// Replays on the trial's board what the plan says.
+fn replayed(alloc: Global, trial: &mut Trial, plan: Plan) -> Result<Replay, Refusal>
+    ensures replayed { (a b : Replica) (items : List ItemOfBatch) (m : BatchMoves a b items) → IsReplica a
+        → trial.old.rows ≡ (desk_of a).log.board → IsPlanned a b items m plan → IfOk result (IsReplayed a b items m trial.new.rows) }
+    ensures as_many { IfOk result (λ r. length r.again.items ≡ length r.rows.items) }
+    ensures before { trial.new.before ≡ trial.old.before }
+    ensures only { IfErr result (λ e. e ≡ Refusal.OutOfMemory) }
+{
+    let Plan {
+        undone,
+        others,
+        again,
+        was,
+    } = plan;
+    let rows = replayed_in_rooms(alloc, trial, undone, &again)?;
+    Ok(Replay {
+        others,
+        again,
+        was,
+        rows,
+    })
+}
+
+/// What the replay changes in the tables of these numbers and rooms, where they become those that are reached: the rows of the
+/// writes that were executed anew, and those of the bookings that they cancel, where other cancels took these back before.
+fn change_after(
+    alloc: Global,
+    trial: &Trial,
+    old: &Summary,
+    known: &[RoomName],
+    summary: &Summary,
+    rooms: &[RoomName],
+    replay: &Replay,
+) -> Result<Change, Refusal>
+    requires { length replay.now.again.items ≡ length replay.now.rows.items }
+    ensures turns { (a b : Replica) (items : List ItemOfBatch) (kept : List NumberedWriteOfReplica) (t : Reaches (desk_of a) items summary.now rooms.now kept a b)
+        → old.now ≡ summary_of a → known.now ≡ a.rooms → IsReplayed a b items t.moves trial.now.rows replay.now
+        → IfOk result (λ change. changed change (tables_of a) ≡ tables_of b) }
+    ensures only { IfErr result (λ e. e ≡ Refusal.OutOfMemory) }
+{
+    let unknown = unknown_rooms(alloc, known, rooms)?;
+    let mut change = rewritten(
+        alloc,
+        old,
+        summary,
+        unknown,
+        trial,
+        &replay.again,
+        &replay.rows,
+    )?;
+    let targets = moved_targets(alloc, summary, trial, &replay.again, &replay.was)?;
+    put_places(&mut change, targets)?;
+    Ok(change)
 }
 
 /// The commit number of the kept write at this place, 0 of a tentative one.
@@ -220,15 +302,4 @@ fn mark_at(summary: &Summary, place: usize) -> u64
         .saturating_add(1)
         .saturating_add(place as u64);
     if seq <= summary.commits { seq } else { 0 }
-}
-
-/// The log of these kept writes, after the replay.
-fn log_with(alloc: Global, kept: Vec<NumberedWrite>, replay: Replay) -> Result<Log, Refusal>
-    ensures log { (b : Replica) (anew : List WriteOfRoom) → IsReplica b → kept.items ≡ map (numbered_of b) (kept_in_order b) → filter (λ w. is_among (id_of w) (map id_of anew)) (kept_in_order b) ≡ anew
-        → IsReplayed b anew replay.again.items replay.rows.items replay.others.items replay.board → IfOk result (λ log. log ≡ (desk_of b).log) }
-    ensures only { IfErr result (λ e. e ≡ Refusal.OutOfMemory) }
-{
-    let kept = writes_alone(alloc, kept)?;
-    let undo = joined_rows(alloc, &kept, &replay.rows, &replay.others)?;
-    Ok(Log::of_parts(kept, undo, replay.board))
 }

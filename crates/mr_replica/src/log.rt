@@ -13,6 +13,7 @@ use mr_tables::old_errors::OldError;
 use mr_tables::place_rows::cancel_row;
 use std::alloc::Global;
 use std::marker::Model;
+use std::mem;
 
 /// The kept writes in the order of their execution, what undoes each, and the board that all executions led to.
 #[derive(Drop)]
@@ -91,6 +92,21 @@ impl Log {
         ensures { result.now ≡ self.now.board }
     {
         &self.board
+    }
+
+    /// The board, moved out of the log, which has an empty one then.
+    pub(crate) fn board_taken(&mut self, alloc: Global) -> Board
+        ensures board { result ≡ self.old.board }
+        ensures rest { self.new ≡ record self.old { board = [] } }
+    {
+        mem::replace(&mut self.board, Board::new(alloc))
+    }
+
+    /// Moves a board into the log, in the place of the one that it has.
+    pub(crate) fn put_board(&mut self, board: Board)
+        ensures { self.new ≡ record self.old { board = board } }
+    {
+        self.board = board;
     }
 
     /// Executes one write more, behind all others.

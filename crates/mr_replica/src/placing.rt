@@ -1,12 +1,12 @@
 ghost use Rattle.std.specs.Prelude.{◌≡◌, ◌+◌, ◌≤◌, ◌++◌, map, option_map, OnOk, IfOk, IfErr};
-ghost use Rattle.mr_replay.specs.Rows.{row_at};
+ghost use Rattle.std.specs.Option.{option_copied};
 ghost use Rattle.mr_tables.specs.Cells.{place_row_of};
 ghost use Rattle.mr_replica.specs.DeskTables.{booking_at};
 ghost use Rattle.mr_replica.specs.Placing.{with_places_put, board_place, KeptEnds, TargetEnds, kept_canceller, row_canceller, cancellers_on, kept_is_booking, has_booking, taken_row, taken_rows};
 ghost use Rattle.mr_replay.specs.Rows.{taken_back as taken_back_by};
 
 use mr_base::{Refusal, RoomName, Slot, Title, Write, WriteId};
-use mr_replay::{Board, Kept, Place, Row, Standing, UndoRow};
+use mr_replay::{Board, Kept, Place, Row, Standing, Trial, UndoRow};
 use mr_tables::summary::Summary;
 use mr_tables::written::put_row;
 use mr_tables::{BookingRow, CancelledRow, Change, PlaceRow};
@@ -157,16 +157,32 @@ pub fn cancellers(
 {
     let mut bys = Vec::new(alloc);
     for write in writes {
-        bys.push(canceller(board, write.stamp.id()))?;
+        bys.push(canceller(board.row(write.stamp.id())))?;
     }
     Ok(bys)
 }
 
-/// The cancel that took the write with this id back.
-fn canceller(board: &Board, id: WriteId) -> Option<WriteId>
-    ensures { result ≡ row_canceller (row_at board.now id) }
+/// The cancels that took these writes back, as the trial's board tells them.
+pub(crate) fn cancellers_tried(
+    alloc: Global,
+    trial: &Trial,
+    writes: &[Write],
+) -> Result<Vec<Option<WriteId>>, Refusal>
+    ensures cancellers { IfOk result (λ bys. bys.items ≡ cancellers_on trial.now.rows writes.now) }
+    ensures only { IfErr result (λ e. e ≡ Refusal.OutOfMemory) }
 {
-    match board.row(id) {
+    let mut bys = Vec::new(alloc);
+    for write in writes {
+        bys.push(canceller(trial.row(write.stamp.id())))?;
+    }
+    Ok(bys)
+}
+
+/// The cancel that took back what has this row.
+fn canceller(row: Option<&Row>) -> Option<WriteId>
+    ensures { result ≡ row_canceller (option_copied row.entry) }
+{
+    match row {
         Some(row) => kept_canceller(&row.kept),
         None => None,
     }

@@ -17,7 +17,7 @@ use crate::room_sets::RoomSet;
 use crate::rows_by_id::rows_in_order;
 use crate::tail::Tail;
 use mr_base::{Refusal, RoomName, Write};
-use mr_replay::{Board, UndoRow};
+use mr_replay::{Trial, UndoRow};
 use std::alloc::Global;
 use std::collections::BTreeMap;
 
@@ -31,35 +31,37 @@ pub struct RoomMove {
 /// The moves of rooms, by their names: so a write that moves costs a logarithm, however many rooms there are.
 pub type RoomMoves = BTreeMap<RoomName, RoomMove>;
 
-/// Undoes on the board what is undone in rooms, and executes these writes, room by room: each room's executions are undone, and its writes are
-/// executed in their place. The answer has what undoes these writes, in their order.
+/// Undoes on the trial's board what is undone in rooms, and executes these writes, room by room: each room's executions are undone, and its
+/// writes are executed in their place. The answer has what undoes these writes, in their order.
 pub fn replayed_in_rooms(
     alloc: Global,
-    board: &mut Board,
+    trial: &mut Trial,
     undone: RoomMoves,
     again: &[Write],
 ) -> Result<Vec<UndoRow>, Refusal>
-    ensures replayed { ((name : Text) → again_at undone name ≡ []) → IfOk result (λ rows. ReplaysRooms (undone_at undone) again.now board.old board.new rows.items) }
+    ensures replayed { ((name : Text) → again_at undone name ≡ []) → IfOk result (λ rows. ReplaysRooms (undone_at undone) again.now trial.old.rows trial.new.rows rows.items) }
+    ensures before { trial.new.before ≡ trial.old.before }
     ensures as_many { IfOk result (λ rows. length rows.items ≡ length again.now) }
     ensures only { IfErr result (λ e. e ≡ Refusal.OutOfMemory) }
 {
     let mut moves = undone;
     add_again(alloc, &mut moves, again)?;
-    let rows = replay_rooms(alloc, board, moves)?;
+    let rows = replay_rooms(alloc, trial, moves)?;
     let rows = rows_in_order(alloc, &rows, again)?;
     Ok(rows)
 }
 
 /// Undoes and executes in each of the rooms what moves there. The answer has the rows room by room.
-fn replay_rooms(alloc: Global, board: &mut Board, moves: RoomMoves) -> Result<Vec<UndoRow>, Refusal>
-    ensures board { OnOk result (board.new ≡ board_after moves.entries board.old) }
-    ensures rows { IfOk result (λ rows. rows.items ≡ rows_after moves.entries board.old) }
+fn replay_rooms(alloc: Global, trial: &mut Trial, moves: RoomMoves) -> Result<Vec<UndoRow>, Refusal>
+    ensures board { OnOk result (trial.new.rows ≡ board_after moves.entries trial.old.rows) }
+    ensures rows { IfOk result (λ rows. rows.items ≡ rows_after moves.entries trial.old.rows) }
+    ensures before { trial.new.before ≡ trial.old.before }
     ensures ordered { IsOrdered (slice_cmp nat_cmp) moves }
     ensures only { IfErr result (λ e. e ≡ Refusal.OutOfMemory) }
 {
     let mut done = Vec::new(alloc);
-    for (room, one) in moves {
-        let mut rows = board.replay_room(&room, &one.undone, &one.again)?;
+    for (_, one) in moves {
+        let mut rows = trial.replay(&one.undone, &one.again)?;
         done.append(&mut rows)?;
     }
     Ok(done)

@@ -4,14 +4,15 @@ ghost use Rattle.std.specs.Option.{option_copied};
 ghost use Rattle.mr_model.specs.Dropped.{Has};
 ghost use Rattle.mr_model.specs.Writes.{Write as WriteOfRoom};
 ghost use Rattle.mr_replay.specs.Bookings.{is_taken, if_taken};
+ghost use Rattle.mr_replay.specs.Holds.{if_of};
 ghost use Rattle.mr_replay.specs.Rows.{Rows};
 ghost use Rattle.mr_tables.specs.Cells.{place_row_of};
 ghost use Rattle.mr_replica.specs.Placing.{RowEnds};
 ghost use Rattle.mr_replica.specs.Targets.{aimed_at, taken_by, same_by, row_if_moved, target_if_moved, moved_targets};
 
 use crate::placing::{kept_canceller, place_row_on};
-use mr_base::{Action, Refusal, Write, WriteId};
-use mr_replay::{Board, Kept, Row, Standing};
+use mr_base::{Action, Refusal, RoomName, Write, WriteId};
+use mr_replay::{Board, Kept, Row, Standing, Trial};
 use mr_tables::PlaceRow;
 use mr_tables::summary::Summary;
 use std::alloc::Global;
@@ -36,47 +37,41 @@ pub fn takers(
 fn taker(board: &Board, write: &Write) -> Option<WriteId>
     ensures { result ≡ taken_by board.now write.now }
 {
-    match row_aimed_at(board, write) {
+    let Action::Cancels(target) = &write.action else {
+        return None;
+    };
+    match if_of(board.row(*target), &write.room) {
         Some(row) => kept_canceller(&row.kept),
         None => None,
     }
 }
 
-/// The row of what the write cancels, if that is of the write's room.
-fn row_aimed_at<'a>(board: &'a Board, write: &Write) -> Option<&'a Row>
-    ensures { option_copied result ≡ aimed_at board.now write.now.room write.now.action }
+/// The row, if it is of this room.
+fn if_of<'a>(row: Option<&'a Row>, room: &RoomName) -> Option<&'a Row>
+    ensures { option_copied result ≡ if_of room.now (option_copied row.entry) }
 {
-    match &write.action {
-        Action::Books(_) => None,
-        Action::Cancels(target) => match board.row(*target) {
-            Some(row) => {
-                if row.room == write.room {
-                    Some(row)
-                } else {
-                    None
-                }
-            }
-            None => None,
-        },
+    match row {
+        Some(row) => { if row.room == *room { Some(row) } else { None } }
+        None => None,
     }
 }
 
-/// The rows of the bookings that these writes cancel, as the board tells them, where other cancels took these back before.
+/// The rows of the bookings that these writes cancel, as the trial's board tells them, where other cancels took these back before.
 pub fn moved_targets(
     alloc: Global,
     summary: &Summary,
-    board: &Board,
+    trial: &Trial,
     writes: &[Write],
     was: &[Option<WriteId>],
 ) -> Result<Vec<PlaceRow>, Refusal>
-    ensures rows { (old : Rows) → ((w : WriteOfRoom) → Has w writes.now → RowEnds (if_taken (aimed_at board.now w.room w.action))) → was.now ≡ map (taken_by old) writes.now
-        → IfOk result (λ rows. map place_row_of rows.items ≡ moved_targets summary.now.tallies old board.now writes.now) }
+    ensures rows { (old : Rows) → ((w : WriteOfRoom) → Has w writes.now → RowEnds (if_taken (aimed_at trial.now.rows w.room w.action))) → was.now ≡ map (taken_by old) writes.now
+        → IfOk result (λ rows. map place_row_of rows.items ≡ moved_targets summary.now.tallies old trial.now.rows writes.now) }
     ensures only { IfErr result (λ e. e ≡ Refusal.OutOfMemory) }
 {
     let mut rows = Vec::new(alloc);
     let count = writes.len().min(was.len());
     for k in 0..count {
-        push_if_moved(&mut rows, alloc, summary, board, &writes[k], was[k])?;
+        push_if_moved(&mut rows, alloc, summary, trial, &writes[k], was[k])?;
     }
     Ok(rows)
 }
@@ -86,18 +81,18 @@ fn push_if_moved(
     rows: &mut Vec<PlaceRow>,
     alloc: Global,
     summary: &Summary,
-    board: &Board,
+    trial: &Trial,
     write: &Write,
     was: Option<WriteId>,
 ) -> Result<(), Refusal>
-    ensures rows { RowEnds (if_taken (aimed_at board.now write.now.room write.now.action))
-        → OnOk result (map place_row_of rows.new.items ≡ map place_row_of rows.old.items ++ target_if_moved summary.now.tallies was board.now write.now.room write.now.action) }
+    ensures rows { RowEnds (if_taken (aimed_at trial.now.rows write.now.room write.now.action))
+        → OnOk result (map place_row_of rows.new.items ≡ map place_row_of rows.old.items ++ target_if_moved summary.now.tallies was trial.now.rows write.now.room write.now.action) }
     ensures only { IfErr result (λ e. e ≡ Refusal.OutOfMemory) }
 {
     let Action::Cancels(target) = &write.action else {
         return Ok(());
     };
-    let Some(row) = row_aimed_at(board, write) else {
+    let Some(row) = if_of(trial.row(*target), &write.room) else {
         return Ok(());
     };
     if let Some(place) = row_if_moved(alloc, summary, *target, row, was)? {

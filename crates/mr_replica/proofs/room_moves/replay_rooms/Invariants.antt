@@ -3,8 +3,9 @@ use Rattle.mr_replica.specs.RoomMoves.{board_after, rows_after}
 use Rattle.mr_replica.proofs.room_moves.replay_rooms.Given as goal
 
 -- the rooms so far are replayed
-abbrev pub invariant-loop-room : goal.invariant-loop-room
-invariant-loop-room l = record {
-  board : l.board ≡ board_after l.yielded l.fn.board;
-  rows : l.done.items ≡ rows_after l.yielded l.fn.board;
+abbrev pub invariant-loop-one : goal.invariant-loop-one
+invariant-loop-one l = record {
+  board : l.trial.rows ≡ board_after l.yielded l.fn.trial.rows;
+  rows : l.done.items ≡ rows_after l.yielded l.fn.trial.rows;
+  before : l.trial.before ≡ l.fn.trial.before;
 }

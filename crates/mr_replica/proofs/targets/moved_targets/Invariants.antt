@@ -11,5 +11,5 @@ use Rattle.mr_replica.proofs.targets.moved_targets.Given as goal
 -- those of the writes so far
 abbrev pub invariant-loop-k : goal.invariant-loop-k
 invariant-loop-k l =
-    (old : Rows) → ((w : Write) → Has w l.writes → RowEnds (if_taken (aimed_at l.board w.room w.action))) → l.was ≡ map (taken_by old) l.writes
-    → map place_row_of l.rows.items ≡ moved_targets l.summary.tallies old l.board (take l.k l.writes)
+    (old : Rows) → ((w : Write) → Has w l.writes → RowEnds (if_taken (aimed_at l.trial.rows w.room w.action))) → l.was ≡ map (taken_by old) l.writes
+    → map place_row_of l.rows.items ≡ moved_targets l.summary.tallies old l.trial.rows (take l.k l.writes)

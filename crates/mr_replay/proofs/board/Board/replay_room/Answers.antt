@@ -1,41 +1,39 @@
-use Rattle.std.proofs.Common.{◌≡◌, List, ◌++◌, Option, ap, refl, sym, ◌∙◌, subst}
-use Rattle.mr_model.specs.Writes.{Id}
-use Rattle.mr_replay.specs.declared.rows.Row.{Row}
-use Rattle.mr_replay.specs.Rows.{Rows, row_at, executed_all, undone_all}
+use Rattle.std.proofs.Common.{◌≡◌, ◌∙◌, ◌++◌, List, IfOk, ap, sym, subst}
+use Rattle.mr_replay.specs.Places.{UndoRow}
+use Rattle.mr_replay.specs.Rows.{Rows, row_at, undo_rows_of, executed_all, undone_all}
 use Rattle.mr_replay.specs.Holds.{HoldsEach, if_of, with_list}
-use Rattle.mr_replay.specs.Index.{IsIndexed}
-use Rattle.mr_replay.specs.Hidden.{LeadsFrom}
+use Rattle.mr_replay.specs.Trials.{Tried}
+use Rattle.mr_replay.proofs.Hiding.{on_ok, on_err}
 use Rattle.mr_replay.proofs.Holding.{HoldsEach-replayed, others-replayed}
-use Rattle.mr_replay.proofs.Indexed.{IsIndexed-grown}
 use Rattle.mr_replay.proofs.board.Board.replay_room.Goals as goal
 
--- the room's writes are undone and others executed
-done : (c : goal.After-finish) → c.finish.new.rows.entries ≡ executed_all (undone_all c.args.self.now c.args.undone.now) c.args.again.now
-done c =
-    c.finish.ensures.board ∙ c.in-Ok.ensures.board
-    ∙ ap (λ r. executed_all (undone_all r c.args.undone.now) c.args.again.now) (c.new-replay.ensures.shown c.self.inside.rows.entries ∙ c.self.view_is)
+-- the trial begins with the board
+start : (c : goal.After-drop-self-2) → c.new-trial.result.rows ≡ c.args.self.now
+start c = ap (λ (t : Tried). t.rows) c.new-trial.ensures ∙ c.taken.ensures
 
--- or all is as it was
-back : (c : goal.After-give_up) → (c.give_up.new.rows.entries ≡ c.self.inside.rows.entries) × IsIndexed c.self.inside.rows.entries c.give_up.new.index
-back c =
-    let rows = c.self.inside.rows.entries in
-    let start : LeadsFrom rows c.new-replay.result.journal.items rows = subst (λ (js : List (Id × Option Row)). LeadsFrom rows js rows) (sym c.new-replay.ensures.journal) (record { back = refl; places = tt }) in
-    c.give_up.ensures rows (c.replay.ensures.leads rows start) (IsIndexed-grown rows c.self.inside.index c.replay.new.index c.replay.ensures.grows c.self.invariant)
+begun : (c : goal.After-drop-self-2) → c.new-trial.result.before ≡ c.args.self.now
+begun c = ap (λ (t : Tried). t.before) c.new-trial.ensures ∙ c.taken.ensures
 
-pub invariant_of-self-in-Err : goal.invariant_of-self-in-Err
-invariant_of-self-in-Err c =
-    let undone = back c in
-    subst (λ (r : Rows). IsIndexed r c.give_up.new.index) (sym undone.0) undone.1
+-- once the replay succeeded, the room's writes are undone and others executed
+done : (c : goal.After-drop-self-2) → c.replay-rows.new.self.rows ≡ executed_all (undone_all c.new-trial.result.rows c.args.undone.now) c.args.again.now → c.keep.result ≡ executed_all (undone_all c.args.self.now c.args.undone.now) c.args.again.now
+done c h = c.keep.ensures ∙ h ∙ ap (λ r. executed_all (undone_all r c.args.undone.now) c.args.again.now) (start c)
 
-pub returns-in-Err-clause-err : goal.returns-in-Err-clause-err
-returns-in-Err-clause-err c = (back c).0 ∙ c.self.view_is
+pub returns-clause-rows : goal.returns-clause-rows
+returns-clause-rows c =
+    subst (λ (b : Rows). IfOk c.replay-rows.result (λ rows. rows.items ≡ undo_rows_of (undone_all b c.args.undone.now) c.args.again.now)) (start c) c.replay-rows.ensures.rows
 
-pub returns-in-Ok-clause-holds : goal.returns-in-Ok-clause-holds
-returns-in-Ok-clause-holds c = λ lists front tail can.
-    subst (λ (b : Rows). HoldsEach (with_list c.args.room.now (front ++ c.args.again.now) lists) b) (sym (done c))
-    (HoldsEach-replayed lists c.args.room.now front tail c.args.self.now c.args.undone.now c.args.again.now can)
+pub returns-clause-board : goal.returns-clause-board
+returns-clause-board c = on_ok c.replay-rows.result (done c) c.replay-rows.ensures.board
 
-pub returns-in-Ok-clause-others : goal.returns-in-Ok-clause-others
-returns-in-Ok-clause-others c = λ lists front tail can other apart id.
-    ap (λ (b : Rows). if_of other (row_at b id)) (done c)
-    ∙ others-replayed lists c.args.room.now front tail c.args.self.now c.args.undone.now c.args.again.now can other apart id
+pub returns-clause-holds : goal.returns-clause-holds
+returns-clause-holds c = on_ok c.replay-rows.result (λ h. λ lists front tail can.
+    subst (λ (b : Rows). HoldsEach (with_list c.args.room.now (front ++ c.args.again.now) lists) b) (sym (done c h))
+    (HoldsEach-replayed lists c.args.room.now front tail c.args.self.now c.args.undone.now c.args.again.now can)) c.replay-rows.ensures.board
+
+pub returns-clause-others : goal.returns-clause-others
+returns-clause-others c = on_ok c.replay-rows.result (λ h. λ lists front tail can other apart id.
+    ap (λ (b : Rows). if_of other (row_at b id)) (done c h)
+    ∙ others-replayed lists c.args.room.now front tail c.args.self.now c.args.undone.now c.args.again.now can other apart id) c.replay-rows.ensures.board
+
+pub returns-clause-err : goal.returns-clause-err
+returns-clause-err c = on_err c.replay-rows.result (λ (h : _). c.keep.ensures ∙ ap (λ (t : Tried). t.rows) h ∙ begun c) c.replay-rows.ensures.err

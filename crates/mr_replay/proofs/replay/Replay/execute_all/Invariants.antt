@@ -11,5 +11,5 @@ invariant-loop-write l = record {
   leads : (b : Rows) → LeadsFrom b l.initial.self.journal.items l.initial.rows.entries → LeadsFrom b l.self.journal.items l.rows.entries;
   grows : Grows l.initial.index l.index;
   indexed : IsIndexed l.rows.entries l.index;
-  replayed : IsReplayed (shown l.initial.self.hidden l.initial.rows.entries) l.writes (drop l.write-index l.writes) (shown l.self.hidden l.rows.entries) l.initial.self.done.items l.self.done.items;
+  replayed : IsReplayed (shown l.initial.self.hidden l.initial.rows.entries) l.writes (drop l.write-index l.writes) (shown l.self.hidden l.rows.entries) l.done.items;
 }

@@ -20,7 +20,6 @@ loop-left-preserved c =
           ∙ ap (λ u. undone_all (undone board u) (take (left - 1) rows)) c.index-undone-left.is
           ∙ undo_more board rows (left - 1) last (omega (arith, c.loop-left.invariant.within))
           ∙ ap (λ n. undone_all board (take n rows)) same ∙ c.loop-left.invariant.board;
-      done = c.undo.ensures.done ∙ c.loop-left.invariant.done;
     }
 
 pub returns-in_err-undo-clause-leads : goal.returns-in_err-undo-clause-leads

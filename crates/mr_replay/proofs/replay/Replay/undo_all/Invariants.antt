@@ -15,7 +15,6 @@ invariant-loop-left l = record {
   indexed : (index : BTreeSet IndexKey) → IsIndexed l.initial.rows.entries index → IsIndexed l.rows.entries index;
   ordered : IsInOrder l.rows.entries;
   board : undone_all (shown l.self.hidden l.rows.entries) (take l.left l.undone) ≡ undone_all (shown l.initial.self.hidden l.initial.rows.entries) l.undone;
-  done : l.self.done.items ≡ l.initial.self.done.items;
 }
 
 abbrev pub decreases-loop-left : goal.decreases-loop-left
