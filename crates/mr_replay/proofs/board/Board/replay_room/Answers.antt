@@ -1,5 +1,4 @@
-use Rattle.std.proofs.Common.{◌≡◌, ◌∙◌, ◌++◌, List, IfOk, ap, sym, subst}
-use Rattle.mr_replay.specs.Places.{UndoRow}
+use Rattle.std.proofs.Common.{◌≡◌, ◌∙◌, ◌++◌, IfOk, ap, sym, subst}
 use Rattle.mr_replay.specs.Rows.{Rows, row_at, undo_rows_of, executed_all, undone_all}
 use Rattle.mr_replay.specs.Holds.{HoldsEach, if_of, with_list}
 use Rattle.mr_replay.specs.Trials.{Tried}

@@ -1,10 +1,7 @@
-use Rattle.std.proofs.Common.{◌≡◌, ◌∙◌, [], List, Option, ap, refl, sym, subst}
-use Rattle.mr_model.specs.Writes.{Id}
-use Rattle.mr_replay.specs.declared.rows.Row.{Row}
-use Rattle.mr_replay.specs.Rows.{Rows}
+use Rattle.std.proofs.Common.{◌≡◌, ◌∙◌, ap}
 use Rattle.mr_replay.specs.Index.{IsIndexed}
-use Rattle.mr_replay.specs.Hidden.{shown, put_all_back}
-use Rattle.mr_replay.specs.Trials.{Tried, CanGiveUp, untried}
+use Rattle.mr_replay.specs.Hidden.{put_all_back}
+use Rattle.mr_replay.specs.Trials.{Tried}
 use Rattle.mr_replay.proofs.Trials.{CanGiveUp-start, CanGiveUp-more, same_before, given_up}
 use Rattle.mr_replay.proofs.trial.Trial.replay.Goals as goal
 
