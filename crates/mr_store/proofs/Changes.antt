@@ -25,7 +25,7 @@ rows_changed id taken gone left shown news mid old new made go same puts are ord
 
 -- ---- tables stay in the order of their keys
 
-changed_in_order : (change : ChangeView) (t : Tables) → AreInOrder t → AreInOrder (changed change t)
+pub changed_in_order : (change : ChangeView) (t : Tables) → AreInOrder t → AreInOrder (changed change t)
 changed_in_order change t s = record {
   room = put_all_in_order text_before (λ name. name) name_order change.room t.room s.room;
   vector = put_all_in_order nat_lt (λ row. row.server) number_order change.vector t.vector s.vector;

@@ -42,7 +42,7 @@ precede_ordered before key o x front behind y s b =
 
 -- ---- a row is put at the place
 
-put_past : {R K : Type 0} (before : K → K → Bool) (key : R → K) (o : IsOrder K before) (x : R) (front rows : List R) → Precede before key x front → put before key x (front ++ rows) ≡ front ++ put before key x rows
+pub put_past : {R K : Type 0} (before : K → K → Bool) (key : R → K) (o : IsOrder K before) (x : R) (front rows : List R) → Precede before key x front → put before key x (front ++ rows) ≡ front ++ put before key x rows
 put_past before key o x [] rows p = refl
 put_past {R} {K} before key o x (y ∷ ys) rows p = go (before (key x) (key y)) refl (before (key y) (key x)) (p y (inl refl)) (put_past before key o x ys rows (λ z h. p z (inr h)))
   where

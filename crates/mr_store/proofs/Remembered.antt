@@ -6,7 +6,6 @@ use Rattle.mr_store.specs.declared.keeper.Fault.{Fault}
 use Rattle.mr_store.specs.declared.keeper.Keeper.{Ghosts}
 use Rattle.mr_store.specs.Cached.{IsMemoryOf, NeverFails}
 use Rattle.mr_store.specs.Kept.{failures_after, IsAtomic, IsQuiet}
-use Rattle.mr_store.specs.Lists.{Lists}
 
 -- a call that leaves the tables, as it is said of the keeper below
 abbrev pub Quiet : {K X : Type 0} → Ghosts K → K → K → Result X Fault → Type 0
@@ -55,16 +54,16 @@ of_keeper k P old mid at new x r first is next told u o =
     subst P (first.same (clean.clean u) opened) (subst (λ m. k.is_clean new → k.is_open m → P (k.tables m)) is told u opened)
 
 -- what holds of the rows in memory holds of the tables
-pub of_memory : {K : Type 0} (k : Ghosts K) (P : Tables → Type 0) (old mid at : K) (memory : Option Lists) (lists : Lists) → QuietAbove k old mid (Ok memory) → at ≡ mid → IsMemoryOf k mid memory → memory ≡ Some lists → P lists.tables → k.is_clean at → k.is_open old → P (k.tables old)
-of_memory k P old mid at memory lists first is has some p u o =
+pub of_memory : {K : Type 0} (k : Ghosts K) (P : Tables → Type 0) (old mid at : K) (memory : Option Tables) (t : Tables) → QuietAbove k old mid (Ok memory) → at ≡ mid → IsMemoryOf k mid memory → memory ≡ Some t → P t → k.is_clean at → k.is_open old → P (k.tables old)
+of_memory k P old mid at memory t first is has some p u o =
     let clean = subst (λ m. k.is_clean m) is u in
     let opened = first.lasts clean o in
     subst P (subst (λ m. IsMemoryOf k mid m) some has clean opened ∙ first.same clean opened) p
 
 -- the rows in memory stay while the keeper's do
-pub remembered : {K X : Type 0} (k : Ghosts K) (old new : K) (r : Result X Fault) (memory : Option Lists) → Quiet k old new r → IsMemoryOf k old memory → IsMemoryOf k new memory
+pub remembered : {K X : Type 0} (k : Ghosts K) (old new : K) (r : Result X Fault) (memory : Option Tables) → Quiet k old new r → IsMemoryOf k old memory → IsMemoryOf k new memory
 remembered k old new r None q was = tt
-remembered k old new r (Some lists) q was = λ u o. was (q.clean u) (q.opens u o) ∙ sym (q.same u o)
+remembered k old new r (Some t) q was = λ u o. was (q.clean u) (q.opens u o) ∙ sym (q.same u o)
 
 -- as it is said of the keeper below, and of the one with its rows in memory
 abbrev pub Atomic : {K X : Type 0} → Ghosts K → ChangeView → K → K → Result X Fault → Type 0

@@ -2,7 +2,9 @@ ghost use Rattle.std.specs.Prelude.{◌≡◌, ℕ, false, IfOk};
 ghost use Rattle.mr_store.specs.Kept.{failures_after, IsQuiet};
 ghost use Rattle.mr_store.specs.Cached.{IsMemoryAfter, IsMemoryOf, NeverFails};
 
-use crate::{Fault, Keeper, ListKeeper};
+use crate::memory::Remembered;
+use crate::queries::same_day;
+use crate::{Fault, Keeper};
 use mr_base::{Day, RoomName, WriteId};
 use mr_part::{Part, Scope};
 use mr_replica::Desk;
@@ -15,13 +17,13 @@ use std::marker::Model;
 ///
 /// The rows are read at the first question. They are forgotten where a change fails or memory doesn't take it, and where they break
 /// their rules: then the keeper itself is asked, so that it counts the failure. Where memory doesn't take the rows, that call is
-/// refused, and from then on the keeper itself is asked, which wants less.
+/// refused, and from then on the keeper itself is asked, which wants less; so it is where they aren't in the order of their keys.
 #[derive(Drop)]
 pub struct Cached<K: Keeper> {
     alloc: Global,
     keeper: K,
-    memory: Option<ListKeeper>,
-    is_too_large: bool,
+    memory: Option<Remembered>,
+    is_passed_over: bool,
 }
 
 impl<K: Keeper> Model for Cached<K> {
@@ -45,7 +47,7 @@ impl<K: Keeper> Cached<K> {
             alloc,
             keeper,
             memory: None,
-            is_too_large: false,
+            is_passed_over: false,
         }
     }
 
@@ -57,20 +59,26 @@ impl<K: Keeper> Cached<K> {
     }
 
     /// Takes the rows out of memory, or reads them where they aren't there. It is None where the keeper itself is to be asked.
-    fn recall(&mut self) -> Result<Option<ListKeeper>, Fault>
+    fn recall(&mut self) -> Result<Option<Remembered>, Fault>
         ensures quiet { IsQuiet K.tables K.failures K.is_clean K.is_open K.may_leave (NeverFails K.Keeper) self.old self.new result }
         ensures rows { IfOk result (λ memory. IsMemoryOf K.Keeper self.new memory) }
     {
         if let Some(memory) = self.memory.take() {
             return Ok(Some(memory));
         }
-        if self.is_too_large {
+        if self.is_passed_over {
             return Ok(None);
         }
         match self.keeper.read() {
-            Ok(tables) => Ok(Some(ListKeeper::over(self.alloc, tables))),
+            Ok(tables) => match Remembered::over(self.alloc, tables) {
+                Some(memory) => Ok(Some(memory)),
+                None => {
+                    self.is_passed_over = true;
+                    Ok(None)
+                }
+            },
             Err(fault) => {
-                self.is_too_large = fault == Fault::OutOfMemory;
+                self.is_passed_over = fault == Fault::OutOfMemory;
                 Err(fault)
             }
         }
@@ -78,20 +86,10 @@ impl<K: Keeper> Cached<K> {
 }
 
 /// Makes the change in the rows in memory, if there are any. Where memory doesn't take it, they are forgotten.
-fn change_memory(memory: Option<ListKeeper>, change: &Change) -> Option<ListKeeper>
+fn change_memory(memory: Option<Remembered>, change: &Change) -> Option<Remembered>
     ensures { IsMemoryAfter change.now memory result }
 {
-    let mut lists = memory?;
-    match lists.apply(change) {
-        Ok(()) => Some(lists),
-        Err(_) => None,
-    }
-}
-
-fn same_day(day: &Option<Day>) -> Option<Day>
-    ensures { result ≡ day.now }
-{
-    *day
+    memory?.changed(change)
 }
 
 /// Whether the store failed.

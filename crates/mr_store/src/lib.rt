@@ -6,12 +6,17 @@
 #![tactic(auto)]
 
 mod cached;
+mod fresh;
 mod keeper;
 mod lists;
+mod marks;
+mod memory;
 mod order;
 mod puts;
 mod queries;
 mod rows;
+mod splice;
+mod spliced_queries;
 mod table_rows;
 mod tripped;
 

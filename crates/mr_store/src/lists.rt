@@ -60,7 +60,7 @@ impl ListKeeper {
 }
 
 /// Whether the rows of each table are in the order of their keys.
-fn are_in_order(tables: &Tables) -> bool
+pub(crate) fn are_in_order(tables: &Tables) -> bool
     ensures { result ≡ true → AreInOrder tables.now }
 {
     let room = is_in_order(&tables.room);
@@ -126,7 +126,7 @@ fn opening_tables(alloc: Global, server: ServerId, primary: ServerId) -> Tables
 }
 
 /// Equal tables.
-fn copied(alloc: Global, tables: &Tables) -> Result<Tables, AllocError>
+pub(crate) fn copied(alloc: Global, tables: &Tables) -> Result<Tables, AllocError>
     ensures { IfOk result (λ copy. copy ≡ tables.now) }
 {
     Ok(Tables {

@@ -1,4 +1,4 @@
-ghost use Rattle.std.specs.Prelude.{◌≡◌, ◌&&◌, bytes_eq, filter, find, IfOk};
+ghost use Rattle.std.specs.Prelude.{◌≡◌, ◌&&◌, ◌++◌, bytes_eq, filter, find, IfOk, OnOk};
 ghost use Rattle.mr_model.specs.Writes.{same_id};
 ghost use Rattle.mr_store.specs.Picked.{is_asked, picked_bookings, AreBookings, IsPlaceOf};
 
@@ -17,36 +17,45 @@ pub(crate) fn bookings_of(
 ) -> Result<Vec<BookingRow>, AllocError>
     ensures { IfOk result (λ rows. AreBookings room.now day tables.now rows.items) }
 {
-    let mut rows = pick_bookings(alloc, &tables.booking, room, day)?;
+    let mut rows = Vec::new(alloc);
+    pick_bookings(alloc, &mut rows, &tables.booking, room, day)?;
     sort_bookings(&mut rows)?;
     Ok(rows)
 }
 
-fn pick_bookings(
+/// Adds copies of the bookings of a room, of a day or of all days.
+pub(crate) fn pick_bookings(
     alloc: Global,
+    picked: &mut Vec<BookingRow>,
     rows: &[BookingRow],
     room: &RoomName,
     day: Option<Day>,
-) -> Result<Vec<BookingRow>, AllocError>
-    ensures { IfOk result (λ picked. picked.items ≡ filter (λ r. bytes_eq r.room room.now && is_asked day r.day) rows.now) }
+) -> Result<(), AllocError>
+    ensures { OnOk result (picked.new.items ≡ picked.old.items ++ filter (λ r. bytes_eq r.room room.now && is_asked day r.day) rows.now) }
 {
-    let mut picked = Vec::new(alloc);
     for row in rows {
         if is_on(row.day, day) && row.room == *room {
             picked.push(row.copied(alloc)?)?;
         }
     }
-    Ok(picked)
+    Ok(())
 }
 
 /// Whether this is the day that is asked for, where one is.
-fn is_on(day: Day, asked: Option<Day>) -> bool
+pub(crate) fn is_on(day: Day, asked: Option<Day>) -> bool
     ensures { result ≡ is_asked asked day }
 {
     match asked {
         Some(asked) => day == asked,
         None => true,
     }
+}
+
+/// The day once more.
+pub(crate) fn same_day(day: &Option<Day>) -> Option<Day>
+    ensures { result ≡ day.now }
+{
+    *day
 }
 
 /// Copies of the rows of a room.
@@ -58,12 +67,25 @@ pub(crate) fn rows_in<R: WriteRow>(
     ensures { IfOk result (λ picked. picked.items ≡ filter (λ r. bytes_eq (R.room r) room.now) rows.now) }
 {
     let mut picked = Vec::new(alloc);
+    pick_rows(alloc, &mut picked, rows, room)?;
+    Ok(picked)
+}
+
+/// Adds copies of the rows of a room.
+pub(crate) fn pick_rows<R: WriteRow>(
+    alloc: Global,
+    picked: &mut Vec<R>,
+    rows: &[R],
+    room: &RoomName,
+) -> Result<(), AllocError>
+    ensures { OnOk result (picked.new.items ≡ picked.old.items ++ filter (λ r. bytes_eq (R.room r) room.now) rows.now) }
+{
     for row in rows {
         if row.is_in(room) {
             picked.push(row.copied(alloc)?)?;
         }
     }
-    Ok(picked)
+    Ok(())
 }
 
 /// A copy of the row of the write with this id, where it is of that room.
@@ -90,7 +112,7 @@ pub(crate) fn place_of(
     }
 }
 
-fn row_of<R: WriteRow>(
+pub(crate) fn row_of<R: WriteRow>(
     alloc: Global,
     rows: &[R],
     room: &RoomName,

@@ -2,7 +2,7 @@ use Rattle.std.specs.Prelude.{IfOk}
 use Rattle.mr_model.specs.Replica.{Replica}
 use Rattle.mr_model.specs.Tables.{Stands}
 use Rattle.mr_replica.specs.Desk.{StandsFor}
-use Rattle.mr_store.proofs.Remembered.{followed, of_keeper, of_memory}
+use Rattle.mr_store.proofs.Remembered.{followed, of_keeper, of_memory, remembered}
 use Rattle.mr_store.proofs.cached.CachedKeeper.load.Goals as goal
 
 pub returns-in_default-clause-quiet : goal.returns-in_default-clause-quiet
@@ -23,4 +23,8 @@ returns-then-is_failure-clause-loaded g c =
 
 pub returns-clause-loaded : goal.returns-clause-loaded
 returns-clause-loaded g c =
-    of_memory g.K.Keeper (λ t. (a : Replica) → Stands t a → IfOk c.load-answer.result (λ desk. StandsFor desk a)) c.args.self.now c.recall.new.self c.self.inside.keeper c.in_ok-memory.field-0 c.in-Some.memory c.in_ok-memory.ensures.quiet c.self.view_is c.in_ok-memory.ensures.rows c.in-Some.is (c.load-answer.ensures.loaded tt tt)
+    of_memory g.K.Keeper (λ t. (a : Replica) → Stands t a → IfOk c.load-answer.result (λ desk. StandsFor desk a)) c.args.self.now c.recall.new.self c.self.inside.keeper c.in_ok-memory.field-0 c.in-Some.memory c.in_ok-memory.ensures.quiet c.self.view_is c.in_ok-memory.ensures.rows c.in-Some.is c.load-answer.ensures.loaded
+
+pub invariant_of-self-then-is_failure : goal.invariant_of-self-then-is_failure
+invariant_of-self-then-is_failure g c =
+    remembered g.K.Keeper c.self.inside.keeper c.load-then-is_failure.new.self c.load-then-is_failure.result c.self.inside.memory c.load-then-is_failure.ensures.quiet c.self.invariant

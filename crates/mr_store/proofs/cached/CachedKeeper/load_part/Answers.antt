@@ -3,7 +3,7 @@ use Rattle.mr_model.specs.Replica.{Replica}
 use Rattle.mr_model.specs.Tables.{Stands}
 use Rattle.mr_part.specs.Parts.{IsPartOf}
 use Rattle.mr_part.specs.ScopeOf.{scope_of}
-use Rattle.mr_store.proofs.Remembered.{followed, of_keeper, of_memory}
+use Rattle.mr_store.proofs.Remembered.{followed, of_keeper, of_memory, remembered}
 use Rattle.mr_store.proofs.cached.CachedKeeper.load_part.Goals as goal
 
 pub returns-in_default-clause-quiet : goal.returns-in_default-clause-quiet
@@ -24,4 +24,8 @@ returns-then-is_failure-clause-loaded g c =
 
 pub returns-clause-loaded : goal.returns-clause-loaded
 returns-clause-loaded g c =
-    of_memory g.K.Keeper (λ t. (a : Replica) → Stands t a → IfOk c.load_part-answer.result (λ part. IsPartOf part (scope_of c.args.scope.now) a)) c.args.self.now c.recall.new.self c.self.inside.keeper c.in_ok-memory.field-0 c.in-Some.memory c.in_ok-memory.ensures.quiet c.self.view_is c.in_ok-memory.ensures.rows c.in-Some.is (c.load_part-answer.ensures.loaded tt tt)
+    of_memory g.K.Keeper (λ t. (a : Replica) → Stands t a → IfOk c.load_part-answer.result (λ part. IsPartOf part (scope_of c.args.scope.now) a)) c.args.self.now c.recall.new.self c.self.inside.keeper c.in_ok-memory.field-0 c.in-Some.memory c.in_ok-memory.ensures.quiet c.self.view_is c.in_ok-memory.ensures.rows c.in-Some.is c.load_part-answer.ensures.loaded
+
+pub invariant_of-self-then-is_failure : goal.invariant_of-self-then-is_failure
+invariant_of-self-then-is_failure g c =
+    remembered g.K.Keeper c.self.inside.keeper c.load_part-then-is_failure.new.self c.load_part-then-is_failure.result c.self.inside.memory c.load_part-then-is_failure.ensures.quiet c.self.invariant
