@@ -1,21 +1,10 @@
 -- What the marks of bookings tell.
-use Rattle.std.proofs.Common.{◌≡◌, ◌≢◌, ℕ, ◌+◌, ◌<◌, Bool, true, false, ◌&&◌, List, [], ◌∷◌, ◌++◌, length, map, take, sym, ap, refl, ◌∙◌, append_assoc, slice_index_or}
+use Rattle.std.proofs.Common.{◌≡◌, ℕ, ◌+◌, ◌<◌, Bool, List, [], ◌∷◌, ◌++◌, length, map, take, sym, ap, ◌∙◌, append_assoc, slice_index_or}
 use Rattle.std.proofs.lemmas.List.{get_or-map, take_more}
 use Rattle.std.proofs.lemmas.List.Elements.{filter-append}
-use Rattle.std.proofs.lemmas.Slice.Eq.{bytes_eq-Decides}
 use Rattle.std.specs.List.{filter}
-use Rattle.std.specs.Str.{bytes_eq}
-use Rattle.mr_model.specs.Texts.{Text}
 use Rattle.mr_model.specs.Tables.{BookingRow}
-use Rattle.mr_store.specs.Marks.{Mark, mark_of, number_of}
-
--- a name with another number is another name
-pub unlike : (a b : Text) (asked : Bool) → number_of a ≢ number_of b → false ≡ (bytes_eq a b && asked)
-unlike a b asked other = go (bytes_eq a b) refl
-  where
-    go : (c : Bool) → bytes_eq a b ≡ c → false ≡ (c && asked)
-    go true e = absurd (other (ap number_of ((bytes_eq-Decides a b).0 e)))
-    go false e = refl
+use Rattle.mr_store.specs.Marks.{Mark, mark_of}
 
 pub mark_at : (rows : List BookingRow) (marks : List Mark) (k : ℕ) (row : BookingRow) (mark : Mark) → marks ≡ map mark_of rows → k < length rows → row ≡ slice_index_or rows k row → mark ≡ slice_index_or marks k mark → mark ≡ mark_of row
 mark_at rows marks k row mark are low at of =

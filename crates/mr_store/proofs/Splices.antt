@@ -1,7 +1,7 @@
 -- Rows at a place of a table's list: how they are put and asked for there, and how the list takes them.
 use Rattle.std.proofs.Common.{◌≡◌, ℕ, ◌+◌, ◌-◌, ◌<◌, ◌≤◌, Bool, true, false, cond, not, List, [], ◌∷◌, ◌++◌, length, map, take, drop, refl, sym, ap, ◌∙◌, subst, ◌⊎◌, inl, inr, arith, append_assoc, slice_index_or, Option, Some, None}
 use Rattle.std.proofs.lemmas.Bool.{true≢false}
-use Rattle.std.proofs.lemmas.List.{append-nil, take-append-drop, take-append-le, drop-append-le, take_at, drop_at, length-drop, nil_from_length, take_all, take_more}
+use Rattle.std.proofs.lemmas.List.{append-nil, take-append-drop, take_all, take_more}
 use Rattle.std.proofs.lemmas.List.Elements.{filter-append}
 use Rattle.std.proofs.lemmas.List.Folds.{find-append}
 use Rattle.std.specs.List.{AllByRecursion, filter, find}
@@ -13,27 +13,12 @@ use Rattle.mr_tables.specs.Change.{put, put_all, without}
 use Rattle.mr_tables.proofs.Putting.{IsOrder, InOrder}
 use Rattle.mr_store.specs.Rows.{Precede}
 use Rattle.mr_store.specs.Spliced.{spliced, Follow}
-use Rattle.mr_store.proofs.Gaps.{precede_none, precede_ordered, put_past}
+use Rattle.mr_store.proofs.Gaps.{precede_ordered, put_past}
 
 -- ---- the list takes the rows
 
 pub spliced_none : {R : Type 0} (rows fresh : List R) (at : ℕ) → fresh ≡ [] → spliced rows at fresh ≡ rows
 spliced_none rows fresh at none = ap (λ f. take at rows ++ (f ++ drop at rows)) none ∙ take-append-drop at rows
-
--- put at the end and turned to their place, they stand there
-pub turned : {R : Type 0} (rows fresh : List R) (at behind : ℕ) → at ≤ length rows → length rows ≡ behind + at → drop behind (drop at (rows ++ fresh)) ++ take behind (drop at (rows ++ fresh)) ≡ fresh ++ drop at rows
-turned rows fresh at behind within long =
-    ap (λ s. drop behind s ++ take behind s) (drop-append-le at rows fresh within)
-    ∙ ap (λ s. s ++ take behind (drop at rows ++ fresh)) (drop_at (drop at rows) fresh behind left)
-    ∙ ap (λ s. fresh ++ s) (take_at (drop at rows) fresh behind left)
-  where
-    left : length (drop at rows) ≡ behind
-    left = let l = length-drop at rows in omega (arith, l)
-
-pub settled_is : {R : Type 0} (rows fresh : List R) (at behind : ℕ) → at ≤ length rows → length rows ≡ behind + at → take at (rows ++ fresh) ++ (drop behind (drop at (rows ++ fresh)) ++ take behind (drop at (rows ++ fresh))) ≡ spliced rows at fresh
-settled_is rows fresh at behind within long =
-    ap (λ s. s ++ (drop behind (drop at (rows ++ fresh)) ++ take behind (drop at (rows ++ fresh)))) (take-append-le at rows fresh within)
-    ∙ ap (λ s. take at rows ++ s) (turned rows fresh at behind within long)
 
 -- ---- parts of rows in order
 
@@ -58,17 +43,10 @@ back_in_order before key rows fresh at s =
 
 -- ---- where a row belongs
 
-pub precede_empty : {R K : Type 0} (before : K → K → Bool) (key : R → K) (x : R) (rows : List R) → length rows ≡ 0 → Precede before key x rows
-precede_empty before key x rows none = subst (Precede before key x) (sym (nil_from_length rows none)) (precede_none before key x)
-
 pub precede_last : {R K : Type 0} (before : K → K → Bool) (key : R → K) (o : IsOrder K before) (x : R) (rows rest : List R) (y : R) → rows ≡ rest ++ y ∷ [] → InOrder before key rows → before (key y) (key x) ≡ true → Precede before key x rows
 precede_last before key o x rows rest y is s b =
     subst (Precede before key x) (sym is)
     (precede_ordered before key o x rest [] y (subst (InOrder before key) (is ∙ sym (append-nil (rest ++ y ∷ []))) s) b)
-
-pub follow_empty : {R K : Type 0} (before : K → K → Bool) (key : R → K) (x : R) (rows : List R) → length rows ≡ 0 → Follow before key x rows
-follow_empty before key x [] none y h = absurd h
-follow_empty before key x (z ∷ zs) none y h = absurd (omega (arith, none))
 
 pub follow_first : {R K : Type 0} (before : K → K → Bool) (key : R → K) (o : IsOrder K before) (x : R) (rows rest : List R) (y : R) → rows ≡ y ∷ rest → InOrder before key rows → before (key x) (key y) ≡ true → Follow before key x rows
 follow_first {R} before key o x rows rest y is s b = subst (Follow before key x) (sym is) each
@@ -156,19 +134,6 @@ filter_again {R} p q same (x ∷ xs) = go (p x) (q x) refl (same x) (filter_agai
     go true false e f ih = absurd (true≢false f)
     go false true e f ih = absurd (true≢false (sym f))
     go false false e f ih = ih
-
--- ---- rows without fresh ones
-
-pub take_in_order : {R K : Type 0} (before : K → K → Bool) (key : R → K) (rows : List R) (at : ℕ) → InOrder before key rows → InOrder before key (take at rows)
-take_in_order before key rows at s =
-    sorted_left (λ x y. before (key x) (key y) ≡ true) (take at rows) (drop at rows) (subst (InOrder before key) (sym (take-append-drop at rows)) s)
-
-pub drop_in_order : {R K : Type 0} (before : K → K → Bool) (key : R → K) (rows : List R) (at : ℕ) → InOrder before key rows → InOrder before key (drop at rows)
-drop_in_order before key rows at s =
-    sorted_right (λ x y. before (key x) (key y) ≡ true) (take at rows) (drop at rows) (subst (InOrder before key) (sym (take-append-drop at rows)) s)
-
-pub none_in_order : {R K : Type 0} (before : K → K → Bool) (key : R → K) (rows : List R) → rows ≡ [] → InOrder before key rows
-none_in_order before key rows none = subst (InOrder before key) (sym none) tt
 
 -- ---- each of some rows
 
