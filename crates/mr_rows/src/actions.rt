@@ -1,7 +1,9 @@
-ghost use Rattle.std.specs.Prelude.{◌≡◌, [], ◌∷◌, pos, IfOk};
+ghost use Rattle.std.specs.Prelude.{◌≡◌, ◌≢◌, ◌⊎◌, [], ◌∷◌, pos, IfOk};
 ghost use Rattle.sqlite_value.specs.declared.value.Value.TheVariants.{Int, Text};
 ghost use Rattle.sqlite_value.specs.Order.{column, bytes};
-ghost use Rattle.mr_model.specs.Tables.{OfMeeting, OfCancel};
+ghost use Rattle.mr_model.specs.Writes.{Id};
+ghost use Rattle.mr_model.specs.Replay.{Done, Void};
+ghost use Rattle.mr_model.specs.Tables.{MeetingCells as CellsOfMeeting, OfMeeting, OfCancel};
 ghost use Rattle.mr_replay.specs.Places.{place_of};
 ghost use Rattle.mr_tables.specs.Cells.{action_cells};
 ghost use Rattle.mr_rows.specs.Cells.{nat_of, whole_of, action_row, action_in, place_in, place_number};
@@ -84,6 +86,8 @@ pub(crate) fn read_action(alloc: Global, row: &Row) -> Result<ActionCells, Error
 pub(crate) fn read_place_of(row: &Row, action: &ActionCells) -> Result<Place, Error>
     ensures place { IfOk result (λ place. place_of place ≡ place_in (whole_of (column row.now 10))) }
     ensures cell { IfOk result (λ place. column row.now 10 ≡ Int (place_number (place_of place))) }
+    ensures booking { IfOk result (λ place. (m : CellsOfMeeting) → action_cells action.now ≡ OfMeeting m → (place_of place ≢ Done) × (place_of place ≢ Void)) }
+    ensures cancel { IfOk result (λ place. (target : Id) → action_cells action.now ≡ OfCancel target → (place_of place ≡ Done) ⊎ (place_of place ≡ Void)) }
 {
     let place = read_place(row, 10)?;
     let fits = match action {

@@ -1,7 +1,8 @@
-ghost use Rattle.std.specs.Prelude.{◌≡◌, ◌≢◌, ℕ, ◌+◌, ◌<◌, ◌≤◌, ◌^◌, ◌==◌, pos, length, IfOk, IfErr, string_bytes};
+ghost use Rattle.std.specs.Prelude.{◌≡◌, ◌≢◌, ℕ, ◌+◌, ◌<◌, ◌≤◌, ◌^◌, ◌==◌, pos, negsuc, length, IfOk, IfErr, string_bytes};
 ghost use Rattle.sqlite_value.specs.declared.value.Value.TheVariants.{Int, Text};
 ghost use Rattle.sqlite_value.specs.Order.{column, bytes};
 ghost use Rattle.mr_model.specs.Calendar.{date_in, date_text};
+ghost use Rattle.mr_model.specs.Writes.{greatest_alternatives};
 ghost use Rattle.mr_replay.specs.Places.{place_of};
 ghost use Rattle.mr_rows.specs.Cells.{mark, nat_of, whole_of, place_in, place_number};
 
@@ -133,6 +134,8 @@ pub fn read_u64(row: &Row, at: usize) -> Result<u64, Error>
 pub fn read_place(row: &Row, at: usize) -> Result<Place, Error>
     ensures place { IfOk result (λ place. place_of place ≡ place_in (whole_of (column row.now at))) }
     ensures cell { IfOk result (λ place. column row.now at ≡ Int (place_number (place_of place))) }
+    ensures refused { IfErr result (λ e. e ≢ Error.SqliteFailure ErrorCode.OutOfMemory → at < length row.now → (n : ℕ) → n ≤ greatest_alternatives → column row.now at ≢ Int (pos n)) }
+    ensures others { IfErr result (λ e. e ≢ Error.SqliteFailure ErrorCode.OutOfMemory → at < length row.now → (n : ℕ) → n ≤ 2 → column row.now at ≢ Int (negsuc n)) }
 {
     let number: i64 = row.get(at)?;
     match number {
