@@ -1,4 +1,4 @@
-ghost use Rattle.std.specs.Prelude.{◌≡◌, ◌⊎◌, nat_lt, IfOk, IfErr, map};
+ghost use Rattle.std.specs.Prelude.{◌≡◌, ◌≢◌, ◌⊎◌, nat_lt, IfOk, IfErr, map};
 ghost use Rattle.mr_model.specs.Replica.{Replica, IsReplica};
 ghost use Rattle.mr_model.specs.Tables.{tables_of};
 ghost use Rattle.mr_replica.specs.Desk.{desk_of, StandsFor, IsWithinLimits};
@@ -53,6 +53,7 @@ impl Desk {
 /// What a refusal of a row's part is told as: the store's, but for want of memory.
 pub fn of_store(refusal: Refusal) -> Refusal
     ensures memory { refusal ≡ Refusal.OutOfMemory → result ≡ Refusal.OutOfMemory }
+    ensures store { refusal ≢ Refusal.OutOfMemory → result ≡ Refusal.Store }
     ensures cause { (result ≡ Refusal.OutOfMemory) ⊎ (result ≡ Refusal.Store) }
 {
     match refusal {
