@@ -1,6 +1,7 @@
-ghost use Rattle.std.specs.Prelude.{◌≡◌, IfOk};
+ghost use Rattle.std.specs.Prelude.{◌≡◌, ◌≢◌, ℕ, ◌≤◌, IfOk};
 ghost use Rattle.sqlite_value.specs.declared.value.Value.TheVariants.{Int};
 ghost use Rattle.sqlite_value.specs.Order.{column};
+ghost use Rattle.mr_model.specs.Replay.{Taken, Done, Void};
 ghost use Rattle.mr_replay.specs.Places.{place_of};
 ghost use Rattle.mr_rows.specs.Cells.{whole_of, place_in, place_number};
 
@@ -12,6 +13,8 @@ use sqlite::{Error, Row};
 pub(crate) fn read_first_place(row: &Row, at: usize) -> Result<Place, Error>
     ensures place { IfOk result (λ place. place_of place ≡ place_in (whole_of (column row.now at))) }
     ensures cell { IfOk result (λ place. column row.now at ≡ Int (place_number (place_of place))) }
+    ensures choices { IfOk result (λ place. (k : ℕ) → place_of place ≡ Taken k → k ≤ 8) }
+    ensures booking { IfOk result (λ place. (place_of place ≢ Done) × (place_of place ≢ Void)) }
 {
     let place = read_place(row, at)?;
     match place {
