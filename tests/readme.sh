@@ -42,7 +42,7 @@ run_readme() {
             command=${BASH_REMATCH[1]} wanted=${BASH_REMATCH[2]}
         fi
     done < <(sed -n '/^## Two offices/,/^## What is proved/ s/^    //p' README.md; echo true)
-    if [ "$count" -lt 20 ]; then
+    if [ "$count" -lt 15 ]; then
         echo "FAILED: README.md has $count commands"
         failed=$((failed + 1))
     fi
