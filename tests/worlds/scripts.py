@@ -14,7 +14,7 @@ class Scripts(World):
     """Each step is a line and its reply, or None where it is passed over."""
 
     WANTED = World.WANTED + ['there', 'no replica', 'no batch']
-    HAVE_MANY = 0.4
+    HAVE_MANY = 0.5
 
     def say(self, line, reply, kind):
         self.steps.append((line, reply))
