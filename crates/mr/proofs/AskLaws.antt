@@ -7,8 +7,8 @@ use Rattle.mr_model.specs.View.{Question, view_of, answer}
 use Rattle.mr_model.specs.Step.{Ask, step, IsOfMachine}
 use Rattle.mr_model.specs.Tables.{Tables}
 use Rattle.mr_service.specs.Replied.{RepliesTo}
-use Rattle.mr_say.specs.Told.{Tells}
-use Rattle.mr.specs.Told.{TellsAnswer}
+use Rattle.mr_say.specs.CommandOutput.{PrintsReply}
+use Rattle.mr.specs.CommandEffects.{TellsAnswer}
 
 reply_of_question : (a : Replica) (room : Text) (question : Question) (reply : Reply) → IsOfMachine reply ⊎ (reply ≡ (step a (Ask room question)).reply)
     → (reply ≡ answer room (view_of a room) question) ⊎ IsOfMachine reply
@@ -17,6 +17,6 @@ reply_of_question a room question reply (inr said) = inl said
 
 -- the reply to a question is the answer of the room's view
 pub question_is_told : (before : Tables) (room : Text) (question : Question) (reply : Reply) (held holds : Option Text) (status : ℕ)
-    → RepliesTo before (Ask room question) reply → Tells reply held holds status → TellsAnswer before room question held holds status
+    → RepliesTo before (Ask room question) reply → PrintsReply reply held holds status → TellsAnswer before room question held holds status
 question_is_told before room question reply held holds status replied told = λ a stands.
     (reply, reply_of_question a room question reply (replied a stands), told)

@@ -5,7 +5,7 @@ use Rattle.mr_model.specs.Texts.{Text}
 use Rattle.mr_model.specs.Replica.{opening}
 use Rattle.mr_model.specs.Step.{Command}
 use Rattle.mr_model.specs.Tables.{Stands}
-use Rattle.mr_rows.specs.Kept.{tables_in}
+use Rattle.mr_rows.specs.Database.{tables_in}
 use Rattle.mr_sql.specs.Found.{IsAdopted}
 use Rattle.mr.specs.declared.orders.Task.{Task}
 use Rattle.mr.specs.declared.orders.Order.{Order}

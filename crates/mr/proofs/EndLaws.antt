@@ -10,15 +10,15 @@ use Rattle.mr_base.specs.Refusals.{refusal_of}
 use Rattle.mr_base.specs.declared.refusals.Refusal.{Refusal}
 use Rattle.mr_base.specs.declared.refusals.Refusal.TheVariants as refusal
 use Rattle.mr_store.specs.declared.keeper.Keeper.{Ghosts}
-use Rattle.mr_say.specs.Told.{no_memory_line, status_of, Tells}
-use Rattle.mr_words.specs.Rows.{Asked, Init, Ask, Export, Import, Rehearse, Serve, Exchange, Bridge}
+use Rattle.mr_say.specs.CommandOutput.{no_memory_line, status_of, PrintsReply}
+use Rattle.mr_words.specs.CommandTable.{Invoked, Init, Ask, Export, Import, Rehearse, Serve, Exchange, Bridge}
 use Rattle.mr_words.specs.declared.invocations.WordFault.{WordFault}
 use Rattle.mr_words.specs.declared.invocations.WordFault.TheVariants as faults
 use Rattle.mr.specs.Rehearsed.{bad_words_line}
-use Rattle.mr.specs.Told.{TellsFault, TellsLength, TellsWritten}
-use Rattle.mr.specs.Tasks.{IsReceive, IsBatchFor, IsOfDatabase, TellsUnopened, EndsAsking, EndsAs, EndsExchangeAt, EndsRehearsal}
+use Rattle.mr.specs.CommandEffects.{TellsFault, TellsLength, TellsWritten}
+use Rattle.mr.specs.Tasks.{IsReceive, IsBatchFor, IsOfDatabase, TellsUnopened, EndsAsking, EndsAskingEither, EndsAs, EndsExchangeAt, EndsRehearsal, IsAnswered, IsOpened, OnlyReads}
 use Rattle.mr_net.specs.Hosts.{IsPeer}
-use Rattle.mr_net.specs.Printed.{Stops, IsStopText, EndsExchange, EndsServing, TellsBadAddress}
+use Rattle.mr_net.specs.Printed.{StopsWithText, IsStopText, EndsExchange, EndsServing, TellsBadAddress}
 
 -- why a keeper could not be opened, as a refusal of the definitions
 of_database : (e : Refusal) → (e ≡ refusal.OutOfMemory) ⊎ ((e ≡ refusal.Store) ⊎ (e ≡ refusal.NotAReplica)) → IsOfDatabase (refusal_of e)
@@ -38,12 +38,19 @@ pub refusal_ends : (e : Refusal) (held holds : Option Text) (status : ℕ)
 refusal_ends e held holds status cause (inl one) told = refused e held holds status (of_database e cause) one (told one)
 refusal_ends e held holds status cause (inr three) told = inr (inr three)
 
+-- a question is answered from a copy
+pub copy_ends : {C : Type 0} (copy : Ghosts C) (IsCommand : Command → Type 0) (TellsReply : Reply → Option Text → Option Text → ℕ → Type 0) (old new : C) (held holds : Option Text) (status : ℕ)
+    → ((c : Command) → IsCommand c → OnlyReads c) → IsOpened copy old → IsAnswered copy IsCommand TellsReply old new held holds status
+    → EndsAsking copy (λ c. IsCommand c × OnlyReads c) TellsReply held holds status
+copy_ends copy IsCommand TellsReply old new held holds status reads opened answered =
+    inl (old, new, opened, (answered.0, answered.1, (answered.2, reads answered.0 answered.2), answered.3, answered.4))
+
 -- memory is wanting before a script is read, or there is a fault
 stops_at_once : (held holds : Option Text) (status : ℕ) → TellsFault held holds status → EndsRehearsal held holds status
 stops_at_once held holds status (inl memory) = inr (inl (memory.0, [], inr (inl memory.1)))
 stops_at_once held holds status (inr three) = inr (inr three)
 
-stops_for_memory : (IsText : Text → Type 0) (held holds : Option Text) (status : ℕ) → IsText no_memory_line → TellsFault held holds status → Stops IsText held holds status
+stops_for_memory : (IsText : Text → Type 0) (held holds : Option Text) (status : ℕ) → IsText no_memory_line → TellsFault held holds status → StopsWithText IsText held holds status
 stops_for_memory IsText held holds status is (inl memory) = inl (memory.0, no_memory_line, is, memory.1)
 stops_for_memory IsText held holds status is (inr three) = inr three
 
@@ -58,26 +65,31 @@ exchange_at : (address : Text) (held holds : Option Text) (status : ℕ) → ((h
     → (((host : Text) (port : ℕ) → ¬ IsPeer address host port) → TellsBadAddress held holds status) → EndsExchangeAt address held holds status
 exchange_at address held holds status named none = record { asked = named; bad = none }
 
+-- a command line that asks this of a replica ends as the asking does
+pub ask_ends : {K C : Type 0} (keeper : Ghosts K) (copy : Ghosts C) (asked : Invoked) (database : Text) (command : Command) (held holds : Option Text) (status : ℕ)
+    → asked ≡ Ask database command → EndsAskingEither keeper copy (λ c. c ≡ command) PrintsReply held holds status → EndsAs keeper copy asked held holds status
+ask_ends keeper copy asked database command held holds status is ends = subst (λ a. EndsAs keeper copy a held holds status) (sym is) ends
+
 -- an exchange that ends as such an address says is the end of the command line that asks for it
-pub exchange_ends : {K : Type 0} (keeper : Ghosts K) (asked : Asked) (database address : Text) (held holds : Option Text) (status : ℕ)
+pub exchange_ends : {K C : Type 0} (keeper : Ghosts K) (copy : Ghosts C) (asked : Invoked) (database address : Text) (held holds : Option Text) (status : ℕ)
     → asked ≡ Exchange database address → ((host : Text) (port : ℕ) → IsPeer address host port → EndsExchange held holds status)
-    → (((host : Text) (port : ℕ) → ¬ IsPeer address host port) → TellsBadAddress held holds status) → EndsAs keeper asked held holds status
-exchange_ends keeper asked database address held holds status is named none =
-    subst (λ a. EndsAs keeper a held holds status) (sym is) (exchange_at address held holds status named none)
+    → (((host : Text) (port : ℕ) → ¬ IsPeer address host port) → TellsBadAddress held holds status) → EndsAs keeper copy asked held holds status
+exchange_ends keeper copy asked database address held holds status is named none =
+    subst (λ a. EndsAs keeper copy a held holds status) (sym is) (exchange_at address held holds status named none)
 
 -- where memory is wanting before anything is done, each command line ends so
-pub fault_ends : {K : Type 0} (keeper : Ghosts K) (asked : Asked) (held holds : Option Text) (status : ℕ) → TellsFault held holds status → EndsAs keeper asked held holds status
-fault_ends keeper (Init database server primary) held holds status fault = inr (inr fault)
-fault_ends keeper (Ask database command) held holds status fault = inr (inr fault)
-fault_ends keeper (Export database position batch max_lines) held holds status fault = inr (inr fault)
-fault_ends keeper (Import database batch) held holds status fault = inr (inr fault)
-fault_ends keeper (Rehearse script) held holds status fault = stops_at_once held holds status fault
-fault_ends keeper (Serve database port connections) held holds status fault = serves_nothing port connections held holds status fault
-fault_ends keeper (Exchange database address) held holds status fault = record {
+pub fault_ends : {K C : Type 0} (keeper : Ghosts K) (copy : Ghosts C) (asked : Invoked) (held holds : Option Text) (status : ℕ) → TellsFault held holds status → EndsAs keeper copy asked held holds status
+fault_ends keeper copy (Init database server primary) held holds status fault = inr (inr fault)
+fault_ends keeper copy (Ask database command) held holds status fault = inl (inr (inr fault))
+fault_ends keeper copy (Export database position batch max_lines) held holds status fault = inl (inr (inr fault))
+fault_ends keeper copy (Import database batch) held holds status fault = inl (inr (inr fault))
+fault_ends keeper copy (Rehearse script) held holds status fault = stops_at_once held holds status fault
+fault_ends keeper copy (Serve database port connections) held holds status fault = serves_nothing port connections held holds status fault
+fault_ends keeper copy (Exchange database address) held holds status fault = record {
   asked = λ host port is. exchanges_nothing held holds status fault;
   bad = λ none. inr (stops_for_memory (λ text. text ≡ no_memory_line) held holds status refl fault);
 }
-fault_ends keeper (Bridge database other) held holds status fault = exchanges_nothing held holds status fault
+fault_ends keeper copy (Bridge database other) held holds status fault = exchanges_nothing held holds status fault
 
 -- where a fault is of status 1, want of memory is printed
 pub fault_printed : (held holds : Option Text) (status : ℕ) → TellsFault held holds status → status ≡ 1 → Appends held holds no_memory_line
@@ -103,7 +115,7 @@ fault_within : (held holds : Option Text) (status : ℕ) → TellsFault held hol
 fault_within held holds status (inl memory) = let one = memory.0 in omega (arith, one)
 fault_within held holds status (inr three) = omega (arith, three)
 
-tells_within : (reply : Reply) (held holds : Option Text) (status : ℕ) → Tells reply held holds status → status ≤ 3
+tells_within : (reply : Reply) (held holds : Option Text) (status : ℕ) → PrintsReply reply held holds status → status ≤ 3
 tells_within reply held holds status (inl told) = let low = status_low reply in let same = told.0 in omega (arith, low, same)
 tells_within reply held holds status (inr fault) = fault_within held holds status fault
 
@@ -125,12 +137,17 @@ asking_within : {K : Type 0} (keeper : Ghosts K) (IsCommand : Command → Type 0
 asking_within keeper IsCommand TellsReply held holds status low (inl ends) = low ends.3.1 ends.3.4
 asking_within keeper IsCommand TellsReply held holds status low (inr unopened) = unopened_within held holds status unopened
 
+either_within : {K C : Type 0} (keeper : Ghosts K) (copy : Ghosts C) (IsCommand : Command → Type 0) (TellsReply : Reply → Option Text → Option Text → ℕ → Type 0) (held holds : Option Text) (status : ℕ)
+    → ((reply : Reply) → TellsReply reply held holds status → status ≤ 3) → EndsAskingEither keeper copy IsCommand TellsReply held holds status → status ≤ 3
+either_within keeper copy IsCommand TellsReply held holds status low (inl ends) = asking_within keeper IsCommand TellsReply held holds status low ends
+either_within keeper copy IsCommand TellsReply held holds status low (inr ends) = asking_within copy (λ c. IsCommand c × OnlyReads c) TellsReply held holds status low ends
+
 rehearsal_within : (held holds : Option Text) (status : ℕ) → EndsRehearsal held holds status → status ≤ 3
 rehearsal_within held holds status (inl done) = let zero = done.0 in omega (arith, zero)
 rehearsal_within held holds status (inr (inl stopped)) = let one = stopped.0 in omega (arith, one)
 rehearsal_within held holds status (inr (inr three)) = omega (arith, three)
 
-stop_within : (IsText : Text → Type 0) (held holds : Option Text) (status : ℕ) → Stops IsText held holds status → status ≤ 3
+stop_within : (IsText : Text → Type 0) (held holds : Option Text) (status : ℕ) → StopsWithText IsText held holds status → status ≤ 3
 stop_within IsText held holds status (inl told) = let one = told.0 in omega (arith, one)
 stop_within IsText held holds status (inr three) = omega (arith, three)
 
@@ -156,25 +173,25 @@ exchange_at_within address held holds status ends =
       | inr low ↦ low
     ]
 
-pub ends_within : {K : Type 0} (keeper : Ghosts K) (asked : Asked) (held holds : Option Text) (status : ℕ) → EndsAs keeper asked held holds status → status ≤ 3
-ends_within keeper (Init database server primary) held holds status (inl done) = let zero = done.0 in omega (arith, zero)
-ends_within keeper (Init database server primary) held holds status (inr unopened) = unopened_within held holds status unopened
-ends_within keeper (Ask database command) held holds status ends = asking_within keeper (λ c. c ≡ command) Tells held holds status (λ reply told. tells_within reply held holds status told) ends
-ends_within keeper (Export database position batch max_lines) held holds status ends =
-    asking_within keeper (IsBatchFor max_lines) TellsWritten held holds status (λ reply told. written_within reply held holds status told) ends
-ends_within keeper (Import database batch) held holds status ends = asking_within keeper IsReceive Tells held holds status (λ reply told. tells_within reply held holds status told) ends
-ends_within keeper (Rehearse script) held holds status ends = rehearsal_within held holds status ends
-ends_within keeper (Serve database port connections) held holds status ends = serving_within port connections held holds status ends
-ends_within keeper (Exchange database address) held holds status ends = exchange_at_within address held holds status ends
-ends_within keeper (Bridge database other) held holds status ends = exchange_within held holds status ends
+pub ends_within : {K C : Type 0} (keeper : Ghosts K) (copy : Ghosts C) (asked : Invoked) (held holds : Option Text) (status : ℕ) → EndsAs keeper copy asked held holds status → status ≤ 3
+ends_within keeper copy (Init database server primary) held holds status (inl done) = let zero = done.0 in omega (arith, zero)
+ends_within keeper copy (Init database server primary) held holds status (inr unopened) = unopened_within held holds status unopened
+ends_within keeper copy (Ask database command) held holds status ends = either_within keeper copy (λ c. c ≡ command) PrintsReply held holds status (λ reply told. tells_within reply held holds status told) ends
+ends_within keeper copy (Export database position batch max_lines) held holds status ends =
+    either_within keeper copy (IsBatchFor max_lines) TellsWritten held holds status (λ reply told. written_within reply held holds status told) ends
+ends_within keeper copy (Import database batch) held holds status ends = either_within keeper copy IsReceive PrintsReply held holds status (λ reply told. tells_within reply held holds status told) ends
+ends_within keeper copy (Rehearse script) held holds status ends = rehearsal_within held holds status ends
+ends_within keeper copy (Serve database port connections) held holds status ends = serving_within port connections held holds status ends
+ends_within keeper copy (Exchange database address) held holds status ends = exchange_at_within address held holds status ends
+ends_within keeper copy (Bridge database other) held holds status ends = exchange_within held holds status ends
 
 -- ---- words that are no command line
 
 -- words that could be read weren't had for lack of memory
-pub words_end : {K : Type 0} (keeper : Ghosts K) (asked : Asked) (fault : WordFault) (held holds : Option Text) (status : ℕ)
-    → ¬ (fault ≡ faults.Bad) → (fault ≡ faults.Memory → TellsFault held holds status) → EndsAs keeper asked held holds status
-words_end keeper asked faults.Bad held holds status not_bad memory = absurd (not_bad refl)
-words_end keeper asked faults.Memory held holds status not_bad memory = fault_ends keeper asked held holds status (memory refl)
+pub words_end : {K C : Type 0} (keeper : Ghosts K) (copy : Ghosts C) (asked : Invoked) (fault : WordFault) (held holds : Option Text) (status : ℕ)
+    → ¬ (fault ≡ faults.Bad) → (fault ≡ faults.Memory → TellsFault held holds status) → EndsAs keeper copy asked held holds status
+words_end keeper copy asked faults.Bad held holds status not_bad memory = absurd (not_bad refl)
+words_end keeper copy asked faults.Memory held holds status not_bad memory = fault_ends keeper copy asked held holds status (memory refl)
 
 -- the line of bad words, or want of memory in its place
 pub bad_words_end : (fault : WordFault) (held holds : Option Text) (status : ℕ)

@@ -7,7 +7,7 @@ use Rattle.std.specs.Iterator.{Yields}
 use Rattle.std.specs.List.{enumerate_from}
 use Rattle.mr_model.specs.Texts.{Text}
 use Rattle.mr_model.specs.World.{Step}
-use Rattle.mr.specs.Script.{is_passed_over, IsLineOf, IsBad, IsRead, taken, IsBadLine}
+use Rattle.mr.specs.Script.{is_passed_over, IsScriptLine, IsBad, AreStepsOf, taken, IsBadLine}
 
 -- the lines so far, as an iterator gave them
 abbrev pub numbered : List (ℕ × Bor Text) → List (ℕ × Text)
@@ -54,13 +54,13 @@ turn ls done x so_far t =
 
 -- ---- how far a script was read
 
-pub passes_over : (lines : List Text) (steps : List Step) (line : Text) → IsRead lines steps → is_passed_over line ≡ true → IsRead (lines ++ line ∷ []) steps
+pub passes_over : (lines : List Text) (steps : List Step) (line : Text) → AreStepsOf lines steps → is_passed_over line ≡ true → AreStepsOf (lines ++ line ∷ []) steps
 passes_over lines steps line way passed = taken way (inl (passed, refl))
 
-pub takes_step : (lines : List Text) (steps : List Step) (line : Text) (step : Step) → IsRead lines steps → IsLineOf line step → IsRead (lines ++ line ∷ []) (steps ++ step ∷ [])
+pub takes_step : (lines : List Text) (steps : List Step) (line : Text) (step : Step) → AreStepsOf lines steps → IsScriptLine line step → AreStepsOf (lines ++ line ∷ []) (steps ++ step ∷ [])
 takes_step lines steps line step way stands = taken way (inr (step, stands, refl))
 
-pub ends_at_bad : (lines before : List Text) (steps : List Step) (line : Text) (index number : ℕ) → IsRead before steps
+pub ends_at_bad : (lines before : List Text) (steps : List Step) (line : Text) (index number : ℕ) → AreStepsOf before steps
     → IsBad line → StandsAt lines before line index → index + 1 ≡ number → IsBadLine lines number
 ends_at_bad lines before steps line index number way bad at e =
     record {

@@ -6,7 +6,7 @@ use Rattle.mr_model.specs.Texts.{Text}
 use Rattle.mr_model.specs.View.{AskSheet, AskCalendar, AskOutcome, AskErrors}
 use Rattle.mr_model.specs.Step.{AddRoom, Submit, Cancel, Commit, Truncate, AskPosition, Ask}
 use Rattle.mr_model.specs.World.{Step, Add, Make, Deliver}
-use Rattle.mr.specs.Script.{is_passed_over, has_line, step_line, script_lines, IsLineOf, IsBad, TakesLine, IsRead, begun, taken, IsBadLine, ReadsOneWay}
+use Rattle.mr.specs.Script.{is_passed_over, has_line, step_line, script_lines, IsScriptLine, IsBad, TakesLine, AreStepsOf, begun, taken, IsBadLine, ReadsOneWay}
 use Rattle.mr.proofs.LineLaws.{one_step}
 
 -- ---- the last line
@@ -40,15 +40,15 @@ not_empty (y ∷ ys) x e = suc-ne-zero (length (ys ++ x ∷ [])) (sym (ap length
 -- what was read of a script that ends in this line
 record EndsBy (lines : List Text) (line : Text) (after : List Step) : Type 0 where
   before : List Step
-  read : IsRead lines before
+  read : AreStepsOf lines before
   takes : TakesLine before line after
 
-ends_by : (lines : List Text) (line : Text) {whole : List Text} {after : List Step} → IsRead whole after → whole ≡ lines ++ line ∷ [] → EndsBy lines line after
+ends_by : (lines : List Text) (line : Text) {whole : List Text} {after : List Step} → AreStepsOf whole after → whole ≡ lines ++ line ∷ [] → EndsBy lines line after
 ends_by lines line begun e = absurd (not_empty lines line e)
 ends_by lines line {after = after} (taken {lines = ls} {before = b} {line = l} r t) e =
     record {
       before = b;
-      read = subst (λ ts. IsRead ts b) (sym (fronts_pushed ls l) ∙ ap fronts e ∙ fronts_pushed lines line) r;
+      read = subst (λ ts. AreStepsOf ts b) (sym (fronts_pushed ls l) ∙ ap fronts e ∙ fronts_pushed lines line) r;
       takes = subst (λ (u : Text). TakesLine b u after) (sym (end_pushed ls l) ∙ ap end_text e ∙ end_pushed lines line) t;
     }
 
@@ -70,7 +70,7 @@ begins_otherwise (Make from to max_lines) h = refl
 begins_otherwise (Deliver batch to bytes) h = refl
 begins_otherwise _ h = absurd (false≢true h)
 
-never_both : (line : Text) (s : Step) → is_passed_over line ≡ true → IsLineOf line s → ⊥
+never_both : (line : Text) (s : Step) → is_passed_over line ≡ true → IsScriptLine line s → ⊥
 never_both line s passed stands = true≢false (sym passed ∙ ap is_passed_over stands.spelled ∙ begins_otherwise s stands.of_table)
 
 takes_one : (before a b : List Step) (line : Text) → TakesLine before line a → TakesLine before line b → a ≡ b
@@ -81,10 +81,10 @@ takes_one before a b line (inr (s, n, e)) (inr (t, m, f)) = e ∙ ap (λ (x : St
 
 -- ---- a whole script
 
-one_reading : {lines : List Text} {a : List Step} → IsRead lines a → (b : List Step) → IsRead lines b → a ≡ b
+one_reading : {lines : List Text} {a : List Step} → AreStepsOf lines a → (b : List Step) → AreStepsOf lines b → a ≡ b
 one_reading begun b r = empty_read r refl
   where
-    empty_read : {ls : List Text} {steps : List Step} → IsRead ls steps → [] ≡ ls → [] ≡ steps
+    empty_read : {ls : List Text} {steps : List Step} → AreStepsOf ls steps → [] ≡ ls → [] ≡ steps
     empty_read begun e = refl
     empty_read (taken {lines = ls} {line = l} r t) e = absurd (not_empty ls l e)
 one_reading {a = a} (taken {lines = ls} {before = m} {line = l} r t) b q =
@@ -99,20 +99,20 @@ fronts_append (x ∷ z ∷ zs) y ys = ap (λ (ts : List Text). x ∷ ts) (fronts
 
 record IsFrontRead (xs : List Text) : Type 0 where
   steps : List Step
-  read : IsRead xs steps
+  read : AreStepsOf xs steps
 
 -- what was read of a script, was read of each front of its lines
-front_read : {lines : List Text} {steps : List Step} → IsRead lines steps → (xs ys : List Text) → lines ≡ xs ++ ys → IsFrontRead xs
+front_read : {lines : List Text} {steps : List Step} → AreStepsOf lines steps → (xs ys : List Text) → lines ≡ xs ++ ys → IsFrontRead xs
 front_read begun [] ys e = record { steps = []; read = begun }
 front_read begun (x ∷ xs) ys e = absurd (suc-ne-zero (length (xs ++ ys)) (sym (ap length e)))
-front_read {steps = a} (taken {lines = ls} {line = l} r t) xs [] e = record { steps = a; read = subst (λ ts. IsRead ts a) (e ∙ append-nil xs) (taken r t) }
+front_read {steps = a} (taken {lines = ls} {line = l} r t) xs [] e = record { steps = a; read = subst (λ ts. AreStepsOf ts a) (e ∙ append-nil xs) (taken r t) }
 front_read (taken {lines = ls} {line = l} r t) xs (y ∷ ys) e = front_read r xs (fronts (y ∷ ys)) (sym (fronts_pushed ls l) ∙ ap fronts e ∙ fronts_append xs y ys)
 
 bad_not_taken : (before after : List Step) (line : Text) → IsBad line → TakesLine before line after → ⊥
 bad_not_taken before after line bad (inl (passed, e)) = false≢true (sym bad.not_passed ∙ passed)
 bad_not_taken before after line bad (inr (s, next, e)) = bad.not_of_table s next
 
-bad_not_read : (lines : List Text) (number : ℕ) (steps : List Step) → IsBadLine lines number → IsRead lines steps → ⊥
+bad_not_read : (lines : List Text) (number : ℕ) (steps : List Step) → IsBadLine lines number → AreStepsOf lines steps → ⊥
 bad_not_read lines number steps b r =
     let front = front_read r (b.before ++ b.line ∷ []) b.behind (b.stands_at ∙ sym (append_assoc b.before (b.line ∷ []) b.behind)) in
     let end = ends_by b.before b.line front.read refl in

@@ -11,7 +11,7 @@ use Rattle.mr_model.proofs.WordsReadBack.{Plain, decimal-plain, number-decimal}
 use Rattle.mr_model.proofs.BatchesReadBack.{only_if_some}
 use Rattle.mr.specs.Script.{is_word}
 use Rattle.mr_base.specs.Readings.{number_from_to}
-use Rattle.mr.specs.LineSteps.{cut}
+use Rattle.mr.specs.LineSteps.{cut_first_word}
 
 abbrev NoSpace : Text → Type 0
 NoSpace t = list_all (λ d. not (is_space d)) t ≡ true
@@ -41,7 +41,7 @@ no_space [] h = refl
 no_space (c ∷ cs) h = h
 
 -- a word with a space behind it is cut off
-pub cut_of : (w rest : Text) → is_word w ≡ true → cut (w ++ 32 ∷ rest) ≡ Some (w, rest)
+pub cut_of : (w rest : Text) → is_word w ≡ true → cut_first_word (w ++ 32 ∷ rest) ≡ Some (w, rest)
 cut_of w rest h =
     let t : Text = w ++ 32 ∷ rest in
     let first : first_word t ≡ w = first_word_of w rest (no_space w h) in
@@ -67,7 +67,7 @@ joined [] h = absurd (false≢true h)
 joined (c ∷ cs) h = joined_cons c cs (joined cs) h (cases_Bool (is_space c))
 
 -- what is cut off is a word, and stands before the rest
-pub cut_parts : (t w rest : Text) → cut t ≡ Some (w, rest) → (is_word w ≡ true) × (t ≡ w ++ 32 ∷ rest)
+pub cut_parts : (t w rest : Text) → cut_first_word t ≡ Some (w, rest) → (is_word w ≡ true) × (t ≡ w ++ 32 ∷ rest)
 cut_parts t w rest e =
     let o = only_if_some (is_word (first_word t) && list_any is_space t) (first_word t, after_word t) (w, rest) e in
     let tests = and_parts (is_word (first_word t)) (list_any is_space t) o.0 in
@@ -127,13 +127,13 @@ lacking_word [] h low = absurd (not-suc-le-zero low)
 lacking_word (c ∷ cs) h low = all_no_space (c ∷ cs) h
 
 -- no space: no word is cut off
-pub cut_nothing : (t : Text) → LacksSpace t → cut t ≡ None
+pub cut_nothing : (t : Text) → LacksSpace t → cut_first_word t ≡ None
 cut_nothing t h = ap (λ b. only_if b (first_word t, after_word t)) (and_right (is_word (first_word t)) (list_any is_space t) (none_is_space t h))
 
 -- a space at the front: no word either
-pub cut_no_word : (t w rest : Text) → t ≡ w ++ 32 ∷ rest → length w ≡ 0 → cut t ≡ None
-cut_no_word t [] rest e low = ap cut e
+pub cut_no_word : (t w rest : Text) → t ≡ w ++ 32 ∷ rest → length w ≡ 0 → cut_first_word t ≡ None
+cut_no_word t [] rest e low = ap cut_first_word e
 cut_no_word t (c ∷ cs) rest e low = absurd (suc-ne-zero (length cs) low)
 
-pub cut_word : (t w rest : Text) → t ≡ w ++ 32 ∷ rest → LacksSpace w → 0 < length w → cut t ≡ Some (w, rest)
-cut_word t w rest e h low = ap cut e ∙ cut_of w rest (lacking_word w h low)
+pub cut_word : (t w rest : Text) → t ≡ w ++ 32 ∷ rest → LacksSpace w → 0 < length w → cut_first_word t ≡ Some (w, rest)
+cut_word t w rest e h low = ap cut_first_word e ∙ cut_of w rest (lacking_word w h low)

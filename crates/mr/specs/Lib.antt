@@ -1,8 +1,8 @@
--- A reader of the contracts trusts Script, Reading, Rehearsed, Told and Tasks. The other, LineSteps, serves private clauses and
+-- A reader of the contracts trusts Script, ScriptRead, Rehearsed, CommandEffects and Tasks. The other, LineSteps, serves private clauses and
 -- proofs alone.
 pub mod Script
 pub mod LineSteps
-pub mod Reading
+pub mod ScriptRead
 pub mod Rehearsed
-pub mod Told
+pub mod CommandEffects
 pub mod Tasks

@@ -6,20 +6,20 @@ use Rattle.mr_model.specs.View.{AskSheet, AskCalendar, AskOutcome, AskErrors}
 use Rattle.mr_model.specs.Step.{AddRoom, Submit, Cancel, Commit, Truncate, AskPosition, Ask, Submission, SlotWords}
 use Rattle.mr_model.specs.World.{Step, Add, Make, Deliver}
 use Rattle.mr_base.specs.Readings.{number_from_to}
-use Rattle.mr_words.specs.Rows.{◌>>=◌, server_in, count_in, line_count_in, part_in}
+use Rattle.mr_words.specs.CommandTable.{◌>>=◌, server_in, commit_number_in, line_count_in, part_in}
 use Rattle.mr.specs.Script.{is_word, all_bytes}
 
 -- the first word, and what follows the space behind it
-abbrev pub cut : Text → Option (Text × Text)
-cut t = only_if (is_word (first_word t) && list_any is_space t) (first_word t, after_word t)
+abbrev pub cut_first_word : Text → Option (Text × Text)
+cut_first_word t = only_if (is_word (first_word t) && list_any is_space t) (first_word t, after_word t)
 
 -- a server's word, and what follows
 abbrev pub cut_server : Text → Option (ℕ × Text)
-cut_server t = cut t >>= λ p. (server_in p.0 >>= λ s. Some (s, p.1))
+cut_server t = cut_first_word t >>= λ p. (server_in p.0 >>= λ s. Some (s, p.1))
 
 -- two words, and what follows
 abbrev pub cut_slot : Text → Option (SlotWords × Text)
-cut_slot t = cut t >>= λ p. (cut p.1 >>= λ q. Some (record { day = p.0; time = q.0 }, q.1))
+cut_slot t = cut_first_word t >>= λ p. (cut_first_word p.1 >>= λ q. Some (record { day = p.0; time = q.0 }, q.1))
 
 abbrev pub with_slot : SlotWords → Option (List SlotWords × Text) → Option (List SlotWords × Text)
 with_slot s o = o >>= λ p. Some (s ∷ p.0, p.1)
@@ -30,11 +30,11 @@ cut_slots zero t = Some ([], t)
 cut_slots (suc k) t = cut_slot t >>= λ p. with_slot p.0 (cut_slots k p.1)
 
 abbrev pub number_of_slots : Text → Option (ℕ × Text)
-number_of_slots t = cut t >>= λ p. (number_from_to 0 99 p.0 >>= λ k. Some (k, p.1))
+number_of_slots t = cut_first_word t >>= λ p. (number_from_to 0 99 p.0 >>= λ k. Some (k, p.1))
 
-abbrev pub booking_in : Text → Option Submission
-booking_in t =
-    cut t >>= λ room. (cut room.1 >>= λ minutes. (cut_slot minutes.1 >>= λ wish. (number_of_slots wish.1 >>= λ k.
+abbrev pub submission_cut : Text → Option Submission
+submission_cut t =
+    cut_first_word t >>= λ room. (cut_first_word room.1 >>= λ minutes. (cut_slot minutes.1 >>= λ wish. (number_of_slots wish.1 >>= λ k.
     (cut_slots k.0 k.1 >>= λ others.
     Some (record { room = room.0; title = others.1; length = minutes.0; wish = wish.0; alternatives = others.0 })))))
 
@@ -42,28 +42,28 @@ abbrev pub room_step : ℕ → Text → Option Step
 room_step server t = only_if (is_word t) (Step.Do server (AddRoom t))
 
 abbrev pub sheet_step : ℕ → Text → Option Step
-sheet_step server t = cut t >>= λ room. only_if (is_word room.1) (Step.Do server (Ask room.0 (AskSheet room.1)))
+sheet_step server t = cut_first_word t >>= λ room. only_if (is_word room.1) (Step.Do server (Ask room.0 (AskSheet room.1)))
 
 abbrev pub book_step : ℕ → Text → Option Step
-book_step server t = booking_in t >>= λ booking. Some (Step.Do server (Submit booking))
+book_step server t = submission_cut t >>= λ booking. Some (Step.Do server (Submit booking))
 
 abbrev pub cancel_step : ℕ → Text → Option Step
-cancel_step server t = cut t >>= λ room. only_if (is_word room.1) (Step.Do server (Cancel room.0 room.1))
+cancel_step server t = cut_first_word t >>= λ room. only_if (is_word room.1) (Step.Do server (Cancel room.0 room.1))
 
 abbrev pub calendar_step : ℕ → Text → Option Step
-calendar_step server t = cut t >>= λ room. (part_in room.1 >>= λ part. Some (Step.Do server (Ask room.0 (AskCalendar part))))
+calendar_step server t = cut_first_word t >>= λ room. (part_in room.1 >>= λ part. Some (Step.Do server (Ask room.0 (AskCalendar part))))
 
 abbrev pub outcome_step : ℕ → Text → Option Step
-outcome_step server t = cut t >>= λ room. only_if (is_word room.1) (Step.Do server (Ask room.0 (AskOutcome room.1)))
+outcome_step server t = cut_first_word t >>= λ room. only_if (is_word room.1) (Step.Do server (Ask room.0 (AskOutcome room.1)))
 
 abbrev pub errors_step : ℕ → Text → Option Step
 errors_step server t = only_if (is_word t) (Step.Do server (Ask t AskErrors))
 
 abbrev pub commit_step : ℕ → Text → Option Step
-commit_step server t = count_in t >>= λ count. Some (Step.Do server (Commit count))
+commit_step server t = commit_number_in t >>= λ count. Some (Step.Do server (Commit count))
 
 abbrev pub truncate_step : ℕ → Text → Option Step
-truncate_step server t = count_in t >>= λ count. Some (Step.Do server (Truncate count))
+truncate_step server t = commit_number_in t >>= λ count. Some (Step.Do server (Truncate count))
 
 abbrev pub position_step : Text → Option Step
 position_step t = server_in t >>= λ server. Some (Step.Do server AskPosition)
@@ -72,15 +72,15 @@ abbrev pub batch_step : ℕ → Text → Option Step
 batch_step from t = cut_server t >>= λ to. (line_count_in to.1 >>= λ max_lines. Some (Make from to.0 max_lines))
 
 -- how many bytes of a batch
-abbrev pub length_in : Text → Option ℕ
-length_in t = if bytes_eq t (codes "all") then Some all_bytes else number_from_to 0 999_999_999 t
+abbrev pub byte_count_in : Text → Option ℕ
+byte_count_in t = if bytes_eq t (codes "all") then Some all_bytes else number_from_to 0 999_999_999 t
 
 -- the number of a batch, and what follows
 abbrev pub cut_batch : Text → Option (ℕ × Text)
-cut_batch t = cut t >>= λ p. (number_from_to 0 999_999_999 p.0 >>= λ n. Some (n, p.1))
+cut_batch t = cut_first_word t >>= λ p. (number_from_to 0 999_999_999 p.0 >>= λ n. Some (n, p.1))
 
 abbrev pub deliver_step : Text → Option Step
-deliver_step t = cut_batch t >>= λ batch. (cut_server batch.1 >>= λ to. (length_in to.1 >>= λ bytes. Some (Deliver batch.0 to.0 bytes)))
+deliver_step t = cut_batch t >>= λ batch. (cut_server batch.1 >>= λ to. (byte_count_in to.1 >>= λ bytes. Some (Deliver batch.0 to.0 bytes)))
 
 abbrev pub replica_step : Text → Option Step
 replica_step t = server_in t >>= λ server. Some (Add server)
@@ -100,8 +100,8 @@ exchange_by verb t =
     else None))))
 
 -- questions about a room, and the others
-abbrev pub question_by : Text → Text → Option Step
-question_by verb t =
+abbrev pub question_step_by : Text → Text → Option Step
+question_step_by verb t =
     if bytes_eq verb (codes "sheet") then at_server sheet_step t
     else (if bytes_eq verb (codes "calendar") then at_server calendar_step t
     else (if bytes_eq verb (codes "outcome") then at_server outcome_step t
@@ -114,8 +114,8 @@ step_by verb t =
     else (if bytes_eq verb (codes "room") then at_server room_step t
     else (if bytes_eq verb (codes "book") then at_server book_step t
     else (if bytes_eq verb (codes "cancel") then at_server cancel_step t
-    else question_by verb t)))
+    else question_step_by verb t)))
 
 -- the step of a line, if it is of the table
 abbrev pub step_in : Text → Option Step
-step_in line = cut line >>= λ p. step_by p.0 p.1
+step_in line = cut_first_word line >>= λ p. step_by p.0 p.1

@@ -5,8 +5,8 @@ use Rattle.mr_model.specs.Texts.{Text, words, lines_text}
 use Rattle.mr_model.specs.Replies.{reply_text}
 use Rattle.mr_model.specs.World.{World, empty_world, Step, StepReply, Added, There, NoReplica, NoBatch, Made, Said}
 use Rattle.mr_model.specs.Honest.{IsWorldRun}
-use Rattle.mr_say.specs.Told.{no_memory_line}
-use Rattle.mr.specs.Script.{ReadsAs}
+use Rattle.mr_say.specs.CommandOutput.{no_memory_line}
+use Rattle.mr.specs.Script.{ReadsAsScript}
 
 -- the text of a reply
 abbrev pub step_reply_text : StepReply → Text
@@ -31,7 +31,7 @@ bad_line number = codes "bad script line " ++ decimal number ++ 10 ∷ []
 
 -- a script was run to its end
 abbrev pub Rehearses : Text → Option Text → Option Text → Type 0
-Rehearses bytes held holds = (steps : List Step) × (output : Text) × ReadsAs bytes (Ok steps) × Prints steps output × Appends held holds output
+Rehearses bytes held holds = (steps : List Step) × (output : Text) × ReadsAsScript bytes (Ok steps) × Prints steps output × Appends held holds output
 
 -- the steps were run, and memory was wanting for a reply, behind the texts of those before it
 pub record StopsIn (steps : List Step) (held holds : Option Text) : Type 0 where
@@ -42,10 +42,10 @@ pub record StopsIn (steps : List Step) (held holds : Option Text) : Type 0 where
   pub told : Appends held holds (flat_map step_reply_text (take number replies) ++ no_memory_line)
 
 -- a script was not run, for its first bad line or for want of memory; or memory was wanting on the way
-abbrev pub Stops : Text → Option Text → Option Text → Type 0
-Stops bytes held holds =
-    ((number : ℕ) × ReadsAs bytes (Err number) × Appends held holds (bad_line number))
-    ⊎ (Appends held holds no_memory_line ⊎ ((steps : List Step) × ReadsAs bytes (Ok steps) × StopsIn steps held holds))
+abbrev pub StopsRehearsing : Text → Option Text → Option Text → Type 0
+StopsRehearsing bytes held holds =
+    ((number : ℕ) × ReadsAsScript bytes (Err number) × Appends held holds (bad_line number))
+    ⊎ (Appends held holds no_memory_line ⊎ ((steps : List Step) × ReadsAsScript bytes (Ok steps) × StopsIn steps held holds))
 
 -- the bytes are all that the reader had, as far as that is known
 abbrev pub IsInput : Option Text → Text → Type 0
@@ -53,9 +53,9 @@ IsInput None bytes = ⊤
 IsInput (Some known) bytes = bytes ≡ known
 
 -- the bytes are all that this reader had, where there is one
-abbrev pub Gives : {R : Type 0} → (R → Option Text) → Option R → Text → Type 0
-Gives remaining None bytes = ⊥
-Gives remaining (Some reader) bytes = IsInput (remaining reader) bytes
+abbrev pub GivesInput : {R : Type 0} → (R → Option Text) → Option R → Text → Type 0
+GivesInput remaining None bytes = ⊥
+GivesInput remaining (Some reader) bytes = IsInput (remaining reader) bytes
 
 -- ---- command lines
 

@@ -30,13 +30,13 @@ is_word (c ∷ cs) = list_all (λ d. not (is_space d)) (c ∷ cs)
 
 -- ---- the line of a step
 
-abbrev pub slot_words : SlotWords → List Text
-slot_words s = s.day ∷ s.time ∷ []
+abbrev pub words_of_slot : SlotWords → List Text
+words_of_slot s = s.day ∷ s.time ∷ []
 
 -- the number of the alternatives stands before them, and the title behind them
 abbrev pub booking_words : Submission → List Text
 booking_words b =
-    b.room ∷ b.length ∷ b.wish.day ∷ b.wish.time ∷ decimal (length b.alternatives) ∷ (flat_map slot_words b.alternatives ++ b.title ∷ [])
+    b.room ∷ b.length ∷ b.wish.day ∷ b.wish.time ∷ decimal (length b.alternatives) ∷ (flat_map words_of_slot b.alternatives ++ b.title ∷ [])
 
 -- all bytes of a batch: more than any has
 abbrev pub all_bytes : ℕ
@@ -71,19 +71,19 @@ abbrev pub are_slot_words : SlotWords → Bool
 are_slot_words s = is_word s.day && is_word s.time
 
 -- any title, an empty one too
-abbrev pub is_booking : Submission → Bool
-is_booking b =
+abbrev pub is_submission : Submission → Bool
+is_submission b =
     is_word b.room && is_word b.length && are_slot_words b.wish && nat_le (length b.alternatives) 99
     && list_all are_slot_words b.alternatives
 
 -- a number of bytes, or all
-abbrev pub is_length : ℕ → Bool
-is_length n = within 0 999_999_999 n || n == all_bytes
+abbrev pub is_byte_count : ℕ → Bool
+is_byte_count n = within 0 999_999_999 n || n == all_bytes
 
 abbrev pub has_line : Step → Bool
 has_line (Add server) = is_server server
 has_line (Step.Do server (AddRoom room)) = is_server server && is_word room
-has_line (Step.Do server (Submit booking)) = is_server server && is_booking booking
+has_line (Step.Do server (Submit booking)) = is_server server && is_submission booking
 has_line (Step.Do server (Cancel room id)) = is_server server && (is_word room && is_word id)
 has_line (Step.Do server (Ask room (AskSheet day))) = is_server server && (is_word room && is_word day)
 has_line (Step.Do server (Ask room (AskCalendar part))) = is_server server && is_word room
@@ -93,11 +93,11 @@ has_line (Step.Do server (Commit count)) = is_server server && within 0 999_999_
 has_line (Step.Do server (Truncate count)) = is_server server && within 0 999_999_999_999 count
 has_line (Step.Do server AskPosition) = is_server server
 has_line (Make from to max_lines) = is_server from && (is_server to && within 1 100_000 max_lines)
-has_line (Deliver batch to bytes) = within 0 999_999_999 batch && (is_server to && is_length bytes)
+has_line (Deliver batch to bytes) = within 0 999_999_999 batch && (is_server to && is_byte_count bytes)
 has_line _ = false
 
 -- the line is of the table, and this is its step
-pub record IsLineOf (line : Text) (step : Step) : Type 0 where
+pub record IsScriptLine (line : Text) (step : Step) : Type 0 where
   pub spelled : line ≡ step_line step
   pub of_table : has_line step ≡ true
   pub plain : is_plain line ≡ true
@@ -107,17 +107,18 @@ pub record IsLineOf (line : Text) (step : Step) : Type 0 where
 -- the line is neither passed over nor of the table
 pub record IsBad (line : Text) : Type 0 where
   pub not_passed : is_passed_over line ≡ false
-  pub not_of_table : (step : Step) → ¬ IsLineOf line step
+  pub not_of_table : (step : Step) → ¬ IsScriptLine line step
 
 -- the steps before a line and after it
 abbrev pub TakesLine : List Step → Text → List Step → Type 0
 TakesLine before line after =
-    ((is_passed_over line ≡ true) × (after ≡ before)) ⊎ ((step : Step) × IsLineOf line step × (after ≡ before ++ step ∷ []))
+    ((is_passed_over line ≡ true) × (after ≡ before)) ⊎ ((step : Step) × IsScriptLine line step × (after ≡ before ++ step ∷ []))
 
 -- the lines of a script as far as it was read, and the steps that they stand for
-pub data IsRead : List Text → List Step → Type 0 where
-  begun : IsRead [] []
-  taken : {lines : List Text} {before after : List Step} {line : Text} → IsRead lines before → TakesLine before line after → IsRead (lines ++ line ∷ []) after
+pub data AreStepsOf : List Text → List Step → Type 0 where
+  begun : AreStepsOf [] []
+  taken : {lines : List Text} {before after : List Step} {line : Text} → AreStepsOf lines before → TakesLine before line after
+      → AreStepsOf (lines ++ line ∷ []) after
 
 -- the first bad line, counted from 1
 pub record IsBadLine (lines : List Text) (number : ℕ) : Type 0 where
@@ -127,14 +128,14 @@ pub record IsBadLine (lines : List Text) (number : ℕ) : Type 0 where
   pub steps : List Step
   pub stands_at : lines ≡ before ++ line ∷ behind
   pub counted : length before + 1 ≡ number
-  pub read_before : IsRead before steps
+  pub read_before : AreStepsOf before steps
   pub bad : IsBad line
 
 -- the steps that a script stands for, or the number of its first bad line
-abbrev pub ReadsAs : Text → Result (List Step) ℕ → Type 0
-ReadsAs bytes (Ok steps) = IsRead (script_lines bytes) steps
-ReadsAs bytes (Err number) = IsBadLine (script_lines bytes) number
+abbrev pub ReadsAsScript : Text → Result (List Step) ℕ → Type 0
+ReadsAsScript bytes (Ok steps) = AreStepsOf (script_lines bytes) steps
+ReadsAsScript bytes (Err number) = IsBadLine (script_lines bytes) number
 
 -- a script is read in one way
 abbrev pub ReadsOneWay : Type 0
-ReadsOneWay = (bytes : Text) (x y : Result (List Step) ℕ) → ReadsAs bytes x → ReadsAs bytes y → x ≡ y
+ReadsOneWay = (bytes : Text) (x y : Result (List Step) ℕ) → ReadsAsScript bytes x → ReadsAsScript bytes y → x ≡ y

@@ -5,22 +5,22 @@ use Rattle.std.specs.declared.string.String.{String}
 use Rattle.std.specs.declared.alloc.Global.{Global}
 use Rattle.mr_model.specs.Texts.{Text, line}
 use Rattle.mr_model.specs.Refusals.{Refusal, OutOfMemory, Store, NotAReplica, refusal_text}
-use Rattle.mr_model.specs.Replica.{opening}
+use Rattle.mr_model.specs.Replica.{Replica, opening}
 use Rattle.mr_model.specs.Replies.{Reply}
-use Rattle.mr_model.specs.Step.{Command, Receive, BatchFor}
+use Rattle.mr_model.specs.Step.{Command, Receive, BatchFor, step}
 use Rattle.mr_model.specs.Tables.{Stands}
 use Rattle.mr_store.specs.declared.keeper.Keeper.{Ghosts}
-use Rattle.mr_store.specs.Kept.{IsSettled}
+use Rattle.mr_store.specs.KeeperCalls.{IsSettled}
 use Rattle.mr_service.specs.Asked.{command_of, local_of}
-use Rattle.mr_say.specs.Told.{Tells, ok_line}
+use Rattle.mr_say.specs.CommandOutput.{PrintsReply, ok_line}
 use Rattle.mr_net.specs.Hosts.{IsPeer}
 use Rattle.mr_net.specs.Printed.{EndsExchange, EndsServing, TellsBadAddress}
-use Rattle.mr_words.specs.Rows.{Asked, Init, Ask, Export, Import, Rehearse, Serve, Exchange, Bridge}
+use Rattle.mr_words.specs.CommandTable.{Invoked, Init, Ask, Export, Import, Rehearse, Serve, Exchange, Bridge}
 use Rattle.mr.specs.declared.orders.Task.{Task}
 use Rattle.mr.specs.declared.orders.Task.TheVariants as kind
 use Rattle.mr.specs.declared.orders.Order.{Order}
-use Rattle.mr.specs.Rehearsed.{Rehearses, Stops}
-use Rattle.mr.specs.Told.{IsAsked, TellsFault, TellsWritten}
+use Rattle.mr.specs.Rehearsed.{Rehearses, StopsRehearsing}
+use Rattle.mr.specs.CommandEffects.{IsCommandAsked, TellsFault, TellsWritten}
 
 -- ---- tasks
 
@@ -42,6 +42,10 @@ IsCommandFor (kind.Ask local) command = command ≡ local_of local
 IsCommandFor (kind.Import batch) command = IsReceive command
 IsCommandFor (kind.Export export) command = IsBatchFor export.max_lines command
 
+-- the command leaves each replica as it is
+abbrev pub OnlyReads : Command → Type 0
+OnlyReads command = (r : Replica) → (step r command).replica ≡ r
+
 -- the path of the file that takes the reply
 abbrev pub file_for : Task → Option (String Global)
 file_for (kind.Export export) = Some export.batch
@@ -53,13 +57,14 @@ pub record IsOrderFor (task : Task) (Has : Text → Type 0) (order : Order) : Ty
 
 -- the reply is printed, or goes to a file
 abbrev pub TellsTo : Option (String Global) → Reply → Option Text → Option Text → ℕ → Type 0
-TellsTo None = Tells
+TellsTo None = PrintsReply
 TellsTo (Some path) = TellsWritten
 
 -- the replica of a keeper is asked such a command, and the reply is told so
-abbrev pub IsAnswered : {K : Type 0} → Ghosts K → (Command → Type 0) → (Reply → Option Text → Option Text → ℕ → Type 0) → K → K → Option Text → Option Text → ℕ → Type 0
+abbrev pub IsAnswered : {K : Type 0} → Ghosts K → (Command → Type 0) → (Reply → Option Text → Option Text → ℕ → Type 0) → K → K → Option Text → Option Text → ℕ
+    → Type 0
 IsAnswered keeper IsCommand TellsReply old new held holds status =
-    (command : Command) × (reply : Reply) × IsCommand command × IsAsked keeper old new command reply × TellsReply reply held holds status
+    (command : Command) × (reply : Reply) × IsCommand command × IsCommandAsked keeper old new command reply × TellsReply reply held holds status
 
 -- ---- databases
 
@@ -90,6 +95,12 @@ abbrev pub EndsAsking : {K : Type 0} → Ghosts K → (Command → Type 0) → (
 EndsAsking {K} keeper IsCommand TellsReply held holds status =
     ((old new : K) × IsOpened keeper old × IsAnswered keeper IsCommand TellsReply old new held holds status) ⊎ TellsUnopened held holds status
 
+-- a database is opened, or a copy of it is, where the command only reads; and its replica is asked such a command
+abbrev pub EndsAskingEither : {K C : Type 0} → Ghosts K → Ghosts C → (Command → Type 0) → (Reply → Option Text → Option Text → ℕ → Type 0) → Option Text → Option Text → ℕ → Type 0
+EndsAskingEither keeper copy IsCommand TellsReply held holds status =
+    EndsAsking keeper IsCommand TellsReply held holds status
+    ⊎ EndsAsking copy (λ c. IsCommand c × OnlyReads c) TellsReply held holds status
+
 abbrev pub EndsInit : {K : Type 0} → Ghosts K → ℕ → ℕ → Option Text → Option Text → ℕ → Type 0
 EndsInit {K} keeper server primary held holds status =
     ((status ≡ 0) × (k : K) × IsOpenedFor keeper server primary k × Appends held holds ok_line) ⊎ TellsUnopened held holds status
@@ -100,7 +111,7 @@ EndsInit {K} keeper server primary held holds status =
 abbrev pub EndsRehearsal : Option Text → Option Text → ℕ → Type 0
 EndsRehearsal held holds status =
     ((status ≡ 0) × (bytes : Text) × Rehearses bytes held holds)
-    ⊎ (((status ≡ 1) × (bytes : Text) × Stops bytes held holds) ⊎ (status ≡ 3))
+    ⊎ (((status ≡ 1) × (bytes : Text) × StopsRehearsing bytes held holds) ⊎ (status ≡ 3))
 
 -- ---- exchanges
 
@@ -111,13 +122,13 @@ pub record EndsExchangeAt (address : Text) (held holds : Option Text) (status : 
 
 -- ---- command lines
 
--- what a command line that asks for this prints, where databases are those of such keepers
-abbrev pub EndsAs : {K : Type 0} → Ghosts K → Asked → Option Text → Option Text → ℕ → Type 0
-EndsAs keeper (Init database server primary) = EndsInit keeper server primary
-EndsAs keeper (Ask database command) = EndsAsking keeper (λ c. c ≡ command) Tells
-EndsAs keeper (Export database position batch max_lines) = EndsAsking keeper (IsBatchFor max_lines) TellsWritten
-EndsAs keeper (Import database batch) = EndsAsking keeper IsReceive Tells
-EndsAs keeper (Rehearse script) = EndsRehearsal
-EndsAs keeper (Serve database port connections) = EndsServing port connections
-EndsAs keeper (Exchange database address) = EndsExchangeAt address
-EndsAs keeper (Bridge database other) = EndsExchange
+-- what a command line that asks for this prints, where databases are those of such keepers, and copies those of such ones
+abbrev pub EndsAs : {K C : Type 0} → Ghosts K → Ghosts C → Invoked → Option Text → Option Text → ℕ → Type 0
+EndsAs keeper copy (Init database server primary) = EndsInit keeper server primary
+EndsAs keeper copy (Ask database command) = EndsAskingEither keeper copy (λ c. c ≡ command) PrintsReply
+EndsAs keeper copy (Export database position batch max_lines) = EndsAskingEither keeper copy (IsBatchFor max_lines) TellsWritten
+EndsAs keeper copy (Import database batch) = EndsAskingEither keeper copy IsReceive PrintsReply
+EndsAs keeper copy (Rehearse script) = EndsRehearsal
+EndsAs keeper copy (Serve database port connections) = EndsServing port connections
+EndsAs keeper copy (Exchange database address) = EndsExchangeAt address
+EndsAs keeper copy (Bridge database other) = EndsExchange

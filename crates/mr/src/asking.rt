@@ -7,8 +7,8 @@ ghost use Rattle.mr_model.specs.View.{Question};
 ghost use Rattle.mr_model.specs.Replies as model;
 ghost use Rattle.mr_model.specs.Step.{Ask};
 ghost use Rattle.mr_service.specs.Asked.{command_of, reply_of};
-ghost use Rattle.mr.specs.Told.{IsAsked, TakesAll, TellsAnswer, TellsFault, TellsLength, TellsWritten, greatest_file};
-ghost use Rattle.mr.specs.Rehearsed.{Gives};
+ghost use Rattle.mr.specs.CommandEffects.{IsCommandAsked, TakesAll, TellsAnswer, TellsFault, TellsLength, TellsWritten, greatest_file};
+ghost use Rattle.mr.specs.Rehearsed.{GivesInput};
 ghost use Rattle.mr.specs.Tasks.{IsAnswered, IsCommandFor, IsCommandWith, TellsTo, file_for};
 
 use crate::files::{FileFault, GREATEST_FILE, create_file, say_fault};
@@ -47,7 +47,8 @@ fn perform_with<K: Keeper, R: Read, W: Write>(
 ) -> u8
 where
     R: Drop,
-    ensures { IsAnswered K.Keeper (IsCommandWith task (Gives R.remaining reader)) (TellsTo (file_for task)) service.old service.new (W.contents out.old) (W.contents out.new) result
+    ensures { IsAnswered K.Keeper (IsCommandWith task (GivesInput R.remaining reader)) (TellsTo (file_for task)) service.old service.new (W.contents out.old)
+        (W.contents out.new) result
         ⊎ ((service.new ≡ service.old) × TellsFault (W.contents out.old) (W.contents out.new) result) }
 {
     match order_for(alloc, task, reader) {
@@ -66,7 +67,7 @@ fn answer<K: Keeper, W: Write>(
     out: &mut W,
 ) -> u8
     ensures told { (reply : model.Reply)
-        × IsAsked K.Keeper service.old service.new (command_of order.now.command) reply
+        × IsCommandAsked K.Keeper service.old service.new (command_of order.now.command) reply
         × TellsTo order.now.file reply (W.contents out.old) (W.contents out.new) result }
     ensures shown { K.is_clean service.new → K.is_open service.old → order.now.file ≡ None
         → (room : Text) (question : Question) → command_of order.now.command ≡ Ask room question
@@ -81,7 +82,7 @@ fn answer<K: Keeper, W: Write>(
 
 /// Gives the replica the command.
 fn ask<K: Keeper>(service: &mut Service<K>, command: &Command) -> Reply
-    ensures { IsAsked K.Keeper service.old service.new (command_of command.now) (reply_of result) }
+    ensures { IsCommandAsked K.Keeper service.old service.new (command_of command.now) (reply_of result) }
 {
     service.ask(command)
 }

@@ -3,12 +3,12 @@
 ghost use Rattle.std.specs.Prelude.{◌≡◌, ◌≤◌, ◌⊎◌, true, map, Some, None};
 ghost use Rattle.std.specs.String.{string_bytes};
 ghost use Rattle.std.specs.Io.KnownBytes.{Appends};
-ghost use Rattle.mr_words.specs.Rows.{Asked, has_no_flag, invocation_of};
-ghost use Rattle.mr_words.specs.Reading.{asked_of};
-ghost use Rattle.mr_say.specs.Told.{no_memory_line};
+ghost use Rattle.mr_words.specs.CommandTable.{Invoked, has_no_flag, invocation_of};
+ghost use Rattle.mr_words.specs.InvocationRead.{asked_of};
+ghost use Rattle.mr_say.specs.CommandOutput.{no_memory_line};
 ghost use Rattle.mr.specs.Rehearsed.{bad_words_line};
 ghost use Rattle.mr.specs.Tasks.{EndsAs, EndsRehearsal};
-ghost use Rattle.mr.specs.Told.{TellsFault};
+ghost use Rattle.mr.specs.CommandEffects.{TellsFault};
 
 use crate::databases::{init, on_database};
 use crate::files::{open_file, say_fault};
@@ -16,7 +16,7 @@ use crate::orders::{Export, Task};
 use crate::run::rehearse;
 use mr_net::{bridge, exchange, serve};
 use mr_say::{BAD_WORDS, NO_MEMORY, REFUSED, say};
-use mr_sql::FileKeeper;
+use mr_sql::{CopyKeeper, FileKeeper};
 use mr_store::Keeper;
 use mr_words::{Invocation, WordFault, invocation};
 use std::alloc::Global;
@@ -27,8 +27,8 @@ use std::io::Write;
 /// does not take a line.
 pub fn command<W: Write>(rt: &HostRuntime, alloc: Global, words: &[String], out: &mut W) -> u8
     ensures within { result ≤ 3 }
-    ensures asked { has_no_flag (map string_bytes words.now) ≡ true → (asked : Asked) → invocation_of (map string_bytes words.now) ≡ Some asked
-        → EndsAs ⟦<FileKeeper as Keeper>⟧ asked (W.contents out.old) (W.contents out.new) result }
+    ensures asked { has_no_flag (map string_bytes words.now) ≡ true → (asked : Invoked) → invocation_of (map string_bytes words.now) ≡ Some asked
+        → EndsAs ⟦<FileKeeper as Keeper>⟧ ⟦<CopyKeeper as Keeper>⟧ asked (W.contents out.old) (W.contents out.new) result }
     ensures bad { has_no_flag (map string_bytes words.now) ≡ true → invocation_of (map string_bytes words.now) ≡ None
         → ((result ≡ 2) × Appends (W.contents out.old) (W.contents out.new) bad_words_line)
         ⊎ (((result ≡ 1) × Appends (W.contents out.old) (W.contents out.new) no_memory_line) ⊎ (result ≡ 3)) }
@@ -53,7 +53,7 @@ pub fn say_word_fault<W: Write>(fault: WordFault, out: &mut W) -> u8
 
 /// Does what was asked for.
 fn perform<W: Write>(rt: &HostRuntime, alloc: Global, asked: Invocation, out: &mut W) -> u8
-    ensures { EndsAs ⟦<FileKeeper as Keeper>⟧ (asked_of asked) (W.contents out.old) (W.contents out.new) result }
+    ensures { EndsAs ⟦<FileKeeper as Keeper>⟧ ⟦<CopyKeeper as Keeper>⟧ (asked_of asked) (W.contents out.old) (W.contents out.new) result }
 {
     match asked {
         Invocation::Init {

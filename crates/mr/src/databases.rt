@@ -2,16 +2,17 @@
 
 ghost use Rattle.std.specs.Prelude.{◌≡◌, ◌⊎◌};
 ghost use Rattle.std.specs.Io.KnownBytes.{Appends};
-ghost use Rattle.mr_say.specs.Told.{ok_line};
-ghost use Rattle.mr.specs.Tasks.{EndsAsking, EndsInit, IsAnswered, IsCommandFor, TellsTo, file_for};
-ghost use Rattle.mr.specs.Told.{TellsFault};
+ghost use Rattle.mr_model.specs.Step.{Command};
+ghost use Rattle.mr_say.specs.CommandOutput.{ok_line};
+ghost use Rattle.mr.specs.Tasks.{EndsAsking, EndsAskingEither, EndsInit, IsAnswered, IsCommandFor, OnlyReads, TellsTo, file_for};
+ghost use Rattle.mr.specs.CommandEffects.{TellsFault};
 
 use crate::asking::perform;
-use crate::orders::Task;
+use crate::orders::{Task, only_reads};
 use mr_base::ServerId;
 use mr_say::{DONE, say, say_refusal};
 use mr_service::Service;
-use mr_sql::{FileKeeper, SqlKeeper};
+use mr_sql::{CopyKeeper, FileKeeper, NotCopied, SqlKeeper};
 use mr_store::Keeper;
 use std::alloc::Global;
 use std::io::Write;
@@ -46,7 +47,7 @@ fn say_made<K: Keeper, W: Write>(keeper: K, out: &mut W) -> (K, u8)
     (keeper, status)
 }
 
-/// Opens the database at this path, does the task with its replica, and closes what was given back.
+/// Does the task with the replica of the database at this path. For a question the database's files are read and left as they are.
 pub(crate) fn on_database<W: Write>(
     rt: &HostRuntime,
     alloc: Global,
@@ -54,6 +55,34 @@ pub(crate) fn on_database<W: Write>(
     task: Task,
     out: &mut W,
 ) -> u8
+    ensures { EndsAskingEither ⟦<FileKeeper as Keeper>⟧ ⟦<CopyKeeper as Keeper>⟧ (IsCommandFor task) (TellsTo (file_for task))
+        (W.contents out.old) (W.contents out.new) result }
+{
+    if only_reads(&task) {
+        on_copy(rt, alloc, database, task, out)
+    } else {
+        on_file(rt, alloc, database, task, out)
+    }
+}
+
+/// Does the task, a question, with a copy of the database at this path, or with the database itself where no copy will do.
+fn on_copy<W: Write>(rt: &HostRuntime, alloc: Global, database: &str, task: Task, out: &mut W) -> u8
+    requires reads { (command : Command) → IsCommandFor task command → OnlyReads command }
+    ensures { EndsAskingEither ⟦<FileKeeper as Keeper>⟧ ⟦<CopyKeeper as Keeper>⟧ (IsCommandFor task) (TellsTo (file_for task))
+        (W.contents out.old) (W.contents out.new) result }
+{
+    match SqlKeeper::open_copy(rt, database) {
+        Ok(keeper) => {
+            let (_copy, status) = on_keeper(rt, alloc, keeper, task, out);
+            status
+        }
+        Err(NotCopied::Refused(refusal)) => say_refusal(alloc, out, &refusal),
+        Err(NotCopied::OnlyInFile) => on_file(rt, alloc, database, task, out),
+    }
+}
+
+/// Opens the database at this path, does the task with its replica, and closes what was given back.
+fn on_file<W: Write>(rt: &HostRuntime, alloc: Global, database: &str, task: Task, out: &mut W) -> u8
     ensures { EndsAsking ⟦<FileKeeper as Keeper>⟧ (IsCommandFor task) (TellsTo (file_for task)) (W.contents out.old) (W.contents out.new) result }
 {
     match SqlKeeper::open_file(rt, database) {

@@ -4,7 +4,7 @@ ghost use Rattle.std.specs.Prelude.{◌≡◌, ◌≢◌, ◌≤◌, IfOk, lengt
 ghost use Rattle.std.specs.IoError.{error_kind};
 ghost use Rattle.std.specs.declared.io.ErrorKind.TheVariants.{OutOfMemory};
 ghost use Rattle.mr.specs.Rehearsed.{IsInput};
-ghost use Rattle.mr.specs.Told.{TellsFault, greatest_file};
+ghost use Rattle.mr.specs.CommandEffects.{TellsFault, greatest_file};
 
 use mr_say::{FAULT, NO_MEMORY, REFUSED, say};
 use std::alloc::Global;

@@ -2,7 +2,7 @@
 
 ghost use Rattle.std.specs.Prelude.{◌≡◌, MatchOption, IfOk, Some, None};
 ghost use Rattle.mr_service.specs.Stepping.{step_of};
-ghost use Rattle.mr.specs.LineSteps.{replica_step, room_step, sheet_step, book_step, cancel_step, calendar_step, outcome_step, errors_step, commit_step, truncate_step, position_step, batch_step, deliver_step, at_server, exchange_by, question_by, step_by, step_in};
+ghost use Rattle.mr.specs.LineSteps.{replica_step, room_step, sheet_step, book_step, cancel_step, calendar_step, outcome_step, errors_step, commit_step, truncate_step, position_step, batch_step, deliver_step, at_server, exchange_by, question_step_by, step_by, step_in};
 
 use crate::words::{Words, is_word, read_length};
 use mr_service::{Local, Step};
@@ -35,7 +35,8 @@ fn step_by(alloc: Global, verb: &str, words: Words<'_>) -> Result<Option<Step>, 
 
 /// A question about a room, or what `exchange_by` reads.
 fn question_by(alloc: Global, verb: &str, words: Words<'_>) -> Result<Option<Step>, AllocError>
-    ensures { IfOk result (λ found. MatchOption found (question_by verb.now words.entry ≡ None) (λ step. question_by verb.now words.entry ≡ Some (step_of step))) }
+    ensures { IfOk result (λ found. MatchOption found (question_step_by verb.now words.entry ≡ None)
+        (λ step. question_step_by verb.now words.entry ≡ Some (step_of step))) }
 {
     match verb {
         "sheet" => sheet(alloc, words),
@@ -68,7 +69,8 @@ fn replica(words: Words<'_>) -> Option<Step>
 }
 
 fn room(alloc: Global, mut words: Words<'_>) -> Result<Option<Step>, AllocError>
-    ensures { IfOk result (λ found. MatchOption found (at_server room_step words.entry ≡ None) (λ step. at_server room_step words.entry ≡ Some (step_of step))) }
+    ensures { IfOk result (λ found. MatchOption found (at_server room_step words.entry ≡ None)
+        (λ step. at_server room_step words.entry ≡ Some (step_of step))) }
 {
     let Some(server) = words.server() else {
         return Ok(None);
@@ -82,7 +84,8 @@ fn room(alloc: Global, mut words: Words<'_>) -> Result<Option<Step>, AllocError>
 }
 
 fn book(alloc: Global, mut words: Words<'_>) -> Result<Option<Step>, AllocError>
-    ensures { IfOk result (λ found. MatchOption found (at_server book_step words.entry ≡ None) (λ step. at_server book_step words.entry ≡ Some (step_of step))) }
+    ensures { IfOk result (λ found. MatchOption found (at_server book_step words.entry ≡ None)
+        (λ step. at_server book_step words.entry ≡ Some (step_of step))) }
 {
     let Some(server) = words.server() else {
         return Ok(None);
@@ -94,7 +97,8 @@ fn book(alloc: Global, mut words: Words<'_>) -> Result<Option<Step>, AllocError>
 }
 
 fn cancel(alloc: Global, mut words: Words<'_>) -> Result<Option<Step>, AllocError>
-    ensures { IfOk result (λ found. MatchOption found (at_server cancel_step words.entry ≡ None) (λ step. at_server cancel_step words.entry ≡ Some (step_of step))) }
+    ensures { IfOk result (λ found. MatchOption found (at_server cancel_step words.entry ≡ None)
+        (λ step. at_server cancel_step words.entry ≡ Some (step_of step))) }
 {
     let Some(server) = words.server() else {
         return Ok(None);
@@ -114,7 +118,8 @@ fn cancel(alloc: Global, mut words: Words<'_>) -> Result<Option<Step>, AllocErro
 }
 
 fn sheet(alloc: Global, mut words: Words<'_>) -> Result<Option<Step>, AllocError>
-    ensures { IfOk result (λ found. MatchOption found (at_server sheet_step words.entry ≡ None) (λ step. at_server sheet_step words.entry ≡ Some (step_of step))) }
+    ensures { IfOk result (λ found. MatchOption found (at_server sheet_step words.entry ≡ None)
+        (λ step. at_server sheet_step words.entry ≡ Some (step_of step))) }
 {
     let Some(server) = words.server() else {
         return Ok(None);
@@ -134,7 +139,8 @@ fn sheet(alloc: Global, mut words: Words<'_>) -> Result<Option<Step>, AllocError
 }
 
 fn calendar(alloc: Global, mut words: Words<'_>) -> Result<Option<Step>, AllocError>
-    ensures { IfOk result (λ found. MatchOption found (at_server calendar_step words.entry ≡ None) (λ step. at_server calendar_step words.entry ≡ Some (step_of step))) }
+    ensures { IfOk result (λ found. MatchOption found (at_server calendar_step words.entry ≡ None)
+        (λ step. at_server calendar_step words.entry ≡ Some (step_of step))) }
 {
     let Some(server) = words.server() else {
         return Ok(None);
@@ -150,7 +156,8 @@ fn calendar(alloc: Global, mut words: Words<'_>) -> Result<Option<Step>, AllocEr
 }
 
 fn outcome(alloc: Global, mut words: Words<'_>) -> Result<Option<Step>, AllocError>
-    ensures { IfOk result (λ found. MatchOption found (at_server outcome_step words.entry ≡ None) (λ step. at_server outcome_step words.entry ≡ Some (step_of step))) }
+    ensures { IfOk result (λ found. MatchOption found (at_server outcome_step words.entry ≡ None)
+        (λ step. at_server outcome_step words.entry ≡ Some (step_of step))) }
 {
     let Some(server) = words.server() else {
         return Ok(None);
@@ -170,7 +177,8 @@ fn outcome(alloc: Global, mut words: Words<'_>) -> Result<Option<Step>, AllocErr
 }
 
 fn errors(alloc: Global, mut words: Words<'_>) -> Result<Option<Step>, AllocError>
-    ensures { IfOk result (λ found. MatchOption found (at_server errors_step words.entry ≡ None) (λ step. at_server errors_step words.entry ≡ Some (step_of step))) }
+    ensures { IfOk result (λ found. MatchOption found (at_server errors_step words.entry ≡ None)
+        (λ step. at_server errors_step words.entry ≡ Some (step_of step))) }
 {
     let Some(server) = words.server() else {
         return Ok(None);

@@ -20,7 +20,8 @@ pub fn run_in_memory(
     commands: &[Command],
 ) -> Result<Vec<Reply>, Refusal>
     // The headline of the replica that knows nothing yet, with no premise.
-    ensures headline { IfOk result (λ replies. (after : Tables) × KeepsHeadline (opening server primary) (map command_of commands.now) (map reply_of replies.items) after) }
+    ensures headline { IfOk result
+        (λ replies. (after : Tables) × KeepsHeadline (opening server primary) (map command_of commands.now) (map reply_of replies.items) after) }
     ensures cause { IfErr result (λ e. (e ≡ Refusal.OutOfMemory) ⊎ (e ≡ Refusal.Store)) }
 {
     let keeper = SqlKeeper::open_in_memory(alloc, server, primary)?;

@@ -1,8 +1,10 @@
 //! What command lines ask of the replica of a database, with the files read that they name.
 
-ghost use Rattle.std.specs.Prelude.{◌≡◌, IfOk};
-ghost use Rattle.mr.specs.Rehearsed.{Gives};
-ghost use Rattle.mr.specs.Tasks.{IsOrderFor};
+ghost use Rattle.std.specs.Prelude.{◌≡◌, IfOk, IsTrue};
+ghost use Rattle.mr_model.specs.Step.{Command as Asked};
+ghost use Rattle.mr_service.specs.Asked.{local_of};
+ghost use Rattle.mr.specs.Rehearsed.{GivesInput};
+ghost use Rattle.mr.specs.Tasks.{IsCommandFor, IsOrderFor, OnlyReads};
 
 use crate::files::{FileFault, open_file, read_limited};
 use mr_base::LineCount;
@@ -35,6 +37,36 @@ pub(crate) struct Order {
     pub(crate) file: Option<String>,
 }
 
+/// Whether the task asks a question, which leaves the replica as it is.
+pub(crate) fn only_reads(task: &Task) -> bool
+    ensures { IsTrue result → (command : Asked) → IsCommandFor task.now command → OnlyReads command }
+{
+    match task {
+        Task::Ask(local) => is_question(local),
+        Task::Import { .. } => false,
+        Task::Export(_) => true,
+    }
+}
+
+/// Whether the command is a question.
+fn is_question(local: &Local) -> bool
+    ensures { IsTrue result → OnlyReads (local_of local.now) }
+{
+    match local {
+        Local::Position
+        | Local::BatchFor { .. }
+        | Local::Calendar { .. }
+        | Local::Sheet { .. }
+        | Local::Outcome { .. }
+        | Local::Errors { .. } => true,
+        Local::AddRoom(_)
+        | Local::Submit(_)
+        | Local::Cancel { .. }
+        | Local::Commit(_)
+        | Local::Truncate(_) => false,
+    }
+}
+
 /// The file that the task names, to be read, where it names one.
 pub(crate) fn reader_for(rt: &HostRuntime, task: &Task) -> Result<Option<File>, FileFault> {
     let path = match task {
@@ -54,7 +86,7 @@ pub(crate) fn order_for<R: Read>(
 ) -> Result<Order, FileFault>
 where
     R: Drop,
-    ensures { IfOk result (IsOrderFor task (Gives R.remaining reader)) }
+    ensures { IfOk result (IsOrderFor task (GivesInput R.remaining reader)) }
 {
     match task {
         Task::Ask(local) => Ok(Order {
@@ -90,7 +122,7 @@ where
 fn read_all<R: Read>(alloc: Global, reader: Option<R>) -> Result<Vec<u8>, FileFault>
 where
     R: Drop,
-    ensures { IfOk result (λ bytes. Gives R.remaining reader bytes.items) }
+    ensures { IfOk result (λ bytes. GivesInput R.remaining reader bytes.items) }
 {
     match reader {
         Some(reader) => read_limited(alloc, reader),

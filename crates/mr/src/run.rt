@@ -3,8 +3,8 @@
 ghost use Rattle.std.specs.Prelude.{◌≡◌, ◌⊎◌, ℕ, List, ◌++◌, map, take, flat_map};
 ghost use Rattle.std.specs.Io.KnownBytes.{Appends};
 ghost use Rattle.mr_service.specs.Stepping.{step_of, step_reply_of};
-ghost use Rattle.mr_say.specs.Told.{no_memory_line};
-ghost use Rattle.mr.specs.Rehearsed.{step_reply_text, Prints, Rehearses, Stops, StopsIn, IsInput, bad_line};
+ghost use Rattle.mr_say.specs.CommandOutput.{no_memory_line};
+ghost use Rattle.mr.specs.Rehearsed.{step_reply_text, Prints, Rehearses, StopsRehearsing, StopsIn, IsInput, bad_line};
 
 use crate::files::{read_limited, say_fault};
 use crate::rehearsal::step_reply_text;
@@ -22,7 +22,7 @@ where
     R: Drop,
     ensures within { (result ≡ 0) ⊎ (result ≡ 1) ⊎ (result ≡ 3) }
     ensures done { result ≡ 0 → (bytes : List ℕ) × IsInput (R.remaining reader) bytes × Rehearses bytes (W.contents out.old) (W.contents out.new) }
-    ensures stopped { result ≡ 1 → (bytes : List ℕ) × IsInput (R.remaining reader) bytes × Stops bytes (W.contents out.old) (W.contents out.new) }
+    ensures stopped { result ≡ 1 → (bytes : List ℕ) × IsInput (R.remaining reader) bytes × StopsRehearsing bytes (W.contents out.old) (W.contents out.new) }
 {
     match read_limited(alloc, reader) {
         Ok(bytes) => run_script(alloc, bytes.as_slice(), out),
@@ -34,7 +34,7 @@ where
 fn run_script<W: Write>(alloc: Global, bytes: &[u8], out: &mut W) -> u8
     ensures within { (result ≡ 0) ⊎ (result ≡ 1) ⊎ (result ≡ 3) }
     ensures done { result ≡ 0 → Rehearses bytes.now (W.contents out.old) (W.contents out.new) }
-    ensures stopped { result ≡ 1 → Stops bytes.now (W.contents out.old) (W.contents out.new) }
+    ensures stopped { result ≡ 1 → StopsRehearsing bytes.now (W.contents out.old) (W.contents out.new) }
 {
     match read_script(alloc, bytes) {
         Err(ScriptFault::OutOfMemory) => say(out, NO_MEMORY, REFUSED),

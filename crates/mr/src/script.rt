@@ -3,8 +3,8 @@
 ghost use Rattle.std.specs.Prelude.{◌≡◌, MatchOption, MatchResult, IfOk, Ok, map};
 ghost use Rattle.mr_model.specs.World as model;
 ghost use Rattle.mr_service.specs.Stepping.{step_of};
-ghost use Rattle.mr.specs.Script.{is_passed_over, is_plain, IsLineOf, ReadsAs, ReadsOneWay};
-ghost use Rattle.mr.specs.Reading.{IsLineAs, IsFaultOf};
+ghost use Rattle.mr.specs.Script.{is_passed_over, is_plain, IsScriptLine, ReadsAsScript, ReadsOneWay};
+ghost use Rattle.mr.specs.ScriptRead.{IsLineAs, IsFaultOf};
 
 use crate::lines::read_step;
 use mr_service::Step;
@@ -40,7 +40,7 @@ impl<T: Drop> From<AllocFailed<T>> for ScriptFault {
 
 /// The steps that a script stands for.
 pub fn read_script(alloc: Global, bytes: &[u8]) -> Result<Vec<Step>, ScriptFault>
-    ensures { MatchResult result (λ steps. ReadsAs bytes.now (Ok (map step_of steps.items))) (IsFaultOf bytes.now) }
+    ensures { MatchResult result (λ steps. ReadsAsScript bytes.now (Ok (map step_of steps.items))) (IsFaultOf bytes.now) }
 {
     let mut steps = Vec::new(alloc);
     for (index, line) in bytes.split(|byte| *byte == b'\n').enumerate() {
@@ -98,7 +98,7 @@ fn is_plain(line: &[u8]) -> bool
 
 /// The step that the line stands for, if it is of the table.
 fn read_line(alloc: Global, line: &[u8]) -> Result<Option<Step>, AllocError>
-    ensures { IfOk result (λ found. MatchOption found ((step : model.Step) → ¬ IsLineOf line.now step) (λ step. IsLineOf line.now (step_of step))) }
+    ensures { IfOk result (λ found. MatchOption found ((step : model.Step) → ¬ IsScriptLine line.now step) (λ step. IsScriptLine line.now (step_of step))) }
 {
     if !is_plain(line) {
         return Ok(None);

@@ -3,7 +3,7 @@ ghost use Rattle.std.specs.List.{list_all};
 ghost use Rattle.mr_model.specs.Texts.{is_space};
 ghost use Rattle.mr_service.specs.Asked.{words_of, submission_of};
 ghost use Rattle.mr.specs.Script.{is_word};
-ghost use Rattle.mr.specs.LineSteps.{cut, cut_server, cut_batch, length_in, cut_slot, cut_slots, number_of_slots, booking_in};
+ghost use Rattle.mr.specs.LineSteps.{cut_first_word, cut_server, cut_batch, byte_count_in, cut_slot, cut_slots, number_of_slots, submission_cut};
 
 use mr_base::{ServerId, read_number};
 use mr_service::{SlotWords, Submission};
@@ -32,7 +32,7 @@ impl<'a> Words<'a> {
 
     /// The next word, where a space follows it. Where there is none, what is left is not read any more.
     pub(crate) fn next(&mut self) -> Option<&'a str>
-        ensures { MatchOption result (cut self.old ≡ None) (λ word. cut self.old ≡ Some (word.now, self.new)) }
+        ensures { MatchOption result (cut_first_word self.old ≡ None) (λ word. cut_first_word self.old ≡ Some (word.now, self.new)) }
     {
         match self.rest.split_once(' ') {
             None => None,
@@ -110,8 +110,8 @@ impl<'a> Words<'a> {
 
     /// A request, whose title is all that is left.
     pub(crate) fn booking(mut self, alloc: Global) -> Result<Option<Submission>, AllocError>
-        ensures { IfOk result (λ found. MatchOption found (booking_in self.entry ≡ None)
-            (λ booking. booking_in self.entry ≡ Some (submission_of booking))) }
+        ensures { IfOk result (λ found. MatchOption found (submission_cut self.entry ≡ None)
+            (λ booking. submission_cut self.entry ≡ Some (submission_of booking))) }
     {
         let Some(room) = self.next() else {
             return Ok(None);
@@ -153,7 +153,7 @@ fn has_no_space(text: &[u8]) -> bool
 
 /// The number of bytes that the text writes; `all` is more than any batch has.
 pub(crate) fn read_length(text: &str) -> Option<u64>
-    ensures { result ≡ length_in text.now }
+    ensures { result ≡ byte_count_in text.now }
 {
     if text == "all" {
         return Some(u64::MAX);

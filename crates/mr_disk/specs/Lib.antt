@@ -1,2 +1,3 @@
 -- A reader of the contracts trusts all of these.
 pub mod Sparing
+pub mod Copied

@@ -5,8 +5,10 @@
 //! that they were synced before; here that is known, so that a file which nobody writes isn't synced again.
 #![tactic(auto)]
 
+mod copies;
 mod files;
 mod sparing;
 
+pub use copies::{Copied, copy_of};
 pub use files::{SparingFile, open};
 pub use sparing::Sparing;

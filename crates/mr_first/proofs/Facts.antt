@@ -24,13 +24,13 @@ use Rattle.mr_model.specs.First.{WriteRow, UndoRow}
 use Rattle.mr_tables.proofs.Putting.{id_order, number_order}
 use Rattle.mr_rows.specs.Meaning.{passes}
 use Rattle.mr_rows.specs.Schema.{our_schema, first_schema}
-use Rattle.mr_rows.specs.Cells.{place_number}
+use Rattle.mr_rows.specs.RowCells.{place_number}
 use Rattle.mr_rows.specs.Form.{Form, room_form, vector_form, booking_form, error_form}
 use Rattle.mr_rows.proofs.Texts.{put_meta_terms, meta_key_tests}
 use Rattle.mr_rows.proofs.ValueLemmas.{equal_nat, equal_apart, and_true, id_test, among_one, one_among, clash_one, clash_two, cast_null, cast_int}
 use Rattle.mr_rows.proofs.TableLemmas.{Facts}
 use Rattle.mr_rows.proofs.TableFacts as ours
-use Rattle.mr_first.specs.Cells.{write_in, undo_in}
+use Rattle.mr_first.specs.FirstCells.{write_in, undo_in}
 use Rattle.mr_first.specs.Forms.{first_meta_form, write_form, undo_form}
 use Rattle.mr_first.proofs.Texts.{put_write_terms, write_key_tests, put_undo_terms, undo_key_tests}
 

@@ -12,8 +12,8 @@ use Rattle.mr_rows.specs.Shelf.{HasShelves}
 use Rattle.mr_rows.specs.Form.{room_form, vector_form, booking_form, error_form}
 use Rattle.mr_rows.proofs.FoundLemmas.{Ruled, held, equal_numbers, equal_texts, ids_agree}
 use Rattle.mr_first.specs.Forms.{first_meta_form, write_form, undo_form}
-use Rattle.mr_first.specs.Kept.{IsFirst}
-use Rattle.mr_first.specs.Shown.{AreFirstRows}
+use Rattle.mr_first.specs.FirstDatabase.{IsFirst}
+use Rattle.mr_first.specs.FirstShown.{AreFirstRows}
 
 -- ---- what is computed of each table
 

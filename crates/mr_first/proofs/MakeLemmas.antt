@@ -15,11 +15,11 @@ use Rattle.sqlite.specs.State.{State, HasCleanDisk, Survives, Writes, ExecutesIn
 use Rattle.sqlite.proofs.Callers.{IsPlain, command_of, statement_of, runs_as}
 use Rattle.mr_rows.specs.Schema.{first_schema, with_log, with_cancelled, log_text, cancelled_text, cancel_text, log_table, cancelled_table, cancel_table}
 use Rattle.mr_rows.specs.Form.{Form, meta_form, room_form, vector_form, log_form, booking_form, error_form, cancelled_form, cancel_form}
-use Rattle.mr_rows.specs.Kept.{IsHeld, IsStep, first_meta, in_order, tables_in}
+use Rattle.mr_rows.specs.Database.{IsHeld, IsTablesStep, first_meta, in_order, tables_in}
 use Rattle.mr_rows.proofs.FormLemmas.{went, same_value}
 use Rattle.mr_rows.proofs.StepLemmas.{clean_before}
-use Rattle.mr_first.specs.Kept.{IsFirst, first_in}
-use Rattle.mr_first.specs.Steps.{IsExtended, IsWidened, IsEmptied, laid_out}
+use Rattle.mr_first.specs.FirstDatabase.{IsFirst, first_in}
+use Rattle.mr_first.specs.MoveUpSteps.{IsExtended, IsWidened, IsEmptied, laid_out}
 
 -- a text that makes a table under a schema
 abbrev MakesTable : Schema → List ℕ → Table → Type 0
@@ -101,7 +101,7 @@ widens a b c d to_c to_d log cancelled cancel clean within first =
 pub held_none : {R K : Type 0} (f : Form R K) → IsHeld f []
 held_none f = record { shelf = record { rise = tt; keyed = tt }; whole = tt; apart = tt }
 
-pub lays_out : (a b c : State) → IsFirst a.now → IsEmptied a b → IsWidened b c → IsStep a c (laid_out (first_in a.now.trees))
+pub lays_out : (a b c : State) → IsFirst a.now → IsEmptied a b → IsWidened b c → IsTablesStep a c (laid_out (first_in a.now.trees))
 unfolding tables_in first_in
 lays_out a b c first e w =
     let rows = w.rows in

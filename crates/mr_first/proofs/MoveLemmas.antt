@@ -7,10 +7,10 @@ use Rattle.sqlite.specs.State.{State, HasCleanDisk, Survives}
 use Rattle.sqlite.proofs.StateLemmas.{survives_then}
 use Rattle.mr_model.specs.Tables.{MetaRow, LogRow, Tables}
 use Rattle.mr_model.specs.First.{moved, moved_log}
-use Rattle.mr_rows.specs.Kept.{IsApplied}
-use Rattle.mr_first.specs.Kept.{IsKeptFirst, ReadsFirst, first_in}
-use Rattle.mr_first.specs.Moves.{MovesTo, IsMoved}
-use Rattle.mr_first.specs.Steps.{filled}
+use Rattle.mr_rows.specs.Database.{IsApplied}
+use Rattle.mr_first.specs.FirstDatabase.{IsKeptFirst, ReadsFirst, first_in}
+use Rattle.mr_first.specs.MovedUp.{MovesTo, IsMoved}
+use Rattle.mr_first.specs.MoveUpSteps.{filled}
 use Rattle.mr_first.proofs.ReadLemmas.{still_kept}
 use Rattle.mr_first.proofs.PairLemmas.{filled_is}
 

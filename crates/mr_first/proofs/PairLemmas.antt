@@ -13,11 +13,11 @@ use Rattle.mr_model.proofs.Members.{find_one, all_has, has_all}
 use Rattle.mr_tables.specs.Change.{put_all, id_before, log_id}
 use Rattle.mr_tables.proofs.Putting.{IsOrder, InOrder, OneAKey, one_a_key, id_order, in_order_same}
 use Rattle.mr_rows.proofs.KeyOrder.{Apart, ordered_in_order, ordered_has, has_ordered}
-use Rattle.mr_first.specs.Cells.{write_in, undo_in}
+use Rattle.mr_first.specs.FirstCells.{write_in, undo_in}
 use Rattle.mr_first.specs.Forms.{write_id, undo_id}
-use Rattle.mr_first.specs.Kept.{first_in}
-use Rattle.mr_first.specs.Moves.{ArePaired}
-use Rattle.mr_first.specs.Steps.{filled}
+use Rattle.mr_first.specs.FirstDatabase.{first_in}
+use Rattle.mr_first.specs.MovedUp.{ArePaired}
+use Rattle.mr_first.specs.MoveUpSteps.{filled}
 
 -- ---- pairs
 

@@ -13,10 +13,10 @@ use Rattle.mr_tables.specs.SoundRows.{Rise}
 use Rattle.mr_tables.proofs.Putting.{IsOrder, InOrder, id_order, number_order, name_order}
 use Rattle.mr_rows.specs.Schema.{first_schema}
 use Rattle.mr_rows.specs.Form.{room_form, vector_form, booking_form, error_form}
-use Rattle.mr_rows.specs.Kept.{IsHeld, first_meta, in_order}
+use Rattle.mr_rows.specs.Database.{IsHeld, first_meta, in_order}
 use Rattle.mr_first.specs.Forms.{write_id, undo_id, first_meta_form, write_form, undo_form}
-use Rattle.mr_first.specs.Kept.{IsFirst, first_in}
-use Rattle.mr_first.specs.Parts.{tables_put, no_first_tables, AreKeysRising}
+use Rattle.mr_first.specs.FirstDatabase.{IsFirst, first_in}
+use Rattle.mr_first.specs.FirstParts.{tables_put, no_first_tables, AreKeysRising}
 use Rattle.mr_first.proofs.MakeLemmas.{held_none}
 use Rattle.mr_first.proofs.PairLemmas.{put_into_empty}
 

@@ -19,10 +19,10 @@ use Rattle.mr_model.specs.Tables.{MetaRow}
 use Rattle.mr_model.specs.First.{WriteRow, UndoRow}
 use Rattle.mr_tables.specs.Change.{id_before, put_all}
 use Rattle.mr_tables.proofs.Putting.{id_order}
-use Rattle.mr_rows.specs.Cells.{meta_in}
+use Rattle.mr_rows.specs.RowCells.{meta_in}
 use Rattle.mr_rows.specs.Schema.{first_schema}
 use Rattle.mr_rows.specs.Form.{Form}
-use Rattle.mr_rows.specs.Kept.{IsHeld, in_order, tables_in}
+use Rattle.mr_rows.specs.Database.{IsHeld, in_order, tables_in}
 use Rattle.mr_rows.specs.Shown.{columns_from, IsShownAs, AreStoredAs, IsMeta, listed}
 use Rattle.mr_rows.specs.Reads.{IsPlacedIn, first_of}
 use Rattle.mr_rows.proofs.KeyOrder.{ordered_same, ordered_in_order}
@@ -31,9 +31,9 @@ use Rattle.mr_rows.proofs.SortLemmas.{table_is, rising, id_less}
 use Rattle.mr_rows.proofs.FirstLemmas.{meta_is}
 use Rattle.mr_rows.proofs.FoundLemmas.{stored_so, meta_is_found}
 use Rattle.mr_rows.proofs.QueryLemmas.{told_where, made_where, then_where}
-use Rattle.mr_first.specs.Cells.{write_in, undo_in}
+use Rattle.mr_first.specs.FirstCells.{write_in, undo_in}
 use Rattle.mr_first.specs.Forms.{write_id, undo_id, first_meta_form, write_form, undo_form}
-use Rattle.mr_first.specs.Kept.{IsFirst, IsKeptFirst, ReadsFirst, LooksFirst, first_in}
+use Rattle.mr_first.specs.FirstDatabase.{IsFirst, IsKeptFirst, ReadsFirst, LooksFirst, first_in}
 use Rattle.mr_first.proofs.Facts.{meta_facts, write_facts, undo_facts}
 
 -- ---- looks and reads

@@ -17,8 +17,8 @@ use Rattle.mr_rows.proofs.TableLemmas.{puts}
 use Rattle.mr_rows.proofs.TableFacts as ours
 use Rattle.mr_rows.proofs.StatementLemmas.{keeps_any, first_put, placed, booking_back, error_back}
 use Rattle.mr_first.specs.Forms.{first_meta_form, write_form, undo_form}
-use Rattle.mr_first.specs.Kept.{IsFirst, IsFirstStep, MakesFirst, first_in}
-use Rattle.mr_first.specs.Parts.{put_meta, put_rooms, put_vector, put_writes, put_undo, put_bookings, put_errors}
+use Rattle.mr_first.specs.FirstDatabase.{IsFirst, IsFirstStep, MakesFirst, first_in}
+use Rattle.mr_first.specs.FirstParts.{put_meta, put_rooms, put_vector, put_writes, put_undo, put_bookings, put_errors}
 use Rattle.mr_first.proofs.Texts.{put_meta_is, put_room_is, put_vector_is, put_write_text, put_write_is, put_undo_text, put_undo_is, put_booking_is, put_error_is}
 use Rattle.mr_first.proofs.Facts.{meta_facts, room_facts, vector_facts, write_facts, undo_facts, booking_facts, error_facts}
 use Rattle.mr_first.proofs.Steps.{meta_step, room_step, vector_step, write_step, undo_step, booking_step, error_step}

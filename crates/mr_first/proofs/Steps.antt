@@ -9,11 +9,11 @@ use Rattle.mr_model.specs.Tables.{MetaRow, VectorRow, BookingRow, ErrorRow}
 use Rattle.mr_model.specs.First.{WriteRow, UndoRow, FirstTables}
 use Rattle.mr_rows.specs.Schema.{first_schema}
 use Rattle.mr_rows.specs.Form.{Form, room_form, vector_form, booking_form, error_form}
-use Rattle.mr_rows.specs.Kept.{IsHeld, first_meta, in_order}
+use Rattle.mr_rows.specs.Database.{IsHeld, first_meta, in_order}
 use Rattle.mr_rows.proofs.TableLemmas.{overlaid, Turns}
 use Rattle.mr_rows.proofs.StepLemmas.{none_of, keeps_then, clean_before}
 use Rattle.mr_first.specs.Forms.{first_meta_form, write_form, undo_form}
-use Rattle.mr_first.specs.Kept.{AreHeldFirst, IsFirst, IsFirstStep, IsAskedFirst, IsFirstUnderWay, first_in}
+use Rattle.mr_first.specs.FirstDatabase.{AreHeldFirst, IsFirst, IsFirstStep, IsAskedFirst, IsFirstUnderWay, first_in}
 
 -- ---- the tables lie in trees that are no indexes
 

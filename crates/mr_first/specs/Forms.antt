@@ -5,9 +5,9 @@ use Rattle.mr_model.specs.Tables.{MetaRow}
 use Rattle.mr_model.specs.First.{WriteRow, UndoRow}
 use Rattle.mr_tables.specs.Change.{id_before}
 use Rattle.mr_rows.specs.Schema.{meta_table, write_log_table, undo_table}
-use Rattle.mr_rows.specs.Cells.{meta_in}
+use Rattle.mr_rows.specs.RowCells.{meta_in}
 use Rattle.mr_rows.specs.Form.{Form}
-use Rattle.mr_first.specs.Cells.{first_meta_cells, write_cells, write_in, undo_cells, undo_in}
+use Rattle.mr_first.specs.FirstCells.{first_meta_cells, write_cells, write_in, undo_cells, undo_in}
 
 abbrev pub write_id : WriteRow → Id
 write_id row = record { server = row.server; n = row.n }

@@ -1,8 +1,8 @@
--- A reader of the contracts trusts all of these but Steps and Shown, which serve private clauses and proofs.
-pub mod Cells
+-- A reader of the contracts trusts all of these but MoveUpSteps and FirstShown, which serve private clauses and proofs.
+pub mod FirstCells
 pub mod Forms
-pub mod Kept
-pub mod Parts
-pub mod Shown
-pub mod Moves
-pub mod Steps
+pub mod FirstDatabase
+pub mod FirstParts
+pub mod FirstShown
+pub mod MovedUp
+pub mod MoveUpSteps

@@ -3,7 +3,7 @@ ghost use Rattle.sqlite_value.specs.declared.value.Value.TheVariants.{Int};
 ghost use Rattle.sqlite_value.specs.Order.{column};
 ghost use Rattle.mr_model.specs.Replay.{Taken, Done, Void};
 ghost use Rattle.mr_replay.specs.Places.{place_of};
-ghost use Rattle.mr_rows.specs.Cells.{whole_of, place_in, place_number};
+ghost use Rattle.mr_rows.specs.RowCells.{whole_of, place_in, place_number};
 
 use mr_replay::Place;
 use mr_rows::cells::read_place;

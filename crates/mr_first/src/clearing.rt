@@ -1,8 +1,8 @@
 ghost use Rattle.std.specs.Prelude.{◌≡◌, IsTrue, OnOk};
 ghost use Rattle.sqlite.specs.State.{HasCleanDisk, KeepsCommit, Survives};
 ghost use Rattle.sqlite.specs.Held.{state};
-ghost use Rattle.mr_first.specs.Kept.{IsFirst};
-ghost use Rattle.mr_first.specs.Steps.{Clears, IsEmptied};
+ghost use Rattle.mr_first.specs.FirstDatabase.{IsFirst};
+ghost use Rattle.mr_first.specs.MoveUpSteps.{Clears, IsEmptied};
 
 use sqlite::{Alter, Error, Transaction};
 
@@ -36,7 +36,8 @@ fn clear_undo<S: Alter>(tx: &mut Transaction<'_, S>) -> Result<usize, Error>
 /// Takes all rows away from those tables that the second schema has other rows for, or none.
 pub(crate) fn clear_old<S: Alter>(tx: &mut Transaction<'_, S>) -> Result<(), Error>
     ensures same_reference { tx.new.conn.ghost_name ≡ tx.old.conn.ghost_name }
-    ensures emptied { HasCleanDisk (state S.Store tx.new.conn.now) → IsTrue (state S.Store tx.old.conn.now).in_transaction → IsFirst (state S.Store tx.old.conn.now).now
+    ensures emptied { HasCleanDisk (state S.Store tx.new.conn.now) → IsTrue (state S.Store tx.old.conn.now).in_transaction
+        → IsFirst (state S.Store tx.old.conn.now).now
         → OnOk result (IsEmptied (state S.Store tx.old.conn.now) (state S.Store tx.new.conn.now)) }
     ensures kept { HasCleanDisk (state S.Store tx.new.conn.now) → KeepsCommit (state S.Store tx.old.conn.now) (state S.Store tx.new.conn.now) }
     ensures survives { Survives (state S.Store tx.old.conn.now) (state S.Store tx.new.conn.now) (λ _. ⊥) }

@@ -2,7 +2,7 @@ ghost use Rattle.std.specs.Prelude.{◌≡◌};
 ghost use Rattle.sqlite.specs.State.{HasCleanDisk, KeepsCommit, Survives};
 ghost use Rattle.sqlite.specs.Held.{state};
 ghost use Rattle.mr_rows.specs.Schema.{first_schema, with_log, with_cancelled, log_table, cancelled_table, cancel_table};
-ghost use Rattle.mr_first.specs.Steps.{Extends, Widens};
+ghost use Rattle.mr_first.specs.MoveUpSteps.{Extends, Widens};
 
 use sqlite::{Alter, Error, Transaction};
 

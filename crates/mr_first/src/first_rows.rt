@@ -9,8 +9,8 @@ ghost use Rattle.mr_model.specs.First.{FirstTables};
 ghost use Rattle.mr_tables.specs.Change.{id_before};
 ghost use Rattle.mr_rows.specs.Form.{Form, room_form, vector_form, booking_form, error_form};
 ghost use Rattle.mr_rows.specs.Shown.{columns_from, IsShownAs, IsStoredAs};
-ghost use Rattle.mr_first.specs.Kept.{MakesFirst, LooksFirst, first_in};
-ghost use Rattle.mr_first.specs.Parts.{put_rooms, put_vector, put_bookings, put_errors};
+ghost use Rattle.mr_first.specs.FirstDatabase.{MakesFirst, LooksFirst, first_in};
+ghost use Rattle.mr_first.specs.FirstParts.{put_rooms, put_vector, put_bookings, put_errors};
 
 use crate::puts::{put_booking_cells, put_error_cells};
 use crate::queries::ask_first;
@@ -45,12 +45,14 @@ pub trait FirstRow: Drop {
     fn select_all<S: Alter>(conn: &mut Connection<S>) -> Result<Vec<Row>, Error>
         requires autocommit { conn.old.in_transaction ≡ false }
         ensures autocommit { conn.new.in_transaction ≡ false }
-        ensures looks { LooksFirst (state S.Store conn.old) (state S.Store conn.new) result (λ rows. IsPermutation (map (columns_from 1 (length form.table.columns)) ((state S.Store conn.old).now.trees form.table.tree)) rows.items) };
+        ensures looks { LooksFirst (state S.Store conn.old) (state S.Store conn.new) result
+            (λ rows. IsPermutation (map (columns_from 1 (length form.table.columns)) ((state S.Store conn.old).now.trees form.table.tree)) rows.items) };
 
     /// Puts the row in place of the one with its key, if there is one.
     fn put<S: Alter>(&self, tx: &mut Transaction<'_, S>, alloc: Global) -> Result<usize, Error>
         ensures same_reference { tx.new.conn.ghost_name ≡ tx.old.conn.ghost_name }
-        ensures put { MakesFirst (state S.Store tx.old.conn.now) (state S.Store tx.new.conn.now) (put_in (self.now ∷ []) (first_in (state S.Store tx.old.conn.now).now.trees)) result }
+        ensures put { MakesFirst (state S.Store tx.old.conn.now) (state S.Store tx.new.conn.now)
+            (put_in (self.now ∷ []) (first_in (state S.Store tx.old.conn.now).now.trees)) result }
         ensures survives { Survives (state S.Store tx.old.conn.now) (state S.Store tx.new.conn.now) (λ _. ⊥) };
 
     // what holds of the columns that a query shows holds of the stored row

@@ -4,8 +4,8 @@ ghost use Rattle.sqlite.specs.Held.{state};
 ghost use Rattle.mr_rows.specs.Form.{room_form, vector_form, booking_form, error_form};
 ghost use Rattle.mr_rows.specs.Shown.{IsShownAs, AreStoredAs, IsMeta};
 ghost use Rattle.mr_first.specs.Forms.{first_meta_form, write_form, undo_form};
-ghost use Rattle.mr_first.specs.Kept.{LooksFirst};
-ghost use Rattle.mr_first.specs.Shown.{AreFirstRows};
+ghost use Rattle.mr_first.specs.FirstDatabase.{LooksFirst};
+ghost use Rattle.mr_first.specs.FirstShown.{AreFirstRows};
 
 use crate::first_rows::FirstRow;
 use crate::meta_row::only_meta;
@@ -21,7 +21,8 @@ use std::alloc::Global;
 fn find_meta<S: Alter>(conn: &mut Connection<S>) -> Result<Option<MetaRow>, Error>
     requires autocommit { conn.old.in_transaction ≡ false }
     ensures autocommit { conn.new.in_transaction ≡ false }
-    ensures looks { LooksFirst (state S.Store conn.old) (state S.Store conn.new) result (λ m. AreStoredAs first_meta_form (state S.Store conn.old).now.trees × IsMeta (state S.Store conn.old).now.trees m) }
+    ensures looks { LooksFirst (state S.Store conn.old) (state S.Store conn.new) result
+        (λ m. AreStoredAs first_meta_form (state S.Store conn.old).now.trees × IsMeta (state S.Store conn.old).now.trees m) }
 {
     let rows = select_all_meta(conn)?;
     only_meta(&rows)
@@ -52,7 +53,8 @@ fn find_two<A: FirstRow, B: FirstRow, S: Alter>(
 ) -> Result<(), Error>
     requires autocommit { conn.old.in_transaction ≡ false }
     ensures autocommit { conn.new.in_transaction ≡ false }
-    ensures looks { LooksFirst (state S.Store conn.old) (state S.Store conn.new) result (λ _. AreStoredAs A.form (state S.Store conn.old).now.trees × AreStoredAs B.form (state S.Store conn.old).now.trees) }
+    ensures looks { LooksFirst (state S.Store conn.old) (state S.Store conn.new) result
+        (λ _. AreStoredAs A.form (state S.Store conn.old).now.trees × AreStoredAs B.form (state S.Store conn.old).now.trees) }
 {
     find_stored::<A, S>(conn, alloc)?;
     find_stored::<B, S>(conn, alloc)
@@ -62,7 +64,9 @@ fn find_two<A: FirstRow, B: FirstRow, S: Alter>(
 fn find_requests<S: Alter>(conn: &mut Connection<S>, alloc: Global) -> Result<(), Error>
     requires autocommit { conn.old.in_transaction ≡ false }
     ensures autocommit { conn.new.in_transaction ≡ false }
-    ensures looks { LooksFirst (state S.Store conn.old) (state S.Store conn.new) result (λ _. (AreStoredAs write_form (state S.Store conn.old).now.trees × AreStoredAs undo_form (state S.Store conn.old).now.trees) × (AreStoredAs booking_form (state S.Store conn.old).now.trees × AreStoredAs error_form (state S.Store conn.old).now.trees)) }
+    ensures looks { LooksFirst (state S.Store conn.old) (state S.Store conn.new) result
+        (λ _. (AreStoredAs write_form (state S.Store conn.old).now.trees × AreStoredAs undo_form (state S.Store conn.old).now.trees)
+        × (AreStoredAs booking_form (state S.Store conn.old).now.trees × AreStoredAs error_form (state S.Store conn.old).now.trees)) }
 {
     find_two::<WriteRow, UndoRow, S>(conn, alloc)?;
     find_two::<BookingRow, ErrorRow, S>(conn, alloc)
@@ -72,7 +76,10 @@ fn find_requests<S: Alter>(conn: &mut Connection<S>, alloc: Global) -> Result<()
 fn find_rows<S: Alter>(conn: &mut Connection<S>, alloc: Global) -> Result<(), Error>
     requires autocommit { conn.old.in_transaction ≡ false }
     ensures autocommit { conn.new.in_transaction ≡ false }
-    ensures looks { LooksFirst (state S.Store conn.old) (state S.Store conn.new) result (λ _. (AreStoredAs room_form (state S.Store conn.old).now.trees × AreStoredAs vector_form (state S.Store conn.old).now.trees) × ((AreStoredAs write_form (state S.Store conn.old).now.trees × AreStoredAs undo_form (state S.Store conn.old).now.trees) × (AreStoredAs booking_form (state S.Store conn.old).now.trees × AreStoredAs error_form (state S.Store conn.old).now.trees))) }
+    ensures looks { LooksFirst (state S.Store conn.old) (state S.Store conn.new) result
+        (λ _. (AreStoredAs room_form (state S.Store conn.old).now.trees × AreStoredAs vector_form (state S.Store conn.old).now.trees)
+        × ((AreStoredAs write_form (state S.Store conn.old).now.trees × AreStoredAs undo_form (state S.Store conn.old).now.trees)
+        × (AreStoredAs booking_form (state S.Store conn.old).now.trees × AreStoredAs error_form (state S.Store conn.old).now.trees))) }
 {
     find_two::<RoomName, VectorRow, S>(conn, alloc)?;
     find_requests(conn, alloc)
@@ -85,7 +92,8 @@ pub fn find_first<S: Alter>(
 ) -> Result<Option<MetaRow>, Error>
     requires autocommit { conn.old.in_transaction ≡ false }
     ensures autocommit { conn.new.in_transaction ≡ false }
-    ensures looks { LooksFirst (state S.Store conn.old) (state S.Store conn.new) result (λ m. AreFirstRows (state S.Store conn.old).now.trees × IsMeta (state S.Store conn.old).now.trees m) }
+    ensures looks { LooksFirst (state S.Store conn.old) (state S.Store conn.new) result
+        (λ m. AreFirstRows (state S.Store conn.old).now.trees × IsMeta (state S.Store conn.old).now.trees m) }
 {
     find_rows(conn, alloc)?;
     find_meta(conn)

@@ -5,12 +5,12 @@ ghost use Rattle.sqlite_value.specs.Order.{column, bytes};
 ghost use Rattle.sqlite.specs.Held.{state};
 ghost use Rattle.mr_model.specs.Writes.{Id};
 ghost use Rattle.mr_base.specs.Ids.{id_cmp};
-ghost use Rattle.mr_rows.specs.Cells.{nat_of};
+ghost use Rattle.mr_rows.specs.RowCells.{nat_of};
 ghost use Rattle.mr_rows.specs.Shown.{columns_from};
-ghost use Rattle.mr_first.specs.Cells.{write_in, undo_in};
+ghost use Rattle.mr_first.specs.FirstCells.{write_in, undo_in};
 ghost use Rattle.mr_first.specs.Forms.{write_id, undo_id, write_form, undo_form};
-ghost use Rattle.mr_first.specs.Kept.{ReadsFirst, first_in};
-ghost use Rattle.mr_first.specs.Parts.{put_writes, put_undo};
+ghost use Rattle.mr_first.specs.FirstDatabase.{ReadsFirst, first_in};
+ghost use Rattle.mr_first.specs.FirstParts.{put_writes, put_undo};
 
 use crate::cells::read_first_place;
 use crate::first_rows::{FirstRow, is_id_before};
@@ -88,7 +88,8 @@ impl FirstRow for WriteRow {
 
 /// The meeting in the columns 4 to 6 of a row of `write_log`.
 fn read_meeting(alloc: Global, row: &Row) -> Result<MeetingCells, Error>
-    ensures meeting { IfOk result (λ m. m ≡ record { length = nat_of (column row.now 4); choices = bytes (column row.now 5); title = bytes (column row.now 6) }) }
+    ensures meeting { IfOk result
+        (λ m. m ≡ record { length = nat_of (column row.now 4); choices = bytes (column row.now 5); title = bytes (column row.now 6) }) }
     ensures cells { IfOk result (λ m. Int (pos m.length) ∷ Text m.choices ∷ Text m.title ∷ [] ≡ columns_from 4 3 row.now) }
 {
     let length = read_u32(row, 4)?;
@@ -193,7 +194,8 @@ pub(crate) fn all_writes<S: Alter>(
 ) -> Result<Vec<WriteRow>, Error>
     requires autocommit { conn.old.in_transaction ≡ false }
     ensures autocommit { conn.new.in_transaction ≡ false }
-    ensures reads { ReadsFirst (state S.Store conn.old) (state S.Store conn.new) result (λ rows. rows.items ≡ (first_in (state S.Store conn.old).now.trees).write_log) }
+    ensures reads { ReadsFirst (state S.Store conn.old) (state S.Store conn.new) result
+        (λ rows. rows.items ≡ (first_in (state S.Store conn.old).now.trees).write_log) }
 {
     let rows = WriteRow::select_all(conn)?;
     ordered_writes(alloc, &rows)
@@ -206,7 +208,8 @@ pub(crate) fn all_undo<S: Alter>(
 ) -> Result<Vec<UndoRow>, Error>
     requires autocommit { conn.old.in_transaction ≡ false }
     ensures autocommit { conn.new.in_transaction ≡ false }
-    ensures reads { ReadsFirst (state S.Store conn.old) (state S.Store conn.new) result (λ rows. rows.items ≡ (first_in (state S.Store conn.old).now.trees).undo) }
+    ensures reads { ReadsFirst (state S.Store conn.old) (state S.Store conn.new) result
+        (λ rows. rows.items ≡ (first_in (state S.Store conn.old).now.trees).undo) }
 {
     let rows = UndoRow::select_all(conn)?;
     ordered_undo(alloc, &rows)

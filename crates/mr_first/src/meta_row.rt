@@ -2,12 +2,12 @@ ghost use Rattle.std.specs.Prelude.{◌≡◌, ◌∷◌, false, map, IfOk, OnOk
 ghost use Rattle.std.specs.List.{All};
 ghost use Rattle.sqlite_value.specs.declared.value.Value.TheVariants.{Null};
 ghost use Rattle.sqlite.specs.Held.{state};
-ghost use Rattle.mr_rows.specs.Cells.{meta_in};
+ghost use Rattle.mr_rows.specs.RowCells.{meta_in};
 ghost use Rattle.mr_rows.specs.Reads.{first_of};
 ghost use Rattle.mr_rows.specs.Shown.{columns_from, IsShownAs, listed};
-ghost use Rattle.mr_first.specs.Cells.{first_meta_cells};
+ghost use Rattle.mr_first.specs.FirstCells.{first_meta_cells};
 ghost use Rattle.mr_first.specs.Forms.{first_meta_form};
-ghost use Rattle.mr_first.specs.Kept.{ReadsFirst, first_in};
+ghost use Rattle.mr_first.specs.FirstDatabase.{ReadsFirst, first_in};
 
 use crate::queries::select_all_meta;
 use mr_rows::cells::{read_server, read_u32, read_u64};

@@ -2,9 +2,9 @@ ghost use Rattle.std.specs.Prelude.{◌≡◌, false, IsTrue, OnOk};
 ghost use Rattle.sqlite.specs.State.{HasCleanDisk, KeepsCommit, Survives};
 ghost use Rattle.sqlite.specs.Held.{state};
 ghost use Rattle.mr_model.specs.First.{moved, moved_log};
-ghost use Rattle.mr_first.specs.Kept.{ReadsFirst, first_in};
-ghost use Rattle.mr_first.specs.Moves.{MovesTo, IsMoved};
-ghost use Rattle.mr_first.specs.Steps.{laid_out, filled, Rewrites};
+ghost use Rattle.mr_first.specs.FirstDatabase.{ReadsFirst, first_in};
+ghost use Rattle.mr_first.specs.MovedUp.{MovesTo, IsMoved};
+ghost use Rattle.mr_first.specs.MoveUpSteps.{laid_out, filled, Rewrites};
 
 use crate::clearing::clear_old;
 use crate::creating::create_second_rows;
@@ -25,7 +25,8 @@ fn read_logs<S: Alter>(
 ) -> Result<(Vec<WriteRow>, Vec<UndoRow>), Error>
     requires autocommit { conn.old.in_transaction ≡ false }
     ensures autocommit { conn.new.in_transaction ≡ false }
-    ensures reads { ReadsFirst (state S.Store conn.old) (state S.Store conn.new) result (λ r. (r.0.items ≡ (first_in (state S.Store conn.old).now.trees).write_log) × (r.1.items ≡ (first_in (state S.Store conn.old).now.trees).undo)) }
+    ensures reads { ReadsFirst (state S.Store conn.old) (state S.Store conn.new) result
+        (λ r. (r.0.items ≡ (first_in (state S.Store conn.old).now.trees).write_log) × (r.1.items ≡ (first_in (state S.Store conn.old).now.trees).undo)) }
 {
     let writes = all_writes(conn, alloc)?;
     let undo = all_undo(conn, alloc)?;
@@ -36,7 +37,8 @@ fn read_logs<S: Alter>(
 fn read_moved<S: Alter>(conn: &mut Connection<S>, alloc: Global) -> Result<Vec<LogRow>, Error>
     requires autocommit { conn.old.in_transaction ≡ false }
     ensures autocommit { conn.new.in_transaction ≡ false }
-    ensures reads { ReadsFirst (state S.Store conn.old) (state S.Store conn.new) result (λ rows. rows.items ≡ moved_log (first_in (state S.Store conn.old).now.trees).write_log (first_in (state S.Store conn.old).now.trees).undo) }
+    ensures reads { ReadsFirst (state S.Store conn.old) (state S.Store conn.new) result
+        (λ rows. rows.items ≡ moved_log (first_in (state S.Store conn.old).now.trees).write_log (first_in (state S.Store conn.old).now.trees).undo) }
 {
     let logs = read_logs(conn, alloc)?;
     moved_rows(alloc, &logs.0, &logs.1)
@@ -45,7 +47,8 @@ fn read_moved<S: Alter>(conn: &mut Connection<S>, alloc: Global) -> Result<Vec<L
 /// Makes the tables that the second schema has beside those of the first, with rows in none of them, nor in those that it has other rows for.
 fn lay_out<S: Alter>(tx: &mut Transaction<'_, S>) -> Result<(), Error>
     ensures same_reference { tx.new.conn.ghost_name ≡ tx.old.conn.ghost_name }
-    ensures made { Rewrites (state S.Store tx.old.conn.now) (state S.Store tx.new.conn.now) (laid_out (first_in (state S.Store tx.old.conn.now).now.trees)) result }
+    ensures made { Rewrites (state S.Store tx.old.conn.now) (state S.Store tx.new.conn.now)
+        (laid_out (first_in (state S.Store tx.old.conn.now).now.trees)) result }
     ensures kept { HasCleanDisk (state S.Store tx.new.conn.now) → KeepsCommit (state S.Store tx.old.conn.now) (state S.Store tx.new.conn.now) }
     ensures survives { Survives (state S.Store tx.old.conn.now) (state S.Store tx.new.conn.now) (λ _. ⊥) }
 {
@@ -61,7 +64,8 @@ fn fill<S: Alter>(
     log: &[LogRow],
 ) -> Result<(), Error>
     ensures same_reference { tx.new.conn.ghost_name ≡ tx.old.conn.ghost_name }
-    ensures made { Rewrites (state S.Store tx.old.conn.now) (state S.Store tx.new.conn.now) (filled meta.now log.now (first_in (state S.Store tx.old.conn.now).now.trees)) result }
+    ensures made { Rewrites (state S.Store tx.old.conn.now) (state S.Store tx.new.conn.now)
+        (filled meta.now log.now (first_in (state S.Store tx.old.conn.now).now.trees)) result }
     ensures kept { HasCleanDisk (state S.Store tx.new.conn.now) → KeepsCommit (state S.Store tx.old.conn.now) (state S.Store tx.new.conn.now) }
     ensures survives { Survives (state S.Store tx.old.conn.now) (state S.Store tx.new.conn.now) (λ _. ⊥) }
 {
@@ -81,8 +85,10 @@ fn rewrite<S: Alter>(
     requires autocommit { conn.old.in_transaction ≡ false }
     ensures autocommit { conn.new.in_transaction ≡ false }
     ensures lasts { HasCleanDisk (state S.Store conn.new) → OnOk result (IsTrue (state S.Store conn.new).is_open) }
-    ensures rewritten { MovesTo (state S.Store conn.old) (state S.Store conn.new) (filled meta.now log.now (first_in (state S.Store conn.old).now.trees)) result }
-    ensures survives { Survives (state S.Store conn.old) (state S.Store conn.new) (IsMoved (state S.Store conn.old) (filled meta.now log.now (first_in (state S.Store conn.old).now.trees))) }
+    ensures rewritten { MovesTo (state S.Store conn.old) (state S.Store conn.new)
+        (filled meta.now log.now (first_in (state S.Store conn.old).now.trees)) result }
+    ensures survives { Survives (state S.Store conn.old) (state S.Store conn.new)
+        (IsMoved (state S.Store conn.old) (filled meta.now log.now (first_in (state S.Store conn.old).now.trees))) }
 {
     let mut tx = conn.transaction();
     fill(&mut tx, alloc, meta, log)?;
@@ -98,7 +104,8 @@ pub fn move_up<S: Alter>(conn: &mut Connection<S>, alloc: Global) -> Result<(), 
     ensures autocommit { conn.new.in_transaction ≡ false }
     ensures lasts { HasCleanDisk (state S.Store conn.new) → OnOk result (IsTrue (state S.Store conn.new).is_open) }
     ensures moved { MovesTo (state S.Store conn.old) (state S.Store conn.new) (moved (first_in (state S.Store conn.old).now.trees)) result }
-    ensures survives { Survives (state S.Store conn.old) (state S.Store conn.new) (IsMoved (state S.Store conn.old) (moved (first_in (state S.Store conn.old).now.trees))) }
+    ensures survives { Survives (state S.Store conn.old) (state S.Store conn.new)
+        (IsMoved (state S.Store conn.old) (moved (first_in (state S.Store conn.old).now.trees))) }
 {
     let log = read_moved(conn, alloc)?;
     let meta = the_meta(conn)?;

@@ -2,8 +2,8 @@ ghost use Rattle.std.specs.Prelude.{◌≡◌, ◌≢◌, [], ◌∷◌, ◌++�
 ghost use Rattle.sqlite_trees.specs.Tree.{Trees};
 ghost use Rattle.mr_model.specs.First.{moved_row, moved_log};
 ghost use Rattle.mr_first.specs.Forms.{write_id, undo_id};
-ghost use Rattle.mr_first.specs.Kept.{first_in};
-ghost use Rattle.mr_first.specs.Moves.{ArePaired, LogsOfReplicasArePaired};
+ghost use Rattle.mr_first.specs.FirstDatabase.{first_in};
+ghost use Rattle.mr_first.specs.MovedUp.{ArePaired, LogsOfReplicasArePaired};
 
 use crate::rows::{UndoRow, WriteRow};
 use mr_base::Refusal;

@@ -3,8 +3,8 @@ ghost use Rattle.sqlite.specs.State.{Survives};
 ghost use Rattle.sqlite.specs.Held.{state};
 ghost use Rattle.mr_model.specs.Calendar.{is_date, date_text};
 ghost use Rattle.mr_tables.specs.SoundRows.{Rise};
-ghost use Rattle.mr_first.specs.Kept.{MakesFirst, first_in};
-ghost use Rattle.mr_first.specs.Parts.{put_meta as with_meta, put_bookings, put_errors, heads_put, logs_put, board_put, tables_put, AreKeysRising};
+ghost use Rattle.mr_first.specs.FirstDatabase.{MakesFirst, first_in};
+ghost use Rattle.mr_first.specs.FirstParts.{put_meta as with_meta, put_bookings, put_errors, heads_put, logs_put, board_put, tables_put, AreKeysRising};
 
 use crate::first_rows::FirstRow;
 use crate::rows::{UndoRow, WriteRow};
@@ -17,7 +17,8 @@ use std::alloc::Global;
 
 fn put_meta<S: Alter>(tx: &mut Transaction<'_, S>, row: &MetaRow) -> Result<usize, Error>
     ensures same_reference { tx.new.conn.ghost_name ≡ tx.old.conn.ghost_name }
-    ensures put { MakesFirst (state S.Store tx.old.conn.now) (state S.Store tx.new.conn.now) (with_meta row.now (first_in (state S.Store tx.old.conn.now).now.trees)) result }
+    ensures put { MakesFirst (state S.Store tx.old.conn.now) (state S.Store tx.new.conn.now)
+        (with_meta row.now (first_in (state S.Store tx.old.conn.now).now.trees)) result }
     ensures survives { Survives (state S.Store tx.old.conn.now) (state S.Store tx.new.conn.now) (λ _. ⊥) }
 {
     let commits = Number::new(row.commits, 4)?;
@@ -45,7 +46,8 @@ pub(crate) fn put_booking_cells<S: Alter>(
     requires day { day.now ≡ date_text row.now.day }
     requires is_date { IsTrue (is_date row.now.day) }
     ensures same_reference { tx.new.conn.ghost_name ≡ tx.old.conn.ghost_name }
-    ensures put { MakesFirst (state S.Store tx.old.conn.now) (state S.Store tx.new.conn.now) (put_bookings (row.now ∷ []) (first_in (state S.Store tx.old.conn.now).now.trees)) result }
+    ensures put { MakesFirst (state S.Store tx.old.conn.now) (state S.Store tx.new.conn.now)
+        (put_bookings (row.now ∷ []) (first_in (state S.Store tx.old.conn.now).now.trees)) result }
     ensures survives { Survives (state S.Store tx.old.conn.now) (state S.Store tx.new.conn.now) (λ _. ⊥) }
 {
     tx.execute(
@@ -71,7 +73,8 @@ pub(crate) fn put_error_cells<S: Alter>(
     requires day { day.now ≡ date_text row.now.day }
     requires is_date { IsTrue (is_date row.now.day) }
     ensures same_reference { tx.new.conn.ghost_name ≡ tx.old.conn.ghost_name }
-    ensures put { MakesFirst (state S.Store tx.old.conn.now) (state S.Store tx.new.conn.now) (put_errors (row.now ∷ []) (first_in (state S.Store tx.old.conn.now).now.trees)) result }
+    ensures put { MakesFirst (state S.Store tx.old.conn.now) (state S.Store tx.new.conn.now)
+        (put_errors (row.now ∷ []) (first_in (state S.Store tx.old.conn.now).now.trees)) result }
     ensures survives { Survives (state S.Store tx.old.conn.now) (state S.Store tx.new.conn.now) (λ _. ⊥) }
 {
     let time = Number::new(row.time, 7)?;
@@ -98,7 +101,8 @@ fn put_all<R: FirstRow, S: Alter>(
     rows: &[R],
 ) -> Result<(), Error>
     ensures same_reference { tx.new.conn.ghost_name ≡ tx.old.conn.ghost_name }
-    ensures made { MakesFirst (state S.Store tx.old.conn.now) (state S.Store tx.new.conn.now) (R.put_in rows.now (first_in (state S.Store tx.old.conn.now).now.trees)) result }
+    ensures made { MakesFirst (state S.Store tx.old.conn.now) (state S.Store tx.new.conn.now)
+        (R.put_in rows.now (first_in (state S.Store tx.old.conn.now).now.trees)) result }
     ensures survives { Survives (state S.Store tx.old.conn.now) (state S.Store tx.new.conn.now) (λ _. ⊥) }
 {
     'rows: for row in rows {
@@ -114,7 +118,8 @@ fn put_heads<S: Alter>(
     first: &First,
 ) -> Result<(), Error>
     ensures same_reference { tx.new.conn.ghost_name ≡ tx.old.conn.ghost_name }
-    ensures made { MakesFirst (state S.Store tx.old.conn.now) (state S.Store tx.new.conn.now) (heads_put first.now (first_in (state S.Store tx.old.conn.now).now.trees)) result }
+    ensures made { MakesFirst (state S.Store tx.old.conn.now) (state S.Store tx.new.conn.now)
+        (heads_put first.now (first_in (state S.Store tx.old.conn.now).now.trees)) result }
     ensures survives { Survives (state S.Store tx.old.conn.now) (state S.Store tx.new.conn.now) (λ _. ⊥) }
 {
     put_meta(tx, &first.meta)?;
@@ -129,7 +134,8 @@ fn put_logs<S: Alter>(
     first: &First,
 ) -> Result<(), Error>
     ensures same_reference { tx.new.conn.ghost_name ≡ tx.old.conn.ghost_name }
-    ensures made { MakesFirst (state S.Store tx.old.conn.now) (state S.Store tx.new.conn.now) (logs_put first.now (first_in (state S.Store tx.old.conn.now).now.trees)) result }
+    ensures made { MakesFirst (state S.Store tx.old.conn.now) (state S.Store tx.new.conn.now)
+        (logs_put first.now (first_in (state S.Store tx.old.conn.now).now.trees)) result }
     ensures survives { Survives (state S.Store tx.old.conn.now) (state S.Store tx.new.conn.now) (λ _. ⊥) }
 {
     put_all::<WriteRow, S>(tx, alloc, &first.write_log)?;
@@ -143,7 +149,8 @@ fn put_board<S: Alter>(
     first: &First,
 ) -> Result<(), Error>
     ensures same_reference { tx.new.conn.ghost_name ≡ tx.old.conn.ghost_name }
-    ensures made { MakesFirst (state S.Store tx.old.conn.now) (state S.Store tx.new.conn.now) (board_put first.now (first_in (state S.Store tx.old.conn.now).now.trees)) result }
+    ensures made { MakesFirst (state S.Store tx.old.conn.now) (state S.Store tx.new.conn.now)
+        (board_put first.now (first_in (state S.Store tx.old.conn.now).now.trees)) result }
     ensures survives { Survives (state S.Store tx.old.conn.now) (state S.Store tx.new.conn.now) (λ _. ⊥) }
 {
     put_all::<BookingRow, S>(tx, alloc, &first.booking)?;
@@ -158,7 +165,8 @@ pub fn put_tables<S: Alter>(
     first: &First,
 ) -> Result<(), Error>
     ensures same_reference { tx.new.conn.ghost_name ≡ tx.old.conn.ghost_name }
-    ensures made { MakesFirst (state S.Store tx.old.conn.now) (state S.Store tx.new.conn.now) (tables_put first.now (first_in (state S.Store tx.old.conn.now).now.trees)) result }
+    ensures made { MakesFirst (state S.Store tx.old.conn.now) (state S.Store tx.new.conn.now)
+        (tables_put first.now (first_in (state S.Store tx.old.conn.now).now.trees)) result }
     ensures survives { Survives (state S.Store tx.old.conn.now) (state S.Store tx.new.conn.now) (λ _. ⊥) }
 {
     put_heads(tx, alloc, first)?;

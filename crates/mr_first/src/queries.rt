@@ -6,7 +6,7 @@ ghost use Rattle.sqlite.specs.State.{Shown};
 ghost use Rattle.sqlite.specs.Held.{state};
 ghost use Rattle.mr_rows.specs.Schema.{first_schema};
 ghost use Rattle.mr_rows.specs.Shown.{columns_from};
-ghost use Rattle.mr_first.specs.Kept.{LooksFirst};
+ghost use Rattle.mr_first.specs.FirstDatabase.{LooksFirst};
 
 use sqlite::{Alter, Connection, Error, Row};
 
@@ -15,7 +15,8 @@ pub(crate) fn ask_first<S: Alter>(conn: &mut Connection<S>, sql: &str) -> Result
     requires autocommit { conn.old.in_transaction ≡ false }
     requires plain { IsPlain (understood first_schema sql.now) }
     ensures autocommit { conn.new.in_transaction ≡ false }
-    ensures looks { LooksFirst (state S.Store conn.old) (state S.Store conn.new) result (λ rows. Shown sql.now [] (state S.Store conn.old) (state S.Store conn.new) rows.items) }
+    ensures looks { LooksFirst (state S.Store conn.old) (state S.Store conn.new) result
+        (λ rows. Shown sql.now [] (state S.Store conn.old) (state S.Store conn.new) rows.items) }
 {
     conn.query_all(sql, &[])
 }
@@ -24,7 +25,8 @@ pub(crate) fn ask_first<S: Alter>(conn: &mut Connection<S>, sql: &str) -> Result
 pub(crate) fn select_all_meta<S: Alter>(conn: &mut Connection<S>) -> Result<Vec<Row>, Error>
     requires autocommit { conn.old.in_transaction ≡ false }
     ensures autocommit { conn.new.in_transaction ≡ false }
-    ensures looks { LooksFirst (state S.Store conn.old) (state S.Store conn.new) result (λ rows. IsPermutation (map (columns_from 1 7) ((state S.Store conn.old).now.trees 0)) rows.items) }
+    ensures looks { LooksFirst (state S.Store conn.old) (state S.Store conn.new) result
+        (λ rows. IsPermutation (map (columns_from 1 7) ((state S.Store conn.old).now.trees 0)) rows.items) }
 {
     ask_first(
         conn,

@@ -8,14 +8,14 @@ use Rattle.mr_model.specs.Step.{AskPosition}
 use Rattle.mr_base.specs.declared.batches.Ending.{Ending}
 use Rattle.mr_store.specs.declared.keeper.Keeper.{Ghosts}
 use Rattle.mr_http.specs.declared.faults.WebFault.{WebFault}
-use Rattle.mr_peer.specs.Asking.{AsksPull, AsksPush, lacking}
+use Rattle.mr_peer.specs.PeerAsking.{AsksPull, AsksPush, lacking}
 use Rattle.mr_peer.specs.Exchanged.{IsExchanged}
-use Rattle.mr_peer.specs.Steps.{TakesBody, TakesPulled}
+use Rattle.mr_peer.specs.ExchangeSteps.{TakesBody, TakesPulled}
 use Rattle.mr_net.specs.declared.ways.Way.{Way}
 use Rattle.mr_net.specs.declared.ways.Way.TheVariants.{Pull, Push}
 use Rattle.mr_net.specs.declared.ways.Round.{Round}
 use Rattle.mr_net.specs.Connections.{IsConnection, AreConnections}
-use Rattle.mr_net.specs.Rounds.{Brings, ComesTo, IsClient, IsServer}
+use Rattle.mr_net.specs.ExchangeRounds.{Brings, ComesTo, IsClient, IsServer}
 
 -- ---- the server's
 

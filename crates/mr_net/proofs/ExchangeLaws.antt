@@ -1,5 +1,5 @@
 -- How exchanges end.
-use Rattle.std.proofs.Common.{◌≡◌, ◌≢◌, refl, sym, ◌∙◌, subst, ℕ, ◌++◌, ◌⊎◌, inl, inr, Ok, Err, Option}
+use Rattle.std.proofs.Common.{◌≡◌, refl, ℕ, ◌++◌, ◌⊎◌, inl, inr, Ok, Err, Option}
 use Rattle.std.specs.Prelude.{Result}
 use Rattle.std.specs.Io.KnownBytes.{Appends}
 use Rattle.std.proofs.KnownBytes.{Appends-trans}
@@ -9,32 +9,26 @@ use Rattle.mr_base.specs.Refusals.{refusal_of}
 use Rattle.mr_store.specs.declared.keeper.Keeper.{Ghosts}
 use Rattle.mr_http.specs.declared.faults.WebFault.{WebFault}
 use Rattle.mr_http.specs.declared.faults.WebFault.TheVariants as fault
-use Rattle.mr_say.specs.Told.{no_memory_line}
+use Rattle.mr_say.specs.CommandOutput.{no_memory_line}
 use Rattle.mr_net.specs.declared.ways.Way.{Way}
 use Rattle.mr_net.specs.declared.ways.Way.TheVariants.{Pull, Push}
 use Rattle.mr_net.specs.declared.ways.Round.{Round}
 use Rattle.mr_net.specs.declared.ways.Taken.{Taken}
 use Rattle.mr_net.specs.Ways.{IsWay}
-use Rattle.mr_net.specs.Printed.{way_line, bad_address_line, Stops, IsFaultLine, IsStopOf, TellsWay, TellsBoth, IsStopText, EndsExchange, TellsBadAddress}
+use Rattle.mr_net.specs.Printed.{way_line, StopsWithText, IsFaultLine, IsStopOf, TellsWay, TellsBoth, IsStopText, EndsExchange}
 use Rattle.mr_net.specs.Bridged.{TellsBridge}
-use Rattle.mr_net.specs.Rounds.{RunsBridged}
-use Rattle.mr_net.proofs.LineLaws.{stops_with, stops_so, never_stops}
+use Rattle.mr_net.specs.ExchangeRounds.{RunsBridged}
+use Rattle.mr_net.proofs.LineLaws.{stops_so, never_stops}
 use Rattle.mr_net.proofs.WayLaws.{way_seen}
 
 -- ---- ways
 
 pub way_told : {P : Type 0} (runs : Way → P → Result Round WebFault → P → Type 0) (way : Way) (p q : P) (held holds : Option Text) (status : ℕ) (taken : Taken)
     → IsWay (runs way) p (Ok taken) q
-    → ((status ≡ 0) × Appends held holds (way_line way taken)) ⊎ Stops (λ text. text ≡ no_memory_line) held holds status
+    → ((status ≡ 0) × Appends held holds (way_line way taken)) ⊎ StopsWithText (λ text. text ≡ no_memory_line) held holds status
     → TellsWay runs way p q held holds status
 way_told runs way p q held holds status taken is (inl done) = inl (done.0, taken, is, done.1)
 way_told runs way p q held holds status taken is (inr stops) = inr (Ok taken, is, stops)
-
--- the first way is gone and told, and then the second comes out so
-pub both_ways : {P : Type 0} (runs : Way → P → Result Round WebFault → P → Type 0) (p m q : P) (held between holds : Option Text) (first second : ℕ)
-    → first ≡ 0 → TellsWay runs Pull p m held between first → TellsWay runs Push m q between holds second → TellsBoth runs p q held holds second
-both_ways {P} runs p m q held between holds first second done pulls pushes =
-    inl (m, between, subst (λ n. TellsWay runs Pull p m held between n) done pulls, pushes)
 
 -- ---- with one peer, seen as another
 
@@ -75,7 +69,7 @@ told_line runs way p q held holds (inr stops) = absurd (never_stops (IsStopOf st
 
 -- behind the line of the first way
 behind_pulled : (pulled : Taken) (result : Result Taken WebFault) (held between holds : Option Text) (status : ℕ)
-    → Appends held between (way_line Pull pulled) → Stops (IsStopOf result) between holds status → EndsExchange held holds status
+    → Appends held between (way_line Pull pulled) → StopsWithText (IsStopOf result) between holds status → EndsExchange held holds status
 behind_pulled pulled result held between holds status first (inl told) =
     inr (inr (inl (
       told.0,
@@ -119,23 +113,3 @@ refused_exchange e held holds status (inl one) told =
       | inl refusal ↦ (one, line (refusal_text e), inl (e, refl), refusal)
       | inr memory ↦ (one, no_memory_line, inr (inr refl), memory)
     ])))
-
--- memory is wanting before anything is done
-pub no_memory_exchange : (held holds : Option Text) (status : ℕ) → (status ≡ 1) ⊎ (status ≡ 3) → (status ≢ 3 → Appends held holds no_memory_line)
-    → EndsExchange held holds status
-no_memory_exchange held holds status ends told = inr (inl (stops_with IsStopText no_memory_line held holds status (inr (inr refl)) ends told))
-
--- the network fails before anything is done
-pub no_network_exchange : (held holds : Option Text) (status : ℕ) → status ≡ 3 → EndsExchange held holds status
-no_network_exchange held holds status three = inr (inl (inr three))
-
--- ---- addresses
-
-pub bad_address : (held holds : Option Text) (status : ℕ) → (status ≡ 2) ⊎ (status ≡ 3) → (status ≢ 3 → Appends held holds bad_address_line)
-    → TellsBadAddress held holds status
-bad_address held holds status (inl two) told = inl (two, told (λ three. let none : 2 ≡ 3 = sym two ∙ three in cc))
-bad_address held holds status (inr three) told = inr (inr three)
-
-pub no_memory_address : (held holds : Option Text) (status : ℕ) → (status ≡ 1) ⊎ (status ≡ 3) → (status ≢ 3 → Appends held holds no_memory_line)
-    → TellsBadAddress held holds status
-no_memory_address held holds status ends told = inr (stops_with (λ text. text ≡ no_memory_line) no_memory_line held holds status refl ends told)

@@ -2,14 +2,13 @@
 use Rattle.std.proofs.Common.{◌≡◌, ◌≢◌, refl, sym, ◌∙◌, ap, subst, ℕ, ◌+◌, ◌<◌, ◌≤◌, List, [], ◌∷◌, ◌++◌, length, ◌⊎◌, inl, inr, arith, append_assoc, append-nil}
 use Rattle.std.specs.Prelude.{Option}
 use Rattle.std.specs.Io.KnownBytes.{Appends}
-use Rattle.std.proofs.KnownBytes.{Appends-nil, Appends-trans}
+use Rattle.std.proofs.KnownBytes.{Appends-trans}
 use Rattle.std.proofs.lemmas.List.{length_push}
 use Rattle.mr_model.specs.Texts.{Text, line}
-use Rattle.mr_model.specs.Refusals.{Refusal, refusal_text}
 use Rattle.mr_store.specs.declared.keeper.Keeper.{Ghosts}
-use Rattle.mr_say.specs.Told.{no_memory_line}
+use Rattle.mr_say.specs.CommandOutput.{no_memory_line}
 use Rattle.mr_net.specs.Connections.{IsConnection, AreConnections, ServesAt, TellsServed}
-use Rattle.mr_net.specs.Printed.{Stops, connection_text, connection_lines, serving_line, EndsServing}
+use Rattle.mr_net.specs.Printed.{StopsWithText, connection_text, connection_lines, serving_line, EndsServing}
 
 -- one more connection follows on those before it
 leads_on : {K : Type 0} (keeper : Ghosts K) (p m q : K) (served : List (Option ℕ)) (last : Option ℕ)
@@ -24,9 +23,6 @@ pub record SoMany {K : Type 0} (keeper : Ghosts K) (p q : K) (count : ℕ) (held
   pub counted : length served ≡ count
   pub told : Appends held holds (connection_lines served)
 
-pub none_yet : {K : Type 0} (keeper : Ghosts K) (p : K) (held : Option Text) → SoMany keeper p p 0 held held
-none_yet keeper p held = record { served = []; led = refl; counted = refl; told = Appends-nil held }
-
 lines_more : (connections : List (Option ℕ)) (last : Option ℕ) → connection_lines (connections ++ last ∷ []) ≡ connection_lines connections ++ line (connection_text last)
 lines_more [] last = append-nil (line (connection_text last))
 lines_more (c ∷ cs) last = ap (λ t. line (connection_text c) ++ t) (lines_more cs last) ∙ sym (append_assoc (line (connection_text c)) (connection_lines cs) (line (connection_text last)))
@@ -40,13 +36,9 @@ one_more keeper p m q count last held between holds before next told = record {
   told = subst (λ t. Appends held holds t) (sym (lines_more before.served last)) (Appends-trans held between holds _ _ before.told told);
 }
 
-pub all_served : {K : Type 0} (keeper : Ghosts K) (p q : K) (count done : ℕ) (held holds : Option Text) → SoMany keeper p q done held holds → done ≡ count
-    → TellsServed keeper p q count held holds 0
-all_served keeper p q count done held holds before all = inl (refl, before.served, before.led, before.counted ∙ all, before.told)
-
 -- memory is wanting for a line, or the writer fails
 pub stopped : {K : Type 0} (keeper : Ghosts K) (p m q : K) (count done : ℕ) (last : Option ℕ) (held between holds : Option Text) (status : ℕ) → SoMany keeper p m done held between
-    → done < count → IsConnection keeper m last q → status ≢ 0 → ((status ≡ 0) × Appends between holds (line (connection_text last))) ⊎ Stops (λ text. text ≡ no_memory_line) between holds status
+    → done < count → IsConnection keeper m last q → status ≢ 0 → ((status ≡ 0) × Appends between holds (line (connection_text last))) ⊎ StopsWithText (λ text. text ≡ no_memory_line) between holds status
     → TellsServed keeper p q count held holds status
 stopped keeper p m q count done last held between holds status before room next undone (inl told) = absurd (undone told.0)
 stopped {K} keeper p m q count done last held between holds status before room next undone (inr stops) =
@@ -55,7 +47,7 @@ stopped {K} keeper p m q count done last held between holds status before room n
     within : length (before.served ++ last ∷ []) ≤ count
     within = let pushed = length_push before.served last in let counted = before.counted in omega (arith, pushed, counted, room)
 
-    behind : Stops (λ text. text ≡ no_memory_line) between holds status → Stops (λ text. text ≡ connection_lines before.served ++ no_memory_line) held holds status
+    behind : StopsWithText (λ text. text ≡ no_memory_line) between holds status → StopsWithText (λ text. text ≡ connection_lines before.served ++ no_memory_line) held holds status
     behind (inl told) =
         inl (told.0, connection_lines before.served ++ told.1, ap (λ t. connection_lines before.served ++ t) told.2, Appends-trans held between holds (connection_lines before.served) told.1 before.told told.3)
     behind (inr three) = inr three
@@ -64,12 +56,6 @@ stopped {K} keeper p m q count done last held between holds status before room n
 pub served_behind : {K : Type 0} (keeper : Ghosts K) (p q : K) (port count : ℕ) (held between holds : Option Text) (status : ℕ) → Appends held between (serving_line port)
     → TellsServed keeper p q count between holds status → ServesAt keeper p q port count held holds status
 served_behind keeper p q port count held between holds status first told = inl (between, first, told)
-
--- the line of the port isn't told
-pub untold : {K : Type 0} (keeper : Ghosts K) (p q : K) (port count : ℕ) (held holds : Option Text) (status : ℕ) → q ≡ p → status ≢ 0
-    → ((status ≡ 0) × Appends held holds (serving_line port)) ⊎ Stops (λ text. text ≡ no_memory_line) held holds status → ServesAt keeper p q port count held holds status
-untold keeper p q port count held holds status same undone (inl told) = absurd (undone told.0)
-untold keeper p q port count held holds status same undone (inr stops) = inr (same, stops)
 
 -- ---- what is printed of it
 
@@ -83,8 +69,8 @@ ends_behind keeper p q port count held between holds status first (inr stops) = 
     fewer : length stops.0 < count
     fewer = let pushed = length_push stops.0 stops.1 in let within = stops.3 in omega (arith, pushed, within)
 
-    behind : Stops (λ text. text ≡ connection_lines stops.0 ++ no_memory_line) between holds status
-        → Stops (λ text. (connections : List (Option ℕ)) × (length connections < count) × (text ≡ serving_line port ++ (connection_lines connections ++ no_memory_line))) held holds status
+    behind : StopsWithText (λ text. text ≡ connection_lines stops.0 ++ no_memory_line) between holds status
+        → StopsWithText (λ text. (connections : List (Option ℕ)) × (length connections < count) × (text ≡ serving_line port ++ (connection_lines connections ++ no_memory_line))) held holds status
     behind (inl told) =
         inl (told.0, serving_line port ++ told.1, (stops.0, fewer, ap (λ t. serving_line port ++ t) told.2), Appends-trans held between holds (serving_line port) told.1 first told.3)
     behind (inr three) = inr three
@@ -94,13 +80,6 @@ pub ends_serving : {K : Type 0} (keeper : Ghosts K) (p q : K) (port count : ℕ)
 ends_serving keeper p q port count held holds status (inl told) = ends_behind keeper p q port count held told.0 holds status told.1 told.2
 ends_serving keeper p q port count held holds status (inr unasked) = only unasked.1
   where
-    only : Stops (λ text. text ≡ no_memory_line) held holds status → EndsServing port count held holds status
+    only : StopsWithText (λ text. text ≡ no_memory_line) held holds status → EndsServing port count held holds status
     only (inl told) = inr (inl (told.0, inr (subst (λ t. Appends held holds t) told.2 told.3)))
     only (inr three) = inr (inr (inr three))
-
--- the database is refused
-pub refused_serving : (port count : ℕ) (e : Refusal) (held holds : Option Text) (status : ℕ) → (status ≡ 1) ⊎ (status ≡ 3)
-    → (status ≡ 1 → Appends held holds (line (refusal_text e)) ⊎ Appends held holds no_memory_line) → EndsServing port count held holds status
-refused_serving port count e held holds status (inr three) told = inr (inr (inr three))
-refused_serving port count e held holds status (inl one) told =
-    inr (inl (one, elim (told one) [ inl refusal ↦ inl (e, refusal) | inr memory ↦ inr memory ]))

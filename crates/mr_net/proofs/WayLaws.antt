@@ -1,9 +1,9 @@
 -- How the rounds of a way add up.
-use Rattle.std.proofs.Common.{◌≡◌, refl, sym, ap, subst, ◌∙◌, ℕ, ◌+◌, ◌<◌, true, false, List, [], ◌∷◌, ◌++◌, length, Ok, Err, inl, inr, arith}
+use Rattle.std.proofs.Common.{◌≡◌, refl, sym, ap, subst, ◌∙◌, ℕ, ◌+◌, ◌<◌, true, false, List, [], ◌∷◌, ◌++◌, length, Ok, Err, inr, arith}
 use Rattle.std.specs.Prelude.{All, Result}
 use Rattle.std.specs.List.{sum_by}
 use Rattle.std.proofs.lemmas.List.{length_push}
-use Rattle.std.proofs.lemmas.List.Elements.{All-nil, All-push}
+use Rattle.std.proofs.lemmas.List.Elements.{All-push}
 use Rattle.std.proofs.lemmas.List.Sums.{sum_by_push}
 use Rattle.mr_http.specs.declared.faults.WebFault.{WebFault}
 use Rattle.mr_net.specs.declared.ways.Round.{Round}
@@ -36,9 +36,6 @@ pub record SoFar {P : Type 0} (runs : P → Result Round WebFault → P → Type
   pub asked : All (λ r. asks_for_more r ≡ true) rounds
   pub brought : taken ≡ total rounds
 
-pub none_yet : {P : Type 0} (runs : P → Result Round WebFault → P → Type 0) (p : P) → SoFar runs p 0 (record { writes = 0; commits = 0 }) p
-none_yet runs p = record { rounds = []; led = refl; counted = refl; asked = All-nil _; brought = refl }
-
 -- a round that asks for more
 pub one_more : {P : Type 0} (runs : P → Result Round WebFault → P → Type 0) (p m q : P) (count : ℕ) (taken : Taken) (r : Round)
     → SoFar runs p count taken m → runs m (Ok r) q → asks_for_more r ≡ true → SoFar runs p (count + 1) (joined taken r) q
@@ -59,17 +56,6 @@ last_round runs p m q count taken r before room step enough = (
   inr (before.rounds, r, refl, subst (λ n. n < greatest_rounds) (sym before.counted) room, before.asked, enough),
   ap (λ t. joined t r) before.brought ∙ sym (total_more before.rounds r),
 )
-
--- the greatest number of rounds
-pub all_asked : {P : Type 0} (runs : P → Result Round WebFault → P → Type 0) (p q : P) (count : ℕ) (taken : Taken)
-    → SoFar runs p count taken q → count ≡ greatest_rounds → IsWay runs p (Ok taken) q
-all_asked runs p q count taken before most = (before.rounds, before.led, inl (before.counted ∙ most, before.asked), before.brought)
-
--- a round fails
-pub round_fails : {P : Type 0} (runs : P → Result Round WebFault → P → Type 0) (p m q : P) (count : ℕ) (taken : Taken) (f : WebFault)
-    → SoFar runs p count taken m → count < greatest_rounds → runs m (Err f) q → IsWay runs p (Err f) q
-round_fails runs p m q count taken f before room step =
-    (before.rounds, m, before.led, (subst (λ n. n < greatest_rounds) (sym before.counted) room, before.asked), step)
 
 -- ---- ways of one peer, seen as another
 

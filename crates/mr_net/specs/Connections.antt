@@ -5,18 +5,18 @@ use Rattle.std.specs.Io.KnownBytes.{Appends}
 use Rattle.mr_model.specs.Texts.{Text}
 use Rattle.mr_store.specs.declared.keeper.Keeper.{Ghosts}
 use Rattle.mr_http.specs.declared.faults.WebFault.{WebFault}
-use Rattle.mr_web.specs.Served.{IsRequest}
-use Rattle.mr_web.specs.Views.{Ends}
-use Rattle.mr_web.specs.Written.{Writes}
-use Rattle.mr_say.specs.Told.{no_memory_line}
-use Rattle.mr_net.specs.Printed.{Stops, connection_lines, serving_line}
+use Rattle.mr_web.specs.RequestServed.{IsRequest}
+use Rattle.mr_web.specs.Views.{EndsServed}
+use Rattle.mr_web.specs.RepliesWritten.{Writes}
+use Rattle.mr_say.specs.CommandOutput.{no_memory_line}
+use Rattle.mr_net.specs.Printed.{StopsWithText, connection_lines, serving_line}
 
 -- One connection: none came, and nothing was asked; or one request of some reader was served to some writer, and this is the status of its reply
 abbrev pub IsConnection : {K : Type 0} → Ghosts K → K → Option ℕ → K → Type 0
 IsConnection keeper old served new =
     ((served ≡ None) × (new ≡ old))
     ⊎ ((known held holds : Option Text) × (result : Result ℕ WebFault)
-    × IsRequest keeper old new known result (λ status. status) (Ends held holds) (Writes held holds) × (served ≡ result_ok result))
+    × IsRequest keeper old new known result (λ status. status) (EndsServed held holds) (Writes held holds) × (served ≡ result_ok result))
 
 -- the connections follow on one another, from the one keeper to the other
 abbrev pub AreConnections : {K : Type 0} → Ghosts K → K → List (Option ℕ) → K → Type 0
@@ -29,10 +29,10 @@ abbrev pub TellsServed : {K : Type 0} → Ghosts K → K → K → ℕ → Optio
 TellsServed keeper old new count held holds status =
     ((status ≡ 0) × (served : List (Option ℕ)) × AreConnections keeper old served new × (length served ≡ count) × Appends held holds (connection_lines served))
     ⊎ ((served : List (Option ℕ)) × (last : Option ℕ) × AreConnections keeper old (served ++ last ∷ []) new × (length (served ++ last ∷ []) ≤ count)
-    × Stops (λ text. text ≡ connection_lines served ++ no_memory_line) held holds status)
+    × StopsWithText (λ text. text ≡ connection_lines served ++ no_memory_line) held holds status)
 
 -- the port is printed, and behind it what is served; or nothing is asked
 abbrev pub ServesAt : {K : Type 0} → Ghosts K → K → K → ℕ → ℕ → Option Text → Option Text → ℕ → Type 0
 ServesAt keeper old new port count held holds status =
     ((between : Option Text) × Appends held between (serving_line port) × TellsServed keeper old new count between holds status)
-    ⊎ ((new ≡ old) × Stops (λ text. text ≡ no_memory_line) held holds status)
+    ⊎ ((new ≡ old) × StopsWithText (λ text. text ≡ no_memory_line) held holds status)

@@ -1,7 +1,7 @@
 -- How requests name a peer.
 use Rattle.std.specs.Prelude.{ℕ, ◌==◌, ◌++◌, if◌then◌else◌, IsTrue, codes, decimal}
 use Rattle.mr_model.specs.Texts.{Text}
-use Rattle.mr_peer.specs.Requests.{is_host}
+use Rattle.mr_peer.specs.PeerRequests.{is_host}
 use Rattle.mr_words.specs.Addresses.{IsAddress}
 
 -- the host, with its port where that isn't 80

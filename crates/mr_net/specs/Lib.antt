@@ -3,5 +3,5 @@ pub mod Bridged
 pub mod Connections
 pub mod Hosts
 pub mod Printed
-pub mod Rounds
+pub mod ExchangeRounds
 pub mod Ways

@@ -6,7 +6,7 @@ use Rattle.mr_model.specs.Refusals.{Refusal, refusal_text}
 use Rattle.mr_base.specs.Refusals.{refusal_of}
 use Rattle.mr_http.specs.declared.faults.WebFault.{WebFault}
 use Rattle.mr_http.specs.declared.faults.WebFault.TheVariants as fault
-use Rattle.mr_say.specs.Told.{no_memory_line, TellsRefusal}
+use Rattle.mr_say.specs.CommandOutput.{no_memory_line, TellsRefusal}
 use Rattle.mr_net.specs.declared.ways.Way.{Way}
 use Rattle.mr_net.specs.declared.ways.Way.TheVariants.{Pull, Push}
 use Rattle.mr_net.specs.declared.ways.Round.{Round}
@@ -31,8 +31,8 @@ abbrev pub bad_address_line : Text
 bad_address_line = line (codes "bad address")
 
 -- a text of that kind is printed (1), or there is a fault (3)
-abbrev pub Stops : (Text → Type 0) → Option Text → Option Text → ℕ → Type 0
-Stops IsText held holds status = ((status ≡ 1) × (text : Text) × IsText text × Appends held holds text) ⊎ (status ≡ 3)
+abbrev pub StopsWithText : (Text → Type 0) → Option Text → Option Text → ℕ → Type 0
+StopsWithText IsText held holds status = ((status ≡ 1) × (text : Text) × IsText text × Appends held holds text) ⊎ (status ≡ 3)
 
 -- ---- an exchange with any peer
 
@@ -54,7 +54,7 @@ IsStopOf (Err f) text = IsFaultLine f text
 abbrev pub TellsWay : {P : Type 0} → (Way → P → Result Round WebFault → P → Type 0) → Way → P → P → Option Text → Option Text → ℕ → Type 0
 TellsWay runs way p q held holds status =
     ((status ≡ 0) × (taken : Taken) × IsWay (runs way) p (Ok taken) q × Appends held holds (way_line way taken))
-    ⊎ ((result : Result Taken WebFault) × IsWay (runs way) p result q × Stops (IsStopOf result) held holds status)
+    ⊎ ((result : Result Taken WebFault) × IsWay (runs way) p result q × StopsWithText (IsStopOf result) held holds status)
 
 -- first what is lacked here is pulled and told, and then what the peer lacks is pushed and told, unless the first way stops
 abbrev pub TellsBoth : {P : Type 0} → (Way → P → Result Round WebFault → P → Type 0) → P → P → Option Text → Option Text → ℕ → Type 0
@@ -72,12 +72,12 @@ IsStopText text = ((e : Refusal) × (text ≡ line (refusal_text e))) ⊎ (((sta
 abbrev pub EndsExchange : Option Text → Option Text → ℕ → Type 0
 EndsExchange held holds status =
     ((status ≡ 0) × (pulled pushed : Taken) × Appends held holds (way_line Pull pulled ++ way_line Push pushed))
-    ⊎ (Stops IsStopText held holds status
-    ⊎ Stops (λ text. (pulled : Taken) × (stop : Text) × IsStopText stop × (text ≡ way_line Pull pulled ++ stop)) held holds status)
+    ⊎ (StopsWithText IsStopText held holds status
+    ⊎ StopsWithText (λ text. (pulled : Taken) × (stop : Text) × IsStopText stop × (text ≡ way_line Pull pulled ++ stop)) held holds status)
 
 -- the address is told to be none (2), or want of memory (1), or there is a fault (3)
 abbrev pub TellsBadAddress : Option Text → Option Text → ℕ → Type 0
-TellsBadAddress held holds status = ((status ≡ 2) × Appends held holds bad_address_line) ⊎ Stops (λ text. text ≡ no_memory_line) held holds status
+TellsBadAddress held holds status = ((status ≡ 2) × Appends held holds bad_address_line) ⊎ StopsWithText (λ text. text ≡ no_memory_line) held holds status
 
 -- ---- serving
 
@@ -92,12 +92,6 @@ connection_lines connections = lines_text (map connection_text connections)
 abbrev pub serving_line : ℕ → Text
 serving_line port = line (codes "serving 127.0.0.1:" ++ decimal port)
 
--- a line for each of this many connections is printed (0), or for fewer of them and then want of memory (1), or there is a fault (3)
-abbrev pub TellsConnections : ℕ → Option Text → Option Text → ℕ → Type 0
-TellsConnections count held holds status =
-    ((status ≡ 0) × (connections : List (Option ℕ)) × (length connections ≡ count) × Appends held holds (connection_lines connections))
-    ⊎ Stops (λ text. (connections : List (Option ℕ)) × (length connections < count) × (text ≡ connection_lines connections ++ no_memory_line)) held holds status
-
 -- the port is told, and then each of this many connections (0), or fewer and then want of memory (1); or a refusal alone (1); or there
 -- is a fault (3)
 abbrev pub EndsServing : ℕ → ℕ → Option Text → Option Text → ℕ → Type 0
@@ -105,5 +99,5 @@ EndsServing port count held holds status =
     ((status ≡ 0) × (connections : List (Option ℕ)) × (length connections ≡ count)
     × Appends held holds (serving_line port ++ connection_lines connections))
     ⊎ (((status ≡ 1) × TellsRefusal held holds)
-    ⊎ Stops (λ text. (connections : List (Option ℕ)) × (length connections < count)
+    ⊎ StopsWithText (λ text. (connections : List (Option ℕ)) × (length connections < count)
     × (text ≡ serving_line port ++ (connection_lines connections ++ no_memory_line))) held holds status)

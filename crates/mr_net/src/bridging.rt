@@ -4,16 +4,16 @@ ghost use Rattle.std.specs.Prelude.{◌≡◌, IsTrue, Option};
 ghost use Rattle.mr_model.specs.Texts.{Text};
 ghost use Rattle.mr_model.specs.Serving.{Reaches};
 ghost use Rattle.mr_model.specs.Step.{AskPosition};
-ghost use Rattle.mr_say.specs.Told.{no_memory_line};
-ghost use Rattle.mr_peer.specs.Asking.{AsksPull, AsksPush, lacking};
+ghost use Rattle.mr_say.specs.CommandOutput.{no_memory_line};
+ghost use Rattle.mr_peer.specs.PeerAsking.{AsksPull, AsksPush, lacking};
 ghost use Rattle.mr_peer.specs.Exchanged.{IsExchanged};
-ghost use Rattle.mr_peer.specs.Replies.{told_took};
-ghost use Rattle.mr_peer.specs.Requests.{is_host};
-ghost use Rattle.mr_peer.specs.Steps.{TakesBody, TakesPulled};
-ghost use Rattle.mr_peer.specs.Taking.{Tells};
+ghost use Rattle.mr_peer.specs.PeerReplies.{told_took};
+ghost use Rattle.mr_peer.specs.PeerRequests.{is_host};
+ghost use Rattle.mr_peer.specs.ExchangeSteps.{TakesBody, TakesPulled};
+ghost use Rattle.mr_peer.specs.PeerTaking.{TellsAsRead};
 ghost use Rattle.mr_net.specs.Bridged.{TellsBridge};
-ghost use Rattle.mr_net.specs.Printed.{EndsExchange, Stops};
-ghost use Rattle.mr_net.specs.Rounds.{Brings, ComesTo, IsServer, RunsBridged};
+ghost use Rattle.mr_net.specs.Printed.{EndsExchange, StopsWithText};
+ghost use Rattle.mr_net.specs.ExchangeRounds.{Brings, ComesTo, IsServer, RunsBridged};
 ghost use Rattle.mr_net.specs.declared.ways.Way.TheVariants.{Pull, Push};
 
 use crate::connecting::connect;
@@ -111,7 +111,8 @@ fn ask_pull<C: Keeper>(
     stream: &TcpStream,
 ) -> Result<(), WebFault>
     requires { IsTrue (is_host host.now) }
-    ensures { (held holds : Option Text) × IsExchanged C.Keeper client.old client.new result (AsksPull host.now held holds) (Reaches (C.tables client.old) AskPosition) }
+    ensures { (held holds : Option Text)
+        × IsExchanged C.Keeper client.old client.new result (AsksPull host.now held holds) (Reaches (C.tables client.old) AskPosition) }
 {
     let mut writer = stream;
     pull_ask(alloc, client, host, &mut writer)
@@ -123,7 +124,8 @@ fn take_pull<C: Keeper>(
     client: &mut Service<C>,
     stream: &TcpStream,
 ) -> Result<Round, WebFault>
-    ensures { (known : Option Text) × (called : _) × IsExchanged C.Keeper client.old client.new called (TakesPulled known) (TakesBody (C.tables client.old)) × ComesTo called result }
+    ensures { (known : Option Text) × (called : _) × IsExchanged C.Keeper client.old client.new called (TakesPulled known) (TakesBody (C.tables client.old))
+        × ComesTo called result }
 {
     let mut reader = stream;
     match pull_take(alloc, client, &mut reader) {
@@ -141,7 +143,8 @@ fn ask_push<C: Keeper>(
     stream: &TcpStream,
 ) -> Result<Ending, WebFault>
     requires { IsTrue (is_host host.now) }
-    ensures { (held holds : Option Text) × IsExchanged C.Keeper client.old client.new result (AsksPush position.now host.now held holds) (Reaches (C.tables client.old) (lacking position.now)) }
+    ensures { (held holds : Option Text)
+        × IsExchanged C.Keeper client.old client.new result (AsksPush position.now host.now held holds) (Reaches (C.tables client.old) (lacking position.now)) }
 {
     let mut writer = stream;
     push_ask(alloc, client, position, host, &mut writer)
@@ -149,7 +152,7 @@ fn ask_push<C: Keeper>(
 
 /// Takes the reply to a batch that was handed over and ended so.
 fn take_push<R: Read>(alloc: Global, ending: Ending, reader: &mut R) -> Result<Round, WebFault>
-    ensures { (counts : _) × Tells told_took (R.remaining reader.old) counts × Brings counts ending result }
+    ensures { (counts : _) × TellsAsRead told_took (R.remaining reader.old) counts × Brings counts ending result }
 {
     match push_take(alloc, reader) {
         Ok(counts) => Ok(Round::of((counts.0, counts.1, ending))),
@@ -170,7 +173,7 @@ fn other_end(listener: &TcpListener, client: &TcpStream) -> Option<TcpStream> {
 }
 
 impl<C: Keeper, S: Keeper> Peer for Neighbour<'_, C, S> {
-    ghost use Rattle.mr_net.specs.Rounds.{RunsBridged};
+    ghost use Rattle.mr_net.specs.ExchangeRounds.{RunsBridged};
 
     ghost runs = { λ way p result q. RunsBridged C.Keeper S.Keeper way (p.client, p.server) result (q.client, q.server) };
 
@@ -274,7 +277,7 @@ fn meeting_place(rt: &HostRuntime, alloc: Global) -> Result<(TcpListener, u16, H
 
 /// Prints why there is no place to meet.
 fn say_unmet<W: Write>(out: &mut W, fault: &WebFault) -> u8
-    ensures { Stops (λ text. text ≡ no_memory_line) (W.contents out.old) (W.contents out.new) result }
+    ensures { StopsWithText (λ text. text ≡ no_memory_line) (W.contents out.old) (W.contents out.new) result }
 {
     match fault {
         WebFault::Memory => say(out, NO_MEMORY, REFUSED),

@@ -2,10 +2,10 @@
 
 ghost use Rattle.std.specs.Prelude.{◌≡◌, ℕ, false, IsTrue};
 ghost use Rattle.mr_model.specs.Texts.{Text};
-ghost use Rattle.mr_peer.specs.Requests.{is_host};
+ghost use Rattle.mr_peer.specs.PeerRequests.{is_host};
 ghost use Rattle.mr_net.specs.Hosts.{host_name, IsPeer};
 ghost use Rattle.mr_net.specs.Printed.{EndsExchange, TellsBadAddress, TellsBoth};
-ghost use Rattle.mr_net.specs.Rounds.{RunsRound};
+ghost use Rattle.mr_net.specs.ExchangeRounds.{RunsRound};
 ghost use Rattle.mr_net.specs.declared.ways.Way.TheVariants.{Pull, Push};
 
 use crate::connecting::connect;
@@ -120,7 +120,7 @@ fn push_over<K: Keeper, R: Read, W: Write>(
 }
 
 impl<K: Keeper> Peer for Remote<'_, K> {
-    ghost use Rattle.mr_net.specs.Rounds.{RunsRound};
+    ghost use Rattle.mr_net.specs.ExchangeRounds.{RunsRound};
 
     // of the replica here alone: a socket tells nothing of what it gives
     ghost runs = { λ way p result q. RunsRound K.Keeper way p.service result q.service };

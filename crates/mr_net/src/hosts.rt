@@ -2,7 +2,7 @@ ghost use Rattle.std.specs.Prelude.{◌≡◌, false, IfOk, IsTrue, MatchOption}
 ghost use Rattle.std.specs.List.{list_all};
 ghost use Rattle.std.specs.String.{string_bytes};
 ghost use Rattle.mr_model.specs.Texts.{within};
-ghost use Rattle.mr_peer.specs.Requests.{is_host};
+ghost use Rattle.mr_peer.specs.PeerRequests.{is_host};
 ghost use Rattle.mr_net.specs.Hosts.{host_name};
 
 use std::alloc::{AllocError, Global};
@@ -17,7 +17,7 @@ pub(crate) struct Host {
 impl Model for Host {
     ghost use Rattle.std.specs.Prelude.{ℕ, List, IsTrue};
     ghost use Rattle.std.specs.String.{string_bytes};
-    ghost use Rattle.mr_peer.specs.Requests.{is_host};
+    ghost use Rattle.mr_peer.specs.PeerRequests.{is_host};
 
     ghost Value = { List ℕ };
 

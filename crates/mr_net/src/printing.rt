@@ -4,8 +4,8 @@ ghost use Rattle.std.specs.Prelude.{◌≡◌, ◌⊎◌, [], ◌∷◌, IfOk, c
 ghost use Rattle.std.specs.String.{string_bytes};
 ghost use Rattle.std.specs.Io.KnownBytes.{Appends};
 ghost use Rattle.mr_model.specs.Texts.{line, words};
-ghost use Rattle.mr_say.specs.Told.{no_memory_line};
-ghost use Rattle.mr_net.specs.Printed.{way_line, peer_line, IsFaultLine, Stops, TellsBoth, TellsWay};
+ghost use Rattle.mr_say.specs.CommandOutput.{no_memory_line};
+ghost use Rattle.mr_net.specs.Printed.{way_line, peer_line, IsFaultLine, StopsWithText, TellsBoth, TellsWay};
 
 use crate::ways::{Peer, Taken, Way, all_rounds};
 use mr_http::WebFault;
@@ -22,7 +22,7 @@ pub(crate) fn say_no_network<W: Write>(out: &mut W) -> u8
 
 /// Prints why a way ended early.
 fn say_fault<W: Write>(alloc: Global, out: &mut W, fault: &WebFault) -> u8
-    ensures { Stops (IsFaultLine fault.now) (W.contents out.old) (W.contents out.new) result }
+    ensures { StopsWithText (IsFaultLine fault.now) (W.contents out.old) (W.contents out.new) result }
 {
     match fault {
         WebFault::Memory => say(out, NO_MEMORY, REFUSED),
@@ -34,7 +34,7 @@ fn say_fault<W: Write>(alloc: Global, out: &mut W, fault: &WebFault) -> u8
 
 /// Prints the status that the peer answered, which isn't 200.
 fn say_answered<W: Write>(alloc: Global, out: &mut W, status: u16) -> u8
-    ensures { Stops (λ text. (text ≡ peer_line status) ⊎ (text ≡ no_memory_line)) (W.contents out.old) (W.contents out.new) result }
+    ensures { StopsWithText (λ text. (text ≡ peer_line status) ⊎ (text ≡ no_memory_line)) (W.contents out.old) (W.contents out.new) result }
 {
     say_made(out, peer_text(alloc, status), REFUSED)
 }
@@ -48,7 +48,7 @@ fn peer_text(alloc: Global, status: u16) -> Result<String, AllocError>
 /// Prints what a way brought.
 fn say_taken<W: Write>(alloc: Global, out: &mut W, way: Way, taken: Taken) -> u8
     ensures { ((result ≡ 0) × Appends (W.contents out.old) (W.contents out.new) (way_line way taken))
-        ⊎ Stops (λ text. text ≡ no_memory_line) (W.contents out.old) (W.contents out.new) result }
+        ⊎ StopsWithText (λ text. text ≡ no_memory_line) (W.contents out.old) (W.contents out.new) result }
 {
     say_made(out, way_text(alloc, way, taken), DONE)
 }
@@ -63,14 +63,16 @@ fn way_text(alloc: Global, way: Way, taken: Taken) -> Result<String, AllocError>
 }
 
 fn pulled_text(alloc: Global, writes: u64, commits: u64) -> Result<String, AllocError>
-    ensures { IfOk result (λ text. string_bytes text ≡ line (words (codes "pulled" ∷ decimal writes ∷ codes "writes" ∷ decimal commits ∷ codes "commits" ∷ []))) }
+    ensures { IfOk result (λ text. string_bytes text ≡ line
+        (words (codes "pulled" ∷ decimal writes ∷ codes "writes" ∷ decimal commits ∷ codes "commits" ∷ []))) }
 {
     let text = format!(in alloc; "pulled {writes} writes {commits} commits\n")?;
     Ok(text)
 }
 
 fn pushed_text(alloc: Global, writes: u64, commits: u64) -> Result<String, AllocError>
-    ensures { IfOk result (λ text. string_bytes text ≡ line (words (codes "pushed" ∷ decimal writes ∷ codes "writes" ∷ decimal commits ∷ codes "commits" ∷ []))) }
+    ensures { IfOk result (λ text. string_bytes text ≡ line
+        (words (codes "pushed" ∷ decimal writes ∷ codes "writes" ∷ decimal commits ∷ codes "commits" ∷ []))) }
 {
     let text = format!(in alloc; "pushed {writes} writes {commits} commits\n")?;
     Ok(text)

@@ -4,9 +4,9 @@ ghost use Rattle.std.specs.Prelude.{◌≡◌, ◌⊎◌, IfOk};
 ghost use Rattle.std.specs.String.{string_bytes};
 ghost use Rattle.std.specs.Io.KnownBytes.{Appends};
 ghost use Rattle.mr_model.specs.Texts.{line};
-ghost use Rattle.mr_say.specs.Told.{no_memory_line};
+ghost use Rattle.mr_say.specs.CommandOutput.{no_memory_line};
 ghost use Rattle.mr_net.specs.Connections.{ServesAt, TellsServed};
-ghost use Rattle.mr_net.specs.Printed.{connection_text, serving_line, EndsServing, Stops};
+ghost use Rattle.mr_net.specs.Printed.{connection_text, serving_line, EndsServing, StopsWithText};
 
 use crate::connections::serve_next;
 use crate::databases::{close, open};
@@ -65,7 +65,7 @@ fn serve_at<K: Keeper, W: Write>(
 /// Prints at which port the database is served.
 fn say_serving<W: Write>(alloc: Global, out: &mut W, port: u16) -> u8
     ensures { ((result ≡ 0) × Appends (W.contents out.old) (W.contents out.new) (serving_line port))
-        ⊎ Stops (λ text. text ≡ no_memory_line) (W.contents out.old) (W.contents out.new) result }
+        ⊎ StopsWithText (λ text. text ≡ no_memory_line) (W.contents out.old) (W.contents out.new) result }
 {
     say_made(out, serving_text(alloc, port), DONE)
 }
@@ -99,7 +99,7 @@ fn serve_all<K: Keeper, W: Write>(
 /// Prints the status that a connection was answered, or that it failed.
 fn say_served<W: Write>(alloc: Global, out: &mut W, served: Option<u16>) -> u8
     ensures { ((result ≡ 0) × Appends (W.contents out.old) (W.contents out.new) (line (connection_text served)))
-        ⊎ Stops (λ text. text ≡ no_memory_line) (W.contents out.old) (W.contents out.new) result }
+        ⊎ StopsWithText (λ text. text ≡ no_memory_line) (W.contents out.old) (W.contents out.new) result }
 {
     match served {
         Some(status) => say_made(out, status_text(alloc, status), DONE),

@@ -1,5 +1,5 @@
 -- A reader of the contracts trusts Parts and ScopeOf, and of mr_replica Desk, Steps, Placing and Turning. The others, PartAccepting,
--- PartMoves, Changed, PickedLogs, PickedBookings, Named and LogTests, serve private clauses and proofs alone.
+-- PartMoves, Changed, PickedLogs, PickedBookings and LogTests, serve private clauses and proofs alone.
 pub mod Parts
 pub mod PartAccepting
 pub mod PartMoves
@@ -8,4 +8,3 @@ pub mod ScopeOf
 pub mod PickedLogs
 pub mod LogTests
 pub mod PickedBookings
-pub mod Named

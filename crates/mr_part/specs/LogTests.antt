@@ -6,7 +6,7 @@ use Rattle.mr_model.specs.Tables.{LogRow}
 use Rattle.mr_model.specs.Scopes as model
 use Rattle.mr_part.specs.declared.scope_log_test.LogTest.{LogTest}
 use Rattle.mr_part.specs.declared.scope_log_test.LogTest.TheVariants.{Never, UpTo, Above, Items}
-use Rattle.mr_part.specs.Named.{IsNamedBy}
+use Rattle.mr_replica.specs.Named.{IsNamedBy}
 use Rattle.mr_replica.specs.Sets.{IsSetOf}
 use Rattle.mr_part.specs.PickedLogs.{is_log_in}
 use Rattle.mr_replica.specs.Tails.{IsTail}

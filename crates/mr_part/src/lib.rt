@@ -23,7 +23,6 @@ mod rows_in_scope;
 mod scope;
 mod scope_board;
 mod scope_commits;
-mod scope_items;
 mod scope_log_test;
 mod scope_logs;
 mod scope_touched;

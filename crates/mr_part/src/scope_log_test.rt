@@ -1,15 +1,16 @@
 ghost use Rattle.std.specs.Prelude.{◌≡◌, ℕ, List, IfOk, IfErr};
 ghost use Rattle.mr_model.specs.Texts.{Text};
 ghost use Rattle.mr_model.specs.Exchange.{Item as ItemOfBatch};
-ghost use Rattle.mr_model.specs.Scopes.{Scope as ScopeOfCommand, is_in_tail};
+ghost use Rattle.mr_model.specs.Scopes.{Scope as ScopeOfCommand, is_named, is_in_tail};
 ghost use Rattle.mr_part.specs.LogTests.{IsTestOf};
 ghost use Rattle.mr_part.specs.PickedLogs.{is_log_in};
 ghost use Rattle.mr_part.specs.ScopeOf.{scope_of};
+ghost use Rattle.mr_replica.specs.Named.{IsNamedBy};
 ghost use Rattle.mr_replica.specs.Tails.{IsTail};
 
 use crate::Scope;
-use crate::scope_items::Named;
 use mr_base::{Item, Refusal, RoomName};
+use mr_replica::named::Named;
 use mr_replica::room_sets::{RoomSet, room_set};
 use mr_replica::tail::{Tail, tail_of};
 use mr_tables::LogRow;
@@ -67,10 +68,17 @@ impl LogTest {
             LogTest::UpTo(number) => row.seq >= 1 && row.seq <= *number,
             LogTest::Above(number) => row.seq == 0 || row.seq > *number,
             LogTest::Items { named, tail, rooms } => {
-                named.has_row(row) || (is_in_tail(row, tail) && rooms.contains(&row.room))
+                is_named(row, named) || (is_in_tail(row, tail) && rooms.contains(&row.room))
             }
         }
     }
+}
+
+/// Whether the row is of a write that is named, by its id or by its commit number.
+fn is_named(row: &LogRow, named: &Named) -> bool
+    ensures { (items : List ItemOfBatch) → IsNamedBy named.now items → result ≡ is_named items row.now }
+{
+    named.has(row.server, row.n, row.seq)
 }
 
 /// Whether the row is of a tentative write in the tail.

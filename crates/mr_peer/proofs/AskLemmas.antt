@@ -14,8 +14,8 @@ use Rattle.mr_http.specs.declared.faults.WebFault.{WebFault}
 use Rattle.mr_http.specs.declared.faults.WebFault.TheVariants as fault
 use Rattle.mr_service.specs.Worlds.{IsPositionText}
 use Rattle.mr_peer.specs.Rounds.{Runs}
-use Rattle.mr_peer.specs.Asking.{IsSendFault, IsAskFault, GivesBatch, GivesWritten, Wrote, OwnRefuses, ReadsOff, HandsOut, IsBatchWith, IsSomePosition, IsSomeBatch}
-use Rattle.mr_peer.specs.Taking.{IsOwnFault}
+use Rattle.mr_peer.specs.PeerAsking.{IsSendFault, IsAskFault, GivesBatch, GivesWritten, Wrote, OwnRefuses, ReadsOff, HandsOut, IsBatchWith, IsSomePosition, IsSomeBatch}
+use Rattle.mr_peer.specs.PeerTaking.{IsOwnFault}
 
 -- a step of a command that leaves the replica as it is
 stayed : (a : Replica) (command : Command) (reply : Reply) (b : Replica) → (step a command).replica ≡ a → IsStep a command reply b → b ≡ a

@@ -14,10 +14,10 @@ use Rattle.mr_service.specs.Asked.{reply_of}
 use Rattle.mr_service.specs.Asking.{LeavesOnRefusal}
 use Rattle.mr_service.specs.declared.replies.Reply as service
 use Rattle.mr_service.specs.declared.replies.Reply.TheVariants as code
-use Rattle.mr_peer.specs.Replies.{Reply, ◌>>=◌, whole_body, front_body, told_position, told_took}
+use Rattle.mr_peer.specs.PeerReplies.{PeerReply, ◌>>=◌, whole_body, front_body, told_position, told_took}
 use Rattle.mr_peer.specs.Seen.{counts_seen}
-use Rattle.mr_peer.specs.Steps.{LeavesTables}
-use Rattle.mr_peer.specs.Taking.{Says, Ends, IsReplyFault, IsOwnFault, IsTakeFault}
+use Rattle.mr_peer.specs.ExchangeSteps.{KeepsTables}
+use Rattle.mr_peer.specs.PeerTaking.{Says, EndsAsBatch, IsReplyFault, IsOwnFault, IsTakeFault}
 use Rattle.mr_peer.specs.Took.{read_took}
 
 -- a fault that is handed on is of the same kind
@@ -37,7 +37,7 @@ whole_cases body status true is_ok = tt
 whole_cases body status false true = tt
 whole_cases body status false false = tt
 
-whole_faults : (reply : Option Reply) → IfErr (whole_body reply) IsReplyFault
+whole_faults : (reply : Option PeerReply) → IfErr (whole_body reply) IsReplyFault
 whole_faults None = tt
 whole_faults (Some r) = whole_cases r.body r.status r.is_cut (r.status == 200)
 
@@ -47,7 +47,7 @@ front_cases body status true is_cut = tt
 front_cases body status false true = tt
 front_cases body status false false = tt
 
-pub front_faults : (reply : Option Reply) → IfErr (front_body reply) IsReplyFault
+pub front_faults : (reply : Option PeerReply) → IfErr (front_body reply) IsReplyFault
 front_faults None = tt
 front_faults (Some r) = front_cases r.body r.status (r.status == 200) r.is_cut
 
@@ -60,11 +60,11 @@ bound : {A B : Type 0} (o : Result A WebFault) (f : A → Result B WebFault) →
 bound (Ok x) f is more = more x
 bound (Err e) f is more = is
 
-pub position_faults : (reply : Option Reply) → IfErr (told_position reply) IsReplyFault
+pub position_faults : (reply : Option PeerReply) → IfErr (told_position reply) IsReplyFault
 position_faults reply =
     bound (whole_body reply) (λ body. ok_or (read_position body) fault.BadReply) (whole_faults reply) (λ body. read_off (read_position body))
 
-pub took_faults : (reply : Option Reply) → IfErr (told_took reply) IsReplyFault
+pub took_faults : (reply : Option PeerReply) → IfErr (told_took reply) IsReplyFault
 took_faults reply = bound (whole_body reply) (λ body. ok_or (read_took body) fault.BadReply) (whole_faults reply) (λ body. read_off (read_took body))
 
 told_as : {X : Type 0} (told : Result X WebFault) (e : WebFault) → IfErr told IsReplyFault → told ≡ Err e → IsReplyFault e
@@ -82,7 +82,7 @@ says_faults told (Err (fault.Own e)) is says = told_as told (fault.Own e) is (sy
 
 -- ---- of this replica
 
-pub ends_faults : (body : Text) (e : WebFault) → Ends body (Err e) → IsOwnFault e
+pub ends_faults : (body : Text) (e : WebFault) → EndsAsBatch body (Err e) → IsOwnFault e
 ends_faults body (fault.Own e) is = tt
 ends_faults body fault.Memory u = tt
 ends_faults body fault.Read u = absurd u
@@ -119,7 +119,7 @@ own_takes (Err fault.Write) is = is
 -- where the counts are none, this replica refused, or memory is told to have run out
 pub counts_leave : {K : Type 0} (keeper : Ghosts K) (old new : K) (reply : service.Reply)
     → (keeper.is_clean new → keeper.is_open new → LeavesOnRefusal (reply_of reply) (keeper.tables old) (keeper.tables new))
-    → IfErr (counts_seen reply) (LeavesTables keeper old new)
+    → IfErr (counts_seen reply) (KeepsTables keeper old new)
 counts_leave keeper old new (code.Took writes commits) leaves = tt
 counts_leave keeper old new (code.Refused e) leaves = λ other clean now. leaves clean now (refusal_of e) refl
 counts_leave keeper old new _ leaves = λ other. absurd (other refl)

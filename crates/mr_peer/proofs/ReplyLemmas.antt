@@ -6,22 +6,19 @@ use Rattle.httparse.specs.Grammar.{ResponseHead, status_code}
 use Rattle.mr_model.specs.Texts.{Text}
 use Rattle.mr_http.specs.Heads.{IsReplyHead, HasNoReplyHead, FindsReplyHead}
 use Rattle.mr_http.specs.Inputs.{OfInput}
-use Rattle.mr_http.specs.Faults.{web_fault}
-use Rattle.mr_http.specs.declared.faults.ReadFault.{ReadFault}
-use Rattle.mr_http.specs.declared.faults.ReadFault.TheVariants as read
 use Rattle.mr_http.specs.declared.faults.WebFault.{WebFault}
 use Rattle.mr_http.specs.declared.faults.WebFault.TheVariants as fault
 use Rattle.mr_http.proofs.HeadLemmas.{reply_head_more}
 use Rattle.mr_http.proofs.BodyLemmas.{take_same, short_same}
 use Rattle.mr_http.proofs.Known.{if_some_map, of_input, of_input_map}
-use Rattle.mr_peer.specs.Replies.{Reply, IsReplied, reply_of, reply_in, length_in}
+use Rattle.mr_peer.specs.PeerReplies.{PeerReply, IsReplied, reply_cut, reply_behind, reply_length}
 use Rattle.mr_base.specs.Refusals.{refusal_of}
 use Rattle.mr_base.specs.declared.refusals.Refusal.{Refusal}
 use Rattle.mr_base.specs.declared.refusals.Refusal.TheVariants.{OutOfMemory}
 use Rattle.mr_model.specs.Refusals as model
 use Rattle.mr_model.specs.Positions.{Position}
 use Rattle.mr_peer.specs.Seen.{unread}
-use Rattle.mr_peer.specs.Taking.{Tells, Says}
+use Rattle.mr_peer.specs.PeerTaking.{TellsAsRead, Says}
 
 -- an input without the head that is demanded
 pub without_head : (known : Option Text) (bytes : Text) → FindsReplyHead known bytes None → OfInput known (λ input. IsReplied input None)
@@ -31,21 +28,21 @@ without_head known bytes none =
 
 -- the head has no length within the limit: of the known input
 lengthless : (known left : Option Text) (bytes rest : Text) (h : ResponseHead)
-    → Consumes known left bytes → IsReplyHead bytes h rest → length_in h ≡ None → IfSome known (λ input. IsReplied input None)
+    → Consumes known left bytes → IsReplyHead bytes h rest → reply_length h ≡ None → IfSome known (λ input. IsReplied input None)
 lengthless None left bytes rest h p head none = tt
 lengthless (Some x) None bytes rest h p head none = absurd p
 lengthless (Some x) (Some y) bytes rest h p head none =
     subst (λ input. IsReplied input None) (sym p)
-    (inr (h, rest ++ y, reply_head_more bytes y h rest head, ap (option_map (reply_of (status_code h) (rest ++ y))) (sym none)))
+    (inr (h, rest ++ y, reply_head_more bytes y h rest head, ap (option_map (reply_cut (status_code h) (rest ++ y))) (sym none)))
 
 -- the same of any input
 pub without_length : (known left : Option Text) (bytes rest : Text) (h : ResponseHead)
-    → Consumes known left bytes → IsReplyHead bytes h rest → length_in h ≡ None → OfInput known (λ input. IsReplied input None)
+    → Consumes known left bytes → IsReplyHead bytes h rest → reply_length h ≡ None → OfInput known (λ input. IsReplied input None)
 without_length known left bytes rest h p head none =
     of_input known bytes (λ input. IsReplied input None) (lengthless known left bytes rest h p head none)
     (lengthless (Some bytes) (Some []) bytes rest h (sym (append-nil bytes)) head none)
 
-same_reply : (status n : ℕ) (rest y : Text) → (length rest < n → y ≡ []) → reply_of status rest n ≡ reply_of status (rest ++ y) n
+same_reply : (status n : ℕ) (rest y : Text) → (length rest < n → y ≡ []) → reply_cut status rest n ≡ reply_cut status (rest ++ y) n
 same_reply status n rest y ends =
     let body = take_same n rest y ends in
     let cut = short_same n rest y ends in
@@ -53,23 +50,23 @@ same_reply status n rest y ends =
 
 -- the body was read to its end, or to that of the input: of the known input
 bodied : (known left : Option Text) (bytes rest : Text) (h : ResponseHead) (n : ℕ)
-    → Consumes known left bytes → IsReplyHead bytes h rest → (length rest < n → IsAtEnd left) → length_in h ≡ Some n
-    → IfSome known (λ input. IsReplied input (Some (reply_of (status_code h) rest n)))
+    → Consumes known left bytes → IsReplyHead bytes h rest → (length rest < n → IsAtEnd left) → reply_length h ≡ Some n
+    → IfSome known (λ input. IsReplied input (Some (reply_cut (status_code h) rest n)))
 bodied None left bytes rest h n p head ends is = tt
 bodied (Some x) None bytes rest h n p head ends is = absurd p
 bodied (Some x) (Some y) bytes rest h n p head ends is =
-    let told : Some (reply_of (status_code h) rest n) ≡ reply_in h (rest ++ y) =
+    let told : Some (reply_cut (status_code h) rest n) ≡ reply_behind h (rest ++ y) =
     ap Some (same_reply (status_code h) n rest y ends)
-    ∙ ap (option_map (reply_of (status_code h) (rest ++ y))) (sym is) in
-    subst (λ input. IsReplied input (Some (reply_of (status_code h) rest n))) (sym p)
+    ∙ ap (option_map (reply_cut (status_code h) (rest ++ y))) (sym is) in
+    subst (λ input. IsReplied input (Some (reply_cut (status_code h) rest n))) (sym p)
     (inr (h, rest ++ y, reply_head_more bytes y h rest head, told))
 
 -- the same of any input
 pub with_body : (known left : Option Text) (bytes rest : Text) (h : ResponseHead) (n : ℕ)
-    → Consumes known left bytes → IsReplyHead bytes h rest → (length rest < n → IsAtEnd left) → length_in h ≡ Some n
-    → OfInput known (λ input. IsReplied input (Some (reply_of (status_code h) rest n)))
+    → Consumes known left bytes → IsReplyHead bytes h rest → (length rest < n → IsAtEnd left) → reply_length h ≡ Some n
+    → OfInput known (λ input. IsReplied input (Some (reply_cut (status_code h) rest n)))
 with_body known left bytes rest h n p head ends is =
-    of_input known bytes (λ input. IsReplied input (Some (reply_of (status_code h) rest n)))
+    of_input known bytes (λ input. IsReplied input (Some (reply_cut (status_code h) rest n)))
     (bodied known left bytes rest h n p head ends is)
     (bodied (Some bytes) (Some []) bytes rest h n (sym (append-nil bytes)) head (λ few. refl) is)
 
@@ -85,8 +82,8 @@ one_length s status n (Some m) e =
     (ap (λ (o : Option (ℕ × ℕ)). Some (unwrap_or o (0, 0)).1) (sym e), ap (λ (o : Option (ℕ × ℕ)). (unwrap_or o (0, 0)).0) e)
 
 -- what is said of the reply is told of the input that it is
-pub says_told : {X : Type 0} (told : Option Reply → Result X WebFault) (known : Option Text) (reply : Option Reply) (result : Result X WebFault)
-    → OfInput known (λ input. IsReplied input reply) → Says (told reply) result → Tells told known result
+pub says_told : {X : Type 0} (told : Option PeerReply → Result X WebFault) (known : Option Text) (reply : Option PeerReply) (result : Result X WebFault)
+    → OfInput known (λ input. IsReplied input reply) → Says (told reply) result → TellsAsRead told known result
 says_told told known reply (Err fault.Read) is says = tt
 says_told told known reply (Err fault.Memory) is says = tt
 says_told told known reply (Ok x) is says = of_input_map known (λ input. IsReplied input reply) _ (λ input r. (reply, r, says)) is
@@ -95,21 +92,7 @@ says_told told known reply (Err fault.BadReply) is says = of_input_map known (λ
 says_told told known reply (Err (fault.Peer s)) is says = of_input_map known (λ input. IsReplied input reply) _ (λ input r. (reply, r, says)) is
 says_told told known reply (Err (fault.Own e)) is says = of_input_map known (λ input. IsReplied input reply) _ (λ input r. (reply, r, says)) is
 
--- nothing is claimed where a read failed or memory ran out
-pub lost_tells : {X : Type 0} (told : Option Reply → Result X WebFault) (known : Option Text) (f : ReadFault) → Tells told known (Err (web_fault f))
-lost_tells told known read.Read = tt
-lost_tells told known read.Memory = tt
-
 -- ---- of the body
-
-pub says_exact : {X : Type 0} (told result : Result X WebFault) → result ≡ told → Says told result
-says_exact told (Ok x) e = e
-says_exact told (Err fault.Read) e = e
-says_exact told (Err fault.Memory) e = tt
-says_exact told (Err fault.Write) e = e
-says_exact told (Err fault.BadReply) e = e
-says_exact told (Err (fault.Peer s)) e = e
-says_exact told (Err (fault.Own f)) e = e
 
 unread_says : (e : Refusal) → Says {X = Position} (Err fault.BadReply) (Err (unread e))
 unread_says OutOfMemory = tt

@@ -3,7 +3,7 @@ use Rattle.std.proofs.Common.{◌≡◌, ◌∙◌, ap, ℕ, [], ◌∷◌, ◌+
 use Rattle.std.specs.Prelude.{codes}
 use Rattle.std.specs.Fmt.{decimal}
 use Rattle.mr_model.specs.Texts.{Text}
-use Rattle.mr_peer.specs.Requests.{bare_request, bare_pieces, full_head, full_pieces}
+use Rattle.mr_peer.specs.PeerRequests.{bare_request, bare_pieces, full_head, full_pieces}
 
 abbrev crlf : Text
 crlf = 13 ∷ 10 ∷ []

@@ -14,10 +14,10 @@ use Rattle.mr_http.specs.declared.faults.ReadFault.{ReadFault}
 use Rattle.mr_http.specs.declared.faults.ReadFault.TheVariants as read
 use Rattle.mr_http.specs.declared.faults.WebFault.{WebFault}
 use Rattle.mr_http.specs.declared.faults.WebFault.TheVariants as fault
-use Rattle.mr_peer.specs.Requests.{pull_request}
+use Rattle.mr_peer.specs.PeerRequests.{pull_request}
 use Rattle.mr_peer.specs.Rounds.{Pulls}
-use Rattle.mr_peer.specs.Steps.{ReceivesSome, TakesPulled}
-use Rattle.mr_peer.specs.Taking.{Receives, Takes, IsReplyFault}
+use Rattle.mr_peer.specs.ExchangeSteps.{ReceivesSome, TakesPulled}
+use Rattle.mr_peer.specs.PeerTaking.{Receives, Takes, IsReplyFault}
 
 receives_some : (body : Text) (a : Replica) (result : Result (ℕ × ℕ × Ending) WebFault) (b : Replica) → Receives body a result b → ReceivesSome a result b
 receives_some body a (Ok took) b h = (body, h)

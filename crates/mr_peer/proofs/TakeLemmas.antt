@@ -19,9 +19,9 @@ use Rattle.mr_http.proofs.Known.{of_input_map}
 use Rattle.mr_service.specs.Asked.{reply_of}
 use Rattle.mr_service.specs.declared.replies.Reply as service
 use Rattle.mr_service.specs.declared.replies.Reply.TheVariants as code
-use Rattle.mr_peer.specs.Replies as peer
+use Rattle.mr_peer.specs.PeerReplies as peer
 use Rattle.mr_peer.specs.Seen.{counts_seen}
-use Rattle.mr_peer.specs.Taking.{Ends, Counts, Receives, Takes, TakesReply, TellsOf, TellsPulled}
+use Rattle.mr_peer.specs.PeerTaking.{EndsAsBatch, CountsTaken, Receives, Takes, TakesReply, TellsTaken, TellsPulled}
 
 -- a batch is answered by counts, or refused, which changes nothing
 abbrev IsCounted : Replica → Reply → Replica → Type 0
@@ -57,7 +57,7 @@ counted a body reply b (inl e) =
 counted a body reply b (inr m) = machine_counted a reply b m.0 m.1
 
 -- what is read off the reply
-pub counts : (a : Replica) (body : Text) (reply : service.Reply) (b : Replica) → IsStep a (Receive body) (reply_of reply) b → Counts body a (counts_seen reply) b
+pub counts : (a : Replica) (body : Text) (reply : service.Reply) (b : Replica) → IsStep a (Receive body) (reply_of reply) b → CountsTaken body a (counts_seen reply) b
 counts a body (code.Took w c) b is = is
 counts a body (code.Refused e) b is = (is, counted a body _ b is)
 counts a body code.RoomAdded b is = absurd (counted a body _ b is)
@@ -80,7 +80,7 @@ counts_told (code.Took w c) = not_took (Took w c) w c refl
 counts_told _ = tt
 
 -- a batch that reads as none is refused by each replica
-pub ends_receives : (body : Text) (a : Replica) (e : WebFault) → Ends body (Err e) → Receives body a (Err e) a
+pub ends_receives : (body : Text) (a : Replica) (e : WebFault) → EndsAsBatch body (Err e) → Receives body a (Err e) a
 ends_receives body a (fault.Own e) is = (inl (sym (ap (receive_read a) is)), refl)
 ends_receives body a fault.Memory u = refl
 ends_receives body a fault.Read u = absurd u
@@ -88,7 +88,7 @@ ends_receives body a fault.Write u = absurd u
 ends_receives body a fault.BadReply u = absurd u
 ends_receives body a (fault.Peer n) u = absurd u
 
-pub counts_receives : (body : Text) (a : Replica) (e : WebFault) (b : Replica) → Counts body a (Err e) b → Receives body a (Err e) b
+pub counts_receives : (body : Text) (a : Replica) (e : WebFault) (b : Replica) → CountsTaken body a (Err e) b → Receives body a (Err e) b
 counts_receives body a (fault.Own e) b h = h
 counts_receives body a fault.Memory b h = h
 counts_receives body a fault.Read b h = absurd h
@@ -114,7 +114,7 @@ takes_left told a (Ok x) b h = tt
 takes_left told a (Err e) b h = takes_stays told a e b h
 
 -- what is taken of a reply is taken of the input that it is
-pub takes_reply : (known : Option Text) (reply : Option peer.Reply) (a : Replica) (result : Result (ℕ × ℕ × Ending) WebFault) (b : Replica)
+pub takes_reply : (known : Option Text) (reply : Option peer.PeerReply) (a : Replica) (result : Result (ℕ × ℕ × Ending) WebFault) (b : Replica)
     → OfInput known (λ input. peer.IsReplied input reply) → Takes (peer.front_body reply) a result b → TakesReply known a result b
 takes_reply known reply a (Err fault.Read) b is h = takes_stays (peer.front_body reply) a fault.Read b h
 takes_reply known reply a (Err fault.Memory) b is h = takes_stays (peer.front_body reply) a fault.Memory b h
@@ -132,8 +132,8 @@ lost_reply known a read.Memory = refl
 -- ---- whatever this replica makes of the body
 
 -- what is told of a reply is told of the input that it is
-pub tells_pulled : (known : Option Text) (reply : Option peer.Reply) (result : Result (ℕ × ℕ × Ending) WebFault)
-    → OfInput known (λ input. peer.IsReplied input reply) → TellsOf (peer.front_body reply) result → TellsPulled known result
+pub tells_pulled : (known : Option Text) (reply : Option peer.PeerReply) (result : Result (ℕ × ℕ × Ending) WebFault)
+    → OfInput known (λ input. peer.IsReplied input reply) → TellsTaken (peer.front_body reply) result → TellsPulled known result
 tells_pulled known reply (Err fault.Read) is tells = tt
 tells_pulled known reply (Err fault.Memory) is tells = tt
 tells_pulled known reply (Ok x) is tells = of_input_map known (λ input. peer.IsReplied input reply) _ (λ input r. (reply, r, tells)) is

@@ -1,14 +1,14 @@
--- A reader of the contracts trusts Asking, Exchanged, Laws, Read, Replies, Requests, Rounds, Steps, Taking and Took. The others, Seen
--- and TookWords, serve private clauses and proofs alone.
-pub mod Asking
+-- A reader of the contracts trusts PeerAsking, Exchanged, ReplyLaw, ReplyRead, PeerReplies, PeerRequests, Rounds, ExchangeSteps,
+-- PeerTaking and Took. The others, Seen and TookWords, serve private clauses and proofs alone.
 pub mod Exchanged
-pub mod Laws
-pub mod Read
-pub mod Replies
-pub mod Requests
+pub mod ExchangeSteps
+pub mod PeerAsking
+pub mod PeerReplies
+pub mod PeerRequests
+pub mod PeerTaking
+pub mod ReplyLaw
+pub mod ReplyRead
 pub mod Rounds
 pub mod Seen
-pub mod Steps
-pub mod Taking
 pub mod Took
 pub mod TookWords

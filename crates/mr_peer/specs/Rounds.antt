@@ -10,11 +10,11 @@ use Rattle.mr_model.specs.Step.{Command, AskPosition, batch_of}
 use Rattle.mr_base.specs.Batches.{ending_of}
 use Rattle.mr_base.specs.declared.batches.Ending.{Ending}
 use Rattle.mr_http.specs.declared.faults.WebFault.{WebFault}
-use Rattle.mr_peer.specs.Asking.{GivesBatch, IsAskFault, Wrote, OwnRefuses, SendsPull, SendsPush, lacking}
-use Rattle.mr_peer.specs.Replies.{told_took}
-use Rattle.mr_peer.specs.Requests.{pull_request, push_request}
-use Rattle.mr_peer.specs.Steps.{ReceivesSome}
-use Rattle.mr_peer.specs.Taking.{Tells, TakesReply, TellsPulled}
+use Rattle.mr_peer.specs.PeerAsking.{GivesBatch, IsAskFault, Wrote, OwnRefuses, SendsPull, SendsPush, lacking}
+use Rattle.mr_peer.specs.PeerReplies.{told_took}
+use Rattle.mr_peer.specs.PeerRequests.{pull_request, push_request}
+use Rattle.mr_peer.specs.ExchangeSteps.{ReceivesSome}
+use Rattle.mr_peer.specs.PeerTaking.{TellsAsRead, TakesReply, TellsPulled}
 
 -- the ask failed, and the reply wasn't read; or the request was written, and the reply was taken so
 abbrev pub Runs : {X : Type 0} → Replica → Command → Text → Option (List ℕ) → Option (List ℕ) → Result X WebFault → Type 0 → Type 0
@@ -30,7 +30,7 @@ Joins (Err f) ending (Err e) = e ≡ f
 
 -- the counts that are told of the reply, with the ending of the batch that was handed over
 abbrev pub TellsTook : Option Text → exchange.Ending → Result (ℕ × ℕ × Ending) WebFault → Type 0
-TellsTook known ending result = (counts : Result (ℕ × ℕ) WebFault) × Tells told_took known counts × Joins counts ending result
+TellsTook known ending result = (counts : Result (ℕ × ℕ) WebFault) × TellsAsRead told_took known counts × Joins counts ending result
 
 -- a peer is asked for what this replica lacks, and its reply is taken; the ask may have failed, which changes nothing
 abbrev pub Pulls : Text → Option (List ℕ) → Option (List ℕ) → Option Text → Replica → Result (ℕ × ℕ × Ending) WebFault → Replica → Type 0

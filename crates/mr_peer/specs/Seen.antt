@@ -8,14 +8,14 @@ use Rattle.mr_http.specs.declared.faults.WebFault.{WebFault}
 use Rattle.mr_http.specs.declared.faults.WebFault.TheVariants.{Memory, BadReply, Own}
 use Rattle.mr_service.specs.declared.replies.Reply as service
 use Rattle.mr_service.specs.declared.replies.Reply.TheVariants.{Took, Refused}
-use Rattle.mr_peer.specs.Replies.{Reply, reply_of}
+use Rattle.mr_peer.specs.PeerReplies.{PeerReply, reply_cut}
 use Rattle.mr_peer.specs.declared.replies.Replied.{Replied}
 
 -- the reply that this is, with the body among these bytes
-abbrev pub seen_in : List ℕ → Replied → Reply
-seen_in bytes r = reply_of r.status (drop r.start bytes) r.length
+abbrev pub seen_in : List ℕ → Replied → PeerReply
+seen_in bytes r = reply_cut r.status (drop r.start bytes) r.length
 
-abbrev pub reply_seen : List ℕ → Option Replied → Option Reply
+abbrev pub reply_seen : List ℕ → Option Replied → Option PeerReply
 reply_seen bytes None = None
 reply_seen bytes (Some r) = Some (seen_in bytes r)
 

@@ -1,4 +1,4 @@
-ghost use Rattle.mr_peer.specs.Laws.{HasOneReply};
+ghost use Rattle.mr_peer.specs.ReplyLaw.{HasOneReply};
 
 /// An input is one reply or none. So the halves that take a reply have one answer to it, where no read fails and memory is there.
 pub fn reply_law()

@@ -2,12 +2,12 @@ ghost use Rattle.std.specs.Prelude.{◌≡◌, [], IsTrue, IfErr, length, ok_or}
 ghost use Rattle.mr_model.specs.Positions as model;
 ghost use Rattle.mr_http.specs.Reading.{OnceRead};
 ghost use Rattle.mr_http.specs.declared.faults.WebFault.TheVariants.{BadReply};
-ghost use Rattle.mr_peer.specs.Asking.{Wrote, IsSendFault};
-ghost use Rattle.mr_peer.specs.Read.{ReadsNoFurther};
-ghost use Rattle.mr_peer.specs.Replies.{told_position};
-ghost use Rattle.mr_peer.specs.Requests.{is_host, position_request};
+ghost use Rattle.mr_peer.specs.PeerAsking.{Wrote, IsSendFault};
+ghost use Rattle.mr_peer.specs.ReplyRead.{ReadsNoFurther};
+ghost use Rattle.mr_peer.specs.PeerReplies.{told_position};
+ghost use Rattle.mr_peer.specs.PeerRequests.{is_host, position_request};
 ghost use Rattle.mr_peer.specs.Seen.{reply_seen, IsInside, unread};
-ghost use Rattle.mr_peer.specs.Taking.{Tells, Says, IsReplyFault};
+ghost use Rattle.mr_peer.specs.PeerTaking.{TellsAsRead, Says, IsReplyFault};
 
 use crate::replies::{Replied, read_reply, whole_body};
 use crate::requests::ask_bare;
@@ -28,7 +28,7 @@ pub fn position_ask<W: Write>(alloc: Global, host: &str, writer: &mut W) -> Resu
 
 /// Takes the reply of a peer that was asked for its position.
 pub fn position_take<R: Read>(alloc: Global, reader: &mut R) -> Result<Position, WebFault>
-    ensures tells { Tells told_position (R.remaining reader.old) result }
+    ensures tells { TellsAsRead told_position (R.remaining reader.old) result }
     ensures fault { IfErr result IsReplyFault }
     ensures reads { OnceRead (ReadsNoFurther (R.remaining reader.old) (R.remaining reader.new)) result }
 {
@@ -42,7 +42,7 @@ fn take_position<R: Read>(
     buffer: &mut Vec<u8>,
 ) -> Result<Position, WebFault>
     requires { buffer.old.items ≡ [] }
-    ensures tells { Tells told_position (R.remaining reader.old) result }
+    ensures tells { TellsAsRead told_position (R.remaining reader.old) result }
     ensures fault { IfErr result IsReplyFault }
     ensures reads { OnceRead (ReadsNoFurther (R.remaining reader.old) (R.remaining reader.new)) result }
 {

@@ -4,14 +4,14 @@ ghost use Rattle.mr_model.specs.Step.{AskPosition};
 ghost use Rattle.mr_http.specs.Reading.{OnceRead};
 ghost use Rattle.mr_service.specs.Asked.{reply_of};
 ghost use Rattle.mr_service.specs.Worlds.{IsPositionText};
-ghost use Rattle.mr_peer.specs.Asking.{AsksPull, HandsPosition, IsAskFault, IsSomePosition, ReadsOff, SendsPull};
+ghost use Rattle.mr_peer.specs.PeerAsking.{AsksPull, HandsPosition, IsAskFault, IsSomePosition, ReadsOff, SendsPull};
 ghost use Rattle.mr_peer.specs.Exchanged.{IsExchanged};
-ghost use Rattle.mr_peer.specs.Read.{ReadsNoFurther};
-ghost use Rattle.mr_peer.specs.Replies as spec;
-ghost use Rattle.mr_peer.specs.Requests.{is_host};
+ghost use Rattle.mr_peer.specs.ReplyRead.{ReadsNoFurther};
+ghost use Rattle.mr_peer.specs.PeerReplies as spec;
+ghost use Rattle.mr_peer.specs.PeerRequests.{is_host};
 ghost use Rattle.mr_peer.specs.Seen.{reply_seen, IsInside, counts_seen};
-ghost use Rattle.mr_peer.specs.Steps.{LeavesTables, TakesBody, TakesPulled};
-ghost use Rattle.mr_peer.specs.Taking.{Ends, Counts, Receives, Takes, TellsOf, TellsPulled, IsOwnFault, IsTakeFault};
+ghost use Rattle.mr_peer.specs.ExchangeSteps.{KeepsTables, TakesBody, TakesPulled};
+ghost use Rattle.mr_peer.specs.PeerTaking.{EndsAsBatch, CountsTaken, Receives, Takes, TellsTaken, TellsPulled, IsOwnFault, IsTakeFault};
 
 use crate::asking::reply_to;
 use crate::replies::{Replied, front_body, read_reply};
@@ -84,7 +84,7 @@ pub fn pull_take<K: Keeper, R: Read>(
         (TakesPulled (R.remaining reader.old)) (TakesBody (K.tables service.old)) }
     ensures tells { TellsPulled (R.remaining reader.old) result }
     ensures fault { IfErr result IsTakeFault }
-    ensures leaves { IfErr result (LeavesTables K.Keeper service.old service.new) }
+    ensures leaves { IfErr result (KeepsTables K.Keeper service.old service.new) }
     ensures reads { OnceRead (ReadsNoFurther (R.remaining reader.old) (R.remaining reader.new)) result }
 {
     let mut buffer = Vec::new(alloc);
@@ -102,7 +102,7 @@ fn take_reply<K: Keeper, R: Read>(
         (TakesPulled (R.remaining reader.old)) (TakesBody (K.tables service.old)) }
     ensures tells { TellsPulled (R.remaining reader.old) result }
     ensures fault { IfErr result IsTakeFault }
-    ensures leaves { IfErr result (LeavesTables K.Keeper service.old service.new) }
+    ensures leaves { IfErr result (KeepsTables K.Keeper service.old service.new) }
     ensures reads { OnceRead (ReadsNoFurther (R.remaining reader.old) (R.remaining reader.new)) result }
 {
     let replied = read_reply(reader, buffer)?;
@@ -118,9 +118,9 @@ fn take_body<K: Keeper>(
     requires { IsInside (length bytes.now) replied }
     ensures exchanged { IsExchanged K.Keeper service.old service.new result
         (Takes (spec.front_body (reply_seen bytes.now replied))) (TakesBody (K.tables service.old)) }
-    ensures tells { TellsOf (spec.front_body (reply_seen bytes.now replied)) result }
+    ensures tells { TellsTaken (spec.front_body (reply_seen bytes.now replied)) result }
     ensures fault { IfErr result IsTakeFault }
-    ensures leaves { IfErr result (LeavesTables K.Keeper service.old service.new) }
+    ensures leaves { IfErr result (KeepsTables K.Keeper service.old service.new) }
 {
     let body = front_body(bytes, replied)?;
     take_batch(alloc, service, body)
@@ -133,9 +133,9 @@ fn take_batch<K: Keeper>(
 ) -> Result<(u64, u64, Ending), WebFault>
     ensures exchanged { IsExchanged K.Keeper service.old service.new result
         (Receives body.now) (TakesBody (K.tables service.old)) }
-    ensures tells { TellsOf (Ok body.now) result }
+    ensures tells { TellsTaken (Ok body.now) result }
     ensures fault { IfErr result IsOwnFault }
-    ensures leaves { IfErr result (LeavesTables K.Keeper service.old service.new) }
+    ensures leaves { IfErr result (KeepsTables K.Keeper service.old service.new) }
 {
     let ending = ending_in(alloc, body)?;
     let (writes, commits) = receive(alloc, service, body)?;
@@ -148,9 +148,9 @@ fn receive<K: Keeper>(
     body: &[u8],
 ) -> Result<(u64, u64), WebFault>
     ensures exchanged { IsExchanged K.Keeper service.old service.new result
-        (Counts body.now) (TakesBody (K.tables service.old)) }
+        (CountsTaken body.now) (TakesBody (K.tables service.old)) }
     ensures fault { IfErr result IsOwnFault }
-    ensures leaves { IfErr result (LeavesTables K.Keeper service.old service.new) }
+    ensures leaves { IfErr result (KeepsTables K.Keeper service.old service.new) }
 {
     let Ok(bytes) = Vec::from_slice(alloc, body) else {
         return Err(WebFault::Memory);
@@ -172,7 +172,7 @@ fn counts_in(reply: &Reply) -> Result<(u64, u64), WebFault>
 
 // The ending of the batch that the bytes read as; the refusal where they read as none.
 fn ending_in(alloc: Global, bytes: &[u8]) -> Result<Ending, WebFault>
-    ensures { Ends bytes.now result }
+    ensures { EndsAsBatch bytes.now result }
 {
     match read_batch(alloc, bytes) {
         Ok(batch) => Ok(batch.ending),

@@ -6,13 +6,13 @@ ghost use Rattle.mr_base.specs.Batches.{ending_of};
 ghost use Rattle.mr_http.specs.Reading.{OnceRead};
 ghost use Rattle.mr_http.specs.declared.faults.WebFault.TheVariants.{BadReply};
 ghost use Rattle.mr_service.specs.Asked.{command_of, reply_of};
-ghost use Rattle.mr_peer.specs.Asking.{AsksPush, HandsBatch, IsAskFault, IsBatchWith, IsSomeBatch, ReadsOff, SendsPush, lacking};
+ghost use Rattle.mr_peer.specs.PeerAsking.{AsksPush, HandsBatch, IsAskFault, IsBatchWith, IsSomeBatch, ReadsOff, SendsPush, lacking};
 ghost use Rattle.mr_peer.specs.Exchanged.{IsExchanged};
-ghost use Rattle.mr_peer.specs.Read.{ReadsNoFurther};
-ghost use Rattle.mr_peer.specs.Replies.{told_took};
-ghost use Rattle.mr_peer.specs.Requests.{is_host};
+ghost use Rattle.mr_peer.specs.ReplyRead.{ReadsNoFurther};
+ghost use Rattle.mr_peer.specs.PeerReplies.{told_took};
+ghost use Rattle.mr_peer.specs.PeerRequests.{is_host};
 ghost use Rattle.mr_peer.specs.Seen.{reply_seen, IsInside};
-ghost use Rattle.mr_peer.specs.Taking.{Tells, Says, IsOwnFault, IsReplyFault};
+ghost use Rattle.mr_peer.specs.PeerTaking.{TellsAsRead, Says, IsOwnFault, IsReplyFault};
 ghost use Rattle.mr_peer.specs.Took.{read_took};
 
 use crate::asking::reply_to;
@@ -93,7 +93,7 @@ fn batch_in(alloc: Global, reply: &Reply) -> Result<(Vec<u8>, Ending), WebFault>
 
 /// Takes the reply of a peer that was handed a batch: how many writes and commits of it were new.
 pub fn push_take<R: Read>(alloc: Global, reader: &mut R) -> Result<(u64, u64), WebFault>
-    ensures tells { Tells told_took (R.remaining reader.old) result }
+    ensures tells { TellsAsRead told_took (R.remaining reader.old) result }
     ensures fault { IfErr result IsReplyFault }
     ensures reads { OnceRead (ReadsNoFurther (R.remaining reader.old) (R.remaining reader.new)) result }
 {
@@ -103,7 +103,7 @@ pub fn push_take<R: Read>(alloc: Global, reader: &mut R) -> Result<(u64, u64), W
 
 fn take_took<R: Read>(reader: &mut R, buffer: &mut Vec<u8>) -> Result<(u64, u64), WebFault>
     requires { buffer.old.items ≡ [] }
-    ensures tells { Tells told_took (R.remaining reader.old) result }
+    ensures tells { TellsAsRead told_took (R.remaining reader.old) result }
     ensures fault { IfErr result IsReplyFault }
     ensures reads { OnceRead (ReadsNoFurther (R.remaining reader.old) (R.remaining reader.new)) result }
 {

@@ -3,9 +3,9 @@ ghost use Rattle.httparse.specs.Grammar.{ResponseHead, ReadsResponse, status_cod
 ghost use Rattle.mr_http.specs.Fields.{header_fields};
 ghost use Rattle.mr_http.specs.Inputs.{OfInput};
 ghost use Rattle.mr_model.specs.Http as model;
-ghost use Rattle.mr_peer.specs.Read.{ReadsNoFurther};
-ghost use Rattle.mr_peer.specs.Replies.{IsReplied, length_in, within_limit};
-ghost use Rattle.mr_peer.specs.Replies as spec;
+ghost use Rattle.mr_peer.specs.ReplyRead.{ReadsNoFurther};
+ghost use Rattle.mr_peer.specs.PeerReplies.{IsReplied, reply_length, within_limit};
+ghost use Rattle.mr_peer.specs.PeerReplies as spec;
 ghost use Rattle.mr_peer.specs.Seen.{reply_seen, IsInside, body_seen};
 
 use httparse::{EMPTY_HEADER, Header, Response, Status};
@@ -48,7 +48,7 @@ pub(crate) fn read_reply<R: Read>(
 // The status of the head at the front of the bytes, and the length of the body; none where that isn't stated or beyond the limit.
 fn head_in(bytes: &[u8]) -> Option<(u16, u64)>
     ensures head { (h : ResponseHead) → (rest : List ℕ) → ReadsResponse bytes.now h rest → length h.fields ≤ 64
-        → result ≡ option_map (λ n. (status_code h, n)) (length_in h) }
+        → result ≡ option_map (λ n. (status_code h, n)) (reply_length h) }
     ensures small { IfSome result (λ x. x.1 ≤ 1048576) }
 {
     let mut headers = [EMPTY_HEADER; 64];

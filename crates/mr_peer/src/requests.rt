@@ -1,6 +1,6 @@
 ghost use Rattle.std.specs.Prelude.{◌≡◌, IfOk, IfErr, string_bytes};
-ghost use Rattle.mr_peer.specs.Asking.{Wrote, IsSendFault};
-ghost use Rattle.mr_peer.specs.Requests.{bare_pieces, bare_request, full_head, full_pieces, full_request};
+ghost use Rattle.mr_peer.specs.PeerAsking.{Wrote, IsSendFault};
+ghost use Rattle.mr_peer.specs.PeerRequests.{bare_pieces, bare_request, full_head, full_pieces, full_request};
 
 use mr_http::{WebFault, send};
 use std::alloc::{AllocError, Global};
@@ -46,7 +46,7 @@ fn bare_text(alloc: Global, line: &str, host: &str) -> Result<String, AllocError
     bare_pieces(alloc, line, host)
 }
 
-#[tactic(auto, unfolding(crate::specs::Requests::bare_pieces))]
+#[tactic(auto, unfolding(crate::specs::PeerRequests::bare_pieces))]
 fn bare_pieces(alloc: Global, line: &str, host: &str) -> Result<String, AllocError>
     ensures { IfOk result (λ text. string_bytes text ≡ bare_pieces line.now host.now) }
 {
@@ -70,7 +70,7 @@ fn full_head(alloc: Global, line: &str, host: &str, size: usize) -> Result<Strin
     full_pieces(alloc, line, host, size)
 }
 
-#[tactic(auto, unfolding(crate::specs::Requests::full_pieces))]
+#[tactic(auto, unfolding(crate::specs::PeerRequests::full_pieces))]
 fn full_pieces(alloc: Global, line: &str, host: &str, size: usize) -> Result<String, AllocError>
     ensures { IfOk result (λ text. string_bytes text ≡ full_pieces line.now host.now size) }
 {

@@ -1,10 +1,10 @@
 ghost use Rattle.std.specs.Prelude.{IsTrue};
 ghost use Rattle.mr_model.specs.Serving.{Reaches};
-ghost use Rattle.mr_peer.specs.Asking.{lacking};
+ghost use Rattle.mr_peer.specs.PeerAsking.{lacking};
 ghost use Rattle.mr_peer.specs.Exchanged.{IsExchanged};
-ghost use Rattle.mr_peer.specs.Requests.{is_host};
+ghost use Rattle.mr_peer.specs.PeerRequests.{is_host};
 ghost use Rattle.mr_peer.specs.Rounds.{Pulls, PullsSome, Pushes, PushesSome};
-ghost use Rattle.mr_peer.specs.Steps.{ReachesByPull};
+ghost use Rattle.mr_peer.specs.ExchangeSteps.{ReachesByPull};
 
 use crate::pulls::{pull_ask, pull_take};
 use crate::pushes::{push_ask, push_take};
@@ -45,7 +45,8 @@ pub fn push<K: Keeper, R: Read, W: Write>(
 ) -> Result<(u64, u64, Ending), WebFault>
     requires { IsTrue (is_host host.now) }
     ensures exchanged { IsExchanged K.Keeper service.old service.new result
-        (Pushes position.now host.now (W.contents writer.old) (W.contents writer.new) (R.remaining reader.old)) (Reaches (K.tables service.old) (lacking position.now)) }
+        (Pushes position.now host.now (W.contents writer.old) (W.contents writer.new) (R.remaining reader.old))
+        (Reaches (K.tables service.old) (lacking position.now)) }
     ensures tells { PushesSome host.now (W.contents writer.old) (W.contents writer.new) (R.remaining reader.old) result }
 {
     let ending = push_ask(alloc, service, position, host, writer)?;

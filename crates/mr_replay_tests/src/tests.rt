@@ -3,8 +3,9 @@
 // test does not carry its state.
 
 use mr_base::{Alternatives, Day, Refusal, RoomName, ServerId, Slot, Stamp, Title, Write, WriteId};
-use mr_replay::{Board, Kept, Place, Standing, UndoRow};
+use mr_replay::{Board, Kept, Place, Standing, Trial, UndoRow};
 use std::alloc::Global;
+use std::mem;
 use std::process::Abort;
 use std::test::Fail;
 
@@ -35,6 +36,8 @@ enum Step {
     Execute(usize, usize, &'static [(Numbers, Place)]),
     /// They are executed in oak once what was executed last is undone.
     Replay(usize, usize, &'static [(Numbers, Place)]),
+    /// The same in a trial, which is given up then.
+    Try(usize, usize, &'static [(Numbers, Place)]),
     /// What was executed last is undone, the last one first, but for so many of the first.
     Undo(usize),
     /// Where the write at that place of the list would stand.
@@ -177,6 +180,45 @@ fn replay(
     Ok(are(tried.rows.as_slice(), places))
 }
 
+/// What shows of this write's row in the trial is in the error log.
+fn is_logged_in(trial: &Trial, numbers: Numbers) -> Result<bool, Refusal> {
+    let Some(row) = trial.row(id(numbers)?) else {
+        return Ok(false);
+    };
+    match &row.kept {
+        Kept::OfBooking { standing, .. } => Ok(*standing == Standing::InErrorLog),
+        Kept::OfCancel { .. } => Ok(false),
+    }
+}
+
+/// Whether the replay gives these places, those of the error log as the trial shows them.
+fn replays(
+    trial: &mut Trial,
+    undone: &[UndoRow],
+    writes: &[Write],
+    places: &[(Numbers, Place)],
+) -> Result<bool, Refusal> {
+    let rows = trial.replay(undone, writes)?;
+    for (numbers, place) in places {
+        if is_logged_in(trial, *numbers)? != (*place == Place::Logged) {
+            return Ok(false);
+        }
+    }
+    Ok(are(rows.as_slice(), places))
+}
+
+fn try_out(
+    tried: &mut Tried,
+    writes: &[Write],
+    places: &[(Numbers, Place)],
+) -> Result<bool, Refusal> {
+    let board = mem::replace(&mut tried.board, Board::new(tried.alloc));
+    let mut trial = Trial::new(board);
+    let is_met = replays(&mut trial, tried.rows.as_slice(), writes, places);
+    tried.board = trial.give_up();
+    is_met
+}
+
 /// Undoes the executions of these rows, the last one first.
 fn undo_each(board: &mut Board, rows: &[UndoRow]) {
     for row in rows.iter().rev() {
@@ -295,6 +337,7 @@ fn is_met(tried: &mut Tried, writes: &[Write], step: Step) -> Result<bool, Refus
         Step::Redo(from, to, places) => redo(tried, part(writes, from, to), places),
         Step::Execute(from, to, places) => execute(tried, part(writes, from, to), places),
         Step::Replay(from, to, places) => replay(tried, part(writes, from, to), places),
+        Step::Try(from, to, places) => try_out(tried, part(writes, from, to), places),
         Step::Undo(first) => {
             undo_behind(tried, first);
             Ok(true)
@@ -499,8 +542,12 @@ const BEHIND_XRAY: &[(Numbers, Place)] = &[
     ((2, 2), Place::Void),
 ];
 
-static WRITE_IN_FRONT: [Step; 4] = [
+static WRITE_IN_FRONT: [Step; 8] = [
     Step::Redo(1, 3, &[((2, 1), Place::Taken(0)), ((2, 2), Place::Done)]),
+    Step::Try(0, 3, BEHIND_XRAY),
+    Step::TakenBack((2, 1), 540, (2, 2)),
+    Step::Has((1, 1), false),
+    Step::Rows(1),
     Step::Replay(0, 3, BEHIND_XRAY),
     Step::Logged((2, 1), 540),
     Step::Target((2, 2), Some((2, 1))),

@@ -1,36 +1,33 @@
 -- What a batch makes of a desk's log: the board, and what undoes each kept write.
-use Rattle.std.proofs.Common.{◌≡◌, refl, sym, ap, ◌∙◌, subst, ◌==◌, ◌&&◌, Bool, true, false, not, length, cond, List, [], ◌∷◌, ◌++◌, map, ◌⊎◌, inl, inr, Some, IsTrue, arith, append_assoc, append-nil}
+use Rattle.std.proofs.Common.{◌≡◌, refl, sym, ap, ◌∙◌, subst, Bool, true, false, not, List, ◌++◌, map, ◌⊎◌, inl, inr, Some, IsTrue, arith, append_assoc}
 use Rattle.std.proofs.lemmas.Bool.{true≢false, not-true}
 use Rattle.std.proofs.lemmas.List.{map-append}
-use Rattle.std.proofs.lemmas.List.Elements.{filter-append}
 use Rattle.std.specs.List.{filter}
 use Rattle.std.specs.Str.{bytes_eq}
 use Rattle.mr_model.specs.Texts.{Text}
 use Rattle.mr_model.specs.Writes.{Id, Write, id_of, stamp_before}
-use Rattle.mr_model.specs.Replica.{Replica, IsReplica, committed, tentative, order_of, is_among}
+use Rattle.mr_model.specs.Replica.{Replica, IsReplica, committed, tentative, order_of}
 use Rattle.mr_model.specs.Exchange.{Item}
-use Rattle.mr_model.specs.Kept.{dropped_in_order, kept_in_order}
+use Rattle.mr_model.specs.Kept.{dropped_in_order}
 use Rattle.mr_model.specs.RowsInScope.{kept_commits}
 use Rattle.mr_model.specs.View.{of_room, place_of}
 use Rattle.mr_model.specs.Tables.{seq_of}
 use Rattle.mr_model.specs.Dropped.{Has}
 use Rattle.mr_model.specs.Moving.{may_move, again, BatchMoves}
-use Rattle.mr_model.proofs.KnownById.{one_known, tentative_known, committed_known, tentative_sorted}
+use Rattle.mr_model.proofs.KnownById.{tentative_known, committed_known, tentative_sorted}
 use Rattle.mr_model.proofs.DroppedApart.{order-parts, kept_known, committed-parts}
-use Rattle.mr_model.proofs.Members.{Distinct, sorted_same, sorted_filter, has_left, has_right, has_split, has_filter, filter_has, has_map, map_has, has_among, not_among, distinct_parts}
+use Rattle.mr_model.proofs.Members.{Distinct, sorted_same, sorted_filter, has_left, has_right, has_split, has_filter, filter_has, has_map, has_among, distinct_parts}
 use Rattle.mr_model.proofs.OrderedSets.{Before, before-true, before_from, before_trans}
 use Rattle.mr_model.proofs.Orders.{append_split}
 use Rattle.mr_model.proofs.PlacesOfOrder.{known_in_order}
 use Rattle.mr_replay.specs.Places.{UndoRow}
-use Rattle.mr_replay.specs.Rows.{Rows, undo_row_at}
+use Rattle.mr_replay.specs.Rows.{Rows}
 use Rattle.mr_replay.specs.Holds.{HaveDistinctIds, if_of, Holds}
 use Rattle.mr_replay.proofs.Lists.{distinct-part, same_name}
 use Rattle.mr_replay.proofs.OneBoard.{one_board}
-use Rattle.mr_replica.specs.Moves.{AreTouched, moves_in}
 use Rattle.mr_replica.specs.Logged.{undo_with}
 use Rattle.mr_replica.specs.RoomMoves.{RoomMoves, ReplaysRooms, undone_at, board_after, rows_after, row_at}
 use Rattle.mr_replica.proofs.DeskNumbers.{order_distinct, dropped_long}
-use Rattle.mr_replica.proofs.Moves.{none_passes, all_pass, moves_not, moves_as}
 use Rattle.mr_replica.proofs.BatchBoards.{moving}
 use Rattle.mr_replica.proofs.DeskBoards.{board_of, board-told}
 use Rattle.mr_replica.proofs.Replays.{whole_view}
@@ -38,15 +35,6 @@ use Rattle.mr_replica.proofs.RoomsApart.{IsGrouped, ShowsApart, rooms_apart}
 use Rattle.mr_tables.proofs.BoardsTold.{board_told}
 
 -- ---- lists
-
--- tests that agree pick the same
-filter_same : {A : Type 0} (p q : A → Bool) (xs : List A) → ((x : A) → Has x xs → p x ≡ q x) → filter p xs ≡ filter q xs
-filter_same p q [] e = refl
-filter_same p q (x ∷ xs) e = λ i. cond (e x (inl refl) i) (x ∷ filter_same p q xs (λ y h. e y (inr h)) i) (filter_same p q xs (λ y h. e y (inr h)) i)
-
-map_same : {A B : Type 0} (f g : A → B) (xs : List A) → ((x : A) → Has x xs → f x ≡ g x) → map f xs ≡ map g xs
-map_same f g [] e = refl
-map_same f g (x ∷ xs) e = λ i. e x (inl refl) i ∷ map_same f g xs (λ y h. e y (inr h)) i
 
 -- no write stands in both parts of a list of different ids
 twice : (xs ys : List Write) (v : Write) → HaveDistinctIds (xs ++ ys) → Has v xs → Has v ys → ⊥
@@ -150,10 +138,6 @@ module _ (a b : Replica) (items : List Item) (m : BatchMoves a b items) (sound :
       (append_split (dropped_in_order b) (dropped_in_order a) (kept_commits b) (kept_commits a ++ news) (dropped_long b m.sound ∙ sym m.dropped ∙ sym (dropped_long a sound))
       (sym (committed-parts b) ∙ m.committed_are ∙ ap (λ ws. ws ++ news) (committed-parts a) ∙ append_assoc (dropped_in_order a) (kept_commits a) news)).1
 
-  -- the test of a kept write of the second replica: it is executed anew
-  abbrev pub is_new : Write → Bool
-  is_new w = is_among (id_of w) (map id_of anew)
-
   anew_is : (w : Write) → Has w anew → Has w news ⊎ Has w (moving a items b)
   anew_is w h = has_split w news (moving a items b) h
 
@@ -170,80 +154,31 @@ module _ (a b : Replica) (items : List Item) (m : BatchMoves a b items) (sound :
   parts : Distinct (map id_of (committed a)) × Distinct (map id_of (news ++ tentative b)) × ((x : Id) → Has x (map id_of (committed a)) → Has x (map id_of (news ++ tentative b)) → ⊥)
   parts = distinct_parts (map id_of (committed a)) (map id_of (news ++ tentative b)) (subst Distinct (map-append id_of (committed a) (news ++ tentative b)) ids_parts)
 
-  last_parts : Distinct (map id_of news) × Distinct (map id_of (tentative b)) × ((x : Id) → Has x (map id_of news) → Has x (map id_of (tentative b)) → ⊥)
-  last_parts = distinct_parts (map id_of news) (map id_of (tentative b)) (subst Distinct (map-append id_of news (tentative b)) parts.1)
-
-  old_commit : (w : Write) → Has w (kept_commits a) → is_new w ≡ false
-  old_commit w h =
-      not_among (id_of w) (map id_of anew) (λ g.
-      let (v, k, e) = map_has id_of (id_of w) anew g in
+  -- a kept commit isn't executed anew
+  commit_not_anew : (w : Write) → Has w (kept_commits a) → Has w anew → ⊥
+  commit_not_anew w h g =
       parts.2 (id_of w) (has_map id_of w (committed a) (subst (λ ws. Has w ws) (sym (committed-parts a)) (has_right w (dropped_in_order a) (kept_commits a) h)))
-      (subst (λ i. Has i (map id_of (news ++ tentative b))) (sym e) (has_map id_of v (news ++ tentative b) (behind v k))))
+      (has_map id_of w (news ++ tentative b) (behind w g))
 
-  new_commit : (w : Write) → Has w news → is_new w ≡ true
-  new_commit w h = has_among (id_of w) (map id_of anew) (has_map id_of w anew (has_left w news (moving a items b) h))
-
-  open_one : (w : Write) → Has w (tentative b) → is_new w ≡ may_move a items w
-  open_one w h = go (may_move a items w) refl
+  -- what isn't executed anew has the place that it had
+  place_as : (w : Write) → Has w b.known → (Has w anew → ⊥) → place_of a w ≡ place_of b w
+  place_as w h other = go (m.others w h)
     where
-      go : (c : Bool) → may_move a items w ≡ c → is_new w ≡ c
-      go true e = has_among (id_of w) (map id_of anew) (has_map id_of w anew (has_right w news (moving a items b) (has_filter (may_move a items) w (tentative b) e h)))
-      go false e = not_among (id_of w) (map id_of anew) (λ g. let (v, k, s) = map_has id_of (id_of w) anew g in clash v s (anew_is v k))
-        where
-          clash : (v : Write) → id_of w ≡ id_of v → Has v news ⊎ Has v (moving a items b) → ⊥
-          clash v s (inl k) = last_parts.2 (id_of w) (subst (λ i. Has i (map id_of news)) (sym s) (has_map id_of v news k)) (has_map id_of w (tentative b) h)
-          clash v s (inr k) =
-              let f = filter_has (may_move a items) v (tentative b) k in
-              let same : w ≡ v = one_known b w v m.sound (tentative_known b w h).0 (tentative_known b v f.0).0 s in
-              true≢false (sym f.1 ∙ ap (may_move a items) (sym same) ∙ e)
+      go : Has w anew ⊎ (Has w a.known × (place_of a w ≡ place_of b w) × (seq_of a w ≡ seq_of b w)) → place_of a w ≡ place_of b w
+      go (inl g) = absurd (other g)
+      go (inr g) = g.1
 
-  -- those that pass are executed anew, in this order
-  pub new_picked : filter is_new (kept_in_order b) ≡ anew
-  new_picked =
-      filter-append is_new (kept_commits b) (tentative b)
-      ∙ ap (λ ws. filter is_new ws ++ filter is_new (tentative b)) kept_is
-      ∙ (λ i. filter-append is_new (kept_commits a) news i ++ filter is_new (tentative b))
-      ∙ (λ i.
-      ((filter_same is_new (λ w. false) (kept_commits a) old_commit ∙ none_passes (kept_commits a)) i
-      ++ (filter_same is_new (λ w. true) news new_commit ∙ all_pass news) i)
-      ++ filter_same is_new (may_move a items) (tentative b) open_one i)
+  pub front_place : (w : Write) → Has w (kept_commits a) → place_of a w ≡ place_of b w
+  front_place w h =
+      place_as w
+      (kept_known b w m.sound (has_left w (kept_commits b) (tentative b) (subst (λ ws. Has w ws) (sym kept_is) (has_left w (kept_commits a) news h)))).0
+      (commit_not_anew w h)
 
-  -- the others are the kept writes of the first replica that stay
-  pub others_picked : filter (λ w. not (is_new w)) (kept_in_order b) ≡ kept_commits a ++ filter stays (tentative b)
-  others_picked =
-      let old = filter_same (λ w. not (is_new w)) (λ w. true) (kept_commits a) (λ w h. ap not (old_commit w h)) ∙ all_pass (kept_commits a) in
-      let none = filter_same (λ w. not (is_new w)) (λ w. false) news (λ w h. ap not (new_commit w h)) ∙ none_passes news in
-      filter-append (λ w. not (is_new w)) (kept_commits b) (tentative b)
-      ∙ ap (λ ws. filter (λ w. not (is_new w)) ws ++ filter (λ w. not (is_new w)) (tentative b)) kept_is
-      ∙ (λ i. filter-append (λ w. not (is_new w)) (kept_commits a) news i ++ filter (λ w. not (is_new w)) (tentative b))
-      ∙ (λ i. (old i ++ none i) ++ filter_same (λ w. not (is_new w)) stays (tentative b) (λ w h. ap not (open_one w h)) i)
-      ∙ (λ i. append-nil (kept_commits a) i ++ filter stays (tentative b))
-
-  -- they have the places that they had
-  pub others_places : map (undo_with (place_of a)) (kept_commits a ++ filter stays (tentative a)) ≡ map (undo_with (place_of b)) (filter (λ w. not (is_new w)) (kept_in_order b))
-  others_places =
-      ap (λ ws. map (undo_with (place_of a)) (kept_commits a ++ ws)) stays_same
-      ∙ ap (map (undo_with (place_of a))) (sym others_picked)
-      ∙ map_same (undo_with (place_of a)) (undo_with (place_of b)) (filter (λ w. not (is_new w)) (kept_in_order b)) same
-    where
-      same : (w : Write) → Has w (filter (λ w. not (is_new w)) (kept_in_order b)) → undo_with (place_of a) w ≡ undo_with (place_of b) w
-      same w h = go (m.others w (kept_known b w m.sound f.0).0)
-        where
-          f : Has w (kept_in_order b) × (not (is_new w) ≡ true)
-          f = filter_has (λ w. not (is_new w)) w (kept_in_order b) h
-
-          go : Has w anew ⊎ (Has w a.known × (place_of a w ≡ place_of b w) × (seq_of a w ≡ seq_of b w)) → undo_with (place_of a) w ≡ undo_with (place_of b) w
-          go (inl g) = absurd (true≢false (sym (has_among (id_of w) (map id_of anew) (has_map id_of w anew g)) ∙ not-true (is_new w) f.1))
-          go (inr g) = ap (undo_row_at w) g.1
-
-  -- the rows of those that stay, picked from all
-  pub others_rows : (touched : List Text) → AreTouched touched a items → map (undo_with (place_of a)) (filter (λ w. not (seq_of a w == 0 && moves_in touched items (length a.commits) w)) (kept_in_order a)) ≡ map (undo_with (place_of b)) (filter (λ w. not (is_new w)) (kept_in_order b))
-  others_rows touched right =
-      ap (map (undo_with (place_of a))) (filter-append (λ w. not (seq_of a w == 0 && moves_in touched items (length a.commits) w)) (kept_commits a) (tentative a)
-      ∙ (λ i.
-      (filter_same (λ w. not (seq_of a w == 0 && moves_in touched items (length a.commits) w)) (λ w. true) (kept_commits a) (λ w h. ap not (moves_not a items touched sound w h)) ∙ all_pass (kept_commits a)) i
-      ++ filter_same (λ w. not (seq_of a w == 0 && moves_in touched items (length a.commits) w)) stays (tentative a) (λ w h. ap not (moves_as a items touched right w h)) i))
-      ∙ others_places
+  pub open_place : (w : Write) → Has w (filter stays (tentative b)) → place_of a w ≡ place_of b w
+  open_place w h =
+      let f = filter_has stays w (tentative b) h in
+      let g = filter_has stays w (tentative a) (subst (λ ws. Has w ws) (sym stays_same) h) in
+      place_as w (tentative_known b w f.0).0 (not_anew w (has_right w (committed a) (tentative a) g.0) (not_moving w f.1))
 
   -- ---- the board
 

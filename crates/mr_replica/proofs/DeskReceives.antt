@@ -1,13 +1,11 @@
 -- A desk that takes a batch: its commit numbers, its candidate, its log and the change of its tables.
-use Rattle.std.proofs.Common.{◌≡◌, true, refl, sym, ap, ◌∙◌, subst, ℕ, zero, suc, ◌+◌, ◌-◌, ◌<◌, ◌≤◌, ◌==◌, ◌&&◌, List, [], ◌∷◌, ◌++◌, length, map, take, ◌⊎◌, inl, inr, Some, Result, Ok, Err, arith}
+use Rattle.std.proofs.Common.{◌≡◌, true, refl, sym, ap, ◌∙◌, subst, ℕ, zero, suc, ◌+◌, ◌-◌, ◌<◌, ◌≤◌, ◌==◌, ◌&&◌, List, [], ◌∷◌, ◌++◌, length, map, take, ◌⊎◌, inl, inr, Some, Result, Ok, Err, IfOk, arith}
 use Rattle.std.specs.List.{filter, slice_get, list_all}
 use Rattle.std.proofs.lemmas.Bool.{true≢false}
-use Rattle.std.proofs.lemmas.List.{length-map}
 use Rattle.mr_model.specs.Texts.{Text}
 use Rattle.mr_model.specs.Dropped.{Has}
 use Rattle.mr_model.specs.Writes.{Write}
 use Rattle.mr_model.specs.Exchange.{Second, Item, is_item}
-use Rattle.mr_model.specs.Refusals as model
 use Rattle.mr_model.specs.Replica.{Replica, IsReplica}
 use Rattle.mr_model.specs.Kept.{dropped_in_order, kept_in_order}
 use Rattle.mr_model.specs.Moving.{again}
@@ -26,21 +24,20 @@ use Rattle.mr_replay.specs.Holds.{HaveDistinctIds, if_of}
 use Rattle.mr_replay.specs.Bookings.{if_taken}
 use Rattle.mr_replay.proofs.Lists.{distinct_back}
 use Rattle.mr_tables.specs.declared.summary.Summary.{Summary}
+use Rattle.mr_tables.specs.Summary.{summary_of}
 use Rattle.mr_tables.specs.Change.{ChangeView, changed}
 use Rattle.mr_tables.specs.Rooms.{rooms_beside}
 use Rattle.mr_tables.specs.Rows.{seq_on}
 use Rattle.mr_tables.specs.Written.{meta_of, changed_tallies, with_places, written}
-use Rattle.mr_replica.specs.declared.kept_writes.NumberedWrite.{NumberedWrite}
 use Rattle.mr_replica.specs.Desk.{DeskView, desk_of, old_errors_of, old_cancels_of, nothing_taken, reply_with}
 use Rattle.mr_replica.specs.DeskTables.{desk_tables}
 use Rattle.mr_replica.specs.Log.{KeptLog}
 use Rattle.mr_replica.specs.Moves.{AreTouched, moves_in}
-use Rattle.mr_replica.specs.Taken.{ReachedView, ShowsPicked}
+use Rattle.mr_replica.specs.Taken.{ReachedView, ShowsPicked, is_inside}
 use Rattle.mr_replica.specs.ChangeLaws.{vector_between}
-use Rattle.mr_replica.specs.KeptWrites.{numbered_of}
 use Rattle.mr_replica.specs.Logged.{undo_with}
 use Rattle.mr_replica.specs.Placing.{with_places_put, RowEnds, cancellers_on}
-use Rattle.mr_replica.specs.Received.{Reaches, all_writes}
+use Rattle.mr_replica.specs.Received.{Reaches, HasKeptOf, Received}
 use Rattle.mr_replica.specs.Targets.{aimed_at, moved_targets}
 use Rattle.mr_replica.proofs.BatchBoards.{moving, undo_rows_are}
 use Rattle.mr_replica.proofs.BatchChanges.{again_few, batch_turns}
@@ -86,7 +83,7 @@ marks_end a d k done stands all was = was ∙ take_all_of (seq_of a) (kept_in_or
 -- ---- what is reached
 
 -- with all items there is what they lead to
-pub desk_reaches : (a : Replica) (d : DeskView) (items : List Item) (c : ReachedView) (p : Progress) → IsReplica a → d ≡ desk_of a → list_all (is_item Second) items ≡ true → take_items items 2 (Ok (nothing_taken a)) ≡ Ok p → ShowsPicked a all_writes c p → Reaches d items c.summary c.rooms c.kept a p.replica
+pub desk_reaches : (a : Replica) (d : DeskView) (items : List Item) (c : ReachedView) (p : Progress) → IsReplica a → d ≡ desk_of a → list_all (is_item Second) items ≡ true → take_items items 2 (Ok (nothing_taken a)) ≡ Ok p → ShowsPicked a (is_inside a items) c p → Reaches d items c a p.replica
 desk_reaches a d items c p sound stands good taken shows =
     record {
       sound = sound;
@@ -96,33 +93,33 @@ desk_reaches a d items c p sound stands good taken shows =
       keeps_rooms = (items-grow items 2 (nothing_taken a) p sound good taken).rooms;
       summary_is = shows.summary;
       rooms_are = shows.rooms;
-      kept_are = shows.kept ∙ ap (map (numbered_of p.replica)) (all_pass (kept_in_order p.replica));
+      kept_are = shows.kept;
+      marks = shows.marks;
     }
 
 -- the same of equal parts
-abbrev pub reaches_as : (d e : DeskView) (items : List Item) (s t : Summary) (rooms names : List Text) (kept xs : List NumberedWrite) (a b : Replica) → e ≡ desk_of a → t ≡ s → names ≡ rooms → xs ≡ kept → Reaches d items s rooms kept a b → Reaches e items t names xs a b
-reaches_as d e items s t rooms names kept xs a b stands summary named logged r =
+abbrev pub reaches_as : (d e : DeskView) (items : List Item) (c x : ReachedView) (a b : Replica) → e ≡ desk_of a → x ≡ c → Reaches d items c a b → Reaches e items x a b
+reaches_as d e items c x a b stands same r =
     record {
       sound = r.sound;
       stands = stands;
       moves = r.moves;
       dropped = r.dropped;
       keeps_rooms = r.keeps_rooms;
-      summary_is = summary ∙ r.summary_is;
-      rooms_are = named ∙ r.rooms_are;
-      kept_are = logged ∙ r.kept_are;
+      summary_is = ap (λ (v : ReachedView). v.summary) same ∙ r.summary_is;
+      rooms_are = ap (λ (v : ReachedView). v.rooms) same ∙ r.rooms_are;
+      kept_are = ap (λ (v : ReachedView). v.kept) same ∙ r.kept_are;
+      marks = r.marks;
     }
 
 -- the answer is what the items give
-pub desk_took : (a : Replica) (d : DeskView) (items : List Item) (c : ReachedView) (p : Progress) (x y : ℕ) → IsReplica a → d ≡ desk_of a → list_all (is_item Second) items ≡ true → take_items items 2 (Ok (nothing_taken a)) ≡ Ok p → ShowsPicked a all_writes c p → x ≡ length c.kept - length d.log.kept → y ≡ c.summary.commits - d.commits → Took x y ≡ (after_items a (take_items items 2 (Ok (nothing_taken a)))).reply
-desk_took a d items c p x y sound stands good taken shows writes commits =
+pub desk_took : (a : Replica) (d : DeskView) (items : List Item) (c : ReachedView) (p : Progress) (had x y : ℕ) → IsReplica a → d ≡ desk_of a → list_all (is_item Second) items ≡ true → take_items items 2 (Ok (nothing_taken a)) ≡ Ok p → ShowsPicked a (is_inside a items) c p → had ≡ length (filter (is_inside a items) (kept_in_order a)) → x ≡ length c.kept - had → y ≡ c.summary.commits - d.commits → Took x y ≡ (after_items a (take_items items 2 (Ok (nothing_taken a)))).reply
+desk_took a d items c p had x y sound stands good taken shows before writes commits =
     let brings = (items-bring items 2 (nothing_taken a) p sound good taken).commits in
     let more = shows.writes in
-    let all = ap length (all_pass (kept_in_order a)) in
-    let kept = ap (λ (v : DeskView). length v.log.kept) stands in
     let was = ap (λ (v : DeskView). v.commits) stands in
     let now = ap (λ (s : Summary). s.commits) shows.summary in
-    let w : x ≡ p.writes = omega (arith, writes, more, kept, all) in
+    let w : x ≡ p.writes = omega (arith, writes, more, before) in
     let m : y ≡ p.commits = omega (arith, commits, brings, was, now) in
     (λ i. Took (w i) (m i)) ∙ ap (λ (z : After). z.reply) (sym (ap (after_items a) taken))
 
@@ -135,6 +132,10 @@ pub log_is : (b : Replica) (kept : List Write) (undo : List UndoRow) (board : Ro
 log_is b kept undo board sound k u e =
     let rows = u ∙ sym (undo_rows_are (place_of b) (executed_all [] (dropped_in_order b)) (kept_in_order b) (kept_places b sound)) in
     λ i. record { kept = k i; undo = rows i; board = e i }
+
+-- the same of a log that has these kept writes
+pub log_has : (b : Replica) (l : KeptLog) → IsReplica b → HasKeptOf b l → l.board ≡ (desk_of b).log.board → l ≡ (desk_of b).log
+log_has b l sound has e = log_is b l.kept l.undo l.board sound has.kept_are has.undo_are e
 
 -- the log with its board moved out and put back is as it was
 pub board_put_back : (l without with : KeptLog) (b : Rows) → without ≡ record l { board = [] } → with ≡ record without { board = b } → b ≡ l.board → with ≡ l
@@ -154,7 +155,7 @@ nothing_put d change is =
       cancelled = all_pass t.cancelled i;
     })
 
-module _ (d : DeskView) (items : List Item) (a b : Replica) (s : Summary) (rooms : List Text) (kept : List NumberedWrite) (t : Reaches d items s rooms kept a b) (new : Rows) (board_is : new ≡ board_of b) where
+module _ (d : DeskView) (items : List Item) (a b : Replica) (s : Summary) (rooms : List Text) (c : ReachedView) (t : Reaches d items c a b) (s_is : s ≡ summary_of b) (rooms_are : rooms ≡ b.rooms) (new : Rows) (board_is : new ≡ board_of b) where
   abbrev anew : List Write
   anew = again a items t.moves.news b
 
@@ -187,8 +188,8 @@ module _ (d : DeskView) (items : List Item) (a b : Replica) (s : Summary) (rooms
       let put = change_is small
       ∙ (λ i.
       with_places_put
-      (written (meta_of (t.summary_is i)) (rooms_beside (t.stands i).rooms (t.rooms_are i)) (changed_tallies (t.stands i).tallies (t.summary_is i).tallies) (t.summary_is i).commits ((t.stands i).commits + 1) (writes i) (undo i) (cancellers_on new (writes i)))
-      (moved_targets (t.summary_is i).tallies d.log.board new (writes i)))
+      (written (meta_of (s_is i)) (rooms_beside (t.stands i).rooms (rooms_are i)) (changed_tallies (t.stands i).tallies (s_is i).tallies) (s_is i).commits ((t.stands i).commits + 1) (writes i) (undo i) (cancellers_on new (writes i)))
+      (moved_targets (s_is i).tallies d.log.board new (writes i)))
       ∙ (λ i.
       with_places_put
       (written (tables_of b).meta (rooms_beside a.rooms b.rooms) (vector_between a b) (length b.commits) (length a.commits + 1) (all i) (map (undo_with (place_of b)) (all i)) (cancellers_on new (all i)))
@@ -196,34 +197,53 @@ module _ (d : DeskView) (items : List Item) (a b : Replica) (s : Summary) (rooms
       ap (λ c. changed c (tables_of a)) put
       ∙ batch_turns a b items t.moves t.sound d.log.board new shows_old shows_new (λ w. true) (λ w h e. absurd (true≢false e)) t.keeps_rooms
 
-pub same_length : (b : Replica) (kept : List Write) (undo : List UndoRow) → kept ≡ kept_in_order b → undo ≡ map (undo_with (place_of b)) (kept_in_order b) → length kept ≡ length undo
-same_length b kept undo k u = ap length k ∙ sym (length-map (kept_in_order b) (undo_with (place_of b))) ∙ sym (ap length u)
-
 -- what undoes the kept writes of a replica's desk
 pub desk_undo : (a : Replica) → IsReplica a → (desk_of a).log.undo ≡ map (undo_with (place_of a)) (kept_in_order a)
 desk_undo a sound = undo_rows_are (place_of a) (executed_all [] (dropped_in_order a)) (kept_in_order a) (kept_places a sound)
 
+-- the log of a replica's desk has its kept writes
+pub desk_has_kept : (a : Replica) (l : KeptLog) → IsReplica a → l.kept ≡ (desk_of a).log.kept → l.undo ≡ (desk_of a).log.undo → HasKeptOf a l
+desk_has_kept a l sound kept undo = record { kept_are = kept; undo_are = undo ∙ desk_undo a sound }
+
 -- the writes that may move
 pub moving_are : (a : Replica) (items : List Item) (touched : List Text) → IsReplica a → AreTouched touched a items → filter (λ w. seq_of a w == 0 && moves_in touched items (length a.commits) w) (kept_in_order a) ≡ moving a items a
 moving_are a items touched sound right =
-    ap (filter (λ w. seq_of a w == 0 && moves_in touched items (length a.commits) w)) (sym (all_pass (kept_in_order a))) ∙ undone_picked a items all_writes touched sound (λ w e. refl) right
+    ap (filter (λ w. seq_of a w == 0 && moves_in touched items (length a.commits) w)) (sym (all_pass (kept_in_order a))) ∙ undone_picked a items (λ w. true) touched sound (λ w e. refl) right
 
 -- the desk with these parts, and what its dropped writes left, is that of the second replica
-pub desk_after : (d : DeskView) (items : List Item) (a b : Replica) (s : Summary) (rooms : List Text) (kept : List NumberedWrite) (log : KeptLog) {was : DeskView} → Reaches d items s rooms kept a b → log ≡ (desk_of b).log → was ≡ d → desk_with s rooms log was.old_errors was.old_cancels ≡ desk_of b
-desk_after d items a b s rooms kept log t is own =
+pub desk_after : (d : DeskView) (items : List Item) (a b : Replica) (c : ReachedView) (s : Summary) (rooms : List Text) (log : KeptLog) {was : DeskView} → s ≡ c.summary → rooms ≡ c.rooms → Reaches d items c a b → log ≡ (desk_of b).log → was ≡ d → desk_with s rooms log was.old_errors was.old_cancels ≡ desk_of b
+desk_after d items a b c s rooms log numbers names t is own =
     let errors = ap (λ (v : DeskView). v.old_errors) (own ∙ t.stands) ∙ ap old_errors_of (sym t.dropped) in
     let cancels = ap (λ (v : DeskView). v.old_cancels) (own ∙ t.stands) ∙ ap old_cancels_of (sym t.dropped) in
-    λ i. desk_with (t.summary_is i) (t.rooms_are i) (is i) (errors i) (cancels i)
+    λ i. desk_with ((numbers ∙ t.summary_is) i) ((names ∙ t.rooms_are) i) (is i) (errors i) (cancels i)
 
 -- a batch that is refused leaves the desk as it was
-pub desk_refused : (a : Replica) (d : DeskView) (exact : Result Progress model.Refusal) (r : Result (ℕ × ℕ × ChangeView) Refusal) (e : Refusal) → r ≡ Err e → d ≡ desk_of a → (exact ≡ Err (refusal_of e)) ⊎ (e ≡ OutOfMemory)
-    → ((reply_with (λ (taken : ℕ × ℕ × ChangeView). Took taken.0 taken.1) r ≡ (after_items a exact).reply) × (d ≡ desk_of (after_items a exact).replica))
-    ⊎ ((r ≡ Err OutOfMemory) × (d ≡ d))
-desk_refused a d exact r e p stands (inl t) =
+pub desk_refused : (a : Replica) (items : List Item) (d : DeskView) (r : Result (ℕ × ℕ × ChangeView) Refusal) (e : Refusal) → r ≡ Err e → d ≡ desk_of a → (take_items items 2 (Ok (nothing_taken a)) ≡ Err (refusal_of e)) ⊎ (e ≡ OutOfMemory) → Received a items d r d
+desk_refused a items d r e p stands (inl t) =
     let step = ap (after_items a) t in
-    inl (ap (reply_with (λ (taken : ℕ × ℕ × ChangeView). Took taken.0 taken.1)) p ∙ ap (λ (x : After). x.reply) (sym step), stands ∙ ap (λ (x : After). desk_of x.replica) (sym step))
-desk_refused a d exact r e p stands (inr t) = inr (p ∙ ap Err t, refl)
+    inl (
+      ap (reply_with (λ (taken : ℕ × ℕ × ChangeView). Took taken.0 taken.1)) p ∙ ap (λ (x : After). x.reply) (sym step),
+      stands ∙ ap (λ (x : After). desk_of x.replica) (sym step),
+      subst (λ (y : Result (ℕ × ℕ × ChangeView) Refusal). IfOk y (λ taken. changed taken.2 (desk_tables d) ≡ desk_tables d)) (sym p) tt,
+    )
+desk_refused a items d r e p stands (inr t) = inr (p ∙ ap Err t, refl)
+
+-- want of memory leaves it as it was
+pub desk_wanting : (a : Replica) (items : List Item) (d : DeskView) (r : Result (ℕ × ℕ × ChangeView) Refusal) (e : Refusal) (new : DeskView) → r ≡ Err e → e ≡ OutOfMemory → new ≡ d → Received a items d r new
+desk_wanting a items d r e new p want same = inr (p ∙ ap Err want, same)
 
 -- where the change turns the tables of the first replica, it turns those of its desk
 pub tables_turned : (a b : Replica) (d new : DeskView) (change : ChangeView) → IsReplica a → IsReplica b → d ≡ desk_of a → new ≡ desk_of b → changed change (tables_of a) ≡ tables_of b → changed change (desk_tables d) ≡ desk_tables new
 tables_turned a b d new change sound after stands reached turns = ap (changed change) (ap desk_tables stands ∙ desk_tables-of a sound) ∙ turns ∙ sym (ap desk_tables reached ∙ desk_tables-of b after)
+
+-- ---- the answer
+
+pub received_step : (a : Replica) (items : List Item) (d : DeskView) (r : Result (ℕ × ℕ × ChangeView) Refusal) (new : DeskView) → Received a items d r new
+    → ((reply_with (λ (taken : ℕ × ℕ × ChangeView). Took taken.0 taken.1) r ≡ (after_items a (take_items items 2 (Ok (nothing_taken a)))).reply) × (new ≡ desk_of (after_items a (take_items items 2 (Ok (nothing_taken a)))).replica))
+    ⊎ ((r ≡ Err OutOfMemory) × (new ≡ d))
+received_step a items d r new (inl x) = inl (x.0, x.1)
+received_step a items d r new (inr x) = inr x
+
+pub received_turns : (a : Replica) (items : List Item) (d : DeskView) (taken : ℕ × ℕ × ChangeView) (new : DeskView) → Received a items d (Ok taken) new → changed taken.2 (desk_tables d) ≡ desk_tables new
+received_turns a items d taken new (inl x) = x.2
+received_turns a items d taken new (inr x) = let never : ⊥ = (let e : ◌≡◌ {A = Result (ℕ × ℕ × ChangeView) Refusal} (Ok taken) (Err OutOfMemory) = x.0 in cc) in absurd never

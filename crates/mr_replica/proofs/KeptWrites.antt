@@ -33,11 +33,6 @@ pub write_told : (mark : Write → ℕ) (o : Option Write) → option_map (λ (x
 write_told mark None = refl
 write_told mark (Some w) = refl
 
--- the writes of numbered ones
-pub numbered_writes : (r : Replica) (ws : List Write) → map (λ x. x.write) (map (numbered_of r) ws) ≡ ws
-numbered_writes r [] = refl
-numbered_writes r (w ∷ ws) = ap (λ vs. w ∷ vs) (numbered_writes r ws)
-
 -- the number at its place
 mark_mid : (mark : Write → ℕ) (left : List Write) (w : Write) (there : List Write) → get_or (map mark (left ++ w ∷ there)) (length left) 0 ≡ mark w
 mark_mid mark [] w there = refl

@@ -53,5 +53,5 @@ pub mod Tails
 pub mod Sets
 pub mod TouchedRooms
 pub mod DeskMoves
-pub mod Joining
+pub mod LogTails
 pub mod DeskReceives

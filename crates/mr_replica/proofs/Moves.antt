@@ -23,6 +23,7 @@ use Rattle.mr_model.proofs.RowsById.{flat_has, has_flat, seq_not}
 use Rattle.mr_model.proofs.RowsOfKnown.{rows_of_known}
 use Rattle.mr_model.proofs.MembersAlike.{bool_same}
 use Rattle.mr_replica.specs.Moves.{rooms_named, AreTouched, moves_in, is_anew, ShowsMoves}
+use Rattle.mr_replica.specs.Named.{names}
 use Rattle.mr_replica.specs.Sets.{AreSameRooms}
 use Rattle.mr_replica.specs.Taken.{Covers, is_inside}
 use Rattle.mr_replica.specs.KeptWrites.{numbered_of}
@@ -158,7 +159,7 @@ first_number r front rest w sound parts h =
     let seq : seq_of r w ≡ 1 + i = order_numbers r i w sound there ∙ cond-true (leb (1 + i) (length r.commits)) (1 + i) 0 (le-leb (1 + i) (length r.commits) within) in
     (omega (arith, seq), omega (arith, seq, low))
 
-tentative_number : (r : Replica) (w : Write) → Has w (tentative r) → seq_of r w ≡ 0
+pub tentative_number : (r : Replica) (w : Write) → Has w (tentative r) → seq_of r w ≡ 0
 tentative_number r w h = seq_not 1 r.commits (id_of w) (λ g. true≢false (sym (has_among (id_of w) r.commits g) ∙ (tentative_known r w h).1))
 
 -- ---- what is undone and what is executed anew
@@ -272,3 +273,17 @@ again_picked a b items inside touched commits kept m =
 
     some : filter (anew a b items touched) (filter inside (tentative b)) ≡ filter (may_move a items) (tentative b)
     some = filter_inside (anew a b items touched) (may_move a items) inside (tentative b) same_test (λ w h e. m.covers w (moving_inside a items w (uncommitted w h) e))
+
+-- ---- what is in scope
+
+and_turned : (s t l : Bool) → (s && (t && l)) ≡ ((s && l) && t)
+and_turned true true true = refl
+and_turned true true false = refl
+and_turned true false true = refl
+and_turned true false false = refl
+and_turned false t l = refl
+
+-- a write is in scope where it is named, or is tentative and may move
+pub inside_told : (a : Replica) (items : List Item) (w : Write) → (names items (id_of w) (seq_of a w) || (seq_of a w == 0 && may_move a items w)) ≡ is_inside a items w
+inside_told a items w =
+    ap (λ b. is_named items (log_row a w) || b) (and_turned (seq_of a w == 0) (is_touched (tables_of a) items w.room) (is_late (length a.commits) items w.stamp.time w.stamp.server))

@@ -1,6 +1,6 @@
 -- A reader of the contracts of desks trusts Log, Desk, Steps, DeskTables, Placing, Turning, ChangeLaws, KeptRows, SoundLog, SoundStamps,
--- SoundNotes and OnBoard; those of the functions that a part shares with a desk cite Outgoing, Taken, KeptWrites, Logged, Sets, Tails,
--- Touched, Targets, Moves and RoomMoves besides. The others, Candidate, Accepting and Received, serve private clauses and proofs alone.
+-- SoundNotes and OnBoard; those of the functions that a part shares with a desk cite Outgoing, Taken, KeptWrites, Logged, Sets, Named,
+-- Tails, Touched, Targets, Moves and RoomMoves besides. The others, Candidate, Accepting and Received, serve private clauses and proofs alone.
 pub mod Log
 pub mod Desk
 pub mod Steps
@@ -25,4 +25,5 @@ pub mod KeptWrites
 pub mod Taken
 pub mod Moves
 pub mod RoomMoves
+pub mod Named
 pub mod Received

@@ -1,4 +1,4 @@
-ghost use Rattle.std.specs.Prelude.{◌≡◌, ◌≢◌, ◌+◌, ◌<◌, ◌^◌, List, IsTrue, Ok, Err, Some, map, length, OnErr, IfOk, IfErr};
+ghost use Rattle.std.specs.Prelude.{◌≡◌, ◌≢◌, ◌+◌, ◌<◌, ◌^◌, List, IsTrue, Ok, Err, Some, map, length, OnOk, OnErr, IfOk, IfErr};
 ghost use Rattle.std.specs.List.{list_all};
 ghost use Rattle.mr_model.specs.Exchange.{Second, is_item, Header, Item as ItemOfBatch};
 ghost use Rattle.mr_model.specs.Kept.{kept_in_order};
@@ -8,28 +8,28 @@ ghost use Rattle.mr_model.specs.Replies.{Took};
 ghost use Rattle.mr_model.specs.Step.{receive_batch, after_items};
 ghost use Rattle.mr_model.specs.Tables.{seq_of, tables_of};
 ghost use Rattle.mr_model.specs.Taking.{take_items};
-ghost use Rattle.mr_model.specs.Texts.{Text};
 ghost use Rattle.mr_base.specs.Batches.{item_of};
+ghost use Rattle.mr_replay.specs.Rows.{Rows};
 ghost use Rattle.mr_tables.specs.Change.{changed};
-ghost use Rattle.mr_tables.specs.declared.summary.Summary.{Summary as SummaryOfDesk};
 ghost use Rattle.mr_tables.specs.Rows.{seq_on};
 ghost use Rattle.mr_tables.specs.Summary.{summary_of};
 ghost use Rattle.mr_replica.specs.Desk.{TakesStep, NeverStore, StandsFor, desk_of, nothing_taken};
 ghost use Rattle.mr_replica.specs.DeskTables.{desk_tables};
-ghost use Rattle.mr_replica.specs.Taken.{TakenPicked};
-ghost use Rattle.mr_replica.specs.Received.{Reaches, IsPlanned, IsReplayed, IsCarriedOut, all_writes};
+ghost use Rattle.mr_replica.specs.Taken.{ReachedView};
+ghost use Rattle.mr_replica.specs.Received.{IsMovable, IsPicked, Reaches, IsPlanned, IsReplayed, HasKeptOf, Received};
 ghost use Rattle.mr_replica.specs.Turning.{TurnsTables};
-ghost use Rattle.mr_replica.specs.declared.kept_writes.NumberedWrite.{NumberedWrite as NumberedWriteOfReplica};
 
 use crate::Desk;
 use crate::candidate::{Reached, reached_with};
 use crate::desk_change::rewritten;
-use crate::desk_replay::{joined_rows, parted_rows};
-use crate::kept_writes::{NumberedWrite, writes_alone};
+use crate::kept_rows::fresh_rows;
+use crate::kept_writes::NumberedWrite;
 use crate::log::Log;
-use crate::movable::{again_in, rooms_touched};
+use crate::movable::{Movable, writes_anew};
+use crate::named::Named;
+use crate::picked::{Picked, picked_writes};
 use crate::placing::put_places;
-use crate::room_moves::{RoomMoves, replayed_in_rooms};
+use crate::room_moves::{RoomMoves, replayed_in_rooms, undone_in_rooms};
 use crate::room_sets::unknown_rooms;
 use crate::targets::{moved_targets, takers};
 use mr_base::{Batch, Item, Refusal, RoomName, Write, WriteId};
@@ -83,10 +83,38 @@ impl Desk {
         ensures own { NeverStore result }
     {
         let marks = self.marks()?;
-        let reached = self.reached(items, &marks)?;
-        let writes = reached.kept.len().saturating_sub(self.log.kept().len()) as u64;
+        let movable = self.movable(items)?;
+        let taken = self.take_movable(items, &marks, &movable)?;
+        Ok(taken)
+    }
+
+    /// The same, where the kept writes have these commit numbers, and the items may move these.
+    fn take_movable(
+        &mut self,
+        items: &[Item],
+        marks: &[u64],
+        movable: &Movable,
+    ) -> Result<(u64, u64, Change), Refusal>
+        ensures step { IsTrue (list_all (is_item Second) (map item_of items.now)) → length items.now + 2 < 2 ^ 64
+            → (a : Replica) → IsReplica a → StandsFor self.old a → marks.now ≡ map (seq_of a) (kept_in_order a)
+            → IsMovable a (map item_of items.now) movable.now → Received a (map item_of items.now) self.old result self.new }
+        ensures err { OnErr result (self.new ≡ self.old) }
+        ensures own { NeverStore result }
+    {
+        let picked = self.picked(items, marks, movable)?;
+        let had = picked.writes.len();
+        let Picked { writes, numbers } = picked;
+        let reached = reached_with(
+            self.alloc,
+            self.summary,
+            &self.rooms,
+            writes,
+            &numbers,
+            items,
+        )?;
+        let writes = reached.kept.len().saturating_sub(had) as u64;
         let commits = reached.summary.commits.saturating_sub(self.summary.commits);
-        let change = self.adopt(items, &marks, reached)?;
+        let change = self.adopt(marks, movable, reached)?;
         Ok((writes, commits, change))
     }
 
@@ -103,47 +131,60 @@ impl Desk {
         Ok(marks)
     }
 
-    /// What the desk is with all items, or why the batch is refused. Its kept writes have these commit numbers.
-    fn reached(&self, items: &[Item], marks: &[u64]) -> Result<Reached, Refusal>
-        ensures takes { IsTrue (list_all (is_item Second) (map item_of items.now)) → length items.now + 2 < 2 ^ 64
-            → (a : Replica) → IsReplica a → StandsFor self.now a → marks.now ≡ map (seq_of a) (kept_in_order a)
-            → TakenPicked a all_writes (take_items (map item_of items.now) 2 (Ok (nothing_taken a))) result }
-        ensures own { NeverStore result }
+    /// What the items may move.
+    fn movable(&self, items: &[Item]) -> Result<Movable, Refusal>
+        ensures movable { (a : Replica) → IsReplica a → StandsFor self.now a → IfOk result (IsMovable a (map item_of items.now)) }
+        ensures only { IfErr result (λ e. e ≡ Refusal.OutOfMemory) }
     {
-        let kept = self.log.kept_copied(self.alloc)?;
-        let reached = reached_with(self.alloc, self.summary, &self.rooms, kept, marks, items)?;
-        Ok(reached)
+        Movable::by(self.alloc, self.log.kept(), items, self.summary.commits)
     }
 
-    /// Becomes what is reached, and answers what that changes in the tables: in the rooms that the items touch the
-    /// executions that they may move are undone, and the new order is executed. That is tried on the desk's own board: where
-    /// something fails behind it, the trial is given up, and the board is as it was.
-    fn adopt(&mut self, items: &[Item], marks: &[u64], reached: Reached) -> Result<Change, Refusal>
-        ensures reached { (a b : Replica) → Reaches self.old (map item_of items.now) reached.summary reached.rooms reached.kept a b → marks.now ≡ map (seq_of a) (kept_in_order a)
+    /// The kept writes that the items name or may move: they alone are copied.
+    fn picked(&self, items: &[Item], marks: &[u64], movable: &Movable) -> Result<Picked, Refusal>
+        ensures picked { (a : Replica) → StandsFor self.now a → marks.now ≡ map (seq_of a) (kept_in_order a) → IsMovable a (map item_of items.now) movable.now
+            → IfOk result (IsPicked a (map item_of items.now) (kept_in_order a)) }
+        ensures only { IfErr result (λ e. e ≡ Refusal.OutOfMemory) }
+    {
+        let named = Named::by(self.alloc, items)?;
+        let picked = picked_writes(self.alloc, self.log.kept(), marks, &named, movable)?;
+        Ok(picked)
+    }
+
+    /// Becomes what is reached, and answers what that changes in the tables: the executions that may move are undone, and the new order is
+    /// executed. That is tried on the desk's own board: where something fails behind it, the trial is given up, and the board is as it
+    /// was. The log changes last of all.
+    fn adopt(
+        &mut self,
+        marks: &[u64],
+        movable: &Movable,
+        reached: Reached,
+    ) -> Result<Change, Refusal>
+        ensures reached { (a b : Replica) (items : List ItemOfBatch) → Reaches self.old items reached a b
+            → marks.now ≡ map (seq_of a) (kept_in_order a) → IsMovable a items movable.now
             → IfOk result (λ change. (changed change (tables_of a) ≡ tables_of b) × StandsFor self.new b) }
         ensures err { OnErr result (self.new ≡ self.old) }
         ensures only { IfErr result (λ e. e ≡ Refusal.OutOfMemory) }
     {
-        let Reached {
-            summary,
-            rooms,
-            kept,
-        } = reached;
-        let plan = self.plan(items, marks, &kept)?;
+        let plan = self.plan(marks, movable, &reached.kept)?;
         let mut trial = Trial::new(self.log.board_taken(self.alloc));
         let done = carried_out(
             self.alloc,
             &mut trial,
+            &mut self.log,
             &self.summary,
             &self.rooms,
-            &summary,
-            &rooms,
-            kept,
+            &reached,
+            movable,
             plan,
         );
         match done {
-            Ok(Done { change, kept, undo }) => {
-                self.log = Log::of_parts(kept, undo, trial.keep());
+            Ok(change) => {
+                self.log.put_board(trial.keep());
+                let Reached {
+                    summary,
+                    rooms,
+                    kept: _,
+                } = reached;
                 self.summary = summary;
                 self.rooms = rooms;
                 Ok(change)
@@ -155,27 +196,25 @@ impl Desk {
         }
     }
 
-    /// What the items undo on the board and execute anew, in the rooms that they touch. The desk's kept writes have these commit
-    /// numbers, and with all items they are those.
-    fn plan(&self, items: &[Item], marks: &[u64], kept: &[NumberedWrite]) -> Result<Plan, Refusal>
-        ensures planned { (a b : Replica) (summary : SummaryOfDesk) (rooms : List Text) (t : Reaches self.now (map item_of items.now) summary rooms kept.now a b) → marks.now ≡ map (seq_of a) (kept_in_order a)
-            → IfOk result (IsPlanned a b (map item_of items.now) t.moves) }
+    /// What the items undo on the board and execute anew, where they may move these, and lead to these kept writes in scope. The desk's kept
+    /// writes have these commit numbers.
+    fn plan(
+        &self,
+        marks: &[u64],
+        movable: &Movable,
+        kept: &[NumberedWrite],
+    ) -> Result<Plan, Refusal>
+        ensures planned { (a b : Replica) (items : List ItemOfBatch) (c : ReachedView) (t : Reaches self.now items c a b) → kept.now ≡ c.kept
+            → marks.now ≡ map (seq_of a) (kept_in_order a) → IsMovable a items movable.now → IfOk result (IsPlanned a b items t.moves) }
         ensures only { IfErr result (λ e. e ≡ Refusal.OutOfMemory) }
     {
-        let commits = self.summary.commits;
         let old = self.log.kept();
-        let touched = rooms_touched(self.alloc, old, items, commits)?;
         let undo = self.log.undo();
-        let parted = parted_rows(self.alloc, old, marks, undo, &touched, items, commits)?;
-        let (undone, others) = parted;
-        let again = again_in(self.alloc, kept, &touched, items, commits)?;
+        let (rooms, tail) = (&movable.rooms, &movable.tail);
+        let undone = undone_in_rooms(self.alloc, old, marks, undo, rooms, tail)?;
+        let again = writes_anew(self.alloc, kept, rooms, tail, self.summary.commits)?;
         let was = takers(self.alloc, self.log.board(), &again)?;
-        Ok(Plan {
-            undone,
-            others,
-            again,
-            was,
-        })
+        Ok(Plan { undone, again, was })
     }
 }
 
@@ -184,8 +223,6 @@ impl Desk {
 struct Plan {
     /// What is undone, by rooms.
     undone: RoomMoves,
-    /// What undoes the other kept writes, as before.
-    others: Vec<UndoRow>,
     /// The writes that are executed anew, in the order of execution.
     again: Vec<Write>,
     /// The cancels that took back what they cancel.
@@ -195,8 +232,6 @@ struct Plan {
 /// What a batch led to in the rooms that it touches.
 #[derive(Drop)]
 struct Replay {
-    /// What undoes the other kept writes, as before.
-    others: Vec<UndoRow>,
     /// The writes that were executed anew, in the order of execution.
     again: Vec<Write>,
     /// The cancels that took back what they cancel, before.
@@ -205,37 +240,70 @@ struct Replay {
     rows: Vec<UndoRow>,
 }
 
-/// What a batch changes in the tables, and the kept writes with what undoes each.
-#[derive(Drop)]
-struct Done {
-    change: Change,
-    kept: Vec<Write>,
-    undo: Vec<UndoRow>,
-}
-
-/// Carries the plan out on the trial's board, and answers what it changes in the tables of these numbers and rooms, and the kept
-/// writes that are reached with what undoes each.
+/// Carries the plan out on the trial's board, and answers what it changes in the tables of these numbers and rooms, where they become
+/// what is reached. Where nothing fails, the log has the kept writes of that then, which were moved and not copied.
 fn carried_out(
     alloc: Global,
     trial: &mut Trial,
+    log: &mut Log,
     old: &Summary,
     known: &[RoomName],
-    summary: &Summary,
-    rooms: &[RoomName],
-    kept: Vec<NumberedWrite>,
+    reached: &Reached,
+    movable: &Movable,
     plan: Plan,
-) -> Result<Done, Refusal>
-    ensures done { (a b : Replica) (items : List ItemOfBatch) (t : Reaches (desk_of a) items summary.now rooms.now kept.items a b)
-        → old.now ≡ summary_of a → known.now ≡ a.rooms → trial.old.rows ≡ (desk_of a).log.board → IsPlanned a b items t.moves plan
-        → IfOk result (λ done. IsCarriedOut a b done.change done.kept.items done.undo.items trial.new.rows) }
+) -> Result<Change, Refusal>
+    ensures turns { (a b : Replica) (items : List ItemOfBatch) (t : Reaches (desk_of a) items reached.now a b) → old.now ≡ summary_of a → known.now ≡ a.rooms
+        → trial.old.rows ≡ (desk_of a).log.board → IsPlanned a b items t.moves plan → IfOk result (λ change. changed change (tables_of a) ≡ tables_of b) }
+    ensures board { (a b : Replica) (items : List ItemOfBatch) (t : Reaches (desk_of a) items reached.now a b)
+        → trial.old.rows ≡ (desk_of a).log.board → IsPlanned a b items t.moves plan → OnOk result (trial.new.rows ≡ (desk_of b).log.board) }
+    ensures log { (a b : Replica) (items : List ItemOfBatch) (t : Reaches (desk_of a) items reached.now a b)
+        → old.now ≡ summary_of a → trial.old.rows ≡ (desk_of a).log.board
+        → IsMovable a items movable.now → IsPlanned a b items t.moves plan → HasKeptOf a log.old → OnOk result (HasKeptOf b log.new) }
+    ensures empty { log.new.board ≡ log.old.board }
+    ensures same { OnErr result (log.new ≡ log.old) }
     ensures before { trial.new.before ≡ trial.old.before }
     ensures only { IfErr result (λ e. e ≡ Refusal.OutOfMemory) }
 {
     let replay = replayed(alloc, trial, plan)?;
-    let change = change_after(alloc, trial, old, known, summary, rooms, &replay)?;
-    let kept = writes_alone(alloc, kept)?;
-    let undo = joined_rows(alloc, &kept, &replay.rows, &replay.others)?;
-    Ok(Done { change, kept, undo })
+    let change = change_after(
+        alloc,
+        trial,
+        old,
+        known,
+        &reached.summary,
+        &reached.rooms,
+        &replay,
+    )?;
+    replace_tail(alloc, log, old, reached.summary.commits, movable, replay)?;
+    Ok(change)
+}
+
+/// Puts what was replayed into the log, in the place of what may move; so many commits are known now.
+fn replace_tail(
+    alloc: Global,
+    log: &mut Log,
+    old: &Summary,
+    commits: u64,
+    movable: &Movable,
+    replay: Replay,
+) -> Result<(), Refusal>
+    requires { length replay.again.items ≡ length replay.rows.items }
+    ensures changed { (a b : Replica) (items : List ItemOfBatch) (m : BatchMoves a b items) (board : Rows)
+        → IsReplica a → old.now ≡ summary_of a → commits ≡ length b.commits
+        → IsMovable a items movable.now → IsReplayed a b items m board replay → HasKeptOf a log.old → OnOk result (HasKeptOf b log.new) }
+    ensures board { log.new.board ≡ log.old.board }
+    ensures same { OnErr result (log.new ≡ log.old) }
+    ensures only { IfErr result (λ e. e ≡ Refusal.OutOfMemory) }
+{
+    let first = old.committed_len(log.kept());
+    let Replay {
+        again,
+        rows,
+        was: _,
+    } = replay;
+    let fresh = fresh_rows(alloc, again, &rows, old.commits, commits)?;
+    log.change_tail(first, movable, fresh)?;
+    Ok(())
 }
 
 /// Replays on the trial's board what the plan says.
@@ -246,19 +314,9 @@ fn replayed(alloc: Global, trial: &mut Trial, plan: Plan) -> Result<Replay, Refu
     ensures before { trial.new.before ≡ trial.old.before }
     ensures only { IfErr result (λ e. e ≡ Refusal.OutOfMemory) }
 {
-    let Plan {
-        undone,
-        others,
-        again,
-        was,
-    } = plan;
+    let Plan { undone, again, was } = plan;
     let rows = replayed_in_rooms(alloc, trial, undone, &again)?;
-    Ok(Replay {
-        others,
-        again,
-        was,
-        rows,
-    })
+    Ok(Replay { again, was, rows })
 }
 
 /// What the replay changes in the tables of these numbers and rooms, where they become those that are reached: the rows of the
@@ -273,8 +331,8 @@ fn change_after(
     replay: &Replay,
 ) -> Result<Change, Refusal>
     requires { length replay.now.again.items ≡ length replay.now.rows.items }
-    ensures turns { (a b : Replica) (items : List ItemOfBatch) (kept : List NumberedWriteOfReplica) (t : Reaches (desk_of a) items summary.now rooms.now kept a b)
-        → old.now ≡ summary_of a → known.now ≡ a.rooms → IsReplayed a b items t.moves trial.now.rows replay.now
+    ensures turns { (a b : Replica) (items : List ItemOfBatch) (c : ReachedView) (t : Reaches (desk_of a) items c a b)
+        → summary.now ≡ c.summary → rooms.now ≡ c.rooms → old.now ≡ summary_of a → known.now ≡ a.rooms → IsReplayed a b items t.moves trial.now.rows replay.now
         → IfOk result (λ change. changed change (tables_of a) ≡ tables_of b) }
     ensures only { IfErr result (λ e. e ≡ Refusal.OutOfMemory) }
 {

@@ -1,5 +1,9 @@
-ghost use Rattle.std.specs.Prelude.{◌≡◌, ℕ, Ok, IfOk, IfErr, IsTrue, map};
+ghost use Rattle.std.specs.Prelude.{◌≡◌, ◌+◌, ◌<◌, ◌≤◌, ◌^◌, ℕ, List, Ok, IfOk, IfErr, IsTrue, length, map};
 ghost use Rattle.std.specs.List.Sorted.{IsPermutation, IsSortedByKey};
+ghost use Rattle.std.specs.Vec.{vec_len};
+ghost use Rattle.mr_model.specs.Exchange.{Item as ItemOfBatch};
+ghost use Rattle.mr_model.specs.Moving.{BatchMoves, again};
+ghost use Rattle.mr_model.specs.View.{place_of as place_of_write};
 ghost use Rattle.mr_model.specs.Writes.{Write as WriteOfRoom, is_write};
 ghost use Rattle.mr_model.specs.Replay.{Place as PlaceOfWrite};
 ghost use Rattle.mr_model.specs.Replica.{Replica, IsReplica};
@@ -9,7 +13,9 @@ ghost use Rattle.mr_replica.specs.Desk.{desk_of};
 ghost use Rattle.mr_base.specs.Actions.{action_of};
 ghost use Rattle.mr_replay.specs.Places.{place_of};
 ghost use Rattle.mr_replay.specs.Rows.{target_of};
+ghost use Rattle.mr_tables.specs.Rows.{seq_on};
 ghost use Rattle.mr_tables.specs.Summary.{summary_of};
+ghost use Rattle.mr_replica.specs.Logged.{undo_with};
 ghost use Rattle.mr_replica.specs.SoundLog.{log_told, kept_told, IsOfSoundRows};
 ghost use Rattle.mr_replica.specs.KeptRows.{kept_row_with, kept_row as kept_row_of, run_place, run_cmp};
 
@@ -95,8 +101,9 @@ fn log_with(
 }
 
 /// Puts the rows into the order of execution.
-fn sort_rows(rows: &mut Vec<KeptRow>)
+pub(crate) fn sort_rows(rows: &mut Vec<KeptRow>)
     ensures moved { IsPermutation rows.old.items rows.new.items }
+    ensures len { vec_len rows.new ≡ vec_len rows.old }
     ensures sorted { IsSortedByKey run_place run_cmp rows.new.items }
 {
     rows.sort_unstable_by_key(|row| row.place());
@@ -139,6 +146,44 @@ fn kept_with(write: Write, place: Place, seq: u64) -> KeptRow
         target: target_of(&write.action),
     };
     KeptRow { write, undo, seq }
+}
+
+/// The rows of writes that were executed anew, which these undo: those of new commits, which have the next numbers, and of tentative ones
+/// behind them. So many commits were known before, and so many are known now.
+pub(crate) fn fresh_rows(
+    alloc: Global,
+    writes: Vec<Write>,
+    undo: &[UndoRow],
+    before: u64,
+    commits: u64,
+) -> Result<Vec<KeptRow>, Refusal>
+    requires { length writes.items ≤ length undo.now }
+    ensures rows { (a b : Replica) (items : List ItemOfBatch) (m : BatchMoves a b items) → IsReplica a → before ≡ length a.commits → commits ≡ length b.commits
+        → writes.items ≡ again a items m.news b → undo.now ≡ map (undo_with (place_of_write b)) (again a items m.news b)
+        → IfOk result (λ rows. rows.items ≡ map (kept_row_of b) (again a items m.news b)) }
+    ensures only { IfErr result (λ e. e ≡ Refusal.OutOfMemory) }
+{
+    let mut left = writes;
+    let mut rows = Vec::with_capacity(alloc, left.len())?;
+    while let Some(write) = left.pop() {
+        let k = left.len();
+        let seq = number_behind(before, commits, k as u64);
+        rows.push(KeptRow {
+            write,
+            undo: undo[k],
+            seq,
+        })?;
+    }
+    rows.as_mut_slice().reverse();
+    Ok(rows)
+}
+
+/// The commit number of the k-th of the writes that were executed anew, counted from 0: 0 where it is tentative.
+fn number_behind(before: u64, commits: u64, k: u64) -> u64
+    ensures { before + 1 + k < 2 ^ 64 → result ≡ seq_on commits (before + 1 + k) }
+{
+    let number = before.saturating_add(1).saturating_add(k);
+    if number <= commits { number } else { 0 }
 }
 
 /// What a cancel would take back.

@@ -133,18 +133,3 @@ fn sort_writes(writes: &mut Vec<NumberedWrite>)
 {
     writes.sort_unstable_by_key(|write| write.place());
 }
-
-/// The writes alone.
-pub(crate) fn writes_alone(
-    alloc: Global,
-    numbered: Vec<NumberedWrite>,
-) -> Result<Vec<Write>, Refusal>
-    ensures writes { IfOk result (λ writes. writes.items ≡ map (λ x. x.write) numbered.items) }
-    ensures only { IfErr result (λ e. e ≡ Refusal.OutOfMemory) }
-{
-    let mut writes = Vec::new(alloc);
-    for one in numbered {
-        writes.push(one.write)?;
-    }
-    Ok(writes)
-}

@@ -1,11 +1,19 @@
-ghost use Rattle.std.specs.Prelude.{◌≡◌, [], ◌++◌, map, take, drop, length, ◌≤◌, ◌<◌, ◌+◌, ◌^◌, OnOk, OnErr, IfOk, IfErr};
+ghost use Rattle.std.specs.Prelude.{◌≡◌, [], ◌++◌, List, map, take, drop, length, ◌≤◌, ◌<◌, ◌+◌, ◌^◌, OnOk, OnErr, IfOk, IfErr};
 ghost use Rattle.std.specs.List.{cons_option};
+ghost use Rattle.mr_model.specs.Exchange.{Item as ItemOfBatch};
+ghost use Rattle.mr_model.specs.Moving.{BatchMoves, again};
+ghost use Rattle.mr_model.specs.Replica.{Replica, IsReplica};
+ghost use Rattle.mr_model.specs.RowsInScope.{kept_commits};
 ghost use Rattle.mr_replay.specs.Rows.{executed_all, undo_rows_of, undone_all};
 ghost use Rattle.mr_replay.specs.Places.{place_of};
 ghost use Rattle.mr_tables.specs.Rows.{seq_on};
+ghost use Rattle.mr_replica.specs.KeptRows.{kept_row};
+ghost use Rattle.mr_replica.specs.Received.{IsMovable, HasKeptOf};
 ghost use Rattle.mr_replica.specs.Log.{pushed, without_front, errors_in, is_logged as is_logged_at, cancel_at, cancel_rows};
 
-use crate::kept_rows::KeptRow;
+use crate::kept_rows::{KeptRow, sort_rows};
+use crate::log_tail::{put_rows, take_tail};
+use crate::movable::Movable;
 use mr_base::{Action, Refusal, Write};
 use mr_replay::{Board, Place, UndoRow};
 use mr_tables::CancelRow;
@@ -67,18 +75,6 @@ impl Log {
         self.kept.as_slice()
     }
 
-    /// Copies of them.
-    pub(crate) fn kept_copied(&self, alloc: Global) -> Result<Vec<Write>, Refusal>
-        ensures copies { IfOk result (λ copies. copies.items ≡ self.now.kept) }
-        ensures only { IfErr result (λ e. e ≡ Refusal.OutOfMemory) }
-    {
-        let mut copies = Vec::new(alloc);
-        for write in &self.kept {
-            copies.push(write.copy(alloc)?)?;
-        }
-        Ok(copies)
-    }
-
     /// What undoes each of them.
     pub(crate) fn undo(&self) -> &[UndoRow]
         ensures rows { result.now ≡ self.now.undo }
@@ -123,15 +119,30 @@ impl Log {
         Ok(())
     }
 
-    /// The log of these writes, with what undoes each, and the board that they led to. Of a write without such a row, or a
-    /// row without a write, nothing is kept.
-    pub(crate) fn of_parts(mut kept: Vec<Write>, mut undo: Vec<UndoRow>, board: Board) -> Log
-        ensures { length kept.items ≡ length undo.items → result ≡ record { kept = kept.items; undo = undo.items; board = board } }
+    /// Keeps the first writes as they are. Of those behind them, which are tentative, what may move leaves, and the writes of these rows,
+    /// which were executed anew, come; in the order of execution. No write is copied, and where memory is wanting nothing has changed.
+    pub(crate) fn change_tail(
+        &mut self,
+        first: usize,
+        movable: &Movable,
+        fresh: Vec<KeptRow>,
+    ) -> Result<(), Refusal>
+        requires { first ≤ length self.old.kept }
+        ensures changed { (a b : Replica) (items : List ItemOfBatch) (m : BatchMoves a b items)
+            → IsReplica a → IsMovable a items movable.now → first ≡ length (kept_commits a)
+            → HasKeptOf a self.old → fresh.items ≡ map (kept_row b) (again a items m.news b) → OnOk result (HasKeptOf b self.new) }
+        ensures board { self.new.board ≡ self.old.board }
+        ensures err { OnErr result (self.new ≡ self.old) }
+        ensures only { IfErr result (λ e. e ≡ Refusal.OutOfMemory) }
     {
-        let count = kept.len().min(undo.len());
-        kept.truncate(count);
-        undo.truncate(count);
-        Log { kept, undo, board }
+        let mut rows = fresh;
+        rows.reserve(self.kept.len() - first)?;
+        self.kept.reserve(rows.len())?;
+        self.undo.reserve(rows.len())?;
+        take_tail(&mut self.kept, &mut self.undo, first, movable, &mut rows);
+        sort_rows(&mut rows);
+        put_rows(&mut self.kept, &mut self.undo, rows);
+        Ok(())
     }
 
     /// The dropped errors that dropping the first `count` writes makes, numbered from `first` on.

@@ -1,12 +1,14 @@
-ghost use Rattle.std.specs.Prelude.{◌≡◌, ◌&&◌, ◌||◌, ℕ, Bool, List, map, filter, flat_map, bytes_eq, OnOk, IfOk, IfErr};
+ghost use Rattle.std.specs.Prelude.{◌≡◌, ◌&&◌, ◌||◌, ℕ, Bool, List, length, map, filter, flat_map, bytes_eq, OnOk, IfOk, IfErr};
 ghost use Rattle.std.specs.List.{list_any};
 ghost use Rattle.mr_model.specs.Texts.{Text};
 ghost use Rattle.mr_model.specs.Writes.{Write as WriteOfRoom, id_of};
 ghost use Rattle.mr_model.specs.Exchange.{Item as ItemOfBatch};
-ghost use Rattle.mr_model.specs.Replica.{Replica};
-ghost use Rattle.mr_model.specs.Moving.{again};
+ghost use Rattle.mr_model.specs.Replica.{Replica, IsReplica};
+ghost use Rattle.mr_model.specs.Kept.{kept_in_order};
+ghost use Rattle.mr_model.specs.Moving.{may_move as may_move_from, again};
 ghost use Rattle.mr_base.specs.Batches.{item_of};
 ghost use Rattle.mr_replica.specs.Moves.{ShowsMoves, rooms_named, moves_in, is_anew};
+ghost use Rattle.mr_replica.specs.Received.{IsMovable};
 ghost use Rattle.mr_replica.specs.Sets.{has_id, has_room, IsSetOf, AreSameRooms};
 ghost use Rattle.mr_replica.specs.Tails.{IsTail};
 
@@ -63,6 +65,41 @@ pub fn may_move(write: &Write, rooms: &RoomSet, tail: &Tail) -> bool
     rooms.contains(&write.room) && tail.has_place(stamp.time, stamp.server)
 }
 
+/// What items may move of the kept writes: tentative ones of the rooms that they touch, in their tail. It is made once for a batch.
+#[derive(Drop)]
+pub(crate) struct Movable {
+    /// The rooms that the items touch.
+    pub rooms: RoomSet,
+    /// Their tail.
+    pub tail: Tail,
+}
+
+impl Movable {
+    /// What these items may move of these kept writes, where so many commits are known.
+    pub(crate) fn by(
+        alloc: Global,
+        writes: &[Write],
+        items: &[Item],
+        commits: u64,
+    ) -> Result<Movable, Refusal>
+        ensures movable { (a : Replica) → IsReplica a → writes.now ≡ kept_in_order a → commits ≡ length a.commits
+            → IfOk result (IsMovable a (map item_of items.now)) }
+        ensures only { IfErr result (λ e. e ≡ Refusal.OutOfMemory) }
+    {
+        let touched = rooms_touched(alloc, writes, items, commits)?;
+        let rooms = room_set(alloc, &touched)?;
+        let tail = tail_of(items, commits);
+        Ok(Movable { rooms, tail })
+    }
+
+    /// Whether a tentative write may move.
+    pub(crate) fn has(&self, write: &Write) -> bool
+        ensures { (a : Replica) (items : List ItemOfBatch) → IsMovable a items self.now → result ≡ may_move_from a items write.now }
+    {
+        may_move(write, &self.rooms, &self.tail)
+    }
+}
+
 /// The writes that are executed anew, where so many commits were known and the items touch these rooms: the new commits, and
 /// behind them the tentative ones that may move.
 pub fn again_in(
@@ -82,7 +119,8 @@ pub fn again_in(
     Ok(writes)
 }
 
-fn writes_anew(
+/// The same, where these are the rooms that the items touch, and this is their tail.
+pub(crate) fn writes_anew(
     alloc: Global,
     kept: &[NumberedWrite],
     rooms: &RoomSet,

@@ -1,6 +1,8 @@
 // Cancels at desks and at parts: what each call answers, and which rows it puts.
 
-use crate::desks::{Ask, Call, Line, NO_ERROR, NONE, NOTHING, Put, Told, answer, opening, puts};
+use crate::desks::{
+    Ask, Call, Line, NO_ERROR, NONE, NOTHING, Put, Told, answer, batch, opening, puts,
+};
 use crate::tables::{Rows, tables};
 use crate::tests::{OPENING, TAKEN_BACK};
 use mr_base::{Item, Refusal, RoomName, WriteId};
@@ -401,4 +403,19 @@ fn counts(alloc: Global) -> Result<[u64; 4], Refusal> {
 #[test]
 fn rows_of_parts_are_counted(rt: HostRuntime) {
     assert!(rt; counts(rt.alloc()) == Ok([2, 1, 1, 0]));
+}
+
+/// How many rows the part has for a batch with server 1's cancel of server 3's write, at this time.
+fn rows_of_cancel(alloc: Global, time: u64) -> Result<u64, Refusal> {
+    let batch = batch(alloc, 1, &[Line::X(1, 1, time, 3, 1)])?;
+    rows_of(alloc, &BOTH_TENTATIVE, &Scope::Items(&batch.items))
+}
+
+/// A cancel that is received moves what stands behind it in its room: two rows of the log, or one. Beside them the part has the row of the
+/// booking that was taken back.
+#[test]
+fn rows_of_a_received_cancel_are_counted(rt: HostRuntime) {
+    for (time, count) in [(1, 3), (3, 2)] {
+        assert!(rt; rows_of_cancel(rt.alloc(), time) == Ok(count), "at {time}");
+    }
 }

@@ -14,7 +14,7 @@ use Rattle.sqlite_trees.specs.Tree.{IsAscending}
 use Rattle.mr_model.specs.Dropped.{Has}
 use Rattle.mr_model.specs.Changes.{SameRows}
 use Rattle.mr_model.proofs.Members.{Sorted, all_has, has_filter, filter_has, has_left, has_right, has_split, sorted_filter, sorted_same}
-use Rattle.mr_rows.specs.RowQuestions.{is_asked}
+use Rattle.mr_rows.specs.RowQuestions.{is_row_asked}
 use Rattle.mr_rows.proofs.FirstLemmas.{has_moved}
 use Rattle.mr_rows.proofs.RowLemmas.{equal_is}
 
@@ -119,35 +119,35 @@ answer_added {R} asked before shown after same is row = (there, back)
     back h = subst (Has row) (sym is) (into asked shown (has_moved asked shown row same) (has_split row before asked h))
 
 pub answers_more : {Q R : Type 0} (asks : Q → R → Bool) (questions : List Q) (i : ℕ) (question : Q) (table before after : List R) → i < length questions → question ≡ get_or questions i question
-    → SameRows before (filter (is_asked asks (take i questions)) table) → SameRows after (before ++ filter (asks question) table)
-    → SameRows after (filter (is_asked asks (take (i + 1) questions)) table)
+    → SameRows before (filter (is_row_asked asks (take i questions)) table) → SameRows after (before ++ filter (asks question) table)
+    → SameRows after (filter (is_row_asked asks (take (i + 1) questions)) table)
 answers_more {Q} {R} asks questions i question table before after low is so_far added row = (there, back)
   where
-    more : (x : R) → is_asked asks (take (i + 1) questions) x ≡ (is_asked asks (take i questions) x || asks question x)
-    more x = list_any_more (λ q. asks q x) questions i question low ∙ ap (λ q. is_asked asks (take i questions) x || asks q x) (sym is)
+    more : (x : R) → is_row_asked asks (take (i + 1) questions) x ≡ (is_row_asked asks (take i questions) x || asks question x)
+    more x = list_any_more (λ q. asks q x) questions i question low ∙ ap (λ q. is_row_asked asks (take i questions) x || asks q x) (sym is)
 
-    there : Has row after → Has row (filter (is_asked asks (take (i + 1) questions)) table)
+    there : Has row after → Has row (filter (is_row_asked asks (take (i + 1) questions)) table)
     there h = go (has_split row before (filter (asks question) table) ((added row).0 h))
       where
-        go : Has row before ⊎ Has row (filter (asks question) table) → Has row (filter (is_asked asks (take (i + 1) questions)) table)
+        go : Has row before ⊎ Has row (filter (asks question) table) → Has row (filter (is_row_asked asks (take (i + 1) questions)) table)
         go (inl g) =
-            let f = filter_has (is_asked asks (take i questions)) row table ((so_far row).0 g) in
-            has_filter (is_asked asks (take (i + 1) questions)) row table (more row ∙ or_left (is_asked asks (take i questions) row) (asks question row) f.1) f.0
+            let f = filter_has (is_row_asked asks (take i questions)) row table ((so_far row).0 g) in
+            has_filter (is_row_asked asks (take (i + 1) questions)) row table (more row ∙ or_left (is_row_asked asks (take i questions) row) (asks question row) f.1) f.0
         go (inr g) =
             let f = filter_has (asks question) row table g in
-            has_filter (is_asked asks (take (i + 1) questions)) row table (more row ∙ or_right (is_asked asks (take i questions) row) (asks question row) f.1) f.0
+            has_filter (is_row_asked asks (take (i + 1) questions)) row table (more row ∙ or_right (is_row_asked asks (take i questions) row) (asks question row) f.1) f.0
 
-    back : Has row (filter (is_asked asks (take (i + 1) questions)) table) → Has row after
-    back h = let f = filter_has (is_asked asks (take (i + 1) questions)) row table h in go f.0 (or_cases (is_asked asks (take i questions) row) (asks question row) (sym (more row) ∙ f.1))
+    back : Has row (filter (is_row_asked asks (take (i + 1) questions)) table) → Has row after
+    back h = let f = filter_has (is_row_asked asks (take (i + 1) questions)) row table h in go f.0 (or_cases (is_row_asked asks (take i questions) row) (asks question row) (sym (more row) ∙ f.1))
       where
-        go : Has row table → (is_asked asks (take i questions) row ≡ true) ⊎ (asks question row ≡ true) → Has row after
-        go g (inl e) = (added row).1 (has_left row before (filter (asks question) table) ((so_far row).1 (has_filter (is_asked asks (take i questions)) row table e g)))
+        go : Has row table → (is_row_asked asks (take i questions) row ≡ true) ⊎ (asks question row ≡ true) → Has row after
+        go g (inl e) = (added row).1 (has_left row before (filter (asks question) table) ((so_far row).1 (has_filter (is_row_asked asks (take i questions)) row table e g)))
         go g (inr e) = (added row).1 (has_right row before (filter (asks question) table) (has_filter (asks question) row table e g))
 
 pub answers_all : {Q R : Type 0} (asks : Q → R → Bool) (questions : List Q) (i : ℕ) (table rows : List R) → length questions ≤ i
-    → SameRows rows (filter (is_asked asks (take i questions)) table) → SameRows rows (filter (is_asked asks questions) table)
-answers_all asks questions i table rows over same = subst (λ qs. SameRows rows (filter (is_asked asks qs) table)) (take_all i questions over) same
+    → SameRows rows (filter (is_row_asked asks (take i questions)) table) → SameRows rows (filter (is_row_asked asks questions) table)
+answers_all asks questions i table rows over same = subst (λ qs. SameRows rows (filter (is_row_asked asks qs) table)) (take_all i questions over) same
 
 -- no question asks for nothing
-pub answers_none : {Q R : Type 0} (asks : Q → R → Bool) (table : List R) → SameRows [] (filter (is_asked asks []) table)
-answers_none asks table row = (λ h. absurd h, λ h. let f = filter_has (is_asked asks []) row table h in absurd (let never = f.1 in cc))
+pub answers_none : {Q R : Type 0} (asks : Q → R → Bool) (table : List R) → SameRows [] (filter (is_row_asked asks []) table)
+answers_none asks table row = (λ h. absurd h, λ h. let f = filter_has (is_row_asked asks []) row table h in absurd (let never = f.1 in cc))

@@ -14,8 +14,8 @@ use Rattle.mr_model.specs.Dropped.{Has}
 use Rattle.mr_model.proofs.Members.{has_filter, filter_has, find_none, find_one}
 use Rattle.mr_tables.specs.Change.{id_before}
 use Rattle.mr_tables.proofs.Putting.{OneAKey, one_a_key, id_order, number_order}
-use Rattle.mr_rows.specs.Kept.{first_meta, tables_in}
-use Rattle.mr_rows.specs.Cells.{meta_in, booking_in, error_in, cancelled_in, cancel_in}
+use Rattle.mr_rows.specs.Database.{first_meta, tables_in}
+use Rattle.mr_rows.specs.RowCells.{meta_in, booking_in, error_in, cancelled_in, cancel_in}
 use Rattle.mr_rows.specs.Reads.{metas_in, first_of}
 use Rattle.mr_rows.proofs.KeyOrder.{ordered_in_order}
 use Rattle.mr_rows.proofs.ValueLemmas.{among_one, or_false}

@@ -35,11 +35,11 @@ use Rattle.mr_model.specs.Texts as texts
 use Rattle.mr_model.specs.Writes.{Id}
 use Rattle.mr_model.specs.Tables.{MetaRow}
 use Rattle.mr_tables.specs.Change.{put, put_all}
-use Rattle.mr_rows.specs.Cells.{meta_in}
+use Rattle.mr_rows.specs.RowCells.{meta_in}
 use Rattle.mr_rows.specs.Schema.{our_schema}
 use Rattle.mr_rows.specs.Shelf.{IsShelf}
 use Rattle.mr_rows.specs.Form.{Form, meta_form, room_form, vector_form, log_form, booking_form, error_form, cancelled_form, cancel_form}
-use Rattle.mr_rows.specs.Kept.{IsRowOf, IsHeld, AreHeld, first_meta, tables_in}
+use Rattle.mr_rows.specs.Database.{IsRowOf, IsHeld, AreHeld, first_meta, tables_in}
 use Rattle.mr_rows.specs.Shown.{columns_from, IsShownAs, IsStoredAs, AreStoredAs, AreOurRows, IsMeta, listed}
 use Rattle.mr_rows.specs.Shelf.{HasShelves}
 use Rattle.mr_rows.proofs.FormLemmas.{has_map, has_moved}

@@ -12,8 +12,8 @@ use Rattle.sqlite.proofs.StateLemmas.{survives_weaker, survives_then}
 use Rattle.sqlite.proofs.Callers.{IsPlain, never_commits}
 use Rattle.mr_rows.specs.Schema.{our_schema}
 use Rattle.sqlite.specs.Effect.{Database}
-use Rattle.mr_rows.specs.Kept.{IsKept, IsOurs}
-use Rattle.mr_rows.specs.Reads.{Reads, IsPlacedIn, IsPlaced, Looks, ReadsWhere, IsInUse, ReadsInUse}
+use Rattle.mr_rows.specs.Database.{IsKept, IsOurs}
+use Rattle.mr_rows.specs.Reads.{ReadsKept, IsPlacedIn, IsPlaced, Looks, ReadsWhere, IsInUse, ReadsInUse}
 
 placed : (s : State) → IsKept s → IsPlaced s
 placed s kept = record { schema = kept.ours.schema; settled = kept.settled }
@@ -80,7 +80,7 @@ module _ {under : Schema} (sql : List ℕ) (params : Row) (old new : State) (pla
 
 module _ (sql : List ℕ) (params : Row) (old new : State) (plain : IsPlain (understood our_schema sql)) where
   pub asked : {X : Type 0} (items : X → List Row) (r : Result X Error) → (HasCleanDisk new → IfOk r (λ x. Shown sql params old new (items x))) → (HasCleanDisk new → IfErr r (FailsToQuery sql params old new))
-      → Survives old new (CommitsShowing sql params old) → Reads old new r (λ x. Shown sql params old new (items x))
+      → Survives old new (CommitsShowing sql params old) → ReadsKept old new r (λ x. Shown sql params old new (items x))
   asked items r ok err survives = asked_where sql params old new plain IsKept (placed old) items r ok err survives
 
   pub looked : {X : Type 0} (items : X → List Row) (r : Result X Error) → (HasCleanDisk new → IfOk r (λ x. Shown sql params old new (items x))) → (HasCleanDisk new → IfErr r (FailsToQuery sql params old new))
@@ -136,24 +136,24 @@ still_kept a b kept same = record { ours = subst IsOurs (sym same.0) kept.ours; 
 
 -- of a keeper's database
 
-pub reads_so : {X : Type 0} (old new : State) (r : Result X Error) (P Q : X → Type 0) → (IsKept old → (x : X) → P x → Q x) → Reads old new r P → Reads old new r Q
+pub reads_so : {X : Type 0} (old new : State) (r : Result X Error) (P Q : X → Type 0) → (IsKept old → (x : X) → P x → Q x) → ReadsKept old new r P → ReadsKept old new r Q
 reads_so = told_where IsKept
 
-pub reads_made : {X Y : Type 0} (old new : State) (x : X) (P : X → Type 0) (r : Result Y Error) (Q : Y → Type 0) → (IsKept old → P x → IfOk r Q) → Reads old new (Ok x) P → Reads old new r Q
+pub reads_made : {X Y : Type 0} (old new : State) (x : X) (P : X → Type 0) (r : Result Y Error) (Q : Y → Type 0) → (IsKept old → P x → IfOk r Q) → ReadsKept old new (Ok x) P → ReadsKept old new r Q
 reads_made = made_where IsKept
 
 pub reads_then : {X Y : Type 0} (a b c : State) (x : X) (P : X → Type 0) (r : Result Y Error) (Q : Database → Y → Type 0) (R : Y → Type 0)
-    → (IsKept a → (y : Y) → P x → Q a.now y → R y) → Reads a b (Ok x) P → Reads b c r (Q b.now) → Reads a c r R
+    → (IsKept a → (y : Y) → P x → Q a.now y → R y) → ReadsKept a b (Ok x) P → ReadsKept b c r (Q b.now) → ReadsKept a c r R
 reads_then a b c = then_where IsKept IsKept a b c (λ kept now same. still_kept a b kept same)
 
 -- after an answer the database is in use
 pub reads_on : {X Y : Type 0} (a b c : State) (x : X) (P : X → Type 0) (r : Result Y Error) (Q : Database → Y → Type 0) (R : Y → Type 0)
-    → (IsKept a → (y : Y) → P x → Q a.now y → R y) → Reads a b (Ok x) P → ReadsInUse b c r (Q b.now) → Reads a c r R
+    → (IsKept a → (y : Y) → P x → Q a.now y → R y) → ReadsKept a b (Ok x) P → ReadsInUse b c r (Q b.now) → ReadsKept a c r R
 reads_on a b c = then_where IsKept IsInUse a b c (λ kept now same. (still_kept a b kept same, now))
 
 -- of one in use
 
-pub in_use : {X : Type 0} (old new : State) (r : Result X Error) (P : X → Type 0) → Reads old new r P → ReadsInUse old new r P
+pub in_use : {X : Type 0} (old new : State) (r : Result X Error) (P : X → Type 0) → ReadsKept old new r P → ReadsInUse old new r P
 in_use old new r P h = (
   survives_weaker old new _ _ (λ _ db none held. none held.0) h.0,
   λ clean now. let told = h.1 clean now in (told.0, λ held. told.1 held.0),

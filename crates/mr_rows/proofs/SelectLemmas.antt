@@ -21,11 +21,11 @@ use Rattle.mr_model.specs.Tables.{ActionCells, OfMeeting, OfCancel, LogRow, Book
 use Rattle.mr_model.specs.Queries.{booking_id, error_id, cancelled_id, cancel_id}
 use Rattle.mr_rows.specs.RowQuestions.{is_booking_asked, is_error_asked, is_cancelled_asked, is_cancel_asked}
 use Rattle.mr_rows.specs.Meaning.{passes}
-use Rattle.mr_rows.specs.Cells.{meta_in, room_in, vector_in, log_in, booking_in, error_in, cancelled_in, cancel_in}
+use Rattle.mr_rows.specs.RowCells.{meta_in, room_in, vector_in, log_in, booking_in, error_in, cancelled_in, cancel_in}
 use Rattle.mr_rows.specs.Schema.{our_schema}
 use Rattle.mr_rows.specs.Shown.{columns_from}
 use Rattle.mr_rows.specs.Form.{Form, meta_form, room_form, vector_form, log_form, booking_form, error_form, cancelled_form, cancel_form}
-use Rattle.mr_rows.specs.Kept.{IsOurs, IsRowOf, IsHeld, in_order, tables_in}
+use Rattle.mr_rows.specs.Database.{IsOurs, IsRowOf, IsHeld, in_order, tables_in}
 use Rattle.mr_rows.specs.Reads.{metas_in}
 use Rattle.mr_rows.proofs.Texts.{MeansQuery, MeansQueryIn, program_of, all_meta_text, all_meta_is, meta_columns, meta_names, all_room_text, all_room_is, room_columns, room_names, all_vector_text, all_vector_is, vector_columns, vector_names, all_booking_text, all_booking_is, booking_columns, booking_names, all_error_text, all_error_is, error_columns, error_names, all_log_text, all_log_is, log_columns, log_names, all_cancelled_text, all_cancelled_is, cancelled_columns, cancelled_names, all_cancel_text, all_cancel_is, cancel_columns, cancel_names, key_log_text, key_log_is, log_key_tests, between_log_text, between_log_is, log_seq_tests, room_booking_text, room_booking_is, booking_room_tests, key_booking_text, key_booking_is, booking_key_tests, room_error_text, room_error_is, error_room_tests, key_error_text, key_error_is, error_key_tests, room_cancelled_text, room_cancelled_is, cancelled_room_tests, key_cancelled_text, key_cancelled_is, cancelled_key_tests, room_cancel_text, room_cancel_is, cancel_room_tests, key_cancel_text, key_cancel_is, cancel_key_tests, write_log_text, write_log_is, undo_text, undo_is, server_columns, server_names}
 use Rattle.mr_rows.proofs.ValueLemmas.{equal_text, and_true, id_test, between_test}

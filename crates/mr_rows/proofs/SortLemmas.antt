@@ -23,8 +23,8 @@ use Rattle.mr_base.specs.Ids.{id_cmp}
 use Rattle.mr_replay.proofs.Ids.{ids_total}
 use Rattle.mr_rows.specs.Reads.{time_cmp}
 use Rattle.sqlite_trees.specs.Tree.{Trees}
-use Rattle.mr_rows.specs.Cells.{room_in, vector_in, log_in, booking_in, error_in, cancelled_in, cancel_in}
-use Rattle.mr_rows.specs.Kept.{tables_in}
+use Rattle.mr_rows.specs.RowCells.{room_in, vector_in, log_in, booking_in, error_in, cancelled_in, cancel_in}
+use Rattle.mr_rows.specs.Database.{tables_in}
 use Rattle.mr_rows.proofs.KeyOrder.{ordered_in_order}
 
 -- ---- the orders are total

@@ -14,12 +14,12 @@ use Rattle.mr_model.specs.Writes.{Id}
 use Rattle.mr_model.specs.Replay.{Place, Taken, Logged, Done, Void}
 use Rattle.mr_model.specs.Tables.{MetaRow, VectorRow, ActionCells, OfMeeting, OfCancel, LogRow, BookingRow, ErrorRow, CancelledRow, CancelRow, Tables}
 use Rattle.mr_model.proofs.WordsReadBack.{date-text}
-use Rattle.mr_rows.specs.Cells.{mark, nat_of, place_number, place_in}
+use Rattle.mr_rows.specs.RowCells.{mark, nat_of, place_number, place_in}
 use Rattle.mr_rows.specs.Form.{meta_form, room_form, vector_form, log_form, booking_form, error_form, cancelled_form, cancel_form}
 use Rattle.std.specs.Prelude.{nat_lt}
 use Rattle.mr_tables.specs.Change.{put}
-use Rattle.mr_rows.specs.Kept.{first_meta, IsOurs, IsStep, Makes, tables_in}
-use Rattle.mr_rows.specs.Parts.{take_logs, take_bookings, take_errors, take_cancelled, put_meta, put_rooms, put_vector, put_logs, put_bookings, put_errors, put_cancelled, put_cancels}
+use Rattle.mr_rows.specs.Database.{first_meta, IsOurs, IsTablesStep, MakesTables, tables_in}
+use Rattle.mr_rows.specs.ChangeParts.{take_logs, take_bookings, take_errors, take_cancelled, put_meta, put_rooms, put_vector, put_logs, put_bookings, put_errors, put_cancelled, put_cancels}
 use Rattle.mr_rows.proofs.Texts.{take_log_text, take_log_is, take_booking_text, take_booking_is, take_error_text, take_error_is, take_cancelled_text, take_cancelled_is, put_meta_text, put_meta_is, put_room_text, put_room_is, put_vector_text, put_vector_is, put_log_text, put_log_is, put_booking_text, put_booking_is, put_error_text, put_error_is, put_cancelled_text, put_cancelled_is, put_cancel_text, put_cancel_is}
 use Rattle.mr_rows.proofs.TableLemmas.{takes, puts}
 use Rattle.mr_rows.proofs.TableFacts.{meta_facts, room_facts, vector_facts, log_facts, booking_facts, error_facts, cancelled_facts, cancel_facts}
@@ -75,12 +75,12 @@ keeps_any g old new sql params r inside after = elim (cases_Bool old.in_transact
 -- what a text with these parameters makes of our tables, if it is run
 abbrev pub Does : List ℕ → Row → (Tables → Tables) → Type 1
 Does text params turn =
-    (old new : State) (r : Result ℕ Error) → IsOurs old.now → ExecutesInside 0 text params old new r → OnOk r (IsStep old new (turn (tables_in old.now.trees)))
+    (old new : State) (r : Result ℕ Error) → IsOurs old.now → ExecutesInside 0 text params old new r → OnOk r (IsTablesStep old new (turn (tables_in old.now.trees)))
 
 -- a statement that was run inside a transaction
 pub makes : {S : Type 0} (g : store.Ghosts S) (old new : Held S) (text : List ℕ) (params : Row) (turn : Tables → Tables) (r : Result ℕ Error) → Does text params turn
     → (HasCleanDisk (state g new) → IsTrue old.in_transaction → ExecutesInside 0 text params (state g old) (state g new) r) → (old.in_transaction ≡ false → new ≡ old)
-    → Makes (state g old) (state g new) (turn (tables_in (state g old).now.trees)) r
+    → MakesTables (state g old) (state g new) (turn (tables_in (state g old).now.trees)) r
 makes g old new text params turn r does ran after =
     (λ asked. does (state g old) (state g new) r asked.2 (ran asked.0 asked.1), λ clean. keeps_any g old new text params r (ran clean) after)
 
@@ -112,7 +112,7 @@ first_put x (y ∷ rows) = refl
 
 pub puts_meta : (x : MetaRow) → Does put_meta_text (meta_form.cells x) (put_meta x)
 unfolding tables_in meta_facts
-puts_meta x old new r ours ran = on_ok_weaker r (λ turns. let step = meta_step old new _ ours turns in subst (λ m. IsStep old new (put_meta m (tables_in old.now.trees))) (first_put x _) step) (puts meta_form meta_facts put_meta_text old new x r put_meta_is (λ _. refl) ours.schema ours.held.meta ran)
+puts_meta x old new r ours ran = on_ok_weaker r (λ turns. let step = meta_step old new _ ours turns in subst (λ m. IsTablesStep old new (put_meta m (tables_in old.now.trees))) (first_put x _) step) (puts meta_form meta_facts put_meta_text old new x r put_meta_is (λ _. refl) ours.schema ours.held.meta ran)
 
 pub puts_room : (x : Text) → Does put_room_text (room_form.cells x) (put_rooms (x ∷ []))
 unfolding tables_in room_facts

@@ -12,7 +12,7 @@ use Rattle.mr_model.specs.Texts.{Text}
 use Rattle.mr_model.specs.Tables.{MetaRow, VectorRow, LogRow, BookingRow, ErrorRow, CancelledRow, CancelRow, Tables}
 use Rattle.mr_rows.specs.Schema.{our_schema}
 use Rattle.mr_rows.specs.Form.{Form, meta_form, room_form, vector_form, log_form, booking_form, error_form, cancelled_form, cancel_form}
-use Rattle.mr_rows.specs.Kept.{IsHeld, AreHeld, IsOurs, IsStep, IsAsked, IsUnderWay, first_meta, in_order, tables_in}
+use Rattle.mr_rows.specs.Database.{IsHeld, AreHeld, IsOurs, IsTablesStep, IsAskedOfOurs, IsChangeUnderWay, first_meta, in_order, tables_in}
 use Rattle.mr_rows.proofs.TableLemmas.{overlaid, Turns}
 
 -- ---- the tables lie in trees that are no indexes
@@ -95,7 +95,7 @@ held_same a b same held = record {
 
 -- where one table turns, the others stay
 step_of : {R K : Type 0} (f : Form R K) (old new : State) (xs : List R) (t : Tables) (turns : Turns our_schema f old new xs) → AreHeld (overlaid old.now.trees f.table.tree turns.rows) → tables_in (overlaid old.now.trees f.table.tree turns.rows) ≡ t
-    → IsStep old new t
+    → IsTablesStep old new t
 step_of f old new xs t turns held tables = record {
   ours = record { schema = turns.schema; held = held_same _ _ turns.trees held };
   tables_are = tables_same _ _ turns.trees ∙ tables;
@@ -103,7 +103,7 @@ step_of f old new xs t turns held tables = record {
   within = turns.within;
 }
 
-pub meta_step : (old new : State) (xs : List MetaRow) → IsOurs old.now → Turns our_schema meta_form old new xs → IsStep old new (record (tables_in old.now.trees) { meta = first_meta xs })
+pub meta_step : (old new : State) (xs : List MetaRow) → IsOurs old.now → Turns our_schema meta_form old new xs → IsTablesStep old new (record (tables_in old.now.trees) { meta = first_meta xs })
 unfolding tables_in
 meta_step old new xs ours turns =
     let was = ours.held in
@@ -111,7 +111,7 @@ meta_step old new xs ours turns =
     (record { meta = turns.held; room = was.room; vector = was.vector; log = was.log; booking = was.booking; errorlog = was.errorlog; cancelled = was.cancelled; cancels = was.cancels; no_write_log = was.no_write_log; no_undo = was.no_undo })
     (ap (λ ys. record (tables_in old.now.trees) { meta = first_meta ys }) turns.rows_are)
 
-pub room_step : (old new : State) (xs : List Text) → IsOurs old.now → Turns our_schema room_form old new xs → IsStep old new (record (tables_in old.now.trees) { room = xs })
+pub room_step : (old new : State) (xs : List Text) → IsOurs old.now → Turns our_schema room_form old new xs → IsTablesStep old new (record (tables_in old.now.trees) { room = xs })
 unfolding tables_in
 room_step old new xs ours turns =
     let was = ours.held in
@@ -119,7 +119,7 @@ room_step old new xs ours turns =
     (record { meta = was.meta; room = turns.held; vector = was.vector; log = was.log; booking = was.booking; errorlog = was.errorlog; cancelled = was.cancelled; cancels = was.cancels; no_write_log = was.no_write_log; no_undo = was.no_undo })
     (ap (λ ys. record (tables_in old.now.trees) { room = ys }) turns.rows_are)
 
-pub vector_step : (old new : State) (xs : List VectorRow) → IsOurs old.now → Turns our_schema vector_form old new xs → IsStep old new (record (tables_in old.now.trees) { vector = xs })
+pub vector_step : (old new : State) (xs : List VectorRow) → IsOurs old.now → Turns our_schema vector_form old new xs → IsTablesStep old new (record (tables_in old.now.trees) { vector = xs })
 unfolding tables_in
 vector_step old new xs ours turns =
     let was = ours.held in
@@ -127,7 +127,7 @@ vector_step old new xs ours turns =
     (record { meta = was.meta; room = was.room; vector = turns.held; log = was.log; booking = was.booking; errorlog = was.errorlog; cancelled = was.cancelled; cancels = was.cancels; no_write_log = was.no_write_log; no_undo = was.no_undo })
     (ap (λ ys. record (tables_in old.now.trees) { vector = ys }) turns.rows_are)
 
-pub log_step : (old new : State) (xs : List LogRow) → IsOurs old.now → Turns our_schema log_form old new xs → IsStep old new (record (tables_in old.now.trees) { log = xs })
+pub log_step : (old new : State) (xs : List LogRow) → IsOurs old.now → Turns our_schema log_form old new xs → IsTablesStep old new (record (tables_in old.now.trees) { log = xs })
 unfolding tables_in
 log_step old new xs ours turns =
     let was = ours.held in
@@ -135,7 +135,7 @@ log_step old new xs ours turns =
     (record { meta = was.meta; room = was.room; vector = was.vector; log = turns.held; booking = was.booking; errorlog = was.errorlog; cancelled = was.cancelled; cancels = was.cancels; no_write_log = was.no_write_log; no_undo = was.no_undo })
     (ap (λ ys. record (tables_in old.now.trees) { log = ys }) turns.rows_are)
 
-pub booking_step : (old new : State) (xs : List BookingRow) → IsOurs old.now → Turns our_schema booking_form old new xs → IsStep old new (record (tables_in old.now.trees) { booking = xs })
+pub booking_step : (old new : State) (xs : List BookingRow) → IsOurs old.now → Turns our_schema booking_form old new xs → IsTablesStep old new (record (tables_in old.now.trees) { booking = xs })
 unfolding tables_in
 booking_step old new xs ours turns =
     let was = ours.held in
@@ -143,7 +143,7 @@ booking_step old new xs ours turns =
     (record { meta = was.meta; room = was.room; vector = was.vector; log = was.log; booking = turns.held; errorlog = was.errorlog; cancelled = was.cancelled; cancels = was.cancels; no_write_log = was.no_write_log; no_undo = was.no_undo })
     (ap (λ ys. record (tables_in old.now.trees) { booking = ys }) turns.rows_are)
 
-pub error_step : (old new : State) (xs : List ErrorRow) → IsOurs old.now → Turns our_schema error_form old new xs → IsStep old new (record (tables_in old.now.trees) { errorlog = xs })
+pub error_step : (old new : State) (xs : List ErrorRow) → IsOurs old.now → Turns our_schema error_form old new xs → IsTablesStep old new (record (tables_in old.now.trees) { errorlog = xs })
 unfolding tables_in
 error_step old new xs ours turns =
     let was = ours.held in
@@ -151,7 +151,7 @@ error_step old new xs ours turns =
     (record { meta = was.meta; room = was.room; vector = was.vector; log = was.log; booking = was.booking; errorlog = turns.held; cancelled = was.cancelled; cancels = was.cancels; no_write_log = was.no_write_log; no_undo = was.no_undo })
     (ap (λ ys. record (tables_in old.now.trees) { errorlog = ys }) turns.rows_are)
 
-pub cancelled_step : (old new : State) (xs : List CancelledRow) → IsOurs old.now → Turns our_schema cancelled_form old new xs → IsStep old new (record (tables_in old.now.trees) { cancelled = xs })
+pub cancelled_step : (old new : State) (xs : List CancelledRow) → IsOurs old.now → Turns our_schema cancelled_form old new xs → IsTablesStep old new (record (tables_in old.now.trees) { cancelled = xs })
 unfolding tables_in
 cancelled_step old new xs ours turns =
     let was = ours.held in
@@ -159,7 +159,7 @@ cancelled_step old new xs ours turns =
     (record { meta = was.meta; room = was.room; vector = was.vector; log = was.log; booking = was.booking; errorlog = was.errorlog; cancelled = turns.held; cancels = was.cancels; no_write_log = was.no_write_log; no_undo = was.no_undo })
     (ap (λ ys. record (tables_in old.now.trees) { cancelled = ys }) turns.rows_are)
 
-pub cancel_step : (old new : State) (xs : List CancelRow) → IsOurs old.now → Turns our_schema cancel_form old new xs → IsStep old new (record (tables_in old.now.trees) { cancels = xs })
+pub cancel_step : (old new : State) (xs : List CancelRow) → IsOurs old.now → Turns our_schema cancel_form old new xs → IsTablesStep old new (record (tables_in old.now.trees) { cancels = xs })
 unfolding tables_in
 cancel_step old new xs ours turns =
     let was = ours.held in
@@ -179,9 +179,9 @@ pub clean_before : (a b : State) → Survives a b (λ _. ⊥) → HasCleanDisk b
 clean_before a b s clean = let less = s.clean in omega (arith, less, clean)
 
 -- a step is made of those that are left
-pub goes_on : (first now next : State) (one rest both : Tables → Tables) (whole : Tables) → ((t : Tables) → both t ≡ rest (one t)) → IsUnderWay first now (both (tables_in now.now.trees)) whole
-    → (IsAsked now next → IsStep now next (one (tables_in now.now.trees))) × (HasCleanDisk next → KeepsCommit now next) → Survives now next (λ _. ⊥)
-    → IsUnderWay first next (rest (tables_in next.now.trees)) whole
+pub goes_on : (first now next : State) (one rest both : Tables → Tables) (whole : Tables) → ((t : Tables) → both t ≡ rest (one t)) → IsChangeUnderWay first now (both (tables_in now.now.trees)) whole
+    → (IsAskedOfOurs now next → IsTablesStep now next (one (tables_in now.now.trees))) × (HasCleanDisk next → KeepsCommit now next) → Survives now next (λ _. ⊥)
+    → IsChangeUnderWay first next (rest (tables_in next.now.trees)) whole
 goes_on first now next one rest both whole parts way made s = (
   λ asked.
       let so_far = way.0 (clean_before now next s asked.0, asked.1, asked.2) in
@@ -195,9 +195,9 @@ goes_on first now next one rest both whole parts way made s = (
 -- the same at an element of a list, of which the elements behind it are left
 pub goes_on_at : {X : Type 0} (first now next : State) (part : List X → Tables → Tables) (xs : List X) (i : ℕ) (x : X) (whole : Tables)
     → ((x : X) (rest : List X) (t : Tables) → part (x ∷ rest) t ≡ part rest (part (x ∷ []) t)) → i < length xs → x ≡ get_or xs i x
-    → IsUnderWay first now (part (drop i xs) (tables_in now.now.trees)) whole
-    → (IsAsked now next → IsStep now next (part (x ∷ []) (tables_in now.now.trees))) × (HasCleanDisk next → KeepsCommit now next) → Survives now next (λ _. ⊥)
-    → IsUnderWay first next (part (drop (i + 1) xs) (tables_in next.now.trees)) whole
+    → IsChangeUnderWay first now (part (drop i xs) (tables_in now.now.trees)) whole
+    → (IsAskedOfOurs now next → IsTablesStep now next (part (x ∷ []) (tables_in now.now.trees))) × (HasCleanDisk next → KeepsCommit now next) → Survives now next (λ _. ⊥)
+    → IsChangeUnderWay first next (part (drop (i + 1) xs) (tables_in next.now.trees)) whole
 goes_on_at first now next part xs i x whole parts low is way made s =
     let rest = drop (i + 1) xs in
     let split : drop i xs ≡ x ∷ rest = drop_more xs i x low ∙ ap (λ y. y ∷ rest) (sym is) in
@@ -205,8 +205,8 @@ goes_on_at first now next part xs i x whole parts low is way made s =
 
 -- behind the last element
 pub all_made : {X : Type 0} (first now : State) (part : List X → Tables → Tables) (xs : List X) (i : ℕ) → ((t : Tables) → part [] t ≡ t) → length xs ≤ i
-    → IsUnderWay first now (part (drop i xs) (tables_in now.now.trees)) (part xs (tables_in first.now.trees))
-    → (IsAsked first now → IsStep first now (part xs (tables_in first.now.trees))) × (HasCleanDisk now → KeepsCommit first now)
+    → IsChangeUnderWay first now (part (drop i xs) (tables_in now.now.trees)) (part xs (tables_in first.now.trees))
+    → (IsAskedOfOurs first now → IsTablesStep first now (part xs (tables_in first.now.trees))) × (HasCleanDisk now → KeepsCommit first now)
 all_made first now part xs i none high way = (
   λ asked.
       let so_far = way.0 asked in

@@ -20,7 +20,7 @@ use Rattle.mr_model.specs.Tables.{MetaRow, VectorRow, ActionCells, OfMeeting, Of
 use Rattle.mr_tables.proofs.Putting.{id_order, number_order, name_order}
 use Rattle.mr_rows.specs.Meaning.{passes}
 use Rattle.mr_rows.specs.Schema.{our_schema}
-use Rattle.mr_rows.specs.Cells.{mark, place_number, room_in, vector_in, log_in, booking_in, error_in, cancelled_in, cancel_in}
+use Rattle.mr_rows.specs.RowCells.{mark, place_number, room_in, vector_in, log_in, booking_in, error_in, cancelled_in, cancel_in}
 use Rattle.mr_rows.specs.Form.{meta_form, room_form, vector_form, log_form, booking_form, error_form, cancelled_form, cancel_form}
 use Rattle.mr_rows.proofs.Texts.{put_meta_terms, put_room_terms, put_vector_terms, put_booking_terms, put_error_terms, put_log_terms, put_cancelled_terms, put_cancel_terms, meta_key_tests, room_key_tests, vector_key_tests, booking_key_tests, error_key_tests, log_key_tests, cancelled_key_tests, cancel_key_tests}
 use Rattle.mr_rows.proofs.ValueLemmas.{equal_nat, equal_text, equal_apart, and_true, id_test, among_one, one_among, clash_one, clash_two, cast_null, cast_int}

@@ -34,7 +34,7 @@ use Rattle.mr_tables.specs.Change.{put, put_all}
 use Rattle.mr_tables.proofs.Putting.{IsOrder}
 use Rattle.mr_rows.specs.Meaning.{passes}
 use Rattle.mr_rows.specs.Form.{Form}
-use Rattle.mr_rows.specs.Kept.{IsRowOf, IsHeld, in_order}
+use Rattle.mr_rows.specs.Database.{IsRowOf, IsHeld, in_order}
 use Rattle.mr_rows.proofs.Texts.{MeansIn, MeansQueryIn, program_of}
 use Rattle.mr_rows.proofs.RowLemmas.{shelf_filter, shelf_push, next_above, ascending_push}
 use Rattle.mr_rows.proofs.FormLemmas.{deletes, upserts, shows, Leaves}

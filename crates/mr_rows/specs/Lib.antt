@@ -1,12 +1,12 @@
--- A reader of the contracts trusts Schema, Shelf, Cells, Form, Kept, Reads, RowQuestions, Shown, Parts and TakeLaws. Meaning serves proofs alone.
+-- A reader of the contracts trusts Schema, Shelf, RowCells, Form, Database, Reads, RowQuestions, Shown, ChangeParts and TakeLaws. Meaning serves proofs alone.
 pub mod Schema
 pub mod Meaning
 pub mod Shelf
-pub mod Cells
+pub mod RowCells
 pub mod Form
-pub mod Kept
+pub mod Database
 pub mod Shown
-pub mod Parts
+pub mod ChangeParts
 pub mod Reads
 pub mod RowQuestions
 pub mod TakeLaws

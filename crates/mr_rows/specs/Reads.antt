@@ -10,7 +10,7 @@ use Rattle.sqlite_trees.specs.Tree.{Trees}
 use Rattle.sqlite_schema.specs.declared.schema.Schema.{Schema}
 use Rattle.mr_rows.specs.Schema.{our_schema}
 use Rattle.mr_rows.specs.Form.{meta_form}
-use Rattle.mr_rows.specs.Kept.{IsKept, in_order}
+use Rattle.mr_rows.specs.Database.{IsKept, in_order}
 
 -- the tables of this schema are there, and nothing is uncommitted
 pub record IsPlacedIn (under : Schema) (s : State) : Type 0 where
@@ -29,8 +29,8 @@ ReadsWhere Known old new result P =
     × (HasCleanDisk new → Known old → OnOk result (IsTrue new.is_open) × IfOk result P)
 
 -- what is read of a keeper's database
-abbrev pub Reads : {X : Type 0} → State → State → Result X Error → (X → Type 0) → Type 0
-Reads old new result P = ReadsWhere IsKept old new result P
+abbrev pub ReadsKept : {X : Type 0} → State → State → Result X Error → (X → Type 0) → Type 0
+ReadsKept old new result P = ReadsWhere IsKept old new result P
 
 -- a keeper's database, and its connection is open
 abbrev pub IsInUse : State → Type 0

@@ -16,8 +16,8 @@ is_log_asked (Between low high) row = within low high row.seq
 
 -- ---- those of an id
 
-abbrev pub is_booking_of : Id → BookingRow → Bool
-is_booking_of id row = is_among (booking_id row) (id ∷ [])
+abbrev pub is_booking_named : Id → BookingRow → Bool
+is_booking_named id row = is_among (booking_id row) (id ∷ [])
 
 abbrev pub is_error_of : Id → ErrorRow → Bool
 is_error_of id row = is_among (error_id row) (id ∷ [])
@@ -42,5 +42,5 @@ is_cancel_asked room row = bytes_eq row.room room
 -- ---- many questions
 
 -- some of the questions asks for the row
-abbrev pub is_asked : {Q R : Type 0} → (Q → R → Bool) → List Q → R → Bool
-is_asked asks questions row = list_any (λ q. asks q row) questions
+abbrev pub is_row_asked : {Q R : Type 0} → (Q → R → Bool) → List Q → R → Bool
+is_row_asked asks questions row = list_any (λ q. asks q row) questions

@@ -75,7 +75,8 @@ cancel_text = codes "CREATE TABLE cancel (server INTEGER NOT NULL, n INTEGER NOT
 abbrev pub meta_table : Table
 meta_table =
     table_of (codes "meta")
-    (int (codes "one") ∷ int (codes "schema") ∷ int (codes "server") ∷ int (codes "prim") ∷ int (codes "commits") ∷ int (codes "dropped") ∷ int (codes "clock") ∷ [])
+    (int (codes "one") ∷ int (codes "schema") ∷ int (codes "server") ∷ int (codes "prim") ∷ int (codes "commits") ∷ int (codes "dropped") ∷ int (codes "clock")
+    ∷ [])
     [] (1 ∷ [])
 
 abbrev pub room_table : Table
@@ -87,7 +88,8 @@ vector_table = table_of (codes "vector") (int (codes "server") ∷ int (codes "n
 abbrev pub write_log_table : Table
 write_log_table =
     table_of (codes "write_log")
-    (int (codes "server") ∷ int (codes "n") ∷ int (codes "tm") ∷ text (codes "room") ∷ int (codes "length") ∷ text (codes "choices") ∷ text (codes "title") ∷ int (codes "seq") ∷ [])
+    (int (codes "server") ∷ int (codes "n") ∷ int (codes "tm") ∷ text (codes "room") ∷ int (codes "length") ∷ text (codes "choices") ∷ text (codes "title")
+    ∷ int (codes "seq") ∷ [])
     (1 ∷ 2 ∷ []) (1 ∷ 2 ∷ [])
 
 abbrev pub undo_table : Table
@@ -96,31 +98,36 @@ undo_table = table_of (codes "undo") (int (codes "server") ∷ int (codes "n") �
 abbrev pub booking_table : Table
 booking_table =
     table_of (codes "booking")
-    (text (codes "room") ∷ text (codes "day") ∷ int (codes "start") ∷ int (codes "stop") ∷ int (codes "server") ∷ int (codes "n") ∷ text (codes "title") ∷ int (codes "committed") ∷ [])
+    (text (codes "room") ∷ text (codes "day") ∷ int (codes "start") ∷ int (codes "stop") ∷ int (codes "server") ∷ int (codes "n") ∷ text (codes "title")
+    ∷ int (codes "committed") ∷ [])
     (5 ∷ 6 ∷ []) (5 ∷ 6 ∷ [])
 
 abbrev pub error_table : Table
 error_table =
     table_of (codes "errorlog")
-    (text (codes "room") ∷ text (codes "day") ∷ int (codes "start") ∷ int (codes "stop") ∷ int (codes "server") ∷ int (codes "n") ∷ text (codes "title") ∷ int (codes "tm") ∷ int (codes "seq") ∷ [])
+    (text (codes "room") ∷ text (codes "day") ∷ int (codes "start") ∷ int (codes "stop") ∷ int (codes "server") ∷ int (codes "n") ∷ text (codes "title")
+    ∷ int (codes "tm") ∷ int (codes "seq") ∷ [])
     (5 ∷ 6 ∷ []) (5 ∷ 6 ∷ [])
 
 abbrev pub log_table : Table
 log_table =
     table_of (codes "log")
-    (int (codes "server") ∷ int (codes "n") ∷ int (codes "tm") ∷ text (codes "room") ∷ int (codes "kind") ∷ int (codes "length") ∷ text (codes "choices") ∷ text (codes "title") ∷ int (codes "tserver") ∷ int (codes "tn") ∷ int (codes "place") ∷ int (codes "seq") ∷ [])
+    (int (codes "server") ∷ int (codes "n") ∷ int (codes "tm") ∷ text (codes "room") ∷ int (codes "kind") ∷ int (codes "length") ∷ text (codes "choices")
+    ∷ text (codes "title") ∷ int (codes "tserver") ∷ int (codes "tn") ∷ int (codes "place") ∷ int (codes "seq") ∷ [])
     (1 ∷ 2 ∷ []) (1 ∷ 2 ∷ [])
 
 abbrev pub cancelled_table : Table
 cancelled_table =
     table_of (codes "cancelled")
-    (text (codes "room") ∷ text (codes "day") ∷ int (codes "start") ∷ int (codes "stop") ∷ int (codes "server") ∷ int (codes "n") ∷ text (codes "title") ∷ int (codes "committed") ∷ int (codes "bserver") ∷ int (codes "bn") ∷ [])
+    (text (codes "room") ∷ text (codes "day") ∷ int (codes "start") ∷ int (codes "stop") ∷ int (codes "server") ∷ int (codes "n") ∷ text (codes "title")
+    ∷ int (codes "committed") ∷ int (codes "bserver") ∷ int (codes "bn") ∷ [])
     (5 ∷ 6 ∷ []) (5 ∷ 6 ∷ [])
 
 abbrev pub cancel_table : Table
 cancel_table =
     table_of (codes "cancel")
-    (int (codes "server") ∷ int (codes "n") ∷ text (codes "room") ∷ int (codes "tserver") ∷ int (codes "tn") ∷ int (codes "done") ∷ int (codes "tm") ∷ int (codes "seq") ∷ [])
+    (int (codes "server") ∷ int (codes "n") ∷ text (codes "room") ∷ int (codes "tserver") ∷ int (codes "tn") ∷ int (codes "done") ∷ int (codes "tm")
+    ∷ int (codes "seq") ∷ [])
     (1 ∷ 2 ∷ []) (1 ∷ 2 ∷ [])
 
 -- ---- the schemas, table by table

@@ -7,7 +7,7 @@ use Rattle.sqlite_value.specs.Order.{Row, column}
 use Rattle.sqlite_trees.specs.Tree.{Trees}
 use Rattle.mr_model.specs.Tables.{MetaRow}
 use Rattle.mr_rows.specs.Form.{Form, meta_form, room_form, vector_form, log_form, booking_form, error_form, cancelled_form, cancel_form}
-use Rattle.mr_rows.specs.Cells.{meta_in}
+use Rattle.mr_rows.specs.RowCells.{meta_in}
 
 -- so many columns of a row, from one on
 abbrev pub columns_from : ℕ → ℕ → Row → Row

@@ -5,10 +5,11 @@ use Rattle.mr_model.specs.Replica.{is_among}
 use Rattle.mr_model.specs.Tables.{Tables}
 use Rattle.mr_model.specs.Queries.{booking_id, error_id, cancelled_id}
 use Rattle.mr_tables.specs.Change.{without, log_id}
-use Rattle.mr_rows.specs.Parts.{take_logs, take_bookings, take_errors, take_cancelled}
+use Rattle.mr_rows.specs.ChangeParts.{take_logs, take_bookings, take_errors, take_cancelled}
 
 -- the first, and then the others
-without_more : {R : Type 0} (key : R → Id) (id : Id) (ids : List Id) (rows : List R) → without key (id ∷ ids) rows ≡ without key ids (without key (id ∷ []) rows)
+without_more : {R : Type 0} (key : R → Id) (id : Id) (ids : List Id) (rows : List R)
+    → without key (id ∷ ids) rows ≡ without key ids (without key (id ∷ []) rows)
 without_more key id ids [] = refl
 without_more key id ids (row ∷ rows) = go (same_id (key row) id) (without_more key id ids rows)
   where

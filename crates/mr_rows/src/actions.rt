@@ -6,7 +6,7 @@ ghost use Rattle.mr_model.specs.Replay.{Done, Void};
 ghost use Rattle.mr_model.specs.Tables.{MeetingCells as CellsOfMeeting, OfMeeting, OfCancel};
 ghost use Rattle.mr_replay.specs.Places.{place_of};
 ghost use Rattle.mr_tables.specs.Cells.{action_cells};
-ghost use Rattle.mr_rows.specs.Cells.{nat_of, whole_of, action_row, action_in, place_in, place_number};
+ghost use Rattle.mr_rows.specs.RowCells.{nat_of, whole_of, action_row, action_in, place_in, place_number};
 ghost use Rattle.mr_rows.specs.Shown.{columns_from};
 
 use crate::cells::{read_id, read_mark, read_place, read_text, read_title, read_u32};
@@ -41,7 +41,8 @@ fn read_empty(row: &Row, at: usize) -> Result<(), Error>
 
 /// The meeting of a row that has no target.
 fn read_meeting(alloc: Global, row: &Row) -> Result<MeetingCells, Error>
-    ensures meeting { IfOk result (λ m. m ≡ record { length = nat_of (column row.now 5); choices = bytes (column row.now 6); title = bytes (column row.now 7) }) }
+    ensures meeting { IfOk result
+        (λ m. m ≡ record { length = nat_of (column row.now 5); choices = bytes (column row.now 6); title = bytes (column row.now 7) }) }
     ensures cells { IfOk result (λ m. action_row (OfMeeting m) ≡ Int (pos 0) ∷ columns_from 5 5 row.now) }
 {
     let length = read_u32(row, 5)?;

@@ -1,7 +1,7 @@
 ghost use Rattle.std.specs.Prelude.{◌≡◌, false};
 ghost use Rattle.sqlite.specs.Held.{state};
-ghost use Rattle.mr_rows.specs.Kept.{tables_in};
-ghost use Rattle.mr_rows.specs.Reads.{Reads};
+ghost use Rattle.mr_rows.specs.Database.{tables_in};
+ghost use Rattle.mr_rows.specs.Reads.{ReadsKept};
 
 use crate::meta_row::the_meta;
 use crate::whole::all_rows;
@@ -19,7 +19,9 @@ pub fn read_heads<S: Alter>(
 ) -> Result<(MetaRow, Vec<RoomName>, Vec<VectorRow>), Error>
     requires autocommit { conn.old.in_transaction ≡ false }
     ensures autocommit { conn.new.in_transaction ≡ false }
-    ensures reads { Reads (state S.Store conn.old) (state S.Store conn.new) result (λ r. (r.0 ≡ (tables_in (state S.Store conn.old).now.trees).meta) × (r.1.items ≡ (tables_in (state S.Store conn.old).now.trees).room) × (r.2.items ≡ (tables_in (state S.Store conn.old).now.trees).vector)) }
+    ensures reads { ReadsKept (state S.Store conn.old) (state S.Store conn.new) result
+        (λ r. (r.0 ≡ (tables_in (state S.Store conn.old).now.trees).meta) × (r.1.items ≡ (tables_in (state S.Store conn.old).now.trees).room)
+        × (r.2.items ≡ (tables_in (state S.Store conn.old).now.trees).vector)) }
 {
     let meta = the_meta(conn)?;
     let room = all_rows(conn, alloc)?;
@@ -34,7 +36,8 @@ fn read_board<S: Alter>(
 ) -> Result<(Vec<BookingRow>, Vec<ErrorRow>), Error>
     requires autocommit { conn.old.in_transaction ≡ false }
     ensures autocommit { conn.new.in_transaction ≡ false }
-    ensures reads { Reads (state S.Store conn.old) (state S.Store conn.new) result (λ r. (r.0.items ≡ (tables_in (state S.Store conn.old).now.trees).booking) × (r.1.items ≡ (tables_in (state S.Store conn.old).now.trees).errorlog)) }
+    ensures reads { ReadsKept (state S.Store conn.old) (state S.Store conn.new) result
+        (λ r. (r.0.items ≡ (tables_in (state S.Store conn.old).now.trees).booking) × (r.1.items ≡ (tables_in (state S.Store conn.old).now.trees).errorlog)) }
 {
     let booking = all_rows(conn, alloc)?;
     let errorlog = all_rows(conn, alloc)?;
@@ -48,7 +51,8 @@ fn read_cancels<S: Alter>(
 ) -> Result<(Vec<CancelledRow>, Vec<CancelRow>), Error>
     requires autocommit { conn.old.in_transaction ≡ false }
     ensures autocommit { conn.new.in_transaction ≡ false }
-    ensures reads { Reads (state S.Store conn.old) (state S.Store conn.new) result (λ r. (r.0.items ≡ (tables_in (state S.Store conn.old).now.trees).cancelled) × (r.1.items ≡ (tables_in (state S.Store conn.old).now.trees).cancels)) }
+    ensures reads { ReadsKept (state S.Store conn.old) (state S.Store conn.new) result
+        (λ r. (r.0.items ≡ (tables_in (state S.Store conn.old).now.trees).cancelled) × (r.1.items ≡ (tables_in (state S.Store conn.old).now.trees).cancels)) }
 {
     let cancelled = all_rows(conn, alloc)?;
     let cancels = all_rows(conn, alloc)?;
@@ -59,7 +63,7 @@ fn read_cancels<S: Alter>(
 pub fn read_tables<S: Alter>(conn: &mut Connection<S>, alloc: Global) -> Result<Tables, Error>
     requires autocommit { conn.old.in_transaction ≡ false }
     ensures autocommit { conn.new.in_transaction ≡ false }
-    ensures reads { Reads (state S.Store conn.old) (state S.Store conn.new) result (λ tables. tables ≡ tables_in (state S.Store conn.old).now.trees) }
+    ensures reads { ReadsKept (state S.Store conn.old) (state S.Store conn.new) result (λ tables. tables ≡ tables_in (state S.Store conn.old).now.trees) }
 {
     let heads = read_heads(conn, alloc)?;
     let log = all_rows(conn, alloc)?;

@@ -3,9 +3,9 @@ ghost use Rattle.sqlite_value.specs.declared.value.Value.TheVariants.{Null};
 ghost use Rattle.sqlite_trees.specs.Tree.{Trees};
 ghost use Rattle.sqlite.specs.Held.{state};
 ghost use Rattle.mr_model.specs.Changes.{SameRows};
-ghost use Rattle.mr_rows.specs.Kept.{tables_in};
-ghost use Rattle.mr_rows.specs.RowQuestions.{is_asked};
-ghost use Rattle.mr_rows.specs.Reads.{Reads, ReadsInUse};
+ghost use Rattle.mr_rows.specs.Database.{tables_in};
+ghost use Rattle.mr_rows.specs.RowQuestions.{is_row_asked};
+ghost use Rattle.mr_rows.specs.Reads.{ReadsKept, ReadsInUse};
 
 use crate::order::sort_rows;
 use crate::questions::Question;
@@ -33,7 +33,8 @@ fn add_answer<R: StoredRow, Q: Question<R>, S: Alter>(
 ) -> Result<(), Error>
     requires autocommit { conn.old.in_transaction ≡ false }
     ensures autocommit { conn.new.in_transaction ≡ false }
-    ensures reads { Reads (state S.Store conn.old) (state S.Store conn.new) result (λ _. SameRows out.new.items (out.old.items ++ filter (Q.asks question.now) (R.rows_of (tables_in (state S.Store conn.old).now.trees)))) }
+    ensures reads { ReadsKept (state S.Store conn.old) (state S.Store conn.new) result
+        (λ _. SameRows out.new.items (out.old.items ++ filter (Q.asks question.now) (R.rows_of (tables_in (state S.Store conn.old).now.trees)))) }
 {
     let rows = question.ask(conn)?;
     add_rows(alloc, &rows, out)
@@ -47,7 +48,8 @@ fn all_answers<R: StoredRow, Q: Question<R>, S: Alter>(
 ) -> Result<Vec<R>, Error>
     requires autocommit { conn.old.in_transaction ≡ false }
     ensures autocommit { conn.new.in_transaction ≡ false }
-    ensures reads { ReadsInUse (state S.Store conn.old) (state S.Store conn.new) result (λ rows. SameRows rows.items (filter (is_asked Q.asks questions.now) (R.rows_of (tables_in (state S.Store conn.old).now.trees)))) }
+    ensures reads { ReadsInUse (state S.Store conn.old) (state S.Store conn.new) result
+        (λ rows. SameRows rows.items (filter (is_row_asked Q.asks questions.now) (R.rows_of (tables_in (state S.Store conn.old).now.trees)))) }
 {
     let mut rows = Vec::new(alloc);
     'questions: for question in questions {
@@ -58,7 +60,8 @@ fn all_answers<R: StoredRow, Q: Question<R>, S: Alter>(
 
 /// Sorts rows of a table by their keys and drops what comes twice.
 fn order_rows<R: StoredRow>(rows: &mut Vec<R>) -> Result<(), AllocError>
-    ensures { OnOk result ((trees : Trees) (p : R → Bool) → SameRows rows.old.items (filter p (R.rows_of (tables_in trees))) → rows.new.items ≡ filter p (R.rows_of (tables_in trees))) }
+    ensures { OnOk result ((trees : Trees) (p : R → Bool) → SameRows rows.old.items (filter p (R.rows_of (tables_in trees)))
+        → rows.new.items ≡ filter p (R.rows_of (tables_in trees))) }
 {
     R::keeps_order();
     sort_rows(rows)?;
@@ -74,7 +77,8 @@ pub fn asked_rows<R: StoredRow, Q: Question<R>, S: Alter>(
 ) -> Result<Vec<R>, Error>
     requires autocommit { conn.old.in_transaction ≡ false }
     ensures autocommit { conn.new.in_transaction ≡ false }
-    ensures reads { ReadsInUse (state S.Store conn.old) (state S.Store conn.new) result (λ rows. rows.items ≡ filter (is_asked Q.asks questions.now) (R.rows_of (tables_in (state S.Store conn.old).now.trees))) }
+    ensures reads { ReadsInUse (state S.Store conn.old) (state S.Store conn.new) result
+        (λ rows. rows.items ≡ filter (is_row_asked Q.asks questions.now) (R.rows_of (tables_in (state S.Store conn.old).now.trees))) }
 {
     let mut rows = all_answers(conn, alloc, questions)?;
     order_rows(&mut rows)?;

@@ -3,7 +3,7 @@ ghost use Rattle.mr_model.specs.Writes.{Id};
 ghost use Rattle.mr_model.specs.Queries.{cancelled_id, cancel_id};
 ghost use Rattle.mr_base.specs.Ids.{id_cmp};
 ghost use Rattle.mr_rows.specs.Form.{cancelled_form, cancel_form};
-ghost use Rattle.mr_rows.specs.Parts.{take_cancelled, put_cancelled, put_cancels};
+ghost use Rattle.mr_rows.specs.ChangeParts.{take_cancelled, put_cancelled, put_cancels};
 ghost use Rattle.mr_rows.specs.TakeLaws.{cancelled_none, cancelled_more};
 
 use crate::cells::{

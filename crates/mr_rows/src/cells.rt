@@ -4,7 +4,7 @@ ghost use Rattle.sqlite_value.specs.Order.{column, bytes};
 ghost use Rattle.mr_model.specs.Calendar.{date_in, date_text};
 ghost use Rattle.mr_model.specs.Writes.{greatest_alternatives};
 ghost use Rattle.mr_replay.specs.Places.{place_of};
-ghost use Rattle.mr_rows.specs.Cells.{mark, nat_of, whole_of, place_in, place_number};
+ghost use Rattle.mr_rows.specs.RowCells.{mark, nat_of, whole_of, place_in, place_number};
 
 use mr_base::{Day, Refusal, RoomName, ServerId, Title, WriteId};
 use mr_replay::Place;
@@ -75,7 +75,8 @@ pub fn read_server(row: &Row, at: usize) -> Result<ServerId, Error>
 pub fn read_u32(row: &Row, at: usize) -> Result<u32, Error>
     ensures number { IfOk result (λ number. number ≡ nat_of (column row.now at)) }
     ensures cell { IfOk result (λ number. column row.now at ≡ Int (pos number)) }
-    ensures refused { IfErr result (λ e. e ≢ Error.SqliteFailure ErrorCode.OutOfMemory → at < length row.now → (n : ℕ) → n < 2 ^ 32 → column row.now at ≢ Int (pos n)) }
+    ensures refused { IfErr result
+        (λ e. e ≢ Error.SqliteFailure ErrorCode.OutOfMemory → at < length row.now → (n : ℕ) → n < 2 ^ 32 → column row.now at ≢ Int (pos n)) }
 {
     row.get(at)
 }
@@ -85,7 +86,8 @@ pub(crate) fn read_minute(row: &Row, at: usize) -> Result<u32, Error>
     ensures minute { IfOk result (λ minute. minute ≡ nat_of (column row.now at)) }
     ensures cell { IfOk result (λ minute. column row.now at ≡ Int (pos minute)) }
     ensures within { IfOk result (λ minute. minute ≤ 1440) }
-    ensures refused { IfErr result (λ e. e ≢ Error.SqliteFailure ErrorCode.OutOfMemory → at < length row.now → (n : ℕ) → n ≤ 1440 → column row.now at ≢ Int (pos n)) }
+    ensures refused { IfErr result
+        (λ e. e ≢ Error.SqliteFailure ErrorCode.OutOfMemory → at < length row.now → (n : ℕ) → n ≤ 1440 → column row.now at ≢ Int (pos n)) }
 {
     let minute = read_u32(row, at)?;
     if minute > 1440 {
@@ -134,8 +136,10 @@ pub fn read_u64(row: &Row, at: usize) -> Result<u64, Error>
 pub fn read_place(row: &Row, at: usize) -> Result<Place, Error>
     ensures place { IfOk result (λ place. place_of place ≡ place_in (whole_of (column row.now at))) }
     ensures cell { IfOk result (λ place. column row.now at ≡ Int (place_number (place_of place))) }
-    ensures refused { IfErr result (λ e. e ≢ Error.SqliteFailure ErrorCode.OutOfMemory → at < length row.now → (n : ℕ) → n ≤ greatest_alternatives → column row.now at ≢ Int (pos n)) }
-    ensures others { IfErr result (λ e. e ≢ Error.SqliteFailure ErrorCode.OutOfMemory → at < length row.now → (n : ℕ) → n ≤ 2 → column row.now at ≢ Int (negsuc n)) }
+    ensures refused { IfErr result
+        (λ e. e ≢ Error.SqliteFailure ErrorCode.OutOfMemory → at < length row.now → (n : ℕ) → n ≤ greatest_alternatives → column row.now at ≢ Int (pos n)) }
+    ensures others { IfErr result
+        (λ e. e ≢ Error.SqliteFailure ErrorCode.OutOfMemory → at < length row.now → (n : ℕ) → n ≤ 2 → column row.now at ≢ Int (negsuc n)) }
 {
     let number: i64 = row.get(at)?;
     match number {

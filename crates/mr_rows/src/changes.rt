@@ -2,8 +2,8 @@ ghost use Rattle.std.specs.Prelude.{◌≡◌, false, OnOk, IsTrue};
 ghost use Rattle.sqlite.specs.State.{HasCleanDisk, Survives};
 ghost use Rattle.sqlite.specs.Held.{state};
 ghost use Rattle.mr_tables.specs.Change.{changed};
-ghost use Rattle.mr_rows.specs.Kept.{Makes, Applies, IsReached, tables_in};
-ghost use Rattle.mr_rows.specs.Parts.{board_taken, rows_taken, heads_put, board_put, cancels_put, rows_put};
+ghost use Rattle.mr_rows.specs.Database.{MakesTables, Applies, IsReached, tables_in};
+ghost use Rattle.mr_rows.specs.ChangeParts.{board_taken, rows_taken, heads_put, board_put, cancels_put, rows_put};
 
 use crate::puts::put_meta;
 use crate::stored_rows::{RequestRow, StoredRow};
@@ -17,7 +17,8 @@ fn take_all<R: RequestRow, S: Alter>(
     gone: &[WriteId],
 ) -> Result<(), Error>
     ensures same_reference { tx.new.conn.ghost_name ≡ tx.old.conn.ghost_name }
-    ensures made { Makes (state S.Store tx.old.conn.now) (state S.Store tx.new.conn.now) (R.take_from gone.now (tables_in (state S.Store tx.old.conn.now).now.trees)) result }
+    ensures made { MakesTables (state S.Store tx.old.conn.now) (state S.Store tx.new.conn.now)
+        (R.take_from gone.now (tables_in (state S.Store tx.old.conn.now).now.trees)) result }
     ensures survives { Survives (state S.Store tx.old.conn.now) (state S.Store tx.new.conn.now) (λ _. ⊥) }
 {
     'gone: for id in gone {
@@ -33,7 +34,8 @@ pub fn put_all<R: StoredRow, S: Alter>(
     rows: &[R],
 ) -> Result<(), Error>
     ensures same_reference { tx.new.conn.ghost_name ≡ tx.old.conn.ghost_name }
-    ensures made { Makes (state S.Store tx.old.conn.now) (state S.Store tx.new.conn.now) (R.put_in rows.now (tables_in (state S.Store tx.old.conn.now).now.trees)) result }
+    ensures made { MakesTables (state S.Store tx.old.conn.now) (state S.Store tx.new.conn.now)
+        (R.put_in rows.now (tables_in (state S.Store tx.old.conn.now).now.trees)) result }
     ensures survives { Survives (state S.Store tx.old.conn.now) (state S.Store tx.new.conn.now) (λ _. ⊥) }
 {
     'rows: for row in rows {
@@ -45,7 +47,8 @@ pub fn put_all<R: StoredRow, S: Alter>(
 /// Takes rows away from both tables of a board.
 fn take_from_board<S: Alter>(tx: &mut Transaction<'_, S>, change: &Change) -> Result<(), Error>
     ensures same_reference { tx.new.conn.ghost_name ≡ tx.old.conn.ghost_name }
-    ensures made { Makes (state S.Store tx.old.conn.now) (state S.Store tx.new.conn.now) (board_taken change.now (tables_in (state S.Store tx.old.conn.now).now.trees)) result }
+    ensures made { MakesTables (state S.Store tx.old.conn.now) (state S.Store tx.new.conn.now)
+        (board_taken change.now (tables_in (state S.Store tx.old.conn.now).now.trees)) result }
     ensures survives { Survives (state S.Store tx.old.conn.now) (state S.Store tx.new.conn.now) (λ _. ⊥) }
 {
     take_all::<BookingRow, S>(tx, &change.unbooked)?;
@@ -59,7 +62,8 @@ fn put_heads<S: Alter>(
     change: &Change,
 ) -> Result<(), Error>
     ensures same_reference { tx.new.conn.ghost_name ≡ tx.old.conn.ghost_name }
-    ensures made { Makes (state S.Store tx.old.conn.now) (state S.Store tx.new.conn.now) (heads_put change.now (tables_in (state S.Store tx.old.conn.now).now.trees)) result }
+    ensures made { MakesTables (state S.Store tx.old.conn.now) (state S.Store tx.new.conn.now)
+        (heads_put change.now (tables_in (state S.Store tx.old.conn.now).now.trees)) result }
     ensures survives { Survives (state S.Store tx.old.conn.now) (state S.Store tx.new.conn.now) (λ _. ⊥) }
 {
     put_meta(tx, &change.meta)?;
@@ -74,7 +78,8 @@ fn put_into_board<S: Alter>(
     change: &Change,
 ) -> Result<(), Error>
     ensures same_reference { tx.new.conn.ghost_name ≡ tx.old.conn.ghost_name }
-    ensures made { Makes (state S.Store tx.old.conn.now) (state S.Store tx.new.conn.now) (board_put change.now (tables_in (state S.Store tx.old.conn.now).now.trees)) result }
+    ensures made { MakesTables (state S.Store tx.old.conn.now) (state S.Store tx.new.conn.now)
+        (board_put change.now (tables_in (state S.Store tx.old.conn.now).now.trees)) result }
     ensures survives { Survives (state S.Store tx.old.conn.now) (state S.Store tx.new.conn.now) (λ _. ⊥) }
 {
     put_all::<BookingRow, S>(tx, alloc, &change.booking)?;
@@ -88,7 +93,8 @@ fn put_into_cancels<S: Alter>(
     change: &Change,
 ) -> Result<(), Error>
     ensures same_reference { tx.new.conn.ghost_name ≡ tx.old.conn.ghost_name }
-    ensures made { Makes (state S.Store tx.old.conn.now) (state S.Store tx.new.conn.now) (cancels_put change.now (tables_in (state S.Store tx.old.conn.now).now.trees)) result }
+    ensures made { MakesTables (state S.Store tx.old.conn.now) (state S.Store tx.new.conn.now)
+        (cancels_put change.now (tables_in (state S.Store tx.old.conn.now).now.trees)) result }
     ensures survives { Survives (state S.Store tx.old.conn.now) (state S.Store tx.new.conn.now) (λ _. ⊥) }
 {
     put_all::<CancelledRow, S>(tx, alloc, &change.cancelled)?;
@@ -98,7 +104,8 @@ fn put_into_cancels<S: Alter>(
 /// Takes the rows away.
 fn take_rows<S: Alter>(tx: &mut Transaction<'_, S>, change: &Change) -> Result<(), Error>
     ensures same_reference { tx.new.conn.ghost_name ≡ tx.old.conn.ghost_name }
-    ensures made { Makes (state S.Store tx.old.conn.now) (state S.Store tx.new.conn.now) (rows_taken change.now (tables_in (state S.Store tx.old.conn.now).now.trees)) result }
+    ensures made { MakesTables (state S.Store tx.old.conn.now) (state S.Store tx.new.conn.now)
+        (rows_taken change.now (tables_in (state S.Store tx.old.conn.now).now.trees)) result }
     ensures survives { Survives (state S.Store tx.old.conn.now) (state S.Store tx.new.conn.now) (λ _. ⊥) }
 {
     take_all::<LogRow, S>(tx, &change.dropped)?;
@@ -113,7 +120,8 @@ fn put_rows<S: Alter>(
     change: &Change,
 ) -> Result<(), Error>
     ensures same_reference { tx.new.conn.ghost_name ≡ tx.old.conn.ghost_name }
-    ensures made { Makes (state S.Store tx.old.conn.now) (state S.Store tx.new.conn.now) (rows_put change.now (tables_in (state S.Store tx.old.conn.now).now.trees)) result }
+    ensures made { MakesTables (state S.Store tx.old.conn.now) (state S.Store tx.new.conn.now)
+        (rows_put change.now (tables_in (state S.Store tx.old.conn.now).now.trees)) result }
     ensures survives { Survives (state S.Store tx.old.conn.now) (state S.Store tx.new.conn.now) (λ _. ⊥) }
 {
     put_heads(tx, alloc, change)?;
@@ -125,7 +133,8 @@ fn put_rows<S: Alter>(
 /// Takes the rows away, and then puts the rows.
 fn make<S: Alter>(tx: &mut Transaction<'_, S>, alloc: Global, change: &Change) -> Result<(), Error>
     ensures same_reference { tx.new.conn.ghost_name ≡ tx.old.conn.ghost_name }
-    ensures made { Makes (state S.Store tx.old.conn.now) (state S.Store tx.new.conn.now) (changed change.now (tables_in (state S.Store tx.old.conn.now).now.trees)) result }
+    ensures made { MakesTables (state S.Store tx.old.conn.now) (state S.Store tx.new.conn.now)
+        (changed change.now (tables_in (state S.Store tx.old.conn.now).now.trees)) result }
     ensures survives { Survives (state S.Store tx.old.conn.now) (state S.Store tx.new.conn.now) (λ _. ⊥) }
 {
     take_rows(tx, change)?;
@@ -142,7 +151,8 @@ pub fn apply<S: Alter>(
     ensures autocommit { conn.new.in_transaction ≡ false }
     ensures lasts { HasCleanDisk (state S.Store conn.new) → OnOk result (IsTrue (state S.Store conn.new).is_open) }
     ensures applied { Applies (state S.Store conn.old) (state S.Store conn.new) (changed change.now (tables_in (state S.Store conn.old).now.trees)) result }
-    ensures survives { Survives (state S.Store conn.old) (state S.Store conn.new) (λ trees. IsReached (state S.Store conn.old) (changed change.now (tables_in (state S.Store conn.old).now.trees)) trees) }
+    ensures survives { Survives (state S.Store conn.old) (state S.Store conn.new)
+        (λ trees. IsReached (state S.Store conn.old) (changed change.now (tables_in (state S.Store conn.old).now.trees)) trees) }
 {
     let mut tx = conn.transaction();
     make(&mut tx, alloc, change)?;

@@ -2,7 +2,7 @@ ghost use Rattle.std.specs.Prelude.{◌≡◌, [], ◌∷◌, false, map, IfOk, 
 ghost use Rattle.std.specs.List.{All};
 ghost use Rattle.sqlite_value.specs.declared.value.Value.TheVariants.{Null};
 ghost use Rattle.sqlite.specs.Held.{state};
-ghost use Rattle.mr_rows.specs.Cells.{meta_in};
+ghost use Rattle.mr_rows.specs.RowCells.{meta_in};
 ghost use Rattle.mr_rows.specs.Form.{meta_form, room_form, vector_form, log_form, booking_form, error_form, cancelled_form, cancel_form};
 ghost use Rattle.mr_rows.specs.Shown.{IsShownAs, AreStoredAs, AreOurRows, IsMeta, listed};
 ghost use Rattle.mr_rows.specs.Reads.{Looks};
@@ -31,7 +31,8 @@ fn only_meta(rows: &[Row]) -> Result<Option<MetaRow>, Error>
 fn find_meta<S: Alter>(conn: &mut Connection<S>) -> Result<Option<MetaRow>, Error>
     requires autocommit { conn.old.in_transaction ≡ false }
     ensures autocommit { conn.new.in_transaction ≡ false }
-    ensures looks { Looks (state S.Store conn.old) (state S.Store conn.new) result (λ m. AreStoredAs meta_form (state S.Store conn.old).now.trees × IsMeta (state S.Store conn.old).now.trees m) }
+    ensures looks { Looks (state S.Store conn.old) (state S.Store conn.new) result
+        (λ m. AreStoredAs meta_form (state S.Store conn.old).now.trees × IsMeta (state S.Store conn.old).now.trees m) }
 {
     let rows = select_all_meta(conn)?;
     only_meta(&rows)
@@ -59,7 +60,8 @@ fn find_stored<R: StoredRow, S: Alter>(conn: &mut Connection<S>, alloc: Global) 
 fn find_heads<S: Alter>(conn: &mut Connection<S>, alloc: Global) -> Result<(), Error>
     requires autocommit { conn.old.in_transaction ≡ false }
     ensures autocommit { conn.new.in_transaction ≡ false }
-    ensures looks { Looks (state S.Store conn.old) (state S.Store conn.new) result (λ _. AreStoredAs room_form (state S.Store conn.old).now.trees × AreStoredAs vector_form (state S.Store conn.old).now.trees) }
+    ensures looks { Looks (state S.Store conn.old) (state S.Store conn.new) result
+        (λ _. AreStoredAs room_form (state S.Store conn.old).now.trees × AreStoredAs vector_form (state S.Store conn.old).now.trees) }
 {
     find_stored::<RoomName, S>(conn, alloc)?;
     find_stored::<VectorRow, S>(conn, alloc)
@@ -69,7 +71,8 @@ fn find_heads<S: Alter>(conn: &mut Connection<S>, alloc: Global) -> Result<(), E
 fn find_board<S: Alter>(conn: &mut Connection<S>, alloc: Global) -> Result<(), Error>
     requires autocommit { conn.old.in_transaction ≡ false }
     ensures autocommit { conn.new.in_transaction ≡ false }
-    ensures looks { Looks (state S.Store conn.old) (state S.Store conn.new) result (λ _. AreStoredAs booking_form (state S.Store conn.old).now.trees × AreStoredAs error_form (state S.Store conn.old).now.trees) }
+    ensures looks { Looks (state S.Store conn.old) (state S.Store conn.new) result
+        (λ _. AreStoredAs booking_form (state S.Store conn.old).now.trees × AreStoredAs error_form (state S.Store conn.old).now.trees) }
 {
     find_stored::<BookingRow, S>(conn, alloc)?;
     find_stored::<ErrorRow, S>(conn, alloc)
@@ -79,7 +82,8 @@ fn find_board<S: Alter>(conn: &mut Connection<S>, alloc: Global) -> Result<(), E
 fn find_cancels<S: Alter>(conn: &mut Connection<S>, alloc: Global) -> Result<(), Error>
     requires autocommit { conn.old.in_transaction ≡ false }
     ensures autocommit { conn.new.in_transaction ≡ false }
-    ensures looks { Looks (state S.Store conn.old) (state S.Store conn.new) result (λ _. AreStoredAs cancelled_form (state S.Store conn.old).now.trees × AreStoredAs cancel_form (state S.Store conn.old).now.trees) }
+    ensures looks { Looks (state S.Store conn.old) (state S.Store conn.new) result
+        (λ _. AreStoredAs cancelled_form (state S.Store conn.old).now.trees × AreStoredAs cancel_form (state S.Store conn.old).now.trees) }
 {
     find_stored::<CancelledRow, S>(conn, alloc)?;
     find_stored::<CancelRow, S>(conn, alloc)
@@ -118,7 +122,8 @@ fn find_no_undo<S: Alter>(conn: &mut Connection<S>) -> Result<(), Error>
 fn find_no_old_logs<S: Alter>(conn: &mut Connection<S>) -> Result<(), Error>
     requires autocommit { conn.old.in_transaction ≡ false }
     ensures autocommit { conn.new.in_transaction ≡ false }
-    ensures looks { Looks (state S.Store conn.old) (state S.Store conn.new) result (λ _. ((state S.Store conn.old).now.trees 6 ≡ []) × ((state S.Store conn.old).now.trees 8 ≡ [])) }
+    ensures looks { Looks (state S.Store conn.old) (state S.Store conn.new) result
+        (λ _. ((state S.Store conn.old).now.trees 6 ≡ []) × ((state S.Store conn.old).now.trees 8 ≡ [])) }
 {
     find_no_writes(conn)?;
     find_no_undo(conn)
@@ -128,7 +133,8 @@ fn find_no_old_logs<S: Alter>(conn: &mut Connection<S>) -> Result<(), Error>
 pub fn find_all<S: Alter>(conn: &mut Connection<S>, alloc: Global) -> Result<Option<MetaRow>, Error>
     requires autocommit { conn.old.in_transaction ≡ false }
     ensures autocommit { conn.new.in_transaction ≡ false }
-    ensures looks { Looks (state S.Store conn.old) (state S.Store conn.new) result (λ m. AreOurRows (state S.Store conn.old).now.trees × IsMeta (state S.Store conn.old).now.trees m) }
+    ensures looks { Looks (state S.Store conn.old) (state S.Store conn.new) result
+        (λ m. AreOurRows (state S.Store conn.old).now.trees × IsMeta (state S.Store conn.old).now.trees m) }
 {
     find_heads(conn, alloc)?;
     find_stored::<LogRow, S>(conn, alloc)?;

@@ -1,9 +1,9 @@
 ghost use Rattle.std.specs.Prelude.{◌≡◌, ◌∷◌, false, map, IfOk, Some};
 ghost use Rattle.sqlite_value.specs.declared.value.Value.TheVariants.{Null};
 ghost use Rattle.sqlite.specs.Held.{state};
-ghost use Rattle.mr_rows.specs.Cells.{meta_in, meta_cells};
-ghost use Rattle.mr_rows.specs.Kept.{tables_in};
-ghost use Rattle.mr_rows.specs.Reads.{Reads, first_of};
+ghost use Rattle.mr_rows.specs.RowCells.{meta_in, meta_cells};
+ghost use Rattle.mr_rows.specs.Database.{tables_in};
+ghost use Rattle.mr_rows.specs.Reads.{ReadsKept, first_of};
 ghost use Rattle.mr_rows.specs.Shown.{columns_from};
 
 use crate::cells::{read_server, read_u32, read_u64};
@@ -48,7 +48,7 @@ fn first_meta(rows: &[Row]) -> Result<MetaRow, Error>
 pub(crate) fn the_meta<S: Alter>(conn: &mut Connection<S>) -> Result<MetaRow, Error>
     requires autocommit { conn.old.in_transaction ≡ false }
     ensures autocommit { conn.new.in_transaction ≡ false }
-    ensures reads { Reads (state S.Store conn.old) (state S.Store conn.new) result (λ row. row ≡ (tables_in (state S.Store conn.old).now.trees).meta) }
+    ensures reads { ReadsKept (state S.Store conn.old) (state S.Store conn.new) result (λ row. row ≡ (tables_in (state S.Store conn.old).now.trees).meta) }
 {
     let rows = select_all_meta(conn)?;
     first_meta(&rows)

@@ -1,7 +1,7 @@
 ghost use Rattle.std.specs.Prelude.{◌≡◌, ◌<◌, ◌≤◌, ◌^◌, IfOk, IfErr, pos};
 ghost use Rattle.sqlite_value.specs.declared.value.Value.TheVariants.{Int};
 ghost use Rattle.mr_replay.specs.Places.{place_of};
-ghost use Rattle.mr_rows.specs.Cells.{place_number};
+ghost use Rattle.mr_rows.specs.RowCells.{place_number};
 
 use mr_replay::Place;
 use sqlite::Error;

@@ -3,9 +3,9 @@ ghost use Rattle.sqlite.specs.State.{Survives};
 ghost use Rattle.sqlite.specs.Held.{state};
 ghost use Rattle.mr_model.specs.Calendar.{is_date, date_text};
 ghost use Rattle.sqlite_value.specs.declared.value.Value.TheVariants.{Int, Text};
-ghost use Rattle.mr_rows.specs.Cells.{action_row};
-ghost use Rattle.mr_rows.specs.Kept.{Makes, tables_in};
-ghost use Rattle.mr_rows.specs.Parts.{put_meta as with_meta, put_vector, put_logs, put_bookings, put_errors, put_cancelled, put_cancels};
+ghost use Rattle.mr_rows.specs.RowCells.{action_row};
+ghost use Rattle.mr_rows.specs.Database.{MakesTables, tables_in};
+ghost use Rattle.mr_rows.specs.ChangeParts.{put_meta as with_meta, put_vector, put_logs, put_bookings, put_errors, put_cancelled, put_cancels};
 
 use crate::numbers::{Number, PlaceNumber};
 use mr_base::{Day, WriteId};
@@ -26,7 +26,8 @@ fn put_meta_cells<S: Alter>(
     requires dropped { dropped.value ≡ row.now.dropped }
     requires clock { clock.value ≡ row.now.clock }
     ensures same_reference { tx.new.conn.ghost_name ≡ tx.old.conn.ghost_name }
-    ensures put { Makes (state S.Store tx.old.conn.now) (state S.Store tx.new.conn.now) (with_meta row.now (tables_in (state S.Store tx.old.conn.now).now.trees)) result }
+    ensures put { MakesTables (state S.Store tx.old.conn.now) (state S.Store tx.new.conn.now)
+        (with_meta row.now (tables_in (state S.Store tx.old.conn.now).now.trees)) result }
     ensures survives { Survives (state S.Store tx.old.conn.now) (state S.Store tx.new.conn.now) (λ _. ⊥) }
 {
     tx.execute(
@@ -46,7 +47,8 @@ fn put_meta_cells<S: Alter>(
 /// Puts the row of `meta`.
 pub fn put_meta<S: Alter>(tx: &mut Transaction<'_, S>, row: &MetaRow) -> Result<usize, Error>
     ensures same_reference { tx.new.conn.ghost_name ≡ tx.old.conn.ghost_name }
-    ensures put { Makes (state S.Store tx.old.conn.now) (state S.Store tx.new.conn.now) (with_meta row.now (tables_in (state S.Store tx.old.conn.now).now.trees)) result }
+    ensures put { MakesTables (state S.Store tx.old.conn.now) (state S.Store tx.new.conn.now)
+        (with_meta row.now (tables_in (state S.Store tx.old.conn.now).now.trees)) result }
     ensures survives { Survives (state S.Store tx.old.conn.now) (state S.Store tx.new.conn.now) (λ _. ⊥) }
 {
     let commits = Number::new(row.commits, 4)?;
@@ -62,7 +64,8 @@ pub(crate) fn put_vector_cells<S: Alter>(
 ) -> Result<usize, Error>
     requires time { time.value ≡ row.now.last_time }
     ensures same_reference { tx.new.conn.ghost_name ≡ tx.old.conn.ghost_name }
-    ensures put { Makes (state S.Store tx.old.conn.now) (state S.Store tx.new.conn.now) (put_vector (row.now ∷ []) (tables_in (state S.Store tx.old.conn.now).now.trees)) result }
+    ensures put { MakesTables (state S.Store tx.old.conn.now) (state S.Store tx.new.conn.now)
+        (put_vector (row.now ∷ []) (tables_in (state S.Store tx.old.conn.now).now.trees)) result }
     ensures survives { Survives (state S.Store tx.old.conn.now) (state S.Store tx.new.conn.now) (λ _. ⊥) }
 {
     tx.execute(
@@ -84,9 +87,11 @@ fn put_log_parts<S: Alter>(
 ) -> Result<usize, Error>
     requires time { numbers.time.value ≡ row.now.time }
     requires seq { numbers.seq.value ≡ row.now.seq }
-    requires action { action_row row.now.action ≡ Int (pos kind) ∷ Int (pos length) ∷ Text choices.now ∷ Text title.now ∷ Int (pos target.0) ∷ Int (pos target.1) ∷ [] }
+    requires action { action_row row.now.action ≡ Int (pos kind) ∷ Int (pos length) ∷ Text choices.now ∷ Text title.now ∷ Int (pos target.0)
+        ∷ Int (pos target.1) ∷ [] }
     ensures same_reference { tx.new.conn.ghost_name ≡ tx.old.conn.ghost_name }
-    ensures put { Makes (state S.Store tx.old.conn.now) (state S.Store tx.new.conn.now) (put_logs (row.now ∷ []) (tables_in (state S.Store tx.old.conn.now).now.trees)) result }
+    ensures put { MakesTables (state S.Store tx.old.conn.now) (state S.Store tx.new.conn.now)
+        (put_logs (row.now ∷ []) (tables_in (state S.Store tx.old.conn.now).now.trees)) result }
     ensures survives { Survives (state S.Store tx.old.conn.now) (state S.Store tx.new.conn.now) (λ _. ⊥) }
 {
     tx.execute(
@@ -123,7 +128,8 @@ pub(crate) fn put_log_cells<S: Alter>(
     requires time { numbers.time.value ≡ row.now.time }
     requires seq { numbers.seq.value ≡ row.now.seq }
     ensures same_reference { tx.new.conn.ghost_name ≡ tx.old.conn.ghost_name }
-    ensures put { Makes (state S.Store tx.old.conn.now) (state S.Store tx.new.conn.now) (put_logs (row.now ∷ []) (tables_in (state S.Store tx.old.conn.now).now.trees)) result }
+    ensures put { MakesTables (state S.Store tx.old.conn.now) (state S.Store tx.new.conn.now)
+        (put_logs (row.now ∷ []) (tables_in (state S.Store tx.old.conn.now).now.trees)) result }
     ensures survives { Survives (state S.Store tx.old.conn.now) (state S.Store tx.new.conn.now) (λ _. ⊥) }
 {
     match &row.action {
@@ -161,7 +167,8 @@ pub(crate) fn put_booking_cells<S: Alter>(
     requires day { day.now ≡ date_text row.now.day }
     requires is_date { IsTrue (is_date row.now.day) }
     ensures same_reference { tx.new.conn.ghost_name ≡ tx.old.conn.ghost_name }
-    ensures put { Makes (state S.Store tx.old.conn.now) (state S.Store tx.new.conn.now) (put_bookings (row.now ∷ []) (tables_in (state S.Store tx.old.conn.now).now.trees)) result }
+    ensures put { MakesTables (state S.Store tx.old.conn.now) (state S.Store tx.new.conn.now)
+        (put_bookings (row.now ∷ []) (tables_in (state S.Store tx.old.conn.now).now.trees)) result }
     ensures survives { Survives (state S.Store tx.old.conn.now) (state S.Store tx.new.conn.now) (λ _. ⊥) }
 {
     tx.execute(
@@ -191,7 +198,8 @@ pub(crate) fn put_error_cells<S: Alter>(
     requires time { time.value ≡ row.now.time }
     requires seq { seq.value ≡ row.now.seq }
     ensures same_reference { tx.new.conn.ghost_name ≡ tx.old.conn.ghost_name }
-    ensures put { Makes (state S.Store tx.old.conn.now) (state S.Store tx.new.conn.now) (put_errors (row.now ∷ []) (tables_in (state S.Store tx.old.conn.now).now.trees)) result }
+    ensures put { MakesTables (state S.Store tx.old.conn.now) (state S.Store tx.new.conn.now)
+        (put_errors (row.now ∷ []) (tables_in (state S.Store tx.old.conn.now).now.trees)) result }
     ensures survives { Survives (state S.Store tx.old.conn.now) (state S.Store tx.new.conn.now) (λ _. ⊥) }
 {
     tx.execute(
@@ -220,7 +228,8 @@ pub(crate) fn put_cancelled_cells<S: Alter>(
     requires day { day.now ≡ date_text row.now.day }
     requires is_date { IsTrue (is_date row.now.day) }
     ensures same_reference { tx.new.conn.ghost_name ≡ tx.old.conn.ghost_name }
-    ensures put { Makes (state S.Store tx.old.conn.now) (state S.Store tx.new.conn.now) (put_cancelled (row.now ∷ []) (tables_in (state S.Store tx.old.conn.now).now.trees)) result }
+    ensures put { MakesTables (state S.Store tx.old.conn.now) (state S.Store tx.new.conn.now)
+        (put_cancelled (row.now ∷ []) (tables_in (state S.Store tx.old.conn.now).now.trees)) result }
     ensures survives { Survives (state S.Store tx.old.conn.now) (state S.Store tx.new.conn.now) (λ _. ⊥) }
 {
     tx.execute(
@@ -251,7 +260,8 @@ pub(crate) fn put_cancel_cells<S: Alter>(
     requires time { time.value ≡ row.now.time }
     requires seq { seq.value ≡ row.now.seq }
     ensures same_reference { tx.new.conn.ghost_name ≡ tx.old.conn.ghost_name }
-    ensures put { Makes (state S.Store tx.old.conn.now) (state S.Store tx.new.conn.now) (put_cancels (row.now ∷ []) (tables_in (state S.Store tx.old.conn.now).now.trees)) result }
+    ensures put { MakesTables (state S.Store tx.old.conn.now) (state S.Store tx.new.conn.now)
+        (put_cancels (row.now ∷ []) (tables_in (state S.Store tx.old.conn.now).now.trees)) result }
     ensures survives { Survives (state S.Store tx.old.conn.now) (state S.Store tx.new.conn.now) (λ _. ⊥) }
 {
     tx.execute(

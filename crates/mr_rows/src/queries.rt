@@ -11,10 +11,10 @@ ghost use Rattle.mr_model.specs.Replica.{is_among};
 ghost use Rattle.mr_model.specs.Queries.{booking_id, error_id, cancelled_id, cancel_id};
 ghost use Rattle.mr_tables.specs.Change.{log_id};
 ghost use Rattle.mr_rows.specs.Schema.{our_schema};
-ghost use Rattle.mr_rows.specs.Cells.{meta_in, log_in, booking_in, error_in, cancelled_in, cancel_in};
-ghost use Rattle.mr_rows.specs.Kept.{tables_in};
+ghost use Rattle.mr_rows.specs.RowCells.{meta_in, log_in, booking_in, error_in, cancelled_in, cancel_in};
+ghost use Rattle.mr_rows.specs.Database.{tables_in};
 ghost use Rattle.mr_rows.specs.Shown.{columns_from};
-ghost use Rattle.mr_rows.specs.Reads.{Reads, Looks, metas_in};
+ghost use Rattle.mr_rows.specs.Reads.{ReadsKept, Looks, metas_in};
 ghost use Rattle.mr_rows.specs.RowQuestions.{is_booking_asked, is_error_asked, is_cancelled_asked, is_cancel_asked};
 
 use crate::numbers::Number;
@@ -31,8 +31,10 @@ pub(crate) fn ask<S: Alter>(
     requires autocommit { conn.old.in_transaction ≡ false }
     requires plain { IsPlain (understood our_schema sql.now) }
     ensures autocommit { conn.new.in_transaction ≡ false }
-    ensures reads { Reads (state S.Store conn.old) (state S.Store conn.new) result (λ rows. Shown sql.now (bound params.now) (state S.Store conn.old) (state S.Store conn.new) rows.items) }
-    ensures looks { Looks (state S.Store conn.old) (state S.Store conn.new) result (λ rows. Shown sql.now (bound params.now) (state S.Store conn.old) (state S.Store conn.new) rows.items) }
+    ensures reads { ReadsKept (state S.Store conn.old) (state S.Store conn.new) result
+        (λ rows. Shown sql.now (bound params.now) (state S.Store conn.old) (state S.Store conn.new) rows.items) }
+    ensures looks { Looks (state S.Store conn.old) (state S.Store conn.new) result
+        (λ rows. Shown sql.now (bound params.now) (state S.Store conn.old) (state S.Store conn.new) rows.items) }
 {
     conn.query_all(sql, params)
 }
@@ -41,8 +43,10 @@ pub(crate) fn ask<S: Alter>(
 pub(crate) fn select_all_meta<S: Alter>(conn: &mut Connection<S>) -> Result<Vec<Row>, Error>
     requires autocommit { conn.old.in_transaction ≡ false }
     ensures autocommit { conn.new.in_transaction ≡ false }
-    ensures reads { Reads (state S.Store conn.old) (state S.Store conn.new) result (λ rows. IsPermutation (metas_in (state S.Store conn.old).now.trees) (map (λ row. meta_in (Null ∷ row)) rows.items)) }
-    ensures looks { Looks (state S.Store conn.old) (state S.Store conn.new) result (λ rows. IsPermutation (map (columns_from 1 7) ((state S.Store conn.old).now.trees 0)) rows.items) }
+    ensures reads { ReadsKept (state S.Store conn.old) (state S.Store conn.new) result
+        (λ rows. IsPermutation (metas_in (state S.Store conn.old).now.trees) (map (λ row. meta_in (Null ∷ row)) rows.items)) }
+    ensures looks { Looks (state S.Store conn.old) (state S.Store conn.new) result
+        (λ rows. IsPermutation (map (columns_from 1 7) ((state S.Store conn.old).now.trees 0)) rows.items) }
 {
     ask(
         conn,
@@ -59,7 +63,9 @@ pub(crate) fn select_key_log<S: Alter>(
 ) -> Result<Vec<Row>, Error>
     requires autocommit { conn.old.in_transaction ≡ false }
     ensures autocommit { conn.new.in_transaction ≡ false }
-    ensures reads { Reads (state S.Store conn.old) (state S.Store conn.new) result (λ rows. IsPermutation (filter (λ r. is_among (log_id r) (record { server = server; n = n } ∷ [])) (tables_in (state S.Store conn.old).now.trees).log) (map (λ row. log_in (Null ∷ row)) rows.items)) }
+    ensures reads { ReadsKept (state S.Store conn.old) (state S.Store conn.new) result
+        (λ rows. IsPermutation (filter (λ r. is_among (log_id r) (record { server = server; n = n } ∷ [])) (tables_in (state S.Store conn.old).now.trees).log)
+        (map (λ row. log_in (Null ∷ row)) rows.items)) }
 {
     ask(
         conn,
@@ -76,7 +82,9 @@ pub(crate) fn select_between_log<S: Alter>(
 ) -> Result<Vec<Row>, Error>
     requires autocommit { conn.old.in_transaction ≡ false }
     ensures autocommit { conn.new.in_transaction ≡ false }
-    ensures reads { Reads (state S.Store conn.old) (state S.Store conn.new) result (λ rows. IsPermutation (filter (λ r. within low.value high.value r.seq) (tables_in (state S.Store conn.old).now.trees).log) (map (λ row. log_in (Null ∷ row)) rows.items)) }
+    ensures reads { ReadsKept (state S.Store conn.old) (state S.Store conn.new) result
+        (λ rows. IsPermutation (filter (λ r. within low.value high.value r.seq) (tables_in (state S.Store conn.old).now.trees).log)
+        (map (λ row. log_in (Null ∷ row)) rows.items)) }
 {
     ask(
         conn,
@@ -92,7 +100,9 @@ pub fn select_room_booking<S: Alter>(
 ) -> Result<Vec<Row>, Error>
     requires autocommit { conn.old.in_transaction ≡ false }
     ensures autocommit { conn.new.in_transaction ≡ false }
-    ensures reads { Reads (state S.Store conn.old) (state S.Store conn.new) result (λ rows. IsPermutation (filter (is_booking_asked room.now) (tables_in (state S.Store conn.old).now.trees).booking) (map (λ row. booking_in (Null ∷ row)) rows.items)) }
+    ensures reads { ReadsKept (state S.Store conn.old) (state S.Store conn.new) result
+        (λ rows. IsPermutation (filter (is_booking_asked room.now) (tables_in (state S.Store conn.old).now.trees).booking)
+        (map (λ row. booking_in (Null ∷ row)) rows.items)) }
 {
     ask(
         conn,
@@ -109,7 +119,10 @@ pub fn select_key_booking<S: Alter>(
 ) -> Result<Vec<Row>, Error>
     requires autocommit { conn.old.in_transaction ≡ false }
     ensures autocommit { conn.new.in_transaction ≡ false }
-    ensures reads { Reads (state S.Store conn.old) (state S.Store conn.new) result (λ rows. IsPermutation (filter (λ r. is_among (booking_id r) (record { server = server; n = n } ∷ [])) (tables_in (state S.Store conn.old).now.trees).booking) (map (λ row. booking_in (Null ∷ row)) rows.items)) }
+    ensures reads { ReadsKept (state S.Store conn.old) (state S.Store conn.new) result
+        (λ rows. IsPermutation
+        (filter (λ r. is_among (booking_id r) (record { server = server; n = n } ∷ [])) (tables_in (state S.Store conn.old).now.trees).booking)
+        (map (λ row. booking_in (Null ∷ row)) rows.items)) }
 {
     ask(
         conn,
@@ -125,7 +138,9 @@ pub fn select_room_error<S: Alter>(
 ) -> Result<Vec<Row>, Error>
     requires autocommit { conn.old.in_transaction ≡ false }
     ensures autocommit { conn.new.in_transaction ≡ false }
-    ensures reads { Reads (state S.Store conn.old) (state S.Store conn.new) result (λ rows. IsPermutation (filter (is_error_asked room.now) (tables_in (state S.Store conn.old).now.trees).errorlog) (map (λ row. error_in (Null ∷ row)) rows.items)) }
+    ensures reads { ReadsKept (state S.Store conn.old) (state S.Store conn.new) result
+        (λ rows. IsPermutation (filter (is_error_asked room.now) (tables_in (state S.Store conn.old).now.trees).errorlog)
+        (map (λ row. error_in (Null ∷ row)) rows.items)) }
 {
     ask(
         conn,
@@ -142,7 +157,10 @@ pub fn select_key_error<S: Alter>(
 ) -> Result<Vec<Row>, Error>
     requires autocommit { conn.old.in_transaction ≡ false }
     ensures autocommit { conn.new.in_transaction ≡ false }
-    ensures reads { Reads (state S.Store conn.old) (state S.Store conn.new) result (λ rows. IsPermutation (filter (λ r. is_among (error_id r) (record { server = server; n = n } ∷ [])) (tables_in (state S.Store conn.old).now.trees).errorlog) (map (λ row. error_in (Null ∷ row)) rows.items)) }
+    ensures reads { ReadsKept (state S.Store conn.old) (state S.Store conn.new) result
+        (λ rows. IsPermutation
+        (filter (λ r. is_among (error_id r) (record { server = server; n = n } ∷ [])) (tables_in (state S.Store conn.old).now.trees).errorlog)
+        (map (λ row. error_in (Null ∷ row)) rows.items)) }
 {
     ask(
         conn,
@@ -158,7 +176,9 @@ pub fn select_room_cancelled<S: Alter>(
 ) -> Result<Vec<Row>, Error>
     requires autocommit { conn.old.in_transaction ≡ false }
     ensures autocommit { conn.new.in_transaction ≡ false }
-    ensures reads { Reads (state S.Store conn.old) (state S.Store conn.new) result (λ rows. IsPermutation (filter (is_cancelled_asked room.now) (tables_in (state S.Store conn.old).now.trees).cancelled) (map (λ row. cancelled_in (Null ∷ row)) rows.items)) }
+    ensures reads { ReadsKept (state S.Store conn.old) (state S.Store conn.new) result
+        (λ rows. IsPermutation (filter (is_cancelled_asked room.now) (tables_in (state S.Store conn.old).now.trees).cancelled)
+        (map (λ row. cancelled_in (Null ∷ row)) rows.items)) }
 {
     ask(
         conn,
@@ -175,7 +195,10 @@ pub fn select_key_cancelled<S: Alter>(
 ) -> Result<Vec<Row>, Error>
     requires autocommit { conn.old.in_transaction ≡ false }
     ensures autocommit { conn.new.in_transaction ≡ false }
-    ensures reads { Reads (state S.Store conn.old) (state S.Store conn.new) result (λ rows. IsPermutation (filter (λ r. is_among (cancelled_id r) (record { server = server; n = n } ∷ [])) (tables_in (state S.Store conn.old).now.trees).cancelled) (map (λ row. cancelled_in (Null ∷ row)) rows.items)) }
+    ensures reads { ReadsKept (state S.Store conn.old) (state S.Store conn.new) result
+        (λ rows. IsPermutation
+        (filter (λ r. is_among (cancelled_id r) (record { server = server; n = n } ∷ [])) (tables_in (state S.Store conn.old).now.trees).cancelled)
+        (map (λ row. cancelled_in (Null ∷ row)) rows.items)) }
 {
     ask(
         conn,
@@ -191,7 +214,9 @@ pub fn select_room_cancel<S: Alter>(
 ) -> Result<Vec<Row>, Error>
     requires autocommit { conn.old.in_transaction ≡ false }
     ensures autocommit { conn.new.in_transaction ≡ false }
-    ensures reads { Reads (state S.Store conn.old) (state S.Store conn.new) result (λ rows. IsPermutation (filter (is_cancel_asked room.now) (tables_in (state S.Store conn.old).now.trees).cancels) (map (λ row. cancel_in (Null ∷ row)) rows.items)) }
+    ensures reads { ReadsKept (state S.Store conn.old) (state S.Store conn.new) result
+        (λ rows. IsPermutation (filter (is_cancel_asked room.now) (tables_in (state S.Store conn.old).now.trees).cancels)
+        (map (λ row. cancel_in (Null ∷ row)) rows.items)) }
 {
     ask(
         conn,
@@ -208,7 +233,10 @@ pub fn select_key_cancel<S: Alter>(
 ) -> Result<Vec<Row>, Error>
     requires autocommit { conn.old.in_transaction ≡ false }
     ensures autocommit { conn.new.in_transaction ≡ false }
-    ensures reads { Reads (state S.Store conn.old) (state S.Store conn.new) result (λ rows. IsPermutation (filter (λ r. is_among (cancel_id r) (record { server = server; n = n } ∷ [])) (tables_in (state S.Store conn.old).now.trees).cancels) (map (λ row. cancel_in (Null ∷ row)) rows.items)) }
+    ensures reads { ReadsKept (state S.Store conn.old) (state S.Store conn.new) result
+        (λ rows. IsPermutation
+        (filter (λ r. is_among (cancel_id r) (record { server = server; n = n } ∷ [])) (tables_in (state S.Store conn.old).now.trees).cancels)
+        (map (λ row. cancel_in (Null ∷ row)) rows.items)) }
 {
     ask(
         conn,
@@ -221,7 +249,8 @@ pub fn select_key_cancel<S: Alter>(
 pub(crate) fn select_all_write_log<S: Alter>(conn: &mut Connection<S>) -> Result<Vec<Row>, Error>
     requires autocommit { conn.old.in_transaction ≡ false }
     ensures autocommit { conn.new.in_transaction ≡ false }
-    ensures looks { Looks (state S.Store conn.old) (state S.Store conn.new) result (λ rows. IsPermutation (map (columns_from 1 1) ((state S.Store conn.old).now.trees 6)) rows.items) }
+    ensures looks { Looks (state S.Store conn.old) (state S.Store conn.new) result
+        (λ rows. IsPermutation (map (columns_from 1 1) ((state S.Store conn.old).now.trees 6)) rows.items) }
 {
     ask(conn, "SELECT server FROM write_log", &[])
 }
@@ -230,7 +259,8 @@ pub(crate) fn select_all_write_log<S: Alter>(conn: &mut Connection<S>) -> Result
 pub(crate) fn select_all_undo<S: Alter>(conn: &mut Connection<S>) -> Result<Vec<Row>, Error>
     requires autocommit { conn.old.in_transaction ≡ false }
     ensures autocommit { conn.new.in_transaction ≡ false }
-    ensures looks { Looks (state S.Store conn.old) (state S.Store conn.new) result (λ rows. IsPermutation (map (columns_from 1 1) ((state S.Store conn.old).now.trees 8)) rows.items) }
+    ensures looks { Looks (state S.Store conn.old) (state S.Store conn.new) result
+        (λ rows. IsPermutation (map (columns_from 1 1) ((state S.Store conn.old).now.trees 8)) rows.items) }
 {
     ask(conn, "SELECT server FROM undo", &[])
 }

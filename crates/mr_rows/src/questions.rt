@@ -4,10 +4,10 @@ ghost use Rattle.sqlite_value.specs.declared.value.Value.TheVariants.{Null};
 ghost use Rattle.sqlite.specs.Held.{state};
 ghost use Rattle.mr_model.specs.Texts.{within};
 ghost use Rattle.mr_model.specs.Writes.{Id};
-ghost use Rattle.mr_rows.specs.Cells.{log_in};
-ghost use Rattle.mr_rows.specs.Kept.{tables_in};
-ghost use Rattle.mr_rows.specs.RowQuestions.{is_log_asked, is_booking_asked, is_cancelled_asked, is_booking_of, is_error_of, is_cancelled_of};
-ghost use Rattle.mr_rows.specs.Reads.{Reads};
+ghost use Rattle.mr_rows.specs.RowCells.{log_in};
+ghost use Rattle.mr_rows.specs.Database.{tables_in};
+ghost use Rattle.mr_rows.specs.RowQuestions.{is_log_asked, is_booking_asked, is_cancelled_asked, is_booking_named, is_error_of, is_cancelled_of};
+ghost use Rattle.mr_rows.specs.Reads.{ReadsKept};
 
 use crate::numbers::Number;
 use crate::queries::{
@@ -29,7 +29,9 @@ pub trait Question<R: StoredRow> {
     fn ask<S: Alter>(&self, conn: &mut Connection<S>) -> Result<Vec<Row>, Error>
         requires autocommit { conn.old.in_transaction ≡ false }
         ensures autocommit { conn.new.in_transaction ≡ false }
-        ensures reads { Reads (state S.Store conn.old) (state S.Store conn.new) result (λ rows. IsPermutation (filter (asks self.now) (R.rows_of (tables_in (state S.Store conn.old).now.trees))) (map (λ row. R.form.row_in (Null ∷ row)) rows.items)) };
+        ensures reads { ReadsKept (state S.Store conn.old) (state S.Store conn.new) result
+            (λ rows. IsPermutation (filter (asks self.now) (R.rows_of (tables_in (state S.Store conn.old).now.trees)))
+            (map (λ row. R.form.row_in (Null ∷ row)) rows.items)) };
 }
 
 /// A question for rows of `log`: for that of an id, or for those whose `seq` is between two numbers.
@@ -42,7 +44,9 @@ pub enum LogQuestion {
 fn ask_between<S: Alter>(conn: &mut Connection<S>, low: u64, high: u64) -> Result<Vec<Row>, Error>
     requires autocommit { conn.old.in_transaction ≡ false }
     ensures autocommit { conn.new.in_transaction ≡ false }
-    ensures reads { Reads (state S.Store conn.old) (state S.Store conn.new) result (λ rows. IsPermutation (filter (λ r. within low high r.seq) (tables_in (state S.Store conn.old).now.trees).log) (map (λ row. log_in (Null ∷ row)) rows.items)) }
+    ensures reads { ReadsKept (state S.Store conn.old) (state S.Store conn.new) result
+        (λ rows. IsPermutation (filter (λ r. within low high r.seq) (tables_in (state S.Store conn.old).now.trees).log)
+        (map (λ row. log_in (Null ∷ row)) rows.items)) }
 {
     let low = Number::new(low, 11)?;
     let high = Number::new(high, 11)?;
@@ -76,7 +80,7 @@ impl Model for IdQuestion {
 }
 
 impl Question<BookingRow> for IdQuestion {
-    ghost asks = { is_booking_of };
+    ghost asks = { is_booking_named };
 
     fn ask<S: Alter>(&self, conn: &mut Connection<S>) -> Result<Vec<Row>, Error> {
         select_key_booking(conn, self.server.number(), self.n)

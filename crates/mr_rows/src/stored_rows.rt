@@ -10,8 +10,8 @@ ghost use Rattle.mr_model.specs.Writes.{Id};
 ghost use Rattle.mr_model.specs.Tables.{Tables};
 ghost use Rattle.mr_rows.specs.Form.{Form};
 ghost use Rattle.mr_rows.specs.Shown.{columns_from, IsShownAs, IsStoredAs};
-ghost use Rattle.mr_rows.specs.Kept.{Makes, tables_in};
-ghost use Rattle.mr_rows.specs.Reads.{Reads, Looks};
+ghost use Rattle.mr_rows.specs.Database.{MakesTables, tables_in};
+ghost use Rattle.mr_rows.specs.Reads.{ReadsKept, Looks};
 
 use mr_base::WriteId;
 use sqlite::{Alter, Connection, Error, Row, Transaction};
@@ -53,13 +53,16 @@ pub trait StoredRow: Drop {
     fn select_all<S: Alter>(conn: &mut Connection<S>) -> Result<Vec<Row>, Error>
         requires autocommit { conn.old.in_transaction ≡ false }
         ensures autocommit { conn.new.in_transaction ≡ false }
-        ensures reads { Reads (state S.Store conn.old) (state S.Store conn.new) result (λ rows. IsPermutation (rows_of (tables_in (state S.Store conn.old).now.trees)) (map (λ row. form.row_in (Null ∷ row)) rows.items)) }
-        ensures looks { Looks (state S.Store conn.old) (state S.Store conn.new) result (λ rows. IsPermutation (map (columns_from 1 (length form.table.columns)) ((state S.Store conn.old).now.trees form.table.tree)) rows.items) };
+        ensures reads { ReadsKept (state S.Store conn.old) (state S.Store conn.new) result
+            (λ rows. IsPermutation (rows_of (tables_in (state S.Store conn.old).now.trees)) (map (λ row. form.row_in (Null ∷ row)) rows.items)) }
+        ensures looks { Looks (state S.Store conn.old) (state S.Store conn.new) result
+            (λ rows. IsPermutation (map (columns_from 1 (length form.table.columns)) ((state S.Store conn.old).now.trees form.table.tree)) rows.items) };
 
     /// Puts the row in place of the one with its key, if there is one.
     fn put<S: Alter>(&self, tx: &mut Transaction<'_, S>, alloc: Global) -> Result<usize, Error>
         ensures same_reference { tx.new.conn.ghost_name ≡ tx.old.conn.ghost_name }
-        ensures put { Makes (state S.Store tx.old.conn.now) (state S.Store tx.new.conn.now) (put_in (self.now ∷ []) (tables_in (state S.Store tx.old.conn.now).now.trees)) result }
+        ensures put { MakesTables (state S.Store tx.old.conn.now) (state S.Store tx.new.conn.now)
+            (put_in (self.now ∷ []) (tables_in (state S.Store tx.old.conn.now).now.trees)) result }
         ensures survives { Survives (state S.Store tx.old.conn.now) (state S.Store tx.new.conn.now) (λ _. ⊥) };
 
     // what holds of the columns that a query shows holds of the stored row
@@ -78,7 +81,8 @@ pub(crate) trait RequestRow: StoredRow {
     /// Takes the row with the id away, if there is one.
     fn take<S: Alter>(tx: &mut Transaction<'_, S>, id: WriteId) -> Result<usize, Error>
         ensures same_reference { tx.new.conn.ghost_name ≡ tx.old.conn.ghost_name }
-        ensures taken { Makes (state S.Store tx.old.conn.now) (state S.Store tx.new.conn.now) (take_from (id ∷ []) (tables_in (state S.Store tx.old.conn.now).now.trees)) result }
+        ensures taken { MakesTables (state S.Store tx.old.conn.now) (state S.Store tx.new.conn.now)
+            (take_from (id ∷ []) (tables_in (state S.Store tx.old.conn.now).now.trees)) result }
         ensures survives { Survives (state S.Store tx.old.conn.now) (state S.Store tx.new.conn.now) (λ _. ⊥) };
 
     ghost take_none: { (t : Tables) → take_from [] t ≡ t };

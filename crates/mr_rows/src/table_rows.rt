@@ -7,7 +7,7 @@ ghost use Rattle.mr_model.specs.Queries.{booking_id, error_id};
 ghost use Rattle.mr_base.specs.Ids.{id_cmp};
 ghost use Rattle.mr_tables.specs.Change.{log_id};
 ghost use Rattle.mr_rows.specs.Form.{room_form, vector_form, log_form, booking_form, error_form};
-ghost use Rattle.mr_rows.specs.Parts.{take_logs, take_bookings, take_errors, put_rooms, put_vector, put_logs, put_bookings, put_errors};
+ghost use Rattle.mr_rows.specs.ChangeParts.{take_logs, take_bookings, take_errors, put_rooms, put_vector, put_logs, put_bookings, put_errors};
 ghost use Rattle.mr_rows.specs.TakeLaws.{logs_none, bookings_none, errors_none, logs_more, bookings_more, errors_more};
 
 use crate::actions::{read_action, read_place_of};

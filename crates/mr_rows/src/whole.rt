@@ -2,8 +2,8 @@ ghost use Rattle.std.specs.Prelude.{◌≡◌, ◌∷◌, false, map, IfOk};
 ghost use Rattle.std.specs.List.Sorted.{IsPermutation, IsSorted};
 ghost use Rattle.sqlite_value.specs.declared.value.Value.TheVariants.{Null};
 ghost use Rattle.sqlite.specs.Held.{state};
-ghost use Rattle.mr_rows.specs.Kept.{tables_in};
-ghost use Rattle.mr_rows.specs.Reads.{Reads};
+ghost use Rattle.mr_rows.specs.Database.{tables_in};
+ghost use Rattle.mr_rows.specs.Reads.{ReadsKept};
 
 use crate::order::sort_rows;
 use crate::stored_rows::{StoredRow, read_all};
@@ -26,7 +26,8 @@ pub fn all_rows<R: StoredRow, S: Alter>(
 ) -> Result<Vec<R>, Error>
     requires autocommit { conn.old.in_transaction ≡ false }
     ensures autocommit { conn.new.in_transaction ≡ false }
-    ensures reads { Reads (state S.Store conn.old) (state S.Store conn.new) result (λ out. out.items ≡ R.rows_of (tables_in (state S.Store conn.old).now.trees)) }
+    ensures reads { ReadsKept (state S.Store conn.old) (state S.Store conn.new) result
+        (λ out. out.items ≡ R.rows_of (tables_in (state S.Store conn.old).now.trees)) }
 {
     R::keeps_order();
     let rows = R::select_all(conn)?;

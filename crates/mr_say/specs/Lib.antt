@@ -1,2 +1,2 @@
 -- A reader of the contracts trusts all of these.
-pub mod Told
+pub mod CommandOutput

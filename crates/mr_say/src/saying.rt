@@ -5,7 +5,7 @@ ghost use Rattle.mr_base.specs.Refusals.{refusal_of};
 ghost use Rattle.mr_service.specs.Asked.{reply_of};
 ghost use Rattle.mr_model.specs.Refusals.{refusal_text};
 ghost use Rattle.mr_model.specs.Texts.{line};
-ghost use Rattle.mr_say.specs.Told.{no_memory_line, status_of, Tells};
+ghost use Rattle.mr_say.specs.CommandOutput.{no_memory_line, status_of, PrintsReply};
 
 use mr_base::Refusal;
 use mr_service::{Reply, refusal_text, reply_text};
@@ -76,7 +76,7 @@ pub fn say_refusal<W: Write>(alloc: Global, out: &mut W, refusal: &Refusal) -> u
 
 /// Prints the reply, and answers its status.
 pub fn say_reply<W: Write>(alloc: Global, out: &mut W, reply: &Reply) -> u8
-    ensures { Tells (reply_of reply.now) (W.contents out.old) (W.contents out.new) result }
+    ensures { PrintsReply (reply_of reply.now) (W.contents out.old) (W.contents out.new) result }
 {
     match reply_text(alloc, reply) {
         Ok(text) => say_text(out, text.as_slice(), status_of(reply)),

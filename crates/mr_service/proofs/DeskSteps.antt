@@ -8,7 +8,7 @@ use Rattle.mr_model.specs.Serving.{TakesStep}
 use Rattle.mr_base.specs.Refusals.{refusal_of}
 use Rattle.mr_base.specs.declared.refusals.Refusal.{Refusal}
 use Rattle.mr_base.specs.declared.refusals.Refusal.TheVariants as refusal
-use Rattle.mr_store.specs.Kept.{fault_refusal, failures_for}
+use Rattle.mr_store.specs.KeeperCalls.{fault_refusal, failures_for}
 use Rattle.mr_service.specs.Asking.{Counts, TellsRise}
 pub use Rattle.mr_service.specs.Turns.{Does}
 use Rattle.mr_store.specs.declared.keeper.Fault.{Fault}

@@ -9,7 +9,7 @@ use Rattle.mr_model.specs.Serving.{TakesStep, Reaches}
 use Rattle.mr_base.specs.Refusals.{refusal_of}
 use Rattle.mr_base.specs.declared.refusals.Refusal.{Refusal}
 use Rattle.mr_base.specs.declared.refusals.Refusal.TheVariants as refusal
-use Rattle.mr_store.specs.Kept.{fault_refusal, IsQuiet}
+use Rattle.mr_store.specs.KeeperCalls.{fault_refusal, IsQuiet}
 use Rattle.mr_store.specs.declared.keeper.Fault.{Fault}
 use Rattle.mr_store.specs.declared.keeper.Keeper.{Ghosts}
 use Rattle.mr_service.specs.Asking.{Counts, NoneFails, TellsRise}

@@ -23,7 +23,7 @@ use Rattle.mr_model.proofs.CalendarsTell.{entry_has_row, row_has_entry, entries_
 use Rattle.mr_model.proofs.CommittedTell.{row_has_committed, committed_sorted, committed_told}
 use Rattle.mr_model.proofs.EntryOrder.{EntryBefore, entry_cases, entry_from, entry_irreflexive, entry_trans}
 use Rattle.mr_model.proofs.KeyOrder.{tables_in_order}
-use Rattle.mr_store.specs.Picked.{is_asked, picked_bookings, picked_cancelled, picked_cancels, booking_before, AreBookings}
+use Rattle.mr_store.specs.Picked.{is_day_asked, picked_bookings, picked_cancelled, picked_cancels, booking_before, AreBookings}
 use Rattle.mr_service.specs.Questions.{has_tentative, committed_rows}
 use Rattle.mr_service.proofs.OneRow.{one_place}
 use Rattle.mr_service.proofs.RowOrder.{either_before, permuted_has, has_permuted, table_apart, permuted_apart, in_strict_order, sorted_rows}
@@ -31,15 +31,15 @@ use Rattle.mr_service.proofs.RowOrder.{either_before, permuted_has, has_permuted
 -- ---- picked rows
 
 -- what is picked are the rows of the room, and of the day where one is asked for
-picked_has : (r : Replica) (room : Text) (day : Option Date) (row : BookingRow) → Has row (picked_bookings room day (tables_of r)) → Has row (tables_of r).booking × (row.room ≡ room) × (is_asked day row.day ≡ true)
+picked_has : (r : Replica) (room : Text) (day : Option Date) (row : BookingRow) → Has row (picked_bookings room day (tables_of r)) → Has row (tables_of r).booking × (row.room ≡ room) × (is_day_asked day row.day ≡ true)
 picked_has r room day row a =
-    let f = filter_has (λ (x : BookingRow). bytes_eq x.room room && is_asked day x.day) row (tables_of r).booking a in
-    let p = and_parts (bytes_eq row.room room) (is_asked day row.day) f.1 in
+    let f = filter_has (λ (x : BookingRow). bytes_eq x.room room && is_day_asked day x.day) row (tables_of r).booking a in
+    let p = and_parts (bytes_eq row.room room) (is_day_asked day row.day) f.1 in
     (f.0, one_name row.room room p.0, p.1)
 
-has_picked : (r : Replica) (room : Text) (day : Option Date) (row : BookingRow) → Has row (tables_of r).booking → row.room ≡ room → is_asked day row.day ≡ true → Has row (picked_bookings room day (tables_of r))
+has_picked : (r : Replica) (room : Text) (day : Option Date) (row : BookingRow) → Has row (tables_of r).booking → row.room ≡ room → is_day_asked day row.day ≡ true → Has row (picked_bookings room day (tables_of r))
 has_picked r room day row a own asked =
-    has_filter (λ (x : BookingRow). bytes_eq x.room room && is_asked day x.day) row (tables_of r).booking (and_from (bytes_eq row.room room) (is_asked day row.day) (same_name row.room room own) asked) a
+    has_filter (λ (x : BookingRow). bytes_eq x.room room && is_day_asked day x.day) row (tables_of r).booking (and_from (bytes_eq row.room room) (is_day_asked day row.day) (same_name row.room room own) asked) a
 
 -- ---- the order of a calendar
 
@@ -67,7 +67,7 @@ either_shown x y es sorted a b apart =
 -- no two bookings of a room begin together, so that the rows are in the strict order
 bookings_sorted : (r : Replica) (room : Text) (day : Option Date) (rows : List BookingRow) → IsReplica r → AreBookings room day (tables_of r) rows → Sorted BookingBefore rows
 bookings_sorted r room day rows h are =
-    sorted_rows booking_id BookingBefore booking_before booking_trans booking_tested (λ x. bytes_eq x.room room && is_asked day x.day) (tables_of r).booking rows (tables_in_order r h).booking are.0 are.1
+    sorted_rows booking_id BookingBefore booking_before booking_trans booking_tested (λ x. bytes_eq x.room room && is_day_asked day x.day) (tables_of r).booking rows (tables_in_order r h).booking are.0 are.1
     (λ x y a b apart.
     let p = picked_has r room day x a in
     let q = picked_has r room day y b in

@@ -30,7 +30,7 @@ use Rattle.mr_store.specs.Picked.{picked_bookings, picked_errors, picked_cancell
 use Rattle.mr_service.specs.Asked.{line_of, outcome_of}
 use Rattle.mr_service.specs.declared.replies.LogLine as replies
 use Rattle.mr_service.specs.declared.replies.Outcome.{Outcome}
-use Rattle.mr_service.specs.Questions.{room_fault, Finds, Shows, ShowsLines, TellsOf, committed_rows, row_of_cancel, lines_of, line_key, log_key_cmp}
+use Rattle.mr_service.specs.Questions.{room_fault, FindsRoom, ShowsCalendar, ShowsLines, TellsOutcomeOf, committed_rows, row_of_cancel, lines_of, line_key, log_key_cmp}
 pub use Rattle.mr_service.proofs.DeskSteps.{of_fault, fault_step}
 use Rattle.mr_service.proofs.RoomRows.{calendar_rows, committed_calendar_rows, sheet_rows}
 use Rattle.mr_service.proofs.RoomLog.{log_rows, place_found, cancel_found, no_place_told}
@@ -38,7 +38,7 @@ use Rattle.mr_service.proofs.RoomLog.{log_rows, place_found, cancel_found, no_pl
 -- ---- rooms
 
 -- a name that is read, or refused
-pub name_refused : (rooms : List Text) (room : Text) (e : Refusal) → (ok_if (is_room_name room) room refusal.BadRoomName ≡ Err e) ⊎ (e ≡ refusal.OutOfMemory) → Finds rooms room (Err e)
+pub name_refused : (rooms : List Text) (room : Text) (e : Refusal) → (ok_if (is_room_name room) room refusal.BadRoomName ≡ Err e) ⊎ (e ≡ refusal.OutOfMemory) → FindsRoom rooms room (Err e)
 name_refused rooms room e (inr memory) = inr (subst (λ x. IsOfMachine (Refused (refusal_of x))) (sym memory) no_memory)
 name_refused rooms room e (inl bad) = inl (go (is_room_name room) refl bad)
   where
@@ -63,10 +63,10 @@ fault_known rooms given room found b read moved is =
     rw (p.0, among) refl
 
 -- so a name that is read is found, or is of no known room
-pub room_found : (rooms given : List Text) (room found : Text) (b : Bool) → ok_if (is_room_name room) room refusal.BadRoomName ≡ Ok found → IsPermutation rooms given → b ≡ list_any (bytes_eq found) given → b ≡ true → Finds rooms room (Ok found)
+pub room_found : (rooms given : List Text) (room found : Text) (b : Bool) → ok_if (is_room_name room) room refusal.BadRoomName ≡ Ok found → IsPermutation rooms given → b ≡ list_any (bytes_eq found) given → b ≡ true → FindsRoom rooms room (Ok found)
 room_found rooms given room found b read moved is known = ((name_read room found read).1, subst (λ x. room_fault rooms room ≡ model.first_refusal ((not x, model.UnknownRoom) ∷ [])) known (fault_known rooms given room found b read moved is))
 
-pub room_unknown : (rooms given : List Text) (room found : Text) (b : Bool) → ok_if (is_room_name room) room refusal.BadRoomName ≡ Ok found → IsPermutation rooms given → b ≡ list_any (bytes_eq found) given → b ≡ false → Finds rooms room (Err refusal.UnknownRoom)
+pub room_unknown : (rooms given : List Text) (room found : Text) (b : Bool) → ok_if (is_room_name room) room refusal.BadRoomName ≡ Ok found → IsPermutation rooms given → b ≡ list_any (bytes_eq found) given → b ≡ false → FindsRoom rooms room (Err refusal.UnknownRoom)
 room_unknown rooms given room found b read moved is unknown = inl (subst (λ x. room_fault rooms room ≡ model.first_refusal ((not x, model.UnknownRoom) ∷ [])) unknown (fault_known rooms given room found b read moved is))
 
 -- ---- answers
@@ -82,12 +82,12 @@ answer_at t a room q told fault asks is are =
     asks (view_of a room) ∙ ap (λ o. unless o (told (view_of a room))) (ap (λ (x : Tables). room_fault x.room room) (sym are) ∙ is)
 
 -- a question about a known room is answered
-answered : (t u : Tables) (room found : Text) (q : Question) (told : View → Reply) (reply : Reply) → AsksOfRoom room q told → u ≡ t → Finds t.room room (Ok found) → ((a : Replica) → IsReplica a → t ≡ tables_of a → reply ≡ told (view_of a room)) → TakesStep t (Ask room q) reply u
+answered : (t u : Tables) (room found : Text) (q : Question) (told : View → Reply) (reply : Reply) → AsksOfRoom room q told → u ≡ t → FindsRoom t.room room (Ok found) → ((a : Replica) → IsReplica a → t ≡ tables_of a → reply ≡ told (view_of a room)) → TakesStep t (Ask room q) reply u
 answered t u room found q told reply asks same finds is =
     λ a h. (a, inl (ap (λ r. record { reply = r; replica = a }) (is a h.sound h.are ∙ sym (answer_at t a room q told None asks finds.1 h.are))), subst (λ x. Stands x a) (sym same) h)
 
 -- the refusal of a room's name answers its question
-refused : (t u : Tables) (room : Text) (q : Question) (told : View → Reply) (e : Refusal) → AsksOfRoom room q told → u ≡ t → Finds t.room room (Err e) → TakesStep t (Ask room q) (Refused (refusal_of e)) u
+refused : (t u : Tables) (room : Text) (q : Question) (told : View → Reply) (e : Refusal) → AsksOfRoom room q told → u ≡ t → FindsRoom t.room room (Err e) → TakesStep t (Ask room q) (Refused (refusal_of e)) u
 refused t u room q told e asks same (inl own) =
     λ a h. (a, inl (ap (λ r. record { reply = r; replica = a }) (sym (answer_at t a room q told (Some (refusal_of e)) asks own h.are))), subst (λ x. Stands x a) (sym same) h)
 refused t u room q told e asks same (inr machine) = λ a h. (a, inr (machine, refl), subst (λ x. Stands x a) (sym same) h)
@@ -130,11 +130,11 @@ sheet_asks room day d e v =
     ∙ ap (λ x. unless (model.first_refusal ((not (is_room_name room), model.BadRoomName) ∷ (not v.known, model.UnknownRoom) ∷ [])) (Sheet room x (entries_of_day x (whole_list v)))) (date_read day d e)
 
 -- a sheet of a room that is not known
-pub sheet_refused : (t u : Tables) (room day : Text) (d : Date) (e : Refusal) → Ok d ≡ ok_or (read_date day) refusal.BadDay → u ≡ t → Finds t.room room (Err e) → TakesStep t (Ask room (AskSheet day)) (Refused (refusal_of e)) u
+pub sheet_refused : (t u : Tables) (room day : Text) (d : Date) (e : Refusal) → Ok d ≡ ok_or (read_date day) refusal.BadDay → u ≡ t → FindsRoom t.room room (Err e) → TakesStep t (Ask room (AskSheet day)) (Refused (refusal_of e)) u
 sheet_refused t u room day d e read same finds = refused t u room (AskSheet day) _ e (sheet_asks room day d (ok_read (read_date day) refusal.BadDay d read)) same finds
 
 -- a sheet has the rows of its day
-pub sheet_step : (t u : Tables) (room found day : Text) (d : Date) (rows : List BookingRow) → Ok d ≡ ok_or (read_date day) refusal.BadDay → u ≡ t → Finds t.room room (Ok found) → AreBookings found (Some d) t rows
+pub sheet_step : (t u : Tables) (room found day : Text) (d : Date) (rows : List BookingRow) → Ok d ≡ ok_or (read_date day) refusal.BadDay → u ≡ t → FindsRoom t.room room (Ok found) → AreBookings found (Some d) t rows
     → TakesStep t (Ask room (AskSheet day)) (Sheet found d (map row_entry rows)) u
 sheet_step t u room found day d rows read same finds are =
     answered t u room found (AskSheet day) (λ v. Sheet room d (entries_of_day d (whole_list v))) (Sheet found d (map row_entry rows)) (sheet_asks room day d (ok_read (read_date day) refusal.BadDay d read)) same finds
@@ -144,17 +144,17 @@ sheet_step t u room found day d rows read same finds are =
 -- ---- calendars
 
 -- a calendar of a room that is not known
-pub calendar_refused : (t u : Tables) (room : Text) (part : Part) (e : Refusal) → u ≡ t → Finds t.room room (Err e) → TakesStep t (Ask room (AskCalendar part)) (Refused (refusal_of e)) u
+pub calendar_refused : (t u : Tables) (room : Text) (part : Part) (e : Refusal) → u ≡ t → FindsRoom t.room room (Err e) → TakesStep t (Ask room (AskCalendar part)) (Refused (refusal_of e)) u
 calendar_refused t u room part e same finds = refused t u room (AskCalendar part) (λ v. Calendar room part (entries (calendar_list part v))) e (λ v. refl) same finds
 
 -- the bookings of all days show the full calendar
-pub all_shown : (t : Tables) (room : Text) (given : List BookingRow) → AreBookings room None t given → Shows Full room t given
+pub all_shown : (t : Tables) (room : Text) (given : List BookingRow) → AreBookings room None t given → ShowsCalendar Full room t given
 all_shown t room given are = λ a h. calendar_rows a room given h.sound (subst (λ u. AreBookings room None u given) h.are are)
 
 -- those that are committed, with those that a tentative cancel took back, show the committed one
 pub committed_shown : (t : Tables) (room : Text) (bookings : List BookingRow) (cancelled : List CancelledRow) (cancels : List CancelRow) (shown : List BookingRow)
     → AreBookings room None t bookings → IsPermutation (picked_cancelled room t) cancelled → IsPermutation (picked_cancels room t) cancels
-    → IsPermutation (committed_rows bookings cancelled cancels) shown → IsSortedBy booking_before shown → Shows Committed room t shown
+    → IsPermutation (committed_rows bookings cancelled cancels) shown → IsSortedBy booking_before shown → ShowsCalendar Committed room t shown
 committed_shown t room bookings cancelled cancels shown are back by moved up = λ a h.
     committed_calendar_rows a room bookings cancelled cancels shown h.sound
     (record {
@@ -165,17 +165,17 @@ committed_shown t room bookings cancelled cancels shown are back by moved up = �
     moved up
 
 -- a calendar has the rows that show it
-pub calendar_step : (t u : Tables) (room found : Text) (part : Part) (shown : List BookingRow) → u ≡ t → Finds t.room room (Ok found) → Shows part found t shown
+pub calendar_step : (t u : Tables) (room found : Text) (part : Part) (shown : List BookingRow) → u ≡ t → FindsRoom t.room room (Ok found) → ShowsCalendar part found t shown
     → TakesStep t (Ask room (AskCalendar part)) (Calendar found part (map row_entry shown)) u
 calendar_step t u room found part shown same finds shows =
     answered t u room found (AskCalendar part) (λ v. Calendar room part (entries (calendar_list part v))) (Calendar found part (map row_entry shown)) (λ v. refl) same finds
     (λ a sound stands. ap (λ x. Calendar x part (map row_entry shown)) finds.0
-    ∙ ap (Calendar room part) (sym (subst (λ x. Shows part x t shown) finds.0 shows a (record { sound = sound; are = stands }))))
+    ∙ ap (Calendar room part) (sym (subst (λ x. ShowsCalendar part x t shown) finds.0 shows a (record { sound = sound; are = stands }))))
 
 -- ---- outcomes
 
 -- an outcome in a room that is not known
-pub outcome_refused : (t u : Tables) (room id : Text) (e : Refusal) → u ≡ t → Finds t.room room (Err e) → TakesStep t (Ask room (AskOutcome id)) (Refused (refusal_of e)) u
+pub outcome_refused : (t u : Tables) (room id : Text) (e : Refusal) → u ≡ t → FindsRoom t.room room (Err e) → TakesStep t (Ask room (AskOutcome id)) (Refused (refusal_of e)) u
 outcome_refused t u room id e same finds = refused t u room (AskOutcome id) (λ v. outcome_reply (find_request id v)) e (λ v. refl) same finds
 
 -- what is found of the id that a text is, and of a text that is none
@@ -194,48 +194,48 @@ no_id_found id v e = go (is_id_text id) e
     go false f = refl
 
 -- a row tells of its write
-pub booked_tells : (t : Tables) (room : Text) (row : BookingRow) (o : Outcome) → outcome_of o ≡ booked_outcome row → TellsOf room t (rows.Booked row) (Ok o)
+pub booked_tells : (t : Tables) (room : Text) (row : BookingRow) (o : Outcome) → outcome_of o ≡ booked_outcome row → TellsOutcomeOf room t (rows.Booked row) (Ok o)
 booked_tells t room row o is = λ a h there own. booked_tell a room row h.sound (subst (λ u. IsRowIn u (rows.Booked row)) h.are there) own ∙ ap OutcomeIs (sym is)
 
-pub logged_tells : (t : Tables) (room : Text) (row : ErrorRow) (o : Outcome) → outcome_of o ≡ logged_outcome row → TellsOf room t (rows.Erred row) (Ok o)
+pub logged_tells : (t : Tables) (room : Text) (row : ErrorRow) (o : Outcome) → outcome_of o ≡ logged_outcome row → TellsOutcomeOf room t (rows.Erred row) (Ok o)
 logged_tells t room row o is = λ a h there own. erred_tell a room row h.sound (subst (λ u. IsRowIn u (rows.Erred row)) h.are there) own ∙ ap OutcomeIs (sym is)
 
-pub cancel_tells : (t : Tables) (room : Text) (row : CancelRow) (o : Outcome) → outcome_of o ≡ cancel_outcome row → TellsOf room t (rows.Cancel row) (Ok o)
+pub cancel_tells : (t : Tables) (room : Text) (row : CancelRow) (o : Outcome) → outcome_of o ≡ cancel_outcome row → TellsOutcomeOf room t (rows.Cancel row) (Ok o)
 cancel_tells t room row o is = λ a h there own. cancel_tell a room row h.sound (subst (λ u. IsRowIn u (rows.Cancel row)) h.are there) own ∙ ap OutcomeIs (sym is)
 
 -- that of a booking that was taken back with the row of the cancel, which there is
 pub cancelled_tells : (t : Tables) (room : Text) (row : CancelledRow) (found : Option code.PlaceRow) (by : CancelRow) (o : Outcome)
-    → IsPlaceOf room row.by t found → row_of_cancel found ≡ Some by → outcome_of o ≡ cancelled_outcome row by → TellsOf room t (rows.Cancelled row) (Ok o)
+    → IsPlaceOf room row.by t found → row_of_cancel found ≡ Some by → outcome_of o ≡ cancelled_outcome row by → TellsOutcomeOf room t (rows.Cancelled row) (Ok o)
 cancelled_tells t room row found by o at is said = λ a h there own.
     let (c, e, told) = cancel_found a room row found h.sound (subst (λ u. IsRowIn u (rows.Cancelled row)) h.are there) own (subst (λ u. IsPlaceOf room row.by u found) h.are at) in
     told ∙ ap (λ x. OutcomeIs (cancelled_outcome row x)) (some_inj c by (sym e ∙ is)) ∙ ap OutcomeIs (sym said)
 
 pub never_without : (t : Tables) (room : Text) (row : CancelledRow) (found : Option code.PlaceRow) (e : Refusal)
-    → IsPlaceOf room row.by t found → row_of_cancel found ≡ None → TellsOf room t (rows.Cancelled row) (Err e)
+    → IsPlaceOf room row.by t found → row_of_cancel found ≡ None → TellsOutcomeOf room t (rows.Cancelled row) (Err e)
 never_without t room row found e at is = λ a h there own.
     let (c, f, told) = cancel_found a room row found h.sound (subst (λ u. IsRowIn u (rows.Cancelled row)) h.are there) own (subst (λ u. IsPlaceOf room row.by u found) h.are at) in
     absurd (none_some c (sym is ∙ f))
 
 -- the outcome of a write is what its row tells
-pub outcome_step : (t u : Tables) (room found id : Text) (i : Id) (place : code.PlaceRow) (o : Outcome) → Ok i ≡ ok_or (read_id id) refusal.NoSuchRequest → u ≡ t → Finds t.room room (Ok found) → IsPlaceOf found i t (Some place)
-    → TellsOf found t (place_row_of place) (Ok o) → TakesStep t (Ask room (AskOutcome id)) (OutcomeIs (outcome_of o)) u
+pub outcome_step : (t u : Tables) (room found id : Text) (i : Id) (place : code.PlaceRow) (o : Outcome) → Ok i ≡ ok_or (read_id id) refusal.NoSuchRequest → u ≡ t → FindsRoom t.room room (Ok found) → IsPlaceOf found i t (Some place)
+    → TellsOutcomeOf found t (place_row_of place) (Ok o) → TakesStep t (Ask room (AskOutcome id)) (OutcomeIs (outcome_of o)) u
 outcome_step t u room found id i place o read same finds at tells =
     answered t u room found (AskOutcome id) (λ v. outcome_reply (find_request id v)) (OutcomeIs (outcome_of o)) (λ v. refl) same finds
     (λ a sound stands.
     let of = place_found a room i place (subst (λ x. IsPlaceOf x i (tables_of a) (Some place)) finds.0 (subst (λ x. IsPlaceOf found i x (Some place)) stands at)) in
-    let said = subst (λ x. TellsOf x t (place_row_of place) (Ok o)) finds.0 tells a (record { sound = sound; are = stands }) (subst (λ x. IsRowIn x (place_row_of place)) (sym stands) of.there) of.in_room in
+    let said = subst (λ x. TellsOutcomeOf x t (place_row_of place) (Ok o)) finds.0 tells a (record { sound = sound; are = stands }) (subst (λ x. IsRowIn x (place_row_of place)) (sym stands) of.there) of.in_room in
     sym (subst (λ x. outcome_reply (told_of x (whole_list (view_of a room))) ≡ OutcomeIs (outcome_of o)) of.of_id said)
     ∙ ap outcome_reply (sym (id_found id i (view_of a room) (ok_read (read_id id) refusal.NoSuchRequest i read))))
 
 -- or memory or the store failed where the row of a cancel was looked up
-pub outcome_failed : (t u : Tables) (room found id : Text) (i : Id) (place : code.PlaceRow) (e : Refusal) → u ≡ t → Finds t.room room (Ok found) → IsPlaceOf found i t (Some place)
-    → TellsOf found t (place_row_of place) (Err e) → TakesStep t (Ask room (AskOutcome id)) (Refused (refusal_of e)) u
+pub outcome_failed : (t u : Tables) (room found id : Text) (i : Id) (place : code.PlaceRow) (e : Refusal) → u ≡ t → FindsRoom t.room room (Ok found) → IsPlaceOf found i t (Some place)
+    → TellsOutcomeOf found t (place_row_of place) (Err e) → TakesStep t (Ask room (AskOutcome id)) (Refused (refusal_of e)) u
 outcome_failed t u room found id i place e same finds at tells = λ a h.
     let of = place_found a found i place (subst (λ x. IsPlaceOf found i x (Some place)) h.are at) in
     (a, inr (tells a h (subst (λ x. IsRowIn x (place_row_of place)) (sym h.are) of.there) of.in_room, refl), subst (λ x. Stands x a) (sym same) h)
 
 -- no row of the room has the id
-pub no_request_step : (t u : Tables) (room found id : Text) (i : Id) → Ok i ≡ ok_or (read_id id) refusal.NoSuchRequest → u ≡ t → Finds t.room room (Ok found) → IsPlaceOf found i t None
+pub no_request_step : (t u : Tables) (room found id : Text) (i : Id) → Ok i ≡ ok_or (read_id id) refusal.NoSuchRequest → u ≡ t → FindsRoom t.room room (Ok found) → IsPlaceOf found i t None
     → TakesStep t (Ask room (AskOutcome id)) (Refused model.NoSuchRequest) u
 no_request_step t u room found id i read same finds at =
     answered t u room found (AskOutcome id) (λ v. outcome_reply (find_request id v)) (Refused model.NoSuchRequest) (λ v. refl) same finds
@@ -243,7 +243,7 @@ no_request_step t u room found id i read same finds at =
     ∙ ap outcome_reply (sym (id_found id i (view_of a room) (ok_read (read_id id) refusal.NoSuchRequest i read))))
 
 -- a text that is no id names no request
-pub bad_id_step : (t u : Tables) (room found id : Text) (e : Refusal) → Err e ≡ ok_or (read_id id) refusal.NoSuchRequest → u ≡ t → Finds t.room room (Ok found) → TakesStep t (Ask room (AskOutcome id)) (Refused (refusal_of e)) u
+pub bad_id_step : (t u : Tables) (room found id : Text) (e : Refusal) → Err e ≡ ok_or (read_id id) refusal.NoSuchRequest → u ≡ t → FindsRoom t.room room (Ok found) → TakesStep t (Ask room (AskOutcome id)) (Refused (refusal_of e)) u
 bad_id_step t u room found id e bad same finds =
     let p = err_read (read_id id) refusal.NoSuchRequest e bad in
     answered t u room found (AskOutcome id) (λ v. outcome_reply (find_request id v)) (Refused (refusal_of e)) (λ v. refl) same finds
@@ -256,7 +256,7 @@ id_not_store id e is = λ told. absurd (let p : e ≡ refusal.NoSuchRequest = (e
 -- ---- error logs
 
 -- an error log of a room that is not known
-pub errors_refused : (t u : Tables) (room : Text) (e : Refusal) → u ≡ t → Finds t.room room (Err e) → TakesStep t (Ask room AskErrors) (Refused (refusal_of e)) u
+pub errors_refused : (t u : Tables) (room : Text) (e : Refusal) → u ≡ t → FindsRoom t.room room (Err e) → TakesStep t (Ask room AskErrors) (Refused (refusal_of e)) u
 errors_refused t u room e same finds = refused t u room AskErrors (λ v. Errors room (filter_map logging_of (whole_list v))) e (λ v. refl) same finds
 
 -- error rows and void cancels, sorted, show it
@@ -272,7 +272,7 @@ lines_shown t room requests cancels lines erred by moved up = λ a h.
     moved up
 
 -- an error log has the lines that show it
-pub errors_step : (t u : Tables) (room found : Text) (lines : List LogLine) → u ≡ t → Finds t.room room (Ok found) → ShowsLines found t lines
+pub errors_step : (t u : Tables) (room found : Text) (lines : List LogLine) → u ≡ t → FindsRoom t.room room (Ok found) → ShowsLines found t lines
     → TakesStep t (Ask room AskErrors) (Errors found (map line_logging lines)) u
 errors_step t u room found lines same finds shows =
     answered t u room found AskErrors (λ v. Errors room (filter_map logging_of (whole_list v))) (Errors found (map line_logging lines)) (λ v. refl) same finds
@@ -317,14 +317,14 @@ cancel_at t a room id fault none is are =
     cancel_faulty a room id (no_id_text id none) ∙ ap (λ o. refuse a (fault_or_none o)) (ap (λ (x : Tables). room_fault x.room room) (sym are) ∙ is)
 
 -- a cancel in a room that is not known
-pub no_cancel_refused : (t u : Tables) (room id : Text) (bad e : Refusal) → Err bad ≡ ok_or (read_id id) refusal.NoSuchRequest → u ≡ t → Finds t.room room (Err e) → TakesStep t (Cancel room id) (Refused (refusal_of e)) u
+pub no_cancel_refused : (t u : Tables) (room id : Text) (bad e : Refusal) → Err bad ≡ ok_or (read_id id) refusal.NoSuchRequest → u ≡ t → FindsRoom t.room room (Err e) → TakesStep t (Cancel room id) (Refused (refusal_of e)) u
 unfolding fault_or_none
 no_cancel_refused t u room id bad e read same (inl own) =
     λ a h. (a, inl (sym (cancel_at t a room id (Some (refusal_of e)) (err_read (read_id id) refusal.NoSuchRequest bad read).0 own h.are)), subst (λ x. Stands x a) (sym same) h)
 no_cancel_refused t u room id bad e read same (inr machine) = λ a h. (a, inr (machine, refl), subst (λ x. Stands x a) (sym same) h)
 
 -- a cancel in a known room
-pub no_cancel_step : (t u : Tables) (room found id : Text) (e : Refusal) → Err e ≡ ok_or (read_id id) refusal.NoSuchRequest → u ≡ t → Finds t.room room (Ok found) → TakesStep t (Cancel room id) (Refused (refusal_of e)) u
+pub no_cancel_step : (t u : Tables) (room found id : Text) (e : Refusal) → Err e ≡ ok_or (read_id id) refusal.NoSuchRequest → u ≡ t → FindsRoom t.room room (Ok found) → TakesStep t (Cancel room id) (Refused (refusal_of e)) u
 unfolding fault_or_none
 no_cancel_step t u room found id e read same finds =
     let p = err_read (read_id id) refusal.NoSuchRequest e read in

@@ -20,7 +20,7 @@ use Rattle.mr_base.specs.Limits as base
 use Rattle.mr_base.specs.declared.refusals.Refusal.{Refusal}
 use Rattle.mr_base.specs.declared.refusals.Refusal.TheVariants.{BadDay, BadTime, BadLength, BadRoomName, BadTitle, TooManyAlternatives}
 use Rattle.mr_replica.specs.Steps.{request_in}
-use Rattle.mr_service.specs.Requests.{lacks_day, lacks_time, ok_unless, slots_in, request_or_fault}
+use Rattle.mr_service.specs.SubmittedWords.{lacks_day, lacks_time, ok_unless, slots_in, request_or_fault}
 
 -- ---- one word
 

@@ -28,22 +28,22 @@ room_fault rooms room =
     model.first_refusal ((not (is_room_name room), model.BadRoomName) ∷ (not (list_any (bytes_eq room) rooms), model.UnknownRoom) ∷ [])
 
 -- the room of this name, where nothing is at fault with it; else the refusal, or want of memory or of the store in its place
-abbrev pub Finds : List Text → Text → Result Text Refusal → Type 0
-Finds rooms room (Ok found) = (found ≡ room) × (room_fault rooms room ≡ None)
-Finds rooms room (Err e) = (room_fault rooms room ≡ Some (refusal_of e)) ⊎ IsOfMachine (Refused (refusal_of e))
+abbrev pub FindsRoom : List Text → Text → Result Text Refusal → Type 0
+FindsRoom rooms room (Ok found) = (found ≡ room) × (room_fault rooms room ≡ None)
+FindsRoom rooms room (Err e) = (room_fault rooms room ≡ Some (refusal_of e)) ⊎ IsOfMachine (Refused (refusal_of e))
 
 -- ---- calendars
 
 -- for each replica that the tables stand for, the rows are those of this calendar of the room
-abbrev pub Shows : Part → Text → Tables → List BookingRow → Type 0
-Shows part room t rows = (a : Replica) → Stands t a → entries (calendar_list part (view_of a room)) ≡ map row_entry rows
+abbrev pub ShowsCalendar : Part → Text → Tables → List BookingRow → Type 0
+ShowsCalendar part room t rows = (a : Replica) → Stands t a → entries (calendar_list part (view_of a room)) ≡ map row_entry rows
 
 -- a cancel with this id is among these, and is not committed
-abbrev pub is_tentative : Id → CancelRow → Bool
-is_tentative id c = same_id (cancel_id c) id && (c.seq == 0)
+abbrev pub is_tentative_cancel : Id → CancelRow → Bool
+is_tentative_cancel id c = same_id (cancel_id c) id && (c.seq == 0)
 
 abbrev pub has_tentative : Id → List CancelRow → Bool
-has_tentative id cancels = list_any (is_tentative id) cancels
+has_tentative id cancels = list_any (is_tentative_cancel id) cancels
 
 -- a committed booking that a cancel of this set took back
 abbrev pub is_back : BTreeSet (ℕ × ℕ) → CancelledRow → Bool
@@ -63,8 +63,8 @@ IsOutcome reply (Ok o) = reply ≡ OutcomeIs (outcome_of o)
 IsOutcome reply (Err e) = IsOfMachine (Refused (refusal_of e))
 
 -- for each replica that the tables stand for, of which this is the row of a write of the room: what became of that write
-abbrev pub TellsOf : Text → Tables → PlaceRow → Result Outcome Refusal → Type 0
-TellsOf room t p result =
+abbrev pub TellsOutcomeOf : Text → Tables → PlaceRow → Result Outcome Refusal → Type 0
+TellsOutcomeOf room t p result =
     (a : Replica) → Stands t a → IsRowIn t p → row_room p ≡ room
     → IsOutcome (outcome_reply (told_of (row_id p) (whole_list (view_of a room)))) result
 

@@ -6,7 +6,7 @@ use Rattle.mr_model.specs.Step.{Command, IsOfMachine}
 use Rattle.mr_model.specs.Tables.{Tables}
 use Rattle.mr_base.specs.Refusals.{refusal_of}
 use Rattle.mr_base.specs.declared.refusals.Refusal.{Refusal}
-use Rattle.mr_store.specs.Kept.{IsSettled}
+use Rattle.mr_store.specs.KeeperCalls.{IsSettled}
 use Rattle.mr_store.specs.declared.keeper.Keeper.{Ghosts}
 use Rattle.mr_service.specs.Asking.{Counts, LeavesOnRefusal, NoneFails, TellsRise}
 
@@ -20,7 +20,8 @@ pub record IsServed {K : Type 0} (keeper : Ghosts K) (old new : K) (command : Co
   pub rise : TellsRise reply (keeper.failures old) (keeper.failures new)
   pub sure : keeper.never_fails → keeper.is_clean new → keeper.is_open new → NoneFails (keeper.tables old) (keeper.failures old) (keeper.failures new)
   pub lasts : keeper.is_clean new → keeper.is_open old → IsOfMachine reply ⊎ keeper.is_open new
-  pub settled : keeper.is_clean new → keeper.is_open new → IsSettled (keeper.may_leave old) (keeper.tables old) → IsSettled (keeper.may_leave new) (keeper.tables new)
+  pub settled : keeper.is_clean new → keeper.is_open new → IsSettled (keeper.may_leave old) (keeper.tables old)
+      → IsSettled (keeper.may_leave new) (keeper.tables new)
   pub crash : keeper.is_clean new → keeper.is_open old → (t : Tables) → keeper.may_leave new t → keeper.may_leave old t ⊎ Reaches (keeper.tables old) command t
 
 -- the keeper was read, which leaves its tables; where that is refused, the refusal tells of a failure that was counted
@@ -34,5 +35,6 @@ pub record IsRead {K X : Type 0} (keeper : Ghosts K) (old new : K) (result : Res
   pub sure : keeper.never_fails → keeper.is_clean new → keeper.is_open new → NoneFails (keeper.tables old) (keeper.failures old) (keeper.failures new)
   pub lasts : keeper.is_clean new → keeper.is_open old → OnOk result (keeper.is_open new)
   pub fails : keeper.is_clean new → keeper.is_open old → IfErr result (λ e. IsOfMachine (Refused (refusal_of e)) ⊎ keeper.is_open new)
-  pub settled : keeper.is_clean new → keeper.is_open new → IsSettled (keeper.may_leave old) (keeper.tables old) → IsSettled (keeper.may_leave new) (keeper.tables new)
+  pub settled : keeper.is_clean new → keeper.is_open new → IsSettled (keeper.may_leave old) (keeper.tables old)
+      → IsSettled (keeper.may_leave new) (keeper.tables new)
   pub crash : keeper.is_clean new → keeper.is_open old → (t : Tables) → keeper.may_leave new t → keeper.may_leave old t

@@ -6,7 +6,7 @@ ghost use Rattle.std.specs.List.Sorted.{IsPermutation, IsSortedBy};
 ghost use Rattle.mr_model.specs.Tables.{as_booked};
 ghost use Rattle.mr_model.specs.Writes.{Id};
 ghost use Rattle.mr_replica.specs.Sets.{has_id};
-ghost use Rattle.mr_service.specs.Questions.{committed_rows, is_tentative, has_tentative, is_back};
+ghost use Rattle.mr_service.specs.Questions.{committed_rows, is_tentative_cancel, has_tentative, is_back};
 ghost use Rattle.mr_store.specs.Picked.{booking_before};
 
 use mr_base::Refusal;
@@ -48,7 +48,7 @@ fn tentative_cancels(alloc: Global, cancels: &[CancelRow]) -> Result<IdSet, Refu
 }
 
 fn add_if_tentative(ids: &mut IdSet, row: &CancelRow) -> Result<(), Refusal>
-    ensures ids { OnOk result ((id : Id) → has_id ids.new id ≡ (is_tentative id row.now || has_id ids.old id)) }
+    ensures ids { OnOk result ((id : Id) → has_id ids.new id ≡ (is_tentative_cancel id row.now || has_id ids.old id)) }
     ensures only { IfErr result (λ e. e ≡ Refusal.OutOfMemory) }
 {
     if row.seq == 0 {

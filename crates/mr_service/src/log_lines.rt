@@ -51,7 +51,8 @@ fn of_requests(alloc: Global, requests: Vec<ErrorRow>) -> Result<Vec<LogLine>, R
 
 /// Puts the cancels that took nothing back behind them.
 fn put_void(lines: &mut Vec<LogLine>, cancels: Vec<CancelRow>) -> Result<(), Refusal>
-    ensures lines { OnOk result (map line_of lines.new.items ≡ map line_of lines.old.items ++ map (λ row. OfVoid row) (filter (λ row. not row.done) cancels.items)) }
+    ensures lines { OnOk result
+        (map line_of lines.new.items ≡ map line_of lines.old.items ++ map (λ row. OfVoid row) (filter (λ row. not row.done) cancels.items)) }
     ensures only { IfErr result (λ e. e ≡ Refusal.OutOfMemory) }
 {
     for row in cancels {
@@ -61,7 +62,8 @@ fn put_void(lines: &mut Vec<LogLine>, cancels: Vec<CancelRow>) -> Result<(), Ref
 }
 
 fn put_if_void(lines: &mut Vec<LogLine>, row: CancelRow) -> Result<(), Refusal>
-    ensures lines { OnOk result (map line_of lines.new.items ≡ map line_of lines.old.items ++ map (λ row. OfVoid row) (filter (λ row. not row.done) (row ∷ []))) }
+    ensures lines { OnOk result
+        (map line_of lines.new.items ≡ map line_of lines.old.items ++ map (λ row. OfVoid row) (filter (λ row. not row.done) (row ∷ []))) }
     ensures only { IfErr result (λ e. e ≡ Refusal.OutOfMemory) }
 {
     if !row.done {

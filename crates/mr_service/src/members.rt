@@ -85,7 +85,8 @@ impl Member {
         max_lines: LineCount,
     ) -> Result<Vec<u8>, Refusal>
         ensures stays { (r : Replica) → StandsForMember self.old r → StandsForMember self.new r }
-        ensures text { (r : Replica) → StandsForMember self.old r → IfOk result (λ text. IsBatchText (reply_to_position r (read_position position.items) max_lines) text.items) }
+        ensures text { (r : Replica) → StandsForMember self.old r
+            → IfOk result (λ text. IsBatchText (reply_to_position r (read_position position.items) max_lines) text.items) }
         ensures refused { (r : Replica) → StandsForMember self.old r
             → IfErr result (λ e. (reply_to_position r (read_position position.items) max_lines ≡ Refused (refusal_of e)) ⊎ (refusal_of e ≡ OutOfMemory)) }
     {

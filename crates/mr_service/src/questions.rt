@@ -11,7 +11,7 @@ ghost use Rattle.mr_model.specs.Tables as rows;
 ghost use Rattle.mr_model.specs.View.{AskSheet, AskCalendar, AskOutcome, AskErrors};
 ghost use Rattle.mr_tables.specs.Cells.{place_row_of};
 ghost use Rattle.mr_service.specs.Asked.{part_of, line_of, outcome_of, reply_in};
-ghost use Rattle.mr_service.specs.Questions.{Finds, Shows, ShowsLines, TellsOf, row_of_cancel};
+ghost use Rattle.mr_service.specs.Questions.{FindsRoom, ShowsCalendar, ShowsLines, TellsOutcomeOf, row_of_cancel};
 ghost use Rattle.mr_service.specs.Served.{IsRead, IsServed};
 
 use crate::calendars::committed_calendar;
@@ -89,7 +89,7 @@ pub(crate) fn known_room<K: Keeper>(
     room: &str,
 ) -> Result<RoomName, Refusal>
     ensures read { IsRead K.Keeper keeper.old keeper.new result }
-    ensures finds { K.is_clean keeper.new → K.is_open keeper.old → Finds (K.tables keeper.old).room room.now result }
+    ensures finds { K.is_clean keeper.new → K.is_open keeper.old → FindsRoom (K.tables keeper.old).room room.now result }
 {
     let room = RoomName::new(alloc, room)?;
     let rooms = keeper.rooms()?;
@@ -117,7 +117,8 @@ fn rows_of_part<K: Keeper>(
     part: Part,
 ) -> Result<Vec<BookingRow>, Refusal>
     ensures read { IsRead K.Keeper keeper.old keeper.new result }
-    ensures shows { K.is_clean keeper.new → K.is_open keeper.old → IfOk result (λ rows. Shows (part_of part) room.now (K.tables keeper.old) rows.items) }
+    ensures shows { K.is_clean keeper.new → K.is_open keeper.old
+        → IfOk result (λ rows. ShowsCalendar (part_of part) room.now (K.tables keeper.old) rows.items) }
     ensures only { IfErr result (λ e. IsOfMachine (replies.Refused (refusal_of e))) }
 {
     match part {
@@ -128,7 +129,7 @@ fn rows_of_part<K: Keeper>(
 
 fn rows_of_all<K: Keeper>(keeper: &mut K, room: &RoomName) -> Result<Vec<BookingRow>, Refusal>
     ensures read { IsRead K.Keeper keeper.old keeper.new result }
-    ensures shows { K.is_clean keeper.new → K.is_open keeper.old → IfOk result (λ rows. Shows replies.Full room.now (K.tables keeper.old) rows.items) }
+    ensures shows { K.is_clean keeper.new → K.is_open keeper.old → IfOk result (λ rows. ShowsCalendar replies.Full room.now (K.tables keeper.old) rows.items) }
     ensures only { IfErr result (λ e. IsOfMachine (replies.Refused (refusal_of e))) }
 {
     let rows = keeper.bookings(room, None)?;
@@ -141,7 +142,8 @@ fn rows_of_committed<K: Keeper>(
     room: &RoomName,
 ) -> Result<Vec<BookingRow>, Refusal>
     ensures read { IsRead K.Keeper keeper.old keeper.new result }
-    ensures shows { K.is_clean keeper.new → K.is_open keeper.old → IfOk result (λ rows. Shows replies.Committed room.now (K.tables keeper.old) rows.items) }
+    ensures shows { K.is_clean keeper.new → K.is_open keeper.old
+        → IfOk result (λ rows. ShowsCalendar replies.Committed room.now (K.tables keeper.old) rows.items) }
     ensures only { IfErr result (λ e. IsOfMachine (replies.Refused (refusal_of e))) }
 {
     let bookings = keeper.bookings(room, None)?;
@@ -159,7 +161,7 @@ fn outcome_at<K: Keeper>(
     place: &PlaceRow,
 ) -> Result<Outcome, Refusal>
     ensures read { IsRead K.Keeper keeper.old keeper.new result }
-    ensures tells { K.is_clean keeper.new → K.is_open keeper.old → TellsOf room.now (K.tables keeper.old) (place_row_of place.now) result }
+    ensures tells { K.is_clean keeper.new → K.is_open keeper.old → TellsOutcomeOf room.now (K.tables keeper.old) (place_row_of place.now) result }
 {
     match place {
         PlaceRow::Booked(row) => Ok(booked(row)),
@@ -176,7 +178,7 @@ fn outcome_of_cancelled<K: Keeper>(
     row: &CancelledRow,
 ) -> Result<Outcome, Refusal>
     ensures read { IsRead K.Keeper keeper.old keeper.new result }
-    ensures tells { K.is_clean keeper.new → K.is_open keeper.old → TellsOf room.now (K.tables keeper.old) (rows.Cancelled row.now) result }
+    ensures tells { K.is_clean keeper.new → K.is_open keeper.old → TellsOutcomeOf room.now (K.tables keeper.old) (rows.Cancelled row.now) result }
 {
     let place = keeper.place_of(room, row.by)?;
     match cancel_in(place) {

@@ -28,7 +28,8 @@ pub fn run<K: Keeper>(
     ensures replied { K.is_clean service.new → K.is_open service.old
         → IfOk result (λ replies. RepliesToAll (K.tables service.old) (map command_of commands.now) (map reply_of replies.items)) }
     ensures counts { IfOk result (λ replies. TellsFailure (map reply_of replies.items) → K.failures service.old < K.failures service.new) }
-    ensures sure { K.never_fails → K.is_clean service.new → K.is_open service.new → NoneFails (K.tables service.old) (K.failures service.old) (K.failures service.new) }
+    ensures sure { K.never_fails → K.is_clean service.new → K.is_open service.new
+        → NoneFails (K.tables service.old) (K.failures service.old) (K.failures service.new) }
     ensures cause { IfErr result (λ e. e ≡ Refusal.OutOfMemory) }
     ensures refused { OnErr result (service.new ≡ service.old) }
 {
@@ -60,7 +61,8 @@ pub fn run_over_lists(
     commands: &[Command],
 ) -> Result<Vec<Reply>, Refusal>
     ensures serves { IfOk result (λ replies. Serves service.old.tables (map command_of commands.now) (map reply_of replies.items) service.new.tables) }
-    ensures headline { (a : Replica) → Stands service.old.tables a → IfOk result (λ replies. KeepsHeadline a (map command_of commands.now) (map reply_of replies.items) service.new.tables) }
+    ensures headline { (a : Replica) → Stands service.old.tables a
+        → IfOk result (λ replies. KeepsHeadline a (map command_of commands.now) (map reply_of replies.items) service.new.tables) }
     ensures never { (a : Replica) → Stands service.old.tables a → IfOk result (λ replies. ¬ TellsFailure (map reply_of replies.items)) }
     ensures cause { IfErr result (λ e. e ≡ Refusal.OutOfMemory) }
     ensures refused { OnErr result (service.new ≡ service.old) }

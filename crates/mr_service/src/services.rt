@@ -2,7 +2,7 @@ ghost use Rattle.std.specs.Prelude.{◌≡◌, ◌⊎◌};
 ghost use Rattle.mr_model.specs.Step.{IsOfMachine};
 ghost use Rattle.mr_model.specs.Serving.{TakesStep, Reaches};
 ghost use Rattle.mr_model.specs.Tables.{Tables};
-ghost use Rattle.mr_store.specs.Kept.{IsSettled};
+ghost use Rattle.mr_store.specs.KeeperCalls.{IsSettled};
 ghost use Rattle.mr_service.specs.Asked.{command_of, local_of, reply_of, reply_in};
 ghost use Rattle.mr_service.specs.Asking.{Counts, LeavesOnRefusal, NoneFails, TellsRise};
 ghost use Rattle.mr_service.specs.Replied.{RepliesTo};
@@ -59,8 +59,10 @@ impl<K: Keeper> Service<K> {
         ensures rise { TellsRise (reply_of result) (K.failures self.old) (K.failures self.new) }
         ensures sure { K.never_fails → K.is_clean self.new → K.is_open self.new → NoneFails (K.tables self.old) (K.failures self.old) (K.failures self.new) }
         ensures lasts { K.is_clean self.new → K.is_open self.old → IsOfMachine (reply_of result) ⊎ K.is_open self.new }
-        ensures settled { K.is_clean self.new → K.is_open self.new → IsSettled (K.may_leave self.old) (K.tables self.old) → IsSettled (K.may_leave self.new) (K.tables self.new) }
-        ensures crash { K.is_clean self.new → K.is_open self.old → (t : Tables) → K.may_leave self.new t → K.may_leave self.old t ⊎ Reaches (K.tables self.old) (command_of command.now) t }
+        ensures settled { K.is_clean self.new → K.is_open self.new → IsSettled (K.may_leave self.old) (K.tables self.old)
+            → IsSettled (K.may_leave self.new) (K.tables self.new) }
+        ensures crash { K.is_clean self.new → K.is_open self.old → (t : Tables) → K.may_leave self.new t → K.may_leave self.old t
+            ⊎ Reaches (K.tables self.old) (command_of command.now) t }
         ensures replied { K.is_clean self.new → K.is_open self.old → RepliesTo (K.tables self.old) (command_of command.now) (reply_of result) }
     {
         self.serve(command)

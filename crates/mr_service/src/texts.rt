@@ -198,7 +198,8 @@ fn push_cancel(
     word: &str,
     target: WriteId,
 ) -> Result<(), AllocError>
-    ensures { OnOk result (string_bytes text.new ≡ string_bytes text.old ++ line (words (id_text id ∷ replies.mark is_committed ∷ word.now ∷ id_text target ∷ []))) }
+    ensures { OnOk result (string_bytes text.new ≡ string_bytes text.old
+        ++ line (words (id_text id ∷ replies.mark is_committed ∷ word.now ∷ id_text target ∷ []))) }
 {
     let mark = Mark { is_committed };
     write!(text, "{id} {mark} {word} {target}\n")
@@ -217,7 +218,8 @@ fn push_head(text: &mut String, room: &str, what: &str) -> Result<(), AllocError
 }
 
 fn push_sheet_rows(text: &mut String, rows: &[BookingRow]) -> Result<(), AllocError>
-    ensures { OnOk result (string_bytes text.new ≡ string_bytes text.old ++ lines_text (lines_or (codes "(no bookings)") (map sheet_line (map row_entry rows.now)))) }
+    ensures { OnOk result (string_bytes text.new ≡ string_bytes text.old
+        ++ lines_text (lines_or (codes "(no bookings)") (map sheet_line (map row_entry rows.now)))) }
 {
     if rows.is_empty() {
         return text.push_str("(no bookings)\n");
@@ -229,7 +231,8 @@ fn push_sheet_rows(text: &mut String, rows: &[BookingRow]) -> Result<(), AllocEr
 }
 
 fn push_calendar_rows(text: &mut String, rows: &[BookingRow]) -> Result<(), AllocError>
-    ensures { OnOk result (string_bytes text.new ≡ string_bytes text.old ++ lines_text (lines_or (codes "(no bookings)") (map calendar_line (map row_entry rows.now)))) }
+    ensures { OnOk result (string_bytes text.new ≡ string_bytes text.old
+        ++ lines_text (lines_or (codes "(no bookings)") (map calendar_line (map row_entry rows.now)))) }
 {
     if rows.is_empty() {
         return text.push_str("(no bookings)\n");
@@ -241,7 +244,8 @@ fn push_calendar_rows(text: &mut String, rows: &[BookingRow]) -> Result<(), Allo
 }
 
 fn push_log_lines(text: &mut String, lines: &[LogLine]) -> Result<(), AllocError>
-    ensures { OnOk result (string_bytes text.new ≡ string_bytes text.old ++ lines_text (lines_or (codes "(no errors)") (map logging_line (map line_logging (map line_of lines.now))))) }
+    ensures { OnOk result (string_bytes text.new ≡ string_bytes text.old
+        ++ lines_text (lines_or (codes "(no errors)") (map logging_line (map line_logging (map line_of lines.now))))) }
 {
     if lines.is_empty() {
         return text.push_str("(no errors)\n");

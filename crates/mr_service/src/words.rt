@@ -3,7 +3,7 @@ ghost use Rattle.std.specs.List.{list_any};
 ghost use Rattle.mr_model.specs.Step.{slot_of, choice_words};
 ghost use Rattle.mr_base.specs.Answers.{Gives, unless};
 ghost use Rattle.mr_service.specs.Asked.{words_of, submission_of};
-ghost use Rattle.mr_service.specs.Requests.{request_or_fault, slots_in, lacks_day, lacks_time};
+ghost use Rattle.mr_service.specs.SubmittedWords.{request_or_fault, slots_in, lacks_day, lacks_time};
 
 use crate::commands::{SlotWords, Submission};
 use mr_base::{Alternatives, Day, Refusal, Request, Slot, read_minute, read_number};

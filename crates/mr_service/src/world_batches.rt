@@ -24,7 +24,8 @@ pub(crate) fn make(
     to: ServerId,
     max_lines: LineCount,
 ) -> StepReply
-    ensures { TakesWorldStep (record { members = members.old.items; pool = map (λ bytes. bytes.items) pool.old.items }) (model.Make from to max_lines) (step_reply_of result)
+    ensures { TakesWorldStep (record { members = members.old.items; pool = map (λ bytes. bytes.items) pool.old.items }) (model.Make from to max_lines)
+        (step_reply_of result)
         (record { members = members.new.items; pool = map (λ bytes. bytes.items) pool.new.items }) }
 {
     match find(members.as_slice(), from) {
@@ -49,7 +50,8 @@ fn make_at(
     requires taker { taker < length members.old.items }
     ensures stays { (rs : List Replica) → StandForAll members.old.items rs → StandForAll members.new.items rs }
     ensures made { (rs : List Replica) (a b : Replica) → StandForAll members.old.items rs → slice_get rs maker ≡ Some a → slice_get rs taker ≡ Some b
-        → IsMade (batch_reply a (position_of b) max_lines) (step_reply_of result) (map (λ bytes. bytes.items) pool.old.items) (map (λ bytes. bytes.items) pool.new.items) }
+        → IsMade (batch_reply a (position_of b) max_lines) (step_reply_of result) (map (λ bytes. bytes.items) pool.old.items)
+        (map (λ bytes. bytes.items) pool.new.items) }
 {
     match members[taker].position(alloc) {
         Ok(position) => batch_at(members, pool, alloc, maker, position, max_lines),
@@ -69,7 +71,8 @@ fn batch_at(
     requires { maker < length members.old.items }
     ensures stays { (rs : List Replica) → StandForAll members.old.items rs → StandForAll members.new.items rs }
     ensures made { (rs : List Replica) (a : Replica) → StandForAll members.old.items rs → slice_get rs maker ≡ Some a
-        → IsMade (reply_to_position a (read_position position.items) max_lines) (step_reply_of result) (map (λ bytes. bytes.items) pool.old.items) (map (λ bytes. bytes.items) pool.new.items) }
+        → IsMade (reply_to_position a (read_position position.items) max_lines) (step_reply_of result) (map (λ bytes. bytes.items) pool.old.items)
+        (map (λ bytes. bytes.items) pool.new.items) }
 {
     match members[maker].batch(alloc, position, max_lines) {
         Ok(text) => add_text(pool, text),

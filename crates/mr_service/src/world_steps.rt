@@ -56,7 +56,8 @@ pub(crate) fn ask(
     server: ServerId,
     command: &Local,
 ) -> StepReply
-    ensures { (pool : List Text) → TakesWorldStep (record { members = members.old.items; pool = pool }) (model.Step.Do server (local_of command.now)) (step_reply_of result)
+    ensures { (pool : List Text)
+        → TakesWorldStep (record { members = members.old.items; pool = pool }) (model.Step.Do server (local_of command.now)) (step_reply_of result)
         (record { members = members.new.items; pool = pool }) }
 {
     match find(members.as_slice(), server) {
@@ -74,7 +75,8 @@ pub(crate) fn deliver(
     to: ServerId,
     bytes: u64,
 ) -> StepReply
-    ensures { TakesWorldStep (record { members = members.old.items; pool = map (λ bytes. bytes.items) pool.now }) (model.Deliver batch to bytes) (step_reply_of result)
+    ensures { TakesWorldStep (record { members = members.old.items; pool = map (λ bytes. bytes.items) pool.now }) (model.Deliver batch to bytes)
+        (step_reply_of result)
         (record { members = members.new.items; pool = map (λ bytes. bytes.items) pool.now }) }
 {
     match find(members.as_slice(), to) {

@@ -48,9 +48,11 @@ impl World {
     /// it is the only refusal, and then nothing was done.
     pub fn run(&mut self, steps: &[Step]) -> Result<Vec<StepReply>, Refusal>
         ensures runs { (w : model.World) → StandsForWorld self.old w
-            → IfOk result (λ replies. (end : model.World) × IsWorldRun w (map step_of steps.now) (map step_reply_of replies.items) end × StandsForWorld self.new end) }
+            → IfOk result (λ replies. (end : model.World) × IsWorldRun w (map step_of steps.now) (map step_reply_of replies.items) end
+            × StandsForWorld self.new end) }
         ensures lawful { (w : model.World) → IsHonest w → StandsForWorld self.old w
-            → IfOk result (λ replies. (end : model.World) × IsLawfulRun w (map step_of steps.now) (map step_reply_of replies.items) end × StandsForWorld self.new end) }
+            → IfOk result (λ replies. (end : model.World) × IsLawfulRun w (map step_of steps.now) (map step_reply_of replies.items) end
+            × StandsForWorld self.new end) }
         ensures cause { IfErr result (λ e. e ≡ Refusal.OutOfMemory) }
         ensures refused { OnErr result (self.new ≡ self.old) }
     {

@@ -14,26 +14,26 @@ use Rattle.mr_model.specs.Queries.{booking_id, error_id, cancelled_id, cancel_id
 use Rattle.mr_model.specs.Dropped.{Has}
 use Rattle.mr_model.proofs.Members.{find_none}
 use Rattle.mr_tables.proofs.Putting.{OneAKey}
-use Rattle.mr_rows.specs.Kept.{tables_in}
+use Rattle.mr_rows.specs.Database.{tables_in}
 use Rattle.mr_rows.specs.Reads.{date_cmp, time_cmp}
 use Rattle.mr_rows.specs.RowQuestions.{is_booking_asked}
 use Rattle.mr_rows.proofs.FirstLemmas.{bookings_apart, errors_apart, cancelled_apart, cancels_apart}
 use Rattle.mr_rows.proofs.ValueLemmas.{among_one, or_false}
-use Rattle.mr_store.specs.Picked.{is_asked, booking_before, AreBookings, find_booking, find_error, find_cancelled, find_cancel, IsPlaceOf}
+use Rattle.mr_store.specs.Picked.{is_day_asked, booking_before, AreBookings, find_booking, find_error, find_cancelled, find_cancel, IsPlaceOf}
 use Rattle.mr_tables.specs.declared.place_rows.PlaceRow.TheVariants.{Booked, Erred, Cancelled, Cancel}
-use Rattle.mr_sql.specs.Places.{AreRowsOf, AreCancelRowsOf, cancel_in, taken_in, erred_in, chosen}
+use Rattle.mr_sql.specs.PlaceOfId.{AreRowsOf, AreCancelRowsOf, cancel_row_in, taken_in, error_row_in, chosen}
 
 -- ---- a calendar
 
 asked_both : (day : Option Date) (room : Text) (rows : List BookingRow)
-    → filter (λ r. is_asked day r.day) (filter (λ r. bytes_eq r.room room) rows) ≡ filter (λ r. bytes_eq r.room room && is_asked day r.day) rows
+    → filter (λ r. is_day_asked day r.day) (filter (λ r. bytes_eq r.room room) rows) ≡ filter (λ r. bytes_eq r.room room && is_day_asked day r.day) rows
 asked_both day room [] = refl
 asked_both day room (r ∷ rows) = go (bytes_eq r.room room) (asked_both day room rows)
   where
-    go : (b : Bool) → filter (λ r. is_asked day r.day) (filter (λ r. bytes_eq r.room room) rows) ≡ filter (λ r. bytes_eq r.room room && is_asked day r.day) rows
-        → filter (λ r. is_asked day r.day) (cond b (r ∷ filter (λ r. bytes_eq r.room room) rows) (filter (λ r. bytes_eq r.room room) rows))
-        ≡ cond (b && is_asked day r.day) (r ∷ filter (λ r. bytes_eq r.room room && is_asked day r.day) rows) (filter (λ r. bytes_eq r.room room && is_asked day r.day) rows)
-    go true ih = ap (λ more. cond (is_asked day r.day) (r ∷ more) more) ih
+    go : (b : Bool) → filter (λ r. is_day_asked day r.day) (filter (λ r. bytes_eq r.room room) rows) ≡ filter (λ r. bytes_eq r.room room && is_day_asked day r.day) rows
+        → filter (λ r. is_day_asked day r.day) (cond b (r ∷ filter (λ r. bytes_eq r.room room) rows) (filter (λ r. bytes_eq r.room room) rows))
+        ≡ cond (b && is_day_asked day r.day) (r ∷ filter (λ r. bytes_eq r.room room && is_day_asked day r.day) rows) (filter (λ r. bytes_eq r.room room && is_day_asked day r.day) rows)
+    go true ih = ap (λ more. cond (is_day_asked day r.day) (r ∷ more) more) ih
     go false ih = ih
 
 lt_then : (o p : Ordering) → is_lt (ordering_then o p) ≡ (is_lt o || (is_eq o && is_lt p))
@@ -97,10 +97,10 @@ same_order a b =
       lt_nat a.n b.n,
     )
 
-pub calendar_is : (room : Text) (day : Option Date) (t : Tables) (shown out : List BookingRow) → IsPermutation (filter (is_booking_asked room) t.booking) shown → IsPermutation (filter (λ r. is_asked day r.day) shown) out → IsSorted time_cmp out
+pub calendar_is : (room : Text) (day : Option Date) (t : Tables) (shown out : List BookingRow) → IsPermutation (filter (is_booking_asked room) t.booking) shown → IsPermutation (filter (λ r. is_day_asked day r.day) shown) out → IsSorted time_cmp out
     → AreBookings room day t out
 calendar_is room day t shown out read same sorted = (
-  subst (λ xs. IsPermutation xs out) (asked_both day room t.booking) (IsPermutation-trans _ _ _ (IsPermutation-filter (λ r. is_asked day r.day) _ _ read) same),
+  subst (λ xs. IsPermutation xs out) (asked_both day room t.booking) (IsPermutation-trans _ _ _ (IsPermutation-filter (λ r. is_day_asked day r.day) _ _ read) same),
   λ k d low high. sym (same_order (get_or out (k + 1) d) (get_or out k d)) ∙ sorted k d low high,
 )
 
@@ -132,7 +132,7 @@ find_both {X} p q (x ∷ xs) one = go (p x) refl (find_both p q xs (λ y z h k. 
 -- by the order of the tables, of rows that are those of the id wherever they are of the room
 module _ (room : Text) (id : Id) (t : Tables) where
   cancel_is : (cancel : Option CancelRow) → find_booking room id t ≡ None → find_error room id t ≡ None → find_cancelled room id t ≡ None → find_cancel room id t ≡ keep (λ r. bytes_eq r.room room) cancel
-      → IsPlaceOf room id t (cancel_in room cancel)
+      → IsPlaceOf room id t (cancel_row_in room cancel)
   cancel_is None unbooked unlogged untaken e = (unbooked, unlogged, untaken, e)
   cancel_is (Some row) unbooked unlogged untaken e = go (bytes_eq row.room room) e
     where
@@ -145,12 +145,12 @@ module _ (room : Text) (id : Id) (t : Tables) where
   taken_is None cancel unbooked unlogged e last = cancel_is cancel unbooked unlogged e last
   taken_is (Some row) cancel unbooked unlogged e last = go (bytes_eq row.room room) e
     where
-      go : (b : Bool) → find_cancelled room id t ≡ cond b (Some row) None → IsPlaceOf room id t (cond b (Some (Cancelled row)) (cancel_in room cancel))
+      go : (b : Bool) → find_cancelled room id t ≡ cond b (Some row) None → IsPlaceOf room id t (cond b (Some (Cancelled row)) (cancel_row_in room cancel))
       go true e = (unbooked, unlogged, e)
       go false e = cancel_is cancel unbooked unlogged e last
 
   erred_is : (error : Option ErrorRow) (cancelled : Option CancelledRow) (cancel : Option CancelRow) → find_booking room id t ≡ None → find_error room id t ≡ keep (λ r. bytes_eq r.room room) error
-      → find_cancelled room id t ≡ keep (λ r. bytes_eq r.room room) cancelled → find_cancel room id t ≡ keep (λ r. bytes_eq r.room room) cancel → IsPlaceOf room id t (erred_in room error (taken_in room cancelled cancel))
+      → find_cancelled room id t ≡ keep (λ r. bytes_eq r.room room) cancelled → find_cancel room id t ≡ keep (λ r. bytes_eq r.room room) cancel → IsPlaceOf room id t (error_row_in room error (taken_in room cancelled cancel))
   erred_is None cancelled cancel unbooked e third last = taken_is cancelled cancel unbooked e third last
   erred_is (Some row) cancelled cancel unbooked e third last = go (bytes_eq row.room room) e
     where
@@ -164,7 +164,7 @@ module _ (room : Text) (id : Id) (t : Tables) where
   booked_is None error cancelled cancel e second third last = erred_is error cancelled cancel e second third last
   booked_is (Some row) error cancelled cancel e second third last = go (bytes_eq row.room room) e
     where
-      go : (b : Bool) → find_booking room id t ≡ cond b (Some row) None → IsPlaceOf room id t (cond b (Some (Booked row)) (erred_in room error (taken_in room cancelled cancel)))
+      go : (b : Bool) → find_booking room id t ≡ cond b (Some row) None → IsPlaceOf room id t (cond b (Some (Booked row)) (error_row_in room error (taken_in room cancelled cancel)))
       go true e = e
       go false e = erred_is error cancelled cancel e second third last
 

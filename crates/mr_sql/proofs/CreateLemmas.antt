@@ -19,13 +19,13 @@ use Rattle.sqlite.specs.Steps.{FailsToCommit}
 use Rattle.mr_model.specs.Tables.{MetaRow, Tables}
 use Rattle.mr_rows.specs.Schema.{no_schema, with_meta, with_room, with_vector, with_write_log, with_undo, with_booking, first_schema, with_log, with_cancelled, our_schema, meta_text, room_text, vector_text, write_log_text, undo_text, booking_text, error_text, log_text, cancelled_text, cancel_text, meta_table, room_table, vector_table, write_log_table, undo_table, booking_table, error_table, log_table, cancelled_table, cancel_table}
 use Rattle.mr_rows.specs.Form.{Form, meta_form, room_form, vector_form, log_form, booking_form, error_form, cancelled_form, cancel_form}
-use Rattle.mr_rows.specs.Kept.{IsHeld, IsOurs, IsStep, first_meta, in_order, tables_in}
-use Rattle.mr_rows.specs.Parts.{put_meta}
+use Rattle.mr_rows.specs.Database.{IsHeld, IsOurs, IsTablesStep, first_meta, in_order, tables_in}
+use Rattle.mr_rows.specs.ChangeParts.{put_meta}
 use Rattle.mr_model.specs.First.{FirstTables}
-use Rattle.mr_first.specs.Kept.{IsFirst, IsFirstStep, first_in}
-use Rattle.mr_first.specs.Parts.{tables_put, no_first_tables}
+use Rattle.mr_first.specs.FirstDatabase.{IsFirst, IsFirstStep, first_in}
+use Rattle.mr_first.specs.FirstParts.{tables_put, no_first_tables}
 use Rattle.mr_first.proofs.Putting.{blank_first}
-use Rattle.mr_sql.specs.Blank.{IsBlank, IsGrown, Grows, no_tables}
+use Rattle.mr_sql.specs.Blank.{IsBlank, IsGrown, GrowsSchema, no_tables}
 use Rattle.mr_rows.proofs.FormLemmas.{went, same_value}
 
 blank_push : (tables : List Table) (table : Table) (old new : Trees) → AllByRecursion (λ (t : Table). old t.tree ≡ []) tables → KeepsRows tables old new → new table.tree ≡ []
@@ -133,7 +133,7 @@ makes_cancel old new r = makes with_cancelled cancel_text cancel_table old new r
 
 -- one after the other
 pub grows_then : {X : Type 0} (a b c : State) (first second third : Schema) (r : Result X Error) → Survives b c (λ _. ⊥)
-    → (HasCleanDisk b → IsTrue a.in_transaction → IsBlank first a.now → IsGrown second a b) → Grows second third b c r → Grows first third a c r
+    → (HasCleanDisk b → IsTrue a.in_transaction → IsBlank first a.now → IsGrown second a b) → GrowsSchema second third b c r → GrowsSchema first third a c r
 grows_then a b c first second third (Err e) s p q clean within blank = tt
 grows_then a b c first second third (Ok x) s p q clean within blank =
     let less = s.clean in
@@ -190,7 +190,7 @@ blank_tables db blank =
 
 -- the row of `meta` is put into them
 pub fills : (a b c : State) (m : MetaRow) → Survives b c (λ _. ⊥) → (HasCleanDisk b → IsTrue a.in_transaction → IsBlank no_schema a.now → IsGrown our_schema a b)
-    → (HasCleanDisk c × IsTrue b.in_transaction × IsOurs b.now → IsStep b c (put_meta m (tables_in b.now.trees))) → HasCleanDisk c → IsTrue a.in_transaction → IsBlank no_schema a.now → IsStep a c (put_meta m no_tables)
+    → (HasCleanDisk c × IsTrue b.in_transaction × IsOurs b.now → IsTablesStep b c (put_meta m (tables_in b.now.trees))) → HasCleanDisk c → IsTrue a.in_transaction → IsBlank no_schema a.now → IsTablesStep a c (put_meta m no_tables)
 fills a b c m s grown put clean within blank =
     let less = s.clean in
     let one = grown (omega (arith, less, clean)) within blank in
@@ -217,6 +217,6 @@ on_err_any (Ok x) p = tt
 on_err_any (Err e) p = p
 
 -- the database is as it was before the transaction
-pub commit_fails : (a b c : State) (e : Error) (t : Tables) → IsStep a b t → FailsToCommit b c e → IsTrue c.is_open → a.now ≡ a.committed → (c.now ≡ a.now) × (c.committed ≡ a.committed)
+pub commit_fails : (a b c : State) (e : Error) (t : Tables) → IsTablesStep a b t → FailsToCommit b c e → IsTrue c.is_open → a.now ≡ a.committed → (c.now ≡ a.now) × (c.committed ≡ a.committed)
 commit_fails a b c e t step (inl fails) now settled = let undone = fails.3.undone now in (undone.0 ∙ step.committed ∙ sym settled, undone.1 ∙ step.committed)
 commit_fails a b c e t step (inr (is, outside, same)) now settled = absurd (let within = step.within in cc)

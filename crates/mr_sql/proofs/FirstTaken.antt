@@ -8,10 +8,10 @@ use Rattle.mr_model.specs.Tables.{MetaRow, Tables, Stands}
 use Rattle.mr_model.specs.First.{moved}
 use Rattle.mr_model.proofs.MovingUp.{moves_up}
 use Rattle.mr_rows.specs.Schema.{first_schema}
-use Rattle.mr_rows.specs.Kept.{IsApplied, tables_in}
+use Rattle.mr_rows.specs.Database.{IsApplied, tables_in}
 use Rattle.mr_rows.specs.Shown.{IsMeta}
-use Rattle.mr_first.specs.Kept.{IsFirst, IsKeptFirst, first_in}
-use Rattle.mr_first.specs.Shown.{AreFirstRows}
+use Rattle.mr_first.specs.FirstDatabase.{IsFirst, IsKeptFirst, first_in}
+use Rattle.mr_first.specs.FirstShown.{AreFirstRows}
 use Rattle.mr_first.proofs.Held.{first_held}
 use Rattle.mr_first.proofs.ReadLemmas.{first_meta_found}
 use Rattle.mr_sql.specs.Found.{IsTakenAs, IsFound, IsFoundFirst, IsRaised, LeavesRows}

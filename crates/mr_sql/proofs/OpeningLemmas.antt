@@ -5,8 +5,8 @@ use Rattle.mr_model.specs.Writes.{is_server}
 use Rattle.mr_model.specs.Replica.{opening}
 use Rattle.mr_model.specs.Tables.{MetaRow, Stands, tables_of}
 use Rattle.mr_model.proofs.RunsAnswer.{opening_is}
-use Rattle.mr_rows.specs.Kept.{tables_in}
-use Rattle.mr_rows.specs.Parts.{put_meta}
+use Rattle.mr_rows.specs.Database.{tables_in}
+use Rattle.mr_rows.specs.ChangeParts.{put_meta}
 use Rattle.mr_sql.specs.Blank.{no_tables}
 
 none_known : (s p : ℕ) → put_meta (tables_of (opening s p)).meta no_tables ≡ tables_of (opening s p)

@@ -17,8 +17,8 @@ use Rattle.mr_model.proofs.ReadRows.{read_rows}
 use Rattle.mr_model.proofs.Members.{filter_has, map_has}
 use Rattle.mr_rows.specs.declared.questions.LogQuestion.{LogQuestion}
 use Rattle.mr_rows.specs.declared.questions.LogQuestion.TheVariants.{OfId, Between}
-use Rattle.mr_rows.specs.RowQuestions.{is_asked, is_log_asked, is_booking_asked, is_cancelled_asked, is_booking_of, is_error_of, is_cancelled_of}
-use Rattle.mr_sql.specs.Questions.{item_questions, tentative_question, log_questions, logs_alone, room_questions, target_questions, taken_questions, asks_booking, asks_cancelled, AreRead, AreNumbered, AreEnough}
+use Rattle.mr_rows.specs.RowQuestions.{is_row_asked, is_log_asked, is_booking_asked, is_cancelled_asked, is_booking_named, is_error_of, is_cancelled_of}
+use Rattle.mr_sql.specs.ScopeQuestions.{item_questions, tentative_question, log_questions, logs_alone, room_questions, target_questions, taken_questions, asks_booking, asks_cancelled, AreRead, AreSeqsWithin, AreEnough}
 use Rattle.mr_replica.specs.Sets.{AreSameRooms}
 use Rattle.mr_rows.proofs.RowLemmas.{filter_same}
 use Rattle.mr_rows.proofs.ValueLemmas.{or_false}
@@ -62,59 +62,59 @@ within_from low high n a b = and_from (leb low n) (leb n high) (le-leb low n a) 
 tentative_asked : (row : LogRow) → is_tentative row ≡ true → is_log_asked tentative_question row ≡ true
 tentative_asked row e = let none : row.seq ≡ 0 = eqb-true row.seq 0 e in within_from 0 0 row.seq (omega arith) (omega (arith, none))
 
-asked_behind : (questions more : List LogQuestion) (row : LogRow) → is_asked is_log_asked questions row ≡ true → is_asked is_log_asked (questions ++ more) row ≡ true
+asked_behind : (questions more : List LogQuestion) (row : LogRow) → is_row_asked is_log_asked questions row ≡ true → is_row_asked is_log_asked (questions ++ more) row ≡ true
 asked_behind questions more row e =
-    list_any-append (λ q. is_log_asked q row) questions more ∙ or_left (is_asked is_log_asked questions row) (is_asked is_log_asked more row) e
+    list_any-append (λ q. is_log_asked q row) questions more ∙ or_left (is_row_asked is_log_asked questions row) (is_row_asked is_log_asked more row) e
 
-asked_before : (questions more : List LogQuestion) (row : LogRow) → is_asked is_log_asked more row ≡ true → is_asked is_log_asked (questions ++ more) row ≡ true
+asked_before : (questions more : List LogQuestion) (row : LogRow) → is_row_asked is_log_asked more row ≡ true → is_row_asked is_log_asked (questions ++ more) row ≡ true
 asked_before questions more row e =
-    list_any-append (λ q. is_log_asked q row) questions more ∙ or_right (is_asked is_log_asked questions row) (is_asked is_log_asked more row) e
+    list_any-append (λ q. is_log_asked q row) questions more ∙ or_right (is_row_asked is_log_asked questions row) (is_row_asked is_log_asked more row) e
 
 -- a row whose id an item has
-id_asked : (commits : ℕ) (items : List Item) (row : LogRow) → is_among (log_row_id row) (map item_id items) ≡ true → is_asked is_log_asked (flat_map (item_questions commits) items) row ≡ true
+id_asked : (commits : ℕ) (items : List Item) (row : LogRow) → is_among (log_row_id row) (map item_id items) ≡ true → is_row_asked is_log_asked (flat_map (item_questions commits) items) row ≡ true
 id_asked commits [] row e = e
 id_asked commits (x ∷ items) row e = go (or_cases (same_id (log_row_id row) (item_id x)) (is_among (log_row_id row) (map item_id items)) e) (id_asked commits items row)
   where
-    here : (y : Item) → same_id (log_row_id row) (item_id y) ≡ true → is_asked is_log_asked (item_questions commits y) row ≡ true
+    here : (y : Item) → same_id (log_row_id row) (item_id y) ≡ true → is_row_asked is_log_asked (item_questions commits y) row ≡ true
     here (W w) f = or_left (is_log_asked (OfId (item_id (W w))) row) false (or_left (same_id (log_row_id row) (item_id (W w))) false f)
     here (C seq id) f = or_left (is_log_asked (OfId id) row) _ (or_left (same_id (log_row_id row) id) false f)
 
-    go : (same_id (log_row_id row) (item_id x) ≡ true) ⊎ (is_among (log_row_id row) (map item_id items) ≡ true) → (is_among (log_row_id row) (map item_id items) ≡ true → is_asked is_log_asked (flat_map (item_questions commits) items) row ≡ true)
-        → is_asked is_log_asked (item_questions commits x ++ flat_map (item_questions commits) items) row ≡ true
+    go : (same_id (log_row_id row) (item_id x) ≡ true) ⊎ (is_among (log_row_id row) (map item_id items) ≡ true) → (is_among (log_row_id row) (map item_id items) ≡ true → is_row_asked is_log_asked (flat_map (item_questions commits) items) row ≡ true)
+        → is_row_asked is_log_asked (item_questions commits x ++ flat_map (item_questions commits) items) row ≡ true
     go (inl f) ih = asked_behind (item_questions commits x) (flat_map (item_questions commits) items) row (here x f)
     go (inr f) ih = asked_before (item_questions commits x) (flat_map (item_questions commits) items) row (ih f)
 
 -- a row whose number an item has
-number_asked : (commits : ℕ) (items : List Item) (row : LogRow) → row.seq ≤ commits → list_any (has_number row.seq) items ≡ true → is_asked is_log_asked (flat_map (item_questions commits) items) row ≡ true
+number_asked : (commits : ℕ) (items : List Item) (row : LogRow) → row.seq ≤ commits → list_any (has_number row.seq) items ≡ true → is_row_asked is_log_asked (flat_map (item_questions commits) items) row ≡ true
 number_asked commits [] row low e = e
 number_asked commits (x ∷ items) row low e = go (or_cases (has_number row.seq x) (list_any (has_number row.seq) items) e) (number_asked commits items row low)
   where
-    here : (y : Item) → has_number row.seq y ≡ true → is_asked is_log_asked (item_questions commits y) row ≡ true
+    here : (y : Item) → has_number row.seq y ≡ true → is_row_asked is_log_asked (item_questions commits y) row ≡ true
     here (W w) f = absurd (true≢false (sym f))
     here (C seq id) f =
         let same : seq ≡ row.seq = eqb-true seq row.seq f in
         let known : leb seq commits ≡ true = le-leb seq commits (omega (arith, same, low)) in
         let found : is_log_asked (Between seq seq) row ≡ true = within_from seq seq row.seq (omega (arith, same)) (omega (arith, same)) in
-        or_right (is_log_asked (OfId id) row) _ (ap (λ b. is_asked is_log_asked (cond b (Between seq seq ∷ []) []) row) known ∙ or_left (is_log_asked (Between seq seq) row) false found)
+        or_right (is_log_asked (OfId id) row) _ (ap (λ b. is_row_asked is_log_asked (cond b (Between seq seq ∷ []) []) row) known ∙ or_left (is_log_asked (Between seq seq) row) false found)
 
-    go : (has_number row.seq x ≡ true) ⊎ (list_any (has_number row.seq) items ≡ true) → (list_any (has_number row.seq) items ≡ true → is_asked is_log_asked (flat_map (item_questions commits) items) row ≡ true)
-        → is_asked is_log_asked (item_questions commits x ++ flat_map (item_questions commits) items) row ≡ true
+    go : (has_number row.seq x ≡ true) ⊎ (list_any (has_number row.seq) items ≡ true) → (list_any (has_number row.seq) items ≡ true → is_row_asked is_log_asked (flat_map (item_questions commits) items) row ≡ true)
+        → is_row_asked is_log_asked (item_questions commits x ++ flat_map (item_questions commits) items) row ≡ true
     go (inl f) ih = asked_behind (item_questions commits x) (flat_map (item_questions commits) items) row (here x f)
     go (inr f) ih = asked_before (item_questions commits x) (flat_map (item_questions commits) items) row (ih f)
 
 -- ---- rows of the log
 
-up_to_asked : (commits d : ℕ) (row : LogRow) → row.seq ≤ commits → within 1 d row.seq ≡ true → is_asked is_log_asked (log_questions commits (UpTo d)) row ≡ true
+up_to_asked : (commits d : ℕ) (row : LogRow) → row.seq ≤ commits → within 1 d row.seq ≡ true → is_row_asked is_log_asked (log_questions commits (UpTo d)) row ≡ true
 up_to_asked commits d row low e = or_left (is_log_asked (Between 1 (cond (ltb commits d) commits d)) row) false (go (ltb commits d))
   where
     go : (b : Bool) → within 1 (cond b commits d) row.seq ≡ true
     go true = within_from 1 commits row.seq (leb-true 1 row.seq (and_parts (leb 1 row.seq) (leb row.seq d) e).0) low
     go false = e
 
-above_asked : (commits c : ℕ) (row : LogRow) → row.seq ≤ commits → (is_tentative row || ltb c row.seq) ≡ true → is_asked is_log_asked (log_questions commits (Above c)) row ≡ true
+above_asked : (commits c : ℕ) (row : LogRow) → row.seq ≤ commits → (is_tentative row || ltb c row.seq) ≡ true → is_row_asked is_log_asked (log_questions commits (Above c)) row ≡ true
 above_asked commits c row low e = go (or_cases (is_tentative row) (ltb c row.seq) e) (ltb c commits) refl
   where
-    go : (is_tentative row ≡ true) ⊎ (ltb c row.seq ≡ true) → (b : Bool) → ltb c commits ≡ b → is_asked is_log_asked (cond b (tentative_question ∷ Between (c + 1) commits ∷ []) (tentative_question ∷ [])) row ≡ true
+    go : (is_tentative row ≡ true) ⊎ (ltb c row.seq ≡ true) → (b : Bool) → ltb c commits ≡ b → is_row_asked is_log_asked (cond b (tentative_question ∷ Between (c + 1) commits ∷ []) (tentative_question ∷ [])) row ≡ true
     go (inl f) true g = or_left (is_log_asked tentative_question row) _ (tentative_asked row f)
     go (inl f) false g = or_left (is_log_asked tentative_question row) _ (tentative_asked row f)
     go (inr f) true g =
@@ -122,20 +122,20 @@ above_asked commits c row low e = go (or_cases (is_tentative row) (ltb c row.seq
         or_right (is_log_asked tentative_question row) _ (or_left (is_log_asked (Between (c + 1) commits) row) false (within_from (c + 1) commits row.seq (omega (arith, less)) low))
     go (inr f) false g = let less = ltb-true c row.seq f in let over = ltb-false c commits g in absurd (omega (arith, less, over, low))
 
-items_asked : (commits : ℕ) (items : List Item) (touched : Bool) (row : LogRow) → row.seq ≤ commits → (is_named items row || (is_in_tail commits items row && touched)) ≡ true → is_asked is_log_asked (log_questions commits (OfItems items)) row ≡ true
+items_asked : (commits : ℕ) (items : List Item) (touched : Bool) (row : LogRow) → row.seq ≤ commits → (is_named items row || (is_in_tail commits items row && touched)) ≡ true → is_row_asked is_log_asked (log_questions commits (OfItems items)) row ≡ true
 items_asked commits items touched row low e = go (or_cases (is_named items row) (is_in_tail commits items row && touched) e)
   where
-    named : (is_among (log_row_id row) (map item_id items) ≡ true) ⊎ ((not (is_tentative row) && list_any (has_number row.seq) items) ≡ true) → is_asked is_log_asked (flat_map (item_questions commits) items) row ≡ true
+    named : (is_among (log_row_id row) (map item_id items) ≡ true) ⊎ ((not (is_tentative row) && list_any (has_number row.seq) items) ≡ true) → is_row_asked is_log_asked (flat_map (item_questions commits) items) row ≡ true
     named (inl f) = id_asked commits items row f
     named (inr f) = number_asked commits items row low (and_parts (not (is_tentative row)) (list_any (has_number row.seq) items) f).1
 
-    go : (is_named items row ≡ true) ⊎ ((is_in_tail commits items row && touched) ≡ true) → is_asked is_log_asked (log_questions commits (OfItems items)) row ≡ true
+    go : (is_named items row ≡ true) ⊎ ((is_in_tail commits items row && touched) ≡ true) → is_row_asked is_log_asked (log_questions commits (OfItems items)) row ≡ true
     go (inl f) = or_right (is_log_asked tentative_question row) _ (named (or_cases (is_among (log_row_id row) (map item_id items)) (not (is_tentative row) && list_any (has_number row.seq) items) f))
     go (inr f) =
         let tail = (and_parts (is_in_tail commits items row) touched f).0 in
         or_left (is_log_asked tentative_question row) _ (tentative_asked row (and_parts (is_tentative row) _ tail).0)
 
-log_asked : (s : Scope) (t : Tables) → AreNumbered t → (row : LogRow) → Has row (in_scope s t).log → Has row t.log × (is_asked is_log_asked (log_questions t.meta.commits s) row ≡ true)
+log_asked : (s : Scope) (t : Tables) → AreSeqsWithin t → (row : LogRow) → Has row (in_scope s t).log → Has row t.log × (is_row_asked is_log_asked (log_questions t.meta.commits s) row ≡ true)
 log_asked Nothing t numbered row h = absurd h
 log_asked (InRoom room) t numbered row h = absurd h
 log_asked (OfTarget target) t numbered row h = absurd h
@@ -154,10 +154,10 @@ log_asked (OfItems items) t numbered row h =
 
 -- the rows of the log that are asked for
 abbrev logs_of : Scope → Tables → List LogRow
-logs_of s t = filter (is_asked is_log_asked (log_questions t.meta.commits s)) t.log
+logs_of s t = filter (is_row_asked is_log_asked (log_questions t.meta.commits s)) t.log
 
 -- all tentative rows, where the scope is that of a commit
-tentative_read : (s : Scope) (commits : ℕ) → IsOfCommits s → (row : LogRow) → is_tentative row ≡ true → is_asked is_log_asked (log_questions commits s) row ≡ true
+tentative_read : (s : Scope) (commits : ℕ) → IsOfCommits s → (row : LogRow) → is_tentative row ≡ true → is_row_asked is_log_asked (log_questions commits s) row ≡ true
 tentative_read Nothing commits of row e = absurd of
 tentative_read (InRoom room) commits of row e = absurd of
 tentative_read (OfTarget target) commits of row e = absurd of
@@ -168,11 +168,11 @@ tentative_read (OfItems items) commits of row e = absurd of
 
 -- the tables with the rows of the log that are asked for, and all of the other tables but cancels
 abbrev logs_read : Scope → Tables → Tables
-logs_read s t = rows_read (is_asked is_log_asked (log_questions t.meta.commits s)) (λ _. true) (λ _. true) (λ _. true) t
+logs_read s t = rows_read (is_row_asked is_log_asked (log_questions t.meta.commits s)) (λ _. true) (λ _. true) (λ _. true) t
 
 -- of these what is in scope stays
-logs_suffice : (s : Scope) (t : Tables) → AreNumbered t → in_scope s (logs_read s t) ≡ in_scope s t
-logs_suffice s t numbered = read_rows s t (is_asked is_log_asked (log_questions t.meta.commits s)) (λ _. true) (λ _. true) (λ _. true) (record {
+logs_suffice : (s : Scope) (t : Tables) → AreSeqsWithin t → in_scope s (logs_read s t) ≡ in_scope s t
+logs_suffice s t numbered = read_rows s t (is_row_asked is_log_asked (log_questions t.meta.commits s)) (λ _. true) (λ _. true) (λ _. true) (record {
   logs = λ row h. (log_asked s t numbered row h).1;
   booking = λ b h. refl;
   errorlog = λ e h. refl;
@@ -181,7 +181,7 @@ logs_suffice s t numbered = read_rows s t (is_asked is_log_asked (log_questions 
 })
 
 -- what is in scope of the log goes by its rows and the number of commits alone
-logs_same : (s : Scope) (t : Tables) → AreNumbered t → (in_scope s (logs_alone t.meta.commits (logs_of s t))).log ≡ (in_scope s t).log
+logs_same : (s : Scope) (t : Tables) → AreSeqsWithin t → (in_scope s (logs_alone t.meta.commits (logs_of s t))).log ≡ (in_scope s t).log
 logs_same s t numbered = alone s ∙ ap (λ (u : Tables). u.log) (logs_suffice s t numbered)
   where
     alone : (r : Scope) → (in_scope r (logs_alone t.meta.commits (logs_of s t))).log ≡ (in_scope r (logs_read s t)).log
@@ -196,28 +196,28 @@ logs_same s t numbered = alone s ∙ ap (λ (u : Tables). u.log) (logs_suffice s
 -- ---- bookings
 
 -- the rooms that the rows read touch are those that all rows touch
-touched_booking : (items : List Item) (t : Tables) → AreNumbered t → (b : BookingRow) → Has b (in_scope (OfItems items) t).booking
-    → is_asked is_booking_asked (room_questions t.meta.commits (OfItems items) (logs_of (OfItems items) t)) b ≡ true
+touched_booking : (items : List Item) (t : Tables) → AreSeqsWithin t → (b : BookingRow) → Has b (in_scope (OfItems items) t).booking
+    → is_row_asked is_booking_asked (room_questions t.meta.commits (OfItems items) (logs_of (OfItems items) t)) b ≡ true
 touched_booking items t numbered b h =
     let read = logs_read (OfItems items) t in
     let same = logs_suffice (OfItems items) t numbered in
     (filter_has (λ c. is_touched read items c.room) b read.booking (subst (λ (u : Tables). Has b u.booking) (sym same) h)).1
 
-booking_read : (s : Scope) (t : Tables) → AreNumbered t → (b : BookingRow) → Has b (in_scope s t).booking → asks_booking t.meta.commits s (logs_of s t) b ≡ true
+booking_read : (s : Scope) (t : Tables) → AreSeqsWithin t → (b : BookingRow) → Has b (in_scope s t).booking → asks_booking t.meta.commits s (logs_of s t) b ≡ true
 booking_read Nothing t numbered b h = absurd h
 booking_read (InRoom room) t numbered b h =
-    or_left (is_asked is_booking_asked (room ∷ []) b) false (or_left (is_booking_asked room b) false (filter_has (λ (c : BookingRow). bytes_eq c.room room) b t.booking h).1)
+    or_left (is_row_asked is_booking_asked (room ∷ []) b) false (or_left (is_booking_asked room b) false (filter_has (λ (c : BookingRow). bytes_eq c.room room) b t.booking h).1)
 booking_read (OfTarget target) t numbered b h =
-    or_left (is_booking_of target b) false (or_left (same_id (booking_id b) target) false (filter_has (λ (c : BookingRow). same_id (booking_id c) target) b t.booking h).1)
+    or_left (is_booking_named target b) false (or_left (same_id (booking_id b) target) false (filter_has (λ (c : BookingRow). same_id (booking_id c) target) b t.booking h).1)
 booking_read (NextCommits k) t numbered b h = absurd h
 booking_read (UpTo d) t numbered b h = absurd h
 booking_read (Above c) t numbered b h = absurd h
 booking_read (OfItems items) t numbered b h =
-    or_left (is_asked is_booking_asked (room_questions t.meta.commits (OfItems items) (logs_of (OfItems items) t)) b) false (touched_booking items t numbered b h)
+    or_left (is_row_asked is_booking_asked (room_questions t.meta.commits (OfItems items) (logs_of (OfItems items) t)) b) false (touched_booking items t numbered b h)
 
 -- ---- the error log
 
-error_read : (s : Scope) (t : Tables) (e : ErrorRow) → Has e (in_scope s t).errorlog → is_asked is_error_of (target_questions s) e ≡ true
+error_read : (s : Scope) (t : Tables) (e : ErrorRow) → Has e (in_scope s t).errorlog → is_row_asked is_error_of (target_questions s) e ≡ true
 error_read Nothing t e h = absurd h
 error_read (InRoom room) t e h = absurd h
 error_read (OfTarget target) t e h =
@@ -229,37 +229,37 @@ error_read (OfItems items) t e h = absurd h
 
 -- ---- cancelled bookings
 
-touched_cancelled : (items : List Item) (t : Tables) → AreNumbered t → (b : CancelledRow) → Has b (in_scope (OfItems items) t).cancelled
-    → is_asked is_cancelled_asked (room_questions t.meta.commits (OfItems items) (logs_of (OfItems items) t)) b ≡ true
+touched_cancelled : (items : List Item) (t : Tables) → AreSeqsWithin t → (b : CancelledRow) → Has b (in_scope (OfItems items) t).cancelled
+    → is_row_asked is_cancelled_asked (room_questions t.meta.commits (OfItems items) (logs_of (OfItems items) t)) b ≡ true
 touched_cancelled items t numbered b h =
     let read = logs_read (OfItems items) t in
     let same = logs_suffice (OfItems items) t numbered in
     (filter_has (λ c. is_touched read items c.room) b read.cancelled (subst (λ (u : Tables). Has b u.cancelled) (sym same) h)).1
 
 -- the row of one of these ids is asked for
-cancelled_of_ids : (ids : List Id) (c : CancelledRow) → is_asked is_cancelled_of ids c ≡ is_among (cancelled_id c) ids
+cancelled_of_ids : (ids : List Id) (c : CancelledRow) → is_row_asked is_cancelled_of ids c ≡ is_among (cancelled_id c) ids
 cancelled_of_ids [] c = refl
 cancelled_of_ids (id ∷ ids) c = let first = or_false (same_id (cancelled_id c) id) in let more = cancelled_of_ids ids c in λ i. first i || more i
 
 -- those of the writes that are committed next, which the rows read tell
-next_cancelled : (k : ℕ) (t : Tables) → AreNumbered t → (c : CancelledRow) → Has c (in_scope (NextCommits k) t).cancelled
-    → is_asked is_cancelled_of (taken_questions t.meta.commits (NextCommits k) (logs_of (NextCommits k) t)) c ≡ true
+next_cancelled : (k : ℕ) (t : Tables) → AreSeqsWithin t → (c : CancelledRow) → Has c (in_scope (NextCommits k) t).cancelled
+    → is_row_asked is_cancelled_of (taken_questions t.meta.commits (NextCommits k) (logs_of (NextCommits k) t)) c ≡ true
 next_cancelled k t numbered c h =
     let among = (filter_has (λ (d : CancelledRow). is_among (cancelled_id d) (map log_row_id (next_commits k t))) c t.cancelled h).1 in
-    let asked : is_asked is_cancelled_of (map log_row_id (next_commits k t)) c ≡ true = cancelled_of_ids (map log_row_id (next_commits k t)) c ∙ among in
-    subst (λ (rows : List LogRow). is_asked is_cancelled_of (map log_row_id rows) c ≡ true) (sym (logs_same (NextCommits k) t numbered)) asked
+    let asked : is_row_asked is_cancelled_of (map log_row_id (next_commits k t)) c ≡ true = cancelled_of_ids (map log_row_id (next_commits k t)) c ∙ among in
+    subst (λ (rows : List LogRow). is_row_asked is_cancelled_of (map log_row_id rows) c ≡ true) (sym (logs_same (NextCommits k) t numbered)) asked
 
-cancelled_read : (s : Scope) (t : Tables) → AreNumbered t → (c : CancelledRow) → Has c (in_scope s t).cancelled → asks_cancelled t.meta.commits s (logs_of s t) c ≡ true
+cancelled_read : (s : Scope) (t : Tables) → AreSeqsWithin t → (c : CancelledRow) → Has c (in_scope s t).cancelled → asks_cancelled t.meta.commits s (logs_of s t) c ≡ true
 cancelled_read Nothing t numbered c h = absurd h
 cancelled_read (InRoom room) t numbered c h =
-    or_left (is_asked is_cancelled_asked (room ∷ []) c) false (or_left (is_cancelled_asked room c) false (filter_has (λ (d : CancelledRow). bytes_eq d.room room) c t.cancelled h).1)
+    or_left (is_row_asked is_cancelled_asked (room ∷ []) c) false (or_left (is_cancelled_asked room c) false (filter_has (λ (d : CancelledRow). bytes_eq d.room room) c t.cancelled h).1)
 cancelled_read (OfTarget target) t numbered c h =
     or_left (is_cancelled_of target c) false (or_left (same_id (cancelled_id c) target) false (filter_has (λ (d : CancelledRow). same_id (cancelled_id d) target) c t.cancelled h).1)
 cancelled_read (NextCommits k) t numbered c h = next_cancelled k t numbered c h
 cancelled_read (UpTo d) t numbered c h = absurd h
 cancelled_read (Above n) t numbered c h = absurd h
 cancelled_read (OfItems items) t numbered c h =
-    or_left (is_asked is_cancelled_asked (room_questions t.meta.commits (OfItems items) (logs_of (OfItems items) t)) c) false (touched_cancelled items t numbered c h)
+    or_left (is_row_asked is_cancelled_asked (room_questions t.meta.commits (OfItems items) (logs_of (OfItems items) t)) c) false (touched_cancelled items t numbered c h)
 
 -- ---- all tables
 
@@ -268,7 +268,7 @@ enough : (s : Scope) (t : Tables) (logs : List LogRow) (bookings : List BookingR
     → AreEnough s t (with_rows t logs bookings errors gone)
 enough s t logs bookings errors gone read numbered =
     ap (in_scope s) are
-    ∙ read_rows s t (is_asked is_log_asked (log_questions t.meta.commits s)) (asks_booking t.meta.commits s (logs_of s t)) (is_asked is_error_of (target_questions s)) (asks_cancelled t.meta.commits s (logs_of s t)) (record {
+    ∙ read_rows s t (is_row_asked is_log_asked (log_questions t.meta.commits s)) (asks_booking t.meta.commits s (logs_of s t)) (is_row_asked is_error_of (target_questions s)) (asks_cancelled t.meta.commits s (logs_of s t)) (record {
       logs = λ row h. (log_asked s t numbered row h).1;
       booking = booking_read s t numbered;
       errorlog = error_read s t;
@@ -283,7 +283,7 @@ enough s t logs bookings errors gone read numbered =
     gone_are = read.places.taken ∙ ap (λ rows. filter (asks_cancelled t.meta.commits s rows) t.cancelled) read.log
 
     are : with_rows t logs bookings errors gone
-        ≡ rows_read (is_asked is_log_asked (log_questions t.meta.commits s)) (asks_booking t.meta.commits s (logs_of s t)) (is_asked is_error_of (target_questions s)) (asks_cancelled t.meta.commits s (logs_of s t)) t
+        ≡ rows_read (is_row_asked is_log_asked (log_questions t.meta.commits s)) (asks_booking t.meta.commits s (logs_of s t)) (is_row_asked is_error_of (target_questions s)) (asks_cancelled t.meta.commits s (logs_of s t)) t
     are = let log = read.log in let booking = bookings_are in let error = read.places.errorlog in let taken = gone_are in λ i. with_rows t (log i) (booking i) (error i) (taken i)
 
 -- the same where the heads were read too
@@ -295,33 +295,33 @@ read_enough s t meta room vector logs bookings errors gone heads read numbered =
     ∙ enough s t logs bookings errors gone (subst (λ (m : MetaRow). AreRead m.commits s t logs bookings errors gone) heads.0 read) numbered
 
 -- questions for the same rooms ask for the same bookings
-pub rooms_asked : (xs ys : List Text) → AreSameRooms xs ys → (bookings : List BookingRow) → filter (is_asked is_booking_asked xs) bookings ≡ filter (is_asked is_booking_asked ys) bookings
-rooms_asked xs ys same bookings = filter_same (is_asked is_booking_asked xs) (is_asked is_booking_asked ys) bookings (λ b _. same b.room)
+pub rooms_asked : (xs ys : List Text) → AreSameRooms xs ys → (bookings : List BookingRow) → filter (is_row_asked is_booking_asked xs) bookings ≡ filter (is_row_asked is_booking_asked ys) bookings
+rooms_asked xs ys same bookings = filter_same (is_row_asked is_booking_asked xs) (is_row_asked is_booking_asked ys) bookings (λ b _. same b.room)
 
-pub taken_rooms_asked : (xs ys : List Text) → AreSameRooms xs ys → (rows : List CancelledRow) → filter (is_asked is_cancelled_asked xs) rows ≡ filter (is_asked is_cancelled_asked ys) rows
-taken_rooms_asked xs ys same rows = filter_same (is_asked is_cancelled_asked xs) (is_asked is_cancelled_asked ys) rows (λ c _. same c.room)
+pub taken_rooms_asked : (xs ys : List Text) → AreSameRooms xs ys → (rows : List CancelledRow) → filter (is_row_asked is_cancelled_asked xs) rows ≡ filter (is_row_asked is_cancelled_asked ys) rows
+taken_rooms_asked xs ys same rows = filter_same (is_row_asked is_cancelled_asked xs) (is_row_asked is_cancelled_asked ys) rows (λ c _. same c.room)
 
 -- where nothing is asked by id, what is asked by room is all that is asked
 pub by_room : (commits : ℕ) (s : Scope) (logs : List LogRow) → target_questions s ≡ [] → (bookings : List BookingRow)
-    → filter (is_asked is_booking_asked (room_questions commits s logs)) bookings ≡ filter (asks_booking commits s logs) bookings
-by_room commits s logs none bookings = filter_same (is_asked is_booking_asked (room_questions commits s logs)) (asks_booking commits s logs) bookings
-    (λ b _. sym (or_false (is_asked is_booking_asked (room_questions commits s logs) b)) ∙ ap (λ ids. is_asked is_booking_asked (room_questions commits s logs) b || is_asked is_booking_of ids b) (sym none))
+    → filter (is_row_asked is_booking_asked (room_questions commits s logs)) bookings ≡ filter (asks_booking commits s logs) bookings
+by_room commits s logs none bookings = filter_same (is_row_asked is_booking_asked (room_questions commits s logs)) (asks_booking commits s logs) bookings
+    (λ b _. sym (or_false (is_row_asked is_booking_asked (room_questions commits s logs) b)) ∙ ap (λ ids. is_row_asked is_booking_asked (room_questions commits s logs) b || is_row_asked is_booking_named ids b) (sym none))
 
 pub taken_by_room : (commits : ℕ) (s : Scope) (logs : List LogRow) → taken_questions commits s logs ≡ [] → (rows : List CancelledRow)
-    → filter (is_asked is_cancelled_asked (room_questions commits s logs)) rows ≡ filter (asks_cancelled commits s logs) rows
-taken_by_room commits s logs none rows = filter_same (is_asked is_cancelled_asked (room_questions commits s logs)) (asks_cancelled commits s logs) rows
-    (λ c _. sym (or_false (is_asked is_cancelled_asked (room_questions commits s logs) c)) ∙ ap (λ ids. is_asked is_cancelled_asked (room_questions commits s logs) c || is_asked is_cancelled_of ids c) (sym none))
+    → filter (is_row_asked is_cancelled_asked (room_questions commits s logs)) rows ≡ filter (asks_cancelled commits s logs) rows
+taken_by_room commits s logs none rows = filter_same (is_row_asked is_cancelled_asked (room_questions commits s logs)) (asks_cancelled commits s logs) rows
+    (λ c _. sym (or_false (is_row_asked is_cancelled_asked (room_questions commits s logs) c)) ∙ ap (λ ids. is_row_asked is_cancelled_asked (room_questions commits s logs) c || is_row_asked is_cancelled_of ids c) (sym none))
 
 -- where nothing is asked by room, what is asked by id is all that is asked
 pub by_id : (commits : ℕ) (s : Scope) (logs : List LogRow) → room_questions commits s logs ≡ [] → (bookings : List BookingRow)
-    → filter (is_asked is_booking_of (target_questions s)) bookings ≡ filter (asks_booking commits s logs) bookings
-by_id commits s logs none bookings = filter_same (is_asked is_booking_of (target_questions s)) (asks_booking commits s logs) bookings
-    (λ b _. ap (λ rooms. is_asked is_booking_asked rooms b || is_asked is_booking_of (target_questions s) b) (sym none))
+    → filter (is_row_asked is_booking_named (target_questions s)) bookings ≡ filter (asks_booking commits s logs) bookings
+by_id commits s logs none bookings = filter_same (is_row_asked is_booking_named (target_questions s)) (asks_booking commits s logs) bookings
+    (λ b _. ap (λ rooms. is_row_asked is_booking_asked rooms b || is_row_asked is_booking_named (target_questions s) b) (sym none))
 
 pub taken_by_id : (commits : ℕ) (s : Scope) (logs : List LogRow) → room_questions commits s logs ≡ [] → (rows : List CancelledRow)
-    → filter (is_asked is_cancelled_of (taken_questions commits s logs)) rows ≡ filter (asks_cancelled commits s logs) rows
-taken_by_id commits s logs none rows = filter_same (is_asked is_cancelled_of (taken_questions commits s logs)) (asks_cancelled commits s logs) rows
-    (λ c _. ap (λ rooms. is_asked is_cancelled_asked rooms c || is_asked is_cancelled_of (taken_questions commits s logs) c) (sym none))
+    → filter (is_row_asked is_cancelled_of (taken_questions commits s logs)) rows ≡ filter (asks_cancelled commits s logs) rows
+taken_by_id commits s logs none rows = filter_same (is_row_asked is_cancelled_of (taken_questions commits s logs)) (asks_cancelled commits s logs) rows
+    (λ c _. ap (λ rooms. is_row_asked is_cancelled_asked rooms c || is_row_asked is_cancelled_of (taken_questions commits s logs) c) (sym none))
 
 -- ---- commit numbers of a replica's tables
 
@@ -333,10 +333,10 @@ seq_within k (x ∷ xs) id low = go (same_id x id) (seq_within (k + 1) xs id (om
     go true ih = omega arith
     go false ih = omega (arith, ih)
 
-pub numbered_of : (t : Tables) (a : Replica) → t ≡ tables_of a → AreNumbered t
-numbered_of t a are = subst AreNumbered (sym are) numbered
+pub numbered_of : (t : Tables) (a : Replica) → t ≡ tables_of a → AreSeqsWithin t
+numbered_of t a are = subst AreSeqsWithin (sym are) numbered
   where
-    numbered : AreNumbered (tables_of a)
+    numbered : AreSeqsWithin (tables_of a)
     numbered row h =
         let (w, g, e) = map_has (log_row a) row (kept a) h in
         let seq : row.seq ≡ (log_row a w).seq = ap (λ (r : LogRow). r.seq) e in

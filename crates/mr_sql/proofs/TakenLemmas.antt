@@ -26,11 +26,11 @@ use Rattle.mr_model.specs.Tables.{MetaRow, Stands}
 use Rattle.mr_base.specs.declared.refusals.Refusal.{Refusal}
 use Rattle.mr_base.specs.declared.refusals.Refusal.TheVariants as refusal
 use Rattle.mr_rows.specs.Schema.{no_schema, first_schema, our_schema}
-use Rattle.mr_rows.specs.Kept.{IsOurs, IsKept, tables_in}
+use Rattle.mr_rows.specs.Database.{IsOurs, IsKept, tables_in}
 use Rattle.mr_rows.specs.Shelf.{HasShelves}
 use Rattle.mr_sql.specs.Found.{LeavesTables, IsTaken, IsTakenAs, IsFound, IsAdopted, IsResumed, Names, StaysAs}
 use Rattle.mr_sql.specs.Refused.{HasNoMeta, IsAnothers, IsNobodys}
-use Rattle.mr_first.specs.Kept.{first_in}
+use Rattle.mr_first.specs.FirstDatabase.{first_in}
 use Rattle.mr_rows.specs.Shown.{AreOurRows, IsMeta}
 use Rattle.mr_rows.proofs.FoundLemmas.{all_held, meta_is_found}
 use Rattle.mr_rows.specs.Shelf.{IsShelf}
@@ -221,6 +221,3 @@ found_stays trees m old new taken ours found = (there found.resumed, found.kept.
 
 pub committed_are : (trees : Trees) (s : State) → IsTaken trees s → s.committed.trees ≡ trees
 committed_are trees s taken = ap (λ (db : Database). db.trees) (sym taken.settled) ∙ taken.trees_are
-
-pub taken_again : (trees : Trees) (s : State) → IsTaken trees s → IsTaken s.committed.trees s
-taken_again trees s taken = subst (λ (t : Trees). IsTaken t s) (sym (committed_are trees s taken)) taken

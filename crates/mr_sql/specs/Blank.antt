@@ -6,7 +6,7 @@ use Rattle.sqlite.specs.Effect.{Database}
 use Rattle.sqlite.specs.State.{State, HasCleanDisk}
 use Rattle.sqlite.specs.declared.error.Error.{Error}
 use Rattle.mr_model.specs.Tables.{Tables}
-use Rattle.mr_rows.specs.Kept.{first_meta}
+use Rattle.mr_rows.specs.Database.{first_meta}
 
 -- this schema, and no row in any of its tables
 abbrev pub IsBlank : Schema → Database → Type 0
@@ -18,8 +18,8 @@ pub record IsGrown (schema : Schema) (old new : State) : Type 0 where
   pub within : IsTrue new.in_transaction
 
 -- within a transaction one schema becomes another
-abbrev pub Grows : {X : Type 0} → Schema → Schema → State → State → Result X Error → Type 0
-Grows before after old new result = HasCleanDisk new → IsTrue old.in_transaction → IsBlank before old.now → OnOk result (IsGrown after old new)
+abbrev pub GrowsSchema : {X : Type 0} → Schema → Schema → State → State → Result X Error → Type 0
+GrowsSchema before after old new result = HasCleanDisk new → IsTrue old.in_transaction → IsBlank before old.now → OnOk result (IsGrown after old new)
 
 abbrev pub no_tables : Tables
 no_tables = record { meta = first_meta []; room = []; vector = []; log = []; booking = []; errorlog = []; cancelled = []; cancels = [] }

@@ -8,11 +8,11 @@ use Rattle.sqlite.specs.State.{State}
 use Rattle.mr_model.specs.Replica.{Replica, opening}
 use Rattle.mr_model.specs.Tables.{MetaRow, Stands}
 use Rattle.mr_model.specs.First.{StandsFirst, moved}
-use Rattle.mr_store.specs.Kept.{IsSettled}
+use Rattle.mr_store.specs.KeeperCalls.{IsSettled}
 use Rattle.mr_rows.specs.Schema.{no_schema, first_schema, our_schema}
 use Rattle.mr_rows.specs.Shelf.{HasShelves}
-use Rattle.mr_rows.specs.Kept.{IsKept, tables_in}
-use Rattle.mr_first.specs.Kept.{IsKeptFirst, first_in}
+use Rattle.mr_rows.specs.Database.{IsKept, tables_in}
+use Rattle.mr_first.specs.FirstDatabase.{IsKeptFirst, first_in}
 
 -- a database with these trees, opened anew
 pub record IsTaken (trees : Trees) (s : State) : Type 0 where

@@ -1,7 +1,7 @@
--- A reader of the contracts trusts Found and Refused. The others, Places, Questions, Blank and Told, serve private clauses and proofs alone.
-pub mod Places
-pub mod Questions
+-- A reader of the contracts trusts Found and Refused. The others, PlaceOfId, ScopeQuestions, Blank and OurSchema, serve private clauses and proofs alone.
+pub mod PlaceOfId
+pub mod ScopeQuestions
 pub mod Blank
-pub mod Told
+pub mod OurSchema
 pub mod Found
 pub mod Refused

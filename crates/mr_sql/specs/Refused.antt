@@ -8,9 +8,9 @@ use Rattle.sqlite_catalog.specs.Listing.{IsSound}
 use Rattle.sqlite.specs.Files.{HoldsDatabase, AreFoundIn}
 use Rattle.sqlite.specs.Recovery.{Image}
 use Rattle.mr_rows.specs.Schema.{no_schema, first_schema, our_schema}
-use Rattle.mr_rows.specs.Kept.{tables_in}
+use Rattle.mr_rows.specs.Database.{tables_in}
 use Rattle.mr_rows.specs.Shown.{IsMeta}
-use Rattle.mr_first.specs.Kept.{first_in}
+use Rattle.mr_first.specs.FirstDatabase.{first_in}
 use Rattle.mr_sql.specs.Found.{Names}
 
 abbrev pub IsOfTwo : Schema → Type 0

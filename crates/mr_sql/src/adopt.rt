@@ -5,7 +5,7 @@ ghost use Rattle.sqlite_catalog.specs.Listing.{IsSound};
 ghost use Rattle.sqlite.specs.State.{HasCleanDisk};
 ghost use Rattle.sqlite.specs.Held.{state};
 ghost use Rattle.mr_rows.specs.Schema.{no_schema, our_schema};
-ghost use Rattle.mr_rows.specs.Kept.{IsKept};
+ghost use Rattle.mr_rows.specs.Database.{IsKept};
 ghost use Rattle.mr_sql.specs.Found.{IsTaken, IsTakenAs, IsFound, IsAdopted, IsResumed, Names, StaysAs};
 ghost use Rattle.mr_rows.specs.Shown.{IsMeta};
 ghost use Rattle.mr_sql.specs.Refused.{AreSomebodys, HasNoMeta, IsAnothers, IsNobodys};
@@ -29,7 +29,8 @@ pub(crate) fn retaken<S: Alter + Drop>(
     ensures taken { IfOk result (λ c. HasCleanDisk (state S.Store c) → IsTaken (state S.Store conn).committed.trees (state S.Store c)) }
     ensures autocommit { IfOk result (λ c. c.in_transaction ≡ false) }
     ensures clean { IfOk result (λ c. HasCleanDisk (state S.Store c) → HasCleanDisk (state S.Store conn)) }
-    ensures back { IfErr result (λ e. IsClean (S.Store.view e.1) → IsTrue (S.Store.view e.1).is_open → (S.Store.view e.1).trees ≡ (state S.Store conn).committed.trees) }
+    ensures back { IfErr result
+        (λ e. IsClean (S.Store.view e.1) → IsTrue (S.Store.view e.1).is_open → (S.Store.view e.1).trees ≡ (state S.Store conn).committed.trees) }
 {
     let store = conn.into_store();
     if store.is_broken() {
@@ -48,9 +49,13 @@ fn begin<S: Alter>(
     requires blank { (state S.Store conn.old).now.schema ≡ no_schema }
     ensures autocommit { conn.new.in_transaction ≡ false }
     ensures clean { HasCleanDisk (state S.Store conn.new) → HasCleanDisk (state S.Store conn.old) }
-    ensures begun { (trees : Trees) → HasCleanDisk (state S.Store conn.new) → IsTaken trees (state S.Store conn.old) → OnOk result (IsTrue (state S.Store conn.new).is_open → IsKept (state S.Store conn.new) × IsAdopted server primary trees (state S.Store conn.new).now.trees) }
-    ensures opens { (trees : Trees) → HasCleanDisk (state S.Store conn.new) → IsTaken trees (state S.Store conn.old) → OnOk result (IsTrue (state S.Store conn.new).is_open) }
-    ensures stays { (trees : Trees) → HasCleanDisk (state S.Store conn.new) → IsTaken trees (state S.Store conn.old) → OnErr result (IsTrue (state S.Store conn.new).is_open → StaysAs trees (state S.Store conn.new)) }
+    ensures begun { (trees : Trees) → HasCleanDisk (state S.Store conn.new) → IsTaken trees (state S.Store conn.old)
+        → OnOk result (IsTrue (state S.Store conn.new).is_open → IsKept (state S.Store conn.new)
+        × IsAdopted server primary trees (state S.Store conn.new).now.trees) }
+    ensures opens { (trees : Trees) → HasCleanDisk (state S.Store conn.new) → IsTaken trees (state S.Store conn.old)
+        → OnOk result (IsTrue (state S.Store conn.new).is_open) }
+    ensures stays { (trees : Trees) → HasCleanDisk (state S.Store conn.new) → IsTaken trees (state S.Store conn.old)
+        → OnErr result (IsTrue (state S.Store conn.new).is_open → StaysAs trees (state S.Store conn.new)) }
     ensures cause { IfErr result (λ e. (e ≡ Refusal.OutOfMemory) ⊎ (e ≡ Refusal.Store)) }
 {
     server.number();
@@ -67,10 +72,14 @@ fn find_row<S: Alter>(conn: &mut Connection<S>, alloc: Global) -> Result<MetaRow
     requires autocommit { conn.old.in_transaction ≡ false }
     ensures autocommit { conn.new.in_transaction ≡ false }
     ensures clean { HasCleanDisk (state S.Store conn.new) → HasCleanDisk (state S.Store conn.old) }
-    ensures found { (trees : Trees) → HasCleanDisk (state S.Store conn.new) → IsTakenAs our_schema trees (state S.Store conn.old) → IfOk result (λ m. IsTrue (state S.Store conn.new).is_open → IsFound trees m (state S.Store conn.new)) }
-    ensures opens { (trees : Trees) → HasCleanDisk (state S.Store conn.new) → IsTakenAs our_schema trees (state S.Store conn.old) → OnOk result (IsTrue (state S.Store conn.new).is_open) }
-    ensures stays { (trees : Trees) → HasCleanDisk (state S.Store conn.new) → IsTakenAs our_schema trees (state S.Store conn.old) → OnErr result (IsTrue (state S.Store conn.new).is_open → StaysAs trees (state S.Store conn.new)) }
-    ensures strange { (trees : Trees) → HasCleanDisk (state S.Store conn.new) → IsTakenAs our_schema trees (state S.Store conn.old) → IfErr result (λ e. e ≡ Refusal.NotAReplica → IsMeta trees None) }
+    ensures found { (trees : Trees) → HasCleanDisk (state S.Store conn.new) → IsTakenAs our_schema trees (state S.Store conn.old)
+        → IfOk result (λ m. IsTrue (state S.Store conn.new).is_open → IsFound trees m (state S.Store conn.new)) }
+    ensures opens { (trees : Trees) → HasCleanDisk (state S.Store conn.new) → IsTakenAs our_schema trees (state S.Store conn.old)
+        → OnOk result (IsTrue (state S.Store conn.new).is_open) }
+    ensures stays { (trees : Trees) → HasCleanDisk (state S.Store conn.new) → IsTakenAs our_schema trees (state S.Store conn.old)
+        → OnErr result (IsTrue (state S.Store conn.new).is_open → StaysAs trees (state S.Store conn.new)) }
+    ensures strange { (trees : Trees) → HasCleanDisk (state S.Store conn.new) → IsTakenAs our_schema trees (state S.Store conn.old)
+        → IfErr result (λ e. e ≡ Refusal.NotAReplica → IsMeta trees None) }
     ensures cause { IfErr result (λ e. (e ≡ Refusal.OutOfMemory) ⊎ ((e ≡ Refusal.Store) ⊎ (e ≡ Refusal.NotAReplica))) }
 {
     match find_all(conn, alloc) {
@@ -85,10 +94,14 @@ fn find<S: Alter>(conn: &mut Connection<S>, alloc: Global) -> Result<MetaRow, Re
     requires autocommit { conn.old.in_transaction ≡ false }
     ensures autocommit { conn.new.in_transaction ≡ false }
     ensures clean { HasCleanDisk (state S.Store conn.new) → HasCleanDisk (state S.Store conn.old) }
-    ensures found { (trees : Trees) → HasCleanDisk (state S.Store conn.new) → IsTakenAs our_schema trees (state S.Store conn.old) → IfOk result (λ m. IsTrue (state S.Store conn.new).is_open → IsFound trees m (state S.Store conn.new)) }
-    ensures opens { (trees : Trees) → HasCleanDisk (state S.Store conn.new) → IsTakenAs our_schema trees (state S.Store conn.old) → OnOk result (IsTrue (state S.Store conn.new).is_open) }
-    ensures stays { (trees : Trees) → HasCleanDisk (state S.Store conn.new) → IsTakenAs our_schema trees (state S.Store conn.old) → OnErr result (IsTrue (state S.Store conn.new).is_open → StaysAs trees (state S.Store conn.new)) }
-    ensures strange { (trees : Trees) → HasCleanDisk (state S.Store conn.new) → IsTakenAs our_schema trees (state S.Store conn.old) → IfErr result (λ e. e ≡ Refusal.NotAReplica → HasNoMeta 2 trees) }
+    ensures found { (trees : Trees) → HasCleanDisk (state S.Store conn.new) → IsTakenAs our_schema trees (state S.Store conn.old)
+        → IfOk result (λ m. IsTrue (state S.Store conn.new).is_open → IsFound trees m (state S.Store conn.new)) }
+    ensures opens { (trees : Trees) → HasCleanDisk (state S.Store conn.new) → IsTakenAs our_schema trees (state S.Store conn.old)
+        → OnOk result (IsTrue (state S.Store conn.new).is_open) }
+    ensures stays { (trees : Trees) → HasCleanDisk (state S.Store conn.new) → IsTakenAs our_schema trees (state S.Store conn.old)
+        → OnErr result (IsTrue (state S.Store conn.new).is_open → StaysAs trees (state S.Store conn.new)) }
+    ensures strange { (trees : Trees) → HasCleanDisk (state S.Store conn.new) → IsTakenAs our_schema trees (state S.Store conn.old)
+        → IfErr result (λ e. e ≡ Refusal.NotAReplica → HasNoMeta 2 trees) }
     ensures cause { IfErr result (λ e. (e ≡ Refusal.OutOfMemory) ⊎ ((e ≡ Refusal.Store) ⊎ (e ≡ Refusal.NotAReplica))) }
 {
     check_number(conn, 2)?;
@@ -114,10 +127,15 @@ fn resume<S: Alter>(
     requires ours { (state S.Store conn.old).now.schema ≡ our_schema }
     ensures autocommit { conn.new.in_transaction ≡ false }
     ensures clean { HasCleanDisk (state S.Store conn.new) → HasCleanDisk (state S.Store conn.old) }
-    ensures resumed { (trees : Trees) → HasCleanDisk (state S.Store conn.new) → IsTaken trees (state S.Store conn.old) → OnOk result (IsTrue (state S.Store conn.new).is_open → IsKept (state S.Store conn.new) × IsAdopted server primary trees (state S.Store conn.new).now.trees) }
-    ensures opens { (trees : Trees) → HasCleanDisk (state S.Store conn.new) → IsTaken trees (state S.Store conn.old) → OnOk result (IsTrue (state S.Store conn.new).is_open) }
-    ensures stays { (trees : Trees) → HasCleanDisk (state S.Store conn.new) → IsTaken trees (state S.Store conn.old) → OnErr result (IsTrue (state S.Store conn.new).is_open → StaysAs trees (state S.Store conn.new)) }
-    ensures strange { (trees : Trees) → HasCleanDisk (state S.Store conn.new) → IsTaken trees (state S.Store conn.old) → IfErr result (λ e. e ≡ Refusal.NotAReplica → IsAnothers server primary trees) }
+    ensures resumed { (trees : Trees) → HasCleanDisk (state S.Store conn.new) → IsTaken trees (state S.Store conn.old)
+        → OnOk result (IsTrue (state S.Store conn.new).is_open → IsKept (state S.Store conn.new)
+        × IsAdopted server primary trees (state S.Store conn.new).now.trees) }
+    ensures opens { (trees : Trees) → HasCleanDisk (state S.Store conn.new) → IsTaken trees (state S.Store conn.old)
+        → OnOk result (IsTrue (state S.Store conn.new).is_open) }
+    ensures stays { (trees : Trees) → HasCleanDisk (state S.Store conn.new) → IsTaken trees (state S.Store conn.old)
+        → OnErr result (IsTrue (state S.Store conn.new).is_open → StaysAs trees (state S.Store conn.new)) }
+    ensures strange { (trees : Trees) → HasCleanDisk (state S.Store conn.new) → IsTaken trees (state S.Store conn.old)
+        → IfErr result (λ e. e ≡ Refusal.NotAReplica → IsAnothers server primary trees) }
     ensures cause { IfErr result (λ e. (e ≡ Refusal.OutOfMemory) ⊎ ((e ≡ Refusal.Store) ⊎ (e ≡ Refusal.NotAReplica))) }
 {
     let meta = find(conn, alloc)?;
@@ -138,11 +156,17 @@ pub(crate) fn settle<S: Alter>(
     requires autocommit { conn.old.in_transaction ≡ false }
     ensures autocommit { conn.new.in_transaction ≡ false }
     ensures clean { HasCleanDisk (state S.Store conn.new) → HasCleanDisk (state S.Store conn.old) }
-    ensures settled { (trees : Trees) → HasCleanDisk (state S.Store conn.new) → IsTaken trees (state S.Store conn.old) → OnOk result (IsTrue (state S.Store conn.new).is_open → IsKept (state S.Store conn.new) × IsAdopted server primary trees (state S.Store conn.new).now.trees) }
-    ensures opens { (trees : Trees) → HasCleanDisk (state S.Store conn.new) → IsTaken trees (state S.Store conn.old) → OnOk result (IsTrue (state S.Store conn.new).is_open) }
-    ensures stays { (trees : Trees) → HasCleanDisk (state S.Store conn.new) → IsTaken trees (state S.Store conn.old) → OnErr result (IsTrue (state S.Store conn.new).is_open → StaysAs trees (state S.Store conn.new)) }
-    ensures strange { (trees : Trees) → HasCleanDisk (state S.Store conn.new) → IsTaken trees (state S.Store conn.old) → IfErr result (λ e. e ≡ Refusal.NotAReplica → IsAnothers server primary trees) }
-    ensures store { (trees : Trees) → HasCleanDisk (state S.Store conn.new) → IsTaken trees (state S.Store conn.old) → IfErr result (λ e. e ≡ Refusal.Store → IsSound no_schema trees ⊎ AreSomebodys trees) }
+    ensures settled { (trees : Trees) → HasCleanDisk (state S.Store conn.new) → IsTaken trees (state S.Store conn.old)
+        → OnOk result (IsTrue (state S.Store conn.new).is_open → IsKept (state S.Store conn.new)
+        × IsAdopted server primary trees (state S.Store conn.new).now.trees) }
+    ensures opens { (trees : Trees) → HasCleanDisk (state S.Store conn.new) → IsTaken trees (state S.Store conn.old)
+        → OnOk result (IsTrue (state S.Store conn.new).is_open) }
+    ensures stays { (trees : Trees) → HasCleanDisk (state S.Store conn.new) → IsTaken trees (state S.Store conn.old)
+        → OnErr result (IsTrue (state S.Store conn.new).is_open → StaysAs trees (state S.Store conn.new)) }
+    ensures strange { (trees : Trees) → HasCleanDisk (state S.Store conn.new) → IsTaken trees (state S.Store conn.old)
+        → IfErr result (λ e. e ≡ Refusal.NotAReplica → IsAnothers server primary trees) }
+    ensures store { (trees : Trees) → HasCleanDisk (state S.Store conn.new) → IsTaken trees (state S.Store conn.old)
+        → IfErr result (λ e. e ≡ Refusal.Store → IsSound no_schema trees ⊎ AreSomebodys trees) }
     ensures cause { IfErr result (λ e. (e ≡ Refusal.OutOfMemory) ⊎ ((e ≡ Refusal.Store) ⊎ (e ≡ Refusal.NotAReplica))) }
 {
     if is_blank(conn) {
@@ -159,11 +183,16 @@ pub(crate) fn recover<S: Alter>(conn: &mut Connection<S>, alloc: Global) -> Resu
     requires autocommit { conn.old.in_transaction ≡ false }
     ensures autocommit { conn.new.in_transaction ≡ false }
     ensures clean { HasCleanDisk (state S.Store conn.new) → HasCleanDisk (state S.Store conn.old) }
-    ensures recovered { (trees : Trees) → HasCleanDisk (state S.Store conn.new) → IsTaken trees (state S.Store conn.old) → OnOk result (IsTrue (state S.Store conn.new).is_open → IsKept (state S.Store conn.new) × IsResumed trees (state S.Store conn.new).now.trees) }
-    ensures opens { (trees : Trees) → HasCleanDisk (state S.Store conn.new) → IsTaken trees (state S.Store conn.old) → OnOk result (IsTrue (state S.Store conn.new).is_open) }
-    ensures stays { (trees : Trees) → HasCleanDisk (state S.Store conn.new) → IsTaken trees (state S.Store conn.old) → OnErr result (IsTrue (state S.Store conn.new).is_open → StaysAs trees (state S.Store conn.new)) }
-    ensures strange { (trees : Trees) → HasCleanDisk (state S.Store conn.new) → IsTaken trees (state S.Store conn.old) → IfErr result (λ e. e ≡ Refusal.NotAReplica → IsNobodys trees) }
-    ensures store { (trees : Trees) → HasCleanDisk (state S.Store conn.new) → IsTaken trees (state S.Store conn.old) → IfErr result (λ e. e ≡ Refusal.Store → AreSomebodys trees) }
+    ensures recovered { (trees : Trees) → HasCleanDisk (state S.Store conn.new) → IsTaken trees (state S.Store conn.old)
+        → OnOk result (IsTrue (state S.Store conn.new).is_open → IsKept (state S.Store conn.new) × IsResumed trees (state S.Store conn.new).now.trees) }
+    ensures opens { (trees : Trees) → HasCleanDisk (state S.Store conn.new) → IsTaken trees (state S.Store conn.old)
+        → OnOk result (IsTrue (state S.Store conn.new).is_open) }
+    ensures stays { (trees : Trees) → HasCleanDisk (state S.Store conn.new) → IsTaken trees (state S.Store conn.old)
+        → OnErr result (IsTrue (state S.Store conn.new).is_open → StaysAs trees (state S.Store conn.new)) }
+    ensures strange { (trees : Trees) → HasCleanDisk (state S.Store conn.new) → IsTaken trees (state S.Store conn.old)
+        → IfErr result (λ e. e ≡ Refusal.NotAReplica → IsNobodys trees) }
+    ensures store { (trees : Trees) → HasCleanDisk (state S.Store conn.new) → IsTaken trees (state S.Store conn.old)
+        → IfErr result (λ e. e ≡ Refusal.Store → AreSomebodys trees) }
     ensures cause { IfErr result (λ e. (e ≡ Refusal.OutOfMemory) ⊎ ((e ≡ Refusal.Store) ⊎ (e ≡ Refusal.NotAReplica))) }
 {
     if !is_ours(conn) {

@@ -4,11 +4,11 @@ ghost use Rattle.sqlite_value.specs.declared.value.Value.TheVariants.{Null};
 ghost use Rattle.sqlite.specs.Held.{state};
 ghost use Rattle.mr_model.specs.Writes.{same_id};
 ghost use Rattle.mr_model.specs.Queries.{booking_id, error_id, cancelled_id, cancel_id};
-ghost use Rattle.mr_store.specs.Picked.{is_asked as day_is_asked, picked_errors, picked_cancelled, picked_cancels, AreBookings, IsPlaceOf};
-ghost use Rattle.mr_rows.specs.Cells.{booking_in};
-ghost use Rattle.mr_rows.specs.Kept.{tables_in};
-ghost use Rattle.mr_rows.specs.Reads.{Reads, first_of, time_cmp};
-ghost use Rattle.mr_sql.specs.Places.{AreRowsOf, AreCancelRowsOf, taken_in, chosen};
+ghost use Rattle.mr_store.specs.Picked.{is_day_asked as day_is_asked, picked_errors, picked_cancelled, picked_cancels, AreBookings, IsPlaceOf};
+ghost use Rattle.mr_rows.specs.RowCells.{booking_in};
+ghost use Rattle.mr_rows.specs.Database.{tables_in};
+ghost use Rattle.mr_rows.specs.Reads.{ReadsKept, first_of, time_cmp};
+ghost use Rattle.mr_sql.specs.PlaceOfId.{AreRowsOf, AreCancelRowsOf, taken_in, chosen};
 
 use mr_base::{Day, RoomName, WriteId};
 use mr_rows::order::sort_by_time;
@@ -28,7 +28,8 @@ pub(crate) fn rooms_of<S: Alter>(
 ) -> Result<Vec<RoomName>, Error>
     requires autocommit { conn.old.in_transaction ≡ false }
     ensures autocommit { conn.new.in_transaction ≡ false }
-    ensures reads { Reads (state S.Store conn.old) (state S.Store conn.new) result (λ rooms. IsPermutation (tables_in (state S.Store conn.old).now.trees).room rooms.items) }
+    ensures reads { ReadsKept (state S.Store conn.old) (state S.Store conn.new) result
+        (λ rooms. IsPermutation (tables_in (state S.Store conn.old).now.trees).room rooms.items) }
 {
     all_rows(conn, alloc)
 }
@@ -70,7 +71,8 @@ pub(crate) fn bookings_of<S: Alter>(
 ) -> Result<Vec<BookingRow>, Error>
     requires autocommit { conn.old.in_transaction ≡ false }
     ensures autocommit { conn.new.in_transaction ≡ false }
-    ensures reads { Reads (state S.Store conn.old) (state S.Store conn.new) result (λ rows. AreBookings room.now day (tables_in (state S.Store conn.old).now.trees) rows.items) }
+    ensures reads { ReadsKept (state S.Store conn.old) (state S.Store conn.new) result
+        (λ rows. AreBookings room.now day (tables_in (state S.Store conn.old).now.trees) rows.items) }
 {
     let rows = select_room_booking(conn, room)?;
     calendar(alloc, &rows, day)
@@ -84,7 +86,8 @@ pub(crate) fn errors_of<S: Alter>(
 ) -> Result<Vec<ErrorRow>, Error>
     requires autocommit { conn.old.in_transaction ≡ false }
     ensures autocommit { conn.new.in_transaction ≡ false }
-    ensures reads { Reads (state S.Store conn.old) (state S.Store conn.new) result (λ rows. IsPermutation (picked_errors room.now (tables_in (state S.Store conn.old).now.trees)) rows.items) }
+    ensures reads { ReadsKept (state S.Store conn.old) (state S.Store conn.new) result
+        (λ rows. IsPermutation (picked_errors room.now (tables_in (state S.Store conn.old).now.trees)) rows.items) }
 {
     let rows = select_room_error(conn, room)?;
     read_all(alloc, &rows)
@@ -98,7 +101,8 @@ pub(crate) fn cancelled_of<S: Alter>(
 ) -> Result<Vec<CancelledRow>, Error>
     requires autocommit { conn.old.in_transaction ≡ false }
     ensures autocommit { conn.new.in_transaction ≡ false }
-    ensures reads { Reads (state S.Store conn.old) (state S.Store conn.new) result (λ rows. IsPermutation (picked_cancelled room.now (tables_in (state S.Store conn.old).now.trees)) rows.items) }
+    ensures reads { ReadsKept (state S.Store conn.old) (state S.Store conn.new) result
+        (λ rows. IsPermutation (picked_cancelled room.now (tables_in (state S.Store conn.old).now.trees)) rows.items) }
 {
     let rows = select_room_cancelled(conn, room)?;
     read_all(alloc, &rows)
@@ -112,7 +116,8 @@ pub(crate) fn cancels_of<S: Alter>(
 ) -> Result<Vec<CancelRow>, Error>
     requires autocommit { conn.old.in_transaction ≡ false }
     ensures autocommit { conn.new.in_transaction ≡ false }
-    ensures reads { Reads (state S.Store conn.old) (state S.Store conn.new) result (λ rows. IsPermutation (picked_cancels room.now (tables_in (state S.Store conn.old).now.trees)) rows.items) }
+    ensures reads { ReadsKept (state S.Store conn.old) (state S.Store conn.new) result
+        (λ rows. IsPermutation (picked_cancels room.now (tables_in (state S.Store conn.old).now.trees)) rows.items) }
 {
     let rows = select_room_cancel(conn, room)?;
     read_all(alloc, &rows)
@@ -136,7 +141,8 @@ fn booking_of<S: Alter>(
 ) -> Result<Option<BookingRow>, Error>
     requires autocommit { conn.old.in_transaction ≡ false }
     ensures autocommit { conn.new.in_transaction ≡ false }
-    ensures reads { Reads (state S.Store conn.old) (state S.Store conn.new) result (λ row. row ≡ find (λ r. same_id (booking_id r) (record { server = server; n = n })) (tables_in (state S.Store conn.old).now.trees).booking) }
+    ensures reads { ReadsKept (state S.Store conn.old) (state S.Store conn.new) result
+        (λ row. row ≡ find (λ r. same_id (booking_id r) (record { server = server; n = n })) (tables_in (state S.Store conn.old).now.trees).booking) }
 {
     let rows = select_key_booking(conn, server, n)?;
     first_row(alloc, &rows)
@@ -151,7 +157,8 @@ fn error_of<S: Alter>(
 ) -> Result<Option<ErrorRow>, Error>
     requires autocommit { conn.old.in_transaction ≡ false }
     ensures autocommit { conn.new.in_transaction ≡ false }
-    ensures reads { Reads (state S.Store conn.old) (state S.Store conn.new) result (λ row. row ≡ find (λ r. same_id (error_id r) (record { server = server; n = n })) (tables_in (state S.Store conn.old).now.trees).errorlog) }
+    ensures reads { ReadsKept (state S.Store conn.old) (state S.Store conn.new) result
+        (λ row. row ≡ find (λ r. same_id (error_id r) (record { server = server; n = n })) (tables_in (state S.Store conn.old).now.trees).errorlog) }
 {
     let rows = select_key_error(conn, server, n)?;
     first_row(alloc, &rows)
@@ -166,7 +173,8 @@ fn taken_of<S: Alter>(
 ) -> Result<Option<CancelledRow>, Error>
     requires autocommit { conn.old.in_transaction ≡ false }
     ensures autocommit { conn.new.in_transaction ≡ false }
-    ensures reads { Reads (state S.Store conn.old) (state S.Store conn.new) result (λ row. row ≡ find (λ r. same_id (cancelled_id r) (record { server = server; n = n })) (tables_in (state S.Store conn.old).now.trees).cancelled) }
+    ensures reads { ReadsKept (state S.Store conn.old) (state S.Store conn.new) result
+        (λ row. row ≡ find (λ r. same_id (cancelled_id r) (record { server = server; n = n })) (tables_in (state S.Store conn.old).now.trees).cancelled) }
 {
     let rows = select_key_cancelled(conn, server, n)?;
     first_row(alloc, &rows)
@@ -181,7 +189,8 @@ fn cancel_of<S: Alter>(
 ) -> Result<Option<CancelRow>, Error>
     requires autocommit { conn.old.in_transaction ≡ false }
     ensures autocommit { conn.new.in_transaction ≡ false }
-    ensures reads { Reads (state S.Store conn.old) (state S.Store conn.new) result (λ row. row ≡ find (λ r. same_id (cancel_id r) (record { server = server; n = n })) (tables_in (state S.Store conn.old).now.trees).cancels) }
+    ensures reads { ReadsKept (state S.Store conn.old) (state S.Store conn.new) result
+        (λ row. row ≡ find (λ r. same_id (cancel_id r) (record { server = server; n = n })) (tables_in (state S.Store conn.old).now.trees).cancels) }
 {
     let rows = select_key_cancel(conn, server, n)?;
     first_row(alloc, &rows)
@@ -195,7 +204,8 @@ fn rows_of<S: Alter>(
 ) -> Result<(Option<BookingRow>, Option<ErrorRow>), Error>
     requires autocommit { conn.old.in_transaction ≡ false }
     ensures autocommit { conn.new.in_transaction ≡ false }
-    ensures reads { Reads (state S.Store conn.old) (state S.Store conn.new) result (λ rows. AreRowsOf id (tables_in (state S.Store conn.old).now.trees) rows.0 rows.1) }
+    ensures reads { ReadsKept (state S.Store conn.old) (state S.Store conn.new) result
+        (λ rows. AreRowsOf id (tables_in (state S.Store conn.old).now.trees) rows.0 rows.1) }
 {
     let (server, n) = parts_of(id);
     let booking = booking_of(conn, alloc, server, n)?;
@@ -217,7 +227,8 @@ fn cancel_rows_of<S: Alter>(
 ) -> Result<(Option<CancelledRow>, Option<CancelRow>), Error>
     requires autocommit { conn.old.in_transaction ≡ false }
     ensures autocommit { conn.new.in_transaction ≡ false }
-    ensures reads { Reads (state S.Store conn.old) (state S.Store conn.new) result (λ row. AreCancelRowsOf id (tables_in (state S.Store conn.old).now.trees) row.0 row.1) }
+    ensures reads { ReadsKept (state S.Store conn.old) (state S.Store conn.new) result
+        (λ row. AreCancelRowsOf id (tables_in (state S.Store conn.old).now.trees) row.0 row.1) }
 {
     let (server, n) = parts_of(id);
     let cancelled = taken_of(conn, alloc, server, n)?;
@@ -269,7 +280,8 @@ pub(crate) fn place_of<S: Alter>(
 ) -> Result<Option<PlaceRow>, Error>
     requires autocommit { conn.old.in_transaction ≡ false }
     ensures autocommit { conn.new.in_transaction ≡ false }
-    ensures reads { Reads (state S.Store conn.old) (state S.Store conn.new) result (λ row. IsPlaceOf room.now id (tables_in (state S.Store conn.old).now.trees) row) }
+    ensures reads { ReadsKept (state S.Store conn.old) (state S.Store conn.new) result
+        (λ row. IsPlaceOf room.now id (tables_in (state S.Store conn.old).now.trees) row) }
 {
     let rows = rows_of(conn, alloc, id)?;
     let others = cancel_rows_of(conn, alloc, id)?;

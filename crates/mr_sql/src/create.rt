@@ -2,9 +2,9 @@ ghost use Rattle.std.specs.Prelude.{◌≡◌, false, IsTrue, OnOk, OnErr};
 ghost use Rattle.sqlite.specs.State.{HasCleanDisk, KeepsCommit, Survives};
 ghost use Rattle.sqlite.specs.Held.{state};
 ghost use Rattle.mr_rows.specs.Schema.{no_schema, with_meta, with_room, with_vector, with_write_log, with_undo, with_booking, first_schema, with_log, with_cancelled, our_schema};
-ghost use Rattle.mr_rows.specs.Kept.{IsKept, IsStep, tables_in};
-ghost use Rattle.mr_rows.specs.Parts.{put_meta as meta_put};
-ghost use Rattle.mr_sql.specs.Blank.{IsBlank, Grows, no_tables};
+ghost use Rattle.mr_rows.specs.Database.{IsKept, IsTablesStep, tables_in};
+ghost use Rattle.mr_rows.specs.ChangeParts.{put_meta as meta_put};
+ghost use Rattle.mr_sql.specs.Blank.{IsBlank, GrowsSchema, no_tables};
 
 use mr_rows::puts::put_meta;
 use mr_tables::MetaRow;
@@ -12,7 +12,7 @@ use sqlite::{Alter, Connection, Error, Transaction};
 
 fn create_meta<S: Alter>(tx: &mut Transaction<'_, S>) -> Result<usize, Error>
     ensures same_reference { tx.new.conn.ghost_name ≡ tx.old.conn.ghost_name }
-    ensures grown { Grows no_schema with_meta (state S.Store tx.old.conn.now) (state S.Store tx.new.conn.now) result }
+    ensures grown { GrowsSchema no_schema with_meta (state S.Store tx.old.conn.now) (state S.Store tx.new.conn.now) result }
     ensures kept { HasCleanDisk (state S.Store tx.new.conn.now) → KeepsCommit (state S.Store tx.old.conn.now) (state S.Store tx.new.conn.now) }
     ensures survives { Survives (state S.Store tx.old.conn.now) (state S.Store tx.new.conn.now) (λ _. ⊥) }
 {
@@ -24,7 +24,7 @@ fn create_meta<S: Alter>(tx: &mut Transaction<'_, S>) -> Result<usize, Error>
 
 fn create_room<S: Alter>(tx: &mut Transaction<'_, S>) -> Result<usize, Error>
     ensures same_reference { tx.new.conn.ghost_name ≡ tx.old.conn.ghost_name }
-    ensures grown { Grows with_meta with_room (state S.Store tx.old.conn.now) (state S.Store tx.new.conn.now) result }
+    ensures grown { GrowsSchema with_meta with_room (state S.Store tx.old.conn.now) (state S.Store tx.new.conn.now) result }
     ensures kept { HasCleanDisk (state S.Store tx.new.conn.now) → KeepsCommit (state S.Store tx.old.conn.now) (state S.Store tx.new.conn.now) }
     ensures survives { Survives (state S.Store tx.old.conn.now) (state S.Store tx.new.conn.now) (λ _. ⊥) }
 {
@@ -36,7 +36,7 @@ fn create_room<S: Alter>(tx: &mut Transaction<'_, S>) -> Result<usize, Error>
 
 fn create_vector<S: Alter>(tx: &mut Transaction<'_, S>) -> Result<usize, Error>
     ensures same_reference { tx.new.conn.ghost_name ≡ tx.old.conn.ghost_name }
-    ensures grown { Grows with_room with_vector (state S.Store tx.old.conn.now) (state S.Store tx.new.conn.now) result }
+    ensures grown { GrowsSchema with_room with_vector (state S.Store tx.old.conn.now) (state S.Store tx.new.conn.now) result }
     ensures kept { HasCleanDisk (state S.Store tx.new.conn.now) → KeepsCommit (state S.Store tx.old.conn.now) (state S.Store tx.new.conn.now) }
     ensures survives { Survives (state S.Store tx.old.conn.now) (state S.Store tx.new.conn.now) (λ _. ⊥) }
 {
@@ -48,7 +48,7 @@ fn create_vector<S: Alter>(tx: &mut Transaction<'_, S>) -> Result<usize, Error>
 
 fn create_write_log<S: Alter>(tx: &mut Transaction<'_, S>) -> Result<usize, Error>
     ensures same_reference { tx.new.conn.ghost_name ≡ tx.old.conn.ghost_name }
-    ensures grown { Grows with_vector with_write_log (state S.Store tx.old.conn.now) (state S.Store tx.new.conn.now) result }
+    ensures grown { GrowsSchema with_vector with_write_log (state S.Store tx.old.conn.now) (state S.Store tx.new.conn.now) result }
     ensures kept { HasCleanDisk (state S.Store tx.new.conn.now) → KeepsCommit (state S.Store tx.old.conn.now) (state S.Store tx.new.conn.now) }
     ensures survives { Survives (state S.Store tx.old.conn.now) (state S.Store tx.new.conn.now) (λ _. ⊥) }
 {
@@ -60,7 +60,7 @@ fn create_write_log<S: Alter>(tx: &mut Transaction<'_, S>) -> Result<usize, Erro
 
 fn create_undo<S: Alter>(tx: &mut Transaction<'_, S>) -> Result<usize, Error>
     ensures same_reference { tx.new.conn.ghost_name ≡ tx.old.conn.ghost_name }
-    ensures grown { Grows with_write_log with_undo (state S.Store tx.old.conn.now) (state S.Store tx.new.conn.now) result }
+    ensures grown { GrowsSchema with_write_log with_undo (state S.Store tx.old.conn.now) (state S.Store tx.new.conn.now) result }
     ensures kept { HasCleanDisk (state S.Store tx.new.conn.now) → KeepsCommit (state S.Store tx.old.conn.now) (state S.Store tx.new.conn.now) }
     ensures survives { Survives (state S.Store tx.old.conn.now) (state S.Store tx.new.conn.now) (λ _. ⊥) }
 {
@@ -72,7 +72,7 @@ fn create_undo<S: Alter>(tx: &mut Transaction<'_, S>) -> Result<usize, Error>
 
 fn create_booking<S: Alter>(tx: &mut Transaction<'_, S>) -> Result<usize, Error>
     ensures same_reference { tx.new.conn.ghost_name ≡ tx.old.conn.ghost_name }
-    ensures grown { Grows with_undo with_booking (state S.Store tx.old.conn.now) (state S.Store tx.new.conn.now) result }
+    ensures grown { GrowsSchema with_undo with_booking (state S.Store tx.old.conn.now) (state S.Store tx.new.conn.now) result }
     ensures kept { HasCleanDisk (state S.Store tx.new.conn.now) → KeepsCommit (state S.Store tx.old.conn.now) (state S.Store tx.new.conn.now) }
     ensures survives { Survives (state S.Store tx.old.conn.now) (state S.Store tx.new.conn.now) (λ _. ⊥) }
 {
@@ -84,7 +84,7 @@ fn create_booking<S: Alter>(tx: &mut Transaction<'_, S>) -> Result<usize, Error>
 
 fn create_error<S: Alter>(tx: &mut Transaction<'_, S>) -> Result<usize, Error>
     ensures same_reference { tx.new.conn.ghost_name ≡ tx.old.conn.ghost_name }
-    ensures grown { Grows with_booking first_schema (state S.Store tx.old.conn.now) (state S.Store tx.new.conn.now) result }
+    ensures grown { GrowsSchema with_booking first_schema (state S.Store tx.old.conn.now) (state S.Store tx.new.conn.now) result }
     ensures kept { HasCleanDisk (state S.Store tx.new.conn.now) → KeepsCommit (state S.Store tx.old.conn.now) (state S.Store tx.new.conn.now) }
     ensures survives { Survives (state S.Store tx.old.conn.now) (state S.Store tx.new.conn.now) (λ _. ⊥) }
 {
@@ -96,7 +96,7 @@ fn create_error<S: Alter>(tx: &mut Transaction<'_, S>) -> Result<usize, Error>
 
 fn create_log<S: Alter>(tx: &mut Transaction<'_, S>) -> Result<usize, Error>
     ensures same_reference { tx.new.conn.ghost_name ≡ tx.old.conn.ghost_name }
-    ensures grown { Grows first_schema with_log (state S.Store tx.old.conn.now) (state S.Store tx.new.conn.now) result }
+    ensures grown { GrowsSchema first_schema with_log (state S.Store tx.old.conn.now) (state S.Store tx.new.conn.now) result }
     ensures kept { HasCleanDisk (state S.Store tx.new.conn.now) → KeepsCommit (state S.Store tx.old.conn.now) (state S.Store tx.new.conn.now) }
     ensures survives { Survives (state S.Store tx.old.conn.now) (state S.Store tx.new.conn.now) (λ _. ⊥) }
 {
@@ -108,7 +108,7 @@ fn create_log<S: Alter>(tx: &mut Transaction<'_, S>) -> Result<usize, Error>
 
 fn create_cancelled<S: Alter>(tx: &mut Transaction<'_, S>) -> Result<usize, Error>
     ensures same_reference { tx.new.conn.ghost_name ≡ tx.old.conn.ghost_name }
-    ensures grown { Grows with_log with_cancelled (state S.Store tx.old.conn.now) (state S.Store tx.new.conn.now) result }
+    ensures grown { GrowsSchema with_log with_cancelled (state S.Store tx.old.conn.now) (state S.Store tx.new.conn.now) result }
     ensures kept { HasCleanDisk (state S.Store tx.new.conn.now) → KeepsCommit (state S.Store tx.old.conn.now) (state S.Store tx.new.conn.now) }
     ensures survives { Survives (state S.Store tx.old.conn.now) (state S.Store tx.new.conn.now) (λ _. ⊥) }
 {
@@ -120,7 +120,7 @@ fn create_cancelled<S: Alter>(tx: &mut Transaction<'_, S>) -> Result<usize, Erro
 
 fn create_cancel<S: Alter>(tx: &mut Transaction<'_, S>) -> Result<usize, Error>
     ensures same_reference { tx.new.conn.ghost_name ≡ tx.old.conn.ghost_name }
-    ensures grown { Grows with_cancelled our_schema (state S.Store tx.old.conn.now) (state S.Store tx.new.conn.now) result }
+    ensures grown { GrowsSchema with_cancelled our_schema (state S.Store tx.old.conn.now) (state S.Store tx.new.conn.now) result }
     ensures kept { HasCleanDisk (state S.Store tx.new.conn.now) → KeepsCommit (state S.Store tx.old.conn.now) (state S.Store tx.new.conn.now) }
     ensures survives { Survives (state S.Store tx.old.conn.now) (state S.Store tx.new.conn.now) (λ _. ⊥) }
 {
@@ -133,7 +133,7 @@ fn create_cancel<S: Alter>(tx: &mut Transaction<'_, S>) -> Result<usize, Error>
 /// Makes the tables of the replica's numbers, its rooms and its vector.
 pub(crate) fn create_heads<S: Alter>(tx: &mut Transaction<'_, S>) -> Result<(), Error>
     ensures same_reference { tx.new.conn.ghost_name ≡ tx.old.conn.ghost_name }
-    ensures grown { Grows no_schema with_vector (state S.Store tx.old.conn.now) (state S.Store tx.new.conn.now) result }
+    ensures grown { GrowsSchema no_schema with_vector (state S.Store tx.old.conn.now) (state S.Store tx.new.conn.now) result }
     ensures kept { HasCleanDisk (state S.Store tx.new.conn.now) → KeepsCommit (state S.Store tx.old.conn.now) (state S.Store tx.new.conn.now) }
     ensures survives { Survives (state S.Store tx.old.conn.now) (state S.Store tx.new.conn.now) (λ _. ⊥) }
 {
@@ -146,7 +146,7 @@ pub(crate) fn create_heads<S: Alter>(tx: &mut Transaction<'_, S>) -> Result<(), 
 /// Makes the tables of requests as the first schema has them. In a fresh database `write_log` and `undo` stay without rows.
 pub(crate) fn create_first_rows<S: Alter>(tx: &mut Transaction<'_, S>) -> Result<(), Error>
     ensures same_reference { tx.new.conn.ghost_name ≡ tx.old.conn.ghost_name }
-    ensures grown { Grows with_vector first_schema (state S.Store tx.old.conn.now) (state S.Store tx.new.conn.now) result }
+    ensures grown { GrowsSchema with_vector first_schema (state S.Store tx.old.conn.now) (state S.Store tx.new.conn.now) result }
     ensures kept { HasCleanDisk (state S.Store tx.new.conn.now) → KeepsCommit (state S.Store tx.old.conn.now) (state S.Store tx.new.conn.now) }
     ensures survives { Survives (state S.Store tx.old.conn.now) (state S.Store tx.new.conn.now) (λ _. ⊥) }
 {
@@ -160,7 +160,7 @@ pub(crate) fn create_first_rows<S: Alter>(tx: &mut Transaction<'_, S>) -> Result
 /// Makes the tables that the second schema has beside those: of writes of either kind, of bookings that a cancel took back, and of cancels.
 fn create_second_rows<S: Alter>(tx: &mut Transaction<'_, S>) -> Result<(), Error>
     ensures same_reference { tx.new.conn.ghost_name ≡ tx.old.conn.ghost_name }
-    ensures grown { Grows first_schema our_schema (state S.Store tx.old.conn.now) (state S.Store tx.new.conn.now) result }
+    ensures grown { GrowsSchema first_schema our_schema (state S.Store tx.old.conn.now) (state S.Store tx.new.conn.now) result }
     ensures kept { HasCleanDisk (state S.Store tx.new.conn.now) → KeepsCommit (state S.Store tx.old.conn.now) (state S.Store tx.new.conn.now) }
     ensures survives { Survives (state S.Store tx.old.conn.now) (state S.Store tx.new.conn.now) (λ _. ⊥) }
 {
@@ -173,8 +173,9 @@ fn create_second_rows<S: Alter>(tx: &mut Transaction<'_, S>) -> Result<(), Error
 /// Makes the tables, and puts the row of `meta`.
 fn fill<S: Alter>(tx: &mut Transaction<'_, S>, row: &MetaRow) -> Result<(), Error>
     ensures same_reference { tx.new.conn.ghost_name ≡ tx.old.conn.ghost_name }
-    ensures filled { HasCleanDisk (state S.Store tx.new.conn.now) → IsTrue (state S.Store tx.old.conn.now).in_transaction → IsBlank no_schema (state S.Store tx.old.conn.now).now
-        → OnOk result (IsStep (state S.Store tx.old.conn.now) (state S.Store tx.new.conn.now) (meta_put row.now no_tables)) }
+    ensures filled { HasCleanDisk (state S.Store tx.new.conn.now) → IsTrue (state S.Store tx.old.conn.now).in_transaction
+        → IsBlank no_schema (state S.Store tx.old.conn.now).now
+        → OnOk result (IsTablesStep (state S.Store tx.old.conn.now) (state S.Store tx.new.conn.now) (meta_put row.now no_tables)) }
     ensures kept { HasCleanDisk (state S.Store tx.new.conn.now) → KeepsCommit (state S.Store tx.old.conn.now) (state S.Store tx.new.conn.now) }
     ensures survives { Survives (state S.Store tx.old.conn.now) (state S.Store tx.new.conn.now) (λ _. ⊥) }
 {
@@ -190,12 +191,16 @@ pub(crate) fn create<S: Alter>(conn: &mut Connection<S>, row: &MetaRow) -> Resul
     requires autocommit { conn.old.in_transaction ≡ false }
     ensures autocommit { conn.new.in_transaction ≡ false }
     ensures lasts { HasCleanDisk (state S.Store conn.new) → OnOk result (IsTrue (state S.Store conn.new).is_open) }
-    ensures kept { HasCleanDisk (state S.Store conn.new) → IsTrue (state S.Store conn.new).is_open → IsBlank no_schema (state S.Store conn.old).now → OnOk result (IsKept (state S.Store conn.new)) }
+    ensures kept { HasCleanDisk (state S.Store conn.new) → IsTrue (state S.Store conn.new).is_open → IsBlank no_schema (state S.Store conn.old).now
+        → OnOk result (IsKept (state S.Store conn.new)) }
     ensures tables { HasCleanDisk (state S.Store conn.new) → IsTrue (state S.Store conn.new).is_open → IsBlank no_schema (state S.Store conn.old).now
         → OnOk result (tables_in (state S.Store conn.new).now.trees ≡ meta_put row.now no_tables) }
-    ensures refused { HasCleanDisk (state S.Store conn.new) → IsTrue (state S.Store conn.new).is_open → IsBlank no_schema (state S.Store conn.old).now → (state S.Store conn.old).now ≡ (state S.Store conn.old).committed
-        → OnErr result (((state S.Store conn.new).now ≡ (state S.Store conn.old).now) × ((state S.Store conn.new).committed ≡ (state S.Store conn.old).committed)) }
-    ensures survives { Survives (state S.Store conn.old) (state S.Store conn.new) (λ trees. IsBlank no_schema (state S.Store conn.old).now → tables_in trees ≡ meta_put row.now no_tables) }
+    ensures refused { HasCleanDisk (state S.Store conn.new) → IsTrue (state S.Store conn.new).is_open → IsBlank no_schema (state S.Store conn.old).now
+        → (state S.Store conn.old).now ≡ (state S.Store conn.old).committed
+        → OnErr result (((state S.Store conn.new).now ≡ (state S.Store conn.old).now)
+        × ((state S.Store conn.new).committed ≡ (state S.Store conn.old).committed)) }
+    ensures survives { Survives (state S.Store conn.old) (state S.Store conn.new)
+        (λ trees. IsBlank no_schema (state S.Store conn.old).now → tables_in trees ≡ meta_put row.now no_tables) }
 {
     let mut tx = conn.transaction();
     fill(&mut tx, row)?;

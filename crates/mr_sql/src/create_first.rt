@@ -4,9 +4,9 @@ ghost use Rattle.std.specs.Prelude.{◌≡◌, false, IsTrue, OnOk};
 ghost use Rattle.sqlite.specs.State.{HasCleanDisk, KeepsCommit, Survives};
 ghost use Rattle.sqlite.specs.Held.{state};
 ghost use Rattle.mr_rows.specs.Schema.{no_schema, first_schema};
-ghost use Rattle.mr_first.specs.Kept.{IsKeptFirst, IsFirstStep, first_in};
-ghost use Rattle.mr_first.specs.Parts.{tables_put, no_first_tables};
-ghost use Rattle.mr_sql.specs.Blank.{IsBlank, Grows};
+ghost use Rattle.mr_first.specs.FirstDatabase.{IsKeptFirst, IsFirstStep, first_in};
+ghost use Rattle.mr_first.specs.FirstParts.{tables_put, no_first_tables};
+ghost use Rattle.mr_sql.specs.Blank.{IsBlank, GrowsSchema};
 
 use crate::create::{create_first_rows, create_heads};
 use mr_first::First;
@@ -17,7 +17,7 @@ use std::alloc::Global;
 /// Makes the tables of the first schema.
 fn create_tables<S: Alter>(tx: &mut Transaction<'_, S>) -> Result<(), Error>
     ensures same_reference { tx.new.conn.ghost_name ≡ tx.old.conn.ghost_name }
-    ensures grown { Grows no_schema first_schema (state S.Store tx.old.conn.now) (state S.Store tx.new.conn.now) result }
+    ensures grown { GrowsSchema no_schema first_schema (state S.Store tx.old.conn.now) (state S.Store tx.new.conn.now) result }
     ensures kept { HasCleanDisk (state S.Store tx.new.conn.now) → KeepsCommit (state S.Store tx.old.conn.now) (state S.Store tx.new.conn.now) }
     ensures survives { Survives (state S.Store tx.old.conn.now) (state S.Store tx.new.conn.now) (λ _. ⊥) }
 {
@@ -28,7 +28,8 @@ fn create_tables<S: Alter>(tx: &mut Transaction<'_, S>) -> Result<(), Error>
 /// Makes the tables, and puts these rows.
 fn fill<S: Alter>(tx: &mut Transaction<'_, S>, alloc: Global, tables: &First) -> Result<(), Error>
     ensures same_reference { tx.new.conn.ghost_name ≡ tx.old.conn.ghost_name }
-    ensures filled { HasCleanDisk (state S.Store tx.new.conn.now) → IsTrue (state S.Store tx.old.conn.now).in_transaction → IsBlank no_schema (state S.Store tx.old.conn.now).now
+    ensures filled { HasCleanDisk (state S.Store tx.new.conn.now) → IsTrue (state S.Store tx.old.conn.now).in_transaction
+        → IsBlank no_schema (state S.Store tx.old.conn.now).now
         → OnOk result (IsFirstStep (state S.Store tx.old.conn.now) (state S.Store tx.new.conn.now) (tables_put tables.now no_first_tables)) }
     ensures kept { HasCleanDisk (state S.Store tx.new.conn.now) → KeepsCommit (state S.Store tx.old.conn.now) (state S.Store tx.new.conn.now) }
     ensures survives { Survives (state S.Store tx.old.conn.now) (state S.Store tx.new.conn.now) (λ _. ⊥) }

@@ -14,3 +14,14 @@ pub(crate) fn refusal_of(error: Error) -> Refusal
         _ => Refusal::Store,
     }
 }
+
+/// The same where the store's disks are in memory, of which a call fails where memory is wanting.
+pub(crate) fn refusal_in_memory(error: Error) -> Refusal
+    ensures cause { (result ≡ Refusal.OutOfMemory) ⊎ (result ≡ Refusal.Store) }
+    ensures disk { error ≡ Error.SqliteFailure ErrorCode.SystemIoFailure → result ≡ Refusal.OutOfMemory }
+{
+    match error {
+        Error::SqliteFailure(ErrorCode::SystemIoFailure) => Refusal::OutOfMemory,
+        other => refusal_of(other),
+    }
+}

@@ -2,21 +2,25 @@
 
 ghost use Rattle.std.specs.Prelude.{◌≡◌, ◌⊎◌, false, Some, None, IfOk, IfErr, IsTrue};
 ghost use Rattle.sqlite_trees.specs.Tree.{Trees};
+ghost use Rattle.sqlite.specs.Recovery.{Image};
 ghost use Rattle.sqlite.specs.WalFiles.{image_at};
 ghost use Rattle.sqlite.specs.WalReads.{AreClean};
 ghost use Rattle.sqlite.specs.State.{HasCleanDisk};
 ghost use Rattle.sqlite.specs.Files.{file_state, image_of, IsClosed};
 ghost use Rattle.sqlite.specs.Closing.{IsCopied};
+ghost use Rattle.mr_disk.specs.Copied.{image_copied};
 ghost use Rattle.mr_sql.specs.Found.{IsAdopted, IsResumed, IsTaken, LeavesTables, StaysAs};
 ghost use Rattle.mr_sql.specs.Refused.{IsAnothers, IsFoundIn, IsNobodys};
 
-use crate::faults::refusal_of;
+use crate::faults::{refusal_in_memory, refusal_of};
+use crate::schemas::is_first;
 use crate::sql_keeper::{GivenBack, SqlKeeper};
 use mr_base::{Refusal, ServerId};
-use mr_disk::SparingFile;
-use sqlite::{Connection, FileStore, Files, Options, Start, Unknown};
-use sqlite_disk::Disk;
+use mr_disk::{Copied, SparingFile};
+use sqlite::{Connection, Error, FileStore, Files, Options, Start, Unknown};
+use sqlite_disk::{Disk, Memory};
 use sqlite_std_file::OpenError;
+use std::alloc::Global;
 use std::fs::File;
 use std::hash::{BuildHasher, RandomState};
 use std::io::ErrorKind;
@@ -28,8 +32,34 @@ pub type FileKeeper = KeeperFrom<Unknown>;
 /// A keeper whose tables lie in a file, where the type stands for what that and its log held.
 pub type KeeperFrom<B> = SqlKeeper<FileStore<SparingFile<B>>>;
 
+/// A keeper whose tables lie in a copy of a file, in memory.
+pub type CopyKeeper = SqlKeeper<FileStore<Memory>>;
+
+/// Why a copy isn't taken as a database.
+#[derive(Clone, Copy, Debug, PartialEq, Eq)]
+pub enum NotCopied {
+    Refused(Refusal),
+    /// The file has to be opened itself: its tables are of the first schema and are to be moved up, or SQLite may have it open.
+    OnlyInFile,
+}
+
 /// Why a file isn't taken as a database, with what was opened.
 pub type NotTaken<B> = (Refusal, Option<GivenBack<FileStore<SparingFile<B>>>>);
+
+// The kit's own open takes these paths for memory and a URI.
+fn is_no_path(path: &str) -> bool {
+    path == ":memory:" || path.starts_with("file:")
+}
+
+fn unopened(error: OpenError) -> Refusal
+    ensures { (result ≡ Refusal.OutOfMemory) ⊎ (result ≡ Refusal.Store) }
+{
+    match error {
+        OpenError::OutOfMemory => Refusal::OutOfMemory,
+        OpenError::Io(error) if error.kind() == ErrorKind::OutOfMemory => Refusal::OutOfMemory,
+        _ => Refusal::Store,
+    }
+}
 
 // Opens the two files. A path that the kit's own open refuses, as that of memory or a URI, is refused.
 fn open_pair<B: Start>(
@@ -42,29 +72,48 @@ fn open_pair<B: Start>(
     ensures held { IfOk result (λ files. image_of ⟦<SparingFile<B> as Disk>⟧ files ≡ image_at B.Start) }
     ensures cause { IfErr result (λ e. (e ≡ Refusal.OutOfMemory) ⊎ (e ≡ Refusal.Store)) }
 {
-    if path == ":memory:" || path.starts_with("file:") {
+    if is_no_path(path) {
         return Err(Refusal::Store);
     }
     match mr_disk::open(rt, path, start) {
         Ok(files) => Ok(files),
-        Err(OpenError::OutOfMemory) => Err(Refusal::OutOfMemory),
-        Err(OpenError::Io(error)) if error.kind() == ErrorKind::OutOfMemory => {
-            Err(Refusal::OutOfMemory)
-        }
-        Err(_) => Err(Refusal::Store),
+        Err(error) => Err(unopened(error)),
     }
 }
+
+// How many pages that were read are kept in memory. The kit takes and clears that memory when it opens a file, however small.
+const CACHE_PAGES: usize = 128;
 
 fn options(rt: &HostRuntime) -> Result<Options, Refusal>
     ensures { IfErr result (λ e. e ≡ Refusal.Store) }
 {
-    match RandomState::new(rt) {
-        Ok(state) => Ok(Options::new(state.hash_one(&0u8))),
-        Err(_) => Err(Refusal::Store),
+    let Ok(state) = RandomState::new(rt) else {
+        return Err(Refusal::Store);
+    };
+    let mut options = Options::new(state.hash_one(&0u8));
+    options.cache_pages = CACHE_PAGES;
+    Ok(options)
+}
+
+// Opens the database of these files, once: what the open finds of them says in which order its rows are.
+fn connect<D: Disk + Drop>(
+    alloc: Global,
+    files: Files<D>,
+    options: Options,
+) -> Result<Connection<FileStore<D>>, Error>
+    requires log { IsTrue (D.Disk.is_usable files.log) }
+    requires db { IsTrue (D.Disk.is_usable files.db) }
+    ensures found { IfOk result (λ c. HasCleanDisk (file_state c) → IsFoundIn (image_of D.Disk files) (file_state c).committed.trees) }
+    ensures taken { IfOk result (λ c. HasCleanDisk (file_state c) → IsTaken (file_state c).committed.trees (file_state c)) }
+    ensures autocommit { IfOk result (λ c. c.in_transaction ≡ false) }
+{
+    match Connection::open_files(alloc, files, options) {
+        Ok(conn) => Ok(conn),
+        Err((error, _)) => Err(error),
     }
 }
 
-// Opens the database, once: what the open finds of the files says in which order its rows are.
+// Opens the database at this path.
 fn open<B: Start>(
     rt: &HostRuntime,
     path: &str,
@@ -77,9 +126,50 @@ fn open<B: Start>(
 {
     let files = open_pair(rt, path, start)?;
     let options = options(rt)?;
-    match Connection::open_files(rt.alloc(), files, options) {
+    match connect(rt.alloc(), files, options) {
         Ok(conn) => Ok(conn),
-        Err((error, _)) => Err(refusal_of(error)),
+        Err(error) => Err(refusal_of(error)),
+    }
+}
+
+// Copies the two files, where they can be.
+fn copied_at(rt: &HostRuntime, path: &str) -> Result<Copied, NotCopied>
+    ensures { IfErr result (λ e. (r : _) → e ≡ NotCopied.Refused r → (r ≡ Refusal.OutOfMemory) ⊎ (r ≡ Refusal.Store)) }
+{
+    if is_no_path(path) {
+        return Err(NotCopied::Refused(Refusal::Store));
+    }
+    match mr_disk::copy_of(rt, path) {
+        Ok(Some(copied)) => Ok(copied),
+        Ok(None) => Err(NotCopied::OnlyInFile),
+        Err(error) => Err(NotCopied::Refused(unopened(error))),
+    }
+}
+
+fn disks_of(alloc: Global, copied: Copied) -> Result<Files<Memory>, Refusal>
+    ensures log { IfOk result (λ files. IsTrue (⟦<Memory as Disk>⟧.is_usable files.log)) }
+    ensures db { IfOk result (λ files. IsTrue (⟦<Memory as Disk>⟧.is_usable files.db)) }
+    ensures held { IfOk result (λ files. image_of ⟦<Memory as Disk>⟧ files ≡ image_copied copied) }
+    ensures cause { IfErr result (λ e. e ≡ Refusal.OutOfMemory) }
+{
+    match copied.into_disks(alloc) {
+        Ok(files) => Ok(files),
+        Err(_) => Err(Refusal::OutOfMemory),
+    }
+}
+
+// Opens the database of a copy.
+fn open_disks(rt: &HostRuntime, copied: Copied) -> Result<Connection<FileStore<Memory>>, Refusal>
+    ensures found { IfOk result (λ c. HasCleanDisk (file_state c) → IsFoundIn (image_copied copied) (file_state c).committed.trees) }
+    ensures taken { IfOk result (λ c. HasCleanDisk (file_state c) → IsTaken (file_state c).committed.trees (file_state c)) }
+    ensures autocommit { IfOk result (λ c. c.in_transaction ≡ false) }
+    ensures cause { IfErr result (λ e. (e ≡ Refusal.OutOfMemory) ⊎ (e ≡ Refusal.Store)) }
+{
+    let files = disks_of(rt.alloc(), copied)?;
+    let options = options(rt)?;
+    match connect(rt.alloc(), files, options) {
+        Ok(conn) => Ok(conn),
+        Err(error) => Err(refusal_in_memory(error)),
     }
 }
 
@@ -149,6 +239,48 @@ impl<B: Start> SqlKeeper<FileStore<SparingFile<B>>> {
             Ok(keeper) => Ok(keeper),
             Err((refusal, conn)) => Err((refusal, Some(GivenBack::Connection(conn)))),
         }
+    }
+}
+
+impl SqlKeeper<FileStore<Memory>> {
+    /// Opens a copy of a database's files as that of a replica, whichever it is, and refuses what `open_from` refuses. Tables of the first
+    /// schema aren't taken, since they are to be moved up in their file. What is changed in the copy is changed in no file.
+    pub fn open_copied(rt: &HostRuntime, copied: Copied) -> Result<CopyKeeper, NotCopied>
+        ensures opened { IfOk result (λ k. HasCleanDisk (file_state k.0) → IsTrue (file_state k.0).is_open
+            → (before : Trees) × IsFoundIn (image_copied copied) before × IsResumed before (file_state k.0).now.trees) }
+        ensures opens { IfOk result (λ k. HasCleanDisk (file_state k.0) → IsTrue (file_state k.0).is_open) }
+        ensures settled { IfOk result (λ k. HasCleanDisk (file_state k.0) → IsTrue (file_state k.0).is_open → LeavesTables (file_state k.0)) }
+        ensures uncounted { IfOk result (λ k. k.1 ≡ 0) }
+        ensures cause { IfErr result (λ e. (r : _) → e ≡ NotCopied.Refused r → (r ≡ Refusal.OutOfMemory) ⊎ ((r ≡ Refusal.Store) ⊎ (r ≡ Refusal.NotAReplica))) }
+    {
+        let conn = match open_disks(rt, copied) {
+            Ok(conn) => conn,
+            Err(refusal) => return Err(NotCopied::Refused(refusal)),
+        };
+        if is_first(&conn) {
+            return Err(NotCopied::OnlyInFile);
+        }
+        match SqlKeeper::recovered(rt.alloc(), conn) {
+            Ok(keeper) => Ok(keeper),
+            Err((refusal, _)) => Err(NotCopied::Refused(refusal)),
+        }
+    }
+
+    /// As `open_copied`, of what the files at the path hold as they are read, which is all that is done with them. Where there is no file,
+    /// it is refused with 26.
+    pub fn open_copy(rt: &HostRuntime, path: &str) -> Result<CopyKeeper, NotCopied>
+        ensures opened { IfOk result (λ k. HasCleanDisk (file_state k.0) → IsTrue (file_state k.0).is_open
+            → (image : Image) × (before : Trees) × IsFoundIn image before × IsResumed before (file_state k.0).now.trees) }
+        ensures opens { IfOk result (λ k. HasCleanDisk (file_state k.0) → IsTrue (file_state k.0).is_open) }
+        ensures settled { IfOk result (λ k. HasCleanDisk (file_state k.0) → IsTrue (file_state k.0).is_open → LeavesTables (file_state k.0)) }
+        ensures uncounted { IfOk result (λ k. k.1 ≡ 0) }
+        ensures cause { IfErr result (λ e. (r : _) → e ≡ NotCopied.Refused r → (r ≡ Refusal.OutOfMemory) ⊎ ((r ≡ Refusal.Store) ⊎ (r ≡ Refusal.NotAReplica))) }
+    {
+        if is_missing(rt, path) {
+            return Err(NotCopied::Refused(Refusal::NotAReplica));
+        }
+        let copied = copied_at(rt, path)?;
+        SqlKeeper::open_copied(rt, copied)
     }
 }
 

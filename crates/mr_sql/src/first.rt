@@ -7,9 +7,9 @@ ghost use Rattle.sqlite.specs.State.{HasCleanDisk};
 ghost use Rattle.sqlite.specs.Held.{state};
 ghost use Rattle.mr_model.specs.Tables.{MetaRow as model};
 ghost use Rattle.mr_rows.specs.Schema.{no_schema, first_schema, our_schema};
-ghost use Rattle.mr_rows.specs.Kept.{IsKept};
+ghost use Rattle.mr_rows.specs.Database.{IsKept};
 ghost use Rattle.mr_rows.specs.Shown.{IsMeta};
-ghost use Rattle.mr_first.specs.Kept.{IsKeptFirst};
+ghost use Rattle.mr_first.specs.FirstDatabase.{IsKeptFirst};
 ghost use Rattle.mr_sql.specs.Found.{IsTaken, IsTakenAs, IsFound, IsFoundFirst, IsAdopted, IsResumed, StaysAs};
 ghost use Rattle.mr_sql.specs.Refused.{AreSomebodys, HasNoMeta, IsAnothers, IsNobodys};
 
@@ -29,10 +29,14 @@ fn find_first_row<S: Alter>(conn: &mut Connection<S>, alloc: Global) -> Result<M
     requires autocommit { conn.old.in_transaction ≡ false }
     ensures autocommit { conn.new.in_transaction ≡ false }
     ensures clean { HasCleanDisk (state S.Store conn.new) → HasCleanDisk (state S.Store conn.old) }
-    ensures found { (trees : Trees) → HasCleanDisk (state S.Store conn.new) → IsTakenAs first_schema trees (state S.Store conn.old) → IfOk result (λ m. IsTrue (state S.Store conn.new).is_open → IsFoundFirst trees m (state S.Store conn.new)) }
-    ensures opens { (trees : Trees) → HasCleanDisk (state S.Store conn.new) → IsTakenAs first_schema trees (state S.Store conn.old) → OnOk result (IsTrue (state S.Store conn.new).is_open) }
-    ensures stays { (trees : Trees) → HasCleanDisk (state S.Store conn.new) → IsTakenAs first_schema trees (state S.Store conn.old) → OnErr result (IsTrue (state S.Store conn.new).is_open → StaysAs trees (state S.Store conn.new)) }
-    ensures strange { (trees : Trees) → HasCleanDisk (state S.Store conn.new) → IsTakenAs first_schema trees (state S.Store conn.old) → IfErr result (λ e. e ≡ Refusal.NotAReplica → IsMeta trees None) }
+    ensures found { (trees : Trees) → HasCleanDisk (state S.Store conn.new) → IsTakenAs first_schema trees (state S.Store conn.old)
+        → IfOk result (λ m. IsTrue (state S.Store conn.new).is_open → IsFoundFirst trees m (state S.Store conn.new)) }
+    ensures opens { (trees : Trees) → HasCleanDisk (state S.Store conn.new) → IsTakenAs first_schema trees (state S.Store conn.old)
+        → OnOk result (IsTrue (state S.Store conn.new).is_open) }
+    ensures stays { (trees : Trees) → HasCleanDisk (state S.Store conn.new) → IsTakenAs first_schema trees (state S.Store conn.old)
+        → OnErr result (IsTrue (state S.Store conn.new).is_open → StaysAs trees (state S.Store conn.new)) }
+    ensures strange { (trees : Trees) → HasCleanDisk (state S.Store conn.new) → IsTakenAs first_schema trees (state S.Store conn.old)
+        → IfErr result (λ e. e ≡ Refusal.NotAReplica → IsMeta trees None) }
     ensures cause { IfErr result (λ e. (e ≡ Refusal.OutOfMemory) ⊎ ((e ≡ Refusal.Store) ⊎ (e ≡ Refusal.NotAReplica))) }
 {
     match find_first(conn, alloc) {
@@ -50,10 +54,14 @@ pub(crate) fn find_old<S: Alter>(
     requires autocommit { conn.old.in_transaction ≡ false }
     ensures autocommit { conn.new.in_transaction ≡ false }
     ensures clean { HasCleanDisk (state S.Store conn.new) → HasCleanDisk (state S.Store conn.old) }
-    ensures found { (trees : Trees) → HasCleanDisk (state S.Store conn.new) → IsTakenAs first_schema trees (state S.Store conn.old) → IfOk result (λ m. IsTrue (state S.Store conn.new).is_open → IsFoundFirst trees m (state S.Store conn.new)) }
-    ensures opens { (trees : Trees) → HasCleanDisk (state S.Store conn.new) → IsTakenAs first_schema trees (state S.Store conn.old) → OnOk result (IsTrue (state S.Store conn.new).is_open) }
-    ensures stays { (trees : Trees) → HasCleanDisk (state S.Store conn.new) → IsTakenAs first_schema trees (state S.Store conn.old) → OnErr result (IsTrue (state S.Store conn.new).is_open → StaysAs trees (state S.Store conn.new)) }
-    ensures strange { (trees : Trees) → HasCleanDisk (state S.Store conn.new) → IsTakenAs first_schema trees (state S.Store conn.old) → IfErr result (λ e. e ≡ Refusal.NotAReplica → HasNoMeta 1 trees) }
+    ensures found { (trees : Trees) → HasCleanDisk (state S.Store conn.new) → IsTakenAs first_schema trees (state S.Store conn.old)
+        → IfOk result (λ m. IsTrue (state S.Store conn.new).is_open → IsFoundFirst trees m (state S.Store conn.new)) }
+    ensures opens { (trees : Trees) → HasCleanDisk (state S.Store conn.new) → IsTakenAs first_schema trees (state S.Store conn.old)
+        → OnOk result (IsTrue (state S.Store conn.new).is_open) }
+    ensures stays { (trees : Trees) → HasCleanDisk (state S.Store conn.new) → IsTakenAs first_schema trees (state S.Store conn.old)
+        → OnErr result (IsTrue (state S.Store conn.new).is_open → StaysAs trees (state S.Store conn.new)) }
+    ensures strange { (trees : Trees) → HasCleanDisk (state S.Store conn.new) → IsTakenAs first_schema trees (state S.Store conn.old)
+        → IfErr result (λ e. e ≡ Refusal.NotAReplica → HasNoMeta 1 trees) }
     ensures cause { IfErr result (λ e. (e ≡ Refusal.OutOfMemory) ⊎ ((e ≡ Refusal.Store) ⊎ (e ≡ Refusal.NotAReplica))) }
 {
     check_number(conn, 1)?;
@@ -65,9 +73,11 @@ fn raise<S: Alter>(conn: &mut Connection<S>, alloc: Global) -> Result<(), Refusa
     requires autocommit { conn.old.in_transaction ≡ false }
     ensures autocommit { conn.new.in_transaction ≡ false }
     ensures clean { HasCleanDisk (state S.Store conn.new) → HasCleanDisk (state S.Store conn.old) }
-    ensures raised { (trees : Trees) (m : model) → HasCleanDisk (state S.Store conn.new) → IsFoundFirst trees m (state S.Store conn.old) → OnOk result (IsTrue (state S.Store conn.new).is_open → IsFound trees m (state S.Store conn.new)) }
+    ensures raised { (trees : Trees) (m : model) → HasCleanDisk (state S.Store conn.new) → IsFoundFirst trees m (state S.Store conn.old)
+        → OnOk result (IsTrue (state S.Store conn.new).is_open → IsFound trees m (state S.Store conn.new)) }
     ensures opens { HasCleanDisk (state S.Store conn.new) → OnOk result (IsTrue (state S.Store conn.new).is_open) }
-    ensures stays { (trees : Trees) (m : model) → HasCleanDisk (state S.Store conn.new) → IsFoundFirst trees m (state S.Store conn.old) → OnErr result (IsTrue (state S.Store conn.new).is_open → StaysAs trees (state S.Store conn.new)) }
+    ensures stays { (trees : Trees) (m : model) → HasCleanDisk (state S.Store conn.new) → IsFoundFirst trees m (state S.Store conn.old)
+        → OnErr result (IsTrue (state S.Store conn.new).is_open → StaysAs trees (state S.Store conn.new)) }
     ensures cause { IfErr result (λ e. (e ≡ Refusal.OutOfMemory) ⊎ (e ≡ Refusal.Store)) }
 {
     match move_up(conn, alloc) {
@@ -87,10 +97,15 @@ fn resume_first<S: Alter>(
     requires first { (state S.Store conn.old).now.schema ≡ first_schema }
     ensures autocommit { conn.new.in_transaction ≡ false }
     ensures clean { HasCleanDisk (state S.Store conn.new) → HasCleanDisk (state S.Store conn.old) }
-    ensures resumed { (trees : Trees) → HasCleanDisk (state S.Store conn.new) → IsTaken trees (state S.Store conn.old) → OnOk result (IsTrue (state S.Store conn.new).is_open → IsKept (state S.Store conn.new) × IsAdopted server primary trees (state S.Store conn.new).now.trees) }
-    ensures opens { (trees : Trees) → HasCleanDisk (state S.Store conn.new) → IsTaken trees (state S.Store conn.old) → OnOk result (IsTrue (state S.Store conn.new).is_open) }
-    ensures stays { (trees : Trees) → HasCleanDisk (state S.Store conn.new) → IsTaken trees (state S.Store conn.old) → OnErr result (IsTrue (state S.Store conn.new).is_open → StaysAs trees (state S.Store conn.new)) }
-    ensures strange { (trees : Trees) → HasCleanDisk (state S.Store conn.new) → IsTaken trees (state S.Store conn.old) → IfErr result (λ e. e ≡ Refusal.NotAReplica → IsAnothers server primary trees) }
+    ensures resumed { (trees : Trees) → HasCleanDisk (state S.Store conn.new) → IsTaken trees (state S.Store conn.old)
+        → OnOk result (IsTrue (state S.Store conn.new).is_open → IsKept (state S.Store conn.new)
+        × IsAdopted server primary trees (state S.Store conn.new).now.trees) }
+    ensures opens { (trees : Trees) → HasCleanDisk (state S.Store conn.new) → IsTaken trees (state S.Store conn.old)
+        → OnOk result (IsTrue (state S.Store conn.new).is_open) }
+    ensures stays { (trees : Trees) → HasCleanDisk (state S.Store conn.new) → IsTaken trees (state S.Store conn.old)
+        → OnErr result (IsTrue (state S.Store conn.new).is_open → StaysAs trees (state S.Store conn.new)) }
+    ensures strange { (trees : Trees) → HasCleanDisk (state S.Store conn.new) → IsTaken trees (state S.Store conn.old)
+        → IfErr result (λ e. e ≡ Refusal.NotAReplica → IsAnothers server primary trees) }
     ensures cause { IfErr result (λ e. (e ≡ Refusal.OutOfMemory) ⊎ ((e ≡ Refusal.Store) ⊎ (e ≡ Refusal.NotAReplica))) }
 {
     let meta = find_old(conn, alloc)?;
@@ -113,11 +128,17 @@ pub(crate) fn settle_first<S: Alter>(
     requires others { (state S.Store conn.old).now.schema ≡ our_schema → ⊥ }
     ensures autocommit { conn.new.in_transaction ≡ false }
     ensures clean { HasCleanDisk (state S.Store conn.new) → HasCleanDisk (state S.Store conn.old) }
-    ensures settled { (trees : Trees) → HasCleanDisk (state S.Store conn.new) → IsTaken trees (state S.Store conn.old) → OnOk result (IsTrue (state S.Store conn.new).is_open → IsKept (state S.Store conn.new) × IsAdopted server primary trees (state S.Store conn.new).now.trees) }
-    ensures opens { (trees : Trees) → HasCleanDisk (state S.Store conn.new) → IsTaken trees (state S.Store conn.old) → OnOk result (IsTrue (state S.Store conn.new).is_open) }
-    ensures stays { (trees : Trees) → HasCleanDisk (state S.Store conn.new) → IsTaken trees (state S.Store conn.old) → OnErr result (IsTrue (state S.Store conn.new).is_open → StaysAs trees (state S.Store conn.new)) }
-    ensures strange { (trees : Trees) → HasCleanDisk (state S.Store conn.new) → IsTaken trees (state S.Store conn.old) → IfErr result (λ e. e ≡ Refusal.NotAReplica → IsAnothers server primary trees) }
-    ensures store { (trees : Trees) → HasCleanDisk (state S.Store conn.new) → IsTaken trees (state S.Store conn.old) → IfErr result (λ e. e ≡ Refusal.Store → AreSomebodys trees) }
+    ensures settled { (trees : Trees) → HasCleanDisk (state S.Store conn.new) → IsTaken trees (state S.Store conn.old)
+        → OnOk result (IsTrue (state S.Store conn.new).is_open → IsKept (state S.Store conn.new)
+        × IsAdopted server primary trees (state S.Store conn.new).now.trees) }
+    ensures opens { (trees : Trees) → HasCleanDisk (state S.Store conn.new) → IsTaken trees (state S.Store conn.old)
+        → OnOk result (IsTrue (state S.Store conn.new).is_open) }
+    ensures stays { (trees : Trees) → HasCleanDisk (state S.Store conn.new) → IsTaken trees (state S.Store conn.old)
+        → OnErr result (IsTrue (state S.Store conn.new).is_open → StaysAs trees (state S.Store conn.new)) }
+    ensures strange { (trees : Trees) → HasCleanDisk (state S.Store conn.new) → IsTaken trees (state S.Store conn.old)
+        → IfErr result (λ e. e ≡ Refusal.NotAReplica → IsAnothers server primary trees) }
+    ensures store { (trees : Trees) → HasCleanDisk (state S.Store conn.new) → IsTaken trees (state S.Store conn.old)
+        → IfErr result (λ e. e ≡ Refusal.Store → AreSomebodys trees) }
     ensures cause { IfErr result (λ e. (e ≡ Refusal.OutOfMemory) ⊎ ((e ≡ Refusal.Store) ⊎ (e ≡ Refusal.NotAReplica))) }
 {
     if is_first(conn) {
@@ -136,11 +157,16 @@ pub(crate) fn recover_first<S: Alter>(
     requires others { (state S.Store conn.old).now.schema ≡ our_schema → ⊥ }
     ensures autocommit { conn.new.in_transaction ≡ false }
     ensures clean { HasCleanDisk (state S.Store conn.new) → HasCleanDisk (state S.Store conn.old) }
-    ensures recovered { (trees : Trees) → HasCleanDisk (state S.Store conn.new) → IsTaken trees (state S.Store conn.old) → OnOk result (IsTrue (state S.Store conn.new).is_open → IsKept (state S.Store conn.new) × IsResumed trees (state S.Store conn.new).now.trees) }
-    ensures opens { (trees : Trees) → HasCleanDisk (state S.Store conn.new) → IsTaken trees (state S.Store conn.old) → OnOk result (IsTrue (state S.Store conn.new).is_open) }
-    ensures stays { (trees : Trees) → HasCleanDisk (state S.Store conn.new) → IsTaken trees (state S.Store conn.old) → OnErr result (IsTrue (state S.Store conn.new).is_open → StaysAs trees (state S.Store conn.new)) }
-    ensures strange { (trees : Trees) → HasCleanDisk (state S.Store conn.new) → IsTaken trees (state S.Store conn.old) → IfErr result (λ e. e ≡ Refusal.NotAReplica → IsNobodys trees) }
-    ensures store { (trees : Trees) → HasCleanDisk (state S.Store conn.new) → IsTaken trees (state S.Store conn.old) → IfErr result (λ e. e ≡ Refusal.Store → AreSomebodys trees) }
+    ensures recovered { (trees : Trees) → HasCleanDisk (state S.Store conn.new) → IsTaken trees (state S.Store conn.old)
+        → OnOk result (IsTrue (state S.Store conn.new).is_open → IsKept (state S.Store conn.new) × IsResumed trees (state S.Store conn.new).now.trees) }
+    ensures opens { (trees : Trees) → HasCleanDisk (state S.Store conn.new) → IsTaken trees (state S.Store conn.old)
+        → OnOk result (IsTrue (state S.Store conn.new).is_open) }
+    ensures stays { (trees : Trees) → HasCleanDisk (state S.Store conn.new) → IsTaken trees (state S.Store conn.old)
+        → OnErr result (IsTrue (state S.Store conn.new).is_open → StaysAs trees (state S.Store conn.new)) }
+    ensures strange { (trees : Trees) → HasCleanDisk (state S.Store conn.new) → IsTaken trees (state S.Store conn.old)
+        → IfErr result (λ e. e ≡ Refusal.NotAReplica → IsNobodys trees) }
+    ensures store { (trees : Trees) → HasCleanDisk (state S.Store conn.new) → IsTaken trees (state S.Store conn.old)
+        → IfErr result (λ e. e ≡ Refusal.Store → AreSomebodys trees) }
     ensures cause { IfErr result (λ e. (e ≡ Refusal.OutOfMemory) ⊎ ((e ≡ Refusal.Store) ⊎ (e ≡ Refusal.NotAReplica))) }
 {
     if is_first(conn) {
@@ -156,10 +182,14 @@ fn raise_any<S: Alter>(conn: &mut Connection<S>, alloc: Global) -> Result<(), Re
     requires first { (state S.Store conn.old).now.schema ≡ first_schema }
     ensures autocommit { conn.new.in_transaction ≡ false }
     ensures clean { HasCleanDisk (state S.Store conn.new) → HasCleanDisk (state S.Store conn.old) }
-    ensures raised { (trees : Trees) → HasCleanDisk (state S.Store conn.new) → IsTaken trees (state S.Store conn.old) → OnOk result (IsTrue (state S.Store conn.new).is_open → IsKept (state S.Store conn.new) × IsResumed trees (state S.Store conn.new).now.trees) }
-    ensures opens { (trees : Trees) → HasCleanDisk (state S.Store conn.new) → IsTaken trees (state S.Store conn.old) → OnOk result (IsTrue (state S.Store conn.new).is_open) }
-    ensures stays { (trees : Trees) → HasCleanDisk (state S.Store conn.new) → IsTaken trees (state S.Store conn.old) → OnErr result (IsTrue (state S.Store conn.new).is_open → StaysAs trees (state S.Store conn.new)) }
-    ensures strange { (trees : Trees) → HasCleanDisk (state S.Store conn.new) → IsTaken trees (state S.Store conn.old) → IfErr result (λ e. e ≡ Refusal.NotAReplica → IsNobodys trees) }
+    ensures raised { (trees : Trees) → HasCleanDisk (state S.Store conn.new) → IsTaken trees (state S.Store conn.old)
+        → OnOk result (IsTrue (state S.Store conn.new).is_open → IsKept (state S.Store conn.new) × IsResumed trees (state S.Store conn.new).now.trees) }
+    ensures opens { (trees : Trees) → HasCleanDisk (state S.Store conn.new) → IsTaken trees (state S.Store conn.old)
+        → OnOk result (IsTrue (state S.Store conn.new).is_open) }
+    ensures stays { (trees : Trees) → HasCleanDisk (state S.Store conn.new) → IsTaken trees (state S.Store conn.old)
+        → OnErr result (IsTrue (state S.Store conn.new).is_open → StaysAs trees (state S.Store conn.new)) }
+    ensures strange { (trees : Trees) → HasCleanDisk (state S.Store conn.new) → IsTaken trees (state S.Store conn.old)
+        → IfErr result (λ e. e ≡ Refusal.NotAReplica → IsNobodys trees) }
     ensures cause { IfErr result (λ e. (e ≡ Refusal.OutOfMemory) ⊎ ((e ≡ Refusal.Store) ⊎ (e ≡ Refusal.NotAReplica))) }
 {
     find_old(conn, alloc)?;
@@ -171,10 +201,15 @@ pub(crate) fn claim<S: Alter>(conn: &mut Connection<S>, alloc: Global) -> Result
     requires autocommit { conn.old.in_transaction ≡ false }
     ensures autocommit { conn.new.in_transaction ≡ false }
     ensures clean { HasCleanDisk (state S.Store conn.new) → HasCleanDisk (state S.Store conn.old) }
-    ensures claimed { (trees : Trees) → HasCleanDisk (state S.Store conn.new) → IsTaken trees (state S.Store conn.old) → OnOk result (IsTrue (state S.Store conn.new).is_open → IsKeptFirst (state S.Store conn.new) × IsSound first_schema trees × ((state S.Store conn.new).now.trees ≡ trees)) }
-    ensures opens { (trees : Trees) → HasCleanDisk (state S.Store conn.new) → IsTaken trees (state S.Store conn.old) → OnOk result (IsTrue (state S.Store conn.new).is_open) }
-    ensures stays { (trees : Trees) → HasCleanDisk (state S.Store conn.new) → IsTaken trees (state S.Store conn.old) → OnErr result (IsTrue (state S.Store conn.new).is_open → StaysAs trees (state S.Store conn.new)) }
-    ensures strange { (trees : Trees) → HasCleanDisk (state S.Store conn.new) → IsTaken trees (state S.Store conn.old) → IfErr result (λ e. e ≡ Refusal.NotAReplica → IsSound first_schema trees → HasNoMeta 1 trees) }
+    ensures claimed { (trees : Trees) → HasCleanDisk (state S.Store conn.new) → IsTaken trees (state S.Store conn.old)
+        → OnOk result (IsTrue (state S.Store conn.new).is_open → IsKeptFirst (state S.Store conn.new) × IsSound first_schema trees
+        × ((state S.Store conn.new).now.trees ≡ trees)) }
+    ensures opens { (trees : Trees) → HasCleanDisk (state S.Store conn.new) → IsTaken trees (state S.Store conn.old)
+        → OnOk result (IsTrue (state S.Store conn.new).is_open) }
+    ensures stays { (trees : Trees) → HasCleanDisk (state S.Store conn.new) → IsTaken trees (state S.Store conn.old)
+        → OnErr result (IsTrue (state S.Store conn.new).is_open → StaysAs trees (state S.Store conn.new)) }
+    ensures strange { (trees : Trees) → HasCleanDisk (state S.Store conn.new) → IsTaken trees (state S.Store conn.old)
+        → IfErr result (λ e. e ≡ Refusal.NotAReplica → IsSound first_schema trees → HasNoMeta 1 trees) }
     ensures cause { IfErr result (λ e. (e ≡ Refusal.OutOfMemory) ⊎ ((e ≡ Refusal.Store) ⊎ (e ≡ Refusal.NotAReplica))) }
 {
     if !is_first(conn) {

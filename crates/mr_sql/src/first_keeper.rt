@@ -8,8 +8,8 @@ ghost use Rattle.sqlite.specs.State.{HasCleanDisk};
 ghost use Rattle.sqlite.specs.Held.{state};
 ghost use Rattle.sqlite.specs.Steps.{over_memory};
 ghost use Rattle.mr_rows.specs.Schema.{first_schema};
-ghost use Rattle.mr_first.specs.Kept.{first_in};
-ghost use Rattle.mr_first.specs.Parts.{AreKeysRising};
+ghost use Rattle.mr_first.specs.FirstDatabase.{first_in};
+ghost use Rattle.mr_first.specs.FirstParts.{AreKeysRising};
 ghost use Rattle.mr_sql.specs.Found.{IsRaised, LeavesRows, LeavesTables, StaysAs};
 ghost use Rattle.mr_sql.specs.Refused.{HasNoMeta};
 
@@ -36,7 +36,7 @@ impl<S: Alter> Model for FirstKeeper<S> {
     ghost use Rattle.std.specs.Prelude.{◌≡◌, false, IsTrue};
     ghost use Rattle.sqlite.specs.State.{HasCleanDisk};
     ghost use Rattle.sqlite.specs.Held.{Held, state, held_code};
-    ghost use Rattle.mr_first.specs.Kept.{IsKeptFirst};
+    ghost use Rattle.mr_first.specs.FirstDatabase.{IsKeptFirst};
 
     ghost Value = { Held S };
 
@@ -44,7 +44,8 @@ impl<S: Alter> Model for FirstKeeper<S> {
 
     ghost view = { λ k. k.conn };
 
-    ghost invariant = { λ k. (k.conn.in_transaction ≡ false) × (HasCleanDisk (state S.Store k.conn) → IsTrue (state S.Store k.conn).is_open → IsKeptFirst (state S.Store k.conn)) };
+    ghost invariant = { λ k. (k.conn.in_transaction ≡ false)
+        × (HasCleanDisk (state S.Store k.conn) → IsTrue (state S.Store k.conn).is_open → IsKeptFirst (state S.Store k.conn)) };
 }
 
 impl FirstKeeper<MemStore> {
@@ -76,14 +77,22 @@ impl<S: Alter + Drop> FirstKeeper<S> {
         conn: Connection<S>,
     ) -> Result<FirstKeeper<S>, (Refusal, GivenBack<S>)>
         ensures opens { IfOk result (λ k. HasCleanDisk (state S.Store k) → IsTrue (state S.Store k).is_open) }
-        ensures resumed { IfOk result (λ k. HasCleanDisk (state S.Store k) → IsTrue (state S.Store k).is_open → IsSound first_schema (state S.Store conn).committed.trees × ((state S.Store k).now.trees ≡ (state S.Store conn).committed.trees)) }
+        ensures resumed { IfOk result
+            (λ k. HasCleanDisk (state S.Store k) → IsTrue (state S.Store k).is_open → IsSound first_schema (state S.Store conn).committed.trees
+            × ((state S.Store k).now.trees ≡ (state S.Store conn).committed.trees)) }
         ensures settled { IfOk result (λ k. HasCleanDisk (state S.Store k) → IsTrue (state S.Store k).is_open → LeavesRows (state S.Store k)) }
         ensures cause { IfErr result (λ e. (e.0 ≡ Refusal.OutOfMemory) ⊎ ((e.0 ≡ Refusal.Store) ⊎ (e.0 ≡ Refusal.NotAReplica))) }
         ensures clean { IfOk result (λ k. HasCleanDisk (state S.Store k) → HasCleanDisk (state S.Store conn)) }
-        ensures strange { IfErr result (λ e. e.0 ≡ Refusal.NotAReplica → (c : _) × (e.1 ≡ GivenBack.Connection c) × (HasCleanDisk (state S.Store c) → IsSound first_schema (state S.Store conn).committed.trees → HasNoMeta 1 (state S.Store conn).committed.trees)) }
+        ensures strange { IfErr result
+            (λ e. e.0 ≡ Refusal.NotAReplica → (c : _) × (e.1 ≡ GivenBack.Connection c)
+            × (HasCleanDisk (state S.Store c) → IsSound first_schema (state S.Store conn).committed.trees → HasNoMeta 1 (state S.Store conn).committed.trees)) }
         ensures was_clean { IfErr result (λ e. (c : _) → e.1 ≡ GivenBack.Connection c → HasCleanDisk (state S.Store c) → HasCleanDisk (state S.Store conn)) }
-        ensures stays { IfErr result (λ e. (c : _) → e.1 ≡ GivenBack.Connection c → HasCleanDisk (state S.Store c) → IsTrue (state S.Store c).is_open → StaysAs (state S.Store conn).committed.trees (state S.Store c)) }
-        ensures back { IfErr result (λ e. (s : _) → e.1 ≡ GivenBack.Store s → IsClean (S.Store.view s) → IsTrue (S.Store.view s).is_open → (S.Store.view s).trees ≡ (state S.Store conn).committed.trees) }
+        ensures stays { IfErr result
+            (λ e. (c : _) → e.1 ≡ GivenBack.Connection c → HasCleanDisk (state S.Store c) → IsTrue (state S.Store c).is_open
+            → StaysAs (state S.Store conn).committed.trees (state S.Store c)) }
+        ensures back { IfErr result
+            (λ e. (s : _) → e.1 ≡ GivenBack.Store s → IsClean (S.Store.view s) → IsTrue (S.Store.view s).is_open
+            → (S.Store.view s).trees ≡ (state S.Store conn).committed.trees) }
     {
         let mut conn = match retaken(alloc, conn) {
             Ok(conn) => conn,
@@ -106,7 +115,8 @@ impl<S: Alter + Drop> FirstKeeper<S> {
         ensures cause { IfErr result (λ e. (e.1 ≡ Refusal.OutOfMemory) ⊎ (e.1 ≡ Refusal.Store)) }
         ensures stays { IfErr result (λ e. HasCleanDisk (state S.Store e.0) → IsTrue (state S.Store e.0).is_open
             → ((state S.Store e.0).now ≡ (state S.Store self).now) × ((state S.Store e.0).committed ≡ (state S.Store self).committed)) }
-        ensures crash { IfErr result (λ e. HasCleanDisk (state S.Store e.0) → IsTrue (state S.Store self).is_open → (trees : Trees) → (state S.Store e.0).may_leave trees
+        ensures crash { IfErr result
+            (λ e. HasCleanDisk (state S.Store e.0) → IsTrue (state S.Store self).is_open → (trees : Trees) → (state S.Store e.0).may_leave trees
             → (state S.Store self).may_leave trees ⊎ IsRaised (state S.Store self).now.trees trees) }
         ensures clean_after { IfOk result (λ k. HasCleanDisk (state S.Store k.0) → HasCleanDisk (state S.Store self)) }
         ensures clean { IfErr result (λ e. HasCleanDisk (state S.Store e.0) → HasCleanDisk (state S.Store self)) }

@@ -22,6 +22,6 @@ mod scope_rooms;
 mod scope_rows;
 mod sql_keeper;
 
-pub use files::{FileKeeper, KeeperFrom, NotTaken};
+pub use files::{CopyKeeper, FileKeeper, KeeperFrom, NotCopied, NotTaken};
 pub use first_keeper::FirstKeeper;
 pub use sql_keeper::{GivenBack, SqlKeeper, memory_is_honest};

@@ -7,8 +7,8 @@ ghost use Rattle.mr_replica.specs.Desk.{StandsFor, IsWithinLimits};
 ghost use Rattle.mr_part.specs.Parts.{IsPartOf};
 ghost use Rattle.mr_part.specs.ScopeOf.{scope_of};
 ghost use Rattle.mr_tables.specs.Summary.{IsWithin};
-ghost use Rattle.mr_rows.specs.Kept.{tables_in};
-ghost use Rattle.mr_rows.specs.Reads.{Reads};
+ghost use Rattle.mr_rows.specs.Database.{tables_in};
+ghost use Rattle.mr_rows.specs.Reads.{ReadsKept};
 
 use crate::scope_rows::read_scope;
 use mr_base::Refusal;
@@ -34,7 +34,8 @@ fn desk_of(alloc: Global, tables: &Tables) -> Result<Desk, Error>
 pub(crate) fn load_desk<S: Alter>(conn: &mut Connection<S>, alloc: Global) -> Result<Desk, Error>
     requires autocommit { conn.old.in_transaction ≡ false }
     ensures autocommit { conn.new.in_transaction ≡ false }
-    ensures reads { Reads (state S.Store conn.old) (state S.Store conn.new) result (λ desk. (a : Replica) → Stands (tables_in (state S.Store conn.old).now.trees) a → StandsFor desk a) }
+    ensures reads { ReadsKept (state S.Store conn.old) (state S.Store conn.new) result
+        (λ desk. (a : Replica) → Stands (tables_in (state S.Store conn.old).now.trees) a → StandsFor desk a) }
     ensures within { IfOk result IsWithinLimits }
 {
     let tables = read_tables(conn, alloc)?;
@@ -42,7 +43,9 @@ pub(crate) fn load_desk<S: Alter>(conn: &mut Connection<S>, alloc: Global) -> Re
 }
 
 fn part_of(alloc: Global, scope: &Scope<'_>, tables: &Tables) -> Result<Part, Error>
-    ensures part { IfOk result (λ part. (a : Replica) → IsReplica a → in_scope (scope_of scope.now) tables.now ≡ in_scope (scope_of scope.now) (tables_of a) → IsPartOf part (scope_of scope.now) a) }
+    ensures part { IfOk result
+        (λ part. (a : Replica) → IsReplica a → in_scope (scope_of scope.now) tables.now ≡ in_scope (scope_of scope.now) (tables_of a)
+        → IsPartOf part (scope_of scope.now) a) }
     ensures within { IfOk result (λ part. IsWithin part.summary) }
 {
     match Part::from_tables(alloc, scope, tables) {
@@ -60,7 +63,8 @@ pub(crate) fn load_part<S: Alter>(
 ) -> Result<Part, Error>
     requires autocommit { conn.old.in_transaction ≡ false }
     ensures autocommit { conn.new.in_transaction ≡ false }
-    ensures reads { Reads (state S.Store conn.old) (state S.Store conn.new) result (λ part. (a : Replica) → Stands (tables_in (state S.Store conn.old).now.trees) a → IsPartOf part (scope_of scope.now) a) }
+    ensures reads { ReadsKept (state S.Store conn.old) (state S.Store conn.new) result
+        (λ part. (a : Replica) → Stands (tables_in (state S.Store conn.old).now.trees) a → IsPartOf part (scope_of scope.now) a) }
     ensures within { IfOk result (λ part. IsWithin part.summary) }
 {
     let tables = read_scope(conn, alloc, scope)?;

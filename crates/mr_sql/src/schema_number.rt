@@ -23,7 +23,9 @@ fn meta_rows<S: Alter>(conn: &mut Connection<S>) -> Result<Vec<Row>, Error>
     requires autocommit { conn.old.in_transaction ≡ false }
     ensures autocommit { conn.new.in_transaction ≡ false }
     ensures clean { HasCleanDisk (state S.Store conn.new) → HasCleanDisk (state S.Store conn.old) }
-    ensures looks { (under : Schema) → IsOfTwo under → ReadsWhere (IsPlacedIn under) (state S.Store conn.old) (state S.Store conn.new) result (λ rows. IsPermutation (map (columns_from 1 7) ((state S.Store conn.old).now.trees 0)) rows.items) }
+    ensures looks { (under : Schema) → IsOfTwo under
+        → ReadsWhere (IsPlacedIn under) (state S.Store conn.old) (state S.Store conn.new) result
+        (λ rows. IsPermutation (map (columns_from 1 7) ((state S.Store conn.old).now.trees 0)) rows.items) }
 {
     conn.query_all(
         "SELECT one, schema, server, prim, commits, dropped, clock FROM meta",
@@ -59,7 +61,9 @@ fn has_other_number<S: Alter>(conn: &mut Connection<S>, number: u32) -> Result<b
     requires autocommit { conn.old.in_transaction ≡ false }
     ensures autocommit { conn.new.in_transaction ≡ false }
     ensures clean { HasCleanDisk (state S.Store conn.new) → HasCleanDisk (state S.Store conn.old) }
-    ensures looks { (under : Schema) → IsOfTwo under → ReadsWhere (IsPlacedIn under) (state S.Store conn.old) (state S.Store conn.new) result (λ other. IsTrue other → HasOtherNumber number (state S.Store conn.old).now.trees) }
+    ensures looks { (under : Schema) → IsOfTwo under
+        → ReadsWhere (IsPlacedIn under) (state S.Store conn.old) (state S.Store conn.new) result
+        (λ other. IsTrue other → HasOtherNumber number (state S.Store conn.old).now.trees) }
 {
     let rows = meta_rows(conn)?;
     is_other_alone(&rows, number)
@@ -70,9 +74,12 @@ pub(crate) fn check_number<S: Alter>(conn: &mut Connection<S>, number: u32) -> R
     requires autocommit { conn.old.in_transaction ≡ false }
     ensures autocommit { conn.new.in_transaction ≡ false }
     ensures clean { HasCleanDisk (state S.Store conn.new) → HasCleanDisk (state S.Store conn.old) }
-    ensures taken { (under : Schema) (trees : Trees) → IsOfTwo under → HasCleanDisk (state S.Store conn.new) → IsTakenAs under trees (state S.Store conn.old) → OnOk result (IsTakenAs under trees (state S.Store conn.new)) }
-    ensures stays { (under : Schema) (trees : Trees) → IsOfTwo under → HasCleanDisk (state S.Store conn.new) → IsTakenAs under trees (state S.Store conn.old) → OnErr result (IsTrue (state S.Store conn.new).is_open → StaysAs trees (state S.Store conn.new)) }
-    ensures strange { (under : Schema) (trees : Trees) → IsOfTwo under → HasCleanDisk (state S.Store conn.new) → IsTakenAs under trees (state S.Store conn.old) → IfErr result (λ e. e ≡ Refusal.NotAReplica → HasOtherNumber number trees) }
+    ensures taken { (under : Schema) (trees : Trees) → IsOfTwo under → HasCleanDisk (state S.Store conn.new) → IsTakenAs under trees (state S.Store conn.old)
+        → OnOk result (IsTakenAs under trees (state S.Store conn.new)) }
+    ensures stays { (under : Schema) (trees : Trees) → IsOfTwo under → HasCleanDisk (state S.Store conn.new) → IsTakenAs under trees (state S.Store conn.old)
+        → OnErr result (IsTrue (state S.Store conn.new).is_open → StaysAs trees (state S.Store conn.new)) }
+    ensures strange { (under : Schema) (trees : Trees) → IsOfTwo under → HasCleanDisk (state S.Store conn.new) → IsTakenAs under trees (state S.Store conn.old)
+        → IfErr result (λ e. e ≡ Refusal.NotAReplica → HasOtherNumber number trees) }
     ensures cause { IfErr result (λ e. (e ≡ Refusal.OutOfMemory) ⊎ ((e ≡ Refusal.Store) ⊎ (e ≡ Refusal.NotAReplica))) }
 {
     match has_other_number(conn, number) {

@@ -4,7 +4,7 @@ ghost use Rattle.std.specs.Prelude.{◌≡◌, [], ◌∷◌, IsTrue, false, map
 ghost use Rattle.sqlite_value.specs.Keys.{plain};
 ghost use Rattle.sqlite.specs.Held.{state};
 ghost use Rattle.mr_rows.specs.Schema.{no_schema, column_of, first_schema, our_schema};
-ghost use Rattle.mr_sql.specs.Told.{IsPlainTable, table_told, index_told, schema_told};
+ghost use Rattle.mr_sql.specs.OurSchema.{IsPlainTable, table_told, index_told, schema_told};
 
 use crate::our_tables::{OURS, Wanted};
 use sqlite::{Alter, Connection};

@@ -3,7 +3,7 @@ ghost use Rattle.mr_base.specs.Batches.{item_of};
 ghost use Rattle.mr_model.specs.Scopes.{in_scope, log_row_id};
 ghost use Rattle.mr_model.specs.Tables.{LogRow as Row};
 ghost use Rattle.mr_part.specs.ScopeOf.{scope_of};
-ghost use Rattle.mr_sql.specs.Questions.{tentative_question, item_questions, log_questions, logs_alone, room_questions, target_questions, taken_questions};
+ghost use Rattle.mr_sql.specs.ScopeQuestions.{tentative_question, item_questions, log_questions, logs_alone, room_questions, target_questions, taken_questions};
 ghost use Rattle.mr_rows.specs.declared.questions.LogQuestion.TheVariants as asked;
 
 use mr_base::{Item, Refusal, WriteId};
@@ -36,7 +36,8 @@ fn rows_up_to(alloc: Global, number: u64, commits: u64) -> Result<Vec<LogQuestio
 
 /// For the tentative rows and those of the commits above this number, where so many are known.
 fn rows_above(alloc: Global, number: u64, commits: u64) -> Result<Vec<LogQuestion>, AllocError>
-    ensures { IfOk result (λ questions. questions.items ≡ (if nat_lt number commits then tentative_question ∷ asked.Between (number + 1) commits ∷ [] else tentative_question ∷ [])) }
+    ensures { IfOk result (λ questions. questions.items ≡
+        (if nat_lt number commits then tentative_question ∷ asked.Between (number + 1) commits ∷ [] else tentative_question ∷ [])) }
 {
     let mut questions = tentative_rows(alloc)?;
     if number < commits {

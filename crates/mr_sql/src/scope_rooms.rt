@@ -1,7 +1,7 @@
 ghost use Rattle.std.specs.Prelude.{◌≡◌, ◌∷◌, [], IfOk};
 ghost use Rattle.mr_replica.specs.Sets.{AreSameRooms};
 ghost use Rattle.mr_part.specs.ScopeOf.{scope_of};
-ghost use Rattle.mr_sql.specs.Questions.{room_questions};
+ghost use Rattle.mr_sql.specs.ScopeQuestions.{room_questions};
 
 use mr_base::{Refusal, RoomName};
 use mr_part::{Scope, touched_rooms};

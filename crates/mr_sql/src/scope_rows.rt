@@ -1,10 +1,10 @@
 ghost use Rattle.std.specs.Prelude.{◌≡◌, false, filter};
 ghost use Rattle.sqlite.specs.Held.{state};
 ghost use Rattle.mr_part.specs.ScopeOf.{scope_of};
-ghost use Rattle.mr_rows.specs.Kept.{tables_in};
-ghost use Rattle.mr_rows.specs.RowQuestions.{is_asked, is_log_asked, is_booking_asked, is_cancelled_asked, is_booking_of, is_error_of, is_cancelled_of};
-ghost use Rattle.mr_sql.specs.Questions.{log_questions, room_questions, target_questions, taken_questions, asks_booking, asks_cancelled, ArePlacesRead, AreRead, AreEnough};
-ghost use Rattle.mr_rows.specs.Reads.{Reads, ReadsInUse};
+ghost use Rattle.mr_rows.specs.Database.{tables_in};
+ghost use Rattle.mr_rows.specs.RowQuestions.{is_row_asked, is_log_asked, is_booking_asked, is_cancelled_asked, is_booking_named, is_error_of, is_cancelled_of};
+ghost use Rattle.mr_sql.specs.ScopeQuestions.{log_questions, room_questions, target_questions, taken_questions, asks_booking, asks_cancelled, ArePlacesRead, AreRead, AreEnough};
+ghost use Rattle.mr_rows.specs.Reads.{ReadsKept, ReadsInUse};
 
 use crate::scope_questions::{
     asks_by_id, log_questions, taken_questions, takes_by_id, target_questions,
@@ -25,7 +25,9 @@ fn read_logs<S: Alter>(
 ) -> Result<Vec<LogRow>, Error>
     requires autocommit { conn.old.in_transaction ≡ false }
     ensures autocommit { conn.new.in_transaction ≡ false }
-    ensures reads { ReadsInUse (state S.Store conn.old) (state S.Store conn.new) result (λ rows. rows.items ≡ filter (is_asked is_log_asked (log_questions commits (scope_of scope.now))) (tables_in (state S.Store conn.old).now.trees).log) }
+    ensures reads { ReadsInUse (state S.Store conn.old) (state S.Store conn.new) result
+        (λ rows. rows.items ≡ filter (is_row_asked is_log_asked (log_questions commits (scope_of scope.now)))
+        (tables_in (state S.Store conn.old).now.trees).log) }
 {
     let questions = log_questions(alloc, scope, commits)?;
     asked_rows(conn, alloc, &questions)
@@ -41,7 +43,9 @@ fn read_room_bookings<S: Alter>(
 ) -> Result<Vec<BookingRow>, Error>
     requires autocommit { conn.old.in_transaction ≡ false }
     ensures autocommit { conn.new.in_transaction ≡ false }
-    ensures reads { ReadsInUse (state S.Store conn.old) (state S.Store conn.new) result (λ rows. rows.items ≡ filter (is_asked is_booking_asked (room_questions commits (scope_of scope.now) logs.now)) (tables_in (state S.Store conn.old).now.trees).booking) }
+    ensures reads { ReadsInUse (state S.Store conn.old) (state S.Store conn.new) result
+        (λ rows. rows.items ≡ filter (is_row_asked is_booking_asked (room_questions commits (scope_of scope.now) logs.now))
+        (tables_in (state S.Store conn.old).now.trees).booking) }
 {
     match room_questions(alloc, scope, logs, commits) {
         Ok(asked) => asked_rows(conn, alloc, &asked),
@@ -57,7 +61,9 @@ fn read_target_booking<S: Alter>(
 ) -> Result<Vec<BookingRow>, Error>
     requires autocommit { conn.old.in_transaction ≡ false }
     ensures autocommit { conn.new.in_transaction ≡ false }
-    ensures reads { ReadsInUse (state S.Store conn.old) (state S.Store conn.new) result (λ rows. rows.items ≡ filter (is_asked is_booking_of (target_questions (scope_of scope.now))) (tables_in (state S.Store conn.old).now.trees).booking) }
+    ensures reads { ReadsInUse (state S.Store conn.old) (state S.Store conn.new) result
+        (λ rows. rows.items ≡ filter (is_row_asked is_booking_named (target_questions (scope_of scope.now)))
+        (tables_in (state S.Store conn.old).now.trees).booking) }
 {
     let asked = target_questions(alloc, scope)?;
     asked_rows(conn, alloc, &asked)
@@ -73,7 +79,8 @@ fn read_bookings<S: Alter>(
 ) -> Result<Vec<BookingRow>, Error>
     requires autocommit { conn.old.in_transaction ≡ false }
     ensures autocommit { conn.new.in_transaction ≡ false }
-    ensures reads { ReadsInUse (state S.Store conn.old) (state S.Store conn.new) result (λ rows. rows.items ≡ filter (asks_booking commits (scope_of scope.now) logs.now) (tables_in (state S.Store conn.old).now.trees).booking) }
+    ensures reads { ReadsInUse (state S.Store conn.old) (state S.Store conn.new) result
+        (λ rows. rows.items ≡ filter (asks_booking commits (scope_of scope.now) logs.now) (tables_in (state S.Store conn.old).now.trees).booking) }
 {
     if asks_by_id(scope) {
         read_target_booking(conn, alloc, scope)
@@ -90,7 +97,9 @@ fn read_errors<S: Alter>(
 ) -> Result<Vec<ErrorRow>, Error>
     requires autocommit { conn.old.in_transaction ≡ false }
     ensures autocommit { conn.new.in_transaction ≡ false }
-    ensures reads { ReadsInUse (state S.Store conn.old) (state S.Store conn.new) result (λ rows. rows.items ≡ filter (is_asked is_error_of (target_questions (scope_of scope.now))) (tables_in (state S.Store conn.old).now.trees).errorlog) }
+    ensures reads { ReadsInUse (state S.Store conn.old) (state S.Store conn.new) result
+        (λ rows. rows.items ≡ filter (is_row_asked is_error_of (target_questions (scope_of scope.now)))
+        (tables_in (state S.Store conn.old).now.trees).errorlog) }
 {
     let asked = target_questions(alloc, scope)?;
     asked_rows(conn, alloc, &asked)
@@ -106,7 +115,9 @@ fn read_room_cancelled<S: Alter>(
 ) -> Result<Vec<CancelledRow>, Error>
     requires autocommit { conn.old.in_transaction ≡ false }
     ensures autocommit { conn.new.in_transaction ≡ false }
-    ensures reads { ReadsInUse (state S.Store conn.old) (state S.Store conn.new) result (λ rows. rows.items ≡ filter (is_asked is_cancelled_asked (room_questions commits (scope_of scope.now) logs.now)) (tables_in (state S.Store conn.old).now.trees).cancelled) }
+    ensures reads { ReadsInUse (state S.Store conn.old) (state S.Store conn.new) result
+        (λ rows. rows.items ≡ filter (is_row_asked is_cancelled_asked (room_questions commits (scope_of scope.now) logs.now))
+        (tables_in (state S.Store conn.old).now.trees).cancelled) }
 {
     match room_questions(alloc, scope, logs, commits) {
         Ok(asked) => asked_rows(conn, alloc, &asked),
@@ -124,7 +135,9 @@ fn read_taken<S: Alter>(
 ) -> Result<Vec<CancelledRow>, Error>
     requires autocommit { conn.old.in_transaction ≡ false }
     ensures autocommit { conn.new.in_transaction ≡ false }
-    ensures reads { ReadsInUse (state S.Store conn.old) (state S.Store conn.new) result (λ rows. rows.items ≡ filter (is_asked is_cancelled_of (taken_questions commits (scope_of scope.now) logs.now)) (tables_in (state S.Store conn.old).now.trees).cancelled) }
+    ensures reads { ReadsInUse (state S.Store conn.old) (state S.Store conn.new) result
+        (λ rows. rows.items ≡ filter (is_row_asked is_cancelled_of (taken_questions commits (scope_of scope.now) logs.now))
+        (tables_in (state S.Store conn.old).now.trees).cancelled) }
 {
     match taken_questions(alloc, scope, logs, commits) {
         Ok(asked) => asked_rows(conn, alloc, &asked),
@@ -142,7 +155,8 @@ fn read_cancelled<S: Alter>(
 ) -> Result<Vec<CancelledRow>, Error>
     requires autocommit { conn.old.in_transaction ≡ false }
     ensures autocommit { conn.new.in_transaction ≡ false }
-    ensures reads { ReadsInUse (state S.Store conn.old) (state S.Store conn.new) result (λ rows. rows.items ≡ filter (asks_cancelled commits (scope_of scope.now) logs.now) (tables_in (state S.Store conn.old).now.trees).cancelled) }
+    ensures reads { ReadsInUse (state S.Store conn.old) (state S.Store conn.new) result
+        (λ rows. rows.items ≡ filter (asks_cancelled commits (scope_of scope.now) logs.now) (tables_in (state S.Store conn.old).now.trees).cancelled) }
 {
     if takes_by_id(scope) {
         read_taken(conn, alloc, scope, logs, commits)
@@ -161,7 +175,8 @@ fn read_places<S: Alter>(
 ) -> Result<(Vec<BookingRow>, Vec<ErrorRow>, Vec<CancelledRow>), Error>
     requires autocommit { conn.old.in_transaction ≡ false }
     ensures autocommit { conn.new.in_transaction ≡ false }
-    ensures reads { ReadsInUse (state S.Store conn.old) (state S.Store conn.new) result (λ rows. ArePlacesRead commits (scope_of scope.now) (tables_in (state S.Store conn.old).now.trees) logs.now rows.0.items rows.1.items rows.2.items) }
+    ensures reads { ReadsInUse (state S.Store conn.old) (state S.Store conn.new) result
+        (λ rows. ArePlacesRead commits (scope_of scope.now) (tables_in (state S.Store conn.old).now.trees) logs.now rows.0.items rows.1.items rows.2.items) }
 {
     let booking = read_bookings(conn, alloc, scope, logs, commits)?;
     let errorlog = read_errors(conn, alloc, scope)?;
@@ -184,7 +199,9 @@ fn read_rows<S: Alter>(
 >
     requires autocommit { conn.old.in_transaction ≡ false }
     ensures autocommit { conn.new.in_transaction ≡ false }
-    ensures reads { ReadsInUse (state S.Store conn.old) (state S.Store conn.new) result (λ rows. AreRead commits (scope_of scope.now) (tables_in (state S.Store conn.old).now.trees) rows.0.items rows.1.0.items rows.1.1.items rows.1.2.items) }
+    ensures reads { ReadsInUse (state S.Store conn.old) (state S.Store conn.new) result
+        (λ rows. AreRead commits (scope_of scope.now)
+        (tables_in (state S.Store conn.old).now.trees) rows.0.items rows.1.0.items rows.1.1.items rows.1.2.items) }
 {
     let logs = read_logs(conn, alloc, scope, commits)?;
     let places = read_places(conn, alloc, scope, &logs, commits)?;
@@ -206,7 +223,8 @@ pub(crate) fn read_scope<S: Alter>(
 ) -> Result<Tables, Error>
     requires autocommit { conn.old.in_transaction ≡ false }
     ensures autocommit { conn.new.in_transaction ≡ false }
-    ensures reads { Reads (state S.Store conn.old) (state S.Store conn.new) result (λ tables. AreEnough (scope_of scope.now) (tables_in (state S.Store conn.old).now.trees) tables) }
+    ensures reads { ReadsKept (state S.Store conn.old) (state S.Store conn.new) result
+        (λ tables. AreEnough (scope_of scope.now) (tables_in (state S.Store conn.old).now.trees) tables) }
 {
     let heads = read_heads(conn, alloc)?;
     let rows = read_rows(conn, alloc, scope, commits_of(&heads.0))?;

@@ -5,10 +5,10 @@ ghost use Rattle.sqlite.specs.State.{HasCleanDisk};
 ghost use Rattle.sqlite.specs.Held.{state};
 ghost use Rattle.mr_model.specs.Replica.{opening};
 ghost use Rattle.mr_model.specs.Tables.{Stands};
-ghost use Rattle.mr_store.specs.Kept.{failures_for};
+ghost use Rattle.mr_store.specs.KeeperCalls.{failures_for};
 ghost use Rattle.sqlite_catalog.specs.Listing.{IsSound};
 ghost use Rattle.mr_rows.specs.Schema.{no_schema};
-ghost use Rattle.mr_rows.specs.Kept.{IsKept, tables_in};
+ghost use Rattle.mr_rows.specs.Database.{IsKept, tables_in};
 ghost use Rattle.mr_sql.specs.Found.{IsAdopted, IsResumed, IsTaken, LeavesTables, StaysAs};
 ghost use Rattle.mr_sql.specs.Refused.{AreSomebodys, IsAnothers, IsNobodys};
 
@@ -41,7 +41,7 @@ impl<S: Alter> Model for SqlKeeper<S> {
     ghost use Rattle.std.specs.Coded.{coded×, coded_ℕ};
     ghost use Rattle.sqlite.specs.State.{HasCleanDisk};
     ghost use Rattle.sqlite.specs.Held.{Held, state, held_code};
-    ghost use Rattle.mr_rows.specs.Kept.{IsKept};
+    ghost use Rattle.mr_rows.specs.Database.{IsKept};
 
     ghost Value = { Held S × ℕ };
 
@@ -49,7 +49,8 @@ impl<S: Alter> Model for SqlKeeper<S> {
 
     ghost view = { λ k. (k.conn, k.failures) };
 
-    ghost invariant = { λ k. (k.conn.in_transaction ≡ false) × (HasCleanDisk (state S.Store k.conn) → IsTrue (state S.Store k.conn).is_open → IsKept (state S.Store k.conn)) };
+    ghost invariant = { λ k. (k.conn.in_transaction ≡ false)
+        × (HasCleanDisk (state S.Store k.conn) → IsTrue (state S.Store k.conn).is_open → IsKept (state S.Store k.conn)) };
 }
 
 /// The fault that an error is, counted where the store failed. A count that is full is told as want of memory.
@@ -69,7 +70,7 @@ impl<S: Alter> Keeper for SqlKeeper<S> {
     ghost use Rattle.sqlite_trees.specs.Tree.{Trees};
     ghost use Rattle.sqlite.specs.State.{HasCleanDisk};
     ghost use Rattle.sqlite.specs.Held.{state};
-    ghost use Rattle.mr_rows.specs.Kept.{tables_in};
+    ghost use Rattle.mr_rows.specs.Database.{tables_in};
 
     ghost tables = { λ k. tables_in (state S.Store k.0).now.trees };
 
@@ -211,16 +212,26 @@ impl<S: Alter + Drop> SqlKeeper<S> {
         primary: ServerId,
     ) -> Result<SqlKeeper<S>, (Refusal, GivenBack<S>)>
         ensures opens { IfOk result (λ k. HasCleanDisk (state S.Store k.0) → IsTrue (state S.Store k.0).is_open) }
-        ensures adopted { IfOk result (λ k. HasCleanDisk (state S.Store k.0) → IsTrue (state S.Store k.0).is_open → IsAdopted server primary (state S.Store conn).committed.trees (state S.Store k.0).now.trees) }
+        ensures adopted { IfOk result
+            (λ k. HasCleanDisk (state S.Store k.0) → IsTrue (state S.Store k.0).is_open
+            → IsAdopted server primary (state S.Store conn).committed.trees (state S.Store k.0).now.trees) }
         ensures settled { IfOk result (λ k. HasCleanDisk (state S.Store k.0) → IsTrue (state S.Store k.0).is_open → LeavesTables (state S.Store k.0)) }
         ensures uncounted { IfOk result (λ k. k.1 ≡ 0) }
         ensures cause { IfErr result (λ e. (e.0 ≡ Refusal.OutOfMemory) ⊎ ((e.0 ≡ Refusal.Store) ⊎ (e.0 ≡ Refusal.NotAReplica))) }
         ensures clean { IfOk result (λ k. HasCleanDisk (state S.Store k.0) → HasCleanDisk (state S.Store conn)) }
-        ensures strange { IfErr result (λ e. e.0 ≡ Refusal.NotAReplica → (c : _) × (e.1 ≡ GivenBack.Connection c) × (HasCleanDisk (state S.Store c) → IsAnothers server primary (state S.Store conn).committed.trees)) }
-        ensures store { IfErr result (λ e. (c : _) → e.1 ≡ GivenBack.Connection c → e.0 ≡ Refusal.Store → HasCleanDisk (state S.Store c) → IsSound no_schema (state S.Store conn).committed.trees ⊎ AreSomebodys (state S.Store conn).committed.trees) }
+        ensures strange { IfErr result
+            (λ e. e.0 ≡ Refusal.NotAReplica → (c : _) × (e.1 ≡ GivenBack.Connection c)
+            × (HasCleanDisk (state S.Store c) → IsAnothers server primary (state S.Store conn).committed.trees)) }
+        ensures store { IfErr result
+            (λ e. (c : _) → e.1 ≡ GivenBack.Connection c → e.0 ≡ Refusal.Store → HasCleanDisk (state S.Store c)
+            → IsSound no_schema (state S.Store conn).committed.trees ⊎ AreSomebodys (state S.Store conn).committed.trees) }
         ensures was_clean { IfErr result (λ e. (c : _) → e.1 ≡ GivenBack.Connection c → HasCleanDisk (state S.Store c) → HasCleanDisk (state S.Store conn)) }
-        ensures stays { IfErr result (λ e. (c : _) → e.1 ≡ GivenBack.Connection c → HasCleanDisk (state S.Store c) → IsTrue (state S.Store c).is_open → StaysAs (state S.Store conn).committed.trees (state S.Store c)) }
-        ensures back { IfErr result (λ e. (s : _) → e.1 ≡ GivenBack.Store s → IsClean (S.Store.view s) → IsTrue (S.Store.view s).is_open → (S.Store.view s).trees ≡ (state S.Store conn).committed.trees) }
+        ensures stays { IfErr result
+            (λ e. (c : _) → e.1 ≡ GivenBack.Connection c → HasCleanDisk (state S.Store c) → IsTrue (state S.Store c).is_open
+            → StaysAs (state S.Store conn).committed.trees (state S.Store c)) }
+        ensures back { IfErr result
+            (λ e. (s : _) → e.1 ≡ GivenBack.Store s → IsClean (S.Store.view s) → IsTrue (S.Store.view s).is_open
+            → (S.Store.view s).trees ≡ (state S.Store conn).committed.trees) }
     {
         let conn = match retaken(alloc, conn) {
             Ok(conn) => conn,
@@ -239,16 +250,26 @@ impl<S: Alter + Drop> SqlKeeper<S> {
         conn: Connection<S>,
     ) -> Result<SqlKeeper<S>, (Refusal, GivenBack<S>)>
         ensures opens { IfOk result (λ k. HasCleanDisk (state S.Store k.0) → IsTrue (state S.Store k.0).is_open) }
-        ensures resumed { IfOk result (λ k. HasCleanDisk (state S.Store k.0) → IsTrue (state S.Store k.0).is_open → IsResumed (state S.Store conn).committed.trees (state S.Store k.0).now.trees) }
+        ensures resumed { IfOk result
+            (λ k. HasCleanDisk (state S.Store k.0) → IsTrue (state S.Store k.0).is_open
+            → IsResumed (state S.Store conn).committed.trees (state S.Store k.0).now.trees) }
         ensures settled { IfOk result (λ k. HasCleanDisk (state S.Store k.0) → IsTrue (state S.Store k.0).is_open → LeavesTables (state S.Store k.0)) }
         ensures uncounted { IfOk result (λ k. k.1 ≡ 0) }
         ensures cause { IfErr result (λ e. (e.0 ≡ Refusal.OutOfMemory) ⊎ ((e.0 ≡ Refusal.Store) ⊎ (e.0 ≡ Refusal.NotAReplica))) }
         ensures clean { IfOk result (λ k. HasCleanDisk (state S.Store k.0) → HasCleanDisk (state S.Store conn)) }
-        ensures strange { IfErr result (λ e. e.0 ≡ Refusal.NotAReplica → (c : _) × (e.1 ≡ GivenBack.Connection c) × (HasCleanDisk (state S.Store c) → IsNobodys (state S.Store conn).committed.trees)) }
-        ensures store { IfErr result (λ e. (c : _) → e.1 ≡ GivenBack.Connection c → e.0 ≡ Refusal.Store → HasCleanDisk (state S.Store c) → AreSomebodys (state S.Store conn).committed.trees) }
+        ensures strange { IfErr result
+            (λ e. e.0 ≡ Refusal.NotAReplica → (c : _) × (e.1 ≡ GivenBack.Connection c)
+            × (HasCleanDisk (state S.Store c) → IsNobodys (state S.Store conn).committed.trees)) }
+        ensures store { IfErr result
+            (λ e. (c : _) → e.1 ≡ GivenBack.Connection c → e.0 ≡ Refusal.Store → HasCleanDisk (state S.Store c)
+            → AreSomebodys (state S.Store conn).committed.trees) }
         ensures was_clean { IfErr result (λ e. (c : _) → e.1 ≡ GivenBack.Connection c → HasCleanDisk (state S.Store c) → HasCleanDisk (state S.Store conn)) }
-        ensures stays { IfErr result (λ e. (c : _) → e.1 ≡ GivenBack.Connection c → HasCleanDisk (state S.Store c) → IsTrue (state S.Store c).is_open → StaysAs (state S.Store conn).committed.trees (state S.Store c)) }
-        ensures back { IfErr result (λ e. (s : _) → e.1 ≡ GivenBack.Store s → IsClean (S.Store.view s) → IsTrue (S.Store.view s).is_open → (S.Store.view s).trees ≡ (state S.Store conn).committed.trees) }
+        ensures stays { IfErr result
+            (λ e. (c : _) → e.1 ≡ GivenBack.Connection c → HasCleanDisk (state S.Store c) → IsTrue (state S.Store c).is_open
+            → StaysAs (state S.Store conn).committed.trees (state S.Store c)) }
+        ensures back { IfErr result
+            (λ e. (s : _) → e.1 ≡ GivenBack.Store s → IsClean (S.Store.view s) → IsTrue (S.Store.view s).is_open
+            → (S.Store.view s).trees ≡ (state S.Store conn).committed.trees) }
     {
         let conn = match retaken(alloc, conn) {
             Ok(conn) => conn,
@@ -285,15 +306,21 @@ impl<S: Alter> SqlKeeper<S> {
         requires autocommit { conn.in_transaction ≡ false }
         requires taken { HasCleanDisk (state S.Store conn) → IsTaken (state S.Store conn).committed.trees (state S.Store conn) }
         ensures opens { IfOk result (λ k. HasCleanDisk (state S.Store k.0) → IsTrue (state S.Store k.0).is_open) }
-        ensures adopted { IfOk result (λ k. HasCleanDisk (state S.Store k.0) → IsTrue (state S.Store k.0).is_open → IsAdopted server primary (state S.Store conn).committed.trees (state S.Store k.0).now.trees) }
+        ensures adopted { IfOk result
+            (λ k. HasCleanDisk (state S.Store k.0) → IsTrue (state S.Store k.0).is_open
+            → IsAdopted server primary (state S.Store conn).committed.trees (state S.Store k.0).now.trees) }
         ensures settled { IfOk result (λ k. HasCleanDisk (state S.Store k.0) → IsTrue (state S.Store k.0).is_open → LeavesTables (state S.Store k.0)) }
         ensures uncounted { IfOk result (λ k. k.1 ≡ 0) }
         ensures clean { IfOk result (λ k. HasCleanDisk (state S.Store k.0) → HasCleanDisk (state S.Store conn)) }
         ensures was_clean { IfErr result (λ e. HasCleanDisk (state S.Store e.1) → HasCleanDisk (state S.Store conn)) }
         ensures cause { IfErr result (λ e. (e.0 ≡ Refusal.OutOfMemory) ⊎ ((e.0 ≡ Refusal.Store) ⊎ (e.0 ≡ Refusal.NotAReplica))) }
-        ensures strange { IfErr result (λ e. HasCleanDisk (state S.Store e.1) → e.0 ≡ Refusal.NotAReplica → IsAnothers server primary (state S.Store conn).committed.trees) }
-        ensures store { IfErr result (λ e. HasCleanDisk (state S.Store e.1) → e.0 ≡ Refusal.Store → IsSound no_schema (state S.Store conn).committed.trees ⊎ AreSomebodys (state S.Store conn).committed.trees) }
-        ensures stays { IfErr result (λ e. HasCleanDisk (state S.Store e.1) → IsTrue (state S.Store e.1).is_open → StaysAs (state S.Store conn).committed.trees (state S.Store e.1)) }
+        ensures strange { IfErr result
+            (λ e. HasCleanDisk (state S.Store e.1) → e.0 ≡ Refusal.NotAReplica → IsAnothers server primary (state S.Store conn).committed.trees) }
+        ensures store { IfErr result
+            (λ e. HasCleanDisk (state S.Store e.1) → e.0 ≡ Refusal.Store → IsSound no_schema (state S.Store conn).committed.trees
+            ⊎ AreSomebodys (state S.Store conn).committed.trees) }
+        ensures stays { IfErr result
+            (λ e. HasCleanDisk (state S.Store e.1) → IsTrue (state S.Store e.1).is_open → StaysAs (state S.Store conn).committed.trees (state S.Store e.1)) }
     {
         match settle(&mut conn, alloc, server, primary) {
             Ok(()) => Ok(SqlKeeper::opened(alloc, conn)),
@@ -309,7 +336,9 @@ impl<S: Alter> SqlKeeper<S> {
         requires autocommit { conn.in_transaction ≡ false }
         requires taken { HasCleanDisk (state S.Store conn) → IsTaken (state S.Store conn).committed.trees (state S.Store conn) }
         ensures opens { IfOk result (λ k. HasCleanDisk (state S.Store k.0) → IsTrue (state S.Store k.0).is_open) }
-        ensures resumed { IfOk result (λ k. HasCleanDisk (state S.Store k.0) → IsTrue (state S.Store k.0).is_open → IsResumed (state S.Store conn).committed.trees (state S.Store k.0).now.trees) }
+        ensures resumed { IfOk result
+            (λ k. HasCleanDisk (state S.Store k.0) → IsTrue (state S.Store k.0).is_open
+            → IsResumed (state S.Store conn).committed.trees (state S.Store k.0).now.trees) }
         ensures settled { IfOk result (λ k. HasCleanDisk (state S.Store k.0) → IsTrue (state S.Store k.0).is_open → LeavesTables (state S.Store k.0)) }
         ensures uncounted { IfOk result (λ k. k.1 ≡ 0) }
         ensures clean { IfOk result (λ k. HasCleanDisk (state S.Store k.0) → HasCleanDisk (state S.Store conn)) }
@@ -317,7 +346,8 @@ impl<S: Alter> SqlKeeper<S> {
         ensures cause { IfErr result (λ e. (e.0 ≡ Refusal.OutOfMemory) ⊎ ((e.0 ≡ Refusal.Store) ⊎ (e.0 ≡ Refusal.NotAReplica))) }
         ensures strange { IfErr result (λ e. HasCleanDisk (state S.Store e.1) → e.0 ≡ Refusal.NotAReplica → IsNobodys (state S.Store conn).committed.trees) }
         ensures store { IfErr result (λ e. HasCleanDisk (state S.Store e.1) → e.0 ≡ Refusal.Store → AreSomebodys (state S.Store conn).committed.trees) }
-        ensures stays { IfErr result (λ e. HasCleanDisk (state S.Store e.1) → IsTrue (state S.Store e.1).is_open → StaysAs (state S.Store conn).committed.trees (state S.Store e.1)) }
+        ensures stays { IfErr result
+            (λ e. HasCleanDisk (state S.Store e.1) → IsTrue (state S.Store e.1).is_open → StaysAs (state S.Store conn).committed.trees (state S.Store e.1)) }
     {
         match recover(&mut conn, alloc) {
             Ok(()) => Ok(SqlKeeper::opened(alloc, conn)),

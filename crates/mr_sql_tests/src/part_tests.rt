@@ -18,6 +18,15 @@ use std::test::Fail;
 /// A write of oak, behind the others.
 const GAMMA: &str = "mr1 2 1\nW 2 2 2 oak 30 1995-12-18 17:00 0 Gamma\nE\n";
 
+/// A cancel of a write of oak, behind the others.
+const OF_OAK: &str = "mr2 2 1\nX 2 2 2 oak 1 1\nE\n";
+
+/// The same with the other room.
+const OF_ELM: &str = "mr2 2 1\nX 2 2 2 elm 1 1\nE\n";
+
+/// A cancel of the first write of elm, in front of the others.
+const AMONG_ELM: &str = "mr2 1 1\nX 1 2 2 elm 3 1\nE\n";
+
 /// A commit of the first write of elm.
 const FIRST: &str = "mr1 1 1\nC 1 3 1\nE\n";
 
@@ -37,7 +46,7 @@ enum For {
 }
 
 /// The writes of elm are committed: 52 rows of `log`, 3 of `booking`, 49 of `errorlog`.
-static OF_COMMITTED: [(For, u64); 12] = [
+static OF_COMMITTED: [(For, u64); 14] = [
     (For::Position, 0),
     (For::Submission("oak"), 2),
     (For::Submission("elm"), 1),
@@ -52,6 +61,9 @@ static OF_COMMITTED: [(For, u64); 12] = [
     (For::Batch(GAMMA), 2),
     // the write, which is committed already
     (For::Batch(FIRST), 1),
+    // the bookings of the room
+    (For::Batch(OF_OAK), 2),
+    (For::Batch(OF_ELM), 1),
 ];
 
 /// They are committed and dropped: 2 rows of `log`, 3 of `booking`.
@@ -64,7 +76,7 @@ static OF_DROPPED: [(For, u64); 5] = [
 ];
 
 /// They are tentative.
-static OF_TENTATIVE: [(For, u64); 6] = [
+static OF_TENTATIVE: [(For, u64); 7] = [
     (For::Submission("elm"), 1),
     (For::Commit(3), 3),
     (For::Truncation(0), 0),
@@ -73,6 +85,8 @@ static OF_TENTATIVE: [(For, u64); 6] = [
     (For::Batch(GAMMA), 2),
     // the writes of elm, and the one booking of elm
     (For::Batch(FIRST), 51),
+    // the same without the first of these writes, which stands in front of the cancel
+    (For::Batch(AMONG_ELM), 50),
 ];
 
 /// Two requests of oak, one of which found no free slot, and two cancels: 4 rows of `log`, one each of `errorlog` and `cancelled`.

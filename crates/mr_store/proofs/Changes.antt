@@ -7,7 +7,7 @@ use Rattle.mr_model.specs.Queries.{booking_id, error_id, cancelled_id, cancel_id
 use Rattle.mr_model.proofs.Members.{sorted_filter}
 use Rattle.mr_tables.specs.Change.{put_all, without, id_before, log_id, ChangeView, changed}
 use Rattle.mr_tables.proofs.Putting.{InOrder, put_all_in_order, name_order, number_order, id_order}
-use Rattle.mr_store.specs.Rows.{AreInOrder}
+use Rattle.mr_store.specs.RowsAround.{AreInOrder}
 
 -- rows are put, in whatever order makes the same table of one that is in order
 pub rows_put : {R K Is : Type 0} (before : K → K → Bool) (key : R → K) (left shown news mid old new : List R) → new ≡ put_all before key (reverse left) mid → mid ≡ old → ((all : List R) → (Is → InOrder before key all) → put_all before key (reverse left) all ≡ put_all before key shown all) → shown ≡ news → (Is → InOrder before key old) → new ≡ put_all before key news old

@@ -7,7 +7,7 @@ use Rattle.mr_model.specs.Dropped.{Has}
 use Rattle.mr_model.proofs.Members.{Sorted, has_split, has_right, all_has, has_all}
 use Rattle.mr_tables.specs.Change.{put, put_all}
 use Rattle.mr_tables.proofs.Putting.{IsOrder, InOrder, OneAKey, put_all_in_order, in_order_same, put_all_has, new_has_put_all, old_has_put_all, one_a_key, Lacks}
-use Rattle.mr_store.specs.Rows.{around, Precede}
+use Rattle.mr_store.specs.RowsAround.{around, Precede}
 
 -- ---- the place moves
 
@@ -16,9 +16,6 @@ pub around-step : {R : Type 0} (front behind : List R) (x : R) → around (front
 around-step front behind x = append_assoc front (x ∷ []) (reverse behind) ∙ ap (λ rows. front ++ rows) (sym (reverse-append behind (x ∷ [])))
 
 -- ---- rows that precede another
-
-pub precede_none : {R K : Type 0} (before : K → K → Bool) (key : R → K) (x : R) → Precede before key x []
-precede_none before key x y h = absurd h
 
 pub precede_more : {R K : Type 0} (before : K → K → Bool) (key : R → K) (x : R) (rows : List R) (z : R) → Precede before key x rows → before (key z) (key x) ≡ true → Precede before key x (rows ++ z ∷ [])
 precede_more {R} before key x rows z p b y h = go (has_split y rows (z ∷ []) h)

@@ -4,11 +4,11 @@ use Rattle.std.proofs.lemmas.List.{get_or-map, take_more}
 use Rattle.std.proofs.lemmas.List.Elements.{filter-append}
 use Rattle.std.specs.List.{filter}
 use Rattle.mr_model.specs.Tables.{BookingRow}
-use Rattle.mr_store.specs.Marks.{Mark, mark_of}
+use Rattle.mr_store.specs.Marks.{Mark, mark_of_row}
 
-pub mark_at : (rows : List BookingRow) (marks : List Mark) (k : ℕ) (row : BookingRow) (mark : Mark) → marks ≡ map mark_of rows → k < length rows → row ≡ slice_index_or rows k row → mark ≡ slice_index_or marks k mark → mark ≡ mark_of row
+pub mark_at : (rows : List BookingRow) (marks : List Mark) (k : ℕ) (row : BookingRow) (mark : Mark) → marks ≡ map mark_of_row rows → k < length rows → row ≡ slice_index_or rows k row → mark ≡ slice_index_or marks k mark → mark ≡ mark_of_row row
 mark_at rows marks k row mark are low at of =
-    of ∙ ap (λ ms. slice_index_or ms k mark) are ∙ get_or-map mark_of rows k row mark low ∙ ap mark_of (sym at)
+    of ∙ ap (λ ms. slice_index_or ms k mark) are ∙ get_or-map mark_of_row rows k row mark low ∙ ap mark_of_row (sym at)
 
 -- one row more is picked, or passed over
 pub picked_more : {R : Type 0} (p : R → Bool) (old now new rows : List R) (k : ℕ) (row : R) → k < length rows → row ≡ slice_index_or rows k row → now ≡ old ++ filter p (take k rows) → new ≡ now ++ filter p (row ∷ []) → new ≡ old ++ filter p (take (k + 1) rows)

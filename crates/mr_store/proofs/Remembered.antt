@@ -5,7 +5,7 @@ use Rattle.mr_tables.specs.Change.{ChangeView}
 use Rattle.mr_store.specs.declared.keeper.Fault.{Fault}
 use Rattle.mr_store.specs.declared.keeper.Keeper.{Ghosts}
 use Rattle.mr_store.specs.Cached.{IsMemoryOf, NeverFails}
-use Rattle.mr_store.specs.Kept.{failures_after, IsAtomic, IsQuiet}
+use Rattle.mr_store.specs.KeeperCalls.{failures_after, IsAtomic, IsQuiet}
 
 -- a call that leaves the tables, as it is said of the keeper below
 abbrev pub Quiet : {K X : Type 0} → Ghosts K → K → K → Result X Fault → Type 0

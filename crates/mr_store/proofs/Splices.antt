@@ -11,7 +11,7 @@ use Rattle.mr_model.specs.Writes.{Id}
 use Rattle.mr_model.proofs.Members.{Sorted, has_left, has_split, all_has, has_all}
 use Rattle.mr_tables.specs.Change.{put, put_all, without}
 use Rattle.mr_tables.proofs.Putting.{IsOrder, InOrder}
-use Rattle.mr_store.specs.Rows.{Precede}
+use Rattle.mr_store.specs.RowsAround.{Precede}
 use Rattle.mr_store.specs.Spliced.{spliced, Follow}
 use Rattle.mr_store.proofs.Gaps.{precede_ordered, put_past}
 

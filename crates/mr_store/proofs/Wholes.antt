@@ -8,8 +8,8 @@ use Rattle.mr_model.specs.Replica.{text_before}
 use Rattle.mr_model.specs.Tables.{BookingRow, CancelledRow, Tables}
 use Rattle.mr_model.specs.Queries.{cancelled_id, cancel_id}
 use Rattle.mr_tables.specs.Change.{ChangeView, put_all, without, id_before, changed}
-use Rattle.mr_store.specs.Picked.{is_asked}
-use Rattle.mr_store.specs.Rows.{AreInOrder}
+use Rattle.mr_store.specs.Picked.{is_day_asked}
+use Rattle.mr_store.specs.RowsAround.{AreInOrder}
 use Rattle.mr_store.specs.Whole.{whole, others_changed, ArePlaces, AreSpliced, ChangesSpliced}
 use Rattle.mr_store.specs.declared.fresh.FreshRows.{FreshRows}
 use Rattle.mr_store.proofs.Changes.{changed_in_order}
@@ -41,7 +41,7 @@ all_spliced c old mid new f g p e s at =
     }
 
 -- tables with the rows of a room, of all that a submission needs, have in scope what all tables have
-pub room_scope : (t : Tables) (fresh : FreshRows) (u : Tables) (room : Text) → u.meta ≡ t.meta → u.room ≡ t.room → u.vector ≡ t.vector → u.booking ≡ filter (λ r. bytes_eq r.room room && is_asked None r.day) (whole t fresh).booking → u.cancelled ≡ filter (λ r. bytes_eq r.room room) t.cancelled → in_scope (InRoom room) u ≡ in_scope (InRoom room) (whole t fresh)
+pub room_scope : (t : Tables) (fresh : FreshRows) (u : Tables) (room : Text) → u.meta ≡ t.meta → u.room ≡ t.room → u.vector ≡ t.vector → u.booking ≡ filter (λ r. bytes_eq r.room room && is_day_asked None r.day) (whole t fresh).booking → u.cancelled ≡ filter (λ r. bytes_eq r.room room) t.cancelled → in_scope (InRoom room) u ≡ in_scope (InRoom room) (whole t fresh)
 room_scope t fresh u room m r v b c =
     (λ i. record {
       meta = m i;
@@ -61,7 +61,7 @@ room_scope t fresh u room m r v b c =
     bookings : filter (λ (x : BookingRow). bytes_eq x.room room) u.booking ≡ filter (λ (x : BookingRow). bytes_eq x.room room) (whole t fresh).booking
     bookings =
         ap (filter (λ (x : BookingRow). bytes_eq x.room room)) b
-        ∙ filter_again (λ (x : BookingRow). bytes_eq x.room room && is_asked None x.day) (λ (x : BookingRow). bytes_eq x.room room) (λ x. and_true (bytes_eq x.room room)) (whole t fresh).booking
+        ∙ filter_again (λ (x : BookingRow). bytes_eq x.room room && is_day_asked None x.day) (λ (x : BookingRow). bytes_eq x.room room) (λ x. and_true (bytes_eq x.room room)) (whole t fresh).booking
 
     cancelled : filter (λ (x : CancelledRow). bytes_eq x.room room) u.cancelled ≡ filter (λ (x : CancelledRow). bytes_eq x.room room) t.cancelled
     cancelled =

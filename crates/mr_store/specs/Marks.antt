@@ -13,8 +13,8 @@ abbrev pub number_from : ℕ → Text → ℕ
 number_from n [] = n
 number_from n (c ∷ cs) = number_from ((n * 31 + c) % 4_294_967_291) cs
 
-abbrev pub number_of : Text → ℕ
-number_of name = number_from 7 name
+abbrev pub number_of_name : Text → ℕ
+number_of_name name = number_from 7 name
 
-abbrev pub mark_of : BookingRow → Mark
-mark_of row = record { day = row.day; room = number_of row.room }
+abbrev pub mark_of_row : BookingRow → Mark
+mark_of_row row = record { day = row.day; room = number_of_name row.room }

@@ -10,12 +10,12 @@ use Rattle.mr_tables.specs.declared.place_rows.PlaceRow.{PlaceRow}
 use Rattle.mr_tables.specs.declared.place_rows.PlaceRow.TheVariants.{Booked, Erred, Cancelled, Cancel}
 
 -- a day is asked for, or all days
-abbrev pub is_asked : Option Date → Date → Bool
-is_asked None d = true
-is_asked (Some day) d = same_date d day
+abbrev pub is_day_asked : Option Date → Date → Bool
+is_day_asked None d = true
+is_day_asked (Some day) d = same_date d day
 
 abbrev pub picked_bookings : Text → Option Date → Tables → List BookingRow
-picked_bookings room day t = filter (λ r. bytes_eq r.room room && is_asked day r.day) t.booking
+picked_bookings room day t = filter (λ r. bytes_eq r.room room && is_day_asked day r.day) t.booking
 
 abbrev pub picked_errors : Text → Tables → List ErrorRow
 picked_errors room t = filter (λ r. bytes_eq r.room room) t.errorlog

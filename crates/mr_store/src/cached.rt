@@ -1,5 +1,5 @@
 ghost use Rattle.std.specs.Prelude.{◌≡◌, ℕ, false, IfOk};
-ghost use Rattle.mr_store.specs.Kept.{failures_after, IsQuiet};
+ghost use Rattle.mr_store.specs.KeeperCalls.{failures_after, IsQuiet};
 ghost use Rattle.mr_store.specs.Cached.{IsMemoryAfter, IsMemoryOf, NeverFails};
 
 use crate::memory::Remembered;

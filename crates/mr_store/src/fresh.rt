@@ -4,7 +4,7 @@ ghost use Rattle.mr_model.specs.Queries.{cancelled_id, cancel_id};
 ghost use Rattle.mr_model.specs.Tables.{Tables as RowsOfTables};
 ghost use Rattle.mr_tables.specs.Change.{changed, id_before};
 ghost use Rattle.mr_tables.proofs.Putting.{InOrder};
-ghost use Rattle.mr_store.specs.Marks.{mark_of};
+ghost use Rattle.mr_store.specs.Marks.{mark_of_row};
 ghost use Rattle.mr_store.specs.Whole.{whole, others_changed, ArePlaces, AreSpliced, ChangesSpliced};
 
 use crate::marks::Mark;
@@ -42,9 +42,9 @@ pub(crate) fn settle_all(
     marks: &mut Option<Vec<Mark>>,
 ) -> Result<(), AllocError>
     requires places { ArePlaces main.old fresh.old }
-    requires marks { IfSome marks.old (λ m. m.items ≡ map mark_of main.old.booking) }
+    requires marks { IfSome marks.old (λ m. m.items ≡ map mark_of_row main.old.booking) }
     ensures places { ArePlaces main.new fresh.new }
-    ensures marks { IfSome marks.new (λ m. m.items ≡ map mark_of main.new.booking) }
+    ensures marks { IfSome marks.new (λ m. m.items ≡ map mark_of_row main.new.booking) }
     ensures same { whole main.new fresh.new ≡ whole main.old fresh.old }
     ensures settled { OnOk result (main.new ≡ whole main.old fresh.old) }
 {

@@ -6,7 +6,7 @@ ghost use Rattle.mr_tables.specs.Summary.{IsWithin};
 ghost use Rattle.mr_replica.specs.Desk.{StandsFor, IsWithinLimits};
 ghost use Rattle.mr_part.specs.Parts.{IsPartOf};
 ghost use Rattle.mr_part.specs.ScopeOf.{scope_of};
-ghost use Rattle.mr_store.specs.Kept.{failures_for, IsAtomic, IsQuiet};
+ghost use Rattle.mr_store.specs.KeeperCalls.{failures_for, IsAtomic, IsQuiet};
 ghost use Rattle.mr_store.specs.Picked.{picked_errors, picked_cancelled, picked_cancels, AreBookings, IsPlaceOf};
 
 use mr_base::{Day, Refusal, RoomName, WriteId};
@@ -24,7 +24,7 @@ pub enum Fault {
 }
 
 impl From<Fault> for Refusal {
-    ghost use Rattle.mr_store.specs.Kept.{fault_refusal};
+    ghost use Rattle.mr_store.specs.KeeperCalls.{fault_refusal};
 
     ghost from_gives = { λ fault refusal. refusal ≡ fault_refusal fault };
 

@@ -2,9 +2,9 @@ ghost use Rattle.std.specs.Prelude.{◌≡◌, ◌≢◌, ◌<◌, true, IfOk, O
 ghost use Rattle.mr_model.specs.Replica.{opening};
 ghost use Rattle.mr_model.specs.Tables.{tables_of, Stands};
 ghost use Rattle.mr_tables.specs.Change.{changed};
-ghost use Rattle.mr_store.specs.Kept.{failures_for};
+ghost use Rattle.mr_store.specs.KeeperCalls.{failures_for};
 ghost use Rattle.std.proofs.Props.{props};
-ghost use Rattle.mr_store.specs.Rows.{AreInOrder, in_order-prop};
+ghost use Rattle.mr_store.specs.RowsAround.{AreInOrder, in_order-prop};
 
 use crate::puts::{change_rows, prepare, put_rows};
 use crate::queries::{bookings_of, place_of, rows_in};

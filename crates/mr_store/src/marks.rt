@@ -1,6 +1,6 @@
 ghost use Rattle.std.specs.Prelude.{◌≡◌, ◌&&◌, ◌++◌, ◌∷◌, [], map, bytes_eq, filter, None, IfOk, IfSome, OnOk};
-ghost use Rattle.mr_store.specs.Marks.{mark_of, number_of};
-ghost use Rattle.mr_store.specs.Picked.{is_asked};
+ghost use Rattle.mr_store.specs.Marks.{mark_of_row, number_of_name};
+ghost use Rattle.mr_store.specs.Picked.{is_day_asked};
 
 use crate::queries::{is_on, same_day};
 use crate::rows::TableRow;
@@ -31,8 +31,8 @@ pub(crate) fn taken_marks(
     marks: &mut Option<Vec<Mark>>,
     rows: &[BookingRow],
 ) -> Result<Vec<Mark>, AllocError>
-    requires { IfSome marks.old (λ m. m.items ≡ map mark_of rows.now) }
-    ensures marks { IfOk result (λ taken. taken.items ≡ map mark_of rows.now) }
+    requires { IfSome marks.old (λ m. m.items ≡ map mark_of_row rows.now) }
+    ensures marks { IfOk result (λ taken. taken.items ≡ map mark_of_row rows.now) }
     ensures left { marks.new ≡ None }
 {
     match marks.take() {
@@ -43,7 +43,7 @@ pub(crate) fn taken_marks(
 
 /// The marks of these bookings.
 fn marks_of(alloc: Global, rows: &[BookingRow]) -> Result<Vec<Mark>, AllocError>
-    ensures { IfOk result (λ marks. marks.items ≡ map mark_of rows.now) }
+    ensures { IfOk result (λ marks. marks.items ≡ map mark_of_row rows.now) }
 {
     let mut marks = Vec::with_capacity(alloc, rows.len())?;
     for row in rows {
@@ -53,7 +53,7 @@ fn marks_of(alloc: Global, rows: &[BookingRow]) -> Result<Vec<Mark>, AllocError>
 }
 
 fn marked(row: &BookingRow) -> Mark
-    ensures { result ≡ mark_of row.now }
+    ensures { result ≡ mark_of_row row.now }
 {
     Mark {
         day: row.day,
@@ -63,7 +63,7 @@ fn marked(row: &BookingRow) -> Mark
 
 /// A number that a name has; few others have it too.
 fn number(name: &RoomName) -> u32
-    ensures { result ≡ number_of name.now }
+    ensures { result ≡ number_of_name name.now }
 {
     let mut number: u64 = 7;
     for byte in name.as_str().as_bytes() {
@@ -81,8 +81,8 @@ pub(crate) fn pick_marked(
     room: &RoomName,
     day: Option<Day>,
 ) -> Result<(), AllocError>
-    requires { marks.now ≡ map mark_of rows.now }
-    ensures { OnOk result (picked.new.items ≡ picked.old.items ++ filter (λ r. bytes_eq r.room room.now && is_asked day r.day) rows.now) }
+    requires { marks.now ≡ map mark_of_row rows.now }
+    ensures { OnOk result (picked.new.items ≡ picked.old.items ++ filter (λ r. bytes_eq r.room room.now && is_day_asked day r.day) rows.now) }
 {
     let number = number(room);
     for k in 0..rows.len() {
@@ -101,9 +101,9 @@ fn pick_one(
     room: &RoomName,
     day: &Option<Day>,
 ) -> Result<(), AllocError>
-    requires mark { mark.now ≡ mark_of row.now }
-    requires number { number ≡ number_of room.now }
-    ensures { OnOk result (picked.new.items ≡ picked.old.items ++ filter (λ r. bytes_eq r.room room.now && is_asked day.now r.day) (row.now ∷ [])) }
+    requires mark { mark.now ≡ mark_of_row row.now }
+    requires number { number ≡ number_of_name room.now }
+    ensures { OnOk result (picked.new.items ≡ picked.old.items ++ filter (λ r. bytes_eq r.room room.now && is_day_asked day.now r.day) (row.now ∷ [])) }
 {
     if is_wanted(row, mark, number, room, day) {
         picked.push(row.copied(alloc)?)?;
@@ -112,9 +112,9 @@ fn pick_one(
 }
 
 fn is_wanted(row: &BookingRow, mark: &Mark, number: u32, room: &RoomName, day: &Option<Day>) -> bool
-    requires mark { mark.now ≡ mark_of row.now }
-    requires number { number ≡ number_of room.now }
-    ensures { result ≡ (bytes_eq row.now.room room.now && is_asked day.now row.now.day) }
+    requires mark { mark.now ≡ mark_of_row row.now }
+    requires number { number ≡ number_of_name room.now }
+    ensures { result ≡ (bytes_eq row.now.room room.now && is_day_asked day.now row.now.day) }
 {
     if mark.room != number {
         return false;

@@ -1,4 +1,4 @@
-ghost use Rattle.std.specs.Prelude.{◌≡◌, IfOk, IfSome, OnOk};
+ghost use Rattle.std.specs.Prelude.{◌≡◌, ◌≢◌, IfOk, IfSome, OnOk};
 ghost use Rattle.std.specs.List.Sorted.{IsPermutation};
 ghost use Rattle.mr_model.specs.Replica.{Replica, IsReplica};
 ghost use Rattle.mr_model.specs.Scopes.{InRoom, in_scope};
@@ -40,14 +40,14 @@ pub(crate) struct Remembered {
 impl Model for Remembered {
     ghost use Rattle.mr_model.specs.Tables.{Tables as RowsOfTables};
     ghost use Rattle.std.specs.Prelude.{◌≡◌, map, IfSome};
-    ghost use Rattle.mr_store.specs.Marks.{mark_of};
+    ghost use Rattle.mr_store.specs.Marks.{mark_of_row};
     ghost use Rattle.mr_store.specs.Whole.{whole, AreSpliced};
 
     ghost Value = { RowsOfTables };
 
     ghost view = { λ m. whole m.main m.fresh };
 
-    ghost invariant = { λ m. AreSpliced m.main m.fresh × IfSome m.marks (λ v. v.items ≡ map mark_of m.main.booking) };
+    ghost invariant = { λ m. AreSpliced m.main m.fresh × IfSome m.marks (λ v. v.items ≡ map mark_of_row m.main.booking) };
 }
 
 impl Remembered {
@@ -281,7 +281,10 @@ fn part_of(alloc: Global, scope: &Scope<'_>, tables: &Tables) -> Result<Part, Fa
 }
 
 /// The fault for a refusal of the tables: want of memory, or that their rows break their rules.
-fn fault_of(refusal: Refusal) -> Fault {
+fn fault_of(refusal: Refusal) -> Fault
+    ensures memory { refusal ≡ Refusal.OutOfMemory → result ≡ Fault.OutOfMemory }
+    ensures store { refusal ≢ Refusal.OutOfMemory → result ≡ Fault.Store }
+{
     match refusal {
         Refusal::OutOfMemory => Fault::OutOfMemory,
         _ => Fault::Store,

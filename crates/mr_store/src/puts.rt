@@ -2,7 +2,7 @@ ghost use Rattle.std.specs.Prelude.{◌≡◌, ◌+◌, ◌<◌, ◌≤◌, [], 
 ghost use Rattle.std.specs.Vec.{vec_len, vec_capacity};
 ghost use Rattle.mr_tables.specs.Change.{put, put_all, without};
 ghost use Rattle.mr_tables.proofs.Putting.{InOrder};
-ghost use Rattle.mr_store.specs.Rows.{around, Precede};
+ghost use Rattle.mr_store.specs.RowsAround.{around, Precede};
 
 use crate::rows::{TableRow, WriteRow, copies_of, is_in_order, take_away};
 use mr_base::WriteId;

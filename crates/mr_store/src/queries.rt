@@ -1,6 +1,6 @@
 ghost use Rattle.std.specs.Prelude.{◌≡◌, ◌&&◌, ◌++◌, bytes_eq, filter, find, IfOk, OnOk};
 ghost use Rattle.mr_model.specs.Writes.{same_id};
-ghost use Rattle.mr_store.specs.Picked.{is_asked, picked_bookings, AreBookings, IsPlaceOf};
+ghost use Rattle.mr_store.specs.Picked.{is_day_asked, picked_bookings, AreBookings, IsPlaceOf};
 
 use crate::order::sort_bookings;
 use crate::rows::{TableRow, WriteRow};
@@ -31,7 +31,7 @@ pub(crate) fn pick_bookings(
     room: &RoomName,
     day: Option<Day>,
 ) -> Result<(), AllocError>
-    ensures { OnOk result (picked.new.items ≡ picked.old.items ++ filter (λ r. bytes_eq r.room room.now && is_asked day r.day) rows.now) }
+    ensures { OnOk result (picked.new.items ≡ picked.old.items ++ filter (λ r. bytes_eq r.room room.now && is_day_asked day r.day) rows.now) }
 {
     for row in rows {
         if is_on(row.day, day) && row.room == *room {
@@ -43,7 +43,7 @@ pub(crate) fn pick_bookings(
 
 /// Whether this is the day that is asked for, where one is.
 pub(crate) fn is_on(day: Day, asked: Option<Day>) -> bool
-    ensures { result ≡ is_asked asked day }
+    ensures { result ≡ is_day_asked asked day }
 {
     match asked {
         Some(asked) => day == asked,

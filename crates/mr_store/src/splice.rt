@@ -3,7 +3,7 @@ ghost use Rattle.std.specs.Vec.{vec_len};
 ghost use Rattle.mr_model.specs.Dropped.{Has};
 ghost use Rattle.mr_tables.specs.Change.{put_all, without};
 ghost use Rattle.mr_tables.proofs.Putting.{InOrder};
-ghost use Rattle.mr_store.specs.Rows.{Precede};
+ghost use Rattle.mr_store.specs.RowsAround.{Precede};
 ghost use Rattle.mr_store.specs.Spliced.{spliced, Follow};
 
 use crate::puts::{change_rows, prepare, put_rows};

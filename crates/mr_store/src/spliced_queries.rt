@@ -1,8 +1,8 @@
 ghost use Rattle.std.specs.Prelude.{◌≡◌, ◌≤◌, ◌&&◌, map, bytes_eq, filter, find, length, IfOk};
 ghost use Rattle.mr_model.specs.Scopes.{InRoom, in_scope};
 ghost use Rattle.mr_model.specs.Writes.{same_id};
-ghost use Rattle.mr_store.specs.Marks.{mark_of};
-ghost use Rattle.mr_store.specs.Picked.{is_asked, IsPlaceOf};
+ghost use Rattle.mr_store.specs.Marks.{mark_of_row};
+ghost use Rattle.mr_store.specs.Picked.{is_day_asked, IsPlaceOf};
 ghost use Rattle.mr_store.specs.Spliced.{spliced};
 ghost use Rattle.mr_store.specs.Whole.{whole, ArePlaces};
 
@@ -25,8 +25,8 @@ pub(crate) fn bookings_in(
     day: Option<Day>,
 ) -> Result<Vec<BookingRow>, AllocError>
     requires place { fresh.now.at ≤ length rows.now }
-    requires marks { marks.now ≡ map mark_of rows.now }
-    ensures { IfOk result (λ picked. picked.items ≡ filter (λ r. bytes_eq r.room room.now && is_asked day r.day) (spliced rows.now fresh.now.at fresh.now.rows.items)) }
+    requires marks { marks.now ≡ map mark_of_row rows.now }
+    ensures { IfOk result (λ picked. picked.items ≡ filter (λ r. bytes_eq r.room room.now && is_day_asked day r.day) (spliced rows.now fresh.now.at fresh.now.rows.items)) }
 {
     let (front, behind) = rows.split_at(fresh.at);
     let (front_marks, behind_marks) = marks.split_at(fresh.at);
@@ -114,7 +114,7 @@ pub(crate) fn room_tables(
     room: &RoomName,
 ) -> Result<Tables, AllocError>
     requires places { ArePlaces main.now fresh.now }
-    requires marks { marks.now ≡ map mark_of main.now.booking }
+    requires marks { marks.now ≡ map mark_of_row main.now.booking }
     ensures { IfOk result (λ tables. in_scope (InRoom room.now) tables ≡ in_scope (InRoom room.now) (whole main.now fresh.now)) }
 {
     let booking = bookings_in(alloc, &main.booking, marks, &fresh.booking, room, None)?;

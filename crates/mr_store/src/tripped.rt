@@ -1,5 +1,5 @@
 ghost use Rattle.std.specs.Prelude.{◌≡◌, ◌-◌, ◌==◌, false, not, ◌||◌, ◌&&◌};
-ghost use Rattle.mr_store.specs.Kept.{failures_for};
+ghost use Rattle.mr_store.specs.KeeperCalls.{failures_for};
 
 use crate::{Fault, Keeper};
 use mr_base::{Day, RoomName, WriteId};
@@ -46,7 +46,7 @@ impl<K: Keeper> Tripped<K> {
 
 impl<K: Keeper> Keeper for Tripped<K> {
     ghost use Rattle.std.specs.Prelude.{◌≡◌, if◌then◌else◌};
-    ghost use Rattle.mr_store.specs.Kept.{failures_for};
+    ghost use Rattle.mr_store.specs.KeeperCalls.{failures_for};
 
     ghost tables = { λ k. K.tables k.keeper };
 

@@ -18,7 +18,7 @@ pub(crate) fn id(number: u32, n: u32) -> Result<WriteId, Refusal> {
     WriteId::new(server(number)?, n).ok_or(Refusal::NoSuchRequest)
 }
 
-fn meta(commits: u64) -> Result<MetaRow, Refusal> {
+pub(crate) fn meta(commits: u64) -> Result<MetaRow, Refusal> {
     Ok(MetaRow {
         server: server(2)?,
         primary: server(1)?,
@@ -29,7 +29,7 @@ fn meta(commits: u64) -> Result<MetaRow, Refusal> {
 }
 
 /// A booking of half an hour: the room, the day, the start, the request, and whether it is committed.
-type Booked = (&'static str, &'static str, u32, (u32, u32), bool);
+pub(crate) type Booked = (&'static str, &'static str, u32, (u32, u32), bool);
 
 static FIRST_BOOKED: [Booked; 6] = [
     ("oak", TUESDAY, 540, (2, 2), false),
@@ -65,7 +65,7 @@ fn booking(
     })
 }
 
-fn bookings(alloc: Global, of: &[Booked]) -> Result<Vec<BookingRow>, Refusal> {
+pub(crate) fn bookings(alloc: Global, of: &[Booked]) -> Result<Vec<BookingRow>, Refusal> {
     let mut rows = Vec::new(alloc);
     for booked in of {
         rows.push(booking(alloc, *booked)?)?;
@@ -92,7 +92,7 @@ fn error(alloc: Global, n: u32) -> Result<ErrorRow, Refusal> {
     })
 }
 
-fn logged(alloc: Global, n: u32) -> Result<Vec<ErrorRow>, Refusal> {
+pub(crate) fn logged(alloc: Global, n: u32) -> Result<Vec<ErrorRow>, Refusal> {
     let mut rows = Vec::new(alloc);
     rows.push(error(alloc, n)?)?;
     Ok(rows)
@@ -114,7 +114,7 @@ fn ids(alloc: Global, n: u32) -> Result<Vec<WriteId>, Refusal> {
 }
 
 /// Nothing but this row of meta.
-fn no_change(alloc: Global, meta: MetaRow) -> Change {
+pub(crate) fn no_change(alloc: Global, meta: MetaRow) -> Change {
     Change {
         meta,
         room: Vec::new(alloc),

@@ -7,4 +7,6 @@ mod cached;
 #[cfg(test)]
 mod changes;
 #[cfg(test)]
+mod many;
+#[cfg(test)]
 mod tests;

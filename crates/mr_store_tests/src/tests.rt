@@ -49,7 +49,7 @@ pub(crate) fn opening(alloc: Global) -> Result<ListKeeper, Refusal> {
 }
 
 /// The refusal that tells of a fault, in its place.
-fn told<T: Drop>(answer: Result<T, Fault>) -> Result<T, Refusal> {
+pub(crate) fn told<T: Drop>(answer: Result<T, Fault>) -> Result<T, Refusal> {
     Ok(answer?)
 }
 

@@ -1,5 +1,5 @@
-//! Tests of the crates under the program: command lines and scripts as it is given them, lines to writers that fail, and tables
-//! in memory. It stands above `mr`, and nothing stands on it. What is proved is said by the contracts; here they are run.
+//! Tests of the crates under the program, of what the built program can't show: scripts from readers that fail, scripts and lines to writers
+//! that fail, and tables in memory. It stands above `mr`, and nothing stands on it. What is proved is said by the contracts; here they are run.
 #![tactic(auto)]
 
 #[cfg(test)]
@@ -8,8 +8,6 @@ mod change;
 mod fakes;
 #[cfg(test)]
 mod in_memory_tests;
-#[cfg(test)]
-mod line_tests;
 #[cfg(test)]
 mod memory_tests;
 #[cfg(test)]

@@ -12,7 +12,7 @@ use Rattle.mr_http.proofs.BodyLemmas.{cases_bool}
 use Rattle.mr_http.specs.declared.faults.ReadFault.TheVariants as fault
 use Rattle.mr_model.specs.Http.{Response, bad_request}
 use Rattle.mr_web.specs.JsonBodies.{json_of, member_count, members_in}
-use Rattle.mr_web.specs.Views.{Fails, Gives}
+use Rattle.mr_web.specs.Views.{FailsAs, GivesView}
 use Rattle.mr_web.specs.declared.rejections.Stop.{Stop}
 use Rattle.mr_web.specs.declared.rejections.Stop.TheVariants as stop
 
@@ -56,12 +56,12 @@ response_or f (Err e) = e
 module _ {X Y : Type 0} (view : X → Y) (make : Data → Option Y) where
   -- a body is what is made of its JSON
   pub made_of : (o : Option Data) (d : Data) (r : Result X Stop) → ok_or o bad_request ≡ Ok d
-      → Gives view r (ok_or (make d) bad_request) → Gives view r (ok_or (option_and_then make o) bad_request)
+      → GivesView view r (ok_or (make d) bad_request) → GivesView view r (ok_or (option_and_then make o) bad_request)
   made_of None d r reads gives = let bad : ⊥ = cc in absurd bad
-  made_of (Some x) d r reads gives = subst (λ y. Gives view r (ok_or (make y) bad_request)) (sym (ap (data_or d) reads)) gives
+  made_of (Some x) d r reads gives = subst (λ y. GivesView view r (ok_or (make y) bad_request)) (sym (ap (data_or d) reads)) gives
 
   -- where it is no JSON, it is nothing that is made of JSON
-  pub none_of : (o : Option Data) (e : Stop) → Fails e (ok_or o bad_request) → Fails e (ok_or (option_and_then make o) bad_request)
+  pub none_of : (o : Option Data) (e : Stop) → FailsAs e (ok_or o bad_request) → FailsAs e (ok_or (option_and_then make o) bad_request)
   none_of o (stop.Fault fault.Read) fails = absurd fails
   none_of o (stop.Fault fault.Memory) fails = tt
   none_of None (stop.Rejected r) fails = ap Err (ap (response_or bad_request) fails)

@@ -2,8 +2,8 @@
 use Rattle.std.proofs.Common.{◌∙◌, Some, None, refl, sym, ap}
 use Rattle.httparse.proofs.GrammarLemmas.{request_unique}
 use Rattle.mr_model.specs.Http.{asked as asked_of}
-use Rattle.mr_web.specs.Asking.{head_of, readings}
-use Rattle.mr_web.specs.Laws.{HasOneHead, AsksOneThing}
+use Rattle.mr_web.specs.RequestAsks.{head_of, readings}
+use Rattle.mr_web.specs.RequestLaw.{HasOneHead, AsksOneThing}
 
 pub one_head : HasOneHead
 one_head input None None a b = refl

@@ -8,7 +8,7 @@ use Rattle.matchit.specs.Router.{RouteOf}
 use Rattle.matchit.specs.Params.{walk, part_of, AllText, wild_from, wild_stop, next_at, after_token}
 use Rattle.matchit.specs.Seek.{first, segment, has_slash, slash}
 use Rattle.matchit.proofs.OnLiterals.{matchit_on_literals}
-use Rattle.mr_web.specs.Routes.{table, taken}
+use Rattle.mr_web.specs.Routes.{route_table, taken}
 use Rattle.mr_web.specs.declared.routes.Resource.{Resource}
 use Rattle.mr_web.proofs.Fitting.{Fits, IfKey, EachRow, seek_fits}
 
@@ -194,8 +194,8 @@ pub record IsTaken (target : List ℕ) (r : RouteOf Resource) : Type 0 where
   pub names : NamesAreText r.text r.names
   pub small : length r.pattern < 18446744073709551615
 
-table_taken : (target : List ℕ) → EachRow (IsTaken target) target table
-unfolding table matchit_on_literals
+table_taken : (target : List ℕ) → EachRow (IsTaken target) target route_table
+unfolding route_table matchit_on_literals
 table_taken target =
     let room = IsUtf8-from_ascii (codes "room") room_ascii in
     let day = IsUtf8-from_ascii (codes "day") day_ascii in
@@ -203,8 +203,8 @@ table_taken target =
     ((refl, λ f. record { fits = f; names = tt; small = lit< tt }), ((refl, λ f. record { fits = f; names = tt; small = lit< tt }), ((refl, λ f. record { fits = f; names = tt; small = lit< tt }), ((refl, λ f. record { fits = f; names = tt; small = lit< tt }), ((refl, λ f. record { fits = f; names = (room, (day, tt)); small = lit< tt }), ((refl, λ f. record { fits = f; names = (room, tt); small = lit< tt }), ((refl, λ f. record { fits = f; names = (room, (id, tt)); small = lit< tt }), ((refl, λ f. record { fits = f; names = tt; small = lit< tt }), tt))))))))
 
 -- the words of a target at the parameters of its route
-pub words_are_text : (target : List ℕ) (r : RouteOf Resource) → IsUtf8 target → first table target ≡ Some r → AllText (taken target r)
+pub words_are_text : (target : List ℕ) (r : RouteOf Resource) → IsUtf8 target → first route_table target ≡ Some r → AllText (taken target r)
 words_are_text target r utf8 found =
-    let taken : IsTaken target r = subst (IfKey (IsTaken target)) found (seek_fits (IsTaken target) 0 table target (table_taken target)) in
+    let taken : IsTaken target r = subst (IfKey (IsTaken target)) found (seek_fits (IsTaken target) 0 route_table target (table_taken target)) in
     walk_text r.pattern r.text target r.names 0 0 taken.small taken.names utf8
     (record { cut = IsCharBoundary-start target utf8; fits = taken.fits })

@@ -5,11 +5,8 @@ use Rattle.std.proofs.lemmas.Fmt.{decimal_by_steps}
 use Rattle.std.proofs.lemmas.List.Folds.{list_all-append}
 use Rattle.std.specs.List.{list_all}
 use Rattle.json.specs.Print.{escape, escape_byte}
-use Rattle.mr_model.specs.Texts.{Text, two_digits, four_digits}
-use Rattle.mr_model.specs.Calendar.{Date, is_date, date_text, time_text}
+use Rattle.mr_model.specs.Texts.{Text}
 use Rattle.mr_model.specs.Writes.{Id, id_text, is_id, is_server, is_count}
-use Rattle.mr_model.specs.Refusals.{Refusal, name_of, BadDay, BadTime, BadLength, BadRoomName, BadTitle, TooManyAlternatives, UnknownRoom, RoomThere, NoSuchRequest, NotPrimary, PrimaryKeepsAll, BeyondCommitted, ClockExhausted, CountExhausted, BadLine, WrongPrimary, Gap, OutOfOrder, Forged, OwnWrite, PrimaryOnly, Truncated, BadPosition, OutOfMemory, Store, NotAReplica, NeedsVersion2}
-use Rattle.mr_model.proofs.WordsReadBack.{date_facts}
 use Rattle.mr_web.specs.Plain.{is_plain_byte, is_plain_text, IsPlain}
 
 from_not : (b : Bool) → not b ≡ true → b ≡ false
@@ -41,33 +38,6 @@ escape_plain (b ∷ bs) h =
 pub plain_append : (s t : Text) → IsPlain s → IsPlain t → IsPlain (s ++ t)
 plain_append s t h g = list_all-append is_plain_byte s t ∙ and_from (is_plain_text s) (is_plain_text t) h g
 
-abbrev two_plain : ℕ → Bool
-two_plain n = is_plain_text (two_digits n)
-
-pub plain_two_digits : (n : ℕ) → n < 100 → IsPlain (two_digits n)
-plain_two_digits n h = agree_below_at two_plain (λ m. true) 100 n refl h
-
-abbrev time_plain : ℕ → Bool
-time_plain n = is_plain_text (time_text n)
-
-pub plain_time : (n : ℕ) → n ≤ 1440 → IsPlain (time_text n)
-plain_time n h = agree_below_at time_plain (λ m. true) 1441 n refl (omega (arith, h))
-
-abbrev year_plain : ℕ → Bool
-year_plain n = is_plain_text (four_digits n)
-
-pub plain_year : (n : ℕ) → n < 2100 → IsPlain (four_digits n)
-plain_year n h = agree_below_at year_plain (λ m. true) 2100 n refl h
-
-pub plain_date : (d : Date) → IsTrue (is_date d) → IsPlain (date_text d)
-plain_date d h =
-    let facts = date_facts d h in
-    let month_day : Text = two_digits d.month ++ codes "-" ++ two_digits d.day in
-    let behind_day = plain_append (codes "-") (two_digits d.day) refl (plain_two_digits d.day facts.day) in
-    let behind_month = plain_append (two_digits d.month) (codes "-" ++ two_digits d.day) (plain_two_digits d.month facts.month) behind_day in
-    let behind_year = plain_append (codes "-") month_day refl behind_month in
-    plain_append (four_digits d.year) (codes "-" ++ month_day) (plain_year d.year facts.to_2099) behind_year
-
 abbrev digit_plain : ℕ → Bool
 digit_plain d = is_plain_byte (48 + d)
 
@@ -85,32 +55,3 @@ plain_id id h =
     let count = leb-true id.n 999999999 (and_parts (leb 1 id.n) (leb id.n 999999999) both.1).1 in
     plain_append (decimal id.server ++ codes "-") (decimal id.n)
     (plain_append (decimal id.server) (codes "-") (plain_decimal id.server (omega (arith, server))) refl) (plain_decimal id.n (omega (arith, count)))
-
-pub plain_name : (e : Refusal) → IsPlain (name_of e)
-plain_name BadDay = refl
-plain_name BadTime = refl
-plain_name BadLength = refl
-plain_name BadRoomName = refl
-plain_name BadTitle = refl
-plain_name TooManyAlternatives = refl
-plain_name UnknownRoom = refl
-plain_name RoomThere = refl
-plain_name NoSuchRequest = refl
-plain_name NotPrimary = refl
-plain_name PrimaryKeepsAll = refl
-plain_name BeyondCommitted = refl
-plain_name ClockExhausted = refl
-plain_name CountExhausted = refl
-plain_name (BadLine at) = refl
-plain_name WrongPrimary = refl
-plain_name (Gap at) = refl
-plain_name (OutOfOrder at) = refl
-plain_name (Forged at) = refl
-plain_name (OwnWrite at) = refl
-plain_name (PrimaryOnly at) = refl
-plain_name Truncated = refl
-plain_name BadPosition = refl
-plain_name OutOfMemory = refl
-plain_name Store = refl
-plain_name NotAReplica = refl
-plain_name NeedsVersion2 = refl

@@ -8,8 +8,8 @@ use Rattle.mr_model.specs.Http.{Route}
 use Rattle.mr_http.specs.Heads.{IsHead}
 use Rattle.mr_http.specs.Reading.{AwaitsHead, IsReadWhile}
 use Rattle.mr_http.specs.declared.faults.ReadFault.{ReadFault}
-use Rattle.mr_web.specs.Asking.{asked_by}
-use Rattle.mr_web.specs.Read.{ReadsNoFurther, UnlessFault}
+use Rattle.mr_web.specs.RequestAsks.{asked_by}
+use Rattle.mr_web.specs.RequestRead.{ReadsNoFurther, UnlessFault}
 use Rattle.mr_web.specs.Views.{StopsWith}
 use Rattle.mr_web.specs.declared.rejections.Stop.{Stop}
 use Rattle.mr_web.specs.declared.rejections.Stop.TheVariants as stop

@@ -20,9 +20,9 @@ use Rattle.mr_http.proofs.HeadLemmas.{head_more}
 use Rattle.mr_http.proofs.BodyLemmas.{short_same, take_same}
 use Rattle.mr_http.proofs.Known.{if_some_map, of_input, of_input_unit}
 use Rattle.mr_web.specs.Routes.{route_of}
-use Rattle.mr_web.specs.Asking.{head_of, readings, Asks, limited, with_route, head_asks, asked_by, body_in, command_in, as_asked, after_body, after_head}
-use Rattle.mr_web.specs.Views.{Gives, Fails, Settles, ServedTo, AnswersTo, Ends, IsServeFault, StopsWith, Tells, response_to, bytes_view}
-use Rattle.mr_web.specs.Written.{Writes}
+use Rattle.mr_web.specs.RequestAsks.{head_of, readings, Asks, limited_length, with_route, head_asks, asked_by, body_in, command_in, as_asked, after_body, after_head}
+use Rattle.mr_web.specs.Views.{GivesView, FailsAs, Settles, ServedTo, AnswersTo, EndsServed, IsServeFault, StopsWith, IsAnswerOf, response_to, bytes_view}
+use Rattle.mr_web.specs.RepliesWritten.{Writes}
 use Rattle.mr_web.specs.declared.replies.Answer.{Answer}
 use Rattle.mr_web.specs.declared.rejections.Stop.{Stop}
 use Rattle.mr_web.specs.declared.rejections.Stop.TheVariants as stop
@@ -58,13 +58,13 @@ asks_limited head route behind n true = refl
 asks_limited head route behind n false = asks_body head route behind n (nat_lt (length behind) n)
 
 asks_length : (head : Option Head) (route : Route) (behind : Text) (o : Option ℕ)
-    → ask_length (readings head) route behind o ≡ as_asked (after_head behind (with_route route (limited o)))
+    → ask_length (readings head) route behind o ≡ as_asked (after_head behind (with_route route (limited_length o)))
 asks_length head route behind None = refl
 asks_length head route behind (Some n) = asks_limited head route behind n (nat_lt greatest_body n)
 
 asks_method : (head : Option Head) (route : Route) (behind : Text) (f : Response) (o : Option ℕ) (same : Bool)
     → (if not same then Faulty f else ask_length (readings head) route behind o)
-    ≡ as_asked (after_head behind (with_route route (if not same then Err f else limited o)))
+    ≡ as_asked (after_head behind (with_route route (if not same then Err f else limited_length o)))
 asks_method head route behind f o true = asks_length head route behind o
 asks_method head route behind f o false = refl
 
@@ -139,7 +139,7 @@ settles_none known b none =
 -- what a body gives settles the input
 pub settles_result : (known left : Option (List ℕ)) (b rest : List ℕ) (h : RequestHead) (a : Route × ℕ) (body : List ℕ) (r : Result Command Stop)
     → Consumes known left b → IsHead b h rest → (length rest < a.1 → IsAtEnd left) → asked_by h ≡ Ok a → body_in a.1 rest ≡ Ok body
-    → Gives command_view r (command_in a.0 body) → OfInput known (λ input. Settles input r)
+    → GivesView command_view r (command_in a.0 body) → OfInput known (λ input. Settles input r)
 settles_result known left b rest h a body (Ok c) p head ends asked cut gives =
     settles_as known left b rest h a _ p head ends asked (ap (λ x. as_asked (after_body a.0 x)) cut ∙ ap as_asked gives)
 settles_result known left b rest h a body (Err (stop.Rejected e)) p head ends asked cut gives =
@@ -188,7 +188,7 @@ served_faulty input old tables f asks stands =
     )
 
 -- an answer that tells a response serves what the response serves
-pub served_told : (input : Text) (old : Replica) (after : Tables) (f : Response) (a : Answer) → Tells f a
+pub served_told : (input : Text) (old : Replica) (after : Tables) (f : Response) (a : Answer) → IsAnswerOf f a
     → ServedTo input old after (response_text f) f.status → ServedTo input old after (bytes_view a.bytes) a.status
 served_told input old after f a tells served =
     subst (λ s. ServedTo input old after (bytes_view a.bytes) s) (sym tells.1)
@@ -197,12 +197,12 @@ served_told input old after f a tells served =
 -- ---- a request that is settled before its body gives a command
 
 pub settles_head_stop : (known left : Option (List ℕ)) (b rest : List ℕ) (h : RequestHead) (e : Stop)
-    → Consumes known left b → IsHead b h rest → Fails e (asked_by h) → OfInput known (λ input. Settles input (Err e))
+    → Consumes known left b → IsHead b h rest → FailsAs e (asked_by h) → OfInput known (λ input. Settles input (Err e))
 settles_head_stop known left b rest h (stop.Rejected r) p head asked = settles_refused known left b rest h (response_to r) p head asked
 settles_head_stop known left b rest h (stop.Fault f) p head asked = of_input_unit known
 
 pub settles_body_stop : (known left : Option (List ℕ)) (b rest : List ℕ) (h : RequestHead) (a : Route × ℕ) (e : Stop)
-    → Consumes known left b → IsHead b h rest → (length rest < a.1 → IsAtEnd left) → asked_by h ≡ Ok a → Fails e (body_in a.1 rest)
+    → Consumes known left b → IsHead b h rest → (length rest < a.1 → IsAtEnd left) → asked_by h ≡ Ok a → FailsAs e (body_in a.1 rest)
     → OfInput known (λ input. Settles input (Err e))
 settles_body_stop known left b rest h a (stop.Rejected r) p head ends asked cut =
     settles_as known left b rest h a _ p head ends asked (ap (λ x. as_asked (after_body a.0 x)) cut)
@@ -218,7 +218,7 @@ serve_faults fault.Memory = tt
 
 -- with a fault while an answer was made nothing is written
 pub ends_fault : (input : Text) (before after : Tables) (old : Replica) (held : Option (List ℕ)) (f : ReadFault)
-    → AnswersTo input before after old (Err f) → Ends held held input before after old (Err (web_fault f))
+    → AnswersTo input before after old (Err f) → EndsServed held held input before after old (Err (web_fault f))
 ends_fault input before after old held fault.Read same = (keeps_same held, same)
 ends_fault input before after old held fault.Memory answers = (keeps_same held, answers)
 

@@ -16,11 +16,11 @@ use Rattle.mr_service.specs.Asked.{command_of}
 use Rattle.mr_service.specs.Served.{IsServed}
 use Rattle.mr_service.specs.declared.commands.Command.{Command}
 use Rattle.mr_service.proofs.ReplyHalves.{replied_by}
-use Rattle.mr_web.specs.Asking.{Asks}
-use Rattle.mr_web.specs.Served.{IsRequest}
-use Rattle.mr_web.specs.Steps.{IsServable}
-use Rattle.mr_web.specs.Views.{AnswersTo, Settles, StopsWith, Tells, response_to}
-use Rattle.mr_web.specs.Written.{IsAnswer, Makes, Responds}
+use Rattle.mr_web.specs.RequestAsks.{Asks}
+use Rattle.mr_web.specs.RequestServed.{IsRequest}
+use Rattle.mr_web.specs.RequestSteps.{IsServable}
+use Rattle.mr_web.specs.Views.{AnswersTo, Settles, StopsWith, IsAnswerOf, response_to}
+use Rattle.mr_web.specs.RepliesWritten.{IsAnswer, MakesReply, Responds}
 use Rattle.mr_web.specs.declared.rejections.Stop.{Stop}
 use Rattle.mr_web.specs.declared.rejections.Stop.TheVariants as why
 use Rattle.mr_web.specs.declared.replies.Answer.{Answer}
@@ -29,7 +29,7 @@ use Rattle.mr_web.proofs.Steps.{leaves_after, open_after, open_still, stands_aft
 
 -- the answer is made of the reply, unless memory ran out
 abbrev pub IsMade : Reply → Result Answer ReadFault → Type 0
-IsMade reply (Ok answer) = Tells (response_of reply) answer
+IsMade reply (Ok answer) = IsAnswerOf (response_of reply) answer
 IsMade reply (Err fault.Read) = ⊥
 IsMade reply (Err fault.Memory) = Unit {0}
 
@@ -54,7 +54,7 @@ made_lasts reply (Err e) clean before after made lasts = tt
 
 made_answer : {K : Type 0} (k : Ghosts K) (old new : K) (command : Command) (reply : Reply) (result : Result Answer ReadFault)
     → IsServed k old new (command_of command) reply → IsMade reply result → (input : Text) → Asks input (Runs (command_of command))
-    → Makes (IsAnswer k old new input) result
+    → MakesReply (IsAnswer k old new input) result
 made_answer k old new command reply (Ok answer) served made input asks =
     let said : Responds k old new (Runs (command_of command)) (response_of reply) =
     (reply, refl, replied_by k old new (command_of command) reply served) in
@@ -62,7 +62,7 @@ made_answer k old new command reply (Ok answer) served made input asks =
 made_answer k old new command reply (Err e) served made input asks = tt
 
 stopped_answer : {K : Type 0} (k : Ghosts K) (at : K) (s : Stop) (result : Result Answer ReadFault) → StopsWith s result
-    → (input : Text) → Settles input (Err s) → Makes (IsAnswer k at at input) result
+    → (input : Text) → Settles input (Err s) → MakesReply (IsAnswer k at at input) result
 stopped_answer k at (why.Rejected r) (Ok answer) tells input asks =
     let said : Responds k at at (Faulty (response_to r)) (response_to r) = refl in
     (Faulty (response_to r), response_to r, asks, said, tells.0, tells.1)
@@ -76,7 +76,7 @@ stopped_answer k at (why.Fault f) (Err g) tells input asks = tt
 pub request_served : {K : Type 0} (k : Ghosts K) (old new : K) (command : Command) (reply : Reply) (result : Result Answer ReadFault)
     → IsServed k old new (command_of command) reply → IsMade reply result
     → (known : Option Text) → OfInput known (λ input. Settles input (Ok command)) → IsServable (command_of command)
-    → IsRequest k old new known result (λ answer. answer.status) AnswersTo Makes
+    → IsRequest k old new known result (λ answer. answer.status) AnswersTo MakesReply
 request_served k old new command reply result served made known asks servable =
     record {
       clean = served.clean;
@@ -91,7 +91,7 @@ request_served k old new command reply result served made known asks servable =
 
 -- the request asks no command, or wasn't read
 pub request_stopped : {K : Type 0} (k : Ghosts K) (at : K) (known : Option Text) (stop : Stop) (result : Result Answer ReadFault)
-    → StopsWith stop result → OfInput known (λ input. Settles input (Err stop)) → IsRequest k at at known result (λ answer. answer.status) AnswersTo Makes
+    → StopsWith stop result → OfInput known (λ input. Settles input (Err stop)) → IsRequest k at at known result (λ answer. answer.status) AnswersTo MakesReply
 request_stopped k at known stop result stops asks =
     record {
       clean = λ c. c;

@@ -9,16 +9,16 @@ use Rattle.mr_model.specs.Tables.{Tables}
 use Rattle.mr_model.specs.Http.{Route, response_of}
 use Rattle.mr_service.specs.declared.commands.Command.{Command}
 use Rattle.mr_service.specs.Asked.{command_of as command_view}
-use Rattle.mr_web.specs.Asking.{command_in}
-use Rattle.mr_web.specs.Steps.{IsServable, StandsAfterOne, LeavesAfterOne}
-use Rattle.mr_web.specs.Views.{Gives}
+use Rattle.mr_web.specs.RequestAsks.{command_in}
+use Rattle.mr_web.specs.RequestSteps.{IsServable, StandsAfterOne, LeavesAfterOne}
+use Rattle.mr_web.specs.Views.{GivesView}
 use Rattle.mr_http.specs.declared.faults.ReadFault.{ReadFault}
 use Rattle.mr_web.specs.declared.rejections.Stop.{Stop}
 use Rattle.mr_web.specs.declared.replies.Answer.{Answer}
 
 -- what a route gives for a body is servable
 pub gives_servable : (route : Route) (body : Text) (r : Result Command Stop)
-    → Gives command_view r (command_in route body) → IfOk r (λ c. IsServable (command_view c))
+    → GivesView command_view r (command_in route body) → IfOk r (λ c. IsServable (command_view c))
 gives_servable route body (Ok c) gives = (route, body, gives)
 gives_servable route body (Err e) gives = tt
 

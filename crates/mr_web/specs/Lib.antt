@@ -1,16 +1,17 @@
--- A reader of the contracts trusts Asking, Cancellations, JsonBodies, Laws, Read, Routes, Served, Steps, Submissions, Views, Words and
--- Written. The others, Plain and Replies, serve private clauses and proofs alone.
-pub mod Asking
+-- A reader of the contracts trusts RequestAsks, Cancellations, JsonBodies, RequestLaw, RequestRead, Routes, RequestServed,
+-- RequestSteps, Submissions, Views, RouteViews and RepliesWritten. The others, Plain and ReplyHeads, serve private clauses and proofs
+-- alone.
 pub mod Cancellations
 pub mod JsonBodies
-pub mod Laws
 pub mod Plain
-pub mod Read
-pub mod Replies
+pub mod RepliesWritten
+pub mod ReplyHeads
+pub mod RequestAsks
+pub mod RequestLaw
+pub mod RequestRead
+pub mod RequestServed
+pub mod RequestSteps
 pub mod Routes
-pub mod Served
-pub mod Steps
+pub mod RouteViews
 pub mod Submissions
 pub mod Views
-pub mod Words
-pub mod Written

@@ -13,21 +13,21 @@ use Rattle.mr_web.specs.declared.routes.Resource.{Resource}
 use Rattle.mr_web.specs.declared.routes.Resource.TheVariants as at
 
 -- the table with one more route, where its text reads as one
-abbrev pub put : Result Scan InsertError → Resource → RowsOf (RouteOf Resource) → RowsOf (RouteOf Resource)
-put (Ok s) resource rows = placed (s.pattern, route_from s resource) rows
-put (Err e) resource rows = rows
+abbrev pub put_route : Result Scan InsertError → Resource → RowsOf (RouteOf Resource) → RowsOf (RouteOf Resource)
+put_route (Ok s) resource rows = placed (s.pattern, route_from s resource) rows
+put_route (Err e) resource rows = rows
 
 -- the table of the resources, by their paths
-unfoldable pub table : RowsOf (RouteOf Resource)
-table =
-    put (parse_route (codes "/push")) at.Push (
-    put (parse_route (codes "/pull")) at.Pull (
-    put (parse_route (codes "/position")) at.Position (
-    put (parse_route (codes "/rooms/{room}/errors")) at.ErrorLog (
-    put (parse_route (codes "/rooms/{room}/requests/{id}")) at.Request (
-    put (parse_route (codes "/rooms/{room}/days/{day}")) at.Day (
-    put (parse_route (codes "/cancel")) at.Cancellations (
-    put (parse_route (codes "/submit")) at.Submissions [])))))))
+unfoldable pub route_table : RowsOf (RouteOf Resource)
+route_table =
+    put_route (parse_route (codes "/push")) at.Push (
+    put_route (parse_route (codes "/pull")) at.Pull (
+    put_route (parse_route (codes "/position")) at.Position (
+    put_route (parse_route (codes "/rooms/{room}/errors")) at.ErrorLog (
+    put_route (parse_route (codes "/rooms/{room}/requests/{id}")) at.Request (
+    put_route (parse_route (codes "/rooms/{room}/days/{day}")) at.Day (
+    put_route (parse_route (codes "/cancel")) at.Cancellations (
+    put_route (parse_route (codes "/submit")) at.Submissions [])))))))
 
 -- the names of the parameters, each with the word that it has in the target
 abbrev pub taken : Text → RouteOf Resource → List (Text × Text)
@@ -51,4 +51,4 @@ route_with target r = route_at r.value (taken target r)
 
 -- the route of a target
 abbrev pub route_of : Text → Option Route
-route_of target = option_map (route_with target) (first table target)
+route_of target = option_map (route_with target) (first route_table target)

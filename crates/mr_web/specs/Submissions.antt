@@ -6,8 +6,8 @@ use Rattle.mr_model.specs.Texts.{Text}
 use Rattle.mr_model.specs.Step.{Submission, SlotWords}
 use Rattle.mr_web.specs.JsonBodies.{json_of, members_in, text_at}
 
-abbrev pub number_at : Text → Data → Option ℕ
-number_at key d = option_and_then as_u64 (option_and_then as_number (get key d))
+abbrev pub number_member : Text → Data → Option ℕ
+number_member key d = option_and_then as_u64 (option_and_then as_number (get key d))
 
 -- ---- alternatives
 
@@ -17,8 +17,8 @@ slot_with (Some day) None = None
 slot_with (Some day) (Some time) = Some (record { day = day; time = time })
 
 -- a slot is an object of a day and a start, and nothing else
-abbrev pub slot_of : Data → Option SlotWords
-slot_of d = if members_in d == 2 then slot_with (text_at (codes "day") d) (text_at (codes "start") d) else None
+abbrev pub slot_in_json : Data → Option SlotWords
+slot_in_json d = if members_in d == 2 then slot_with (text_at (codes "day") d) (text_at (codes "start") d) else None
 
 abbrev pub slot_before : Option SlotWords → Option (List SlotWords) → Option (List SlotWords)
 slot_before None more = None
@@ -28,7 +28,7 @@ slot_before (Some s) (Some more) = Some (s ∷ more)
 -- a list of slots
 abbrev pub slots_of : Items → Option (List SlotWords)
 slots_of no_items = Some []
-slots_of (item d ds) = slot_before (slot_of d) (slots_of ds)
+slots_of (item d ds) = slot_before (slot_in_json d) (slots_of ds)
 
 -- a submission names alternatives, or it has none
 abbrev pub alternatives_of : Option Data → Option (List SlotWords)
@@ -54,7 +54,7 @@ wish_of d =
     option_map (λ time. record { room = room; title = title; minutes = minutes; day = day; time = time })
     (text_at (codes "start") d))
     (text_at (codes "day") d))
-    (number_at (codes "length") d))
+    (number_member (codes "length") d))
     (text_at (codes "title") d))
     (text_at (codes "room") d)
 
@@ -84,5 +84,5 @@ submission_in d =
     then submission_with (wish_of d) (alternatives_of (get (codes "alternatives") d)) else None
 
 -- the submission that a body is, as the library reads it
-abbrev pub submission_of : Text → Option Submission
-submission_of body = option_and_then submission_in (json_of body)
+abbrev pub submission_in_body : Text → Option Submission
+submission_in_body body = option_and_then submission_in (json_of body)

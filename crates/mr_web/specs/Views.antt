@@ -14,9 +14,9 @@ use Rattle.mr_http.specs.declared.faults.WebFault.TheVariants as fault
 use Rattle.mr_service.specs.declared.commands.Command.{Command}
 use Rattle.mr_service.specs.declared.commands.SlotWords.{SlotWords}
 use Rattle.mr_service.specs.Asked.{command_of, words_of}
-use Rattle.mr_web.specs.Asking.{IsServed, Asks}
+use Rattle.mr_web.specs.RequestAsks.{IsInputServed, Asks}
 use Rattle.mr_web.specs.Submissions.{Wish}
-use Rattle.mr_web.specs.Words.{route_view}
+use Rattle.mr_web.specs.RouteViews.{route_view}
 use Rattle.mr_web.specs.declared.cancellations.CancelWords.{CancelWords}
 use Rattle.mr_web.specs.declared.checks.Asked.{Asked as AskedWords}
 use Rattle.mr_web.specs.declared.rejections.Rejection.{Rejection}
@@ -38,14 +38,14 @@ response_to (rejection.NotAllowed post) = not_allowed (method_name post)
 response_to rejection.TooLarge = too_large
 
 -- what a function returned is what the checks give, unless memory ran out
-abbrev pub Fails : {Y : Type 0} → Stop → Result Y Response → Type 0
-Fails (stop.Fault read.Read) expected = ⊥
-Fails (stop.Fault read.Memory) expected = Unit {0}
-Fails (stop.Rejected r) expected = expected ≡ Err (response_to r)
+abbrev pub FailsAs : {Y : Type 0} → Stop → Result Y Response → Type 0
+FailsAs (stop.Fault read.Read) expected = ⊥
+FailsAs (stop.Fault read.Memory) expected = Unit {0}
+FailsAs (stop.Rejected r) expected = expected ≡ Err (response_to r)
 
-abbrev pub Gives : {X Y : Type 0} → (X → Y) → Result X Stop → Result Y Response → Type 0
-Gives view (Ok x) expected = expected ≡ Ok (view x)
-Gives view (Err e) expected = Fails e expected
+abbrev pub GivesView : {X Y : Type 0} → (X → Y) → Result X Stop → Result Y Response → Type 0
+GivesView view (Ok x) expected = expected ≡ Ok (view x)
+GivesView view (Err e) expected = FailsAs e expected
 
 abbrev pub asked_view : AskedWords → Route × ℕ
 asked_view a = (route_view a.route, a.length)
@@ -77,8 +77,8 @@ bytes_view (bytes.Made v) = v.items
 bytes_view (bytes.Fixed b) = b.now
 
 -- the answer tells the response
-abbrev pub Tells : Response → Answer → Type 0
-Tells response a = (bytes_view a.bytes ≡ response_text response) × (a.status ≡ response.status)
+abbrev pub IsAnswerOf : Response → Answer → Type 0
+IsAnswerOf response a = (bytes_view a.bytes ≡ response_text response) × (a.status ≡ response.status)
 
 -- ---- one request
 
@@ -90,14 +90,14 @@ Settles input (Err (stop.Fault f)) = Unit {0}
 
 -- the answer to a request that asks no command, where there is one
 abbrev pub StopsWith : Stop → Result Answer ReadFault → Type 0
-StopsWith (stop.Rejected r) (Ok a) = Tells (response_to r) a
+StopsWith (stop.Rejected r) (Ok a) = IsAnswerOf (response_to r) a
 StopsWith (stop.Rejected r) (Err f) = ⊥
 StopsWith (stop.Fault f) (Ok a) = ⊥
 StopsWith (stop.Fault f) (Err g) = g ≡ f
 
 -- the input is served, and the tables stand for what the replica then is
 abbrev pub ServedTo : Text → Replica → Tables → Text → ℕ → Type 0
-ServedTo input old after output status = (new : Replica) × IsServed input old output status new × Stands after new
+ServedTo input old after output status = (new : Replica) × IsInputServed input old output status new × Stands after new
 
 -- each way in which an answer is made
 abbrev pub AnswersTo : Text → Tables → Tables → Replica → Result Answer ReadFault → Type 0
@@ -114,14 +114,14 @@ IsServeFault fault.Memory = Unit {0}
 IsServeFault _ = ⊥
 
 -- each way in which serving ends, for what the writer held and holds, and for a replica that the tables stood for
-abbrev pub Ends : Option (List ℕ) → Option (List ℕ) → Text → Tables → Tables → Replica → Result ℕ WebFault → Type 0
-Ends held holds input before after old (Ok status) =
+abbrev pub EndsServed : Option (List ℕ) → Option (List ℕ) → Text → Tables → Tables → Replica → Result ℕ WebFault → Type 0
+EndsServed held holds input before after old (Ok status) =
     (output : Text) × ServedTo input old after output status × Appends held holds output
-Ends held holds input before after old (Err fault.Read) = Keeps held holds × (after ≡ before)
-Ends held holds input before after old (Err fault.Write) =
+EndsServed held holds input before after old (Err fault.Read) = Keeps held holds × (after ≡ before)
+EndsServed held holds input before after old (Err fault.Write) =
     (output : Text) × (status : ℕ) × (n : ℕ) × ServedTo input old after output status × Appends held holds (take n output)
-Ends held holds input before after old (Err fault.Memory) =
+EndsServed held holds input before after old (Err fault.Memory) =
     Keeps held holds × ((after ≡ before) ⊎ ((output : Text) × (status : ℕ) × ServedTo input old after output status))
-Ends held holds input before after old (Err fault.BadReply) = ⊥
-Ends held holds input before after old (Err (fault.Peer status)) = ⊥
-Ends held holds input before after old (Err (fault.Own refusal)) = ⊥
+EndsServed held holds input before after old (Err fault.BadReply) = ⊥
+EndsServed held holds input before after old (Err (fault.Peer status)) = ⊥
+EndsServed held holds input before after old (Err (fault.Own refusal)) = ⊥

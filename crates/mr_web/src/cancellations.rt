@@ -2,7 +2,7 @@ ghost use Rattle.std.specs.Prelude.{◌≡◌, Option, ok_or, IfOk, option_map};
 ghost use Rattle.serde_json.specs.View.{view};
 ghost use Rattle.mr_model.specs.Http.{bad_request};
 ghost use Rattle.mr_web.specs.Cancellations as spec;
-ghost use Rattle.mr_web.specs.Views.{Gives, cancellation_view};
+ghost use Rattle.mr_web.specs.Views.{GivesView, cancellation_view};
 
 use crate::json_bodies::{BAD_REQUEST, json_in, member_count, text_at};
 use crate::rejections::Stop;
@@ -44,7 +44,7 @@ fn cancellation_with(alloc: Global, texts: CancelTexts<'_>) -> Result<CancelWord
 }
 
 fn cancellation_in(alloc: Global, value: &Value) -> Result<CancelWords, Stop>
-    ensures { Gives cancellation_view result (ok_or (spec.cancellation_in (view value.now)) bad_request) }
+    ensures { GivesView cancellation_view result (ok_or (spec.cancellation_in (view value.now)) bad_request) }
 {
     let Some(texts) = texts_of(value) else {
         return Err(BAD_REQUEST);
@@ -54,7 +54,7 @@ fn cancellation_in(alloc: Global, value: &Value) -> Result<CancelWords, Stop>
 
 /// The cancellation that a body is. Out of memory is apart from a body that is none.
 pub(crate) fn cancellation(alloc: Global, body: &[u8]) -> Result<CancelWords, Stop>
-    ensures { Gives cancellation_view result (ok_or (spec.cancellation_of body.now) bad_request) }
+    ensures { GivesView cancellation_view result (ok_or (spec.cancellation_of body.now) bad_request) }
 {
     let value = json_in(alloc, body)?;
     cancellation_in(alloc, &value)

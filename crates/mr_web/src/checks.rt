@@ -4,10 +4,10 @@ ghost use Rattle.matchit.specs.Params.{AllText};
 ghost use Rattle.mr_model.specs.Texts.{Text};
 ghost use Rattle.mr_model.specs.Http.{is_post, method_name as name_of_method};
 ghost use Rattle.mr_http.specs.Fields.{header_fields};
-ghost use Rattle.mr_web.specs.Asking as spec;
+ghost use Rattle.mr_web.specs.RequestAsks as spec;
 ghost use Rattle.mr_web.specs.Routes.{route_at, route_of};
-ghost use Rattle.mr_web.specs.Views.{Gives, asked_view};
-ghost use Rattle.mr_web.specs.Words.{words_in};
+ghost use Rattle.mr_web.specs.Views.{GivesView, asked_view};
+ghost use Rattle.mr_web.specs.RouteViews.{path_words};
 
 use crate::rejections::{Rejection, Stop};
 use crate::routes::{Resource, Route, table, with_words};
@@ -40,7 +40,7 @@ fn method_name(post: bool) -> &'static str
 
 // The length of the body, where method, fields and length are as they are to be.
 fn checked_length(post: bool, method: &str, fields: &[Header<'_>]) -> Result<usize, Stop>
-    ensures gives { Gives (λ n. n) result (spec.checked post method.now (header_fields fields.now)) }
+    ensures gives { GivesView (λ n. n) result (spec.checked post method.now (header_fields fields.now)) }
     ensures small { IfOk result (λ n. n ≤ 1048576) }
 {
     if method != method_name(post) {
@@ -60,9 +60,9 @@ fn asked_at(
     method: &str,
     fields: &[Header<'_>],
 ) -> Result<Asked, Stop>
-    requires { AllText (words_in params.now) }
-    ensures gives { Gives asked_view result
-        (spec.head_asks (Some (route_at resource (words_in params.now))) method.now (header_fields fields.now)) }
+    requires { AllText (path_words params.now) }
+    ensures gives { GivesView asked_view result
+        (spec.head_asks (Some (route_at resource (path_words params.now))) method.now (header_fields fields.now)) }
     ensures small { IfOk result (λ a. a.length ≤ 1048576) }
 {
     let length = checked_length(takes_post(resource), method, fields)?;
@@ -71,7 +71,7 @@ fn asked_at(
 }
 
 fn asked_of(alloc: Global, method: &str, target: &str, fields: &[Header<'_>]) -> Result<Asked, Stop>
-    ensures gives { Gives asked_view result (spec.head_asks (route_of target.now) method.now (header_fields fields.now)) }
+    ensures gives { GivesView asked_view result (spec.head_asks (route_of target.now) method.now (header_fields fields.now)) }
     ensures small { IfOk result (λ a. a.length ≤ 1048576) }
 {
     let Ok(table) = table(alloc) else {
@@ -86,7 +86,7 @@ fn asked_of(alloc: Global, method: &str, target: &str, fields: &[Header<'_>]) ->
 /// What the head at the front of the bytes asks.
 pub(crate) fn asked_by(alloc: Global, bytes: &[u8]) -> Result<Asked, Stop>
     ensures gives { (h : RequestHead) → (rest : List ℕ) → ReadsRequest bytes.now h rest → length h.fields ≤ 64
-        → Gives asked_view result (spec.asked_by h) }
+        → GivesView asked_view result (spec.asked_by h) }
     ensures small { IfOk result (λ a. a.length ≤ 1048576) }
 {
     let mut headers = [EMPTY_HEADER; 64];

@@ -2,7 +2,7 @@ ghost use Rattle.std.specs.Prelude.{◌≡◌, Option, ok_or, option_map};
 ghost use Rattle.serde_json.specs.View.{view};
 ghost use Rattle.mr_model.specs.Http.{bad_request};
 ghost use Rattle.mr_web.specs.JsonBodies as spec;
-ghost use Rattle.mr_web.specs.Views.{Gives};
+ghost use Rattle.mr_web.specs.Views.{GivesView};
 
 use crate::rejections::{Rejection, Stop};
 use mr_http::ReadFault;
@@ -14,7 +14,7 @@ pub(crate) const BAD_REQUEST: Stop = Stop::Rejected(Rejection::BadRequest);
 
 /// The JSON that a body is. Out of memory is apart from a body that is none.
 pub(crate) fn json_in(alloc: Global, body: &[u8]) -> Result<Value, Stop>
-    ensures { Gives view result (ok_or (spec.json_of body.now) bad_request) }
+    ensures { GivesView view result (ok_or (spec.json_of body.now) bad_request) }
 {
     match Value::from_slice(alloc, body) {
         Ok(value) => Ok(value),

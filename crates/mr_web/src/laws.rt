@@ -1,4 +1,4 @@
-ghost use Rattle.mr_web.specs.Laws.{HasOneHead, AsksOneThing};
+ghost use Rattle.mr_web.specs.RequestLaw.{HasOneHead, AsksOneThing};
 
 /// An input has one head or none. So it asks one thing only: a command, or the response to the first check that fails.
 pub fn reading_law()

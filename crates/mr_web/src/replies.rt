@@ -4,8 +4,8 @@ ghost use Rattle.mr_model.specs.Refusals.{OutOfMemory, Store, number_of};
 ghost use Rattle.mr_model.specs.Replies.{Refused, reply_text as text_of_reply};
 ghost use Rattle.mr_base.specs.Refusals.{refusal_of};
 ghost use Rattle.mr_service.specs.Asked.{reply_of};
-ghost use Rattle.mr_web.specs.Replies.{head_text as text_of_head, status_line as line_of_status, length_line as line_of_length, kind_line as line_of_kind};
-ghost use Rattle.mr_web.specs.Views.{Tells, bytes_view, response_to};
+ghost use Rattle.mr_web.specs.ReplyHeads.{head_text as text_of_head, status_line as line_of_status, length_line as line_of_length, kind_line as line_of_kind};
+ghost use Rattle.mr_web.specs.Views.{IsAnswerOf, bytes_view, response_to};
 
 use crate::json_texts::{outcome_json, refusal_json};
 use crate::rejections::Rejection;
@@ -92,7 +92,7 @@ fn fixed(status: u16, bytes: &'static [u8]) -> Answer
 
 /// The answer to a request that fails a check. It takes no memory.
 pub(crate) fn answer_to_rejection(rejection: Rejection) -> Answer
-    ensures { Tells (response_to rejection) result }
+    ensures { IsAnswerOf (response_to rejection) result }
 {
     match rejection {
         Rejection::BadRequest => fixed(400, bad_request_text()),
@@ -152,7 +152,7 @@ fn head_text(alloc: Global, status: u16, is_json: bool, length: usize) -> Result
 }
 
 fn made(alloc: Global, status: u16, is_json: bool, body: &[u8]) -> Result<Answer, AllocError>
-    ensures { IfOk result (Tells (record { status = status; allowed = []; is_json = is_json; body = body.now })) }
+    ensures { IfOk result (IsAnswerOf (record { status = status; allowed = []; is_json = is_json; body = body.now })) }
 {
     let head = head_text(alloc, status, is_json, body.len())?;
     let mut bytes = Vec::from_slice(alloc, head.as_bytes())?;
@@ -175,14 +175,14 @@ fn status_of(refusal: &Refusal) -> u16
 }
 
 fn told_refusal(alloc: Global, refusal: &Refusal) -> Result<Answer, AllocError>
-    ensures { IfOk result (Tells (model.response_of (Refused (refusal_of refusal.now)))) }
+    ensures { IfOk result (IsAnswerOf (model.response_of (Refused (refusal_of refusal.now)))) }
 {
     let body = refusal_json(alloc, refusal)?;
     made(alloc, status_of(refusal), true, body.as_bytes())
 }
 
 fn answer_to_refusal(alloc: Global, refusal: &Refusal) -> Result<Answer, AllocError>
-    ensures { IfOk result (Tells (model.response_of (Refused (refusal_of refusal.now)))) }
+    ensures { IfOk result (IsAnswerOf (model.response_of (Refused (refusal_of refusal.now)))) }
 {
     match refusal {
         Refusal::OutOfMemory => Ok(fixed(503, no_memory_text())),
@@ -192,7 +192,7 @@ fn answer_to_refusal(alloc: Global, refusal: &Refusal) -> Result<Answer, AllocEr
 }
 
 fn told_text(alloc: Global, reply: &Reply) -> Result<Answer, AllocError>
-    ensures { IfOk result (Tells (model.text_response (text_of_reply (reply_of reply.now)))) }
+    ensures { IfOk result (IsAnswerOf (model.text_response (text_of_reply (reply_of reply.now)))) }
 {
     match reply_text(alloc, reply) {
         Ok(body) => made(alloc, 200, false, body.as_slice()),
@@ -202,7 +202,7 @@ fn told_text(alloc: Global, reply: &Reply) -> Result<Answer, AllocError>
 
 /// The answer that tells a reply.
 pub(crate) fn answer_to_reply(alloc: Global, reply: &Reply) -> Result<Answer, AllocError>
-    ensures { IfOk result (Tells (model.response_of (reply_of reply.now))) }
+    ensures { IfOk result (IsAnswerOf (model.response_of (reply_of reply.now))) }
 {
     match reply {
         Reply::Outcome(outcome) => {

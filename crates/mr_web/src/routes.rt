@@ -1,7 +1,7 @@
 ghost use Rattle.std.specs.Prelude.{◌≡◌, [], IfOk, string_bytes};
 ghost use Rattle.matchit.specs.Params.{AllText};
 ghost use Rattle.mr_web.specs.Routes as spec;
-ghost use Rattle.mr_web.specs.Words.{words_in, route_view};
+ghost use Rattle.mr_web.specs.RouteViews.{path_words, route_view};
 
 use matchit::{InsertError, Params, Router};
 use std::alloc::{AllocError, Global};
@@ -34,7 +34,7 @@ pub(crate) enum Route {
 
 /// The table of the resources.
 pub(crate) fn table(alloc: Global) -> Result<Router<Resource>, InsertError>
-    ensures { IfOk result (λ r. r ≡ spec.table) }
+    ensures { IfOk result (λ r. r ≡ spec.route_table) }
 {
     let mut router = Router::new(alloc);
     add_routes(&mut router)?;
@@ -44,7 +44,7 @@ pub(crate) fn table(alloc: Global) -> Result<Router<Resource>, InsertError>
 // The router is the caller's, so that no path of this function has it to drop.
 fn add_routes(router: &mut Router<Resource>) -> Result<(), InsertError>
     requires { router.old ≡ [] }
-    ensures { IfOk result (λ _. router.new ≡ spec.table) }
+    ensures { IfOk result (λ _. router.new ≡ spec.route_table) }
 {
     router.insert("/submit", Resource::Submissions)?;
     router.insert("/cancel", Resource::Cancellations)?;
@@ -58,8 +58,8 @@ fn add_routes(router: &mut Router<Resource>) -> Result<(), InsertError>
 }
 
 fn word(alloc: Global, params: &Params<'_, '_>, name: &str) -> Result<String, AllocError>
-    requires { AllText (words_in params.now) }
-    ensures { IfOk result (λ s. string_bytes s ≡ spec.word_of name.now (words_in params.now)) }
+    requires { AllText (path_words params.now) }
+    ensures { IfOk result (λ s. string_bytes s ≡ spec.word_of name.now (path_words params.now)) }
 {
     String::from_str(alloc, params.get(name).unwrap_or(""))
 }
@@ -70,8 +70,8 @@ pub(crate) fn with_words(
     resource: Resource,
     params: &Params<'_, '_>,
 ) -> Result<Route, AllocError>
-    requires { AllText (words_in params.now) }
-    ensures { IfOk result (λ r. route_view r ≡ spec.route_at resource (words_in params.now)) }
+    requires { AllText (path_words params.now) }
+    ensures { IfOk result (λ r. route_view r ≡ spec.route_at resource (path_words params.now)) }
 {
     match resource {
         Resource::Submissions => Ok(Route::Submissions),

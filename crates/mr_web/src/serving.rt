@@ -7,13 +7,13 @@ ghost use Rattle.mr_http.specs.Inputs.{OfInput};
 ghost use Rattle.mr_http.specs.Reading.{OnceRead};
 ghost use Rattle.mr_http.specs.declared.faults.ReadFault.TheVariants.{Read as read_fault, Memory as memory_fault};
 ghost use Rattle.mr_http.specs.declared.faults.WebFault.TheVariants.{Read as fault_read};
-ghost use Rattle.mr_web.specs.Asking as spec;
-ghost use Rattle.mr_web.specs.Read.{ReadsNoFurther, UnlessFault};
-ghost use Rattle.mr_web.specs.Served.{IsRequest};
-ghost use Rattle.mr_web.specs.Steps.{IsServable};
-ghost use Rattle.mr_web.specs.Views.{AnswersTo, Ends, Gives, IsServeFault, Settles, StopsWith};
-ghost use Rattle.mr_web.specs.Words.{route_view};
-ghost use Rattle.mr_web.specs.Written.{Makes, Writes};
+ghost use Rattle.mr_web.specs.RequestAsks as spec;
+ghost use Rattle.mr_web.specs.RequestRead.{ReadsNoFurther, UnlessFault};
+ghost use Rattle.mr_web.specs.RequestServed.{IsRequest};
+ghost use Rattle.mr_web.specs.RequestSteps.{IsServable};
+ghost use Rattle.mr_web.specs.Views.{AnswersTo, EndsServed, GivesView, IsServeFault, Settles, StopsWith};
+ghost use Rattle.mr_web.specs.RouteViews.{route_view};
+ghost use Rattle.mr_web.specs.RepliesWritten.{MakesReply, Writes};
 
 use crate::cancellations::cancellation;
 use crate::checks::asked_by;
@@ -28,7 +28,7 @@ use std::alloc::{AllocError, Global};
 use std::io::{Read, Write};
 
 fn batch_for(alloc: Global, body: &[u8]) -> Result<Command, Stop>
-    ensures { Gives command_view result (spec.command_in model.Pull body.now) }
+    ensures { GivesView command_view result (spec.command_in model.Pull body.now) }
 {
     let position = Vec::from_slice(alloc, body)?;
     Ok(Command::Local(Local::BatchFor {
@@ -38,7 +38,7 @@ fn batch_for(alloc: Global, body: &[u8]) -> Result<Command, Stop>
 }
 
 fn command_of(alloc: Global, route: Route, body: &[u8]) -> Result<Command, Stop>
-    ensures { Gives command_view result (spec.command_in (route_view route) body.now) }
+    ensures { GivesView command_view result (spec.command_in (route_view route) body.now) }
 {
     match route {
         Route::Submissions => {
@@ -64,7 +64,7 @@ fn command_of(alloc: Global, route: Route, body: &[u8]) -> Result<Command, Stop>
 // The body behind the head, once as much as there is was read.
 fn body_of(buffer: &[u8], start: usize, count: usize) -> Result<&[u8], Stop>
     requires { start ≤ length buffer.now }
-    ensures { Gives (λ b. b.now) result (spec.body_in count (drop start buffer.now)) }
+    ensures { GivesView (λ b. b.now) result (spec.body_in count (drop start buffer.now)) }
 {
     let rest = &buffer[start..];
     if rest.len() < count {
@@ -105,7 +105,7 @@ fn answer_command<K: Keeper>(
     service: &mut Service<K>,
 ) -> Result<Answer, ReadFault>
     ensures served { (known : Option Text) → OfInput known (λ input. Settles input (Ok command.now)) → IsServable (command_view command.now)
-        → IsRequest K.Keeper service.old service.new known result (λ answer. answer.status) AnswersTo Makes }
+        → IsRequest K.Keeper service.old service.new known result (λ answer. answer.status) AnswersTo MakesReply }
     ensures memory { IfErr result (λ e. e ≡ memory_fault) }
 {
     let reply = service.ask(command);
@@ -130,7 +130,7 @@ fn answer_one<R: Read, K: Keeper>(
     reader: &mut R,
     service: &mut Service<K>,
 ) -> Result<Answer, ReadFault>
-    ensures served { IsRequest K.Keeper service.old service.new (R.remaining reader.old) result (λ answer. answer.status) AnswersTo Makes }
+    ensures served { IsRequest K.Keeper service.old service.new (R.remaining reader.old) result (λ answer. answer.status) AnswersTo MakesReply }
     ensures read { IfErr result (λ e. e ≡ read_fault → service.new ≡ service.old) }
     ensures reads { OnOk result (ReadsNoFurther (R.remaining reader.old) (R.remaining reader.new)) }
 {
@@ -152,7 +152,7 @@ pub fn serve_one<R: Read, W: Write, K: Keeper>(
     service: &mut Service<K>,
 ) -> Result<u16, WebFault>
     ensures served { IsRequest K.Keeper service.old service.new (R.remaining reader.old) result (λ status. status)
-        (Ends (W.contents writer.old) (W.contents writer.new)) (Writes (W.contents writer.old) (W.contents writer.new)) }
+        (EndsServed (W.contents writer.old) (W.contents writer.new)) (Writes (W.contents writer.old) (W.contents writer.new)) }
     ensures read { IfErr result (λ e. e ≡ fault_read → Keeps (W.contents writer.old) (W.contents writer.new) × (service.new ≡ service.old)) }
     ensures fault { IfErr result IsServeFault }
     ensures reads { OnceRead (ReadsNoFurther (R.remaining reader.old) (R.remaining reader.new)) result }

@@ -4,7 +4,7 @@ ghost use Rattle.serde_json.specs.View.{view, items_view};
 ghost use Rattle.mr_model.specs.Http.{bad_request};
 ghost use Rattle.mr_service.specs.Asked.{words_of, submission_of};
 ghost use Rattle.mr_web.specs.Submissions as spec;
-ghost use Rattle.mr_web.specs.Views.{AddsSlots, Gives, slots_view, wish_view};
+ghost use Rattle.mr_web.specs.Views.{AddsSlots, GivesView, slots_view, wish_view};
 
 use crate::json_bodies::{BAD_REQUEST, json_in, member_count, text_at};
 use crate::rejections::Stop;
@@ -23,7 +23,7 @@ struct Words<'v> {
 }
 
 fn minutes_of(value: &Value) -> Option<u64>
-    ensures { result ≡ spec.number_at (codes "length") (view value.now) }
+    ensures { result ≡ spec.number_member (codes "length") (view value.now) }
 {
     value.get("length").and_then(Value::as_u64)
 }
@@ -62,7 +62,7 @@ struct SlotTexts<'v> {
 }
 
 fn slot_of<'v>(value: &'v Value) -> Option<SlotTexts<'v>>
-    ensures { option_map (λ s. record { day = s.day.now; time = s.time.now }) result ≡ spec.slot_of (view value.now) }
+    ensures { option_map (λ s. record { day = s.day.now; time = s.time.now }) result ≡ spec.slot_in_json (view value.now) }
 {
     if member_count(value) != 2 {
         return None;
@@ -73,7 +73,7 @@ fn slot_of<'v>(value: &'v Value) -> Option<SlotTexts<'v>>
 }
 
 fn add_slot(alloc: Global, slots: &mut Vec<SlotWords>, value: &Value) -> Result<(), Stop>
-    ensures { AddsSlots (option_map (λ s. s ∷ []) (spec.slot_of (view value.now))) slots.old.items slots.new.items result }
+    ensures { AddsSlots (option_map (λ s. s ∷ []) (spec.slot_in_json (view value.now))) slots.old.items slots.new.items result }
 {
     let Some(slot) = slot_of(value) else {
         return Err(BAD_REQUEST);
@@ -126,7 +126,7 @@ fn submission_with(
 }
 
 fn submission_in(alloc: Global, value: &Value) -> Result<Submission, Stop>
-    ensures { Gives submission_of result (ok_or (spec.submission_in (view value.now)) bad_request) }
+    ensures { GivesView submission_of result (ok_or (spec.submission_in (view value.now)) bad_request) }
 {
     let list = value.get("alternatives");
     let wanted = if list.is_some() { 6 } else { 5 };
@@ -143,7 +143,7 @@ fn submission_in(alloc: Global, value: &Value) -> Result<Submission, Stop>
 
 /// The submission that a body is. Out of memory is apart from a body that is none.
 pub(crate) fn submission(alloc: Global, body: &[u8]) -> Result<Submission, Stop>
-    ensures { Gives submission_of result (ok_or (spec.submission_of body.now) bad_request) }
+    ensures { GivesView submission_of result (ok_or (spec.submission_in_body body.now) bad_request) }
 {
     let value = json_in(alloc, body)?;
     submission_in(alloc, &value)

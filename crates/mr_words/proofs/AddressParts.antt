@@ -1,8 +1,8 @@
 -- The parts of a URL that is an address.
 use Rattle.url.specs.declared.error.ParseError.{ParseError}
-use Rattle.std.proofs.Common.{◌≡◌, refl, sym, ap, subst, ◌∙◌, ℕ, ◌≤◌, true, not, [], ◌∷◌, length, Option, Some, None, is_some, option_map, codes, Result, Ok, Err, MatchResult, eqb-true, arith}
+use Rattle.std.proofs.Common.{◌≡◌, refl, sym, subst, ◌∙◌, ℕ, ◌≤◌, true, not, [], ◌∷◌, length, Option, Some, None, is_some, option_map, codes, Result, Ok, Err, MatchResult, eqb-true, arith}
 use Rattle.std.specs.Prelude.{unwrap_or}
-use Rattle.std.proofs.lemmas.Bool.{and_parts, and_from, false≢true}
+use Rattle.std.proofs.lemmas.Bool.{and_parts, false≢true}
 use Rattle.std.proofs.lemmas.Slice.Eq.{bytes_eq-Decides}
 use Rattle.std.specs.Str.{bytes_eq}
 use Rattle.mr_model.specs.Texts.{Text}
@@ -42,15 +42,6 @@ address_from url host port plain host_is short port_is =
       query = none_is url.query t.0;
       fragment = none_is url.fragment t.1;
     }
-
--- and one that is an address passes it
-pub address_plain : (url : Parts) (host : Text) (port : ℕ) → IsAddressOf url host port → has_plain_parts url ≡ true
-address_plain url host port h =
-    and_from (bytes_eq url.scheme (codes "http")) _ ((bytes_eq-Decides url.scheme (codes "http")).1 h.scheme)
-    (and_from (bytes_eq url.path (codes "/")) _ ((bytes_eq-Decides url.path (codes "/")).1 h.path)
-    (and_from (is_empty url.username) _ (ap is_empty h.username)
-    (and_from (is_empty url.password) _ (ap is_empty h.password)
-    (and_from (not (is_some url.query)) _ (ap (λ o. not (is_some o)) h.query) (ap (λ o. not (is_some o)) h.fragment)))))
 
 -- what is answered for a URL is answered for a text that reads as that URL
 pub address_of_text : {S : Type 0} (bytes : S → Text) (text : Text) (url : Parts) (r : Result (S × ℕ) AddressFault) → parse_url None text ≡ Ok url

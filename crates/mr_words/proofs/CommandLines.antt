@@ -16,8 +16,8 @@ use Rattle.clap.specs.Words.{fault_of, subcommand_of, subcommand_name_of, subcom
 use Rattle.clap.specs.declared.error.ErrorKind.{ErrorKind}
 use Rattle.clap.specs.declared.parser.ArgMatches.{ArgMatches}
 use Rattle.clap.specs.declared.parser.ArgMatches.TheViews.{out-ArgMatches}
-use Rattle.mr_words.specs.Rows.{Rows, asking, commands, in_row, table, invocation_of, has_no_flag, init_row, export_row, import_row, rehearse_row, serve_row, exchange_row, bridge_row}
-use Rattle.mr_words.specs.Reading.{NamesRow, row_by, words_in}
+use Rattle.mr_words.specs.CommandTable.{NamedRows, asking, commands, in_row, table, invocation_of, has_no_flag, init_row, export_row, import_row, rehearse_row, serve_row, exchange_row, bridge_row}
+use Rattle.mr_words.specs.InvocationRead.{NamesRow, row_by, words_in}
 use Rattle.mr_words.specs.Grammar.{program, row_names}
 use Rattle.mr_words.proofs.FlaglessWords.{named, named_is, none_faults, unknown_faults, found_rows, found_free, first_plain, row_matches, words_back, words_id}
 
@@ -33,7 +33,7 @@ asking_none [] = refl
 asking_none (database ∷ words) = refl
 
 -- a row of commands is read as the commands are, behind a database
-asking_rows : (rows : Rows Command) (name : Text) (words : List Text)
+asking_rows : (rows : NamedRows Command) (name : Text) (words : List Text)
     → in_row (map (λ command. (command.0, asking command.1)) rows) name words ≡ asking (in_row rows name) words
 asking_rows [] name words = asking_none words
 asking_rows (row ∷ rows) name words =
@@ -51,7 +51,7 @@ row_is name words =
 -- ---- what clap makes of the words
 
 -- no row is named as none of the subcommands is
-no_row : {A : Type 0} (rows : Rows A) (word : Text) (words : List Text) → named word (map (λ row. row.0) rows) ≡ None → in_row rows word words ≡ None
+no_row : {A : Type 0} (rows : NamedRows A) (word : Text) (words : List Text) → named word (map (λ row. row.0) rows) ≡ None → in_row rows word words ≡ None
 no_row [] word words e = refl
 no_row {A} (row ∷ rows) word words e = go (bytes_eq row.0 word) refl (no_row rows word words) e
   where

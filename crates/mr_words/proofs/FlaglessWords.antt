@@ -8,7 +8,7 @@ use Rattle.std.proofs.lemmas.List.Sums.{fold_push}
 use Rattle.std.proofs.lemmas.Bool.{and_right, and_parts, le-ltb, not-true}
 use Rattle.std.proofs.lemmas.Slice.Eq.{bytes_eq-Decides}
 use Rattle.mr_model.specs.Texts.{Text}
-use Rattle.mr_words.specs.Rows.{has_hyphen, has_no_flag}
+use Rattle.mr_words.specs.CommandTable.{has_hyphen, has_no_flag}
 use Rattle.mr_words.specs.Grammar.{words_rule, row_shape, bare_program, program, row_names}
 use Rattle.clap.specs.Lexer.{usize_max, long_of, short_of}
 use Rattle.clap.specs.Walk.{Names, stop_after, Row, Rule, positional, Walk, all_of, finished, nothing_held, settled, walk, walk_from, walked, answers_to}
@@ -32,9 +32,6 @@ top = record bare_program.top { is_leaf = false }
 
 abbrev with_rows : List Text → App
 with_rows names = record { top = top; subs = map row_shape names }
-
-program_is : program row_names ≡ with_rows row_names
-program_is = refl
 
 pub program_is_simple : is_simple (program row_names) ≡ true
 program_is_simple = refl

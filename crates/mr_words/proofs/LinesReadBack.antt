@@ -10,8 +10,8 @@ use Rattle.mr_model.specs.View.{AskSheet, AskCalendar, AskOutcome, AskErrors}
 use Rattle.mr_model.specs.Step.{AddRoom, Submit, Cancel, Receive, Commit, Truncate, AskPosition, BatchFor, SlotWords}
 use Rattle.mr_model.specs.Step as step
 use Rattle.mr_base.proofs.Decimals.{number_from_to-decimal}
-use Rattle.mr_words.specs.Rows.{Asked, Init, Ask, Export, Import, Rehearse, Serve, Exchange, Bridge, invocation_of, is_t, slot_in, server_in, count_in, connections_in, ◌>>=◌}
-use Rattle.mr_words.specs.Lines.{MayBeAsked, command_line, slot_word}
+use Rattle.mr_words.specs.CommandTable.{Invoked, Init, Ask, Export, Import, Rehearse, Serve, Exchange, Bridge, invocation_of, is_t, slot_in_word, server_in, commit_number_in, connections_in, ◌>>=◌}
+use Rattle.mr_words.specs.CommandSpelling.{MayBeAsked, command_line, slot_word}
 
 -- ---- slots
 
@@ -24,13 +24,13 @@ lacks_t [] none i low = absurd (omega arith)
 lacks_t (c ∷ cs) none zero low = eqb-false c 84 (or_parts (is_t c) (list_any is_t cs) none).0
 lacks_t (c ∷ cs) none (suc i) low = lacks_t cs (or_parts (is_t c) (list_any is_t cs) none).1 i (omega (arith, low))
 
-slot_back : (s : SlotWords) → list_any is_t s.day ≡ false → slot_in (slot_word s) ≡ s
+slot_back : (s : SlotWords) → list_any is_t s.day ≡ false → slot_in_word (slot_word s) ≡ s
 slot_back s none =
     let day = before_first-at 84 s.day s.time (lacks_t s.day none) in
     let time = after_first-at 84 s.day s.time (lacks_t s.day none) in
     λ i. record { day = day i; time = time i }
 
-slots_back : (ss : List SlotWords) → list_all (λ a. not (list_any is_t a.day)) ss ≡ true → map slot_in (map slot_word ss) ≡ ss
+slots_back : (ss : List SlotWords) → list_all (λ a. not (list_any is_t a.day)) ss ≡ true → map slot_in_word (map slot_word ss) ≡ ss
 slots_back [] e = refl
 slots_back (s ∷ ss) e =
     let p = and_parts (not (list_any is_t s.day)) (list_all (λ a. not (list_any is_t a.day)) ss) e in
@@ -41,12 +41,12 @@ slots_back (s ∷ ss) e =
 server_back : (n : ℕ) → 1 ≤ n → n ≤ 99 → server_in (decimal n) ≡ Some n
 server_back n above below = number_from_to-decimal 1 99 n above below (lit< tt)
 
-count_back : (n : ℕ) → n ≤ 999_999_999_999 → count_in (decimal n) ≡ Some n
+count_back : (n : ℕ) → n ≤ 999_999_999_999 → commit_number_in (decimal n) ≡ Some n
 count_back n below = number_from_to-decimal 0 999_999_999_999 n (omega arith) below (lit< tt)
 
 -- ---- all rows
 
-pub lines_read_back : (asked : Asked) → MayBeAsked asked → invocation_of (command_line asked) ≡ Some asked
+pub lines_read_back : (asked : Invoked) → MayBeAsked asked → invocation_of (command_line asked) ≡ Some asked
 lines_read_back (Init database server primary) h =
     ap (λ o. o >>= λ s. (server_in (decimal primary) >>= λ p. Some (Init database s p))) (server_back server h.0 h.1)
     ∙ ap (λ o. o >>= λ p. Some (Init database server p)) (server_back primary h.2 h.3)

@@ -1,7 +1,7 @@
 -- The command line as clap sees it: a subcommand for each row of the table, with one positional for all its words.
 use Rattle.std.specs.Prelude.{◌∷◌, [], List, map, codes, Some, true, fold}
 use Rattle.mr_model.specs.Texts.{Text}
-use Rattle.mr_words.specs.Rows.{table}
+use Rattle.mr_words.specs.CommandTable.{table}
 use Rattle.clap.specs.Lexer.{usize_max}
 use Rattle.clap.specs.Walk.{Rule}
 use Rattle.clap.specs.Simple.{App, Shape, new_rule, new_shape, with_subcommand}

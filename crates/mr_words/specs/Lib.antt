@@ -1,7 +1,7 @@
--- A reader of the contracts trusts Rows, Lines, Reading and Addresses. The other, Grammar, serves private clauses and proofs
+-- A reader of the contracts trusts CommandTable, CommandSpelling, InvocationRead and Addresses. The other, Grammar, serves private clauses and proofs
 -- alone.
-pub mod Rows
-pub mod Lines
-pub mod Reading
+pub mod CommandTable
+pub mod CommandSpelling
+pub mod InvocationRead
 pub mod Grammar
 pub mod Addresses

@@ -2,8 +2,8 @@
 
 ghost use Rattle.std.specs.Prelude.{◌≡◌, IfOk, MatchOption, Some, None, map};
 ghost use Rattle.mr_service.specs.Asked.{local_of};
-ghost use Rattle.mr_words.specs.Rows.{add_room_of, booking_of, cancel_of, commit_of, truncation_of, position_of, sheet_of, calendar_of, outcome_of, errors_of};
-ghost use Rattle.mr_words.specs.Reading.{command_by, question_by};
+ghost use Rattle.mr_words.specs.CommandTable.{add_room_asked, booking_asked, cancel_asked, commit_asked, truncation_asked, position_asked, sheet_asked, calendar_asked, outcome_asked, errors_asked};
+ghost use Rattle.mr_words.specs.InvocationRead.{command_by, question_by};
 
 use crate::words::{read_count, read_part, slots};
 use mr_service::{Local, SlotWords, Submission};
@@ -15,7 +15,8 @@ pub(crate) fn command(
     name: &str,
     words: &[&str],
 ) -> Result<Option<Local>, AllocError>
-    ensures { IfOk result (λ found. MatchOption found (command_by name.now (map (λ w. w.now) words.now) ≡ None) (λ local. command_by name.now (map (λ w. w.now) words.now) ≡ Some (local_of local))) }
+    ensures { IfOk result (λ found. MatchOption found (command_by name.now (map (λ w. w.now) words.now) ≡ None)
+        (λ local. command_by name.now (map (λ w. w.now) words.now) ≡ Some (local_of local))) }
 {
     match name {
         "add-room" => add_room(alloc, words),
@@ -30,7 +31,8 @@ pub(crate) fn command(
 
 /// A question about a room.
 fn question(alloc: Global, name: &str, words: &[&str]) -> Result<Option<Local>, AllocError>
-    ensures { IfOk result (λ found. MatchOption found (question_by name.now (map (λ w. w.now) words.now) ≡ None) (λ local. question_by name.now (map (λ w. w.now) words.now) ≡ Some (local_of local))) }
+    ensures { IfOk result (λ found. MatchOption found (question_by name.now (map (λ w. w.now) words.now) ≡ None)
+        (λ local. question_by name.now (map (λ w. w.now) words.now) ≡ Some (local_of local))) }
 {
     match name {
         "sheet" => sheet(alloc, words),
@@ -42,7 +44,8 @@ fn question(alloc: Global, name: &str, words: &[&str]) -> Result<Option<Local>, 
 }
 
 fn add_room(alloc: Global, words: &[&str]) -> Result<Option<Local>, AllocError>
-    ensures { IfOk result (λ found. MatchOption found (add_room_of (map (λ w. w.now) words.now) ≡ None) (λ local. add_room_of (map (λ w. w.now) words.now) ≡ Some (local_of local))) }
+    ensures { IfOk result (λ found. MatchOption found (add_room_asked (map (λ w. w.now) words.now) ≡ None)
+        (λ local. add_room_asked (map (λ w. w.now) words.now) ≡ Some (local_of local))) }
 {
     let [room] = words else {
         return Ok(None);
@@ -51,7 +54,8 @@ fn add_room(alloc: Global, words: &[&str]) -> Result<Option<Local>, AllocError>
 }
 
 fn booking(alloc: Global, words: &[&str]) -> Result<Option<Local>, AllocError>
-    ensures { IfOk result (λ found. MatchOption found (booking_of (map (λ w. w.now) words.now) ≡ None) (λ local. booking_of (map (λ w. w.now) words.now) ≡ Some (local_of local))) }
+    ensures { IfOk result (λ found. MatchOption found (booking_asked (map (λ w. w.now) words.now) ≡ None)
+        (λ local. booking_asked (map (λ w. w.now) words.now) ≡ Some (local_of local))) }
 {
     let [room, length, day, time, title, alternatives @ ..] = words else {
         return Ok(None);
@@ -69,7 +73,8 @@ fn booking(alloc: Global, words: &[&str]) -> Result<Option<Local>, AllocError>
 }
 
 fn cancel(alloc: Global, words: &[&str]) -> Result<Option<Local>, AllocError>
-    ensures { IfOk result (λ found. MatchOption found (cancel_of (map (λ w. w.now) words.now) ≡ None) (λ local. cancel_of (map (λ w. w.now) words.now) ≡ Some (local_of local))) }
+    ensures { IfOk result (λ found. MatchOption found (cancel_asked (map (λ w. w.now) words.now) ≡ None)
+        (λ local. cancel_asked (map (λ w. w.now) words.now) ≡ Some (local_of local))) }
 {
     let [room, id] = words else {
         return Ok(None);
@@ -81,7 +86,8 @@ fn cancel(alloc: Global, words: &[&str]) -> Result<Option<Local>, AllocError>
 }
 
 fn commit(words: &[&str]) -> Option<Local>
-    ensures { MatchOption result (commit_of (map (λ w. w.now) words.now) ≡ None) (λ local. commit_of (map (λ w. w.now) words.now) ≡ Some (local_of local)) }
+    ensures { MatchOption result (commit_asked (map (λ w. w.now) words.now) ≡ None)
+        (λ local. commit_asked (map (λ w. w.now) words.now) ≡ Some (local_of local)) }
 {
     let [count] = words else {
         return None;
@@ -91,7 +97,8 @@ fn commit(words: &[&str]) -> Option<Local>
 }
 
 fn truncation(words: &[&str]) -> Option<Local>
-    ensures { MatchOption result (truncation_of (map (λ w. w.now) words.now) ≡ None) (λ local. truncation_of (map (λ w. w.now) words.now) ≡ Some (local_of local)) }
+    ensures { MatchOption result (truncation_asked (map (λ w. w.now) words.now) ≡ None)
+        (λ local. truncation_asked (map (λ w. w.now) words.now) ≡ Some (local_of local)) }
 {
     let [count] = words else {
         return None;
@@ -101,7 +108,8 @@ fn truncation(words: &[&str]) -> Option<Local>
 }
 
 fn position(words: &[&str]) -> Option<Local>
-    ensures { MatchOption result (position_of (map (λ w. w.now) words.now) ≡ None) (λ local. position_of (map (λ w. w.now) words.now) ≡ Some (local_of local)) }
+    ensures { MatchOption result (position_asked (map (λ w. w.now) words.now) ≡ None)
+        (λ local. position_asked (map (λ w. w.now) words.now) ≡ Some (local_of local)) }
 {
     match words {
         [] => Some(Local::Position),
@@ -110,7 +118,8 @@ fn position(words: &[&str]) -> Option<Local>
 }
 
 fn sheet(alloc: Global, words: &[&str]) -> Result<Option<Local>, AllocError>
-    ensures { IfOk result (λ found. MatchOption found (sheet_of (map (λ w. w.now) words.now) ≡ None) (λ local. sheet_of (map (λ w. w.now) words.now) ≡ Some (local_of local))) }
+    ensures { IfOk result (λ found. MatchOption found (sheet_asked (map (λ w. w.now) words.now) ≡ None)
+        (λ local. sheet_asked (map (λ w. w.now) words.now) ≡ Some (local_of local))) }
 {
     let [room, day] = words else {
         return Ok(None);
@@ -122,7 +131,8 @@ fn sheet(alloc: Global, words: &[&str]) -> Result<Option<Local>, AllocError>
 }
 
 fn calendar(alloc: Global, words: &[&str]) -> Result<Option<Local>, AllocError>
-    ensures { IfOk result (λ found. MatchOption found (calendar_of (map (λ w. w.now) words.now) ≡ None) (λ local. calendar_of (map (λ w. w.now) words.now) ≡ Some (local_of local))) }
+    ensures { IfOk result (λ found. MatchOption found (calendar_asked (map (λ w. w.now) words.now) ≡ None)
+        (λ local. calendar_asked (map (λ w. w.now) words.now) ≡ Some (local_of local))) }
 {
     let [room, part] = words else {
         return Ok(None);
@@ -135,7 +145,8 @@ fn calendar(alloc: Global, words: &[&str]) -> Result<Option<Local>, AllocError>
 }
 
 fn outcome(alloc: Global, words: &[&str]) -> Result<Option<Local>, AllocError>
-    ensures { IfOk result (λ found. MatchOption found (outcome_of (map (λ w. w.now) words.now) ≡ None) (λ local. outcome_of (map (λ w. w.now) words.now) ≡ Some (local_of local))) }
+    ensures { IfOk result (λ found. MatchOption found (outcome_asked (map (λ w. w.now) words.now) ≡ None)
+        (λ local. outcome_asked (map (λ w. w.now) words.now) ≡ Some (local_of local))) }
 {
     let [room, id] = words else {
         return Ok(None);
@@ -147,7 +158,8 @@ fn outcome(alloc: Global, words: &[&str]) -> Result<Option<Local>, AllocError>
 }
 
 fn errors(alloc: Global, words: &[&str]) -> Result<Option<Local>, AllocError>
-    ensures { IfOk result (λ found. MatchOption found (errors_of (map (λ w. w.now) words.now) ≡ None) (λ local. errors_of (map (λ w. w.now) words.now) ≡ Some (local_of local))) }
+    ensures { IfOk result (λ found. MatchOption found (errors_asked (map (λ w. w.now) words.now) ≡ None)
+        (λ local. errors_asked (map (λ w. w.now) words.now) ≡ Some (local_of local))) }
 {
     let [room] = words else {
         return Ok(None);

@@ -5,9 +5,9 @@ ghost use Rattle.std.specs.String.{string_bytes};
 ghost use Rattle.clap.specs.Words.{found_of, rows_of};
 ghost use Rattle.clap.specs.declared.error.ErrorKind.TheVariants.{OutOfMemory};
 ghost use Rattle.mr_words.specs.declared.invocations.WordFault.TheVariants.{Bad, Memory};
-ghost use Rattle.mr_words.specs.Rows.{has_no_flag, invocation_of};
-ghost use Rattle.mr_words.specs.Lines.{LinesReadBack};
-ghost use Rattle.mr_words.specs.Reading.{NamesRow, asked_of, row_by, words_in};
+ghost use Rattle.mr_words.specs.CommandTable.{has_no_flag, invocation_of};
+ghost use Rattle.mr_words.specs.CommandSpelling.{LinesReadBack};
+ghost use Rattle.mr_words.specs.InvocationRead.{NamesRow, asked_of, row_by, words_in};
 
 use crate::grammar::grammar;
 use crate::rows::row;

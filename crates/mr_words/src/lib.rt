@@ -1,6 +1,6 @@
 //! The words of a command line and the address of a peer, read as values. Below stands `mr_service`, whose commands most
 //! rows of the table ask for; the program's commands (`mr`) stand above. `invocation` answers what the words ask for,
-//! exactly where they are of the table of specs/Rows.antt; `peer_address` the host and the port of a text, exactly where
+//! exactly where they are of the table of specs/CommandTable.antt; `peer_address` the host and the port of a text, exactly where
 //! it is an address as specs/Addresses.antt says. Single words that the lines of scripts have too are read here for both.
 #![tactic(auto)]
 

@@ -1,8 +1,8 @@
 //! The rows of the table, read from the words behind their names.
 
 ghost use Rattle.std.specs.Prelude.{◌≡◌, IfOk, MatchOption, Some, None, map};
-ghost use Rattle.mr_words.specs.Rows.{init_row, export_row, import_row, rehearse_row, serve_row, exchange_row, bridge_row, asking};
-ghost use Rattle.mr_words.specs.Reading.{asked_of, row_by, command_by};
+ghost use Rattle.mr_words.specs.CommandTable.{init_row, export_row, import_row, rehearse_row, serve_row, exchange_row, bridge_row, asking};
+ghost use Rattle.mr_words.specs.InvocationRead.{asked_of, row_by, command_by};
 
 use crate::Invocation;
 use crate::commands::command;

@@ -2,7 +2,7 @@
 
 ghost use Rattle.std.specs.Prelude.{◌≡◌, IfOk, MatchOption, Some, None, map};
 ghost use Rattle.mr_service.specs.Asked.{part_of, words_of};
-ghost use Rattle.mr_words.specs.Rows.{server_in, count_in, line_count_in, port_in, connections_in, part_in, slot_in};
+ghost use Rattle.mr_words.specs.CommandTable.{server_in, commit_number_in, line_count_in, port_in, connections_in, part_in, slot_in_word};
 
 use mr_base::{LineCount, ServerId, read_number};
 use mr_service::{Part, SlotWords};
@@ -18,7 +18,7 @@ pub fn read_server(word: &str) -> Option<ServerId>
 
 /// The number of commits that the word writes.
 pub fn read_count(word: &str) -> Option<u64>
-    ensures { result ≡ count_in word.now }
+    ensures { result ≡ commit_number_in word.now }
 {
     read_number(word, 0, 999_999_999_999)
 }
@@ -59,7 +59,7 @@ pub fn read_part(word: &str) -> Option<Part>
 
 /// The day before the first `T` of the word, and the time behind it. Without a `T` the time is empty.
 fn slot(alloc: Global, word: &str) -> Result<SlotWords, AllocError>
-    ensures { IfOk result (λ slot. words_of slot ≡ slot_in word.now) }
+    ensures { IfOk result (λ slot. words_of slot ≡ slot_in_word word.now) }
 {
     let (day, time) = word.split_once('T').unwrap_or((word, ""));
     Ok(SlotWords {
@@ -70,7 +70,7 @@ fn slot(alloc: Global, word: &str) -> Result<SlotWords, AllocError>
 
 /// The slot of each word.
 pub(crate) fn slots(alloc: Global, words: &[&str]) -> Result<Vec<SlotWords>, AllocError>
-    ensures { IfOk result (λ slots. map words_of slots.items ≡ map slot_in (map (λ w. w.now) words.now)) }
+    ensures { IfOk result (λ slots. map words_of slots.items ≡ map slot_in_word (map (λ w. w.now) words.now)) }
 {
     let mut slots = Vec::new(alloc);
     for word in words {

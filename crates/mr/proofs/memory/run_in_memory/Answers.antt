@@ -4,7 +4,7 @@ use Rattle.sqlite.specs.State.{HasCleanDisk}
 use Rattle.sqlite.specs.Held.{state}
 use Rattle.mr_model.specs.Replica.{opening}
 use Rattle.mr_model.specs.Tables.{Stands}
-use Rattle.mr_rows.specs.Kept.{tables_in}
+use Rattle.mr_rows.specs.Database.{tables_in}
 use Rattle.mr_service.specs.Asked.{command_of, reply_of}
 use Rattle.mr_service.proofs.HeadlineLaws.{headline_kept}
 use Rattle.mr.proofs.memory.run_in_memory.Goals as goal

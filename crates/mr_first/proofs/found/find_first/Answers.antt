@@ -4,7 +4,7 @@ use Rattle.sqlite.specs.Held.{state}
 use Rattle.mr_rows.specs.Form.{room_form, vector_form, booking_form, error_form}
 use Rattle.mr_rows.specs.Shown.{AreStoredAs, IsMeta}
 use Rattle.mr_first.specs.Forms.{first_meta_form, write_form, undo_form}
-use Rattle.mr_first.specs.Shown.{AreFirstRows}
+use Rattle.mr_first.specs.FirstShown.{AreFirstRows}
 use Rattle.mr_first.proofs.ReadLemmas.{looks_then}
 use Rattle.mr_first.proofs.found.find_first.Goals as goal
 

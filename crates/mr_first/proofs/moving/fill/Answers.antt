@@ -1,6 +1,6 @@
 use Rattle.std.proofs.Common.{ap, ◌∙◌}
 use Rattle.sqlite.specs.Held.{state}
-use Rattle.mr_rows.specs.Parts.{put_meta, put_logs}
+use Rattle.mr_rows.specs.ChangeParts.{put_meta, put_logs}
 use Rattle.mr_rows.proofs.StepLemmas.{clean_before}
 use Rattle.mr_first.proofs.moving.fill.Goals as goal
 

@@ -2,7 +2,7 @@ use Rattle.std.proofs.Common.{◌≡◌, ◌∙◌, Ok, rules}
 use Rattle.sqlite.specs.Held.{state}
 use Rattle.sqlite.proofs.StateLemmas.{survives_weaker}
 use Rattle.mr_model.specs.First.{moved_log}
-use Rattle.mr_first.specs.Kept.{first_in}
+use Rattle.mr_first.specs.FirstDatabase.{first_in}
 use Rattle.mr_first.proofs.ReadLemmas.{reads_then}
 use Rattle.mr_first.proofs.MoveLemmas.{IsOf, moves, survives_moving}
 use Rattle.mr_first.proofs.moving.move_up.Goals as goal

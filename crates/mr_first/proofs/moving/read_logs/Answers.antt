@@ -1,6 +1,6 @@
 use Rattle.std.proofs.Common.{◌≡◌, Ok, rules}
 use Rattle.sqlite.specs.Held.{state}
-use Rattle.mr_first.specs.Kept.{first_in}
+use Rattle.mr_first.specs.FirstDatabase.{first_in}
 use Rattle.mr_first.proofs.ReadLemmas.{reads_then}
 use Rattle.mr_first.proofs.moving.read_logs.Goals as goal
 

@@ -2,7 +2,7 @@ use Rattle.std.proofs.Common.{◌≡◌, ◌∙◌, rules}
 use Rattle.sqlite.specs.Held.{state}
 use Rattle.mr_model.specs.First.{moved_log}
 use Rattle.mr_rows.proofs.QueryLemmas.{told_so}
-use Rattle.mr_first.specs.Kept.{first_in}
+use Rattle.mr_first.specs.FirstDatabase.{first_in}
 use Rattle.mr_first.proofs.ReadLemmas.{reads_made}
 use Rattle.mr_first.proofs.moving.read_moved.Goals as goal
 

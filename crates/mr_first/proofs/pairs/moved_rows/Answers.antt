@@ -5,7 +5,7 @@ use Rattle.sqlite.specs.declared.error.ErrorCode.{ErrorCode}
 use Rattle.mr_model.specs.First.{moved_row}
 use Rattle.mr_model.specs.Tables.{LogRow}
 use Rattle.mr_first.specs.Forms.{write_id, undo_id}
-use Rattle.mr_first.specs.Moves.{ArePaired}
+use Rattle.mr_first.specs.MovedUp.{ArePaired}
 use Rattle.mr_first.proofs.PairLemmas.{joined, paired_is, paired_at, more_paired, more_joined}
 use Rattle.mr_first.proofs.pairs.moved_rows.Goals as goal
 

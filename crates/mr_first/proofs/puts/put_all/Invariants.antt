@@ -1,7 +1,7 @@
 use Rattle.std.proofs.Common.{◌≡◌, drop}
 use Rattle.sqlite.specs.State.{Survives}
 use Rattle.sqlite.specs.Held.{state}
-use Rattle.mr_first.specs.Kept.{first_in, IsFirstUnderWay}
+use Rattle.mr_first.specs.FirstDatabase.{first_in, IsFirstUnderWay}
 use Rattle.mr_first.proofs.puts.put_all.Given as goal
 
 abbrev pub invariant-rows : goal.invariant-rows

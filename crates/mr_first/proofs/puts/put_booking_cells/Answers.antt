@@ -5,8 +5,8 @@ use Rattle.mr_model.specs.Calendar.{is_date, date_text}
 use Rattle.mr_model.specs.Tables.{BookingRow}
 use Rattle.mr_rows.specs.Form.{booking_form}
 use Rattle.mr_rows.proofs.Texts.{put_booking_text}
-use Rattle.mr_first.specs.Kept.{MakesFirst, first_in}
-use Rattle.mr_first.specs.Parts.{put_bookings}
+use Rattle.mr_first.specs.FirstDatabase.{MakesFirst, first_in}
+use Rattle.mr_first.specs.FirstParts.{put_bookings}
 use Rattle.mr_first.proofs.Statements.{makes_first, puts_booking}
 use Rattle.mr_first.proofs.puts.put_booking_cells.Goals as goal
 

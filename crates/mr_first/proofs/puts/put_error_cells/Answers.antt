@@ -5,8 +5,8 @@ use Rattle.mr_model.specs.Calendar.{is_date, date_text}
 use Rattle.mr_model.specs.Tables.{ErrorRow}
 use Rattle.mr_rows.specs.Form.{error_form}
 use Rattle.mr_rows.proofs.Texts.{put_error_text}
-use Rattle.mr_first.specs.Kept.{MakesFirst, first_in}
-use Rattle.mr_first.specs.Parts.{put_errors}
+use Rattle.mr_first.specs.FirstDatabase.{MakesFirst, first_in}
+use Rattle.mr_first.specs.FirstParts.{put_errors}
 use Rattle.mr_first.proofs.Statements.{makes_first, puts_error}
 use Rattle.mr_first.proofs.puts.put_error_cells.Goals as goal
 

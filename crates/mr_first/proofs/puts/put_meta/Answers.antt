@@ -4,8 +4,8 @@ use Rattle.sqlite.specs.Held.{state}
 use Rattle.mr_model.specs.Tables.{MetaRow}
 use Rattle.mr_first.specs.Forms.{first_meta_form}
 use Rattle.mr_rows.proofs.Texts.{put_meta_text}
-use Rattle.mr_first.specs.Kept.{MakesFirst, first_in}
-use Rattle.mr_first.specs.Parts.{put_meta}
+use Rattle.mr_first.specs.FirstDatabase.{MakesFirst, first_in}
+use Rattle.mr_first.specs.FirstParts.{put_meta}
 use Rattle.mr_first.proofs.Statements.{makes_first, puts_meta}
 use Rattle.mr_first.proofs.puts.put_meta.Goals as goal
 

@@ -1,5 +1,5 @@
 use Rattle.std.proofs.Common.{inl, inr, refl}
-use Rattle.mr_net.specs.Rounds.{RunsBridged}
+use Rattle.mr_net.specs.ExchangeRounds.{RunsBridged}
 use Rattle.mr_net.proofs.ExchangeLaws.{both_seen, bridged}
 use Rattle.mr_net.proofs.bridging.bridge_between.Goals as goal
 

@@ -1,4 +1,4 @@
-use Rattle.mr_net.specs.Rounds.{RunsRound}
+use Rattle.mr_net.specs.ExchangeRounds.{RunsRound}
 use Rattle.mr_net.proofs.ExchangeLaws.{both_seen, exchanged}
 use Rattle.mr_net.proofs.exchanging.exchange_as.Goals as goal
 

@@ -3,7 +3,7 @@ use Rattle.std.specs.Prelude.{ok_or}
 use Rattle.mr_model.specs.Positions.{Position, read_position}
 use Rattle.mr_http.specs.declared.faults.WebFault.{WebFault}
 use Rattle.mr_http.specs.declared.faults.WebFault.TheVariants.{BadReply}
-use Rattle.mr_peer.specs.Taking.{Says}
+use Rattle.mr_peer.specs.PeerTaking.{Says}
 use Rattle.mr_peer.proofs.ReplyLemmas.{position_unread}
 use Rattle.mr_peer.proofs.positions.position_in.Goals as goal
 

@@ -2,11 +2,11 @@ use Rattle.std.proofs.Common.{ℕ, List, sym, subst}
 use Rattle.mr_http.specs.Faults.{web_fault}
 use Rattle.mr_http.specs.Inputs.{OfInput}
 use Rattle.mr_http.proofs.ReadLemmas.{once_read}
-use Rattle.mr_peer.specs.Read.{ReadsNoFurther}
+use Rattle.mr_peer.specs.ReplyRead.{ReadsNoFurther}
 use Rattle.mr_peer.proofs.ReadBytes.{lost_read}
-use Rattle.mr_peer.specs.Replies.{IsReplied, told_position}
+use Rattle.mr_peer.specs.PeerReplies.{IsReplied, told_position}
 use Rattle.mr_peer.specs.Seen.{reply_seen}
-use Rattle.mr_peer.specs.Taking.{IsReplyFault}
+use Rattle.mr_peer.specs.PeerTaking.{IsReplyFault}
 use Rattle.mr_peer.proofs.FaultLemmas.{handed_on, read_faults, says_faults, position_faults}
 use Rattle.mr_peer.proofs.ReplyLemmas.{says_told}
 use Rattle.mr_peer.proofs.positions.take_position.Goals as goal

@@ -2,7 +2,7 @@ use Rattle.std.proofs.Common.{ℕ, Vec, Global}
 use Rattle.mr_model.specs.Serving.{Reaches}
 use Rattle.mr_model.specs.Step.{AskPosition}
 use Rattle.mr_service.specs.Asked.{reply_of}
-use Rattle.mr_peer.specs.Asking.{HandsPosition}
+use Rattle.mr_peer.specs.PeerAsking.{HandsPosition}
 use Rattle.mr_service.specs.Worlds.{IsPositionText}
 use Rattle.mr_peer.proofs.AskLemmas.{position_handed, position_told, reads_faults, some_position}
 use Rattle.mr_peer.proofs.Exchanges.{of_served}

@@ -7,9 +7,9 @@ use Rattle.mr_model.specs.Positions.{position_of, position_text}
 use Rattle.mr_model.specs.Serving.{Reaches}
 use Rattle.mr_model.specs.Step.{AskPosition}
 use Rattle.mr_http.specs.declared.faults.WebFault.{WebFault}
-use Rattle.mr_peer.specs.Asking.{Wrote, AsksPull, HandsPosition, IsAskFault, SendsPull}
+use Rattle.mr_peer.specs.PeerAsking.{Wrote, AsksPull, HandsPosition, IsAskFault, SendsPull}
 use Rattle.mr_peer.specs.Exchanged.{IsExchanged}
-use Rattle.mr_peer.specs.Requests.{pull_request}
+use Rattle.mr_peer.specs.PeerRequests.{pull_request}
 use Rattle.mr_peer.proofs.AskLemmas.{own_asks, unsent, sent_short}
 use Rattle.mr_peer.proofs.Exchanges.{onward}
 use Rattle.mr_peer.proofs.FaultLemmas.{handed_on}

@@ -6,8 +6,8 @@ use Rattle.mr_http.specs.declared.faults.WebFault.TheVariants.{Memory}
 use Rattle.mr_service.specs.Asked.{reply_of}
 use Rattle.mr_peer.specs.Exchanged.{IsExchanged}
 use Rattle.mr_peer.specs.Seen.{counts_seen}
-use Rattle.mr_peer.specs.Steps.{LeavesTables, TakesBody}
-use Rattle.mr_peer.specs.Taking.{Counts, IsOwnFault}
+use Rattle.mr_peer.specs.ExchangeSteps.{KeepsTables, TakesBody}
+use Rattle.mr_peer.specs.PeerTaking.{CountsTaken, IsOwnFault}
 use Rattle.mr_peer.proofs.Exchanges.{of_served, untouched}
 use Rattle.mr_peer.proofs.FaultLemmas.{counts_faults, counts_leave}
 use Rattle.mr_peer.proofs.TakeLemmas.{counts, counts_told}
@@ -16,7 +16,7 @@ use Rattle.mr_peer.proofs.pulls.receive.Goals as goal
 pub returns-in_default-clause-exchanged : goal.returns-in_default-clause-exchanged
 returns-in_default-clause-exchanged g c =
     let old = c.args.service.now in
-    untouched g.K.Keeper old Memory (Counts c.args.body.now) (TakesBody (g.K.Keeper.tables old)) (λ a. refl)
+    untouched g.K.Keeper old Memory (CountsTaken c.args.body.now) (TakesBody (g.K.Keeper.tables old)) (λ a. refl)
 
 pub returns-clause-exchanged : goal.returns-clause-exchanged
 returns-clause-exchanged g c =
@@ -26,9 +26,9 @@ returns-clause-exchanged g c =
     let bytes = c.in-Ok.bytes.items in
     let reply = c.reply_to-reply.result in
     let R = TakesBody (g.K.Keeper.tables old) in
-    let P : Result (ℕ × ℕ) WebFault → Type 0 = λ r. IsExchanged g.K.Keeper old new r (Counts body) R in
+    let P : Result (ℕ × ℕ) WebFault → Type 0 = λ r. IsExchanged g.K.Keeper old new r (CountsTaken body) R in
     subst P (sym c.counts_in.ensures)
-    (of_served g.K.Keeper old new (Receive bytes) (reply_of reply) (counts_seen reply) (Counts body) R c.reply_to-reply.ensures
+    (of_served g.K.Keeper old new (Receive bytes) (reply_of reply) (counts_seen reply) (CountsTaken body) R c.reply_to-reply.ensures
     (λ a b is. counts a body reply b (subst (λ (l : List ℕ). IsStep a (Receive l) (reply_of reply) b) c.in-Ok.ensures.items is))
     (counts_told reply) (λ t r. (bytes, r)))
 
@@ -40,5 +40,5 @@ pub returns-clause-leaves : goal.returns-clause-leaves
 returns-clause-leaves g c =
     let old = c.args.service.now in
     let new = c.reply_to-reply.new.service in
-    subst (λ (r : Result (ℕ × ℕ) WebFault). IfErr r (LeavesTables g.K.Keeper old new)) (sym c.counts_in.ensures)
+    subst (λ (r : Result (ℕ × ℕ) WebFault). IfErr r (KeepsTables g.K.Keeper old new)) (sym c.counts_in.ensures)
     (counts_leave g.K.Keeper old new c.reply_to-reply.result c.reply_to-reply.ensures.refused)

@@ -5,10 +5,10 @@ use Rattle.mr_model.specs.Texts.{Text}
 use Rattle.mr_base.specs.declared.batches.Ending.{Ending}
 use Rattle.mr_http.specs.declared.faults.WebFault.{WebFault}
 use Rattle.mr_peer.specs.Exchanged.{IsExchanged}
-use Rattle.mr_peer.specs.Replies.{front_body}
+use Rattle.mr_peer.specs.PeerReplies.{front_body}
 use Rattle.mr_peer.specs.Seen.{reply_seen}
-use Rattle.mr_peer.specs.Steps.{LeavesTables, TakesBody}
-use Rattle.mr_peer.specs.Taking.{Takes, TellsOf, IsReplyFault, IsTakeFault}
+use Rattle.mr_peer.specs.ExchangeSteps.{KeepsTables, TakesBody}
+use Rattle.mr_peer.specs.PeerTaking.{Takes, TellsTaken, IsReplyFault, IsTakeFault}
 use Rattle.mr_peer.proofs.Exchanges.{untouched}
 use Rattle.mr_peer.proofs.FaultLemmas.{front_faults, handed_on, own_takes, reply_takes}
 use Rattle.mr_peer.proofs.pulls.take_body.Goals as goal
@@ -45,15 +45,15 @@ pub returns-in_err-body-clause-tells : goal.returns-in_err-body-clause-tells
 returns-in_err-body-clause-tells g c =
     let e = c.in_err-body.field-0.0 in
     let p = err_from_is_err_and c.from_residual.result c.from_residual.ensures.1 in
-    let P : Result (ℕ × ℕ × Ending) WebFault → Type 0 = λ r. TellsOf (front_body (reply_seen c.args.bytes.now c.args.replied)) r in
-    subst P (sym (p.1 ∙ ap Err p.2)) (subst (λ (t : Result Text WebFault). TellsOf t (Err e)) c.in_err-body.ensures refl)
+    let P : Result (ℕ × ℕ × Ending) WebFault → Type 0 = λ r. TellsTaken (front_body (reply_seen c.args.bytes.now c.args.replied)) r in
+    subst P (sym (p.1 ∙ ap Err p.2)) (subst (λ (t : Result Text WebFault). TellsTaken t (Err e)) c.in_err-body.ensures refl)
 
 pub returns-clause-tells : goal.returns-clause-tells
 returns-clause-tells g c =
-    let P : Result Text WebFault → Type 0 = λ told. TellsOf told c.take_batch.result in
+    let P : Result Text WebFault → Type 0 = λ told. TellsTaken told c.take_batch.result in
     subst P c.in_ok-body.ensures c.take_batch.ensures.tells
 
 pub returns-in_err-body-clause-leaves : goal.returns-in_err-body-clause-leaves
 returns-in_err-body-clause-leaves g c =
     let old = c.args.service.now in
-    handed_on (LeavesTables g.K.Keeper old old) c.in_err-body.field-0.0 c.from_residual.result (λ other clean now. refl) c.from_residual.ensures.1
+    handed_on (KeepsTables g.K.Keeper old old) c.in_err-body.field-0.0 c.from_residual.result (λ other clean now. refl) c.from_residual.ensures.1

@@ -6,12 +6,12 @@ use Rattle.mr_http.specs.declared.faults.WebFault.{WebFault}
 use Rattle.mr_http.specs.Inputs.{OfInput}
 use Rattle.mr_http.proofs.ReadLemmas.{once_read}
 use Rattle.mr_peer.specs.Exchanged.{IsExchanged}
-use Rattle.mr_peer.specs.Read.{ReadsNoFurther}
+use Rattle.mr_peer.specs.ReplyRead.{ReadsNoFurther}
 use Rattle.mr_peer.proofs.ReadBytes.{lost_read}
-use Rattle.mr_peer.specs.Replies.{IsReplied, front_body}
+use Rattle.mr_peer.specs.PeerReplies.{IsReplied, front_body}
 use Rattle.mr_peer.specs.Seen.{reply_seen}
-use Rattle.mr_peer.specs.Steps.{LeavesTables, TakesBody, TakesPulled}
-use Rattle.mr_peer.specs.Taking.{Takes, TellsPulled, IsTakeFault}
+use Rattle.mr_peer.specs.ExchangeSteps.{KeepsTables, TakesBody, TakesPulled}
+use Rattle.mr_peer.specs.PeerTaking.{Takes, TellsPulled, IsTakeFault}
 use Rattle.mr_peer.proofs.Exchanges.{onward, untouched}
 use Rattle.mr_peer.proofs.FaultLemmas.{front_faults, handed_on, read_faults, reply_takes}
 use Rattle.mr_peer.proofs.StepLemmas.{takes_some, unread_stays}
@@ -65,7 +65,7 @@ returns-clause-tells g c =
 pub returns-in_err-replied-clause-leaves : goal.returns-in_err-replied-clause-leaves
 returns-in_err-replied-clause-leaves g c =
     let old = c.args.service.now in
-    handed_on (LeavesTables g.K.Keeper old old) (web_fault c.in_err-replied.field-0.0) c.from_residual.result (λ other clean now. refl) c.from_residual.ensures.1
+    handed_on (KeepsTables g.K.Keeper old old) (web_fault c.in_err-replied.field-0.0) c.from_residual.result (λ other clean now. refl) c.from_residual.ensures.1
 
 pub returns-in_err-replied-clause-reads : goal.returns-in_err-replied-clause-reads
 returns-in_err-replied-clause-reads g c =

@@ -10,7 +10,7 @@ use Rattle.mr_base.specs.declared.batches.Ending.{Ending}
 use Rattle.mr_http.specs.declared.faults.WebFault.TheVariants.{Memory}
 use Rattle.mr_service.specs.Asked.{reply_of}
 use Rattle.mr_service.specs.Served.{IsServed}
-use Rattle.mr_peer.specs.Asking.{HandsBatch, IsBatchWith, lacking}
+use Rattle.mr_peer.specs.PeerAsking.{HandsBatch, IsBatchWith, lacking}
 use Rattle.mr_peer.proofs.AskLemmas.{batch_handed, batch_told, reads_faults, some_batch}
 use Rattle.mr_peer.proofs.Exchanges.{of_served, untouched}
 use Rattle.mr_peer.proofs.pushes.own_batch.Goals as goal

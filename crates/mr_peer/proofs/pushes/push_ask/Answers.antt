@@ -10,9 +10,9 @@ use Rattle.mr_model.specs.Step.{batch_of}
 use Rattle.mr_base.specs.Batches.{ending_of}
 use Rattle.mr_base.specs.declared.batches.Ending.{Ending}
 use Rattle.mr_http.specs.declared.faults.WebFault.{WebFault}
-use Rattle.mr_peer.specs.Asking.{GivesBatch, Wrote, AsksPush, HandsBatch, IsAskFault, SendsPush, lacking}
+use Rattle.mr_peer.specs.PeerAsking.{GivesBatch, Wrote, AsksPush, HandsBatch, IsAskFault, SendsPush, lacking}
 use Rattle.mr_peer.specs.Exchanged.{IsExchanged}
-use Rattle.mr_peer.specs.Requests.{push_request}
+use Rattle.mr_peer.specs.PeerRequests.{push_request}
 use Rattle.mr_peer.proofs.AskLemmas.{begun, own_asks, unsent, unwritten, sent_short, wrote_as}
 use Rattle.mr_peer.proofs.Exchanges.{onward}
 use Rattle.mr_peer.proofs.FaultLemmas.{handed_on}

@@ -5,7 +5,7 @@ use Rattle.httparse.specs.Grammar.{ReadsResponse, status_code}
 use Rattle.mr_http.specs.Heads.{BeginsWithReplyHead, FindsReplyHead}
 use Rattle.mr_http.specs.Inputs.{OfInput}
 use Rattle.mr_http.proofs.HeadLemmas.{reply_head_more, reply_head_short}
-use Rattle.mr_peer.specs.Replies.{IsReplied, reply_of, length_in}
+use Rattle.mr_peer.specs.PeerReplies.{IsReplied, reply_cut, reply_length}
 use Rattle.mr_peer.proofs.ReadBytes.{head_read, body_read}
 use Rattle.mr_peer.proofs.ReplyLemmas.{without_head, without_length, with_body, no_length, one_length}
 use Rattle.mr_peer.proofs.replies.read_reply.Goals as goal
@@ -31,7 +31,7 @@ returns-in_default-head_in-clause-replied g c =
     let Q : List ℕ → Type 0 = λ l. ReadsResponse l h (drop start first) in
     let reads = subst Q (sym c.as_slice.ensures.value) found.1.reads in
     let told = sym c.in_default-head_in.is ∙ c.head_in.ensures.head h (drop start first) reads found.1.fields in
-    without_length known between first (drop start first) h c.in_ok-start.ensures.consumed found.1 (no_length (status_code h) (length_in h) told)
+    without_length known between first (drop start first) h c.in_ok-start.ensures.consumed found.1 (no_length (status_code h) (reply_length h) told)
 
 -- the body was read to its end, or to that of the input
 pub returns-clause-replied : goal.returns-clause-replied
@@ -48,7 +48,7 @@ returns-clause-replied g c =
     let h = found.0 in
     let Q : List ℕ → Type 0 = λ l. ReadsResponse l h (drop start first) in
     let reads = subst Q (sym c.as_slice.ensures.value) found.1.reads in
-    let told = one_length (status_code h) status n (length_in h) (c.in-Some-head_in.ensures.head h (drop start first) reads found.1.fields) in
+    let told = one_length (status_code h) status n (reply_length h) (c.in-Some-head_in.ensures.head h (drop start first) reads found.1.fields) in
     let filled = c.in_ok-fill_to.ensures in
     let whole = Consumes-trans known between left first filled.0 c.in_ok-start.ensures.consumed filled.2 in
     let head = reply_head_more first filled.0 h (drop start first) found.1 in
@@ -59,8 +59,8 @@ returns-clause-replied g c =
     let body = with_body known left (first ++ filled.0) rest h n whole head
     (λ few. filled.3 (omega (arith, few, size, short, length-append first filled.0, length-append (drop start first) filled.0, length-drop start first)))
     told.0 in
-    let S : ℕ → Type 0 = λ s. OfInput known (λ input. IsReplied input (Some (reply_of s rest n))) in
-    let T : List ℕ → Type 0 = λ l. OfInput known (λ input. IsReplied input (Some (reply_of status l n))) in
+    let S : ℕ → Type 0 = λ s. OfInput known (λ input. IsReplied input (Some (reply_cut s rest n))) in
+    let T : List ℕ → Type 0 = λ l. OfInput known (λ input. IsReplied input (Some (reply_cut status l n))) in
     subst T (sym behind) (subst S (sym told.1) body)
 
 -- ---- how far the reader was read
@@ -88,7 +88,7 @@ returns-clause-reads g c =
     let h = found.0 in
     let Q : List ℕ → Type 0 = λ l. ReadsResponse l h (drop start first) in
     let reads = subst Q (sym c.as_slice.ensures.value) found.1.reads in
-    let told = one_length (status_code h) c.in-Some-head_in.status n (length_in h) (c.in-Some-head_in.ensures.head h (drop start first) reads found.1.fields) in
+    let told = one_length (status_code h) c.in-Some-head_in.status n (reply_length h) (c.in-Some-head_in.ensures.head h (drop start first) reads found.1.fields) in
     let filled = c.in_ok-fill_to.ensures in
     let whole = Consumes-trans known between left first filled.0 c.in_ok-start.ensures.consumed filled.2 in
     let short : start ≤ length first = omega (arith, reply_head_short first h (drop start first) found.1, found.2) in

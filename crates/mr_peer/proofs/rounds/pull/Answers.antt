@@ -6,12 +6,12 @@ use Rattle.mr_model.specs.Step.{AskPosition}
 use Rattle.mr_model.specs.Tables.{Stands}
 use Rattle.mr_base.specs.declared.batches.Ending.{Ending}
 use Rattle.mr_http.specs.declared.faults.WebFault.{WebFault}
-use Rattle.mr_peer.specs.Asking.{AsksPull}
+use Rattle.mr_peer.specs.PeerAsking.{AsksPull}
 use Rattle.mr_peer.specs.Exchanged.{IsExchanged}
-use Rattle.mr_peer.specs.Requests.{pull_request}
+use Rattle.mr_peer.specs.PeerRequests.{pull_request}
 use Rattle.mr_peer.specs.Rounds.{Pulls}
-use Rattle.mr_peer.specs.Steps.{ReachesByPull, TakesBody, TakesPulled}
-use Rattle.mr_peer.specs.Taking.{TakesReply}
+use Rattle.mr_peer.specs.ExchangeSteps.{ReachesByPull, TakesBody, TakesPulled}
+use Rattle.mr_peer.specs.PeerTaking.{TakesReply}
 use Rattle.mr_peer.proofs.AskLemmas.{ask_failed, failed_as}
 use Rattle.mr_peer.proofs.Exchanges.{both, onward, reached}
 use Rattle.mr_peer.proofs.StepLemmas.{pulls_behind, body_behind}

@@ -7,9 +7,9 @@ use Rattle.mr_model.specs.Step.{batch_of}
 use Rattle.mr_base.specs.Batches.{ending_of}
 use Rattle.mr_base.specs.declared.batches.Ending.{Ending}
 use Rattle.mr_http.specs.declared.faults.WebFault.{WebFault}
-use Rattle.mr_peer.specs.Asking.{GivesBatch, AsksPush, lacking}
+use Rattle.mr_peer.specs.PeerAsking.{GivesBatch, AsksPush, lacking}
 use Rattle.mr_peer.specs.Exchanged.{IsExchanged}
-use Rattle.mr_peer.specs.Requests.{push_request}
+use Rattle.mr_peer.specs.PeerRequests.{push_request}
 use Rattle.mr_peer.specs.Rounds.{Pushes, TellsTook}
 use Rattle.mr_peer.proofs.AskLemmas.{ask_failed}
 use Rattle.mr_peer.proofs.Exchanges.{onward}

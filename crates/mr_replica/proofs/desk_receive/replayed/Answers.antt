@@ -10,7 +10,6 @@ returns-clause-replayed c = λ a b items m sound board planned.
     desk_replayed a b items m sound c.args.plan.undone c.deref.result.now c.args.trial.now.rows c.replayed_in_rooms.new.trial.rows c.in_ok-rows.rows.items board planned.undone_are (c.deref.ensures.value ∙ planned.again_are)
     (c.in_ok-rows.ensures.replayed planned.nothing_again) in
     record {
-      others_are = planned.others_are;
       again_are = planned.again_are;
       was_are = planned.was_are;
       rows_are = done.0;

@@ -2,7 +2,7 @@ use Rattle.std.proofs.Common.{◌≡◌, ◌∷◌, map, filter}
 use Rattle.std.specs.List.Sorted.{IsPermutation}
 use Rattle.sqlite_value.specs.declared.value.Value.TheVariants.{Null}
 use Rattle.sqlite.specs.Held.{state}
-use Rattle.mr_rows.specs.Kept.{tables_in}
+use Rattle.mr_rows.specs.Database.{tables_in}
 use Rattle.mr_rows.proofs.AskedLemmas.{on_told, answer_added}
 use Rattle.mr_rows.proofs.QueryLemmas.{reads_made}
 use Rattle.mr_rows.proofs.asked_rows.add_answer.Goals as goal

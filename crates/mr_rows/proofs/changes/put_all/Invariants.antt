@@ -1,7 +1,7 @@
 use Rattle.std.proofs.Common.{◌≡◌, drop}
 use Rattle.sqlite.specs.State.{Survives}
 use Rattle.sqlite.specs.Held.{state}
-use Rattle.mr_rows.specs.Kept.{tables_in, IsUnderWay}
+use Rattle.mr_rows.specs.Database.{tables_in, IsChangeUnderWay}
 use Rattle.mr_rows.proofs.changes.put_all.Given as goal
 
 abbrev pub invariant-rows : goal.invariant-rows
@@ -9,4 +9,4 @@ invariant-rows g l =
     let first = state g.S.Store l.fn.tx.conn.now in
     let now = state g.S.Store l.tx.conn.now in
     (l.tx.conn.ghost_name ≡ l.fn.tx.conn.ghost_name) × Survives first now (λ _. ⊥)
-    × IsUnderWay first now (g.R.StoredRow.put_in (drop l.row-index l.rows) (tables_in now.now.trees)) (g.R.StoredRow.put_in l.rows (tables_in first.now.trees))
+    × IsChangeUnderWay first now (g.R.StoredRow.put_in (drop l.row-index l.rows) (tables_in now.now.trees)) (g.R.StoredRow.put_in l.rows (tables_in first.now.trees))

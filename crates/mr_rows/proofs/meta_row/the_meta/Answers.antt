@@ -2,7 +2,7 @@ use Rattle.std.proofs.Common.{◌≡◌, ◌∷◌, map, rules}
 use Rattle.sqlite_value.specs.declared.value.Value.TheVariants.{Null}
 use Rattle.sqlite.specs.Held.{state}
 use Rattle.std.specs.List.Sorted.{IsPermutation}
-use Rattle.mr_rows.specs.Cells.{meta_in}
+use Rattle.mr_rows.specs.RowCells.{meta_in}
 use Rattle.mr_rows.specs.Reads.{metas_in}
 use Rattle.mr_rows.proofs.QueryLemmas.{reads_made, told_so}
 use Rattle.mr_rows.proofs.FirstLemmas.{meta_is}

@@ -4,8 +4,8 @@ use Rattle.sqlite.specs.Held.{state}
 use Rattle.mr_model.specs.Writes.{Id}
 use Rattle.mr_model.specs.Tables.{CancelRow}
 use Rattle.mr_rows.specs.Form.{cancel_form}
-use Rattle.mr_rows.specs.Kept.{Makes, tables_in}
-use Rattle.mr_rows.specs.Parts.{put_cancels}
+use Rattle.mr_rows.specs.Database.{MakesTables, tables_in}
+use Rattle.mr_rows.specs.ChangeParts.{put_cancels}
 use Rattle.mr_rows.proofs.Texts.{put_cancel_text}
 use Rattle.mr_rows.proofs.StatementLemmas.{makes, puts_cancel}
 use Rattle.mr_rows.proofs.puts.put_cancel_cells.Goals as goal
@@ -22,5 +22,5 @@ returns-clause-put g c =
     let time = c.requires.time ∙ sym (ap (λ (r : CancelRow). r.time) c.row.view_is) in
     let seq = c.requires.seq ∙ sym (ap (λ (r : CancelRow). r.seq) c.row.view_is) in
     let ran = λ (clean : HasCleanDisk (state g.S.Store new)) (within : IsTrue old.in_transaction). (rw (c.params-to_sql.ensures, c.params-to_sql-2.ensures, c.params-to_sql-3.ensures, c.params-to_sql-4.ensures, c.params-to_sql-5.ensures, c.params-to_sql-6.ensures, c.params-to_sql-7.ensures, c.params-to_sql-8.ensures, c.number.ensures.value, c.as_str.ensures.text, server, n, time, seq) at (c.execute.ensures.runs clean within)) in
-    subst (λ (row : CancelRow). Makes (state g.S.Store old) (state g.S.Store new) (put_cancels (row ∷ []) (tables_in (state g.S.Store old).now.trees)) c.execute.result) c.row.view_is
+    subst (λ (row : CancelRow). MakesTables (state g.S.Store old) (state g.S.Store new) (put_cancels (row ∷ []) (tables_in (state g.S.Store old).now.trees)) c.execute.result) c.row.view_is
     (makes g.S.Store old new put_cancel_text (cancel_form.cells row) (put_cancels (row ∷ [])) c.execute.result (puts_cancel row) ran (λ outside. (c.execute.ensures.ended outside).1))

@@ -6,10 +6,10 @@ use Rattle.sqlite.specs.Held.{state}
 use Rattle.mr_model.specs.Tables.{LogRow}
 use Rattle.mr_replay.specs.Places.{place_of}
 use Rattle.mr_tables.specs.Cells.{action_cells}
-use Rattle.mr_rows.specs.Cells.{action_row, place_number}
+use Rattle.mr_rows.specs.RowCells.{action_row, place_number}
 use Rattle.mr_rows.specs.Form.{log_form}
-use Rattle.mr_rows.specs.Kept.{Makes, tables_in}
-use Rattle.mr_rows.specs.Parts.{put_logs}
+use Rattle.mr_rows.specs.Database.{MakesTables, tables_in}
+use Rattle.mr_rows.specs.ChangeParts.{put_logs}
 use Rattle.mr_rows.proofs.Texts.{put_log_text}
 use Rattle.mr_rows.proofs.StatementLemmas.{makes, puts_log}
 use Rattle.mr_rows.proofs.puts.put_log_parts.Goals as goal
@@ -27,5 +27,5 @@ returns-clause-put g c =
     let ran = λ (clean : HasCleanDisk (state g.S.Store new)) (within : IsTrue old.in_transaction).
     subst (λ (cells : Row). ExecutesInside 0 put_log_text cells (state g.S.Store old) (state g.S.Store new) c.execute.result) whole
     (rw (c.params-to_sql.ensures, c.params-to_sql-2.ensures, c.params-to_sql-3.ensures, c.params-to_sql-4.ensures, c.params-to_sql-5.ensures, c.params-to_sql-6.ensures, c.params-to_sql-7.ensures, c.params-to_sql-8.ensures, c.params-to_sql-9.ensures, c.params-to_sql-10.ensures, c.params-to_sql-11.ensures, c.params-to_sql-12.ensures, c.number.ensures.value, c.as_str.ensures.text, time, seq) at (c.execute.ensures.runs clean within)) in
-    subst (λ (row : LogRow). Makes (state g.S.Store old) (state g.S.Store new) (put_logs (row ∷ []) (tables_in (state g.S.Store old).now.trees)) c.execute.result) c.row.view_is
+    subst (λ (row : LogRow). MakesTables (state g.S.Store old) (state g.S.Store new) (put_logs (row ∷ []) (tables_in (state g.S.Store old).now.trees)) c.execute.result) c.row.view_is
     (makes g.S.Store old new put_log_text (log_form.cells row) (put_logs (row ∷ [])) c.execute.result (puts_log row) ran (λ outside. (c.execute.ensures.ended outside).1))

@@ -3,8 +3,8 @@ use Rattle.sqlite.specs.State.{HasCleanDisk}
 use Rattle.sqlite.specs.Held.{state}
 use Rattle.mr_model.specs.Tables.{MetaRow}
 use Rattle.mr_rows.specs.Form.{meta_form}
-use Rattle.mr_rows.specs.Kept.{Makes, tables_in}
-use Rattle.mr_rows.specs.Parts.{put_meta}
+use Rattle.mr_rows.specs.Database.{MakesTables, tables_in}
+use Rattle.mr_rows.specs.ChangeParts.{put_meta}
 use Rattle.mr_rows.proofs.Texts.{put_meta_text}
 use Rattle.mr_rows.proofs.StatementLemmas.{makes, puts_meta}
 use Rattle.mr_rows.proofs.puts.put_meta_cells.Goals as goal
@@ -18,5 +18,5 @@ returns-clause-put g c =
     let dropped = c.requires.dropped ∙ sym (ap (λ (r : MetaRow). r.dropped) c.row.view_is) in
     let clock = c.requires.clock ∙ sym (ap (λ (r : MetaRow). r.clock) c.row.view_is) in
     let ran = λ (clean : HasCleanDisk (state g.S.Store new)) (within : IsTrue old.in_transaction). (rw (c.params-to_sql.ensures, c.params-to_sql-2.ensures, c.params-to_sql-3.ensures, c.params-to_sql-4.ensures, c.params-to_sql-5.ensures, c.params-to_sql-6.ensures, c.params-to_sql-7.ensures, c.number.ensures.value, c.number-2.ensures.value, commits, dropped, clock) at (c.execute.ensures.runs clean within)) in
-    subst (λ (row : MetaRow). Makes (state g.S.Store old) (state g.S.Store new) (put_meta row (tables_in (state g.S.Store old).now.trees)) c.execute.result) c.row.view_is
+    subst (λ (row : MetaRow). MakesTables (state g.S.Store old) (state g.S.Store new) (put_meta row (tables_in (state g.S.Store old).now.trees)) c.execute.result) c.row.view_is
     (makes g.S.Store old new put_meta_text (meta_form.cells row) (put_meta row) c.execute.result (puts_meta row) ran (λ outside. (c.execute.ensures.ended outside).1))

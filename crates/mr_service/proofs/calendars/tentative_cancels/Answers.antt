@@ -3,7 +3,7 @@ use Rattle.std.proofs.Math.Bool.{or-false}
 use Rattle.std.proofs.lemmas.List.{drop_more, at_drop_all}
 use Rattle.mr_replica.specs.Sets.{has_id}
 use Rattle.mr_replica.proofs.Sets.{added_more}
-use Rattle.mr_service.specs.Questions.{is_tentative, has_tentative}
+use Rattle.mr_service.specs.Questions.{is_tentative_cancel, has_tentative}
 use Rattle.mr_service.proofs.calendars.tentative_cancels.Goals as goal
 
 pub loop-row-preserved : goal.loop-row-preserved
@@ -15,7 +15,7 @@ loop-row-preserved c = λ id.
     let old = c.loop-row.ids in
     let new = c.add_if_tentative.new.ids in
     let here = drop_more rows k row c.loop-row-test.true ∙ ap (λ x. x ∷ rest) (sym c.row-item.is) in
-    added_more (has_id new id) (has_id old id) (is_tentative id row) (has_tentative id rest) (has_tentative id rows)
+    added_more (has_id new id) (has_id old id) (is_tentative_cancel id row) (has_tentative id rest) (has_tentative id rows)
     (c.in_ok-add_if_tentative.ensures.ids id)
     (subst (λ left. (has_id old id || has_tentative id left) ≡ has_tentative id rows) here (c.loop-row.invariant id))
 

@@ -3,7 +3,7 @@ use Rattle.std.proofs.lemmas.Result.{err_from_is_err_and}
 use Rattle.mr_model.specs.Step.{Ask}
 use Rattle.mr_model.specs.View.{AskCalendar}
 use Rattle.mr_service.specs.Asked.{part_of}
-use Rattle.mr_service.specs.Questions.{Shows}
+use Rattle.mr_service.specs.Questions.{ShowsCalendar}
 use Rattle.mr_service.proofs.KeeperReads.{read_then, read_next, failed_by, refused_by, answered_by}
 use Rattle.mr_service.proofs.RoomSteps as steps
 use Rattle.mr_service.proofs.questions.calendar.Goals as goal
@@ -28,6 +28,6 @@ returns g c =
       served = answered_by g.K.Keeper c.args.keeper.now c.rows_of_part.new.keeper c.in_ok-rows.rows (Ask c.args.room.now (AskCalendar (part_of c.args.part))) _ (read_next g.K.Keeper c.args.keeper.now c.known_room.new.keeper c.rows_of_part.new.keeper c.in_ok-room.room _ c.in_ok-room.ensures.read c.in_ok-rows.ensures.read)
           (λ u o. steps.calendar_step (g.K.Keeper.tables c.args.keeper.now) (g.K.Keeper.tables c.rows_of_part.new.keeper) c.args.room.now c.in_ok-room.room (part_of c.args.part) c.in_ok-rows.rows.items
           (c.rows_of_part.ensures.read.same u o ∙ same u o) (c.in_ok-room.ensures.finds (c.rows_of_part.ensures.read.clean u) (c.known_room.ensures.read.opens (c.rows_of_part.ensures.read.clean u) (c.rows_of_part.ensures.read.opens u o)))
-          (subst (λ t. Shows (part_of c.args.part) c.in_ok-room.room t c.in_ok-rows.rows.items) (same u o) (c.in_ok-rows.ensures.shows u (c.rows_of_part.ensures.read.opens u o))))
+          (subst (λ t. ShowsCalendar (part_of c.args.part) c.in_ok-room.room t c.in_ok-rows.rows.items) (same u o) (c.in_ok-rows.ensures.shows u (c.rows_of_part.ensures.read.opens u o))))
           (λ told. cc told);
     }

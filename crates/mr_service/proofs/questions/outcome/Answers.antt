@@ -4,7 +4,7 @@ use Rattle.mr_model.specs.Step.{Ask}
 use Rattle.mr_model.specs.View.{AskOutcome}
 use Rattle.mr_tables.specs.Cells.{place_row_of}
 use Rattle.mr_store.specs.Picked.{IsPlaceOf}
-use Rattle.mr_service.specs.Questions.{TellsOf}
+use Rattle.mr_service.specs.Questions.{TellsOutcomeOf}
 use Rattle.mr_service.proofs.KeeperReads.{read_ok, read_then, read_next, fails_all, refused_by, answered_by}
 use Rattle.mr_service.proofs.RoomSteps as steps
 use Rattle.mr_service.proofs.questions.outcome.Goals as goal
@@ -56,7 +56,7 @@ returns-in_err-outcome-in-Some g c =
           (λ u o. steps.outcome_failed (k.tables c.args.keeper.now) (k.tables c.outcome_at.new.keeper) c.args.room.now c.in_ok-room.room c.args.id.now c.in_ok-id.id c.in-Some.place c.in_err-outcome-in-Some.field-0.0
           (c.outcome_at.ensures.read.same u o ∙ same_place u o) (c.in_ok-room.ensures.finds (c.place_of.ensures.quiet.clean (before u)) (c.known_room.ensures.read.opens (c.place_of.ensures.quiet.clean (before u)) (c.place_of.ensures.quiet.opens (before u) (open_before u o))))
           (subst (λ t. IsPlaceOf c.in_ok-room.room c.in_ok-id.id t (Some c.in-Some.place)) (same_room u o) (subst (IsPlaceOf c.in_ok-room.room c.in_ok-id.id (k.tables c.known_room.new.keeper)) c.in-Some.is (c.in_ok-place.ensures.place (before u) (c.place_of.ensures.quiet.opens (before u) (open_before u o)))))
-          (subst (λ t. TellsOf c.in_ok-room.room t (place_row_of c.in-Some.place) (Err c.in_err-outcome-in-Some.field-0.0)) (same_place u o) (c.in_err-outcome-in-Some.ensures.tells u (open_before u o)))));
+          (subst (λ t. TellsOutcomeOf c.in_ok-room.room t (place_row_of c.in-Some.place) (Err c.in_err-outcome-in-Some.field-0.0)) (same_place u o) (c.in_err-outcome-in-Some.ensures.tells u (open_before u o)))));
     }
 
 pub returns-in-Some : goal.returns-in-Some
@@ -72,6 +72,6 @@ returns-in-Some g c =
           (λ u o. steps.outcome_step (k.tables c.args.keeper.now) (k.tables c.outcome_at.new.keeper) c.args.room.now c.in_ok-room.room c.args.id.now c.in_ok-id.id c.in-Some.place c.in_ok-outcome-in-Some.outcome c.in_ok-id.ensures.value
           (c.outcome_at.ensures.read.same u o ∙ same_place u o) (c.in_ok-room.ensures.finds (c.place_of.ensures.quiet.clean (before u)) (c.known_room.ensures.read.opens (c.place_of.ensures.quiet.clean (before u)) (c.place_of.ensures.quiet.opens (before u) (open_before u o))))
           (subst (λ t. IsPlaceOf c.in_ok-room.room c.in_ok-id.id t (Some c.in-Some.place)) (same_room u o) (subst (IsPlaceOf c.in_ok-room.room c.in_ok-id.id (k.tables c.known_room.new.keeper)) c.in-Some.is (c.in_ok-place.ensures.place (before u) (c.place_of.ensures.quiet.opens (before u) (open_before u o)))))
-          (subst (λ t. TellsOf c.in_ok-room.room t (place_row_of c.in-Some.place) (Ok c.in_ok-outcome-in-Some.outcome)) (same_place u o) (c.in_ok-outcome-in-Some.ensures.tells u (open_before u o))))
+          (subst (λ t. TellsOutcomeOf c.in_ok-room.room t (place_row_of c.in-Some.place) (Ok c.in_ok-outcome-in-Some.outcome)) (same_place u o) (c.in_ok-outcome-in-Some.ensures.tells u (open_before u o))))
           (λ told. cc told);
     }

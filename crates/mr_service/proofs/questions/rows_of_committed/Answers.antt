@@ -3,7 +3,7 @@ use Rattle.std.proofs.lemmas.Result.{err_from_is_err_and}
 use Rattle.std.specs.List.Sorted.{IsPermutation, IsSortedBy}
 use Rattle.mr_model.specs.Replies.{Committed}
 use Rattle.mr_store.specs.Picked.{booking_before, picked_cancelled, picked_cancels}
-use Rattle.mr_service.specs.Questions.{Shows, committed_rows}
+use Rattle.mr_service.specs.Questions.{ShowsCalendar, committed_rows}
 use Rattle.mr_service.proofs.KeeperReads.{read_ok, read_err, read_next, read_within, of_memory, both_ok}
 use Rattle.mr_service.proofs.RoomSteps as steps
 use Rattle.mr_service.proofs.questions.rows_of_committed.Goals as goal
@@ -56,7 +56,7 @@ returns g c =
           (read_ok k c.cancelled.new.self c.cancels.new.self true _ c.in_ok-cancels.ensures.quiet)))
           c.committed_calendar.ensures.only;
       shows = λ u o.
-          both_ok c.committed_calendar.result (λ shown. IsPermutation (committed_rows bookings cancelled cancels) shown.items) (λ shown. IsSortedBy booking_before shown.items) (λ shown. Shows Committed c.args.room.now (k.tables c.args.keeper.now) shown.items)
+          both_ok c.committed_calendar.result (λ shown. IsPermutation (committed_rows bookings cancelled cancels) shown.items) (λ shown. IsSortedBy booking_before shown.items) (λ shown. ShowsCalendar Committed c.args.room.now (k.tables c.args.keeper.now) shown.items)
           (λ shown moved up. steps.committed_shown (k.tables c.args.keeper.now) c.args.room.now bookings cancelled cancels shown.items
           (c.in_ok-bookings.ensures.bookings (first u) o)
           (subst (λ t. IsPermutation (picked_cancelled c.args.room.now t) cancelled) (same_first u o) (c.in_ok-cancelled.ensures.cancelled (c.cancels.ensures.quiet.clean u) (open_first u o)))

@@ -2,7 +2,7 @@ use Rattle.std.proofs.Common.{◌∙◌, ap, sym, ◌||◌, List}
 use Rattle.std.specs.List.{list_any}
 use Rattle.mr_service.specs.declared.commands.SlotWords.{SlotWords}
 use Rattle.mr_service.specs.Asked.{words_of, submission_of}
-use Rattle.mr_service.specs.Requests.{lacks_time}
+use Rattle.mr_service.specs.SubmittedWords.{lacks_time}
 use Rattle.mr_service.proofs.WordsRead.{any-map}
 use Rattle.mr_service.proofs.words.lacks_some_time.Goals as goal
 

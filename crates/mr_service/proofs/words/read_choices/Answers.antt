@@ -5,7 +5,7 @@ use Rattle.std.specs.List.{list_any}
 use Rattle.mr_model.specs.Step.{Submission, slot_of}
 use Rattle.mr_service.specs.declared.commands.SlotWords.{SlotWords}
 use Rattle.mr_service.specs.Asked.{words_of, submission_of}
-use Rattle.mr_service.specs.Requests.{lacks_day, lacks_time}
+use Rattle.mr_service.specs.SubmittedWords.{lacks_day, lacks_time}
 use Rattle.mr_service.proofs.WordsRead as words
 use Rattle.mr_service.proofs.words.read_choices.Goals as goal
 

@@ -6,8 +6,8 @@ use Rattle.std.specs.List.Sorted.{IsPermutation}
 use Rattle.mr_model.specs.Writes.{Id}
 use Rattle.mr_model.specs.Replica.{is_among}
 use Rattle.mr_model.specs.Queries.{booking_id}
-use Rattle.mr_rows.specs.Kept.{tables_in}
-use Rattle.mr_rows.specs.Cells.{booking_in}
+use Rattle.mr_rows.specs.Database.{tables_in}
+use Rattle.mr_rows.specs.RowCells.{booking_in}
 use Rattle.mr_rows.proofs.QueryLemmas.{reads_made, told_so}
 use Rattle.mr_rows.proofs.FirstLemmas.{found_booking}
 use Rattle.mr_sql.proofs.answers.booking_of.Goals as goal

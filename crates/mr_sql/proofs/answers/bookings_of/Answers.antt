@@ -3,8 +3,8 @@ use Rattle.sqlite_value.specs.declared.value.Value.TheVariants.{Null}
 use Rattle.sqlite.specs.Held.{state}
 use Rattle.std.specs.List.Sorted.{IsPermutation}
 use Rattle.mr_rows.specs.RowQuestions.{is_booking_asked}
-use Rattle.mr_rows.specs.Cells.{booking_in}
-use Rattle.mr_rows.specs.Kept.{tables_in}
+use Rattle.mr_rows.specs.RowCells.{booking_in}
+use Rattle.mr_rows.specs.Database.{tables_in}
 use Rattle.mr_rows.proofs.QueryLemmas.{reads_made, told_two}
 use Rattle.mr_sql.proofs.AnswerLemmas.{calendar_is}
 use Rattle.mr_sql.proofs.answers.bookings_of.Goals as goal

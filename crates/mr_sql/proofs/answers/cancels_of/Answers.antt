@@ -4,8 +4,8 @@ use Rattle.sqlite.specs.Held.{state}
 use Rattle.std.proofs.Common.{subst, sym}
 use Rattle.std.specs.List.Sorted.{IsPermutation}
 use Rattle.mr_store.specs.Picked.{picked_cancels}
-use Rattle.mr_rows.specs.Cells.{cancel_in}
-use Rattle.mr_rows.specs.Kept.{tables_in}
+use Rattle.mr_rows.specs.RowCells.{cancel_in}
+use Rattle.mr_rows.specs.Database.{tables_in}
 use Rattle.mr_rows.proofs.QueryLemmas.{reads_made, told_so}
 use Rattle.mr_sql.proofs.answers.cancels_of.Goals as goal
 

@@ -1,8 +1,8 @@
 use Rattle.std.proofs.Common.{◌∙◌, Ok, ap, sym, subst, rules}
 use Rattle.sqlite.specs.Held.{state}
 use Rattle.mr_store.specs.Picked.{IsPlaceOf}
-use Rattle.mr_rows.specs.Kept.{tables_in}
-use Rattle.mr_sql.specs.Places.{AreRowsOf, AreCancelRowsOf, taken_in, chosen}
+use Rattle.mr_rows.specs.Database.{tables_in}
+use Rattle.mr_sql.specs.PlaceOfId.{AreRowsOf, AreCancelRowsOf, taken_in, chosen}
 use Rattle.mr_rows.proofs.QueryLemmas.{reads_then}
 use Rattle.mr_sql.proofs.AnswerLemmas.{chosen_is}
 use Rattle.mr_sql.proofs.answers.place_of.Goals as goal

@@ -3,8 +3,8 @@ use Rattle.std.specs.Prelude.{find}
 use Rattle.sqlite.specs.Held.{state}
 use Rattle.mr_model.specs.Writes.{Id, same_id}
 use Rattle.mr_model.specs.Queries.{booking_id, error_id}
-use Rattle.mr_rows.specs.Kept.{tables_in}
-use Rattle.mr_sql.specs.Places.{AreRowsOf}
+use Rattle.mr_rows.specs.Database.{tables_in}
+use Rattle.mr_sql.specs.PlaceOfId.{AreRowsOf}
 use Rattle.mr_rows.proofs.QueryLemmas.{reads_then}
 use Rattle.mr_sql.proofs.answers.rows_of.Goals as goal
 

@@ -1,15 +1,8 @@
 use Rattle.std.proofs.Common.{subst}
 use Rattle.sqlite.specs.Files.{file_state}
 use Rattle.mr_sql.specs.Refused.{IsFoundIn}
-use Rattle.mr_sql.proofs.FileLemmas.{taken_found}
 use Rattle.mr_sql.proofs.files.open.Goals as goal
 
 pub returns-in-Ok-clause-found : goal.returns-in-Ok-clause-found
 returns-in-Ok-clause-found g c clean =
-    let found = c.in-Ok.ensures.found clean in
-    subst (λ image. IsFoundIn image (file_state c.in-Ok.conn).committed.trees) c.in_ok-files.ensures.held (found.holds, found.reads)
-
-pub returns-in-Ok-clause-taken : goal.returns-in-Ok-clause-taken
-returns-in-Ok-clause-taken g c clean =
-    let opened = c.in-Ok.ensures.opened clean in
-    taken_found _ _ opened.0 opened.1 (c.in-Ok.ensures.found clean).reads
+    subst (λ image. IsFoundIn image (file_state c.in-Ok.conn).committed.trees) c.in_ok-files.ensures.held (c.in-Ok.ensures.found clean)

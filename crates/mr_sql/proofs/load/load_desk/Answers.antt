@@ -1,7 +1,7 @@
 use Rattle.std.proofs.Common.{◌≡◌, subst, sym, rules}
 use Rattle.sqlite.specs.Held.{state}
 use Rattle.mr_model.specs.Tables.{Stands}
-use Rattle.mr_rows.specs.Kept.{tables_in}
+use Rattle.mr_rows.specs.Database.{tables_in}
 use Rattle.mr_rows.proofs.QueryLemmas.{reads_made, told_so}
 use Rattle.mr_sql.proofs.load.load_desk.Goals as goal
 

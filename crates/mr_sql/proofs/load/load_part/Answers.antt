@@ -2,8 +2,8 @@ use Rattle.std.proofs.Common.{◌∙◌, ap, rules}
 use Rattle.sqlite.specs.Held.{state}
 use Rattle.mr_model.specs.Scopes.{in_scope}
 use Rattle.mr_part.specs.ScopeOf.{scope_of}
-use Rattle.mr_rows.specs.Kept.{tables_in}
-use Rattle.mr_sql.specs.Questions.{AreEnough}
+use Rattle.mr_rows.specs.Database.{tables_in}
+use Rattle.mr_sql.specs.ScopeQuestions.{AreEnough}
 use Rattle.mr_rows.proofs.QueryLemmas.{reads_made, told_so}
 use Rattle.mr_sql.proofs.ScopeLemmas.{numbered_of}
 use Rattle.mr_sql.proofs.load.load_part.Goals as goal

@@ -1,5 +1,5 @@
 use Rattle.std.proofs.Common.{◌≡◌, take, length, map}
-use Rattle.mr_sql.specs.Told.{index_told}
+use Rattle.mr_sql.specs.OurSchema.{index_told}
 use Rattle.mr_sql.proofs.schemas.are_indexes.Given as goal
 
 abbrev pub invariant-at : goal.invariant-at

@@ -1,9 +1,9 @@
 use Rattle.std.proofs.Common.{◌≡◌, ◌∙◌, filter, refl}
 use Rattle.sqlite.specs.Held.{state}
 use Rattle.mr_part.specs.ScopeOf.{scope_of}
-use Rattle.mr_rows.specs.Kept.{tables_in}
-use Rattle.mr_rows.specs.RowQuestions.{is_asked, is_booking_asked, is_booking_of}
-use Rattle.mr_sql.specs.Questions.{room_questions, target_questions}
+use Rattle.mr_rows.specs.Database.{tables_in}
+use Rattle.mr_rows.specs.RowQuestions.{is_row_asked, is_booking_asked, is_booking_named}
+use Rattle.mr_sql.specs.ScopeQuestions.{room_questions, target_questions}
 use Rattle.mr_rows.proofs.QueryLemmas.{uses_so}
 use Rattle.mr_sql.proofs.ScopeLemmas.{by_room, by_id}
 use Rattle.mr_sql.proofs.scope_rows.read_bookings.Goals as goal
@@ -13,7 +13,7 @@ returns-then-asks_by_id-clause-reads g c =
     let old = state g.S.Store c.args.conn.now in
     let scope = scope_of c.args.scope.now in
     let rows_of = (tables_in old.now.trees).booking in
-    uses_so old (state g.S.Store c.read_target_booking.new.conn) c.read_target_booking.result (λ rows. rows.items ≡ filter (is_asked is_booking_of (target_questions scope)) rows_of) _
+    uses_so old (state g.S.Store c.read_target_booking.new.conn) c.read_target_booking.result (λ rows. rows.items ≡ filter (is_row_asked is_booking_named (target_questions scope)) rows_of) _
     (λ held rows is. is ∙ by_id c.args.commits scope c.args.logs.now (c.if-asks_by_id.ensures.by_id refl c.args.commits c.args.logs.now) rows_of) c.read_target_booking.ensures.reads
 
 pub returns-else-asks_by_id-clause-reads : goal.returns-else-asks_by_id-clause-reads
@@ -21,5 +21,5 @@ returns-else-asks_by_id-clause-reads g c =
     let old = state g.S.Store c.args.conn.now in
     let scope = scope_of c.args.scope.now in
     let rows_of = (tables_in old.now.trees).booking in
-    uses_so old (state g.S.Store c.read_room_bookings.new.conn) c.read_room_bookings.result (λ rows. rows.items ≡ filter (is_asked is_booking_asked (room_questions c.args.commits scope c.args.logs.now)) rows_of) _
+    uses_so old (state g.S.Store c.read_room_bookings.new.conn) c.read_room_bookings.result (λ rows. rows.items ≡ filter (is_row_asked is_booking_asked (room_questions c.args.commits scope c.args.logs.now)) rows_of) _
     (λ held rows is. is ∙ by_room c.args.commits scope c.args.logs.now (c.if-asks_by_id.ensures.by_room refl) rows_of) c.read_room_bookings.ensures.reads

@@ -1,7 +1,7 @@
 use Rattle.std.proofs.Common.{◌≡◌, ◌∙◌, filter, refl, subst, rules}
 use Rattle.sqlite.specs.Held.{state}
-use Rattle.mr_rows.specs.Kept.{tables_in}
-use Rattle.mr_rows.specs.RowQuestions.{is_asked, is_log_asked}
+use Rattle.mr_rows.specs.Database.{tables_in}
+use Rattle.mr_rows.specs.RowQuestions.{is_row_asked, is_log_asked}
 use Rattle.mr_rows.specs.Reads.{ReadsInUse}
 use Rattle.mr_rows.proofs.QueryLemmas.{survives_itself}
 use Rattle.mr_sql.proofs.scope_rows.read_logs.Goals as goal
@@ -12,4 +12,4 @@ returns-in_err-questions-clause-reads g c = (survives_itself (state g.S.Store c.
 pub returns-clause-reads : goal.returns-clause-reads
 returns-clause-reads g c =
     let old = state g.S.Store c.args.conn.now in
-    subst (λ asked. ReadsInUse old (state g.S.Store c.asked_rows.new.conn) c.asked_rows.result (λ rows. rows.items ≡ filter (is_asked is_log_asked asked) (tables_in old.now.trees).log)) (c.deref.ensures.value ∙ c.in_ok-questions.ensures) c.asked_rows.ensures.reads
+    subst (λ asked. ReadsInUse old (state g.S.Store c.asked_rows.new.conn) c.asked_rows.result (λ rows. rows.items ≡ filter (is_row_asked is_log_asked asked) (tables_in old.now.trees).log)) (c.deref.ensures.value ∙ c.in_ok-questions.ensures) c.asked_rows.ensures.reads

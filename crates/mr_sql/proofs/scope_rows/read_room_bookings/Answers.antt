@@ -1,9 +1,9 @@
 use Rattle.std.proofs.Common.{◌≡◌, ◌∙◌, filter, refl, rules}
 use Rattle.sqlite.specs.Held.{state}
 use Rattle.mr_part.specs.ScopeOf.{scope_of}
-use Rattle.mr_rows.specs.Kept.{tables_in}
-use Rattle.mr_rows.specs.RowQuestions.{is_asked, is_booking_asked}
-use Rattle.mr_sql.specs.Questions.{room_questions}
+use Rattle.mr_rows.specs.Database.{tables_in}
+use Rattle.mr_rows.specs.RowQuestions.{is_row_asked, is_booking_asked}
+use Rattle.mr_sql.specs.ScopeQuestions.{room_questions}
 use Rattle.mr_rows.proofs.QueryLemmas.{survives_itself, uses_so}
 use Rattle.mr_sql.proofs.ScopeLemmas.{rooms_asked}
 use Rattle.mr_sql.proofs.scope_rows.read_room_bookings.Goals as goal
@@ -14,7 +14,7 @@ returns-in-Ok-clause-reads g c =
     let same : c.deref.result.now ≡ c.in-Ok.asked.items = c.deref.ensures.value in
     let bookings = (tables_in old.now.trees).booking in
     let rooms = room_questions c.args.commits (scope_of c.args.scope.now) c.args.logs.now in
-    uses_so old (state g.S.Store c.asked_rows.new.conn) c.asked_rows.result (λ rows. rows.items ≡ filter (is_asked is_booking_asked c.in-Ok.asked.items) bookings) _
+    uses_so old (state g.S.Store c.asked_rows.new.conn) c.asked_rows.result (λ rows. rows.items ≡ filter (is_row_asked is_booking_asked c.in-Ok.asked.items) bookings) _
     (λ held rows is. is ∙ rooms_asked c.in-Ok.asked.items rooms c.in-Ok.ensures bookings) (rw same at c.asked_rows.ensures.reads)
 
 pub returns-in-Err-clause-reads : goal.returns-in-Err-clause-reads

@@ -1,8 +1,8 @@
 use Rattle.std.proofs.Common.{◌≡◌, Ok, rules, subst, sym}
 use Rattle.sqlite.specs.Held.{state}
 use Rattle.mr_part.specs.ScopeOf.{scope_of}
-use Rattle.mr_rows.specs.Kept.{tables_in}
-use Rattle.mr_sql.specs.Questions.{AreRead, AreEnough}
+use Rattle.mr_rows.specs.Database.{tables_in}
+use Rattle.mr_sql.specs.ScopeQuestions.{AreRead, AreEnough}
 use Rattle.mr_rows.proofs.QueryLemmas.{reads_on}
 use Rattle.mr_sql.proofs.ScopeLemmas.{read_enough}
 use Rattle.mr_sql.proofs.scope_rows.read_scope.Goals as goal

@@ -1,6 +1,6 @@
 use Rattle.std.proofs.Common.{◌&&◌}
 use Rattle.std.specs.Prelude.{bytes_eq}
-use Rattle.mr_store.specs.Picked.{is_asked}
+use Rattle.mr_store.specs.Picked.{is_day_asked}
 use Rattle.mr_store.proofs.MarksTell.{mark_at, picked_more}
 use Rattle.mr_store.proofs.marks.pick_marked.Goals as goal
 
@@ -10,4 +10,4 @@ pick_one-requires-clause-mark c =
 
 pub loop-k-preserved : goal.loop-k-preserved
 loop-k-preserved c =
-    picked_more (λ r. bytes_eq r.room c.args.room.now && is_asked c.args.day r.day) c.args.picked.now.items c.loop-k.picked.items c.pick_one.new.picked.items c.args.rows.now c.loop-k.k c.index-rows-k.result c.loop-k-test.true c.index-rows-k.is c.loop-k.invariant c.in_ok-pick_one.ensures
+    picked_more (λ r. bytes_eq r.room c.args.room.now && is_day_asked c.args.day r.day) c.args.picked.now.items c.loop-k.picked.items c.pick_one.new.picked.items c.args.rows.now c.loop-k.k c.index-rows-k.result c.loop-k-test.true c.index-rows-k.is c.loop-k.invariant c.in_ok-pick_one.ensures

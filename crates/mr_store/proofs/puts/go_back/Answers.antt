@@ -1,6 +1,6 @@
 use Rattle.std.proofs.Common.{◌≡◌, ◌++◌, ◌∷◌, [], sym, ap, subst, ◌∙◌}
 use Rattle.mr_tables.proofs.Putting.{InOrder}
-use Rattle.mr_store.specs.Rows.{around, Precede}
+use Rattle.mr_store.specs.RowsAround.{around, Precede}
 use Rattle.mr_store.proofs.Gaps.{precede_ordered}
 use Rattle.mr_store.proofs.puts.go_back.Goals as goal
 

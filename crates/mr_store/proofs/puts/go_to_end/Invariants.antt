@@ -1,6 +1,6 @@
 use Rattle.std.proofs.Common.{◌≡◌, ◌+◌}
 use Rattle.std.specs.Vec.{vec_len, vec_capacity}
-use Rattle.mr_store.specs.Rows.{around}
+use Rattle.mr_store.specs.RowsAround.{around}
 use Rattle.mr_store.proofs.puts.go_to_end.Given as goal
 
 abbrev pub invariant-loop-next : goal.invariant-loop-next

@@ -1,7 +1,7 @@
 use Rattle.std.proofs.Common.{◌≡◌, ◌++◌, ◌∷◌, [], length, sym, ap, subst, ◌∙◌, arith}
 use Rattle.std.proofs.lemmas.List.{append-nil}
 use Rattle.mr_tables.specs.Change.{put}
-use Rattle.mr_store.specs.Rows.{around, Precede}
+use Rattle.mr_store.specs.RowsAround.{around, Precede}
 use Rattle.mr_store.proofs.Gaps.{around-step, precede_more, put_last, put_between, put_over}
 use Rattle.mr_store.proofs.puts.put_ahead.Goals as goal
 use Rattle.mr_store.proofs.puts.put_ahead.Goals.{then-is_before-2, else-is_before-2}

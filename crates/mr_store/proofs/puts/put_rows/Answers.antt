@@ -2,7 +2,7 @@ use Rattle.std.proofs.Common.{◌∷◌, [], reverse, sym, ap, subst, ◌∙◌,
 use Rattle.std.proofs.lemmas.List.{reverse-append}
 use Rattle.mr_tables.specs.Change.{put_all}
 use Rattle.mr_tables.proofs.Putting.{InOrder, put_in_order}
-use Rattle.mr_store.specs.Rows.{around}
+use Rattle.mr_store.specs.RowsAround.{around}
 use Rattle.mr_store.proofs.puts.put_rows.Goals as goal
 
 pub loop-row-preserved : goal.loop-row-preserved

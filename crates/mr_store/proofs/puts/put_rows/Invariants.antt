@@ -2,7 +2,7 @@ use Rattle.std.proofs.Common.{◌≡◌, ◌+◌, ◌≤◌, true, reverse}
 use Rattle.std.specs.Vec.{vec_len, vec_capacity}
 use Rattle.mr_tables.specs.Change.{put_all}
 use Rattle.mr_tables.proofs.Putting.{InOrder}
-use Rattle.mr_store.specs.Rows.{around}
+use Rattle.mr_store.specs.RowsAround.{around}
 use Rattle.mr_store.proofs.puts.put_rows.Given as goal
 
 -- with those that are left the rows come to what all of them make

@@ -10,9 +10,9 @@ use Rattle.httparse.proofs.GrammarLemmas.{request_unique}
 use Rattle.mr_model.specs.Http.{Route, Response}
 use Rattle.mr_http.specs.Fields.{header_fields, fields_of}
 use Rattle.mr_http.proofs.FieldLemmas.{same_fields}
-use Rattle.mr_web.specs.Asking.{head_asks}
+use Rattle.mr_web.specs.RequestAsks.{head_asks}
 use Rattle.mr_web.specs.Routes.{route_of}
-use Rattle.mr_web.specs.Views.{Gives, asked_view}
+use Rattle.mr_web.specs.Views.{GivesView, asked_view}
 use Rattle.mr_web.proofs.checks.asked_by.Goals as goal
 
 -- the parsed head is the one at the front of the bytes
@@ -30,7 +30,7 @@ returns-clause-gives c h rest reads few =
     same_Some _ _ (ap option_copied (sym c.in-Some-Some.is-1) ∙ found.1.path ∙ ap (λ (k : RequestHead). Some k.target) same) in
     let fields : header_fields request.headers.now ≡ fields_of h.fields =
     same_fields request.headers.now found.0.fields found.1.fields ∙ ap (λ (k : RequestHead). fields_of k.fields) same in
-    let Q : Result (Route × ℕ) Response → Type 0 = Gives asked_view c.asked_of.result in
+    let Q : Result (Route × ℕ) Response → Type 0 = GivesView asked_view c.asked_of.result in
     subst Q (ap (λ m. head_asks (route_of c.in-Some-Some.target.now) m (header_fields request.headers.now)) method
     ∙ ap (λ t. head_asks (route_of t) h.method (header_fields request.headers.now)) target
     ∙ ap (head_asks (route_of h.target) h.method) fields) c.asked_of.ensures.gives

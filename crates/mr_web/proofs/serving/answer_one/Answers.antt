@@ -1,4 +1,4 @@
-use Rattle.mr_web.specs.Read.{ReadsNoFurther}
+use Rattle.mr_web.specs.RequestRead.{ReadsNoFurther}
 use Rattle.mr_web.proofs.ReadBytes.{answered_ok, answered_unless}
 use Rattle.mr_web.proofs.Served.{request_stopped}
 use Rattle.mr_web.proofs.serving.answer_one.Goals as goal

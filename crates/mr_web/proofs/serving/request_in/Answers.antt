@@ -6,10 +6,10 @@ use Rattle.std.proofs.KnownBytes.{Consumes-trans}
 use Rattle.mr_http.specs.Heads.{BeginsWithHead, FindsHead}
 use Rattle.mr_http.specs.Inputs.{OfInput}
 use Rattle.mr_http.proofs.HeadLemmas.{head_more, head_short}
-use Rattle.mr_web.specs.Asking.{asked_by, body_in}
-use Rattle.mr_web.specs.Read.{ReadsNoFurther, UnlessFault}
-use Rattle.mr_web.specs.Views.{asked_view, Fails, Settles}
-use Rattle.mr_web.specs.Words.{route_view}
+use Rattle.mr_web.specs.RequestAsks.{asked_by, body_in}
+use Rattle.mr_web.specs.RequestRead.{ReadsNoFurther, UnlessFault}
+use Rattle.mr_web.specs.Views.{asked_view, FailsAs, Settles}
+use Rattle.mr_web.specs.RouteViews.{route_view}
 use Rattle.mr_service.specs.declared.commands.Command.{Command}
 use Rattle.mr_web.specs.declared.rejections.Stop.{Stop}
 use Rattle.mr_http.proofs.Known.{of_input_unit}
@@ -86,7 +86,7 @@ returns-in_err-body-clause-settles g c =
     let bytes : c.as_slice-2.result.now ≡ first ++ filled.0 = c.as_slice-2.ensures.value ∙ filled.1 in
     let behind : drop start c.as_slice-2.result.now ≡ rest = ap (drop start) bytes ∙ drop-append-le start first filled.0 short in
     let e = c.in_err-body.field-0.0 in
-    let cut : Fails e (body_in a.1 rest) = subst (λ l. Fails e (body_in a.1 l)) behind c.in_err-body.ensures in
+    let cut : FailsAs e (body_in a.1 rest) = subst (λ l. FailsAs e (body_in a.1 l)) behind c.in_err-body.ensures in
     let size : vec_len c.fill_to.new.buffer ≡ length (first ++ filled.0) = c.fill_to.new.buffer.ok.0 ∙ ap length filled.1 in
     let told = err_from_is_err_and c.from_residual-in_err-body.result c.from_residual-in_err-body.ensures.1 in
     let S : Result Command Stop → Type 0 = λ r. OfInput known (λ input. Settles input r) in

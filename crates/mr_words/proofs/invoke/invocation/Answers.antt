@@ -2,7 +2,7 @@ use Rattle.std.proofs.Common.{◌≡◌, subst, map, None, Some, MatchResult}
 use Rattle.std.specs.String.{string_bytes}
 use Rattle.clap.specs.Words.{found_of, rows_of}
 use Rattle.mr_words.specs.declared.invocations.WordFault.TheVariants.{Bad}
-use Rattle.mr_words.specs.Reading.{asked_of}
+use Rattle.mr_words.specs.InvocationRead.{asked_of}
 use Rattle.mr_words.proofs.CommandLines.{answered, found_one}
 use Rattle.mr_words.proofs.invoke.invocation.Goals as goal
 

@@ -1,7 +1,7 @@
 use Rattle.std.proofs.Common.{◌≡◌, refl, subst, None, Some}
 use Rattle.std.proofs.lemmas.Option.{MatchOption-at_some, MatchOption-at_none}
 use Rattle.clap.specs.Words.{found_of}
-use Rattle.mr_words.specs.Reading.{asked_of, row_by}
+use Rattle.mr_words.specs.InvocationRead.{asked_of, row_by}
 use Rattle.mr_words.proofs.CommandLines.{words_are}
 use Rattle.mr_words.proofs.invoke.read_row.Goals as goal
 

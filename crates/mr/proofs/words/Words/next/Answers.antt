@@ -1,14 +1,14 @@
 use Rattle.std.proofs.Common.{◌≡◌, sym, ap, ◌∙◌, length, lit<, arith, eqb-true, Some, None}
 use Rattle.std.proofs.lemmas.Bool.{eqb-false}
 use Rattle.std.proofs.lemmas.Str.Pattern.{split_parts}
-use Rattle.mr.specs.LineSteps.{cut}
+use Rattle.mr.specs.LineSteps.{cut_first_word}
 use Rattle.mr.proofs.WordLaws.{cut_nothing, cut_no_word, cut_word}
 use Rattle.mr.proofs.words.Words.next.Goals as goal
 
 pub returns-in-None : goal.returns-in-None
 returns-in-None c =
     let left : c.self.inside.rest.now ≡ c.args.self.now = c.self.view_is in
-    ap cut (sym left) ∙ cut_nothing c.self.inside.rest.now (split_parts 32 c.self.inside.rest.now None c.in-None.ensures.cases (lit< tt))
+    ap cut_first_word (sym left) ∙ cut_nothing c.self.inside.rest.now (split_parts 32 c.self.inside.rest.now None c.in-None.ensures.cases (lit< tt))
 
 pub returns-then-is_empty : goal.returns-then-is_empty
 returns-then-is_empty c =

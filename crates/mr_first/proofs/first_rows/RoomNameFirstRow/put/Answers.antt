@@ -3,7 +3,7 @@ use Rattle.sqlite.specs.State.{HasCleanDisk}
 use Rattle.sqlite.specs.Held.{state}
 use Rattle.mr_rows.specs.Form.{room_form}
 use Rattle.mr_rows.proofs.Texts.{put_room_text}
-use Rattle.mr_first.specs.Parts.{put_rooms}
+use Rattle.mr_first.specs.FirstParts.{put_rooms}
 use Rattle.mr_first.proofs.Statements.{makes_first, puts_room}
 use Rattle.mr_first.proofs.first_rows.RoomNameFirstRow.put.Goals as goal
 

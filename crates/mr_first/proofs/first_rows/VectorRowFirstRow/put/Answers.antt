@@ -4,8 +4,8 @@ use Rattle.sqlite.specs.Held.{state}
 use Rattle.mr_model.specs.Tables.{VectorRow}
 use Rattle.mr_rows.specs.Form.{vector_form}
 use Rattle.mr_rows.proofs.Texts.{put_vector_text}
-use Rattle.mr_first.specs.Kept.{MakesFirst, first_in}
-use Rattle.mr_first.specs.Parts.{put_vector}
+use Rattle.mr_first.specs.FirstDatabase.{MakesFirst, first_in}
+use Rattle.mr_first.specs.FirstParts.{put_vector}
 use Rattle.mr_first.proofs.Statements.{makes_first, puts_vector}
 use Rattle.mr_first.proofs.first_rows.VectorRowFirstRow.put.Goals as goal
 

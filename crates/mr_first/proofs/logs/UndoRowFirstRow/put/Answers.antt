@@ -5,8 +5,8 @@ use Rattle.mr_replay.specs.Places.{place_of}
 use Rattle.mr_model.specs.First.{UndoRow}
 use Rattle.mr_first.specs.Forms.{undo_form}
 use Rattle.mr_first.proofs.Texts.{put_undo_text}
-use Rattle.mr_first.specs.Kept.{MakesFirst, first_in}
-use Rattle.mr_first.specs.Parts.{put_undo}
+use Rattle.mr_first.specs.FirstDatabase.{MakesFirst, first_in}
+use Rattle.mr_first.specs.FirstParts.{put_undo}
 use Rattle.mr_first.proofs.Statements.{makes_first, puts_undo}
 use Rattle.mr_first.proofs.logs.UndoRowFirstRow.put.Goals as goal
 

@@ -5,8 +5,8 @@ use Rattle.mr_model.specs.First.{WriteRow}
 use Rattle.mr_model.specs.Tables.{MeetingCells}
 use Rattle.mr_first.specs.Forms.{write_form}
 use Rattle.mr_first.proofs.Texts.{put_write_text}
-use Rattle.mr_first.specs.Kept.{MakesFirst, first_in}
-use Rattle.mr_first.specs.Parts.{put_writes}
+use Rattle.mr_first.specs.FirstDatabase.{MakesFirst, first_in}
+use Rattle.mr_first.specs.FirstParts.{put_writes}
 use Rattle.mr_first.proofs.Statements.{makes_first, puts_write}
 use Rattle.mr_first.proofs.logs.WriteRowFirstRow.put.Goals as goal
 

@@ -2,7 +2,7 @@ use Rattle.std.proofs.Common.{◌∙◌, rules}
 use Rattle.sqlite.proofs.Callers.{memory_is_clean}
 use Rattle.sqlite.specs.Steps.{over_memory}
 use Rattle.sqlite.specs.Held.{state}
-use Rattle.mr_first.specs.Parts.{AreKeysRising}
+use Rattle.mr_first.specs.FirstParts.{AreKeysRising}
 use Rattle.mr_first.proofs.Putting.{put_into_none}
 use Rattle.mr_sql.proofs.FirstTaken.{alone_first}
 use Rattle.mr_sql.proofs.first_keeper.FirstKeeper+MemStore.from_tables.Goals as goal

@@ -1,5 +1,5 @@
 use Rattle.sqlite.specs.Held.{state}
-use Rattle.mr_rows.specs.Kept.{IsKept}
+use Rattle.mr_rows.specs.Database.{IsKept}
 use Rattle.mr_sql.proofs.TakenLemmas.{alone}
 use Rattle.mr_sql.proofs.sql_keeper.SqlKeeper.settled.Goals as goal
 

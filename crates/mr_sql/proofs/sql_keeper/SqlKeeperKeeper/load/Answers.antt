@@ -1,7 +1,7 @@
 use Rattle.std.proofs.Common.{IsTrue, sym, subst}
 use Rattle.sqlite.specs.Held.{state}
 use Rattle.mr_model.specs.Tables.{Stands}
-use Rattle.mr_rows.specs.Kept.{tables_in}
+use Rattle.mr_rows.specs.Database.{tables_in}
 use Rattle.mr_rows.proofs.QueryLemmas.{clean_before}
 use Rattle.mr_sql.proofs.sql_keeper.SqlKeeperKeeper.load.Goals as goal
 

@@ -1,0 +1,8 @@
+use Rattle.std.proofs.Common.{subst}
+use Rattle.sqlite.specs.Files.{file_state}
+use Rattle.mr_sql.specs.Refused.{IsFoundIn}
+use Rattle.mr_sql.proofs.files.open_disks.Goals as goal
+
+pub returns-in-Ok-clause-found : goal.returns-in-Ok-clause-found
+returns-in-Ok-clause-found c clean =
+    subst (λ image. IsFoundIn image (file_state c.in-Ok.conn).committed.trees) c.in_ok-files.ensures.held (c.in-Ok.ensures.found clean)
