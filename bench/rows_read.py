@@ -5,7 +5,7 @@
 
 makes two databases of so many bookings (10,000 where no number is given) in five rooms: that of the primary, and that of another
 replica, which drops some commits. A fifth of the bookings is committed, and each of the two cancels one in 101 of all. For each kind of
-command it runs the statements of crates/mr_rows/src/queries.rt that the command's scope asks (crates/mr_sql/specs/Questions.antt), and
+command it runs the statements of crates/mr_rows/src/queries.rt that the command's scope asks (crates/mr_sql/specs/ScopeQuestions.antt), and
 prints how many they are and how many rows they find. The rows of meta, room and vector are not counted: each command reads all of them.
 """
 

@@ -36,6 +36,14 @@ run_faults() {
     tried 'killed commands, limited files, closed outputs' tests/faults.py "$program" "$quick/faults" 200 1
 }
 
+run_questions() {
+    if ! command -v python3 > /dev/null; then
+        echo 'skipped: questions that write nothing (no python3)'
+        return
+    fi
+    tried 'questions that write nothing' tests/questions.py "$program" "$quick/questions"
+}
+
 # each allocation of scripts, and of requests to a server, and many of commands on databases, is refused
 run_refused_memory() {
     if ! command -v python3 > /dev/null; then

@@ -32,7 +32,14 @@ class Peer:
         self.replies = {b'/pull': pull, b'/position': position, b'/push': push}
         self.reset, self.listener = reset, socket.create_server(('127.0.0.1', 0))
         self.port = self.listener.getsockname()[1]
-        threading.Thread(target=self.serve, daemon=True).start()
+        self.thread = threading.Thread(target=self.serve, daemon=True)
+        self.thread.start()
+
+    def end(self):
+        """Nobody is answered any more. A thread that waits for the next one would take a connection of another peer, whose listener has the number of this one."""
+        self.listener.shutdown(socket.SHUT_RDWR)
+        self.thread.join()
+        self.listener.close()
 
     def serve(self):
         while True:
@@ -80,7 +87,7 @@ class Tried:
         done(self.program, 'init', self.file, 9, 1)
         peer = Peer(**replies)
         printed = call(self.program, 'exchange', self.file, f'http://127.0.0.1:{peer.port}/')
-        peer.listener.close()
+        peer.end()
         self.told(f'{name}: {printed}', printed == (wanted, status))
         counts = b''.join(b'V %d 1\n' % server for server in range(1, writes + 1))
         self.told(f'{name}: the position', done(self.program, 'position', self.file) == b'mp2 9 1\nK 0\n' + counts + b'E\n')
@@ -138,12 +145,12 @@ class Tried:
         done(self.program, 'cancel', self.file, 'oak', '1-1')
         printed = call(self.program, *words)
         self.told(f'a cancel for it: {printed}', printed == (b'pulled 0 writes 0 commits\nrefused 27 NeedsVersion2\n', 1))
-        peer.listener.close()
+        peer.end()
         body = b'{"name":"BadPosition","refusal":23}'
         old = Peer(pull=head(len(body), b'400 Bad Request') + body)
         printed = call(self.program, 'exchange', self.file, f'http://127.0.0.1:{old.port}/')
         self.told(f'a peer that reads no position of the second version: {printed}', printed == (b'peer answered 400\n', 1))
-        old.listener.close()
+        old.end()
 
     def leaving_clients(self):
         """A whole submission whose client goes away at once is booked; half of one isn't."""

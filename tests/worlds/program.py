@@ -5,10 +5,6 @@ import signal
 import socket
 
 
-# The heap of a process comes in a few large pages where the system has such: most of the time of a short process goes into getting small ones.
-ENVIRONMENT = {**os.environ, 'GLIBC_TUNABLES': 'glibc.malloc.hugetlb=1:glibc.malloc.top_pad=16777216'}
-
-
 class Difference(Exception):
     """The program replied something else than the plain form."""
 
@@ -42,7 +38,7 @@ class Program:
         """The process of a command line; `@name` is a file of the folder."""
         words = [f'{self.folder}/{word[1:]}' if word.startswith('@') else word for word in words]
         files = [(os.POSIX_SPAWN_DUP2, self.none, 0), (os.POSIX_SPAWN_DUP2, out, 1), (os.POSIX_SPAWN_DUP2, out, 2)]
-        process = os.posix_spawn(self.path, [self.path, *words], ENVIRONMENT, file_actions=files)
+        process = os.posix_spawn(self.path, [self.path, *words], os.environ, file_actions=files)
         self.running.add(process)
         return process
 
