@@ -1,12 +1,20 @@
--- The marks of bookings: their days, and numbers of their rooms' names.
-use Rattle.std.specs.Prelude.{◌≡◌, ℕ, ◌+◌, ◌*◌, ◌%◌, List, [], ◌∷◌, map, Option, Some, None}
+-- The marks of bookings: numbers of their days, and of their rooms' names.
+use Rattle.std.specs.Prelude.{ℕ, ◌+◌, ◌*◌, ◌%◌, Bool, ◌&&◌, ◌==◌, [], ◌∷◌, Option, Some, None}
 use Rattle.mr_model.specs.Texts.{Text}
 use Rattle.mr_model.specs.Calendar.{Date}
-use Rattle.mr_model.specs.Tables.{BookingRow, Tables}
+use Rattle.mr_model.specs.Tables.{BookingRow}
 
 pub record Mark : Type 0 where
-  pub day : Date
+  pub day : ℕ
   pub room : ℕ
+
+-- what marks are asked for: the number of a room, and of a day where one is asked for
+pub record Asked : Type 0 where
+  pub day : Option ℕ
+  pub room : ℕ
+
+abbrev pub number_of_day : Date → ℕ
+number_of_day day = day.year * 10_000 + day.month * 100 + day.day
 
 -- the number of a text that begins with what has the number n
 abbrev pub number_from : ℕ → Text → ℕ
@@ -17,4 +25,22 @@ abbrev pub number_of_name : Text → ℕ
 number_of_name name = number_from 7 name
 
 abbrev pub mark_of_row : BookingRow → Mark
-mark_of_row row = record { day = row.day; room = number_of_name row.room }
+mark_of_row row = record { day = number_of_day row.day; room = number_of_name row.room }
+
+abbrev pub day_number : Option Date → Option ℕ
+day_number None = None
+day_number (Some day) = Some (number_of_day day)
+
+abbrev pub asked_of : Text → Option Date → Asked
+asked_of room day = record { day = day_number day; room = number_of_name room }
+
+abbrev pub has_both : ℕ → ℕ → Mark → Bool
+has_both day room mark = mark.day == day && mark.room == room
+
+abbrev pub has_room : ℕ → Mark → Bool
+has_room room mark = mark.room == room
+
+-- the mark has the numbers that are asked for
+abbrev pub mark_test : Option ℕ → ℕ → Mark → Bool
+mark_test None room = has_room room
+mark_test (Some day) room = has_both day room

@@ -1,5 +1,6 @@
 ghost use Rattle.std.specs.Prelude.{◌≡◌, ◌&&◌, ◌++◌, ◌∷◌, [], map, bytes_eq, filter, None, IfOk, IfSome, OnOk};
-ghost use Rattle.mr_store.specs.Marks.{mark_of_row, number_of_name};
+ghost use Rattle.std.specs.List.{list_any};
+ghost use Rattle.mr_store.specs.Marks.{mark_of_row, number_of_name, number_of_day, asked_of, mark_test, has_both as mark_has_both, has_room as mark_has_room};
 ghost use Rattle.mr_store.specs.Picked.{is_day_asked};
 
 use crate::queries::{is_on, same_day};
@@ -9,11 +10,14 @@ use mr_tables::BookingRow;
 use std::alloc::{AllocError, Global};
 use std::marker::Model;
 
-/// What a booking is asked for first: its day, and a number of its room's name. The marks of all bookings lie side by side, where the rows
-/// are large, and the name of a room lies elsewhere in memory.
+/// So many marks are tested at once. In most of such blocks no mark is asked for, and then no row of theirs is looked at.
+const BLOCK: usize = 32;
+
+/// What a booking is asked for first: a number of its day, and one of its room's name. The marks of all bookings lie side by side, where
+/// the rows are large, and the name of a room lies elsewhere in memory.
 #[derive(Drop)]
 pub(crate) struct Mark {
-    day: Day,
+    day: u32,
     room: u32,
 }
 
@@ -23,6 +27,21 @@ impl Model for Mark {
     ghost Value = { MarkOf };
 
     ghost view = { λ m. record { day = m.day; room = m.room } };
+}
+
+/// What marks are asked for: the number of a room, and that of a day where one is asked for.
+#[derive(Drop)]
+struct Asked {
+    day: Option<u32>,
+    room: u32,
+}
+
+impl Model for Asked {
+    ghost use Rattle.mr_store.specs.Marks.{Asked as AskedOf};
+
+    ghost Value = { AskedOf };
+
+    ghost view = { λ a. record { day = a.day; room = a.room } };
 }
 
 /// Takes the marks of these bookings, which are made where there are none.
@@ -56,9 +75,16 @@ fn marked(row: &BookingRow) -> Mark
     ensures { result ≡ mark_of_row row.now }
 {
     Mark {
-        day: row.day,
+        day: number_of_day(&row.day),
         room: number(&row.room),
     }
+}
+
+/// The day as a number, as 20,250,301 for 2025-03-01.
+fn number_of_day(day: &Day) -> u32
+    ensures { result ≡ number_of_day day.now }
+{
+    day.year() as u32 * 10_000 + day.month() as u32 * 100 + day.day() as u32
 }
 
 /// A number that a name has; few others have it too.
@@ -70,6 +96,19 @@ fn number(name: &RoomName) -> u32
         number = (number * 31 + *byte as u64) % 4_294_967_291;
     }
     number as u32
+}
+
+/// What the marks of the bookings of a room are asked for, and of the day.
+fn asked_for(room: &RoomName, day: &Option<Day>) -> Asked
+    ensures { result ≡ asked_of room.now day.now }
+{
+    Asked {
+        day: match day {
+            Some(day) => Some(number_of_day(day)),
+            None => None,
+        },
+        room: number(room),
+    }
 }
 
 /// Adds copies of the bookings of a room, of a day or of all days. Only rows with the right mark are looked at.
@@ -84,9 +123,87 @@ pub(crate) fn pick_marked(
     requires { marks.now ≡ map mark_of_row rows.now }
     ensures { OnOk result (picked.new.items ≡ picked.old.items ++ filter (λ r. bytes_eq r.room room.now && is_day_asked day r.day) rows.now) }
 {
-    let number = number(room);
+    let asked = asked_for(room, &day);
+    let mut left = rows;
+    let mut left_marks = marks;
+    while BLOCK < left.len() {
+        let (block, behind) = left.split_at(BLOCK);
+        let (block_marks, behind_marks) = left_marks.split_at(BLOCK);
+        pick_block(alloc, picked, block, block_marks, &asked, room, &day)?;
+        left = behind;
+        left_marks = behind_marks;
+    }
+    pick_block(alloc, picked, left, left_marks, &asked, room, &day)
+}
+
+/// Adds copies of those bookings of a block. Where none of its marks is asked for, none of its rows is looked at.
+fn pick_block(
+    alloc: Global,
+    picked: &mut Vec<BookingRow>,
+    rows: &[BookingRow],
+    marks: &[Mark],
+    asked: &Asked,
+    room: &RoomName,
+    day: &Option<Day>,
+) -> Result<(), AllocError>
+    requires marks { marks.now ≡ map mark_of_row rows.now }
+    requires asked { asked.now ≡ asked_of room.now day.now }
+    ensures { OnOk result (picked.new.items ≡ picked.old.items ++ filter (λ r. bytes_eq r.room room.now && is_day_asked day.now r.day) rows.now) }
+{
+    if has_asked(marks, asked) {
+        return pick_few(alloc, picked, rows, marks, asked.room, room, day);
+    }
+    Ok(())
+}
+
+/// Whether one of the marks is asked for.
+fn has_asked(marks: &[Mark], asked: &Asked) -> bool
+    ensures { result ≡ list_any (mark_test asked.now.day asked.now.room) marks.now }
+{
+    match asked.day {
+        Some(day) => has_both(marks, day, asked.room),
+        None => has_room(marks, asked.room),
+    }
+}
+
+/// Whether one of the marks has both numbers. There is no way out before the last mark, so that several marks are compared by one instruction.
+fn has_both(marks: &[Mark], day: u32, room: u32) -> bool
+    ensures { result ≡ list_any (mark_has_both day room) marks.now }
+{
+    let mut found = false;
+    for mark in marks {
+        found |= (mark.day == day) & (mark.room == room);
+    }
+    found
+}
+
+/// Whether one of the marks has this number of a room.
+fn has_room(marks: &[Mark], room: u32) -> bool
+    ensures { result ≡ list_any (mark_has_room room) marks.now }
+{
+    let mut found = false;
+    for mark in marks {
+        found |= mark.room == room;
+    }
+    found
+}
+
+/// Adds copies of those bookings, row by row.
+fn pick_few(
+    alloc: Global,
+    picked: &mut Vec<BookingRow>,
+    rows: &[BookingRow],
+    marks: &[Mark],
+    number: u32,
+    room: &RoomName,
+    day: &Option<Day>,
+) -> Result<(), AllocError>
+    requires marks { marks.now ≡ map mark_of_row rows.now }
+    requires number { number ≡ number_of_name room.now }
+    ensures { OnOk result (picked.new.items ≡ picked.old.items ++ filter (λ r. bytes_eq r.room room.now && is_day_asked day.now r.day) rows.now) }
+{
     for k in 0..rows.len() {
-        pick_one(alloc, picked, &rows[k], &marks[k], number, room, &day)?;
+        pick_one(alloc, picked, &rows[k], &marks[k], number, room, day)?;
     }
     Ok(())
 }
@@ -119,5 +236,5 @@ fn is_wanted(row: &BookingRow, mark: &Mark, number: u32, room: &RoomName, day: &
     if mark.room != number {
         return false;
     }
-    is_on(mark.day, same_day(day)) && row.room == *room
+    is_on(row.day, same_day(day)) && row.room == *room
 }
