@@ -1,8 +1,7 @@
 -- Rows that were found in the tables of a sound database, and read, are held.
-use Rattle.std.proofs.Common.{◌≡◌, inl, inr, ℕ, pos, ◌+◌, zero, suc, List, [], ◌∷◌, map, length, take, get_or, ◌<◌, ◌≤◌, drop, true, not, ◌&&◌, ◌||◌, IsTrue, None, Some, Option, Ok, Err, Result, IfOk, OnOk, refl, sym, ap, subst, ◌∙◌, Less, arith, add-one, eq-eqb}
+use Rattle.std.proofs.Common.{◌≡◌, inl, inr, ℕ, pos, ◌+◌, zero, suc, List, [], ◌∷◌, map, length, drop, true, not, ◌&&◌, ◌||◌, IsTrue, None, Some, Option, Ok, Err, Result, IfOk, OnOk, refl, sym, ap, subst, ◌∙◌, Less, arith, add-one, eq-eqb}
 use Rattle.std.specs.List.{All, AllByRecursion, list_all}
-use Rattle.std.proofs.lemmas.List.{take_all}
-use Rattle.std.proofs.lemmas.List.Elements.{All-more, recursion_from_All}
+use Rattle.std.proofs.lemmas.List.Elements.{recursion_from_All}
 use Rattle.std.specs.List.Sorted.{IsPermutation}
 use Rattle.std.proofs.lemmas.List.Sorted.{IsPermutation-map, IsPermutation-sym}
 use Rattle.std.proofs.lemmas.Bool.{and_parts, and_from}
@@ -24,6 +23,7 @@ use Rattle.sqlite_schema.specs.declared.schema.Schema.{Schema}
 use Rattle.sqlite_schema.specs.declared.schema.Table.{Table}
 use Rattle.sqlite.specs.declared.error.Error.{Error}
 use Rattle.sqlite.specs.Effect.{Database, IsDatabase}
+use Rattle.sqlite.specs.State.{State, Shown}
 use Rattle.sqlite_schema.specs.Rules.{equal, differ, agree, guards, clashes, suits, are_typed, are_present, has_computed, passes}
 use Rattle.sqlite_rules.specs.Lists.{Has}
 use Rattle.sqlite_rules.specs.Edit.{id_in}
@@ -40,7 +40,9 @@ use Rattle.mr_rows.specs.Schema.{our_schema}
 use Rattle.mr_rows.specs.Shelf.{IsShelf}
 use Rattle.mr_rows.specs.Form.{Form, meta_form, room_form, vector_form, log_form, booking_form, error_form, cancelled_form, cancel_form}
 use Rattle.mr_rows.specs.Database.{IsRowOf, IsHeld, AreHeld, first_meta, tables_in}
-use Rattle.mr_rows.specs.Shown.{columns_from, IsShownAs, IsStoredAs, AreStoredAs, AreOurRows, IsMeta, listed}
+use Rattle.mr_rows.specs.Reads.{Looks}
+use Rattle.mr_rows.proofs.QueryLemmas.{looks_so}
+use Rattle.mr_rows.specs.Shown.{AreShownAs, columns_from, IsShownAs, IsStoredAs, AreStoredAs, AreOurRows, IsMeta, listed}
 use Rattle.mr_rows.specs.Shelf.{HasShelves}
 use Rattle.mr_rows.proofs.FormLemmas.{has_map, has_moved}
 use Rattle.mr_rows.proofs.ValueLemmas.{equal_nat, equal_text}
@@ -51,17 +53,19 @@ use Rattle.mr_rows.proofs.StatementLemmas.{first_put}
 pub stored_so : (P Q : Row → Type 0) (show : Row → Row) (stored shown : List Row) → ((r : Row) → P (show r) → Q r) → IsPermutation (map show stored) shown → AllByRecursion P shown → AllByRecursion Q stored
 stored_so P Q show stored shown way same all = all_from Q stored (λ r here. way r (all_has P shown (show r) all (has_moved _ shown same (show r) (has_map show stored r here))))
 
--- one element more of which it holds
-pub one_more : {X : Type 0} (P : X → Type 0) (xs : List X) (i : ℕ) (x : X) → i < length xs → x ≡ get_or xs i x → P x → All P (take i xs) → All P (take (i + 1) xs)
-one_more P xs i x lt at p h = All-more P xs i x lt h (subst P at p)
-
-pub all_of : {X : Type 0} (P : X → Type 0) (xs : List X) (i : ℕ) → length xs ≤ i → All P (take i xs) → All P xs
-all_of P xs i le h = subst (All P) (take_all i xs le) h
-
 pub found_so : {X : Type 0} {R K : Type 0} (f : Form R K) (show : Row → Row) (stored shown : List Row) (r : Result X Error) → ((row : Row) → IsShownAs f (show row) → IsStoredAs f row)
     → IsPermutation (map show stored) shown → OnOk r (All (IsShownAs f) shown) → IfOk r (λ _. AllByRecursion (IsStoredAs f) stored)
 found_so f show stored shown (Ok x) way same all = stored_so (IsShownAs f) (IsStoredAs f) show stored shown way same (recursion_from_All _ shown all)
 found_so f show stored shown (Err e) way same all = tt
+
+-- a table of which each row that a text shows passed
+pub found_by : {X : Type 0} {R K : Type 0} (f : Form R K) (text : List ℕ) (old new : State) (r : Result X Error)
+    → ((row : Row) → IsShownAs f (columns_from 1 (length f.table.columns) row) → IsStoredAs f row)
+    → ((rows : List Row) → old.now.schema ≡ our_schema → Shown text [] old new rows → IsPermutation (map (columns_from 1 (length f.table.columns)) (old.now.trees f.table.tree)) rows)
+    → Looks old new r (λ _. AreShownAs (IsShownAs f) text old new) → Looks old new r (λ _. AreStoredAs f old.now.trees)
+found_by f text old new r way sees =
+    looks_so old new r (λ _. AreShownAs (IsShownAs f) text old new) (λ _. AreStoredAs f old.now.trees)
+    (λ here x all. stored_so (IsShownAs f) (IsStoredAs f) (columns_from 1 (length f.table.columns)) (old.now.trees f.table.tree) all.0 way (sees all.0 here.schema all.1) all.2)
 
 pub meta_found : (trees : Trees) (shown : List Row) (r : Result (Option MetaRow) Error) → IsPermutation (map (columns_from 1 7) (trees 0)) shown → OnOk r (All (IsShownAs meta_form) shown)
     → IfOk r (λ m. map (λ row. meta_in (Null ∷ row)) shown ≡ listed m) → IfOk r (λ m. AreStoredAs meta_form trees × IsMeta trees m)

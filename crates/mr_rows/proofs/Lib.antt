@@ -9,6 +9,7 @@ pub mod StepLemmas
 pub mod StatementLemmas
 pub mod CellLemmas
 pub mod QueryLemmas
+pub mod StreamedRows
 pub mod FirstLemmas
 pub mod AskedLemmas
 pub mod SelectLemmas

@@ -18,7 +18,7 @@ use Rattle.mr_rows.specs.Reads.{ReadsKept, IsPlacedIn, IsPlaced, Looks, ReadsWhe
 placed : (s : State) → IsKept s → IsPlaced s
 placed s kept = record { schema = kept.ours.schema; settled = kept.settled }
 
-plain_here : {under : Schema} (s : State) (sql : List ℕ) → IsPlacedIn under s → IsPlain (understood under sql) → IsPlain (understood s.now.schema sql)
+pub plain_here : {under : Schema} (s : State) (sql : List ℕ) → IsPlacedIn under s → IsPlain (understood under sql) → IsPlain (understood s.now.schema sql)
 plain_here s sql here plain = subst (λ schema. IsPlain (understood schema sql)) (sym here.schema) plain
 
 shown_same : (sql : List ℕ) (params : Row) (old new : State) (rows : List Row) → IsPlain (understood old.now.schema sql) → Shown sql params old new rows → IsUnchanged old new
@@ -35,12 +35,12 @@ fails_same sql params old new e plain (inr (c, it, shows)) =
     let none = (subst IsPlain it.is plain).0 in
     inl (subst (FailsToShow old new sql c (timed params c.formats it.now) e) none shows).3
 
-left_same : {under : Schema} (old new : State) → IsPlacedIn under old → IsTrue new.is_open → IsUnchanged old new ⊎ IsRolledBack old new → (new.now ≡ old.now) × (new.committed ≡ old.committed)
+pub left_same : {under : Schema} (old new : State) → IsPlacedIn under old → IsTrue new.is_open → IsUnchanged old new ⊎ IsRolledBack old new → (new.now ≡ old.now) × (new.committed ≡ old.committed)
 left_same old new here now (inl same) = (same.0.now_is, same.0.committed_is)
 left_same old new here now (inr back) = ((back.undone now).0 ∙ sym here.settled, (back.undone now).1)
 
 -- what shows rows was open before, and so was what is open after a failure
-shown_open : (sql : List ℕ) (params : Row) (old new : State) (rows : List Row) → Shown sql params old new rows → IsTrue old.is_open
+pub shown_open : (sql : List ℕ) (params : Row) (old new : State) (rows : List Row) → Shown sql params old new rows → IsTrue old.is_open
 unfolding Shown
 shown_open sql params old new rows (c, it, shows) = by_returning c.returning shows
   where
@@ -60,7 +60,7 @@ fails_open sql params old new e (inr (c, it, shows)) now = by_returning c.return
     by_returning (Some what) (inr fails) = fails.3.was_open now
 
 module _ {under : Schema} (sql : List ℕ) (params : Row) (old new : State) (plain : IsPlain (understood under sql)) (Known : State → Type 0) (here : Known old → IsPlacedIn under old) where
-  commits_none : Survives old new (CommitsShowing sql params old) → Survives old new (λ _. ¬ Known old)
+  pub commits_none : Survives old new (CommitsShowing sql params old) → Survives old new (λ _. ¬ Known old)
   commits_none h = survives_weaker old new _ _ (λ _ db commits known. never_commits sql params old db (plain_here old sql (here known) plain) commits) h
 
   kept_by : {X : Type 0} (items : X → List Row) (r : Result X Error) → IfOk r (λ x. Shown sql params old new (items x)) → IfErr r (FailsToQuery sql params old new)

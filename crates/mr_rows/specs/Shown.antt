@@ -5,6 +5,7 @@ use Rattle.std.specs.List.Sorted.{IsPermutation}
 use Rattle.sqlite_value.specs.declared.value.Value.TheVariants.{Null}
 use Rattle.sqlite_value.specs.Order.{Row, column}
 use Rattle.sqlite_trees.specs.Tree.{Trees}
+use Rattle.sqlite.specs.State.{State, Shown}
 use Rattle.mr_model.specs.Tables.{MetaRow}
 use Rattle.mr_rows.specs.Form.{Form, meta_form, room_form, vector_form, log_form, booking_form, error_form, cancelled_form, cancel_form}
 use Rattle.mr_rows.specs.RowCells.{meta_in}
@@ -21,6 +22,10 @@ IsShownAs f r = f.cells (f.row_in (Null ∷ r)) ≡ columns_from 0 (length f.tab
 -- the same of a stored row, which has its rowid in front
 abbrev pub IsStoredAs : {R K : Type 0} → Form R K → Row → Type 0
 IsStoredAs f r = f.cells (f.row_in r) ≡ columns_from 1 (length f.table.columns) r
+
+-- all rows that a text shows, one after the other, are such rows
+abbrev pub AreShownAs : (Row → Type 0) → List ℕ → State → State → Type 0
+AreShownAs P sql old new = (rows : List Row) × Shown sql [] old new rows × AllByRecursion P rows
 
 abbrev pub AreStoredAs : {R K : Type 0} → Form R K → Trees → Type 0
 AreStoredAs f trees = AllByRecursion (IsStoredAs f) (trees f.table.tree)

@@ -1,4 +1,4 @@
-ghost use Rattle.std.specs.Prelude.{◌≡◌, ◌≢◌, ◌⊎◌, [], ◌∷◌, pos, IfOk};
+ghost use Rattle.std.specs.Prelude.{◌≡◌, ◌≢◌, ◌⊎◌, [], ◌∷◌, pos, IfOk, OnOk};
 ghost use Rattle.sqlite_value.specs.declared.value.Value.TheVariants.{Int, Text};
 ghost use Rattle.sqlite_value.specs.Order.{column, bytes};
 ghost use Rattle.mr_model.specs.Writes.{Id};
@@ -9,7 +9,9 @@ ghost use Rattle.mr_tables.specs.Cells.{action_cells};
 ghost use Rattle.mr_rows.specs.RowCells.{nat_of, whole_of, action_row, action_in, place_in, place_number};
 ghost use Rattle.mr_rows.specs.Shown.{columns_from};
 
-use crate::cells::{read_id, read_mark, read_place, read_text, read_title, read_u32};
+use crate::cells::{
+    read_id, read_mark, read_place, read_text, read_title, read_u32, test_title, text_in,
+};
 use mr_base::WriteId;
 use mr_replay::Place;
 use mr_tables::{ActionCells, MeetingCells};
@@ -32,8 +34,7 @@ fn read_zero(row: &Row, at: usize) -> Result<(), Error>
 fn read_empty(row: &Row, at: usize) -> Result<(), Error>
     ensures { IfOk result (λ _. column row.now at ≡ Text []) }
 {
-    let text = read_text(row, at)?;
-    if !text.is_empty() {
+    if !text_in(row, at)?.is_empty() {
         return Err(Error::IntegralValueOutOfRange(at));
     }
     Ok(())
@@ -55,6 +56,19 @@ fn read_meeting(alloc: Global, row: &Row) -> Result<MeetingCells, Error>
         choices,
         title,
     })
+}
+
+/// Tests the meeting of a row that has no target, and makes nothing of it.
+fn test_meeting(row: &Row) -> Result<(), Error>
+    ensures { OnOk result
+        (action_row (OfMeeting (record { length = nat_of (column row.now 5); choices = bytes (column row.now 6); title = bytes (column row.now 7) }))
+        ≡ Int (pos 0) ∷ columns_from 5 5 row.now) }
+{
+    read_u32(row, 5)?;
+    text_in(row, 6)?;
+    test_title(row, 7)?;
+    read_zero(row, 8)?;
+    read_zero(row, 9)
 }
 
 /// The target of a row that has no meeting.
@@ -83,6 +97,24 @@ pub(crate) fn read_action(alloc: Global, row: &Row) -> Result<ActionCells, Error
     }
 }
 
+/// Tests the meeting that a row books, or the target that it cancels, and tells whether it cancels.
+pub(crate) fn test_action(row: &Row) -> Result<bool, Error>
+    ensures { OnOk result (action_row
+        (action_in (nat_of (column row.now 4)) (record { length = nat_of (column row.now 5); choices = bytes (column row.now 6); title = bytes (column row.now 7) })
+        (record { server = nat_of (column row.now 8); n = nat_of (column row.now 9) })) ≡ columns_from 4 6 row.now) }
+{
+    match read_mark(row, 4)? {
+        true => {
+            read_target(row)?;
+            Ok(true)
+        }
+        false => {
+            test_meeting(row)?;
+            Ok(false)
+        }
+    }
+}
+
 /// The place of a write with this action, in the column 10: a booking has a choice or is in the error log, a cancel is done or void.
 pub(crate) fn read_place_of(row: &Row, action: &ActionCells) -> Result<Place, Error>
     ensures place { IfOk result (λ place. place_of place ≡ place_in (whole_of (column row.now 10))) }
@@ -99,4 +131,18 @@ pub(crate) fn read_place_of(row: &Row, action: &ActionCells) -> Result<Place, Er
         return Err(Error::IntegralValueOutOfRange(10));
     }
     Ok(place)
+}
+
+/// Tests the place of a cancel or of a booking, in the column 10, as `read_place_of` does.
+pub(crate) fn test_place(row: &Row, is_cancel: bool) -> Result<(), Error>
+    ensures { OnOk result (column row.now 10 ≡ Int (place_number (place_in (whole_of (column row.now 10))))) }
+{
+    let fits = match read_place(row, 10)? {
+        Place::Taken(_) | Place::Logged => !is_cancel,
+        Place::Done | Place::Void => is_cancel,
+    };
+    if !fits {
+        return Err(Error::IntegralValueOutOfRange(10));
+    }
+    Ok(())
 }

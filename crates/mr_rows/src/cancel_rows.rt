@@ -8,18 +8,26 @@ ghost use Rattle.mr_rows.specs.TakeLaws.{cancelled_none, cancelled_more};
 
 use crate::cells::{
     read_count, read_day, read_id, read_mark, read_minute, read_name, read_server, read_title,
-    read_u64,
+    read_u64, test_booking_cells, test_name,
 };
+use crate::found::test_rows;
 use crate::numbers::Number;
 use crate::puts::{day_text, parts_of, put_cancel_cells, put_cancelled_cells};
 use crate::queries::ask;
-use crate::stored_rows::{RequestRow, StoredRow};
+use crate::stored_rows::{FoundRow, RequestRow, StoredRow};
 use crate::table_rows::compare_ids;
 use mr_base::WriteId;
 use mr_tables::{CancelRow, CancelledRow};
 use sqlite::{Alter, Connection, Error, Row, Transaction, params};
 use std::alloc::Global;
 use std::cmp::Ordering;
+
+// The texts that ask for all rows of a table.
+
+const ALL_CANCELLED: &str =
+    "SELECT room, day, start, stop, server, n, title, committed, bserver, bn FROM cancelled";
+
+const ALL_CANCELS: &str = "SELECT server, n, room, tserver, tn, done, tm, seq FROM cancel";
 
 // The columns are counted from 0, in the order of the table.
 
@@ -57,6 +65,13 @@ impl StoredRow for CancelledRow {
         })
     }
 
+    fn test(row: &Row) -> Result<(), Error> {
+        test_booking_cells(row)?;
+        read_mark(row, 7)?;
+        read_id(row, 8)?;
+        Ok(())
+    }
+
     fn compare(a: &CancelledRow, b: &CancelledRow) -> Ordering {
         compare_ids((a.server, a.n), (b.server, b.n))
     }
@@ -64,11 +79,7 @@ impl StoredRow for CancelledRow {
     fn keeps_order() {}
 
     fn select_all<S: Alter>(conn: &mut Connection<S>) -> Result<Vec<Row>, Error> {
-        ask(
-            conn,
-            "SELECT room, day, start, stop, server, n, title, committed, bserver, bn FROM cancelled",
-            &[],
-        )
+        ask(conn, ALL_CANCELLED, &[])
     }
 
     fn put<S: Alter>(&self, tx: &mut Transaction<'_, S>, alloc: Global) -> Result<usize, Error> {
@@ -81,6 +92,12 @@ impl StoredRow for CancelledRow {
     ghost put_none = { λ t. refl };
 
     ghost put_more = { λ x xs t. refl };
+}
+
+impl FoundRow for CancelledRow {
+    fn find<S: Alter>(conn: &mut Connection<S>) -> Result<(), Error> {
+        test_rows::<CancelledRow, S>(conn, ALL_CANCELLED)
+    }
 }
 
 impl RequestRow for CancelledRow {
@@ -128,6 +145,17 @@ impl StoredRow for CancelRow {
         })
     }
 
+    fn test(row: &Row) -> Result<(), Error> {
+        read_server(row, 0)?;
+        read_count(row, 1)?;
+        test_name(row, 2)?;
+        read_id(row, 3)?;
+        read_mark(row, 5)?;
+        read_u64(row, 6)?;
+        read_u64(row, 7)?;
+        Ok(())
+    }
+
     fn compare(a: &CancelRow, b: &CancelRow) -> Ordering {
         compare_ids((a.server, a.n), (b.server, b.n))
     }
@@ -135,11 +163,7 @@ impl StoredRow for CancelRow {
     fn keeps_order() {}
 
     fn select_all<S: Alter>(conn: &mut Connection<S>) -> Result<Vec<Row>, Error> {
-        ask(
-            conn,
-            "SELECT server, n, room, tserver, tn, done, tm, seq FROM cancel",
-            &[],
-        )
+        ask(conn, ALL_CANCELS, &[])
     }
 
     fn put<S: Alter>(&self, tx: &mut Transaction<'_, S>, _alloc: Global) -> Result<usize, Error> {
@@ -153,4 +177,10 @@ impl StoredRow for CancelRow {
     ghost put_none = { λ t. refl };
 
     ghost put_more = { λ x xs t. refl };
+}
+
+impl FoundRow for CancelRow {
+    fn find<S: Alter>(conn: &mut Connection<S>) -> Result<(), Error> {
+        test_rows::<CancelRow, S>(conn, ALL_CANCELS)
+    }
 }

@@ -1,4 +1,4 @@
-ghost use Rattle.std.specs.Prelude.{◌≡◌, ◌≢◌, ℕ, ◌+◌, ◌<◌, ◌≤◌, ◌^◌, ◌==◌, pos, negsuc, length, IfOk, IfErr, string_bytes};
+ghost use Rattle.std.specs.Prelude.{◌≡◌, ◌≢◌, ℕ, ◌+◌, ◌<◌, ◌≤◌, ◌^◌, ◌==◌, pos, negsuc, length, IfOk, IfErr, string_bytes, OnOk};
 ghost use Rattle.sqlite_value.specs.declared.value.Value.TheVariants.{Int, Text};
 ghost use Rattle.sqlite_value.specs.Order.{column, bytes};
 ghost use Rattle.mr_model.specs.Calendar.{date_in, date_text};
@@ -6,9 +6,9 @@ ghost use Rattle.mr_model.specs.Writes.{greatest_alternatives};
 ghost use Rattle.mr_replay.specs.Places.{place_of};
 ghost use Rattle.mr_rows.specs.RowCells.{mark, nat_of, whole_of, place_in, place_number};
 
-use mr_base::{Day, Refusal, RoomName, ServerId, Title, WriteId};
+use mr_base::{Day, Refusal, RoomName, ServerId, Title, WriteId, is_room_text, is_title_text};
 use mr_replay::Place;
-use sqlite::types::Type;
+use sqlite::types::{Type, ValueRef};
 use sqlite::{Error, ErrorCode, Row};
 use std::alloc::Global;
 
@@ -23,15 +23,37 @@ fn broken(refusal: Refusal, at: usize) -> Error
     }
 }
 
+/// The text in this column, where it lies in the row.
+pub(crate) fn text_in(row: &Row, at: usize) -> Result<&str, Error>
+    ensures cell { IfOk result (λ text. column row.now at ≡ Text text.now) }
+{
+    match row.get_ref(at)? {
+        ValueRef::Text(bytes) => match str::from_utf8(bytes) {
+            Ok(text) => Ok(text),
+            Err(_) => Err(Error::Utf8Error(at)),
+        },
+        value => Err(Error::InvalidColumnType(at, Type::of(value))),
+    }
+}
+
 /// The name of a room in this column.
 pub fn read_name(alloc: Global, row: &Row, at: usize) -> Result<RoomName, Error>
     ensures name { IfOk result (λ name. name ≡ bytes (column row.now at)) }
     ensures cell { IfOk result (λ name. column row.now at ≡ Text name) }
 {
-    let text: String = row.get(at)?;
-    match RoomName::new(alloc, &text) {
+    match RoomName::new(alloc, text_in(row, at)?) {
         Ok(name) => Ok(name),
         Err(refusal) => Err(broken(refusal, at)),
+    }
+}
+
+/// Tests the name of a room in this column, and makes nothing of it.
+pub(crate) fn test_name(row: &Row, at: usize) -> Result<(), Error>
+    ensures { OnOk result (column row.now at ≡ Text (bytes (column row.now at))) }
+{
+    match row.get_ref(at)? {
+        ValueRef::Text(text) if is_room_text(text) => Ok(()),
+        value => Err(Error::InvalidColumnType(at, Type::of(value))),
     }
 }
 
@@ -40,10 +62,19 @@ pub fn read_title(alloc: Global, row: &Row, at: usize) -> Result<Title, Error>
     ensures title { IfOk result (λ title. title ≡ bytes (column row.now at)) }
     ensures cell { IfOk result (λ title. column row.now at ≡ Text title) }
 {
-    let text: String = row.get(at)?;
-    match Title::new(alloc, &text) {
+    match Title::new(alloc, text_in(row, at)?) {
         Ok(title) => Ok(title),
         Err(refusal) => Err(broken(refusal, at)),
+    }
+}
+
+/// Tests the title in this column, and makes nothing of it.
+pub(crate) fn test_title(row: &Row, at: usize) -> Result<(), Error>
+    ensures { OnOk result (column row.now at ≡ Text (bytes (column row.now at))) }
+{
+    match row.get_ref(at)? {
+        ValueRef::Text(text) if is_title_text(text) => Ok(()),
+        value => Err(Error::InvalidColumnType(at, Type::of(value))),
     }
 }
 
@@ -52,8 +83,7 @@ pub(crate) fn read_day(row: &Row, at: usize) -> Result<Day, Error>
     ensures day { IfOk result (λ day. day ≡ date_in (bytes (column row.now at))) }
     ensures cell { IfOk result (λ day. column row.now at ≡ Text (date_text day)) }
 {
-    let text: String = row.get(at)?;
-    match Day::read(&text) {
+    match Day::read(text_in(row, at)?) {
         Ok(day) => Ok(day),
         Err(refusal) => Err(broken(refusal, at)),
     }
@@ -169,4 +199,23 @@ pub(crate) fn read_mark(row: &Row, at: usize) -> Result<bool, Error>
         return Err(Error::IntegralValueOutOfRange(at));
     }
     Ok(number == 1)
+}
+
+/// Tests the cells that rows of `booking`, `errorlog` and `cancelled` begin with: room, day, start, stop, server, count and title.
+pub(crate) fn test_booking_cells(row: &Row) -> Result<(), Error>
+    ensures room { OnOk result (column row.now 0 ≡ Text (bytes (column row.now 0))) }
+    ensures day { OnOk result (column row.now 1 ≡ Text (date_text (date_in (bytes (column row.now 1))))) }
+    ensures start { OnOk result (column row.now 2 ≡ Int (pos (nat_of (column row.now 2)))) }
+    ensures stop { OnOk result (column row.now 3 ≡ Int (pos (nat_of (column row.now 3)))) }
+    ensures server { OnOk result (column row.now 4 ≡ Int (pos (nat_of (column row.now 4)))) }
+    ensures count { OnOk result (column row.now 5 ≡ Int (pos (nat_of (column row.now 5)))) }
+    ensures title { OnOk result (column row.now 6 ≡ Text (bytes (column row.now 6))) }
+{
+    test_name(row, 0)?;
+    read_day(row, 1)?;
+    read_minute(row, 2)?;
+    read_minute(row, 3)?;
+    read_server(row, 4)?;
+    read_count(row, 5)?;
+    test_title(row, 6)
 }

@@ -1,4 +1,4 @@
-ghost use Rattle.std.specs.Prelude.{◌≡◌, [], ◌∷◌, false, length, map, List, IfOk};
+ghost use Rattle.std.specs.Prelude.{◌≡◌, [], ◌∷◌, false, length, map, List, IfOk, OnOk};
 ghost use Rattle.std.specs.List.Sorted.{IsPermutation};
 ghost use Rattle.std.specs.Cmp.{IsTotalOrder};
 ghost use Rattle.std.specs.declared.cmp.Ordering.{Ordering as Order};
@@ -9,7 +9,7 @@ ghost use Rattle.sqlite.specs.Held.{state};
 ghost use Rattle.mr_model.specs.Writes.{Id};
 ghost use Rattle.mr_model.specs.Tables.{Tables};
 ghost use Rattle.mr_rows.specs.Form.{Form};
-ghost use Rattle.mr_rows.specs.Shown.{columns_from, IsShownAs, IsStoredAs};
+ghost use Rattle.mr_rows.specs.Shown.{columns_from, IsShownAs, IsStoredAs, AreStoredAs};
 ghost use Rattle.mr_rows.specs.Database.{MakesTables, tables_in};
 ghost use Rattle.mr_rows.specs.Reads.{ReadsKept, Looks};
 
@@ -39,6 +39,10 @@ pub trait StoredRow: Drop {
     fn read(alloc: Global, row: &Row) -> Result<Self, Error>
         ensures row { IfOk result (λ r. r ≡ form.row_in (Null ∷ row.now)) }
         ensures cells { IfOk result (λ r. form.cells r ≡ columns_from 0 (length form.table.columns) row.now) };
+
+    /// Tests a row that a query shows, as `read` does, and makes nothing of it.
+    fn test(row: &Row) -> Result<(), Error>
+        ensures { OnOk result (IsShownAs form row.now) };
 
     /// Compares the keys.
     fn compare(a: &Self, b: &Self) -> Ordering
@@ -71,6 +75,15 @@ pub trait StoredRow: Drop {
     ghost put_none: { (t : Tables) → put_in [] t ≡ t };
 
     ghost put_more: { (x : Self) (xs : List Self) (t : Tables) → put_in (x ∷ xs) t ≡ put_in xs (put_in (x ∷ []) t) };
+}
+
+/// A row of a table whose rows are all tested.
+pub(crate) trait FoundRow: StoredRow {
+    /// Finds that each row of the table keeps its rules and the limits.
+    fn find<S: Alter>(conn: &mut Connection<S>) -> Result<(), Error>
+        requires autocommit { conn.old.in_transaction ≡ false }
+        ensures autocommit { conn.new.in_transaction ≡ false }
+        ensures looks { Looks (state S.Store conn.old) (state S.Store conn.new) result (λ _. AreStoredAs Self.form (state S.Store conn.old).now.trees) };
 }
 
 /// A row of a table that has one row for each request.

@@ -10,22 +10,37 @@ ghost use Rattle.mr_rows.specs.Form.{room_form, vector_form, log_form, booking_f
 ghost use Rattle.mr_rows.specs.ChangeParts.{take_logs, take_bookings, take_errors, put_rooms, put_vector, put_logs, put_bookings, put_errors};
 ghost use Rattle.mr_rows.specs.TakeLaws.{logs_none, bookings_none, errors_none, logs_more, bookings_more, errors_more};
 
-use crate::actions::{read_action, read_place_of};
+use crate::actions::{read_action, read_place_of, test_action, test_place};
 use crate::cells::{
     read_count, read_day, read_mark, read_minute, read_name, read_server, read_title, read_u32,
-    read_u64,
+    read_u64, test_booking_cells, test_name,
 };
+use crate::found::test_rows;
 use crate::numbers::Number;
 use crate::puts::{
     LogNumbers, day_text, put_booking_cells, put_error_cells, put_log_cells, put_vector_cells,
 };
 use crate::queries::ask;
-use crate::stored_rows::{RequestRow, StoredRow};
+use crate::stored_rows::{FoundRow, RequestRow, StoredRow};
 use mr_base::{RoomName, ServerId, WriteId};
 use mr_tables::{BookingRow, ErrorRow, LogRow, VectorRow};
 use sqlite::{Alter, Connection, Error, Row, Transaction, params};
 use std::alloc::Global;
 use std::cmp::Ordering;
+
+// The texts that ask for all rows of a table.
+
+const ALL_ROOMS: &str = "SELECT name FROM room";
+
+const ALL_VECTOR: &str = "SELECT server, n, tm, committed FROM vector";
+
+const ALL_LOGS: &str =
+    "SELECT server, n, tm, room, kind, length, choices, title, tserver, tn, place, seq FROM log";
+
+const ALL_BOOKINGS: &str =
+    "SELECT room, day, start, stop, server, n, title, committed FROM booking";
+
+const ALL_ERRORS: &str = "SELECT room, day, start, stop, server, n, title, tm, seq FROM errorlog";
 
 // The columns are counted from 0, in the order of the table.
 
@@ -44,6 +59,10 @@ impl StoredRow for RoomName {
         read_name(alloc, row, 0)
     }
 
+    fn test(row: &Row) -> Result<(), Error> {
+        test_name(row, 0)
+    }
+
     fn compare(a: &RoomName, b: &RoomName) -> Ordering {
         a.as_str().cmp(b.as_str())
     }
@@ -51,7 +70,7 @@ impl StoredRow for RoomName {
     fn keeps_order() {}
 
     fn select_all<S: Alter>(conn: &mut Connection<S>) -> Result<Vec<Row>, Error> {
-        ask(conn, "SELECT name FROM room", &[])
+        ask(conn, ALL_ROOMS, &[])
     }
 
     fn put<S: Alter>(&self, tx: &mut Transaction<'_, S>, _alloc: Global) -> Result<usize, Error> {
@@ -66,6 +85,12 @@ impl StoredRow for RoomName {
     ghost put_none = { λ t. refl };
 
     ghost put_more = { λ x xs t. refl };
+}
+
+impl FoundRow for RoomName {
+    fn find<S: Alter>(conn: &mut Connection<S>) -> Result<(), Error> {
+        test_rows::<RoomName, S>(conn, ALL_ROOMS)
+    }
 }
 
 impl StoredRow for VectorRow {
@@ -92,6 +117,14 @@ impl StoredRow for VectorRow {
         })
     }
 
+    fn test(row: &Row) -> Result<(), Error> {
+        read_server(row, 0)?;
+        read_u32(row, 1)?;
+        read_u64(row, 2)?;
+        read_u32(row, 3)?;
+        Ok(())
+    }
+
     fn compare(a: &VectorRow, b: &VectorRow) -> Ordering {
         a.server.number().cmp(&b.server.number())
     }
@@ -99,7 +132,7 @@ impl StoredRow for VectorRow {
     fn keeps_order() {}
 
     fn select_all<S: Alter>(conn: &mut Connection<S>) -> Result<Vec<Row>, Error> {
-        ask(conn, "SELECT server, n, tm, committed FROM vector", &[])
+        ask(conn, ALL_VECTOR, &[])
     }
 
     fn put<S: Alter>(&self, tx: &mut Transaction<'_, S>, _alloc: Global) -> Result<usize, Error> {
@@ -112,6 +145,12 @@ impl StoredRow for VectorRow {
     ghost put_none = { λ t. refl };
 
     ghost put_more = { λ x xs t. refl };
+}
+
+impl FoundRow for VectorRow {
+    fn find<S: Alter>(conn: &mut Connection<S>) -> Result<(), Error> {
+        test_rows::<VectorRow, S>(conn, ALL_VECTOR)
+    }
 }
 
 impl StoredRow for LogRow {
@@ -144,6 +183,17 @@ impl StoredRow for LogRow {
         })
     }
 
+    fn test(row: &Row) -> Result<(), Error> {
+        read_server(row, 0)?;
+        read_u32(row, 1)?;
+        read_u64(row, 2)?;
+        test_name(row, 3)?;
+        let is_cancel = test_action(row)?;
+        test_place(row, is_cancel)?;
+        read_u64(row, 11)?;
+        Ok(())
+    }
+
     fn compare(a: &LogRow, b: &LogRow) -> Ordering {
         compare_ids((a.server, a.n), (b.server, b.n))
     }
@@ -151,11 +201,7 @@ impl StoredRow for LogRow {
     fn keeps_order() {}
 
     fn select_all<S: Alter>(conn: &mut Connection<S>) -> Result<Vec<Row>, Error> {
-        ask(
-            conn,
-            "SELECT server, n, tm, room, kind, length, choices, title, tserver, tn, place, seq FROM log",
-            &[],
-        )
+        ask(conn, ALL_LOGS, &[])
     }
 
     fn put<S: Alter>(&self, tx: &mut Transaction<'_, S>, _alloc: Global) -> Result<usize, Error> {
@@ -169,6 +215,12 @@ impl StoredRow for LogRow {
     ghost put_none = { λ t. refl };
 
     ghost put_more = { λ x xs t. refl };
+}
+
+impl FoundRow for LogRow {
+    fn find<S: Alter>(conn: &mut Connection<S>) -> Result<(), Error> {
+        test_rows::<LogRow, S>(conn, ALL_LOGS)
+    }
 }
 
 impl RequestRow for LogRow {
@@ -218,6 +270,12 @@ impl StoredRow for BookingRow {
         })
     }
 
+    fn test(row: &Row) -> Result<(), Error> {
+        test_booking_cells(row)?;
+        read_mark(row, 7)?;
+        Ok(())
+    }
+
     fn compare(a: &BookingRow, b: &BookingRow) -> Ordering {
         compare_ids((a.server, a.n), (b.server, b.n))
     }
@@ -225,11 +283,7 @@ impl StoredRow for BookingRow {
     fn keeps_order() {}
 
     fn select_all<S: Alter>(conn: &mut Connection<S>) -> Result<Vec<Row>, Error> {
-        ask(
-            conn,
-            "SELECT room, day, start, stop, server, n, title, committed FROM booking",
-            &[],
-        )
+        ask(conn, ALL_BOOKINGS, &[])
     }
 
     fn put<S: Alter>(&self, tx: &mut Transaction<'_, S>, alloc: Global) -> Result<usize, Error> {
@@ -242,6 +296,12 @@ impl StoredRow for BookingRow {
     ghost put_none = { λ t. refl };
 
     ghost put_more = { λ x xs t. refl };
+}
+
+impl FoundRow for BookingRow {
+    fn find<S: Alter>(conn: &mut Connection<S>) -> Result<(), Error> {
+        test_rows::<BookingRow, S>(conn, ALL_BOOKINGS)
+    }
 }
 
 impl RequestRow for BookingRow {
@@ -293,6 +353,13 @@ impl StoredRow for ErrorRow {
         })
     }
 
+    fn test(row: &Row) -> Result<(), Error> {
+        test_booking_cells(row)?;
+        read_u64(row, 7)?;
+        read_u64(row, 8)?;
+        Ok(())
+    }
+
     fn compare(a: &ErrorRow, b: &ErrorRow) -> Ordering {
         compare_ids((a.server, a.n), (b.server, b.n))
     }
@@ -300,11 +367,7 @@ impl StoredRow for ErrorRow {
     fn keeps_order() {}
 
     fn select_all<S: Alter>(conn: &mut Connection<S>) -> Result<Vec<Row>, Error> {
-        ask(
-            conn,
-            "SELECT room, day, start, stop, server, n, title, tm, seq FROM errorlog",
-            &[],
-        )
+        ask(conn, ALL_ERRORS, &[])
     }
 
     fn put<S: Alter>(&self, tx: &mut Transaction<'_, S>, alloc: Global) -> Result<usize, Error> {
@@ -319,6 +382,12 @@ impl StoredRow for ErrorRow {
     ghost put_none = { λ t. refl };
 
     ghost put_more = { λ x xs t. refl };
+}
+
+impl FoundRow for ErrorRow {
+    fn find<S: Alter>(conn: &mut Connection<S>) -> Result<(), Error> {
+        test_rows::<ErrorRow, S>(conn, ALL_ERRORS)
+    }
 }
 
 impl RequestRow for ErrorRow {

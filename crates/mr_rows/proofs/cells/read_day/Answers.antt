@@ -1,4 +1,4 @@
-use Rattle.std.proofs.Common.{◌≡◌, ap, ◌∙◌, rules}
+use Rattle.std.proofs.Common.{◌≡◌, ap, sym, ◌∙◌}
 use Rattle.sqlite_value.specs.declared.value.Value.TheVariants.{Text}
 use Rattle.sqlite_value.specs.Order.{column, bytes}
 use Rattle.mr_model.specs.Calendar.{date_in}
@@ -7,10 +7,12 @@ use Rattle.mr_rows.proofs.cells.read_day.Goals as goal
 
 pub returns-in-Ok-clause-day : goal.returns-in-Ok-clause-day
 returns-in-Ok-clause-day c =
-    let same : c.deref.result.now ≡ bytes (column c.args.row.now c.args.at) = search rules in
-    day_read c.deref.result.now c.in-Ok.day _ c.in-Ok.ensures.value ∙ ap date_in same
+    let text = c.in_ok-text_in.field-0.now in
+    let cell : column c.args.row.now c.args.at ≡ Text text = c.in_ok-text_in.ensures.cell in
+    day_read text c.in-Ok.day _ c.in-Ok.ensures.value ∙ ap date_in (sym (ap bytes cell))
 
 pub returns-in-Ok-clause-cell : goal.returns-in-Ok-clause-cell
 returns-in-Ok-clause-cell c =
-    let cell : column c.args.row.now c.args.at ≡ Text c.deref.result.now = search rules in
-    cell ∙ ap Text (day_spelled c.deref.result.now c.in-Ok.day _ c.in-Ok.ensures.value)
+    let text = c.in_ok-text_in.field-0.now in
+    let cell : column c.args.row.now c.args.at ≡ Text text = c.in_ok-text_in.ensures.cell in
+    cell ∙ ap Text (day_spelled text c.in-Ok.day _ c.in-Ok.ensures.value)

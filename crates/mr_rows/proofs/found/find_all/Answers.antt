@@ -37,33 +37,33 @@ Five t = Four t × Old t
 pub returns-in_err-find_heads-clause-looks : goal.returns-in_err-find_heads-clause-looks
 returns-in_err-find_heads-clause-looks g c = let read = c.find_heads.ensures.looks in (read.0, read.1, λ clean here. (search rules, search rules))
 
-pub returns-in_err-find_stored-clause-looks : goal.returns-in_err-find_stored-clause-looks
-returns-in_err-find_stored-clause-looks g c =
+pub returns-in_err-find-clause-looks : goal.returns-in_err-find-clause-looks
+returns-in_err-find-clause-looks g c =
     let a = state g.S.Store c.args.conn.now in
     let b = state g.S.Store c.find_heads.new.conn in
-    let d = state g.S.Store c.find_stored.new.conn in
-    let read = looks_then a b d c.in_ok-find_heads.field-0 (λ _. Heads a.now.trees) c.find_stored.result (λ db _. Log db.trees) (λ _. Unit {0}) (λ here y p q. tt) c.in_ok-find_heads.ensures.looks c.find_stored.ensures.looks in
+    let d = state g.S.Store c.find.new.conn in
+    let read = looks_then a b d c.in_ok-find_heads.field-0 (λ _. Heads a.now.trees) c.find.result (λ db _. Log db.trees) (λ _. Unit {0}) (λ here y p q. tt) c.in_ok-find_heads.ensures.looks c.find.ensures.looks in
     (read.0, read.1, λ clean here. (search rules, search rules))
 
 pub returns-in_err-find_board-clause-looks : goal.returns-in_err-find_board-clause-looks
 returns-in_err-find_board-clause-looks g c =
     let a = state g.S.Store c.args.conn.now in
     let b = state g.S.Store c.find_heads.new.conn in
-    let d = state g.S.Store c.find_stored.new.conn in
+    let d = state g.S.Store c.find.new.conn in
     let e = state g.S.Store c.find_board.new.conn in
-    let two = looks_then a b d c.in_ok-find_heads.field-0 (λ _. Heads a.now.trees) (Ok c.in_ok-find_stored.field-0) (λ db _. Log db.trees) (λ _. Two a.now.trees) (λ here y p q. (p, q)) c.in_ok-find_heads.ensures.looks c.in_ok-find_stored.ensures.looks in
-    let read = looks_then a d e c.in_ok-find_stored.field-0 (λ _. Two a.now.trees) c.find_board.result (λ db _. Board db.trees) (λ _. Unit {0}) (λ here y p q. tt) two c.find_board.ensures.looks in
+    let two = looks_then a b d c.in_ok-find_heads.field-0 (λ _. Heads a.now.trees) (Ok c.in_ok-find.field-0) (λ db _. Log db.trees) (λ _. Two a.now.trees) (λ here y p q. (p, q)) c.in_ok-find_heads.ensures.looks c.in_ok-find.ensures.looks in
+    let read = looks_then a d e c.in_ok-find.field-0 (λ _. Two a.now.trees) c.find_board.result (λ db _. Board db.trees) (λ _. Unit {0}) (λ here y p q. tt) two c.find_board.ensures.looks in
     (read.0, read.1, λ clean here. (search rules, search rules))
 
 pub returns-in_err-find_cancels-clause-looks : goal.returns-in_err-find_cancels-clause-looks
 returns-in_err-find_cancels-clause-looks g c =
     let a = state g.S.Store c.args.conn.now in
     let b = state g.S.Store c.find_heads.new.conn in
-    let d = state g.S.Store c.find_stored.new.conn in
+    let d = state g.S.Store c.find.new.conn in
     let e = state g.S.Store c.find_board.new.conn in
     let f = state g.S.Store c.find_cancels.new.conn in
-    let two = looks_then a b d c.in_ok-find_heads.field-0 (λ _. Heads a.now.trees) (Ok c.in_ok-find_stored.field-0) (λ db _. Log db.trees) (λ _. Two a.now.trees) (λ here y p q. (p, q)) c.in_ok-find_heads.ensures.looks c.in_ok-find_stored.ensures.looks in
-    let three = looks_then a d e c.in_ok-find_stored.field-0 (λ _. Two a.now.trees) (Ok c.in_ok-find_board.field-0) (λ db _. Board db.trees) (λ _. Three a.now.trees) (λ here y p q. (p, q)) two c.in_ok-find_board.ensures.looks in
+    let two = looks_then a b d c.in_ok-find_heads.field-0 (λ _. Heads a.now.trees) (Ok c.in_ok-find.field-0) (λ db _. Log db.trees) (λ _. Two a.now.trees) (λ here y p q. (p, q)) c.in_ok-find_heads.ensures.looks c.in_ok-find.ensures.looks in
+    let three = looks_then a d e c.in_ok-find.field-0 (λ _. Two a.now.trees) (Ok c.in_ok-find_board.field-0) (λ db _. Board db.trees) (λ _. Three a.now.trees) (λ here y p q. (p, q)) two c.in_ok-find_board.ensures.looks in
     let read = looks_then a e f c.in_ok-find_board.field-0 (λ _. Three a.now.trees) c.find_cancels.result (λ db _. Cancels db.trees) (λ _. Unit {0}) (λ here y p q. tt) three c.find_cancels.ensures.looks in
     (read.0, read.1, λ clean here. (search rules, search rules))
 
@@ -71,12 +71,12 @@ pub returns-in_err-find_no_old_logs-clause-looks : goal.returns-in_err-find_no_o
 returns-in_err-find_no_old_logs-clause-looks g c =
     let a = state g.S.Store c.args.conn.now in
     let b = state g.S.Store c.find_heads.new.conn in
-    let d = state g.S.Store c.find_stored.new.conn in
+    let d = state g.S.Store c.find.new.conn in
     let e = state g.S.Store c.find_board.new.conn in
     let f = state g.S.Store c.find_cancels.new.conn in
     let h = state g.S.Store c.find_no_old_logs.new.conn in
-    let two = looks_then a b d c.in_ok-find_heads.field-0 (λ _. Heads a.now.trees) (Ok c.in_ok-find_stored.field-0) (λ db _. Log db.trees) (λ _. Two a.now.trees) (λ here y p q. (p, q)) c.in_ok-find_heads.ensures.looks c.in_ok-find_stored.ensures.looks in
-    let three = looks_then a d e c.in_ok-find_stored.field-0 (λ _. Two a.now.trees) (Ok c.in_ok-find_board.field-0) (λ db _. Board db.trees) (λ _. Three a.now.trees) (λ here y p q. (p, q)) two c.in_ok-find_board.ensures.looks in
+    let two = looks_then a b d c.in_ok-find_heads.field-0 (λ _. Heads a.now.trees) (Ok c.in_ok-find.field-0) (λ db _. Log db.trees) (λ _. Two a.now.trees) (λ here y p q. (p, q)) c.in_ok-find_heads.ensures.looks c.in_ok-find.ensures.looks in
+    let three = looks_then a d e c.in_ok-find.field-0 (λ _. Two a.now.trees) (Ok c.in_ok-find_board.field-0) (λ db _. Board db.trees) (λ _. Three a.now.trees) (λ here y p q. (p, q)) two c.in_ok-find_board.ensures.looks in
     let four = looks_then a e f c.in_ok-find_board.field-0 (λ _. Three a.now.trees) (Ok c.in_ok-find_cancels.field-0) (λ db _. Cancels db.trees) (λ _. Four a.now.trees) (λ here y p q. (p, q)) three c.in_ok-find_cancels.ensures.looks in
     let read = looks_then a f h c.in_ok-find_cancels.field-0 (λ _. Four a.now.trees) c.find_no_old_logs.result (λ db _. Old db.trees) (λ _. Unit {0}) (λ here y p q. tt) four c.find_no_old_logs.ensures.looks in
     (read.0, read.1, λ clean here. (search rules, search rules))
@@ -85,13 +85,13 @@ pub returns-clause-looks : goal.returns-clause-looks
 returns-clause-looks g c =
     let a = state g.S.Store c.args.conn.now in
     let b = state g.S.Store c.find_heads.new.conn in
-    let d = state g.S.Store c.find_stored.new.conn in
+    let d = state g.S.Store c.find.new.conn in
     let e = state g.S.Store c.find_board.new.conn in
     let f = state g.S.Store c.find_cancels.new.conn in
     let h = state g.S.Store c.find_no_old_logs.new.conn in
     let m = state g.S.Store c.find_meta.new.conn in
-    let two = looks_then a b d c.in_ok-find_heads.field-0 (λ _. Heads a.now.trees) (Ok c.in_ok-find_stored.field-0) (λ db _. Log db.trees) (λ _. Two a.now.trees) (λ here y p q. (p, q)) c.in_ok-find_heads.ensures.looks c.in_ok-find_stored.ensures.looks in
-    let three = looks_then a d e c.in_ok-find_stored.field-0 (λ _. Two a.now.trees) (Ok c.in_ok-find_board.field-0) (λ db _. Board db.trees) (λ _. Three a.now.trees) (λ here y p q. (p, q)) two c.in_ok-find_board.ensures.looks in
+    let two = looks_then a b d c.in_ok-find_heads.field-0 (λ _. Heads a.now.trees) (Ok c.in_ok-find.field-0) (λ db _. Log db.trees) (λ _. Two a.now.trees) (λ here y p q. (p, q)) c.in_ok-find_heads.ensures.looks c.in_ok-find.ensures.looks in
+    let three = looks_then a d e c.in_ok-find.field-0 (λ _. Two a.now.trees) (Ok c.in_ok-find_board.field-0) (λ db _. Board db.trees) (λ _. Three a.now.trees) (λ here y p q. (p, q)) two c.in_ok-find_board.ensures.looks in
     let four = looks_then a e f c.in_ok-find_board.field-0 (λ _. Three a.now.trees) (Ok c.in_ok-find_cancels.field-0) (λ db _. Cancels db.trees) (λ _. Four a.now.trees) (λ here y p q. (p, q)) three c.in_ok-find_cancels.ensures.looks in
     let five = looks_then a f h c.in_ok-find_cancels.field-0 (λ _. Four a.now.trees) (Ok c.in_ok-find_no_old_logs.field-0) (λ db _. Old db.trees) (λ _. Five a.now.trees) (λ here y p q. (p, q)) four c.in_ok-find_no_old_logs.ensures.looks in
     looks_then a h m c.in_ok-find_no_old_logs.field-0 (λ _. Five a.now.trees) c.find_meta.result (λ db row. AreStoredAs meta_form db.trees × IsMeta db.trees row) (λ row. AreOurRows a.now.trees × IsMeta a.now.trees row)
