@@ -27,21 +27,21 @@ def printed_as(reply):
 
 
 def one_way(maker, taker):
-    """What the one lacks of what the other has, in rounds of 64 lines: who refused, or None; the refusal, or what was new; the number of batches
-    that were asked for."""
+    """What the one lacks of what the other has, in rounds of 64 lines: who refused, or None; the refusal, or what was new; the numbers of batches
+    that were asked for, and that were made."""
     writes = commits = asked = 0
     while True:
         asked += 1
         batch = wire.answer_position(maker, printed_as(taker.position()), 64)
         if batch.startswith('refused '):
-            return maker, batch, asked
+            return maker, batch, asked, asked - 1
         reply = wire.receive(taker, batch.encode('ascii'))
         if reply.startswith('refused '):
-            return taker, reply, asked
+            return taker, reply, asked, asked
         _, more_writes, _, more_commits, _ = reply.split(' ')
         writes, commits = writes + int(more_writes), commits + int(more_commits)
         if batch.endswith('E\n') or more_writes == more_commits == '0':
-            return None, f'{writes} writes {commits} commits', asked
+            return None, f'{writes} writes {commits} commits', asked, asked
 
 
 def line_of(word, mine, who, reply):
@@ -52,14 +52,14 @@ def line_of(word, mine, who, reply):
 
 
 def exchanged(mine, peer):
-    """What an exchange prints, its status and its connections: one for each batch that is asked for, two for each that is to be pushed, the
-    first of them for the position. (The second is there before the batch is made: a server that had ended by then would be a fault.)"""
-    who, reply, connections = one_way(peer, mine)
+    """What an exchange prints, its status and its connections: one for each batch that is pulled, one for the position before each push, and one
+    more for each batch that is made and pushed."""
+    who, reply, connections, _ = one_way(peer, mine)
     lines = [line_of('pulled', mine, who, reply)]
     if who is None:
-        who, reply, asked = one_way(mine, peer)
+        who, reply, asked, made = one_way(mine, peer)
         lines.append(line_of('pushed', mine, who, reply))
-        connections += 2 * asked
+        connections += asked + made
     return lines, 0 if who is None else 1, connections
 
 

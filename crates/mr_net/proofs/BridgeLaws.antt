@@ -1,5 +1,5 @@
 -- What a round of a bridge asks of the two replicas.
-use Rattle.std.proofs.Common.{◌≡◌, ◌≤◌, ℕ, List, [], ◌∷◌, ◌++◌, length, Option, Result, Ok, Err, inl, inr, true, false, refl, sym, subst, arith, length-append}
+use Rattle.std.proofs.Common.{◌≡◌, ℕ, List, [], ◌∷◌, ◌++◌, Option, Result, Ok, Err, inl, inr, true, false, refl, sym, subst, arith, length-append}
 use Rattle.std.specs.Prelude.{IfOk, IsErr, IsErrAnd}
 use Rattle.mr_model.specs.Texts.{Text}
 use Rattle.mr_model.specs.Positions.{Position}

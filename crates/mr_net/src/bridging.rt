@@ -7,13 +7,10 @@ ghost use Rattle.mr_model.specs.Step.{AskPosition};
 ghost use Rattle.mr_say.specs.CommandOutput.{no_memory_line};
 ghost use Rattle.mr_peer.specs.PeerAsking.{AsksPull, AsksPush, lacking};
 ghost use Rattle.mr_peer.specs.Exchanged.{IsExchanged};
-ghost use Rattle.mr_peer.specs.PeerReplies.{told_took};
 ghost use Rattle.mr_peer.specs.PeerRequests.{is_host};
-ghost use Rattle.mr_peer.specs.ExchangeSteps.{TakesBody, TakesPulled};
-ghost use Rattle.mr_peer.specs.PeerTaking.{TellsAsRead};
 ghost use Rattle.mr_net.specs.Bridged.{TellsBridge};
 ghost use Rattle.mr_net.specs.Printed.{EndsExchange, StopsWithText};
-ghost use Rattle.mr_net.specs.ExchangeRounds.{Brings, ComesTo, IsServer, RunsBridged};
+ghost use Rattle.mr_net.specs.ExchangeRounds.{IsServer, RunsBridged};
 ghost use Rattle.mr_net.specs.declared.ways.Way.TheVariants.{Pull, Push};
 
 use crate::connecting::connect;
@@ -21,15 +18,16 @@ use crate::connections::serve;
 use crate::databases::{close, open};
 use crate::hosts::Host;
 use crate::printing::{exchange_with, say_no_network};
+use crate::taking::{take_pull, take_push};
 use crate::ways::{Peer, Round, Way};
 use mr_base::{Ending, Position};
 use mr_http::WebFault;
-use mr_peer::{position_ask, position_take, pull_ask, pull_take, push_ask, push_take};
+use mr_peer::{position_ask, position_take, pull_ask, push_ask};
 use mr_say::{NO_MEMORY, REFUSED, say, say_refusal};
 use mr_service::Service;
 use mr_store::Keeper;
 use std::alloc::Global;
-use std::io::{Read, Write};
+use std::io::Write;
 use std::net::{Ipv4Addr, TcpListener, TcpStream};
 
 /// The address of this machine alone.
@@ -88,7 +86,7 @@ impl<C: Keeper, S: Keeper> Neighbour<'_, C, S> {
         let stream = self.connect()?;
         ask_pull(self.alloc, &mut self.client, self.host.as_str(), &stream)?;
         self.serve(&stream)?;
-        take_pull(self.alloc, &mut self.client, &stream)
+        take_pull(self.alloc, &mut self.client, &mut &stream)
     }
 
     fn push(&mut self) -> Result<Round, WebFault>
@@ -118,22 +116,6 @@ fn ask_pull<C: Keeper>(
     pull_ask(alloc, client, host, &mut writer)
 }
 
-/// Takes the reply over this connection.
-fn take_pull<C: Keeper>(
-    alloc: Global,
-    client: &mut Service<C>,
-    stream: &TcpStream,
-) -> Result<Round, WebFault>
-    ensures { (known : Option Text) × (called : _) × IsExchanged C.Keeper client.old client.new called (TakesPulled known) (TakesBody (C.tables client.old))
-        × ComesTo called result }
-{
-    let mut reader = stream;
-    match pull_take(alloc, client, &mut reader) {
-        Ok(taken) => Ok(Round::of(taken)),
-        Err(fault) => Err(fault),
-    }
-}
-
 /// Hands over what a server at this position lacks, over this connection.
 fn ask_push<C: Keeper>(
     alloc: Global,
@@ -148,16 +130,6 @@ fn ask_push<C: Keeper>(
 {
     let mut writer = stream;
     push_ask(alloc, client, position, host, &mut writer)
-}
-
-/// Takes the reply to a batch that was handed over and ended so.
-fn take_push<R: Read>(alloc: Global, ending: Ending, reader: &mut R) -> Result<Round, WebFault>
-    ensures { (counts : _) × TellsAsRead told_took (R.remaining reader.old) counts × Brings counts ending result }
-{
-    match push_take(alloc, reader) {
-        Ok(counts) => Ok(Round::of((counts.0, counts.1, ending))),
-        Err(fault) => Err(fault),
-    }
 }
 
 /// The other end of this connection. Whoever else connects meanwhile is sent away.

@@ -1,5 +1,8 @@
 //! Connections to a peer: which address is meant, and how long its reply is waited for.
 
+ghost use Rattle.std.specs.Prelude.{◌≡◌, IfErr};
+ghost use Rattle.mr_http.specs.declared.faults.WebFault.TheVariants.{Read};
+
 use mr_http::WebFault;
 use std::io;
 use std::net::TcpStream;
@@ -9,7 +12,9 @@ use std::time::Duration;
 const PATIENCE: u64 = 300;
 
 /// A connection to the host of this name, written as in a URL.
-pub(crate) fn connect(rt: &HostRuntime, name: &str, port: u16) -> Result<TcpStream, WebFault> {
+pub(crate) fn connect(rt: &HostRuntime, name: &str, port: u16) -> Result<TcpStream, WebFault>
+    ensures { IfErr result (λ e. e ≡ Read) }
+{
     match patient_stream(rt, address_of(name), port) {
         Ok(stream) => Ok(stream),
         Err(_) => Err(WebFault::Read),

@@ -1,21 +1,24 @@
 //! The exchange of a database with a peer at an address.
 
-ghost use Rattle.std.specs.Prelude.{◌≡◌, ℕ, false, IsTrue};
+ghost use Rattle.std.specs.Prelude.{◌≡◌, ℕ, false, IfErr, IsTrue};
 ghost use Rattle.mr_model.specs.Texts.{Text};
+ghost use Rattle.mr_http.specs.declared.faults.WebFault.TheVariants.{Read as fault_read};
 ghost use Rattle.mr_peer.specs.PeerRequests.{is_host};
 ghost use Rattle.mr_net.specs.Hosts.{host_name, IsPeer};
 ghost use Rattle.mr_net.specs.Printed.{EndsExchange, TellsBadAddress, TellsBoth};
 ghost use Rattle.mr_net.specs.ExchangeRounds.{RunsRound};
+ghost use Rattle.mr_net.specs.SentRequests.{PullsOver, PushesOver};
 ghost use Rattle.mr_net.specs.declared.ways.Way.TheVariants.{Pull, Push};
 
 use crate::connecting::connect;
 use crate::databases::{close, open};
 use crate::hosts::Host;
 use crate::printing::exchange_with;
+use crate::taking::{take_pull, take_push};
 use crate::ways::{Peer, Round, Way};
-use mr_base::Position;
-use mr_http::WebFault;
-use mr_peer::{position_ask, position_take, pull, push};
+use mr_base::{Ending, Position};
+use mr_http::{WebFault, send};
+use mr_peer::{position_ask, position_take, pull_ask, push_ask};
 use mr_say::{BAD_WORDS, NO_MEMORY, REFUSED, say, say_refusal};
 use mr_service::Service;
 use mr_store::Keeper;
@@ -33,6 +36,9 @@ struct Address<'a> {
 }
 
 /// A peer at an address, which is asked over one connection a request, and the replica that exchanges with it.
+///
+/// Each request is made whole before its connection is opened: where this replica refuses to make one, the peer isn't called, and it
+/// doesn't wait while one is made.
 #[derive(Drop)]
 struct Remote<'a, K: Keeper> {
     rt: &'a HostRuntime,
@@ -42,26 +48,32 @@ struct Remote<'a, K: Keeper> {
 }
 
 impl<K: Keeper> Remote<'_, K> {
-    fn connect(&self) -> Result<TcpStream, WebFault> {
+    fn connect(&self) -> Result<TcpStream, WebFault>
+        ensures { IfErr result (λ e. e ≡ fault_read) }
+    {
         connect(self.rt, self.address.name, self.address.port)
     }
 
     /// What the peer has. Its connection has ended when this returns: the peer serves no other one before.
     fn position(&self) -> Result<Position, WebFault> {
+        let mut request = Vec::new(self.alloc);
+        position_ask(self.alloc, self.address.host.as_str(), &mut request)?;
         let stream = self.connect()?;
-        position_ask(self.alloc, self.address.host.as_str(), &mut &stream)?;
+        send(&mut &stream, request.as_slice())?;
         position_take(self.alloc, &mut &stream)
     }
 
     fn pull(&mut self) -> Result<Round, WebFault>
         ensures { RunsRound K.Keeper Pull self.old.service result self.new.service }
     {
-        let stream = self.connect()?;
+        let mut request = Vec::new(self.alloc);
         let host = self.address.host.as_str();
+        pull_ask(self.alloc, &mut self.service, host, &mut request)?;
+        let stream = self.connect()?;
         pull_over(
             self.alloc,
             &mut self.service,
-            host,
+            request.as_slice(),
             &mut &stream,
             &mut &stream,
         )
@@ -71,52 +83,46 @@ impl<K: Keeper> Remote<'_, K> {
         ensures { RunsRound K.Keeper Push self.old.service result self.new.service }
     {
         let position = self.position()?;
+        let mut request = Vec::new(self.alloc);
         let host = self.address.host.as_str();
+        let ending = push_ask(self.alloc, &mut self.service, &position, host, &mut request)?;
         let stream = self.connect()?;
         push_over(
             self.alloc,
-            &mut self.service,
-            &position,
-            host,
+            request.as_slice(),
+            ending,
             &mut &stream,
             &mut &stream,
         )
     }
 }
 
-/// One pull of the replica over a connection.
+/// Sends the request of a pull over a connection, and takes the reply.
 fn pull_over<K: Keeper, R: Read, W: Write>(
     alloc: Global,
     service: &mut Service<K>,
-    host: &str,
+    request: &[u8],
     reader: &mut R,
     writer: &mut W,
 ) -> Result<Round, WebFault>
-    requires { IsTrue (is_host host.now) }
-    ensures { RunsRound K.Keeper Pull service.old result service.new }
+    ensures { PullsOver K.Keeper service.old service.new request.now (W.contents writer.old) (W.contents writer.new) (R.remaining reader.old) result }
 {
-    match pull(alloc, service, host, reader, writer) {
-        Ok(taken) => Ok(Round::of(taken)),
-        Err(fault) => Err(fault),
-    }
+    send(writer, request)?;
+    take_pull(alloc, service, reader)
 }
 
-/// One push of the replica over a connection, to a peer at this position.
-fn push_over<K: Keeper, R: Read, W: Write>(
+/// Sends the request of a push, whose batch ends so, over a connection, and takes the reply.
+fn push_over<R: Read, W: Write>(
     alloc: Global,
-    service: &mut Service<K>,
-    position: &Position,
-    host: &str,
+    request: &[u8],
+    ending: Ending,
     reader: &mut R,
     writer: &mut W,
 ) -> Result<Round, WebFault>
-    requires { IsTrue (is_host host.now) }
-    ensures { RunsRound K.Keeper Push service.old result service.new }
+    ensures { PushesOver request.now ending (W.contents writer.old) (W.contents writer.new) (R.remaining reader.old) result }
 {
-    match push(alloc, service, position, host, reader, writer) {
-        Ok(handed) => Ok(Round::of(handed)),
-        Err(fault) => Err(fault),
-    }
+    send(writer, request)?;
+    take_push(alloc, ending, reader)
 }
 
 impl<K: Keeper> Peer for Remote<'_, K> {

@@ -16,6 +16,7 @@ mod exchanging;
 mod hosts;
 mod printing;
 mod serving;
+mod taking;
 mod ways;
 
 pub use bridging::bridge;

@@ -1,16 +1,14 @@
-use Rattle.std.proofs.Common.{inr, refl, ap, Ok, Err}
+use Rattle.std.proofs.Common.{◌∙◌, inl, inr, ap, Err}
+use Rattle.std.proofs.lemmas.Result.{err_from_is_err_and}
 use Rattle.mr_net.proofs.exchanging.push_over.Goals as goal
 
-pub returns-in-Ok : goal.returns-in-Ok
-returns-in-Ok g c =
-    let held = g.W.Write.contents c.args.writer.now in
-    let holds = g.W.Write.contents c.push.new.writer in
-    let known = g.R.Read.remaining c.args.reader.now in
-    inr (c.args.position.now, c.args.host.now, held, holds, known, Ok c.in-Ok.handed, c.in-Ok.ensures.exchanged, ap Ok c.of.ensures)
+pub returns-in_err-send : goal.returns-in_err-send
+returns-in_err-send g c =
+    let p = err_from_is_err_and c.from_residual.result c.from_residual.ensures.1 in
+    let (n, few, sent) = c.in_err-send.ensures.front in
+    inl (p.1 ∙ ap Err p.2 ∙ ap Err c.in_err-send.ensures.fault, n, few, sent)
 
-pub returns-in-Err : goal.returns-in-Err
-returns-in-Err g c =
-    let held = g.W.Write.contents c.args.writer.now in
-    let holds = g.W.Write.contents c.push.new.writer in
-    let known = g.R.Read.remaining c.args.reader.now in
-    inr (c.args.position.now, c.args.host.now, held, holds, known, Err c.in-Err.fault, c.in-Err.ensures.exchanged, refl)
+pub returns : goal.returns
+returns g c =
+    let (counts, told, brings) = c.take_push.ensures in
+    inr (c.in_ok-send.ensures.ok, counts, told, brings)

@@ -1,4 +1,4 @@
-use Rattle.std.proofs.Common.{inl, refl, Ok, Err}
+use Rattle.std.proofs.Common.{inl, refl, None, Ok, Err}
 use Rattle.mr_net.specs.declared.ways.Way.TheVariants.{Pull}
 use Rattle.mr_net.proofs.BridgeLaws.{is_err, taken, unasked, untaken}
 use Rattle.mr_net.proofs.bridging.Neighbour.pull.Goals as goal
@@ -27,8 +27,8 @@ returns-in_err-serve g c =
 pub returns : goal.returns
 returns g c =
     let (held, holds, asked) = c.in_ok-ask_pull.ensures in
-    let (known, called, took, comes) = c.take_pull.ensures in (
-      taken g.C.Keeper c.args.self.now.client c.ask_pull.new.client c.serve.new.self.client c.take_pull.new.client c.as_str.result.now held holds known (Ok tt) called
+    let (called, took, comes) = c.take_pull.ensures in (
+      taken g.C.Keeper c.args.self.now.client c.ask_pull.new.client c.serve.new.self.client c.take_pull.new.service c.as_str.result.now held holds None (Ok tt) called
           c.take_pull.result asked c.in_ok-serve.ensures.client took comes,
       c.in_ok-serve.ensures.server,
     )

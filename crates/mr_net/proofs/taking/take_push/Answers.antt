@@ -1,5 +1,5 @@
 use Rattle.std.proofs.Common.{refl, ap, Ok, Err}
-use Rattle.mr_net.proofs.bridging.take_push.Goals as goal
+use Rattle.mr_net.proofs.taking.take_push.Goals as goal
 
 pub returns-in-Ok : goal.returns-in-Ok
 returns-in-Ok g c = (Ok c.in-Ok.counts, c.in-Ok.ensures.tells, ap Ok c.of.ensures)
