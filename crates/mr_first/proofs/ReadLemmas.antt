@@ -1,10 +1,11 @@
 -- Reads of a database of the first schema, one after another, and rows that were read in the order of their keys.
-use Rattle.std.proofs.Common.{◌≡◌, List, [], ◌∷◌, map, Ok, Err, Result, Option, Some, IfOk, OnOk, refl, sym, ap, subst, ◌∙◌}
+use Rattle.std.proofs.Common.{◌≡◌, ℕ, ◌+◌, ◌<◌, ◌≤◌, List, [], ◌∷◌, map, length, take, get_or, Ok, Err, Result, Option, Some, IfOk, OnOk, refl, sym, ap, subst, ◌∙◌}
 use Rattle.std.specs.List.Sorted.{IsPermutation, IsSorted}
 use Rattle.std.proofs.lemmas.Cmp.{on_total}
 use Rattle.std.proofs.lemmas.List.Sorted.{IsPermutation-map, IsPermutation-sym, IsPermutation-trans}
 use Rattle.std.specs.List.{All}
-use Rattle.std.proofs.lemmas.List.Elements.{recursion_from_All}
+use Rattle.std.proofs.lemmas.List.{take_all}
+use Rattle.std.proofs.lemmas.List.Elements.{All-more, recursion_from_All}
 use Rattle.sqlite_value.specs.declared.value.Value.TheVariants.{Null}
 use Rattle.sqlite_value.specs.Order.{Row}
 use Rattle.sqlite_trees.specs.Tree.{Trees}
@@ -126,3 +127,10 @@ meta_found trees shown (Ok m) same all is = (
     twice [] = refl
     twice (r ∷ rows) = ap (λ more. meta_in r ∷ more) (twice rows)
 meta_found trees shown (Err e) same all is = tt
+
+-- one element more of which it holds
+pub one_more : {X : Type 0} (P : X → Type 0) (xs : List X) (i : ℕ) (x : X) → i < length xs → x ≡ get_or xs i x → P x → All P (take i xs) → All P (take (i + 1) xs)
+one_more P xs i x lt at p h = All-more P xs i x lt h (subst P at p)
+
+pub all_of : {X : Type 0} (P : X → Type 0) (xs : List X) (i : ℕ) → length xs ≤ i → All P (take i xs) → All P xs
+all_of P xs i le h = subst (All P) (take_all i xs le) h

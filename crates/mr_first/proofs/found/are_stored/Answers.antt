@@ -1,6 +1,6 @@
 use Rattle.std.proofs.Common.{rules, arith, sym, ap, ◌∙◌}
 use Rattle.mr_rows.specs.Shown.{IsShownAs}
-use Rattle.mr_rows.proofs.FoundLemmas.{one_more, all_of}
+use Rattle.mr_first.proofs.ReadLemmas.{one_more, all_of}
 use Rattle.mr_first.proofs.found.are_stored.Goals as goal
 
 pub rows-preserved : goal.rows-preserved
