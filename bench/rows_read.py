@@ -31,9 +31,12 @@ Commit = namedtuple('Commit', 'seq server n')
 
 
 def statements():
-    """The statements of the source, by the names of their functions."""
+    """The statements of the source, by the names of their functions. Some have a constant for their text."""
     with open(os.path.join(HERE, '..', 'crates', 'mr_rows', 'src', 'queries.rt'), encoding='utf-8') as file:
-        return dict(re.findall(r'fn (\w+)<(?:(?!\n}).)*?"(SELECT [^"]*)"', file.read(), re.S))
+        source = file.read()
+    for name, text in re.findall(r'const (\w+): &str =\s+("SELECT [^"]*")', source):
+        source = re.sub(rf'\b{name}\b(?!:)', text, source)
+    return dict(re.findall(r'fn (\w+)<(?:(?!\n}).)*?"(SELECT [^"]*)"', source, re.S))
 
 
 # ---- the databases

@@ -15,7 +15,7 @@ use Rattle.sqlite.specs.Effect.{Database}
 use Rattle.mr_rows.specs.Database.{IsKept, IsOurs}
 use Rattle.mr_rows.specs.Reads.{ReadsKept, IsPlacedIn, IsPlaced, Looks, ReadsWhere, IsInUse, ReadsInUse}
 
-placed : (s : State) → IsKept s → IsPlaced s
+pub placed : (s : State) → IsKept s → IsPlaced s
 placed s kept = record { schema = kept.ours.schema; settled = kept.settled }
 
 pub plain_here : {under : Schema} (s : State) (sql : List ℕ) → IsPlacedIn under s → IsPlain (understood under sql) → IsPlain (understood s.now.schema sql)

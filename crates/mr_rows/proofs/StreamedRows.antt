@@ -1,5 +1,6 @@
--- A plain query whose rows are read and tested one after the other.
-use Rattle.std.proofs.Common.{◌≡◌, ◌⊎◌, inl, inr, ℕ, List, [], ◌∷◌, ◌++◌, Option, None, Some, Result, Ok, Err, OnOk, OnErr, IfErr, IsTrue, sym, subst}
+-- A plain query whose rows come one after the other.
+use Rattle.std.proofs.Common.{◌≡◌, ◌⊎◌, inl, inr, ℕ, List, [], ◌∷◌, ◌++◌, map, Option, None, Some, Result, Ok, Err, OnOk, OnErr, IfErr, IsTrue, sym, ap, subst, ◌∙◌}
+use Rattle.std.proofs.lemmas.List.{append_assoc, map-append}
 use Rattle.std.specs.List.{AllByRecursion}
 use Rattle.sqlite_value.specs.Order.{Row}
 use Rattle.sqlite_trees.specs.declared.store.Store as store
@@ -13,17 +14,17 @@ use Rattle.sqlite.specs.State.{State, HasCleanDisk, IsUnchanged, Fails, Shown, S
 use Rattle.sqlite.proofs.StateLemmas.{survives_weaker}
 use Rattle.sqlite.proofs.Callers.{IsPlain, begun_plain, unchanged_then}
 use Rattle.mr_rows.specs.Schema.{our_schema}
-use Rattle.mr_rows.specs.Reads.{IsPlaced, Looks}
-use Rattle.mr_rows.specs.Shown.{AreShownAs}
-use Rattle.mr_rows.proofs.QueryLemmas.{plain_here, shown_open, left_same, commits_none, looked, looks_so, looks_then}
+use Rattle.mr_rows.specs.Reads.{IsPlaced, Looks, ReadsKept}
+use Rattle.mr_rows.specs.Shown.{IsShownSo}
+use Rattle.mr_rows.proofs.QueryLemmas.{placed, plain_here, shown_open, left_same, commits_none, looked, looks_so, looks_then}
 
 -- what is shown of an unchanged database is shown of it as it was
-shown_from : (sql : List ℕ) (a b c : State) (rows : List Row) → IsPlain (understood a.now.schema sql) → IsUnchanged a b → Shown sql [] b c rows → Shown sql [] a c rows
+shown_from : (sql : List ℕ) (params : Row) (a b c : State) (rows : List Row) → IsPlain (understood a.now.schema sql) → IsUnchanged a b → Shown sql params b c rows → Shown sql params a c rows
 unfolding Shown
-shown_from sql a b c rows plain same h =
+shown_from sql params a b c rows plain same h =
     let here : b.now ≡ a.now = same.0.now_is in
     let none = (subst IsPlain h.1.is (subst (λ (d : Database). IsPlain (understood d.schema sql)) (sym here) plain)).0 in
-    let full = timed [] h.0.formats h.1.now in
+    let full = timed params h.0.formats h.1.now in
     let it = subst (ShowsRows b c sql h.0 full rows) none h.2 in
     let source = subst (λ (d : Database). IsSourceOf (reads_listing d.schema sql) d it.0) here it.1 in (
       h.0,
@@ -31,46 +32,55 @@ shown_from sql a b c rows plain same h =
       subst (ShowsRows a c sql h.0 full rows) (sym none) (it.0, source, it.2, unchanged_then a b c same it.3),
     )
 
-all_more : (P : Row → Type 0) (rows : List Row) (row : Row) → AllByRecursion P rows → P row → AllByRecursion P (rows ++ row ∷ [])
-all_more P [] row all here = (here, tt)
-all_more P (r ∷ rows) row all here = (all.0, all_more P rows row all.1 here)
+-- one row more passed
+pub all_more : (P : Row → Type 0) (rows : List Row) (row : Row) → P row → AllByRecursion P rows → AllByRecursion P (rows ++ row ∷ [])
+all_more P [] row here all = (here, tt)
+all_more P (r ∷ rows) row here all = (all.0, all_more P rows row here all.1)
 
-module _ {S : Type 0} (g : store.Ghosts S) (sql : List ℕ) (P : Row → Type 0) (first : State) where
-  -- the query has given rows, all of which passed
+-- the rows are read and put behind the first ones
+abbrev pub AreAdded : {R : Type 0} → (Row → R) → List R → List R → List Row → Type 0
+AreAdded f first now rows = now ≡ first ++ map f rows
+
+pub read_more : {R : Type 0} (f : Row → R) (first old new : List R) (rows : List Row) (row : Row) (x : R) → x ≡ f row → new ≡ old ++ x ∷ [] → AreAdded f first old rows → AreAdded f first new (rows ++ row ∷ [])
+read_more f first old new rows row x is more far =
+    more ∙ (λ i. far i ++ is i ∷ []) ∙ append_assoc first (map f rows) (f row ∷ []) ∙ ap (λ xs. first ++ xs) (sym (map-append f rows (row ∷ [])))
+
+module _ {S : Type 0} (g : store.Ghosts S) (sql : List ℕ) (params : Row) (Q : List Row → Type 0) (first : State) where
+  -- this is so of the rows that the query has given
   abbrev pub SoFar : Held S → Type 0
-  SoFar now = IsUnchanged first (state g now) × (given : List Row) × HasGiven g sql [] now given × AllByRecursion P given
+  SoFar now = IsUnchanged first (state g now) × (given : List Row) × HasGiven g sql params now given × Q given
 
-  -- it has given one more, which is still to pass, or those so far are the answer
+  -- it is so of those before one that was given now, or of the whole answer
   abbrev pub OneOn : Held S → Option Row → Type 0
-  OneOn now (Some row) = P row → SoFar now
-  OneOn now None = AreShownAs P sql first (state g now)
+  OneOn now (Some row) = IsUnchanged first (state g now) × (given : List Row) × HasGiven g sql params now (given ++ row ∷ []) × Q given
+  OneOn now None = IsShownSo Q sql params first (state g now)
 
   one_on : (old new : Held S) (row : Option Row) → IsPlain (understood first.now.schema sql) → SoFar old → IsUnchanged (state g old) (state g new) → Advances g old new row → OneOn new row
-  one_on old new (Some row) plain far still on = λ passed. (unchanged_then first (state g old) (state g new) far.0 still, far.1 ++ row ∷ [], on sql [] far.1 far.2, all_more P far.1 row far.3 passed)
-  one_on old new None plain far still on = (far.1, shown_from sql first (state g old) (state g new) far.1 plain far.0 (on sql [] far.1 far.2), far.3)
+  one_on old new (Some row) plain far still on = (unchanged_then first (state g old) (state g new) far.0 still, far.1, on sql params far.1 far.2, far.3)
+  one_on old new None plain far still on = (far.1, shown_from sql params first (state g old) (state g new) far.1 plain far.0 (on sql params far.1 far.2), far.3)
 
-module _ {S : Type 0} (g : store.Ghosts S) (sql : List ℕ) (P : Row → Type 0) (plain : IsPlain (understood our_schema sql)) where
-  pub begun : (old new : Held S) → (HasCleanDisk (state g new) → HasBegun g sql [] old new) → Survives (state g old) (state g new) (CommitsShowing sql [] (state g old))
-      → Looks {X = Unit {0}} (state g old) (state g new) (Ok tt) (λ _. SoFar g sql P (state g old) new)
-  begun old new began survives = (
-    commits_none sql [] (state g old) (state g new) plain IsPlaced (λ here. here) survives,
+module _ {S : Type 0} (g : store.Ghosts S) (sql : List ℕ) (params : Row) (plain : IsPlain (understood our_schema sql)) where
+  pub begun : (Q : List Row → Type 0) (old new : Held S) → (HasCleanDisk (state g new) → HasBegun g sql params old new) → Survives (state g old) (state g new) (CommitsShowing sql params (state g old)) → Q []
+      → Looks {X = Unit {0}} (state g old) (state g new) (Ok tt) (λ _. SoFar g sql params Q (state g old) new)
+  begun Q old new began survives none = (
+    commits_none sql params (state g old) (state g new) plain IsPlaced (λ here. here) survives,
     λ clean now. (was_open (began clean), λ here. let same = (begun_at clean here).1 in (same.0.now_is, same.0.committed_is)),
-    λ clean here. let it = begun_at clean here in (it.1.0.is_open, (it.1, [], it.0, tt)),
+    λ clean here. let it = begun_at clean here in (it.1.0.is_open, (it.1, [], it.0, none)),
   )
     where
-      was_open : HasBegun g sql [] old new → IsTrue (state g old).is_open
+      was_open : HasBegun g sql params old new → IsTrue (state g old).is_open
       was_open (inl h) = h.1.0.was_open
-      was_open (inr h) = shown_open sql [] (state g old) (state g new) _ h.1
+      was_open (inr h) = shown_open sql params (state g old) (state g new) _ h.1
 
-      begun_at : HasCleanDisk (state g new) → IsPlaced (state g old) → HasGiven g sql [] new [] × IsUnchanged (state g old) (state g new)
-      begun_at clean here = begun_plain g sql [] old new (plain_here (state g old) sql here plain) (began clean)
+      begun_at : HasCleanDisk (state g new) → IsPlaced (state g old) → HasGiven g sql params new [] × IsUnchanged (state g old) (state g new)
+      begun_at clean here = begun_plain g sql params old new (plain_here (state g old) sql here plain) (began clean)
 
   -- where the query is refused
-  pub refused : {X : Type 0} (old new : Held S) (r : Result X Error) → OnOk r ⊥ → OnErr r (IsRefused g sql [] old r new) → Looks (state g old) (state g new) r (λ _. Unit {0})
+  pub refused : {X : Type 0} (old new : Held S) (r : Result X Error) → OnOk r ⊥ → OnErr r (IsRefused g sql params old r new) → Looks (state g old) (state g new) r (λ _. Unit {0})
   refused old new (Ok x) none held = absurd none
   refused {X} old new (Err e) none held =
-      looks_so {X = X} (state g old) (state g new) (Err e) (λ _. Shown sql [] (state g old) (state g new) []) (λ _. Unit {0}) (λ here x shown. tt {0})
-      (looked sql [] (state g old) (state g new) plain {X = X} (λ _. []) (Err e) (λ clean. tt) held.err held.survives)
+      looks_so {X = X} (state g old) (state g new) (Err e) (λ _. Shown sql params (state g old) (state g new) []) (λ _. Unit {0}) (λ here x shown. tt {0})
+      (looked sql params (state g old) (state g new) plain {X = X} (λ _. []) (Err e) (λ clean. tt) held.err held.survives)
 
   moved : (old new : Held S) (r : Result (Unit {0}) Error) (row : Option Row) → (HasCleanDisk (state g new) → OnOk r (Advances g old new row))
       → (HasCleanDisk (state g new) → OnOk r (IsUnchanged (state g old) (state g new)))
@@ -90,22 +100,33 @@ module _ {S : Type 0} (g : store.Ghosts S) (sql : List ℕ) (P : Row → Type 0)
     λ clean here. (tt, tt),
   )
 
-  pub advanced : (first : State) (old new : Held S) (r : Result (Unit {0}) Error) (row : Option Row) → Looks {X = Unit {0}} first (state g old) (Ok tt) (λ _. SoFar g sql P first old)
+  pub advanced : (Q : List Row → Type 0) (first : State) (old new : Held S) (r : Result (Unit {0}) Error) (row : Option Row)
+      → Looks {X = Unit {0}} first (state g old) (Ok tt) (λ _. SoFar g sql params Q first old)
       → (HasCleanDisk (state g new) → OnOk r (Advances g old new row)) → (HasCleanDisk (state g new) → OnOk r (IsUnchanged (state g old) (state g new)))
       → (HasCleanDisk (state g new) → IfErr r (λ e. Fails (state g old) (state g new) ⊥ e ⊎ IsUnchanged (state g old) (state g new))) → Survives (state g old) (state g new) (λ _. ⊥)
-      → Looks first (state g new) r (λ _. OneOn g sql P first new row)
-  advanced first old new r row far on still kept survives =
-      looks_then {X = Unit {0}} {Y = Unit {0}} first (state g old) (state g new) (tt {0}) (λ _. SoFar g sql P first old) r (λ _ _. IsUnchanged (state g old) (state g new) × Advances g old new row) (λ _. OneOn g sql P first new row)
-      (λ here x far moved. one_on g sql P first old new row (plain_here first sql here plain) far moved.0 moved.1) far (moved old new r row on still kept survives)
+      → Looks first (state g new) r (λ _. OneOn g sql params Q first new row)
+  advanced Q first old new r row far on still kept survives =
+      looks_then {X = Unit {0}} {Y = Unit {0}} first (state g old) (state g new) (tt {0}) (λ _. SoFar g sql params Q first old) r (λ _ _. IsUnchanged (state g old) (state g new) × Advances g old new row)
+      (λ _. OneOn g sql params Q first new row) (λ here x far moved. one_on g sql params Q first old new row (plain_here first sql here plain) far moved.0 moved.1) far (moved old new r row on still kept survives)
 
   -- no row is left
-  pub none_left : (first : State) (new : Held S) (row : Option Row) → None ≡ row → Looks {X = Unit {0}} first (state g new) (Ok tt) (λ _. OneOn g sql P first new row)
-      → Looks {X = Unit {0}} first (state g new) (Ok tt) (λ _. AreShownAs P sql first (state g new))
-  none_left first new row is =
-      looks_so {X = Unit {0}} first (state g new) (Ok (tt {0})) (λ _. OneOn g sql P first new row) (λ _. AreShownAs P sql first (state g new)) (λ here x one. subst (OneOn g sql P first new) (sym is) one)
+  pub none_left : (Q : List Row → Type 0) (first : State) (new : Held S) (row : Option Row) → None ≡ row → Looks {X = Unit {0}} first (state g new) (Ok tt) (λ _. OneOn g sql params Q first new row)
+      → Looks {X = Unit {0}} first (state g new) (Ok tt) (λ _. IsShownSo Q sql params first (state g new))
+  none_left Q first new row is =
+      looks_so {X = Unit {0}} first (state g new) (Ok (tt {0})) (λ _. OneOn g sql params Q first new row) (λ _. IsShownSo Q sql params first (state g new))
+      (λ here x one. subst (OneOn g sql params Q first new) (sym is) one)
 
-  -- the row that was given passed
-  pub one_passed : (first : State) (new : Held S) (row : Option Row) (given : Row) → Some given ≡ row → P given → Looks {X = Unit {0}} first (state g new) (Ok tt) (λ _. OneOn g sql P first new row)
-      → Looks {X = Unit {0}} first (state g new) (Ok tt) (λ _. SoFar g sql P first new)
-  one_passed first new row given is passed =
-      looks_so {X = Unit {0}} first (state g new) (Ok (tt {0})) (λ _. OneOn g sql P first new row) (λ _. SoFar g sql P first new) (λ here x one. (subst (OneOn g sql P first new) (sym is) one) passed)
+  -- what is so of the rows before one is made so of it too
+  pub one_done : (Q Next : List Row → Type 0) (first : State) (new : Held S) (row : Option Row) (given : Row) → Some given ≡ row → ((rows : List Row) → Q rows → Next (rows ++ given ∷ []))
+      → Looks {X = Unit {0}} first (state g new) (Ok tt) (λ _. OneOn g sql params Q first new row) → Looks {X = Unit {0}} first (state g new) (Ok tt) (λ _. SoFar g sql params Next first new)
+  one_done Q Next first new row given is more =
+      looks_so {X = Unit {0}} first (state g new) (Ok (tt {0})) (λ _. OneOn g sql params Q first new row) (λ _. SoFar g sql params Next first new)
+      (λ here x one. let it = subst (OneOn g sql params Q first new) (sym is) one in (it.0, it.1 ++ given ∷ [], it.2, more it.1 it.3))
+
+-- a look is a read
+pub kept_looks : {X : Type 0} (old new : State) (r : Result X Error) (P : X → Type 0) → Looks old new r P → ReadsKept old new r P
+kept_looks old new r P h = (
+  survives_weaker old new _ _ (λ _ db none kept. none (placed old kept)) h.0,
+  λ clean now. let left = h.1 clean now in (left.0, λ kept. left.1 (placed old kept)),
+  λ clean kept. h.2 clean (placed old kept),
+)

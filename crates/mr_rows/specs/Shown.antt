@@ -23,9 +23,13 @@ IsShownAs f r = f.cells (f.row_in (Null ∷ r)) ≡ columns_from 0 (length f.tab
 abbrev pub IsStoredAs : {R K : Type 0} → Form R K → Row → Type 0
 IsStoredAs f r = f.cells (f.row_in r) ≡ columns_from 1 (length f.table.columns) r
 
--- all rows that a text shows, one after the other, are such rows
+-- this is so of the rows that a text shows, one after the other
+abbrev pub IsShownSo : (List Row → Type 0) → List ℕ → Row → State → State → Type 0
+IsShownSo Q sql params old new = (rows : List Row) × Shown sql params old new rows × Q rows
+
+-- each of them is such a row
 abbrev pub AreShownAs : (Row → Type 0) → List ℕ → State → State → Type 0
-AreShownAs P sql old new = (rows : List Row) × Shown sql [] old new rows × AllByRecursion P rows
+AreShownAs P sql old new = IsShownSo (AllByRecursion P) sql [] old new
 
 abbrev pub AreStoredAs : {R K : Type 0} → Form R K → Trees → Type 0
 AreStoredAs f trees = AllByRecursion (IsStoredAs f) (trees f.table.tree)

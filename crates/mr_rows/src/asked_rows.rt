@@ -1,21 +1,31 @@
 ghost use Rattle.std.specs.Prelude.{◌≡◌, ◌∷◌, ◌++◌, false, map, filter, Bool, OnOk};
 ghost use Rattle.sqlite_value.specs.declared.value.Value.TheVariants.{Null};
 ghost use Rattle.sqlite_trees.specs.Tree.{Trees};
+ghost use Rattle.sqlite.specs.Given.{IsPlain};
 ghost use Rattle.sqlite.specs.Held.{state};
+ghost use Rattle.sqlite.specs.Listing.{understood};
+ghost use Rattle.sqlite.specs.Values.{bound};
 ghost use Rattle.mr_model.specs.Changes.{SameRows};
 ghost use Rattle.mr_rows.specs.Database.{tables_in};
 ghost use Rattle.mr_rows.specs.RowQuestions.{is_row_asked};
-ghost use Rattle.mr_rows.specs.Reads.{ReadsKept, ReadsInUse};
+ghost use Rattle.mr_rows.specs.Schema.{our_schema};
+ghost use Rattle.mr_rows.specs.Shown.{IsShownSo};
+ghost use Rattle.mr_rows.specs.Reads.{Looks, ReadsInUse};
 
 use crate::order::sort_rows;
 use crate::questions::Question;
 use crate::stored_rows::StoredRow;
+use sqlite::types::ValueRef;
 use sqlite::{Alter, Connection, Error, Row};
 use std::alloc::{AllocError, Global};
 use std::cmp::Ordering;
 
 /// Reads the rows of an answer and puts them behind those that are there.
-fn add_rows<R: StoredRow>(alloc: Global, rows: &[Row], out: &mut Vec<R>) -> Result<(), Error>
+pub(crate) fn add_rows<R: StoredRow>(
+    alloc: Global,
+    rows: &[Row],
+    out: &mut Vec<R>,
+) -> Result<(), Error>
     ensures { OnOk result (out.new.items ≡ out.old.items ++ map (λ row. R.form.row_in (Null ∷ row)) rows.now) }
 {
     'rows: for row in rows {
@@ -24,20 +34,30 @@ fn add_rows<R: StoredRow>(alloc: Global, rows: &[Row], out: &mut Vec<R>) -> Resu
     Ok(())
 }
 
-/// Puts the rows that a question asks for behind those that are there.
-fn add_answer<R: StoredRow, Q: Question<R>, S: Alter>(
+/// Reads the rows, one after the other, that a text shows which means a query under our schema, and puts them behind those that are there.
+pub(crate) fn add_shown<R: StoredRow, S: Alter>(
     conn: &mut Connection<S>,
     alloc: Global,
-    question: &Q,
+    sql: &str,
+    params: &[ValueRef<'_>],
     out: &mut Vec<R>,
 ) -> Result<(), Error>
     requires autocommit { conn.old.in_transaction ≡ false }
+    requires plain { IsPlain (understood our_schema sql.now) }
     ensures autocommit { conn.new.in_transaction ≡ false }
-    ensures reads { ReadsKept (state S.Store conn.old) (state S.Store conn.new) result
-        (λ _. SameRows out.new.items (out.old.items ++ filter (Q.asks question.now) (R.rows_of (tables_in (state S.Store conn.old).now.trees)))) }
+    ensures looks { Looks (state S.Store conn.old) (state S.Store conn.new) result
+        (λ _. IsShownSo (λ rows. out.new.items ≡ out.old.items ++ map (λ row. R.form.row_in (Null ∷ row)) rows) sql.now (bound params.now)
+        (state S.Store conn.old) (state S.Store conn.new)) }
 {
-    let rows = question.ask(conn)?;
-    add_rows(alloc, &rows, out)
+    let mut rows = conn.query(sql, params)?;
+    'rows: for _ in 0..u64::MAX {
+        rows.advance()?;
+        match rows.get() {
+            Some(row) => out.push(R::read(alloc, row)?)?,
+            None => return Ok(()),
+        }
+    }
+    Err(Error::InvalidQuery)
 }
 
 /// The rows that some question asks for, in any order and as often as they are asked for.
@@ -53,7 +73,7 @@ fn all_answers<R: StoredRow, Q: Question<R>, S: Alter>(
 {
     let mut rows = Vec::new(alloc);
     'questions: for question in questions {
-        add_answer(conn, alloc, question, &mut rows)?;
+        question.add(conn, alloc, &mut rows)?;
     }
     Ok(rows)
 }

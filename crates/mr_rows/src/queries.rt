@@ -22,6 +22,17 @@ use mr_base::RoomName;
 use sqlite::types::ValueRef;
 use sqlite::{Alter, Connection, Error, Row, params};
 
+/// The text that asks for the rows of `log` whose `seq` is between two numbers.
+pub(crate) const LOGS_BETWEEN: &str =
+    "SELECT server, n, tm, room, kind, length, choices, title, tserver, tn, place, seq FROM log WHERE seq >= ?1 AND seq <= ?2";
+
+/// The texts that ask for the rows of a room.
+pub(crate) const ROOM_BOOKINGS: &str =
+    "SELECT room, day, start, stop, server, n, title, committed FROM booking WHERE room = ?1";
+
+pub(crate) const ROOM_CANCELLED: &str =
+    "SELECT room, day, start, stop, server, n, title, committed, bserver, bn FROM cancelled WHERE room = ?1";
+
 /// The rows that a text shows which means a query under our schema.
 pub(crate) fn ask<S: Alter>(
     conn: &mut Connection<S>,
@@ -86,11 +97,7 @@ pub(crate) fn select_between_log<S: Alter>(
         (λ rows. IsPermutation (filter (λ r. within low.value high.value r.seq) (tables_in (state S.Store conn.old).now.trees).log)
         (map (λ row. log_in (Null ∷ row)) rows.items)) }
 {
-    ask(
-        conn,
-        "SELECT server, n, tm, room, kind, length, choices, title, tserver, tn, place, seq FROM log WHERE seq >= ?1 AND seq <= ?2",
-        params![low, high],
-    )
+    ask(conn, LOGS_BETWEEN, params![low, high])
 }
 
 /// The rows of a room in `booking`.
@@ -104,11 +111,7 @@ pub fn select_room_booking<S: Alter>(
         (λ rows. IsPermutation (filter (is_booking_asked room.now) (tables_in (state S.Store conn.old).now.trees).booking)
         (map (λ row. booking_in (Null ∷ row)) rows.items)) }
 {
-    ask(
-        conn,
-        "SELECT room, day, start, stop, server, n, title, committed FROM booking WHERE room = ?1",
-        params![room.as_str()],
-    )
+    ask(conn, ROOM_BOOKINGS, params![room.as_str()])
 }
 
 /// The rows of an id in `booking`.
@@ -180,11 +183,7 @@ pub fn select_room_cancelled<S: Alter>(
         (λ rows. IsPermutation (filter (is_cancelled_asked room.now) (tables_in (state S.Store conn.old).now.trees).cancelled)
         (map (λ row. cancelled_in (Null ∷ row)) rows.items)) }
 {
-    ask(
-        conn,
-        "SELECT room, day, start, stop, server, n, title, committed, bserver, bn FROM cancelled WHERE room = ?1",
-        params![room.as_str()],
-    )
+    ask(conn, ROOM_CANCELLED, params![room.as_str()])
 }
 
 /// The rows of an id in `cancelled`.

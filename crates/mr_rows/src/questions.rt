@@ -1,7 +1,8 @@
-ghost use Rattle.std.specs.Prelude.{◌≡◌, ◌∷◌, Bool, false, map, filter};
+ghost use Rattle.std.specs.Prelude.{◌≡◌, ◌∷◌, ◌++◌, Bool, false, map, filter};
 ghost use Rattle.std.specs.List.Sorted.{IsPermutation};
 ghost use Rattle.sqlite_value.specs.declared.value.Value.TheVariants.{Null};
 ghost use Rattle.sqlite.specs.Held.{state};
+ghost use Rattle.mr_model.specs.Changes.{SameRows};
 ghost use Rattle.mr_model.specs.Texts.{within};
 ghost use Rattle.mr_model.specs.Writes.{Id};
 ghost use Rattle.mr_rows.specs.RowCells.{log_in};
@@ -9,15 +10,18 @@ ghost use Rattle.mr_rows.specs.Database.{tables_in};
 ghost use Rattle.mr_rows.specs.RowQuestions.{is_log_asked, is_booking_asked, is_cancelled_asked, is_booking_named, is_error_of, is_cancelled_of};
 ghost use Rattle.mr_rows.specs.Reads.{ReadsKept};
 
+use crate::asked_rows::{add_rows, add_shown};
 use crate::numbers::Number;
 use crate::queries::{
-    select_between_log, select_key_booking, select_key_cancelled, select_key_error, select_key_log,
-    select_room_booking, select_room_cancelled,
+    LOGS_BETWEEN, ROOM_BOOKINGS, ROOM_CANCELLED, select_between_log, select_key_booking,
+    select_key_cancelled, select_key_error, select_key_log, select_room_booking,
+    select_room_cancelled,
 };
 use crate::stored_rows::StoredRow;
 use mr_base::{RoomName, ServerId, WriteId};
 use mr_tables::{BookingRow, CancelledRow, ErrorRow, LogRow};
-use sqlite::{Alter, Connection, Error, Row};
+use sqlite::{Alter, Connection, Error, Row, params};
+use std::alloc::Global;
 use std::marker::Model;
 
 /// A question for some rows of a table, which one statement answers.
@@ -32,6 +36,22 @@ pub trait Question<R: StoredRow> {
         ensures reads { ReadsKept (state S.Store conn.old) (state S.Store conn.new) result
             (λ rows. IsPermutation (filter (asks self.now) (R.rows_of (tables_in (state S.Store conn.old).now.trees)))
             (map (λ row. R.form.row_in (Null ∷ row)) rows.items)) };
+
+    /// Puts the rows that are asked for behind those that are there.
+    fn add<S: Alter>(
+        &self,
+        conn: &mut Connection<S>,
+        alloc: Global,
+        out: &mut Vec<R>,
+    ) -> Result<(), Error>
+        requires autocommit { conn.old.in_transaction ≡ false }
+        ensures autocommit { conn.new.in_transaction ≡ false }
+        ensures reads { ReadsKept (state S.Store conn.old) (state S.Store conn.new) result
+            (λ _. SameRows out.new.items (out.old.items ++ filter (asks self.now) (R.rows_of (tables_in (state S.Store conn.old).now.trees)))) }
+    {
+        let rows = self.ask(conn)?;
+        add_rows(alloc, &rows, out)
+    }
 }
 
 /// A question for rows of `log`: for that of an id, or for those whose `seq` is between two numbers.
@@ -53,6 +73,24 @@ fn ask_between<S: Alter>(conn: &mut Connection<S>, low: u64, high: u64) -> Resul
     select_between_log(conn, low, high)
 }
 
+// The same as they come, behind those that are there.
+fn add_between<S: Alter>(
+    conn: &mut Connection<S>,
+    alloc: Global,
+    low: u64,
+    high: u64,
+    out: &mut Vec<LogRow>,
+) -> Result<(), Error>
+    requires autocommit { conn.old.in_transaction ≡ false }
+    ensures autocommit { conn.new.in_transaction ≡ false }
+    ensures reads { ReadsKept (state S.Store conn.old) (state S.Store conn.new) result
+        (λ _. SameRows out.new.items (out.old.items ++ filter (λ r. within low high r.seq) (tables_in (state S.Store conn.old).now.trees).log)) }
+{
+    let low = Number::new(low, 11)?;
+    let high = Number::new(high, 11)?;
+    add_shown(conn, alloc, LOGS_BETWEEN, params![low, high], out)
+}
+
 impl Question<LogRow> for LogQuestion {
     ghost asks = { is_log_asked };
 
@@ -60,6 +98,21 @@ impl Question<LogRow> for LogQuestion {
         match *self {
             LogQuestion::OfId(id) => select_key_log(conn, id.server.number(), id.n),
             LogQuestion::Between(low, high) => ask_between(conn, low, high),
+        }
+    }
+
+    fn add<S: Alter>(
+        &self,
+        conn: &mut Connection<S>,
+        alloc: Global,
+        out: &mut Vec<LogRow>,
+    ) -> Result<(), Error> {
+        match *self {
+            LogQuestion::OfId(_) => {
+                let rows = self.ask(conn)?;
+                add_rows(alloc, &rows, out)
+            }
+            LogQuestion::Between(low, high) => add_between(conn, alloc, low, high, out),
         }
     }
 }
@@ -110,6 +163,15 @@ impl Question<BookingRow> for RoomName {
     fn ask<S: Alter>(&self, conn: &mut Connection<S>) -> Result<Vec<Row>, Error> {
         select_room_booking(conn, self)
     }
+
+    fn add<S: Alter>(
+        &self,
+        conn: &mut Connection<S>,
+        alloc: Global,
+        out: &mut Vec<BookingRow>,
+    ) -> Result<(), Error> {
+        add_shown(conn, alloc, ROOM_BOOKINGS, params![self.as_str()], out)
+    }
 }
 
 /// For the cancelled bookings of this room.
@@ -118,5 +180,14 @@ impl Question<CancelledRow> for RoomName {
 
     fn ask<S: Alter>(&self, conn: &mut Connection<S>) -> Result<Vec<Row>, Error> {
         select_room_cancelled(conn, self)
+    }
+
+    fn add<S: Alter>(
+        &self,
+        conn: &mut Connection<S>,
+        alloc: Global,
+        out: &mut Vec<CancelledRow>,
+    ) -> Result<(), Error> {
+        add_shown(conn, alloc, ROOM_CANCELLED, params![self.as_str()], out)
     }
 }

@@ -15,38 +15,38 @@ questions-init g c =
       uses_none {X = Unit {0}} (state g.S.Store c.args.conn.now) (tt {0}) (λ _. SameRows c.new-rows.result.items none) (subst (λ rows. SameRows rows none) (sym c.new-rows.ensures.items) (answers_none g.Q.Question.asks table)),
     )
 
-pub returns-in_err-add_answer-clause-reads : goal.returns-in_err-add_answer-clause-reads
-returns-in_err-add_answer-clause-reads g c =
+pub returns-in_err-add-clause-reads : goal.returns-in_err-add-clause-reads
+returns-in_err-add-clause-reads g c =
     let first = state g.S.Store c.args.conn.now in
     let now = state g.S.Store c.questions.conn in
-    let next = state g.S.Store c.add_answer.new.conn in
+    let next = state g.S.Store c.add.new.conn in
     let asks = g.Q.Question.asks in
     let question = c.question-item.result in
     let so_far = SameRows c.questions.rows.items (filter (is_row_asked asks (take c.questions.question-index c.args.questions.now)) (g.R.StoredRow.rows_of (tables_in first.now.trees))) in
     let read =
-    uses_then {X = Unit {0}} {Y = Unit {0}} first now next (tt {0}) (λ _. so_far) c.add_answer.result
-    (λ db _. SameRows c.add_answer.new.out.items (c.questions.rows.items ++ filter (asks question) (g.R.StoredRow.rows_of (tables_in db.trees)))) (λ _. Unit {0}) (λ _ _ _ _. tt {0})
+    uses_then {X = Unit {0}} {Y = Unit {0}} first now next (tt {0}) (λ _. so_far) c.add.result
+    (λ db _. SameRows c.add.new.out.items (c.questions.rows.items ++ filter (asks question) (g.R.StoredRow.rows_of (tables_in db.trees)))) (λ _. Unit {0}) (λ _ _ _ _. tt {0})
     c.questions.invariant.1
-    (in_use {X = Unit {0}} now next c.add_answer.result (λ _. SameRows c.add_answer.new.out.items (c.questions.rows.items ++ filter (asks question) (g.R.StoredRow.rows_of (tables_in now.now.trees)))) c.add_answer.ensures.reads) in
+    (in_use {X = Unit {0}} now next c.add.result (λ _. SameRows c.add.new.out.items (c.questions.rows.items ++ filter (asks question) (g.R.StoredRow.rows_of (tables_in now.now.trees)))) c.add.ensures.reads) in
     (read.0, read.1, λ clean held. (search rules, search rules))
 
 pub questions-preserved : goal.questions-preserved
 questions-preserved g c =
     let first = state g.S.Store c.args.conn.now in
     let now = state g.S.Store c.questions.conn in
-    let next = state g.S.Store c.add_answer.new.conn in
+    let next = state g.S.Store c.add.new.conn in
     let asks = g.Q.Question.asks in
     let question = c.question-item.result in
     let i = c.questions.question-index in
     let table = g.R.StoredRow.rows_of (tables_in first.now.trees) in
     let before = c.questions.rows.items in
-    let after = c.add_answer.new.out.items in (
-      c.add_answer.ensures.autocommit,
+    let after = c.add.new.out.items in (
+      c.add.ensures.autocommit,
       uses_then {X = Unit {0}} {Y = Unit {0}} first now next (tt {0}) (λ _. SameRows before (filter (is_row_asked asks (take i c.args.questions.now)) table)) (Ok (tt {0}))
           (λ db _. SameRows after (before ++ filter (asks question) (g.R.StoredRow.rows_of (tables_in db.trees)))) (λ _. SameRows after (filter (is_row_asked asks (take (i + 1) c.args.questions.now)) table))
           (λ held _ so_far added. answers_more asks c.args.questions.now i question table before after c.questions-test.true c.question-item.is so_far added)
           c.questions.invariant.1
-          (in_use {X = Unit {0}} now next (Ok (tt {0})) (λ _. SameRows after (before ++ filter (asks question) (g.R.StoredRow.rows_of (tables_in now.now.trees)))) c.in_ok-add_answer.ensures.reads),
+          (in_use {X = Unit {0}} now next (Ok (tt {0})) (λ _. SameRows after (before ++ filter (asks question) (g.R.StoredRow.rows_of (tables_in now.now.trees)))) c.in_ok-add.ensures.reads),
     )
 
 pub returns-clause-reads : goal.returns-clause-reads

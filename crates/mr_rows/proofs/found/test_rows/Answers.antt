@@ -1,25 +1,29 @@
-use Rattle.std.proofs.Common.{Ok, ◌∙◌, refl, rules}
+use Rattle.std.proofs.Common.{[], Ok, ◌∙◌, refl, rules}
+use Rattle.std.specs.List.{AllByRecursion}
 use Rattle.sqlite.specs.Given.{row_if}
 use Rattle.sqlite.specs.Held.{state}
 use Rattle.mr_rows.specs.Shown.{IsShownAs}
-use Rattle.mr_rows.proofs.StreamedRows.{begun, refused, advanced, none_left, one_passed}
+use Rattle.mr_rows.proofs.StreamedRows.{all_more, begun, refused, advanced, none_left, one_done}
 use Rattle.mr_rows.proofs.found.test_rows.Goals as goal
 
 pub returns-in_err-rows-clause-looks : goal.returns-in_err-rows-clause-looks
 returns-in_err-rows-clause-looks g c =
-    let read = refused g.S.Store c.args.sql.now (IsShownAs g.R.StoredRow.form) c.requires.plain c.args.conn.now c.query.follows.lender-at-none c.query.result (rw c.in_err-rows.was tt) c.query.follows.holds-at-none in
+    let read = refused g.S.Store c.args.sql.now [] c.requires.plain c.args.conn.now c.query.follows.lender-at-none c.query.result (rw c.in_err-rows.was tt) c.query.follows.holds-at-none in
     (read.0, read.1, λ clean here. (search rules, search rules))
 
 pub rows-init : goal.rows-init
 rows-init g c =
     let made = c.in_ok-rows.ensures in
-    (refl, made.mode c.requires.autocommit, begun g.S.Store c.args.sql.now (IsShownAs g.R.StoredRow.form) c.requires.plain c.args.conn.now c.in_ok-rows.rows.conn.now made.begun made.survives)
+    (refl, made.mode c.requires.autocommit, begun g.S.Store c.args.sql.now [] c.requires.plain (AllByRecursion (IsShownAs g.R.StoredRow.form)) c.args.conn.now c.in_ok-rows.rows.conn.now made.begun made.survives tt)
 
 pub returns-in_err-advance-clause-looks : goal.returns-in_err-advance-clause-looks
 returns-in_err-advance-clause-looks g c =
     let moved = c.advance.ensures in
     let new = c.advance.new.self in
-    let read = advanced g.S.Store c.args.sql.now (IsShownAs g.R.StoredRow.form) c.requires.plain (state g.S.Store c.args.conn.now) c.rows.rows.conn.now new.conn.now c.advance.result (row_if new.has_row new.conn.now) c.rows.invariant.2 moved.ok moved.same moved.kept moved.survives in
+    let Q = AllByRecursion (IsShownAs g.R.StoredRow.form) in
+    let first = state g.S.Store c.args.conn.now in
+    let row = row_if new.has_row new.conn.now in
+    let read = advanced g.S.Store c.args.sql.now [] c.requires.plain Q first c.rows.rows.conn.now new.conn.now c.advance.result row c.rows.invariant.2 moved.ok moved.same moved.kept moved.survives in
     let survives = read.0 in
     let left = read.1 in
     (search rules, search rules, λ clean here. (search rules, search rules))
@@ -28,7 +32,10 @@ pub returns-in_err-test-in-Some-clause-looks : goal.returns-in_err-test-in-Some-
 returns-in_err-test-in-Some-clause-looks g c =
     let moved = c.advance.ensures in
     let new = c.advance.new.self in
-    let read = advanced g.S.Store c.args.sql.now (IsShownAs g.R.StoredRow.form) c.requires.plain (state g.S.Store c.args.conn.now) c.rows.rows.conn.now new.conn.now c.advance.result (row_if new.has_row new.conn.now) c.rows.invariant.2 moved.ok moved.same moved.kept moved.survives in
+    let Q = AllByRecursion (IsShownAs g.R.StoredRow.form) in
+    let first = state g.S.Store c.args.conn.now in
+    let row = row_if new.has_row new.conn.now in
+    let read = advanced g.S.Store c.args.sql.now [] c.requires.plain Q first c.rows.rows.conn.now new.conn.now c.advance.result row c.rows.invariant.2 moved.ok moved.same moved.kept moved.survives in
     let survives = read.0 in
     let left = read.1 in
     (search rules, search rules, λ clean here. (search rules, search rules))
@@ -37,12 +44,11 @@ pub returns-in-None-clause-looks : goal.returns-in-None-clause-looks
 returns-in-None-clause-looks g c =
     let moved = c.in_ok-advance.ensures in
     let new = c.advance.new.self in
-    let sql = c.args.sql.now in
-    let P = IsShownAs g.R.StoredRow.form in
+    let Q = AllByRecursion (IsShownAs g.R.StoredRow.form) in
     let first = state g.S.Store c.args.conn.now in
     let row = row_if new.has_row new.conn.now in
-    let read = advanced g.S.Store sql P c.requires.plain first c.rows.rows.conn.now new.conn.now (Ok (tt {0})) row c.rows.invariant.2 moved.ok moved.same moved.kept moved.survives in
-    let all = none_left g.S.Store sql P c.requires.plain first new.conn.now row c.in-None.ensures read in
+    let read = advanced g.S.Store c.args.sql.now [] c.requires.plain Q first c.rows.rows.conn.now new.conn.now (Ok (tt {0})) row c.rows.invariant.2 moved.ok moved.same moved.kept moved.survives in
+    let all = none_left g.S.Store c.args.sql.now [] c.requires.plain Q first new.conn.now row c.in-None.ensures read in
     let survives = all.0 in
     let left = all.1 in
     let told = all.2 in
@@ -52,9 +58,12 @@ pub rows-preserved : goal.rows-preserved
 rows-preserved g c =
     let moved = c.in_ok-advance.ensures in
     let new = c.advance.new.self in
-    let sql = c.args.sql.now in
-    let P = IsShownAs g.R.StoredRow.form in
+    let Q = AllByRecursion (IsShownAs g.R.StoredRow.form) in
     let first = state g.S.Store c.args.conn.now in
     let row = row_if new.has_row new.conn.now in
-    let read = advanced g.S.Store sql P c.requires.plain first c.rows.rows.conn.now new.conn.now (Ok (tt {0})) row c.rows.invariant.2 moved.ok moved.same moved.kept moved.survives in
-    (moved.same_reference ∙ c.rows.invariant.0, moved.mode c.rows.invariant.1, one_passed g.S.Store sql P c.requires.plain first new.conn.now row c.in-Some.row.now c.in-Some.ensures c.in_ok-test-in-Some.ensures read)
+    let read = advanced g.S.Store c.args.sql.now [] c.requires.plain Q first c.rows.rows.conn.now new.conn.now (Ok (tt {0})) row c.rows.invariant.2 moved.ok moved.same moved.kept moved.survives in (
+      moved.same_reference ∙ c.rows.invariant.0,
+      moved.mode c.rows.invariant.1,
+      one_done g.S.Store c.args.sql.now [] c.requires.plain Q Q first new.conn.now row c.in-Some.row.now c.in-Some.ensures
+          (λ rows all. all_more (IsShownAs g.R.StoredRow.form) rows c.in-Some.row.now c.in_ok-test-in-Some.ensures all) read,
+    )

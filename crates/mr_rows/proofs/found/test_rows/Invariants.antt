@@ -1,4 +1,5 @@
-use Rattle.std.proofs.Common.{◌≡◌, false, Ok}
+use Rattle.std.proofs.Common.{◌≡◌, false, [], Ok}
+use Rattle.std.specs.List.{AllByRecursion}
 use Rattle.sqlite.specs.Held.{state}
 use Rattle.mr_rows.specs.Reads.{Looks}
 use Rattle.mr_rows.specs.Shown.{IsShownAs}
@@ -10,4 +11,4 @@ abbrev pub invariant-rows : goal.invariant-rows
 invariant-rows g l =
     let old = state g.S.Store l.fn.conn in
     (l.rows.conn.ghost_name ≡ l.initial.rows.conn.ghost_name) × (l.rows.conn.now.in_transaction ≡ false)
-    × Looks {X = Unit {0}} old (state g.S.Store l.rows.conn.now) (Ok tt) (λ _. SoFar g.S.Store l.sql (IsShownAs g.R.StoredRow.form) old l.rows.conn.now)
+    × Looks {X = Unit {0}} old (state g.S.Store l.rows.conn.now) (Ok tt) (λ _. SoFar g.S.Store l.sql [] (AllByRecursion (IsShownAs g.R.StoredRow.form)) old l.rows.conn.now)
