@@ -1,5 +1,6 @@
 // Days, weekdays and their texts, against another calendar program over the whole range.
 
+use crate::same::same;
 use mr_base::{Day, Refusal, Weekday, weekday_name};
 use std::alloc::Global;
 use std::process::Abort;
@@ -216,7 +217,7 @@ fn check_month(
             Err(Refusal::BadDay)
         };
         let found = is_day(alloc, (year, month, day), weekday);
-        assert_eq!(rt; found, wanted, "at {year}-{month}-{day}");
+        same(rt, &found, &wanted, (year, month, day));
     }
 }
 
@@ -229,6 +230,6 @@ fn days_are_read_and_written(rt: HostRuntime) {
         }
     }
     for text in &NO_DAYS {
-        assert_eq!(rt; Day::read(text), Err(Refusal::BadDay), "at {text}");
+        same(&rt, &Day::read(text), &Err(Refusal::BadDay), text);
     }
 }

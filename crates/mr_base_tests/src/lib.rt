@@ -7,4 +7,6 @@ mod calendar_tests;
 #[cfg(test)]
 mod reading_tests;
 #[cfg(test)]
+mod same;
+#[cfg(test)]
 mod value_tests;

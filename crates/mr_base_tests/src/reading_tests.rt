@@ -1,5 +1,6 @@
 // Texts of numbers, ids and times that are read, and texts near them that aren't.
 
+use crate::same::same;
 use mr_base::{Refusal, TimeOfDay, WriteId, read_minute, read_number};
 use std::alloc::Global;
 
@@ -28,10 +29,10 @@ static NO_NUMBERS: [&str; 26] = [
 #[test]
 fn numbers_are_read(rt: HostRuntime) {
     for (text, low, high, want) in &NUMBERS {
-        assert_eq!(rt; read_number(text, *low, *high), *want, "at {text}");
+        same(&rt, &read_number(text, *low, *high), want, text);
     }
     for text in &NO_NUMBERS {
-        assert_eq!(rt; read_number(text, 0, u64::MAX), None, "at {text}");
+        same(&rt, &read_number(text, 0, u64::MAX), &None, text);
     }
 }
 
@@ -86,13 +87,14 @@ fn is_id(alloc: Global, text: &str, server: u32, n: u32) -> Result<bool, Refusal
 #[test]
 fn ids_are_read_and_written(rt: HostRuntime) {
     for (text, server, n) in &IDS {
-        assert_eq!(rt; is_id(rt.alloc(), text, *server, *n), Ok(true), "at {text}");
+        same(&rt, &is_id(rt.alloc(), text, *server, *n), &Ok(true), text);
     }
     for text in &NO_IDS {
-        assert_eq!(rt;
-            WriteId::read(text),
-            Err(Refusal::NoSuchRequest),
-            "at {text}"
+        same(
+            &rt,
+            &WriteId::read(text),
+            &Err(Refusal::NoSuchRequest),
+            text,
         );
     }
 }
@@ -128,10 +130,10 @@ fn times_are_read_and_written(rt: HostRuntime) {
                 (Err(Refusal::BadTime), hour == 24 && minute == 0)
             };
             let found = minute_of(rt.alloc(), hour, minute, time);
-            assert_eq!(rt; found, Ok(wanted), "at {hour}:{minute}");
+            same(&rt, &found, &Ok(wanted), (hour, minute));
         }
     }
     for text in &NO_TIMES {
-        assert_eq!(rt; read_minute(text), Err(Refusal::BadTime), "at {text}");
+        same(&rt, &read_minute(text), &Err(Refusal::BadTime), text);
     }
 }

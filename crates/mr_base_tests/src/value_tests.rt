@@ -1,6 +1,7 @@
 // Values are made within their limits and not past them, and each call that takes memory answers with enough of it.
 // What a test compares is made by functions without clauses, so that its proof carries no values that own memory.
 
+use crate::same::same;
 use mr_base::{
     Action, Alternatives, Batch, CommitNumber, Day, Ending, Item, LineCount, Meeting, Position,
     Refusal, Request, RoomName, ServerId, Slot, Stamp, Title, Version, Write, WriteId, overlaps,
@@ -57,11 +58,11 @@ fn do_overlap(
 #[test]
 fn slots_start_on_their_day_and_overlap_there(rt: HostRuntime) {
     for (start, want) in &STARTS {
-        assert_eq!(rt; slot(MONDAY, *start).err(), *want, "at {start}");
+        same(&rt, &slot(MONDAY, *start).err(), want, start);
     }
     for (first, second, day, want) in &MEETINGS {
         let found = do_overlap(*first, *second, day);
-        assert_eq!(rt; found, Ok(*want), "at {first:?} and {second:?}");
+        same(&rt, &found, &Ok(*want), (first, second));
     }
 }
 
@@ -116,10 +117,10 @@ fn is_title_of(alloc: Global, text: &str) -> Result<bool, Refusal> {
 #[test]
 fn room_names_and_titles_are_within_limits(rt: HostRuntime) {
     for (text, want) in &ROOMS {
-        assert_eq!(rt; is_room_of(rt.alloc(), text), *want, "at {text}");
+        same(&rt, &is_room_of(rt.alloc(), text), want, text);
     }
     for (text, want) in &TITLES {
-        assert_eq!(rt; is_title_of(rt.alloc(), text), *want, "at {text}");
+        same(&rt, &is_title_of(rt.alloc(), text), want, text);
     }
 }
 
@@ -166,7 +167,7 @@ fn have_numbers((server, lines, commit): (u32, u32, u64), (n, time): (u32, u64))
 fn numbers_are_within_limits(rt: HostRuntime) {
     for (numbers, parts, want) in &LIMITS {
         let found = have_numbers(*numbers, *parts);
-        assert_eq!(rt; found, *want, "at {numbers:?} and {parts:?}");
+        same(&rt, &found, want, (numbers, parts));
     }
 }
 
@@ -233,7 +234,7 @@ fn writes_are_copied_and_compared(rt: HostRuntime) -> Result<(), Fail> {
     let first = write(rt.alloc(), (2, 2, 2), 60, &[540])?;
     for (numbers, length, others, want) in &WRITES {
         let found = compared(rt.alloc(), &first, *numbers, *length, others);
-        assert_eq!(rt; found, *want, "at {numbers:?} and {length}");
+        same(&rt, &found, want, (numbers, length));
     }
     Ok(())
 }
@@ -292,12 +293,12 @@ fn are_kinds_same(alloc: Global) -> Result<bool, Refusal> {
 #[test]
 fn cancels_are_copied_and_compared(rt: HostRuntime) -> Result<(), Fail> {
     let first = cancel(rt.alloc(), (2, 2, 2), (1, 1))?;
-    assert_eq!(rt; is_cancel_of(&first, (1, 1)), Ok(true));
+    same(&rt, &is_cancel_of(&first, (1, 1)), &Ok(true), "its target");
     for (numbers, target, want) in &CANCELS {
         let found = compared_cancels(rt.alloc(), &first, *numbers, *target);
-        assert_eq!(rt; found, *want, "at {numbers:?} and {target:?}");
+        same(&rt, &found, want, (numbers, target));
     }
-    assert_eq!(rt; are_kinds_same(rt.alloc()), Ok(false));
+    same(&rt, &are_kinds_same(rt.alloc()), &Ok(false), "both kinds");
     Ok(())
 }
 
@@ -348,7 +349,7 @@ fn is_meeting_of(meeting: &Meeting, title: &str, length: u32, wish: Slot, others
 fn the_smallest_refusal_of_words_is_answered(rt: HostRuntime) {
     for (words, length, others, want) in &REQUESTS {
         let found = is_request_of(rt.alloc(), *words, *length, others);
-        assert_eq!(rt; found, *want, "at {words:?} and {length}");
+        same(&rt, &found, want, (words, length));
     }
 }
 
@@ -377,6 +378,12 @@ fn is_batch_made(alloc: Global, version: Version) -> Result<bool, Refusal> {
             && batch.items.len() == 2
             && batch.ending == Ending::More,
     )
+}
+
+// Whether a batch of nothing without a header is one of the first version that was cut.
+fn is_empty_made(alloc: Global) -> bool {
+    let made = Batch::without_header(Vec::new(alloc));
+    made.header.is_none() && made.ending == Ending::Cut && made.version == Version::First
 }
 
 // Whether this version of the exchange text can say the write; and why there is no batch of that version of it.
@@ -421,11 +428,31 @@ static BOOKINGS: [(&[u32], bool); 4] = [
 fn the_first_version_has_fewer_writes(rt: HostRuntime) {
     for (others, is_said) in &BOOKINGS {
         let want = if *is_said { IS_SAID } else { IS_REFUSED };
-        assert_eq!(rt; said_booking(rt.alloc(), Version::First, others), want);
-        assert_eq!(rt; said_booking(rt.alloc(), Version::Second, others), IS_SAID);
+        same(
+            &rt,
+            &said_booking(rt.alloc(), Version::First, others),
+            &want,
+            others,
+        );
+        same(
+            &rt,
+            &said_booking(rt.alloc(), Version::Second, others),
+            &IS_SAID,
+            others,
+        );
     }
-    assert_eq!(rt; said_cancel(rt.alloc(), Version::First), IS_REFUSED);
-    assert_eq!(rt; said_cancel(rt.alloc(), Version::Second), IS_SAID);
+    same(
+        &rt,
+        &said_cancel(rt.alloc(), Version::First),
+        &IS_REFUSED,
+        "a cancel",
+    );
+    same(
+        &rt,
+        &said_cancel(rt.alloc(), Version::Second),
+        &IS_SAID,
+        "a cancel",
+    );
 }
 
 // the version, the commits and the counts of a position, and whether they are one's
@@ -470,18 +497,13 @@ fn is_position(
 
 #[test]
 fn batches_and_positions_are_made(rt: HostRuntime) {
-    assert_eq!(rt; is_batch_made(rt.alloc(), Version::First), Ok(true));
-    assert_eq!(rt; is_batch_made(rt.alloc(), Version::Second), Ok(true));
-    let empty = Batch::without_header(Vec::new(rt.alloc()));
-    assert!(rt; empty.header.is_none() && empty.ending == Ending::Cut);
-    assert_eq!(rt; empty.version, Version::First);
+    for version in [Version::First, Version::Second] {
+        same(&rt, &is_batch_made(rt.alloc(), version), &Ok(true), version);
+    }
+    assert!(rt; is_empty_made(rt.alloc()));
     for (version, commits, counts, want) in &POSITIONS {
         let found = is_position(rt.alloc(), *version, *commits, counts);
-        assert_eq!(rt;
-            found,
-            Ok(*want),
-            "at {version:?}, {commits} and {counts:?}"
-        );
+        same(&rt, &found, &Ok(*want), (version, commits, counts));
     }
 }
 
@@ -518,8 +540,7 @@ static REFUSALS: [(Refusal, u32, &str, Option<u64>); 27] = [
 #[test]
 fn refusals_have_numbers_and_names(rt: HostRuntime) {
     for (refusal, number, name, line) in &REFUSALS {
-        assert_eq!(rt; refusal.number(), *number);
-        assert_eq!(rt; refusal.name(), *name);
-        assert_eq!(rt; refusal.line(), *line);
+        let found = (refusal.number(), refusal.name(), refusal.line());
+        same(&rt, &found, &(*number, *name, *line), refusal);
     }
 }

@@ -1,12 +1,12 @@
 // Cancels among bookings, over a keeper of lists: the replies to lists of commands, batches that tell cancels, and how many alternatives a
 // request may have. The memory is ample.
 
+use crate::same_text::same_text;
 use mr_base::{LineCount, Refusal, ServerId};
 use mr_service::{Command, Local, Part, Service, SlotWords, Submission, reply_text};
 use mr_store::ListKeeper;
 use std::alloc::{AllocError, Global};
 use std::process::Abort;
-use std::test::Fail;
 
 const DAY: &str = "1995-12-18";
 
@@ -99,32 +99,37 @@ fn command(alloc: Global, asked: Asked) -> Result<Command, Refusal> {
 }
 
 /// The text of the reply.
-fn told(alloc: Global, lists: &mut Service<ListKeeper>, asked: Asked) -> Result<Vec<u8>, Refusal> {
+fn told(
+    alloc: Global,
+    lists: &mut Option<Service<ListKeeper>>,
+    asked: Asked,
+) -> Result<Vec<u8>, Refusal> {
+    let Some(lists) = lists else {
+        return Err(Refusal::NotAReplica);
+    };
     let command = command(alloc, asked)?;
     let reply = lists.ask(&command);
     reply_text(alloc, &reply)
 }
 
-/// A replica that is the primary replies so, command by command.
-fn check(rt: &impl Abort, alloc: Global, list: &[(Asked, &str)]) -> Result<(), Fail> {
-    check_at(rt, alloc, 1, list)
+/// The replica of this server, whose primary is 1, before it knows anything.
+fn opened(alloc: Global, server: u32) -> Option<Service<ListKeeper>> {
+    let server = ServerId::new(server)?;
+    let primary = ServerId::new(1)?;
+    Some(Service::new(alloc, ListKeeper::new(alloc, server, primary)))
 }
 
-/// The replica of this server, whose primary is 1, replies so.
-fn check_at(
-    rt: &impl Abort,
-    alloc: Global,
-    server: u32,
-    list: &[(Asked, &str)],
-) -> Result<(), Fail> {
-    let server = ServerId::new(server).ok_or("no server")?;
-    let primary = ServerId::new(1).ok_or("no server")?;
-    let mut lists = Service::new(alloc, ListKeeper::new(alloc, server, primary));
+/// A replica that is the primary replies so, command by command.
+fn check(rt: &impl Abort, alloc: Global, list: &[(Asked, &str)]) {
+    check_at(rt, alloc, 1, list);
+}
+
+/// The replica of this server replies so.
+fn check_at(rt: &impl Abort, alloc: Global, server: u32, list: &[(Asked, &str)]) {
+    let mut lists = opened(alloc, server);
     for (asked, want) in list {
-        let said = told(alloc, &mut lists, *asked)?;
-        assert_eq!(rt; said.as_slice(), want.as_bytes(), "where {want} is wanted");
+        same_text(rt, &told(alloc, &mut lists, *asked), want);
     }
-    Ok(())
 }
 
 /// All that the primary knows then, in 186 bytes.
@@ -176,10 +181,9 @@ static AMONG_BOOKINGS: [(Asked, &str); 16] = [
 ];
 
 #[test]
-fn a_cancel_frees_the_slot(rt: HostRuntime) -> Result<(), Fail> {
-    assert_eq!(rt; ALL_OF_OAK.len(), 186);
-    assert_eq!(rt; FIRST_OF_OAK.len(), 114);
-    check(&rt, rt.alloc(), &AMONG_BOOKINGS)
+fn a_cancel_frees_the_slot(rt: HostRuntime) {
+    assert!(rt; ALL_OF_OAK.len() == 186 && FIRST_OF_OAK.len() == 114);
+    check(&rt, rt.alloc(), &AMONG_BOOKINGS);
 }
 
 /// A replica takes all of that, and replies as the primary does.
@@ -196,8 +200,8 @@ static RECEIVED: [(Asked, &str); 6] = [
 ];
 
 #[test]
-fn cancels_are_received(rt: HostRuntime) -> Result<(), Fail> {
-    check_at(&rt, rt.alloc(), 2, &RECEIVED)
+fn cancels_are_received(rt: HostRuntime) {
+    check_at(&rt, rt.alloc(), 2, &RECEIVED);
 }
 
 /// A cancel comes before what it would take back, which it leaves then.
@@ -222,8 +226,8 @@ static CANCEL_FIRST: [(Asked, &str); 5] = [
 ];
 
 #[test]
-fn a_cancel_that_comes_first_is_void(rt: HostRuntime) -> Result<(), Fail> {
-    check_at(&rt, rt.alloc(), 9, &CANCEL_FIRST)
+fn a_cancel_that_comes_first_is_void(rt: HostRuntime) {
+    check_at(&rt, rt.alloc(), 9, &CANCEL_FIRST);
 }
 
 static THEN_COMMITTED: [(Asked, &str); 6] = [
@@ -242,8 +246,8 @@ static THEN_COMMITTED: [(Asked, &str); 6] = [
 ];
 
 #[test]
-fn a_commit_leaves_what_is_cancelled(rt: HostRuntime) -> Result<(), Fail> {
-    check(&rt, rt.alloc(), &THEN_COMMITTED)
+fn a_commit_leaves_what_is_cancelled(rt: HostRuntime) {
+    check(&rt, rt.alloc(), &THEN_COMMITTED);
 }
 
 static REFUSED: [(Asked, &str); 5] = [
@@ -255,8 +259,8 @@ static REFUSED: [(Asked, &str); 5] = [
 ];
 
 #[test]
-fn the_room_is_looked_at_before_the_booking(rt: HostRuntime) -> Result<(), Fail> {
-    check(&rt, rt.alloc(), &REFUSED)
+fn the_room_is_looked_at_before_the_booking(rt: HostRuntime) {
+    check(&rt, rt.alloc(), &REFUSED);
 }
 
 // Nine alternatives are as good as one, seventeen are too many.
@@ -266,7 +270,7 @@ static TAKEN: [&str; 17] = [
 ];
 
 #[test]
-fn a_request_has_sixteen_alternatives_at_most(rt: HostRuntime) -> Result<(), Fail> {
+fn a_request_has_sixteen_alternatives_at_most(rt: HostRuntime) {
     let list = [
         (Asked::AddRoom, "ok\n"),
         (
@@ -280,5 +284,5 @@ fn a_request_has_sixteen_alternatives_at_most(rt: HostRuntime) -> Result<(), Fai
             "refused 6 TooManyAlternatives\n",
         ),
     ];
-    check(&rt, rt.alloc(), &list)
+    check(&rt, rt.alloc(), &list);
 }

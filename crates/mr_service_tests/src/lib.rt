@@ -7,4 +7,6 @@ mod cancel_tests;
 #[cfg(test)]
 mod running_tests;
 #[cfg(test)]
+mod same_text;
+#[cfg(test)]
 mod text_tests;

@@ -1,5 +1,6 @@
 // Lists of commands and the texts of their replies, over a keeper of lists. The memory is ample.
 
+use crate::same_text::same_text;
 use mr_base::{Refusal, ServerId};
 use mr_service::{
     Command, Local, Reply, Service, SlotWords, Submission, reply_text, run, run_over_lists,
@@ -7,18 +8,15 @@ use mr_service::{
 use mr_store::ListKeeper;
 use std::alloc::{AllocError, Global};
 use std::process::Abort;
-use std::test::Fail;
 
 const DAY: &str = "1995-12-18";
 
-/// What the list of commands is replied, command by command.
-static WANTED: [&str; 5] = [
-    "ok\n",
-    "1-1 T 1995-12-18 13:30-14:30\n",
-    "oak 1995-12-18 Monday\n13:30-14:30 T 1-1 Budget Meeting\n",
-    "refused 9 NoSuchRequest\n",
-    "oak errors\n(no errors)\n",
-];
+/// How many commands the list has.
+const COMMANDS: usize = 5;
+
+/// What they are replied, one after the other.
+const WANTED: &str =
+    "ok\n1-1 T 1995-12-18 13:30-14:30\noak 1995-12-18 Monday\n13:30-14:30 T 1-1 Budget Meeting\nrefused 9 NoSuchRequest\noak errors\n(no errors)\n";
 
 fn text(alloc: Global, text: &str) -> Result<String, AllocError> {
     String::from_str(alloc, text)
@@ -60,37 +58,51 @@ fn local(alloc: Global, place: usize) -> Result<Local, AllocError> {
 
 fn commands(alloc: Global) -> Result<Vec<Command>, Refusal> {
     let mut commands = Vec::new(alloc);
-    for place in 0..WANTED.len() {
+    for place in 0..COMMANDS {
         commands.push(Command::Local(local(alloc, place)?))?;
     }
     Ok(commands)
 }
 
-/// Each reply has the text that is wanted at its place.
-fn compare(rt: &impl Abort, alloc: Global, replies: &[Reply]) -> Result<(), Fail> {
-    assert_eq!(rt; replies.len(), WANTED.len());
-    for (reply, want) in replies.iter().zip(&WANTED) {
-        let said = reply_text(alloc, reply)?;
-        assert_eq!(rt; said.as_slice(), want.as_bytes(), "where {want} is wanted");
-    }
-    Ok(())
+/// The primary, before it knows anything.
+fn primary(alloc: Global) -> Result<Service<ListKeeper>, Refusal> {
+    let server = ServerId::new(1).ok_or(Refusal::NotAReplica)?;
+    Ok(Service::new(alloc, ListKeeper::new(alloc, server, server)))
 }
 
-#[test]
-fn each_command_of_a_list_has_its_reply(rt: HostRuntime) -> Result<(), Fail> {
-    let alloc = rt.alloc();
-    let server = ServerId::new(1).ok_or("no server")?;
+fn replies(alloc: Global) -> Result<Vec<Reply>, Refusal> {
     let commands = commands(alloc)?;
-    let mut lists = Service::new(alloc, ListKeeper::new(alloc, server, server));
-    let replies = run(alloc, &mut lists, commands.as_slice())?;
-    compare(&rt, alloc, replies.as_slice())
+    let mut lists = primary(alloc)?;
+    Ok(run(alloc, &mut lists, commands.as_slice())?)
+}
+
+fn replies_over_lists(alloc: Global) -> Result<Vec<Reply>, Refusal> {
+    let commands = commands(alloc)?;
+    let mut lists = primary(alloc)?;
+    Ok(run_over_lists(alloc, &mut lists, commands.as_slice())?)
+}
+
+/// The texts of the replies, one after the other.
+fn texts(alloc: Global, replies: Result<Vec<Reply>, Refusal>) -> Result<Vec<u8>, Refusal> {
+    let mut texts = Vec::new(alloc);
+    for reply in replies?.as_slice() {
+        texts.extend_from_slice(reply_text(alloc, reply)?.as_slice())?;
+    }
+    Ok(texts)
+}
+
+/// There are as many replies as commands, and they have the texts that are wanted.
+fn check(rt: &impl Abort, alloc: Global, replies: Result<Vec<Reply>, Refusal>) {
+    assert!(rt; matches!(&replies, Ok(replies) if replies.len() == COMMANDS));
+    same_text(rt, &texts(alloc, replies), WANTED);
 }
 
 #[test]
-fn over_lists_each_command_has_its_reply(rt: HostRuntime) -> Result<(), Fail> {
-    let alloc = rt.alloc();
-    let server = ServerId::new(1).ok_or("no server")?;
-    let mut lists = Service::new(alloc, ListKeeper::new(alloc, server, server));
-    let replies = run_over_lists(alloc, &mut lists, commands(alloc)?.as_slice())?;
-    compare(&rt, alloc, replies.as_slice())
+fn each_command_of_a_list_has_its_reply(rt: HostRuntime) {
+    check(&rt, rt.alloc(), replies(rt.alloc()));
+}
+
+#[test]
+fn over_lists_each_command_has_its_reply(rt: HostRuntime) {
+    check(&rt, rt.alloc(), replies_over_lists(rt.alloc()));
 }

@@ -3,6 +3,7 @@
 
 use crate::asking_tests::{give, pushed_to, service};
 use crate::round_tests::{pull_from, push_to};
+use crate::same::same;
 use crate::serving_tests::{FIRST, check, check_all, opening};
 use mr_base::{Ending, Refusal};
 use mr_http::WebFault;
@@ -10,10 +11,9 @@ use mr_service::{Command, Local, Service};
 use mr_store::ListKeeper;
 use std::alloc::Global;
 use std::process::Abort;
-use std::test::Fail;
 
 // A cancel that takes the booking back, and one that comes too late.
-const CANCELS: [(&str, u16, &str); 2] = [
+static CANCELS: [(&str, u16, &str); 2] = [
     (
         "POST /cancel HTTP/1.1\r\nContent-Length: 25\r\n\r\n{\"id\":\"1-1\",\"room\":\"oak\"}",
         200,
@@ -27,7 +27,7 @@ const CANCELS: [(&str, u16, &str); 2] = [
 ];
 
 // Bodies that are no cancels, and cancels of what there is not; the last is one of a cancel.
-const NO_CANCELS: [(&str, u16, &str); 15] = [
+static NO_CANCELS: [(&str, u16, &str); 15] = [
     (
         "POST /cancel HTTP/1.1\r\nContent-Length: 31\r\n\r\n{\"id\":\"1-1\",\"room\":\"oak\",\"x\":1}",
         400,
@@ -106,7 +106,7 @@ const NO_CANCELS: [(&str, u16, &str); 15] = [
 ];
 
 // The booking and both cancels, all of them tentative. The first text tells no cancel.
-const TENTATIVE: [(&str, u16, &str); 11] = [
+static TENTATIVE: [(&str, u16, &str); 11] = [
     (
         "GET /rooms/oak/requests/1-1 HTTP/1.1\r\n\r\n",
         200,
@@ -165,7 +165,7 @@ const TENTATIVE: [(&str, u16, &str); 11] = [
 ];
 
 // The booking is committed, and its cancel is not.
-const HALF_COMMITTED: [(&str, u16, &str); 2] = [
+static HALF_COMMITTED: [(&str, u16, &str); 2] = [
     (
         "GET /rooms/oak/requests/1-1 HTTP/1.1\r\n\r\n",
         200,
@@ -179,7 +179,7 @@ const HALF_COMMITTED: [(&str, u16, &str); 2] = [
 ];
 
 // All three are committed.
-const COMMITTED: [(&str, u16, &str); 7] = [
+static COMMITTED: [(&str, u16, &str); 7] = [
     (
         "GET /rooms/oak/requests/1-1 HTTP/1.1\r\n\r\n",
         200,
@@ -218,66 +218,63 @@ const COMMITTED: [(&str, u16, &str); 7] = [
 ];
 
 // The primary, with the booking and both cancels.
-fn cancelled_twice(rt: &impl Abort, alloc: Global) -> Result<Service<ListKeeper>, Fail> {
-    let mut service = opening(alloc)?;
-    check(rt, alloc, &mut service, FIRST[0])?;
-    check_all(rt, alloc, &mut service, &CANCELS)?;
-    Ok(service)
+fn cancelled_twice(rt: &impl Abort, alloc: Global) -> Service<ListKeeper> {
+    let mut service = opening(rt, alloc);
+    check(rt, alloc, &mut service, FIRST[0]);
+    check_all(rt, alloc, &mut service, &CANCELS);
+    service
 }
 
 #[test]
-fn tells_of_cancels(rt: HostRuntime) -> Result<(), Fail> {
+fn tells_of_cancels(rt: HostRuntime) {
     let alloc = rt.alloc();
-    let mut service = cancelled_twice(&rt, alloc)?;
-    check_all(&rt, alloc, &mut service, &TENTATIVE)?;
+    let mut service = cancelled_twice(&rt, alloc);
+    check_all(&rt, alloc, &mut service, &TENTATIVE);
     give(&mut service, Command::Local(Local::Commit(1)));
-    check_all(&rt, alloc, &mut service, &HALF_COMMITTED)?;
+    check_all(&rt, alloc, &mut service, &HALF_COMMITTED);
     give(&mut service, Command::Local(Local::Commit(2)));
-    check_all(&rt, alloc, &mut service, &COMMITTED)
+    check_all(&rt, alloc, &mut service, &COMMITTED);
 }
 
 // What is no cancel, or is refused, leaves all as it was.
 #[test]
-fn refuses_what_is_no_cancel(rt: HostRuntime) -> Result<(), Fail> {
-    let alloc = rt.alloc();
-    let mut service = cancelled_twice(&rt, alloc)?;
-    check_all(&rt, alloc, &mut service, &NO_CANCELS)?;
-    check_all(&rt, alloc, &mut service, &TENTATIVE)
+fn refuses_what_is_no_cancel(rt: HostRuntime) {
+    let mut service = cancelled_twice(&rt, rt.alloc());
+    check_all(&rt, rt.alloc(), &mut service, &NO_CANCELS);
+    check_all(&rt, rt.alloc(), &mut service, &TENTATIVE);
 }
 
 // A replica pulls the booking and both cancels, of which it has heard nothing, and nothing then.
 #[test]
-fn pulls_cancels(rt: HostRuntime) -> Result<(), Fail> {
+fn pulls_cancels(rt: HostRuntime) {
     let alloc = rt.alloc();
-    let mut server = cancelled_twice(&rt, alloc)?;
-    let mut client = service(alloc, 2)?;
+    let mut server = cancelled_twice(&rt, alloc);
+    let mut client = service(&rt, alloc, 2);
     for writes in [3, 0] {
         let pulled = pull_from(alloc, &mut client, &mut server);
-        assert!(rt; pulled == Ok((writes, 0, Ending::Complete)));
+        same(&rt, &pulled, &Ok((writes, 0, Ending::Complete)), writes);
     }
-    Ok(())
 }
 
 // The same pushed.
 #[test]
-fn pushes_cancels(rt: HostRuntime) -> Result<(), Fail> {
+fn pushes_cancels(rt: HostRuntime) {
     let alloc = rt.alloc();
-    let mut client = cancelled_twice(&rt, alloc)?;
-    let mut server = service(alloc, 2)?;
+    let mut client = cancelled_twice(&rt, alloc);
+    let mut server = service(&rt, alloc, 2);
     for writes in [3, 0] {
         let pushed = push_to(alloc, &mut client, &mut server);
-        assert!(rt; pushed == Ok((writes, 0, Ending::Complete)));
+        same(&rt, &pushed, &Ok((writes, 0, Ending::Complete)), writes);
     }
-    Ok(())
 }
 
 // A replica makes no batch of a cancel for a position of the first version, and writes nothing.
 #[test]
-fn pushes_no_cancel_in_the_first_text(rt: HostRuntime) -> Result<(), Fail> {
-    let alloc = rt.alloc();
-    let mut service = cancelled_twice(&rt, alloc)?;
-    let lacking = b"HTTP/1.1 200 OK\r\nContent-Length: 20\r\n\r\nmp1 2 1\nK 0\nV 1 1\nE\n";
-    let asked = pushed_to(alloc, &mut service, lacking)?;
-    assert!(rt; asked == Err(WebFault::Own(Refusal::NeedsVersion2)));
-    Ok(())
+fn pushes_no_cancel_in_the_first_text(rt: HostRuntime) {
+    let mut service = cancelled_twice(&rt, rt.alloc());
+    let lacking =
+        b"HTTP/1.1 200 OK\r\nContent-Length: 20\r\n\r\nmp1 2 1\nK 0\nV 1 1\nE\n".as_slice();
+    let asked = pushed_to(rt.alloc(), &mut service, lacking);
+    let refused = Err(WebFault::Own(Refusal::NeedsVersion2));
+    same(&rt, &asked, &refused, "the position");
 }

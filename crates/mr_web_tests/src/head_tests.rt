@@ -1,10 +1,11 @@
 use crate::connections::{Drip, Narrow};
+use crate::same::{same, same_bytes};
 use httparse::Header;
 use mr_http::{
     ReadFault, WebFault, body_length, fill_to, read_reply_head, read_request_head, send,
 };
 use std::alloc::Global;
-use std::test::Fail;
+use std::process::Abort;
 
 fn request_head(alloc: Global, bytes: &[u8]) -> Result<Option<usize>, ReadFault> {
     let mut reader = bytes;
@@ -29,7 +30,7 @@ fn heads_of_requests(rt: HostRuntime) {
         (&b"HTTP/1.1 200 OK\r\n\r\n"[..], None),
         (&b""[..], None),
     ] {
-        assert!(rt; request_head(alloc, bytes) == Ok(found), "at {bytes:?}");
+        same(&rt, &request_head(alloc, bytes), &Ok(found), bytes);
     }
 }
 
@@ -43,7 +44,7 @@ fn heads_of_replies(rt: HostRuntime) {
         (&b"HTTP/1.1 200 OK\r\n"[..], None),
         (&b"GET / HTTP/1.1\r\n\r\n"[..], None),
     ] {
-        assert!(rt; reply_head(alloc, bytes) == Ok(found), "at {bytes:?}");
+        same(&rt, &reply_head(alloc, bytes), &Ok(found), bytes);
     }
 }
 
@@ -66,8 +67,9 @@ fn long_head_found(alloc: Global, more: usize) -> Result<Option<usize>, ReadFaul
 #[test]
 fn the_longest_head(rt: HostRuntime) {
     let alloc = rt.alloc();
-    assert!(rt; long_head_found(alloc, 8169) == Ok(Some(8192)));
-    assert!(rt; long_head_found(alloc, 8170) == Ok(None));
+    for (more, found) in [(8169, Some(8192)), (8170, None)] {
+        same(&rt, &long_head_found(alloc, more), &Ok(found), more);
+    }
 }
 
 #[test]
@@ -92,7 +94,7 @@ fn one_length(rt: HostRuntime) {
         (false, "transfer-encoding", &b"identity"[..], None),
     ] {
         let fields = [Header { name, value }];
-        assert!(rt; body_length(needs, &fields) == length, "at {name}");
+        same(&rt, &body_length(needs, &fields), &length, name);
     }
 }
 
@@ -136,42 +138,47 @@ fn read_whole(alloc: Global, left: usize) -> Result<usize, ReadFault> {
 fn drips(rt: HostRuntime) {
     let alloc = rt.alloc();
     for left in 0..MESSAGE.len() {
-        assert!(rt;
-            read_whole(alloc, left) == Err(ReadFault::Read),
-            "at {left}"
-        );
+        same(&rt, &read_whole(alloc, left), &Err(ReadFault::Read), left);
     }
-    assert!(rt; read_whole(alloc, MESSAGE.len()) == Ok(MESSAGE.len()));
+    let whole = MESSAGE.len();
+    same(&rt, &read_whole(alloc, whole), &Ok(whole), whole);
+}
+
+fn check_narrow(rt: &impl Abort, alloc: Global, room: usize) {
+    let mut writer = Narrow {
+        taken: Vec::new(alloc),
+        room,
+    };
+    same(rt, &send(&mut writer, MESSAGE), &Err(WebFault::Write), room);
+    same(
+        rt,
+        &Some(writer.taken.as_slice()),
+        &MESSAGE.get(..room),
+        room,
+    );
 }
 
 // A write that fails leaves a front.
 #[test]
-fn narrow_writers(rt: HostRuntime) -> Result<(), Fail> {
-    let alloc = rt.alloc();
+fn narrow_writers(rt: HostRuntime) {
     for room in 0..MESSAGE.len() {
-        let mut writer = Narrow {
-            taken: Vec::new(alloc),
-            room,
-        };
-        assert!(rt;
-            send(&mut writer, MESSAGE) == Err(WebFault::Write),
-            "at {room}"
-        );
-        assert_eq!(rt; writer.taken.as_slice(), &MESSAGE[..room]);
+        check_narrow(&rt, rt.alloc(), room);
     }
-    Ok(())
+}
+
+fn sent(alloc: Global) -> Result<Vec<u8>, WebFault> {
+    let mut writer = Vec::new(alloc);
+    send(&mut writer, MESSAGE)?;
+    Ok(writer)
 }
 
 #[test]
 fn sends_all(rt: HostRuntime) {
-    let mut writer = Vec::new(rt.alloc());
-    assert!(rt; send(&mut writer, MESSAGE) == Ok(()));
-    assert_eq!(rt; writer.as_slice(), MESSAGE);
+    same_bytes(&rt, &sent(rt.alloc()), MESSAGE);
 }
 
 #[test]
-fn faults_are_told(rt: HostRuntime) -> Result<(), Fail> {
-    let text = format!(in rt.alloc(); "{}", WebFault::Peer(404))?;
-    assert_eq!(rt; text.as_str(), "the peer answered 404");
-    Ok(())
+fn faults_are_told(rt: HostRuntime) {
+    let text = format!(in rt.alloc(); "{}", WebFault::Peer(404)).expect(&rt, "memory");
+    same(&rt, &text.as_str(), &"the peer answered 404", "the text");
 }

@@ -13,6 +13,8 @@ mod head_tests;
 #[cfg(test)]
 mod round_tests;
 #[cfg(test)]
+mod same;
+#[cfg(test)]
 mod serving_tests;
 #[cfg(test)]
 mod without_desk;

@@ -1,19 +1,18 @@
 // Requests and their replies over a keeper of lists, to the byte. The memory is ample.
 
-use crate::asking_tests::give;
+use crate::asking_tests::{give, service};
 use crate::connections::{Drip, Narrow};
+use crate::same::same;
 use crate::without_desk::WithoutDesk;
-use mr_base::ServerId;
 use mr_http::WebFault;
 use mr_service::{Command, Local, Service};
 use mr_store::{Fault, Keeper, ListKeeper, Tripped};
 use mr_web::serve_one;
 use std::alloc::Global;
 use std::process::Abort;
-use std::test::Fail;
 
 // A submission, and requests that change nothing.
-pub(crate) const FIRST: [(&str, u16, &str); 7] = [
+pub(crate) static FIRST: [(&str, u16, &str); 7] = [
     (
         "POST /submit HTTP/1.1\r\nContent-Length: 86\r\n\r\n{\"day\":\"1995-12-18\",\"length\":60,\"room\":\"oak\",\"start\":\"13:30\",\"title\":\"Budget Meeting\"}",
         200,
@@ -52,7 +51,7 @@ pub(crate) const FIRST: [(&str, u16, &str); 7] = [
 ];
 
 // The other routes, once each.
-const ROUTES: [(&str, u16, &str); 8] = [
+static ROUTES: [(&str, u16, &str); 8] = [
     (
         "POST /push HTTP/1.1\r\nContent-Length: 66\r\n\r\nmr1 2 1\nW 2 1 1 oak 60 1995-12-18 13:30 1 1995-12-18 15:00 Beta\nE\n",
         200,
@@ -96,7 +95,7 @@ const ROUTES: [(&str, u16, &str); 8] = [
 ];
 
 // Submissions whose wish is taken.
-const CHOICES: [(&str, u16, &str); 2] = [
+static CHOICES: [(&str, u16, &str); 2] = [
     (
         "POST /submit HTTP/1.1\r\nContent-Length: 168\r\n\r\n{\"alternatives\":[{\"day\":\"1995-12-18\",\"start\":\"15:00\"},{\"day\":\"1995-12-19\",\"start\":\"13:30\"}],\"day\":\"1995-12-18\",\"length\":60,\"room\":\"oak\",\"start\":\"13:00\",\"title\":\"Audit\"}",
         200,
@@ -110,7 +109,7 @@ const CHOICES: [(&str, u16, &str); 2] = [
 ];
 
 // Requests that fail a check or are refused.
-const FAULTS: [(&str, u16, &str); 18] = [
+static FAULTS: [(&str, u16, &str); 18] = [
     (
         "PUT /nothing HTTP/1.1\r\n\r\n",
         404,
@@ -204,12 +203,11 @@ const FAULTS: [(&str, u16, &str); 18] = [
 ];
 
 // The primary, which knows the room oak.
-pub(crate) fn opening(alloc: Global) -> Result<Service<ListKeeper>, Fail> {
-    let server = ServerId::new(1).ok_or("a server")?;
-    let mut service = Service::new(alloc, ListKeeper::new(alloc, server, server));
-    let room = String::from_str(alloc, "oak")?;
+pub(crate) fn opening(rt: &impl Abort, alloc: Global) -> Service<ListKeeper> {
+    let mut service = service(rt, alloc, 1);
+    let room = String::from_str(alloc, "oak").expect(rt, "memory");
     give(&mut service, Command::Local(Local::AddRoom(room)));
-    Ok(service)
+    service
 }
 
 // The request is answered by this status and these bytes.
@@ -218,16 +216,12 @@ pub(crate) fn check<K: Keeper>(
     alloc: Global,
     service: &mut Service<K>,
     (request, status, reply): (&str, u16, &str),
-) -> Result<(), Fail> {
+) {
     let mut reader = request.as_bytes();
     let mut writer = Vec::new(alloc);
     let answered = serve_one(alloc, &mut reader, &mut writer, service);
-    assert_eq!(rt; writer.as_slice(), reply.as_bytes(), "for {request}");
-    assert!(rt;
-        matches!(answered, Ok(told) if told == status),
-        "for {request}"
-    );
-    Ok(())
+    same(rt, &writer.as_slice(), &reply.as_bytes(), request);
+    same(rt, &answered, &Ok(status), request);
 }
 
 pub(crate) fn check_all<K: Keeper>(
@@ -235,51 +229,45 @@ pub(crate) fn check_all<K: Keeper>(
     alloc: Global,
     service: &mut Service<K>,
     rows: &[(&str, u16, &str)],
-) -> Result<(), Fail> {
+) {
     for row in rows {
-        check(rt, alloc, service, *row)?;
+        check(rt, alloc, service, *row);
     }
-    Ok(())
 }
 
 #[test]
-fn submits(rt: HostRuntime) -> Result<(), Fail> {
-    let alloc = rt.alloc();
-    let mut service = opening(alloc)?;
-    check_all(&rt, alloc, &mut service, &FIRST)
+fn submits(rt: HostRuntime) {
+    let mut service = opening(&rt, rt.alloc());
+    check_all(&rt, rt.alloc(), &mut service, &FIRST);
 }
 
 #[test]
-fn serves_each_route(rt: HostRuntime) -> Result<(), Fail> {
-    let alloc = rt.alloc();
-    let mut service = opening(alloc)?;
-    check(&rt, alloc, &mut service, FIRST[0])?;
-    check_all(&rt, alloc, &mut service, &ROUTES)
+fn serves_each_route(rt: HostRuntime) {
+    let mut service = opening(&rt, rt.alloc());
+    check(&rt, rt.alloc(), &mut service, FIRST[0]);
+    check_all(&rt, rt.alloc(), &mut service, &ROUTES);
 }
 
 // No request needs a whole desk.
 #[test]
-fn serves_each_route_without_a_desk(rt: HostRuntime) -> Result<(), Fail> {
-    let alloc = rt.alloc();
-    let keeper = WithoutDesk::new(opening(alloc)?.into_keeper());
-    let mut service = Service::new(alloc, keeper);
-    check_all(&rt, alloc, &mut service, &FIRST)?;
-    check_all(&rt, alloc, &mut service, &ROUTES)
+fn serves_each_route_without_a_desk(rt: HostRuntime) {
+    let keeper = WithoutDesk::new(opening(&rt, rt.alloc()).into_keeper());
+    let mut service = Service::new(rt.alloc(), keeper);
+    check_all(&rt, rt.alloc(), &mut service, &FIRST);
+    check_all(&rt, rt.alloc(), &mut service, &ROUTES);
 }
 
 #[test]
-fn takes_alternatives(rt: HostRuntime) -> Result<(), Fail> {
-    let alloc = rt.alloc();
-    let mut service = opening(alloc)?;
-    check(&rt, alloc, &mut service, FIRST[0])?;
-    check_all(&rt, alloc, &mut service, &CHOICES)
+fn takes_alternatives(rt: HostRuntime) {
+    let mut service = opening(&rt, rt.alloc());
+    check(&rt, rt.alloc(), &mut service, FIRST[0]);
+    check_all(&rt, rt.alloc(), &mut service, &CHOICES);
 }
 
 #[test]
-fn tells_faults(rt: HostRuntime) -> Result<(), Fail> {
-    let alloc = rt.alloc();
-    let mut service = opening(alloc)?;
-    check_all(&rt, alloc, &mut service, &FAULTS)
+fn tells_faults(rt: HostRuntime) {
+    let mut service = opening(&rt, rt.alloc());
+    check_all(&rt, rt.alloc(), &mut service, &FAULTS);
 }
 
 const NO_MEMORY: &str =
@@ -289,99 +277,93 @@ const STORE_FAILED: &str =
     "HTTP/1.1 503 Service Unavailable\r\nContent-Type: application/json\r\nContent-Length: 29\r\nConnection: close\r\n\r\n{\"name\":\"Store\",\"refusal\":25}";
 
 // A submission whose keeper fails after so many calls is answered 503, and once more it is the first one.
-fn check_tripped(
-    rt: &impl Abort,
-    alloc: Global,
-    left: u64,
-    fault: Fault,
-    reply: &str,
-) -> Result<(), Fail> {
-    let keeper = opening(alloc)?.into_keeper();
+fn check_tripped(rt: &impl Abort, alloc: Global, left: u64, fault: Fault, reply: &str) {
+    let keeper = opening(rt, alloc).into_keeper();
     let mut service = Service::new(alloc, Tripped::new(keeper, left, fault));
-    check(rt, alloc, &mut service, (FIRST[0].0, 503, reply))?;
-    check(rt, alloc, &mut service, FIRST[0])
+    check(rt, alloc, &mut service, (FIRST[0].0, 503, reply));
+    check(rt, alloc, &mut service, FIRST[0]);
 }
 
 #[test]
-fn keepers_fail(rt: HostRuntime) -> Result<(), Fail> {
-    let alloc = rt.alloc();
+fn keepers_fail(rt: HostRuntime) {
     for left in 0..2u64 {
-        check_tripped(&rt, alloc, left, Fault::OutOfMemory, NO_MEMORY)?;
-        check_tripped(&rt, alloc, left, Fault::Store, STORE_FAILED)?;
+        check_tripped(&rt, rt.alloc(), left, Fault::OutOfMemory, NO_MEMORY);
+        check_tripped(&rt, rt.alloc(), left, Fault::Store, STORE_FAILED);
     }
-    Ok(())
 }
 
 // The sheet, which has the one booking or none.
-fn check_sheet(
-    rt: &impl Abort,
-    alloc: Global,
-    service: &mut Service<ListKeeper>,
-    is_booked: bool,
-) -> Result<(), Fail> {
+fn check_sheet(rt: &impl Abort, alloc: Global, service: &mut Service<ListKeeper>, is_booked: bool) {
     let (request, status, booked) = FIRST[6];
     let reply = if is_booked { booked } else { NO_BOOKINGS };
-    check(rt, alloc, service, (request, status, reply))
+    check(rt, alloc, service, (request, status, reply));
 }
 
 const NO_BOOKINGS: &str =
     "HTTP/1.1 200 OK\r\nContent-Type: text/plain\r\nContent-Length: 36\r\nConnection: close\r\n\r\noak 1995-12-18 Monday\n(no bookings)\n";
 
-// With so many reads of one byte each a submission is served, or the fault is told and nothing is booked.
-fn check_drip(rt: &impl Abort, alloc: Global, left: usize) -> Result<(), Fail> {
-    let (request, _, reply) = FIRST[0];
-    let mut service = opening(alloc)?;
+// Serves a request that comes a byte a read, so many times.
+fn dripped(
+    alloc: Global,
+    service: &mut Service<ListKeeper>,
+    request: &str,
+    left: usize,
+    writer: &mut Vec<u8>,
+) -> Result<u16, WebFault> {
     let mut reader = Drip {
         bytes: request.as_bytes(),
         left,
     };
+    serve_one(alloc, &mut reader, writer, service)
+}
+
+// With so many reads of one byte each a submission is served, or the fault is told and nothing is booked.
+fn check_drip(rt: &impl Abort, alloc: Global, left: usize) {
+    let (request, status, reply) = FIRST[0];
+    let mut service = opening(rt, alloc);
     let mut writer = Vec::new(alloc);
-    let answered = serve_one(alloc, &mut reader, &mut writer, &mut service);
-    let Drip { bytes: _, left: _ } = reader;
+    let answered = dripped(alloc, &mut service, request, left, &mut writer);
     let is_whole = left >= request.len();
-    if is_whole {
-        assert!(rt; matches!(answered, Ok(200)), "at {left}");
-        assert_eq!(rt; writer.as_slice(), reply.as_bytes(), "at {left}");
+    let (answer, reply) = if is_whole {
+        (Ok(status), reply)
     } else {
-        assert!(rt; matches!(answered, Err(WebFault::Read)), "at {left}");
-        assert!(rt; writer.is_empty(), "at {left}");
-    }
-    check_sheet(rt, alloc, &mut service, is_whole)
+        (Err(WebFault::Read), "")
+    };
+    same(rt, &answered, &answer, left);
+    same(rt, &writer.as_slice(), &reply.as_bytes(), left);
+    check_sheet(rt, alloc, &mut service, is_whole);
 }
 
 #[test]
-fn reads_byte_by_byte(rt: HostRuntime) -> Result<(), Fail> {
-    let alloc = rt.alloc();
+fn reads_byte_by_byte(rt: HostRuntime) {
     for left in 0..FIRST[0].0.len() + 2 {
-        check_drip(&rt, alloc, left)?;
+        check_drip(&rt, rt.alloc(), left);
     }
-    Ok(())
 }
 
 // A writer that fails after so many bytes has that front of the reply, and the booking stands.
-fn check_narrow(rt: &impl Abort, alloc: Global, room: usize) -> Result<(), Fail> {
+fn check_narrow(rt: &impl Abort, alloc: Global, room: usize) {
     let (request, _, reply) = FIRST[0];
-    let mut service = opening(alloc)?;
+    let mut service = opening(rt, alloc);
     let mut reader = request.as_bytes();
     let mut writer = Narrow {
         taken: Vec::new(alloc),
         room,
     };
     let answered = serve_one(alloc, &mut reader, &mut writer, &mut service);
-    assert!(rt; matches!(answered, Err(WebFault::Write)), "at {room}");
-    assert!(rt;
-        reply.as_bytes().starts_with(writer.taken.as_slice()),
-        "at {room}"
+    same(rt, &answered, &Err(WebFault::Write), room);
+    same(
+        rt,
+        &Some(writer.taken.as_slice()),
+        &reply.as_bytes().get(..room),
+        room,
     );
-    assert_eq!(rt; writer.taken.len(), room);
-    check_sheet(rt, alloc, &mut service, true)
+    check_sheet(rt, alloc, &mut service, true);
 }
 
 #[test]
-fn writes_fail(rt: HostRuntime) -> Result<(), Fail> {
-    let alloc = rt.alloc();
+fn writes_fail(rt: HostRuntime) {
     for room in 0..FIRST[0].2.len() {
-        check_narrow(&rt, alloc, room)?;
+        check_narrow(&rt, rt.alloc(), room);
     }
-    Ok(())
 }
