@@ -6,7 +6,7 @@ use Rattle.mr_model.specs.Texts.{Text, line}
 use Rattle.mr_model.specs.Refusals.{refusal_text}
 use Rattle.mr_model.specs.Replies.{Reply, RoomAdded, OutcomeIs, Took, CommittedIs, DroppedIs, PositionIs, BatchIs, Sheet, Calendar, Errors, Refused}
 use Rattle.mr_model.specs.Step.{Command}
-use Rattle.mr_base.specs.Refusals.{refusal_of}
+use Rattle.mr_base.specs.RefusalViews.{refusal_of}
 use Rattle.mr_base.specs.declared.refusals.Refusal.{Refusal}
 use Rattle.mr_base.specs.declared.refusals.Refusal.TheVariants as refusal
 use Rattle.mr_store.specs.declared.keeper.Keeper.{Ghosts}

@@ -1,5 +1,5 @@
 mod WordLaws
-mod LineLaws
+mod ScriptLines
 mod CutSlots
 mod ScriptLaws
 mod RunLaws

@@ -9,13 +9,13 @@ use Rattle.mr_model.specs.Texts.{Text}
 use Rattle.mr_service.specs.declared.steps.StepReply.{StepReply}
 use Rattle.mr_model.specs.World.{StepReply as StepReplyOfWorld}
 use Rattle.mr_service.specs.Stepping.{step_reply_of}
-use Rattle.mr.specs.Rehearsed.{step_reply_text, IsInput}
+use Rattle.mr.specs.Rehearsed.{step_reply_text, IsKnownInput}
 
 -- ---- what a reader had
 
 -- a reader that gave fewer bytes than it was asked for gave all
 pub input_read : (known asked : Option Text) (limit : ℕ) (old bytes : Text) → asked ≡ known → old ≡ [] → IfSome (option_map (take limit) asked) (λ xs. bytes ≡ old ++ xs)
-    → length bytes < limit → IsInput known bytes
+    → length bytes < limit → IsKnownInput known bytes
 input_read None asked limit old bytes same start h low = tt
 input_read (Some xs) asked limit old bytes same start h low =
     let P : Option Text → Type 0 = λ o. IfSome (option_map (take limit) o) (λ ys. bytes ≡ old ++ ys) in
@@ -25,7 +25,7 @@ input_read (Some xs) asked limit old bytes same start h low =
     read ∙ take_all limit xs all
 
 -- all that a reader had, or anything where that isn't known
-pub some_input : (known : Option Text) → (bytes : Text) × IsInput known bytes
+pub some_input : (known : Option Text) → (bytes : Text) × IsKnownInput known bytes
 some_input None = ([], tt)
 some_input (Some xs) = (xs, refl)
 

@@ -7,7 +7,7 @@ use Rattle.std.specs.Iterator.{Yields}
 use Rattle.std.specs.List.{enumerate_from}
 use Rattle.mr_model.specs.Texts.{Text}
 use Rattle.mr_model.specs.World.{Step}
-use Rattle.mr.specs.Script.{is_passed_over, IsScriptLine, IsBad, AreStepsOf, taken, IsBadLine}
+use Rattle.mr.specs.RehearsalScript.{is_passed_over, IsScriptLine, IsBad, AreStepsOf, taken, IsBadLine}
 
 -- the lines so far, as an iterator gave them
 abbrev pub numbered : List (ℕ × Bor Text) → List (ℕ × Text)

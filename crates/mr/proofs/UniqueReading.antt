@@ -6,8 +6,8 @@ use Rattle.mr_model.specs.Texts.{Text}
 use Rattle.mr_model.specs.View.{AskSheet, AskCalendar, AskOutcome, AskErrors}
 use Rattle.mr_model.specs.Step.{AddRoom, Submit, Cancel, Commit, Truncate, AskPosition, Ask}
 use Rattle.mr_model.specs.World.{Step, Add, Make, Deliver}
-use Rattle.mr.specs.Script.{is_passed_over, has_line, step_line, script_lines, IsScriptLine, IsBad, TakesLine, AreStepsOf, begun, taken, IsBadLine, ReadsOneWay}
-use Rattle.mr.proofs.LineLaws.{one_step}
+use Rattle.mr.specs.RehearsalScript.{is_passed_over, has_line, step_line, script_lines, IsScriptLine, IsBad, TakesLine, AreStepsOf, begun, taken, IsBadLine, ReadsOneWay}
+use Rattle.mr.proofs.ScriptLines.{one_step}
 
 -- ---- the last line
 

@@ -9,7 +9,7 @@ use Rattle.std.specs.List.{list_all, list_any}
 use Rattle.mr_model.specs.Texts.{Text, is_space, first_word, after_word, number_in, within, only_if}
 use Rattle.mr_model.proofs.WordsReadBack.{Plain, decimal-plain, number-decimal}
 use Rattle.mr_model.proofs.BatchesReadBack.{only_if_some}
-use Rattle.mr.specs.Script.{is_word}
+use Rattle.mr.specs.RehearsalScript.{is_word}
 use Rattle.mr_base.specs.Readings.{number_from_to}
 use Rattle.mr.specs.LineSteps.{cut_first_word}
 

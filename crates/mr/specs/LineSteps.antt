@@ -7,7 +7,7 @@ use Rattle.mr_model.specs.Step.{AddRoom, Submit, Cancel, Commit, Truncate, AskPo
 use Rattle.mr_model.specs.World.{Step, Add, Make, Deliver}
 use Rattle.mr_base.specs.Readings.{number_from_to}
 use Rattle.mr_words.specs.CommandTable.{◌>>=◌, server_in, commit_number_in, line_count_in, part_in}
-use Rattle.mr.specs.Script.{is_word, all_bytes}
+use Rattle.mr.specs.RehearsalScript.{is_word, all_bytes}
 
 -- the first word, and what follows the space behind it
 abbrev pub cut_first_word : Text → Option (Text × Text)

@@ -6,7 +6,7 @@ use Rattle.mr_model.specs.Replies.{reply_text}
 use Rattle.mr_model.specs.World.{World, empty_world, Step, StepReply, Added, There, NoReplica, NoBatch, Made, Said}
 use Rattle.mr_model.specs.Honest.{IsWorldRun}
 use Rattle.mr_say.specs.CommandOutput.{no_memory_line}
-use Rattle.mr.specs.Script.{ReadsAsScript}
+use Rattle.mr.specs.RehearsalScript.{ReadsAsScript}
 
 -- the text of a reply
 abbrev pub step_reply_text : StepReply → Text
@@ -48,14 +48,14 @@ StopsRehearsing bytes held holds =
     ⊎ (Appends held holds no_memory_line ⊎ ((steps : List Step) × ReadsAsScript bytes (Ok steps) × StopsIn steps held holds))
 
 -- the bytes are all that the reader had, as far as that is known
-abbrev pub IsInput : Option Text → Text → Type 0
-IsInput None bytes = ⊤
-IsInput (Some known) bytes = bytes ≡ known
+abbrev pub IsKnownInput : Option Text → Text → Type 0
+IsKnownInput None bytes = ⊤
+IsKnownInput (Some known) bytes = bytes ≡ known
 
 -- the bytes are all that this reader had, where there is one
 abbrev pub GivesInput : {R : Type 0} → (R → Option Text) → Option R → Text → Type 0
 GivesInput remaining None bytes = ⊥
-GivesInput remaining (Some reader) bytes = IsInput (remaining reader) bytes
+GivesInput remaining (Some reader) bytes = IsKnownInput (remaining reader) bytes
 
 -- ---- command lines
 

@@ -3,7 +3,7 @@ use Rattle.std.specs.Prelude.{◌≡◌, true, Err}
 use Rattle.std.specs.Bool.{⊤}
 use Rattle.mr_model.specs.Texts.{Text}
 use Rattle.mr_service.specs.Stepping.{step_of}
-use Rattle.mr.specs.Script.{is_passed_over, IsScriptLine, IsBad, ReadsAsScript}
+use Rattle.mr.specs.RehearsalScript.{is_passed_over, IsScriptLine, IsBad, ReadsAsScript}
 use Rattle.mr.specs.declared.script.ScriptFault.{ScriptFault}
 use Rattle.mr.specs.declared.script.ScriptFault.TheVariants.{BadLine, OutOfMemory}
 use Rattle.mr.specs.declared.script.Line.{Line}

@@ -11,7 +11,7 @@ use Rattle.mr_model.specs.Step.{Command, Receive, BatchFor, step}
 use Rattle.mr_model.specs.Tables.{Stands}
 use Rattle.mr_store.specs.declared.keeper.Keeper.{Ghosts}
 use Rattle.mr_store.specs.KeeperCalls.{IsSettled}
-use Rattle.mr_service.specs.Asked.{command_of, local_of}
+use Rattle.mr_service.specs.Asked.{command_seen, local_of}
 use Rattle.mr_say.specs.CommandOutput.{PrintsReply, ok_line}
 use Rattle.mr_net.specs.Hosts.{IsPeer}
 use Rattle.mr_net.specs.Printed.{EndsExchange, EndsServing, TellsBadAddress}
@@ -52,7 +52,7 @@ file_for (kind.Export export) = Some export.batch
 file_for _ = None
 
 pub record IsOrderFor (task : Task) (Has : Text → Type 0) (order : Order) : Type 0 where
-  pub command : IsCommandWith task Has (command_of order.command)
+  pub command : IsCommandWith task Has (command_seen order.command)
   pub file : order.file ≡ file_for task
 
 -- the reply is printed, or goes to a file

@@ -6,7 +6,7 @@ ghost use Rattle.mr_model.specs.Texts.{Text};
 ghost use Rattle.mr_model.specs.View.{Question};
 ghost use Rattle.mr_model.specs.Replies as model;
 ghost use Rattle.mr_model.specs.Step.{Ask};
-ghost use Rattle.mr_service.specs.Asked.{command_of, reply_of};
+ghost use Rattle.mr_service.specs.Asked.{command_seen, reply_of};
 ghost use Rattle.mr.specs.CommandEffects.{IsCommandAsked, TakesAll, TellsAnswer, TellsFault, TellsLength, TellsWritten, greatest_file};
 ghost use Rattle.mr.specs.Rehearsed.{GivesInput};
 ghost use Rattle.mr.specs.Tasks.{IsAnswered, IsCommandFor, IsCommandWith, TellsTo, file_for};
@@ -67,10 +67,10 @@ fn answer<K: Keeper, W: Write>(
     out: &mut W,
 ) -> u8
     ensures told { (reply : model.Reply)
-        × IsCommandAsked K.Keeper service.old service.new (command_of order.now.command) reply
+        × IsCommandAsked K.Keeper service.old service.new (command_seen order.now.command) reply
         × TellsTo order.now.file reply (W.contents out.old) (W.contents out.new) result }
     ensures shown { K.is_clean service.new → K.is_open service.old → order.now.file ≡ None
-        → (room : Text) (question : Question) → command_of order.now.command ≡ Ask room question
+        → (room : Text) (question : Question) → command_seen order.now.command ≡ Ask room question
         → TellsAnswer (K.tables service.old) room question (W.contents out.old) (W.contents out.new) result }
 {
     let reply = ask(service, &order.command);
@@ -82,7 +82,7 @@ fn answer<K: Keeper, W: Write>(
 
 /// Gives the replica the command.
 fn ask<K: Keeper>(service: &mut Service<K>, command: &Command) -> Reply
-    ensures { IsCommandAsked K.Keeper service.old service.new (command_of command.now) (reply_of result) }
+    ensures { IsCommandAsked K.Keeper service.old service.new (command_seen command.now) (reply_of result) }
 {
     service.ask(command)
 }

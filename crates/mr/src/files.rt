@@ -3,7 +3,7 @@
 ghost use Rattle.std.specs.Prelude.{◌≡◌, ◌≢◌, ◌≤◌, IfOk, length};
 ghost use Rattle.std.specs.IoError.{error_kind};
 ghost use Rattle.std.specs.declared.io.ErrorKind.TheVariants.{OutOfMemory};
-ghost use Rattle.mr.specs.Rehearsed.{IsInput};
+ghost use Rattle.mr.specs.Rehearsed.{IsKnownInput};
 ghost use Rattle.mr.specs.CommandEffects.{TellsFault, greatest_file};
 
 use mr_say::{FAULT, NO_MEMORY, REFUSED, say};
@@ -42,7 +42,7 @@ pub(crate) fn create_file(rt: &HostRuntime, path: &str) -> Result<File, FileFaul
 pub(crate) fn read_limited<R: Read>(alloc: Global, reader: R) -> Result<Vec<u8>, FileFault>
 where
     R: Drop,
-    ensures all { IfOk result (λ bytes. IsInput (R.remaining reader) bytes.items) }
+    ensures all { IfOk result (λ bytes. IsKnownInput (R.remaining reader) bytes.items) }
     ensures limited { IfOk result (λ bytes. length bytes.items ≤ greatest_file) }
 {
     let mut bytes = Vec::new(alloc);

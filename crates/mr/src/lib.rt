@@ -4,7 +4,7 @@
 //! keeper over a file, or over a copy of one where a question is asked; that of `perform` (asking.rt) the same over any keeper and
 //! any writer: the command of just that task is given to the replica, and what is told is the reply of the definitions' step; that of
 //! `run_in_memory` is the headline over SQLite in memory, with no premise. Which lines a script may have, and the step that each
-//! stands for, is said in specs/Script.antt; `read_script` answers exactly these steps, or the number of the first bad line.
+//! stands for, is said in specs/RehearsalScript.antt; `read_script` answers exactly these steps, or the number of the first bad line.
 #![tactic(auto)]
 
 mod asking;

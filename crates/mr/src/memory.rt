@@ -3,7 +3,7 @@
 ghost use Rattle.std.specs.Prelude.{◌≡◌, ◌⊎◌, map, IfOk, IfErr};
 ghost use Rattle.mr_model.specs.Replica.{opening};
 ghost use Rattle.mr_model.specs.Tables.{Tables};
-ghost use Rattle.mr_service.specs.Asked.{command_of, reply_of};
+ghost use Rattle.mr_service.specs.Asked.{command_seen, reply_of};
 ghost use Rattle.mr_service.specs.Headline.{KeepsHeadline};
 
 use mr_base::{Refusal, ServerId};
@@ -21,7 +21,7 @@ pub fn run_in_memory(
 ) -> Result<Vec<Reply>, Refusal>
     // The headline of the replica that knows nothing yet, with no premise.
     ensures headline { IfOk result
-        (λ replies. (after : Tables) × KeepsHeadline (opening server primary) (map command_of commands.now) (map reply_of replies.items) after) }
+        (λ replies. (after : Tables) × KeepsHeadline (opening server primary) (map command_seen commands.now) (map reply_of replies.items) after) }
     ensures cause { IfErr result (λ e. (e ≡ Refusal.OutOfMemory) ⊎ (e ≡ Refusal.Store)) }
 {
     let keeper = SqlKeeper::open_in_memory(alloc, server, primary)?;

@@ -4,7 +4,7 @@ ghost use Rattle.std.specs.Prelude.{◌≡◌, ◌⊎◌, ℕ, List, ◌++◌, m
 ghost use Rattle.std.specs.Io.KnownBytes.{Appends};
 ghost use Rattle.mr_service.specs.Stepping.{step_of, step_reply_of};
 ghost use Rattle.mr_say.specs.CommandOutput.{no_memory_line};
-ghost use Rattle.mr.specs.Rehearsed.{step_reply_text, Prints, Rehearses, StopsRehearsing, StopsIn, IsInput, bad_line};
+ghost use Rattle.mr.specs.Rehearsed.{step_reply_text, Prints, Rehearses, StopsRehearsing, StopsIn, IsKnownInput, bad_line};
 
 use crate::files::{read_limited, say_fault};
 use crate::rehearsal::step_reply_text;
@@ -21,8 +21,8 @@ pub fn rehearse<R: Read, W: Write>(alloc: Global, reader: R, out: &mut W) -> u8
 where
     R: Drop,
     ensures within { (result ≡ 0) ⊎ (result ≡ 1) ⊎ (result ≡ 3) }
-    ensures done { result ≡ 0 → (bytes : List ℕ) × IsInput (R.remaining reader) bytes × Rehearses bytes (W.contents out.old) (W.contents out.new) }
-    ensures stopped { result ≡ 1 → (bytes : List ℕ) × IsInput (R.remaining reader) bytes × StopsRehearsing bytes (W.contents out.old) (W.contents out.new) }
+    ensures done { result ≡ 0 → (bytes : List ℕ) × IsKnownInput (R.remaining reader) bytes × Rehearses bytes (W.contents out.old) (W.contents out.new) }
+    ensures stopped { result ≡ 1 → (bytes : List ℕ) × IsKnownInput (R.remaining reader) bytes × StopsRehearsing bytes (W.contents out.old) (W.contents out.new) }
 {
     match read_limited(alloc, reader) {
         Ok(bytes) => run_script(alloc, bytes.as_slice(), out),

@@ -3,7 +3,7 @@
 ghost use Rattle.std.specs.Prelude.{◌≡◌, MatchOption, MatchResult, IfOk, Ok, map};
 ghost use Rattle.mr_model.specs.World as model;
 ghost use Rattle.mr_service.specs.Stepping.{step_of};
-ghost use Rattle.mr.specs.Script.{is_passed_over, is_plain, IsScriptLine, ReadsAsScript, ReadsOneWay};
+ghost use Rattle.mr.specs.RehearsalScript.{is_passed_over, is_plain, IsScriptLine, ReadsAsScript, ReadsOneWay};
 ghost use Rattle.mr.specs.ScriptRead.{IsLineAs, IsFaultOf};
 
 use crate::lines::read_step;

@@ -2,7 +2,7 @@ ghost use Rattle.std.specs.Prelude.{◌≡◌, List, ℕ, not, MatchOption, IfOk
 ghost use Rattle.std.specs.List.{list_all};
 ghost use Rattle.mr_model.specs.Texts.{is_space};
 ghost use Rattle.mr_service.specs.Asked.{words_of, submission_of};
-ghost use Rattle.mr.specs.Script.{is_word};
+ghost use Rattle.mr.specs.RehearsalScript.{is_word};
 ghost use Rattle.mr.specs.LineSteps.{cut_first_word, cut_server, cut_batch, byte_count_in, cut_slot, cut_slots, number_of_slots, submission_cut};
 
 use mr_base::{ServerId, read_number};

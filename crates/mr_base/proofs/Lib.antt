@@ -1,9 +1,9 @@
-pub mod Parts
+pub mod EqualSlots
 pub mod Refusing
-pub mod Rising
+pub mod RisingServers
 pub mod Readers
 pub mod Decimals
 pub mod IdTexts
 pub mod DayTexts
 pub mod TimeTexts
-pub mod DayNumbers
+pub mod CalendarDays

@@ -1,7 +1,7 @@
 -- What calls answer: a value or a refusal, and want of memory in place of either.
 use Rattle.std.specs.Prelude.{◌≡◌, ◌⊎◌, Bool, List, [], ◌∷◌, Result, Ok, Err, if◌then◌else◌}
 use Rattle.mr_model.specs.Refusals as model
-use Rattle.mr_base.specs.Refusals.{refusal_of}
+use Rattle.mr_base.specs.RefusalViews.{refusal_of}
 use Rattle.mr_base.specs.declared.refusals.Refusal.{Refusal}
 use Rattle.mr_base.specs.declared.refusals.Refusal.TheVariants.{OutOfMemory}
 
@@ -20,6 +20,6 @@ abbrev pub ok_if : {T : Type 0} → Bool → T → Refusal → Result T Refusal
 ok_if test value refusal = if test then Ok value else Err refusal
 
 -- the value, or the refusal of the first fault in the list that is there
-abbrev pub unless : {T : Type 0} → List (Bool × Refusal) → T → Result T Refusal
-unless [] value = Ok value
-unless (fault ∷ faults) value = if fault.0 then Err fault.1 else unless faults value
+abbrev pub unless_faulty : {T : Type 0} → List (Bool × Refusal) → T → Result T Refusal
+unless_faulty [] value = Ok value
+unless_faulty (fault ∷ faults) value = if fault.0 then Err fault.1 else unless_faulty faults value

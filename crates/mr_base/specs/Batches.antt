@@ -12,15 +12,15 @@ abbrev pub item_of : Item → model.Item
 item_of (W write) = model.W write
 item_of (C seq id) = model.C seq id
 
-abbrev pub ending_of : Ending → model.Ending
-ending_of Complete = model.Complete
-ending_of More = model.More
-ending_of Cut = model.Cut
+abbrev pub ending_seen : Ending → model.Ending
+ending_seen Complete = model.Complete
+ending_seen More = model.More
+ending_seen Cut = model.Cut
 
 -- who made a batch, and the primary
 abbrev pub header_of : Option (ℕ × ℕ) → Option model.Header
 header_of header = option_map (λ h. record { from = h.0; primary = h.1 }) header
 
-abbrev pub batch_of : Version → Option (ℕ × ℕ) → List Item → Ending → model.Batch
-batch_of version header items ending =
-    record { version = version_of version; header = header_of header; items = map item_of items; ending = ending_of ending }
+abbrev pub batch_seen : Version → Option (ℕ × ℕ) → List Item → Ending → model.Batch
+batch_seen version header items ending =
+    record { version = version_of version; header = header_of header; items = map item_of items; ending = ending_seen ending }

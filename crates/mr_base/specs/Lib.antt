@@ -1,6 +1,6 @@
--- A reader of the contracts trusts Refusals, Answers, Ids, Readings, Limits, Actions, Versions, Batches and, of Positions, counts_of.
--- The rest of Positions serves private clauses and proofs alone.
-pub mod Refusals
+-- A reader of the contracts trusts RefusalViews, Answers, Ids, Readings, Limits, Actions, Versions, Batches and, of PositionCounts,
+-- counts_of_pairs. The rest of PositionCounts serves private clauses and proofs alone.
+pub mod RefusalViews
 pub mod Answers
 pub mod Ids
 pub mod Readings
@@ -8,4 +8,4 @@ pub mod Limits
 pub mod Actions
 pub mod Versions
 pub mod Batches
-pub mod Positions
+pub mod PositionCounts

@@ -29,13 +29,13 @@ pub struct Batch {
 impl Model for Batch {
     ghost use Rattle.std.specs.Prelude.{IsTrue};
     ghost use Rattle.mr_model.specs.Exchange.{Batch as BatchOfLines, is_batch};
-    ghost use Rattle.mr_base.specs.Batches.{batch_of};
+    ghost use Rattle.mr_base.specs.Batches.{batch_seen};
 
     ghost Value = { BatchOfLines };
 
-    ghost view = { λ b. batch_of b.version b.header b.items.items b.ending };
+    ghost view = { λ b. batch_seen b.version b.header b.items.items b.ending };
 
-    ghost invariant = { λ b. IsTrue (is_batch (batch_of b.version b.header b.items.items b.ending)) };
+    ghost invariant = { λ b. IsTrue (is_batch (batch_seen b.version b.header b.items.items b.ending)) };
 }
 
 impl Batch {
@@ -44,7 +44,7 @@ impl Batch {
     ghost use Rattle.mr_model.specs.Exchange.{no_lines, is_item, is_batch};
     ghost use Rattle.mr_base.specs.Answers.{ok_if};
     ghost use Rattle.mr_base.specs.Versions.{version_of};
-    ghost use Rattle.mr_base.specs.Batches.{item_of, batch_of};
+    ghost use Rattle.mr_base.specs.Batches.{item_of, batch_seen};
 
     /// The batch of these items, which `from` made, if this version of the exchange text can say each of them. The second can say
     /// all.
@@ -56,7 +56,7 @@ impl Batch {
         ending: Ending,
     ) -> Result<Batch, Refusal>
         ensures { result ≡ ok_if (list_all (is_item (version_of version)) (map item_of items.items))
-            (batch_of version (Some (from, primary)) items.items ending) Refusal.NeedsVersion2 }
+            (batch_seen version (Some (from, primary)) items.items ending) Refusal.NeedsVersion2 }
     {
         if !are_in_version(version, items.as_slice()) {
             return Err(Refusal::NeedsVersion2);
@@ -73,7 +73,7 @@ impl Batch {
         ending: Ending,
     ) -> Batch
         requires { IsTrue (list_all (is_item (version_of version)) (map item_of items.items)) }
-        ensures { result ≡ batch_of version (Some (from, primary)) items.items ending }
+        ensures { result ≡ batch_seen version (Some (from, primary)) items.items ending }
     {
         from.number();
         primary.number();

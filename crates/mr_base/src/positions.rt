@@ -3,7 +3,7 @@ ghost use Rattle.std.specs.List.{list_all};
 ghost use Rattle.mr_model.specs.Texts.{only_if};
 ghost use Rattle.mr_model.specs.Writes.{is_server, is_count};
 ghost use Rattle.mr_model.specs.Positions.{Position as PositionOfReplica, is_position, are_rising};
-ghost use Rattle.mr_base.specs.Positions.{counts_of, are_rising_above};
+ghost use Rattle.mr_base.specs.PositionCounts.{counts_of_pairs, are_rising_above};
 ghost use Rattle.mr_base.specs.Versions.{version_of};
 
 use crate::{ServerId, Version};
@@ -28,7 +28,7 @@ impl Model for Position {
       server = p.server;
       primary = p.primary;
       commits = p.commits;
-      counts = counts_of p.counts.items;
+      counts = counts_of_pairs p.counts.items;
     } };
 
     ghost invariant = { λ p. IsTrue (is_position (record {
@@ -36,7 +36,7 @@ impl Model for Position {
       server = p.server;
       primary = p.primary;
       commits = p.commits;
-      counts = counts_of p.counts.items;
+      counts = counts_of_pairs p.counts.items;
     })) };
 }
 
@@ -54,7 +54,7 @@ impl Position {
           server = server;
           primary = primary;
           commits = commits;
-          counts = counts_of counts.items;
+          counts = counts_of_pairs counts.items;
         } in result ≡ only_if (is_position p) p }
     {
         server.number();
@@ -83,7 +83,7 @@ impl Position {
 }
 
 fn counts_are_within_limits(counts: &[(ServerId, u32)]) -> bool
-    ensures { result ≡ list_all (λ c. is_server c.server && is_count c.count) (counts_of counts.now) }
+    ensures { result ≡ list_all (λ c. is_server c.server && is_count c.count) (counts_of_pairs counts.now) }
 {
     for (server, n) in counts {
         server.number();
@@ -95,7 +95,7 @@ fn counts_are_within_limits(counts: &[(ServerId, u32)]) -> bool
 }
 
 fn servers_rise(counts: &[(ServerId, u32)]) -> bool
-    ensures { result ≡ are_rising (counts_of counts.now) }
+    ensures { result ≡ are_rising (counts_of_pairs counts.now) }
 {
     match counts.split_first() {
         Some((first, others)) => rise_from(first.0, others),
@@ -105,7 +105,7 @@ fn servers_rise(counts: &[(ServerId, u32)]) -> bool
 
 // Whether the servers rise, the first of them above this one.
 fn rise_from(first: ServerId, counts: &[(ServerId, u32)]) -> bool
-    ensures { result ≡ are_rising_above first (counts_of counts.now) }
+    ensures { result ≡ are_rising_above first (counts_of_pairs counts.now) }
 {
     let mut last = first;
     for (server, _) in counts {

@@ -1,6 +1,6 @@
 ghost use Rattle.std.specs.Prelude.{◌≡◌, Option, Some, None};
 ghost use Rattle.mr_model.specs.Refusals.{number_of, name_of, line_of};
-ghost use Rattle.mr_base.specs.Refusals.{refusal_of};
+ghost use Rattle.mr_base.specs.RefusalViews.{refusal_of};
 ghost use Rattle.mr_base.specs.declared.refusals.Refusal.TheVariants.{OutOfMemory};
 
 use std::alloc::{AllocError, AllocFailed};

@@ -20,19 +20,19 @@ use Rattle.sqlite.specs.Does.{Does, OnRows}
 use Rattle.sqlite.specs.Kind.TheVariants.{Integer}
 use Rattle.mr_model.specs.Replica.{is_among}
 use Rattle.mr_model.specs.Tables.{MetaRow}
-use Rattle.mr_model.specs.First.{WriteRow, UndoRow}
+use Rattle.mr_model.specs.First.{WriteRow, FirstUndoRow}
 use Rattle.mr_tables.proofs.Putting.{id_order, number_order}
 use Rattle.mr_rows.specs.Meaning.{passes}
 use Rattle.mr_rows.specs.Schema.{our_schema, first_schema}
 use Rattle.mr_rows.specs.RowCells.{place_number}
 use Rattle.mr_rows.specs.Form.{Form, room_form, vector_form, booking_form, error_form}
-use Rattle.mr_rows.proofs.Texts.{put_meta_terms, meta_key_tests}
+use Rattle.mr_rows.proofs.StatementMeaning.{put_meta_terms, meta_key_tests}
 use Rattle.mr_rows.proofs.ValueLemmas.{equal_nat, equal_apart, and_true, id_test, among_one, one_among, clash_one, clash_two, cast_null, cast_int}
 use Rattle.mr_rows.proofs.TableLemmas.{Facts}
 use Rattle.mr_rows.proofs.TableFacts as ours
-use Rattle.mr_first.specs.FirstCells.{write_in, undo_in}
+use Rattle.mr_first.specs.FirstCells.{write_row_from, undo_in}
 use Rattle.mr_first.specs.Forms.{first_meta_form, write_form, undo_form}
-use Rattle.mr_first.proofs.Texts.{put_write_terms, write_key_tests, put_undo_terms, undo_key_tests}
+use Rattle.mr_first.proofs.FirstStatementMeaning.{put_write_terms, write_key_tests, put_undo_terms, undo_key_tests}
 
 -- ---- tables that are in both schemas, at the same place: what is computed of the table alone holds under each
 
@@ -151,7 +151,7 @@ write_facts = record {
   key_cells = λ id. Int (pos id.server) ∷ Int (pos id.n) ∷ [];
   key_tests = write_key_tests;
   has_key = λ id w. is_among (write_form.key w) (id ∷ []);
-  finds = λ id r is. ap (passes write_key_tests (Int (pos id.server) ∷ Int (pos id.n) ∷ [])) is ∙ id_test (write_in r).server (write_in r).n id;
+  finds = λ id r is. ap (passes write_key_tests (Int (pos id.server) ∷ Int (pos id.n) ∷ [])) is ∙ id_test (write_row_from r).server (write_row_from r).n id;
   same_key = λ id w h. among_one (write_form.key w) id h;
   own_key = λ x y same. one_among (write_form.key y) (write_form.key x) same;
   terms = put_write_terms;
@@ -167,7 +167,7 @@ write_facts = record {
   on_taken = λ limit mode params db text q out done. done;
 }
 
-pub cast_undo : (v : Value) (u : UndoRow) → cast Integer v ≡ v → cast_row undo_form.table (v ∷ undo_form.cells u) ≡ v ∷ undo_form.cells u
+pub cast_undo : (v : Value) (u : FirstUndoRow) → cast Integer v ≡ v → cast_row undo_form.table (v ∷ undo_form.cells u) ≡ v ∷ undo_form.cells u
 cast_undo v u same = rw (same, cast_int (pos u.server), cast_int (pos u.n), cast_int (place_number u.place))
 
 unfoldable pub undo_facts : Facts first_schema undo_form

@@ -1,6 +1,6 @@
-pub mod Texts
+pub mod FirstStatementMeaning
 pub mod Facts
-pub mod Steps
+pub mod FirstSteps
 pub mod Statements
 pub mod Selects
 pub mod ClearLemmas
@@ -8,5 +8,5 @@ pub mod MakeLemmas
 pub mod ReadLemmas
 pub mod PairLemmas
 pub mod Held
-pub mod Putting
+pub mod FilledDatabase
 pub mod MoveLemmas

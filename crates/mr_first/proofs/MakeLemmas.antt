@@ -22,7 +22,7 @@ use Rattle.mr_first.specs.FirstDatabase.{IsFirst, first_in}
 use Rattle.mr_first.specs.MoveUpSteps.{IsExtended, IsWidened, IsEmptied, laid_out}
 
 -- a text that makes a table under a schema
-abbrev MakesTable : Schema → List ℕ → Table → Type 0
+abbrev pub MakesTable : Schema → List ℕ → Table → Type 0
 MakesTable schema text table =
     (command_of (understood schema text) ≡ CreateTable) × IsPlain (understood schema text) × (statement_of text (understood schema text) ≡ text) × (table_defined_by text ≡ Ok table)
     × (lacks_sequence (created schema table) ≡ false)
@@ -50,21 +50,21 @@ makes schema text table old new (Ok count) fact has h =
       within = h.1.mode;
     }
 
-log_made : MakesTable first_schema log_text log_table
+pub log_made : MakesTable first_schema log_text log_table
 unfolding understood everything
 log_made = (refl, (refl, refl), refl, refl, refl)
 
 pub makes_log : (old new : State) (r : Result ℕ Error) → old.now.schema ≡ first_schema → ExecutesInside 0 log_text [] old new r → OnOk r (IsExtended first_schema log_table old new)
 makes_log old new r = makes first_schema log_text log_table old new r log_made
 
-cancelled_made : MakesTable with_log cancelled_text cancelled_table
+pub cancelled_made : MakesTable with_log cancelled_text cancelled_table
 unfolding understood everything
 cancelled_made = (refl, (refl, refl), refl, refl, refl)
 
 pub makes_cancelled : (old new : State) (r : Result ℕ Error) → old.now.schema ≡ with_log → ExecutesInside 0 cancelled_text [] old new r → OnOk r (IsExtended with_log cancelled_table old new)
 makes_cancelled old new r = makes with_log cancelled_text cancelled_table old new r cancelled_made
 
-cancel_made : MakesTable with_cancelled cancel_text cancel_table
+pub cancel_made : MakesTable with_cancelled cancel_text cancel_table
 unfolding understood everything
 cancel_made = (refl, (refl, refl), refl, refl, refl)
 

@@ -7,13 +7,13 @@ use Rattle.sqlite_trees.specs.Tree.{Trees}
 use Rattle.mr_model.specs.Writes.{Id, Write}
 use Rattle.mr_model.specs.Replica.{Replica}
 use Rattle.mr_model.specs.Tables.{MetaRow, LogRow, kept}
-use Rattle.mr_model.specs.First.{WriteRow, UndoRow, FirstTables, write_row, undo_row, StandsFirst, undo_of, moved_row, moved_log, moved}
+use Rattle.mr_model.specs.First.{WriteRow, FirstUndoRow, FirstTables, write_row, undo_row, StandsFirst, undo_of, moved_row, moved_log, moved}
 use Rattle.mr_model.specs.Dropped.{Has}
 use Rattle.mr_model.proofs.Members.{find_one, all_has, has_all}
 use Rattle.mr_tables.specs.Change.{put_all, id_before, log_id}
 use Rattle.mr_tables.proofs.Putting.{IsOrder, InOrder, OneAKey, one_a_key, id_order, in_order_same}
-use Rattle.mr_rows.proofs.KeyOrder.{Apart, ordered_in_order, ordered_has, has_ordered}
-use Rattle.mr_first.specs.FirstCells.{write_in, undo_in}
+use Rattle.mr_rows.proofs.SortedByKey.{Apart, ordered_in_order, ordered_has, has_ordered}
+use Rattle.mr_first.specs.FirstCells.{write_row_from, undo_in}
 use Rattle.mr_first.specs.Forms.{write_id, undo_id}
 use Rattle.mr_first.specs.FirstDatabase.{first_in}
 use Rattle.mr_first.specs.MovedUp.{ArePaired}
@@ -22,16 +22,16 @@ use Rattle.mr_first.specs.MoveUpSteps.{filled}
 -- ---- pairs
 
 -- as many rows as have a partner at their place
-abbrev pub joined : List WriteRow → List UndoRow → List LogRow
+abbrev pub joined : List WriteRow → List FirstUndoRow → List LogRow
 joined [] us = []
 joined (w ∷ ws) [] = []
 joined (w ∷ ws) (u ∷ us) = moved_row w u ∷ joined ws us
 
 -- a row's partner has its id
-partner : (w : WriteRow) (u : UndoRow) → write_id w ≡ undo_id u → (u.server == w.server && u.n == w.n) ≡ true
+partner : (w : WriteRow) (u : FirstUndoRow) → write_id w ≡ undo_id u → (u.server == w.server && u.n == w.n) ≡ true
 partner w u same = and_from (u.server == w.server) (u.n == w.n) (eq-eqb u.server w.server (sym (ap (λ (i : Id). i.server) same))) (eq-eqb u.n w.n (sym (ap (λ (i : Id). i.n) same)))
 
-partners_id : (w : WriteRow) (u : UndoRow) → (u.server == w.server && u.n == w.n) ≡ true → write_id w ≡ undo_id u
+partners_id : (w : WriteRow) (u : FirstUndoRow) → (u.server == w.server && u.n == w.n) ≡ true → write_id w ≡ undo_id u
 partners_id w u h =
     let both = and_parts (u.server == w.server) (u.n == w.n) h in
     let s : u.server ≡ w.server = eqb-true u.server w.server both.0 in
@@ -39,7 +39,7 @@ partners_id w u h =
     λ i. record { server = sym s i; n = sym n i }
 
 -- rows that are paired, among all of the other log
-joined_is : (ws : List WriteRow) (us all : List UndoRow) → OneAKey undo_id all → ((u : UndoRow) → Has u us → Has u all) → map write_id ws ≡ map undo_id us → joined ws us ≡ moved_log ws all
+joined_is : (ws : List WriteRow) (us all : List FirstUndoRow) → OneAKey undo_id all → ((u : FirstUndoRow) → Has u us → Has u all) → map write_id ws ≡ map undo_id us → joined ws us ≡ moved_log ws all
 joined_is [] us all one inside same = refl
 joined_is (w ∷ ws) [] all one inside same = absurd (cc)
 joined_is (w ∷ ws) (u ∷ us) all one inside same =
@@ -59,13 +59,13 @@ undo_apart : (trees : Trees) → OneAKey undo_id (first_in trees).undo
 unfolding first_in
 undo_apart trees = one_a_key id_before undo_id id_order _ (ordered_in_order id_before undo_id id_order (map undo_in (trees 8)))
 
-pub paired_is : (ws : List WriteRow) (us : List UndoRow) (trees : Trees) → ArePaired ws us → us ≡ (first_in trees).undo → joined ws us ≡ moved_log ws us
+pub paired_is : (ws : List WriteRow) (us : List FirstUndoRow) (trees : Trees) → ArePaired ws us → us ≡ (first_in trees).undo → joined ws us ≡ moved_log ws us
 paired_is ws us trees paired is = joined_is ws us us (subst (λ rows. OneAKey undo_id rows) (sym is) (undo_apart trees)) (λ u h. h) paired
 
 -- ---- pairs one after the other
 
 -- what is at a place of both, of rows of one write each
-pub paired_at : (ws : List WriteRow) (us : List UndoRow) (i : ℕ) (w : WriteRow) (u : UndoRow) → i < length ws → length ws ≡ length us → w ≡ get_or ws i w → u ≡ get_or us i u → ArePaired ws us → write_id w ≡ undo_id u
+pub paired_at : (ws : List WriteRow) (us : List FirstUndoRow) (i : ℕ) (w : WriteRow) (u : FirstUndoRow) → i < length ws → length ws ≡ length us → w ≡ get_or ws i w → u ≡ get_or us i u → ArePaired ws us → write_id w ≡ undo_id u
 paired_at [] us i w u low many at_w at_u same = absurd (omega (arith, low))
 paired_at (x ∷ ws) [] i w u low many at_w at_u same = absurd (cc)
 paired_at (x ∷ ws) (y ∷ us) zero w u low many at_w at_u same = let head : write_id x ≡ undo_id y = cc in ap write_id at_w ∙ head ∙ ap undo_id (sym at_u)
@@ -75,7 +75,7 @@ paired_at (x ∷ ws) (y ∷ us) (suc i) w u low many at_w at_u same =
     paired_at ws us i w u (omega (arith, low)) lengths at_w at_u rest
 
 -- one pair more
-pub more_paired : (ws : List WriteRow) (us : List UndoRow) (i : ℕ) (w : WriteRow) (u : UndoRow) → i < length ws → length ws ≡ length us → w ≡ get_or ws i w → u ≡ get_or us i u → write_id w ≡ undo_id u
+pub more_paired : (ws : List WriteRow) (us : List FirstUndoRow) (i : ℕ) (w : WriteRow) (u : FirstUndoRow) → i < length ws → length ws ≡ length us → w ≡ get_or ws i w → u ≡ get_or us i u → write_id w ≡ undo_id u
     → ArePaired (take i ws) (take i us) → ArePaired (take (suc i) ws) (take (suc i) us)
 more_paired [] us i w u low many at_w at_u here same = absurd (omega (arith, low))
 more_paired (x ∷ ws) [] i w u low many at_w at_u here same = absurd (cc)
@@ -87,7 +87,7 @@ more_paired (x ∷ ws) (y ∷ us) (suc i) w u low many at_w at_u here same =
     let more = more_paired ws us i w u (omega (arith, low)) lengths at_w at_u here rest in
     λ j. head j ∷ more j
 
-pub more_joined : (ws : List WriteRow) (us : List UndoRow) (i : ℕ) (w : WriteRow) (u : UndoRow) → i < length ws → length ws ≡ length us → w ≡ get_or ws i w → u ≡ get_or us i u
+pub more_joined : (ws : List WriteRow) (us : List FirstUndoRow) (i : ℕ) (w : WriteRow) (u : FirstUndoRow) → i < length ws → length ws ≡ length us → w ≡ get_or ws i w → u ≡ get_or us i u
     → joined (take (suc i) ws) (take (suc i) us) ≡ joined (take i ws) (take i us) ++ moved_row w u ∷ []
 more_joined [] us i w u low many at_w at_u = absurd (omega (arith, low))
 more_joined (x ∷ ws) [] i w u low many at_w at_u = absurd (cc)
@@ -116,7 +116,7 @@ put_into_empty {R} {K} before key o rows up =
 
 -- ---- the log is in order
 
-log_in_order : (ws : List WriteRow) (us : List UndoRow) → InOrder id_before write_id ws → InOrder id_before log_id (moved_log ws us)
+log_in_order : (ws : List WriteRow) (us : List FirstUndoRow) → InOrder id_before write_id ws → InOrder id_before log_id (moved_log ws us)
 log_in_order [] us s = tt
 log_in_order (w ∷ ws) us s = go (undo_of w us) (log_in_order ws us s.1)
   where
@@ -124,17 +124,17 @@ log_in_order (w ∷ ws) us s = go (undo_of w us) (log_in_order ws us s.1)
     above [] h = tt
     above (x ∷ xs) h = pick (undo_of x us) (above xs h.1)
       where
-        pick : (o : Option UndoRow) → AllByRecursion (λ y. id_before (write_id w) (log_id y) ≡ true) (moved_log xs us) → AllByRecursion (λ y. id_before (write_id w) (log_id y) ≡ true) (cons_option (option_map (moved_row x) o) (moved_log xs us))
+        pick : (o : Option FirstUndoRow) → AllByRecursion (λ y. id_before (write_id w) (log_id y) ≡ true) (moved_log xs us) → AllByRecursion (λ y. id_before (write_id w) (log_id y) ≡ true) (cons_option (option_map (moved_row x) o) (moved_log xs us))
         pick None more = more
         pick (Some u) more = (h.0, more)
 
-    go : (o : Option UndoRow) → InOrder id_before log_id (moved_log ws us) → InOrder id_before log_id (cons_option (option_map (moved_row w) o) (moved_log ws us))
+    go : (o : Option FirstUndoRow) → InOrder id_before log_id (moved_log ws us) → InOrder id_before log_id (cons_option (option_map (moved_row w) o) (moved_log ws us))
     go None more = more
     go (Some u) more = (above ws s.0, more)
 
 writes_in_order : (trees : Trees) → InOrder id_before write_id (first_in trees).write_log
 unfolding first_in
-writes_in_order trees = ordered_in_order id_before write_id id_order (map write_in (trees 6))
+writes_in_order trees = ordered_in_order id_before write_id id_order (map write_row_from (trees 6))
 
 -- the first tables with their own row of `meta` and their log are the moved ones
 pub filled_is : (trees : Trees) (m : MetaRow) (log : List LogRow) → m ≡ (first_in trees).meta → log ≡ moved_log (first_in trees).write_log (first_in trees).undo → filled m log (first_in trees) ≡ moved (first_in trees)

@@ -14,10 +14,10 @@ use Rattle.sqlite.specs.Effect.{Database}
 use Rattle.sqlite.specs.State.{State}
 use Rattle.sqlite.proofs.StateLemmas.{survives_weaker}
 use Rattle.mr_base.specs.Ids.{id_cmp}
-use Rattle.mr_replay.proofs.Ids.{ids_total}
+use Rattle.mr_replay.proofs.IdKeys.{ids_total}
 use Rattle.mr_model.specs.Writes.{Id}
 use Rattle.mr_model.specs.Tables.{MetaRow}
-use Rattle.mr_model.specs.First.{WriteRow, UndoRow}
+use Rattle.mr_model.specs.First.{WriteRow, FirstUndoRow}
 use Rattle.mr_tables.specs.Change.{id_before, put_all}
 use Rattle.mr_tables.proofs.Putting.{id_order}
 use Rattle.mr_rows.specs.RowCells.{meta_in}
@@ -26,13 +26,13 @@ use Rattle.mr_rows.specs.Form.{Form}
 use Rattle.mr_rows.specs.Database.{IsHeld, in_order, tables_in}
 use Rattle.mr_rows.specs.Shown.{columns_from, IsShownAs, AreStoredAs, IsMeta, listed}
 use Rattle.mr_rows.specs.Reads.{IsPlacedIn, first_of}
-use Rattle.mr_rows.proofs.KeyOrder.{ordered_same, ordered_in_order}
+use Rattle.mr_rows.proofs.SortedByKey.{ordered_same, ordered_in_order}
 use Rattle.mr_rows.proofs.TableLemmas.{Facts, plain_apart}
 use Rattle.mr_rows.proofs.SortLemmas.{table_is, rising, id_less}
 use Rattle.mr_rows.proofs.FirstLemmas.{meta_is}
 use Rattle.mr_rows.proofs.FoundLemmas.{stored_so, meta_is_found}
 use Rattle.mr_rows.proofs.QueryLemmas.{told_where, made_where, then_where}
-use Rattle.mr_first.specs.FirstCells.{write_in, undo_in}
+use Rattle.mr_first.specs.FirstCells.{write_row_from, undo_in}
 use Rattle.mr_first.specs.Forms.{write_id, undo_id, first_meta_form, write_form, undo_form}
 use Rattle.mr_first.specs.FirstDatabase.{IsFirst, IsKeptFirst, ReadsFirst, LooksFirst, first_in}
 use Rattle.mr_first.proofs.Facts.{meta_facts, write_facts, undo_facts}
@@ -93,11 +93,11 @@ sorted_is key rows shown out read same sorted =
     (rising id_before key (λ a b. id_cmp (key a) (key b)) (λ a b. id_less (key a) (key b)) _ (ordered_in_order id_before key id_order rows)) read same sorted
 
 pub writes_read : (trees : Trees) (shown : List Row) (out : List WriteRow) → IsHeld write_form (trees 6) → IsPermutation (map (columns_from 1 8) (trees 6)) shown
-    → IsPermutation (map (λ row. write_in (Null ∷ row)) shown) out → IsSorted (λ a b. id_cmp (write_id a) (write_id b)) out → out ≡ (first_in trees).write_log
+    → IsPermutation (map (λ row. write_row_from (Null ∷ row)) shown) out → IsSorted (λ a b. id_cmp (write_id a) (write_id b)) out → out ≡ (first_in trees).write_log
 unfolding first_in
-writes_read trees shown out held moved same sorted = sorted_is write_id (map write_in (trees 6)) _ out (shown_is write_form write_facts (columns_from 1 8) (trees 6) shown (λ r. refl) held moved) same sorted
+writes_read trees shown out held moved same sorted = sorted_is write_id (map write_row_from (trees 6)) _ out (shown_is write_form write_facts (columns_from 1 8) (trees 6) shown (λ r. refl) held moved) same sorted
 
-pub undo_read : (trees : Trees) (shown : List Row) (out : List UndoRow) → IsHeld undo_form (trees 8) → IsPermutation (map (columns_from 1 3) (trees 8)) shown
+pub undo_read : (trees : Trees) (shown : List Row) (out : List FirstUndoRow) → IsHeld undo_form (trees 8) → IsPermutation (map (columns_from 1 3) (trees 8)) shown
     → IsPermutation (map (λ row. undo_in (Null ∷ row)) shown) out → IsSorted (λ a b. id_cmp (undo_id a) (undo_id b)) out → out ≡ (first_in trees).undo
 unfolding first_in
 undo_read trees shown out held moved same sorted = sorted_is undo_id (map undo_in (trees 8)) _ out (shown_is undo_form undo_facts (columns_from 1 3) (trees 8) shown (λ r. refl) held moved) same sorted

@@ -7,10 +7,10 @@ use Rattle.sqlite.specs.State.{State, Shown}
 use Rattle.mr_rows.specs.Schema.{first_schema}
 use Rattle.mr_rows.specs.Form.{room_form, vector_form, booking_form, error_form}
 use Rattle.mr_rows.specs.Shown.{columns_from}
-use Rattle.mr_rows.proofs.Texts.{all_meta_text, meta_columns, meta_names, all_room_text, room_columns, room_names, all_vector_text, vector_columns, vector_names, all_booking_text, booking_columns, booking_names, all_error_text, error_columns, error_names}
+use Rattle.mr_rows.proofs.StatementMeaning.{all_meta_text, meta_columns, meta_names, all_room_text, room_columns, room_names, all_vector_text, vector_columns, vector_names, all_booking_text, booking_columns, booking_names, all_error_text, error_columns, error_names}
 use Rattle.mr_rows.proofs.SelectLemmas.{sees}
 use Rattle.mr_first.specs.Forms.{first_meta_form, write_form, undo_form}
-use Rattle.mr_first.proofs.Texts.{all_meta_is, all_room_is, all_vector_is, all_write_text, write_columns, write_names, all_write_is, all_undo_text, undo_columns, undo_names, all_undo_is, all_booking_is, all_error_is}
+use Rattle.mr_first.proofs.FirstStatementMeaning.{all_meta_is, all_room_is, all_vector_is, all_write_text, write_columns, write_names, all_write_is, all_undo_text, undo_columns, undo_names, all_undo_is, all_booking_is, all_error_is}
 use Rattle.mr_first.proofs.Facts.{meta_facts, room_facts, vector_facts, write_facts, undo_facts, booking_facts, error_facts}
 
 pub sees_meta : (old new : State) (rows : List Row) → old.now.schema ≡ first_schema → Shown all_meta_text [] old new rows → IsPermutation (map (columns_from 1 7) (old.now.trees 0)) rows

@@ -3,7 +3,7 @@ use Rattle.std.specs.Prelude.{pos, [], ◌∷◌}
 use Rattle.sqlite_value.specs.declared.value.Value.TheVariants.{Int, Text}
 use Rattle.sqlite_value.specs.Order.{Row, column, bytes}
 use Rattle.mr_model.specs.Tables.{MetaRow}
-use Rattle.mr_model.specs.First.{WriteRow, UndoRow}
+use Rattle.mr_model.specs.First.{WriteRow, FirstUndoRow}
 use Rattle.mr_rows.specs.RowCells.{nat_of, whole_of, place_number, place_in}
 
 -- the second cell is the number of the schema
@@ -13,8 +13,8 @@ first_meta_cells m = Int (pos 1) ∷ Int (pos 1) ∷ Int (pos m.server) ∷ Int 
 abbrev pub write_cells : WriteRow → Row
 write_cells w = Int (pos w.server) ∷ Int (pos w.n) ∷ Int (pos w.time) ∷ Text w.room ∷ Int (pos w.length) ∷ Text w.choices ∷ Text w.title ∷ Int (pos w.seq) ∷ []
 
-abbrev pub write_in : Row → WriteRow
-write_in r = record {
+abbrev pub write_row_from : Row → WriteRow
+write_row_from r = record {
   server = nat_of (column r 1);
   n = nat_of (column r 2);
   time = nat_of (column r 3);
@@ -25,8 +25,8 @@ write_in r = record {
   seq = nat_of (column r 8);
 }
 
-abbrev pub undo_cells : UndoRow → Row
+abbrev pub undo_cells : FirstUndoRow → Row
 undo_cells u = Int (pos u.server) ∷ Int (pos u.n) ∷ Int (place_number u.place) ∷ []
 
-abbrev pub undo_in : Row → UndoRow
+abbrev pub undo_in : Row → FirstUndoRow
 undo_in r = record { server = nat_of (column r 1); n = nat_of (column r 2); place = place_in (whole_of (column r 3)) }

@@ -2,24 +2,24 @@
 use Rattle.std.specs.Prelude.{ℕ, nat_lt}
 use Rattle.mr_model.specs.Writes.{Id}
 use Rattle.mr_model.specs.Tables.{MetaRow}
-use Rattle.mr_model.specs.First.{WriteRow, UndoRow}
+use Rattle.mr_model.specs.First.{WriteRow, FirstUndoRow}
 use Rattle.mr_tables.specs.Change.{id_before}
 use Rattle.mr_rows.specs.Schema.{meta_table, write_log_table, undo_table}
 use Rattle.mr_rows.specs.RowCells.{meta_in}
 use Rattle.mr_rows.specs.Form.{Form}
-use Rattle.mr_first.specs.FirstCells.{first_meta_cells, write_cells, write_in, undo_cells, undo_in}
+use Rattle.mr_first.specs.FirstCells.{first_meta_cells, write_cells, write_row_from, undo_cells, undo_in}
 
 abbrev pub write_id : WriteRow → Id
 write_id row = record { server = row.server; n = row.n }
 
-abbrev pub undo_id : UndoRow → Id
+abbrev pub undo_id : FirstUndoRow → Id
 undo_id row = record { server = row.server; n = row.n }
 
 abbrev pub first_meta_form : Form MetaRow ℕ
 first_meta_form = record { table = record meta_table { tree = 0 }; cells = first_meta_cells; row_in = meta_in; key = λ _. 1; before = nat_lt }
 
 abbrev pub write_form : Form WriteRow Id
-write_form = record { table = record write_log_table { tree = 6 }; cells = write_cells; row_in = write_in; key = write_id; before = id_before }
+write_form = record { table = record write_log_table { tree = 6 }; cells = write_cells; row_in = write_row_from; key = write_id; before = id_before }
 
-abbrev pub undo_form : Form UndoRow Id
+abbrev pub undo_form : Form FirstUndoRow Id
 undo_form = record { table = record undo_table { tree = 8 }; cells = undo_cells; row_in = undo_in; key = undo_id; before = id_before }

@@ -5,13 +5,13 @@ use Rattle.sqlite.specs.State.{State, HasCleanDisk}
 use Rattle.sqlite.specs.declared.error.Error.{Error}
 use Rattle.mr_model.specs.Replica.{Replica}
 use Rattle.mr_model.specs.Tables.{Tables}
-use Rattle.mr_model.specs.First.{WriteRow, UndoRow, FirstTables, StandsFirst}
+use Rattle.mr_model.specs.First.{WriteRow, FirstUndoRow, FirstTables, StandsFirst}
 use Rattle.mr_rows.specs.Database.{IsApplied, tables_in}
 use Rattle.mr_first.specs.Forms.{write_id, undo_id}
 use Rattle.mr_first.specs.FirstDatabase.{IsKeptFirst}
 
 -- the rows of both logs have the same keys, one after the other
-abbrev pub ArePaired : List WriteRow → List UndoRow → Type 0
+abbrev pub ArePaired : List WriteRow → List FirstUndoRow → Type 0
 ArePaired ws us = map write_id ws ≡ map undo_id us
 
 -- the logs of a replica's first tables do

@@ -10,7 +10,7 @@ ghost use Rattle.mr_tables.specs.Change.{id_before};
 ghost use Rattle.mr_rows.specs.Form.{Form, room_form, vector_form, booking_form, error_form};
 ghost use Rattle.mr_rows.specs.Shown.{columns_from, IsShownAs, IsStoredAs};
 ghost use Rattle.mr_first.specs.FirstDatabase.{MakesFirst, LooksFirst, first_in};
-ghost use Rattle.mr_first.specs.FirstParts.{put_rooms, put_vector, put_bookings, put_errors};
+ghost use Rattle.mr_first.specs.FirstParts.{put_first_rooms, put_first_vector, put_first_bookings, put_first_errors};
 
 use crate::puts::{put_booking_cells, put_error_cells};
 use crate::queries::ask_first;
@@ -70,7 +70,7 @@ impl FirstRow for RoomName {
 
     ghost form = { room_form };
 
-    ghost put_in = { put_rooms };
+    ghost put_in = { put_first_rooms };
 
     fn is_before(a: &RoomName, b: &RoomName) -> bool {
         *a < *b
@@ -103,7 +103,7 @@ impl FirstRow for VectorRow {
 
     ghost form = { vector_form };
 
-    ghost put_in = { put_vector };
+    ghost put_in = { put_first_vector };
 
     fn is_before(a: &VectorRow, b: &VectorRow) -> bool {
         a.server < b.server
@@ -137,7 +137,7 @@ impl FirstRow for BookingRow {
 
     ghost form = { booking_form };
 
-    ghost put_in = { put_bookings };
+    ghost put_in = { put_first_bookings };
 
     fn is_before(a: &BookingRow, b: &BookingRow) -> bool {
         is_id_before((a.server, a.n), (b.server, b.n))
@@ -171,7 +171,7 @@ impl FirstRow for ErrorRow {
 
     ghost form = { error_form };
 
-    ghost put_in = { put_errors };
+    ghost put_in = { put_first_errors };
 
     fn is_before(a: &ErrorRow, b: &ErrorRow) -> bool {
         is_id_before((a.server, a.n), (b.server, b.n))

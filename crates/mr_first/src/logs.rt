@@ -7,7 +7,7 @@ ghost use Rattle.mr_model.specs.Writes.{Id};
 ghost use Rattle.mr_base.specs.Ids.{id_cmp};
 ghost use Rattle.mr_rows.specs.RowCells.{nat_of};
 ghost use Rattle.mr_rows.specs.Shown.{columns_from};
-ghost use Rattle.mr_first.specs.FirstCells.{write_in, undo_in};
+ghost use Rattle.mr_first.specs.FirstCells.{write_row_from, undo_in};
 ghost use Rattle.mr_first.specs.Forms.{write_id, undo_id, write_form, undo_form};
 ghost use Rattle.mr_first.specs.FirstDatabase.{ReadsFirst, first_in};
 ghost use Rattle.mr_first.specs.FirstParts.{put_writes, put_undo};
@@ -170,7 +170,7 @@ fn sort_undo(rows: &mut Vec<UndoRow>) -> Result<(), AllocError>
 }
 
 fn ordered_writes(alloc: Global, rows: &[Row]) -> Result<Vec<WriteRow>, Error>
-    ensures same { IfOk result (λ out. IsPermutation (map (λ row. write_in (Null ∷ row)) rows.now) out.items) }
+    ensures same { IfOk result (λ out. IsPermutation (map (λ row. write_row_from (Null ∷ row)) rows.now) out.items) }
     ensures sorted { IfOk result (λ out. IsSorted (λ a b. id_cmp (write_id a) (write_id b)) out.items) }
 {
     let mut out = read_all(alloc, rows)?;

@@ -4,7 +4,7 @@ ghost use Rattle.sqlite.specs.Held.{state};
 ghost use Rattle.mr_model.specs.Calendar.{is_date, date_text};
 ghost use Rattle.mr_tables.specs.SoundRows.{Rise};
 ghost use Rattle.mr_first.specs.FirstDatabase.{MakesFirst, first_in};
-ghost use Rattle.mr_first.specs.FirstParts.{put_meta as with_meta, put_bookings, put_errors, heads_put, logs_put, board_put, tables_put, AreKeysRising};
+ghost use Rattle.mr_first.specs.FirstParts.{put_first_meta as with_meta, put_first_bookings, put_first_errors, first_heads_put, logs_put, first_board_put, tables_put, AreFirstKeysRising};
 
 use crate::first_rows::FirstRow;
 use crate::rows::{UndoRow, WriteRow};
@@ -47,7 +47,7 @@ pub(crate) fn put_booking_cells<S: Alter>(
     requires is_date { IsTrue (is_date row.now.day) }
     ensures same_reference { tx.new.conn.ghost_name ≡ tx.old.conn.ghost_name }
     ensures put { MakesFirst (state S.Store tx.old.conn.now) (state S.Store tx.new.conn.now)
-        (put_bookings (row.now ∷ []) (first_in (state S.Store tx.old.conn.now).now.trees)) result }
+        (put_first_bookings (row.now ∷ []) (first_in (state S.Store tx.old.conn.now).now.trees)) result }
     ensures survives { Survives (state S.Store tx.old.conn.now) (state S.Store tx.new.conn.now) (λ _. ⊥) }
 {
     tx.execute(
@@ -74,7 +74,7 @@ pub(crate) fn put_error_cells<S: Alter>(
     requires is_date { IsTrue (is_date row.now.day) }
     ensures same_reference { tx.new.conn.ghost_name ≡ tx.old.conn.ghost_name }
     ensures put { MakesFirst (state S.Store tx.old.conn.now) (state S.Store tx.new.conn.now)
-        (put_errors (row.now ∷ []) (first_in (state S.Store tx.old.conn.now).now.trees)) result }
+        (put_first_errors (row.now ∷ []) (first_in (state S.Store tx.old.conn.now).now.trees)) result }
     ensures survives { Survives (state S.Store tx.old.conn.now) (state S.Store tx.new.conn.now) (λ _. ⊥) }
 {
     let time = Number::new(row.time, 7)?;
@@ -119,7 +119,7 @@ fn put_heads<S: Alter>(
 ) -> Result<(), Error>
     ensures same_reference { tx.new.conn.ghost_name ≡ tx.old.conn.ghost_name }
     ensures made { MakesFirst (state S.Store tx.old.conn.now) (state S.Store tx.new.conn.now)
-        (heads_put first.now (first_in (state S.Store tx.old.conn.now).now.trees)) result }
+        (first_heads_put first.now (first_in (state S.Store tx.old.conn.now).now.trees)) result }
     ensures survives { Survives (state S.Store tx.old.conn.now) (state S.Store tx.new.conn.now) (λ _. ⊥) }
 {
     put_meta(tx, &first.meta)?;
@@ -150,7 +150,7 @@ fn put_board<S: Alter>(
 ) -> Result<(), Error>
     ensures same_reference { tx.new.conn.ghost_name ≡ tx.old.conn.ghost_name }
     ensures made { MakesFirst (state S.Store tx.old.conn.now) (state S.Store tx.new.conn.now)
-        (board_put first.now (first_in (state S.Store tx.old.conn.now).now.trees)) result }
+        (first_board_put first.now (first_in (state S.Store tx.old.conn.now).now.trees)) result }
     ensures survives { Survives (state S.Store tx.old.conn.now) (state S.Store tx.new.conn.now) (λ _. ⊥) }
 {
     put_all::<BookingRow, S>(tx, alloc, &first.booking)?;
@@ -184,7 +184,7 @@ fn are_rising<R: FirstRow>(rows: &[R]) -> bool
 
 /// Whether the key of each row is before that of the next in its table, so that none is there twice.
 pub fn are_keys_rising(first: &First) -> bool
-    ensures { IsTrue result ↔ AreKeysRising first.now }
+    ensures { IsTrue result ↔ AreFirstKeysRising first.now }
 {
     let rooms = are_rising::<RoomName>(&first.room);
     let servers = are_rising::<VectorRow>(&first.vector);

@@ -41,11 +41,11 @@ pub struct UndoRow {
 
 impl Model for UndoRow {
     ghost use Rattle.mr_model.specs.First as tables;
-    ghost use Rattle.mr_replay.specs.Places.{place_of, place_from};
+    ghost use Rattle.mr_replay.specs.Places.{place_seen, place_from};
 
-    ghost Value = { tables.UndoRow };
+    ghost Value = { tables.FirstUndoRow };
 
-    ghost view = { λ r. record { server = r.server; n = r.n; place = place_of r.place } };
+    ghost view = { λ r. record { server = r.server; n = r.n; place = place_seen r.place } };
 
     ghost inverse = { λ v. record { server = v.server; n = v.n; place = place_from v.place } };
 }

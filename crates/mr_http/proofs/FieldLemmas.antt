@@ -5,7 +5,7 @@ use Rattle.httparse.specs.Spans.{name_and_value}
 use Rattle.httparse.specs.Borrowed.{header_parts, AreFields}
 use Rattle.httparse.specs.declared.borrowed.Header.{Header}
 use Rattle.mr_model.specs.Http.{Field}
-use Rattle.mr_http.specs.Fields.{field_of, fields_of, header_field, header_fields}
+use Rattle.mr_http.specs.HeaderFields.{field_of, fields_of, header_field, header_fields}
 
 abbrev as_field : List ℕ × List ℕ → Field
 as_field p = record { name = p.0; value = p.1 }

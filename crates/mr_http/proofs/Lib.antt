@@ -3,5 +3,5 @@ pub mod Digits
 pub mod FieldLemmas
 pub mod HeadLemmas
 pub mod Known
-pub mod ReadLemmas
+pub mod ReadPieces
 pub mod SentPieces

@@ -1,7 +1,7 @@
--- A reader of the contracts trusts Faults, Fields, Heads, Inputs and Reading. The others, Looks and Lengths, serve private clauses and
+-- A reader of the contracts trusts Faults, HeaderFields, Heads, Inputs and Reading. The others, Looks and Lengths, serve private clauses and
 -- proofs alone.
 pub mod Faults
-pub mod Fields
+pub mod HeaderFields
 pub mod Heads
 pub mod Inputs
 pub mod Reading

@@ -2,7 +2,7 @@ ghost use Rattle.std.specs.Prelude.{◌≡◌, [], ◌∷◌, IsTrue};
 ghost use Rattle.std.specs.List.{list_any, list_all};
 ghost use Rattle.mr_model.specs.Texts.{within, number_in};
 ghost use Rattle.mr_model.specs.Http as model;
-ghost use Rattle.mr_http.specs.Fields.{header_field, header_fields};
+ghost use Rattle.mr_http.specs.HeaderFields.{header_field, header_fields};
 ghost use Rattle.mr_http.specs.Lengths.{LengthsAre};
 
 use httparse::Header;
@@ -33,13 +33,13 @@ enum Lengths<'b> {
 }
 
 fn is_named(field: &Header<'_>, name: &str) -> bool
-    ensures { result ≡ model.is_named name.now (header_field field.now) }
+    ensures { result ≡ model.has_field_name name.now (header_field field.now) }
 {
     name.eq_ignore_ascii_case(field.name)
 }
 
 fn has_field(fields: &[Header<'_>], name: &str) -> bool
-    ensures { result ≡ list_any (model.is_named name.now) (header_fields fields.now) }
+    ensures { result ≡ list_any (model.has_field_name name.now) (header_fields fields.now) }
 {
     match fields {
         [] => false,

@@ -11,7 +11,7 @@ use Rattle.mr_model.specs.Replay.{Place, slot_at, replay}
 use Rattle.mr_model.specs.Replica.{Replica, is_committed, write_with, committed, tentative, IsReplica}
 use Rattle.mr_model.specs.View.{View, Placed, Told, of_room, view_of, placed_with, whole_places, cancels_it, cancel_of, tell, whole_list, told_of, place_of, canceller_in, canceller_of}
 use Rattle.mr_model.specs.Tables.{OfMeeting, cells_of, CancelledRow, CancelRow, PlaceRow, by_id, seq_of, booking_place_row, place_row_for, place_row, as_cancelled, as_cancel, cancelled_row, cancel_row, log_row, kept, tables_of, Stands}
-use Rattle.mr_model.specs.First.{choices_in_cells, WriteRow, UndoRow, FirstTables, write_row, undo_row, first_tables_of, StandsFirst, undo_of, moved_row, moved_log, HavePlaces, moved}
+use Rattle.mr_model.specs.First.{choices_in_cells, WriteRow, FirstUndoRow, FirstTables, write_row, undo_row, first_tables_of, StandsFirst, undo_of, moved_row, moved_log, HavePlaces, moved}
 use Rattle.mr_model.proofs.Members.{filter_has, has_map, map_has, filter_map_has, all_has, has_all, has_split, find_has, find_one, same_id-true, same_id_refl}
 use Rattle.mr_model.proofs.KnownById.{one_known, known_with}
 use Rattle.mr_model.proofs.RowsById.{by_id_has}
@@ -109,15 +109,15 @@ none_left f (x ∷ xs) h = ap (λ o. cons_option o (filter_map f xs)) (h x (inl 
 
 undo_found : (r : Replica) (w : Write) → IsReplica r → Has w (kept r) → ((v : Write) → Has v (kept r) → Has v r.known) → undo_of (write_row r w) (map (undo_row r) (kept r)) ≡ Some (undo_row r w)
 undo_found r w h g known =
-    find_one (λ (u : UndoRow). eqb u.server w.stamp.server && eqb u.n w.stamp.n) (undo_row r w) us (has_map (undo_row r) w (kept r) g) (same_id_refl (id_of w)) only
+    find_one (λ (u : FirstUndoRow). eqb u.server w.stamp.server && eqb u.n w.stamp.n) (undo_row r w) us (has_map (undo_row r) w (kept r) g) (same_id_refl (id_of w)) only
   where
-    us : List UndoRow
+    us : List FirstUndoRow
     us = map (undo_row r) (kept r)
 
-    only : (u : UndoRow) → Has u us → (eqb u.server w.stamp.server && eqb u.n w.stamp.n) ≡ true → u ≡ undo_row r w
+    only : (u : FirstUndoRow) → Has u us → (eqb u.server w.stamp.server && eqb u.n w.stamp.n) ≡ true → u ≡ undo_row r w
     only u i e =
         let (v, j, f) = map_has (undo_row r) u (kept r) i in
-        let same : same_id (id_of v) (id_of w) ≡ true = subst (λ (x : UndoRow). (eqb x.server w.stamp.server && eqb x.n w.stamp.n) ≡ true) f e in
+        let same : same_id (id_of v) (id_of w) ≡ true = subst (λ (x : FirstUndoRow). (eqb x.server w.stamp.server && eqb x.n w.stamp.n) ≡ true) f e in
         f ∙ ap (undo_row r) (one_known r v w h (known v j) (known w g) (same_id-true (id_of v) (id_of w) same))
 
 moved_is_log : (r : Replica) (w : Write) → is_first_write w ≡ true → moved_row (write_row r w) (undo_row r w) ≡ log_row r w
@@ -135,7 +135,7 @@ all_found {C = C} f g k (x ∷ xs) h =
 log_moves : (r : Replica) → IsReplica r → AreFirst r.known → moved_log (map (write_row r) (kept r)) (map (undo_row r) (kept r)) ≡ map (log_row r) (kept r)
 log_moves r h f = all_found (write_row r) (λ row. option_map (moved_row row) (undo_of row us)) (log_row r) (kept r) one
   where
-    us : List UndoRow
+    us : List FirstUndoRow
     us = map (undo_row r) (kept r)
 
     known : (v : Write) → Has v (kept r) → Has v r.known
@@ -167,7 +167,7 @@ moves_up t r s = record { sound = s.sound; are = ap moved s.are ∙ tables_move 
 pub have_places : (t : FirstTables) (r : Replica) → StandsFirst t r → HavePlaces t.write_log t.undo
 have_places t r s =
     subst (λ (x : FirstTables). HavePlaces x.write_log x.undo) (sym s.are)
-    (has_all (λ (row : WriteRow). (u : UndoRow) × (undo_of row (map (undo_row r) (kept r)) ≡ Some u)) (map (write_row r) (kept r))
+    (has_all (λ (row : WriteRow). (u : FirstUndoRow) × (undo_of row (map (undo_row r) (kept r)) ≡ Some u)) (map (write_row r) (kept r))
     (λ row g. let (w, i, e) = map_has (write_row r) row (kept r) g in
-    subst (λ (x : WriteRow). (u : UndoRow) × (undo_of x (map (undo_row r) (kept r)) ≡ Some u)) (sym e)
+    subst (λ (x : WriteRow). (u : FirstUndoRow) × (undo_of x (map (undo_row r) (kept r)) ≡ Some u)) (sym e)
     (undo_row r w, undo_found r w s.sound i (λ v j. by_id_has r v (filter_has _ v (by_id r.known) j).0))))

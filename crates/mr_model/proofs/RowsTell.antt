@@ -10,9 +10,9 @@ use Rattle.mr_model.specs.Writes.{Id, Meeting, Action, Books, Cancels, Write, id
 use Rattle.mr_model.specs.Replay.{Place, Taken, Logged, Done, Void, slot_at}
 use Rattle.mr_model.specs.Replica.{Replica, is_committed, IsReplica}
 use Rattle.mr_model.specs.Replies.{NotBooked, Cancelled, CancelDone, CancelVoid, Reply, OutcomeIs, Refused}
-use Rattle.mr_model.specs.View.{View, Placed, Told, view_of, cancels_it, tell, whole_list, entry_with, entry_unless, entry_of, logging_with, logging_of, outcome_with, booking_outcome, cancel_outcome, outcome_for, outcome_of, told_of, outcome_reply}
+use Rattle.mr_model.specs.View.{View, Placed, Told, view_of, cancels_it, tell, whole_list, entry_with, entry_unless, entry_of, logging_with, logging_of, outcome_with, booking_outcome, cancel_outcome_at, outcome_for, outcome_of, told_of, outcome_reply}
 use Rattle.mr_model.specs.Step.{outcome_at}
-use Rattle.mr_model.specs.Tables.{BookingRow, ErrorRow, CancelledRow, CancelRow, PlaceRow, by_id, seq_of, booked_in, erred_in, taken_back, cancel_in, booking_place_row, place_row_for, place_row, as_booking, as_error, as_cancelled, as_cancel, tables_of}
+use Rattle.mr_model.specs.Tables.{BookingRow, ErrorRow, CancelledRow, CancelRow, PlaceRow, by_id, seq_of, booked_in, erred_in, taken_back, cancel_row_for, booking_place_row, place_row_for, place_row, as_booking, as_error, as_cancelled, as_cancel, tables_of}
 use Rattle.mr_model.specs.Tables as rows
 use Rattle.mr_model.specs.Queries as told
 use Rattle.mr_model.specs.Queries.{booking_id, error_id, cancelled_id, cancel_id, is_marked, row_entry, booked_outcome, logged_outcome, cancelled_outcome, IsCancelOf, TellsOutcome, IsRowFor}
@@ -59,10 +59,10 @@ case_of r room t k = go k.went
         told_row ∙ ap (λ a. place_row_for t.write a t.place (canceller t) (is_committed r (told_id t)) (seq_of r t.write)) f
         ∙ (λ j. booking_place_row t.write m (s j) (option_map (λ x. id_of x.write) (e j)) (is_committed r (told_id t)) (seq_of r t.write))
 
-    of_cancel : (x : Id) (p : Place) → t.write.action ≡ Cancels x → t.place ≡ p → place_row r t.write ≡ rows.Cancel (cancel_in t.write x p (seq_of r t.write))
+    of_cancel : (x : Id) (p : Place) → t.write.action ≡ Cancels x → t.place ≡ p → place_row r t.write ≡ rows.Cancel (cancel_row_for t.write x p (seq_of r t.write))
     of_cancel x p f at =
         told_row ∙ ap (λ a. place_row_for t.write a t.place (canceller t) (is_committed r (told_id t)) (seq_of r t.write)) f
-        ∙ ap (λ q. rows.Cancel (cancel_in t.write x q (seq_of r t.write))) at
+        ∙ ap (λ q. rows.Cancel (cancel_row_for t.write x q (seq_of r t.write))) at
 
     go : Went t.write t.place → Case r t
     go (took m i s f at o) = by_cancel t.cancelled_by refl
@@ -150,7 +150,7 @@ back_of r room t c h a e =
     done_row : (u : Told) → IsToldOf r room u → (x : Id) → u.write.action ≡ Cancels x → u.place ≡ Done → place_row r u.write ≡ rows.Cancel (cancel_as r u.write x true)
     done_row u k x g p =
         (let q = k.place in let c = k.cancelled in λ j. place_row_for u.write (g j) (q j) (c j) (is_committed r (told_id u)) (seq_of r u.write))
-        ∙ ap (λ q. rows.Cancel (cancel_in u.write x q (seq_of r u.write))) p
+        ∙ ap (λ q. rows.Cancel (cancel_row_for u.write x q (seq_of r u.write))) p
 
 -- as is told, the reply
 record Tells (r : Replica) (w : Write) (p : PlaceRow) (reply told_reply : Reply) : Type 0 where
@@ -197,12 +197,12 @@ outcome_told r room t h a = go (case_of r room t k)
         (told.of_error (erred_as r t.write m))
     go (done x f p e) =
         turn (rows.Cancel (cancel_as r t.write x true)) e (OutcomeIs (told.cancel_outcome (cancel_as r t.write x true)))
-        (ap (λ y. OutcomeIs (outcome_for t y)) f ∙ ap (λ q. OutcomeIs (Rattle.mr_model.specs.View.cancel_outcome t x q)) p
+        (ap (λ y. OutcomeIs (outcome_for t y)) f ∙ ap (λ q. OutcomeIs (Rattle.mr_model.specs.View.cancel_outcome_at t x q)) p
         ∙ ap (λ y. OutcomeIs (CancelDone (told_id t) y x)) (k.mark ∙ seq-mark))
         (told.of_cancel (cancel_as r t.write x true))
     go (void x f p e) =
         turn (rows.Cancel (cancel_as r t.write x false)) e (OutcomeIs (told.cancel_outcome (cancel_as r t.write x false)))
-        (ap (λ y. OutcomeIs (outcome_for t y)) f ∙ ap (λ q. OutcomeIs (Rattle.mr_model.specs.View.cancel_outcome t x q)) p
+        (ap (λ y. OutcomeIs (outcome_for t y)) f ∙ ap (λ q. OutcomeIs (Rattle.mr_model.specs.View.cancel_outcome_at t x q)) p
         ∙ ap (λ y. OutcomeIs (CancelVoid (told_id t) y x)) (k.mark ∙ seq-mark))
         (told.of_cancel (cancel_as r t.write x false))
 

@@ -20,7 +20,7 @@ pub record WriteRow : Type 0 where
   pub seq : ℕ
 
 -- its place
-pub record UndoRow : Type 0 where
+pub record FirstUndoRow : Type 0 where
   pub server : ℕ
   pub n : ℕ
   pub place : Place
@@ -30,7 +30,7 @@ pub record FirstTables : Type 0 where
   pub room : List Text
   pub vector : List VectorRow
   pub write_log : List WriteRow
-  pub undo : List UndoRow
+  pub undo : List FirstUndoRow
   pub booking : List BookingRow
   pub errorlog : List ErrorRow
 
@@ -54,7 +54,7 @@ write_row r w =
       seq = seq_of r w;
     }
 
-abbrev pub undo_row : Replica → Write → UndoRow
+abbrev pub undo_row : Replica → Write → FirstUndoRow
 undo_row r w = record { server = w.stamp.server; n = w.stamp.n; place = place_of r w }
 
 abbrev pub first_tables_of : Replica → FirstTables
@@ -77,11 +77,11 @@ pub record StandsFirst (t : FirstTables) (r : Replica) : Type 0 where
 
 -- ---- moving up
 
-abbrev pub undo_of : WriteRow → List UndoRow → Option UndoRow
+abbrev pub undo_of : WriteRow → List FirstUndoRow → Option FirstUndoRow
 undo_of row us = find (λ u. u.server == row.server && u.n == row.n) us
 
 -- a write's row with its place is a row of the one log that takes the two's place
-abbrev pub moved_row : WriteRow → UndoRow → LogRow
+abbrev pub moved_row : WriteRow → FirstUndoRow → LogRow
 moved_row row u =
     record {
       server = row.server;
@@ -94,12 +94,12 @@ moved_row row u =
     }
 
 -- the log: each row of write_log with the row of undo that has its key; a row without one has no place in the log
-abbrev pub moved_log : List WriteRow → List UndoRow → List LogRow
+abbrev pub moved_log : List WriteRow → List FirstUndoRow → List LogRow
 moved_log rows us = filter_map (λ row. option_map (moved_row row) (undo_of row us)) rows
 
 -- each row of write_log has its row in undo
-abbrev pub HavePlaces : List WriteRow → List UndoRow → Type 0
-HavePlaces rows us = AllByRecursion (λ row. (u : UndoRow) × (undo_of row us ≡ Some u)) rows
+abbrev pub HavePlaces : List WriteRow → List FirstUndoRow → Type 0
+HavePlaces rows us = AllByRecursion (λ row. (u : FirstUndoRow) × (undo_of row us ≡ Some u)) rows
 
 -- Booking and errorlog stay as they are, so that no row of a dropped write is lost; there is no cancel yet.
 abbrev pub moved : FirstTables → Tables

@@ -181,8 +181,8 @@ is_done Logged = false
 is_done Done = true
 is_done Void = false
 
-abbrev pub cancel_in : Write → Id → Place → ℕ → CancelRow
-cancel_in w target place seq =
+abbrev pub cancel_row_for : Write → Id → Place → ℕ → CancelRow
+cancel_row_for w target place seq =
     record {
       server = w.stamp.server;
       n = w.stamp.n;
@@ -201,7 +201,7 @@ booking_place_row w m (Some s) (Some cancel) mark seq = Cancelled (taken_back ca
 -- at its place, with the cancel that took it back, its mark and its commit number
 abbrev pub place_row_for : Write → Action → Place → Option Id → Bool → ℕ → PlaceRow
 place_row_for w (Books m) place by mark seq = booking_place_row w m (slot_at w place) by mark seq
-place_row_for w (Cancels target) place by mark seq = Cancel (cancel_in w target place seq)
+place_row_for w (Cancels target) place by mark seq = Cancel (cancel_row_for w target place seq)
 
 abbrev pub place_row : Replica → Write → PlaceRow
 place_row r w = place_row_for w w.action (place_of r w) (canceller_of r w) (is_committed r (id_of w)) (seq_of r w)

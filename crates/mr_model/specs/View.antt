@@ -170,13 +170,13 @@ abbrev pub booking_outcome : Told → Option Placed → Outcome
 booking_outcome t (Some cancel) = Cancelled (id_of t.write) t.is_committed cancel.is_committed (id_of cancel.write)
 booking_outcome t None = outcome_with t (entry_of t)
 
-abbrev pub cancel_outcome : Told → Id → Place → Outcome
-cancel_outcome t target Done = CancelDone (id_of t.write) t.is_committed target
-cancel_outcome t target _ = CancelVoid (id_of t.write) t.is_committed target
+abbrev pub cancel_outcome_at : Told → Id → Place → Outcome
+cancel_outcome_at t target Done = CancelDone (id_of t.write) t.is_committed target
+cancel_outcome_at t target _ = CancelVoid (id_of t.write) t.is_committed target
 
 abbrev pub outcome_for : Told → Action → Outcome
 outcome_for t (Books m) = booking_outcome t t.cancelled_by
-outcome_for t (Cancels target) = cancel_outcome t target t.place
+outcome_for t (Cancels target) = cancel_outcome_at t target t.place
 
 abbrev pub outcome_of : Told → Outcome
 outcome_of t = outcome_for t t.write.action

@@ -5,7 +5,7 @@ use Rattle.std.specs.Io.KnownBytes.{Appends}
 use Rattle.std.proofs.KnownBytes.{Appends-trans}
 use Rattle.mr_model.specs.Texts.{Text, line}
 use Rattle.mr_model.specs.Refusals.{Refusal, refusal_text}
-use Rattle.mr_base.specs.Refusals.{refusal_of}
+use Rattle.mr_base.specs.RefusalViews.{refusal_of}
 use Rattle.mr_store.specs.declared.keeper.Keeper.{Ghosts}
 use Rattle.mr_http.specs.declared.faults.WebFault.{WebFault}
 use Rattle.mr_http.specs.declared.faults.WebFault.TheVariants as fault
@@ -18,7 +18,7 @@ use Rattle.mr_net.specs.Ways.{IsWay}
 use Rattle.mr_net.specs.Printed.{way_line, StopsWithText, IsFaultLine, IsStopOf, TellsWay, TellsBoth, IsStopText, EndsExchange}
 use Rattle.mr_net.specs.Bridged.{TellsBridge}
 use Rattle.mr_net.specs.ExchangeRounds.{RunsBridged}
-use Rattle.mr_net.proofs.LineLaws.{stops_so, never_stops}
+use Rattle.mr_net.proofs.PrintedLines.{stops_so, never_stops}
 use Rattle.mr_net.proofs.WayLaws.{way_seen}
 
 -- ---- ways

@@ -1,6 +1,6 @@
 pub mod BridgeLaws
 pub mod ExchangeLaws
-pub mod LineLaws
+pub mod PrintedLines
 pub mod RoundLaws
 pub mod ServingLaws
 pub mod WayLaws

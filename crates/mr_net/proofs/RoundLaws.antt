@@ -22,7 +22,7 @@ use Rattle.mr_peer.specs.ExchangeSteps.{ReachesByPull, TakesBody, TakesPulled}
 use Rattle.mr_peer.specs.Rounds.{Pulls, Pushes, TellsTook}
 use Rattle.mr_peer.proofs.AskLemmas.{ask_failed, failed_as}
 use Rattle.mr_peer.proofs.Exchanges.{both, onward, reached}
-use Rattle.mr_peer.proofs.StepLemmas.{body_behind, pulls_behind}
+use Rattle.mr_peer.proofs.RoundEffects.{body_behind, pulls_behind}
 use Rattle.mr_net.specs.declared.ways.Way.TheVariants.{Pull, Push}
 use Rattle.mr_net.specs.declared.ways.Round.{Round}
 use Rattle.mr_net.specs.ExchangeRounds.{Brings, RunsRound}

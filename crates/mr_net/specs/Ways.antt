@@ -22,15 +22,15 @@ abbrev pub greatest_rounds : ℕ
 greatest_rounds = 10_000
 
 -- as far as a number of 64 bits goes
-abbrev pub capped : ℕ → ℕ
-capped n = min n (2 ^ 64 - 1)
+abbrev pub saturated : ℕ → ℕ
+saturated n = min n (2 ^ 64 - 1)
 
 abbrev pub joined : Taken → Round → Taken
-joined taken round = record { writes = capped (taken.writes + round.writes); commits = capped (taken.commits + round.commits) }
+joined taken round = record { writes = saturated (taken.writes + round.writes); commits = saturated (taken.commits + round.commits) }
 
 -- what the rounds brought together
 abbrev pub total : List Round → Taken
-total rounds = record { writes = capped (sum_by (λ r. r.writes) rounds); commits = capped (sum_by (λ r. r.commits) rounds) }
+total rounds = record { writes = saturated (sum_by (λ r. r.writes) rounds); commits = saturated (sum_by (λ r. r.commits) rounds) }
 
 -- the rounds are those of a whole way: up to the first that asks for no more, or the greatest number
 abbrev pub AreAll : List Round → Type 0

@@ -10,7 +10,7 @@ use Rattle.mr_model.specs.Writes.{Write}
 use Rattle.mr_replay.specs.Places.{UndoRow}
 use Rattle.mr_part.specs.Changed.{tells, same_place, is_elsewhere, picked}
 use Rattle.mr_replica.specs.Logged.{undo_with}
-use Rattle.mr_replica.specs.RoomMoves.{row_at}
+use Rattle.mr_replica.specs.RoomMoves.{first_undo_row}
 
 pub same_place-true : (p q : Place) → same_place p q ≡ true → p ≡ q
 same_place-true (Taken j) (Taken k) e = ap Taken (eqb-true j k e)
@@ -84,13 +84,13 @@ as_many-more false xs ys x y e = e
 
 -- one write more, and what undoes it
 pub changed_more : (news : ℕ) (undone : List UndoRow) (place : Write → Place) (again : List Write) (rows : List UndoRow) (k : ℕ) (w : Write) (u : UndoRow) (stays is_changed : Bool) (writes now : List Write) (us them : List UndoRow) → k < length again → w ≡ get_or again k w → u ≡ get_or rows k u → rows ≡ map (undo_with place) again
-    → stays ≡ tells (row_at undone u.id) u → is_changed ≡ (ltb k news || not stays) → now ≡ cond is_changed (writes ++ w ∷ []) writes → them ≡ cond is_changed (us ++ u ∷ []) us
+    → stays ≡ tells (first_undo_row undone u.id) u → is_changed ≡ (ltb k news || not stays) → now ≡ cond is_changed (writes ++ w ∷ []) writes → them ≡ cond is_changed (us ++ u ∷ []) us
     → (writes ≡ picked news undone place (take k again)) × (us ≡ map (undo_with place) (picked news undone place (take k again)))
     → (now ≡ picked news undone place (take (k + 1) again)) × (them ≡ map (undo_with place) (picked news undone place (take (k + 1) again)))
 changed_more news undone place again rows k w u stays is_changed writes now us them h is_w is_u are stays_is changed_is now_is them_is (have, have_rows) =
     let mine : u ≡ undo_with place w = is_u ∙ ap (λ xs. get_or xs k u) are ∙ get_or-map (undo_with place) again k w u h ∙ ap (undo_with place) (sym is_w) in
     let size : length (take k again) ≡ k = length-take-le k again (omega (arith, h)) in
-    let e : is_changed ≡ (ltb (length (take k again)) news || is_elsewhere undone place w) = changed_is ∙ (λ i. ltb (sym size i) news || not ((stays_is ∙ ap (λ (x : UndoRow). tells (row_at undone x.id) x) mine) i)) in
+    let e : is_changed ≡ (ltb (length (take k again)) news || is_elsewhere undone place w) = changed_is ∙ (λ i. ltb (sym size i) news || not ((stays_is ∙ ap (λ (x : UndoRow). tells (first_undo_row undone x.id) x) mine) i)) in
     let front : take (k + 1) again ≡ take k again ++ w ∷ [] = take_more again k w h ∙ ap (λ v. take k again ++ v ∷ []) (sym is_w) in
     let more = ap (picked news undone place) front ∙ picked_more news undone place (take k again) w is_changed e in (
       now_is ∙ ap (λ vs. cond is_changed (vs ++ w ∷ []) vs) have ∙ sym more,

@@ -1,36 +1,33 @@
 -- The board of a part has those rows of the replica's board that are in its scope.
-use Rattle.std.proofs.Common.{◌≡◌, refl, sym, ap, ◌∙◌, subst, ℕ, ◌+◌, ◌-◌, Bool, true, false, cond, ◌&&◌, List, [], ◌∷◌, ◌++◌, map, ◌⊎◌, inl, inr, Option, Some, None, arith}
+use Rattle.std.proofs.Common.{◌≡◌, refl, sym, ap, ◌∙◌, subst, ◌+◌, ◌-◌, Bool, true, false, cond, ◌&&◌, List, [], ◌∷◌, ◌++◌, map, ◌⊎◌, inl, inr, Option, Some, None}
 use Rattle.std.proofs.lemmas.Bool.{true≢false, cond-true}
 use Rattle.std.specs.List.{filter}
 use Rattle.std.specs.Str.{bytes_eq}
-use Rattle.std.specs.Option.{option_map}
 use Rattle.std.specs.BTreeMap.{insert_entry}
 use Rattle.mr_model.specs.Texts.{Text}
-use Rattle.mr_model.specs.Slots.{Slot}
-use Rattle.mr_model.specs.Writes.{Id, Meeting, Action, Books, Cancels, Write, id_of, same_id}
-use Rattle.mr_model.specs.Replay.{Place, Taken, Logged, Done, Void, slot_at}
+use Rattle.mr_model.specs.Writes.{Id, Write, id_of, same_id}
 use Rattle.mr_model.specs.Replica.{Replica, IsReplica, order_of, is_among, is_committed}
 use Rattle.mr_model.specs.View.{of_room, place_of, canceller_of}
-use Rattle.mr_model.specs.Tables.{LogRow, BookingRow, ErrorRow, CancelledRow, CancelRow, PlaceRow, Booked, Erred, Cancelled, Cancel, Tables, as_booking, as_error, as_cancelled, as_cancel, booking_place_row, place_row_for, place_row, seq_of, tables_of}
+use Rattle.mr_model.specs.Tables.{LogRow, BookingRow, ErrorRow, CancelledRow, CancelRow, Tables, as_booking, as_error, as_cancelled, as_cancel, place_row, seq_of, tables_of}
 use Rattle.mr_model.specs.Dropped.{Has}
 use Rattle.mr_model.specs.Scopes.{Scope, Nothing, InRoom, OfTarget, NextCommits, UpTo, Above, OfItems, log_row_id, is_touched, next_commits, with_rows, in_scope}
 use Rattle.mr_model.proofs.Members.{has_left, has_right, has_split, has_filter, filter_has, has_map, map_has, same_id-true, same_id_from}
 use Rattle.mr_model.proofs.RowsTell.{known_of, booked_is, erred_is, cancelled_is, cancel_is}
 use Rattle.mr_model.proofs.UniqueReplay.{some_inj, none_some}
 use Rattle.mr_base.specs.Ids.{id_cmp}
-use Rattle.mr_replay.specs.declared.rows.Standing.TheVariants.{CancelledBy, InErrorLog}
+use Rattle.mr_replay.specs.declared.rows.Standing.TheVariants.{CancelledBy}
 use Rattle.mr_replay.specs.declared.rows.Standing.TheVariants as standing
 use Rattle.mr_replay.specs.declared.rows.Kept.{Kept}
 use Rattle.mr_replay.specs.declared.rows.Kept.TheVariants.{OfBooking}
 use Rattle.mr_replay.specs.declared.rows.Row.{Row}
-use Rattle.mr_replay.specs.Rows.{Rows, row_at, kept_with, kept_for}
+use Rattle.mr_replay.specs.Rows.{Rows, row_at}
 use Rattle.mr_replay.specs.Holds.{if_of}
 use Rattle.mr_replay.specs.Bookings.{is_taken, if_taken, HasBookings}
-use Rattle.mr_replay.proofs.Entries.{IsInOrder, row_at-put, in_order-put}
+use Rattle.mr_replay.proofs.Entries.{IsInOrder, row_at-put}
 use Rattle.mr_replay.proofs.Holding.{Holds-empty}
 use Rattle.mr_replay.proofs.Lists.{one_name}
 use Rattle.mr_tables.specs.Boards.{booking_entry, error_entry, cancelled_entry, cancel_entry, is_void, put_entries, board_of}
-use Rattle.mr_tables.proofs.BoardsTold.{known_row, known_at, board_told}
+use Rattle.mr_tables.proofs.BoardsTold.{known_row, known_at, board_told, all_entries, entries-append, entries_ordered, entry_of, entry_with, row-entry}
 use Rattle.mr_replica.specs.Placing.{kept_is_booking}
 
 -- ---- rows put on a board
@@ -65,19 +62,7 @@ put_found o i (x ∷ xs) b e f (inl s) k =
     (row_at-put b x.0 x.1 i ∙ cond-true (same_id i x.0) (Some x.1) (row_at b i) (same_id_from i x.0 (sym here)) ∙ f x (inl refl) here)
 put_found o i (x ∷ xs) b e f (inr h) k = put_found o i xs (insert_entry id_cmp b x.0 x.1) e (λ y g. f y (inr g)) h k
 
-entries_ordered : (es : List (Id × Row)) (b : Rows) → IsInOrder b → IsInOrder (put_entries es b)
-entries_ordered [] b h = h
-entries_ordered (e ∷ es) b h = entries_ordered es (insert_entry id_cmp b e.0 e.1) (in_order-put b e.0 e.1 h)
-
-entries-append : (xs ys : List (Id × Row)) (b : Rows) → put_entries (xs ++ ys) b ≡ put_entries ys (put_entries xs b)
-entries-append [] ys b = refl
-entries-append (x ∷ xs) ys b = entries-append xs ys (insert_entry id_cmp b x.0 x.1)
-
--- the rows that the tables put
-abbrev entries_of : Tables → List (Id × Row)
-entries_of t = map booking_entry t.booking ++ (map error_entry t.errorlog ++ (map cancelled_entry t.cancelled ++ map cancel_entry (filter is_void t.cancels)))
-
-board-entries : (t : Tables) → put_entries (entries_of t) [] ≡ board_of t
+board-entries : (t : Tables) → put_entries (all_entries t) [] ≡ board_of t
 board-entries t =
     let bs = map booking_entry t.booking in
     let es = map error_entry t.errorlog in
@@ -86,34 +71,9 @@ board-entries t =
     entries-append bs (es ++ (cs ++ vs)) [] ∙ entries-append es (cs ++ vs) (put_entries bs []) ∙ entries-append cs vs (put_entries es (put_entries bs []))
 
 pub board_in_order : (t : Tables) → IsInOrder (board_of t)
-board_in_order t = subst IsInOrder (board-entries t) (entries_ordered (entries_of t) [] Holds-empty.ordered)
+board_in_order t = subst IsInOrder (board-entries t) (entries_ordered (all_entries t) [] Holds-empty.ordered)
 
 -- ---- those of a replica's tables are the rows of its known writes
-
-abbrev entry_of : PlaceRow → Option (Id × Row)
-entry_of (Booked row) = Some (booking_entry row)
-entry_of (Erred row) = Some (error_entry row)
-entry_of (Cancelled row) = Some (cancelled_entry row)
-entry_of (Cancel row) = cond (is_void row) (Some (cancel_entry row)) None
-
-abbrev entry_with : Id → Option Row → Option (Id × Row)
-entry_with i None = None
-entry_with i (Some row) = Some (i, row)
-
-long : (a b : ℕ) → a + b - a ≡ b
-long a b = omega arith
-
-meeting-entry : (w : Write) (m : Meeting) (o : Option Slot) (by : Option Id) (mark : Bool) (seq : ℕ) → entry_of (booking_place_row w m o by mark seq) ≡ Some (id_of w, record { room = w.room; kept = kept_with m o by })
-meeting-entry w m None by mark seq = λ i. Some (id_of w, record { room = w.room; kept = OfBooking m.wish (long m.wish.start m.length i) m.title InErrorLog })
-meeting-entry w m (Some s) None mark seq = λ i. Some (id_of w, record { room = w.room; kept = OfBooking s (long s.start m.length i) m.title standing.Booked })
-meeting-entry w m (Some s) (Some c) mark seq = λ i. Some (id_of w, record { room = w.room; kept = OfBooking s (long s.start m.length i) m.title (CancelledBy c) })
-
-row-entry : (w : Write) (a : Action) (p : Place) (by : Option Id) (mark : Bool) (seq : ℕ) → entry_of (place_row_for w a p by mark seq) ≡ entry_with (id_of w) (option_map (λ k. record { room = w.room; kept = k }) (kept_for w a p by))
-row-entry w (Books m) p by mark seq = meeting-entry w m (slot_at w p) by mark seq
-row-entry w (Cancels t) (Taken k) by mark seq = refl
-row-entry w (Cancels t) Logged by mark seq = refl
-row-entry w (Cancels t) Done by mark seq = refl
-row-entry w (Cancels t) Void by mark seq = refl
 
 entry_there : (a : Replica) (w : Write) (e : Id × Row) → IsReplica a → Has w a.known → entry_of (place_row a w) ≡ Some e → row_at (board_of (tables_of a)) e.0 ≡ Some e.1
 entry_there a w e sound known is = go (known_row a w) refl (sym (row-entry w w.action (place_of a w) (canceller_of a w) (is_committed a (id_of w)) (seq_of a w)) ∙ is)
@@ -137,7 +97,7 @@ cancelled_here a x sound h = let (w, k, o) = known_of as_cancelled a x h in entr
 void_here : (a : Replica) (x : CancelRow) → IsReplica a → Has x (tables_of a).cancels → is_void x ≡ true → row_at (board_of (tables_of a)) (cancel_entry x).0 ≡ Some (cancel_entry x).1
 void_here a x sound h v = let (w, k, o) = known_of as_cancel a x h in entry_there a w (cancel_entry x) sound k (ap entry_of (cancel_is x (place_row a w) o) ∙ cond-true (is_void x) (Some (cancel_entry x)) None v)
 
-on_board : (a : Replica) (e : Id × Row) → IsReplica a → Has e (entries_of (tables_of a)) → row_at (board_of (tables_of a)) e.0 ≡ Some e.1
+on_board : (a : Replica) (e : Id × Row) → IsReplica a → Has e (all_entries (tables_of a)) → row_at (board_of (tables_of a)) e.0 ≡ Some e.1
 on_board a e sound h = first (has_split e bs (es ++ (cs ++ vs)) h)
   where
     t : Tables
@@ -217,7 +177,7 @@ record PicksOf (t : Tables) (f : Id → Row → Bool) (bs : List BookingRow) (es
   cancels : (x : CancelRow) → f (cancel_entry x).0 (cancel_entry x).1 ≡ false
 
 module _ (t : Tables) (logs : List LogRow) (f : Id → Row → Bool) (bs : List BookingRow) (es : List ErrorRow) (cs : List CancelledRow) (picks : PicksOf t f bs es cs) where
-  picked_there : (e : Id × Row) → Has e (entries_of (with_rows t logs bs es cs)) → Has e (entries_of t) × (f e.0 e.1 ≡ true)
+  picked_there : (e : Id × Row) → Has e (all_entries (with_rows t logs bs es cs)) → Has e (all_entries t) × (f e.0 e.1 ≡ true)
   picked_there e h = first (has_split e (map booking_entry bs) (map error_entry es ++ (map cancelled_entry cs ++ [])) h)
     where
       vs : List (Id × Row)
@@ -231,7 +191,7 @@ module _ (t : Tables) (logs : List LogRow) (f : Id → Row → Bool) (bs : List 
       second (inl g) = let q = entries_there error_entry f t.errorlog es e picks.errorlog g in (has_left e (map error_entry t.errorlog) (map cancelled_entry t.cancelled ++ vs) q.0, q.1)
       second (inr g) = let q = third (has_split e (map cancelled_entry cs) [] g) in (has_right e (map error_entry t.errorlog) (map cancelled_entry t.cancelled ++ vs) q.0, q.1)
 
-      first : Has e (map booking_entry bs) ⊎ Has e (map error_entry es ++ (map cancelled_entry cs ++ [])) → Has e (entries_of t) × (f e.0 e.1 ≡ true)
+      first : Has e (map booking_entry bs) ⊎ Has e (map error_entry es ++ (map cancelled_entry cs ++ [])) → Has e (all_entries t) × (f e.0 e.1 ≡ true)
       first (inl g) =
           let q = entries_there booking_entry f t.booking bs e picks.booking g in
           (has_left e (map booking_entry t.booking) (map error_entry t.errorlog ++ (map cancelled_entry t.cancelled ++ vs)) q.0, q.1)
@@ -239,7 +199,7 @@ module _ (t : Tables) (logs : List LogRow) (f : Id → Row → Bool) (bs : List 
           let q = second (has_split e (map error_entry es) (map cancelled_entry cs ++ []) g) in
           (has_right e (map booking_entry t.booking) (map error_entry t.errorlog ++ (map cancelled_entry t.cancelled ++ vs)) q.0, q.1)
 
-  picked_back : (e : Id × Row) → Has e (entries_of t) → f e.0 e.1 ≡ true → Has e (entries_of (with_rows t logs bs es cs))
+  picked_back : (e : Id × Row) → Has e (all_entries t) → f e.0 e.1 ≡ true → Has e (all_entries (with_rows t logs bs es cs))
   picked_back e h passed = first (has_split e (map booking_entry t.booking) (map error_entry t.errorlog ++ (map cancelled_entry t.cancelled ++ vs)) h)
     where
       vs : List (Id × Row)
@@ -255,7 +215,7 @@ module _ (t : Tables) (logs : List LogRow) (f : Id → Row → Bool) (bs : List 
       second (inl g) = has_left e (map error_entry es) (map cancelled_entry cs ++ []) (entries_back error_entry f t.errorlog es e picks.errorlog g passed)
       second (inr g) = has_right e (map error_entry es) (map cancelled_entry cs ++ []) (third (has_split e (map cancelled_entry t.cancelled) vs g))
 
-      first : Has e (map booking_entry t.booking) ⊎ Has e (map error_entry t.errorlog ++ (map cancelled_entry t.cancelled ++ vs)) → Has e (entries_of (with_rows t logs bs es cs))
+      first : Has e (map booking_entry t.booking) ⊎ Has e (map error_entry t.errorlog ++ (map cancelled_entry t.cancelled ++ vs)) → Has e (all_entries (with_rows t logs bs es cs))
       first (inl g) = has_left e (map booking_entry bs) (map error_entry es ++ (map cancelled_entry cs ++ [])) (entries_back booking_entry f t.booking bs e picks.booking g passed)
       first (inr g) =
           has_right e (map booking_entry bs) (map error_entry es ++ (map cancelled_entry cs ++ []))
@@ -270,28 +230,28 @@ module _ (a : Replica) (logs : List LogRow) (f : Id → Row → Bool) (bs : List
   board-picked i = ap (λ b. row_at b i) (sym (board-entries part)) ∙ go (row_at (board_of (tables_of a)) i) refl
     where
       -- an entry of the part with this id is the replica's row
-      one : (e : Id × Row) → Has e (entries_of part) → e.0 ≡ i → (row_at (board_of (tables_of a)) i ≡ Some e.1) × (f i e.1 ≡ true)
+      one : (e : Id × Row) → Has e (all_entries part) → e.0 ≡ i → (row_at (board_of (tables_of a)) i ≡ Some e.1) × (f i e.1 ≡ true)
       one e h s =
           let q = picked_there (tables_of a) logs f bs es cs picks e h in
           (ap (row_at (board_of (tables_of a))) (sym s) ∙ on_board a e sound q.0, ap (λ j. f j e.1) (sym s) ∙ q.1)
 
-      there : (row : Row) → row_at (board_of (tables_of a)) i ≡ Some row → Has (i, row) (entries_of (tables_of a))
-      there row e = by (found (entries_of (tables_of a)) [] i row (ap (λ b. row_at b i) (board-entries (tables_of a)) ∙ e))
+      there : (row : Row) → row_at (board_of (tables_of a)) i ≡ Some row → Has (i, row) (all_entries (tables_of a))
+      there row e = by (found (all_entries (tables_of a)) [] i row (ap (λ b. row_at b i) (board-entries (tables_of a)) ∙ e))
         where
-          by : Has (i, row) (entries_of (tables_of a)) ⊎ (row_at [] i ≡ Some row) → Has (i, row) (entries_of (tables_of a))
+          by : Has (i, row) (all_entries (tables_of a)) ⊎ (row_at [] i ≡ Some row) → Has (i, row) (all_entries (tables_of a))
           by (inl h) = h
           by (inr n) = absurd (none_some row n)
 
-      some : (row : Row) → row_at (board_of (tables_of a)) i ≡ Some row → (c : Bool) → f i row ≡ c → row_at (put_entries (entries_of part) []) i ≡ cond c (Some row) None
+      some : (row : Row) → row_at (board_of (tables_of a)) i ≡ Some row → (c : Bool) → f i row ≡ c → row_at (put_entries (all_entries part) []) i ≡ cond c (Some row) None
       some row e true passed =
-          put_found (Some row) i (entries_of part) [] (i, row) (λ x h s. sym (one x h s).0 ∙ e)
+          put_found (Some row) i (all_entries part) [] (i, row) (λ x h s. sym (one x h s).0 ∙ e)
           (picked_back (tables_of a) logs f bs es cs picks (i, row) (there row e) passed) refl
       some row e false failed =
-          kept None i (entries_of part) []
+          kept None i (all_entries part) []
           (λ x h s. absurd (true≢false (sym (one x h s).1 ∙ ap (f i) (some_inj x.1 row (sym (one x h s).0 ∙ e)) ∙ failed))) refl
 
-      go : (o : Option Row) → row_at (board_of (tables_of a)) i ≡ o → row_at (put_entries (entries_of part) []) i ≡ if_picked (f i) o
-      go None e = kept None i (entries_of part) [] (λ x h s. absurd (none_some x.1 (sym e ∙ (one x h s).0))) refl
+      go : (o : Option Row) → row_at (board_of (tables_of a)) i ≡ o → row_at (put_entries (all_entries part) []) i ≡ if_picked (f i) o
+      go None e = kept None i (all_entries part) [] (λ x h s. absurd (none_some x.1 (sym e ∙ (one x h s).0))) refl
       go (Some row) e = some row e (f i row) refl
 
 -- ---- scope by scope

@@ -27,7 +27,7 @@ use Rattle.mr_replica.specs.ChangeLaws.{vector_between}
 use Rattle.mr_part.specs.Changed.{is_elsewhere, tells, same_place, picked}
 use Rattle.mr_part.specs.PartMoves.{MovesPart}
 use Rattle.mr_replica.specs.Logged.{undo_with}
-use Rattle.mr_replica.specs.RoomMoves.{RoomMoves, ReplaysRooms, undone_at, board_after, rows_after, row_at}
+use Rattle.mr_replica.specs.RoomMoves.{MovesOfRooms, ReplaysRooms, undone_at, board_after_moves, rows_after, first_undo_row}
 use Rattle.mr_replica.specs.Placing.{with_places_put, RowEnds, cancellers_on}
 use Rattle.mr_replica.specs.Targets.{aimed_at, moved_targets}
 use Rattle.mr_replica.proofs.BatchBoards.{moving, undone_rows}
@@ -38,7 +38,7 @@ use Rattle.mr_replica.proofs.DeskBoards.{tallies_of}
 use Rattle.mr_replica.proofs.DeskMoves.{board_holds}
 use Rattle.mr_part.proofs.PartBoards.{board_in, board_in_ordered, has_bookings}
 use Rattle.mr_replica.proofs.Replays.{bookings_view}
-use Rattle.mr_replica.proofs.RoomsApart.{IsGrouped, ShowsApart, rooms_apart}
+use Rattle.mr_replica.proofs.MovedRooms.{IsGrouped, ShowsApart, rooms_apart}
 use Rattle.mr_replica.proofs.Targeting.{Shows, targets_end}
 
 -- ---- boards
@@ -64,7 +64,7 @@ module _ (a b : Replica) (items : List Item) (m : BatchMoves a b items) (sound :
 
   -- a tentative write whose row tells its place keeps its rows
   told : (w : Write) → Has w (moving a items b) → is_elsewhere (undone_rows a items) (place_of b) w ≡ false → Has w a.known × (place_of a w ≡ place_of b w) × (seq_of a w ≡ seq_of b w)
-  told w h stays = go (row_at (undone_rows a items) (id_of w)) refl stays
+  told w h stays = go (first_undo_row (undone_rows a items) (id_of w)) refl stays
     where
       number : (r : Replica) (v : Write) → Has v (tentative r) → seq_of r v ≡ 0
       number r v g = let t = tentative_known r v g in seq_not 1 r.commits (id_of v) (λ f. true≢false (sym (has_among (id_of v) r.commits f) ∙ t.1))
@@ -73,7 +73,7 @@ module _ (a b : Replica) (items : List Item) (m : BatchMoves a b items) (sound :
       not_not true e = refl
       not_not false e = absurd (true≢false e)
 
-      go : (o : Option UndoRow) → row_at (undone_rows a items) (id_of w) ≡ o → not (tells o (undo_with (place_of b) w)) ≡ false → Has w a.known × (place_of a w ≡ place_of b w) × (seq_of a w ≡ seq_of b w)
+      go : (o : Option UndoRow) → first_undo_row (undone_rows a items) (id_of w) ≡ o → not (tells o (undo_with (place_of b) w)) ≡ false → Has w a.known × (place_of a w ≡ place_of b w) × (seq_of a w ≡ seq_of b w)
       go None is t = absurd (true≢false t)
       go (Some u) is t =
           let there = find_has (λ (x : UndoRow). same_id x.id (id_of w)) u (undone_rows a items) is in
@@ -97,15 +97,15 @@ module _ (a b : Replica) (items : List Item) (m : BatchMoves a b items) (sound :
 
   -- ---- the rooms replayed one after the other
 
-  module _ (moves : RoomMoves) (grouped : IsGrouped a b items m sound moves) where
+  module _ (moves : MovesOfRooms) (grouped : IsGrouped a b items m sound moves) where
     abbrev pub new : Rows
-    new = board_after moves.entries old
+    new = board_after_moves moves.entries old
 
     done : ShowsApart a b items m sound mine of_moving m.touched (λ room o. if_taken (if_of room o)) if_taken bookings_view moves grouped old
     done = rooms_apart a b items m sound mine of_moving m.touched (λ room o. if_taken (if_of room o)) if_taken bookings_view moves grouped old (board_in_ordered mine a) (has_bookings a mine sound)
 
     -- executed on the part's board, where the others are undone, they get their places
-    pub again_found : (w : Write) → Has w (again a items m.news b) → row_at (rows_after moves.entries old) (id_of w) ≡ Some (undo_with (place_of b) w)
+    pub again_found : (w : Write) → Has w (again a items m.news b) → first_undo_row (rows_after moves.entries old) (id_of w) ≡ Some (undo_with (place_of b) w)
     again_found = done.found
 
     shows_new : (w : Write) → Has w (again a items m.news b) → Shows b w.room new
@@ -125,7 +125,7 @@ module _ (a b : Replica) (items : List Item) (m : BatchMoves a b items) (sound :
 
 -- ---- a call of a part
 
-module _ (was : Summary) (known : List Text) (board : Rows) (items : List Item) (a b : Replica) (s : Summary) (rooms : List Text) (us : List UndoRow) (in_rooms : RoomMoves) (ws : List Write) (h : MovesPart was known board items a b s rooms us in_rooms ws) (after : Rows) (rows : List UndoRow) (r : ReplaysRooms (undone_at in_rooms) ws board after rows) where
+module _ (was : Summary) (known : List Text) (board : Rows) (items : List Item) (a b : Replica) (s : Summary) (rooms : List Text) (us : List UndoRow) (in_rooms : MovesOfRooms) (ws : List Write) (h : MovesPart was known board items a b s rooms us in_rooms ws) (after : Rows) (rows : List UndoRow) (r : ReplaysRooms (undone_at in_rooms) ws board after rows) where
   grouped : IsGrouped a b items h.moves h.sound r.moves
   grouped = record {
     undone = λ name. r.undone_are name ∙ (h.rooms_undone name).0;
@@ -139,10 +139,10 @@ module _ (was : Summary) (known : List Text) (board : Rows) (items : List Item) 
   -- what the part's board gives are the places that the writes have
   pub part_rows : rows ≡ map (undo_with (place_of b)) ws
   part_rows =
-      r.rows_are (undo_with (place_of b)) (λ w g. ap (λ c. row_at (rows_after r.moves.entries c) (id_of w)) h.board_is ∙ again_found a b items h.moves h.sound r.moves grouped w (anew_has w g))
+      r.rows_are (undo_with (place_of b)) (λ w g. ap (λ c. first_undo_row (rows_after r.moves.entries c) (id_of w)) h.board_is ∙ again_found a b items h.moves h.sound r.moves grouped w (anew_has w g))
 
   part_board : after ≡ new a b items h.moves h.sound r.moves grouped
-  part_board = r.board_is ∙ ap (board_after r.moves.entries) h.board_is
+  part_board = r.board_is ∙ ap (board_after_moves r.moves.entries) h.board_is
 
   -- what they aim at ends on its day
   pub part_ends : (w : Write) → Has w ws → RowEnds (if_taken (aimed_at after w.room w.action))

@@ -34,7 +34,7 @@ use Rattle.mr_replay.specs.declared.rows.Kept.TheVariants.{OfBooking, OfCancel}
 use Rattle.mr_replay.specs.declared.rows.Row.{Row}
 use Rattle.mr_replay.specs.Rows.{Rows, row_at}
 use Rattle.mr_replay.proofs.Entries.{row_at-put}
-use Rattle.mr_replay.proofs.Ids.{exact_ids}
+use Rattle.mr_replay.proofs.IdKeys.{exact_ids}
 use Rattle.mr_tables.specs.Boards.{booking_entry, error_entry, cancelled_entry, put_entries, board_of}
 use Rattle.mr_part.specs.Parts.{PartView, kept_in, part_of, IsAskedOf}
 use Rattle.mr_replica.proofs.DeskNumbers.{dropped_long}

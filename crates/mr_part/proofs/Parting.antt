@@ -31,19 +31,19 @@ use Rattle.mr_replay.specs.declared.rows.Kept.{Kept}
 use Rattle.mr_replay.specs.declared.rows.Kept.TheVariants.{OfBooking, OfCancel}
 use Rattle.mr_replay.specs.declared.rows.Row.{Row}
 use Rattle.mr_replay.specs.Places.{UndoRow}
-use Rattle.mr_replay.specs.Rows.{Rows, row_at, is_standing, is_booking_of, bookings_of, place_on, executed, undo_row_at, undo_row_of, undo_rows_of, target_of, taken_back as taken_back_by}
+use Rattle.mr_replay.specs.Rows.{Rows, row_at, is_standing, is_booking_of, bookings_of, place_by_rows, executed, undo_row_at, undo_row_of, undo_rows_of, target_of, target_if_done as taken_back_by}
 use Rattle.mr_replay.specs.Bookings.{if_taken, HasBookings}
 use Rattle.mr_replay.specs.Holds.{HaveDistinctIds}
 use Rattle.mr_replay.specs.Index.{is_row}
 use Rattle.mr_replay.proofs.Entries.{IsInOrder}
 use Rattle.mr_replay.proofs.Lists.{same_name, distinct-part}
-use Rattle.mr_replay.proofs.Placing.{booked-row, place_by_bookings}
+use Rattle.mr_replay.proofs.PlacesOnBoard.{booked-row, place_by_bookings}
 use Rattle.mr_tables.specs.Boards as tables
 use Rattle.mr_tables.specs.declared.summary.Summary.{Summary}
 use Rattle.mr_tables.specs.declared.summary.Tally.{Tally}
 use Rattle.mr_tables.specs.Summary.{summary_of, noted_write, noted_commits, stamp_next}
 use Rattle.mr_tables.specs.Change.{ChangeView, changed}
-use Rattle.mr_tables.specs.Rows.{seq_on}
+use Rattle.mr_tables.specs.ExecutionRows.{seq_on}
 use Rattle.mr_tables.specs.Written.{meta_of, changed_tallies, with_places, written}
 use Rattle.mr_tables.proofs.BoardsTold.{board_told}
 use Rattle.mr_replica.specs.Accepting.{summary_in, with_last, puts_last, CanPutLast}
@@ -53,7 +53,7 @@ use Rattle.mr_replica.specs.DeskTables.{desk_tables}
 use Rattle.mr_part.specs.Parts.{PartView, part_of}
 use Rattle.mr_part.specs.PartAccepting.{part_puts, CanPut}
 use Rattle.mr_replica.specs.Logged.{undo_with}
-use Rattle.mr_replica.specs.Placing.{with_places_put, kept_place, RowEnds, TargetEnds, kept_canceller, row_canceller, cancellers_on, kept_is_booking, is_booking_in, has_booking, taken_row, taken_on, taken_rows_of, taken_rows}
+use Rattle.mr_replica.specs.Placing.{with_places_put, kept_place, RowEnds, TargetEnds, kept_canceller, row_canceller, cancellers_on, kept_is_booking, is_booking_row_in, has_booking, taken_row, taken_on, taken_rows_of, taken_rows}
 use Rattle.mr_replica.specs.Steps.{submit_request, outcome_in, cancel_with, cancel_request, outcome_at_room}
 use Rattle.mr_replica.specs.Turning.{put_outcome, put_cancel_outcome}
 use Rattle.mr_replica.proofs.Changing.{kept_committed_long}
@@ -66,7 +66,7 @@ use Rattle.mr_part.proofs.PartBoards.{if_picked, is_taken_back, is_in_part, part
 use Rattle.mr_replica.proofs.Placings.{canceller-here, rows_end, booking-known}
 use Rattle.mr_replica.proofs.Submitting.{Submits, submits, Withdraws, withdraws, submitted_is_next, cancelled_is_next}
 use Rattle.mr_replica.proofs.SubmittedRows.{few_kept, booking_takes, PutsLast, submitted, withdrawn}
-use Rattle.mr_replica.proofs.Writing.{part_places}
+use Rattle.mr_replica.proofs.DeskChanges.{part_places}
 
 -- ---- a commit
 
@@ -78,8 +78,8 @@ take_same k xs ys n e = (λ t. take (n t) (e t)) ∙ take-length ys
 undo_told : (f : Write → Place) (b : Rows) (ws : List Write) → map (λ (u : UndoRow). u.place) (undo_rows_of b ws) ≡ map f ws → map (undo_with f) ws ≡ undo_rows_of b ws
 undo_told f b [] e = refl
 undo_told f b (w ∷ ws) e =
-    let all : place_on b w ∷ map (λ (u : UndoRow). u.place) (undo_rows_of (executed b w) ws) ≡ f w ∷ map f ws = e in
-    let here : place_on b w ≡ f w = (cc) in
+    let all : place_by_rows b w ∷ map (λ (u : UndoRow). u.place) (undo_rows_of (executed b w) ws) ≡ f w ∷ map f ws = e in
+    let here : place_by_rows b w ≡ f w = (cc) in
     let later : map (λ (u : UndoRow). u.place) (undo_rows_of (executed b w) ws) ≡ map f ws = (cc) in
     let rest = undo_told f (executed b w) ws later in
     λ i. undo_row_at w (sym here i) ∷ rest i
@@ -153,7 +153,7 @@ written_last meta vector c k j w u by l m =
 
 -- where the part's board gives the write the place that the replica's gives it, and has the row of what it takes back, what is put is
 -- what the replica's desk puts
-part_puts_last : (a : Replica) (p : PartView) (w : Write) (change : ChangeView) → IsReplica a → p.summary ≡ summary_of a → place_on p.board w ≡ place_on (board_of a) w → taken_rows p.summary.tallies p.board (undo_row_of p.board w) ≡ taken_rows p.summary.tallies (board_of a) (undo_row_of p.board w) → TargetEnds p.board (target_of w.action)
+part_puts_last : (a : Replica) (p : PartView) (w : Write) (change : ChangeView) → IsReplica a → p.summary ≡ summary_of a → place_by_rows p.board w ≡ place_by_rows (board_of a) w → taken_rows p.summary.tallies p.board (undo_row_of p.board w) ≡ taken_rows p.summary.tallies (board_of a) (undo_row_of p.board w) → TargetEnds p.board (target_of w.action)
     → (CanPut p (noted_write p.summary w.stamp) w → change ≡ part_puts p (noted_write p.summary w.stamp) w) → PutsLast (desk_of a) w change
 part_puts_last a p w change sound summary place taken ends is can =
     let s : Summary = noted_write (summary_of a) w.stamp in
@@ -177,7 +177,7 @@ part_puts_last a p w change sound summary place taken ends is can =
 -- ---- a submission
 
 -- on a board with the bookings of its room a write goes where the replica's board tells
-room_place : (a : Replica) (mine : Text → Bool) (w : Write) → IsReplica a → mine w.room ≡ true → place_on (board_in mine a) w ≡ place_on (board_of a) w
+room_place : (a : Replica) (mine : Text → Bool) (w : Write) → IsReplica a → mine w.room ≡ true → place_by_rows (board_in mine a) w ≡ place_by_rows (board_of a) w
 room_place a mine w sound m =
     let room = w.room in
     let list = of_room room (order_of a) in
@@ -185,7 +185,7 @@ room_place a mine w sound m =
     let distinct : HaveDistinctIds list = distinct-part room (order_of a) (subst (λ (ws : List Write). HaveDistinctIds ws) (sym (order-parts a)) (order_distinct a sound)) in
     place_by_bookings room list (board_in mine a) w refl (board_in_ordered mine a) distinct (has_bookings a mine sound room m)
     ∙ sym (place_by_bookings room list (tables.board_of (tables_of a)) w refl holds.ordered distinct (λ i. ap if_taken (holds.rooms room i)))
-    ∙ ap (λ b. place_on b w) (sym (board-told a sound))
+    ∙ ap (λ b. place_by_rows b w) (sym (board-told a sound))
 
 -- what is owed where a request was accepted: the step, and what the change does and says
 pub record PartSubmitted (a : Replica) (q : Request) (id : Id) (change : ChangeView) : Type 0 where
@@ -207,12 +207,12 @@ part_submit a q p stamp w id change sound e good there stamp_is w_is id_is chang
     let board : p.board ≡ board_in (λ name. bytes_eq name q.room) a = ap (λ (v : PartView). v.board) e in
     let own : bytes_eq w.room q.room ≡ true = same_name w.room q.room (ap (λ (v : Write). v.room) w_is) in
     let books : w.action ≡ Books q.meeting = ap (λ (v : Write). v.action) w_is in
-    let place : place_on p.board w ≡ place_on (board_of a) w = ap (λ b. place_on b w) board ∙ room_place a (λ name. bytes_eq name q.room) w sound own in
+    let place : place_by_rows p.board w ≡ place_by_rows (board_of a) w = ap (λ b. place_by_rows b w) board ∙ room_place a (λ name. bytes_eq name q.room) w sound own in
     let u = undo_row_of p.board w in
     let none : taken_rows p.summary.tallies p.board u ≡ taken_rows p.summary.tallies (board_of a) u =
-    ap (λ x. taken_rows_of p.summary.tallies p.board (id_of w) (taken_back_by (place_on p.board w) (target_of x))) books
-    ∙ books_none p.summary.tallies p.board (board_of a) (id_of w) (place_on p.board w)
-    ∙ ap (λ x. taken_rows_of p.summary.tallies (board_of a) (id_of w) (taken_back_by (place_on p.board w) (target_of x))) (sym books) in
+    ap (λ x. taken_rows_of p.summary.tallies p.board (id_of w) (taken_back_by (place_by_rows p.board w) (target_of x))) books
+    ∙ books_none p.summary.tallies p.board (board_of a) (id_of w) (place_by_rows p.board w)
+    ∙ ap (λ x. taken_rows_of p.summary.tallies (board_of a) (id_of w) (taken_back_by (place_by_rows p.board w) (target_of x))) (sym books) in
     let ends : TargetEnds p.board (target_of w.action) = subst (λ x. TargetEnds p.board (target_of x)) (sym books) tt in
     let puts = part_puts_last a p w change sound summary place none ends change_is in
     let known : knows_room a q.room ≡ true = ap (λ rs. list_any (bytes_eq q.room) rs) (sym rooms) ∙ there in
@@ -249,9 +249,9 @@ module _ (target : Id) where
   standing_picked room None = refl
   standing_picked room (Some row) = kept_picked (is_row (is_booking_of room)) row (λ x e. sym (λ i. is_standing (e i) && bytes_eq row.room room))
 
-  booking_picked : (room : Text) (o : Option Row) → is_booking_in room (picked o) ≡ is_booking_in room o
+  booking_picked : (room : Text) (o : Option Row) → is_booking_row_in room (picked o) ≡ is_booking_row_in room o
   booking_picked room None = refl
-  booking_picked room (Some row) = kept_picked (is_booking_in room) row (λ x e. sym ((λ i. cond (bytes_eq row.room room) (kept_is_booking (e i)) false) ∙ never (bytes_eq row.room room)))
+  booking_picked room (Some row) = kept_picked (is_booking_row_in room) row (λ x e. sym ((λ i. cond (bytes_eq row.room room) (kept_is_booking (e i)) false) ∙ never (bytes_eq row.room room)))
     where
       never : (b : Bool) → cond b false false ≡ false
       never true = refl
@@ -270,14 +270,14 @@ module _ (target : Id) where
       go false = tt
 
 -- on a board with the row of its target a cancel goes where the replica's board tells
-target_place : (a : Replica) (target : Id) (b : Rows) (w : Write) → IsReplica a → w.action ≡ Cancels target → IsInOrder b → row_at b target ≡ picked target (row_at (tables.board_of (tables_of a)) target) → place_on b w ≡ place_on (board_of a) w
+target_place : (a : Replica) (target : Id) (b : Rows) (w : Write) → IsReplica a → w.action ≡ Cancels target → IsInOrder b → row_at b target ≡ picked target (row_at (tables.board_of (tables_of a)) target) → place_by_rows b w ≡ place_by_rows (board_of a) w
 target_place a target b w sound cancels ordered row =
     let desk = tables.board_of (tables_of a) in
     let booked = booked-row w.room b target ordered ∙ ap (is_row (is_booking_of w.room)) row ∙ standing_picked target w.room (row_at desk target) ∙ sym (booked-row w.room desk target (board_told a sound).ordered) in
     ap (place_for (bookings_of w.room b)) cancels
     ∙ ap (λ c. cond c Done Void) booked
     ∙ ap (place_for (bookings_of w.room desk)) (sym cancels)
-    ∙ ap (λ c. place_on c w) (sym (board-told a sound))
+    ∙ ap (λ c. place_by_rows c w) (sym (board-told a sound))
 
 -- what is owed where a cancel was accepted
 pub record PartWithdrawn (a : Replica) (room : Text) (target : Id) (id : Id) (change : ChangeView) : Type 0 where
@@ -289,8 +289,8 @@ pub record PartWithdrawn (a : Replica) (room : Text) (target : Id) (id : Id) (ch
 target_known : (a : Replica) (room : Text) (target : Id) (p : PartView) → IsReplica a → p ≡ part_of (OfTarget target) a → has_booking p.board room target ≡ has_booking (board_of a) room target
 target_known a room target p sound e =
     let desk = tables.board_of (tables_of a) in
-    ap (λ (v : PartView). is_booking_in room (row_at v.board target)) e ∙ ap (is_booking_in room) (part-row (OfTarget target) a target sound) ∙ booking_picked target room (row_at desk target)
-    ∙ ap (λ b. is_booking_in room (row_at b target)) (sym (board-told a sound))
+    ap (λ (v : PartView). is_booking_row_in room (row_at v.board target)) e ∙ ap (is_booking_row_in room) (part-row (OfTarget target) a target sound) ∙ booking_picked target room (row_at desk target)
+    ∙ ap (λ b. is_booking_row_in room (row_at b target)) (sym (board-told a sound))
 
 -- and so it is told whether the replica knows it
 pub target_booked : (a : Replica) (room : Text) (target : Id) (p : PartView) → IsReplica a → p ≡ part_of (OfTarget target) a → has_booking p.board room target ≡ knows_booking a room target
@@ -314,10 +314,10 @@ part_cancel a room target p stamp w id change sound e good there booked stamp_is
     let u = undo_row_of p.board w in
     let at : row_at desk target ≡ row_at (board_of a) target = ap (λ b. row_at b target) (sym (board-told a sound)) in
     let taken : taken_rows p.summary.tallies p.board u ≡ taken_rows p.summary.tallies (board_of a) u =
-    ap (λ x. taken_rows_of p.summary.tallies p.board (id_of w) (taken_back_by (place_on p.board w) (target_of x))) cancels
-    ∙ taken_same p.summary.tallies p.board (board_of a) (id_of w) target (place_on p.board w)
+    ap (λ x. taken_rows_of p.summary.tallies p.board (id_of w) (taken_back_by (place_by_rows p.board w) (target_of x))) cancels
+    ∙ taken_same p.summary.tallies p.board (board_of a) (id_of w) target (place_by_rows p.board w)
     (ap (taken_on p.summary.tallies (id_of w) target) row ∙ taken_picked target p.summary.tallies (id_of w) (row_at desk target) ∙ ap (taken_on p.summary.tallies (id_of w) target) at)
-    ∙ ap (λ x. taken_rows_of p.summary.tallies (board_of a) (id_of w) (taken_back_by (place_on p.board w) (target_of x))) (sym cancels) in
+    ∙ ap (λ x. taken_rows_of p.summary.tallies (board_of a) (id_of w) (taken_back_by (place_by_rows p.board w) (target_of x))) (sym cancels) in
     let ends : TargetEnds p.board (target_of w.action) =
     subst (λ x. TargetEnds p.board (target_of x)) (sym cancels) (subst RowEnds (sym row) (ends_picked target (row_at desk target) (subst RowEnds (sym at) (rows_end a target sound)))) in
     let puts = part_puts_last a p w change sound summary place taken ends change_is in

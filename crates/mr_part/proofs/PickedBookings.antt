@@ -3,7 +3,7 @@ use Rattle.std.proofs.Common.{◌≡◌, refl, ap, ◌∙◌, Bool, true, false,
 use Rattle.std.specs.BTreeSet.{BTreeSet, Updates, contains}
 use Rattle.mr_model.specs.Writes.{Id, same_id}
 use Rattle.mr_base.specs.Ids.{id_cmp}
-use Rattle.mr_replay.proofs.Ids.{at_is}
+use Rattle.mr_replay.proofs.IdKeys.{at_is}
 use Rattle.mr_model.proofs.CommittedPlaces.{same_id_comm}
 
 or-cond : (a b : Bool) → cond a true b ≡ (a || b)

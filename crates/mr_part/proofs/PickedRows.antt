@@ -13,14 +13,14 @@ use Rattle.mr_model.proofs.Members.{has_all, all_has, has_map, map_has, Sorted}
 use Rattle.mr_model.proofs.RowsById.{known_write}
 use Rattle.mr_part.specs.declared.scope_logs.LoggedWrite.{LoggedWrite}
 use Rattle.mr_replica.specs.KeptRows.{run_cmp}
-use Rattle.mr_part.specs.PickedLogs.{logged_of, row_of, IsWithin, AreWithin, logged_place, ArePicked}
+use Rattle.mr_part.specs.PickedLogs.{logged_of, log_row_of, IsWriteWithin, AreWritesWithin, logged_place, ArePicked}
 use Rattle.mr_replica.specs.Logged.{undo_with}
 use Rattle.mr_replica.proofs.KeptOrder.{run_order, before_less}
 use Rattle.mr_replica.proofs.Sorting.{Rises, sorted_is}
 
 -- ---- the writes that rows tell
 
-pub rows_of_logged : (a : Replica) (ws : List Write) → map row_of (map (logged_of a) ws) ≡ map (log_row a) ws
+pub rows_of_logged : (a : Replica) (ws : List Write) → map log_row_of (map (logged_of a) ws) ≡ map (log_row a) ws
 rows_of_logged a [] = refl
 rows_of_logged a (w ∷ ws) = ap (λ rows. log_row a w ∷ rows) (rows_of_logged a ws)
 
@@ -36,10 +36,10 @@ pub logged_undo : (a : Replica) (ws : List Write) → map (λ x. x.undo) (map (l
 logged_undo a [] = refl
 logged_undo a (w ∷ ws) = ap (λ us. undo_with (place_of a) w ∷ us) (logged_undo a ws)
 
-pub logged_within : (a : Replica) (ws : List Write) → IsReplica a → ((w : Write) → Has w ws → Has w a.known) → AreWithin (map (logged_of a) ws)
+pub logged_within : (a : Replica) (ws : List Write) → IsReplica a → ((w : Write) → Has w ws → Has w a.known) → AreWritesWithin (map (logged_of a) ws)
 logged_within a ws h known =
-    has_all IsWithin (map (logged_of a) ws)
-    (λ x g. let (w, b, e) = map_has (logged_of a) x ws g in subst IsWithin (sym e) (known_write a w h (known w b), refl))
+    has_all IsWriteWithin (map (logged_of a) ws)
+    (λ x g. let (w, b, e) = map_has (logged_of a) x ws g in subst IsWriteWithin (sym e) (known_write a w h (known w b), refl))
 
 -- ---- sorted
 

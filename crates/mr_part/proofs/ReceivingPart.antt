@@ -11,7 +11,7 @@ use Rattle.mr_model.specs.Scopes.{Scope, OfItems}
 use Rattle.mr_model.specs.Step.{After, after_items, step_unless, receive_under, receive_batch}
 use Rattle.mr_model.specs.Tables.{tables_of}
 use Rattle.mr_model.specs.Taking.{Progress, take_items}
-use Rattle.mr_base.specs.Refusals.{refusal_of}
+use Rattle.mr_base.specs.RefusalViews.{refusal_of}
 use Rattle.mr_base.specs.declared.refusals.Refusal.{Refusal}
 use Rattle.mr_base.specs.declared.refusals.Refusal.TheVariants.{OutOfMemory}
 use Rattle.mr_tables.specs.declared.summary.Summary.{Summary}

@@ -4,7 +4,7 @@ use Rattle.mr_model.specs.Replay.{Place, Taken, Logged, Done, Void}
 use Rattle.mr_model.specs.Writes.{Write, id_of}
 use Rattle.mr_replay.specs.Places.{UndoRow}
 use Rattle.mr_replica.specs.Logged.{undo_with}
-use Rattle.mr_replica.specs.RoomMoves.{row_at}
+use Rattle.mr_replica.specs.RoomMoves.{first_undo_row}
 
 abbrev pub same_place : Place → Place → Bool
 same_place (Taken j) (Taken k) = j == k
@@ -20,7 +20,7 @@ tells (Some v) u = same_place v.place u.place
 
 -- whether a write has another place than its row tells
 abbrev pub is_elsewhere : List UndoRow → (Write → Place) → Write → Bool
-is_elsewhere undone place w = not (tells (row_at undone (id_of w)) (undo_with place w))
+is_elsewhere undone place w = not (tells (first_undo_row undone (id_of w)) (undo_with place w))
 
 -- so many first writes, and of the others those that are elsewhere
 abbrev pub picked : ℕ → List UndoRow → (Write → Place) → List Write → List Write

@@ -22,16 +22,16 @@ use Rattle.mr_tables.specs.Change.{ChangeView, changed}
 use Rattle.mr_replica.specs.Desk.{nothing_taken, reply_with}
 use Rattle.mr_part.specs.Parts.{part_of}
 use Rattle.mr_replica.specs.Logged.{undo_with}
-use Rattle.mr_replica.specs.RoomMoves.{RoomMoves, undone_at, again_at}
+use Rattle.mr_replica.specs.RoomMoves.{MovesOfRooms, undone_at, again_at}
 
 -- these undo, by rooms, the tentative writes that the items may move, and nothing is executed anew
-abbrev pub AreUndone : RoomMoves → Replica → List Item → Type 0
+abbrev pub AreUndone : MovesOfRooms → Replica → List Item → Type 0
 AreUndone moves a items =
     (name : Text) → (undone_at moves name ≡ map (undo_with (place_of a)) (of_room name (filter (may_move a items) (tentative a)))) × (again_at moves name ≡ [])
 
 -- The batch leads from the first replica, whose part has these numbers, rooms and board, to the second one, whose numbers and rooms
 -- are those; the undo rows are those of the tentative writes that it may move, and the writes are those that it has executed anew.
-pub record MovesPart (old : Summary) (known : List Text) (board : Rows) (items : List Item) (a b : Replica) (summary : Summary) (rooms : List Text) (undone : List UndoRow) (in_rooms : RoomMoves) (writes : List Write) : Type 0 where
+pub record MovesPart (old : Summary) (known : List Text) (board : Rows) (items : List Item) (a b : Replica) (summary : Summary) (rooms : List Text) (undone : List UndoRow) (in_rooms : MovesOfRooms) (writes : List Write) : Type 0 where
   pub sound : IsReplica a
   pub old_is : old ≡ summary_of a
   pub known_are : known ≡ a.rooms

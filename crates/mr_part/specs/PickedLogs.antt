@@ -35,15 +35,15 @@ abbrev pub logged_of : Replica → Write → LoggedWrite
 logged_of a w = record { write = w; undo = undo_with (place_of a) w; seq = seq_of a w }
 
 -- the row that tells it
-abbrev pub row_of : LoggedWrite → LogRow
-row_of x = log_row_with x.write x.undo.place x.seq
+abbrev pub log_row_of : LoggedWrite → LogRow
+log_row_of x = log_row_with x.write x.undo.place x.seq
 
 -- within the limits, and undone by the row of its own place
-abbrev pub IsWithin : LoggedWrite → Type 0
-IsWithin x = IsTrue (is_write x.write) × (x.undo ≡ undo_row_at x.write x.undo.place)
+abbrev pub IsWriteWithin : LoggedWrite → Type 0
+IsWriteWithin x = IsTrue (is_write x.write) × (x.undo ≡ undo_row_at x.write x.undo.place)
 
-abbrev pub AreWithin : List LoggedWrite → Type 0
-AreWithin xs = AllByRecursion IsWithin xs
+abbrev pub AreWritesWithin : List LoggedWrite → Type 0
+AreWritesWithin xs = AllByRecursion IsWriteWithin xs
 
 -- where it stands in the order of execution
 abbrev pub logged_place : LoggedWrite → RunPlace

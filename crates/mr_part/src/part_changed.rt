@@ -3,7 +3,7 @@ ghost use Rattle.std.specs.BTreeMap.{get};
 ghost use Rattle.mr_model.specs.Replay.{Place as PlaceOfWrite};
 ghost use Rattle.mr_model.specs.Writes.{Write as WriteOfRoom};
 ghost use Rattle.mr_base.specs.Ids.{id_cmp};
-ghost use Rattle.mr_replay.specs.Places.{place_of, UndoRow as UndoRowOfWrite};
+ghost use Rattle.mr_replay.specs.Places.{place_seen, UndoRow as UndoRowOfWrite};
 ghost use Rattle.mr_part.specs.Changed.{same_place, tells, picked};
 ghost use Rattle.mr_replica.specs.Logged.{undo_with};
 ghost use Rattle.mr_replica.specs.RoomMoves.{AreById};
@@ -97,7 +97,7 @@ fn tells(was: &RowsById, row: &UndoRow) -> bool
 }
 
 fn same_place(place: Place, other: Place) -> bool
-    ensures { result ≡ same_place (place_of place) (place_of other) }
+    ensures { result ≡ same_place (place_seen place) (place_seen other) }
 {
     match (place, other) {
         (Place::Taken(number), Place::Taken(same)) => number == same,

@@ -3,11 +3,11 @@ ghost use Rattle.std.specs.List.Sorted.{IsPermutation, IsSortedByKey};
 ghost use Rattle.mr_model.specs.Writes.{Write as WriteOfRoom};
 ghost use Rattle.mr_model.specs.Replica.{Replica, IsReplica};
 ghost use Rattle.mr_base.specs.Answers.{OrOutOfMemory};
-ghost use Rattle.mr_replay.specs.Places.{place_of};
+ghost use Rattle.mr_replay.specs.Places.{place_seen};
 ghost use Rattle.mr_replay.specs.Rows.{undo_row_at};
 ghost use Rattle.mr_replica.specs.KeptRows.{run_cmp};
 ghost use Rattle.mr_part.specs.ScopeOf.{scope_of};
-ghost use Rattle.mr_part.specs.PickedLogs.{is_log_in, row_of, logged_of, IsWithin, AreWithin, ArePicked, logged_place};
+ghost use Rattle.mr_part.specs.PickedLogs.{is_log_in, log_row_of, logged_of, IsWriteWithin, AreWritesWithin, ArePicked, logged_place};
 ghost use Rattle.mr_part.specs.declared.scope_logs.LoggedWrite.{LoggedWrite as LoggedWriteOfRow};
 
 use crate::Scope;
@@ -30,7 +30,7 @@ pub(crate) struct LoggedWrite {
 impl LoggedWrite {
     /// That of a row. Refused where the row is that of no write.
     pub(crate) fn of_row(alloc: Global, row: &LogRow) -> Result<LoggedWrite, Refusal>
-        ensures read { (x : LoggedWriteOfRow) → IsWithin x → row.now ≡ row_of x → OrOutOfMemory result (Ok x) }
+        ensures read { (x : LoggedWriteOfRow) → IsWriteWithin x → row.now ≡ log_row_of x → OrOutOfMemory result (Ok x) }
     {
         match write_of(alloc, row) {
             Ok(write) => Ok(LoggedWrite::with(write, row.place, row.seq)),
@@ -40,7 +40,7 @@ impl LoggedWrite {
 
     /// That of a write at its place.
     fn with(write: Write, place: Place, seq: u64) -> LoggedWrite
-        ensures { result ≡ record { write = write; undo = undo_row_at write (place_of place); seq = seq } }
+        ensures { result ≡ record { write = write; undo = undo_row_at write (place_seen place); seq = seq } }
     {
         let undo = UndoRow {
             id: write.stamp.id(),
@@ -72,9 +72,9 @@ fn writes_in(
     commits: u64,
     touched: &[RoomName],
 ) -> Result<Vec<LoggedWrite>, Refusal>
-    ensures writes { (xs : List LoggedWriteOfRow) → AreWithin xs → filter (is_log_in (scope_of scope.now) commits touched.now) rows.now ≡ map row_of xs
+    ensures writes { (xs : List LoggedWriteOfRow) → AreWritesWithin xs → filter (is_log_in (scope_of scope.now) commits touched.now) rows.now ≡ map log_row_of xs
         → IfOk result (λ writes. writes.items ≡ xs) }
-    ensures only { (xs : List LoggedWriteOfRow) → AreWithin xs → filter (is_log_in (scope_of scope.now) commits touched.now) rows.now ≡ map row_of xs
+    ensures only { (xs : List LoggedWriteOfRow) → AreWritesWithin xs → filter (is_log_in (scope_of scope.now) commits touched.now) rows.now ≡ map log_row_of xs
         → IfErr result (λ e. e ≡ Refusal.OutOfMemory) }
 {
     let test = LogTest::of(alloc, scope, commits, touched)?;

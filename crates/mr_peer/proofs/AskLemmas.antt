@@ -13,7 +13,7 @@ use Rattle.mr_model.proofs.PositionsReadBack.{read-position_text}
 use Rattle.mr_http.specs.declared.faults.WebFault.{WebFault}
 use Rattle.mr_http.specs.declared.faults.WebFault.TheVariants as fault
 use Rattle.mr_service.specs.Worlds.{IsPositionText}
-use Rattle.mr_peer.specs.Rounds.{Runs}
+use Rattle.mr_peer.specs.Rounds.{RunsRequest}
 use Rattle.mr_peer.specs.PeerAsking.{IsSendFault, IsAskFault, GivesBatch, GivesWritten, Wrote, OwnRefuses, ReadsOff, HandsOut, IsBatchWith, IsSomePosition, IsSomeBatch}
 use Rattle.mr_peer.specs.PeerTaking.{IsOwnFault}
 
@@ -201,7 +201,7 @@ failed_as X Y a command request held holds (fault.Own e) own wrote = (own, wrote
 
 -- the ask of a round failed
 pub ask_failed : (X Y : Type 0) (a : Replica) (command : Command) (request : Text) (held holds : Option (List ℕ)) (e : WebFault) (taken : Type 0)
-    → IsAskFault e → OwnRefuses {X = X} a command (Err e) → Wrote {X = X} request held holds (Err e) → Runs {X = Y} a command request held holds (Err e) taken
+    → IsAskFault e → OwnRefuses {X = X} a command (Err e) → Wrote {X = X} request held holds (Err e) → RunsRequest {X = Y} a command request held holds (Err e) taken
 ask_failed X Y a command request held holds e taken is own wrote =
     let f = failed_as X Y a command request held holds e own wrote in
     inl (is, f.0, f.1)

@@ -8,7 +8,7 @@ use Rattle.mr_http.specs.declared.faults.ReadFault.{ReadFault}
 use Rattle.mr_http.specs.declared.faults.ReadFault.TheVariants as read
 use Rattle.mr_http.specs.declared.faults.WebFault.{WebFault}
 use Rattle.mr_http.specs.declared.faults.WebFault.TheVariants as fault
-use Rattle.mr_base.specs.Refusals.{refusal_of}
+use Rattle.mr_base.specs.RefusalViews.{refusal_of}
 use Rattle.mr_store.specs.declared.keeper.Keeper.{Ghosts}
 use Rattle.mr_service.specs.Asked.{reply_of}
 use Rattle.mr_service.specs.Asking.{LeavesOnRefusal}

@@ -5,6 +5,6 @@ pub mod OneReply
 pub mod ReadBytes
 pub mod ReplyLemmas
 pub mod RequestTexts
-pub mod StepLemmas
+pub mod RoundEffects
 pub mod TakeLemmas
 pub mod TookTexts

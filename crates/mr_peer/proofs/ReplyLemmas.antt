@@ -12,7 +12,7 @@ use Rattle.mr_http.proofs.HeadLemmas.{reply_head_more}
 use Rattle.mr_http.proofs.BodyLemmas.{take_same, short_same}
 use Rattle.mr_http.proofs.Known.{if_some_map, of_input, of_input_map}
 use Rattle.mr_peer.specs.PeerReplies.{PeerReply, IsReplied, reply_cut, reply_behind, reply_length}
-use Rattle.mr_base.specs.Refusals.{refusal_of}
+use Rattle.mr_base.specs.RefusalViews.{refusal_of}
 use Rattle.mr_base.specs.declared.refusals.Refusal.{Refusal}
 use Rattle.mr_base.specs.declared.refusals.Refusal.TheVariants.{OutOfMemory}
 use Rattle.mr_model.specs.Refusals as model

@@ -9,8 +9,8 @@ use Rattle.mr_model.specs.Http.{lines_over_http}
 use Rattle.mr_model.specs.Positions.{Position, position_of, position_text}
 use Rattle.mr_model.specs.Step.{Command, AskPosition, BatchFor, IsStep, batch_of, step}
 use Rattle.mr_model.specs.Replies.{Reply, Refused, BatchIs}
-use Rattle.mr_base.specs.Batches.{ending_of}
-use Rattle.mr_base.specs.Refusals.{refusal_of}
+use Rattle.mr_base.specs.Batches.{ending_seen}
+use Rattle.mr_base.specs.RefusalViews.{refusal_of}
 use Rattle.mr_base.specs.declared.batches.Ending.{Ending as BatchEnding}
 use Rattle.mr_http.specs.declared.faults.WebFault.{WebFault}
 use Rattle.mr_http.specs.declared.faults.WebFault.TheVariants as fault
@@ -44,7 +44,7 @@ SendsPull host held holds result =
 -- the same of some batch, which ends so
 abbrev pub SendsPush : Text → Option (List ℕ) → Option (List ℕ) → Result BatchEnding WebFault → Type 0
 SendsPush host held holds result =
-    ((b : Batch) × Wrote (push_request host (batch_text b)) held holds result × IfOk result (λ ending. ending_of ending ≡ b.ending))
+    ((b : Batch) × Wrote (push_request host (batch_text b)) held holds result × IfOk result (λ ending. ending_seen ending ≡ b.ending))
     ⊎ (IsErrAnd result IsOwnFault × Keeps held holds)
 
 -- a fault of this replica is the refusal of its step
@@ -76,7 +76,7 @@ abbrev pub AsksPush : Position → Text → Option (List ℕ) → Option (List �
 AsksPush position host held holds a result b =
     (b ≡ a) × OwnRefuses a (lacking position) result
     × Wrote (push_request host (batch_text (batch_of a position lines_over_http))) held holds result
-    × IfOk result (λ ending. ending_of ending ≡ (batch_of a position lines_over_http).ending)
+    × IfOk result (λ ending. ending_seen ending ≡ (batch_of a position lines_over_http).ending)
     × GivesWritten a position result
 
 -- ---- on the way
@@ -116,5 +116,5 @@ abbrev pub HandsBatch : Position → Replica → Result (Vec ℕ Global × Batch
 HandsBatch position a result b =
     (b ≡ a)
     × HandsOut a (lacking position)
-    (λ x. (x.0.items ≡ batch_text (batch_of a position lines_over_http)) × (ending_of x.1 ≡ (batch_of a position lines_over_http).ending)
+    (λ x. (x.0.items ≡ batch_text (batch_of a position lines_over_http)) × (ending_seen x.1 ≡ (batch_of a position lines_over_http).ending)
     × GivesBatch a position) result

@@ -5,7 +5,7 @@ use Rattle.mr_model.specs.Texts.{Text}
 use Rattle.mr_model.specs.Http.{body_length, greatest_body}
 use Rattle.mr_model.specs.Positions.{Position, read_position}
 use Rattle.mr_http.specs.Heads.{IsReplyHead, HasNoReplyHead}
-use Rattle.mr_http.specs.Fields.{fields_of}
+use Rattle.mr_http.specs.HeaderFields.{fields_of}
 use Rattle.mr_http.specs.declared.faults.WebFault.{WebFault}
 use Rattle.mr_http.specs.declared.faults.WebFault.TheVariants.{BadReply, Peer}
 use Rattle.mr_peer.specs.Took.{read_took}

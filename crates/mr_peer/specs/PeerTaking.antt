@@ -6,8 +6,8 @@ use Rattle.mr_model.specs.Replica.{Replica}
 use Rattle.mr_model.specs.Exchange as exchange
 use Rattle.mr_model.specs.Step.{Receive, IsStep}
 use Rattle.mr_model.specs.Replies.{Took, Refused}
-use Rattle.mr_base.specs.Refusals.{refusal_of}
-use Rattle.mr_base.specs.Batches.{ending_of}
+use Rattle.mr_base.specs.RefusalViews.{refusal_of}
+use Rattle.mr_base.specs.Batches.{ending_seen}
 use Rattle.mr_base.specs.declared.batches.Ending.{Ending}
 use Rattle.mr_http.specs.Inputs.{OfInput}
 use Rattle.mr_http.specs.declared.faults.WebFault.{WebFault}
@@ -60,7 +60,7 @@ ending_in bytes = ending_read (exchange.read_batch bytes)
 
 -- the ending of the batch that the bytes read as, or the refusal of what they read as, unless memory ran out
 abbrev pub EndsAsBatch : Text → Result Ending WebFault → Type 0
-EndsAsBatch bytes (Ok ending) = ending_of ending ≡ ending_in bytes
+EndsAsBatch bytes (Ok ending) = ending_seen ending ≡ ending_in bytes
 EndsAsBatch bytes (Err (fault.Own e)) = exchange.read_batch bytes ≡ Err (refusal_of e)
 EndsAsBatch bytes (Err fault.Memory) = Unit {0}
 EndsAsBatch bytes (Err _) = ⊥
@@ -74,7 +74,7 @@ CountsTaken body a (Err _) b = ⊥
 
 -- the same, with the ending of the batch
 abbrev pub Receives : Text → Replica → Result (ℕ × ℕ × Ending) WebFault → Replica → Type 0
-Receives body a (Ok took) b = IsStep a (Receive body) (Took took.0 took.1) b × (ending_of took.2 ≡ ending_in body)
+Receives body a (Ok took) b = IsStep a (Receive body) (Took took.0 took.1) b × (ending_seen took.2 ≡ ending_in body)
 Receives body a (Err (fault.Own e)) b = IsStep a (Receive body) (Refused (refusal_of e)) b × (b ≡ a)
 Receives body a (Err fault.Memory) b = b ≡ a
 Receives body a (Err _) b = ⊥
@@ -96,7 +96,7 @@ TakesReply known a result b =
 -- what is at fault with the reply is told; and else how the batch in its body ends, or a fault of this replica
 abbrev pub TellsTaken : Result Text WebFault → Result (ℕ × ℕ × Ending) WebFault → Type 0
 TellsTaken (Err f) result = result ≡ Err f
-TellsTaken (Ok body) (Ok took) = ending_of took.2 ≡ ending_in body
+TellsTaken (Ok body) (Ok took) = ending_seen took.2 ≡ ending_in body
 TellsTaken (Ok body) (Err e) = IsOwnFault e
 
 -- the same of the reply that the input is, unless a read failed or memory ran out

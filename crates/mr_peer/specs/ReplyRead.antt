@@ -14,6 +14,6 @@ IsRestOfReply first more =
     ⊎ ((h : ResponseHead) × (rest : Text) × (n : ℕ) × IsReplyHead first h rest × (reply_length h ≡ Some n) × (length more ≤ n - length rest))
 
 -- what a reader gave, where that is known: pieces until there was a head or none could come, and then what they lack of the body
-abbrev pub ReadsNoFurther : Option Text → Option Text → Type 0
-ReadsNoFurther known left =
+abbrev pub ReadsOneReply : Option Text → Option Text → Type 0
+ReadsOneReply known left =
     (first : Text) × (more : Text) × Consumes known left (first ++ more) × IsReadWhile AwaitsReplyHead first × IsRestOfReply first more

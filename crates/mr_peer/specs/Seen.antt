@@ -24,9 +24,9 @@ abbrev pub IsInside : ℕ → Option Replied → Type 0
 IsInside n None = Unit {0}
 IsInside n (Some r) = r.start ≤ n
 
-abbrev pub body_seen : Result (Bor (List ℕ)) WebFault → Result Text WebFault
-body_seen (Ok body) = Ok body.now
-body_seen (Err e) = Err e
+abbrev pub reply_body_seen : Result (Bor (List ℕ)) WebFault → Result Text WebFault
+reply_body_seen (Ok body) = Ok body.now
+reply_body_seen (Err e) = Err e
 
 -- what is at fault with a body that is refused as a position
 abbrev pub unread : Refusal → WebFault

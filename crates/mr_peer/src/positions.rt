@@ -3,7 +3,7 @@ ghost use Rattle.mr_model.specs.Positions as model;
 ghost use Rattle.mr_http.specs.Reading.{OnceRead};
 ghost use Rattle.mr_http.specs.declared.faults.WebFault.TheVariants.{BadReply};
 ghost use Rattle.mr_peer.specs.PeerAsking.{Wrote, IsSendFault};
-ghost use Rattle.mr_peer.specs.ReplyRead.{ReadsNoFurther};
+ghost use Rattle.mr_peer.specs.ReplyRead.{ReadsOneReply};
 ghost use Rattle.mr_peer.specs.PeerReplies.{told_position};
 ghost use Rattle.mr_peer.specs.PeerRequests.{is_host, position_request};
 ghost use Rattle.mr_peer.specs.Seen.{reply_seen, IsInside, unread};
@@ -30,7 +30,7 @@ pub fn position_ask<W: Write>(alloc: Global, host: &str, writer: &mut W) -> Resu
 pub fn position_take<R: Read>(alloc: Global, reader: &mut R) -> Result<Position, WebFault>
     ensures tells { TellsAsRead told_position (R.remaining reader.old) result }
     ensures fault { IfErr result IsReplyFault }
-    ensures reads { OnceRead (ReadsNoFurther (R.remaining reader.old) (R.remaining reader.new)) result }
+    ensures reads { OnceRead (ReadsOneReply (R.remaining reader.old) (R.remaining reader.new)) result }
 {
     let mut buffer = Vec::new(alloc);
     take_position(alloc, reader, &mut buffer)
@@ -44,7 +44,7 @@ fn take_position<R: Read>(
     requires { buffer.old.items ≡ [] }
     ensures tells { TellsAsRead told_position (R.remaining reader.old) result }
     ensures fault { IfErr result IsReplyFault }
-    ensures reads { OnceRead (ReadsNoFurther (R.remaining reader.old) (R.remaining reader.new)) result }
+    ensures reads { OnceRead (ReadsOneReply (R.remaining reader.old) (R.remaining reader.new)) result }
 {
     let replied = read_reply(reader, buffer)?;
     position_of(alloc, buffer.as_slice(), replied)

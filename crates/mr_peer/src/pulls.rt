@@ -6,7 +6,7 @@ ghost use Rattle.mr_service.specs.Asked.{reply_of};
 ghost use Rattle.mr_service.specs.Worlds.{IsPositionText};
 ghost use Rattle.mr_peer.specs.PeerAsking.{AsksPull, HandsPosition, IsAskFault, IsSomePosition, ReadsOff, SendsPull};
 ghost use Rattle.mr_peer.specs.Exchanged.{IsExchanged};
-ghost use Rattle.mr_peer.specs.ReplyRead.{ReadsNoFurther};
+ghost use Rattle.mr_peer.specs.ReplyRead.{ReadsOneReply};
 ghost use Rattle.mr_peer.specs.PeerReplies as spec;
 ghost use Rattle.mr_peer.specs.PeerRequests.{is_host};
 ghost use Rattle.mr_peer.specs.Seen.{reply_seen, IsInside, counts_seen};
@@ -85,7 +85,7 @@ pub fn pull_take<K: Keeper, R: Read>(
     ensures tells { TellsPulled (R.remaining reader.old) result }
     ensures fault { IfErr result IsTakeFault }
     ensures leaves { IfErr result (KeepsTables K.Keeper service.old service.new) }
-    ensures reads { OnceRead (ReadsNoFurther (R.remaining reader.old) (R.remaining reader.new)) result }
+    ensures reads { OnceRead (ReadsOneReply (R.remaining reader.old) (R.remaining reader.new)) result }
 {
     let mut buffer = Vec::new(alloc);
     take_reply(alloc, service, reader, &mut buffer)
@@ -103,7 +103,7 @@ fn take_reply<K: Keeper, R: Read>(
     ensures tells { TellsPulled (R.remaining reader.old) result }
     ensures fault { IfErr result IsTakeFault }
     ensures leaves { IfErr result (KeepsTables K.Keeper service.old service.new) }
-    ensures reads { OnceRead (ReadsNoFurther (R.remaining reader.old) (R.remaining reader.new)) result }
+    ensures reads { OnceRead (ReadsOneReply (R.remaining reader.old) (R.remaining reader.new)) result }
 {
     let replied = read_reply(reader, buffer)?;
     take_body(alloc, service, buffer.as_slice(), replied)

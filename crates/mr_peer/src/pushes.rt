@@ -2,13 +2,13 @@ ghost use Rattle.std.specs.Prelude.{◌≡◌, [], IsTrue, IfOk, IfErr, length, 
 ghost use Rattle.mr_model.specs.Http.{lines_over_http};
 ghost use Rattle.mr_model.specs.Serving.{Reaches};
 ghost use Rattle.mr_model.specs.Step.{BatchFor};
-ghost use Rattle.mr_base.specs.Batches.{ending_of};
+ghost use Rattle.mr_base.specs.Batches.{ending_seen};
 ghost use Rattle.mr_http.specs.Reading.{OnceRead};
 ghost use Rattle.mr_http.specs.declared.faults.WebFault.TheVariants.{BadReply};
-ghost use Rattle.mr_service.specs.Asked.{command_of, reply_of};
+ghost use Rattle.mr_service.specs.Asked.{command_seen, reply_of};
 ghost use Rattle.mr_peer.specs.PeerAsking.{AsksPush, HandsBatch, IsAskFault, IsBatchWith, IsSomeBatch, ReadsOff, SendsPush, lacking};
 ghost use Rattle.mr_peer.specs.Exchanged.{IsExchanged};
-ghost use Rattle.mr_peer.specs.ReplyRead.{ReadsNoFurther};
+ghost use Rattle.mr_peer.specs.ReplyRead.{ReadsOneReply};
 ghost use Rattle.mr_peer.specs.PeerReplies.{told_took};
 ghost use Rattle.mr_peer.specs.PeerRequests.{is_host};
 ghost use Rattle.mr_peer.specs.Seen.{reply_seen, IsInside};
@@ -55,7 +55,7 @@ fn own_batch<K: Keeper>(
 ) -> Result<(Vec<u8>, Ending), WebFault>
     ensures exchanged { IsExchanged K.Keeper service.old service.new result
         (HandsBatch position.now) (Reaches (K.tables service.old) (lacking position.now)) }
-    ensures text { IfOk result (λ x. IsSomeBatch x.0.items (ending_of x.1)) }
+    ensures text { IfOk result (λ x. IsSomeBatch x.0.items (ending_seen x.1)) }
     ensures fault { IfErr result IsOwnFault }
 {
     position.is_within_limits();
@@ -68,7 +68,7 @@ fn own_batch<K: Keeper>(
 
 // The command that asks for a batch.
 fn batch_for(position: Vec<u8>) -> Command
-    ensures { command_of result ≡ BatchFor position.items lines_over_http }
+    ensures { command_seen result ≡ BatchFor position.items lines_over_http }
 {
     let max_lines = lines_over_http();
     Command::Local(Local::BatchFor {
@@ -78,7 +78,7 @@ fn batch_for(position: Vec<u8>) -> Command
 }
 
 fn batch_in(alloc: Global, reply: &Reply) -> Result<(Vec<u8>, Ending), WebFault>
-    ensures { ReadsOff (reply_of reply.now) (λ x. IsBatchWith (reply_of reply.now) x.0.items (ending_of x.1)) result }
+    ensures { ReadsOff (reply_of reply.now) (λ x. IsBatchWith (reply_of reply.now) x.0.items (ending_seen x.1)) result }
 {
     match reply {
         Reply::Batch(batch) => match write_batch(alloc, batch) {
@@ -95,7 +95,7 @@ fn batch_in(alloc: Global, reply: &Reply) -> Result<(Vec<u8>, Ending), WebFault>
 pub fn push_take<R: Read>(alloc: Global, reader: &mut R) -> Result<(u64, u64), WebFault>
     ensures tells { TellsAsRead told_took (R.remaining reader.old) result }
     ensures fault { IfErr result IsReplyFault }
-    ensures reads { OnceRead (ReadsNoFurther (R.remaining reader.old) (R.remaining reader.new)) result }
+    ensures reads { OnceRead (ReadsOneReply (R.remaining reader.old) (R.remaining reader.new)) result }
 {
     let mut buffer = Vec::new(alloc);
     take_took(reader, &mut buffer)
@@ -105,7 +105,7 @@ fn take_took<R: Read>(reader: &mut R, buffer: &mut Vec<u8>) -> Result<(u64, u64)
     requires { buffer.old.items ≡ [] }
     ensures tells { TellsAsRead told_took (R.remaining reader.old) result }
     ensures fault { IfErr result IsReplyFault }
-    ensures reads { OnceRead (ReadsNoFurther (R.remaining reader.old) (R.remaining reader.new)) result }
+    ensures reads { OnceRead (ReadsOneReply (R.remaining reader.old) (R.remaining reader.new)) result }
 {
     let replied = read_reply(reader, buffer)?;
     took_of(buffer.as_slice(), replied)

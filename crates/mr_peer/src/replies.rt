@@ -1,12 +1,12 @@
 ghost use Rattle.std.specs.Prelude.{◌≡◌, ◌≤◌, ℕ, List, [], length, vec_len, IfOk, IfSome, OnOk, option_map, true};
 ghost use Rattle.httparse.specs.Grammar.{ResponseHead, ReadsResponse, status_code};
-ghost use Rattle.mr_http.specs.Fields.{header_fields};
+ghost use Rattle.mr_http.specs.HeaderFields.{header_fields};
 ghost use Rattle.mr_http.specs.Inputs.{OfInput};
 ghost use Rattle.mr_model.specs.Http as model;
-ghost use Rattle.mr_peer.specs.ReplyRead.{ReadsNoFurther};
+ghost use Rattle.mr_peer.specs.ReplyRead.{ReadsOneReply};
 ghost use Rattle.mr_peer.specs.PeerReplies.{IsReplied, reply_length, within_limit};
 ghost use Rattle.mr_peer.specs.PeerReplies as spec;
-ghost use Rattle.mr_peer.specs.Seen.{reply_seen, IsInside, body_seen};
+ghost use Rattle.mr_peer.specs.Seen.{reply_seen, IsInside, reply_body_seen};
 
 use httparse::{EMPTY_HEADER, Header, Response, Status};
 use mr_http::{GREATEST_BODY, ReadFault, WebFault, body_length, fill_to, read_reply_head};
@@ -28,7 +28,7 @@ pub(crate) fn read_reply<R: Read>(
     requires { buffer.old.items ≡ [] }
     ensures replied { IfOk result (λ found. OfInput (R.remaining reader.old) (λ input. IsReplied input (reply_seen buffer.new.items found))) }
     ensures inside { IfOk result (IsInside (vec_len buffer.new)) }
-    ensures reads { OnOk result (ReadsNoFurther (R.remaining reader.old) (R.remaining reader.new)) }
+    ensures reads { OnOk result (ReadsOneReply (R.remaining reader.old) (R.remaining reader.new)) }
 {
     let Some(start) = read_reply_head(reader, buffer)? else {
         return Ok(None);
@@ -75,7 +75,7 @@ fn with_length(status: u16, fields: &[Header<'_>]) -> Option<(u16, u64)>
 /// The whole body of a reply of status 200 among the bytes, or what is wrong with the reply.
 pub(crate) fn whole_body(bytes: &[u8], replied: Option<Replied>) -> Result<&[u8], WebFault>
     requires { IsInside (length bytes.now) replied }
-    ensures { body_seen result ≡ spec.whole_body (reply_seen bytes.now replied) }
+    ensures { reply_body_seen result ≡ spec.whole_body (reply_seen bytes.now replied) }
 {
     let Some(reply) = replied else {
         return Err(WebFault::BadReply);
@@ -94,7 +94,7 @@ pub(crate) fn whole_body(bytes: &[u8], replied: Option<Replied>) -> Result<&[u8]
 /// The same, but with status 200 a body may end early.
 pub(crate) fn front_body(bytes: &[u8], replied: Option<Replied>) -> Result<&[u8], WebFault>
     requires { IsInside (length bytes.now) replied }
-    ensures { body_seen result ≡ spec.front_body (reply_seen bytes.now replied) }
+    ensures { reply_body_seen result ≡ spec.front_body (reply_seen bytes.now replied) }
 {
     let Some(reply) = replied else {
         return Err(WebFault::BadReply);

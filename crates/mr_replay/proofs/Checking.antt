@@ -15,7 +15,7 @@ use Rattle.mr_replay.specs.declared.rows.Standing.TheVariants.{Booked, Cancelled
 use Rattle.mr_replay.specs.declared.rows.Kept.{Kept}
 use Rattle.mr_replay.specs.declared.rows.Kept.TheVariants.{OfBooking, OfCancel}
 use Rattle.mr_replay.specs.declared.rows.Row.{Row}
-use Rattle.mr_replay.specs.Rows.{Rows, booking_kept, booking_in, bookings_of, is_kept_in_the_way, is_in_the_way, IsFree}
+use Rattle.mr_replay.specs.Rows.{Rows, booking_kept, bookings_of_entry, bookings_of, is_kept_in_the_way, is_in_the_way, IsFree}
 
 not-cond : (b : Bool) → not b ≡ cond b false true
 not-cond true = refl
@@ -32,7 +32,7 @@ module _ (room : Text) (slot : Slot) (length : ℕ) where
   kept_meets i (OfBooking s l t InErrorLog) = refl
   kept_meets i (OfCancel t) = refl
 
-  entry_meets : (e : Id × Row) → meets (booking_in room e) slot length ≡ is_in_the_way room slot length e.1
+  entry_meets : (e : Id × Row) → meets (bookings_of_entry room e) slot length ≡ is_in_the_way room slot length e.1
   entry_meets e = go (bytes_eq e.1.room room) (kept_meets e.0 e.1.kept)
     where
       go : (c : Bool) → meets (booking_kept e.0 e.1.kept) slot length ≡ is_kept_in_the_way slot length e.1.kept → meets (cond c (booking_kept e.0 e.1.kept) []) slot length ≡ (is_kept_in_the_way slot length e.1.kept && c)
@@ -51,7 +51,7 @@ module _ (room : Text) (slot : Slot) (length : ℕ) where
   pub meets-rows : (b : Rows) → meets (bookings_of room b) slot length ≡ list_any (is_in_the_way room slot length) (values_of b)
   meets-rows [] = refl
   meets-rows (e ∷ es) =
-      list_any-append (λ (x : Booking). overlaps slot length x.slot x.length) (booking_in room e) (bookings_of room es)
+      list_any-append (λ (x : Booking). overlaps slot length x.slot x.length) (bookings_of_entry room e) (bookings_of room es)
       ∙ ap (λ t. t || meets (bookings_of room es) slot length) (entry_meets e) ∙ ap (λ t. is_in_the_way room slot length e.1 || t) (meets-rows es)
 
   pub free-bookings : (b : Rows) → not (list_any (is_in_the_way room slot length) (values_of b)) ≡ is_free (bookings_of room b) length slot

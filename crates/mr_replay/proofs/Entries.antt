@@ -13,7 +13,7 @@ use Rattle.mr_model.specs.Writes.{Id, same_id}
 use Rattle.mr_base.specs.Ids.{id_cmp}
 use Rattle.mr_replay.specs.declared.rows.Row.{Row}
 use Rattle.mr_replay.specs.Rows.{Rows, row_at}
-use Rattle.mr_replay.proofs.Ids.{exact_ids, ids_total, at, at_equivalence, at_one, at_is, same_id_equivalence}
+use Rattle.mr_replay.proofs.IdKeys.{exact_ids, ids_total, at, at_equivalence, at_one, at_is, same_id_equivalence}
 
 abbrev pub IsInOrder : Rows → Type 0
 IsInOrder b = IsStrictlySortedBy id_cmp (keys_of b)

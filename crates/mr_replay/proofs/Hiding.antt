@@ -13,10 +13,10 @@ use Rattle.mr_base.specs.Ids.{id_cmp}
 use Rattle.mr_replay.specs.declared.rows.Row.{Row}
 use Rattle.mr_replay.specs.declared.index.IndexKey.{IndexKey}
 use Rattle.mr_replay.specs.declared.rows.Kept.{Kept}
-use Rattle.mr_replay.specs.Rows.{Rows, row_at, change, changed}
+use Rattle.mr_replay.specs.Rows.{Rows, row_at, change, row_changed}
 use Rattle.mr_replay.specs.Index.{IsIndexed, IsNoted}
-use Rattle.mr_replay.specs.Hidden.{is_hidden, shown, put_back, put_all_back, HasPlace, HavePlaces, LeadsFrom}
-use Rattle.mr_replay.proofs.Ids.{exact_ids, ids_total, at, at_is, same_id_equivalence}
+use Rattle.mr_replay.specs.Hidden.{is_hidden, shown, put_back, put_all_back, HasPlace, AllHavePlaces, LeadsFrom}
+use Rattle.mr_replay.proofs.IdKeys.{exact_ids, ids_total, at, at_is, same_id_equivalence}
 use Rattle.mr_replay.proofs.Entries.{IsInOrder, row_at-put, in_order-put, row_at-removed, in_order-removed, undone-put}
 use Rattle.mr_replay.proofs.Marked.{change_if, row_at-changed, in_order-changed}
 use Rattle.mr_replay.proofs.OneBoard.{sorted_test, find-row_at}
@@ -131,9 +131,9 @@ changing f true row o h = ap (option_map (change f)) (sym (h refl))
 changing f false row o h = refl
 
 -- a changed row put in the place of the one that was there
-pub put-changed : (f : Kept → Kept) (b : Rows) (i : Id) (row : Row) → IsInOrder b → row_at b i ≡ Some row → insert_entry id_cmp b i (change f row) ≡ changed f i b
+pub put-changed : (f : Kept → Kept) (b : Rows) (i : Id) (row : Row) → IsInOrder b → row_at b i ≡ Some row → insert_entry id_cmp b i (change f row) ≡ row_changed f i b
 put-changed f b i row order there =
-    same_rows (insert_entry id_cmp b i (change f row)) (changed f i b) (in_order-put b i (change f row) order) (in_order-changed f i b order) (λ q.
+    same_rows (insert_entry id_cmp b i (change f row)) (row_changed f i b) (in_order-put b i (change f row) order) (in_order-changed f i b order) (λ q.
     row_at-put b i (change f row) q ∙ changing f (same_id q i) row (row_at b q) (λ e. ap (row_at b) (same_id-true q i e) ∙ there) ∙ sym (row_at-changed f i b q))
 
 found_shown : (hidden : BTreeSet Id) (b : Rows) (i : Id) (row : Row) → row_at (shown hidden b) i ≡ Some row → (is_hidden hidden i ≡ false) × (row_at b i ≡ Some row)
@@ -151,7 +151,7 @@ unchanged_at hidden i q true e h = ap (is_hidden hidden) (same_id-true q i e) �
 unchanged_at hidden i q false e h = refl
 
 -- among the rows that are shown too
-pub shown-changed : (f : Kept → Kept) (hidden : BTreeSet Id) (b : Rows) (i : Id) (row : Row) → IsInOrder b → row_at (shown hidden b) i ≡ Some row → shown hidden (insert_entry id_cmp b i (change f row)) ≡ changed f i (shown hidden b)
+pub shown-changed : (f : Kept → Kept) (hidden : BTreeSet Id) (b : Rows) (i : Id) (row : Row) → IsInOrder b → row_at (shown hidden b) i ≡ Some row → shown hidden (insert_entry id_cmp b i (change f row)) ≡ row_changed f i (shown hidden b)
 shown-changed f hidden b i row order there =
     shown-put hidden hidden b i (change f row) order (λ q. unchanged_at hidden i q (same_id q i) refl (found_shown hidden b i row there).0)
     ∙ put-changed f (shown hidden b) i row (in_order-shown hidden b order) there
@@ -177,11 +177,11 @@ put_all_back-push : (b : Rows) (js : List (Id × Option Row)) (e : Id × Option 
 put_all_back-push b [] e = refl
 put_all_back-push b (j ∷ js) e = ap (λ r. put_back r j) (put_all_back-push b js e)
 
-places-push : (b : Rows) (js : List (Id × Option Row)) (e : Id × Option Row) → HavePlaces (put_back b e) js → HasPlace b e → HavePlaces b (js ++ e ∷ [])
+places-push : (b : Rows) (js : List (Id × Option Row)) (e : Id × Option Row) → AllHavePlaces (put_back b e) js → HasPlace b e → AllHavePlaces b (js ++ e ∷ [])
 places-push b [] e h p = (tt, p)
 places-push b (j ∷ js) e h p = (places-push b js e h.0 p, subst (λ r. HasPlace r j) (sym (put_all_back-push b js e)) h.1)
 
-places-pop : (b : Rows) (js : List (Id × Option Row)) (e : Id × Option Row) → HavePlaces b (js ++ e ∷ []) → HavePlaces (put_back b e) js × HasPlace b e
+places-pop : (b : Rows) (js : List (Id × Option Row)) (e : Id × Option Row) → AllHavePlaces b (js ++ e ∷ []) → AllHavePlaces (put_back b e) js × HasPlace b e
 places-pop b [] e h = (tt, h.1)
 places-pop b (j ∷ js) e h =
     let rest = places-pop b js e h.0 in
@@ -197,7 +197,7 @@ LeadsFrom-put old b js i row o order is h =
     let back : put_back (insert_entry id_cmp b i row) (i, o) ≡ b = put_back-put b i row o order is in
     record {
       back = put_all_back-push (insert_entry id_cmp b i row) js (i, o) ∙ ap (λ r. put_all_back r js) back ∙ h.back;
-      places = places-push (insert_entry id_cmp b i row) js (i, o) (subst (λ r. HavePlaces r js) (sym back) h.places) (has_place b i row o);
+      places = places-push (insert_entry id_cmp b i row) js (i, o) (subst (λ r. AllHavePlaces r js) (sym back) h.places) (has_place b i row o);
     }
 
 -- one entry less, once it is put back

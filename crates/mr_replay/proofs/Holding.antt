@@ -21,14 +21,14 @@ use Rattle.mr_replay.specs.declared.rows.Kept.{Kept}
 use Rattle.mr_replay.specs.declared.rows.Kept.TheVariants.{OfBooking, OfCancel}
 use Rattle.mr_replay.specs.declared.rows.Row.{Row}
 use Rattle.mr_replay.specs.Places.{UndoRow}
-use Rattle.mr_replay.specs.Rows.{Rows, row_at, kept_with, kept_for, row_of, mark, change, target_of, marked_by, with_row, place_on, executed_at, executed, undo_row_at, undo_row_of, undone_by, undone, executed_all, undo_rows_of, undone_all}
+use Rattle.mr_replay.specs.Rows.{Rows, row_at, kept_with, kept_for, row_of, with_mark, change, target_of, marked_by, with_row, place_by_rows, executed_at, executed, undo_row_at, undo_row_of, undone_by, undone, executed_all, undo_rows_of, undone_all}
 use Rattle.mr_replay.specs.Holds.{HaveDistinctIds, AreOfRoom, told_list, row_in, if_of, HoldsIn, HoldsEach, Holds, with_list, bears, IsNew, HaveNoRows, AreNew, undo_row_after, undo_rows_after, CanReplay}
-use Rattle.mr_replay.proofs.Ids.{same_id_equivalence}
+use Rattle.mr_replay.proofs.IdKeys.{same_id_equivalence}
 use Rattle.mr_replay.proofs.Entries.{distinct_keys, undone-put}
 use Rattle.mr_replay.proofs.Marked.{change_if, nothing-changed, changed-back, values-put, values-changed}
 use Rattle.mr_replay.proofs.Lists.{one_name, same_name, other_name, distinct_front, distinct_next, distinct_back, distinct_without, among-part, distinct-part, part-own, part-all, with_list-own, with_list-twice, with_list-same, parts-push, parts-pop, of_room-front, of_room-back, of_room-append}
 use Rattle.mr_replay.proofs.ToldRows.{BearsNot, rows-none, rows-bear}
-use Rattle.mr_replay.proofs.Placing.{same_place}
+use Rattle.mr_replay.proofs.PlacesOnBoard.{same_place}
 use Rattle.mr_replay.proofs.OneRoom.{whole_part, part-executed, in_order-executed, in_order-undone, HoldsIn-executed, other-executed, HoldsIn-undone, other-undone, absent}
 
 pub Holds-empty : Holds [] []
@@ -46,7 +46,7 @@ HoldsIn-with_list room ws lists b own others other = go (bytes_eq other room) re
 
 pub HoldsEach-executed : (lists : Text → List Write) (room : Text) (b : Rows) (w : Write) → w.room ≡ room → HaveDistinctIds (lists room ++ w ∷ []) → row_at b (id_of w) ≡ None → HoldsEach lists b → HoldsEach (with_list room (lists room ++ w ∷ []) lists) (executed b w)
 HoldsEach-executed lists room b w is distinct new holds = record {
-  ordered = in_order-executed b w (place_on b w) holds.ordered;
+  ordered = in_order-executed b w (place_by_rows b w) holds.ordered;
   rooms =
       HoldsIn-with_list room (lists room ++ w ∷ []) lists (executed b w)
       (HoldsIn-executed room (lists room) b w is holds.ordered (distinct_front (lists room) (w ∷ []) distinct) (distinct_next (lists room) w [] distinct) (holds.rooms room))
@@ -71,7 +71,7 @@ not_on_board ws b i holds h = absent (row_at b i) (λ room. holds.rooms room i �
 
 -- ---- writes of all rooms in one list
 
-pub places-are : (ws : List Write) (b : Rows) (w : Write) → HaveDistinctIds ws → Holds ws b → place_on b w ≡ place_among (after [] (of_room w.room ws)) w
+pub places-are : (ws : List Write) (b : Rows) (w : Write) → HaveDistinctIds ws → Holds ws b → place_by_rows b w ≡ place_among (after [] (of_room w.room ws)) w
 places-are ws b w distinct holds = same_place w.room (of_room w.room ws) b w refl holds.ordered (distinct-part w.room ws distinct) (holds.rooms w.room)
 
 pub Holds-executed : (ws : List Write) (b : Rows) (w : Write) → HaveDistinctIds (ws ++ w ∷ []) → Holds ws b → Holds (ws ++ w ∷ []) (executed b w)
@@ -123,10 +123,10 @@ executed_undone b w p new = go w.action p
     go (Cancels t) Done = changed-back (id_of w) t b new.no_mark
 
 pub undone-executed : (b : Rows) (w : Write) → IsNew b (id_of w) → undone (executed b w) (undo_row_of b w) ≡ b
-undone-executed b w new = executed_undone b w (place_on b w) new
+undone-executed b w new = executed_undone b w (place_by_rows b w) new
 
 -- executing one of different writes leaves the others new
-bears-mark : (c q : Id) (k : Kept) → same_id c q ≡ false → bears q k ≡ false → bears q (mark c k) ≡ false
+bears-mark : (c q : Id) (k : Kept) → same_id c q ≡ false → bears q k ≡ false → bears q (with_mark c k) ≡ false
 bears-mark c q (OfBooking s l t Booked) e h = e
 bears-mark c q (OfBooking s l t (CancelledBy d)) e h = h
 bears-mark c q (OfBooking s l t InErrorLog) e h = h
@@ -148,13 +148,13 @@ new_kept w (Books m) Void q b e h = values-put (λ row. bears q row.kept ≡ fal
 new_kept w (Cancels t) (Taken k) q b e h = values-put (λ row. bears q row.kept ≡ false) b (id_of w) _ refl h
 new_kept w (Cancels t) Logged q b e h = values-put (λ row. bears q row.kept ≡ false) b (id_of w) _ refl h
 new_kept w (Cancels t) Void q b e h = values-put (λ row. bears q row.kept ≡ false) b (id_of w) _ refl h
-new_kept w (Cancels t) Done q b e h = values-changed (λ row. bears q row.kept ≡ false) (mark (id_of w)) t b (λ row g. bears-mark (id_of w) q row.kept e g) h
+new_kept w (Cancels t) Done q b e h = values-changed (λ row. bears q row.kept ≡ false) (with_mark (id_of w)) t b (λ row g. bears-mark (id_of w) q row.kept e g) h
 
 new_row : (b : Rows) (w : Write) (p : Place) (q : Id) → same_id (id_of w) q ≡ false → row_at b (id_of w) ≡ None → row_at b q ≡ None → row_at (executed_at b w p) q ≡ None
 new_row b w p q e own h =
     part-executed (λ o. o) whole_part b w p q own
-    ∙ ap (λ c. cond c (row_of w p None) (change_if (mark (id_of w)) (cancels_it q w.action p) (row_at b q))) (same_id_equivalence.symm q (id_of w) ∙ e)
-    ∙ ap (change_if (mark (id_of w)) (cancels_it q w.action p)) h ∙ nothing-changed (mark (id_of w)) (cancels_it q w.action p)
+    ∙ ap (λ c. cond c (row_of w p None) (change_if (with_mark (id_of w)) (cancels_it q w.action p) (row_at b q))) (same_id_equivalence.symm q (id_of w) ∙ e)
+    ∙ ap (change_if (with_mark (id_of w)) (cancels_it q w.action p)) h ∙ nothing-changed (with_mark (id_of w)) (cancels_it q w.action p)
 
 pub AreNew-rest : (b : Rows) (w : Write) (vs : List Write) → AreNew b (w ∷ vs) → AreNew (executed b w) vs
 AreNew-rest b w vs h = (h.0.1, go vs h.0.0 h.1.1)
@@ -163,21 +163,21 @@ AreNew-rest b w vs h = (h.0.1, go vs h.0.0 h.1.1)
     go [] other g = tt
     go (v ∷ us) other g =
         let parts = or_parts (same_id (id_of w) (id_of v)) (is_among (id_of w) (map id_of us)) other in
-        (record { no_row = new_row b w (place_on b w) (id_of v) parts.0 h.1.0.no_row g.0.no_row; no_mark = new_kept w w.action (place_on b w) (id_of v) b parts.0 g.0.no_mark }, go us parts.1 g.1)
+        (record { no_row = new_row b w (place_by_rows b w) (id_of v) parts.0 h.1.0.no_row g.0.no_row; no_mark = new_kept w w.action (place_by_rows b w) (id_of v) b parts.0 g.0.no_mark }, go us parts.1 g.1)
 
 pub undo_reverse : (b : Rows) (ws : List Write) → AreNew b ws → undone_all (executed_all b ws) (undo_rows_of b ws) ≡ b
 undo_reverse b [] new = refl
 undo_reverse b (w ∷ ws) new = ap (λ c. undone c (undo_row_of b w)) (undo_reverse (executed b w) ws (AreNew-rest b w ws new)) ∙ undone-executed b w new.1.0
 
 -- a cancel that is done marks its target's row, and undone gives it back
-pub cancel_marks : (b : Rows) (w : Write) (t : Id) (row : Row) → IsNew b (id_of w) → w.action ≡ Cancels t → place_on b w ≡ Done → row_at b t ≡ Some row
-    → (row_at (executed b w) t ≡ Some (change (mark (id_of w)) row)) × (row_at (undone (executed b w) (undo_row_of b w)) t ≡ Some row)
+pub cancel_marks : (b : Rows) (w : Write) (t : Id) (row : Row) → IsNew b (id_of w) → w.action ≡ Cancels t → place_by_rows b w ≡ Done → row_at b t ≡ Some row
+    → (row_at (executed b w) t ≡ Some (change (with_mark (id_of w)) row)) × (row_at (undone (executed b w) (undo_row_of b w)) t ≡ Some row)
 cancel_marks b w t row new is done e = (
-  part-executed (λ o. o) whole_part b w (place_on b w) t new.no_row
-      ∙ ap (λ c. cond c (row_of w (place_on b w) None) (change_if (mark (id_of w)) (cancels_it t w.action (place_on b w)) (row_at b t))) other
-      ∙ ap (λ a. change_if (mark (id_of w)) (cancels_it t a (place_on b w)) (row_at b t)) is
-      ∙ ap (λ p. change_if (mark (id_of w)) (cancels_it t (Cancels t) p) (row_at b t)) done
-      ∙ ap (λ c. change_if (mark (id_of w)) c (row_at b t)) (same_id_refl t) ∙ ap (option_map (change (mark (id_of w)))) e,
+  part-executed (λ o. o) whole_part b w (place_by_rows b w) t new.no_row
+      ∙ ap (λ c. cond c (row_of w (place_by_rows b w) None) (change_if (with_mark (id_of w)) (cancels_it t w.action (place_by_rows b w)) (row_at b t))) other
+      ∙ ap (λ a. change_if (with_mark (id_of w)) (cancels_it t a (place_by_rows b w)) (row_at b t)) is
+      ∙ ap (λ p. change_if (with_mark (id_of w)) (cancels_it t (Cancels t) p) (row_at b t)) done
+      ∙ ap (λ c. change_if (with_mark (id_of w)) c (row_at b t)) (same_id_refl t) ∙ ap (option_map (change (with_mark (id_of w)))) e,
   ap (λ c. row_at c t) (undone-executed b w new) ∙ e,
 )
   where
@@ -193,7 +193,7 @@ pub new_after : (b : Rows) (w : Write) (vs : List Write) → row_at b (id_of w) 
 new_after b w [] own other h = tt
 new_after b w (v ∷ vs) own other h =
     let parts = or_parts (same_id (id_of w) (id_of v)) (is_among (id_of w) (map id_of vs)) other in
-    (new_row b w (place_on b w) (id_of v) parts.0 own h.0, new_after b w vs own parts.1 h.1)
+    (new_row b w (place_by_rows b w) (id_of v) parts.0 own h.0, new_after b w vs own parts.1 h.1)
 
 pub HoldsEach-executed_all : (room : Text) (again : List Write) (lists : Text → List Write) (b : Rows) → AreOfRoom room again → HaveDistinctIds (lists room ++ again) → HaveNoRows b again → HoldsEach lists b → HoldsEach (with_list room (lists room ++ again) lists) (executed_all b again)
 HoldsEach-executed_all room [] lists b of_room distinct new holds = subst (λ (ls : Text → List Write). HoldsEach ls b) (sym (with_list-same room (lists room ++ []) lists (sym (append-nil (lists room))))) holds

@@ -29,9 +29,9 @@ use Rattle.mr_replay.specs.declared.rows.Standing.TheVariants.{Booked, Cancelled
 use Rattle.mr_replay.specs.declared.rows.Kept.{Kept}
 use Rattle.mr_replay.specs.declared.rows.Kept.TheVariants.{OfBooking, OfCancel}
 use Rattle.mr_replay.specs.declared.rows.Row.{Row}
-use Rattle.mr_replay.specs.Rows.{Rows, row_at, is_kept_in_the_way, is_in_the_way, mark, unmark, change, changed}
+use Rattle.mr_replay.specs.Rows.{Rows, row_at, is_kept_in_the_way, is_in_the_way, with_mark, without_mark, change, row_changed}
 use Rattle.mr_replay.specs.Index.{padded, day_cmp, key_cmp, key_of, key_kept, key_if_taken, first_key, last_key, has, Grows, IsNoted, IsIndexed, way_at, is_in_the_way_at, of_day, is_row}
-use Rattle.mr_replay.proofs.Ids.{same_id_equivalence}
+use Rattle.mr_replay.proofs.IdKeys.{same_id_equivalence}
 use Rattle.mr_replay.proofs.Entries.{distinct_keys, in_order-put, in_order-removed, row_at-put, row_at-removed}
 use Rattle.mr_replay.proofs.Marked.{change_if, row_at-changed, in_order-changed}
 use Rattle.mr_replay.proofs.Keys.{same_key, key_id, apart_keys, key-marked, key-unmarked}
@@ -223,7 +223,7 @@ IsIndexed-swept rows old new key kept is forgets h = record { ordered = h.ordere
 pub IsNoted-same : (index : BTreeSet IndexKey) (i : Id) (r s : Row) → key_if_taken i s ≡ key_if_taken i r → IsNoted index i r → IsNoted index i s
 IsNoted-same index i r s same noted = λ key is. noted key (sym same ∙ is)
 
-IsIndexed-changed : (f : Kept → Kept) → ((i : Id) (row : Row) → key_if_taken i (change f row) ≡ key_if_taken i row) → (t : Id) (rows : Rows) (index : BTreeSet IndexKey) → IsIndexed rows index → IsIndexed (changed f t rows) index
+IsIndexed-changed : (f : Kept → Kept) → ((i : Id) (row : Row) → key_if_taken i (change f row) ≡ key_if_taken i row) → (t : Id) (rows : Rows) (index : BTreeSet IndexKey) → IsIndexed rows index → IsIndexed (row_changed f t rows) index
 IsIndexed-changed f same t rows index h = record {
   ordered = in_order-changed f t rows h.ordered;
   bookings = λ q. subst (λ o. IfSome o (IsNoted index q)) (sym (row_at-changed f t rows q)) (at q (same_id q t) (row_at rows q) (h.bookings q));
@@ -233,8 +233,8 @@ IsIndexed-changed f same t rows index h = record {
   at q true None noted = tt
   at q true (Some row) noted = IsNoted-same index q row (change f row) (same q row) noted
 
-pub IsIndexed-marked : (c t : Id) (rows : Rows) (index : BTreeSet IndexKey) → IsIndexed rows index → IsIndexed (changed (mark c) t rows) index
-IsIndexed-marked c t rows index h = IsIndexed-changed (mark c) (λ i row. key-marked c i row) t rows index h
+pub IsIndexed-marked : (c t : Id) (rows : Rows) (index : BTreeSet IndexKey) → IsIndexed rows index → IsIndexed (row_changed (with_mark c) t rows) index
+IsIndexed-marked c t rows index h = IsIndexed-changed (with_mark c) (λ i row. key-marked c i row) t rows index h
 
-pub IsIndexed-unmarked : (c t : Id) (rows : Rows) (index : BTreeSet IndexKey) → IsIndexed rows index → IsIndexed (changed (unmark c) t rows) index
-IsIndexed-unmarked c t rows index h = IsIndexed-changed (unmark c) (λ i row. key-unmarked c i row) t rows index h
+pub IsIndexed-unmarked : (c t : Id) (rows : Rows) (index : BTreeSet IndexKey) → IsIndexed rows index → IsIndexed (row_changed (without_mark c) t rows) index
+IsIndexed-unmarked c t rows index h = IsIndexed-changed (without_mark c) (λ i row. key-unmarked c i row) t rows index h

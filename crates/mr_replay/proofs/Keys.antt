@@ -16,9 +16,9 @@ use Rattle.mr_replay.specs.declared.rows.Standing.TheVariants.{Booked, Cancelled
 use Rattle.mr_replay.specs.declared.rows.Kept.{Kept}
 use Rattle.mr_replay.specs.declared.rows.Kept.TheVariants.{OfBooking, OfCancel}
 use Rattle.mr_replay.specs.declared.rows.Row.{Row}
-use Rattle.mr_replay.specs.Rows.{mark, unmark, change}
+use Rattle.mr_replay.specs.Rows.{with_mark, without_mark, change}
 use Rattle.mr_replay.specs.Index.{day_cmp, slot_cmp, key_cmp, key_of, key_kept, key_if_taken}
-use Rattle.mr_replay.proofs.Ids.{exact_ids, is_eq-Equal}
+use Rattle.mr_replay.proofs.IdKeys.{exact_ids, is_eq-Equal}
 
 -- ---- keys that compare alike are one
 
@@ -54,23 +54,23 @@ apart_keys i j r row key apart own other =
     true≢false (sym (same_id_from i j (sym (key_id i r.room r.kept key own) ∙ key_id j row.room row.kept key other)) ∙ apart)
 
 -- a mark changes no key
-pub key-marked : (c : Id) (i : Id) (row : Row) → key_if_taken i (change (mark c) row) ≡ key_if_taken i row
+pub key-marked : (c : Id) (i : Id) (row : Row) → key_if_taken i (change (with_mark c) row) ≡ key_if_taken i row
 key-marked c i row = go row.kept
   where
-    go : (k : Kept) → key_kept i row.room (mark c k) ≡ key_kept i row.room k
+    go : (k : Kept) → key_kept i row.room (with_mark c k) ≡ key_kept i row.room k
     go (OfBooking s l t Booked) = refl
     go (OfBooking s l t (CancelledBy d)) = refl
     go (OfBooking s l t InErrorLog) = refl
     go (OfCancel t) = refl
 
-pub key-unmarked : (c : Id) (i : Id) (row : Row) → key_if_taken i (change (unmark c) row) ≡ key_if_taken i row
+pub key-unmarked : (c : Id) (i : Id) (row : Row) → key_if_taken i (change (without_mark c) row) ≡ key_if_taken i row
 key-unmarked c i row = go row.kept
   where
     either : (s : Slot) (l : ℕ) (t : Text) (d : Id) (b : Bool) → key_kept i row.room (OfBooking s l t (cond b Booked (CancelledBy d))) ≡ Some (key_of i row.room s l)
     either s l t d true = refl
     either s l t d false = refl
 
-    go : (k : Kept) → key_kept i row.room (unmark c k) ≡ key_kept i row.room k
+    go : (k : Kept) → key_kept i row.room (without_mark c k) ≡ key_kept i row.room k
     go (OfBooking s l t Booked) = refl
     go (OfBooking s l t (CancelledBy d)) = either s l t d (same_id d c)
     go (OfBooking s l t InErrorLog) = refl

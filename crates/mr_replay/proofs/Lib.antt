@@ -1,11 +1,11 @@
-pub mod Ids
+pub mod IdKeys
 pub mod Keys
 pub mod Indexed
 pub mod Entries
 pub mod Marked
 pub mod Lists
 pub mod ToldRows
-pub mod Placing
+pub mod PlacesOnBoard
 pub mod Checking
 pub mod OneRoom
 pub mod Hiding

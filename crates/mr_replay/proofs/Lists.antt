@@ -11,7 +11,7 @@ use Rattle.mr_model.specs.Writes.{Id, Write, id_of, same_id}
 use Rattle.mr_model.specs.Replica.{is_among}
 use Rattle.mr_model.specs.View.{of_room}
 use Rattle.mr_replay.specs.Holds.{AreDistinct, HaveDistinctIds, AreOfRoom, with_list}
-use Rattle.mr_replay.proofs.Ids.{same_id_equivalence}
+use Rattle.mr_replay.proofs.IdKeys.{same_id_equivalence}
 
 -- ---- names
 

@@ -11,7 +11,7 @@ use Rattle.mr_model.specs.Writes.{Id, Write}
 use Rattle.mr_base.specs.Ids.{id_cmp}
 use Rattle.mr_replay.specs.Rows.{Rows, row_at}
 use Rattle.mr_replay.specs.Holds.{HoldsEach}
-use Rattle.mr_replay.proofs.Ids.{exact_ids, ids_total, at, at_is}
+use Rattle.mr_replay.proofs.IdKeys.{exact_ids, ids_total, at, at_is}
 use Rattle.mr_replay.proofs.Entries.{IsInOrder}
 use Rattle.mr_replay.proofs.OneRoom.{same_row}
 

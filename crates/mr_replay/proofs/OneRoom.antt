@@ -18,14 +18,14 @@ use Rattle.mr_replay.specs.declared.rows.Standing.TheVariants.{Booked, Cancelled
 use Rattle.mr_replay.specs.declared.rows.Kept.{Kept}
 use Rattle.mr_replay.specs.declared.rows.Kept.TheVariants.{OfBooking, OfCancel}
 use Rattle.mr_replay.specs.declared.rows.Row.{Row}
-use Rattle.mr_replay.specs.Rows.{Rows, row_at, bookings_of, kept_with, kept_for, row_of, place_on, mark, unmark, change, target_of, marked_by, with_row, executed_at, executed, undo_row_at, undone_by, undone}
+use Rattle.mr_replay.specs.Rows.{Rows, row_at, bookings_of, kept_with, kept_for, row_of, place_by_rows, with_mark, without_mark, change, target_of, marked_by, with_row, executed_at, executed, undo_row_at, undone_by, undone}
 use Rattle.mr_replay.specs.Holds.{HaveDistinctIds, told_list, row_in, bears, if_of, HoldsIn}
 use Rattle.mr_replay.specs.Bookings.{is_taken, if_taken}
 use Rattle.mr_replay.proofs.Entries.{IsInOrder, row_at-put, row_at-removed, in_order-removed}
 use Rattle.mr_replay.proofs.Marked.{change_if, nothing-changed, row_at-changed, in_order-changed, in_order-with, change-back}
 use Rattle.mr_replay.proofs.Lists.{one_name, same_name, other_name}
 use Rattle.mr_replay.proofs.ToldRows.{BearsNot, rows-push, rows-none, rows-bear, booked_at, after-row}
-use Rattle.mr_replay.proofs.Placing.{booking-row, same_place}
+use Rattle.mr_replay.proofs.PlacesOnBoard.{booking-row, same_place}
 
 some_not_none : {A : Type 0} (x : A) → Some x ≡ None → ⊥
 some_not_none x e = cc
@@ -33,7 +33,7 @@ some_not_none x e = cc
 -- ---- order
 
 in_order-marked : (c : Id) (p : Place) (o : Option Id) (b : Rows) → IsInOrder b → IsInOrder (marked_by c p o b)
-in_order-marked c Done (Some t) b h = in_order-changed (mark c) t b h
+in_order-marked c Done (Some t) b h = in_order-changed (with_mark c) t b h
 in_order-marked c Done None b h = h
 in_order-marked c (Taken k) o b h = h
 in_order-marked c Logged o b h = h
@@ -43,7 +43,7 @@ pub in_order-executed : (b : Rows) (w : Write) (p : Place) → IsInOrder b → I
 in_order-executed b w p h = in_order-with (marked_by (id_of w) p (target_of w.action) b) (id_of w) (row_of w p None) (in_order-marked (id_of w) p (target_of w.action) b h)
 
 pub in_order-undone : (i : Id) (p : Place) (o : Option Id) (b : Rows) → IsInOrder b → IsInOrder (undone_by i p o b)
-in_order-undone i Done (Some t) b h = in_order-changed (unmark i) t b h
+in_order-undone i Done (Some t) b h = in_order-changed (without_mark i) t b h
 in_order-undone i Done None b h = in_order-removed b i h
 in_order-undone i (Taken k) o b h = in_order-removed b i h
 in_order-undone i Logged o b h = in_order-removed b i h
@@ -73,40 +73,40 @@ executed-mark b w p is = ap (λ o. with_row (id_of w) o (marked_by (id_of w) p (
 -- a part of the rows: a row is in it or not, whether a cancel marks it or not
 pub record IsPart (see : Option Row → Option Row) : Type 0 where
   pub none : see None ≡ None
-  pub marks : (c : Id) (row : Row) → see (Some (change (mark c) row)) ≡ option_map (change (mark c)) (see (Some row))
-  pub unmarks : (c : Id) (row : Row) → see (Some (change (unmark c) row)) ≡ option_map (change (unmark c)) (see (Some row))
+  pub marks : (c : Id) (row : Row) → see (Some (change (with_mark c) row)) ≡ option_map (change (with_mark c)) (see (Some row))
+  pub unmarks : (c : Id) (row : Row) → see (Some (change (without_mark c) row)) ≡ option_map (change (without_mark c)) (see (Some row))
 
 part-cond : (see : Option Row → Option Row) (c : Bool) (o p : Option Row) → see (cond c o p) ≡ cond c (see o) (see p)
 part-cond see true o p = refl
 part-cond see false o p = refl
 
-part-marked : (see : Option Row → Option Row) → IsPart see → (c : Id) (t : Bool) (o : Option Row) → see (change_if (mark c) t o) ≡ change_if (mark c) t (see o)
+part-marked : (see : Option Row → Option Row) → IsPart see → (c : Id) (t : Bool) (o : Option Row) → see (change_if (with_mark c) t o) ≡ change_if (with_mark c) t (see o)
 part-marked see part c false o = refl
-part-marked see part c true None = part.none ∙ ap (option_map (change (mark c))) (sym part.none)
+part-marked see part c true None = part.none ∙ ap (option_map (change (with_mark c))) (sym part.none)
 part-marked see part c true (Some row) = part.marks c row
 
-part-unmarked : (see : Option Row → Option Row) → IsPart see → (c : Id) (t : Bool) (o : Option Row) → see (change_if (unmark c) t o) ≡ change_if (unmark c) t (see o)
+part-unmarked : (see : Option Row → Option Row) → IsPart see → (c : Id) (t : Bool) (o : Option Row) → see (change_if (without_mark c) t o) ≡ change_if (without_mark c) t (see o)
 part-unmarked see part c false o = refl
-part-unmarked see part c true None = part.none ∙ ap (option_map (change (unmark c))) (sym part.none)
+part-unmarked see part c true None = part.none ∙ ap (option_map (change (without_mark c))) (sym part.none)
 part-unmarked see part c true (Some row) = part.unmarks c row
 
 pub room_part : (room : Text) → IsPart (if_of room)
 room_part room = record {
   none = refl;
-  marks = λ c row. go (change (mark c)) (bytes_eq row.room room) row;
-  unmarks = λ c row. go (change (unmark c)) (bytes_eq row.room room) row;
+  marks = λ c row. go (change (with_mark c)) (bytes_eq row.room room) row;
+  unmarks = λ c row. go (change (without_mark c)) (bytes_eq row.room room) row;
 } where
   go : (f : Row → Row) (t : Bool) (row : Row) → cond t (Some (f row)) None ≡ option_map f (cond t (Some row) None)
   go f true row = refl
   go f false row = refl
 
-taken-marked : (c : Id) (k : Kept) → is_taken (mark c k) ≡ is_taken k
+taken-marked : (c : Id) (k : Kept) → is_taken (with_mark c k) ≡ is_taken k
 taken-marked c (OfBooking s l t Booked) = refl
 taken-marked c (OfBooking s l t (CancelledBy d)) = refl
 taken-marked c (OfBooking s l t InErrorLog) = refl
 taken-marked c (OfCancel t) = refl
 
-taken-unmarked : (c : Id) (k : Kept) → is_taken (unmark c k) ≡ is_taken k
+taken-unmarked : (c : Id) (k : Kept) → is_taken (without_mark c k) ≡ is_taken k
 taken-unmarked c (OfBooking s l t Booked) = refl
 taken-unmarked c (OfBooking s l t (CancelledBy d)) = go (same_id d c)
   where
@@ -119,8 +119,8 @@ taken-unmarked c (OfCancel t) = refl
 pub taken_part : IsPart if_taken
 taken_part = record {
   none = refl;
-  marks = λ c row. ap (λ t. cond t (Some (change (mark c) row)) None) (taken-marked c row.kept) ∙ go (change (mark c)) (is_taken row.kept) row;
-  unmarks = λ c row. ap (λ t. cond t (Some (change (unmark c) row)) None) (taken-unmarked c row.kept) ∙ go (change (unmark c)) (is_taken row.kept) row;
+  marks = λ c row. ap (λ t. cond t (Some (change (with_mark c) row)) None) (taken-marked c row.kept) ∙ go (change (with_mark c)) (is_taken row.kept) row;
+  unmarks = λ c row. ap (λ t. cond t (Some (change (without_mark c) row)) None) (taken-unmarked c row.kept) ∙ go (change (without_mark c)) (is_taken row.kept) row;
 } where
   go : (f : Row → Row) (t : Bool) (row : Row) → cond t (Some (f row)) None ≡ option_map f (cond t (Some row) None)
   go f true row = refl
@@ -135,7 +135,7 @@ bookings_part room = record {
 
 -- ---- a write executed
 
-pub row_at-marked : (c : Id) (a : Action) (p : Place) (b : Rows) (q : Id) → row_at (marked_by c p (target_of a) b) q ≡ change_if (mark c) (cancels_it q a p) (row_at b q)
+pub row_at-marked : (c : Id) (a : Action) (p : Place) (b : Rows) (q : Id) → row_at (marked_by c p (target_of a) b) q ≡ change_if (with_mark c) (cancels_it q a p) (row_at b q)
 row_at-marked c (Books m) (Taken k) b q = refl
 row_at-marked c (Books m) Logged b q = refl
 row_at-marked c (Books m) Void b q = refl
@@ -143,7 +143,7 @@ row_at-marked c (Books m) Done b q = refl
 row_at-marked c (Cancels t) (Taken k) b q = refl
 row_at-marked c (Cancels t) Logged b q = refl
 row_at-marked c (Cancels t) Void b q = refl
-row_at-marked c (Cancels t) Done b q = row_at-changed (mark c) t b q
+row_at-marked c (Cancels t) Done b q = row_at-changed (with_mark c) t b q
 
 module _ (see : Option Row → Option Row) (part : IsPart see) where
   part-with : (b : Rows) (i : Id) (o : Option Row) (q : Id) → see (row_at b i) ≡ None → see (row_at (with_row i o b) q) ≡ cond (same_id q i) (see o) (see (row_at b q))
@@ -155,13 +155,13 @@ module _ (see : Option Row → Option Row) (part : IsPart see) where
       go false e = refl
 
   pub part-executed : (b : Rows) (w : Write) (p : Place) (q : Id) → see (row_at b (id_of w)) ≡ None
-      → see (row_at (executed_at b w p) q) ≡ cond (same_id q (id_of w)) (see (row_of w p None)) (change_if (mark (id_of w)) (cancels_it q w.action p) (see (row_at b q)))
+      → see (row_at (executed_at b w p) q) ≡ cond (same_id q (id_of w)) (see (row_of w p None)) (change_if (with_mark (id_of w)) (cancels_it q w.action p) (see (row_at b q)))
   part-executed b w p q new =
       part-with (marked_by (id_of w) p (target_of w.action) b) (id_of w) (row_of w p None) q
-      (marked (id_of w) ∙ ap (change_if (mark (id_of w)) (cancels_it (id_of w) w.action p)) new ∙ nothing-changed (mark (id_of w)) (cancels_it (id_of w) w.action p))
+      (marked (id_of w) ∙ ap (change_if (with_mark (id_of w)) (cancels_it (id_of w) w.action p)) new ∙ nothing-changed (with_mark (id_of w)) (cancels_it (id_of w) w.action p))
       ∙ ap (cond (same_id q (id_of w)) (see (row_of w p None))) (marked q)
     where
-      marked : (j : Id) → see (row_at (marked_by (id_of w) p (target_of w.action) b) j) ≡ change_if (mark (id_of w)) (cancels_it j w.action p) (see (row_at b j))
+      marked : (j : Id) → see (row_at (marked_by (id_of w) p (target_of w.action) b) j) ≡ change_if (with_mark (id_of w)) (cancels_it j w.action p) (see (row_at b j))
       marked j = ap see (row_at-marked (id_of w) w.action p b j) ∙ part-marked see part (id_of w) (cancels_it j w.action p) (row_at b j)
 
 -- which undoings take the write's row away; the other ones take its mark away
@@ -169,7 +169,7 @@ abbrev pub takes_away : Action → Place → Bool
 takes_away (Cancels t) Done = false
 takes_away _ _ = true
 
-open_undone : (i : Id) (a : Action) (p : Place) (b : Rows) (q : Id) → IsInOrder b → row_at (undone_by i p (target_of a) b) q ≡ cond (takes_away a p) (cond (same_id q i) None (row_at b q)) (change_if (unmark i) (cancels_it q a p) (row_at b q))
+open_undone : (i : Id) (a : Action) (p : Place) (b : Rows) (q : Id) → IsInOrder b → row_at (undone_by i p (target_of a) b) q ≡ cond (takes_away a p) (cond (same_id q i) None (row_at b q)) (change_if (without_mark i) (cancels_it q a p) (row_at b q))
 open_undone i (Books m) (Taken k) b q h = row_at-removed b i q h
 open_undone i (Books m) Logged b q h = row_at-removed b i q h
 open_undone i (Books m) Done b q h = row_at-removed b i q h
@@ -177,15 +177,15 @@ open_undone i (Books m) Void b q h = row_at-removed b i q h
 open_undone i (Cancels t) (Taken k) b q h = row_at-removed b i q h
 open_undone i (Cancels t) Logged b q h = row_at-removed b i q h
 open_undone i (Cancels t) Void b q h = row_at-removed b i q h
-open_undone i (Cancels t) Done b q h = row_at-changed (unmark i) t b q
+open_undone i (Cancels t) Done b q h = row_at-changed (without_mark i) t b q
 
 module _ (see : Option Row → Option Row) (part : IsPart see) where
   pub part-undone : (b : Rows) (i : Id) (a : Action) (p : Place) (q : Id) → IsInOrder b
-      → see (row_at (undone_by i p (target_of a) b) q) ≡ cond (takes_away a p) (cond (same_id q i) None (see (row_at b q))) (change_if (unmark i) (cancels_it q a p) (see (row_at b q)))
+      → see (row_at (undone_by i p (target_of a) b) q) ≡ cond (takes_away a p) (cond (same_id q i) None (see (row_at b q))) (change_if (without_mark i) (cancels_it q a p) (see (row_at b q)))
   part-undone b i a p q h =
       ap see (open_undone i a p b q h)
-      ∙ part-cond see (takes_away a p) (cond (same_id q i) None (row_at b q)) (change_if (unmark i) (cancels_it q a p) (row_at b q))
-      ∙ ap (λ o. cond (takes_away a p) o (see (change_if (unmark i) (cancels_it q a p) (row_at b q))))
+      ∙ part-cond see (takes_away a p) (cond (same_id q i) None (row_at b q)) (change_if (without_mark i) (cancels_it q a p) (row_at b q))
+      ∙ ap (λ o. cond (takes_away a p) o (see (change_if (without_mark i) (cancels_it q a p) (row_at b q))))
       (part-cond see (same_id q i) None (row_at b q) ∙ ap (λ o. cond (same_id q i) o (see (row_at b q))) part.none)
       ∙ ap (cond (takes_away a p) (cond (same_id q i) None (see (row_at b q)))) (part-unmarked see part i (cancels_it q a p) (row_at b q))
 
@@ -216,17 +216,17 @@ kept_some w (Cancels t) Logged e = (OfCancel t, refl)
 kept_some w (Cancels t) Void e = (OfCancel t, refl)
 kept_some w (Cancels t) Done e = absurd (true≢false (sym e))
 
-back : (c : Id) (o : Option Row) (b : Bool) → BearsNot c o → change_if (unmark c) b (change_if (mark c) b o) ≡ o
+back : (c : Id) (o : Option Row) (b : Bool) → BearsNot c o → change_if (without_mark c) b (change_if (with_mark c) b o) ≡ o
 back c o false h = refl
 back c None true h = refl
 back c (Some row) true h = ap Some (change-back c row h)
 
 -- what was there before the last write is there again once it is undone
 restored : (i : Id) (t c x : Bool) (own before : Option Row) → (t ≡ true → x ≡ false) → (t ≡ false → own ≡ None) → (c ≡ true → before ≡ None) → BearsNot i before
-    → cond t (cond c None (cond c own (change_if (mark i) x before))) (change_if (unmark i) x (cond c own (change_if (mark i) x before))) ≡ before
+    → cond t (cond c None (cond c own (change_if (with_mark i) x before))) (change_if (without_mark i) x (cond c own (change_if (with_mark i) x before))) ≡ before
 restored i true true x own before taking marking new bears = sym (new refl)
-restored i true false x own before taking marking new bears = ap (λ y. change_if (mark i) y before) (taking refl)
-restored i false true x own before taking marking new bears = ap (change_if (unmark i) x) (marking refl) ∙ nothing-changed (unmark i) x ∙ sym (new refl)
+restored i true false x own before taking marking new bears = ap (λ y. change_if (with_mark i) y before) (taking refl)
+restored i false true x own before taking marking new bears = ap (change_if (without_mark i) x) (marking refl) ∙ nothing-changed (without_mark i) x ∙ sym (new refl)
 restored i false false x own before taking marking new bears = back i before x bears
 
 pub bears_not-taken : (c : Id) (o : Option Row) → BearsNot c o → BearsNot c (if_taken o)
@@ -239,10 +239,10 @@ bears_not-taken c (Some row) h = go (is_taken row.kept)
 
 -- what the list gives an id, with one write more, in a part of it
 part-push : (given : Option Row → Option Row) → IsPart given → (ws : List Write) (w : Write) (q : Id) → is_among (id_of w) (map id_of ws) ≡ false
-    → given (row_in (told_list (ws ++ w ∷ [])) q) ≡ cond (same_id q (id_of w)) (given (row_of w (place_among (after [] ws) w) None)) (change_if (mark (id_of w)) (cancels_it q w.action (place_among (after [] ws) w)) (given (row_in (told_list ws) q)))
+    → given (row_in (told_list (ws ++ w ∷ [])) q) ≡ cond (same_id q (id_of w)) (given (row_of w (place_among (after [] ws) w) None)) (change_if (with_mark (id_of w)) (cancels_it q w.action (place_among (after [] ws) w)) (given (row_in (told_list ws) q)))
 part-push given part ws w q new =
     ap given (rows-push ws w q new)
-    ∙ part-cond given (same_id q (id_of w)) (row_of w (place_among (after [] ws) w) None) (change_if (mark (id_of w)) (cancels_it q w.action (place_among (after [] ws) w)) (row_in (told_list ws) q))
+    ∙ part-cond given (same_id q (id_of w)) (row_of w (place_among (after [] ws) w) None) (change_if (with_mark (id_of w)) (cancels_it q w.action (place_among (after [] ws) w)) (row_in (told_list ws) q))
     ∙ ap (cond (same_id q (id_of w)) (given (row_of w (place_among (after [] ws) w) None))) (part-marked given part (id_of w) (cancels_it q w.action (place_among (after [] ws) w)) (row_in (told_list ws) q))
 
 -- the part that is looked at has what the list gives it: with one write more, and with the last one undone
@@ -250,13 +250,13 @@ abbrev pub PartHas : (Option Row → Option Row) → (Option Row → Option Row)
 PartHas see given ws b = (i : Id) → see (row_at b i) ≡ given (row_in (told_list ws) i)
 
 module _ (see given : Option Row → Option Row) (part : IsPart see) (given_part : IsPart given) where
-  pub part_has-executed : (ws : List Write) (b : Rows) (w : Write) → see (row_of w (place_on b w) None) ≡ given (row_of w (place_on b w) None) → place_on b w ≡ place_among (after [] ws) w → is_among (id_of w) (map id_of ws) ≡ false
+  pub part_has-executed : (ws : List Write) (b : Rows) (w : Write) → see (row_of w (place_by_rows b w) None) ≡ given (row_of w (place_by_rows b w) None) → place_by_rows b w ≡ place_among (after [] ws) w → is_among (id_of w) (map id_of ws) ≡ false
       → PartHas see given ws b → PartHas see given (ws ++ w ∷ []) (executed b w)
   part_has-executed ws b w own place new has q =
-      part-executed see part b w (place_on b w) q (has (id_of w) ∙ ap given (rows-none ws (id_of w) new) ∙ given_part.none)
-      ∙ ap (λ o. cond (same_id q (id_of w)) o (change_if (mark (id_of w)) (cancels_it q w.action (place_on b w)) (see (row_at b q)))) own
-      ∙ ap (λ o. cond (same_id q (id_of w)) (given (row_of w (place_on b w) None)) (change_if (mark (id_of w)) (cancels_it q w.action (place_on b w)) o)) (has q)
-      ∙ ap (λ p. cond (same_id q (id_of w)) (given (row_of w p None)) (change_if (mark (id_of w)) (cancels_it q w.action p) (given (row_in (told_list ws) q)))) place
+      part-executed see part b w (place_by_rows b w) q (has (id_of w) ∙ ap given (rows-none ws (id_of w) new) ∙ given_part.none)
+      ∙ ap (λ o. cond (same_id q (id_of w)) o (change_if (with_mark (id_of w)) (cancels_it q w.action (place_by_rows b w)) (see (row_at b q)))) own
+      ∙ ap (λ o. cond (same_id q (id_of w)) (given (row_of w (place_by_rows b w) None)) (change_if (with_mark (id_of w)) (cancels_it q w.action (place_by_rows b w)) o)) (has q)
+      ∙ ap (λ p. cond (same_id q (id_of w)) (given (row_of w p None)) (change_if (with_mark (id_of w)) (cancels_it q w.action p) (given (row_in (told_list ws) q)))) place
       ∙ sym (part-push given given_part ws w q new)
 
   pub part_has-undone : (ws : List Write) (b : Rows) (w : Write) → ((c : Id) (o : Option Row) → BearsNot c o → BearsNot c (given o)) → IsInOrder b → is_among (id_of w) (map id_of ws) ≡ false
@@ -265,7 +265,7 @@ module _ (see given : Option Row → Option Row) (part : IsPart see) (given_part
       let i = id_of w in
       let p = place_among (after [] ws) w in
       part-undone see part b i w.action p q ordered
-      ∙ ap (λ o. cond (takes_away w.action p) (cond (same_id q i) None o) (change_if (unmark i) (cancels_it q w.action p) o)) (has q ∙ part-push given given_part ws w q new)
+      ∙ ap (λ o. cond (takes_away w.action p) (cond (same_id q i) None o) (change_if (without_mark i) (cancels_it q w.action p) o)) (has q ∙ part-push given given_part ws w q new)
       ∙ restored i (takes_away w.action p) (same_id q i) (cancels_it q w.action p) (given (row_of w p None)) (given (row_in (told_list ws) q)) (taking_marks w.action p q)
       (λ e. ap given (row_none w p e) ∙ given_part.none)
       (λ e. ap given (rows-none ws q (ap (λ j. is_among j (map id_of ws)) (same_id-true q i e) ∙ new)) ∙ given_part.none)
@@ -284,7 +284,7 @@ row-own room w p is = go (kept_for w w.action p None)
     go None = refl
     go (Some k) = ap (λ t. cond t (Some (record { room = w.room; kept = k })) None) (same_name w.room room is)
 
-row-other : (room : Text) (w : Write) (p : Place) → bytes_eq w.room room ≡ false → if_of room (row_of w p None) ≡ None
+pub row-other : (room : Text) (w : Write) (p : Place) → bytes_eq w.room room ≡ false → if_of room (row_of w p None) ≡ None
 row-other room w p e = go (kept_for w w.action p None)
   where
     go : (o : Option Kept) → if_of room (option_map (λ k. record { room = w.room; kept = k }) o) ≡ None
@@ -319,7 +319,7 @@ same_row (Some x) (Some y) h = by (bytes_eq y.room x.room) (sym (ap (λ t. cond 
 
 pub HoldsIn-executed : (room : Text) (ws : List Write) (b : Rows) (w : Write) → w.room ≡ room → IsInOrder b → HaveDistinctIds ws → is_among (id_of w) (map id_of ws) ≡ false → HoldsIn room ws b → HoldsIn room (ws ++ w ∷ []) (executed b w)
 HoldsIn-executed room ws b w is ordered distinct new holds =
-    part_has-executed (if_of room) (λ o. o) (room_part room) whole_part ws b w (row-own room w (place_on b w) is) (same_place room ws b w is ordered distinct holds) new holds
+    part_has-executed (if_of room) (λ o. o) (room_part room) whole_part ws b w (row-own room w (place_by_rows b w) is) (same_place room ws b w is ordered distinct holds) new holds
 
 pub HoldsIn-undone : (room : Text) (ws : List Write) (b : Rows) (w : Write) → IsInOrder b → is_among (id_of w) (map id_of ws) ≡ false → HoldsIn room (ws ++ w ∷ []) b → HoldsIn room ws (undone b (undo_row_at w (place_among (after [] ws) w)))
 HoldsIn-undone room ws b w ordered new holds = part_has-undone (if_of room) (λ o. o) (room_part room) whole_part ws b w (λ c o h. h) ordered new holds
@@ -327,7 +327,7 @@ HoldsIn-undone room ws b w ordered new holds = part_has-undone (if_of room) (λ 
 -- ---- in another room
 
 -- what a cancel takes back is of its own room
-target_row : (b : Rows) (room : Text) (t : Id) → IsInOrder b → is_booked t (bookings_of room b) ≡ true → (row : Row) × (if_of room (row_at b t) ≡ Some row)
+pub target_row : (b : Rows) (room : Text) (t : Id) → IsInOrder b → is_booked t (bookings_of room b) ≡ true → (row : Row) × (if_of room (row_at b t) ≡ Some row)
 target_row b room t ordered e =
     let (x, h, at) = booked_has t (bookings_of room b) e in
     go x (if_of room (row_at b t)) refl (subst (λ i. Has x (booked_at i (if_of room (row_at b i)))) at (booking-row room b x ordered h))
@@ -337,7 +337,7 @@ target_row b room t ordered e =
     go x (Some row) is h = (row, is)
 
 -- a place that cancels is that of a cancel which found its target booked
-cancels_booked : (bs : List Booking) (a : Action) (q : Id) → cancels_it q a (place_for bs a) ≡ true → is_booked q bs ≡ true
+pub cancels_booked : (bs : List Booking) (a : Action) (q : Id) → cancels_it q a (place_for bs a) ≡ true → is_booked q bs ≡ true
 cancels_booked bs (Books m) q e = absurd (true≢false (sym e))
 cancels_booked bs (Cancels t) q e = go (is_booked t bs) refl e
   where
@@ -357,16 +357,16 @@ apart room other e = false_from_ne_true (bytes_eq other room) (λ s. true≢fals
 
 pub other-executed : (room : Text) (b : Rows) (w : Write) → bytes_eq w.room room ≡ false → IsInOrder b → if_of room (row_at b (id_of w)) ≡ None → (q : Id) → if_of room (row_at (executed b w) q) ≡ if_of room (row_at b q)
 other-executed room b w other ordered new q =
-    part-executed (if_of room) (room_part room) b w (place_on b w) q new
-    ∙ ap (cond (same_id q (id_of w)) (if_of room (row_of w (place_on b w) None))) (unchanged (cancels_it q w.action (place_on b w)) refl)
-    ∙ not_there room b (id_of w) q (if_of room (row_of w (place_on b w) None)) (row-other room w (place_on b w) other) new
+    part-executed (if_of room) (room_part room) b w (place_by_rows b w) q new
+    ∙ ap (cond (same_id q (id_of w)) (if_of room (row_of w (place_by_rows b w) None))) (unchanged (cancels_it q w.action (place_by_rows b w)) refl)
+    ∙ not_there room b (id_of w) q (if_of room (row_of w (place_by_rows b w) None)) (row-other room w (place_by_rows b w) other) new
   where
-    unchanged : (c : Bool) → cancels_it q w.action (place_on b w) ≡ c → change_if (mark (id_of w)) c (if_of room (row_at b q)) ≡ if_of room (row_at b q)
+    unchanged : (c : Bool) → cancels_it q w.action (place_by_rows b w) ≡ c → change_if (with_mark (id_of w)) c (if_of room (row_at b q)) ≡ if_of room (row_at b q)
     unchanged false e = refl
     unchanged true e =
         let (row, at) = target_row b w.room q ordered (cancels_booked (bookings_of w.room b) w.action q e) in
         let none : if_of room (row_at b q) ≡ None = if_of-apart w.room room (row_at b q) row at (apart w.room room other) in
-        ap (option_map (change (mark (id_of w)))) none ∙ sym none
+        ap (option_map (change (with_mark (id_of w)))) none ∙ sym none
 
 pub other-undone : (room other : Text) (ws : List Write) (b : Rows) (w : Write) → bytes_eq other room ≡ false → IsInOrder b → HaveDistinctIds ws → is_among (id_of w) (map id_of ws) ≡ false → HoldsIn room (ws ++ w ∷ []) b
     → (q : Id) → if_of other (row_at (undone b (undo_row_at w (place_among (after [] ws) w))) q) ≡ if_of other (row_at b q)
@@ -388,7 +388,7 @@ other-undone room other ws b w away ordered distinct new holds q =
         let (k, is) = kept_some w w.action p e in
         not_of_other i (record { room = w.room; kept = k })
         (rows-push ws w i new
-        ∙ ap (λ c. cond c (row_of w p None) (change_if (mark i) (cancels_it i w.action p) (row_in (told_list ws) i))) (same_id_refl i)
+        ∙ ap (λ c. cond c (row_of w p None) (change_if (with_mark i) (cancels_it i w.action p) (row_in (told_list ws) i))) (same_id_refl i)
         ∙ ap (option_map (λ (x : Kept). record { room = w.room; kept = x })) is)
 
     some_row : (x : Booking) (o : Option Row) → Has x (booked_at x.id o) → (row : Row) × (o ≡ Some row)
@@ -402,12 +402,12 @@ other-undone room other ws b w away ordered distinct new holds q =
         let (row, is) = some_row x (row_in (told_list ws) x.id) (after-row ws x distinct h) in
         let there : row_in (told_list ws) q ≡ Some row = ap (row_in (told_list ws)) (sym at) ∙ is in
         let not_own : same_id q i ≡ false = false_from_ne_true (same_id q i) (λ s. some_not_none row (sym there ∙ rows-none ws q (ap (λ j. is_among j (map id_of ws)) (same_id-true q i s) ∙ new))) in
-        not_of_other q (change (mark i) row)
+        not_of_other q (change (with_mark i) row)
         (rows-push ws w q new
-        ∙ ap (λ c. cond c (row_of w p None) (change_if (mark i) (cancels_it q w.action p) (row_in (told_list ws) q))) not_own
-        ∙ ap (λ c. change_if (mark i) c (row_in (told_list ws) q)) e ∙ ap (option_map (change (mark i))) there)
+        ∙ ap (λ c. cond c (row_of w p None) (change_if (with_mark i) (cancels_it q w.action p) (row_in (told_list ws) q))) not_own
+        ∙ ap (λ c. change_if (with_mark i) c (row_in (told_list ws) q)) e ∙ ap (option_map (change (with_mark i))) there)
 
-    go : (t : Bool) → takes_away w.action p ≡ t → (c : Bool) → cancels_it q w.action p ≡ c → cond t (cond (same_id q i) None (if_of other (row_at b q))) (change_if (unmark i) c (if_of other (row_at b q))) ≡ if_of other (row_at b q)
+    go : (t : Bool) → takes_away w.action p ≡ t → (c : Bool) → cancels_it q w.action p ≡ c → cond t (cond (same_id q i) None (if_of other (row_at b q))) (change_if (without_mark i) c (if_of other (row_at b q))) ≡ if_of other (row_at b q)
     go true takes c cancels = not_there other b i q None refl (own takes)
     go false takes false cancels = refl
-    go false takes true cancels = ap (option_map (change (unmark i))) (target cancels) ∙ sym (target cancels)
+    go false takes true cancels = ap (option_map (change (without_mark i))) (target cancels) ∙ sym (target cancels)

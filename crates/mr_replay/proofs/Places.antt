@@ -10,7 +10,7 @@ use Rattle.mr_replay.specs.Places.{UndoRow}
 use Rattle.mr_replay.specs.Rows.{Rows, undo_row_at, undo_row_of, executed, undo_rows_of}
 use Rattle.mr_replay.specs.Holds.{HaveDistinctIds, AreOfRoom, HaveNoRows, HoldsEach, Holds, with_list, undo_row_after, undo_rows_after}
 use Rattle.mr_replay.proofs.Lists.{distinct_front, distinct_back, with_list-own, of_room-front, of_room-next, part-all}
-use Rattle.mr_replay.proofs.Placing.{same_place}
+use Rattle.mr_replay.proofs.PlacesOnBoard.{same_place}
 use Rattle.mr_replay.proofs.Holding.{Holds-empty, places-are, Holds-executed, HoldsEach-executed, new_after}
 
 undo_row-after : (ws : List Write) (b : Rows) (w : Write) → HaveDistinctIds ws → Holds ws b → undo_row_of b w ≡ undo_row_after ws w

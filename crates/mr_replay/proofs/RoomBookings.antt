@@ -7,20 +7,20 @@ use Rattle.mr_model.specs.Board.{after}
 use Rattle.mr_model.specs.Replica.{is_among}
 use Rattle.mr_model.proofs.RoomsApart.{after-append}
 use Rattle.mr_replay.specs.Places.{UndoRow}
-use Rattle.mr_replay.specs.Rows.{Rows, place_on, executed, undo_row_at, undo_rows_of, undone, executed_all, undone_all}
+use Rattle.mr_replay.specs.Rows.{Rows, place_by_rows, executed, undo_row_at, undo_rows_of, undone, executed_all, undone_all}
 use Rattle.mr_replay.specs.Holds.{HaveDistinctIds, AreOfRoom, if_of, undo_rows_after}
 use Rattle.mr_replay.specs.Bookings.{if_taken, HasBookings, CanReplayBookings}
 use Rattle.mr_replay.proofs.Entries.{IsInOrder}
 use Rattle.mr_replay.proofs.Lists.{distinct_front, distinct_next, of_room-front, of_room-back, of_room-append}
 use Rattle.mr_replay.proofs.OneRoom.{taken_part, bookings_part, row-own, bears_not-taken, part_has-executed, part_has-undone, in_order-executed, in_order-undone}
 use Rattle.mr_replay.proofs.Holding.{room_undo}
-use Rattle.mr_replay.proofs.Placing.{place_by_bookings}
+use Rattle.mr_replay.proofs.PlacesOnBoard.{place_by_bookings}
 
 -- ---- one write of the room
 
 pub HasBookings-executed : (room : Text) (ws : List Write) (b : Rows) (w : Write) → w.room ≡ room → IsInOrder b → HaveDistinctIds ws → is_among (id_of w) (map id_of ws) ≡ false → HasBookings room ws b → HasBookings room (ws ++ w ∷ []) (executed b w)
 HasBookings-executed room ws b w is ordered distinct new has =
-    part_has-executed (λ o. if_taken (if_of room o)) if_taken (bookings_part room) taken_part ws b w (ap if_taken (row-own room w (place_on b w) is)) (place_by_bookings room ws b w is ordered distinct has) new has
+    part_has-executed (λ o. if_taken (if_of room o)) if_taken (bookings_part room) taken_part ws b w (ap if_taken (row-own room w (place_by_rows b w) is)) (place_by_bookings room ws b w is ordered distinct has) new has
 
 pub HasBookings-undone : (room : Text) (ws : List Write) (b : Rows) (w : Write) → IsInOrder b → is_among (id_of w) (map id_of ws) ≡ false → HasBookings room (ws ++ w ∷ []) b → HasBookings room ws (undone b (undo_row_at w (place_among (after [] ws) w)))
 HasBookings-undone room ws b w ordered new has = part_has-undone (λ o. if_taken (if_of room o)) if_taken (bookings_part room) taken_part ws b w bears_not-taken ordered new has
@@ -51,7 +51,7 @@ places_of_bookings room (w ∷ vs) front b of_room distinct ordered has =
     let here = place_by_bookings room front b w of_room.0 ordered before has in
     let rest =
     places_of_bookings room vs (front ++ w ∷ []) (executed b w) of_room.1 (subst (λ (ws : List Write). HaveDistinctIds ws) (sym joined) distinct)
-    (in_order-executed b w (place_on b w) ordered)
+    (in_order-executed b w (place_by_rows b w) ordered)
     (HasBookings-executed room front b w of_room.0 ordered before (distinct_next front w vs distinct) has)
     ∙ ap (λ bs. replay_among bs vs) (after-append [] front (w ∷ [])) in
     λ t. here t ∷ rest t
@@ -62,7 +62,7 @@ HasBookings-executed_all room (w ∷ vs) front b of_room distinct ordered has =
     let joined : (front ++ w ∷ []) ++ vs ≡ front ++ w ∷ vs = append_assoc front (w ∷ []) vs in
     subst (λ (ws : List Write). HasBookings room ws (executed_all (executed b w) vs)) joined
     (HasBookings-executed_all room vs (front ++ w ∷ []) (executed b w) of_room.1 (subst (λ (ws : List Write). HaveDistinctIds ws) (sym joined) distinct)
-    (in_order-executed b w (place_on b w) ordered)
+    (in_order-executed b w (place_by_rows b w) ordered)
     (HasBookings-executed room front b w of_room.0 ordered (distinct_front front (w ∷ vs) distinct) (distinct_next front w vs distinct) has))
 
 -- ---- undoing the last ones, and executing others in their place

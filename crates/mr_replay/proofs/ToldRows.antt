@@ -14,9 +14,9 @@ use Rattle.mr_model.proofs.Members.{has_left, has_right, has_split, has_map, fin
 use Rattle.mr_model.proofs.PlacedInOrder.{placed_among, placed_with-replay, booked_by, booked_by-among, unless_taken, told-stand}
 use Rattle.mr_replay.specs.declared.rows.Kept.{Kept}
 use Rattle.mr_replay.specs.declared.rows.Row.{Row}
-use Rattle.mr_replay.specs.Rows.{booking_kept, kept_with, kept_for, row_of, mark, change}
+use Rattle.mr_replay.specs.Rows.{booking_kept, kept_with, kept_for, row_of, with_mark, change}
 use Rattle.mr_replay.specs.Holds.{AreDistinct, HaveDistinctIds, bears, told_list, told_row, row_if, row_in}
-use Rattle.mr_replay.proofs.Ids.{same_id_equivalence}
+use Rattle.mr_replay.proofs.IdKeys.{same_id_equivalence}
 use Rattle.mr_replay.proofs.Marked.{change_if, nothing-changed}
 
 abbrev pub placed_id : Placed → Id
@@ -39,10 +39,10 @@ cancel_of-push i (p ∷ ps) q = go (cancels_it i p.write.action p.place) (cancel
     go false ih = ih
 
 -- the row of a write that a later cancel may take back
-kept_marked : (w : Write) (a : Action) (p : Place) (c : Id) → kept_for w a p (Some c) ≡ option_map (mark c) (kept_for w a p None)
+kept_marked : (w : Write) (a : Action) (p : Place) (c : Id) → kept_for w a p (Some c) ≡ option_map (with_mark c) (kept_for w a p None)
 kept_marked w (Books m) p c = go (slot_at w p)
   where
-    go : (o : Option Slot) → Some (kept_with m o (Some c)) ≡ option_map (mark c) (Some (kept_with m o None))
+    go : (o : Option Slot) → Some (kept_with m o (Some c)) ≡ option_map (with_mark c) (Some (kept_with m o None))
     go None = refl
     go (Some s) = refl
 kept_marked w (Cancels t) (Taken k) c = refl
@@ -50,10 +50,10 @@ kept_marked w (Cancels t) Logged c = refl
 kept_marked w (Cancels t) Done c = refl
 kept_marked w (Cancels t) Void c = refl
 
-kept_stays : (w : Write) (a : Action) (p : Place) (c d : Id) → kept_for w a p (Some d) ≡ option_map (mark c) (kept_for w a p (Some d))
+kept_stays : (w : Write) (a : Action) (p : Place) (c d : Id) → kept_for w a p (Some d) ≡ option_map (with_mark c) (kept_for w a p (Some d))
 kept_stays w (Books m) p c d = go (slot_at w p)
   where
-    go : (o : Option Slot) → Some (kept_with m o (Some d)) ≡ option_map (mark c) (Some (kept_with m o (Some d)))
+    go : (o : Option Slot) → Some (kept_with m o (Some d)) ≡ option_map (with_mark c) (Some (kept_with m o (Some d)))
     go None = refl
     go (Some s) = refl
 kept_stays w (Cancels t) (Taken k) c d = refl
@@ -61,12 +61,12 @@ kept_stays w (Cancels t) Logged c d = refl
 kept_stays w (Cancels t) Done c d = refl
 kept_stays w (Cancels t) Void c d = refl
 
-in_room : (w : Write) (o p : Option Kept) (c : Id) → o ≡ option_map (mark c) p → option_map (λ k. record { room = w.room; kept = k }) o ≡ option_map (change (mark c)) (option_map (λ k. record { room = w.room; kept = k }) p)
+in_room : (w : Write) (o p : Option Kept) (c : Id) → o ≡ option_map (with_mark c) p → option_map (λ k. record { room = w.room; kept = k }) o ≡ option_map (change (with_mark c)) (option_map (λ k. record { room = w.room; kept = k }) p)
 in_room w o None c e = ap (option_map (λ (k : Kept). record { room = w.room; kept = k })) e
 in_room w o (Some k) c e = ap (option_map (λ (j : Kept). record { room = w.room; kept = j })) e
 
 -- the row of a told write, with one more write behind it
-late_row : (w : Write) (p : Place) (o : Option Placed) (q : Placed) (b : Bool) → row_of w p (option_map (λ c. id_of c.write) (or_else o (cond b (Some q) None))) ≡ change_if (mark (id_of q.write)) b (row_of w p (option_map (λ c. id_of c.write) o))
+late_row : (w : Write) (p : Place) (o : Option Placed) (q : Placed) (b : Bool) → row_of w p (option_map (λ c. id_of c.write) (or_else o (cond b (Some q) None))) ≡ change_if (with_mark (id_of q.write)) b (row_of w p (option_map (λ c. id_of c.write) o))
 unfolding or_else
 late_row w p None q false = refl
 late_row w p (Some x) q false = refl
@@ -75,15 +75,15 @@ late_row w p (Some x) q true = in_room w (kept_for w w.action p (Some (id_of x.w
 
 -- one more: its own row, and its mark where it takes a booking back
 pub row_in-push : (ps : List Placed) (q : Placed) (i : Id) → is_among (id_of q.write) (map placed_id ps) ≡ false
-    → row_in (tell (ps ++ q ∷ [])) i ≡ cond (same_id i (id_of q.write)) (row_of q.write q.place None) (change_if (mark (id_of q.write)) (cancels_it i q.write.action q.place) (row_in (tell ps) i))
+    → row_in (tell (ps ++ q ∷ [])) i ≡ cond (same_id i (id_of q.write)) (row_of q.write q.place None) (change_if (with_mark (id_of q.write)) (cancels_it i q.write.action q.place) (row_in (tell ps) i))
 row_in-push [] q i new = ap (λ b. row_if (cond b (Some last) None)) (same_id_equivalence.symm (id_of q.write) i) ∙ go (same_id i (id_of q.write))
   where
     last : Told
     last = record { write = q.write; is_committed = q.is_committed; place = q.place; cancelled_by = None }
 
-    go : (b : Bool) → row_if (cond b (Some last) None) ≡ cond b (row_of q.write q.place None) (change_if (mark (id_of q.write)) (cancels_it i q.write.action q.place) None)
+    go : (b : Bool) → row_if (cond b (Some last) None) ≡ cond b (row_of q.write q.place None) (change_if (with_mark (id_of q.write)) (cancels_it i q.write.action q.place) None)
     go true = refl
-    go false = sym (nothing-changed (mark (id_of q.write)) (cancels_it i q.write.action q.place))
+    go false = sym (nothing-changed (with_mark (id_of q.write)) (cancels_it i q.write.action q.place))
 row_in-push (p ∷ ps) q i new = go (same_id (id_of p.write) i) refl (row_in-push ps q i parts.1)
   where
     parts : (same_id (id_of q.write) (id_of p.write) ≡ false) × (is_among (id_of q.write) (map placed_id ps) ≡ false)
@@ -102,13 +102,13 @@ row_in-push (p ∷ ps) q i new = go (same_id (id_of p.write) i) refl (row_in-pus
     apart e = ap (λ x. same_id x (id_of q.write)) (sym (same_id-true (id_of p.write) i e)) ∙ same_id_equivalence.symm (id_of p.write) (id_of q.write) ∙ parts.0
 
     go : (b : Bool) → same_id (id_of p.write) i ≡ b
-        → row_in (tell (ps ++ q ∷ [])) i ≡ cond (same_id i (id_of q.write)) (row_of q.write q.place None) (change_if (mark (id_of q.write)) c (row_in (tell ps) i))
-        → row_if (cond b (Some newer) (told_of i (tell (ps ++ q ∷ [])))) ≡ cond (same_id i (id_of q.write)) (row_of q.write q.place None) (change_if (mark (id_of q.write)) c (row_if (cond b (Some old) (told_of i (tell ps)))))
+        → row_in (tell (ps ++ q ∷ [])) i ≡ cond (same_id i (id_of q.write)) (row_of q.write q.place None) (change_if (with_mark (id_of q.write)) c (row_in (tell ps) i))
+        → row_if (cond b (Some newer) (told_of i (tell (ps ++ q ∷ [])))) ≡ cond (same_id i (id_of q.write)) (row_of q.write q.place None) (change_if (with_mark (id_of q.write)) c (row_if (cond b (Some old) (told_of i (tell ps)))))
     go true e ih =
         ap (λ o. row_of p.write p.place (option_map (λ x. id_of x.write) o)) (cancel_of-push (id_of p.write) ps q)
         ∙ late_row p.write p.place (cancel_of (id_of p.write) ps) q (cancels_it (id_of p.write) q.write.action q.place)
-        ∙ ap (λ j. change_if (mark (id_of q.write)) (cancels_it j q.write.action q.place) (told_row old)) (same_id-true (id_of p.write) i e)
-        ∙ ap (λ b. cond b (row_of q.write q.place None) (change_if (mark (id_of q.write)) c (told_row old))) (sym (apart e))
+        ∙ ap (λ j. change_if (with_mark (id_of q.write)) (cancels_it j q.write.action q.place) (told_row old)) (same_id-true (id_of p.write) i e)
+        ∙ ap (λ b. cond b (row_of q.write q.place None) (change_if (with_mark (id_of q.write)) c (told_row old))) (sym (apart e))
     go false e ih = ih
 
 pub row_in-none : (ps : List Placed) (i : Id) → is_among i (map placed_id ps) ≡ false → row_in (tell ps) i ≡ None
@@ -195,7 +195,7 @@ list_ids ws = ap (map placed_id) (list_places-is ws) ∙ go [] ws
     go bs (v ∷ vs) = ap (λ (is : List Id). id_of v ∷ is) (go (booked_with bs v (place_among bs v)) vs)
 
 pub rows-push : (ws : List Write) (w : Write) (i : Id) → is_among (id_of w) (map id_of ws) ≡ false
-    → row_in (told_list (ws ++ w ∷ [])) i ≡ cond (same_id i (id_of w)) (row_of w (place_among (after [] ws) w) None) (change_if (mark (id_of w)) (cancels_it i w.action (place_among (after [] ws) w)) (row_in (told_list ws) i))
+    → row_in (told_list (ws ++ w ∷ [])) i ≡ cond (same_id i (id_of w)) (row_of w (place_among (after [] ws) w) None) (change_if (with_mark (id_of w)) (cancels_it i w.action (place_among (after [] ws) w)) (row_in (told_list ws) i))
 rows-push ws w i new =
     ap (λ ps. row_in (tell ps) i) (list_places-push ws w)
     ∙ row_in-push (list_places ws) (record { write = w; is_committed = false; place = place_among (after [] ws) w }) i (ap (is_among (id_of w)) (list_ids ws) ∙ new)

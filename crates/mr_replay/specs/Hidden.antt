@@ -31,14 +31,14 @@ put_all_back b (e ∷ es) = put_back (put_all_back b es) e
 abbrev pub HasPlace : Rows → Id × Option Row → Type 0
 HasPlace b e = IfSome e.1 (λ _. IsTrue (is_some (row_at b e.0)))
 
-abbrev pub HavePlaces : Rows → List (Id × Option Row) → Type 0
-HavePlaces b [] = Unit {0}
-HavePlaces b (e ∷ es) = HavePlaces b es × HasPlace (put_all_back b es) e
+abbrev pub AllHavePlaces : Rows → List (Id × Option Row) → Type 0
+AllHavePlaces b [] = Unit {0}
+AllHavePlaces b (e ∷ es) = AllHavePlaces b es × HasPlace (put_all_back b es) e
 
 -- the journal leads back from the rows to the old ones, and no row is put back where none is
 pub record LeadsFrom (old : Rows) (journal : List (Id × Option Row)) (b : Rows) : Type 0 where
   pub back : put_all_back b journal ≡ old
-  pub places : HavePlaces b journal
+  pub places : AllHavePlaces b journal
 
 -- whatever the old journal leads back to, the new one does
 abbrev pub StillLeads : List (Id × Option Row) → Rows → List (Id × Option Row) → Rows → Type 0

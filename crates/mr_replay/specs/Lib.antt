@@ -6,4 +6,4 @@ pub mod Hidden
 pub mod Trials
 pub mod Holds
 pub mod Bookings
-pub mod Laws
+pub mod BoardLaws

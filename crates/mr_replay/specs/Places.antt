@@ -6,11 +6,11 @@ use Rattle.mr_replay.specs.declared.rows.Place.{Place}
 use Rattle.mr_replay.specs.declared.rows.Place.TheVariants.{Taken, Logged, Done, Void}
 
 -- the place of the definitions that a place of the program is
-abbrev pub place_of : Place → model.Place
-place_of (Taken k) = model.Taken k
-place_of Logged = model.Logged
-place_of Done = model.Done
-place_of Void = model.Void
+abbrev pub place_seen : Place → model.Place
+place_seen (Taken k) = model.Taken k
+place_seen Logged = model.Logged
+place_seen Done = model.Done
+place_seen Void = model.Void
 
 -- and back
 abbrev pub place_from : model.Place → Place

@@ -29,12 +29,12 @@ abbrev pub booking_kept : Id → Kept → List Booking
 booking_kept i (OfBooking slot length title Booked) = record { id = i; slot = slot; length = length } ∷ []
 booking_kept i _ = []
 
-abbrev pub booking_in : Text → Id × Row → List Booking
-booking_in room e = if bytes_eq e.1.room room then booking_kept e.0 e.1.kept else []
+abbrev pub bookings_of_entry : Text → Id × Row → List Booking
+bookings_of_entry room e = if bytes_eq e.1.room room then booking_kept e.0 e.1.kept else []
 
 -- the bookings of a room that stand, as those of the definitions
 abbrev pub bookings_of : Text → Rows → List Booking
-bookings_of room b = flat_map (booking_in room) b
+bookings_of room b = flat_map (bookings_of_entry room) b
 
 abbrev pub is_standing : Kept → Bool
 is_standing (OfBooking slot length title Booked) = true
@@ -58,8 +58,8 @@ IsFree room slot length b = AllByRecursion (λ x. ¬ (Overlap slot length x.slot
 
 -- where a write goes by the bookings of its room: a booking to its first choice that is free among them, a cancel by whether its
 -- target is one of them
-abbrev pub place_on : Rows → Write → Place
-place_on b w = place_among (bookings_of w.room b) w
+abbrev pub place_by_rows : Rows → Write → Place
+place_by_rows b w = place_among (bookings_of w.room b) w
 
 -- ---- the row of a write
 
@@ -89,22 +89,22 @@ row_of w p by = option_map (λ k. record { room = w.room; kept = k }) (kept_for 
 -- ---- marks of cancels
 
 -- a booking that stands is taken back by this cancel, and stands again
-abbrev pub mark : Id → Kept → Kept
-mark cancel (OfBooking slot length title Booked) = OfBooking slot length title (CancelledBy cancel)
-mark cancel kept = kept
+abbrev pub with_mark : Id → Kept → Kept
+with_mark cancel (OfBooking slot length title Booked) = OfBooking slot length title (CancelledBy cancel)
+with_mark cancel kept = kept
 
-abbrev pub unmark : Id → Kept → Kept
-unmark cancel (OfBooking slot length title (CancelledBy c)) =
+abbrev pub without_mark : Id → Kept → Kept
+without_mark cancel (OfBooking slot length title (CancelledBy c)) =
     OfBooking slot length title (if same_id c cancel then Booked else CancelledBy c)
-unmark cancel kept = kept
+without_mark cancel kept = kept
 
 abbrev pub change : (Kept → Kept) → Row → Row
 change f row = record { room = row.room; kept = f row.kept }
 
 -- the row of this id changed
-abbrev pub changed : (Kept → Kept) → Id → Rows → Rows
-changed f i [] = []
-changed f i (e ∷ es) = if same_id i e.0 then (e.0, change f e.1) ∷ es else e ∷ changed f i es
+abbrev pub row_changed : (Kept → Kept) → Id → Rows → Rows
+row_changed f i [] = []
+row_changed f i (e ∷ es) = if same_id i e.0 then (e.0, change f e.1) ∷ es else e ∷ row_changed f i es
 
 -- ---- executing and undoing
 
@@ -113,17 +113,17 @@ target_of (Books m) = None
 target_of (Cancels target) = Some target
 
 -- what a write took back that went to this place: a cancel that is Done its target
-abbrev pub taken_back : Place → Option Id → Option Id
-taken_back Done target = target
-taken_back _ target = None
+abbrev pub target_if_done : Place → Option Id → Option Id
+target_if_done Done target = target
+target_if_done _ target = None
 
 abbrev pub marked_with : Id → Option Id → Rows → Rows
 marked_with cancel None b = b
-marked_with cancel (Some target) b = changed (mark cancel) target b
+marked_with cancel (Some target) b = row_changed (with_mark cancel) target b
 
 -- with a mark in the row of what was taken back
 abbrev pub marked_by : Id → Place → Option Id → Rows → Rows
-marked_by cancel p target b = marked_with cancel (taken_back p target) b
+marked_by cancel p target b = marked_with cancel (target_if_done p target) b
 
 abbrev pub with_row : Id → Option Row → Rows → Rows
 with_row i None b = b
@@ -135,21 +135,21 @@ executed_at b w p = with_row (id_of w) (row_of w p None) (marked_by (id_of w) p 
 
 -- the board after a write is executed
 abbrev pub executed : Rows → Write → Rows
-executed b w = executed_at b w (place_on b w)
+executed b w = executed_at b w (place_by_rows b w)
 
 -- what undoes that execution
 abbrev pub undo_row_at : Write → Place → UndoRow
 undo_row_at w p = record { id = id_of w; place = p; target = target_of w.action }
 
 abbrev pub undo_row_of : Rows → Write → UndoRow
-undo_row_of b w = undo_row_at w (place_on b w)
+undo_row_of b w = undo_row_at w (place_by_rows b w)
 
 abbrev pub undone_with : Id → Option Id → Rows → Rows
 undone_with i None b = remove_entry (same_id i) b
-undone_with i (Some target) b = changed (unmark i) target b
+undone_with i (Some target) b = row_changed (without_mark i) target b
 
 abbrev pub undone_by : Id → Place → Option Id → Rows → Rows
-undone_by i p target b = undone_with i (taken_back p target) b
+undone_by i p target b = undone_with i (target_if_done p target) b
 
 -- the board after an execution is undone: without its row, or without its mark
 abbrev pub undone : Rows → UndoRow → Rows

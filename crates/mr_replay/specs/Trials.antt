@@ -6,7 +6,7 @@ use Rattle.mr_replay.specs.declared.index.IndexKey.{IndexKey}
 use Rattle.mr_replay.specs.declared.rows.Row.{Row}
 use Rattle.mr_replay.specs.Rows.{Rows}
 use Rattle.mr_replay.specs.Index.{IsIndexed}
-use Rattle.mr_replay.specs.Hidden.{put_all_back, HavePlaces}
+use Rattle.mr_replay.specs.Hidden.{put_all_back, AllHavePlaces}
 
 -- the rows as the replays left them, and those that giving up leaves
 pub record Tried : Type 0 where
@@ -20,5 +20,5 @@ untried b = record { rows = b; before = b }
 -- the rows are noted in the index, and so are those from before, to which the journal leads back
 pub record CanGiveUp (rows : Rows) (index : BTreeSet IndexKey) (journal : List (Id × Option Row)) : Type 0 where
   pub indexed : IsIndexed rows index
-  pub places : HavePlaces rows journal
+  pub places : AllHavePlaces rows journal
   pub before : IsIndexed (put_all_back rows journal) index

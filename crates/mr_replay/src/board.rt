@@ -6,8 +6,8 @@ ghost use Rattle.mr_model.specs.Writes.{Id, Write, id_of};
 ghost use Rattle.mr_model.specs.Replay.{is_free};
 ghost use Rattle.mr_base.specs.Answers.{OrOutOfMemory};
 ghost use Rattle.mr_base.specs.Ids.{id_cmp};
-ghost use Rattle.mr_replay.specs.Places.{place_of};
-ghost use Rattle.mr_replay.specs.Rows.{row_at, bookings_of, IsFree, place_on, marked_by, executed, undo_row_of, undone, executed_all, undo_rows_of, undone_all};
+ghost use Rattle.mr_replay.specs.Places.{place_seen};
+ghost use Rattle.mr_replay.specs.Rows.{row_at, bookings_of, IsFree, place_by_rows, marked_by, executed, undo_row_of, undone, executed_all, undo_rows_of, undone_all};
 ghost use Rattle.mr_replay.specs.Holds.{HaveDistinctIds, IsNew, AreNew, if_of, HoldsEach, Holds, with_list, undo_row_after, CanReplay};
 
 use crate::choice::{is_free, place_among};
@@ -123,7 +123,7 @@ impl Board {
     /// Where the write would go. A booking: to its first choice that is free in its room, else into the error log. A cancel is done
     /// where its target is a booking of its room that stands, else void.
     pub fn merge(&self, write: &Write) -> Place
-        ensures { place_of result ≡ place_on self.now write.now }
+        ensures { place_seen result ≡ place_by_rows self.now write.now }
     {
         let hidden = BTreeSet::new(self.alloc);
         place_among(&self.rows, &self.index, &hidden, write)

@@ -5,8 +5,8 @@ ghost use Rattle.std.specs.Map.{keys_of, values_of};
 ghost use Rattle.mr_model.specs.Replay.{is_free, is_booked, first_free};
 ghost use Rattle.mr_model.specs.Writes.{choices_of};
 ghost use Rattle.mr_base.specs.Ids.{id_cmp};
-ghost use Rattle.mr_replay.specs.Places.{place_of};
-ghost use Rattle.mr_replay.specs.Rows.{bookings_of, is_in_the_way, place_on};
+ghost use Rattle.mr_replay.specs.Places.{place_seen};
+ghost use Rattle.mr_replay.specs.Rows.{bookings_of, is_in_the_way, place_by_rows};
 ghost use Rattle.mr_replay.specs.Index.{IsIndexed, way_at};
 ghost use Rattle.mr_replay.specs.Hidden.{shown};
 
@@ -97,7 +97,7 @@ fn first_free(
     meeting: &Meeting,
 ) -> Place
     requires { IsIndexed rows.now.entries index.now }
-    ensures { place_of result ≡ first_free (bookings_of room.now (shown hidden.now rows.now.entries))
+    ensures { place_seen result ≡ first_free (bookings_of room.now (shown hidden.now rows.now.entries))
         meeting.now.length 0 (choices_of meeting.now) }
 {
     if is_free(rows, index, hidden, room, meeting.wish, meeting.length) {
@@ -117,7 +117,7 @@ fn first_free(
 /// error log. A cancel is done where its target is a booking of its room that stands, else void.
 pub(crate) fn place_among(rows: &Rows, index: &Index, hidden: &Hidden, write: &Write) -> Place
     requires { IsIndexed rows.now.entries index.now }
-    ensures { place_of result ≡ place_on (shown hidden.now rows.now.entries) write.now }
+    ensures { place_seen result ≡ place_by_rows (shown hidden.now rows.now.entries) write.now }
 {
     match &write.action {
         Action::Books(meeting) => first_free(rows, index, hidden, &write.room, meeting),

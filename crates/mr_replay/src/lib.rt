@@ -15,7 +15,7 @@ mod replay;
 mod rows;
 mod trial;
 
-ghost use Rattle.mr_replay.specs.Laws.{OneBoard, ExecutingHolds, UndoingHolds, AnotherOrderHolds, UndoIsExact, UndoInReverseIsExact, CancelsMark, OthersAreNew, UndoRowsAreOfTheList, UndoRowsAreOfTheRoom, PlacesAreOfTheBoard, RoomsReplayApart};
+ghost use Rattle.mr_replay.specs.BoardLaws.{OneBoard, ExecutingHolds, UndoingHolds, AnotherOrderHolds, UndoIsExact, UndoInReverseIsExact, CancelsMark, OthersAreNew, UndoRowsAreOfTheList, UndoRowsAreOfTheRoom, PlacesAreOfTheBoard, RoomsExecuteApart};
 ghost use Rattle.mr_replay.specs.Bookings.{BookingsReplay};
 
 pub use board::Board;
@@ -43,6 +43,6 @@ pub fn undo_row_law()
     ensures list { UndoRowsAreOfTheList }
     ensures room { UndoRowsAreOfTheRoom }
     ensures places { PlacesAreOfTheBoard }
-    ensures apart { RoomsReplayApart }
+    ensures apart { RoomsExecuteApart }
     ensures bookings { BookingsReplay }
 {}

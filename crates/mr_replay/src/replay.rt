@@ -3,7 +3,7 @@ ghost use Rattle.std.specs.BTreeMap.{insert_entry};
 ghost use Rattle.std.specs.List.Sorted.{IsStrictlySortedBy};
 ghost use Rattle.std.specs.Map.{keys_of};
 ghost use Rattle.mr_base.specs.Ids.{id_cmp};
-ghost use Rattle.mr_replay.specs.Rows.{Rows as Board, row_at, mark, unmark, changed, marked_by, with_row, undone, executed, undo_row_of, executed_all, undo_rows_of, undone_all};
+ghost use Rattle.mr_replay.specs.Rows.{Rows as Board, row_at, with_mark, without_mark, row_changed, marked_by, with_row, undone, executed, undo_row_of, executed_all, undo_rows_of, undone_all};
 ghost use Rattle.mr_replay.specs.Index.{IsIndexed, StayIndexed, Grows};
 ghost use Rattle.mr_replay.specs.Hidden.{shown, StillLeads};
 
@@ -192,7 +192,7 @@ impl Replay {
         ensures indexed { OnOk result (StayIndexed rows.old.entries rows.new.entries) }
         ensures ordered { OnOk result (IsStrictlySortedBy id_cmp (keys_of rows.new.entries)) }
         ensures board { OnOk result (shown self.new.hidden rows.new.entries
-            ≡ changed (mark cancel) target (shown self.old.hidden rows.old.entries)) }
+            ≡ row_changed (with_mark cancel) target (shown self.old.hidden rows.old.entries)) }
         ensures only { IfErr result (λ e. e ≡ Refusal.OutOfMemory) }
     {
         if let Some(mut row) = self.copy_of(rows, target)? {
@@ -209,7 +209,7 @@ impl Replay {
         ensures indexed { OnOk result (StayIndexed rows.old.entries rows.new.entries) }
         ensures ordered { OnOk result (IsStrictlySortedBy id_cmp (keys_of rows.new.entries)) }
         ensures board { OnOk result (shown self.new.hidden rows.new.entries
-            ≡ changed (unmark cancel) target (shown self.old.hidden rows.old.entries)) }
+            ≡ row_changed (without_mark cancel) target (shown self.old.hidden rows.old.entries)) }
         ensures only { IfErr result (λ e. e ≡ Refusal.OutOfMemory) }
     {
         if let Some(mut row) = self.copy_of(rows, target)? {

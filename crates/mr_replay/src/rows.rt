@@ -1,8 +1,8 @@
 ghost use Rattle.std.specs.Prelude.{◌≡◌, IfOk, IfErr, None};
 ghost use Rattle.mr_model.specs.Replay.{slot_at as slot_of};
 ghost use Rattle.mr_base.specs.Actions.{action_of};
-ghost use Rattle.mr_replay.specs.Places.{place_of};
-ghost use Rattle.mr_replay.specs.Rows.{is_standing, is_booking_of, is_kept_in_the_way, is_in_the_way, choice_at, kept_with, row_of, mark, unmark, change, target_of, taken_back, undo_row_at};
+ghost use Rattle.mr_replay.specs.Places.{place_seen};
+ghost use Rattle.mr_replay.specs.Rows.{is_standing, is_booking_of, is_kept_in_the_way, is_in_the_way, choice_at, kept_with, row_of, with_mark, without_mark, change, target_of, target_if_done, undo_row_at};
 
 use mr_base::{Action, Meeting, Refusal, RoomName, Slot, Title, Write, WriteId, overlaps};
 use std::alloc::{AllocError, Global};
@@ -34,11 +34,11 @@ pub struct UndoRow {
 }
 
 impl Model for UndoRow {
-    ghost use Rattle.mr_replay.specs.Places.{UndoRow, place_of, place_from};
+    ghost use Rattle.mr_replay.specs.Places.{UndoRow, place_seen, place_from};
 
     ghost Value = { UndoRow };
 
-    ghost view = { λ u. record { id = u.id; place = place_of u.place; target = u.target } };
+    ghost view = { λ u. record { id = u.id; place = place_seen u.place; target = u.target } };
 
     ghost inverse = { λ v. record { id = v.id; place = place_from v.place; target = v.target } };
 }
@@ -46,7 +46,7 @@ impl Model for UndoRow {
 impl UndoRow {
     /// The undo row of a write that went to this place.
     pub(crate) fn of(write: &Write, place: Place) -> UndoRow
-        ensures { result ≡ undo_row_at write.now (place_of place) }
+        ensures { result ≡ undo_row_at write.now (place_seen place) }
     {
         UndoRow {
             id: write.stamp.id(),
@@ -57,7 +57,7 @@ impl UndoRow {
 
     /// The booking that the write took back: the target of a cancel that is done.
     pub(crate) fn taken_back(&self) -> Option<WriteId>
-        ensures { result ≡ taken_back self.now.place self.now.target }
+        ensures { result ≡ target_if_done self.now.place self.now.target }
     {
         match self.place {
             Place::Done => self.target,
@@ -112,7 +112,7 @@ pub struct Row {
 impl Row {
     /// The row of a write at its place; a cancel that is Done has none.
     pub(crate) fn of(alloc: Global, write: &Write, place: Place) -> Result<Option<Row>, Refusal>
-        ensures row { IfOk result (λ row. row ≡ row_of write.now (place_of place) None) }
+        ensures row { IfOk result (λ row. row ≡ row_of write.now (place_seen place) None) }
         ensures only { IfErr result (λ e. e ≡ Refusal.OutOfMemory) }
     {
         let kept = match &write.action {
@@ -154,7 +154,7 @@ impl Row {
 
     /// A booking that stands is taken back by this cancel.
     pub(crate) fn mark(&mut self, cancel: WriteId)
-        ensures { self.new ≡ change (mark cancel) self.old }
+        ensures { self.new ≡ change (with_mark cancel) self.old }
     {
         if let Kept::OfBooking { standing, .. } = &mut self.kept {
             if *standing == Standing::Booked {
@@ -165,7 +165,7 @@ impl Row {
 
     /// A booking that this cancel took back stands again.
     pub(crate) fn unmark(&mut self, cancel: WriteId)
-        ensures { self.new ≡ change (unmark cancel) self.old }
+        ensures { self.new ≡ change (without_mark cancel) self.old }
     {
         if let Kept::OfBooking { standing, .. } = &mut self.kept {
             if *standing == Standing::CancelledBy(cancel) {
@@ -243,7 +243,7 @@ impl Kept {
 
 /// The slot that the write has at its place.
 pub(crate) fn slot_at(write: &Write, place: Place) -> Option<Slot>
-    ensures { result ≡ slot_of write.now (place_of place) }
+    ensures { result ≡ slot_of write.now (place_seen place) }
 {
     match &write.action {
         Action::Books(meeting) => choice_at(meeting, place),
@@ -253,7 +253,7 @@ pub(crate) fn slot_at(write: &Write, place: Place) -> Option<Slot>
 
 /// The choice that the meeting has at its place.
 fn choice_at(meeting: &Meeting, place: Place) -> Option<Slot>
-    ensures { result ≡ choice_at meeting.now (place_of place) }
+    ensures { result ≡ choice_at meeting.now (place_seen place) }
 {
     match place {
         Place::Taken(0) => Some(meeting.wish),

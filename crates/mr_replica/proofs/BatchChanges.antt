@@ -24,7 +24,7 @@ use Rattle.mr_replay.specs.Places.{UndoRow}
 use Rattle.mr_replay.specs.Rows.{Rows, row_at}
 use Rattle.mr_tables.specs.Change.{changed}
 use Rattle.mr_tables.specs.Rooms.{rooms_beside}
-use Rattle.mr_tables.specs.Rows.{seq_on, log_rows, place_rows}
+use Rattle.mr_tables.specs.ExecutionRows.{seq_on, log_rows, place_rows}
 use Rattle.mr_tables.specs.Written.{with_places, written}
 use Rattle.mr_replica.specs.ChangeLaws.{vector_between}
 use Rattle.mr_replica.specs.Logged.{undo_with}
@@ -36,10 +36,10 @@ use Rattle.mr_replica.proofs.Changing.{kept_committed_long}
 use Rattle.mr_replica.proofs.DeskBoards.{tallies_of}
 use Rattle.mr_replica.proofs.DeskNumbers.{AreNumbered, numbered_first, numbered_rest, unplaced, numbered_logs}
 use Rattle.mr_replica.proofs.Growing.{Grows, rooms_complete}
-use Rattle.mr_replica.proofs.Moving.{Moves, change_of, moves}
+use Rattle.mr_replica.proofs.MovedTables.{Moves, change_of, moves}
 use Rattle.mr_replica.proofs.SubmittedRows.{few_kept}
 use Rattle.mr_replica.proofs.Targeting.{Shows, targets_told, targets_tell, takers_told}
-use Rattle.mr_replica.proofs.Writing.{places-put, tallies_move, given_numbered}
+use Rattle.mr_replica.proofs.DeskChanges.{places-put, tallies_move, given_numbered}
 
 -- ---- rows of what became of writes
 

@@ -13,7 +13,7 @@ use Rattle.mr_model.proofs.CommitRows.{slice_behind}
 use Rattle.mr_model.proofs.KnownById.{committed_ids, tentative_known}
 use Rattle.mr_model.proofs.Members.{has_among, slice_has}
 use Rattle.mr_model.proofs.RowsById.{seq_not}
-use Rattle.mr_tables.specs.Rows.{seq_on}
+use Rattle.mr_tables.specs.ExecutionRows.{seq_on}
 use Rattle.mr_replica.proofs.DeskNumbers.{le_or_lt, order_numbers, slice_left}
 
 -- an element of a list has a place in it

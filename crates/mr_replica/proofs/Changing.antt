@@ -34,16 +34,16 @@ use Rattle.mr_model.proofs.TruncateRows.{slice_in_front, front-seq}
 use Rattle.mr_model.proofs.UniqueReplay.{some_inj, none_some}
 use Rattle.mr_replay.specs.Rows.{executed_all, undo_rows_of}
 use Rattle.mr_tables.specs.Summary.{tally_of}
-use Rattle.mr_tables.specs.Change.{put_all, without, log_id, changed}
+use Rattle.mr_tables.specs.Change.{put_all, rows_without, log_id, changed}
 use Rattle.mr_tables.specs.Written.{changed_tallies, written, forgotten}
 use Rattle.mr_replica.specs.Desk.{desk_of}
 use Rattle.mr_replica.specs.DeskTables.{desk_tables}
-use Rattle.mr_replica.specs.ChangeLaws.{GivesRows, rows_taken, kept_committed}
+use Rattle.mr_replica.specs.ChangeLaws.{GivesRows, rows_taken_back, kept_committed}
 use Rattle.mr_replica.specs.Placing.{with_places_put}
 use Rattle.mr_replica.proofs.DeskNumbers.{Bears, dropped_long, dropped_numbers, kept_numbers}
 use Rattle.mr_replica.proofs.DeskRows.{desk_tables-of}
-use Rattle.mr_replica.proofs.Moving.{Moves, rows_move, rooms_move, without_none}
-use Rattle.mr_replica.proofs.Writing.{board_before, part_changes, tallies_move}
+use Rattle.mr_replica.proofs.MovedTables.{Moves, rows_move, rooms_move, without_none}
+use Rattle.mr_replica.proofs.DeskChanges.{board_before, part_changes, tallies_move}
 
 -- ---- the writes from a place of the order on
 
@@ -245,7 +245,7 @@ same_dropped a b x ha hb d e =
     (sym p.0, p.1)
 
 -- the rows that are taken back are those of bookings of the order, as they are afterwards
-pub taken_rows_given : (a : Replica) (w : Write) → IsReplica a → IsNext a w → clock_of a < w.stamp.time → GivesRows a (add_write a w) (order_of a) (rows_taken a w)
+pub taken_rows_given : (a : Replica) (w : Write) → IsReplica a → IsNext a w → clock_of a < w.stamp.time → GivesRows a (add_write a w) (order_of a) (rows_taken_back a w)
 taken_rows_given a w ha next late = record { are_rows = are_rows; has_others = λ v h. other v (order_known a v ha h) (takes_back a w (id_of v)) refl }
   where
     taking : BookingRow → Bool
@@ -257,7 +257,7 @@ taken_rows_given a w ha next late = record { are_rows = are_rows; has_others = �
     same_row : (p : PlaceRow) (row other : BookingRow) → p ≡ rows.Booked row → as_booking p ≡ Some other → taken other ≡ taken row
     same_row p row other e f = ap taken (some_inj other row (sym f ∙ ap as_booking e))
 
-    are_rows : (row : PlaceRow) → Has row (rows_taken a w) → (v : Write) × Has v (order_of a) × (row ≡ place_row (add_write a w) v)
+    are_rows : (row : PlaceRow) → Has row (rows_taken_back a w) → (v : Write) × Has v (order_of a) × (row ≡ place_row (add_write a w) v)
     are_rows row h =
         let (b, c, e) = map_has taken row (filter taking (tables_of a).booking) h in
         let (d, t) = filter_has taking b (tables_of a).booking c in
@@ -266,12 +266,12 @@ taken_rows_given a w ha next late = record { are_rows = are_rows; has_others = �
         let (o, p, q) = row_taken a w ha next late v k (ap (takes_back a w) (sym key) ∙ t) in
         (v, known_order a v ha k, e ∙ same_row (place_row a v) o b p f ∙ sym {a = place_row (add_write a w) v} q)
 
-    other : (v : Write) → Has v a.known → (t : Bool) → takes_back a w (id_of v) ≡ t → (canceller_of a v ≡ canceller_of (add_write a w) v) ⊎ Has (place_row (add_write a w) v) (rows_taken a w)
+    other : (v : Write) → Has v a.known → (t : Bool) → takes_back a w (id_of v) ≡ t → (canceller_of a v ≡ canceller_of (add_write a w) v) ⊎ Has (place_row (add_write a w) v) (rows_taken_back a w)
     other v k false t = inl (sym (others_stay a w ha next late v k t))
     other v k true t =
         let (o, p, q) = row_taken a w ha next late v k t in
         let key : booking_id o ≡ id_of v = sym (ap row_id p) ∙ key-row a v in
-        inr (subst (λ r. Has r (rows_taken a w)) (sym q)
+        inr (subst (λ r. Has r (rows_taken_back a w)) (sym q)
         (has_map taken o (filter taking (tables_of a).booking) (has_filter taking o (tables_of a).booking (ap (takes_back a w) key ∙ t) (of_known as_booking a o ha v k (ap as_booking p)))))
 
 -- the write becomes the last of the order: its rows are put, those that are given of what it takes back, and that of its server
@@ -284,8 +284,8 @@ submit_given a w given ha next late known gives =
     (subst (λ ws. GivesRows a (add_write a w) ws given) (order-parts a) gives)
     (sym (same_rooms w.room a.rooms ha.rooms_in_order known))
 
-pub submit_changes : (a : Replica) (w : Write) → IsReplica a → IsNext a w → clock_of a < w.stamp.time → knows_room a w.room ≡ true → changed (with_places_put (written (tables_of (add_write a w)).meta [] (vector_between a (add_write a w)) (length a.commits) (a.dropped + 1 + length (kept_in_order a)) (w ∷ []) (undo_rows_of (board_before a (kept_in_order a)) (w ∷ [])) (None ∷ [])) (rows_taken a w)) (desk_tables (desk_of a)) ≡ desk_tables (desk_of (add_write a w))
-submit_changes a w ha next late known = submit_given a w (rows_taken a w) ha next late known (taken_rows_given a w ha next late)
+pub submit_changes : (a : Replica) (w : Write) → IsReplica a → IsNext a w → clock_of a < w.stamp.time → knows_room a w.room ≡ true → changed (with_places_put (written (tables_of (add_write a w)).meta [] (vector_between a (add_write a w)) (length a.commits) (a.dropped + 1 + length (kept_in_order a)) (w ∷ []) (undo_rows_of (board_before a (kept_in_order a)) (w ∷ [])) (None ∷ [])) (rows_taken_back a w)) (desk_tables (desk_of a)) ≡ desk_tables (desk_of (add_write a w))
+submit_changes a w ha next late known = submit_given a w (rows_taken_back a w) ha next late known (taken_rows_given a w ha next late)
 
 -- ---- a commit
 
@@ -400,9 +400,9 @@ still_dropped a n w d =
     ∙ and_from (leb 1 (seq_of a w)) (leb (seq_of a w) (max a.dropped n)) p.0 (le-leb (seq_of a w) (max a.dropped n) (omega (arith, high)))
 
 -- a table with a row for each kept write
-kept_forget : {R : Type 0} (a : Replica) (n : ℕ) (key : R → Id) (g : Write → R) → IsReplica a → IsReplica (after_truncate a n) → ((w : Write) → key (g w) ≡ id_of w) → without key (map id_of (take (max a.dropped n - a.dropped) (kept_in_order a))) (map g (filter (λ w. not (is_dropped a (id_of w))) (by_id a.known))) ≡ map g (filter (λ w. not (is_dropped (after_truncate a n) (id_of w))) (by_id a.known))
+kept_forget : {R : Type 0} (a : Replica) (n : ℕ) (key : R → Id) (g : Write → R) → IsReplica a → IsReplica (after_truncate a n) → ((w : Write) → key (g w) ≡ id_of w) → rows_without key (map id_of (take (max a.dropped n - a.dropped) (kept_in_order a))) (map g (filter (λ w. not (is_dropped a (id_of w))) (by_id a.known))) ≡ map g (filter (λ w. not (is_dropped (after_truncate a n) (id_of w))) (by_id a.known))
 kept_forget {R} a n key g ha hb keyed =
-    ap (without key (map id_of gone)) (map_filter (λ w. is_dropped a (id_of w)) g (by_id a.known))
+    ap (rows_without key (map id_of gone)) (map_filter (λ w. is_dropped a (id_of w)) g (by_id a.known))
     ∙ rows_move a (after_truncate a n) key (row a) (row (after_truncate a n)) gone [] (map id_of gone) ha hb (bears a) (bears (after_truncate a n))
     (record {
       stays = λ w h. h;

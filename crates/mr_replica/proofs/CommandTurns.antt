@@ -29,7 +29,7 @@ use Rattle.mr_tables.specs.Written.{meta_of, changed_tallies, written, forgotten
 use Rattle.mr_replica.proofs.Changing.{room_changes, commit_changes, truncate_changes}
 use Rattle.mr_replica.proofs.Committing.{summary-commits, desk-committed}
 use Rattle.mr_replica.proofs.Desks.{desk_with, tentative_kept, committed_kept}
-use Rattle.mr_tables.proofs.Limits.{few_commits}
+use Rattle.mr_tables.proofs.CountLimits.{few_commits}
 use Rattle.mr_replica.proofs.Logs.{drop-undo_rows_of, take-undo_rows_of}
 use Rattle.mr_replica.proofs.Placings.{cancellers-of}
 use Rattle.mr_replica.proofs.Truncating.{desk-truncated}

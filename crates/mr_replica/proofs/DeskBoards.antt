@@ -38,7 +38,7 @@ use Rattle.mr_tables.proofs.BoardsTold.{known_row, known_at, unknown_at, known_o
 use Rattle.mr_tables.proofs.Putting.{InOrder, id_order, in_order_same}
 use Rattle.mr_tables.proofs.Summaries.{tally-of}
 use Rattle.mr_replica.specs.DeskTables.{kept_booking, board_booking, kept_cancelled, board_cancelled}
-use Rattle.mr_replica.proofs.BoardRows.{board_in_order}
+use Rattle.mr_replica.proofs.BoardOrder.{board_in_order}
 use Rattle.mr_replica.proofs.Logs.{executed_all-append}
 use Rattle.mr_replica.proofs.DeskNumbers.{Bears, rows_in_order, order_distinct}
 

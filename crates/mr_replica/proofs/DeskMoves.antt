@@ -26,12 +26,12 @@ use Rattle.mr_replay.specs.Holds.{HaveDistinctIds, if_of, Holds}
 use Rattle.mr_replay.proofs.Lists.{distinct-part, same_name}
 use Rattle.mr_replay.proofs.OneBoard.{one_board}
 use Rattle.mr_replica.specs.Logged.{undo_with}
-use Rattle.mr_replica.specs.RoomMoves.{RoomMoves, ReplaysRooms, undone_at, board_after, rows_after, row_at}
+use Rattle.mr_replica.specs.RoomMoves.{MovesOfRooms, ReplaysRooms, undone_at, board_after_moves, rows_after, first_undo_row}
 use Rattle.mr_replica.proofs.DeskNumbers.{order_distinct, dropped_long}
 use Rattle.mr_replica.proofs.BatchBoards.{moving}
 use Rattle.mr_replica.proofs.DeskBoards.{board_of, board-told}
 use Rattle.mr_replica.proofs.Replays.{whole_view}
-use Rattle.mr_replica.proofs.RoomsApart.{IsGrouped, ShowsApart, rooms_apart}
+use Rattle.mr_replica.proofs.MovedRooms.{IsGrouped, ShowsApart, rooms_apart}
 use Rattle.mr_tables.proofs.BoardsTold.{board_told}
 
 -- ---- lists
@@ -182,25 +182,25 @@ module _ (a b : Replica) (items : List Item) (m : BatchMoves a b items) (sound :
 
   -- ---- the board
 
-  module _ (moves : RoomMoves) (grouped : IsGrouped a b items m sound moves) where
+  module _ (moves : MovesOfRooms) (grouped : IsGrouped a b items m sound moves) where
     whole : ShowsApart a b items m sound (λ room. true) (λ w h. refl) (λ w h. refl) if_of (λ o. o) whole_view moves grouped (board_of a)
     whole =
         let holds = board_holds a sound in
         rooms_apart a b items m sound (λ room. true) (λ w h. refl) (λ w h. refl) if_of (λ o. o) whole_view moves grouped (board_of a) holds.ordered (λ room t. holds.rooms room)
 
     -- room by room they get the places that the second replica gives them, and the board is that of the second replica
-    pub new_found : (w : Write) → Has w anew → row_at (rows_after moves.entries (board_of a)) (id_of w) ≡ Some (undo_with (place_of b) w)
+    pub new_found : (w : Write) → Has w anew → first_undo_row (rows_after moves.entries (board_of a)) (id_of w) ≡ Some (undo_with (place_of b) w)
     new_found = whole.found
 
-    pub new_board : board_after moves.entries (board_of a) ≡ board_of b
-    new_board = one_board (λ room. of_room room (order_of b)) (board_after moves.entries (board_of a)) (board_of b) (record { ordered = whole.ordered; rooms = λ room. whole.has room refl }) (board_holds b m.sound)
+    pub new_board : board_after_moves moves.entries (board_of a) ≡ board_of b
+    new_board = one_board (λ room. of_room room (order_of b)) (board_after_moves moves.entries (board_of a)) (board_of b) (record { ordered = whole.ordered; rooms = λ room. whole.has room refl }) (board_holds b m.sound)
 
 -- where what may move is undone in rooms, and the new order is executed, the rows are those of the second replica, and so is the board
-pub desk_replayed : (a b : Replica) (items : List Item) (m : BatchMoves a b items) → IsReplica a → (undone : RoomMoves) (ws : List Write) (old new : Rows) (rows : List UndoRow) → old ≡ board_of a
+pub desk_replayed : (a b : Replica) (items : List Item) (m : BatchMoves a b items) → IsReplica a → (undone : MovesOfRooms) (ws : List Write) (old new : Rows) (rows : List UndoRow) → old ≡ board_of a
     → ((name : Text) → undone_at undone name ≡ map (undo_with (place_of a)) (of_room name (filter (may_move a items) (tentative a)))) → ws ≡ again a items m.news b
     → ReplaysRooms (undone_at undone) ws old new rows → (rows ≡ map (undo_with (place_of b)) (again a items m.news b)) × (new ≡ board_of b)
 desk_replayed a b items m sound undone ws old new rows board_is undone_are again_are replays =
-    (replays.rows_are (undo_with (place_of b)) found ∙ ap (map (undo_with (place_of b))) again_are, replays.board_is ∙ ap (board_after replays.moves.entries) board_is ∙ new_board a b items m sound replays.moves grouped)
+    (replays.rows_are (undo_with (place_of b)) found ∙ ap (map (undo_with (place_of b))) again_are, replays.board_is ∙ ap (board_after_moves replays.moves.entries) board_is ∙ new_board a b items m sound replays.moves grouped)
   where
     grouped : IsGrouped a b items m sound replays.moves
     grouped = record {
@@ -209,5 +209,5 @@ desk_replayed a b items m sound undone ws old new rows board_is undone_are again
       ordered = replays.ordered;
     }
 
-    found : (w : Write) → Has w ws → row_at (rows_after replays.moves.entries old) (id_of w) ≡ Some (undo_with (place_of b) w)
-    found w h = ap (λ x. row_at (rows_after replays.moves.entries x) (id_of w)) board_is ∙ new_found a b items m sound replays.moves grouped w (subst (λ (vs : List Write). Has w vs) again_are h)
+    found : (w : Write) → Has w ws → first_undo_row (rows_after replays.moves.entries old) (id_of w) ≡ Some (undo_with (place_of b) w)
+    found w h = ap (λ x. first_undo_row (rows_after replays.moves.entries x) (id_of w)) board_is ∙ new_found a b items m sound replays.moves grouped w (subst (λ (vs : List Write). Has w vs) again_are h)

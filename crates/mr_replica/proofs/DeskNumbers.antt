@@ -32,7 +32,7 @@ use Rattle.mr_replay.proofs.Lists.{distinct_front}
 use Rattle.mr_replay.proofs.Holding.{Holds-empty, Holds-executed_all}
 use Rattle.mr_replay.proofs.Places.{places-board}
 use Rattle.mr_tables.specs.Change.{put_all, id_before, log_id}
-use Rattle.mr_tables.specs.Rows.{seq_on, log_rows}
+use Rattle.mr_tables.specs.ExecutionRows.{seq_on, log_rows}
 use Rattle.mr_tables.proofs.Putting.{InOrder, id_order, puts_make, id_before_from}
 use Rattle.mr_replica.specs.Log.{cancel_at, cancel_rows}
 use Rattle.mr_replica.proofs.Logs.{undo_rows_of-append, length-undo_rows_of}

@@ -17,7 +17,7 @@ use Rattle.mr_model.specs.Taking.{Progress, take_items}
 use Rattle.mr_model.proofs.Moved.{batches_move_touched_rooms}
 use Rattle.mr_base.specs.declared.refusals.Refusal.{Refusal}
 use Rattle.mr_base.specs.declared.refusals.Refusal.TheVariants.{OutOfMemory}
-use Rattle.mr_base.specs.Refusals.{refusal_of}
+use Rattle.mr_base.specs.RefusalViews.{refusal_of}
 use Rattle.mr_replay.specs.Places.{UndoRow}
 use Rattle.mr_replay.specs.Rows.{Rows, row_at, executed_all}
 use Rattle.mr_replay.specs.Holds.{HaveDistinctIds, if_of}
@@ -27,7 +27,7 @@ use Rattle.mr_tables.specs.declared.summary.Summary.{Summary}
 use Rattle.mr_tables.specs.Summary.{summary_of}
 use Rattle.mr_tables.specs.Change.{ChangeView, changed}
 use Rattle.mr_tables.specs.Rooms.{rooms_beside}
-use Rattle.mr_tables.specs.Rows.{seq_on}
+use Rattle.mr_tables.specs.ExecutionRows.{seq_on}
 use Rattle.mr_tables.specs.Written.{meta_of, changed_tallies, with_places, written}
 use Rattle.mr_replica.specs.Desk.{DeskView, desk_of, old_errors_of, old_cancels_of, nothing_taken, reply_with}
 use Rattle.mr_replica.specs.DeskTables.{desk_tables}
@@ -37,7 +37,7 @@ use Rattle.mr_replica.specs.Taken.{ReachedView, ShowsPicked, is_inside}
 use Rattle.mr_replica.specs.ChangeLaws.{vector_between}
 use Rattle.mr_replica.specs.Logged.{undo_with}
 use Rattle.mr_replica.specs.Placing.{with_places_put, RowEnds, cancellers_on}
-use Rattle.mr_replica.specs.Received.{Reaches, HasKeptOf, Received}
+use Rattle.mr_replica.specs.Received.{BatchReaches, HasKeptOf, Received}
 use Rattle.mr_replica.specs.Targets.{aimed_at, moved_targets}
 use Rattle.mr_replica.proofs.BatchBoards.{moving, undo_rows_are}
 use Rattle.mr_replica.proofs.BatchChanges.{again_few, batch_turns}
@@ -83,7 +83,7 @@ marks_end a d k done stands all was = was ∙ take_all_of (seq_of a) (kept_in_or
 -- ---- what is reached
 
 -- with all items there is what they lead to
-pub desk_reaches : (a : Replica) (d : DeskView) (items : List Item) (c : ReachedView) (p : Progress) → IsReplica a → d ≡ desk_of a → list_all (is_item Second) items ≡ true → take_items items 2 (Ok (nothing_taken a)) ≡ Ok p → ShowsPicked a (is_inside a items) c p → Reaches d items c a p.replica
+pub desk_reaches : (a : Replica) (d : DeskView) (items : List Item) (c : ReachedView) (p : Progress) → IsReplica a → d ≡ desk_of a → list_all (is_item Second) items ≡ true → take_items items 2 (Ok (nothing_taken a)) ≡ Ok p → ShowsPicked a (is_inside a items) c p → BatchReaches d items c a p.replica
 desk_reaches a d items c p sound stands good taken shows =
     record {
       sound = sound;
@@ -98,7 +98,7 @@ desk_reaches a d items c p sound stands good taken shows =
     }
 
 -- the same of equal parts
-abbrev pub reaches_as : (d e : DeskView) (items : List Item) (c x : ReachedView) (a b : Replica) → e ≡ desk_of a → x ≡ c → Reaches d items c a b → Reaches e items x a b
+abbrev pub reaches_as : (d e : DeskView) (items : List Item) (c x : ReachedView) (a b : Replica) → e ≡ desk_of a → x ≡ c → BatchReaches d items c a b → BatchReaches e items x a b
 reaches_as d e items c x a b stands same r =
     record {
       sound = r.sound;
@@ -155,7 +155,7 @@ nothing_put d change is =
       cancelled = all_pass t.cancelled i;
     })
 
-module _ (d : DeskView) (items : List Item) (a b : Replica) (s : Summary) (rooms : List Text) (c : ReachedView) (t : Reaches d items c a b) (s_is : s ≡ summary_of b) (rooms_are : rooms ≡ b.rooms) (new : Rows) (board_is : new ≡ board_of b) where
+module _ (d : DeskView) (items : List Item) (a b : Replica) (s : Summary) (rooms : List Text) (c : ReachedView) (t : BatchReaches d items c a b) (s_is : s ≡ summary_of b) (rooms_are : rooms ≡ b.rooms) (new : Rows) (board_is : new ≡ board_of b) where
   abbrev anew : List Write
   anew = again a items t.moves.news b
 
@@ -211,7 +211,7 @@ moving_are a items touched sound right =
     ap (filter (λ w. seq_of a w == 0 && moves_in touched items (length a.commits) w)) (sym (all_pass (kept_in_order a))) ∙ undone_picked a items (λ w. true) touched sound (λ w e. refl) right
 
 -- the desk with these parts, and what its dropped writes left, is that of the second replica
-pub desk_after : (d : DeskView) (items : List Item) (a b : Replica) (c : ReachedView) (s : Summary) (rooms : List Text) (log : KeptLog) {was : DeskView} → s ≡ c.summary → rooms ≡ c.rooms → Reaches d items c a b → log ≡ (desk_of b).log → was ≡ d → desk_with s rooms log was.old_errors was.old_cancels ≡ desk_of b
+pub desk_after : (d : DeskView) (items : List Item) (a b : Replica) (c : ReachedView) (s : Summary) (rooms : List Text) (log : KeptLog) {was : DeskView} → s ≡ c.summary → rooms ≡ c.rooms → BatchReaches d items c a b → log ≡ (desk_of b).log → was ≡ d → desk_with s rooms log was.old_errors was.old_cancels ≡ desk_of b
 desk_after d items a b c s rooms log numbers names t is own =
     let errors = ap (λ (v : DeskView). v.old_errors) (own ∙ t.stands) ∙ ap old_errors_of (sym t.dropped) in
     let cancels = ap (λ (v : DeskView). v.old_cancels) (own ∙ t.stands) ∙ ap old_cancels_of (sym t.dropped) in

@@ -30,7 +30,7 @@ use Rattle.mr_tables.specs.declared.summary.Tally.{Tally}
 use Rattle.mr_tables.specs.declared.old_errors.OldError.{OldError}
 use Rattle.mr_tables.specs.Summary.{tally_at, tally_of}
 use Rattle.mr_tables.specs.Tallied.{tally_rows}
-use Rattle.mr_tables.specs.Rows.{log_rows}
+use Rattle.mr_tables.specs.ExecutionRows.{log_rows}
 use Rattle.mr_tables.proofs.Summaries.{tally-of}
 use Rattle.mr_replica.specs.Log.{errors_in, old_error_at}
 use Rattle.mr_replica.specs.Desk.{desk_of}

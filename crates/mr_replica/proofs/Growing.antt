@@ -20,7 +20,7 @@ use Rattle.mr_model.proofs.Members.{filter_has, has_filter}
 use Rattle.mr_model.proofs.Orders.{added}
 use Rattle.mr_model.proofs.TakingKeeps.{versions_item}
 use Rattle.mr_model.proofs.WithWrite.{has_with_write}
-use Rattle.mr_base.specs.Refusals.{refusal_of}
+use Rattle.mr_base.specs.RefusalViews.{refusal_of}
 use Rattle.mr_base.specs.declared.refusals.Refusal.{Refusal}
 use Rattle.mr_tables.specs.Summary.{summary_of}
 use Rattle.mr_replica.specs.Candidate.{write_verdict, commit_verdict}
@@ -28,7 +28,7 @@ use Rattle.mr_tables.specs.Rooms.{rooms_beside}
 use Rattle.mr_replica.proofs.Changing.{has_with_room}
 use Rattle.mr_replica.proofs.Judging.{JudgedWrite, judged_write, JudgedCommit, judged_commit}
 use Rattle.mr_replica.proofs.Receiving.{err≢ok}
-use Rattle.mr_replica.proofs.Moving.{rooms_move}
+use Rattle.mr_replica.proofs.MovedTables.{rooms_move}
 use Rattle.mr_tables.specs.Change.{put_all}
 
 -- ---- what a replica knows it knows after a batch

@@ -16,23 +16,23 @@ use Rattle.mr_model.proofs.ChangesKeep.{within}
 use Rattle.mr_model.proofs.KnownById.{known_with, with_id, known_at, one_known, commit_found}
 use Rattle.mr_model.proofs.DroppedApart.{kept_known, known_kept}
 use Rattle.mr_model.proofs.RowsById.{server_bounds}
-use Rattle.mr_base.specs.Refusals.{refusal_of}
+use Rattle.mr_base.specs.RefusalViews.{refusal_of}
 use Rattle.mr_base.specs.declared.refusals.Refusal.{Refusal}
 use Rattle.mr_base.specs.declared.refusals.Refusal.TheVariants.{Gap, OutOfOrder, Forged, OwnWrite, PrimaryOnly}
 use Rattle.mr_tables.specs.Summary.{summary_of}
-use Rattle.mr_replica.specs.Candidate.{write_in, known_verdict, write_verdict_by, write_verdict, there_verdict, commit_verdict_with, commit_verdict}
+use Rattle.mr_replica.specs.Candidate.{write_with_id, known_verdict, write_verdict_by, write_verdict, there_verdict, commit_verdict_with, commit_verdict}
 use Rattle.mr_tables.proofs.Summaries.{tally-of}
 
 -- ---- the kept writes
 
 -- a dropped write isn't kept
-dropped_out : (r : Replica) (id : Id) → IsReplica r → is_dropped r id ≡ true → write_in (kept_in_order r) id ≡ None
+dropped_out : (r : Replica) (id : Id) → IsReplica r → is_dropped r id ≡ true → write_with_id (kept_in_order r) id ≡ None
 dropped_out r id sound dropped =
     find_none (λ w. same_id (id_of w) id) (kept_in_order r)
     (λ v h. false_from_ne_true (same_id (id_of v) id) (λ s. true≢false (sym dropped ∙ ap (is_dropped r) (sym (same_id-true (id_of v) id s)) ∙ (kept_known r v sound h).1)))
 
 -- another known write is
-kept_in : (r : Replica) (id : Id) → IsReplica r → 1 ≤ id.n → id.n ≤ count_of r id.server → is_dropped r id ≡ false → (write_in (kept_in_order r) id ≡ write_with r id) × ((w : Write) × (write_with r id ≡ Some w))
+kept_in : (r : Replica) (id : Id) → IsReplica r → 1 ≤ id.n → id.n ≤ count_of r id.server → is_dropped r id ≡ false → (write_with_id (kept_in_order r) id ≡ write_with r id) × ((w : Write) × (write_with r id ≡ Some w))
 kept_in r id sound low high kept =
     let (w, known, e) = known_at r id sound low high in
     let there = with_id r w id sound known e in
@@ -71,7 +71,7 @@ judged_write line p w sound good =
         let that = ap (λ o. is_that_write o w) there ∙ qc in
         λ t. write_cases line p w (qa t) (qb t) (that t) (w.stamp.server == p.replica.server) (nat_lt (count_of p.replica w.stamp.server + 1) w.stamp.n) (nat_le w.stamp.time (last_time p.replica w.stamp.server))
 
-    known : nat_le w.stamp.n (count_of p.replica w.stamp.server) ≡ true → (b : Bool) → is_dropped p.replica (id_of w) ≡ b → JudgedWrite line p w (known_verdict line w (write_in (kept_in_order p.replica) (id_of w)))
+    known : nat_le w.stamp.n (count_of p.replica w.stamp.server) ≡ true → (b : Bool) → is_dropped p.replica (id_of w) ≡ b → JudgedWrite line p w (known_verdict line w (write_with_id (kept_in_order p.replica) (id_of w)))
     known qa true qb =
         subst (λ o. JudgedWrite line p w (known_verdict line w o)) (sym (dropped_out p.replica (id_of w) sound qb))
         (λ t. write_cases line p w (qa t) (qb t) (is_that_write (write_with p.replica (id_of w)) w) (w.stamp.server == p.replica.server) (nat_lt (count_of p.replica w.stamp.server + 1) w.stamp.n) (nat_le w.stamp.time (last_time p.replica w.stamp.server)))
@@ -81,7 +81,7 @@ judged_write line p w sound good =
         subst (λ o. JudgedWrite line p w (known_verdict line w o)) (sym (e ∙ there.1)) (same there.0 qa qb there.1 (same_write there.0 w) refl)
 
     go : (a : Bool) → nat_le w.stamp.n (count_of p.replica w.stamp.server) ≡ a → (d : Bool) → (w.stamp.server == p.replica.server) ≡ d → (e : Bool) → nat_lt (count_of p.replica w.stamp.server + 1) w.stamp.n ≡ e → (f : Bool) → nat_le w.stamp.time (last_time p.replica w.stamp.server) ≡ f
-        → JudgedWrite line p w (cond a (known_verdict line w (write_in (kept_in_order p.replica) (id_of w))) (cond d (Err (OwnWrite line)) (cond e (Err (Gap line)) (cond f (Err (OutOfOrder line)) (Ok true)))))
+        → JudgedWrite line p w (cond a (known_verdict line w (write_with_id (kept_in_order p.replica) (id_of w))) (cond d (Err (OwnWrite line)) (cond e (Err (Gap line)) (cond f (Err (OutOfOrder line)) (Ok true)))))
     go true qa d qd e qe f qf = known qa (is_dropped p.replica (id_of w)) refl
     go false qa true qd e qe f qf = λ t. write_cases line p w (qa t) (is_dropped p.replica (id_of w)) (is_that_write (write_with p.replica (id_of w)) w) (qd t) (nat_lt (count_of p.replica w.stamp.server + 1) w.stamp.n) (nat_le w.stamp.time (last_time p.replica w.stamp.server))
     go false qa false qd true qe f qf = λ t. write_cases line p w (qa t) (is_dropped p.replica (id_of w)) (is_that_write (write_with p.replica (id_of w)) w) (qd t) (qe t) (nat_le w.stamp.time (last_time p.replica w.stamp.server))

@@ -19,10 +19,10 @@ use Rattle.mr_model.proofs.RowsById.{seq_at, at_seq}
 use Rattle.mr_base.specs.declared.refusals.Refusal.{Refusal}
 use Rattle.mr_tables.specs.Summary.{tally_at}
 use Rattle.mr_replica.specs.declared.kept_writes.NumberedWrite.{NumberedWrite}
-use Rattle.mr_replica.specs.Candidate.{write_in, write_verdict_with, commit_verdict}
+use Rattle.mr_replica.specs.Candidate.{write_with_id, write_verdict_with, commit_verdict}
 use Rattle.mr_replica.specs.KeptWrites.{logged_at, is_number_of, numbered_of}
 use Rattle.mr_replica.specs.declared.candidate.Candidate.{Candidate}
-use Rattle.mr_replica.specs.Taken.{ShowsTaken, Covers, is_inside, logged_write_verdict, logged_commit_verdict}
+use Rattle.mr_replica.specs.Taken.{ShowsTaken, CoversScope, is_inside, logged_write_verdict, logged_commit_verdict}
 use Rattle.mr_replica.proofs.Judging.{JudgedWrite, judged_write, JudgedCommit, judged_commit, commit_at}
 use Rattle.mr_replica.proofs.KeptWrites.{write_told}
 
@@ -47,12 +47,12 @@ find_filtered {A} p q (x ∷ xs) f = go (p x) refl (q x) refl (find_filtered p q
     go false e false g ih = ih
 
 -- the kept write of an id that is named is in scope
-write_there : (a : Replica) (items : List Item) (inside : Write → Bool) (c : Candidate) (p : Progress) (x : Item) → Covers a items inside → ShowsTaken a inside c p → Has x items → option_map (λ (y : NumberedWrite). y.write) (logged_at c.kept (item_id x)) ≡ write_in (kept_in_order p.replica) (item_id x)
+write_there : (a : Replica) (items : List Item) (inside : Write → Bool) (c : Candidate) (p : Progress) (x : Item) → CoversScope a items inside → ShowsTaken a inside c p → Has x items → option_map (λ (y : NumberedWrite). y.write) (logged_at c.kept (item_id x)) ≡ write_with_id (kept_in_order p.replica) (item_id x)
 write_there a items inside c p x covers shows h =
-    ap (option_map (λ (y : NumberedWrite). y.write)) (shows.kept (item_id x)) ∙ write_told (seq_of p.replica) (write_in (filter inside (kept_in_order p.replica)) (item_id x))
+    ap (option_map (λ (y : NumberedWrite). y.write)) (shows.kept (item_id x)) ∙ write_told (seq_of p.replica) (write_with_id (filter inside (kept_in_order p.replica)) (item_id x))
     ∙ find_filtered (λ w. same_id (id_of w) (item_id x)) inside (kept_in_order p.replica) (λ w g e. covers w (inside_named a items x w h (same_id-true (id_of w) (item_id x) e)))
 
-pub write_judged : (line : ℕ) (a : Replica) (items : List Item) (inside : Write → Bool) (c : Candidate) (w : Write) (p : Progress) (v : Result Bool Refusal) → IsReplica p.replica → IsTrue (is_write w) → Has (W w) items → Covers a items inside → ShowsTaken a inside c p → v ≡ logged_write_verdict line c.summary c.kept w → JudgedWrite line p w v
+pub write_judged : (line : ℕ) (a : Replica) (items : List Item) (inside : Write → Bool) (c : Candidate) (w : Write) (p : Progress) (v : Result Bool Refusal) → IsReplica p.replica → IsTrue (is_write w) → Has (W w) items → CoversScope a items inside → ShowsTaken a inside c p → v ≡ logged_write_verdict line c.summary c.kept w → JudgedWrite line p w v
 write_judged line a items inside c w p v sound good h covers shows e =
     let there = write_there a items inside c p (W w) covers shows h in
     let same = e ∙ (λ t. write_verdict_with line (tally_at (shows.summary t).tallies w.stamp.server) (shows.summary t).server (there t) w) in
@@ -65,11 +65,11 @@ unwrap d None = d
 unwrap d (Some x) = x
 
 -- the kept write of an id that is named has a number that is known and kept just where the commit of that number is of this id
-commit_there : (a : Replica) (items : List Item) (inside : Write → Bool) (c : Candidate) (p : Progress) (q : ℕ) (id : Id) → IsReplica p.replica → Covers a items inside → ShowsTaken a inside c p → Has (C q id) items → p.replica.dropped < q → q ≤ length p.replica.commits
+commit_there : (a : Replica) (items : List Item) (inside : Write → Bool) (c : Candidate) (p : Progress) (q : ℕ) (id : Id) → IsReplica p.replica → CoversScope a items inside → ShowsTaken a inside c p → Has (C q id) items → p.replica.dropped < q → q ≤ length p.replica.commits
     → is_number_of q (logged_at c.kept id) ≡ is_that_id (slice_get p.replica.commits (q - 1)) id
 commit_there a items inside c p q id sound covers shows h low high =
     let (w, kept, commit) = commit_at p.replica q sound low high in
-    ap (is_number_of q) (shows.kept id) ∙ go w kept commit (same_id (id_of w) id) refl (write_in (filter inside (kept_in_order r)) id) refl ∙ ap (λ o. is_that_id o id) (sym commit)
+    ap (is_number_of q) (shows.kept id) ∙ go w kept commit (same_id (id_of w) id) refl (write_with_id (filter inside (kept_in_order r)) id) refl ∙ ap (λ o. is_that_id o id) (sym commit)
   where
     r : Replica
     r = p.replica
@@ -87,7 +87,7 @@ commit_there a items inside c p q id sound covers shows h low high =
         absurd (true≢false (sym mine ∙ ap (λ i. same_id i id) same ∙ other))
     numbered w v commit mine other false e = refl
 
-    go : (w : Write) → slice_get (kept_in_order r) (q - 1 - r.dropped) ≡ Some w → slice_get r.commits (q - 1) ≡ Some (id_of w) → (b : Bool) → same_id (id_of w) id ≡ b → (o : Option Write) → write_in (filter inside (kept_in_order r)) id ≡ o → is_number_of q (option_map (numbered_of r) o) ≡ b
+    go : (w : Write) → slice_get (kept_in_order r) (q - 1 - r.dropped) ≡ Some w → slice_get r.commits (q - 1) ≡ Some (id_of w) → (b : Bool) → same_id (id_of w) id ≡ b → (o : Option Write) → write_with_id (filter inside (kept_in_order r)) id ≡ o → is_number_of q (option_map (numbered_of r) o) ≡ b
     go w kept commit true e o is =
         let mine = slice_has (kept_in_order r) (q - 1 - r.dropped) w kept in
         let here = has_filter inside w (kept_in_order r) (covers w (inside_named a items (C q id) w h (same_id-true (id_of w) id e))) mine in
@@ -97,7 +97,7 @@ commit_there a items inside c p q id sound covers shows h low high =
     go w kept commit false e None is = refl
     go w kept commit false e (Some v) is = numbered w v commit (find_has (λ u. same_id (id_of u) id) v (filter inside (kept_in_order r)) is).1 e (seq_of r v == q) refl
 
-pub commit_judged : (line : ℕ) (a : Replica) (items : List Item) (inside : Write → Bool) (c : Candidate) (q : ℕ) (id : Id) (p : Progress) (v : Result Bool Refusal) → IsReplica p.replica → id.server < 100 → Has (C q id) items → Covers a items inside → ShowsTaken a inside c p → v ≡ logged_commit_verdict line c.summary c.kept q id → JudgedCommit line p q id v
+pub commit_judged : (line : ℕ) (a : Replica) (items : List Item) (inside : Write → Bool) (c : Candidate) (q : ℕ) (id : Id) (p : Progress) (v : Result Bool Refusal) → IsReplica p.replica → id.server < 100 → Has (C q id) items → CoversScope a items inside → ShowsTaken a inside c p → v ≡ logged_commit_verdict line c.summary c.kept q id → JudgedCommit line p q id v
 commit_judged line a items inside c q id p v sound small h covers shows e =
     let same = e ∙ (λ t. commit_verdict line (shows.summary t) (is_number_of q (logged_at c.kept id)) q id) in
     subst (JudgedCommit line p q id) (sym same) (judged_commit line p q id (is_number_of q (logged_at c.kept id)) sound small (commit_there a items inside c p q id sound covers shows h))

@@ -20,7 +20,7 @@ use Rattle.mr_model.proofs.LogOrder.{kept_is_the_log}
 use Rattle.mr_model.proofs.Members.{has_all, all_has, has_map, map_has, has_filter, filter_has, Sorted, sorted_filter}
 use Rattle.mr_model.proofs.RowsById.{has_by_id, by_id_has}
 use Rattle.mr_replay.specs.Places.{UndoRow}
-use Rattle.mr_replay.specs.Rows.{Rows, place_on, undo_row_at, executed, executed_all, undo_rows_of}
+use Rattle.mr_replay.specs.Rows.{Rows, place_by_rows, undo_row_at, executed, executed_all, undo_rows_of}
 use Rattle.mr_replica.specs.declared.kept_rows.KeptRow.{KeptRow}
 use Rattle.mr_replica.specs.declared.kept_rows.RunPlace.{RunPlace}
 use Rattle.mr_replica.specs.KeptRows.{kept_row, run_place, run_cmp}
@@ -131,8 +131,8 @@ kept_writes a (w ∷ ws) = ap (λ vs. w ∷ vs) (kept_writes a ws)
 undo_told : (a : Replica) (b : Rows) (ws : List Write) → map (λ u. u.place) (undo_rows_of b ws) ≡ map (place_of a) ws → map (λ r. r.undo) (map (kept_row a) ws) ≡ undo_rows_of b ws
 undo_told a b [] e = refl
 undo_told a b (w ∷ ws) e =
-    let all : place_on b w ∷ map (λ (u : UndoRow). u.place) (undo_rows_of (executed b w) ws) ≡ place_of a w ∷ map (place_of a) ws = e in
-    let here : place_on b w ≡ place_of a w = (cc) in
+    let all : place_by_rows b w ∷ map (λ (u : UndoRow). u.place) (undo_rows_of (executed b w) ws) ≡ place_of a w ∷ map (place_of a) ws = e in
+    let here : place_by_rows b w ≡ place_of a w = (cc) in
     let later : map (λ (u : UndoRow). u.place) (undo_rows_of (executed b w) ws) ≡ map (place_of a) ws = (cc) in
     let rest = undo_told a (executed b w) ws later in
     λ i. undo_row_at w (sym here i) ∷ rest i

@@ -18,18 +18,18 @@ use Rattle.mr_model.proofs.LogOrder.{kept_is_the_log}
 use Rattle.mr_model.proofs.DroppedApart.{kept_known}
 use Rattle.mr_model.proofs.Members.{all_has, has_all, has_map, map_has, filter_has, find_one, find_has, slice_has, same_id-true, same_id_refl, Sorted, sorted_filter}
 use Rattle.mr_base.specs.Ids.{id_cmp}
-use Rattle.mr_replay.proofs.Ids.{at_is, ids_total}
+use Rattle.mr_replay.proofs.IdKeys.{at_is, ids_total}
 use Rattle.mr_replica.specs.declared.kept_writes.NumberedWrite.{NumberedWrite}
-use Rattle.mr_replica.specs.Candidate.{write_in}
+use Rattle.mr_replica.specs.Candidate.{write_with_id}
 use Rattle.mr_replica.specs.KeptRows.{run_cmp}
-use Rattle.mr_replica.specs.KeptWrites.{KeptWrites, logged_at, marked_by, HasKept, numbered_of, numbered_place}
+use Rattle.mr_replica.specs.KeptWrites.{KeptWrites, logged_at, numbered_by, HasKept, numbered_of, numbered_place}
 use Rattle.mr_replica.proofs.KeptOrder.{run_order, before_less}
 use Rattle.mr_replica.proofs.Sorting.{Rises, irreflexive, sorted_is}
 
 -- ---- what the map has
 
 -- the write of a look-up
-pub write_told : (mark : Write → ℕ) (o : Option Write) → option_map (λ (x : NumberedWrite). x.write) (option_map (marked_by mark) o) ≡ o
+pub write_told : (mark : Write → ℕ) (o : Option Write) → option_map (λ (x : NumberedWrite). x.write) (option_map (numbered_by mark) o) ≡ o
 write_told mark None = refl
 write_told mark (Some w) = refl
 
@@ -39,10 +39,10 @@ mark_mid mark [] w there = refl
 mark_mid mark (x ∷ left) w there = mark_mid mark left w there
 
 -- one write more, which stands before those so far
-kept_more : (old new : KeptWrites) (mark : Write → ℕ) (w : Write) (there : List Write) → Updates id_cmp old new (id_of w) (Some (marked_by mark w)) → HasKept old mark there → HasKept new mark (w ∷ there)
-kept_more old new mark w there put had = λ id. put.0 id ∙ (λ t. cond (at_is t (id_of w) id) (Some (marked_by mark w)) (had id t)) ∙ go id (same_id (id_of w) id)
+kept_more : (old new : KeptWrites) (mark : Write → ℕ) (w : Write) (there : List Write) → Updates id_cmp old new (id_of w) (Some (numbered_by mark w)) → HasKept old mark there → HasKept new mark (w ∷ there)
+kept_more old new mark w there put had = λ id. put.0 id ∙ (λ t. cond (at_is t (id_of w) id) (Some (numbered_by mark w)) (had id t)) ∙ go id (same_id (id_of w) id)
   where
-    go : (id : Id) (b : Bool) → cond b (Some (marked_by mark w)) (option_map (marked_by mark) (write_in there id)) ≡ option_map (marked_by mark) (cond b (Some w) (write_in there id))
+    go : (id : Id) (b : Bool) → cond b (Some (numbered_by mark w)) (option_map (numbered_by mark) (write_with_id there id)) ≡ option_map (numbered_by mark) (cond b (Some w) (write_with_id there id))
     go id true = refl
     go id false = refl
 
@@ -59,7 +59,7 @@ filled_more writes marks old new was left w k x place filled last at key value p
       all,
       λ mark marks_are.
           let seq : get_or marks place 0 ≡ mark w = (λ i. get_or (marks_are i) (at i) 0) ∙ ap (λ ws. get_or (map mark ws) (length left) 0) (sym all) ∙ mark_mid mark left w there in
-          let is : x ≡ marked_by mark w = value ∙ (λ i. record { write = w; seq = seq i }) in
+          let is : x ≡ numbered_by mark w = value ∙ (λ i. record { write = w; seq = seq i }) in
           kept_more old new mark w there (subst (λ y. Updates id_cmp old new (id_of w) (Some y)) is (subst (λ i. Updates id_cmp old new i (Some x)) key put)) (has mark marks_are),
     )
 
@@ -118,9 +118,9 @@ module _ (a : Replica) (inside : Write → Bool) (kept : KeptWrites) (sound : Is
   entry_is : (id : Id) (x : NumberedWrite) → Has (id, x) kept.entries → (w : Write) × Has w ws × (x ≡ numbered_of a w) × (id ≡ id_of w)
   entry_is id x h =
       let (i, at) = place_of_entry kept.entries (id, x) h in
-      go (write_in ws id) refl (sym (has id) ∙ btree_map_get_place ids_total kept i id x ordered at)
+      go (write_with_id ws id) refl (sym (has id) ∙ btree_map_get_place ids_total kept i id x ordered at)
     where
-      go : (o : Option Write) → write_in ws id ≡ o → option_map (numbered_of a) o ≡ Some x → (w : Write) × Has w ws × (x ≡ numbered_of a w) × (id ≡ id_of w)
+      go : (o : Option Write) → write_with_id ws id ≡ o → option_map (numbered_of a) o ≡ Some x → (w : Write) × Has w ws × (x ≡ numbered_of a w) × (id ≡ id_of w)
       go None e f = absurd (let g : ◌≡◌ {A = Option NumberedWrite} None (Some x) = f in let never : ⊥ = cc in never)
       go (Some w) e f =
           let there = find_has (λ v. same_id (id_of v) id) w ws e in

@@ -26,11 +26,11 @@ use Rattle.mr_tables.specs.declared.summary.Summary.{Summary}
 use Rattle.mr_tables.specs.Summary.{noted_write, noted_commit, summary_of}
 use Rattle.mr_tables.proofs.Summaries.{summary-write, summary-commit}
 use Rattle.mr_replica.specs.declared.kept_writes.NumberedWrite.{NumberedWrite}
-use Rattle.mr_replica.specs.Candidate.{write_in}
+use Rattle.mr_replica.specs.Candidate.{write_with_id}
 use Rattle.mr_replica.specs.KeptWrites.{logged_at, has_at, with_number, numbered_of}
 use Rattle.mr_replica.specs.Sets.{has_room}
 use Rattle.mr_replica.specs.declared.candidate.Candidate.{Candidate}
-use Rattle.mr_replica.specs.Taken.{ShowsTaken, Covers}
+use Rattle.mr_replica.specs.Taken.{ShowsTaken, CoversScope}
 use Rattle.mr_replica.proofs.JudgingKept.{inside_named}
 use Rattle.mr_replica.proofs.Learning.{any-with_room, kept-learned, kept-moved}
 
@@ -78,7 +78,7 @@ count_with q w vs ws e =
     omega arith
 
 -- of the kept writes that pass, the one that has an id is found by it
-found_by_id : (r : Replica) (inside : Write → Bool) (w : Write) (id : Id) → IsReplica r → inside w ≡ true → Has w (kept_in_order r) → same_id (id_of w) id ≡ true → write_in (filter inside (kept_in_order r)) id ≡ Some w
+found_by_id : (r : Replica) (inside : Write → Bool) (w : Write) (id : Id) → IsReplica r → inside w ≡ true → Has w (kept_in_order r) → same_id (id_of w) id ≡ true → write_with_id (filter inside (kept_in_order r)) id ≡ Some w
 found_by_id r inside w id sound pass h e =
     find_one (λ v. same_id (id_of v) id) w (filter inside (kept_in_order r)) (has_filter inside w (kept_in_order r) pass h) e
     (λ v g s. one_known r v w sound (kept_known r v sound (filter_has inside v (kept_in_order r) g).0).0 (kept_known r w sound h).0 (same_id-true (id_of v) id s ∙ sym (same_id-true (id_of w) id e)))
@@ -88,7 +88,7 @@ found_by_id r inside w id sound pass h e =
 abbrev opened : Write → NumberedWrite
 opened w = record { write = w; seq = 0 }
 
-pub shows-learned : (a : Replica) (items : List Item) (inside : Write → Bool) (c new : Candidate) (p : Progress) (w : Write) → IsReplica p.replica → w.stamp.server < 100 → IsNext p.replica w → Has (W w) items → Covers a items inside → ShowsTaken a inside c p
+pub shows-learned : (a : Replica) (items : List Item) (inside : Write → Bool) (c new : Candidate) (p : Progress) (w : Write) → IsReplica p.replica → w.stamp.server < 100 → IsNext p.replica w → Has (W w) items → CoversScope a items inside → ShowsTaken a inside c p
     → new.summary ≡ noted_write c.summary w.stamp → ((name : Text) → has_room new.rooms name ≡ (bytes_eq name w.room || has_room c.rooms name))
     → ((id : Id) → logged_at new.kept id ≡ cond (same_id (id_of w) id) (Some (opened w)) (logged_at c.kept id)) → ShowsTaken a inside new (with_new_write p w)
 shows-learned a items inside c new p w sound small next named covers shows summary rooms kept =
@@ -115,13 +115,13 @@ shows-learned a items inside c new p w sound small next named covers shows summa
     there = subst (Has w) (sym (kept-learned r w sound next)) (has_right w (kept_committed r) (with_write w (tentative r)) (has_with_write w w (tentative r) (inl refl)))
 
     found : (id : Id) (b : Bool) → same_id (id_of w) id ≡ b
-        → cond b (Some (opened w)) (option_map (numbered_of r) (write_in (filter inside (kept_in_order r)) id)) ≡ option_map (numbered_of (add_write r w)) (write_in (filter inside (kept_in_order (add_write r w))) id)
+        → cond b (Some (opened w)) (option_map (numbered_of r) (write_with_id (filter inside (kept_in_order r)) id)) ≡ option_map (numbered_of (add_write r w)) (write_with_id (filter inside (kept_in_order (add_write r w))) id)
     found id true e =
         (λ i. Some (record { write = w; seq = sym (seq_not 1 r.commits (id_of w) (new_not_committed r w sound next)) i }))
         ∙ ap (option_map (numbered_of (add_write r w))) (sym (found_by_id (add_write r w) inside w id sound' is_in there e))
     found id false e =
         ap (option_map (numbered_of r))
-        (sym (find_with (λ v. same_id (id_of v) id) inside w (kept_committed r) (tentative r) e) ∙ ap (λ ws. write_in (filter inside ws) id) (sym (kept-learned r w sound next)))
+        (sym (find_with (λ v. same_id (id_of v) id) inside w (kept_committed r) (tentative r) e) ∙ ap (λ ws. write_with_id (filter inside ws) id) (sym (kept-learned r w sound next)))
 
 -- ---- a commit
 
@@ -130,7 +130,7 @@ seq_other : (k : ℕ) (ids : List Id) (id other : Id) → same_id id other ≡ f
 seq_other k [] id other e = cond-false (same_id id other) k 0 e
 seq_other k (x ∷ xs) id other e = ap (cond (same_id x other) k) (seq_other (k + 1) xs id other e)
 
-module _ (a : Replica) (items : List Item) (inside : Write → Bool) (c : Candidate) (p : Progress) (q : ℕ) (id : Id) (sound : IsReplica p.replica) (small : id.server < 100) (next : id.n ≡ committed_count p.replica id.server + 1) (high : id.n ≤ count_of p.replica id.server) (named : Has (C q id) items) (covers : Covers a items inside) (shows : ShowsTaken a inside c p) (m : CommitMoved p.replica id) where
+module _ (a : Replica) (items : List Item) (inside : Write → Bool) (c : Candidate) (p : Progress) (q : ℕ) (id : Id) (sound : IsReplica p.replica) (small : id.server < 100) (next : id.n ≡ committed_count p.replica id.server + 1) (high : id.n ≤ count_of p.replica id.server) (named : Has (C q id) items) (covers : CoversScope a items inside) (shows : ShowsTaken a inside c p) (m : CommitMoved p.replica id) where
   abbrev r : Replica
   r = p.replica
 
@@ -174,7 +174,7 @@ module _ (a : Replica) (items : List Item) (inside : Write → Bool) (c : Candid
   commits = ap (λ (s : Summary). s.commits) summary ∙ length-append r.commits (id ∷ []) ∙ (let n : length r.commits + 1 ≡ 1 + length r.commits = omega arith in n) ∙ sym number
 
   -- another id is told of the same write, which has the same number
-  same_write_in : (other : Id) → same_id id other ≡ false → write_in (filter inside (kept_in_order r)) other ≡ write_in (filter inside (kept_in_order r')) other
+  same_write_in : (other : Id) → same_id id other ≡ false → write_with_id (filter inside (kept_in_order r)) other ≡ write_with_id (filter inside (kept_in_order r')) other
   same_write_in other e =
       let test = λ (v : Write). same_id (id_of v) other in
       let not_moved : test m.moved ≡ false = ap (λ i. same_id i other) m.is_moved ∙ e in
@@ -182,18 +182,18 @@ module _ (a : Replica) (items : List Item) (inside : Write → Bool) (c : Candid
       ∙ ap (λ ws. find test (filter inside ws)) others ∙ sym (find_round test inside m.moved (kept_committed r) (m.before ++ m.behind) not_moved)
       ∙ ap (λ ws. find test (filter inside ws)) (sym (kept-moved r id sound m))
 
-  same_number : (other : Id) → same_id id other ≡ false → (o : Option Write) → write_in (filter inside (kept_in_order r')) other ≡ o → option_map (numbered_of r) o ≡ option_map (numbered_of r') o
+  same_number : (other : Id) → same_id id other ≡ false → (o : Option Write) → write_with_id (filter inside (kept_in_order r')) other ≡ o → option_map (numbered_of r) o ≡ option_map (numbered_of r') o
   same_number other e None is = refl
   same_number other e (Some v) is =
       let mine = same_id-true (id_of v) other (find_has (λ u. same_id (id_of u) other) v (filter inside (kept_in_order r')) is).1 in
       λ i. Some (record { write = v; seq = sym (seq_other 1 r.commits id (id_of v) (ap (same_id id) mine ∙ e)) i })
 
   moved_in : (other : Id) (b : Bool) → same_id id other ≡ b
-      → cond b (option_map (with_number (noted_commit c.summary id).commits) (logged_at c.kept id)) (logged_at c.kept other) ≡ option_map (numbered_of r') (write_in (filter inside (kept_in_order r')) other)
+      → cond b (option_map (with_number (noted_commit c.summary id).commits) (logged_at c.kept id)) (logged_at c.kept other) ≡ option_map (numbered_of r') (write_with_id (filter inside (kept_in_order r')) other)
   moved_in other true e =
       ap (option_map (with_number (noted_commit c.summary id).commits)) found ∙ (λ i. Some (record { write = m.moved; seq = commits i }))
       ∙ ap (option_map (numbered_of r')) (sym (found_by_id r' inside m.moved other sound' is_in there' (ap (λ i. same_id i other) m.is_moved ∙ e)))
-  moved_in other false e = shows.kept other ∙ ap (option_map (numbered_of r)) (same_write_in other e) ∙ same_number other e (write_in (filter inside (kept_in_order r')) other) refl
+  moved_in other false e = shows.kept other ∙ ap (option_map (numbered_of r)) (same_write_in other e) ∙ same_number other e (write_with_id (filter inside (kept_in_order r')) other) refl
 
   marked : (v : Write) → (b : Bool) → same_id id (id_of v) ≡ b → (seq_of r v ≡ seq_of a v) ⊎ (inside v ≡ true) → (seq_of r' v ≡ seq_of a v) ⊎ (inside v ≡ true)
   marked v true e old = inr (covers v (inside_named a items (C q id) v named (sym (same_id-true id (id_of v) e))))

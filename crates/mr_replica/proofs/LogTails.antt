@@ -20,7 +20,7 @@ use Rattle.mr_model.proofs.Members.{filter_has}
 use Rattle.mr_model.proofs.Orders.{append_split}
 use Rattle.mr_replay.specs.Places.{UndoRow}
 use Rattle.mr_replay.specs.Rows.{undo_row_at}
-use Rattle.mr_tables.specs.Rows.{seq_on}
+use Rattle.mr_tables.specs.ExecutionRows.{seq_on}
 use Rattle.mr_replica.specs.declared.kept_rows.KeptRow.{KeptRow}
 use Rattle.mr_replica.specs.declared.movable.Movable.{Movable}
 use Rattle.mr_replica.specs.KeptRows.{kept_row, run_place, run_cmp}

@@ -9,7 +9,7 @@ use Rattle.mr_replay.specs.Rows.{Rows, executed, undo_row_of, undone, executed_a
 use Rattle.mr_replay.specs.Holds.{HaveDistinctIds, AreNew}
 use Rattle.mr_replay.proofs.Holding.{undone-executed, AreNew-rest, Holds-empty, Holds-executed_all, AreNew-distinct}
 use Rattle.mr_replay.proofs.Lists.{distinct_front}
-use Rattle.mr_tables.specs.Rows.{seq_on}
+use Rattle.mr_tables.specs.ExecutionRows.{seq_on}
 use Rattle.mr_replica.specs.Log.{errors_in, old_error_at, log_of, pushed, board_at, without_front, cancel_at, cancel_rows}
 
 pub executed_all-append : (b : Rows) (vs ws : List Write) → executed_all b (vs ++ ws) ≡ executed_all (executed_all b vs) ws

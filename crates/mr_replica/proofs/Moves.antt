@@ -25,12 +25,12 @@ use Rattle.mr_model.proofs.MembersAlike.{bool_same}
 use Rattle.mr_replica.specs.Moves.{rooms_named, AreTouched, moves_in, is_anew, ShowsMoves}
 use Rattle.mr_replica.specs.Named.{names}
 use Rattle.mr_replica.specs.Sets.{AreSameRooms}
-use Rattle.mr_replica.specs.Taken.{Covers, is_inside}
+use Rattle.mr_replica.specs.Taken.{CoversScope, is_inside}
 use Rattle.mr_replica.specs.KeptWrites.{numbered_of}
 use Rattle.mr_replica.specs.declared.kept_writes.NumberedWrite.{NumberedWrite}
 use Rattle.mr_replica.proofs.DeskNumbers.{dropped_long, order_numbers, slice_left, slice_bound}
 use Rattle.mr_replica.proofs.BatchNumbers.{has_place, commits_long, new_number}
-use Rattle.mr_replica.proofs.Picking.{picked_here, left_here}
+use Rattle.mr_replica.proofs.FilteredRows.{picked_here, left_here}
 
 -- ---- picking one by one
 
@@ -69,7 +69,7 @@ same_any room xs ys f g =
     (λ e. let (t, h, k) = has_any (bytes_eq room) ys e in any_has (bytes_eq room) t xs k (g t h))
 
 -- the kept writes in scope name the rooms that all rows of the log do
-module _ (a : Replica) (items : List Item) (inside : Write → Bool) (sound : IsReplica a) (covers : Covers a items inside) where
+module _ (a : Replica) (items : List Item) (inside : Write → Bool) (sound : IsReplica a) (covers : CoversScope a items inside) where
   here : (t : Text) (x : Item) → Has x items → Has t (rooms_named (length a.commits) (filter inside (kept_in_order a)) x) → Has t (rooms_of_item (length a.commits) (tables_of a).log x)
   here t (W w) g h = h
   here t (C seq id) g h = go (ltb (length a.commits) seq) h
@@ -183,7 +183,7 @@ moves_not a items touched sound w h =
 pub moves_as : (a : Replica) (items : List Item) (touched : List Text) → AreTouched touched a items → (w : Write) → Has w (tentative a) → (seq_of a w == 0 && moves_in touched items (length a.commits) w) ≡ may_move a items w
 moves_as a items touched right w h = let open_ = tentative_number a w h in λ i. eq-eqb (seq_of a w) 0 open_ i && (right w.room i && is_late (length a.commits) items w.stamp.time w.stamp.server)
 
-pub undone_picked : (a : Replica) (items : List Item) (inside : Write → Bool) (touched : List Text) → IsReplica a → Covers a items inside → AreTouched touched a items → filter (λ w. seq_of a w == 0 && moves_in touched items (length a.commits) w) (filter inside (kept_in_order a)) ≡ filter (may_move a items) (tentative a)
+pub undone_picked : (a : Replica) (items : List Item) (inside : Write → Bool) (touched : List Text) → IsReplica a → CoversScope a items inside → AreTouched touched a items → filter (λ w. seq_of a w == 0 && moves_in touched items (length a.commits) w) (filter inside (kept_in_order a)) ≡ filter (may_move a items) (tentative a)
 undone_picked a items inside touched sound covers right =
     filter_apart (λ w. seq_of a w == 0 && moves_in touched items (length a.commits) w) inside (kept_commits a) (tentative a)
     ∙ (λ i. none i ++ some i)

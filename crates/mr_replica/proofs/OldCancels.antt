@@ -24,10 +24,10 @@ use Rattle.mr_replica.specs.Desk.{old_cancels_of}
 use Rattle.mr_replica.proofs.DeskBoards.{place_bears}
 use Rattle.mr_replica.proofs.DeskNumbers.{Bears, rows_in_order, numbered_cancels, dropped_numbered, dropped_numbers}
 use Rattle.mr_replica.proofs.KeptOrder.{nat_less}
-use Rattle.mr_replica.proofs.OldErrors.{dropped_one, dropped_is, old_parts, old_from}
+use Rattle.mr_replica.proofs.DroppedErrors.{dropped_one, dropped_is, old_parts, old_from}
 use Rattle.mr_replica.proofs.RowParts.{cancel_row_of}
 use Rattle.mr_replica.proofs.Sorting.{has_slice, sorted_is, weaker}
-use Rattle.mr_replica.proofs.SoundRows.{neighbours}
+use Rattle.mr_replica.proofs.SoundTables.{neighbours}
 
 -- ---- they rise by their numbers
 

@@ -26,15 +26,15 @@ use Rattle.mr_base.specs.Ids.{id_cmp}
 use Rattle.mr_replay.specs.declared.rows.Row.{Row}
 use Rattle.mr_replay.specs.Rows.{row_at, is_standing, kept_with, kept_for}
 use Rattle.mr_replay.specs.Holds.{bears}
-use Rattle.mr_replay.proofs.Ids.{ids_total, at_one}
+use Rattle.mr_replay.proofs.IdKeys.{ids_total, at_one}
 use Rattle.mr_tables.specs.Change.{id_before}
 use Rattle.mr_tables.proofs.BoardsTold.{known_row, known_or_none, unknown_at}
 use Rattle.mr_tables.proofs.Putting.{id_order}
 use Rattle.mr_replica.specs.SoundLog.{is_taken_back}
-use Rattle.mr_replica.specs.OnBoard.{is_logged_kept, is_void_kept, is_kept_as, is_on_board, is_logged_on, is_cancelled_on, is_cancel_on, is_done, AreOnBoard}
+use Rattle.mr_replica.specs.OnBoard.{is_logged_kept, is_void_kept, is_kept_as, is_on_board, is_logged_on, is_cancelled_on, is_cancel_on, is_row_done, AreOnBoard}
 use Rattle.mr_replica.proofs.DeskBoards.{board_of, board-told, place_bears}
 use Rattle.mr_replica.proofs.DeskNumbers.{rows_in_order}
-use Rattle.mr_replica.proofs.Marks.{done_marked}
+use Rattle.mr_replica.proofs.CancelMarks.{done_marked}
 use Rattle.mr_replica.proofs.OldCancels.{cancels_in_order}
 use Rattle.mr_replica.proofs.RowParts.{cancel_row_of, done_place}
 use Rattle.mr_replica.proofs.SoundLog.{row_known}
@@ -141,7 +141,7 @@ abbrev bys : Replica → List Id
 bys a = map (λ (row : CancelledRow). row.by) (tables_of a).cancelled
 
 abbrev done_ids : Replica → List Id
-done_ids a = map cancel_id (filter is_done (tables_of a).cancels)
+done_ids a = map cancel_id (filter is_row_done (tables_of a).cancels)
 
 bys_distinct : (a : Replica) → IsReplica a → IsDistinct (eq_by_cmp id_cmp) (bys a)
 bys_distinct a h =
@@ -151,9 +151,9 @@ bys_distinct a h =
 
 done_distinct : (a : Replica) → IsReplica a → IsDistinct (eq_by_cmp id_cmp) (done_ids a)
 done_distinct a h =
-    distinct_keys id_cmp cancel_id (λ x y. id_before (cancel_id x) (cancel_id y) ≡ true) (filter is_done (tables_of a).cancels) (λ x. id_order.irreflexive (cancel_id x))
-    (sorted_filter (λ x y. id_before (cancel_id x) (cancel_id y) ≡ true) is_done (tables_of a).cancels (cancels_in_order a h))
-    (λ x y g k e. one_cancel a x y h (filter_has is_done x (tables_of a).cancels g).0 (filter_has is_done y (tables_of a).cancels k).0 (at_one (cancel_id x) (cancel_id y) e))
+    distinct_keys id_cmp cancel_id (λ x y. id_before (cancel_id x) (cancel_id y) ≡ true) (filter is_row_done (tables_of a).cancels) (λ x. id_order.irreflexive (cancel_id x))
+    (sorted_filter (λ x y. id_before (cancel_id x) (cancel_id y) ≡ true) is_row_done (tables_of a).cancels (cancels_in_order a h))
+    (λ x y g k e. one_cancel a x y h (filter_has is_row_done x (tables_of a).cancels g).0 (filter_has is_row_done y (tables_of a).cancels k).0 (at_one (cancel_id x) (cancel_id y) e))
 
 same_members : (a : Replica) (q : Id) → IsReplica a → list_any (eq_by_cmp id_cmp q) (bys a) ≡ list_any (eq_by_cmp id_cmp q) (done_ids a)
 same_members a q h = bool_same (list_any (eq_by_cmp id_cmp q) (bys a)) (list_any (eq_by_cmp id_cmp q) (done_ids a)) there back
@@ -163,21 +163,21 @@ same_members a q h = bool_same (list_any (eq_by_cmp id_cmp q) (bys a)) (list_any
         let (i, g, s) = has_any (eq_by_cmp id_cmp q) (bys a) e in
         let (row, k, f) = map_has (λ (r : CancelledRow). r.by) i (tables_of a).cancelled g in
         let (c, is) = (cancelled_tell a row.room row h k refl).0 in
-        any_has (eq_by_cmp id_cmp q) (cancel_id c) (done_ids a) (ap (eq_by_cmp id_cmp q) (is.is_by ∙ sym f) ∙ s) (has_map cancel_id c (filter is_done (tables_of a).cancels) (has_filter is_done c (tables_of a).cancels is.is_done is.is_there))
+        any_has (eq_by_cmp id_cmp q) (cancel_id c) (done_ids a) (ap (eq_by_cmp id_cmp q) (is.is_by ∙ sym f) ∙ s) (has_map cancel_id c (filter is_row_done (tables_of a).cancels) (has_filter is_row_done c (tables_of a).cancels is.is_done is.is_there))
 
     back : list_any (eq_by_cmp id_cmp q) (done_ids a) ≡ true → list_any (eq_by_cmp id_cmp q) (bys a) ≡ true
     back e =
         let (i, g, s) = has_any (eq_by_cmp id_cmp q) (done_ids a) e in
-        let (c, k, f) = map_has cancel_id i (filter is_done (tables_of a).cancels) g in
-        let (there, done) = filter_has is_done c (tables_of a).cancels k in
+        let (c, k, f) = map_has cancel_id i (filter is_row_done (tables_of a).cancels) g in
+        let (there, done) = filter_has is_row_done c (tables_of a).cancels k in
         let (row, m, by) = done_by a c h there done in
         any_has (eq_by_cmp id_cmp q) row.by (bys a) (ap (eq_by_cmp id_cmp q) (by ∙ sym f) ∙ s) (has_map (λ (r : CancelledRow). r.by) row (tables_of a).cancelled m)
 
-as_many : (a : Replica) → IsReplica a → length (tables_of a).cancelled ≡ length (filter is_done (tables_of a).cancels)
+as_many : (a : Replica) → IsReplica a → length (tables_of a).cancelled ≡ length (filter is_row_done (tables_of a).cancels)
 as_many a h =
     sym (length-map (tables_of a).cancelled (λ (r : CancelledRow). r.by))
     ∙ length-from_same_keys (eq_by_cmp_equiv ids_total) (bys a) (done_ids a) (bys_distinct a h) (done_distinct a h) (λ q. same_members a q h)
-    ∙ length-map (filter is_done (tables_of a).cancels) cancel_id
+    ∙ length-map (filter is_row_done (tables_of a).cancels) cancel_id
 
 -- ---- all tests
 

@@ -26,7 +26,7 @@ use Rattle.mr_tables.specs.Summary.{tally_at}
 use Rattle.mr_tables.specs.Written.{with_place}
 use Rattle.mr_tables.proofs.BoardsTold.{known_row, known_at, unknown_at, known_or_none}
 use Rattle.mr_tables.proofs.Fitting.{choice_fits}
-use Rattle.mr_replica.specs.Placing.{with_places_put, board_place, KeptEnds, RowEnds, TargetEnds, row_canceller, cancellers_on, kept_is_booking, is_booking_in, has_booking}
+use Rattle.mr_replica.specs.Placing.{with_places_put, board_place, KeptEnds, RowEnds, TargetEnds, row_canceller, cancellers_on, kept_is_booking, is_booking_row_in, has_booking}
 use Rattle.mr_replica.proofs.DeskBoards.{board_of, board-told, of_row, kept_row, tallies_of, known_mark}
 
 -- one row more is put
@@ -153,7 +153,7 @@ target_ends r (Some t) h = rows_end r t h
 
 -- ---- whether it is known
 
-booking_row-is : (w : Write) (room : Text) (a : Action) (p : Place) (by : Option Id) → is_booking_in room (option_map (λ k. record { room = w.room; kept = k }) (kept_for w a p by)) ≡ (bytes_eq w.room room && is_booking a)
+booking_row-is : (w : Write) (room : Text) (a : Action) (p : Place) (by : Option Id) → is_booking_row_in room (option_map (λ k. record { room = w.room; kept = k }) (kept_for w a p by)) ≡ (bytes_eq w.room room && is_booking a)
 booking_row-is w room (Books m) p by = go (slot_at w p) by (bytes_eq w.room room)
   where
     go : (o : Option Slot) (by : Option Id) (b : Bool) → cond b (kept_is_booking (kept_with m o by)) false ≡ (b && true)
@@ -173,7 +173,7 @@ booking_row-is w room (Cancels t) p by = go p (bytes_eq w.room room)
     never true = refl
     never false = refl
 
-    go : (p : Place) (b : Bool) → is_booking_in room (option_map (λ k. record { room = w.room; kept = k }) (kept_for w (Cancels t) p by)) ≡ (bytes_eq w.room room && false)
+    go : (p : Place) (b : Bool) → is_booking_row_in room (option_map (λ k. record { room = w.room; kept = k }) (kept_for w (Cancels t) p by)) ≡ (bytes_eq w.room room && false)
     go (Taken k) b = other (bytes_eq w.room room)
     go Logged b = other (bytes_eq w.room room)
     go Done b = never (bytes_eq w.room room)
@@ -211,10 +211,10 @@ booking-known r room i h = go (known_or_none i r.known)
 
     go : ((w : Write) × Has w r.known × (id_of w ≡ i)) ⊎ ((w : Write) → Has w r.known → id_of w ≡ i → ⊥) → has_booking (board_of r) room i ≡ list_any test r.known
     go (inl (w, k, s)) =
-        ap (λ j. is_booking_in room (row_at (board_of r) j)) (sym s) ∙ ap (is_booking_in room) (known_here r w h k)
+        ap (λ j. is_booking_row_in room (row_at (board_of r) j)) (sym s) ∙ ap (is_booking_row_in room) (known_here r w h k)
         ∙ booking_row-is w room w.action (place_of r w) (canceller_of r w) ∙ found w k s (bytes_eq w.room room && is_booking w.action) refl
     go (inr none) =
-        ap (is_booking_in room) (unknown_here r i h none)
+        ap (is_booking_row_in room) (unknown_here r i h none)
         ∙ sym (false_from_ne_true (list_any test r.known) (λ t. let (v, c, f) = has_any test r.known t in none v c (same_id-true (id_of v) i (first (same_id (id_of v) i) (bytes_eq v.room room) (is_booking v.action) f))))
       where
         first : (x y z : Bool) → (x && y && z) ≡ true → x ≡ true

@@ -20,7 +20,7 @@ use Rattle.mr_model.proofs.DroppedApart.{kept_committed}
 use Rattle.mr_model.proofs.BatchesReadBack.{ok_inj}
 use Rattle.mr_model.proofs.Orders.{commit_moved}
 use Rattle.mr_base.specs.declared.refusals.Refusal.{Refusal}
-use Rattle.mr_base.specs.Refusals.{refusal_of}
+use Rattle.mr_base.specs.RefusalViews.{refusal_of}
 use Rattle.mr_tables.specs.Summary.{summary_of}
 use Rattle.mr_replica.specs.Candidate.{write_verdict, commit_verdict}
 use Rattle.mr_replica.specs.Desk.{nothing_taken}

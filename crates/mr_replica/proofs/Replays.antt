@@ -3,11 +3,10 @@ use Rattle.std.proofs.Common.{◌≡◌, refl, sym, ap, ◌∙◌, subst, Bool, 
 use Rattle.std.proofs.lemmas.Bool.{true≢false, cond-true}
 use Rattle.std.proofs.lemmas.List.{length-map, map-append}
 use Rattle.std.proofs.lemmas.List.Elements.{filter-append}
-use Rattle.std.specs.Prelude.{option_map}
 use Rattle.std.specs.Str.{bytes_eq}
 use Rattle.mr_model.specs.Texts.{Text}
-use Rattle.mr_model.specs.Writes.{Id, Action, Books, Cancels, Write, id_of, same_id}
-use Rattle.mr_model.specs.Replay.{Place, Done, Void, Booking, is_booked, place_for, place_among, booked_with, replay_among, replay}
+use Rattle.mr_model.specs.Writes.{Id, Write, id_of, same_id}
+use Rattle.mr_model.specs.Replay.{Place, place_among, booked_with, replay_among, replay}
 use Rattle.mr_model.specs.Board.{after}
 use Rattle.mr_model.specs.Replica.{Replica, IsReplica, is_among, order_of}
 use Rattle.mr_model.specs.View.{of_room, cancels_it, place_of}
@@ -18,21 +17,21 @@ use Rattle.mr_model.proofs.Members.{has_left, has_right, filter_has, map_has, no
 use Rattle.mr_model.proofs.Orders.{append_split}
 use Rattle.mr_model.proofs.PlacesOfOrder.{room-replay}
 use Rattle.mr_model.proofs.RoomsApart.{replay-append}
-use Rattle.mr_model.proofs.UniqueReplay.{booked_has, length-replay, none_some}
+use Rattle.mr_model.proofs.UniqueReplay.{length-replay, none_some}
 use Rattle.mr_replay.specs.declared.rows.Standing.TheVariants.{Booked, CancelledBy, InErrorLog}
 use Rattle.mr_replay.specs.declared.rows.Kept.{Kept}
 use Rattle.mr_replay.specs.declared.rows.Kept.TheVariants.{OfBooking, OfCancel}
 use Rattle.mr_replay.specs.declared.rows.Row.{Row}
 use Rattle.mr_replay.specs.Places.{UndoRow}
-use Rattle.mr_replay.specs.Rows.{Rows, row_at, bookings_of, kept_for, row_of, place_on, mark, unmark, target_of, executed, undo_row_at, undone, executed_all, undone_all, undo_rows_of}
+use Rattle.mr_replay.specs.Rows.{Rows, row_at, bookings_of, kept_for, row_of, place_by_rows, with_mark, without_mark, target_of, executed, undo_row_at, undone, executed_all, undone_all, undo_rows_of}
 use Rattle.mr_replay.specs.Holds.{HaveDistinctIds, told_list, row_in, bears, if_of}
 use Rattle.mr_replay.specs.Bookings.{if_taken, HasBookings}
 use Rattle.mr_replay.proofs.Entries.{IsInOrder}
 use Rattle.mr_replay.proofs.Lists.{one_name, same_name, other_name, distinct_front, distinct_next, distinct-part, part-own, part-other}
 use Rattle.mr_replay.proofs.Marked.{change_if}
-use Rattle.mr_replay.proofs.OneRoom.{IsPart, whole_part, taken_part, room_part, bookings_part, bears_not-taken, PartHas, part-executed, part-undone, part_has-executed, part_has-undone, takes_away, row-own, in_order-executed, in_order-undone}
-use Rattle.mr_replay.proofs.Placing.{booking-row, place_by_bookings}
-use Rattle.mr_replay.proofs.ToldRows.{BearsNot, booked_at, rows-none, rows-bear}
+use Rattle.mr_replay.proofs.OneRoom.{IsPart, whole_part, taken_part, room_part, bookings_part, bears_not-taken, PartHas, part-executed, part-undone, part_has-executed, part_has-undone, takes_away, row-own, in_order-executed, in_order-undone, cancels_booked, row-other, target_row}
+use Rattle.mr_replay.proofs.PlacesOnBoard.{booking-row, place_by_bookings}
+use Rattle.mr_replay.proofs.ToldRows.{BearsNot, rows-none, rows-bear}
 use Rattle.mr_replica.specs.Logged.{undo_with}
 use Rattle.mr_replica.proofs.DeskNumbers.{order_distinct}
 
@@ -46,32 +45,6 @@ if_of-apart room other (Some r) row h e = go (bytes_eq r.room room) refl h
     go : (b : Bool) → bytes_eq r.room room ≡ b → cond b (Some r) None ≡ Some row → if_of other (Some r) ≡ None
     go true is g = ap (λ t. cond t (Some r) None) (other_name r.room room other (one_name r.room room is) e)
     go false is g = absurd (none_some row g)
-
-row-other : (room : Text) (w : Write) (p : Place) → bytes_eq w.room room ≡ false → if_of room (row_of w p None) ≡ None
-row-other room w p e = go (kept_for w w.action p None)
-  where
-    go : (o : Option Kept) → if_of room (option_map (λ k. record { room = w.room; kept = k }) o) ≡ None
-    go None = refl
-    go (Some k) = ap (λ t. cond t (Some (record { room = w.room; kept = k })) None) e
-
--- what a cancel takes back is of its own room
-target_row : (b : Rows) (room : Text) (t : Id) → IsInOrder b → is_booked t (bookings_of room b) ≡ true → (row : Row) × (if_of room (row_at b t) ≡ Some row)
-target_row b room t ordered e =
-    let (x, h, at) = booked_has t (bookings_of room b) e in
-    go x (if_of room (row_at b t)) refl (subst (λ i. Has x (booked_at i (if_of room (row_at b i)))) at (booking-row room b x ordered h))
-  where
-    go : (x : Booking) (o : Option Row) → if_of room (row_at b t) ≡ o → Has x (booked_at t o) → (row : Row) × (if_of room (row_at b t) ≡ Some row)
-    go x None is h = absurd h
-    go x (Some row) is h = (row, is)
-
--- a place that cancels is that of a cancel which found its target booked
-cancels_booked : (bs : List Booking) (a : Action) (q : Id) → cancels_it q a (place_for bs a) ≡ true → is_booked q bs ≡ true
-cancels_booked bs (Books m) q e = absurd (true≢false (sym e))
-cancels_booked bs (Cancels t) q e = go (is_booked t bs) refl e
-  where
-    go : (c : Bool) → is_booked t bs ≡ c → cancels_it q (Cancels t) (cond c Done Void) ≡ true → is_booked q bs ≡ true
-    go true found f = ap (λ i. is_booked i bs) (same_id-true q t f) ∙ found
-    go false found f = absurd (true≢false (sym f))
 
 -- ---- what is looked at of a room
 
@@ -108,13 +81,13 @@ bookings_view = record {
 }
 
 -- what bears no mark of a cancel stays when that is taken away
-unmarked : (c : Id) (k : Kept) → bears c k ≡ false → unmark c k ≡ k
+unmarked : (c : Id) (k : Kept) → bears c k ≡ false → without_mark c k ≡ k
 unmarked c (OfBooking s l t Booked) h = refl
 unmarked c (OfBooking s l t (CancelledBy d)) h = ap (λ x. OfBooking s l t (cond x Booked (CancelledBy d))) h
 unmarked c (OfBooking s l t InErrorLog) h = refl
 unmarked c (OfCancel t) h = refl
 
-stays-unmarked : (c : Id) (x : Bool) (o : Option Row) → BearsNot c o → change_if (unmark c) x o ≡ o
+stays-unmarked : (c : Id) (x : Bool) (o : Option Row) → BearsNot c o → change_if (without_mark c) x o ≡ o
 stays-unmarked c false o h = refl
 stays-unmarked c true None h = refl
 stays-unmarked c true (Some row) h = let kept = unmarked c row.kept h in λ i. Some (record { room = row.room; kept = kept i })
@@ -141,9 +114,9 @@ module _ (see : Text → Option Row → Option Row) (given : Option Row → Opti
 
   pub beside-executed : (room : Text) (ws : List Write) (b : Rows) (w : Write) → bytes_eq w.room room ≡ false → IsInOrder b → is_among (id_of w) (map id_of ws) ≡ false → PartHas (see room) given ws b → PartHas (see room) given ws (executed b w)
   beside-executed room ws b w away ordered new has q =
-      part-executed (see room) (v.part room) b w (place_on b w) q none
-      ∙ ap (λ o. cond (same_id q (id_of w)) o (change_if (mark (id_of w)) (cancels_it q w.action (place_on b w)) (see room (row_at b q)))) (v.other room w (place_on b w) away)
-      ∙ ap (cond (same_id q (id_of w)) None) (marked (cancels_it q w.action (place_on b w)) refl)
+      part-executed (see room) (v.part room) b w (place_by_rows b w) q none
+      ∙ ap (λ o. cond (same_id q (id_of w)) o (change_if (with_mark (id_of w)) (cancels_it q w.action (place_by_rows b w)) (see room (row_at b q)))) (v.other room w (place_by_rows b w) away)
+      ∙ ap (cond (same_id q (id_of w)) None) (marked (cancels_it q w.action (place_by_rows b w)) refl)
       ∙ not_own room b (id_of w) q none
       ∙ has q
     where
@@ -151,12 +124,12 @@ module _ (see : Text → Option Row → Option Row) (given : Option Row → Opti
       none = gone room ws b (id_of w) new has
 
       -- what it takes back is of its own room
-      marked : (c : Bool) → cancels_it q w.action (place_on b w) ≡ c → change_if (mark (id_of w)) c (see room (row_at b q)) ≡ see room (row_at b q)
+      marked : (c : Bool) → cancels_it q w.action (place_by_rows b w) ≡ c → change_if (with_mark (id_of w)) c (see room (row_at b q)) ≡ see room (row_at b q)
       marked false e = refl
       marked true e =
           let (row, at) = target_row b w.room q ordered (cancels_booked (bookings_of w.room b) w.action q e) in
           let away_too = v.apart w.room room (row_at b q) row at (apart_names w.room room away) in
-          ap (change_if (mark (id_of w)) true) away_too ∙ sym away_too
+          ap (change_if (with_mark (id_of w)) true) away_too ∙ sym away_too
 
   pub beside-undone : (room : Text) (ws : List Write) (b : Rows) (w : Write) (p : Place) → IsInOrder b → is_among (id_of w) (map id_of ws) ≡ false → PartHas (see room) given ws b → PartHas (see room) given ws (undone b (undo_row_at w p))
   beside-undone room ws b w p ordered new has q =
@@ -270,7 +243,7 @@ module _ (r : Replica) (mine : Text → Bool) (front : Text → List Write) (ws 
 
     -- ---- executed
 
-    place-here : (done : List Write) (w : Write) (rest : List Write) (b : Rows) → done ++ w ∷ rest ≡ ws → IsInOrder b → HasAll (λ room. upto room done) b → place_on b w ≡ place_among (after [] (upto w.room done)) w
+    place-here : (done : List Write) (w : Write) (rest : List Write) (b : Rows) → done ++ w ∷ rest ≡ ws → IsInOrder b → HasAll (λ room. upto room done) b → place_by_rows b w ≡ place_among (after [] (upto w.room done)) w
     place-here done w rest b parts ordered has =
         place_by_bookings w.room (upto w.room done) b w refl ordered (distinct_front (upto w.room done) (w ∷ of_room w.room rest) (own_ids done w rest parts w.room refl))
         (v.bookings w.room (upto w.room done) b (has w.room (last.mine_all w (there done w rest parts))))
@@ -282,7 +255,7 @@ module _ (r : Replica) (mine : Text → Bool) (front : Text → List Write) (ws 
         by true e =
             let is = one_name w.room room e in
             subst (λ (vs : List Write). PartHas (see room) given vs (executed b w)) (sym (more done w rest parts room is))
-            (part_has-executed (see room) given (v.part room) v.given_part (upto room done) b w (v.own room w (place_on b w) is)
+            (part_has-executed (see room) given (v.part room) v.given_part (upto room done) b w (v.own room w (place_by_rows b w) is)
             (place-here done w rest b parts ordered has ∙ ap (λ t. place_among (after [] (upto t done)) w) is)
             (distinct_next (upto room done) w (of_room room rest) (own_ids done w rest parts room is)) (has room m))
         by false e =
@@ -292,8 +265,8 @@ module _ (r : Replica) (mine : Text → Bool) (front : Text → List Write) (ws 
     executed-rest : (done rest : List Write) (b : Rows) → done ++ rest ≡ ws → IsInOrder b → HasAll (λ room. upto room done) b → (map (λ u. u.place) (undo_rows_of b rest) ≡ map (place_of r) rest) × HasAll (λ room. upto room ws) (executed_all b rest) × IsInOrder (executed_all b rest)
     executed-rest done [] b parts ordered has = (refl, subst (λ (vs : List Write). HasAll (λ room. upto room vs) b) (sym (append-nil done) ∙ parts) has, ordered)
     executed-rest done (w ∷ rest) b parts ordered has =
-        let here : place_on b w ≡ place_of r w = place-here done w rest b parts ordered has ∙ sym (place done w rest parts w.room refl) in
-        let later = executed-rest (done ++ w ∷ []) rest (executed b w) (append_assoc done (w ∷ []) rest ∙ parts) (in_order-executed b w (place_on b w) ordered) (executed-one done w rest b parts ordered has) in
+        let here : place_by_rows b w ≡ place_of r w = place-here done w rest b parts ordered has ∙ sym (place done w rest parts w.room refl) in
+        let later = executed-rest (done ++ w ∷ []) rest (executed b w) (append_assoc done (w ∷ []) rest ∙ parts) (in_order-executed b w (place_by_rows b w) ordered) (executed-one done w rest b parts ordered has) in
         (λ t. here t ∷ later.0 t, later.1, later.2)
 
     -- executed behind the first ones, the last ones get the places that the replica gives them, and each room has what all of it gives

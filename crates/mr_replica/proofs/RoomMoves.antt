@@ -14,12 +14,12 @@ use Rattle.mr_model.specs.View.{of_room}
 use Rattle.mr_model.specs.Dropped.{Has}
 use Rattle.mr_base.specs.Ids.{id_cmp}
 use Rattle.mr_model.specs.Writes.{Id}
-use Rattle.mr_replay.proofs.Ids.{at_is}
+use Rattle.mr_replay.proofs.IdKeys.{at_is}
 use Rattle.mr_replay.proofs.Lists.{one_name}
 use Rattle.mr_replay.specs.Places.{UndoRow}
 use Rattle.mr_replay.specs.Rows.{Rows, executed_all, undo_rows_of}
 use Rattle.mr_replica.specs.declared.room_moves.RoomMove.{RoomMove}
-use Rattle.mr_replica.specs.RoomMoves.{RoomMoves, move_at, again_at, board_left, board_after, rows_after, AreById, row_at}
+use Rattle.mr_replica.specs.RoomMoves.{MovesOfRooms, move_at, again_at, board_left, board_after_moves, rows_after, AreById, first_undo_row}
 
 -- ---- one room
 
@@ -28,7 +28,7 @@ not_there None e = refl
 not_there (Some x) e = absurd (true≢false e)
 
 -- what is looked at of a room's move is changed at that room alone
-pub looked-more : {X : Type 0} (look : Option RoomMove → List X) (old new : RoomMoves) (room : Text) (m : RoomMove) (more : List X) → look (Some m) ≡ look (move_at old room) ++ more → Updates (slice_cmp nat_cmp) old new room (Some m)
+pub looked-more : {X : Type 0} (look : Option RoomMove → List X) (old new : MovesOfRooms) (room : Text) (m : RoomMove) (more : List X) → look (Some m) ≡ look (move_at old room) ++ more → Updates (slice_cmp nat_cmp) old new room (Some m)
     → (name : Text) → look (move_at new name) ≡ look (move_at old name) ++ cond (bytes_eq room name) more []
 looked-more {X} look old new room m more is put name =
     ap look (put.0 name ∙ ap (λ t. cond t (Some m) (move_at old name)) (is_eq-slice_cmp room name)) ∙ go (bytes_eq room name) refl
@@ -38,7 +38,7 @@ looked-more {X} look old new room m more is put name =
     go false e = sym (append-nil (look (move_at old name)))
 
 -- nothing changes where it has nothing more
-pub looked-same : {X : Type 0} (look : Option RoomMove → List X) (old new : RoomMoves) (room : Text) (m : RoomMove) → look (Some m) ≡ look (move_at old room) → Updates (slice_cmp nat_cmp) old new room (Some m)
+pub looked-same : {X : Type 0} (look : Option RoomMove → List X) (old new : MovesOfRooms) (room : Text) (m : RoomMove) → look (Some m) ≡ look (move_at old room) → Updates (slice_cmp nat_cmp) old new room (Some m)
     → (name : Text) → look (move_at new name) ≡ look (move_at old name)
 looked-same {X} look old new room m is put name =
     ap look (put.0 name ∙ ap (λ t. cond t (Some m) (move_at old name)) (is_eq-slice_cmp room name)) ∙ go (bytes_eq room name) refl
@@ -90,12 +90,12 @@ room_pick_end f p ws k done name all e = sym (append-nil done) ∙ ap (λ ys. do
 pub by_id-more : (rows : List UndoRow) (k : ℕ) (row : UndoRow) (old new : BTreeMap Id UndoRow) → k < length rows → row ≡ get_or rows k row → Updates id_cmp old new row.id (Some row) → AreById old (drop (k + 1) rows) → AreById new (drop k rows)
 by_id-more rows k row old new h is put had = λ id.
     put.0 id ∙ (λ t. cond (at_is t row.id id) (Some row) (had id t))
-    ∙ ap (λ us. row_at us id) (ap (λ u. u ∷ drop (k + 1) rows) is ∙ sym (drop_more rows k row h))
+    ∙ ap (λ us. first_undo_row us id) (ap (λ u. u ∷ drop (k + 1) rows) is ∙ sym (drop_more rows k row h))
 
 -- ---- all that is executed anew
 
 -- one write more, in front of those that are left
-pub again_more : (ws : List Write) (k : ℕ) (w : Write) (start old new : RoomMoves) (name : Text) → k < length ws → w ≡ get_or ws k w → again_at new name ≡ again_at old name ++ cond (bytes_eq w.room name) (w ∷ []) []
+pub again_more : (ws : List Write) (k : ℕ) (w : Write) (start old new : MovesOfRooms) (name : Text) → k < length ws → w ≡ get_or ws k w → again_at new name ≡ again_at old name ++ cond (bytes_eq w.room name) (w ∷ []) []
     → again_at old name ++ of_room name (drop k ws) ≡ again_at start name ++ of_room name ws → again_at new name ++ of_room name (drop (k + 1) ws) ≡ again_at start name ++ of_room name ws
 again_more ws k w start old new name low at more e =
     ap (λ vs. vs ++ of_room name (drop (k + 1) ws)) more
@@ -107,21 +107,21 @@ again_more ws k w start old new name low at more e =
     go true = append_assoc (again_at old name) (w ∷ []) (of_room name (drop (k + 1) ws))
     go false = ap (λ vs. vs ++ of_room name (drop (k + 1) ws)) (append-nil (again_at old name))
 
-pub again_end : (ws : List Write) (k : ℕ) (start old : RoomMoves) (name : Text) → length ws ≤ k → again_at old name ++ of_room name (drop k ws) ≡ again_at start name ++ of_room name ws → again_at old name ≡ again_at start name ++ of_room name ws
+pub again_end : (ws : List Write) (k : ℕ) (start old : MovesOfRooms) (name : Text) → length ws ≤ k → again_at old name ++ of_room name (drop k ws) ≡ again_at start name ++ of_room name ws → again_at old name ≡ again_at start name ++ of_room name ws
 again_end ws k start old name all e = sym (append-nil (again_at old name)) ∙ ap (λ vs. again_at old name ++ vs) (sym (at_drop_all (λ vs. of_room name vs) ws k all)) ∙ e
 
 -- ---- room by room
 
-pub board_after-more : (es : List (Text × RoomMove)) (e : Text × RoomMove) (b : Rows) → board_after (es ++ e ∷ []) b ≡ executed_all (board_left e.1 (board_after es b)) e.1.again.items
+pub board_after-more : (es : List (Text × RoomMove)) (e : Text × RoomMove) (b : Rows) → board_after_moves (es ++ e ∷ []) b ≡ executed_all (board_left e.1 (board_after_moves es b)) e.1.again.items
 board_after-more [] e b = refl
 board_after-more (x ∷ es) e b = board_after-more es e (executed_all (board_left x.1 b) x.1.again.items)
 
-pub rows_after-more : (es : List (Text × RoomMove)) (e : Text × RoomMove) (b : Rows) → rows_after (es ++ e ∷ []) b ≡ rows_after es b ++ undo_rows_of (board_left e.1 (board_after es b)) e.1.again.items
+pub rows_after-more : (es : List (Text × RoomMove)) (e : Text × RoomMove) (b : Rows) → rows_after (es ++ e ∷ []) b ≡ rows_after es b ++ undo_rows_of (board_left e.1 (board_after_moves es b)) e.1.again.items
 rows_after-more [] e b = append-nil (undo_rows_of (board_left e.1 b) e.1.again.items)
 rows_after-more (x ∷ es) e b =
     let next = executed_all (board_left x.1 b) x.1.again.items in
     let here = undo_rows_of (board_left x.1 b) x.1.again.items in
-    ap (λ us. here ++ us) (rows_after-more es e next) ∙ sym (append_assoc here (rows_after es next) (undo_rows_of (board_left e.1 (board_after es next)) e.1.again.items))
+    ap (λ us. here ++ us) (rows_after-more es e next) ∙ sym (append_assoc here (rows_after es next) (undo_rows_of (board_left e.1 (board_after_moves es next)) e.1.again.items))
 
 -- ---- rows in the order of their writes
 

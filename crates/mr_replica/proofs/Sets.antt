@@ -16,7 +16,7 @@ use Rattle.mr_model.specs.Dropped.{Has}
 use Rattle.mr_model.specs.Writes.{Id, same_id}
 use Rattle.mr_model.proofs.Members.{has_all, all_has, Sorted, sorted_same, any_has, has_any}
 use Rattle.mr_model.proofs.MembersAlike.{bool_same}
-use Rattle.mr_replay.proofs.Ids.{at_is}
+use Rattle.mr_replay.proofs.IdKeys.{at_is}
 use Rattle.mr_tables.proofs.Naming.{before-cmp}
 use Rattle.mr_tables.proofs.Putting.{name_order}
 use Rattle.mr_replica.specs.Sets.{has_id, has_room, IsSetOf}

@@ -26,12 +26,12 @@ use Rattle.mr_tables.proofs.BoardsTold.{known_row, known_at}
 use Rattle.mr_replica.specs.declared.kept_rows.KeptRow.{KeptRow}
 use Rattle.mr_replica.specs.KeptRows.{kept_row, run_place, run_cmp}
 use Rattle.mr_replica.specs.Log.{KeptLog}
-use Rattle.mr_replica.specs.SoundLog.{AreNumbered, HasTaken, HasPlace, IsAtPlace, IsLogSound, kept_told, IsOfSoundRows}
+use Rattle.mr_replica.specs.SoundLog.{AreNumbered, ShowsBooking, ShowsPlace, IsAtPlace, IsLogSound, kept_told, IsOfSoundRows}
 use Rattle.mr_replica.proofs.DeskBoards.{board_of, board-told}
 use Rattle.mr_replica.proofs.DeskNumbers.{kept_numbers, dropped_long}
 use Rattle.mr_replica.proofs.KeptOrder.{rows_rise}
-use Rattle.mr_replica.proofs.Marks.{done_marked}
-use Rattle.mr_replica.proofs.SoundRows.{neighbours}
+use Rattle.mr_replica.proofs.CancelMarks.{done_marked}
+use Rattle.mr_replica.proofs.SoundTables.{neighbours}
 
 -- ---- numbers
 
@@ -66,21 +66,21 @@ numbered a h = record {
 pub row_known : (a : Replica) (w : Write) → IsReplica a → Has w a.known → row_at (board_of a) (id_of w) ≡ known_row a w
 row_known a w h g = ap (λ b. row_at b (id_of w)) (board-told a h) ∙ known_at a w h g
 
-known_at_place : (a : Replica) (w : Write) → IsReplica a → Has w a.known → HasPlace (board_of a) w w.action (place_of a w)
+known_at_place : (a : Replica) (w : Write) → IsReplica a → Has w a.known → ShowsPlace (board_of a) w w.action (place_of a w)
 known_at_place a w h g = go (known_went a w h g)
   where
     row : (x : Action) (p : Place) → w.action ≡ x → place_of a w ≡ p → row_at (board_of a) (id_of w) ≡ option_map (λ k. record { room = w.room; kept = k }) (kept_for w x p (canceller_of a w))
     row x p e f = row_known a w h g ∙ (λ i. option_map (λ k. record { room = w.room; kept = k }) (kept_for w (e i) (f i) (canceller_of a w)))
 
-    at : (x : Action) (p : Place) → w.action ≡ x → place_of a w ≡ p → HasPlace (board_of a) w x p → HasPlace (board_of a) w w.action (place_of a w)
-    at x p e f k = subst (λ y. HasPlace (board_of a) w y (place_of a w)) (sym e) (subst (λ q. HasPlace (board_of a) w x q) (sym f) k)
+    at : (x : Action) (p : Place) → w.action ≡ x → place_of a w ≡ p → ShowsPlace (board_of a) w x p → ShowsPlace (board_of a) w w.action (place_of a w)
+    at x p e f k = subst (λ y. ShowsPlace (board_of a) w y (place_of a w)) (sym e) (subst (λ q. ShowsPlace (board_of a) w x q) (sym f) k)
 
-    go : Went w (place_of a w) → HasPlace (board_of a) w w.action (place_of a w)
+    go : Went w (place_of a w) → ShowsPlace (board_of a) w w.action (place_of a w)
     go (took m k s e f o) =
         let own = ap (λ y. slice_get (choices_in y) k) e in
         let slot : slice_get (choices_of m) k ≡ Some s = sym own ∙ sym (ap (slot_at w) f) ∙ o in
         at (Books m) (Taken k) e f
-        (subst (HasTaken (board_of a) w m) (sym slot) (canceller_of a w, row (Books m) (Taken k) e f ∙ (let t = own ∙ slot in λ i. Some (record { room = w.room; kept = kept_with m (t i) (canceller_of a w) }))))
+        (subst (ShowsBooking (board_of a) w m) (sym slot) (canceller_of a w, row (Books m) (Taken k) e f ∙ (let t = own ∙ slot in λ i. Some (record { room = w.room; kept = kept_with m (t i) (canceller_of a w) }))))
     go (failed m e f) = at (Books m) Logged e f (row (Books m) Logged e f)
     go (did t e f) = at (Cancels t) Done e f (done_marked a w t h g e f)
     go (missed t e f) = at (Cancels t) Void e f (row (Cancels t) Void e f)

@@ -8,7 +8,7 @@ use Rattle.mr_model.specs.Writes.{Id, Meeting, Action, Books, Cancels, Write, id
 use Rattle.mr_model.specs.Replay.{Place, Taken, Logged, Done, Void}
 use Rattle.mr_model.specs.Replica.{Replica, IsReplica, is_dropped, is_committed}
 use Rattle.mr_model.specs.View.{place_of, canceller_of}
-use Rattle.mr_model.specs.Tables.{LogRow, ErrorRow, CancelRow, by_id, kept, seq_of, cells_of, cancel_in, log_row, as_cancel, place_row_for, error_row, cancel_row, tables_of}
+use Rattle.mr_model.specs.Tables.{LogRow, ErrorRow, CancelRow, by_id, kept, seq_of, cells_of, cancel_row_for, log_row, as_cancel, place_row_for, error_row, cancel_row, tables_of}
 use Rattle.mr_model.specs.Kept.{dropped_in_order}
 use Rattle.mr_model.specs.Dropped.{Has}
 use Rattle.mr_model.proofs.DroppedApart.{dropped_known, known_dropped}
@@ -23,10 +23,10 @@ use Rattle.mr_replica.specs.Log.{is_logged}
 use Rattle.mr_replica.specs.SoundNotes.{error_note, cancel_note, log_note, is_kept_number, is_logged_row, is_cancel_cells, is_cancel_row, AreNotesSound}
 use Rattle.mr_replica.proofs.DeskNumbers.{Bears, rows_in_order}
 use Rattle.mr_replica.proofs.OldCancels.{cancel_bears}
-use Rattle.mr_replica.proofs.OldErrors.{dropped_one, dropped_is, old_from, old_parts, error_bears}
+use Rattle.mr_replica.proofs.DroppedErrors.{dropped_one, dropped_is, old_from, old_parts, error_bears}
 use Rattle.mr_replica.proofs.RowParts.{error_of, logged_row, cancel_row_of}
 use Rattle.mr_replica.proofs.SameRows.{same_number}
-use Rattle.mr_replica.proofs.SoundRows.{logs_rise}
+use Rattle.mr_replica.proofs.SoundTables.{logs_rise}
 
 -- ---- the test of two notes
 
@@ -146,6 +146,6 @@ notes_sound a h = record {
       let number = is.number in
       ((λ i. record { server = (id i).server; n = (id i).n; time = time i; seq = number i }), ap (λ x. is_cancel_cells (cells_of x)) is.action))
       (λ w known q. let (t, e) = cancel_is_told w.action q in
-      (cancel_in w t (place_of a w) (seq_of a w), ap (λ x. as_cancel (place_row_for w x (place_of a w) (canceller_of a w) (is_committed a (id_of w)) (seq_of a w))) e))
+      (cancel_row_for w t (place_of a w) (seq_of a w), ap (λ x. as_cancel (place_row_for w x (place_of a w) (canceller_of a w) (is_committed a (id_of w)) (seq_of a w))) e))
       (cancel_bears a);
 }

@@ -12,7 +12,7 @@ use Rattle.mr_model.specs.Replica.{Replica, IsReplica, clock_of, knows_room, ten
 use Rattle.mr_model.specs.Replay.{Place, Taken, Logged, Done, Void, slot_at}
 use Rattle.mr_model.specs.Kept.{dropped_in_order, kept_in_order}
 use Rattle.mr_model.specs.View.{cancels_it, place_of, canceller_of}
-use Rattle.mr_model.specs.Tables.{BookingRow, PlaceRow, seq_of, taken_back, as_booking, as_error, as_cancel, cancel_in, booking_place_row, place_row_for, place_row, log_row, tables_of}
+use Rattle.mr_model.specs.Tables.{BookingRow, PlaceRow, seq_of, taken_back, as_booking, as_error, as_cancel, cancel_row_for, booking_place_row, place_row_for, place_row, log_row, tables_of}
 use Rattle.mr_model.specs.Tables as rows
 use Rattle.mr_model.specs.Changes.{IsNext, takes_back, after_commit}
 use Rattle.mr_model.specs.Step.{After, next_stamp, outcome_at, knows_booking}
@@ -25,14 +25,14 @@ use Rattle.mr_model.proofs.Orders.{added, order-submit}
 use Rattle.mr_model.proofs.OwnCancels.{others_stay, stands_itself, row_taken}
 use Rattle.mr_model.proofs.RowsTell.{replies_tell}
 use Rattle.mr_replay.specs.declared.rows.Row.{Row}
-use Rattle.mr_replay.specs.Rows.{Rows, row_at, undo_row_at, undo_row_of, executed_all, undo_rows_of, place_on, target_of, taken_back as taken_back_by}
+use Rattle.mr_replay.specs.Rows.{Rows, row_at, undo_row_at, undo_row_of, executed_all, undo_rows_of, place_by_rows, target_of, target_if_done as taken_back_by}
 use Rattle.mr_tables.specs.declared.summary.Summary.{Summary}
 use Rattle.mr_tables.specs.declared.summary.Tally.{Tally}
 use Rattle.mr_tables.specs.Change.{ChangeView, changed}
 use Rattle.mr_tables.specs.Summary.{summary_of, noted_write, stamp_next}
 use Rattle.mr_tables.specs.Written.{with_places, written}
 use Rattle.mr_tables.proofs.BoardsTold.{known_or_none}
-use Rattle.mr_tables.proofs.Limits.{few_commits}
+use Rattle.mr_tables.proofs.CountLimits.{few_commits}
 use Rattle.mr_tables.proofs.Summaries.{summary-write}
 use Rattle.mr_replica.specs.Accepting.{summary_in, with_last, puts_last, CanPutLast}
 use Rattle.mr_replica.specs.ChangeLaws.{GivesRows, kept_committed, vector_between}
@@ -45,7 +45,7 @@ use Rattle.mr_replica.proofs.DeskBoards.{board_of, tallies_of, of_row}
 use Rattle.mr_replica.proofs.Desks.{own_server}
 use Rattle.mr_replica.proofs.Placings.{unknown_here, if_placed, placed-here, target_ends, booking-known}
 use Rattle.mr_replica.proofs.Submitting.{Submits, submits, Withdraws, withdraws, desk-submitted, submitted_is_next, cancelled_is_next}
-use Rattle.mr_replica.proofs.Writing.{board_before, places-put, written-of, part_numbered, part_places}
+use Rattle.mr_replica.proofs.DeskChanges.{board_before, places-put, written-of, part_numbered, part_places}
 use Rattle.mr_replica.proofs.Changing.{kept_committed_long, same_dropped, submit_given}
 
 -- a replica orders no more writes than there can be commits
@@ -83,7 +83,7 @@ module _ (a : Replica) (w : Write) (sound : IsReplica a) (next : IsNext a w) (la
   parts = same_dropped a (add_write a w) (w ∷ []) sound sound' (λ _. a.dropped) (order-submit a w sound next late)
 
   -- the board gives it the place that it has afterwards
-  pub place-own : place_on (board_of a) w ≡ place_of (add_write a w) w
+  pub place-own : place_by_rows (board_of a) w ≡ place_of (add_write a w) w
   place-own =
       (λ i. first_place (map (λ u. u.place) (undo_rows_of (executed_all (executed_all [] (parts.0 i)) (kept_in_order a)) (w ∷ []))))
       ∙ ap first_place (part_places (add_write a w) (kept_in_order a) (w ∷ []) [] sound' parts.1)
@@ -179,7 +179,7 @@ module _ (a : Replica) (w : Write) (sound : IsReplica a) (next : IsNext a w) (la
       ∙ sym (λ i. put_outcome (puts-rows i).booking (puts-rows i).errorlog)
     where
       none : taken_rows (tallies_of a) (board_of a) (undo_row_of (board_of a) w) ≡ []
-      none = ap (λ x. taken_rows_of (tallies_of a) (board_of a) (id_of w) (taken_back_by (place_on (board_of a) w) (target_of x))) e ∙ booking_takes (tallies_of a) (board_of a) (id_of w) (place_on (board_of a) w)
+      none = ap (λ x. taken_rows_of (tallies_of a) (board_of a) (id_of w) (taken_back_by (place_by_rows (board_of a) w) (target_of x))) e ∙ booking_takes (tallies_of a) (board_of a) (id_of w) (place_by_rows (board_of a) w)
 
       go : (o : Option Slot) → place_row (add_write a w) w ≡ booking_place_row w m o None (is_committed (add_write a w) (id_of w)) (seq_of (add_write a w) w) → outcome_at (add_write a w) w ≡ put_outcome (filter_map as_booking (place_row (add_write a w) w ∷ [])) (filter_map as_error (place_row (add_write a w) w ∷ []))
       go None q = (replies_tell (add_write a w) w sound' is_known).1 _ (ap as_error q) ∙ (λ i. put_outcome (cons_option (as_booking (sym q i)) []) (cons_option (as_error (sym q i)) []))
@@ -190,7 +190,7 @@ module _ (a : Replica) (w : Write) (sound : IsReplica a) (next : IsNext a w) (la
   cancel_tells t e =
       let given = taken_rows (tallies_of a) (board_of a) (undo_row_of (board_of a) w) in
       let q = own-row (Cancels t) e in
-      (replies_tell (add_write a w) w sound' is_known).2 (cancel_in w t (place_of (add_write a w) w) (seq_of (add_write a w) w)) (ap as_cancel q)
+      (replies_tell (add_write a w) w sound' is_known).2 (cancel_row_for w t (place_of (add_write a w) w) (seq_of (add_write a w) w)) (ap as_cancel q)
       ∙ (λ i. put_cancel_outcome (cons_option (as_cancel (sym q i)) (filter_map as_cancel given)))
       ∙ sym (λ i. put_cancel_outcome (puts-rows i).cancels)
 

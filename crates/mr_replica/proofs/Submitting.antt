@@ -14,7 +14,7 @@ use Rattle.mr_model.proofs.Orders.{is_next, order-submit}
 use Rattle.mr_model.proofs.StepsKeep.{none_apply, count_within, clock_within}
 use Rattle.mr_model.proofs.SubmitRows.{same_rooms}
 use Rattle.mr_model.proofs.TwinChanges.{dropped-add_write}
-use Rattle.mr_base.specs.Refusals.{refusal_of}
+use Rattle.mr_base.specs.RefusalViews.{refusal_of}
 use Rattle.mr_base.specs.declared.refusals.Refusal.{Refusal}
 use Rattle.mr_base.specs.declared.refusals.Refusal.TheVariants.{ClockExhausted, CountExhausted}
 use Rattle.mr_tables.specs.Summary.{summary_of, noted_write, stamp_next}

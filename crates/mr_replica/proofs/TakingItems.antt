@@ -17,7 +17,7 @@ use Rattle.mr_model.specs.Tables.{seq_of, tables_of}
 use Rattle.mr_model.specs.Taking.{Progress, take_item, take_items}
 use Rattle.mr_model.specs.Writes.{Write}
 use Rattle.mr_model.proofs.TakingKeeps.{IsItem, KeepsReplica, item_keeps}
-use Rattle.mr_base.specs.Refusals.{refusal_of}
+use Rattle.mr_base.specs.RefusalViews.{refusal_of}
 use Rattle.mr_base.specs.declared.refusals.Refusal.{Refusal}
 use Rattle.mr_base.specs.declared.refusals.Refusal.TheVariants.{OutOfMemory}
 use Rattle.mr_tables.specs.declared.summary.Summary.{Summary}

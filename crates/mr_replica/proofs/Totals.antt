@@ -14,7 +14,7 @@ use Rattle.mr_model.proofs.RowsById.{server_bounds, known_write}
 use Rattle.mr_model.proofs.TablesTell.{vector_entry}
 use Rattle.mr_tables.specs.SoundRows.{capped, AreTotalsSound}
 use Rattle.mr_replica.proofs.Latest.{latest}
-use Rattle.mr_tables.proofs.Limits.{few_commits}
+use Rattle.mr_tables.proofs.CountLimits.{few_commits}
 
 -- ---- writes
 

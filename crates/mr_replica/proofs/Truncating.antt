@@ -20,7 +20,7 @@ use Rattle.mr_model.proofs.TwinChanges.{take-add}
 use Rattle.mr_model.specs.Tables.{CancelRow}
 use Rattle.mr_replay.specs.Places.{UndoRow}
 use Rattle.mr_replay.specs.Rows.{executed_all, undo_rows_of}
-use Rattle.mr_tables.specs.Rows.{seq_on}
+use Rattle.mr_tables.specs.ExecutionRows.{seq_on}
 use Rattle.mr_replica.specs.Log.{log_of, without_front, errors_in, cancel_at, cancel_rows}
 use Rattle.mr_tables.specs.Summary.{summary_of}
 use Rattle.mr_replica.specs.Desk.{desk_of, old_errors_of, old_cancels_of}

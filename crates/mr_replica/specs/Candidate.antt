@@ -10,8 +10,8 @@ use Rattle.mr_tables.specs.Summary.{tally_at}
 -- ---- added, or skipped, or refused
 
 -- the kept write of an id
-abbrev pub write_in : List Write → Id → Option Write
-write_in ws id = find (λ w. same_id (id_of w) id) ws
+abbrev pub write_with_id : List Write → Id → Option Write
+write_with_id ws id = find (λ w. same_id (id_of w) id) ws
 
 -- of a write that is known: where it isn't kept any more it is dropped
 abbrev pub known_verdict : ℕ → Write → Option Write → Result Bool Refusal
@@ -28,7 +28,7 @@ write_verdict_with line tally own there w =
     else Ok true)))
 
 abbrev pub write_verdict_by : ℕ → Tally → ℕ → List Write → Write → Result Bool Refusal
-write_verdict_by line tally own kept w = write_verdict_with line tally own (write_in kept (id_of w)) w
+write_verdict_by line tally own kept w = write_verdict_with line tally own (write_with_id kept (id_of w)) w
 
 abbrev pub write_verdict : ℕ → Summary → List Write → Write → Result Bool Refusal
 write_verdict line s kept w = write_verdict_by line (tally_at s.tallies w.stamp.server) s.server kept w

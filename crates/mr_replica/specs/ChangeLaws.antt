@@ -44,8 +44,8 @@ RoomsArePut =
     → Makes a (written (tables_of a).meta (room ∷ []) [] (length a.commits) 1 [] [] []) (record a { rooms = with_room room a.rooms })
 
 -- the rows of bookings that a write of the replica's own takes back
-abbrev pub rows_taken : Replica → Write → List PlaceRow
-rows_taken a w = map (λ row. Cancelled (taken_back (id_of w) row)) (filter (λ row. takes_back a w (booking_id row)) (tables_of a).booking)
+abbrev pub rows_taken_back : Replica → Write → List PlaceRow
+rows_taken_back a w = map (λ row. Cancelled (taken_back (id_of w) row)) (filter (λ row. takes_back a w (booking_id row)) (tables_of a).booking)
 
 -- a write of the replica's own, a booking or a cancel, becomes the last of the order and gets its rows; the booking that it takes back,
 -- if it is a cancel that is done, goes to cancelled with its id
@@ -56,7 +56,7 @@ SubmissionsArePut =
     (with_places_put
     (written (tables_of (add_write a w)).meta [] (vector_between a (add_write a w)) (length a.commits) (a.dropped + 1 + length (kept_in_order a)) (w ∷ [])
     (undo_rows_of (board_before a (kept_in_order a)) (w ∷ [])) (None ∷ []))
-    (rows_taken a w)) (add_write a w)
+    (rows_taken_back a w)) (add_write a w)
 
 -- of these writes, which are at the places that they had, each whose cancel is another one now gets its row of now, and perhaps
 -- others do

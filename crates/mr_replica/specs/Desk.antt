@@ -9,7 +9,7 @@ use Rattle.mr_model.specs.Tables.{CancelRow}
 use Rattle.mr_model.specs.Replies.{Reply, Refused}
 use Rattle.mr_model.specs.Step.{After}
 use Rattle.mr_model.specs.Taking.{Progress}
-use Rattle.mr_base.specs.Refusals.{refusal_of}
+use Rattle.mr_base.specs.RefusalViews.{refusal_of}
 use Rattle.mr_base.specs.declared.refusals.Refusal.{Refusal}
 use Rattle.mr_base.specs.declared.refusals.Refusal.TheVariants.{OutOfMemory, Store}
 use Rattle.mr_replay.specs.Rows.{undo_rows_of}
@@ -66,8 +66,8 @@ reply_with f (Err refusal) = Refused (refusal_of refusal)
 
 -- For every replica that the desk stood for: the answer is that of the step, the replica after it being known, and the desk
 -- stands for that replica; or memory was wanting, and the desk is as it was.
-abbrev pub TakesStep : {T : Type 0} → (Replica → After) → (Replica → T → Reply) → DeskView → Result T Refusal → DeskView → Type 0
-TakesStep step reply before result after =
+abbrev pub DeskTakesStep : {T : Type 0} → (Replica → After) → (Replica → T → Reply) → DeskView → Result T Refusal → DeskView → Type 0
+DeskTakesStep step reply before result after =
     (a : Replica) → IsReplica a → StandsFor before a
     → ((reply_with (reply (step a).replica) result ≡ (step a).reply) × StandsFor after (step a).replica)
     ⊎ ((result ≡ Err OutOfMemory) × (after ≡ before))

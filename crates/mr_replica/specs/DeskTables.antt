@@ -14,7 +14,7 @@ use Rattle.mr_tables.specs.declared.old_errors.OldError.{OldError}
 use Rattle.mr_tables.specs.Summary.{tally_at}
 use Rattle.mr_tables.specs.Tallied.{tally_rows}
 use Rattle.mr_tables.specs.Change.{put_all, id_before, log_id}
-use Rattle.mr_tables.specs.Rows.{log_rows}
+use Rattle.mr_tables.specs.ExecutionRows.{log_rows}
 use Rattle.mr_replica.specs.Log.{cancel_rows}
 use Rattle.mr_replica.specs.Desk.{DeskView}
 

@@ -8,7 +8,7 @@ use Rattle.mr_model.specs.Tables.{seq_of}
 use Rattle.mr_base.specs.Ids.{id_cmp}
 use Rattle.mr_replica.specs.declared.kept_rows.RunPlace.{RunPlace}
 use Rattle.mr_replica.specs.declared.kept_writes.NumberedWrite.{NumberedWrite}
-use Rattle.mr_replica.specs.Candidate.{write_in}
+use Rattle.mr_replica.specs.Candidate.{write_with_id}
 
 -- a write of a replica with its commit number
 abbrev pub numbered_of : Replica → Write → NumberedWrite
@@ -39,9 +39,9 @@ abbrev pub with_number : ℕ → NumberedWrite → NumberedWrite
 with_number number x = record { write = x.write; seq = number }
 
 -- a write with the number that it has
-abbrev pub marked_by : (Write → ℕ) → Write → NumberedWrite
-marked_by mark w = record { write = w; seq = mark w }
+abbrev pub numbered_by : (Write → ℕ) → Write → NumberedWrite
+numbered_by mark w = record { write = w; seq = mark w }
 
 -- these are the writes, with these numbers
 abbrev pub HasKept : KeptWrites → (Write → ℕ) → List Write → Type 0
-HasKept kept mark ws = (id : Id) → logged_at kept id ≡ option_map (marked_by mark) (write_in ws id)
+HasKept kept mark ws = (id : Id) → logged_at kept id ≡ option_map (numbered_by mark) (write_with_id ws id)

@@ -3,11 +3,11 @@ use Rattle.std.specs.Prelude.{ℕ, ◌+◌, Bool, true, false, if◌then◌else�
 use Rattle.std.specs.List.{cons_option}
 use Rattle.mr_model.specs.Writes.{Action, Books, Cancels, Write}
 use Rattle.mr_model.specs.Replay.{Place, Taken, Logged, Done, Void}
-use Rattle.mr_model.specs.Tables.{CancelRow, cancel_in}
+use Rattle.mr_model.specs.Tables.{CancelRow, cancel_row_for}
 use Rattle.mr_replay.specs.Places.{UndoRow}
 use Rattle.mr_tables.specs.declared.old_errors.OldError.{OldError}
 use Rattle.mr_tables.specs.OldErrors.{old_error_of}
-use Rattle.mr_tables.specs.Rows.{seq_on}
+use Rattle.mr_tables.specs.ExecutionRows.{seq_on}
 use Rattle.mr_replay.specs.Rows.{Rows, executed, undo_row_of, executed_all, undo_rows_of, undone_all}
 
 -- the writes that are kept, in the order of their execution; what undoes each; the board after them
@@ -58,7 +58,7 @@ errors_in seq (w ∷ ws) (u ∷ us) = old_error_at seq w u.place ++ errors_in (s
 
 abbrev pub cancel_at : Write → Action → Place → ℕ → Option CancelRow
 cancel_at w (Books m) p seq = None
-cancel_at w (Cancels target) p seq = Some (cancel_in w target p seq)
+cancel_at w (Cancels target) p seq = Some (cancel_row_for w target p seq)
 
 -- those of these writes that are cancels, the first of them all being the k-th of the order
 abbrev pub cancel_rows : ℕ → ℕ → List Write → List UndoRow → List CancelRow

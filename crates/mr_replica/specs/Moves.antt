@@ -11,7 +11,7 @@ use Rattle.mr_model.specs.Moving.{BatchMoves}
 use Rattle.mr_model.specs.Tables.{seq_of, tables_of}
 use Rattle.mr_replica.specs.declared.kept_writes.NumberedWrite.{NumberedWrite}
 use Rattle.mr_replica.specs.KeptWrites.{numbered_of}
-use Rattle.mr_replica.specs.Taken.{Covers}
+use Rattle.mr_replica.specs.Taken.{CoversScope}
 
 -- the rooms that an item touches, where so many commits are known and these are the kept writes that it may name
 abbrev pub rooms_named : ℕ → List Write → Item → List Text
@@ -40,7 +40,7 @@ pub record ShowsMoves (a b : Replica) (items : List Item) (inside : Write → Bo
   pub moves : BatchMoves a b items
   pub are_touched : AreTouched touched a items
   pub commits_are : commits ≡ length a.commits
-  pub covers : Covers a items inside
+  pub covers : CoversScope a items inside
   pub kept_are : kept ≡ map (numbered_of b) (filter inside (kept_in_order b))
   -- a write that doesn't pass has the commit number that it had
   pub marks : (w : Write) → (seq_of b w ≡ seq_of a w) ⊎ (inside w ≡ true)

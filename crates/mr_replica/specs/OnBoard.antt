@@ -40,8 +40,8 @@ is_cancel_on b row =
     if row.done then is_none (row_at b (cancel_id row)) && is_taken_back (cancel_id row) row.room (row_at b row.target)
     else is_kept_as is_void_kept (row_at b (cancel_id row))
 
-abbrev pub is_done : CancelRow → Bool
-is_done row = row.done
+abbrev pub is_row_done : CancelRow → Bool
+is_row_done row = row.done
 
 -- and as many cancels are done as bookings were taken back
 pub record AreOnBoard (b : Rows) (t : Tables) : Type 0 where
@@ -49,4 +49,4 @@ pub record AreOnBoard (b : Rows) (t : Tables) : Type 0 where
   pub errorlog : All (λ row. IsTrue (is_logged_on b row)) t.errorlog
   pub cancelled : All (λ row. IsTrue (is_cancelled_on b row)) t.cancelled
   pub cancels : All (λ row. IsTrue (is_cancel_on b row)) t.cancels
-  pub as_many : length t.cancelled ≡ length (filter is_done t.cancels)
+  pub as_many : length t.cancelled ≡ length (filter is_row_done t.cancels)

@@ -8,7 +8,7 @@ use Rattle.mr_replay.specs.declared.rows.Kept.{Kept}
 use Rattle.mr_replay.specs.declared.rows.Kept.TheVariants.{OfBooking, OfCancel}
 use Rattle.mr_replay.specs.declared.rows.Row.{Row}
 use Rattle.mr_replay.specs.Places.{UndoRow}
-use Rattle.mr_replay.specs.Rows.{Rows, row_at, taken_back as taken_back_by}
+use Rattle.mr_replay.specs.Rows.{Rows, row_at, target_if_done as taken_back_by}
 use Rattle.mr_tables.specs.declared.summary.Tally.{Tally}
 use Rattle.mr_tables.specs.Change.{ChangeView}
 use Rattle.mr_tables.specs.Written.{with_place}
@@ -59,13 +59,13 @@ abbrev pub kept_is_booking : Kept → Bool
 kept_is_booking (OfBooking slot length title stands) = true
 kept_is_booking (OfCancel target) = false
 
-abbrev pub is_booking_in : Text → Option Row → Bool
-is_booking_in room None = false
-is_booking_in room (Some row) = if bytes_eq row.room room then kept_is_booking row.kept else false
+abbrev pub is_booking_row_in : Text → Option Row → Bool
+is_booking_row_in room None = false
+is_booking_row_in room (Some row) = if bytes_eq row.room room then kept_is_booking row.kept else false
 
 -- whether the board has a booking of this room with this id: one that stands, was taken back or found no slot
 abbrev pub has_booking : Rows → Text → Id → Bool
-has_booking b room id = is_booking_in room (row_at b id)
+has_booking b room id = is_booking_row_in room (row_at b id)
 
 -- the row of a booking that stands, where this cancel takes it back
 abbrev pub taken_row : Id → Option PlaceRow → List PlaceRow

@@ -53,7 +53,7 @@ pub record IsPicked (a : Replica) (items : List Item) (writes : List Write) (pic
 
 -- the batch leads from the first replica, for which the desk stands, to the second one, whose numbers, rooms and kept writes in scope these
 -- are
-pub record Reaches (d : DeskView) (items : List Item) (c : ReachedView) (a b : Replica) : Type 0 where
+pub record BatchReaches (d : DeskView) (items : List Item) (c : ReachedView) (a b : Replica) : Type 0 where
   pub sound : IsReplica a
   pub stands : StandsFor d a
   pub moves : BatchMoves a b items

@@ -18,7 +18,7 @@ use Rattle.mr_replica.specs.declared.kept_rows.KeptRow.{KeptRow}
 use Rattle.mr_replica.specs.declared.kept_rows.RunPlace.{RunPlace}
 use Rattle.mr_replica.specs.KeptRows.{run_place, run_cmp}
 use Rattle.mr_replica.specs.Log.{KeptLog}
-use Rattle.mr_tables.specs.Rows.{seq_on}
+use Rattle.mr_tables.specs.ExecutionRows.{seq_on}
 use Rattle.mr_tables.specs.SoundRows.{Rise}
 
 -- the committed rows that are kept have the numbers behind those of the dropped ones, and the others have none
@@ -46,20 +46,20 @@ mark_of (OfBooking slot length title (CancelledBy cancel)) = Some cancel
 mark_of _ = None
 
 -- the board has the booking of a write that took this choice, whether it stands or a cancel took it back
-abbrev pub HasTaken : Rows → Write → Meeting → Option Slot → Type 0
-HasTaken b w m None = ⊥
-HasTaken b w m (Some s) = (by : Option Id) × HasRow b (id_of w) w.room (kept_with m (Some s) by)
+abbrev pub ShowsBooking : Rows → Write → Meeting → Option Slot → Type 0
+ShowsBooking b w m None = ⊥
+ShowsBooking b w m (Some s) = (by : Option Id) × HasRow b (id_of w) w.room (kept_with m (Some s) by)
 
 -- what the board has of a write at its place: of a cancel that is done its mark in the target's row
-abbrev pub HasPlace : Rows → Write → Action → Place → Type 0
-HasPlace b w (Books m) (Taken k) = HasTaken b w m (slice_get (choices_of m) k)
-HasPlace b w (Books m) Logged = HasRow b (id_of w) w.room (kept_with m None None)
-HasPlace b w (Cancels target) Done = IsTrue (is_taken_back (id_of w) w.room (row_at b target))
-HasPlace b w (Cancels target) Void = HasRow b (id_of w) w.room (OfCancel target)
-HasPlace b w _ _ = ⊥
+abbrev pub ShowsPlace : Rows → Write → Action → Place → Type 0
+ShowsPlace b w (Books m) (Taken k) = ShowsBooking b w m (slice_get (choices_of m) k)
+ShowsPlace b w (Books m) Logged = HasRow b (id_of w) w.room (kept_with m None None)
+ShowsPlace b w (Cancels target) Done = IsTrue (is_taken_back (id_of w) w.room (row_at b target))
+ShowsPlace b w (Cancels target) Void = HasRow b (id_of w) w.room (OfCancel target)
+ShowsPlace b w _ _ = ⊥
 
 abbrev pub IsAtPlace : Rows → KeptRow → Type 0
-IsAtPlace b row = HasPlace b row.write row.write.action row.undo.place
+IsAtPlace b row = ShowsPlace b row.write row.write.action row.undo.place
 
 -- ---- the log
 

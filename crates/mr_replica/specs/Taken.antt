@@ -10,7 +10,7 @@ use Rattle.mr_model.specs.Kept.{kept_in_order}
 use Rattle.mr_model.specs.Scopes.{is_named, is_in_tail, is_touched}
 use Rattle.mr_model.specs.Tables.{seq_of, log_row, tables_of}
 use Rattle.mr_model.specs.Taking.{Progress}
-use Rattle.mr_base.specs.Refusals.{refusal_of}
+use Rattle.mr_base.specs.RefusalViews.{refusal_of}
 use Rattle.mr_base.specs.declared.refusals.Refusal.{Refusal}
 use Rattle.mr_base.specs.declared.refusals.Refusal.TheVariants.{OutOfMemory}
 use Rattle.mr_tables.specs.declared.summary.Summary.{Summary}
@@ -33,8 +33,8 @@ is_inside a items w =
     is_named items (log_row a w) || (is_in_tail (length a.commits) items (log_row a w) && is_touched (tables_of a) items w.room)
 
 -- the test passes each write in scope of the items: those that they name, and those that they may move
-abbrev pub Covers : Replica → List Item → (Write → Bool) → Type 0
-Covers a items inside = (w : Write) → is_inside a items w ≡ true → inside w ≡ true
+abbrev pub CoversScope : Replica → List Item → (Write → Bool) → Type 0
+CoversScope a items inside = (w : Write) → is_inside a items w ≡ true → inside w ≡ true
 
 -- the candidate is what the replica that is reached so far from the first would have of the writes that pass this test
 pub record ShowsTaken (a : Replica) (inside : Write → Bool) (c : Candidate) (p : Progress) : Type 0 where

@@ -14,7 +14,7 @@ ghost use Rattle.mr_tables.specs.Summary.{summary_of, noted_write, noted_commit}
 ghost use Rattle.mr_replica.specs.Desk.{NeverStore, nothing_taken};
 ghost use Rattle.mr_replica.specs.KeptWrites.{logged_at, has_at, with_number};
 ghost use Rattle.mr_replica.specs.Sets.{has_room};
-ghost use Rattle.mr_replica.specs.Taken.{Covers, ShowsTaken, ShowsPicked, TakesPicked, TakenPicked, logged_write_verdict, logged_commit_verdict};
+ghost use Rattle.mr_replica.specs.Taken.{CoversScope, ShowsTaken, ShowsPicked, TakesPicked, TakenPicked, logged_write_verdict, logged_commit_verdict};
 
 use crate::judge::{judge_commit, judge_write};
 use crate::kept_writes::{
@@ -65,7 +65,7 @@ pub fn reached_with(
     items: &[Item],
 ) -> Result<Reached, Refusal>
     ensures takes { (a : Replica) (inside : WriteOfReplica → Bool) → IsReplica a → IsTrue (list_all (is_item Second) (map item_of items.now)) → length items.now + 2 < 2 ^ 64
-        → Covers a (map item_of items.now) inside → summary ≡ summary_of a → rooms.now ≡ a.rooms → kept.items ≡ filter inside (kept_in_order a)
+        → CoversScope a (map item_of items.now) inside → summary ≡ summary_of a → rooms.now ≡ a.rooms → kept.items ≡ filter inside (kept_in_order a)
         → marks.now ≡ map (seq_of a) kept.items → TakenPicked a inside (take_items (map item_of items.now) 2 (Ok (nothing_taken a))) result }
     ensures own { NeverStore result }
 {
@@ -101,7 +101,7 @@ impl Candidate {
     /// Takes these items, the first of which stands in line 2, or tells why the batch is refused.
     fn take_all(&mut self, items: &[Item]) -> Result<(), Refusal>
         ensures takes { (a : Replica) (inside : WriteOfReplica → Bool) (p : Progress) → IsReplica p.replica → IsTrue (list_all (is_item Second) (map item_of items.now))
-            → length items.now + 2 < 2 ^ 64 → Covers a (map item_of items.now) inside → ShowsTaken a inside self.old p
+            → length items.now + 2 < 2 ^ 64 → CoversScope a (map item_of items.now) inside → ShowsTaken a inside self.old p
             → TakesPicked a inside (take_items (map item_of items.now) 2 (Ok p)) result self.new }
         ensures own { NeverStore result }
     {
@@ -113,7 +113,7 @@ impl Candidate {
 
     /// Takes an item that stands in this line, or tells why the batch is refused.
     fn take(&mut self, line: u64, item: &Item) -> Result<(), Refusal>
-        ensures takes { (a : Replica) (items : List ItemOfBatch) (inside : WriteOfReplica → Bool) (p : Progress) → IsReplica p.replica → Has (item_of item.now) items → Covers a items inside
+        ensures takes { (a : Replica) (items : List ItemOfBatch) (inside : WriteOfReplica → Bool) (p : Progress) → IsReplica p.replica → Has (item_of item.now) items → CoversScope a items inside
             → ShowsTaken a inside self.old p → TakesPicked a inside (take_item line p (item_of item.now)) result self.new }
         ensures own { NeverStore result }
     {
@@ -124,7 +124,7 @@ impl Candidate {
     }
 
     fn take_write(&mut self, line: u64, write: &Write) -> Result<(), Refusal>
-        ensures takes { (a : Replica) (items : List ItemOfBatch) (inside : WriteOfReplica → Bool) (p : Progress) → IsReplica p.replica → Has (ItemOfBatch.W write.now) items → Covers a items inside
+        ensures takes { (a : Replica) (items : List ItemOfBatch) (inside : WriteOfReplica → Bool) (p : Progress) → IsReplica p.replica → Has (ItemOfBatch.W write.now) items → CoversScope a items inside
             → ShowsTaken a inside self.old p → TakesPicked a inside (take_write line p write.now) result self.new }
         ensures own { NeverStore result }
     {
@@ -137,7 +137,7 @@ impl Candidate {
     }
 
     fn take_commit(&mut self, line: u64, seq: CommitNumber, id: WriteId) -> Result<(), Refusal>
-        ensures takes { (a : Replica) (items : List ItemOfBatch) (inside : WriteOfReplica → Bool) (p : Progress) → IsReplica p.replica → Has (ItemOfBatch.C seq id) items → Covers a items inside
+        ensures takes { (a : Replica) (items : List ItemOfBatch) (inside : WriteOfReplica → Bool) (p : Progress) → IsReplica p.replica → Has (ItemOfBatch.C seq id) items → CoversScope a items inside
             → ShowsTaken a inside self.old p → TakesPicked a inside (take_commit line p seq id) result self.new }
         ensures own { NeverStore result }
     {

@@ -1,7 +1,7 @@
 ghost use Rattle.std.specs.Prelude.{◌≡◌, ◌≢◌, ◌<◌, Err};
 ghost use Rattle.mr_model.specs.Replies.{BatchIs};
 ghost use Rattle.mr_model.specs.Step.{leave, batch_reply};
-ghost use Rattle.mr_replica.specs.Desk.{TakesStep, NeverStore, IsWithinLimits};
+ghost use Rattle.mr_replica.specs.Desk.{DeskTakesStep, NeverStore, IsWithinLimits};
 
 use crate::Desk;
 use crate::outgoing::outgoing_for;
@@ -12,7 +12,7 @@ impl Desk {
     /// the tentative writes that it lacks, so many lines at most, in the position's version. It is refused where one of the commits
     /// is dropped, and where that version can't say one of these writes, which the second always can.
     pub fn batch(&self, position: &Position, max_lines: LineCount) -> Result<Batch, Refusal>
-        ensures step { TakesStep (λ a. leave a (batch_reply a position.now max_lines)) (λ _ batch. BatchIs batch) self.now result self.now }
+        ensures step { DeskTakesStep (λ a. leave a (batch_reply a position.now max_lines)) (λ _ batch. BatchIs batch) self.now result self.now }
         // A refusal that is due is told without memory.
         ensures due_primary { position.now.primary ≢ self.now.primary → result ≡ Err Refusal.WrongPrimary }
         ensures due_truncated { position.now.primary ≡ self.now.primary → position.now.commits < self.now.dropped → result ≡ Err Refusal.Truncated }

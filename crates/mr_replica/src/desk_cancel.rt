@@ -1,7 +1,7 @@
 ghost use Rattle.std.specs.Prelude.{◌≡◌, ◌<◌, ◌≤◌, true, false, bytes_eq, Err, OnErr, IfOk};
 ghost use Rattle.std.specs.List.{list_any};
 ghost use Rattle.mr_model.specs.Replica.{Replica, IsReplica};
-ghost use Rattle.mr_replica.specs.Desk.{TakesStep, NeverStore, StandsFor};
+ghost use Rattle.mr_replica.specs.Desk.{DeskTakesStep, NeverStore, StandsFor};
 ghost use Rattle.mr_replica.specs.Placing.{has_booking as has_booking_on};
 ghost use Rattle.mr_replica.specs.Steps.{cancel_request, outcome_at_room};
 ghost use Rattle.mr_replica.specs.Turning.{TurnsTables, put_cancel_outcome};
@@ -18,7 +18,7 @@ impl Desk {
     /// stamp of the own server. The change that is answered puts one row into `cancels`, which tells what became of it. Where
     /// it takes its target back, it moves that from `booking` to `cancelled`.
     pub fn cancel(&mut self, room: RoomName, target: WriteId) -> Result<(WriteId, Change), Refusal>
-        ensures step { TakesStep (cancel_request room target) (λ a done. outcome_at_room room a done.0) self.old result self.new }
+        ensures step { DeskTakesStep (cancel_request room target) (λ a done. outcome_at_room room a done.0) self.old result self.new }
         ensures change { TurnsTables (λ done. done.1) self.old result self.new }
         ensures told { (a : Replica) → IsReplica a → StandsFor self.old a
             → IfOk result (λ done. outcome_at_room room (cancel_request room target a).replica done.0 ≡ put_cancel_outcome done.1.cancels) }

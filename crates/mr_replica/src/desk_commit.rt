@@ -3,7 +3,7 @@ ghost use Rattle.mr_model.specs.Writes.{id_of};
 ghost use Rattle.mr_model.specs.Replies.{CommittedIs};
 ghost use Rattle.mr_model.specs.Step.{commit};
 ghost use Rattle.mr_tables.specs.Summary.{committed_len, noted_commits};
-ghost use Rattle.mr_replica.specs.Desk.{TakesStep, NeverStore};
+ghost use Rattle.mr_replica.specs.Desk.{DeskTakesStep, NeverStore};
 ghost use Rattle.mr_replica.specs.Turning.{TurnsTables};
 ghost use Rattle.mr_tables.specs.Written.{meta_of, changed_tallies, written};
 
@@ -22,7 +22,7 @@ impl Desk {
     /// Commits the first k tentative writes, or all where there are fewer, and answers how many they are, and what that
     /// changes in the tables. The order of execution stays, so nothing is executed again.
     pub fn commit(&mut self, k: u64) -> Result<(u64, Change), Refusal>
-        ensures step { TakesStep (λ a. commit a k) (λ _ done. CommittedIs done.0) self.old result self.new }
+        ensures step { DeskTakesStep (λ a. commit a k) (λ _ done. CommittedIs done.0) self.old result self.new }
         ensures change { TurnsTables (λ done. done.1) self.old result self.new }
         ensures err { OnErr result (self.new ≡ self.old) }
         // A refusal that is due is told without memory.

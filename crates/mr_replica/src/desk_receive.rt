@@ -11,12 +11,12 @@ ghost use Rattle.mr_model.specs.Taking.{take_items};
 ghost use Rattle.mr_base.specs.Batches.{item_of};
 ghost use Rattle.mr_replay.specs.Rows.{Rows};
 ghost use Rattle.mr_tables.specs.Change.{changed};
-ghost use Rattle.mr_tables.specs.Rows.{seq_on};
+ghost use Rattle.mr_tables.specs.ExecutionRows.{seq_on};
 ghost use Rattle.mr_tables.specs.Summary.{summary_of};
-ghost use Rattle.mr_replica.specs.Desk.{TakesStep, NeverStore, StandsFor, desk_of, nothing_taken};
+ghost use Rattle.mr_replica.specs.Desk.{DeskTakesStep, NeverStore, StandsFor, desk_of, nothing_taken};
 ghost use Rattle.mr_replica.specs.DeskTables.{desk_tables};
 ghost use Rattle.mr_replica.specs.Taken.{ReachedView};
-ghost use Rattle.mr_replica.specs.Received.{IsMovable, IsPicked, Reaches, IsPlanned, IsReplayed, HasKeptOf, Received};
+ghost use Rattle.mr_replica.specs.Received.{IsMovable, IsPicked, BatchReaches, IsPlanned, IsReplayed, HasKeptOf, Received};
 ghost use Rattle.mr_replica.specs.Turning.{TurnsTables};
 
 use crate::Desk;
@@ -43,7 +43,7 @@ impl Desk {
     /// Takes a batch whole, or not at all, and answers how many of its writes and of its commits were new, and what that
     /// changes in the tables.
     pub fn receive(&mut self, batch: &Batch) -> Result<(u64, u64, Change), Refusal>
-        ensures step { TakesStep (λ a. receive_batch a batch.now) (λ _ taken. Took taken.0 taken.1) self.old result self.new }
+        ensures step { DeskTakesStep (λ a. receive_batch a batch.now) (λ _ taken. Took taken.0 taken.1) self.old result self.new }
         ensures change { TurnsTables (λ taken. taken.2) self.old result self.new }
         ensures err { OnErr result (self.new ≡ self.old) }
         // A refusal that is due for the header is told without memory.
@@ -76,7 +76,7 @@ impl Desk {
     /// Takes the items of a batch, all or none.
     fn take_items(&mut self, items: &[Item]) -> Result<(u64, u64, Change), Refusal>
         ensures step { IsTrue (list_all (is_item Second) (map item_of items.now)) → length items.now + 2 < 2 ^ 64
-            → TakesStep (λ a. after_items a (take_items (map item_of items.now) 2 (Ok (nothing_taken a)))) (λ _ taken. Took taken.0 taken.1) self.old result self.new }
+            → DeskTakesStep (λ a. after_items a (take_items (map item_of items.now) 2 (Ok (nothing_taken a)))) (λ _ taken. Took taken.0 taken.1) self.old result self.new }
         ensures change { IsTrue (list_all (is_item Second) (map item_of items.now)) → length items.now + 2 < 2 ^ 64
             → TurnsTables (λ taken. taken.2) self.old result self.new }
         ensures err { OnErr result (self.new ≡ self.old) }
@@ -159,7 +159,7 @@ impl Desk {
         movable: &Movable,
         reached: Reached,
     ) -> Result<Change, Refusal>
-        ensures reached { (a b : Replica) (items : List ItemOfBatch) → Reaches self.old items reached a b
+        ensures reached { (a b : Replica) (items : List ItemOfBatch) → BatchReaches self.old items reached a b
             → marks.now ≡ map (seq_of a) (kept_in_order a) → IsMovable a items movable.now
             → IfOk result (λ change. (changed change (tables_of a) ≡ tables_of b) × StandsFor self.new b) }
         ensures err { OnErr result (self.new ≡ self.old) }
@@ -204,7 +204,7 @@ impl Desk {
         movable: &Movable,
         kept: &[NumberedWrite],
     ) -> Result<Plan, Refusal>
-        ensures planned { (a b : Replica) (items : List ItemOfBatch) (c : ReachedView) (t : Reaches self.now items c a b) → kept.now ≡ c.kept
+        ensures planned { (a b : Replica) (items : List ItemOfBatch) (c : ReachedView) (t : BatchReaches self.now items c a b) → kept.now ≡ c.kept
             → marks.now ≡ map (seq_of a) (kept_in_order a) → IsMovable a items movable.now → IfOk result (IsPlanned a b items t.moves) }
         ensures only { IfErr result (λ e. e ≡ Refusal.OutOfMemory) }
     {
@@ -252,11 +252,11 @@ fn carried_out(
     movable: &Movable,
     plan: Plan,
 ) -> Result<Change, Refusal>
-    ensures turns { (a b : Replica) (items : List ItemOfBatch) (t : Reaches (desk_of a) items reached.now a b) → old.now ≡ summary_of a → known.now ≡ a.rooms
+    ensures turns { (a b : Replica) (items : List ItemOfBatch) (t : BatchReaches (desk_of a) items reached.now a b) → old.now ≡ summary_of a → known.now ≡ a.rooms
         → trial.old.rows ≡ (desk_of a).log.board → IsPlanned a b items t.moves plan → IfOk result (λ change. changed change (tables_of a) ≡ tables_of b) }
-    ensures board { (a b : Replica) (items : List ItemOfBatch) (t : Reaches (desk_of a) items reached.now a b)
+    ensures board { (a b : Replica) (items : List ItemOfBatch) (t : BatchReaches (desk_of a) items reached.now a b)
         → trial.old.rows ≡ (desk_of a).log.board → IsPlanned a b items t.moves plan → OnOk result (trial.new.rows ≡ (desk_of b).log.board) }
-    ensures log { (a b : Replica) (items : List ItemOfBatch) (t : Reaches (desk_of a) items reached.now a b)
+    ensures log { (a b : Replica) (items : List ItemOfBatch) (t : BatchReaches (desk_of a) items reached.now a b)
         → old.now ≡ summary_of a → trial.old.rows ≡ (desk_of a).log.board
         → IsMovable a items movable.now → IsPlanned a b items t.moves plan → HasKeptOf a log.old → OnOk result (HasKeptOf b log.new) }
     ensures empty { log.new.board ≡ log.old.board }
@@ -331,7 +331,7 @@ fn change_after(
     replay: &Replay,
 ) -> Result<Change, Refusal>
     requires { length replay.now.again.items ≡ length replay.now.rows.items }
-    ensures turns { (a b : Replica) (items : List ItemOfBatch) (c : ReachedView) (t : Reaches (desk_of a) items c a b)
+    ensures turns { (a b : Replica) (items : List ItemOfBatch) (c : ReachedView) (t : BatchReaches (desk_of a) items c a b)
         → summary.now ≡ c.summary → rooms.now ≡ c.rooms → old.now ≡ summary_of a → known.now ≡ a.rooms → IsReplayed a b items t.moves trial.now.rows replay.now
         → IfOk result (λ change. changed change (tables_of a) ≡ tables_of b) }
     ensures only { IfErr result (λ e. e ≡ Refusal.OutOfMemory) }

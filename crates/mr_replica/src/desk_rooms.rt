@@ -2,7 +2,7 @@ ghost use Rattle.std.specs.Prelude.{◌≡◌, true, [], ◌∷◌, bytes_eq, Er
 ghost use Rattle.std.specs.List.{list_any};
 ghost use Rattle.mr_model.specs.Replies.{RoomAdded};
 ghost use Rattle.mr_model.specs.Step.{add_room};
-ghost use Rattle.mr_replica.specs.Desk.{TakesStep, NeverStore};
+ghost use Rattle.mr_replica.specs.Desk.{DeskTakesStep, NeverStore};
 ghost use Rattle.mr_replica.specs.Turning.{TurnsTables};
 ghost use Rattle.mr_tables.specs.Written.{meta_of, written};
 
@@ -17,7 +17,7 @@ use std::alloc::Global;
 impl Desk {
     /// Adds a room that isn't known, and answers what that changes in the tables.
     pub fn add_room(&mut self, room: &RoomName) -> Result<Change, Refusal>
-        ensures step { TakesStep (λ a. add_room a room.now) (λ _ _. RoomAdded) self.old result self.new }
+        ensures step { DeskTakesStep (λ a. add_room a room.now) (λ _ _. RoomAdded) self.old result self.new }
         ensures change { TurnsTables (λ change. change) self.old result self.new }
         ensures err { OnErr result (self.new ≡ self.old) }
         // A refusal that is due is told without memory.

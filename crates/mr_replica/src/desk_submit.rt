@@ -2,7 +2,7 @@ ghost use Rattle.std.specs.Prelude.{◌≡◌, ◌<◌, ◌≤◌, true, false, 
 ghost use Rattle.std.specs.List.{list_any};
 ghost use Rattle.mr_model.specs.Replica.{Replica, IsReplica};
 ghost use Rattle.mr_replica.specs.Accepting.{summary_in, with_last, puts_last, CanPutLast};
-ghost use Rattle.mr_replica.specs.Desk.{TakesStep, NeverStore, StandsFor};
+ghost use Rattle.mr_replica.specs.Desk.{DeskTakesStep, NeverStore, StandsFor};
 ghost use Rattle.mr_replica.specs.Steps.{submit_request, outcome_in};
 ghost use Rattle.mr_replica.specs.Turning.{TurnsTables, put_outcome};
 ghost use Rattle.mr_tables.specs.Summary.{noted_write, tally_at};
@@ -21,7 +21,7 @@ impl Desk {
     /// Accepts a request: it becomes the last write of the order, with the next stamp of the own server. The change that is
     /// answered puts one row into `booking` or into `errorlog`, which tells what became of the request.
     pub fn submit(&mut self, request: Request) -> Result<(WriteId, Change), Refusal>
-        ensures step { TakesStep (submit_request request) (λ a done. outcome_in request a done.0) self.old result self.new }
+        ensures step { DeskTakesStep (submit_request request) (λ a done. outcome_in request a done.0) self.old result self.new }
         ensures change { TurnsTables (λ done. done.1) self.old result self.new }
         ensures told { (a : Replica) → IsReplica a → StandsFor self.old a
             → IfOk result (λ done. outcome_in request (submit_request request a).replica done.0 ≡ put_outcome done.1.booking done.1.errorlog) }

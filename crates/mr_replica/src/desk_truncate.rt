@@ -1,7 +1,7 @@
 ghost use Rattle.std.specs.Prelude.{◌≡◌, ◌≢◌, ◌<◌, Err, OnErr};
 ghost use Rattle.mr_model.specs.Replies.{DroppedIs};
 ghost use Rattle.mr_model.specs.Step.{truncate};
-ghost use Rattle.mr_replica.specs.Desk.{TakesStep, NeverStore};
+ghost use Rattle.mr_replica.specs.Desk.{DeskTakesStep, NeverStore};
 ghost use Rattle.mr_replica.specs.Turning.{TurnsTables};
 
 use crate::Desk;
@@ -13,7 +13,7 @@ impl Desk {
     /// Keeps the first commits up to this number no longer, and answers how many are dropped then, and what that changes in
     /// the tables.
     pub fn truncate(&mut self, number: u64) -> Result<(u64, Change), Refusal>
-        ensures step { TakesStep (λ a. truncate a number) (λ _ done. DroppedIs done.0) self.old result self.new }
+        ensures step { DeskTakesStep (λ a. truncate a number) (λ _ done. DroppedIs done.0) self.old result self.new }
         ensures change { TurnsTables (λ done. done.1) self.old result self.new }
         ensures err { OnErr result (self.new ≡ self.old) }
         // A refusal that is due is told without memory.

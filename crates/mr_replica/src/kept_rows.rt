@@ -11,9 +11,9 @@ ghost use Rattle.mr_model.specs.Tables.{kept, log_row, log_row_with, tables_of};
 ghost use Rattle.mr_base.specs.Answers.{OrOutOfMemory};
 ghost use Rattle.mr_replica.specs.Desk.{desk_of};
 ghost use Rattle.mr_base.specs.Actions.{action_of};
-ghost use Rattle.mr_replay.specs.Places.{place_of};
+ghost use Rattle.mr_replay.specs.Places.{place_seen};
 ghost use Rattle.mr_replay.specs.Rows.{target_of};
-ghost use Rattle.mr_tables.specs.Rows.{seq_on};
+ghost use Rattle.mr_tables.specs.ExecutionRows.{seq_on};
 ghost use Rattle.mr_tables.specs.Summary.{summary_of};
 ghost use Rattle.mr_replica.specs.Logged.{undo_with};
 ghost use Rattle.mr_replica.specs.SoundLog.{log_told, kept_told, IsOfSoundRows};
@@ -138,7 +138,7 @@ fn kept_row(alloc: Global, log: &LogRow) -> Result<KeptRow, Refusal>
 }
 
 fn kept_with(write: Write, place: Place, seq: u64) -> KeptRow
-    ensures { result ≡ kept_row_with write seq (place_of place) }
+    ensures { result ≡ kept_row_with write seq (place_seen place) }
 {
     let undo = UndoRow {
         id: write.stamp.id(),

@@ -3,7 +3,7 @@
 //!
 //! It stands on `mr_tables`, the rows of tables, and on `mr_replay`, the board; `mr_part`, which has a part of the rows, stands above
 //! it, and keepers and services of tables above that. Contracts see a desk as a record (specs/Desk.antt); each call of it is one step
-//! of the definitions, for every replica that the desk stands for (`TakesStep`). The modules that are public, and the functions beside
+//! of the definitions, for every replica that the desk stands for (`DeskTakesStep`). The modules that are public, and the functions beside
 //! `Desk` and the laws, are there for `mr_part`: they go over slices of kept writes, be these all or some of them.
 #![tactic(auto)]
 

@@ -5,8 +5,8 @@ ghost use Rattle.mr_model.specs.Moving.{BatchMoves, again};
 ghost use Rattle.mr_model.specs.Replica.{Replica, IsReplica};
 ghost use Rattle.mr_model.specs.RowsInScope.{kept_commits};
 ghost use Rattle.mr_replay.specs.Rows.{executed_all, undo_rows_of, undone_all};
-ghost use Rattle.mr_replay.specs.Places.{place_of};
-ghost use Rattle.mr_tables.specs.Rows.{seq_on};
+ghost use Rattle.mr_replay.specs.Places.{place_seen};
+ghost use Rattle.mr_tables.specs.ExecutionRows.{seq_on};
 ghost use Rattle.mr_replica.specs.KeptRows.{kept_row};
 ghost use Rattle.mr_replica.specs.Received.{IsMovable, HasKeptOf};
 ghost use Rattle.mr_replica.specs.Log.{pushed, without_front, errors_in, is_logged as is_logged_at, cancel_at, cancel_rows};
@@ -256,7 +256,7 @@ fn push_cancel(
     place: Place,
     seq: u64,
 ) -> Result<(), Refusal>
-    ensures rows { OnOk result (rows.new.items ≡ rows.old.items ++ cons_option (cancel_at write.now write.now.action (place_of place) seq) []) }
+    ensures rows { OnOk result (rows.new.items ≡ rows.old.items ++ cons_option (cancel_at write.now write.now.action (place_seen place) seq) []) }
     ensures only { IfErr result (λ e. e ≡ Refusal.OutOfMemory) }
 {
     match &write.action {

@@ -2,7 +2,7 @@ ghost use Rattle.std.specs.Prelude.{◌≡◌, ◌↔◌, filter, length, not, i
 ghost use Rattle.std.specs.List.{All};
 ghost use Rattle.mr_replay.specs.Rows.{row_at, is_standing};
 ghost use Rattle.mr_replay.specs.Holds.{bears};
-ghost use Rattle.mr_replica.specs.OnBoard.{is_logged_kept, is_void_kept, is_kept_as, is_on_board, is_logged_on, is_cancelled_on, is_cancel_on, is_done, AreOnBoard};
+ghost use Rattle.mr_replica.specs.OnBoard.{is_logged_kept, is_void_kept, is_kept_as, is_on_board, is_logged_on, is_cancelled_on, is_cancel_on, is_row_done, AreOnBoard};
 
 use crate::sound_log::{is_marked_by, is_taken_back};
 use mr_base::WriteId;
@@ -138,13 +138,13 @@ fn is_void_kept(kept: &Kept) -> bool
 
 /// Whether as many of the cancels are done as bookings were taken back.
 fn are_as_many(cancelled: &[CancelledRow], cancels: &[CancelRow]) -> bool
-    ensures { IsTrue result ↔ (length cancelled.now ≡ length (filter is_done cancels.now)) }
+    ensures { IsTrue result ↔ (length cancelled.now ≡ length (filter is_row_done cancels.now)) }
 {
     cancelled.len() == count_done(cancels)
 }
 
 fn count_done(rows: &[CancelRow]) -> usize
-    ensures { result ≡ length (filter is_done rows.now) }
+    ensures { result ≡ length (filter is_row_done rows.now) }
 {
     let mut count = 0;
     for row in rows {

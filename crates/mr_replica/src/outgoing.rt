@@ -3,9 +3,9 @@ ghost use Rattle.std.specs.List.{list_all};
 ghost use Rattle.mr_model.specs.Exchange.{Item as ItemOfBatch, W as WriteLine, C as CommitLine, is_item};
 ghost use Rattle.mr_model.specs.Positions.{count_among};
 ghost use Rattle.mr_model.specs.Step.{lacks};
-ghost use Rattle.mr_base.specs.Positions.{counts_of};
+ghost use Rattle.mr_base.specs.PositionCounts.{counts_of_pairs};
 ghost use Rattle.mr_base.specs.Answers.{ok_if};
-ghost use Rattle.mr_base.specs.Batches.{item_of, batch_of};
+ghost use Rattle.mr_base.specs.Batches.{item_of, batch_seen};
 ghost use Rattle.mr_base.specs.Versions.{version_of};
 ghost use Rattle.mr_replica.specs.Outgoing.{Offers, committed_items, lacked_items, kept_items, ending_by};
 
@@ -47,7 +47,7 @@ impl Outgoing {
         primary: ServerId,
     ) -> Result<Batch, Refusal>
         ensures { result ≡ ok_if (list_all (is_item (version_of version)) (map item_of self.items.items))
-            (batch_of version (Some (from, primary)) self.items.items (ending_by self.more)) Refusal.NeedsVersion2 }
+            (batch_seen version (Some (from, primary)) self.items.items (ending_by self.more)) Refusal.NeedsVersion2 }
     {
         let ending = if self.more {
             Ending::More
@@ -168,7 +168,7 @@ fn is_lacked(position: &Position, write: &Write) -> bool
 
 /// The count of a server.
 fn count_in(counts: &[(ServerId, u32)], server: ServerId) -> u32
-    ensures { result ≡ count_among (counts_of counts.now) server }
+    ensures { result ≡ count_among (counts_of_pairs counts.now) server }
 {
     for count in counts {
         if count.0 == server {

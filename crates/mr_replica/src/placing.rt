@@ -3,7 +3,7 @@ ghost use Rattle.std.specs.Option.{option_copied};
 ghost use Rattle.mr_tables.specs.Cells.{place_row_of};
 ghost use Rattle.mr_replica.specs.DeskTables.{booking_at};
 ghost use Rattle.mr_replica.specs.Placing.{with_places_put, board_place, KeptEnds, TargetEnds, kept_canceller, row_canceller, cancellers_on, kept_is_booking, has_booking, taken_row, taken_rows};
-ghost use Rattle.mr_replay.specs.Rows.{taken_back as taken_back_by};
+ghost use Rattle.mr_replay.specs.Rows.{target_if_done as taken_back_by};
 
 use mr_base::{Refusal, RoomName, Slot, Title, Write, WriteId};
 use mr_replay::{Board, Kept, Place, Row, Standing, Trial, UndoRow};

@@ -8,7 +8,7 @@ ghost use Rattle.mr_model.specs.View.{of_room};
 ghost use Rattle.mr_model.specs.Writes.{Write as WriteOfRoom};
 ghost use Rattle.mr_replay.specs.Places.{UndoRow as UndoRowOfWrite};
 ghost use Rattle.mr_replica.specs.Moves.{moves_in};
-ghost use Rattle.mr_replica.specs.RoomMoves.{move_at, undone_at, again_at, board_after, rows_after, ReplaysRooms};
+ghost use Rattle.mr_replica.specs.RoomMoves.{move_at, undone_at, again_at, board_after_moves, rows_after, ReplaysRooms};
 ghost use Rattle.mr_replica.specs.Sets.{IsSetOf};
 ghost use Rattle.mr_replica.specs.Tails.{IsTail};
 
@@ -53,7 +53,7 @@ pub fn replayed_in_rooms(
 
 /// Undoes and executes in each of the rooms what moves there. The answer has the rows room by room.
 fn replay_rooms(alloc: Global, trial: &mut Trial, moves: RoomMoves) -> Result<Vec<UndoRow>, Refusal>
-    ensures board { OnOk result (trial.new.rows ≡ board_after moves.entries trial.old.rows) }
+    ensures board { OnOk result (trial.new.rows ≡ board_after_moves moves.entries trial.old.rows) }
     ensures rows { IfOk result (λ rows. rows.items ≡ rows_after moves.entries trial.old.rows) }
     ensures before { trial.new.before ≡ trial.old.before }
     ensures ordered { IsOrdered (slice_cmp nat_cmp) moves }

@@ -4,7 +4,7 @@ ghost use Rattle.mr_model.specs.Dropped.{Has};
 ghost use Rattle.mr_model.specs.Writes.{Write as WriteOfRoom, id_of};
 ghost use Rattle.mr_base.specs.Ids.{id_cmp};
 ghost use Rattle.mr_replay.specs.Places.{UndoRow as UndoRowOfWrite};
-ghost use Rattle.mr_replica.specs.RoomMoves.{AreById, row_at, row_or_none};
+ghost use Rattle.mr_replica.specs.RoomMoves.{AreById, first_undo_row, row_or_none};
 
 use mr_base::{Refusal, Write, WriteId};
 use mr_replay::{Place, UndoRow};
@@ -36,7 +36,7 @@ pub(crate) fn rows_in_order(
     rows: &[UndoRow],
     writes: &[Write],
 ) -> Result<Vec<UndoRow>, Refusal>
-    ensures rows { (f : WriteOfRoom → UndoRowOfWrite) → ((w : WriteOfRoom) → Has w writes.now → row_at rows.now (id_of w) ≡ Some (f w))
+    ensures rows { (f : WriteOfRoom → UndoRowOfWrite) → ((w : WriteOfRoom) → Has w writes.now → first_undo_row rows.now (id_of w) ≡ Some (f w))
         → IfOk result (λ r. r.items ≡ map f writes.now) }
     ensures as_many { IfOk result (λ r. length r.items ≡ length writes.now) }
     ensures only { IfErr result (λ e. e ≡ Refusal.OutOfMemory) }

@@ -2,13 +2,13 @@ ghost use Rattle.std.specs.Prelude.{◌≡◌, ◌↔◌, ◌+◌, Some, None, I
 ghost use Rattle.std.specs.List.{All};
 ghost use Rattle.mr_model.specs.Writes.{Books, Cancels, id_of};
 ghost use Rattle.mr_replay.specs.declared.rows.Kept.TheVariants.{OfBooking, OfCancel};
-ghost use Rattle.mr_replay.specs.Places.{place_of};
+ghost use Rattle.mr_replay.specs.Places.{place_seen};
 ghost use Rattle.mr_replay.specs.Rows.{row_at, kept_with};
 ghost use Rattle.mr_replay.specs.Holds.{bears};
 ghost use Rattle.mr_replica.specs.KeptRows.{run_place};
-ghost use Rattle.mr_tables.specs.Rows.{seq_on};
+ghost use Rattle.mr_tables.specs.ExecutionRows.{seq_on};
 ghost use Rattle.mr_tables.specs.SoundRows.{Rise};
-ghost use Rattle.mr_replica.specs.SoundLog.{AreNumbered, is_run_before, is_taken_back, mark_of, HasRow, HasTaken, HasPlace, IsAtPlace, IsLogSound};
+ghost use Rattle.mr_replica.specs.SoundLog.{AreNumbered, is_run_before, is_taken_back, mark_of, HasRow, ShowsBooking, ShowsPlace, IsAtPlace, IsLogSound};
 
 use crate::kept_rows::KeptRow;
 use mr_base::{Action, Meeting, RoomName, Slot, Write, WriteId};
@@ -77,7 +77,7 @@ fn is_at_place(board: &Board, row: &KeptRow) -> bool
 // ---- bookings
 
 fn has_booking(board: &Board, write: &Write, meeting: &Meeting, place: Place) -> bool
-    ensures { IsTrue result ↔ HasPlace board.now write.now (Books meeting.now) (place_of place) }
+    ensures { IsTrue result ↔ ShowsPlace board.now write.now (Books meeting.now) (place_seen place) }
 {
     match place {
         Place::Taken(k) => match choice_of(meeting, k) {
@@ -90,7 +90,7 @@ fn has_booking(board: &Board, write: &Write, meeting: &Meeting, place: Place) ->
 }
 
 fn has_taken(board: &Board, write: &Write, meeting: &Meeting, slot: Slot) -> bool
-    ensures { IsTrue result ↔ HasTaken board.now write.now meeting.now (Some slot) }
+    ensures { IsTrue result ↔ ShowsBooking board.now write.now meeting.now (Some slot) }
 {
     match board.row(write.stamp.id()) {
         Some(row) => {
@@ -162,7 +162,7 @@ fn stands_as(standing: Standing, wanted: Standing) -> bool
 // ---- cancels
 
 fn has_cancel(board: &Board, write: &Write, target: WriteId, place: Place) -> bool
-    ensures { IsTrue result ↔ HasPlace board.now write.now (Cancels target) (place_of place) }
+    ensures { IsTrue result ↔ ShowsPlace board.now write.now (Cancels target) (place_seen place) }
 {
     match place {
         Place::Done => is_taken_back(board, target, &write.room, write.stamp.id()),

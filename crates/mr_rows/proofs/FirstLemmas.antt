@@ -15,9 +15,9 @@ use Rattle.mr_model.proofs.Members.{has_filter, filter_has, find_none, find_one}
 use Rattle.mr_tables.specs.Change.{id_before}
 use Rattle.mr_tables.proofs.Putting.{OneAKey, one_a_key, id_order, number_order}
 use Rattle.mr_rows.specs.Database.{first_meta, tables_in}
-use Rattle.mr_rows.specs.RowCells.{meta_in, booking_in, error_in, cancelled_in, cancel_in}
+use Rattle.mr_rows.specs.RowCells.{meta_in, booking_row_from, error_in, cancelled_in, cancel_row_from}
 use Rattle.mr_rows.specs.Reads.{metas_in, first_of}
-use Rattle.mr_rows.proofs.KeyOrder.{ordered_in_order}
+use Rattle.mr_rows.proofs.SortedByKey.{ordered_in_order}
 use Rattle.mr_rows.proofs.ValueLemmas.{among_one, or_false}
 
 -- ---- the row of an id
@@ -50,7 +50,7 @@ found {R} key id table (r ∷ more) one same =
 
 pub bookings_apart : (trees : Trees) → OneAKey booking_id (tables_in trees).booking
 unfolding tables_in
-bookings_apart trees = one_a_key id_before booking_id id_order _ (ordered_in_order id_before booking_id id_order (map booking_in (trees 10)))
+bookings_apart trees = one_a_key id_before booking_id id_order _ (ordered_in_order id_before booking_id id_order (map booking_row_from (trees 10)))
 
 pub errors_apart : (trees : Trees) → OneAKey error_id (tables_in trees).errorlog
 unfolding tables_in
@@ -62,7 +62,7 @@ cancelled_apart trees = one_a_key id_before cancelled_id id_order _ (ordered_in_
 
 pub cancels_apart : (trees : Trees) → OneAKey cancel_id (tables_in trees).cancels
 unfolding tables_in
-cancels_apart trees = one_a_key id_before cancel_id id_order _ (ordered_in_order id_before cancel_id id_order (map cancel_in (trees 18)))
+cancels_apart trees = one_a_key id_before cancel_id id_order _ (ordered_in_order id_before cancel_id id_order (map cancel_row_from (trees 18)))
 
 pub found_booking : (id : Id) (trees : Trees) (shown : List BookingRow) → IsPermutation (filter (λ (r : BookingRow). is_among (booking_id r) (id ∷ [])) (tables_in trees).booking) shown
     → first_of shown ≡ find (λ r. same_id (booking_id r) id) (tables_in trees).booking

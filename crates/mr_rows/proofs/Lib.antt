@@ -1,7 +1,7 @@
-pub mod Texts
+pub mod StatementMeaning
 pub mod RowLemmas
 pub mod FormLemmas
-pub mod KeyOrder
+pub mod SortedByKey
 pub mod TableLemmas
 pub mod ValueLemmas
 pub mod TableFacts

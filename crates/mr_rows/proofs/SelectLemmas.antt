@@ -21,13 +21,13 @@ use Rattle.mr_model.specs.Tables.{ActionCells, OfMeeting, OfCancel, LogRow, Book
 use Rattle.mr_model.specs.Queries.{booking_id, error_id, cancelled_id, cancel_id}
 use Rattle.mr_rows.specs.RowQuestions.{is_booking_asked, is_error_asked, is_cancelled_asked, is_cancel_asked}
 use Rattle.mr_rows.specs.Meaning.{passes}
-use Rattle.mr_rows.specs.RowCells.{meta_in, room_in, vector_in, log_in, booking_in, error_in, cancelled_in, cancel_in}
+use Rattle.mr_rows.specs.RowCells.{meta_in, room_in, vector_in, log_in, booking_row_from, error_in, cancelled_in, cancel_row_from}
 use Rattle.mr_rows.specs.Schema.{our_schema}
 use Rattle.mr_rows.specs.Shown.{columns_from}
 use Rattle.mr_rows.specs.Form.{Form, meta_form, room_form, vector_form, log_form, booking_form, error_form, cancelled_form, cancel_form}
 use Rattle.mr_rows.specs.Database.{IsOurs, IsRowOf, IsHeld, in_order, tables_in}
 use Rattle.mr_rows.specs.Reads.{metas_in}
-use Rattle.mr_rows.proofs.Texts.{MeansQuery, MeansQueryIn, program_of, all_meta_text, all_meta_is, meta_columns, meta_names, all_room_text, all_room_is, room_columns, room_names, all_vector_text, all_vector_is, vector_columns, vector_names, all_booking_text, all_booking_is, booking_columns, booking_names, all_error_text, all_error_is, error_columns, error_names, all_log_text, all_log_is, log_columns, log_names, all_cancelled_text, all_cancelled_is, cancelled_columns, cancelled_names, all_cancel_text, all_cancel_is, cancel_columns, cancel_names, key_log_text, key_log_is, log_key_tests, between_log_text, between_log_is, log_seq_tests, room_booking_text, room_booking_is, booking_room_tests, key_booking_text, key_booking_is, booking_key_tests, room_error_text, room_error_is, error_room_tests, key_error_text, key_error_is, error_key_tests, room_cancelled_text, room_cancelled_is, cancelled_room_tests, key_cancelled_text, key_cancelled_is, cancelled_key_tests, room_cancel_text, room_cancel_is, cancel_room_tests, key_cancel_text, key_cancel_is, cancel_key_tests, write_log_text, write_log_is, undo_text, undo_is, server_columns, server_names}
+use Rattle.mr_rows.proofs.StatementMeaning.{MeansQuery, MeansQueryIn, program_of, all_meta_text, all_meta_is, meta_columns, meta_names, all_room_text, all_room_is, room_columns, room_names, all_vector_text, all_vector_is, vector_columns, vector_names, all_booking_text, all_booking_is, booking_columns, booking_names, all_error_text, all_error_is, error_columns, error_names, all_log_text, all_log_is, log_columns, log_names, all_cancelled_text, all_cancelled_is, cancelled_columns, cancelled_names, all_cancel_text, all_cancel_is, cancel_columns, cancel_names, key_log_text, key_log_is, log_key_tests, between_log_text, between_log_is, log_seq_tests, room_booking_text, room_booking_is, booking_room_tests, key_booking_text, key_booking_is, booking_key_tests, room_error_text, room_error_is, error_room_tests, key_error_text, key_error_is, error_key_tests, room_cancelled_text, room_cancelled_is, cancelled_room_tests, key_cancelled_text, key_cancelled_is, cancelled_key_tests, room_cancel_text, room_cancel_is, cancel_room_tests, key_cancel_text, key_cancel_is, cancel_key_tests, write_log_text, write_log_is, undo_text, undo_is, server_columns, server_names}
 use Rattle.mr_rows.proofs.ValueLemmas.{equal_text, and_true, id_test, between_test}
 use Rattle.mr_rows.proofs.RowLemmas.{filter_all_true}
 use Rattle.mr_rows.proofs.FormLemmas.{shows}
@@ -58,7 +58,7 @@ pub shows_all_log : (old new : State) (rows : List Row) → IsOurs old.now → S
 unfolding tables_in
 shows_all_log old new rows ours = shows_all log_form log_facts all_log_text log_columns log_names old new rows all_log_is (λ r is. refl) ours.schema ours.held.log
 
-pub shows_all_booking : (old new : State) (rows : List Row) → IsOurs old.now → Shown all_booking_text [] old new rows → IsPermutation ((tables_in old.now.trees).booking) (map (λ r. booking_in (Null ∷ r)) rows)
+pub shows_all_booking : (old new : State) (rows : List Row) → IsOurs old.now → Shown all_booking_text [] old new rows → IsPermutation ((tables_in old.now.trees).booking) (map (λ r. booking_row_from (Null ∷ r)) rows)
 unfolding tables_in
 shows_all_booking old new rows ours = shows_all booking_form booking_facts all_booking_text booking_columns booking_names old new rows all_booking_is (λ r is. refl) ours.schema ours.held.booking
 
@@ -70,7 +70,7 @@ pub shows_all_cancelled : (old new : State) (rows : List Row) → IsOurs old.now
 unfolding tables_in
 shows_all_cancelled old new rows ours = shows_all cancelled_form cancelled_facts all_cancelled_text cancelled_columns cancelled_names old new rows all_cancelled_is (λ r is. refl) ours.schema ours.held.cancelled
 
-pub shows_all_cancel : (old new : State) (rows : List Row) → IsOurs old.now → Shown all_cancel_text [] old new rows → IsPermutation ((tables_in old.now.trees).cancels) (map (λ r. cancel_in (Null ∷ r)) rows)
+pub shows_all_cancel : (old new : State) (rows : List Row) → IsOurs old.now → Shown all_cancel_text [] old new rows → IsPermutation ((tables_in old.now.trees).cancels) (map (λ r. cancel_row_from (Null ∷ r)) rows)
 unfolding tables_in
 shows_all_cancel old new rows ours = shows_all cancel_form cancel_facts all_cancel_text cancel_columns cancel_names old new rows all_cancel_is (λ r is. refl) ours.schema ours.held.cancels
 
@@ -97,18 +97,18 @@ shows_between_log low high old new rows ours shown =
     (λ r is. ap (passes log_seq_tests (Int (pos low) ∷ Int (pos high) ∷ [])) is ∙ log_within low high (Int (id_in (rowid r))) (log_in r)) (λ r is. refl) ours.schema ours.held.log shown
 
 pub shows_room_booking : (room : texts.Text) (old new : State) (rows : List Row) → IsOurs old.now → Shown room_booking_text (Text room ∷ []) old new rows
-    → IsPermutation (filter (is_booking_asked room) (tables_in old.now.trees).booking) (map (λ r. booking_in (Null ∷ r)) rows)
+    → IsPermutation (filter (is_booking_asked room) (tables_in old.now.trees).booking) (map (λ r. booking_row_from (Null ∷ r)) rows)
 unfolding tables_in
 shows_room_booking room old new rows ours shown =
     finds_rows booking_form booking_facts room_booking_text booking_room_tests booking_columns booking_names (Text room ∷ []) old new (is_booking_asked room) rows room_booking_is
-    (λ r is. ap (passes booking_room_tests (Text room ∷ [])) is ∙ and_true _ ∙ equal_text (booking_in r).room room) (λ r is. refl) ours.schema ours.held.booking shown
+    (λ r is. ap (passes booking_room_tests (Text room ∷ [])) is ∙ and_true _ ∙ equal_text (booking_row_from r).room room) (λ r is. refl) ours.schema ours.held.booking shown
 
 pub shows_key_booking : (id : Id) (old new : State) (rows : List Row) → IsOurs old.now → Shown key_booking_text (Int (pos id.server) ∷ Int (pos id.n) ∷ []) old new rows
-    → IsPermutation (filter (λ (r : BookingRow). is_among (booking_id r) (id ∷ [])) (tables_in old.now.trees).booking) (map (λ r. booking_in (Null ∷ r)) rows)
+    → IsPermutation (filter (λ (r : BookingRow). is_among (booking_id r) (id ∷ [])) (tables_in old.now.trees).booking) (map (λ r. booking_row_from (Null ∷ r)) rows)
 unfolding tables_in
 shows_key_booking id old new rows ours shown =
     finds_rows booking_form booking_facts key_booking_text booking_key_tests booking_columns booking_names (Int (pos id.server) ∷ Int (pos id.n) ∷ []) old new (λ r. is_among (booking_id r) (id ∷ [])) rows key_booking_is
-    (λ r is. ap (passes booking_key_tests (Int (pos id.server) ∷ Int (pos id.n) ∷ [])) is ∙ id_test (booking_in r).server (booking_in r).n id) (λ r is. refl) ours.schema ours.held.booking shown
+    (λ r is. ap (passes booking_key_tests (Int (pos id.server) ∷ Int (pos id.n) ∷ [])) is ∙ id_test (booking_row_from r).server (booking_row_from r).n id) (λ r is. refl) ours.schema ours.held.booking shown
 
 pub shows_room_error : (room : texts.Text) (old new : State) (rows : List Row) → IsOurs old.now → Shown room_error_text (Text room ∷ []) old new rows
     → IsPermutation (filter (is_error_asked room) (tables_in old.now.trees).errorlog) (map (λ r. error_in (Null ∷ r)) rows)
@@ -139,18 +139,18 @@ shows_key_cancelled id old new rows ours shown =
     (λ r is. ap (passes cancelled_key_tests (Int (pos id.server) ∷ Int (pos id.n) ∷ [])) is ∙ id_test (cancelled_in r).server (cancelled_in r).n id) (λ r is. refl) ours.schema ours.held.cancelled shown
 
 pub shows_room_cancel : (room : texts.Text) (old new : State) (rows : List Row) → IsOurs old.now → Shown room_cancel_text (Text room ∷ []) old new rows
-    → IsPermutation (filter (is_cancel_asked room) (tables_in old.now.trees).cancels) (map (λ r. cancel_in (Null ∷ r)) rows)
+    → IsPermutation (filter (is_cancel_asked room) (tables_in old.now.trees).cancels) (map (λ r. cancel_row_from (Null ∷ r)) rows)
 unfolding tables_in
 shows_room_cancel room old new rows ours shown =
     finds_rows cancel_form cancel_facts room_cancel_text cancel_room_tests cancel_columns cancel_names (Text room ∷ []) old new (is_cancel_asked room) rows room_cancel_is
-    (λ r is. ap (passes cancel_room_tests (Text room ∷ [])) is ∙ and_true _ ∙ equal_text (cancel_in r).room room) (λ r is. refl) ours.schema ours.held.cancels shown
+    (λ r is. ap (passes cancel_room_tests (Text room ∷ [])) is ∙ and_true _ ∙ equal_text (cancel_row_from r).room room) (λ r is. refl) ours.schema ours.held.cancels shown
 
 pub shows_key_cancel : (id : Id) (old new : State) (rows : List Row) → IsOurs old.now → Shown key_cancel_text (Int (pos id.server) ∷ Int (pos id.n) ∷ []) old new rows
-    → IsPermutation (filter (λ (r : CancelRow). is_among (cancel_id r) (id ∷ [])) (tables_in old.now.trees).cancels) (map (λ r. cancel_in (Null ∷ r)) rows)
+    → IsPermutation (filter (λ (r : CancelRow). is_among (cancel_id r) (id ∷ [])) (tables_in old.now.trees).cancels) (map (λ r. cancel_row_from (Null ∷ r)) rows)
 unfolding tables_in
 shows_key_cancel id old new rows ours shown =
     finds_rows cancel_form cancel_facts key_cancel_text cancel_key_tests cancel_columns cancel_names (Int (pos id.server) ∷ Int (pos id.n) ∷ []) old new (λ r. is_among (cancel_id r) (id ∷ [])) rows key_cancel_is
-    (λ r is. ap (passes cancel_key_tests (Int (pos id.server) ∷ Int (pos id.n) ∷ [])) is ∙ id_test (cancel_in r).server (cancel_in r).n id) (λ r is. refl) ours.schema ours.held.cancels shown
+    (λ r is. ap (passes cancel_key_tests (Int (pos id.server) ∷ Int (pos id.n) ∷ [])) is ∙ id_test (cancel_row_from r).server (cancel_row_from r).n id) (λ r is. refl) ours.schema ours.held.cancels shown
 
 -- ---- the same of rows that may be any
 

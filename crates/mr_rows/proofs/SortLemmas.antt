@@ -20,12 +20,12 @@ use Rattle.mr_model.specs.Changes.{IdBefore}
 use Rattle.mr_tables.specs.Change.{id_before, log_id}
 use Rattle.mr_tables.proofs.Putting.{InOrder, id_before-true, id_order, number_order, name_order}
 use Rattle.mr_base.specs.Ids.{id_cmp}
-use Rattle.mr_replay.proofs.Ids.{ids_total}
+use Rattle.mr_replay.proofs.IdKeys.{ids_total}
 use Rattle.mr_rows.specs.Reads.{time_cmp}
 use Rattle.sqlite_trees.specs.Tree.{Trees}
-use Rattle.mr_rows.specs.RowCells.{room_in, vector_in, log_in, booking_in, error_in, cancelled_in, cancel_in}
+use Rattle.mr_rows.specs.RowCells.{room_in, vector_in, log_in, booking_row_from, error_in, cancelled_in, cancel_row_from}
 use Rattle.mr_rows.specs.Database.{tables_in}
-use Rattle.mr_rows.proofs.KeyOrder.{ordered_in_order}
+use Rattle.mr_rows.proofs.SortedByKey.{ordered_in_order}
 
 -- ---- the orders are total
 
@@ -111,7 +111,7 @@ logs_rise trees = rising id_before log_id _ (λ a b. id_less (log_id a) (log_id 
 
 pub bookings_rise : (trees : Trees) → IsAscending (λ a b. id_cmp (booking_id a) (booking_id b) ≡ Less) (tables_in trees).booking
 unfolding tables_in
-bookings_rise trees = rising id_before booking_id _ (λ a b. id_less (booking_id a) (booking_id b)) _ (ordered_in_order id_before booking_id id_order (map booking_in (trees 10)))
+bookings_rise trees = rising id_before booking_id _ (λ a b. id_less (booking_id a) (booking_id b)) _ (ordered_in_order id_before booking_id id_order (map booking_row_from (trees 10)))
 
 pub errors_rise : (trees : Trees) → IsAscending (λ a b. id_cmp (error_id a) (error_id b) ≡ Less) (tables_in trees).errorlog
 unfolding tables_in
@@ -123,4 +123,4 @@ cancelled_rise trees = rising id_before cancelled_id _ (λ a b. id_less (cancell
 
 pub cancels_rise : (trees : Trees) → IsAscending (λ a b. id_cmp (cancel_id a) (cancel_id b) ≡ Less) (tables_in trees).cancels
 unfolding tables_in
-cancels_rise trees = rising id_before cancel_id _ (λ a b. id_less (cancel_id a) (cancel_id b)) _ (ordered_in_order id_before cancel_id id_order (map cancel_in (trees 18)))
+cancels_rise trees = rising id_before cancel_id _ (λ a b. id_less (cancel_id a) (cancel_id b)) _ (ordered_in_order id_before cancel_id id_order (map cancel_row_from (trees 18)))

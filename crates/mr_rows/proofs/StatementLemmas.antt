@@ -14,13 +14,13 @@ use Rattle.mr_model.specs.Writes.{Id}
 use Rattle.mr_model.specs.Replay.{Place, Taken, Logged, Done, Void}
 use Rattle.mr_model.specs.Tables.{MetaRow, VectorRow, ActionCells, OfMeeting, OfCancel, LogRow, BookingRow, ErrorRow, CancelledRow, CancelRow, Tables}
 use Rattle.mr_model.proofs.WordsReadBack.{date-text}
-use Rattle.mr_rows.specs.RowCells.{mark, nat_of, place_number, place_in}
+use Rattle.mr_rows.specs.RowCells.{flag_number, nat_of, place_number, place_in}
 use Rattle.mr_rows.specs.Form.{meta_form, room_form, vector_form, log_form, booking_form, error_form, cancelled_form, cancel_form}
 use Rattle.std.specs.Prelude.{nat_lt}
 use Rattle.mr_tables.specs.Change.{put}
 use Rattle.mr_rows.specs.Database.{first_meta, IsOurs, IsTablesStep, MakesTables, tables_in}
 use Rattle.mr_rows.specs.ChangeParts.{take_logs, take_bookings, take_errors, take_cancelled, put_meta, put_rooms, put_vector, put_logs, put_bookings, put_errors, put_cancelled, put_cancels}
-use Rattle.mr_rows.proofs.Texts.{take_log_text, take_log_is, take_booking_text, take_booking_is, take_error_text, take_error_is, take_cancelled_text, take_cancelled_is, put_meta_text, put_meta_is, put_room_text, put_room_is, put_vector_text, put_vector_is, put_log_text, put_log_is, put_booking_text, put_booking_is, put_error_text, put_error_is, put_cancelled_text, put_cancelled_is, put_cancel_text, put_cancel_is}
+use Rattle.mr_rows.proofs.StatementMeaning.{take_log_text, take_log_is, take_booking_text, take_booking_is, take_error_text, take_error_is, take_cancelled_text, take_cancelled_is, put_meta_text, put_meta_is, put_room_text, put_room_is, put_vector_text, put_vector_is, put_log_text, put_log_is, put_booking_text, put_booking_is, put_error_text, put_error_is, put_cancelled_text, put_cancelled_is, put_cancel_text, put_cancel_is}
 use Rattle.mr_rows.proofs.TableLemmas.{takes, puts}
 use Rattle.mr_rows.proofs.TableFacts.{meta_facts, room_facts, vector_facts, log_facts, booking_facts, error_facts, cancelled_facts, cancel_facts}
 use Rattle.std.proofs.lemmas.Result.{on_ok_weaker}
@@ -28,7 +28,7 @@ use Rattle.mr_rows.proofs.StepLemmas.{meta_step, room_step, vector_step, log_ste
 
 -- ---- plain rows are read back off their cells
 
-marked : (c : Bool) → (nat_of (Int (mark c)) == 1) ≡ c
+marked : (c : Bool) → (nat_of (Int (flag_number c)) == 1) ≡ c
 marked true = refl
 marked false = refl
 

@@ -20,9 +20,9 @@ use Rattle.mr_model.specs.Tables.{MetaRow, VectorRow, ActionCells, OfMeeting, Of
 use Rattle.mr_tables.proofs.Putting.{id_order, number_order, name_order}
 use Rattle.mr_rows.specs.Meaning.{passes}
 use Rattle.mr_rows.specs.Schema.{our_schema}
-use Rattle.mr_rows.specs.RowCells.{mark, place_number, room_in, vector_in, log_in, booking_in, error_in, cancelled_in, cancel_in}
+use Rattle.mr_rows.specs.RowCells.{flag_number, place_number, room_in, vector_in, log_in, booking_row_from, error_in, cancelled_in, cancel_row_from}
 use Rattle.mr_rows.specs.Form.{meta_form, room_form, vector_form, log_form, booking_form, error_form, cancelled_form, cancel_form}
-use Rattle.mr_rows.proofs.Texts.{put_meta_terms, put_room_terms, put_vector_terms, put_booking_terms, put_error_terms, put_log_terms, put_cancelled_terms, put_cancel_terms, meta_key_tests, room_key_tests, vector_key_tests, booking_key_tests, error_key_tests, log_key_tests, cancelled_key_tests, cancel_key_tests}
+use Rattle.mr_rows.proofs.StatementMeaning.{put_meta_terms, put_room_terms, put_vector_terms, put_booking_terms, put_error_terms, put_log_terms, put_cancelled_terms, put_cancel_terms, meta_key_tests, room_key_tests, vector_key_tests, booking_key_tests, error_key_tests, log_key_tests, cancelled_key_tests, cancel_key_tests}
 use Rattle.mr_rows.proofs.ValueLemmas.{equal_nat, equal_text, equal_apart, and_true, id_test, among_one, one_among, clash_one, clash_two, cast_null, cast_int}
 use Rattle.mr_rows.proofs.TableLemmas.{Facts}
 
@@ -114,7 +114,7 @@ vector_facts = record {
 -- ---- tables with the key server, n
 
 pub cast_booking : (v : Value) (b : BookingRow) → cast Integer v ≡ v → cast_row booking_form.table (v ∷ booking_form.cells b) ≡ v ∷ booking_form.cells b
-cast_booking v b same = rw (same, cast_int (pos b.start), cast_int (pos b.stop), cast_int (pos b.server), cast_int (pos b.n), cast_int (mark b.committed))
+cast_booking v b same = rw (same, cast_int (pos b.start), cast_int (pos b.stop), cast_int (pos b.server), cast_int (pos b.n), cast_int (flag_number b.committed))
 
 unfoldable pub booking_facts : Facts our_schema booking_form
 unfolding first_key
@@ -124,7 +124,7 @@ booking_facts = record {
   key_cells = λ id. Int (pos id.server) ∷ Int (pos id.n) ∷ [];
   key_tests = booking_key_tests;
   has_key = λ id b. is_among (booking_form.key b) (id ∷ []);
-  finds = λ id r is. ap (passes booking_key_tests (Int (pos id.server) ∷ Int (pos id.n) ∷ [])) is ∙ id_test (booking_in r).server (booking_in r).n id;
+  finds = λ id r is. ap (passes booking_key_tests (Int (pos id.server) ∷ Int (pos id.n) ∷ [])) is ∙ id_test (booking_row_from r).server (booking_row_from r).n id;
   same_key = λ id b h. among_one (booking_form.key b) id h;
   own_key = λ x y same. one_among (booking_form.key y) (booking_form.key x) same;
   terms = put_booking_terms;
@@ -223,7 +223,7 @@ log_facts = record {
 
 pub cast_cancelled : (v : Value) (c : CancelledRow) → cast Integer v ≡ v → cast_row cancelled_form.table (v ∷ cancelled_form.cells c) ≡ v ∷ cancelled_form.cells c
 cast_cancelled v c same =
-    rw (same, cast_int (pos c.start), cast_int (pos c.stop), cast_int (pos c.server), cast_int (pos c.n), cast_int (mark c.committed), cast_int (pos c.by.server), cast_int (pos c.by.n))
+    rw (same, cast_int (pos c.start), cast_int (pos c.stop), cast_int (pos c.server), cast_int (pos c.n), cast_int (flag_number c.committed), cast_int (pos c.by.server), cast_int (pos c.by.n))
 
 unfoldable pub cancelled_facts : Facts our_schema cancelled_form
 unfolding first_key
@@ -251,7 +251,7 @@ cancelled_facts = record {
 
 pub cast_cancel : (v : Value) (c : CancelRow) → cast Integer v ≡ v → cast_row cancel_form.table (v ∷ cancel_form.cells c) ≡ v ∷ cancel_form.cells c
 cast_cancel v c same =
-    rw (same, cast_int (pos c.server), cast_int (pos c.n), cast_int (pos c.target.server), cast_int (pos c.target.n), cast_int (mark c.done), cast_int (pos c.time), cast_int (pos c.seq))
+    rw (same, cast_int (pos c.server), cast_int (pos c.n), cast_int (pos c.target.server), cast_int (pos c.target.n), cast_int (flag_number c.done), cast_int (pos c.time), cast_int (pos c.seq))
 
 unfoldable pub cancel_facts : Facts our_schema cancel_form
 unfolding first_key
@@ -261,7 +261,7 @@ cancel_facts = record {
   key_cells = λ id. Int (pos id.server) ∷ Int (pos id.n) ∷ [];
   key_tests = cancel_key_tests;
   has_key = λ id c. is_among (cancel_form.key c) (id ∷ []);
-  finds = λ id r is. ap (passes cancel_key_tests (Int (pos id.server) ∷ Int (pos id.n) ∷ [])) is ∙ id_test (cancel_in r).server (cancel_in r).n id;
+  finds = λ id r is. ap (passes cancel_key_tests (Int (pos id.server) ∷ Int (pos id.n) ∷ [])) is ∙ id_test (cancel_row_from r).server (cancel_row_from r).n id;
   same_key = λ id c h. among_one (cancel_form.key c) id h;
   own_key = λ x y same. one_among (cancel_form.key y) (cancel_form.key x) same;
   terms = put_cancel_terms;

@@ -35,10 +35,10 @@ use Rattle.mr_tables.proofs.Putting.{IsOrder}
 use Rattle.mr_rows.specs.Meaning.{passes}
 use Rattle.mr_rows.specs.Form.{Form}
 use Rattle.mr_rows.specs.Database.{IsRowOf, IsHeld, in_order}
-use Rattle.mr_rows.proofs.Texts.{MeansIn, MeansQueryIn, program_of}
+use Rattle.mr_rows.proofs.StatementMeaning.{MeansIn, MeansQueryIn, program_of}
 use Rattle.mr_rows.proofs.RowLemmas.{shelf_filter, shelf_push, next_above, ascending_push}
 use Rattle.mr_rows.proofs.FormLemmas.{deletes, upserts, shows, Leaves}
-use Rattle.mr_rows.proofs.KeyOrder.{Apart, ordered-filter, ordered-put, ordered_same}
+use Rattle.mr_rows.proofs.SortedByKey.{Apart, ordered-filter, ordered-put, ordered_same}
 
 -- What is computed of a table under a schema: how a statement finds the rows of a key, and how it makes a row of parameters.
 pub record Facts (under : Schema) {R K : Type 0} (f : Form R K) : Type 1 where

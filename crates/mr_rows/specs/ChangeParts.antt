@@ -5,21 +5,21 @@ use Rattle.mr_model.specs.Writes.{Id}
 use Rattle.mr_model.specs.Replica.{text_before}
 use Rattle.mr_model.specs.Tables.{MetaRow, VectorRow, LogRow, BookingRow, ErrorRow, CancelledRow, CancelRow, Tables}
 use Rattle.mr_model.specs.Queries.{booking_id, error_id, cancelled_id, cancel_id}
-use Rattle.mr_tables.specs.Change.{ChangeView, put_all, without, id_before, log_id}
+use Rattle.mr_tables.specs.Change.{ChangeView, put_all, rows_without, id_before, log_id}
 
 -- ---- rows taken away
 
 abbrev pub take_logs : List Id → Tables → Tables
-take_logs gone t = record t { log = without log_id gone t.log }
+take_logs gone t = record t { log = rows_without log_id gone t.log }
 
 abbrev pub take_bookings : List Id → Tables → Tables
-take_bookings gone t = record t { booking = without booking_id gone t.booking }
+take_bookings gone t = record t { booking = rows_without booking_id gone t.booking }
 
 abbrev pub take_errors : List Id → Tables → Tables
-take_errors gone t = record t { errorlog = without error_id gone t.errorlog }
+take_errors gone t = record t { errorlog = rows_without error_id gone t.errorlog }
 
 abbrev pub take_cancelled : List Id → Tables → Tables
-take_cancelled gone t = record t { cancelled = without cancelled_id gone t.cancelled }
+take_cancelled gone t = record t { cancelled = rows_without cancelled_id gone t.cancelled }
 
 -- ---- rows put
 

@@ -9,7 +9,7 @@ use Rattle.mr_model.specs.Queries.{booking_id, error_id, cancelled_id, cancel_id
 use Rattle.mr_tables.specs.Change.{id_before, log_id}
 use Rattle.sqlite_schema.specs.declared.schema.Table.{Table}
 use Rattle.mr_rows.specs.Schema.{meta_table, room_table, vector_table, booking_table, error_table, log_table, cancelled_table, cancel_table}
-use Rattle.mr_rows.specs.RowCells.{meta_cells, meta_in, room_cells, room_in, vector_cells, vector_in, log_cells, log_in, booking_cells, booking_in, error_cells, error_in, cancelled_cells, cancelled_in, cancel_cells, cancel_in}
+use Rattle.mr_rows.specs.RowCells.{meta_cells, meta_in, room_cells, room_in, vector_cells, vector_in, log_cells, log_in, booking_cells, booking_row_from, error_cells, error_in, cancelled_cells, cancelled_in, cancel_cells, cancel_row_from}
 
 -- plain rows R with keys K
 pub record Form (R K : Type 0) : Type 0 where
@@ -30,7 +30,7 @@ abbrev pub vector_form : Form VectorRow ℕ
 vector_form = record { table = record vector_table { tree = 4 }; cells = vector_cells; row_in = vector_in; key = λ row. row.server; before = nat_lt }
 
 abbrev pub booking_form : Form BookingRow Id
-booking_form = record { table = record booking_table { tree = 10 }; cells = booking_cells; row_in = booking_in; key = booking_id; before = id_before }
+booking_form = record { table = record booking_table { tree = 10 }; cells = booking_cells; row_in = booking_row_from; key = booking_id; before = id_before }
 
 abbrev pub error_form : Form ErrorRow Id
 error_form = record { table = record error_table { tree = 12 }; cells = error_cells; row_in = error_in; key = error_id; before = id_before }
@@ -43,4 +43,4 @@ abbrev pub cancelled_form : Form CancelledRow Id
 cancelled_form = record { table = record cancelled_table { tree = 16 }; cells = cancelled_cells; row_in = cancelled_in; key = cancelled_id; before = id_before }
 
 abbrev pub cancel_form : Form CancelRow Id
-cancel_form = record { table = record cancel_table { tree = 18 }; cells = cancel_cells; row_in = cancel_in; key = cancel_id; before = id_before }
+cancel_form = record { table = record cancel_table { tree = 18 }; cells = cancel_cells; row_in = cancel_row_from; key = cancel_id; before = id_before }

@@ -25,8 +25,8 @@ nat_in (negsuc n) = 0
 abbrev pub nat_of : Value → ℕ
 nat_of v = nat_in (whole_of v)
 
-abbrev pub mark : Bool → ℤ
-mark b = if b then pos 1 else pos 0
+abbrev pub flag_number : Bool → ℤ
+flag_number b = if b then pos 1 else pos 0
 
 -- a place is the number of its choice, or -1 for Logged, -2 for Done, -3 for Void
 abbrev pub place_number : Place → ℤ
@@ -102,10 +102,10 @@ log_in r = record {
 
 abbrev pub booking_cells : BookingRow → Row
 booking_cells b = Text b.room ∷ Text (date_text b.day) ∷ Int (pos b.start) ∷ Int (pos b.stop) ∷ Int (pos b.server) ∷ Int (pos b.n) ∷ Text b.title
-    ∷ Int (mark b.committed) ∷ []
+    ∷ Int (flag_number b.committed) ∷ []
 
-abbrev pub booking_in : Row → BookingRow
-booking_in r = record {
+abbrev pub booking_row_from : Row → BookingRow
+booking_row_from r = record {
   room = bytes (column r 1);
   day = date_in (bytes (column r 2));
   start = nat_of (column r 3);
@@ -135,7 +135,7 @@ error_in r = record {
 
 abbrev pub cancelled_cells : CancelledRow → Row
 cancelled_cells c = Text c.room ∷ Text (date_text c.day) ∷ Int (pos c.start) ∷ Int (pos c.stop) ∷ Int (pos c.server) ∷ Int (pos c.n) ∷ Text c.title
-    ∷ Int (mark c.committed) ∷ Int (pos c.by.server) ∷ Int (pos c.by.n) ∷ []
+    ∷ Int (flag_number c.committed) ∷ Int (pos c.by.server) ∷ Int (pos c.by.n) ∷ []
 
 abbrev pub cancelled_in : Row → CancelledRow
 cancelled_in r = record {
@@ -151,11 +151,11 @@ cancelled_in r = record {
 }
 
 abbrev pub cancel_cells : CancelRow → Row
-cancel_cells c = Int (pos c.server) ∷ Int (pos c.n) ∷ Text c.room ∷ Int (pos c.target.server) ∷ Int (pos c.target.n) ∷ Int (mark c.done) ∷ Int (pos c.time)
+cancel_cells c = Int (pos c.server) ∷ Int (pos c.n) ∷ Text c.room ∷ Int (pos c.target.server) ∷ Int (pos c.target.n) ∷ Int (flag_number c.done) ∷ Int (pos c.time)
     ∷ Int (pos c.seq) ∷ []
 
-abbrev pub cancel_in : Row → CancelRow
-cancel_in r = record {
+abbrev pub cancel_row_from : Row → CancelRow
+cancel_row_from r = record {
   server = nat_of (column r 1);
   n = nat_of (column r 2);
   room = bytes (column r 3);

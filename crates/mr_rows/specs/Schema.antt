@@ -138,11 +138,11 @@ no_schema = record { tables = []; indexes = []; views = [] }
 abbrev pub with_meta : Schema
 with_meta = created no_schema meta_table
 
-abbrev pub with_room : Schema
-with_room = created with_meta room_table
+abbrev pub with_room_table : Schema
+with_room_table = created with_meta room_table
 
 abbrev pub with_vector : Schema
-with_vector = created with_room vector_table
+with_vector = created with_room_table vector_table
 
 abbrev pub with_write_log : Schema
 with_write_log = created with_vector write_log_table

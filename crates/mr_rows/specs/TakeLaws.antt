@@ -4,23 +4,23 @@ use Rattle.mr_model.specs.Writes.{Id, same_id}
 use Rattle.mr_model.specs.Replica.{is_among}
 use Rattle.mr_model.specs.Tables.{Tables}
 use Rattle.mr_model.specs.Queries.{booking_id, error_id, cancelled_id}
-use Rattle.mr_tables.specs.Change.{without, log_id}
+use Rattle.mr_tables.specs.Change.{rows_without, log_id}
 use Rattle.mr_rows.specs.ChangeParts.{take_logs, take_bookings, take_errors, take_cancelled}
 
 -- the first, and then the others
 without_more : {R : Type 0} (key : R → Id) (id : Id) (ids : List Id) (rows : List R)
-    → without key (id ∷ ids) rows ≡ without key ids (without key (id ∷ []) rows)
+    → rows_without key (id ∷ ids) rows ≡ rows_without key ids (rows_without key (id ∷ []) rows)
 without_more key id ids [] = refl
 without_more key id ids (row ∷ rows) = go (same_id (key row) id) (without_more key id ids rows)
   where
-    go : (b : Bool) → without key (id ∷ ids) rows ≡ without key ids (without key (id ∷ []) rows)
-        → cond (not (b || is_among (key row) ids)) (row ∷ without key (id ∷ ids) rows) (without key (id ∷ ids) rows)
-        ≡ without key ids (cond (not (b || false)) (row ∷ without key (id ∷ []) rows) (without key (id ∷ []) rows))
+    go : (b : Bool) → rows_without key (id ∷ ids) rows ≡ rows_without key ids (rows_without key (id ∷ []) rows)
+        → cond (not (b || is_among (key row) ids)) (row ∷ rows_without key (id ∷ ids) rows) (rows_without key (id ∷ ids) rows)
+        ≡ rows_without key ids (cond (not (b || false)) (row ∷ rows_without key (id ∷ []) rows) (rows_without key (id ∷ []) rows))
     go true ih = ih
     go false ih = ap (λ more. cond (not (is_among (key row) ids)) (row ∷ more) more) ih
 
 -- none taken away
-without_none : {R : Type 0} (key : R → Id) (rows : List R) → without key [] rows ≡ rows
+without_none : {R : Type 0} (key : R → Id) (rows : List R) → rows_without key [] rows ≡ rows
 without_none key [] = refl
 without_none key (row ∷ rows) = ap (λ more. row ∷ more) (without_none key rows)
 

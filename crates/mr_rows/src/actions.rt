@@ -4,7 +4,7 @@ ghost use Rattle.sqlite_value.specs.Order.{column, bytes};
 ghost use Rattle.mr_model.specs.Writes.{Id};
 ghost use Rattle.mr_model.specs.Replay.{Done, Void};
 ghost use Rattle.mr_model.specs.Tables.{MeetingCells as CellsOfMeeting, OfMeeting, OfCancel};
-ghost use Rattle.mr_replay.specs.Places.{place_of};
+ghost use Rattle.mr_replay.specs.Places.{place_seen};
 ghost use Rattle.mr_tables.specs.Cells.{action_cells};
 ghost use Rattle.mr_rows.specs.RowCells.{nat_of, whole_of, action_row, action_in, place_in, place_number};
 ghost use Rattle.mr_rows.specs.Shown.{columns_from};
@@ -117,10 +117,10 @@ pub(crate) fn test_action(row: &Row) -> Result<bool, Error>
 
 /// The place of a write with this action, in the column 10: a booking has a choice or is in the error log, a cancel is done or void.
 pub(crate) fn read_place_of(row: &Row, action: &ActionCells) -> Result<Place, Error>
-    ensures place { IfOk result (λ place. place_of place ≡ place_in (whole_of (column row.now 10))) }
-    ensures cell { IfOk result (λ place. column row.now 10 ≡ Int (place_number (place_of place))) }
-    ensures booking { IfOk result (λ place. (m : CellsOfMeeting) → action_cells action.now ≡ OfMeeting m → (place_of place ≢ Done) × (place_of place ≢ Void)) }
-    ensures cancel { IfOk result (λ place. (target : Id) → action_cells action.now ≡ OfCancel target → (place_of place ≡ Done) ⊎ (place_of place ≡ Void)) }
+    ensures place { IfOk result (λ place. place_seen place ≡ place_in (whole_of (column row.now 10))) }
+    ensures cell { IfOk result (λ place. column row.now 10 ≡ Int (place_number (place_seen place))) }
+    ensures booking { IfOk result (λ place. (m : CellsOfMeeting) → action_cells action.now ≡ OfMeeting m → (place_seen place ≢ Done) × (place_seen place ≢ Void)) }
+    ensures cancel { IfOk result (λ place. (target : Id) → action_cells action.now ≡ OfCancel target → (place_seen place ≡ Done) ⊎ (place_seen place ≡ Void)) }
 {
     let place = read_place(row, 10)?;
     let fits = match action {

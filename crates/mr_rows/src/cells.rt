@@ -3,8 +3,8 @@ ghost use Rattle.sqlite_value.specs.declared.value.Value.TheVariants.{Int, Text}
 ghost use Rattle.sqlite_value.specs.Order.{column, bytes};
 ghost use Rattle.mr_model.specs.Calendar.{date_in, date_text};
 ghost use Rattle.mr_model.specs.Writes.{greatest_alternatives};
-ghost use Rattle.mr_replay.specs.Places.{place_of};
-ghost use Rattle.mr_rows.specs.RowCells.{mark, nat_of, whole_of, place_in, place_number};
+ghost use Rattle.mr_replay.specs.Places.{place_seen};
+ghost use Rattle.mr_rows.specs.RowCells.{flag_number, nat_of, whole_of, place_in, place_number};
 
 use mr_base::{Day, Refusal, RoomName, ServerId, Title, WriteId, is_room_text, is_title_text};
 use mr_replay::Place;
@@ -164,8 +164,8 @@ pub fn read_u64(row: &Row, at: usize) -> Result<u64, Error>
 
 /// The place in this column: the number of its choice, -1 for the error log, -2 and -3 for a cancel that is done or void.
 pub fn read_place(row: &Row, at: usize) -> Result<Place, Error>
-    ensures place { IfOk result (λ place. place_of place ≡ place_in (whole_of (column row.now at))) }
-    ensures cell { IfOk result (λ place. column row.now at ≡ Int (place_number (place_of place))) }
+    ensures place { IfOk result (λ place. place_seen place ≡ place_in (whole_of (column row.now at))) }
+    ensures cell { IfOk result (λ place. column row.now at ≡ Int (place_number (place_seen place))) }
     ensures refused { IfErr result
         (λ e. e ≢ Error.SqliteFailure ErrorCode.OutOfMemory → at < length row.now → (n : ℕ) → n ≤ greatest_alternatives → column row.now at ≢ Int (pos n)) }
     ensures others { IfErr result
@@ -192,7 +192,7 @@ pub fn read_text(row: &Row, at: usize) -> Result<String, Error>
 /// The mark in this column, which is 0 or 1.
 pub(crate) fn read_mark(row: &Row, at: usize) -> Result<bool, Error>
     ensures mark { IfOk result (λ m. m ≡ (nat_of (column row.now at) == 1)) }
-    ensures cell { IfOk result (λ m. column row.now at ≡ Int (mark m)) }
+    ensures cell { IfOk result (λ m. column row.now at ≡ Int (flag_number m)) }
 {
     let number = read_u32(row, at)?;
     if number > 1 {

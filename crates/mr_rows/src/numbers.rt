@@ -1,6 +1,6 @@
 ghost use Rattle.std.specs.Prelude.{◌≡◌, ◌<◌, ◌≤◌, ◌^◌, IfOk, IfErr, pos};
 ghost use Rattle.sqlite_value.specs.declared.value.Value.TheVariants.{Int};
-ghost use Rattle.mr_replay.specs.Places.{place_of};
+ghost use Rattle.mr_replay.specs.Places.{place_seen};
 ghost use Rattle.mr_rows.specs.RowCells.{place_number};
 
 use mr_replay::Place;
@@ -42,7 +42,7 @@ pub struct PlaceNumber {
 }
 
 impl<'a> ToSql<'a> for PlaceNumber {
-    ghost to_sql = { λ p. Int (place_number (place_of p.place)) };
+    ghost to_sql = { λ p. Int (place_number (place_seen p.place)) };
 
     fn to_sql(self) -> ValueRef<'a> {
         match self.place {

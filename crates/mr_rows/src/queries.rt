@@ -11,7 +11,7 @@ ghost use Rattle.mr_model.specs.Replica.{is_among};
 ghost use Rattle.mr_model.specs.Queries.{booking_id, error_id, cancelled_id, cancel_id};
 ghost use Rattle.mr_tables.specs.Change.{log_id};
 ghost use Rattle.mr_rows.specs.Schema.{our_schema};
-ghost use Rattle.mr_rows.specs.RowCells.{meta_in, log_in, booking_in, error_in, cancelled_in, cancel_in};
+ghost use Rattle.mr_rows.specs.RowCells.{meta_in, log_in, booking_row_from, error_in, cancelled_in, cancel_row_from};
 ghost use Rattle.mr_rows.specs.Database.{tables_in};
 ghost use Rattle.mr_rows.specs.Shown.{columns_from};
 ghost use Rattle.mr_rows.specs.Reads.{ReadsKept, Looks, metas_in};
@@ -109,7 +109,7 @@ pub fn select_room_booking<S: Alter>(
     ensures autocommit { conn.new.in_transaction ≡ false }
     ensures reads { ReadsKept (state S.Store conn.old) (state S.Store conn.new) result
         (λ rows. IsPermutation (filter (is_booking_asked room.now) (tables_in (state S.Store conn.old).now.trees).booking)
-        (map (λ row. booking_in (Null ∷ row)) rows.items)) }
+        (map (λ row. booking_row_from (Null ∷ row)) rows.items)) }
 {
     ask(conn, ROOM_BOOKINGS, params![room.as_str()])
 }
@@ -125,7 +125,7 @@ pub fn select_key_booking<S: Alter>(
     ensures reads { ReadsKept (state S.Store conn.old) (state S.Store conn.new) result
         (λ rows. IsPermutation
         (filter (λ r. is_among (booking_id r) (record { server = server; n = n } ∷ [])) (tables_in (state S.Store conn.old).now.trees).booking)
-        (map (λ row. booking_in (Null ∷ row)) rows.items)) }
+        (map (λ row. booking_row_from (Null ∷ row)) rows.items)) }
 {
     ask(
         conn,
@@ -215,7 +215,7 @@ pub fn select_room_cancel<S: Alter>(
     ensures autocommit { conn.new.in_transaction ≡ false }
     ensures reads { ReadsKept (state S.Store conn.old) (state S.Store conn.new) result
         (λ rows. IsPermutation (filter (is_cancel_asked room.now) (tables_in (state S.Store conn.old).now.trees).cancels)
-        (map (λ row. cancel_in (Null ∷ row)) rows.items)) }
+        (map (λ row. cancel_row_from (Null ∷ row)) rows.items)) }
 {
     ask(
         conn,
@@ -235,7 +235,7 @@ pub fn select_key_cancel<S: Alter>(
     ensures reads { ReadsKept (state S.Store conn.old) (state S.Store conn.new) result
         (λ rows. IsPermutation
         (filter (λ r. is_among (cancel_id r) (record { server = server; n = n } ∷ [])) (tables_in (state S.Store conn.old).now.trees).cancels)
-        (map (λ row. cancel_in (Null ∷ row)) rows.items)) }
+        (map (λ row. cancel_row_from (Null ∷ row)) rows.items)) }
 {
     ask(
         conn,

@@ -1,7 +1,7 @@
 ghost use Rattle.std.specs.Prelude.{◌≡◌, ◌≢◌, ◌≤◌, ◌⊎◌, IfOk, IfErr};
 ghost use Rattle.std.specs.String.{string_bytes};
 ghost use Rattle.std.specs.Io.KnownBytes.{Appends};
-ghost use Rattle.mr_base.specs.Refusals.{refusal_of};
+ghost use Rattle.mr_base.specs.RefusalViews.{refusal_of};
 ghost use Rattle.mr_service.specs.Asked.{reply_of};
 ghost use Rattle.mr_model.specs.Refusals.{refusal_text};
 ghost use Rattle.mr_model.specs.Texts.{line};

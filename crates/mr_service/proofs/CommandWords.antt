@@ -10,9 +10,9 @@ use Rattle.mr_model.specs.Positions.{Position, read_position}
 use Rattle.mr_model.specs.Refusals as model
 use Rattle.mr_model.specs.Step.{AddRoom, Submit, Cancel, Receive, BatchFor, Submission, refuse, leave, add_room, receive_batch, receive_read, batch_reply, reply_to_position}
 use Rattle.mr_model.specs.Requests.{Request}
-use Rattle.mr_wire.specs.Answers.{IsRefusedFor}
+use Rattle.mr_wire.specs.BatchAnswers.{IsRefusedFor}
 use Rattle.mr_base.specs.Answers.{OrOutOfMemory, Gives, ok_if}
-use Rattle.mr_base.specs.Refusals.{refusal_of}
+use Rattle.mr_base.specs.RefusalViews.{refusal_of}
 use Rattle.mr_base.specs.declared.refusals.Refusal.{Refusal}
 use Rattle.mr_base.specs.declared.refusals.Refusal.TheVariants as refusal
 use Rattle.mr_base.specs.Readings.{read_id}
@@ -20,7 +20,7 @@ use Rattle.mr_replica.specs.Steps.{word_faults, request_in, submit_request, canc
 use Rattle.mr_replica.proofs.Submitting.{submission_is_request, cancel_is_request}
 use Rattle.mr_service.specs.SubmittedWords.{ok_unless, request_or_fault}
 use Rattle.mr_service.proofs.DeskSteps.{Does}
-use Rattle.mr_service.proofs.Submissions.{request_known, submit_refused}
+use Rattle.mr_service.proofs.SubmissionSteps.{request_known, submit_refused}
 
 -- ---- rooms
 

@@ -5,7 +5,7 @@ use Rattle.mr_model.specs.Step.{Command, IsOfMachine, no_memory, no_store, refus
 use Rattle.mr_model.specs.Refusals as model
 use Rattle.mr_model.specs.Tables.{Tables, Stands}
 use Rattle.mr_model.specs.Serving.{TakesStep}
-use Rattle.mr_base.specs.Refusals.{refusal_of}
+use Rattle.mr_base.specs.RefusalViews.{refusal_of}
 use Rattle.mr_base.specs.declared.refusals.Refusal.{Refusal}
 use Rattle.mr_base.specs.declared.refusals.Refusal.TheVariants as refusal
 use Rattle.mr_store.specs.KeeperCalls.{fault_refusal, failures_for}

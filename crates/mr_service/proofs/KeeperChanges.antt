@@ -8,7 +8,7 @@ use Rattle.mr_model.specs.Refusals as model
 use Rattle.mr_model.specs.Tables.{Tables, tables_of, Stands}
 use Rattle.mr_model.specs.Serving.{TakesStep, Reaches}
 use Rattle.mr_model.proofs.StepsKeep.{step_keeps}
-use Rattle.mr_base.specs.Refusals.{refusal_of}
+use Rattle.mr_base.specs.RefusalViews.{refusal_of}
 use Rattle.mr_base.specs.declared.refusals.Refusal.{Refusal}
 use Rattle.mr_base.specs.declared.refusals.Refusal.TheVariants as refusal
 use Rattle.mr_tables.specs.Change.{ChangeView, changed}

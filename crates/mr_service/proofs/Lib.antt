@@ -11,13 +11,13 @@ pub mod ReplyHalves
 pub mod RowOrder
 pub mod RunsGrow
 pub mod HeadlineLaws
-pub mod Submissions
+pub mod SubmissionSteps
 pub mod WordsRead
-pub mod Lines
+pub mod LineLists
 pub mod StepServers
 pub mod MemberSteps
 pub mod WorldMembers
-pub mod WorldSteps
+pub mod KeeperWorldSteps
 pub mod WorldRuns
 mod LawfulRuns
 pub mod PoolTexts

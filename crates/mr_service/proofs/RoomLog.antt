@@ -24,7 +24,7 @@ use Rattle.mr_tables.specs.declared.place_rows.PlaceRow as code
 use Rattle.mr_tables.specs.declared.place_rows.PlaceRow.TheVariants as place
 use Rattle.mr_tables.specs.Cells.{place_row_of}
 use Rattle.mr_store.specs.Picked.{picked_errors, picked_cancels, IsPlaceOf}
-use Rattle.mr_service.specs.Asked.{line_of}
+use Rattle.mr_service.specs.Asked.{log_line_seen}
 use Rattle.mr_service.specs.declared.replies.LogLine as replies
 use Rattle.mr_service.specs.Questions.{lines_of, log_key, line_key, log_key_cmp, row_of_cancel}
 use Rattle.mr_service.proofs.OneRow.{one_place}
@@ -73,10 +73,10 @@ log_order : (ls : List LogLine) → Sorted LineBefore ls → AreInLogOrder ls
 log_order [] s = tt
 log_order (x ∷ xs) s = (s.0, log_order xs s.1)
 
-lines_mapped : (ls : List replies.LogLine) → Sorted (λ x y. LineBefore (line_of x) (line_of y)) ls → Sorted LineBefore (map line_of ls)
+lines_mapped : (ls : List replies.LogLine) → Sorted (λ x y. LineBefore (log_line_seen x) (log_line_seen y)) ls → Sorted LineBefore (map log_line_seen ls)
 lines_mapped [] s = tt
 lines_mapped (x ∷ xs) s =
-    (has_all (LineBefore (line_of x)) (map line_of xs) (λ l a. let (y, b, e) = map_has line_of l xs a in subst (LineBefore (line_of x)) (sym e) (all_has (λ z. LineBefore (line_of x) (line_of z)) y xs s.0 b)), lines_mapped xs s.1)
+    (has_all (LineBefore (log_line_seen x)) (map log_line_seen xs) (λ l a. let (y, b, e) = map_has log_line_seen l xs a in subst (LineBefore (log_line_seen x)) (sym e) (all_has (λ z. LineBefore (log_line_seen x) (log_line_seen z)) y xs s.0 b)), lines_mapped xs s.1)
 
 -- ---- its lines
 
@@ -152,27 +152,27 @@ module _ (r : Replica) (room : Text) (requests : List ErrorRow) (cancels : List 
           in
           cc bad)
 
-  log_all : (lines : List replies.LogLine) → IsPermutation (lines_of requests cancels) (map line_of lines) → IsSortedByKey line_key log_key_cmp lines → filter_map logging_of (whole_list (view_of r room)) ≡ map line_logging (map line_of lines)
+  log_all : (lines : List replies.LogLine) → IsPermutation (lines_of requests cancels) (map log_line_seen lines) → IsSortedByKey line_key log_key_cmp lines → filter_map logging_of (whole_list (view_of r room)) ≡ map line_logging (map log_line_seen lines)
   log_all lines moved up =
-      errors_told r room (map line_of lines) h
-      (log_order (map line_of lines)
+      errors_told r room (map log_line_seen lines) h
+      (log_order (map log_line_seen lines)
       (lines_mapped lines
-      (in_strict_order (λ x. line_id (line_of x)) (λ x y. LineBefore (line_of x) (line_of y)) (λ a b. is_lt (log_key_cmp (line_key a) (line_key b)))
-      (λ x y z p q. line_transitive (line_of x) (line_of y) (line_of z) p q) (λ x y p. key_tested (line_of x) (line_of y) p)
-      lines (sorted_map (λ x y. same_id (line_id x) (line_id y) ≡ false) line_of lines (permuted_apart line_id (lines_of requests cancels) (map line_of lines) moved lines_apart)) up
+      (in_strict_order (λ x. line_id (log_line_seen x)) (λ x y. LineBefore (log_line_seen x) (log_line_seen y)) (λ a b. is_lt (log_key_cmp (line_key a) (line_key b)))
+      (λ x y z p q. line_transitive (log_line_seen x) (log_line_seen y) (log_line_seen z) p q) (λ x y p. key_tested (log_line_seen x) (log_line_seen y) p)
+      lines (sorted_map (λ x y. same_id (line_id x) (line_id y) ≡ false) log_line_seen lines (permuted_apart line_id (lines_of requests cancels) (map log_line_seen lines) moved lines_apart)) up
       (λ x y a b apart.
-      either_before LineBefore (line_of x) (line_of y) (room_lines r room) (lines_sorted r room h)
-      (is_of_line r room (line_of x) h (is_given (line_of x) (has_map line_of x lines a))) (is_of_line r room (line_of y) h (is_given (line_of y) (has_map line_of y lines b)))
-      (λ e. true≢false (sym (same_id_from (line_id (line_of x)) (line_id (line_of y)) (ap line_id e)) ∙ apart))))))
-      (λ l. (is_given l, λ p. permuted_has l (lines_of requests cancels) (map line_of lines) moved (is_line l p)))
+      either_before LineBefore (log_line_seen x) (log_line_seen y) (room_lines r room) (lines_sorted r room h)
+      (is_of_line r room (log_line_seen x) h (is_given (log_line_seen x) (has_map log_line_seen x lines a))) (is_of_line r room (log_line_seen y) h (is_given (log_line_seen y) (has_map log_line_seen y lines b)))
+      (λ e. true≢false (sym (same_id_from (line_id (log_line_seen x)) (line_id (log_line_seen y)) (ap line_id e)) ∙ apart))))))
+      (λ l. (is_given l, λ p. permuted_has l (lines_of requests cancels) (map log_line_seen lines) moved (is_line l p)))
     where
-      is_given : (l : LogLine) → Has l (map line_of lines) → IsLineOf r room l
-      is_given l a = line_is l (has_permuted l (lines_of requests cancels) (map line_of lines) moved a)
+      is_given : (l : LogLine) → Has l (map log_line_seen lines) → IsLineOf r room l
+      is_given l a = line_is l (has_permuted l (lines_of requests cancels) (map log_line_seen lines) moved a)
 
 -- the error log of a room is its error rows and void cancels, sorted by these keys
 pub log_rows : (r : Replica) (room : Text) (requests : List ErrorRow) (cancels : List CancelRow) (lines : List replies.LogLine) → IsReplica r → AreLogged r room requests cancels
-    → IsPermutation (lines_of requests cancels) (map line_of lines) → IsSortedByKey line_key log_key_cmp lines
-    → filter_map logging_of (whole_list (view_of r room)) ≡ map line_logging (map line_of lines)
+    → IsPermutation (lines_of requests cancels) (map log_line_seen lines) → IsSortedByKey line_key log_key_cmp lines
+    → filter_map logging_of (whole_list (view_of r room)) ≡ map line_logging (map log_line_seen lines)
 log_rows r room requests cancels lines h are moved up = log_all r room requests cancels h are lines moved up
 
 -- ---- the row of a write

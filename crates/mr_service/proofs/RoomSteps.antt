@@ -21,13 +21,13 @@ use Rattle.mr_model.proofs.RowsTell.{booked_tell, erred_tell, cancel_tell}
 use Rattle.mr_model.proofs.UniqueReplay.{some_inj, none_some}
 use Rattle.mr_base.specs.Answers.{ok_if}
 use Rattle.mr_base.specs.Readings.{read_id}
-use Rattle.mr_base.specs.Refusals.{refusal_of}
+use Rattle.mr_base.specs.RefusalViews.{refusal_of}
 use Rattle.mr_base.specs.declared.refusals.Refusal.{Refusal}
 use Rattle.mr_base.specs.declared.refusals.Refusal.TheVariants as refusal
 use Rattle.mr_tables.specs.declared.place_rows.PlaceRow as code
 use Rattle.mr_tables.specs.Cells.{place_row_of}
 use Rattle.mr_store.specs.Picked.{picked_bookings, picked_errors, picked_cancelled, picked_cancels, booking_before, AreBookings, IsPlaceOf}
-use Rattle.mr_service.specs.Asked.{line_of, outcome_of}
+use Rattle.mr_service.specs.Asked.{log_line_seen, outcome_seen}
 use Rattle.mr_service.specs.declared.replies.LogLine as replies
 use Rattle.mr_service.specs.declared.replies.Outcome.{Outcome}
 use Rattle.mr_service.specs.Questions.{room_fault, FindsRoom, ShowsCalendar, ShowsLines, TellsOutcomeOf, committed_rows, row_of_cancel, lines_of, line_key, log_key_cmp}
@@ -194,18 +194,18 @@ no_id_found id v e = go (is_id_text id) e
     go false f = refl
 
 -- a row tells of its write
-pub booked_tells : (t : Tables) (room : Text) (row : BookingRow) (o : Outcome) → outcome_of o ≡ booked_outcome row → TellsOutcomeOf room t (rows.Booked row) (Ok o)
+pub booked_tells : (t : Tables) (room : Text) (row : BookingRow) (o : Outcome) → outcome_seen o ≡ booked_outcome row → TellsOutcomeOf room t (rows.Booked row) (Ok o)
 booked_tells t room row o is = λ a h there own. booked_tell a room row h.sound (subst (λ u. IsRowIn u (rows.Booked row)) h.are there) own ∙ ap OutcomeIs (sym is)
 
-pub logged_tells : (t : Tables) (room : Text) (row : ErrorRow) (o : Outcome) → outcome_of o ≡ logged_outcome row → TellsOutcomeOf room t (rows.Erred row) (Ok o)
+pub logged_tells : (t : Tables) (room : Text) (row : ErrorRow) (o : Outcome) → outcome_seen o ≡ logged_outcome row → TellsOutcomeOf room t (rows.Erred row) (Ok o)
 logged_tells t room row o is = λ a h there own. erred_tell a room row h.sound (subst (λ u. IsRowIn u (rows.Erred row)) h.are there) own ∙ ap OutcomeIs (sym is)
 
-pub cancel_tells : (t : Tables) (room : Text) (row : CancelRow) (o : Outcome) → outcome_of o ≡ cancel_outcome row → TellsOutcomeOf room t (rows.Cancel row) (Ok o)
+pub cancel_tells : (t : Tables) (room : Text) (row : CancelRow) (o : Outcome) → outcome_seen o ≡ cancel_outcome row → TellsOutcomeOf room t (rows.Cancel row) (Ok o)
 cancel_tells t room row o is = λ a h there own. cancel_tell a room row h.sound (subst (λ u. IsRowIn u (rows.Cancel row)) h.are there) own ∙ ap OutcomeIs (sym is)
 
 -- that of a booking that was taken back with the row of the cancel, which there is
 pub cancelled_tells : (t : Tables) (room : Text) (row : CancelledRow) (found : Option code.PlaceRow) (by : CancelRow) (o : Outcome)
-    → IsPlaceOf room row.by t found → row_of_cancel found ≡ Some by → outcome_of o ≡ cancelled_outcome row by → TellsOutcomeOf room t (rows.Cancelled row) (Ok o)
+    → IsPlaceOf room row.by t found → row_of_cancel found ≡ Some by → outcome_seen o ≡ cancelled_outcome row by → TellsOutcomeOf room t (rows.Cancelled row) (Ok o)
 cancelled_tells t room row found by o at is said = λ a h there own.
     let (c, e, told) = cancel_found a room row found h.sound (subst (λ u. IsRowIn u (rows.Cancelled row)) h.are there) own (subst (λ u. IsPlaceOf room row.by u found) h.are at) in
     told ∙ ap (λ x. OutcomeIs (cancelled_outcome row x)) (some_inj c by (sym e ∙ is)) ∙ ap OutcomeIs (sym said)
@@ -218,13 +218,13 @@ never_without t room row found e at is = λ a h there own.
 
 -- the outcome of a write is what its row tells
 pub outcome_step : (t u : Tables) (room found id : Text) (i : Id) (place : code.PlaceRow) (o : Outcome) → Ok i ≡ ok_or (read_id id) refusal.NoSuchRequest → u ≡ t → FindsRoom t.room room (Ok found) → IsPlaceOf found i t (Some place)
-    → TellsOutcomeOf found t (place_row_of place) (Ok o) → TakesStep t (Ask room (AskOutcome id)) (OutcomeIs (outcome_of o)) u
+    → TellsOutcomeOf found t (place_row_of place) (Ok o) → TakesStep t (Ask room (AskOutcome id)) (OutcomeIs (outcome_seen o)) u
 outcome_step t u room found id i place o read same finds at tells =
-    answered t u room found (AskOutcome id) (λ v. outcome_reply (find_request id v)) (OutcomeIs (outcome_of o)) (λ v. refl) same finds
+    answered t u room found (AskOutcome id) (λ v. outcome_reply (find_request id v)) (OutcomeIs (outcome_seen o)) (λ v. refl) same finds
     (λ a sound stands.
     let of = place_found a room i place (subst (λ x. IsPlaceOf x i (tables_of a) (Some place)) finds.0 (subst (λ x. IsPlaceOf found i x (Some place)) stands at)) in
     let said = subst (λ x. TellsOutcomeOf x t (place_row_of place) (Ok o)) finds.0 tells a (record { sound = sound; are = stands }) (subst (λ x. IsRowIn x (place_row_of place)) (sym stands) of.there) of.in_room in
-    sym (subst (λ x. outcome_reply (told_of x (whole_list (view_of a room))) ≡ OutcomeIs (outcome_of o)) of.of_id said)
+    sym (subst (λ x. outcome_reply (told_of x (whole_list (view_of a room))) ≡ OutcomeIs (outcome_seen o)) of.of_id said)
     ∙ ap outcome_reply (sym (id_found id i (view_of a room) (ok_read (read_id id) refusal.NoSuchRequest i read))))
 
 -- or memory or the store failed where the row of a cancel was looked up
@@ -262,7 +262,7 @@ errors_refused t u room e same finds = refused t u room AskErrors (λ v. Errors 
 -- error rows and void cancels, sorted, show it
 pub lines_shown : (t : Tables) (room : Text) (requests : List ErrorRow) (cancels : List CancelRow) (lines : List replies.LogLine)
     → IsPermutation (picked_errors room t) requests → IsPermutation (picked_cancels room t) cancels
-    → IsPermutation (lines_of requests cancels) (map line_of lines) → IsSortedByKey line_key log_key_cmp lines → ShowsLines room t (map line_of lines)
+    → IsPermutation (lines_of requests cancels) (map log_line_seen lines) → IsSortedByKey line_key log_key_cmp lines → ShowsLines room t (map log_line_seen lines)
 lines_shown t room requests cancels lines erred by moved up = λ a h.
     log_rows a room requests cancels lines h.sound
     (record {

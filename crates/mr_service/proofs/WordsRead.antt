@@ -14,8 +14,8 @@ use Rattle.mr_model.specs.Refusals as model
 use Rattle.mr_model.specs.Step.{SlotWords, Submission, choice_words, slot_of, is_length_text, is_bad_length}
 use Rattle.mr_model.specs.Requests.{Request, is_length_for}
 use Rattle.mr_model.proofs.UniqueReplay.{some_inj, none_some}
-use Rattle.mr_base.specs.Answers.{OrOutOfMemory, Gives, unless, ok_if}
-use Rattle.mr_base.specs.Refusals.{answer_of}
+use Rattle.mr_base.specs.Answers.{OrOutOfMemory, Gives, unless_faulty, ok_if}
+use Rattle.mr_base.specs.RefusalViews.{answer_of}
 use Rattle.mr_base.specs.Limits as base
 use Rattle.mr_base.specs.declared.refusals.Refusal.{Refusal}
 use Rattle.mr_base.specs.declared.refusals.Refusal.TheVariants.{BadDay, BadTime, BadLength, BadRoomName, BadTitle, TooManyAlternatives}
@@ -42,46 +42,46 @@ read_err {T} (Some x) e f h = absurd (let g : ◌≡◌ {A = Result T Refusal} (
 -- ---- the slot of a choice
 
 -- a choice whose day can't be read is refused for it
-pub no_day : (w : SlotWords) (e : Refusal) (s : Slot) → ok_or (read_date w.day) BadDay ≡ Err e → Err BadDay ≡ unless ((lacks_day w, BadDay) ∷ (lacks_time w, BadTime) ∷ []) s
-no_day w e s h = λ i. unless ((sym (read_err (read_date w.day) BadDay e h) i, BadDay) ∷ (lacks_time w, BadTime) ∷ []) s
+pub no_day : (w : SlotWords) (e : Refusal) (s : Slot) → ok_or (read_date w.day) BadDay ≡ Err e → Err BadDay ≡ unless_faulty ((lacks_day w, BadDay) ∷ (lacks_time w, BadTime) ∷ []) s
+no_day w e s h = λ i. unless_faulty ((sym (read_err (read_date w.day) BadDay e h) i, BadDay) ∷ (lacks_time w, BadTime) ∷ []) s
 
 -- and one whose time alone can't be, for that
-pub no_time : (w : SlotWords) (d : Date) (e : Refusal) (s : Slot) → ok_or (read_date w.day) BadDay ≡ Ok d → ok_or (read_time w.time) BadTime ≡ Err e → Err BadTime ≡ unless ((lacks_day w, BadDay) ∷ (lacks_time w, BadTime) ∷ []) s
+pub no_time : (w : SlotWords) (d : Date) (e : Refusal) (s : Slot) → ok_or (read_date w.day) BadDay ≡ Ok d → ok_or (read_time w.time) BadTime ≡ Err e → Err BadTime ≡ unless_faulty ((lacks_day w, BadDay) ∷ (lacks_time w, BadTime) ∷ []) s
 no_time w d e s g h =
     let day : lacks_day w ≡ false = (read_ok (is_date (date_in w.day) && bytes_eq (date_text (date_in w.day)) w.day) (date_in w.day) d BadDay g).0 in
-    λ i. unless ((sym day i, BadDay) ∷ (sym (read_err (read_time w.time) BadTime e h) i, BadTime) ∷ []) s
+    λ i. unless_faulty ((sym day i, BadDay) ∷ (sym (read_err (read_time w.time) BadTime e h) i, BadTime) ∷ []) s
 
 -- where both are read, its slot is made
-pub slot_read : (w : SlotWords) (d : Date) (m : ℕ) → ok_or (read_date w.day) BadDay ≡ Ok d → ok_or (read_time w.time) BadTime ≡ Ok m → m < 1440 → ok_if (leb m 1439) (record { day = d; start = m }) BadTime ≡ unless ((lacks_day w, BadDay) ∷ (lacks_time w, BadTime) ∷ []) (slot_of w)
+pub slot_read : (w : SlotWords) (d : Date) (m : ℕ) → ok_or (read_date w.day) BadDay ≡ Ok d → ok_or (read_time w.time) BadTime ≡ Ok m → m < 1440 → ok_if (leb m 1439) (record { day = d; start = m }) BadTime ≡ unless_faulty ((lacks_day w, BadDay) ∷ (lacks_time w, BadTime) ∷ []) (slot_of w)
 slot_read w d m g h l =
     let (day, d_is) = read_ok (is_date (date_in w.day) && bytes_eq (date_text (date_in w.day)) w.day) (date_in w.day) d BadDay g in
     let (time, m_is) = read_ok (ltb (time_in w.time) 1440 && bytes_eq (time_text (time_in w.time)) w.time) (time_in w.time) m BadTime h in
     let low : leb m 1439 ≡ true = le-leb m 1439 (omega (arith, l)) in
     ap (λ b. ok_if b (record { day = d; start = m }) BadTime) low
     ∙ (λ i. Ok (record { day = d_is i; start = m_is i }))
-    ∙ (λ i. unless ((sym day i, BadDay) ∷ (sym time i, BadTime) ∷ []) (slot_of w))
+    ∙ (λ i. unless_faulty ((sym day i, BadDay) ∷ (sym time i, BadTime) ∷ []) (slot_of w))
 
 -- a slot is read where neither its day nor its time is lacking
-pub no_refusal : (w : SlotWords) (s : Slot) (e : Refusal) → lacks_day w ≡ false → lacks_time w ≡ false → unless ((lacks_day w, BadDay) ∷ (lacks_time w, BadTime) ∷ []) s ≡ Err e → ⊥
+pub no_refusal : (w : SlotWords) (s : Slot) (e : Refusal) → lacks_day w ≡ false → lacks_time w ≡ false → unless_faulty ((lacks_day w, BadDay) ∷ (lacks_time w, BadTime) ∷ []) s ≡ Err e → ⊥
 no_refusal w s e d t h = go (lacks_day w) (lacks_time w) d t h
   where
-    go : (a b : Bool) → a ≡ false → b ≡ false → unless ((a, BadDay) ∷ (b, BadTime) ∷ []) s ≡ Err e → ⊥
+    go : (a b : Bool) → a ≡ false → b ≡ false → unless_faulty ((a, BadDay) ∷ (b, BadTime) ∷ []) s ≡ Err e → ⊥
     go true b x y k = true≢false x
     go false true x y k = true≢false y
     go false false x y k = let g : ◌≡◌ {A = Result Slot Refusal} (Ok s) (Err e) = k in cc
 
 -- where none of a list lacks them, that of each is read
-pub slot_there : {A : Type 0} (f : A → SlotWords) (ws : List A) (i : ℕ) (w : A) (s : Slot) (e : Refusal) → w ≡ get_or ws i w → i < length ws → list_any (λ x. lacks_day (f x)) ws ≡ false → list_any (λ x. lacks_time (f x)) ws ≡ false → unless ((lacks_day (f w), BadDay) ∷ (lacks_time (f w), BadTime) ∷ []) s ≡ Err e → ⊥
+pub slot_there : {A : Type 0} (f : A → SlotWords) (ws : List A) (i : ℕ) (w : A) (s : Slot) (e : Refusal) → w ≡ get_or ws i w → i < length ws → list_any (λ x. lacks_day (f x)) ws ≡ false → list_any (λ x. lacks_time (f x)) ws ≡ false → unless_faulty ((lacks_day (f w), BadDay) ∷ (lacks_time (f w), BadTime) ∷ []) s ≡ Err e → ⊥
 slot_there {A} f ws i w s e at l day time h = no_refusal (f w) s e (one lacks_day day) (one lacks_time time) h
   where
     one : (p : SlotWords → Bool) → list_any (λ x. p (f x)) ws ≡ false → p (f w) ≡ false
     one p n = false_from_ne_true (p (f w)) (λ y. true≢false (sym (list_any_at (λ x. p (f x)) ws i w l (ap (λ x. p (f x)) (sym at) ∙ y)) ∙ n))
 
 -- a slot that is read is that of the words
-pub slot_value : (w : SlotWords) (s : Slot) → unless ((lacks_day w, BadDay) ∷ (lacks_time w, BadTime) ∷ []) (slot_of w) ≡ Ok s → s ≡ slot_of w
+pub slot_value : (w : SlotWords) (s : Slot) → unless_faulty ((lacks_day w, BadDay) ∷ (lacks_time w, BadTime) ∷ []) (slot_of w) ≡ Ok s → s ≡ slot_of w
 slot_value w s h = go (lacks_day w) (lacks_time w) h
   where
-    go : (a b : Bool) → unless ((a, BadDay) ∷ (b, BadTime) ∷ []) (slot_of w) ≡ Ok s → s ≡ slot_of w
+    go : (a b : Bool) → unless_faulty ((a, BadDay) ∷ (b, BadTime) ∷ []) (slot_of w) ≡ Ok s → s ≡ slot_of w
     go true b k = absurd (let g : ◌≡◌ {A = Result Slot Refusal} (Err BadDay) (Ok s) = k in cc)
     go false true k = absurd (let g : ◌≡◌ {A = Result Slot Refusal} (Err BadTime) (Ok s) = k in cc)
     go false false k = let g : ◌≡◌ {A = Result Slot Refusal} (Ok (slot_of w)) (Ok s) = k in cc
@@ -217,7 +217,7 @@ request_made s choices n result h l made = subst (Gives result) whole (gives res
     own : Chosen s (slot_of s.wish, map slot_of s.alternatives)
     own = record { days = k.days; times = k.times; wish = refl; alternatives = refl }
 
-    answered : (a b c d : Bool) (q : Request) → answer_of (unless ((a, BadLength) ∷ (b, BadRoomName) ∷ (c, BadTitle) ∷ (d, TooManyAlternatives) ∷ []) q) ≡ ok_unless (model.first_refusal ((a, model.BadLength) ∷ (b, model.BadRoomName) ∷ (c, model.BadTitle) ∷ (d, model.TooManyAlternatives) ∷ [])) q
+    answered : (a b c d : Bool) (q : Request) → answer_of (unless_faulty ((a, BadLength) ∷ (b, BadRoomName) ∷ (c, BadTitle) ∷ (d, TooManyAlternatives) ∷ []) q) ≡ ok_unless (model.first_refusal ((a, model.BadLength) ∷ (b, model.BadRoomName) ∷ (c, model.BadTitle) ∷ (d, model.TooManyAlternatives) ∷ [])) q
     answered true b c d q = refl
     answered false true c d q = refl
     answered false false true d q = refl
@@ -233,6 +233,6 @@ request_made s choices n result h l made = subst (Gives result) whole (gives res
     whole : answer_of (base.request_of s.room s.title n choices.0 choices.1) ≡ request_or_fault s
     whole =
         ap answer_of plain
-        ∙ (λ i. answer_of (unless ((length-same s (number_in s.length) own number.0 refl i, BadLength) ∷ (not (is_room_name s.room), BadRoomName) ∷ (not (is_title s.title), BadTitle) ∷ (few i, TooManyAlternatives) ∷ []) (request_in s)))
+        ∙ (λ i. answer_of (unless_faulty ((length-same s (number_in s.length) own number.0 refl i, BadLength) ∷ (not (is_room_name s.room), BadRoomName) ∷ (not (is_title s.title), BadTitle) ∷ (few i, TooManyAlternatives) ∷ []) (request_in s)))
         ∙ answered (is_bad_length s) (not (is_room_name s.room)) (not (is_title s.title)) (ltb greatest_alternatives (length s.alternatives)) (request_in s)
         ∙ (λ i. made_if s (sym k.days i) (sym k.times i) (is_bad_length s))

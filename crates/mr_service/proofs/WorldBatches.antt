@@ -11,9 +11,9 @@ use Rattle.mr_model.specs.Step.{batch_reply, reply_to_position}
 use Rattle.mr_model.specs.World.{World, Make, StepReply, NoReplica, Made, Said, replica_of, make_for, with_made, world_step}
 use Rattle.mr_model.specs.Honest.{IsWorldStep}
 use Rattle.mr_model.proofs.PositionsReadBack.{position_within, read-position_text}
-use Rattle.mr_service.specs.Worlds.{MemberView, StandsForMember, StandForAll, StandsForWorld, IsMade, TakesWorldStep, place_among}
+use Rattle.mr_service.specs.Worlds.{MemberView, StandsForMember, StandForAll, StandsForWorld, IsMade, TakesWorldStep, member_index}
 use Rattle.mr_service.proofs.WorldMembers.{FoundAt, found_at, found_none}
-use Rattle.mr_service.proofs.WorldSteps.{world, stays, IsFound}
+use Rattle.mr_service.proofs.KeeperWorldSteps.{world, stays, IsFound}
 
 -- a refusal is told
 pub refused_made : (reply : Reply) (e : Refusal) (pool : List Text) → (reply ≡ Refused e) ⊎ (e ≡ OutOfMemory) → IsMade reply (Said (Refused e)) pool pool
@@ -27,11 +27,11 @@ asked_at a b m text n said old new h e made =
     subst (λ o. IsMade (reply_to_position a o n) said old new) (ap read_position e ∙ read-position_text (position_of b) (position_within b h.tables.sound)) made
 
 -- no replica has the server of the maker, or of the other
-pub make_nobody : (ms : List MemberView) (pool : List Text) (from to n : ℕ) → length ms ≤ place_among ms from → TakesWorldStep (world ms pool) (Make from to n) NoReplica (world ms pool)
+pub make_nobody : (ms : List MemberView) (pool : List Text) (from to n : ℕ) → length ms ≤ member_index ms from → TakesWorldStep (world ms pool) (Make from to n) NoReplica (world ms pool)
 make_nobody ms pool from to n low =
     stays (world ms pool) (Make from to n) NoReplica tt (λ w stands. ap (λ o. make_for w o (replica_of w to) n) (found_none ms w.replicas from stands.replicas low))
 
-pub make_for_nobody : (ms : List MemberView) (pool : List Text) (from to n k : ℕ) → IsFound ms from k → length ms ≤ place_among ms to → TakesWorldStep (world ms pool) (Make from to n) NoReplica (world ms pool)
+pub make_for_nobody : (ms : List MemberView) (pool : List Text) (from to n k : ℕ) → IsFound ms from k → length ms ≤ member_index ms to → TakesWorldStep (world ms pool) (Make from to n) NoReplica (world ms pool)
 make_for_nobody ms pool from to n k found low =
     stays (world ms pool) (Make from to n) NoReplica tt
     (λ w stands. let f = found_at ms w.replicas from stands.replicas found.low in

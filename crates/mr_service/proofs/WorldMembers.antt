@@ -5,20 +5,20 @@ use Rattle.std.proofs.lemmas.Option.{none-some, same_Some}
 use Rattle.std.specs.List.{find, slice_get, slice_set}
 use Rattle.mr_model.specs.Replica.{Replica}
 use Rattle.mr_model.specs.World.{put_replica, primary_among}
-use Rattle.mr_service.specs.Worlds.{MemberView, StandsForMember, StandForAll, place_among, primary_in}
+use Rattle.mr_service.specs.Worlds.{MemberView, StandsForMember, StandForAll, member_index, primary_in}
 
 -- the first replica with a server, and what becomes of all where another takes its place
 pub record FoundAt (ms : List MemberView) (rs : List Replica) (s : ℕ) : Type 0 where
   pub replica : Replica
   pub found : find (λ r. eqb r.server s) rs ≡ Some replica
-  pub at : slice_get rs (place_among ms s) ≡ Some replica
+  pub at : slice_get rs (member_index ms s) ≡ Some replica
   pub its_server : replica.server ≡ s
-  pub stands : (m : MemberView) → m ≡ get_or ms (place_among ms s) m → StandsForMember m replica
-  pub put : (m : MemberView) (r : Replica) → StandsForMember m r → r.server ≡ s → StandForAll (slice_set ms (place_among ms s) m) (put_replica r rs)
+  pub stands : (m : MemberView) → m ≡ get_or ms (member_index ms s) m → StandsForMember m replica
+  pub put : (m : MemberView) (r : Replica) → StandsForMember m r → r.server ≡ s → StandForAll (slice_set ms (member_index ms s) m) (put_replica r rs)
 
 found_here : (m : MemberView) (ms : List MemberView) (r : Replica) (rs : List Replica) (s : ℕ) → StandsForMember m r → StandForAll ms rs → eqb m.server s ≡ true → FoundAt (m ∷ ms) (r ∷ rs) s
 found_here m ms r rs s h hs e =
-    let place : place_among (m ∷ ms) s ≡ 0 = cond-true (eqb m.server s) 0 (suc (place_among ms s)) e in
+    let place : member_index (m ∷ ms) s ≡ 0 = cond-true (eqb m.server s) 0 (suc (member_index ms s)) e in
     let own : r.server ≡ s = sym h.server ∙ eqb-true m.server s e in
     record {
       replica = r;
@@ -34,7 +34,7 @@ found_here m ms r rs s h hs e =
 
 found_behind : (m : MemberView) (ms : List MemberView) (r : Replica) (rs : List Replica) (s : ℕ) → StandsForMember m r → eqb m.server s ≡ false → FoundAt ms rs s → FoundAt (m ∷ ms) (r ∷ rs) s
 found_behind m ms r rs s h e f =
-    let place : place_among (m ∷ ms) s ≡ suc (place_among ms s) = cond-false (eqb m.server s) 0 (suc (place_among ms s)) e in
+    let place : member_index (m ∷ ms) s ≡ suc (member_index ms s) = cond-false (eqb m.server s) 0 (suc (member_index ms s)) e in
     let other : eqb r.server s ≡ false = ap (λ n. eqb n s) (sym h.server) ∙ e in
     record {
       replica = f.replica;
@@ -45,35 +45,35 @@ found_behind m ms r rs s h e f =
       put =
           λ x y there same.
           subst (λ k. StandForAll (slice_set (m ∷ ms) k x) (put_replica y (r ∷ rs))) (sym place)
-          (subst (λ ys. StandForAll (m ∷ slice_set ms (place_among ms s) x) ys) (sym (cond-false (eqb r.server y.server) (y ∷ rs) (r ∷ put_replica y rs) (ap (eqb r.server) same ∙ other)))
+          (subst (λ ys. StandForAll (m ∷ slice_set ms (member_index ms s) x) ys) (sym (cond-false (eqb r.server y.server) (y ∷ rs) (r ∷ put_replica y rs) (ap (eqb r.server) same ∙ other)))
           (h, f.put x y there same));
     }
 
 -- a replica with the server is found at its place
-pub found_at : (ms : List MemberView) (rs : List Replica) (s : ℕ) → StandForAll ms rs → place_among ms s < length ms → FoundAt ms rs s
+pub found_at : (ms : List MemberView) (rs : List Replica) (s : ℕ) → StandForAll ms rs → member_index ms s < length ms → FoundAt ms rs s
 found_at [] rs s h low = absurd (not-suc-le-zero low)
 found_at (m ∷ ms) [] s h low = absurd h
 found_at (m ∷ ms) (r ∷ rs) s h low = go (found_at ms rs s h.1) (cases_Bool (eqb m.server s))
   where
-    go : (place_among ms s < length ms → FoundAt ms rs s) → (eqb m.server s ≡ true) ⊎ (eqb m.server s ≡ false) → FoundAt (m ∷ ms) (r ∷ rs) s
+    go : (member_index ms s < length ms → FoundAt ms rs s) → (eqb m.server s ≡ true) ⊎ (eqb m.server s ≡ false) → FoundAt (m ∷ ms) (r ∷ rs) s
     go later (inl e) = found_here m ms r rs s h.0 h.1 e
     go later (inr e) =
-        let place : place_among (m ∷ ms) s ≡ suc (place_among ms s) = cond-false (eqb m.server s) 0 (suc (place_among ms s)) e in
+        let place : member_index (m ∷ ms) s ≡ suc (member_index ms s) = cond-false (eqb m.server s) 0 (suc (member_index ms s)) e in
         found_behind m ms r rs s h.0 e (later (le_of_suc-le-suc (subst (λ k. k < suc (length ms)) place low)))
 
 -- where all replicas stand before it, there is none
-pub found_none : (ms : List MemberView) (rs : List Replica) (s : ℕ) → StandForAll ms rs → length ms ≤ place_among ms s → find (λ r. eqb r.server s) rs ≡ None
+pub found_none : (ms : List MemberView) (rs : List Replica) (s : ℕ) → StandForAll ms rs → length ms ≤ member_index ms s → find (λ r. eqb r.server s) rs ≡ None
 found_none [] [] s h low = refl
 found_none [] (r ∷ rs) s h low = absurd h
 found_none (m ∷ ms) [] s h low = absurd h
 found_none (m ∷ ms) (r ∷ rs) s h low = go (found_none ms rs s h.1) (cases_Bool (eqb m.server s))
   where
-    go : (length ms ≤ place_among ms s → find (λ x. eqb x.server s) rs ≡ None) → (eqb m.server s ≡ true) ⊎ (eqb m.server s ≡ false) → find (λ x. eqb x.server s) (r ∷ rs) ≡ None
+    go : (length ms ≤ member_index ms s → find (λ x. eqb x.server s) rs ≡ None) → (eqb m.server s ≡ true) ⊎ (eqb m.server s ≡ false) → find (λ x. eqb x.server s) (r ∷ rs) ≡ None
     go later (inl e) =
-        let place : place_among (m ∷ ms) s ≡ 0 = cond-true (eqb m.server s) 0 (suc (place_among ms s)) e in
+        let place : member_index (m ∷ ms) s ≡ 0 = cond-true (eqb m.server s) 0 (suc (member_index ms s)) e in
         absurd (not-suc-le-zero (subst (λ k. suc (length ms) ≤ k) place low))
     go later (inr e) =
-        let place : place_among (m ∷ ms) s ≡ suc (place_among ms s) = cond-false (eqb m.server s) 0 (suc (place_among ms s)) e in
+        let place : member_index (m ∷ ms) s ≡ suc (member_index ms s) = cond-false (eqb m.server s) 0 (suc (member_index ms s)) e in
         cond-false (eqb r.server s) (Some r) (find (λ x. eqb x.server s) rs) (ap (λ n. eqb n s) (sym h.0.server) ∙ e)
         ∙ later (le_of_suc-le-suc (subst (λ k. suc (length ms) ≤ k) place low))
 

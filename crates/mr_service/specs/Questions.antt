@@ -14,11 +14,11 @@ use Rattle.mr_model.specs.Queries.{LogLine, OfRequest, OfVoid, row_entry, cancel
 use Rattle.mr_model.specs.Step.{IsOfMachine}
 use Rattle.mr_model.specs.Tables.{BookingRow, ErrorRow, CancelledRow, CancelRow, PlaceRow, Tables, as_booked, Stands}
 use Rattle.mr_base.specs.declared.refusals.Refusal.{Refusal}
-use Rattle.mr_base.specs.Refusals.{refusal_of}
+use Rattle.mr_base.specs.RefusalViews.{refusal_of}
 use Rattle.mr_replica.specs.Sets.{has_id}
 use Rattle.mr_tables.specs.declared.place_rows.PlaceRow as code
 use Rattle.mr_tables.specs.declared.place_rows.PlaceRow.TheVariants as place
-use Rattle.mr_service.specs.Asked.{line_of, outcome_of}
+use Rattle.mr_service.specs.Asked.{log_line_seen, outcome_seen}
 use Rattle.mr_service.specs.declared.replies.LogLine as replies
 use Rattle.mr_service.specs.declared.replies.Outcome.{Outcome}
 
@@ -59,7 +59,7 @@ committed_rows bookings cancelled cancels =
 
 -- the outcome that is replied; or memory or the store failed
 abbrev pub IsOutcome : Reply → Result Outcome Refusal → Type 0
-IsOutcome reply (Ok o) = reply ≡ OutcomeIs (outcome_of o)
+IsOutcome reply (Ok o) = reply ≡ OutcomeIs (outcome_seen o)
 IsOutcome reply (Err e) = IsOfMachine (Refused (refusal_of e))
 
 -- for each replica that the tables stand for, of which this is the row of a write of the room: what became of that write
@@ -94,7 +94,7 @@ abbrev pub log_key : LogLine → LogKey
 log_key l = (line_seq l == 0, line_seq l, line_time l, line_server l)
 
 abbrev pub line_key : replies.LogLine → LogKey
-line_key line = log_key (line_of line)
+line_key line = log_key (log_line_seen line)
 
 -- by the first part that differs, false before true
 abbrev pub log_key_cmp : LogKey → LogKey → Ordering

@@ -4,7 +4,7 @@ use Rattle.mr_model.specs.Replies.{Reply, Refused}
 use Rattle.mr_model.specs.Serving.{TakesStep, Reaches}
 use Rattle.mr_model.specs.Step.{Command, IsOfMachine}
 use Rattle.mr_model.specs.Tables.{Tables}
-use Rattle.mr_base.specs.Refusals.{refusal_of}
+use Rattle.mr_base.specs.RefusalViews.{refusal_of}
 use Rattle.mr_base.specs.declared.refusals.Refusal.{Refusal}
 use Rattle.mr_store.specs.KeeperCalls.{IsSettled}
 use Rattle.mr_store.specs.declared.keeper.Keeper.{Ghosts}

@@ -6,7 +6,7 @@ use Rattle.mr_model.specs.Replies.{Reply, Refused}
 use Rattle.mr_model.specs.Scopes.{Scope}
 use Rattle.mr_model.specs.Step.{After, Command, step, IsOfMachine}
 use Rattle.mr_model.specs.Tables.{Tables, tables_of, Stands}
-use Rattle.mr_base.specs.Refusals.{refusal_of}
+use Rattle.mr_base.specs.RefusalViews.{refusal_of}
 use Rattle.mr_base.specs.declared.refusals.Refusal.{Refusal}
 use Rattle.mr_base.specs.declared.refusals.Refusal.TheVariants.{OutOfMemory, Store}
 use Rattle.mr_tables.specs.Change.{ChangeView, changed}

@@ -62,9 +62,9 @@ IsMade reply said old new =
     ⊎ (((e : Refusal) × (reply ≡ Refused e) × (said ≡ Said (Refused e)) × (new ≡ old)) ⊎ ((said ≡ Said (Refused OutOfMemory)) × (new ≡ old)))
 
 -- how many replicas stand before the first one with this server
-abbrev pub place_among : List MemberView → ℕ → ℕ
-place_among [] server = 0
-place_among (m ∷ ms) server = if m.server == server then 0 else suc (place_among ms server)
+abbrev pub member_index : List MemberView → ℕ → ℕ
+member_index [] server = 0
+member_index (m ∷ ms) server = if m.server == server then 0 else suc (member_index ms server)
 
 -- the primary of the first replica, or this server where there is none
 abbrev pub primary_in : List MemberView → ℕ → ℕ

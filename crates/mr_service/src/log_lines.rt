@@ -3,7 +3,7 @@
 ghost use Rattle.std.specs.Prelude.{◌≡◌, ◌++◌, [], ◌∷◌, map, filter, not, IfOk, IfErr, OnOk};
 ghost use Rattle.std.specs.List.Sorted.{IsPermutation, IsSortedByKey};
 ghost use Rattle.mr_model.specs.Queries.{OfRequest, OfVoid};
-ghost use Rattle.mr_service.specs.Asked.{line_of};
+ghost use Rattle.mr_service.specs.Asked.{log_line_seen};
 ghost use Rattle.mr_service.specs.Questions.{lines_of, line_key, log_key_cmp};
 
 use crate::replies::LogLine;
@@ -29,7 +29,7 @@ pub(crate) fn log_lines(
     requests: Vec<ErrorRow>,
     cancels: Vec<CancelRow>,
 ) -> Result<Vec<LogLine>, Refusal>
-    ensures same { IfOk result (λ lines. IsPermutation (lines_of requests.items cancels.items) (map line_of lines.items)) }
+    ensures same { IfOk result (λ lines. IsPermutation (lines_of requests.items cancels.items) (map log_line_seen lines.items)) }
     ensures order { IfOk result (λ lines. IsSortedByKey line_key log_key_cmp lines.items) }
     ensures only { IfErr result (λ e. e ≡ Refusal.OutOfMemory) }
 {
@@ -39,7 +39,7 @@ pub(crate) fn log_lines(
 }
 
 fn of_requests(alloc: Global, requests: Vec<ErrorRow>) -> Result<Vec<LogLine>, Refusal>
-    ensures lines { IfOk result (λ lines. map line_of lines.items ≡ map (λ row. OfRequest row) requests.items) }
+    ensures lines { IfOk result (λ lines. map log_line_seen lines.items ≡ map (λ row. OfRequest row) requests.items) }
     ensures only { IfErr result (λ e. e ≡ Refusal.OutOfMemory) }
 {
     let mut lines = Vec::with_capacity(alloc, requests.len())?;
@@ -52,7 +52,7 @@ fn of_requests(alloc: Global, requests: Vec<ErrorRow>) -> Result<Vec<LogLine>, R
 /// Puts the cancels that took nothing back behind them.
 fn put_void(lines: &mut Vec<LogLine>, cancels: Vec<CancelRow>) -> Result<(), Refusal>
     ensures lines { OnOk result
-        (map line_of lines.new.items ≡ map line_of lines.old.items ++ map (λ row. OfVoid row) (filter (λ row. not row.done) cancels.items)) }
+        (map log_line_seen lines.new.items ≡ map log_line_seen lines.old.items ++ map (λ row. OfVoid row) (filter (λ row. not row.done) cancels.items)) }
     ensures only { IfErr result (λ e. e ≡ Refusal.OutOfMemory) }
 {
     for row in cancels {
@@ -63,7 +63,7 @@ fn put_void(lines: &mut Vec<LogLine>, cancels: Vec<CancelRow>) -> Result<(), Ref
 
 fn put_if_void(lines: &mut Vec<LogLine>, row: CancelRow) -> Result<(), Refusal>
     ensures lines { OnOk result
-        (map line_of lines.new.items ≡ map line_of lines.old.items ++ map (λ row. OfVoid row) (filter (λ row. not row.done) (row ∷ []))) }
+        (map log_line_seen lines.new.items ≡ map log_line_seen lines.old.items ++ map (λ row. OfVoid row) (filter (λ row. not row.done) (row ∷ []))) }
     ensures only { IfErr result (λ e. e ≡ Refusal.OutOfMemory) }
 {
     if !row.done {

@@ -4,9 +4,9 @@ ghost use Rattle.mr_model.specs.Positions.{position_of, position_text, read_posi
 ghost use Rattle.mr_model.specs.Refusals.{OutOfMemory, Refusal as RefusalOfReplica};
 ghost use Rattle.mr_model.specs.Replies.{Refused};
 ghost use Rattle.mr_model.specs.Step.{Receive, reply_to_position};
-ghost use Rattle.mr_base.specs.Refusals.{refusal_of};
+ghost use Rattle.mr_base.specs.RefusalViews.{refusal_of};
 ghost use Rattle.mr_service.specs.Asked.{local_of, reply_of};
-ghost use Rattle.mr_service.specs.Worlds.{AnswersInMemory, StandsForMember, IsPositionText, IsBatchText, place_among, primary_in};
+ghost use Rattle.mr_service.specs.Worlds.{AnswersInMemory, StandsForMember, IsPositionText, IsBatchText, member_index, primary_in};
 
 use crate::changing::receive;
 use crate::commands::Local;
@@ -108,8 +108,8 @@ impl Member {
 
 /// The place of the first replica with this server.
 pub(crate) fn find(members: &[Member], server: ServerId) -> Option<usize>
-    ensures { MatchOption result (length members.now ≤ place_among members.now server)
-        (λ k. (k ≡ place_among members.now server) × (k < length members.now)) }
+    ensures { MatchOption result (length members.now ≤ member_index members.now server)
+        (λ k. (k ≡ member_index members.now server) × (k < length members.now)) }
 {
     let place = place_of(members, server);
     if place < members.len() {
@@ -121,7 +121,7 @@ pub(crate) fn find(members: &[Member], server: ServerId) -> Option<usize>
 
 /// How many replicas stand before the first one with this server: all, where there is none.
 fn place_of(members: &[Member], server: ServerId) -> usize
-    ensures place { result ≡ place_among members.now server }
+    ensures place { result ≡ member_index members.now server }
     ensures in_range { result ≤ length members.now }
 {
     for (k, member) in members.iter().enumerate() {

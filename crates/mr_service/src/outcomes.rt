@@ -1,6 +1,6 @@
 ghost use Rattle.std.specs.Prelude.{◌≡◌};
 ghost use Rattle.mr_model.specs.Queries.{booked_outcome, logged_outcome, cancelled_outcome, cancel_outcome};
-ghost use Rattle.mr_service.specs.Asked.{outcome_of};
+ghost use Rattle.mr_service.specs.Asked.{outcome_seen};
 
 use crate::replies::{Booking, Outcome};
 use mr_base::TimeOfDay;
@@ -8,7 +8,7 @@ use mr_tables::{BookingRow, CancelRow, CancelledRow, ErrorRow};
 
 /// What became of the request of a row of `booking`.
 pub(crate) fn booked(row: &BookingRow) -> Outcome
-    ensures { outcome_of result ≡ booked_outcome row.now }
+    ensures { outcome_seen result ≡ booked_outcome row.now }
 {
     Outcome::Booked(Booking {
         id: row.id(),
@@ -21,7 +21,7 @@ pub(crate) fn booked(row: &BookingRow) -> Outcome
 
 /// What became of the request of a row of `errorlog`.
 pub(crate) fn logged(row: &ErrorRow) -> Outcome
-    ensures { outcome_of result ≡ logged_outcome row.now }
+    ensures { outcome_seen result ≡ logged_outcome row.now }
 {
     Outcome::Logged {
         id: row.id(),
@@ -31,7 +31,7 @@ pub(crate) fn logged(row: &ErrorRow) -> Outcome
 
 /// What became of the request of a row of `cancelled`, with the row of the cancel that took it back.
 pub(crate) fn cancelled(row: &CancelledRow, by: &CancelRow) -> Outcome
-    ensures { outcome_of result ≡ cancelled_outcome row.now by.now }
+    ensures { outcome_seen result ≡ cancelled_outcome row.now by.now }
 {
     Outcome::Cancelled {
         id: row.id(),
@@ -43,7 +43,7 @@ pub(crate) fn cancelled(row: &CancelledRow, by: &CancelRow) -> Outcome
 
 /// What became of the cancel of a row of `cancels`.
 pub(crate) fn cancel(row: &CancelRow) -> Outcome
-    ensures { outcome_of result ≡ cancel_outcome row.now }
+    ensures { outcome_seen result ≡ cancel_outcome row.now }
 {
     let (id, is_committed, target) = (row.id(), row.seq != 0, row.target);
     if row.done {

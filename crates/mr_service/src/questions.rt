@@ -6,11 +6,11 @@ ghost use Rattle.std.specs.Str.{bytes_eq};
 ghost use Rattle.mr_model.specs.Replies as replies;
 ghost use Rattle.mr_model.specs.Step as model;
 ghost use Rattle.mr_model.specs.Step.{IsOfMachine};
-ghost use Rattle.mr_base.specs.Refusals.{refusal_of};
+ghost use Rattle.mr_base.specs.RefusalViews.{refusal_of};
 ghost use Rattle.mr_model.specs.Tables as rows;
 ghost use Rattle.mr_model.specs.View.{AskSheet, AskCalendar, AskOutcome, AskErrors};
 ghost use Rattle.mr_tables.specs.Cells.{place_row_of};
-ghost use Rattle.mr_service.specs.Asked.{part_of, line_of, outcome_of, reply_in};
+ghost use Rattle.mr_service.specs.Asked.{part_seen, log_line_seen, outcome_seen, reply_in};
 ghost use Rattle.mr_service.specs.Questions.{FindsRoom, ShowsCalendar, ShowsLines, TellsOutcomeOf, row_of_cancel};
 ghost use Rattle.mr_service.specs.Served.{IsRead, IsServed};
 
@@ -46,7 +46,7 @@ pub(crate) fn calendar<K: Keeper>(
     room: &str,
     part: Part,
 ) -> Result<Reply, Refusal>
-    ensures served { IsServed K.Keeper keeper.old keeper.new (model.Ask room.now (AskCalendar (part_of part))) (reply_in result) }
+    ensures served { IsServed K.Keeper keeper.old keeper.new (model.Ask room.now (AskCalendar (part_seen part))) (reply_in result) }
 {
     let room = known_room(keeper, alloc, room)?;
     let rows = rows_of_part(keeper, alloc, &room, part)?;
@@ -118,7 +118,7 @@ fn rows_of_part<K: Keeper>(
 ) -> Result<Vec<BookingRow>, Refusal>
     ensures read { IsRead K.Keeper keeper.old keeper.new result }
     ensures shows { K.is_clean keeper.new → K.is_open keeper.old
-        → IfOk result (λ rows. ShowsCalendar (part_of part) room.now (K.tables keeper.old) rows.items) }
+        → IfOk result (λ rows. ShowsCalendar (part_seen part) room.now (K.tables keeper.old) rows.items) }
     ensures only { IfErr result (λ e. IsOfMachine (replies.Refused (refusal_of e))) }
 {
     match part {
@@ -206,7 +206,7 @@ fn lines_in<K: Keeper>(
     room: &RoomName,
 ) -> Result<Vec<LogLine>, Refusal>
     ensures read { IsRead K.Keeper keeper.old keeper.new result }
-    ensures shows { K.is_clean keeper.new → K.is_open keeper.old → IfOk result (λ lines. ShowsLines room.now (K.tables keeper.old) (map line_of lines.items)) }
+    ensures shows { K.is_clean keeper.new → K.is_open keeper.old → IfOk result (λ lines. ShowsLines room.now (K.tables keeper.old) (map log_line_seen lines.items)) }
     ensures only { IfErr result (λ e. IsOfMachine (replies.Refused (refusal_of e))) }
 {
     let requests = keeper.errors(room)?;

@@ -2,7 +2,7 @@ ghost use Rattle.std.specs.Prelude.{◌≡◌, ◌+◌, ◌<◌, ◌≤◌, [], 
 ghost use Rattle.mr_model.specs.Replica.{Replica};
 ghost use Rattle.mr_model.specs.Serving.{Serves};
 ghost use Rattle.mr_model.specs.Tables.{Stands};
-ghost use Rattle.mr_service.specs.Asked.{command_of, reply_of};
+ghost use Rattle.mr_service.specs.Asked.{command_seen, reply_of};
 ghost use Rattle.mr_service.specs.Asking.{NoneFails, TellsFailure};
 ghost use Rattle.mr_service.specs.Headline.{KeepsHeadline};
 ghost use Rattle.mr_service.specs.Replied.{RepliesToAll};
@@ -24,9 +24,9 @@ pub fn run<K: Keeper>(
     ensures clean { K.is_clean service.new → K.is_clean service.old }
     ensures open { K.is_clean service.new → K.is_open service.new → K.is_open service.old }
     ensures serves { K.is_clean service.new → K.is_open service.new
-        → IfOk result (λ replies. Serves (K.tables service.old) (map command_of commands.now) (map reply_of replies.items) (K.tables service.new)) }
+        → IfOk result (λ replies. Serves (K.tables service.old) (map command_seen commands.now) (map reply_of replies.items) (K.tables service.new)) }
     ensures replied { K.is_clean service.new → K.is_open service.old
-        → IfOk result (λ replies. RepliesToAll (K.tables service.old) (map command_of commands.now) (map reply_of replies.items)) }
+        → IfOk result (λ replies. RepliesToAll (K.tables service.old) (map command_seen commands.now) (map reply_of replies.items)) }
     ensures counts { IfOk result (λ replies. TellsFailure (map reply_of replies.items) → K.failures service.old < K.failures service.new) }
     ensures sure { K.never_fails → K.is_clean service.new → K.is_open service.new
         → NoneFails (K.tables service.old) (K.failures service.old) (K.failures service.new) }
@@ -60,9 +60,9 @@ pub fn run_over_lists(
     service: &mut Service<ListKeeper>,
     commands: &[Command],
 ) -> Result<Vec<Reply>, Refusal>
-    ensures serves { IfOk result (λ replies. Serves service.old.tables (map command_of commands.now) (map reply_of replies.items) service.new.tables) }
+    ensures serves { IfOk result (λ replies. Serves service.old.tables (map command_seen commands.now) (map reply_of replies.items) service.new.tables) }
     ensures headline { (a : Replica) → Stands service.old.tables a
-        → IfOk result (λ replies. KeepsHeadline a (map command_of commands.now) (map reply_of replies.items) service.new.tables) }
+        → IfOk result (λ replies. KeepsHeadline a (map command_seen commands.now) (map reply_of replies.items) service.new.tables) }
     ensures never { (a : Replica) → Stands service.old.tables a → IfOk result (λ replies. ¬ TellsFailure (map reply_of replies.items)) }
     ensures cause { IfErr result (λ e. e ≡ Refusal.OutOfMemory) }
     ensures refused { OnErr result (service.new ≡ service.old) }

@@ -3,7 +3,7 @@ ghost use Rattle.mr_model.specs.Step.{IsOfMachine};
 ghost use Rattle.mr_model.specs.Serving.{TakesStep, Reaches};
 ghost use Rattle.mr_model.specs.Tables.{Tables};
 ghost use Rattle.mr_store.specs.KeeperCalls.{IsSettled};
-ghost use Rattle.mr_service.specs.Asked.{command_of, local_of, reply_of, reply_in};
+ghost use Rattle.mr_service.specs.Asked.{command_seen, local_of, reply_of, reply_in};
 ghost use Rattle.mr_service.specs.Asking.{Counts, LeavesOnRefusal, NoneFails, TellsRise};
 ghost use Rattle.mr_service.specs.Replied.{RepliesTo};
 ghost use Rattle.mr_service.specs.Served.{IsServed};
@@ -50,10 +50,10 @@ impl<K: Keeper> Service<K> {
     /// Does what the command says, and replies. A refusal changes nothing; want of memory is one, and a failure of the store
     /// another.
     pub fn ask(&mut self, command: &Command) -> Reply
-        ensures served { IsServed K.Keeper self.old self.new (command_of command.now) (reply_of result) }
+        ensures served { IsServed K.Keeper self.old self.new (command_seen command.now) (reply_of result) }
         ensures clean { K.is_clean self.new → K.is_clean self.old }
         ensures open { K.is_clean self.new → K.is_open self.new → K.is_open self.old }
-        ensures step { K.is_clean self.new → K.is_open self.new → TakesStep (K.tables self.old) (command_of command.now) (reply_of result) (K.tables self.new) }
+        ensures step { K.is_clean self.new → K.is_open self.new → TakesStep (K.tables self.old) (command_seen command.now) (reply_of result) (K.tables self.new) }
         ensures counts { Counts (reply_of result) (K.failures self.old) (K.failures self.new) }
         ensures refused { K.is_clean self.new → K.is_open self.new → LeavesOnRefusal (reply_of result) (K.tables self.old) (K.tables self.new) }
         ensures rise { TellsRise (reply_of result) (K.failures self.old) (K.failures self.new) }
@@ -62,15 +62,15 @@ impl<K: Keeper> Service<K> {
         ensures settled { K.is_clean self.new → K.is_open self.new → IsSettled (K.may_leave self.old) (K.tables self.old)
             → IsSettled (K.may_leave self.new) (K.tables self.new) }
         ensures crash { K.is_clean self.new → K.is_open self.old → (t : Tables) → K.may_leave self.new t → K.may_leave self.old t
-            ⊎ Reaches (K.tables self.old) (command_of command.now) t }
-        ensures replied { K.is_clean self.new → K.is_open self.old → RepliesTo (K.tables self.old) (command_of command.now) (reply_of result) }
+            ⊎ Reaches (K.tables self.old) (command_seen command.now) t }
+        ensures replied { K.is_clean self.new → K.is_open self.old → RepliesTo (K.tables self.old) (command_seen command.now) (reply_of result) }
     {
         self.serve(command)
     }
 
     /// The same, with all that its contract says as one record.
     fn serve(&mut self, command: &Command) -> Reply
-        ensures served { IsServed K.Keeper self.old self.new (command_of command.now) (reply_of result) }
+        ensures served { IsServed K.Keeper self.old self.new (command_seen command.now) (reply_of result) }
     {
         match command {
             Command::Local(local) => said(ask_local(&mut self.keeper, self.alloc, local)),

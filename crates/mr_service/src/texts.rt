@@ -8,8 +8,8 @@ ghost use Rattle.mr_model.specs.Queries.{row_entry, row_logging, line_logging, O
 ghost use Rattle.mr_model.specs.Replies.{sheet_line, calendar_line, logging_line, lines_or};
 ghost use Rattle.mr_model.specs.Replies as replies;
 ghost use Rattle.mr_model.specs.Refusals as refusals;
-ghost use Rattle.mr_base.specs.Refusals.{refusal_of};
-ghost use Rattle.mr_service.specs.Asked.{part_of, line_of, outcome_of, reply_of};
+ghost use Rattle.mr_base.specs.RefusalViews.{refusal_of};
+ghost use Rattle.mr_service.specs.Asked.{part_seen, log_line_seen, outcome_seen, reply_of};
 
 use crate::commands::Part;
 use crate::replies::{LogLine, Outcome, Reply};
@@ -76,7 +76,7 @@ fn calendar_text(
     part: Part,
     rows: &[BookingRow],
 ) -> Result<Vec<u8>, Refusal>
-    ensures text { IfOk result (λ bytes. bytes.items ≡ replies.reply_text (replies.Calendar room.now (part_of part) (map row_entry rows.now))) }
+    ensures text { IfOk result (λ bytes. bytes.items ≡ replies.reply_text (replies.Calendar room.now (part_seen part) (map row_entry rows.now))) }
     ensures memory { IfErr result (λ e. e ≡ Refusal.OutOfMemory) }
 {
     let mut text = String::new(alloc);
@@ -86,7 +86,7 @@ fn calendar_text(
 }
 
 fn errors_text(alloc: Global, room: &RoomName, lines: &[LogLine]) -> Result<Vec<u8>, Refusal>
-    ensures text { IfOk result (λ bytes. bytes.items ≡ replies.reply_text (replies.Errors room.now (map line_logging (map line_of lines.now)))) }
+    ensures text { IfOk result (λ bytes. bytes.items ≡ replies.reply_text (replies.Errors room.now (map line_logging (map log_line_seen lines.now)))) }
     ensures memory { IfErr result (λ e. e ≡ Refusal.OutOfMemory) }
 {
     let mut text = String::new(alloc);
@@ -128,7 +128,7 @@ fn dropped_text(alloc: Global, number: u64) -> Result<Vec<u8>, Refusal>
 }
 
 fn outcome_text(alloc: Global, outcome: &Outcome) -> Result<Vec<u8>, Refusal>
-    ensures text { IfOk result (λ bytes. bytes.items ≡ line (replies.outcome_line (outcome_of outcome.now))) }
+    ensures text { IfOk result (λ bytes. bytes.items ≡ line (replies.outcome_line (outcome_seen outcome.now))) }
     ensures memory { IfErr result (λ e. e ≡ Refusal.OutOfMemory) }
 {
     let mut text = String::new(alloc);
@@ -137,7 +137,7 @@ fn outcome_text(alloc: Global, outcome: &Outcome) -> Result<Vec<u8>, Refusal>
 }
 
 fn push_outcome(text: &mut String, outcome: &Outcome) -> Result<(), AllocError>
-    ensures { OnOk result (string_bytes text.new ≡ string_bytes text.old ++ line (replies.outcome_line (outcome_of outcome.now))) }
+    ensures { OnOk result (string_bytes text.new ≡ string_bytes text.old ++ line (replies.outcome_line (outcome_seen outcome.now))) }
 {
     match outcome {
         Outcome::Booked(booking) => {
@@ -245,7 +245,7 @@ fn push_calendar_rows(text: &mut String, rows: &[BookingRow]) -> Result<(), Allo
 
 fn push_log_lines(text: &mut String, lines: &[LogLine]) -> Result<(), AllocError>
     ensures { OnOk result (string_bytes text.new ≡ string_bytes text.old
-        ++ lines_text (lines_or (codes "(no errors)") (map logging_line (map line_logging (map line_of lines.now))))) }
+        ++ lines_text (lines_or (codes "(no errors)") (map logging_line (map line_logging (map log_line_seen lines.now))))) }
 {
     if lines.is_empty() {
         return text.push_str("(no errors)\n");
@@ -276,7 +276,7 @@ fn push_calendar_row(text: &mut String, row: &BookingRow) -> Result<(), AllocErr
 }
 
 fn push_log_line(text: &mut String, line: &LogLine) -> Result<(), AllocError>
-    ensures { OnOk result (string_bytes text.new ≡ string_bytes text.old ++ shown.line (logging_line (line_logging (line_of line.now)))) }
+    ensures { OnOk result (string_bytes text.new ≡ string_bytes text.old ++ shown.line (logging_line (line_logging (log_line_seen line.now)))) }
 {
     match line {
         LogLine::Request(row) => push_error_row(text, row),
@@ -307,7 +307,7 @@ fn push_error_row(text: &mut String, row: &ErrorRow) -> Result<(), AllocError>
 }
 
 fn part_name(part: Part) -> &'static str
-    ensures { result.now ≡ replies.part_text (part_of part) }
+    ensures { result.now ≡ replies.part_text (part_seen part) }
 {
     match part {
         Part::Full => "full",

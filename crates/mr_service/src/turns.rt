@@ -8,7 +8,7 @@ ghost use Rattle.mr_model.specs.Step as model;
 ghost use Rattle.mr_replica.specs.Steps.{submit_request, cancel_request};
 ghost use Rattle.mr_replica.specs.Turning.{put_outcome, put_cancel_outcome};
 ghost use Rattle.mr_tables.specs.Summary.{IsWithin};
-ghost use Rattle.mr_service.specs.Asked.{outcome_of};
+ghost use Rattle.mr_service.specs.Asked.{outcome_seen};
 ghost use Rattle.mr_service.specs.Turns.{Tells, TurnsBy};
 
 use crate::outcomes;
@@ -40,7 +40,7 @@ pub(crate) fn submit(part: &Part, request: Request) -> Result<(Reply, Change), R
 /// What became of the request whose row stands in the change that a submission made. A change without a row, which no replica's
 /// submission makes, has no outcome.
 fn outcome_in(change: &Change) -> Option<Outcome>
-    ensures { IfSome result (λ o. OutcomeIs (outcome_of o) ≡ put_outcome change.now.booking change.now.errorlog) }
+    ensures { IfSome result (λ o. OutcomeIs (outcome_seen o) ≡ put_outcome change.now.booking change.now.errorlog) }
 {
     if let Some(row) = change.booking.first() {
         return Some(booked(row));
@@ -67,7 +67,7 @@ pub(crate) fn cancel(
 /// What became of the cancel whose row stands in the change that it made. A change without a row, which no replica's cancel makes,
 /// has no outcome.
 fn cancel_outcome_in(change: &Change) -> Option<Outcome>
-    ensures { IfSome result (λ o. OutcomeIs (outcome_of o) ≡ put_cancel_outcome change.now.cancels) }
+    ensures { IfSome result (λ o. OutcomeIs (outcome_seen o) ≡ put_cancel_outcome change.now.cancels) }
 {
     let row = change.cancels.first()?;
     Some(outcomes::cancel(row))

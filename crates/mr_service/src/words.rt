@@ -1,7 +1,7 @@
 ghost use Rattle.std.specs.Prelude.{◌≡◌, [], ◌∷◌, map, false, IfOk, IfErr};
 ghost use Rattle.std.specs.List.{list_any};
 ghost use Rattle.mr_model.specs.Step.{slot_of, choice_words};
-ghost use Rattle.mr_base.specs.Answers.{Gives, unless};
+ghost use Rattle.mr_base.specs.Answers.{Gives, unless_faulty};
 ghost use Rattle.mr_service.specs.Asked.{words_of, submission_of};
 ghost use Rattle.mr_service.specs.SubmittedWords.{request_or_fault, slots_in, lacks_day, lacks_time};
 
@@ -62,7 +62,7 @@ fn read_slots(alloc: Global, words: &[SlotWords]) -> Result<Vec<Slot>, Refusal>
 }
 
 fn read_slot(words: &SlotWords) -> Result<Slot, Refusal>
-    ensures { result ≡ unless
+    ensures { result ≡ unless_faulty
         ((lacks_day (words_of words.now), Refusal.BadDay) ∷ (lacks_time (words_of words.now), Refusal.BadTime) ∷ [])
         (slot_of (words_of words.now)) }
 {

@@ -7,7 +7,7 @@ ghost use Rattle.mr_model.specs.World as model;
 ghost use Rattle.mr_model.specs.World.{batch_numbered};
 ghost use Rattle.mr_service.specs.Asked.{local_of};
 ghost use Rattle.mr_service.specs.Stepping.{step_reply_of};
-ghost use Rattle.mr_service.specs.Worlds.{TakesWorldStep, place_among};
+ghost use Rattle.mr_service.specs.Worlds.{TakesWorldStep, member_index};
 
 use crate::commands::Local;
 use crate::members::{Member, find, primary_for};
@@ -30,7 +30,7 @@ pub(crate) fn add(members: &mut Vec<Member>, alloc: Global, server: ServerId) ->
 
 fn add_member(members: &mut Vec<Member>, alloc: Global, server: ServerId) -> StepReply
     requires server { IsTrue (is_server server) }
-    requires none { length members.old.items ≤ place_among members.old.items server }
+    requires none { length members.old.items ≤ member_index members.old.items server }
     ensures { (pool : List Text) → TakesWorldStep (record { members = members.old.items; pool = pool }) (model.Add server) (step_reply_of result)
         (record { members = members.new.items; pool = pool }) }
 {

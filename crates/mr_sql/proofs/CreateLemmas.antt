@@ -7,37 +7,31 @@ use Rattle.sqlite_schema.specs.declared.schema.Schema.{Schema}
 use Rattle.sqlite_catalog.specs.Change.{KeepsRows}
 use Rattle.sqlite_tied.specs.Compute.{everything}
 use Rattle.sqlite.specs.Change.{created, next_tree}
-use Rattle.sqlite.specs.Compile.{table_defined_by}
 use Rattle.sqlite.specs.Command.TheVariants.{CreateTable}
 use Rattle.sqlite.specs.declared.error.Error.{Error}
 use Rattle.sqlite.specs.Effect.{Database}
 use Rattle.sqlite.specs.Does.{Tally, lacks_sequence}
 use Rattle.sqlite.specs.Listing.{understood}
 use Rattle.sqlite.specs.State.{State, HasCleanDisk, Survives, Writes, ExecutesInside}
-use Rattle.sqlite.proofs.Callers.{IsPlain, command_of, statement_of, runs_as}
+use Rattle.sqlite.proofs.Callers.{runs_as}
 use Rattle.sqlite.specs.Steps.{FailsToCommit}
 use Rattle.mr_model.specs.Tables.{MetaRow, Tables}
-use Rattle.mr_rows.specs.Schema.{no_schema, with_meta, with_room, with_vector, with_write_log, with_undo, with_booking, first_schema, with_log, with_cancelled, our_schema, meta_text, room_text, vector_text, write_log_text, undo_text, booking_text, error_text, log_text, cancelled_text, cancel_text, meta_table, room_table, vector_table, write_log_table, undo_table, booking_table, error_table, log_table, cancelled_table, cancel_table}
-use Rattle.mr_rows.specs.Form.{Form, meta_form, room_form, vector_form, log_form, booking_form, error_form, cancelled_form, cancel_form}
+use Rattle.mr_rows.specs.Schema.{no_schema, with_meta, with_room_table, with_vector, with_write_log, with_undo, with_booking, first_schema, with_log, with_cancelled, our_schema, meta_text, room_text, vector_text, write_log_text, undo_text, booking_text, error_text, log_text, cancelled_text, cancel_text, meta_table, room_table, vector_table, write_log_table, undo_table, booking_table, error_table, log_table, cancelled_table, cancel_table}
+use Rattle.mr_rows.specs.Form.{meta_form, room_form, vector_form, log_form, booking_form, error_form, cancelled_form, cancel_form}
 use Rattle.mr_rows.specs.Database.{IsHeld, IsOurs, IsTablesStep, first_meta, in_order, tables_in}
 use Rattle.mr_rows.specs.ChangeParts.{put_meta}
 use Rattle.mr_model.specs.First.{FirstTables}
 use Rattle.mr_first.specs.FirstDatabase.{IsFirst, IsFirstStep, first_in}
 use Rattle.mr_first.specs.FirstParts.{tables_put, no_first_tables}
-use Rattle.mr_first.proofs.Putting.{blank_first}
+use Rattle.mr_first.proofs.FilledDatabase.{blank_first}
 use Rattle.mr_sql.specs.Blank.{IsBlank, IsGrown, GrowsSchema, no_tables}
 use Rattle.mr_rows.proofs.FormLemmas.{went, same_value}
+use Rattle.mr_first.proofs.MakeLemmas.{MakesTable, log_made, cancelled_made, cancel_made, held_none}
 
 blank_push : (tables : List Table) (table : Table) (old new : Trees) → AllByRecursion (λ (t : Table). old t.tree ≡ []) tables → KeepsRows tables old new → new table.tree ≡ []
     → AllByRecursion (λ (t : Table). new t.tree ≡ []) (tables ++ table ∷ [])
 blank_push [] table old new blank same empty = (empty, tt)
 blank_push (t ∷ tables) table old new blank same empty = (same.0 ∙ blank.0, blank_push tables table old new blank.1 same.1 empty)
-
--- a text that makes a table under a schema
-abbrev MakesTable : Schema → List ℕ → Table → Type 0
-MakesTable schema text table =
-    (command_of (understood schema text) ≡ CreateTable) × IsPlain (understood schema text) × (statement_of text (understood schema text) ≡ text) × (table_defined_by text ≡ Ok table)
-    × (lacks_sequence (created schema table) ≡ false)
 
 makes : (schema : Schema) (text : List ℕ) (table : Table) (old new : State) (r : Result ℕ Error) → MakesTable schema text table → IsBlank schema old.now → ExecutesInside 0 text [] old new r
     → OnOk r (IsGrown (created schema table) old new)
@@ -72,15 +66,15 @@ room_made : MakesTable with_meta room_text room_table
 unfolding understood everything
 room_made = (refl, (refl, refl), refl, refl, refl)
 
-pub makes_room : (old new : State) (r : Result ℕ Error) → IsBlank with_meta old.now → ExecutesInside 0 room_text [] old new r → OnOk r (IsGrown with_room old new)
+pub makes_room : (old new : State) (r : Result ℕ Error) → IsBlank with_meta old.now → ExecutesInside 0 room_text [] old new r → OnOk r (IsGrown with_room_table old new)
 makes_room old new r = makes with_meta room_text room_table old new r room_made
 
-vector_made : MakesTable with_room vector_text vector_table
+vector_made : MakesTable with_room_table vector_text vector_table
 unfolding understood everything
 vector_made = (refl, (refl, refl), refl, refl, refl)
 
-pub makes_vector : (old new : State) (r : Result ℕ Error) → IsBlank with_room old.now → ExecutesInside 0 vector_text [] old new r → OnOk r (IsGrown with_vector old new)
-makes_vector old new r = makes with_room vector_text vector_table old new r vector_made
+pub makes_vector : (old new : State) (r : Result ℕ Error) → IsBlank with_room_table old.now → ExecutesInside 0 vector_text [] old new r → OnOk r (IsGrown with_vector old new)
+makes_vector old new r = makes with_room_table vector_text vector_table old new r vector_made
 
 write_log_made : MakesTable with_vector write_log_text write_log_table
 unfolding understood everything
@@ -110,23 +104,11 @@ error_made = (refl, (refl, refl), refl, refl, refl)
 pub makes_error : (old new : State) (r : Result ℕ Error) → IsBlank with_booking old.now → ExecutesInside 0 error_text [] old new r → OnOk r (IsGrown first_schema old new)
 makes_error old new r = makes with_booking error_text error_table old new r error_made
 
-log_made : MakesTable first_schema log_text log_table
-unfolding understood everything
-log_made = (refl, (refl, refl), refl, refl, refl)
-
 pub makes_log : (old new : State) (r : Result ℕ Error) → IsBlank first_schema old.now → ExecutesInside 0 log_text [] old new r → OnOk r (IsGrown with_log old new)
 makes_log old new r = makes first_schema log_text log_table old new r log_made
 
-cancelled_made : MakesTable with_log cancelled_text cancelled_table
-unfolding understood everything
-cancelled_made = (refl, (refl, refl), refl, refl, refl)
-
 pub makes_cancelled : (old new : State) (r : Result ℕ Error) → IsBlank with_log old.now → ExecutesInside 0 cancelled_text [] old new r → OnOk r (IsGrown with_cancelled old new)
 makes_cancelled old new r = makes with_log cancelled_text cancelled_table old new r cancelled_made
-
-cancel_made : MakesTable with_cancelled cancel_text cancel_table
-unfolding understood everything
-cancel_made = (refl, (refl, refl), refl, refl, refl)
 
 pub makes_cancel : (old new : State) (r : Result ℕ Error) → IsBlank with_cancelled old.now → ExecutesInside 0 cancel_text [] old new r → OnOk r (IsGrown our_schema old new)
 makes_cancel old new r = makes with_cancelled cancel_text cancel_table old new r cancel_made
@@ -142,9 +124,6 @@ grows_then a b c first second third (Ok x) s p q clean within blank =
     record { blank = two.blank; committed = two.committed ∙ one.committed; within = two.within }
 
 -- ---- empty tables are ours
-
-held_none : {R K : Type 0} (f : Form R K) → IsHeld f []
-held_none f = record { shelf = record { rise = tt; keyed = tt }; whole = tt; apart = tt }
 
 blank_ours : (db : Database) → IsBlank our_schema db → IsOurs db
 blank_ours db blank =

@@ -16,9 +16,9 @@ use Rattle.mr_rows.specs.Reads.{IsPlacedIn, ReadsWhere}
 use Rattle.mr_rows.proofs.FirstLemmas.{has_moved}
 use Rattle.mr_rows.proofs.QueryLemmas.{asked_where, told_where}
 use Rattle.mr_rows.proofs.SelectLemmas.{sees_all_meta}
-use Rattle.mr_rows.proofs.Texts as second
+use Rattle.mr_rows.proofs.StatementMeaning as second
 use Rattle.mr_first.proofs.Selects.{sees_meta}
-use Rattle.mr_first.proofs.Texts as first
+use Rattle.mr_first.proofs.FirstStatementMeaning as first
 use Rattle.mr_sql.specs.Found.{IsTakenAs, StaysAs}
 use Rattle.mr_sql.specs.Refused.{HasOtherNumber, IsOfTwo}
 use Rattle.mr_sql.proofs.TakenLemmas.{stays, still_taken}

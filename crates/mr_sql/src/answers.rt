@@ -5,7 +5,7 @@ ghost use Rattle.sqlite.specs.Held.{state};
 ghost use Rattle.mr_model.specs.Writes.{same_id};
 ghost use Rattle.mr_model.specs.Queries.{booking_id, error_id, cancelled_id, cancel_id};
 ghost use Rattle.mr_store.specs.Picked.{is_day_asked as day_is_asked, picked_errors, picked_cancelled, picked_cancels, AreBookings, IsPlaceOf};
-ghost use Rattle.mr_rows.specs.RowCells.{booking_in};
+ghost use Rattle.mr_rows.specs.RowCells.{booking_row_from};
 ghost use Rattle.mr_rows.specs.Database.{tables_in};
 ghost use Rattle.mr_rows.specs.Reads.{ReadsKept, first_of, time_cmp};
 ghost use Rattle.mr_sql.specs.PlaceOfId.{AreRowsOf, AreCancelRowsOf, taken_in, chosen};
@@ -53,7 +53,7 @@ fn keep_asked(rows: &mut Vec<BookingRow>, day: Option<Day>)
 
 /// Of these rows those of the day, in the order of a calendar.
 fn calendar(alloc: Global, rows: &[Row], day: Option<Day>) -> Result<Vec<BookingRow>, Error>
-    ensures same { IfOk result (λ out. IsPermutation (filter (λ row. day_is_asked day row.day) (map (λ row. booking_in (Null ∷ row)) rows.now)) out.items) }
+    ensures same { IfOk result (λ out. IsPermutation (filter (λ row. day_is_asked day row.day) (map (λ row. booking_row_from (Null ∷ row)) rows.now)) out.items) }
     ensures sorted { IfOk result (λ out. IsSorted time_cmp out.items) }
 {
     let mut out = read_all(alloc, rows)?;

@@ -1,7 +1,7 @@
 ghost use Rattle.std.specs.Prelude.{◌≡◌, false, IsTrue, OnOk, OnErr};
 ghost use Rattle.sqlite.specs.State.{HasCleanDisk, KeepsCommit, Survives};
 ghost use Rattle.sqlite.specs.Held.{state};
-ghost use Rattle.mr_rows.specs.Schema.{no_schema, with_meta, with_room, with_vector, with_write_log, with_undo, with_booking, first_schema, with_log, with_cancelled, our_schema};
+ghost use Rattle.mr_rows.specs.Schema.{no_schema, with_meta, with_room_table, with_vector, with_write_log, with_undo, with_booking, first_schema, with_log, with_cancelled, our_schema};
 ghost use Rattle.mr_rows.specs.Database.{IsKept, IsTablesStep, tables_in};
 ghost use Rattle.mr_rows.specs.ChangeParts.{put_meta as meta_put};
 ghost use Rattle.mr_sql.specs.Blank.{IsBlank, GrowsSchema, no_tables};
@@ -24,7 +24,7 @@ fn create_meta<S: Alter>(tx: &mut Transaction<'_, S>) -> Result<usize, Error>
 
 fn create_room<S: Alter>(tx: &mut Transaction<'_, S>) -> Result<usize, Error>
     ensures same_reference { tx.new.conn.ghost_name ≡ tx.old.conn.ghost_name }
-    ensures grown { GrowsSchema with_meta with_room (state S.Store tx.old.conn.now) (state S.Store tx.new.conn.now) result }
+    ensures grown { GrowsSchema with_meta with_room_table (state S.Store tx.old.conn.now) (state S.Store tx.new.conn.now) result }
     ensures kept { HasCleanDisk (state S.Store tx.new.conn.now) → KeepsCommit (state S.Store tx.old.conn.now) (state S.Store tx.new.conn.now) }
     ensures survives { Survives (state S.Store tx.old.conn.now) (state S.Store tx.new.conn.now) (λ _. ⊥) }
 {
@@ -36,7 +36,7 @@ fn create_room<S: Alter>(tx: &mut Transaction<'_, S>) -> Result<usize, Error>
 
 fn create_vector<S: Alter>(tx: &mut Transaction<'_, S>) -> Result<usize, Error>
     ensures same_reference { tx.new.conn.ghost_name ≡ tx.old.conn.ghost_name }
-    ensures grown { GrowsSchema with_room with_vector (state S.Store tx.old.conn.now) (state S.Store tx.new.conn.now) result }
+    ensures grown { GrowsSchema with_room_table with_vector (state S.Store tx.old.conn.now) (state S.Store tx.new.conn.now) result }
     ensures kept { HasCleanDisk (state S.Store tx.new.conn.now) → KeepsCommit (state S.Store tx.old.conn.now) (state S.Store tx.new.conn.now) }
     ensures survives { Survives (state S.Store tx.old.conn.now) (state S.Store tx.new.conn.now) (λ _. ⊥) }
 {

@@ -9,7 +9,7 @@ ghost use Rattle.sqlite.specs.Held.{state};
 ghost use Rattle.sqlite.specs.Steps.{over_memory};
 ghost use Rattle.mr_rows.specs.Schema.{first_schema};
 ghost use Rattle.mr_first.specs.FirstDatabase.{first_in};
-ghost use Rattle.mr_first.specs.FirstParts.{AreKeysRising};
+ghost use Rattle.mr_first.specs.FirstParts.{AreFirstKeysRising};
 ghost use Rattle.mr_sql.specs.Found.{IsRaised, LeavesRows, LeavesTables, StaysAs};
 ghost use Rattle.mr_sql.specs.Refused.{HasNoMeta};
 
@@ -54,8 +54,8 @@ impl FirstKeeper<MemStore> {
     pub fn from_tables(alloc: Global, tables: &First) -> Result<FirstKeeper<MemStore>, Refusal>
         ensures made { IfOk result (λ k. first_in (state over_memory k).now.trees ≡ tables.now) }
         ensures settled { IfOk result (λ k. LeavesRows (state over_memory k)) }
-        ensures rising { OnOk result (AreKeysRising tables.now) }
-        ensures twice { (AreKeysRising tables.now → ⊥) → result ≡ Err Refusal.Store }
+        ensures rising { OnOk result (AreFirstKeysRising tables.now) }
+        ensures twice { (AreFirstKeysRising tables.now → ⊥) → result ≡ Err Refusal.Store }
         ensures cause { IfErr result (λ e. (e ≡ Refusal.OutOfMemory) ⊎ (e ≡ Refusal.Store)) }
     {
         if !are_keys_rising(tables) {

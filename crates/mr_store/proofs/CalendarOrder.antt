@@ -7,12 +7,13 @@ use Rattle.std.specs.Cmp.{IsTotalOrder}
 use Rattle.std.proofs.lemmas.Cmp.{on_total, nat_cmp_total, then_total}
 use Rattle.mr_model.specs.Calendar.{Date, same_date, date_before}
 use Rattle.mr_model.specs.Tables.{BookingRow}
-use Rattle.mr_store.specs.Order.{date_cmp, booking_cmp}
+use Rattle.mr_store.specs.Order.{booking_cmp}
+use Rattle.mr_replay.specs.Index.{day_cmp}
 use Rattle.mr_store.specs.Picked.{booking_before}
 
 -- ---- the comparison is total
 
-date_total : IsTotalOrder date_cmp
+date_total : IsTotalOrder day_cmp
 date_total =
     then_total (on_total (λ (d : Date). d.year) nat_cmp_total)
     (then_total (on_total (λ (d : Date). d.month) nat_cmp_total) (on_total (λ (d : Date). d.day) nat_cmp_total))

@@ -1,8 +1,8 @@
--- A reader of the contracts trusts KeeperCalls, Lists, Picked, and of Cached `NeverFails`. The others serve private clauses and
+-- A reader of the contracts trusts KeeperCalls, KeeperLists, Picked, and of Cached `NeverFails`. The others serve private clauses and
 -- proofs alone.
 pub mod Cached
 pub mod KeeperCalls
-pub mod Lists
+pub mod KeeperLists
 pub mod Marks
 pub mod Order
 pub mod Picked

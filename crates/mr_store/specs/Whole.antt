@@ -3,7 +3,7 @@ use Rattle.std.specs.Prelude.{◌≡◌, ◌≤◌, length, nat_lt}
 use Rattle.mr_model.specs.Replica.{text_before}
 use Rattle.mr_model.specs.Tables.{Tables}
 use Rattle.mr_model.specs.Queries.{booking_id, error_id, cancelled_id, cancel_id}
-use Rattle.mr_tables.specs.Change.{ChangeView, put_all, without, id_before, log_id}
+use Rattle.mr_tables.specs.Change.{ChangeView, put_all, rows_without, id_before, log_id}
 use Rattle.mr_store.specs.RowsAround.{AreInOrder}
 use Rattle.mr_store.specs.Spliced.{spliced}
 use Rattle.mr_store.specs.declared.fresh.FreshRows.{FreshRows}
@@ -30,9 +30,9 @@ pub record AreSpliced (t : Tables) (fresh : FreshRows) : Type 0 where
 
 -- the change in the tables that have fresh rows; the others are as they were
 pub record ChangesSpliced (c : ChangeView) (old new : Tables) : Type 0 where
-  pub log : new.log ≡ put_all id_before log_id c.log (without log_id c.dropped old.log)
-  pub booking : new.booking ≡ put_all id_before booking_id c.booking (without booking_id c.unbooked old.booking)
-  pub errorlog : new.errorlog ≡ put_all id_before error_id c.errorlog (without error_id c.unlogged old.errorlog)
+  pub log : new.log ≡ put_all id_before log_id c.log (rows_without log_id c.dropped old.log)
+  pub booking : new.booking ≡ put_all id_before booking_id c.booking (rows_without booking_id c.unbooked old.booking)
+  pub errorlog : new.errorlog ≡ put_all id_before error_id c.errorlog (rows_without error_id c.unlogged old.errorlog)
   pub room : new.room ≡ old.room
   pub vector : new.vector ≡ old.vector
   pub cancelled : new.cancelled ≡ old.cancelled
@@ -45,6 +45,6 @@ others_changed c t =
       meta = c.meta;
       room = put_all text_before (λ name. name) c.room t.room;
       vector = put_all nat_lt (λ row. row.server) c.vector t.vector;
-      cancelled = put_all id_before cancelled_id c.cancelled (without cancelled_id c.uncancelled t.cancelled);
+      cancelled = put_all id_before cancelled_id c.cancelled (rows_without cancelled_id c.uncancelled t.cancelled);
       cancels = put_all id_before cancel_id c.cancels t.cancels;
     }

@@ -28,7 +28,7 @@ pub struct ListKeeper {
 }
 
 impl Model for ListKeeper {
-    ghost use Rattle.mr_store.specs.Lists.{Lists};
+    ghost use Rattle.mr_store.specs.KeeperLists.{Lists};
 
     ghost Value = { Lists };
 

@@ -1,6 +1,6 @@
 ghost use Rattle.std.specs.Prelude.{◌≡◌, ◌+◌, ◌<◌, ◌≤◌, [], List, true, reverse, IfOk};
 ghost use Rattle.std.specs.Vec.{vec_len, vec_capacity};
-ghost use Rattle.mr_tables.specs.Change.{put, put_all, without};
+ghost use Rattle.mr_tables.specs.Change.{put, put_all, rows_without};
 ghost use Rattle.mr_tables.proofs.Putting.{InOrder};
 ghost use Rattle.mr_store.specs.RowsAround.{around, Precede};
 
@@ -99,7 +99,7 @@ pub(crate) fn change_rows<R: WriteRow>(
     requires spare { vec_len rows.old + vec_len puts.left ≤ vec_capacity puts.behind }
     requires none { puts.behind.items ≡ [] }
     requires order { is_ordered ≡ true → InOrder R.before R.key rows.old.items }
-    ensures { rows.new.items ≡ put_all R.before R.key (reverse puts.left.items) (without R.id gone.now rows.old.items) }
+    ensures { rows.new.items ≡ put_all R.before R.key (reverse puts.left.items) (rows_without R.id gone.now rows.old.items) }
 {
     take_away(rows, gone);
     put_rows(rows, puts, is_ordered);

@@ -2,7 +2,7 @@ ghost use Rattle.std.specs.Prelude.{◌≡◌, ◌≤◌, Bool, true, bytes_eq, 
 ghost use Rattle.mr_model.specs.Texts.{Text};
 ghost use Rattle.mr_model.specs.Writes.{Id, same_id};
 ghost use Rattle.mr_model.specs.Replica.{is_among};
-ghost use Rattle.mr_tables.specs.Change.{without};
+ghost use Rattle.mr_tables.specs.Change.{rows_without};
 ghost use Rattle.mr_tables.proofs.Putting.{IsOrder, InOrder};
 ghost use Rattle.std.specs.Vec.{vec_len, vec_capacity};
 
@@ -63,7 +63,7 @@ pub(crate) fn is_in_order<R: TableRow>(rows: &[R]) -> bool
 
 /// Takes the rows of these writes away, in one pass where there are any.
 pub(crate) fn take_away<R: WriteRow>(rows: &mut Vec<R>, gone: &[WriteId])
-    ensures items { rows.new.items ≡ without R.id gone.now rows.old.items }
+    ensures items { rows.new.items ≡ rows_without R.id gone.now rows.old.items }
     ensures len { vec_len rows.new ≤ vec_len rows.old }
     ensures capacity { vec_capacity rows.new ≡ vec_capacity rows.old }
 {

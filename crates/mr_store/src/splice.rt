@@ -1,7 +1,7 @@
 ghost use Rattle.std.specs.Prelude.{◌≡◌, ◌≤◌, [], true, IfOk, OnOk, OnErr};
 ghost use Rattle.std.specs.Vec.{vec_len};
 ghost use Rattle.mr_model.specs.Dropped.{Has};
-ghost use Rattle.mr_tables.specs.Change.{put_all, without};
+ghost use Rattle.mr_tables.specs.Change.{put_all, rows_without};
 ghost use Rattle.mr_tables.proofs.Putting.{InOrder};
 ghost use Rattle.mr_store.specs.RowsAround.{Precede};
 ghost use Rattle.mr_store.specs.Spliced.{spliced, Follow};
@@ -67,7 +67,7 @@ pub(crate) fn change_spliced<R: WriteRow>(
     requires place { fresh.old.at ≤ vec_len rows.old }
     requires order { InOrder R.before R.key (spliced rows.old.items fresh.old.at fresh.old.rows.items) }
     ensures place { IfOk result (λ same. fresh.new.at ≤ vec_len rows.new) }
-    ensures changed { IfOk result (λ same. spliced rows.new.items fresh.new.at fresh.new.rows.items ≡ put_all R.before R.key news.now (without R.id gone.now (spliced rows.old.items fresh.old.at fresh.old.rows.items))) }
+    ensures changed { IfOk result (λ same. spliced rows.new.items fresh.new.at fresh.new.rows.items ≡ put_all R.before R.key news.now (rows_without R.id gone.now (spliced rows.old.items fresh.old.at fresh.old.rows.items))) }
     ensures same { IfOk result (λ same. same ≡ true → rows.new.items ≡ rows.old.items) }
 {
     if gone.is_empty() && takes(rows, fresh, news) {
@@ -91,7 +91,7 @@ fn change_settled<R: WriteRow>(
     requires none { fresh.old.rows.items ≡ [] }
     requires order { InOrder R.before R.key rows.old.items }
     ensures place { OnOk result (fresh.new.at ≤ vec_len rows.new) }
-    ensures changed { OnOk result (spliced rows.new.items fresh.new.at fresh.new.rows.items ≡ put_all R.before R.key news.now (without R.id gone.now rows.old.items)) }
+    ensures changed { OnOk result (spliced rows.new.items fresh.new.at fresh.new.rows.items ≡ put_all R.before R.key news.now (rows_without R.id gone.now rows.old.items)) }
 {
     fresh.at = place_for(rows, news);
     if gone.is_empty() && takes(rows, fresh, news) {
@@ -135,7 +135,7 @@ pub(crate) fn change_list<R: WriteRow>(
     news: &[R],
 ) -> Result<(), AllocError>
     requires { InOrder R.before R.key rows.old.items }
-    ensures { OnOk result (rows.new.items ≡ put_all R.before R.key news.now (without R.id gone.now rows.old.items)) }
+    ensures { OnOk result (rows.new.items ≡ put_all R.before R.key news.now (rows_without R.id gone.now rows.old.items)) }
 {
     let puts = prepare(alloc, rows, news, true)?;
     change_rows(rows, gone, puts, true);

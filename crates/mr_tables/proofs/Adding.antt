@@ -8,8 +8,8 @@ use Rattle.mr_model.specs.Writes.{Id, Write}
 use Rattle.mr_model.specs.Tables.{MetaRow, VectorRow, LogRow, PlaceRow, Booked, Erred, Cancelled, Cancel, as_booking, as_error, as_cancelled, as_cancel}
 use Rattle.mr_model.specs.Queries.{booking_id, error_id, cancelled_id}
 use Rattle.mr_replay.specs.Places.{UndoRow}
-use Rattle.mr_tables.specs.Rows.{log_row_on, place_row_on, log_rows, place_rows}
-use Rattle.mr_tables.specs.Written.{not_booked, not_erred, not_cancelled, with_places, written, with_place, with_rows}
+use Rattle.mr_tables.specs.ExecutionRows.{log_row_on, place_row_on, log_rows, place_rows}
+use Rattle.mr_tables.specs.Written.{not_booked, not_erred, not_cancelled, with_places, written, with_place, with_write_rows}
 
 -- ---- lists of rows
 
@@ -105,18 +105,18 @@ place-push meta rooms vector log places (Cancel row) = λ i. record {
 
 -- ---- write by write
 
-pub written-push : (meta : MetaRow) (rooms : List Text) (vector : List VectorRow) (commits k : ℕ) (ws : List Write) (us : List UndoRow) (bys : List (Option Id)) (w : Write) (u : UndoRow) (by : Option Id) → length us ≡ length ws → length bys ≡ length ws → with_rows (written meta rooms vector commits k ws us bys) commits (k + length ws) w u by ≡ written meta rooms vector commits k (ws ++ w ∷ []) (us ++ u ∷ []) (bys ++ by ∷ [])
+pub written-push : (meta : MetaRow) (rooms : List Text) (vector : List VectorRow) (commits k : ℕ) (ws : List Write) (us : List UndoRow) (bys : List (Option Id)) (w : Write) (u : UndoRow) (by : Option Id) → length us ≡ length ws → length bys ≡ length ws → with_write_rows (written meta rooms vector commits k ws us bys) commits (k + length ws) w u by ≡ written meta rooms vector commits k (ws ++ w ∷ []) (us ++ u ∷ []) (bys ++ by ∷ [])
 written-push meta rooms vector commits k ws us bys w u by l m =
     place-push meta rooms vector (log_rows commits k ws us ++ log_row_on commits (k + length ws) w u ∷ []) (place_rows commits k ws us bys) (place_row_on commits (k + length ws) w u by)
     ∙ (λ i. with_places meta rooms vector (sym (log_rows-push commits k ws us w u l) i) (sym (place_rows-push commits k ws us bys w u by l m) i))
 
 -- one write more of three lists
-pub written-more : (meta : MetaRow) (rooms : List Text) (vector : List VectorRow) (commits k i : ℕ) (ws : List Write) (us : List UndoRow) (bys : List (Option Id)) (w : Write) (u : UndoRow) (by : Option Id) → length us ≡ length ws → length bys ≡ length ws → i < length ws → w ≡ get_or ws i w → u ≡ get_or us i u → by ≡ get_or bys i by → with_rows (written meta rooms vector commits k (take i ws) (take i us) (take i bys)) commits (k + i) w u by ≡ written meta rooms vector commits k (take (i + 1) ws) (take (i + 1) us) (take (i + 1) bys)
+pub written-more : (meta : MetaRow) (rooms : List Text) (vector : List VectorRow) (commits k i : ℕ) (ws : List Write) (us : List UndoRow) (bys : List (Option Id)) (w : Write) (u : UndoRow) (by : Option Id) → length us ≡ length ws → length bys ≡ length ws → i < length ws → w ≡ get_or ws i w → u ≡ get_or us i u → by ≡ get_or bys i by → with_write_rows (written meta rooms vector commits k (take i ws) (take i us) (take i bys)) commits (k + i) w u by ≡ written meta rooms vector commits k (take (i + 1) ws) (take (i + 1) us) (take (i + 1) bys)
 written-more meta rooms vector commits k i ws us bys w u by l m low p q r =
     let a : length (take i ws) ≡ i = length-take-le i ws (omega (arith, low)) in
     let b : length (take i us) ≡ i = length-take-le i us (omega (arith, low, l)) in
     let c : length (take i bys) ≡ i = length-take-le i bys (omega (arith, low, m)) in
-    ap (λ n. with_rows (written meta rooms vector commits k (take i ws) (take i us) (take i bys)) commits (k + n) w u by) (sym a)
+    ap (λ n. with_write_rows (written meta rooms vector commits k (take i ws) (take i us) (take i bys)) commits (k + n) w u by) (sym a)
     ∙ written-push meta rooms vector commits k (take i ws) (take i us) (take i bys) w u by (b ∙ sym a) (c ∙ sym a)
     ∙ (λ t. written meta rooms vector commits k (take i ws ++ p t ∷ []) (take i us ++ q t ∷ []) (take i bys ++ r t ∷ []))
     ∙ (λ t. written meta rooms vector commits k (sym (take_more ws i w low) t) (sym (take_more us i u (omega (arith, low, l))) t) (sym (take_more bys i by (omega (arith, low, m))) t))

@@ -35,13 +35,13 @@ use Rattle.mr_tables.specs.Boards.{booking_entry, error_entry, cancelled_entry, 
 
 -- ---- the entry that a row makes on the board
 
-abbrev entry_of : PlaceRow → Option (Id × Row)
+abbrev pub entry_of : PlaceRow → Option (Id × Row)
 entry_of (Booked row) = Some (booking_entry row)
 entry_of (Erred row) = Some (error_entry row)
 entry_of (Cancelled row) = Some (cancelled_entry row)
 entry_of (Cancel row) = cond (is_void row) (Some (cancel_entry row)) None
 
-abbrev entry_with : Id → Option Row → Option (Id × Row)
+abbrev pub entry_with : Id → Option Row → Option (Id × Row)
 entry_with i None = None
 entry_with i (Some row) = Some (i, row)
 
@@ -53,7 +53,7 @@ meeting-entry w m None by mark seq = λ i. Some (id_of w, record { room = w.room
 meeting-entry w m (Some s) None mark seq = λ i. Some (id_of w, record { room = w.room; kept = OfBooking s (long s.start m.length i) m.title standing.Booked })
 meeting-entry w m (Some s) (Some c) mark seq = λ i. Some (id_of w, record { room = w.room; kept = OfBooking s (long s.start m.length i) m.title (CancelledBy c) })
 
-row-entry : (w : Write) (a : Action) (p : Place) (by : Option Id) (mark : Bool) (seq : ℕ) → entry_of (place_row_for w a p by mark seq) ≡ entry_with (id_of w) (option_map (λ k. record { room = w.room; kept = k }) (kept_for w a p by))
+pub row-entry : (w : Write) (a : Action) (p : Place) (by : Option Id) (mark : Bool) (seq : ℕ) → entry_of (place_row_for w a p by mark seq) ≡ entry_with (id_of w) (option_map (λ k. record { room = w.room; kept = k }) (kept_for w a p by))
 row-entry w (Books m) p by mark seq = meeting-entry w m (slot_at w p) by mark seq
 row-entry w (Cancels t) (Taken k) by mark seq = refl
 row-entry w (Cancels t) Logged by mark seq = refl
@@ -78,10 +78,10 @@ entry_parts r w e s = go (known_row r w) refl (sym (known-entry r w) ∙ s)
 
 -- ---- all entries of the tables
 
-abbrev all_entries : Tables → List (Id × Row)
+abbrev pub all_entries : Tables → List (Id × Row)
 all_entries t = map booking_entry t.booking ++ (map error_entry t.errorlog ++ (map cancelled_entry t.cancelled ++ map cancel_entry (filter is_void t.cancels)))
 
-entries-append : (xs ys : List (Id × Row)) (b : Rows) → put_entries (xs ++ ys) b ≡ put_entries ys (put_entries xs b)
+pub entries-append : (xs ys : List (Id × Row)) (b : Rows) → put_entries (xs ++ ys) b ≡ put_entries ys (put_entries xs b)
 entries-append [] ys b = refl
 entries-append (x ∷ xs) ys b = entries-append xs ys (insert_entry id_cmp b x.0 x.1)
 
@@ -291,7 +291,7 @@ holds_in r room h i = go (known_or_none i r.known)
     go (inl (w, a, e)) = in_room w a e (bytes_eq w.room room) refl
     go (inr f) = ap (if_of room) (unknown_at r i f) ∙ sym (told_none r room i h (λ w a s e. f w a e)) ∙ sym (row-told r room i)
 
-entries_ordered : (es : List (Id × Row)) (b : Rows) → IsInOrder b → IsInOrder (put_entries es b)
+pub entries_ordered : (es : List (Id × Row)) (b : Rows) → IsInOrder b → IsInOrder (put_entries es b)
 entries_ordered [] b h = h
 entries_ordered (e ∷ es) b h = entries_ordered es (insert_entry id_cmp b e.0 e.1) (in_order-put b e.0 e.1 h)
 

@@ -4,7 +4,7 @@ use Rattle.std.specs.Prelude.{flat_map}
 use Rattle.mr_model.specs.Texts.{Text, words}
 use Rattle.mr_model.specs.Calendar.{date_text, time_text}
 use Rattle.mr_model.specs.Slots.{Slot, slot_words}
-use Rattle.mr_tables.specs.Rows.{slot_text, more_slots}
+use Rattle.mr_tables.specs.ExecutionRows.{slot_text, more_slots}
 
 behind_word : (t : Text) (ss : List Slot) → words (t ∷ flat_map slot_words ss) ≡ t ++ more_slots ss
 behind_word t [] = sym (append-nil t)

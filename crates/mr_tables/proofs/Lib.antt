@@ -1,13 +1,13 @@
-pub mod Limits
+pub mod CountLimits
 pub mod Summaries
 pub mod Naming
-pub mod Positions
+pub mod TallyCounts
 pub mod Putting
 pub mod ChoiceTexts
 pub mod Adding
 pub mod Servers
 pub mod Tallying
-pub mod Words
+pub mod FrontWords
 pub mod LogRows
 pub mod Rising
 pub mod BoardEntries

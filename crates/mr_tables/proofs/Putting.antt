@@ -10,7 +10,7 @@ use Rattle.mr_model.specs.Dropped.{Has}
 use Rattle.mr_model.specs.Changes.{IdBefore}
 use Rattle.mr_model.proofs.Members.{Sorted, sorted_same, sorted_filter, has_filter, filter_has, all_has, has_all, has_among, not_among}
 use Rattle.mr_model.proofs.OrderedSets.{name_trans, name_total}
-use Rattle.mr_tables.specs.Change.{put, put_all, without, id_before}
+use Rattle.mr_tables.specs.Change.{put, put_all, rows_without, id_before}
 
 -- a test that orders keys: no key is before itself, and of two different ones one is before the other
 pub record IsOrder (K : Type 0) (before : K → K → Bool) : Type 0 where
@@ -275,22 +275,22 @@ name_order = record { irreflexive = irreflexive; transitive = name_trans; total 
 
 -- ---- rows taken away
 
-pub without_has : {R : Type 0} (key : R → Id) (gone : List Id) (row : R) (rows : List R) → Has row (without key gone rows) → Has row rows × (Has (key row) gone → ⊥)
+pub without_has : {R : Type 0} (key : R → Id) (gone : List Id) (row : R) (rows : List R) → Has row (rows_without key gone rows) → Has row rows × (Has (key row) gone → ⊥)
 without_has key gone row rows h =
     let p = filter_has (λ r. not (is_among (key r) gone)) row rows h in
     (p.0, λ a. true≢false (sym (has_among (key row) gone a) ∙ not-true (is_among (key row) gone) p.1))
 
-pub has_without : {R : Type 0} (key : R → Id) (gone : List Id) (row : R) (rows : List R) → Has row rows → (Has (key row) gone → ⊥) → Has row (without key gone rows)
+pub has_without : {R : Type 0} (key : R → Id) (gone : List Id) (row : R) (rows : List R) → Has row rows → (Has (key row) gone → ⊥) → Has row (rows_without key gone rows)
 has_without key gone row rows h f = has_filter (λ r. not (is_among (key r) gone)) row rows (ap not (not_among (key row) gone f)) h
 
 -- the same where rows are taken away first
-pub change_makes : {R : Type 0} (key : R → Id) (gone : List Id) (xs old new : List R) → InOrder id_before key old → InOrder id_before key new → ((row : R) → Has row xs → Has row new) → ((row : R) → Has row old → Lacks key (key row) xs → (Has (key row) gone → ⊥) → Has row new) → ((row : R) → Has row new → Has row xs ⊎ (Has row old × (Has (key row) gone → ⊥))) → put_all id_before key xs (without key gone old) ≡ new
+pub change_makes : {R : Type 0} (key : R → Id) (gone : List Id) (xs old new : List R) → InOrder id_before key old → InOrder id_before key new → ((row : R) → Has row xs → Has row new) → ((row : R) → Has row old → Lacks key (key row) xs → (Has (key row) gone → ⊥) → Has row new) → ((row : R) → Has row new → Has row xs ⊎ (Has row old × (Has (key row) gone → ⊥))) → put_all id_before key xs (rows_without key gone old) ≡ new
 change_makes {R} key gone xs old new s t f g h =
-    puts_make id_before key id_order xs (without key gone old) new
+    puts_make id_before key id_order xs (rows_without key gone old) new
     (sorted_filter (λ x y. id_before (key x) (key y) ≡ true) (λ row. not (is_among (key row) gone)) old s) t f
     (λ row a l. let p = without_has key gone row old a in g row p.0 l p.1)
     (λ row a. go row (h row a))
   where
-    go : (row : R) → Has row xs ⊎ (Has row old × (Has (key row) gone → ⊥)) → Has row xs ⊎ Has row (without key gone old)
+    go : (row : R) → Has row xs ⊎ (Has row old × (Has (key row) gone → ⊥)) → Has row xs ⊎ Has row (rows_without key gone old)
     go row (inl a) = inl a
     go row (inr p) = inr (has_without key gone row old p.0 p.1)

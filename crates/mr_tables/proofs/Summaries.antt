@@ -9,7 +9,7 @@ use Rattle.mr_model.specs.Writes.{Id, Write}
 use Rattle.mr_model.specs.Replica.{Replica, IsReplica, count_of, last_time, committed_count, clock_of, commits_of, add_write, add_commit}
 use Rattle.mr_model.specs.Changes.{IsNext}
 use Rattle.mr_model.proofs.WithWrite.{count-with_write, greatest-with_write, clock-with_write}
-use Rattle.mr_tables.proofs.Limits.{few_commits}
+use Rattle.mr_tables.proofs.CountLimits.{few_commits}
 use Rattle.mr_tables.specs.declared.summary.Tally.{Tally}
 use Rattle.mr_tables.specs.Summary.{no_tally, tally_at, tally_of, summary_of, noted_write, noted_commit}
 

@@ -20,8 +20,8 @@ put_all before key [] rows = rows
 put_all before key (x ∷ xs) rows = put_all before key xs (put before key x rows)
 
 -- the rows whose ids are not among these
-abbrev pub without : {R : Type 0} → (R → Id) → List Id → List R → List R
-without key gone rows = filter (λ row. not (is_among (key row) gone)) rows
+abbrev pub rows_without : {R : Type 0} → (R → Id) → List Id → List R → List R
+rows_without key gone rows = filter (λ row. not (is_among (key row) gone)) rows
 
 -- ---- keys
 
@@ -56,9 +56,9 @@ changed c t =
       meta = c.meta;
       room = put_all text_before (λ name. name) c.room t.room;
       vector = put_all nat_lt (λ row. row.server) c.vector t.vector;
-      log = put_all id_before log_id c.log (without log_id c.dropped t.log);
-      booking = put_all id_before booking_id c.booking (without booking_id c.unbooked t.booking);
-      errorlog = put_all id_before error_id c.errorlog (without error_id c.unlogged t.errorlog);
-      cancelled = put_all id_before cancelled_id c.cancelled (without cancelled_id c.uncancelled t.cancelled);
+      log = put_all id_before log_id c.log (rows_without log_id c.dropped t.log);
+      booking = put_all id_before booking_id c.booking (rows_without booking_id c.unbooked t.booking);
+      errorlog = put_all id_before error_id c.errorlog (rows_without error_id c.unlogged t.errorlog);
+      cancelled = put_all id_before cancelled_id c.cancelled (rows_without cancelled_id c.uncancelled t.cancelled);
       cancels = put_all id_before cancel_id c.cancels t.cancels;
     }

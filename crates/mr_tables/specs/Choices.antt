@@ -15,6 +15,6 @@ abbrev pub IsUnderWay : List Slot → List Slot → Text → Type 0
 IsUnderWay ss read rest = (left : List Slot) × (ss ≡ read ++ left) × IsTextOf rest left
 
 -- the answer is that slot, with that rest of the text
-abbrev pub Gives : Option (Slot × Bor Text) → Slot → Text → Type 0
-Gives None s rest = ⊥
-Gives (Some x) s rest = (x.0 ≡ s) × (x.1.now ≡ rest)
+abbrev pub GivesSlot : Option (Slot × Bor Text) → Slot → Text → Type 0
+GivesSlot None s rest = ⊥
+GivesSlot (Some x) s rest = (x.0 ≡ s) × (x.1.now ≡ rest)

@@ -3,11 +3,11 @@ pub mod Summary
 pub mod Rooms
 pub mod Change
 pub mod Cells
-pub mod Rows
+pub mod ExecutionRows
 pub mod Tallied
 pub mod Written
 pub mod Choices
 pub mod Boards
 pub mod OldErrors
 pub mod SoundRows
-pub mod Laws
+pub mod TableLaws

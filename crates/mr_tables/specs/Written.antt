@@ -9,7 +9,7 @@ use Rattle.mr_tables.specs.declared.summary.Tally.{Tally}
 use Rattle.mr_tables.specs.declared.summary.Summary.{Summary}
 use Rattle.mr_tables.specs.Summary.{tally_at}
 use Rattle.mr_tables.specs.Change.{ChangeView}
-use Rattle.mr_tables.specs.Rows.{log_row_on, place_row_on, log_rows, place_rows}
+use Rattle.mr_tables.specs.ExecutionRows.{log_row_on, place_row_on, log_rows, place_rows}
 use Rattle.mr_tables.specs.Tallied.{tally_rows}
 
 abbrev pub meta_of : Summary → MetaRow
@@ -81,8 +81,8 @@ forgotten meta ids = record (with_places meta [] [] [] []) { dropped = ids }
 
 -- ---- row by row
 
-abbrev pub with_log : ChangeView → LogRow → ChangeView
-with_log c row = record c { log = c.log ++ row ∷ [] }
+abbrev pub with_log_row : ChangeView → LogRow → ChangeView
+with_log_row c row = record c { log = c.log ++ row ∷ [] }
 
 abbrev pub with_place : ChangeView → PlaceRow → ChangeView
 with_place c (Booked row) =
@@ -106,5 +106,5 @@ with_place c (Cancelled row) =
 with_place c (Cancel row) = record c { cancels = c.cancels ++ row ∷ [] }
 
 -- the rows of one write more, the k-th of the order
-abbrev pub with_rows : ChangeView → ℕ → ℕ → Write → UndoRow → Option Id → ChangeView
-with_rows c commits k w u by = with_place (with_log c (log_row_on commits k w u)) (place_row_on commits k w u by)
+abbrev pub with_write_rows : ChangeView → ℕ → ℕ → Write → UndoRow → Option Id → ChangeView
+with_write_rows c commits k w u by = with_place (with_log_row c (log_row_on commits k w u)) (place_row_on commits k w u by)

@@ -4,7 +4,7 @@ ghost use Rattle.std.specs.String.{string_bytes};
 ghost use Rattle.mr_model.specs.Texts.{words};
 ghost use Rattle.mr_model.specs.Slots.{slot_words};
 ghost use Rattle.mr_model.specs.Writes.{choices_of};
-ghost use Rattle.mr_tables.specs.Rows.{slot_text, more_slots};
+ghost use Rattle.mr_tables.specs.ExecutionRows.{slot_text, more_slots};
 
 use mr_base::{Meeting, Slot, TimeOfDay};
 use std::alloc::{AllocError, Global};

@@ -6,7 +6,7 @@
 //! public are there for `mr_replica` and `mr_part`, which make rows of their own values, and read these off rows.
 #![tactic(auto)]
 
-ghost use Rattle.mr_tables.specs.Laws.{RowsAreWithin, RowsTellTheBoard};
+ghost use Rattle.mr_tables.specs.TableLaws.{RowsAreWithin, RowsTellTheBoard};
 
 pub mod boards;
 mod cancel_rows;

@@ -73,7 +73,7 @@ pub struct LogRow {
 
 impl Model for LogRow {
     ghost use Rattle.mr_model.specs.Tables as tables;
-    ghost use Rattle.mr_replay.specs.Places.{place_of};
+    ghost use Rattle.mr_replay.specs.Places.{place_seen};
     ghost use Rattle.mr_tables.specs.Cells.{action_cells};
 
     ghost Value = { tables.LogRow };
@@ -84,7 +84,7 @@ impl Model for LogRow {
       time = r.time;
       room = r.room;
       action = action_cells r.action;
-      place = place_of r.place;
+      place = place_seen r.place;
       seq = r.seq;
     } };
 }

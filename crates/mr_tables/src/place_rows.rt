@@ -1,6 +1,6 @@
 ghost use Rattle.std.specs.Prelude.{◌≡◌, ◌+◌, ◌≤◌, IfOk, IfErr, IfSome};
-ghost use Rattle.mr_model.specs.Tables.{booked_in, erred_in, taken_back, cancel_in, is_done, booking_place_row, place_row_for};
-ghost use Rattle.mr_replay.specs.Places.{place_of};
+ghost use Rattle.mr_model.specs.Tables.{booked_in, erred_in, taken_back, cancel_row_for, is_done, booking_place_row, place_row_for};
+ghost use Rattle.mr_replay.specs.Places.{place_seen};
 ghost use Rattle.mr_replay.specs.Rows.{choice_at};
 ghost use Rattle.mr_tables.specs.Cells.{place_row_of};
 
@@ -29,7 +29,7 @@ impl PlaceRow {
         committed: bool,
         seq: u64,
     ) -> Result<PlaceRow, Refusal>
-        ensures row { IfOk result (λ row. place_row_of row ≡ place_row_for write.now write.now.action (place_of place) by committed seq) }
+        ensures row { IfOk result (λ row. place_row_of row ≡ place_row_for write.now write.now.action (place_seen place) by committed seq) }
         ensures only { IfErr result (λ e. e ≡ Refusal.OutOfMemory) }
     {
         match &write.action {
@@ -47,7 +47,7 @@ impl PlaceRow {
 
 /// The slot that a meeting has at its place. It ends on its day.
 pub fn slot_at(meeting: &Meeting, place: Place) -> Option<Slot>
-    ensures slot { result ≡ choice_at meeting.now (place_of place) }
+    ensures slot { result ≡ choice_at meeting.now (place_seen place) }
     ensures fits { IfSome result (λ s. s.start + meeting.now.length ≤ 1440) }
 {
     match place {
@@ -149,7 +149,7 @@ pub fn cancel_row(
     place: Place,
     seq: u64,
 ) -> Result<CancelRow, Refusal>
-    ensures row { IfOk result (λ row. row ≡ cancel_in write.now target (place_of place) seq) }
+    ensures row { IfOk result (λ row. row ≡ cancel_row_for write.now target (place_seen place) seq) }
     ensures only { IfErr result (λ e. e ≡ Refusal.OutOfMemory) }
 {
     let room = write.room.copy(alloc)?;
@@ -165,7 +165,7 @@ pub fn cancel_row(
 }
 
 fn is_done(place: Place) -> bool
-    ensures { result ≡ is_done (place_of place) }
+    ensures { result ≡ is_done (place_seen place) }
 {
     place == Place::Done
 }

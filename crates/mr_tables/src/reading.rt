@@ -7,7 +7,7 @@ ghost use Rattle.mr_model.specs.Replay.{Place as PlaceOfWrite};
 ghost use Rattle.mr_model.specs.Tables.{log_row_with};
 ghost use Rattle.mr_base.specs.Answers.{OrOutOfMemory};
 ghost use Rattle.mr_tables.specs.Cells.{meeting_cells};
-ghost use Rattle.mr_tables.specs.Choices.{IsTextOf, Gives};
+ghost use Rattle.mr_tables.specs.Choices.{IsTextOf, GivesSlot};
 
 use crate::{ActionCells, LogRow, MeetingCells};
 use mr_base::{
@@ -127,7 +127,7 @@ fn slots_of(alloc: Global, text: &str) -> Result<Vec<Slot>, Refusal>
 
 /// The slot at the front of a text, and what stands behind it and a space.
 fn next_slot(text: &str) -> Option<(Slot, &str)>
-    ensures read { (s : SlotOfDay) (ss : List SlotOfDay) → IsTextOf text.now (s ∷ ss) → Gives result s (words (flat_map slot_words ss)) }
+    ensures read { (s : SlotOfDay) (ss : List SlotOfDay) → IsTextOf text.now (s ∷ ss) → GivesSlot result s (words (flat_map slot_words ss)) }
     ensures shorter { IfSome result (λ x. length x.1.now < length text.now) }
     ensures utf8 { IfSome result (λ x. IsUtf8 x.1.now) }
 {

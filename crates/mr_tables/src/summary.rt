@@ -3,7 +3,7 @@ ghost use Rattle.std.specs.List.{All};
 ghost use Rattle.mr_model.specs.Texts.{numbers_on};
 ghost use Rattle.mr_model.specs.Writes.{id_of};
 ghost use Rattle.mr_model.specs.Replica.{opening};
-ghost use Rattle.mr_base.specs.Positions.{counts_of};
+ghost use Rattle.mr_base.specs.PositionCounts.{counts_of_pairs};
 ghost use Rattle.mr_tables.specs.Summary.{summary_of, IsWithin, noted_write, noted_commit, noted_commits, committed_len, counts_in, stamp_next, tally_at};
 
 use mr_base::{Refusal, ServerId, Stamp, Write, WriteId};
@@ -129,7 +129,7 @@ impl Summary {
 
     /// The counts of the servers that have a write, by rising server.
     pub fn counts(&self, alloc: Global) -> Result<Vec<(ServerId, u32)>, Refusal>
-        ensures counts { IfOk result (λ counts. counts_of counts.items ≡ counts_in self.now.tallies (numbers_on 1 99)) }
+        ensures counts { IfOk result (λ counts. counts_of_pairs counts.items ≡ counts_in self.now.tallies (numbers_on 1 99)) }
         ensures only { IfErr result (λ e. e ≡ Refusal.OutOfMemory) }
     {
         let mut counts = Vec::new(alloc);
@@ -141,7 +141,7 @@ impl Summary {
 
     fn push_count(&self, number: u32, counts: &mut Vec<(ServerId, u32)>) -> Result<(), Refusal>
         ensures counts { OnOk result (1 ≤ number → number ≤ 99
-            → counts_of counts.new.items ≡ counts_of counts.old.items ++ counts_in self.now.tallies (number ∷ [])) }
+            → counts_of_pairs counts.new.items ≡ counts_of_pairs counts.old.items ++ counts_in self.now.tallies (number ∷ [])) }
         ensures only { IfErr result (λ e. e ≡ Refusal.OutOfMemory) }
     {
         if let Some(server) = ServerId::new(number) {

@@ -2,9 +2,9 @@ ghost use Rattle.std.specs.Prelude.{◌≡◌, ◌+◌, ◌<◌, ◌^◌, [], le
 ghost use Rattle.mr_model.specs.Writes.{id_of};
 ghost use Rattle.mr_model.specs.Tables.{cells_of, log_row_with, Booked, Erred, Cancelled, Cancel};
 ghost use Rattle.mr_base.specs.Actions.{action_of};
-ghost use Rattle.mr_replay.specs.Places.{place_of};
+ghost use Rattle.mr_replay.specs.Places.{place_seen};
 ghost use Rattle.mr_tables.specs.Cells.{action_cells, meeting_cells, place_row_of};
-ghost use Rattle.mr_tables.specs.Written.{meta_of, with_places, written, forgotten, with_log, with_place, with_rows};
+ghost use Rattle.mr_tables.specs.Written.{meta_of, with_places, written, forgotten, with_log_row, with_place, with_write_rows};
 
 use crate::choices::choices_text;
 use crate::summary::Summary;
@@ -126,7 +126,7 @@ fn add_rows(
     commits: u64,
     number: u64,
 ) -> Result<(), Refusal>
-    ensures rows { OnOk result (change.new ≡ with_rows change.old commits number write.now row by) }
+    ensures rows { OnOk result (change.new ≡ with_write_rows change.old commits number write.now row by) }
     ensures only { IfErr result (λ e. e ≡ Refusal.OutOfMemory) }
 {
     let committed = number <= commits;
@@ -190,7 +190,7 @@ fn put_cancelled(change: &mut Change, row: CancelledRow) -> Result<(), Refusal>
 // ---- rows of the log
 
 fn log_row(alloc: Global, write: &Write, place: Place, seq: u64) -> Result<LogRow, Refusal>
-    ensures row { IfOk result (λ row. row ≡ log_row_with write.now (place_of place) seq) }
+    ensures row { IfOk result (λ row. row ≡ log_row_with write.now (place_seen place) seq) }
     ensures only { IfErr result (λ e. e ≡ Refusal.OutOfMemory) }
 {
     let room = write.room.copy(alloc)?;

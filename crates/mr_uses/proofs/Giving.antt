@@ -10,7 +10,7 @@ use Rattle.mr_model.specs.Replies.{Reply, BatchIs, reply_text}
 use Rattle.mr_model.specs.Step.{After, BatchFor, Receive, step, batch_faults, batch_of, batch_reply, batch_unless, receive_batch, receive_read}
 use Rattle.mr_model.specs.Tables.{Tables, Stands}
 use Rattle.mr_model.specs.Laws.{OwnBatchIsReadBack, PositionTextsAsk}
-use Rattle.mr_uses.specs.OneCommand.{Takes, IsNoRefusal}
+use Rattle.mr_uses.specs.OneCommand.{TakesCommand, IsNoRefusal}
 use Rattle.mr_uses.specs.HandedOver.{IsTextFor, IsGiven}
 
 -- a batch that is not refused is given
@@ -29,7 +29,7 @@ text_for asked a b max_lines position text reply sound is replied not written =
 
 -- what came of it where it was received
 pub given_to : OwnBatchIsReadBack → (a b : Replica) (max_lines : ℕ) (text : Text) (reply : Reply) (after : Tables) → IsReplica a → IsTextFor a b max_lines text
-    → Takes b (Receive text) reply after → IsGiven a b max_lines reply after
+    → TakesCommand b (Receive text) reply after → IsGiven a b max_lines reply after
 given_to back a b max_lines text reply after sound for takes =
     let given = batch_of a (position_of b) max_lines in
     let read : read_batch text ≡ Ok given = ap read_batch for.written ∙ (back a (position_of b) max_lines given sound for.given).1 in

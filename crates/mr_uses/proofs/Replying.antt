@@ -7,18 +7,18 @@ use Rattle.mr_model.specs.Step.{After, Command, step, IsStep, IsOfMachine, no_me
 use Rattle.mr_model.specs.Tables.{Tables, Stands}
 use Rattle.mr_model.specs.Serving.{TakesStep}
 use Rattle.mr_service.specs.Asking.{Counts, NoneFails}
-use Rattle.mr_uses.specs.OneCommand.{Takes, IsNoRefusal}
+use Rattle.mr_uses.specs.OneCommand.{TakesCommand, IsNoRefusal}
 
 -- a reply that is no refusal is that of the step, which was done
 pub done : (before after : Tables) (c : Command) (reply : Reply) → TakesStep before c reply after → IsNoRefusal reply
-    → (a : Replica) → Stands before a → Takes a c reply after
+    → (a : Replica) → Stands before a → TakesCommand a c reply after
 done before after c reply takes not a h = go (takes a h)
   where
     machine : {said : Reply} → IsOfMachine said → said ≡ reply → ⊥
     machine no_memory e = not OutOfMemory (sym e)
     machine no_store e = not Store (sym e)
 
-    go : ((b : Replica) × IsStep a c reply b × Stands after b) → Takes a c reply after
+    go : ((b : Replica) × IsStep a c reply b × Stands after b) → TakesCommand a c reply after
     go (b, inl e, stands) = record {
       replied = ap (λ (x : After). x.reply) e;
       stands = subst (Stands after) (ap (λ (x : After). x.replica) e) stands;

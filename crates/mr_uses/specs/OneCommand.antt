@@ -7,7 +7,7 @@ use Rattle.mr_model.specs.Step.{Command, step}
 use Rattle.mr_model.specs.Tables.{Tables, Stands}
 
 -- the replica took its step, the reply is that of the step, and these tables stand for the replica after it
-pub record Takes (a : Replica) (command : Command) (reply : Reply) (after : Tables) : Type 0 where
+pub record TakesCommand (a : Replica) (command : Command) (reply : Reply) (after : Tables) : Type 0 where
   pub replied : reply ≡ (step a command).reply
   pub stands : Stands after (step a command).replica
 

@@ -7,9 +7,9 @@ ghost use Rattle.mr_model.specs.Refusals.{OutOfMemory};
 ghost use Rattle.mr_model.specs.Replies.{Refused};
 ghost use Rattle.mr_model.specs.Step.{step};
 ghost use Rattle.mr_model.specs.Tables.{Stands};
-ghost use Rattle.mr_base.specs.Refusals.{refusal_of};
-ghost use Rattle.mr_service.specs.Asked.{command_of, reply_of};
-ghost use Rattle.mr_uses.specs.OneCommand.{Takes, IsNoRefusal};
+ghost use Rattle.mr_base.specs.RefusalViews.{refusal_of};
+ghost use Rattle.mr_service.specs.Asked.{command_seen, reply_of};
+ghost use Rattle.mr_uses.specs.OneCommand.{TakesCommand, IsNoRefusal};
 
 use mr_base::Refusal;
 use mr_service::{Command, Reply, Service, reply_text};
@@ -21,11 +21,11 @@ use std::alloc::Global;
 /// lists don't fail. So of a reply that is no refusal the caller knows which one it is, and where the replica stands.
 pub(crate) fn ask(service: &mut Service<ListKeeper>, command: &Command) -> Result<Reply, Refusal>
     ensures done { (a : Replica) → Stands service.old.tables a
-        → IfOk result (λ reply. Takes a (command_of command.now) (reply_of reply) service.new.tables) }
+        → IfOk result (λ reply. TakesCommand a (command_seen command.now) (reply_of reply) service.new.tables) }
     ensures value { IfOk result (λ reply. IsNoRefusal (reply_of reply)) }
     ensures refused { OnErr result (service.new.tables ≡ service.old.tables) }
     ensures why { (a : Replica) → Stands service.old.tables a
-        → IfErr result (λ e. (Refused (refusal_of e) ≡ (step a (command_of command.now)).reply) ⊎ (refusal_of e ≡ OutOfMemory)) }
+        → IfErr result (λ e. (Refused (refusal_of e) ≡ (step a (command_seen command.now)).reply) ⊎ (refusal_of e ≡ OutOfMemory)) }
 {
     let reply = service.ask(command);
     match refusal_in(&reply) {

@@ -7,7 +7,7 @@ ghost use Rattle.mr_model.specs.Replies.{reply_text as text_of};
 ghost use Rattle.mr_model.specs.Step.{Ask, step};
 ghost use Rattle.mr_model.specs.Tables.{Stands};
 ghost use Rattle.mr_model.specs.View.{AskSheet, answer, view_of};
-ghost use Rattle.mr_service.specs.Asked.{command_of};
+ghost use Rattle.mr_service.specs.Asked.{command_seen};
 
 use crate::asking::{ask, tell};
 use mr_base::{Refusal, ServerId};
@@ -45,7 +45,7 @@ pub(crate) fn booking(alloc: Global, time: &str, minutes: &str) -> Result<Comman
 
 /// The question for the sheet of a room on a day.
 pub(crate) fn sheet(alloc: Global, room: &str, day: &str) -> Result<Command, AllocError>
-    ensures { IfOk result (λ c. command_of c ≡ Ask room.now (AskSheet day.now)) }
+    ensures { IfOk result (λ c. command_seen c ≡ Ask room.now (AskSheet day.now)) }
 {
     let room = String::from_str(alloc, room)?;
     let day = String::from_str(alloc, day)?;
@@ -63,7 +63,7 @@ pub(crate) fn sheet_after(
     day: &str,
 ) -> Result<Vec<u8>, Refusal>
     ensures { (a : Replica) → Stands service.old.tables a
-        → IfOk result (λ text. text.items ≡ text_of (answer room.now (view_of (step a (command_of command.now)).replica room.now) (AskSheet day.now))) }
+        → IfOk result (λ text. text.items ≡ text_of (answer room.now (view_of (step a (command_seen command.now)).replica room.now) (AskSheet day.now))) }
 {
     ask(service, command)?;
     let question = sheet(alloc, room, day)?;

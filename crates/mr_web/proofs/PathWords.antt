@@ -8,9 +8,9 @@ use Rattle.matchit.specs.Router.{RouteOf}
 use Rattle.matchit.specs.Params.{walk, part_of, AllText, wild_from, wild_stop, next_at, after_token}
 use Rattle.matchit.specs.Seek.{first, segment, has_slash, slash}
 use Rattle.matchit.proofs.OnLiterals.{matchit_on_literals}
-use Rattle.mr_web.specs.Routes.{route_table, taken}
+use Rattle.mr_web.specs.Routes.{route_table, route_parameters}
 use Rattle.mr_web.specs.declared.routes.Resource.{Resource}
-use Rattle.mr_web.proofs.Fitting.{Fits, IfKey, EachRow, seek_fits}
+use Rattle.mr_web.proofs.PathPatterns.{Fits, IfKey, EachRow, seek_fits}
 
 -- ---- two places, one in the pattern and one in the path, from which on they fit; the path can be cut at its own
 
@@ -203,7 +203,7 @@ table_taken target =
     ((refl, λ f. record { fits = f; names = tt; small = lit< tt }), ((refl, λ f. record { fits = f; names = tt; small = lit< tt }), ((refl, λ f. record { fits = f; names = tt; small = lit< tt }), ((refl, λ f. record { fits = f; names = tt; small = lit< tt }), ((refl, λ f. record { fits = f; names = (room, (day, tt)); small = lit< tt }), ((refl, λ f. record { fits = f; names = (room, tt); small = lit< tt }), ((refl, λ f. record { fits = f; names = (room, (id, tt)); small = lit< tt }), ((refl, λ f. record { fits = f; names = tt; small = lit< tt }), tt))))))))
 
 -- the words of a target at the parameters of its route
-pub words_are_text : (target : List ℕ) (r : RouteOf Resource) → IsUtf8 target → first route_table target ≡ Some r → AllText (taken target r)
+pub words_are_text : (target : List ℕ) (r : RouteOf Resource) → IsUtf8 target → first route_table target ≡ Some r → AllText (route_parameters target r)
 words_are_text target r utf8 found =
     let taken : IsTaken target r = subst (IfKey (IsTaken target)) found (seek_fits (IsTaken target) 0 route_table target (table_taken target)) in
     walk_text r.pattern r.text target r.names 0 0 taken.small taken.names utf8

@@ -6,7 +6,7 @@ use Rattle.mr_model.specs.Replica.{Replica}
 use Rattle.mr_model.specs.Step.{Command}
 use Rattle.mr_model.specs.Http.{Head, Field, Readings, Route, Response, Served, Asked, Faulty, Runs, is_post, method_name, command_of, body_length, greatest_body, bad_request, not_found, too_large, not_allowed, asked as asked_of}
 use Rattle.mr_http.specs.Heads.{IsHead, HasNoHead}
-use Rattle.mr_http.specs.Fields.{fields_of}
+use Rattle.mr_http.specs.HeaderFields.{fields_of}
 use Rattle.mr_web.specs.Cancellations.{cancellation_of}
 use Rattle.mr_web.specs.Routes.{route_of}
 use Rattle.mr_web.specs.Submissions.{submission_in_body}

@@ -17,8 +17,8 @@ IsRestOfBody first more =
     ⊎ ((h : RequestHead) × (rest : Text) × (asked : Route × ℕ) × IsHead first h rest × (asked_by h ≡ Ok asked) × (length more ≤ asked.1 - length rest))
 
 -- what a reader gave, where that is known: pieces until there was a head or none could come, and then what they lack of the body
-abbrev pub ReadsNoFurther : Option Text → Option Text → Type 0
-ReadsNoFurther known left =
+abbrev pub ReadsOneRequest : Option Text → Option Text → Type 0
+ReadsOneRequest known left =
     (first : Text) × (more : Text) × Consumes known left (first ++ more) × IsReadWhile AwaitsHead first × IsRestOfBody first more
 
 -- it holds, unless a read failed or memory ran out

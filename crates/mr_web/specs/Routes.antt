@@ -30,8 +30,8 @@ route_table =
     put_route (parse_route (codes "/submit")) at.Submissions [])))))))
 
 -- the names of the parameters, each with the word that it has in the target
-abbrev pub taken : Text → RouteOf Resource → List (Text × Text)
-taken target r = walk r.pattern r.text target r.names 0 0
+abbrev pub route_parameters : Text → RouteOf Resource → List (Text × Text)
+route_parameters target r = walk r.pattern r.text target r.names 0 0
 
 abbrev pub word_of : Text → List (Text × Text) → Text
 word_of name words = unwrap_or (named name words) []
@@ -47,7 +47,7 @@ route_at at.Pull words = Pull
 route_at at.Push words = Push
 
 abbrev pub route_with : Text → RouteOf Resource → Route
-route_with target r = route_at r.value (taken target r)
+route_with target r = route_at r.value (route_parameters target r)
 
 -- the route of a target
 abbrev pub route_of : Text → Option Route

@@ -13,7 +13,7 @@ use Rattle.mr_http.specs.declared.faults.WebFault.{WebFault}
 use Rattle.mr_http.specs.declared.faults.WebFault.TheVariants as fault
 use Rattle.mr_service.specs.declared.commands.Command.{Command}
 use Rattle.mr_service.specs.declared.commands.SlotWords.{SlotWords}
-use Rattle.mr_service.specs.Asked.{command_of, words_of}
+use Rattle.mr_service.specs.Asked.{command_seen, words_of}
 use Rattle.mr_web.specs.RequestAsks.{IsInputServed, Asks}
 use Rattle.mr_web.specs.Submissions.{Wish}
 use Rattle.mr_web.specs.RouteViews.{route_view}
@@ -84,7 +84,7 @@ IsAnswerOf response a = (bytes_view a.bytes ≡ response_text response) × (a.st
 
 -- what reading a request tells of the input
 abbrev pub Settles : Text → Result Command Stop → Type 0
-Settles input (Ok c) = Asks input (Runs (command_of c))
+Settles input (Ok c) = Asks input (Runs (command_seen c))
 Settles input (Err (stop.Rejected r)) = Asks input (Faulty (response_to r))
 Settles input (Err (stop.Fault f)) = Unit {0}
 

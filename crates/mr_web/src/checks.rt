@@ -3,7 +3,7 @@ ghost use Rattle.httparse.specs.Grammar.{RequestHead, ReadsRequest};
 ghost use Rattle.matchit.specs.Params.{AllText};
 ghost use Rattle.mr_model.specs.Texts.{Text};
 ghost use Rattle.mr_model.specs.Http.{is_post, method_name as name_of_method};
-ghost use Rattle.mr_http.specs.Fields.{header_fields};
+ghost use Rattle.mr_http.specs.HeaderFields.{header_fields};
 ghost use Rattle.mr_web.specs.RequestAsks as spec;
 ghost use Rattle.mr_web.specs.Routes.{route_at, route_of};
 ghost use Rattle.mr_web.specs.Views.{GivesView, asked_view};

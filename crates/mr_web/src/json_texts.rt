@@ -1,8 +1,8 @@
 ghost use Rattle.std.specs.Prelude.{◌≡◌, [], ◌∷◌, codes, decimal, IfOk, string_bytes};
-ghost use Rattle.mr_base.specs.Refusals.{refusal_of};
+ghost use Rattle.mr_base.specs.RefusalViews.{refusal_of};
 ghost use Rattle.mr_model.specs.Http as model;
 ghost use Rattle.mr_model.specs.Replies.{mark, NotBooked, Cancelled};
-ghost use Rattle.mr_service.specs.Asked.{outcome_of};
+ghost use Rattle.mr_service.specs.Asked.{outcome_seen};
 ghost use Rattle.mr_model.specs.Refusals.{name_of};
 ghost use Rattle.mr_model.specs.Calendar.{date_text, time_text as text_of_time};
 ghost use Rattle.mr_model.specs.Writes.{id_text as text_of_id};
@@ -191,7 +191,7 @@ fn logged_json(alloc: Global, id: WriteId, is_committed: bool) -> Result<String,
 }
 
 fn booked_json(alloc: Global, booking: &Booking) -> Result<String, AllocError>
-    ensures { IfOk result (λ s. string_bytes s ≡ model.outcome_json (outcome_of (Outcome.Booked booking.now))) }
+    ensures { IfOk result (λ s. string_bytes s ≡ model.outcome_json (outcome_seen (Outcome.Booked booking.now))) }
 {
     let day = day_text(alloc, booking.day)?;
     let id = id_text(alloc, booking.id)?;
@@ -243,7 +243,7 @@ fn cancel_json(
 
 /// The JSON that tells what became of a request or a cancel.
 pub(crate) fn outcome_json(alloc: Global, outcome: &Outcome) -> Result<String, AllocError>
-    ensures { IfOk result (λ s. string_bytes s ≡ model.outcome_json (outcome_of outcome.now)) }
+    ensures { IfOk result (λ s. string_bytes s ≡ model.outcome_json (outcome_seen outcome.now)) }
 {
     match outcome {
         Outcome::Booked(booking) => booked_json(alloc, booking),

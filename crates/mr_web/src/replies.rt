@@ -2,7 +2,7 @@ ghost use Rattle.std.specs.Prelude.{◌≡◌, [], Bool, IfOk, string_bytes};
 ghost use Rattle.mr_model.specs.Http as model;
 ghost use Rattle.mr_model.specs.Refusals.{OutOfMemory, Store, number_of};
 ghost use Rattle.mr_model.specs.Replies.{Refused, reply_text as text_of_reply};
-ghost use Rattle.mr_base.specs.Refusals.{refusal_of};
+ghost use Rattle.mr_base.specs.RefusalViews.{refusal_of};
 ghost use Rattle.mr_service.specs.Asked.{reply_of};
 ghost use Rattle.mr_web.specs.ReplyHeads.{head_text as text_of_head, status_line as line_of_status, length_line as line_of_length, kind_line as line_of_kind};
 ghost use Rattle.mr_web.specs.Views.{IsAnswerOf, bytes_view, response_to};

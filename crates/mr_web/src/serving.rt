@@ -2,13 +2,13 @@ ghost use Rattle.std.specs.Prelude.{◌≡◌, ◌≤◌, [], Ok, Option, IfOk, 
 ghost use Rattle.std.specs.Io.KnownBytes.{Keeps};
 ghost use Rattle.mr_model.specs.Texts.{Text};
 ghost use Rattle.mr_model.specs.Http as model;
-ghost use Rattle.mr_service.specs.Asked.{command_of as command_view};
+ghost use Rattle.mr_service.specs.Asked.{command_seen as command_view};
 ghost use Rattle.mr_http.specs.Inputs.{OfInput};
 ghost use Rattle.mr_http.specs.Reading.{OnceRead};
 ghost use Rattle.mr_http.specs.declared.faults.ReadFault.TheVariants.{Read as read_fault, Memory as memory_fault};
 ghost use Rattle.mr_http.specs.declared.faults.WebFault.TheVariants.{Read as fault_read};
 ghost use Rattle.mr_web.specs.RequestAsks as spec;
-ghost use Rattle.mr_web.specs.RequestRead.{ReadsNoFurther, UnlessFault};
+ghost use Rattle.mr_web.specs.RequestRead.{ReadsOneRequest, UnlessFault};
 ghost use Rattle.mr_web.specs.RequestServed.{IsRequest};
 ghost use Rattle.mr_web.specs.RequestSteps.{IsServable};
 ghost use Rattle.mr_web.specs.Views.{AnswersTo, EndsServed, GivesView, IsServeFault, Settles, StopsWith};
@@ -77,7 +77,7 @@ fn request_in<R: Read>(alloc: Global, reader: &mut R, buffer: &mut Vec<u8>) -> R
     requires { buffer.old.items ≡ [] }
     ensures settles { OfInput (R.remaining reader.old) (λ input. Settles input result) }
     ensures servable { IfOk result (λ command. IsServable (command_view command)) }
-    ensures reads { UnlessFault (ReadsNoFurther (R.remaining reader.old) (R.remaining reader.new)) result }
+    ensures reads { UnlessFault (ReadsOneRequest (R.remaining reader.old) (R.remaining reader.new)) result }
 {
     let Some(start) = read_request_head(reader, buffer)? else {
         return Err(Stop::Rejected(Rejection::BadRequest));
@@ -92,7 +92,7 @@ fn request_in<R: Read>(alloc: Global, reader: &mut R, buffer: &mut Vec<u8>) -> R
 fn request_from<R: Read>(alloc: Global, reader: &mut R) -> Result<Command, Stop>
     ensures settles { OfInput (R.remaining reader.old) (λ input. Settles input result) }
     ensures servable { IfOk result (λ command. IsServable (command_view command)) }
-    ensures reads { UnlessFault (ReadsNoFurther (R.remaining reader.old) (R.remaining reader.new)) result }
+    ensures reads { UnlessFault (ReadsOneRequest (R.remaining reader.old) (R.remaining reader.new)) result }
 {
     let mut buffer = Vec::new(alloc);
     request_in(alloc, reader, &mut buffer)
@@ -132,7 +132,7 @@ fn answer_one<R: Read, K: Keeper>(
 ) -> Result<Answer, ReadFault>
     ensures served { IsRequest K.Keeper service.old service.new (R.remaining reader.old) result (λ answer. answer.status) AnswersTo MakesReply }
     ensures read { IfErr result (λ e. e ≡ read_fault → service.new ≡ service.old) }
-    ensures reads { OnOk result (ReadsNoFurther (R.remaining reader.old) (R.remaining reader.new)) }
+    ensures reads { OnOk result (ReadsOneRequest (R.remaining reader.old) (R.remaining reader.new)) }
 {
     match request_from(alloc, reader) {
         Ok(command) => answer_command(alloc, &command, service),
@@ -155,7 +155,7 @@ pub fn serve_one<R: Read, W: Write, K: Keeper>(
         (EndsServed (W.contents writer.old) (W.contents writer.new)) (Writes (W.contents writer.old) (W.contents writer.new)) }
     ensures read { IfErr result (λ e. e ≡ fault_read → Keeps (W.contents writer.old) (W.contents writer.new) × (service.new ≡ service.old)) }
     ensures fault { IfErr result IsServeFault }
-    ensures reads { OnceRead (ReadsNoFurther (R.remaining reader.old) (R.remaining reader.new)) result }
+    ensures reads { OnceRead (ReadsOneRequest (R.remaining reader.old) (R.remaining reader.new)) result }
 {
     let answer = answer_one(alloc, reader, service)?;
     send(writer, answer.bytes.as_slice())?;

@@ -10,11 +10,11 @@ use Rattle.mr_model.specs.Refusals as model
 use Rattle.mr_model.specs.Exchange.{Version, Item, Ending, Heading, Batch, is_batch, batch_text, BodyLine, ItemLine, LastLine, read_header, read_body_line, read_end, read_line, read_body, under_heading, under_header, read_lines, read_batch, ReadsAs, IsFirstBadLine}
 use Rattle.mr_model.proofs.BatchesReadBack.{one_text, read_reads, ok_inj}
 use Rattle.mr_model.proofs.FirstBadLine.{err_inj, ok_err, bad_line_is_first}
-use Rattle.mr_base.specs.Refusals.{refusal_of}
+use Rattle.mr_base.specs.RefusalViews.{refusal_of}
 use Rattle.mr_base.specs.Answers.{Gives}
 use Rattle.mr_base.specs.declared.refusals.Refusal.{Refusal}
 use Rattle.mr_base.specs.declared.refusals.Refusal.TheVariants.{OutOfMemory, BadLine}
-use Rattle.mr_wire.specs.Answers.{IsRefusedFor, IsDue, GivesDue, GivesSeen}
+use Rattle.mr_wire.specs.BatchAnswers.{IsRefusedFor, IsDue, GivesDue, GivesSeen}
 
 pub ok_reads : (bytes : Text) (r : Result Batch Refusal) → Gives r (read_batch bytes) → IfOk r (λ b. ReadsAs bytes b)
 ok_reads bytes (Ok b) e = read_reads bytes b e

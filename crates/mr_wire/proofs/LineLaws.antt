@@ -21,7 +21,7 @@ use Rattle.mr_base.specs.declared.refusals.Refusal.TheVariants.{BadLength, TooMa
 use Rattle.mr_base.specs.Limits.{limited}
 use Rattle.mr_wire.specs.Words.{cut}
 use Rattle.mr_base.specs.Readings.{number_from_to}
-use Rattle.mr_wire.specs.Fields.{◌>>=◌, number_off, slot_off, slots_off, front_off, most_alternatives, choices_off, booking_with, booking_of, behind_word, server_and, id_of, cancel_parts, cancel_of, commit_of, version_among, servers_under, heading_of, worded_line, bare_line, line_by, line_of}
+use Rattle.mr_wire.specs.Fields.{◌>>=◌, number_off, slot_off, slots_off, front_off, most_alternatives, choices_off, booking_with, parse_booking, behind_word, server_and, parse_id, cancel_parts, parse_cancel, commit_of, version_among, servers_under, heading_of, worded_line, bare_line, line_by, parse_line}
 use Rattle.mr_wire.proofs.FieldLaws.{bind_some, cut_takes, word_again, number_takes, number_again, number_off_takes, number_off_again, front_rest, front_off_takes, front_off_again, slot_off_takes, slot_off_again, slots_off_take, slots_off_again}
 
 -- two that give the same values are the same
@@ -149,16 +149,16 @@ booking_made v text f m c w ef em ec ew =
       is = ap (λ (t : Text). 87 ∷ 32 ∷ t) is ∙ sym (booking_line_is f.0 f.1 meeting);
     })
 
-booking_takes : (v : Version) (text : Text) (w : Write) → booking_of v text ≡ Some w → IsWriteOf 87 v text w
-unfolding booking_of
+booking_takes : (v : Version) (text : Text) (w : Write) → parse_booking v text ≡ Some w → IsWriteOf 87 v text w
+unfolding parse_booking
 booking_takes v text w e =
     let f = bind_some (front_off text) (λ front. number_off 1 1440 front.2 >>= λ minutes. choices_off (most_alternatives v) minutes.1 >>= λ c. booking_with front.0 front.1 minutes.0 c.0.0 c.0.1 c.1) w e in
     let m = bind_some (number_off 1 1440 f.0.2) (λ minutes. choices_off (most_alternatives v) minutes.1 >>= λ c. booking_with f.0.0 f.0.1 minutes.0 c.0.0 c.0.1 c.1) w f.2 in
     let c = bind_some (choices_off (most_alternatives v) m.0.1) (λ c. booking_with f.0.0 f.0.1 m.0.0 c.0.0 c.0.1 c.1) w m.2 in
     booking_made v text f.0 m.0 c.0 w f.1 m.1 c.1 c.2
 
-booking_again : (v : Version) (stamp : Stamp) (room : Text) (m : Meeting) → is_item v (W (booking stamp room m)) ≡ true → booking_of v (front_rest stamp room (meeting_rest m)) ≡ Some (booking stamp room m)
-unfolding booking_of booking_with meeting_rest
+booking_again : (v : Version) (stamp : Stamp) (room : Text) (m : Meeting) → is_item v (W (booking stamp room m)) ≡ true → parse_booking v (front_rest stamp room (meeting_rest m)) ≡ Some (booking stamp room m)
+unfolding parse_booking booking_with meeting_rest
 booking_again v stamp room m ok =
     let version = and_parts (is_write (booking stamp room m)) (is_in_version v (booking stamp room m)) ok in
     let p = write_parts (booking stamp room m) version.0 in
@@ -214,8 +214,8 @@ server_and_again high s n server ok top =
 unfoldable pub target_rest : Id → Text
 target_rest t = decimal t.server ++ 32 ∷ decimal t.n
 
-id_takes : (text : Text) (t : Id) → id_of text ≡ Some t → (is_id t ≡ true) × (text ≡ target_rest t)
-unfolding id_of target_rest
+id_takes : (text : Text) (t : Id) → parse_id text ≡ Some t → (is_id t ≡ true) × (text ≡ target_rest t)
+unfolding parse_id target_rest
 id_takes text t e =
     let a = bind_some (server_and 999_999_999 text) (λ parts. Some (record { server = parts.0; n = parts.1 })) t e in
     let p = server_and_takes 999_999_999 text a.0 a.1 in
@@ -223,8 +223,8 @@ id_takes text t e =
     subst (λ (y : Id). (is_id y ≡ true) × (text ≡ decimal y.server ++ 32 ∷ decimal y.n)) {x = made} (same_Some made t a.2)
     (and_from (is_server a.0.0) (is_count a.0.1) p.0 p.1, p.2)
 
-id_again : (t : Id) → is_id t ≡ true → id_of (target_rest t) ≡ Some t
-unfolding id_of target_rest
+id_again : (t : Id) → is_id t ≡ true → parse_id (target_rest t) ≡ Some t
+unfolding parse_id target_rest
 id_again t ok =
     let p = and_parts (is_server t.server) (is_count t.n) ok in
     ap (λ o. o >>= λ (parts : ℕ × ℕ). Some (record { server = parts.0; n = parts.1 })) (server_and_again 999_999_999 t.server t.n p.0 p.1 (lit< tt))
@@ -236,8 +236,8 @@ cancel_line_is stamp room t = refl
 parts_take : (text : Text) (x : Stamp × Text × Id) → cancel_parts text ≡ Some x → (is_item Second (W (cancel x.0 x.1 x.2)) ≡ true) × (text ≡ front_rest x.0 x.1 (target_rest x.2))
 unfolding cancel_parts
 parts_take text x e =
-    let f = bind_some (front_off text) (λ front. id_of front.2 >>= λ target. Some (front.0, front.1, target)) x e in
-    let t = bind_some (id_of f.0.2) (λ target. Some (f.0.0, f.0.1, target)) x f.2 in
+    let f = bind_some (front_off text) (λ front. parse_id front.2 >>= λ target. Some (front.0, front.1, target)) x e in
+    let t = bind_some (parse_id f.0.2) (λ target. Some (f.0.0, f.0.1, target)) x f.2 in
     let tf = front_off_takes text f.0 f.1 in
     let ti = id_takes f.0.2 t.0 t.1 in
     let made : Stamp × Text × Id = (f.0.0, f.0.1, t.0) in
@@ -249,10 +249,10 @@ parts_take text x e =
 parts_again : (stamp : Stamp) (room : Text) (t : Id) → is_stamp stamp ≡ true → is_room_name room ≡ true → is_id t ≡ true → cancel_parts (front_rest stamp room (target_rest t)) ≡ Some (stamp, room, t)
 unfolding cancel_parts
 parts_again stamp room t ok named good =
-    ap (λ o. o >>= λ (front : Stamp × Text × Text). id_of front.2 >>= λ target. Some (front.0, front.1, target)) (front_off_again stamp room (target_rest t) ok named)
+    ap (λ o. o >>= λ (front : Stamp × Text × Text). parse_id front.2 >>= λ target. Some (front.0, front.1, target)) (front_off_again stamp room (target_rest t) ok named)
     ∙ ap (λ o. o >>= λ (target : Id). Some (stamp, room, target)) (id_again t good)
 
-cancel_takes : (v : Version) (text : Text) (w : Write) → cancel_of v text ≡ Some w → IsWriteOf 88 v text w
+cancel_takes : (v : Version) (text : Text) (w : Write) → parse_cancel v text ≡ Some w → IsWriteOf 88 v text w
 cancel_takes First text w e = absurd (let f : ◌≡◌ {A = Option Write} None (Some w) = e in cc)
 cancel_takes Second text w e =
     let c = bind_some (cancel_parts text) (λ c. Some (cancel c.0 c.1 c.2)) w e in
@@ -261,7 +261,7 @@ cancel_takes Second text w e =
     subst (λ w. IsWriteOf 88 Second text w) {x = made} (same_Some made w c.2)
     (record { ok = t.0; is = ap (λ (t : Text). 88 ∷ 32 ∷ t) t.1 ∙ sym (cancel_line_is c.0.0 c.0.1 c.0.2) })
 
-cancel_again : (v : Version) (stamp : Stamp) (room : Text) (t : Id) → is_item v (W (cancel stamp room t)) ≡ true → cancel_of v (front_rest stamp room (target_rest t)) ≡ Some (cancel stamp room t)
+cancel_again : (v : Version) (stamp : Stamp) (room : Text) (t : Id) → is_item v (W (cancel stamp room t)) ≡ true → parse_cancel v (front_rest stamp room (target_rest t)) ≡ Some (cancel stamp room t)
 cancel_again First stamp room t ok = absurd (true≢false (sym (and_parts (is_write (cancel stamp room t)) false ok).1))
 cancel_again Second stamp room t ok =
     let p = write_parts (cancel stamp room t) (and_parts (is_write (cancel stamp room t)) true ok).0 in
@@ -273,8 +273,8 @@ commit_rest q id = decimal q ++ 32 ∷ target_rest id
 commit_takes : (v : Version) (text : Text) (x : Item) → commit_of text ≡ Some x → (is_item v x ≡ true) × (67 ∷ 32 ∷ text ≡ item_line x)
 unfolding commit_of target_rest
 commit_takes v text x e =
-    let a = bind_some (number_off 1 999_999_999_999 text) (λ seq. id_of seq.1 >>= λ id. Some (C seq.0 id)) x e in
-    let b = bind_some (id_of a.0.1) (λ id. Some (C a.0.0 id)) x a.2 in
+    let a = bind_some (number_off 1 999_999_999_999 text) (λ seq. parse_id seq.1 >>= λ id. Some (C seq.0 id)) x e in
+    let b = bind_some (parse_id a.0.1) (λ id. Some (C a.0.0 id)) x a.2 in
     let ta = number_off_takes 1 999_999_999_999 text a.0 a.1 in
     let tb = id_takes a.0.1 b.0 b.1 in
     let made : Item = C a.0.0 b.0 in
@@ -287,7 +287,7 @@ commit_again : (v : Version) (q : ℕ) (id : Id) → is_item v (C q id) ≡ true
 unfolding commit_of commit_rest
 commit_again v q id ok =
     let a = and_parts (is_commit_number q) (is_id id) ok in
-    ap (λ o. o >>= λ (seq : ℕ × Text). id_of seq.1 >>= λ i. Some (C seq.0 i)) (number_off_again 1 999_999_999_999 q (target_rest id) a.0 (lit< tt))
+    ap (λ o. o >>= λ (seq : ℕ × Text). parse_id seq.1 >>= λ i. Some (C seq.0 i)) (number_off_again 1 999_999_999_999 q (target_rest id) a.0 (lit< tt))
     ∙ ap (λ o. o >>= λ (i : Id). Some (C q i)) (id_again id a.1)
 
 -- ---- a version's word and two servers
@@ -382,20 +382,20 @@ header_is text =
 -- ---- lines below the header
 
 write_line_again : (v : Version) (stamp : Stamp) (room : Text) (a : Action) → is_item v (W (record { stamp = stamp; room = room; action = a })) ≡ true
-    → line_of v (write_line (record { stamp = stamp; room = room; action = a })) ≡ Some (ItemLine (W (record { stamp = stamp; room = room; action = a })))
+    → parse_line v (write_line (record { stamp = stamp; room = room; action = a })) ≡ Some (ItemLine (W (record { stamp = stamp; room = room; action = a })))
 unfolding worded_line
 write_line_again v stamp room (Books m) ok =
     let rest : Text = front_rest stamp room (meeting_rest m) in
-    ap (line_of v) (booking_line_is stamp room m)
+    ap (parse_line v) (booking_line_is stamp room m)
     ∙ ap (line_by v (87 ∷ 32 ∷ rest)) (word_again (codes "W") rest (lit≤ tt, tt))
     ∙ ap (λ o. o >>= λ (w : Write). Some (ItemLine (W w))) (booking_again v stamp room m ok)
 write_line_again v stamp room (Cancels t) ok =
     let rest : Text = front_rest stamp room (target_rest t) in
-    ap (line_of v) (cancel_line_is stamp room t)
+    ap (parse_line v) (cancel_line_is stamp room t)
     ∙ ap (line_by v (88 ∷ 32 ∷ rest)) (word_again (codes "X") rest (lit≤ tt, tt))
     ∙ ap (λ o. o >>= λ (w : Write). Some (ItemLine (W w))) (cancel_again v stamp room t ok)
 
-line_again : (v : Version) (x : Item) → is_item v x ≡ true → line_of v (item_line x) ≡ Some (ItemLine x)
+line_again : (v : Version) (x : Item) → is_item v x ≡ true → parse_line v (item_line x) ≡ Some (ItemLine x)
 unfolding worded_line commit_rest target_rest
 line_again v (W w) ok = write_line_again v w.stamp w.room w.action ok
 line_again v (C q id) ok =
@@ -413,9 +413,9 @@ worded_takes v text word rest x is = go (bytes_eq word (codes "W")) refl (bytes_
         subst (λ y. IsLineOf v text (Some y)) (same_Some (ItemLine (W w.0)) x w.2) (t.ok, is ∙ ap (λ (u : Text). u ++ 32 ∷ rest) same ∙ t.is)
 
     go : (a : Bool) → bytes_eq word (codes "W") ≡ a → (d : Bool) → bytes_eq word (codes "X") ≡ d → (b : Bool) → bytes_eq word (codes "C") ≡ b
-        → cond a (booking_of v rest >>= λ w. Some (ItemLine (W w))) (cond d (cancel_of v rest >>= λ w. Some (ItemLine (W w))) (cond b (commit_of rest >>= λ c. Some (ItemLine c)) None)) ≡ Some x → IsLineOf v text (Some x)
-    go true a d ed b eb e = written 87 (booking_of v rest) ((bytes_eq-Decides word (codes "W")).0 a) (λ w. booking_takes v rest w) e
-    go false a true ed b eb e = written 88 (cancel_of v rest) ((bytes_eq-Decides word (codes "X")).0 ed) (λ w. cancel_takes v rest w) e
+        → cond a (parse_booking v rest >>= λ w. Some (ItemLine (W w))) (cond d (parse_cancel v rest >>= λ w. Some (ItemLine (W w))) (cond b (commit_of rest >>= λ c. Some (ItemLine c)) None)) ≡ Some x → IsLineOf v text (Some x)
+    go true a d ed b eb e = written 87 (parse_booking v rest) ((bytes_eq-Decides word (codes "W")).0 a) (λ w. booking_takes v rest w) e
+    go false a true ed b eb e = written 88 (parse_cancel v rest) ((bytes_eq-Decides word (codes "X")).0 ed) (λ w. cancel_takes v rest w) e
     go false a false ed true eb e =
         let c = bind_some (commit_of rest) (λ c. Some (ItemLine c)) x e in
         let t = commit_takes v rest c.0 c.1 in
@@ -432,7 +432,7 @@ bare_takes v text x = go (bytes_eq text (codes "E")) refl (bytes_eq text (codes 
     go false a true eb e = subst (λ y. IsLineOf v text (Some y)) (same_Some (LastLine More) x e) (ap (λ (t : Text). t ∷ []) ((bytes_eq-Decides text (codes "M")).0 eb))
     go false a false eb e = absurd (let f : ◌≡◌ {A = Option BodyLine} None (Some x) = e in cc)
 
-line_takes : (v : Version) (text : Text) (x : BodyLine) → line_of v text ≡ Some x → IsLineOf v text (Some x)
+line_takes : (v : Version) (text : Text) (x : BodyLine) → parse_line v text ≡ Some x → IsLineOf v text (Some x)
 line_takes v text x = go (cut 32 text) refl
   where
     go : (o : Option (Text × Text)) → cut 32 text ≡ o → line_by v text o ≡ Some x → IsLineOf v text (Some x)
@@ -453,12 +453,12 @@ same_read v read items e m text (LastLine More) t = ap read (only_line text (cod
 same_read v read items e m text (LastLine Cut) t = absurd (no_line text t)
 
 -- a line below the header is read just as the definitions read it
-pub line_is : (v : Version) (text : Text) → line_of v text ≡ read_body_line v text
+pub line_is : (v : Version) (text : Text) → parse_line v text ≡ read_body_line v text
 unfolding bare_line
 line_is v text =
-    agree (line_of v text) (read_body_line v text)
+    agree (parse_line v text) (read_body_line v text)
     (λ x e. same_read v (read_body_line v) (read-item_line v) refl refl text x (line_takes v text x e))
-    (λ x e. same_read v (line_of v) (line_again v) refl refl text x (subst (λ o. IsLineOf v text o) e (body_line_of v text)))
+    (λ x e. same_read v (parse_line v) (line_again v) refl refl text x (subst (λ o. IsLineOf v text o) e (body_line_of v text)))
 
 -- ---- what `Write::new` answers
 

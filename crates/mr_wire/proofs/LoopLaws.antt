@@ -10,16 +10,16 @@ use Rattle.mr_model.specs.Slots.{Slot}
 use Rattle.mr_model.specs.Refusals as model
 use Rattle.mr_model.specs.Exchange.{Version, Item, Ending, Cut, Heading, BodyLine, ItemLine, LastLine, is_heading, is_item, read_header, read_body_line, with_item, read_end, read_line, read_body, under_heading, under_header, read_lines, read_batch, no_lines}
 use Rattle.mr_model.proofs.BatchesReadBack.{read_reads}
-use Rattle.mr_base.specs.Refusals.{refusal_of}
+use Rattle.mr_base.specs.RefusalViews.{refusal_of}
 use Rattle.mr_base.specs.declared.refusals.Refusal.{Refusal}
 use Rattle.mr_base.specs.declared.refusals.Refusal.TheVariants.{OutOfMemory}
 use Rattle.mr_wire.specs.declared.fault.Fault.{Fault}
 use Rattle.mr_wire.specs.declared.fault.Fault.TheVariants as faults
 use Rattle.mr_wire.specs.Words.{cut}
 use Rattle.mr_model.specs.Positions.{Count}
-use Rattle.mr_wire.specs.Fields.{◌>>=◌, slot_off, slots_off, count_of, no_more, with_counts, counts_until_end}
-use Rattle.mr_wire.specs.Reading.{Fails}
-use Rattle.mr_wire.specs.Answers.{with_front, refusal_at}
+use Rattle.mr_wire.specs.Fields.{◌>>=◌, slot_off, slots_off, parse_count, no_more, with_counts, counts_until_end}
+use Rattle.mr_wire.specs.LineAnswers.{Fails}
+use Rattle.mr_wire.specs.BatchAnswers.{with_front, refusal_at}
 
 -- ---- slots
 
@@ -142,20 +142,20 @@ regroup_counts front c (Some cs) = ap (λ (xs : List Count). Some xs) (sym (appe
 regroup_counts front c None = refl
 
 module _ (front : List Count) (rest line behind : Text) (total : Option (List Count)) (is : Some (line, behind) ≡ cut 10 rest) (so_far : with_counts front (counts_until_end (whole_lines rest)) ≡ total) where
-  counts_by_first : (b : Bool) → bytes_eq line (codes "E") ≡ b → with_counts front (cond b (no_more (whole_lines behind)) (count_of line >>= λ c. (counts_until_end (whole_lines behind) >>= λ cs. Some (c ∷ cs)))) ≡ total
+  counts_by_first : (b : Bool) → bytes_eq line (codes "E") ≡ b → with_counts front (cond b (no_more (whole_lines behind)) (parse_count line >>= λ c. (counts_until_end (whole_lines behind) >>= λ cs. Some (c ∷ cs)))) ≡ total
   counts_by_first b e =
-      ap (λ t. with_counts front (cond t (no_more (whole_lines behind)) (count_of line >>= λ c. (counts_until_end (whole_lines behind) >>= λ cs. Some (c ∷ cs))))) (sym e)
+      ap (λ t. with_counts front (cond t (no_more (whole_lines behind)) (parse_count line >>= λ c. (counts_until_end (whole_lines behind) >>= λ cs. Some (c ∷ cs))))) (sym e)
       ∙ ap (λ ls. with_counts front (counts_until_end ls)) (sym (first_line_is rest line behind is)) ∙ so_far
 
   pub counts_at_end : bytes_eq line (codes "E") ≡ true → with_counts front (no_more (whole_lines behind)) ≡ total
   counts_at_end e = counts_by_first true e
 
-  pub counts_go_on : (c : Count) → bytes_eq line (codes "E") ≡ false → count_of line ≡ Some c → with_counts (front ++ c ∷ []) (counts_until_end (whole_lines behind)) ≡ total
+  pub counts_go_on : (c : Count) → bytes_eq line (codes "E") ≡ false → parse_count line ≡ Some c → with_counts (front ++ c ∷ []) (counts_until_end (whole_lines behind)) ≡ total
   counts_go_on c e h =
       sym (regroup_counts front c (counts_until_end (whole_lines behind)))
       ∙ ap (λ o. with_counts front (o >>= λ (d : Count). (counts_until_end (whole_lines behind) >>= λ cs. Some (d ∷ cs)))) (sym h) ∙ counts_by_first false e
 
-  pub counts_end : bytes_eq line (codes "E") ≡ false → count_of line ≡ None → total ≡ None
+  pub counts_end : bytes_eq line (codes "E") ≡ false → parse_count line ≡ None → total ≡ None
   counts_end e h =
       sym (ap (λ o. with_counts front (o >>= λ (d : Count). (counts_until_end (whole_lines behind) >>= λ cs. Some (d ∷ cs)))) (sym h) ∙ counts_by_first false e)
 

@@ -9,10 +9,10 @@ use Rattle.mr_model.specs.Texts.{Text, only_if, whole_lines}
 use Rattle.mr_model.specs.Writes.{is_server, is_count}
 use Rattle.mr_model.specs.Exchange.{Version}
 use Rattle.mr_model.specs.Positions.{Count, Position, are_rising, is_position}
-use Rattle.mr_base.specs.Positions.{are_rising_above}
-use Rattle.mr_base.proofs.Rising.{rising_behind}
+use Rattle.mr_base.specs.PositionCounts.{are_rising_above}
+use Rattle.mr_base.proofs.RisingServers.{rising_behind}
 use Rattle.mr_wire.specs.Words.{cut}
-use Rattle.mr_wire.specs.Fields.{◌>>=◌, behind_word, servers_of, commits_of, count_of, no_more, counts_until_end, if_position, position_on}
+use Rattle.mr_wire.specs.Fields.{◌>>=◌, behind_word, servers_of, parse_commits, parse_count, no_more, counts_until_end, if_position, position_on}
 use Rattle.mr_base.specs.Readings.{number_from_to}
 use Rattle.mr_wire.specs.Tested.{behind_commits, is_none_left, rises_above, counts_rise}
 use Rattle.mr_wire.proofs.FieldLaws.{bind_some, number_takes}
@@ -25,7 +25,7 @@ if_rising last o = o >>= λ cs. only_if (are_rising_above last cs) cs
 
 rising_read : (last : ℕ) (ls : List Text) → counts_rise last ls ≡ is_some (if_rising last (counts_until_end ls))
 rising_read last [] = refl
-rising_read last (l ∷ ls) = go (λ server. rising_read server ls) (bytes_eq l (codes "E")) (count_of l)
+rising_read last (l ∷ ls) = go (λ server. rising_read server ls) (bytes_eq l (codes "E")) (parse_count l)
   where
     ended : (ms : List Text) → is_none_left ms ≡ is_some (if_rising last (no_more ms))
     ended [] = refl
@@ -55,10 +55,10 @@ counts_ok (l ∷ ls) cs e = go (bytes_eq l (codes "E")) (λ ds. counts_ok ls ds)
     ended [] h = ap (λ ds. list_all count_ok ds) (sym (same_Some [] cs h))
     ended (m ∷ ms) h = absurd (let f : ◌≡◌ {A = Option (List Count)} None (Some cs) = h in cc)
 
-    go : (b : Bool) → ((ds : List Count) → counts_until_end ls ≡ Some ds → list_all count_ok ds ≡ true) → cond b (no_more ls) (count_of l >>= λ c. (counts_until_end ls >>= λ ds. Some (c ∷ ds))) ≡ Some cs → list_all count_ok cs ≡ true
+    go : (b : Bool) → ((ds : List Count) → counts_until_end ls ≡ Some ds → list_all count_ok ds ≡ true) → cond b (no_more ls) (parse_count l >>= λ c. (counts_until_end ls >>= λ ds. Some (c ∷ ds))) ≡ Some cs → list_all count_ok cs ≡ true
     go true ih h = ended ls h
     go false ih h =
-        let a = bind_some (count_of l) (λ c. (counts_until_end ls >>= λ ds. Some (c ∷ ds))) cs h in
+        let a = bind_some (parse_count l) (λ c. (counts_until_end ls >>= λ ds. Some (c ∷ ds))) cs h in
         let b = bind_some (counts_until_end ls) (λ ds. Some (a.0 ∷ ds)) cs a.2 in
         ap (λ ds. list_all count_ok ds) (sym (same_Some (a.0 ∷ b.0) cs b.2)) ∙ and_from (count_ok a.0) (list_all count_ok b.0) (count_takes l a.0 a.1).0 (ih b.0 b.1)
 
@@ -76,7 +76,7 @@ do_rise None = false
 
 -- the lines of a position: its first two, and counts that rise
 pub position_tested : (text : Text) → do_rise (behind_commits text) ≡ is_some (position_on text)
-unfolding behind_commits position_on commits_of
+unfolding behind_commits position_on parse_commits
 position_tested text = at_first (cut 10 text)
   where
     limits : (version : Version) (server primary commits : ℕ) (cs : List Count) → is_server server ≡ true → is_server primary ≡ true → leb commits 999_999_999_999 ≡ true → list_all count_ok cs ≡ true → are_rising_above 0 cs ≡ is_position (record { version = version; server = server; primary = primary; commits = commits; counts = cs })
@@ -105,7 +105,7 @@ position_tested text = at_first (cut 10 text)
     at_commits s a b rest None few = refl
     at_commits s a b rest (Some k) few = at_counts s.0 s.1 s.2 k a b (few k refl) (whole_lines rest)
 
-    few_commits : (line : Text) (k : ℕ) → commits_of line ≡ Some k → leb k 999_999_999_999 ≡ true
+    few_commits : (line : Text) (k : ℕ) → parse_commits line ≡ Some k → leb k 999_999_999_999 ≡ true
     few_commits line k e =
         let a = bind_some (behind_word (codes "K") line) (λ rest. number_from_to 0 999_999_999_999 rest) k e in
         (and_parts (leb 0 k) (leb k 999_999_999_999) (number_takes 0 999_999_999_999 a.0 k a.2).0).1
@@ -114,39 +114,39 @@ position_tested text = at_first (cut 10 text)
     two_servers line s e = let t = servers_take line s e in (t.server_ok, t.primary_ok)
 
     at_servers : (line next rest : Text) (o : Option (Version × ℕ × ℕ)) → ((s : Version × ℕ × ℕ) → o ≡ Some s → (is_server s.1 ≡ true) × (is_server s.2 ≡ true))
-        → do_rise (o >>= λ servers. commits_of next >>= λ commits. Some rest) ≡ is_some (o >>= λ servers. commits_of next >>= λ commits. counts_until_end (whole_lines rest) >>= λ counts. if_position (record { version = servers.0; server = servers.1; primary = servers.2; commits = commits; counts = counts }))
+        → do_rise (o >>= λ servers. parse_commits next >>= λ commits. Some rest) ≡ is_some (o >>= λ servers. parse_commits next >>= λ commits. counts_until_end (whole_lines rest) >>= λ counts. if_position (record { version = servers.0; server = servers.1; primary = servers.2; commits = commits; counts = counts }))
     at_servers line next rest None are = refl
-    at_servers line next rest (Some s) are = at_commits s (are s refl).0 (are s refl).1 rest (commits_of next) (few_commits next)
+    at_servers line next rest (Some s) are = at_commits s (are s refl).0 (are s refl).1 rest (parse_commits next) (few_commits next)
 
-    at_second : (line : Text) (o : Option (Text × Text)) → do_rise (o >>= λ second. servers_of line >>= λ servers. commits_of second.0 >>= λ commits. Some second.1)
-        ≡ is_some (o >>= λ second. servers_of line >>= λ servers. commits_of second.0 >>= λ commits. counts_until_end (whole_lines second.1) >>= λ counts. if_position (record { version = servers.0; server = servers.1; primary = servers.2; commits = commits; counts = counts }))
+    at_second : (line : Text) (o : Option (Text × Text)) → do_rise (o >>= λ second. servers_of line >>= λ servers. parse_commits second.0 >>= λ commits. Some second.1)
+        ≡ is_some (o >>= λ second. servers_of line >>= λ servers. parse_commits second.0 >>= λ commits. counts_until_end (whole_lines second.1) >>= λ counts. if_position (record { version = servers.0; server = servers.1; primary = servers.2; commits = commits; counts = counts }))
     at_second line None = refl
     at_second line (Some b) = at_servers line b.0 b.1 (servers_of line) (two_servers line)
 
-    at_first : (o : Option (Text × Text)) → do_rise (o >>= λ first. cut 10 first.1 >>= λ second. servers_of first.0 >>= λ servers. commits_of second.0 >>= λ commits. Some second.1)
-        ≡ is_some (o >>= λ first. cut 10 first.1 >>= λ second. servers_of first.0 >>= λ servers. commits_of second.0 >>= λ commits. counts_until_end (whole_lines second.1) >>= λ counts. if_position (record { version = servers.0; server = servers.1; primary = servers.2; commits = commits; counts = counts }))
+    at_first : (o : Option (Text × Text)) → do_rise (o >>= λ first. cut 10 first.1 >>= λ second. servers_of first.0 >>= λ servers. parse_commits second.0 >>= λ commits. Some second.1)
+        ≡ is_some (o >>= λ first. cut 10 first.1 >>= λ second. servers_of first.0 >>= λ servers. parse_commits second.0 >>= λ commits. counts_until_end (whole_lines second.1) >>= λ counts. if_position (record { version = servers.0; server = servers.1; primary = servers.2; commits = commits; counts = counts }))
     at_first None = refl
     at_first (Some a) = at_second a.0 (cut 10 a.1)
 
 -- ---- the lines of the counts
 
 module _ (last : ℕ) (rest line behind : Text) (total : Bool) (is : Some (line, behind) ≡ cut 10 rest) (so_far : counts_rise last (whole_lines rest) ≡ total) where
-  by_count : (b : Bool) → bytes_eq line (codes "E") ≡ b → (o : Option Count) → count_of line ≡ o → cond b (is_none_left (whole_lines behind)) (rises_above last o (λ server. counts_rise server (whole_lines behind))) ≡ total
+  by_count : (b : Bool) → bytes_eq line (codes "E") ≡ b → (o : Option Count) → parse_count line ≡ o → cond b (is_none_left (whole_lines behind)) (rises_above last o (λ server. counts_rise server (whole_lines behind))) ≡ total
   by_count b e o h =
       ap (λ t. cond t (is_none_left (whole_lines behind)) (rises_above last o (λ server. counts_rise server (whole_lines behind)))) (sym e)
       ∙ ap (λ p. cond (bytes_eq line (codes "E")) (is_none_left (whole_lines behind)) (rises_above last p (λ server. counts_rise server (whole_lines behind)))) (sym h)
       ∙ ap (λ ls. counts_rise last ls) (sym (first_line_is rest line behind is)) ∙ so_far
 
   pub last_is_there : bytes_eq line (codes "E") ≡ true → is_none_left (whole_lines behind) ≡ total
-  last_is_there e = by_count true e (count_of line) refl
+  last_is_there e = by_count true e (parse_count line) refl
 
-  pub count_passed : (c : Count) → bytes_eq line (codes "E") ≡ false → count_of line ≡ Some c → ltb last c.server ≡ true → counts_rise c.server (whole_lines behind) ≡ total
+  pub count_passed : (c : Count) → bytes_eq line (codes "E") ≡ false → parse_count line ≡ Some c → ltb last c.server ≡ true → counts_rise c.server (whole_lines behind) ≡ total
   count_passed c e h up = ap (λ t. t && counts_rise c.server (whole_lines behind)) (sym up) ∙ by_count false e (Some c) h
 
-  pub count_falls : (c : Count) → bytes_eq line (codes "E") ≡ false → count_of line ≡ Some c → ltb last c.server ≡ false → total ≡ false
+  pub count_falls : (c : Count) → bytes_eq line (codes "E") ≡ false → parse_count line ≡ Some c → ltb last c.server ≡ false → total ≡ false
   count_falls c e h down = sym (ap (λ t. t && counts_rise c.server (whole_lines behind)) (sym down) ∙ by_count false e (Some c) h)
 
-  pub no_count : bytes_eq line (codes "E") ≡ false → count_of line ≡ None → total ≡ false
+  pub no_count : bytes_eq line (codes "E") ≡ false → parse_count line ≡ None → total ≡ false
   no_count e h = sym (by_count false e None h)
 
 pub counts_break_off : (last : ℕ) (rest : Text) (total : Bool) → None ≡ cut 10 rest → counts_rise last (whole_lines rest) ≡ total → total ≡ false

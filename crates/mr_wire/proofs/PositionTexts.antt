@@ -18,7 +18,7 @@ use Rattle.mr_model.proofs.LinesReadBack.{within-high}
 use Rattle.mr_model.proofs.BatchesReadBack.{only_if_some, words-one_line, number-one_line}
 use Rattle.mr_model.proofs.PositionsReadBack.{read-position_text, read_position_text}
 use Rattle.mr_wire.specs.Words.{cut}
-use Rattle.mr_wire.specs.Fields.{◌>>=◌, behind_word, server_and, servers_under, servers_of, commits_of, count_of, no_more, counts_until_end, if_position, position_on}
+use Rattle.mr_wire.specs.Fields.{◌>>=◌, behind_word, server_and, servers_under, servers_of, parse_commits, parse_count, no_more, counts_until_end, if_position, position_on}
 use Rattle.mr_base.specs.Readings.{number_from_to}
 use Rattle.mr_wire.proofs.FieldLaws.{bind_some, number_takes, number_again}
 use Rattle.mr_wire.proofs.LineLaws.{agree, behind_takes, behind_again, server_and_takes, server_and_again, word_among, servers_under_take, servers_under_again}
@@ -30,8 +30,8 @@ use Rattle.mr_wire.proofs.LoopLaws.{first_line_is, no_line_left}
 abbrev pub count_ok : Count → Bool
 count_ok c = is_server c.server && is_count c.count
 
-pub count_takes : (text : Text) (c : Count) → count_of text ≡ Some c → (count_ok c ≡ true) × (text ≡ count_line c)
-unfolding count_of
+pub count_takes : (text : Text) (c : Count) → parse_count text ≡ Some c → (count_ok c ≡ true) × (text ≡ count_line c)
+unfolding parse_count
 count_takes text c e =
     let a = bind_some (behind_word (codes "V") text) (λ rest. server_and 999_999_999 rest >>= λ n. Some (record { server = n.0; count = n.1 })) c e in
     let b = bind_some (server_and 999_999_999 a.0) (λ n. Some (record { server = n.0; count = n.1 })) c a.2 in
@@ -40,8 +40,8 @@ count_takes text c e =
     subst (λ (y : Count). (count_ok y ≡ true) × (text ≡ count_line y)) {x = made} (same_Some made c b.2)
     (and_from (is_server b.0.0) (is_count b.0.1) t.0 t.1, behind_takes (codes "V") text a.0 a.1 ∙ ap (λ (r : Text). 86 ∷ 32 ∷ r) t.2)
 
-count_again : (c : Count) → count_ok c ≡ true → count_of (count_line c) ≡ Some c
-unfolding count_of
+count_again : (c : Count) → count_ok c ≡ true → parse_count (count_line c) ≡ Some c
+unfolding parse_count
 count_again c ok =
     let a = and_parts (is_server c.server) (is_count c.count) ok in
     ap (λ o. o >>= λ (r : Text). server_and 999_999_999 r >>= λ n. Some (record { server = n.0; count = n.1 })) (behind_again (codes "V") (decimal c.server ++ 32 ∷ decimal c.count) (lit≤ tt, tt))
@@ -55,10 +55,10 @@ counts_take (l ∷ ls) cs e = go (bytes_eq l (codes "E")) refl (λ ds. counts_ta
     ended [] h is = (λ i. is i ∷ []) ∙ ap (λ ds. map count_line ds ++ codes "E" ∷ []) (same_Some [] cs h)
     ended (m ∷ ms) h is = absurd (let f : ◌≡◌ {A = Option (List Count)} None (Some cs) = h in cc)
 
-    go : (b : Bool) → bytes_eq l (codes "E") ≡ b → ((ds : List Count) → counts_until_end ls ≡ Some ds → ls ≡ map count_line ds ++ codes "E" ∷ []) → cond b (no_more ls) (count_of l >>= λ c. (counts_until_end ls >>= λ ds. Some (c ∷ ds))) ≡ Some cs → l ∷ ls ≡ map count_line cs ++ codes "E" ∷ []
+    go : (b : Bool) → bytes_eq l (codes "E") ≡ b → ((ds : List Count) → counts_until_end ls ≡ Some ds → ls ≡ map count_line ds ++ codes "E" ∷ []) → cond b (no_more ls) (parse_count l >>= λ c. (counts_until_end ls >>= λ ds. Some (c ∷ ds))) ≡ Some cs → l ∷ ls ≡ map count_line cs ++ codes "E" ∷ []
     go true t ih h = ended ls h ((bytes_eq-Decides l (codes "E")).0 t)
     go false t ih h =
-        let a = bind_some (count_of l) (λ c. (counts_until_end ls >>= λ ds. Some (c ∷ ds))) cs h in
+        let a = bind_some (parse_count l) (λ c. (counts_until_end ls >>= λ ds. Some (c ∷ ds))) cs h in
         let b = bind_some (counts_until_end ls) (λ ds. Some (a.0 ∷ ds)) cs a.2 in
         let first = (count_takes l a.0 a.1).1 in
         let others = ih b.0 b.1 in
@@ -103,7 +103,7 @@ lines_position : List Text → Option Position
 lines_position [] = None
 lines_position (a ∷ []) = None
 lines_position (a ∷ k ∷ vs) =
-    servers_of a >>= λ servers. commits_of k >>= λ commits. counts_until_end vs >>= λ counts.
+    servers_of a >>= λ servers. parse_commits k >>= λ commits. counts_until_end vs >>= λ counts.
     if_position (record { version = servers.0; server = servers.1; primary = servers.2; commits = commits; counts = counts })
 
 position_on_lines : (text : Text) → position_on text ≡ lines_position (whole_lines text)
@@ -111,9 +111,9 @@ unfolding position_on lines_position
 position_on_lines text = go (cut 10 text) refl
   where
     first : (Text × Text) → Option Position
-    first a = cut 10 a.1 >>= λ b. servers_of a.0 >>= λ servers. commits_of b.0 >>= λ commits. counts_until_end (whole_lines b.1) >>= λ counts. if_position (record { version = servers.0; server = servers.1; primary = servers.2; commits = commits; counts = counts })
+    first a = cut 10 a.1 >>= λ b. servers_of a.0 >>= λ servers. parse_commits b.0 >>= λ commits. counts_until_end (whole_lines b.1) >>= λ counts. if_position (record { version = servers.0; server = servers.1; primary = servers.2; commits = commits; counts = counts })
 
-    second : (a : Text × Text) (o : Option (Text × Text)) → o ≡ cut 10 a.1 → (o >>= λ b. servers_of a.0 >>= λ servers. commits_of b.0 >>= λ commits. counts_until_end (whole_lines b.1) >>= λ counts. if_position (record { version = servers.0; server = servers.1; primary = servers.2; commits = commits; counts = counts })) ≡ lines_position (a.0 ∷ whole_lines a.1)
+    second : (a : Text × Text) (o : Option (Text × Text)) → o ≡ cut 10 a.1 → (o >>= λ b. servers_of a.0 >>= λ servers. parse_commits b.0 >>= λ commits. counts_until_end (whole_lines b.1) >>= λ counts. if_position (record { version = servers.0; server = servers.1; primary = servers.2; commits = commits; counts = counts })) ≡ lines_position (a.0 ∷ whole_lines a.1)
     second a None e = sym (ap (λ ls. lines_position (a.0 ∷ ls)) (no_line_left a.1 e))
     second a (Some b) e = sym (ap (λ ls. lines_position (a.0 ∷ ls)) (first_line_is a.1 b.0 b.1 e))
 
@@ -122,12 +122,12 @@ position_on_lines text = go (cut 10 text) refl
     go (Some a) e = second a (cut 10 a.1) refl ∙ sym (ap lines_position (first_line_is text a.0 a.1 e))
 
 lines_take : (ls : List Text) (p : Position) → lines_position ls ≡ Some p → (is_position p ≡ true) × (ls ≡ position_lines p)
-unfolding lines_position commits_of
+unfolding lines_position parse_commits
 lines_take [] p e = absurd (let f : ◌≡◌ {A = Option Position} None (Some p) = e in cc)
 lines_take (a ∷ []) p e = absurd (let f : ◌≡◌ {A = Option Position} None (Some p) = e in cc)
 lines_take (a ∷ k ∷ vs) p e =
-    let s = bind_some (servers_of a) (λ servers. commits_of k >>= λ commits. counts_until_end vs >>= λ counts. if_position (record { version = servers.0; server = servers.1; primary = servers.2; commits = commits; counts = counts })) p e in
-    let c = bind_some (commits_of k) (λ commits. counts_until_end vs >>= λ counts. if_position (record { version = s.0.0; server = s.0.1; primary = s.0.2; commits = commits; counts = counts })) p s.2 in
+    let s = bind_some (servers_of a) (λ servers. parse_commits k >>= λ commits. counts_until_end vs >>= λ counts. if_position (record { version = servers.0; server = servers.1; primary = servers.2; commits = commits; counts = counts })) p e in
+    let c = bind_some (parse_commits k) (λ commits. counts_until_end vs >>= λ counts. if_position (record { version = s.0.0; server = s.0.1; primary = s.0.2; commits = commits; counts = counts })) p s.2 in
     let v = bind_some (counts_until_end vs) (λ counts. if_position (record { version = s.0.0; server = s.0.1; primary = s.0.2; commits = c.0; counts = counts })) p c.2 in
     let made : Position = record { version = s.0.0; server = s.0.1; primary = s.0.2; commits = c.0; counts = v.0 } in
     let ends = only_if_some (is_position made) made p v.2 in
@@ -153,15 +153,15 @@ parts p ok =
     record { server = d.0; primary = d.1; commits = leb-true p.commits 999_999_999_999 c.1; counts = b.1 }
 
 lines_again : (p : Position) → is_position p ≡ true → lines_position (position_lines p) ≡ Some p
-unfolding lines_position commits_of
+unfolding lines_position parse_commits
 lines_again p ok =
     let f = parts p ok in
     let vs = map count_line p.counts ++ codes "E" ∷ [] in
     let rest : Text = decimal p.server ++ 32 ∷ decimal p.primary in
     let few : within 0 999_999_999_999 p.commits ≡ true = and_from (leb 0 p.commits) (leb p.commits 999_999_999_999) (le-leb 0 p.commits (omega arith)) (le-leb p.commits 999_999_999_999 f.commits) in
     let servers : servers_of (position_word p.version ++ 32 ∷ rest) ≡ Some (p.version, p.server, p.primary) = servers_again p.version p.server p.primary f.server f.primary in
-    let commits : commits_of (75 ∷ 32 ∷ decimal p.commits) ≡ Some p.commits = ap (λ o. o >>= λ (r : Text). number_from_to 0 999_999_999_999 r) (behind_again (codes "K") (decimal p.commits) (lit≤ tt, tt)) ∙ number_again 0 999_999_999_999 p.commits few (lit< tt) in
-    ap (λ o. o >>= λ (s : Version × ℕ × ℕ). commits_of (75 ∷ 32 ∷ decimal p.commits) >>= λ commits. counts_until_end vs >>= λ counts. if_position (record { version = s.0; server = s.1; primary = s.2; commits = commits; counts = counts })) servers
+    let commits : parse_commits (75 ∷ 32 ∷ decimal p.commits) ≡ Some p.commits = ap (λ o. o >>= λ (r : Text). number_from_to 0 999_999_999_999 r) (behind_again (codes "K") (decimal p.commits) (lit≤ tt, tt)) ∙ number_again 0 999_999_999_999 p.commits few (lit< tt) in
+    ap (λ o. o >>= λ (s : Version × ℕ × ℕ). parse_commits (75 ∷ 32 ∷ decimal p.commits) >>= λ commits. counts_until_end vs >>= λ counts. if_position (record { version = s.0; server = s.1; primary = s.2; commits = commits; counts = counts })) servers
     ∙ ap (λ o. o >>= λ commits. counts_until_end vs >>= λ counts. if_position (record { version = p.version; server = p.server; primary = p.primary; commits = commits; counts = counts })) commits
     ∙ ap (λ o. o >>= λ counts. if_position (record { version = p.version; server = p.server; primary = p.primary; commits = p.commits; counts = counts })) (counts_again p.counts f.counts)
     ∙ ap (λ b. only_if b p) ok

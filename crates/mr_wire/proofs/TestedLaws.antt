@@ -13,8 +13,8 @@ use Rattle.mr_model.specs.Requests.{is_length_for}
 use Rattle.mr_model.specs.Refusals as model
 use Rattle.mr_model.specs.Exchange.{Version, Second, Item, Ending, Complete, More, Cut, Heading, W, BodyLine, ItemLine, LastLine, read_header, read_body_line, with_item, read_end, read_line, read_body, under_heading, under_header, read_lines, read_batch}
 use Rattle.mr_wire.specs.Words.{cut}
-use Rattle.mr_wire.specs.Fields.{◌>>=◌, number_off, slot_off, slots_off, front_off, most_alternatives, choices_off, booking_with, booking_of, cancel_parts, cancel_of, commit_of, worded_line, bare_line}
-use Rattle.mr_wire.specs.Tested.{behind_slots, title_in, is_titled, is_last}
+use Rattle.mr_wire.specs.Fields.{◌>>=◌, number_off, slot_off, slots_off, front_off, most_alternatives, choices_off, booking_with, parse_booking, cancel_parts, parse_cancel, commit_of, worded_line, bare_line}
+use Rattle.mr_wire.specs.Tested.{behind_slots, parse_title, is_titled, is_last}
 use Rattle.mr_wire.proofs.FieldLaws.{number_off_takes, slots_off_take}
 use Rattle.mr_wire.proofs.LineLaws.{booking, most_within}
 use Rattle.mr_wire.proofs.LoopLaws.{first_line_is, no_line_left}
@@ -134,8 +134,8 @@ module _ (v : Version) (s : Stamp) (r : Text) (m : ℕ) (long : is_length m ≡ 
       wished false = refl
 
 -- a booking's line is one where a title stands in its place, and the other parts are there
-pub booking_tested : (v : Version) (text : Text) → is_some (booking_of v text) ≡ is_titled (title_in v text)
-unfolding booking_of choices_off booking_with title_in behind_slots
+pub booking_tested : (v : Version) (text : Text) → is_some (parse_booking v text) ≡ is_titled (parse_title v text)
+unfolding parse_booking choices_off booking_with parse_title behind_slots
 booking_tested v text = at_front (front_off text)
   where
     at_minutes : (s : Stamp) (r : Text) (o : Option (ℕ × Text)) → ((m : ℕ × Text) → o ≡ Some m → is_length m.0 ≡ true)
@@ -158,25 +158,25 @@ pub seen_some : {A B : Type 0} (r : Option A) (seen : A → B) (o : Option B) �
 seen_some (Some x) seen o e = ap (λ p. is_some p) e
 seen_some None seen o e = ap (λ p. is_some p) e
 
-pub cancel_tested : (text : Text) → is_some (cancel_of Second text) ≡ is_some (cancel_parts text)
+pub cancel_tested : (text : Text) → is_some (parse_cancel Second text) ≡ is_some (cancel_parts text)
 cancel_tested text = some_behind (cancel_parts text) (λ c. record { stamp = c.0; room = c.1; action = Cancels c.2 })
 
 -- what the tests of the first word choose
 module _ (v : Version) (word rest : Text) where
   abbrev chosen : Bool → Bool → Bool → Option BodyLine
   chosen a d b =
-      cond a (booking_of v rest >>= λ w. Some (ItemLine (W w))) (cond d (cancel_of v rest >>= λ w. Some (ItemLine (W w))) (cond b (commit_of rest >>= λ c. Some (ItemLine c)) None))
+      cond a (parse_booking v rest >>= λ w. Some (ItemLine (W w))) (cond d (parse_cancel v rest >>= λ w. Some (ItemLine (W w))) (cond b (commit_of rest >>= λ c. Some (ItemLine c)) None))
 
   chosen_is : (a d b : Bool) → bytes_eq word (codes "W") ≡ a → bytes_eq word (codes "X") ≡ d → bytes_eq word (codes "C") ≡ b → worded_line v word rest ≡ chosen a d b
   unfolding worded_line
   chosen_is a d b ea ed eb =
       ap (λ t. chosen t (bytes_eq word (codes "X")) (bytes_eq word (codes "C"))) ea ∙ ap (λ t. chosen a t (bytes_eq word (codes "C"))) ed ∙ ap (chosen a d) eb
 
-  pub booking_worded : bytes_eq word (codes "W") ≡ true → is_some (booking_of v rest) ≡ is_some (worded_line v word rest)
-  booking_worded w = sym (ap (λ o. is_some o) (chosen_is true (bytes_eq word (codes "X")) (bytes_eq word (codes "C")) w refl refl) ∙ some_behind (booking_of v rest) (λ w. ItemLine (W w)))
+  pub booking_worded : bytes_eq word (codes "W") ≡ true → is_some (parse_booking v rest) ≡ is_some (worded_line v word rest)
+  booking_worded w = sym (ap (λ o. is_some o) (chosen_is true (bytes_eq word (codes "X")) (bytes_eq word (codes "C")) w refl refl) ∙ some_behind (parse_booking v rest) (λ w. ItemLine (W w)))
 
-  pub cancel_worded : bytes_eq word (codes "W") ≡ false → bytes_eq word (codes "X") ≡ true → is_some (cancel_of v rest) ≡ is_some (worded_line v word rest)
-  cancel_worded w x = sym (ap (λ o. is_some o) (chosen_is false true (bytes_eq word (codes "C")) w x refl) ∙ some_behind (cancel_of v rest) (λ w. ItemLine (W w)))
+  pub cancel_worded : bytes_eq word (codes "W") ≡ false → bytes_eq word (codes "X") ≡ true → is_some (parse_cancel v rest) ≡ is_some (worded_line v word rest)
+  cancel_worded w x = sym (ap (λ o. is_some o) (chosen_is false true (bytes_eq word (codes "C")) w x refl) ∙ some_behind (parse_cancel v rest) (λ w. ItemLine (W w)))
 
   pub commit_worded : bytes_eq word (codes "W") ≡ false → bytes_eq word (codes "X") ≡ false → bytes_eq word (codes "C") ≡ true → is_some (commit_of rest) ≡ is_some (worded_line v word rest)
   commit_worded w x c = sym (ap (λ o. is_some o) (chosen_is false false true w x c) ∙ some_behind (commit_of rest) ItemLine)
@@ -191,7 +191,7 @@ some_if false x = refl
 -- a line with a space is an item's, if it is of its place
 pub worded_item : (v : Version) (word rest : Text) → cond (is_some (worded_line v word rest)) (Some false) None ≡ option_map is_last (worded_line v word rest)
 unfolding worded_line
-worded_item v word rest = go (bytes_eq word (codes "W")) (bytes_eq word (codes "X")) (bytes_eq word (codes "C")) (booking_of v rest) (cancel_of v rest) (commit_of rest)
+worded_item v word rest = go (bytes_eq word (codes "W")) (bytes_eq word (codes "X")) (bytes_eq word (codes "C")) (parse_booking v rest) (parse_cancel v rest) (commit_of rest)
   where
     go : (a d b : Bool) (w x : Option Write) (c : Option Item)
         → cond (is_some (cond a (w >>= λ y. Some (ItemLine (W y))) (cond d (x >>= λ y. Some (ItemLine (W y))) (cond b (c >>= λ y. Some (ItemLine y)) None)))) (Some false) None

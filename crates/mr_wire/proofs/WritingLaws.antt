@@ -8,7 +8,7 @@ use Rattle.mr_model.specs.Slots.{Slot, slot_words}
 use Rattle.mr_model.specs.Writes.{Stamp, Action, Books, Cancels, Write}
 use Rattle.mr_model.specs.Exchange.{write_line}
 use Rattle.mr_model.proofs.LinesReadBack.{words-cons}
-use Rattle.mr_wire.specs.Writing.{slot_front, slots_front, front_text, choices_text, meeting_text, target_text, action_word, action_text, write_text}
+use Rattle.mr_wire.specs.Writing.{slot_front, slots_front, front_text, choices_front, meeting_text, target_text, action_word, action_text, write_text}
 use Rattle.mr_wire.proofs.FieldLaws.{front_rest}
 use Rattle.mr_wire.proofs.LineLaws.{booking, cancel, choices_rest, meeting_rest, booking_line_is, target_rest, cancel_line_is}
 
@@ -26,8 +26,8 @@ slots_then (s ∷ ss) t =
     ap (λ (u : Text). date_text s.day ++ 32 ∷ u) (words-cons (time_text s.start) (flat_map slot_words ss) t ∙ ap (λ (u : Text). time_text s.start ++ 32 ∷ u) (slots_then ss t))
     ∙ sym (append_assoc (slot_front s) (slots_front ss) t ∙ slot_then s (slots_front ss ++ t))
 
-choices_then : (wish : Slot) (others : List Slot) (title tail : Text) → choices_rest wish others title ++ tail ≡ choices_text wish others ++ (title ++ tail)
-unfolding choices_rest choices_text
+choices_then : (wish : Slot) (others : List Slot) (title tail : Text) → choices_rest wish others title ++ tail ≡ choices_front wish others ++ (title ++ tail)
+unfolding choices_rest choices_front
 choices_then wish others title tail =
     let count : Text = decimal (length others) in
     let slots : Text = slots_front others in
@@ -70,7 +70,7 @@ action_text_is : (stamp : Stamp) (room : Text) (a : Action) → front_text (acti
 unfolding meeting_text target_text front_rest meeting_rest target_rest fronted
 action_text_is stamp room (Books m) =
     let rest : Text = choices_rest m.wish m.alternatives m.title in
-    let end : Text = choices_text m.wish m.alternatives ++ (m.title ++ 10 ∷ []) in
+    let end : Text = choices_front m.wish m.alternatives ++ (m.title ++ 10 ∷ []) in
     line_text_is (codes "W") stamp room (decimal m.length ++ 32 ∷ rest) (decimal m.length ++ 32 ∷ end) (write_line (booking stamp room m)) (booking_line_is stamp room m)
     (behind (decimal m.length) rest end (10 ∷ []) (choices_then m.wish m.alternatives m.title (10 ∷ [])))
 action_text_is stamp room (Cancels t) =

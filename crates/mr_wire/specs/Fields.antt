@@ -78,8 +78,8 @@ booking_with stamp room minutes wish others title =
     })
 
 -- what stands behind the W of a booking's line
-unfoldable pub booking_of : Version → Text → Option Write
-booking_of v text = do
+unfoldable pub parse_booking : Version → Text → Option Write
+parse_booking v text = do
   front ← front_off text
   minutes ← number_off 1 1440 front.2
   choices ← choices_off (most_alternatives v) minutes.1
@@ -93,8 +93,8 @@ server_and high text = do
   Some (server.0, n)
 
 -- the identity of a write that ends the line
-unfoldable pub id_of : Text → Option Id
-id_of text = do
+unfoldable pub parse_id : Text → Option Id
+parse_id text = do
   parts ← server_and 999_999_999 text
   Some (record { server = parts.0; n = parts.1 })
 
@@ -102,19 +102,19 @@ id_of text = do
 unfoldable pub cancel_parts : Text → Option (Stamp × Text × Id)
 cancel_parts text = do
   front ← front_off text
-  target ← id_of front.2
+  target ← parse_id front.2
   Some (front.0, front.1, target)
 
 -- what stands behind the X of a cancel's line; the first version has none
-abbrev pub cancel_of : Version → Text → Option Write
-cancel_of First text = None
-cancel_of Second text = cancel_parts text >>= λ c. Some (record { stamp = c.0; room = c.1; action = Cancels c.2 })
+abbrev pub parse_cancel : Version → Text → Option Write
+parse_cancel First text = None
+parse_cancel Second text = cancel_parts text >>= λ c. Some (record { stamp = c.0; room = c.1; action = Cancels c.2 })
 
 -- what stands behind the C of a commit's line
 unfoldable pub commit_of : Text → Option Item
 commit_of text = do
   seq ← number_off 1 999_999_999_999 text
-  id ← id_of seq.1
+  id ← parse_id seq.1
   Some (C seq.0 id)
 
 -- what stands behind the word, where a text begins with it
@@ -143,8 +143,8 @@ heading_of text = do
 -- a line by its first word
 unfoldable pub worded_line : Version → Text → Text → Option BodyLine
 worded_line v word rest =
-    if bytes_eq word (codes "W") then (booking_of v rest >>= λ w. Some (ItemLine (W w)))
-    else (if bytes_eq word (codes "X") then (cancel_of v rest >>= λ w. Some (ItemLine (W w)))
+    if bytes_eq word (codes "W") then (parse_booking v rest >>= λ w. Some (ItemLine (W w)))
+    else (if bytes_eq word (codes "X") then (parse_cancel v rest >>= λ w. Some (ItemLine (W w)))
     else (if bytes_eq word (codes "C") then (commit_of rest >>= λ c. Some (ItemLine c)) else None))
 
 -- a line of one word
@@ -158,21 +158,21 @@ line_by v text (Some (word, rest)) = worded_line v word rest
 line_by v text None = bare_line text
 
 -- a line below the header
-abbrev pub line_of : Version → Text → Option BodyLine
-line_of v text = line_by v text (cut 32 text)
+abbrev pub parse_line : Version → Text → Option BodyLine
+parse_line v text = line_by v text (cut 32 text)
 
 -- ---- positions
 
 unfoldable pub servers_of : Text → Option (Version × ℕ × ℕ)
 servers_of text = servers_under (position_word First) (position_word Second) text
 
-unfoldable pub commits_of : Text → Option ℕ
-commits_of text = do
+unfoldable pub parse_commits : Text → Option ℕ
+parse_commits text = do
   rest ← behind_word (codes "K") text
   number_from_to 0 999_999_999_999 rest
 
-unfoldable pub count_of : Text → Option Count
-count_of text = do
+unfoldable pub parse_count : Text → Option Count
+parse_count text = do
   rest ← behind_word (codes "V") text
   c ← server_and 999_999_999 rest
   Some (record { server = c.0; count = c.1 })
@@ -190,7 +190,7 @@ abbrev pub counts_until_end : List Text → Option (List Count)
 counts_until_end [] = None
 counts_until_end (l ∷ ls) =
     if bytes_eq l (codes "E") then no_more ls
-    else (count_of l >>= λ c. (counts_until_end ls >>= λ cs. Some (c ∷ cs)))
+    else (parse_count l >>= λ c. (counts_until_end ls >>= λ cs. Some (c ∷ cs)))
 
 abbrev pub if_position : Position → Option Position
 if_position p = only_if (is_position p) p
@@ -201,6 +201,6 @@ position_on text = do
   first ← cut 10 text
   second ← cut 10 first.1
   servers ← servers_of first.0
-  commits ← commits_of second.0
+  commits ← parse_commits second.0
   counts ← counts_until_end (whole_lines second.1)
   if_position (record { version = servers.0; server = servers.1; primary = servers.2; commits = commits; counts = counts })

@@ -1,9 +1,9 @@
--- A reader of the contracts trusts Words, Fields and Answers. The others, Reading, Lines, Tested and Writing, serve private
+-- A reader of the contracts trusts Words, Fields and BatchAnswers. The others, LineAnswers, Lines, Tested and Writing, serve private
 -- clauses and proofs alone.
 pub mod Words
 pub mod Fields
-pub mod Reading
+pub mod LineAnswers
 pub mod Lines
 pub mod Tested
-pub mod Answers
+pub mod BatchAnswers
 pub mod Writing

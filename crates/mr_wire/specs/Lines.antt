@@ -1,7 +1,7 @@
 -- A header and a line below it as the definitions see them.
 use Rattle.std.specs.Prelude.{ℕ, Option, option_map}
 use Rattle.mr_model.specs.Exchange as model
-use Rattle.mr_base.specs.Batches.{item_of, ending_of}
+use Rattle.mr_base.specs.Batches.{item_of, ending_seen}
 use Rattle.mr_base.specs.Versions.{version_of}
 use Rattle.mr_base.specs.declared.versions.Version.{Version}
 use Rattle.mr_wire.specs.declared.lines.Line.{Line}
@@ -13,4 +13,4 @@ heading_seen heading = option_map (λ h. record { version = version_of h.0; head
 
 abbrev pub line_seen : Line → model.BodyLine
 line_seen (Item item) = model.ItemLine (item_of item)
-line_seen (Last ending) = model.LastLine (ending_of ending)
+line_seen (Last ending) = model.LastLine (ending_seen ending)

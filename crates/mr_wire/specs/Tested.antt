@@ -6,7 +6,7 @@ use Rattle.mr_model.specs.Writes.{is_title, fits_day}
 use Rattle.mr_model.specs.Exchange.{Version, BodyLine, ItemLine, LastLine}
 use Rattle.mr_model.specs.Positions.{Count}
 use Rattle.mr_wire.specs.Words.{cut}
-use Rattle.mr_wire.specs.Fields.{◌>>=◌, number_off, slot_off, front_off, most_alternatives, servers_of, commits_of, count_of}
+use Rattle.mr_wire.specs.Fields.{◌>>=◌, number_off, slot_off, front_off, most_alternatives, servers_of, parse_commits, parse_count}
 
 -- what stands behind so many slots, of which each ends on its day with that length
 unfoldable pub behind_slots : ℕ → ℕ → Text → Option Text
@@ -17,8 +17,8 @@ behind_slots minutes (suc k) text = do
   behind_slots minutes k rest
 
 -- what stands in the place of the title on a booking's line, where its other parts are of their places and within the limits
-unfoldable pub title_in : Version → Text → Option Text
-title_in v text = do
+unfoldable pub parse_title : Version → Text → Option Text
+parse_title v text = do
   front ← front_off text
   minutes ← number_off 1 1440 front.2
   wished ← behind_slots minutes.0 1 minutes.1
@@ -41,7 +41,7 @@ behind_commits text = do
   first ← cut 10 text
   second ← cut 10 first.1
   servers ← servers_of first.0
-  commits ← commits_of second.0
+  commits ← parse_commits second.0
   Some second.1
 
 abbrev pub is_none_left : List Text → Bool
@@ -57,4 +57,4 @@ rises_above last None behind = false
 abbrev pub counts_rise : ℕ → List Text → Bool
 counts_rise last [] = false
 counts_rise last (l ∷ ls) =
-    if bytes_eq l (codes "E") then is_none_left ls else rises_above last (count_of l) (λ server. counts_rise server ls)
+    if bytes_eq l (codes "E") then is_none_left ls else rises_above last (parse_count l) (λ server. counts_rise server ls)

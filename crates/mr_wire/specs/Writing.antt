@@ -18,12 +18,12 @@ front_text word stamp room =
     word ++ 32 ∷ (decimal stamp.server ++ 32 ∷ (decimal stamp.n ++ 32 ∷ (decimal stamp.time ++ 32 ∷ room)))
 
 -- a booking's choices, up to its title
-unfoldable pub choices_text : Slot → List Slot → Text
-choices_text wish others = slot_front wish ++ (decimal (length others) ++ 32 ∷ slots_front others)
+unfoldable pub choices_front : Slot → List Slot → Text
+choices_front wish others = slot_front wish ++ (decimal (length others) ++ 32 ∷ slots_front others)
 
 -- what stands behind the room of a booking, with its LF
 unfoldable pub meeting_text : Meeting → Text
-meeting_text m = 32 ∷ (decimal m.length ++ 32 ∷ (choices_text m.wish m.alternatives ++ (m.title ++ 10 ∷ [])))
+meeting_text m = 32 ∷ (decimal m.length ++ 32 ∷ (choices_front m.wish m.alternatives ++ (m.title ++ 10 ∷ [])))
 
 -- what stands behind the room of a cancel, with its LF
 unfoldable pub target_text : Id → Text

@@ -5,8 +5,8 @@ ghost use Rattle.mr_model.specs.Texts.{whole_lines};
 ghost use Rattle.mr_model.specs.Refusals.{BadLine};
 ghost use Rattle.mr_model.specs.Exchange.{Cut, read_body_line, read_body, read_end, read_batch};
 ghost use Rattle.mr_base.specs.Versions.{version_of};
-ghost use Rattle.mr_wire.specs.Fields.{booking_of, cancel_of, worded_line, line_of};
-ghost use Rattle.mr_wire.specs.Tested.{behind_slots, title_in, is_last};
+ghost use Rattle.mr_wire.specs.Fields.{parse_booking, parse_cancel, worded_line, parse_line};
+ghost use Rattle.mr_wire.specs.Tested.{behind_slots, parse_title, is_last};
 
 use crate::fields::{front_off, number_off, slot_off};
 use crate::lines::{cancel_parts, commit_of, read_header};
@@ -69,7 +69,7 @@ fn is_last(version: Version, line: &[u8]) -> Option<bool>
 }
 
 fn is_last_text(version: Version, text: &str) -> Option<bool>
-    ensures { result ≡ option_map is_last (line_of (version_of version) text.now) }
+    ensures { result ≡ option_map is_last (parse_line (version_of version) text.now) }
 {
     match first_word(text) {
         Some((word, rest)) => is_item(version, word, rest).then_some(false),
@@ -100,7 +100,7 @@ fn is_item(version: Version, word: &str, rest: &str) -> bool
 
 /// Whether a text is that of a booking's line, of which this stands behind the `W` and its space.
 fn is_booking(version: Version, text: &str) -> bool
-    ensures { result ≡ is_some (booking_of (version_of version) text.now) }
+    ensures { result ≡ is_some (parse_booking (version_of version) text.now) }
 {
     match title_in(version, text) {
         Some(title) => is_title_text(title.as_bytes()),
@@ -110,7 +110,7 @@ fn is_booking(version: Version, text: &str) -> bool
 
 /// Whether a text is that of a cancel's line, of which this stands behind the `X` and its space.
 fn is_cancel(version: Version, text: &str) -> bool
-    ensures { result ≡ is_some (cancel_of (version_of version) text.now) }
+    ensures { result ≡ is_some (parse_cancel (version_of version) text.now) }
 {
     match version {
         Version::First => false,
@@ -120,9 +120,9 @@ fn is_cancel(version: Version, text: &str) -> bool
 
 /// What stands in the place of the title on a booking's line, where its other parts are of their places and within the
 /// limits.
-#[tactic(auto, using(std::proofs::lemmas::Bool::Decides::nat_tests), unfolding(crate::specs::Tested::title_in))]
+#[tactic(auto, using(std::proofs::lemmas::Bool::Decides::nat_tests), unfolding(crate::specs::Tested::parse_title))]
 fn title_in(version: Version, text: &str) -> Option<&str>
-    ensures { option_map (λ x. x.now) result ≡ title_in (version_of version) text.now }
+    ensures { option_map (λ x. x.now) result ≡ parse_title (version_of version) text.now }
 {
     let Some((_, _, rest)) = front_off(text) else {
         return None;

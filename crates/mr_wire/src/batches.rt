@@ -2,9 +2,9 @@ ghost use Rattle.std.specs.Prelude.{◌≡◌, ℕ, ◌+◌, ◌<◌, ◌^◌, t
 ghost use Rattle.mr_model.specs.Texts.{whole_lines};
 ghost use Rattle.mr_model.specs.Exchange.{Batch as BatchOfLines, is_batch, batch_text, batch_lines, read_body, read_end, read_batch, ReadsAs, IsFirstBadLine, front_of, lines_within};
 ghost use Rattle.mr_base.specs.Answers.{Gives};
-ghost use Rattle.mr_base.specs.Batches.{item_of, ending_of};
+ghost use Rattle.mr_base.specs.Batches.{item_of, ending_seen};
 ghost use Rattle.mr_base.specs.Versions.{version_of};
-ghost use Rattle.mr_wire.specs.Answers.{GivesDue, IsDue, GivesSeen, IsRefusedFor, body_seen, with_front, refusal_at};
+ghost use Rattle.mr_wire.specs.BatchAnswers.{GivesDue, IsDue, GivesSeen, IsRefusedFor, body_seen, with_front, refusal_at};
 
 use crate::bad_lines::first_bad_line;
 use crate::fault::Fault;
@@ -95,7 +95,7 @@ fn end_body(
     behind: &[u8],
 ) -> Result<(Vec<Item>, Ending), Refusal>
     requires { number + length behind.now < 2 ^ 64 }
-    ensures { GivesSeen (λ x. body_seen x.0.items x.1) result (with_front (map item_of items.items) (read_end (ending_of ending) number (whole_lines behind.now))) }
+    ensures { GivesSeen (λ x. body_seen x.0.items x.1) result (with_front (map item_of items.items) (read_end (ending_seen ending) number (whole_lines behind.now))) }
 {
     match first_line(behind) {
         None => Ok((items, ending)),

@@ -3,8 +3,8 @@ ghost use Rattle.std.specs.Str.{IsUtf8};
 ghost use Rattle.mr_model.specs.Texts.{within};
 ghost use Rattle.mr_model.specs.Calendar.{read_date, read_time};
 ghost use Rattle.mr_model.specs.Writes.{is_room_name};
-ghost use Rattle.mr_wire.specs.Fields.{number_off, stamp_off, front_off, slot_off, slots_off, choices_off, server_and, id_of, behind_word};
-ghost use Rattle.mr_wire.specs.Reading.{Reads};
+ghost use Rattle.mr_wire.specs.Fields.{number_off, stamp_off, front_off, slot_off, slots_off, choices_off, server_and, parse_id, behind_word};
+ghost use Rattle.mr_wire.specs.LineAnswers.{GivesRead};
 
 use crate::fault::Fault;
 use crate::words::first_word;
@@ -101,7 +101,7 @@ pub(crate) fn slots_off(
     count: u64,
     text: &str,
 ) -> Result<(Alternatives, &str), Fault>
-    ensures { Reads (λ x. (x.0, x.1.now)) result (slots_off count text.now) }
+    ensures { GivesRead (λ x. (x.0, x.1.now)) result (slots_off count text.now) }
 {
     let mut slots = Vec::new(alloc);
     let mut rest = text;
@@ -124,7 +124,7 @@ pub(crate) fn choices_off(
     most: u64,
     text: &str,
 ) -> Result<((Slot, Alternatives), &str), Fault>
-    ensures { Reads (λ x. (x.0, x.1.now)) result (choices_off most text.now) }
+    ensures { GivesRead (λ x. (x.0, x.1.now)) result (choices_off most text.now) }
 {
     let Some((wish, rest)) = slot_off(text) else {
         return Err(Fault::NotALine);
@@ -150,9 +150,9 @@ pub(crate) fn server_and(text: &str, high: u64) -> Option<(ServerId, u64)>
 }
 
 /// The identity of a write that ends the line.
-#[tactic(auto, using(std::proofs::lemmas::Bool::Decides::nat_tests), unfolding(crate::specs::Fields::id_of))]
+#[tactic(auto, using(std::proofs::lemmas::Bool::Decides::nat_tests), unfolding(crate::specs::Fields::parse_id))]
 pub(crate) fn id_of(text: &str) -> Option<WriteId>
-    ensures { result ≡ id_of text.now }
+    ensures { result ≡ parse_id text.now }
 {
     let (server, n) = server_and(text, 999_999_999)?;
     Some(WriteId {

@@ -3,9 +3,9 @@ ghost use Rattle.mr_model.specs.Writes.{is_room_name};
 ghost use Rattle.mr_model.specs.Exchange.{Second, read_header, read_body_line};
 ghost use Rattle.mr_base.specs.Batches.{item_of};
 ghost use Rattle.mr_base.specs.Versions.{version_of};
-ghost use Rattle.mr_wire.specs.Fields.{booking_with, booking_of, cancel_parts, cancel_of, commit_of, heading_of, worded_line, bare_line, line_of};
+ghost use Rattle.mr_wire.specs.Fields.{booking_with, parse_booking, cancel_parts, parse_cancel, commit_of, heading_of, worded_line, bare_line, parse_line};
 ghost use Rattle.mr_wire.specs.Lines.{line_seen, heading_seen};
-ghost use Rattle.mr_wire.specs.Reading.{Reads};
+ghost use Rattle.mr_wire.specs.LineAnswers.{GivesRead};
 
 use crate::fault::Fault;
 use crate::fields::{choices_off, front_off, id_of, number_off};
@@ -29,7 +29,7 @@ fn booking_with(
     title: &str,
 ) -> Result<Write, Fault>
     requires { IsTrue (is_room_name room.now) }
-    ensures { Reads (λ w. w) result (booking_with stamp room.now length wish alternatives title.now) }
+    ensures { GivesRead (λ w. w) result (booking_with stamp room.now length wish alternatives title.now) }
 {
     if !is_title_text(title.as_bytes()) {
         return Err(Fault::NotALine);
@@ -43,9 +43,9 @@ fn booking_with(
 }
 
 /// The booking on a line, of which this stands behind the `W` and its space.
-#[tactic(auto, using(std::proofs::lemmas::Bool::Decides::nat_tests), unfolding(crate::specs::Fields::booking_of))]
+#[tactic(auto, using(std::proofs::lemmas::Bool::Decides::nat_tests), unfolding(crate::specs::Fields::parse_booking))]
 fn booking_of(alloc: Global, version: Version, text: &str) -> Result<Write, Fault>
-    ensures { Reads (λ w. w) result (booking_of (version_of version) text.now) }
+    ensures { GivesRead (λ w. w) result (parse_booking (version_of version) text.now) }
 {
     let Some((stamp, room, rest)) = front_off(text) else {
         return Err(Fault::NotALine);
@@ -73,7 +73,7 @@ pub(crate) fn cancel_parts(text: &str) -> Option<(Stamp, &str, WriteId)>
 
 /// The cancel on a line, of which this stands behind the `X` and its space. The first version has none.
 fn cancel_of(alloc: Global, version: Version, text: &str) -> Result<Write, Fault>
-    ensures { Reads (λ w. w) result (cancel_of (version_of version) text.now) }
+    ensures { GivesRead (λ w. w) result (parse_cancel (version_of version) text.now) }
 {
     match version {
         Version::First => Err(Fault::NotALine),
@@ -82,7 +82,7 @@ fn cancel_of(alloc: Global, version: Version, text: &str) -> Result<Write, Fault
 }
 
 fn cancel_on(alloc: Global, text: &str) -> Result<Write, Fault>
-    ensures { Reads (λ w. w) result (cancel_of Second text.now) }
+    ensures { GivesRead (λ w. w) result (parse_cancel Second text.now) }
 {
     let Some((stamp, room, target)) = cancel_parts(text) else {
         return Err(Fault::NotALine);
@@ -132,7 +132,7 @@ pub(crate) enum Line {
 
 #[tactic(auto, unfolding(crate::specs::Fields::worded_line))]
 fn worded_line(alloc: Global, version: Version, word: &str, rest: &str) -> Result<Line, Fault>
-    ensures { Reads line_seen result (worded_line (version_of version) word.now rest.now) }
+    ensures { GivesRead line_seen result (worded_line (version_of version) word.now rest.now) }
 {
     if word == "W" {
         let write = booking_of(alloc, version, rest)?;
@@ -153,7 +153,7 @@ fn worded_line(alloc: Global, version: Version, word: &str, rest: &str) -> Resul
 
 #[tactic(auto, unfolding(crate::specs::Fields::bare_line))]
 fn bare_line(text: &str) -> Result<Line, Fault>
-    ensures { Reads line_seen result (bare_line text.now) }
+    ensures { GivesRead line_seen result (bare_line text.now) }
 {
     if text == "E" {
         return Ok(Line::Last(Ending::Complete));
@@ -165,7 +165,7 @@ fn bare_line(text: &str) -> Result<Line, Fault>
 }
 
 fn line_of(alloc: Global, version: Version, text: &str) -> Result<Line, Fault>
-    ensures { Reads line_seen result (line_of (version_of version) text.now) }
+    ensures { GivesRead line_seen result (parse_line (version_of version) text.now) }
 {
     match first_word(text) {
         Some((word, rest)) => worded_line(alloc, version, word, rest),
@@ -175,7 +175,7 @@ fn line_of(alloc: Global, version: Version, text: &str) -> Result<Line, Fault>
 
 /// A line below a header of this version: a booking, a cancel, a commit or a last line.
 pub(crate) fn read_line(alloc: Global, version: Version, line: &[u8]) -> Result<Line, Fault>
-    ensures { Reads line_seen result (read_body_line (version_of version) line.now) }
+    ensures { GivesRead line_seen result (read_body_line (version_of version) line.now) }
 {
     match str::from_utf8(line) {
         Ok(text) => line_of(alloc, version, text),

@@ -4,10 +4,10 @@ ghost use Rattle.mr_model.specs.Texts.{whole_lines};
 ghost use Rattle.mr_model.specs.Refusals.{BadPosition};
 ghost use Rattle.mr_model.specs.Positions.{Position as PositionOfReplica, is_position, position_text, read_position};
 ghost use Rattle.mr_base.specs.Answers.{Gives};
-ghost use Rattle.mr_base.specs.Positions.{counts_of};
+ghost use Rattle.mr_base.specs.PositionCounts.{counts_of_pairs};
 ghost use Rattle.mr_base.specs.Versions.{version_of};
-ghost use Rattle.mr_wire.specs.Fields.{servers_of as servers_read, commits_of as commits_read, count_of as count_read, counts_until_end, no_more, with_counts, position_on};
-ghost use Rattle.mr_wire.specs.Reading.{Reads};
+ghost use Rattle.mr_wire.specs.Fields.{servers_of as servers_read, parse_commits as commits_read, parse_count as count_read, counts_until_end, no_more, with_counts, position_on};
+ghost use Rattle.mr_wire.specs.LineAnswers.{GivesRead};
 
 use crate::bad_positions::is_position_text;
 use crate::fault::Fault;
@@ -43,7 +43,7 @@ fn position_or_refusal(alloc: Global, bytes: &[u8]) -> Result<Position, Refusal>
 }
 
 fn position_of(alloc: Global, bytes: &[u8]) -> Result<Position, Fault>
-    ensures { Reads (λ p. p) result (read_position bytes.now) }
+    ensures { GivesRead (λ p. p) result (read_position bytes.now) }
 {
     let Ok(text) = str::from_utf8(bytes) else {
         return Err(Fault::NotALine);
@@ -65,7 +65,7 @@ pub(crate) fn ends_in_line(text: &str) -> bool
 /// The position on the lines of a text.
 #[tactic(auto, unfolding(crate::specs::Fields::position_on))]
 fn position_of_lines(alloc: Global, text: &str) -> Result<Position, Fault>
-    ensures { Reads (λ p. p) result (position_on text.now) }
+    ensures { GivesRead (λ p. p) result (position_on text.now) }
 {
     let Some((servers, rest)) = first_line_of_text(text) else {
         return Err(Fault::NotALine);
@@ -97,7 +97,7 @@ pub(crate) fn servers_in(line: &str) -> Option<(Version, ServerId, ServerId)>
     )
 }
 
-#[tactic(auto, unfolding(crate::specs::Fields::commits_of))]
+#[tactic(auto, unfolding(crate::specs::Fields::parse_commits))]
 pub(crate) fn commits_in(line: &str) -> Option<u64>
     ensures { result ≡ commits_read line.now }
 {
@@ -105,7 +105,7 @@ pub(crate) fn commits_in(line: &str) -> Option<u64>
     read_number(rest, 0, 999_999_999_999)
 }
 
-#[tactic(auto, using(std::proofs::lemmas::Bool::Decides::nat_tests), unfolding(crate::specs::Fields::count_of))]
+#[tactic(auto, using(std::proofs::lemmas::Bool::Decides::nat_tests), unfolding(crate::specs::Fields::parse_count))]
 pub(crate) fn count_in(line: &str) -> Option<(ServerId, u32)>
     ensures { option_map (λ c. record { server = c.0; count = c.1 }) result ≡ count_read line.now }
 {
@@ -116,7 +116,7 @@ pub(crate) fn count_in(line: &str) -> Option<(ServerId, u32)>
 
 /// The counts on the lines up to the last, which is `E`.
 fn counts_in(alloc: Global, text: &str) -> Result<Vec<(ServerId, u32)>, Fault>
-    ensures { Reads (λ v. counts_of v.items) result (counts_until_end (whole_lines text.now)) }
+    ensures { GivesRead (λ v. counts_of_pairs v.items) result (counts_until_end (whole_lines text.now)) }
 {
     let mut counts = Vec::new(alloc);
     let mut rest = text;
@@ -135,7 +135,7 @@ fn counts_in(alloc: Global, text: &str) -> Result<Vec<(ServerId, u32)>, Fault>
 
 /// The counts, where no line is left.
 fn if_last(counts: Vec<(ServerId, u32)>, behind: &str) -> Result<Vec<(ServerId, u32)>, Fault>
-    ensures { Reads (λ v. counts_of v.items) result (with_counts (counts_of counts.items) (no_more (whole_lines behind.now))) }
+    ensures { GivesRead (λ v. counts_of_pairs v.items) result (with_counts (counts_of_pairs counts.items) (no_more (whole_lines behind.now))) }
 {
     match first_line_of_text(behind) {
         None => Ok(counts),

@@ -4,10 +4,10 @@ ghost use Rattle.mr_model.specs.Texts.{line, lines_text};
 ghost use Rattle.mr_model.specs.Exchange.{Batch as BatchOfLines, is_batch, batch_text, item_line, ending_lines};
 ghost use Rattle.mr_model.specs.Positions.{Position as PositionOfReplica, is_position, position_text, count_line};
 ghost use Rattle.mr_base.specs.Actions.{action_of};
-ghost use Rattle.mr_base.specs.Batches.{item_of, ending_of};
-ghost use Rattle.mr_base.specs.Positions.{counts_of};
-ghost use Rattle.mr_wire.specs.Answers.{GivesSeen};
-ghost use Rattle.mr_wire.specs.Writing.{slot_front, slots_front, front_text, choices_text, meeting_text, target_text, action_word as word_of_action, action_text, write_text};
+ghost use Rattle.mr_base.specs.Batches.{item_of, ending_seen};
+ghost use Rattle.mr_base.specs.PositionCounts.{counts_of_pairs};
+ghost use Rattle.mr_wire.specs.BatchAnswers.{GivesSeen};
+ghost use Rattle.mr_wire.specs.Writing.{slot_front, slots_front, front_text, choices_front, meeting_text, target_text, action_word as word_of_action, action_text, write_text};
 
 use crate::versions::{batch_word, position_word};
 use mr_base::{
@@ -82,9 +82,9 @@ fn push_slots(text: &mut String, slots: &[Slot]) -> Result<(), AllocError>
 }
 
 /// The wish, the number of alternatives and the alternatives.
-#[tactic(auto, unfolding(crate::specs::Writing::choices_text))]
+#[tactic(auto, unfolding(crate::specs::Writing::choices_front))]
 fn push_choices(text: &mut String, wish: Slot, alternatives: &[Slot]) -> Result<(), AllocError>
-    ensures { OnOk result (string_bytes text.new ≡ string_bytes text.old ++ choices_text wish alternatives.now) }
+    ensures { OnOk result (string_bytes text.new ≡ string_bytes text.old ++ choices_front wish alternatives.now) }
 {
     push_slot(text, wish)?;
     let count = alternatives.len();
@@ -178,7 +178,7 @@ fn push_items(text: &mut String, items: &[Item]) -> Result<(), AllocError>
 }
 
 fn push_ending(text: &mut String, ending: Ending) -> Result<(), AllocError>
-    ensures { OnOk result (string_bytes text.new ≡ string_bytes text.old ++ lines_text (ending_lines (ending_of ending))) }
+    ensures { OnOk result (string_bytes text.new ≡ string_bytes text.old ++ lines_text (ending_lines (ending_seen ending))) }
 {
     match ending {
         Ending::Complete => text.push_str("E\n"),
@@ -188,7 +188,7 @@ fn push_ending(text: &mut String, ending: Ending) -> Result<(), AllocError>
 }
 
 fn push_counts(text: &mut String, counts: &[(ServerId, u32)]) -> Result<(), AllocError>
-    ensures { OnOk result (string_bytes text.new ≡ string_bytes text.old ++ lines_text (map count_line (counts_of counts.now))) }
+    ensures { OnOk result (string_bytes text.new ≡ string_bytes text.old ++ lines_text (map count_line (counts_of_pairs counts.now))) }
 {
     for (server, count) in counts {
         push_count(text, *server, *count)?;

@@ -1,4 +1,4 @@
 pub mod FlaglessWords
 pub mod AddressParts
 pub mod CommandLines
-pub mod LinesReadBack
+pub mod CommandsReadBack

@@ -1,7 +1,7 @@
 //! Single words of a command line.
 
 ghost use Rattle.std.specs.Prelude.{◌≡◌, IfOk, MatchOption, Some, None, map};
-ghost use Rattle.mr_service.specs.Asked.{part_of, words_of};
+ghost use Rattle.mr_service.specs.Asked.{part_seen, words_of};
 ghost use Rattle.mr_words.specs.CommandTable.{server_in, commit_number_in, line_count_in, port_in, connections_in, part_in, slot_in_word};
 
 use mr_base::{LineCount, ServerId, read_number};
@@ -48,7 +48,7 @@ pub(crate) fn read_connections(word: &str) -> Option<u64>
 
 /// The part of a calendar that the word names.
 pub fn read_part(word: &str) -> Option<Part>
-    ensures { MatchOption result (part_in word.now ≡ None) (λ part. part_in word.now ≡ Some (part_of part)) }
+    ensures { MatchOption result (part_in word.now ≡ None) (λ part. part_in word.now ≡ Some (part_seen part)) }
 {
     match word {
         "full" => Some(Part::Full),

@@ -5,7 +5,7 @@ use Rattle.sqlite.specs.Held.{state}
 use Rattle.mr_model.specs.Replica.{opening}
 use Rattle.mr_model.specs.Tables.{Stands}
 use Rattle.mr_rows.specs.Database.{tables_in}
-use Rattle.mr_service.specs.Asked.{command_of, reply_of}
+use Rattle.mr_service.specs.Asked.{command_seen, reply_of}
 use Rattle.mr_service.proofs.HeadlineLaws.{headline_kept}
 use Rattle.mr.proofs.memory.run_in_memory.Goals as goal
 
@@ -18,7 +18,7 @@ returns c =
     record {
       headline = (
         _,
-        headline_kept _ _ (map command_of c.args.commands.now) (map reply_of c.in_ok-replies.replies.items) (opening c.args.server c.args.primary) stands (c.in_ok-replies.ensures.serves clean opened),
+        headline_kept _ _ (map command_seen c.args.commands.now) (map reply_of c.in_ok-replies.replies.items) (opening c.args.server c.args.primary) stands (c.in_ok-replies.ensures.serves clean opened),
       );
       cause = tt;
     }

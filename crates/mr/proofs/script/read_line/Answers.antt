@@ -1,7 +1,7 @@
 use Rattle.std.proofs.Common.{◌≡◌, sym, ◌∙◌, true}
-use Rattle.mr.specs.Script.{is_plain}
+use Rattle.mr.specs.RehearsalScript.{is_plain}
 use Rattle.mr_service.specs.Stepping.{step_of}
-use Rattle.mr.proofs.LineLaws.{reading_stands_at, plain_text}
+use Rattle.mr.proofs.ScriptLines.{reading_stands_at, plain_text}
 use Rattle.mr.proofs.script.read_line.Goals as goal
 
 pub returns-in-Ok : goal.returns-in-Ok

@@ -4,7 +4,7 @@ use Rattle.std.proofs.lemmas.Iterator.Consumers.{YieldsList-from_enumerate, Yiel
 use Rattle.std.proofs.lemmas.Iterator.Splits.{YieldsList-from_slice_split}
 use Rattle.mr_service.specs.Stepping.{step_of}
 use Rattle.mr.specs.ScriptRead.{IsLineAs}
-use Rattle.mr.specs.Script.{script_lines, AreStepsOf, begun}
+use Rattle.mr.specs.RehearsalScript.{script_lines, AreStepsOf, begun}
 use Rattle.mr.proofs.ScriptLaws.{numbered, texts_of, passes_over, takes_step, ends_at_bad, texts_more, line_turn, lines_end}
 use Rattle.mr.proofs.script.read_script.Goals as goal
 

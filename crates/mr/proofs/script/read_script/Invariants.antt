@@ -1,6 +1,6 @@
 use Rattle.std.proofs.Common.{map}
 use Rattle.mr_service.specs.Stepping.{step_of}
-use Rattle.mr.specs.Script.{AreStepsOf}
+use Rattle.mr.specs.RehearsalScript.{AreStepsOf}
 use Rattle.mr.proofs.ScriptLaws.{numbered, texts_of}
 use Rattle.mr.proofs.script.read_script.Given as goal
 

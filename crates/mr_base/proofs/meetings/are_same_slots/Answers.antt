@@ -1,6 +1,6 @@
 use Rattle.std.proofs.Common.{rules}
 use Rattle.std.proofs.lemmas.Slice.Eq.{slice_eq-Decides}
-use Rattle.mr_base.proofs.Parts.{same_test}
+use Rattle.mr_base.proofs.EqualSlots.{same_test}
 use Rattle.mr_base.proofs.meetings.are_same_slots.Goals as goal
 
 pub returns : goal.returns

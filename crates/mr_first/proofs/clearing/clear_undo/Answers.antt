@@ -1,7 +1,7 @@
 use Rattle.std.proofs.Common.{[]}
 use Rattle.sqlite.specs.Held.{state}
 use Rattle.mr_rows.proofs.StatementLemmas.{keeps_any}
-use Rattle.mr_first.proofs.Texts.{clear_undo_text}
+use Rattle.mr_first.proofs.FirstStatementMeaning.{clear_undo_text}
 use Rattle.mr_first.proofs.ClearLemmas.{clears_undo}
 use Rattle.mr_first.proofs.clearing.clear_undo.Goals as goal
 

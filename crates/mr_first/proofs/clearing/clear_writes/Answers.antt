@@ -1,7 +1,7 @@
 use Rattle.std.proofs.Common.{[]}
 use Rattle.sqlite.specs.Held.{state}
 use Rattle.mr_rows.proofs.StatementLemmas.{keeps_any}
-use Rattle.mr_first.proofs.Texts.{clear_write_text}
+use Rattle.mr_first.proofs.FirstStatementMeaning.{clear_write_text}
 use Rattle.mr_first.proofs.ClearLemmas.{clears_write}
 use Rattle.mr_first.proofs.clearing.clear_writes.Goals as goal
 

@@ -3,7 +3,7 @@ use Rattle.std.proofs.lemmas.Cmp.{on_total}
 use Rattle.std.proofs.lemmas.List.MinMax.{ranks_by}
 use Rattle.std.proofs.lemmas.List.Sorted.{answers_always}
 use Rattle.std.proofs.lemmas.Result.{on_ok_weaker}
-use Rattle.mr_replay.proofs.Ids.{ids_total}
+use Rattle.mr_replay.proofs.IdKeys.{ids_total}
 use Rattle.mr_first.specs.Forms.{write_id}
 use Rattle.mr_first.proofs.logs.sort_writes.Goals as goal
 

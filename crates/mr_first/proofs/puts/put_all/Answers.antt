@@ -1,7 +1,7 @@
 use Rattle.std.proofs.Common.{◌∙◌, arith}
 use Rattle.sqlite.specs.Held.{state}
 use Rattle.mr_rows.proofs.StepLemmas.{none_commits}
-use Rattle.mr_first.proofs.Steps.{goes_on_at, all_made}
+use Rattle.mr_first.proofs.FirstSteps.{goes_on_at, all_made}
 use Rattle.mr_first.proofs.puts.put_all.Goals as goal
 
 pub rows-preserved : goal.rows-preserved

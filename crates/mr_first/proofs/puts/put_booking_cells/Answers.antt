@@ -4,9 +4,9 @@ use Rattle.sqlite.specs.Held.{state}
 use Rattle.mr_model.specs.Calendar.{is_date, date_text}
 use Rattle.mr_model.specs.Tables.{BookingRow}
 use Rattle.mr_rows.specs.Form.{booking_form}
-use Rattle.mr_rows.proofs.Texts.{put_booking_text}
+use Rattle.mr_rows.proofs.StatementMeaning.{put_booking_text}
 use Rattle.mr_first.specs.FirstDatabase.{MakesFirst, first_in}
-use Rattle.mr_first.specs.FirstParts.{put_bookings}
+use Rattle.mr_first.specs.FirstParts.{put_first_bookings}
 use Rattle.mr_first.proofs.Statements.{makes_first, puts_booking}
 use Rattle.mr_first.proofs.puts.put_booking_cells.Goals as goal
 
@@ -18,5 +18,5 @@ returns-clause-put g c =
     let day = c.requires.day ∙ ap (λ (r : BookingRow). date_text r.day) (sym c.row.view_is) in
     let is : IsTrue (is_date row.day) = subst (λ (r : BookingRow). IsTrue (is_date r.day)) (sym c.row.view_is) c.requires.is_date in
     let ran = λ (clean : HasCleanDisk (state g.S.Store new)) (within : IsTrue old.in_transaction). (rw (c.params-to_sql.ensures, c.params-to_sql-2.ensures, c.params-to_sql-3.ensures, c.params-to_sql-4.ensures, c.params-to_sql-5.ensures, c.params-to_sql-6.ensures, c.params-to_sql-7.ensures, c.params-to_sql-8.ensures, c.number.ensures.value, c.as_str.ensures.text, c.as_str-2.ensures.text, day) at (c.execute.ensures.runs clean within)) in
-    subst (λ (row : BookingRow). MakesFirst (state g.S.Store old) (state g.S.Store new) (put_bookings (row ∷ []) (first_in (state g.S.Store old).now.trees)) c.execute.result) c.row.view_is
-    (makes_first g.S.Store old new put_booking_text (booking_form.cells row) (put_bookings (row ∷ [])) c.execute.result (puts_booking row is) ran (λ outside. (c.execute.ensures.ended outside).1))
+    subst (λ (row : BookingRow). MakesFirst (state g.S.Store old) (state g.S.Store new) (put_first_bookings (row ∷ []) (first_in (state g.S.Store old).now.trees)) c.execute.result) c.row.view_is
+    (makes_first g.S.Store old new put_booking_text (booking_form.cells row) (put_first_bookings (row ∷ [])) c.execute.result (puts_booking row is) ran (λ outside. (c.execute.ensures.ended outside).1))

@@ -3,9 +3,9 @@ use Rattle.sqlite.specs.State.{HasCleanDisk}
 use Rattle.sqlite.specs.Held.{state}
 use Rattle.mr_model.specs.Tables.{MetaRow}
 use Rattle.mr_first.specs.Forms.{first_meta_form}
-use Rattle.mr_rows.proofs.Texts.{put_meta_text}
+use Rattle.mr_rows.proofs.StatementMeaning.{put_meta_text}
 use Rattle.mr_first.specs.FirstDatabase.{MakesFirst, first_in}
-use Rattle.mr_first.specs.FirstParts.{put_meta}
+use Rattle.mr_first.specs.FirstParts.{put_first_meta}
 use Rattle.mr_first.proofs.Statements.{makes_first, puts_meta}
 use Rattle.mr_first.proofs.puts.put_meta.Goals as goal
 
@@ -15,5 +15,5 @@ returns-clause-put g c =
     let new = c.execute.new.self.conn.now in
     let row : MetaRow = record { server = c.row.inside.server; primary = c.row.inside.primary; commits = c.row.inside.commits; dropped = c.row.inside.dropped; clock = c.row.inside.clock } in
     let ran = λ (clean : HasCleanDisk (state g.S.Store new)) (within : IsTrue old.in_transaction). (rw (c.params-to_sql.ensures, c.params-to_sql-2.ensures, c.params-to_sql-3.ensures, c.params-to_sql-4.ensures, c.params-to_sql-5.ensures, c.params-to_sql-6.ensures, c.params-to_sql-7.ensures, c.number.ensures.value, c.number-2.ensures.value, c.in_ok-commits.ensures.value, c.in_ok-dropped.ensures.value, c.in_ok-clock.ensures.value) at (c.execute.ensures.runs clean within)) in
-    subst (λ (row : MetaRow). MakesFirst (state g.S.Store old) (state g.S.Store new) (put_meta row (first_in (state g.S.Store old).now.trees)) c.execute.result) c.row.view_is
-    (makes_first g.S.Store old new put_meta_text (first_meta_form.cells row) (put_meta row) c.execute.result (puts_meta row) ran (λ outside. (c.execute.ensures.ended outside).1))
+    subst (λ (row : MetaRow). MakesFirst (state g.S.Store old) (state g.S.Store new) (put_first_meta row (first_in (state g.S.Store old).now.trees)) c.execute.result) c.row.view_is
+    (makes_first g.S.Store old new put_meta_text (first_meta_form.cells row) (put_first_meta row) c.execute.result (puts_meta row) ran (λ outside. (c.execute.ensures.ended outside).1))

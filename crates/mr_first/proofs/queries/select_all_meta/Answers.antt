@@ -1,8 +1,8 @@
 use Rattle.std.proofs.Common.{[]}
 use Rattle.sqlite.specs.State.{Shown}
 use Rattle.sqlite.specs.Held.{state}
-use Rattle.mr_rows.proofs.Texts.{all_meta_text}
-use Rattle.mr_first.proofs.Texts.{all_meta_is}
+use Rattle.mr_rows.proofs.StatementMeaning.{all_meta_text}
+use Rattle.mr_first.proofs.FirstStatementMeaning.{all_meta_is}
 use Rattle.mr_first.proofs.ReadLemmas.{looks_so}
 use Rattle.mr_first.proofs.Selects.{sees_meta}
 use Rattle.mr_first.proofs.queries.select_all_meta.Goals as goal

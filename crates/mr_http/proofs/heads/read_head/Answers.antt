@@ -3,7 +3,7 @@ use Rattle.std.specs.Io.KnownBytes.{Consumes}
 use Rattle.std.proofs.KnownBytes.{Consumes-nil, Consumes-trans}
 use Rattle.std.proofs.lemmas.List.{nil_from_length}
 use Rattle.mr_http.proofs.HeadLemmas.{has_none, none_yet, no_head_known, full_no_head, ended_no_head, finds_none}
-use Rattle.mr_http.proofs.ReadLemmas.{read_none, read_piece_more}
+use Rattle.mr_http.proofs.ReadPieces.{read_none, read_piece_more}
 use Rattle.mr_http.specs.Looks.{Awaits, HasNone}
 use Rattle.mr_http.proofs.heads.read_head.Goals as goal
 

@@ -1,4 +1,4 @@
-use Rattle.mr_base.specs.Refusals.{refusal_of}
+use Rattle.mr_base.specs.RefusalViews.{refusal_of}
 use Rattle.mr_net.proofs.ExchangeLaws.{refused_exchange}
 use Rattle.mr_net.proofs.bridging.bridge_to.Goals as goal
 

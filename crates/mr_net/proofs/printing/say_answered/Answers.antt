@@ -1,6 +1,6 @@
 use Rattle.std.specs.String.{string_bytes}
 use Rattle.mr_net.specs.Printed.{peer_line}
-use Rattle.mr_net.proofs.LineLaws.{line_stops}
+use Rattle.mr_net.proofs.PrintedLines.{line_stops}
 use Rattle.mr_net.proofs.printing.say_answered.Goals as goal
 
 pub returns : goal.returns

@@ -1,6 +1,6 @@
 use Rattle.std.specs.String.{string_bytes}
 use Rattle.mr_net.specs.Printed.{serving_line}
-use Rattle.mr_net.proofs.LineLaws.{line_told}
+use Rattle.mr_net.proofs.PrintedLines.{line_told}
 use Rattle.mr_net.proofs.serving.say_serving.Goals as goal
 
 pub returns : goal.returns

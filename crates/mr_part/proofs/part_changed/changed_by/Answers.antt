@@ -1,7 +1,7 @@
 use Rattle.std.proofs.Common.{◌≡◌, ◌<◌, ◌∙◌, length, ap, refl, sym, arith}
 use Rattle.std.proofs.lemmas.List.{get_or_default}
 use Rattle.mr_replay.specs.Places.{UndoRow}
-use Rattle.mr_replica.specs.RoomMoves.{row_at}
+use Rattle.mr_replica.specs.RoomMoves.{first_undo_row}
 use Rattle.mr_part.specs.Changed.{tells}
 use Rattle.mr_part.proofs.ChangedRows.{changed_more, as_many-more}
 use Rattle.mr_part.proofs.part_changed.changed_by.Goals as goal
@@ -23,5 +23,5 @@ loop-k-preserved c =
       as_many = ap length e.writes ∙ as_many-more _ was.writes.items was.rows.items w u c.loop-k.invariant.as_many ∙ sym (ap length e.rows);
       changed = λ undone place by_id are.
           changed_more c.args.news undone place c.args.again.now c.args.rows.now k w u c.tells-stays.result _ was.writes.items c.push_if.new.self.writes.items was.rows.items c.push_if.new.self.rows.items first c.index-again-k.is c.index-rows-k-in-loop-k.is are
-          (c.tells-stays.ensures ∙ ap (λ o. tells o asked) (by_id asked.id) ∙ ap (λ (x : UndoRow). tells (row_at undone x.id) x) same) refl e.writes e.rows (c.loop-k.invariant.changed undone place by_id are);
+          (c.tells-stays.ensures ∙ ap (λ o. tells o asked) (by_id asked.id) ∙ ap (λ (x : UndoRow). tells (first_undo_row undone x.id) x) same) refl e.writes e.rows (c.loop-k.invariant.changed undone place by_id are);
     }

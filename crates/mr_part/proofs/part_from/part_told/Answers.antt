@@ -6,7 +6,7 @@ use Rattle.mr_replica.specs.Sets.{AreSameRooms}
 use Rattle.mr_part.specs.PickedBookings.{touched_in}
 use Rattle.mr_part.specs.ScopeOf.{scope_of}
 use Rattle.mr_tables.specs.Summary.{IsWithin}
-use Rattle.mr_tables.proofs.Limits.{numbers_within}
+use Rattle.mr_tables.proofs.CountLimits.{numbers_within}
 use Rattle.mr_part.proofs.PartScopes.{same_meta, same_vector, same_room}
 use Rattle.mr_part.proofs.part_from.part_told.Goals as goal
 

@@ -4,9 +4,9 @@ use Rattle.mr_base.specs.declared.batches.Ending.{Ending}
 use Rattle.mr_http.specs.Faults.{web_fault}
 use Rattle.mr_http.specs.declared.faults.WebFault.{WebFault}
 use Rattle.mr_http.specs.Inputs.{OfInput}
-use Rattle.mr_http.proofs.ReadLemmas.{once_read}
+use Rattle.mr_http.proofs.ReadPieces.{once_read}
 use Rattle.mr_peer.specs.Exchanged.{IsExchanged}
-use Rattle.mr_peer.specs.ReplyRead.{ReadsNoFurther}
+use Rattle.mr_peer.specs.ReplyRead.{ReadsOneReply}
 use Rattle.mr_peer.proofs.ReadBytes.{lost_read}
 use Rattle.mr_peer.specs.PeerReplies.{IsReplied, front_body}
 use Rattle.mr_peer.specs.Seen.{reply_seen}
@@ -14,7 +14,7 @@ use Rattle.mr_peer.specs.ExchangeSteps.{KeepsTables, TakesBody, TakesPulled}
 use Rattle.mr_peer.specs.PeerTaking.{Takes, TellsPulled, IsTakeFault}
 use Rattle.mr_peer.proofs.Exchanges.{onward, untouched}
 use Rattle.mr_peer.proofs.FaultLemmas.{front_faults, handed_on, read_faults, reply_takes}
-use Rattle.mr_peer.proofs.StepLemmas.{takes_some, unread_stays}
+use Rattle.mr_peer.proofs.RoundEffects.{takes_some, unread_stays}
 use Rattle.mr_peer.proofs.TakeLemmas.{takes_left, takes_reply, lost_reply, lost_pulled, tells_pulled}
 use Rattle.mr_peer.proofs.pulls.take_reply.Goals as goal
 
@@ -69,10 +69,10 @@ returns-in_err-replied-clause-leaves g c =
 
 pub returns-in_err-replied-clause-reads : goal.returns-in_err-replied-clause-reads
 returns-in_err-replied-clause-reads g c =
-    lost_read _ (ReadsNoFurther (g.R.Read.remaining c.args.reader.now) (g.R.Read.remaining c.read_reply.new.reader)) c.in_err-replied.field-0.0
+    lost_read _ (ReadsOneReply (g.R.Read.remaining c.args.reader.now) (g.R.Read.remaining c.read_reply.new.reader)) c.in_err-replied.field-0.0
     c.from_residual.result c.from_residual.ensures.1
 
 pub returns-clause-reads : goal.returns-clause-reads
 returns-clause-reads g c =
-    once_read (ReadsNoFurther (g.R.Read.remaining c.args.reader.now) (g.R.Read.remaining c.read_reply.new.reader)) c.take_body.result
+    once_read (ReadsOneReply (g.R.Read.remaining c.args.reader.now) (g.R.Read.remaining c.read_reply.new.reader)) c.take_body.result
     c.in_ok-replied.ensures.reads

@@ -5,7 +5,7 @@ use Rattle.mr_model.specs.Positions.{position_text}
 use Rattle.mr_model.specs.Serving.{Reaches}
 use Rattle.mr_model.specs.Step.{Command, BatchFor}
 use Rattle.mr_model.proofs.BatchesReadBack.{ok_inj}
-use Rattle.mr_base.specs.Batches.{ending_of}
+use Rattle.mr_base.specs.Batches.{ending_seen}
 use Rattle.mr_base.specs.declared.batches.Ending.{Ending}
 use Rattle.mr_http.specs.declared.faults.WebFault.TheVariants.{Memory}
 use Rattle.mr_service.specs.Asked.{reply_of}
@@ -33,16 +33,16 @@ returns-clause-exchanged g c =
     let P : Command → Type 0 = λ command. IsServed g.K.Keeper old new command reply in
     let served = subst P (c.batch_for.ensures ∙ ap (λ (t : Text). BatchFor t lines_over_http) text) c.reply_to-reply.ensures in
     of_served g.K.Keeper old new (lacking position) reply result (HandsBatch position) (Reaches (g.K.Keeper.tables old) (lacking position)) served
-    (batch_handed text_of (λ x. ending_of x.1) reply position lines_over_http result c.is_within_limits.ensures c.batch_in.ensures)
-    (batch_told text_of (λ x. ending_of x.1) reply result c.batch_in.ensures) (λ t r. r)
+    (batch_handed text_of (λ x. ending_seen x.1) reply position lines_over_http result c.is_within_limits.ensures c.batch_in.ensures)
+    (batch_told text_of (λ x. ending_seen x.1) reply result c.batch_in.ensures) (λ t r. r)
 
 pub returns-clause-text : goal.returns-clause-text
 returns-clause-text g c =
     let text_of : Vec ℕ Global × Ending → Text = λ x. x.0.items in
-    some_batch text_of (λ x. ending_of x.1) (reply_of c.reply_to-reply.result) c.batch_in.result c.batch_in.ensures
+    some_batch text_of (λ x. ending_seen x.1) (reply_of c.reply_to-reply.result) c.batch_in.result c.batch_in.ensures
 
 pub returns-clause-fault : goal.returns-clause-fault
 returns-clause-fault g c =
     let reply = reply_of c.reply_to-reply.result in
-    let P : Vec ℕ Global × Ending → Type 0 = λ x. IsBatchWith reply x.0.items (ending_of x.1) in
+    let P : Vec ℕ Global × Ending → Type 0 = λ x. IsBatchWith reply x.0.items (ending_seen x.1) in
     reads_faults reply P c.batch_in.result c.batch_in.ensures

@@ -7,7 +7,7 @@ use Rattle.mr_model.specs.Exchange.{batch_text}
 use Rattle.mr_model.specs.Http.{lines_over_http}
 use Rattle.mr_model.specs.Serving.{Reaches}
 use Rattle.mr_model.specs.Step.{batch_of}
-use Rattle.mr_base.specs.Batches.{ending_of}
+use Rattle.mr_base.specs.Batches.{ending_seen}
 use Rattle.mr_base.specs.declared.batches.Ending.{Ending}
 use Rattle.mr_http.specs.declared.faults.WebFault.{WebFault}
 use Rattle.mr_peer.specs.PeerAsking.{GivesBatch, Wrote, AsksPush, HandsBatch, IsAskFault, SendsPush, lacking}
@@ -34,7 +34,7 @@ returns-in_err-text-clause-exchanged g c =
     (onward g.K.Keeper old new (Err e) (Err e) (HandsBatch position) (AsksPush position host held held) R c.in_err-text.ensures.exchanged (λ L u. u)
     (λ a b h.
     let made = batch_of a position lines_over_http in
-    let n = unsent (Vec ℕ Global × Ending) Ending a (lacking position) (λ x. (x.0.items ≡ batch_text made) × (ending_of x.1 ≡ made.ending) × GivesBatch a position)
+    let n = unsent (Vec ℕ Global × Ending) Ending a (lacking position) (λ x. (x.0.items ≡ batch_text made) × (ending_seen x.1 ≡ made.ending) × GivesBatch a position)
     (push_request host (batch_text made)) held e h.1 in
     (h.0, n.0, n.1, tt, unwritten Ending a position e c.in_err-text.ensures.fault)))
 

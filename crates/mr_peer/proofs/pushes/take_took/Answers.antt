@@ -1,8 +1,8 @@
 use Rattle.std.proofs.Common.{ℕ, List, sym, subst}
 use Rattle.mr_http.specs.Faults.{web_fault}
 use Rattle.mr_http.specs.Inputs.{OfInput}
-use Rattle.mr_http.proofs.ReadLemmas.{once_read}
-use Rattle.mr_peer.specs.ReplyRead.{ReadsNoFurther}
+use Rattle.mr_http.proofs.ReadPieces.{once_read}
+use Rattle.mr_peer.specs.ReplyRead.{ReadsOneReply}
 use Rattle.mr_peer.proofs.ReadBytes.{lost_read}
 use Rattle.mr_peer.specs.PeerReplies.{IsReplied, told_took}
 use Rattle.mr_peer.specs.Seen.{reply_seen}
@@ -31,10 +31,10 @@ returns-clause-fault g c =
 
 pub returns-in_err-replied-clause-reads : goal.returns-in_err-replied-clause-reads
 returns-in_err-replied-clause-reads g c =
-    lost_read _ (ReadsNoFurther (g.R.Read.remaining c.args.reader.now) (g.R.Read.remaining c.read_reply.new.reader)) c.in_err-replied.field-0.0
+    lost_read _ (ReadsOneReply (g.R.Read.remaining c.args.reader.now) (g.R.Read.remaining c.read_reply.new.reader)) c.in_err-replied.field-0.0
     c.from_residual.result c.from_residual.ensures.1
 
 pub returns-clause-reads : goal.returns-clause-reads
 returns-clause-reads g c =
-    once_read (ReadsNoFurther (g.R.Read.remaining c.args.reader.now) (g.R.Read.remaining c.read_reply.new.reader)) c.took_of.result
+    once_read (ReadsOneReply (g.R.Read.remaining c.args.reader.now) (g.R.Read.remaining c.read_reply.new.reader)) c.took_of.result
     c.in_ok-replied.ensures.reads

@@ -7,7 +7,7 @@ use Rattle.httparse.specs.Borrowed.{HoldsSomeResponse}
 use Rattle.httparse.specs.Grammar.{ResponseHead, status_code}
 use Rattle.httparse.proofs.GrammarLemmas.{response_unique}
 use Rattle.mr_model.specs.Http.{Field, body_length}
-use Rattle.mr_http.specs.Fields.{fields_of, header_fields}
+use Rattle.mr_http.specs.HeaderFields.{fields_of, header_fields}
 use Rattle.mr_http.proofs.FieldLemmas.{same_fields}
 use Rattle.mr_peer.specs.PeerReplies.{within_limit}
 use Rattle.mr_peer.proofs.replies.head_in.Goals as goal

@@ -14,7 +14,7 @@ use Rattle.mr_peer.specs.ExchangeSteps.{ReachesByPull, TakesBody, TakesPulled}
 use Rattle.mr_peer.specs.PeerTaking.{TakesReply}
 use Rattle.mr_peer.proofs.AskLemmas.{ask_failed, failed_as}
 use Rattle.mr_peer.proofs.Exchanges.{both, onward, reached}
-use Rattle.mr_peer.proofs.StepLemmas.{pulls_behind, body_behind}
+use Rattle.mr_peer.proofs.RoundEffects.{pulls_behind, body_behind}
 use Rattle.mr_peer.proofs.rounds.pull.Goals as goal
 
 -- the ask failed

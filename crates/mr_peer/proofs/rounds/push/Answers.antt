@@ -4,7 +4,7 @@ use Rattle.mr_model.specs.Exchange.{batch_text}
 use Rattle.mr_model.specs.Http.{lines_over_http}
 use Rattle.mr_model.specs.Serving.{Reaches}
 use Rattle.mr_model.specs.Step.{batch_of}
-use Rattle.mr_base.specs.Batches.{ending_of}
+use Rattle.mr_base.specs.Batches.{ending_seen}
 use Rattle.mr_base.specs.declared.batches.Ending.{Ending}
 use Rattle.mr_http.specs.declared.faults.WebFault.{WebFault}
 use Rattle.mr_peer.specs.PeerAsking.{GivesBatch, AsksPush, lacking}
@@ -84,7 +84,7 @@ returns-in_err-writes-clause-tells g c =
     let known = g.R.Read.remaining c.args.reader.now in
     let e = c.in_err-writes.field-0.0 in
     let p = err_from_is_err_and c.from_residual-in_err-writes.result c.from_residual-in_err-writes.ensures.1 in
-    let T : Result (ℕ × ℕ × Ending) WebFault → Type 0 = λ r. TellsTook known (ending_of c.in_ok-ending.ending) r in
+    let T : Result (ℕ × ℕ × Ending) WebFault → Type 0 = λ r. TellsTook known (ending_seen c.in_ok-ending.ending) r in
     (Ok c.in_ok-ending.ending, c.in_ok-ending.ensures.sends, subst T (sym (p.1 ∙ ap Err p.2)) (Err e, c.in_err-writes.ensures.tells, refl))
 
 pub returns-clause-tells : goal.returns-clause-tells

@@ -7,10 +7,10 @@ use Rattle.std.specs.BTreeSet.{BTreeSet}
 use Rattle.mr_replay.specs.Rows.{Rows, row_at, is_booking_of, bookings_of}
 use Rattle.mr_replay.specs.Index.{is_row}
 use Rattle.mr_replay.specs.Hidden.{is_hidden, shown}
-use Rattle.mr_replay.proofs.Ids.{at_is}
+use Rattle.mr_replay.proofs.IdKeys.{at_is}
 use Rattle.mr_replay.proofs.Entries.{IsInOrder}
 use Rattle.mr_replay.proofs.Hiding.{row_at-shown, in_order-shown}
-use Rattle.mr_replay.proofs.Placing.{booked-row}
+use Rattle.mr_replay.proofs.PlacesOnBoard.{booked-row}
 use Rattle.mr_replay.proofs.choice.is_booked.Goals as goal
 
 -- what is found under the id, if it isn't hidden

@@ -3,7 +3,7 @@ use Rattle.std.specs.Map.{lookup}
 use Rattle.mr_model.specs.Writes.{Id}
 use Rattle.mr_replay.specs.Rows.{row_at, is_in_the_way}
 use Rattle.mr_replay.specs.Index.{is_row}
-use Rattle.mr_replay.proofs.Ids.{at_is}
+use Rattle.mr_replay.proofs.IdKeys.{at_is}
 use Rattle.mr_replay.proofs.Hiding.{row_at-shown}
 use Rattle.mr_replay.proofs.choice.is_row_in_the_way.Goals as goal
 

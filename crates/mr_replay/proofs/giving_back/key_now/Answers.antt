@@ -3,7 +3,7 @@ use Rattle.std.specs.Map.{lookup}
 use Rattle.mr_model.specs.Writes.{Id}
 use Rattle.mr_replay.specs.Rows.{row_at}
 use Rattle.mr_replay.specs.Index.{key_if_taken}
-use Rattle.mr_replay.proofs.Ids.{at_is}
+use Rattle.mr_replay.proofs.IdKeys.{at_is}
 use Rattle.mr_replay.proofs.Indexed.{one_some, none_is}
 use Rattle.mr_replay.proofs.giving_back.key_now.Goals as goal
 

@@ -3,7 +3,7 @@ use Rattle.std.specs.Map.{lookup}
 use Rattle.std.proofs.lemmas.Bool.{true≢false}
 use Rattle.mr_model.specs.Writes.{Id}
 use Rattle.mr_replay.specs.Rows.{row_at}
-use Rattle.mr_replay.proofs.Ids.{at_is}
+use Rattle.mr_replay.proofs.IdKeys.{at_is}
 use Rattle.mr_replay.proofs.Hiding.{never_refused}
 use Rattle.mr_replay.proofs.giving_back.put_row_back.Goals as goal
 

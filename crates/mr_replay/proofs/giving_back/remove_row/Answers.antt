@@ -2,7 +2,7 @@ use Rattle.std.proofs.Common.{◌∙◌, None, sym, subst}
 use Rattle.std.specs.Map.{remove_entry}
 use Rattle.mr_replay.specs.Rows.{Rows}
 use Rattle.mr_replay.specs.Index.{IsIndexed}
-use Rattle.mr_replay.proofs.Ids.{at_is}
+use Rattle.mr_replay.proofs.IdKeys.{at_is}
 use Rattle.mr_replay.proofs.Indexed.{IsIndexed-removed, Forgets-others}
 use Rattle.mr_replay.proofs.giving_back.remove_row.Goals as goal
 

@@ -4,7 +4,7 @@ use Rattle.mr_model.specs.Writes.{Id}
 use Rattle.mr_replay.specs.declared.rows.Row.{Row}
 use Rattle.mr_replay.specs.Rows.{Rows, row_at}
 use Rattle.mr_replay.specs.Hidden.{LeadsFrom}
-use Rattle.mr_replay.proofs.Ids.{at_is}
+use Rattle.mr_replay.proofs.IdKeys.{at_is}
 use Rattle.mr_replay.proofs.Hiding.{LeadsFrom-put}
 use Rattle.mr_replay.proofs.replay.swap_in.Goals as goal
 

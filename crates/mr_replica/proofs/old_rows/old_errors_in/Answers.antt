@@ -6,7 +6,7 @@ use Rattle.mr_model.specs.Kept.{dropped_in_order}
 use Rattle.mr_model.specs.Tables.{ErrorRow}
 use Rattle.mr_tables.specs.declared.old_errors.OldError.{OldError}
 use Rattle.mr_tables.specs.SoundRows.{Rise}
-use Rattle.mr_replica.proofs.OldErrors.{old_sorted, old_rise, counts_within}
+use Rattle.mr_replica.proofs.DroppedErrors.{old_sorted, old_rise, counts_within}
 use Rattle.mr_replica.proofs.old_rows.old_errors_in.Goals as goal
 
 pub returns-then-are_rising-clause-errors : goal.returns-then-are_rising-clause-errors

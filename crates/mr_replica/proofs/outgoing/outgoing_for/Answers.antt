@@ -8,9 +8,9 @@ use Rattle.std.specs.Prelude.{Result}
 use Rattle.mr_replica.specs.declared.outgoing.Outgoing.{Outgoing}
 use Rattle.mr_tables.specs.Summary.{committed_len}
 use Rattle.mr_replica.specs.Outgoing.{Offers, committed_items, lacked_items}
-use Rattle.mr_base.specs.Positions.{counts_of}
+use Rattle.mr_base.specs.PositionCounts.{counts_of_pairs}
 use Rattle.mr_base.specs.Versions.{version_of}
-use Rattle.mr_tables.proofs.Limits.{few_asked}
+use Rattle.mr_tables.proofs.CountLimits.{few_asked}
 use Rattle.mr_replica.proofs.outgoing.outgoing_for.Goals as goal
 
 -- the commits that are handed on have numbers within the limits
@@ -18,7 +18,7 @@ pub returns-in_err-push_commits-clause-only : goal.returns-in_err-push_commits-c
 returns-in_err-push_commits-clause-only c = λ low few.
     let x = err_from_is_err_and c.from_residual.result c.from_residual.ensures.1 in
     let top : c.position.inside.commits ≤ 999999999999 =
-    few_asked (record { version = version_of c.position.inside.version; server = c.position.inside.server; primary = c.position.inside.primary; commits = c.position.inside.commits; counts = counts_of c.position.inside.counts.items }) c.position.invariant in
+    few_asked (record { version = version_of c.position.inside.version; server = c.position.inside.server; primary = c.position.inside.primary; commits = c.position.inside.commits; counts = counts_of_pairs c.position.inside.counts.items }) c.position.invariant in
     let is : c.position.inside.commits ≡ c.args.position.now.commits = ap (λ (p : Position). p.commits) c.position.view_is in
     let rest = c.split_at-2.ensures.back_len in
     let front = c.split_at.ensures.front_len in

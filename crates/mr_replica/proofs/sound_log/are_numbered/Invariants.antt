@@ -1,6 +1,6 @@
 use Rattle.std.proofs.Common.{◌≡◌, ℕ, ◌+◌, ◌<◌, get_or}
 use Rattle.mr_replica.specs.declared.kept_rows.KeptRow.{KeptRow}
-use Rattle.mr_tables.specs.Rows.{seq_on}
+use Rattle.mr_tables.specs.ExecutionRows.{seq_on}
 use Rattle.mr_replica.proofs.sound_log.are_numbered.Given as goal
 
 -- the rows so far have their numbers

@@ -6,7 +6,7 @@ use Rattle.mr_model.specs.Tables.{BookingRow}
 use Rattle.mr_rows.specs.Form.{booking_form}
 use Rattle.mr_rows.specs.Database.{MakesTables, tables_in}
 use Rattle.mr_rows.specs.ChangeParts.{put_bookings}
-use Rattle.mr_rows.proofs.Texts.{put_booking_text}
+use Rattle.mr_rows.proofs.StatementMeaning.{put_booking_text}
 use Rattle.mr_rows.proofs.StatementLemmas.{makes, puts_booking}
 use Rattle.mr_rows.proofs.puts.put_booking_cells.Goals as goal
 

@@ -6,7 +6,7 @@ use Rattle.mr_model.specs.Tables.{CancelRow}
 use Rattle.mr_rows.specs.Form.{cancel_form}
 use Rattle.mr_rows.specs.Database.{MakesTables, tables_in}
 use Rattle.mr_rows.specs.ChangeParts.{put_cancels}
-use Rattle.mr_rows.proofs.Texts.{put_cancel_text}
+use Rattle.mr_rows.proofs.StatementMeaning.{put_cancel_text}
 use Rattle.mr_rows.proofs.StatementLemmas.{makes, puts_cancel}
 use Rattle.mr_rows.proofs.puts.put_cancel_cells.Goals as goal
 

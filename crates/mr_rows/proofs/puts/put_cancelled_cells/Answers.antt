@@ -7,7 +7,7 @@ use Rattle.mr_model.specs.Tables.{CancelledRow}
 use Rattle.mr_rows.specs.Form.{cancelled_form}
 use Rattle.mr_rows.specs.Database.{MakesTables, tables_in}
 use Rattle.mr_rows.specs.ChangeParts.{put_cancelled}
-use Rattle.mr_rows.proofs.Texts.{put_cancelled_text}
+use Rattle.mr_rows.proofs.StatementMeaning.{put_cancelled_text}
 use Rattle.mr_rows.proofs.StatementLemmas.{makes, puts_cancelled}
 use Rattle.mr_rows.proofs.puts.put_cancelled_cells.Goals as goal
 

@@ -6,7 +6,7 @@ use Rattle.mr_model.specs.Tables.{ErrorRow}
 use Rattle.mr_rows.specs.Form.{error_form}
 use Rattle.mr_rows.specs.Database.{MakesTables, tables_in}
 use Rattle.mr_rows.specs.ChangeParts.{put_errors}
-use Rattle.mr_rows.proofs.Texts.{put_error_text}
+use Rattle.mr_rows.proofs.StatementMeaning.{put_error_text}
 use Rattle.mr_rows.proofs.StatementLemmas.{makes, puts_error}
 use Rattle.mr_rows.proofs.puts.put_error_cells.Goals as goal
 

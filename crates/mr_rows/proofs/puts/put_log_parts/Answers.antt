@@ -4,13 +4,13 @@ use Rattle.sqlite_value.specs.Order.{Row}
 use Rattle.sqlite.specs.State.{HasCleanDisk, ExecutesInside}
 use Rattle.sqlite.specs.Held.{state}
 use Rattle.mr_model.specs.Tables.{LogRow}
-use Rattle.mr_replay.specs.Places.{place_of}
+use Rattle.mr_replay.specs.Places.{place_seen}
 use Rattle.mr_tables.specs.Cells.{action_cells}
 use Rattle.mr_rows.specs.RowCells.{action_row, place_number}
 use Rattle.mr_rows.specs.Form.{log_form}
 use Rattle.mr_rows.specs.Database.{MakesTables, tables_in}
 use Rattle.mr_rows.specs.ChangeParts.{put_logs}
-use Rattle.mr_rows.proofs.Texts.{put_log_text}
+use Rattle.mr_rows.proofs.StatementMeaning.{put_log_text}
 use Rattle.mr_rows.proofs.StatementLemmas.{makes, puts_log}
 use Rattle.mr_rows.proofs.puts.put_log_parts.Goals as goal
 
@@ -19,7 +19,7 @@ returns-clause-put g c =
     let old = c.args.tx.now.conn.now in
     let new = c.execute.new.self.conn.now in
     let r = c.row.inside in
-    let row : LogRow = record { server = r.server; n = r.n; time = r.time; room = r.room; action = action_cells r.action; place = place_of r.place; seq = r.seq } in
+    let row : LogRow = record { server = r.server; n = r.n; time = r.time; room = r.room; action = action_cells r.action; place = place_seen r.place; seq = r.seq } in
     let time = c.requires.time ∙ sym (ap (λ (r : LogRow). r.time) c.row.view_is) in
     let seq = c.requires.seq ∙ sym (ap (λ (r : LogRow). r.seq) c.row.view_is) in
     let action = sym (ap (λ (r : LogRow). action_row r.action) c.row.view_is ∙ c.requires.action) in

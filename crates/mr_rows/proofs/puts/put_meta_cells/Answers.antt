@@ -5,7 +5,7 @@ use Rattle.mr_model.specs.Tables.{MetaRow}
 use Rattle.mr_rows.specs.Form.{meta_form}
 use Rattle.mr_rows.specs.Database.{MakesTables, tables_in}
 use Rattle.mr_rows.specs.ChangeParts.{put_meta}
-use Rattle.mr_rows.proofs.Texts.{put_meta_text}
+use Rattle.mr_rows.proofs.StatementMeaning.{put_meta_text}
 use Rattle.mr_rows.proofs.StatementLemmas.{makes, puts_meta}
 use Rattle.mr_rows.proofs.puts.put_meta_cells.Goals as goal
 

@@ -5,7 +5,7 @@ use Rattle.mr_model.specs.Tables.{VectorRow}
 use Rattle.mr_rows.specs.Form.{vector_form}
 use Rattle.mr_rows.specs.Database.{MakesTables, tables_in}
 use Rattle.mr_rows.specs.ChangeParts.{put_vector}
-use Rattle.mr_rows.proofs.Texts.{put_vector_text}
+use Rattle.mr_rows.proofs.StatementMeaning.{put_vector_text}
 use Rattle.mr_rows.proofs.StatementLemmas.{makes, puts_vector}
 use Rattle.mr_rows.proofs.puts.put_vector_cells.Goals as goal
 

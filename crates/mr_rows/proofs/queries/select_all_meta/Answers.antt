@@ -1,7 +1,7 @@
 use Rattle.std.proofs.Common.{[]}
 use Rattle.sqlite.specs.State.{Shown}
 use Rattle.sqlite.specs.Held.{state}
-use Rattle.mr_rows.proofs.Texts.{all_meta_text, all_meta_is}
+use Rattle.mr_rows.proofs.StatementMeaning.{all_meta_text, all_meta_is}
 use Rattle.mr_rows.proofs.QueryLemmas.{reads_so, looks_so}
 use Rattle.mr_rows.proofs.SelectLemmas.{shows_all_meta, sees_all_meta}
 use Rattle.mr_rows.proofs.queries.select_all_meta.Goals as goal

@@ -1,7 +1,7 @@
 use Rattle.std.proofs.Common.{[]}
 use Rattle.sqlite.specs.State.{Shown}
 use Rattle.sqlite.specs.Held.{state}
-use Rattle.mr_rows.proofs.Texts.{undo_text, undo_is}
+use Rattle.mr_rows.proofs.StatementMeaning.{undo_text, undo_is}
 use Rattle.mr_rows.proofs.QueryLemmas.{looks_so}
 use Rattle.mr_rows.proofs.SelectLemmas.{sees_undo}
 use Rattle.mr_rows.proofs.queries.select_all_undo.Goals as goal

@@ -1,7 +1,7 @@
 use Rattle.std.proofs.Common.{[]}
 use Rattle.sqlite.specs.State.{Shown}
 use Rattle.sqlite.specs.Held.{state}
-use Rattle.mr_rows.proofs.Texts.{write_log_text, write_log_is}
+use Rattle.mr_rows.proofs.StatementMeaning.{write_log_text, write_log_is}
 use Rattle.mr_rows.proofs.QueryLemmas.{looks_so}
 use Rattle.mr_rows.proofs.SelectLemmas.{sees_write_log}
 use Rattle.mr_rows.proofs.queries.select_all_write_log.Goals as goal

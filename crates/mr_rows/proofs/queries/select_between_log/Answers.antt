@@ -2,7 +2,7 @@ use Rattle.std.proofs.Common.{◌∷◌, [], pos}
 use Rattle.sqlite_value.specs.declared.value.Value.TheVariants.{Int}
 use Rattle.sqlite.specs.State.{Shown}
 use Rattle.sqlite.specs.Held.{state}
-use Rattle.mr_rows.proofs.Texts.{between_log_text, between_log_is}
+use Rattle.mr_rows.proofs.StatementMeaning.{between_log_text, between_log_is}
 use Rattle.mr_rows.proofs.QueryLemmas.{reads_so}
 use Rattle.mr_rows.proofs.SelectLemmas.{shows_between_log}
 use Rattle.mr_rows.proofs.queries.select_between_log.Goals as goal

@@ -2,7 +2,7 @@ use Rattle.std.proofs.Common.{◌∷◌, [], pos}
 use Rattle.sqlite_value.specs.declared.value.Value.TheVariants.{Int}
 use Rattle.sqlite.specs.State.{Shown}
 use Rattle.sqlite.specs.Held.{state}
-use Rattle.mr_rows.proofs.Texts.{key_cancelled_text, key_cancelled_is}
+use Rattle.mr_rows.proofs.StatementMeaning.{key_cancelled_text, key_cancelled_is}
 use Rattle.mr_rows.proofs.QueryLemmas.{reads_so}
 use Rattle.mr_rows.proofs.SelectLemmas.{shows_key_cancelled}
 use Rattle.mr_rows.proofs.queries.select_key_cancelled.Goals as goal

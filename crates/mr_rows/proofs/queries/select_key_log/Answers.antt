@@ -2,7 +2,7 @@ use Rattle.std.proofs.Common.{◌∷◌, [], pos}
 use Rattle.sqlite_value.specs.declared.value.Value.TheVariants.{Int}
 use Rattle.sqlite.specs.State.{Shown}
 use Rattle.sqlite.specs.Held.{state}
-use Rattle.mr_rows.proofs.Texts.{key_log_text, key_log_is}
+use Rattle.mr_rows.proofs.StatementMeaning.{key_log_text, key_log_is}
 use Rattle.mr_rows.proofs.QueryLemmas.{reads_so}
 use Rattle.mr_rows.proofs.SelectLemmas.{shows_key_log}
 use Rattle.mr_rows.proofs.queries.select_key_log.Goals as goal

@@ -2,7 +2,7 @@ use Rattle.std.proofs.Common.{◌∷◌, []}
 use Rattle.sqlite_value.specs.declared.value.Value.TheVariants.{Text}
 use Rattle.sqlite.specs.State.{Shown}
 use Rattle.sqlite.specs.Held.{state}
-use Rattle.mr_rows.proofs.Texts.{room_cancelled_text, room_cancelled_is}
+use Rattle.mr_rows.proofs.StatementMeaning.{room_cancelled_text, room_cancelled_is}
 use Rattle.mr_rows.proofs.QueryLemmas.{reads_so}
 use Rattle.mr_rows.proofs.SelectLemmas.{shows_room_cancelled}
 use Rattle.mr_rows.proofs.queries.select_room_cancelled.Goals as goal

@@ -9,7 +9,7 @@ use Rattle.mr_rows.specs.Shown.{IsShownSo}
 use Rattle.mr_rows.proofs.AskedLemmas.{answer_added}
 use Rattle.mr_rows.proofs.QueryLemmas.{survives_itself, reads_so}
 use Rattle.mr_rows.proofs.StreamedRows.{kept_looks}
-use Rattle.mr_rows.proofs.Texts.{between_log_text, between_log_is}
+use Rattle.mr_rows.proofs.StatementMeaning.{between_log_text, between_log_is}
 use Rattle.mr_rows.proofs.SelectLemmas.{shows_between_log}
 use Rattle.mr_rows.proofs.questions.add_between.Goals as goal
 

@@ -1,6 +1,6 @@
 use Rattle.mr_model.specs.Tables.{as_booked}
 use Rattle.mr_service.specs.Questions.{is_back}
-use Rattle.mr_service.proofs.Lines.{picked_more}
+use Rattle.mr_service.proofs.LineLists.{picked_more}
 use Rattle.mr_service.proofs.calendars.put_back.Goals as goal
 
 pub loop-row-preserved : goal.loop-row-preserved

@@ -2,7 +2,7 @@ use Rattle.std.proofs.Common.{◌≡◌, ◌∙◌, map, subst}
 use Rattle.std.proofs.lemmas.Result.{err_from_is_err_and}
 use Rattle.mr_model.specs.Step.{Ask}
 use Rattle.mr_model.specs.View.{AskErrors}
-use Rattle.mr_service.specs.Asked.{line_of}
+use Rattle.mr_service.specs.Asked.{log_line_seen}
 use Rattle.mr_service.specs.Questions.{ShowsLines}
 use Rattle.mr_service.proofs.KeeperReads.{read_then, read_next, failed_by, refused_by, answered_by}
 use Rattle.mr_service.proofs.RoomSteps as steps
@@ -26,8 +26,8 @@ returns g c =
     let same : g.K.Keeper.is_clean c.lines_in.new.keeper → g.K.Keeper.is_open c.lines_in.new.keeper → g.K.Keeper.tables c.known_room.new.keeper ≡ g.K.Keeper.tables c.args.keeper.now = λ u o. c.known_room.ensures.read.same (c.lines_in.ensures.read.clean u) (c.lines_in.ensures.read.opens u o) in
     record {
       served = answered_by g.K.Keeper c.args.keeper.now c.lines_in.new.keeper c.in_ok-lines.lines (Ask c.args.room.now AskErrors) _ (read_next g.K.Keeper c.args.keeper.now c.known_room.new.keeper c.lines_in.new.keeper c.in_ok-room.room _ c.in_ok-room.ensures.read c.in_ok-lines.ensures.read)
-          (λ u o. steps.errors_step (g.K.Keeper.tables c.args.keeper.now) (g.K.Keeper.tables c.lines_in.new.keeper) c.args.room.now c.in_ok-room.room (map line_of c.in_ok-lines.lines.items)
+          (λ u o. steps.errors_step (g.K.Keeper.tables c.args.keeper.now) (g.K.Keeper.tables c.lines_in.new.keeper) c.args.room.now c.in_ok-room.room (map log_line_seen c.in_ok-lines.lines.items)
           (c.lines_in.ensures.read.same u o ∙ same u o) (c.in_ok-room.ensures.finds (c.lines_in.ensures.read.clean u) (c.known_room.ensures.read.opens (c.lines_in.ensures.read.clean u) (c.lines_in.ensures.read.opens u o)))
-          (subst (λ t. ShowsLines c.in_ok-room.room t (map line_of c.in_ok-lines.lines.items)) (same u o) (c.in_ok-lines.ensures.shows u (c.lines_in.ensures.read.opens u o))))
+          (subst (λ t. ShowsLines c.in_ok-room.room t (map log_line_seen c.in_ok-lines.lines.items)) (same u o) (c.in_ok-lines.ensures.shows u (c.lines_in.ensures.read.opens u o))))
           (λ told. cc told);
     }

@@ -2,7 +2,7 @@ use Rattle.std.proofs.Common.{true, ◌≡◌, map, subst}
 use Rattle.std.proofs.lemmas.Result.{err_from_is_err_and}
 use Rattle.std.specs.List.Sorted.{IsPermutation, IsSortedByKey}
 use Rattle.mr_store.specs.Picked.{picked_cancels}
-use Rattle.mr_service.specs.Asked.{line_of}
+use Rattle.mr_service.specs.Asked.{log_line_seen}
 use Rattle.mr_service.specs.Questions.{ShowsLines, lines_of, line_key, log_key_cmp}
 use Rattle.mr_service.proofs.KeeperReads.{read_ok, read_err, read_next, read_within, of_memory, both_ok}
 use Rattle.mr_service.proofs.RoomSteps as steps
@@ -40,7 +40,7 @@ returns g c =
           (read_ok k c.errors.new.self c.cancels.new.self true _ c.in_ok-cancels.ensures.quiet))
           c.log_lines.ensures.only;
       shows = λ u o.
-          both_ok c.log_lines.result (λ lines. IsPermutation (lines_of requests cancels) (map line_of lines.items)) (λ lines. IsSortedByKey line_key log_key_cmp lines.items) (λ lines. ShowsLines c.args.room.now (k.tables c.args.keeper.now) (map line_of lines.items))
+          both_ok c.log_lines.result (λ lines. IsPermutation (lines_of requests cancels) (map log_line_seen lines.items)) (λ lines. IsSortedByKey line_key log_key_cmp lines.items) (λ lines. ShowsLines c.args.room.now (k.tables c.args.keeper.now) (map log_line_seen lines.items))
           (λ lines moved up. steps.lines_shown (k.tables c.args.keeper.now) c.args.room.now requests cancels lines.items
           (c.in_ok-requests.ensures.errors (c.cancels.ensures.quiet.clean u) o)
           (subst (λ t. IsPermutation (picked_cancels c.args.room.now t) cancels) (same u o) (c.in_ok-cancels.ensures.cancels u (open_first u o))) moved up)

@@ -2,7 +2,7 @@ use Rattle.std.proofs.Common.{◌≡◌, sym, ap, subst, ◌∙◌, ◌+◌, ◌
 use Rattle.std.proofs.lemmas.List.{map_more, map_push, take_all}
 use Rattle.mr_model.specs.Serving.{TakesRun}
 use Rattle.mr_model.proofs.ServedTables.{takes_run_serves}
-use Rattle.mr_service.specs.Asked.{command_of, reply_of}
+use Rattle.mr_service.specs.Asked.{command_seen, reply_of}
 use Rattle.mr_service.specs.Replied.{RepliesToAll}
 use Rattle.mr_service.proofs.RunsGrow as runs
 use Rattle.mr_service.proofs.runs.run.Goals as goal
@@ -15,9 +15,9 @@ loop-command-init g c =
 
 pub loop-command-preserved : goal.loop-command-preserved
 loop-command-preserved g c =
-    let more : map command_of (take (c.loop-command.command-index + 1) c.args.commands.now) ≡ map command_of (take c.loop-command.command-index c.args.commands.now) ++ command_of c.command-item.result ∷ [] =
-    map_more command_of c.args.commands.now c.loop-command.command-index c.command-item.result c.loop-command-test.true
-    ∙ ap (λ x. map command_of (take c.loop-command.command-index c.args.commands.now) ++ command_of x ∷ []) (sym c.command-item.is) in
+    let more : map command_seen (take (c.loop-command.command-index + 1) c.args.commands.now) ≡ map command_seen (take c.loop-command.command-index c.args.commands.now) ++ command_seen c.command-item.result ∷ [] =
+    map_more command_seen c.args.commands.now c.loop-command.command-index c.command-item.result c.loop-command-test.true
+    ∙ ap (λ x. map command_seen (take c.loop-command.command-index c.args.commands.now) ++ command_seen x ∷ []) (sym c.command-item.is) in
     let told : map reply_of c.put.new.list.items ≡ map reply_of c.loop-command.replies.items ++ reply_of c.ask-reply.result ∷ [] =
     ap (λ rs. map reply_of rs) c.put.ensures.items ∙ map_push reply_of c.loop-command.replies.items c.ask-reply.result in
     let n : vec_len c.put.new.list ≡ c.loop-command.command-index + 1 = c.put.ensures.len ∙ ap (λ k. k + 1) c.loop-command.invariant.1 in
@@ -29,8 +29,8 @@ loop-command-preserved g c =
           (g.K.Keeper.is_open c.args.service.now) (g.K.Keeper.is_open c.loop-command.service) (g.K.Keeper.is_open c.ask-reply.new.self) g.K.Keeper.never_fails
           (g.K.Keeper.tables c.args.service.now) (g.K.Keeper.tables c.loop-command.service) (g.K.Keeper.tables c.ask-reply.new.self)
           (g.K.Keeper.failures c.args.service.now) (g.K.Keeper.failures c.loop-command.service) (g.K.Keeper.failures c.ask-reply.new.self)
-          (map command_of (take c.loop-command.command-index c.args.commands.now)) (map reply_of c.loop-command.replies.items)
-          (command_of c.command-item.result) (reply_of c.ask-reply.result)
+          (map command_seen (take c.loop-command.command-index c.args.commands.now)) (map reply_of c.loop-command.replies.items)
+          (command_seen c.command-item.result) (reply_of c.ask-reply.result)
           c.loop-command.invariant.0 c.ask-reply.ensures.clean c.ask-reply.ensures.open c.ask-reply.ensures.step c.ask-reply.ensures.counts c.ask-reply.ensures.sure
           c.ask-reply.ensures.replied c.ask-reply.ensures.lasts),
       n,
@@ -40,13 +40,13 @@ loop-command-preserved g c =
 pub returns-clause-serves : goal.returns-clause-serves
 returns-clause-serves g c = λ k o.
     let all : take c.loop-command.command-index c.args.commands.now ≡ c.args.commands.now = take_all c.loop-command.command-index c.args.commands.now c.loop-command-test.false in
-    let run : TakesRun (g.K.Keeper.tables c.args.service.now) (map command_of c.args.commands.now) (map reply_of c.loop-command.replies.items) (g.K.Keeper.tables c.loop-command.service) =
-    subst (λ cs. TakesRun (g.K.Keeper.tables c.args.service.now) (map command_of cs) (map reply_of c.loop-command.replies.items) (g.K.Keeper.tables c.loop-command.service)) all
+    let run : TakesRun (g.K.Keeper.tables c.args.service.now) (map command_seen c.args.commands.now) (map reply_of c.loop-command.replies.items) (g.K.Keeper.tables c.loop-command.service) =
+    subst (λ cs. TakesRun (g.K.Keeper.tables c.args.service.now) (map command_seen cs) (map reply_of c.loop-command.replies.items) (g.K.Keeper.tables c.loop-command.service)) all
     (c.loop-command.invariant.0.takes k o) in
-    takes_run_serves (g.K.Keeper.tables c.args.service.now) (g.K.Keeper.tables c.loop-command.service) (map command_of c.args.commands.now) (map reply_of c.loop-command.replies.items) run
+    takes_run_serves (g.K.Keeper.tables c.args.service.now) (g.K.Keeper.tables c.loop-command.service) (map command_seen c.args.commands.now) (map reply_of c.loop-command.replies.items) run
 
 pub returns-clause-replied : goal.returns-clause-replied
 returns-clause-replied g c = λ k o.
     let all : take c.loop-command.command-index c.args.commands.now ≡ c.args.commands.now = take_all c.loop-command.command-index c.args.commands.now c.loop-command-test.false in
-    subst (λ cs. RepliesToAll (g.K.Keeper.tables c.args.service.now) (map command_of cs) (map reply_of c.loop-command.replies.items)) all
+    subst (λ cs. RepliesToAll (g.K.Keeper.tables c.args.service.now) (map command_seen cs) (map reply_of c.loop-command.replies.items)) all
     (c.loop-command.invariant.0.replied k o)

@@ -2,7 +2,7 @@ use Rattle.std.proofs.Common.{sym, ap, subst, ◌∙◌}
 use Rattle.std.specs.String.{string_bytes}
 use Rattle.mr_model.specs.View.{AskSheet, AskCalendar, AskOutcome, AskErrors}
 use Rattle.mr_model.specs.Step.{Command, AddRoom, Cancel, BatchFor, Ask}
-use Rattle.mr_service.specs.Asked.{local_of, part_of, reply_in}
+use Rattle.mr_service.specs.Asked.{local_of, part_seen, reply_in}
 use Rattle.mr_service.specs.Served.{IsServed}
 use Rattle.mr_service.proofs.services.ask_local.Goals as goal
 
@@ -36,7 +36,7 @@ returns-in-BatchFor g c =
 
 pub returns-in-Calendar : goal.returns-in-Calendar
 returns-in-Calendar g c =
-    record { served = subst (λ (l : Command). IsServed g.K.Keeper c.args.keeper.now c.calendar.new.keeper l (reply_in c.calendar.result)) (ap (λ room. Ask room (AskCalendar (part_of c.in-Calendar.part))) c.as_str-in-Calendar.ensures.value ∙ ap local_of (sym c.in-Calendar.is)) c.calendar.ensures.served }
+    record { served = subst (λ (l : Command). IsServed g.K.Keeper c.args.keeper.now c.calendar.new.keeper l (reply_in c.calendar.result)) (ap (λ room. Ask room (AskCalendar (part_seen c.in-Calendar.part))) c.as_str-in-Calendar.ensures.value ∙ ap local_of (sym c.in-Calendar.is)) c.calendar.ensures.served }
 
 pub returns-in-Sheet : goal.returns-in-Sheet
 returns-in-Sheet g c =

@@ -1,7 +1,7 @@
 use Rattle.std.specs.String.{string_bytes}
 use Rattle.mr_model.specs.Queries.{row_entry}
 use Rattle.mr_model.specs.Replies.{calendar_line}
-use Rattle.mr_service.proofs.Lines.{lines_more}
+use Rattle.mr_service.proofs.LineLists.{lines_more}
 use Rattle.mr_service.proofs.texts.push_calendar_rows.Goals as goal
 
 pub loop-row-preserved : goal.loop-row-preserved

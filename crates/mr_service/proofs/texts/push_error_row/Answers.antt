@@ -7,7 +7,7 @@ use Rattle.mr_model.specs.Writes.{id_text}
 use Rattle.mr_model.specs.Replies.{mark, span}
 use Rattle.mr_model.specs.Queries.{error_id}
 use Rattle.mr_model.specs.Tables.{ErrorRow}
-use Rattle.mr_service.proofs.Lines.{line_of_three, on_ok}
+use Rattle.mr_service.proofs.LineLists.{line_of_three, on_ok}
 use Rattle.mr_service.proofs.texts.push_error_row.Goals as goal
 
 pub returns : goal.returns

@@ -6,7 +6,7 @@ use Rattle.mr_model.specs.Writes.{id_text}
 use Rattle.mr_model.specs.Replies.{mark}
 use Rattle.mr_model.specs.Queries.{booking_id}
 use Rattle.mr_model.specs.Tables.{BookingRow}
-use Rattle.mr_service.proofs.Lines.{line_of_three, on_ok}
+use Rattle.mr_service.proofs.LineLists.{line_of_three, on_ok}
 use Rattle.mr_service.proofs.texts.push_sheet_row.Goals as goal
 
 pub returns : goal.returns

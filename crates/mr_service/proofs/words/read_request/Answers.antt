@@ -3,7 +3,7 @@ use Rattle.std.specs.Prelude.{decimal}
 use Rattle.std.specs.Str.{bytes_eq}
 use Rattle.mr_model.specs.Texts.{Text, within, number_in, only_if}
 use Rattle.mr_model.specs.Step.{Submission}
-use Rattle.mr_base.specs.Refusals.{refusal_of}
+use Rattle.mr_base.specs.RefusalViews.{refusal_of}
 use Rattle.mr_base.specs.Answers.{OrOutOfMemory}
 use Rattle.mr_base.specs.Limits as base
 use Rattle.mr_service.specs.Asked.{submission_of}

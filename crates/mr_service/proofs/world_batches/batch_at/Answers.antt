@@ -1,5 +1,5 @@
 use Rattle.std.proofs.Common.{map}
-use Rattle.mr_base.specs.Refusals.{refusal_of}
+use Rattle.mr_base.specs.RefusalViews.{refusal_of}
 use Rattle.mr_model.specs.Positions.{read_position}
 use Rattle.mr_model.specs.Step.{reply_to_position}
 use Rattle.mr_service.proofs.WorldMembers.{stand_at, stand_still}

@@ -1,6 +1,6 @@
 use Rattle.std.proofs.Common.{map}
 use Rattle.mr_service.specs.Stepping.{step_reply_of}
-use Rattle.mr_service.proofs.WorldSteps.{found_in, none_in}
+use Rattle.mr_service.proofs.KeeperWorldSteps.{found_in, none_in}
 use Rattle.mr_service.proofs.WorldBatches.{make_nobody, make_for_nobody, made_step}
 use Rattle.mr_service.proofs.world_batches.make.Goals as goal
 

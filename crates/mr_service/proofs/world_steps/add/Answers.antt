@@ -1,6 +1,6 @@
 use Rattle.std.proofs.Common.{IsTrue, subst}
 use Rattle.mr_model.specs.Writes.{is_server}
-use Rattle.mr_service.proofs.WorldSteps.{found_in, add_there}
+use Rattle.mr_service.proofs.KeeperWorldSteps.{found_in, add_there}
 use Rattle.mr_service.proofs.world_steps.add.Goals as goal
 
 pub returns-in-Some : goal.returns-in-Some

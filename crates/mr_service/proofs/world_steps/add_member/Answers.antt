@@ -4,7 +4,7 @@ use Rattle.mr_model.specs.World as model
 use Rattle.mr_service.specs.Stepping.{step_reply_of}
 use Rattle.mr_service.specs.Worlds.{MemberView, StandsForMember, TakesWorldStep, primary_in}
 use Rattle.mr_model.specs.Replica.{opening}
-use Rattle.mr_service.proofs.WorldSteps.{world, wants, add_one}
+use Rattle.mr_service.proofs.KeeperWorldSteps.{world, wants, add_one}
 use Rattle.mr_service.proofs.world_steps.add_member.Goals as goal
 
 pub returns-in-Ok : goal.returns-in-Ok

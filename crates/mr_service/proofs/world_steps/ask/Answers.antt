@@ -1,5 +1,5 @@
 use Rattle.mr_service.specs.Asked.{reply_of}
-use Rattle.mr_service.proofs.WorldSteps.{found_in, none_in, do_found, do_nobody}
+use Rattle.mr_service.proofs.KeeperWorldSteps.{found_in, none_in, do_found, do_nobody}
 use Rattle.mr_service.proofs.world_steps.ask.Goals as goal
 
 pub returns-in-Some : goal.returns-in-Some

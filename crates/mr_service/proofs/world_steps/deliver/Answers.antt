@@ -1,6 +1,6 @@
 use Rattle.std.proofs.Common.{map}
 use Rattle.mr_service.specs.Asked.{reply_of}
-use Rattle.mr_service.proofs.WorldSteps.{found_in, none_in, deliver_found, deliver_nobody, deliver_nothing}
+use Rattle.mr_service.proofs.KeeperWorldSteps.{found_in, none_in, deliver_found, deliver_nobody, deliver_nothing}
 use Rattle.mr_service.proofs.world_steps.deliver.Goals as goal
 
 pub returns-in-Some-text_of : goal.returns-in-Some-text_of

@@ -7,7 +7,7 @@ use Rattle.mr_model.specs.Writes.{Id}
 use Rattle.mr_model.specs.Replica.{is_among}
 use Rattle.mr_model.specs.Queries.{booking_id}
 use Rattle.mr_rows.specs.Database.{tables_in}
-use Rattle.mr_rows.specs.RowCells.{booking_in}
+use Rattle.mr_rows.specs.RowCells.{booking_row_from}
 use Rattle.mr_rows.proofs.QueryLemmas.{reads_made, told_so}
 use Rattle.mr_rows.proofs.FirstLemmas.{found_booking}
 use Rattle.mr_sql.proofs.answers.booking_of.Goals as goal
@@ -19,8 +19,8 @@ pub returns-clause-reads : goal.returns-clause-reads
 returns-clause-reads g c =
     let old = state g.S.Store c.args.conn.now in
     let same : c.deref.result.now ≡ c.in_ok-rows.rows.items = search rules in
-    let shown = map (λ row. booking_in (Null ∷ row)) c.in_ok-rows.rows.items in
+    let shown = map (λ row. booking_row_from (Null ∷ row)) c.in_ok-rows.rows.items in
     let id : Id = record { server = c.args.server; n = c.args.n } in
-    reads_made old (state g.S.Store c.select_key_booking.new.conn) c.in_ok-rows.rows (λ rows. IsPermutation (filter (λ r. is_among (booking_id r) (id ∷ [])) (tables_in old.now.trees).booking) (map (λ row. booking_in (Null ∷ row)) rows.items)) c.first_row.result _
+    reads_made old (state g.S.Store c.select_key_booking.new.conn) c.in_ok-rows.rows (λ rows. IsPermutation (filter (λ r. is_among (booking_id r) (id ∷ [])) (tables_in old.now.trees).booking) (map (λ row. booking_row_from (Null ∷ row)) rows.items)) c.first_row.result _
     (λ kept read. told_so c.first_row.result _ _ (λ row is. is ∙ found_booking id old.now.trees shown read) (rw same at c.first_row.ensures))
     c.in_ok-rows.ensures.reads

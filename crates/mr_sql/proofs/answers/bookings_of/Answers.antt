@@ -3,7 +3,7 @@ use Rattle.sqlite_value.specs.declared.value.Value.TheVariants.{Null}
 use Rattle.sqlite.specs.Held.{state}
 use Rattle.std.specs.List.Sorted.{IsPermutation}
 use Rattle.mr_rows.specs.RowQuestions.{is_booking_asked}
-use Rattle.mr_rows.specs.RowCells.{booking_in}
+use Rattle.mr_rows.specs.RowCells.{booking_row_from}
 use Rattle.mr_rows.specs.Database.{tables_in}
 use Rattle.mr_rows.proofs.QueryLemmas.{reads_made, told_two}
 use Rattle.mr_sql.proofs.AnswerLemmas.{calendar_is}
@@ -16,7 +16,7 @@ pub returns-clause-reads : goal.returns-clause-reads
 returns-clause-reads g c =
     let old = state g.S.Store c.args.conn.now in
     let same : c.deref.result.now ≡ c.in_ok-rows.rows.items = search rules in
-    let shown = map (λ row. booking_in (Null ∷ row)) c.in_ok-rows.rows.items in
-    reads_made old (state g.S.Store c.select_room_booking.new.conn) c.in_ok-rows.rows (λ rows. IsPermutation (filter (is_booking_asked c.args.room.now) (tables_in old.now.trees).booking) (map (λ row. booking_in (Null ∷ row)) rows.items)) c.calendar.result _
+    let shown = map (λ row. booking_row_from (Null ∷ row)) c.in_ok-rows.rows.items in
+    reads_made old (state g.S.Store c.select_room_booking.new.conn) c.in_ok-rows.rows (λ rows. IsPermutation (filter (is_booking_asked c.args.room.now) (tables_in old.now.trees).booking) (map (λ row. booking_row_from (Null ∷ row)) rows.items)) c.calendar.result _
     (λ kept read. told_two c.calendar.result _ _ _ (λ out kept_rows sorted. calendar_is c.args.room.now c.args.day (tables_in old.now.trees) shown out.items read kept_rows sorted) (rw same at c.calendar.ensures.same) c.calendar.ensures.sorted)
     c.in_ok-rows.ensures.reads

@@ -7,7 +7,7 @@ use Rattle.mr_model.specs.Writes.{Id}
 use Rattle.mr_model.specs.Replica.{is_among}
 use Rattle.mr_model.specs.Queries.{cancel_id}
 use Rattle.mr_rows.specs.Database.{tables_in}
-use Rattle.mr_rows.specs.RowCells.{cancel_in}
+use Rattle.mr_rows.specs.RowCells.{cancel_row_from}
 use Rattle.mr_rows.proofs.QueryLemmas.{reads_made, told_so}
 use Rattle.mr_rows.proofs.FirstLemmas.{found_cancel}
 use Rattle.mr_sql.proofs.answers.cancel_of.Goals as goal
@@ -19,8 +19,8 @@ pub returns-clause-reads : goal.returns-clause-reads
 returns-clause-reads g c =
     let old = state g.S.Store c.args.conn.now in
     let same : c.deref.result.now ≡ c.in_ok-rows.rows.items = search rules in
-    let shown = map (λ row. cancel_in (Null ∷ row)) c.in_ok-rows.rows.items in
+    let shown = map (λ row. cancel_row_from (Null ∷ row)) c.in_ok-rows.rows.items in
     let id : Id = record { server = c.args.server; n = c.args.n } in
-    reads_made old (state g.S.Store c.select_key_cancel.new.conn) c.in_ok-rows.rows (λ rows. IsPermutation (filter (λ r. is_among (cancel_id r) (id ∷ [])) (tables_in old.now.trees).cancels) (map (λ row. cancel_in (Null ∷ row)) rows.items)) c.first_row.result _
+    reads_made old (state g.S.Store c.select_key_cancel.new.conn) c.in_ok-rows.rows (λ rows. IsPermutation (filter (λ r. is_among (cancel_id r) (id ∷ [])) (tables_in old.now.trees).cancels) (map (λ row. cancel_row_from (Null ∷ row)) rows.items)) c.first_row.result _
     (λ kept read. told_so c.first_row.result _ _ (λ row is. is ∙ found_cancel id old.now.trees shown read) (rw same at c.first_row.ensures))
     c.in_ok-rows.ensures.reads

@@ -4,7 +4,7 @@ use Rattle.sqlite.specs.Held.{state}
 use Rattle.std.proofs.Common.{subst, sym}
 use Rattle.std.specs.List.Sorted.{IsPermutation}
 use Rattle.mr_store.specs.Picked.{picked_cancels}
-use Rattle.mr_rows.specs.RowCells.{cancel_in}
+use Rattle.mr_rows.specs.RowCells.{cancel_row_from}
 use Rattle.mr_rows.specs.Database.{tables_in}
 use Rattle.mr_rows.proofs.QueryLemmas.{reads_made, told_so}
 use Rattle.mr_sql.proofs.answers.cancels_of.Goals as goal
@@ -16,6 +16,6 @@ pub returns-clause-reads : goal.returns-clause-reads
 returns-clause-reads g c =
     let old = state g.S.Store c.args.conn.now in
     let same : c.deref.result.now ≡ c.in_ok-rows.rows.items = search rules in
-    reads_made old (state g.S.Store c.select_room_cancel.new.conn) c.in_ok-rows.rows (λ rows. IsPermutation (picked_cancels c.args.room.now (tables_in old.now.trees)) (map (λ row. cancel_in (Null ∷ row)) rows.items)) c.read_all.result _
+    reads_made old (state g.S.Store c.select_room_cancel.new.conn) c.in_ok-rows.rows (λ rows. IsPermutation (picked_cancels c.args.room.now (tables_in old.now.trees)) (map (λ row. cancel_row_from (Null ∷ row)) rows.items)) c.read_all.result _
     (λ kept read. told_so c.read_all.result _ _ (λ out is. subst (IsPermutation (picked_cancels c.args.room.now (tables_in old.now.trees))) (sym is) read) (rw same at c.read_all.ensures))
     c.in_ok-rows.ensures.reads

@@ -1,11 +1,11 @@
 use Rattle.std.proofs.Common.{◌≡◌, refl, ap, List, [], ◌∷◌, length, rules, arith}
 use Rattle.std.proofs.lemmas.Fn.{filter_same}
 use Rattle.mr_model.specs.Writes.{Id}
-use Rattle.mr_tables.specs.Change.{without}
+use Rattle.mr_tables.specs.Change.{rows_without}
 use Rattle.mr_store.proofs.rows.take_away.Goals as goal
 
 -- without any keys all rows stay
-without_none : {R : Type 0} (key : R → Id) (gone : List Id) (rows : List R) → length gone ≡ 0 → rows ≡ without key gone rows
+without_none : {R : Type 0} (key : R → Id) (gone : List Id) (rows : List R) → length gone ≡ 0 → rows ≡ rows_without key gone rows
 without_none key [] [] none = refl
 without_none key [] (row ∷ rows) none = ap (λ others. row ∷ others) (without_none key [] rows none)
 without_none key (id ∷ ids) rows none = absurd (omega (arith, none))

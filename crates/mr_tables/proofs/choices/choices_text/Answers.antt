@@ -1,5 +1,5 @@
 use Rattle.std.proofs.Common.{sym, ap, ◌∙◌, List, ℕ, ◌++◌}
-use Rattle.mr_tables.specs.Rows.{slot_text, more_slots}
+use Rattle.mr_tables.specs.ExecutionRows.{slot_text, more_slots}
 use Rattle.mr_tables.proofs.ChoiceTexts.{choices-text}
 use Rattle.mr_tables.proofs.choices.choices_text.Goals as goal
 

@@ -1,6 +1,6 @@
 use Rattle.std.proofs.Common.{◌≡◌, ◌++◌, take}
 use Rattle.std.specs.String.{string_bytes}
-use Rattle.mr_tables.specs.Rows.{more_slots}
+use Rattle.mr_tables.specs.ExecutionRows.{more_slots}
 use Rattle.mr_tables.proofs.choices.push_slots.Given as goal
 
 -- the slots so far are written

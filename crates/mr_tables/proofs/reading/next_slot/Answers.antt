@@ -1,5 +1,5 @@
 use Rattle.std.proofs.Common.{◌≡◌, ◌∙◌, ap, sym, length, arith}
-use Rattle.mr_tables.proofs.Words.{first_slot, after_short, after_shorter}
+use Rattle.mr_tables.proofs.FrontWords.{first_slot, after_short, after_shorter}
 use Rattle.mr_tables.proofs.reading.next_slot.Goals as goal
 
 pub returns-in_default-clause-read : goal.returns-in_default-clause-read

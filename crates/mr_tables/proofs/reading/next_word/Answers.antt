@@ -1,5 +1,5 @@
 use Rattle.std.proofs.Common.{◌∙◌, lit<}
-use Rattle.mr_tables.proofs.Words.{word-before, word-after, word_alone, none_after}
+use Rattle.mr_tables.proofs.FrontWords.{word-before, word-after, word_alone, none_after}
 use Rattle.mr_tables.proofs.reading.next_word.Goals as goal
 
 pub returns-in-Some-clause-word : goal.returns-in-Some-clause-word

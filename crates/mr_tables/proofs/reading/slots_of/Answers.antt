@@ -1,6 +1,6 @@
 use Rattle.std.proofs.Common.{◌∙◌, sym, subst, rules}
 use Rattle.mr_tables.specs.Choices.{IsUnderWay}
-use Rattle.mr_tables.proofs.Words.{all_read, one_more, behind_one, empty_text, some_text}
+use Rattle.mr_tables.proofs.FrontWords.{all_read, one_more, behind_one, empty_text, some_text}
 use Rattle.mr_tables.proofs.reading.slots_of.Goals as goal
 
 pub returns-in-None : goal.returns-in-None

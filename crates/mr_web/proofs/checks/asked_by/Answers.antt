@@ -8,7 +8,7 @@ use Rattle.httparse.specs.Borrowed.{HoldsSomeRequest}
 use Rattle.httparse.specs.Grammar.{RequestHead}
 use Rattle.httparse.proofs.GrammarLemmas.{request_unique}
 use Rattle.mr_model.specs.Http.{Route, Response}
-use Rattle.mr_http.specs.Fields.{header_fields, fields_of}
+use Rattle.mr_http.specs.HeaderFields.{header_fields, fields_of}
 use Rattle.mr_http.proofs.FieldLemmas.{same_fields}
 use Rattle.mr_web.specs.RequestAsks.{head_asks}
 use Rattle.mr_web.specs.Routes.{route_of}

@@ -2,7 +2,7 @@ use Rattle.std.proofs.Common.{◌∙◌, ap, codes}
 use Rattle.matchit.specs.Route.{parse_route}
 use Rattle.mr_web.specs.Routes.{put_route, route_table}
 use Rattle.mr_web.specs.declared.routes.Resource.TheVariants as at
-use Rattle.mr_web.proofs.TableRows.{inserts_put}
+use Rattle.mr_web.proofs.RouteInserts.{inserts_put}
 use Rattle.mr_web.proofs.routes.add_routes.Goals as goal
 
 pub returns : goal.returns

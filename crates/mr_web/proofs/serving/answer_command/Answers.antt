@@ -1,7 +1,7 @@
 use Rattle.std.proofs.Common.{Ok, Err}
 use Rattle.mr_http.specs.declared.faults.ReadFault.TheVariants.{Memory}
 use Rattle.mr_service.specs.Asked.{reply_of}
-use Rattle.mr_web.proofs.Served.{request_served}
+use Rattle.mr_web.proofs.OneRequest.{request_served}
 use Rattle.mr_web.proofs.serving.answer_command.Goals as goal
 
 pub returns-in-Ok-clause-served : goal.returns-in-Ok-clause-served

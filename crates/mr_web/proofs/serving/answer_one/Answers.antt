@@ -1,6 +1,6 @@
-use Rattle.mr_web.specs.RequestRead.{ReadsNoFurther}
-use Rattle.mr_web.proofs.ReadBytes.{answered_ok, answered_unless}
-use Rattle.mr_web.proofs.Served.{request_stopped}
+use Rattle.mr_web.specs.RequestRead.{ReadsOneRequest}
+use Rattle.mr_web.proofs.RequestBytes.{answered_ok, answered_unless}
+use Rattle.mr_web.proofs.OneRequest.{request_stopped}
 use Rattle.mr_web.proofs.serving.answer_one.Goals as goal
 
 pub returns-in-Ok-clause-served : goal.returns-in-Ok-clause-served
@@ -14,10 +14,10 @@ returns-in-Err-clause-served g c =
 
 pub returns-in-Ok-clause-reads : goal.returns-in-Ok-clause-reads
 returns-in-Ok-clause-reads g c =
-    answered_ok (ReadsNoFurther (g.R.Read.remaining c.args.reader.now) (g.R.Read.remaining c.request_from.new.reader)) c.answer_command.result
+    answered_ok (ReadsOneRequest (g.R.Read.remaining c.args.reader.now) (g.R.Read.remaining c.request_from.new.reader)) c.answer_command.result
     c.in-Ok.ensures.reads
 
 pub returns-in-Err-clause-reads : goal.returns-in-Err-clause-reads
 returns-in-Err-clause-reads g c =
-    answered_unless (ReadsNoFurther (g.R.Read.remaining c.args.reader.now) (g.R.Read.remaining c.request_from.new.reader)) c.in-Err.stop
+    answered_unless (ReadsOneRequest (g.R.Read.remaining c.args.reader.now) (g.R.Read.remaining c.request_from.new.reader)) c.in-Err.stop
     c.answer_to_stop.result c.answer_to_stop.ensures c.in-Err.ensures.reads

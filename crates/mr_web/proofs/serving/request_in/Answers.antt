@@ -7,15 +7,15 @@ use Rattle.mr_http.specs.Heads.{BeginsWithHead, FindsHead}
 use Rattle.mr_http.specs.Inputs.{OfInput}
 use Rattle.mr_http.proofs.HeadLemmas.{head_more, head_short}
 use Rattle.mr_web.specs.RequestAsks.{asked_by, body_in}
-use Rattle.mr_web.specs.RequestRead.{ReadsNoFurther, UnlessFault}
+use Rattle.mr_web.specs.RequestRead.{ReadsOneRequest, UnlessFault}
 use Rattle.mr_web.specs.Views.{asked_view, FailsAs, Settles}
 use Rattle.mr_web.specs.RouteViews.{route_view}
 use Rattle.mr_service.specs.declared.commands.Command.{Command}
 use Rattle.mr_web.specs.declared.rejections.Stop.{Stop}
 use Rattle.mr_http.proofs.Known.{of_input_unit}
-use Rattle.mr_web.proofs.ReadBytes.{head_read, body_read, unless_fault}
-use Rattle.mr_web.proofs.Requests.{settles_none, settles_result, settles_head_stop, settles_body_stop}
-use Rattle.mr_web.proofs.Steps.{gives_servable}
+use Rattle.mr_web.proofs.RequestBytes.{head_read, body_read, unless_fault}
+use Rattle.mr_web.proofs.ServedInputs.{settles_none, settles_result, settles_head_stop, settles_body_stop}
+use Rattle.mr_web.proofs.CommandPerRequest.{gives_servable}
 use Rattle.mr_web.proofs.serving.request_in.Goals as goal
 
 pub returns-clause-settles : goal.returns-clause-settles
@@ -144,7 +144,7 @@ returns-clause-reads g c =
     let size : vec_len c.read_request_head.new.buffer ≡ length first = c.read_request_head.new.buffer.ok.0 in
     let few : length filled.0 ≤ a.1 - length (drop start first) = omega (arith, filled.4, size, short, length-drop start first) in
     let no_further = body_read known left first filled.0 (drop start first) h a whole c.in_ok-start.ensures.pieces found.1 asked few in
-    unless_fault (ReadsNoFurther known left) c.command_of.result no_further
+    unless_fault (ReadsOneRequest known left) c.command_of.result no_further
 
 pub returns-in_err-body-clause-reads : goal.returns-in_err-body-clause-reads
 returns-in_err-body-clause-reads g c =
@@ -166,13 +166,13 @@ returns-in_err-body-clause-reads g c =
     let size : vec_len c.read_request_head.new.buffer ≡ length first = c.read_request_head.new.buffer.ok.0 in
     let few : length filled.0 ≤ a.1 - length (drop start first) = omega (arith, filled.4, size, short, length-drop start first) in
     let no_further = body_read known left first filled.0 (drop start first) h a whole c.in_ok-start.ensures.pieces found.1 asked few in
-    unless_fault (ReadsNoFurther known left) c.from_residual-in_err-body.result no_further
+    unless_fault (ReadsOneRequest known left) c.from_residual-in_err-body.result no_further
 
 pub returns-in_err-asked-clause-reads : goal.returns-in_err-asked-clause-reads
 returns-in_err-asked-clause-reads g c =
     let known = g.R.Read.remaining c.args.reader.now in
     let left = g.R.Read.remaining c.read_request_head.new.reader in
-    unless_fault (ReadsNoFurther known left) c.from_residual-in_err-asked.result
+    unless_fault (ReadsOneRequest known left) c.from_residual-in_err-asked.result
     (head_read known left c.read_request_head.new.buffer.items c.in_ok-start.ensures.consumed c.in_ok-start.ensures.pieces)
 
 pub returns-in_default-clause-reads : goal.returns-in_default-clause-reads
@@ -185,7 +185,7 @@ returns-in_err-start-clause-reads g c =
     let known = g.R.Read.remaining c.args.reader.now in
     let left = g.R.Read.remaining c.read_request_head.new.reader in
     let told = err_from_is_err_and c.from_residual.result c.from_residual.ensures.1 in
-    let S : Result Command Stop → Type 0 = λ r. UnlessFault (ReadsNoFurther known left) r in
+    let S : Result Command Stop → Type 0 = λ r. UnlessFault (ReadsOneRequest known left) r in
     subst S (sym (told.1 ∙ ap Err told.2)) tt
 
 pub returns-in_err-fill_to-clause-reads : goal.returns-in_err-fill_to-clause-reads
@@ -193,5 +193,5 @@ returns-in_err-fill_to-clause-reads g c =
     let known = g.R.Read.remaining c.args.reader.now in
     let left = g.R.Read.remaining c.fill_to.new.reader in
     let told = err_from_is_err_and c.from_residual-in_err-fill_to.result c.from_residual-in_err-fill_to.ensures.1 in
-    let S : Result Command Stop → Type 0 = λ r. UnlessFault (ReadsNoFurther known left) r in
+    let S : Result Command Stop → Type 0 = λ r. UnlessFault (ReadsOneRequest known left) r in
     subst S (sym (told.1 ∙ ap Err told.2)) tt

@@ -6,14 +6,14 @@ use Rattle.mr_http.specs.Faults.{web_fault}
 use Rattle.mr_http.specs.declared.faults.WebFault.{WebFault}
 use Rattle.mr_http.specs.declared.faults.WebFault.TheVariants.{Write}
 use Rattle.mr_http.specs.Reading.{OnceRead}
-use Rattle.mr_http.proofs.ReadLemmas.{not_read, once_read}
-use Rattle.mr_web.specs.RequestRead.{ReadsNoFurther}
+use Rattle.mr_http.proofs.ReadPieces.{not_read, once_read}
+use Rattle.mr_web.specs.RequestRead.{ReadsOneRequest}
 use Rattle.mr_web.specs.RequestServed.{IsRequest}
 use Rattle.mr_web.specs.Views.{AnswersTo, EndsServed, IsServeFault, bytes_view}
 use Rattle.mr_web.specs.RepliesWritten.{MakesReply, Writes}
 use Rattle.mr_web.specs.declared.replies.Answer.{Answer}
-use Rattle.mr_web.proofs.Requests.{ends_fault, none_written, serve_faults}
-use Rattle.mr_web.proofs.Served.{request_on}
+use Rattle.mr_web.proofs.ServedInputs.{ends_fault, none_written, serve_faults}
+use Rattle.mr_web.proofs.OneRequest.{request_on}
 use Rattle.mr_web.proofs.serving.serve_one.Goals as goal
 
 -- nothing was written
@@ -78,10 +78,10 @@ returns-in_err-send-clause-fault g c =
 pub returns-in_err-answer-clause-reads : goal.returns-in_err-answer-clause-reads
 returns-in_err-answer-clause-reads g c =
     let told = err_from_is_err_and c.from_residual.result c.from_residual.ensures.1 in
-    let P = ReadsNoFurther (g.R.Read.remaining c.args.reader.now) (g.R.Read.remaining c.answer_one.new.reader) in
+    let P = ReadsOneRequest (g.R.Read.remaining c.args.reader.now) (g.R.Read.remaining c.answer_one.new.reader) in
     subst (λ (r : Result ℕ WebFault). OnceRead P r) (sym (told.1 ∙ ap Err told.2)) (not_read ℕ P c.in_err-answer.field-0.0)
 
 pub returns-in_err-send-clause-reads : goal.returns-in_err-send-clause-reads
 returns-in_err-send-clause-reads g c =
-    once_read (ReadsNoFurther (g.R.Read.remaining c.args.reader.now) (g.R.Read.remaining c.answer_one.new.reader)) c.from_residual-in_err-send.result
+    once_read (ReadsOneRequest (g.R.Read.remaining c.args.reader.now) (g.R.Read.remaining c.answer_one.new.reader)) c.from_residual-in_err-send.result
     c.in_ok-answer.ensures.reads

@@ -3,7 +3,7 @@ use Rattle.mr_model.specs.Texts.{whole_lines}
 use Rattle.mr_model.specs.Exchange.{read_body}
 use Rattle.mr_base.specs.Batches.{item_of}
 use Rattle.mr_base.specs.Versions.{version_of}
-use Rattle.mr_wire.specs.Answers.{with_front}
+use Rattle.mr_wire.specs.BatchAnswers.{with_front}
 use Rattle.mr_wire.proofs.batches.read_body.Given as goal
 
 abbrev pub invariant-loop-line : goal.invariant-loop-line

@@ -1,6 +1,6 @@
 use Rattle.std.proofs.Common.{refl, sym, arith}
 use Rattle.std.proofs.lemmas.Bool.{false_from_ne_true, false≢true}
-use Rattle.mr_base.proofs.DayNumbers.{civil-is_date, is_date-civil}
+use Rattle.mr_base.proofs.CalendarDays.{civil-is_date, is_date-civil}
 use Rattle.mr_base.proofs.Readers.{only_if_true, only_if_false}
 use Rattle.mr_base.proofs.days.Day.of_parts.Goals as goal
 

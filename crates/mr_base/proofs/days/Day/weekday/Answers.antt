@@ -1,7 +1,7 @@
 use Rattle.std.proofs.Common.{◌≡◌, ◌∙◌, pos, arith}
 use Rattle.std.proofs.lemmas.Int.{ints}
 use Rattle.mr_model.proofs.WordsReadBack.{days-le}
-use Rattle.mr_base.proofs.DayNumbers.{date_ranges, civil-is_date, weekday-number}
+use Rattle.mr_base.proofs.CalendarDays.{date_ranges, civil-is_date, weekday-number}
 use Rattle.mr_base.proofs.days.Day.weekday.Goals as goal
 
 pub date-requires : goal.date-requires

@@ -1,8 +1,8 @@
 use Rattle.std.proofs.Common.{[]}
 use Rattle.sqlite.specs.State.{Shown}
 use Rattle.sqlite.specs.Held.{state}
-use Rattle.mr_rows.proofs.Texts.{all_booking_text}
-use Rattle.mr_first.proofs.Texts.{all_booking_is}
+use Rattle.mr_rows.proofs.StatementMeaning.{all_booking_text}
+use Rattle.mr_first.proofs.FirstStatementMeaning.{all_booking_is}
 use Rattle.mr_first.proofs.ReadLemmas.{looks_so}
 use Rattle.mr_first.proofs.Selects.{sees_booking}
 use Rattle.mr_first.proofs.first_rows.BookingRowFirstRow.select_all.Goals as goal

@@ -2,8 +2,8 @@ use Rattle.std.proofs.Common.{[], ◌∷◌, IsTrue}
 use Rattle.sqlite.specs.State.{HasCleanDisk}
 use Rattle.sqlite.specs.Held.{state}
 use Rattle.mr_rows.specs.Form.{room_form}
-use Rattle.mr_rows.proofs.Texts.{put_room_text}
-use Rattle.mr_first.specs.FirstParts.{put_rooms}
+use Rattle.mr_rows.proofs.StatementMeaning.{put_room_text}
+use Rattle.mr_first.specs.FirstParts.{put_first_rooms}
 use Rattle.mr_first.proofs.Statements.{makes_first, puts_room}
 use Rattle.mr_first.proofs.first_rows.RoomNameFirstRow.put.Goals as goal
 
@@ -13,4 +13,4 @@ returns-clause-put g c =
     let new = c.execute.new.self.conn.now in
     let name = c.args.self.now in
     let ran = λ (clean : HasCleanDisk (state g.S.Store new)) (within : IsTrue old.in_transaction). (rw (c.params-to_sql.ensures, c.as_str.ensures.text) at (c.execute.ensures.runs clean within)) in
-    makes_first g.S.Store old new put_room_text (room_form.cells name) (put_rooms (name ∷ [])) c.execute.result (puts_room name) ran (λ outside. (c.execute.ensures.ended outside).1)
+    makes_first g.S.Store old new put_room_text (room_form.cells name) (put_first_rooms (name ∷ [])) c.execute.result (puts_room name) ran (λ outside. (c.execute.ensures.ended outside).1)

@@ -4,7 +4,7 @@ use Rattle.sqlite.specs.Held.{state}
 use Rattle.mr_model.specs.First.{WriteRow}
 use Rattle.mr_model.specs.Tables.{MeetingCells}
 use Rattle.mr_first.specs.Forms.{write_form}
-use Rattle.mr_first.proofs.Texts.{put_write_text}
+use Rattle.mr_first.proofs.FirstStatementMeaning.{put_write_text}
 use Rattle.mr_first.specs.FirstDatabase.{MakesFirst, first_in}
 use Rattle.mr_first.specs.FirstParts.{put_writes}
 use Rattle.mr_first.proofs.Statements.{makes_first, puts_write}

@@ -1,7 +1,7 @@
 use Rattle.std.proofs.Common.{[]}
 use Rattle.sqlite.specs.State.{Shown}
 use Rattle.sqlite.specs.Held.{state}
-use Rattle.mr_first.proofs.Texts.{all_write_text, all_write_is}
+use Rattle.mr_first.proofs.FirstStatementMeaning.{all_write_text, all_write_is}
 use Rattle.mr_first.proofs.ReadLemmas.{looks_so}
 use Rattle.mr_first.proofs.Selects.{sees_write}
 use Rattle.mr_first.proofs.logs.WriteRowFirstRow.select_all.Goals as goal

@@ -1,8 +1,8 @@
 use Rattle.std.proofs.Common.{◌≡◌, [], ◌∷◌, ◌++◌, None, ap, sym, ◌∙◌, subst}
 use Rattle.std.specs.BTreeMap.{insert_entry}
 use Rattle.mr_base.specs.Ids.{id_cmp}
-use Rattle.mr_replay.specs.Places.{UndoRow, place_of}
-use Rattle.mr_replay.specs.Rows.{Rows, row_of, place_on, marked_by, undo_row_at}
+use Rattle.mr_replay.specs.Places.{UndoRow, place_seen}
+use Rattle.mr_replay.specs.Rows.{Rows, row_of, place_by_rows, marked_by, undo_row_at}
 use Rattle.mr_replay.specs.Holds.{Holds}
 use Rattle.mr_replay.proofs.OneRoom.{executed-row, executed-mark}
 use Rattle.mr_replay.proofs.Holding.{Holds-executed}
@@ -13,14 +13,14 @@ pub returns-clause-board : goal.returns-clause-board
 returns-clause-board c =
     let b = c.args.self.now in
     let w = c.args.write.now in
-    let view : UndoRow = record { id = c.undo_row.inside.id; place = place_of c.undo_row.inside.place; target = c.undo_row.inside.target } in
-    let undo : view ≡ undo_row_at w (place_on b w) = c.undo_row.view_is ∙ c.of-undo_row.ensures ∙ ap (undo_row_at w) c.merge.ensures in
-    let row : c.in_ok-row.field-0 ≡ row_of w (place_on b w) None = c.in_ok-row.ensures.row ∙ ap (λ (u : UndoRow). row_of w u.place None) undo in
+    let view : UndoRow = record { id = c.undo_row.inside.id; place = place_seen c.undo_row.inside.place; target = c.undo_row.inside.target } in
+    let undo : view ≡ undo_row_at w (place_by_rows b w) = c.undo_row.view_is ∙ c.of-undo_row.ensures ∙ ap (undo_row_at w) c.merge.ensures in
+    let row : c.in_ok-row.field-0 ≡ row_of w (place_by_rows b w) None = c.in_ok-row.ensures.row ∙ ap (λ (u : UndoRow). row_of w u.place None) undo in
     elim c.match-branch-2.branch [
       | in-Some+in_ok-put-in-Some v ↦ v.self-is ∙ v.in_ok-put-in-Some.ensures.ok ∙ ap (λ (u : UndoRow). insert_entry id_cmp b u.id v.in-Some.row) undo
-          ∙ sym (executed-row b w (place_on b w) v.in-Some.row (sym row ∙ v.in-Some.is))
+          ∙ sym (executed-row b w (place_by_rows b w) v.in-Some.row (sym row ∙ v.in-Some.is))
       | in-None v ↦ v.self-is ∙ v.mark_target.ensures ∙ ap (λ (u : UndoRow). marked_by u.id u.place u.target b) (sym c.undo_row.view_is ∙ undo)
-          ∙ sym (executed-mark b w (place_on b w) (sym row ∙ v.in-None.is))
+          ∙ sym (executed-mark b w (place_by_rows b w) (sym row ∙ v.in-None.is))
     ]
 
 pub returns-clause-holds : goal.returns-clause-holds

@@ -5,7 +5,7 @@ use Rattle.mr_base.specs.Ids.{id_cmp}
 use Rattle.mr_model.specs.Writes.{Id}
 use Rattle.mr_replay.specs.Rows.{Rows, row_at}
 use Rattle.mr_replay.specs.Index.{IsIndexed}
-use Rattle.mr_replay.proofs.Ids.{at_is}
+use Rattle.mr_replay.proofs.IdKeys.{at_is}
 use Rattle.mr_replay.proofs.Indexed.{IsIndexed-put, IsIndexed-absent, IsIndexed-grown, KeepsOthers-grown, Forgets-others, Forgets-kept}
 use Rattle.mr_replay.proofs.board.Board.put.Goals as goal
 

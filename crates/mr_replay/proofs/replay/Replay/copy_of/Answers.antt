@@ -2,7 +2,7 @@ use Rattle.std.proofs.Common.{◌≡◌, ◌∙◌, Bool, None, Some, cond, ap, 
 use Rattle.std.specs.Map.{lookup}
 use Rattle.mr_model.specs.Writes.{Id}
 use Rattle.mr_replay.specs.Rows.{row_at}
-use Rattle.mr_replay.proofs.Ids.{at_is}
+use Rattle.mr_replay.proofs.IdKeys.{at_is}
 use Rattle.mr_replay.proofs.Hiding.{row_at-shown}
 use Rattle.mr_replay.proofs.replay.Replay.copy_of.Goals as goal
 

@@ -1,7 +1,7 @@
 use Rattle.std.proofs.Common.{◌≡◌, ◌∙◌, Some, ap, sym, subst}
 use Rattle.std.specs.BTreeMap.{insert_entry}
 use Rattle.mr_base.specs.Ids.{id_cmp}
-use Rattle.mr_replay.specs.Rows.{Rows, row_at, unmark, change, changed}
+use Rattle.mr_replay.specs.Rows.{Rows, row_at, without_mark, change, row_changed}
 use Rattle.mr_replay.specs.Index.{IsIndexed}
 use Rattle.mr_replay.specs.Hidden.{shown}
 use Rattle.mr_replay.proofs.Entries.{IsInOrder}
@@ -15,11 +15,11 @@ use Rattle.mr_replay.proofs.replay.Replay.unmark.Goals.{In_ok-swap_in}
 found : (c : In_ok-swap_in) → row_at (shown c.args.self.now.hidden c.args.rows.now.entries) c.args.target ≡ Some c.in-Some.row
 found c = sym c.in_ok-row.ensures.row ∙ c.in-Some.is
 
-put : (c : In_ok-swap_in) → c.swap_in.new.rows.entries ≡ insert_entry id_cmp c.args.rows.now.entries c.args.target (change (unmark c.args.cancel) c.in-Some.row)
+put : (c : In_ok-swap_in) → c.swap_in.new.rows.entries ≡ insert_entry id_cmp c.args.rows.now.entries c.args.target (change (without_mark c.args.cancel) c.in-Some.row)
 put c = c.in_ok-swap_in.ensures.ok ∙ ap (insert_entry id_cmp c.args.rows.now.entries c.args.target) c.unmark.ensures
 
-written : (c : In_ok-swap_in) → c.swap_in.new.rows.entries ≡ changed (unmark c.args.cancel) c.args.target c.args.rows.now.entries
-written c = put c ∙ put-changed (unmark c.args.cancel) c.args.rows.now.entries c.args.target c.in-Some.row c.requires (row_shown c.args.self.now.hidden c.args.rows.now.entries c.args.target c.in-Some.row (found c))
+written : (c : In_ok-swap_in) → c.swap_in.new.rows.entries ≡ row_changed (without_mark c.args.cancel) c.args.target c.args.rows.now.entries
+written c = put c ∙ put-changed (without_mark c.args.cancel) c.args.rows.now.entries c.args.target c.in-Some.row c.requires (row_shown c.args.self.now.hidden c.args.rows.now.entries c.args.target c.in-Some.row (found c))
 
 pub returns-in_ok-swap_in-clause-indexed : goal.returns-in_ok-swap_in-clause-indexed
 returns-in_ok-swap_in-clause-indexed c = λ index h.
@@ -27,13 +27,13 @@ returns-in_ok-swap_in-clause-indexed c = λ index h.
 
 pub returns-in_ok-swap_in-clause-ordered : goal.returns-in_ok-swap_in-clause-ordered
 returns-in_ok-swap_in-clause-ordered c =
-    subst (λ (r : Rows). IsInOrder r) (sym (written c)) (in_order-changed (unmark c.args.cancel) c.args.target c.args.rows.now.entries c.requires)
+    subst (λ (r : Rows). IsInOrder r) (sym (written c)) (in_order-changed (without_mark c.args.cancel) c.args.target c.args.rows.now.entries c.requires)
 
 pub returns-in_ok-swap_in-clause-board : goal.returns-in_ok-swap_in-clause-board
 returns-in_ok-swap_in-clause-board c =
-    ap (shown c.args.self.now.hidden) (put c) ∙ shown-changed (unmark c.args.cancel) c.args.self.now.hidden c.args.rows.now.entries c.args.target c.in-Some.row c.requires (found c)
+    ap (shown c.args.self.now.hidden) (put c) ∙ shown-changed (without_mark c.args.cancel) c.args.self.now.hidden c.args.rows.now.entries c.args.target c.in-Some.row c.requires (found c)
 
 pub returns-in_default-clause-board : goal.returns-in_default-clause-board
 returns-in_default-clause-board c =
     let shown_rows = shown c.args.self.now.hidden c.args.rows.now.entries in
-    sym (changed-absent (unmark c.args.cancel) c.args.target shown_rows (sym c.in_ok-row.ensures.row ∙ c.in_default.is))
+    sym (changed-absent (without_mark c.args.cancel) c.args.target shown_rows (sym c.in_ok-row.ensures.row ∙ c.in_default.is))

@@ -4,7 +4,7 @@ use Rattle.std.specs.Option.{option_copied}
 use Rattle.mr_model.specs.Writes.{Id}
 use Rattle.mr_replay.specs.Rows.{row_at}
 use Rattle.mr_replay.specs.Trials.{Tried}
-use Rattle.mr_replay.proofs.Ids.{at_is}
+use Rattle.mr_replay.proofs.IdKeys.{at_is}
 use Rattle.mr_replay.proofs.Hiding.{row_at-shown}
 use Rattle.mr_replay.proofs.trial.Trial.row.Goals as goal
 

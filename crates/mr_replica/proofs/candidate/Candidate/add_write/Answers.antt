@@ -1,6 +1,6 @@
 use Rattle.std.proofs.Common.{◌∙◌, cond, Some, ap}
 use Rattle.mr_model.specs.Writes.{id_of}
-use Rattle.mr_replay.proofs.Ids.{at_is}
+use Rattle.mr_replay.proofs.IdKeys.{at_is}
 use Rattle.mr_tables.proofs.LogRows.{answered}
 use Rattle.mr_replica.specs.KeptWrites.{logged_at}
 use Rattle.mr_replica.proofs.candidate.Candidate.add_write.Goals as goal

@@ -5,9 +5,9 @@ use Rattle.std.specs.List.{list_all}
 use Rattle.mr_model.specs.Exchange.{is_item}
 use Rattle.mr_model.specs.Positions.{Position}
 use Rattle.mr_model.specs.Replies.{BatchIs}
-use Rattle.mr_tables.proofs.Limits.{few_commits}
+use Rattle.mr_tables.proofs.CountLimits.{few_commits}
 use Rattle.mr_base.specs.Answers.{ok_if}
-use Rattle.mr_base.specs.Batches.{item_of, batch_of}
+use Rattle.mr_base.specs.Batches.{item_of, batch_seen}
 use Rattle.mr_base.specs.Versions.{version_of}
 use Rattle.mr_base.specs.declared.refusals.Refusal.TheVariants.{NeedsVersion2}
 use Rattle.mr_replica.specs.Outgoing.{Offers, kept_items, ending_by}
@@ -48,4 +48,4 @@ returns-clause-step c = λ a sound stands.
     let v = c.position.inside.version in
     let version : version_of v ≡ p.version = ap (λ (q : Position). q.version) c.position.view_is in
     let made = batch_made a p c.args.max_lines v there more sound version own whole offers in
-    inl (ap (reply_with BatchIs) (c.into_batch.ensures ∙ (λ t. ok_if (list_all (is_item (version_of v)) (map item_of there)) (batch_of v (Some ((e t).server, (e t).primary)) there (ending_by more)) NeedsVersion2)) ∙ made, stands)
+    inl (ap (reply_with BatchIs) (c.into_batch.ensures ∙ (λ t. ok_if (list_all (is_item (version_of v)) (map item_of there)) (batch_seen v (Some ((e t).server, (e t).primary)) there (ending_by more)) NeedsVersion2)) ∙ made, stands)

@@ -13,7 +13,7 @@ use Rattle.mr_tables.specs.Summary.{counts_in}
 use Rattle.mr_model.specs.Texts.{numbers_on}
 use Rattle.mr_model.specs.Writes.{is_server}
 use Rattle.mr_replica.proofs.Desks.{desk_with}
-use Rattle.mr_tables.proofs.Positions.{counts-own}
+use Rattle.mr_tables.proofs.TallyCounts.{counts-own}
 use Rattle.mr_replica.proofs.PositionLimits.{position_with, position_fits}
 use Rattle.mr_replica.proofs.desk.Desk.position.Goals as goal
 

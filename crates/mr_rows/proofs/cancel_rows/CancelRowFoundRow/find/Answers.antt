@@ -1,6 +1,6 @@
 use Rattle.sqlite.specs.Held.{state}
 use Rattle.mr_rows.specs.Form.{cancel_form}
-use Rattle.mr_rows.proofs.Texts.{all_cancel_text, all_cancel_is}
+use Rattle.mr_rows.proofs.StatementMeaning.{all_cancel_text, all_cancel_is}
 use Rattle.mr_rows.proofs.SelectLemmas.{sees_all_cancel}
 use Rattle.mr_rows.proofs.FoundLemmas.{found_by}
 use Rattle.mr_rows.proofs.cancel_rows.CancelRowFoundRow.find.Goals as goal

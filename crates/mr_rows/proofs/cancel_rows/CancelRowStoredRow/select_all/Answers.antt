@@ -1,7 +1,7 @@
 use Rattle.std.proofs.Common.{[]}
 use Rattle.sqlite.specs.State.{Shown}
 use Rattle.sqlite.specs.Held.{state}
-use Rattle.mr_rows.proofs.Texts.{all_cancel_text, all_cancel_is}
+use Rattle.mr_rows.proofs.StatementMeaning.{all_cancel_text, all_cancel_is}
 use Rattle.mr_rows.proofs.QueryLemmas.{reads_so, looks_so}
 use Rattle.mr_rows.proofs.SelectLemmas.{shows_all_cancel, sees_all_cancel}
 use Rattle.mr_rows.proofs.cancel_rows.CancelRowStoredRow.select_all.Goals as goal

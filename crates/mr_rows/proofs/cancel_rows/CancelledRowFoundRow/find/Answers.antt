@@ -1,6 +1,6 @@
 use Rattle.sqlite.specs.Held.{state}
 use Rattle.mr_rows.specs.Form.{cancelled_form}
-use Rattle.mr_rows.proofs.Texts.{all_cancelled_text, all_cancelled_is}
+use Rattle.mr_rows.proofs.StatementMeaning.{all_cancelled_text, all_cancelled_is}
 use Rattle.mr_rows.proofs.SelectLemmas.{sees_all_cancelled}
 use Rattle.mr_rows.proofs.FoundLemmas.{found_by}
 use Rattle.mr_rows.proofs.cancel_rows.CancelledRowFoundRow.find.Goals as goal

@@ -5,7 +5,7 @@ use Rattle.sqlite.specs.Held.{state}
 use Rattle.mr_model.specs.Writes.{Id}
 use Rattle.mr_rows.specs.Database.{MakesTables, tables_in}
 use Rattle.mr_rows.specs.ChangeParts.{take_cancelled}
-use Rattle.mr_rows.proofs.Texts.{take_cancelled_text}
+use Rattle.mr_rows.proofs.StatementMeaning.{take_cancelled_text}
 use Rattle.mr_rows.proofs.StatementLemmas.{makes, takes_cancelled}
 use Rattle.mr_rows.proofs.cancel_rows.CancelledRowRequestRow.take.Goals as goal
 

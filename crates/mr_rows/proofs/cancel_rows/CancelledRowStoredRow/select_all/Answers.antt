@@ -1,7 +1,7 @@
 use Rattle.std.proofs.Common.{[]}
 use Rattle.sqlite.specs.State.{Shown}
 use Rattle.sqlite.specs.Held.{state}
-use Rattle.mr_rows.proofs.Texts.{all_cancelled_text, all_cancelled_is}
+use Rattle.mr_rows.proofs.StatementMeaning.{all_cancelled_text, all_cancelled_is}
 use Rattle.mr_rows.proofs.QueryLemmas.{reads_so, looks_so}
 use Rattle.mr_rows.proofs.SelectLemmas.{shows_all_cancelled, sees_all_cancelled}
 use Rattle.mr_rows.proofs.cancel_rows.CancelledRowStoredRow.select_all.Goals as goal

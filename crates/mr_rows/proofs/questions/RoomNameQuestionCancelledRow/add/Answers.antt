@@ -9,7 +9,7 @@ use Rattle.mr_rows.specs.Shown.{IsShownSo}
 use Rattle.mr_rows.proofs.AskedLemmas.{answer_added}
 use Rattle.mr_rows.proofs.QueryLemmas.{reads_so}
 use Rattle.mr_rows.proofs.StreamedRows.{kept_looks}
-use Rattle.mr_rows.proofs.Texts.{room_cancelled_text, room_cancelled_is}
+use Rattle.mr_rows.proofs.StatementMeaning.{room_cancelled_text, room_cancelled_is}
 use Rattle.mr_rows.proofs.SelectLemmas.{shows_room_cancelled}
 use Rattle.mr_rows.proofs.questions.RoomNameQuestionCancelledRow.add.Goals as goal
 

@@ -1,6 +1,6 @@
 use Rattle.sqlite.specs.Held.{state}
 use Rattle.mr_rows.specs.Form.{booking_form}
-use Rattle.mr_rows.proofs.Texts.{all_booking_text, all_booking_is}
+use Rattle.mr_rows.proofs.StatementMeaning.{all_booking_text, all_booking_is}
 use Rattle.mr_rows.proofs.SelectLemmas.{sees_all_booking}
 use Rattle.mr_rows.proofs.FoundLemmas.{found_by}
 use Rattle.mr_rows.proofs.table_rows.BookingRowFoundRow.find.Goals as goal

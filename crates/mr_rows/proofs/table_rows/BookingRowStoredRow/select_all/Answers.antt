@@ -1,7 +1,7 @@
 use Rattle.std.proofs.Common.{[]}
 use Rattle.sqlite.specs.State.{Shown}
 use Rattle.sqlite.specs.Held.{state}
-use Rattle.mr_rows.proofs.Texts.{all_booking_text, all_booking_is}
+use Rattle.mr_rows.proofs.StatementMeaning.{all_booking_text, all_booking_is}
 use Rattle.mr_rows.proofs.QueryLemmas.{reads_so, looks_so}
 use Rattle.mr_rows.proofs.SelectLemmas.{shows_all_booking, sees_all_booking}
 use Rattle.mr_rows.proofs.table_rows.BookingRowStoredRow.select_all.Goals as goal

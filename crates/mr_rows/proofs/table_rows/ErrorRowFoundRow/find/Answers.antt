@@ -1,6 +1,6 @@
 use Rattle.sqlite.specs.Held.{state}
 use Rattle.mr_rows.specs.Form.{error_form}
-use Rattle.mr_rows.proofs.Texts.{all_error_text, all_error_is}
+use Rattle.mr_rows.proofs.StatementMeaning.{all_error_text, all_error_is}
 use Rattle.mr_rows.proofs.SelectLemmas.{sees_all_error}
 use Rattle.mr_rows.proofs.FoundLemmas.{found_by}
 use Rattle.mr_rows.proofs.table_rows.ErrorRowFoundRow.find.Goals as goal

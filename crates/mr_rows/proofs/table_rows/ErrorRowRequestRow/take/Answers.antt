@@ -5,7 +5,7 @@ use Rattle.sqlite.specs.Held.{state}
 use Rattle.mr_model.specs.Writes.{Id}
 use Rattle.mr_rows.specs.Database.{MakesTables, tables_in}
 use Rattle.mr_rows.specs.ChangeParts.{take_errors}
-use Rattle.mr_rows.proofs.Texts.{take_error_text}
+use Rattle.mr_rows.proofs.StatementMeaning.{take_error_text}
 use Rattle.mr_rows.proofs.StatementLemmas.{makes, takes_error}
 use Rattle.mr_rows.proofs.table_rows.ErrorRowRequestRow.take.Goals as goal
 

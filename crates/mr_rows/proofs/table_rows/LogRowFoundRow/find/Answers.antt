@@ -1,6 +1,6 @@
 use Rattle.sqlite.specs.Held.{state}
 use Rattle.mr_rows.specs.Form.{log_form}
-use Rattle.mr_rows.proofs.Texts.{all_log_text, all_log_is}
+use Rattle.mr_rows.proofs.StatementMeaning.{all_log_text, all_log_is}
 use Rattle.mr_rows.proofs.SelectLemmas.{sees_all_log}
 use Rattle.mr_rows.proofs.FoundLemmas.{found_by}
 use Rattle.mr_rows.proofs.table_rows.LogRowFoundRow.find.Goals as goal

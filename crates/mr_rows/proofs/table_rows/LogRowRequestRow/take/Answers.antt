@@ -5,7 +5,7 @@ use Rattle.sqlite.specs.Held.{state}
 use Rattle.mr_model.specs.Writes.{Id}
 use Rattle.mr_rows.specs.Database.{MakesTables, tables_in}
 use Rattle.mr_rows.specs.ChangeParts.{take_logs}
-use Rattle.mr_rows.proofs.Texts.{take_log_text}
+use Rattle.mr_rows.proofs.StatementMeaning.{take_log_text}
 use Rattle.mr_rows.proofs.StatementLemmas.{makes, takes_log}
 use Rattle.mr_rows.proofs.table_rows.LogRowRequestRow.take.Goals as goal
 

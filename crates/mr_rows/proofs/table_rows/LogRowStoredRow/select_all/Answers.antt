@@ -1,7 +1,7 @@
 use Rattle.std.proofs.Common.{[]}
 use Rattle.sqlite.specs.State.{Shown}
 use Rattle.sqlite.specs.Held.{state}
-use Rattle.mr_rows.proofs.Texts.{all_log_text, all_log_is}
+use Rattle.mr_rows.proofs.StatementMeaning.{all_log_text, all_log_is}
 use Rattle.mr_rows.proofs.QueryLemmas.{reads_so, looks_so}
 use Rattle.mr_rows.proofs.SelectLemmas.{shows_all_log, sees_all_log}
 use Rattle.mr_rows.proofs.table_rows.LogRowStoredRow.select_all.Goals as goal

@@ -1,6 +1,6 @@
 use Rattle.sqlite.specs.Held.{state}
 use Rattle.mr_rows.specs.Form.{room_form}
-use Rattle.mr_rows.proofs.Texts.{all_room_text, all_room_is}
+use Rattle.mr_rows.proofs.StatementMeaning.{all_room_text, all_room_is}
 use Rattle.mr_rows.proofs.SelectLemmas.{sees_all_room}
 use Rattle.mr_rows.proofs.FoundLemmas.{found_by}
 use Rattle.mr_rows.proofs.table_rows.RoomNameFoundRow.find.Goals as goal

@@ -3,7 +3,7 @@ use Rattle.sqlite.specs.State.{HasCleanDisk}
 use Rattle.sqlite.specs.Held.{state}
 use Rattle.mr_rows.specs.Form.{room_form}
 use Rattle.mr_rows.specs.ChangeParts.{put_rooms}
-use Rattle.mr_rows.proofs.Texts.{put_room_text}
+use Rattle.mr_rows.proofs.StatementMeaning.{put_room_text}
 use Rattle.mr_rows.proofs.StatementLemmas.{makes, puts_room}
 use Rattle.mr_rows.proofs.table_rows.RoomNameStoredRow.put.Goals as goal
 

@@ -1,7 +1,7 @@
 use Rattle.std.proofs.Common.{[]}
 use Rattle.sqlite.specs.State.{Shown}
 use Rattle.sqlite.specs.Held.{state}
-use Rattle.mr_rows.proofs.Texts.{all_room_text, all_room_is}
+use Rattle.mr_rows.proofs.StatementMeaning.{all_room_text, all_room_is}
 use Rattle.mr_rows.proofs.QueryLemmas.{reads_so, looks_so}
 use Rattle.mr_rows.proofs.SelectLemmas.{shows_all_room, sees_all_room}
 use Rattle.mr_rows.proofs.table_rows.RoomNameStoredRow.select_all.Goals as goal

@@ -1,6 +1,6 @@
 use Rattle.sqlite.specs.Held.{state}
 use Rattle.mr_rows.specs.Form.{vector_form}
-use Rattle.mr_rows.proofs.Texts.{all_vector_text, all_vector_is}
+use Rattle.mr_rows.proofs.StatementMeaning.{all_vector_text, all_vector_is}
 use Rattle.mr_rows.proofs.SelectLemmas.{sees_all_vector}
 use Rattle.mr_rows.proofs.FoundLemmas.{found_by}
 use Rattle.mr_rows.proofs.table_rows.VectorRowFoundRow.find.Goals as goal

@@ -1,6 +1,6 @@
 use Rattle.std.proofs.Common.{refl}
 use Rattle.mr_model.specs.Step.{BatchFor}
-use Rattle.mr_base.specs.Refusals.{refusal_of}
+use Rattle.mr_base.specs.RefusalViews.{refusal_of}
 use Rattle.mr_service.specs.Asked.{reply_of}
 use Rattle.mr_service.proofs.MemberSteps.{question_stays, batch_texts, batch_refusals}
 use Rattle.mr_service.proofs.members.Member.batch.Goals as goal

@@ -1,4 +1,4 @@
-use Rattle.mr_service.specs.Asked.{command_of, reply_of}
+use Rattle.mr_service.specs.Asked.{command_seen, reply_of}
 use Rattle.mr_service.proofs.ReplyHalves.{replied_by}
 use Rattle.mr_service.proofs.services.Service.ask.Goals as goal
 
@@ -34,4 +34,4 @@ returns-clause-crash g c = c.serve.ensures.served.crash
 
 pub returns-clause-replied : goal.returns-clause-replied
 returns-clause-replied g c =
-    replied_by g.K.Keeper c.args.self.now c.serve.new.self (command_of c.args.command.now) (reply_of c.serve.result) c.serve.ensures.served
+    replied_by g.K.Keeper c.args.self.now c.serve.new.self (command_seen c.args.command.now) (reply_of c.serve.result) c.serve.ensures.served

@@ -1,7 +1,7 @@
 use Rattle.std.proofs.Common.{◌≡◌, ap, ◌∙◌}
 use Rattle.mr_model.specs.Tables.{tables_of}
 use Rattle.mr_store.specs.KeeperCalls.{failures_for}
-use Rattle.mr_store.specs.Lists.{Lists}
+use Rattle.mr_store.specs.KeeperLists.{Lists}
 use Rattle.mr_store.proofs.lists.ListKeeperKeeper.load.Goals as goal
 
 pub returns-in-Ok-clause-loaded : goal.returns-in-Ok-clause-loaded

@@ -3,7 +3,7 @@ use Rattle.mr_model.specs.Tables.{tables_of}
 use Rattle.mr_model.specs.Scopes.{in_scope}
 use Rattle.mr_part.specs.ScopeOf.{scope_of}
 use Rattle.mr_store.specs.KeeperCalls.{failures_for}
-use Rattle.mr_store.specs.Lists.{Lists}
+use Rattle.mr_store.specs.KeeperLists.{Lists}
 use Rattle.mr_store.proofs.lists.ListKeeperKeeper.load_part.Goals as goal
 
 pub returns-in-Ok-clause-loaded : goal.returns-in-Ok-clause-loaded

@@ -1,8 +1,8 @@
 use Rattle.std.proofs.Common.{◌≡◌, ◌+◌, suc, ◌++◌, [], ◌∷◌, ap, sym, ◌∙◌, arith}
 use Rattle.mr_model.specs.Texts.{numbers_on}
-use Rattle.mr_tables.proofs.Limits.{numbers-more}
+use Rattle.mr_tables.proofs.CountLimits.{numbers-more}
 use Rattle.mr_tables.specs.Summary.{counts_in}
-use Rattle.mr_tables.proofs.Positions.{counts_in-append}
+use Rattle.mr_tables.proofs.TallyCounts.{counts_in-append}
 use Rattle.mr_tables.proofs.summary.Summary.counts.Goals as goal
 
 pub loop-k-preserved : goal.loop-k-preserved

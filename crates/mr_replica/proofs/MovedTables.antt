@@ -23,7 +23,7 @@ use Rattle.mr_model.proofs.Runs.{sorted_append}
 use Rattle.mr_model.proofs.TablesTell.{vector_entry, in_row, counted_server, key-row}
 use Rattle.mr_model.proofs.TruncateRows.{front-seq}
 use Rattle.mr_model.proofs.UniqueReplay.{some_inj, none_some}
-use Rattle.mr_tables.specs.Change.{put_all, without, id_before, log_id, ChangeView, changed}
+use Rattle.mr_tables.specs.Change.{put_all, rows_without, id_before, log_id, ChangeView, changed}
 use Rattle.mr_tables.specs.Written.{not_booked, not_erred, not_cancelled, with_places}
 use Rattle.mr_tables.proofs.Putting.{InOrder, Lacks, number_order, name_order, puts_make, change_makes}
 use Rattle.mr_replica.proofs.DeskBoards.{place_bears}
@@ -42,7 +42,7 @@ pub record RowsMove (R : Type 0) (a b : Replica) (fa fb : Write → Option R) (w
   pub gone_is : (i : Id) → Has i gone → (w : Write) × Has w ws × (id_of w ≡ i)
   pub is_gone : (w : Write) (row : R) → Has w ws → fa w ≡ Some row → fb w ≡ None → Has (id_of w) gone
 
-pub rows_move : {R : Type 0} (a b : Replica) (key : R → Id) (fa fb : Write → Option R) (ws : List Write) (rows : List R) (gone : List Id) → IsReplica a → IsReplica b → Bears key fa → Bears key fb → RowsMove R a b fa fb ws rows gone → put_all id_before key rows (without key gone (filter_map fa (by_id a.known))) ≡ filter_map fb (by_id b.known)
+pub rows_move : {R : Type 0} (a b : Replica) (key : R → Id) (fa fb : Write → Option R) (ws : List Write) (rows : List R) (gone : List Id) → IsReplica a → IsReplica b → Bears key fa → Bears key fb → RowsMove R a b fa fb ws rows gone → put_all id_before key rows (rows_without key gone (filter_map fa (by_id a.known))) ≡ filter_map fb (by_id b.known)
 rows_move {R} a b key fa fb ws rows gone ha hb ka kb m =
     change_makes key gone rows (filter_map fa (by_id a.known)) (filter_map fb (by_id b.known)) (rows_in_order a key fa ha ka) (rows_in_order b key fb hb kb) new old (λ row h. let (w, c, e) = filter_map_has fb row (by_id b.known) h in told row w (by_id_has b w c) e)
   where
@@ -184,9 +184,9 @@ log_same : (a b : Replica) (w : Write) → a.dropped ≡ b.dropped → seq_of a 
 log_same a b w d e p = let gone = dropped_same a b w d e in λ i. cond (gone i) None (Some (record (log_row a w) { seq = e i; place = p i }))
 
 -- the rows of the kept writes
-log_move : (a b : Replica) (logs places : List Write) → IsReplica a → IsReplica b → Moves a b logs places → put_all id_before log_id (map (log_row b) logs) (without log_id [] (tables_of a).log) ≡ (tables_of b).log
+log_move : (a b : Replica) (logs places : List Write) → IsReplica a → IsReplica b → Moves a b logs places → put_all id_before log_id (map (log_row b) logs) (rows_without log_id [] (tables_of a).log) ≡ (tables_of b).log
 log_move a b logs places ha hb m =
-    ap (λ rows. put_all id_before log_id (map (log_row b) logs) (without log_id [] rows)) (map_filter (λ w. is_dropped a (id_of w)) (log_row a) (by_id a.known))
+    ap (λ rows. put_all id_before log_id (map (log_row b) logs) (rows_without log_id [] rows)) (map_filter (λ w. is_dropped a (id_of w)) (log_row a) (by_id a.known))
     ∙ rows_move a b log_id (kept_log a) (kept_log b) logs (map (log_row b) logs) [] ha hb (log_bears a) (log_bears b)
     (record {
       stays = m.stays;
@@ -210,7 +210,7 @@ picked : {A B C : Type 0} (f : B → Option C) (g : A → B) (xs : List A) → f
 picked f g [] = refl
 picked f g (x ∷ xs) = ap (cons_option (f (g x))) (picked f g xs)
 
-pub without_none : {R : Type 0} (key : R → Id) (rows : List R) → without key [] rows ≡ rows
+pub without_none : {R : Type 0} (key : R → Id) (rows : List R) → rows_without key [] rows ≡ rows
 without_none key [] = refl
 without_none key (x ∷ xs) = ap (λ ys. x ∷ ys) (without_none key xs)
 
@@ -220,9 +220,9 @@ record Leaves (R : Type 0) (as_row : PlaceRow → Option R) (gone : PlaceRow →
   leaves : (w : Write) (x : Action) (p q : Place) (c d : Option Id) (m n : Bool) (s t : ℕ) (row : R) → as_row (place_row_for w x p c m s) ≡ Some row → as_row (place_row_for w x q d n t) ≡ None → gone (place_row_for w x q d n t) ≡ Some (row_id (place_row_for w x q d n t))
 
 -- a table of the rows of one kind
-place_move : {R : Type 0} (a b : Replica) (logs places : List Write) (key : R → Id) (as_row : PlaceRow → Option R) (gone : PlaceRow → Option Id) → IsReplica a → IsReplica b → Moves a b logs places → Bears key (λ w. as_row (place_row a w)) → Bears key (λ w. as_row (place_row b w)) → Leaves R as_row gone → put_all id_before key (filter_map as_row (map (place_row b) places)) (without key (filter_map gone (map (place_row b) places)) (filter_map (λ w. as_row (place_row a w)) (by_id a.known))) ≡ filter_map (λ w. as_row (place_row b w)) (by_id b.known)
+place_move : {R : Type 0} (a b : Replica) (logs places : List Write) (key : R → Id) (as_row : PlaceRow → Option R) (gone : PlaceRow → Option Id) → IsReplica a → IsReplica b → Moves a b logs places → Bears key (λ w. as_row (place_row a w)) → Bears key (λ w. as_row (place_row b w)) → Leaves R as_row gone → put_all id_before key (filter_map as_row (map (place_row b) places)) (rows_without key (filter_map gone (map (place_row b) places)) (filter_map (λ w. as_row (place_row a w)) (by_id a.known))) ≡ filter_map (λ w. as_row (place_row b w)) (by_id b.known)
 place_move {R} a b logs places key as_row gone ha hb m ka kb l =
-    (λ i. put_all id_before key (picked as_row (place_row b) places i) (without key (picked gone (place_row b) places i) (filter_map (λ w. as_row (place_row a w)) (by_id a.known))))
+    (λ i. put_all id_before key (picked as_row (place_row b) places i) (rows_without key (picked gone (place_row b) places i) (filter_map (λ w. as_row (place_row a w)) (by_id a.known))))
     ∙ rows_move a b key (λ w. as_row (place_row a w)) (λ w. as_row (place_row b w)) places (filter_map (λ w. as_row (place_row b w)) places) (filter_map (λ w. gone (place_row b w)) places) ha hb ka kb
     (record {
       stays = m.stays;
@@ -316,7 +316,7 @@ cancels_move : (a b : Replica) (logs places : List Write) → IsReplica a → Is
 unfolding gone_with
 cancels_move a b logs places ha hb m =
     ap (put_all id_before cancel_id (filter_map as_cancel (map (place_row b) places))) (sym (without_none cancel_id (tables_of a).cancels))
-    ∙ (λ i. put_all id_before cancel_id (filter_map as_cancel (map (place_row b) places)) (without cancel_id (sym (none_gone (map (place_row b) places)) i) (tables_of a).cancels))
+    ∙ (λ i. put_all id_before cancel_id (filter_map as_cancel (map (place_row b) places)) (rows_without cancel_id (sym (none_gone (map (place_row b) places)) i) (tables_of a).cancels))
     ∙ place_move a b logs places cancel_id as_cancel gone_with ha hb m (cancel_bears a) (cancel_bears b)
     (record { is_key = λ q i e. absurd (none_some i e); leaves = λ w x p q c d k n s t row e f. absurd (stays_cancel w x p q c d k n s t row e f) })
 

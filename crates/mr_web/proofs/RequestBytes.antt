@@ -9,20 +9,20 @@ use Rattle.mr_http.specs.Heads.{IsHead}
 use Rattle.mr_http.specs.Reading.{AwaitsHead, IsReadWhile}
 use Rattle.mr_http.specs.declared.faults.ReadFault.{ReadFault}
 use Rattle.mr_web.specs.RequestAsks.{asked_by}
-use Rattle.mr_web.specs.RequestRead.{ReadsNoFurther, UnlessFault}
+use Rattle.mr_web.specs.RequestRead.{ReadsOneRequest, UnlessFault}
 use Rattle.mr_web.specs.Views.{StopsWith}
 use Rattle.mr_web.specs.declared.rejections.Stop.{Stop}
 use Rattle.mr_web.specs.declared.rejections.Stop.TheVariants as stop
 use Rattle.mr_web.specs.declared.replies.Answer.{Answer}
 
 -- no more than the first bytes
-pub head_read : (known left : Option Text) (first : Text) → Consumes known left first → IsReadWhile AwaitsHead first → ReadsNoFurther known left
+pub head_read : (known left : Option Text) (first : Text) → Consumes known left first → IsReadWhile AwaitsHead first → ReadsOneRequest known left
 head_read known left first whole pieces =
     (first, [], subst (λ l. Consumes known left l) (sym (append-nil first)) whole, pieces, inl refl)
 
 -- and what they lack of the body
 pub body_read : (known left : Option Text) (first more rest : Text) (h : RequestHead) (asked : Route × ℕ) → Consumes known left (first ++ more)
-    → IsReadWhile AwaitsHead first → IsHead first h rest → asked_by h ≡ Ok asked → length more ≤ asked.1 - length rest → ReadsNoFurther known left
+    → IsReadWhile AwaitsHead first → IsHead first h rest → asked_by h ≡ Ok asked → length more ≤ asked.1 - length rest → ReadsOneRequest known left
 body_read known left first more rest h asked whole pieces head asks short =
     (first, more, whole, pieces, inr (h, rest, asked, head, asks, short))
 

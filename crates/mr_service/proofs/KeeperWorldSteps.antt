@@ -12,7 +12,7 @@ use Rattle.mr_model.specs.Honest.{IsLocal, IsWorldCommand, IsWorldStep}
 use Rattle.mr_service.specs.declared.commands.Local.{Local}
 use Rattle.mr_service.specs.declared.commands.Local.TheVariants as local
 use Rattle.mr_service.specs.Asked.{local_of}
-use Rattle.mr_service.specs.Worlds.{MemberView, WorldView, StandsForMember, StandForAll, StandsForWorld, AnswersInMemory, TakesWorldStep, place_among, primary_in}
+use Rattle.mr_service.specs.Worlds.{MemberView, WorldView, StandsForMember, StandForAll, StandsForWorld, AnswersInMemory, TakesWorldStep, member_index, primary_in}
 use Rattle.mr_service.proofs.StepServers.{step_same}
 use Rattle.mr_service.proofs.WorldMembers.{FoundAt, found_at, found_none, stand_more, same_primary, put_itself}
 
@@ -43,17 +43,17 @@ is_local (local.Errors room) = tt
 
 -- ---- a replica that is there answers, and takes the place of what it was
 
-replaced : (ms : List MemberView) (pool : List Text) (s : ℕ) (c : Command) (st : Step) (m after : MemberView) (reply : Reply) → IsWorldCommand st → place_among ms s < length ms → m ≡ get_or ms (place_among ms s) m
+replaced : (ms : List MemberView) (pool : List Text) (s : ℕ) (c : Command) (st : Step) (m after : MemberView) (reply : Reply) → IsWorldCommand st → member_index ms s < length ms → m ≡ get_or ms (member_index ms s) m
     → AnswersInMemory m c reply after
     → ((w : World) (r : Replica) → StandsForWorld (world ms pool) w → replica_of w s ≡ Some r → world_step w st ≡ with_after w (step r c))
-    → TakesWorldStep (world ms pool) st (Said reply) (world (slice_set ms (place_among ms s) after) pool)
+    → TakesWorldStep (world ms pool) st (Said reply) (world (slice_set ms (member_index ms s) after) pool)
 replaced ms pool s c st m after reply command low is answers steps w stands = go (answers f.replica (f.stands m is))
   where
     f : FoundAt ms w.replicas s
     f = found_at ms w.replicas s stands.replicas low
 
     go : ((reply ≡ (step f.replica c).reply) × StandsForMember after (step f.replica c).replica) ⊎ ((reply ≡ Refused OutOfMemory) × StandsForMember after f.replica)
-        → (end : World) × IsWorldStep w st (Said reply) end × StandsForWorld (world (slice_set ms (place_among ms s) after) pool) end
+        → (end : World) × IsWorldStep w st (Said reply) end × StandsForWorld (world (slice_set ms (member_index ms s) after) pool) end
     go (inl (e, there)) = (
       record w { replicas = put_replica (step f.replica c).replica w.replicas },
       (command, inl (ap (λ x. record { reply = Said x; world = record w { replicas = put_replica (step f.replica c).replica w.replicas } }) e ∙ sym (steps w f.replica stands f.found))),
@@ -62,17 +62,17 @@ replaced ms pool s c st m after reply command low is answers steps w stands = go
     go (inr (e, there)) = (
       w,
       (command, inr (ap Said e, refl)),
-      record { replicas = subst (StandForAll (slice_set ms (place_among ms s) after)) (put_itself w.replicas f.replica s f.its_server f.found) (f.put after f.replica there f.its_server); pool = stands.pool },
+      record { replicas = subst (StandForAll (slice_set ms (member_index ms s) after)) (put_itself w.replicas f.replica s f.its_server f.found) (f.put after f.replica there f.its_server); pool = stands.pool },
     )
 
 -- ---- each kind of step
 
 -- a server that is there
-pub add_there : (ms : List MemberView) (pool : List Text) (s : ℕ) → IsTrue (is_server s) → place_among ms s < length ms → TakesWorldStep (world ms pool) (Add s) There (world ms pool)
+pub add_there : (ms : List MemberView) (pool : List Text) (s : ℕ) → IsTrue (is_server s) → member_index ms s < length ms → TakesWorldStep (world ms pool) (Add s) There (world ms pool)
 add_there ms pool s server low = stays (world ms pool) (Add s) There server (λ w stands. ap (add_replica w s) (found_at ms w.replicas s stands.replicas low).found)
 
 -- one replica more
-pub add_one : (ms : List MemberView) (pool : List Text) (s : ℕ) (m : MemberView) → IsTrue (is_server s) → length ms ≤ place_among ms s → StandsForMember m (opening s (primary_in ms s))
+pub add_one : (ms : List MemberView) (pool : List Text) (s : ℕ) (m : MemberView) → IsTrue (is_server s) → length ms ≤ member_index ms s → StandsForMember m (opening s (primary_in ms s))
     → TakesWorldStep (world ms pool) (Add s) Added (world (ms ++ m ∷ []) pool)
 add_one ms pool s m server low new w stands =
     let none = found_none ms w.replicas s stands.replicas low in
@@ -82,26 +82,26 @@ add_one ms pool s m server low new w stands =
       record { replicas = stand_more ms w.replicas m (opening s (primary_among w.replicas s)) stands.replicas (subst (λ p. StandsForMember m (opening s p)) primary new); pool = stands.pool },
     )
 
-pub do_nobody : (ms : List MemberView) (pool : List Text) (s : ℕ) (l : Local) → length ms ≤ place_among ms s → TakesWorldStep (world ms pool) (Do s (local_of l)) NoReplica (world ms pool)
+pub do_nobody : (ms : List MemberView) (pool : List Text) (s : ℕ) (l : Local) → length ms ≤ member_index ms s → TakesWorldStep (world ms pool) (Do s (local_of l)) NoReplica (world ms pool)
 do_nobody ms pool s l low = stays (world ms pool) (Do s (local_of l)) NoReplica (is_local l) (λ w stands. ap (λ o. do_at w o (local_of l)) (found_none ms w.replicas s stands.replicas low))
 
-pub do_one : (ms : List MemberView) (pool : List Text) (s : ℕ) (l : Local) (m after : MemberView) (reply : Reply) → place_among ms s < length ms → m ≡ get_or ms (place_among ms s) m
-    → AnswersInMemory m (local_of l) reply after → TakesWorldStep (world ms pool) (Do s (local_of l)) (Said reply) (world (slice_set ms (place_among ms s) after) pool)
+pub do_one : (ms : List MemberView) (pool : List Text) (s : ℕ) (l : Local) (m after : MemberView) (reply : Reply) → member_index ms s < length ms → m ≡ get_or ms (member_index ms s) m
+    → AnswersInMemory m (local_of l) reply after → TakesWorldStep (world ms pool) (Do s (local_of l)) (Said reply) (world (slice_set ms (member_index ms s) after) pool)
 do_one ms pool s l m after reply low is answers =
     replaced ms pool s (local_of l) (Do s (local_of l)) m after reply (is_local l) low is answers (λ w r stands e. ap (λ o. do_at w o (local_of l)) e)
 
-pub deliver_nobody : (ms : List MemberView) (pool : List Text) (batch s n : ℕ) → length ms ≤ place_among ms s → TakesWorldStep (world ms pool) (Deliver batch s n) NoReplica (world ms pool)
+pub deliver_nobody : (ms : List MemberView) (pool : List Text) (batch s n : ℕ) → length ms ≤ member_index ms s → TakesWorldStep (world ms pool) (Deliver batch s n) NoReplica (world ms pool)
 deliver_nobody ms pool batch s n low =
     stays (world ms pool) (Deliver batch s n) NoReplica tt (λ w stands. ap (λ o. deliver_to w o (batch_numbered w.pool batch) n) (found_none ms w.replicas s stands.replicas low))
 
-pub deliver_nothing : (ms : List MemberView) (pool : List Text) (batch s n : ℕ) → place_among ms s < length ms → batch_numbered pool batch ≡ None → TakesWorldStep (world ms pool) (Deliver batch s n) NoBatch (world ms pool)
+pub deliver_nothing : (ms : List MemberView) (pool : List Text) (batch s n : ℕ) → member_index ms s < length ms → batch_numbered pool batch ≡ None → TakesWorldStep (world ms pool) (Deliver batch s n) NoBatch (world ms pool)
 deliver_nothing ms pool batch s n low none =
     stays (world ms pool) (Deliver batch s n) NoBatch tt
     (λ w stands. let f = found_at ms w.replicas s stands.replicas low in
     (λ i. deliver_to w (f.found i) (batch_numbered w.pool batch) n) ∙ ap (λ o. deliver_to w (Some f.replica) o n) (ap (λ p. batch_numbered p batch) (sym stands.pool) ∙ none))
 
-pub deliver_one : (ms : List MemberView) (pool : List Text) (batch s n : ℕ) (bytes : Text) (m after : MemberView) (reply : Reply) → place_among ms s < length ms → m ≡ get_or ms (place_among ms s) m
-    → batch_numbered pool batch ≡ Some bytes → AnswersInMemory m (Receive (take n bytes)) reply after → TakesWorldStep (world ms pool) (Deliver batch s n) (Said reply) (world (slice_set ms (place_among ms s) after) pool)
+pub deliver_one : (ms : List MemberView) (pool : List Text) (batch s n : ℕ) (bytes : Text) (m after : MemberView) (reply : Reply) → member_index ms s < length ms → m ≡ get_or ms (member_index ms s) m
+    → batch_numbered pool batch ≡ Some bytes → AnswersInMemory m (Receive (take n bytes)) reply after → TakesWorldStep (world ms pool) (Deliver batch s n) (Said reply) (world (slice_set ms (member_index ms s) after) pool)
 deliver_one ms pool batch s n bytes m after reply low is there answers =
     replaced ms pool s (Receive (take n bytes)) (Deliver batch s n) m after reply tt low is answers
     (λ w r stands e. (λ i. deliver_to w (e i) (batch_numbered w.pool batch) n) ∙ ap (λ o. deliver_to w (Some r) o n) (ap (λ p. batch_numbered p batch) (sym stands.pool) ∙ there))
@@ -110,16 +110,16 @@ deliver_one ms pool batch s n bytes m after reply low is there answers =
 
 -- what finding a replica tells, of the list that was looked through
 pub record IsFound (ms : List MemberView) (s k : ℕ) : Type 0 where
-  pub place : k ≡ place_among ms s
-  pub low : place_among ms s < length ms
+  pub place : k ≡ member_index ms s
+  pub low : member_index ms s < length ms
 
-pub found_in : (xs ms : List MemberView) (s k : ℕ) → xs ≡ ms → k ≡ place_among xs s → k < length xs → IsFound ms s k
+pub found_in : (xs ms : List MemberView) (s k : ℕ) → xs ≡ ms → k ≡ member_index xs s → k < length xs → IsFound ms s k
 found_in xs ms s k same e low =
-    let place : k ≡ place_among ms s = e ∙ ap (λ ys. place_among ys s) same in
+    let place : k ≡ member_index ms s = e ∙ ap (λ ys. member_index ys s) same in
     record { place = place; low = subst (λ n. n < length ms) place (subst (λ (ys : List MemberView). k < length ys) same low) }
 
-pub none_in : (xs ms : List MemberView) (s : ℕ) → xs ≡ ms → length xs ≤ place_among xs s → length ms ≤ place_among ms s
-none_in xs ms s same low = subst (λ (ys : List MemberView). length ys ≤ place_among ys s) same low
+pub none_in : (xs ms : List MemberView) (s : ℕ) → xs ≡ ms → length xs ≤ member_index xs s → length ms ≤ member_index ms s
+none_in xs ms s same low = subst (λ (ys : List MemberView). length ys ≤ member_index ys s) same low
 
 pub do_found : (ms : List MemberView) (pool : List Text) (s k : ℕ) (l : Local) (m after : MemberView) (reply : Reply) → IsFound ms s k → m ≡ get_or ms k m
     → AnswersInMemory m (local_of l) reply after → TakesWorldStep (world ms pool) (Do s (local_of l)) (Said reply) (world (slice_set ms k after) pool)

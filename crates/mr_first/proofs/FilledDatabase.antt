@@ -16,7 +16,7 @@ use Rattle.mr_rows.specs.Form.{room_form, vector_form, booking_form, error_form}
 use Rattle.mr_rows.specs.Database.{IsHeld, first_meta, in_order}
 use Rattle.mr_first.specs.Forms.{write_id, undo_id, first_meta_form, write_form, undo_form}
 use Rattle.mr_first.specs.FirstDatabase.{IsFirst, first_in}
-use Rattle.mr_first.specs.FirstParts.{tables_put, no_first_tables, AreKeysRising}
+use Rattle.mr_first.specs.FirstParts.{tables_put, no_first_tables, AreFirstKeysRising}
 use Rattle.mr_first.proofs.MakeLemmas.{held_none}
 use Rattle.mr_first.proofs.PairLemmas.{put_into_empty}
 
@@ -47,7 +47,7 @@ module _ {R K : Type 0} (before : K → K → Bool) (key : R → K) (o : IsOrder
   whole : (rows : List R) → Rise before key rows → put_all before key rows [] ≡ rows
   whole rows rise = put_into_empty before key o rows (in_order_of rows rise)
 
-pub put_into_none : (t : FirstTables) → AreKeysRising t → tables_put t no_first_tables ≡ t
+pub put_into_none : (t : FirstTables) → AreFirstKeysRising t → tables_put t no_first_tables ≡ t
 put_into_none t rise =
     let room = whole text_before (λ (name : Text). name) name_order t.room rise.room in
     let vector = whole nat_lt (λ (row : VectorRow). row.server) number_order t.vector rise.vector in

@@ -9,6 +9,6 @@ Fails NotALine read = read ≡ None
 Fails OutOfMemory read = Unit {0}
 
 -- the answer, as contracts see it, is what is read, unless memory ran out
-abbrev pub Reads : {X Y : Type 0} → (X → Y) → Result X Fault → Option Y → Type 0
-Reads view (Ok x) read = read ≡ Some (view x)
-Reads view (Err fault) read = Fails fault read
+abbrev pub GivesRead : {X Y : Type 0} → (X → Y) → Result X Fault → Option Y → Type 0
+GivesRead view (Ok x) read = read ≡ Some (view x)
+GivesRead view (Err fault) read = Fails fault read

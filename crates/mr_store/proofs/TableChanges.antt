@@ -5,7 +5,7 @@ use Rattle.mr_model.specs.Replica.{is_among, text_before}
 use Rattle.mr_model.specs.Tables.{Tables}
 use Rattle.mr_model.specs.Queries.{booking_id, error_id, cancelled_id, cancel_id}
 use Rattle.mr_model.proofs.Members.{sorted_filter}
-use Rattle.mr_tables.specs.Change.{put_all, without, id_before, log_id, ChangeView, changed}
+use Rattle.mr_tables.specs.Change.{put_all, rows_without, id_before, log_id, ChangeView, changed}
 use Rattle.mr_tables.proofs.Putting.{InOrder, put_all_in_order, name_order, number_order, id_order}
 use Rattle.mr_store.specs.RowsAround.{AreInOrder}
 
@@ -15,13 +15,13 @@ rows_put before key left shown news mid old new made same puts are order =
     made ∙ ap (put_all before key (reverse left)) same ∙ puts old order ∙ ap (λ rows. put_all before key rows old) are
 
 -- the same, where rows of writes are taken away first
-pub rows_changed : {R Is : Type 0} (id : R → Id) (taken gone : List Id) (left shown news mid old new : List R) → new ≡ put_all id_before id (reverse left) (without id taken mid) → taken ≡ gone → mid ≡ old → ((all : List R) → (Is → InOrder id_before id all) → put_all id_before id (reverse left) all ≡ put_all id_before id shown all) → shown ≡ news → (Is → InOrder id_before id old) → new ≡ put_all id_before id news (without id gone old)
+pub rows_changed : {R Is : Type 0} (id : R → Id) (taken gone : List Id) (left shown news mid old new : List R) → new ≡ put_all id_before id (reverse left) (rows_without id taken mid) → taken ≡ gone → mid ≡ old → ((all : List R) → (Is → InOrder id_before id all) → put_all id_before id (reverse left) all ≡ put_all id_before id shown all) → shown ≡ news → (Is → InOrder id_before id old) → new ≡ put_all id_before id news (rows_without id gone old)
 rows_changed id taken gone left shown news mid old new made go same puts are order =
     made
-    ∙ ap (λ ids. put_all id_before id (reverse left) (without id ids mid)) go
-    ∙ ap (λ rows. put_all id_before id (reverse left) (without id gone rows)) same
-    ∙ puts (without id gone old) (λ e. sorted_filter (λ x y. id_before (id x) (id y) ≡ true) (λ row. not (is_among (id row) gone)) old (order e))
-    ∙ ap (λ rows. put_all id_before id rows (without id gone old)) are
+    ∙ ap (λ ids. put_all id_before id (reverse left) (rows_without id ids mid)) go
+    ∙ ap (λ rows. put_all id_before id (reverse left) (rows_without id gone rows)) same
+    ∙ puts (rows_without id gone old) (λ e. sorted_filter (λ x y. id_before (id x) (id y) ≡ true) (λ row. not (is_among (id row) gone)) old (order e))
+    ∙ ap (λ rows. put_all id_before id rows (rows_without id gone old)) are
 
 -- ---- tables stay in the order of their keys
 
@@ -29,14 +29,14 @@ pub changed_in_order : (change : ChangeView) (t : Tables) → AreInOrder t → A
 changed_in_order change t s = record {
   room = put_all_in_order text_before (λ name. name) name_order change.room t.room s.room;
   vector = put_all_in_order nat_lt (λ row. row.server) number_order change.vector t.vector s.vector;
-  log = put_all_in_order id_before log_id id_order change.log (without log_id change.dropped t.log) (left log_id change.dropped t.log s.log);
-  booking = put_all_in_order id_before booking_id id_order change.booking (without booking_id change.unbooked t.booking) (left booking_id change.unbooked t.booking s.booking);
-  errorlog = put_all_in_order id_before error_id id_order change.errorlog (without error_id change.unlogged t.errorlog) (left error_id change.unlogged t.errorlog s.errorlog);
-  cancelled = put_all_in_order id_before cancelled_id id_order change.cancelled (without cancelled_id change.uncancelled t.cancelled) (left cancelled_id change.uncancelled t.cancelled s.cancelled);
+  log = put_all_in_order id_before log_id id_order change.log (rows_without log_id change.dropped t.log) (left log_id change.dropped t.log s.log);
+  booking = put_all_in_order id_before booking_id id_order change.booking (rows_without booking_id change.unbooked t.booking) (left booking_id change.unbooked t.booking s.booking);
+  errorlog = put_all_in_order id_before error_id id_order change.errorlog (rows_without error_id change.unlogged t.errorlog) (left error_id change.unlogged t.errorlog s.errorlog);
+  cancelled = put_all_in_order id_before cancelled_id id_order change.cancelled (rows_without cancelled_id change.uncancelled t.cancelled) (left cancelled_id change.uncancelled t.cancelled s.cancelled);
   cancels = put_all_in_order id_before cancel_id id_order change.cancels t.cancels s.cancels;
 }
   where
-    left : {R : Type 0} (id : R → Id) (gone : List Id) (rows : List R) → InOrder id_before id rows → InOrder id_before id (without id gone rows)
+    left : {R : Type 0} (id : R → Id) (gone : List Id) (rows : List R) → InOrder id_before id rows → InOrder id_before id (rows_without id gone rows)
     left id gone rows = sorted_filter (λ x y. id_before (id x) (id y) ≡ true) (λ row. not (is_among (id row) gone)) rows
 
 -- whether the change is made or refused

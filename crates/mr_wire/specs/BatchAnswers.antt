@@ -2,8 +2,8 @@
 use Rattle.std.specs.Prelude.{◌≡◌, ◌⊎◌, ℕ, List, ◌++◌, map, Result, Ok, Err}
 use Rattle.mr_model.specs.Refusals as model
 use Rattle.mr_model.specs.Exchange as exchange
-use Rattle.mr_base.specs.Refusals.{refusal_of}
-use Rattle.mr_base.specs.Batches.{item_of, ending_of}
+use Rattle.mr_base.specs.RefusalViews.{refusal_of}
+use Rattle.mr_base.specs.Batches.{item_of, ending_seen}
 use Rattle.mr_base.specs.declared.refusals.Refusal.{Refusal}
 use Rattle.mr_base.specs.declared.refusals.Refusal.TheVariants.{OutOfMemory, BadLine}
 use Rattle.mr_wire.specs.declared.fault.Fault.{Fault}
@@ -32,7 +32,7 @@ IsRefusedFor bytes e = ((i : ℕ) × (refusal_of e ≡ model.BadLine i) × excha
 
 -- items, and how they end
 abbrev pub body_seen : List Item → Ending → List exchange.Item × exchange.Ending
-body_seen items ending = (map item_of items, ending_of ending)
+body_seen items ending = (map item_of items, ending_seen ending)
 
 -- these items, and those that are read behind them
 abbrev pub with_front : List exchange.Item → Result (List exchange.Item × exchange.Ending) model.Refusal → Result (List exchange.Item × exchange.Ending) model.Refusal

@@ -8,9 +8,9 @@ use Rattle.mr_model.specs.Replica.{Replica}
 use Rattle.mr_model.specs.Replies.{Reply}
 use Rattle.mr_model.specs.Tables.{Tables, Stands}
 use Rattle.mr_model.specs.Step as model
-use Rattle.mr_model.specs.Http.{Head, Route, Submissions, Cancellations, Day, Request, ErrorLog, PositionOf, Pull, Push, Response, Asked, Faulty, Runs, Serves, is_post, method_name, command_of, body_length, greatest_body, bad_request, not_allowed, too_large, ask_command, ask_length, ask_route, response_of, response_text, asked as asked_of}
+use Rattle.mr_model.specs.Http.{Head, Route, Submissions, Cancellations, Day, Request, ErrorLog, PositionOf, Pull, Push, Response, Asked, Faulty, Runs, ServesAsked, is_post, method_name, command_of, body_length, greatest_body, bad_request, not_allowed, too_large, ask_command, ask_length, ask_route, response_of, response_text, asked as asked_of}
 use Rattle.mr_service.specs.declared.commands.Command.{Command}
-use Rattle.mr_service.specs.Asked.{command_of as command_view}
+use Rattle.mr_service.specs.Asked.{command_seen as command_view}
 use Rattle.mr_http.specs.Faults.{web_fault}
 use Rattle.mr_http.specs.Heads.{IsHead, HasNoHead, FindsHead}
 use Rattle.mr_http.specs.Inputs.{OfInput}
@@ -153,14 +153,14 @@ pub served_by : (input : Text) (old new : Replica) (after : Tables) (c : model.C
     → model.IsStep old c reply new → Stands after new
     → ServedTo input old after (response_text (response_of reply)) (response_of reply).status
 served_by input old new after c reply asks step stands =
-    let done : Serves (Runs c) old (response_of reply) new = (reply, step, refl) in (
+    let done : ServesAsked (Runs c) old (response_of reply) new = (reply, step, refl) in (
       new,
       (
         asks.0,
         asks.1,
         record {
           response = response_of reply;
-          served = subst (λ q. Serves q old (response_of reply) new) asks.2 done;
+          served = subst (λ q. ServesAsked q old (response_of reply) new) asks.2 done;
           is_output = refl;
           is_status = refl;
         },
@@ -172,14 +172,14 @@ served_by input old new after c reply asks step stands =
 pub served_faulty : (input : Text) (old : Replica) (tables : Tables) (f : Response) → Asks input (Faulty f) → Stands tables old
     → ServedTo input old tables (response_text f) f.status
 served_faulty input old tables f asks stands =
-    let done : Serves (Faulty f) old f old = (refl, refl) in (
+    let done : ServesAsked (Faulty f) old f old = (refl, refl) in (
       old,
       (
         asks.0,
         asks.1,
         record {
           response = f;
-          served = subst (λ q. Serves q old f old) asks.2 done;
+          served = subst (λ q. ServesAsked q old f old) asks.2 done;
           is_output = refl;
           is_status = refl;
         },

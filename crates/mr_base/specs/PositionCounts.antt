@@ -3,8 +3,8 @@ use Rattle.std.specs.Prelude.{ℕ, Bool, true, ◌&&◌, nat_lt, List, [], ◌�
 use Rattle.mr_model.specs.Positions.{Count}
 
 -- each server with its count
-abbrev pub counts_of : List (ℕ × ℕ) → List Count
-counts_of counts = map (λ c. record { server = c.0; count = c.1 }) counts
+abbrev pub counts_of_pairs : List (ℕ × ℕ) → List Count
+counts_of_pairs counts = map (λ c. record { server = c.0; count = c.1 }) counts
 
 -- the servers rise, and the first is above `last`
 abbrev pub are_rising_above : ℕ → List Count → Bool

@@ -23,7 +23,7 @@ use Rattle.mr_replay.specs.Rows.{Rows, executed_all, undo_row_at, undo_rows_of}
 use Rattle.mr_tables.specs.declared.summary.Tally.{Tally}
 use Rattle.mr_tables.specs.Summary.{tally_at, tally_of}
 use Rattle.mr_tables.specs.Change.{put_all, changed}
-use Rattle.mr_tables.specs.Rows.{seq_on, place_rows}
+use Rattle.mr_tables.specs.ExecutionRows.{seq_on, place_rows}
 use Rattle.mr_tables.specs.Tallied.{tally_rows}
 use Rattle.mr_tables.specs.Written.{same_tally, changed_tallies, with_places, written}
 use Rattle.mr_tables.proofs.Adding.{place-push}
@@ -34,7 +34,7 @@ use Rattle.mr_replica.specs.Placing.{with_places_put}
 use Rattle.mr_replica.proofs.Logs.{length-undo_rows_of, undo_rows_of-append}
 use Rattle.mr_replica.proofs.DeskNumbers.{AreNumbered, numbered_first, numbered_rest, unplaced, numbered_logs, kept_numbers, kept_places, slice_left, slice_bound}
 use Rattle.mr_replica.proofs.DeskRows.{tally_row, numbers_below, desk_tables-of}
-use Rattle.mr_replica.proofs.Moving.{Moves, change_of, moves, vectors_move}
+use Rattle.mr_replica.proofs.MovedTables.{Moves, change_of, moves, vectors_move}
 
 -- ---- rows that are put one after the other
 

@@ -1,5 +1,5 @@
 -- A board that has the bookings of a room's list finds for a write of the room the place that the replay gives it.
-use Rattle.std.proofs.Common.{◌≡◌, ℕ, ◌+◌, Bool, true, false, cond, ◌&&◌, List, [], ◌∷◌, ◌++◌, ◌⊎◌, inl, inr, Option, Some, None, ap, refl, sym, ◌∙◌, subst}
+use Rattle.std.proofs.Common.{◌≡◌, ◌+◌, Bool, true, false, cond, ◌&&◌, List, [], ◌∷◌, ◌++◌, ◌⊎◌, inl, inr, Option, Some, None, ap, refl, sym, ◌∙◌, subst}
 use Rattle.std.specs.List.{AllByRecursion}
 use Rattle.std.specs.List.Sorted.{IsStrictlySortedBy}
 use Rattle.std.specs.declared.cmp.Ordering.TheVariants.{Less}
@@ -8,59 +8,25 @@ use Rattle.std.specs.Str.{bytes_eq}
 use Rattle.std.specs.Map.{keys_of, lookup}
 use Rattle.std.proofs.lemmas.Bool.{true≢false}
 use Rattle.mr_model.specs.Texts.{Text}
-use Rattle.mr_model.specs.Slots.{Slot}
-use Rattle.mr_model.specs.Writes.{Id, Action, Books, Cancels, Write, same_id, choices_of}
-use Rattle.mr_model.specs.Replay.{Taken, Done, Void, Booking, first_free, is_booked, place_for, place_among}
+use Rattle.mr_model.specs.Writes.{Id, Write, same_id}
+use Rattle.mr_model.specs.Replay.{Booking, is_booked, place_among}
 use Rattle.mr_model.specs.Board.{after}
 use Rattle.mr_model.specs.Dropped.{Has}
 use Rattle.mr_model.proofs.Members.{has_left, has_right, has_split, same_id-true, same_id_from}
-use Rattle.mr_model.proofs.UniqueReplay.{Meets, meets, meets-true, meets_from, meets_has, has_meets, booked_has, has_booked}
+use Rattle.mr_model.proofs.UniqueReplay.{booked_has, has_booked}
 use Rattle.mr_base.specs.Ids.{id_cmp}
 use Rattle.mr_replay.specs.declared.rows.Standing.TheVariants.{Booked, CancelledBy, InErrorLog}
 use Rattle.mr_replay.specs.declared.rows.Kept.{Kept}
 use Rattle.mr_replay.specs.declared.rows.Kept.TheVariants.{OfBooking, OfCancel}
 use Rattle.mr_replay.specs.declared.rows.Row.{Row}
-use Rattle.mr_replay.specs.Rows.{Rows, row_at, is_standing, is_booking_of, booking_kept, booking_in, bookings_of, place_on}
+use Rattle.mr_replay.specs.Rows.{Rows, row_at, is_standing, is_booking_of, booking_kept, bookings_of_entry, bookings_of, place_by_rows}
 use Rattle.mr_replay.specs.Holds.{HaveDistinctIds, told_list, row_in, if_of, HoldsIn}
 use Rattle.mr_replay.specs.Bookings.{is_taken, if_taken, HasBookings}
 use Rattle.mr_replay.specs.Index.{is_row}
-use Rattle.mr_replay.proofs.Ids.{at, at_is}
+use Rattle.mr_replay.proofs.IdKeys.{at, at_is}
 use Rattle.mr_replay.proofs.Entries.{IsInOrder}
 use Rattle.mr_replay.proofs.ToldRows.{booked_at, after-row, row-after}
-
--- two tests that pass together are one
-pub same_from_true : (a b : Bool) → (a ≡ true → b ≡ true) → (b ≡ true → a ≡ true) → a ≡ b
-same_from_true true b f g = sym (f refl)
-same_from_true false true f g = absurd (true≢false (sym (g refl)))
-same_from_true false false f g = refl
-
--- ---- bookings with the same members place alike
-
-abbrev SameMembers : List Booking → List Booking → Type 0
-SameMembers bs cs = (x : Booking) → (Has x bs → Has x cs) × (Has x cs → Has x bs)
-
-meets_by : (bs cs : List Booking) (s : Slot) (n : ℕ) → ((x : Booking) → Has x bs → Has x cs) → Meets bs s n → Meets cs s n
-meets_by bs cs s n f m = let (b, h, o) = meets_has bs s n m in has_meets cs s n b (f b h) o
-
-meets_alike : (bs cs : List Booking) → SameMembers bs cs → (s : Slot) (n : ℕ) → meets bs s n ≡ meets cs s n
-meets_alike bs cs same s n =
-    same_from_true (meets bs s n) (meets cs s n) (λ e. meets_from cs s n (meets_by bs cs s n (λ x. (same x).0) (meets-true bs s n e)))
-    (λ e. meets_from bs s n (meets_by cs bs s n (λ x. (same x).1) (meets-true cs s n e)))
-
-free_alike : (bs cs : List Booking) → SameMembers bs cs → (n k : ℕ) (ss : List Slot) → first_free bs n k ss ≡ first_free cs n k ss
-free_alike bs cs same n k [] = refl
-free_alike bs cs same n k (s ∷ ss) =
-    ap (λ b. cond (cond b false true) (Taken k) (first_free bs n (k + 1) ss)) (meets_alike bs cs same s n)
-    ∙ ap (λ p. cond (cond (meets cs s n) false true) (Taken k) p) (free_alike bs cs same n (k + 1) ss)
-
-booked_alike : (bs cs : List Booking) → SameMembers bs cs → (i : Id) → is_booked i bs ≡ is_booked i cs
-booked_alike bs cs same i =
-    same_from_true (is_booked i bs) (is_booked i cs) (λ e. let (b, h, at) = booked_has i bs e in has_booked i cs b ((same b).0 h) at)
-    (λ e. let (b, h, at) = booked_has i cs e in has_booked i bs b ((same b).1 h) at)
-
-place_alike : (bs cs : List Booking) → SameMembers bs cs → (a : Action) → place_for bs a ≡ place_for cs a
-place_alike bs cs same (Books m) = free_alike bs cs same m.length 0 (choices_of m)
-place_alike bs cs same (Cancels t) = ap (λ b. cond b Done Void) (booked_alike bs cs same t)
+use Rattle.mr_model.proofs.MembersAlike.{bool_same, SameMembers, place_alike}
 
 -- ---- the bookings of a room on a board are those of its rows
 
@@ -84,14 +50,14 @@ kept_id i (OfBooking s l t (CancelledBy c)) x h = absurd h
 kept_id i (OfBooking s l t InErrorLog) x h = absurd h
 kept_id i (OfCancel t) x h = absurd h
 
-entry_at : (room : Text) (e : Id × Row) → booking_in room e ≡ booked_at e.0 (if_of room (Some e.1))
+entry_at : (room : Text) (e : Id × Row) → bookings_of_entry room e ≡ booked_at e.0 (if_of room (Some e.1))
 entry_at room e = go (bytes_eq e.1.room room)
   where
     go : (b : Bool) → cond b (booking_kept e.0 e.1.kept) [] ≡ booked_at e.0 (cond b (Some e.1) None)
     go true = refl
     go false = refl
 
-entry_id : (room : Text) (e : Id × Row) (x : Booking) → Has x (booking_in room e) → x.id ≡ e.0
+entry_id : (room : Text) (e : Id × Row) (x : Booking) → Has x (bookings_of_entry room e) → x.id ≡ e.0
 entry_id room e x h = go (bytes_eq e.1.room room) h
   where
     go : (b : Bool) → Has x (cond b (booking_kept e.0 e.1.kept) []) → x.id ≡ e.0
@@ -100,13 +66,13 @@ entry_id room e x h = go (bytes_eq e.1.room room) h
 
 pub booking-row : (room : Text) (b : Rows) (x : Booking) → IsInOrder b → Has x (bookings_of room b) → Has x (booked_at x.id (if_of room (row_at b x.id)))
 booking-row room [] x ordered h = absurd h
-booking-row room (e ∷ es) x ordered h = go (has_split x (booking_in room e) (bookings_of room es) h) (booking-row room es x (rest_in_order e es ordered))
+booking-row room (e ∷ es) x ordered h = go (has_split x (bookings_of_entry room e) (bookings_of room es) h) (booking-row room es x (rest_in_order e es ordered))
   where
     other : (c : Bool) → same_id x.id e.0 ≡ c → Has x (booked_at x.id (if_of room (row_at es x.id))) → Has x (booked_at x.id (if_of room (cond c (Some e.1) (row_at es x.id))))
     other false k g = g
     other true k g = absurd (subst (λ o. Has x (booked_at x.id (if_of room o))) (ap (row_at es) (same_id-true x.id e.0 k) ∙ first_absent e es ordered) g)
 
-    go : Has x (booking_in room e) ⊎ Has x (bookings_of room es) → (Has x (bookings_of room es) → Has x (booked_at x.id (if_of room (row_at es x.id)))) → Has x (booked_at x.id (if_of room (cond (same_id x.id e.0) (Some e.1) (row_at es x.id))))
+    go : Has x (bookings_of_entry room e) ⊎ Has x (bookings_of room es) → (Has x (bookings_of room es) → Has x (booked_at x.id (if_of room (row_at es x.id)))) → Has x (booked_at x.id (if_of room (cond (same_id x.id e.0) (Some e.1) (row_at es x.id))))
     go (inl g) rest =
         let at : x.id ≡ e.0 = entry_id room e x g in
         subst (λ c. Has x (booked_at x.id (if_of room (cond c (Some e.1) (row_at es x.id))))) (sym (same_id_from x.id e.0 at))
@@ -117,9 +83,9 @@ pub row-booking : (room : Text) (b : Rows) (x : Booking) → Has x (booked_at x.
 row-booking room [] x h = absurd h
 row-booking room (e ∷ es) x h = go (same_id x.id e.0) refl h (row-booking room es x)
   where
-    go : (c : Bool) → same_id x.id e.0 ≡ c → Has x (booked_at x.id (if_of room (cond c (Some e.1) (row_at es x.id)))) → (Has x (booked_at x.id (if_of room (row_at es x.id))) → Has x (bookings_of room es)) → Has x (booking_in room e ++ bookings_of room es)
-    go true k g rest = has_left x (booking_in room e) (bookings_of room es) (subst (λ bs. Has x bs) (sym (entry_at room e)) (subst (λ i. Has x (booked_at i (if_of room (Some e.1)))) (same_id-true x.id e.0 k) g))
-    go false k g rest = has_right x (booking_in room e) (bookings_of room es) (rest g)
+    go : (c : Bool) → same_id x.id e.0 ≡ c → Has x (booked_at x.id (if_of room (cond c (Some e.1) (row_at es x.id)))) → (Has x (booked_at x.id (if_of room (row_at es x.id))) → Has x (bookings_of room es)) → Has x (bookings_of_entry room e ++ bookings_of room es)
+    go true k g rest = has_left x (bookings_of_entry room e) (bookings_of room es) (subst (λ bs. Has x bs) (sym (entry_at room e)) (subst (λ i. Has x (booked_at i (if_of room (Some e.1)))) (same_id-true x.id e.0 k) g))
+    go false k g rest = has_right x (bookings_of_entry room e) (bookings_of room es) (rest g)
 
 -- ---- what a cancel finds: its target is among the bookings where its row is one of the room's that stand
 
@@ -150,7 +116,7 @@ here_booking room i (Some row) x h = go row.kept (bytes_eq row.room room) h
 
 pub booked-row : (room : Text) (b : Rows) (i : Id) → IsInOrder b → is_booked i (bookings_of room b) ≡ is_row (is_booking_of room) (row_at b i)
 booked-row room b i ordered =
-    same_from_true (is_booked i (bookings_of room b)) (is_row (is_booking_of room) (row_at b i))
+    bool_same (is_booked i (bookings_of room b)) (is_row (is_booking_of room) (row_at b i))
     (λ e.
     let (x, h, is) = booked_has i (bookings_of room b) e in
     here_booking room i (row_at b i) x (subst (λ k. Has x (booked_at k (if_of room (row_at b k)))) is (booking-row room b x ordered h)))
@@ -181,9 +147,9 @@ same_members room ws b ordered distinct has x = (
 )
 
 -- so a write of the room goes to the place that the room's replay gives it
-pub place_by_bookings : (room : Text) (ws : List Write) (b : Rows) (w : Write) → w.room ≡ room → IsInOrder b → HaveDistinctIds ws → HasBookings room ws b → place_on b w ≡ place_among (after [] ws) w
+pub place_by_bookings : (room : Text) (ws : List Write) (b : Rows) (w : Write) → w.room ≡ room → IsInOrder b → HaveDistinctIds ws → HasBookings room ws b → place_by_rows b w ≡ place_among (after [] ws) w
 place_by_bookings room ws b w is ordered distinct has =
     ap (λ r. place_among (bookings_of r b) w) is ∙ place_alike (bookings_of room b) (after [] ws) (same_members room ws b ordered distinct has) w.action
 
-pub same_place : (room : Text) (ws : List Write) (b : Rows) (w : Write) → w.room ≡ room → IsInOrder b → HaveDistinctIds ws → HoldsIn room ws b → place_on b w ≡ place_among (after [] ws) w
+pub same_place : (room : Text) (ws : List Write) (b : Rows) (w : Write) → w.room ≡ room → IsInOrder b → HaveDistinctIds ws → HoldsIn room ws b → place_by_rows b w ≡ place_among (after [] ws) w
 same_place room ws b w is ordered distinct holds = place_by_bookings room ws b w is ordered distinct (λ i. ap if_taken (holds i))

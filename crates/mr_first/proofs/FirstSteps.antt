@@ -6,7 +6,7 @@ use Rattle.sqlite_rules.specs.Edit.{IsNoIndex}
 use Rattle.sqlite.specs.State.{State, HasCleanDisk, KeepsCommit, Survives}
 use Rattle.mr_model.specs.Texts.{Text}
 use Rattle.mr_model.specs.Tables.{MetaRow, VectorRow, BookingRow, ErrorRow}
-use Rattle.mr_model.specs.First.{WriteRow, UndoRow, FirstTables}
+use Rattle.mr_model.specs.First.{WriteRow, FirstUndoRow, FirstTables}
 use Rattle.mr_rows.specs.Schema.{first_schema}
 use Rattle.mr_rows.specs.Form.{Form, room_form, vector_form, booking_form, error_form}
 use Rattle.mr_rows.specs.Database.{IsHeld, first_meta, in_order}
@@ -106,7 +106,7 @@ write_step old new xs first turns =
     let was = first.held in
     step_of write_form old new xs _ turns (record { meta = was.meta; room = was.room; vector = was.vector; write_log = turns.held; undo = was.undo; booking = was.booking; errorlog = was.errorlog }) (ap (λ ys. record (first_in old.now.trees) { write_log = ys }) turns.rows_are)
 
-pub undo_step : (old new : State) (xs : List UndoRow) → IsFirst old.now → Turns first_schema undo_form old new xs → IsFirstStep old new (record (first_in old.now.trees) { undo = xs })
+pub undo_step : (old new : State) (xs : List FirstUndoRow) → IsFirst old.now → Turns first_schema undo_form old new xs → IsFirstStep old new (record (first_in old.now.trees) { undo = xs })
 unfolding first_in
 undo_step old new xs first turns =
     let was = first.held in

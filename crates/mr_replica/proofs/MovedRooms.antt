@@ -25,13 +25,13 @@ use Rattle.mr_model.proofs.KnownById.{one_known, tentative_known}
 use Rattle.mr_model.proofs.Members.{has_left, has_right, has_split, has_filter, filter_has, has_map, map_has, all_has, not_among, find_one, has_any, same_id-true, same_id_refl}
 use Rattle.mr_replay.specs.declared.rows.Row.{Row}
 use Rattle.mr_replay.specs.Places.{UndoRow}
-use Rattle.mr_replay.specs.Rows.{Rows, place_on, target_of, executed, undone_all, executed_all, undo_rows_of}
+use Rattle.mr_replay.specs.Rows.{Rows, place_by_rows, target_of, executed, undone_all, executed_all, undo_rows_of}
 use Rattle.mr_replay.proofs.Entries.{IsInOrder}
 use Rattle.mr_replay.proofs.Lists.{one_name, same_name, other_name}
 use Rattle.mr_replay.proofs.OneRoom.{PartHas, in_order-executed, in_order-undone}
 use Rattle.mr_replica.specs.declared.room_moves.RoomMove.{RoomMove}
 use Rattle.mr_replica.specs.Logged.{undo_with}
-use Rattle.mr_replica.specs.RoomMoves.{RoomMoves, move_at, undone_in, again_in, undone_at, again_at, board_after, rows_after, row_at}
+use Rattle.mr_replica.specs.RoomMoves.{MovesOfRooms, move_at, undone_in, again_in, undone_at, again_at, board_after_moves, rows_after, first_undo_row}
 use Rattle.mr_replica.proofs.BatchBoards.{moving, undo_rows_are}
 use Rattle.mr_replica.proofs.KeptWrites.{place_of_entry}
 use Rattle.mr_replica.proofs.Replays.{IsView, StandLast, rows-undone, rows-executed, beside-undone, beside-executed}
@@ -118,7 +118,7 @@ module _ (a b : Replica) (items : List Item) (m : BatchMoves a b items) (sound :
   rows_of k = map (undo_with (place_of a)) (of_room k gone)
 
   -- the moves are those of the batch, each in its room
-  pub record IsGrouped (moves : RoomMoves) : Type 0 where
+  pub record IsGrouped (moves : MovesOfRooms) : Type 0 where
     pub undone : (name : Text) → undone_at moves name ≡ rows_of name
     pub again : (name : Text) → again_at moves name ≡ of_room name anew
     pub ordered : IsOrdered (slice_cmp nat_cmp) moves
@@ -203,7 +203,7 @@ module _ (a b : Replica) (items : List Item) (m : BatchMoves a b items) (sound :
     still-executed : (t : Text) (list : List Write) (vs : List Write) (c : Rows) → IsInOrder c → ((w : Write) → Has w vs → (is_among (id_of w) (map id_of list) ≡ false) × (bytes_eq w.room t ≡ false)) → PartHas (see t) given list c → PartHas (see t) given list (executed_all c vs)
     still-executed t list [] c ordered new has = has
     still-executed t list (w ∷ vs) c ordered new has =
-        still-executed t list vs (executed c w) (in_order-executed c w (place_on c w) ordered) (λ u h. new u (inr h))
+        still-executed t list vs (executed c w) (in_order-executed c w (place_by_rows c w) ordered) (λ u h. new u (inr h))
         (beside-executed see given v t list c w (new w (inl refl)).1 ordered (new w (inl refl)).0 has)
 
     -- ---- one room
@@ -245,8 +245,8 @@ module _ (a b : Replica) (items : List Item) (m : BatchMoves a b items) (sound :
     -- ---- all rooms
 
     pub record ShowsAll (es : List (Text × RoomMove)) (c : Rows) : Type 0 where
-      pub has : (t : Text) → mine t ≡ true → PartHas (see t) given (now t) (board_after es c)
-      pub ordered : IsInOrder (board_after es c)
+      pub has : (t : Text) → mine t ≡ true → PartHas (see t) given (now t) (board_after_moves es c)
+      pub ordered : IsInOrder (board_after_moves es c)
       pub rows : rows_after es c ≡ map (undo_with (place_of b)) (anew_of es)
 
     abbrev HasLeft : List (Text × RoomMove) → Rows → Type 0
@@ -295,14 +295,14 @@ module _ (a b : Replica) (items : List Item) (m : BatchMoves a b items) (sound :
         let here : undo_rows_of (undone_all c e.1.undone.items) e.1.again.items ≡ map (undo_with (place_of b)) e.1.again.items = (λ i. undo_rows_of (undone_all c (mv.0 i)) (mv.1 i)) ∙ one.0 ∙ ap (map (undo_with (place_of b))) (sym mv.1) in
         let rest = all_done es (done_of e.0 c) (sorted_tail (slice_cmp nat_cmp) e.0 (keys_of es) sorted) (λ x h. moves x (inr h)) one.1 one.2 in
         record {
-          has = λ t looked. subst (λ (d : Rows). PartHas (see t) given (now t) (board_after es d)) (sym same) (rest.has t looked);
-          ordered = subst (λ (d : Rows). IsInOrder (board_after es d)) (sym same) rest.ordered;
+          has = λ t looked. subst (λ (d : Rows). PartHas (see t) given (now t) (board_after_moves es d)) (sym same) (rest.has t looked);
+          ordered = subst (λ (d : Rows). IsInOrder (board_after_moves es d)) (sym same) rest.ordered;
           rows = (λ i. here i ++ rows_after es (same i)) ∙ ap (λ us. map (undo_with (place_of b)) e.1.again.items ++ us) rest.rows ∙ sym (map-append (undo_with (place_of b)) e.1.again.items (anew_of es));
         }
 
     -- ---- moves by their rooms
 
-    module _ (moves : RoomMoves) (grouped : IsGrouped moves) where
+    module _ (moves : MovesOfRooms) (grouped : IsGrouped moves) where
       entries_move : (e : Text × RoomMove) → Has e moves.entries → HasMoves e
       entries_move e h =
           let (i, at) = place_of_entry moves.entries e h in
@@ -346,9 +346,9 @@ module _ (a b : Replica) (items : List Item) (m : BatchMoves a b items) (sound :
 
       -- each room that is looked at has what it has in the new order, and the rows are there, each under its id
       pub record ShowsApart (c : Rows) : Type 0 where
-        pub has : (t : Text) → mine t ≡ true → PartHas (see t) given (now t) (board_after moves.entries c)
-        pub ordered : IsInOrder (board_after moves.entries c)
-        pub found : (w : Write) → Has w anew → row_at (rows_after moves.entries c) (id_of w) ≡ Some (undo_with (place_of b) w)
+        pub has : (t : Text) → mine t ≡ true → PartHas (see t) given (now t) (board_after_moves moves.entries c)
+        pub ordered : IsInOrder (board_after_moves moves.entries c)
+        pub found : (w : Write) → Has w anew → first_undo_row (rows_after moves.entries c) (id_of w) ≡ Some (undo_with (place_of b) w)
 
       pub rooms_apart : (c : Rows) → IsInOrder c → ((t : Text) → mine t ≡ true → PartHas (see t) given (was t) c) → ShowsApart c
       rooms_apart c ordered has =
@@ -357,7 +357,7 @@ module _ (a b : Replica) (items : List Item) (m : BatchMoves a b items) (sound :
             has = all.has;
             ordered = all.ordered;
             found = λ w h.
-                ap (λ us. row_at us (id_of w)) all.rows
+                ap (λ us. first_undo_row us (id_of w)) all.rows
                 ∙ find_one (λ (u : UndoRow). same_id u.id (id_of w)) (undo_with (place_of b) w) (map (undo_with (place_of b)) (anew_of moves.entries)) (has_map (undo_with (place_of b)) w (anew_of moves.entries) (anew_there w h)) (same_id_refl (id_of w)) (λ u g s.
                 let (x, f, is) = map_has (undo_with (place_of b)) u (anew_of moves.entries) g in
                 let same : x ≡ w = one_known b x w m.sound (m.moved x (there_anew x f)).0 (m.moved w h).0 (ap (λ (y : UndoRow). y.id) (sym is) ∙ same_id-true u.id (id_of w) s) in

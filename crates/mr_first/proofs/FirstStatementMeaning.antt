@@ -8,7 +8,7 @@ use Rattle.sqlite.specs.Listing.{understood}
 use Rattle.sqlite.specs.Source.TheVariants.{Values}
 use Rattle.sqlite.specs.Command.TheVariants.{InsertOr, Delete, Select}
 use Rattle.mr_rows.specs.Schema.{first_schema}
-use Rattle.mr_rows.proofs.Texts.{MeansIn, MeansQueryIn, program_of, same, put_meta_text, put_meta_terms, all_meta_text, meta_columns, meta_names, put_room_text, put_room_terms, all_room_text, room_columns, room_names, put_vector_text, put_vector_terms, all_vector_text, vector_columns, vector_names, put_booking_text, put_booking_terms, all_booking_text, booking_columns, booking_names, put_error_text, put_error_terms, all_error_text, error_columns, error_names}
+use Rattle.mr_rows.proofs.StatementMeaning.{MeansIn, MeansQueryIn, program_of, same, put_meta_text, put_meta_terms, all_meta_text, meta_columns, meta_names, put_room_text, put_room_terms, all_room_text, room_columns, room_names, put_vector_text, put_vector_terms, all_vector_text, vector_columns, vector_names, put_booking_text, put_booking_terms, all_booking_text, booking_columns, booking_names, put_error_text, put_error_terms, all_error_text, error_columns, error_names}
 
 -- ---- meta
 

@@ -8,7 +8,7 @@ use Rattle.mr_model.specs.Step as model
 use Rattle.mr_model.specs.Tables.{Tables}
 use Rattle.mr_model.specs.Http.{Route, response_of}
 use Rattle.mr_service.specs.declared.commands.Command.{Command}
-use Rattle.mr_service.specs.Asked.{command_of as command_view}
+use Rattle.mr_service.specs.Asked.{command_seen as command_view}
 use Rattle.mr_web.specs.RequestAsks.{command_in}
 use Rattle.mr_web.specs.RequestSteps.{IsServable, StandsAfterOne, LeavesAfterOne}
 use Rattle.mr_web.specs.Views.{GivesView}

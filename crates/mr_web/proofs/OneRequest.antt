@@ -12,7 +12,7 @@ use Rattle.mr_http.specs.Inputs.{OfInput}
 use Rattle.mr_http.specs.declared.faults.ReadFault.{ReadFault}
 use Rattle.mr_http.specs.declared.faults.ReadFault.TheVariants as fault
 use Rattle.mr_http.proofs.Known.{of_input_map}
-use Rattle.mr_service.specs.Asked.{command_of}
+use Rattle.mr_service.specs.Asked.{command_seen}
 use Rattle.mr_service.specs.Served.{IsServed}
 use Rattle.mr_service.specs.declared.commands.Command.{Command}
 use Rattle.mr_service.proofs.ReplyHalves.{replied_by}
@@ -24,8 +24,8 @@ use Rattle.mr_web.specs.RepliesWritten.{IsAnswer, MakesReply, Responds}
 use Rattle.mr_web.specs.declared.rejections.Stop.{Stop}
 use Rattle.mr_web.specs.declared.rejections.Stop.TheVariants as why
 use Rattle.mr_web.specs.declared.replies.Answer.{Answer}
-use Rattle.mr_web.proofs.Requests.{answers_stopped, served_by, served_told}
-use Rattle.mr_web.proofs.Steps.{leaves_after, open_after, open_still, stands_after}
+use Rattle.mr_web.proofs.ServedInputs.{answers_stopped, served_by, served_told}
+use Rattle.mr_web.proofs.CommandPerRequest.{leaves_after, open_after, open_still, stands_after}
 
 -- the answer is made of the reply, unless memory ran out
 abbrev pub IsMade : Reply → Result Answer ReadFault → Type 0
@@ -34,16 +34,16 @@ IsMade reply (Err fault.Read) = ⊥
 IsMade reply (Err fault.Memory) = Unit {0}
 
 made_answers : {K : Type 0} (k : Ghosts K) (old new : K) (command : Command) (reply : Reply) (result : Result Answer ReadFault)
-    → IsServed k old new (command_of command) reply → IsMade reply result → (input : Text) → Asks input (Runs (command_of command))
+    → IsServed k old new (command_seen command) reply → IsMade reply result → (input : Text) → Asks input (Runs (command_seen command))
     → k.is_clean new → k.is_open new → (a : Replica) → Stands (k.tables old) a → AnswersTo input (k.tables old) (k.tables new) a result
 made_answers k old new command reply (Ok answer) served made input asks c o a stands =
     let s = served.step c o a stands in
     served_told input a (k.tables new) (response_of reply) answer made
-    (served_by input a s.0 (k.tables new) (command_of command) reply asks s.1 s.2)
+    (served_by input a s.0 (k.tables new) (command_seen command) reply asks s.1 s.2)
 made_answers k old new command reply (Err fault.Read) served made input asks c o a stands = absurd made
 made_answers k old new command reply (Err fault.Memory) served made input asks c o a stands =
     let s = served.step c o a stands in
-    inr (_, _, served_by input a s.0 (k.tables new) (command_of command) reply asks s.1 s.2)
+    inr (_, _, served_by input a s.0 (k.tables new) (command_seen command) reply asks s.1 s.2)
 
 made_lasts : (reply : Reply) (result : Result Answer ReadFault) (clean before after : Type 0) → IsMade reply result
     → (clean → before → IsOfMachine reply ⊎ after) → IfOk result (λ answer. clean → before → (answer.status ≡ 503) ⊎ after)
@@ -53,12 +53,12 @@ made_lasts reply (Err e) clean before after made lasts = tt
 -- ---- what is answered, whether or not a failure has shut the keeper
 
 made_answer : {K : Type 0} (k : Ghosts K) (old new : K) (command : Command) (reply : Reply) (result : Result Answer ReadFault)
-    → IsServed k old new (command_of command) reply → IsMade reply result → (input : Text) → Asks input (Runs (command_of command))
+    → IsServed k old new (command_seen command) reply → IsMade reply result → (input : Text) → Asks input (Runs (command_seen command))
     → MakesReply (IsAnswer k old new input) result
 made_answer k old new command reply (Ok answer) served made input asks =
-    let said : Responds k old new (Runs (command_of command)) (response_of reply) =
-    (reply, refl, replied_by k old new (command_of command) reply served) in
-    (Runs (command_of command), response_of reply, asks, said, made.0, made.1)
+    let said : Responds k old new (Runs (command_seen command)) (response_of reply) =
+    (reply, refl, replied_by k old new (command_seen command) reply served) in
+    (Runs (command_seen command), response_of reply, asks, said, made.0, made.1)
 made_answer k old new command reply (Err e) served made input asks = tt
 
 stopped_answer : {K : Type 0} (k : Ghosts K) (at : K) (s : Stop) (result : Result Answer ReadFault) → StopsWith s result
@@ -74,8 +74,8 @@ stopped_answer k at (why.Fault f) (Err g) tells input asks = tt
 
 -- the command that the input asks was given to the replica
 pub request_served : {K : Type 0} (k : Ghosts K) (old new : K) (command : Command) (reply : Reply) (result : Result Answer ReadFault)
-    → IsServed k old new (command_of command) reply → IsMade reply result
-    → (known : Option Text) → OfInput known (λ input. Settles input (Ok command)) → IsServable (command_of command)
+    → IsServed k old new (command_seen command) reply → IsMade reply result
+    → (known : Option Text) → OfInput known (λ input. Settles input (Ok command)) → IsServable (command_seen command)
     → IsRequest k old new known result (λ answer. answer.status) AnswersTo MakesReply
 request_served k old new command reply result served made known asks servable =
     record {
@@ -84,8 +84,8 @@ request_served k old new command reply result served made known asks servable =
       settled = served.settled;
       serves = of_input_map known _ _ (made_answers k old new command reply result served made) asks;
       answered = of_input_map known _ _ (made_answer k old new command reply result served made) asks;
-      steps = λ c o. stands_after (k.tables old) (k.tables new) (command_of command) reply servable (served.step c o);
-      crash = λ c o. leaves_after (k.may_leave old) (k.may_leave new) (k.tables old) (command_of command) servable (served.crash c o);
+      steps = λ c o. stands_after (k.tables old) (k.tables new) (command_seen command) reply servable (served.step c o);
+      crash = λ c o. leaves_after (k.may_leave old) (k.may_leave new) (k.tables old) (command_seen command) servable (served.crash c o);
       lasts = made_lasts reply result (k.is_clean new) (k.is_open old) (k.is_open new) made served.lasts;
     }
 

@@ -20,7 +20,7 @@ use Rattle.mr_model.specs.Step.{AddRoom, Submit, Cancel, Commit, Truncate, AskPo
 use Rattle.mr_model.specs.World.{Step, Add, Make, Deliver}
 use Rattle.mr_model.proofs.LinesReadBack.{words-cons}
 use Rattle.mr_model.proofs.BatchesReadBack.{only_if_some}
-use Rattle.mr.specs.Script.{is_word, words_of_slot, booking_words, all_bytes, length_word, is_byte_count, step_line, are_slot_words, is_submission, has_line, is_plain, IsScriptLine}
+use Rattle.mr.specs.RehearsalScript.{is_word, words_of_slot, booking_words, all_bytes, length_word, is_byte_count, step_line, are_slot_words, is_submission, has_line, is_plain, IsScriptLine}
 use Rattle.mr_base.specs.Readings.{number_from_to}
 use Rattle.mr_base.proofs.Decimals.{within-below}
 use Rattle.mr_words.specs.CommandTable.{◌>>=◌, server_in, part_in}

@@ -8,7 +8,7 @@ use Rattle.mr_model.specs.Board.{replay_on, board_after, places_of_room}
 use Rattle.mr_model.specs.View.{of_room}
 use Rattle.mr_replay.specs.declared.rows.Standing.TheVariants.{Booked, CancelledBy}
 use Rattle.mr_replay.specs.declared.rows.Kept.TheVariants.{OfBooking}
-use Rattle.mr_replay.specs.Rows.{Rows, row_at, place_on, executed, undo_row_of, undone, executed_all, undo_rows_of, undone_all}
+use Rattle.mr_replay.specs.Rows.{Rows, row_at, place_by_rows, executed, undo_row_of, undone, executed_all, undo_rows_of, undone_all}
 use Rattle.mr_replay.specs.Holds.{HaveDistinctIds, AreOfRoom, IsNew, HaveNoRows, AreNew, HoldsEach, Holds, undo_rows_after}
 
 -- one board at most holds these lists
@@ -43,7 +43,7 @@ UndoInReverseIsExact = (b : Rows) (ws : List Write) → AreNew b ws → undone_a
 abbrev pub CancelsMark : Type 0
 CancelsMark =
     (b : Rows) (w : Write) (target : Id) (room title : Text) (slot : Slot) (length : ℕ)
-    → IsNew b (id_of w) → w.action ≡ Cancels target → place_on b w ≡ Done
+    → IsNew b (id_of w) → w.action ≡ Cancels target → place_by_rows b w ≡ Done
     → row_at b target ≡ Some (record { room = room; kept = OfBooking slot length title Booked })
     → (row_at (executed b w) target ≡ Some (record { room = room; kept = OfBooking slot length title (CancelledBy (id_of w)) }))
     × (row_at (undone (executed b w) (undo_row_of b w)) target ≡ Some (record { room = room; kept = OfBooking slot length title Booked }))
@@ -71,7 +71,7 @@ PlacesAreOfTheBoard =
     → map (λ u. u.place) (undo_rows_of b vs) ≡ replay_on (board_after [] ws) vs
 
 -- executing a whole order and taking a room's places is replaying that room's part of it
-abbrev pub RoomsReplayApart : Type 0
-RoomsReplayApart =
+abbrev pub RoomsExecuteApart : Type 0
+RoomsExecuteApart =
     (ws : List Write) (room : Text) → HaveDistinctIds ws
     → places_of_room room ws (map (λ u. u.place) (undo_rows_of [] ws)) ≡ replay (of_room room ws)

@@ -36,7 +36,7 @@ use Rattle.mr_replica.proofs.KeptOrder.{nat_less}
 use Rattle.mr_replica.proofs.RowParts.{error_of, logged_row}
 use Rattle.mr_tables.proofs.Putting.{id_order}
 use Rattle.mr_replica.proofs.Sorting.{sorted_is, weaker, has_slice}
-use Rattle.mr_replica.proofs.SoundRows.{neighbours}
+use Rattle.mr_replica.proofs.SoundTables.{neighbours}
 
 -- ---- the errors of a replica rise by their numbers
 
