@@ -3,6 +3,7 @@
 
 use crate::offices::{Offices, Step, opened};
 use crate::opening::Opening;
+use crate::same_text::{same_count, same_text, same_texts};
 use crate::scripts::{CHAIN, COMMITTED_FIRST, EQUAL_TIMES, MADE_VOID, Row, TRUNCATED, TURNED};
 use mr_base::Refusal;
 use mr_service::refusal_text;
@@ -11,7 +12,6 @@ use mr_store::{Fault, Keeper, ListKeeper, Tripped};
 use sqlite::MemStore;
 use std::alloc::Global;
 use std::process::Abort;
-use std::test::Fail;
 
 /// The office whose keeper fails, after how many calls, and how.
 #[derive(Clone, Copy)]
@@ -44,71 +44,58 @@ fn opened_tripped<K: Opening + Drop>(
     Ok(Offices::over(alloc, first, second, third))
 }
 
-/// What is seen at offices whose keeper has failed is what is seen at the plain ones, which haven't taken the step.
-fn check_same<K: Keeper + Drop>(
-    rt: &impl Abort,
-    offices: &mut Offices<K>,
-    plain: &mut Offices<ListKeeper>,
-) -> Result<(), Fail> {
-    let seen = offices.seen()?;
-    let before = plain.seen()?;
-    assert_eq!(rt; seen.as_slice(), before.as_slice());
-    Ok(())
+/// Whether the text is that of the refusal.
+fn is_refusal(text: &Result<Vec<u8>, Refusal>, refusal: &[u8]) -> bool {
+    matches!(text, Ok(text) if text.as_slice() == refusal)
 }
 
-/// The step has its reply, or is refused so; it has its reply then once it is taken again. Answers whether it was refused.
+/// The step has its reply, or is refused so, and what is seen at the offices is what is seen at the plain ones, which haven't taken it; it has
+/// its reply then once it is taken again. Answers whether it was refused.
 fn is_refused_once<K: Keeper + Drop>(
     rt: &impl Abort,
     offices: &mut Offices<K>,
     plain: &mut Offices<ListKeeper>,
     (step, want): Row,
     refusal: &[u8],
-) -> Result<bool, Fail> {
-    let text = offices.take(step)?;
-    if text.as_slice() != refusal {
-        assert_eq!(rt; text.as_slice(), want.as_bytes(), "where {want} is wanted");
-        return Ok(false);
+) -> bool {
+    let text = offices.take(step);
+    if !is_refusal(&text, refusal) {
+        same_text(rt, &text, want);
+        return false;
     }
-    check_same(rt, offices, plain)?;
-    let again = offices.take(step)?;
-    assert_eq!(rt;
-        again.as_slice(),
-        want.as_bytes(),
-        "again, where {want} is wanted"
-    );
-    Ok(true)
+    same_texts(rt, &offices.seen(), &plain.seen());
+    same_text(rt, &offices.take(step), want);
+    true
 }
 
-/// Takes the step at the offices whose keepers don't fail.
-fn take_plain(
+/// How many steps of the script are refused. Each is taken at the offices whose keepers don't fail, too.
+fn refusals_at<K: Keeper + Drop>(
     rt: &impl Abort,
+    offices: &mut Offices<K>,
     plain: &mut Offices<ListKeeper>,
-    (step, want): (Step, &str),
-) -> Result<(), Fail> {
-    let text = plain.take(step)?;
-    assert_eq!(rt; text.as_slice(), want.as_bytes(), "where {want} is wanted");
-    Ok(())
-}
-
-/// How many steps of the script are refused: one, or none where the keeper has fewer calls.
-fn refusals<K: Opening + Drop>(
-    rt: &impl Abort,
-    alloc: Global,
     script: &[Row],
-    trip: Trip,
-) -> Result<u64, Fail> {
-    let mut offices = opened_tripped::<K>(alloc, trip)?;
-    let mut plain = opened::<ListKeeper>(alloc)?;
-    let refusal = refusal_text(alloc, &Refusal::from(trip.fault))?;
+    refusal: &[u8],
+) -> u64 {
     let mut refusals = 0u64;
     for row in script {
-        if is_refused_once(rt, &mut offices, &mut plain, *row, refusal.as_slice())? {
+        if is_refused_once(rt, offices, plain, *row, refusal) {
             refusals = refusals.saturating_add(1);
         }
-        take_plain(rt, &mut plain, *row)?;
+        same_text(rt, &plain.take(row.0), row.1);
     }
-    Ok(refusals)
+    refusals
 }
+
+/// One step of the script is refused, or none where the keeper has fewer calls.
+fn refusals<K: Opening + Drop>(rt: &impl Abort, alloc: Global, script: &[Row], trip: Trip) -> u64 {
+    let mut offices = opened_tripped::<K>(alloc, trip).expect(rt, "offices");
+    let mut plain = opened::<ListKeeper>(alloc).expect(rt, "offices");
+    let refusal = refusal_text(alloc, &Refusal::from(trip.fault)).expect(rt, "a text");
+    refusals_at(rt, &mut offices, &mut plain, script, refusal.as_slice())
+}
+
+/// More calls than a keeper has.
+const MANY: u64 = 100;
 
 /// Lets each call of an office's keeper fail in turn, until none is left to fail. Answers how many there are.
 fn calls<K: Opening + Drop>(
@@ -117,18 +104,18 @@ fn calls<K: Opening + Drop>(
     script: &[Row],
     office: u32,
     fault: Fault,
-) -> Result<u64, Fail> {
-    for left in 0..100u64 {
+) -> u64 {
+    for left in 0..MANY {
         let trip = Trip {
             office,
             left,
             fault,
         };
-        if refusals::<K>(rt, alloc, script, trip)? == 0 {
-            return Ok(left);
+        if refusals::<K>(rt, alloc, script, trip) == 0 {
+            return left;
         }
     }
-    Err("a keeper fails without end")?
+    MANY
 }
 
 /// The calls of these offices' keepers are so many.
@@ -138,12 +125,11 @@ fn check<K: Opening + Drop>(
     fault: Fault,
     script: &[Row],
     want: &[(u32, u64)],
-) -> Result<(), Fail> {
+) {
     for (office, count) in want {
-        let found = calls::<K>(rt, alloc, script, *office, fault)?;
-        assert_eq!(rt; found, *count, "at office {office}");
+        let found = calls::<K>(rt, alloc, script, *office, fault);
+        same_count(rt, found, *count, *office as usize);
     }
-    Ok(())
 }
 
 // The offices and the calls of their keepers: a question takes two, for the rooms and for rows; the outcome of a booking that was taken
@@ -162,57 +148,53 @@ const OF_MADE_VOID: [(u32, u64); 2] = [(1, 5), (2, 14)];
 
 const OF_COMMITTED_FIRST: [(u32, u64); 1] = [(1, 21)];
 
+fn check_lists(rt: &impl Abort, alloc: Global, fault: Fault) {
+    check::<ListKeeper>(rt, alloc, fault, &EQUAL_TIMES, &OF_EQUAL_TIMES);
+    check::<ListKeeper>(rt, alloc, fault, &TURNED, &OF_TURNED);
+    check::<ListKeeper>(rt, alloc, fault, &CHAIN, &OF_CHAIN);
+    check::<ListKeeper>(rt, alloc, fault, &TRUNCATED, &OF_TRUNCATED);
+    check::<ListKeeper>(rt, alloc, fault, &MADE_VOID, &OF_MADE_VOID);
+    check::<ListKeeper>(rt, alloc, fault, &COMMITTED_FIRST, &OF_COMMITTED_FIRST);
+}
+
 #[test]
-fn calls_fail_over_lists(rt: HostRuntime) -> Result<(), Fail> {
-    let alloc = rt.alloc();
-    for fault in [Fault::OutOfMemory, Fault::Store] {
-        check::<ListKeeper>(&rt, alloc, fault, &EQUAL_TIMES, &OF_EQUAL_TIMES)?;
-        check::<ListKeeper>(&rt, alloc, fault, &TURNED, &OF_TURNED)?;
-        check::<ListKeeper>(&rt, alloc, fault, &CHAIN, &OF_CHAIN)?;
-        check::<ListKeeper>(&rt, alloc, fault, &TRUNCATED, &OF_TRUNCATED)?;
-        check::<ListKeeper>(&rt, alloc, fault, &MADE_VOID, &OF_MADE_VOID)?;
-        check::<ListKeeper>(&rt, alloc, fault, &COMMITTED_FIRST, &OF_COMMITTED_FIRST)?;
-    }
-    Ok(())
+fn calls_fail_over_lists(rt: HostRuntime) {
+    check_lists(&rt, rt.alloc(), Fault::OutOfMemory);
+    check_lists(&rt, rt.alloc(), Fault::Store);
 }
 
 /// The same over a database, where each run takes longer.
-fn check_database(
-    rt: &impl Abort,
-    alloc: Global,
-    script: &[Row],
-    want: &[(u32, u64)],
-) -> Result<(), Fail> {
-    check::<SqlKeeper<MemStore>>(rt, alloc, Fault::OutOfMemory, script, want)?;
-    check::<SqlKeeper<MemStore>>(rt, alloc, Fault::Store, script, want)
+fn check_database(rt: &impl Abort, alloc: Global, script: &[Row], want: &[(u32, u64)]) {
+    check::<SqlKeeper<MemStore>>(rt, alloc, Fault::OutOfMemory, script, want);
+    check::<SqlKeeper<MemStore>>(rt, alloc, Fault::Store, script, want);
 }
 
 #[test]
-fn calls_fail_over_a_database_at_equal_times(rt: HostRuntime) -> Result<(), Fail> {
-    check_database(&rt, rt.alloc(), &EQUAL_TIMES, &OF_EQUAL_TIMES)
+fn calls_fail_over_a_database_at_equal_times(rt: HostRuntime) {
+    check_database(&rt, rt.alloc(), &EQUAL_TIMES, &OF_EQUAL_TIMES);
 }
 
 #[test]
-fn calls_fail_over_a_database_as_commits_turn(rt: HostRuntime) -> Result<(), Fail> {
-    check_database(&rt, rt.alloc(), &TURNED, &OF_TURNED)
+fn calls_fail_over_a_database_as_commits_turn(rt: HostRuntime) {
+    check_database(&rt, rt.alloc(), &TURNED, &OF_TURNED);
 }
 
 #[test]
-fn calls_fail_over_a_database_in_a_chain(rt: HostRuntime) -> Result<(), Fail> {
-    check_database(&rt, rt.alloc(), &CHAIN, &OF_CHAIN)
+fn calls_fail_over_a_database_in_a_chain(rt: HostRuntime) {
+    check_database(&rt, rt.alloc(), &CHAIN, &OF_CHAIN);
 }
 
 #[test]
-fn calls_fail_over_a_database_with_truncation(rt: HostRuntime) -> Result<(), Fail> {
-    check_database(&rt, rt.alloc(), &TRUNCATED, &OF_TRUNCATED)
+fn calls_fail_over_a_database_with_truncation(rt: HostRuntime) {
+    check_database(&rt, rt.alloc(), &TRUNCATED, &OF_TRUNCATED);
 }
 
 #[test]
-fn calls_fail_over_a_database_as_a_cancel_is_void(rt: HostRuntime) -> Result<(), Fail> {
-    check_database(&rt, rt.alloc(), &MADE_VOID, &OF_MADE_VOID)
+fn calls_fail_over_a_database_as_a_cancel_is_void(rt: HostRuntime) {
+    check_database(&rt, rt.alloc(), &MADE_VOID, &OF_MADE_VOID);
 }
 
 #[test]
-fn calls_fail_over_a_database_as_cancels_are_committed(rt: HostRuntime) -> Result<(), Fail> {
-    check_database(&rt, rt.alloc(), &COMMITTED_FIRST, &OF_COMMITTED_FIRST)
+fn calls_fail_over_a_database_as_cancels_are_committed(rt: HostRuntime) {
+    check_database(&rt, rt.alloc(), &COMMITTED_FIRST, &OF_COMMITTED_FIRST);
 }

@@ -1,13 +1,13 @@
 // The tables of a replica as those of the first schema.
 
+use mr_base::Refusal;
 use mr_first::{First, UndoRow, WriteRow};
 use mr_store::Keeper;
 use mr_tables::{ActionCells, LogRow, Tables};
 use std::alloc::Global;
-use std::test::Fail;
 
 /// The rows of a write in `write_log` and in `undo`. A cancel has none.
-fn first_rows(row: LogRow) -> Result<(WriteRow, UndoRow), Fail> {
+fn first_rows(row: LogRow) -> Result<(WriteRow, UndoRow), Refusal> {
     let LogRow {
         server,
         n,
@@ -29,12 +29,12 @@ fn first_rows(row: LogRow) -> Result<(WriteRow, UndoRow), Fail> {
             };
             Ok((write, UndoRow { server, n, place }))
         }
-        ActionCells::OfCancel(_) => Err("the first schema has no cancels")?,
+        ActionCells::OfCancel(_) => Err(Refusal::NeedsVersion2),
     }
 }
 
 /// The rows of all of them.
-fn both_logs(alloc: Global, log: Vec<LogRow>) -> Result<(Vec<WriteRow>, Vec<UndoRow>), Fail> {
+fn both_logs(alloc: Global, log: Vec<LogRow>) -> Result<(Vec<WriteRow>, Vec<UndoRow>), Refusal> {
     let mut writes = Vec::new(alloc);
     let mut undo = Vec::new(alloc);
     for row in log {
@@ -46,7 +46,7 @@ fn both_logs(alloc: Global, log: Vec<LogRow>) -> Result<(Vec<WriteRow>, Vec<Undo
 }
 
 /// These tables, of a replica that knows no cancel.
-fn first_of(alloc: Global, tables: Tables) -> Result<First, Fail> {
+fn first_of(alloc: Global, tables: Tables) -> Result<First, Refusal> {
     let Tables {
         meta,
         room,
@@ -69,9 +69,9 @@ fn first_of(alloc: Global, tables: Tables) -> Result<First, Fail> {
 }
 
 /// Those of the replica of a keeper.
-pub(crate) fn first_tables<K: Keeper>(alloc: Global, keeper: &mut K) -> Result<First, Fail> {
+pub(crate) fn first_tables<K: Keeper>(alloc: Global, keeper: &mut K) -> Result<First, Refusal> {
     match keeper.read() {
         Ok(tables) => first_of(alloc, tables),
-        Err(_) => Err("the tables can't be read")?,
+        Err(fault) => Err(Refusal::from(fault)),
     }
 }

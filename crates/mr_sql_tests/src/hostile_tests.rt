@@ -1,15 +1,15 @@
 // Hostile batches, over lists and over a database in memory: each refusal leaves a replica as it was. The memory is ample.
 
 use crate::acts::{Act, said};
-use crate::opening::Opening;
+use crate::opening::{Opening, new_service};
 use crate::receiving_tests::TWO;
+use crate::same_text::same_text;
 use mr_service::Service;
 use mr_sql::SqlKeeper;
 use mr_store::ListKeeper;
 use sqlite::MemStore;
 use std::alloc::Global;
 use std::process::Abort;
-use std::test::Fail;
 
 /// Batches, each to a replica that knows nothing, and their refusals.
 static REFUSED: [(&str, &str); 31] = [
@@ -125,10 +125,8 @@ fn check<K: Opening + Drop>(
     service: &mut Service<K>,
     act: Act,
     want: &str,
-) -> Result<(), Fail> {
-    let text = said(alloc, service, act)?;
-    assert_eq!(rt; text.as_slice(), want.as_bytes(), "where {want} is wanted");
-    Ok(())
+) {
+    same_text(rt, &said(alloc, service, act), want);
 }
 
 /// A new replica 2 refuses the batch so, and knows nothing then.
@@ -137,33 +135,31 @@ fn check_refused<K: Opening + Drop>(
     alloc: Global,
     batch: &'static str,
     refusal: &str,
-) -> Result<(), Fail> {
-    let mut service = Service::new(alloc, K::open(alloc, 2)?);
-    check(rt, alloc, &mut service, Act::Batch(batch), refusal)?;
-    check(rt, alloc, &mut service, Act::Position, "mp2 2 1\nK 0\nE\n")?;
+) {
+    let mut service = new_service::<K>(rt, alloc, 2);
+    check(rt, alloc, &mut service, Act::Batch(batch), refusal);
+    check(rt, alloc, &mut service, Act::Position, "mp2 2 1\nK 0\nE\n");
     check(
         rt,
         alloc,
         &mut service,
         Act::Sheet,
         "refused 7 UnknownRoom\n",
-    )
+    );
 }
 
-fn check_all_refused<K: Opening + Drop>(rt: &impl Abort, alloc: Global) -> Result<(), Fail> {
+fn check_all_refused<K: Opening + Drop>(rt: &impl Abort, alloc: Global) {
     for (batch, refusal) in &REFUSED {
-        check_refused::<K>(rt, alloc, batch, refusal)?;
+        check_refused::<K>(rt, alloc, batch, refusal);
     }
-    Ok(())
 }
 
-fn check_taken<K: Opening + Drop>(rt: &impl Abort, alloc: Global) -> Result<(), Fail> {
+fn check_taken<K: Opening + Drop>(rt: &impl Abort, alloc: Global) {
     for (batch, took, sheet) in &TAKEN {
-        let mut service = Service::new(alloc, K::open(alloc, 2)?);
-        check(rt, alloc, &mut service, Act::Batch(batch), took)?;
-        check(rt, alloc, &mut service, Act::Sheet, sheet)?;
+        let mut service = new_service::<K>(rt, alloc, 2);
+        check(rt, alloc, &mut service, Act::Batch(batch), took);
+        check(rt, alloc, &mut service, Act::Sheet, sheet);
     }
-    Ok(())
 }
 
 /// How many writes stand in whole lines of the first so many bytes of the two writes.
@@ -178,27 +174,31 @@ fn writes_within(size: usize) -> &'static str {
 }
 
 /// Of a batch that is cut after any byte its whole lines are taken.
-fn check_cuts<K: Opening + Drop>(rt: &impl Abort, alloc: Global) -> Result<(), Fail> {
+fn check_cuts<K: Opening + Drop>(rt: &impl Abort, alloc: Global) {
     for size in 0..107usize {
-        let mut service = Service::new(alloc, K::open(alloc, 9)?);
-        let want = writes_within(size);
-        check(rt, alloc, &mut service, Act::Front(TWO, size), want)?;
+        let mut service = new_service::<K>(rt, alloc, 9);
+        check(
+            rt,
+            alloc,
+            &mut service,
+            Act::Front(TWO, size),
+            writes_within(size),
+        );
     }
-    Ok(())
+}
+
+fn check_all<K: Opening + Drop>(rt: &impl Abort, alloc: Global) {
+    check_all_refused::<K>(rt, alloc);
+    check_taken::<K>(rt, alloc);
+    check_cuts::<K>(rt, alloc);
 }
 
 #[test]
-fn hostile_batches_over_lists(rt: HostRuntime) -> Result<(), Fail> {
-    let alloc = rt.alloc();
-    check_all_refused::<ListKeeper>(&rt, alloc)?;
-    check_taken::<ListKeeper>(&rt, alloc)?;
-    check_cuts::<ListKeeper>(&rt, alloc)
+fn hostile_batches_over_lists(rt: HostRuntime) {
+    check_all::<ListKeeper>(&rt, rt.alloc());
 }
 
 #[test]
-fn hostile_batches_over_a_database(rt: HostRuntime) -> Result<(), Fail> {
-    let alloc = rt.alloc();
-    check_all_refused::<SqlKeeper<MemStore>>(&rt, alloc)?;
-    check_taken::<SqlKeeper<MemStore>>(&rt, alloc)?;
-    check_cuts::<SqlKeeper<MemStore>>(&rt, alloc)
+fn hostile_batches_over_a_database(rt: HostRuntime) {
+    check_all::<SqlKeeper<MemStore>>(&rt, rt.alloc());
 }

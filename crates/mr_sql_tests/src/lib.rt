@@ -22,6 +22,8 @@ mod part_tests;
 #[cfg(test)]
 mod receiving_tests;
 #[cfg(test)]
+mod same_text;
+#[cfg(test)]
 mod script_tests;
 #[cfg(test)]
 mod scripts;

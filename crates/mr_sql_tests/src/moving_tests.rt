@@ -3,9 +3,10 @@
 use crate::acts::{Act, MONDAY, said};
 use crate::firsts::first_tables;
 use crate::offices::{Offices, opened};
-use crate::opening::server;
+use crate::opening::{new_service, server};
 use crate::receiving_tests::TWO;
-use crate::scripts::{Row, TRUNCATED};
+use crate::same_text::{same_count, same_text, same_texts};
+use crate::scripts::TRUNCATED;
 use mr_base::{Refusal, ServerId};
 use mr_first::First;
 use mr_service::{Part, Service};
@@ -14,22 +15,14 @@ use mr_store::{Keeper, ListKeeper};
 use sqlite::{Connection, MemStore};
 use std::alloc::Global;
 use std::process::Abort;
-use std::test::Fail;
 
 /// What a replica is asked, and its reply.
 type Reply = (Act, &'static str);
 
-fn check<K: Keeper>(
-    rt: &impl Abort,
-    alloc: Global,
-    service: &mut Service<K>,
-    replies: &[Reply],
-) -> Result<(), Fail> {
+fn check<K: Keeper>(rt: &impl Abort, alloc: Global, service: &mut Service<K>, replies: &[Reply]) {
     for (act, want) in replies {
-        let text = said(alloc, service, *act)?;
-        assert_eq!(rt; text.as_slice(), want.as_bytes(), "where {want} is wanted");
+        same_text(rt, &said(alloc, service, *act), want);
     }
-    Ok(())
 }
 
 /// Fifty writes of elm have come with their commits and are dropped, of which the first alone was booked; and then two of oak.
@@ -118,171 +111,99 @@ fn check_alike<K: Keeper, L: Keeper>(
     alloc: Global,
     (before, after): (&mut Service<K>, &mut Service<L>),
     replies: &[Reply],
-) -> Result<(), Fail> {
-    check(rt, alloc, before, replies)?;
-    check(rt, alloc, after, replies)?;
+) {
+    check(rt, alloc, before, replies);
+    check(rt, alloc, after, replies);
     for act in [Act::Position, Act::Errors, Act::ErrorsOf("elm")] {
-        let was = said(alloc, before, act)?;
-        let is = said(alloc, after, act)?;
-        assert_eq!(rt; was.as_slice(), is.as_slice());
+        same_texts(rt, &said(alloc, before, act), &said(alloc, after, act));
     }
-    Ok(())
 }
 
 /// Replica 9 with the writes of elm and oak.
-fn with_elm(rt: &impl Abort, alloc: Global) -> Result<Service<ListKeeper>, Fail> {
-    let keeper = ListKeeper::new(alloc, server(9)?, server(1)?);
-    let mut service = Service::new(alloc, keeper);
-    check(rt, alloc, &mut service, &OF_ELM)?;
-    Ok(service)
+fn with_elm(rt: &impl Abort, alloc: Global) -> Service<ListKeeper> {
+    let mut service = new_service::<ListKeeper>(rt, alloc, 9);
+    check(rt, alloc, &mut service, &OF_ELM);
+    service
 }
 
 /// Replica 2 as the script of truncation leaves it.
-fn truncated(rt: &impl Abort, alloc: Global) -> Result<Service<ListKeeper>, Fail> {
-    let mut offices = opened::<ListKeeper>(alloc)?;
-    take_all(rt, &mut offices, &TRUNCATED)?;
-    let Offices { second, .. } = offices;
-    Ok(second)
-}
-
-fn take_all(
-    rt: &impl Abort,
-    offices: &mut Offices<ListKeeper>,
-    script: &[Row],
-) -> Result<(), Fail> {
-    for (step, want) in script {
-        let text = offices.take(*step)?;
-        assert_eq!(rt; text.as_slice(), want.as_bytes(), "where {want} is wanted");
+fn truncated(rt: &impl Abort, alloc: Global) -> Service<ListKeeper> {
+    let mut offices = opened::<ListKeeper>(alloc).expect(rt, "offices");
+    for (step, want) in &TRUNCATED {
+        same_text(rt, &offices.take(*step), want);
     }
-    Ok(())
+    let Offices { second, .. } = offices;
+    second
 }
 
 /// The replica's tables, as those of the first schema, and the replica.
 fn split(
+    rt: &impl Abort,
     alloc: Global,
     service: Service<ListKeeper>,
-) -> Result<(First, Service<ListKeeper>), Fail> {
+) -> (First, Service<ListKeeper>) {
     let mut keeper = service.into_keeper();
-    let tables = first_tables(alloc, &mut keeper)?;
-    Ok((tables, Service::new(alloc, keeper)))
+    let tables = first_tables(alloc, &mut keeper).expect(rt, "tables");
+    (tables, Service::new(alloc, keeper))
+}
+
+/// The replica is told so, and once it is moved up it is told alike, and goes on so.
+fn check_moved(
+    rt: &impl Abort,
+    alloc: Global,
+    service: Service<ListKeeper>,
+    replies: &[Reply],
+    then: &[Reply],
+) {
+    let (tables, mut before) = split(rt, alloc, service);
+    let mut after = raised(alloc, &tables).expect(rt, "a moved replica");
+    check_alike::<ListKeeper, SqlKeeper<MemStore>>(rt, alloc, (&mut before, &mut after), replies);
+    check::<SqlKeeper<MemStore>>(rt, alloc, &mut after, then);
 }
 
 #[test]
-fn dropped_writes_keep_their_rows(rt: HostRuntime) -> Result<(), Fail> {
-    let alloc = rt.alloc();
-    let (tables, mut before) = split(alloc, with_elm(&rt, alloc)?)?;
-    let mut after = raised(alloc, &tables)?;
-    check_alike::<ListKeeper, SqlKeeper<MemStore>>(
-        &rt,
-        alloc,
-        (&mut before, &mut after),
-        &SEEN_OF_ELM,
-    )
+fn dropped_writes_keep_their_rows(rt: HostRuntime) {
+    let before = with_elm(&rt, rt.alloc());
+    check_moved(&rt, rt.alloc(), before, &SEEN_OF_ELM, &[]);
 }
 
 #[test]
-fn a_moved_replica_cancels(rt: HostRuntime) -> Result<(), Fail> {
-    let alloc = rt.alloc();
-    let (tables, mut before) = split(alloc, truncated(&rt, alloc)?)?;
-    let mut after = raised(alloc, &tables)?;
-    check_alike::<ListKeeper, SqlKeeper<MemStore>>(
+fn a_moved_replica_cancels(rt: HostRuntime) {
+    let before = truncated(&rt, rt.alloc());
+    check_moved(
         &rt,
-        alloc,
-        (&mut before, &mut after),
+        rt.alloc(),
+        before,
         &SEEN_OF_TRUNCATED,
-    )?;
-    check::<SqlKeeper<MemStore>>(&rt, alloc, &mut after, &AFTER_TRUNCATED)
+        &AFTER_TRUNCATED,
+    );
+}
+
+fn first_connection_of(alloc: Global, tables: &First) -> Result<Connection<MemStore>, Refusal> {
+    Ok(FirstKeeper::from_tables(alloc, tables)?.release())
 }
 
 /// A connection to tables of the first schema, those of replica 2 with two dropped writes.
-fn first_connection(rt: &impl Abort, alloc: Global) -> Result<Connection<MemStore>, Fail> {
-    let (tables, _) = split(alloc, truncated(rt, alloc)?)?;
-    Ok(FirstKeeper::from_tables(alloc, &tables)?.release())
+fn first_connection(rt: &impl Abort, alloc: Global) -> Connection<MemStore> {
+    let (tables, _) = split(rt, alloc, truncated(rt, alloc));
+    first_connection_of(alloc, &tables).expect(rt, "a connection")
 }
 
 /// The number of the refusal, 0 for none, and the connection.
 fn adopt(
     alloc: Global,
     conn: Connection<MemStore>,
-    of: u32,
-    primary: u32,
+    of: ServerId,
+    primary: ServerId,
 ) -> Result<(u32, Connection<MemStore>), Refusal> {
-    match SqlKeeper::adopt(alloc, conn, server(of)?, server(primary)?) {
+    match SqlKeeper::adopt(alloc, conn, of, primary) {
         Ok(keeper) => Ok((0, keeper.release())),
         Err((refusal, GivenBack::Connection(conn))) => Ok((refusal.number(), conn)),
         Err((refusal, GivenBack::Store(_))) => Err(refusal),
     }
 }
 
-/// The number of the schema, and how many tables there are.
-fn schema(conn: &mut Connection<MemStore>) -> Result<(u32, u32), Fail> {
-    let number = conn.query_row("SELECT schema FROM meta", &[])?.get(0)?;
-    let tables = conn
-        .query_row(
-            "SELECT count(*) FROM sqlite_schema WHERE type = 'table'",
-            &[],
-        )?
-        .get(0)?;
-    Ok((number, tables))
-}
-
-#[test]
-fn others_find_the_first_tables_as_they_were(rt: HostRuntime) -> Result<(), Fail> {
-    let alloc = rt.alloc();
-    let conn = first_connection(&rt, alloc)?;
-    let (other_primary, conn) = adopt(alloc, conn, 2, 3)?;
-    assert_eq!(rt; other_primary, 26);
-    let (other_server, mut conn) = adopt(alloc, conn, 1, 1)?;
-    assert_eq!(rt; other_server, 26);
-    let found = schema(&mut conn)?;
-    assert!(rt; found == (1, 7));
-    let (refusal, mut conn) = adopt(alloc, conn, 2, 1)?;
-    assert_eq!(rt; refusal, 0);
-    let found = schema(&mut conn)?;
-    assert!(rt; found == (2, 10));
-    Ok(())
-}
-
-/// With this number of the schema the tables are refused so.
-fn check_number(
-    rt: &impl Abort,
-    alloc: Global,
-    conn: Connection<MemStore>,
-    update: &str,
-) -> Result<Connection<MemStore>, Fail> {
-    let mut conn = conn;
-    conn.execute(update, &[])?;
-    let (refusal, conn) = adopt(alloc, conn, 2, 1)?;
-    assert_eq!(rt; refusal, 26, "at {update}");
-    Ok(conn)
-}
-
-#[test]
-fn other_schemas_are_no_replicas(rt: HostRuntime) -> Result<(), Fail> {
-    let alloc = rt.alloc();
-    let mut conn = first_connection(&rt, alloc)?;
-    for update in [
-        "UPDATE meta SET schema = 2",
-        "UPDATE meta SET schema = 0",
-        "UPDATE meta SET schema = -1",
-        "UPDATE meta SET schema = 4294967297",
-    ] {
-        conn = check_number(&rt, alloc, conn, update)?;
-    }
-    conn.execute("UPDATE meta SET schema = 1", &[])?;
-    let (refusal, mut conn) = adopt(alloc, conn, 2, 1)?;
-    assert_eq!(rt; refusal, 0);
-    for update in [
-        "UPDATE meta SET schema = 1",
-        "UPDATE meta SET schema = 3",
-        "UPDATE meta SET schema = -2",
-    ] {
-        conn = check_number(&rt, alloc, conn, update)?;
-    }
-    Ok(())
-}
-
-/// The number of the refusal, 0 for none, and the connection.
+/// The same where tables of the first schema alone are taken, and as they are.
 fn resume(
     alloc: Global,
     conn: Connection<MemStore>,
@@ -294,21 +215,140 @@ fn resume(
     }
 }
 
+/// The number in the one column of the one row that this shows.
+fn number(conn: &mut Connection<MemStore>, query: &str) -> Option<u32> {
+    conn.query_row(query, &[]).ok()?.get(0).ok()
+}
+
+/// The number of the schema, and how many tables there are.
+fn schema(conn: &mut Connection<MemStore>) -> Option<(u32, u32)> {
+    let schema = number(conn, "SELECT schema FROM meta")?;
+    let tables = number(
+        conn,
+        "SELECT count(*) FROM sqlite_schema WHERE type = 'table'",
+    )?;
+    Some((schema, tables))
+}
+
+/// What is done with a connection.
+#[derive(Clone, Copy)]
+enum Trial {
+    /// The replica of this server and primary is adopted; the number of its refusal, 0 for none.
+    Adopt(u32, u32, u32),
+    /// It is resumed; the number of its refusal, 0 for none.
+    Resume(u32),
+    /// A row is changed.
+    Execute(&'static str),
+    /// The number of the schema, and how many tables there are.
+    Schema(u32, u32),
+}
+
+/// Adopts replica so, and answers whether it is refused so.
+fn adopted(
+    alloc: Global,
+    conn: Connection<MemStore>,
+    (of, primary): (ServerId, ServerId),
+    number: u32,
+) -> Result<(bool, Connection<MemStore>), Refusal> {
+    let (refusal, conn) = adopt(alloc, conn, of, primary)?;
+    Ok((refusal == number, conn))
+}
+
+fn resumed(
+    alloc: Global,
+    conn: Connection<MemStore>,
+    number: u32,
+) -> Result<(bool, Connection<MemStore>), Refusal> {
+    let (refusal, conn) = resume(alloc, conn)?;
+    Ok((refusal == number, conn))
+}
+
+/// Does what the trial says; whether it comes to what the trial says, and the connection.
+fn tried(
+    rt: &impl Abort,
+    alloc: Global,
+    conn: Connection<MemStore>,
+    trial: Trial,
+) -> Result<(bool, Connection<MemStore>), Refusal> {
+    match trial {
+        Trial::Adopt(of, primary, number) => {
+            let of = server(of).expect(rt, "a server");
+            let primary = server(primary).expect(rt, "a server");
+            adopted(alloc, conn, (of, primary), number)
+        }
+        Trial::Resume(number) => resumed(alloc, conn, number),
+        Trial::Execute(statement) => {
+            let mut conn = conn;
+            let is_done = conn.execute(statement, &[]).is_ok();
+            Ok((is_done, conn))
+        }
+        Trial::Schema(number, tables) => {
+            let mut conn = conn;
+            let is_so = schema(&mut conn) == Some((number, tables));
+            Ok((is_so, conn))
+        }
+    }
+}
+
+/// Each of the trials comes to what it says, on tables of the first schema.
+fn check_trials(rt: &impl Abort, alloc: Global, trials: &[Trial]) {
+    let mut conn = first_connection(rt, alloc);
+    for (index, trial) in trials.iter().enumerate() {
+        let (is_so, left) = tried(rt, alloc, conn, *trial).expect(rt, "a connection");
+        same_count(rt, is_so as u64, 1, index);
+        conn = left;
+    }
+}
+
+static OF_OTHERS: [Trial; 5] = [
+    Trial::Adopt(2, 3, 26),
+    Trial::Adopt(1, 1, 26),
+    Trial::Schema(1, 7),
+    Trial::Adopt(2, 1, 0),
+    Trial::Schema(2, 10),
+];
+
 #[test]
-fn the_first_schema_alone_is_resumed_as_it_is(rt: HostRuntime) -> Result<(), Fail> {
-    let alloc = rt.alloc();
-    let conn = first_connection(&rt, alloc)?;
-    let (refusal, mut conn) = resume(alloc, conn)?;
-    assert_eq!(rt; refusal, 0);
-    let found = schema(&mut conn)?;
-    assert!(rt; found == (1, 7));
-    let (refusal, conn) = adopt(alloc, conn, 2, 1)?;
-    assert_eq!(rt; refusal, 0);
-    let (refusal, mut conn) = resume(alloc, conn)?;
-    assert_eq!(rt; refusal, 26);
-    let found = schema(&mut conn)?;
-    assert!(rt; found == (2, 10));
-    Ok(())
+fn others_find_the_first_tables_as_they_were(rt: HostRuntime) {
+    check_trials(&rt, rt.alloc(), &OF_OTHERS);
+}
+
+/// Numbers of the schema that are none of the tables'.
+static OF_OTHER_SCHEMAS: [Trial; 16] = [
+    Trial::Execute("UPDATE meta SET schema = 2"),
+    Trial::Adopt(2, 1, 26),
+    Trial::Execute("UPDATE meta SET schema = 0"),
+    Trial::Adopt(2, 1, 26),
+    Trial::Execute("UPDATE meta SET schema = -1"),
+    Trial::Adopt(2, 1, 26),
+    Trial::Execute("UPDATE meta SET schema = 4294967297"),
+    Trial::Adopt(2, 1, 26),
+    Trial::Execute("UPDATE meta SET schema = 1"),
+    Trial::Adopt(2, 1, 0),
+    Trial::Execute("UPDATE meta SET schema = 1"),
+    Trial::Adopt(2, 1, 26),
+    Trial::Execute("UPDATE meta SET schema = 3"),
+    Trial::Adopt(2, 1, 26),
+    Trial::Execute("UPDATE meta SET schema = -2"),
+    Trial::Adopt(2, 1, 26),
+];
+
+#[test]
+fn other_schemas_are_no_replicas(rt: HostRuntime) {
+    check_trials(&rt, rt.alloc(), &OF_OTHER_SCHEMAS);
+}
+
+static RESUMED: [Trial; 5] = [
+    Trial::Resume(0),
+    Trial::Schema(1, 7),
+    Trial::Adopt(2, 1, 0),
+    Trial::Resume(26),
+    Trial::Schema(2, 10),
+];
+
+#[test]
+fn the_first_schema_alone_is_resumed_as_it_is(rt: HostRuntime) {
+    check_trials(&rt, rt.alloc(), &RESUMED);
 }
 
 /// The number of the refusal of these tables, 0 for none.
@@ -319,25 +359,18 @@ fn refusal_of(alloc: Global, tables: &First) -> u32 {
     }
 }
 
+/// The refusals of whole tables, of tables with a write without a place, and of tables with a key that is there twice.
+fn refusals(alloc: Global, tables: &mut First) -> Option<(u32, u32, u32)> {
+    let whole = refusal_of(alloc, tables);
+    let place = tables.undo.pop()?;
+    let without_place = refusal_of(alloc, tables);
+    tables.undo.push(place).ok()?;
+    tables.undo.push(place).ok()?;
+    Some((whole, without_place, refusal_of(alloc, tables)))
+}
+
 #[test]
-fn broken_first_tables_are_refused(rt: HostRuntime) -> Result<(), Fail> {
-    let alloc = rt.alloc();
-    let (mut tables, _) = split(alloc, with_elm(&rt, alloc)?)?;
-    assert_eq!(rt; refusal_of(alloc, &tables), 0);
-    let place = tables.undo.pop();
-    assert_eq!(rt;
-        refusal_of(alloc, &tables),
-        25,
-        "of a write without a place"
-    );
-    if let Some(place) = place {
-        tables.undo.push(place)?;
-        tables.undo.push(place)?;
-    }
-    assert_eq!(rt;
-        refusal_of(alloc, &tables),
-        25,
-        "of a key that is there twice"
-    );
-    Ok(())
+fn broken_first_tables_are_refused(rt: HostRuntime) {
+    let (mut tables, _) = split(&rt, rt.alloc(), with_elm(&rt, rt.alloc()));
+    assert!(rt; refusals(rt.alloc(), &mut tables) == Some((0, 25, 25)));
 }

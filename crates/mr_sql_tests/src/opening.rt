@@ -2,10 +2,12 @@
 
 use crate::without_desk::WithoutDesk;
 use mr_base::{Refusal, ServerId};
+use mr_service::Service;
 use mr_sql::SqlKeeper;
 use mr_store::{Keeper, ListKeeper};
 use sqlite::MemStore;
 use std::alloc::Global;
+use std::process::Abort;
 
 /// A keeper that can be opened for a replica that knows nothing yet.
 pub(crate) trait Opening: Keeper {
@@ -33,4 +35,13 @@ impl Opening for SqlKeeper<MemStore> {
     fn open(alloc: Global, number: u32) -> Result<SqlKeeper<MemStore>, Refusal> {
         SqlKeeper::open_in_memory(alloc, server(number)?, server(1)?)
     }
+}
+
+/// The replica of this server over a new keeper.
+pub(crate) fn new_service<K: Opening + Drop>(
+    rt: &impl Abort,
+    alloc: Global,
+    server: u32,
+) -> Service<K> {
+    Service::new(alloc, K::open(alloc, server).expect(rt, "a keeper"))
 }

@@ -2,8 +2,9 @@
 // one slot, of which one is booked, and two writes of oak, which are booked. The memory is ample.
 
 use crate::acts::{Act, said};
-use crate::opening::{Opening, server};
+use crate::opening::{Opening, new_service, server};
 use crate::receiving_tests::TWO;
+use crate::same_text::{same_count, same_text};
 use mr_base::{Refusal, RoomName, WriteId};
 use mr_part::Scope;
 use mr_service::Service;
@@ -13,7 +14,6 @@ use mr_wire::read_batch;
 use sqlite::MemStore;
 use std::alloc::Global;
 use std::process::Abort;
-use std::test::Fail;
 
 /// A write of oak, behind the others.
 const GAMMA: &str = "mr1 2 1\nW 2 2 2 oak 30 1995-12-18 17:00 0 Gamma\nE\n";
@@ -151,49 +151,61 @@ fn all_rows<K: Keeper>(keeper: &mut K) -> Result<[usize; 4], Refusal> {
     }
 }
 
-/// The keeper of a replica 9 that was asked this, with these replies.
-fn filled<K: Opening + Drop>(
+/// A replica 9 that was asked this, with these replies.
+fn filled<K: Opening + Drop>(rt: &impl Abort, alloc: Global, asked: &[(Act, &str)]) -> Service<K> {
+    let mut service = new_service::<K>(rt, alloc, 9);
+    for (act, want) in asked {
+        same_text(rt, &said(alloc, &mut service, *act), want);
+    }
+    service
+}
+
+fn check_parts<K: Keeper>(rt: &impl Abort, alloc: Global, keeper: &mut K, parts: &[(For, u64)]) {
+    for (index, (part, count)) in parts.iter().enumerate() {
+        let found = rows(alloc, keeper, *part).expect(rt, "a part");
+        same_count(rt, found, *count, index);
+    }
+}
+
+/// The parts of a replica that was asked this have so many rows.
+fn check_filled<K: Opening + Drop>(
     rt: &impl Abort,
     alloc: Global,
     asked: &[(Act, &str)],
-) -> Result<K, Fail> {
-    let mut service = Service::new(alloc, K::open(alloc, 9)?);
-    for (act, want) in asked {
-        let text = said(alloc, &mut service, *act)?;
-        assert_eq!(rt; text.as_slice(), want.as_bytes(), "where {want} is wanted");
-    }
-    Ok(service.into_keeper())
+    parts: &[(For, u64)],
+) {
+    let mut keeper = filled::<K>(rt, alloc, asked).into_keeper();
+    check_parts(rt, alloc, &mut keeper, parts);
 }
 
-fn check_parts<K: Keeper + Drop>(
+/// The tables of a replica that was asked this have so many rows.
+fn check_rows<K: Opening + Drop>(
     rt: &impl Abort,
     alloc: Global,
-    mut keeper: K,
-    parts: &[(For, u64)],
-) -> Result<(), Fail> {
-    for (index, (part, count)) in parts.iter().enumerate() {
-        assert_eq!(rt; rows(alloc, &mut keeper, *part)?, *count, "at {index}");
-    }
-    Ok(())
+    asked: &[(Act, &str)],
+    wanted: [usize; 4],
+) {
+    let mut keeper = filled::<K>(rt, alloc, asked).into_keeper();
+    assert!(rt; all_rows(&mut keeper) == Ok(wanted));
 }
 
-const COMMITTED: [(Act, &str); 2] = [
+static COMMITTED: [(Act, &str); 2] = [
     (Act::Elm, "took 50 writes 50 commits\n"),
     (Act::Batch(TWO), "took 2 writes 0 commits\n"),
 ];
 
-const DROPPED: [(Act, &str); 3] = [
+static DROPPED: [(Act, &str); 3] = [
     (Act::Elm, "took 50 writes 50 commits\n"),
     (Act::Truncate(50), "dropped 50\n"),
     (Act::Batch(TWO), "took 2 writes 0 commits\n"),
 ];
 
-const TENTATIVE: [(Act, &str); 2] = [
+static TENTATIVE: [(Act, &str); 2] = [
     (Act::TentativeElm, "took 50 writes 0 commits\n"),
     (Act::Batch(TWO), "took 2 writes 0 commits\n"),
 ];
 
-const CANCELLED: [(Act, &str); 5] = [
+static CANCELLED: [(Act, &str); 5] = [
     (Act::Room("oak"), "ok\n"),
     (
         Act::Book("60", "09:00", &[], "Alpha"),
@@ -204,29 +216,29 @@ const CANCELLED: [(Act, &str); 5] = [
     (Act::Cancel("9-2"), "9-4 T void 9-2\n"),
 ];
 
-fn check_all<K: Opening + Drop>(rt: &impl Abort, alloc: Global) -> Result<(), Fail> {
-    let mut committed = filled::<K>(rt, alloc, &COMMITTED)?;
-    assert_eq!(rt; all_rows(&mut committed)?, [52, 3, 49, 0]);
-    check_parts(rt, alloc, committed, &OF_COMMITTED)?;
-    let dropped = filled::<K>(rt, alloc, &DROPPED)?;
-    check_parts(rt, alloc, dropped, &OF_DROPPED)?;
-    let tentative = filled::<K>(rt, alloc, &TENTATIVE)?;
-    check_parts(rt, alloc, tentative, &OF_TENTATIVE)?;
-    let mut cancelled = filled::<K>(rt, alloc, &CANCELLED)?;
-    assert_eq!(rt; all_rows(&mut cancelled)?, [4, 0, 1, 1]);
-    check_parts(rt, alloc, cancelled, &OF_CANCELLED)?;
-    let mut service = Service::new(alloc, filled::<K>(rt, alloc, &TENTATIVE)?);
-    let text = said(alloc, &mut service, Act::Batch(FIRST))?;
-    assert_eq!(rt; text.as_slice(), b"took 0 writes 1 commits\n".as_slice());
-    Ok(())
+/// The first write of elm is committed alone.
+fn check_first_commit<K: Opening + Drop>(rt: &impl Abort, alloc: Global) {
+    let mut service = filled::<K>(rt, alloc, &TENTATIVE);
+    let text = said(alloc, &mut service, Act::Batch(FIRST));
+    same_text(rt, &text, "took 0 writes 1 commits\n");
+}
+
+fn check_all<K: Opening + Drop>(rt: &impl Abort, alloc: Global) {
+    check_rows::<K>(rt, alloc, &COMMITTED, [52, 3, 49, 0]);
+    check_filled::<K>(rt, alloc, &COMMITTED, &OF_COMMITTED);
+    check_filled::<K>(rt, alloc, &DROPPED, &OF_DROPPED);
+    check_filled::<K>(rt, alloc, &TENTATIVE, &OF_TENTATIVE);
+    check_rows::<K>(rt, alloc, &CANCELLED, [4, 0, 1, 1]);
+    check_filled::<K>(rt, alloc, &CANCELLED, &OF_CANCELLED);
+    check_first_commit::<K>(rt, alloc);
 }
 
 #[test]
-fn parts_over_lists(rt: HostRuntime) -> Result<(), Fail> {
-    check_all::<ListKeeper>(&rt, rt.alloc())
+fn parts_over_lists(rt: HostRuntime) {
+    check_all::<ListKeeper>(&rt, rt.alloc());
 }
 
 #[test]
-fn parts_over_a_database(rt: HostRuntime) -> Result<(), Fail> {
-    check_all::<SqlKeeper<MemStore>>(&rt, rt.alloc())
+fn parts_over_a_database(rt: HostRuntime) {
+    check_all::<SqlKeeper<MemStore>>(&rt, rt.alloc());
 }

@@ -2,15 +2,16 @@
 // memory. The memory is ample.
 
 use crate::acts::{Act, said};
-use crate::opening::Opening;
+use crate::opening::{Opening, new_service};
+use crate::same_text::same_text;
 use crate::without_desk::WithoutDesk;
+use mr_base::Refusal;
 use mr_service::Service;
 use mr_sql::SqlKeeper;
 use mr_store::ListKeeper;
 use sqlite::MemStore;
 use std::alloc::Global;
 use std::process::Abort;
-use std::test::Fail;
 
 /// Two tentative writes for overlapping hours, of replicas 1 and 2, in 106 bytes.
 pub(crate) const TWO: &str =
@@ -210,40 +211,39 @@ static ROWS: [(Event, &str); 67] = [
 
 /// The text of the reply; none where the replica is a new one now.
 fn reply<K: Opening + Drop>(
+    rt: &impl Abort,
     alloc: Global,
     service: &mut Service<K>,
     event: Event,
-) -> Result<Vec<u8>, Fail> {
+) -> Result<Vec<u8>, Refusal> {
     match event {
         Event::New(server) => {
-            *service = Service::new(alloc, K::open(alloc, server)?);
+            *service = new_service::<K>(rt, alloc, server);
             Ok(Vec::new(alloc))
         }
-        Event::Asked(act) => Ok(said(alloc, service, act)?),
+        Event::Asked(act) => said(alloc, service, act),
     }
 }
 
-fn check<K: Opening + Drop>(rt: &impl Abort, alloc: Global) -> Result<(), Fail> {
-    let mut service = Service::new(alloc, K::open(alloc, 9)?);
+fn check<K: Opening + Drop>(rt: &impl Abort, alloc: Global) {
+    let mut service = new_service::<K>(rt, alloc, 9);
     for (event, want) in &ROWS {
-        let text = reply(alloc, &mut service, *event)?;
-        assert_eq!(rt; text.as_slice(), want.as_bytes(), "where {want} is wanted");
+        same_text(rt, &reply(rt, alloc, &mut service, *event), want);
     }
-    Ok(())
 }
 
 #[test]
-fn batches_over_lists(rt: HostRuntime) -> Result<(), Fail> {
-    assert_eq!(rt; TWO.len(), 106);
-    check::<ListKeeper>(&rt, rt.alloc())
+fn batches_over_lists(rt: HostRuntime) {
+    assert!(rt; TWO.len() == 106);
+    check::<ListKeeper>(&rt, rt.alloc());
 }
 
 #[test]
-fn batches_need_no_desk(rt: HostRuntime) -> Result<(), Fail> {
-    check::<WithoutDesk>(&rt, rt.alloc())
+fn batches_need_no_desk(rt: HostRuntime) {
+    check::<WithoutDesk>(&rt, rt.alloc());
 }
 
 #[test]
-fn batches_over_a_database(rt: HostRuntime) -> Result<(), Fail> {
-    check::<SqlKeeper<MemStore>>(&rt, rt.alloc())
+fn batches_over_a_database(rt: HostRuntime) {
+    check::<SqlKeeper<MemStore>>(&rt, rt.alloc());
 }

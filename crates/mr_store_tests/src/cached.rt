@@ -2,20 +2,21 @@
 
 use crate::changes::{first_change, id};
 use crate::tests::{Call, OF_BOTH_CHANGES, Place, answers, check, fault_of, opening};
-use mr_base::{Refusal, RoomName};
+use mr_base::{Refusal, RoomName, WriteId};
 use mr_store::{Cached, Fault, Keeper, ListKeeper, Tripped};
+use mr_tables::Change;
 use std::alloc::Global;
 use std::process::Abort;
-use std::test::Fail;
+
+static ALL_ROWS: [Call; 1] = [Call::Read(2, 6, 1)];
 
 #[test]
-fn rows_in_memory_are_those_of_the_keeper(rt: HostRuntime) -> Result<(), Fail> {
+fn rows_in_memory_are_those_of_the_keeper(rt: HostRuntime) {
     let alloc = rt.alloc();
-    let mut both = Cached::new(alloc, opening(alloc)?);
+    let mut both = Cached::new(alloc, opening(&rt, alloc));
     check(&rt, alloc, &mut both, &OF_BOTH_CHANGES);
     let mut below = both.release();
-    check(&rt, alloc, &mut below, &[Call::Read(2, 6, 1)]);
-    Ok(())
+    check(&rt, alloc, &mut below, &ALL_ROWS);
 }
 
 /// Questions before, between and behind both changes.
@@ -49,49 +50,67 @@ fn refused<K: Keeper>(rt: &impl Abort, alloc: Global, keeper: &mut K, refusal: R
 }
 
 /// A keeper with its rows in memory over one that fails once, after so many calls.
-fn cached(alloc: Global, left: u64, fault: Fault) -> Result<Cached<Tripped<ListKeeper>>, Refusal> {
-    Ok(Cached::new(alloc, Tripped::new(opening(alloc)?, left, fault)))
+fn cached(rt: &impl Abort, alloc: Global, left: u64, fault: Fault) -> Cached<Tripped<ListKeeper>> {
+    Cached::new(alloc, Tripped::new(opening(rt, alloc), left, fault))
 }
 
 /// The one call that fails is refused, and all answers behind it are right. The keeper below is asked three times: for its rows, and to
 /// make each change.
-fn check_fault(rt: &impl Abort, alloc: Global, left: u64, fault: Fault) -> Result<(), Refusal> {
-    let mut keeper = cached(alloc, left, fault)?;
+fn check_fault(rt: &impl Abort, alloc: Global, left: u64, fault: Fault) {
+    let mut keeper = cached(rt, alloc, left, fault);
     let count = refused(rt, alloc, &mut keeper, Refusal::from(fault));
     let wanted = if left < 3 { 1 } else { 0 };
     assert_eq!(rt; count, wanted, "a fault after {left} calls");
-    Ok(())
 }
 
 #[test]
-fn after_want_of_memory_the_answers_are_right(rt: HostRuntime) -> Result<(), Fail> {
+fn after_want_of_memory_the_answers_are_right(rt: HostRuntime) {
     for left in 0..4 {
-        check_fault(&rt, rt.alloc(), left, Fault::OutOfMemory)?;
+        check_fault(&rt, rt.alloc(), left, Fault::OutOfMemory);
     }
-    Ok(())
 }
 
 #[test]
-fn after_a_failed_store_the_answers_are_right(rt: HostRuntime) -> Result<(), Fail> {
+fn after_a_failed_store_the_answers_are_right(rt: HostRuntime) {
     for left in 0..4 {
-        check_fault(&rt, rt.alloc(), left, Fault::Store)?;
+        check_fault(&rt, rt.alloc(), left, Fault::Store);
     }
-    Ok(())
+}
+
+/// The first fault of two rounds of questions.
+fn fault_of_questions<K: Keeper>(
+    keeper: &mut K,
+    oak: &RoomName,
+    request: WriteId,
+    change: &Change,
+) -> Option<Fault> {
+    for call in 0..18 {
+        let fault = fault_of(keeper, call % 9, oak, request, change);
+        if fault.is_some() {
+            return fault;
+        }
+    }
+    None
+}
+
+/// The first fault of the questions, and that of the change behind them.
+fn faults<K: Keeper>(
+    keeper: &mut K,
+    alloc: Global,
+) -> Result<(Option<Fault>, Option<Fault>), Refusal> {
+    let request = id(2, 1)?;
+    let oak = RoomName::new(alloc, "oak")?;
+    let change = first_change(alloc)?;
+    let of_questions = fault_of_questions(keeper, &oak, request, &change);
+    Ok((of_questions, fault_of(keeper, 9, &oak, request, &change)))
 }
 
 // the second call of the keeper below fails, which is the change
 #[test]
-fn questions_ask_the_keeper_once(rt: HostRuntime) -> Result<(), Fail> {
-    let alloc = rt.alloc();
-    let oak = RoomName::new(alloc, "oak")?;
-    let request = id(2, 1)?;
-    let change = first_change(alloc)?;
-    let mut keeper = cached(alloc, 1, Fault::Store)?;
-    for call in 0..18 {
-        let fault = fault_of(&mut keeper, call % 9, &oak, request, &change);
-        assert_eq!(rt; fault, None, "at question {call}");
-    }
-    let fault = fault_of(&mut keeper, 9, &oak, request, &change);
-    assert_eq!(rt; fault, Some(Fault::Store));
-    Ok(())
+fn questions_ask_the_keeper_once(rt: HostRuntime) {
+    let mut keeper = cached(&rt, rt.alloc(), 1, Fault::Store);
+    assert_eq!(rt;
+        faults(&mut keeper, rt.alloc()),
+        Ok((None, Some(Fault::Store)))
+    );
 }

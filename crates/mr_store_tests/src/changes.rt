@@ -162,25 +162,35 @@ fn cancels(alloc: Global) -> Result<Vec<CancelRow>, Refusal> {
     Ok(rows)
 }
 
-/// Six bookings of two rooms, a request that was logged, a booking that was taken back, and two cancels of it.
-pub(crate) fn first_change(alloc: Global) -> Result<Change, Refusal> {
-    let mut change = no_change(alloc, meta(0)?);
+fn put_first(alloc: Global, change: &mut Change) -> Result<(), Refusal> {
     change.room = rooms(alloc, &["oak", "elm"])?;
     change.booking = bookings(alloc, &FIRST_BOOKED)?;
     change.errorlog = logged(alloc, 3)?;
     change.cancelled = taken_back(alloc)?;
     change.cancels = cancels(alloc)?;
+    Ok(())
+}
+
+/// Six bookings of two rooms, a request that was logged, a booking that was taken back, and two cancels of it.
+pub(crate) fn first_change(alloc: Global) -> Result<Change, Refusal> {
+    let mut change = no_change(alloc, meta(0)?);
+    put_first(alloc, &mut change)?;
     Ok(change)
 }
 
-/// 2-1 loses its slot, 2-3 gets one, 1-1 is committed, and 2-6 is taken back no more.
-pub(crate) fn second_change(alloc: Global) -> Result<Change, Refusal> {
-    let mut change = no_change(alloc, meta(1)?);
+fn put_second(alloc: Global, change: &mut Change) -> Result<(), Refusal> {
     change.unbooked = ids(alloc, 1)?;
     change.booking = bookings(alloc, &THEN_BOOKED)?;
     change.unlogged = ids(alloc, 3)?;
     change.errorlog = logged(alloc, 1)?;
     change.uncancelled = ids(alloc, 6)?;
+    Ok(())
+}
+
+/// 2-1 loses its slot, 2-3 gets one, 1-1 is committed, and 2-6 is taken back no more.
+pub(crate) fn second_change(alloc: Global) -> Result<Change, Refusal> {
+    let mut change = no_change(alloc, meta(1)?);
+    put_second(alloc, &mut change)?;
     Ok(change)
 }
 

@@ -8,7 +8,6 @@ use mr_store::{Fault, Keeper, ListKeeper, PlaceRow, Tripped};
 use mr_tables::{BookingRow, CancelRow, CancelledRow, Change, ErrorRow};
 use std::alloc::Global;
 use std::process::Abort;
-use std::test::Fail;
 
 /// What became of a request in a room, or that a cancel has the id.
 #[derive(Clone, Copy, PartialEq)]
@@ -44,8 +43,10 @@ pub(crate) enum Call {
 }
 
 /// The keeper of replica 2, whose primary is 1, before it knows anything.
-pub(crate) fn opening(alloc: Global) -> Result<ListKeeper, Refusal> {
-    Ok(ListKeeper::new(alloc, server(2)?, server(1)?))
+pub(crate) fn opening(rt: &impl Abort, alloc: Global) -> ListKeeper {
+    let own = server(2).expect(rt, "a server");
+    let primary = server(1).expect(rt, "a server");
+    ListKeeper::new(alloc, own, primary)
 }
 
 /// The refusal that tells of a fault, in its place.
@@ -72,14 +73,44 @@ fn has_rooms<K: Keeper>(keeper: &mut K, names: &[&str]) -> Result<bool, Refusal>
     Ok(are_named(rooms.as_slice(), names))
 }
 
-/// Whether the rows are of these requests, in this order.
-fn are_of(rows: &[BookingRow], requests: &[(u32, u32)]) -> bool {
-    for (row, of) in rows.iter().zip(requests) {
-        if row.server.number() != of.0 || row.n != of.1 {
+/// A row of a write.
+trait OfWrite {
+    /// The server and the count of the write.
+    fn write(&self) -> (u32, u32);
+}
+
+impl OfWrite for BookingRow {
+    fn write(&self) -> (u32, u32) {
+        (self.server.number(), self.n)
+    }
+}
+
+impl OfWrite for ErrorRow {
+    fn write(&self) -> (u32, u32) {
+        (self.server.number(), self.n)
+    }
+}
+
+impl OfWrite for CancelledRow {
+    fn write(&self) -> (u32, u32) {
+        (self.server.number(), self.n)
+    }
+}
+
+impl OfWrite for CancelRow {
+    fn write(&self) -> (u32, u32) {
+        (self.server.number(), self.n)
+    }
+}
+
+/// Whether the rows are of these writes, in this order.
+fn are_of<R: OfWrite>(rows: &[R], writes: &[(u32, u32)]) -> bool {
+    for (row, of) in rows.iter().zip(writes) {
+        if row.write() != *of {
             return false;
         }
     }
-    rows.len() == requests.len()
+    rows.len() == writes.len()
 }
 
 fn has_bookings<K: Keeper>(
@@ -110,31 +141,13 @@ fn has_committed<K: Keeper>(
     Ok(are_committed(rows.as_slice(), wanted))
 }
 
-fn are_errors_of(rows: &[ErrorRow], requests: &[(u32, u32)]) -> bool {
-    for (row, of) in rows.iter().zip(requests) {
-        if row.server.number() != of.0 || row.n != of.1 {
-            return false;
-        }
-    }
-    rows.len() == requests.len()
-}
-
 fn has_errors<K: Keeper>(
     keeper: &mut K,
     room: &RoomName,
     requests: &[(u32, u32)],
 ) -> Result<bool, Refusal> {
     let rows = told(keeper.errors(room))?;
-    Ok(are_errors_of(rows.as_slice(), requests))
-}
-
-fn are_cancelled(rows: &[CancelledRow], requests: &[(u32, u32)]) -> bool {
-    for (row, of) in rows.iter().zip(requests) {
-        if row.server.number() != of.0 || row.n != of.1 {
-            return false;
-        }
-    }
-    rows.len() == requests.len()
+    Ok(are_of(rows.as_slice(), requests))
 }
 
 fn has_cancelled<K: Keeper>(
@@ -143,16 +156,7 @@ fn has_cancelled<K: Keeper>(
     requests: &[(u32, u32)],
 ) -> Result<bool, Refusal> {
     let rows = told(keeper.cancelled(room))?;
-    Ok(are_cancelled(rows.as_slice(), requests))
-}
-
-fn are_cancels(rows: &[CancelRow], ids: &[(u32, u32)]) -> bool {
-    for (row, of) in rows.iter().zip(ids) {
-        if row.server.number() != of.0 || row.n != of.1 {
-            return false;
-        }
-    }
-    rows.len() == ids.len()
+    Ok(are_of(rows.as_slice(), requests))
 }
 
 fn has_cancels<K: Keeper>(
@@ -161,7 +165,7 @@ fn has_cancels<K: Keeper>(
     ids: &[(u32, u32)],
 ) -> Result<bool, Refusal> {
     let rows = told(keeper.cancels(room))?;
-    Ok(are_cancels(rows.as_slice(), ids))
+    Ok(are_of(rows.as_slice(), ids))
 }
 
 fn place_in(row: &Option<PlaceRow>) -> Place {
@@ -253,17 +257,15 @@ static OF_NOTHING: [Call; 6] = [
 ];
 
 #[test]
-fn a_new_keeper_knows_nothing(rt: HostRuntime) -> Result<(), Fail> {
-    let mut keeper = opening(rt.alloc())?;
+fn a_new_keeper_knows_nothing(rt: HostRuntime) {
+    let mut keeper = opening(&rt, rt.alloc());
     check(&rt, rt.alloc(), &mut keeper, &OF_NOTHING);
-    Ok(())
 }
 
 #[test]
-fn a_new_keeper_has_a_desk(rt: HostRuntime) -> Result<(), Fail> {
-    let mut keeper = opening(rt.alloc())?;
-    assert!(rt; has_first_position(&mut keeper)?);
-    Ok(())
+fn a_new_keeper_has_a_desk(rt: HostRuntime) {
+    let mut keeper = opening(&rt, rt.alloc());
+    assert!(rt; has_first_position(&mut keeper) == Ok(true));
 }
 
 static OF_THE_FIRST_CHANGE: [Call; 20] = [
@@ -290,10 +292,9 @@ static OF_THE_FIRST_CHANGE: [Call; 20] = [
 ];
 
 #[test]
-fn rows_that_are_put_are_found(rt: HostRuntime) -> Result<(), Fail> {
-    let mut keeper = opening(rt.alloc())?;
+fn rows_that_are_put_are_found(rt: HostRuntime) {
+    let mut keeper = opening(&rt, rt.alloc());
     check(&rt, rt.alloc(), &mut keeper, &OF_THE_FIRST_CHANGE);
-    Ok(())
 }
 
 pub(crate) static OF_BOTH_CHANGES: [Call; 8] = [
@@ -308,39 +309,48 @@ pub(crate) static OF_BOTH_CHANGES: [Call; 8] = [
 ];
 
 #[test]
-fn rows_are_replaced_and_taken_away(rt: HostRuntime) -> Result<(), Fail> {
-    let mut keeper = opening(rt.alloc())?;
+fn rows_are_replaced_and_taken_away(rt: HostRuntime) {
+    let mut keeper = opening(&rt, rt.alloc());
     check(&rt, rt.alloc(), &mut keeper, &OF_BOTH_CHANGES);
-    Ok(())
+}
+
+/// The keeper, asked this, refuses it so.
+fn check_refused<K: Keeper>(
+    rt: &impl Abort,
+    alloc: Global,
+    keeper: &mut K,
+    call: Call,
+    refusal: Refusal,
+) {
+    assert_eq!(rt; answers(keeper, alloc, call), Err(refusal));
 }
 
 static OF_THE_ROOMS: [Call; 1] = [Call::Rooms(&["elm", "oak"])];
 
+static OF_A_CHANGE: [Call; 1] = [Call::ApplyFirst];
+
+static THEN_A_CHANGE: [Call; 3] = [
+    Call::Rooms(&[]),
+    Call::ApplyFirst,
+    Call::Rooms(&["elm", "oak"]),
+];
+
 #[test]
-fn a_trip_refuses_one_call(rt: HostRuntime) -> Result<(), Fail> {
+fn a_trip_refuses_one_call(rt: HostRuntime) {
     let alloc = rt.alloc();
-    let mut keeper = Tripped::new(opening(alloc)?, 0, Fault::OutOfMemory);
-    let answer = answers(&mut keeper, alloc, Call::ApplyFirst);
-    assert_eq!(rt; answer, Err(Refusal::OutOfMemory));
-    check(
-        &rt,
-        alloc,
-        &mut keeper,
-        &[Call::Rooms(&[]), Call::ApplyFirst],
-    );
-    check(&rt, alloc, &mut keeper, &OF_THE_ROOMS);
-    Ok(())
+    let mut keeper = Tripped::new(opening(&rt, alloc), 0, Fault::OutOfMemory);
+    let refusal = Refusal::OutOfMemory;
+    check_refused(&rt, alloc, &mut keeper, OF_A_CHANGE[0], refusal);
+    check(&rt, alloc, &mut keeper, &THEN_A_CHANGE);
 }
 
 #[test]
-fn a_trip_comes_after_its_calls(rt: HostRuntime) -> Result<(), Fail> {
+fn a_trip_comes_after_its_calls(rt: HostRuntime) {
     let alloc = rt.alloc();
-    let mut keeper = Tripped::new(opening(alloc)?, 1, Fault::Store);
-    check(&rt, alloc, &mut keeper, &[Call::ApplyFirst]);
-    let answer = answers(&mut keeper, alloc, Call::Rooms(&["elm", "oak"]));
-    assert_eq!(rt; answer, Err(Refusal::Store));
+    let mut keeper = Tripped::new(opening(&rt, alloc), 1, Fault::Store);
+    check(&rt, alloc, &mut keeper, &OF_A_CHANGE);
+    check_refused(&rt, alloc, &mut keeper, OF_THE_ROOMS[0], Refusal::Store);
     check(&rt, alloc, &mut keeper, &OF_THE_ROOMS);
-    Ok(())
 }
 
 /// The fault of one of the ten calls, where it has one.
@@ -365,20 +375,29 @@ pub(crate) fn fault_of<K: Keeper>(
     }
 }
 
+/// The faults of one of the ten calls of a keeper that fails once, at its first call, and of the same call again.
+fn faults_of(
+    rt: &impl Abort,
+    alloc: Global,
+    call: u32,
+    room: &RoomName,
+    change: &Change,
+) -> Result<(Option<Fault>, Option<Fault>), Refusal> {
+    let id = id(2, 1)?;
+    let mut keeper = Tripped::new(opening(rt, alloc), 0, Fault::Store);
+    let first = fault_of(&mut keeper, call, room, id, change);
+    Ok((first, fault_of(&mut keeper, call, room, id, change)))
+}
+
 #[test]
-fn each_call_trips_once(rt: HostRuntime) -> Result<(), Fail> {
+fn each_call_trips_once(rt: HostRuntime) {
     let alloc = rt.alloc();
-    let oak = RoomName::new(alloc, "oak")?;
-    let request = id(2, 1)?;
-    let change = first_change(alloc)?;
+    let oak = RoomName::new(alloc, "oak").expect(&rt, "a room");
+    let change = first_change(alloc).expect(&rt, "a change");
     for call in 0..10 {
-        let mut keeper = Tripped::new(opening(alloc)?, 0, Fault::Store);
-        let first = fault_of(&mut keeper, call, &oak, request, &change);
-        assert_eq!(rt; first, Some(Fault::Store), "at call {call}");
-        let second = fault_of(&mut keeper, call, &oak, request, &change);
-        assert_eq!(rt; second, None, "at call {call} again");
+        let faults = faults_of(&rt, alloc, call, &oak, &change);
+        assert_eq!(rt; faults, Ok((Some(Fault::Store), None)), "at call {call}");
     }
-    Ok(())
 }
 
 /// The fault of a part without rows of writes, where it has one.
@@ -398,15 +417,10 @@ fn faults_of_loads(
 }
 
 #[test]
-fn rows_past_their_limits_are_the_stores_fault(rt: HostRuntime) -> Result<(), Fail> {
+fn rows_past_their_limits_are_the_stores_fault(rt: HostRuntime) {
+    let both = (Some(Fault::Store), Some(Fault::Store));
     for (commits, count) in [(1_000_000_000_000, 0), (0, 1_000_000_000)] {
-        let (desk, part) = faults_of_loads(rt.alloc(), commits, count)?;
-        assert_eq!(rt; desk, Some(Fault::Store), "at {commits} and {count}");
-        assert_eq!(rt;
-            part,
-            Some(Fault::Store),
-            "of a part, at {commits} and {count}"
-        );
+        let faults = faults_of_loads(rt.alloc(), commits, count);
+        assert_eq!(rt; faults, Ok(both), "at {commits} and {count}");
     }
-    Ok(())
 }

@@ -3,9 +3,8 @@
 use crate::change::server;
 use mr::run_in_memory;
 use mr_base::Refusal;
-use mr_service::{Command, Local, SlotWords, Submission, reply_text};
+use mr_service::{Command, Local, Reply, SlotWords, Submission, reply_text};
 use std::alloc::{AllocError, Global};
-use std::test::Fail;
 
 const DAY: &str = "1995-12-18";
 
@@ -48,13 +47,22 @@ fn local(alloc: Global, place: usize) -> Result<Local, AllocError> {
     }
 }
 
-/// The texts of the replies, one after the other.
-fn replied(alloc: Global) -> Result<Vec<u8>, Refusal> {
+fn commands(alloc: Global) -> Result<Vec<Command>, Refusal> {
     let mut commands = Vec::new(alloc);
     for place in 0..6 {
         commands.push(Command::Local(local(alloc, place)?))?;
     }
-    let replies = run_in_memory(alloc, server(2)?, server(1)?, commands.as_slice())?;
+    Ok(commands)
+}
+
+fn replies(alloc: Global) -> Result<Vec<Reply>, Refusal> {
+    let commands = commands(alloc)?;
+    run_in_memory(alloc, server(2)?, server(1)?, commands.as_slice())
+}
+
+/// The texts of the replies, one after the other.
+fn replied(alloc: Global) -> Result<Vec<u8>, Refusal> {
+    let replies = replies(alloc)?;
     let mut texts = Vec::new(alloc);
     for reply in replies.as_slice() {
         texts.extend_from_slice(reply_text(alloc, reply)?.as_slice())?;
@@ -63,7 +71,7 @@ fn replied(alloc: Global) -> Result<Vec<u8>, Refusal> {
 }
 
 #[test]
-fn each_command_over_tables_in_memory_has_its_reply(rt: HostRuntime) -> Result<(), Fail> {
-    assert_eq!(rt; replied(rt.alloc())?.as_slice(), WANTED.as_bytes());
-    Ok(())
+fn each_command_over_tables_in_memory_has_its_reply(rt: HostRuntime) {
+    let replied = replied(rt.alloc()).expect(&rt, "replies");
+    assert_eq!(rt; replied.as_slice(), WANTED.as_bytes());
 }

@@ -1,41 +1,40 @@
-// What a keeper of tables in memory answers once the change by hand is made.
+// What a keeper answers once the change by hand is made. These are proved for any keeper: at one kind, a proof would take in all that is
+// said of its tables.
 
 use crate::change::{MONDAY, id};
 use mr_base::{Day, Refusal, RoomName};
-use mr_sql::SqlKeeper;
 use mr_store::{Keeper, PlaceRow};
-use sqlite::MemStore;
 use std::alloc::Global;
 
-fn has_oak(keeper: &mut SqlKeeper<MemStore>) -> bool {
+fn has_oak<K: Keeper>(keeper: &mut K) -> bool {
     match keeper.rooms() {
         Ok(rooms) => rooms.len() == 1 && rooms[0].as_str() == "oak",
         Err(_) => false,
     }
 }
 
-fn is_booked(keeper: &mut SqlKeeper<MemStore>, room: &RoomName, day: Option<Day>) -> bool {
+fn is_booked<K: Keeper>(keeper: &mut K, room: &RoomName, day: Option<Day>) -> bool {
     match keeper.bookings(room, day) {
         Ok(rows) => rows.len() == 1 && rows[0].n == 4 && rows[0].start == 540,
         Err(_) => false,
     }
 }
 
-fn is_logged(keeper: &mut SqlKeeper<MemStore>, room: &RoomName) -> bool {
+fn is_logged<K: Keeper>(keeper: &mut K, room: &RoomName) -> bool {
     match keeper.errors(room) {
         Ok(rows) => rows.len() == 1 && rows[0].n == 2 && rows[0].time == 2,
         Err(_) => false,
     }
 }
 
-fn is_cancelled(keeper: &mut SqlKeeper<MemStore>, room: &RoomName) -> bool {
+fn is_cancelled<K: Keeper>(keeper: &mut K, room: &RoomName) -> bool {
     match keeper.cancelled(room) {
         Ok(rows) => rows.len() == 1 && rows[0].n == 1 && rows[0].by.n == 3,
         Err(_) => false,
     }
 }
 
-fn has_cancels(keeper: &mut SqlKeeper<MemStore>, room: &RoomName) -> bool {
+fn has_cancels<K: Keeper>(keeper: &mut K, room: &RoomName) -> bool {
     match keeper.cancels(room) {
         Ok(rows) => rows.len() == 2 && rows[0].done != rows[1].done,
         Err(_) => false,
@@ -43,7 +42,7 @@ fn has_cancels(keeper: &mut SqlKeeper<MemStore>, room: &RoomName) -> bool {
 }
 
 /// What the row is that a write has.
-#[derive(Clone, Copy, Debug, PartialEq)]
+#[derive(Clone, Copy, PartialEq)]
 enum Kind {
     Booked,
     Logged,
@@ -53,11 +52,7 @@ enum Kind {
 }
 
 /// The row that the write of this count has, with its count; 0 where there is none.
-fn place(
-    keeper: &mut SqlKeeper<MemStore>,
-    room: &RoomName,
-    n: u32,
-) -> Result<(u32, Kind), Refusal> {
+fn place<K: Keeper>(keeper: &mut K, room: &RoomName, n: u32) -> Result<(u32, Kind), Refusal> {
     let id = id(n)?;
     match keeper.place_of(room, id) {
         Ok(Some(PlaceRow::Booked(row))) => Ok((row.n, Kind::Booked)),
@@ -68,20 +63,28 @@ fn place(
     }
 }
 
+/// The count of a write, and that of the row that it is wanted to have, with what the row is.
+static PLACES: [(u32, (u32, Kind)); 6] = [
+    (1, (1, Kind::Cancelled)),
+    (2, (2, Kind::Logged)),
+    (3, (3, Kind::Cancel)),
+    (4, (4, Kind::Booked)),
+    (5, (5, Kind::Cancel)),
+    (6, (0, Kind::Nowhere)),
+];
+
 /// Whether each write has the row that it is wanted to have.
-fn has_places(keeper: &mut SqlKeeper<MemStore>, room: &RoomName) -> Result<bool, Refusal> {
-    Ok(
-        place(keeper, room, 1)? == (1, Kind::Cancelled)
-            && place(keeper, room, 2)? == (2, Kind::Logged)
-            && place(keeper, room, 3)? == (3, Kind::Cancel)
-            && place(keeper, room, 4)? == (4, Kind::Booked)
-            && place(keeper, room, 5)? == (5, Kind::Cancel)
-            && place(keeper, room, 6)? == (0, Kind::Nowhere),
-    )
+fn has_places<K: Keeper>(keeper: &mut K, room: &RoomName) -> Result<bool, Refusal> {
+    for (n, wanted) in &PLACES {
+        if place(keeper, room, *n)? != *wanted {
+            return Ok(false);
+        }
+    }
+    Ok(true)
 }
 
 /// Whether the desk that is loaded has the position of the five writes.
-fn has_position(keeper: &mut SqlKeeper<MemStore>) -> Result<bool, Refusal> {
+fn has_position<K: Keeper>(keeper: &mut K) -> Result<bool, Refusal> {
     let Ok(desk) = keeper.load() else {
         return Err(Refusal::Store);
     };
@@ -91,7 +94,7 @@ fn has_position(keeper: &mut SqlKeeper<MemStore>) -> Result<bool, Refusal> {
 }
 
 /// Whether the keeper has the rows of the change, and no others.
-pub(crate) fn has_all(keeper: &mut SqlKeeper<MemStore>, alloc: Global) -> Result<bool, Refusal> {
+pub(crate) fn has_all<K: Keeper>(keeper: &mut K, alloc: Global) -> Result<bool, Refusal> {
     let oak = RoomName::new(alloc, "oak")?;
     let monday = Day::read(MONDAY)?;
     let tuesday = Day::read("1995-12-19")?;

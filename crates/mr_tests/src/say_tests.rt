@@ -3,9 +3,8 @@
 use mr_base::Refusal;
 use mr_say::{BAD_WORDS, DONE, FAULT, say, say_made, say_refusal, say_reply, say_text};
 use mr_service::Reply;
-use std::alloc::AllocError;
+use std::alloc::{AllocError, Global};
 use std::io::{self, ErrorKind, Write};
-use std::test::Fail;
 
 /// A writer that takes nothing.
 #[derive(Drop)]
@@ -21,40 +20,47 @@ impl Write for Full {
     }
 }
 
-#[test]
-fn lines_stand_in_their_order(rt: HostRuntime) -> Result<(), Fail> {
-    let alloc = rt.alloc();
-    let mut out = Vec::new(alloc);
-    let reply = Reply::Took {
+/// What lines of each kind answer where they are taken.
+fn said(alloc: Global, out: &mut Vec<u8>) -> [u8; 7] {
+    let made = format!(in alloc; "wrote {} bytes\n", 106);
+    let took = Reply::Took {
         writes: 2,
         commits: 1,
     };
-    assert_eq!(rt; say(&mut out, "bad address\n", BAD_WORDS), 2);
-    assert_eq!(rt; say_text(&mut out, b"fault file\n", FAULT), 3);
-    assert_eq!(rt;
-        say_made(&mut out, format!(in alloc; "wrote {} bytes\n", 106), DONE),
-        0
-    );
-    assert_eq!(rt; say_made(&mut out, Err(AllocError), DONE), 1);
-    assert_eq!(rt; say_refusal(alloc, &mut out, &Refusal::Gap(2)), 1);
-    assert_eq!(rt; say_reply(alloc, &mut out, &reply), 0);
-    assert_eq!(rt;
-        say_reply(alloc, &mut out, &Reply::Refused(Refusal::BadDay)),
-        1
-    );
-    assert_eq!(rt;
-        out.as_slice(),
-        "bad address\nfault file\nwrote 106 bytes\nrefused 24 OutOfMemory\nrefused 17 Gap 2\ntook 2 writes 1 commits\nrefused 1 BadDay\n".as_bytes()
-    );
-    Ok(())
+    [
+        say(out, "bad address\n", BAD_WORDS),
+        say_text(out, b"fault file\n", FAULT),
+        say_made(out, made, DONE),
+        say_made(out, Err(AllocError), DONE),
+        say_refusal(alloc, out, &Refusal::Gap(2)),
+        say_reply(alloc, out, &took),
+        say_reply(alloc, out, &Reply::Refused(Refusal::BadDay)),
+    ]
+}
+
+const SAID: &str =
+    "bad address\nfault file\nwrote 106 bytes\nrefused 24 OutOfMemory\nrefused 17 Gap 2\ntook 2 writes 1 commits\nrefused 1 BadDay\n";
+
+#[test]
+fn lines_stand_in_their_order(rt: HostRuntime) {
+    let mut out = Vec::new(rt.alloc());
+    let answers = said(rt.alloc(), &mut out);
+    assert_eq!(rt; answers, [2, 3, 0, 1, 1, 0, 1]);
+    assert_eq!(rt; out.as_slice(), SAID.as_bytes());
+}
+
+/// What they answer where they are not.
+fn not_taken(alloc: Global) -> [u8; 5] {
+    [
+        say(&mut Full, "ok\n", DONE),
+        say_text(&mut Full, b"ok\n", DONE),
+        say_made(&mut Full, Err(AllocError), DONE),
+        say_refusal(alloc, &mut Full, &Refusal::BadDay),
+        say_reply(alloc, &mut Full, &Reply::RoomAdded),
+    ]
 }
 
 #[test]
 fn a_line_that_is_not_taken_is_a_fault(rt: HostRuntime) {
-    let alloc = rt.alloc();
-    assert_eq!(rt; say(&mut Full, "ok\n", DONE), 3);
-    assert_eq!(rt; say_text(&mut Full, b"ok\n", DONE), 3);
-    assert_eq!(rt; say_made(&mut Full, Err(AllocError), DONE), 3);
-    assert_eq!(rt; say_refusal(alloc, &mut Full, &Refusal::BadDay), 3);
-    assert_eq!(rt; say_reply(alloc, &mut Full, &Reply::RoomAdded), 3);
+    assert_eq!(rt; not_taken(rt.alloc()), [3, 3, 3, 3, 3]);
 }
