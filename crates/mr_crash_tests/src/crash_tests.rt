@@ -163,72 +163,69 @@ fn stops_at(rt: &impl Abort, alloc: Global, place: usize) -> Result<(u64, u64), 
     Ok((of_log, of_database))
 }
 
-#[test]
-fn disks_stop_as_tables_are_made(rt: HostRuntime) -> Result<(), Fail> {
-    let (of_log, of_database) = stops_at(&rt, rt.alloc(), 0)?;
+/// Prints how often the log stopped, and how often the database did.
+fn tell(rt: &HostRuntime, stops: (u64, u64)) -> Result<(), Fail> {
+    let (of_log, of_database) = stops;
     println!(rt; "{of_log} stops of the log, {of_database} of the database")?;
     Ok(())
+}
+
+#[test]
+fn disks_stop_as_tables_are_made(rt: HostRuntime) -> Result<(), Fail> {
+    let stops = stops_at(&rt, rt.alloc(), 0)?;
+    tell(&rt, stops)
 }
 
 #[test]
 fn disks_stop_as_a_room_is_added(rt: HostRuntime) -> Result<(), Fail> {
-    let (of_log, of_database) = stops_at(&rt, rt.alloc(), 1)?;
-    println!(rt; "{of_log} stops of the log, {of_database} of the database")?;
-    Ok(())
+    let stops = stops_at(&rt, rt.alloc(), 1)?;
+    tell(&rt, stops)
 }
 
 #[test]
 fn disks_stop_as_a_meeting_is_booked(rt: HostRuntime) -> Result<(), Fail> {
-    let (of_log, of_database) = stops_at(&rt, rt.alloc(), 2)?;
-    println!(rt; "{of_log} stops of the log, {of_database} of the database")?;
-    Ok(())
+    let stops = stops_at(&rt, rt.alloc(), 2)?;
+    tell(&rt, stops)
 }
 
 #[test]
 fn disks_stop_at_a_position(rt: HostRuntime) -> Result<(), Fail> {
-    let (of_log, of_database) = stops_at(&rt, rt.alloc(), 3)?;
-    println!(rt; "{of_log} stops of the log, {of_database} of the database")?;
-    Ok(())
+    let stops = stops_at(&rt, rt.alloc(), 3)?;
+    tell(&rt, stops)
 }
 
 #[test]
 fn disks_stop_as_a_batch_is_received(rt: HostRuntime) -> Result<(), Fail> {
-    let (of_log, of_database) = stops_at(&rt, rt.alloc(), 4)?;
-    println!(rt; "{of_log} stops of the log, {of_database} of the database")?;
-    Ok(())
+    let stops = stops_at(&rt, rt.alloc(), 4)?;
+    tell(&rt, stops)
 }
 
 #[test]
 fn disks_stop_at_a_sheet(rt: HostRuntime) -> Result<(), Fail> {
-    let (of_log, of_database) = stops_at(&rt, rt.alloc(), 5)?;
-    println!(rt; "{of_log} stops of the log, {of_database} of the database")?;
-    Ok(())
+    let stops = stops_at(&rt, rt.alloc(), 5)?;
+    tell(&rt, stops)
 }
 
 #[test]
 fn disks_stop_at_a_calendar(rt: HostRuntime) -> Result<(), Fail> {
-    let (of_log, of_database) = stops_at(&rt, rt.alloc(), 6)?;
-    println!(rt; "{of_log} stops of the log, {of_database} of the database")?;
-    Ok(())
+    let stops = stops_at(&rt, rt.alloc(), 6)?;
+    tell(&rt, stops)
 }
 
 #[test]
 fn disks_stop_at_an_outcome(rt: HostRuntime) -> Result<(), Fail> {
-    let (of_log, of_database) = stops_at(&rt, rt.alloc(), 7)?;
-    println!(rt; "{of_log} stops of the log, {of_database} of the database")?;
-    Ok(())
+    let stops = stops_at(&rt, rt.alloc(), 7)?;
+    tell(&rt, stops)
 }
 
 #[test]
 fn disks_stop_at_a_cancel(rt: HostRuntime) -> Result<(), Fail> {
-    let (of_log, of_database) = stops_at(&rt, rt.alloc(), 8)?;
-    println!(rt; "{of_log} stops of the log, {of_database} of the database")?;
-    Ok(())
+    let stops = stops_at(&rt, rt.alloc(), 8)?;
+    tell(&rt, stops)
 }
 
 #[test]
 fn disks_stop_at_the_outcome_of_what_was_taken_back(rt: HostRuntime) -> Result<(), Fail> {
-    let (of_log, of_database) = stops_at(&rt, rt.alloc(), 9)?;
-    println!(rt; "{of_log} stops of the log, {of_database} of the database")?;
-    Ok(())
+    let stops = stops_at(&rt, rt.alloc(), 9)?;
+    tell(&rt, stops)
 }
