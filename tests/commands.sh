@@ -202,6 +202,10 @@ run_strange() {
     fi
     strange 'a room of another hand' 1 'refused 7 UnknownRoom' "INSERT INTO room VALUES ('elm')"
     strange 'a room with a blank' 1 'refused 25 Store' "INSERT INTO room VALUES ('Oak tree')"
+    strange 'a title of 60 bytes' 1 'refused 7 UnknownRoom' \
+        "INSERT INTO booking VALUES ('elm', '1995-12-18', 540, 600, 1, 1, '$(printf 'y%.0s' $(seq 60))', 0)"
+    strange 'a title of 61 bytes' 1 'refused 25 Store' \
+        "INSERT INTO booking VALUES ('elm', '1995-12-18', 540, 600, 1, 1, '$(printf 'y%.0s' $(seq 61))', 0)"
     strange 'the number of the first schema on these tables' 1 'refused 26 NotAReplica' 'UPDATE meta SET schema = 1'
     strange 'the number of a schema to come' 1 'refused 26 NotAReplica' 'UPDATE meta SET schema = 3'
     strange 'a second number of the one row' 1 'refused 25 Store' 'UPDATE meta SET one = 2'
