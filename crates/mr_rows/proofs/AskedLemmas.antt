@@ -101,6 +101,10 @@ module _ {R : Type 0} (cmp : R → R → Ordering) (total : IsTotalOrder cmp) wh
 
 -- ---- rows that were read, question by question
 
+-- the rows are those that they are
+pub same_rows : {R : Type 0} (xs ys : List R) → xs ≡ ys → SameRows xs ys
+same_rows xs ys is row = (subst (Has row) is, subst (Has row) (sym is))
+
 pub on_told : {X E : Type 0} (r : Result X E) (A B : Type 0) → (A → B) → OnOk r A → IfOk r (λ _. B)
 on_told (Ok x) A B way h = way h
 on_told (Err e) A B way h = tt
@@ -118,31 +122,31 @@ answer_added {R} asked before shown after same is row = (there, back)
     back : Has row (before ++ asked) → Has row after
     back h = subst (Has row) (sym is) (into asked shown (has_moved asked shown row same) (has_split row before asked h))
 
+-- those that pass one test, and then those that pass another
+pub more_passed : {R : Type 0} (p q both : R → Bool) (table before after : List R) → ((x : R) → both x ≡ (p x || q x))
+    → SameRows before (filter p table) → SameRows after (before ++ filter q table) → SameRows after (filter both table)
+more_passed {R} p q both table before after more so_far added row = (there, back)
+  where
+    there : Has row after → Has row (filter both table)
+    there h = go (has_split row before (filter q table) ((added row).0 h))
+      where
+        go : Has row before ⊎ Has row (filter q table) → Has row (filter both table)
+        go (inl g) = let f = filter_has p row table ((so_far row).0 g) in has_filter both row table (more row ∙ or_left (p row) (q row) f.1) f.0
+        go (inr g) = let f = filter_has q row table g in has_filter both row table (more row ∙ or_right (p row) (q row) f.1) f.0
+
+    back : Has row (filter both table) → Has row after
+    back h = let f = filter_has both row table h in go f.0 (or_cases (p row) (q row) (sym (more row) ∙ f.1))
+      where
+        go : Has row table → (p row ≡ true) ⊎ (q row ≡ true) → Has row after
+        go g (inl e) = (added row).1 (has_left row before (filter q table) ((so_far row).1 (has_filter p row table e g)))
+        go g (inr e) = (added row).1 (has_right row before (filter q table) (has_filter q row table e g))
+
 pub answers_more : {Q R : Type 0} (asks : Q → R → Bool) (questions : List Q) (i : ℕ) (question : Q) (table before after : List R) → i < length questions → question ≡ get_or questions i question
     → SameRows before (filter (is_row_asked asks (take i questions)) table) → SameRows after (before ++ filter (asks question) table)
     → SameRows after (filter (is_row_asked asks (take (i + 1) questions)) table)
-answers_more {Q} {R} asks questions i question table before after low is so_far added row = (there, back)
-  where
-    more : (x : R) → is_row_asked asks (take (i + 1) questions) x ≡ (is_row_asked asks (take i questions) x || asks question x)
-    more x = list_any_more (λ q. asks q x) questions i question low ∙ ap (λ q. is_row_asked asks (take i questions) x || asks q x) (sym is)
-
-    there : Has row after → Has row (filter (is_row_asked asks (take (i + 1) questions)) table)
-    there h = go (has_split row before (filter (asks question) table) ((added row).0 h))
-      where
-        go : Has row before ⊎ Has row (filter (asks question) table) → Has row (filter (is_row_asked asks (take (i + 1) questions)) table)
-        go (inl g) =
-            let f = filter_has (is_row_asked asks (take i questions)) row table ((so_far row).0 g) in
-            has_filter (is_row_asked asks (take (i + 1) questions)) row table (more row ∙ or_left (is_row_asked asks (take i questions) row) (asks question row) f.1) f.0
-        go (inr g) =
-            let f = filter_has (asks question) row table g in
-            has_filter (is_row_asked asks (take (i + 1) questions)) row table (more row ∙ or_right (is_row_asked asks (take i questions) row) (asks question row) f.1) f.0
-
-    back : Has row (filter (is_row_asked asks (take (i + 1) questions)) table) → Has row after
-    back h = let f = filter_has (is_row_asked asks (take (i + 1) questions)) row table h in go f.0 (or_cases (is_row_asked asks (take i questions) row) (asks question row) (sym (more row) ∙ f.1))
-      where
-        go : Has row table → (is_row_asked asks (take i questions) row ≡ true) ⊎ (asks question row ≡ true) → Has row after
-        go g (inl e) = (added row).1 (has_left row before (filter (asks question) table) ((so_far row).1 (has_filter (is_row_asked asks (take i questions)) row table e g)))
-        go g (inr e) = (added row).1 (has_right row before (filter (asks question) table) (has_filter (asks question) row table e g))
+answers_more asks questions i question table before after low is =
+    more_passed (is_row_asked asks (take i questions)) (asks question) (is_row_asked asks (take (i + 1) questions)) table before after
+    (λ x. list_any_more (λ q. asks q x) questions i question low ∙ ap (λ q. is_row_asked asks (take i questions) x || asks q x) (sym is))
 
 pub answers_all : {Q R : Type 0} (asks : Q → R → Bool) (questions : List Q) (i : ℕ) (table rows : List R) → length questions ≤ i
     → SameRows rows (filter (is_row_asked asks (take i questions)) table) → SameRows rows (filter (is_row_asked asks questions) table)

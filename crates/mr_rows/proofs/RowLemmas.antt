@@ -28,7 +28,8 @@ pub filter_all_true : {X : Type 0} (xs : List X) → filter (λ _. true) xs ≡ 
 filter_all_true [] = refl
 filter_all_true (x ∷ xs) = ap (λ ys. x ∷ ys) (filter_all_true xs)
 
-filter_both : {X : Type 0} (p q : X → Bool) (xs : List X) → filter p (filter q xs) ≡ filter (λ x. q x && p x) xs
+-- what passes two tests, one after the other
+pub filter_both : {X : Type 0} (p q : X → Bool) (xs : List X) → filter p (filter q xs) ≡ filter (λ x. q x && p x) xs
 filter_both p q [] = refl
 filter_both p q (x ∷ xs) =
     elim (q x) as (λ b. filter p (if b then x ∷ filter q xs else filter q xs) ≡ (if (b && p x) then x ∷ filter (λ y. q y && p y) xs else filter (λ y. q y && p y) xs))

@@ -1,6 +1,7 @@
 -- A plain query whose rows come one after the other.
-use Rattle.std.proofs.Common.{◌≡◌, ◌⊎◌, inl, inr, ℕ, List, [], ◌∷◌, ◌++◌, map, Option, None, Some, Result, Ok, Err, OnOk, OnErr, IfErr, IsTrue, sym, ap, subst, ◌∙◌}
+use Rattle.std.proofs.Common.{◌≡◌, ◌⊎◌, inl, inr, ℕ, List, [], ◌∷◌, ◌++◌, map, filter, Bool, Option, None, Some, Result, Ok, Err, OnOk, OnErr, IfErr, IsTrue, sym, ap, subst, ◌∙◌}
 use Rattle.std.proofs.lemmas.List.{append_assoc, map-append}
+use Rattle.std.proofs.lemmas.List.Elements.{filter-append}
 use Rattle.std.specs.List.{AllByRecursion}
 use Rattle.sqlite_value.specs.Order.{Row}
 use Rattle.sqlite_trees.specs.declared.store.Store as store
@@ -37,13 +38,14 @@ pub all_more : (P : Row → Type 0) (rows : List Row) (row : Row) → P row → 
 all_more P [] row here all = (here, tt)
 all_more P (r ∷ rows) row here all = (all.0, all_more P rows row here all.1)
 
--- the rows are read and put behind the first ones
-abbrev pub AreAdded : {R : Type 0} → (Row → R) → List R → List R → List Row → Type 0
-AreAdded f first now rows = now ≡ first ++ map f rows
+-- the rows are read, and those that pass are put behind the first ones
+abbrev pub AreAdded : {R : Type 0} → (Row → R) → (R → Bool) → List R → List R → List Row → Type 0
+AreAdded f p first now rows = now ≡ first ++ filter p (map f rows)
 
-pub read_more : {R : Type 0} (f : Row → R) (first old new : List R) (rows : List Row) (row : Row) (x : R) → x ≡ f row → new ≡ old ++ x ∷ [] → AreAdded f first old rows → AreAdded f first new (rows ++ row ∷ [])
-read_more f first old new rows row x is more far =
-    more ∙ (λ i. far i ++ is i ∷ []) ∙ append_assoc first (map f rows) (f row ∷ []) ∙ ap (λ xs. first ++ xs) (sym (map-append f rows (row ∷ [])))
+pub read_more : {R : Type 0} (f : Row → R) (p : R → Bool) (first old new : List R) (rows : List Row) (row : Row) → new ≡ old ++ filter p (f row ∷ []) → AreAdded f p first old rows → AreAdded f p first new (rows ++ row ∷ [])
+read_more f p first old new rows row more far =
+    more ∙ (λ i. far i ++ filter p (f row ∷ [])) ∙ append_assoc first (filter p (map f rows)) (filter p (f row ∷ []))
+    ∙ ap (λ xs. first ++ xs) (sym (filter-append p (map f rows) (f row ∷ [])) ∙ ap (filter p) (sym (map-append f rows (row ∷ []))))
 
 module _ {S : Type 0} (g : store.Ghosts S) (sql : List ℕ) (params : Row) (Q : List Row → Type 0) (first : State) where
   -- this is so of the rows that the query has given

@@ -206,6 +206,27 @@ module _ {under : Schema} {R K : Type 0} (f : Form R K) (facts : Facts under f) 
           let finds = facts.finds (f.key x) r (all_has _ _ r held.whole here.0) ∙ facts.own_key x (f.row_in r) same in
           absurd (let never = sym (ap not finds) ∙ here.1 in cc)
 
+  -- What a query finds, where what it shows of a row is read as something that is told of the plain row.
+  pub finds_as : {X : Type 0} (read : Row → X) (told : R → X) (text : List ℕ) (tests project : List Term) (names : List (List ℕ)) (params : Row) (old new : State) (plain : R → Bool) (rows : List Row)
+      → MeansQueryIn under text (Select (program_of f.table.tree tests project) names) → ((r : Row) → IsRowOf f r → passes tests params r ≡ plain (f.row_in r))
+      → ((r : Row) → IsRowOf f r → read (eval_all project (params ∷ r ∷ [])) ≡ told (f.row_in r))
+      → old.now.schema ≡ under → IsHeld f (old.now.trees f.table.tree) → Shown text params old new rows
+      → IsPermutation (map told (filter plain (in_order f (old.now.trees f.table.tree)))) (map read rows)
+  finds_as {X} read told text tests project names params old new plain rows means same shown schema held h =
+      let program : Program = program_of f.table.tree tests project in
+      let answer = reads_as text params old new under schema (Select program names) means.0.0 means.0.1 means.1 rows h in
+      let stored = old.now.trees f.table.tree in
+      let moved = shows f.table.tree tests project old.now.trees params rows (facts.alone old.now.trees) (answer.answer Null) in
+      let found = filter (passes tests params) stored in
+      let through = IsPermutation-map read _ rows moved in
+      let plain_rows = map f.row_in stored in
+      let there = subst (λ xs. IsPermutation xs (map read rows)) (back found (all-filter _ _ stored held.whole) ∙ ap (map told) (kept_through (passes tests params) plain stored held.whole same)) through in
+      IsPermutation-trans _ _ _ (IsPermutation-map told _ _ (IsPermutation-sym _ _ (IsPermutation-filter plain _ _ (ordered_same f.before f.key facts.order plain_rows (plain_apart stored held))))) there
+    where
+      back : (found : List Row) → AllByRecursion (IsRowOf f) found → map read (map (λ r. eval_all project (params ∷ r ∷ [])) found) ≡ map told (map f.row_in found)
+      back [] all = refl
+      back (r ∷ found) all = let one = shown r all.0 in let more = back found all.1 in λ i. one i ∷ more i
+
   -- the rows that a query finds, as plain rows
   pub finds_rows : (text : List ℕ) (tests project : List Term) (names : List (List ℕ)) (params : Row) (old new : State) (plain : R → Bool) (rows : List Row)
       → MeansQueryIn under text (Select (program_of f.table.tree tests project) names) → ((r : Row) → IsRowOf f r → passes tests params r ≡ plain (f.row_in r))
@@ -213,16 +234,8 @@ module _ {under : Schema} {R K : Type 0} (f : Form R K) (facts : Facts under f) 
       → old.now.schema ≡ under → IsHeld f (old.now.trees f.table.tree) → Shown text params old new rows
       → IsPermutation (filter plain (in_order f (old.now.trees f.table.tree))) (map (λ r. f.row_in (Null ∷ r)) rows)
   finds_rows text tests project names params old new plain rows means same shown schema held h =
-      let program : Program = program_of f.table.tree tests project in
-      let read = reads_as text params old new under schema (Select program names) means.0.0 means.0.1 means.1 rows h in
-      let stored = old.now.trees f.table.tree in
-      let moved = shows f.table.tree tests project old.now.trees params rows (facts.alone old.now.trees) (read.answer Null) in
-      let found = filter (passes tests params) stored in
-      let through = IsPermutation-map (λ r. f.row_in (Null ∷ r)) _ rows moved in
-      let plain_rows = map f.row_in stored in
-      let there = subst (λ xs. IsPermutation xs (map (λ r. f.row_in (Null ∷ r)) rows)) (back found (all-filter _ _ stored held.whole) ∙ kept_through (passes tests params) plain stored held.whole same) through in
-      IsPermutation-trans _ _ _ (IsPermutation-sym _ _ (IsPermutation-filter plain _ _ (ordered_same f.before f.key facts.order plain_rows (plain_apart stored held)))) there
+      subst (λ xs. IsPermutation xs (map (λ r. f.row_in (Null ∷ r)) rows)) (map_same _) (finds_as (λ r. f.row_in (Null ∷ r)) (λ x. x) text tests project names params old new plain rows means same shown schema held h)
     where
-      back : (found : List Row) → AllByRecursion (IsRowOf f) found → map (λ r. f.row_in (Null ∷ r)) (map (λ r. eval_all project (params ∷ r ∷ [])) found) ≡ map f.row_in found
-      back [] all = refl
-      back (r ∷ found) all = let one = shown r all.0 in let more = back found all.1 in λ i. one i ∷ more i
+      map_same : (xs : List R) → map (λ (x : R). x) xs ≡ xs
+      map_same [] = refl
+      map_same (x ∷ xs) = ap (λ ys. x ∷ ys) (map_same xs)

@@ -1,4 +1,4 @@
-ghost use Rattle.std.specs.Prelude.{◌≡◌, ◌∷◌, ◌++◌, false, map, filter, Bool, OnOk};
+ghost use Rattle.std.specs.Prelude.{◌≡◌, [], ◌∷◌, ◌++◌, false, map, filter, Bool, OnOk};
 ghost use Rattle.sqlite_value.specs.declared.value.Value.TheVariants.{Null};
 ghost use Rattle.sqlite_trees.specs.Tree.{Trees};
 ghost use Rattle.sqlite.specs.Given.{IsPlain};
@@ -14,6 +14,7 @@ ghost use Rattle.mr_rows.specs.Reads.{Looks, ReadsInUse};
 
 use crate::order::sort_rows;
 use crate::questions::Question;
+use crate::row_tests::RowTest;
 use crate::stored_rows::StoredRow;
 use sqlite::types::ValueRef;
 use sqlite::{Alter, Connection, Error, Row};
@@ -34,26 +35,43 @@ pub(crate) fn add_rows<R: StoredRow>(
     Ok(())
 }
 
-/// Reads the rows, one after the other, that a text shows which means a query under our schema, and puts them behind those that are there.
-pub(crate) fn add_shown<R: StoredRow, S: Alter>(
+/// Reads the row, if it passes, and puts it behind those that are there.
+fn add_passing<R: StoredRow, T: RowTest<R>>(
+    alloc: Global,
+    row: &Row,
+    test: &T,
+    out: &mut Vec<R>,
+) -> Result<(), Error>
+    ensures { OnOk result (out.new.items ≡ out.old.items ++ filter (T.passes test.now) (R.form.row_in (Null ∷ row.now) ∷ [])) }
+{
+    if test.is_passed_by(row)? {
+        out.push(R::read(alloc, row)?)?;
+    }
+    Ok(())
+}
+
+/// Reads those rows that pass, one after the other, that a text shows which means a query under our schema, and puts them behind those
+/// that are there.
+pub(crate) fn add_shown<R: StoredRow, T: RowTest<R>, S: Alter>(
     conn: &mut Connection<S>,
     alloc: Global,
     sql: &str,
     params: &[ValueRef<'_>],
+    test: &T,
     out: &mut Vec<R>,
 ) -> Result<(), Error>
     requires autocommit { conn.old.in_transaction ≡ false }
     requires plain { IsPlain (understood our_schema sql.now) }
     ensures autocommit { conn.new.in_transaction ≡ false }
     ensures looks { Looks (state S.Store conn.old) (state S.Store conn.new) result
-        (λ _. IsShownSo (λ rows. out.new.items ≡ out.old.items ++ map (λ row. R.form.row_in (Null ∷ row)) rows) sql.now (bound params.now)
-        (state S.Store conn.old) (state S.Store conn.new)) }
+        (λ _. IsShownSo (λ rows. out.new.items ≡ out.old.items ++ filter (T.passes test.now) (map (λ row. R.form.row_in (Null ∷ row)) rows))
+        sql.now (bound params.now) (state S.Store conn.old) (state S.Store conn.new)) }
 {
     let mut rows = conn.query(sql, params)?;
     'rows: for _ in 0..u64::MAX {
         rows.advance()?;
         match rows.get() {
-            Some(row) => out.push(R::read(alloc, row)?)?,
+            Some(row) => add_passing(alloc, row, test, out)?,
             None => return Ok(()),
         }
     }
@@ -79,7 +97,7 @@ fn all_answers<R: StoredRow, Q: Question<R>, S: Alter>(
 }
 
 /// Sorts rows of a table by their keys and drops what comes twice.
-fn order_rows<R: StoredRow>(rows: &mut Vec<R>) -> Result<(), AllocError>
+pub(crate) fn order_rows<R: StoredRow>(rows: &mut Vec<R>) -> Result<(), AllocError>
     ensures { OnOk result ((trees : Trees) (p : R → Bool) → SameRows rows.old.items (filter p (R.rows_of (tables_in trees)))
         → rows.new.items ≡ filter p (R.rows_of (tables_in trees))) }
 {

@@ -6,14 +6,17 @@ ghost use Rattle.mr_rows.specs.Form.{cancelled_form, cancel_form};
 ghost use Rattle.mr_rows.specs.ChangeParts.{take_cancelled, put_cancelled, put_cancels};
 ghost use Rattle.mr_rows.specs.TakeLaws.{cancelled_none, cancelled_more};
 
+use crate::asked_rows::add_shown;
 use crate::cells::{
     read_count, read_day, read_id, read_mark, read_minute, read_name, read_server, read_title,
     read_u64, test_booking_cells, test_name,
 };
 use crate::found::test_rows;
 use crate::numbers::Number;
+use crate::passing::PassingRow;
 use crate::puts::{day_text, parts_of, put_cancel_cells, put_cancelled_cells};
 use crate::queries::ask;
+use crate::row_tests::RowTest;
 use crate::stored_rows::{FoundRow, RequestRow, StoredRow};
 use crate::table_rows::compare_ids;
 use mr_base::WriteId;
@@ -97,6 +100,17 @@ impl StoredRow for CancelledRow {
 impl FoundRow for CancelledRow {
     fn find<S: Alter>(conn: &mut Connection<S>) -> Result<(), Error> {
         test_rows::<CancelledRow, S>(conn, ALL_CANCELLED)
+    }
+}
+
+impl PassingRow for CancelledRow {
+    fn add_passing<T: RowTest<CancelledRow>, S: Alter>(
+        conn: &mut Connection<S>,
+        alloc: Global,
+        test: &T,
+        out: &mut Vec<CancelledRow>,
+    ) -> Result<(), Error> {
+        add_shown(conn, alloc, ALL_CANCELLED, &[], test, out)
     }
 }
 

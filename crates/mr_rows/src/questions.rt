@@ -7,7 +7,7 @@ ghost use Rattle.mr_model.specs.Texts.{within};
 ghost use Rattle.mr_model.specs.Writes.{Id};
 ghost use Rattle.mr_rows.specs.RowCells.{log_in};
 ghost use Rattle.mr_rows.specs.Database.{tables_in};
-ghost use Rattle.mr_rows.specs.RowQuestions.{is_log_asked, is_booking_asked, is_cancelled_asked, is_booking_named, is_error_of, is_cancelled_of};
+ghost use Rattle.mr_rows.specs.RowQuestions.{is_log_between, is_log_named, is_booking_asked, is_cancelled_asked, is_booking_named, is_error_of, is_cancelled_of};
 ghost use Rattle.mr_rows.specs.Reads.{ReadsKept};
 
 use crate::asked_rows::{add_rows, add_shown};
@@ -17,8 +17,9 @@ use crate::queries::{
     select_key_cancelled, select_key_error, select_key_log, select_room_booking,
     select_room_cancelled,
 };
+use crate::row_tests::Everything;
 use crate::stored_rows::StoredRow;
-use mr_base::{RoomName, ServerId, WriteId};
+use mr_base::{RoomName, ServerId};
 use mr_tables::{BookingRow, CancelledRow, ErrorRow, LogRow};
 use sqlite::{Alter, Connection, Error, Row, params};
 use std::alloc::Global;
@@ -54,11 +55,11 @@ pub trait Question<R: StoredRow> {
     }
 }
 
-/// A question for rows of `log`: for that of an id, or for those whose `seq` is between two numbers.
+/// A question for the rows of `log` whose `seq` is between two numbers.
 #[derive(Clone, Copy)]
-pub enum LogQuestion {
-    OfId(WriteId),
-    Between(u64, u64),
+pub struct NumberQuestion {
+    pub low: u64,
+    pub high: u64,
 }
 
 fn ask_between<S: Alter>(conn: &mut Connection<S>, low: u64, high: u64) -> Result<Vec<Row>, Error>
@@ -88,17 +89,21 @@ fn add_between<S: Alter>(
 {
     let low = Number::new(low, 11)?;
     let high = Number::new(high, 11)?;
-    add_shown(conn, alloc, LOGS_BETWEEN, params![low, high], out)
+    add_shown(
+        conn,
+        alloc,
+        LOGS_BETWEEN,
+        params![low, high],
+        &Everything,
+        out,
+    )
 }
 
-impl Question<LogRow> for LogQuestion {
-    ghost asks = { is_log_asked };
+impl Question<LogRow> for NumberQuestion {
+    ghost asks = { is_log_between };
 
     fn ask<S: Alter>(&self, conn: &mut Connection<S>) -> Result<Vec<Row>, Error> {
-        match *self {
-            LogQuestion::OfId(id) => select_key_log(conn, id.server.number(), id.n),
-            LogQuestion::Between(low, high) => ask_between(conn, low, high),
-        }
+        ask_between(conn, self.low, self.high)
     }
 
     fn add<S: Alter>(
@@ -107,17 +112,11 @@ impl Question<LogRow> for LogQuestion {
         alloc: Global,
         out: &mut Vec<LogRow>,
     ) -> Result<(), Error> {
-        match *self {
-            LogQuestion::OfId(_) => {
-                let rows = self.ask(conn)?;
-                add_rows(alloc, &rows, out)
-            }
-            LogQuestion::Between(low, high) => add_between(conn, alloc, low, high, out),
-        }
+        add_between(conn, alloc, self.low, self.high, out)
     }
 }
 
-/// A question for the row of an id, in `booking`, in `errorlog` or in `cancelled`.
+/// A question for the row of an id, in `log`, in `booking`, in `errorlog` or in `cancelled`.
 #[derive(Clone, Copy)]
 pub struct IdQuestion {
     pub server: ServerId,
@@ -130,6 +129,14 @@ impl Model for IdQuestion {
     ghost view = { λ q. record { server = q.server; n = q.n } };
 
     ghost inverse = { λ v. record { server = v.server; n = v.n } };
+}
+
+impl Question<LogRow> for IdQuestion {
+    ghost asks = { is_log_named };
+
+    fn ask<S: Alter>(&self, conn: &mut Connection<S>) -> Result<Vec<Row>, Error> {
+        select_key_log(conn, self.server.number(), self.n)
+    }
 }
 
 impl Question<BookingRow> for IdQuestion {
@@ -170,7 +177,14 @@ impl Question<BookingRow> for RoomName {
         alloc: Global,
         out: &mut Vec<BookingRow>,
     ) -> Result<(), Error> {
-        add_shown(conn, alloc, ROOM_BOOKINGS, params![self.as_str()], out)
+        add_shown(
+            conn,
+            alloc,
+            ROOM_BOOKINGS,
+            params![self.as_str()],
+            &Everything,
+            out,
+        )
     }
 }
 
@@ -188,6 +202,13 @@ impl Question<CancelledRow> for RoomName {
         alloc: Global,
         out: &mut Vec<CancelledRow>,
     ) -> Result<(), Error> {
-        add_shown(conn, alloc, ROOM_CANCELLED, params![self.as_str()], out)
+        add_shown(
+            conn,
+            alloc,
+            ROOM_CANCELLED,
+            params![self.as_str()],
+            &Everything,
+            out,
+        )
     }
 }

@@ -11,16 +11,19 @@ ghost use Rattle.mr_rows.specs.ChangeParts.{take_logs, take_bookings, take_error
 ghost use Rattle.mr_rows.specs.TakeLaws.{logs_none, bookings_none, errors_none, logs_more, bookings_more, errors_more};
 
 use crate::actions::{read_action, read_place_of, test_action, test_place};
+use crate::asked_rows::add_shown;
 use crate::cells::{
     read_count, read_day, read_mark, read_minute, read_name, read_server, read_title, read_u32,
     read_u64, test_booking_cells, test_name,
 };
 use crate::found::test_rows;
 use crate::numbers::Number;
+use crate::passing::PassingRow;
 use crate::puts::{
     LogNumbers, day_text, put_booking_cells, put_error_cells, put_log_cells, put_vector_cells,
 };
 use crate::queries::ask;
+use crate::row_tests::RowTest;
 use crate::stored_rows::{FoundRow, RequestRow, StoredRow};
 use mr_base::{RoomName, ServerId, WriteId};
 use mr_tables::{BookingRow, ErrorRow, LogRow, VectorRow};
@@ -301,6 +304,17 @@ impl StoredRow for BookingRow {
 impl FoundRow for BookingRow {
     fn find<S: Alter>(conn: &mut Connection<S>) -> Result<(), Error> {
         test_rows::<BookingRow, S>(conn, ALL_BOOKINGS)
+    }
+}
+
+impl PassingRow for BookingRow {
+    fn add_passing<T: RowTest<BookingRow>, S: Alter>(
+        conn: &mut Connection<S>,
+        alloc: Global,
+        test: &T,
+        out: &mut Vec<BookingRow>,
+    ) -> Result<(), Error> {
+        add_shown(conn, alloc, ALL_BOOKINGS, &[], test, out)
     }
 }
 

@@ -14,13 +14,13 @@ returns-in_err-rows-clause-looks g c =
 pub rows-init : goal.rows-init
 rows-init g c =
     let made = c.in_ok-rows.ensures in
-    (refl, made.mode c.requires.autocommit, begun g.S.Store c.args.sql.now (bound c.args.params.now) c.requires.plain (AreAdded (λ row. g.R.StoredRow.form.row_in (Null ∷ row)) c.args.out.now.items c.args.out.now.items) c.args.conn.now c.in_ok-rows.rows.conn.now made.begun made.survives (sym (append-nil c.args.out.now.items)))
+    (refl, made.mode c.requires.autocommit, begun g.S.Store c.args.sql.now (bound c.args.params.now) c.requires.plain (AreAdded (λ row. g.R.StoredRow.form.row_in (Null ∷ row)) (g.T.RowTest.passes c.args.test.now) c.args.out.now.items c.args.out.now.items) c.args.conn.now c.in_ok-rows.rows.conn.now made.begun made.survives (sym (append-nil c.args.out.now.items)))
 
 pub returns-in_err-advance-clause-looks : goal.returns-in_err-advance-clause-looks
 returns-in_err-advance-clause-looks g c =
     let moved = c.advance.ensures in
     let new = c.advance.new.self in
-    let Q = AreAdded (λ row. g.R.StoredRow.form.row_in (Null ∷ row)) c.args.out.now.items c.rows.out.items in
+    let Q = AreAdded (λ row. g.R.StoredRow.form.row_in (Null ∷ row)) (g.T.RowTest.passes c.args.test.now) c.args.out.now.items c.rows.out.items in
     let first = state g.S.Store c.args.conn.now in
     let row = row_if new.has_row new.conn.now in
     let read = advanced g.S.Store c.args.sql.now (bound c.args.params.now) c.requires.plain Q first c.rows.rows.conn.now new.conn.now c.advance.result row c.rows.invariant.2 moved.ok moved.same moved.kept moved.survives in
@@ -28,23 +28,11 @@ returns-in_err-advance-clause-looks g c =
     let left = read.1 in
     (search rules, search rules, λ clean here. (search rules, search rules))
 
-pub returns-in_err-read-in-Some-clause-looks : goal.returns-in_err-read-in-Some-clause-looks
-returns-in_err-read-in-Some-clause-looks g c =
+pub returns-in_err-add_passing-in-Some-clause-looks : goal.returns-in_err-add_passing-in-Some-clause-looks
+returns-in_err-add_passing-in-Some-clause-looks g c =
     let moved = c.advance.ensures in
     let new = c.advance.new.self in
-    let Q = AreAdded (λ row. g.R.StoredRow.form.row_in (Null ∷ row)) c.args.out.now.items c.rows.out.items in
-    let first = state g.S.Store c.args.conn.now in
-    let row = row_if new.has_row new.conn.now in
-    let read = advanced g.S.Store c.args.sql.now (bound c.args.params.now) c.requires.plain Q first c.rows.rows.conn.now new.conn.now c.advance.result row c.rows.invariant.2 moved.ok moved.same moved.kept moved.survives in
-    let survives = read.0 in
-    let left = read.1 in
-    (search rules, search rules, λ clean here. (search rules, search rules))
-
-pub returns-in_err-push-in-Some-clause-looks : goal.returns-in_err-push-in-Some-clause-looks
-returns-in_err-push-in-Some-clause-looks g c =
-    let moved = c.advance.ensures in
-    let new = c.advance.new.self in
-    let Q = AreAdded (λ row. g.R.StoredRow.form.row_in (Null ∷ row)) c.args.out.now.items c.rows.out.items in
+    let Q = AreAdded (λ row. g.R.StoredRow.form.row_in (Null ∷ row)) (g.T.RowTest.passes c.args.test.now) c.args.out.now.items c.rows.out.items in
     let first = state g.S.Store c.args.conn.now in
     let row = row_if new.has_row new.conn.now in
     let read = advanced g.S.Store c.args.sql.now (bound c.args.params.now) c.requires.plain Q first c.rows.rows.conn.now new.conn.now c.advance.result row c.rows.invariant.2 moved.ok moved.same moved.kept moved.survives in
@@ -56,7 +44,7 @@ pub returns-in-None-clause-looks : goal.returns-in-None-clause-looks
 returns-in-None-clause-looks g c =
     let moved = c.in_ok-advance.ensures in
     let new = c.advance.new.self in
-    let Q = AreAdded (λ row. g.R.StoredRow.form.row_in (Null ∷ row)) c.args.out.now.items c.rows.out.items in
+    let Q = AreAdded (λ row. g.R.StoredRow.form.row_in (Null ∷ row)) (g.T.RowTest.passes c.args.test.now) c.args.out.now.items c.rows.out.items in
     let first = state g.S.Store c.args.conn.now in
     let row = row_if new.has_row new.conn.now in
     let read = advanced g.S.Store c.args.sql.now (bound c.args.params.now) c.requires.plain Q first c.rows.rows.conn.now new.conn.now (Ok (tt {0})) row c.rows.invariant.2 moved.ok moved.same moved.kept moved.survives in
@@ -70,13 +58,13 @@ pub rows-preserved : goal.rows-preserved
 rows-preserved g c =
     let moved = c.in_ok-advance.ensures in
     let new = c.advance.new.self in
-    let Q = AreAdded (λ row. g.R.StoredRow.form.row_in (Null ∷ row)) c.args.out.now.items c.rows.out.items in
+    let Q = AreAdded (λ row. g.R.StoredRow.form.row_in (Null ∷ row)) (g.T.RowTest.passes c.args.test.now) c.args.out.now.items c.rows.out.items in
     let first = state g.S.Store c.args.conn.now in
     let row = row_if new.has_row new.conn.now in
     let read = advanced g.S.Store c.args.sql.now (bound c.args.params.now) c.requires.plain Q first c.rows.rows.conn.now new.conn.now (Ok (tt {0})) row c.rows.invariant.2 moved.ok moved.same moved.kept moved.survives in
-    let Next = AreAdded (λ row. g.R.StoredRow.form.row_in (Null ∷ row)) c.args.out.now.items c.push.new.self.items in (
+    let Next = AreAdded (λ row. g.R.StoredRow.form.row_in (Null ∷ row)) (g.T.RowTest.passes c.args.test.now) c.args.out.now.items c.add_passing.new.out.items in (
       moved.same_reference ∙ c.rows.invariant.0,
       moved.mode c.rows.invariant.1,
       one_done g.S.Store c.args.sql.now (bound c.args.params.now) c.requires.plain Q Next first new.conn.now row c.in-Some.row.now c.in-Some.ensures
-          (λ rows far. read_more (λ row. g.R.StoredRow.form.row_in (Null ∷ row)) c.args.out.now.items c.rows.out.items c.push.new.self.items rows c.in-Some.row.now _ c.in_ok-read-in-Some.ensures.row (search rules) far) read,
+          (λ rows far. read_more (λ row. g.R.StoredRow.form.row_in (Null ∷ row)) (g.T.RowTest.passes c.args.test.now) c.args.out.now.items c.rows.out.items c.add_passing.new.out.items rows c.in-Some.row.now c.in_ok-add_passing-in-Some.ensures far) read,
     )

@@ -6,10 +6,10 @@ use Rattle.mr_rows.specs.Reads.{Looks}
 use Rattle.mr_rows.proofs.StreamedRows.{AreAdded, SoFar}
 use Rattle.mr_rows.proofs.asked_rows.add_shown.Given as goal
 
--- the rows that were given so far were put behind the first ones, and nothing has changed
+-- those of the rows given so far that pass were put behind the first ones, and nothing has changed
 abbrev pub invariant-rows : goal.invariant-rows
 invariant-rows g l =
     let old = state g.S.Store l.fn.conn in
     (l.rows.conn.ghost_name ≡ l.initial.rows.conn.ghost_name) × (l.rows.conn.now.in_transaction ≡ false)
     × Looks {X = Unit {0}} old (state g.S.Store l.rows.conn.now) (Ok tt)
-    (λ _. SoFar g.S.Store l.sql (bound l.fn.params) (AreAdded (λ row. g.R.StoredRow.form.row_in (Null ∷ row)) l.fn.out.items l.out.items) old l.rows.conn.now)
+    (λ _. SoFar g.S.Store l.sql (bound l.fn.params) (AreAdded (λ row. g.R.StoredRow.form.row_in (Null ∷ row)) (g.T.RowTest.passes l.test) l.fn.out.items l.out.items) old l.rows.conn.now)
