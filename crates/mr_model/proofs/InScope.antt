@@ -193,7 +193,8 @@ RowBefore a b = IsTrue (row_before a b)
 abbrev Apart : LogRow → LogRow → Type 0
 Apart a b = RowBefore a b ⊎ RowBefore b a
 
-has_put : (x row : LogRow) (rows : List LogRow) → Has row (put_row x rows) → (row ≡ x) ⊎ Has row rows
+-- what is among rows after one was put there is that one or was among them
+pub has_put : (x row : LogRow) (rows : List LogRow) → Has row (put_row x rows) → (row ≡ x) ⊎ Has row rows
 has_put x row [] (inl e) = inl e
 has_put x row [] (inr h) = absurd h
 has_put x row (y ∷ ys) h = go (row_before x y) h (has_put x row ys)

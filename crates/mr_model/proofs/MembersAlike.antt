@@ -3,7 +3,7 @@ use Rattle.std.proofs.Common.{◌≡◌, refl, sym, ap, ◌∙◌, subst, ℕ, �
 use Rattle.std.proofs.lemmas.Bool.{true≢false}
 use Rattle.std.specs.List.{filter}
 use Rattle.mr_model.specs.Slots.{Slot}
-use Rattle.mr_model.specs.Writes.{Id, Action, Books, Cancels, Write, same_id, choices_of}
+use Rattle.mr_model.specs.Writes.{Id, Meeting, Action, Books, Cancels, Write, same_id, choices_of}
 use Rattle.mr_model.specs.Replay.{Place, Taken, Logged, Done, Void, Booking, first_free, is_booked, place_for, place_among, slot_at, booking_of, without_target, booked_with}
 use Rattle.mr_model.specs.Board.{after}
 use Rattle.mr_model.specs.Dropped.{Has}
@@ -42,6 +42,29 @@ booked_alike bs cs same i =
 pub place_alike : (bs cs : List Booking) → SameMembers bs cs → (a : Action) → place_for bs a ≡ place_for cs a
 place_alike bs cs same (Books m) = free_alike bs cs same m.length 0 (choices_of m)
 place_alike bs cs same (Cancels t) = ap (λ b. cond b Done Void) (booked_alike bs cs same t)
+
+-- of these bookings all that are on the days of these slots are among those
+abbrev pub HasOnDays : List Slot → List Booking → List Booking → Type 0
+HasOnDays ss bs cs = (b : Booking) (s : Slot) → Has b bs → Has s ss → s.day ≡ b.slot.day → Has b cs
+
+-- the bookings on the days of the choices tell which is free
+free_on_days : (bs cs : List Booking) (n k : ℕ) (ss : List Slot) → ((b : Booking) → Has b cs → Has b bs) → HasOnDays ss bs cs → first_free bs n k ss ≡ first_free cs n k ss
+free_on_days bs cs n k [] less same = refl
+free_on_days bs cs n k (s ∷ ss) less same =
+    ap (λ b. cond (cond b false true) (Taken k) (first_free bs n (k + 1) ss)) here
+    ∙ ap (λ p. cond (cond (meets cs s n) false true) (Taken k) p) (free_on_days bs cs n (k + 1) ss less (λ b t h g. same b t h (inr g)))
+  where
+    here : meets bs s n ≡ meets cs s n
+    here =
+        bool_same (meets bs s n) (meets cs s n)
+        (λ e.
+        let (b, h, o) = meets_has bs s n (meets-true bs s n e) in
+        meets_from cs s n (has_meets cs s n b (same b s h (inl refl) (o.2.same_day ∙ sym o.3.same_day)) o))
+        (λ e. meets_from bs s n (meets_by cs bs s n less (meets-true cs s n e)))
+
+-- so a meeting goes to the same place among these alone
+pub place_on_days : (bs cs : List Booking) (m : Meeting) → ((b : Booking) → Has b cs → Has b bs) → HasOnDays (choices_of m) bs cs → place_for bs (Books m) ≡ place_for cs (Books m)
+place_on_days bs cs m less same = free_on_days bs cs m.length 0 (choices_of m) less same
 
 -- ---- what they leave
 

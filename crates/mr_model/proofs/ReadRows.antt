@@ -12,8 +12,9 @@ use Rattle.mr_model.specs.Tables.{LogRow, BookingRow, ErrorRow, CancelledRow, Ta
 use Rattle.mr_model.specs.Queries.{booking_id, error_id, cancelled_id}
 use Rattle.mr_model.specs.Dropped.{Has}
 use Rattle.mr_model.proofs.Members.{has_filter, has_among, has_map, same_id-true}
-use Rattle.mr_model.specs.Scopes.{Scope, Nothing, InRoom, OfTarget, NextCommits, UpTo, Above, OfItems, log_row_id, is_tentative, by_stamp, item_id, has_number, is_named, is_in_tail, rooms_of_item, with_rows, in_scope}
+use Rattle.mr_model.specs.Scopes.{Scope, Nothing, OfRequest, OfTarget, NextCommits, UpTo, Above, OfItems, log_row_id, is_tentative, by_stamp, is_on_day_of, item_id, has_number, is_named, is_in_tail, rooms_of_item, with_rows, in_scope}
 use Rattle.mr_model.specs.RowsRead.{rows_read, Reads}
+use Rattle.mr_model.proofs.RowsByStamp.{passing_by_stamp, first_passing, passing_both}
 
 filter_read : {A : Type 0} (f p : A → Bool) (xs : List A) → ((x : A) → Has x xs → f x ≡ true → p x ≡ true) → filter f (filter p xs) ≡ filter f xs
 filter_read f p [] g = refl
@@ -45,12 +46,17 @@ with_read t logs logs' bookings bookings' errors errors' gone gone' e f g k = λ
 
 pub read_rows : (s : Scope) (t : Tables) (p : LogRow → Bool) (b : BookingRow → Bool) (e : ErrorRow → Bool) (c : CancelledRow → Bool) → Reads s t p b e c → in_scope s (rows_read p b e c t) ≡ in_scope s t
 read_rows Nothing t p b e c r = refl
-read_rows (InRoom room) t p b e c r =
-    with_read t [] [] (filter (λ k. bytes_eq k.room room) t.booking) (filter (λ k. bytes_eq k.room room) (filter b t.booking)) [] []
-    (filter (λ k. bytes_eq k.room room) t.cancelled) (filter (λ k. bytes_eq k.room room) (filter c t.cancelled)) refl
-    (filter_read (λ k. bytes_eq k.room room) b t.booking (λ k h f. r.booking k (has_filter (λ k. bytes_eq k.room room) k t.booking f h)))
+read_rows (OfRequest q) t p b e c r =
+    with_read t [] [] (filter booked t.booking) (filter booked (filter b t.booking)) [] [] (filter cancelled t.cancelled) (filter cancelled (filter c t.cancelled)) refl
+    (filter_read booked b t.booking (λ k h f. r.booking k (has_filter booked k t.booking f h)))
     refl
-    (filter_read (λ k. bytes_eq k.room room) c t.cancelled (λ k h f. r.cancelled k (has_filter (λ k. bytes_eq k.room room) k t.cancelled f h)))
+    (filter_read cancelled c t.cancelled (λ k h f. r.cancelled k (has_filter cancelled k t.cancelled f h)))
+  where
+    booked : BookingRow → Bool
+    booked k = is_on_day_of q k.room k.day
+
+    cancelled : CancelledRow → Bool
+    cancelled k = is_on_day_of q k.room k.day
 read_rows (OfTarget target) t p b e c r =
     with_read t [] [] (filter (λ k. same_id (booking_id k) target) t.booking) (filter (λ k. same_id (booking_id k) target) (filter b t.booking))
     (filter (λ k. same_id (error_id k) target) t.errorlog) (filter (λ k. same_id (error_id k) target) (filter e t.errorlog))
@@ -69,7 +75,10 @@ read_rows (NextCommits k) t p b e c r =
     among rows row = is_among (cancelled_id row) (map log_row_id rows)
 
     logs : take k (by_stamp (filter is_tentative (filter p t.log))) ≡ take k (by_stamp (filter is_tentative t.log))
-    logs = ap (λ rows. take k (by_stamp rows)) (filter_read is_tentative p t.log (r.tentative tt))
+    logs =
+        ap (λ rows. take k (by_stamp rows)) (passing_both is_tentative p t.log)
+        ∙ ap (take k) (sym (passing_by_stamp p (filter is_tentative t.log)))
+        ∙ first_passing p k (by_stamp (filter is_tentative t.log)) r.logs
 read_rows (UpTo d) t p b e c r =
     let test : LogRow → Bool = λ row. within 1 d row.seq in
     with_read t (filter test t.log) (filter test (filter p t.log)) [] [] [] [] [] []

@@ -1,4 +1,4 @@
--- How many rows some batches need, computed by the definitions.
+-- How many rows some commands need, computed by the definitions.
 use Rattle.std.specs.Prelude.{◌≡◌, ℕ, zero, suc, ◌+◌, List, [], ◌∷◌, length, map, codes, decimal, refl, Result, Ok, Err}
 use Prim.Native.String.{String}
 use Rattle.std.specs.Fmt.{digits}
@@ -8,7 +8,9 @@ use Rattle.mr_model.specs.Exchange.{Item, Batch, read_batch}
 use Rattle.mr_model.specs.Tables.{Tables, tables_of}
 use Rattle.mr_model.proofs.Script.{Bytes, elm_batch, q, replica_after}
 use Rattle.mr_model.proofs.TableRows.{cancelled_alpha}
-use Rattle.mr_model.specs.Scopes.{OfTarget, NextCommits, OfItems, in_scope, counted_rows}
+use Rattle.mr_model.specs.Requests.{Request}
+use Rattle.mr_model.specs.Calendar.{Date}
+use Rattle.mr_model.specs.Scopes.{OfRequest, OfTarget, NextCommits, OfItems, in_scope, counted_rows}
 
 -- the items of a batch with these lines
 abbrev items_read : Result Batch Rattle.mr_model.specs.Refusals.Refusal → List Item
@@ -65,3 +67,37 @@ committing_cancelled = refl
 cancelling_cancelled : counted_rows (in_scope (OfTarget (record { server = 1; n = 1 })) (tables_of cancelled_alpha)) ≡ 1
 unfolding digits
 cancelling_cancelled = refl
+
+-- writes of oak on three days, and one of elm on the first of these
+abbrev days_tables : Tables
+days_tables =
+    tables_of
+    (replica_after (opening 9 1)
+    (Bytes
+    (lines_text
+    (map codes
+    ("mr1 2 1" ∷ "W 2 1 1 oak 60 1995-12-18 14:00 0 First" ∷ "W 2 2 2 oak 60 1995-12-19 14:00 0 Second" ∷ "W 2 3 3 oak 60 1995-12-20 09:00 0 Third"
+    ∷ "W 2 4 4 elm 60 1995-12-18 14:00 0 Elm" ∷ "E" ∷ [])))
+    ∷ []))
+
+abbrev december : ℕ → Date
+december day = record { year = 1995; month = 12; day = day }
+
+-- a request for oak on the first day, or else on the third
+abbrev first_or_third : Request
+first_or_third =
+    record {
+      room = codes "oak";
+      meeting =
+          record {
+            title = codes "Delta";
+            length = 30;
+            wish = record { day = december 18; start = 840 };
+            alternatives = record { day = december 20; start = 840 } ∷ [];
+          };
+    }
+
+-- its submission needs the bookings of these two days, whatever their hours are
+submitting : counted_rows (in_scope (OfRequest first_or_third) days_tables) ≡ 2
+unfolding digits
+submitting = refl

@@ -1,7 +1,8 @@
 -- What the rows in scope tell of a replica.
 use Rattle.std.specs.Prelude.{◌≡◌, ℕ, ◌-◌, ◌≤◌, Bool, true, ◌↔◌, List, [], ◌++◌, take, drop, map, filter, filter_map, Some}
 use Rattle.mr_model.specs.Texts.{Text}
-use Rattle.mr_model.specs.Writes.{Id, Cancels, Write}
+use Rattle.mr_model.specs.Writes.{Id, Books, Cancels, Write}
+use Rattle.mr_model.specs.Requests.{Request}
 use Rattle.mr_model.specs.Replay.{Done, Booking, place_among}
 use Rattle.mr_model.specs.Board.{place_on, board_after}
 use Rattle.mr_model.specs.Replica.{Replica, count_of, is_dropped, write_with, tentative, order_of, IsReplica}
@@ -9,9 +10,8 @@ use Rattle.mr_model.specs.Step.{knows_booking}
 use Rattle.mr_model.specs.Tables.{LogRow, BookingRow, ErrorRow, CancelledRow, Tables, log_row, cancelled_row, tables_of}
 use Rattle.mr_model.specs.Dropped.{Has}
 use Rattle.mr_model.specs.Kept.{kept_in_order, AreInRunOrder}
-use Rattle.mr_model.specs.Queries.{AreBookingsOf}
 use Rattle.mr_model.specs.Changes.{SameRows, first_tentative}
-use Rattle.mr_model.specs.Scopes.{OfTarget, NextCommits, UpTo, Above, log_row_id, in_scope}
+use Rattle.mr_model.specs.Scopes.{OfTarget, NextCommits, UpTo, Above, log_row_id, is_on_day_of, in_scope}
 
 -- the committed writes that are kept
 abbrev pub kept_commits : Replica → List Write
@@ -29,10 +29,14 @@ PickedRowsAreKept =
     → SameRows (filter test (tables_of r).log) (map (log_row r) (filter (λ w. test (log_row r w)) (kept_in_order r)))
     × AreInRunOrder (map (log_row r) (filter (λ w. test (log_row r w)) (kept_in_order r)))
 
--- a submission: the bookings of the room tell where the next write goes, in whatever order they come
-abbrev pub RoomRowsTellPlaces : Type 0
-RoomRowsTellPlaces =
-    (r : Replica) (w : Write) (rows : List BookingRow) → IsReplica r → AreBookingsOf r w.room rows
+-- the rows are the bookings of the request's room on the days of its choices, each there however often and in whatever order
+abbrev pub AreBookingsOnDaysOf : Replica → Request → List BookingRow → Type 0
+AreBookingsOnDaysOf r q rows = (row : BookingRow) → Has row rows ↔ (Has row (tables_of r).booking × (is_on_day_of q row.room row.day ≡ true))
+
+-- a submission: these tell where a write goes that books the request's meeting in its room
+abbrev pub RowsOnDaysTellPlaces : Type 0
+RowsOnDaysTellPlaces =
+    (r : Replica) (q : Request) (w : Write) (rows : List BookingRow) → IsReplica r → w.room ≡ q.room → w.action ≡ Books q.meeting → AreBookingsOnDaysOf r q rows
     → place_on (board_after [] (order_of r)) w ≡ place_among (map told_booking rows) w
 
 -- a cancel: the booking row under its target's id, if the cancel's room has it, is what it takes back

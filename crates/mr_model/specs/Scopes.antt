@@ -2,7 +2,9 @@
 use Rattle.std.specs.Prelude.{ℕ, ◌+◌, Bool, false, not, ◌&&◌, ◌||◌, if◌then◌else◌, ◌==◌, nat_lt, List, [], ◌∷◌, length, take, map, filter, flat_map, bytes_eq}
 use Rattle.std.specs.List.{list_any}
 use Rattle.mr_model.specs.Texts.{Text, within}
-use Rattle.mr_model.specs.Writes.{Id, id_of, same_id}
+use Rattle.mr_model.specs.Calendar.{Date, same_date}
+use Rattle.mr_model.specs.Writes.{Id, id_of, same_id, choices_of}
+use Rattle.mr_model.specs.Requests.{Request}
 use Rattle.mr_model.specs.Replica.{is_among}
 use Rattle.mr_model.specs.Exchange.{Item, W, C}
 use Rattle.mr_model.specs.Tables.{LogRow, BookingRow, ErrorRow, CancelledRow, Tables}
@@ -11,7 +13,7 @@ use Rattle.mr_model.specs.Queries.{booking_id, error_id, cancelled_id}
 -- what a command needs: one case for each kind of them
 pub data Scope : Type 0 where
   Nothing : Scope  -- a room more; the position
-  InRoom : (room : Text) → Scope  -- a submission for the room
+  OfRequest : (request : Request) → Scope  -- a submission: the bookings of its room on the days of its choices
   OfTarget : (target : Id) → Scope  -- a cancel of what has this id
   NextCommits : (count : ℕ) → Scope  -- a commit of so many
   UpTo : (number : ℕ) → Scope  -- a truncation to this commit number
@@ -41,6 +43,12 @@ put_row x (y ∷ ys) = if row_before x y then x ∷ y ∷ ys else y ∷ put_row 
 abbrev pub by_stamp : List LogRow → List LogRow
 by_stamp [] = []
 by_stamp (x ∷ xs) = put_row x (by_stamp xs)
+
+-- ---- a submission
+
+-- the room is that of the request, and one of its choices is on the day
+abbrev pub is_on_day_of : Request → Text → Date → Bool
+is_on_day_of q room day = bytes_eq room q.room && list_any (λ s. same_date s.day day) (choices_of q.meeting)
 
 -- ---- a batch
 
@@ -104,10 +112,10 @@ next_commits k t = take k (by_stamp (filter is_tentative t.log))
 
 abbrev pub in_scope : Scope → Tables → Tables
 in_scope Nothing t = with_rows t [] [] [] []
-in_scope (InRoom room) t =
+in_scope (OfRequest q) t =
     with_rows t []
-    (filter (λ b. bytes_eq b.room room) t.booking) []
-    (filter (λ c. bytes_eq c.room room) t.cancelled)
+    (filter (λ b. is_on_day_of q b.room b.day) t.booking) []
+    (filter (λ c. is_on_day_of q c.room c.day) t.cancelled)
 in_scope (OfTarget target) t =
     with_rows t []
     (filter (λ b. same_id (booking_id b) target) t.booking)

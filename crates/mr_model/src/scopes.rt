@@ -2,7 +2,7 @@
 
 ghost use Rattle.mr_model.specs.Moving.{BatchesMoveTouchedRooms};
 ghost use Rattle.mr_model.specs.RowsRead.{ReadRowsSuffice};
-ghost use Rattle.mr_model.specs.RowsInScope.{PickedRowsAreKept, RoomRowsTellPlaces, TargetRowTellsPlace, TargetRowsTellKnown, NextCommitsAreInScope, TruncatedAreInScope, LackedAreInScope, MissingIsDropped};
+ghost use Rattle.mr_model.specs.RowsInScope.{PickedRowsAreKept, RowsOnDaysTellPlaces, TargetRowTellsPlace, TargetRowsTellKnown, NextCommitsAreInScope, TruncatedAreInScope, LackedAreInScope, MissingIsDropped};
 
 /// A batch that is taken moves nothing but writes of the rooms that it touches, from its first place on.
 pub fn moving_law()
@@ -12,7 +12,7 @@ pub fn moving_law()
 /// The rows in scope tell what their command needs to know.
 pub fn scope_law()
     ensures picked { PickedRowsAreKept }
-    ensures submission { RoomRowsTellPlaces }
+    ensures submission { RowsOnDaysTellPlaces }
     ensures cancel { TargetRowTellsPlace }
     ensures target { TargetRowsTellKnown }
     ensures commit { NextCommitsAreInScope }

@@ -1,22 +1,22 @@
 -- The board of a part has those rows of the replica's board that are in its scope.
-use Rattle.std.proofs.Common.{◌≡◌, refl, sym, ap, ◌∙◌, subst, ◌+◌, ◌-◌, Bool, true, false, cond, ◌&&◌, List, [], ◌∷◌, ◌++◌, map, ◌⊎◌, inl, inr, Option, Some, None}
+use Rattle.std.proofs.Common.{◌≡◌, refl, sym, ap, ◌∙◌, subst, Bool, true, false, cond, ◌&&◌, List, [], ◌∷◌, ◌++◌, map, ◌⊎◌, inl, inr, Option, Some, None}
 use Rattle.std.proofs.lemmas.Bool.{true≢false, cond-true}
 use Rattle.std.specs.List.{filter}
 use Rattle.std.specs.Str.{bytes_eq}
 use Rattle.std.specs.BTreeMap.{insert_entry}
 use Rattle.mr_model.specs.Texts.{Text}
 use Rattle.mr_model.specs.Writes.{Id, Write, id_of, same_id}
+use Rattle.mr_model.specs.Requests.{Request}
 use Rattle.mr_model.specs.Replica.{Replica, IsReplica, order_of, is_among, is_committed}
 use Rattle.mr_model.specs.View.{of_room, place_of, canceller_of}
 use Rattle.mr_model.specs.Tables.{LogRow, BookingRow, ErrorRow, CancelledRow, CancelRow, Tables, as_booking, as_error, as_cancelled, as_cancel, place_row, seq_of, tables_of}
 use Rattle.mr_model.specs.Dropped.{Has}
-use Rattle.mr_model.specs.Scopes.{Scope, Nothing, InRoom, OfTarget, NextCommits, UpTo, Above, OfItems, log_row_id, is_touched, next_commits, with_rows, in_scope}
+use Rattle.mr_model.specs.Scopes.{Scope, Nothing, OfRequest, OfTarget, NextCommits, UpTo, Above, OfItems, log_row_id, is_touched, is_on_day_of, next_commits, with_rows, in_scope}
 use Rattle.mr_model.proofs.Members.{has_left, has_right, has_split, has_filter, filter_has, has_map, map_has, same_id-true, same_id_from}
 use Rattle.mr_model.proofs.RowsTell.{known_of, booked_is, erred_is, cancelled_is, cancel_is}
 use Rattle.mr_model.proofs.UniqueReplay.{some_inj, none_some}
 use Rattle.mr_base.specs.Ids.{id_cmp}
-use Rattle.mr_replay.specs.declared.rows.Standing.TheVariants.{CancelledBy}
-use Rattle.mr_replay.specs.declared.rows.Standing.TheVariants as standing
+use Rattle.mr_replay.specs.declared.rows.Standing.TheVariants.{Booked, CancelledBy}
 use Rattle.mr_replay.specs.declared.rows.Kept.{Kept}
 use Rattle.mr_replay.specs.declared.rows.Kept.TheVariants.{OfBooking}
 use Rattle.mr_replay.specs.declared.rows.Row.{Row}
@@ -261,10 +261,16 @@ abbrev pub is_taken_back : Kept → Bool
 is_taken_back (OfBooking slot length title (CancelledBy by)) = true
 is_taken_back _ = false
 
+-- whether it took a slot of the request's room on a day of its choices
+abbrev pub takes_on_day_of : Request → Text → Kept → Bool
+takes_on_day_of q room (OfBooking slot length title Booked) = is_on_day_of q room slot.day
+takes_on_day_of q room (OfBooking slot length title (CancelledBy by)) = is_on_day_of q room slot.day
+takes_on_day_of q room _ = false
+
 -- whether the row of this id is in scope
 abbrev pub is_in_part : Scope → Replica → Id → Row → Bool
 is_in_part Nothing a i row = false
-is_in_part (InRoom room) a i row = is_taken row.kept && bytes_eq row.room room
+is_in_part (OfRequest q) a i row = takes_on_day_of q row.room row.kept
 is_in_part (OfTarget target) a i row = kept_is_booking row.kept && same_id i target
 is_in_part (NextCommits k) a i row = is_taken_back row.kept && is_among i (map log_row_id (next_commits k (tables_of a)))
 is_in_part (UpTo d) a i row = false
@@ -290,9 +296,16 @@ picks_rooms t mine = record {
 
 pub part-row : (s : Scope) (a : Replica) (i : Id) → IsReplica a → row_at (board_of (in_scope s (tables_of a))) i ≡ if_picked (is_in_part s a i) (row_at (board_of (tables_of a)) i)
 part-row Nothing a i sound = board-picked a [] (is_in_part Nothing a) [] [] [] sound (picks_nothing (tables_of a)) i
-part-row (InRoom room) a i sound =
-    board-picked a [] (is_in_part (InRoom room) a) (in_scope (InRoom room) (tables_of a)).booking [] (in_scope (InRoom room) (tables_of a)).cancelled sound
-    (picks_rooms (tables_of a) (λ name. bytes_eq name room)) i
+part-row (OfRequest q) a i sound =
+    let t = in_scope (OfRequest q) (tables_of a) in
+    let f = is_in_part (OfRequest q) a in
+    board-picked a [] f t.booking [] t.cancelled sound
+    (record {
+      booking = picks_some booking_entry f (λ b. is_on_day_of q b.room b.day) (tables_of a).booking (λ x. refl);
+      errorlog = picks_none error_entry f (tables_of a).errorlog (λ x. refl);
+      cancelled = picks_some cancelled_entry f (λ c. is_on_day_of q c.room c.day) (tables_of a).cancelled (λ x. refl);
+      cancels = λ x. refl;
+    }) i
 part-row (OfTarget target) a i sound =
     let t = in_scope (OfTarget target) (tables_of a) in
     let f = is_in_part (OfTarget target) a in

@@ -1,6 +1,5 @@
 -- A part has as many writes and rows on its board as rows are in scope.
 use Rattle.std.proofs.Common.{◌≡◌, refl, sym, ap, ◌∙◌, subst, ℕ, suc, ◌+◌, ◌-◌, ◌<◌, ◌≤◌, nat_lt, Bool, ◌||◌, ◌&&◌, true, false, cond, List, [], ◌∷◌, ◌++◌, length, map, take, drop, ◌⊎◌, inl, inr, arith, append_assoc, Option, Some, None}
-use Rattle.std.specs.Prelude.{bytes_eq}
 use Rattle.std.proofs.lemmas.Bool.{cond-false, false_from_ne_true}
 use Rattle.std.proofs.lemmas.List.{length-append, length-map, map-append}
 use Rattle.std.specs.List.{filter}
@@ -15,14 +14,14 @@ use Rattle.mr_model.specs.Tables.{LogRow, BookingRow, ErrorRow, CancelledRow, Ta
 use Rattle.mr_model.specs.Dropped.{Has}
 use Rattle.mr_model.specs.Queries.{booking_id, error_id, cancelled_id, row_id}
 use Rattle.mr_model.specs.Changes.{IdBefore, RiseById, SameRows, first_tentative}
-use Rattle.mr_model.specs.Scopes.{Scope, Nothing, InRoom, OfTarget, NextCommits, UpTo, Above, OfItems, is_tentative, log_row_id, is_named, is_in_tail, is_touched, with_rows, in_scope, counted_rows}
+use Rattle.mr_model.specs.Scopes.{Scope, Nothing, OfRequest, OfTarget, NextCommits, UpTo, Above, OfItems, is_tentative, log_row_id, is_named, is_in_tail, is_touched, is_on_day_of, with_rows, in_scope, counted_rows}
 use Rattle.mr_model.specs.RowsInScope.{kept_commits}
 use Rattle.mr_model.proofs.DroppedApart.{order-parts, known_order}
 use Rattle.mr_model.proofs.InScope.{lacked, truncated}
 use Rattle.mr_model.proofs.InScope as scope
 use Rattle.mr_model.proofs.KeyOrder.{tables_in_order}
 use Rattle.mr_model.proofs.KnownById.{distinct_order}
-use Rattle.mr_model.proofs.Members.{has_left, has_right, has_map, map_has, has_filter, filter_has, all_has, among_not, same_id-true, same_id_from, take_drop, Distinct, distinct_parts}
+use Rattle.mr_model.proofs.Members.{has_left, has_right, has_map, map_has, filter_has, all_has, among_not, same_id-true, same_id_from, take_drop, Distinct, distinct_parts}
 use Rattle.mr_model.proofs.RowsTell.{known_of, booked_is, erred_is, cancelled_is}
 use Rattle.mr_model.proofs.TablesTell.{key-row}
 use Rattle.mr_model.proofs.UniqueReplay.{some_inj, none_some}
@@ -379,7 +378,7 @@ record InPart (s : Scope) (a : Replica) : Type 0 where
 
 in_part : (s : Scope) (a : Replica) → IsReplica a → IsAskedOf s a → InPart s a
 in_part Nothing a sound asked = record { rows = in_scope Nothing (tables_of a); are = refl; logs = none_kept a; bookings = no_rows a }
-in_part (InRoom room) a sound asked = record { rows = in_scope (InRoom room) (tables_of a); are = refl; logs = none_kept a; bookings = of_rooms a sound (λ b. bytes_eq b.room room) (λ c. bytes_eq c.room room) }
+in_part (OfRequest q) a sound asked = record { rows = in_scope (OfRequest q) (tables_of a); are = refl; logs = none_kept a; bookings = of_rooms a sound (λ b. is_on_day_of q b.room b.day) (λ c. is_on_day_of q c.room c.day) }
 in_part (OfTarget target) a sound asked =
     record { rows = in_scope (OfTarget target) (tables_of a); are = refl; logs = none_kept a; bookings = of_target a sound (λ b. same_id (booking_id b) target) (λ e. same_id (error_id e) target) (λ c. same_id (cancelled_id c) target) }
 in_part (NextCommits k) a sound asked =

@@ -2,7 +2,7 @@
 use Rattle.std.proofs.Common.{◌≡◌, refl, sym, ap, ◌∙◌, subst, ℕ, ◌-◌, ◌<◌, ◌≤◌, Bool, true, false, not, cond, ◌&&◌, ◌||◌, ◌↔◌, List, [], ◌∷◌, ◌++◌, map, take, drop, length, arith, append_assoc, ltb-false}
 use Rattle.std.proofs.lemmas.Bool.{not-true, true≢false, ltb-true}
 use Rattle.std.proofs.lemmas.Bool.Decides.{nat_tests}
-use Rattle.std.specs.Prelude.{bytes_eq, nat_lt, ◌==◌}
+use Rattle.std.specs.Prelude.{nat_lt, ◌==◌}
 use Rattle.std.specs.List.{AllByRecursion, filter}
 use Rattle.mr_model.specs.Texts.{Text, within}
 use Rattle.mr_model.specs.Writes.{Write, id_of, same_id}
@@ -12,7 +12,7 @@ use Rattle.mr_model.specs.Tables.{LogRow, BookingRow, ErrorRow, CancelledRow, Ta
 use Rattle.mr_model.specs.Kept.{kept_in_order, LogBefore, AreInRunOrder}
 use Rattle.mr_model.specs.Changes.{IdBefore, RiseById, SameRows, first_tentative}
 use Rattle.mr_model.specs.Dropped.{Has}
-use Rattle.mr_model.specs.Scopes.{Scope, Nothing, InRoom, OfTarget, NextCommits, UpTo, Above, OfItems, log_row_id, is_tentative, is_named, is_in_tail, is_touched, by_stamp, next_commits, in_scope}
+use Rattle.mr_model.specs.Scopes.{Scope, Nothing, OfRequest, OfTarget, NextCommits, UpTo, Above, OfItems, log_row_id, is_tentative, is_named, is_in_tail, is_touched, by_stamp, is_on_day_of, next_commits, in_scope}
 use Rattle.mr_model.specs.RowsInScope.{kept_commits}
 use Rattle.mr_model.proofs.InScope.{truncated, lacked}
 use Rattle.mr_model.proofs.InScope as scope
@@ -33,7 +33,7 @@ use Rattle.mr_part.specs.PickedLogs.{is_log_in, is_by_row, ArePicked}
 
 pub same_meta : (s : Scope) (t u : Tables) → in_scope s t ≡ in_scope s u → t.meta ≡ u.meta
 same_meta Nothing t u e = ap (λ (x : Tables). x.meta) e
-same_meta (InRoom room) t u e = ap (λ (x : Tables). x.meta) e
+same_meta (OfRequest q) t u e = ap (λ (x : Tables). x.meta) e
 same_meta (OfTarget target) t u e = ap (λ (x : Tables). x.meta) e
 same_meta (NextCommits k) t u e = ap (λ (x : Tables). x.meta) e
 same_meta (UpTo d) t u e = ap (λ (x : Tables). x.meta) e
@@ -42,7 +42,7 @@ same_meta (OfItems items) t u e = ap (λ (x : Tables). x.meta) e
 
 pub same_vector : (s : Scope) (t u : Tables) → in_scope s t ≡ in_scope s u → t.vector ≡ u.vector
 same_vector Nothing t u e = ap (λ (x : Tables). x.vector) e
-same_vector (InRoom room) t u e = ap (λ (x : Tables). x.vector) e
+same_vector (OfRequest q) t u e = ap (λ (x : Tables). x.vector) e
 same_vector (OfTarget target) t u e = ap (λ (x : Tables). x.vector) e
 same_vector (NextCommits k) t u e = ap (λ (x : Tables). x.vector) e
 same_vector (UpTo d) t u e = ap (λ (x : Tables). x.vector) e
@@ -51,7 +51,7 @@ same_vector (OfItems items) t u e = ap (λ (x : Tables). x.vector) e
 
 pub same_room : (s : Scope) (t u : Tables) → in_scope s t ≡ in_scope s u → t.room ≡ u.room
 same_room Nothing t u e = ap (λ (x : Tables). x.room) e
-same_room (InRoom room) t u e = ap (λ (x : Tables). x.room) e
+same_room (OfRequest q) t u e = ap (λ (x : Tables). x.room) e
 same_room (OfTarget target) t u e = ap (λ (x : Tables). x.room) e
 same_room (NextCommits k) t u e = ap (λ (x : Tables). x.room) e
 same_room (UpTo d) t u e = ap (λ (x : Tables). x.room) e
@@ -176,7 +176,7 @@ left_kept a n w g = subst (Has w) (sym (cut_at a n)) (has_right w (take n (kept_
 
 pub picked_in : (a : Replica) (s : Scope) (t : Tables) (touched : List Text) → IsReplica a → is_by_row s ≡ true → in_scope s t ≡ in_scope s (tables_of a) → AreSameRooms touched (touched_in s t) → ArePicked a (is_log_in s t.meta.commits touched) t.log (kept_in s a)
 picked_in a Nothing t touched h by e same = absurd (never by)
-picked_in a (InRoom room) t touched h by e same = absurd (never by)
+picked_in a (OfRequest q) t touched h by e same = absurd (never by)
 picked_in a (OfTarget target) t touched h by e same = absurd (never by)
 picked_in a (NextCommits k) t touched h by e same = absurd (never by)
 picked_in a (UpTo d) t touched h by e same =
@@ -220,7 +220,7 @@ commit_ids a k t h e = sym (ap (map log_row_id) (commit_rows a k t h e) ∙ ids_
 -- the rows that are picked one by one are those in scope
 pub bookings_told : (a : Replica) (s : Scope) (t : Tables) (touched : List Text) → in_scope s t ≡ in_scope s (tables_of a) → AreSameRooms touched (touched_in s t) → filter (is_booking_in s touched) t.booking ≡ (in_scope s (tables_of a)).booking
 bookings_told a Nothing t touched e same = none_picked t.booking
-bookings_told a (InRoom room) t touched e same = ap (λ (x : Tables). x.booking) e
+bookings_told a (OfRequest q) t touched e same = ap (λ (x : Tables). x.booking) e
 bookings_told a (OfTarget target) t touched e same = ap (λ (x : Tables). x.booking) e
 bookings_told a (NextCommits k) t touched e same = none_picked t.booking
 bookings_told a (UpTo d) t touched e same = none_picked t.booking
@@ -229,7 +229,7 @@ bookings_told a (OfItems items) t touched e same = (λ i. filter (λ b. same b.r
 
 errors_told : (a : Replica) (s : Scope) (t : Tables) → in_scope s t ≡ in_scope s (tables_of a) → filter (is_error_in s) t.errorlog ≡ (in_scope s (tables_of a)).errorlog
 errors_told a Nothing t e = none_picked t.errorlog
-errors_told a (InRoom room) t e = none_picked t.errorlog
+errors_told a (OfRequest q) t e = none_picked t.errorlog
 errors_told a (OfTarget target) t e = ap (λ (x : Tables). x.errorlog) e
 errors_told a (NextCommits k) t e = none_picked t.errorlog
 errors_told a (UpTo d) t e = none_picked t.errorlog
@@ -238,7 +238,7 @@ errors_told a (OfItems items) t e = none_picked t.errorlog
 
 cancelled_told : (a : Replica) (s : Scope) (t : Tables) (touched : List Text) → IsReplica a → in_scope s t ≡ in_scope s (tables_of a) → AreSameRooms touched (touched_in s t) → filter (is_cancelled_in s touched (map id_of (kept_in s a))) t.cancelled ≡ (in_scope s (tables_of a)).cancelled
 cancelled_told a Nothing t touched h e same = none_picked t.cancelled
-cancelled_told a (InRoom room) t touched h e same = ap (λ (x : Tables). x.cancelled) e
+cancelled_told a (OfRequest q) t touched h e same = ap (λ (x : Tables). x.cancelled) e
 cancelled_told a (OfTarget target) t touched h e same = ap (λ (x : Tables). x.cancelled) e
 cancelled_told a (NextCommits k) t touched h e same = (λ i. filter (is_cancelled_in (NextCommits k) touched (commit_ids a k t h e i)) t.cancelled) ∙ ap (λ (x : Tables). x.cancelled) e
 cancelled_told a (UpTo d) t touched h e same = none_picked t.cancelled
@@ -248,7 +248,7 @@ cancelled_told a (OfItems items) t touched h e same = (λ i. filter (λ c. same 
 -- of a scope no rows of cancels are there
 no_cancels : (s : Scope) (t : Tables) → (in_scope s t).cancels ≡ []
 no_cancels Nothing t = refl
-no_cancels (InRoom room) t = refl
+no_cancels (OfRequest q) t = refl
 no_cancels (OfTarget target) t = refl
 no_cancels (NextCommits k) t = refl
 no_cancels (UpTo d) t = refl
@@ -286,7 +286,7 @@ scope_within a s h = go s
 
     go : (s : Scope) → AreWithin (in_scope s t)
     go Nothing = record { booking = tt; errorlog = tt; cancelled = tt }
-    go (InRoom room) = record { booking = bookings (λ b. bytes_eq b.room room); errorlog = tt; cancelled = cancelled (λ c. bytes_eq c.room room) }
+    go (OfRequest q) = record { booking = bookings (λ b. is_on_day_of q b.room b.day); errorlog = tt; cancelled = cancelled (λ c. is_on_day_of q c.room c.day) }
     go (OfTarget target) = record { booking = bookings (λ b. same_id (booking_id b) target); errorlog = errors (λ e. same_id (error_id e) target); cancelled = cancelled (λ c. same_id (cancelled_id c) target) }
     go (NextCommits k) = record { booking = tt; errorlog = tt; cancelled = cancelled (λ c. is_among (cancelled_id c) (map log_row_id (next_commits k t))) }
     go (UpTo d) = record { booking = tt; errorlog = tt; cancelled = tt }

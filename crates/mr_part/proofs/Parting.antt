@@ -1,43 +1,45 @@
 -- What the calls of a part answer that commit and that accept a write of the replica's own, and what their changes make of the tables.
-use Rattle.std.proofs.Common.{◌≡◌, refl, sym, ap, ◌∙◌, subst, ℕ, ◌+◌, ◌<◌, ◌==◌, Bool, true, false, cond, ◌&&◌, leb, List, [], ◌∷◌, ◌++◌, length, map, take, drop, ◌⊎◌, inl, inr, arith, Option, Some, None, Ok, IsTrue}
+use Rattle.std.proofs.Common.{◌≡◌, refl, sym, ap, ◌∙◌, subst, ℕ, ◌+◌, ◌<◌, ◌==◌, Bool, true, false, cond, ◌&&◌, leb, List, [], ◌∷◌, ◌++◌, length, map, take, drop, inl, inr, arith, Option, Some, None, Ok, IsTrue}
 use Rattle.std.proofs.Math.Seq.{take-length}
 use Rattle.std.proofs.lemmas.List.{length-append}
-use Rattle.std.proofs.lemmas.Bool.{leb-true, cond-false, false_from_ne_true}
+use Rattle.std.proofs.lemmas.Bool.{leb-true, cond-true, cond-false, false_from_ne_true, and_from}
 use Rattle.std.specs.Str.{bytes_eq}
 use Rattle.std.specs.List.{list_any}
 use Rattle.mr_model.specs.Texts.{Text}
-use Rattle.mr_model.specs.Writes.{Id, Stamp, Action, Books, Cancels, Write, id_of, same_id, is_write, is_action, is_id, is_room_name}
+use Rattle.mr_model.specs.Calendar.{same_date}
+use Rattle.mr_model.specs.Slots.{Slot}
+use Rattle.mr_model.specs.Writes.{Id, Stamp, Books, Cancels, Write, id_of, same_id, is_write, is_action, is_id, is_room_name, choices_of}
 use Rattle.mr_model.specs.Requests.{Request, is_request, stamped}
-use Rattle.mr_model.specs.Replay.{Place, Taken, Logged, Done, Void, place_for}
-use Rattle.mr_model.specs.Replica.{Replica, IsReplica, tentative, order_of, knows_room, is_among}
+use Rattle.mr_model.specs.Replay.{Place, Taken, Logged, Done, Void, Booking, place_for}
+use Rattle.mr_model.specs.Replica.{Replica, IsReplica, tentative, knows_room, is_among}
 use Rattle.mr_model.specs.Replies.{CommittedIs}
 use Rattle.mr_model.specs.Step.{After, commit, next_stamp, knows_booking}
 use Rattle.mr_model.specs.Tables.{MetaRow, VectorRow, log_row, log_row_with, place_row_for, tables_of}
-use Rattle.mr_model.specs.View.{of_room, place_of, canceller_of}
+use Rattle.mr_model.specs.View.{place_of, canceller_of}
 use Rattle.mr_model.specs.Dropped.{Has}
 use Rattle.mr_model.specs.Changes.{first_tentative, after_commit}
 use Rattle.mr_model.specs.Kept.{kept_in_order}
-use Rattle.mr_model.specs.Scopes.{InRoom, OfTarget, NextCommits, log_row_id, next_commits, in_scope}
+use Rattle.mr_model.specs.Scopes.{OfRequest, OfTarget, NextCommits, log_row_id, is_on_day_of, next_commits, in_scope}
 use Rattle.mr_model.proofs.ChangesKeep.{within}
 use Rattle.mr_model.proofs.CommitsKeep.{keeps-commit}
-use Rattle.mr_model.proofs.DroppedApart.{order-parts}
 use Rattle.mr_model.proofs.InScope as scope
 use Rattle.mr_model.proofs.Orders.{added}
 use Rattle.mr_model.proofs.RowsById.{action_within}
 use Rattle.mr_model.proofs.KnownById.{tentative_known}
-use Rattle.mr_model.proofs.Members.{has_left, has_map, has_among, same_id_refl, take_drop}
+use Rattle.mr_model.proofs.Members.{has_left, has_map, has_among, any_has, same_id_refl, take_drop}
+use Rattle.mr_model.proofs.MembersAlike.{HasOnDays, place_on_days}
+use Rattle.mr_model.proofs.SlotTests.{same_date_from}
 use Rattle.mr_replay.specs.declared.rows.Standing.TheVariants.{Booked, CancelledBy, InErrorLog}
 use Rattle.mr_replay.specs.declared.rows.Kept.{Kept}
 use Rattle.mr_replay.specs.declared.rows.Kept.TheVariants.{OfBooking, OfCancel}
 use Rattle.mr_replay.specs.declared.rows.Row.{Row}
 use Rattle.mr_replay.specs.Places.{UndoRow}
 use Rattle.mr_replay.specs.Rows.{Rows, row_at, is_standing, is_booking_of, bookings_of, place_by_rows, executed, undo_row_at, undo_row_of, undo_rows_of, target_of, target_if_done as taken_back_by}
-use Rattle.mr_replay.specs.Bookings.{if_taken, HasBookings}
-use Rattle.mr_replay.specs.Holds.{HaveDistinctIds}
+use Rattle.mr_replay.specs.Holds.{if_of}
 use Rattle.mr_replay.specs.Index.{is_row}
 use Rattle.mr_replay.proofs.Entries.{IsInOrder}
-use Rattle.mr_replay.proofs.Lists.{same_name, distinct-part}
-use Rattle.mr_replay.proofs.PlacesOnBoard.{booked-row, place_by_bookings}
+use Rattle.mr_replay.proofs.PlacesOnBoard.{booked-row, booking-row, row-booking}
+use Rattle.mr_replay.proofs.ToldRows.{booked_at}
 use Rattle.mr_tables.specs.Boards as tables
 use Rattle.mr_tables.specs.declared.summary.Summary.{Summary}
 use Rattle.mr_tables.specs.declared.summary.Tally.{Tally}
@@ -46,9 +48,9 @@ use Rattle.mr_tables.specs.Change.{ChangeView, changed}
 use Rattle.mr_tables.specs.ExecutionRows.{seq_on}
 use Rattle.mr_tables.specs.Written.{meta_of, changed_tallies, with_places, written}
 use Rattle.mr_tables.proofs.BoardsTold.{board_told}
-use Rattle.mr_replica.specs.Accepting.{summary_in, with_last, puts_last, CanPutLast}
+use Rattle.mr_replica.specs.Accepting.{with_last}
 use Rattle.mr_replica.specs.ChangeLaws.{board_before, kept_committed}
-use Rattle.mr_replica.specs.Desk.{DeskView, desk_of}
+use Rattle.mr_replica.specs.Desk.{desk_of}
 use Rattle.mr_replica.specs.DeskTables.{desk_tables}
 use Rattle.mr_part.specs.Parts.{PartView, part_of}
 use Rattle.mr_part.specs.PartAccepting.{part_puts, CanPut}
@@ -60,9 +62,8 @@ use Rattle.mr_replica.proofs.Changing.{kept_committed_long}
 use Rattle.mr_replica.proofs.Committing.{commit_done}
 use Rattle.mr_replica.proofs.CommandTurns.{numbers_after, commit_turns}
 use Rattle.mr_replica.proofs.DeskBoards.{board_of, board-told}
-use Rattle.mr_replica.proofs.DeskNumbers.{order_distinct}
 use Rattle.mr_replica.proofs.DeskRows.{desk_tables-of}
-use Rattle.mr_part.proofs.PartBoards.{if_picked, is_taken_back, is_in_part, part-row, board_in_order, board_in, board_in_ordered, has_bookings}
+use Rattle.mr_part.proofs.PartBoards.{if_picked, is_taken_back, takes_on_day_of, part-row, board_in_order}
 use Rattle.mr_replica.proofs.Placings.{canceller-here, rows_end, booking-known}
 use Rattle.mr_replica.proofs.Submitting.{Submits, submits, Withdraws, withdraws, submitted_is_next, cancelled_is_next}
 use Rattle.mr_replica.proofs.SubmittedRows.{few_kept, booking_takes, PutsLast, submitted, withdrawn}
@@ -176,16 +177,62 @@ part_puts_last a p w change sound summary place taken ends is can =
 
 -- ---- a submission
 
--- on a board with the bookings of its room a write goes where the replica's board tells
-room_place : (a : Replica) (mine : Text → Bool) (w : Write) → IsReplica a → mine w.room ≡ true → place_by_rows (board_in mine a) w ≡ place_by_rows (board_of a) w
-room_place a mine w sound m =
-    let room = w.room in
-    let list = of_room room (order_of a) in
-    let holds = board_told a sound in
-    let distinct : HaveDistinctIds list = distinct-part room (order_of a) (subst (λ (ws : List Write). HaveDistinctIds ws) (sym (order-parts a)) (order_distinct a sound)) in
-    place_by_bookings room list (board_in mine a) w refl (board_in_ordered mine a) distinct (has_bookings a mine sound room m)
-    ∙ sym (place_by_bookings room list (tables.board_of (tables_of a)) w refl holds.ordered distinct (λ i. ap if_taken (holds.rooms room i)))
+-- what the scope of a request picks is a booking of the replica's board
+in_picked : (f : Row → Bool) (room : Text) (x : Booking) (o : Option Row) → Has x (booked_at x.id (if_of room (if_picked f o))) → Has x (booked_at x.id (if_of room o))
+in_picked f room x None h = h
+in_picked f room x (Some row) h = go (f row) h
+  where
+    go : (c : Bool) → Has x (booked_at x.id (if_of room (cond c (Some row) None))) → Has x (booked_at x.id (if_of room (Some row)))
+    go true g = g
+    go false g = absurd g
+
+-- and it picks the bookings of the request's room on the days of its choices
+picked_on_day : (q : Request) (x : Booking) (s : Slot) (o : Option Row) → Has s (choices_of q.meeting) → s.day ≡ x.slot.day → Has x (booked_at x.id (if_of q.room o))
+    → Has x (booked_at x.id (if_of q.room (if_picked (λ row. takes_on_day_of q row.room row.kept) o)))
+picked_on_day q x s None c d h = h
+picked_on_day q x s (Some row) c d h = subst (λ o. Has x (booked_at x.id (if_of q.room o))) (sym (cond-true (takes_on_day_of q row.room row.kept) (Some row) None (here row.kept (bytes_eq row.room q.room) refl h))) h
+  where
+    on : (slot : Slot) → x.slot ≡ slot → bytes_eq row.room q.room ≡ true → is_on_day_of q row.room slot.day ≡ true
+    on slot e own =
+        and_from (bytes_eq row.room q.room) (list_any (λ t. same_date t.day slot.day) (choices_of q.meeting)) own
+        (any_has (λ t. same_date t.day slot.day) s (choices_of q.meeting) (same_date_from s.day slot.day (d ∙ ap (λ (t : Slot). t.day) e)) c)
+
+    here : (k : Kept) (b : Bool) → bytes_eq row.room q.room ≡ b → Has x (booked_at x.id (cond b (Some (record { room = row.room; kept = k })) None)) → takes_on_day_of q row.room k ≡ true
+    here (OfBooking slot l t Booked) true own (inl e) = on slot (ap (λ (y : Booking). y.slot) e) own
+    here (OfBooking slot l t Booked) true own (inr g) = absurd g
+    here (OfBooking slot l t (CancelledBy by)) true own g = absurd g
+    here (OfBooking slot l t InErrorLog) true own g = absurd g
+    here (OfCancel done) true own g = absurd g
+    here k false own g = absurd g
+
+-- on a board of the bookings in the scope of a request a write that books its meeting goes where the replica's board tells
+request_place : (a : Replica) (q : Request) (w : Write) → IsReplica a → w.room ≡ q.room → w.action ≡ Books q.meeting → place_by_rows (tables.board_of (in_scope (OfRequest q) (tables_of a))) w ≡ place_by_rows (board_of a) w
+request_place a q w sound room books =
+    ap (place_for (bookings_of w.room part)) books ∙ ap (λ name. place_for (bookings_of name part) (Books q.meeting)) room
+    ∙ sym (place_on_days (bookings_of q.room desk) (bookings_of q.room part) q.meeting less same)
+    ∙ ap (λ name. place_for (bookings_of name desk) (Books q.meeting)) (sym room) ∙ ap (place_for (bookings_of w.room desk)) (sym books)
     ∙ ap (λ b. place_by_rows b w) (sym (board-told a sound))
+  where
+    desk : Rows
+    desk = tables.board_of (tables_of a)
+
+    part : Rows
+    part = tables.board_of (in_scope (OfRequest q) (tables_of a))
+
+    row : (i : Id) → row_at part i ≡ if_picked (λ r. takes_on_day_of q r.room r.kept) (row_at desk i)
+    row i = part-row (OfRequest q) a i sound
+
+    less : (x : Booking) → Has x (bookings_of q.room part) → Has x (bookings_of q.room desk)
+    less x h =
+        row-booking q.room desk x
+        (in_picked (λ r. takes_on_day_of q r.room r.kept) q.room x (row_at desk x.id)
+        (subst (λ o. Has x (booked_at x.id (if_of q.room o))) (row x.id) (booking-row q.room part x (board_in_order (in_scope (OfRequest q) (tables_of a))) h)))
+
+    same : HasOnDays (choices_of q.meeting) (bookings_of q.room desk) (bookings_of q.room part)
+    same x s h c d =
+        row-booking q.room part x
+        (subst (λ o. Has x (booked_at x.id (if_of q.room o))) (sym (row x.id))
+        (picked_on_day q x s (row_at desk x.id) c d (booking-row q.room desk x (board_told a sound).ordered h)))
 
 -- what is owed where a request was accepted: the step, and what the change does and says
 pub record PartSubmitted (a : Replica) (q : Request) (id : Id) (change : ChangeView) : Type 0 where
@@ -197,17 +244,17 @@ pub record PartSubmitted (a : Replica) (q : Request) (id : Id) (change : ChangeV
 books_none : (ts : List Tally) (b c : Rows) (i : Id) (p : Place) → taken_rows_of ts b i (taken_back_by p None) ≡ taken_rows_of ts c i (taken_back_by p None)
 books_none ts b c i p = booking_takes ts b i p ∙ sym (booking_takes ts c i p)
 
-pub part_submit : (a : Replica) (q : Request) (p : PartView) (stamp : Stamp) (w : Write) (id : Id) (change : ChangeView) → IsReplica a → p ≡ part_of (InRoom q.room) a → IsTrue (is_request q) → list_any (bytes_eq q.room) p.rooms ≡ true → stamp_next p.summary ≡ Ok stamp
+pub part_submit : (a : Replica) (q : Request) (p : PartView) (stamp : Stamp) (w : Write) (id : Id) (change : ChangeView) → IsReplica a → p ≡ part_of (OfRequest q) a → IsTrue (is_request q) → list_any (bytes_eq q.room) p.rooms ≡ true → stamp_next p.summary ≡ Ok stamp
     → w ≡ stamped stamp q → id ≡ record { server = stamp.server; n = stamp.n }
     → (CanPut p (noted_write p.summary w.stamp) w → change ≡ part_puts p (noted_write p.summary w.stamp) w)
     → PartSubmitted a q id change
 part_submit a q p stamp w id change sound e good there stamp_is w_is id_is change_is =
     let summary : p.summary ≡ summary_of a = ap (λ (v : PartView). v.summary) e in
     let rooms : p.rooms ≡ a.rooms = ap (λ (v : PartView). v.rooms) e in
-    let board : p.board ≡ board_in (λ name. bytes_eq name q.room) a = ap (λ (v : PartView). v.board) e in
-    let own : bytes_eq w.room q.room ≡ true = same_name w.room q.room (ap (λ (v : Write). v.room) w_is) in
+    let board : p.board ≡ tables.board_of (in_scope (OfRequest q) (tables_of a)) = ap (λ (v : PartView). v.board) e in
+    let room : w.room ≡ q.room = ap (λ (v : Write). v.room) w_is in
     let books : w.action ≡ Books q.meeting = ap (λ (v : Write). v.action) w_is in
-    let place : place_by_rows p.board w ≡ place_by_rows (board_of a) w = ap (λ b. place_by_rows b w) board ∙ room_place a (λ name. bytes_eq name q.room) w sound own in
+    let place : place_by_rows p.board w ≡ place_by_rows (board_of a) w = ap (λ b. place_by_rows b w) board ∙ request_place a q w sound room books in
     let u = undo_row_of p.board w in
     let none : taken_rows p.summary.tallies p.board u ≡ taken_rows p.summary.tallies (board_of a) u =
     ap (λ x. taken_rows_of p.summary.tallies p.board (id_of w) (taken_back_by (place_by_rows p.board w) (target_of x))) books

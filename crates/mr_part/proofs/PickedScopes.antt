@@ -4,7 +4,7 @@ use Rattle.std.specs.List.{filter}
 use Rattle.std.proofs.lemmas.Bool.{true≢false}
 use Rattle.mr_model.specs.Texts.{Text}
 use Rattle.mr_model.specs.Tables.{Tables}
-use Rattle.mr_model.specs.Scopes.{Scope, Nothing, InRoom, OfTarget, NextCommits, UpTo, Above, OfItems, is_named, is_in_tail, in_scope}
+use Rattle.mr_model.specs.Scopes.{Scope, Nothing, OfRequest, OfTarget, NextCommits, UpTo, Above, OfItems, is_named, is_in_tail, in_scope}
 use Rattle.mr_replica.specs.Sets.{AreSameRooms}
 use Rattle.mr_part.specs.PickedBookings.{touched_in}
 use Rattle.mr_part.specs.PickedLogs.{is_log_in, is_by_row}
@@ -13,7 +13,7 @@ use Rattle.mr_part.specs.PickedLogs.{is_log_in, is_by_row}
 pub logs_by_row : (s : Scope) (t : Tables) (touched : List Text) → is_by_row s ≡ true → AreSameRooms touched (touched_in s t)
     → filter (is_log_in s t.meta.commits touched) t.log ≡ (in_scope s t).log
 logs_by_row Nothing t touched by same = absurd (true≢false (sym by))
-logs_by_row (InRoom room) t touched by same = absurd (true≢false (sym by))
+logs_by_row (OfRequest q) t touched by same = absurd (true≢false (sym by))
 logs_by_row (OfTarget target) t touched by same = absurd (true≢false (sym by))
 logs_by_row (NextCommits k) t touched by same = absurd (true≢false (sym by))
 logs_by_row (UpTo number) t touched by same = refl

@@ -13,7 +13,7 @@ use Rattle.mr_base.specs.declared.refusals.Refusal.{Refusal}
 use Rattle.mr_base.specs.declared.refusals.Refusal.TheVariants.{OutOfMemory}
 use Rattle.mr_replay.specs.Places.{UndoRow}
 use Rattle.mr_replay.specs.Rows.{Rows}
-use Rattle.mr_model.specs.Scopes.{Scope, Nothing, InRoom, OfTarget, NextCommits, UpTo, Above, OfItems, is_named, is_in_tail, is_touched, in_scope}
+use Rattle.mr_model.specs.Scopes.{Scope, Nothing, OfRequest, OfTarget, NextCommits, UpTo, Above, OfItems, is_named, is_in_tail, is_touched, in_scope}
 use Rattle.mr_model.specs.RowsInScope.{kept_commits}
 use Rattle.mr_tables.specs.declared.summary.Summary.{Summary}
 use Rattle.mr_tables.specs.Summary.{summary_of}
@@ -35,7 +35,7 @@ pub record PartView : Type 0 where
 -- the kept writes in scope
 abbrev pub kept_in : Scope → Replica → List Write
 kept_in Nothing a = []
-kept_in (InRoom room) a = []
+kept_in (OfRequest q) a = []
 kept_in (OfTarget target) a = []
 kept_in (NextCommits k) a = first_tentative a k
 kept_in (UpTo d) a = take (d - a.dropped) (kept_commits a)

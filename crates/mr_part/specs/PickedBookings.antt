@@ -7,12 +7,12 @@ use Rattle.mr_model.specs.Writes.{Id, same_id}
 use Rattle.mr_model.specs.Replica.{is_among}
 use Rattle.mr_model.specs.Tables.{BookingRow, ErrorRow, CancelledRow, Tables}
 use Rattle.mr_model.specs.Queries.{booking_id, error_id, cancelled_id}
-use Rattle.mr_model.specs.Scopes.{Scope, InRoom, OfTarget, NextCommits, OfItems, touched_rooms, with_rows}
+use Rattle.mr_model.specs.Scopes.{Scope, OfRequest, OfTarget, NextCommits, OfItems, is_on_day_of, touched_rooms, with_rows}
 use Rattle.mr_base.specs.Ids.{id_cmp}
 
 -- whether the row of booking is in scope, where a batch touches these rooms
 abbrev pub is_booking_in : Scope → List Text → BookingRow → Bool
-is_booking_in (InRoom room) touched row = bytes_eq row.room room
+is_booking_in (OfRequest q) touched row = is_on_day_of q row.room row.day
 is_booking_in (OfTarget target) touched row = same_id (booking_id row) target
 is_booking_in (OfItems items) touched row = list_any (bytes_eq row.room) touched
 is_booking_in _ touched row = false
@@ -24,7 +24,7 @@ is_error_in _ row = false
 
 -- that of cancelled, where a commit is of the writes with these ids
 abbrev pub is_cancelled_in : Scope → List Text → List Id → CancelledRow → Bool
-is_cancelled_in (InRoom room) touched ids row = bytes_eq row.room room
+is_cancelled_in (OfRequest q) touched ids row = is_on_day_of q row.room row.day
 is_cancelled_in (OfTarget target) touched ids row = same_id (cancelled_id row) target
 is_cancelled_in (NextCommits k) touched ids row = is_among (cancelled_id row) ids
 is_cancelled_in (OfItems items) touched ids row = list_any (bytes_eq row.room) touched

@@ -26,9 +26,9 @@ use mr_tables::vector::summary_of;
 use std::alloc::Global;
 
 impl Part {
-    /// The part for a command of this scope. Of `log`, `booking`, `errorlog` and `cancelled` only the rows in scope have to be there,
-    /// for a commit also all tentative rows of `log`; what other rows there are doesn't matter. Refused as the store's fault where a
-    /// row in scope breaks its limits, or the numbers are beyond the limits of positions.
+    /// The part for a command of this scope. Of `log`, `booking`, `errorlog` and `cancelled` only the rows in scope have to be there;
+    /// what other rows of the replica there are doesn't matter. Refused as the store's fault where a row in scope breaks its limits,
+    /// or the numbers are beyond the limits of positions.
     pub fn from_tables(alloc: Global, scope: &Scope<'_>, tables: &Tables) -> Result<Part, Refusal>
         ensures part { (a : Replica) → IsReplica a → in_scope (scope_of scope.now) tables.now ≡ in_scope (scope_of scope.now) (tables_of a)
             → IfOk result (λ part. IsPartOf part (scope_of scope.now) a) }
@@ -90,7 +90,7 @@ fn touched_in(alloc: Global, scope: &Scope<'_>, tables: &Tables) -> Result<Vec<R
     match *scope {
         Scope::Items(items) => { touched_rooms(alloc, &tables.log, items, tables.meta.commits) }
         Scope::Nothing
-        | Scope::InRoom(_)
+        | Scope::OfRequest(_)
         | Scope::OfTarget(_)
         | Scope::NextCommits(_)
         | Scope::UpTo(_)
@@ -145,7 +145,7 @@ fn logged_in(
         → AreSameRooms touched.now (touched_in (scope_of scope.now) tables.now) → IfErr result (λ e. e ≡ Refusal.OutOfMemory) }
 {
     match *scope {
-        Scope::Nothing | Scope::InRoom(_) => Ok(Vec::new(alloc)),
+        Scope::Nothing | Scope::OfRequest(_) => Ok(Vec::new(alloc)),
         Scope::OfTarget(_) => Ok(Vec::new(alloc)),
         Scope::NextCommits(count) => first_writes(alloc, &tables.log, count),
         Scope::UpTo(_) | Scope::Above(_) | Scope::Items(_) => {

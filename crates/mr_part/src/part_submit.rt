@@ -1,7 +1,7 @@
 ghost use Rattle.std.specs.Prelude.{◌≡◌, ◌+◌, ◌<◌, ◌≤◌, ◌^◌, true, false, [], ◌∷◌, None, bytes_eq, Err, IfOk, IfErr};
 ghost use Rattle.std.specs.List.{list_any};
 ghost use Rattle.mr_model.specs.Replica.{Replica, IsReplica};
-ghost use Rattle.mr_model.specs.Scopes.{InRoom};
+ghost use Rattle.mr_model.specs.Scopes.{OfRequest};
 ghost use Rattle.mr_replica.specs.Desk.{NeverStore};
 ghost use Rattle.mr_part.specs.Parts.{IsPartOf, TakesPart};
 ghost use Rattle.mr_part.specs.PartAccepting.{part_puts, CanPut};
@@ -28,8 +28,8 @@ impl Part {
     /// and what that changes in the tables: the change puts one row into `booking` or into `errorlog`, which says what became
     /// of the request.
     pub fn submit(&self, request: Request) -> Result<(WriteId, Change), Refusal>
-        ensures step { TakesPart (InRoom request.room) (submit_request request) (λ a done. outcome_in request a done.0) (λ done. done.1) self.now result }
-        ensures told { (a : Replica) → IsReplica a → IsPartOf self.now (InRoom request.room) a
+        ensures step { TakesPart (OfRequest request) (submit_request request) (λ a done. outcome_in request a done.0) (λ done. done.1) self.now result }
+        ensures told { (a : Replica) → IsReplica a → IsPartOf self.now (OfRequest request) a
             → IfOk result (λ done. outcome_in request (submit_request request a).replica done.0 ≡ put_outcome done.1.booking done.1.errorlog) }
         // A refusal that is due is returned without memory.
         ensures due_room { list_any (bytes_eq request.room) self.now.rooms ≡ false → result ≡ Err Refusal.UnknownRoom }

@@ -45,7 +45,7 @@ impl LogTest {
         ensures only { IfErr result (λ e. e ≡ Refusal.OutOfMemory) }
     {
         match *scope {
-            Scope::Nothing | Scope::InRoom(_) | Scope::OfTarget(_) | Scope::NextCommits(_) => {
+            Scope::Nothing | Scope::OfRequest(_) | Scope::OfTarget(_) | Scope::NextCommits(_) => {
                 Ok(LogTest::Never)
             }
             Scope::UpTo(number) => Ok(LogTest::UpTo(number)),
