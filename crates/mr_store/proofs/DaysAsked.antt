@@ -1,20 +1,10 @@
--- Days that are asked for: the one that is asked for, where one is, and those of a request's choices.
-use Rattle.std.proofs.Common.{◌≡◌, Bool, true, false, ◌&&◌, ◌||◌, List, [], ◌∷◌, map, refl, sym, ap, ◌∙◌, subst, Option}
+-- The days of slots, as they are asked for: one, or several.
+use Rattle.std.proofs.Common.{◌≡◌, Bool, true, false, ◌||◌, List, [], ◌∷◌, map, refl, sym, ap, ◌∙◌, subst}
 use Rattle.std.proofs.lemmas.Bool.{and_parts, false_from_ne_true, true≢false}
-use Rattle.std.specs.List.{filter, list_all, list_any}
-use Rattle.std.specs.Str.{bytes_eq}
-use Rattle.mr_model.specs.Texts.{Text}
+use Rattle.std.specs.List.{list_all, list_any}
 use Rattle.mr_model.specs.Calendar.{Date, same_date}
 use Rattle.mr_model.specs.Slots.{Slot}
-use Rattle.mr_model.specs.Tables.{BookingRow}
 use Rattle.mr_model.proofs.SlotTests.{same_date-true, same_date_from}
-use Rattle.mr_store.specs.DaysAsked.{is_on_days}
-use Rattle.mr_store.specs.Picked.{is_day_asked}
-use Rattle.mr_store.specs.declared.days.Days.{Days}
-
--- what is picked by days that stand for a day, or for all, is what is picked by that
-pub picked_by_day : (room : Text) (day : Option Date) (days : Days) → ((d : Date) → is_on_days days d ≡ is_day_asked day d) → (rows : List BookingRow) → filter (λ r. bytes_eq r.room room && is_on_days days r.day) rows ≡ filter (λ r. bytes_eq r.room room && is_day_asked day r.day) rows
-picked_by_day room day days same rows = λ i. filter (λ r. bytes_eq r.room room && same r.day i) rows
 
 -- which day is named first doesn't matter
 same_date_turned : (a b : Date) → same_date a b ≡ same_date b a

@@ -11,14 +11,13 @@ ghost use Rattle.mr_part.specs.ScopeOf.{scope_of};
 ghost use Rattle.mr_store.specs.Picked.{picked_errors, picked_cancelled, picked_cancels, AreBookings, IsPlaceOf};
 
 use crate::Fault;
-use crate::days::days_asked;
 use crate::fresh::{FreshRows, change_all, settle_all};
 use crate::lists::{are_in_order, copied};
 use crate::marks::{Mark, taken_marks};
 use crate::order::sort_bookings;
 use crate::queries::rows_in;
 use crate::rows::copies_of;
-use crate::spliced_queries::{bookings_in, place_in, request_tables, rows_in_spliced};
+use crate::spliced_queries::{bookings_asked, place_in, request_tables, rows_in_spliced};
 use mr_base::{Day, Refusal, Request, RoomName, WriteId};
 use mr_part::{Part, Scope};
 use mr_replica::Desk;
@@ -177,13 +176,13 @@ impl Remembered {
         ensures bookings { IfOk result (λ rows. AreBookings room.now day self.old rows.items) }
     {
         let marks = taken_marks(self.alloc, &mut self.marks, &self.main.booking)?;
-        let picked = bookings_in(
+        let picked = bookings_asked(
             self.alloc,
             &self.main.booking,
             &marks,
             &self.fresh.booking,
             room,
-            &days_asked(&day),
+            day,
         );
         self.marks = Some(marks);
         let mut rows = picked?;

@@ -3,22 +3,39 @@ ghost use Rattle.mr_model.specs.Scopes.{OfRequest, in_scope};
 ghost use Rattle.mr_model.specs.Writes.{same_id};
 ghost use Rattle.mr_store.specs.DaysAsked.{is_on_days};
 ghost use Rattle.mr_store.specs.Marks.{mark_of_row};
-ghost use Rattle.mr_store.specs.Picked.{IsPlaceOf};
+ghost use Rattle.mr_store.specs.Picked.{is_day_asked, IsPlaceOf};
 ghost use Rattle.mr_store.specs.Spliced.{spliced};
 ghost use Rattle.mr_store.specs.Whole.{whole, ArePlaces};
 
-use crate::days::{Days, days_of};
+use crate::days::{Days, days_asked, days_of};
 use crate::fresh::FreshRows;
 use crate::marks::{Mark, pick_marked};
 use crate::queries::{pick_on, pick_rows, row_of, rows_on};
 use crate::rows::{WriteRow, copies_of};
 use crate::splice::Fresh;
-use mr_base::{Request, RoomName, WriteId};
+use mr_base::{Day, Request, RoomName, WriteId};
 use mr_tables::{BookingRow, PlaceRow, Tables};
 use std::alloc::{AllocError, Global};
 
+/// Copies of the bookings of a room, of a day or of all days, in the order of their keys.
+pub(crate) fn bookings_asked(
+    alloc: Global,
+    rows: &[BookingRow],
+    marks: &[Mark],
+    fresh: &Fresh<BookingRow>,
+    room: &RoomName,
+    day: Option<Day>,
+) -> Result<Vec<BookingRow>, AllocError>
+    requires place { fresh.now.at ≤ length rows.now }
+    requires marks { marks.now ≡ map mark_of_row rows.now }
+    ensures { IfOk result (λ picked. picked.items ≡ filter (λ r. bytes_eq r.room room.now && is_day_asked day r.day) (spliced rows.now fresh.now.at fresh.now.rows.items)) }
+{
+    let picked = bookings_in(alloc, rows, marks, fresh, room, &days_asked(&day))?;
+    Ok(picked)
+}
+
 /// Copies of the bookings of a room on these days, in the order of their keys.
-pub(crate) fn bookings_in(
+fn bookings_in(
     alloc: Global,
     rows: &[BookingRow],
     marks: &[Mark],

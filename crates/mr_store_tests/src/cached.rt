@@ -135,5 +135,8 @@ fn bookings_of_each_day_are_looked_at(rt: HostRuntime) {
     let alloc = rt.alloc();
     let mut keeper = Cached::new(alloc, opening(&rt, alloc));
     let tuesday = Day::read(TUESDAY).expect(&rt, "a day");
-    assert_eq!(rt; slot_behind_first_change(&mut keeper, alloc), Ok(Some((tuesday, 900))));
+    assert_eq!(rt;
+        slot_behind_first_change(&mut keeper, alloc),
+        Ok(Some((tuesday, 900)))
+    );
 }

@@ -1,8 +1,6 @@
 // Rows and changes of replica 2, whose primary is 1.
 
-use mr_base::{
-    Alternatives, Day, Refusal, Request, RoomName, ServerId, Slot, Title, WriteId,
-};
+use mr_base::{Alternatives, Day, Refusal, Request, RoomName, ServerId, Slot, Title, WriteId};
 use mr_tables::{
     BookingRow, CancelRow, CancelledRow, Change, ErrorRow, MetaRow, Tables, VectorRow,
 };
