@@ -5,7 +5,7 @@ use crate::desks::{
 };
 use crate::tables::{Rows, tables};
 use crate::tests::{OPENING, TAKEN_BACK};
-use mr_base::{Item, Refusal, RoomName, WriteId};
+use mr_base::{Alternatives, Day, Item, Refusal, Request, Slot, WriteId};
 use mr_part::{Part, Scope};
 use mr_replay::Place;
 use mr_tables::Change;
@@ -389,14 +389,37 @@ fn rows_of(alloc: Global, rows: &Rows, scope: &Scope<'_>) -> Result<u64, Refusal
 
 /// How many rows the part for the next commit has, that for a request, that for a cancel of server 3's write, and that for a batch without lines.
 fn counts(alloc: Global) -> Result<[u64; 4], Refusal> {
-    let room = RoomName::new(alloc, "oak")?;
     let target = WriteId::new(crate::desks::server(3)?, 1).ok_or(Refusal::NoSuchRequest)?;
     let of_commit = rows_of(alloc, &BOTH_TENTATIVE, &Scope::NextCommits(1))?;
-    let of_room = rows_of(alloc, &BOTH_TENTATIVE, &Scope::InRoom(&room))?;
+    let of_request = rows_of_request(alloc, "1995-12-18", None)?;
     let of_target = rows_of(alloc, &BOTH_TENTATIVE, &Scope::OfTarget(target))?;
     let no_items: &[Item] = &[];
     let of_batch = rows_of(alloc, &BOTH_TENTATIVE, &Scope::Items(no_items))?;
-    Ok([of_commit, of_room, of_target, of_batch])
+    Ok([of_commit, of_request, of_target, of_batch])
+}
+
+/// How many rows the part has for a request of the room on this day, with or without an alternative on that one.
+fn rows_of_request(alloc: Global, day: &str, other: Option<&str>) -> Result<u64, Refusal> {
+    let wish = Slot::new(Day::read(day)?, 540)?;
+    let mut others = Vec::new(alloc);
+    if let Some(other) = other {
+        others.push(Slot::new(Day::read(other)?, 540)?)?;
+    }
+    let others = Alternatives::from_vec(others);
+    let request = Request::of_words(alloc, "oak", "Delta", 60, wish, others)?;
+    rows_of(alloc, &BOTH_TENTATIVE, &Scope::OfRequest(&request))
+}
+
+/// A submission's part has what is booked on the days of its choices alone, at whatever hour.
+#[test]
+fn rows_of_a_submission_are_counted(rt: HostRuntime) {
+    let (day, next) = ("1995-12-18", "1995-12-19");
+    for (wish, other, count) in [(day, None, 1), (next, None, 0), (next, Some(day), 1)] {
+        assert!(rt;
+            rows_of_request(rt.alloc(), wish, other) == Ok(count),
+            "on {wish}"
+        );
+    }
 }
 
 /// A commit's part has the row of the log and that of the booking that was taken back.

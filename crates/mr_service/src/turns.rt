@@ -28,7 +28,7 @@ pub(crate) fn add_room(part: &Part, room: &RoomName) -> Result<(Reply, Change), 
 
 /// Books a room.
 pub(crate) fn submit(part: &Part, request: Request) -> Result<(Reply, Change), Refusal>
-    ensures { TurnsBy (scopes.InRoom request.room) (submit_request request) part.now result }
+    ensures { TurnsBy (scopes.OfRequest request) (submit_request request) part.now result }
 {
     let (_, change) = part.submit(request)?;
     match outcome_in(&change) {
