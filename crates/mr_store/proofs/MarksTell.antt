@@ -1,5 +1,5 @@
 -- What the marks of bookings tell.
-use Rattle.std.proofs.Common.{◌≡◌, ℕ, ◌+◌, ◌<◌, Bool, true, false, cond, ◌&&◌, List, [], ◌∷◌, ◌++◌, length, map, take, drop, refl, sym, ap, ◌∙◌, append_assoc, slice_index_or, Option, Some, None, eqb, eq-eqb}
+use Rattle.std.proofs.Common.{◌≡◌, ℕ, ◌+◌, ◌<◌, Bool, true, false, cond, ◌&&◌, List, [], ◌∷◌, ◌++◌, length, map, take, drop, refl, sym, ap, ◌∙◌, append_assoc, slice_index_or, eqb, eq-eqb}
 use Rattle.std.proofs.lemmas.Bool.{and_parts, and_from, or_parts, false_from_ne_true, true≢false}
 use Rattle.std.proofs.lemmas.List.{get_or-map, take_more, take-append-drop, take-map, drop-map}
 use Rattle.std.proofs.lemmas.List.Elements.{filter-append}
@@ -7,11 +7,12 @@ use Rattle.std.proofs.lemmas.Slice.Eq.{bytes_eq-Decides}
 use Rattle.std.specs.List.{filter, list_any}
 use Rattle.std.specs.Str.{bytes_eq}
 use Rattle.mr_model.specs.Texts.{Text}
-use Rattle.mr_model.specs.Calendar.{Date}
 use Rattle.mr_model.specs.Tables.{BookingRow}
 use Rattle.mr_model.proofs.SlotTests.{same_date-true}
+use Rattle.mr_store.specs.DaysAsked.{is_on_days}
 use Rattle.mr_store.specs.Marks.{Mark, mark_of_row, mark_test, number_of_name, number_of_day, day_number}
-use Rattle.mr_store.specs.Picked.{is_day_asked}
+use Rattle.mr_store.specs.declared.days.Days.{Days}
+use Rattle.mr_store.specs.declared.days.Days.TheVariants.{All, One, Several}
 
 pub mark_at : (rows : List BookingRow) (marks : List Mark) (k : ℕ) (row : BookingRow) (mark : Mark) → marks ≡ map mark_of_row rows → k < length rows → row ≡ slice_index_or rows k row → mark ≡ slice_index_or marks k mark → mark ≡ mark_of_row row
 mark_at rows marks k row mark are low at of =
@@ -25,30 +26,33 @@ picked_more p old now new rows k row low at so_far put =
     ∙ append_assoc old (filter p (take k rows)) (filter p (row ∷ []))
     ∙ ap (λ s. old ++ s) (sym (filter-append p (take k rows) (row ∷ [])) ∙ ap (filter p) (ap (λ r. take k rows ++ r ∷ []) at ∙ sym (take_more rows k row low)))
 
+-- a row of the room has the number of its name
+room_mark : (room : Text) (row : BookingRow) → bytes_eq row.room room ≡ true → eqb (number_of_name row.room) (number_of_name room) ≡ true
+room_mark room row same = eq-eqb (number_of_name row.room) (number_of_name room) (ap number_of_name ((bytes_eq-Decides row.room room).0 same))
+
 -- a row that is asked for has a mark that is
-asked_mark : (room : Text) (day : Option Date) (row : BookingRow) → (bytes_eq row.room room && is_day_asked day row.day) ≡ true → mark_test (day_number day) (number_of_name room) (mark_of_row row) ≡ true
-asked_mark room None row asked =
-    let parts = and_parts (bytes_eq row.room room) true asked in
-    eq-eqb (number_of_name row.room) (number_of_name room) (ap number_of_name ((bytes_eq-Decides row.room room).0 parts.0))
-asked_mark room (Some day) row asked =
-    let parts = and_parts (bytes_eq row.room room) (is_day_asked (Some day) row.day) asked in
+asked_mark : (room : Text) (days : Days) (row : BookingRow) → (bytes_eq row.room room && is_on_days days row.day) ≡ true → mark_test (day_number days) (number_of_name room) (mark_of_row row) ≡ true
+asked_mark room All row asked = room_mark room row (and_parts (bytes_eq row.room room) true asked).0
+asked_mark room (One day) row asked =
+    let parts = and_parts (bytes_eq row.room room) (is_on_days (One day) row.day) asked in
     and_from (eqb (number_of_day row.day) (number_of_day day)) (eqb (number_of_name row.room) (number_of_name room))
     (eq-eqb (number_of_day row.day) (number_of_day day) (ap number_of_day (same_date-true row.day day parts.1)))
-    (eq-eqb (number_of_name row.room) (number_of_name room) (ap number_of_name ((bytes_eq-Decides row.room room).0 parts.0)))
+    (room_mark room row parts.0)
+asked_mark room (Several days) row asked = room_mark room row (and_parts (bytes_eq row.room room) (is_on_days (Several days) row.day) asked).0
 
-none_asked : (room : Text) (day : Option Date) (rows : List BookingRow) → list_any (mark_test (day_number day) (number_of_name room)) (map mark_of_row rows) ≡ false → filter (λ r. bytes_eq r.room room && is_day_asked day r.day) rows ≡ []
-none_asked room day [] none = refl
-none_asked room day (row ∷ rows) none =
-    let test = mark_test (day_number day) (number_of_name room) in
+none_asked : (room : Text) (days : Days) (rows : List BookingRow) → list_any (mark_test (day_number days) (number_of_name room)) (map mark_of_row rows) ≡ false → filter (λ r. bytes_eq r.room room && is_on_days days r.day) rows ≡ []
+none_asked room days [] none = refl
+none_asked room days (row ∷ rows) none =
+    let test = mark_test (day_number days) (number_of_name room) in
     let parts = or_parts (test (mark_of_row row)) (list_any test (map mark_of_row rows)) none in
-    let passed = false_from_ne_true (bytes_eq row.room room && is_day_asked day row.day) (λ asked. true≢false (sym (asked_mark room day row asked) ∙ parts.0)) in
-    ap (λ b. cond b (row ∷ filter (λ r. bytes_eq r.room room && is_day_asked day r.day) rows) (filter (λ r. bytes_eq r.room room && is_day_asked day r.day) rows)) passed
-    ∙ none_asked room day rows parts.1
+    let passed = false_from_ne_true (bytes_eq row.room room && is_on_days days row.day) (λ asked. true≢false (sym (asked_mark room days row asked) ∙ parts.0)) in
+    ap (λ b. cond b (row ∷ filter (λ r. bytes_eq r.room room && is_on_days days r.day) rows) (filter (λ r. bytes_eq r.room room && is_on_days days r.day) rows)) passed
+    ∙ none_asked room days rows parts.1
 
 -- where no mark is asked for, no row is
-pub no_row_asked : (room : Text) (day : Option Date) (rows : List BookingRow) (marks : List Mark) → marks ≡ map mark_of_row rows → list_any (mark_test (day_number day) (number_of_name room)) marks ≡ false → filter (λ r. bytes_eq r.room room && is_day_asked day r.day) rows ≡ []
-no_row_asked room day rows marks are none =
-    none_asked room day rows (ap (list_any (mark_test (day_number day) (number_of_name room))) (sym are) ∙ none)
+pub no_row_asked : (room : Text) (days : Days) (rows : List BookingRow) (marks : List Mark) → marks ≡ map mark_of_row rows → list_any (mark_test (day_number days) (number_of_name room)) marks ≡ false → filter (λ r. bytes_eq r.room room && is_on_days days r.day) rows ≡ []
+no_row_asked room days rows marks are none =
+    none_asked room days rows (ap (list_any (mark_test (day_number days) (number_of_name room))) (sym are) ∙ none)
 
 -- a block is picked, and those behind it are left
 pub block_picked : {R : Type 0} (p : R → Bool) (old now new all left front back : List R) (n : ℕ) → front ≡ take n left → back ≡ drop n left → now ++ filter p left ≡ old ++ filter p all → new ≡ now ++ filter p front → new ++ filter p back ≡ old ++ filter p all

@@ -1,6 +1,7 @@
 -- A reader of the contracts trusts KeeperCalls, KeeperLists, Picked, and of Cached `NeverFails`. The others serve private clauses and
 -- proofs alone.
 pub mod Cached
+pub mod DaysAsked
 pub mod KeeperCalls
 pub mod KeeperLists
 pub mod Marks

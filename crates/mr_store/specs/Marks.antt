@@ -3,12 +3,14 @@ use Rattle.std.specs.Prelude.{ℕ, ◌+◌, ◌*◌, ◌%◌, Bool, ◌&&◌, �
 use Rattle.mr_model.specs.Texts.{Text}
 use Rattle.mr_model.specs.Calendar.{Date}
 use Rattle.mr_model.specs.Tables.{BookingRow}
+use Rattle.mr_store.specs.declared.days.Days.{Days}
+use Rattle.mr_store.specs.declared.days.Days.TheVariants.{All, One, Several}
 
 pub record Mark : Type 0 where
   pub day : ℕ
   pub room : ℕ
 
--- what marks are asked for: the number of a room, and of a day where one is asked for
+-- what marks are asked for: the number of a room, and of a day where that one alone is asked for
 pub record Asked : Type 0 where
   pub day : Option ℕ
   pub room : ℕ
@@ -27,12 +29,13 @@ number_of_name name = number_from 7 name
 abbrev pub mark_of_row : BookingRow → Mark
 mark_of_row row = record { day = number_of_day row.day; room = number_of_name row.room }
 
-abbrev pub day_number : Option Date → Option ℕ
-day_number None = None
-day_number (Some day) = Some (number_of_day day)
+abbrev pub day_number : Days → Option ℕ
+day_number All = None
+day_number (One day) = Some (number_of_day day)
+day_number (Several days) = None
 
-abbrev pub asked_of : Text → Option Date → Asked
-asked_of room day = record { day = day_number day; room = number_of_name room }
+abbrev pub asked_of : Text → Days → Asked
+asked_of room days = record { day = day_number days; room = number_of_name room }
 
 abbrev pub has_both : ℕ → ℕ → Mark → Bool
 has_both day room mark = mark.day == day && mark.room == room

@@ -6,6 +6,7 @@
 #![tactic(auto)]
 
 mod cached;
+mod days;
 mod fresh;
 mod keeper;
 mod lists;

@@ -1,9 +1,9 @@
 ghost use Rattle.std.specs.Prelude.{◌≡◌, ◌&&◌, ◌++◌, ◌∷◌, [], map, bytes_eq, filter, None, IfOk, IfSome, OnOk};
 ghost use Rattle.std.specs.List.{list_any};
+ghost use Rattle.mr_store.specs.DaysAsked.{is_on_days};
 ghost use Rattle.mr_store.specs.Marks.{mark_of_row, number_of_name, number_of_day, asked_of, mark_test, has_both as mark_has_both, has_room as mark_has_room};
-ghost use Rattle.mr_store.specs.Picked.{is_day_asked};
 
-use crate::queries::{is_on, same_day};
+use crate::days::{Days, is_one_of};
 use crate::rows::TableRow;
 use mr_base::{Day, RoomName};
 use mr_tables::BookingRow;
@@ -29,7 +29,7 @@ impl Model for Mark {
     ghost view = { λ m. record { day = m.day; room = m.room } };
 }
 
-/// What marks are asked for: the number of a room, and that of a day where one is asked for.
+/// What marks are asked for: the number of a room, and that of a day where that one alone is asked for.
 #[derive(Drop)]
 struct Asked {
     day: Option<u32>,
@@ -98,42 +98,42 @@ fn number(name: &RoomName) -> u32
     number as u32
 }
 
-/// What the marks of the bookings of a room are asked for, and of the day.
-fn asked_for(room: &RoomName, day: &Option<Day>) -> Asked
-    ensures { result ≡ asked_of room.now day.now }
+/// What the marks of the bookings of a room on these days are asked for.
+fn asked_for(room: &RoomName, days: &Days) -> Asked
+    ensures { result ≡ asked_of room.now days.now }
 {
     Asked {
-        day: match day {
-            Some(day) => Some(number_of_day(day)),
-            None => None,
+        day: match days {
+            Days::One(day) => Some(number_of_day(day)),
+            Days::All | Days::Several(_) => None,
         },
         room: number(room),
     }
 }
 
-/// Adds copies of the bookings of a room, of a day or of all days. Only rows with the right mark are looked at.
+/// Adds copies of the bookings of a room on these days. Only rows with the right mark are looked at.
 pub(crate) fn pick_marked(
     alloc: Global,
     picked: &mut Vec<BookingRow>,
     rows: &[BookingRow],
     marks: &[Mark],
     room: &RoomName,
-    day: Option<Day>,
+    days: &Days,
 ) -> Result<(), AllocError>
     requires { marks.now ≡ map mark_of_row rows.now }
-    ensures { OnOk result (picked.new.items ≡ picked.old.items ++ filter (λ r. bytes_eq r.room room.now && is_day_asked day r.day) rows.now) }
+    ensures { OnOk result (picked.new.items ≡ picked.old.items ++ filter (λ r. bytes_eq r.room room.now && is_on_days days.now r.day) rows.now) }
 {
-    let asked = asked_for(room, &day);
+    let asked = asked_for(room, days);
     let mut left = rows;
     let mut left_marks = marks;
     while BLOCK < left.len() {
         let (block, behind) = left.split_at(BLOCK);
         let (block_marks, behind_marks) = left_marks.split_at(BLOCK);
-        pick_block(alloc, picked, block, block_marks, &asked, room, &day)?;
+        pick_block(alloc, picked, block, block_marks, &asked, room, days)?;
         left = behind;
         left_marks = behind_marks;
     }
-    pick_block(alloc, picked, left, left_marks, &asked, room, &day)
+    pick_block(alloc, picked, left, left_marks, &asked, room, days)
 }
 
 /// Adds copies of those bookings of a block. Where none of its marks is asked for, none of its rows is looked at.
@@ -144,14 +144,14 @@ fn pick_block(
     marks: &[Mark],
     asked: &Asked,
     room: &RoomName,
-    day: &Option<Day>,
+    days: &Days,
 ) -> Result<(), AllocError>
     requires marks { marks.now ≡ map mark_of_row rows.now }
-    requires asked { asked.now ≡ asked_of room.now day.now }
-    ensures { OnOk result (picked.new.items ≡ picked.old.items ++ filter (λ r. bytes_eq r.room room.now && is_day_asked day.now r.day) rows.now) }
+    requires asked { asked.now ≡ asked_of room.now days.now }
+    ensures { OnOk result (picked.new.items ≡ picked.old.items ++ filter (λ r. bytes_eq r.room room.now && is_on_days days.now r.day) rows.now) }
 {
     if has_asked(marks, asked) {
-        return pick_few(alloc, picked, rows, marks, asked.room, room, day);
+        return pick_few(alloc, picked, rows, marks, asked.room, room, days);
     }
     Ok(())
 }
@@ -196,19 +196,19 @@ fn pick_few(
     marks: &[Mark],
     number: u32,
     room: &RoomName,
-    day: &Option<Day>,
+    days: &Days,
 ) -> Result<(), AllocError>
     requires marks { marks.now ≡ map mark_of_row rows.now }
     requires number { number ≡ number_of_name room.now }
-    ensures { OnOk result (picked.new.items ≡ picked.old.items ++ filter (λ r. bytes_eq r.room room.now && is_day_asked day.now r.day) rows.now) }
+    ensures { OnOk result (picked.new.items ≡ picked.old.items ++ filter (λ r. bytes_eq r.room room.now && is_on_days days.now r.day) rows.now) }
 {
     for k in 0..rows.len() {
-        pick_one(alloc, picked, &rows[k], &marks[k], number, room, day)?;
+        pick_one(alloc, picked, &rows[k], &marks[k], number, room, days)?;
     }
     Ok(())
 }
 
-/// Adds a copy of the booking, if it is of the room with this number, and of the day.
+/// Adds a copy of the booking, if it is of the room with this number, and on one of the days.
 fn pick_one(
     alloc: Global,
     picked: &mut Vec<BookingRow>,
@@ -216,25 +216,25 @@ fn pick_one(
     mark: &Mark,
     number: u32,
     room: &RoomName,
-    day: &Option<Day>,
+    days: &Days,
 ) -> Result<(), AllocError>
     requires mark { mark.now ≡ mark_of_row row.now }
     requires number { number ≡ number_of_name room.now }
-    ensures { OnOk result (picked.new.items ≡ picked.old.items ++ filter (λ r. bytes_eq r.room room.now && is_day_asked day.now r.day) (row.now ∷ [])) }
+    ensures { OnOk result (picked.new.items ≡ picked.old.items ++ filter (λ r. bytes_eq r.room room.now && is_on_days days.now r.day) (row.now ∷ [])) }
 {
-    if is_wanted(row, mark, number, room, day) {
+    if is_wanted(row, mark, number, room, days) {
         picked.push(row.copied(alloc)?)?;
     }
     Ok(())
 }
 
-fn is_wanted(row: &BookingRow, mark: &Mark, number: u32, room: &RoomName, day: &Option<Day>) -> bool
+fn is_wanted(row: &BookingRow, mark: &Mark, number: u32, room: &RoomName, days: &Days) -> bool
     requires mark { mark.now ≡ mark_of_row row.now }
     requires number { number ≡ number_of_name room.now }
-    ensures { result ≡ (bytes_eq row.now.room room.now && is_day_asked day.now row.now.day) }
+    ensures { result ≡ (bytes_eq row.now.room room.now && is_on_days days.now row.now.day) }
 {
     if mark.room != number {
         return false;
     }
-    is_on(row.day, same_day(day)) && row.room == *room
+    is_one_of(row.day, days) && row.room == *room
 }

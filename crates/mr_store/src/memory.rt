@@ -1,7 +1,7 @@
 ghost use Rattle.std.specs.Prelude.{◌≡◌, ◌≢◌, IfOk, IfSome, OnOk};
 ghost use Rattle.std.specs.List.Sorted.{IsPermutation};
 ghost use Rattle.mr_model.specs.Replica.{Replica, IsReplica};
-ghost use Rattle.mr_model.specs.Scopes.{InRoom, in_scope};
+ghost use Rattle.mr_model.specs.Scopes.{OfRequest, in_scope};
 ghost use Rattle.mr_model.specs.Tables.{Stands, tables_of};
 ghost use Rattle.mr_tables.specs.Change.{changed};
 ghost use Rattle.mr_tables.specs.Summary.{IsWithin};
@@ -17,8 +17,8 @@ use crate::marks::{Mark, taken_marks};
 use crate::order::sort_bookings;
 use crate::queries::rows_in;
 use crate::rows::copies_of;
-use crate::spliced_queries::{bookings_in, place_in, room_tables, rows_in_spliced};
-use mr_base::{Day, Refusal, RoomName, WriteId};
+use crate::spliced_queries::{bookings_asked, place_in, request_tables, rows_in_spliced};
+use mr_base::{Day, Refusal, Request, RoomName, WriteId};
 use mr_part::{Part, Scope};
 use mr_replica::Desk;
 use mr_tables::{BookingRow, CancelRow, CancelledRow, Change, ErrorRow, PlaceRow, Tables};
@@ -99,14 +99,14 @@ impl Remembered {
         }
     }
 
-    /// The part of the tables that a command of this scope needs. For a submission only the rows of its room are looked at.
+    /// The part of the tables that a command of this scope needs. For a submission only the rows of its room on its days are looked at.
     pub(crate) fn load_part(&mut self, scope: &Scope<'_>) -> Result<Part, Fault>
         ensures same { self.new ≡ self.old }
         ensures loaded { (a : Replica) → Stands self.old a → IfOk result (λ part. IsPartOf part (scope_of scope.now) a) }
         ensures within { IfOk result (λ part. IsWithin part.summary) }
     {
         match *scope {
-            Scope::InRoom(room) => match self.tables_of_room(room) {
+            Scope::OfRequest(request) => match self.tables_of_request(request) {
                 Ok(tables) => part_of(self.alloc, scope, &tables),
                 Err(AllocError) => Err(Fault::OutOfMemory),
             },
@@ -130,13 +130,13 @@ impl Remembered {
         }
     }
 
-    /// Tables with the rows that a submission for the room needs.
-    fn tables_of_room(&mut self, room: &RoomName) -> Result<Tables, AllocError>
+    /// Tables with the rows that a submission of the request needs.
+    fn tables_of_request(&mut self, request: &Request) -> Result<Tables, AllocError>
         ensures same { self.new ≡ self.old }
-        ensures tables { IfOk result (λ tables. in_scope (InRoom room.now) tables ≡ in_scope (InRoom room.now) self.old) }
+        ensures tables { IfOk result (λ tables. in_scope (OfRequest request.now) tables ≡ in_scope (OfRequest request.now) self.old) }
     {
         let marks = taken_marks(self.alloc, &mut self.marks, &self.main.booking)?;
-        let tables = room_tables(self.alloc, &self.main, &marks, &self.fresh, room);
+        let tables = request_tables(self.alloc, &self.main, &marks, &self.fresh, request);
         self.marks = Some(marks);
         tables
     }
@@ -176,7 +176,7 @@ impl Remembered {
         ensures bookings { IfOk result (λ rows. AreBookings room.now day self.old rows.items) }
     {
         let marks = taken_marks(self.alloc, &mut self.marks, &self.main.booking)?;
-        let picked = bookings_in(
+        let picked = bookings_asked(
             self.alloc,
             &self.main.booking,
             &marks,

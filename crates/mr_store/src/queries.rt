@@ -1,9 +1,11 @@
 ghost use Rattle.std.specs.Prelude.{◌≡◌, ◌&&◌, ◌++◌, bytes_eq, filter, find, IfOk, OnOk};
 ghost use Rattle.mr_model.specs.Writes.{same_id};
-ghost use Rattle.mr_store.specs.Picked.{is_day_asked, picked_bookings, AreBookings, IsPlaceOf};
+ghost use Rattle.mr_store.specs.DaysAsked.{is_on_days};
+ghost use Rattle.mr_store.specs.Picked.{AreBookings, IsPlaceOf};
 
+use crate::days::{Days, days_asked};
 use crate::order::sort_bookings;
-use crate::rows::{TableRow, WriteRow};
+use crate::rows::{DayRow, TableRow, WriteRow};
 use mr_base::{Day, RoomName, WriteId};
 use mr_tables::{BookingRow, PlaceRow, Tables};
 use std::alloc::{AllocError, Global};
@@ -17,38 +19,41 @@ pub(crate) fn bookings_of(
 ) -> Result<Vec<BookingRow>, AllocError>
     ensures { IfOk result (λ rows. AreBookings room.now day tables.now rows.items) }
 {
-    let mut rows = Vec::new(alloc);
-    pick_bookings(alloc, &mut rows, &tables.booking, room, day)?;
+    let mut rows = rows_on(alloc, &tables.booking, room, &days_asked(&day))?;
     sort_bookings(&mut rows)?;
     Ok(rows)
 }
 
-/// Adds copies of the bookings of a room, of a day or of all days.
-pub(crate) fn pick_bookings(
+/// Copies of the rows of a room on these days.
+pub(crate) fn rows_on<R: DayRow>(
     alloc: Global,
-    picked: &mut Vec<BookingRow>,
-    rows: &[BookingRow],
+    rows: &[R],
     room: &RoomName,
-    day: Option<Day>,
+    days: &Days,
+) -> Result<Vec<R>, AllocError>
+    ensures { IfOk result (λ picked. picked.items ≡ filter (λ r. bytes_eq (R.room r) room.now && is_on_days days.now (R.day r)) rows.now) }
+{
+    let mut picked = Vec::new(alloc);
+    pick_on(alloc, &mut picked, rows, room, days)?;
+    Ok(picked)
+}
+
+/// Adds copies of the rows of a room on these days.
+pub(crate) fn pick_on<R: DayRow>(
+    alloc: Global,
+    picked: &mut Vec<R>,
+    rows: &[R],
+    room: &RoomName,
+    days: &Days,
 ) -> Result<(), AllocError>
-    ensures { OnOk result (picked.new.items ≡ picked.old.items ++ filter (λ r. bytes_eq r.room room.now && is_day_asked day r.day) rows.now) }
+    ensures { OnOk result (picked.new.items ≡ picked.old.items ++ filter (λ r. bytes_eq (R.room r) room.now && is_on_days days.now (R.day r)) rows.now) }
 {
     for row in rows {
-        if is_on(row.day, day) && row.room == *room {
+        if row.is_on(days) && row.is_in(room) {
             picked.push(row.copied(alloc)?)?;
         }
     }
     Ok(())
-}
-
-/// Whether this is the day that is asked for, where one is.
-pub(crate) fn is_on(day: Day, asked: Option<Day>) -> bool
-    ensures { result ≡ is_day_asked asked day }
-{
-    match asked {
-        Some(asked) => day == asked,
-        None => true,
-    }
 }
 
 /// The day once more.

@@ -1,11 +1,14 @@
 ghost use Rattle.std.specs.Prelude.{◌≡◌, ◌≤◌, Bool, true, bytes_eq, IfOk};
 ghost use Rattle.mr_model.specs.Texts.{Text};
+ghost use Rattle.mr_model.specs.Calendar.{Date};
 ghost use Rattle.mr_model.specs.Writes.{Id, same_id};
 ghost use Rattle.mr_model.specs.Replica.{is_among};
 ghost use Rattle.mr_tables.specs.Change.{rows_without};
 ghost use Rattle.mr_tables.proofs.Putting.{IsOrder, InOrder};
+ghost use Rattle.mr_store.specs.DaysAsked.{is_on_days};
 ghost use Rattle.std.specs.Vec.{vec_len, vec_capacity};
 
+use crate::days::Days;
 use mr_base::{RoomName, WriteId};
 use std::alloc::{AllocError, Global};
 
@@ -41,6 +44,15 @@ pub(crate) trait WriteRow: TableRow {
     /// Whether its write is of this room.
     fn is_in(&self, name: &RoomName) -> bool
         ensures { result ≡ bytes_eq (room self.now) name.now };
+}
+
+/// A row of a table whose writes hold a slot, or held one.
+pub(crate) trait DayRow: WriteRow {
+    ghost day: { Self → Date };
+
+    /// Whether its slot is on one of the days.
+    fn is_on(&self, days: &Days) -> bool
+        ensures { result ≡ is_on_days days.now (day self.now) };
 }
 
 /// Equal rows in the same order.

@@ -1,22 +1,24 @@
 ghost use Rattle.std.specs.Prelude.{◌≡◌, ◌≤◌, ◌&&◌, map, bytes_eq, filter, find, length, IfOk};
-ghost use Rattle.mr_model.specs.Scopes.{InRoom, in_scope};
+ghost use Rattle.mr_model.specs.Scopes.{OfRequest, in_scope};
 ghost use Rattle.mr_model.specs.Writes.{same_id};
+ghost use Rattle.mr_store.specs.DaysAsked.{is_on_days};
 ghost use Rattle.mr_store.specs.Marks.{mark_of_row};
 ghost use Rattle.mr_store.specs.Picked.{is_day_asked, IsPlaceOf};
 ghost use Rattle.mr_store.specs.Spliced.{spliced};
 ghost use Rattle.mr_store.specs.Whole.{whole, ArePlaces};
 
+use crate::days::{Days, days_asked, days_of};
 use crate::fresh::FreshRows;
 use crate::marks::{Mark, pick_marked};
-use crate::queries::{pick_bookings, pick_rows, row_of, rows_in, same_day};
+use crate::queries::{pick_on, pick_rows, row_of, rows_on};
 use crate::rows::{WriteRow, copies_of};
 use crate::splice::Fresh;
-use mr_base::{Day, RoomName, WriteId};
+use mr_base::{Day, Request, RoomName, WriteId};
 use mr_tables::{BookingRow, PlaceRow, Tables};
 use std::alloc::{AllocError, Global};
 
 /// Copies of the bookings of a room, of a day or of all days, in the order of their keys.
-pub(crate) fn bookings_in(
+pub(crate) fn bookings_asked(
     alloc: Global,
     rows: &[BookingRow],
     marks: &[Mark],
@@ -28,12 +30,29 @@ pub(crate) fn bookings_in(
     requires marks { marks.now ≡ map mark_of_row rows.now }
     ensures { IfOk result (λ picked. picked.items ≡ filter (λ r. bytes_eq r.room room.now && is_day_asked day r.day) (spliced rows.now fresh.now.at fresh.now.rows.items)) }
 {
+    let picked = bookings_in(alloc, rows, marks, fresh, room, &days_asked(&day))?;
+    Ok(picked)
+}
+
+/// Copies of the bookings of a room on these days, in the order of their keys.
+fn bookings_in(
+    alloc: Global,
+    rows: &[BookingRow],
+    marks: &[Mark],
+    fresh: &Fresh<BookingRow>,
+    room: &RoomName,
+    days: &Days,
+) -> Result<Vec<BookingRow>, AllocError>
+    requires place { fresh.now.at ≤ length rows.now }
+    requires marks { marks.now ≡ map mark_of_row rows.now }
+    ensures { IfOk result (λ picked. picked.items ≡ filter (λ r. bytes_eq r.room room.now && is_on_days days.now r.day) (spliced rows.now fresh.now.at fresh.now.rows.items)) }
+{
     let (front, behind) = rows.split_at(fresh.at);
     let (front_marks, behind_marks) = marks.split_at(fresh.at);
     let mut picked = Vec::new(alloc);
-    pick_marked(alloc, &mut picked, front, front_marks, room, same_day(&day))?;
-    pick_bookings(alloc, &mut picked, &fresh.rows, room, same_day(&day))?;
-    pick_marked(alloc, &mut picked, behind, behind_marks, room, day)?;
+    pick_marked(alloc, &mut picked, front, front_marks, room, days)?;
+    pick_on(alloc, &mut picked, &fresh.rows, room, days)?;
+    pick_marked(alloc, &mut picked, behind, behind_marks, room, days)?;
     Ok(picked)
 }
 
@@ -105,20 +124,22 @@ pub(crate) fn place_in(
     }
 }
 
-/// Tables with the rows that a submission for the room needs.
-pub(crate) fn room_tables(
+/// Tables with the rows that a submission of the request needs.
+pub(crate) fn request_tables(
     alloc: Global,
     main: &Tables,
     marks: &[Mark],
     fresh: &FreshRows,
-    room: &RoomName,
+    request: &Request,
 ) -> Result<Tables, AllocError>
     requires places { ArePlaces main.now fresh.now }
     requires marks { marks.now ≡ map mark_of_row main.now.booking }
-    ensures { IfOk result (λ tables. in_scope (InRoom room.now) tables ≡ in_scope (InRoom room.now) (whole main.now fresh.now)) }
+    ensures { IfOk result (λ tables. in_scope (OfRequest request.now) tables ≡ in_scope (OfRequest request.now) (whole main.now fresh.now)) }
 {
-    let booking = bookings_in(alloc, &main.booking, marks, &fresh.booking, room, None)?;
-    let cancelled = rows_in(alloc, &main.cancelled, room)?;
+    let room = &request.room;
+    let days = days_of(alloc, request)?;
+    let booking = bookings_in(alloc, &main.booking, marks, &fresh.booking, room, &days)?;
+    let cancelled = rows_on(alloc, &main.cancelled, room, &days)?;
     Ok(Tables {
         meta: main.meta,
         room: copies_of(alloc, &main.room)?,

@@ -6,7 +6,8 @@ ghost use Rattle.mr_model.specs.Queries.{booking_id, error_id, cancelled_id, can
 ghost use Rattle.mr_tables.specs.Change.{id_before, log_id};
 ghost use Rattle.mr_tables.proofs.Putting.{name_order, number_order, id_order};
 
-use crate::rows::{TableRow, WriteRow};
+use crate::days::{Days, is_one_of};
+use crate::rows::{DayRow, TableRow, WriteRow};
 use mr_base::{RoomName, ServerId, WriteId};
 use mr_tables::{BookingRow, CancelRow, CancelledRow, ErrorRow, LogRow, VectorRow};
 use std::alloc::{AllocError, Global};
@@ -120,6 +121,14 @@ impl WriteRow for BookingRow {
     }
 }
 
+impl DayRow for BookingRow {
+    ghost day = { λ row. row.day };
+
+    fn is_on(&self, days: &Days) -> bool {
+        is_one_of(self.day, days)
+    }
+}
+
 impl TableRow for ErrorRow {
     ghost Key = { Id };
 
@@ -187,6 +196,14 @@ impl WriteRow for CancelledRow {
 
     fn is_in(&self, name: &RoomName) -> bool {
         self.room == *name
+    }
+}
+
+impl DayRow for CancelledRow {
+    ghost day = { λ row. row.day };
+
+    fn is_on(&self, days: &Days) -> bool {
+        is_one_of(self.day, days)
     }
 }
 

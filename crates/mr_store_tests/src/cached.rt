@@ -1,8 +1,9 @@
 // A keeper with its rows in memory answers as the keeper below does, also after a fault of that.
 
-use crate::changes::{first_change, id};
-use crate::tests::{Call, OF_BOTH_CHANGES, Place, answers, check, fault_of, opening};
-use mr_base::{Refusal, RoomName, WriteId};
+use crate::changes::{TUESDAY, first_change, id, request};
+use crate::tests::{Call, OF_BOTH_CHANGES, Place, answers, check, fault_of, opening, told};
+use mr_base::{Day, Refusal, Request, WriteId};
+use mr_part::Scope;
 use mr_store::{Cached, Fault, Keeper, ListKeeper, Tripped};
 use mr_tables::Change;
 use std::alloc::Global;
@@ -80,12 +81,12 @@ fn after_a_failed_store_the_answers_are_right(rt: HostRuntime) {
 /// The first fault of two rounds of questions.
 fn fault_of_questions<K: Keeper>(
     keeper: &mut K,
-    oak: &RoomName,
-    request: WriteId,
+    request: &Request,
+    id: WriteId,
     change: &Change,
 ) -> Option<Fault> {
     for call in 0..18 {
-        let fault = fault_of(keeper, call % 9, oak, request, change);
+        let fault = fault_of(keeper, call % 9, request, id, change);
         if fault.is_some() {
             return fault;
         }
@@ -98,11 +99,11 @@ fn faults<K: Keeper>(
     keeper: &mut K,
     alloc: Global,
 ) -> Result<(Option<Fault>, Option<Fault>), Refusal> {
-    let request = id(2, 1)?;
-    let oak = RoomName::new(alloc, "oak")?;
+    let request = request(alloc)?;
+    let id = id(2, 1)?;
     let change = first_change(alloc)?;
-    let of_questions = fault_of_questions(keeper, &oak, request, &change);
-    Ok((of_questions, fault_of(keeper, 9, &oak, request, &change)))
+    let of_questions = fault_of_questions(keeper, &request, id, &change);
+    Ok((of_questions, fault_of(keeper, 9, &request, id, &change)))
 }
 
 // the second call of the keeper below fails, which is the change
@@ -112,5 +113,30 @@ fn questions_ask_the_keeper_once(rt: HostRuntime) {
     assert_eq!(rt;
         faults(&mut keeper, rt.alloc()),
         Ok((None, Some(Fault::Store)))
+    );
+}
+
+/// The day and the start of the slot that a request gets behind the first change.
+fn slot_behind_first_change<K: Keeper>(
+    keeper: &mut K,
+    alloc: Global,
+) -> Result<Option<(Day, u32)>, Refusal> {
+    let change = first_change(alloc)?;
+    told(keeper.apply(&change))?;
+    let request = request(alloc)?;
+    let part = told(keeper.load_part(&Scope::OfRequest(&request)))?;
+    let (_, change) = part.submit(request)?;
+    Ok(change.booking.first().map(|row| (row.day, row.start)))
+}
+
+// the wish is taken, and so is the first alternative, which is on another day
+#[test]
+fn bookings_of_each_day_are_looked_at(rt: HostRuntime) {
+    let alloc = rt.alloc();
+    let mut keeper = Cached::new(alloc, opening(&rt, alloc));
+    let tuesday = Day::read(TUESDAY).expect(&rt, "a day");
+    assert_eq!(rt;
+        slot_behind_first_change(&mut keeper, alloc),
+        Ok(Some((tuesday, 900)))
     );
 }

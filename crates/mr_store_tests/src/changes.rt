@@ -1,6 +1,6 @@
 // Rows and changes of replica 2, whose primary is 1.
 
-use mr_base::{Day, Refusal, RoomName, ServerId, Title, WriteId};
+use mr_base::{Alternatives, Day, Refusal, Request, RoomName, ServerId, Slot, Title, WriteId};
 use mr_tables::{
     BookingRow, CancelRow, CancelledRow, Change, ErrorRow, MetaRow, Tables, VectorRow,
 };
@@ -8,7 +8,7 @@ use std::alloc::Global;
 
 pub(crate) const MONDAY: &str = "1995-12-18";
 
-const TUESDAY: &str = "1995-12-19";
+pub(crate) const TUESDAY: &str = "1995-12-19";
 
 pub(crate) fn server(number: u32) -> Result<ServerId, Refusal> {
     ServerId::new(number).ok_or(Refusal::NotAReplica)
@@ -104,6 +104,17 @@ fn rooms(alloc: Global, names: &[&str]) -> Result<Vec<RoomName>, Refusal> {
         rooms.push(RoomName::new(alloc, name)?)?;
     }
     Ok(rooms)
+}
+
+/// A request for half an hour of oak on Monday at 09:00, else on Tuesday at 09:00 or 15:00.
+pub(crate) fn request(alloc: Global) -> Result<Request, Refusal> {
+    let (monday, tuesday) = (Day::read(MONDAY)?, Day::read(TUESDAY)?);
+    let mut others = Vec::new(alloc);
+    others.push(Slot::new(tuesday, 540)?)?;
+    others.push(Slot::new(tuesday, 900)?)?;
+    let (room, title) = (RoomName::new(alloc, "oak")?, Title::new(alloc, "Audit")?);
+    let wish = Slot::new(monday, 540)?;
+    Request::new(room, title, 30, wish, Alternatives::from_vec(others))
 }
 
 /// The id of a request of replica 2.

@@ -1,8 +1,8 @@
 // Changes by hand, and what the keepers then answer. The functions that call a keeper have no clause, so that the proof of
 // a test does not carry the state of each call.
 
-use crate::changes::{MONDAY, first_change, id, second_change, server, tables};
-use mr_base::{Day, Refusal, RoomName, WriteId};
+use crate::changes::{MONDAY, first_change, id, request, second_change, server, tables};
+use mr_base::{Day, Refusal, Request, RoomName, WriteId};
 use mr_part::Scope;
 use mr_store::{Fault, Keeper, ListKeeper, PlaceRow, Tripped};
 use mr_tables::{BookingRow, CancelRow, CancelledRow, Change, ErrorRow};
@@ -357,13 +357,14 @@ fn a_trip_comes_after_its_calls(rt: HostRuntime) {
 pub(crate) fn fault_of<K: Keeper>(
     keeper: &mut K,
     call: u32,
-    room: &RoomName,
+    request: &Request,
     id: WriteId,
     change: &Change,
 ) -> Option<Fault> {
+    let room = &request.room;
     match call {
         0 => keeper.load().err(),
-        1 => keeper.load_part(&Scope::InRoom(room)).err(),
+        1 => keeper.load_part(&Scope::OfRequest(request)).err(),
         2 => keeper.rooms().err(),
         3 => keeper.bookings(room, None).err(),
         4 => keeper.place_of(room, id).err(),
@@ -380,22 +381,22 @@ fn faults_of(
     rt: &impl Abort,
     alloc: Global,
     call: u32,
-    room: &RoomName,
+    request: &Request,
     change: &Change,
 ) -> Result<(Option<Fault>, Option<Fault>), Refusal> {
     let id = id(2, 1)?;
     let mut keeper = Tripped::new(opening(rt, alloc), 0, Fault::Store);
-    let first = fault_of(&mut keeper, call, room, id, change);
-    Ok((first, fault_of(&mut keeper, call, room, id, change)))
+    let first = fault_of(&mut keeper, call, request, id, change);
+    Ok((first, fault_of(&mut keeper, call, request, id, change)))
 }
 
 #[test]
 fn each_call_trips_once(rt: HostRuntime) {
     let alloc = rt.alloc();
-    let oak = RoomName::new(alloc, "oak").expect(&rt, "a room");
+    let request = request(alloc).expect(&rt, "a request");
     let change = first_change(alloc).expect(&rt, "a change");
     for call in 0..10 {
-        let faults = faults_of(&rt, alloc, call, &oak, &change);
+        let faults = faults_of(&rt, alloc, call, &request, &change);
         assert_eq!(rt; faults, Ok((Some(Fault::Store), None)), "at call {call}");
     }
 }
