@@ -38,7 +38,7 @@ fn passing_bookings<S: Alter>(
 }
 
 /// The bookings of these rooms: those of one by a statement.
-fn bookings_of<S: Alter>(
+fn bookings_in<S: Alter>(
     conn: &mut Connection<S>,
     alloc: Global,
     rooms: &[RoomName],
@@ -71,7 +71,7 @@ fn passing_cancelled<S: Alter>(
 }
 
 /// The same of cancelled bookings.
-fn cancelled_of<S: Alter>(
+fn cancelled_in<S: Alter>(
     conn: &mut Connection<S>,
     alloc: Global,
     rooms: &[RoomName],
@@ -103,7 +103,7 @@ fn read_room_bookings<S: Alter>(
         (tables_in (state S.Store conn.old).now.trees).booking) }
 {
     match room_questions(alloc, scope, logs, commits) {
-        Ok(rooms) => bookings_of(conn, alloc, &rooms),
+        Ok(rooms) => bookings_in(conn, alloc, &rooms),
         Err(_) => Err(Error::SqliteFailure(ErrorCode::OutOfMemory)),
     }
 }
@@ -175,7 +175,7 @@ fn read_room_cancelled<S: Alter>(
         (tables_in (state S.Store conn.old).now.trees).cancelled) }
 {
     match room_questions(alloc, scope, logs, commits) {
-        Ok(rooms) => cancelled_of(conn, alloc, &rooms),
+        Ok(rooms) => cancelled_in(conn, alloc, &rooms),
         Err(_) => Err(Error::SqliteFailure(ErrorCode::OutOfMemory)),
     }
 }

@@ -29,7 +29,7 @@ fn sort_stamps(stamps: &mut Vec<LogStamp>) -> Result<(), AllocError>
     stamps.sort_by(|a, b| compare_stamps(a, b))
 }
 
-fn ids_of(alloc: Global, stamps: &[LogStamp]) -> Result<Vec<IdQuestion>, AllocError>
+fn ids_of_stamps(alloc: Global, stamps: &[LogStamp]) -> Result<Vec<IdQuestion>, AllocError>
     ensures { IfOk result (λ ids. ids.items ≡ map stamp_id stamps.now) }
 {
     let mut ids = Vec::new(alloc);
@@ -53,5 +53,5 @@ pub(crate) fn first_ids(
 {
     sort_stamps(&mut stamps)?;
     stamps.truncate(count as usize);
-    ids_of(alloc, &stamps)
+    ids_of_stamps(alloc, &stamps)
 }
