@@ -29,5 +29,5 @@ mod scope_touched;
 
 pub use part::Part;
 pub use rows_in_scope::logs_in_scope;
-pub use scope::{Scope, is_on_day_of};
+pub use scope::{Scope, has_choice_on};
 pub use scope_touched::touched_rooms;

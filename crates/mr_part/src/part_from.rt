@@ -90,7 +90,7 @@ fn touched_in(alloc: Global, scope: &Scope<'_>, tables: &Tables) -> Result<Vec<R
     match *scope {
         Scope::Items(items) => { touched_rooms(alloc, &tables.log, items, tables.meta.commits) }
         Scope::Nothing
-        | Scope::OfRequest(_)
+        | Scope::OfRequest(_, _)
         | Scope::OfTarget(_)
         | Scope::NextCommits(_)
         | Scope::UpTo(_)
@@ -145,7 +145,7 @@ fn logged_in(
         → AreSameRooms touched.now (touched_in (scope_of scope.now) tables.now) → IfErr result (λ e. e ≡ Refusal.OutOfMemory) }
 {
     match *scope {
-        Scope::Nothing | Scope::OfRequest(_) => Ok(Vec::new(alloc)),
+        Scope::Nothing | Scope::OfRequest(_, _) => Ok(Vec::new(alloc)),
         Scope::OfTarget(_) => Ok(Vec::new(alloc)),
         Scope::NextCommits(count) => first_writes(alloc, &tables.log, count),
         Scope::UpTo(_) | Scope::Above(_) | Scope::Items(_) => {

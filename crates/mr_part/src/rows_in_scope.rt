@@ -27,7 +27,7 @@ pub fn logs_in_scope<'a>(
     ensures only { IfErr result (λ e. e ≡ Refusal.OutOfMemory) }
 {
     match *scope {
-        Scope::Nothing | Scope::OfRequest(_) => Ok(Vec::new(alloc)),
+        Scope::Nothing | Scope::OfRequest(_, _) => Ok(Vec::new(alloc)),
         Scope::OfTarget(_) => Ok(Vec::new(alloc)),
         Scope::NextCommits(count) => first_rows(alloc, rows, count as usize),
         Scope::UpTo(_) | Scope::Above(_) | Scope::Items(_) => {
@@ -66,7 +66,7 @@ fn rooms_moved(
     match *scope {
         Scope::Items(items) => touched_rooms(alloc, rows, items, commits),
         Scope::Nothing
-        | Scope::OfRequest(_)
+        | Scope::OfRequest(_, _)
         | Scope::OfTarget(_)
         | Scope::NextCommits(_)
         | Scope::UpTo(_)

@@ -10,7 +10,7 @@ ghost use Rattle.mr_replica.specs.Sets.{IsSetOf};
 ghost use Rattle.mr_part.specs.ScopeOf.{scope_of};
 ghost use Rattle.mr_part.specs.PickedBookings.{is_booking_in, is_error_in, is_cancelled_in, IsIdSetOf, picked_rows};
 
-use crate::{Scope, is_on_day_of};
+use crate::{Scope, has_choice_on};
 use mr_base::{Refusal, RoomName, Write, WriteId};
 use mr_replay::Board;
 use mr_replica::room_sets::{RoomSet, room_set};
@@ -129,7 +129,7 @@ fn is_booking_in(row: &BookingRow, scope: &Scope<'_>, rooms: &RoomSet) -> bool
     ensures { (touched : List Text) → IsSetOf rooms.now touched → result ≡ is_booking_in (scope_of scope.now) touched row.now }
 {
     match *scope {
-        Scope::OfRequest(request) => is_on_day_of(request, &row.room, row.day),
+        Scope::OfRequest(room, meeting) => row.room == *room && has_choice_on(meeting, row.day),
         Scope::OfTarget(target) => row.id() == target,
         Scope::Items(_) => rooms.contains(&row.room),
         Scope::Nothing | Scope::NextCommits(_) | Scope::UpTo(_) | Scope::Above(_) => false,
@@ -143,7 +143,7 @@ fn is_error_in(row: &ErrorRow, scope: &Scope<'_>) -> bool
     match *scope {
         Scope::OfTarget(target) => row.id() == target,
         Scope::Nothing
-        | Scope::OfRequest(_)
+        | Scope::OfRequest(_, _)
         | Scope::NextCommits(_)
         | Scope::UpTo(_)
         | Scope::Above(_)
@@ -157,7 +157,7 @@ fn is_cancelled_in(row: &CancelledRow, scope: &Scope<'_>, rooms: &RoomSet, ids: 
         → result ≡ is_cancelled_in (scope_of scope.now) touched named row.now }
 {
     match *scope {
-        Scope::OfRequest(request) => is_on_day_of(request, &row.room, row.day),
+        Scope::OfRequest(room, meeting) => row.room == *room && has_choice_on(meeting, row.day),
         Scope::OfTarget(target) => row.id() == target,
         Scope::NextCommits(_) => ids.contains(&row.id()),
         Scope::Items(_) => rooms.contains(&row.room),

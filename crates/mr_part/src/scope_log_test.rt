@@ -45,9 +45,8 @@ impl LogTest {
         ensures only { IfErr result (λ e. e ≡ Refusal.OutOfMemory) }
     {
         match *scope {
-            Scope::Nothing | Scope::OfRequest(_) | Scope::OfTarget(_) | Scope::NextCommits(_) => {
-                Ok(LogTest::Never)
-            }
+            Scope::Nothing | Scope::OfRequest(_, _) | Scope::OfTarget(_) | Scope::NextCommits(_) =>
+                { Ok(LogTest::Never) }
             Scope::UpTo(number) => Ok(LogTest::UpTo(number)),
             Scope::Above(number) => Ok(LogTest::Above(number)),
             Scope::Items(items) => Ok(LogTest::Items {

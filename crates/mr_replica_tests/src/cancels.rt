@@ -387,27 +387,40 @@ fn rows_of(alloc: Global, rows: &Rows, scope: &Scope<'_>) -> Result<u64, Refusal
     Ok(part.rows())
 }
 
-/// How many rows the part for the next commit has, that for a request, that for a cancel of server 3's write, and that for a batch without lines.
-fn counts(alloc: Global) -> Result<[u64; 4], Refusal> {
+/// How many rows the part for the next commit has, that for a cancel of server 3's write, and that for a batch without lines.
+fn counts(alloc: Global) -> Result<[u64; 3], Refusal> {
     let target = WriteId::new(crate::desks::server(3)?, 1).ok_or(Refusal::NoSuchRequest)?;
     let of_commit = rows_of(alloc, &BOTH_TENTATIVE, &Scope::NextCommits(1))?;
-    let of_request = rows_of_request(alloc, "1995-12-18", None)?;
     let of_target = rows_of(alloc, &BOTH_TENTATIVE, &Scope::OfTarget(target))?;
     let no_items: &[Item] = &[];
     let of_batch = rows_of(alloc, &BOTH_TENTATIVE, &Scope::Items(no_items))?;
-    Ok([of_commit, of_request, of_target, of_batch])
+    Ok([of_commit, of_target, of_batch])
 }
 
-/// How many rows the part has for a request of the room on this day, with or without an alternative on that one.
-fn rows_of_request(alloc: Global, day: &str, other: Option<&str>) -> Result<u64, Refusal> {
+/// A request of the room for this day, with or without an alternative on that one.
+fn request_on(alloc: Global, day: &str, other: Option<&str>) -> Result<Request, Refusal> {
     let wish = Slot::new(Day::read(day)?, 540)?;
     let mut others = Vec::new(alloc);
     if let Some(other) = other {
         others.push(Slot::new(Day::read(other)?, 540)?)?;
     }
     let others = Alternatives::from_vec(others);
-    let request = Request::of_words(alloc, "oak", "Delta", 60, wish, others)?;
-    rows_of(alloc, &BOTH_TENTATIVE, &Scope::OfRequest(&request))
+    Request::of_words(alloc, "oak", "Delta", 60, wish, others)
+}
+
+/// How many rows the part for this request has, and that for a batch without lines. That there is one is for the prover alone, which
+/// follows a scope where the types of all that a scope may hold are in use.
+fn rows_of_request(alloc: Global, request: &Request) -> Result<[u64; 2], Refusal> {
+    let scope = Scope::OfRequest(&request.room, &request.meeting);
+    let of_request = rows_of(alloc, &BOTH_TENTATIVE, &scope)?;
+    let no_items: &[Item] = &[];
+    let of_batch = rows_of(alloc, &BOTH_TENTATIVE, &Scope::Items(no_items))?;
+    Ok([of_request, of_batch])
+}
+
+fn rows_on(alloc: Global, day: &str, other: Option<&str>) -> Result<[u64; 2], Refusal> {
+    let request = request_on(alloc, day, other)?;
+    rows_of_request(alloc, &request)
 }
 
 /// A submission's part has what is booked on the days of its choices alone, at whatever hour.
@@ -416,7 +429,7 @@ fn rows_of_a_submission_are_counted(rt: HostRuntime) {
     let (day, next) = ("1995-12-18", "1995-12-19");
     for (wish, other, count) in [(day, None, 1), (next, None, 0), (next, Some(day), 1)] {
         assert!(rt;
-            rows_of_request(rt.alloc(), wish, other) == Ok(count),
+            rows_on(rt.alloc(), wish, other) == Ok([count, 0]),
             "on {wish}"
         );
     }
@@ -425,7 +438,7 @@ fn rows_of_a_submission_are_counted(rt: HostRuntime) {
 /// A commit's part has the row of the log and that of the booking that was taken back.
 #[test]
 fn rows_of_parts_are_counted(rt: HostRuntime) {
-    assert!(rt; counts(rt.alloc()) == Ok([2, 1, 1, 0]));
+    assert!(rt; counts(rt.alloc()) == Ok([2, 1, 0]));
 }
 
 /// How many rows the part has for a batch with server 1's cancel of server 3's write, at this time.

@@ -41,7 +41,7 @@ pub(crate) fn submit<K: Keeper>(
     ensures served { IsServed K.Keeper keeper.old keeper.new (model.Submit (submission_of words.now)) (reply_in result) }
 {
     let request = read_request(alloc, words)?;
-    let part = load(keeper, &Scope::OfRequest(&request))?;
+    let part = load(keeper, &Scope::OfRequest(&request.room, &request.meeting))?;
     change(keeper, turns::submit(&part, request))
 }
 

@@ -4,7 +4,7 @@ ghost use Rattle.mr_model.specs.Calendar.{Date, same_date};
 ghost use Rattle.mr_store.specs.DaysAsked.{is_day_of, is_on_days};
 ghost use Rattle.mr_store.specs.Picked.{is_day_asked};
 
-use mr_base::{Day, Request, Slot};
+use mr_base::{Day, Meeting, Slot};
 use std::alloc::{AllocError, Global};
 
 /// The days of which rows are asked for.
@@ -25,11 +25,10 @@ pub(crate) fn days_asked(day: &Option<Day>) -> Days
     }
 }
 
-/// The days of the request's choices.
-pub(crate) fn days_of(alloc: Global, request: &Request) -> Result<Days, AllocError>
-    ensures { IfOk result (λ days. (d : Date) → is_on_days days d ≡ is_day_of request.now d) }
+/// The days of the meeting's choices.
+pub(crate) fn days_of(alloc: Global, meeting: &Meeting) -> Result<Days, AllocError>
+    ensures { IfOk result (λ days. (d : Date) → is_on_days days d ≡ is_day_of meeting.now d) }
 {
-    let meeting = &request.meeting;
     days_with(alloc, meeting.wish.day, meeting.alternatives.as_slice())
 }
 

@@ -18,7 +18,7 @@ use crate::order::sort_bookings;
 use crate::queries::rows_in;
 use crate::rows::copies_of;
 use crate::spliced_queries::{bookings_asked, place_in, request_tables, rows_in_spliced};
-use mr_base::{Day, Refusal, Request, RoomName, WriteId};
+use mr_base::{Day, Meeting, Refusal, RoomName, WriteId};
 use mr_part::{Part, Scope};
 use mr_replica::Desk;
 use mr_tables::{BookingRow, CancelRow, CancelledRow, Change, ErrorRow, PlaceRow, Tables};
@@ -106,7 +106,7 @@ impl Remembered {
         ensures within { IfOk result (λ part. IsWithin part.summary) }
     {
         match *scope {
-            Scope::OfRequest(request) => match self.tables_of_request(request) {
+            Scope::OfRequest(room, meeting) => match self.tables_of_request(room, meeting) {
                 Ok(tables) => part_of(self.alloc, scope, &tables),
                 Err(AllocError) => Err(Fault::OutOfMemory),
             },
@@ -130,13 +130,18 @@ impl Remembered {
         }
     }
 
-    /// Tables with the rows that a submission of the request needs.
-    fn tables_of_request(&mut self, request: &Request) -> Result<Tables, AllocError>
+    /// Tables with the rows that a submission of the meeting in this room needs.
+    fn tables_of_request(
+        &mut self,
+        room: &RoomName,
+        meeting: &Meeting,
+    ) -> Result<Tables, AllocError>
         ensures same { self.new ≡ self.old }
-        ensures tables { IfOk result (λ tables. in_scope (OfRequest request.now) tables ≡ in_scope (OfRequest request.now) self.old) }
+        ensures tables { IfOk result (λ tables. in_scope (OfRequest (record { room = room.now; meeting = meeting.now })) tables
+            ≡ in_scope (OfRequest (record { room = room.now; meeting = meeting.now })) self.old) }
     {
         let marks = taken_marks(self.alloc, &mut self.marks, &self.main.booking)?;
-        let tables = request_tables(self.alloc, &self.main, &marks, &self.fresh, request);
+        let tables = request_tables(self.alloc, &self.main, &marks, &self.fresh, room, meeting);
         self.marks = Some(marks);
         tables
     }

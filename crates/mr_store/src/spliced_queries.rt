@@ -13,7 +13,7 @@ use crate::marks::{Mark, pick_marked};
 use crate::queries::{pick_on, pick_rows, row_of, rows_on};
 use crate::rows::{WriteRow, copies_of};
 use crate::splice::Fresh;
-use mr_base::{Day, Request, RoomName, WriteId};
+use mr_base::{Day, Meeting, RoomName, WriteId};
 use mr_tables::{BookingRow, PlaceRow, Tables};
 use std::alloc::{AllocError, Global};
 
@@ -124,20 +124,21 @@ pub(crate) fn place_in(
     }
 }
 
-/// Tables with the rows that a submission of the request needs.
+/// Tables with the rows that a submission of the meeting in this room needs.
 pub(crate) fn request_tables(
     alloc: Global,
     main: &Tables,
     marks: &[Mark],
     fresh: &FreshRows,
-    request: &Request,
+    room: &RoomName,
+    meeting: &Meeting,
 ) -> Result<Tables, AllocError>
     requires places { ArePlaces main.now fresh.now }
     requires marks { marks.now ≡ map mark_of_row main.now.booking }
-    ensures { IfOk result (λ tables. in_scope (OfRequest request.now) tables ≡ in_scope (OfRequest request.now) (whole main.now fresh.now)) }
+    ensures { IfOk result (λ tables. in_scope (OfRequest (record { room = room.now; meeting = meeting.now })) tables
+        ≡ in_scope (OfRequest (record { room = room.now; meeting = meeting.now })) (whole main.now fresh.now)) }
 {
-    let room = &request.room;
-    let days = days_of(alloc, request)?;
+    let days = days_of(alloc, meeting)?;
     let booking = bookings_in(alloc, &main.booking, marks, &fresh.booking, room, &days)?;
     let cancelled = rows_on(alloc, &main.cancelled, room, &days)?;
     Ok(Tables {

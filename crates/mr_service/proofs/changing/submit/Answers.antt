@@ -1,8 +1,11 @@
+use Rattle.std.proofs.Common.{subst, Ok}
 use Rattle.std.proofs.lemmas.Result.{err_from_is_err_and}
+use Rattle.mr_model.specs.Requests.{Request}
 use Rattle.mr_model.specs.Scopes.{OfRequest}
 use Rattle.mr_model.specs.Step.{Submit}
 use Rattle.mr_replica.specs.Steps.{submit_request}
 use Rattle.mr_service.specs.Asked.{submission_of}
+use Rattle.mr_service.specs.Turns.{IsLoaded}
 use Rattle.mr_service.proofs.KeeperChanges.{not_loaded, made_by}
 use Rattle.mr_service.proofs.KeeperReads.{unread}
 use Rattle.mr_service.proofs.DeskSteps.{word_step}
@@ -21,4 +24,4 @@ returns-in_err-part g c =
 
 pub returns : goal.returns
 returns g c =
-    record { served = made_by g.K.Keeper c.args.keeper.now c.load.new.keeper c.change.new.keeper (OfRequest c.in_ok-request.request) c.in_ok-part.part _ _ (Submit (submission_of c.args.words.now)) (submit_request c.in_ok-request.request) c.in_ok-part.ensures c.change.ensures (words.submission_read (submission_of c.args.words.now) c.in_ok-request.request c.in_ok-request.ensures) c.submit.ensures }
+    record { served = made_by g.K.Keeper c.args.keeper.now c.load.new.keeper c.change.new.keeper (OfRequest c.in_ok-request.request) c.in_ok-part.part _ _ (Submit (submission_of c.args.words.now)) (submit_request c.in_ok-request.request) (subst (λ (q : Request). IsLoaded g.K.Keeper c.args.keeper.now c.load.new.keeper (OfRequest q) (Ok c.in_ok-part.part)) c.request.view_is c.in_ok-part.ensures) c.change.ensures (words.submission_read (submission_of c.args.words.now) c.in_ok-request.request c.in_ok-request.ensures) c.submit.ensures }
