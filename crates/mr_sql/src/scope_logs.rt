@@ -138,7 +138,7 @@ pub(crate) fn read_logs<S: Alter>(
         Scope::NextCommits(count) => read_next(conn, alloc, count),
         Scope::Items(items) => read_batch(conn, alloc, items, commits),
         Scope::Nothing
-        | Scope::OfRequest(_)
+        | Scope::OfRequest(_, _)
         | Scope::OfTarget(_)
         | Scope::UpTo(_)
         | Scope::Above(_) => read_numbers(conn, alloc, scope, commits),

@@ -61,7 +61,7 @@ pub(crate) fn number_questions(
         Scope::UpTo(number) => rows_up_to(alloc, number, commits),
         Scope::Above(number) => rows_above(alloc, number, commits),
         Scope::Nothing
-        | Scope::OfRequest(_)
+        | Scope::OfRequest(_, _)
         | Scope::OfTarget(_)
         | Scope::NextCommits(_)
         | Scope::Items(_) => Ok(Vec::new(alloc)),

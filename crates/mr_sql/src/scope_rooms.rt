@@ -25,7 +25,7 @@ pub(crate) fn room_questions(
     ensures { IfOk result (λ rooms. AreSameRooms rooms.items (room_questions commits (scope_of scope.now) logs.now)) }
 {
     match *scope {
-        Scope::OfRequest(request) => one_room(alloc, &request.room),
+        Scope::OfRequest(room, _) => one_room(alloc, room),
         Scope::Items(items) => touched_rooms(alloc, logs, items, commits),
         Scope::Nothing
         | Scope::OfTarget(_)

@@ -125,7 +125,7 @@ fn rows_of_request<K: Keeper>(
     let wish = Slot::new(Day::read(day)?, 540)?;
     let others = Alternatives::from_vec(Vec::new(alloc));
     let request = Request::of_words(alloc, room, "Delta", 60, wish, others)?;
-    rows_in(keeper, &Scope::OfRequest(&request))
+    rows_in(keeper, &Scope::OfRequest(&request.room, &request.meeting))
 }
 
 fn rows_of_batch<K: Keeper>(alloc: Global, keeper: &mut K, text: &str) -> Result<u64, Refusal> {
