@@ -5,11 +5,13 @@
 
 makes two databases of so many bookings (10,000 where no number is given) in five rooms: that of the primary, and that of another
 replica, which drops some commits. A fifth of the bookings is committed, and each of the two cancels one in 101 of all. For each kind of
-command it runs the statements of crates/mr_rows/src/queries.rt that the command's scope asks (crates/mr_sql/specs/ScopeQuestions.antt), and
-prints how many they are and how many rows they find. The rows of meta, room and vector are not counted: each command reads all of them.
+command it runs the statements of crates/mr_rows/src that the command's scope asks (crates/mr_sql/src/scope_logs.rt and scope_rows.rt), and prints
+how many they are and how many rows are made of what they find: of a statement whose rows are tested where they lie those that pass. The stamps
+that a commit reads are no rows. Nor are the rows of meta, room and vector counted: each command reads all of them.
 """
 
 import contextlib
+import math
 import os
 import re
 import sqlite3
@@ -31,12 +33,16 @@ Commit = namedtuple('Commit', 'seq server n')
 
 
 def statements():
-    """The statements of the source, by the names of their functions. Some have a constant for their text."""
-    with open(os.path.join(HERE, '..', 'crates', 'mr_rows', 'src', 'queries.rt'), encoding='utf-8') as file:
-        source = file.read()
-    for name, text in re.findall(r'const (\w+): &str =\s+("SELECT [^"]*")', source):
-        source = re.sub(rf'\b{name}\b(?!:)', text, source)
-    return dict(re.findall(r'fn (\w+)<(?:(?!\n}).)*?"(SELECT [^"]*)"', source, re.S))
+    """The statements of the sources, by the names of their constants and functions. Some functions have a constant for their text."""
+    texts = {}
+    for name in ('queries', 'table_rows', 'cancel_rows'):
+        with open(os.path.join(HERE, '..', 'crates', 'mr_rows', 'src', f'{name}.rt'), encoding='utf-8') as file:
+            source = file.read()
+        constants = dict(re.findall(r'const (\w+): &str =\s+"(SELECT [^"]*)"', source))
+        for constant, text in constants.items():
+            source = re.sub(rf'\b{constant}\b(?!:)', f'"{text}"', source)
+        texts |= constants | dict(re.findall(r'fn (\w+)<(?:(?!\n}).)*?"(SELECT [^"]*)"', source, re.S))
+    return texts
 
 
 # ---- the databases
@@ -87,35 +93,46 @@ class Command:
         self.found = dict(self.asked)
         self.commits, self.dropped = database.execute('SELECT commits, dropped FROM meta').fetchone()
 
-    def ask(self, query, *given):
+    def ask(self, query, *given, passes=lambda row: True):
         text = self.sql[query]
-        rows = self.database.execute(text, given).fetchall()
+        rows = [row for row in self.database.execute(text, given) if passes(row)]
         table = re.search(r' FROM (\w+)', text).group(1)
         self.asked[table] += 1
         self.found[table] += len(rows)
         return rows
 
     def logs_between(self, low, high):
-        return [Row(*row) for row in self.ask('select_between_log', low, high)]
+        return self.ask('LOGS_BETWEEN', low, high)
 
-    def in_room(self, room):
-        self.ask('select_room_booking', room)
-        self.ask('select_room_cancelled', room)
+    def in_rooms(self, rooms):
+        """Those of one room by a statement, those of several in a pass over the table."""
+        for one, every in (('ROOM_BOOKINGS', 'ALL_BOOKINGS'), ('ROOM_CANCELLED', 'ALL_CANCELLED')):
+            if len(rooms) == 1:
+                self.ask(one, *rooms)
+            elif rooms:
+                self.ask(every, passes=lambda row: row[0] in rooms)
 
     def nothing(self):
         pass
 
     def submit(self, room):
-        self.in_room(room)
+        self.in_rooms({room})
 
     def cancel(self, server, n):
         for query in ('select_key_booking', 'select_key_error', 'select_key_cancelled'):
             self.ask(query, server, n)
 
     def commit(self, count):
-        rows = self.logs_between(0, 0)
-        for row in sorted(rows, key=lambda row: (row.time, row.server))[:count]:
-            self.ask('select_key_cancelled', row.server, row.n)
+        stamps = self.database.execute(self.sql['select_stamp_log'], (0,)).fetchall()
+        self.asked['log'] += 1
+        first = sorted(stamps, key=lambda row: (row[2], row[0], -row[1]))[:count]
+        if len(first) < len(stamps) // 16:
+            for server, n, _ in first:
+                self.ask('select_key_log', server, n)
+        else:
+            self.logs_between(0, 0)
+        for server, n, _ in first:
+            self.ask('select_key_cancelled', server, n)
 
     def truncate(self, number):
         self.logs_between(1, min(number, self.commits))
@@ -126,13 +143,14 @@ class Command:
             self.logs_between(commits + 1, self.commits)
 
     def receive(self, items):
-        rows = set(self.logs_between(0, 0))
-        for item in items:
-            rows |= {Row(*row) for row in self.ask('select_key_log', item.server, item.n)}
-            if isinstance(item, Commit) and item.seq <= self.commits:
-                rows |= set(self.logs_between(item.seq, item.seq))
-        for room in self.touched(items, rows):
-            self.in_room(room)
+        rows = {Row(*row) for item in items for row in self.ask('select_key_log', item.server, item.n)}
+        rooms = self.touched(items, rows)
+        numbers = {item.seq for item in items if isinstance(item, Commit) and item.seq <= self.commits}
+        is_new = any(isinstance(item, Commit) and item.seq > self.commits for item in items)
+        first = (0, 0) if is_new else min((item.time, item.server) for item in items) if not numbers else (math.inf, 0)
+        self.ask('LATE_LOGS', 0 if numbers else first[0], max(numbers, default=0),
+                 passes=lambda row: row[11] in numbers or row[11] == 0 and (row[2], row[0]) >= first and row[3] in rooms)
+        self.in_rooms(rooms)
 
     def touched(self, items, rows):
         """The rooms of the writes, and of those that new commits name."""

@@ -1,3 +1,5 @@
+pub mod StampLemmas
+pub mod LogLemmas
 pub mod ScopeLemmas
 pub mod CreateLemmas
 pub mod AnswerLemmas

@@ -1,192 +1,54 @@
 -- The rows that the questions of a scope ask for are enough of it.
-use Rattle.std.proofs.Common.{◌≡◌, refl, sym, ap, ◌∙◌, subst, ℕ, zero, suc, ◌+◌, ◌≤◌, Bool, true, false, cond, not, ◌&&◌, ◌||◌, ltb, leb, List, [], ◌∷◌, ◌++◌, map, filter, take, ◌⊎◌, inl, inr, arith, length, ltb-true, ltb-false, eqb-true}
-use Rattle.std.proofs.lemmas.Bool.{true≢false, and_parts, and_from, or_cases, or_left, or_right, leb-true, le-leb}
-use Rattle.std.specs.Prelude.{bytes_eq, flat_map}
+use Rattle.std.proofs.Common.{◌≡◌, refl, sym, ap, ◌∙◌, subst, ℕ, ◌+◌, ◌≤◌, Bool, true, false, cond, ◌||◌, List, [], ◌∷◌, map, filter, arith, length}
+use Rattle.std.proofs.lemmas.Bool.{and_parts, or_left}
+use Rattle.std.specs.Prelude.{bytes_eq}
 use Rattle.std.specs.List.{list_any}
-use Rattle.std.proofs.lemmas.List.Folds.{list_any-append}
-use Rattle.mr_model.specs.Texts.{Text, within}
-use Rattle.mr_model.specs.Writes.{Id, same_id}
+use Rattle.mr_model.specs.Texts.{Text}
+use Rattle.mr_model.specs.Calendar.{same_date}
+use Rattle.mr_model.specs.Writes.{Id, same_id, choices_of}
 use Rattle.mr_model.specs.Replica.{Replica, is_among}
-use Rattle.mr_model.specs.Exchange.{Item, W, C}
+use Rattle.mr_model.specs.Exchange.{Item}
 use Rattle.mr_model.specs.Tables.{MetaRow, VectorRow, LogRow, BookingRow, ErrorRow, CancelledRow, Tables, log_row, kept, seq_among, tables_of}
 use Rattle.mr_model.specs.Queries.{booking_id, error_id, cancelled_id}
 use Rattle.mr_model.specs.Dropped.{Has}
-use Rattle.mr_model.specs.Scopes.{Scope, Nothing, InRoom, OfTarget, NextCommits, UpTo, Above, OfItems, log_row_id, is_tentative, row_before, put_row, by_stamp, item_id, has_number, is_named, is_in_tail, is_touched, next_commits, with_rows, in_scope}
-use Rattle.mr_model.specs.RowsRead.{rows_read, IsOfCommits}
+use Rattle.mr_model.specs.Scopes.{Scope, Nothing, OfRequest, OfTarget, NextCommits, UpTo, Above, OfItems, log_row_id, is_on_day_of, is_touched, next_commits, with_rows, in_scope}
+use Rattle.mr_model.specs.RowsRead.{rows_read}
 use Rattle.mr_model.proofs.ReadRows.{read_rows}
 use Rattle.mr_model.proofs.Members.{filter_has, map_has}
-use Rattle.mr_rows.specs.declared.questions.LogQuestion.{LogQuestion}
-use Rattle.mr_rows.specs.declared.questions.LogQuestion.TheVariants.{OfId, Between}
-use Rattle.mr_rows.specs.RowQuestions.{is_row_asked, is_log_asked, is_booking_asked, is_cancelled_asked, is_booking_named, is_error_of, is_cancelled_of}
-use Rattle.mr_sql.specs.ScopeQuestions.{item_questions, tentative_question, log_questions, logs_alone, room_questions, target_questions, taken_questions, asks_booking, asks_cancelled, AreRead, AreSeqsWithin, AreEnough}
-use Rattle.mr_replica.specs.Sets.{AreSameRooms}
+use Rattle.mr_rows.specs.RowQuestions.{is_row_asked, is_booking_asked, is_cancelled_asked, is_booking_named, is_error_of, is_cancelled_of}
+use Rattle.mr_sql.specs.declared.scope_rooms.RoomTest.{RoomTest}
+use Rattle.mr_sql.specs.LateTests.{books_in, cancels_in}
+use Rattle.mr_sql.specs.ScopeQuestions.{logs_alone, room_questions, target_questions, taken_questions, asks_booking, asks_cancelled, AreRead, AreSeqsWithin, AreEnough}
+use Rattle.mr_replica.specs.Sets.{AreSameRooms, IsSetOf}
 use Rattle.mr_rows.proofs.RowLemmas.{filter_same}
 use Rattle.mr_rows.proofs.ValueLemmas.{or_false}
 
--- ---- lists
-
-take_has : {X : Type 0} (k : ℕ) (x : X) (xs : List X) → Has x (take k xs) → Has x xs
-take_has zero x xs h = absurd h
-take_has (suc k) x [] h = absurd h
-take_has (suc k) x (y ∷ ys) (inl e) = inl e
-take_has (suc k) x (y ∷ ys) (inr h) = inr (take_has k x ys h)
-
-put_row_has : (x row : LogRow) (rows : List LogRow) → Has row (put_row x rows) → (row ≡ x) ⊎ Has row rows
-put_row_has x row [] (inl e) = inl e
-put_row_has x row [] (inr h) = absurd h
-put_row_has x row (y ∷ ys) h = go (row_before x y) h (put_row_has x row ys)
-  where
-    over : (row ≡ x) ⊎ Has row ys → (row ≡ x) ⊎ Has row (y ∷ ys)
-    over (inl e) = inl e
-    over (inr g) = inr (inr g)
-
-    go : (b : Bool) → Has row (cond b (x ∷ y ∷ ys) (y ∷ put_row x ys)) → (Has row (put_row x ys) → (row ≡ x) ⊎ Has row ys) → (row ≡ x) ⊎ Has row (y ∷ ys)
-    go true (inl e) ih = inl e
-    go true (inr g) ih = inr g
-    go false (inl e) ih = inr (inl e)
-    go false (inr g) ih = over (ih g)
-
-by_stamp_has : (row : LogRow) (rows : List LogRow) → Has row (by_stamp rows) → Has row rows
-by_stamp_has row [] h = absurd h
-by_stamp_has row (x ∷ xs) h = go (put_row_has x row (by_stamp xs) h) (by_stamp_has row xs)
-  where
-    go : (row ≡ x) ⊎ Has row (by_stamp xs) → (Has row (by_stamp xs) → Has row xs) → Has row (x ∷ xs)
-    go (inl e) ih = inl e
-    go (inr g) ih = inr (ih g)
-
--- ---- questions that ask for a row
-
-within_from : (low high n : ℕ) → low ≤ n → n ≤ high → within low high n ≡ true
-within_from low high n a b = and_from (leb low n) (leb n high) (le-leb low n a) (le-leb n high b)
-
-tentative_asked : (row : LogRow) → is_tentative row ≡ true → is_log_asked tentative_question row ≡ true
-tentative_asked row e = let none : row.seq ≡ 0 = eqb-true row.seq 0 e in within_from 0 0 row.seq (omega arith) (omega (arith, none))
-
-asked_behind : (questions more : List LogQuestion) (row : LogRow) → is_row_asked is_log_asked questions row ≡ true → is_row_asked is_log_asked (questions ++ more) row ≡ true
-asked_behind questions more row e =
-    list_any-append (λ q. is_log_asked q row) questions more ∙ or_left (is_row_asked is_log_asked questions row) (is_row_asked is_log_asked more row) e
-
-asked_before : (questions more : List LogQuestion) (row : LogRow) → is_row_asked is_log_asked more row ≡ true → is_row_asked is_log_asked (questions ++ more) row ≡ true
-asked_before questions more row e =
-    list_any-append (λ q. is_log_asked q row) questions more ∙ or_right (is_row_asked is_log_asked questions row) (is_row_asked is_log_asked more row) e
-
--- a row whose id an item has
-id_asked : (commits : ℕ) (items : List Item) (row : LogRow) → is_among (log_row_id row) (map item_id items) ≡ true → is_row_asked is_log_asked (flat_map (item_questions commits) items) row ≡ true
-id_asked commits [] row e = e
-id_asked commits (x ∷ items) row e = go (or_cases (same_id (log_row_id row) (item_id x)) (is_among (log_row_id row) (map item_id items)) e) (id_asked commits items row)
-  where
-    here : (y : Item) → same_id (log_row_id row) (item_id y) ≡ true → is_row_asked is_log_asked (item_questions commits y) row ≡ true
-    here (W w) f = or_left (is_log_asked (OfId (item_id (W w))) row) false (or_left (same_id (log_row_id row) (item_id (W w))) false f)
-    here (C seq id) f = or_left (is_log_asked (OfId id) row) _ (or_left (same_id (log_row_id row) id) false f)
-
-    go : (same_id (log_row_id row) (item_id x) ≡ true) ⊎ (is_among (log_row_id row) (map item_id items) ≡ true) → (is_among (log_row_id row) (map item_id items) ≡ true → is_row_asked is_log_asked (flat_map (item_questions commits) items) row ≡ true)
-        → is_row_asked is_log_asked (item_questions commits x ++ flat_map (item_questions commits) items) row ≡ true
-    go (inl f) ih = asked_behind (item_questions commits x) (flat_map (item_questions commits) items) row (here x f)
-    go (inr f) ih = asked_before (item_questions commits x) (flat_map (item_questions commits) items) row (ih f)
-
--- a row whose number an item has
-number_asked : (commits : ℕ) (items : List Item) (row : LogRow) → row.seq ≤ commits → list_any (has_number row.seq) items ≡ true → is_row_asked is_log_asked (flat_map (item_questions commits) items) row ≡ true
-number_asked commits [] row low e = e
-number_asked commits (x ∷ items) row low e = go (or_cases (has_number row.seq x) (list_any (has_number row.seq) items) e) (number_asked commits items row low)
-  where
-    here : (y : Item) → has_number row.seq y ≡ true → is_row_asked is_log_asked (item_questions commits y) row ≡ true
-    here (W w) f = absurd (true≢false (sym f))
-    here (C seq id) f =
-        let same : seq ≡ row.seq = eqb-true seq row.seq f in
-        let known : leb seq commits ≡ true = le-leb seq commits (omega (arith, same, low)) in
-        let found : is_log_asked (Between seq seq) row ≡ true = within_from seq seq row.seq (omega (arith, same)) (omega (arith, same)) in
-        or_right (is_log_asked (OfId id) row) _ (ap (λ b. is_row_asked is_log_asked (cond b (Between seq seq ∷ []) []) row) known ∙ or_left (is_log_asked (Between seq seq) row) false found)
-
-    go : (has_number row.seq x ≡ true) ⊎ (list_any (has_number row.seq) items ≡ true) → (list_any (has_number row.seq) items ≡ true → is_row_asked is_log_asked (flat_map (item_questions commits) items) row ≡ true)
-        → is_row_asked is_log_asked (item_questions commits x ++ flat_map (item_questions commits) items) row ≡ true
-    go (inl f) ih = asked_behind (item_questions commits x) (flat_map (item_questions commits) items) row (here x f)
-    go (inr f) ih = asked_before (item_questions commits x) (flat_map (item_questions commits) items) row (ih f)
-
 -- ---- rows of the log
 
-up_to_asked : (commits d : ℕ) (row : LogRow) → row.seq ≤ commits → within 1 d row.seq ≡ true → is_row_asked is_log_asked (log_questions commits (UpTo d)) row ≡ true
-up_to_asked commits d row low e = or_left (is_log_asked (Between 1 (cond (ltb commits d) commits d)) row) false (go (ltb commits d))
-  where
-    go : (b : Bool) → within 1 (cond b commits d) row.seq ≡ true
-    go true = within_from 1 commits row.seq (leb-true 1 row.seq (and_parts (leb 1 row.seq) (leb row.seq d) e).0) low
-    go false = e
+-- the tables with those rows of the log that pass a test, and all of the other tables but cancels
+abbrev logs_read : (LogRow → Bool) → Tables → Tables
+logs_read p t = rows_read p (λ _. true) (λ _. true) (λ _. true) t
 
-above_asked : (commits c : ℕ) (row : LogRow) → row.seq ≤ commits → (is_tentative row || ltb c row.seq) ≡ true → is_row_asked is_log_asked (log_questions commits (Above c)) row ≡ true
-above_asked commits c row low e = go (or_cases (is_tentative row) (ltb c row.seq) e) (ltb c commits) refl
-  where
-    go : (is_tentative row ≡ true) ⊎ (ltb c row.seq ≡ true) → (b : Bool) → ltb c commits ≡ b → is_row_asked is_log_asked (cond b (tentative_question ∷ Between (c + 1) commits ∷ []) (tentative_question ∷ [])) row ≡ true
-    go (inl f) true g = or_left (is_log_asked tentative_question row) _ (tentative_asked row f)
-    go (inl f) false g = or_left (is_log_asked tentative_question row) _ (tentative_asked row f)
-    go (inr f) true g =
-        let less = ltb-true c row.seq f in
-        or_right (is_log_asked tentative_question row) _ (or_left (is_log_asked (Between (c + 1) commits) row) false (within_from (c + 1) commits row.seq (omega (arith, less)) low))
-    go (inr f) false g = let less = ltb-true c row.seq f in let over = ltb-false c commits g in absurd (omega (arith, less, over, low))
-
-items_asked : (commits : ℕ) (items : List Item) (touched : Bool) (row : LogRow) → row.seq ≤ commits → (is_named items row || (is_in_tail commits items row && touched)) ≡ true → is_row_asked is_log_asked (log_questions commits (OfItems items)) row ≡ true
-items_asked commits items touched row low e = go (or_cases (is_named items row) (is_in_tail commits items row && touched) e)
-  where
-    named : (is_among (log_row_id row) (map item_id items) ≡ true) ⊎ ((not (is_tentative row) && list_any (has_number row.seq) items) ≡ true) → is_row_asked is_log_asked (flat_map (item_questions commits) items) row ≡ true
-    named (inl f) = id_asked commits items row f
-    named (inr f) = number_asked commits items row low (and_parts (not (is_tentative row)) (list_any (has_number row.seq) items) f).1
-
-    go : (is_named items row ≡ true) ⊎ ((is_in_tail commits items row && touched) ≡ true) → is_row_asked is_log_asked (log_questions commits (OfItems items)) row ≡ true
-    go (inl f) = or_right (is_log_asked tentative_question row) _ (named (or_cases (is_among (log_row_id row) (map item_id items)) (not (is_tentative row) && list_any (has_number row.seq) items) f))
-    go (inr f) =
-        let tail = (and_parts (is_in_tail commits items row) touched f).0 in
-        or_left (is_log_asked tentative_question row) _ (tentative_asked row (and_parts (is_tentative row) _ tail).0)
-
-log_asked : (s : Scope) (t : Tables) → AreSeqsWithin t → (row : LogRow) → Has row (in_scope s t).log → Has row t.log × (is_row_asked is_log_asked (log_questions t.meta.commits s) row ≡ true)
-log_asked Nothing t numbered row h = absurd h
-log_asked (InRoom room) t numbered row h = absurd h
-log_asked (OfTarget target) t numbered row h = absurd h
-log_asked (NextCommits k) t numbered row h =
-    let g = filter_has is_tentative row t.log (by_stamp_has row (filter is_tentative t.log) (take_has k row (by_stamp (filter is_tentative t.log)) h)) in
-    (g.0, or_left (is_log_asked tentative_question row) false (tentative_asked row g.1))
-log_asked (UpTo d) t numbered row h =
-    let g = filter_has (λ (r : LogRow). within 1 d r.seq) row t.log h in
-    (g.0, up_to_asked t.meta.commits d row (numbered row g.0) g.1)
-log_asked (Above c) t numbered row h =
-    let g = filter_has (λ r. is_tentative r || ltb c r.seq) row t.log h in
-    (g.0, above_asked t.meta.commits c row (numbered row g.0) g.1)
-log_asked (OfItems items) t numbered row h =
-    let g = filter_has (λ r. is_named items r || (is_in_tail t.meta.commits items r && is_touched t items r.room)) row t.log h in
-    (g.0, items_asked t.meta.commits items (is_touched t items row.room) row (numbered row g.0) g.1)
-
--- the rows of the log that are asked for
-abbrev logs_of : Scope → Tables → List LogRow
-logs_of s t = filter (is_row_asked is_log_asked (log_questions t.meta.commits s)) t.log
-
--- all tentative rows, where the scope is that of a commit
-tentative_read : (s : Scope) (commits : ℕ) → IsOfCommits s → (row : LogRow) → is_tentative row ≡ true → is_row_asked is_log_asked (log_questions commits s) row ≡ true
-tentative_read Nothing commits of row e = absurd of
-tentative_read (InRoom room) commits of row e = absurd of
-tentative_read (OfTarget target) commits of row e = absurd of
-tentative_read (NextCommits k) commits of row e = or_left (is_log_asked tentative_question row) false (tentative_asked row e)
-tentative_read (UpTo d) commits of row e = absurd of
-tentative_read (Above c) commits of row e = absurd of
-tentative_read (OfItems items) commits of row e = absurd of
-
--- the tables with the rows of the log that are asked for, and all of the other tables but cancels
-abbrev logs_read : Scope → Tables → Tables
-logs_read s t = rows_read (is_row_asked is_log_asked (log_questions t.meta.commits s)) (λ _. true) (λ _. true) (λ _. true) t
+-- all rows of the log in scope pass
+abbrev Passes : Scope → Tables → (LogRow → Bool) → Type 0
+Passes s t p = (row : LogRow) → Has row (in_scope s t).log → p row ≡ true
 
 -- of these what is in scope stays
-logs_suffice : (s : Scope) (t : Tables) → AreSeqsWithin t → in_scope s (logs_read s t) ≡ in_scope s t
-logs_suffice s t numbered = read_rows s t (is_row_asked is_log_asked (log_questions t.meta.commits s)) (λ _. true) (λ _. true) (λ _. true) (record {
-  logs = λ row h. (log_asked s t numbered row h).1;
+logs_suffice : (s : Scope) (t : Tables) (p : LogRow → Bool) → Passes s t p → in_scope s (logs_read p t) ≡ in_scope s t
+logs_suffice s t p pass = read_rows s t p (λ _. true) (λ _. true) (λ _. true) (record {
+  logs = pass;
   booking = λ b h. refl;
   errorlog = λ e h. refl;
   cancelled = λ c h. refl;
-  tentative = λ of row h. tentative_read s t.meta.commits of row;
 })
 
 -- what is in scope of the log goes by its rows and the number of commits alone
-logs_same : (s : Scope) (t : Tables) → AreSeqsWithin t → (in_scope s (logs_alone t.meta.commits (logs_of s t))).log ≡ (in_scope s t).log
-logs_same s t numbered = alone s ∙ ap (λ (u : Tables). u.log) (logs_suffice s t numbered)
+logs_same : (s : Scope) (t : Tables) (p : LogRow → Bool) → Passes s t p → (in_scope s (logs_alone t.meta.commits (filter p t.log))).log ≡ (in_scope s t).log
+logs_same s t p pass = alone s ∙ ap (λ (u : Tables). u.log) (logs_suffice s t p pass)
   where
-    alone : (r : Scope) → (in_scope r (logs_alone t.meta.commits (logs_of s t))).log ≡ (in_scope r (logs_read s t)).log
+    alone : (r : Scope) → (in_scope r (logs_alone t.meta.commits (filter p t.log))).log ≡ (in_scope r (logs_read p t)).log
     alone Nothing = refl
-    alone (InRoom room) = refl
+    alone (OfRequest q) = refl
     alone (OfTarget target) = refl
     alone (NextCommits k) = refl
     alone (UpTo d) = refl
@@ -196,30 +58,32 @@ logs_same s t numbered = alone s ∙ ap (λ (u : Tables). u.log) (logs_suffice s
 -- ---- bookings
 
 -- the rooms that the rows read touch are those that all rows touch
-touched_booking : (items : List Item) (t : Tables) → AreSeqsWithin t → (b : BookingRow) → Has b (in_scope (OfItems items) t).booking
-    → is_row_asked is_booking_asked (room_questions t.meta.commits (OfItems items) (logs_of (OfItems items) t)) b ≡ true
-touched_booking items t numbered b h =
-    let read = logs_read (OfItems items) t in
-    let same = logs_suffice (OfItems items) t numbered in
+touched_booking : (items : List Item) (t : Tables) (p : LogRow → Bool) → Passes (OfItems items) t p → (b : BookingRow) → Has b (in_scope (OfItems items) t).booking
+    → is_row_asked is_booking_asked (room_questions t.meta.commits (OfItems items) (filter p t.log)) b ≡ true
+touched_booking items t p pass b h =
+    let read = logs_read p t in
+    let same = logs_suffice (OfItems items) t p pass in
     (filter_has (λ c. is_touched read items c.room) b read.booking (subst (λ (u : Tables). Has b u.booking) (sym same) h)).1
 
-booking_read : (s : Scope) (t : Tables) → AreSeqsWithin t → (b : BookingRow) → Has b (in_scope s t).booking → asks_booking t.meta.commits s (logs_of s t) b ≡ true
-booking_read Nothing t numbered b h = absurd h
-booking_read (InRoom room) t numbered b h =
-    or_left (is_row_asked is_booking_asked (room ∷ []) b) false (or_left (is_booking_asked room b) false (filter_has (λ (c : BookingRow). bytes_eq c.room room) b t.booking h).1)
-booking_read (OfTarget target) t numbered b h =
+booking_read : (s : Scope) (t : Tables) (p : LogRow → Bool) → Passes s t p → (b : BookingRow) → Has b (in_scope s t).booking → asks_booking t.meta.commits s (filter p t.log) b ≡ true
+booking_read Nothing t p pass b h = absurd h
+booking_read (OfRequest q) t p pass b h =
+    let on = (filter_has (λ (c : BookingRow). is_on_day_of q c.room c.day) b t.booking h).1 in
+    let room = (and_parts (bytes_eq b.room q.room) (list_any (λ x. same_date x.day b.day) (choices_of q.meeting)) on).0 in
+    or_left (is_row_asked is_booking_asked (q.room ∷ []) b) false (or_left (is_booking_asked q.room b) false room)
+booking_read (OfTarget target) t p pass b h =
     or_left (is_booking_named target b) false (or_left (same_id (booking_id b) target) false (filter_has (λ (c : BookingRow). same_id (booking_id c) target) b t.booking h).1)
-booking_read (NextCommits k) t numbered b h = absurd h
-booking_read (UpTo d) t numbered b h = absurd h
-booking_read (Above c) t numbered b h = absurd h
-booking_read (OfItems items) t numbered b h =
-    or_left (is_row_asked is_booking_asked (room_questions t.meta.commits (OfItems items) (logs_of (OfItems items) t)) b) false (touched_booking items t numbered b h)
+booking_read (NextCommits k) t p pass b h = absurd h
+booking_read (UpTo d) t p pass b h = absurd h
+booking_read (Above c) t p pass b h = absurd h
+booking_read (OfItems items) t p pass b h =
+    or_left (is_row_asked is_booking_asked (room_questions t.meta.commits (OfItems items) (filter p t.log)) b) false (touched_booking items t p pass b h)
 
 -- ---- the error log
 
 error_read : (s : Scope) (t : Tables) (e : ErrorRow) → Has e (in_scope s t).errorlog → is_row_asked is_error_of (target_questions s) e ≡ true
 error_read Nothing t e h = absurd h
-error_read (InRoom room) t e h = absurd h
+error_read (OfRequest q) t e h = absurd h
 error_read (OfTarget target) t e h =
     or_left (is_error_of target e) false (or_left (same_id (error_id e) target) false (filter_has (λ (c : ErrorRow). same_id (error_id c) target) e t.errorlog h).1)
 error_read (NextCommits k) t e h = absurd h
@@ -229,11 +93,11 @@ error_read (OfItems items) t e h = absurd h
 
 -- ---- cancelled bookings
 
-touched_cancelled : (items : List Item) (t : Tables) → AreSeqsWithin t → (b : CancelledRow) → Has b (in_scope (OfItems items) t).cancelled
-    → is_row_asked is_cancelled_asked (room_questions t.meta.commits (OfItems items) (logs_of (OfItems items) t)) b ≡ true
-touched_cancelled items t numbered b h =
-    let read = logs_read (OfItems items) t in
-    let same = logs_suffice (OfItems items) t numbered in
+touched_cancelled : (items : List Item) (t : Tables) (p : LogRow → Bool) → Passes (OfItems items) t p → (b : CancelledRow) → Has b (in_scope (OfItems items) t).cancelled
+    → is_row_asked is_cancelled_asked (room_questions t.meta.commits (OfItems items) (filter p t.log)) b ≡ true
+touched_cancelled items t p pass b h =
+    let read = logs_read p t in
+    let same = logs_suffice (OfItems items) t p pass in
     (filter_has (λ c. is_touched read items c.room) b read.cancelled (subst (λ (u : Tables). Has b u.cancelled) (sym same) h)).1
 
 -- the row of one of these ids is asked for
@@ -242,57 +106,72 @@ cancelled_of_ids [] c = refl
 cancelled_of_ids (id ∷ ids) c = let first = or_false (same_id (cancelled_id c) id) in let more = cancelled_of_ids ids c in λ i. first i || more i
 
 -- those of the writes that are committed next, which the rows read tell
-next_cancelled : (k : ℕ) (t : Tables) → AreSeqsWithin t → (c : CancelledRow) → Has c (in_scope (NextCommits k) t).cancelled
-    → is_row_asked is_cancelled_of (taken_questions t.meta.commits (NextCommits k) (logs_of (NextCommits k) t)) c ≡ true
-next_cancelled k t numbered c h =
+next_cancelled : (k : ℕ) (t : Tables) (p : LogRow → Bool) → Passes (NextCommits k) t p → (c : CancelledRow) → Has c (in_scope (NextCommits k) t).cancelled
+    → is_row_asked is_cancelled_of (taken_questions t.meta.commits (NextCommits k) (filter p t.log)) c ≡ true
+next_cancelled k t p pass c h =
     let among = (filter_has (λ (d : CancelledRow). is_among (cancelled_id d) (map log_row_id (next_commits k t))) c t.cancelled h).1 in
     let asked : is_row_asked is_cancelled_of (map log_row_id (next_commits k t)) c ≡ true = cancelled_of_ids (map log_row_id (next_commits k t)) c ∙ among in
-    subst (λ (rows : List LogRow). is_row_asked is_cancelled_of (map log_row_id rows) c ≡ true) (sym (logs_same (NextCommits k) t numbered)) asked
+    subst (λ (rows : List LogRow). is_row_asked is_cancelled_of (map log_row_id rows) c ≡ true) (sym (logs_same (NextCommits k) t p pass)) asked
 
-cancelled_read : (s : Scope) (t : Tables) → AreSeqsWithin t → (c : CancelledRow) → Has c (in_scope s t).cancelled → asks_cancelled t.meta.commits s (logs_of s t) c ≡ true
-cancelled_read Nothing t numbered c h = absurd h
-cancelled_read (InRoom room) t numbered c h =
-    or_left (is_row_asked is_cancelled_asked (room ∷ []) c) false (or_left (is_cancelled_asked room c) false (filter_has (λ (d : CancelledRow). bytes_eq d.room room) c t.cancelled h).1)
-cancelled_read (OfTarget target) t numbered c h =
+cancelled_read : (s : Scope) (t : Tables) (p : LogRow → Bool) → Passes s t p → (c : CancelledRow) → Has c (in_scope s t).cancelled → asks_cancelled t.meta.commits s (filter p t.log) c ≡ true
+cancelled_read Nothing t p pass c h = absurd h
+cancelled_read (OfRequest q) t p pass c h =
+    let on = (filter_has (λ (d : CancelledRow). is_on_day_of q d.room d.day) c t.cancelled h).1 in
+    let room = (and_parts (bytes_eq c.room q.room) (list_any (λ x. same_date x.day c.day) (choices_of q.meeting)) on).0 in
+    or_left (is_row_asked is_cancelled_asked (q.room ∷ []) c) false (or_left (is_cancelled_asked q.room c) false room)
+cancelled_read (OfTarget target) t p pass c h =
     or_left (is_cancelled_of target c) false (or_left (same_id (cancelled_id c) target) false (filter_has (λ (d : CancelledRow). same_id (cancelled_id d) target) c t.cancelled h).1)
-cancelled_read (NextCommits k) t numbered c h = next_cancelled k t numbered c h
-cancelled_read (UpTo d) t numbered c h = absurd h
-cancelled_read (Above n) t numbered c h = absurd h
-cancelled_read (OfItems items) t numbered c h =
-    or_left (is_row_asked is_cancelled_asked (room_questions t.meta.commits (OfItems items) (logs_of (OfItems items) t)) c) false (touched_cancelled items t numbered c h)
+cancelled_read (NextCommits k) t p pass c h = next_cancelled k t p pass c h
+cancelled_read (UpTo d) t p pass c h = absurd h
+cancelled_read (Above n) t p pass c h = absurd h
+cancelled_read (OfItems items) t p pass c h =
+    or_left (is_row_asked is_cancelled_asked (room_questions t.meta.commits (OfItems items) (filter p t.log)) c) false (touched_cancelled items t p pass c h)
 
 -- ---- all tables
 
 -- of all heads with the rows that were read
-enough : (s : Scope) (t : Tables) (logs : List LogRow) (bookings : List BookingRow) (errors : List ErrorRow) (gone : List CancelledRow) → AreRead t.meta.commits s t logs bookings errors gone
+enough : (s : Scope) (t : Tables) (logs : List LogRow) (bookings : List BookingRow) (errors : List ErrorRow) (gone : List CancelledRow) → AreRead s t logs bookings errors gone
     → AreEnough s t (with_rows t logs bookings errors gone)
-enough s t logs bookings errors gone read numbered =
-    ap (in_scope s) are
-    ∙ read_rows s t (is_row_asked is_log_asked (log_questions t.meta.commits s)) (asks_booking t.meta.commits s (logs_of s t)) (is_row_asked is_error_of (target_questions s)) (asks_cancelled t.meta.commits s (logs_of s t)) (record {
-      logs = λ row h. (log_asked s t numbered row h).1;
-      booking = booking_read s t numbered;
-      errorlog = error_read s t;
-      cancelled = cancelled_read s t numbered;
-      tentative = λ of row h. tentative_read s t.meta.commits of row;
-    })
+enough s t logs bookings errors gone read numbered = by (read.log numbered)
   where
-    bookings_are : bookings ≡ filter (asks_booking t.meta.commits s (logs_of s t)) t.booking
-    bookings_are = read.places.booking ∙ ap (λ rows. filter (asks_booking t.meta.commits s rows) t.booking) read.log
+    by : (p : LogRow → Bool) × (logs ≡ filter p t.log) × Passes s t p → in_scope s (with_rows t logs bookings errors gone) ≡ in_scope s t
+    by (p, is, pass) =
+        ap (in_scope s) are
+        ∙ read_rows s t p (asks_booking t.meta.commits s rows) (is_row_asked is_error_of (target_questions s)) (asks_cancelled t.meta.commits s rows) (record {
+          logs = pass;
+          booking = booking_read s t p pass;
+          errorlog = error_read s t;
+          cancelled = cancelled_read s t p pass;
+        })
+      where
+        rows : List LogRow
+        rows = filter p t.log
 
-    gone_are : gone ≡ filter (asks_cancelled t.meta.commits s (logs_of s t)) t.cancelled
-    gone_are = read.places.taken ∙ ap (λ rows. filter (asks_cancelled t.meta.commits s rows) t.cancelled) read.log
+        bookings_are : bookings ≡ filter (asks_booking t.meta.commits s rows) t.booking
+        bookings_are = read.places.booking ∙ ap (λ rs. filter (asks_booking t.meta.commits s rs) t.booking) is
 
-    are : with_rows t logs bookings errors gone
-        ≡ rows_read (is_row_asked is_log_asked (log_questions t.meta.commits s)) (asks_booking t.meta.commits s (logs_of s t)) (is_row_asked is_error_of (target_questions s)) (asks_cancelled t.meta.commits s (logs_of s t)) t
-    are = let log = read.log in let booking = bookings_are in let error = read.places.errorlog in let taken = gone_are in λ i. with_rows t (log i) (booking i) (error i) (taken i)
+        gone_are : gone ≡ filter (asks_cancelled t.meta.commits s rows) t.cancelled
+        gone_are = read.places.taken ∙ ap (λ rs. filter (asks_cancelled t.meta.commits s rs) t.cancelled) is
+
+        are : with_rows t logs bookings errors gone ≡ rows_read p (asks_booking t.meta.commits s rows) (is_row_asked is_error_of (target_questions s)) (asks_cancelled t.meta.commits s rows) t
+        are = let log = is in let booking = bookings_are in let error = read.places.errorlog in let taken = gone_are in λ i. with_rows t (log i) (booking i) (error i) (taken i)
 
 -- the same where the heads were read too
 pub read_enough : (s : Scope) (t : Tables) (meta : MetaRow) (room : List Text) (vector : List VectorRow) (logs : List LogRow) (bookings : List BookingRow) (errors : List ErrorRow) (gone : List CancelledRow)
-    → (meta ≡ t.meta) × (room ≡ t.room) × (vector ≡ t.vector) → AreRead meta.commits s t logs bookings errors gone
+    → (meta ≡ t.meta) × (room ≡ t.room) × (vector ≡ t.vector) → (meta.commits ≡ t.meta.commits → AreRead s t logs bookings errors gone)
     → AreEnough s t (record { meta = meta; room = room; vector = vector; log = logs; booking = bookings; errorlog = errors; cancelled = gone; cancels = [] })
 read_enough s t meta room vector logs bookings errors gone heads read numbered =
     (let m = heads.0 in let r = heads.1 in let v = heads.2 in λ i. in_scope s (record { meta = m i; room = r i; vector = v i; log = logs; booking = bookings; errorlog = errors; cancelled = gone; cancels = [] }))
-    ∙ enough s t logs bookings errors gone (subst (λ (m : MetaRow). AreRead m.commits s t logs bookings errors gone) heads.0 read) numbered
+    ∙ enough s t logs bookings errors gone (read (ap (λ (m : MetaRow). m.commits) heads.0)) numbered
+
+-- ---- rows of rooms
+
+-- a set of rooms passes what questions for these rooms ask for
+pub set_asked : (test : RoomTest) (rooms : List Text) → IsSetOf test.rooms rooms → (bookings : List BookingRow) → filter (books_in test) bookings ≡ filter (is_row_asked is_booking_asked rooms) bookings
+set_asked test rooms set bookings = filter_same (books_in test) (is_row_asked is_booking_asked rooms) bookings (λ b _. set b.room)
+
+pub taken_set_asked : (test : RoomTest) (rooms : List Text) → IsSetOf test.rooms rooms → (rows : List CancelledRow) → filter (cancels_in test) rows ≡ filter (is_row_asked is_cancelled_asked rooms) rows
+taken_set_asked test rooms set rows = filter_same (cancels_in test) (is_row_asked is_cancelled_asked rooms) rows (λ c _. set c.room)
 
 -- questions for the same rooms ask for the same bookings
 pub rooms_asked : (xs ys : List Text) → AreSameRooms xs ys → (bookings : List BookingRow) → filter (is_row_asked is_booking_asked xs) bookings ≡ filter (is_row_asked is_booking_asked ys) bookings

@@ -1,35 +1,45 @@
 -- The questions of a scope: which rows of the tables are asked for.
-use Rattle.std.specs.Prelude.{◌≡◌, ◌≤◌, ℕ, ◌+◌, Bool, ◌||◌, if◌then◌else◌, nat_lt, nat_le, List, [], ◌∷◌, map, filter, flat_map}
+use Rattle.std.specs.Prelude.{◌≡◌, ◌≤◌, ℕ, ◌+◌, Bool, true, false, ◌||◌, if◌then◌else◌, nat_lt, List, [], ◌∷◌, map, filter, flat_map}
+use Rattle.std.specs.declared.cmp.Ordering.{Ordering}
+use Rattle.std.specs.Ordering.{nat_cmp, ordering_then}
 use Rattle.mr_model.specs.Texts.{Text}
 use Rattle.mr_model.specs.Writes.{Id}
-use Rattle.mr_model.specs.Exchange as model
-use Rattle.mr_model.specs.Scopes.{Scope, Nothing, InRoom, OfTarget, NextCommits, UpTo, Above, OfItems, item_id, log_row_id, next_commits, rooms_of_item, in_scope}
+use Rattle.mr_model.specs.Scopes.{Scope, OfRequest, OfTarget, NextCommits, UpTo, Above, OfItems, log_row_id, next_commits, rooms_of_item, in_scope}
 use Rattle.mr_model.specs.Tables.{LogRow, BookingRow, ErrorRow, CancelledRow, Tables}
 use Rattle.mr_model.specs.Dropped.{Has}
-use Rattle.mr_rows.specs.declared.questions.LogQuestion.{LogQuestion}
-use Rattle.mr_rows.specs.declared.questions.LogQuestion.TheVariants.{OfId, Between}
-use Rattle.mr_rows.specs.RowQuestions.{is_log_asked, is_booking_asked, is_cancelled_asked, is_booking_named, is_error_of, is_cancelled_of, is_row_asked}
+use Rattle.mr_rows.specs.declared.questions.NumberQuestion.{NumberQuestion}
+use Rattle.mr_rows.specs.declared.log_stamps.LogStamp.{LogStamp}
+use Rattle.mr_rows.specs.RowQuestions.{is_booking_asked, is_cancelled_asked, is_booking_named, is_error_of, is_cancelled_of, is_row_asked}
 
--- ---- what is asked
+-- ---- what is asked of the log
 
--- of an item: for the row of its id, and for the one of its commit number where so many commits are known
-abbrev pub item_questions : ℕ → model.Item → List LogQuestion
-item_questions commits (model.W w) = OfId (item_id (model.W w)) ∷ []
-item_questions commits (model.C seq id) = OfId id ∷ (if nat_le seq commits then Between seq seq ∷ [] else [])
+abbrev pub between : ℕ → ℕ → NumberQuestion
+between low high = record { low = low; high = high }
 
 -- for the tentative rows
-abbrev pub tentative_question : LogQuestion
-tentative_question = Between 0 0
+abbrev pub tentative_question : NumberQuestion
+tentative_question = between 0 0
 
 -- No row has a number above `commits`.
-abbrev pub log_questions : ℕ → Scope → List LogQuestion
-log_questions commits Nothing = []
-log_questions commits (InRoom room) = []
-log_questions commits (OfTarget target) = []
-log_questions commits (NextCommits k) = tentative_question ∷ []
-log_questions commits (UpTo d) = Between 1 (if nat_lt commits d then commits else d) ∷ []
-log_questions commits (Above c) = if nat_lt c commits then tentative_question ∷ Between (c + 1) commits ∷ [] else tentative_question ∷ []
-log_questions commits (OfItems items) = tentative_question ∷ flat_map (item_questions commits) items
+abbrev pub number_questions : ℕ → Scope → List NumberQuestion
+number_questions commits (UpTo d) = between 1 (if nat_lt commits d then commits else d) ∷ []
+number_questions commits (Above c) = if nat_lt c commits then tentative_question ∷ between (c + 1) commits ∷ [] else tentative_question ∷ []
+number_questions commits _ = []
+
+-- the scopes of which nothing else is asked of the log
+abbrev pub is_of_numbers : Scope → Bool
+is_of_numbers (NextCommits k) = false
+is_of_numbers (OfItems items) = false
+is_of_numbers _ = true
+
+-- by time and server, and of one stamp the later count first
+abbrev pub stamp_cmp : LogStamp → LogStamp → Ordering
+stamp_cmp a b = ordering_then (ordering_then (nat_cmp a.time b.time) (nat_cmp a.server b.server)) (nat_cmp b.n a.n)
+
+abbrev pub stamp_id : LogStamp → Id
+stamp_id stamp = record { server = stamp.server; n = stamp.n }
+
+-- ---- what is asked of other tables
 
 -- tables with these rows of the log alone, where so many commits are known
 abbrev pub logs_alone : ℕ → List LogRow → Tables
@@ -47,7 +57,7 @@ logs_alone commits logs =
 
 -- the rooms whose bookings are asked for, those that a cancel took back too
 abbrev pub room_questions : ℕ → Scope → List LogRow → List Text
-room_questions commits (InRoom room) logs = room ∷ []
+room_questions commits (OfRequest q) logs = q.room ∷ []
 room_questions commits (OfItems items) logs = flat_map (rooms_of_item commits logs) items
 room_questions commits _ logs = []
 
@@ -77,18 +87,21 @@ asks_cancelled commits s logs row = is_row_asked is_cancelled_asked (room_questi
 abbrev pub AreSeqsWithin : Tables → Type 0
 AreSeqsWithin t = (row : LogRow) → Has row t.log → row.seq ≤ t.meta.commits
 
--- of each table of requests the rows that some question asks for; first those that show what became of writes, where these rows of
--- the log were read
+-- of the log those rows that pass some test, which all rows in scope pass
+abbrev pub AreLogsRead : Scope → Tables → List LogRow → Type 0
+AreLogsRead s t logs = AreSeqsWithin t → (p : LogRow → Bool) × (logs ≡ filter p t.log) × ((row : LogRow) → Has row (in_scope s t).log → p row ≡ true)
+
+-- of the tables that show what became of writes the rows that some question asks for, where these rows of the log were read
 pub record ArePlacesRead (commits : ℕ) (s : Scope) (t : Tables) (logs : List LogRow) (bookings : List BookingRow) (errors : List ErrorRow)
     (cancelled : List CancelledRow) : Type 0 where
   pub booking : bookings ≡ filter (asks_booking commits s logs) t.booking
   pub errorlog : errors ≡ filter (is_row_asked is_error_of (target_questions s)) t.errorlog
   pub taken : cancelled ≡ filter (asks_cancelled commits s logs) t.cancelled
 
-pub record AreRead (commits : ℕ) (s : Scope) (t : Tables) (logs : List LogRow) (bookings : List BookingRow) (errors : List ErrorRow)
+pub record AreRead (s : Scope) (t : Tables) (logs : List LogRow) (bookings : List BookingRow) (errors : List ErrorRow)
     (cancelled : List CancelledRow) : Type 0 where
-  pub log : logs ≡ filter (is_row_asked is_log_asked (log_questions commits s)) t.log
-  pub places : ArePlacesRead commits s t logs bookings errors cancelled
+  pub log : AreLogsRead s t logs
+  pub places : ArePlacesRead t.meta.commits s t logs bookings errors cancelled
 
 -- what is in scope of these tables is what is in scope of all
 abbrev pub AreEnough : Scope → Tables → Tables → Type 0

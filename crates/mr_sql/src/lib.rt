@@ -17,9 +17,12 @@ mod load;
 mod our_tables;
 mod schema_number;
 mod schemas;
+mod scope_late;
+mod scope_logs;
 mod scope_questions;
 mod scope_rooms;
 mod scope_rows;
+mod scope_stamps;
 mod sql_keeper;
 
 pub use files::{CopyKeeper, FileKeeper, KeeperFrom, NotCopied, NotTaken};

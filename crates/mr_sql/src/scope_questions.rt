@@ -1,98 +1,95 @@
-ghost use Rattle.std.specs.Prelude.{◌≡◌, ◌∷◌, [], ◌++◌, List, ℕ, map, flat_map, if◌then◌else◌, nat_lt, ◌+◌, false, IfOk, OnOk, IsTrue};
+ghost use Rattle.std.specs.Prelude.{◌≡◌, ◌∷◌, [], List, ℕ, map, if◌then◌else◌, nat_lt, ◌+◌, false, IfOk, IsTrue};
 ghost use Rattle.mr_base.specs.Batches.{item_of};
-ghost use Rattle.mr_model.specs.Scopes.{in_scope, log_row_id};
+ghost use Rattle.mr_model.specs.Scopes.{in_scope, item_id, log_row_id};
 ghost use Rattle.mr_model.specs.Tables.{LogRow as Row};
 ghost use Rattle.mr_part.specs.ScopeOf.{scope_of};
-ghost use Rattle.mr_sql.specs.ScopeQuestions.{tentative_question, item_questions, log_questions, logs_alone, room_questions, target_questions, taken_questions};
-ghost use Rattle.mr_rows.specs.declared.questions.LogQuestion.TheVariants as asked;
+ghost use Rattle.mr_sql.specs.ScopeQuestions.{tentative_question, between, number_questions, logs_alone, room_questions, target_questions, taken_questions};
 
 use mr_base::{Item, Refusal, WriteId};
 use mr_part::{Scope, logs_in_scope};
-use mr_rows::{IdQuestion, LogQuestion};
+use mr_rows::{IdQuestion, NumberQuestion};
 use mr_tables::LogRow;
 use std::alloc::{AllocError, Global};
 
-fn one_question(alloc: Global, question: LogQuestion) -> Result<Vec<LogQuestion>, AllocError>
-    ensures { IfOk result (λ questions. questions.items ≡ question ∷ []) }
+fn one_question(alloc: Global, low: u64, high: u64) -> Result<Vec<NumberQuestion>, AllocError>
+    ensures { IfOk result (λ questions. questions.items ≡ between low high ∷ []) }
 {
     let mut questions = Vec::new(alloc);
-    questions.push(question)?;
+    questions.push(NumberQuestion { low, high })?;
     Ok(questions)
 }
 
-fn tentative_rows(alloc: Global) -> Result<Vec<LogQuestion>, AllocError>
+/// For the tentative rows.
+pub(crate) fn tentative_rows(alloc: Global) -> Result<Vec<NumberQuestion>, AllocError>
     ensures { IfOk result (λ questions. questions.items ≡ tentative_question ∷ []) }
 {
-    one_question(alloc, LogQuestion::Between(0, 0))
+    one_question(alloc, 0, 0)
 }
 
 /// For the commits up to this number, where so many are known.
-fn rows_up_to(alloc: Global, number: u64, commits: u64) -> Result<Vec<LogQuestion>, AllocError>
-    ensures { IfOk result (λ questions. questions.items ≡ asked.Between 1 (if nat_lt commits number then commits else number) ∷ []) }
+fn rows_up_to(alloc: Global, number: u64, commits: u64) -> Result<Vec<NumberQuestion>, AllocError>
+    ensures { IfOk result (λ questions. questions.items ≡ between 1 (if nat_lt commits number then commits else number) ∷ []) }
 {
     let last = if commits < number { commits } else { number };
-    one_question(alloc, LogQuestion::Between(1, last))
+    one_question(alloc, 1, last)
 }
 
 /// For the tentative rows and those of the commits above this number, where so many are known.
-fn rows_above(alloc: Global, number: u64, commits: u64) -> Result<Vec<LogQuestion>, AllocError>
+fn rows_above(alloc: Global, number: u64, commits: u64) -> Result<Vec<NumberQuestion>, AllocError>
     ensures { IfOk result (λ questions. questions.items ≡
-        (if nat_lt number commits then tentative_question ∷ asked.Between (number + 1) commits ∷ [] else tentative_question ∷ [])) }
+        (if nat_lt number commits then tentative_question ∷ between (number + 1) commits ∷ [] else tentative_question ∷ [])) }
 {
     let mut questions = tentative_rows(alloc)?;
     if number < commits {
-        questions.push(LogQuestion::Between(number + 1, commits))?;
+        questions.push(NumberQuestion {
+            low: number + 1,
+            high: commits,
+        })?;
     }
     Ok(questions)
 }
 
-fn add_item(questions: &mut Vec<LogQuestion>, item: &Item, commits: u64) -> Result<(), AllocError>
-    ensures { OnOk result (questions.new.items ≡ questions.old.items ++ item_questions commits (item_of item.now)) }
-{
-    match item {
-        Item::W(write) => questions.push(LogQuestion::OfId(write.stamp.id()))?,
-        Item::C { seq, id } => {
-            questions.push(LogQuestion::OfId(*id))?;
-            let number = seq.number();
-            if number <= commits {
-                questions.push(LogQuestion::Between(number, number))?;
-            }
-        }
-    }
-    Ok(())
-}
-
-/// For the tentative rows and those that the items name.
-fn rows_of_items(
-    alloc: Global,
-    items: &[Item],
-    commits: u64,
-) -> Result<Vec<LogQuestion>, AllocError>
-    ensures { IfOk result (λ questions. questions.items ≡ tentative_question ∷ flat_map (item_questions commits) (map item_of items.now)) }
-{
-    let mut questions = tentative_rows(alloc)?;
-    'items: for item in items {
-        add_item(&mut questions, item, commits)?;
-    }
-    Ok(questions)
-}
-
-/// What is asked of `log` for a scope, where so many commits are known: for all rows in scope, and for a commit or a batch
-/// that is received for all tentative rows.
-pub(crate) fn log_questions(
+/// What is asked of `log` by numbers for a scope, where so many commits are known.
+pub(crate) fn number_questions(
     alloc: Global,
     scope: &Scope<'_>,
     commits: u64,
-) -> Result<Vec<LogQuestion>, AllocError>
-    ensures { IfOk result (λ questions. questions.items ≡ log_questions commits (scope_of scope.now)) }
+) -> Result<Vec<NumberQuestion>, AllocError>
+    ensures { IfOk result (λ questions. questions.items ≡ number_questions commits (scope_of scope.now)) }
 {
     match *scope {
-        Scope::Nothing | Scope::InRoom(_) | Scope::OfTarget(_) => Ok(Vec::new(alloc)),
-        Scope::NextCommits(_) => tentative_rows(alloc),
         Scope::UpTo(number) => rows_up_to(alloc, number, commits),
         Scope::Above(number) => rows_above(alloc, number, commits),
-        Scope::Items(items) => rows_of_items(alloc, items, commits),
+        Scope::Nothing
+        | Scope::OfRequest(_, _)
+        | Scope::OfTarget(_)
+        | Scope::NextCommits(_)
+        | Scope::Items(_) => Ok(Vec::new(alloc)),
     }
+}
+
+fn question_of(item: &Item) -> IdQuestion
+    ensures { result ≡ item_id (item_of item.now) }
+{
+    let id = match item {
+        Item::W(write) => write.stamp.id(),
+        Item::C { id, .. } => *id,
+    };
+    IdQuestion {
+        server: id.server,
+        n: id.n,
+    }
+}
+
+/// For the rows of the ids that the items name.
+pub(crate) fn item_questions(alloc: Global, items: &[Item]) -> Result<Vec<IdQuestion>, AllocError>
+    ensures { IfOk result (λ questions. questions.items ≡ map item_id (map item_of items.now)) }
+{
+    let mut questions = Vec::new(alloc);
+    'items: for item in items {
+        questions.push(question_of(item))?;
+    }
+    Ok(questions)
 }
 
 fn one_id(alloc: Global, id: WriteId) -> Result<Vec<IdQuestion>, AllocError>

@@ -1,11 +1,17 @@
 ghost use Rattle.std.specs.Prelude.{◌≡◌, ◌∷◌, [], IfOk};
-ghost use Rattle.mr_replica.specs.Sets.{AreSameRooms};
+ghost use Rattle.sqlite_value.specs.Order.{column, bytes};
+ghost use Rattle.mr_replica.specs.Sets.{AreSameRooms, has_room, IsSetOf};
 ghost use Rattle.mr_part.specs.ScopeOf.{scope_of};
+ghost use Rattle.mr_sql.specs.LateTests.{books_in, cancels_in};
 ghost use Rattle.mr_sql.specs.ScopeQuestions.{room_questions};
 
 use mr_base::{Refusal, RoomName};
 use mr_part::{Scope, touched_rooms};
-use mr_tables::LogRow;
+use mr_replica::room_sets::{RoomSet, room_set};
+use mr_rows::RowTest;
+use mr_rows::cells::read_name;
+use mr_tables::{BookingRow, CancelledRow, LogRow};
+use sqlite::{Error, ErrorCode, Row};
 use std::alloc::Global;
 
 /// What is asked of `booking` and of `cancelled` by room for a scope, where these rows of `log` were read and so many commits are
@@ -19,7 +25,7 @@ pub(crate) fn room_questions(
     ensures { IfOk result (λ rooms. AreSameRooms rooms.items (room_questions commits (scope_of scope.now) logs.now)) }
 {
     match *scope {
-        Scope::InRoom(room) => one_room(alloc, room),
+        Scope::OfRequest(room, _) => one_room(alloc, room),
         Scope::Items(items) => touched_rooms(alloc, logs, items, commits),
         Scope::Nothing
         | Scope::OfTarget(_)
@@ -35,4 +41,54 @@ fn one_room(alloc: Global, room: &RoomName) -> Result<Vec<RoomName>, Refusal>
     let mut rooms = Vec::new(alloc);
     rooms.push(room.copy(alloc)?)?;
     Ok(rooms)
+}
+
+/// Which rows are of some of these rooms.
+#[derive(Drop)]
+pub(crate) struct RoomTest {
+    alloc: Global,
+    rooms: RoomSet,
+}
+
+impl RoomTest {
+    pub(crate) fn of(alloc: Global, rooms: &[RoomName]) -> Result<RoomTest, Refusal>
+        ensures { IfOk result (λ test. IsSetOf test.rooms rooms.now) }
+    {
+        let rooms = room_set(alloc, rooms)?;
+        Ok(RoomTest { alloc, rooms })
+    }
+
+    /// Whether the room in this column is one of them.
+    pub(crate) fn has_room(&self, row: &Row, at: usize) -> Result<bool, Error>
+        ensures { IfOk result (λ b. b ≡ has_room self.now.rooms (bytes (column row.now at))) }
+    {
+        let name = read_name(self.alloc, row, at)?;
+        Ok(self.rooms.contains(&name))
+    }
+}
+
+/// The test for the rows of these rooms.
+pub(crate) fn rooms_test(alloc: Global, rooms: &[RoomName]) -> Result<RoomTest, Error>
+    ensures { IfOk result (λ test. IsSetOf test.rooms rooms.now) }
+{
+    match RoomTest::of(alloc, rooms) {
+        Ok(test) => Ok(test),
+        Err(_) => Err(Error::SqliteFailure(ErrorCode::OutOfMemory)),
+    }
+}
+
+impl RowTest<BookingRow> for RoomTest {
+    ghost passes = { books_in };
+
+    fn is_passed_by(&self, row: &Row) -> Result<bool, Error> {
+        self.has_room(row, 0)
+    }
+}
+
+impl RowTest<CancelledRow> for RoomTest {
+    ghost passes = { cancels_in };
+
+    fn is_passed_by(&self, row: &Row) -> Result<bool, Error> {
+        self.has_room(row, 0)
+    }
 }

@@ -2,35 +2,90 @@ ghost use Rattle.std.specs.Prelude.{◌≡◌, false, filter};
 ghost use Rattle.sqlite.specs.Held.{state};
 ghost use Rattle.mr_part.specs.ScopeOf.{scope_of};
 ghost use Rattle.mr_rows.specs.Database.{tables_in};
-ghost use Rattle.mr_rows.specs.RowQuestions.{is_row_asked, is_log_asked, is_booking_asked, is_cancelled_asked, is_booking_named, is_error_of, is_cancelled_of};
-ghost use Rattle.mr_sql.specs.ScopeQuestions.{log_questions, room_questions, target_questions, taken_questions, asks_booking, asks_cancelled, ArePlacesRead, AreRead, AreEnough};
+ghost use Rattle.mr_rows.specs.RowQuestions.{is_row_asked, is_booking_asked, is_cancelled_asked, is_booking_named, is_error_of, is_cancelled_of};
+ghost use Rattle.mr_sql.specs.ScopeQuestions.{room_questions, target_questions, taken_questions, asks_booking, asks_cancelled, ArePlacesRead, AreRead, AreEnough};
 ghost use Rattle.mr_rows.specs.Reads.{ReadsKept, ReadsInUse};
 
-use crate::scope_questions::{
-    asks_by_id, log_questions, taken_questions, takes_by_id, target_questions,
-};
-use crate::scope_rooms::room_questions;
+use crate::scope_logs::read_logs;
+use crate::scope_questions::{asks_by_id, taken_questions, takes_by_id, target_questions};
+use crate::scope_rooms::{room_questions, rooms_test};
+use mr_base::RoomName;
 use mr_part::Scope;
 use mr_rows::all_tables::read_heads;
 use mr_rows::asked_rows::asked_rows;
+use mr_rows::passing_rows;
 use mr_tables::{BookingRow, CancelledRow, ErrorRow, LogRow, MetaRow, Tables};
 use sqlite::{Alter, Connection, Error, ErrorCode};
 use std::alloc::Global;
 
-fn read_logs<S: Alter>(
+fn are_several(rooms: &[RoomName]) -> bool {
+    rooms.len() > 1
+}
+
+/// The bookings of these rooms, in one pass over the table.
+fn passing_bookings<S: Alter>(
     conn: &mut Connection<S>,
     alloc: Global,
-    scope: &Scope<'_>,
-    commits: u64,
-) -> Result<Vec<LogRow>, Error>
+    rooms: &[RoomName],
+) -> Result<Vec<BookingRow>, Error>
     requires autocommit { conn.old.in_transaction ≡ false }
     ensures autocommit { conn.new.in_transaction ≡ false }
     ensures reads { ReadsInUse (state S.Store conn.old) (state S.Store conn.new) result
-        (λ rows. rows.items ≡ filter (is_row_asked is_log_asked (log_questions commits (scope_of scope.now)))
-        (tables_in (state S.Store conn.old).now.trees).log) }
+        (λ rows. rows.items ≡ filter (is_row_asked is_booking_asked rooms.now) (tables_in (state S.Store conn.old).now.trees).booking) }
 {
-    let questions = log_questions(alloc, scope, commits)?;
-    asked_rows(conn, alloc, &questions)
+    let test = rooms_test(alloc, rooms)?;
+    passing_rows(conn, alloc, &test)
+}
+
+/// The bookings of these rooms: those of one by a statement.
+fn bookings_in<S: Alter>(
+    conn: &mut Connection<S>,
+    alloc: Global,
+    rooms: &[RoomName],
+) -> Result<Vec<BookingRow>, Error>
+    requires autocommit { conn.old.in_transaction ≡ false }
+    ensures autocommit { conn.new.in_transaction ≡ false }
+    ensures reads { ReadsInUse (state S.Store conn.old) (state S.Store conn.new) result
+        (λ rows. rows.items ≡ filter (is_row_asked is_booking_asked rooms.now) (tables_in (state S.Store conn.old).now.trees).booking) }
+{
+    if are_several(rooms) {
+        passing_bookings(conn, alloc, rooms)
+    } else {
+        asked_rows(conn, alloc, rooms)
+    }
+}
+
+/// The same of cancelled bookings.
+fn passing_cancelled<S: Alter>(
+    conn: &mut Connection<S>,
+    alloc: Global,
+    rooms: &[RoomName],
+) -> Result<Vec<CancelledRow>, Error>
+    requires autocommit { conn.old.in_transaction ≡ false }
+    ensures autocommit { conn.new.in_transaction ≡ false }
+    ensures reads { ReadsInUse (state S.Store conn.old) (state S.Store conn.new) result
+        (λ rows. rows.items ≡ filter (is_row_asked is_cancelled_asked rooms.now) (tables_in (state S.Store conn.old).now.trees).cancelled) }
+{
+    let test = rooms_test(alloc, rooms)?;
+    passing_rows(conn, alloc, &test)
+}
+
+/// The same of cancelled bookings.
+fn cancelled_in<S: Alter>(
+    conn: &mut Connection<S>,
+    alloc: Global,
+    rooms: &[RoomName],
+) -> Result<Vec<CancelledRow>, Error>
+    requires autocommit { conn.old.in_transaction ≡ false }
+    ensures autocommit { conn.new.in_transaction ≡ false }
+    ensures reads { ReadsInUse (state S.Store conn.old) (state S.Store conn.new) result
+        (λ rows. rows.items ≡ filter (is_row_asked is_cancelled_asked rooms.now) (tables_in (state S.Store conn.old).now.trees).cancelled) }
+{
+    if are_several(rooms) {
+        passing_cancelled(conn, alloc, rooms)
+    } else {
+        asked_rows(conn, alloc, rooms)
+    }
 }
 
 /// The bookings of the rooms that are asked for.
@@ -48,7 +103,7 @@ fn read_room_bookings<S: Alter>(
         (tables_in (state S.Store conn.old).now.trees).booking) }
 {
     match room_questions(alloc, scope, logs, commits) {
-        Ok(asked) => asked_rows(conn, alloc, &asked),
+        Ok(rooms) => bookings_in(conn, alloc, &rooms),
         Err(_) => Err(Error::SqliteFailure(ErrorCode::OutOfMemory)),
     }
 }
@@ -120,7 +175,7 @@ fn read_room_cancelled<S: Alter>(
         (tables_in (state S.Store conn.old).now.trees).cancelled) }
 {
     match room_questions(alloc, scope, logs, commits) {
-        Ok(asked) => asked_rows(conn, alloc, &asked),
+        Ok(rooms) => cancelled_in(conn, alloc, &rooms),
         Err(_) => Err(Error::SqliteFailure(ErrorCode::OutOfMemory)),
     }
 }
@@ -200,7 +255,7 @@ fn read_rows<S: Alter>(
     requires autocommit { conn.old.in_transaction ≡ false }
     ensures autocommit { conn.new.in_transaction ≡ false }
     ensures reads { ReadsInUse (state S.Store conn.old) (state S.Store conn.new) result
-        (λ rows. AreRead commits (scope_of scope.now)
+        (λ rows. commits ≡ (tables_in (state S.Store conn.old).now.trees).meta.commits → AreRead (scope_of scope.now)
         (tables_in (state S.Store conn.old).now.trees) rows.0.items rows.1.0.items rows.1.1.items rows.1.2.items) }
 {
     let logs = read_logs(conn, alloc, scope, commits)?;

@@ -5,7 +5,7 @@ use crate::acts::{Act, said};
 use crate::opening::{Opening, new_service, server};
 use crate::receiving_tests::TWO;
 use crate::same_text::{same_count, same_text};
-use mr_base::{Refusal, RoomName, WriteId};
+use mr_base::{Alternatives, Day, Refusal, Request, Slot, WriteId};
 use mr_part::Scope;
 use mr_service::Service;
 use mr_sql::SqlKeeper;
@@ -14,6 +14,9 @@ use mr_wire::read_batch;
 use sqlite::MemStore;
 use std::alloc::Global;
 use std::process::Abort;
+
+/// The day of all writes.
+const MONDAY: &str = "1995-12-18";
 
 /// A write of oak, behind the others.
 const GAMMA: &str = "mr1 2 1\nW 2 2 2 oak 30 1995-12-18 17:00 0 Gamma\nE\n";
@@ -34,7 +37,8 @@ const FIRST: &str = "mr1 1 1\nC 1 3 1\nE\n";
 #[derive(Clone, Copy)]
 enum For {
     Position,
-    Submission(&'static str),
+    /// A submission for this room, on this day.
+    Submission(&'static str, &'static str),
     /// A cancel of the write of replica 9 with this count.
     Cancel(u32),
     Commit(u64),
@@ -46,11 +50,12 @@ enum For {
 }
 
 /// The writes of elm are committed: 52 rows of `log`, 3 of `booking`, 49 of `errorlog`.
-static OF_COMMITTED: [(For, u64); 14] = [
+static OF_COMMITTED: [(For, u64); 15] = [
     (For::Position, 0),
-    (For::Submission("oak"), 2),
-    (For::Submission("elm"), 1),
-    (For::Submission("ash"), 0),
+    (For::Submission("oak", MONDAY), 2),
+    (For::Submission("elm", MONDAY), 1),
+    (For::Submission("ash", MONDAY), 0),
+    (For::Submission("oak", "1995-12-19"), 0),
     (For::Commit(1), 1),
     (For::Commit(9), 2),
     (For::Truncation(10), 10),
@@ -68,7 +73,7 @@ static OF_COMMITTED: [(For, u64); 14] = [
 
 /// They are committed and dropped: 2 rows of `log`, 3 of `booking`.
 static OF_DROPPED: [(For, u64); 5] = [
-    (For::Submission("elm"), 1),
+    (For::Submission("elm", MONDAY), 1),
     (For::Commit(9), 2),
     (For::Above(50), 2),
     (For::Batch(GAMMA), 2),
@@ -77,7 +82,7 @@ static OF_DROPPED: [(For, u64); 5] = [
 
 /// They are tentative.
 static OF_TENTATIVE: [(For, u64); 7] = [
-    (For::Submission("elm"), 1),
+    (For::Submission("elm", MONDAY), 1),
     (For::Commit(3), 3),
     (For::Truncation(0), 0),
     (For::Above(0), 52),
@@ -90,8 +95,9 @@ static OF_TENTATIVE: [(For, u64); 7] = [
 ];
 
 /// Two requests of oak, one of which found no free slot, and two cancels: 4 rows of `log`, one each of `errorlog` and `cancelled`.
-static OF_CANCELLED: [(For, u64); 9] = [
-    (For::Submission("oak"), 1),
+static OF_CANCELLED: [(For, u64); 10] = [
+    (For::Submission("oak", MONDAY), 1),
+    (For::Submission("oak", "1995-12-19"), 0),
     (For::Cancel(1), 1),
     (For::Cancel(2), 1),
     (For::Cancel(3), 0),
@@ -110,9 +116,16 @@ fn rows_in<K: Keeper>(keeper: &mut K, scope: &Scope<'_>) -> Result<u64, Refusal>
     }
 }
 
-fn rows_of_room<K: Keeper>(alloc: Global, keeper: &mut K, room: &str) -> Result<u64, Refusal> {
-    let room = RoomName::new(alloc, room)?;
-    rows_in(keeper, &Scope::InRoom(&room))
+fn rows_of_request<K: Keeper>(
+    alloc: Global,
+    keeper: &mut K,
+    room: &str,
+    day: &str,
+) -> Result<u64, Refusal> {
+    let wish = Slot::new(Day::read(day)?, 540)?;
+    let others = Alternatives::from_vec(Vec::new(alloc));
+    let request = Request::of_words(alloc, room, "Delta", 60, wish, others)?;
+    rows_in(keeper, &Scope::OfRequest(&request.room, &request.meeting))
 }
 
 fn rows_of_batch<K: Keeper>(alloc: Global, keeper: &mut K, text: &str) -> Result<u64, Refusal> {
@@ -129,7 +142,7 @@ fn rows_of_target<K: Keeper>(keeper: &mut K, n: u32) -> Result<u64, Refusal> {
 fn rows<K: Keeper>(alloc: Global, keeper: &mut K, part: For) -> Result<u64, Refusal> {
     match part {
         For::Position => rows_in(keeper, &Scope::Nothing),
-        For::Submission(room) => rows_of_room(alloc, keeper, room),
+        For::Submission(room, day) => rows_of_request(alloc, keeper, room, day),
         For::Cancel(n) => rows_of_target(keeper, n),
         For::Commit(count) => rows_in(keeper, &Scope::NextCommits(count)),
         For::Truncation(number) => rows_in(keeper, &Scope::UpTo(number)),

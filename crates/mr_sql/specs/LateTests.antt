@@ -1,0 +1,33 @@
+-- Tests of rows where they lie: those of some rooms, and those of the log in scope of a batch.
+use Rattle.std.specs.Prelude.{◌≡◌, ◌≢◌, ◌≤◌, ℕ, ◌==◌, Bool, true, ◌&&◌, if◌then◌else◌, List, flat_map}
+use Rattle.std.specs.List.{list_any}
+use Rattle.mr_model.specs.Exchange.{Item}
+use Rattle.mr_model.specs.Tables.{LogRow, BookingRow, CancelledRow}
+use Rattle.mr_model.specs.Scopes.{has_number, rooms_of_item}
+use Rattle.mr_replica.specs.Named.{has_commit, IsNamedBy}
+use Rattle.mr_replica.specs.Sets.{has_room, IsSetOf}
+use Rattle.mr_replica.specs.Tails.{has_place, IsTail}
+use Rattle.mr_replica.specs.declared.tail.Tail.{Tail}
+use Rattle.mr_rows.specs.declared.passing.LateRows.{LateRows}
+use Rattle.mr_sql.specs.declared.scope_late.LateTest.{LateTest}
+use Rattle.mr_sql.specs.declared.scope_rooms.RoomTest.{RoomTest}
+
+abbrev pub books_in : RoomTest → BookingRow → Bool
+books_in test row = has_room test.rooms row.room
+
+abbrev pub cancels_in : RoomTest → CancelledRow → Bool
+cancels_in test row = has_room test.rooms row.room
+
+abbrev pub passes_late : LateTest → LogRow → Bool
+passes_late test row = if row.seq == 0 then has_place test.tail row.time row.server && has_room test.rooms.rooms row.room else has_commit test.named.numbers row.seq
+
+-- the test of these items, where so many commits are known and these rows of the log tell which rooms the new ones touch
+pub record IsLateTest (test : LateTest) (commits : ℕ) (items : List Item) (rows : List LogRow) : Type 0 where
+  pub named : IsNamedBy test.named items
+  pub tail : IsTail test.tail commits items
+  pub rooms : IsSetOf test.rooms.rooms (flat_map (rooms_of_item commits rows) items)
+
+-- among these rows are all of known commits that the items name, and where they name none all at places of the tail
+pub record Reaches (late : LateRows) (tail : Tail) (commits : ℕ) (items : List Item) : Type 0 where
+  pub places : (time server : ℕ) → has_place tail time server ≡ true → late.from ≤ time
+  pub numbers : (number : ℕ) → number ≢ 0 → number ≤ commits → list_any (has_number number) items ≡ true → (late.from ≡ 0) × (number ≤ late.to)

@@ -1,0 +1,116 @@
+ghost use Rattle.std.specs.Prelude.{◌≡◌, ◌≤◌, ℕ, true, map, IfOk};
+ghost use Rattle.std.specs.List.{list_any};
+ghost use Rattle.sqlite_value.specs.Order.{column};
+ghost use Rattle.mr_rows.specs.RowCells.{nat_of};
+ghost use Rattle.mr_model.specs.Scopes.{has_number};
+ghost use Rattle.mr_base.specs.Batches.{item_of};
+ghost use Rattle.mr_replica.specs.Tails.{has_place};
+ghost use Rattle.mr_sql.specs.LateTests.{passes_late, IsLateTest, Reaches};
+
+use crate::scope_rooms::RoomTest;
+use mr_base::{Item, Refusal};
+use mr_part::touched_rooms;
+use mr_replica::named::Named;
+use mr_replica::tail::{Tail, tail_of};
+use mr_rows::cells::{read_server, read_u64};
+use mr_rows::{LateRows, RowTest};
+use mr_tables::LogRow;
+use sqlite::{Error, Row};
+use std::alloc::Global;
+
+/// Which rows of `log` are in scope of a batch beside those of the ids that it names: the commits that it names, and the tentative
+/// writes of these rooms in its tail.
+#[derive(Drop)]
+pub(crate) struct LateTest {
+    named: Named,
+    tail: Tail,
+    rooms: RoomTest,
+}
+
+impl RowTest<LogRow> for LateTest {
+    ghost passes = { passes_late };
+
+    fn is_passed_by(&self, row: &Row) -> Result<bool, Error> {
+        let number = read_u64(row, 11)?;
+        if number == 0 {
+            Ok(is_in_tail(&self.tail, row)? && self.rooms.has_room(row, 3)?)
+        } else {
+            Ok(self.named.numbers.contains(&number))
+        }
+    }
+}
+
+fn is_in_tail(tail: &Tail, row: &Row) -> Result<bool, Error>
+    ensures { IfOk result (λ b. b ≡ has_place tail.now (nat_of (column row.now 2)) (nat_of (column row.now 0))) }
+{
+    let time = read_u64(row, 2)?;
+    let server = read_server(row, 0)?;
+    Ok(tail.has_place(time, server))
+}
+
+impl LateTest {
+    /// That of a batch, where so many commits are known and these are the rows of the ids that it names.
+    pub(crate) fn of(
+        alloc: Global,
+        items: &[Item],
+        commits: u64,
+        rows: &[LogRow],
+    ) -> Result<LateTest, Refusal>
+        ensures { IfOk result (λ test. IsLateTest test commits (map item_of items.now) rows.now) }
+    {
+        let touched = touched_rooms(alloc, rows, items, commits)?;
+        Ok(LateTest {
+            named: Named::by(alloc, items)?,
+            tail: tail_of(items, commits),
+            rooms: RoomTest::of(alloc, &touched)?,
+        })
+    }
+
+    pub(crate) fn tail(&self) -> &Tail
+        ensures { result.now ≡ self.now.tail }
+    {
+        &self.tail
+    }
+}
+
+fn number_of(item: &Item) -> u64
+    ensures { (number : ℕ) → has_number number (item_of item.now) ≡ true → number ≡ result }
+{
+    match item {
+        Item::W(_) => 0,
+        Item::C { seq, .. } => seq.number(),
+    }
+}
+
+/// A number that no known commit which the items name is above, where so many commits are known; 0 where they name none.
+fn last_named(items: &[Item], commits: u64) -> u64
+    ensures { (number : ℕ) → number ≤ commits → list_any (has_number number) (map item_of items.now) ≡ true → number ≤ result }
+{
+    let mut last = 0;
+    'items: for item in items {
+        let number = number_of(item);
+        if number > last && number <= commits {
+            last = number;
+        }
+    }
+    last
+}
+
+/// A time that no place of the tail is before.
+fn first_time(tail: &Tail) -> u64
+    ensures { (time server : ℕ) → has_place tail.now time server ≡ true → result ≤ time }
+{
+    match tail {
+        Tail::From(time, _) => *time,
+        Tail::Everything | Tail::Nothing => 0,
+    }
+}
+
+/// The rows among which are all that pass the test of these items, where so many commits are known.
+pub(crate) fn late_rows(items: &[Item], commits: u64, tail: &Tail) -> LateRows
+    ensures { Reaches result tail.now commits (map item_of items.now) }
+{
+    let to = last_named(items, commits);
+    let from = if to == 0 { first_time(tail) } else { 0 };
+    LateRows { from, to }
+}

@@ -1,0 +1,146 @@
+ghost use Rattle.std.specs.Prelude.{◌≡◌, ℕ, true, false, map, IfOk};
+ghost use Rattle.sqlite.specs.Held.{state};
+ghost use Rattle.mr_base.specs.Batches.{item_of};
+ghost use Rattle.mr_model.specs.Scopes.{NextCommits, OfItems, log_row_id, next_commits};
+ghost use Rattle.mr_part.specs.ScopeOf.{scope_of};
+ghost use Rattle.mr_rows.specs.Database.{tables_in};
+ghost use Rattle.mr_rows.specs.Reads.{ReadsInUse};
+ghost use Rattle.mr_sql.specs.ScopeQuestions.{AreLogsRead, is_of_numbers};
+ghost use Rattle.mr_sql.specs.LateTests.{IsLateTest};
+
+use crate::scope_late::{LateTest, late_rows};
+use crate::scope_questions::{item_questions, number_questions, tentative_rows};
+use crate::scope_stamps::first_ids;
+use mr_base::Item;
+use mr_part::Scope;
+use mr_rows::asked_rows::asked_rows;
+use mr_rows::{IdQuestion, StoredRow, tentative_stamps, with_late_rows};
+use mr_tables::LogRow;
+use sqlite::{Alter, Connection, Error, ErrorCode};
+use std::alloc::Global;
+
+/// All tentative rows.
+fn read_tentative<S: Alter>(conn: &mut Connection<S>, alloc: Global) -> Result<Vec<LogRow>, Error>
+    requires autocommit { conn.old.in_transaction ≡ false }
+    ensures autocommit { conn.new.in_transaction ≡ false }
+    ensures reads { ReadsInUse (state S.Store conn.old) (state S.Store conn.new) result
+        (λ rows. (count : ℕ) → AreLogsRead (NextCommits count) (tables_in (state S.Store conn.old).now.trees) rows.items) }
+{
+    let questions = tentative_rows(alloc)?;
+    asked_rows(conn, alloc, &questions)
+}
+
+/// Whether so many ids are a small part of so many rows. The row of each costs a statement, and all rows cost a pass over the table.
+fn are_few(ids: &[IdQuestion], rows: usize) -> bool {
+    ids.len() < rows / 16
+}
+
+/// The rows of these ids, which are those of the first of so many tentative ones, and of others perhaps.
+fn read_first<S: Alter>(
+    conn: &mut Connection<S>,
+    alloc: Global,
+    ids: &[IdQuestion],
+    tentative: usize,
+) -> Result<Vec<LogRow>, Error>
+    requires autocommit { conn.old.in_transaction ≡ false }
+    ensures autocommit { conn.new.in_transaction ≡ false }
+    ensures reads { ReadsInUse (state S.Store conn.old) (state S.Store conn.new) result
+        (λ rows. (count : ℕ) → ids.now ≡ map log_row_id (next_commits count (tables_in (state S.Store conn.old).now.trees))
+        → AreLogsRead (NextCommits count) (tables_in (state S.Store conn.old).now.trees) rows.items) }
+{
+    if are_few(ids, tentative) {
+        asked_rows(conn, alloc, ids)
+    } else {
+        read_tentative(conn, alloc)
+    }
+}
+
+/// The rows of so many tentative writes that are committed next, which the stamps of all tell.
+fn read_next<S: Alter>(
+    conn: &mut Connection<S>,
+    alloc: Global,
+    count: u64,
+) -> Result<Vec<LogRow>, Error>
+    requires autocommit { conn.old.in_transaction ≡ false }
+    ensures autocommit { conn.new.in_transaction ≡ false }
+    ensures reads { ReadsInUse (state S.Store conn.old) (state S.Store conn.new) result
+        (λ rows. AreLogsRead (NextCommits count) (tables_in (state S.Store conn.old).now.trees) rows.items) }
+{
+    // For the prover alone: the rows of the table rise.
+    LogRow::keeps_order();
+    let stamps = tentative_stamps(conn, alloc)?;
+    let tentative = stamps.len();
+    let ids = first_ids(alloc, stamps, count)?;
+    read_first(conn, alloc, &ids, tentative)
+}
+
+fn test_of(alloc: Global, items: &[Item], commits: u64, named: &[LogRow]) -> Result<LateTest, Error>
+    ensures { IfOk result (λ test. IsLateTest test commits (map item_of items.now) named.now) }
+{
+    match LateTest::of(alloc, items, commits, named) {
+        Ok(test) => Ok(test),
+        Err(_) => Err(Error::SqliteFailure(ErrorCode::OutOfMemory)),
+    }
+}
+
+/// The rows of a batch that is received: those of the ids that it names, which tell what rooms it touches, and then in one pass
+/// those of the commits that it names and of the tentative writes that it may move.
+fn read_batch<S: Alter>(
+    conn: &mut Connection<S>,
+    alloc: Global,
+    items: &[Item],
+    commits: u64,
+) -> Result<Vec<LogRow>, Error>
+    requires autocommit { conn.old.in_transaction ≡ false }
+    ensures autocommit { conn.new.in_transaction ≡ false }
+    ensures reads { ReadsInUse (state S.Store conn.old) (state S.Store conn.new) result
+        (λ rows. commits ≡ (tables_in (state S.Store conn.old).now.trees).meta.commits
+        → AreLogsRead (OfItems (map item_of items.now)) (tables_in (state S.Store conn.old).now.trees) rows.items) }
+{
+    let ids = item_questions(alloc, items)?;
+    let named = asked_rows(conn, alloc, &ids)?;
+    let test = test_of(alloc, items, commits, &named)?;
+    let late = late_rows(items, commits, test.tail());
+    with_late_rows(conn, alloc, late, &test, named)
+}
+
+/// The rows that are asked for by numbers.
+fn read_numbers<S: Alter>(
+    conn: &mut Connection<S>,
+    alloc: Global,
+    scope: &Scope<'_>,
+    commits: u64,
+) -> Result<Vec<LogRow>, Error>
+    requires autocommit { conn.old.in_transaction ≡ false }
+    ensures autocommit { conn.new.in_transaction ≡ false }
+    ensures reads { ReadsInUse (state S.Store conn.old) (state S.Store conn.new) result
+        (λ rows. is_of_numbers (scope_of scope.now) ≡ true → commits ≡ (tables_in (state S.Store conn.old).now.trees).meta.commits
+        → AreLogsRead (scope_of scope.now) (tables_in (state S.Store conn.old).now.trees) rows.items) }
+{
+    let questions = number_questions(alloc, scope, commits)?;
+    asked_rows(conn, alloc, &questions)
+}
+
+/// Of `log` all rows in scope, and others perhaps. `commits` are known.
+pub(crate) fn read_logs<S: Alter>(
+    conn: &mut Connection<S>,
+    alloc: Global,
+    scope: &Scope<'_>,
+    commits: u64,
+) -> Result<Vec<LogRow>, Error>
+    requires autocommit { conn.old.in_transaction ≡ false }
+    ensures autocommit { conn.new.in_transaction ≡ false }
+    ensures reads { ReadsInUse (state S.Store conn.old) (state S.Store conn.new) result
+        (λ rows. commits ≡ (tables_in (state S.Store conn.old).now.trees).meta.commits
+        → AreLogsRead (scope_of scope.now) (tables_in (state S.Store conn.old).now.trees) rows.items) }
+{
+    match *scope {
+        Scope::NextCommits(count) => read_next(conn, alloc, count),
+        Scope::Items(items) => read_batch(conn, alloc, items, commits),
+        Scope::Nothing
+        | Scope::OfRequest(_, _)
+        | Scope::OfTarget(_)
+        | Scope::UpTo(_)
+        | Scope::Above(_) => read_numbers(conn, alloc, scope, commits),
+    }
+}
