@@ -124,7 +124,7 @@ fn slot_behind_first_change<K: Keeper>(
     let change = first_change(alloc)?;
     told(keeper.apply(&change))?;
     let request = request(alloc)?;
-    let part = told(keeper.load_part(&Scope::OfRequest(&request)))?;
+    let part = told(keeper.load_part(&Scope::OfRequest(&request.room, &request.meeting)))?;
     let (_, change) = part.submit(request)?;
     Ok(change.booking.first().map(|row| (row.day, row.start)))
 }

@@ -364,7 +364,9 @@ pub(crate) fn fault_of<K: Keeper>(
     let room = &request.room;
     match call {
         0 => keeper.load().err(),
-        1 => keeper.load_part(&Scope::OfRequest(request)).err(),
+        1 => keeper
+            .load_part(&Scope::OfRequest(room, &request.meeting))
+            .err(),
         2 => keeper.rooms().err(),
         3 => keeper.bookings(room, None).err(),
         4 => keeper.place_of(room, id).err(),
