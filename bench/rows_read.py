@@ -126,7 +126,7 @@ class Command:
         stamps = self.database.execute(self.sql['select_stamp_log'], (0,)).fetchall()
         self.asked['log'] += 1
         first = sorted(stamps, key=lambda row: (row[2], row[0], -row[1]))[:count]
-        if len(first) < len(stamps) // 16:
+        if len(first) <= 64 or len(first) < len(stamps) // 16:
             for server, n, _ in first:
                 self.ask('select_key_log', server, n)
         else:

@@ -30,9 +30,10 @@ fn read_tentative<S: Alter>(conn: &mut Connection<S>, alloc: Global) -> Result<V
     asked_rows(conn, alloc, &questions)
 }
 
-/// Whether so many ids are a small part of so many rows. The row of each costs a statement, and all rows cost a pass over the table.
-fn are_few(ids: &[IdQuestion], rows: usize) -> bool {
-    ids.len() < rows / 16
+/// Whether the rows of these ids cost less one by one, each of them a statement, than in a pass over a table with so many tentative rows
+/// and perhaps others.
+fn are_few(ids: &[IdQuestion], tentative: usize) -> bool {
+    ids.len() <= 64 || ids.len() < tentative / 16
 }
 
 /// The rows of these ids, which are those of the first of so many tentative ones, and of others perhaps.
