@@ -8,14 +8,15 @@ use Rattle.mr_model.specs.Step.{Command}
 use Rattle.mr_service.specs.Asked.{local_of}
 use Rattle.mr_words.specs.declared.invocations.Invocation.{Invocation}
 use Rattle.mr_words.specs.declared.invocations.Invocation.TheVariants as invocation
+use Rattle.mr_words.specs.declared.invocations.Task.TheVariants as task
 use Rattle.mr_words.specs.CommandTable.{Invoked, Init, Ask, Export, Import, Rehearse, Serve, Exchange, Bridge, init_row, export_row, import_row, rehearse_row, serve_row, exchange_row, bridge_row, asking, add_room_asked, booking_asked, cancel_asked, commit_asked, truncation_asked, position_asked, sheet_asked, calendar_asked, outcome_asked, errors_asked}
 
 -- what an invocation asks for
 abbrev pub asked_of : Invocation → Invoked
 asked_of (invocation.Init database server primary) = Init (string_bytes database) server primary
-asked_of (invocation.Ask database local) = Ask (string_bytes database) (local_of local)
-asked_of (invocation.Export database position out lines) = Export (string_bytes database) (string_bytes position) (string_bytes out) lines
-asked_of (invocation.Import database batch) = Import (string_bytes database) (string_bytes batch)
+asked_of (invocation.Ask database (task.Local local)) = Ask (string_bytes database) (local_of local)
+asked_of (invocation.Ask database (task.Export position out lines)) = Export (string_bytes database) (string_bytes position) (string_bytes out) lines
+asked_of (invocation.Ask database (task.Import batch)) = Import (string_bytes database) (string_bytes batch)
 asked_of (invocation.Serve database port count) = Serve (string_bytes database) port count
 asked_of (invocation.Exchange database url) = Exchange (string_bytes database) (string_bytes url)
 asked_of (invocation.Bridge database other) = Bridge (string_bytes database) (string_bytes other)

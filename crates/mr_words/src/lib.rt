@@ -13,6 +13,6 @@ mod rows;
 mod words;
 
 pub use address::{AddressFault, peer_address};
-pub use invocations::{Invocation, WordFault};
+pub use invocations::{Invocation, Task, WordFault};
 pub use invoke::{command_lines_read_back, invocation};
 pub use words::{read_count, read_line_count, read_part, read_server};

@@ -4,9 +4,9 @@ ghost use Rattle.std.specs.Prelude.{◌≡◌, IfOk, MatchOption, Some, None, ma
 ghost use Rattle.mr_words.specs.CommandTable.{init_row, export_row, import_row, rehearse_row, serve_row, exchange_row, bridge_row, asking};
 ghost use Rattle.mr_words.specs.InvocationRead.{asked_of, row_by, command_by};
 
-use crate::Invocation;
 use crate::commands::command;
 use crate::words::{read_connections, read_line_count, read_port, read_server};
+use crate::{Invocation, Task};
 use std::alloc::{AllocError, Global};
 
 /// What the row of this name asks for with these words, if they fit it.
@@ -61,11 +61,13 @@ fn export(alloc: Global, words: &[&str]) -> Result<Option<Invocation>, AllocErro
     let Some(lines) = read_line_count(lines) else {
         return Ok(None);
     };
-    Ok(Some(Invocation::Export {
+    Ok(Some(Invocation::Ask {
         database: String::from_str(alloc, database)?,
-        position: String::from_str(alloc, position)?,
-        out: String::from_str(alloc, out)?,
-        lines,
+        task: Task::Export {
+            position: String::from_str(alloc, position)?,
+            out: String::from_str(alloc, out)?,
+            lines,
+        },
     }))
 }
 
@@ -76,9 +78,11 @@ fn import(alloc: Global, words: &[&str]) -> Result<Option<Invocation>, AllocErro
     let [database, batch] = words else {
         return Ok(None);
     };
-    Ok(Some(Invocation::Import {
+    Ok(Some(Invocation::Ask {
         database: String::from_str(alloc, database)?,
-        batch: String::from_str(alloc, batch)?,
+        task: Task::Import {
+            batch: String::from_str(alloc, batch)?,
+        },
     }))
 }
 
@@ -151,7 +155,8 @@ fn ask(alloc: Global, name: &str, words: &[&str]) -> Result<Option<Invocation>, 
     match command(alloc, name, rest)? {
         Some(local) => {
             let database = String::from_str(alloc, database)?;
-            Ok(Some(Invocation::Ask { database, local }))
+            let task = Task::Local(local);
+            Ok(Some(Invocation::Ask { database, task }))
         }
         None => Ok(None),
     }
