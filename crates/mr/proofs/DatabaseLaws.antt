@@ -1,5 +1,7 @@
 -- What tasks stand for, and what is found where a database is opened.
-use Rattle.std.proofs.Common.{◌≡◌, sym, subst, ℕ, ◌⊎◌, inl, inr}
+use Rattle.std.proofs.Common.{◌≡◌, sym, subst, ℕ, ◌⊎◌, inl, inr, Option}
+use Rattle.std.specs.declared.string.String.{String}
+use Rattle.std.specs.declared.alloc.Global.{Global}
 use Rattle.sqlite_trees.specs.Tree.{Trees}
 use Rattle.mr_model.specs.Texts.{Text}
 use Rattle.mr_model.specs.Replica.{opening}
@@ -7,10 +9,9 @@ use Rattle.mr_model.specs.Step.{Command}
 use Rattle.mr_model.specs.Tables.{Stands}
 use Rattle.mr_rows.specs.Database.{tables_in}
 use Rattle.mr_sql.specs.Found.{IsAdopted}
-use Rattle.mr.specs.declared.orders.Task.{Task}
-use Rattle.mr.specs.declared.orders.Order.{Order}
-use Rattle.mr.specs.declared.orders.Task.TheVariants as kind
-use Rattle.mr.specs.Tasks.{IsCommandFor, IsCommandWith, IsOrderFor}
+use Rattle.mr_words.specs.declared.invocations.Task.{Task}
+use Rattle.mr_words.specs.declared.invocations.Task.TheVariants as task
+use Rattle.mr.specs.Tasks.{IsCommandFor, IsCommandWith, file_for}
 
 -- the tables of an adopted database are those of a replica that knows nothing yet, or they name this server and primary, moved up or not
 pub adopted_tables : (server primary : ℕ) (before after : Trees) → IsAdopted server primary before after
@@ -19,11 +20,12 @@ adopted_tables server primary before after (inl blank) = inl blank.1
 adopted_tables server primary before after (inr ours) = inr ours.1
 
 -- a task is known by its kind
-pub as_task : {task given : Task} (Has : Text → Type 0) (order : Order) → task ≡ given → IsOrderFor given Has order → IsOrderFor task Has order
-as_task Has order same is = subst (λ task. IsOrderFor task Has order) (sym same) is
+pub as_task : {asked given : Task} (Has : Text → Type 0) (command : Command) (file : Option (String Global)) → asked ≡ given
+    → IsCommandWith given Has command × (file ≡ file_for given) → IsCommandWith asked Has command × (file ≡ file_for asked)
+as_task Has command file same is = subst (λ t. IsCommandWith t Has command × (file ≡ file_for t)) (sym same) is
 
 -- a command is that of its task, whatever is known of the file
-pub for_any : (task : Task) (Has : Text → Type 0) (command : Command) → IsCommandWith task Has command → IsCommandFor task command
-for_any (kind.Ask local) Has command is = is
-for_any (kind.Import batch) Has command is = (is.0, is.2)
-for_any (kind.Export export) Has command is = (is.0, is.2)
+pub for_any : (asked : Task) (Has : Text → Type 0) (command : Command) → IsCommandWith asked Has command → IsCommandFor asked command
+for_any (task.Local local) Has command is = is
+for_any (task.Import batch) Has command is = (is.0, is.2)
+for_any (task.Export position out lines) Has command is = (is.0, is.2)

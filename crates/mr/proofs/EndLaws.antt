@@ -2,6 +2,8 @@
 use Rattle.std.proofs.Common.{◌≡◌, ap, subst, sym, ℕ, ◌≤◌, [], ◌⊎◌, inl, inr, Option, refl, arith, lit≤}
 use Rattle.std.proofs.lemmas.Bool.{cases_lt}
 use Rattle.std.specs.Io.KnownBytes.{Appends}
+use Rattle.std.specs.declared.string.String.{String}
+use Rattle.std.specs.declared.alloc.Global.{Global}
 use Rattle.mr_model.specs.Texts.{Text, line}
 use Rattle.mr_model.specs.Refusals.{refusal_text}
 use Rattle.mr_model.specs.Replies.{Reply, RoomAdded, OutcomeIs, Took, CommittedIs, DroppedIs, PositionIs, BatchIs, Sheet, Calendar, Errors, Refused}
@@ -12,11 +14,15 @@ use Rattle.mr_base.specs.declared.refusals.Refusal.TheVariants as refusal
 use Rattle.mr_store.specs.declared.keeper.Keeper.{Ghosts}
 use Rattle.mr_say.specs.CommandOutput.{no_memory_line, status_of, PrintsReply}
 use Rattle.mr_words.specs.CommandTable.{Invoked, Init, Ask, Export, Import, Rehearse, Serve, Exchange, Bridge}
+use Rattle.mr_words.specs.InvocationRead.{asked_of}
+use Rattle.mr_words.specs.declared.invocations.Invocation.TheVariants as invocation
+use Rattle.mr_words.specs.declared.invocations.Task.{Task}
+use Rattle.mr_words.specs.declared.invocations.Task.TheVariants as task
 use Rattle.mr_words.specs.declared.invocations.WordFault.{WordFault}
 use Rattle.mr_words.specs.declared.invocations.WordFault.TheVariants as faults
 use Rattle.mr.specs.Rehearsed.{bad_words_line}
 use Rattle.mr.specs.CommandEffects.{TellsFault, TellsLength, TellsWritten}
-use Rattle.mr.specs.Tasks.{IsReceive, IsBatchFor, IsOfDatabase, TellsUnopened, EndsAsking, EndsAskingEither, EndsAs, EndsExchangeAt, EndsRehearsal, IsAnswered, IsOpened, OnlyReads}
+use Rattle.mr.specs.Tasks.{IsCommandFor, IsReceive, IsBatchFor, IsOfDatabase, TellsUnopened, EndsAsking, EndsAskingEither, EndsAs, EndsExchangeAt, EndsRehearsal, IsAnswered, IsOpened, OnlyReads, TellsTo, file_for}
 use Rattle.mr_net.specs.Hosts.{IsPeer}
 use Rattle.mr_net.specs.Printed.{StopsWithText, IsStopText, EndsExchange, EndsServing, TellsBadAddress}
 
@@ -66,9 +72,12 @@ exchange_at : (address : Text) (held holds : Option Text) (status : ℕ) → ((h
 exchange_at address held holds status named none = record { asked = named; bad = none }
 
 -- a command line that asks this of a replica ends as the asking does
-pub ask_ends : {K C : Type 0} (keeper : Ghosts K) (copy : Ghosts C) (asked : Invoked) (database : Text) (command : Command) (held holds : Option Text) (status : ℕ)
-    → asked ≡ Ask database command → EndsAskingEither keeper copy (λ c. c ≡ command) PrintsReply held holds status → EndsAs keeper copy asked held holds status
-ask_ends keeper copy asked database command held holds status is ends = subst (λ a. EndsAs keeper copy a held holds status) (sym is) ends
+pub task_ends : {K C : Type 0} (keeper : Ghosts K) (copy : Ghosts C) (asked : Invoked) (database : String Global) (work : Task) (held holds : Option Text) (status : ℕ)
+    → asked ≡ asked_of (invocation.Ask database work)
+    → EndsAskingEither keeper copy (IsCommandFor work) (TellsTo (file_for work)) held holds status → EndsAs keeper copy asked held holds status
+task_ends keeper copy asked database (task.Local local) held holds status is ends = subst (λ a. EndsAs keeper copy a held holds status) (sym is) ends
+task_ends keeper copy asked database (task.Export position out lines) held holds status is ends = subst (λ a. EndsAs keeper copy a held holds status) (sym is) ends
+task_ends keeper copy asked database (task.Import batch) held holds status is ends = subst (λ a. EndsAs keeper copy a held holds status) (sym is) ends
 
 -- an exchange that ends as such an address says is the end of the command line that asks for it
 pub exchange_ends : {K C : Type 0} (keeper : Ghosts K) (copy : Ghosts C) (asked : Invoked) (database address : Text) (held holds : Option Text) (status : ℕ)

@@ -11,14 +11,13 @@ use Rattle.mr_model.specs.Step.{Command, Receive, BatchFor, step}
 use Rattle.mr_model.specs.Tables.{Stands}
 use Rattle.mr_store.specs.declared.keeper.Keeper.{Ghosts}
 use Rattle.mr_store.specs.KeeperCalls.{IsSettled}
-use Rattle.mr_service.specs.Asked.{command_seen, local_of}
+use Rattle.mr_service.specs.Asked.{local_of}
 use Rattle.mr_say.specs.CommandOutput.{PrintsReply, ok_line}
 use Rattle.mr_net.specs.Hosts.{IsPeer}
 use Rattle.mr_net.specs.Printed.{EndsExchange, EndsServing, TellsBadAddress}
 use Rattle.mr_words.specs.CommandTable.{Invoked, Init, Ask, Export, Import, Rehearse, Serve, Exchange, Bridge}
-use Rattle.mr.specs.declared.orders.Task.{Task}
-use Rattle.mr.specs.declared.orders.Task.TheVariants as kind
-use Rattle.mr.specs.declared.orders.Order.{Order}
+use Rattle.mr_words.specs.declared.invocations.Task.{Task}
+use Rattle.mr_words.specs.declared.invocations.Task.TheVariants as task
 use Rattle.mr.specs.Rehearsed.{Rehearses, StopsRehearsing}
 use Rattle.mr.specs.CommandEffects.{IsCommandAsked, TellsFault, TellsWritten}
 
@@ -32,15 +31,15 @@ IsBatchFor max_lines command = (position : Text) × (command ≡ BatchFor positi
 
 -- the command that a task asks, where its file has bytes of this kind
 abbrev pub IsCommandWith : Task → (Text → Type 0) → Command → Type 0
-IsCommandWith (kind.Ask local) Has command = command ≡ local_of local
-IsCommandWith (kind.Import batch) Has command = (bytes : Text) × Has bytes × (command ≡ Receive bytes)
-IsCommandWith (kind.Export export) Has command = (position : Text) × Has position × (command ≡ BatchFor position export.max_lines)
+IsCommandWith (task.Local local) Has command = command ≡ local_of local
+IsCommandWith (task.Import batch) Has command = (bytes : Text) × Has bytes × (command ≡ Receive bytes)
+IsCommandWith (task.Export position out lines) Has command = (bytes : Text) × Has bytes × (command ≡ BatchFor bytes lines)
 
 -- the same, where it is not known what the file holds
 abbrev pub IsCommandFor : Task → Command → Type 0
-IsCommandFor (kind.Ask local) command = command ≡ local_of local
-IsCommandFor (kind.Import batch) command = IsReceive command
-IsCommandFor (kind.Export export) command = IsBatchFor export.max_lines command
+IsCommandFor (task.Local local) command = command ≡ local_of local
+IsCommandFor (task.Import batch) command = IsReceive command
+IsCommandFor (task.Export position out lines) command = IsBatchFor lines command
 
 -- the command leaves each replica as it is
 abbrev pub OnlyReads : Command → Type 0
@@ -48,12 +47,8 @@ OnlyReads command = (r : Replica) → (step r command).replica ≡ r
 
 -- the path of the file that takes the reply
 abbrev pub file_for : Task → Option (String Global)
-file_for (kind.Export export) = Some export.batch
+file_for (task.Export position out lines) = Some out
 file_for _ = None
-
-pub record IsOrderFor (task : Task) (Has : Text → Type 0) (order : Order) : Type 0 where
-  pub command : IsCommandWith task Has (command_seen order.command)
-  pub file : order.file ≡ file_for task
 
 -- the reply is printed, or goes to a file
 abbrev pub TellsTo : Option (String Global) → Reply → Option Text → Option Text → ℕ → Type 0

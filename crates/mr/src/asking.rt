@@ -12,10 +12,11 @@ ghost use Rattle.mr.specs.Rehearsed.{GivesInput};
 ghost use Rattle.mr.specs.Tasks.{IsAnswered, IsCommandFor, IsCommandWith, TellsTo, file_for};
 
 use crate::files::{FileFault, GREATEST_FILE, create_file, say_fault};
-use crate::orders::{Order, Task, order_for, reader_for};
+use crate::tasks::{command_for, reader_for};
 use mr_say::{DONE, NO_MEMORY, REFUSED, say, say_reply};
 use mr_service::{Command, Reply, Service, reply_text};
 use mr_store::Keeper;
+use mr_words::Task;
 use std::alloc::Global;
 use std::io::{Read, Write};
 
@@ -51,30 +52,31 @@ where
         (W.contents out.new) result
         ⊎ ((service.new ≡ service.old) × TellsFault (W.contents out.old) (W.contents out.new) result) }
 {
-    match order_for(alloc, task, reader) {
-        Ok(order) => answer(rt, alloc, service, &order, out),
+    match command_for(alloc, task, reader) {
+        Ok((command, file)) => answer(rt, alloc, service, &command, file, out),
         Err(fault) => say_fault(out, fault),
     }
 }
 
-/// Gives the replica the command and tells what it replies, and answers the status: 0, 1 where it refuses, or 3 where the file of
-/// the order does not take the reply.
+/// Gives the replica the command and tells what it replies, and answers the status: 0, 1 where it refuses, or 3 where the file at
+/// this path does not take the reply.
 fn answer<K: Keeper, W: Write>(
     rt: &HostRuntime,
     alloc: Global,
     service: &mut Service<K>,
-    order: &Order,
+    command: &Command,
+    file: Option<String>,
     out: &mut W,
 ) -> u8
     ensures told { (reply : model.Reply)
-        × IsCommandAsked K.Keeper service.old service.new (command_seen order.now.command) reply
-        × TellsTo order.now.file reply (W.contents out.old) (W.contents out.new) result }
-    ensures shown { K.is_clean service.new → K.is_open service.old → order.now.file ≡ None
-        → (room : Text) (question : Question) → command_seen order.now.command ≡ Ask room question
+        × IsCommandAsked K.Keeper service.old service.new (command_seen command.now) reply
+        × TellsTo file reply (W.contents out.old) (W.contents out.new) result }
+    ensures shown { K.is_clean service.new → K.is_open service.old → file ≡ None
+        → (room : Text) (question : Question) → command_seen command.now ≡ Ask room question
         → TellsAnswer (K.tables service.old) room question (W.contents out.old) (W.contents out.new) result }
 {
-    let reply = ask(service, &order.command);
-    match &order.file {
+    let reply = ask(service, command);
+    match file {
         None => say_reply(alloc, out, &reply),
         Some(path) => write_reply(rt, alloc, path.as_str(), &reply, out),
     }

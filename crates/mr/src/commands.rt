@@ -12,7 +12,6 @@ ghost use Rattle.mr.specs.CommandEffects.{TellsFault};
 
 use crate::databases::{init, on_database};
 use crate::files::{open_file, say_fault};
-use crate::orders::{Export, Task};
 use crate::run::rehearse;
 use mr_net::{bridge, exchange, serve};
 use mr_say::{BAD_WORDS, NO_MEMORY, REFUSED, say};
@@ -61,24 +60,8 @@ fn perform<W: Write>(rt: &HostRuntime, alloc: Global, asked: Invocation, out: &m
             server,
             primary,
         } => init(rt, alloc, database.as_str(), server, primary, out),
-        Invocation::Ask { database, local } => {
-            on_database(rt, alloc, database.as_str(), Task::Ask(local), out)
-        }
-        Invocation::Export {
-            database,
-            position,
-            out: batch,
-            lines,
-        } => {
-            let task = Task::Export(Export {
-                position,
-                batch,
-                max_lines: lines,
-            });
+        Invocation::Ask { database, task } => {
             on_database(rt, alloc, database.as_str(), task, out)
-        }
-        Invocation::Import { database, batch } => {
-            on_database(rt, alloc, database.as_str(), Task::Import { batch }, out)
         }
         Invocation::Rehearse { script } => rehearse_file(rt, alloc, script.as_str(), out),
         Invocation::Serve {

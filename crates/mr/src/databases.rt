@@ -8,12 +8,13 @@ ghost use Rattle.mr.specs.Tasks.{EndsAsking, EndsAskingEither, EndsInit, IsAnswe
 ghost use Rattle.mr.specs.CommandEffects.{TellsFault};
 
 use crate::asking::perform;
-use crate::orders::{Task, only_reads};
+use crate::tasks::only_reads;
 use mr_base::ServerId;
 use mr_say::{DONE, say, say_refusal};
 use mr_service::Service;
 use mr_sql::{CopyKeeper, FileKeeper, NotCopied, SqlKeeper};
 use mr_store::Keeper;
+use mr_words::Task;
 use std::alloc::Global;
 use std::io::Write;
 

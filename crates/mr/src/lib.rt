@@ -13,14 +13,14 @@ mod databases;
 mod files;
 mod lines;
 mod memory;
-mod orders;
 mod rehearsal;
 mod run;
 mod script;
+mod tasks;
 mod words;
 
 pub use commands::{command, say_word_fault};
 pub use memory::run_in_memory;
-pub use mr_words::{AddressFault, Invocation, WordFault, invocation, peer_address};
+pub use mr_words::{AddressFault, Invocation, Task, WordFault, invocation, peer_address};
 pub use run::rehearse;
 pub use script::{ScriptFault, read_script, scripts_are_read_one_way};

@@ -14,19 +14,7 @@ pub enum Invocation {
     /// Asks the replica of a database.
     Ask {
         database: String,
-        local: Local,
-    },
-    /// Writes a batch for the position in a file into another file, of that many item lines at most.
-    Export {
-        database: String,
-        position: String,
-        out: String,
-        lines: LineCount,
-    },
-    /// Takes the batch in a file.
-    Import {
-        database: String,
-        batch: String,
+        task: Task,
     },
     /// Serves that many connections on a port of this machine alone, one after the other.
     Serve {
@@ -47,6 +35,23 @@ pub enum Invocation {
     /// Runs the script in a file.
     Rehearse {
         script: String,
+    },
+}
+
+/// What is asked of the replica of a database.
+#[derive(Debug, Drop)]
+pub enum Task {
+    /// A command that the words alone give.
+    Local(Local),
+    /// To write the batch for the position in a file into another file, of that many item lines at most.
+    Export {
+        position: String,
+        out: String,
+        lines: LineCount,
+    },
+    /// To take the batch in a file.
+    Import {
+        batch: String,
     },
 }
 

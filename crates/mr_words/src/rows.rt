@@ -1,12 +1,12 @@
 //! The rows of the table, read from the words behind their names.
 
 ghost use Rattle.std.specs.Prelude.{◌≡◌, IfOk, MatchOption, Some, None, map};
-ghost use Rattle.mr_words.specs.CommandTable.{init_row, export_row, import_row, rehearse_row, serve_row, exchange_row, bridge_row, asking};
-ghost use Rattle.mr_words.specs.InvocationRead.{asked_of, row_by, command_by};
+ghost use Rattle.mr_words.specs.CommandTable.{init_row, export_row, import_row, rehearse_row, serve_row, exchange_row, bridge_row, asking, in_row, commands, table};
+ghost use Rattle.mr_words.specs.InvocationRead.{asked_of};
 
-use crate::Invocation;
 use crate::commands::command;
 use crate::words::{read_connections, read_line_count, read_port, read_server};
+use crate::{Invocation, Task};
 use std::alloc::{AllocError, Global};
 
 /// What the row of this name asks for with these words, if they fit it.
@@ -15,8 +15,8 @@ pub(crate) fn row(
     name: &str,
     words: &[&str],
 ) -> Result<Option<Invocation>, AllocError>
-    ensures { IfOk result (λ found. MatchOption found (row_by name.now (map (λ w. w.now) words.now) ≡ None)
-        (λ i. row_by name.now (map (λ w. w.now) words.now) ≡ Some (asked_of i))) }
+    ensures { IfOk result (λ found. MatchOption found (in_row table name.now (map (λ w. w.now) words.now) ≡ None)
+        (λ i. in_row table name.now (map (λ w. w.now) words.now) ≡ Some (asked_of i))) }
 {
     match name {
         "init" => init(alloc, words),
@@ -61,11 +61,13 @@ fn export(alloc: Global, words: &[&str]) -> Result<Option<Invocation>, AllocErro
     let Some(lines) = read_line_count(lines) else {
         return Ok(None);
     };
-    Ok(Some(Invocation::Export {
+    Ok(Some(Invocation::Ask {
         database: String::from_str(alloc, database)?,
-        position: String::from_str(alloc, position)?,
-        out: String::from_str(alloc, out)?,
-        lines,
+        task: Task::Export {
+            position: String::from_str(alloc, position)?,
+            out: String::from_str(alloc, out)?,
+            lines,
+        },
     }))
 }
 
@@ -76,9 +78,11 @@ fn import(alloc: Global, words: &[&str]) -> Result<Option<Invocation>, AllocErro
     let [database, batch] = words else {
         return Ok(None);
     };
-    Ok(Some(Invocation::Import {
+    Ok(Some(Invocation::Ask {
         database: String::from_str(alloc, database)?,
-        batch: String::from_str(alloc, batch)?,
+        task: Task::Import {
+            batch: String::from_str(alloc, batch)?,
+        },
     }))
 }
 
@@ -142,8 +146,8 @@ fn bridge(alloc: Global, words: &[&str]) -> Result<Option<Invocation>, AllocErro
 
 /// A database, and a command to its replica.
 fn ask(alloc: Global, name: &str, words: &[&str]) -> Result<Option<Invocation>, AllocError>
-    ensures { IfOk result (λ found. MatchOption found (asking (command_by name.now) (map (λ w. w.now) words.now) ≡ None)
-        (λ i. asking (command_by name.now) (map (λ w. w.now) words.now) ≡ Some (asked_of i))) }
+    ensures { IfOk result (λ found. MatchOption found (asking (in_row commands name.now) (map (λ w. w.now) words.now) ≡ None)
+        (λ i. asking (in_row commands name.now) (map (λ w. w.now) words.now) ≡ Some (asked_of i))) }
 {
     let [database, rest @ ..] = words else {
         return Ok(None);
@@ -151,7 +155,8 @@ fn ask(alloc: Global, name: &str, words: &[&str]) -> Result<Option<Invocation>, 
     match command(alloc, name, rest)? {
         Some(local) => {
             let database = String::from_str(alloc, database)?;
-            Ok(Some(Invocation::Ask { database, local }))
+            let task = Task::Local(local);
+            Ok(Some(Invocation::Ask { database, task }))
         }
         None => Ok(None),
     }

@@ -24,11 +24,11 @@ fn files_and_scripts(rt: HostRuntime) -> Result<(), Fail> {
         ),
         (
             &["export", "a.db", "pos", "out", "100000"],
-            "Export { database: \"a.db\", position: \"pos\", out: \"out\", lines: LineCount { number: 100000 } }",
+            "Ask { database: \"a.db\", task: Export { position: \"pos\", out: \"out\", lines: LineCount { number: 100000 } } }",
         ),
         (
             &["import", "a.db", "out"],
-            "Import { database: \"a.db\", batch: \"out\" }",
+            "Ask { database: \"a.db\", task: Import { batch: \"out\" } }",
         ),
         (&["rehearse", "script"], "Rehearse { script: \"script\" }"),
     ] {
@@ -73,23 +73,23 @@ fn commands(rt: HostRuntime) -> Result<(), Fail> {
     for (words, wanted) in [
         (
             &["add-room", "a.db", "oak"][..],
-            "Ask { database: \"a.db\", local: AddRoom(\"oak\") }",
+            "Ask { database: \"a.db\", task: Local(AddRoom(\"oak\")) }",
         ),
         (
             &["cancel", "a.db", "oak", "2-1"],
-            "Ask { database: \"a.db\", local: Cancel { room: \"oak\", id: \"2-1\" } }",
+            "Ask { database: \"a.db\", task: Local(Cancel { room: \"oak\", id: \"2-1\" }) }",
         ),
         (
             &["commit", "a.db", "999999999999"],
-            "Ask { database: \"a.db\", local: Commit(999999999999) }",
+            "Ask { database: \"a.db\", task: Local(Commit(999999999999)) }",
         ),
         (
             &["truncate", "a.db", "0"],
-            "Ask { database: \"a.db\", local: Truncate(0) }",
+            "Ask { database: \"a.db\", task: Local(Truncate(0)) }",
         ),
         (
             &["position", "a.db"],
-            "Ask { database: \"a.db\", local: Position }",
+            "Ask { database: \"a.db\", task: Local(Position) }",
         ),
     ] {
         let told = told(alloc, words)?;
@@ -104,23 +104,23 @@ fn questions(rt: HostRuntime) -> Result<(), Fail> {
     for (words, wanted) in [
         (
             &["sheet", "a.db", "oak", "1995-12-18"][..],
-            "Ask { database: \"a.db\", local: Sheet { room: \"oak\", day: \"1995-12-18\" } }",
+            "Ask { database: \"a.db\", task: Local(Sheet { room: \"oak\", day: \"1995-12-18\" }) }",
         ),
         (
             &["calendar", "a.db", "oak", "full"],
-            "Ask { database: \"a.db\", local: Calendar { room: \"oak\", part: Full } }",
+            "Ask { database: \"a.db\", task: Local(Calendar { room: \"oak\", part: Full }) }",
         ),
         (
             &["calendar", "a.db", "oak", "committed"],
-            "Ask { database: \"a.db\", local: Calendar { room: \"oak\", part: Committed } }",
+            "Ask { database: \"a.db\", task: Local(Calendar { room: \"oak\", part: Committed }) }",
         ),
         (
             &["outcome", "a.db", "oak", "2-1"],
-            "Ask { database: \"a.db\", local: Outcome { room: \"oak\", id: \"2-1\" } }",
+            "Ask { database: \"a.db\", task: Local(Outcome { room: \"oak\", id: \"2-1\" }) }",
         ),
         (
             &["errors", "a.db", "oak"],
-            "Ask { database: \"a.db\", local: Errors { room: \"oak\" } }",
+            "Ask { database: \"a.db\", task: Local(Errors { room: \"oak\" }) }",
         ),
     ] {
         let told = told(alloc, words)?;
@@ -143,7 +143,7 @@ fn bookings(rt: HostRuntime) -> Result<(), Fail> {
                 "14:00",
                 "Budget Meeting",
             ][..],
-            "Ask { database: \"a.db\", local: Submit(Submission { room: \"oak\", title: \"Budget Meeting\", length: \"60\", wish: SlotWords { day: \"1995-12-18\", time: \"14:00\" }, alternatives: [] }) }",
+            "Ask { database: \"a.db\", task: Local(Submit(Submission { room: \"oak\", title: \"Budget Meeting\", length: \"60\", wish: SlotWords { day: \"1995-12-18\", time: \"14:00\" }, alternatives: [] })) }",
         ),
         (
             &[
@@ -159,7 +159,7 @@ fn bookings(rt: HostRuntime) -> Result<(), Fail> {
                 "T",
                 "aTbT",
             ],
-            "Ask { database: \"\", local: Submit(Submission { room: \"\", title: \"\", length: \"\", wish: SlotWords { day: \"\", time: \"\" }, alternatives: [SlotWords { day: \"1995-12-18\", time: \"15:00\" }, SlotWords { day: \"1995\", time: \"\" }, SlotWords { day: \"\", time: \"\" }, SlotWords { day: \"a\", time: \"bT\" }] }) }",
+            "Ask { database: \"\", task: Local(Submit(Submission { room: \"\", title: \"\", length: \"\", wish: SlotWords { day: \"\", time: \"\" }, alternatives: [SlotWords { day: \"1995-12-18\", time: \"15:00\" }, SlotWords { day: \"1995\", time: \"\" }, SlotWords { day: \"\", time: \"\" }, SlotWords { day: \"a\", time: \"bT\" }] })) }",
         ),
     ] {
         let told = told(alloc, words)?;

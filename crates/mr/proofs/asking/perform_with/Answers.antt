@@ -6,8 +6,8 @@ use Rattle.mr.proofs.asking.perform_with.Goals as goal
 pub returns-in-Ok : goal.returns-in-Ok
 returns-in-Ok g c =
     let (reply, asked, told) = c.answer.ensures.told in
-    let told_as : _ = subst (λ file. TellsTo file reply (g.W.Write.contents c.args.out.now) (g.W.Write.contents c.answer.new.out) c.answer.result) c.in-Ok.ensures.file told in
-    inl (command_seen c.in-Ok.order.command, reply, c.in-Ok.ensures.command, asked, told_as)
+    let told_as : _ = subst (λ file. TellsTo file reply (g.W.Write.contents c.args.out.now) (g.W.Write.contents c.answer.new.out) c.answer.result) c.in-Ok.ensures.1 told in
+    inl (command_seen c.in-Ok.command, reply, c.in-Ok.ensures.0, asked, told_as)
 
 pub returns-in-Err : goal.returns-in-Err
 returns-in-Err g c = inr (refl, c.say_fault.ensures.told)

@@ -2,13 +2,12 @@ use Rattle.std.proofs.Common.{◌∙◌, ap, sym}
 use Rattle.std.specs.String.{string_bytes}
 use Rattle.mr_words.specs.CommandTable.{Exchange}
 use Rattle.mr_words.specs.InvocationRead.{asked_of}
-use Rattle.mr_service.specs.Asked.{local_of}
-use Rattle.mr.proofs.EndLaws.{ask_ends, exchange_ends}
+use Rattle.mr.proofs.EndLaws.{task_ends, exchange_ends}
 use Rattle.mr.proofs.commands.perform.Goals as goal
 
 pub returns-in-Ask : goal.returns-in-Ask
 returns-in-Ask g c =
-    ask_ends _ _ (asked_of c.args.asked) (string_bytes c.in-Ask.database) (local_of c.in-Ask.local) _ _ _ (ap asked_of c.in-Ask.is) c.on_database.ensures
+    task_ends _ _ (asked_of c.args.asked) c.in-Ask.database c.in-Ask.task _ _ _ (ap asked_of c.in-Ask.is) c.on_database.ensures
 
 pub returns-in-Exchange : goal.returns-in-Exchange
 returns-in-Exchange g c =
