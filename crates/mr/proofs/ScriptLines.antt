@@ -1,41 +1,38 @@
 -- A line is read as a step exactly where it is that step's line.
-use Rattle.std.proofs.Common.{◌≡◌, refl, sym, ap, subst, ◌∙◌, ℕ, zero, suc, ◌^◌, ◌<◌, ◌≤◌, Bool, true, false, cond, ◌&&◌, ◌||◌, leb, eqb, eqb-true, ne_eqb, ◌⊎◌, inl, inr, List, [], ◌∷◌, ◌++◌, length, arith, leb-true, lit<, Option, Some, None}
-use Rattle.std.proofs.lemmas.Bool.{and_parts, and_from, false≢true, le-leb, cond-true, cond-false, cases_Bool, false_from_ne_true}
+use Rattle.std.proofs.Common.{◌≡◌, refl, sym, ap, subst, ◌∙◌, ℕ, zero, suc, ◌^◌, ◌<◌, ◌≤◌, Bool, true, false, not, ◌&&◌, ◌||◌, leb, eqb, eqb-true, ne_eqb, ◌⊎◌, inl, inr, List, [], ◌∷◌, ◌++◌, length, take, arith, le-leb, leb-true, lit<, Option, Some, None}
+use Rattle.std.proofs.lemmas.Bool.{and_parts, and_from, false≢true, lt-leb, not-true, cond-true, cond-false, cases_Bool, false_from_ne_true}
 use Rattle.std.proofs.lemmas.Option.{none-some, same_Some}
 use Rattle.std.proofs.lemmas.Fmt.{decimal_is_IsNumeral}
+use Rattle.std.proofs.lemmas.List.Splits.{join_with_byte-slice_split, slice_split_at, slice_split_none}
+use Rattle.std.proofs.lemmas.List.Sums.{AllPass-from_list_all}
 use Rattle.std.proofs.lemmas.Str.{IsUtf8-from_ascii}
 use Rattle.std.proofs.lemmas.Str.Parse.{digit_from_value}
 use Rattle.std.specs.Str.Parse.{AllDigits}
-use Rattle.std.specs.Prelude.{MatchOption, IfOk, Result, Ok, Err, slice_index}
+use Rattle.std.specs.Prelude.{MatchOption, IfOk, Result, Ok, Err, nat_le, slice_index}
 use Rattle.std.specs.Str.{IsUtf8}
 use Rattle.std.proofs.lemmas.Slice.Eq.{bytes_eq-Decides}
-use Rattle.std.specs.Prelude.{codes, decimal, flat_map}
+use Rattle.std.specs.Prelude.{codes, decimal, flat_map, if◌then◌else◌}
 use Rattle.std.specs.Str.{bytes_eq}
-use Rattle.std.specs.List.{list_all}
-use Rattle.mr_model.specs.Texts.{Text, words, within, only_if}
+use Rattle.std.specs.List.{All, list_all, slice_split}
+use Rattle.mr_model.specs.Texts.{Text, is_space, words, within}
 use Rattle.mr_model.specs.Writes.{is_server}
 use Rattle.mr_model.specs.Replies.{Part, Full, Committed, part_text}
 use Rattle.mr_model.specs.View.{AskSheet, AskCalendar, AskOutcome, AskErrors}
-use Rattle.mr_model.specs.Step.{AddRoom, Submit, Cancel, Commit, Truncate, AskPosition, Ask, Submission, SlotWords}
+use Rattle.mr_model.specs.Step.{Command, AddRoom, Submit, Cancel, Receive, Commit, Truncate, AskPosition, BatchFor, Ask, Submission, SlotWords}
 use Rattle.mr_model.specs.World.{Step, Add, Make, Deliver}
 use Rattle.mr_model.proofs.LinesReadBack.{words-cons}
-use Rattle.mr_model.proofs.BatchesReadBack.{only_if_some}
-use Rattle.mr.specs.RehearsalScript.{is_word, words_of_slot, booking_words, all_bytes, length_word, is_byte_count, step_line, are_slot_words, is_submission, has_line, is_plain, IsScriptLine}
 use Rattle.mr_base.specs.Readings.{number_from_to}
 use Rattle.mr_base.proofs.Decimals.{within-below}
-use Rattle.mr_words.specs.CommandTable.{◌>>=◌, server_in, part_in}
-use Rattle.mr.specs.LineSteps.{cut_first_word, cut_server, cut_slot, with_slot, cut_slots, number_of_slots, submission_cut, room_step, sheet_step, book_step, cancel_step, calendar_step, outcome_step, errors_step, commit_step, truncate_step, position_step, batch_step, byte_count_in, cut_batch, deliver_step, replica_step, exchange_by, question_step_by, step_by, step_in}
-use Rattle.mr.proofs.WordLaws.{cut_of, cut_parts, number_from_parts, number_from_decimal, decimal_word}
+use Rattle.mr_words.specs.CommandTable.{◌>>=◌, add_room_asked, commit_number_in, in_row, line_count_in, part_in, server_in, shared_commands}
+use Rattle.mr_words.specs.CommandSpelling.{spelled, may_be_spelled}
+use Rattle.mr_words.proofs.TableRows.{EachRow, bind_some, by_rows, each_behind, each_then, if_some}
+use Rattle.mr_words.proofs.CommandsSpelled.{IsSpelled, is_shared, number_from_parts, shared_spelled}
+use Rattle.mr_words.proofs.CommandsReadBack.{count_back}
+use Rattle.mr.specs.RehearsalScript.{is_word, words_of_slot, booking_words, all_bytes, length_word, is_byte_count, script_spelled, step_words, step_line, are_slot_words, is_submission, has_words, has_line, is_plain, IsScriptLine}
+use Rattle.mr.specs.LineSteps.{cut_first_word, cut_server, cut_slot, with_slot, cut_slots, number_of_slots, submission_cut, book_step, replica_step, batch_step, batch_number_in, byte_count_in, deliver_step, script_commands, at_server, script_rows, row_step, step_in}
+use Rattle.mr.proofs.WordLaws.{cut_of, cut_parts, number_from_decimal, decimal_word}
 
--- ---- chains
-
-pub bind_some : {A B : Type 0} (o : Option A) (f : A → Option B) (y : B) → (o >>= f) ≡ Some y → (x : A) × (o ≡ Some x) × (f x ≡ Some y)
-bind_some None f y e = absurd (none-some y e)
-bind_some (Some x) f y e = (x, refl, e)
-
-if_some : {A P : Type 0} (b : Bool) (x y : Option A) (s : A) → cond b x y ≡ Some s → (b ≡ true → x ≡ Some s → P) → (b ≡ false → y ≡ Some s → P) → P
-if_some true x y s e f g = f refl e
-if_some false x y s e f g = g refl e
+-- ---- numbers of bytes
 
 or_none_right : (a b : Bool) → b ≡ false → (a || b) ≡ true → a ≡ true
 or_none_right true b e h = refl
@@ -139,113 +136,50 @@ booking_parts t b e =
           ∙ sym (booking_line made) ∙ ap (λ x. words (booking_words x)) same,
     )
 
-replica_parts : (t : Text) (s : Step) → replica_step t ≡ Some s → (has_line s ≡ true) × (codes "replica" ++ 32 ∷ t ≡ step_line s)
-replica_parts t s e =
-    let (n, is_number, last) = bind_some (server_in t) (λ n. Some (Add n)) s e in
+-- the line of a booking
+book_parts : (t : Text) (s : Step) → book_step t ≡ Some s → (has_line s ≡ true) × (codes "book" ++ 32 ∷ t ≡ step_line s)
+book_parts t s e =
+    let (p, is_cut, more) = bind_some (cut_server t) (λ p. (submission_cut p.1 >>= λ b. Some (Step.Do p.0 (Submit b)))) s e in
+    let (b, is_b, last) = bind_some (submission_cut p.1) (λ b. Some (Step.Do p.0 (Submit b))) s more in
+    let same = same_Some (Step.Do p.0 (Submit b)) s last in
+    let server = cut_server_parts t p.0 p.1 is_cut in
+    let read = booking_parts p.1 b is_b in (
+      sym (ap has_line same) ∙ and_from (is_submission b) (is_server p.0) read.0 server.0,
+      ap (λ (u : Text). codes "book" ++ 32 ∷ u) server.1 ∙ ap (λ (u : Text). codes "book" ++ 32 ∷ (decimal p.0 ++ 32 ∷ u)) read.1 ∙ ap step_line same,
+    )
+
+-- ---- rows
+
+-- words of a row that were read are those of the line of its step
+abbrev AreOfLine : Text → List Text → Step → Type 0
+AreOfLine name words s = list_all is_word words ≡ true → (has_line s ≡ true) × (name ∷ words ≡ step_words s)
+
+replica_parts : (ws : List Text) (s : Step) → replica_step ws ≡ Some s → AreOfLine (codes "replica") ws s
+replica_parts [] s e = absurd (none-some s e)
+replica_parts (w ∷ []) s e = λ _.
+    let (n, is_number, last) = bind_some (server_in w) (λ n. Some (Add n)) s e in
     let same = same_Some (Add n) s last in
-    let number = number_from_parts 1 99 t n is_number in
-    (sym (ap has_line same) ∙ number.0, ap (λ (u : Text). codes "replica" ++ 32 ∷ u) number.1 ∙ ap step_line same)
+    let number = number_from_parts 1 99 w n is_number in
+    (sym (ap has_line same) ∙ number.0, ap (λ (u : Text). codes "replica" ∷ u ∷ []) number.1 ∙ ap step_words same)
+replica_parts (w ∷ v ∷ ws) s e = absurd (none-some s e)
 
-room_parts : (server : ℕ) (t : Text) (s : Step) → is_server server ≡ true → room_step server t ≡ Some s → (has_line s ≡ true) × (codes "room" ++ 32 ∷ (decimal server ++ 32 ∷ t) ≡ step_line s)
-room_parts server t s h e =
-    let o = only_if_some (is_word t) (Step.Do server (AddRoom t)) s e in
-    (sym (ap has_line o.1) ∙ and_from (is_server server) (is_word t) h o.0, ap step_line o.1)
-
-book_parts : (server : ℕ) (t : Text) (s : Step) → is_server server ≡ true → book_step server t ≡ Some s → (has_line s ≡ true) × (codes "book" ++ 32 ∷ (decimal server ++ 32 ∷ t) ≡ step_line s)
-book_parts server t s h e =
-    let (b, is_b, last) = bind_some (submission_cut t) (λ b. Some (Step.Do server (Submit b))) s e in
-    let same = same_Some (Step.Do server (Submit b)) s last in
-    let read = booking_parts t b is_b in (
-      sym (ap has_line same) ∙ and_from (is_server server) (is_submission b) h read.0,
-      ap (λ (u : Text). codes "book" ++ 32 ∷ (decimal server ++ 32 ∷ u)) read.1 ∙ ap step_line same,
+batch_parts : (ws : List Text) (s : Step) → batch_step ws ≡ Some s → AreOfLine (codes "batch") ws s
+batch_parts [] s e = absurd (none-some s e)
+batch_parts (w ∷ []) s e = absurd (none-some s e)
+batch_parts (w ∷ v ∷ []) s e = absurd (none-some s e)
+batch_parts (w ∷ v ∷ u ∷ []) s e = λ _.
+    let (from, is_from, e1) = bind_some (server_in w) (λ f. (server_in v >>= λ t. (line_count_in u >>= λ n. Some (Make f t n)))) s e in
+    let (to, is_to, e2) = bind_some (server_in v) (λ t. (line_count_in u >>= λ n. Some (Make from t n))) s e1 in
+    let (n, is_n, last) = bind_some (line_count_in u) (λ n. Some (Make from to n)) s e2 in
+    let same = same_Some (Make from to n) s last in
+    let f = number_from_parts 1 99 w from is_from in
+    let t = number_from_parts 1 99 v to is_to in
+    let l = number_from_parts 1 100_000 u n is_n in (
+      sym (ap has_line same) ∙ and_from (is_server from) (is_server to && within 1 100_000 n) f.0 (and_from (is_server to) (within 1 100_000 n) t.0 l.0),
+      ap (λ (x : Text). codes "batch" ∷ x ∷ v ∷ u ∷ []) f.1 ∙ ap (λ (x : Text). codes "batch" ∷ decimal from ∷ x ∷ u ∷ []) t.1
+          ∙ ap (λ (x : Text). codes "batch" ∷ decimal from ∷ decimal to ∷ x ∷ []) l.1 ∙ ap step_words same,
     )
-
-cancel_parts : (server : ℕ) (t : Text) (s : Step) → is_server server ≡ true → cancel_step server t ≡ Some s → (has_line s ≡ true) × (codes "cancel" ++ 32 ∷ (decimal server ++ 32 ∷ t) ≡ step_line s)
-cancel_parts server t s h e =
-    let (room, room_cut, more) = bind_some (cut_first_word t) (λ room. only_if (is_word room.1) (Step.Do server (Cancel room.0 room.1))) s e in
-    let o = only_if_some (is_word room.1) (Step.Do server (Cancel room.0 room.1)) s more in
-    let r = cut_parts t room.0 room.1 room_cut in (
-      sym (ap has_line o.1) ∙ and_from (is_server server) (is_word room.0 && is_word room.1) h (and_from (is_word room.0) (is_word room.1) r.0 o.0),
-      ap (λ (u : Text). codes "cancel" ++ 32 ∷ (decimal server ++ 32 ∷ u)) r.1 ∙ ap step_line o.1,
-    )
-
-sheet_parts : (server : ℕ) (t : Text) (s : Step) → is_server server ≡ true → sheet_step server t ≡ Some s → (has_line s ≡ true) × (codes "sheet" ++ 32 ∷ (decimal server ++ 32 ∷ t) ≡ step_line s)
-sheet_parts server t s h e =
-    let (p, room_cut, more) = bind_some (cut_first_word t) (λ p. only_if (is_word p.1) (Step.Do server (Ask p.0 (AskSheet p.1)))) s e in
-    let o = only_if_some (is_word p.1) (Step.Do server (Ask p.0 (AskSheet p.1))) s more in
-    let room = cut_parts t p.0 p.1 room_cut in (
-      sym (ap has_line o.1) ∙ and_from (is_server server) (is_word p.0 && is_word p.1) h (and_from (is_word p.0) (is_word p.1) room.0 o.0),
-      ap (λ (u : Text). codes "sheet" ++ 32 ∷ (decimal server ++ 32 ∷ u)) room.1 ∙ ap step_line o.1,
-    )
-
--- a part of a calendar is named by its word
-part_parts : (t : Text) (part : Part) → part_in t ≡ Some part → t ≡ part_text part
-part_parts t part e =
-    if_some (bytes_eq t (codes "full")) (Some Full) _ part e
-    (λ is f. (bytes_eq-Decides t (codes "full")).0 is ∙ ap part_text (same_Some Full part f))
-    (λ _ f. if_some (bytes_eq t (codes "committed")) (Some Committed) None part f
-    (λ is g. (bytes_eq-Decides t (codes "committed")).0 is ∙ ap part_text (same_Some Committed part g))
-    (λ _ g. absurd (none-some part g)))
-
-calendar_parts : (server : ℕ) (t : Text) (s : Step) → is_server server ≡ true → calendar_step server t ≡ Some s → (has_line s ≡ true) × (codes "calendar" ++ 32 ∷ (decimal server ++ 32 ∷ t) ≡ step_line s)
-calendar_parts server t s h e =
-    let (room, room_cut, more) = bind_some (cut_first_word t) (λ room. (part_in room.1 >>= λ part. Some (Step.Do server (Ask room.0 (AskCalendar part))))) s e in
-    let (part, is_part, last) = bind_some (part_in room.1) (λ part. Some (Step.Do server (Ask room.0 (AskCalendar part)))) s more in
-    let same = same_Some (Step.Do server (Ask room.0 (AskCalendar part))) s last in
-    let r = cut_parts t room.0 room.1 room_cut in (
-      sym (ap has_line same) ∙ and_from (is_server server) (is_word room.0) h r.0,
-      ap (λ (u : Text). codes "calendar" ++ 32 ∷ (decimal server ++ 32 ∷ u)) (r.1 ∙ ap (λ (u : Text). room.0 ++ 32 ∷ u) (part_parts room.1 part is_part)) ∙ ap step_line same,
-    )
-
-outcome_parts : (server : ℕ) (t : Text) (s : Step) → is_server server ≡ true → outcome_step server t ≡ Some s → (has_line s ≡ true) × (codes "outcome" ++ 32 ∷ (decimal server ++ 32 ∷ t) ≡ step_line s)
-outcome_parts server t s h e =
-    let (room, room_cut, more) = bind_some (cut_first_word t) (λ room. only_if (is_word room.1) (Step.Do server (Ask room.0 (AskOutcome room.1)))) s e in
-    let o = only_if_some (is_word room.1) (Step.Do server (Ask room.0 (AskOutcome room.1))) s more in
-    let r = cut_parts t room.0 room.1 room_cut in (
-      sym (ap has_line o.1) ∙ and_from (is_server server) (is_word room.0 && is_word room.1) h (and_from (is_word room.0) (is_word room.1) r.0 o.0),
-      ap (λ (u : Text). codes "outcome" ++ 32 ∷ (decimal server ++ 32 ∷ u)) r.1 ∙ ap step_line o.1,
-    )
-
-errors_parts : (server : ℕ) (t : Text) (s : Step) → is_server server ≡ true → errors_step server t ≡ Some s → (has_line s ≡ true) × (codes "errors" ++ 32 ∷ (decimal server ++ 32 ∷ t) ≡ step_line s)
-errors_parts server t s h e =
-    let o = only_if_some (is_word t) (Step.Do server (Ask t AskErrors)) s e in
-    (sym (ap has_line o.1) ∙ and_from (is_server server) (is_word t) h o.0, ap step_line o.1)
-
-commit_parts : (server : ℕ) (t : Text) (s : Step) → is_server server ≡ true → commit_step server t ≡ Some s → (has_line s ≡ true) × (codes "commit" ++ 32 ∷ (decimal server ++ 32 ∷ t) ≡ step_line s)
-commit_parts server t s h e =
-    let (n, is_number, last) = bind_some (number_from_to 0 999_999_999_999 t) (λ n. Some (Step.Do server (Commit n))) s e in
-    let same = same_Some (Step.Do server (Commit n)) s last in
-    let number = number_from_parts 0 999_999_999_999 t n is_number in (
-      sym (ap has_line same) ∙ and_from (is_server server) (within 0 999_999_999_999 n) h number.0,
-      ap (λ (u : Text). codes "commit" ++ 32 ∷ (decimal server ++ 32 ∷ u)) number.1 ∙ ap step_line same,
-    )
-
-truncate_parts : (server : ℕ) (t : Text) (s : Step) → is_server server ≡ true → truncate_step server t ≡ Some s → (has_line s ≡ true) × (codes "truncate" ++ 32 ∷ (decimal server ++ 32 ∷ t) ≡ step_line s)
-truncate_parts server t s h e =
-    let (n, is_number, last) = bind_some (number_from_to 0 999_999_999_999 t) (λ n. Some (Step.Do server (Truncate n))) s e in
-    let same = same_Some (Step.Do server (Truncate n)) s last in
-    let number = number_from_parts 0 999_999_999_999 t n is_number in (
-      sym (ap has_line same) ∙ and_from (is_server server) (within 0 999_999_999_999 n) h number.0,
-      ap (λ (u : Text). codes "truncate" ++ 32 ∷ (decimal server ++ 32 ∷ u)) number.1 ∙ ap step_line same,
-    )
-
-position_parts : (t : Text) (s : Step) → position_step t ≡ Some s → (has_line s ≡ true) × (codes "position" ++ 32 ∷ t ≡ step_line s)
-position_parts t s e =
-    let (n, is_number, last) = bind_some (server_in t) (λ n. Some (Step.Do n AskPosition)) s e in
-    let same = same_Some (Step.Do n AskPosition) s last in
-    let number = number_from_parts 1 99 t n is_number in
-    (sym (ap has_line same) ∙ number.0, ap (λ (u : Text). codes "position" ++ 32 ∷ u) number.1 ∙ ap step_line same)
-
-batch_parts : (from : ℕ) (t : Text) (s : Step) → is_server from ≡ true → batch_step from t ≡ Some s → (has_line s ≡ true) × (codes "batch" ++ 32 ∷ (decimal from ++ 32 ∷ t) ≡ step_line s)
-batch_parts from t s h e =
-    let (to, to_cut, more) = bind_some (cut_server t) (λ to. (number_from_to 1 100_000 to.1 >>= λ m. Some (Make from to.0 m))) s e in
-    let (m, is_number, last) = bind_some (number_from_to 1 100_000 to.1) (λ m. Some (Make from to.0 m)) s more in
-    let same = same_Some (Make from to.0 m) s last in
-    let number = number_from_parts 1 100_000 to.1 m is_number in
-    let there = cut_server_parts t to.0 to.1 to_cut in (
-      sym (ap has_line same) ∙ and_from (is_server from) (is_server to.0 && within 1 100_000 m) h (and_from (is_server to.0) (within 1 100_000 m) there.0 number.0),
-      ap (λ (u : Text). codes "batch" ++ 32 ∷ (decimal from ++ 32 ∷ u)) (there.1 ∙ ap (λ (u : Text). decimal to.0 ++ 32 ∷ u) number.1) ∙ ap step_line same,
-    )
+batch_parts (w ∷ v ∷ u ∷ x ∷ ws) s e = absurd (none-some s e)
 
 -- a length that was read is one, and is written so
 length_parts : (t : Text) (n : ℕ) → byte_count_in t ≡ Some n → (is_byte_count n ≡ true) × (t ≡ length_word n)
@@ -255,96 +189,113 @@ length_parts t n e =
     (λ _ f. let number = number_from_parts 0 999_999_999 t n f in
     (ap (λ b. b || eqb n all_bytes) number.0, number.1 ∙ sym (cond-false (eqb n all_bytes) (codes "all") (decimal n) (not_all n number.0))))
 
-cut_batch_parts : (t : Text) (n : ℕ) (rest : Text) → cut_batch t ≡ Some (n, rest) → (within 0 999_999_999 n ≡ true) × (t ≡ decimal n ++ 32 ∷ rest)
-cut_batch_parts t k rest e =
-    let (p, is_cut, more) = bind_some (cut_first_word t) (λ p. (number_from_to 0 999_999_999 p.0 >>= λ n. Some (n, p.1))) (k, rest) e in
-    let (n, is_number, last) = bind_some (number_from_to 0 999_999_999 p.0) (λ n. Some (n, p.1)) (k, rest) more in
-    let same = same_Some (n, p.1) (k, rest) last in
-    let number = number_from_parts 0 999_999_999 p.0 n is_number in
-    let found = cut_parts t p.0 p.1 is_cut in (
-      sym (ap (λ (q : ℕ × Text). within 0 999_999_999 q.0) same) ∙ number.0,
-      found.1 ∙ ap (λ (u : Text). u ++ 32 ∷ p.1) number.1 ∙ ap (λ (q : ℕ × Text). decimal q.0 ++ 32 ∷ q.1) same,
+deliver_parts : (ws : List Text) (s : Step) → deliver_step ws ≡ Some s → AreOfLine (codes "deliver") ws s
+deliver_parts [] s e = absurd (none-some s e)
+deliver_parts (w ∷ []) s e = absurd (none-some s e)
+deliver_parts (w ∷ v ∷ []) s e = absurd (none-some s e)
+deliver_parts (w ∷ v ∷ u ∷ []) s e = λ _.
+    let (batch, is_batch, e1) = bind_some (batch_number_in w) (λ b. (server_in v >>= λ t. (byte_count_in u >>= λ n. Some (Deliver b t n)))) s e in
+    let (to, is_to, e2) = bind_some (server_in v) (λ t. (byte_count_in u >>= λ n. Some (Deliver batch t n))) s e1 in
+    let (n, is_n, last) = bind_some (byte_count_in u) (λ n. Some (Deliver batch to n)) s e2 in
+    let same = same_Some (Deliver batch to n) s last in
+    let b = number_from_parts 0 999_999_999 w batch is_batch in
+    let t = number_from_parts 1 99 v to is_to in
+    let l = length_parts u n is_n in (
+      sym (ap has_line same) ∙ and_from (within 0 999_999_999 batch) (is_server to && is_byte_count n) b.0 (and_from (is_server to) (is_byte_count n) t.0 l.0),
+      ap (λ (x : Text). codes "deliver" ∷ x ∷ v ∷ u ∷ []) b.1 ∙ ap (λ (x : Text). codes "deliver" ∷ decimal batch ∷ x ∷ u ∷ []) t.1
+          ∙ ap (λ (x : Text). codes "deliver" ∷ decimal batch ∷ decimal to ∷ x ∷ []) l.1 ∙ ap step_words same,
+    )
+deliver_parts (w ∷ v ∷ u ∷ x ∷ ws) s e = absurd (none-some s e)
+
+-- the same of a command and the words behind the replica
+abbrev AreOfCommand : Text → List Text → Command → Type 0
+AreOfCommand name words c = list_all is_word words ≡ true → (has_words c ≡ true) × ((name, words) ≡ script_spelled c)
+
+room_parts : (ws : List Text) (c : Command) → add_room_asked ws ≡ Some c → AreOfCommand (codes "room") ws c
+room_parts [] c e = absurd (none-some c e)
+room_parts (room ∷ []) c e = λ all_words.
+    let same = same_Some (AddRoom room) c e in
+    (sym (ap has_words same) ∙ (and_parts (is_word room) true all_words).0, ap script_spelled same)
+room_parts (w ∷ v ∷ ws) c e = absurd (none-some c e)
+
+-- a command whose words are shared has those of command lines
+shared_words : (c : Command) → is_shared c ≡ true
+    → (script_spelled c ≡ spelled c) × (has_words c ≡ (may_be_spelled c && list_all is_word (spelled c).1))
+shared_words (AddRoom room) h = absurd (false≢true h)
+shared_words (Submit b) h = absurd (false≢true h)
+shared_words (Cancel room id) h = (refl, refl)
+shared_words (Receive bytes) h = (refl, refl)
+shared_words (Commit count) h = (refl, refl)
+shared_words (Truncate count) h = (refl, refl)
+shared_words AskPosition h = (refl, refl)
+shared_words (BatchFor position max_lines) h = (refl, refl)
+shared_words (Ask room question) h = (refl, refl)
+
+shared_parts : (name : Text) (ws : List Text) (c : Command) → IsSpelled name ws c → AreOfCommand name ws c
+shared_parts name ws c is = λ all_words.
+    let same = shared_words c is.shared in (
+      same.1 ∙ and_from (may_be_spelled c) (list_all is_word (spelled c).1) is.may_be (ap (λ p. list_all is_word p.1) (sym is.so) ∙ all_words),
+      is.so ∙ sym same.0,
     )
 
-deliver_parts : (t : Text) (s : Step) → deliver_step t ≡ Some s → (has_line s ≡ true) × (codes "deliver" ++ 32 ∷ t ≡ step_line s)
-deliver_parts t s e =
-    let (batch, batch_cut, e1) = bind_some (cut_batch t) (λ batch. (cut_server batch.1 >>= λ to. (byte_count_in to.1 >>= λ bytes. Some (Deliver batch.0 to.0 bytes)))) s e in
-    let (to, to_cut, e2) = bind_some (cut_server batch.1) (λ to. (byte_count_in to.1 >>= λ bytes. Some (Deliver batch.0 to.0 bytes))) s e1 in
-    let (n, is_n, last) = bind_some (byte_count_in to.1) (λ bytes. Some (Deliver batch.0 to.0 bytes)) s e2 in
-    let same = same_Some (Deliver batch.0 to.0 n) s last in
-    let b = cut_batch_parts t batch.0 batch.1 batch_cut in
-    let there = cut_server_parts batch.1 to.0 to.1 to_cut in
-    let l = length_parts to.1 n is_n in (
-      sym (ap has_line same) ∙ and_from (within 0 999_999_999 batch.0) (is_server to.0 && is_byte_count n) b.0 (and_from (is_server to.0) (is_byte_count n) there.0 l.0),
-      ap (λ (u : Text). codes "deliver" ++ 32 ∷ u) (b.1 ∙ ap (λ (u : Text). decimal batch.0 ++ 32 ∷ u) (there.1 ∙ ap (λ (u : Text). decimal to.0 ++ 32 ∷ u) l.1)) ∙ ap step_line same,
+server_parts : (name word : Text) (ws : List Text) (n : ℕ) (c : Command) → server_in word ≡ Some n → AreOfCommand name ws c
+    → AreOfLine name (word ∷ ws) (Step.Do n c)
+server_parts name word ws n c is parts = λ all_words.
+    let number = number_from_parts 1 99 word n is in
+    let found = parts (and_parts (is_word word) (list_all is_word ws) all_words).1 in (
+      and_from (has_words c) (is_server n) found.0 number.0,
+      ap (λ (w : Text). name ∷ w ∷ ws) number.1 ∙ ap (λ (p : Text × List Text). p.0 ∷ decimal n ∷ p.1) found.1,
     )
 
--- a line that begins with a server
-at_server_parts : (verb : Text) (f : ℕ → Text → Option Step)
-    → ((server : ℕ) (t : Text) (s : Step) → is_server server ≡ true → f server t ≡ Some s → (has_line s ≡ true) × (verb ++ 32 ∷ (decimal server ++ 32 ∷ t) ≡ step_line s))
-    → (t : Text) (s : Step) → (cut_server t >>= λ p. f p.0 p.1) ≡ Some s → (has_line s ≡ true) × (verb ++ 32 ∷ t ≡ step_line s)
-at_server_parts verb f parts t s e =
-    let (p, is_cut, more) = bind_some (cut_server t) (λ p. f p.0 p.1) s e in
-    let found = cut_server_parts t p.0 p.1 is_cut in
-    let rest = parts p.0 p.1 s found.0 more in
-    (rest.0, ap (λ (u : Text). verb ++ 32 ∷ u) found.1 ∙ rest.1)
+each_parts : EachRow AreOfLine script_rows
+each_parts = (
+  replica_parts,
+  (
+    batch_parts,
+    (
+      deliver_parts,
+      each_behind server_in Step.Do AreOfCommand AreOfLine server_parts script_commands
+          (room_parts, each_then IsSpelled AreOfCommand shared_parts shared_commands shared_spelled),
+    ),
+  ),
+)
 
-Parts : Text → Text → Step → Type 0
-Parts verb t s = (has_line s ≡ true) × (verb ++ 32 ∷ t ≡ step_line s)
+row_parts : (ws : List Text) (s : Step) → row_step ws ≡ Some s → (has_line s ≡ true) × (ws ≡ step_words s)
+row_parts [] s e = absurd (none-some s e)
+row_parts (name ∷ ws) s e =
+    if_some (nat_le (length ws) 3 && list_all is_word ws) (in_row script_rows name ws) None s e
+    (λ tests f. by_rows AreOfLine script_rows each_parts name ws s f (and_parts (nat_le (length ws) 3) (list_all is_word ws) tests).1)
+    (λ _ f. absurd (none-some s f))
 
-with_verb : (verb word t : Text) (s : Step) → bytes_eq verb word ≡ true → Parts word t s → Parts verb t s
-unfolding Parts
-with_verb verb word t s e parts = (parts.0, ap (λ (u : Text). u ++ 32 ∷ t) ((bytes_eq-Decides verb word).0 e) ∙ parts.1)
+-- a line of more words has no row, so that five words are enough
+pub five_words : (ws : List Text) → row_step (take 5 ws) ≡ row_step ws
+five_words [] = refl
+five_words (a ∷ []) = refl
+five_words (a ∷ b ∷ []) = refl
+five_words (a ∷ b ∷ c ∷ []) = refl
+five_words (a ∷ b ∷ c ∷ d ∷ []) = refl
+five_words (a ∷ b ∷ c ∷ d ∷ e ∷ ws) =
+    let long : nat_le (length (b ∷ c ∷ d ∷ e ∷ ws)) 3 ≡ false = lt-leb (length (b ∷ c ∷ d ∷ e ∷ ws)) 3 (omega arith) in
+    sym (cond-false (nat_le (length (b ∷ c ∷ d ∷ e ∷ ws)) 3 && list_all is_word (b ∷ c ∷ d ∷ e ∷ ws)) (in_row script_rows a (b ∷ c ∷ d ∷ e ∷ ws)) None
+    (ap (λ t. t && list_all is_word (b ∷ c ∷ d ∷ e ∷ ws)) long))
 
-exchange_parts : (verb t : Text) (s : Step) → exchange_by verb t ≡ Some s → Parts verb t s
-unfolding Parts
-exchange_parts verb t s e =
-    if_some (bytes_eq verb (codes "commit")) _ _ s e
-    (λ is f. with_verb verb (codes "commit") t s is (at_server_parts (codes "commit") commit_step commit_parts t s f))
-    (λ _ f. if_some (bytes_eq verb (codes "truncate")) _ _ s f
-    (λ is g. with_verb verb (codes "truncate") t s is (at_server_parts (codes "truncate") truncate_step truncate_parts t s g))
-    (λ _ g. if_some (bytes_eq verb (codes "position")) _ _ s g
-    (λ is h. with_verb verb (codes "position") t s is (position_parts t s h))
-    (λ _ h. if_some (bytes_eq verb (codes "batch")) _ _ s h
-    (λ is k. with_verb verb (codes "batch") t s is (at_server_parts (codes "batch") batch_step batch_parts t s k))
-    (λ _ k. if_some (bytes_eq verb (codes "deliver")) _ _ s k
-    (λ is l. with_verb verb (codes "deliver") t s is (deliver_parts t s l))
-    (λ _ l. absurd (none-some s l))))))
+row_line : (line : Text) (s : Step) → row_step (slice_split is_space line) ≡ Some s → (has_line s ≡ true) × (line ≡ step_line s)
+row_line line s e =
+    let parts = row_parts (slice_split is_space line) s e in
+    (parts.0, sym (join_with_byte-slice_split 32 line) ∙ ap words parts.1)
 
-question_parts : (verb t : Text) (s : Step) → question_step_by verb t ≡ Some s → Parts verb t s
-unfolding Parts
-question_parts verb t s e =
-    if_some (bytes_eq verb (codes "sheet")) _ _ s e
-    (λ is f. with_verb verb (codes "sheet") t s is (at_server_parts (codes "sheet") sheet_step sheet_parts t s f))
-    (λ _ f. if_some (bytes_eq verb (codes "calendar")) _ _ s f
-    (λ is g. with_verb verb (codes "calendar") t s is (at_server_parts (codes "calendar") calendar_step calendar_parts t s g))
-    (λ _ g. if_some (bytes_eq verb (codes "outcome")) _ _ s g
-    (λ is h. with_verb verb (codes "outcome") t s is (at_server_parts (codes "outcome") outcome_step outcome_parts t s h))
-    (λ _ h. if_some (bytes_eq verb (codes "errors")) _ _ s h
-    (λ is k. with_verb verb (codes "errors") t s is (at_server_parts (codes "errors") errors_step errors_parts t s k))
-    (λ _ k. exchange_parts verb t s k))))
-
-step_by_parts : (verb t : Text) (s : Step) → step_by verb t ≡ Some s → Parts verb t s
-unfolding Parts
-step_by_parts verb t s e =
-    if_some (bytes_eq verb (codes "replica")) _ _ s e
-    (λ is f. with_verb verb (codes "replica") t s is (replica_parts t s f))
-    (λ _ f. if_some (bytes_eq verb (codes "room")) _ _ s f
-    (λ is g. with_verb verb (codes "room") t s is (at_server_parts (codes "room") room_step room_parts t s g))
-    (λ _ g. if_some (bytes_eq verb (codes "book")) _ _ s g
-    (λ is h. with_verb verb (codes "book") t s is (at_server_parts (codes "book") book_step book_parts t s h))
-    (λ _ h. if_some (bytes_eq verb (codes "cancel")) _ _ s h
-    (λ is k. with_verb verb (codes "cancel") t s is (at_server_parts (codes "cancel") cancel_step cancel_parts t s k))
-    (λ _ k. question_parts verb t s k))))
+-- the step of a line whose first word and rest are these
+abbrev name_step : Text → Text × Text → Option Step
+name_step line p = if bytes_eq p.0 (codes "book") then book_step p.1 else row_step (slice_split is_space line)
 
 -- a line that was read is the line of its step
 pub step_in_parts : (line : Text) (s : Step) → step_in line ≡ Some s → (has_line s ≡ true) × (line ≡ step_line s)
-unfolding Parts
 step_in_parts line s e =
-    let (p, is_cut, more) = bind_some (cut_first_word line) (λ p. step_by p.0 p.1) s e in
-    let found = cut_parts line p.0 p.1 is_cut in
-    let parts = step_by_parts p.0 p.1 s more in
-    (parts.0, found.1 ∙ parts.1)
+    let (p, is_cut, more) = bind_some (cut_first_word line) (name_step line) s e in
+    if_some (bytes_eq p.0 (codes "book")) (book_step p.1) (row_step (slice_split is_space line)) s more
+    (λ books f. let parts = book_parts p.1 s f in
+    (parts.0, (cut_parts line p.0 p.1 is_cut).1 ∙ ap (λ (u : Text). u ++ 32 ∷ p.1) ((bytes_eq-Decides p.0 (codes "book")).0 books) ∙ parts.1))
+    (λ _ f. row_line line s f)
 
 -- ---- what stands in the text is read
 
@@ -402,19 +353,6 @@ booking_of b h =
     ∙ bound (number_of_slots u4) (length b.alternatives, u5) (λ k. (cut_slots k.0 k.1 >>= λ o. made (b.room, u2) (b.length, u3) (b.wish, u4) o)) (number_of_slots_of (length b.alternatives) u5 n.1)
     ∙ bound (cut_slots (length b.alternatives) u5) (b.alternatives, b.title) (made (b.room, u2) (b.length, u3) (b.wish, u4)) (cut_slots_of b.alternatives b.title a.1)
 
-part_word : (part : Part) → part_in (part_text part) ≡ Some part
-part_word Full = refl
-part_word Committed = refl
-
-count_word : (n : ℕ) → within 0 999_999_999_999 n ≡ true → number_from_to 0 999_999_999_999 (decimal n) ≡ Some n
-count_word n h = number_from_decimal 0 999_999_999_999 n h (within-below 0 999_999_999_999 n h (lit< tt))
-
-cut_batch_of : (n : ℕ) (rest : Text) → within 0 999_999_999 n ≡ true → cut_batch (decimal n ++ 32 ∷ rest) ≡ Some (n, rest)
-cut_batch_of n rest h =
-    let small = within-below 0 999_999_999 n h (lit< tt) in
-    bound (cut_first_word (decimal n ++ 32 ∷ rest)) (decimal n, rest) (λ p. (number_from_to 0 999_999_999 p.0 >>= λ m. Some (m, p.1))) (cut_of (decimal n) rest (decimal_word n small))
-    ∙ bound (number_from_to 0 999_999_999 (decimal n)) n (λ m. Some (m, rest)) (number_from_decimal 0 999_999_999 n h small)
-
 -- a number is not written as the word `all`
 number_not_all : (n : ℕ) → n < 2 ^ 64 → bytes_eq (decimal n) (codes "all") ≡ false
 number_not_all n small =
@@ -434,76 +372,110 @@ length_of n h = go (cases_Bool (eqb n all_bytes))
         ∙ cond-false (bytes_eq (decimal n) (codes "all")) (Some all_bytes) (number_from_to 0 999_999_999 (decimal n)) (number_not_all n (within-below 0 999_999_999 n number (lit< tt)))
         ∙ number_from_decimal 0 999_999_999 n number (within-below 0 999_999_999 n number (lit< tt))
 
-server_cut : (f : ℕ → Text → Option Step) (server : ℕ) (rest : Text) → is_server server ≡ true → (cut_server (decimal server ++ 32 ∷ rest) >>= λ p. f p.0 p.1) ≡ f server rest
-server_cut f server rest h = bound (cut_server (decimal server ++ 32 ∷ rest)) (server, rest) (λ p. f p.0 p.1) (cut_server_of server rest h)
+-- ---- lines of words
 
-verb_cut : (verb rest : Text) → is_word verb ≡ true → step_in (verb ++ 32 ∷ rest) ≡ step_by verb rest
-verb_cut verb rest h = bound (cut_first_word (verb ++ 32 ∷ rest)) (verb, rest) (λ p. step_by p.0 p.1) (cut_of verb rest h)
+lacks_space : (w : Text) → is_word w ≡ true → All (λ c. is_space c ≡ false) w
+lacks_space [] h = absurd (false≢true h)
+lacks_space (c ∷ cs) h = λ k d low. not-true _ (AllPass-from_list_all (λ x. not (is_space x)) (c ∷ cs) h k d low)
+
+-- words in a row are parted into just these
+words_split : (w : Text) (ws : List Text) → list_all is_word (w ∷ ws) ≡ true → slice_split is_space (words (w ∷ ws)) ≡ w ∷ ws
+words_split w [] h = slice_split_none is_space w (lacks_space w (and_parts (is_word w) true h).0)
+words_split w (v ∷ ws) h =
+    let both = and_parts (is_word w) (list_all is_word (v ∷ ws)) h in
+    slice_split_at is_space w 32 (words (v ∷ ws)) (lacks_space w both.0) refl ∙ ap (λ (us : List Text). w ∷ us) (words_split v ws both.1)
+
+-- a line of another name than a booking's is read by its row
+row_of : (name w : Text) (ws : List Text) (s : Step) → bytes_eq name (codes "book") ≡ false → is_word name ≡ true → nat_le (length (w ∷ ws)) 3 ≡ true
+    → list_all is_word (w ∷ ws) ≡ true → in_row script_rows name (w ∷ ws) ≡ Some s → step_in (words (name ∷ w ∷ ws)) ≡ Some s
+row_of name w ws s other is few all_words e =
+    let line : Text = words (name ∷ w ∷ ws) in
+    bound (cut_first_word line) (name, words (w ∷ ws)) (name_step line) (cut_of name (words (w ∷ ws)) is)
+    ∙ cond-false (bytes_eq name (codes "book")) (book_step (words (w ∷ ws))) (row_step (slice_split is_space line)) other
+    ∙ ap row_step (words_split name (w ∷ ws) (and_from (is_word name) (list_all is_word (w ∷ ws)) is all_words))
+    ∙ cond-true (nat_le (length (w ∷ ws)) 3 && list_all is_word (w ∷ ws)) (in_row script_rows name (w ∷ ws)) None (and_from _ _ few all_words)
+    ∙ e
+
+-- the line of a command to a replica
+command_of : (server : ℕ) (name : Text) (ws : List Text) (c : Command) → is_server server ≡ true → bytes_eq name (codes "book") ≡ false → is_word name ≡ true
+    → nat_le (suc (length ws)) 3 ≡ true → list_all is_word ws ≡ true → in_row script_rows name (decimal server ∷ ws) ≡ at_server (in_row script_commands name) (decimal server ∷ ws)
+    → in_row script_commands name ws ≡ Some c → step_in (words (name ∷ decimal server ∷ ws)) ≡ Some (Step.Do server c)
+command_of server name ws c h other is few all_words row e =
+    row_of name (decimal server) ws (Step.Do server c) other is few (and_from (is_word (decimal server)) (list_all is_word ws) (decimal_word server (server_small server h)) all_words)
+    (row ∙ bound (server_in (decimal server)) server (λ n. (in_row script_commands name ws >>= λ x. Some (Step.Do n x))) (server_word server h)
+    ∙ bound (in_row script_commands name ws) c (λ x. Some (Step.Do server x)) e)
+
+part_word : (part : Part) → part_in (part_text part) ≡ Some part
+part_word Full = refl
+part_word Committed = refl
+
+-- the line of each command of the table is read as that command
+command_line_of : (server : ℕ) (c : Command) → has_words c ≡ true → is_server server ≡ true → step_in (step_line (Step.Do server c)) ≡ Some (Step.Do server c)
+command_line_of server (AddRoom room) h n = command_of server (codes "room") (room ∷ []) (AddRoom room) n refl refl refl (and_from (is_word room) true h refl) refl refl
+command_line_of server (Submit b) h n =
+    let rest : Text = words (booking_words b) in
+    let line : Text = codes "book" ++ 32 ∷ (decimal server ++ 32 ∷ rest) in
+    bound (cut_first_word line) (codes "book", decimal server ++ 32 ∷ rest) (name_step line) (cut_of (codes "book") (decimal server ++ 32 ∷ rest) refl)
+    ∙ bound (cut_server (decimal server ++ 32 ∷ rest)) (server, rest) (λ p. (submission_cut p.1 >>= λ x. Some (Step.Do p.0 (Submit x)))) (cut_server_of server rest n)
+    ∙ bound (submission_cut rest) b (λ x. Some (Step.Do server (Submit x))) (booking_of b h)
+command_line_of server (Cancel room id) h n = command_of server (codes "cancel") (room ∷ id ∷ []) (Cancel room id) n refl refl refl h refl refl
+command_line_of server (Receive bytes) h n = absurd (false≢true h)
+command_line_of server (Commit count) h n =
+    let both = and_parts (nat_le count 999_999_999_999) (list_all is_word (decimal count ∷ [])) h in
+    command_of server (codes "commit") (decimal count ∷ []) (Commit count) n refl refl refl both.1 refl
+    (bound (commit_number_in (decimal count)) count (λ k. Some (Commit k)) (count_back count (leb-true count 999_999_999_999 both.0)))
+command_line_of server (Truncate count) h n =
+    let both = and_parts (nat_le count 999_999_999_999) (list_all is_word (decimal count ∷ [])) h in
+    command_of server (codes "truncate") (decimal count ∷ []) (Truncate count) n refl refl refl both.1 refl
+    (bound (commit_number_in (decimal count)) count (λ k. Some (Truncate k)) (count_back count (leb-true count 999_999_999_999 both.0)))
+command_line_of server AskPosition h n = command_of server (codes "position") [] AskPosition n refl refl refl refl refl refl
+command_line_of server (BatchFor position max_lines) h n = absurd (false≢true h)
+command_line_of server (Ask room (AskSheet day)) h n = command_of server (codes "sheet") (room ∷ day ∷ []) (Ask room (AskSheet day)) n refl refl refl h refl refl
+command_line_of server (Ask room (AskCalendar part)) h n =
+    command_of server (codes "calendar") (room ∷ part_text part ∷ []) (Ask room (AskCalendar part)) n refl refl refl h refl
+    (bound (part_in (part_text part)) part (λ p. Some (Ask room (AskCalendar p))) (part_word part))
+command_line_of server (Ask room (AskOutcome id)) h n = command_of server (codes "outcome") (room ∷ id ∷ []) (Ask room (AskOutcome id)) n refl refl refl h refl refl
+command_line_of server (Ask room AskErrors) h n = command_of server (codes "errors") (room ∷ []) (Ask room AskErrors) n refl refl refl h refl refl
+
+length_is_word : (n : ℕ) → is_byte_count n ≡ true → is_word (length_word n) ≡ true
+length_is_word n h = go (cases_Bool (eqb n all_bytes))
+  where
+    go : (eqb n all_bytes ≡ true) ⊎ (eqb n all_bytes ≡ false) → is_word (length_word n) ≡ true
+    go (inl e) = ap is_word (cond-true (eqb n all_bytes) (codes "all") (decimal n) e)
+    go (inr e) =
+        let number = or_none_right (within 0 999_999_999 n) (eqb n all_bytes) e h in
+        ap is_word (cond-false (eqb n all_bytes) (codes "all") (decimal n) e) ∙ decimal_word n (within-below 0 999_999_999 n number (lit< tt))
 
 -- the line of each step of the table is read as that step
 pub step_in_of : (s : Step) → has_line s ≡ true → step_in (step_line s) ≡ Some s
-step_in_of (Add server) h = verb_cut (codes "replica") (decimal server) refl ∙ bound (server_in (decimal server)) server (λ n. Some (Add n)) (server_word server h)
-step_in_of (Step.Do server (AddRoom room)) h =
-    let both = and_parts (is_server server) (is_word room) h in
-    verb_cut (codes "room") (decimal server ++ 32 ∷ room) refl ∙ server_cut room_step server room both.0
-    ∙ ap (λ b. only_if b (Step.Do server (AddRoom room))) both.1
-step_in_of (Step.Do server (Submit b)) h =
-    let both = and_parts (is_server server) (is_submission b) h in
-    let rest : Text = words (booking_words b) in
-    verb_cut (codes "book") (decimal server ++ 32 ∷ rest) refl ∙ server_cut book_step server rest both.0
-    ∙ bound (submission_cut rest) b (λ x. Some (Step.Do server (Submit x))) (booking_of b both.1)
-step_in_of (Step.Do server (Cancel room id)) h =
-    let both = and_parts (is_server server) (is_word room && is_word id) h in
-    let two = and_parts (is_word room) (is_word id) both.1 in
-    verb_cut (codes "cancel") (decimal server ++ 32 ∷ (room ++ 32 ∷ id)) refl ∙ server_cut cancel_step server (room ++ 32 ∷ id) both.0
-    ∙ bound (cut_first_word (room ++ 32 ∷ id)) (room, id) (λ p. only_if (is_word p.1) (Step.Do server (Cancel p.0 p.1))) (cut_of room id two.0)
-    ∙ ap (λ b. only_if b (Step.Do server (Cancel room id))) two.1
-step_in_of (Step.Do server (Ask room (AskSheet day))) h =
-    let both = and_parts (is_server server) (is_word room && is_word day) h in
-    let two = and_parts (is_word room) (is_word day) both.1 in
-    verb_cut (codes "sheet") (decimal server ++ 32 ∷ (room ++ 32 ∷ day)) refl ∙ server_cut sheet_step server (room ++ 32 ∷ day) both.0
-    ∙ bound (cut_first_word (room ++ 32 ∷ day)) (room, day) (λ p. only_if (is_word p.1) (Step.Do server (Ask p.0 (AskSheet p.1)))) (cut_of room day two.0)
-    ∙ ap (λ b. only_if b (Step.Do server (Ask room (AskSheet day)))) two.1
-step_in_of (Step.Do server (Ask room (AskCalendar part))) h =
-    let both = and_parts (is_server server) (is_word room) h in
-    verb_cut (codes "calendar") (decimal server ++ 32 ∷ (room ++ 32 ∷ part_text part)) refl ∙ server_cut calendar_step server (room ++ 32 ∷ part_text part) both.0
-    ∙ bound (cut_first_word (room ++ 32 ∷ part_text part)) (room, part_text part) (λ p. (part_in p.1 >>= λ x. Some (Step.Do server (Ask p.0 (AskCalendar x))))) (cut_of room (part_text part) both.1)
-    ∙ bound (part_in (part_text part)) part (λ x. Some (Step.Do server (Ask room (AskCalendar x)))) (part_word part)
-step_in_of (Step.Do server (Ask room (AskOutcome id))) h =
-    let both = and_parts (is_server server) (is_word room && is_word id) h in
-    let two = and_parts (is_word room) (is_word id) both.1 in
-    verb_cut (codes "outcome") (decimal server ++ 32 ∷ (room ++ 32 ∷ id)) refl ∙ server_cut outcome_step server (room ++ 32 ∷ id) both.0
-    ∙ bound (cut_first_word (room ++ 32 ∷ id)) (room, id) (λ p. only_if (is_word p.1) (Step.Do server (Ask p.0 (AskOutcome p.1)))) (cut_of room id two.0)
-    ∙ ap (λ b. only_if b (Step.Do server (Ask room (AskOutcome id)))) two.1
-step_in_of (Step.Do server (Ask room AskErrors)) h =
-    let both = and_parts (is_server server) (is_word room) h in
-    verb_cut (codes "errors") (decimal server ++ 32 ∷ room) refl ∙ server_cut errors_step server room both.0
-    ∙ ap (λ b. only_if b (Step.Do server (Ask room AskErrors))) both.1
-step_in_of (Step.Do server (Commit count)) h =
-    let both = and_parts (is_server server) (within 0 999_999_999_999 count) h in
-    verb_cut (codes "commit") (decimal server ++ 32 ∷ decimal count) refl ∙ server_cut commit_step server (decimal count) both.0
-    ∙ bound (number_from_to 0 999_999_999_999 (decimal count)) count (λ n. Some (Step.Do server (Commit n))) (count_word count both.1)
-step_in_of (Step.Do server (Truncate count)) h =
-    let both = and_parts (is_server server) (within 0 999_999_999_999 count) h in
-    verb_cut (codes "truncate") (decimal server ++ 32 ∷ decimal count) refl ∙ server_cut truncate_step server (decimal count) both.0
-    ∙ bound (number_from_to 0 999_999_999_999 (decimal count)) count (λ n. Some (Step.Do server (Truncate n))) (count_word count both.1)
-step_in_of (Step.Do server AskPosition) h =
-    verb_cut (codes "position") (decimal server) refl ∙ bound (server_in (decimal server)) server (λ n. Some (Step.Do n AskPosition)) (server_word server h)
+step_in_of (Add server) h =
+    row_of (codes "replica") (decimal server) [] (Add server) refl refl refl (and_from (is_word (decimal server)) true (decimal_word server (server_small server h)) refl)
+    (bound (server_in (decimal server)) server (λ n. Some (Add n)) (server_word server h))
+step_in_of (Step.Do server c) h =
+    let both = and_parts (has_words c) (is_server server) h in
+    command_line_of server c both.0 both.1
 step_in_of (Make from to max_lines) h =
     let both = and_parts (is_server from) (is_server to && within 1 100_000 max_lines) h in
     let two = and_parts (is_server to) (within 1 100_000 max_lines) both.1 in
-    verb_cut (codes "batch") (decimal from ++ 32 ∷ (decimal to ++ 32 ∷ decimal max_lines)) refl ∙ server_cut batch_step from (decimal to ++ 32 ∷ decimal max_lines) both.0
-    ∙ bound (cut_server (decimal to ++ 32 ∷ decimal max_lines)) (to, decimal max_lines) (λ p. (number_from_to 1 100_000 p.1 >>= λ m. Some (Make from p.0 m))) (cut_server_of to (decimal max_lines) two.0)
-    ∙ bound (number_from_to 1 100_000 (decimal max_lines)) max_lines (λ m. Some (Make from to m)) (number_from_decimal 1 100_000 max_lines two.1 (within-below 1 100_000 max_lines two.1 (lit< tt)))
+    let small = within-below 1 100_000 max_lines two.1 (lit< tt) in
+    row_of (codes "batch") (decimal from) (decimal to ∷ decimal max_lines ∷ []) (Make from to max_lines) refl refl refl
+    (and_from (is_word (decimal from)) (is_word (decimal to) && (is_word (decimal max_lines) && true)) (decimal_word from (server_small from both.0))
+    (and_from (is_word (decimal to)) (is_word (decimal max_lines) && true) (decimal_word to (server_small to two.0))
+    (and_from (is_word (decimal max_lines)) true (decimal_word max_lines small) refl)))
+    (bound (server_in (decimal from)) from (λ f. (server_in (decimal to) >>= λ t. (line_count_in (decimal max_lines) >>= λ n. Some (Make f t n)))) (server_word from both.0)
+    ∙ bound (server_in (decimal to)) to (λ t. (line_count_in (decimal max_lines) >>= λ n. Some (Make from t n))) (server_word to two.0)
+    ∙ bound (line_count_in (decimal max_lines)) max_lines (λ n. Some (Make from to n)) (number_from_decimal 1 100_000 max_lines two.1 small))
 step_in_of (Deliver batch to bytes) h =
     let both = and_parts (within 0 999_999_999 batch) (is_server to && is_byte_count bytes) h in
     let two = and_parts (is_server to) (is_byte_count bytes) both.1 in
-    let rest : Text = decimal to ++ 32 ∷ length_word bytes in
-    verb_cut (codes "deliver") (decimal batch ++ 32 ∷ rest) refl
-    ∙ bound (cut_batch (decimal batch ++ 32 ∷ rest)) (batch, rest) (λ b. (cut_server b.1 >>= λ p. (byte_count_in p.1 >>= λ n. Some (Deliver b.0 p.0 n)))) (cut_batch_of batch rest both.0)
-    ∙ bound (cut_server rest) (to, length_word bytes) (λ p. (byte_count_in p.1 >>= λ n. Some (Deliver batch p.0 n))) (cut_server_of to (length_word bytes) two.0)
-    ∙ bound (byte_count_in (length_word bytes)) bytes (λ n. Some (Deliver batch to n)) (length_of bytes two.1)
-step_in_of _ h = absurd (false≢true h)
+    let small = within-below 0 999_999_999 batch both.0 (lit< tt) in
+    row_of (codes "deliver") (decimal batch) (decimal to ∷ length_word bytes ∷ []) (Deliver batch to bytes) refl refl refl
+    (and_from (is_word (decimal batch)) (is_word (decimal to) && (is_word (length_word bytes) && true)) (decimal_word batch small)
+    (and_from (is_word (decimal to)) (is_word (length_word bytes) && true) (decimal_word to (server_small to two.0))
+    (and_from (is_word (length_word bytes)) true (length_is_word bytes two.1) refl)))
+    (bound (batch_number_in (decimal batch)) batch (λ b. (server_in (decimal to) >>= λ t. (byte_count_in (length_word bytes) >>= λ n. Some (Deliver b t n)))) (number_from_decimal 0 999_999_999 batch both.0 small)
+    ∙ bound (server_in (decimal to)) to (λ t. (byte_count_in (length_word bytes) >>= λ n. Some (Deliver batch t n))) (server_word to two.0)
+    ∙ bound (byte_count_in (length_word bytes)) bytes (λ n. Some (Deliver batch to n)) (length_of bytes two.1))
 
 -- ---- lines of the table
 

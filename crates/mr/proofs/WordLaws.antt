@@ -6,7 +6,7 @@ use Rattle.std.proofs.lemmas.Slice.Eq.{bytes_eq-Decides}
 use Rattle.std.specs.Prelude.{decimal}
 use Rattle.std.specs.Str.{bytes_eq}
 use Rattle.std.specs.List.{list_all, list_any}
-use Rattle.mr_model.specs.Texts.{Text, is_space, first_word, after_word, number_in, within, only_if}
+use Rattle.mr_model.specs.Texts.{Text, is_space, first_word, after_word, within, only_if}
 use Rattle.mr_model.proofs.WordsReadBack.{Plain, decimal-plain, number-decimal}
 use Rattle.mr_model.proofs.BatchesReadBack.{only_if_some}
 use Rattle.mr.specs.RehearsalScript.{is_word}
@@ -76,13 +76,6 @@ cut_parts t w rest e =
     (sym (ap is_word first) ∙ tests.0, joined t tests.1 ∙ ap (λ (u : Text). u ++ 32 ∷ after_word t) first ∙ ap (λ (u : Text). w ++ 32 ∷ u) after)
 
 -- ---- numbers
-
--- a number that was read is within its range, and is written so
-pub number_from_parts : (low high : ℕ) (t : Text) (n : ℕ) → number_from_to low high t ≡ Some n → (within low high n ≡ true) × (t ≡ decimal n)
-number_from_parts low high t n e =
-    let o = only_if_some (within low high (number_in t) && bytes_eq (decimal (number_in t)) t) (number_in t) n e in
-    let tests = and_parts (within low high (number_in t)) (bytes_eq (decimal (number_in t)) t) o.0 in
-    (sym (ap (within low high) o.1) ∙ tests.0, sym ((bytes_eq-Decides (decimal (number_in t)) t).0 tests.1) ∙ ap decimal o.1)
 
 -- a number within its range is read from its text
 pub number_from_decimal : (low high n : ℕ) → within low high n ≡ true → n < 2 ^ 64 → number_from_to low high (decimal n) ≡ Some n

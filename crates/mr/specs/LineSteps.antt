@@ -1,12 +1,11 @@
--- How a line of a script is read, word for word.
-use Rattle.std.specs.Prelude.{ℕ, zero, suc, ◌&&◌, if◌then◌else◌, List, [], ◌∷◌, codes, bytes_eq, Option, Some, None}
-use Rattle.std.specs.List.{list_any}
+-- How a line of a script is read.
+use Rattle.std.specs.Prelude.{ℕ, zero, suc, ◌&&◌, if◌then◌else◌, nat_le, List, [], ◌∷◌, ◌++◌, length, map, codes, bytes_eq, Option, Some, None}
+use Rattle.std.specs.List.{list_all, list_any, slice_split}
 use Rattle.mr_model.specs.Texts.{Text, is_space, first_word, after_word, only_if}
-use Rattle.mr_model.specs.View.{AskSheet, AskCalendar, AskOutcome, AskErrors}
-use Rattle.mr_model.specs.Step.{AddRoom, Submit, Cancel, Commit, Truncate, AskPosition, Ask, Submission, SlotWords}
+use Rattle.mr_model.specs.Step.{Command, Submit, Submission, SlotWords}
 use Rattle.mr_model.specs.World.{Step, Add, Make, Deliver}
 use Rattle.mr_base.specs.Readings.{number_from_to}
-use Rattle.mr_words.specs.CommandTable.{◌>>=◌, server_in, commit_number_in, line_count_in, part_in}
+use Rattle.mr_words.specs.CommandTable.{◌>>=◌, NamedRows, add_room_asked, behind_word, in_row, line_count_in, server_in, shared_commands}
 use Rattle.mr.specs.RehearsalScript.{is_word, all_bytes}
 
 -- the first word, and what follows the space behind it
@@ -38,84 +37,53 @@ submission_cut t =
     (cut_slots k.0 k.1 >>= λ others.
     Some (record { room = room.0; title = others.1; length = minutes.0; wish = wish.0; alternatives = others.0 })))))
 
-abbrev pub room_step : ℕ → Text → Option Step
-room_step server t = only_if (is_word t) (Step.Do server (AddRoom t))
+-- the step of a line that books, from what stands behind `book`
+abbrev pub book_step : Text → Option Step
+book_step t = cut_server t >>= λ p. (submission_cut p.1 >>= λ booking. Some (Step.Do p.0 (Submit booking)))
 
-abbrev pub sheet_step : ℕ → Text → Option Step
-sheet_step server t = cut_first_word t >>= λ room. only_if (is_word room.1) (Step.Do server (Ask room.0 (AskSheet room.1)))
+-- ---- the other lines, from the words behind their names
 
-abbrev pub book_step : ℕ → Text → Option Step
-book_step server t = submission_cut t >>= λ booking. Some (Step.Do server (Submit booking))
+abbrev pub replica_step : List Text → Option Step
+replica_step (server ∷ []) = server_in server >>= λ s. Some (Add s)
+replica_step _ = None
 
-abbrev pub cancel_step : ℕ → Text → Option Step
-cancel_step server t = cut_first_word t >>= λ room. only_if (is_word room.1) (Step.Do server (Cancel room.0 room.1))
+abbrev pub batch_step : List Text → Option Step
+batch_step (from ∷ to ∷ lines ∷ []) = server_in from >>= λ f. (server_in to >>= λ t. (line_count_in lines >>= λ n. Some (Make f t n)))
+batch_step _ = None
 
-abbrev pub calendar_step : ℕ → Text → Option Step
-calendar_step server t = cut_first_word t >>= λ room. (part_in room.1 >>= λ part. Some (Step.Do server (Ask room.0 (AskCalendar part))))
-
-abbrev pub outcome_step : ℕ → Text → Option Step
-outcome_step server t = cut_first_word t >>= λ room. only_if (is_word room.1) (Step.Do server (Ask room.0 (AskOutcome room.1)))
-
-abbrev pub errors_step : ℕ → Text → Option Step
-errors_step server t = only_if (is_word t) (Step.Do server (Ask t AskErrors))
-
-abbrev pub commit_step : ℕ → Text → Option Step
-commit_step server t = commit_number_in t >>= λ count. Some (Step.Do server (Commit count))
-
-abbrev pub truncate_step : ℕ → Text → Option Step
-truncate_step server t = commit_number_in t >>= λ count. Some (Step.Do server (Truncate count))
-
-abbrev pub position_step : Text → Option Step
-position_step t = server_in t >>= λ server. Some (Step.Do server AskPosition)
-
-abbrev pub batch_step : ℕ → Text → Option Step
-batch_step from t = cut_server t >>= λ to. (line_count_in to.1 >>= λ max_lines. Some (Make from to.0 max_lines))
+abbrev pub batch_number_in : Text → Option ℕ
+batch_number_in t = number_from_to 0 999_999_999 t
 
 -- how many bytes of a batch
 abbrev pub byte_count_in : Text → Option ℕ
 byte_count_in t = if bytes_eq t (codes "all") then Some all_bytes else number_from_to 0 999_999_999 t
 
--- the number of a batch, and what follows
-abbrev pub cut_batch : Text → Option (ℕ × Text)
-cut_batch t = cut_first_word t >>= λ p. (number_from_to 0 999_999_999 p.0 >>= λ n. Some (n, p.1))
+abbrev pub deliver_step : List Text → Option Step
+deliver_step (batch ∷ to ∷ bytes ∷ []) = batch_number_in batch >>= λ b. (server_in to >>= λ t. (byte_count_in bytes >>= λ n. Some (Deliver b t n)))
+deliver_step _ = None
 
-abbrev pub deliver_step : Text → Option Step
-deliver_step t = cut_batch t >>= λ batch. (cut_server batch.1 >>= λ to. (byte_count_in to.1 >>= λ bytes. Some (Deliver batch.0 to.0 bytes)))
+-- commands to a replica, by the words behind its number
+abbrev pub script_commands : NamedRows Command
+script_commands = (codes "room", add_room_asked) ∷ shared_commands
 
-abbrev pub replica_step : Text → Option Step
-replica_step t = server_in t >>= λ server. Some (Add server)
+-- a replica's number, and the words of a command to it
+abbrev pub at_server : (List Text → Option Command) → List Text → Option Step
+at_server command_of words = behind_word server_in Step.Do command_of words
 
--- the step of a line that begins with a server, from that and what follows it
-abbrev pub at_server : (ℕ → Text → Option Step) → Text → Option Step
-at_server f t = cut_server t >>= λ p. f p.0 p.1
+-- rows that no command line has
+abbrev pub own_rows : NamedRows Step
+own_rows = (codes "replica", replica_step) ∷ (codes "batch", batch_step) ∷ (codes "deliver", deliver_step) ∷ []
 
--- the step of a line that begins with this word: what replicas exchange and commit
-abbrev pub exchange_by : Text → Text → Option Step
-exchange_by verb t =
-    if bytes_eq verb (codes "commit") then at_server commit_step t
-    else (if bytes_eq verb (codes "truncate") then at_server truncate_step t
-    else (if bytes_eq verb (codes "position") then position_step t
-    else (if bytes_eq verb (codes "batch") then at_server batch_step t
-    else (if bytes_eq verb (codes "deliver") then deliver_step t
-    else None))))
+abbrev pub script_rows : NamedRows Step
+script_rows = own_rows ++ map (λ command. (command.0, at_server command.1)) script_commands
 
--- questions about a room, and the others
-abbrev pub question_step_by : Text → Text → Option Step
-question_step_by verb t =
-    if bytes_eq verb (codes "sheet") then at_server sheet_step t
-    else (if bytes_eq verb (codes "calendar") then at_server calendar_step t
-    else (if bytes_eq verb (codes "outcome") then at_server outcome_step t
-    else (if bytes_eq verb (codes "errors") then at_server errors_step t
-    else exchange_by verb t)))
+-- no row has more than three words behind its name, and each has a byte at least
+abbrev pub row_step : List Text → Option Step
+row_step [] = None
+row_step (name ∷ words) = if nat_le (length words) 3 && list_all is_word words then in_row script_rows name words else None
 
-abbrev pub step_by : Text → Text → Option Step
-step_by verb t =
-    if bytes_eq verb (codes "replica") then replica_step t
-    else (if bytes_eq verb (codes "room") then at_server room_step t
-    else (if bytes_eq verb (codes "book") then at_server book_step t
-    else (if bytes_eq verb (codes "cancel") then at_server cancel_step t
-    else question_step_by verb t)))
+-- ---- any line
 
 -- the step of a line, if it is of the table
 abbrev pub step_in : Text → Option Step
-step_in line = cut_first_word line >>= λ p. step_by p.0 p.1
+step_in line = cut_first_word line >>= λ p. (if bytes_eq p.0 (codes "book") then book_step p.1 else row_step (slice_split is_space line))

@@ -3,10 +3,9 @@ use Rattle.std.specs.Prelude.{◌≡◌, ℕ, ◌+◌, Bool, true, false, not, �
 use Rattle.std.specs.List.{list_all, slice_split}
 use Rattle.mr_model.specs.Texts.{Text, within, is_space, words}
 use Rattle.mr_model.specs.Writes.{is_server}
-use Rattle.mr_model.specs.Replies.{part_text}
-use Rattle.mr_model.specs.View.{AskSheet, AskCalendar, AskOutcome, AskErrors}
-use Rattle.mr_model.specs.Step.{AddRoom, Submit, Cancel, Commit, Truncate, AskPosition, Ask, Submission, SlotWords}
+use Rattle.mr_model.specs.Step.{Command, AddRoom, Submit, Submission, SlotWords}
 use Rattle.mr_model.specs.World.{Step, Add, Make, Deliver}
+use Rattle.mr_words.specs.CommandSpelling.{spelled, may_be_spelled}
 
 -- ---- lines
 
@@ -46,21 +45,18 @@ all_bytes = 18_446_744_073_709_551_615
 abbrev pub length_word : ℕ → Text
 length_word n = if n == all_bytes then codes "all" else decimal n
 
+-- a command to a replica in words, as in a command line but for the rows of rooms and bookings: the name of its line, and the words behind
+-- the replica
+abbrev pub script_spelled : Command → Text × List Text
+script_spelled (AddRoom room) = (codes "room", room ∷ [])
+script_spelled (Submit booking) = (codes "book", booking_words booking)
+script_spelled command = spelled command
+
 abbrev pub step_words : Step → List Text
 step_words (Add server) = codes "replica" ∷ decimal server ∷ []
-step_words (Step.Do server (AddRoom room)) = codes "room" ∷ decimal server ∷ room ∷ []
-step_words (Step.Do server (Submit booking)) = codes "book" ∷ decimal server ∷ booking_words booking
-step_words (Step.Do server (Cancel room id)) = codes "cancel" ∷ decimal server ∷ room ∷ id ∷ []
-step_words (Step.Do server (Ask room (AskSheet day))) = codes "sheet" ∷ decimal server ∷ room ∷ day ∷ []
-step_words (Step.Do server (Ask room (AskCalendar part))) = codes "calendar" ∷ decimal server ∷ room ∷ part_text part ∷ []
-step_words (Step.Do server (Ask room (AskOutcome id))) = codes "outcome" ∷ decimal server ∷ room ∷ id ∷ []
-step_words (Step.Do server (Ask room AskErrors)) = codes "errors" ∷ decimal server ∷ room ∷ []
-step_words (Step.Do server (Commit count)) = codes "commit" ∷ decimal server ∷ decimal count ∷ []
-step_words (Step.Do server (Truncate count)) = codes "truncate" ∷ decimal server ∷ decimal count ∷ []
-step_words (Step.Do server AskPosition) = codes "position" ∷ decimal server ∷ []
+step_words (Step.Do server command) = (script_spelled command).0 ∷ decimal server ∷ (script_spelled command).1
 step_words (Make from to max_lines) = codes "batch" ∷ decimal from ∷ decimal to ∷ decimal max_lines ∷ []
 step_words (Deliver batch to bytes) = codes "deliver" ∷ decimal batch ∷ decimal to ∷ length_word bytes ∷ []
-step_words _ = []
 
 abbrev pub step_line : Step → Text
 step_line s = words (step_words s)
@@ -80,21 +76,17 @@ is_submission b =
 abbrev pub is_byte_count : ℕ → Bool
 is_byte_count n = within 0 999_999_999 n || n == all_bytes
 
+-- each of its words is one, and its numbers are within their limits
+abbrev pub has_words : Command → Bool
+has_words (AddRoom room) = is_word room
+has_words (Submit booking) = is_submission booking
+has_words command = may_be_spelled command && list_all is_word (spelled command).1
+
 abbrev pub has_line : Step → Bool
 has_line (Add server) = is_server server
-has_line (Step.Do server (AddRoom room)) = is_server server && is_word room
-has_line (Step.Do server (Submit booking)) = is_server server && is_submission booking
-has_line (Step.Do server (Cancel room id)) = is_server server && (is_word room && is_word id)
-has_line (Step.Do server (Ask room (AskSheet day))) = is_server server && (is_word room && is_word day)
-has_line (Step.Do server (Ask room (AskCalendar part))) = is_server server && is_word room
-has_line (Step.Do server (Ask room (AskOutcome id))) = is_server server && (is_word room && is_word id)
-has_line (Step.Do server (Ask room AskErrors)) = is_server server && is_word room
-has_line (Step.Do server (Commit count)) = is_server server && within 0 999_999_999_999 count
-has_line (Step.Do server (Truncate count)) = is_server server && within 0 999_999_999_999 count
-has_line (Step.Do server AskPosition) = is_server server
+has_line (Step.Do server command) = has_words command && is_server server
 has_line (Make from to max_lines) = is_server from && (is_server to && within 1 100_000 max_lines)
 has_line (Deliver batch to bytes) = within 0 999_999_999 batch && (is_server to && is_byte_count bytes)
-has_line _ = false
 
 -- the line is of the table, and this is its step
 pub record IsScriptLine (line : Text) (step : Step) : Type 0 where

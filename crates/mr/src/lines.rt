@@ -1,91 +1,32 @@
 //! Reads the lines of a script.
 
-ghost use Rattle.std.specs.Prelude.{◌≡◌, MatchOption, IfOk, Some, None};
+ghost use Rattle.std.specs.Prelude.{◌≡◌, MatchOption, IfOk, Some, None, map};
+ghost use Rattle.std.specs.List.{slice_split};
+ghost use Rattle.mr_model.specs.Texts.{is_space};
+ghost use Rattle.mr_service.specs.Asked.{local_of};
 ghost use Rattle.mr_service.specs.Stepping.{step_of};
-ghost use Rattle.mr.specs.LineSteps.{replica_step, room_step, sheet_step, book_step, cancel_step, calendar_step, outcome_step, errors_step, commit_step, truncate_step, position_step, batch_step, deliver_step, at_server, exchange_by, question_step_by, step_by, step_in};
+ghost use Rattle.mr_words.specs.CommandTable.{in_row};
+ghost use Rattle.mr.specs.LineSteps.{book_step, replica_step, batch_step, deliver_step, script_commands, at_server, script_rows, row_step, step_in};
 
-use crate::words::{Words, is_word, read_length};
+use crate::words::{Words, are_words, read_batch_number, read_length};
 use mr_service::{Local, Step};
-use mr_words::{read_count, read_line_count, read_part, read_server};
+use mr_words::{add_room, read_line_count, read_server, shared_command};
 use std::alloc::{AllocError, Global};
 
-/// The step that the line stands for, if it is of the table.
+/// The step that the line stands for, if it is of the table. A title may have spaces, so that the line of a booking is read word by word.
 pub(crate) fn read_step(alloc: Global, line: &str) -> Result<Option<Step>, AllocError>
     ensures { IfOk result (λ found. MatchOption found (step_in line.now ≡ None) (λ step. step_in line.now ≡ Some (step_of step))) }
 {
-    let mut words = Words::new(line);
-    match words.next() {
-        Some(verb) => step_by(alloc, verb, words),
+    let mut rest = Words::new(line);
+    match rest.next() {
+        Some("book") => book(alloc, rest),
+        Some(_) => other_step(alloc, line),
         None => Ok(None),
     }
 }
 
-/// The step of a line that begins with this word.
-fn step_by(alloc: Global, verb: &str, words: Words<'_>) -> Result<Option<Step>, AllocError>
-    ensures { IfOk result (λ found. MatchOption found (step_by verb.now words.entry ≡ None) (λ step. step_by verb.now words.entry ≡ Some (step_of step))) }
-{
-    match verb {
-        "replica" => Ok(replica(words)),
-        "room" => room(alloc, words),
-        "book" => book(alloc, words),
-        "cancel" => cancel(alloc, words),
-        _ => question_by(alloc, verb, words),
-    }
-}
-
-/// A question about a room, or what `exchange_by` reads.
-fn question_by(alloc: Global, verb: &str, words: Words<'_>) -> Result<Option<Step>, AllocError>
-    ensures { IfOk result (λ found. MatchOption found (question_step_by verb.now words.entry ≡ None)
-        (λ step. question_step_by verb.now words.entry ≡ Some (step_of step))) }
-{
-    match verb {
-        "sheet" => sheet(alloc, words),
-        "calendar" => calendar(alloc, words),
-        "outcome" => outcome(alloc, words),
-        "errors" => errors(alloc, words),
-        _ => Ok(exchange_by(verb, words)),
-    }
-}
-
-/// What replicas exchange and commit.
-fn exchange_by(verb: &str, words: Words<'_>) -> Option<Step>
-    ensures { MatchOption result (exchange_by verb.now words.entry ≡ None) (λ step. exchange_by verb.now words.entry ≡ Some (step_of step)) }
-{
-    match verb {
-        "commit" => commit(words),
-        "truncate" => truncate(words),
-        "position" => position(words),
-        "batch" => batch(words),
-        "deliver" => deliver(words),
-        _ => None,
-    }
-}
-
-fn replica(words: Words<'_>) -> Option<Step>
-    ensures { MatchOption result (replica_step words.entry ≡ None) (λ step. replica_step words.entry ≡ Some (step_of step)) }
-{
-    let server = read_server(words.rest())?;
-    Some(Step::Add(server))
-}
-
-fn room(alloc: Global, mut words: Words<'_>) -> Result<Option<Step>, AllocError>
-    ensures { IfOk result (λ found. MatchOption found (at_server room_step words.entry ≡ None)
-        (λ step. at_server room_step words.entry ≡ Some (step_of step))) }
-{
-    let Some(server) = words.server() else {
-        return Ok(None);
-    };
-    let room = words.rest();
-    if !is_word(room) {
-        return Ok(None);
-    }
-    let local = Local::AddRoom(String::from_str(alloc, room)?);
-    Ok(Some(Step::Do(server, local)))
-}
-
 fn book(alloc: Global, mut words: Words<'_>) -> Result<Option<Step>, AllocError>
-    ensures { IfOk result (λ found. MatchOption found (at_server book_step words.entry ≡ None)
-        (λ step. at_server book_step words.entry ≡ Some (step_of step))) }
+    ensures { IfOk result (λ found. MatchOption found (book_step words.entry ≡ None) (λ step. book_step words.entry ≡ Some (step_of step))) }
 {
     let Some(server) = words.server() else {
         return Ok(None);
@@ -96,130 +37,63 @@ fn book(alloc: Global, mut words: Words<'_>) -> Result<Option<Step>, AllocError>
     }
 }
 
-fn cancel(alloc: Global, mut words: Words<'_>) -> Result<Option<Step>, AllocError>
-    ensures { IfOk result (λ found. MatchOption found (at_server cancel_step words.entry ≡ None)
-        (λ step. at_server cancel_step words.entry ≡ Some (step_of step))) }
+/// The step of a line that is none of a booking. No row has a fifth word, so that no more are asked for.
+fn other_step(alloc: Global, line: &str) -> Result<Option<Step>, AllocError>
+    ensures { IfOk result (λ found. MatchOption found (row_step (slice_split is_space line.now) ≡ None)
+        (λ step. row_step (slice_split is_space line.now) ≡ Some (step_of step))) }
 {
-    let Some(server) = words.server() else {
+    let words: Vec<&str> = line.split(' ').take(5).collect(alloc)?;
+    row(alloc, words.as_slice())
+}
+
+/// The step of a line of these words.
+fn row(alloc: Global, words: &[&str]) -> Result<Option<Step>, AllocError>
+    ensures { IfOk result (λ found. MatchOption found (row_step (map (λ w. w.now) words.now) ≡ None)
+        (λ step. row_step (map (λ w. w.now) words.now) ≡ Some (step_of step))) }
+{
+    let [name, rest @ ..] = words else {
         return Ok(None);
     };
-    let Some(room) = words.next() else {
-        return Ok(None);
-    };
-    let id = words.rest();
-    if !is_word(id) {
+    if rest.len() > 3 || !are_words(rest) {
         return Ok(None);
     }
-    let local = Local::Cancel {
-        room: String::from_str(alloc, room)?,
-        id: String::from_str(alloc, id)?,
-    };
-    Ok(Some(Step::Do(server, local)))
+    row_of(alloc, name, rest)
 }
 
-fn sheet(alloc: Global, mut words: Words<'_>) -> Result<Option<Step>, AllocError>
-    ensures { IfOk result (λ found. MatchOption found (at_server sheet_step words.entry ≡ None)
-        (λ step. at_server sheet_step words.entry ≡ Some (step_of step))) }
+/// The step of the row of this name, if these words fit it.
+fn row_of(alloc: Global, name: &str, words: &[&str]) -> Result<Option<Step>, AllocError>
+    ensures { IfOk result (λ found. MatchOption found (in_row script_rows name.now (map (λ w. w.now) words.now) ≡ None)
+        (λ step. in_row script_rows name.now (map (λ w. w.now) words.now) ≡ Some (step_of step))) }
 {
-    let Some(server) = words.server() else {
-        return Ok(None);
-    };
-    let Some(room) = words.next() else {
-        return Ok(None);
-    };
-    let day = words.rest();
-    if !is_word(day) {
-        return Ok(None);
+    match name {
+        "replica" => Ok(replica(words)),
+        "batch" => Ok(batch(words)),
+        "deliver" => Ok(deliver(words)),
+        _ => at_server(alloc, name, words),
     }
-    let local = Local::Sheet {
-        room: String::from_str(alloc, room)?,
-        day: String::from_str(alloc, day)?,
-    };
-    Ok(Some(Step::Do(server, local)))
 }
 
-fn calendar(alloc: Global, mut words: Words<'_>) -> Result<Option<Step>, AllocError>
-    ensures { IfOk result (λ found. MatchOption found (at_server calendar_step words.entry ≡ None)
-        (λ step. at_server calendar_step words.entry ≡ Some (step_of step))) }
+fn replica(words: &[&str]) -> Option<Step>
+    ensures { MatchOption result (replica_step (map (λ w. w.now) words.now) ≡ None)
+        (λ step. replica_step (map (λ w. w.now) words.now) ≡ Some (step_of step)) }
 {
-    let Some(server) = words.server() else {
-        return Ok(None);
+    let [server] = words else {
+        return None;
     };
-    let Some(room) = words.next() else {
-        return Ok(None);
-    };
-    let Some(part) = read_part(words.rest()) else {
-        return Ok(None);
-    };
-    let room = String::from_str(alloc, room)?;
-    Ok(Some(Step::Do(server, Local::Calendar { room, part })))
+    let server = read_server(server)?;
+    Some(Step::Add(server))
 }
 
-fn outcome(alloc: Global, mut words: Words<'_>) -> Result<Option<Step>, AllocError>
-    ensures { IfOk result (λ found. MatchOption found (at_server outcome_step words.entry ≡ None)
-        (λ step. at_server outcome_step words.entry ≡ Some (step_of step))) }
+fn batch(words: &[&str]) -> Option<Step>
+    ensures { MatchOption result (batch_step (map (λ w. w.now) words.now) ≡ None)
+        (λ step. batch_step (map (λ w. w.now) words.now) ≡ Some (step_of step)) }
 {
-    let Some(server) = words.server() else {
-        return Ok(None);
+    let [from, to, lines] = words else {
+        return None;
     };
-    let Some(room) = words.next() else {
-        return Ok(None);
-    };
-    let id = words.rest();
-    if !is_word(id) {
-        return Ok(None);
-    }
-    let local = Local::Outcome {
-        room: String::from_str(alloc, room)?,
-        id: String::from_str(alloc, id)?,
-    };
-    Ok(Some(Step::Do(server, local)))
-}
-
-fn errors(alloc: Global, mut words: Words<'_>) -> Result<Option<Step>, AllocError>
-    ensures { IfOk result (λ found. MatchOption found (at_server errors_step words.entry ≡ None)
-        (λ step. at_server errors_step words.entry ≡ Some (step_of step))) }
-{
-    let Some(server) = words.server() else {
-        return Ok(None);
-    };
-    let name = words.rest();
-    if !is_word(name) {
-        return Ok(None);
-    }
-    let room = String::from_str(alloc, name)?;
-    Ok(Some(Step::Do(server, Local::Errors { room })))
-}
-
-fn commit(mut words: Words<'_>) -> Option<Step>
-    ensures { MatchOption result (at_server commit_step words.entry ≡ None) (λ step. at_server commit_step words.entry ≡ Some (step_of step)) }
-{
-    let server = words.server()?;
-    let count = read_count(words.rest())?;
-    Some(Step::Do(server, Local::Commit(count)))
-}
-
-fn truncate(mut words: Words<'_>) -> Option<Step>
-    ensures { MatchOption result (at_server truncate_step words.entry ≡ None) (λ step. at_server truncate_step words.entry ≡ Some (step_of step)) }
-{
-    let server = words.server()?;
-    let count = read_count(words.rest())?;
-    Some(Step::Do(server, Local::Truncate(count)))
-}
-
-fn position(words: Words<'_>) -> Option<Step>
-    ensures { MatchOption result (position_step words.entry ≡ None) (λ step. position_step words.entry ≡ Some (step_of step)) }
-{
-    let server = read_server(words.rest())?;
-    Some(Step::Do(server, Local::Position))
-}
-
-fn batch(mut words: Words<'_>) -> Option<Step>
-    ensures { MatchOption result (at_server batch_step words.entry ≡ None) (λ step. at_server batch_step words.entry ≡ Some (step_of step)) }
-{
-    let from = words.server()?;
-    let to = words.server()?;
-    let max_lines = read_line_count(words.rest())?;
+    let from = read_server(from)?;
+    let to = read_server(to)?;
+    let max_lines = read_line_count(lines)?;
     Some(Step::Make {
         from,
         to,
@@ -227,11 +101,43 @@ fn batch(mut words: Words<'_>) -> Option<Step>
     })
 }
 
-fn deliver(mut words: Words<'_>) -> Option<Step>
-    ensures { MatchOption result (deliver_step words.entry ≡ None) (λ step. deliver_step words.entry ≡ Some (step_of step)) }
+fn deliver(words: &[&str]) -> Option<Step>
+    ensures { MatchOption result (deliver_step (map (λ w. w.now) words.now) ≡ None)
+        (λ step. deliver_step (map (λ w. w.now) words.now) ≡ Some (step_of step)) }
 {
-    let batch = words.batch()?;
-    let to = words.server()?;
-    let bytes = read_length(words.rest())?;
+    let [batch, to, bytes] = words else {
+        return None;
+    };
+    let batch = read_batch_number(batch)?;
+    let to = read_server(to)?;
+    let bytes = read_length(bytes)?;
     Some(Step::Deliver { batch, to, bytes })
+}
+
+/// A replica's number, and a command to it.
+fn at_server(alloc: Global, name: &str, words: &[&str]) -> Result<Option<Step>, AllocError>
+    ensures { IfOk result (λ found. MatchOption found (at_server (in_row script_commands name.now) (map (λ w. w.now) words.now) ≡ None)
+        (λ step. at_server (in_row script_commands name.now) (map (λ w. w.now) words.now) ≡ Some (step_of step))) }
+{
+    let [server, rest @ ..] = words else {
+        return Ok(None);
+    };
+    let Some(server) = read_server(server) else {
+        return Ok(None);
+    };
+    match named_command(alloc, name, rest)? {
+        Some(local) => Ok(Some(Step::Do(server, local))),
+        None => Ok(None),
+    }
+}
+
+/// The command of the row of this name, if these words fit it.
+fn named_command(alloc: Global, name: &str, words: &[&str]) -> Result<Option<Local>, AllocError>
+    ensures { IfOk result (λ found. MatchOption found (in_row script_commands name.now (map (λ w. w.now) words.now) ≡ None)
+        (λ local. in_row script_commands name.now (map (λ w. w.now) words.now) ≡ Some (local_of local))) }
+{
+    match name {
+        "room" => add_room(alloc, words),
+        _ => shared_command(alloc, name, words),
+    }
 }

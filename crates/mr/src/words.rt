@@ -3,7 +3,7 @@ ghost use Rattle.std.specs.List.{list_all};
 ghost use Rattle.mr_model.specs.Texts.{is_space};
 ghost use Rattle.mr_service.specs.Asked.{words_of, submission_of};
 ghost use Rattle.mr.specs.RehearsalScript.{is_word};
-ghost use Rattle.mr.specs.LineSteps.{cut_first_word, cut_server, cut_batch, byte_count_in, cut_slot, cut_slots, number_of_slots, submission_cut};
+ghost use Rattle.mr.specs.LineSteps.{cut_first_word, cut_server, batch_number_in, byte_count_in, cut_slot, cut_slots, number_of_slots, submission_cut};
 
 use mr_base::{ServerId, read_number};
 use mr_service::{SlotWords, Submission};
@@ -47,7 +47,7 @@ impl<'a> Words<'a> {
     }
 
     /// All that is left.
-    pub(crate) fn rest(self) -> &'a str
+    fn rest(self) -> &'a str
         ensures { result.now ≡ self.entry }
     {
         self.rest
@@ -59,14 +59,6 @@ impl<'a> Words<'a> {
     {
         let word = self.next()?;
         read_server(word)
-    }
-
-    /// The next word, where it is the number of a batch.
-    pub(crate) fn batch(&mut self) -> Option<u64>
-        ensures { MatchOption result (cut_batch self.old ≡ None) (λ batch. cut_batch self.old ≡ Some (batch, self.new)) }
-    {
-        let word = self.next()?;
-        read_number(word, 0, 999_999_999)
     }
 
     /// The next word, where it is a number of alternatives.
@@ -138,8 +130,14 @@ impl<'a> Words<'a> {
     }
 }
 
-/// Whether the text has one byte at least, and no space.
-pub(crate) fn is_word(text: &str) -> bool
+/// Whether each text has one byte at least, and no space.
+pub(crate) fn are_words(texts: &[&str]) -> bool
+    ensures { result ≡ list_all is_word (map (λ t. t.now) texts.now) }
+{
+    texts.iter().all(|text| is_word(text))
+}
+
+fn is_word(text: &str) -> bool
     ensures { result ≡ is_word text.now }
 {
     !text.is_empty() && has_no_space(text.as_bytes())
@@ -149,6 +147,13 @@ fn has_no_space(text: &[u8]) -> bool
     ensures { result ≡ list_all (λ c. not (is_space c)) text.now }
 {
     text.iter().all(|byte| *byte != b' ')
+}
+
+/// The number of a batch that the text writes.
+pub(crate) fn read_batch_number(text: &str) -> Option<u64>
+    ensures { result ≡ batch_number_in text.now }
+{
+    read_number(text, 0, 999_999_999)
 }
 
 /// The number of bytes that the text writes; `all` is more than any batch has.

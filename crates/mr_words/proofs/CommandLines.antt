@@ -1,12 +1,11 @@
 -- Command lines of which no word is read as a flag: what clap made of them is what they ask for.
 use Rattle.std.proofs.Common.{arith, cond, ◌≡◌, refl, sym, ap, ap₂, subst, ◌∙◌, ◌≤◌, Bool, true, false, List, [], ◌∷◌, length, map, Option, Some, None, option_map}
-use Rattle.std.specs.Prelude.{find, codes, unwrap_or}
+use Rattle.std.specs.Prelude.{find, unwrap_or}
 use Rattle.std.specs.Str.{bytes_eq}
 use Rattle.std.proofs.lemmas.Bool.{false≢true}
 use Rattle.std.proofs.lemmas.Option.{none-some, same_Some}
 use Rattle.std.proofs.lemmas.Slice.Eq.{bytes_eq-Decides}
 use Rattle.mr_model.specs.Texts.{Text}
-use Rattle.mr_model.specs.Step.{Command}
 use Rattle.clap.specs.Lexer.{usize_max}
 use Rattle.clap.specs.Facts.{Entry}
 use Rattle.clap.specs.Walk.{row_of}
@@ -16,37 +15,10 @@ use Rattle.clap.specs.Words.{fault_of, subcommand_of, subcommand_name_of, subcom
 use Rattle.clap.specs.declared.error.ErrorKind.{ErrorKind}
 use Rattle.clap.specs.declared.parser.ArgMatches.{ArgMatches}
 use Rattle.clap.specs.declared.parser.ArgMatches.TheViews.{out-ArgMatches}
-use Rattle.mr_words.specs.CommandTable.{NamedRows, asking, commands, in_row, table, invocation_of, has_no_flag, init_row, export_row, import_row, rehearse_row, serve_row, exchange_row, bridge_row}
-use Rattle.mr_words.specs.InvocationRead.{NamesRow, row_by, words_in}
+use Rattle.mr_words.specs.CommandTable.{NamedRows, in_row, table, invocation_of, has_no_flag}
+use Rattle.mr_words.specs.InvocationRead.{NamesRow, words_in}
 use Rattle.mr_words.specs.Grammar.{program, row_names}
 use Rattle.mr_words.proofs.FlaglessWords.{named, named_is, none_faults, unknown_faults, found_rows, found_free, first_plain, row_matches, words_back, words_id}
-
--- ---- the table by its names
-
-asking_next : (b : Bool) (f g : List Text → Option Command) (words : List Text)
-    → cond b (asking f words) (asking g words) ≡ asking (λ rest. cond b (f rest) (g rest)) words
-asking_next true f g words = refl
-asking_next false f g words = refl
-
-asking_none : (words : List Text) → None ≡ asking (λ rest. None) words
-asking_none [] = refl
-asking_none (database ∷ words) = refl
-
--- a row of commands is read as the commands are, behind a database
-asking_rows : (rows : NamedRows Command) (name : Text) (words : List Text)
-    → in_row (map (λ command. (command.0, asking command.1)) rows) name words ≡ asking (in_row rows name) words
-asking_rows [] name words = asking_none words
-asking_rows (row ∷ rows) name words =
-    ap (cond (bytes_eq name row.0) (asking row.1 words)) (asking_rows rows name words)
-    ∙ asking_next (bytes_eq name row.0) row.1 (in_row rows name) words
-
-pub row_is : (name : Text) (words : List Text) → in_row table name words ≡ row_by name words
-row_is name words =
-    ap (λ others. cond (bytes_eq name (codes "init")) (init_row words) (cond (bytes_eq name (codes "export")) (export_row words)
-    (cond (bytes_eq name (codes "import")) (import_row words) (cond (bytes_eq name (codes "rehearse")) (rehearse_row words)
-    (cond (bytes_eq name (codes "serve")) (serve_row words) (cond (bytes_eq name (codes "exchange")) (exchange_row words)
-    (cond (bytes_eq name (codes "bridge")) (bridge_row words) others)))))))
-    (asking_rows commands name words)
 
 -- ---- what clap makes of the words
 
@@ -105,11 +77,11 @@ name_of_rows m = both_maps _ (λ (p : Text × List Row). p.0) (out-ArgMatches m)
 -- what is answered for the row that clap found is answered for the words
 pub answered : (words : List Text) (m : ArgMatches) (name : Text) (rows : List Row) → NamesRow words m
     → Some name ≡ subcommand_name_of m → Some rows ≡ option_map (λ p. p.1) (subcommand_rows_of m)
-    → row_by name (words_in rows) ≡ invocation_of words
+    → in_row table name (words_in rows) ≡ invocation_of words
 answered words m name rows is named_so rows_so =
     let same_name : name ≡ is.0 = same_Some name is.0 (named_so ∙ name_of_rows m ∙ ap (option_map (λ (p : Text × List Row). p.0)) is.3) in
     let same_rows : rows ≡ is.1 = same_Some rows is.1 (rows_so ∙ ap (option_map (λ (p : Text × List Row). p.1)) is.3) in
-    ap₂ (λ (n : Text) (rs : List Row). row_by n (words_in rs)) same_name same_rows ∙ sym (row_is is.0 (words_in is.1)) ∙ ap invocation_of (sym is.2)
+    ap₂ (λ (n : Text) (rs : List Row). in_row table n (words_in rs)) same_name same_rows ∙ ap invocation_of (sym is.2)
 
 -- the words name a row, so clap found one
 pub found_one : (words : List Text) (m : ArgMatches) → NamesRow words m → None ≡ subcommand_name_of m → ⊥

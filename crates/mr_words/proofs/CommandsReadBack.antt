@@ -1,5 +1,5 @@
 -- A command line asks for what it was written for.
-use Rattle.std.proofs.Common.{◌≡◌, refl, sym, ap, ap₂, lit<, ◌∙◌, ℕ, ◌<◌, ◌≤◌, ◌≢◌, zero, suc, Bool, true, false, not, ◌||◌, List, [], ◌∷◌, length, get_or, map, Some, arith}
+use Rattle.std.proofs.Common.{◌≡◌, refl, sym, ap, ap₂, lit<, ◌∙◌, ℕ, ◌<◌, ◌≤◌, ◌≢◌, zero, suc, Bool, true, false, not, ◌||◌, List, [], ◌∷◌, length, get_or, map, Some, arith, leb-true}
 use Rattle.std.specs.Prelude.{decimal}
 use Rattle.std.specs.List.{list_all, list_any}
 use Rattle.std.proofs.lemmas.Bool.{and_parts, not-true, eqb-false, false≢true}
@@ -41,7 +41,7 @@ slots_back (s ∷ ss) e =
 server_back : (n : ℕ) → 1 ≤ n → n ≤ 99 → server_in (decimal n) ≡ Some n
 server_back n above below = number_from_to-decimal 1 99 n above below (lit< tt)
 
-count_back : (n : ℕ) → n ≤ 999_999_999_999 → commit_number_in (decimal n) ≡ Some n
+pub count_back : (n : ℕ) → n ≤ 999_999_999_999 → commit_number_in (decimal n) ≡ Some n
 count_back n below = number_from_to-decimal 0 999_999_999_999 n (omega arith) below (lit< tt)
 
 -- ---- all rows
@@ -63,14 +63,14 @@ lines_read_back (Ask database (AddRoom room)) h = refl
 lines_read_back (Ask database (Submit s)) h = ap (λ (ss : List SlotWords). Some (Ask database (Submit (record s { alternatives = ss })))) (slots_back s.alternatives h)
 lines_read_back (Ask database (Cancel room id)) h = refl
 lines_read_back (Ask database (Commit count)) h =
-    ap (λ o. (o >>= λ n. Some (Commit n)) >>= λ c. Some (Ask database c)) (count_back count h)
+    ap (λ o. (o >>= λ n. Some (Commit n)) >>= λ c. Some (Ask database c)) (count_back count (leb-true count 999_999_999_999 h))
 lines_read_back (Ask database (Truncate count)) h =
-    ap (λ o. (o >>= λ n. Some (Truncate n)) >>= λ c. Some (Ask database c)) (count_back count h)
+    ap (λ o. (o >>= λ n. Some (Truncate n)) >>= λ c. Some (Ask database c)) (count_back count (leb-true count 999_999_999_999 h))
 lines_read_back (Ask database AskPosition) h = refl
 lines_read_back (Ask database (step.Ask room (AskSheet day))) h = refl
 lines_read_back (Ask database (step.Ask room (AskCalendar Full))) h = refl
 lines_read_back (Ask database (step.Ask room (AskCalendar Committed))) h = refl
 lines_read_back (Ask database (step.Ask room (AskOutcome id))) h = refl
 lines_read_back (Ask database (step.Ask room AskErrors)) h = refl
-lines_read_back (Ask database (Receive bytes)) h = absurd h
-lines_read_back (Ask database (BatchFor position max_lines)) h = absurd h
+lines_read_back (Ask database (Receive bytes)) h = absurd (false≢true h)
+lines_read_back (Ask database (BatchFor position max_lines)) h = absurd (false≢true h)

@@ -1,5 +1,5 @@
 -- The table of command lines: what is asked for by the words after the program's name.
-use Rattle.std.specs.Prelude.{ℕ, Bool, false, not, ◌==◌, if◌then◌else◌, List, [], ◌∷◌, map, codes, bytes_eq, Option, Some, None, option_and_then}
+use Rattle.std.specs.Prelude.{ℕ, Bool, false, not, ◌==◌, if◌then◌else◌, List, [], ◌∷◌, ◌++◌, map, codes, bytes_eq, Option, Some, None, option_and_then}
 use Rattle.std.specs.List.{list_all, before_first, after_first}
 use Rattle.mr_model.specs.Texts.{Text}
 use Rattle.mr_model.specs.Replies.{Part, Full, Committed}
@@ -140,10 +140,14 @@ abbrev pub bridge_row : List Text → Option Invoked
 bridge_row (database ∷ other ∷ []) = Some (Bridge database other)
 bridge_row _ = None
 
+-- the first word, read like this, and what the others stand for
+abbrev pub behind_word : {A B C : Type 0} → (Text → Option A) → (A → B → C) → (List Text → Option B) → List Text → Option C
+behind_word first both others [] = None
+behind_word first both others (word ∷ words) = first word >>= λ a. (others words >>= λ b. Some (both a b))
+
 -- a database, and the words of a command to its replica
 abbrev pub asking : (List Text → Option Command) → List Text → Option Invoked
-asking command_of [] = None
-asking command_of (database ∷ words) = command_of words >>= λ c. Some (Ask database c)
+asking command_of words = behind_word Some Ask command_of words
 
 -- ---- the table
 
@@ -156,12 +160,10 @@ abbrev pub in_row : {A : Type 0} → NamedRows A → Text → List Text → Opti
 in_row [] name words = None
 in_row (row ∷ rows) name words = if bytes_eq name row.0 then row.1 words else in_row rows name words
 
--- commands to a replica, by the words behind the database
-abbrev pub commands : NamedRows Command
-commands =
-    (codes "add-room", add_room_asked)
-    ∷ (codes "book", booking_asked)
-    ∷ (codes "cancel", cancel_asked)
+-- commands to a replica, by the words behind the database, that have the same words in a script behind the replica's number
+abbrev pub shared_commands : NamedRows Command
+shared_commands =
+    (codes "cancel", cancel_asked)
     ∷ (codes "commit", commit_asked)
     ∷ (codes "truncate", truncation_asked)
     ∷ (codes "position", position_asked)
@@ -171,8 +173,13 @@ commands =
     ∷ (codes "errors", errors_asked)
     ∷ []
 
-abbrev pub table : NamedRows Invoked
-table =
+-- all commands to a replica
+abbrev pub commands : NamedRows Command
+commands = (codes "add-room", add_room_asked) ∷ (codes "book", booking_asked) ∷ shared_commands
+
+-- what is done with databases and files otherwise
+abbrev pub other_rows : NamedRows Invoked
+other_rows =
     (codes "init", init_row)
     ∷ (codes "export", export_row)
     ∷ (codes "import", import_row)
@@ -180,7 +187,10 @@ table =
     ∷ (codes "serve", serve_row)
     ∷ (codes "exchange", exchange_row)
     ∷ (codes "bridge", bridge_row)
-    ∷ map (λ command. (command.0, asking command.1)) commands
+    ∷ []
+
+abbrev pub table : NamedRows Invoked
+table = other_rows ++ map (λ command. (command.0, asking command.1)) commands
 
 -- what the words ask for, if they are of the table
 abbrev pub invocation_of : List Text → Option Invoked

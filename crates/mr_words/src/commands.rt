@@ -1,9 +1,8 @@
-//! The commands to a replica, read from the words behind the database.
+//! The commands to a replica, read from the words behind the database, or behind the replica's number in a script.
 
 ghost use Rattle.std.specs.Prelude.{◌≡◌, IfOk, MatchOption, Some, None, map};
 ghost use Rattle.mr_service.specs.Asked.{local_of};
-ghost use Rattle.mr_words.specs.CommandTable.{add_room_asked, booking_asked, cancel_asked, commit_asked, truncation_asked, position_asked, sheet_asked, calendar_asked, outcome_asked, errors_asked};
-ghost use Rattle.mr_words.specs.InvocationRead.{command_by, question_by};
+ghost use Rattle.mr_words.specs.CommandTable.{add_room_asked, booking_asked, cancel_asked, commit_asked, truncation_asked, position_asked, sheet_asked, calendar_asked, outcome_asked, errors_asked, in_row, shared_commands, commands};
 
 use crate::words::{read_count, read_part, slots};
 use mr_service::{Local, SlotWords, Submission};
@@ -15,26 +14,30 @@ pub(crate) fn command(
     name: &str,
     words: &[&str],
 ) -> Result<Option<Local>, AllocError>
-    ensures { IfOk result (λ found. MatchOption found (command_by name.now (map (λ w. w.now) words.now) ≡ None)
-        (λ local. command_by name.now (map (λ w. w.now) words.now) ≡ Some (local_of local))) }
+    ensures { IfOk result (λ found. MatchOption found (in_row commands name.now (map (λ w. w.now) words.now) ≡ None)
+        (λ local. in_row commands name.now (map (λ w. w.now) words.now) ≡ Some (local_of local))) }
 {
     match name {
         "add-room" => add_room(alloc, words),
         "book" => booking(alloc, words),
+        _ => shared_command(alloc, name, words),
+    }
+}
+
+/// The command of the row of this name, one whose words are the same in a command line and in a script, if these words fit it.
+pub fn shared_command(
+    alloc: Global,
+    name: &str,
+    words: &[&str],
+) -> Result<Option<Local>, AllocError>
+    ensures { IfOk result (λ found. MatchOption found (in_row shared_commands name.now (map (λ w. w.now) words.now) ≡ None)
+        (λ local. in_row shared_commands name.now (map (λ w. w.now) words.now) ≡ Some (local_of local))) }
+{
+    match name {
         "cancel" => cancel(alloc, words),
         "commit" => Ok(commit(words)),
         "truncate" => Ok(truncation(words)),
         "position" => Ok(position(words)),
-        _ => question(alloc, name, words),
-    }
-}
-
-/// A question about a room.
-fn question(alloc: Global, name: &str, words: &[&str]) -> Result<Option<Local>, AllocError>
-    ensures { IfOk result (λ found. MatchOption found (question_by name.now (map (λ w. w.now) words.now) ≡ None)
-        (λ local. question_by name.now (map (λ w. w.now) words.now) ≡ Some (local_of local))) }
-{
-    match name {
         "sheet" => sheet(alloc, words),
         "calendar" => calendar(alloc, words),
         "outcome" => outcome(alloc, words),
@@ -43,7 +46,8 @@ fn question(alloc: Global, name: &str, words: &[&str]) -> Result<Option<Local>, 
     }
 }
 
-fn add_room(alloc: Global, words: &[&str]) -> Result<Option<Local>, AllocError>
+/// To add the room that these words name.
+pub fn add_room(alloc: Global, words: &[&str]) -> Result<Option<Local>, AllocError>
     ensures { IfOk result (λ found. MatchOption found (add_room_asked (map (λ w. w.now) words.now) ≡ None)
         (λ local. add_room_asked (map (λ w. w.now) words.now) ≡ Some (local_of local))) }
 {

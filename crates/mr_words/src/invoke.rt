@@ -5,9 +5,9 @@ ghost use Rattle.std.specs.String.{string_bytes};
 ghost use Rattle.clap.specs.Words.{found_of, rows_of};
 ghost use Rattle.clap.specs.declared.error.ErrorKind.TheVariants.{OutOfMemory};
 ghost use Rattle.mr_words.specs.declared.invocations.WordFault.TheVariants.{Bad, Memory};
-ghost use Rattle.mr_words.specs.CommandTable.{has_no_flag, invocation_of};
+ghost use Rattle.mr_words.specs.CommandTable.{has_no_flag, in_row, invocation_of, table};
 ghost use Rattle.mr_words.specs.CommandSpelling.{LinesReadBack};
-ghost use Rattle.mr_words.specs.InvocationRead.{NamesRow, asked_of, row_by, words_in};
+ghost use Rattle.mr_words.specs.InvocationRead.{NamesRow, asked_of, words_in};
 
 use crate::grammar::grammar;
 use crate::rows::row;
@@ -58,8 +58,8 @@ fn fault_of(kind: ErrorKind) -> WordFault
 
 /// The row of this name, if the words among its matches fit it.
 fn read_row(alloc: Global, name: &str, matches: &ArgMatches<'_>) -> Result<Invocation, WordFault>
-    ensures { MatchResult result (λ i. row_by name.now (words_in (rows_of (found_of matches.now))) ≡ Some (asked_of i))
-        (λ fault. fault ≡ Bad → row_by name.now (words_in (rows_of (found_of matches.now))) ≡ None) }
+    ensures { MatchResult result (λ i. in_row table name.now (words_in (rows_of (found_of matches.now))) ≡ Some (asked_of i))
+        (λ fault. fault ≡ Bad → in_row table name.now (words_in (rows_of (found_of matches.now))) ≡ None) }
 {
     let words = matches.get_strs("words").unwrap_or(&[]);
     match row(alloc, name, words)? {

@@ -1,7 +1,8 @@
 //! The words of a command line and the address of a peer, read as values. Below stands `mr_service`, whose commands most
 //! rows of the table ask for; the program's commands (`mr`) stand above. `invocation` answers what the words ask for,
 //! exactly where they are of the table of specs/CommandTable.antt; `peer_address` the host and the port of a text, exactly where
-//! it is an address as specs/Addresses.antt says. Single words that the lines of scripts have too are read here for both.
+//! it is an address as specs/Addresses.antt says. What the lines of scripts have too is read here for
+//! both: single words, and commands whose words are the same.
 #![tactic(auto)]
 
 mod address;
@@ -13,6 +14,7 @@ mod rows;
 mod words;
 
 pub use address::{AddressFault, peer_address};
+pub use commands::{add_room, shared_command};
 pub use invocations::{Invocation, Task, WordFault};
 pub use invoke::{command_lines_read_back, invocation};
 pub use words::{read_count, read_line_count, read_part, read_server};

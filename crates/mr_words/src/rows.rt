@@ -1,8 +1,8 @@
 //! The rows of the table, read from the words behind their names.
 
 ghost use Rattle.std.specs.Prelude.{◌≡◌, IfOk, MatchOption, Some, None, map};
-ghost use Rattle.mr_words.specs.CommandTable.{init_row, export_row, import_row, rehearse_row, serve_row, exchange_row, bridge_row, asking};
-ghost use Rattle.mr_words.specs.InvocationRead.{asked_of, row_by, command_by};
+ghost use Rattle.mr_words.specs.CommandTable.{init_row, export_row, import_row, rehearse_row, serve_row, exchange_row, bridge_row, asking, in_row, commands, table};
+ghost use Rattle.mr_words.specs.InvocationRead.{asked_of};
 
 use crate::commands::command;
 use crate::words::{read_connections, read_line_count, read_port, read_server};
@@ -15,8 +15,8 @@ pub(crate) fn row(
     name: &str,
     words: &[&str],
 ) -> Result<Option<Invocation>, AllocError>
-    ensures { IfOk result (λ found. MatchOption found (row_by name.now (map (λ w. w.now) words.now) ≡ None)
-        (λ i. row_by name.now (map (λ w. w.now) words.now) ≡ Some (asked_of i))) }
+    ensures { IfOk result (λ found. MatchOption found (in_row table name.now (map (λ w. w.now) words.now) ≡ None)
+        (λ i. in_row table name.now (map (λ w. w.now) words.now) ≡ Some (asked_of i))) }
 {
     match name {
         "init" => init(alloc, words),
@@ -146,8 +146,8 @@ fn bridge(alloc: Global, words: &[&str]) -> Result<Option<Invocation>, AllocErro
 
 /// A database, and a command to its replica.
 fn ask(alloc: Global, name: &str, words: &[&str]) -> Result<Option<Invocation>, AllocError>
-    ensures { IfOk result (λ found. MatchOption found (asking (command_by name.now) (map (λ w. w.now) words.now) ≡ None)
-        (λ i. asking (command_by name.now) (map (λ w. w.now) words.now) ≡ Some (asked_of i))) }
+    ensures { IfOk result (λ found. MatchOption found (asking (in_row commands name.now) (map (λ w. w.now) words.now) ≡ None)
+        (λ i. asking (in_row commands name.now) (map (λ w. w.now) words.now) ≡ Some (asked_of i))) }
 {
     let [database, rest @ ..] = words else {
         return Ok(None);
