@@ -62,6 +62,25 @@ deploy_offices() {
     east=$ROOMS_STATE/east/rooms.db
 }
 
+# an office whose database is lost: it is made anew with another number once its settings are put away, and keeps its users
+deploy_lost_office() {
+    local office=$deploy/systemd/rooms-office database=$ROOMS_STATE/north/rooms.db
+    local -a words=(1 $((ports + 6)) $((ports + 7)) oak)
+    held 'an office that is lost' "$office" make north 3 "${words[@]}"
+    echo desk:hash > "$ROOMS_ETC/north.readers"
+    mv "$ROOMS_ETC/north.conf" "$deploy_scratch/north.conf"
+    is 'an office is not made over a database' "$("$office" make north 7 "${words[@]}" 2>&1)" "rooms-office: there is $database already"
+    rm "$database"*
+    mv "$deploy_scratch/north.conf" "$ROOMS_ETC/north.conf"
+    is 'an office without its database' "$("$office" serve north 2>&1 | tail -n 1)" \
+        'rooms-office: nothing is served: refused 26 NotAReplica (status 1)'
+    rm "$ROOMS_ETC/north.conf"
+    held 'it is made anew' "$office" make north 7 "${words[@]}"
+    is 'with another number' "$("$program" position "$database" | head -n 1)" 'mp2 7 1'
+    is 'its users stay' "$(cat "$ROOMS_ETC/north.readers")" desk:hash
+    rm "$ROOMS_ETC"/north.*
+}
+
 # ---- the proxy
 
 start_nginx() {
@@ -198,6 +217,33 @@ deploy_courier() {
     stop_serving
 }
 
+# with an office on an older program both ways, until a cancel is among what that one lacks; then the way back alone
+deploy_courier_older() {
+    local folder=$deploy_scratch/older a=http://127.0.0.1:$((ports + 4)) b=http://127.0.0.1:$((ports + 5)) words
+    mkdir -p "$folder"
+    "$program" init "$folder/1.db" 1 1 > /dev/null
+    "$program" add-room "$folder/1.db" oak > /dev/null
+    "$program" book "$folder/1.db" oak 60 1995-12-18 14:00 Alpha > /dev/null
+    serve_at "$folder/1.db" $((ports + 4))
+    python3 -B "$deploy/tests/older.py" $((ports + 5)) &
+    serving+=($!)
+    reached 'the older office is not served' 20 taken $((ports + 5))
+    held 'a request at the older office' curl -s -f -d x "$b/book"
+    carry "$a" "$b" > "$folder/lines"
+    is 'the courier with an older program' "$? $(tail -n 1 "$folder/lines")" '0 done: 1 writes 0 commits there, 1 writes 0 commits back'
+    held 'a cancel' curl -s -f -d '{"id":"1-1","room":"oak"}' "$a/cancel"
+    held 'another request at the older office' curl -s -f -d x "$b/book"
+    for words in "$a $b" "$b $a"; do
+        # shellcheck disable=SC2086
+        carry $words > "$folder/lines"
+        is 'the courier with a cancel for an older program' "$? $(tail -n 1 "$folder/lines")" \
+            "1 failed: $a/pull answered 409 {\"name\":\"NeedsVersion2\",\"refusal\":27}; what was carried before stays, and the courier may run again"
+    done
+    is 'what the older office has comes all the same' "$(curl -s "$a/position" | tr '\n' ' ')" 'mp2 1 1 K 0 V 1 2 V 2 2 E '
+    is 'and nothing comes there' "$(curl -s "$b/position" | tr '\n' ' ')" 'mp1 2 1 K 0 V 1 1 V 2 2 E '
+    stop_serving
+}
+
 # through two proxies, with passwords
 deploy_courier_through_proxies() {
     local a=https://localhost:$((ports + 1)) b=https://localhost:$((ports + 3))
@@ -274,6 +320,7 @@ deploy_package() {
     held 'a package is built' test -s "$file"
     dpkg-deb -x "$file" "$folder/tree"
     is 'the program of the package' "$("$folder/tree/usr/bin/rooms" init "$folder/a.db" 1 1)" ok
+    is 'the documents for the operator' "$(cd "$folder/tree/usr/share/doc/rooms" && ls docs | tr '\n' ' ')" 'FORMATS.md OPERATING.md '
     is 'it needs the C library alone' "$(dpkg-deb -f "$file" Depends | sed 's/ ([^)]*)//g')" 'libc6, passwd'
     if ! missing 'lintian of the package' lintian; then
         held 'lintian finds no error' lintian --allow-root --fail-on error "$file"
@@ -321,8 +368,10 @@ run_deploy() {
     free_ports
     deploy_texts
     if ! missing 'the courier' curl; then deploy_courier; fi
+    if ! missing 'the courier with an older program' curl python3; then deploy_courier_older; fi
     if ! missing 'proxy, stretches of serving and page' curl openssl nginx flock; then
         deploy_offices
+        deploy_lost_office
         start_nginx
         deploy_proxy
         deploy_courier_through_proxies
