@@ -99,6 +99,76 @@ run_moved_commands() {
     expect 'moved: a bridge of two' 0 "$scratch/kept/lines" bridge "$database" "$scratch/kept/server.db"
 }
 
+# brought NAME REPLY LINE..: a batch of these lines is taken
+brought() {
+    printf '%s\n' "${@:3}" > "$scratch/kept/batch"
+    expect_line "late: $1" 0 "$2" import "$database" "$scratch/kept/batch"
+}
+
+# handed NAME LINES STATUS REPLY LINE..: the batch of so many lines for what the late office has, in the first version; these are its lines
+handed() {
+    printf '%s\n' 'mp1 7 3' 'K 6' 'V 3 3' 'V 7 6' 'E' > "$scratch/kept/late.position"
+    rm -f -- "$scratch/kept/out"
+    expect_line "late: $1" "$3" "$4" export "$database" "$scratch/kept/late.position" "$scratch/kept/out" "$2"
+    if [ "$3" = 0 ]; then
+        printf '%s\n' "${@:5}" > "$scratch/kept/lines"
+        same "late: $1, its lines" "$scratch/kept/out" "$scratch/kept/lines"
+    fi
+}
+
+# both NAME COMMAND LINE..: both offices print these lines
+both() {
+    database=$primary replies "late: $1 at the primary" "${@:2}"
+    database=$late replies "late: $1 at the late office" "${@:2}"
+}
+
+# late_primary: $database is the primary of the kept one, with all that the kept one has but its last two requests
+late_primary() {
+    local noon='2099-12-31 12:00' nine
+    nine=$(printf " $noon%.0s" $(seq 8))
+    rm -f -- "$database" "$database"-*
+    expect_line 'late: the primary' 0 ok init "$database" 3 3
+    expect_line 'late: its first room' 0 ok add-room "$database" oak
+    expect_line 'late: its second room' 0 ok add-room "$database" elm-2
+    expect_line 'late: 3-1' 0 "3-1 T $day 09:00-10:00" book "$database" oak 60 "$day" 09:00 Alpha
+    expect_line 'late: 3-2' 0 '3-2 T 1990-01-01 00:00-24:00' book "$database" elm-2 1440 1990-01-01 00:00 Closed
+    expect_line 'late: 3-3' 0 "3-3 T 2099-12-31 23:30-24:00" book "$database" oak 30 2099-12-31 23:30 "$y60"
+    brought 'four requests of office 7' 'took 4 writes 0 commits' 'mr1 7 3' "W 7 1 1 oak 60 $day 09:30 1 $day 10:00 Beta" \
+        'W 7 2 2 elm-2 1 1990-01-01 23:59 0 "quoted" ~ text' "W 7 3 3 a-room-of-16-byt 15 $noon 8$nine Eight others" \
+        "W 7 4 4 a-room-of-16-byt 15 $noon 8$nine Eight in vain" E
+    expect_line 'late: six are committed' 0 'committed 6' commit "$database" 6
+}
+
+# The primary goes over before office 7, whose database is the kept one. What office 7 has comes by its older batches, what it lacks goes there
+# until a cancel is among it; once it goes over too, an exchange brings all.
+run_moved_late() {
+    local late primary=$scratch/kept/primary.db day=2024-02-29
+    database=$primary
+    late_primary
+    brought 'a request that office 7 makes late' 'took 1 writes 0 commits' 'mr1 7 3' "W 7 5 5 oak 90 $day 10:30 1 $day 14:00 Gamma" M
+    expect_line 'late: a request' 0 "3-4 T $day 16:00-16:30" book "$database" oak 30 "$day" 16:00 Before
+    handed 'a batch without a cancel' 10 0 'wrote 51 bytes' 'mr1 3 3' "W 3 4 6 oak 30 $day 16:00 0 Before" E
+    expect_line 'late: a cancel' 0 '3-5 T cancels 7-1' cancel "$database" oak 7-1
+    handed 'a batch with a cancel' 10 1 'refused 27 NeedsVersion2'
+    handed 'what stands before the cancel' 1 0 'wrote 51 bytes' 'mr1 3 3' "W 3 4 6 oak 30 $day 16:00 0 Before" M
+    expect_line 'late: nine alternatives' 0 "3-6 T $day 10:00-10:30" book "$database" oak 30 "$day" 10:00 Nine "$day"T1{1..9}:00
+    expect_line 'late: five are committed' 0 'committed 5' commit "$database" 100
+    handed 'commits behind which a cancel stands' 10 1 'refused 27 NeedsVersion2'
+    first_tables late
+    late=$database
+    printf 'pulled 3 writes 5 commits\npushed 1 writes 0 commits\n' > "$scratch/kept/lines"
+    expect 'late: it goes over' 0 "$scratch/kept/lines" bridge "$late" "$primary"
+    expect_line 'late: its last request is committed' 0 'committed 1' commit "$primary" 100
+    printf 'pulled 0 writes 1 commits\npushed 0 writes 0 commits\n' > "$scratch/kept/lines"
+    expect 'late: both have all' 0 "$scratch/kept/lines" bridge "$late" "$primary"
+    both 'the sheet' "sheet oak $day" "oak $day Thursday" '09:00-10:00 C 3-1 Alpha' '10:00-10:30 C 3-6 Nine' '14:00-15:30 C 7-5 Gamma' \
+        '16:00-16:30 C 3-4 Before'
+    both 'the calendar' 'calendar oak committed' 'oak committed' "$day 09:00-10:00 C 3-1 Alpha" "$day 10:00-10:30 C 3-6 Nine" \
+        "$day 14:00-15:30 C 7-5 Gamma" "$day 16:00-16:30 C 3-4 Before" "2099-12-31 23:30-24:00 C 3-3 $y60"
+    both 'the error log' 'errors oak' 'oak errors' "C 7-6 $day 08:00-12:00 Delta"
+    both 'what was cancelled' 'outcome oak 7-1' '7-1 C cancelled C 3-5'
+}
+
 # refused_move NAME REFUSAL SQL: the stock sqlite3 ran this text in the first tables; they stay as they are
 refused_move() {
     first_tables refused
@@ -133,6 +203,7 @@ run_moved() {
     run_moved_cancels
     run_moved_commands
     run_moved_inits
+    run_moved_late
     if ! command -v python3 > /dev/null; then
         echo 'skipped: first tables of many replicas, killed while they move up (no python3)'
         return
