@@ -11,14 +11,15 @@ use Rattle.mr_model.specs.Writes.{Id, Action, Books, Cancels, Write, id_of, same
 use Rattle.mr_model.specs.Replay.{Done, Booking}
 use Rattle.mr_model.specs.Board.{place_on, board_after}
 use Rattle.mr_model.specs.Replica.{Replica, count_of, is_dropped, is_committed, write_with, committed, tentative, order_of, IsReplica, AreInStampOrder, is_among}
-use Rattle.mr_model.specs.Step.{knows_booking}
+use Rattle.mr_model.specs.Positions.{Position, count_among}
+use Rattle.mr_model.specs.Step.{knows_booking, lacks}
 use Rattle.mr_model.specs.Tables.{LogRow, BookingRow, ErrorRow, CancelledRow, PlaceRow, log_row, place_row, cancelled_row, seq_of, tables_of}
 use Rattle.mr_model.specs.Tables as rows
 use Rattle.mr_model.specs.Queries.{booking_id, error_id, cancelled_id, row_id, row_room, IsRowFor, IsRowIn}
 use Rattle.mr_model.specs.Dropped.{Has}
 use Rattle.mr_model.specs.Kept.{kept_in_order, LogBefore, AreInRunOrder}
 use Rattle.mr_model.specs.Changes.{IdBefore, RiseById, SameRows, first_tentative}
-use Rattle.mr_model.specs.Scopes.{OfTarget, NextCommits, UpTo, Above, log_row_id, is_tentative, row_before, put_row, by_stamp, in_scope}
+use Rattle.mr_model.specs.Scopes.{OfTarget, NextCommits, UpTo, OfPosition, log_row_id, is_tentative, row_before, put_row, by_stamp, is_due_to, in_scope}
 use Rattle.mr_model.specs.RowsInScope.{kept_commits, told_booking, HasRowOfRoom, booked, logged, cancelled}
 use Rattle.mr_model.proofs.KeyOrder.{tables_in_order}
 use Rattle.mr_model.proofs.PlacesOfOrder.{known_in_order}
@@ -115,10 +116,6 @@ commit_numbers r i w h e =
     drop_has (suc n) id [] a = absurd a
     drop_has (suc n) id (x ∷ xs) a = inr (drop_has n id xs a)
 
-all_left : {A : Type 0} (p : A → Bool) (xs : List A) → ((x : A) → Has x xs → p x ≡ true) → filter p xs ≡ xs
-all_left p [] f = refl
-all_left {A} p (x ∷ xs) f = cond-true (p x) (x ∷ filter p xs) (filter p xs) (f x (inl refl)) ∙ ap (λ (ys : List A). x ∷ ys) (all_left p xs (λ y h. f y (inr h)))
-
 none_left : {A : Type 0} (p : A → Bool) (xs : List A) → ((x : A) → Has x xs → p x ≡ false) → filter p xs ≡ []
 none_left p [] f = refl
 none_left p (x ∷ xs) f = cond-false (p x) (x ∷ filter p xs) (filter p xs) (f x (inl refl)) ∙ none_left p xs (λ y h. f y (inr h))
@@ -135,24 +132,33 @@ get_has x [] h = absurd h
 get_has x (y ∷ ys) (inl e) = (zero, ap Some (sym e))
 get_has x (y ∷ ys) (inr h) = let (i, e) = get_has x ys h in (suc i, e)
 
--- a batch for a position
-pub lacked : (r : Replica) (commits : ℕ) → IsReplica r → r.dropped ≤ commits → SameRows (in_scope (Above commits) (tables_of r)).log (map (log_row r) (drop (commits - r.dropped) (kept_commits r) ++ tentative r))
-lacked r commits h low =
-    picked_are r test (drop (commits - r.dropped) (kept_commits r) ++ tentative r) h
-    (filter-append (λ w. test (log_row r w)) (kept_commits r) (tentative r)
-    ∙ (λ i. front i ++ all_left (λ w. test (log_row r w)) (tentative r) (λ w g. ap (λ n. eqb n 0 || ltb commits n) (no_number r w g)) i))
+-- a batch for a position: the kept writes whose rows are due to it
+pub due_kept : (r : Replica) (p : Position) → IsReplica r → filter (λ w. is_due_to p (log_row r w)) (kept_in_order r) ≡ drop (p.commits - r.dropped) (kept_commits r) ++ filter (lacks p) (tentative r)
+due_kept r p h =
+    filter-append (λ w. is_due_to p (log_row r w)) (kept_commits r) (tentative r)
+    ∙ (λ i. front i ++ same_left (λ w. is_due_to p (log_row r w)) (lacks p) (tentative r) back i)
   where
-    test : LogRow → Bool
-    test row = is_tentative row || ltb commits row.seq
-
-    front : filter (λ w. test (log_row r w)) (kept_commits r) ≡ drop (commits - r.dropped) (kept_commits r)
+    front : filter (λ w. is_due_to p (log_row r w)) (kept_commits r) ≡ drop (p.commits - r.dropped) (kept_commits r)
     front =
-        same_left (λ w. test (log_row r w)) (λ w. ltb commits (seq_of r w)) (kept_commits r) (λ w g. let (i, e) = get_has w (kept_commits r) g in let n = commit_numbers r i w h e in ap (λ b. b || ltb commits (seq_of r w)) (positive (seq_of r w) (omega (arith, n))))
-        ∙ numbered_above (seq_of r) (r.dropped + 1) commits (kept_commits r) (λ i w e. commit_numbers r i w h e)
-        ∙ ap (λ n. drop n (kept_commits r)) (let m : commits + 1 - (r.dropped + 1) ≡ commits - r.dropped = omega arith in m)
+        same_left (λ w. is_due_to p (log_row r w)) (λ w. ltb p.commits (seq_of r w)) (kept_commits r) (λ w g. let (i, e) = get_has w (kept_commits r) g in let n = commit_numbers r i w h e in ap (λ b. (b && lacks p w) || ltb p.commits (seq_of r w)) (positive (seq_of r w) (omega (arith, n))))
+        ∙ numbered_above (seq_of r) (r.dropped + 1) p.commits (kept_commits r) (λ i w e. commit_numbers r i w h e)
+        ∙ ap (λ n. drop n (kept_commits r)) (let m : p.commits + 1 - (r.dropped + 1) ≡ p.commits - r.dropped = omega arith in m)
       where
         positive : (n : ℕ) → 1 ≤ n → eqb n 0 ≡ false
         positive n l = false_from_ne_true (eqb n 0) (λ e. let z : n ≡ 0 = Rattle.std.proofs.Common.eqb-true n 0 e in omega (arith, z, l))
+
+    back : (w : Write) → Has w (tentative r) → is_due_to p (log_row r w) ≡ lacks p w
+    back w g = ap (λ n. (eqb n 0 && lacks p w) || ltb p.commits n) (no_number r w g) ∙ (λ i. lacks p w || none i) ∙ alone (lacks p w)
+      where
+        none : ltb p.commits 0 ≡ false
+        none = false_from_ne_true (ltb p.commits 0) (λ e. let l = Rattle.std.proofs.lemmas.Bool.ltb-true p.commits 0 e in omega (arith, l))
+
+        alone : (b : Bool) → (b || false) ≡ b
+        alone true = refl
+        alone false = refl
+
+pub lacked : (r : Replica) (p : Position) → IsReplica r → r.dropped ≤ p.commits → SameRows (in_scope (OfPosition p) (tables_of r)).log (map (log_row r) (drop (p.commits - r.dropped) (kept_commits r) ++ filter (lacks p) (tentative r)))
+lacked r p h low = picked_are r (is_due_to p) (drop (p.commits - r.dropped) (kept_commits r) ++ filter (lacks p) (tentative r)) h (due_kept r p h)
 
 -- a truncation
 pub truncated : (r : Replica) (d : ℕ) → IsReplica r → SameRows (in_scope (UpTo d) (tables_of r)).log (map (log_row r) (take (d - r.dropped) (kept_commits r)))

@@ -12,7 +12,7 @@ use Rattle.mr_model.specs.Tables.{LogRow, BookingRow, ErrorRow, CancelledRow, Ta
 use Rattle.mr_model.specs.Queries.{booking_id, error_id, cancelled_id}
 use Rattle.mr_model.specs.Dropped.{Has}
 use Rattle.mr_model.proofs.Members.{has_filter, has_among, has_map, same_id-true}
-use Rattle.mr_model.specs.Scopes.{Scope, Nothing, OfRequest, OfTarget, NextCommits, UpTo, Above, OfItems, log_row_id, is_tentative, by_stamp, is_on_day_of, item_id, has_number, is_named, is_in_tail, rooms_of_item, with_rows, in_scope}
+use Rattle.mr_model.specs.Scopes.{Scope, Nothing, OfRequest, OfTarget, NextCommits, UpTo, OfPosition, OfItems, log_row_id, is_tentative, by_stamp, is_on_day_of, is_due_to, item_id, has_number, is_named, is_in_tail, rooms_of_item, with_rows, in_scope}
 use Rattle.mr_model.specs.RowsRead.{rows_read, Reads}
 use Rattle.mr_model.proofs.RowsByStamp.{passing_by_stamp, first_passing, passing_both}
 
@@ -83,8 +83,8 @@ read_rows (UpTo d) t p b e c r =
     let test : LogRow → Bool = λ row. within 1 d row.seq in
     with_read t (filter test t.log) (filter test (filter p t.log)) [] [] [] [] [] []
     (filter_read test p t.log (λ row h f. r.logs row (has_filter test row t.log f h))) refl refl refl
-read_rows (Above commits) t p b e c r =
-    let test : LogRow → Bool = λ row. is_tentative row || ltb commits row.seq in
+read_rows (OfPosition position) t p b e c r =
+    let test : LogRow → Bool = is_due_to position in
     with_read t (filter test t.log) (filter test (filter p t.log)) [] [] [] [] [] []
     (filter_read test p t.log (λ row h f. r.logs row (has_filter test row t.log f h))) refl refl refl
 read_rows (OfItems items) t p b e c r =

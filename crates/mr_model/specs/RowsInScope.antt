@@ -6,12 +6,13 @@ use Rattle.mr_model.specs.Requests.{Request}
 use Rattle.mr_model.specs.Replay.{Done, Booking, place_among}
 use Rattle.mr_model.specs.Board.{place_on, board_after}
 use Rattle.mr_model.specs.Replica.{Replica, count_of, is_dropped, write_with, tentative, order_of, IsReplica}
-use Rattle.mr_model.specs.Step.{knows_booking}
+use Rattle.mr_model.specs.Positions.{Position}
+use Rattle.mr_model.specs.Step.{knows_booking, lacks}
 use Rattle.mr_model.specs.Tables.{LogRow, BookingRow, ErrorRow, CancelledRow, Tables, log_row, cancelled_row, tables_of}
 use Rattle.mr_model.specs.Dropped.{Has}
 use Rattle.mr_model.specs.Kept.{kept_in_order, AreInRunOrder}
 use Rattle.mr_model.specs.Changes.{SameRows, first_tentative}
-use Rattle.mr_model.specs.Scopes.{OfTarget, NextCommits, UpTo, Above, log_row_id, is_on_day_of, in_scope}
+use Rattle.mr_model.specs.Scopes.{OfTarget, NextCommits, UpTo, OfPosition, log_row_id, is_on_day_of, in_scope}
 
 -- the committed writes that are kept
 abbrev pub kept_commits : Replica → List Write
@@ -71,11 +72,11 @@ TruncatedAreInScope =
     (r : Replica) (d : ℕ) → IsReplica r
     → SameRows (in_scope (UpTo d) (tables_of r)).log (map (log_row r) (take (d - r.dropped) (kept_commits r)))
 
--- a batch for a position: those of the kept commits above it, and of all tentative writes
+-- a batch for a position: those of the kept commits above it, and of the tentative writes that it lacks
 abbrev pub LackedAreInScope : Type 0
 LackedAreInScope =
-    (r : Replica) (commits : ℕ) → IsReplica r → r.dropped ≤ commits
-    → SameRows (in_scope (Above commits) (tables_of r)).log (map (log_row r) (drop (commits - r.dropped) (kept_commits r) ++ tentative r))
+    (r : Replica) (p : Position) → IsReplica r → r.dropped ≤ p.commits
+    → SameRows (in_scope (OfPosition p) (tables_of r)).log (map (log_row r) (drop (p.commits - r.dropped) (kept_commits r) ++ filter (lacks p) (tentative r)))
 
 -- an id that is counted and has no row is that of a dropped write
 abbrev pub MissingIsDropped : Type 0

@@ -7,6 +7,7 @@ use Rattle.mr_model.specs.Writes.{Id, id_of, same_id, choices_of}
 use Rattle.mr_model.specs.Requests.{Request}
 use Rattle.mr_model.specs.Replica.{is_among}
 use Rattle.mr_model.specs.Exchange.{Item, W, C}
+use Rattle.mr_model.specs.Positions.{Position, count_among}
 use Rattle.mr_model.specs.Tables.{LogRow, BookingRow, ErrorRow, CancelledRow, Tables}
 use Rattle.mr_model.specs.Queries.{booking_id, error_id, cancelled_id}
 
@@ -17,7 +18,7 @@ pub data Scope : Type 0 where
   OfTarget : (target : Id) → Scope  -- a cancel of what has this id
   NextCommits : (count : ℕ) → Scope  -- a commit of so many
   UpTo : (number : ℕ) → Scope  -- a truncation to this commit number
-  Above : (commits : ℕ) → Scope  -- a batch for a position with so many commits
+  OfPosition : (position : Position) → Scope  -- a batch for this position
   OfItems : (items : List Item) → Scope  -- a batch that is received
 
 -- ---- rows
@@ -50,7 +51,17 @@ by_stamp (x ∷ xs) = put_row x (by_stamp xs)
 abbrev pub is_on_day_of : Request → Text → Date → Bool
 is_on_day_of q room day = bytes_eq room q.room && list_any (λ s. same_date s.day day) (choices_of q.meeting)
 
--- ---- a batch
+-- ---- a batch for a position
+
+-- the position lacks the write of the row
+abbrev pub is_lacked_row : Position → LogRow → Bool
+is_lacked_row p row = nat_lt (count_among p.counts row.server) row.n
+
+-- the row is of a commit above the position's, or of a tentative write that it lacks
+abbrev pub is_due_to : Position → LogRow → Bool
+is_due_to p row = (is_tentative row && is_lacked_row p row) || nat_lt p.commits row.seq
+
+-- ---- a batch that is received
 
 abbrev pub item_id : Item → Id
 item_id (W w) = id_of w
@@ -125,7 +136,7 @@ in_scope (NextCommits k) t =
     with_rows t (next_commits k t) [] []
     (filter (λ c. is_among (cancelled_id c) (map log_row_id (next_commits k t))) t.cancelled)
 in_scope (UpTo d) t = with_rows t (filter (λ row. within 1 d row.seq) t.log) [] [] []
-in_scope (Above commits) t = with_rows t (filter (λ row. is_tentative row || nat_lt commits row.seq) t.log) [] [] []
+in_scope (OfPosition p) t = with_rows t (filter (is_due_to p) t.log) [] [] []
 in_scope (OfItems items) t =
     with_rows t
     (filter (λ row. is_named items row || (is_in_tail t.meta.commits items row && is_touched t items row.room)) t.log)

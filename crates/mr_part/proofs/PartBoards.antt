@@ -11,7 +11,7 @@ use Rattle.mr_model.specs.Replica.{Replica, IsReplica, order_of, is_among, is_co
 use Rattle.mr_model.specs.View.{of_room, place_of, canceller_of}
 use Rattle.mr_model.specs.Tables.{LogRow, BookingRow, ErrorRow, CancelledRow, CancelRow, Tables, as_booking, as_error, as_cancelled, as_cancel, place_row, seq_of, tables_of}
 use Rattle.mr_model.specs.Dropped.{Has}
-use Rattle.mr_model.specs.Scopes.{Scope, Nothing, OfRequest, OfTarget, NextCommits, UpTo, Above, OfItems, log_row_id, is_touched, is_on_day_of, next_commits, with_rows, in_scope}
+use Rattle.mr_model.specs.Scopes.{Scope, Nothing, OfRequest, OfTarget, NextCommits, UpTo, OfPosition, OfItems, log_row_id, is_touched, is_on_day_of, next_commits, with_rows, in_scope}
 use Rattle.mr_model.proofs.Members.{has_left, has_right, has_split, has_filter, filter_has, has_map, map_has, same_id-true, same_id_from}
 use Rattle.mr_model.proofs.RowsTell.{known_of, booked_is, erred_is, cancelled_is, cancel_is}
 use Rattle.mr_model.proofs.UniqueReplay.{some_inj, none_some}
@@ -274,7 +274,7 @@ is_in_part (OfRequest q) a i row = takes_on_day_of q row.room row.kept
 is_in_part (OfTarget target) a i row = kept_is_booking row.kept && same_id i target
 is_in_part (NextCommits k) a i row = is_taken_back row.kept && is_among i (map log_row_id (next_commits k (tables_of a)))
 is_in_part (UpTo d) a i row = false
-is_in_part (Above commits) a i row = false
+is_in_part (OfPosition p) a i row = false
 is_in_part (OfItems items) a i row = is_taken row.kept && is_touched (tables_of a) items row.room
 
 picks_nothing : (t : Tables) → PicksOf t (λ i row. false) [] [] []
@@ -327,7 +327,7 @@ part-row (NextCommits k) a i sound =
       cancels = λ x. refl;
     }) i
 part-row (UpTo d) a i sound = board-picked a (in_scope (UpTo d) (tables_of a)).log (is_in_part (UpTo d) a) [] [] [] sound (picks_nothing (tables_of a)) i
-part-row (Above commits) a i sound = board-picked a (in_scope (Above commits) (tables_of a)).log (is_in_part (Above commits) a) [] [] [] sound (picks_nothing (tables_of a)) i
+part-row (OfPosition p) a i sound = board-picked a (in_scope (OfPosition p) (tables_of a)).log (is_in_part (OfPosition p) a) [] [] [] sound (picks_nothing (tables_of a)) i
 part-row (OfItems items) a i sound =
     let t = in_scope (OfItems items) (tables_of a) in
     board-picked a t.log (is_in_part (OfItems items) a) t.booking [] t.cancelled sound (picks_rooms (tables_of a) (is_touched (tables_of a) items)) i

@@ -1,18 +1,20 @@
 -- What a part answers to the calls that execute nothing: a truncation, a batch that is made, a room more.
-use Rattle.std.proofs.Common.{◌≡◌, refl, sym, ap, ◌∙◌, ℕ, ◌+◌, ◌-◌, ◌≤◌, ◌==◌, max, nat_lt, false, List, [], ◌∷◌, ◌++◌, length, take, drop, map, ◌⊎◌, inl, inr, Result, Ok, Err, IfOk, IfErr, arith, IsTrue}
+use Rattle.std.proofs.Common.{◌≡◌, refl, sym, ap, ◌∙◌, ℕ, ◌+◌, ◌-◌, ◌≤◌, ◌==◌, max, nat_lt, Bool, true, false, cond, List, [], ◌∷◌, ◌++◌, length, take, drop, map, ◌⊎◌, inl, inr, Result, Ok, Err, IfOk, IfErr, arith, IsTrue}
 use Rattle.std.proofs.Math.Seq.{take-append_seam, drop-append_seam}
 use Rattle.std.proofs.lemmas.Bool.{eqb-false}
 use Rattle.std.proofs.lemmas.List.{length-append, length-drop}
 use Rattle.std.proofs.lemmas.List.Elements.{recursion_from_All}
+use Rattle.std.specs.List.{filter}
 use Rattle.mr_model.specs.Texts.{Text}
 use Rattle.mr_model.specs.Writes.{Write, id_of, is_room_name}
+use Rattle.mr_model.specs.Exchange.{W}
 use Rattle.mr_model.specs.Positions.{Position}
 use Rattle.mr_model.specs.Replica.{Replica, IsReplica, tentative, knows_room, with_room}
 use Rattle.mr_model.specs.Kept.{kept_in_order}
 use Rattle.mr_model.specs.Replies.{DroppedIs, RoomAdded}
 use Rattle.mr_model.specs.Scopes.{Nothing, UpTo}
 use Rattle.mr_model.specs.RowsInScope.{kept_commits}
-use Rattle.mr_model.specs.Step.{After, truncate, add_room, items_for}
+use Rattle.mr_model.specs.Step.{After, truncate, add_room, lacks, items_for}
 use Rattle.mr_model.specs.Tables.{tables_of}
 use Rattle.mr_model.specs.Changes.{after_truncate}
 use Rattle.mr_model.proofs.ChangesKeep.{keeps-add_room, keeps-truncate}
@@ -58,8 +60,16 @@ part_truncate a n p s change sound e own late within is change_is =
 
 -- ---- a batch that is made
 
--- the commits above the position and the tentative writes make its items, where the commits that it has count as dropped
-pub part_items : (a : Replica) (p : Position) (s : Summary) (kept : List Write) → IsReplica a → a.dropped ≤ p.commits → s ≡ record (summary_of a) { dropped = p.commits } → kept ≡ drop (p.commits - a.dropped) (kept_commits a) ++ tentative a
+lacked_again : (p : Position) (ws : List Write) → lacked_items p (filter (lacks p) ws) ≡ lacked_items p ws
+lacked_again p [] = refl
+lacked_again p (w ∷ ws) = go (lacks p w) refl (lacked_again p ws)
+  where
+    go : (b : Bool) → lacks p w ≡ b → lacked_items p (filter (lacks p) ws) ≡ lacked_items p ws → lacked_items p (cond b (w ∷ filter (lacks p) ws) (filter (lacks p) ws)) ≡ cond b (W w ∷ []) [] ++ lacked_items p ws
+    go true e rest = λ i. cond (e i) (W w ∷ []) [] ++ rest i
+    go false e rest = rest
+
+-- the commits above the position and the tentative writes that it lacks make its items, where the commits that it has count as dropped
+pub part_items : (a : Replica) (p : Position) (s : Summary) (kept : List Write) → IsReplica a → a.dropped ≤ p.commits → s ≡ record (summary_of a) { dropped = p.commits } → kept ≡ drop (p.commits - a.dropped) (kept_commits a) ++ filter (lacks p) (tentative a)
     → kept_items p s kept ≡ items_for a p
 part_items a p s kept sound low is kept_is =
     let n = p.commits - a.dropped in
@@ -67,13 +77,15 @@ part_items a p s kept sound low is kept_is =
     let t : Summary = record (summary_of a) { dropped = p.commits } in
     let long = kept_committed_long a sound in
     let some = length-drop n (kept_commits a) in
-    let all = length-append above (tentative a) in
+    let due = filter (lacks p) (tentative a) in
+    let all = length-append above due in
     let none : p.commits - p.commits ≡ 0 = omega arith in
-    let count : committed_len t (above ++ tentative a) ≡ length above = omega (arith, long, some, all, low) in
-    let front : take (committed_len t (above ++ tentative a)) (above ++ tentative a) ≡ above = ap (λ m. take m (above ++ tentative a)) count ∙ take-append_seam above (tentative a) in
-    let back : drop (committed_len t (above ++ tentative a)) (above ++ tentative a) ≡ tentative a = ap (λ m. drop m (above ++ tentative a)) count ∙ drop-append_seam above (tentative a) in
+    let count : committed_len t (above ++ due) ≡ length above = omega (arith, long, some, all, low) in
+    let front : take (committed_len t (above ++ due)) (above ++ due) ≡ above = ap (λ m. take m (above ++ due)) count ∙ take-append_seam above due in
+    let back : drop (committed_len t (above ++ due)) (above ++ due) ≡ due = ap (λ m. drop m (above ++ due)) count ∙ drop-append_seam above due in
     (λ i. kept_items p (is i) (kept_is i))
     ∙ (λ i. committed_items p (p.commits + 1) (drop (none i) (front i)) ++ lacked_items p (back i))
+    ∙ (λ i. committed_items p (p.commits + 1) above ++ lacked_again p (tentative a) i)
     ∙ sym (items-made a p sound low)
 
 -- ---- a room more

@@ -14,10 +14,10 @@ use Rattle.mr_model.specs.Tables.{LogRow, BookingRow, ErrorRow, CancelledRow, Ta
 use Rattle.mr_model.specs.Dropped.{Has}
 use Rattle.mr_model.specs.Queries.{booking_id, error_id, cancelled_id, row_id}
 use Rattle.mr_model.specs.Changes.{IdBefore, RiseById, SameRows, first_tentative}
-use Rattle.mr_model.specs.Scopes.{Scope, Nothing, OfRequest, OfTarget, NextCommits, UpTo, Above, OfItems, is_tentative, log_row_id, is_named, is_in_tail, is_touched, is_on_day_of, with_rows, in_scope, counted_rows}
+use Rattle.mr_model.specs.Scopes.{Scope, Nothing, OfRequest, OfTarget, NextCommits, UpTo, OfPosition, OfItems, log_row_id, is_named, is_in_tail, is_touched, is_due_to, is_on_day_of, with_rows, in_scope, counted_rows}
 use Rattle.mr_model.specs.RowsInScope.{kept_commits}
 use Rattle.mr_model.proofs.DroppedApart.{order-parts, known_order}
-use Rattle.mr_model.proofs.InScope.{lacked, truncated}
+use Rattle.mr_model.proofs.InScope.{due_kept, truncated}
 use Rattle.mr_model.proofs.InScope as scope
 use Rattle.mr_model.proofs.KeyOrder.{tables_in_order}
 use Rattle.mr_model.proofs.KnownById.{distinct_order}
@@ -302,18 +302,6 @@ first_kept a d sound =
       kept = λ w h. has_left w (kept_commits a) (tentative a) (subst (Has w) (take_drop n (kept_commits a)) (has_left w (take n (kept_commits a)) (drop n (kept_commits a)) h));
     }
 
-above_kept : (a : Replica) (commits : ℕ) → IsReplica a → a.dropped ≤ commits → RowsOf a (in_scope (Above commits) (tables_of a)).log (drop (commits - a.dropped) (kept_commits a) ++ tentative a)
-above_kept a commits sound low =
-    let n = commits - a.dropped in
-    let parts : kept_in_order a ≡ take n (kept_commits a) ++ (drop n (kept_commits a) ++ tentative a) =
-    ap (λ ws. ws ++ tentative a) (sym (take_drop n (kept_commits a))) ∙ append_assoc (take n (kept_commits a)) (drop n (kept_commits a)) (tentative a) in
-    record {
-      differ = apart_distinct (map id_of (drop n (kept_commits a) ++ tentative a)) (differ_parts (take n (kept_commits a)) (drop n (kept_commits a) ++ tentative a) (subst Differ parts (kept_differ a sound))).1;
-      apart = logs_apart a (λ row. is_tentative row || nat_lt commits row.seq) sound;
-      same = lacked a commits sound low;
-      kept = λ w h. subst (Has w) (sym parts) (has_right w (take n (kept_commits a)) (drop n (kept_commits a) ++ tentative a) h);
-    }
-
 -- rows that a test picks
 picked_kept : (a : Replica) (test : LogRow → Bool) → IsReplica a → RowsOf a (filter test (tables_of a).log) (filter (λ w. test (log_row a w)) (kept_in_order a))
 picked_kept a test sound = record {
@@ -384,7 +372,8 @@ in_part (OfTarget target) a sound asked =
 in_part (NextCommits k) a sound asked =
     record { rows = in_scope (NextCommits k) (tables_of a); are = refl; logs = next_kept a k sound; bookings = of_cancelled a sound (λ c. is_among (cancelled_id c) (map log_row_id (in_scope (NextCommits k) (tables_of a)).log)) }
 in_part (UpTo d) a sound asked = record { rows = in_scope (UpTo d) (tables_of a); are = refl; logs = first_kept a d sound; bookings = no_rows a }
-in_part (Above commits) a sound asked = record { rows = in_scope (Above commits) (tables_of a); are = refl; logs = above_kept a commits sound asked; bookings = no_rows a }
+in_part (OfPosition p) a sound asked =
+    record { rows = in_scope (OfPosition p) (tables_of a); are = refl; logs = subst (RowsOf a (in_scope (OfPosition p) (tables_of a)).log) (due_kept a p sound) (picked_kept a (is_due_to p) sound); bookings = no_rows a }
 in_part (OfItems items) a sound asked =
     record {
       rows = in_scope (OfItems items) (tables_of a);

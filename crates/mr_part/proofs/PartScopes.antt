@@ -12,9 +12,9 @@ use Rattle.mr_model.specs.Tables.{LogRow, BookingRow, ErrorRow, CancelledRow, Ta
 use Rattle.mr_model.specs.Kept.{kept_in_order, LogBefore, AreInRunOrder}
 use Rattle.mr_model.specs.Changes.{IdBefore, RiseById, SameRows, first_tentative}
 use Rattle.mr_model.specs.Dropped.{Has}
-use Rattle.mr_model.specs.Scopes.{Scope, Nothing, OfRequest, OfTarget, NextCommits, UpTo, Above, OfItems, log_row_id, is_tentative, is_named, is_in_tail, is_touched, by_stamp, is_on_day_of, next_commits, in_scope}
+use Rattle.mr_model.specs.Scopes.{Scope, Nothing, OfRequest, OfTarget, NextCommits, UpTo, OfPosition, OfItems, log_row_id, is_tentative, is_named, is_in_tail, is_touched, is_due_to, by_stamp, is_on_day_of, next_commits, in_scope}
 use Rattle.mr_model.specs.RowsInScope.{kept_commits}
-use Rattle.mr_model.proofs.InScope.{truncated, lacked}
+use Rattle.mr_model.proofs.InScope.{truncated, due_kept}
 use Rattle.mr_model.proofs.InScope as scope
 use Rattle.mr_model.proofs.KeyOrder.{WriteBefore, by_id_sorted}
 use Rattle.mr_model.proofs.KnownById.{one_known, tentative_known}
@@ -37,7 +37,7 @@ same_meta (OfRequest q) t u e = ap (λ (x : Tables). x.meta) e
 same_meta (OfTarget target) t u e = ap (λ (x : Tables). x.meta) e
 same_meta (NextCommits k) t u e = ap (λ (x : Tables). x.meta) e
 same_meta (UpTo d) t u e = ap (λ (x : Tables). x.meta) e
-same_meta (Above c) t u e = ap (λ (x : Tables). x.meta) e
+same_meta (OfPosition p) t u e = ap (λ (x : Tables). x.meta) e
 same_meta (OfItems items) t u e = ap (λ (x : Tables). x.meta) e
 
 pub same_vector : (s : Scope) (t u : Tables) → in_scope s t ≡ in_scope s u → t.vector ≡ u.vector
@@ -46,7 +46,7 @@ same_vector (OfRequest q) t u e = ap (λ (x : Tables). x.vector) e
 same_vector (OfTarget target) t u e = ap (λ (x : Tables). x.vector) e
 same_vector (NextCommits k) t u e = ap (λ (x : Tables). x.vector) e
 same_vector (UpTo d) t u e = ap (λ (x : Tables). x.vector) e
-same_vector (Above c) t u e = ap (λ (x : Tables). x.vector) e
+same_vector (OfPosition p) t u e = ap (λ (x : Tables). x.vector) e
 same_vector (OfItems items) t u e = ap (λ (x : Tables). x.vector) e
 
 pub same_room : (s : Scope) (t u : Tables) → in_scope s t ≡ in_scope s u → t.room ≡ u.room
@@ -55,7 +55,7 @@ same_room (OfRequest q) t u e = ap (λ (x : Tables). x.room) e
 same_room (OfTarget target) t u e = ap (λ (x : Tables). x.room) e
 same_room (NextCommits k) t u e = ap (λ (x : Tables). x.room) e
 same_room (UpTo d) t u e = ap (λ (x : Tables). x.room) e
-same_room (Above c) t u e = ap (λ (x : Tables). x.room) e
+same_room (OfPosition p) t u e = ap (λ (x : Tables). x.room) e
 same_room (OfItems items) t u e = ap (λ (x : Tables). x.room) e
 
 -- ---- kept writes whose rows pass a test
@@ -132,37 +132,6 @@ cut_order a n h =
     run_parts (log_row a) (take n (kept_commits a)) (drop n (kept_commits a) ++ tentative a)
     (subst (λ ws. AreInRunOrder (map (log_row a) ws)) (cut_at a n) (kept_is_the_log a h).in_order)
 
-all_above : (c d n : ℕ) → c < d → (n == 0 || nat_lt d n) ≡ true → (n == 0 || nat_lt c n) ≡ true
-all_above c d n l e = grind (arith, nat_tests)
-
--- a position may have fewer commits than are dropped: all kept writes are above it
-above_rows : (a : Replica) (c : ℕ) → IsReplica a → SameRows (filter (λ row. is_tentative row || nat_lt c row.seq) (tables_of a).log) (map (log_row a) (drop (c - a.dropped) (kept_commits a) ++ tentative a))
-above_rows a c h = go (nat_lt c a.dropped) refl
-  where
-    rows_above : ℕ → List LogRow
-    rows_above n = filter (λ row. is_tentative row || nat_lt n row.seq) (tables_of a).log
-
-    whole : (n : ℕ) → n ≤ a.dropped → drop (n - a.dropped) (kept_commits a) ++ tentative a ≡ kept_in_order a
-    whole n l = let z : n - a.dropped ≡ 0 = omega (arith, l) in ap (λ k. drop k (kept_commits a) ++ tentative a) z
-
-    low : c < a.dropped → (row : LogRow) → Has row (rows_above c) ↔ Has row (map (log_row a) (kept_in_order a))
-    low l row = (there, back)
-      where
-        there : Has row (rows_above c) → Has row (map (log_row a) (kept_in_order a))
-        there g = ((kept_is_the_log a h).same_rows row).0 (filter_has (λ row. is_tentative row || nat_lt c row.seq) row (tables_of a).log g).0
-
-        back : Has row (map (log_row a) (kept_in_order a)) → Has row (rows_above c)
-        back g =
-            let of = (lacked a a.dropped h (omega arith) row).1 (subst (λ ws. Has row (map (log_row a) ws)) (sym (whole a.dropped (omega arith))) g) in
-            let f = filter_has (λ row. is_tentative row || nat_lt a.dropped row.seq) row (tables_of a).log of in
-            has_filter (λ row. is_tentative row || nat_lt c row.seq) row (tables_of a).log (all_above c a.dropped row.seq l f.1) f.0
-
-    go : (b : Bool) → nat_lt c a.dropped ≡ b → SameRows (rows_above c) (map (log_row a) (drop (c - a.dropped) (kept_commits a) ++ tentative a))
-    go true e =
-        let l = ltb-true c a.dropped e in
-        subst (λ ws. SameRows (rows_above c) (map (log_row a) ws)) (sym (whole c (omega (arith, l)))) (low l)
-    go false e = lacked a c h (ltb-false c a.dropped e)
-
 -- ---- scopes
 
 never : false ≡ true → ⊥
@@ -170,9 +139,6 @@ never e = true≢false (sym e)
 
 taken_kept : (a : Replica) (n : ℕ) (w : Write) → Has w (take n (kept_commits a)) → Has w (kept_in_order a)
 taken_kept a n w g = subst (Has w) (sym (cut_at a n)) (has_left w (take n (kept_commits a)) (drop n (kept_commits a) ++ tentative a) g)
-
-left_kept : (a : Replica) (n : ℕ) (w : Write) → Has w (drop n (kept_commits a) ++ tentative a) → Has w (kept_in_order a)
-left_kept a n w g = subst (Has w) (sym (cut_at a n)) (has_right w (take n (kept_commits a)) (drop n (kept_commits a) ++ tentative a) g)
 
 pub picked_in : (a : Replica) (s : Scope) (t : Tables) (touched : List Text) → IsReplica a → is_by_row s ≡ true → in_scope s t ≡ in_scope s (tables_of a) → AreSameRooms touched (touched_in s t) → ArePicked a (is_log_in s t.meta.commits touched) t.log (kept_in s a)
 picked_in a Nothing t touched h by e same = absurd (never by)
@@ -182,9 +148,10 @@ picked_in a (NextCommits k) t touched h by e same = absurd (never by)
 picked_in a (UpTo d) t touched h by e same =
     picked a (λ row. within 1 d row.seq) (λ row. within 1 d row.seq) t.log (take (d - a.dropped) (kept_commits a)) h (ap (λ (x : Tables). x.log) e)
     (λ w g. (kept_known a w h (taken_kept a (d - a.dropped) w g)).0) (truncated a d h) (cut_order a (d - a.dropped) h).0
-picked_in a (Above c) t touched h by e same =
-    picked a (λ row. is_tentative row || nat_lt c row.seq) (λ row. is_tentative row || nat_lt c row.seq) t.log (drop (c - a.dropped) (kept_commits a) ++ tentative a) h (ap (λ (x : Tables). x.log) e)
-    (λ w g. (kept_known a w h (left_kept a (c - a.dropped) w g)).0) (above_rows a c h) (cut_order a (c - a.dropped) h).1
+picked_in a (OfPosition p) t touched h by e same =
+    subst (ArePicked a (is_due_to p) t.log) (due_kept a p h)
+    (picked a (is_due_to p) (is_due_to p) t.log (filter (λ w. is_due_to p (log_row a w)) (kept_in_order a)) h (ap (λ (x : Tables). x.log) e)
+    (λ w g. (kept_known a w h (filter_has (λ v. is_due_to p (log_row a v)) w (kept_in_order a) g).0).0) (scope.picked_rows a (is_due_to p) h).0 (scope.picked_rows a (is_due_to p) h).1)
 picked_in a (OfItems items) t touched h by e same =
     picked a (is_log_in (OfItems items) t.meta.commits touched) test t.log (filter (λ w. test (log_row a w)) (kept_in_order a)) h
     ((λ i. filter (λ row. is_named items row || (is_in_tail t.meta.commits items row && same row.room i)) t.log) ∙ ap (λ (x : Tables). x.log) e)
@@ -224,7 +191,7 @@ bookings_told a (OfRequest q) t touched e same = ap (λ (x : Tables). x.booking)
 bookings_told a (OfTarget target) t touched e same = ap (λ (x : Tables). x.booking) e
 bookings_told a (NextCommits k) t touched e same = none_picked t.booking
 bookings_told a (UpTo d) t touched e same = none_picked t.booking
-bookings_told a (Above c) t touched e same = none_picked t.booking
+bookings_told a (OfPosition p) t touched e same = none_picked t.booking
 bookings_told a (OfItems items) t touched e same = (λ i. filter (λ b. same b.room i) t.booking) ∙ ap (λ (x : Tables). x.booking) e
 
 errors_told : (a : Replica) (s : Scope) (t : Tables) → in_scope s t ≡ in_scope s (tables_of a) → filter (is_error_in s) t.errorlog ≡ (in_scope s (tables_of a)).errorlog
@@ -233,7 +200,7 @@ errors_told a (OfRequest q) t e = none_picked t.errorlog
 errors_told a (OfTarget target) t e = ap (λ (x : Tables). x.errorlog) e
 errors_told a (NextCommits k) t e = none_picked t.errorlog
 errors_told a (UpTo d) t e = none_picked t.errorlog
-errors_told a (Above c) t e = none_picked t.errorlog
+errors_told a (OfPosition p) t e = none_picked t.errorlog
 errors_told a (OfItems items) t e = none_picked t.errorlog
 
 cancelled_told : (a : Replica) (s : Scope) (t : Tables) (touched : List Text) → IsReplica a → in_scope s t ≡ in_scope s (tables_of a) → AreSameRooms touched (touched_in s t) → filter (is_cancelled_in s touched (map id_of (kept_in s a))) t.cancelled ≡ (in_scope s (tables_of a)).cancelled
@@ -242,7 +209,7 @@ cancelled_told a (OfRequest q) t touched h e same = ap (λ (x : Tables). x.cance
 cancelled_told a (OfTarget target) t touched h e same = ap (λ (x : Tables). x.cancelled) e
 cancelled_told a (NextCommits k) t touched h e same = (λ i. filter (is_cancelled_in (NextCommits k) touched (commit_ids a k t h e i)) t.cancelled) ∙ ap (λ (x : Tables). x.cancelled) e
 cancelled_told a (UpTo d) t touched h e same = none_picked t.cancelled
-cancelled_told a (Above c) t touched h e same = none_picked t.cancelled
+cancelled_told a (OfPosition p) t touched h e same = none_picked t.cancelled
 cancelled_told a (OfItems items) t touched h e same = (λ i. filter (λ c. same c.room i) t.cancelled) ∙ ap (λ (x : Tables). x.cancelled) e
 
 -- of a scope no rows of cancels are there
@@ -252,7 +219,7 @@ no_cancels (OfRequest q) t = refl
 no_cancels (OfTarget target) t = refl
 no_cancels (NextCommits k) t = refl
 no_cancels (UpTo d) t = refl
-no_cancels (Above c) t = refl
+no_cancels (OfPosition p) t = refl
 no_cancels (OfItems items) t = refl
 
 -- so they make the board of those in scope
@@ -290,7 +257,7 @@ scope_within a s h = go s
     go (OfTarget target) = record { booking = bookings (λ b. same_id (booking_id b) target); errorlog = errors (λ e. same_id (error_id e) target); cancelled = cancelled (λ c. same_id (cancelled_id c) target) }
     go (NextCommits k) = record { booking = tt; errorlog = tt; cancelled = cancelled (λ c. is_among (cancelled_id c) (map log_row_id (next_commits k t))) }
     go (UpTo d) = record { booking = tt; errorlog = tt; cancelled = tt }
-    go (Above c) = record { booking = tt; errorlog = tt; cancelled = tt }
+    go (OfPosition p) = record { booking = tt; errorlog = tt; cancelled = tt }
     go (OfItems items) = record { booking = bookings (λ b. is_touched t items b.room); errorlog = tt; cancelled = cancelled (λ c. is_touched t items c.room) }
 
 pub picked_within : (a : Replica) (s : Scope) (t : Tables) (touched : List Text) → IsReplica a → in_scope s t ≡ in_scope s (tables_of a) → AreSameRooms touched (touched_in s t) → AreWithin (picked_rows s touched (map id_of (kept_in s a)) t)

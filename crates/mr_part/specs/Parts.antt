@@ -6,14 +6,14 @@ use Rattle.mr_model.specs.Replica.{Replica, IsReplica, tentative}
 use Rattle.mr_model.specs.Kept.{kept_in_order}
 use Rattle.mr_model.specs.Changes.{first_tentative}
 use Rattle.mr_model.specs.Replies.{Reply}
-use Rattle.mr_model.specs.Step.{After}
+use Rattle.mr_model.specs.Step.{After, lacks}
 use Rattle.mr_model.specs.Tables.{seq_of, log_row, tables_of}
 use Rattle.mr_model.specs.View.{place_of}
 use Rattle.mr_base.specs.declared.refusals.Refusal.{Refusal}
 use Rattle.mr_base.specs.declared.refusals.Refusal.TheVariants.{OutOfMemory}
 use Rattle.mr_replay.specs.Places.{UndoRow}
 use Rattle.mr_replay.specs.Rows.{Rows}
-use Rattle.mr_model.specs.Scopes.{Scope, Nothing, OfRequest, OfTarget, NextCommits, UpTo, Above, OfItems, is_named, is_in_tail, is_touched, in_scope}
+use Rattle.mr_model.specs.Scopes.{Scope, Nothing, OfRequest, OfTarget, NextCommits, UpTo, OfPosition, OfItems, is_named, is_in_tail, is_touched, in_scope}
 use Rattle.mr_model.specs.RowsInScope.{kept_commits}
 use Rattle.mr_tables.specs.declared.summary.Summary.{Summary}
 use Rattle.mr_tables.specs.Summary.{summary_of}
@@ -39,7 +39,7 @@ kept_in (OfRequest q) a = []
 kept_in (OfTarget target) a = []
 kept_in (NextCommits k) a = first_tentative a k
 kept_in (UpTo d) a = take (d - a.dropped) (kept_commits a)
-kept_in (Above commits) a = drop (commits - a.dropped) (kept_commits a) ++ tentative a
+kept_in (OfPosition p) a = drop (p.commits - a.dropped) (kept_commits a) ++ filter (lacks p) (tentative a)
 kept_in (OfItems items) a =
     filter
     (λ w. is_named items (log_row a w) || (is_in_tail (length a.commits) items (log_row a w) && is_touched (tables_of a) items w.room))
@@ -75,5 +75,5 @@ AnswersPart s answer reply part result =
 
 -- no commit that is asked for is dropped: then all that is asked for is there
 abbrev pub IsAskedOf : Scope → Replica → Type 0
-IsAskedOf (Above commits) a = a.dropped ≤ commits
+IsAskedOf (OfPosition p) a = a.dropped ≤ p.commits
 IsAskedOf _ a = Unit {0}

@@ -1,5 +1,5 @@
 -- Which rows of log are in scope, told row by row, and the writes that such rows tell.
-use Rattle.std.specs.Prelude.{ℕ, suc, Bool, true, false, ◌&&◌, ◌||◌, if◌then◌else◌, ◌==◌, nat_lt, List, [], ◌∷◌, map, filter, ◌↔◌, ◌≡◌, bytes_eq, IsTrue}
+use Rattle.std.specs.Prelude.{ℕ, suc, Bool, true, false, ◌&&◌, ◌||◌, if◌then◌else◌, ◌==◌, List, [], ◌∷◌, map, filter, ◌↔◌, ◌≡◌, bytes_eq, IsTrue}
 use Rattle.std.specs.List.{list_any, AllByRecursion}
 use Rattle.mr_model.specs.Texts.{Text, within}
 use Rattle.mr_model.specs.Writes.{Write, id_of, is_write}
@@ -10,7 +10,7 @@ use Rattle.mr_replay.specs.Rows.{undo_row_at}
 use Rattle.mr_model.specs.Dropped.{Has}
 use Rattle.mr_model.specs.Kept.{AreInRunOrder}
 use Rattle.mr_model.specs.Changes.{RiseById}
-use Rattle.mr_model.specs.Scopes.{Scope, UpTo, Above, OfItems, is_tentative, is_named, is_in_tail, row_before}
+use Rattle.mr_model.specs.Scopes.{Scope, UpTo, OfPosition, OfItems, is_named, is_in_tail, is_due_to, row_before}
 use Rattle.mr_replica.specs.declared.kept_rows.RunPlace.{RunPlace}
 use Rattle.mr_replica.specs.Logged.{undo_with}
 use Rattle.mr_part.specs.declared.scope_logs.LoggedWrite.{LoggedWrite}
@@ -19,14 +19,14 @@ use Rattle.mr_part.specs.declared.scope_logs.LoggedWrite.{LoggedWrite}
 -- tentative rows tell which are its
 abbrev pub is_log_in : Scope → ℕ → List Text → LogRow → Bool
 is_log_in (UpTo number) commits touched row = within 1 number row.seq
-is_log_in (Above number) commits touched row = is_tentative row || nat_lt number row.seq
+is_log_in (OfPosition p) commits touched row = is_due_to p row
 is_log_in (OfItems items) commits touched row = is_named items row || (is_in_tail commits items row && list_any (bytes_eq row.room) touched)
 is_log_in _ commits touched row = false
 
 -- whether the scope's rows of log are told row by row, and there are such
 abbrev pub is_by_row : Scope → Bool
 is_by_row (UpTo number) = true
-is_by_row (Above number) = true
+is_by_row (OfPosition p) = true
 is_by_row (OfItems items) = true
 is_by_row _ = false
 

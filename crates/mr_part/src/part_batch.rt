@@ -1,6 +1,6 @@
 ghost use Rattle.std.specs.Prelude.{◌≡◌, ◌≢◌, ◌<◌, Err};
 ghost use Rattle.mr_model.specs.Replies.{BatchIs};
-ghost use Rattle.mr_model.specs.Scopes.{Above};
+ghost use Rattle.mr_model.specs.Scopes.{OfPosition};
 ghost use Rattle.mr_model.specs.Step.{batch_reply};
 ghost use Rattle.mr_replica.specs.Desk.{NeverStore};
 ghost use Rattle.mr_part.specs.Parts.{AnswersPart};
@@ -15,7 +15,7 @@ impl Part {
     /// the tentative writes that it lacks, so many lines at most, in the position's version. It is refused where one of the commits
     /// is dropped, and where that version can't say one of these writes, which the second always can.
     pub fn batch(&self, position: &Position, max_lines: LineCount) -> Result<Batch, Refusal>
-        ensures step { AnswersPart (Above position.now.commits) (λ a. batch_reply a position.now max_lines) (λ batch. BatchIs batch) self.now result }
+        ensures step { AnswersPart (OfPosition position.now) (λ a. batch_reply a position.now max_lines) (λ batch. BatchIs batch) self.now result }
         // A refusal that is due is returned without memory.
         ensures due_primary { position.now.primary ≢ self.now.summary.primary → result ≡ Err Refusal.WrongPrimary }
         ensures due_truncated { position.now.primary ≡ self.now.summary.primary → position.now.commits < self.now.summary.dropped → result ≡ Err Refusal.Truncated }

@@ -94,7 +94,7 @@ fn touched_in(alloc: Global, scope: &Scope<'_>, tables: &Tables) -> Result<Vec<R
         | Scope::OfTarget(_)
         | Scope::NextCommits(_)
         | Scope::UpTo(_)
-        | Scope::Above(_) => Ok(Vec::new(alloc)),
+        | Scope::OfPosition(_) => Ok(Vec::new(alloc)),
     }
 }
 
@@ -148,7 +148,7 @@ fn logged_in(
         Scope::Nothing | Scope::OfRequest(_, _) => Ok(Vec::new(alloc)),
         Scope::OfTarget(_) => Ok(Vec::new(alloc)),
         Scope::NextCommits(count) => first_writes(alloc, &tables.log, count),
-        Scope::UpTo(_) | Scope::Above(_) | Scope::Items(_) => {
+        Scope::UpTo(_) | Scope::OfPosition(_) | Scope::Items(_) => {
             picked_in(alloc, scope, tables, touched)
         }
     }

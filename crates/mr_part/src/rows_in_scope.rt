@@ -30,7 +30,7 @@ pub fn logs_in_scope<'a>(
         Scope::Nothing | Scope::OfRequest(_, _) => Ok(Vec::new(alloc)),
         Scope::OfTarget(_) => Ok(Vec::new(alloc)),
         Scope::NextCommits(count) => first_rows(alloc, rows, count as usize),
-        Scope::UpTo(_) | Scope::Above(_) | Scope::Items(_) => {
+        Scope::UpTo(_) | Scope::OfPosition(_) | Scope::Items(_) => {
             picked_rows(alloc, scope, rows, commits)
         }
     }
@@ -70,7 +70,7 @@ fn rooms_moved(
         | Scope::OfTarget(_)
         | Scope::NextCommits(_)
         | Scope::UpTo(_)
-        | Scope::Above(_) => Ok(Vec::new(alloc)),
+        | Scope::OfPosition(_) => Ok(Vec::new(alloc)),
     }
 }
 

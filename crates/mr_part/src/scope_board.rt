@@ -132,7 +132,7 @@ fn is_booking_in(row: &BookingRow, scope: &Scope<'_>, rooms: &RoomSet) -> bool
         Scope::OfRequest(room, meeting) => row.room == *room && has_choice_on(meeting, row.day),
         Scope::OfTarget(target) => row.id() == target,
         Scope::Items(_) => rooms.contains(&row.room),
-        Scope::Nothing | Scope::NextCommits(_) | Scope::UpTo(_) | Scope::Above(_) => false,
+        Scope::Nothing | Scope::NextCommits(_) | Scope::UpTo(_) | Scope::OfPosition(_) => false,
     }
 }
 
@@ -146,7 +146,7 @@ fn is_error_in(row: &ErrorRow, scope: &Scope<'_>) -> bool
         | Scope::OfRequest(_, _)
         | Scope::NextCommits(_)
         | Scope::UpTo(_)
-        | Scope::Above(_)
+        | Scope::OfPosition(_)
         | Scope::Items(_) => false,
     }
 }
@@ -161,6 +161,6 @@ fn is_cancelled_in(row: &CancelledRow, scope: &Scope<'_>, rooms: &RoomSet, ids: 
         Scope::OfTarget(target) => row.id() == target,
         Scope::NextCommits(_) => ids.contains(&row.id()),
         Scope::Items(_) => rooms.contains(&row.room),
-        Scope::Nothing | Scope::UpTo(_) | Scope::Above(_) => false,
+        Scope::Nothing | Scope::UpTo(_) | Scope::OfPosition(_) => false,
     }
 }

@@ -1,7 +1,7 @@
 ghost use Rattle.std.specs.Prelude.{◌≡◌, ℕ, List, IfOk, IfErr};
 ghost use Rattle.mr_model.specs.Texts.{Text};
 ghost use Rattle.mr_model.specs.Exchange.{Item as ItemOfBatch};
-ghost use Rattle.mr_model.specs.Scopes.{Scope as ScopeOfCommand, is_named, is_in_tail};
+ghost use Rattle.mr_model.specs.Scopes.{Scope as ScopeOfCommand, is_named, is_in_tail, is_due_to};
 ghost use Rattle.mr_part.specs.LogTests.{IsTestOf};
 ghost use Rattle.mr_part.specs.PickedLogs.{is_log_in};
 ghost use Rattle.mr_part.specs.ScopeOf.{scope_of};
@@ -9,8 +9,9 @@ ghost use Rattle.mr_replica.specs.Named.{IsNamedBy};
 ghost use Rattle.mr_replica.specs.Tails.{IsTail};
 
 use crate::Scope;
-use mr_base::{Item, Refusal, RoomName};
+use mr_base::{Item, Position, Refusal, RoomName};
 use mr_replica::named::Named;
+use mr_replica::outgoing::has_less;
 use mr_replica::room_sets::{RoomSet, room_set};
 use mr_replica::tail::{Tail, tail_of};
 use mr_tables::LogRow;
@@ -18,13 +19,13 @@ use std::alloc::Global;
 
 /// Which rows of `log` are in scope. It is made once, so that each row is asked at the cost of a logarithm.
 #[derive(Drop)]
-pub(crate) enum LogTest {
+pub(crate) enum LogTest<'p> {
     /// No row. Of a commit none is told alone: only all tentative rows tell which are its.
     Never,
     /// The commits up to this number.
     UpTo(u64),
-    /// The commits above this number and all tentative writes.
-    Above(u64),
+    /// The commits above this position's, and the tentative writes that it lacks.
+    OfPosition(&'p Position),
     /// What a batch names, and the tentative writes of these rooms in its tail.
     Items {
         named: Named,
@@ -33,14 +34,14 @@ pub(crate) enum LogTest {
     },
 }
 
-impl LogTest {
+impl<'p> LogTest<'p> {
     /// That of a scope, where so many commits are known and a batch touches these rooms.
     pub(crate) fn of(
         alloc: Global,
-        scope: &Scope<'_>,
+        scope: &Scope<'p>,
         commits: u64,
         touched: &[RoomName],
-    ) -> Result<LogTest, Refusal>
+    ) -> Result<LogTest<'p>, Refusal>
         ensures test { IfOk result (λ test. IsTestOf test (scope_of scope.now) commits touched.now) }
         ensures only { IfErr result (λ e. e ≡ Refusal.OutOfMemory) }
     {
@@ -48,7 +49,7 @@ impl LogTest {
             Scope::Nothing | Scope::OfRequest(_, _) | Scope::OfTarget(_) | Scope::NextCommits(_) =>
                 { Ok(LogTest::Never) }
             Scope::UpTo(number) => Ok(LogTest::UpTo(number)),
-            Scope::Above(number) => Ok(LogTest::Above(number)),
+            Scope::OfPosition(position) => Ok(LogTest::OfPosition(position)),
             Scope::Items(items) => Ok(LogTest::Items {
                 named: Named::by(alloc, items)?,
                 tail: tail_of(items, commits),
@@ -65,12 +66,19 @@ impl LogTest {
         match self {
             LogTest::Never => false,
             LogTest::UpTo(number) => row.seq >= 1 && row.seq <= *number,
-            LogTest::Above(number) => row.seq == 0 || row.seq > *number,
+            LogTest::OfPosition(position) => is_due_to(row, position),
             LogTest::Items { named, tail, rooms } => {
                 is_named(row, named) || (is_in_tail(row, tail) && rooms.contains(&row.room))
             }
         }
     }
+}
+
+/// Whether the row is of a commit above the position's, or of a tentative write that it lacks.
+fn is_due_to(row: &LogRow, position: &Position) -> bool
+    ensures { result ≡ is_due_to position.now row.now }
+{
+    row.seq == 0 && has_less(position, row.server, row.n) || row.seq > position.commits
 }
 
 /// Whether the row is of a write that is named, by its id or by its commit number.

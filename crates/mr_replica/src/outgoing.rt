@@ -1,4 +1,4 @@
-ghost use Rattle.std.specs.Prelude.{◌≡◌, ◌≤◌, ◌+◌, ◌++◌, [], ◌∷◌, List, Some, length, map, OnOk, IfOk, IfErr};
+ghost use Rattle.std.specs.Prelude.{◌≡◌, ◌≤◌, ◌+◌, ◌++◌, [], ◌∷◌, nat_lt, List, Some, length, map, OnOk, IfOk, IfErr};
 ghost use Rattle.std.specs.List.{list_all};
 ghost use Rattle.mr_model.specs.Exchange.{Item as ItemOfBatch, W as WriteLine, C as CommitLine, is_item};
 ghost use Rattle.mr_model.specs.Positions.{count_among};
@@ -163,7 +163,14 @@ pub fn outgoing_for(
 fn is_lacked(position: &Position, write: &Write) -> bool
     ensures { result ≡ lacks position.now write.now }
 {
-    count_in(&position.counts, write.stamp.server) < write.stamp.n
+    has_less(position, write.stamp.server, write.stamp.n)
+}
+
+/// Whether the position has less than so many writes of the server.
+pub fn has_less(position: &Position, server: ServerId, n: u32) -> bool
+    ensures { result ≡ nat_lt (count_among position.now.counts server) n }
+{
+    count_in(&position.counts, server) < n
 }
 
 /// The count of a server.

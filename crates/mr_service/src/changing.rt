@@ -138,6 +138,6 @@ pub(crate) fn batch_for<K: Keeper>(
     ensures served { IsServed K.Keeper keeper.old keeper.new (model.BatchFor position.now max_lines) (reply_in result) }
 {
     let position = read_position(alloc, position)?;
-    let part = load(keeper, &Scope::Above(position.commits))?;
+    let part = load(keeper, &Scope::OfPosition(&position))?;
     turns::batch(&part, &position, max_lines)
 }

@@ -111,7 +111,7 @@ pub(crate) fn batch(
     max_lines: LineCount,
 ) -> Result<Reply, Refusal>
     ensures { IsWithin part.now.summary
-        → Tells (scopes.Above position.now.commits) (λ a. model.leave a (model.batch_reply a position.now max_lines)) part.now result }
+        → Tells (scopes.OfPosition position.now) (λ a. model.leave a (model.batch_reply a position.now max_lines)) part.now result }
 {
     Ok(Reply::Batch(part.batch(position, max_lines)?))
 }

@@ -11,7 +11,7 @@ use Rattle.mr_model.specs.Exchange.{Item}
 use Rattle.mr_model.specs.Tables.{MetaRow, VectorRow, LogRow, BookingRow, ErrorRow, CancelledRow, Tables, log_row, kept, seq_among, tables_of}
 use Rattle.mr_model.specs.Queries.{booking_id, error_id, cancelled_id}
 use Rattle.mr_model.specs.Dropped.{Has}
-use Rattle.mr_model.specs.Scopes.{Scope, Nothing, OfRequest, OfTarget, NextCommits, UpTo, Above, OfItems, log_row_id, is_on_day_of, is_touched, next_commits, with_rows, in_scope}
+use Rattle.mr_model.specs.Scopes.{Scope, Nothing, OfRequest, OfTarget, NextCommits, UpTo, OfPosition, OfItems, log_row_id, is_on_day_of, is_touched, next_commits, with_rows, in_scope}
 use Rattle.mr_model.specs.RowsRead.{rows_read}
 use Rattle.mr_model.proofs.ReadRows.{read_rows}
 use Rattle.mr_model.proofs.Members.{filter_has, map_has}
@@ -52,7 +52,7 @@ logs_same s t p pass = alone s ∙ ap (λ (u : Tables). u.log) (logs_suffice s t
     alone (OfTarget target) = refl
     alone (NextCommits k) = refl
     alone (UpTo d) = refl
-    alone (Above c) = refl
+    alone (OfPosition p) = refl
     alone (OfItems items) = refl
 
 -- ---- bookings
@@ -75,7 +75,7 @@ booking_read (OfTarget target) t p pass b h =
     or_left (is_booking_named target b) false (or_left (same_id (booking_id b) target) false (filter_has (λ (c : BookingRow). same_id (booking_id c) target) b t.booking h).1)
 booking_read (NextCommits k) t p pass b h = absurd h
 booking_read (UpTo d) t p pass b h = absurd h
-booking_read (Above c) t p pass b h = absurd h
+booking_read (OfPosition q) t p pass b h = absurd h
 booking_read (OfItems items) t p pass b h =
     or_left (is_row_asked is_booking_asked (room_questions t.meta.commits (OfItems items) (filter p t.log)) b) false (touched_booking items t p pass b h)
 
@@ -88,7 +88,7 @@ error_read (OfTarget target) t e h =
     or_left (is_error_of target e) false (or_left (same_id (error_id e) target) false (filter_has (λ (c : ErrorRow). same_id (error_id c) target) e t.errorlog h).1)
 error_read (NextCommits k) t e h = absurd h
 error_read (UpTo d) t e h = absurd h
-error_read (Above c) t e h = absurd h
+error_read (OfPosition q) t e h = absurd h
 error_read (OfItems items) t e h = absurd h
 
 -- ---- cancelled bookings
@@ -123,7 +123,7 @@ cancelled_read (OfTarget target) t p pass c h =
     or_left (is_cancelled_of target c) false (or_left (same_id (cancelled_id c) target) false (filter_has (λ (d : CancelledRow). same_id (cancelled_id d) target) c t.cancelled h).1)
 cancelled_read (NextCommits k) t p pass c h = next_cancelled k t p pass c h
 cancelled_read (UpTo d) t p pass c h = absurd h
-cancelled_read (Above n) t p pass c h = absurd h
+cancelled_read (OfPosition q) t p pass c h = absurd h
 cancelled_read (OfItems items) t p pass c h =
     or_left (is_row_asked is_cancelled_asked (room_questions t.meta.commits (OfItems items) (filter p t.log)) c) false (touched_cancelled items t p pass c h)
 

@@ -1,10 +1,10 @@
 -- The questions of a scope: which rows of the tables are asked for.
-use Rattle.std.specs.Prelude.{◌≡◌, ◌≤◌, ℕ, ◌+◌, Bool, true, false, ◌||◌, if◌then◌else◌, nat_lt, List, [], ◌∷◌, map, filter, flat_map}
+use Rattle.std.specs.Prelude.{◌≡◌, ◌≤◌, ℕ, Bool, true, false, ◌||◌, if◌then◌else◌, nat_lt, List, [], ◌∷◌, map, filter, flat_map}
 use Rattle.std.specs.declared.cmp.Ordering.{Ordering}
 use Rattle.std.specs.Ordering.{nat_cmp, ordering_then}
 use Rattle.mr_model.specs.Texts.{Text}
 use Rattle.mr_model.specs.Writes.{Id}
-use Rattle.mr_model.specs.Scopes.{Scope, OfRequest, OfTarget, NextCommits, UpTo, Above, OfItems, log_row_id, next_commits, rooms_of_item, in_scope}
+use Rattle.mr_model.specs.Scopes.{Scope, OfRequest, OfTarget, NextCommits, UpTo, OfPosition, OfItems, log_row_id, next_commits, rooms_of_item, in_scope}
 use Rattle.mr_model.specs.Tables.{LogRow, BookingRow, ErrorRow, CancelledRow, Tables}
 use Rattle.mr_model.specs.Dropped.{Has}
 use Rattle.mr_rows.specs.declared.questions.NumberQuestion.{NumberQuestion}
@@ -23,12 +23,12 @@ tentative_question = between 0 0
 -- No row has a number above `commits`.
 abbrev pub number_questions : ℕ → Scope → List NumberQuestion
 number_questions commits (UpTo d) = between 1 (if nat_lt commits d then commits else d) ∷ []
-number_questions commits (Above c) = if nat_lt c commits then tentative_question ∷ between (c + 1) commits ∷ [] else tentative_question ∷ []
 number_questions commits _ = []
 
 -- the scopes of which nothing else is asked of the log
 abbrev pub is_of_numbers : Scope → Bool
 is_of_numbers (NextCommits k) = false
+is_of_numbers (OfPosition p) = false
 is_of_numbers (OfItems items) = false
 is_of_numbers _ = true
 

@@ -17,6 +17,7 @@ mod load;
 mod our_tables;
 mod schema_number;
 mod schemas;
+mod scope_due;
 mod scope_late;
 mod scope_logs;
 mod scope_questions;

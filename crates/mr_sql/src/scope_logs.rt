@@ -1,17 +1,18 @@
 ghost use Rattle.std.specs.Prelude.{◌≡◌, ℕ, true, false, map, IfOk};
 ghost use Rattle.sqlite.specs.Held.{state};
 ghost use Rattle.mr_base.specs.Batches.{item_of};
-ghost use Rattle.mr_model.specs.Scopes.{NextCommits, OfItems, log_row_id, next_commits};
+ghost use Rattle.mr_model.specs.Scopes.{NextCommits, OfPosition, OfItems, log_row_id, next_commits};
 ghost use Rattle.mr_part.specs.ScopeOf.{scope_of};
 ghost use Rattle.mr_rows.specs.Database.{tables_in};
 ghost use Rattle.mr_rows.specs.Reads.{ReadsInUse};
 ghost use Rattle.mr_sql.specs.ScopeQuestions.{AreLogsRead, is_of_numbers};
 ghost use Rattle.mr_sql.specs.LateTests.{IsLateTest};
 
+use crate::scope_due::{DueTest, due_rows};
 use crate::scope_late::{LateTest, late_rows};
 use crate::scope_questions::{item_questions, number_questions, tentative_rows};
 use crate::scope_stamps::first_ids;
-use mr_base::Item;
+use mr_base::{Item, Position};
 use mr_part::Scope;
 use mr_rows::asked_rows::asked_rows;
 use mr_rows::{IdQuestion, StoredRow, tentative_stamps, with_late_rows};
@@ -105,6 +106,24 @@ fn read_batch<S: Alter>(
     with_late_rows(conn, alloc, late, &test, named)
 }
 
+/// The rows of a batch for a position, in one pass.
+fn read_due<S: Alter>(
+    conn: &mut Connection<S>,
+    alloc: Global,
+    position: &Position,
+    commits: u64,
+) -> Result<Vec<LogRow>, Error>
+    requires autocommit { conn.old.in_transaction ≡ false }
+    ensures autocommit { conn.new.in_transaction ≡ false }
+    ensures reads { ReadsInUse (state S.Store conn.old) (state S.Store conn.new) result
+        (λ rows. commits ≡ (tables_in (state S.Store conn.old).now.trees).meta.commits
+        → AreLogsRead (OfPosition position.now) (tables_in (state S.Store conn.old).now.trees) rows.items) }
+{
+    let late = due_rows(position, commits);
+    let test = DueTest { position };
+    with_late_rows(conn, alloc, late, &test, Vec::new(alloc))
+}
+
 /// The rows that are asked for by numbers.
 fn read_numbers<S: Alter>(
     conn: &mut Connection<S>,
@@ -137,11 +156,10 @@ pub(crate) fn read_logs<S: Alter>(
 {
     match *scope {
         Scope::NextCommits(count) => read_next(conn, alloc, count),
+        Scope::OfPosition(position) => read_due(conn, alloc, position, commits),
         Scope::Items(items) => read_batch(conn, alloc, items, commits),
-        Scope::Nothing
-        | Scope::OfRequest(_, _)
-        | Scope::OfTarget(_)
-        | Scope::UpTo(_)
-        | Scope::Above(_) => read_numbers(conn, alloc, scope, commits),
+        Scope::Nothing | Scope::OfRequest(_, _) | Scope::OfTarget(_) | Scope::UpTo(_) => {
+            read_numbers(conn, alloc, scope, commits)
+        }
     }
 }

@@ -1,4 +1,4 @@
-ghost use Rattle.std.specs.Prelude.{◌≡◌, ◌∷◌, [], List, ℕ, map, if◌then◌else◌, nat_lt, ◌+◌, false, IfOk, IsTrue};
+ghost use Rattle.std.specs.Prelude.{◌≡◌, ◌∷◌, [], List, ℕ, map, if◌then◌else◌, nat_lt, false, IfOk, IsTrue};
 ghost use Rattle.mr_base.specs.Batches.{item_of};
 ghost use Rattle.mr_model.specs.Scopes.{in_scope, item_id, log_row_id};
 ghost use Rattle.mr_model.specs.Tables.{LogRow as Row};
@@ -34,21 +34,6 @@ fn rows_up_to(alloc: Global, number: u64, commits: u64) -> Result<Vec<NumberQues
     one_question(alloc, 1, last)
 }
 
-/// For the tentative rows and those of the commits above this number, where so many are known.
-fn rows_above(alloc: Global, number: u64, commits: u64) -> Result<Vec<NumberQuestion>, AllocError>
-    ensures { IfOk result (λ questions. questions.items ≡
-        (if nat_lt number commits then tentative_question ∷ between (number + 1) commits ∷ [] else tentative_question ∷ [])) }
-{
-    let mut questions = tentative_rows(alloc)?;
-    if number < commits {
-        questions.push(NumberQuestion {
-            low: number + 1,
-            high: commits,
-        })?;
-    }
-    Ok(questions)
-}
-
 /// What is asked of `log` by numbers for a scope, where so many commits are known.
 pub(crate) fn number_questions(
     alloc: Global,
@@ -59,11 +44,11 @@ pub(crate) fn number_questions(
 {
     match *scope {
         Scope::UpTo(number) => rows_up_to(alloc, number, commits),
-        Scope::Above(number) => rows_above(alloc, number, commits),
         Scope::Nothing
         | Scope::OfRequest(_, _)
         | Scope::OfTarget(_)
         | Scope::NextCommits(_)
+        | Scope::OfPosition(_)
         | Scope::Items(_) => Ok(Vec::new(alloc)),
     }
 }

@@ -31,7 +31,7 @@ pub(crate) fn room_questions(
         | Scope::OfTarget(_)
         | Scope::NextCommits(_)
         | Scope::UpTo(_)
-        | Scope::Above(_) => Ok(Vec::new(alloc)),
+        | Scope::OfPosition(_) => Ok(Vec::new(alloc)),
     }
 }
 

@@ -10,7 +10,7 @@ use mr_part::Scope;
 use mr_service::Service;
 use mr_sql::SqlKeeper;
 use mr_store::{Keeper, ListKeeper};
-use mr_wire::read_batch;
+use mr_wire::{read_batch, read_position};
 use sqlite::MemStore;
 use std::alloc::Global;
 use std::process::Abort;
@@ -43,14 +43,14 @@ enum For {
     Cancel(u32),
     Commit(u64),
     Truncation(u64),
-    /// A batch for a position with so many commits.
-    Above(u64),
+    /// A batch for the position of this text.
+    PositionOf(&'static str),
     /// A batch of this text, which is received.
     Batch(&'static str),
 }
 
 /// The writes of elm are committed: 52 rows of `log`, 3 of `booking`, 49 of `errorlog`.
-static OF_COMMITTED: [(For, u64); 15] = [
+static OF_COMMITTED: [(For, u64); 18] = [
     (For::Position, 0),
     (For::Submission("oak", MONDAY), 2),
     (For::Submission("elm", MONDAY), 1),
@@ -60,8 +60,14 @@ static OF_COMMITTED: [(For, u64); 15] = [
     (For::Commit(9), 2),
     (For::Truncation(10), 10),
     (For::Truncation(50), 50),
-    (For::Above(40), 12),
-    (For::Above(50), 2),
+    // ten commits and the two tentative writes
+    (For::PositionOf("mp2 1 1\nK 40\nE\n"), 12),
+    (For::PositionOf("mp2 1 1\nK 50\nE\n"), 2),
+    // one of these is known there
+    (For::PositionOf("mp2 1 1\nK 50\nV 1 1\nE\n"), 1),
+    // all writes are, but not all commits
+    (For::PositionOf("mp2 1 1\nK 40\nV 1 1\nV 2 1\nV 3 50\nE\n"), 10),
+    (For::PositionOf("mp2 1 1\nK 50\nV 1 1\nV 2 1\nV 3 50\nE\n"), 0),
     // the bookings of oak
     (For::Batch(GAMMA), 2),
     // the write, which is committed already
@@ -75,17 +81,19 @@ static OF_COMMITTED: [(For, u64); 15] = [
 static OF_DROPPED: [(For, u64); 5] = [
     (For::Submission("elm", MONDAY), 1),
     (For::Commit(9), 2),
-    (For::Above(50), 2),
+    (For::PositionOf("mp2 1 1\nK 50\nE\n"), 2),
     (For::Batch(GAMMA), 2),
     (For::Batch(FIRST), 0),
 ];
 
 /// They are tentative.
-static OF_TENTATIVE: [(For, u64); 7] = [
+static OF_TENTATIVE: [(For, u64); 8] = [
     (For::Submission("elm", MONDAY), 1),
     (For::Commit(3), 3),
     (For::Truncation(0), 0),
-    (For::Above(0), 52),
+    (For::PositionOf("mp2 1 1\nK 0\nE\n"), 52),
+    // all but the first 49 of elm
+    (For::PositionOf("mp2 1 1\nK 0\nV 3 49\nE\n"), 3),
     // the bookings of oak
     (For::Batch(GAMMA), 2),
     // the writes of elm, and the one booking of elm
@@ -95,7 +103,7 @@ static OF_TENTATIVE: [(For, u64); 7] = [
 ];
 
 /// Two requests of oak, one of which found no free slot, and two cancels: 4 rows of `log`, one each of `errorlog` and `cancelled`.
-static OF_CANCELLED: [(For, u64); 10] = [
+static OF_CANCELLED: [(For, u64); 11] = [
     (For::Submission("oak", MONDAY), 1),
     (For::Submission("oak", "1995-12-19"), 0),
     (For::Cancel(1), 1),
@@ -106,7 +114,9 @@ static OF_CANCELLED: [(For, u64); 10] = [
     (For::Commit(1), 2),
     (For::Commit(9), 5),
     (For::Truncation(0), 0),
-    (For::Above(0), 4),
+    (For::PositionOf("mp2 1 1\nK 0\nE\n"), 4),
+    // the cancels alone
+    (For::PositionOf("mp2 1 1\nK 0\nV 9 2\nE\n"), 2),
 ];
 
 fn rows_in<K: Keeper>(keeper: &mut K, scope: &Scope<'_>) -> Result<u64, Refusal> {
@@ -133,6 +143,15 @@ fn rows_of_batch<K: Keeper>(alloc: Global, keeper: &mut K, text: &str) -> Result
     rows_in(keeper, &Scope::Items(&batch.items))
 }
 
+fn rows_of_position<K: Keeper>(
+    alloc: Global,
+    keeper: &mut K,
+    text: &str,
+) -> Result<u64, Refusal> {
+    let position = read_position(alloc, text.as_bytes())?;
+    rows_in(keeper, &Scope::OfPosition(&position))
+}
+
 fn rows_of_target<K: Keeper>(keeper: &mut K, n: u32) -> Result<u64, Refusal> {
     let target = WriteId::new(server(9)?, n).ok_or(Refusal::NoSuchRequest)?;
     rows_in(keeper, &Scope::OfTarget(target))
@@ -146,7 +165,7 @@ fn rows<K: Keeper>(alloc: Global, keeper: &mut K, part: For) -> Result<u64, Refu
         For::Cancel(n) => rows_of_target(keeper, n),
         For::Commit(count) => rows_in(keeper, &Scope::NextCommits(count)),
         For::Truncation(number) => rows_in(keeper, &Scope::UpTo(number)),
-        For::Above(commits) => rows_in(keeper, &Scope::Above(commits)),
+        For::PositionOf(text) => rows_of_position(alloc, keeper, text),
         For::Batch(text) => rows_of_batch(alloc, keeper, text),
     }
 }

@@ -114,7 +114,7 @@ impl Remembered {
             Scope::OfTarget(_)
             | Scope::NextCommits(_)
             | Scope::UpTo(_)
-            | Scope::Above(_)
+            | Scope::OfPosition(_)
             | Scope::Items(_) => self.load_settled(scope),
         }
     }
