@@ -1,0 +1,77 @@
+"""The order in which checks run side by side."""
+from concurrent.futures import FIRST_COMPLETED, ThreadPoolExecutor, wait
+
+from toolchain import rt
+
+# tests and edits that run while there are proofs left: more would hold up the next proof of the longest chain
+MOST_BESIDE = 2
+
+
+def is_proof(key):
+    return key[1] == "proof"
+
+
+class Lanes:
+    """The tasks that are left and those that run. A task is as `in_lanes` of `rt` has it: what it waits for, its lines, its memory, and a call."""
+
+    def __init__(self, tasks):
+        # (one lane more than processors: a proof begins and ends with work for one)
+        self.tasks, self.count, self.memory = tasks, rt().processors() + 1, 0.85 * rt().free()
+        # jobs of one proof at most: with half of the processors it holds up nothing, and more cost more than they gain
+        self.most_jobs = max(2, rt().processors() // 2)
+        self.behind, self.running, self.given = self.chains(), {}, {}
+        self.left = sorted(tasks, key=lambda key: -self.behind[key])
+
+    def chains(self):
+        """Of each task its own lines and those of the longest chain of tasks behind it."""
+        behind = {key: 0 for key in self.tasks}
+        for key in reversed(list(self.tasks)):
+            behind[key] += self.tasks[key][1]
+            for below in self.tasks[key][0]:
+                behind[below] = max(behind[below], behind[key])
+        return behind
+
+    def ready(self):
+        return [key for key in self.left if all(below in self.given for below in self.tasks[key][0])]
+
+    def is_critical(self, key):
+        """Whether the chain that begins with this task is about as long as all that is left, shared by the lanes."""
+        lines = sum(self.tasks[it][1] for it in [*self.left, *self.running])
+        return self.behind[key] * self.count > 0.9 * lines
+
+    def next(self):
+        """Which task begins now, the most urgent first, and with how many jobs; None where none can."""
+        room = self.memory - sum(self.tasks[key][2] * (1 + 0.6 * (jobs - 1)) for key, jobs in self.running.items())
+        idle = self.count - sum(self.running.values())
+        is_beside_full = any(map(is_proof, [*self.left, *self.running])) and sum(not is_proof(key) for key in self.running) >= MOST_BESIDE
+        for key in self.ready() if idle > 0 else []:
+            needs = self.tasks[key][2]
+            if self.running and needs > room or is_beside_full and not is_proof(key):
+                continue
+            # more jobs make a proof shorter, and take half as much processor time again
+            is_shared = is_proof(key) and self.is_critical(key)
+            return key, max(1, min(self.most_jobs, idle, 1 + int((room / needs - 1) / 0.6))) if is_shared else 1
+        return None
+
+    def run(self):
+        """Runs all, and returns what each gave."""
+        at_work = {}
+        with ThreadPoolExecutor(self.count) as pool:
+            while self.left or self.running:
+                nothing = [key for key in self.ready() if self.tasks[key][1] == 0]
+                for key in nothing:
+                    # a crate without tests, or without edits: its call returns at once
+                    self.left.remove(key)
+                    self.given[key] = self.tasks[key][3](self.given, 1)
+                if nothing:
+                    continue
+                while chosen := self.next():
+                    key, jobs = chosen
+                    self.left.remove(key)
+                    self.running[key] = jobs
+                    at_work[pool.submit(self.tasks[key][3], self.given, jobs)] = key
+                for done in wait(at_work, return_when=FIRST_COMPLETED).done:
+                    key = at_work.pop(done)
+                    del self.running[key]
+                    self.given[key] = done.result()
+        return self.given
