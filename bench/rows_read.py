@@ -137,10 +137,10 @@ class Command:
     def truncate(self, number):
         self.logs_between(1, min(number, self.commits))
 
-    def batch_for(self, commits):
-        self.logs_between(0, 0)
-        if commits < self.commits:
-            self.logs_between(commits + 1, self.commits)
+    def batch_for(self, commits, counts):
+        """A batch for a position with so many commits, and with these counts of servers."""
+        self.ask('LATE_LOGS', 0, self.commits if commits < self.commits else 0,
+                 passes=lambda row: row[11] > commits or row[11] == 0 and row[1] > counts.get(row[0], 0))
 
     def receive(self, items):
         rows = {Row(*row) for item in items for row in self.ask('select_key_log', item.server, item.n)}
@@ -175,8 +175,9 @@ def commands(bookings):
         ('primary', f'a commit of {LINES}', lambda it: it.commit(LINES)),
         ('primary', 'a commit of all', lambda it: it.commit(last)),
         ('other', f'a truncation, {LINES} commits more', lambda it: it.truncate(dropped + LINES)),
-        ('other', 'a batch for a position with all commits', lambda it: it.batch_for(commits)),
-        ('other', 'a batch for a position with the dropped commits alone', lambda it: it.batch_for(dropped)),
+        ('other', f'a batch for a position that lacks {LINES} writes', lambda it: it.batch_for(commits, {2: bookings, 3: last - bookings - LINES})),
+        ('other', 'a batch for a position that lacks all tentative writes', lambda it: it.batch_for(commits, {2: commits})),
+        ('other', 'a batch for a position with the dropped commits and their writes alone', lambda it: it.batch_for(dropped, {2: dropped})),
         ('other', f'{LINES} writes received, in five rooms', lambda it: it.receive(on_top)),
         ('other', f'{LINES} writes received, in one room', lambda it: it.receive(in_one)),
         ('other', f'{LINES} commits received that are known', lambda it: it.receive(known)),
