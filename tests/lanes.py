@@ -5,6 +5,8 @@ from toolchain import rt
 
 # tests and edits that run while there are proofs left: more would hold up the next proof of the longest chain
 MOST_BESIDE = 2
+# of the memory that `rt` reckons a check with; the dearest checks of the repository took at most two thirds of it
+SHARE_OF_NEED = 0.75
 
 
 def is_proof(key):
@@ -17,6 +19,7 @@ class Lanes:
     def __init__(self, tasks):
         # (one lane more than processors: a proof begins and ends with work for one)
         self.tasks, self.count, self.memory = tasks, rt().processors() + 1, 0.85 * rt().free()
+        self.needs = {key: SHARE_OF_NEED * task[2] for key, task in tasks.items()}
         # jobs of one proof at most: with half of the processors it holds up nothing, and more cost more than they gain
         self.most_jobs = max(2, rt().processors() // 2)
         self.behind, self.running, self.given = self.chains(), {}, {}
@@ -41,11 +44,11 @@ class Lanes:
 
     def next(self):
         """Which task begins now, the most urgent first, and with how many jobs; None where none can."""
-        room = self.memory - sum(self.tasks[key][2] * (1 + 0.6 * (jobs - 1)) for key, jobs in self.running.items())
+        room = self.memory - sum(self.needs[key] * (1 + 0.6 * (jobs - 1)) for key, jobs in self.running.items())
         idle = self.count - sum(self.running.values())
         is_beside_full = any(map(is_proof, [*self.left, *self.running])) and sum(not is_proof(key) for key in self.running) >= MOST_BESIDE
         for key in self.ready() if idle > 0 else []:
-            needs = self.tasks[key][2]
+            needs = self.needs[key]
             if self.running and needs > room or is_beside_full and not is_proof(key):
                 continue
             # more jobs make a proof shorter, and take half as much processor time again
