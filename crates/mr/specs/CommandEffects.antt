@@ -10,7 +10,7 @@ use Rattle.mr_model.specs.Serving.{TakesStep, Reaches}
 use Rattle.mr_model.specs.Tables.{Tables, Stands}
 use Rattle.mr_store.specs.declared.keeper.Keeper.{Ghosts}
 use Rattle.mr_store.specs.KeeperCalls.{IsSettled}
-use Rattle.mr_service.specs.Asking.{Counts, NoneFails}
+use Rattle.mr_service.specs.Asking.{Counts, LeavesOnRefusal, NoneFails, TellsRise}
 use Rattle.mr_service.specs.Replied.{RepliesTo}
 use Rattle.mr_say.specs.CommandOutput.{no_memory_line, status_of, PrintsReply}
 
@@ -22,7 +22,9 @@ pub record IsCommandAsked {K : Type 0} (keeper : Ghosts K) (old new : K) (comman
   pub opens : keeper.is_clean new → keeper.is_open new → keeper.is_open old
   pub takes : keeper.is_clean new → keeper.is_open new → TakesStep (keeper.tables old) command reply (keeper.tables new)
   pub replied : keeper.is_clean new → keeper.is_open old → RepliesTo (keeper.tables old) command reply
+  pub refused : keeper.is_clean new → keeper.is_open new → LeavesOnRefusal reply (keeper.tables old) (keeper.tables new)
   pub counts : Counts reply (keeper.failures old) (keeper.failures new)
+  pub rise : TellsRise reply (keeper.failures old) (keeper.failures new)
   pub sure : keeper.never_fails → keeper.is_clean new → keeper.is_open new → NoneFails (keeper.tables old) (keeper.failures old) (keeper.failures new)
   pub lasts : keeper.is_clean new → keeper.is_open old → IsOfMachine reply ⊎ keeper.is_open new
   pub settled : keeper.is_clean new → keeper.is_open new → IsSettled (keeper.may_leave old) (keeper.tables old)
