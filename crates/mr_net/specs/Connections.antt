@@ -11,12 +11,16 @@ use Rattle.mr_web.specs.RepliesWritten.{Writes}
 use Rattle.mr_say.specs.CommandOutput.{no_memory_line}
 use Rattle.mr_net.specs.Printed.{StopsWithText, connection_lines, serving_line}
 
+-- the request that is read here was served, its reply was written there, and this is its status
+abbrev pub IsServedOver : {K : Type 0} → Ghosts K → K → Option Text → Option Text → Option Text → Option ℕ → K → Type 0
+IsServedOver keeper old known held holds served new =
+    (result : Result ℕ WebFault) × IsRequest keeper old new known result (λ status. status) (EndsServed held holds) (Writes held holds) × (served ≡ result_ok result)
+
 -- One connection: none came, and nothing was asked; or one request of some reader was served to some writer, and this is the status of its reply
 abbrev pub IsConnection : {K : Type 0} → Ghosts K → K → Option ℕ → K → Type 0
 IsConnection keeper old served new =
     ((served ≡ None) × (new ≡ old))
-    ⊎ ((known held holds : Option Text) × (result : Result ℕ WebFault)
-    × IsRequest keeper old new known result (λ status. status) (EndsServed held holds) (Writes held holds) × (served ≡ result_ok result))
+    ⊎ ((known held holds : Option Text) × IsServedOver keeper old known held holds served new)
 
 -- the connections follow on one another, from the one keeper to the other
 abbrev pub AreConnections : {K : Type 0} → Ghosts K → K → List (Option ℕ) → K → Type 0

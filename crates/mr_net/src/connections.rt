@@ -1,12 +1,12 @@
 //! A connection to a served database: how long it is waited for, and how it ends.
 
-ghost use Rattle.mr_net.specs.Connections.{IsConnection};
+ghost use Rattle.mr_net.specs.Connections.{IsConnection, IsServedOver};
 
 use mr_service::Service;
 use mr_store::Keeper;
 use mr_web::serve_one;
 use std::alloc::Global;
-use std::io::Read;
+use std::io::{Read, Write};
 use std::net::{Shutdown, TcpListener, TcpStream};
 use std::time::Duration;
 
@@ -51,7 +51,19 @@ pub(crate) fn serve<K: Keeper>(
 {
     let mut reader = stream;
     let mut writer = stream;
-    serve_one(alloc, &mut reader, &mut writer, service).ok()
+    serve_over(alloc, service, &mut reader, &mut writer)
+}
+
+/// Serves the one request of this reader, and answers the status of the reply that was written, or None where that failed.
+fn serve_over<R: Read, W: Write, K: Keeper>(
+    alloc: Global,
+    service: &mut Service<K>,
+    reader: &mut R,
+    writer: &mut W,
+) -> Option<u16>
+    ensures { IsServedOver K.Keeper service.old (R.remaining reader.old) (W.contents writer.old) (W.contents writer.new) result service.new }
+{
+    serve_one(alloc, reader, writer, service).ok()
 }
 
 /// Ends a connection so that its reply arrives: a system that closes it while bytes of the request wait unread, as those of a body
