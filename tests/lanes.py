@@ -16,12 +16,12 @@ def is_proof(key):
 class Lanes:
     """The tasks that are left and those that run. A task is as `in_lanes` of `rt` has it: what it waits for, its lines, its memory, and a call."""
 
-    def __init__(self, tasks):
+    def __init__(self, tasks, most_jobs):
         # (one lane more than processors: a proof begins and ends with work for one)
         self.tasks, self.count, self.memory = tasks, rt().processors() + 1, 0.85 * rt().free()
         self.needs = {key: SHARE_OF_NEED * task[2] for key, task in tasks.items()}
-        # jobs of one proof at most: with half of the processors it holds up nothing, and more cost more than they gain
-        self.most_jobs = max(2, rt().processors() // 2)
+        # jobs of one proof at most
+        self.most_jobs = most_jobs
         self.behind, self.running, self.given = self.chains(), {}, {}
         self.left = sorted(tasks, key=lambda key: -self.behind[key])
 
@@ -47,13 +47,16 @@ class Lanes:
         room = self.memory - sum(self.needs[key] * (1 + 0.6 * (jobs - 1)) for key, jobs in self.running.items())
         idle = self.count - sum(self.running.values())
         is_beside_full = any(map(is_proof, [*self.left, *self.running])) and sum(not is_proof(key) for key in self.running) >= MOST_BESIDE
-        for key in self.ready() if idle > 0 else []:
+        ready = self.ready() if idle > 0 else []
+        # a proof that others could run beside leaves them half of the processors
+        most_jobs = self.most_jobs if sum(map(is_proof, ready)) == 1 else min(self.most_jobs, max(2, rt().processors() // 2))
+        for key in ready:
             needs = self.needs[key]
             if self.running and needs > room or is_beside_full and not is_proof(key):
                 continue
             # more jobs make a proof shorter, and take half as much processor time again
             is_shared = is_proof(key) and self.is_critical(key)
-            return key, max(1, min(self.most_jobs, idle, 1 + int((room / needs - 1) / 0.6))) if is_shared else 1
+            return key, max(1, min(most_jobs, idle, 1 + int((room / needs - 1) / 0.6))) if is_shared else 1
         return None
 
     def run(self):
