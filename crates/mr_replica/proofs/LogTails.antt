@@ -26,7 +26,8 @@ use Rattle.mr_replica.specs.declared.movable.Movable.{Movable}
 use Rattle.mr_replica.specs.KeptRows.{kept_row, run_place, run_cmp}
 use Rattle.mr_replica.specs.Log.{KeptLog}
 use Rattle.mr_replica.specs.Logged.{undo_with}
-use Rattle.mr_replica.specs.Received.{IsMovable, HasKeptOf, tentative_row, IsLastTaken}
+use Rattle.mr_replica.specs.Movable.{IsMovable}
+use Rattle.mr_replica.specs.Received.{HasKeptOf, tentative_row, IsLastTaken}
 use Rattle.mr_replica.proofs.BatchBoards.{moving}
 use Rattle.mr_replica.proofs.BatchChanges.{again_few}
 use Rattle.mr_replica.proofs.BatchNumbers.{behind_numbered}

@@ -26,4 +26,5 @@ pub mod Taken
 pub mod Moves
 pub mod RoomMoves
 pub mod Named
+pub mod Movable
 pub mod Received

@@ -1,4 +1,4 @@
-ghost use Rattle.std.specs.Prelude.{◌≡◌, ◌≢◌, ◌⊎◌, nat_lt, IfOk, IfErr, map};
+ghost use Rattle.std.specs.Prelude.{◌≡◌, ◌⊎◌, nat_lt, IfOk, IfErr, map};
 ghost use Rattle.mr_model.specs.Replica.{Replica, IsReplica};
 ghost use Rattle.mr_model.specs.Tables.{tables_of};
 ghost use Rattle.mr_replica.specs.Desk.{desk_of, StandsFor, IsWithinLimits};
@@ -10,8 +10,9 @@ ghost use Rattle.mr_tables.specs.SoundRows.{AreSound, Rise};
 ghost use Rattle.mr_tables.specs.Summary.{summary_of as summary_of_replica, IsWithin};
 
 use crate::Desk;
-use crate::kept_rows::log_of;
+use crate::kept_rows::of_store;
 use crate::log::Log;
+use crate::log_rows::log_of;
 use crate::old_rows::{old_cancels_in, old_errors_in};
 use crate::on_board::are_on_board;
 use crate::sound_notes::are_notes_sound;
@@ -47,18 +48,6 @@ impl Desk {
             Ok(desk) => Ok(desk),
             Err(refusal) => Err(of_store(refusal)),
         }
-    }
-}
-
-/// What a refusal of a row's part is told as: the store's, but for want of memory.
-pub fn of_store(refusal: Refusal) -> Refusal
-    ensures memory { refusal ≡ Refusal.OutOfMemory → result ≡ Refusal.OutOfMemory }
-    ensures store { refusal ≢ Refusal.OutOfMemory → result ≡ Refusal.Store }
-    ensures cause { (result ≡ Refusal.OutOfMemory) ⊎ (result ≡ Refusal.Store) }
-{
-    match refusal {
-        Refusal::OutOfMemory => Refusal::OutOfMemory,
-        _ => Refusal::Store,
     }
 }
 

@@ -8,6 +8,7 @@
 #![tactic(auto)]
 
 pub mod candidate;
+pub mod changes;
 mod desk;
 mod desk_batch;
 mod desk_cancel;
@@ -23,6 +24,7 @@ mod judge;
 pub mod kept_rows;
 pub mod kept_writes;
 mod log;
+mod log_rows;
 mod log_tail;
 pub mod movable;
 pub mod named;

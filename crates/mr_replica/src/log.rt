@@ -8,7 +8,8 @@ ghost use Rattle.mr_replay.specs.Rows.{executed_all, undo_rows_of, undone_all};
 ghost use Rattle.mr_replay.specs.Places.{place_seen};
 ghost use Rattle.mr_tables.specs.ExecutionRows.{seq_on};
 ghost use Rattle.mr_replica.specs.KeptRows.{kept_row};
-ghost use Rattle.mr_replica.specs.Received.{IsMovable, HasKeptOf};
+ghost use Rattle.mr_replica.specs.Movable.{IsMovable};
+ghost use Rattle.mr_replica.specs.Received.{HasKeptOf};
 ghost use Rattle.mr_replica.specs.Log.{pushed, without_front, errors_in, is_logged as is_logged_at, cancel_at, cancel_rows};
 
 use crate::kept_rows::{KeptRow, sort_rows};

@@ -5,7 +5,8 @@ ghost use Rattle.mr_model.specs.Moving.{may_move};
 ghost use Rattle.mr_model.specs.Replica.{Replica};
 ghost use Rattle.mr_model.specs.Writes.{Write as WriteOfRoom};
 ghost use Rattle.mr_replay.specs.Places.{UndoRow as UndoRowOfWrite};
-ghost use Rattle.mr_replica.specs.Received.{IsMovable, tentative_row, IsLastTaken};
+ghost use Rattle.mr_replica.specs.Movable.{IsMovable};
+ghost use Rattle.mr_replica.specs.Received.{tentative_row, IsLastTaken};
 
 use crate::kept_rows::KeptRow;
 use crate::movable::Movable;

@@ -8,7 +8,7 @@ ghost use Rattle.mr_model.specs.Kept.{kept_in_order};
 ghost use Rattle.mr_model.specs.Moving.{may_move as may_move_from, again};
 ghost use Rattle.mr_base.specs.Batches.{item_of};
 ghost use Rattle.mr_replica.specs.Moves.{ShowsMoves, rooms_named, moves_in, is_anew};
-ghost use Rattle.mr_replica.specs.Received.{IsMovable};
+ghost use Rattle.mr_replica.specs.Movable.{IsMovable};
 ghost use Rattle.mr_replica.specs.Sets.{has_id, has_room, IsSetOf, AreSameRooms};
 ghost use Rattle.mr_replica.specs.Tails.{IsTail};
 

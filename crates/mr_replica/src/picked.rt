@@ -3,7 +3,7 @@ ghost use Rattle.mr_model.specs.Exchange.{Item as ItemOfBatch};
 ghost use Rattle.mr_model.specs.Replica.{Replica};
 ghost use Rattle.mr_model.specs.Tables.{seq_of};
 ghost use Rattle.mr_replica.specs.Named.{IsNamedBy};
-ghost use Rattle.mr_replica.specs.Received.{IsMovable, IsPicked};
+ghost use Rattle.mr_replica.specs.Movable.{IsMovable, IsPicked};
 ghost use Rattle.mr_replica.specs.Taken.{is_inside};
 
 use crate::movable::Movable;

@@ -1,6 +1,7 @@
-ghost use Rattle.std.specs.Prelude.{◌≡◌, ◌+◌, ◌≤◌, ◌++◌, map, option_map, OnOk, IfOk, IfErr};
+ghost use Rattle.std.specs.Prelude.{◌≡◌, ◌+◌, ◌<◌, ◌≤◌, ◌^◌, ◌++◌, length, map, option_map, OnOk, IfOk, IfErr};
 ghost use Rattle.std.specs.Option.{option_copied};
 ghost use Rattle.mr_tables.specs.Cells.{place_row_of};
+ghost use Rattle.mr_tables.specs.Written.{meta_of, changed_tallies as rows_changed, written};
 ghost use Rattle.mr_replica.specs.DeskTables.{booking_at};
 ghost use Rattle.mr_replica.specs.Placing.{with_places_put, board_place, KeptEnds, TargetEnds, kept_canceller, row_canceller, cancellers_on, kept_is_booking, has_booking, taken_row, taken_rows};
 ghost use Rattle.mr_replay.specs.Rows.{target_if_done as taken_back_by};
@@ -8,7 +9,8 @@ ghost use Rattle.mr_replay.specs.Rows.{target_if_done as taken_back_by};
 use mr_base::{Refusal, RoomName, Slot, Title, Write, WriteId};
 use mr_replay::{Board, Kept, Place, Row, Standing, Trial, UndoRow};
 use mr_tables::summary::Summary;
-use mr_tables::written::put_row;
+use mr_tables::vector::changed_tallies;
+use mr_tables::written::{put_row, written};
 use mr_tables::{BookingRow, CancelledRow, Change, PlaceRow};
 use std::alloc::Global;
 
@@ -176,6 +178,28 @@ pub(crate) fn cancellers_tried(
         bys.push(canceller(trial.row(write.stamp.id())))?;
     }
     Ok(bys)
+}
+
+/// The change from the old numbers to the new ones, with these rooms more, where these writes stand behind the old commits, and the trial's
+/// board tells which cancels took them back.
+pub fn rewritten(
+    alloc: Global,
+    old: &Summary,
+    summary: &Summary,
+    rooms: Vec<RoomName>,
+    trial: &Trial,
+    writes: &[Write],
+    rows: &[UndoRow],
+) -> Result<Change, Refusal>
+    requires { length writes.now ≡ length rows.now }
+    ensures change { IfOk result (λ change. old.now.commits + 1 + length writes.now < 2 ^ 64
+        → change ≡ written (meta_of summary.now) rooms.items (rows_changed old.now.tallies summary.now.tallies) summary.now.commits (old.now.commits + 1) writes.now rows.now (cancellers_on trial.now.rows writes.now)) }
+    ensures only { IfErr result (λ e. e ≡ Refusal.OutOfMemory) }
+{
+    let vector = changed_tallies(alloc, old, summary)?;
+    let bys = cancellers_tried(alloc, trial, writes)?;
+    let first = old.commits.saturating_add(1);
+    written(alloc, summary, rooms, vector, first, writes, rows, &bys)
 }
 
 /// The cancel that took back what has this row.

@@ -4,7 +4,7 @@ use Rattle.mr_model.specs.Exchange.{Item}
 use Rattle.mr_model.specs.Replica.{Replica}
 use Rattle.mr_model.specs.Tables.{seq_of}
 use Rattle.mr_replica.specs.Named.{IsNamedBy}
-use Rattle.mr_replica.specs.Received.{IsMovable}
+use Rattle.mr_replica.specs.Movable.{IsMovable}
 use Rattle.mr_replica.specs.Taken.{is_inside}
 use Rattle.mr_replica.proofs.picked.picked_writes.Given as goal
 

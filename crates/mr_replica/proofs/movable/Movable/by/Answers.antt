@@ -3,7 +3,7 @@ use Rattle.std.specs.Prelude.{flat_map}
 use Rattle.std.proofs.lemmas.Result.{err_from_is_err_and}
 use Rattle.mr_base.specs.Batches.{item_of}
 use Rattle.mr_replica.specs.Moves.{rooms_named}
-use Rattle.mr_replica.specs.Received.{IsMovable}
+use Rattle.mr_replica.specs.Movable.{IsMovable}
 use Rattle.mr_replica.specs.Sets.{IsSetOf, AreSameRooms}
 use Rattle.mr_replica.specs.Tails.{IsTail}
 use Rattle.mr_model.specs.Kept.{kept_in_order}

@@ -7,7 +7,7 @@ use Rattle.mr_replay.specs.Places.{UndoRow}
 use Rattle.mr_tables.specs.declared.summary.Summary.{Summary}
 use Rattle.mr_tables.specs.Change.{ChangeView}
 use Rattle.mr_tables.specs.Written.{meta_of, written}
-use Rattle.mr_replica.proofs.desk_change.rewritten.Goals as goal
+use Rattle.mr_replica.proofs.placing.rewritten.Goals as goal
 
 -- with the number behind the old commits, and with the cancels that the board tells
 written_is : (r : Result ChangeView Refusal) (s : Summary) (rooms : List Text) (vector rows : List VectorRow) (first k : ℕ) (ws : List Write) (us : List UndoRow) (bys told : List (Option Id)) → vector ≡ rows → bys ≡ told → (k + length ws < 18446744073709551616 → first ≡ k)

@@ -1,6 +1,6 @@
 use Rattle.std.proofs.Common.{◌∙◌, ap}
 use Rattle.mr_model.specs.Tables.{Tables}
-use Rattle.mr_replica.proofs.kept_rows.log_of.Goals as goal
+use Rattle.mr_replica.proofs.log_rows.log_of.Goals as goal
 
 pub returns-in-Ok-clause-log : goal.returns-in-Ok-clause-log
 returns-in-Ok-clause-log c = λ a h e board.

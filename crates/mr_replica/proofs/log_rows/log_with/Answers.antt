@@ -13,7 +13,7 @@ use Rattle.mr_replica.specs.SoundLog.{kept_told, IsLogSound}
 use Rattle.mr_replica.proofs.DeskBoards.{board_of}
 use Rattle.mr_replica.proofs.KeptOrder.{kept_sorted, kept_writes, kept_undo}
 use Rattle.mr_replica.proofs.SoundLog.{log_sound, of_log}
-use Rattle.mr_replica.proofs.kept_rows.log_with.Goals as goal
+use Rattle.mr_replica.proofs.log_rows.log_with.Goals as goal
 
 pub returns-then-not-is_log_sound-clause-only : goal.returns-then-not-is_log_sound-clause-only
 returns-then-not-is_log_sound-clause-only c = λ a h rows numbers board.

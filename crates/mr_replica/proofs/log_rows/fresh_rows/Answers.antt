@@ -1,6 +1,6 @@
 use Rattle.std.proofs.Common.{◌≡◌, ◌++◌, ◌∷◌, [], length, ap, sym, ◌∙◌, append_assoc, arith}
 use Rattle.mr_replica.proofs.LogTails.{fresh_more}
-use Rattle.mr_replica.proofs.kept_rows.fresh_rows.Goals as goal
+use Rattle.mr_replica.proofs.log_rows.fresh_rows.Goals as goal
 
 pub loop-write-preserved : goal.loop-write-preserved
 loop-write-preserved c =

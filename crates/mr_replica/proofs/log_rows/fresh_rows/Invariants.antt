@@ -7,7 +7,7 @@ use Rattle.mr_model.specs.Writes.{Write}
 use Rattle.mr_model.specs.View.{place_of}
 use Rattle.mr_replica.specs.KeptRows.{kept_row}
 use Rattle.mr_replica.specs.Logged.{undo_with}
-use Rattle.mr_replica.proofs.kept_rows.fresh_rows.Given as goal
+use Rattle.mr_replica.proofs.log_rows.fresh_rows.Given as goal
 
 -- the rows are those of the writes behind those that are left, the last one first
 abbrev pub invariant-loop-write : goal.invariant-loop-write
