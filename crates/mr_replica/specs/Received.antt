@@ -20,17 +20,17 @@ use Rattle.mr_tables.specs.Change.{ChangeView, changed}
 use Rattle.mr_tables.specs.Summary.{summary_of}
 use Rattle.mr_replica.specs.declared.desk_receive.Plan.{Plan}
 use Rattle.mr_replica.specs.declared.desk_receive.Replay.{Replay}
-use Rattle.mr_replica.specs.declared.kept_rows.KeptRow.{KeptRow}
-use Rattle.mr_replica.specs.declared.movable.Movable.{Movable}
-use Rattle.mr_replica.specs.Desk.{DeskView, StandsFor, desk_of, nothing_taken, reply_with}
-use Rattle.mr_replica.specs.DeskTables.{desk_tables}
-use Rattle.mr_replica.specs.KeptWrites.{numbered_of}
-use Rattle.mr_replica.specs.Log.{KeptLog}
-use Rattle.mr_replica.specs.Logged.{undo_with}
-use Rattle.mr_replica.specs.Movable.{IsMovable}
-use Rattle.mr_replica.specs.RoomMoves.{undone_at, again_at}
-use Rattle.mr_replica.specs.Taken.{ReachedView, is_inside}
-use Rattle.mr_replica.specs.Targets.{taken_by}
+use Rattle.mr_kept.specs.declared.kept_rows.KeptRow.{KeptRow}
+use Rattle.mr_kept.specs.declared.movable.Movable.{Movable}
+use Rattle.mr_kept.specs.Desk.{DeskView, StandsFor, desk_of, nothing_taken, reply_with}
+use Rattle.mr_kept.specs.DeskTables.{desk_tables}
+use Rattle.mr_kept.specs.KeptWrites.{numbered_of}
+use Rattle.mr_kept.specs.Log.{KeptLog}
+use Rattle.mr_kept.specs.Logged.{undo_with}
+use Rattle.mr_kept.specs.Movable.{IsMovable}
+use Rattle.mr_kept.specs.RoomMoves.{undone_at, again_at}
+use Rattle.mr_kept.specs.Taken.{ReachedView, is_inside}
+use Rattle.mr_kept.specs.Targets.{taken_by}
 
 -- ---- what is reached
 

@@ -2,14 +2,14 @@ ghost use Rattle.std.specs.Prelude.{◌≡◌, ◌≢◌, take, drop, length, Er
 ghost use Rattle.mr_model.specs.Replies.{CommittedIs};
 ghost use Rattle.mr_model.specs.Step.{commit};
 ghost use Rattle.mr_tables.specs.Summary.{committed_len};
-ghost use Rattle.mr_replica.specs.Desk.{DeskTakesStep, NeverStore};
-ghost use Rattle.mr_replica.specs.Turning.{TurnsTables};
+ghost use Rattle.mr_kept.specs.Desk.{DeskTakesStep, NeverStore};
+ghost use Rattle.mr_kept.specs.Turning.{TurnsTables};
 
 use crate::Desk;
-use crate::changes::after_commits;
 use crate::log::Log;
-use crate::placing::cancellers;
 use mr_base::{Refusal, Write};
+use mr_kept::changes::after_commits;
+use mr_kept::placing::cancellers;
 use mr_replay::UndoRow;
 use mr_tables::Change;
 use mr_tables::summary::Summary;

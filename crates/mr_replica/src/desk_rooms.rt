@@ -2,12 +2,12 @@ ghost use Rattle.std.specs.Prelude.{◌≡◌, true, bytes_eq, Err, OnErr};
 ghost use Rattle.std.specs.List.{list_any};
 ghost use Rattle.mr_model.specs.Replies.{RoomAdded};
 ghost use Rattle.mr_model.specs.Step.{add_room};
-ghost use Rattle.mr_replica.specs.Desk.{DeskTakesStep, NeverStore};
-ghost use Rattle.mr_replica.specs.Turning.{TurnsTables};
+ghost use Rattle.mr_kept.specs.Desk.{DeskTakesStep, NeverStore};
+ghost use Rattle.mr_kept.specs.Turning.{TurnsTables};
 
 use crate::Desk;
-use crate::changes::room_change;
 use mr_base::{Refusal, RoomName};
+use mr_kept::changes::room_change;
 use mr_tables::Change;
 use mr_tables::rooms::{is_known, learn_room};
 

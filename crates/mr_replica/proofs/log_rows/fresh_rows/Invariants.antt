@@ -5,8 +5,8 @@ use Rattle.mr_model.specs.Moving.{BatchMoves, again}
 use Rattle.mr_model.specs.Replica.{Replica, IsReplica}
 use Rattle.mr_model.specs.Writes.{Write}
 use Rattle.mr_model.specs.View.{place_of}
-use Rattle.mr_replica.specs.KeptRows.{kept_row}
-use Rattle.mr_replica.specs.Logged.{undo_with}
+use Rattle.mr_kept.specs.KeptRows.{kept_row}
+use Rattle.mr_kept.specs.Logged.{undo_with}
 use Rattle.mr_replica.proofs.log_rows.fresh_rows.Given as goal
 
 -- the rows are those of the writes behind those that are left, the last one first

@@ -4,14 +4,14 @@ use Rattle.std.proofs.lemmas.Bool.{true≢false}
 use Rattle.std.proofs.lemmas.List.Sorted.{IsPermutation-map}
 use Rattle.mr_model.specs.Kept.{kept_in_order}
 use Rattle.mr_replay.specs.Rows.{Rows}
-use Rattle.mr_replica.specs.declared.kept_rows.KeptRow.{KeptRow}
+use Rattle.mr_kept.specs.declared.kept_rows.KeptRow.{KeptRow}
 use Rattle.mr_tables.specs.declared.summary.Summary.{Summary}
-use Rattle.mr_replica.specs.Log.{KeptLog}
-use Rattle.mr_replica.specs.Desk.{desk_of}
+use Rattle.mr_kept.specs.Log.{KeptLog}
+use Rattle.mr_kept.specs.Desk.{desk_of}
 use Rattle.mr_tables.specs.Summary.{summary_of}
-use Rattle.mr_replica.specs.SoundLog.{kept_told, IsLogSound}
-use Rattle.mr_replica.proofs.DeskBoards.{board_of}
-use Rattle.mr_replica.proofs.KeptOrder.{kept_sorted, kept_writes, kept_undo}
+use Rattle.mr_kept.specs.SoundLog.{kept_told, IsLogSound}
+use Rattle.mr_kept.proofs.DeskBoards.{board_of}
+use Rattle.mr_kept.proofs.KeptOrder.{kept_sorted, kept_writes, kept_undo}
 use Rattle.mr_replica.proofs.SoundLog.{log_sound, of_log}
 use Rattle.mr_replica.proofs.log_rows.log_with.Goals as goal
 
