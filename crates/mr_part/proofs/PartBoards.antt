@@ -28,7 +28,7 @@ use Rattle.mr_replay.proofs.Holding.{Holds-empty}
 use Rattle.mr_replay.proofs.Lists.{one_name}
 use Rattle.mr_tables.specs.Boards.{booking_entry, error_entry, cancelled_entry, cancel_entry, is_void, put_entries, board_of}
 use Rattle.mr_tables.proofs.BoardsTold.{known_row, known_at, board_told, all_entries, entries-append, entries_ordered, entry_of, entry_with, row-entry}
-use Rattle.mr_replica.specs.Placing.{kept_is_booking}
+use Rattle.mr_kept.specs.Placing.{kept_is_booking}
 
 -- ---- rows put on a board
 

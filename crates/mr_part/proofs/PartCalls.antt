@@ -24,17 +24,17 @@ use Rattle.mr_base.specs.declared.refusals.Refusal.TheVariants.{OutOfMemory}
 use Rattle.mr_tables.specs.declared.summary.Summary.{Summary}
 use Rattle.mr_tables.specs.declared.summary.Tally.{Tally}
 use Rattle.mr_tables.specs.Summary.{IsWithin, summary_of, committed_len}
-use Rattle.mr_replica.specs.Desk.{DeskView, IsWithinLimits, desk_of, reply_with}
+use Rattle.mr_kept.specs.Desk.{DeskView, IsWithinLimits, desk_of, reply_with}
 use Rattle.mr_tables.specs.Change.{ChangeView, changed}
-use Rattle.mr_replica.specs.Outgoing.{committed_items, lacked_items, kept_items}
+use Rattle.mr_kept.specs.Outgoing.{committed_items, lacked_items, kept_items}
 use Rattle.mr_tables.specs.Written.{meta_of, written, forgotten}
 use Rattle.mr_part.specs.Parts.{PartView, part_of}
-use Rattle.mr_replica.proofs.Changing.{kept_committed_long}
-use Rattle.mr_replica.proofs.Batching.{items-made}
-use Rattle.mr_replica.proofs.DeskRows.{desk_tables-of}
-use Rattle.mr_replica.proofs.Desks.{desk_with, room_added}
-use Rattle.mr_replica.proofs.Truncating.{truncate_done}
-use Rattle.mr_replica.proofs.CommandTurns.{room_turns, truncate_turns}
+use Rattle.mr_kept.proofs.Changing.{kept_committed_long}
+use Rattle.mr_kept.proofs.Batching.{items-made}
+use Rattle.mr_kept.proofs.DeskRows.{desk_tables-of}
+use Rattle.mr_kept.proofs.Desks.{desk_with, room_added}
+use Rattle.mr_kept.proofs.Truncating.{truncate_done}
+use Rattle.mr_kept.proofs.CommandTurns.{room_turns, truncate_turns}
 
 -- ---- a truncation
 

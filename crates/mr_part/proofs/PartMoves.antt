@@ -23,23 +23,23 @@ use Rattle.mr_tables.specs.declared.summary.Summary.{Summary}
 use Rattle.mr_tables.specs.Change.{ChangeView, changed}
 use Rattle.mr_tables.specs.Rooms.{rooms_beside}
 use Rattle.mr_tables.specs.Written.{meta_of, changed_tallies, written}
-use Rattle.mr_replica.specs.ChangeLaws.{vector_between}
+use Rattle.mr_kept.specs.ChangeLaws.{vector_between}
 use Rattle.mr_part.specs.Changed.{is_elsewhere, tells, same_place, picked}
 use Rattle.mr_part.specs.PartMoves.{MovesPart}
-use Rattle.mr_replica.specs.Logged.{undo_with}
-use Rattle.mr_replica.specs.RoomMoves.{MovesOfRooms, ReplaysRooms, undone_at, board_after_moves, rows_after, first_undo_row}
-use Rattle.mr_replica.specs.Placing.{with_places_put, RowEnds, cancellers_on}
-use Rattle.mr_replica.specs.Targets.{aimed_at, moved_targets}
-use Rattle.mr_replica.proofs.BatchBoards.{moving, undone_rows}
-use Rattle.mr_replica.proofs.BatchChanges.{again_few, batch_turns}
-use Rattle.mr_replica.proofs.BatchNumbers.{commits_long}
+use Rattle.mr_kept.specs.Logged.{undo_with}
+use Rattle.mr_kept.specs.RoomMoves.{MovesOfRooms, ReplaysRooms, undone_at, board_after_moves, rows_after, first_undo_row}
+use Rattle.mr_kept.specs.Placing.{with_places_put, RowEnds, cancellers_on}
+use Rattle.mr_kept.specs.Targets.{aimed_at, moved_targets}
+use Rattle.mr_kept.proofs.BatchBoards.{moving, undone_rows}
+use Rattle.mr_kept.proofs.BatchChanges.{again_few, batch_turns}
+use Rattle.mr_kept.proofs.BatchNumbers.{commits_long}
 use Rattle.mr_part.proofs.ChangedRows.{same_place-true, picked_parts}
-use Rattle.mr_replica.proofs.DeskBoards.{tallies_of}
-use Rattle.mr_replica.proofs.DeskMoves.{board_holds}
+use Rattle.mr_kept.proofs.DeskBoards.{tallies_of}
+use Rattle.mr_kept.proofs.DeskMoves.{board_holds}
 use Rattle.mr_part.proofs.PartBoards.{board_in, board_in_ordered, has_bookings}
-use Rattle.mr_replica.proofs.Replays.{bookings_view}
-use Rattle.mr_replica.proofs.MovedRooms.{IsGrouped, ShowsApart, rooms_apart}
-use Rattle.mr_replica.proofs.Targeting.{Shows, targets_end}
+use Rattle.mr_kept.proofs.Replays.{bookings_view}
+use Rattle.mr_kept.proofs.MovedRooms.{IsGrouped, ShowsApart, rooms_apart}
+use Rattle.mr_kept.proofs.Targeting.{Shows, targets_end}
 
 -- ---- boards
 

@@ -36,9 +36,9 @@ use Rattle.mr_replay.proofs.Entries.{row_at-put}
 use Rattle.mr_replay.proofs.IdKeys.{exact_ids}
 use Rattle.mr_tables.specs.Boards.{booking_entry, error_entry, cancelled_entry, put_entries, board_of}
 use Rattle.mr_part.specs.Parts.{PartView, kept_in, part_of, IsAskedOf}
-use Rattle.mr_replica.proofs.DeskNumbers.{dropped_long}
+use Rattle.mr_kept.proofs.DeskNumbers.{dropped_long}
 use Rattle.mr_part.proofs.PartBoards.{found, booked_here, erred_here, cancelled_here}
-use Rattle.mr_replica.proofs.SubmittedRows.{few_kept}
+use Rattle.mr_kept.proofs.SubmittedRows.{few_kept}
 
 -- ---- lists in which nothing is twice
 

@@ -26,7 +26,7 @@ use Rattle.mr_part.specs.Parts.{kept_in}
 use Rattle.mr_tables.specs.Boards.{IsRowWithin, AreWithin, board_of}
 use Rattle.mr_tables.proofs.BoardLimits.{rows_within}
 use Rattle.mr_part.specs.PickedBookings.{is_booking_in, is_error_in, is_cancelled_in, picked_rows, touched_in}
-use Rattle.mr_replica.specs.Sets.{AreSameRooms}
+use Rattle.mr_kept.specs.Sets.{AreSameRooms}
 use Rattle.mr_part.specs.PickedLogs.{is_log_in, is_by_row, ArePicked}
 
 -- ---- what is always there

@@ -48,26 +48,26 @@ use Rattle.mr_tables.specs.Change.{ChangeView, changed}
 use Rattle.mr_tables.specs.ExecutionRows.{seq_on}
 use Rattle.mr_tables.specs.Written.{meta_of, changed_tallies, with_places, written}
 use Rattle.mr_tables.proofs.BoardsTold.{board_told}
-use Rattle.mr_replica.specs.Accepting.{with_last}
-use Rattle.mr_replica.specs.ChangeLaws.{board_before, kept_committed}
-use Rattle.mr_replica.specs.Desk.{desk_of}
-use Rattle.mr_replica.specs.DeskTables.{desk_tables}
+use Rattle.mr_kept.specs.Accepting.{with_last}
+use Rattle.mr_kept.specs.ChangeLaws.{board_before, kept_committed}
+use Rattle.mr_kept.specs.Desk.{desk_of}
+use Rattle.mr_kept.specs.DeskTables.{desk_tables}
 use Rattle.mr_part.specs.Parts.{PartView, part_of}
 use Rattle.mr_part.specs.PartAccepting.{part_puts, CanPut}
-use Rattle.mr_replica.specs.Logged.{undo_with}
-use Rattle.mr_replica.specs.Placing.{with_places_put, kept_place, RowEnds, TargetEnds, kept_canceller, row_canceller, cancellers_on, kept_is_booking, is_booking_row_in, has_booking, taken_row, taken_on, taken_rows_of, taken_rows}
-use Rattle.mr_replica.specs.Steps.{submit_request, outcome_in, cancel_with, cancel_request, outcome_at_room}
-use Rattle.mr_replica.specs.Turning.{put_outcome, put_cancel_outcome}
-use Rattle.mr_replica.proofs.Changing.{kept_committed_long}
-use Rattle.mr_replica.proofs.Committing.{commit_done}
-use Rattle.mr_replica.proofs.CommandTurns.{numbers_after, commit_turns}
-use Rattle.mr_replica.proofs.DeskBoards.{board_of, board-told}
-use Rattle.mr_replica.proofs.DeskRows.{desk_tables-of}
+use Rattle.mr_kept.specs.Logged.{undo_with}
+use Rattle.mr_kept.specs.Placing.{with_places_put, kept_place, RowEnds, TargetEnds, kept_canceller, row_canceller, cancellers_on, kept_is_booking, is_booking_row_in, has_booking, taken_row, taken_on, taken_rows_of, taken_rows}
+use Rattle.mr_kept.specs.Steps.{submit_request, outcome_in, cancel_with, cancel_request, outcome_at_room}
+use Rattle.mr_kept.specs.Turning.{put_outcome, put_cancel_outcome}
+use Rattle.mr_kept.proofs.Changing.{kept_committed_long}
+use Rattle.mr_kept.proofs.Committing.{commit_done}
+use Rattle.mr_kept.proofs.CommandTurns.{numbers_after, commit_turns}
+use Rattle.mr_kept.proofs.DeskBoards.{board_of, board-told}
+use Rattle.mr_kept.proofs.DeskRows.{desk_tables-of}
 use Rattle.mr_part.proofs.PartBoards.{if_picked, is_taken_back, takes_on_day_of, part-row, board_in_order}
-use Rattle.mr_replica.proofs.Placings.{canceller-here, rows_end, booking-known}
-use Rattle.mr_replica.proofs.Submitting.{Submits, submits, Withdraws, withdraws, submitted_is_next, cancelled_is_next}
-use Rattle.mr_replica.proofs.SubmittedRows.{few_kept, booking_takes, PutsLast, submitted, withdrawn}
-use Rattle.mr_replica.proofs.DeskChanges.{part_places}
+use Rattle.mr_kept.proofs.Placings.{canceller-here, rows_end, booking-known}
+use Rattle.mr_kept.proofs.Submitting.{Submits, submits, Withdraws, withdraws, submitted_is_next, cancelled_is_next}
+use Rattle.mr_kept.proofs.SubmittedRows.{few_kept, booking_takes, PutsLast, submitted, withdrawn}
+use Rattle.mr_kept.proofs.DeskChanges.{part_places}
 
 -- ---- a commit
 

@@ -12,11 +12,11 @@ use Rattle.mr_model.specs.Dropped.{Has}
 use Rattle.mr_model.proofs.Members.{has_all, all_has, has_map, map_has, Sorted}
 use Rattle.mr_model.proofs.RowsById.{known_write}
 use Rattle.mr_part.specs.declared.scope_logs.LoggedWrite.{LoggedWrite}
-use Rattle.mr_replica.specs.KeptRows.{run_cmp}
+use Rattle.mr_kept.specs.KeptRows.{run_cmp}
 use Rattle.mr_part.specs.PickedLogs.{logged_of, log_row_of, IsWriteWithin, AreWritesWithin, logged_place, ArePicked}
-use Rattle.mr_replica.specs.Logged.{undo_with}
-use Rattle.mr_replica.proofs.KeptOrder.{run_order, before_less}
-use Rattle.mr_replica.proofs.Sorting.{Rises, sorted_is}
+use Rattle.mr_kept.specs.Logged.{undo_with}
+use Rattle.mr_kept.proofs.KeptOrder.{run_order, before_less}
+use Rattle.mr_kept.proofs.Sorting.{Rises, sorted_is}
 
 -- ---- the writes that rows tell
 

@@ -5,7 +5,7 @@ use Rattle.std.proofs.lemmas.Bool.{true≢false}
 use Rattle.mr_model.specs.Texts.{Text}
 use Rattle.mr_model.specs.Tables.{Tables}
 use Rattle.mr_model.specs.Scopes.{Scope, Nothing, OfRequest, OfTarget, NextCommits, UpTo, OfPosition, OfItems, is_named, is_in_tail, in_scope}
-use Rattle.mr_replica.specs.Sets.{AreSameRooms}
+use Rattle.mr_kept.specs.Sets.{AreSameRooms}
 use Rattle.mr_part.specs.PickedBookings.{touched_in}
 use Rattle.mr_part.specs.PickedLogs.{is_log_in, is_by_row}
 

@@ -17,12 +17,12 @@ use Rattle.mr_base.specs.declared.refusals.Refusal.TheVariants.{OutOfMemory}
 use Rattle.mr_tables.specs.declared.summary.Summary.{Summary}
 use Rattle.mr_tables.specs.Change.{ChangeView, changed}
 use Rattle.mr_tables.specs.Written.{meta_of, with_places}
-use Rattle.mr_replica.specs.Desk.{nothing_taken, reply_with}
-use Rattle.mr_replica.specs.Taken.{ReachedView, ShowsPicked, is_inside}
+use Rattle.mr_kept.specs.Desk.{nothing_taken, reply_with}
+use Rattle.mr_kept.specs.Taken.{ReachedView, ShowsPicked, is_inside}
 use Rattle.mr_part.specs.PartMoves.{AnswersItems}
 use Rattle.mr_part.specs.Parts.{PartView, part_of}
-use Rattle.mr_replica.proofs.Moves.{all_pass}
-use Rattle.mr_replica.proofs.Receiving.{items-bring}
+use Rattle.mr_kept.proofs.Moves.{all_pass}
+use Rattle.mr_kept.proofs.Receiving.{items-bring}
 
 -- the answer is what the items give
 pub part_received : (a : Replica) (items : List Item) (part : PartView) (c : ReachedView) (q : Progress) (x : ℕ × ℕ × ChangeView) → IsReplica a → part ≡ part_of (OfItems items) a → list_all (is_item Second) items ≡ true → take_items items 2 (Ok (nothing_taken a)) ≡ Ok q → ShowsPicked a (is_inside a items) c q → x.0 ≡ length c.kept - length part.kept → x.1 ≡ c.summary.commits - part.summary.commits → changed x.2 (tables_of a) ≡ tables_of q.replica → AnswersItems a items (Ok x)

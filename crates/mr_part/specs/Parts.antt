@@ -19,8 +19,8 @@ use Rattle.mr_tables.specs.declared.summary.Summary.{Summary}
 use Rattle.mr_tables.specs.Summary.{summary_of}
 use Rattle.mr_tables.specs.Boards.{board_of}
 use Rattle.mr_tables.specs.Change.{ChangeView, changed}
-use Rattle.mr_replica.specs.Desk.{reply_with}
-use Rattle.mr_replica.specs.Logged.{undo_with}
+use Rattle.mr_kept.specs.Desk.{reply_with}
+use Rattle.mr_kept.specs.Logged.{undo_with}
 
 -- the numbers and the rooms; the kept writes in scope in the order of execution, with their commit numbers; what undoes each of them; a
 -- board of the bookings in scope, be they booked, logged or cancelled

@@ -11,8 +11,8 @@ use Rattle.mr_model.specs.Dropped.{Has}
 use Rattle.mr_model.specs.Kept.{AreInRunOrder}
 use Rattle.mr_model.specs.Changes.{RiseById}
 use Rattle.mr_model.specs.Scopes.{Scope, UpTo, OfPosition, OfItems, is_named, is_in_tail, is_due_to, row_before}
-use Rattle.mr_replica.specs.declared.kept_rows.RunPlace.{RunPlace}
-use Rattle.mr_replica.specs.Logged.{undo_with}
+use Rattle.mr_kept.specs.declared.kept_rows.RunPlace.{RunPlace}
+use Rattle.mr_kept.specs.Logged.{undo_with}
 use Rattle.mr_part.specs.declared.scope_logs.LoggedWrite.{LoggedWrite}
 
 -- whether the row is in scope, where so many commits are known and a batch touches these rooms; of a commit no row is, since only all

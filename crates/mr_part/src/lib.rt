@@ -1,8 +1,8 @@
 //! A part of a replica's tables: the rows that one command needs, as values, and the calls that answer the command from them.
 //!
-//! It stands on `mr_replica`, whose desk takes the same steps over all rows; what the two share stands there, over slices, with the
-//! laws of it. Contracts see a part as a record (specs/Parts.antt); each call of it is one step of the definitions, for every replica
-//! of whose tables it is the part for the call (`TakesPart`).
+//! It stands on `mr_kept`, which has over slices what it shares with the desk of `mr_replica`, and the laws of it; that desk takes the
+//! same steps over all rows. Contracts see a part as a record (specs/Parts.antt); each call of it is one step of the definitions, for
+//! every replica of whose tables it is the part for the call (`TakesPart`).
 #![tactic(auto)]
 
 mod part;

@@ -8,20 +8,20 @@ ghost use Rattle.mr_model.specs.Moving.{may_move as may_move_from};
 ghost use Rattle.mr_model.specs.View.{place_of};
 ghost use Rattle.mr_base.specs.Batches.{item_of};
 ghost use Rattle.mr_replay.specs.Places.{UndoRow as UndoRowOfWrite};
-ghost use Rattle.mr_replica.specs.Logged.{undo_with};
-ghost use Rattle.mr_replica.specs.Moves.{AreTouched, moves_in};
-ghost use Rattle.mr_replica.specs.Sets.{IsSetOf};
-ghost use Rattle.mr_replica.specs.Tails.{IsTail};
+ghost use Rattle.mr_kept.specs.Logged.{undo_with};
+ghost use Rattle.mr_kept.specs.Moves.{AreTouched, moves_in};
+ghost use Rattle.mr_kept.specs.Sets.{IsSetOf};
+ghost use Rattle.mr_kept.specs.Tails.{IsTail};
 ghost use Rattle.mr_part.specs.PartMoves.{AreUndone};
 ghost use Rattle.mr_part.specs.Parts.{IsPartOf};
 
 use crate::Part;
 use mr_base::{Item, Refusal, RoomName, Write};
+use mr_kept::movable::{may_move, rooms_touched};
+use mr_kept::room_moves::{RoomMoves, undone_in_rooms};
+use mr_kept::room_sets::{RoomSet, room_set};
+use mr_kept::tail::{Tail, tail_of};
 use mr_replay::UndoRow;
-use mr_replica::movable::{may_move, rooms_touched};
-use mr_replica::room_moves::{RoomMoves, undone_in_rooms};
-use mr_replica::room_sets::{RoomSet, room_set};
-use mr_replica::tail::{Tail, tail_of};
 use std::alloc::Global;
 
 impl Part {

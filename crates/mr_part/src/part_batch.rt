@@ -2,13 +2,13 @@ ghost use Rattle.std.specs.Prelude.{◌≡◌, ◌≢◌, ◌<◌, Err};
 ghost use Rattle.mr_model.specs.Replies.{BatchIs};
 ghost use Rattle.mr_model.specs.Scopes.{OfPosition};
 ghost use Rattle.mr_model.specs.Step.{batch_reply};
-ghost use Rattle.mr_replica.specs.Desk.{NeverStore};
+ghost use Rattle.mr_kept.specs.Desk.{NeverStore};
 ghost use Rattle.mr_part.specs.Parts.{AnswersPart};
 ghost use Rattle.mr_tables.specs.Summary.{IsWithin};
 
 use crate::Part;
 use mr_base::{Batch, LineCount, Position, Refusal};
-use mr_replica::outgoing::outgoing_for;
+use mr_kept::outgoing::outgoing_for;
 
 impl Part {
     /// What a replica at this position lacks: the commits above its own, each behind its write where that is lacked, then

@@ -2,13 +2,13 @@ ghost use Rattle.std.specs.Prelude.{◌≢◌, ◌≡◌, Err};
 ghost use Rattle.mr_model.specs.Replies.{CommittedIs};
 ghost use Rattle.mr_model.specs.Step.{commit};
 ghost use Rattle.mr_model.specs.Scopes.{NextCommits};
-ghost use Rattle.mr_replica.specs.Desk.{NeverStore};
+ghost use Rattle.mr_kept.specs.Desk.{NeverStore};
 ghost use Rattle.mr_part.specs.Parts.{TakesPart};
 
 use crate::Part;
 use mr_base::Refusal;
-use mr_replica::after_commits;
-use mr_replica::placing::cancellers;
+use mr_kept::changes::after_commits;
+use mr_kept::placing::cancellers;
 use mr_tables::Change;
 
 impl Part {

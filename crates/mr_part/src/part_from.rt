@@ -5,10 +5,10 @@ ghost use Rattle.mr_model.specs.View.{place_of};
 ghost use Rattle.mr_model.specs.Scopes.{in_scope};
 ghost use Rattle.mr_tables.specs.Boards.{board_of};
 ghost use Rattle.mr_part.specs.Parts.{kept_in, IsPartOf};
-ghost use Rattle.mr_replica.specs.Sets.{AreSameRooms};
+ghost use Rattle.mr_kept.specs.Sets.{AreSameRooms};
 ghost use Rattle.mr_part.specs.PickedBookings.{touched_in};
 ghost use Rattle.mr_part.specs.PickedLogs.{logged_of, is_by_row};
-ghost use Rattle.mr_replica.specs.Logged.{undo_with};
+ghost use Rattle.mr_kept.specs.Logged.{undo_with};
 ghost use Rattle.mr_part.specs.ScopeOf.{scope_of};
 ghost use Rattle.mr_tables.specs.Summary.{IsWithin};
 
@@ -18,8 +18,8 @@ use crate::scope_logs::{LoggedWrite, numbers_of, sorted_writes, undo_of, writes_
 use crate::scope_touched::touched_rooms;
 use crate::{Part, Scope};
 use mr_base::{Refusal, RoomName, Write};
+use mr_kept::kept_rows::of_store;
 use mr_replay::{Board, UndoRow};
-use mr_replica::of_store;
 use mr_tables::Tables;
 use mr_tables::rooms::copies_of;
 use mr_tables::vector::summary_of;

@@ -7,13 +7,12 @@ ghost use Rattle.mr_part.specs.PartMoves.{MovesPart};
 
 use crate::part_changed::changed_of;
 use mr_base::{Refusal, RoomName, Write};
+use mr_kept::candidate::Reached;
+use mr_kept::placing::{put_places, rewritten};
+use mr_kept::room_moves::{RoomMoves, replayed_in_rooms};
+use mr_kept::room_sets::unknown_rooms;
+use mr_kept::targets::{moved_targets, takers};
 use mr_replay::{Board, Trial, UndoRow};
-use mr_replica::candidate::Reached;
-use mr_replica::placing::put_places;
-use mr_replica::rewritten;
-use mr_replica::room_moves::{RoomMoves, replayed_in_rooms};
-use mr_replica::room_sets::unknown_rooms;
-use mr_replica::targets::{moved_targets, takers};
 use mr_tables::Change;
 use mr_tables::summary::Summary;
 use std::alloc::Global;

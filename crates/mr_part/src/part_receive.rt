@@ -11,19 +11,19 @@ ghost use Rattle.mr_model.specs.Taking.{take_items};
 ghost use Rattle.mr_model.specs.View.{place_of};
 ghost use Rattle.mr_base.specs.Batches.{item_of};
 ghost use Rattle.mr_tables.specs.Change.{changed};
-ghost use Rattle.mr_replica.specs.Desk.{NeverStore, nothing_taken};
-ghost use Rattle.mr_replica.specs.Moves.{AreTouched};
+ghost use Rattle.mr_kept.specs.Desk.{NeverStore, nothing_taken};
+ghost use Rattle.mr_kept.specs.Moves.{AreTouched};
 ghost use Rattle.mr_part.specs.PartMoves.{AnswersItems, AreUndone};
 ghost use Rattle.mr_part.specs.Parts.{IsPartOf, TakesPart};
-ghost use Rattle.mr_replica.specs.Logged.{undo_with};
+ghost use Rattle.mr_kept.specs.Logged.{undo_with};
 
 use crate::Part;
 use crate::part_moved::moved;
 use mr_base::{Batch, Item, Refusal, RoomName};
+use mr_kept::candidate::reached_with;
+use mr_kept::movable::again_in;
+use mr_kept::room_moves::RoomMoves;
 use mr_replay::UndoRow;
-use mr_replica::candidate::reached_with;
-use mr_replica::movable::again_in;
-use mr_replica::room_moves::RoomMoves;
 use mr_tables::Change;
 use mr_tables::written::empty;
 

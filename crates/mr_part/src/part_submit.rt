@@ -2,19 +2,19 @@ ghost use Rattle.std.specs.Prelude.{◌≡◌, ◌+◌, ◌<◌, ◌≤◌, ◌^
 ghost use Rattle.std.specs.List.{list_any};
 ghost use Rattle.mr_model.specs.Replica.{Replica, IsReplica};
 ghost use Rattle.mr_model.specs.Scopes.{OfRequest};
-ghost use Rattle.mr_replica.specs.Desk.{NeverStore};
+ghost use Rattle.mr_kept.specs.Desk.{NeverStore};
 ghost use Rattle.mr_part.specs.Parts.{IsPartOf, TakesPart};
 ghost use Rattle.mr_part.specs.PartAccepting.{part_puts, CanPut};
-ghost use Rattle.mr_replica.specs.Steps.{submit_request, outcome_in};
+ghost use Rattle.mr_kept.specs.Steps.{submit_request, outcome_in};
 ghost use Rattle.mr_tables.specs.Summary.{tally_at, noted_write};
-ghost use Rattle.mr_replica.specs.Turning.{put_outcome};
+ghost use Rattle.mr_kept.specs.Turning.{put_outcome};
 ghost use Rattle.mr_tables.specs.Written.{meta_of, changed_tallies as rows_changed, written};
 
 use crate::Part;
 use mr_base::{Refusal, Request, Write, WriteId};
+use mr_kept::kept_rows::target_of;
+use mr_kept::placing::{put_places, taken_rows};
 use mr_replay::UndoRow;
-use mr_replica::kept_rows::target_of;
-use mr_replica::placing::{put_places, taken_rows};
 use mr_tables::Change;
 use mr_tables::rooms::is_known;
 use mr_tables::summary::Summary;

@@ -2,7 +2,7 @@ ghost use Rattle.std.specs.Prelude.{◌≡◌, ◌≢◌, ◌<◌, Err};
 ghost use Rattle.mr_model.specs.Replies.{DroppedIs};
 ghost use Rattle.mr_model.specs.Scopes.{UpTo};
 ghost use Rattle.mr_model.specs.Step.{truncate};
-ghost use Rattle.mr_replica.specs.Desk.{NeverStore};
+ghost use Rattle.mr_kept.specs.Desk.{NeverStore};
 ghost use Rattle.mr_part.specs.Parts.{TakesPart};
 
 use crate::Part;

@@ -1,7 +1,7 @@
 ghost use Rattle.std.specs.Prelude.{◌≡◌, true, map, filter, IfOk, IfErr};
 ghost use Rattle.mr_model.specs.Scopes.{in_scope};
 ghost use Rattle.mr_model.specs.Tables.{Tables as RowsOfTables};
-ghost use Rattle.mr_replica.specs.Sets.{AreSameRooms};
+ghost use Rattle.mr_kept.specs.Sets.{AreSameRooms};
 ghost use Rattle.mr_part.specs.PickedBookings.{touched_in};
 ghost use Rattle.mr_part.specs.PickedLogs.{is_log_in, is_by_row};
 ghost use Rattle.mr_part.specs.ScopeOf.{scope_of};

@@ -6,14 +6,14 @@ ghost use Rattle.mr_model.specs.Writes.{Id, id_of};
 ghost use Rattle.mr_model.specs.Replica.{is_among};
 ghost use Rattle.mr_base.specs.Ids.{id_cmp};
 ghost use Rattle.mr_tables.specs.Boards.{booking_entry, error_entry, cancelled_entry, put_entries, board_of, AreWithin, IsRowWithin};
-ghost use Rattle.mr_replica.specs.Sets.{IsSetOf};
+ghost use Rattle.mr_kept.specs.Sets.{IsSetOf};
 ghost use Rattle.mr_part.specs.ScopeOf.{scope_of};
 ghost use Rattle.mr_part.specs.PickedBookings.{is_booking_in, is_error_in, is_cancelled_in, IsIdSetOf, picked_rows};
 
 use crate::{Scope, has_choice_on};
 use mr_base::{Refusal, RoomName, Write, WriteId};
+use mr_kept::room_sets::{RoomSet, room_set};
 use mr_replay::Board;
-use mr_replica::room_sets::{RoomSet, room_set};
 use mr_tables::boards::{put_booking, put_errors, put_taken_back};
 use mr_tables::{BookingRow, CancelledRow, ErrorRow, Tables};
 use std::alloc::Global;

@@ -5,15 +5,15 @@ ghost use Rattle.mr_model.specs.Scopes.{Scope as ScopeOfCommand, is_named, is_in
 ghost use Rattle.mr_part.specs.LogTests.{IsTestOf};
 ghost use Rattle.mr_part.specs.PickedLogs.{is_log_in};
 ghost use Rattle.mr_part.specs.ScopeOf.{scope_of};
-ghost use Rattle.mr_replica.specs.Named.{IsNamedBy};
-ghost use Rattle.mr_replica.specs.Tails.{IsTail};
+ghost use Rattle.mr_kept.specs.Named.{IsNamedBy};
+ghost use Rattle.mr_kept.specs.Tails.{IsTail};
 
 use crate::Scope;
 use mr_base::{Item, Position, Refusal, RoomName};
-use mr_replica::named::Named;
-use mr_replica::outgoing::has_less;
-use mr_replica::room_sets::{RoomSet, room_set};
-use mr_replica::tail::{Tail, tail_of};
+use mr_kept::named::Named;
+use mr_kept::outgoing::has_less;
+use mr_kept::room_sets::{RoomSet, room_set};
+use mr_kept::tail::{Tail, tail_of};
 use mr_tables::LogRow;
 use std::alloc::Global;
 

@@ -5,7 +5,7 @@ ghost use Rattle.mr_model.specs.Replica.{Replica, IsReplica};
 ghost use Rattle.mr_base.specs.Answers.{OrOutOfMemory};
 ghost use Rattle.mr_replay.specs.Places.{place_seen};
 ghost use Rattle.mr_replay.specs.Rows.{undo_row_at};
-ghost use Rattle.mr_replica.specs.KeptRows.{run_cmp};
+ghost use Rattle.mr_kept.specs.KeptRows.{run_cmp};
 ghost use Rattle.mr_part.specs.ScopeOf.{scope_of};
 ghost use Rattle.mr_part.specs.PickedLogs.{is_log_in, log_row_of, logged_of, IsWriteWithin, AreWritesWithin, ArePicked, logged_place};
 ghost use Rattle.mr_part.specs.declared.scope_logs.LoggedWrite.{LoggedWrite as LoggedWriteOfRow};
@@ -13,8 +13,8 @@ ghost use Rattle.mr_part.specs.declared.scope_logs.LoggedWrite.{LoggedWrite as L
 use crate::Scope;
 use crate::scope_log_test::LogTest;
 use mr_base::{Refusal, RoomName, Write};
+use mr_kept::kept_rows::{RunPlace, target_of};
 use mr_replay::{Place, UndoRow};
-use mr_replica::kept_rows::{RunPlace, target_of};
 use mr_tables::LogRow;
 use mr_tables::reading::write_of;
 use std::alloc::Global;

@@ -3,11 +3,11 @@ ghost use Rattle.std.specs.List.{list_any};
 ghost use Rattle.mr_model.specs.Texts.{Text};
 ghost use Rattle.mr_model.specs.Scopes.{rooms_of_item, log_row_id};
 ghost use Rattle.mr_base.specs.Batches.{item_of};
-ghost use Rattle.mr_replica.specs.Sets.{has_id, has_room, AreSameRooms};
+ghost use Rattle.mr_kept.specs.Sets.{has_id, has_room, AreSameRooms};
 
 use mr_base::{Item, Refusal, RoomName};
-use mr_replica::room_sets::{RoomSet, names_of};
-use mr_replica::touched::{IdSet, Touched, add_if_named};
+use mr_kept::room_sets::{RoomSet, names_of};
+use mr_kept::touched::{IdSet, Touched, add_if_named};
 use mr_tables::LogRow;
 use std::alloc::Global;
 

@@ -23,10 +23,10 @@ use Rattle.mr_replay.proofs.Marked.{change_if}
 use Rattle.mr_replay.proofs.OneRoom.{part-executed, whole_part, in_order-executed}
 use Rattle.mr_replay.proofs.PlacesOnBoard.{booked-row}
 use Rattle.mr_replay.proofs.Holding.{Holds-empty, AreNew-rest, AreNew-distinct, cancel_marks}
-use Rattle.mr_replica.specs.SoundLog.{is_taken_back}
-use Rattle.mr_replica.proofs.Logs.{executed_all-append}
-use Rattle.mr_replica.proofs.DeskNumbers.{order_distinct, order_places}
-use Rattle.mr_replica.proofs.DeskBoards.{board_of}
+use Rattle.mr_kept.specs.SoundLog.{is_taken_back}
+use Rattle.mr_kept.proofs.Logs.{executed_all-append}
+use Rattle.mr_kept.proofs.DeskNumbers.{order_distinct, order_places}
+use Rattle.mr_kept.proofs.DeskBoards.{board_of}
 
 -- ---- a mark stays
 

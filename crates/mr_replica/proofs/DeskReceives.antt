@@ -29,28 +29,28 @@ use Rattle.mr_tables.specs.Change.{ChangeView, changed}
 use Rattle.mr_tables.specs.Rooms.{rooms_beside}
 use Rattle.mr_tables.specs.ExecutionRows.{seq_on}
 use Rattle.mr_tables.specs.Written.{meta_of, changed_tallies, with_places, written}
-use Rattle.mr_replica.specs.Desk.{DeskView, desk_of, old_errors_of, old_cancels_of, nothing_taken, reply_with}
-use Rattle.mr_replica.specs.DeskTables.{desk_tables}
-use Rattle.mr_replica.specs.Log.{KeptLog}
-use Rattle.mr_replica.specs.Moves.{AreTouched, moves_in}
-use Rattle.mr_replica.specs.Taken.{ReachedView, ShowsPicked, is_inside}
-use Rattle.mr_replica.specs.ChangeLaws.{vector_between}
-use Rattle.mr_replica.specs.Logged.{undo_with}
-use Rattle.mr_replica.specs.Placing.{with_places_put, RowEnds, cancellers_on}
+use Rattle.mr_kept.specs.Desk.{DeskView, desk_of, old_errors_of, old_cancels_of, nothing_taken, reply_with}
+use Rattle.mr_kept.specs.DeskTables.{desk_tables}
+use Rattle.mr_kept.specs.Log.{KeptLog}
+use Rattle.mr_kept.specs.Moves.{AreTouched, moves_in}
+use Rattle.mr_kept.specs.Taken.{ReachedView, ShowsPicked, is_inside}
+use Rattle.mr_kept.specs.ChangeLaws.{vector_between}
+use Rattle.mr_kept.specs.Logged.{undo_with}
+use Rattle.mr_kept.specs.Placing.{with_places_put, RowEnds, cancellers_on}
 use Rattle.mr_replica.specs.Received.{BatchReaches, HasKeptOf, Received}
-use Rattle.mr_replica.specs.Targets.{aimed_at, moved_targets}
-use Rattle.mr_replica.proofs.BatchBoards.{moving, undo_rows_are}
-use Rattle.mr_replica.proofs.BatchChanges.{again_few, batch_turns}
-use Rattle.mr_replica.proofs.DeskBoards.{board_of, tallies_of}
-use Rattle.mr_replica.proofs.DeskRows.{desk_tables-of}
-use Rattle.mr_replica.proofs.DeskNumbers.{kept_numbers, kept_places, order_distinct}
-use Rattle.mr_replica.proofs.Desks.{desk_with}
-use Rattle.mr_replica.proofs.Moves.{all_pass, undone_picked}
-use Rattle.mr_replica.proofs.Growing.{items-grow}
-use Rattle.mr_replica.proofs.Receiving.{items-bring}
-use Rattle.mr_replica.proofs.SubmittedRows.{few_kept}
-use Rattle.mr_replica.proofs.Targeting.{Shows, targets_end}
-use Rattle.mr_replica.proofs.TakingItems.{all_within}
+use Rattle.mr_kept.specs.Targets.{aimed_at, moved_targets}
+use Rattle.mr_kept.proofs.BatchBoards.{moving, undo_rows_are}
+use Rattle.mr_kept.proofs.BatchChanges.{again_few, batch_turns}
+use Rattle.mr_kept.proofs.DeskBoards.{board_of, tallies_of}
+use Rattle.mr_kept.proofs.DeskRows.{desk_tables-of}
+use Rattle.mr_kept.proofs.DeskNumbers.{kept_numbers, kept_places, order_distinct}
+use Rattle.mr_kept.proofs.Desks.{desk_with}
+use Rattle.mr_kept.proofs.Moves.{all_pass, undone_picked}
+use Rattle.mr_kept.proofs.Growing.{items-grow}
+use Rattle.mr_kept.proofs.Receiving.{items-bring}
+use Rattle.mr_kept.proofs.SubmittedRows.{few_kept}
+use Rattle.mr_kept.proofs.Targeting.{Shows, targets_end}
+use Rattle.mr_kept.proofs.TakingItems.{all_within}
 
 -- ---- numbers
 

@@ -21,20 +21,21 @@ use Rattle.mr_model.proofs.Orders.{append_split}
 use Rattle.mr_replay.specs.Places.{UndoRow}
 use Rattle.mr_replay.specs.Rows.{undo_row_at}
 use Rattle.mr_tables.specs.ExecutionRows.{seq_on}
-use Rattle.mr_replica.specs.declared.kept_rows.KeptRow.{KeptRow}
-use Rattle.mr_replica.specs.declared.movable.Movable.{Movable}
-use Rattle.mr_replica.specs.KeptRows.{kept_row, run_place, run_cmp}
-use Rattle.mr_replica.specs.Log.{KeptLog}
-use Rattle.mr_replica.specs.Logged.{undo_with}
-use Rattle.mr_replica.specs.Received.{IsMovable, HasKeptOf, tentative_row, IsLastTaken}
-use Rattle.mr_replica.proofs.BatchBoards.{moving}
-use Rattle.mr_replica.proofs.BatchChanges.{again_few}
-use Rattle.mr_replica.proofs.BatchNumbers.{behind_numbered}
-use Rattle.mr_replica.proofs.Changing.{map_same}
-use Rattle.mr_replica.proofs.DeskMoves.{stays_same, kept_is, front_place, open_place}
-use Rattle.mr_replica.proofs.KeptOrder.{run_order, rows_rise}
-use Rattle.mr_replica.proofs.Moves.{tentative_number}
-use Rattle.mr_replica.proofs.Sorting.{Rises, irreflexive, sorted_is}
+use Rattle.mr_kept.specs.declared.kept_rows.KeptRow.{KeptRow}
+use Rattle.mr_kept.specs.declared.movable.Movable.{Movable}
+use Rattle.mr_kept.specs.KeptRows.{kept_row, run_place, run_cmp}
+use Rattle.mr_kept.specs.Log.{KeptLog}
+use Rattle.mr_kept.specs.Logged.{undo_with}
+use Rattle.mr_kept.specs.Movable.{IsMovable}
+use Rattle.mr_replica.specs.Received.{HasKeptOf, tentative_row, IsLastTaken}
+use Rattle.mr_kept.proofs.BatchBoards.{moving}
+use Rattle.mr_kept.proofs.BatchChanges.{again_few}
+use Rattle.mr_kept.proofs.BatchNumbers.{behind_numbered}
+use Rattle.mr_kept.proofs.Changing.{map_same}
+use Rattle.mr_kept.proofs.DeskMoves.{stays_same, kept_is, front_place, open_place}
+use Rattle.mr_kept.proofs.KeptOrder.{run_order, rows_rise}
+use Rattle.mr_kept.proofs.Moves.{tentative_number}
+use Rattle.mr_kept.proofs.Sorting.{Rises, irreflexive, sorted_is}
 
 -- ---- taking the last writes out
 

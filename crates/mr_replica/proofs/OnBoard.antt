@@ -30,15 +30,15 @@ use Rattle.mr_replay.proofs.IdKeys.{ids_total, at_one}
 use Rattle.mr_tables.specs.Change.{id_before}
 use Rattle.mr_tables.proofs.BoardsTold.{known_row, known_or_none, unknown_at}
 use Rattle.mr_tables.proofs.Putting.{id_order}
-use Rattle.mr_replica.specs.SoundLog.{is_taken_back}
-use Rattle.mr_replica.specs.OnBoard.{is_logged_kept, is_void_kept, is_kept_as, is_on_board, is_logged_on, is_cancelled_on, is_cancel_on, is_row_done, AreOnBoard}
-use Rattle.mr_replica.proofs.DeskBoards.{board_of, board-told, place_bears}
-use Rattle.mr_replica.proofs.DeskNumbers.{rows_in_order}
+use Rattle.mr_kept.specs.SoundLog.{is_taken_back}
+use Rattle.mr_kept.specs.OnBoard.{is_logged_kept, is_void_kept, is_kept_as, is_on_board, is_logged_on, is_cancelled_on, is_cancel_on, is_row_done, AreOnBoard}
+use Rattle.mr_kept.proofs.DeskBoards.{board_of, board-told, place_bears}
+use Rattle.mr_kept.proofs.DeskNumbers.{rows_in_order}
 use Rattle.mr_replica.proofs.CancelMarks.{done_marked}
-use Rattle.mr_replica.proofs.OldCancels.{cancels_in_order}
-use Rattle.mr_replica.proofs.RowParts.{cancel_row_of, done_place}
+use Rattle.mr_kept.proofs.OldCancels.{cancels_in_order}
+use Rattle.mr_kept.proofs.RowParts.{cancel_row_of, done_place}
 use Rattle.mr_replica.proofs.SoundLog.{row_known}
-use Rattle.mr_replica.proofs.Sorting.{distinct_keys}
+use Rattle.mr_kept.proofs.Sorting.{distinct_keys}
 
 -- ---- the row of each known write
 

@@ -23,15 +23,15 @@ use Rattle.mr_model.proofs.Runs.{Went, took, failed, did, missed}
 use Rattle.mr_base.specs.declared.refusals.Refusal.{Refusal}
 use Rattle.mr_replay.specs.Rows.{Rows, row_at, kept_with, kept_for}
 use Rattle.mr_tables.proofs.BoardsTold.{known_row, known_at}
-use Rattle.mr_replica.specs.declared.kept_rows.KeptRow.{KeptRow}
-use Rattle.mr_replica.specs.KeptRows.{kept_row, run_place, run_cmp}
-use Rattle.mr_replica.specs.Log.{KeptLog}
-use Rattle.mr_replica.specs.SoundLog.{AreNumbered, ShowsBooking, ShowsPlace, IsAtPlace, IsLogSound, kept_told, IsOfSoundRows}
-use Rattle.mr_replica.proofs.DeskBoards.{board_of, board-told}
-use Rattle.mr_replica.proofs.DeskNumbers.{kept_numbers, dropped_long}
-use Rattle.mr_replica.proofs.KeptOrder.{rows_rise}
+use Rattle.mr_kept.specs.declared.kept_rows.KeptRow.{KeptRow}
+use Rattle.mr_kept.specs.KeptRows.{kept_row, run_place, run_cmp}
+use Rattle.mr_kept.specs.Log.{KeptLog}
+use Rattle.mr_kept.specs.SoundLog.{AreNumbered, ShowsBooking, ShowsPlace, IsAtPlace, IsLogSound, kept_told, IsOfSoundRows}
+use Rattle.mr_kept.proofs.DeskBoards.{board_of, board-told}
+use Rattle.mr_kept.proofs.DeskNumbers.{kept_numbers, dropped_long}
+use Rattle.mr_kept.proofs.KeptOrder.{rows_rise}
 use Rattle.mr_replica.proofs.CancelMarks.{done_marked}
-use Rattle.mr_replica.proofs.SoundTables.{neighbours}
+use Rattle.mr_kept.proofs.SoundTables.{neighbours}
 
 -- ---- numbers
 

@@ -26,8 +26,8 @@ use Rattle.mr_tables.proofs.BoardLimits.{rows_within}
 use Rattle.mr_tables.proofs.Putting.{id_before-true}
 use Rattle.mr_tables.proofs.Summaries.{tally-of}
 use Rattle.mr_replica.specs.SoundStamps.{is_in_time, IsStampSound, is_later, is_later_of, is_slot_sound, AreStampsSound, AreSlotsSound}
-use Rattle.mr_replica.proofs.Latest.{below_greatest, greatest_below}
-use Rattle.mr_replica.proofs.SoundTables.{neighbours, logs_rise, known_number}
+use Rattle.mr_kept.proofs.Latest.{below_greatest, greatest_below}
+use Rattle.mr_kept.proofs.SoundTables.{neighbours, logs_rise, known_number}
 
 -- ---- the times of one server rise
 

@@ -1,5 +1,5 @@
 -- What a batch makes of a desk, told from a candidate of its kept writes in scope.
-use Rattle.std.specs.Prelude.{◌≡◌, ℕ, true, List, [], ◌∷◌, ◌++◌, length, map, filter, if◌then◌else◌, Result, Ok, Err, IfOk, ◌⊎◌}
+use Rattle.std.specs.Prelude.{◌≡◌, ℕ, true, List, [], ◌∷◌, ◌++◌, map, filter, if◌then◌else◌, Result, Ok, Err, IfOk, ◌⊎◌}
 use Rattle.mr_model.specs.Texts.{Text}
 use Rattle.mr_model.specs.Writes.{Write}
 use Rattle.mr_model.specs.Replica.{Replica, IsReplica, tentative}
@@ -20,34 +20,17 @@ use Rattle.mr_tables.specs.Change.{ChangeView, changed}
 use Rattle.mr_tables.specs.Summary.{summary_of}
 use Rattle.mr_replica.specs.declared.desk_receive.Plan.{Plan}
 use Rattle.mr_replica.specs.declared.desk_receive.Replay.{Replay}
-use Rattle.mr_replica.specs.declared.kept_rows.KeptRow.{KeptRow}
-use Rattle.mr_replica.specs.declared.movable.Movable.{Movable}
-use Rattle.mr_replica.specs.declared.picked.Picked.{Picked}
-use Rattle.mr_replica.specs.Desk.{DeskView, StandsFor, desk_of, nothing_taken, reply_with}
-use Rattle.mr_replica.specs.DeskTables.{desk_tables}
-use Rattle.mr_replica.specs.KeptWrites.{numbered_of}
-use Rattle.mr_replica.specs.Log.{KeptLog}
-use Rattle.mr_replica.specs.Logged.{undo_with}
-use Rattle.mr_replica.specs.Moves.{AreTouched}
-use Rattle.mr_replica.specs.RoomMoves.{undone_at, again_at}
-use Rattle.mr_replica.specs.Sets.{IsSetOf}
-use Rattle.mr_replica.specs.Tails.{IsTail}
-use Rattle.mr_replica.specs.Taken.{ReachedView, is_inside}
-use Rattle.mr_replica.specs.Targets.{taken_by}
-
--- ---- what is in scope
-
--- these are the rooms that the items touch, and this is their tail
-pub record IsMovable (a : Replica) (items : List Item) (movable : Movable) : Type 0 where
-  pub touched : List Text
-  pub are_touched : AreTouched touched a items
-  pub rooms_are : IsSetOf movable.rooms touched
-  pub tail_is : IsTail movable.tail (length a.commits) items
-
--- of these writes those in scope of the items are picked, with their commit numbers
-pub record IsPicked (a : Replica) (items : List Item) (writes : List Write) (picked : Picked) : Type 0 where
-  pub writes_are : picked.writes.items ≡ filter (is_inside a items) writes
-  pub numbers_are : picked.numbers.items ≡ map (seq_of a) (filter (is_inside a items) writes)
+use Rattle.mr_kept.specs.declared.kept_rows.KeptRow.{KeptRow}
+use Rattle.mr_kept.specs.declared.movable.Movable.{Movable}
+use Rattle.mr_kept.specs.Desk.{DeskView, StandsFor, desk_of, nothing_taken, reply_with}
+use Rattle.mr_kept.specs.DeskTables.{desk_tables}
+use Rattle.mr_kept.specs.KeptWrites.{numbered_of}
+use Rattle.mr_kept.specs.Log.{KeptLog}
+use Rattle.mr_kept.specs.Logged.{undo_with}
+use Rattle.mr_kept.specs.Movable.{IsMovable}
+use Rattle.mr_kept.specs.RoomMoves.{undone_at, again_at}
+use Rattle.mr_kept.specs.Taken.{ReachedView, is_inside}
+use Rattle.mr_kept.specs.Targets.{taken_by}
 
 -- ---- what is reached
 

@@ -1,4 +1,4 @@
-ghost use Rattle.mr_replica.specs.Desk.{desk_of};
+ghost use Rattle.mr_kept.specs.Desk.{desk_of};
 ghost use Rattle.mr_model.specs.Replica.{opening};
 ghost use Rattle.std.specs.Prelude.{◌≡◌};
 
@@ -23,7 +23,7 @@ pub struct Desk {
 }
 
 impl Model for Desk {
-    ghost use Rattle.mr_replica.specs.Desk.{DeskView};
+    ghost use Rattle.mr_kept.specs.Desk.{DeskView};
 
     ghost Value = { DeskView };
 

@@ -1,11 +1,11 @@
 ghost use Rattle.std.specs.Prelude.{◌≡◌, ◌≢◌, ◌<◌, Err};
 ghost use Rattle.mr_model.specs.Replies.{BatchIs};
 ghost use Rattle.mr_model.specs.Step.{leave, batch_reply};
-ghost use Rattle.mr_replica.specs.Desk.{DeskTakesStep, NeverStore, IsWithinLimits};
+ghost use Rattle.mr_kept.specs.Desk.{DeskTakesStep, NeverStore, IsWithinLimits};
 
 use crate::Desk;
-use crate::outgoing::outgoing_for;
 use mr_base::{Batch, LineCount, Position, Refusal};
+use mr_kept::outgoing::outgoing_for;
 
 impl Desk {
     /// What a replica at this position lacks: the commits above its own, each behind its write where that is lacked, then

@@ -1,16 +1,13 @@
 ghost use Rattle.std.specs.Prelude.{◌≡◌, ◌+◌, ◌<◌, ◌^◌, length, IfOk, IfErr};
 ghost use Rattle.mr_tables.specs.Written.{meta_of, changed_tallies as rows_changed, written};
-ghost use Rattle.mr_replica.specs.Placing.{cancellers_on};
 
 use crate::Desk;
-use crate::placing::cancellers_tried;
 use mr_base::{Refusal, RoomName, Write, WriteId};
-use mr_replay::{Trial, UndoRow};
+use mr_replay::UndoRow;
 use mr_tables::Change;
 use mr_tables::summary::Summary;
 use mr_tables::vector::changed_tallies;
 use mr_tables::written::written;
-use std::alloc::Global;
 
 impl Desk {
     /// The change to a desk of those numbers, with these rooms more, where these writes, with what undoes each and the cancels
@@ -37,26 +34,4 @@ impl Desk {
             .saturating_add(place as u64);
         written(self.alloc, summary, rooms, vector, first, writes, rows, bys)
     }
-}
-
-/// The change from the old numbers to the new ones, with these rooms more, where these writes stand behind the old commits, and the trial's
-/// board tells which cancels took them back.
-pub fn rewritten(
-    alloc: Global,
-    old: &Summary,
-    summary: &Summary,
-    rooms: Vec<RoomName>,
-    trial: &Trial,
-    writes: &[Write],
-    rows: &[UndoRow],
-) -> Result<Change, Refusal>
-    requires { length writes.now ≡ length rows.now }
-    ensures change { IfOk result (λ change. old.now.commits + 1 + length writes.now < 2 ^ 64
-        → change ≡ written (meta_of summary.now) rooms.items (rows_changed old.now.tallies summary.now.tallies) summary.now.commits (old.now.commits + 1) writes.now rows.now (cancellers_on trial.now.rows writes.now)) }
-    ensures only { IfErr result (λ e. e ≡ Refusal.OutOfMemory) }
-{
-    let vector = changed_tallies(alloc, old, summary)?;
-    let bys = cancellers_tried(alloc, trial, writes)?;
-    let first = old.commits.saturating_add(1);
-    written(alloc, summary, rooms, vector, first, writes, rows, &bys)
 }

@@ -1,7 +1,7 @@
 ghost use Rattle.mr_model.specs.Positions.{position_of};
 ghost use Rattle.mr_model.specs.Replies.{PositionIs};
 ghost use Rattle.mr_model.specs.Step.{leave};
-ghost use Rattle.mr_replica.specs.Desk.{DeskTakesStep, NeverStore, IsWithinLimits};
+ghost use Rattle.mr_kept.specs.Desk.{DeskTakesStep, NeverStore, IsWithinLimits};
 
 use crate::Desk;
 use mr_base::{Position, Refusal, Version};

@@ -1,16 +1,16 @@
 ghost use Rattle.std.specs.Prelude.{◌≡◌, ◌<◌, ◌≤◌, true, false, bytes_eq, map, Err, OnOk, OnErr, IfOk, IfErr};
 ghost use Rattle.std.specs.List.{list_any};
 ghost use Rattle.mr_model.specs.Replica.{Replica, IsReplica};
-ghost use Rattle.mr_replica.specs.Accepting.{summary_in, with_last, puts_last, CanPutLast};
-ghost use Rattle.mr_replica.specs.Desk.{DeskTakesStep, NeverStore, StandsFor};
-ghost use Rattle.mr_replica.specs.Steps.{submit_request, outcome_in};
-ghost use Rattle.mr_replica.specs.Turning.{TurnsTables, put_outcome};
+ghost use Rattle.mr_kept.specs.Accepting.{summary_in, with_last, puts_last, CanPutLast};
+ghost use Rattle.mr_kept.specs.Desk.{DeskTakesStep, NeverStore, StandsFor};
+ghost use Rattle.mr_kept.specs.Steps.{submit_request, outcome_in};
+ghost use Rattle.mr_kept.specs.Turning.{TurnsTables, put_outcome};
 ghost use Rattle.mr_tables.specs.Summary.{noted_write, tally_at};
 
 use crate::Desk;
-use crate::kept_rows::target_of;
-use crate::placing::{put_places, taken_rows};
 use mr_base::{Refusal, Request, Write, WriteId};
+use mr_kept::kept_rows::target_of;
+use mr_kept::placing::{put_places, taken_rows};
 use mr_replay::UndoRow;
 use mr_tables::Change;
 use mr_tables::rooms::is_known;

@@ -1,22 +1,23 @@
-ghost use Rattle.std.specs.Prelude.{◌≡◌, ◌≢◌, ◌⊎◌, nat_lt, IfOk, IfErr, map};
+ghost use Rattle.std.specs.Prelude.{◌≡◌, ◌⊎◌, nat_lt, IfOk, IfErr, map};
 ghost use Rattle.mr_model.specs.Replica.{Replica, IsReplica};
 ghost use Rattle.mr_model.specs.Tables.{tables_of};
-ghost use Rattle.mr_replica.specs.Desk.{desk_of, StandsFor, IsWithinLimits};
-ghost use Rattle.mr_replica.specs.SoundLog.{log_told, IsOfSoundRows};
-ghost use Rattle.mr_replica.specs.SoundNotes.{AreNotesSound};
+ghost use Rattle.mr_kept.specs.Desk.{desk_of, StandsFor, IsWithinLimits};
+ghost use Rattle.mr_kept.specs.SoundLog.{log_told, IsOfSoundRows};
+ghost use Rattle.mr_kept.specs.SoundNotes.{AreNotesSound};
 ghost use Rattle.mr_replica.specs.SoundStamps.{AreStampsSound, AreSlotsSound};
-ghost use Rattle.mr_replica.specs.OnBoard.{AreOnBoard};
+ghost use Rattle.mr_kept.specs.OnBoard.{AreOnBoard};
 ghost use Rattle.mr_tables.specs.SoundRows.{AreSound, Rise};
 ghost use Rattle.mr_tables.specs.Summary.{summary_of as summary_of_replica, IsWithin};
 
 use crate::Desk;
-use crate::kept_rows::log_of;
 use crate::log::Log;
-use crate::old_rows::{old_cancels_in, old_errors_in};
-use crate::on_board::are_on_board;
-use crate::sound_notes::are_notes_sound;
+use crate::log_rows::log_of;
 use crate::sound_stamps::{are_slots_sound, are_stamps_sound};
 use mr_base::Refusal;
+use mr_kept::kept_rows::of_store;
+use mr_kept::old_rows::{old_cancels_in, old_errors_in};
+use mr_kept::on_board::are_on_board;
+use mr_kept::sound_notes::are_notes_sound;
 use mr_replay::Board;
 use mr_tables::Tables;
 use mr_tables::boards::board_with;
@@ -47,18 +48,6 @@ impl Desk {
             Ok(desk) => Ok(desk),
             Err(refusal) => Err(of_store(refusal)),
         }
-    }
-}
-
-/// What a refusal of a row's part is told as: the store's, but for want of memory.
-pub fn of_store(refusal: Refusal) -> Refusal
-    ensures memory { refusal ≡ Refusal.OutOfMemory → result ≡ Refusal.OutOfMemory }
-    ensures store { refusal ≢ Refusal.OutOfMemory → result ≡ Refusal.Store }
-    ensures cause { (result ≡ Refusal.OutOfMemory) ⊎ (result ≡ Refusal.Store) }
-{
-    match refusal {
-        Refusal::OutOfMemory => Refusal::OutOfMemory,
-        _ => Refusal::Store,
     }
 }
 

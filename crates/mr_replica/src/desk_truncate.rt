@@ -1,8 +1,8 @@
 ghost use Rattle.std.specs.Prelude.{◌≡◌, ◌≢◌, ◌<◌, Err, OnErr};
 ghost use Rattle.mr_model.specs.Replies.{DroppedIs};
 ghost use Rattle.mr_model.specs.Step.{truncate};
-ghost use Rattle.mr_replica.specs.Desk.{DeskTakesStep, NeverStore};
-ghost use Rattle.mr_replica.specs.Turning.{TurnsTables};
+ghost use Rattle.mr_kept.specs.Desk.{DeskTakesStep, NeverStore};
+ghost use Rattle.mr_kept.specs.Turning.{TurnsTables};
 
 use crate::Desk;
 use mr_base::Refusal;

@@ -7,14 +7,15 @@ ghost use Rattle.mr_model.specs.RowsInScope.{kept_commits};
 ghost use Rattle.mr_replay.specs.Rows.{executed_all, undo_rows_of, undone_all};
 ghost use Rattle.mr_replay.specs.Places.{place_seen};
 ghost use Rattle.mr_tables.specs.ExecutionRows.{seq_on};
-ghost use Rattle.mr_replica.specs.KeptRows.{kept_row};
-ghost use Rattle.mr_replica.specs.Received.{IsMovable, HasKeptOf};
-ghost use Rattle.mr_replica.specs.Log.{pushed, without_front, errors_in, is_logged as is_logged_at, cancel_at, cancel_rows};
+ghost use Rattle.mr_kept.specs.KeptRows.{kept_row};
+ghost use Rattle.mr_kept.specs.Movable.{IsMovable};
+ghost use Rattle.mr_replica.specs.Received.{HasKeptOf};
+ghost use Rattle.mr_kept.specs.Log.{pushed, without_front, errors_in, is_logged as is_logged_at, cancel_at, cancel_rows};
 
-use crate::kept_rows::{KeptRow, sort_rows};
 use crate::log_tail::{put_rows, take_tail};
-use crate::movable::Movable;
 use mr_base::{Action, Refusal, Write};
+use mr_kept::kept_rows::{KeptRow, sort_rows};
+use mr_kept::movable::Movable;
 use mr_replay::{Board, Place, UndoRow};
 use mr_tables::CancelRow;
 use mr_tables::old_errors::OldError;
@@ -33,7 +34,7 @@ pub(crate) struct Log {
 
 impl Model for Log {
     ghost use Rattle.std.specs.Prelude.{◌≡◌, length};
-    ghost use Rattle.mr_replica.specs.Log.{KeptLog};
+    ghost use Rattle.mr_kept.specs.Log.{KeptLog};
 
     ghost Value = { KeptLog };
 

@@ -5,11 +5,12 @@ ghost use Rattle.mr_model.specs.Moving.{may_move};
 ghost use Rattle.mr_model.specs.Replica.{Replica};
 ghost use Rattle.mr_model.specs.Writes.{Write as WriteOfRoom};
 ghost use Rattle.mr_replay.specs.Places.{UndoRow as UndoRowOfWrite};
-ghost use Rattle.mr_replica.specs.Received.{IsMovable, tentative_row, IsLastTaken};
+ghost use Rattle.mr_kept.specs.Movable.{IsMovable};
+ghost use Rattle.mr_replica.specs.Received.{tentative_row, IsLastTaken};
 
-use crate::kept_rows::KeptRow;
-use crate::movable::Movable;
 use mr_base::Write;
+use mr_kept::kept_rows::KeptRow;
+use mr_kept::movable::Movable;
 use mr_replay::UndoRow;
 
 /// Moves the writes behind the first ones out, with what undoes each. They are tentative: those that may not move are put behind these

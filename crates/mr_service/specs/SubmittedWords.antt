@@ -6,7 +6,7 @@ use Rattle.mr_model.specs.Slots.{Slot}
 use Rattle.mr_model.specs.Requests.{Request}
 use Rattle.mr_model.specs.Refusals.{Refusal, BadDay, BadTime, first_refusal}
 use Rattle.mr_model.specs.Step.{SlotWords, Submission, slot_of, choice_words}
-use Rattle.mr_replica.specs.Steps.{word_faults, request_in}
+use Rattle.mr_kept.specs.Steps.{word_faults, request_in}
 
 -- the value, unless something is refused
 abbrev pub ok_unless : {T : Type 0} → Option Refusal → T → Result T Refusal

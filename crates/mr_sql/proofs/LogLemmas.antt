@@ -16,9 +16,9 @@ use Rattle.mr_model.specs.Dropped.{Has}
 use Rattle.mr_model.specs.Scopes.{Scope, Nothing, OfRequest, OfTarget, NextCommits, UpTo, OfPosition, OfItems, log_row_id, is_tentative, is_lacked_row, is_due_to, by_stamp, item_id, has_number, is_named, is_late, is_in_tail, is_touched, rooms_of_item, next_commits, in_scope}
 use Rattle.mr_model.proofs.InScope.{has_put}
 use Rattle.mr_model.proofs.Members.{filter_has, has_map, has_among, same_id-true}
-use Rattle.mr_replica.specs.Tails.{has_place}
-use Rattle.mr_replica.specs.Named.{has_commit}
-use Rattle.mr_replica.specs.Sets.{has_room}
+use Rattle.mr_kept.specs.Tails.{has_place}
+use Rattle.mr_kept.specs.Named.{has_commit}
+use Rattle.mr_kept.specs.Sets.{has_room}
 use Rattle.mr_rows.specs.declared.passing.LateRows.{LateRows}
 use Rattle.mr_rows.specs.RowQuestions.{is_row_asked, is_log_between, is_log_named, is_late_row}
 use Rattle.mr_rows.proofs.RowLemmas.{filter_same, filter_both}

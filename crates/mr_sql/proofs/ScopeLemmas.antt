@@ -19,7 +19,7 @@ use Rattle.mr_rows.specs.RowQuestions.{is_row_asked, is_booking_asked, is_cancel
 use Rattle.mr_sql.specs.declared.scope_rooms.RoomTest.{RoomTest}
 use Rattle.mr_sql.specs.LateTests.{books_in, cancels_in}
 use Rattle.mr_sql.specs.ScopeQuestions.{logs_alone, room_questions, target_questions, taken_questions, asks_booking, asks_cancelled, AreRead, AreSeqsWithin, AreEnough}
-use Rattle.mr_replica.specs.Sets.{AreSameRooms, IsSetOf}
+use Rattle.mr_kept.specs.Sets.{AreSameRooms, IsSetOf}
 use Rattle.mr_rows.proofs.RowLemmas.{filter_same}
 use Rattle.mr_rows.proofs.ValueLemmas.{or_false}
 

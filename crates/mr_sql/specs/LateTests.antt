@@ -4,10 +4,10 @@ use Rattle.std.specs.List.{list_any}
 use Rattle.mr_model.specs.Exchange.{Item}
 use Rattle.mr_model.specs.Tables.{LogRow, BookingRow, CancelledRow}
 use Rattle.mr_model.specs.Scopes.{has_number, rooms_of_item}
-use Rattle.mr_replica.specs.Named.{has_commit, IsNamedBy}
-use Rattle.mr_replica.specs.Sets.{has_room, IsSetOf}
-use Rattle.mr_replica.specs.Tails.{has_place, IsTail}
-use Rattle.mr_replica.specs.declared.tail.Tail.{Tail}
+use Rattle.mr_kept.specs.Named.{has_commit, IsNamedBy}
+use Rattle.mr_kept.specs.Sets.{has_room, IsSetOf}
+use Rattle.mr_kept.specs.Tails.{has_place, IsTail}
+use Rattle.mr_kept.specs.declared.tail.Tail.{Tail}
 use Rattle.mr_rows.specs.declared.passing.LateRows.{LateRows}
 use Rattle.mr_sql.specs.declared.scope_late.LateTest.{LateTest}
 use Rattle.mr_sql.specs.declared.scope_rooms.RoomTest.{RoomTest}

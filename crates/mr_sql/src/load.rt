@@ -3,7 +3,7 @@ ghost use Rattle.sqlite.specs.Held.{state};
 ghost use Rattle.mr_model.specs.Replica.{Replica, IsReplica};
 ghost use Rattle.mr_model.specs.Tables.{Stands, tables_of};
 ghost use Rattle.mr_model.specs.Scopes.{in_scope};
-ghost use Rattle.mr_replica.specs.Desk.{StandsFor, IsWithinLimits};
+ghost use Rattle.mr_kept.specs.Desk.{StandsFor, IsWithinLimits};
 ghost use Rattle.mr_part.specs.Parts.{IsPartOf};
 ghost use Rattle.mr_part.specs.ScopeOf.{scope_of};
 ghost use Rattle.mr_tables.specs.Summary.{IsWithin};

@@ -2,7 +2,7 @@ ghost use Rattle.std.specs.Prelude.{◌≡◌, ◌≤◌, ◌<◌, IfOk};
 ghost use Rattle.mr_sql.specs.DueTests.{passes_due, ReachesDue};
 
 use mr_base::Position;
-use mr_replica::outgoing::has_less;
+use mr_kept::outgoing::has_less;
 use mr_rows::cells::{read_server, read_u32, read_u64};
 use mr_rows::{LateRows, RowTest};
 use mr_tables::LogRow;

@@ -4,14 +4,14 @@ ghost use Rattle.sqlite_value.specs.Order.{column};
 ghost use Rattle.mr_rows.specs.RowCells.{nat_of};
 ghost use Rattle.mr_model.specs.Scopes.{has_number};
 ghost use Rattle.mr_base.specs.Batches.{item_of};
-ghost use Rattle.mr_replica.specs.Tails.{has_place};
+ghost use Rattle.mr_kept.specs.Tails.{has_place};
 ghost use Rattle.mr_sql.specs.LateTests.{passes_late, IsLateTest, Reaches};
 
 use crate::scope_rooms::RoomTest;
 use mr_base::{Item, Refusal};
+use mr_kept::named::Named;
+use mr_kept::tail::{Tail, tail_of};
 use mr_part::touched_rooms;
-use mr_replica::named::Named;
-use mr_replica::tail::{Tail, tail_of};
 use mr_rows::cells::{read_server, read_u64};
 use mr_rows::{LateRows, RowTest};
 use mr_tables::LogRow;

@@ -1,13 +1,13 @@
 ghost use Rattle.std.specs.Prelude.{◌≡◌, ◌∷◌, [], IfOk};
 ghost use Rattle.sqlite_value.specs.Order.{column, bytes};
-ghost use Rattle.mr_replica.specs.Sets.{AreSameRooms, has_room, IsSetOf};
+ghost use Rattle.mr_kept.specs.Sets.{AreSameRooms, has_room, IsSetOf};
 ghost use Rattle.mr_part.specs.ScopeOf.{scope_of};
 ghost use Rattle.mr_sql.specs.LateTests.{books_in, cancels_in};
 ghost use Rattle.mr_sql.specs.ScopeQuestions.{room_questions};
 
 use mr_base::{Refusal, RoomName};
+use mr_kept::room_sets::{RoomSet, room_set};
 use mr_part::{Scope, touched_rooms};
-use mr_replica::room_sets::{RoomSet, room_set};
 use mr_rows::RowTest;
 use mr_rows::cells::read_name;
 use mr_tables::{BookingRow, CancelledRow, LogRow};

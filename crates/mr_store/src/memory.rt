@@ -5,7 +5,7 @@ ghost use Rattle.mr_model.specs.Scopes.{OfRequest, in_scope};
 ghost use Rattle.mr_model.specs.Tables.{Stands, tables_of};
 ghost use Rattle.mr_tables.specs.Change.{changed};
 ghost use Rattle.mr_tables.specs.Summary.{IsWithin};
-ghost use Rattle.mr_replica.specs.Desk.{StandsFor, IsWithinLimits};
+ghost use Rattle.mr_kept.specs.Desk.{StandsFor, IsWithinLimits};
 ghost use Rattle.mr_part.specs.Parts.{IsPartOf};
 ghost use Rattle.mr_part.specs.ScopeOf.{scope_of};
 ghost use Rattle.mr_store.specs.Picked.{picked_errors, picked_cancelled, picked_cancels, AreBookings, IsPlaceOf};

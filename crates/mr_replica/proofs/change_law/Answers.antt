@@ -1,9 +1,9 @@
-use Rattle.mr_replica.proofs.SubmittedRows.{submitted}
-use Rattle.mr_replica.proofs.Placings.{cancellers-of}
+use Rattle.mr_kept.proofs.SubmittedRows.{submitted}
+use Rattle.mr_kept.proofs.Placings.{cancellers-of}
 use Rattle.std.proofs.Common.{◌∙◌, ap}
-use Rattle.mr_replica.specs.DeskTables.{desk_tables}
-use Rattle.mr_replica.proofs.DeskRows.{desk_tables-of}
-use Rattle.mr_replica.proofs.Changing.{room_changes, submit_changes, log_changes, commit_changes, truncate_changes}
+use Rattle.mr_kept.specs.DeskTables.{desk_tables}
+use Rattle.mr_kept.proofs.DeskRows.{desk_tables-of}
+use Rattle.mr_kept.proofs.Changing.{room_changes, submit_changes, log_changes, commit_changes, truncate_changes}
 use Rattle.mr_replica.proofs.change_law.Goals as goal
 
 pub returns-clause-tables : goal.returns-clause-tables

@@ -2,8 +2,8 @@ use Rattle.std.proofs.Common.{◌≡◌, ◌<◌, ◌≤◌, ◌==◌, ◌&&◌,
 use Rattle.std.proofs.lemmas.Bool.{and_from, false_from_ne_true}
 use Rattle.std.proofs.lemmas.List.{length-map}
 use Rattle.mr_model.specs.Writes.{Write}
-use Rattle.mr_replica.specs.Moves.{moves_in}
-use Rattle.mr_replica.proofs.Moves.{told_at, element_at, pick_more, pick_none, pick_end, and_no}
+use Rattle.mr_kept.specs.Moves.{moves_in}
+use Rattle.mr_kept.proofs.Moves.{told_at, element_at, pick_more, pick_none, pick_end, and_no}
 use Rattle.mr_part.proofs.part_again.moving_rows.Goals as goal
 use Rattle.mr_part.proofs.part_again.moving_rows.Goals.{then-marks-k-eq0+then-may_move+in_ok-push, else-marks-k-eq0, else-marks-k-eq0-via-then-marks-k-eq0+else-may_move, else-marks-k-eq0-via-else-marks-k-eq0}
 

@@ -4,9 +4,9 @@ use Rattle.mr_model.specs.Writes.{Write}
 use Rattle.mr_model.specs.Texts.{Text}
 use Rattle.mr_model.specs.Exchange.{Item}
 use Rattle.mr_replay.specs.Places.{UndoRow}
-use Rattle.mr_replica.specs.Moves.{moves_in}
-use Rattle.mr_replica.specs.Sets.{IsSetOf}
-use Rattle.mr_replica.specs.Tails.{IsTail}
+use Rattle.mr_kept.specs.Moves.{moves_in}
+use Rattle.mr_kept.specs.Sets.{IsSetOf}
+use Rattle.mr_kept.specs.Tails.{IsTail}
 use Rattle.mr_part.proofs.part_again.moving_rows.Given as goal
 
 -- with those of the writes that are left, the rows are those of all

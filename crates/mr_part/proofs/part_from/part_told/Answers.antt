@@ -2,7 +2,7 @@ use Rattle.std.proofs.Common.{◌∙◌, ap, sym, subst, List}
 use Rattle.std.proofs.lemmas.Bool.{true≢false}
 use Rattle.mr_model.specs.Texts.{Text}
 use Rattle.mr_model.specs.Tables.{Tables, tables_of}
-use Rattle.mr_replica.specs.Sets.{AreSameRooms}
+use Rattle.mr_kept.specs.Sets.{AreSameRooms}
 use Rattle.mr_part.specs.PickedBookings.{touched_in}
 use Rattle.mr_part.specs.ScopeOf.{scope_of}
 use Rattle.mr_tables.specs.Summary.{IsWithin}

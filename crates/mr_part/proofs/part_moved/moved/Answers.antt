@@ -6,10 +6,10 @@ use Rattle.mr_replay.specs.Trials.{Tried}
 use Rattle.mr_tables.specs.Cells.{place_row_of}
 use Rattle.mr_tables.specs.Rooms.{rooms_beside}
 use Rattle.mr_tables.specs.Written.{meta_of, changed_tallies, written}
-use Rattle.mr_replica.specs.RoomMoves.{ReplaysRooms, undone_at}
-use Rattle.mr_replica.specs.Taken.{ReachedView}
-use Rattle.mr_replica.specs.Placing.{with_places_put, cancellers_on}
-use Rattle.mr_replica.specs.Targets.{moved_targets}
+use Rattle.mr_kept.specs.RoomMoves.{ReplaysRooms, undone_at}
+use Rattle.mr_kept.specs.Taken.{ReachedView}
+use Rattle.mr_kept.specs.Placing.{with_places_put, cancellers_on}
+use Rattle.mr_kept.specs.Targets.{moved_targets}
 use Rattle.mr_part.proofs.PartMoves.{part_moved, part_rows, part_ends}
 use Rattle.mr_part.proofs.part_moved.moved.Goals as goal
 

@@ -5,7 +5,7 @@ use Rattle.std.specs.BTreeSet.{Updates, contains}
 use Rattle.mr_model.specs.Writes.{Id, Write, id_of, same_id}
 use Rattle.mr_model.specs.Replica.{is_among}
 use Rattle.mr_base.specs.Ids.{id_cmp}
-use Rattle.mr_replica.proofs.Sets.{added_more}
+use Rattle.mr_kept.proofs.Sets.{added_more}
 use Rattle.mr_part.proofs.PickedBookings.{ids_more}
 use Rattle.mr_part.proofs.scope_board.id_set.Goals as goal
 

@@ -4,9 +4,9 @@ use Rattle.std.proofs.lemmas.Result.{err_from_is_err_and}
 use Rattle.mr_model.specs.Tables.{tables_of}
 use Rattle.mr_tables.specs.Change.{changed}
 use Rattle.mr_tables.specs.declared.summary.Summary.{Summary}
-use Rattle.mr_replica.specs.Desk.{desk_of}
+use Rattle.mr_kept.specs.Desk.{desk_of}
 use Rattle.mr_replica.specs.Received.{HasKeptOf}
-use Rattle.mr_replica.specs.Taken.{ReachedView}
+use Rattle.mr_kept.specs.Taken.{ReachedView}
 use Rattle.mr_replica.proofs.desk_receive.carried_out.Goals as goal
 
 pub change_after-requires : goal.change_after-requires

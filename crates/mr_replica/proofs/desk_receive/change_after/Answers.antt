@@ -4,9 +4,9 @@ use Rattle.mr_model.specs.Writes.{Write}
 use Rattle.mr_tables.specs.Rooms.{rooms_beside}
 use Rattle.mr_tables.specs.Written.{meta_of, changed_tallies, written}
 use Rattle.mr_tables.specs.declared.summary.Summary.{Summary}
-use Rattle.mr_replica.specs.Desk.{desk_of}
-use Rattle.mr_replica.specs.Placing.{with_places_put, cancellers_on}
-use Rattle.mr_replica.specs.Targets.{taken_by, moved_targets}
+use Rattle.mr_kept.specs.Desk.{desk_of}
+use Rattle.mr_kept.specs.Placing.{with_places_put, cancellers_on}
+use Rattle.mr_kept.specs.Targets.{taken_by, moved_targets}
 use Rattle.mr_replica.proofs.DeskReceives.{desk_ends, desk_moved}
 use Rattle.mr_replica.proofs.desk_receive.change_after.Goals as goal
 

@@ -4,7 +4,7 @@ use Rattle.std.proofs.lemmas.Result.{err_from_is_err_and}
 use Rattle.mr_tables.specs.Summary.{committed_len}
 use Rattle.mr_tables.specs.declared.summary.Summary.{Summary}
 use Rattle.mr_replica.specs.Received.{HasKeptOf}
-use Rattle.mr_replica.proofs.Desks.{committed_kept}
+use Rattle.mr_kept.proofs.Desks.{committed_kept}
 use Rattle.mr_replica.proofs.desk_receive.replace_tail.Goals as goal
 
 pub fresh_rows-requires : goal.fresh_rows-requires

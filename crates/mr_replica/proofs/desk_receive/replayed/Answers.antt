@@ -1,7 +1,7 @@
 use Rattle.std.proofs.Common.{length, ap, sym, ◌∙◌, IfOk, subst}
 use Rattle.std.proofs.lemmas.Result.{err_from_is_err_and}
 use Rattle.mr_replica.specs.Received.{IsReplayed}
-use Rattle.mr_replica.proofs.DeskMoves.{desk_replayed}
+use Rattle.mr_kept.proofs.DeskMoves.{desk_replayed}
 use Rattle.mr_replica.proofs.desk_receive.replayed.Goals as goal
 
 pub returns-clause-replayed : goal.returns-clause-replayed

@@ -3,7 +3,7 @@ use Rattle.std.specs.Prelude.{IfOk}
 use Rattle.mr_tables.specs.Boards.{AreWithin}
 use Rattle.mr_tables.specs.Boards as tables
 use Rattle.mr_tables.proofs.BoardLimits.{rows_within}
-use Rattle.mr_replica.proofs.DeskBoards.{board-told}
+use Rattle.mr_kept.proofs.DeskBoards.{board-told}
 use Rattle.mr_replica.proofs.desk_tables.board_of.Goals as goal
 
 pub returns-clause-board : goal.returns-clause-board

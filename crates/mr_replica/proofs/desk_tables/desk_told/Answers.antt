@@ -6,7 +6,7 @@ use Rattle.mr_tables.specs.SoundRows.{AreSound}
 use Rattle.mr_tables.specs.Summary.{IsWithin, summary_of}
 use Rattle.mr_tables.proofs.CountLimits.{numbers_within}
 use Rattle.mr_replica.specs.SoundStamps.{AreStampsSound, AreSlotsSound}
-use Rattle.mr_replica.proofs.SoundTables.{tables_sound}
+use Rattle.mr_kept.proofs.SoundTables.{tables_sound}
 use Rattle.mr_replica.proofs.SoundStamps.{stamps_sound, slots_sound}
 use Rattle.mr_replica.proofs.desk_tables.desk_told.Goals as goal
 

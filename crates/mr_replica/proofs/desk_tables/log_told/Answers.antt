@@ -2,8 +2,8 @@ use Rattle.std.proofs.Common.{◌∙◌, sym, subst}
 use Rattle.std.proofs.lemmas.Bool.{true≢false}
 use Rattle.mr_model.specs.Tables.{Tables}
 use Rattle.mr_replay.specs.Rows.{Rows}
-use Rattle.mr_replica.specs.OnBoard.{AreOnBoard}
-use Rattle.mr_replica.proofs.DeskBoards.{board_of}
+use Rattle.mr_kept.specs.OnBoard.{AreOnBoard}
+use Rattle.mr_kept.proofs.DeskBoards.{board_of}
 use Rattle.mr_replica.proofs.OnBoard.{all_on_board}
 use Rattle.mr_replica.proofs.desk_tables.log_told.Goals as goal
 

@@ -2,8 +2,8 @@ use Rattle.std.proofs.Common.{◌∙◌, ap, sym, subst, ℕ}
 use Rattle.std.proofs.lemmas.Bool.{true≢false}
 use Rattle.mr_model.specs.Tables.{Tables}
 use Rattle.mr_tables.specs.declared.summary.Summary.{Summary}
-use Rattle.mr_replica.specs.SoundNotes.{AreNotesSound}
-use Rattle.mr_replica.proofs.SoundNotes.{notes_sound, if_ok}
+use Rattle.mr_kept.specs.SoundNotes.{AreNotesSound}
+use Rattle.mr_kept.proofs.SoundNotes.{notes_sound, if_ok}
 use Rattle.mr_replica.proofs.desk_tables.noted_log.Goals as goal
 
 pub returns-then-sound-clause-notes : goal.returns-then-sound-clause-notes

@@ -2,8 +2,8 @@ use Rattle.std.proofs.Common.{◌≡◌, ◌∙◌, ◌+◌, suc, ◌++◌, [], 
 use Rattle.std.specs.List.{cons_option}
 use Rattle.mr_replay.specs.Places.{UndoRow}
 use Rattle.mr_tables.specs.ExecutionRows.{seq_on}
-use Rattle.mr_replica.specs.Log.{cancel_at, cancel_rows}
-use Rattle.mr_replica.proofs.Logs.{cancel_rows-more, cancel_rows-all}
+use Rattle.mr_kept.specs.Log.{cancel_at, cancel_rows}
+use Rattle.mr_kept.proofs.Logs.{cancel_rows-more, cancel_rows-all}
 use Rattle.mr_replica.proofs.log.cancels_of.Goals as goal
 
 pub loop-k-preserved : goal.loop-k-preserved

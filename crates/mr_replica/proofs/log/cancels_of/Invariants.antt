@@ -1,5 +1,5 @@
 use Rattle.std.proofs.Common.{◌≡◌, ◌+◌, ◌<◌, ◌^◌, take, length}
-use Rattle.mr_replica.specs.Log.{cancel_rows}
+use Rattle.mr_kept.specs.Log.{cancel_rows}
 use Rattle.mr_replica.proofs.log.cancels_of.Given as goal
 
 -- the rows so far are those of the writes so far

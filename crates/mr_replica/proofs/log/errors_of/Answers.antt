@@ -1,7 +1,7 @@
 use Rattle.std.proofs.Common.{◌≡◌, ◌∙◌, ◌+◌, suc, ◌++◌, [], ◌∷◌, cond, min, take, ap, sym, arith, append-nil}
-use Rattle.mr_replica.specs.Log.{errors_in}
+use Rattle.mr_kept.specs.Log.{errors_in}
 use Rattle.mr_tables.specs.OldErrors.{old_error_of}
-use Rattle.mr_replica.proofs.Logs.{errors_in-more, errors_in-all}
+use Rattle.mr_kept.proofs.Logs.{errors_in-more, errors_in-all}
 use Rattle.mr_replica.proofs.log.errors_of.Goals as goal
 use Rattle.mr_replica.proofs.log.errors_of.Goals.{then-is_logged+in_ok-push, else-is_logged}
 

@@ -1,5 +1,5 @@
 use Rattle.std.proofs.Common.{◌≡◌, ◌+◌, ◌<◌, ◌^◌, take, length}
-use Rattle.mr_replica.specs.Log.{errors_in}
+use Rattle.mr_kept.specs.Log.{errors_in}
 use Rattle.mr_replica.proofs.log.errors_of.Given as goal
 
 -- the errors so far are those of the writes so far

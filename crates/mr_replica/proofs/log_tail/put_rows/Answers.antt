@@ -1,5 +1,5 @@
 use Rattle.std.proofs.Common.{arith}
-use Rattle.mr_replica.specs.declared.kept_rows.KeptRow.{KeptRow}
+use Rattle.mr_kept.specs.declared.kept_rows.KeptRow.{KeptRow}
 use Rattle.mr_replica.proofs.LogTails.{put_more}
 use Rattle.mr_replica.proofs.log_tail.put_rows.Goals as goal
 

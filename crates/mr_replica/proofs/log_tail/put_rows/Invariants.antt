@@ -1,6 +1,6 @@
 use Rattle.std.proofs.Common.{◌≡◌, ◌+◌, ◌≤◌, ◌++◌, map, reverse}
 use Rattle.std.specs.Vec.{vec_len, vec_capacity}
-use Rattle.mr_replica.specs.declared.kept_rows.KeptRow.{KeptRow}
+use Rattle.mr_kept.specs.declared.kept_rows.KeptRow.{KeptRow}
 use Rattle.mr_replica.proofs.log_tail.put_rows.Given as goal
 
 -- with those of the rows that are left, the last of which comes next, the writes are all

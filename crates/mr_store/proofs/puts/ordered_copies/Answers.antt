@@ -1,5 +1,5 @@
 use Rattle.std.proofs.Common.{ap, subst, ◌∙◌}
-use Rattle.mr_replica.proofs.Sorting.{moved_has, has_moved}
+use Rattle.mr_kept.proofs.Sorting.{moved_has, has_moved}
 use Rattle.mr_tables.specs.Change.{put_all}
 use Rattle.mr_tables.proofs.Putting.{InOrder}
 use Rattle.mr_store.proofs.Gaps.{put_all_same}

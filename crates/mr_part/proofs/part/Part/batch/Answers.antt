@@ -12,13 +12,13 @@ use Rattle.mr_base.specs.Answers.{ok_if}
 use Rattle.mr_base.specs.Batches.{item_of, batch_seen}
 use Rattle.mr_base.specs.Versions.{version_of}
 use Rattle.mr_base.specs.declared.refusals.Refusal.TheVariants.{NeedsVersion2}
-use Rattle.mr_replica.specs.Desk.{reply_with}
+use Rattle.mr_kept.specs.Desk.{reply_with}
 use Rattle.mr_tables.specs.declared.summary.Summary.{Summary}
-use Rattle.mr_replica.specs.Outgoing.{Offers, ending_by}
+use Rattle.mr_kept.specs.Outgoing.{Offers, ending_by}
 use Rattle.mr_tables.specs.Summary.{summary_of}
 use Rattle.mr_part.specs.Parts.{PartView}
 use Rattle.mr_tables.proofs.CountLimits.{few_commits}
-use Rattle.mr_replica.proofs.Batching.{batch_made}
+use Rattle.mr_kept.proofs.Batching.{batch_made}
 use Rattle.mr_part.proofs.PartCalls.{part_items}
 use Rattle.mr_part.proofs.part.Part.batch.Goals as goal
 

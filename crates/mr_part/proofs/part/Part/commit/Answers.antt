@@ -6,9 +6,9 @@ use Rattle.mr_model.specs.Changes.{first_tentative}
 use Rattle.mr_model.specs.Scopes.{NextCommits}
 use Rattle.mr_part.specs.Parts.{PartView, part_of}
 use Rattle.mr_model.specs.View.{place_of}
-use Rattle.mr_replica.specs.Logged.{undo_with}
+use Rattle.mr_kept.specs.Logged.{undo_with}
 use Rattle.mr_part.proofs.Parting.{take_same, part_commit}
-use Rattle.mr_replica.proofs.Receiving.{own_primary}
+use Rattle.mr_kept.proofs.Receiving.{own_primary}
 use Rattle.mr_part.proofs.part.Part.commit.Goals as goal
 
 pub returns-in_err-bys-clause-step : goal.returns-in_err-bys-clause-step

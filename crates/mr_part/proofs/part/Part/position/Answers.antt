@@ -8,11 +8,11 @@ use Rattle.mr_model.specs.Writes.{is_server}
 use Rattle.mr_model.specs.Positions.{Position, position_of, is_position}
 use Rattle.mr_model.specs.Replies.{PositionIs}
 use Rattle.mr_model.proofs.PositionsReadBack.{position_within}
-use Rattle.mr_replica.specs.Desk.{reply_with, NeverStore}
+use Rattle.mr_kept.specs.Desk.{reply_with, NeverStore}
 use Rattle.mr_tables.specs.Summary.{IsWithin, counts_in}
 use Rattle.mr_part.specs.Parts.{PartView}
 use Rattle.mr_tables.proofs.TallyCounts.{counts-own}
-use Rattle.mr_replica.proofs.PositionLimits.{position_with, position_fits}
+use Rattle.mr_kept.proofs.PositionLimits.{position_with, position_fits}
 use Rattle.mr_part.proofs.PartCalls.{desk_by, within_by}
 use Rattle.mr_part.proofs.part.Part.position.Goals as goal
 

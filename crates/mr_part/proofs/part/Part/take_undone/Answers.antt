@@ -5,12 +5,12 @@ use Rattle.mr_model.specs.Kept.{kept_in_order}
 use Rattle.mr_model.specs.Tables.{seq_of}
 use Rattle.mr_model.proofs.Moved.{batches_move_touched_rooms}
 use Rattle.mr_base.specs.Batches.{item_of}
-use Rattle.mr_replica.specs.Desk.{nothing_taken}
-use Rattle.mr_replica.specs.Taken.{ReachedView, is_inside}
+use Rattle.mr_kept.specs.Desk.{nothing_taken}
+use Rattle.mr_kept.specs.Taken.{ReachedView, is_inside}
 use Rattle.mr_part.specs.Parts.{PartView}
-use Rattle.mr_replica.specs.KeptWrites.{numbered_of}
-use Rattle.mr_replica.proofs.Growing.{items-grow}
-use Rattle.mr_replica.proofs.TakingItems.{all_within}
+use Rattle.mr_kept.specs.KeptWrites.{numbered_of}
+use Rattle.mr_kept.proofs.Growing.{items-grow}
+use Rattle.mr_kept.proofs.TakingItems.{all_within}
 use Rattle.mr_part.proofs.ReceivingPart.{part_received, part_refused}
 use Rattle.mr_part.proofs.part.Part.take_undone.Goals as goal
 

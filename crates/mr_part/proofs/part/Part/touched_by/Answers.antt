@@ -2,11 +2,11 @@ use Rattle.std.proofs.Common.{◌∙◌, IfOk, map, ap, sym, subst}
 use Rattle.std.proofs.lemmas.Result.{err_from_is_err_and}
 use Rattle.std.specs.Prelude.{flat_map}
 use Rattle.mr_base.specs.Batches.{item_of}
-use Rattle.mr_replica.specs.Moves.{rooms_named, AreTouched}
+use Rattle.mr_kept.specs.Moves.{rooms_named, AreTouched}
 use Rattle.mr_part.specs.Parts.{PartView}
-use Rattle.mr_replica.specs.Taken.{is_inside}
-use Rattle.mr_replica.specs.Sets.{AreSameRooms}
-use Rattle.mr_replica.proofs.Moves.{touched_told}
+use Rattle.mr_kept.specs.Taken.{is_inside}
+use Rattle.mr_kept.specs.Sets.{AreSameRooms}
+use Rattle.mr_kept.proofs.Moves.{touched_told}
 use Rattle.mr_part.proofs.part.Part.touched_by.Goals as goal
 
 pub returns-clause-rooms : goal.returns-clause-rooms

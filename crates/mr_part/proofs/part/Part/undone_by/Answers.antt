@@ -7,12 +7,12 @@ use Rattle.mr_model.specs.Moving.{may_move}
 use Rattle.mr_model.specs.Tables.{seq_of}
 use Rattle.mr_model.specs.View.{of_room, place_of}
 use Rattle.mr_base.specs.Batches.{item_of}
-use Rattle.mr_replica.specs.Moves.{moves_in}
+use Rattle.mr_kept.specs.Moves.{moves_in}
 use Rattle.mr_part.specs.PartMoves.{AreUndone}
 use Rattle.mr_part.specs.Parts.{PartView}
-use Rattle.mr_replica.specs.Taken.{is_inside}
-use Rattle.mr_replica.specs.Logged.{undo_with}
-use Rattle.mr_replica.proofs.Moves.{undone_picked}
+use Rattle.mr_kept.specs.Taken.{is_inside}
+use Rattle.mr_kept.specs.Logged.{undo_with}
+use Rattle.mr_kept.proofs.Moves.{undone_picked}
 use Rattle.mr_part.proofs.part.Part.undone_by.Goals as goal
 
 pub returns-clause-rows : goal.returns-clause-rows

@@ -3,10 +3,10 @@ use Rattle.std.specs.Prelude.{bytes_eq}
 use Rattle.std.specs.List.{list_any}
 use Rattle.mr_model.specs.Replica.{knows_room, with_room}
 use Rattle.mr_model.specs.Step.{After}
-use Rattle.mr_replica.specs.Desk.{desk_of}
-use Rattle.mr_replica.specs.Accepting.{summary_in}
-use Rattle.mr_replica.proofs.Desks.{desk_with, room_added}
-use Rattle.mr_replica.proofs.CommandTurns.{room_turns}
+use Rattle.mr_kept.specs.Desk.{desk_of}
+use Rattle.mr_kept.specs.Accepting.{summary_in}
+use Rattle.mr_kept.proofs.Desks.{desk_with, room_added}
+use Rattle.mr_kept.proofs.CommandTurns.{room_turns}
 use Rattle.mr_replica.proofs.desk.Desk.add_room.Goals as goal
 
 pub returns-clause-step : goal.returns-clause-step

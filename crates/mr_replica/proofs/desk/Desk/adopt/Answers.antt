@@ -3,11 +3,11 @@ use Rattle.std.proofs.lemmas.Result.{err_from_is_err_and}
 use Rattle.mr_model.specs.Tables.{tables_of}
 use Rattle.mr_replay.specs.Trials.{Tried}
 use Rattle.mr_tables.specs.Change.{changed}
-use Rattle.mr_replica.specs.Accepting.{summary_in}
-use Rattle.mr_replica.specs.Desk.{DeskView, StandsFor, desk_of}
-use Rattle.mr_replica.specs.Log.{KeptLog}
-use Rattle.mr_replica.specs.Taken.{ReachedView}
-use Rattle.mr_replica.proofs.Desks.{desk_with}
+use Rattle.mr_kept.specs.Accepting.{summary_in}
+use Rattle.mr_kept.specs.Desk.{DeskView, StandsFor, desk_of}
+use Rattle.mr_kept.specs.Log.{KeptLog}
+use Rattle.mr_kept.specs.Taken.{ReachedView}
+use Rattle.mr_kept.proofs.Desks.{desk_with}
 use Rattle.mr_replica.proofs.DeskReceives.{reaches_as, desk_after, desk_has_kept, log_has, board_put_back}
 use Rattle.mr_replica.proofs.desk.Desk.adopt.Goals as goal
 

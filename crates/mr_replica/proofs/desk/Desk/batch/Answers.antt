@@ -10,10 +10,10 @@ use Rattle.mr_base.specs.Answers.{ok_if}
 use Rattle.mr_base.specs.Batches.{item_of, batch_seen}
 use Rattle.mr_base.specs.Versions.{version_of}
 use Rattle.mr_base.specs.declared.refusals.Refusal.TheVariants.{NeedsVersion2}
-use Rattle.mr_replica.specs.Outgoing.{Offers, kept_items, ending_by}
-use Rattle.mr_replica.specs.Desk.{DeskView, reply_with}
-use Rattle.mr_replica.specs.Accepting.{summary_in}
-use Rattle.mr_replica.proofs.Batching.{items-kept, batch_made}
+use Rattle.mr_kept.specs.Outgoing.{Offers, kept_items, ending_by}
+use Rattle.mr_kept.specs.Desk.{DeskView, reply_with}
+use Rattle.mr_kept.specs.Accepting.{summary_in}
+use Rattle.mr_kept.proofs.Batching.{items-kept, batch_made}
 use Rattle.mr_replica.proofs.desk.Desk.batch.Goals as goal
 
 pub returns-in_err-outgoing-clause-step : goal.returns-in_err-outgoing-clause-step

@@ -9,13 +9,13 @@ use Rattle.mr_model.proofs.ChangesKeep.{within}
 use Rattle.mr_model.proofs.RowsById.{action_within}
 use Rattle.mr_tables.specs.Change.{ChangeView}
 use Rattle.mr_tables.specs.Summary.{stamp_next}
-use Rattle.mr_replica.specs.Accepting.{summary_in}
-use Rattle.mr_replica.specs.Desk.{DeskView, desk_of, StandsFor, reply_with}
-use Rattle.mr_replica.specs.Placing.{has_booking}
-use Rattle.mr_replica.specs.Steps.{cancel_with, cancel_request, outcome_at_room}
-use Rattle.mr_replica.proofs.Placings.{booking-known}
-use Rattle.mr_replica.proofs.Submitting.{Withdraws, withdraws, not_booked}
-use Rattle.mr_replica.proofs.SubmittedRows.{Withdrawn, withdrawn}
+use Rattle.mr_kept.specs.Accepting.{summary_in}
+use Rattle.mr_kept.specs.Desk.{DeskView, desk_of, StandsFor, reply_with}
+use Rattle.mr_kept.specs.Placing.{has_booking}
+use Rattle.mr_kept.specs.Steps.{cancel_with, cancel_request, outcome_at_room}
+use Rattle.mr_kept.proofs.Placings.{booking-known}
+use Rattle.mr_kept.proofs.Submitting.{Withdraws, withdraws, not_booked}
+use Rattle.mr_kept.proofs.SubmittedRows.{Withdrawn, withdrawn}
 use Rattle.mr_replica.proofs.desk.Desk.cancel.Goals as goal
 
 pub returns-then-not-has_booking-clause-step : goal.returns-then-not-has_booking-clause-step

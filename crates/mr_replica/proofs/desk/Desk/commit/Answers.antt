@@ -3,12 +3,12 @@ use Rattle.std.proofs.lemmas.Bool.Decides.{nat_tests}
 use Rattle.std.proofs.lemmas.Result.{err_from_is_err_and}
 use Rattle.mr_model.specs.Replies.{CommittedIs}
 use Rattle.mr_model.specs.Step.{After}
-use Rattle.mr_replica.specs.Desk.{DeskView, desk_of}
-use Rattle.mr_replica.specs.Placing.{cancellers_on}
-use Rattle.mr_replica.specs.Accepting.{summary_in}
-use Rattle.mr_replica.proofs.Desks.{desk_with}
-use Rattle.mr_replica.proofs.Committing.{commit_done}
-use Rattle.mr_replica.proofs.CommandTurns.{next_writes, next_rows, next_bys, numbers_after, committed_is, commit_turns}
+use Rattle.mr_kept.specs.Desk.{DeskView, desk_of}
+use Rattle.mr_kept.specs.Placing.{cancellers_on}
+use Rattle.mr_kept.specs.Accepting.{summary_in}
+use Rattle.mr_kept.proofs.Desks.{desk_with}
+use Rattle.mr_kept.proofs.Committing.{commit_done}
+use Rattle.mr_kept.proofs.CommandTurns.{next_writes, next_rows, next_bys, numbers_after, committed_is, commit_turns}
 use Rattle.mr_replica.proofs.desk.Desk.commit.Goals as goal
 
 pub returns-in_err-summary-clause-step : goal.returns-in_err-summary-clause-step

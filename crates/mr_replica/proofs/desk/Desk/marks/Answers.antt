@@ -1,6 +1,6 @@
 use Rattle.std.proofs.Common.{◌≡◌, ◌+◌, ◌<◌, ◌≤◌, length, ap, subst, ◌∙◌, arith}
 use Rattle.mr_tables.specs.ExecutionRows.{seq_on}
-use Rattle.mr_replica.specs.Desk.{DeskView}
+use Rattle.mr_kept.specs.Desk.{DeskView}
 use Rattle.mr_replica.proofs.DeskReceives.{mark_more, marks_end}
 use Rattle.mr_replica.proofs.desk.Desk.marks.Goals as goal
 

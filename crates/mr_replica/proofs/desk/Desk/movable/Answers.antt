@@ -1,5 +1,5 @@
 use Rattle.std.proofs.Common.{ap, ◌∙◌}
-use Rattle.mr_replica.specs.Desk.{DeskView}
+use Rattle.mr_kept.specs.Desk.{DeskView}
 use Rattle.mr_replica.proofs.desk.Desk.movable.Goals as goal
 
 pub returns-clause-movable : goal.returns-clause-movable

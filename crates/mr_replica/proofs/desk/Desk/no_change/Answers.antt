@@ -1,5 +1,5 @@
 use Rattle.std.proofs.Common.{[], ◌∙◌}
-use Rattle.mr_replica.specs.DeskTables.{desk_tables}
+use Rattle.mr_kept.specs.DeskTables.{desk_tables}
 use Rattle.mr_tables.specs.Written.{with_places}
 use Rattle.mr_replica.proofs.DeskReceives.{nothing_put}
 use Rattle.mr_replica.proofs.desk.Desk.no_change.Goals as goal

@@ -3,8 +3,8 @@ use Rattle.std.proofs.lemmas.Result.{err_from_is_err_and}
 use Rattle.mr_model.specs.Kept.{kept_in_order}
 use Rattle.mr_model.specs.Tables.{seq_of}
 use Rattle.mr_base.specs.Batches.{item_of}
-use Rattle.mr_replica.specs.Desk.{DeskView}
-use Rattle.mr_replica.specs.Received.{IsPicked}
+use Rattle.mr_kept.specs.Desk.{DeskView}
+use Rattle.mr_kept.specs.Movable.{IsPicked}
 use Rattle.mr_replica.proofs.desk.Desk.picked.Goals as goal
 
 pub returns-in_err-named-clause-picked : goal.returns-in_err-named-clause-picked

@@ -5,15 +5,15 @@ use Rattle.mr_model.specs.Kept.{kept_in_order}
 use Rattle.mr_model.specs.Moving.{again}
 use Rattle.mr_model.specs.Tables.{seq_of}
 use Rattle.mr_model.specs.View.{of_room, place_of}
-use Rattle.mr_replica.specs.Desk.{DeskView, desk_of}
-use Rattle.mr_replica.specs.Logged.{undo_with}
-use Rattle.mr_replica.specs.Moves.{moves_in, ShowsMoves}
+use Rattle.mr_kept.specs.Desk.{DeskView, desk_of}
+use Rattle.mr_kept.specs.Logged.{undo_with}
+use Rattle.mr_kept.specs.Moves.{moves_in, ShowsMoves}
 use Rattle.mr_replica.specs.Received.{IsPlanned}
-use Rattle.mr_replica.specs.Tails.{IsTail}
-use Rattle.mr_replica.specs.Taken.{is_inside}
-use Rattle.mr_replica.specs.Targets.{taken_by}
+use Rattle.mr_kept.specs.Tails.{IsTail}
+use Rattle.mr_kept.specs.Taken.{is_inside}
+use Rattle.mr_kept.specs.Targets.{taken_by}
 use Rattle.mr_replica.proofs.DeskReceives.{moving_are, desk_undo}
-use Rattle.mr_replica.proofs.Moves.{again_picked}
+use Rattle.mr_kept.proofs.Moves.{again_picked}
 use Rattle.mr_replica.proofs.desk.Desk.plan.Goals as goal
 
 pub returns-clause-planned : goal.returns-clause-planned

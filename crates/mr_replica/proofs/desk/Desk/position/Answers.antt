@@ -8,13 +8,13 @@ use Rattle.mr_model.specs.Texts.{only_if}
 use Rattle.mr_model.specs.Positions.{Position, position_of, is_position}
 use Rattle.mr_model.specs.Replies.{PositionIs}
 use Rattle.mr_model.proofs.PositionsReadBack.{position_within}
-use Rattle.mr_replica.specs.Desk.{reply_with, NeverStore, IsWithinLimits}
+use Rattle.mr_kept.specs.Desk.{reply_with, NeverStore, IsWithinLimits}
 use Rattle.mr_tables.specs.Summary.{counts_in}
 use Rattle.mr_model.specs.Texts.{numbers_on}
 use Rattle.mr_model.specs.Writes.{is_server}
-use Rattle.mr_replica.proofs.Desks.{desk_with}
+use Rattle.mr_kept.proofs.Desks.{desk_with}
 use Rattle.mr_tables.proofs.TallyCounts.{counts-own}
-use Rattle.mr_replica.proofs.PositionLimits.{position_with, position_fits}
+use Rattle.mr_kept.proofs.PositionLimits.{position_with, position_fits}
 use Rattle.mr_replica.proofs.desk.Desk.position.Goals as goal
 
 pub returns-in_err-counts-clause-step : goal.returns-in_err-counts-clause-step

@@ -9,8 +9,8 @@ use Rattle.mr_base.specs.Batches.{header_of, item_of}
 use Rattle.mr_base.specs.declared.refusals.Refusal.{Refusal}
 use Rattle.mr_base.specs.declared.refusals.Refusal.TheVariants.{OutOfMemory}
 use Rattle.mr_tables.specs.Change.{ChangeView}
-use Rattle.mr_replica.specs.Desk.{DeskView, StandsFor, nothing_taken, reply_with}
-use Rattle.mr_replica.proofs.Receiving.{items_good, own_primary, receive_done}
+use Rattle.mr_kept.specs.Desk.{DeskView, StandsFor, nothing_taken, reply_with}
+use Rattle.mr_kept.proofs.Receiving.{items_good, own_primary, receive_done}
 use Rattle.mr_replica.proofs.desk.Desk.receive.Goals as goal
 
 -- what is owed, by the step and the answer

@@ -8,11 +8,11 @@ use Rattle.mr_model.specs.Replica.{Replica, IsReplica, knows_room}
 use Rattle.mr_model.specs.Step.{After}
 use Rattle.mr_tables.specs.Change.{ChangeView}
 use Rattle.mr_tables.specs.Summary.{stamp_next}
-use Rattle.mr_replica.specs.Desk.{DeskView, desk_of, StandsFor, reply_with}
-use Rattle.mr_replica.specs.Steps.{submit_request, outcome_in}
-use Rattle.mr_replica.specs.Accepting.{summary_in}
-use Rattle.mr_replica.proofs.Submitting.{Submits, submits}
-use Rattle.mr_replica.proofs.SubmittedRows.{Submitted, submitted}
+use Rattle.mr_kept.specs.Desk.{DeskView, desk_of, StandsFor, reply_with}
+use Rattle.mr_kept.specs.Steps.{submit_request, outcome_in}
+use Rattle.mr_kept.specs.Accepting.{summary_in}
+use Rattle.mr_kept.proofs.Submitting.{Submits, submits}
+use Rattle.mr_kept.proofs.SubmittedRows.{Submitted, submitted}
 use Rattle.mr_replica.proofs.desk.Desk.submit.Goals as goal
 
 pub returns-in_err-stamp-clause-step : goal.returns-in_err-stamp-clause-step

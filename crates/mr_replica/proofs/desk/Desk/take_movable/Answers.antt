@@ -5,9 +5,9 @@ use Rattle.mr_model.specs.Kept.{kept_in_order}
 use Rattle.mr_model.specs.Step.{After, after_items}
 use Rattle.mr_model.specs.Tables.{seq_of}
 use Rattle.mr_base.specs.Batches.{item_of}
-use Rattle.mr_replica.specs.Accepting.{summary_in}
-use Rattle.mr_replica.specs.Desk.{DeskView, desk_of}
-use Rattle.mr_replica.specs.Taken.{ReachedView, is_inside}
+use Rattle.mr_kept.specs.Accepting.{summary_in}
+use Rattle.mr_kept.specs.Desk.{DeskView, desk_of}
+use Rattle.mr_kept.specs.Taken.{ReachedView, is_inside}
 use Rattle.mr_replica.proofs.DeskReceives.{desk_reaches, desk_took, desk_refused, tables_turned}
 use Rattle.mr_replica.proofs.desk.Desk.take_movable.Goals as goal
 

@@ -6,11 +6,11 @@ use Rattle.std.proofs.lemmas.Result.{err_from_is_err_and}
 use Rattle.mr_model.specs.Replies.{DroppedIs}
 use Rattle.mr_model.specs.Step.{After}
 use Rattle.mr_tables.specs.declared.summary.Summary.{Summary}
-use Rattle.mr_replica.specs.Desk.{DeskView, desk_of}
-use Rattle.mr_replica.specs.Accepting.{summary_in}
-use Rattle.mr_replica.proofs.Desks.{desk_with}
-use Rattle.mr_replica.proofs.Truncating.{truncate_done}
-use Rattle.mr_replica.proofs.CommandTurns.{truncated_is, truncate_turns}
+use Rattle.mr_kept.specs.Desk.{DeskView, desk_of}
+use Rattle.mr_kept.specs.Accepting.{summary_in}
+use Rattle.mr_kept.proofs.Desks.{desk_with}
+use Rattle.mr_kept.proofs.Truncating.{truncate_done}
+use Rattle.mr_kept.proofs.CommandTurns.{truncated_is, truncate_turns}
 use Rattle.mr_replica.proofs.desk.Desk.truncate.Goals as goal
 
 -- an append that had the room

@@ -1,7 +1,7 @@
 use Rattle.std.proofs.Common.{◌++◌, not, map, take, drop, reverse, ap, sym, ◌∙◌}
 use Rattle.std.specs.List.{filter}
 use Rattle.mr_model.specs.Moving.{may_move}
-use Rattle.mr_replica.specs.Log.{KeptLog}
+use Rattle.mr_kept.specs.Log.{KeptLog}
 use Rattle.mr_replica.specs.Received.{tentative_row}
 use Rattle.mr_replica.proofs.LogTails.{tail_changed}
 use Rattle.mr_replica.proofs.log.Log.change_tail.Goals as goal

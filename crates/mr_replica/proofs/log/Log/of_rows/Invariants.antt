@@ -1,5 +1,5 @@
 use Rattle.std.proofs.Common.{◌≡◌, map}
-use Rattle.mr_replica.specs.declared.kept_rows.KeptRow.{KeptRow}
+use Rattle.mr_kept.specs.declared.kept_rows.KeptRow.{KeptRow}
 use Rattle.mr_replica.proofs.log.Log.of_rows.Given as goal
 
 -- the parts of the rows so far

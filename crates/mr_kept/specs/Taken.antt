@@ -1,0 +1,73 @@
+-- What a batch makes of numbers, rooms and kept writes, item by item.
+use Rattle.std.specs.Prelude.{◌≡◌, ℕ, ◌+◌, ◌||◌, ◌&&◌, Bool, true, List, length, map, filter, Result, Ok, Err, ◌⊎◌}
+use Rattle.std.specs.Option.{option_map}
+use Rattle.mr_model.specs.Texts.{Text}
+use Rattle.mr_model.specs.Writes.{Id, Write, id_of}
+use Rattle.mr_model.specs.Exchange.{Item}
+use Rattle.mr_model.specs.Refusals as model
+use Rattle.mr_model.specs.Replica.{Replica}
+use Rattle.mr_model.specs.Kept.{kept_in_order}
+use Rattle.mr_model.specs.Scopes.{is_named, is_in_tail, is_touched}
+use Rattle.mr_model.specs.Tables.{seq_of, log_row, tables_of}
+use Rattle.mr_model.specs.Taking.{Progress}
+use Rattle.mr_base.specs.RefusalViews.{refusal_of}
+use Rattle.mr_base.specs.declared.refusals.Refusal.{Refusal}
+use Rattle.mr_base.specs.declared.refusals.Refusal.TheVariants.{OutOfMemory}
+use Rattle.mr_tables.specs.declared.summary.Summary.{Summary}
+use Rattle.mr_tables.specs.Summary.{tally_at, summary_of}
+use Rattle.mr_kept.specs.declared.candidate.Candidate.{Candidate}
+use Rattle.mr_kept.specs.declared.kept_writes.NumberedWrite.{NumberedWrite}
+use Rattle.mr_kept.specs.Candidate.{write_verdict_with, commit_verdict}
+use Rattle.mr_kept.specs.KeptWrites.{KeptWrites, HasKept, logged_at, is_number_of, numbered_of}
+use Rattle.mr_kept.specs.Sets.{IsSetOf}
+
+-- the numbers, the rooms in the order of names and the kept writes in that of execution, as all items leave them
+pub record ReachedView : Type 0 where
+  pub summary : Summary
+  pub rooms : List Text
+  pub kept : List NumberedWrite
+
+-- whether a write of the replica is in scope of the items
+abbrev pub is_inside : Replica → List Item → Write → Bool
+is_inside a items w =
+    is_named items (log_row a w) || (is_in_tail (length a.commits) items (log_row a w) && is_touched (tables_of a) items w.room)
+
+-- the test passes each write in scope of the items: those that they name, and those that they may move
+abbrev pub CoversScope : Replica → List Item → (Write → Bool) → Type 0
+CoversScope a items inside = (w : Write) → is_inside a items w ≡ true → inside w ≡ true
+
+-- the candidate is what the replica that is reached so far from the first would have of the writes that pass this test
+pub record ShowsTaken (a : Replica) (inside : Write → Bool) (c : Candidate) (p : Progress) : Type 0 where
+  pub summary : c.summary ≡ summary_of p.replica
+  pub rooms : IsSetOf c.rooms p.replica.rooms
+  pub kept : HasKept c.kept (seq_of p.replica) (filter inside (kept_in_order p.replica))
+  -- all writes that came are there
+  pub writes : length (filter inside (kept_in_order p.replica)) ≡ length (filter inside (kept_in_order a)) + p.writes
+  -- a write that doesn't pass has the commit number that it had
+  pub marks : (w : Write) → (seq_of p.replica w ≡ seq_of a w) ⊎ (inside w ≡ true)
+
+-- the same of what all items lead to
+pub record ShowsPicked (a : Replica) (inside : Write → Bool) (c : ReachedView) (p : Progress) : Type 0 where
+  pub summary : c.summary ≡ summary_of p.replica
+  pub rooms : c.rooms ≡ p.replica.rooms
+  pub kept : c.kept ≡ map (numbered_of p.replica) (filter inside (kept_in_order p.replica))
+  pub writes : length c.kept ≡ length (filter inside (kept_in_order a)) + p.writes
+  pub marks : (w : Write) → (seq_of p.replica w ≡ seq_of a w) ⊎ (inside w ≡ true)
+
+-- the answer to an item, or to some: taken, with what the definitions then have; their refusal; or want of memory
+abbrev pub TakesPicked : Replica → (Write → Bool) → Result Progress model.Refusal → Result (Unit {0}) Refusal → Candidate → Type 0
+TakesPicked a inside exact (Ok x) new = (p : Progress) × (exact ≡ Ok p) × ShowsTaken a inside new p
+TakesPicked a inside exact (Err e) new = (exact ≡ Err (refusal_of e)) ⊎ (e ≡ OutOfMemory)
+
+-- what all items lead to, or why the batch is refused
+abbrev pub TakenPicked : Replica → (Write → Bool) → Result Progress model.Refusal → Result ReachedView Refusal → Type 0
+TakenPicked a inside exact (Ok c) = (p : Progress) × (exact ≡ Ok p) × ShowsPicked a inside c p
+TakenPicked a inside exact (Err e) = (exact ≡ Err (refusal_of e)) ⊎ (e ≡ OutOfMemory)
+
+-- ---- what becomes of an item
+
+abbrev pub logged_write_verdict : ℕ → Summary → KeptWrites → Write → Result Bool Refusal
+logged_write_verdict line s kept w = write_verdict_with line (tally_at s.tallies w.stamp.server) s.server (option_map (λ x. x.write) (logged_at kept (id_of w))) w
+
+abbrev pub logged_commit_verdict : ℕ → Summary → KeptWrites → ℕ → Id → Result Bool Refusal
+logged_commit_verdict line s kept q id = commit_verdict line s (is_number_of q (logged_at kept id)) q id

@@ -1,0 +1,159 @@
+ghost use Rattle.std.specs.Prelude.{◌≡◌, ◌==◌, ◌&&◌, ◌++◌, ◌∷◌, [], ℕ, IsTrue, List, map, filter, length, bytes_eq, if◌then◌else◌, is_some, OnOk, IfOk, IfErr};
+ghost use Rattle.std.specs.BTreeMap.{IsOrdered};
+ghost use Rattle.std.specs.Cmp.Lexicographic.{slice_cmp};
+ghost use Rattle.std.specs.Ordering.{nat_cmp};
+ghost use Rattle.mr_model.specs.Exchange.{Item as ItemOfBatch};
+ghost use Rattle.mr_model.specs.Texts.{Text};
+ghost use Rattle.mr_model.specs.View.{of_room};
+ghost use Rattle.mr_model.specs.Writes.{Write as WriteOfRoom};
+ghost use Rattle.mr_replay.specs.Places.{UndoRow as UndoRowOfWrite};
+ghost use Rattle.mr_kept.specs.Moves.{moves_in};
+ghost use Rattle.mr_kept.specs.RoomMoves.{move_at, undone_at, again_at, board_after_moves, rows_after, ReplaysRooms};
+ghost use Rattle.mr_kept.specs.Sets.{IsSetOf};
+ghost use Rattle.mr_kept.specs.Tails.{IsTail};
+
+use crate::movable::may_move;
+use crate::room_sets::RoomSet;
+use crate::rows_by_id::rows_in_order;
+use crate::tail::Tail;
+use mr_base::{Refusal, RoomName, Write};
+use mr_replay::{Trial, UndoRow};
+use std::alloc::Global;
+use std::collections::BTreeMap;
+
+/// What is undone in a room, and what is executed there anew, either in the order of execution.
+#[derive(Drop)]
+pub struct RoomMove {
+    pub undone: Vec<UndoRow>,
+    pub again: Vec<Write>,
+}
+
+/// The moves of rooms, by their names: so a write that moves costs a logarithm, however many rooms there are.
+pub type RoomMoves = BTreeMap<RoomName, RoomMove>;
+
+/// Undoes on the trial's board what is undone in rooms, and executes these writes, room by room: each room's executions are undone, and its
+/// writes are executed in their place. The answer has what undoes these writes, in their order.
+pub fn replayed_in_rooms(
+    alloc: Global,
+    trial: &mut Trial,
+    undone: RoomMoves,
+    again: &[Write],
+) -> Result<Vec<UndoRow>, Refusal>
+    ensures replayed { ((name : Text) → again_at undone name ≡ []) → IfOk result (λ rows. ReplaysRooms (undone_at undone) again.now trial.old.rows trial.new.rows rows.items) }
+    ensures before { trial.new.before ≡ trial.old.before }
+    ensures as_many { IfOk result (λ rows. length rows.items ≡ length again.now) }
+    ensures only { IfErr result (λ e. e ≡ Refusal.OutOfMemory) }
+{
+    let mut moves = undone;
+    add_again(alloc, &mut moves, again)?;
+    let rows = replay_rooms(alloc, trial, moves)?;
+    let rows = rows_in_order(alloc, &rows, again)?;
+    Ok(rows)
+}
+
+/// Undoes and executes in each of the rooms what moves there. The answer has the rows room by room.
+fn replay_rooms(alloc: Global, trial: &mut Trial, moves: RoomMoves) -> Result<Vec<UndoRow>, Refusal>
+    ensures board { OnOk result (trial.new.rows ≡ board_after_moves moves.entries trial.old.rows) }
+    ensures rows { IfOk result (λ rows. rows.items ≡ rows_after moves.entries trial.old.rows) }
+    ensures before { trial.new.before ≡ trial.old.before }
+    ensures ordered { IsOrdered (slice_cmp nat_cmp) moves }
+    ensures only { IfErr result (λ e. e ≡ Refusal.OutOfMemory) }
+{
+    let mut done = Vec::new(alloc);
+    for (_, one) in moves {
+        let mut rows = trial.replay(&one.undone, &one.again)?;
+        done.append(&mut rows)?;
+    }
+    Ok(done)
+}
+
+/// What undoes those of these writes that are tentative and may move, by their rooms. The numbers and the undo rows are those of the
+/// writes.
+pub fn undone_in_rooms(
+    alloc: Global,
+    writes: &[Write],
+    marks: &[u64],
+    undo: &[UndoRow],
+    rooms: &RoomSet,
+    tail: &Tail,
+) -> Result<RoomMoves, Refusal>
+    ensures undone { (touched : List Text) (items : List ItemOfBatch) (commits : ℕ) → IsSetOf rooms.now touched → IsTail tail.now commits items
+        → (mark : WriteOfRoom → ℕ) (row : WriteOfRoom → UndoRowOfWrite) → marks.now ≡ map mark writes.now → undo.now ≡ map row writes.now
+        → IfOk result (λ moves. (name : Text) → undone_at moves name ≡ map row (of_room name (filter (λ w. mark w == 0 && moves_in touched items commits w) writes.now))) }
+    ensures again { IfOk result (λ moves. (name : Text) → again_at moves name ≡ []) }
+    ensures only { IfErr result (λ e. e ≡ Refusal.OutOfMemory) }
+{
+    let mut moves = BTreeMap::new(alloc);
+    let count = writes.len().min(marks.len()).min(undo.len());
+    for k in 0..count {
+        let write = &writes[k];
+        if marks[k] == 0 && may_move(write, rooms, tail) {
+            add_undone(alloc, &mut moves, &write.room, undo[k])?;
+        }
+    }
+    Ok(moves)
+}
+
+/// These writes are executed anew too, each in its room.
+fn add_again(alloc: Global, moves: &mut RoomMoves, again: &[Write]) -> Result<(), Refusal>
+    ensures again { OnOk result ((name : Text) → again_at moves.new name ≡ again_at moves.old name ++ of_room name again.now) }
+    ensures undone { OnOk result ((name : Text) → undone_at moves.new name ≡ undone_at moves.old name) }
+    ensures only { IfErr result (λ e. e ≡ Refusal.OutOfMemory) }
+{
+    for write in again {
+        add_one_again(alloc, moves, write)?;
+    }
+    Ok(())
+}
+
+/// One execution more is undone in the room.
+fn add_undone(
+    alloc: Global,
+    moves: &mut RoomMoves,
+    room: &RoomName,
+    row: UndoRow,
+) -> Result<(), Refusal>
+    ensures undone { OnOk result ((name : Text) → undone_at moves.new name ≡ undone_at moves.old name ++ (if bytes_eq room.now name then row ∷ [] else [])) }
+    ensures again { OnOk result ((name : Text) → again_at moves.new name ≡ again_at moves.old name) }
+    ensures only { IfErr result (λ e. e ≡ Refusal.OutOfMemory) }
+{
+    add_room(alloc, moves, room)?;
+    if let Some(one) = moves.get_mut(room) {
+        one.undone.push(row)?;
+    }
+    Ok(())
+}
+
+/// One write more is executed anew in its room.
+fn add_one_again(alloc: Global, moves: &mut RoomMoves, write: &Write) -> Result<(), Refusal>
+    ensures again { OnOk result ((name : Text) → again_at moves.new name ≡ again_at moves.old name ++ (if bytes_eq write.now.room name then write.now ∷ [] else [])) }
+    ensures undone { OnOk result ((name : Text) → undone_at moves.new name ≡ undone_at moves.old name) }
+    ensures only { IfErr result (λ e. e ≡ Refusal.OutOfMemory) }
+{
+    add_room(alloc, moves, &write.room)?;
+    let copy = write.copy(alloc)?;
+    if let Some(one) = moves.get_mut(&write.room) {
+        one.again.push(copy)?;
+    }
+    Ok(())
+}
+
+/// The room is there, with nothing that moves if it wasn't.
+fn add_room(alloc: Global, moves: &mut RoomMoves, room: &RoomName) -> Result<(), Refusal>
+    ensures there { OnOk result (IsTrue (is_some (move_at moves.new room.now))) }
+    ensures undone { OnOk result ((name : Text) → undone_at moves.new name ≡ undone_at moves.old name) }
+    ensures again { OnOk result ((name : Text) → again_at moves.new name ≡ again_at moves.old name) }
+    ensures only { IfErr result (λ e. e ≡ Refusal.OutOfMemory) }
+{
+    if !moves.contains_key(room) {
+        let name = room.copy(alloc)?;
+        moves.insert(
+            name,
+            RoomMove {
+                undone: Vec::new(alloc),
+                again: Vec::new(alloc),
+            },
+        )?;
+    }
+    Ok(())
+}
