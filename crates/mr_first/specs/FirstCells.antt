@@ -1,10 +1,13 @@
--- Rows of the first schema as the cells of their tables, and back, where the second schema has other ones.
-use Rattle.std.specs.Prelude.{pos, [], ◌∷◌}
+-- Rows of the first schema as the cells of their tables, and back, where the second schema has other ones; and their limits.
+use Rattle.std.specs.Prelude.{pos, Bool, true, false, ◌&&◌, nat_le, [], ◌∷◌}
 use Rattle.sqlite_value.specs.declared.value.Value.TheVariants.{Int, Text}
 use Rattle.sqlite_value.specs.Order.{Row, column, bytes}
+use Rattle.mr_model.specs.Writes.{is_server, is_room_name, is_title}
+use Rattle.mr_model.specs.Replay.{Place, Taken, Logged, Done, Void}
 use Rattle.mr_model.specs.Tables.{MetaRow}
 use Rattle.mr_model.specs.First.{WriteRow, FirstUndoRow}
 use Rattle.mr_rows.specs.RowCells.{nat_of, whole_of, place_number, place_in}
+use Rattle.mr_rows.specs.RowLimits.{is_small}
 
 -- the second cell is the number of the schema
 abbrev pub first_meta_cells : MetaRow → Row
@@ -30,3 +33,18 @@ undo_cells u = Int (pos u.server) ∷ Int (pos u.n) ∷ Int (place_number u.plac
 
 abbrev pub undo_in : Row → FirstUndoRow
 undo_in r = record { server = nat_of (column r 1); n = nat_of (column r 2); place = place_in (whole_of (column r 3)) }
+
+-- ---- limits
+
+abbrev pub is_write_row : WriteRow → Bool
+is_write_row w = is_server w.server && is_small w.n && is_room_name w.room && is_small w.length && is_title w.title
+
+-- of a booking with at most eight alternatives
+abbrev pub is_first_place : Place → Bool
+is_first_place (Taken k) = nat_le k 8
+is_first_place Logged = true
+is_first_place Done = false
+is_first_place Void = false
+
+abbrev pub is_undo_row : FirstUndoRow → Bool
+is_undo_row u = is_server u.server && is_small u.n && is_first_place u.place

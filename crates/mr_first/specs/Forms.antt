@@ -6,8 +6,9 @@ use Rattle.mr_model.specs.First.{WriteRow, FirstUndoRow}
 use Rattle.mr_tables.specs.Change.{id_before}
 use Rattle.mr_rows.specs.Schema.{meta_table, write_log_table, undo_table}
 use Rattle.mr_rows.specs.RowCells.{meta_in}
+use Rattle.mr_rows.specs.RowLimits.{is_meta_row}
 use Rattle.mr_rows.specs.Form.{Form}
-use Rattle.mr_first.specs.FirstCells.{first_meta_cells, write_cells, write_row_from, undo_cells, undo_in}
+use Rattle.mr_first.specs.FirstCells.{first_meta_cells, write_cells, write_row_from, is_write_row, undo_cells, undo_in, is_undo_row}
 
 abbrev pub write_id : WriteRow → Id
 write_id row = record { server = row.server; n = row.n }
@@ -16,10 +17,10 @@ abbrev pub undo_id : FirstUndoRow → Id
 undo_id row = record { server = row.server; n = row.n }
 
 abbrev pub first_meta_form : Form MetaRow ℕ
-first_meta_form = record { table = record meta_table { tree = 0 }; cells = first_meta_cells; row_in = meta_in; key = λ _. 1; before = nat_lt }
+first_meta_form = record { table = record meta_table { tree = 0 }; cells = first_meta_cells; row_in = meta_in; within = is_meta_row; key = λ _. 1; before = nat_lt }
 
 abbrev pub write_form : Form WriteRow Id
-write_form = record { table = record write_log_table { tree = 6 }; cells = write_cells; row_in = write_row_from; key = write_id; before = id_before }
+write_form = record { table = record write_log_table { tree = 6 }; cells = write_cells; row_in = write_row_from; within = is_write_row; key = write_id; before = id_before }
 
 abbrev pub undo_form : Form FirstUndoRow Id
-undo_form = record { table = record undo_table { tree = 8 }; cells = undo_cells; row_in = undo_in; key = undo_id; before = id_before }
+undo_form = record { table = record undo_table { tree = 8 }; cells = undo_cells; row_in = undo_in; within = is_undo_row; key = undo_id; before = id_before }

@@ -1,9 +1,10 @@
-ghost use Rattle.std.specs.Prelude.{◌≡◌, ◌≢◌, ℕ, ◌≤◌, IfOk};
+ghost use Rattle.std.specs.Prelude.{◌≡◌, ◌≢◌, ℕ, ◌≤◌, IfOk, IsTrue};
 ghost use Rattle.sqlite_value.specs.declared.value.Value.TheVariants.{Int};
 ghost use Rattle.sqlite_value.specs.Order.{column};
 ghost use Rattle.mr_model.specs.Replay.{Taken, Done, Void};
 ghost use Rattle.mr_replay.specs.Places.{place_seen};
 ghost use Rattle.mr_rows.specs.RowCells.{whole_of, place_in, place_number};
+ghost use Rattle.mr_first.specs.FirstCells.{is_first_place};
 
 use mr_replay::Place;
 use mr_rows::cells::read_place;
@@ -15,6 +16,7 @@ pub(crate) fn read_first_place(row: &Row, at: usize) -> Result<Place, Error>
     ensures cell { IfOk result (λ place. column row.now at ≡ Int (place_number (place_seen place))) }
     ensures choices { IfOk result (λ place. (k : ℕ) → place_seen place ≡ Taken k → k ≤ 8) }
     ensures booking { IfOk result (λ place. (place_seen place ≢ Done) × (place_seen place ≢ Void)) }
+    ensures within { IfOk result (λ place. IsTrue (is_first_place (place_seen place))) }
 {
     let place = read_place(row, at)?;
     match place {

@@ -1,4 +1,4 @@
-ghost use Rattle.std.specs.Prelude.{◌≡◌, ℕ, [], ◌∷◌, false, length, map, List, IfOk, refl};
+ghost use Rattle.std.specs.Prelude.{◌≡◌, ℕ, [], ◌∷◌, false, length, map, List, IfOk, IsTrue, refl};
 ghost use Rattle.std.specs.List.Sorted.{IsPermutation};
 ghost use Rattle.sqlite_value.specs.declared.value.Value.TheVariants.{Null};
 ghost use Rattle.sqlite.specs.State.{Survives};
@@ -39,7 +39,8 @@ pub trait FirstRow: Drop {
     /// Reads a row that a query shows, with the columns in the order of the table.
     fn read(alloc: Global, row: &Row) -> Result<Self, Error>
         ensures row { IfOk result (λ r. r ≡ form.row_in (Null ∷ row.now)) }
-        ensures cells { IfOk result (λ r. form.cells r ≡ columns_from 0 (length form.table.columns) row.now) };
+        ensures cells { IfOk result (λ r. form.cells r ≡ columns_from 0 (length form.table.columns) row.now) }
+        ensures within { IfOk result (λ r. IsTrue (form.within r)) };
 
     /// All rows of the table.
     fn select_all<S: Alter>(conn: &mut Connection<S>) -> Result<Vec<Row>, Error>

@@ -1,4 +1,4 @@
-ghost use Rattle.std.specs.Prelude.{◌≡◌, [], ◌∷◌, false, map, pos, IfOk, OnOk, refl};
+ghost use Rattle.std.specs.Prelude.{◌≡◌, [], ◌∷◌, false, map, pos, IfOk, OnOk, IsTrue, refl};
 ghost use Rattle.std.specs.List.Sorted.{IsPermutation, IsSorted};
 ghost use Rattle.sqlite_value.specs.declared.value.Value.TheVariants.{Null, Int, Text};
 ghost use Rattle.sqlite_value.specs.Order.{column, bytes};
@@ -6,6 +6,7 @@ ghost use Rattle.sqlite.specs.Held.{state};
 ghost use Rattle.mr_model.specs.Writes.{Id};
 ghost use Rattle.mr_base.specs.Ids.{id_cmp};
 ghost use Rattle.mr_rows.specs.RowCells.{nat_of};
+ghost use Rattle.mr_rows.specs.RowLimits.{is_meeting_cells};
 ghost use Rattle.mr_rows.specs.Shown.{columns_from};
 ghost use Rattle.mr_first.specs.FirstCells.{write_row_from, undo_in};
 ghost use Rattle.mr_first.specs.Forms.{write_id, undo_id, write_form, undo_form};
@@ -91,6 +92,7 @@ fn read_meeting(alloc: Global, row: &Row) -> Result<MeetingCells, Error>
     ensures meeting { IfOk result
         (λ m. m ≡ record { length = nat_of (column row.now 4); choices = bytes (column row.now 5); title = bytes (column row.now 6) }) }
     ensures cells { IfOk result (λ m. Int (pos m.length) ∷ Text m.choices ∷ Text m.title ∷ [] ≡ columns_from 4 3 row.now) }
+    ensures within { IfOk result (λ m. IsTrue (is_meeting_cells m)) }
 {
     let length = read_u32(row, 4)?;
     let choices = read_text(row, 5)?;

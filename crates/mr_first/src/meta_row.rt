@@ -1,8 +1,9 @@
-ghost use Rattle.std.specs.Prelude.{◌≡◌, ◌∷◌, false, map, IfOk, OnOk, Some};
+ghost use Rattle.std.specs.Prelude.{◌≡◌, ◌∷◌, false, map, IfOk, OnOk, IsTrue, Some};
 ghost use Rattle.std.specs.List.{All};
 ghost use Rattle.sqlite_value.specs.declared.value.Value.TheVariants.{Null};
 ghost use Rattle.sqlite.specs.Held.{state};
 ghost use Rattle.mr_rows.specs.RowCells.{meta_in};
+ghost use Rattle.mr_rows.specs.RowLimits.{is_meta_row};
 ghost use Rattle.mr_rows.specs.Reads.{first_of};
 ghost use Rattle.mr_rows.specs.Shown.{columns_from, IsShownAs, listed};
 ghost use Rattle.mr_first.specs.FirstCells.{first_meta_cells};
@@ -18,6 +19,7 @@ use sqlite::{Alter, Connection, Error, Row};
 fn read_meta(row: &Row) -> Result<MetaRow, Error>
     ensures row { IfOk result (λ r. r ≡ meta_in (Null ∷ row.now)) }
     ensures cells { IfOk result (λ r. first_meta_cells r ≡ columns_from 0 7 row.now) }
+    ensures within { IfOk result (λ r. IsTrue (is_meta_row r)) }
 {
     let one = read_u32(row, 0)?;
     let schema = read_u32(row, 1)?;

@@ -186,7 +186,7 @@ module _ {under : Schema} {R K : Type 0} (f : Form R K) (ruled : Ruled under f) 
   spelled_out (x ∷ vs) keyed typed present is =
       let many = counted f.table.columns 0 (x ∷ vs) vs (λ k. let index : 0 + 1 + k ≡ suc k = omega arith in sym (ap (column (x ∷ vs)) index)) ruled.required typed present in
       let spelling : vs ≡ columns_from 1 (length f.table.columns) (x ∷ vs) = spelled vs ∙ sym (shifted (length vs) 0 x vs) ∙ ap (λ n. columns_from 1 n (x ∷ vs)) many in
-      let cells : vs ≡ f.cells (f.row_in (x ∷ vs)) = spelling ∙ sym is in
+      let cells : vs ≡ f.cells (f.row_in (x ∷ vs)) = spelling ∙ sym is.0 in
       let key : x ≡ Int (id_in x) = int_is x keyed in
       λ i. key i ∷ cells i
 

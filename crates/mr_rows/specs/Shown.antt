@@ -1,5 +1,5 @@
 -- The rows that queries show of tables which may hold any, and what is known of those that could be read.
-use Rattle.std.specs.Prelude.{◌≡◌, ℕ, suc, zero, ◌+◌, List, [], ◌∷◌, length, map, Option, Some, None}
+use Rattle.std.specs.Prelude.{◌≡◌, ℕ, suc, zero, ◌+◌, List, [], ◌∷◌, length, map, Option, Some, None, IsTrue}
 use Rattle.std.specs.List.{AllByRecursion}
 use Rattle.std.specs.List.Sorted.{IsPermutation}
 use Rattle.sqlite_value.specs.declared.value.Value.TheVariants.{Null}
@@ -15,13 +15,13 @@ abbrev pub columns_from : ℕ → ℕ → Row → Row
 columns_from at zero r = []
 columns_from at (suc n) r = column r at ∷ columns_from (at + 1) n r
 
--- a row that a query shows is one of the table, in the table's own spelling
+-- a row that a query shows is one of the table, in the table's own spelling, and within its limits
 abbrev pub IsShownAs : {R K : Type 0} → Form R K → Row → Type 0
-IsShownAs f r = f.cells (f.row_in (Null ∷ r)) ≡ columns_from 0 (length f.table.columns) r
+IsShownAs f r = (f.cells (f.row_in (Null ∷ r)) ≡ columns_from 0 (length f.table.columns) r) × IsTrue (f.within (f.row_in (Null ∷ r)))
 
 -- the same of a stored row, which has its rowid in front
 abbrev pub IsStoredAs : {R K : Type 0} → Form R K → Row → Type 0
-IsStoredAs f r = f.cells (f.row_in r) ≡ columns_from 1 (length f.table.columns) r
+IsStoredAs f r = (f.cells (f.row_in r) ≡ columns_from 1 (length f.table.columns) r) × IsTrue (f.within (f.row_in r))
 
 -- this is so of the rows that a text shows, one after the other
 abbrev pub IsShownSo : (List Row → Type 0) → List ℕ → Row → State → State → Type 0

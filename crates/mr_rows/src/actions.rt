@@ -1,12 +1,13 @@
-ghost use Rattle.std.specs.Prelude.{◌≡◌, ◌≢◌, ◌⊎◌, [], ◌∷◌, pos, IfOk, OnOk};
-ghost use Rattle.sqlite_value.specs.declared.value.Value.TheVariants.{Int, Text};
+ghost use Rattle.std.specs.Prelude.{◌≡◌, ◌≢◌, ◌⊎◌, [], ◌∷◌, pos, IfOk, OnOk, IsTrue};
+ghost use Rattle.sqlite_value.specs.declared.value.Value.TheVariants.{Null, Int, Text};
 ghost use Rattle.sqlite_value.specs.Order.{column, bytes};
-ghost use Rattle.mr_model.specs.Writes.{Id};
+ghost use Rattle.mr_model.specs.Writes.{Id, is_id};
 ghost use Rattle.mr_model.specs.Replay.{Done, Void};
 ghost use Rattle.mr_model.specs.Tables.{MeetingCells as CellsOfMeeting, OfMeeting, OfCancel};
 ghost use Rattle.mr_replay.specs.Places.{place_seen};
 ghost use Rattle.mr_tables.specs.Cells.{action_cells};
-ghost use Rattle.mr_rows.specs.RowCells.{nat_of, whole_of, action_row, action_in, place_in, place_number};
+ghost use Rattle.mr_rows.specs.RowCells.{nat_of, whole_of, action_row, action_in, log_in, place_in, place_number};
+ghost use Rattle.mr_rows.specs.RowLimits.{is_meeting_cells, is_action_cells, is_cancelling, is_place_of};
 ghost use Rattle.mr_rows.specs.Shown.{columns_from};
 
 use crate::cells::{
@@ -45,6 +46,7 @@ fn read_meeting(alloc: Global, row: &Row) -> Result<MeetingCells, Error>
     ensures meeting { IfOk result
         (λ m. m ≡ record { length = nat_of (column row.now 5); choices = bytes (column row.now 6); title = bytes (column row.now 7) }) }
     ensures cells { IfOk result (λ m. action_row (OfMeeting m) ≡ Int (pos 0) ∷ columns_from 5 5 row.now) }
+    ensures within { IfOk result (λ m. IsTrue (is_meeting_cells m)) }
 {
     let length = read_u32(row, 5)?;
     let choices = read_text(row, 6)?;
@@ -60,9 +62,11 @@ fn read_meeting(alloc: Global, row: &Row) -> Result<MeetingCells, Error>
 
 /// Tests the meeting of a row that has no target, and makes nothing of it.
 fn test_meeting(row: &Row) -> Result<(), Error>
-    ensures { OnOk result
+    ensures cells { OnOk result
         (action_row (OfMeeting (record { length = nat_of (column row.now 5); choices = bytes (column row.now 6); title = bytes (column row.now 7) }))
         ≡ Int (pos 0) ∷ columns_from 5 5 row.now) }
+    ensures within { OnOk result
+        (IsTrue (is_meeting_cells (record { length = nat_of (column row.now 5); choices = bytes (column row.now 6); title = bytes (column row.now 7) }))) }
 {
     read_u32(row, 5)?;
     text_in(row, 6)?;
@@ -75,6 +79,7 @@ fn test_meeting(row: &Row) -> Result<(), Error>
 fn read_target(row: &Row) -> Result<WriteId, Error>
     ensures target { IfOk result (λ id. id ≡ record { server = nat_of (column row.now 8); n = nat_of (column row.now 9) }) }
     ensures cells { IfOk result (λ id. action_row (OfCancel id) ≡ Int (pos 1) ∷ columns_from 5 5 row.now) }
+    ensures within { IfOk result (λ id. IsTrue (is_id id)) }
 {
     read_zero(row, 5)?;
     read_empty(row, 6)?;
@@ -88,6 +93,7 @@ pub(crate) fn read_action(alloc: Global, row: &Row) -> Result<ActionCells, Error
         ≡ action_in (nat_of (column row.now 4)) (record { length = nat_of (column row.now 5); choices = bytes (column row.now 6); title = bytes (column row.now 7) })
         (record { server = nat_of (column row.now 8); n = nat_of (column row.now 9) })) }
     ensures cells { IfOk result (λ a. action_row (action_cells a) ≡ columns_from 4 6 row.now) }
+    ensures within { IfOk result (λ a. IsTrue (is_action_cells (action_cells a))) }
 {
     let is_cancel = read_mark(row, 4)?;
     if is_cancel {
@@ -99,9 +105,11 @@ pub(crate) fn read_action(alloc: Global, row: &Row) -> Result<ActionCells, Error
 
 /// Tests the meeting that a row books, or the target that it cancels, and tells whether it cancels.
 pub(crate) fn test_action(row: &Row) -> Result<bool, Error>
-    ensures { OnOk result (action_row
+    ensures cells { OnOk result (action_row
         (action_in (nat_of (column row.now 4)) (record { length = nat_of (column row.now 5); choices = bytes (column row.now 6); title = bytes (column row.now 7) })
         (record { server = nat_of (column row.now 8); n = nat_of (column row.now 9) })) ≡ columns_from 4 6 row.now) }
+    ensures kind { IfOk result (λ cancels. cancels ≡ is_cancelling (log_in (Null ∷ row.now)).action) }
+    ensures within { OnOk result (IsTrue (is_action_cells (log_in (Null ∷ row.now)).action)) }
 {
     match read_mark(row, 4)? {
         true => {
@@ -121,6 +129,7 @@ pub(crate) fn read_place_of(row: &Row, action: &ActionCells) -> Result<Place, Er
     ensures cell { IfOk result (λ place. column row.now 10 ≡ Int (place_number (place_seen place))) }
     ensures booking { IfOk result (λ place. (m : CellsOfMeeting) → action_cells action.now ≡ OfMeeting m → (place_seen place ≢ Done) × (place_seen place ≢ Void)) }
     ensures cancel { IfOk result (λ place. (target : Id) → action_cells action.now ≡ OfCancel target → (place_seen place ≡ Done) ⊎ (place_seen place ≡ Void)) }
+    ensures within { IfOk result (λ place. IsTrue (is_place_of (is_cancelling (action_cells action.now)) (place_seen place))) }
 {
     let place = read_place(row, 10)?;
     let fits = match action {
@@ -135,7 +144,8 @@ pub(crate) fn read_place_of(row: &Row, action: &ActionCells) -> Result<Place, Er
 
 /// Tests the place of a cancel or of a booking, in the column 10, as `read_place_of` does.
 pub(crate) fn test_place(row: &Row, is_cancel: bool) -> Result<(), Error>
-    ensures { OnOk result (column row.now 10 ≡ Int (place_number (place_in (whole_of (column row.now 10))))) }
+    ensures cell { OnOk result (column row.now 10 ≡ Int (place_number (place_in (whole_of (column row.now 10))))) }
+    ensures within { OnOk result (IsTrue (is_place_of is_cancel (place_in (whole_of (column row.now 10))))) }
 {
     let fits = match read_place(row, 10)? {
         Place::Taken(_) | Place::Logged => !is_cancel,

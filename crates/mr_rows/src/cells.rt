@@ -1,10 +1,11 @@
-ghost use Rattle.std.specs.Prelude.{◌≡◌, ◌≢◌, ℕ, ◌+◌, ◌<◌, ◌≤◌, ◌^◌, ◌==◌, pos, negsuc, length, IfOk, IfErr, string_bytes, OnOk};
+ghost use Rattle.std.specs.Prelude.{◌≡◌, ◌≢◌, ℕ, ◌+◌, ◌<◌, ◌≤◌, ◌^◌, ◌==◌, pos, negsuc, length, IfOk, IfErr, string_bytes, OnOk, IsTrue};
 ghost use Rattle.sqlite_value.specs.declared.value.Value.TheVariants.{Int, Text};
 ghost use Rattle.sqlite_value.specs.Order.{column, bytes};
-ghost use Rattle.mr_model.specs.Calendar.{date_in, date_text};
-ghost use Rattle.mr_model.specs.Writes.{greatest_alternatives};
+ghost use Rattle.mr_model.specs.Calendar.{is_date, date_in, date_text};
+ghost use Rattle.mr_model.specs.Writes.{is_server, is_id, is_room_name, is_title, greatest_alternatives};
 ghost use Rattle.mr_replay.specs.Places.{place_seen};
 ghost use Rattle.mr_rows.specs.RowCells.{flag_number, nat_of, whole_of, place_in, place_number};
+ghost use Rattle.mr_rows.specs.RowLimits.{is_small, is_place, is_slot_row};
 
 use mr_base::{Day, Refusal, RoomName, ServerId, Title, WriteId, is_room_text, is_title_text};
 use mr_replay::Place;
@@ -40,6 +41,7 @@ pub(crate) fn text_in(row: &Row, at: usize) -> Result<&str, Error>
 pub fn read_name(alloc: Global, row: &Row, at: usize) -> Result<RoomName, Error>
     ensures name { IfOk result (λ name. name ≡ bytes (column row.now at)) }
     ensures cell { IfOk result (λ name. column row.now at ≡ Text name) }
+    ensures within { IfOk result (λ name. IsTrue (is_room_name name)) }
 {
     match RoomName::new(alloc, text_in(row, at)?) {
         Ok(name) => Ok(name),
@@ -49,7 +51,8 @@ pub fn read_name(alloc: Global, row: &Row, at: usize) -> Result<RoomName, Error>
 
 /// Tests the name of a room in this column, and makes nothing of it.
 pub(crate) fn test_name(row: &Row, at: usize) -> Result<(), Error>
-    ensures { OnOk result (column row.now at ≡ Text (bytes (column row.now at))) }
+    ensures cell { OnOk result (column row.now at ≡ Text (bytes (column row.now at))) }
+    ensures within { OnOk result (IsTrue (is_room_name (bytes (column row.now at)))) }
 {
     match row.get_ref(at)? {
         ValueRef::Text(text) if is_room_text(text) => Ok(()),
@@ -61,6 +64,7 @@ pub(crate) fn test_name(row: &Row, at: usize) -> Result<(), Error>
 pub fn read_title(alloc: Global, row: &Row, at: usize) -> Result<Title, Error>
     ensures title { IfOk result (λ title. title ≡ bytes (column row.now at)) }
     ensures cell { IfOk result (λ title. column row.now at ≡ Text title) }
+    ensures within { IfOk result (λ title. IsTrue (is_title title)) }
 {
     match Title::new(alloc, text_in(row, at)?) {
         Ok(title) => Ok(title),
@@ -70,7 +74,8 @@ pub fn read_title(alloc: Global, row: &Row, at: usize) -> Result<Title, Error>
 
 /// Tests the title in this column, and makes nothing of it.
 pub(crate) fn test_title(row: &Row, at: usize) -> Result<(), Error>
-    ensures { OnOk result (column row.now at ≡ Text (bytes (column row.now at))) }
+    ensures cell { OnOk result (column row.now at ≡ Text (bytes (column row.now at))) }
+    ensures within { OnOk result (IsTrue (is_title (bytes (column row.now at)))) }
 {
     match row.get_ref(at)? {
         ValueRef::Text(text) if is_title_text(text) => Ok(()),
@@ -82,6 +87,7 @@ pub(crate) fn test_title(row: &Row, at: usize) -> Result<(), Error>
 pub(crate) fn read_day(row: &Row, at: usize) -> Result<Day, Error>
     ensures day { IfOk result (λ day. day ≡ date_in (bytes (column row.now at))) }
     ensures cell { IfOk result (λ day. column row.now at ≡ Text (date_text day)) }
+    ensures within { IfOk result (λ day. IsTrue (is_date day)) }
 {
     match Day::read(text_in(row, at)?) {
         Ok(day) => Ok(day),
@@ -93,6 +99,7 @@ pub(crate) fn read_day(row: &Row, at: usize) -> Result<Day, Error>
 pub fn read_server(row: &Row, at: usize) -> Result<ServerId, Error>
     ensures server { IfOk result (λ server. server ≡ nat_of (column row.now at)) }
     ensures cell { IfOk result (λ server. column row.now at ≡ Int (pos server)) }
+    ensures within { IfOk result (λ server. IsTrue (is_server server)) }
 {
     let number: u32 = row.get(at)?;
     match ServerId::new(number) {
@@ -105,6 +112,7 @@ pub fn read_server(row: &Row, at: usize) -> Result<ServerId, Error>
 pub fn read_u32(row: &Row, at: usize) -> Result<u32, Error>
     ensures number { IfOk result (λ number. number ≡ nat_of (column row.now at)) }
     ensures cell { IfOk result (λ number. column row.now at ≡ Int (pos number)) }
+    ensures within { IfOk result (λ number. IsTrue (is_small number)) }
     ensures refused { IfErr result
         (λ e. e ≢ Error.SqliteFailure ErrorCode.OutOfMemory → at < length row.now → (n : ℕ) → n < 2 ^ 32 → column row.now at ≢ Int (pos n)) }
 {
@@ -145,6 +153,7 @@ pub(crate) fn read_id(row: &Row, at: usize) -> Result<WriteId, Error>
     ensures id { IfOk result (λ id. id ≡ record { server = nat_of (column row.now at); n = nat_of (column row.now (at + 1)) }) }
     ensures server { IfOk result (λ id. column row.now at ≡ Int (pos id.server)) }
     ensures count { IfOk result (λ id. column row.now (at + 1) ≡ Int (pos id.n)) }
+    ensures within { IfOk result (λ id. IsTrue (is_id id)) }
 {
     let server = read_server(row, at)?;
     let n = read_count(row, at + 1)?;
@@ -166,6 +175,7 @@ pub fn read_u64(row: &Row, at: usize) -> Result<u64, Error>
 pub fn read_place(row: &Row, at: usize) -> Result<Place, Error>
     ensures place { IfOk result (λ place. place_seen place ≡ place_in (whole_of (column row.now at))) }
     ensures cell { IfOk result (λ place. column row.now at ≡ Int (place_number (place_seen place))) }
+    ensures within { IfOk result (λ place. IsTrue (is_place (place_seen place))) }
     ensures refused { IfErr result
         (λ e. e ≢ Error.SqliteFailure ErrorCode.OutOfMemory → at < length row.now → (n : ℕ) → n ≤ greatest_alternatives → column row.now at ≢ Int (pos n)) }
     ensures others { IfErr result
@@ -210,6 +220,8 @@ pub(crate) fn test_booking_cells(row: &Row) -> Result<(), Error>
     ensures server { OnOk result (column row.now 4 ≡ Int (pos (nat_of (column row.now 4)))) }
     ensures count { OnOk result (column row.now 5 ≡ Int (pos (nat_of (column row.now 5)))) }
     ensures title { OnOk result (column row.now 6 ≡ Text (bytes (column row.now 6))) }
+    ensures within { OnOk result (IsTrue (is_slot_row (bytes (column row.now 0)) (date_in (bytes (column row.now 1))) (nat_of (column row.now 2))
+        (nat_of (column row.now 3)) (nat_of (column row.now 4)) (nat_of (column row.now 5)) (bytes (column row.now 6)))) }
 {
     test_name(row, 0)?;
     read_day(row, 1)?;

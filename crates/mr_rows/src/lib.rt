@@ -2,10 +2,10 @@
 //!
 //! It stands on `mr_tables`, which has the rows, and on the kit's `sqlite`; `mr_sql`, whose keeper has such a database, stands above it.
 //! Contracts see the database through `tables_in` (specs/Database.antt), which makes canonical tables of its rows; the tables themselves are
-//! in specs/Schema.antt, and their rows as cells in specs/RowCells.antt. Seven tables are alike (trait `StoredRow`): what differs of them,
-//! their SQL texts above all, stands in src/table_rows.rt and src/cancel_rows.rt; `meta` has one row. `write_log` and `undo`, of the
-//! first schema, have no rows. All is read and put by statements under our schema; `mr_first`, which has the first schema's, uses the
-//! reading of cells (src/cells.rt, src/numbers.rt) and what is proved of any table.
+//! in specs/Schema.antt, their rows as cells in specs/RowCells.antt, and what limits rows have in specs/RowLimits.antt. Seven tables are alike
+//! (trait `StoredRow`): what differs of them, their SQL texts above all, stands in src/table_rows.rt and src/cancel_rows.rt; `meta` has one
+//! row. `write_log` and `undo`, of the first schema, have no rows. All is read and put by statements under our schema; `mr_first`, which has
+//! the first schema's, uses the reading of cells (src/cells.rt, src/numbers.rt) and what is proved of any table.
 #![tactic(auto)]
 
 mod actions;

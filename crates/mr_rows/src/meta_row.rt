@@ -1,7 +1,8 @@
-ghost use Rattle.std.specs.Prelude.{◌≡◌, ◌∷◌, false, map, IfOk, Some};
+ghost use Rattle.std.specs.Prelude.{◌≡◌, ◌∷◌, false, map, IfOk, IsTrue, Some};
 ghost use Rattle.sqlite_value.specs.declared.value.Value.TheVariants.{Null};
 ghost use Rattle.sqlite.specs.Held.{state};
 ghost use Rattle.mr_rows.specs.RowCells.{meta_in, meta_cells};
+ghost use Rattle.mr_rows.specs.RowLimits.{is_meta_row};
 ghost use Rattle.mr_rows.specs.Database.{tables_in};
 ghost use Rattle.mr_rows.specs.Reads.{ReadsKept, first_of};
 ghost use Rattle.mr_rows.specs.Shown.{columns_from};
@@ -15,6 +16,7 @@ use sqlite::{Alter, Connection, Error, Row};
 pub(crate) fn read_meta(row: &Row) -> Result<MetaRow, Error>
     ensures row { IfOk result (λ r. r ≡ meta_in (Null ∷ row.now)) }
     ensures cells { IfOk result (λ r. meta_cells r ≡ columns_from 0 7 row.now) }
+    ensures within { IfOk result (λ r. IsTrue (is_meta_row r)) }
 {
     let one = read_u32(row, 0)?;
     let schema = read_u32(row, 1)?;

@@ -1,4 +1,4 @@
-use Rattle.std.proofs.Common.{rules, arith, sym, ap, ◌∙◌}
+use Rattle.std.proofs.Common.{rules, arith, sym, ap, subst, ◌∙◌, IsTrue}
 use Rattle.mr_rows.specs.Shown.{IsShownAs}
 use Rattle.mr_first.proofs.ReadLemmas.{one_more, all_of}
 use Rattle.mr_first.proofs.found.are_stored.Goals as goal
@@ -7,7 +7,8 @@ pub rows-preserved : goal.rows-preserved
 rows-preserved g c =
     let form = g.R.FirstRow.form in
     let read = c.in_ok-read.ensures in
-    one_more (IsShownAs form) _ c.rows.row-index c.row-item.result (search rules) (search rules) (ap form.cells (sym read.row) ∙ read.cells) c.rows.invariant
+    let within = subst (λ row. IsTrue (form.within row)) read.row read.within in
+    one_more (IsShownAs form) _ c.rows.row-index c.row-item.result (search rules) (search rules) (ap form.cells (sym read.row) ∙ read.cells, within) c.rows.invariant
 
 pub returns : goal.returns
 returns g c = all_of (IsShownAs g.R.FirstRow.form) _ c.rows.row-index (search (rules, arith)) c.rows.invariant
