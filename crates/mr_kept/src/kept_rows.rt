@@ -37,7 +37,7 @@ pub struct RunPlace {
 
 impl KeptRow {
     /// Its place in the order of execution.
-    pub fn place(&self) -> RunPlace
+    pub(crate) fn place(&self) -> RunPlace
         ensures { result ≡ run_place self.now }
     {
         let stamp = self.write.stamp;
