@@ -10,6 +10,7 @@ use sqlite::{Error, Row};
 
 /// Which rows of `log` are in scope of a batch for this position: those of the commits above its own, and those of the tentative writes
 /// that it lacks.
+#[derive(Drop)]
 pub(crate) struct DueTest<'p> {
     pub position: &'p Position,
 }
