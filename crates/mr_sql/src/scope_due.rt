@@ -19,13 +19,14 @@ impl<'p> RowTest<LogRow> for DueTest<'p> {
     ghost passes = { passes_due };
 
     fn is_passed_by(&self, row: &Row) -> Result<bool, Error> {
+        let position = self.position;
         let number = read_u64(row, 11)?;
         if number == 0 {
             let server = read_server(row, 0)?;
             let n = read_u32(row, 1)?;
-            Ok(has_less(self.position, server, n))
+            Ok(has_less(position, server, n))
         } else {
-            Ok(number > self.position.commits)
+            Ok(number > position.commits)
         }
     }
 }
