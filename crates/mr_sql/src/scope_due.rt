@@ -10,6 +10,7 @@ use sqlite::{Error, Row};
 
 /// Which rows of `log` are in scope of a batch for this position: those of the commits above its own, and those of the tentative writes
 /// that it lacks.
+#[derive(Drop)]
 pub(crate) struct DueTest<'p> {
     pub position: &'p Position,
 }
@@ -18,13 +19,14 @@ impl<'p> RowTest<LogRow> for DueTest<'p> {
     ghost passes = { passes_due };
 
     fn is_passed_by(&self, row: &Row) -> Result<bool, Error> {
+        let position = self.position;
         let number = read_u64(row, 11)?;
         if number == 0 {
             let server = read_server(row, 0)?;
             let n = read_u32(row, 1)?;
-            Ok(has_less(self.position, server, n))
+            Ok(has_less(position, server, n))
         } else {
-            Ok(number > self.position.commits)
+            Ok(number > position.commits)
         }
     }
 }
