@@ -139,11 +139,11 @@ due_asked t test p late of reaches row low e =
     passed true none = cond-true (is_tentative row) (is_lacked_row test.position.now row) _ none ∙ ap (λ (q : Position). is_lacked_row q row) of ∙ lacked none
     passed false some = cond-false (is_tentative row) _ (ltb test.position.now.commits row.seq) some ∙ ap (λ (q : Position). ltb q.commits row.seq) of ∙ above some
 
-pub due_read : (t : Tables) (test : DueTest) (p : Position) (late : LateRows) (logs : List LogRow) → test.position.now ≡ p → ReachesDue late p.commits t.meta.commits
-    → ((q : LogRow → Bool) → [] ≡ filter q t.log → logs ≡ filter (λ row. q row || is_late_row late (passes_due test) row) t.log) → AreLogsRead (OfPosition p) t logs
-due_read t test p late logs of reaches are numbered = (
+pub due_read : (t : Tables) (test : DueTest) (p : Position) (late : LateRows) (first logs : List LogRow) → test.position.now ≡ p → ReachesDue late p.commits t.meta.commits
+    → first ≡ [] → ((q : LogRow → Bool) → first ≡ filter q t.log → logs ≡ filter (λ row. q row || is_late_row late (passes_due test) row) t.log) → AreLogsRead (OfPosition p) t logs
+due_read t test p late first logs of reaches none are numbered = (
   is_late_row late (passes_due test),
-  are (λ row. false) (none_passing t.log),
+  are (λ row. false) (none ∙ none_passing t.log),
   λ row h. let g = filter_has (is_due_to p) row t.log h in due_asked t test p late of reaches row (numbered row g.0) g.1,
 )
 
