@@ -226,6 +226,7 @@ pub(crate) fn claim<S: Alter>(conn: &mut Connection<S>, alloc: Global) -> Result
         → OnErr result (IsTrue (state S.Store conn.new).is_open → StaysAs trees (state S.Store conn.new)) }
     ensures strange { (trees : Trees) → HasCleanDisk (state S.Store conn.new) → IsTaken trees (state S.Store conn.old)
         → IfErr result (λ e. e ≡ Refusal.NotAReplica → IsSound first_schema trees → HasNoMeta 1 trees) }
+    ensures survives { Survives (state S.Store conn.old) (state S.Store conn.new) (λ _. (trees : Trees) → IsTaken trees (state S.Store conn.old) → ⊥) }
     ensures cause { IfErr result (λ e. (e ≡ Refusal.OutOfMemory) ⊎ ((e ≡ Refusal.Store) ⊎ (e ≡ Refusal.NotAReplica))) }
 {
     if !is_first(conn) {
