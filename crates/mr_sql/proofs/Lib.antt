@@ -9,3 +9,4 @@ pub mod CrashLemmas
 pub mod NumberLemmas
 pub mod FirstTaken
 pub mod FileLemmas
+pub mod CopyLemmas

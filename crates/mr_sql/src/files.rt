@@ -258,6 +258,8 @@ impl SqlKeeper<FileStore<Memory>> {
         ensures settled { IfOk result (λ k. HasCleanDisk (file_state k.0) → IsTrue (file_state k.0).is_open → LeavesTables (file_state k.0)) }
         ensures uncounted { IfOk result (λ k. k.1 ≡ 0) }
         ensures cause { IfErr result (λ e. (r : _) → e ≡ NotCopied.Refused r → (r ≡ Refusal.OutOfMemory) ⊎ ((r ≡ Refusal.Store) ⊎ (r ≡ Refusal.NotAReplica))) }
+        ensures strange { IfErr result (λ e. e ≡ NotCopied.Refused Refusal.NotAReplica
+            → (before : Trees) × IsFoundIn (image_copied copied) before × IsNobodys before) }
     {
         let conn = match open_disks(rt, copied) {
             Ok(conn) => conn,
