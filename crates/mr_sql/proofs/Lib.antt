@@ -5,6 +5,8 @@ pub mod CreateLemmas
 pub mod AnswerLemmas
 pub mod OpeningLemmas
 pub mod TakenLemmas
+pub mod CrashLemmas
 pub mod NumberLemmas
 pub mod FirstTaken
 pub mod FileLemmas
+pub mod CopyLemmas

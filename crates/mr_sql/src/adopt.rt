@@ -2,7 +2,7 @@ ghost use Rattle.std.specs.Prelude.{◌≡◌, ◌⊎◌, false, None, IfOk, IfE
 ghost use Rattle.sqlite_trees.specs.Tree.{Trees};
 ghost use Rattle.sqlite_trees.specs.View.{IsClean};
 ghost use Rattle.sqlite_catalog.specs.Listing.{IsSound};
-ghost use Rattle.sqlite.specs.State.{HasCleanDisk};
+ghost use Rattle.sqlite.specs.State.{HasCleanDisk, Survives};
 ghost use Rattle.sqlite.specs.Held.{state};
 ghost use Rattle.mr_rows.specs.Schema.{no_schema, our_schema};
 ghost use Rattle.mr_rows.specs.Database.{IsKept};
@@ -29,6 +29,7 @@ pub(crate) fn retaken<S: Alter + Drop>(
     ensures taken { IfOk result (λ c. HasCleanDisk (state S.Store c) → IsTaken (state S.Store conn).committed.trees (state S.Store c)) }
     ensures autocommit { IfOk result (λ c. c.in_transaction ≡ false) }
     ensures clean { IfOk result (λ c. HasCleanDisk (state S.Store c) → HasCleanDisk (state S.Store conn)) }
+    ensures crash { IfErr result (λ e. (trees : Trees) → S.Store.recovers e.1 trees → (state S.Store conn).may_leave trees) }
     ensures back { IfErr result
         (λ e. IsClean (S.Store.view e.1) → IsTrue (S.Store.view e.1).is_open → (S.Store.view e.1).trees ≡ (state S.Store conn).committed.trees) }
 {
@@ -56,6 +57,8 @@ fn begin<S: Alter>(
         → OnOk result (IsTrue (state S.Store conn.new).is_open) }
     ensures stays { (trees : Trees) → HasCleanDisk (state S.Store conn.new) → IsTaken trees (state S.Store conn.old)
         → OnErr result (IsTrue (state S.Store conn.new).is_open → StaysAs trees (state S.Store conn.new)) }
+    ensures survives { Survives (state S.Store conn.old) (state S.Store conn.new)
+        (λ db. (trees : Trees) → IsTaken trees (state S.Store conn.old) → IsAdopted server primary trees db) }
     ensures cause { IfErr result (λ e. (e ≡ Refusal.OutOfMemory) ⊎ (e ≡ Refusal.Store)) }
 {
     server.number();
@@ -80,6 +83,8 @@ fn find_row<S: Alter>(conn: &mut Connection<S>, alloc: Global) -> Result<MetaRow
         → OnErr result (IsTrue (state S.Store conn.new).is_open → StaysAs trees (state S.Store conn.new)) }
     ensures strange { (trees : Trees) → HasCleanDisk (state S.Store conn.new) → IsTakenAs our_schema trees (state S.Store conn.old)
         → IfErr result (λ e. e ≡ Refusal.NotAReplica → IsMeta trees None) }
+    ensures survives { Survives (state S.Store conn.old) (state S.Store conn.new)
+        (λ _. (trees : Trees) → IsTakenAs our_schema trees (state S.Store conn.old) → ⊥) }
     ensures cause { IfErr result (λ e. (e ≡ Refusal.OutOfMemory) ⊎ ((e ≡ Refusal.Store) ⊎ (e ≡ Refusal.NotAReplica))) }
 {
     match find_all(conn, alloc) {
@@ -102,6 +107,8 @@ fn find<S: Alter>(conn: &mut Connection<S>, alloc: Global) -> Result<MetaRow, Re
         → OnErr result (IsTrue (state S.Store conn.new).is_open → StaysAs trees (state S.Store conn.new)) }
     ensures strange { (trees : Trees) → HasCleanDisk (state S.Store conn.new) → IsTakenAs our_schema trees (state S.Store conn.old)
         → IfErr result (λ e. e ≡ Refusal.NotAReplica → HasNoMeta 2 trees) }
+    ensures survives { Survives (state S.Store conn.old) (state S.Store conn.new)
+        (λ _. (trees : Trees) → IsTakenAs our_schema trees (state S.Store conn.old) → ⊥) }
     ensures cause { IfErr result (λ e. (e ≡ Refusal.OutOfMemory) ⊎ ((e ≡ Refusal.Store) ⊎ (e ≡ Refusal.NotAReplica))) }
 {
     check_number(conn, 2)?;
@@ -136,6 +143,8 @@ fn resume<S: Alter>(
         → OnErr result (IsTrue (state S.Store conn.new).is_open → StaysAs trees (state S.Store conn.new)) }
     ensures strange { (trees : Trees) → HasCleanDisk (state S.Store conn.new) → IsTaken trees (state S.Store conn.old)
         → IfErr result (λ e. e ≡ Refusal.NotAReplica → IsAnothers server primary trees) }
+    ensures survives { Survives (state S.Store conn.old) (state S.Store conn.new)
+        (λ db. (trees : Trees) → IsTaken trees (state S.Store conn.old) → IsAdopted server primary trees db) }
     ensures cause { IfErr result (λ e. (e ≡ Refusal.OutOfMemory) ⊎ ((e ≡ Refusal.Store) ⊎ (e ≡ Refusal.NotAReplica))) }
 {
     let meta = find(conn, alloc)?;
@@ -167,6 +176,8 @@ pub(crate) fn settle<S: Alter>(
         → IfErr result (λ e. e ≡ Refusal.NotAReplica → IsAnothers server primary trees) }
     ensures store { (trees : Trees) → HasCleanDisk (state S.Store conn.new) → IsTaken trees (state S.Store conn.old)
         → IfErr result (λ e. e ≡ Refusal.Store → IsSound no_schema trees ⊎ AreSomebodys trees) }
+    ensures survives { Survives (state S.Store conn.old) (state S.Store conn.new)
+        (λ db. (trees : Trees) → IsTaken trees (state S.Store conn.old) → IsAdopted server primary trees db) }
     ensures cause { IfErr result (λ e. (e ≡ Refusal.OutOfMemory) ⊎ ((e ≡ Refusal.Store) ⊎ (e ≡ Refusal.NotAReplica))) }
 {
     if is_blank(conn) {
@@ -193,6 +204,8 @@ pub(crate) fn recover<S: Alter>(conn: &mut Connection<S>, alloc: Global) -> Resu
         → IfErr result (λ e. e ≡ Refusal.NotAReplica → IsNobodys trees) }
     ensures store { (trees : Trees) → HasCleanDisk (state S.Store conn.new) → IsTaken trees (state S.Store conn.old)
         → IfErr result (λ e. e ≡ Refusal.Store → AreSomebodys trees) }
+    ensures survives { Survives (state S.Store conn.old) (state S.Store conn.new)
+        (λ db. (trees : Trees) → IsTaken trees (state S.Store conn.old) → IsResumed trees db) }
     ensures cause { IfErr result (λ e. (e ≡ Refusal.OutOfMemory) ⊎ ((e ≡ Refusal.Store) ⊎ (e ≡ Refusal.NotAReplica))) }
 {
     if !is_ours(conn) {

@@ -202,6 +202,9 @@ impl<B: Start> SqlKeeper<FileStore<SparingFile<B>>> {
             × (HasCleanDisk (file_state c) → (before : Trees) × IsFoundIn (image_at B.Start) before × IsAnothers server primary before)) }
         ensures stays { IfErr result (λ e. (c : _) → e.1 ≡ Some (GivenBack.Connection c) → HasCleanDisk (file_state c) → IsTrue (file_state c).is_open
             → (before : Trees) × IsFoundIn (image_at B.Start) before × StaysAs before (file_state c)) }
+        ensures crash { IfErr result (λ e. (c : _) → e.1 ≡ Some (GivenBack.Connection c) → HasCleanDisk (file_state c)
+            → (before : Trees) × IsFoundIn (image_at B.Start) before
+            × ((trees : Trees) → (file_state c).may_leave trees → (trees ≡ before) ⊎ IsAdopted server primary before trees)) }
     {
         let conn = match open(rt, path, start) {
             Ok(conn) => conn,
@@ -227,6 +230,9 @@ impl<B: Start> SqlKeeper<FileStore<SparingFile<B>>> {
             × (HasCleanDisk (file_state c) → (before : Trees) × IsFoundIn (image_at B.Start) before × IsNobodys before))) }
         ensures stays { IfErr result (λ e. (c : _) → e.1 ≡ Some (GivenBack.Connection c) → HasCleanDisk (file_state c) → IsTrue (file_state c).is_open
             → (before : Trees) × IsFoundIn (image_at B.Start) before × StaysAs before (file_state c)) }
+        ensures crash { IfErr result (λ e. (c : _) → e.1 ≡ Some (GivenBack.Connection c) → HasCleanDisk (file_state c)
+            → (before : Trees) × IsFoundIn (image_at B.Start) before
+            × ((trees : Trees) → (file_state c).may_leave trees → (trees ≡ before) ⊎ IsResumed before trees)) }
     {
         if is_missing(rt, path) {
             return Err((Refusal::NotAReplica, None));
@@ -252,6 +258,8 @@ impl SqlKeeper<FileStore<Memory>> {
         ensures settled { IfOk result (λ k. HasCleanDisk (file_state k.0) → IsTrue (file_state k.0).is_open → LeavesTables (file_state k.0)) }
         ensures uncounted { IfOk result (λ k. k.1 ≡ 0) }
         ensures cause { IfErr result (λ e. (r : _) → e ≡ NotCopied.Refused r → (r ≡ Refusal.OutOfMemory) ⊎ ((r ≡ Refusal.Store) ⊎ (r ≡ Refusal.NotAReplica))) }
+        ensures strange { IfErr result (λ e. e ≡ NotCopied.Refused Refusal.NotAReplica
+            → (before : Trees) × IsFoundIn (image_copied copied) before × IsNobodys before) }
     {
         let conn = match open_disks(rt, copied) {
             Ok(conn) => conn,

@@ -3,13 +3,15 @@
 ghost use Rattle.std.specs.Prelude.{◌≡◌, ◌⊎◌, false, None, IfOk, IfErr, OnOk, OnErr, IsTrue};
 ghost use Rattle.sqlite_trees.specs.Tree.{Trees};
 ghost use Rattle.sqlite_catalog.specs.Listing.{IsSound};
-ghost use Rattle.sqlite.specs.State.{HasCleanDisk};
+ghost use Rattle.sqlite.specs.State.{HasCleanDisk, Survives};
 ghost use Rattle.sqlite.specs.Held.{state};
 ghost use Rattle.mr_model.specs.Tables.{MetaRow as model};
+ghost use Rattle.mr_model.specs.First.{moved};
 ghost use Rattle.mr_rows.specs.Schema.{no_schema, first_schema, our_schema};
 ghost use Rattle.mr_rows.specs.Database.{IsKept};
 ghost use Rattle.mr_rows.specs.Shown.{IsMeta};
-ghost use Rattle.mr_first.specs.FirstDatabase.{IsKeptFirst};
+ghost use Rattle.mr_first.specs.FirstDatabase.{IsKeptFirst, first_in};
+ghost use Rattle.mr_first.specs.MovedUp.{IsMoved};
 ghost use Rattle.mr_sql.specs.Found.{IsTaken, IsTakenAs, IsFound, IsFoundFirst, IsAdopted, IsResumed, StaysAs};
 ghost use Rattle.mr_sql.specs.Refused.{AreSomebodys, HasNoMeta, IsAnothers, IsNobodys};
 
@@ -37,6 +39,8 @@ fn find_first_row<S: Alter>(conn: &mut Connection<S>, alloc: Global) -> Result<M
         → OnErr result (IsTrue (state S.Store conn.new).is_open → StaysAs trees (state S.Store conn.new)) }
     ensures strange { (trees : Trees) → HasCleanDisk (state S.Store conn.new) → IsTakenAs first_schema trees (state S.Store conn.old)
         → IfErr result (λ e. e ≡ Refusal.NotAReplica → IsMeta trees None) }
+    ensures survives { Survives (state S.Store conn.old) (state S.Store conn.new)
+        (λ _. (trees : Trees) → IsTakenAs first_schema trees (state S.Store conn.old) → ⊥) }
     ensures cause { IfErr result (λ e. (e ≡ Refusal.OutOfMemory) ⊎ ((e ≡ Refusal.Store) ⊎ (e ≡ Refusal.NotAReplica))) }
 {
     match find_first(conn, alloc) {
@@ -62,6 +66,8 @@ pub(crate) fn find_old<S: Alter>(
         → OnErr result (IsTrue (state S.Store conn.new).is_open → StaysAs trees (state S.Store conn.new)) }
     ensures strange { (trees : Trees) → HasCleanDisk (state S.Store conn.new) → IsTakenAs first_schema trees (state S.Store conn.old)
         → IfErr result (λ e. e ≡ Refusal.NotAReplica → HasNoMeta 1 trees) }
+    ensures survives { Survives (state S.Store conn.old) (state S.Store conn.new)
+        (λ _. (trees : Trees) → IsTakenAs first_schema trees (state S.Store conn.old) → ⊥) }
     ensures cause { IfErr result (λ e. (e ≡ Refusal.OutOfMemory) ⊎ ((e ≡ Refusal.Store) ⊎ (e ≡ Refusal.NotAReplica))) }
 {
     check_number(conn, 1)?;
@@ -78,6 +84,8 @@ fn raise<S: Alter>(conn: &mut Connection<S>, alloc: Global) -> Result<(), Refusa
     ensures opens { HasCleanDisk (state S.Store conn.new) → OnOk result (IsTrue (state S.Store conn.new).is_open) }
     ensures stays { (trees : Trees) (m : model) → HasCleanDisk (state S.Store conn.new) → IsFoundFirst trees m (state S.Store conn.old)
         → OnErr result (IsTrue (state S.Store conn.new).is_open → StaysAs trees (state S.Store conn.new)) }
+    ensures survives { Survives (state S.Store conn.old) (state S.Store conn.new)
+        (IsMoved (state S.Store conn.old) (moved (first_in (state S.Store conn.old).now.trees))) }
     ensures cause { IfErr result (λ e. (e ≡ Refusal.OutOfMemory) ⊎ (e ≡ Refusal.Store)) }
 {
     match move_up(conn, alloc) {
@@ -106,6 +114,8 @@ fn resume_first<S: Alter>(
         → OnErr result (IsTrue (state S.Store conn.new).is_open → StaysAs trees (state S.Store conn.new)) }
     ensures strange { (trees : Trees) → HasCleanDisk (state S.Store conn.new) → IsTaken trees (state S.Store conn.old)
         → IfErr result (λ e. e ≡ Refusal.NotAReplica → IsAnothers server primary trees) }
+    ensures survives { Survives (state S.Store conn.old) (state S.Store conn.new)
+        (λ db. (trees : Trees) → IsTaken trees (state S.Store conn.old) → IsAdopted server primary trees db) }
     ensures cause { IfErr result (λ e. (e ≡ Refusal.OutOfMemory) ⊎ ((e ≡ Refusal.Store) ⊎ (e ≡ Refusal.NotAReplica))) }
 {
     let meta = find_old(conn, alloc)?;
@@ -139,6 +149,8 @@ pub(crate) fn settle_first<S: Alter>(
         → IfErr result (λ e. e ≡ Refusal.NotAReplica → IsAnothers server primary trees) }
     ensures store { (trees : Trees) → HasCleanDisk (state S.Store conn.new) → IsTaken trees (state S.Store conn.old)
         → IfErr result (λ e. e ≡ Refusal.Store → AreSomebodys trees) }
+    ensures survives { Survives (state S.Store conn.old) (state S.Store conn.new)
+        (λ db. (trees : Trees) → IsTaken trees (state S.Store conn.old) → IsAdopted server primary trees db) }
     ensures cause { IfErr result (λ e. (e ≡ Refusal.OutOfMemory) ⊎ ((e ≡ Refusal.Store) ⊎ (e ≡ Refusal.NotAReplica))) }
 {
     if is_first(conn) {
@@ -167,6 +179,8 @@ pub(crate) fn recover_first<S: Alter>(
         → IfErr result (λ e. e ≡ Refusal.NotAReplica → IsNobodys trees) }
     ensures store { (trees : Trees) → HasCleanDisk (state S.Store conn.new) → IsTaken trees (state S.Store conn.old)
         → IfErr result (λ e. e ≡ Refusal.Store → AreSomebodys trees) }
+    ensures survives { Survives (state S.Store conn.old) (state S.Store conn.new)
+        (λ db. (trees : Trees) → IsTaken trees (state S.Store conn.old) → IsResumed trees db) }
     ensures cause { IfErr result (λ e. (e ≡ Refusal.OutOfMemory) ⊎ ((e ≡ Refusal.Store) ⊎ (e ≡ Refusal.NotAReplica))) }
 {
     if is_first(conn) {
@@ -190,6 +204,8 @@ fn raise_any<S: Alter>(conn: &mut Connection<S>, alloc: Global) -> Result<(), Re
         → OnErr result (IsTrue (state S.Store conn.new).is_open → StaysAs trees (state S.Store conn.new)) }
     ensures strange { (trees : Trees) → HasCleanDisk (state S.Store conn.new) → IsTaken trees (state S.Store conn.old)
         → IfErr result (λ e. e ≡ Refusal.NotAReplica → IsNobodys trees) }
+    ensures survives { Survives (state S.Store conn.old) (state S.Store conn.new)
+        (λ db. (trees : Trees) → IsTaken trees (state S.Store conn.old) → IsResumed trees db) }
     ensures cause { IfErr result (λ e. (e ≡ Refusal.OutOfMemory) ⊎ ((e ≡ Refusal.Store) ⊎ (e ≡ Refusal.NotAReplica))) }
 {
     find_old(conn, alloc)?;
@@ -210,6 +226,7 @@ pub(crate) fn claim<S: Alter>(conn: &mut Connection<S>, alloc: Global) -> Result
         → OnErr result (IsTrue (state S.Store conn.new).is_open → StaysAs trees (state S.Store conn.new)) }
     ensures strange { (trees : Trees) → HasCleanDisk (state S.Store conn.new) → IsTaken trees (state S.Store conn.old)
         → IfErr result (λ e. e ≡ Refusal.NotAReplica → IsSound first_schema trees → HasNoMeta 1 trees) }
+    ensures survives { Survives (state S.Store conn.old) (state S.Store conn.new) (λ _. (trees : Trees) → IsTaken trees (state S.Store conn.old) → ⊥) }
     ensures cause { IfErr result (λ e. (e ≡ Refusal.OutOfMemory) ⊎ ((e ≡ Refusal.Store) ⊎ (e ≡ Refusal.NotAReplica))) }
 {
     if !is_first(conn) {

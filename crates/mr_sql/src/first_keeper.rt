@@ -90,9 +90,14 @@ impl<S: Alter + Drop> FirstKeeper<S> {
         ensures stays { IfErr result
             (λ e. (c : _) → e.1 ≡ GivenBack.Connection c → HasCleanDisk (state S.Store c) → IsTrue (state S.Store c).is_open
             → StaysAs (state S.Store conn).committed.trees (state S.Store c)) }
+        ensures crash { IfErr result
+            (λ e. (c : _) → e.1 ≡ GivenBack.Connection c → HasCleanDisk (state S.Store c) → (trees : Trees) → (state S.Store c).may_leave trees
+            → trees ≡ (state S.Store conn).committed.trees) }
         ensures back { IfErr result
             (λ e. (s : _) → e.1 ≡ GivenBack.Store s → IsClean (S.Store.view s) → IsTrue (S.Store.view s).is_open
             → (S.Store.view s).trees ≡ (state S.Store conn).committed.trees) }
+        ensures crash_back { IfErr result
+            (λ e. (s : _) → e.1 ≡ GivenBack.Store s → (trees : Trees) → S.Store.recovers s trees → (state S.Store conn).may_leave trees) }
     {
         let mut conn = match retaken(alloc, conn) {
             Ok(conn) => conn,

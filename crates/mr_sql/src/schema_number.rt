@@ -6,7 +6,7 @@ ghost use Rattle.sqlite_value.specs.declared.value.Value.TheVariants.{Int};
 ghost use Rattle.sqlite_value.specs.Order.{column};
 ghost use Rattle.sqlite_trees.specs.Tree.{Trees};
 ghost use Rattle.sqlite_schema.specs.declared.schema.Schema.{Schema};
-ghost use Rattle.sqlite.specs.State.{HasCleanDisk};
+ghost use Rattle.sqlite.specs.State.{HasCleanDisk, Survives};
 ghost use Rattle.sqlite.specs.Held.{state};
 ghost use Rattle.mr_rows.specs.Shown.{columns_from};
 ghost use Rattle.mr_rows.specs.Reads.{IsPlacedIn, ReadsWhere};
@@ -80,6 +80,8 @@ pub(crate) fn check_number<S: Alter>(conn: &mut Connection<S>, number: u32) -> R
         → OnErr result (IsTrue (state S.Store conn.new).is_open → StaysAs trees (state S.Store conn.new)) }
     ensures strange { (under : Schema) (trees : Trees) → IsOfTwo under → HasCleanDisk (state S.Store conn.new) → IsTakenAs under trees (state S.Store conn.old)
         → IfErr result (λ e. e ≡ Refusal.NotAReplica → HasOtherNumber number trees) }
+    ensures survives { (under : Schema) → IsOfTwo under → Survives (state S.Store conn.old) (state S.Store conn.new)
+        (λ _. (trees : Trees) → IsTakenAs under trees (state S.Store conn.old) → ⊥) }
     ensures cause { IfErr result (λ e. (e ≡ Refusal.OutOfMemory) ⊎ ((e ≡ Refusal.Store) ⊎ (e ≡ Refusal.NotAReplica))) }
 {
     match has_other_number(conn, number) {

@@ -1,4 +1,5 @@
 ghost use Rattle.std.specs.Prelude.{◌≡◌, ◌≢◌, ◌<◌, ◌⊎◌, false, IfOk, IfErr, IsTrue};
+ghost use Rattle.sqlite_trees.specs.Tree.{Trees};
 ghost use Rattle.sqlite_trees.specs.View.{IsClean};
 ghost use Rattle.sqlite.specs.Steps.{over_memory, IsEmpty};
 ghost use Rattle.sqlite.specs.State.{HasCleanDisk};
@@ -229,9 +230,14 @@ impl<S: Alter + Drop> SqlKeeper<S> {
         ensures stays { IfErr result
             (λ e. (c : _) → e.1 ≡ GivenBack.Connection c → HasCleanDisk (state S.Store c) → IsTrue (state S.Store c).is_open
             → StaysAs (state S.Store conn).committed.trees (state S.Store c)) }
+        ensures crash { IfErr result
+            (λ e. (c : _) → e.1 ≡ GivenBack.Connection c → HasCleanDisk (state S.Store c) → (trees : Trees) → (state S.Store c).may_leave trees
+            → (trees ≡ (state S.Store conn).committed.trees) ⊎ IsAdopted server primary (state S.Store conn).committed.trees trees) }
         ensures back { IfErr result
             (λ e. (s : _) → e.1 ≡ GivenBack.Store s → IsClean (S.Store.view s) → IsTrue (S.Store.view s).is_open
             → (S.Store.view s).trees ≡ (state S.Store conn).committed.trees) }
+        ensures crash_back { IfErr result
+            (λ e. (s : _) → e.1 ≡ GivenBack.Store s → (trees : Trees) → S.Store.recovers s trees → (state S.Store conn).may_leave trees) }
     {
         let conn = match retaken(alloc, conn) {
             Ok(conn) => conn,
@@ -267,9 +273,14 @@ impl<S: Alter + Drop> SqlKeeper<S> {
         ensures stays { IfErr result
             (λ e. (c : _) → e.1 ≡ GivenBack.Connection c → HasCleanDisk (state S.Store c) → IsTrue (state S.Store c).is_open
             → StaysAs (state S.Store conn).committed.trees (state S.Store c)) }
+        ensures crash { IfErr result
+            (λ e. (c : _) → e.1 ≡ GivenBack.Connection c → HasCleanDisk (state S.Store c) → (trees : Trees) → (state S.Store c).may_leave trees
+            → (trees ≡ (state S.Store conn).committed.trees) ⊎ IsResumed (state S.Store conn).committed.trees trees) }
         ensures back { IfErr result
             (λ e. (s : _) → e.1 ≡ GivenBack.Store s → IsClean (S.Store.view s) → IsTrue (S.Store.view s).is_open
             → (S.Store.view s).trees ≡ (state S.Store conn).committed.trees) }
+        ensures crash_back { IfErr result
+            (λ e. (s : _) → e.1 ≡ GivenBack.Store s → (trees : Trees) → S.Store.recovers s trees → (state S.Store conn).may_leave trees) }
     {
         let conn = match retaken(alloc, conn) {
             Ok(conn) => conn,
@@ -321,6 +332,9 @@ impl<S: Alter> SqlKeeper<S> {
             ⊎ AreSomebodys (state S.Store conn).committed.trees) }
         ensures stays { IfErr result
             (λ e. HasCleanDisk (state S.Store e.1) → IsTrue (state S.Store e.1).is_open → StaysAs (state S.Store conn).committed.trees (state S.Store e.1)) }
+        ensures crash { IfErr result
+            (λ e. HasCleanDisk (state S.Store e.1) → (trees : Trees) → (state S.Store e.1).may_leave trees
+            → (trees ≡ (state S.Store conn).committed.trees) ⊎ IsAdopted server primary (state S.Store conn).committed.trees trees) }
     {
         match settle(&mut conn, alloc, server, primary) {
             Ok(()) => Ok(SqlKeeper::opened(alloc, conn)),
@@ -348,6 +362,9 @@ impl<S: Alter> SqlKeeper<S> {
         ensures store { IfErr result (λ e. HasCleanDisk (state S.Store e.1) → e.0 ≡ Refusal.Store → AreSomebodys (state S.Store conn).committed.trees) }
         ensures stays { IfErr result
             (λ e. HasCleanDisk (state S.Store e.1) → IsTrue (state S.Store e.1).is_open → StaysAs (state S.Store conn).committed.trees (state S.Store e.1)) }
+        ensures crash { IfErr result
+            (λ e. HasCleanDisk (state S.Store e.1) → (trees : Trees) → (state S.Store e.1).may_leave trees
+            → (trees ≡ (state S.Store conn).committed.trees) ⊎ IsResumed (state S.Store conn).committed.trees trees) }
     {
         match recover(&mut conn, alloc) {
             Ok(()) => Ok(SqlKeeper::opened(alloc, conn)),

@@ -1,9 +1,12 @@
 use Rattle.std.proofs.Common.{◌≡◌, refl, inl, inr}
 use Rattle.sqlite.specs.Held.{state}
 use Rattle.mr_base.specs.declared.refusals.Refusal.TheVariants as refusal
+use Rattle.mr_rows.specs.Schema.{our_schema}
 use Rattle.mr_sql.specs.Refused.{IsAnothers}
+use Rattle.mr_sql.specs.Found.{IsAdopted}
 use Rattle.mr_sql.proofs.CreateLemmas.{on_err_any}
 use Rattle.mr_sql.proofs.TakenLemmas.{adopts, anothers_ours, found_stays, handed_on, named_as}
+use Rattle.mr_sql.proofs.CrashLemmas.{looked_alone}
 use Rattle.mr_sql.proofs.adopt.resume.Goals as goal
 
 pub returns-in_err-meta-clause-stays : goal.returns-in_err-meta-clause-stays
@@ -30,3 +33,15 @@ returns-else-is_of-clause-strange g c trees clean taken is =
     let found = c.in_ok-meta.ensures.found trees clean (taken, c.requires.ours) (c.in_ok-meta.ensures.opens trees clean (taken, c.requires.ours)) in
     anothers_ours c.args.server c.args.primary trees (state g.S.Store c.args.conn.now) taken c.requires.ours
     (inr (named_as c.args.server c.args.primary trees _ (state g.S.Store c.args.conn.now) (state g.S.Store c.find.new.conn) taken c.requires.ours found (c.if-is_of.ensures.other refl)))
+
+pub returns-in_err-meta-clause-survives : goal.returns-in_err-meta-clause-survives
+returns-in_err-meta-clause-survives g c =
+    looked_alone (state g.S.Store c.args.conn.now) (state g.S.Store c.find.new.conn) our_schema (IsAdopted c.args.server c.args.primary) c.requires.ours c.find.ensures.survives
+
+pub returns-then-is_of-clause-survives : goal.returns-then-is_of-clause-survives
+returns-then-is_of-clause-survives g c =
+    looked_alone (state g.S.Store c.args.conn.now) (state g.S.Store c.find.new.conn) our_schema (IsAdopted c.args.server c.args.primary) c.requires.ours c.find.ensures.survives
+
+pub returns-else-is_of-clause-survives : goal.returns-else-is_of-clause-survives
+returns-else-is_of-clause-survives g c =
+    looked_alone (state g.S.Store c.args.conn.now) (state g.S.Store c.find.new.conn) our_schema (IsAdopted c.args.server c.args.primary) c.requires.ours c.find.ensures.survives

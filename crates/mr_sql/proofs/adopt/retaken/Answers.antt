@@ -59,3 +59,12 @@ returns-clause-back g c =
     same clean now ∙ ((c.into_store-store.ensures.undone).undone is_open).0)
     (failed_of c.over.result (λ e. IsQuiet g.S.Store.view g.S.Store.faults g.S.Store.recovers g.S.Store.is_shielded store e.1) P (λ e quiet. quiet.clean) c.over.ensures.unharmed)
     c.over.ensures.rows
+
+pub returns-then-is_broken-clause-crash : goal.returns-then-is_broken-clause-crash
+returns-then-is_broken-clause-crash g c trees left = c.into_store-store.ensures.quiet.outcomes trees left
+
+pub returns-clause-crash : goal.returns-clause-crash
+returns-clause-crash g c =
+    let store = c.into_store-store.result in
+    failed_of c.over.result (λ e. IsQuiet g.S.Store.view g.S.Store.faults g.S.Store.recovers g.S.Store.is_shielded store e.1) _
+    (λ e quiet trees left. c.into_store-store.ensures.quiet.outcomes trees (quiet.outcomes trees left)) c.over.ensures.unharmed

@@ -1,9 +1,11 @@
 use Rattle.std.proofs.Common.{inl, inr, ◌≡◌, refl}
+use Rattle.sqlite.specs.Held.{state}
 use Rattle.mr_base.specs.declared.refusals.Refusal.TheVariants as refusal
 use Rattle.mr_rows.specs.Schema.{first_schema}
 use Rattle.mr_sql.specs.Refused.{HasNoMeta}
 use Rattle.mr_sql.proofs.CreateLemmas.{on_err_any}
 use Rattle.mr_sql.proofs.TakenLemmas.{failed_of, handed_on}
+use Rattle.mr_sql.proofs.CrashLemmas.{looked_twice}
 use Rattle.mr_sql.proofs.first.find_old.Goals as goal
 
 pub returns-in_err-check_number-clause-stays : goal.returns-in_err-check_number-clause-stays
@@ -26,3 +28,11 @@ returns-clause-stays g c trees clean taken = c.find_first_row.ensures.stays tree
 pub returns-clause-strange : goal.returns-clause-strange
 returns-clause-strange g c trees clean taken =
     failed_of c.find_first_row.result _ _ (λ e none is. inl (none is)) (c.find_first_row.ensures.strange trees clean (c.in_ok-check_number.ensures.taken first_schema trees (inr refl) (c.find_first_row.ensures.clean clean) taken))
+
+pub returns-in_err-check_number-clause-survives : goal.returns-in_err-check_number-clause-survives
+returns-in_err-check_number-clause-survives g c = c.check_number.ensures.survives first_schema (inr refl)
+
+pub returns-clause-survives : goal.returns-clause-survives
+returns-clause-survives g c =
+    looked_twice (state g.S.Store c.args.conn.now) (state g.S.Store c.check_number.new.conn) (state g.S.Store c.find_first_row.new.conn) first_schema
+    (λ clean trees taken. c.in_ok-check_number.ensures.taken first_schema trees (inr refl) (c.find_first_row.ensures.clean clean) taken) (c.check_number.ensures.survives first_schema (inr refl)) c.find_first_row.ensures.survives

@@ -1,10 +1,12 @@
-use Rattle.std.proofs.Common.{◌≡◌, refl, inl, inr, subst}
+use Rattle.std.proofs.Common.{◌≡◌, refl, inl, inr, subst, sym}
 use Rattle.sqlite.specs.Held.{state}
 use Rattle.mr_base.specs.declared.refusals.Refusal.TheVariants as refusal
-use Rattle.mr_sql.specs.Found.{Names}
+use Rattle.mr_rows.specs.Schema.{first_schema}
+use Rattle.mr_sql.specs.Found.{Names, IsAdopted}
 use Rattle.mr_sql.specs.Refused.{IsAnothers}
 use Rattle.mr_sql.proofs.CreateLemmas.{on_err_any}
 use Rattle.mr_sql.proofs.TakenLemmas.{adopts, anothers_first, handed_on, ok_of, failed_of, not_strange}
+use Rattle.mr_sql.proofs.CrashLemmas.{looked_alone, survives_raising}
 use Rattle.mr_sql.proofs.first.resume_first.Goals as goal
 
 pub returns-in_err-meta-clause-stays : goal.returns-in_err-meta-clause-stays
@@ -40,3 +42,19 @@ returns-then-is_of-clause-stays g c trees clean taken =
 
 pub returns-then-is_of-clause-strange : goal.returns-then-is_of-clause-strange
 returns-then-is_of-clause-strange g c trees clean taken = failed_of c.raise.result _ _ (λ e why is. absurd (not_strange why is)) c.raise.ensures.cause
+
+pub returns-in_err-meta-clause-survives : goal.returns-in_err-meta-clause-survives
+returns-in_err-meta-clause-survives g c =
+    looked_alone (state g.S.Store c.args.conn.now) (state g.S.Store c.find_old.new.conn) first_schema (IsAdopted c.args.server c.args.primary) c.requires.first c.find_old.ensures.survives
+
+pub returns-else-is_of-clause-survives : goal.returns-else-is_of-clause-survives
+returns-else-is_of-clause-survives g c =
+    looked_alone (state g.S.Store c.args.conn.now) (state g.S.Store c.find_old.new.conn) first_schema (IsAdopted c.args.server c.args.primary) c.requires.first c.find_old.ensures.survives
+
+pub returns-then-is_of-clause-survives : goal.returns-then-is_of-clause-survives
+returns-then-is_of-clause-survives g c =
+    survives_raising (state g.S.Store c.args.conn.now) (state g.S.Store c.find_old.new.conn) (state g.S.Store c.raise.new.conn) c.in_ok-meta.meta (IsAdopted c.args.server c.args.primary) c.requires.first
+    (λ clean trees taken.
+    let before = c.raise.ensures.clean clean in
+    c.in_ok-meta.ensures.found trees before (taken, c.requires.first) (c.in_ok-meta.ensures.opens trees before (taken, c.requires.first)))
+    (λ trees db resumed meta. inr (resumed, subst (Names c.args.server c.args.primary) (sym meta) (c.if-is_of.ensures.same refl))) c.find_old.ensures.survives c.raise.ensures.survives

@@ -1,6 +1,7 @@
 use Rattle.std.proofs.Common.{inr, refl}
 use Rattle.sqlite.specs.Held.{state}
 use Rattle.mr_rows.specs.Schema.{no_schema, first_schema, our_schema}
+use Rattle.mr_rows.proofs.QueryLemmas.{survives_itself}
 use Rattle.mr_sql.proofs.TakenLemmas.{err_all, of_schema, sound_as}
 use Rattle.mr_sql.proofs.first.settle_first.Goals as goal
 
@@ -14,3 +15,6 @@ returns-else-is_first-clause-strange g c trees clean taken is = (
   (λ ours. absurd (c.requires.others (of_schema trees _ our_schema taken ours))),
   (λ first. absurd (c.if-is_first.ensures.other refl (of_schema trees _ first_schema taken first))),
 )
+
+pub returns-else-is_first-clause-survives : goal.returns-else-is_first-clause-survives
+returns-else-is_first-clause-survives g c = survives_itself (state g.S.Store c.args.conn.now) _

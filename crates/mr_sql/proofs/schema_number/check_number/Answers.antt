@@ -2,6 +2,7 @@ use Rattle.std.proofs.Common.{subst}
 use Rattle.sqlite.specs.Held.{state}
 use Rattle.mr_sql.specs.Refused.{HasOtherNumber}
 use Rattle.mr_sql.proofs.NumberLemmas.{placed_as, looked_stays, looked_taken}
+use Rattle.mr_sql.proofs.CrashLemmas.{placed_looked}
 use Rattle.mr_sql.proofs.schema_number.check_number.Goals as goal
 
 pub returns-in-Ok-true-clause-stays : goal.returns-in-Ok-true-clause-stays
@@ -21,3 +22,12 @@ returns-in-Ok-false-clause-taken g c under trees two clean taken =
 pub returns-in-Err-clause-stays : goal.returns-in-Err-clause-stays
 returns-in-Err-clause-stays g c under trees two clean taken now =
     looked_stays under trees (state g.S.Store c.args.conn.now) (state g.S.Store c.has_other_number.new.conn) taken (c.in-Err.ensures.looks under two).1 clean now
+
+pub returns-in-Ok-false-clause-survives : goal.returns-in-Ok-false-clause-survives
+returns-in-Ok-false-clause-survives g c under two = placed_looked (state g.S.Store c.args.conn.now) (state g.S.Store c.has_other_number.new.conn) under (c.has_other_number.ensures.looks under two).0
+
+pub returns-in-Ok-true-clause-survives : goal.returns-in-Ok-true-clause-survives
+returns-in-Ok-true-clause-survives g c under two = placed_looked (state g.S.Store c.args.conn.now) (state g.S.Store c.has_other_number.new.conn) under (c.has_other_number.ensures.looks under two).0
+
+pub returns-in-Err-clause-survives : goal.returns-in-Err-clause-survives
+returns-in-Err-clause-survives g c under two = placed_looked (state g.S.Store c.args.conn.now) (state g.S.Store c.has_other_number.new.conn) under (c.has_other_number.ensures.looks under two).0

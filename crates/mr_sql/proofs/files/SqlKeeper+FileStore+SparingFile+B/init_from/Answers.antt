@@ -22,3 +22,9 @@ returns-in-Err-settled-clause-stays g c other given clean now =
     let early : HasCleanDisk (file_state c.in-Err-settled.conn) = subst (λ h. HasCleanDisk (file_state h)) (sym same) clean in
     let opened : IsTrue (file_state c.in-Err-settled.conn).is_open = subst (λ h. IsTrue (file_state h).is_open) (sym same) now in
     (trees, c.in-Ok.ensures.found (c.in-Err-settled.ensures.was_clean early), subst (λ h. StaysAs trees (file_state h)) same (c.in-Err-settled.ensures.stays early opened))
+
+pub returns-in-Err-settled-clause-crash : goal.returns-in-Err-settled-clause-crash
+returns-in-Err-settled-clause-crash g c other given clean =
+    let same : c.in-Err-settled.conn ≡ other = cc in
+    let early : HasCleanDisk (file_state c.in-Err-settled.conn) = subst (λ h. HasCleanDisk (file_state h)) (sym same) clean in
+    ((file_state c.in-Ok.conn).committed.trees, c.in-Ok.ensures.found (c.in-Err-settled.ensures.was_clean early), λ trees left. c.in-Err-settled.ensures.crash early trees (subst (λ h. (file_state h).may_leave trees) (sym same) left))

@@ -22,3 +22,9 @@ returns-in-Err-recovered-clause-stays g c other given clean now =
     let early : HasCleanDisk (file_state c.in-Err-recovered.conn) = subst (λ h. HasCleanDisk (file_state h)) (sym same) clean in
     let opened : IsTrue (file_state c.in-Err-recovered.conn).is_open = subst (λ h. IsTrue (file_state h).is_open) (sym same) now in
     (trees, c.in-Ok.ensures.found (c.in-Err-recovered.ensures.was_clean early), subst (λ h. StaysAs trees (file_state h)) same (c.in-Err-recovered.ensures.stays early opened))
+
+pub returns-in-Err-recovered-clause-crash : goal.returns-in-Err-recovered-clause-crash
+returns-in-Err-recovered-clause-crash g c other given clean =
+    let same : c.in-Err-recovered.conn ≡ other = cc in
+    let early : HasCleanDisk (file_state c.in-Err-recovered.conn) = subst (λ h. HasCleanDisk (file_state h)) (sym same) clean in
+    ((file_state c.in-Ok.conn).committed.trees, c.in-Ok.ensures.found (c.in-Err-recovered.ensures.was_clean early), λ trees left. c.in-Err-recovered.ensures.crash early trees (subst (λ h. (file_state h).may_leave trees) (sym same) left))

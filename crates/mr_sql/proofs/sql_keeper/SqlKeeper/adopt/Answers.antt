@@ -1,7 +1,8 @@
 use Rattle.std.proofs.Common.{◌≡◌, ◌⊎◌, refl, sym, subst}
 use Rattle.sqlite_catalog.specs.Listing.{IsSound}
+use Rattle.sqlite_trees.specs.Tree.{Trees}
 use Rattle.sqlite.specs.State.{HasCleanDisk}
-use Rattle.sqlite.specs.Held.{state}
+use Rattle.sqlite.specs.Held.{state, Held}
 use Rattle.mr_rows.specs.Schema.{no_schema}
 use Rattle.mr_sql.specs.Found.{IsAdopted}
 use Rattle.mr_sql.specs.Refused.{AreSomebodys, IsAnothers}
@@ -26,3 +27,11 @@ returns-in-Err-settled-clause-store g c other given is clean =
     let early : HasCleanDisk (state g.S.Store c.in-Err-settled.conn) = subst (λ h. HasCleanDisk (state g.S.Store h)) (sym one) clean in
     let same = committed_are _ _ (c.in-Ok.ensures.taken (c.in-Err-settled.ensures.was_clean early)) in
     subst (λ t. IsSound no_schema t ⊎ AreSomebodys t) same (c.in-Err-settled.ensures.store early is)
+
+pub returns-in-Err-settled-clause-crash : goal.returns-in-Err-settled-clause-crash
+returns-in-Err-settled-clause-crash g c other given clean trees left =
+    let one : c.in-Err-settled.conn ≡ other = cc in
+    let early : HasCleanDisk (state g.S.Store c.in-Err-settled.conn) = subst (λ h. HasCleanDisk (state g.S.Store h)) (sym one) clean in
+    let same = committed_are _ _ (c.in-Ok.ensures.taken (c.in-Err-settled.ensures.was_clean early)) in
+    subst (λ (t : Trees). (trees ≡ t) ⊎ IsAdopted c.args.server c.args.primary t trees) same
+    (c.in-Err-settled.ensures.crash early trees (subst (λ (h : Held g.row.S.Denot). (state g.S.Store h).may_leave trees) (sym one) left))

@@ -1,3 +1,4 @@
+use Rattle.std.proofs.Common.{inl, inr}
 use Rattle.sqlite.specs.Held.{state}
 use Rattle.mr_rows.specs.Database.{IsKept}
 use Rattle.mr_sql.proofs.TakenLemmas.{alone}
@@ -17,3 +18,8 @@ returns-in-Err-clause-strange g c clean is = c.in-Err.ensures.strange _ clean (c
 
 pub returns-in-Err-clause-stays : goal.returns-in-Err-clause-stays
 returns-in-Err-clause-stays g c clean now = c.in-Err.ensures.stays _ clean (c.requires.taken (c.settle.ensures.clean clean)) now
+
+pub returns-in-Err-clause-crash : goal.returns-in-Err-clause-crash
+returns-in-Err-clause-crash g c clean trees left =
+    let taken = c.requires.taken (c.settle.ensures.clean clean) in
+    elim (c.settle.ensures.survives.crash clean trees left) [ inl before ↦ inl (g.met.S.Store.settled c.args.conn.store trees taken.is_open before) | inr made ↦ inr (made _ taken) ]
