@@ -88,12 +88,6 @@ with_alike bs cs same w Logged = same
 with_alike bs cs same w Void = same
 with_alike bs cs same w Done = target_alike bs cs same w.action
 
-pub after_alike : (bs cs : List Booking) (ws : List Write) → SameMembers bs cs → SameMembers (after bs ws) (after cs ws)
-after_alike bs cs [] same = same
-after_alike bs cs (w ∷ ws) same =
-    after_alike (booked_with bs w (place_among bs w)) (booked_with cs w (place_among cs w)) ws
-    (subst (λ p. SameMembers (booked_with bs w (place_among bs w)) (booked_with cs w p)) (place_alike bs cs same w.action) (with_alike bs cs same w (place_among bs w)))
-
 pub among_alike : (mark : Bool) (bs cs : List Booking) (ws : List Write) → SameMembers bs cs → placed_among mark bs ws ≡ placed_among mark cs ws
 among_alike mark bs cs [] same = refl
 among_alike mark bs cs (w ∷ ws) same =

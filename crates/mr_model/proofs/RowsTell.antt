@@ -152,12 +152,6 @@ back_of r room t c h a e =
         (let q = k.place in let c = k.cancelled in λ j. place_row_for u.write (g j) (q j) (c j) (is_committed r (told_id u)) (seq_of r u.write))
         ∙ ap (λ q. rows.Cancel (cancel_row_for u.write x q (seq_of r u.write))) p
 
--- as is told, the reply
-record Tells (r : Replica) (w : Write) (p : PlaceRow) (reply told_reply : Reply) : Type 0 where
-  is_row : place_row r w ≡ p
-  is_reply : reply ≡ told_reply
-  tells : TellsOutcome (tables_of r) p told_reply
-
 outcome_told : (r : Replica) (room : Text) (t : Told) → IsReplica r → Has t (room_list r room) → TellsOutcome (tables_of r) (place_row r t.write) (OutcomeIs (outcome_of t))
 outcome_told r room t h a = go (case_of r room t k)
   where

@@ -66,9 +66,6 @@ truncate_changes r n h =
       cancels = refl;
     }
   where
-    d : Write → Bool
-    d v = is_dropped (after_truncate r n) (id_of v)
-
     -- what stays kept was kept
     was_kept : (v : Write) → is_dropped (after_truncate r n) (id_of v) ≡ false → is_dropped r (id_of v) ≡ false
     was_kept v e =
