@@ -1,11 +1,11 @@
 -- Calendars show the bookings that stand; these are apart; and what becomes of writes follows from their order.
-use Rattle.std.proofs.Common.{◌≡◌, refl, sym, ap, ◌∙◌, subst, ℕ, ◌+◌, Bool, true, false, not, cond, List, [], ◌∷◌, ◌++◌, length, map, drop, ◌⊎◌, inl, inr, Option, Some, None, add-zero}
+use Rattle.std.proofs.Common.{◌≡◌, refl, sym, ap, ◌∙◌, subst, ℕ, ◌+◌, Bool, true, false, not, cond, List, [], ◌∷◌, ◌++◌, length, map, drop, ◌⊎◌, inl, inr, Option, Some, None, add-zero, append-nil}
 use Rattle.std.proofs.lemmas.Bool.{true≢false}
 use Rattle.std.proofs.lemmas.List.{map-append}
 use Rattle.std.specs.Prelude.{option_map}
 use Rattle.std.specs.List.{filter, flat_map, filter_map, slice_get, AllByRecursion}
 use Rattle.mr_model.specs.Slots.{Slot, Overlap}
-use Rattle.mr_model.specs.Writes.{Id, Meeting, Action, Books, Cancels, Write, id_of, same_id, choices, choices_of, length_of}
+use Rattle.mr_model.specs.Writes.{Id, Meeting, Action, Books, Cancels, Write, id_of, same_id, choices_of, length_of, choices_in, length_in}
 use Rattle.mr_model.specs.Replay.{Place, Taken, Logged, Done, Void, Booking, place_for, place_among, slot_at, booking_of, without_target, booked_with, replay}
 use Rattle.mr_model.specs.Board.{after}
 use Rattle.mr_model.specs.Replies.{Entry}
@@ -179,11 +179,11 @@ apart_booked bs w Done e h = go w.action
 apart_booked bs w (Taken k) e h = go w.action refl (slot_at w (Taken k)) refl
   where
     go : (a : Action) → w.action ≡ a → (o : Option Slot) → slot_at w (Taken k) ≡ o → AreApart (bs ++ booking_of w o)
-    go a ea None eo = subst AreApart (sym (Rattle.std.proofs.Common.append-nil bs)) h
-    go (Cancels t) ea (Some s) eo = absurd (let g : ◌≡◌ {A = Option Slot} None (Some s) = sym (ap (λ x. slice_get (Rattle.mr_model.specs.Writes.choices_in x) k) ea) ∙ eo in cc)
+    go a ea None eo = subst AreApart (sym (append-nil bs)) h
+    go (Cancels t) ea (Some s) eo = absurd (let g : ◌≡◌ {A = Option Slot} None (Some s) = sym (ap (λ x. slice_get (choices_in x) k) ea) ∙ eo in cc)
     go (Books m) ea (Some s) eo =
         apart_last bs (record { id = id_of w; slot = s; length = length_of w }) h
-        (λ x. taken_free bs m k s (ap (place_for bs) (sym ea) ∙ e) (sym (ap (λ a. slice_get (Rattle.mr_model.specs.Writes.choices_in a) k) ea) ∙ eo) (subst (λ n. Meets bs s n) (ap Rattle.mr_model.specs.Writes.length_in ea) x))
+        (λ x. taken_free bs m k s (ap (place_for bs) (sym ea) ∙ e) (sym (ap (λ a. slice_get (choices_in a) k) ea) ∙ eo) (subst (λ n. Meets bs s n) (ap length_in ea) x))
 
 pub apart_after : (bs : List Booking) (ws : List Write) → AreApart bs → AreApart (after bs ws)
 apart_after bs [] h = h

@@ -5,7 +5,6 @@ use Rattle.std.specs.List.{filter}
 use Rattle.mr_model.specs.Slots.{Slot}
 use Rattle.mr_model.specs.Writes.{Id, Meeting, Action, Books, Cancels, Write, same_id, choices_of}
 use Rattle.mr_model.specs.Replay.{Place, Taken, Logged, Done, Void, Booking, first_free, is_booked, place_for, place_among, slot_at, booking_of, without_target, booked_with}
-use Rattle.mr_model.specs.Board.{after}
 use Rattle.mr_model.specs.Dropped.{Has}
 use Rattle.mr_model.proofs.Members.{has_left, has_right, has_split, has_filter, filter_has}
 use Rattle.mr_model.proofs.UniqueReplay.{Meets, meets, meets-true, meets_from, meets_has, has_meets, booked_has, has_booked}

@@ -1,5 +1,5 @@
 -- Words and slots at the front of a text.
-use Rattle.std.proofs.Common.{◌≡◌, refl, sym, ap, ◌∙◌, ℕ, zero, suc, ◌+◌, ◌<◌, ◌≤◌, Bool, true, false, not, cond, eqb, List, [], ◌∷◌, ◌++◌, length, take, drop, arith, leb, leb-true, eqb-true, IsTrue, append-nil, append_assoc}
+use Rattle.std.proofs.Common.{◌≡◌, refl, sym, ap, ◌∙◌, ℕ, zero, suc, ◌+◌, ◌<◌, ◌≤◌, Bool, true, false, not, cond, eqb, List, [], ◌∷◌, ◌++◌, length, take, drop, arith, leb, leb-true, eqb-true, IsTrue, append-nil, append_assoc, le_of_suc-le-suc}
 use Rattle.std.proofs.lemmas.Bool.{and_parts, cond-false, false_from_ne_true}
 use Rattle.std.proofs.lemmas.List.{take_all}
 use Rattle.std.specs.Prelude.{flat_map}
@@ -38,7 +38,7 @@ drop_past : (n : ℕ) (ys : Text) → length ys ≤ n → drop n ys ≡ []
 drop_past zero [] l = refl
 drop_past zero (y ∷ ys) l = absurd (omega (arith, l))
 drop_past (suc n) [] l = refl
-drop_past (suc n) (y ∷ ys) l = drop_past n ys (Rattle.std.proofs.Common.le_of_suc-le-suc l)
+drop_past (suc n) (y ∷ ys) l = drop_past n ys (le_of_suc-le-suc l)
 
 pub none_after : (xs : Text) → place xs ≡ length xs → [] ≡ after_word xs
 none_after xs e = sym (drop_past (place xs + 1) xs (omega (arith, e))) ∙ word-after xs
