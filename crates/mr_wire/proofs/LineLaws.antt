@@ -21,14 +21,9 @@ use Rattle.mr_base.specs.declared.refusals.Refusal.TheVariants.{BadLength, TooMa
 use Rattle.mr_base.specs.Limits.{limited}
 use Rattle.mr_wire.specs.Words.{cut}
 use Rattle.mr_base.specs.Readings.{number_from_to}
+use Rattle.mr_base.proofs.Readers.{same_reading}
 use Rattle.mr_wire.specs.Fields.{◌>>=◌, number_off, slot_off, slots_off, front_off, most_alternatives, choices_off, booking_with, parse_booking, behind_word, server_and, parse_id, cancel_parts, parse_cancel, commit_of, version_among, servers_under, heading_of, worded_line, bare_line, line_by, parse_line}
 use Rattle.mr_wire.proofs.FieldLaws.{bind_some, cut_takes, word_again, number_takes, number_again, number_off_takes, number_off_again, front_rest, front_off_takes, front_off_again, slot_off_takes, slot_off_again, slots_off_take, slots_off_again}
-
--- two that give the same values are the same
-pub agree : {A : Type 0} (o p : Option A) → ((x : A) → o ≡ Some x → p ≡ Some x) → ((x : A) → p ≡ Some x → o ≡ Some x) → o ≡ p
-agree (Some x) p f g = sym (f x refl)
-agree None (Some x) f g = g x refl
-agree None None f g = refl
 
 -- the booking and the cancel of these parts
 abbrev pub booking : Stamp → Text → Meeting → Write
@@ -375,7 +370,7 @@ heading_again h ok =
 -- a line is read as a header just where the definitions read it so
 pub header_is : (text : Text) → heading_of text ≡ read_header text
 header_is text =
-    agree (heading_of text) (read_header text)
+    same_reading (heading_of text) (read_header text)
     (λ h e. let t = heading_takes text h e in ap read_header t.1 ∙ read-header_line h t.0)
     (λ h e. let o = own_text is_heading heading_line (heading_in text) h text e in ap heading_of (sym o.1) ∙ heading_again h o.0)
 
@@ -456,7 +451,7 @@ same_read v read items e m text (LastLine Cut) t = absurd (no_line text t)
 pub line_is : (v : Version) (text : Text) → parse_line v text ≡ read_body_line v text
 unfolding bare_line
 line_is v text =
-    agree (parse_line v text) (read_body_line v text)
+    same_reading (parse_line v text) (read_body_line v text)
     (λ x e. same_read v (read_body_line v) (read-item_line v) refl refl text x (line_takes v text x e))
     (λ x e. same_read v (parse_line v) (line_again v) refl refl text x (subst (λ o. IsLineOf v text o) e (body_line_of v text)))
 
