@@ -22,7 +22,8 @@ use Rattle.mr_wire.specs.Fields.{◌>>=◌, behind_word, server_and, servers_und
 use Rattle.mr_base.specs.Readings.{number_from_to}
 use Rattle.mr_base.proofs.Readers.{same_reading}
 use Rattle.mr_wire.proofs.FieldLaws.{bind_some, number_takes, number_again}
-use Rattle.mr_wire.proofs.LineLaws.{behind_takes, behind_again, server_and_takes, server_and_again, word_among, servers_under_take, servers_under_again}
+use Rattle.mr_wire.proofs.LineLaws.{behind_takes, behind_again, server_and_takes, server_and_again}
+use Rattle.mr_wire.proofs.HeaderLaws.{word_among, servers_under_take, servers_under_again}
 use Rattle.mr_wire.proofs.Ascii.{Low, is_text, words_low, number_low}
 use Rattle.mr_wire.proofs.LoopLaws.{first_line_is, no_line_left}
 
