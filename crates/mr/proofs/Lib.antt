@@ -1,5 +1,6 @@
 mod WordLaws
 mod ScriptLines
+mod ScriptParts
 mod CutSlots
 mod ScriptLaws
 mod RunLaws

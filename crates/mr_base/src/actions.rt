@@ -1,4 +1,4 @@
-ghost use Rattle.std.specs.Prelude.{◌≡◌, IsTrue, OnOk, OnErr, IfOk, IfErr};
+ghost use Rattle.std.specs.Prelude.{◌≡◌, IsTrue, IfOk, IfErr};
 ghost use Rattle.mr_model.specs.Writes.{is_action, is_first_action, same_action};
 ghost use Rattle.mr_base.specs.Actions.{action_of};
 

@@ -1,5 +1,5 @@
 -- How far a reader was read.
-use Rattle.std.proofs.Common.{◌≡◌, ◌++◌, ◌≤◌, ◌⊎◌, inl, inr, ℕ, List, [], length, refl, arith, Result, Ok, Err}
+use Rattle.std.proofs.Common.{◌≡◌, ◌++◌, ◌≤◌, inl, inr, ℕ, List, [], length, refl, arith, Result, Ok, Err}
 use Rattle.mr_http.specs.Faults.{web_fault}
 use Rattle.mr_http.specs.Reading.{IsReadWhile, OnceRead}
 use Rattle.mr_http.specs.declared.faults.ReadFault.{ReadFault}

@@ -12,7 +12,7 @@ use Rattle.mr_model.specs.Replica.{Replica, IsReplica}
 use Rattle.mr_model.specs.Replies.{Entry, Full, Committed, Reply, Sheet, Calendar, Errors, OutcomeIs}
 use Rattle.mr_model.specs.View.{Told, Question, AskSheet, AskCalendar, AskOutcome, AskErrors, view_of, whole_list, committed_list, entries, logging_of, told_of, unless, outcome_reply, answer}
 use Rattle.mr_model.specs.Step.{outcome_at, knows_booking}
-use Rattle.mr_model.specs.Tables.{BookingRow, CancelledRow, CancelRow, PlaceRow, Tables, place_row, tables_of}
+use Rattle.mr_model.specs.Tables.{BookingRow, CancelRow, PlaceRow, Tables, place_row, tables_of}
 use Rattle.mr_model.specs.Tables as rows
 use Rattle.mr_model.specs.Queries.{cancelled_outcome, TellsOutcome, IsCommittedBooking, stands, back, LogLine, OfRequest, OfVoid, line_logging, IsLineOf, IsRowFor}
 use Rattle.mr_model.specs.Dropped.{Has}

@@ -1,58 +1,23 @@
 -- Calendars show the bookings that stand; these are apart; and what becomes of writes follows from their order.
-use Rattle.std.proofs.Common.{◌≡◌, refl, sym, ap, ◌∙◌, subst, ℕ, ◌+◌, Bool, true, false, not, cond, List, [], ◌∷◌, ◌++◌, length, map, drop, ◌⊎◌, inl, inr, Option, Some, None, add-zero}
+use Rattle.std.proofs.Common.{◌≡◌, refl, sym, ap, ◌∙◌, subst, ℕ, ◌+◌, Bool, true, false, not, cond, List, [], ◌∷◌, ◌++◌, length, map, drop, ◌⊎◌, inl, inr, Option, Some, None, add-zero, append-nil}
 use Rattle.std.proofs.lemmas.Bool.{true≢false}
 use Rattle.std.proofs.lemmas.List.{map-append}
 use Rattle.std.specs.Prelude.{option_map}
 use Rattle.std.specs.List.{filter, flat_map, filter_map, slice_get, AllByRecursion}
 use Rattle.mr_model.specs.Slots.{Slot, Overlap}
-use Rattle.mr_model.specs.Writes.{Id, Meeting, Action, Books, Cancels, Write, id_of, same_id, choices, choices_of, length_of}
+use Rattle.mr_model.specs.Writes.{Id, Meeting, Action, Books, Cancels, Write, id_of, same_id, choices_of, length_of, choices_in, length_in}
 use Rattle.mr_model.specs.Replay.{Place, Taken, Logged, Done, Void, Booking, place_for, place_among, slot_at, booking_of, without_target, booked_with, replay}
 use Rattle.mr_model.specs.Board.{after}
 use Rattle.mr_model.specs.Replies.{Entry}
-use Rattle.mr_model.specs.View.{View, Placed, cancels_it, cancel_of, Told, tell, placed_with, whole_places, committed_places, booking_unless, booked_told, whole_list, committed_list, entry_with, entry_unless, entry_of, entry_before, put_entry, by_start}
+use Rattle.mr_model.specs.View.{View, Placed, cancels_it, cancel_of, Told, tell, placed_with, whole_places, committed_places, booking_unless, booked_told, whole_list, committed_list, entry_with, entry_unless, entry_of}
 use Rattle.mr_model.specs.Laws.{Shows, ShowsStanding, AreApart, fate_of, of_committed, as_committed}
 use Rattle.mr_model.specs.Dropped.{Has}
 use Rattle.mr_model.proofs.Members.{has_left, has_right, has_split, filter_has, all_has, has_all, has_filter_map, filter_map_has, find_has}
+use Rattle.mr_model.proofs.EntryOrder.{sorted_has, has_sorted}
 use Rattle.mr_model.proofs.UniqueReplay.{Meets, Choice, one_free, none_free, choice, first_free_taken, first_free_logged, before-stands, stands-before, some_inj}
 use Rattle.mr_model.proofs.PlacedInOrder.{placed_among, among-append, stand_alone, whole-places, standing-told, standing-told-of-committed, after-before}
 
 -- ---- entries
-
-has_put : (e x : Entry) (es : List Entry) → Has x (put_entry e es) → Has x (e ∷ es)
-has_put e x [] h = h
-has_put e x (y ∷ ys) h = go (entry_before e y) h (has_put e x ys)
-  where
-    go : (b : Bool) → Has x (cond b (e ∷ y ∷ ys) (y ∷ put_entry e ys)) → (Has x (put_entry e ys) → Has x (e ∷ ys)) → Has x (e ∷ y ∷ ys)
-    go true g ih = g
-    go false (inl s) ih = inr (inl s)
-    go false (inr g) ih = later (ih g)
-      where
-        later : Has x (e ∷ ys) → Has x (e ∷ y ∷ ys)
-        later (inl s) = inl s
-        later (inr k) = inr (inr k)
-
-put_has : (e x : Entry) (es : List Entry) → Has x (e ∷ es) → Has x (put_entry e es)
-put_has e x [] h = h
-put_has e x (y ∷ ys) h = go (entry_before e y) h (put_has e x ys)
-  where
-    go : (b : Bool) → Has x (e ∷ y ∷ ys) → (Has x (e ∷ ys) → Has x (put_entry e ys)) → Has x (cond b (e ∷ y ∷ ys) (y ∷ put_entry e ys))
-    go true g ih = g
-    go false (inl s) ih = inr (ih (inl s))
-    go false (inr (inl s)) ih = inl s
-    go false (inr (inr g)) ih = inr (ih (inr g))
-
-has_sorted : (x : Entry) (es : List Entry) → Has x (by_start es) → Has x es
-has_sorted x [] h = h
-has_sorted x (e ∷ es) h = go (has_put e x (by_start es) h) (has_sorted x es)
-  where
-    go : Has x (e ∷ by_start es) → (Has x (by_start es) → Has x es) → Has x (e ∷ es)
-    go (inl s) ih = inl s
-    go (inr g) ih = inr (ih g)
-
-sorted_has : (x : Entry) (es : List Entry) → Has x es → Has x (by_start es)
-sorted_has x [] h = h
-sorted_has x (e ∷ es) (inl s) = put_has e x (by_start es) (inl s)
-sorted_has x (e ∷ es) (inr h) = put_has e x (by_start es) (inr (sorted_has x es h))
 
 pub has_flat : {A B : Type 0} (f : A → List B) (x : A) (y : B) (xs : List A) → Has x xs → Has y (f x) → Has y (flat_map f xs)
 has_flat f x y [] h g = absurd h
@@ -114,13 +79,13 @@ module _ (t : Told) where
 pub shows_standing : (ts : List Told) (ws : List Write) → flat_map booked_told ts ≡ after [] ws → ShowsStanding ts ws
 shows_standing ts ws same = record {
   shown = λ e h.
-      let (t, i, is) = filter_map_has entry_of e ts (has_sorted e (filter_map entry_of ts) h) in
+      let (t, i, is) = filter_map_has entry_of e ts (sorted_has e (filter_map entry_of ts) h) in
       let (b, k, s) = entry-shows t e is in
       (b, before-stands ws (replay ws) (length ws) b (subst (λ bs. Has b bs) (same ∙ after-before ws) (has_flat booked_told t b ts i k)), s);
   all = λ b h.
       let (t, i, k) = flat_has booked_told b ts (subst (λ bs. Has b bs) (sym (same ∙ after-before ws)) (stands-before ws (replay ws) (length ws) b h)) in
       let (e, is, s) = booking-shown t b k in
-      (e, sorted_has e (filter_map entry_of ts) (has_filter_map entry_of t e ts is i), s);
+      (e, has_sorted e (filter_map entry_of ts) (has_filter_map entry_of t e ts is i), s);
 }
 
 pub calendars_show : (v : View) → ShowsStanding (whole_list v) (v.committed ++ v.tentative) × ShowsStanding (committed_list v) v.committed
@@ -179,11 +144,11 @@ apart_booked bs w Done e h = go w.action
 apart_booked bs w (Taken k) e h = go w.action refl (slot_at w (Taken k)) refl
   where
     go : (a : Action) → w.action ≡ a → (o : Option Slot) → slot_at w (Taken k) ≡ o → AreApart (bs ++ booking_of w o)
-    go a ea None eo = subst AreApart (sym (Rattle.std.proofs.Common.append-nil bs)) h
-    go (Cancels t) ea (Some s) eo = absurd (let g : ◌≡◌ {A = Option Slot} None (Some s) = sym (ap (λ x. slice_get (Rattle.mr_model.specs.Writes.choices_in x) k) ea) ∙ eo in cc)
+    go a ea None eo = subst AreApart (sym (append-nil bs)) h
+    go (Cancels t) ea (Some s) eo = absurd (let g : ◌≡◌ {A = Option Slot} None (Some s) = sym (ap (λ x. slice_get (choices_in x) k) ea) ∙ eo in cc)
     go (Books m) ea (Some s) eo =
         apart_last bs (record { id = id_of w; slot = s; length = length_of w }) h
-        (λ x. taken_free bs m k s (ap (place_for bs) (sym ea) ∙ e) (sym (ap (λ a. slice_get (Rattle.mr_model.specs.Writes.choices_in a) k) ea) ∙ eo) (subst (λ n. Meets bs s n) (ap Rattle.mr_model.specs.Writes.length_in ea) x))
+        (λ x. taken_free bs m k s (ap (place_for bs) (sym ea) ∙ e) (sym (ap (λ a. slice_get (choices_in a) k) ea) ∙ eo) (subst (λ n. Meets bs s n) (ap length_in ea) x))
 
 pub apart_after : (bs : List Booking) (ws : List Write) → AreApart bs → AreApart (after bs ws)
 apart_after bs [] h = h

@@ -1,5 +1,5 @@
 -- Calendars are told by the rows of bookings, those that stand and, of the committed ones, those whose cancel is tentative.
-use Rattle.std.proofs.Common.{◌≡◌, refl, sym, ap, ◌∙◌, subst, ◌+◌, ◌≤◌, true, false, List, [], ◌∷◌, ◌++◌, map, ◌⊎◌, inl, inr, Option, Some, None}
+use Rattle.std.proofs.Common.{◌≡◌, refl, sym, ap, ◌∙◌, subst, ◌+◌, ◌≤◌, true, false, List, [], ◌∷◌, ◌++◌, map, ◌⊎◌, inl, Option, Some, None}
 use Rattle.std.specs.Prelude.{option_map}
 use Rattle.std.specs.List.{filter_map, flat_map, cons_option}
 use Rattle.mr_model.specs.Dropped.{Has}
@@ -14,14 +14,14 @@ use Rattle.mr_model.specs.View.{View, Placed, Told, of_room, view_of, whole_plac
 use Rattle.mr_model.specs.Tables.{BookingRow, PlaceRow, place_row, as_booking, tables_of}
 use Rattle.mr_model.specs.Tables as rows
 use Rattle.mr_model.specs.Queries.{row_entry, BookingBefore, AreInStartOrder, AreBookingsOf}
-use Rattle.mr_model.proofs.Members.{has_left, has_right, has_map, map_has, has_filter_map, filter_map_has, has_all, all_has, Sorted, sorted_same}
+use Rattle.mr_model.proofs.Members.{has_left, has_map, map_has, has_filter_map, filter_map_has, has_all, all_has, Sorted, sorted_right, sorted_same}
 use Rattle.mr_model.proofs.UniqueReplay.{some_inj, none_some}
 use Rattle.mr_model.proofs.EntryOrder.{EntryBefore, entry_from, entry_irreflexive, entry_trans, by_start_sorted, sorted_has, has_sorted, Apart}
 use Rattle.mr_model.proofs.PlacedInOrder.{placed_among, committed-places, booked_by, booked_by-whole, booked_by-among, standing-told, standing-told-of-committed}
 use Rattle.mr_model.proofs.Runs.{BeginApart, all_apart, run-whole, run-committed, Went}
 use Rattle.mr_model.proofs.RoomTold.{IsToldOf, told_of_room, room_list, room-list, told_id, told_in_room, long_or_none}
 use Rattle.mr_model.proofs.PlacesOfOrder.{room-places, room_placed}
-use Rattle.mr_model.proofs.RowsById.{known_write}
+use Rattle.mr_model.proofs.RowsById.{has_flat, known_write}
 use Rattle.mr_model.proofs.RowsTell.{Case, stood, gone, erred, done, void, case_of, booked_as, erred_as, cancelled_as, cancel_as, of_known, known_of, entry-row}
 
 -- ---- entries of bookings that begin apart begin apart
@@ -48,15 +48,6 @@ entry_booked ts e h =
     let (t, g, f) = filter_map_has entry_of e ts h in
     let (b, i, s) = booking_of_entry t e f in
     (b, has_flat booked_told b t ts g (subst (λ bs. Has b bs) (sym i) (inl refl)), s)
-  where
-    has_flat : {A B : Type 0} (f : A → List B) (y : B) (x : A) (xs : List A) → Has x xs → Has y (f x) → Has y (flat_map f xs)
-    has_flat f y x [] h g = absurd h
-    has_flat f y x (z ∷ zs) (inl e) g = has_left y (f z) (flat_map f zs) (subst (λ u. Has y (f u)) e g)
-    has_flat f y x (z ∷ zs) (inr h) g = has_right y (f z) (flat_map f zs) (has_flat f y x zs h g)
-
-sorted_right : {A : Type 0} (P : A → A → Type 0) (xs ys : List A) → Sorted P (xs ++ ys) → Sorted P ys
-sorted_right P [] ys s = s
-sorted_right P (x ∷ xs) ys s = sorted_right P xs ys s.1
 
 entries_apart : (ts : List Told) → Sorted BeginApart (flat_map booked_told ts) → Sorted Apart (filter_map entry_of ts)
 entries_apart [] s = tt

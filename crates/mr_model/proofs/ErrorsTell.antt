@@ -10,17 +10,17 @@ use Rattle.std.specs.Str.{bytes_eq}
 use Rattle.mr_model.specs.Dropped.{Has}
 use Rattle.mr_model.specs.Texts.{Text}
 use Rattle.mr_model.specs.Slots.{Slot}
-use Rattle.mr_model.specs.Writes.{Id, Action, Books, Cancels, Write, id_of, same_id, stamp_before}
-use Rattle.mr_model.specs.Replay.{Place, Booking, slot_at, place_among, booked_with}
+use Rattle.mr_model.specs.Writes.{Id, Books, Write, id_of, same_id, stamp_before, Meeting}
+use Rattle.mr_model.specs.Replay.{Place, slot_at, Taken, Logged, Done, Void}
 use Rattle.mr_model.specs.Replica.{Replica, committed, tentative, order_of, IsReplica}
 use Rattle.mr_model.specs.Board.{after}
 use Rattle.mr_model.specs.Replies.{RequestLogged, CancelLogged}
 use Rattle.mr_model.specs.View.{Placed, Told, of_room, view_of, tell, whole_list, logging_with, logging_of}
-use Rattle.mr_model.specs.Tables.{ErrorRow, CancelRow, PlaceRow, seq_among, seq_of, place_row, as_error, as_cancel}
+use Rattle.mr_model.specs.Tables.{CancelRow, PlaceRow, seq_among, seq_of, place_row, as_error, as_cancel}
 use Rattle.mr_model.specs.Tables as rows
 use Rattle.mr_model.specs.Queries.{LogLine, OfRequest, OfVoid, line_seq, line_time, line_server, line_logging, LineBefore, both, one, none, AreInLogOrder, IsLineOf, AreErrorsOf, is_marked}
 use Rattle.mr_model.proofs.Members.{has_map, has_filter_map, filter_map_has, has_all, all_has, Sorted, sorted_same, sorted_filter, same_id-true, same_id_refl, among_not, Distinct}
-use Rattle.mr_model.proofs.OrderedSets.{before-true}
+use Rattle.mr_model.proofs.OrderedSets.{before-true, Before}
 use Rattle.mr_model.proofs.KnownById.{committed_ids, committed_known, tentative_known, tentative_sorted, distinct_commits}
 use Rattle.mr_model.proofs.UniqueReplay.{some_inj, none_some}
 use Rattle.mr_model.proofs.PlacedInOrder.{placed_among}
@@ -120,11 +120,11 @@ logging-line r room t k = go (case_of r room t k)
     mark : t.is_committed ≡ is_marked (seq_of r t.write)
     mark = k.mark ∙ committed-seq r t.write
 
-    taken : (m : Rattle.mr_model.specs.Writes.Meeting) (p : Place) (s : Slot) → slot_at t.write p ≡ Some s → logging_with t (Books m) p ≡ None
-    taken m (Rattle.mr_model.specs.Replay.Taken i) s o = refl
-    taken m Rattle.mr_model.specs.Replay.Logged s o = absurd (none_some s o)
-    taken m Rattle.mr_model.specs.Replay.Done s o = refl
-    taken m Rattle.mr_model.specs.Replay.Void s o = refl
+    taken : (m : Meeting) (p : Place) (s : Slot) → slot_at t.write p ≡ Some s → logging_with t (Books m) p ≡ None
+    taken m (Taken i) s o = refl
+    taken m Logged s o = absurd (none_some s o)
+    taken m Done s o = refl
+    taken m Void s o = refl
 
     go : Case r t → logging_of t ≡ option_map line_logging (line_in (place_row r t.write))
     go (stood m s f o c e) = ap (λ a. logging_with t a t.place) f ∙ taken m t.place s o ∙ sym (ap (λ x. option_map line_logging (line_in x)) e)
@@ -209,7 +209,7 @@ lines_sorted r room h =
         go a b (inr (inl p)) = let x = a.seq in let q = p.0 in one (omega (arith, x, q)) (b.seq ∙ p.1)
         go a b (inr (inr p)) = none (a.seq ∙ p.0) (b.seq ∙ p.1) (at (before-true t.write u.write p.2))
           where
-            at : Rattle.mr_model.proofs.OrderedSets.Before t.write u.write → (line_time l < line_time m) ⊎ ((line_time l ≡ line_time m) × (line_server l < line_server m))
+            at : Before t.write u.write → (line_time l < line_time m) ⊎ ((line_time l ≡ line_time m) × (line_server l < line_server m))
             at (inl q) = let x = a.time in let y = b.time in inl (omega (arith, x, y, q))
             at (inr q) = let x = a.server in let y = b.server in let s = q.1 in inr (a.time ∙ q.0 ∙ sym b.time, omega (arith, x, y, s))
 

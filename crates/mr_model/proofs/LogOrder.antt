@@ -1,5 +1,5 @@
 -- The kept writes in their order are the rows of the log, sorted.
-use Rattle.std.proofs.Common.{◌≡◌, sym, ap, ◌∙◌, subst, List, [], ◌∷◌, ◌++◌, map, inl, inr}
+use Rattle.std.proofs.Common.{◌≡◌, sym, ap, ◌∙◌, subst, List, [], ◌∷◌, map, inl, inr}
 use Rattle.std.proofs.lemmas.List.{map-append, length-map}
 use Rattle.mr_model.specs.Writes.{Write}
 use Rattle.mr_model.specs.Replica.{Replica, IsReplica}
@@ -9,17 +9,13 @@ use Rattle.mr_model.specs.View.{place_of}
 use Rattle.mr_model.specs.Dropped.{Has}
 use Rattle.mr_model.specs.Kept.{dropped_in_order, kept_in_order, LogBefore, both, one, none, AreInRunOrder, KeptIsTheLog}
 use Rattle.mr_model.proofs.OrderedSets.{before-true}
-use Rattle.mr_model.proofs.Members.{has_map, map_has, has_all, all_has, Sorted}
+use Rattle.mr_model.proofs.Members.{has_map, map_has, has_all, all_has, Sorted, sorted_right}
 use Rattle.mr_model.proofs.DroppedApart.{order-parts, kept_known, known_kept}
 use Rattle.mr_model.proofs.ErrorsTell.{OrderBefore, order_sorted}
 use Rattle.mr_model.proofs.RoomsApart.{replay_on-append}
 use Rattle.mr_model.proofs.PlacesOfOrder.{order-places, length-replay_on}
 use Rattle.mr_model.proofs.RowsOfKnown.{rows_of_known}
 use Rattle.mr_model.proofs.Orders.{append_split}
-
-sorted_behind : {A : Type 0} (P : A → A → Type 0) (xs ys : List A) → Sorted P (xs ++ ys) → Sorted P ys
-sorted_behind P [] ys s = s
-sorted_behind P (x ∷ xs) ys s = sorted_behind P xs ys s.1
 
 log_before : (r : Replica) (x y : Write) → OrderBefore r x y → LogBefore (log_row r x) (log_row r y)
 log_before r x y (inl p) = both p.0 p.1
@@ -36,7 +32,7 @@ pub kept_is_the_log : (r : Replica) → IsReplica r → KeptIsTheLog r
 kept_is_the_log r h =
     record {
       parts = order-parts r;
-      in_order = run_order r (kept_in_order r) (sorted_behind (OrderBefore r) (dropped_in_order r) (kept_in_order r) (subst (λ ws. Sorted (OrderBefore r) ws) (order-parts r) (order_sorted r h)));
+      in_order = run_order r (kept_in_order r) (sorted_right (OrderBefore r) (dropped_in_order r) (kept_in_order r) (subst (λ ws. Sorted (OrderBefore r) ws) (order-parts r) (order_sorted r h)));
       same_rows = λ row. (there row, back row);
       places = places.1;
     }

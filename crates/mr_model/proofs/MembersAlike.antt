@@ -5,7 +5,6 @@ use Rattle.std.specs.List.{filter}
 use Rattle.mr_model.specs.Slots.{Slot}
 use Rattle.mr_model.specs.Writes.{Id, Meeting, Action, Books, Cancels, Write, same_id, choices_of}
 use Rattle.mr_model.specs.Replay.{Place, Taken, Logged, Done, Void, Booking, first_free, is_booked, place_for, place_among, slot_at, booking_of, without_target, booked_with}
-use Rattle.mr_model.specs.Board.{after}
 use Rattle.mr_model.specs.Dropped.{Has}
 use Rattle.mr_model.proofs.Members.{has_left, has_right, has_split, has_filter, filter_has}
 use Rattle.mr_model.proofs.UniqueReplay.{Meets, meets, meets-true, meets_from, meets_has, has_meets, booked_has, has_booked}
@@ -87,12 +86,6 @@ with_alike bs cs same w (Taken k) = λ x. (more_of bs cs (booking_of w (slot_at 
 with_alike bs cs same w Logged = same
 with_alike bs cs same w Void = same
 with_alike bs cs same w Done = target_alike bs cs same w.action
-
-pub after_alike : (bs cs : List Booking) (ws : List Write) → SameMembers bs cs → SameMembers (after bs ws) (after cs ws)
-after_alike bs cs [] same = same
-after_alike bs cs (w ∷ ws) same =
-    after_alike (booked_with bs w (place_among bs w)) (booked_with cs w (place_among cs w)) ws
-    (subst (λ p. SameMembers (booked_with bs w (place_among bs w)) (booked_with cs w p)) (place_alike bs cs same w.action) (with_alike bs cs same w (place_among bs w)))
 
 pub among_alike : (mark : Bool) (bs cs : List Booking) (ws : List Write) → SameMembers bs cs → placed_among mark bs ws ≡ placed_among mark cs ws
 among_alike mark bs cs [] same = refl

@@ -1,6 +1,6 @@
 -- What a view tells, as the executions one after the other that it is; and which bookings it tells of as standing.
 use Rattle.std.proofs.Common.{◌≡◌, refl, sym, ap, ◌∙◌, ℕ, Bool, true, false, not, cond, List, [], ◌∷◌, ◌++◌, length, take, drop, Option, Some, None, append_assoc, append-nil}
-use Rattle.std.proofs.lemmas.List.Elements.{filter-append}
+use Rattle.std.proofs.lemmas.List.Elements.{filter-append, filter_agree}
 use Rattle.std.specs.List.{filter, flat_map}
 use Rattle.std.specs.Option.{is_none}
 use Rattle.mr_model.specs.Slots.{Slot}
@@ -81,10 +81,6 @@ booked_by-whole v =
 abbrev pub stays : List Placed → Booking → Bool
 stays ps b = is_none (cancel_of b.id ps)
 
-filter-alike : {A : Type 0} (f g : A → Bool) (xs : List A) → ((x : A) → f x ≡ g x) → filter f xs ≡ filter g xs
-filter-alike f g [] e = refl
-filter-alike f g (x ∷ xs) e = ap (λ b. cond b (x ∷ filter f xs) (filter f xs)) (e x) ∙ ap (λ ys. cond (g x) (x ∷ ys) ys) (filter-alike f g xs e)
-
 filter-all : {A : Type 0} (xs : List A) → filter (λ x. true) xs ≡ xs
 filter-all [] = refl
 filter-all (x ∷ xs) = ap (λ ys. x ∷ ys) (filter-all xs)
@@ -129,8 +125,8 @@ one_told bs q ps = go q.place refl
 
     same : (p : Place) → q.place ≡ p → (p ≡ Done → ⊥) → filter (stays ps) bs ≡ filter (stays (q ∷ ps)) bs
     same p e other =
-        filter-alike (stays ps) (stays (q ∷ ps)) bs
-        (λ b. sym (ap (λ x. is_none (cond x (Some q) (cancel_of b.id ps))) (ap (cancels_it b.id w.action) e ∙ not_done b.id w.action p other)))
+        filter_agree (stays ps) (stays (q ∷ ps))
+        (λ b. sym (ap (λ x. is_none (cond x (Some q) (cancel_of b.id ps))) (ap (cancels_it b.id w.action) e ∙ not_done b.id w.action p other))) bs
 
     quiet : (p : Place) → q.place ≡ p → (p ≡ Done → ⊥) → slot_at w p ≡ None → filter (stays ps) bs ≡ filter (stays (q ∷ ps)) bs ++ booking_unless (cancel_of (id_of w) ps) w p
     quiet p e other none =
@@ -138,8 +134,8 @@ one_told bs q ps = go q.place refl
 
     done : (a : Action) → w.action ≡ a → q.place ≡ Done → filter (stays ps) (without_target bs a) ≡ filter (stays (q ∷ ps)) bs
     done (Books m) ea e =
-        filter-alike (stays ps) (stays (q ∷ ps)) bs
-        (λ b. sym (ap (λ x. is_none (cond x (Some q) (cancel_of b.id ps))) (ap (λ y. cancels_it b.id y q.place) ea)))
+        filter_agree (stays ps) (stays (q ∷ ps))
+        (λ b. sym (ap (λ x. is_none (cond x (Some q) (cancel_of b.id ps))) (ap (λ y. cancels_it b.id y q.place) ea))) bs
     done (Cancels t) ea e =
         filter-filter (stays ps) (λ b. not (same_id b.id t)) (stays (q ∷ ps)) bs
         (λ b. each (same_id b.id t) (cancel_of b.id ps)

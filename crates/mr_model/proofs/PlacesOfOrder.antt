@@ -78,7 +78,7 @@ placed r w = record { write = w; is_committed = is_committed r (id_of w); place 
 pub placed_has : (mark : Bool) (bs : List Booking) (t : Placed) (ws : List Write) → Has t (placed_among mark bs ws) → Has t.write ws × (t.is_committed ≡ mark)
 placed_has mark bs t [] h = absurd h
 placed_has mark bs t (w ∷ ws) (inl e) = (inl (ap (λ (u : Placed). u.write) e), ap (λ (u : Placed). u.is_committed) e)
-placed_has mark bs t (w ∷ ws) (inr h) = let p = placed_has mark (Rattle.mr_model.specs.Replay.booked_with bs w (Rattle.mr_model.specs.Replay.place_among bs w)) t ws h in (inr p.0, p.1)
+placed_has mark bs t (w ∷ ws) (inr h) = let p = placed_has mark (booked_with bs w (place_among bs w)) t ws h in (inr p.0, p.1)
 
 pub has_placed : (mark : Bool) (bs : List Booking) (w : Write) (ws : List Write) → Has w ws → (t : Placed) × Has t (placed_among mark bs ws) × (t.write ≡ w)
 has_placed mark bs w ws h =

@@ -7,7 +7,7 @@ use Rattle.std.specs.List.{AllByRecursion, list_all, filter, filter_map, cons_op
 use Rattle.mr_model.specs.Texts.{Text, words, numbers_on}
 use Rattle.mr_model.specs.Calendar.{date_text, time_text}
 use Rattle.mr_model.specs.Slots.{Slot, is_slot, slot_words}
-use Rattle.mr_model.specs.Writes.{Id, Meeting, Action, Books, Cancels, Write, id_of, same_id, choices_of, is_title, is_length, fits_day, greatest_alternatives, is_meeting, is_action, is_write, is_server, is_count, is_time}
+use Rattle.mr_model.specs.Writes.{Id, Meeting, Action, Books, Cancels, Write, id_of, same_id, choices_of, is_title, is_length, fits_day, greatest_alternatives, is_meeting, is_action, is_write, is_server, is_count, is_time, is_stamp, is_room_name}
 use Rattle.mr_model.specs.Replica.{Replica, writes_of, count_of, is_among, IsReplica}
 use Rattle.mr_model.specs.Exchange.{slots_at}
 use Rattle.mr_model.specs.Tables.{MeetingCells, OfMeeting, OfCancel, LogRow, by_id, seq_among, choices_text, cells_of, log_row}
@@ -185,7 +185,7 @@ cells_same (Cancels t) (Books y) p q e = absurd (let f : OfCancel t ≡ OfMeetin
 cells_same (Cancels t) (Cancels u) p q e = ap Cancels (let f : OfCancel t ≡ OfCancel u = e in cc)
 
 pub action_within : (w : Write) → IsTrue (is_write w) → is_action w.action ≡ true
-action_within w ok = (and_parts (Rattle.mr_model.specs.Writes.is_stamp w.stamp && Rattle.mr_model.specs.Writes.is_room_name w.room) (is_action w.action) ok).1
+action_within w ok = (and_parts (is_stamp w.stamp && is_room_name w.room) (is_action w.action) ok).1
 
 -- a write is known again from its log row
 pub log_row_same : (a b : Replica) (x y : Write) → IsTrue (is_write x) → IsTrue (is_write y) → log_row a x ≡ log_row b y → x ≡ y

@@ -1,6 +1,6 @@
 -- The rows of tables are those of the known writes; and lists in key order are told by their members.
 use Rattle.std.proofs.Common.{◌≡◌, refl, sym, ap, ◌∙◌, subst, ℕ, ◌≤◌, Bool, true, false, not, eqb, List, [], ◌∷◌, map, inl, inr, Option, Some, arith, eqb-true, eq-eqb}
-use Rattle.std.proofs.lemmas.Bool.{true≢false, cond-true, cond-false, false_from_ne_true}
+use Rattle.std.proofs.lemmas.Bool.{true≢false, cond-true, cond-false, false_from_ne_true, not-true}
 use Rattle.std.specs.Prelude.{◌↔◌}
 use Rattle.std.specs.List.{filter, filter_map}
 use Rattle.mr_model.specs.Texts.{numbers_on}
@@ -9,7 +9,7 @@ use Rattle.mr_model.specs.Replica.{Replica, count_of, is_dropped, IsReplica}
 use Rattle.mr_model.specs.Tables.{VectorRow, Tables, by_id, vector_row, log_row, booking_row, error_row, cancelled_row, cancel_row, tables_of}
 use Rattle.mr_model.specs.Dropped.{Has}
 use Rattle.mr_model.specs.Changes.{IdBefore, RiseById, AreInKeyOrder, HasRowsOfKnown, SameRows, HaveSameRows, AreSameTables}
-use Rattle.mr_model.proofs.Members.{has_filter, filter_has, has_filter_map, filter_map_has, has_map, map_has}
+use Rattle.mr_model.proofs.Members.{has_filter, filter_has, has_filter_map, filter_map_has, has_map, map_has, sorted_same}
 use Rattle.mr_model.proofs.RowsById.{has_flat, flat_has, has_numbers, has_by_id, by_id_has}
 use Rattle.mr_model.proofs.TablesTell.{vector_entry, in_row, counted_server}
 use Rattle.mr_model.proofs.ErrorsTell.{sorted_map}
@@ -20,7 +20,7 @@ kept_rows : {R : Type 0} (r : Replica) (f : Write → R) (row : R) → IsReplica
 kept_rows r f row h = (
   (λ a. let (w, b, e) = map_has f row (filter (λ u. not (is_dropped r (id_of u))) (by_id r.known)) a in
       let p = filter_has (λ u. not (is_dropped r (id_of u))) w (by_id r.known) b in
-      (w, by_id_has r w p.0, Rattle.std.proofs.lemmas.Bool.not-true (is_dropped r (id_of w)) p.1, e)),
+      (w, by_id_has r w p.0, not-true (is_dropped r (id_of w)) p.1, e)),
   (λ (w, a, d, e). subst (λ x. Has x (map f (filter (λ u. not (is_dropped r (id_of u))) (by_id r.known)))) (sym e) (has_map f w (filter (λ u. not (is_dropped r (id_of u))) (by_id r.known)) (has_filter (λ u. not (is_dropped r (id_of u))) w (by_id r.known) (ap not d) (has_by_id r w h a)))),
 )
 
@@ -73,7 +73,7 @@ id_trans a b c (inr p) (inr q) = inr (p.0 ∙ q.0, omega (arith, p.1, q.1))
 
 pub one_in_key_order : {R : Type 0} (key : R → Id) (xs ys : List R) → RiseById (map key xs) → RiseById (map key ys) → SameRows xs ys → xs ≡ ys
 one_in_key_order key xs ys a b m =
-    Rattle.mr_model.proofs.Members.sorted_same (λ x y. IdBefore (key x) (key y)) (λ x. id_irreflexive (key x)) (λ x y z. id_trans (key x) (key y) (key z)) xs ys
+    sorted_same (λ x y. IdBefore (key x) (key y)) (λ x. id_irreflexive (key x)) (λ x y z. id_trans (key x) (key y) (key z)) xs ys
     (sorted_map IdBefore key xs a) (sorted_map IdBefore key ys b) (λ x h. (m x).0 h) (λ x h. (m x).1 h)
 
 -- tables in the order of their keys with the same rows are equal

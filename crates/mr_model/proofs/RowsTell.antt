@@ -10,12 +10,13 @@ use Rattle.mr_model.specs.Writes.{Id, Meeting, Action, Books, Cancels, Write, id
 use Rattle.mr_model.specs.Replay.{Place, Taken, Logged, Done, Void, slot_at}
 use Rattle.mr_model.specs.Replica.{Replica, is_committed, IsReplica}
 use Rattle.mr_model.specs.Replies.{NotBooked, Cancelled, CancelDone, CancelVoid, Reply, OutcomeIs, Refused}
-use Rattle.mr_model.specs.View.{View, Placed, Told, view_of, cancels_it, tell, whole_list, entry_with, entry_unless, entry_of, logging_with, logging_of, outcome_with, booking_outcome, cancel_outcome_at, outcome_for, outcome_of, told_of, outcome_reply}
+use Rattle.mr_model.specs.View.{Placed, Told, view_of, cancels_it, whole_list, entry_with, entry_unless, entry_of, outcome_with, booking_outcome, cancel_outcome_at, outcome_for, outcome_of, told_of, outcome_reply}
 use Rattle.mr_model.specs.Step.{outcome_at}
 use Rattle.mr_model.specs.Tables.{BookingRow, ErrorRow, CancelledRow, CancelRow, PlaceRow, by_id, seq_of, booked_in, erred_in, taken_back, cancel_row_for, booking_place_row, place_row_for, place_row, as_booking, as_error, as_cancelled, as_cancel, tables_of}
 use Rattle.mr_model.specs.Tables as rows
 use Rattle.mr_model.specs.Queries as told
 use Rattle.mr_model.specs.Queries.{booking_id, error_id, cancelled_id, cancel_id, is_marked, row_entry, booked_outcome, logged_outcome, cancelled_outcome, IsCancelOf, TellsOutcome, IsRowFor}
+use Rattle.mr_model.specs.Refusals.{NoSuchRequest}
 use Rattle.mr_model.proofs.Members.{has_filter_map, filter_map_has, find_none, same_id-true}
 use Rattle.mr_model.proofs.KnownById.{one_known}
 use Rattle.mr_model.proofs.UniqueReplay.{some_inj, none_some}
@@ -152,12 +153,6 @@ back_of r room t c h a e =
         (let q = k.place in let c = k.cancelled in λ j. place_row_for u.write (g j) (q j) (c j) (is_committed r (told_id u)) (seq_of r u.write))
         ∙ ap (λ q. rows.Cancel (cancel_row_for u.write x q (seq_of r u.write))) p
 
--- as is told, the reply
-record Tells (r : Replica) (w : Write) (p : PlaceRow) (reply told_reply : Reply) : Type 0 where
-  is_row : place_row r w ≡ p
-  is_reply : reply ≡ told_reply
-  tells : TellsOutcome (tables_of r) p told_reply
-
 outcome_told : (r : Replica) (room : Text) (t : Told) → IsReplica r → Has t (room_list r room) → TellsOutcome (tables_of r) (place_row r t.write) (OutcomeIs (outcome_of t))
 outcome_told r room t h a = go (case_of r room t k)
   where
@@ -197,12 +192,12 @@ outcome_told r room t h a = go (case_of r room t k)
         (told.of_error (erred_as r t.write m))
     go (done x f p e) =
         turn (rows.Cancel (cancel_as r t.write x true)) e (OutcomeIs (told.cancel_outcome (cancel_as r t.write x true)))
-        (ap (λ y. OutcomeIs (outcome_for t y)) f ∙ ap (λ q. OutcomeIs (Rattle.mr_model.specs.View.cancel_outcome_at t x q)) p
+        (ap (λ y. OutcomeIs (outcome_for t y)) f ∙ ap (λ q. OutcomeIs (cancel_outcome_at t x q)) p
         ∙ ap (λ y. OutcomeIs (CancelDone (told_id t) y x)) (k.mark ∙ seq-mark))
         (told.of_cancel (cancel_as r t.write x true))
     go (void x f p e) =
         turn (rows.Cancel (cancel_as r t.write x false)) e (OutcomeIs (told.cancel_outcome (cancel_as r t.write x false)))
-        (ap (λ y. OutcomeIs (outcome_for t y)) f ∙ ap (λ q. OutcomeIs (Rattle.mr_model.specs.View.cancel_outcome_at t x q)) p
+        (ap (λ y. OutcomeIs (outcome_for t y)) f ∙ ap (λ q. OutcomeIs (cancel_outcome_at t x q)) p
         ∙ ap (λ y. OutcomeIs (CancelVoid (told_id t) y x)) (k.mark ∙ seq-mark))
         (told.of_cancel (cancel_as r t.write x false))
 
@@ -266,7 +261,7 @@ row_in_is r (rows.Cancelled row) h = let (w, a, e) = known_of as_cancelled r row
 row_in_is r (rows.Cancel row) h = let (w, a, e) = known_of as_cancel r row h in (w, a, cancel_is row (place_row r w) e)
 
 -- an id with no row of the room is no request or cancel of it
-pub none_told : (r : Replica) (room : Text) (id : Id) → IsReplica r → ((p : PlaceRow) → told.IsRowIn (tables_of r) p → told.row_room p ≡ room → told.row_id p ≡ id → ⊥) → outcome_reply (told_of id (whole_list (view_of r room))) ≡ Refused Rattle.mr_model.specs.Refusals.NoSuchRequest
+pub none_told : (r : Replica) (room : Text) (id : Id) → IsReplica r → ((p : PlaceRow) → told.IsRowIn (tables_of r) p → told.row_room p ≡ room → told.row_id p ≡ id → ⊥) → outcome_reply (told_of id (whole_list (view_of r room))) ≡ Refused NoSuchRequest
 none_told r room id h f =
     ap (λ ts. outcome_reply (told_of id ts)) (room-list r room)
     ∙ ap outcome_reply (find_none (λ t. same_id (told_id t) id) (room_list r room) none)
@@ -283,7 +278,7 @@ pub none_in_room : (r : Replica) (room : Text) (id : Id) → IsReplica r
     → ((row : ErrorRow) → Has row (tables_of r).errorlog → row.room ≡ room → error_id row ≡ id → ⊥)
     → ((row : CancelledRow) → Has row (tables_of r).cancelled → row.room ≡ room → cancelled_id row ≡ id → ⊥)
     → ((row : CancelRow) → Has row (tables_of r).cancels → row.room ≡ room → cancel_id row ≡ id → ⊥)
-    → outcome_reply (told_of id (whole_list (view_of r room))) ≡ Refused Rattle.mr_model.specs.Refusals.NoSuchRequest
+    → outcome_reply (told_of id (whole_list (view_of r room))) ≡ Refused NoSuchRequest
 none_in_room r room id h a b c d = none_told r room id h each
   where
     each : (p : PlaceRow) → told.IsRowIn (tables_of r) p → told.row_room p ≡ room → told.row_id p ≡ id → ⊥

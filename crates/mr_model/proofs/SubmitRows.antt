@@ -1,5 +1,5 @@
 -- The rows that a submission changes.
-use Rattle.std.proofs.Common.{◌≡◌, refl, sym, ap, ◌∙◌, subst, ℕ, suc, ◌+◌, ◌-◌, ◌<◌, ◌≤◌, max, Bool, true, false, cond, ◌&&◌, eqb, ltb, List, [], ◌∷◌, length, ◌⊎◌, inl, inr, Option, Some, None, arith, IsTrue, eqb-true, eq-eqb}
+use Rattle.std.proofs.Common.{◌≡◌, refl, sym, ap, ◌∙◌, subst, ℕ, suc, ◌+◌, ◌-◌, ◌<◌, ◌≤◌, max, Bool, true, false, cond, ◌&&◌, eqb, ltb, List, [], ◌∷◌, length, ◌⊎◌, inl, inr, Option, Some, None, arith, IsTrue, eqb-true, eq-eqb, ltb-true, ne_eqb}
 use Rattle.std.proofs.lemmas.Bool.{true≢false, and_parts, or_cases, cond-true, cond-false, false_from_ne_true, cases_eq}
 use Rattle.std.proofs.lemmas.Slice.Eq.{bytes_eq-Decides}
 use Rattle.std.specs.List.{AllByRecursion, filter_map, list_any}
@@ -50,7 +50,7 @@ name_irreflexive [] e = true≢false (sym e)
 name_irreflexive (c ∷ cs) e = go (or_cases (ltb c c) (eqb c c && text_before cs cs) e) (name_irreflexive cs)
   where
     go : (ltb c c ≡ true) ⊎ ((eqb c c && text_before cs cs) ≡ true) → (text_before cs cs ≡ true → ⊥) → ⊥
-    go (inl l) ih = let m : c < c = Rattle.std.proofs.Common.ltb-true c c l in omega (arith, m)
+    go (inl l) ih = let m : c < c = ltb-true c c l in omega (arith, m)
     go (inr l) ih = ih (and_parts (eqb c c) (text_before cs cs) l).1
 
 -- a name before all of these is none of them
@@ -253,7 +253,7 @@ submit_changes r w h n late known =
 
     other_row : (s : ℕ) → (s ≡ w.stamp.server → ⊥) → vector_row (add_write r w) s ≡ vector_row r s
     other_row s ne =
-        let f : eqb w.stamp.server s ≡ false = Rattle.std.proofs.Common.ne_eqb w.stamp.server s (λ e. ne (sym e)) in
+        let f : eqb w.stamp.server s ≡ false = ne_eqb w.stamp.server s (λ e. ne (sym e)) in
         let c : count_of (add_write r w) s ≡ count_of r s = count-with_write (λ v. eqb v.stamp.server s) w r.known ∙ cond-false (eqb w.stamp.server s) (suc (count_of r s)) (count_of r s) f in
         let l : last_time (add_write r w) s ≡ last_time r s = greatest-with_write (λ v. eqb v.stamp.server s) w r.known ∙ cond-false (eqb w.stamp.server s) (max w.stamp.time (last_time r s)) (last_time r s) f in
         λ i. cond (eqb (c i) 0) [] (record { server = s; count = c i; last_time = l i; committed = committed_count r s } ∷ [])

@@ -1,6 +1,6 @@
 -- The rows that a truncation takes away.
-use Rattle.std.proofs.Common.{◌≡◌, refl, sym, ap, ◌∙◌, subst, ℕ, zero, suc, ◌+◌, ◌-◌, ◌<◌, ◌≤◌, max, Bool, true, false, not, cond, leb, List, [], ◌∷◌, take, inl, inr, Some, arith, le_refl, leb-true, le-leb}
-use Rattle.std.proofs.lemmas.Bool.{true≢false, and_parts, and_from, false_from_ne_true}
+use Rattle.std.proofs.Common.{◌≡◌, refl, sym, ap, ◌∙◌, subst, ℕ, zero, suc, ◌+◌, ◌-◌, ◌<◌, ◌≤◌, max, Bool, true, false, not, cond, leb, List, [], ◌∷◌, take, inl, inr, Some, arith, le_refl, leb-true, le-leb, not-suc-le-zero, le_of_suc-le-suc}
+use Rattle.std.proofs.lemmas.Bool.{true≢false, and_parts, and_from, false_from_ne_true, not-true}
 use Rattle.std.specs.List.{filter, slice_get}
 use Rattle.mr_model.specs.Texts.{within}
 use Rattle.mr_model.specs.Writes.{Id, Write, id_of, same_id}
@@ -28,10 +28,10 @@ seq_high k (suc n) (x ∷ xs) id h = go (same_id x id) refl h (seq_high (k + 1) 
 
 -- the element at a place before n is one of the first n
 pub slice_in_front : {A : Type 0} (n i : ℕ) (x : A) (xs : List A) → slice_get xs i ≡ Some x → i < n → Has x (take n xs)
-slice_in_front zero i x xs e l = absurd (Rattle.std.proofs.Common.not-suc-le-zero l)
+slice_in_front zero i x xs e l = absurd (not-suc-le-zero l)
 slice_in_front (suc n) i x [] e l = absurd (none_some x e)
 slice_in_front (suc n) zero x (y ∷ ys) e l = inl (sym (some_inj y x e))
-slice_in_front (suc n) (suc i) x (y ∷ ys) e l = inr (slice_in_front n i x ys e (Rattle.std.proofs.Common.le_of_suc-le-suc l))
+slice_in_front (suc n) (suc i) x (y ∷ ys) e l = inr (slice_in_front n i x ys e (le_of_suc-le-suc l))
 
 -- the first n of a list of ids are those with the numbers 1 to n
 pub front-seq : (n : ℕ) (ids : List Id) (id : Id) → is_among id (take n ids) ≡ within 1 n (seq_among 1 ids id)
@@ -66,9 +66,6 @@ truncate_changes r n h =
       cancels = refl;
     }
   where
-    d : Write → Bool
-    d v = is_dropped (after_truncate r n) (id_of v)
-
     -- what stays kept was kept
     was_kept : (v : Write) → is_dropped (after_truncate r n) (id_of v) ≡ false → is_dropped r (id_of v) ≡ false
     was_kept v e =
@@ -82,7 +79,7 @@ truncate_changes r n h =
             and_from (leb 1 (seq_of r x)) (leb (seq_of r x) (max r.dropped n)) p.0 (le-leb (seq_of r x) (max r.dropped n) (omega (arith, high)))
 
     kept_from : (x : Replica) (v : Write) → Has v (filter (λ u. not (is_dropped x (id_of u))) (by_id x.known)) → Has v (by_id x.known) × (is_dropped x (id_of v) ≡ false)
-    kept_from x v a = let p = filter_has (λ u. not (is_dropped x (id_of u))) v (by_id x.known) a in (p.0, Rattle.std.proofs.lemmas.Bool.not-true (is_dropped x (id_of v)) p.1)
+    kept_from x v a = let p = filter_has (λ u. not (is_dropped x (id_of u))) v (by_id x.known) a in (p.0, not-true (is_dropped x (id_of v)) p.1)
 
     to_kept : (x : Replica) (v : Write) → Has v (by_id x.known) → is_dropped x (id_of v) ≡ false → Has v (filter (λ u. not (is_dropped x (id_of u))) (by_id x.known))
     to_kept x v a e = has_filter (λ u. not (is_dropped x (id_of u))) v (by_id x.known) (ap not e) a

@@ -13,6 +13,7 @@ use Rattle.mr_model.specs.View.{Placed, of_room, cancel_of, placed_in, place_or_
 use Rattle.mr_model.specs.Dropped.{Has, DifferInDropped}
 use Rattle.mr_model.specs.Kept.{dropped_in_order, kept_in_order}
 use Rattle.mr_model.specs.Changes.{IsNext}
+use Rattle.mr_model.specs.Board.{after}
 use Rattle.mr_model.proofs.Members.{has_left, same_id_from, has_among, take_drop}
 use Rattle.mr_model.proofs.PlacedInOrder.{placed_among, placed_id}
 use Rattle.mr_model.proofs.MembersAlike.{among_alike}
@@ -78,7 +79,7 @@ twin_rows a b a' b' s t d kept x y h g e f =
         ∙ ap (λ ws. ids (or_else (cancel_of (id_of w) (placed_among false [] (of_room w.room ws))) (cancel_of (id_of w) (later_list new w.room)))) q.list
 
     board : (r new : Replica) (room : Text) → DroppedStay r new → later_list new room ≡ later_from room (dropped_board r room) (kept_in_order new)
-    board r new room q = ap (λ ws. later_from room (Rattle.mr_model.specs.Board.after [] (of_room room ws)) (kept_in_order new)) q.list
+    board r new room q = ap (λ ws. later_from room (after [] (of_room room ws)) (kept_in_order new)) q.list
 
     later : later_list a' x.room ≡ later_list b' y.room
     later =

@@ -1,6 +1,6 @@
 -- Each step of two replicas that differ in dropped writes alone leaves two such replicas, and most replies are plainly the same.
 use Rattle.std.proofs.Common.{◌≡◌, refl, sym, ap, ◌∙◌, subst, ℕ, zero, suc, ◌+◌, ◌-◌, ◌≤◌, max, Bool, true, false, not, cond, ◌&&◌, eqb, ltb, List, [], ◌∷◌, ◌++◌, length, map, take, drop, inl, inr, Option, Some, None, Result, Ok, Err, arith, ltb-false}
-use Rattle.std.specs.Prelude.{flat_map}
+use Rattle.std.specs.Prelude.{flat_map, is_none}
 use Rattle.std.specs.List.{AllByRecursion, list_any, enumerate_from}
 use Rattle.std.specs.Str.{bytes_eq}
 use Rattle.mr_model.specs.Texts.{Text, only_if, numbers_on}
@@ -11,9 +11,10 @@ use Rattle.mr_model.specs.Exchange.{Second, Item, C, Header, Batch, read_batch}
 use Rattle.mr_model.specs.Positions.{Position, counts_of, position_of}
 use Rattle.mr_model.specs.Taking.{Progress, take_items}
 use Rattle.mr_model.specs.Replies.{Reply, Took, CommittedIs, DroppedIs, Refused}
-use Rattle.mr_model.specs.Step.{After, Submission, refuse, step_unless, add_room, submit_faults, write_of, outcome_at, after_write, submit, knows_booking, cancel_faults, cancel_write, cancel, after_items, receive_under, receive_read, receive, commit, truncate, item_if_lacked, commit_items, items_for, ending_of, batch_of, batch_unless, is_beyond, batch_faults, batch_reply, reply_to_position, leave}
+use Rattle.mr_model.specs.Step.{After, Submission, refuse, step_unless, add_room, submit_faults, write_of, outcome_at, after_write, submit, knows_booking, cancel_faults, cancel_write, cancel, after_items, receive_under, receive_read, receive, commit, truncate, item_if_lacked, commit_items, items_for, ending_of, batch_of, batch_unless, is_beyond, batch_reply, reply_to_position, leave, choice_words, is_bad_length}
 use Rattle.mr_model.specs.Dropped.{Has, DifferInDropped}
 use Rattle.mr_model.specs.Changes.{IsNext}
+use Rattle.mr_model.specs.Calendar.{read_date, read_time}
 use Rattle.mr_model.proofs.TakingKeeps.{IsItem, BatchWithin, batch_within}
 use Rattle.mr_model.proofs.CommitsKeep.{keeps-commit}
 use Rattle.mr_model.proofs.StepsKeep.{submitted_within, cancelled_within}
@@ -104,9 +105,9 @@ same_faults a b s d =
     let rs = d.rooms in
     let n = own_counts a b d in
     let c = d.clock in
-    λ i. (list_any (λ w. Rattle.std.specs.Prelude.is_none (Rattle.mr_model.specs.Calendar.read_date w.day)) (Rattle.mr_model.specs.Step.choice_words s), BadDay)
-    ∷ (list_any (λ w. Rattle.std.specs.Prelude.is_none (Rattle.mr_model.specs.Calendar.read_time w.time)) (Rattle.mr_model.specs.Step.choice_words s), BadTime)
-    ∷ (Rattle.mr_model.specs.Step.is_bad_length s, BadLength)
+    λ i. (list_any (λ w. is_none (read_date w.day)) (choice_words s), BadDay)
+    ∷ (list_any (λ w. is_none (read_time w.time)) (choice_words s), BadTime)
+    ∷ (is_bad_length s, BadLength)
     ∷ (not (is_room_name s.room), BadRoomName)
     ∷ (not (is_title s.title), BadTitle)
     ∷ (ltb greatest_alternatives (length s.alternatives), TooManyAlternatives)

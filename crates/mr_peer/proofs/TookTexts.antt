@@ -8,9 +8,10 @@ use Rattle.std.specs.Fmt.{decimal}
 use Rattle.mr_model.specs.Texts.{Text, within, only_if, number_in, number_at, first_word, behind}
 use Rattle.mr_model.proofs.WordsReadBack.{all_append, first_word_of, after_word_of, decimal-plain, number-decimal}
 use Rattle.mr_model.proofs.BatchesReadBack.{only_if_some, own_text, only_own}
+use Rattle.mr_base.proofs.Readers.{same_reading}
 use Rattle.mr_wire.specs.Fields.{◌>>=◌, number_off, behind_word}
 use Rattle.mr_wire.proofs.FieldLaws.{bind_some, number_off_takes, number_off_again}
-use Rattle.mr_wire.proofs.LineLaws.{agree, behind_takes, behind_again}
+use Rattle.mr_wire.proofs.LineLaws.{behind_takes, behind_again}
 use Rattle.mr_wire.proofs.Ascii.{Low, is_text, number_low}
 use Rattle.mr_peer.specs.Took.{greatest_told, are_told, took_text, took_numbers, read_took}
 use Rattle.mr_peer.specs.TookWords.{last_word, took_on}
@@ -92,7 +93,7 @@ read_takes text x e = let o = own_text are_told took_text (took_numbers text) x 
 
 pub took_is : (text : Text) → took_on text ≡ read_took text
 took_is text =
-    agree (took_on text) (read_took text)
+    same_reading (took_on text) (read_took text)
     (λ x e. let t = words_take text x e in ap read_took t.1 ∙ read_again x t.0)
     (λ x e. let t = read_takes text x e in ap took_on t.1 ∙ words_again x t.0)
 

@@ -1,5 +1,5 @@
 -- Rows that are hidden, and a journal that leads back: what a replay in place does to the list of rows.
-use Rattle.std.proofs.Common.{◌≡◌, ◌∙◌, Bool, true, false, not, cond, length, ℕ, take, List, [], ◌∷◌, ◌++◌, Option, Some, None, IfSome, IsTrue, is_some, Result, Ok, Err, OnOk, OnErr, ap, refl, sym, subst, arith}
+use Rattle.std.proofs.Common.{◌≡◌, ◌∙◌, Bool, true, false, not, cond, ℕ, take, List, [], ◌∷◌, ◌++◌, Option, Some, None, IfSome, IsTrue, is_some, Result, Ok, Err, OnOk, OnErr, ap, refl, sym, subst}
 use Rattle.std.specs.BTreeMap.{insert_entry}
 use Rattle.std.specs.BTreeSet.{BTreeSet, contains}
 use Rattle.std.specs.List.{AllByRecursion}
@@ -207,10 +207,6 @@ LeadsFrom-back old b js e h =
     (parts.1, record { back = sym (put_all_back-push b js e) ∙ h.back; places = parts.0 })
 
 -- ---- what the end of a loop and a call that can't fail leave
-
-pub no_more : {X : Type 0} (xs : List X) → length xs ≡ 0 → xs ≡ []
-no_more [] h = refl
-no_more (x ∷ xs) h = let never : ⊥ = omega arith in absurd never
 
 pub none_left : {X : Type 0} (k : ℕ) (xs : List X) → k ≡ 0 → take k xs ≡ []
 none_left k xs h = rw h refl

@@ -191,12 +191,6 @@ IsIndexed-grown rows old new grows h = record {
 abbrev pub Forgets : BTreeSet IndexKey → BTreeSet IndexKey → Option IndexKey → Option IndexKey → Type 0
 Forgets old new key kept = (k : IndexKey) → (key ≡ Some k → kept ≡ Some k) → IsTrue (has old k) → IsTrue (has new k)
 
-pub none_is : {A : Type 0} (a : A) → None ≡ Some a → ⊥
-none_is a e = cc
-
-pub one_some : {A : Type 0} (a b : A) → Some a ≡ Some b → a ≡ b
-one_some a b e = cc
-
 -- forgetting a row's key keeps those of rows of other ids
 pub Forgets-others : (old new : BTreeSet IndexKey) (key kept : Option IndexKey) (i : Id) (row : Row) → key ≡ key_if_taken i row → Forgets old new key kept → KeepsOthers old new i
 Forgets-others old new key kept i row is h = λ j r apart noted k own. h k (λ e. absurd (apart_keys j i r row k apart own (sym is ∙ e))) (noted k own)

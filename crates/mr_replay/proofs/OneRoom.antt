@@ -1,7 +1,6 @@
 -- What executing a write and undoing it do to the rows of one room.
 use Rattle.std.proofs.Common.{◌≡◌, Bool, true, false, cond, List, [], ◌∷◌, ◌++◌, map, Option, Some, None, ap, refl, sym, ◌∙◌, subst}
 use Rattle.std.specs.Prelude.{option_map}
-use Rattle.std.specs.BTreeMap.{insert_entry}
 use Rattle.std.specs.Str.{bytes_eq}
 use Rattle.std.proofs.lemmas.Bool.{true≢false, false_from_ne_true}
 use Rattle.mr_model.specs.Texts.{Text}
@@ -12,8 +11,7 @@ use Rattle.mr_model.specs.Board.{after}
 use Rattle.mr_model.specs.View.{cancels_it}
 use Rattle.mr_model.specs.Dropped.{Has}
 use Rattle.mr_model.proofs.Members.{same_id-true, same_id_refl}
-use Rattle.mr_model.proofs.UniqueReplay.{booked_has}
-use Rattle.mr_base.specs.Ids.{id_cmp}
+use Rattle.mr_model.proofs.UniqueReplay.{none_some, booked_has}
 use Rattle.mr_replay.specs.declared.rows.Standing.TheVariants.{Booked, CancelledBy, InErrorLog}
 use Rattle.mr_replay.specs.declared.rows.Kept.{Kept}
 use Rattle.mr_replay.specs.declared.rows.Kept.TheVariants.{OfBooking, OfCancel}
@@ -26,9 +24,6 @@ use Rattle.mr_replay.proofs.Marked.{change_if, nothing-changed, row_at-changed, 
 use Rattle.mr_replay.proofs.Lists.{one_name, same_name, other_name}
 use Rattle.mr_replay.proofs.ToldRows.{BearsNot, rows-push, rows-none, rows-bear, booked_at, after-row}
 use Rattle.mr_replay.proofs.PlacesOnBoard.{booking-row, same_place}
-
-some_not_none : {A : Type 0} (x : A) → Some x ≡ None → ⊥
-some_not_none x e = cc
 
 -- ---- order
 
@@ -48,25 +43,6 @@ in_order-undone i Done None b h = in_order-removed b i h
 in_order-undone i (Taken k) o b h = in_order-removed b i h
 in_order-undone i Logged o b h = in_order-removed b i h
 in_order-undone i Void o b h = in_order-removed b i h
-
--- ---- an execution puts a row, or marks one
-
-pub executed-row : (b : Rows) (w : Write) (p : Place) (row : Row) → row_of w p None ≡ Some row → executed_at b w p ≡ insert_entry id_cmp b (id_of w) row
-executed-row b w p row is = go w.action p is
-  where
-    go : (a : Action) (p : Place) → option_map (λ k. record { room = w.room; kept = k }) (kept_for w a p None) ≡ Some row
-        → with_row (id_of w) (option_map (λ k. record { room = w.room; kept = k }) (kept_for w a p None)) (marked_by (id_of w) p (target_of a) b) ≡ insert_entry id_cmp b (id_of w) row
-    go (Books m) (Taken k) e = ap (λ o. with_row (id_of w) o b) e
-    go (Books m) Logged e = ap (λ o. with_row (id_of w) o b) e
-    go (Books m) Done e = ap (λ o. with_row (id_of w) o b) e
-    go (Books m) Void e = ap (λ o. with_row (id_of w) o b) e
-    go (Cancels t) (Taken k) e = ap (λ o. with_row (id_of w) o b) e
-    go (Cancels t) Logged e = ap (λ o. with_row (id_of w) o b) e
-    go (Cancels t) Void e = ap (λ o. with_row (id_of w) o b) e
-    go (Cancels t) Done e = absurd (some_not_none row (sym e))
-
-pub executed-mark : (b : Rows) (w : Write) (p : Place) → row_of w p None ≡ None → executed_at b w p ≡ marked_by (id_of w) p (target_of w.action) b
-executed-mark b w p is = ap (λ o. with_row (id_of w) o (marked_by (id_of w) p (target_of w.action) b)) is
 
 -- ---- the part of the rows that is looked at: those of a room, or the bookings of a room
 
@@ -298,7 +274,7 @@ if_of-apart room other (Some r) row h e = go (bytes_eq r.room room) refl h
   where
     go : (b : Bool) → bytes_eq r.room room ≡ b → cond b (Some r) None ≡ Some row → if_of other (Some r) ≡ None
     go true is g = ap (λ t. cond t (Some r) None) (other_name r.room room other (one_name r.room room is) e)
-    go false is g = absurd (some_not_none row (sym g))
+    go false is g = absurd (none_some row g)
 
 -- what no room has is not on the board
 pub absent : (o : Option Row) → ((room : Text) → if_of room o ≡ None) → o ≡ None
@@ -313,7 +289,7 @@ same_row (Some x) (Some y) h = by (bytes_eq y.room x.room) (sym (ap (λ t. cond 
   where
     by : (b : Bool) → Some x ≡ cond b (Some y) None → Some x ≡ Some y
     by true e = e
-    by false e = absurd (some_not_none x e)
+    by false e = absurd (none_some x (sym e))
 
 -- ---- in its own room
 
@@ -401,7 +377,7 @@ other-undone room other ws b w away ordered distinct new holds q =
         let (x, h, at) = booked_has q (after [] ws) (cancels_booked (after [] ws) w.action q e) in
         let (row, is) = some_row x (row_in (told_list ws) x.id) (after-row ws x distinct h) in
         let there : row_in (told_list ws) q ≡ Some row = ap (row_in (told_list ws)) (sym at) ∙ is in
-        let not_own : same_id q i ≡ false = false_from_ne_true (same_id q i) (λ s. some_not_none row (sym there ∙ rows-none ws q (ap (λ j. is_among j (map id_of ws)) (same_id-true q i s) ∙ new))) in
+        let not_own : same_id q i ≡ false = false_from_ne_true (same_id q i) (λ s. none_some row (sym (rows-none ws q (ap (λ j. is_among j (map id_of ws)) (same_id-true q i s) ∙ new)) ∙ there)) in
         not_of_other q (change (with_mark i) row)
         (rows-push ws w q new
         ∙ ap (λ c. cond c (row_of w p None) (change_if (with_mark i) (cancels_it q w.action p) (row_in (told_list ws) q))) not_own

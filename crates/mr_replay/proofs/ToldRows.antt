@@ -11,16 +11,13 @@ use Rattle.mr_model.specs.Board.{after}
 use Rattle.mr_model.specs.View.{Placed, placed_with, cancels_it, cancel_of, Told, tell, booking_unless, booked_told, told_of}
 use Rattle.mr_model.specs.Dropped.{Has}
 use Rattle.mr_model.proofs.Members.{has_left, has_right, has_split, has_map, find_has, has_among, same_id-true, same_id_from}
-use Rattle.mr_model.proofs.PlacedInOrder.{placed_among, placed_with-replay, booked_by, booked_by-among, unless_taken, told-stand}
+use Rattle.mr_model.proofs.PlacedInOrder.{placed_among, placed_with-replay, booked_by, booked_by-among, unless_taken, told-stand, placed_id}
 use Rattle.mr_replay.specs.declared.rows.Kept.{Kept}
 use Rattle.mr_replay.specs.declared.rows.Row.{Row}
 use Rattle.mr_replay.specs.Rows.{booking_kept, kept_with, kept_for, row_of, with_mark, change}
 use Rattle.mr_replay.specs.Holds.{AreDistinct, HaveDistinctIds, bears, told_list, told_row, row_if, row_in}
 use Rattle.mr_replay.proofs.IdKeys.{same_id_equivalence}
 use Rattle.mr_replay.proofs.Marked.{change_if, nothing-changed}
-
-abbrev pub placed_id : Placed → Id
-placed_id p = id_of p.write
 
 -- ---- one placed write more
 

@@ -1,4 +1,4 @@
-ghost use Rattle.std.specs.Prelude.{◌≡◌, OnOk, OnErr, IfErr, IsTrue, Some};
+ghost use Rattle.std.specs.Prelude.{◌≡◌, OnOk, IfErr, IsTrue, Some};
 ghost use Rattle.mr_replay.specs.declared.index.IndexKey.{IndexKey as Key};
 ghost use Rattle.mr_replay.specs.Index.{padded, key_of, first_key, last_key, key_if_taken, has, Grows, IsNoted};
 

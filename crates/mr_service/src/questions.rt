@@ -10,7 +10,7 @@ ghost use Rattle.mr_base.specs.RefusalViews.{refusal_of};
 ghost use Rattle.mr_model.specs.Tables as rows;
 ghost use Rattle.mr_model.specs.View.{AskSheet, AskCalendar, AskOutcome, AskErrors};
 ghost use Rattle.mr_tables.specs.Cells.{place_row_of};
-ghost use Rattle.mr_service.specs.Asked.{part_seen, log_line_seen, outcome_seen, reply_in};
+ghost use Rattle.mr_service.specs.Asked.{part_seen, log_line_seen, reply_in};
 ghost use Rattle.mr_service.specs.Questions.{FindsRoom, ShowsCalendar, ShowsLines, TellsOutcomeOf, row_of_cancel};
 ghost use Rattle.mr_service.specs.Served.{IsRead, IsServed};
 

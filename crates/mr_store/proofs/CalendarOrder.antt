@@ -1,5 +1,5 @@
 -- The order of a calendar's rows is a total order.
-use Rattle.std.proofs.Common.{◌≡◌, ◌||◌, ◌&&◌, ◌==◌, nat_lt, Bool, true, false, cond, ap, refl, ◌∙◌, Result, Ok, Err, OnOk}
+use Rattle.std.proofs.Common.{◌≡◌, ◌||◌, ◌&&◌, ◌==◌, nat_lt, Bool, true, false, cond, ap, refl, ◌∙◌}
 use Rattle.std.specs.Ordering.{is_lt, nat_cmp, ordering_then}
 use Rattle.std.specs.declared.cmp.Ordering.{Ordering}
 use Rattle.std.specs.declared.cmp.Ordering.TheVariants.{Less, Equal, Greater}
@@ -61,8 +61,3 @@ booking_cmp-before a b =
     by_start =
         less_then (nat_lt a.start b.start) (a.start == b.start) (ordering_then (nat_cmp a.server b.server) (nat_cmp a.n b.n))
         ∙ ap (λ x. nat_lt a.start b.start || (a.start == b.start && x)) by_server
-
--- what follows from a fact at Ok holds there too
-pub on_ok_so : {X E P Q : Type 0} (r : Result X E) → (P → Q) → OnOk r P → OnOk r Q
-on_ok_so (Ok x) way h = way h
-on_ok_so (Err e) way h = tt

@@ -10,7 +10,7 @@ use Rattle.mr_model.specs.Texts.{Text}
 use Rattle.mr_model.specs.Tables.{BookingRow}
 use Rattle.mr_model.proofs.SlotTests.{same_date-true}
 use Rattle.mr_store.specs.DaysAsked.{is_on_days}
-use Rattle.mr_store.specs.Marks.{Mark, mark_of_row, mark_test, number_of_name, number_of_day, day_number}
+use Rattle.mr_store.specs.Marks.{Mark, mark_of_row, mark_test, number_of_name, marked_day, day_number}
 use Rattle.mr_store.specs.declared.days.Days.{Days}
 use Rattle.mr_store.specs.declared.days.Days.TheVariants.{All, One, Several}
 
@@ -35,8 +35,8 @@ asked_mark : (room : Text) (days : Days) (row : BookingRow) → (bytes_eq row.ro
 asked_mark room All row asked = room_mark room row (and_parts (bytes_eq row.room room) true asked).0
 asked_mark room (One day) row asked =
     let parts = and_parts (bytes_eq row.room room) (is_on_days (One day) row.day) asked in
-    and_from (eqb (number_of_day row.day) (number_of_day day)) (eqb (number_of_name row.room) (number_of_name room))
-    (eq-eqb (number_of_day row.day) (number_of_day day) (ap number_of_day (same_date-true row.day day parts.1)))
+    and_from (eqb (marked_day row.day) (marked_day day)) (eqb (number_of_name row.room) (number_of_name room))
+    (eq-eqb (marked_day row.day) (marked_day day) (ap marked_day (same_date-true row.day day parts.1)))
     (room_mark room row parts.0)
 asked_mark room (Several days) row asked = room_mark room row (and_parts (bytes_eq row.room room) (is_on_days (Several days) row.day) asked).0
 

@@ -11,12 +11,12 @@ pub record Mark : Type 0 where
   pub room : ℕ
 
 -- what marks are asked for: the number of a room, and of a day where that one alone is asked for
-pub record Asked : Type 0 where
+pub record AskedMark : Type 0 where
   pub day : Option ℕ
   pub room : ℕ
 
-abbrev pub number_of_day : Date → ℕ
-number_of_day day = day.year * 10_000 + day.month * 100 + day.day
+abbrev pub marked_day : Date → ℕ
+marked_day day = day.year * 10_000 + day.month * 100 + day.day
 
 -- the number of a text that begins with what has the number n
 abbrev pub number_from : ℕ → Text → ℕ
@@ -27,23 +27,23 @@ abbrev pub number_of_name : Text → ℕ
 number_of_name name = number_from 7 name
 
 abbrev pub mark_of_row : BookingRow → Mark
-mark_of_row row = record { day = number_of_day row.day; room = number_of_name row.room }
+mark_of_row row = record { day = marked_day row.day; room = number_of_name row.room }
 
 abbrev pub day_number : Days → Option ℕ
 day_number All = None
-day_number (One day) = Some (number_of_day day)
+day_number (One day) = Some (marked_day day)
 day_number (Several days) = None
 
-abbrev pub asked_of : Text → Days → Asked
-asked_of room days = record { day = day_number days; room = number_of_name room }
+abbrev pub asked_mark : Text → Days → AskedMark
+asked_mark room days = record { day = day_number days; room = number_of_name room }
 
-abbrev pub has_both : ℕ → ℕ → Mark → Bool
-has_both day room mark = mark.day == day && mark.room == room
+abbrev pub mark_has_both : ℕ → ℕ → Mark → Bool
+mark_has_both day room mark = mark.day == day && mark.room == room
 
-abbrev pub has_room : ℕ → Mark → Bool
-has_room room mark = mark.room == room
+abbrev pub mark_has_room : ℕ → Mark → Bool
+mark_has_room room mark = mark.room == room
 
 -- the mark has the numbers that are asked for
 abbrev pub mark_test : Option ℕ → ℕ → Mark → Bool
-mark_test None room = has_room room
-mark_test (Some day) room = has_both day room
+mark_test None room = mark_has_room room
+mark_test (Some day) room = mark_has_both day room

@@ -1,7 +1,7 @@
 ghost use Rattle.std.specs.Prelude.{◌≡◌, ◌&&◌, ◌++◌, ◌∷◌, [], map, bytes_eq, filter, None, IfOk, IfSome, OnOk};
 ghost use Rattle.std.specs.List.{list_any};
 ghost use Rattle.mr_store.specs.DaysAsked.{is_on_days};
-ghost use Rattle.mr_store.specs.Marks.{mark_of_row, number_of_name, number_of_day, asked_of, mark_test, has_both as mark_has_both, has_room as mark_has_room};
+ghost use Rattle.mr_store.specs.Marks.{mark_of_row, number_of_name, marked_day, asked_mark, mark_test, mark_has_both, mark_has_room};
 
 use crate::days::{Days, is_one_of};
 use crate::rows::TableRow;
@@ -37,9 +37,9 @@ struct Asked {
 }
 
 impl Model for Asked {
-    ghost use Rattle.mr_store.specs.Marks.{Asked as AskedOf};
+    ghost use Rattle.mr_store.specs.Marks.{AskedMark};
 
-    ghost Value = { AskedOf };
+    ghost Value = { AskedMark };
 
     ghost view = { λ a. record { day = a.day; room = a.room } };
 }
@@ -82,7 +82,7 @@ fn marked(row: &BookingRow) -> Mark
 
 /// The day as a number, as 20,250,301 for 2025-03-01.
 fn number_of_day(day: &Day) -> u32
-    ensures { result ≡ number_of_day day.now }
+    ensures { result ≡ marked_day day.now }
 {
     day.year() as u32 * 10_000 + day.month() as u32 * 100 + day.day() as u32
 }
@@ -100,7 +100,7 @@ fn number(name: &RoomName) -> u32
 
 /// What the marks of the bookings of a room on these days are asked for.
 fn asked_for(room: &RoomName, days: &Days) -> Asked
-    ensures { result ≡ asked_of room.now days.now }
+    ensures { result ≡ asked_mark room.now days.now }
 {
     Asked {
         day: match days {
@@ -147,7 +147,7 @@ fn pick_block(
     days: &Days,
 ) -> Result<(), AllocError>
     requires marks { marks.now ≡ map mark_of_row rows.now }
-    requires asked { asked.now ≡ asked_of room.now days.now }
+    requires asked { asked.now ≡ asked_mark room.now days.now }
     ensures { OnOk result (picked.new.items ≡ picked.old.items ++ filter (λ r. bytes_eq r.room room.now && is_on_days days.now r.day) rows.now) }
 {
     if has_asked(marks, asked) {

@@ -1,14 +1,14 @@
 -- Limits of positions, of commits and of lists.
-use Rattle.std.proofs.Common.{◌≡◌, ℕ, zero, suc, ◌+◌, ◌≤◌, ◌&&◌, nat_le, true, false, [], ◌∷◌, ◌++◌, length, map, ap, sym, subst, ◌∙◌, arith}
+use Rattle.std.proofs.Common.{◌≡◌, ℕ, zero, suc, ◌+◌, ◌≤◌, ◌&&◌, nat_le, true, [], ◌∷◌, ◌++◌, length, map, ap, sym, subst, ◌∙◌, arith}
 use Rattle.std.specs.List.{list_all}
-use Rattle.std.proofs.lemmas.Bool.{and_parts, false_from_ne_true}
+use Rattle.std.proofs.lemmas.Bool.{and_parts}
 use Rattle.std.proofs.lemmas.Bool.Decides.{nat_tests}
 use Rattle.std.proofs.lemmas.List.Elements.{All-from_recursion}
 use Rattle.mr_model.specs.Texts.{numbers_on}
-use Rattle.mr_model.specs.Writes.{Id, same_id, is_server, is_count}
+use Rattle.mr_model.specs.Writes.{is_server, is_count}
 use Rattle.mr_model.specs.Positions.{Position, Count, position_of, is_position, are_rising}
 use Rattle.mr_model.specs.Replica.{Replica, IsReplica}
-use Rattle.mr_model.proofs.Members.{has_all, map_has, same_id-true}
+use Rattle.mr_model.proofs.Members.{has_all, map_has}
 use Rattle.mr_model.proofs.StepsKeep.{count_within}
 use Rattle.mr_model.proofs.PositionsReadBack.{position_within}
 use Rattle.mr_tables.specs.declared.summary.Tally.{Tally}
@@ -37,10 +37,6 @@ numbers_within a sound = record {
       (has_all (λ (t : Tally). t.count ≤ 999_999_999) (map (tally_of a) (numbers_on 0 100))
       (λ t h. let (s, g, e) = map_has (tally_of a) t (numbers_on 0 100) h in subst (λ (x : Tally). x.count ≤ 999_999_999) (sym e) (count_within a s sound)));
 }
-
--- other ids are told apart
-pub other_id : (a b : Id) → (a ≡ b → ⊥) → same_id a b ≡ false
-other_id a b apart = false_from_ne_true (same_id a b) (λ e. apart (same_id-true a b e))
 
 -- one number more
 pub numbers-more : (k n : ℕ) → numbers_on k (suc n) ≡ numbers_on k n ++ (k + n) ∷ []

@@ -1,7 +1,7 @@
 -- Words and slots at the front of a text.
-use Rattle.std.proofs.Common.{◌≡◌, refl, sym, ap, ◌∙◌, ℕ, zero, suc, ◌+◌, ◌<◌, ◌≤◌, Bool, true, false, not, cond, eqb, List, [], ◌∷◌, ◌++◌, length, take, drop, arith, leb, leb-true, eqb-true, IsTrue, append-nil, append_assoc}
+use Rattle.std.proofs.Common.{◌≡◌, refl, sym, ap, ◌∙◌, ℕ, suc, ◌+◌, ◌<◌, ◌≤◌, Bool, true, false, not, cond, eqb, List, [], ◌∷◌, ◌++◌, length, take, drop, arith, leb, leb-true, eqb-true, IsTrue, append-nil, append_assoc}
 use Rattle.std.proofs.lemmas.Bool.{and_parts, cond-false, false_from_ne_true}
-use Rattle.std.proofs.lemmas.List.{take_all}
+use Rattle.std.proofs.lemmas.List.{take_all, drop_all}
 use Rattle.std.specs.Prelude.{flat_map}
 use Rattle.std.specs.List.{before_first, after_first, position_or_len}
 use Rattle.mr_model.specs.Texts.{Text, first_word, after_word, words}
@@ -34,14 +34,8 @@ word-after (x ∷ xs) = go (eqb x 32) (word-after xs)
 pub word_alone : (xs : Text) → place xs ≡ length xs → xs ≡ first_word xs
 word_alone xs e = sym (take_all (place xs) xs (omega (arith, e))) ∙ word-before xs
 
-drop_past : (n : ℕ) (ys : Text) → length ys ≤ n → drop n ys ≡ []
-drop_past zero [] l = refl
-drop_past zero (y ∷ ys) l = absurd (omega (arith, l))
-drop_past (suc n) [] l = refl
-drop_past (suc n) (y ∷ ys) l = drop_past n ys (Rattle.std.proofs.Common.le_of_suc-le-suc l)
-
 pub none_after : (xs : Text) → place xs ≡ length xs → [] ≡ after_word xs
-none_after xs e = sym (drop_past (place xs + 1) xs (omega (arith, e))) ∙ word-after xs
+none_after xs e = sym (drop_all (place xs + 1) xs (omega (arith, e))) ∙ word-after xs
 
 -- ---- what stands behind a word is shorter
 

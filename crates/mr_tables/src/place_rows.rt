@@ -1,5 +1,5 @@
 ghost use Rattle.std.specs.Prelude.{◌≡◌, ◌+◌, ◌≤◌, IfOk, IfErr, IfSome};
-ghost use Rattle.mr_model.specs.Tables.{booked_in, erred_in, taken_back, cancel_row_for, is_done, booking_place_row, place_row_for};
+ghost use Rattle.mr_model.specs.Tables.{booked_in, erred_in, cancel_row_for, is_done, booking_place_row, place_row_for};
 ghost use Rattle.mr_replay.specs.Places.{place_seen};
 ghost use Rattle.mr_replay.specs.Rows.{choice_at};
 ghost use Rattle.mr_tables.specs.Cells.{place_row_of};

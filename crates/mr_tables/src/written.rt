@@ -4,7 +4,7 @@ ghost use Rattle.mr_model.specs.Tables.{cells_of, log_row_with, Booked, Erred, C
 ghost use Rattle.mr_base.specs.Actions.{action_of};
 ghost use Rattle.mr_replay.specs.Places.{place_seen};
 ghost use Rattle.mr_tables.specs.Cells.{action_cells, meeting_cells, place_row_of};
-ghost use Rattle.mr_tables.specs.Written.{meta_of, with_places, written, forgotten, with_log_row, with_place, with_write_rows};
+ghost use Rattle.mr_tables.specs.Written.{meta_of, with_places, written, forgotten, with_place, with_write_rows};
 
 use crate::choices::choices_text;
 use crate::summary::Summary;

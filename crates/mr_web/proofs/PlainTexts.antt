@@ -1,6 +1,6 @@
 -- Texts that JSON shows as they are.
-use Rattle.std.proofs.Common.{◌≡◌, ◌∙◌, ℕ, [], ◌∷◌, ◌++◌, Bool, true, false, not, ◌&&◌, ◌==◌, ◌<◌, ◌≤◌, ◌%◌, ◌+◌, ◌^◌, refl, sym, ap, arith, ltb, leb, codes, decimal, IsTrue}
-use Rattle.std.proofs.lemmas.Bool.{and_parts, leb-true, and_from, le-ltb, ne_eqb, agree_below_at}
+use Rattle.std.proofs.Common.{◌≡◌, ◌∙◌, ℕ, [], ◌∷◌, ◌++◌, Bool, true, false, not, ◌&&◌, ◌==◌, ◌<◌, ◌≤◌, ◌%◌, ◌+◌, ◌^◌, refl, ap, arith, ltb, leb, codes, decimal, IsTrue}
+use Rattle.std.proofs.lemmas.Bool.{and_parts, leb-true, and_from, le-ltb, ne_eqb, agree_below_at, not-true}
 use Rattle.std.proofs.lemmas.Fmt.{decimal_by_steps}
 use Rattle.std.proofs.lemmas.List.Folds.{list_all-append}
 use Rattle.std.specs.List.{list_all}
@@ -8,10 +8,6 @@ use Rattle.json.specs.Print.{escape, escape_byte}
 use Rattle.mr_model.specs.Texts.{Text}
 use Rattle.mr_model.specs.Writes.{Id, id_text, is_id, is_server, is_count}
 use Rattle.mr_web.specs.Plain.{is_plain_byte, is_plain_text, IsPlain}
-
-from_not : (b : Bool) → not b ≡ true → b ≡ false
-from_not true h = sym h
-from_not false h = refl
 
 above : (b m : ℕ) → 32 ≤ b → m < 32 → (b == m) ≡ false
 above b m h l = ne_eqb b m (λ e. omega (arith, h, l, e))
@@ -22,8 +18,8 @@ escape_plain_byte b h =
     let two = and_parts (leb 32 b && not (b == 34)) (not (b == 92)) h in
     let one = and_parts (leb 32 b) (not (b == 34)) two.0 in
     let low : 32 ≤ b = leb-true 32 b one.0 in
-    let quote : (b == 34) ≡ false = from_not (b == 34) one.1 in
-    let backslash : (b == 92) ≡ false = from_not (b == 92) two.1 in
+    let quote : (b == 34) ≡ false = not-true (b == 34) one.1 in
+    let backslash : (b == 92) ≡ false = not-true (b == 92) two.1 in
     let small : ltb b 32 ≡ false = le-ltb b 32 low in
     rw (quote, backslash, above b 8 low (omega arith), above b 12 low (omega arith), above b 10 low (omega arith), above b 13 low (omega arith), above b 9 low (omega arith), small)
 

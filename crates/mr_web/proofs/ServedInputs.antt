@@ -1,7 +1,8 @@
 -- From the bytes that were read to what the input asks, and from that to what is served.
 use Rattle.std.proofs.Common.{◌≡◌, ◌++◌, ◌<◌, ℕ, List, [], Bool, true, false, not, length, take, Option, Some, None, IfSome, Result, Ok, Err, inl, refl, sym, ap, ◌∙◌, subst, eq-eqb, append-nil}
+use Rattle.std.proofs.KnownBytes.{Keeps-refl}
 use Rattle.std.specs.Prelude.{nat_lt, if◌then◌else◌, bytes_eq, ok_or}
-use Rattle.std.specs.Io.KnownBytes.{Consumes, IsAtEnd, Keeps}
+use Rattle.std.specs.Io.KnownBytes.{Consumes, IsAtEnd}
 use Rattle.httparse.specs.Grammar.{RequestHead}
 use Rattle.mr_model.specs.Texts.{Text}
 use Rattle.mr_model.specs.Replica.{Replica}
@@ -208,10 +209,6 @@ settles_body_stop known left b rest h a (stop.Rejected r) p head ends asked cut 
     settles_as known left b rest h a _ p head ends asked (ap (λ x. as_asked (after_body a.0 x)) cut)
 settles_body_stop known left b rest h a (stop.Fault f) p head ends asked cut = of_input_unit known
 
-keeps_same : (held : Option (List ℕ)) → Keeps held held
-keeps_same None = tt
-keeps_same (Some xs) = refl
-
 pub serve_faults : (f : ReadFault) → IsServeFault (web_fault f)
 serve_faults fault.Read = tt
 serve_faults fault.Memory = tt
@@ -219,13 +216,13 @@ serve_faults fault.Memory = tt
 -- with a fault while an answer was made nothing is written
 pub ends_fault : (input : Text) (before after : Tables) (old : Replica) (held : Option (List ℕ)) (f : ReadFault)
     → AnswersTo input before after old (Err f) → EndsServed held held input before after old (Err (web_fault f))
-ends_fault input before after old held fault.Read same = (keeps_same held, same)
-ends_fault input before after old held fault.Memory answers = (keeps_same held, answers)
+ends_fault input before after old held fault.Read same = (Keeps-refl held, same)
+ends_fault input before after old held fault.Memory answers = (Keeps-refl held, answers)
 
 -- nor is an answer, of whichever request
 pub none_written : (held : Option (List ℕ)) (f : ReadFault) (IsOne : Text → ℕ → Type 0) → Writes held held IsOne (Err (web_fault f))
-none_written held fault.Read IsOne = keeps_same held
-none_written held fault.Memory IsOne = keeps_same held
+none_written held fault.Read IsOne = Keeps-refl held
+none_written held fault.Memory IsOne = Keeps-refl held
 
 -- a request that asks no command leaves the tables as they are
 pub answers_stopped : (input : Text) (old : Replica) (tables : Tables) (s : Stop) (r : Result Answer ReadFault) → StopsWith s r

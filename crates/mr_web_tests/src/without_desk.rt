@@ -15,11 +15,6 @@ impl WithoutDesk {
     pub(crate) fn new(lists: ListKeeper) -> WithoutDesk {
         WithoutDesk { lists, failures: 0 }
     }
-
-    /// The lists, with all that was done.
-    pub(crate) fn into_lists(self) -> ListKeeper {
-        self.lists
-    }
 }
 
 impl Keeper for WithoutDesk {

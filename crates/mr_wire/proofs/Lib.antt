@@ -1,6 +1,7 @@
 pub mod Cuts
 pub mod FieldLaws
 pub mod LineLaws
+pub mod HeaderLaws
 pub mod Ascii
 pub mod LoopLaws
 pub mod TestedLaws

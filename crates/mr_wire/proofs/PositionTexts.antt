@@ -20,8 +20,10 @@ use Rattle.mr_model.proofs.PositionsReadBack.{read-position_text, read_position_
 use Rattle.mr_wire.specs.Words.{cut}
 use Rattle.mr_wire.specs.Fields.{◌>>=◌, behind_word, server_and, servers_under, servers_of, parse_commits, parse_count, no_more, counts_until_end, if_position, position_on}
 use Rattle.mr_base.specs.Readings.{number_from_to}
+use Rattle.mr_base.proofs.Readers.{same_reading}
 use Rattle.mr_wire.proofs.FieldLaws.{bind_some, number_takes, number_again}
-use Rattle.mr_wire.proofs.LineLaws.{agree, behind_takes, behind_again, server_and_takes, server_and_again, word_among, servers_under_take, servers_under_again}
+use Rattle.mr_wire.proofs.LineLaws.{behind_takes, behind_again, server_and_takes, server_and_again}
+use Rattle.mr_wire.proofs.HeaderLaws.{word_among, servers_under_take, servers_under_again}
 use Rattle.mr_wire.proofs.Ascii.{Low, is_text, words_low, number_low}
 use Rattle.mr_wire.proofs.LoopLaws.{first_line_is, no_line_left}
 
@@ -256,7 +258,7 @@ position_low p ok =
 pub position_is : (text : Text) → eqb (slice_index text (length text - 1)) 10 ≡ true → position_on text ≡ read_position text
 position_is text last =
     let ends : slice_index text (length text - 1) ≡ 10 = eqb-true (slice_index text (length text - 1)) 10 last in
-    agree (position_on text) (read_position text)
+    same_reading (position_on text) (read_position text)
     (λ p e. let t = lines_take (whole_lines text) p (sym (position_on_lines text) ∙ e) in ap read_position (ends_whole text ends ∙ ap lines_text t.1) ∙ read-position_text p t.0)
     (λ p e. let t = read_position_text text p e in ap position_on t.1 ∙ position_on_lines (position_text p) ∙ ap lines_position (lines-text (position_lines p) (one_lines p t.0)) ∙ lines_again p t.0)
 

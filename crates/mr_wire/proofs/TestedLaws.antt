@@ -8,12 +8,12 @@ use Rattle.std.specs.Str.{bytes_eq}
 use Rattle.std.specs.List.{list_all}
 use Rattle.mr_model.specs.Texts.{Text, only_if, whole_lines}
 use Rattle.mr_model.specs.Slots.{Slot, is_slot}
-use Rattle.mr_model.specs.Writes.{Stamp, Cancels, Write, is_title, is_length, fits_day, greatest_alternatives}
+use Rattle.mr_model.specs.Writes.{Stamp, Write, is_title, is_length, fits_day, greatest_alternatives}
 use Rattle.mr_model.specs.Requests.{is_length_for}
 use Rattle.mr_model.specs.Refusals as model
-use Rattle.mr_model.specs.Exchange.{Version, Second, Item, Ending, Complete, More, Cut, Heading, W, BodyLine, ItemLine, LastLine, read_header, read_body_line, with_item, read_end, read_line, read_body, under_heading, under_header, read_lines, read_batch}
+use Rattle.mr_model.specs.Exchange.{Version, Item, Ending, Complete, More, Cut, Heading, W, BodyLine, ItemLine, LastLine, read_header, read_body_line, with_item, read_end, read_line, read_body, under_heading, under_header, read_lines, read_batch}
 use Rattle.mr_wire.specs.Words.{cut}
-use Rattle.mr_wire.specs.Fields.{◌>>=◌, number_off, slot_off, slots_off, front_off, most_alternatives, choices_off, booking_with, parse_booking, cancel_parts, parse_cancel, commit_of, worded_line, bare_line}
+use Rattle.mr_wire.specs.Fields.{◌>>=◌, number_off, slot_off, slots_off, front_off, most_alternatives, choices_off, booking_with, parse_booking, parse_cancel, commit_of, worded_line, bare_line}
 use Rattle.mr_wire.specs.Tested.{behind_slots, parse_title, is_titled, is_last}
 use Rattle.mr_wire.proofs.FieldLaws.{number_off_takes, slots_off_take}
 use Rattle.mr_wire.proofs.LineLaws.{booking, most_within}
@@ -157,9 +157,6 @@ some_behind None f = refl
 pub seen_some : {A B : Type 0} (r : Option A) (seen : A → B) (o : Option B) → option_map seen r ≡ o → is_some r ≡ is_some o
 seen_some (Some x) seen o e = ap (λ p. is_some p) e
 seen_some None seen o e = ap (λ p. is_some p) e
-
-pub cancel_tested : (text : Text) → is_some (parse_cancel Second text) ≡ is_some (cancel_parts text)
-cancel_tested text = some_behind (cancel_parts text) (λ c. record { stamp = c.0; room = c.1; action = Cancels c.2 })
 
 -- what the tests of the first word choose
 module _ (v : Version) (word rest : Text) where

@@ -1,4 +1,4 @@
-ghost use Rattle.std.specs.Prelude.{◌≡◌, ◌≤◌, ℕ, IsTrue, IfSome, option_map};
+ghost use Rattle.std.specs.Prelude.{◌≡◌, IsTrue, IfSome, option_map};
 ghost use Rattle.std.specs.Str.{IsUtf8};
 ghost use Rattle.mr_model.specs.Texts.{within};
 ghost use Rattle.mr_model.specs.Calendar.{read_date, read_time};

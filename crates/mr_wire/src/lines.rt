@@ -1,4 +1,4 @@
-ghost use Rattle.std.specs.Prelude.{◌≡◌, ℕ, IsTrue, IfSome, option_map};
+ghost use Rattle.std.specs.Prelude.{◌≡◌, IsTrue, IfSome, option_map};
 ghost use Rattle.mr_model.specs.Writes.{is_room_name};
 ghost use Rattle.mr_model.specs.Exchange.{Second, read_header, read_body_line};
 ghost use Rattle.mr_base.specs.Batches.{item_of};

@@ -1,5 +1,4 @@
 ghost use Rattle.std.specs.Prelude.{◌≡◌, ◌==◌, ◌-◌, true, length, slice_index, option_map, ok_or, IfOk, None, Ok, Err};
-ghost use Rattle.std.specs.Str.{IsUtf8};
 ghost use Rattle.mr_model.specs.Texts.{whole_lines};
 ghost use Rattle.mr_model.specs.Refusals.{BadPosition};
 ghost use Rattle.mr_model.specs.Positions.{Position as PositionOfReplica, is_position, position_text, read_position};

@@ -1,8 +1,8 @@
 -- A command line asks for what it was written for.
-use Rattle.std.proofs.Common.{◌≡◌, refl, sym, ap, ap₂, lit<, ◌∙◌, ℕ, ◌<◌, ◌≤◌, ◌≢◌, zero, suc, Bool, true, false, not, ◌||◌, List, [], ◌∷◌, length, get_or, map, Some, arith, leb-true}
+use Rattle.std.proofs.Common.{◌≡◌, refl, ap, ap₂, lit<, ◌∙◌, ℕ, ◌<◌, ◌≤◌, ◌≢◌, zero, suc, true, false, not, List, [], ◌∷◌, length, get_or, map, Some, arith, leb-true}
 use Rattle.std.specs.Prelude.{decimal}
 use Rattle.std.specs.List.{list_all, list_any}
-use Rattle.std.proofs.lemmas.Bool.{and_parts, not-true, eqb-false, false≢true}
+use Rattle.std.proofs.lemmas.Bool.{and_parts, not-true, eqb-false, false≢true, or_parts}
 use Rattle.clap.proofs.CutLemmas.{before_first-at, after_first-at}
 use Rattle.mr_model.specs.Texts.{Text}
 use Rattle.mr_model.specs.Replies.{Full, Committed}
@@ -14,10 +14,6 @@ use Rattle.mr_words.specs.CommandTable.{Invoked, Init, Ask, Export, Import, Rehe
 use Rattle.mr_words.specs.CommandSpelling.{MayBeAsked, command_line, slot_word}
 
 -- ---- slots
-
-or_parts : (a b : Bool) → (a || b) ≡ false → (a ≡ false) × (b ≡ false)
-or_parts false b e = (refl, e)
-or_parts true b e = absurd (false≢true (sym e))
 
 lacks_t : (t : Text) → list_any is_t t ≡ false → (i : ℕ) → i < length t → get_or t i 0 ≢ 84
 lacks_t [] none i low = absurd (omega arith)

@@ -17,4 +17,4 @@ pub use address::{AddressFault, peer_address};
 pub use commands::{add_room, shared_command};
 pub use invocations::{Invocation, Task, WordFault};
 pub use invoke::{command_lines_read_back, invocation};
-pub use words::{read_count, read_line_count, read_part, read_server};
+pub use words::{read_count, read_line_count, read_server};

@@ -47,7 +47,7 @@ pub(crate) fn read_connections(word: &str) -> Option<u64>
 }
 
 /// The part of a calendar that the word names.
-pub fn read_part(word: &str) -> Option<Part>
+pub(crate) fn read_part(word: &str) -> Option<Part>
     ensures { MatchOption result (part_in word.now ≡ None) (λ part. part_in word.now ≡ Some (part_seen part)) }
 {
     match word {

@@ -1,6 +1,7 @@
 use Rattle.std.proofs.Common.{◌≡◌, ◌∙◌, length, false, ap, sym, rules}
+use Rattle.std.proofs.lemmas.List.{nil_from_length}
 use Rattle.mr_replay.specs.Hidden.{shown}
-use Rattle.mr_replay.proofs.Hiding.{shown-removed, shown-empty, changed_at, no_more}
+use Rattle.mr_replay.proofs.Hiding.{shown-removed, shown-empty, changed_at}
 use Rattle.mr_replay.proofs.giving_back.remove_all.Goals as goal
 
 pub loop-id-preserved : goal.loop-id-preserved
@@ -16,4 +17,4 @@ loop-id-preserved c =
 pub returns-clause-board : goal.returns-clause-board
 returns-clause-board c =
     let none : length c.loop-id.ids.keys ≡ 0 = search rules in
-    sym (shown-empty c.loop-id.ids c.loop-id.rows.entries (no_more c.loop-id.ids.keys none)) ∙ c.loop-id.invariant.1
+    sym (shown-empty c.loop-id.ids c.loop-id.rows.entries (nil_from_length c.loop-id.ids.keys none)) ∙ c.loop-id.invariant.1

@@ -1,4 +1,4 @@
-use Rattle.std.proofs.Common.{◌≡◌, ◌∙◌, ap, sym, map, get_or, ◌++◌, [], ◌∷◌, List}
+use Rattle.std.proofs.Common.{◌≡◌, ◌∙◌, ap, sym, map, get_or, ◌++◌, [], ◌∷◌, List, take}
 use Rattle.std.proofs.lemmas.List.{map_more}
 use Rattle.mr_model.specs.Slots.{Slot}
 use Rattle.mr_model.specs.Step.{slot_of}
@@ -19,5 +19,5 @@ loop-choice-preserved c =
     words.slot_value (words_of c.choice-item.result) c.in-Ok.slot (sym c.read_slot.ensures ∙ c.in-Ok.is) ∙ ap at c.choice-item.is in
     c.in_ok-push.ensures.items
     ∙ ap (λ (ss : List Slot). ss ++ c.in-Ok.slot ∷ []) c.loop-choice.invariant
-    ∙ ap (λ (s : Slot). map at (Rattle.std.proofs.Common.take c.loop-choice.choice-index c.args.words.now) ++ s ∷ []) slot
+    ∙ ap (λ (s : Slot). map at (take c.loop-choice.choice-index c.args.words.now) ++ s ∷ []) slot
     ∙ sym (map_more at c.args.words.now c.loop-choice.choice-index c.choice-item.result c.loop-choice-test.true)

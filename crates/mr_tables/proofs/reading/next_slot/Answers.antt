@@ -1,4 +1,5 @@
 use Rattle.std.proofs.Common.{◌≡◌, ◌∙◌, ap, sym, length, arith}
+use Rattle.mr_model.specs.Texts.{first_word, after_word}
 use Rattle.mr_tables.proofs.FrontWords.{first_slot, after_short, after_shorter}
 use Rattle.mr_tables.proofs.reading.next_slot.Goals as goal
 
@@ -25,9 +26,9 @@ pub returns-clause-shorter : goal.returns-clause-shorter
 returns-clause-shorter c =
     let text = c.args.text.now in
     let long : length c.next_word.result.0.now ≡ 10 = ap length c.in-Ok.ensures.written.1 in
-    let word : length c.next_word.result.0.now ≡ length (Rattle.mr_model.specs.Texts.first_word text) = ap length c.next_word.ensures.word in
+    let word : length c.next_word.result.0.now ≡ length (first_word text) = ap length c.next_word.ensures.word in
     let first = after_shorter text (omega (arith, long, word)) in
-    let behind : length c.next_word.result.1.now ≡ length (Rattle.mr_model.specs.Texts.after_word text) = ap length c.next_word.ensures.rest in
+    let behind : length c.next_word.result.1.now ≡ length (after_word text) = ap length c.next_word.ensures.rest in
     let second = after_short c.next_word.result.1.now in
-    let rest : length c.next_word-2.result.1.now ≡ length (Rattle.mr_model.specs.Texts.after_word c.next_word.result.1.now) = ap length c.next_word-2.ensures.rest in
+    let rest : length c.next_word-2.result.1.now ≡ length (after_word c.next_word.result.1.now) = ap length c.next_word-2.ensures.rest in
     omega (arith, first, behind, second, rest)

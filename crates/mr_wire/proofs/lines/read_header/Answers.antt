@@ -1,5 +1,5 @@
 use Rattle.std.proofs.Common.{sym, ap, ◌∙◌}
-use Rattle.mr_wire.proofs.LineLaws.{header_is}
+use Rattle.mr_wire.proofs.HeaderLaws.{header_is}
 use Rattle.mr_wire.proofs.Ascii.{no_header}
 use Rattle.mr_wire.specs.Fields.{heading_of}
 use Rattle.mr_wire.proofs.lines.read_header.Goals as goal

@@ -1,13 +1,35 @@
-use Rattle.std.proofs.Common.{◌≡◌, [], ◌∷◌, ◌++◌, None, ap, sym, ◌∙◌, subst}
+use Rattle.std.proofs.Common.{◌≡◌, [], ◌∷◌, ◌++◌, Some, None, ap, sym, ◌∙◌, subst}
+use Rattle.std.specs.Prelude.{option_map}
 use Rattle.std.specs.BTreeMap.{insert_entry}
+use Rattle.mr_model.specs.Writes.{Action, Books, Cancels, Write, id_of}
+use Rattle.mr_model.specs.Replay.{Place, Taken, Logged, Done, Void}
+use Rattle.mr_model.proofs.UniqueReplay.{none_some}
 use Rattle.mr_base.specs.Ids.{id_cmp}
 use Rattle.mr_replay.specs.Places.{UndoRow, place_seen}
-use Rattle.mr_replay.specs.Rows.{Rows, row_of, place_by_rows, marked_by, undo_row_at}
+use Rattle.mr_replay.specs.declared.rows.Row.{Row}
+use Rattle.mr_replay.specs.Rows.{Rows, kept_for, row_of, place_by_rows, target_of, marked_by, with_row, executed_at, undo_row_at}
 use Rattle.mr_replay.specs.Holds.{Holds}
-use Rattle.mr_replay.proofs.OneRoom.{executed-row, executed-mark}
 use Rattle.mr_replay.proofs.Holding.{Holds-executed}
 use Rattle.mr_replay.proofs.board.Board.execute.Goals as goal
 use Rattle.mr_replay.proofs.board.Board.execute.Goals.{in-Some+in_ok-put-in-Some, in-None}
+
+-- an execution puts a row, or marks one
+executed-row : (b : Rows) (w : Write) (p : Place) (row : Row) → row_of w p None ≡ Some row → executed_at b w p ≡ insert_entry id_cmp b (id_of w) row
+executed-row b w p row is = go w.action p is
+  where
+    go : (a : Action) (p : Place) → option_map (λ k. record { room = w.room; kept = k }) (kept_for w a p None) ≡ Some row
+        → with_row (id_of w) (option_map (λ k. record { room = w.room; kept = k }) (kept_for w a p None)) (marked_by (id_of w) p (target_of a) b) ≡ insert_entry id_cmp b (id_of w) row
+    go (Books m) (Taken k) e = ap (λ o. with_row (id_of w) o b) e
+    go (Books m) Logged e = ap (λ o. with_row (id_of w) o b) e
+    go (Books m) Done e = ap (λ o. with_row (id_of w) o b) e
+    go (Books m) Void e = ap (λ o. with_row (id_of w) o b) e
+    go (Cancels t) (Taken k) e = ap (λ o. with_row (id_of w) o b) e
+    go (Cancels t) Logged e = ap (λ o. with_row (id_of w) o b) e
+    go (Cancels t) Void e = ap (λ o. with_row (id_of w) o b) e
+    go (Cancels t) Done e = absurd (none_some row e)
+
+executed-mark : (b : Rows) (w : Write) (p : Place) → row_of w p None ≡ None → executed_at b w p ≡ marked_by (id_of w) p (target_of w.action) b
+executed-mark b w p is = ap (λ o. with_row (id_of w) o (marked_by (id_of w) p (target_of w.action) b)) is
 
 pub returns-clause-board : goal.returns-clause-board
 returns-clause-board c =
