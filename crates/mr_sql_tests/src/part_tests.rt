@@ -66,8 +66,14 @@ static OF_COMMITTED: [(For, u64); 18] = [
     // one of these is known there
     (For::PositionOf("mp2 1 1\nK 50\nV 1 1\nE\n"), 1),
     // all writes are, but not all commits
-    (For::PositionOf("mp2 1 1\nK 40\nV 1 1\nV 2 1\nV 3 50\nE\n"), 10),
-    (For::PositionOf("mp2 1 1\nK 50\nV 1 1\nV 2 1\nV 3 50\nE\n"), 0),
+    (
+        For::PositionOf("mp2 1 1\nK 40\nV 1 1\nV 2 1\nV 3 50\nE\n"),
+        10,
+    ),
+    (
+        For::PositionOf("mp2 1 1\nK 50\nV 1 1\nV 2 1\nV 3 50\nE\n"),
+        0,
+    ),
     // the bookings of oak
     (For::Batch(GAMMA), 2),
     // the write, which is committed already
@@ -143,11 +149,7 @@ fn rows_of_batch<K: Keeper>(alloc: Global, keeper: &mut K, text: &str) -> Result
     rows_in(keeper, &Scope::Items(&batch.items))
 }
 
-fn rows_of_position<K: Keeper>(
-    alloc: Global,
-    keeper: &mut K,
-    text: &str,
-) -> Result<u64, Refusal> {
+fn rows_of_position<K: Keeper>(alloc: Global, keeper: &mut K, text: &str) -> Result<u64, Refusal> {
     let position = read_position(alloc, text.as_bytes())?;
     rows_in(keeper, &Scope::OfPosition(&position))
 }
