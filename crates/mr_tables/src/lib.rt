@@ -3,7 +3,7 @@
 //!
 //! It stands on `mr_replay`, the board; `mr_replica`, the working value of a replica, and the keepers of tables stand above it.
 //! Contracts see rows and tables as the definitions do, and a change of them as a record (specs/Change.antt). The modules that are
-//! public are there for `mr_replica` and `mr_part`, which make rows of their own values, and read these off rows.
+//! public are there for `mr_kept`, `mr_replica` and `mr_part`, which make rows of their own values, and read these off rows.
 #![tactic(auto)]
 
 ghost use Rattle.mr_tables.specs.TableLaws.{RowsAreWithin, RowsTellTheBoard};
