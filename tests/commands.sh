@@ -180,6 +180,108 @@ run_lone_cancels() {
     brings 'a request in its place' 1 'refused 19 Forged 2' 'mr2 1 1' 'W 1 2 6 elm 30 1995-12-18 09:00 0 Other' 'E'
 }
 
+# size LINE..: how many bytes these lines have
+size() {
+    printf '%s\n' "$@" | wc -c
+}
+
+# requests with 0 to 9 alternatives, all of which but the last are taken, in the first version, which has eight at most, and in the second
+run_alternatives() {
+    local k others='' taken='1995-12-18 00:00'
+    local -a lines=("W 1 1 1 oak 1440 $taken 0 Closed") sheet=('oak 1995-12-19 Tuesday')
+    for ((k = 1; k <= 9; k++)); do
+        lines+=("W 1 $((k + 1)) $((k + 1)) oak 30 $taken $k ${others}1995-12-19 0$k:00 Last of $k")
+        sheet+=("0$k:00-0$k:30 T 1-$((k + 1)) Last of $k")
+        others+="$taken "
+    done
+    blank 9 1
+    brings 'nine alternatives in the first version' 1 'refused 15 BadLine 11' 'mr1 1 1' "${lines[@]}" 'E'
+    brings 'up to eight in the first version' 0 'took 9 writes 0 commits' 'mr1 1 1' "${lines[@]:0:9}" 'E'
+    has 'the places of up to eight' 'sheet oak 1995-12-19' "${sheet[@]:0:9}"
+    gives 'up to eight in the first version' 0 "wrote $(size 'mr1 9 1' "${lines[@]:0:9}" 'E') bytes" 100 \
+        'mr1 9 1' "${lines[@]:0:9}" 'E' -- 'mp1 8 1' 'K 0' 'E'
+    brings 'up to nine in the second version' 0 'took 1 writes 0 commits' 'mr2 1 1' "${lines[@]}" 'E'
+    has 'the places of up to nine' 'sheet oak 1995-12-19' "${sheet[@]}"
+    gives 'nine in the first version' 1 'refused 27 NeedsVersion2' 10 -- 'mp1 8 1' 'K 0' 'E'
+    gives 'what comes before nine' 0 "wrote $(size 'mr1 9 1' "${lines[@]:0:9}" 'M') bytes" 9 \
+        'mr1 9 1' "${lines[@]:0:9}" 'M' -- 'mp1 8 1' 'K 0' 'E'
+    gives 'up to nine in the second version' 0 "wrote $(size 'mr2 9 1' "${lines[@]}" 'E') bytes" 10 \
+        'mr2 9 1' "${lines[@]}" 'E' -- 'mp2 8 1' 'K 0' 'E'
+}
+
+# standing MARK FIRST LAST: these of the bookings that server 3 has by them, as a calendar shows them
+standing() {
+    local n
+    for ((n = $2; n <= $3; n++)); do
+        printf '1995-12-18 %02d:%02d-%02d:%02d %s 3-%s x\n' $(((n - 1) / 60)) $(((n - 1) % 60)) $((n / 60)) $((n % 60)) "$1" "$n"
+    done
+}
+
+# gives_each HAS LINE..: for a position with these writes of server 3 there are these lines, and at most 1, 63, 64 or 65 of them are given
+gives_each() {
+    local has=$1 asked ending
+    local -a given
+    shift
+    for asked in 1 63 64 65; do
+        given=('mr2 9 1' "${@:1:asked}" E)
+        if [ "$asked" -lt $# ]; then given[-1]=M; fi
+        gives "$asked of $# lines" 0 "wrote $(size "${given[@]}") bytes" "$asked" "${given[@]}" -- 'mp2 8 1' 'K 0' ${has:+"$has"} 'E'
+    done
+}
+
+# batches of 0, 1, 63, 64 and 65 lines: what is received, and what is given of them, first writes and then cancels of these
+run_counted_lines() {
+    local count n
+    local -a writes cancels=()
+    mapfile -t writes < <(minutes 3 1 65)
+    for ((n = 1; n <= 65; n++)); do cancels+=("X 4 $n $((100 + n)) oak 3 $n"); done
+    for count in 0 1 63 64 65; do
+        blank 9 1
+        brings "$count writes" 0 "took $count writes 0 commits" 'mr2 3 1' "${writes[@]:0:count}" 'E'
+        gives_each '' "${writes[@]:0:count}"
+        brings "all writes after $count" 0 "took $((65 - count)) writes 0 commits" 'mr2 3 1' "${writes[@]}" 'E'
+        brings "$count cancels" 0 "took $count writes 0 commits" 'mr2 4 1' "${cancels[@]:0:count}" 'E'
+        gives_each 'V 3 65' "${cancels[@]:0:count}"
+    done
+}
+
+# shows_from FIRST LAST: the committed calendar has these bookings
+shows_from() {
+    local -a rows
+    mapfile -t rows < <(standing C "$1" "$2")
+    has "the committed calendar from $1 to $2" 'calendar oak committed' 'oak committed' "${rows[@]:-(no bookings)}"
+}
+
+# commits of 0, 1, 63, 64 and 65 of many writes: of bookings that tentative cancels took back, and then of the cancels
+run_counted_commits() {
+    local count n all=$scratch/commands/all.db
+    local -a writes cancels=()
+    mapfile -t writes < <(minutes 3 1 1056)
+    for ((n = 1; n <= 65; n++)); do cancels+=("X 4 $n $((100 + n)) oak 3 $n"); done
+    blank 1 1
+    brings '65 writes and their cancels' 0 'took 130 writes 0 commits' 'mr2 3 1' "${writes[@]:0:65}" "${cancels[@]}" 'E'
+    cp -- "$database" "$all"
+    for count in 0 1 63 64 65; do
+        rm -f -- "$database"-*
+        cp -- "$all" "$database"
+        expect_line "a commit of $count" 0 "committed $count" commit "$database" "$count"
+        shows_from 1 "$count"
+        has "the position after $count" position 'mp2 1 1' "K $count" 'V 3 65' 'V 4 65' 'E'
+        expect_line "the cancels of $count" 0 'committed 65' commit "$database" 65
+        shows_from $((count + 1)) 65
+        has "the calendar after $count" 'calendar oak full' 'oak full' '(no bookings)'
+    done
+    # a sixteenth of the tentative writes, and one more than that
+    blank 1 1
+    brings '1,056 writes' 0 'took 1056 writes 0 commits' 'mr2 3 1' "${writes[@]}" 'E'
+    expect_line 'a commit of 65 of 1,056' 0 'committed 65' commit "$database" 65
+    shows_from 1 65
+    blank 1 1
+    brings '1,055 writes' 0 'took 1055 writes 0 commits' 'mr2 3 1' "${writes[@]:0:1055}" 'E'
+    expect_line 'a commit of 65 of 1,055' 0 'committed 65' commit "$database" 65
+    shows_from 1 65
+}
+
 # strange NAME STATUS LINE SQL: the stock sqlite3 ran this text in the database of a replica, which then answers so
 strange() {
     blank 1 1
@@ -244,6 +346,9 @@ run_commands() {
     run_primary
     run_versions
     run_lone_cancels
+    run_alternatives
+    run_counted_lines
+    run_counted_commits
     run_strange
     if ! command -v python3 > /dev/null; then
         echo 'skipped: scripts on databases (no python3)'

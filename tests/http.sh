@@ -137,6 +137,54 @@ run_cancelled() {
     served 'the lines of cancels' 200 200 200 200 200 200 200 404 404 404 400 400 400 400 400 400 405 200 409 200
 }
 
+# submissions with each number of alternatives at which something changes; all choices are taken, but for the last
+run_alternatives_over_http() {
+    local folder=$scratch/served.d taken='{"day":"1995-12-18","start":"00:00"}' n=1 k count others
+    local request='"day":"1995-12-18","length":30,"room":"oak","start":"00:00"'
+    expect_line 'init of what has alternatives' 0 'ok' init "$folder/d.db" 1 1
+    expect_line 'a room of what has alternatives' 0 'ok' add-room "$folder/d.db" oak
+    serve "$folder/d.db" 12
+    submitted 'a whole day' 200 '{"day":"1995-12-18","id":"1-1","mark":"T","start":"00:00","state":"booked","stop":"24:00"}' \
+        '{"day":"1995-12-18","length":1440,"room":"oak","start":"00:00","title":"Closed","alternatives":[]}'
+    for count in 1 2 4 5 6 7 8 9 16 17; do
+        others=
+        for ((k = 1; k < count; k++)); do others+="$taken,"; done
+        printf -v k '%02d' "$count"
+        others+="{\"day\":\"1995-12-19\",\"start\":\"$k:00\"}"
+        n=$((n + 1))
+        if [ "$count" = 17 ]; then
+            submitted 'seventeen alternatives over HTTP' 400 '{"name":"TooManyAlternatives","refusal":6}' "{$request,\"title\":\"x\",\"alternatives\":[$others]}"
+        else
+            submitted "$count alternatives over HTTP" 200 \
+                "{\"day\":\"1995-12-19\",\"id\":\"1-$n\",\"mark\":\"T\",\"start\":\"$k:00\",\"state\":\"booked\",\"stop\":\"$k:30\"}" \
+                "{$request,\"title\":\"x\",\"alternatives\":[$others]}"
+        fi
+    done
+    submitted 'no alternative over HTTP' 200 '{"id":"1-11","mark":"T","state":"logged"}' "{$request,\"title\":\"x\"}"
+    served 'the lines of alternatives' 200 200 200 200 200 200 200 200 200 200 400 200
+}
+
+# pushes of 0, 1, 63, 64 and 65 lines, each of a server of its own; and pulls where so many of the last are lacked, of which 64 are given at most
+run_counted_requests() {
+    local folder=$scratch/served.d line=$'\n' count last ending
+    expect_line 'init of what is counted' 0 'ok' init "$folder/e.db" 9 1
+    serve "$folder/e.db" 10
+    for count in 0 1 63 64 65; do
+        { printf 'mr2 3 1\n'; minutes $((count + 1)) 1 "$count"; printf 'E\n'; } > "$folder/counted"
+        asked "a push of $count lines" 200 "took $count writes 0 commits$line" /push --data-binary "@$folder/counted"
+    done
+    for count in 0 1 63 64 65; do
+        last=65 ending=E
+        if [ "$count" = 65 ]; then last=64 ending=M; fi
+        printf 'mp2 8 1\nK 0\nV 2 1\nV 64 63\nV 65 64\n' > "$folder/claim"
+        if [ "$count" -lt 65 ]; then printf 'V 66 %s\n' $((65 - count)) >> "$folder/claim"; fi
+        printf 'E\n' >> "$folder/claim"
+        asked "a pull of $count lines" 200 "$(printf 'mr2 9 1\n'; minutes 66 $((66 - count)) "$last"; printf '%s' "$ending")$line" \
+            /pull --data-binary "@$folder/claim"
+    done
+    served 'the lines of what is counted' 200 200 200 200 200 200 200 200 200 200
+}
+
 # raw NAME WANTED TEXT: what is answered to these bytes, with nothing behind them, begins with this line
 raw() {
     python3 - "$port" "$3" > "$scratch/out" 2> "$scratch/err" <<'PYTHON'
@@ -279,6 +327,28 @@ run_exchanges() {
     run_other_family "$folder/two.db"
 }
 
+# exchanges where 63, 64 and 65 lines are pulled, and where so many are pushed: a round has 64, and the last one ends it
+run_counted_rounds() {
+    local folder=$scratch/exchanges count rounds
+    local -a statuses=(200 200 200 200 200)
+    for count in 63 64 65; do
+        rounds=$((count > 64 ? 2 : 1))
+        { printf 'mr2 3 1\n'; minutes 3 1 "$count"; printf 'E\n'; } > "$folder/counted"
+        printf 'pulled %s writes 0 commits\npushed 0 writes 0 commits\n' "$count" > "$folder/pulled"
+        printf 'pulled 0 writes 0 commits\npushed %s writes 0 commits\n' "$count" > "$folder/pushed"
+        expect_line "init of an office with $count" 0 'ok' init "$folder/$count.db" 1 1
+        expect_line "$count writes of another" 0 "took $count writes 0 commits" import "$folder/$count.db" "$folder/counted"
+        expect_line "init of one that pulls $count" 0 'ok' init "$folder/pulls-$count.db" 2 1
+        expect_line "init of one that takes $count" 0 'ok' init "$folder/takes-$count.db" 2 1
+        serve "$folder/$count.db" $((rounds + 2))
+        expect "a pull of $count in rounds" 0 "$folder/pulled" exchange "$folder/pulls-$count.db" "http://127.0.0.1:$port/"
+        served "the lines of a pull of $count" "${statuses[@]:0:rounds + 2}"
+        serve "$folder/takes-$count.db" $((2 * rounds + 1))
+        expect "a push of $count in rounds" 0 "$folder/pushed" exchange "$folder/$count.db" "http://127.0.0.1:$port/"
+        served "the lines of a push of $count" "${statuses[@]:0:2 * rounds + 1}"
+    done
+}
+
 # shows_two NAME LINE..: both offices that exchange cancels print these lines of what is asked by the words in $words
 shows_two() {
     local name=$1 office
@@ -361,11 +431,14 @@ run_http() {
     if command -v curl > /dev/null; then
         run_served
         run_cancelled
+        run_alternatives_over_http
+        run_counted_requests
         run_raw_requests
         run_killed
     else
         echo 'skipped: a served database, cut requests, a killed server (no curl)'
     fi
     run_exchanges
+    run_counted_rounds
     run_exchanged_cancels
 }

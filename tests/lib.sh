@@ -1,4 +1,4 @@
-# What the files of tests share: each function runs the program, or compares what it printed or wrote, and counts the result
+# What the files of tests share: each function but `minutes` runs the program, or compares what it printed or wrote, and counts the result
 # in $passed or $failed. ./test sources this file, and sets $program (the built program), $scratch (a folder for files), $quick
 # (another, in memory where there is such a place), $passed and $failed before.
 
@@ -60,6 +60,14 @@ damaged() {
     same "$file after book" "$file" "$scratch/before"
     expect_line "import into $file" 1 "$refusal" import "$file" "$scratch/databases/out"
     same "$file after import" "$file" "$scratch/before"
+}
+
+# minutes SERVER FIRST LAST: the lines of these writes of a server, each for the next minute of oak
+minutes() {
+    local n
+    for ((n = $2; n <= $3; n++)); do
+        printf 'W %s %s %s oak 1 1995-12-18 %02d:%02d 0 x\n' "$1" "$n" "$n" $(((n - 1) / 60)) $(((n - 1) % 60))
+    done
 }
 
 # turn FILE PLACE: turns the lowest bit of the byte at this place

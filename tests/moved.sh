@@ -194,6 +194,12 @@ run_moved_inits() {
     refused_move 'moved: a write without a place' 'refused 25 Store' 'DELETE FROM undo WHERE n = 5'
     refused_move 'moved: a place without a write' 'refused 25 Store' 'INSERT INTO undo VALUES (9, 9, 0)'
     refused_move 'moved: a place of no choice' 'refused 25 Store' 'UPDATE undo SET place = -2 WHERE n = 6'
+    refused_move 'moved: the place of a ninth alternative' 'refused 25 Store' 'UPDATE undo SET place = 9 WHERE server = 7 AND n = 3'
+    # its choices are of one slot
+    first_tables eighth
+    sqlite3 "$database" 'UPDATE undo SET place = 8 WHERE server = 7 AND n = 3'
+    replies 'moved: the eighth alternative' 'outcome a-room-of-16-byt 7-3' '7-3 C 2099-12-31 12:00-12:15'
+    rows 'moved: its place' 'SELECT place FROM log WHERE server = 7 AND n = 3' 8
 }
 
 run_moved() {

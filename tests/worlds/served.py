@@ -119,7 +119,7 @@ class Served(Commands):
 
     def push(self, taker, text):
         if self.is_up:
-            self.request(taker, 'push', post('/push', text))
+            self.received(text, self.request(taker, 'push', post('/push', text)))
         else:
             super().push(taker, text)
 

@@ -54,6 +54,8 @@ class World:
 
     # What has to be tried.
     WANTED = [*[f'{count} alternatives' for count in (*range(10), 16, 17)], *[f'place {place}' for place in (*range(10), 16)],
+              *[f'logged with {count} alternatives' for count in (*range(10), 16)],
+              *[f'{way} mr2 with {count} alternatives' for way in ('given in', 'received in') for count in (*range(10), 16)],
               *[f'refusal {number}' for number in (*range(1, 13), 17, 22)],
               *[f'book: T {state}' for state in ('booked', 'logged')], *[f'cancel: T {state}' for state in ('cancels', 'void')],
               *[f'outcome: {mark} {state}' for mark in 'CT' for state in ('booked', 'logged', 'cancelled', 'cancels', 'void')],
@@ -100,7 +102,18 @@ class World:
 
     def receive(self, replica, text):
         """The reply to a batch's bytes."""
-        return wire.receive(replica, text)
+        return self.received(text, wire.receive(replica, text))
+
+    def received(self, text, reply):
+        """The same reply, where it says that the batch was taken with a note of its requests."""
+        if reply.startswith('took '):
+            self.note_requests('received in', text.decode('latin-1'))
+        return reply
+
+    def note_requests(self, way, text):
+        """In which version a batch has requests, and with how many alternatives."""
+        header, *lines = text.split('\n')[:-1] or ['']
+        self.note(*[f'{way} {header[:3]} with {line.split(" ")[8]} alternatives' for line in lines if line.startswith('W ')])
 
     def kinds(self):
         """What is asked how often: in some worlds mostly for rooms, of one replica, so that much of it is tentative."""
@@ -171,6 +184,8 @@ class World:
         if reply and ':' in reply:
             _, _, day, times = reply.split(' ')
             self.note(f'place {slots.index((day, times[:5]))}')
+        elif reply and reply.endswith(' logged'):
+            self.note(f'logged with {len(slots) - 1} alternatives')
 
     def ask_cancel(self):
         server = self.server()
@@ -249,6 +264,7 @@ class World:
     def keep(self, text):
         """A batch that was made, to be handed to anybody at any time."""
         self.pool.append(text)
+        self.note_requests('given in', text)
         lines = text.count('\n') - 2
         self.note(text[:3], 'ends in ' + text[-2], *[f'a batch of {lines} lines', f'{lines} lines and {text[-2]}'] if lines in (0, 1, 63, 64, 65) else [])
 
@@ -298,7 +314,8 @@ class World:
 class Bytes(World):
     """A world in which batches and positions are bytes, and may come from anybody."""
 
-    WANTED = World.WANTED + ['mr1', '64 lines and E', '64 lines and M', *[f'refusal {number}' for number in (13, 15, 16, *range(18, 24), 27)]]
+    WANTED = World.WANTED + ['mr1', '64 lines and E', '64 lines and M', *[f'refusal {number}' for number in (13, 15, 16, *range(18, 24), 27)],
+                             *[f'{way} mr1 with {count} alternatives' for way in ('given in', 'received in') for count in range(9)]]
     KINDS = World.KINDS | {'batch': 10, 'claim': 4, 'deliver': 7, 'forged': 4}
 
     def begin(self):

@@ -4,13 +4,14 @@ use Prim.Native.String.{String}
 use Rattle.std.specs.Fmt.{digits}
 use Rattle.mr_model.specs.Texts.{Text, words, lines_text}
 use Rattle.mr_model.specs.Replica.{opening}
-use Rattle.mr_model.specs.Exchange.{Item, Batch, read_batch}
+use Rattle.mr_model.specs.Exchange.{Item, Batch, Second, read_batch}
+use Rattle.mr_model.specs.Positions.{Count, Position}
 use Rattle.mr_model.specs.Tables.{Tables, tables_of}
 use Rattle.mr_model.proofs.Script.{Bytes, elm_batch, q, replica_after}
 use Rattle.mr_model.proofs.TableRows.{cancelled_alpha}
 use Rattle.mr_model.specs.Requests.{Request}
 use Rattle.mr_model.specs.Calendar.{Date}
-use Rattle.mr_model.specs.Scopes.{OfRequest, OfTarget, NextCommits, OfItems, in_scope, counted_rows}
+use Rattle.mr_model.specs.Scopes.{OfRequest, OfTarget, NextCommits, OfPosition, OfItems, in_scope, counted_rows}
 
 -- the items of a batch with these lines
 abbrev items_read : Result Batch Rattle.mr_model.specs.Refusals.Refusal → List Item
@@ -35,6 +36,26 @@ committed_tables = tables_of (replica_after (opening 9 1) (Bytes elm_batch ∷ B
 beside_committed : counted_rows (in_scope (OfItems gamma) committed_tables) ≡ 2
 unfolding digits
 beside_committed = refl
+
+-- a repeated commit needs the row of its write alone: it touches no room, and moves no tentative write of a room that another line touches
+abbrev repeated : List Item
+repeated = items_in ("mr1 2 1" ∷ "C 50 3 50" ∷ "W 2 2 2 oak 30 1995-12-18 17:00 0 Gamma" ∷ "E" ∷ [])
+
+beside_known_commit : counted_rows (in_scope (OfItems repeated) committed_tables) ≡ 3
+unfolding digits
+beside_known_commit = refl
+
+-- a batch for a position: the commits above its own, and of the tentative writes those that it lacks
+abbrev position_with : ℕ → List Count → Position
+position_with commits counts = record { version = Second; server = 1; primary = 1; commits = commits; counts = counts }
+
+for_position : counted_rows (in_scope (OfPosition (position_with 40 (record { server = 1; count = 1 } ∷ []))) committed_tables) ≡ 11
+unfolding digits
+for_position = refl
+
+for_position_with_all : counted_rows (in_scope (OfPosition (position_with 50 (record { server = 1; count = 1 } ∷ record { server = 2; count = 1 } ∷ record { server = 3; count = 50 } ∷ []))) committed_tables) ≡ 0
+unfolding digits
+for_position_with_all = refl
 
 -- the same without the commits
 abbrev elm_writes : ℕ → ℕ → List Text
@@ -63,12 +84,17 @@ committing_cancelled : counted_rows (in_scope (NextCommits 1) (tables_of cancell
 unfolding digits
 committing_cancelled = refl
 
+-- a later write of its room needs that in cancelled; the cancel, of the same time and of a smaller server, comes before it
+beside_cancelled : counted_rows (in_scope (OfItems gamma) (tables_of cancelled_alpha)) ≡ 1
+unfolding digits
+beside_cancelled = refl
+
 -- another cancel of it needs the latter
 cancelling_cancelled : counted_rows (in_scope (OfTarget (record { server = 1; n = 1 })) (tables_of cancelled_alpha)) ≡ 1
 unfolding digits
 cancelling_cancelled = refl
 
--- writes of oak on three days, and one of elm on the first of these
+-- writes of oak on three days, one of elm on the first of these, and one of oak on that day of another month
 abbrev days_tables : Tables
 days_tables =
     tables_of
@@ -77,7 +103,7 @@ days_tables =
     (lines_text
     (map codes
     ("mr1 2 1" ∷ "W 2 1 1 oak 60 1995-12-18 14:00 0 First" ∷ "W 2 2 2 oak 60 1995-12-19 14:00 0 Second" ∷ "W 2 3 3 oak 60 1995-12-20 09:00 0 Third"
-    ∷ "W 2 4 4 elm 60 1995-12-18 14:00 0 Elm" ∷ "E" ∷ [])))
+    ∷ "W 2 4 4 elm 60 1995-12-18 14:00 0 Elm" ∷ "W 2 5 5 oak 60 1995-11-18 14:00 0 Fifth" ∷ "E" ∷ [])))
     ∷ []))
 
 abbrev december : ℕ → Date

@@ -7,6 +7,7 @@ use Rattle.mr_model.specs.Replay.{Taken, Logged, Done, Void}
 use Rattle.mr_model.specs.Replica.{Replica, opening}
 use Rattle.mr_model.specs.Step.{AddRoom, Submit, Cancel, Commit, Truncate, Submission, SlotWords}
 use Rattle.mr_model.specs.Tables.{OfMeeting, OfCancel, Tables, tables_of}
+use Rattle.mr_model.specs.First.{FirstTables, first_tables_of, moved}
 use Rattle.mr_model.specs.Scopes.{counted_rows}
 use Rattle.mr_model.proofs.Script.{Do, Lines, Bytes, elm_batch, q, replica_after}
 
@@ -72,6 +73,33 @@ mixed_rows_dropped :
 unfolding digits
 mixed_rows_dropped = refl
 
+-- ---- the first schema
+
+-- its tables of the same replica, which has dropped a commit: the log and the places are tables of their own, without the dropped write
+abbrev first_of_mixed : FirstTables
+first_of_mixed =
+    record {
+      meta = record { server = 2; primary = 1; commits = 1; dropped = 1; clock = 3 };
+      room = tables_of_mixed.room;
+      vector = tables_of_mixed.vector;
+      write_log =
+          record { server = 2; n = 1; time = 2; room = codes "oak"; length = 60; choices = codes "1995-12-18 14:00 1995-12-18 16:00"; title = codes "Alpha"; seq = 0 }
+          ∷ record { server = 2; n = 2; time = 3; room = codes "oak"; length = 30; choices = codes "1995-12-18 16:30"; title = codes "Beta"; seq = 0 } ∷ [];
+      undo = record { server = 2; n = 1; place = Taken 1 } ∷ record { server = 2; n = 2; place = Logged } ∷ [];
+      booking = tables_of_mixed.booking;
+      errorlog = tables_of_mixed.errorlog;
+    }
+
+first_rows : first_tables_of (replica_after mixed (Do (Truncate 1) ∷ [])) ≡ first_of_mixed
+unfolding digits
+first_rows = refl
+
+-- a row of the log without a place moves up to no row
+without_place : (moved (record first_of_mixed { undo = record { server = 2; n = 2; place = Logged } ∷ [] })).log ≡
+    record { server = 2; n = 2; time = 3; room = codes "oak"; action = OfMeeting (record { length = 30; choices = codes "1995-12-18 16:30"; title = codes "Beta" }); place = Logged; seq = 0 } ∷ []
+unfolding digits
+without_place = refl
+
 -- ---- cancels
 
 abbrev pub booking : String → List SlotWords → String → Submission
@@ -131,6 +159,11 @@ tables_of_alpha =
 cancelled_alpha_rows : tables_of cancelled_alpha ≡ tables_of_alpha
 unfolding digits
 cancelled_alpha_rows = refl
+
+-- two rows of the log, and one of the cancelled booking; that of the cancel is not counted
+rows_of_alpha : counted_rows tables_of_alpha ≡ 3
+unfolding digits
+rows_of_alpha = refl
 
 -- it is committed: its row stays in cancelled, and gets the mark there
 committed_alpha_rows :
