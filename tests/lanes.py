@@ -52,7 +52,11 @@ class Lanes:
         most_jobs = self.most_jobs if sum(map(is_proof, ready)) == 1 else min(self.most_jobs, max(2, rt().processors() // 2))
         for key in ready:
             needs = self.needs[key]
-            if self.running and needs > room or is_beside_full and not is_proof(key):
+            if is_beside_full and not is_proof(key):
+                continue
+            if self.running and needs > room:
+                # what runs beside proofs waits for those that wait for memory, and takes none of it
+                is_beside_full = is_beside_full or is_proof(key)
                 continue
             # more jobs make a proof shorter, and take half as much processor time again
             is_shared = is_proof(key) and self.is_critical(key)
