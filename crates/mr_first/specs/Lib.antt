@@ -1,4 +1,4 @@
--- A reader of the contracts trusts all of these but MoveUpSteps and FirstShown, which serve private clauses and proofs.
+-- A reader of the contracts trusts all of these.
 pub mod FirstCells
 pub mod Forms
 pub mod FirstDatabase
