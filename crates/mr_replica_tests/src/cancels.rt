@@ -5,7 +5,7 @@ use crate::desks::{
 };
 use crate::tables::{Rows, tables};
 use crate::tests::{OPENING, TAKEN_BACK};
-use mr_base::{Alternatives, Day, Item, Refusal, Request, Slot, WriteId};
+use mr_base::{Alternatives, Day, Item, Position, Refusal, Request, Slot, WriteId};
 use mr_part::{Part, Scope};
 use mr_replay::Place;
 use mr_tables::Change;
@@ -389,6 +389,8 @@ fn rows_of(alloc: Global, rows: &Rows, scope: &Scope<'_>) -> Result<u64, Refusal
 
 /// How many rows the part for the next commit has, that for a cancel of server 3's write, and that for a batch without lines.
 fn counts(alloc: Global) -> Result<[u64; 3], Refusal> {
+    // For the prover alone, which follows a scope where the types of all that a scope may hold are in use.
+    let _no_position: Option<&Position> = None;
     let target = WriteId::new(crate::desks::server(3)?, 1).ok_or(Refusal::NoSuchRequest)?;
     let of_commit = rows_of(alloc, &BOTH_TENTATIVE, &Scope::NextCommits(1))?;
     let of_target = rows_of(alloc, &BOTH_TENTATIVE, &Scope::OfTarget(target))?;
@@ -408,9 +410,10 @@ fn request_on(alloc: Global, day: &str, other: Option<&str>) -> Result<Request, 
     Request::of_words(alloc, "oak", "Delta", 60, wish, others)
 }
 
-/// How many rows the part for this request has, and that for a batch without lines. That there is one is for the prover alone, which
-/// follows a scope where the types of all that a scope may hold are in use.
+/// How many rows the part for this request has, and that for a batch without lines. That there is one, and no position, is for the prover
+/// alone, which follows a scope where the types of all that a scope may hold are in use.
 fn rows_of_request(alloc: Global, request: &Request) -> Result<[u64; 2], Refusal> {
+    let _no_position: Option<&Position> = None;
     let scope = Scope::OfRequest(&request.room, &request.meeting);
     let of_request = rows_of(alloc, &BOTH_TENTATIVE, &scope)?;
     let no_items: &[Item] = &[];
@@ -443,6 +446,8 @@ fn rows_of_parts_are_counted(rt: HostRuntime) {
 
 /// How many rows the part has for a batch with server 1's cancel of server 3's write, at this time.
 fn rows_of_cancel(alloc: Global, time: u64) -> Result<u64, Refusal> {
+    // For the prover alone, which follows a scope where the types of all that a scope may hold are in use.
+    let _no_position: Option<&Position> = None;
     let batch = batch(alloc, 1, &[Line::X(1, 1, time, 3, 1)])?;
     rows_of(alloc, &BOTH_TENTATIVE, &Scope::Items(&batch.items))
 }

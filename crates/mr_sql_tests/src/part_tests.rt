@@ -5,7 +5,7 @@ use crate::acts::{Act, said};
 use crate::opening::{Opening, new_service, server};
 use crate::receiving_tests::TWO;
 use crate::same_text::{same_count, same_text};
-use mr_base::{Alternatives, Day, Refusal, Request, Slot, WriteId};
+use mr_base::{Alternatives, Day, Position, Refusal, Request, Slot, WriteId};
 use mr_part::Scope;
 use mr_service::Service;
 use mr_sql::SqlKeeper;
@@ -140,11 +140,15 @@ fn rows_of_request<K: Keeper>(
 ) -> Result<u64, Refusal> {
     let wish = Slot::new(Day::read(day)?, 540)?;
     let others = Alternatives::from_vec(Vec::new(alloc));
+    // For the prover alone, which follows a scope where the types of all that a scope may hold are in use.
+    let _no_position: Option<&Position> = None;
     let request = Request::of_words(alloc, room, "Delta", 60, wish, others)?;
     rows_in(keeper, &Scope::OfRequest(&request.room, &request.meeting))
 }
 
 fn rows_of_batch<K: Keeper>(alloc: Global, keeper: &mut K, text: &str) -> Result<u64, Refusal> {
+    // For the prover alone, which follows a scope where the types of all that a scope may hold are in use.
+    let _no_position: Option<&Position> = None;
     let batch = read_batch(alloc, text.as_bytes())?;
     rows_in(keeper, &Scope::Items(&batch.items))
 }
@@ -155,12 +159,16 @@ fn rows_of_position<K: Keeper>(alloc: Global, keeper: &mut K, text: &str) -> Res
 }
 
 fn rows_of_target<K: Keeper>(keeper: &mut K, n: u32) -> Result<u64, Refusal> {
+    // For the prover alone, which follows a scope where the types of all that a scope may hold are in use.
+    let _no_position: Option<&Position> = None;
     let target = WriteId::new(server(9)?, n).ok_or(Refusal::NoSuchRequest)?;
     rows_in(keeper, &Scope::OfTarget(target))
 }
 
 /// How many rows the part has.
 fn rows<K: Keeper>(alloc: Global, keeper: &mut K, part: For) -> Result<u64, Refusal> {
+    // For the prover alone, which follows a scope where the types of all that a scope may hold are in use.
+    let _no_position: Option<&Position> = None;
     match part {
         For::Position => rows_in(keeper, &Scope::Nothing),
         For::Submission(room, day) => rows_of_request(alloc, keeper, room, day),

@@ -2,7 +2,7 @@
 
 use crate::changes::{TUESDAY, first_change, id, request};
 use crate::tests::{Call, OF_BOTH_CHANGES, Place, answers, check, fault_of, opening, told};
-use mr_base::{Day, Refusal, Request, WriteId};
+use mr_base::{Day, Position, Refusal, Request, WriteId};
 use mr_part::Scope;
 use mr_store::{Cached, Fault, Keeper, ListKeeper, Tripped};
 use mr_tables::Change;
@@ -124,6 +124,8 @@ fn slot_behind_first_change<K: Keeper>(
     let change = first_change(alloc)?;
     told(keeper.apply(&change))?;
     let request = request(alloc)?;
+    // For the prover alone, which follows a scope where the types of all that a scope may hold are in use.
+    let _no_position: Option<&Position> = None;
     let part = told(keeper.load_part(&Scope::OfRequest(&request.room, &request.meeting)))?;
     let (_, change) = part.submit(request)?;
     Ok(change.booking.first().map(|row| (row.day, row.start)))

@@ -2,7 +2,7 @@
 // a test does not carry the state of each call.
 
 use crate::changes::{MONDAY, first_change, id, request, second_change, server, tables};
-use mr_base::{Day, Refusal, Request, RoomName, WriteId};
+use mr_base::{Day, Position, Refusal, Request, RoomName, WriteId};
 use mr_part::Scope;
 use mr_store::{Fault, Keeper, ListKeeper, PlaceRow, Tripped};
 use mr_tables::{BookingRow, CancelRow, CancelledRow, Change, ErrorRow};
@@ -361,6 +361,8 @@ pub(crate) fn fault_of<K: Keeper>(
     id: WriteId,
     change: &Change,
 ) -> Option<Fault> {
+    // For the prover alone, which follows a scope where the types of all that a scope may hold are in use.
+    let _no_position: Option<&Position> = None;
     let room = &request.room;
     match call {
         0 => keeper.load().err(),
@@ -405,6 +407,8 @@ fn each_call_trips_once(rt: HostRuntime) {
 
 /// The fault of a part without rows of writes, where it has one.
 fn fault_of_part<K: Keeper>(keeper: &mut K) -> Option<Fault> {
+    // For the prover alone, which follows a scope where the types of all that a scope may hold are in use.
+    let _no_position: Option<&Position> = None;
     keeper.load_part(&Scope::Nothing).err()
 }
 
