@@ -1,6 +1,5 @@
 mod WordLaws
 mod ScriptLines
-mod ScriptParts
 mod CutSlots
 mod ScriptLaws
 mod RunLaws

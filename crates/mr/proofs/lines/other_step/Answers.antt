@@ -7,7 +7,7 @@ use Rattle.std.specs.List.{slice_split}
 use Rattle.mr_model.specs.Texts.{Text, is_space}
 use Rattle.mr_service.specs.Stepping.{step_of}
 use Rattle.mr.specs.LineSteps.{row_step}
-use Rattle.mr.proofs.ScriptParts.{five_words}
+use Rattle.mr.proofs.ScriptLines.{five_words}
 use Rattle.mr.proofs.lines.other_step.Goals as goal
 
 pub returns : goal.returns
