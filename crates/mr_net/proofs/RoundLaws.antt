@@ -20,7 +20,7 @@ use Rattle.mr_peer.specs.PeerTaking.{TakesReply, TellsAsRead}
 use Rattle.mr_peer.specs.Exchanged.{IsExchanged}
 use Rattle.mr_peer.specs.ExchangeSteps.{ReachesByPull, TakesBody, TakesPulled}
 use Rattle.mr_peer.specs.Rounds.{Pulls, Pushes, TellsTook}
-use Rattle.mr_peer.proofs.AskLemmas.{ask_failed, failed_as}
+use Rattle.mr_peer.proofs.AskLemmas.{ask_failed, begun, failed_as, given_so}
 use Rattle.mr_peer.proofs.Exchanges.{both, onward, reached}
 use Rattle.mr_peer.proofs.RoundEffects.{body_behind, pulls_behind}
 use Rattle.mr_net.specs.declared.ways.Way.TheVariants.{Pull, Push}
@@ -127,6 +127,7 @@ push_unmade keeper a b position host held holds e result gave is told =
             h.0,
             ask_failed Ending (ℕ × ℕ × Ending) x (lacking position) (push_request host (batch_text made)) held holds e
                 (TellsTook None made.ending (Err e) × GivesBatch x position) is h.1 h.2,
+            given_so Ending (ℕ × ℕ × Ending) x position e h.4,
           )),
       told,
     )
@@ -149,7 +150,7 @@ push_told keeper a b position host none made held holds known ending (Ok counts)
           (Reaches (keeper.tables a) (lacking position)) gave (λ L l. l)
           (λ x y h.
           let request = push_request host (batch_text (batch_of x position lines_over_http)) in
-          (h.0, inr (sent_whole none made request held holds empty h.2 sent, ((Ok counts, told, (refl, refl, h.3)), h.4)))),
+          (h.0, inr (sent_whole none made request held holds empty h.2 sent, ((Ok counts, told, (refl, refl, h.3)), h.4)), h.4)),
       brings,
     )
 push_told keeper a b position host none made held holds known ending (Err e) result empty gave sent told brings =
@@ -164,7 +165,7 @@ push_told keeper a b position host none made held holds known ending (Err e) res
           (Reaches (keeper.tables a) (lacking position)) gave (λ L l. tt)
           (λ x y h.
           let request = push_request host (batch_text (batch_of x position lines_over_http)) in
-          (h.0, inr (sent_whole none made request held holds empty h.2 sent, ((Err e, told, refl), h.4)))),
+          (h.0, inr (sent_whole none made request held holds empty h.2 sent, ((Err e, told, refl), h.4)), begun (ℕ × ℕ × Ending) x position e h.4)),
       brings,
     )
 
@@ -192,7 +193,7 @@ push_sent keeper a b position host none made held holds known ending result empt
           (Reaches (keeper.tables a) (lacking position)) gave (λ L l. tt)
           (λ x y h.
           let request = push_request host (batch_text (batch_of x position lines_over_http)) in
-          (h.0, inl (tt, tt, sent_part none made request held holds n empty h.2 few sent))),
+          (h.0, inl (tt, tt, sent_part none made request held holds n empty h.2 few sent), h.4)),
       told,
     )
 push_sent keeper a b position host none made held holds known ending result empty gave (inr (sent, counts, told, brings)) =

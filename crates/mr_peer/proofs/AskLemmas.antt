@@ -205,3 +205,13 @@ pub ask_failed : (X Y : Type 0) (a : Replica) (command : Command) (request : Tex
 ask_failed X Y a command request held holds e taken is own wrote =
     let f = failed_as X Y a command request held holds e own wrote in
     inl (is, f.0, f.1)
+
+-- of a fault it is the same, whatever else might have come
+pub given_so : (X Y : Type 0) (a : Replica) (position : Position) (e : WebFault)
+    → GivesWritten {X = X} a position (Err e) → GivesWritten {X = Y} a position (Err e)
+given_so X Y a position (fault.Own e) gives = tt
+given_so X Y a position fault.Memory gives = tt
+given_so X Y a position fault.Read gives = tt
+given_so X Y a position fault.Write gives = gives
+given_so X Y a position fault.BadReply gives = tt
+given_so X Y a position (fault.Peer n) gives = tt

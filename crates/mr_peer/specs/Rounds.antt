@@ -10,7 +10,7 @@ use Rattle.mr_model.specs.Step.{Command, AskPosition, batch_of}
 use Rattle.mr_base.specs.Batches.{ending_seen}
 use Rattle.mr_base.specs.declared.batches.Ending.{Ending}
 use Rattle.mr_http.specs.declared.faults.WebFault.{WebFault}
-use Rattle.mr_peer.specs.PeerAsking.{GivesBatch, IsAskFault, Wrote, OwnRefuses, SendsPull, SendsPush, lacking}
+use Rattle.mr_peer.specs.PeerAsking.{GivesBatch, GivesWritten, IsAskFault, Wrote, OwnRefuses, SendsPull, SendsPush, lacking}
 use Rattle.mr_peer.specs.PeerReplies.{told_took}
 use Rattle.mr_peer.specs.PeerRequests.{pull_request, push_request}
 use Rattle.mr_peer.specs.ExchangeSteps.{ReceivesSome}
@@ -45,6 +45,7 @@ Pushes position host held holds known a result b =
     (b ≡ a)
     × RunsRequest a (lacking position) (push_request host (exchange.batch_text (batch_of a position lines_over_http))) held holds result
     (TellsTook known (batch_of a position lines_over_http).ending result × GivesBatch a position)
+    × GivesWritten a position result
 
 -- ---- whatever this replica is
 

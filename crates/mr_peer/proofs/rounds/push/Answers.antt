@@ -11,7 +11,7 @@ use Rattle.mr_peer.specs.PeerAsking.{GivesBatch, AsksPush, lacking}
 use Rattle.mr_peer.specs.Exchanged.{IsExchanged}
 use Rattle.mr_peer.specs.PeerRequests.{push_request}
 use Rattle.mr_peer.specs.Rounds.{Pushes, TellsTook}
-use Rattle.mr_peer.proofs.AskLemmas.{ask_failed}
+use Rattle.mr_peer.proofs.AskLemmas.{ask_failed, begun, given_so}
 use Rattle.mr_peer.proofs.Exchanges.{onward}
 use Rattle.mr_peer.proofs.rounds.push.Goals as goal
 
@@ -37,6 +37,7 @@ returns-in_err-ending-clause-exchanged g c =
       h.0,
       ask_failed Ending (ℕ × ℕ × Ending) a (lacking position) (push_request host (batch_text made)) held holds e
           (TellsTook known made.ending (Err e) × GivesBatch a position) c.in_err-ending.ensures.fault h.1 h.2,
+      given_so Ending (ℕ × ℕ × Ending) a position e h.4,
     )))
 
 -- the peer's reply was not taken
@@ -56,7 +57,7 @@ returns-in_err-writes-clause-exchanged g c =
     let P : Result (ℕ × ℕ × Ending) WebFault → Type 0 = λ r. IsExchanged g.K.Keeper old new r Q R in
     subst P (sym (p.1 ∙ ap Err p.2))
     (onward g.K.Keeper old new (Ok c.in_ok-ending.ending) (Err e) (AsksPush position host held holds) Q R c.in_ok-ending.ensures.exchanged (λ L l. tt)
-    (λ a b h. (h.0, inr (h.2, ((Err e, c.in_err-writes.ensures.tells, refl), h.4)))))
+    (λ a b h. (h.0, inr (h.2, ((Err e, c.in_err-writes.ensures.tells, refl), h.4)), begun (ℕ × ℕ × Ending) a position e h.4)))
 
 pub returns-clause-exchanged : goal.returns-clause-exchanged
 returns-clause-exchanged g c =
@@ -70,7 +71,7 @@ returns-clause-exchanged g c =
     let took : ℕ × ℕ × Ending = (c.in_ok-writes.writes, c.in_ok-writes.commits, c.in_ok-ending.ending) in
     onward g.K.Keeper old c.push_ask.new.service (Ok c.in_ok-ending.ending) (Ok took) (AsksPush position host held holds)
     (Pushes position host held holds known) (Reaches (g.K.Keeper.tables old) (lacking position)) c.in_ok-ending.ensures.exchanged (λ L l. l)
-    (λ a b h. (h.0, inr (h.2, ((Ok counts, c.in_ok-writes.ensures.tells, (refl, refl, h.3)), h.4))))
+    (λ a b h. (h.0, inr (h.2, ((Ok counts, c.in_ok-writes.ensures.tells, (refl, refl, h.3)), h.4)), h.4))
 
 -- ---- whatever this replica is
 
