@@ -5,7 +5,7 @@ use Rattle.mr_model.specs.Texts.{Text, is_space, first_word, after_word, only_if
 use Rattle.mr_model.specs.Step.{Command, Submit, Submission, SlotWords}
 use Rattle.mr_model.specs.World.{Step, Add, Make, Deliver}
 use Rattle.mr_base.specs.Readings.{number_from_to}
-use Rattle.mr_words.specs.CommandTable.{◌>>=◌, NamedRows, add_room_asked, behind_word, in_row, line_count_in, server_in, shared_commands}
+use Rattle.mr_words.specs.CommandTable.{◌>>=◌, NamedRows, add_room_asked, with_first_word, in_row, line_count_in, server_in, shared_commands}
 use Rattle.mr.specs.RehearsalScript.{is_word, all_bytes}
 
 -- the first word, and what follows the space behind it
@@ -68,7 +68,7 @@ script_commands = (codes "room", add_room_asked) ∷ shared_commands
 
 -- a replica's number, and the words of a command to it
 abbrev pub at_server : (List Text → Option Command) → List Text → Option Step
-at_server command_of words = behind_word server_in Step.Do command_of words
+at_server command_of words = with_first_word server_in Step.Do command_of words
 
 -- rows that no command line has
 abbrev pub own_rows : NamedRows Step

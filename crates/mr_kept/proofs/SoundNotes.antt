@@ -20,7 +20,7 @@ use Rattle.mr_tables.proofs.Rising.{both}
 use Rattle.mr_tables.specs.declared.old_errors.OldError.{OldError}
 use Rattle.mr_kept.specs.declared.sound_notes.Note.{Note}
 use Rattle.mr_kept.specs.Log.{is_logged}
-use Rattle.mr_kept.specs.SoundNotes.{error_note, cancel_note, log_note, is_kept_number, is_logged_row, is_cancel_cells, is_cancel_row, AreNotesSound}
+use Rattle.mr_kept.specs.SoundNotes.{error_note, cancel_note, log_note, is_kept_number, is_logged_row, is_cancel_cells, is_row_of_cancel, AreNotesSound}
 use Rattle.mr_kept.proofs.DeskNumbers.{Bears, rows_in_order}
 use Rattle.mr_kept.proofs.OldCancels.{cancel_bears}
 use Rattle.mr_kept.proofs.DroppedErrors.{dropped_one, dropped_is, old_from, old_parts, error_bears}
@@ -139,7 +139,7 @@ notes_sound a h = record {
       (λ w known q. let (row, o, told, number) = logged_row a w h known (logged_is (place_of a w) q) in (row, o))
       (error_bears a);
   cancels =
-      same_notes a (cancel_row a) cancel_note is_cancel_row h
+      same_notes a (cancel_row a) cancel_note is_row_of_cancel h
       (λ w row known o. let is = cancel_row_of a w row o in
       let id = is.id in
       let time = is.time in

@@ -27,10 +27,10 @@ abbrev pub is_cancel_cells : ActionCells → Bool
 is_cancel_cells (OfMeeting meeting) = false
 is_cancel_cells (OfCancel target) = true
 
-abbrev pub is_cancel_row : LogRow → Bool
-is_cancel_row row = is_cancel_cells row.action
+abbrev pub is_row_of_cancel : LogRow → Bool
+is_row_of_cancel row = is_cancel_cells row.action
 
 -- the kept requests of the error log are those that the log tells, and so are the kept cancels
 pub record AreNotesSound (dropped : ℕ) (t : Tables) : Type 0 where
   pub errorlog : map error_note (filter (λ row. is_kept_number dropped row.seq) t.errorlog) ≡ map log_note (filter is_logged_row t.log)
-  pub cancels : map cancel_note (filter (λ row. is_kept_number dropped row.seq) t.cancels) ≡ map log_note (filter is_cancel_row t.log)
+  pub cancels : map cancel_note (filter (λ row. is_kept_number dropped row.seq) t.cancels) ≡ map log_note (filter is_row_of_cancel t.log)

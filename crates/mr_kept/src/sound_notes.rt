@@ -1,5 +1,5 @@
 ghost use Rattle.std.specs.Prelude.{◌≡◌, ◌↔◌, map, filter, IfOk, IfErr, IsTrue};
-ghost use Rattle.mr_kept.specs.SoundNotes.{error_note, cancel_note, log_note, is_kept_number, is_logged_row, is_cancel_row, AreNotesSound};
+ghost use Rattle.mr_kept.specs.SoundNotes.{error_note, cancel_note, log_note, is_kept_number, is_logged_row, is_row_of_cancel, AreNotesSound};
 
 use mr_base::{Refusal, ServerId};
 use mr_replay::Place;
@@ -92,7 +92,7 @@ fn logged_notes(alloc: Global, rows: &[LogRow]) -> Result<Vec<Note>, Refusal>
 
 /// The notes of the cancels in the log.
 fn told_cancels(alloc: Global, rows: &[LogRow]) -> Result<Vec<Note>, Refusal>
-    ensures notes { IfOk result (λ notes. notes.items ≡ map log_note (filter is_cancel_row rows.now)) }
+    ensures notes { IfOk result (λ notes. notes.items ≡ map log_note (filter is_row_of_cancel rows.now)) }
     ensures only { IfErr result (λ e. e ≡ Refusal.OutOfMemory) }
 {
     let mut notes = Vec::new(alloc);
@@ -122,7 +122,7 @@ fn is_logged(row: &LogRow) -> bool
 }
 
 fn is_cancel(row: &LogRow) -> bool
-    ensures { result ≡ is_cancel_row row.now }
+    ensures { result ≡ is_row_of_cancel row.now }
 {
     match row.action {
         ActionCells::OfMeeting(_) => false,

@@ -14,7 +14,7 @@ use Rattle.mr_model.specs.View.{Told, Question, AskSheet, AskCalendar, AskOutcom
 use Rattle.mr_model.specs.Step.{outcome_at, knows_booking}
 use Rattle.mr_model.specs.Tables.{BookingRow, CancelRow, PlaceRow, Tables, place_row, tables_of}
 use Rattle.mr_model.specs.Tables as rows
-use Rattle.mr_model.specs.Queries.{cancelled_outcome, TellsOutcome, IsCommittedBooking, stands, back, LogLine, OfRequest, OfVoid, line_logging, IsLineOf, IsRowFor}
+use Rattle.mr_model.specs.Queries.{cancelled_outcome, TellsOutcome, IsCommittedBooking, stands, back, LogLine, OfLogged, OfVoid, line_logging, IsLineOf, IsRowFor}
 use Rattle.mr_model.specs.Dropped.{Has}
 use Rattle.mr_model.proofs.Members.{find_has, sorted_same, same_id-true, any_has, has_any}
 use Rattle.mr_model.proofs.KnownById.{partner}
@@ -120,7 +120,7 @@ same_committed_entries a b room t =
 -- ---- the error log
 
 line_same : (a b : Replica) (room : Text) (l : LogLine) → tables_of a ≡ tables_of b → IsLineOf a room l → IsLineOf b room l
-line_same a b room (OfRequest row) e p = (subst (λ (ts : Tables). Has row ts.errorlog) e p.0, p.1)
+line_same a b room (OfLogged row) e p = (subst (λ (ts : Tables). Has row ts.errorlog) e p.0, p.1)
 line_same a b room (OfVoid row) e p = (subst (λ (ts : Tables). Has row ts.cancels) e p.0, p.1, p.2)
 
 line_over : (a b : Replica) (room : Text) (l : LogLine) → Twins a b → Has l (room_lines a room) → Has l (room_lines b room)

@@ -18,7 +18,7 @@ use Rattle.mr_model.specs.Replies.{RequestLogged, CancelLogged}
 use Rattle.mr_model.specs.View.{Placed, Told, of_room, view_of, tell, whole_list, logging_with, logging_of}
 use Rattle.mr_model.specs.Tables.{CancelRow, PlaceRow, seq_among, seq_of, place_row, as_error, as_cancel}
 use Rattle.mr_model.specs.Tables as rows
-use Rattle.mr_model.specs.Queries.{LogLine, OfRequest, OfVoid, line_seq, line_time, line_server, line_logging, LineBefore, both, one, none, AreInLogOrder, IsLineOf, AreErrorsOf, is_marked}
+use Rattle.mr_model.specs.Queries.{LogLine, OfLogged, OfVoid, line_seq, line_time, line_server, line_logging, LineBefore, both, one, none, AreInLogOrder, IsLineOf, AreErrorsOf, is_marked}
 use Rattle.mr_model.proofs.Members.{has_map, has_filter_map, filter_map_has, has_all, all_has, Sorted, sorted_same, sorted_filter, same_id-true, same_id_refl, among_not, Distinct}
 use Rattle.mr_model.proofs.OrderedSets.{before-true, Before}
 use Rattle.mr_model.proofs.KnownById.{committed_ids, committed_known, tentative_known, tentative_sorted, distinct_commits}
@@ -110,7 +110,7 @@ unless_done c = cond c.done None (Some (OfVoid c))
 
 abbrev pub line_in : PlaceRow → Option LogLine
 line_in (rows.Booked row) = None
-line_in (rows.Erred row) = Some (OfRequest row)
+line_in (rows.Erred row) = Some (OfLogged row)
 line_in (rows.Cancelled row) = None
 line_in (rows.Cancel row) = unless_done row
 
@@ -157,7 +157,7 @@ line_for r room t l h k i = go (case_of r room t k)
     go (gone m s c f o b e) = never (rows.Cancelled (cancelled_as r t.write m s c)) e refl
     go (done x f p e) = never (rows.Cancel (cancel_as r t.write x true)) e refl
     go (erred m f p c e) =
-        here (OfRequest (erred_as r t.write m)) (sym (ap line_in e) ∙ i)
+        here (OfLogged (erred_as r t.write m)) (sym (ap line_in e) ∙ i)
         (record { seq = refl; time = refl; server = refl; is_line = (of_known as_error r (erred_as r t.write m) h t.write k.known (ap as_error e), refl) })
     go (void x f p e) =
         here (OfVoid (cancel_as r t.write x false)) (sym (ap line_in e) ∙ i)
@@ -227,7 +227,7 @@ filter_map-option {B = B} f g h (x ∷ xs) e = ap (λ o. cons_option o (filter_m
 
 -- a line of the room is that of one of its writes
 line_write : (r : Replica) (room : Text) (l : LogLine) → IsReplica r → IsLineOf r room l → (t : Told) × Has t (room_list r room) × (told_line r t ≡ Some l)
-line_write r room (OfRequest row) h p =
+line_write r room (OfLogged row) h p =
     let (w, a, i) = known_of as_error r row p.0 in
     let is : place_row r w ≡ rows.Erred row = erred_is row (place_row r w) i in
     let own : w.room ≡ row.room = row_room w a is in
@@ -237,7 +237,7 @@ line_write r room (OfRequest row) h p =
     row_room : (w : Write) → Has w r.known → place_row r w ≡ rows.Erred row → w.room ≡ row.room
     row_room w a is =
         let (t, b, s) = known_told r w h a in
-        sym (ap (λ (x : Write). x.room) s) ∙ sym ((line_for r w.room t (OfRequest row) h (told_of_room r w.room t h b) (ap (λ x. line_in (place_row r x)) s ∙ ap line_in is)).is_line.1)
+        sym (ap (λ (x : Write). x.room) s) ∙ sym ((line_for r w.room t (OfLogged row) h (told_of_room r w.room t h b) (ap (λ x. line_in (place_row r x)) s ∙ ap line_in is)).is_line.1)
 line_write r room (OfVoid row) h p =
     let (w, a, i) = known_of as_cancel r row p.0 in
     let is : place_row r w ≡ rows.Cancel row = cancel_is row (place_row r w) i in

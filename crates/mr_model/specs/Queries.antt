@@ -120,19 +120,19 @@ AreCommittedBookingsOf r room rows = (row : BookingRow) → Has row rows ↔ IsC
 
 -- a line of the error log: a request that was logged, or a void cancel
 pub data LogLine : Type 0 where
-  OfRequest : (row : ErrorRow) → LogLine
+  OfLogged : (row : ErrorRow) → LogLine
   OfVoid : (row : CancelRow) → LogLine
 
 abbrev pub line_seq : LogLine → ℕ
-line_seq (OfRequest r) = r.seq
+line_seq (OfLogged r) = r.seq
 line_seq (OfVoid c) = c.seq
 
 abbrev pub line_time : LogLine → ℕ
-line_time (OfRequest r) = r.time
+line_time (OfLogged r) = r.time
 line_time (OfVoid c) = c.time
 
 abbrev pub line_server : LogLine → ℕ
-line_server (OfRequest r) = r.server
+line_server (OfLogged r) = r.server
 line_server (OfVoid c) = c.server
 
 -- as the error log shows it
@@ -140,7 +140,7 @@ abbrev pub row_logging : ErrorRow → Logging
 row_logging r = RequestLogged (record { is_committed = is_marked r.seq; id = record { server = r.server; n = r.n }; day = r.day; start = r.start; stop = r.stop; title = r.title })
 
 abbrev pub line_logging : LogLine → Logging
-line_logging (OfRequest r) = row_logging r
+line_logging (OfLogged r) = row_logging r
 line_logging (OfVoid c) = CancelLogged (is_marked c.seq) (cancel_id c) c.target
 
 -- committed ones first, by their number; then the others, by time and server
@@ -156,7 +156,7 @@ AreInLogOrder (l ∷ ls) = AllByRecursion (LineBefore l) ls × AreInLogOrder ls
 
 -- a line of the room: its error rows, and its cancels that are not done
 abbrev pub IsLineOf : Replica → Text → LogLine → Type 0
-IsLineOf r room (OfRequest row) = Has row (tables_of r).errorlog × (row.room ≡ room)
+IsLineOf r room (OfLogged row) = Has row (tables_of r).errorlog × (row.room ≡ room)
 IsLineOf r room (OfVoid row) = Has row (tables_of r).cancels × (row.room ≡ room) × (not row.done ≡ true)
 
 abbrev pub AreErrorsOf : Replica → Text → List LogLine → Type 0

@@ -21,7 +21,7 @@ use Rattle.mr_model.specs.Replica.{is_among}
 use Rattle.mr_model.specs.Scopes.{is_tentative}
 use Rattle.mr_model.specs.Tables.{ActionCells, OfMeeting, OfCancel, LogRow, BookingRow, ErrorRow, CancelledRow, CancelRow}
 use Rattle.mr_model.specs.Queries.{booking_id, error_id, cancelled_id, cancel_id}
-use Rattle.mr_rows.specs.RowQuestions.{is_booking_asked, is_error_asked, is_cancelled_asked, is_cancel_asked, stamp_in, stamp_of_row}
+use Rattle.mr_rows.specs.RowQuestions.{is_booking_asked, is_error_asked, is_cancelled_asked, is_cancel_asked, row_stamp, stamp_of_row}
 use Rattle.mr_rows.specs.declared.passing.LateRows.{LateRows}
 use Rattle.mr_rows.specs.Meaning.{passes}
 use Rattle.mr_rows.specs.RowCells.{meta_in, room_in, vector_in, log_in, booking_row_from, error_in, cancelled_in, cancel_row_from}
@@ -122,10 +122,10 @@ log_tentative v w = go w.action
     go (OfCancel t) = number_test w.seq 0
 
 pub shows_stamp_log : (old new : State) (rows : List Row) → IsOurs old.now → Shown stamp_log_text (Int (pos 0) ∷ []) old new rows
-    → IsPermutation (map stamp_of_row (filter is_tentative (tables_in old.now.trees).log)) (map (λ r. stamp_in (Null ∷ r)) rows)
+    → IsPermutation (map stamp_of_row (filter is_tentative (tables_in old.now.trees).log)) (map (λ r. row_stamp (Null ∷ r)) rows)
 unfolding tables_in
 shows_stamp_log old new rows ours shown =
-    finds_as log_form log_facts (λ r. stamp_in (Null ∷ r)) stamp_of_row stamp_log_text log_number_tests stamp_columns stamp_names (Int (pos 0) ∷ []) old new is_tentative rows stamp_log_is
+    finds_as log_form log_facts (λ r. row_stamp (Null ∷ r)) stamp_of_row stamp_log_text log_number_tests stamp_columns stamp_names (Int (pos 0) ∷ []) old new is_tentative rows stamp_log_is
     (λ r is. ap (passes log_number_tests (Int (pos 0) ∷ [])) is ∙ log_tentative (Int (id_in (rowid r))) (log_in r)) (λ r is. refl) ours.schema ours.held.log shown
 
 pub shows_room_booking : (room : texts.Text) (old new : State) (rows : List Row) → IsOurs old.now → Shown room_booking_text (Text room ∷ []) old new rows

@@ -23,8 +23,8 @@ is_late_row late test row = (nat_le late.from row.time && nat_le row.seq late.to
 -- ---- stamps of the log
 
 -- of a rowid, which isn't read, a server, a count and a time
-abbrev pub stamp_in : Row → LogStamp
-stamp_in r = record { time = nat_of (column r 3); server = nat_of (column r 1); n = nat_of (column r 2) }
+abbrev pub row_stamp : Row → LogStamp
+row_stamp r = record { time = nat_of (column r 3); server = nat_of (column r 1); n = nat_of (column r 2) }
 
 abbrev pub stamp_of_row : LogRow → LogStamp
 stamp_of_row row = record { time = row.time; server = row.server; n = row.n }

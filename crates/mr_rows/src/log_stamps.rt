@@ -5,7 +5,7 @@ ghost use Rattle.sqlite.specs.Held.{state};
 ghost use Rattle.mr_model.specs.Scopes.{is_tentative};
 ghost use Rattle.mr_rows.specs.Database.{tables_in};
 ghost use Rattle.mr_rows.specs.Reads.{ReadsKept};
-ghost use Rattle.mr_rows.specs.RowQuestions.{stamp_in, stamp_of_row};
+ghost use Rattle.mr_rows.specs.RowQuestions.{row_stamp, stamp_of_row};
 
 use crate::cells::{read_server, read_u32, read_u64};
 use crate::queries::select_stamp_log;
@@ -22,7 +22,7 @@ pub struct LogStamp {
 }
 
 fn read_stamp(row: &Row) -> Result<LogStamp, Error>
-    ensures { IfOk result (λ stamp. stamp ≡ stamp_in (Null ∷ row.now)) }
+    ensures { IfOk result (λ stamp. stamp ≡ row_stamp (Null ∷ row.now)) }
 {
     let server = read_server(row, 0)?;
     let n = read_u32(row, 1)?;
@@ -31,7 +31,7 @@ fn read_stamp(row: &Row) -> Result<LogStamp, Error>
 }
 
 fn stamps_in(alloc: Global, rows: &[Row]) -> Result<Vec<LogStamp>, Error>
-    ensures { IfOk result (λ stamps. stamps.items ≡ map (λ row. stamp_in (Null ∷ row)) rows.now) }
+    ensures { IfOk result (λ stamps. stamps.items ≡ map (λ row. row_stamp (Null ∷ row)) rows.now) }
 {
     let mut stamps = Vec::new(alloc);
     'rows: for row in rows {

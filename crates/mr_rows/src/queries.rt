@@ -16,7 +16,7 @@ ghost use Rattle.mr_rows.specs.RowCells.{meta_in, log_in, booking_row_from, erro
 ghost use Rattle.mr_rows.specs.Database.{tables_in};
 ghost use Rattle.mr_rows.specs.Shown.{columns_from};
 ghost use Rattle.mr_rows.specs.Reads.{ReadsKept, Looks, metas_in};
-ghost use Rattle.mr_rows.specs.RowQuestions.{is_booking_asked, is_error_asked, is_cancelled_asked, is_cancel_asked, stamp_in, stamp_of_row};
+ghost use Rattle.mr_rows.specs.RowQuestions.{is_booking_asked, is_error_asked, is_cancelled_asked, is_cancel_asked, row_stamp, stamp_of_row};
 
 use crate::numbers::Number;
 use mr_base::RoomName;
@@ -111,7 +111,7 @@ pub(crate) fn select_stamp_log<S: Alter>(conn: &mut Connection<S>) -> Result<Vec
     ensures autocommit { conn.new.in_transaction ≡ false }
     ensures reads { ReadsKept (state S.Store conn.old) (state S.Store conn.new) result
         (λ rows. IsPermutation (map stamp_of_row (filter is_tentative (tables_in (state S.Store conn.old).now.trees).log))
-        (map (λ row. stamp_in (Null ∷ row)) rows.items)) }
+        (map (λ row. row_stamp (Null ∷ row)) rows.items)) }
 {
     ask(
         conn,

@@ -14,7 +14,7 @@ use Rattle.mr_model.specs.View.{view_of, whole_list, logging_of, told_of, outcom
 use Rattle.mr_model.specs.Tables.{BookingRow, ErrorRow, CancelledRow, CancelRow, PlaceRow, tables_of}
 use Rattle.mr_model.specs.Tables as rows
 use Rattle.mr_model.specs.Dropped.{Has}
-use Rattle.mr_model.specs.Queries.{LogLine, OfRequest, OfVoid, line_seq, line_time, line_server, line_logging, LineBefore, both, one, none, AreInLogOrder, IsLineOf, booking_id, error_id, cancelled_id, cancel_id, cancelled_outcome, IsCancelOf, IsRowIn, row_id, row_room}
+use Rattle.mr_model.specs.Queries.{LogLine, OfLogged, OfVoid, line_seq, line_time, line_server, line_logging, LineBefore, both, one, none, AreInLogOrder, IsLineOf, booking_id, error_id, cancelled_id, cancel_id, cancelled_outcome, IsCancelOf, IsRowIn, row_id, row_room}
 use Rattle.mr_model.proofs.Members.{has_filter, filter_has, has_map, map_has, has_left, has_right, has_split, find_has, has_all, all_has, Sorted, sorted_filter, same_id-true, same_id_from}
 use Rattle.mr_model.proofs.Runs.{sorted_append}
 use Rattle.mr_model.proofs.RowsTell.{cancelled_tell, none_in_room}
@@ -81,7 +81,7 @@ lines_mapped (x ∷ xs) s =
 -- ---- its lines
 
 abbrev line_id : LogLine → Id
-line_id (OfRequest row) = error_id row
+line_id (OfLogged row) = error_id row
 line_id (OfVoid row) = cancel_id row
 
 -- what a keeper gives of a room: its error rows and its cancels
@@ -101,10 +101,10 @@ module _ (r : Replica) (room : Text) (requests : List ErrorRow) (cancels : List 
       (f.0, one_name row.room room f.1)
 
   line_is : (l : LogLine) → Has l (lines_of requests cancels) → IsLineOf r room l
-  line_is l a = go (has_split l (map (λ row. OfRequest row) requests) _ a)
+  line_is l a = go (has_split l (map (λ row. OfLogged row) requests) _ a)
     where
-      go : Has l (map (λ row. OfRequest row) requests) ⊎ Has l (map (λ row. OfVoid row) (filter (λ (row : CancelRow). not row.done) cancels)) → IsLineOf r room l
-      go (inl b) = let (row, c, s) = map_has (λ row. OfRequest row) l requests b in subst (IsLineOf r room) (sym s) (of_request row c)
+      go : Has l (map (λ row. OfLogged row) requests) ⊎ Has l (map (λ row. OfVoid row) (filter (λ (row : CancelRow). not row.done) cancels)) → IsLineOf r room l
+      go (inl b) = let (row, c, s) = map_has (λ row. OfLogged row) l requests b in subst (IsLineOf r room) (sym s) (of_request row c)
       go (inr b) =
           let (row, c, s) = map_has (λ row. OfVoid row) l (filter (λ (row : CancelRow). not row.done) cancels) b in
           let f = filter_has (λ (x : CancelRow). not x.done) row cancels c in
@@ -112,11 +112,11 @@ module _ (r : Replica) (room : Text) (requests : List ErrorRow) (cancels : List 
           subst (IsLineOf r room) (sym s) (p.0, p.1, f.1)
 
   is_line : (l : LogLine) → IsLineOf r room l → Has l (lines_of requests cancels)
-  is_line (OfRequest row) p =
-      has_left (OfRequest row) (map (λ x. OfRequest x) requests) _
-      (has_map (λ x. OfRequest x) row requests (permuted_has row (picked_errors room (tables_of r)) requests are.requests_are (has_filter (λ (x : ErrorRow). bytes_eq x.room room) row (tables_of r).errorlog (same_name row.room room p.1) p.0)))
+  is_line (OfLogged row) p =
+      has_left (OfLogged row) (map (λ x. OfLogged x) requests) _
+      (has_map (λ x. OfLogged x) row requests (permuted_has row (picked_errors room (tables_of r)) requests are.requests_are (has_filter (λ (x : ErrorRow). bytes_eq x.room room) row (tables_of r).errorlog (same_name row.room room p.1) p.0)))
   is_line (OfVoid row) p =
-      has_right (OfVoid row) (map (λ x. OfRequest x) requests) _
+      has_right (OfVoid row) (map (λ x. OfLogged x) requests) _
       (has_map (λ x. OfVoid x) row (filter (λ (x : CancelRow). not x.done) cancels)
       (has_filter (λ (x : CancelRow). not x.done) row cancels p.2
       (permuted_has row (picked_cancels room (tables_of r)) cancels are.cancels_are (has_filter (λ (x : CancelRow). bytes_eq x.room room) row (tables_of r).cancels (same_name row.room room p.1) p.0))))
@@ -124,8 +124,8 @@ module _ (r : Replica) (room : Text) (requests : List ErrorRow) (cancels : List 
   -- they are of different ids
   lines_apart : Sorted (λ x y. same_id (line_id x) (line_id y) ≡ false) (lines_of requests cancels)
   lines_apart =
-      sorted_append (λ x y. same_id (line_id x) (line_id y) ≡ false) (map (λ row. OfRequest row) requests) (map (λ row. OfVoid row) (filter (λ (row : CancelRow). not row.done) cancels))
-      (made_apart error_id (λ row. OfRequest row) requests (λ x. refl)
+      sorted_append (λ x y. same_id (line_id x) (line_id y) ≡ false) (map (λ row. OfLogged row) requests) (map (λ row. OfVoid row) (filter (λ (row : CancelRow). not row.done) cancels))
+      (made_apart error_id (λ row. OfLogged row) requests (λ x. refl)
       (permuted_apart error_id (picked_errors room (tables_of r)) requests are.requests_are (table_apart error_id (λ x. bytes_eq x.room room) (tables_of r).errorlog (tables_in_order r h).errorlog)))
       (made_apart cancel_id (λ row. OfVoid row) (filter (λ (row : CancelRow). not row.done) cancels) (λ x. refl)
       (sorted_filter (λ x y. same_id (cancel_id x) (cancel_id y) ≡ false) (λ (row : CancelRow). not row.done) cancels
@@ -140,11 +140,11 @@ module _ (r : Replica) (room : Text) (requests : List ErrorRow) (cancels : List 
         made_apart key make xs e s.1,
       )
 
-      across : (x y : LogLine) → Has x (map (λ row. OfRequest row) requests) → Has y (map (λ row. OfVoid row) (filter (λ (row : CancelRow). not row.done) cancels)) → same_id (line_id x) (line_id y) ≡ false
+      across : (x y : LogLine) → Has x (map (λ row. OfLogged row) requests) → Has y (map (λ row. OfVoid row) (filter (λ (row : CancelRow). not row.done) cancels)) → same_id (line_id x) (line_id y) ≡ false
       across x y a b =
           false_from_ne_true (same_id (line_id x) (line_id y))
           (λ e.
-          let (row, c, s) = map_has (λ row. OfRequest row) x requests a in
+          let (row, c, s) = map_has (λ row. OfLogged row) x requests a in
           let (gone, d, t) = map_has (λ row. OfVoid row) y (filter (λ (row : CancelRow). not row.done) cancels) b in
           let bad : rows.Erred row ≡ rows.Cancel gone =
           one_place r (rows.Erred row) (rows.Cancel gone) h (of_request row c).0 (of_cancel gone (filter_has (λ (x : CancelRow). not x.done) gone cancels d).0).0

@@ -69,7 +69,7 @@ outcome_seen (outcome.Cancels id is_committed target) = replies.CancelDone id is
 outcome_seen (outcome.Void id is_committed target) = replies.CancelVoid id is_committed target
 
 abbrev pub log_line_seen : LogLine → queries.LogLine
-log_line_seen (log_line.Request row) = queries.OfRequest row
+log_line_seen (log_line.Request row) = queries.OfLogged row
 log_line_seen (log_line.VoidCancel row) = queries.OfVoid row
 
 abbrev pub reply_of : Reply → replies.Reply

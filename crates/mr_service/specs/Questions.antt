@@ -10,7 +10,7 @@ use Rattle.mr_model.specs.Refusals as model
 use Rattle.mr_model.specs.Replica.{Replica}
 use Rattle.mr_model.specs.Replies.{Reply, OutcomeIs, Part, Refused}
 use Rattle.mr_model.specs.View.{view_of, entries, calendar_list, whole_list, told_of, outcome_reply, logging_of}
-use Rattle.mr_model.specs.Queries.{LogLine, OfRequest, OfVoid, row_entry, cancel_id, line_seq, line_time, line_server, line_logging, IsRowIn, row_id, row_room}
+use Rattle.mr_model.specs.Queries.{LogLine, OfLogged, OfVoid, row_entry, cancel_id, line_seq, line_time, line_server, line_logging, IsRowIn, row_id, row_room}
 use Rattle.mr_model.specs.Step.{IsOfMachine}
 use Rattle.mr_model.specs.Tables.{BookingRow, ErrorRow, CancelledRow, CancelRow, PlaceRow, Tables, as_booked, Stands}
 use Rattle.mr_base.specs.declared.refusals.Refusal.{Refusal}
@@ -80,7 +80,7 @@ row_of_cancel (Some (place.Cancel row)) = Some row
 
 -- the lines of a room's error log, of its error rows and all its cancels
 abbrev pub lines_of : List ErrorRow → List CancelRow → List LogLine
-lines_of requests cancels = map (λ row. OfRequest row) requests ++ map (λ row. OfVoid row) (filter (λ row. not row.done) cancels)
+lines_of requests cancels = map (λ row. OfLogged row) requests ++ map (λ row. OfVoid row) (filter (λ row. not row.done) cancels)
 
 -- for each replica that the tables stand for, these are the lines of the room's error log
 abbrev pub ShowsLines : Text → Tables → List LogLine → Type 0

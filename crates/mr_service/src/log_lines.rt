@@ -2,7 +2,7 @@
 
 ghost use Rattle.std.specs.Prelude.{◌≡◌, ◌++◌, [], ◌∷◌, map, filter, not, IfOk, IfErr, OnOk};
 ghost use Rattle.std.specs.List.Sorted.{IsPermutation, IsSortedByKey};
-ghost use Rattle.mr_model.specs.Queries.{OfRequest, OfVoid};
+ghost use Rattle.mr_model.specs.Queries.{OfLogged, OfVoid};
 ghost use Rattle.mr_service.specs.Asked.{log_line_seen};
 ghost use Rattle.mr_service.specs.Questions.{lines_of, line_key, log_key_cmp};
 
@@ -39,7 +39,7 @@ pub(crate) fn log_lines(
 }
 
 fn of_requests(alloc: Global, requests: Vec<ErrorRow>) -> Result<Vec<LogLine>, Refusal>
-    ensures lines { IfOk result (λ lines. map log_line_seen lines.items ≡ map (λ row. OfRequest row) requests.items) }
+    ensures lines { IfOk result (λ lines. map log_line_seen lines.items ≡ map (λ row. OfLogged row) requests.items) }
     ensures only { IfErr result (λ e. e ≡ Refusal.OutOfMemory) }
 {
     let mut lines = Vec::with_capacity(alloc, requests.len())?;

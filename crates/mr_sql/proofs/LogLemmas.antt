@@ -24,7 +24,7 @@ use Rattle.mr_rows.specs.RowQuestions.{is_row_asked, is_log_between, is_log_name
 use Rattle.mr_rows.proofs.RowLemmas.{filter_same, filter_both}
 use Rattle.mr_rows.proofs.ValueLemmas.{or_false}
 use Rattle.mr_sql.specs.declared.scope_late.LateTest.{LateTest}
-use Rattle.mr_sql.specs.LateTests.{passes_late, IsLateTest, Reaches}
+use Rattle.mr_sql.specs.LateTests.{passes_late, IsLateTest, ReachesTail}
 use Rattle.mr_sql.specs.DueTests.{passes_due, ReachesDue}
 use Rattle.mr_sql.specs.declared.scope_due.DueTest.{DueTest}
 use Rattle.mr_sql.specs.ScopeQuestions.{between, tentative_question, number_questions, is_of_numbers, AreSeqsWithin, AreLogsRead}
@@ -189,7 +189,7 @@ rooms_named commits items (x ∷ xs) log within = λ i. one x (within x (inl ref
             ∙ has_among id (map item_id items) (has_map item_id (C seq id) items h)
 
 module _ (t : Tables) (items : List Item) (test : LateTest) (late : LateRows)
-    (is : IsLateTest test t.meta.commits items (filter (is_row_asked is_log_named (map item_id items)) t.log)) (reaches : Reaches late test.tail t.meta.commits items) where
+    (is : IsLateTest test t.meta.commits items (filter (is_row_asked is_log_named (map item_id items)) t.log)) (reaches : ReachesTail late test.tail t.meta.commits items) where
   -- the row of a known commit that is named
   numbered_late : (row : LogRow) → row.seq ≤ t.meta.commits → is_tentative row ≡ false → list_any (has_number row.seq) items ≡ true → is_late_row late (passes_late test) row ≡ true
   numbered_late row low some e =

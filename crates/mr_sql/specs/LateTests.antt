@@ -28,6 +28,6 @@ pub record IsLateTest (test : LateTest) (commits : ℕ) (items : List Item) (row
   pub rooms : IsSetOf test.rooms.rooms (flat_map (rooms_of_item commits rows) items)
 
 -- among these rows are all of known commits that the items name, and where they name none all at places of the tail
-pub record Reaches (late : LateRows) (tail : Tail) (commits : ℕ) (items : List Item) : Type 0 where
+pub record ReachesTail (late : LateRows) (tail : Tail) (commits : ℕ) (items : List Item) : Type 0 where
   pub places : (time server : ℕ) → has_place tail time server ≡ true → late.from ≤ time
   pub numbers : (number : ℕ) → number ≢ 0 → number ≤ commits → list_any (has_number number) items ≡ true → (late.from ≡ 0) × (number ≤ late.to)

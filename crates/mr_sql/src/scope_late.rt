@@ -5,7 +5,7 @@ ghost use Rattle.mr_rows.specs.RowCells.{nat_of};
 ghost use Rattle.mr_model.specs.Scopes.{has_number};
 ghost use Rattle.mr_base.specs.Batches.{item_of};
 ghost use Rattle.mr_kept.specs.Tails.{has_place};
-ghost use Rattle.mr_sql.specs.LateTests.{passes_late, IsLateTest, Reaches};
+ghost use Rattle.mr_sql.specs.LateTests.{passes_late, IsLateTest, ReachesTail};
 
 use crate::scope_rooms::RoomTest;
 use mr_base::{Item, Refusal};
@@ -108,7 +108,7 @@ fn first_time(tail: &Tail) -> u64
 
 /// The rows among which are all that pass the test of these items, where so many commits are known.
 pub(crate) fn late_rows(items: &[Item], commits: u64, tail: &Tail) -> LateRows
-    ensures { Reaches result tail.now commits (map item_of items.now) }
+    ensures { ReachesTail result tail.now commits (map item_of items.now) }
 {
     let to = last_named(items, commits);
     let from = if to == 0 { first_time(tail) } else { 0 };

@@ -6,7 +6,7 @@ use Rattle.std.proofs.lemmas.Bool.{cond-false, false_from_ne_true}
 use Rattle.std.proofs.lemmas.Option.{none-some, same_Some}
 use Rattle.std.proofs.lemmas.Slice.Eq.{bytes_eq-Decides}
 use Rattle.mr_model.specs.Texts.{Text}
-use Rattle.mr_words.specs.CommandTable.{NamedRows, behind_word, in_row, ◌>>=◌}
+use Rattle.mr_words.specs.CommandTable.{NamedRows, with_first_word, in_row, ◌>>=◌}
 
 -- ---- chains
 
@@ -40,20 +40,20 @@ rows_behind (row ∷ others) rows name words none =
 -- ---- rows with a word before their own
 
 behind_next : {A B C : Type 0} (first : Text → Option A) (both : A → B → C) (b : Bool) (f g : List Text → Option B) (words : List Text)
-    → cond b (behind_word first both f words) (behind_word first both g words) ≡ behind_word first both (λ rest. cond b (f rest) (g rest)) words
+    → cond b (with_first_word first both f words) (with_first_word first both g words) ≡ with_first_word first both (λ rest. cond b (f rest) (g rest)) words
 behind_next first both true f g words = refl
 behind_next first both false f g words = refl
 
-behind_none : {A B C : Type 0} (first : Text → Option A) (both : A → B → C) (words : List Text) → None ≡ behind_word first both (λ rest. None) words
+behind_none : {A B C : Type 0} (first : Text → Option A) (both : A → B → C) (words : List Text) → None ≡ with_first_word first both (λ rest. None) words
 behind_none first both [] = refl
 behind_none first both (word ∷ words) = sym (bind_none _ (λ a. refl) (first word))
 
 -- rows that begin with such a word are read as the rows without it, behind the word
 pub behind_rows : {A B C : Type 0} (first : Text → Option A) (both : A → B → C) (rows : NamedRows B) (name : Text) (words : List Text)
-    → in_row (map (λ row. (row.0, behind_word first both row.1)) rows) name words ≡ behind_word first both (in_row rows name) words
+    → in_row (map (λ row. (row.0, with_first_word first both row.1)) rows) name words ≡ with_first_word first both (in_row rows name) words
 behind_rows first both [] name words = behind_none first both words
 behind_rows first both (row ∷ rows) name words =
-    ap (cond (bytes_eq name row.0) (behind_word first both row.1 words)) (behind_rows first both rows name words)
+    ap (cond (bytes_eq name row.0) (with_first_word first both row.1 words)) (behind_rows first both rows name words)
     ∙ behind_next first both (bytes_eq name row.0) row.1 (in_row rows name) words
 
 -- ---- what is known of each row
@@ -80,11 +80,11 @@ each_then Is Then follows (row ∷ rows) each = (λ words x e. follows row.0 wor
 -- and so of the rows that begin with such a word
 pub each_behind : {A B C : Type 0} (first : Text → Option A) (both : A → B → C) (Is : Text → List Text → B → Type 0) (Then : Text → List Text → C → Type 0)
     → ((name word : Text) (words : List Text) (a : A) (b : B) → first word ≡ Some a → Is name words b → Then name (word ∷ words) (both a b))
-    → (rows : NamedRows B) → EachRow Is rows → EachRow Then (map (λ row. (row.0, behind_word first both row.1)) rows)
+    → (rows : NamedRows B) → EachRow Is rows → EachRow Then (map (λ row. (row.0, with_first_word first both row.1)) rows)
 each_behind first both Is Then follows [] each = tt
 each_behind {A} {B} {C} first both Is Then follows (row ∷ rows) each = (one, each_behind first both Is Then follows rows each.1)
   where
-    one : (words : List Text) (c : C) → behind_word first both row.1 words ≡ Some c → Then row.0 words c
+    one : (words : List Text) (c : C) → with_first_word first both row.1 words ≡ Some c → Then row.0 words c
     one [] c e = absurd (none-some c e)
     one (word ∷ words) c e =
         let (a, is_first, more) = bind_some (first word) (λ a. (row.1 words >>= λ b. Some (both a b))) c e in

@@ -141,13 +141,13 @@ bridge_row (database ∷ other ∷ []) = Some (Bridge database other)
 bridge_row _ = None
 
 -- the first word, read like this, and what the others stand for
-abbrev pub behind_word : {A B C : Type 0} → (Text → Option A) → (A → B → C) → (List Text → Option B) → List Text → Option C
-behind_word first both others [] = None
-behind_word first both others (word ∷ words) = first word >>= λ a. (others words >>= λ b. Some (both a b))
+abbrev pub with_first_word : {A B C : Type 0} → (Text → Option A) → (A → B → C) → (List Text → Option B) → List Text → Option C
+with_first_word first both others [] = None
+with_first_word first both others (word ∷ words) = first word >>= λ a. (others words >>= λ b. Some (both a b))
 
 -- a database, and the words of a command to its replica
 abbrev pub asking : (List Text → Option Command) → List Text → Option Invoked
-asking command_of words = behind_word Some Ask command_of words
+asking command_of words = with_first_word Some Ask command_of words
 
 -- ---- the table
 

@@ -4,7 +4,7 @@ use Rattle.sqlite_value.specs.declared.value.Value.TheVariants.{Null}
 use Rattle.sqlite.specs.Held.{state}
 use Rattle.mr_model.specs.Scopes.{is_tentative}
 use Rattle.mr_rows.specs.Database.{tables_in}
-use Rattle.mr_rows.specs.RowQuestions.{stamp_in, stamp_of_row}
+use Rattle.mr_rows.specs.RowQuestions.{row_stamp, stamp_of_row}
 use Rattle.mr_rows.proofs.QueryLemmas.{reads_made, told_so}
 use Rattle.mr_rows.proofs.log_stamps.tentative_stamps.Goals as goal
 
@@ -14,6 +14,6 @@ returns-clause-reads g c =
     let asked = map stamp_of_row (filter is_tentative (tables_in old.now.trees).log) in
     let rows = c.in_ok-rows.rows in
     let same : c.deref.result.now ≡ rows.items = c.deref.ensures.value in
-    reads_made old (state g.S.Store c.select_stamp_log.new.conn) rows (λ rows. IsPermutation asked (map (λ row. stamp_in (Null ∷ row)) rows.items)) c.stamps_in.result (λ stamps. IsPermutation asked stamps.items)
+    reads_made old (state g.S.Store c.select_stamp_log.new.conn) rows (λ rows. IsPermutation asked (map (λ row. row_stamp (Null ∷ row)) rows.items)) c.stamps_in.result (λ stamps. IsPermutation asked stamps.items)
     (λ kept read. told_so c.stamps_in.result _ _ (λ stamps is. subst (IsPermutation asked) (sym is) read) (rw same at c.stamps_in.ensures))
     c.in_ok-rows.ensures.reads

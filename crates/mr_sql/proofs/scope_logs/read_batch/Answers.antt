@@ -7,7 +7,7 @@ use Rattle.mr_rows.specs.Database.{tables_in}
 use Rattle.mr_rows.specs.Reads.{ReadsInUse}
 use Rattle.mr_rows.specs.RowQuestions.{is_row_asked, is_log_named, is_late_row}
 use Rattle.mr_rows.proofs.QueryLemmas.{survives_itself, in_use, uses_then}
-use Rattle.mr_sql.specs.LateTests.{passes_late, IsLateTest, Reaches}
+use Rattle.mr_sql.specs.LateTests.{passes_late, IsLateTest, ReachesTail}
 use Rattle.mr_sql.proofs.LogLemmas.{batch_read}
 use Rattle.mr_sql.proofs.scope_logs.read_batch.Goals as goal
 
@@ -39,6 +39,6 @@ returns-clause-reads g c =
     (λ held all is more known.
     let told : IsLateTest test c.args.commits items named.items = subst (λ rows. IsLateTest test c.args.commits items rows) c.deref-2.ensures.value c.in_ok-test.ensures in
     let sure : IsLateTest test t.meta.commits items (filter asked t.log) = subst (λ n. IsLateTest test n items (filter asked t.log)) known (subst (λ rows. IsLateTest test c.args.commits items rows) is told) in
-    let reach : Reaches late test.tail t.meta.commits items = subst (λ n. Reaches late test.tail n items) known (rw c.tail.ensures at c.late_rows-late.ensures) in
+    let reach : ReachesTail late test.tail t.meta.commits items = subst (λ n. ReachesTail late test.tail n items) known (rw c.tail.ensures at c.late_rows-late.ensures) in
     batch_read t items test late sure reach all.items (more asked is))
     first (in_use b d c.with_late_rows.result _ c.with_late_rows.ensures.reads)
