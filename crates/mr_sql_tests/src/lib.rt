@@ -27,5 +27,3 @@ mod same_text;
 mod script_tests;
 #[cfg(test)]
 mod scripts;
-#[cfg(test)]
-mod without_desk;

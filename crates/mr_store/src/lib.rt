@@ -20,6 +20,7 @@ mod splice;
 mod spliced_queries;
 mod table_rows;
 mod tripped;
+mod without_desk;
 
 pub use cached::Cached;
 pub use keeper::{Fault, Keeper};
@@ -27,3 +28,4 @@ pub use lists::ListKeeper;
 pub use mr_tables::PlaceRow;
 pub use order::sort_bookings;
 pub use tripped::Tripped;
+pub use without_desk::WithoutDesk;

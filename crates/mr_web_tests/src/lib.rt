@@ -16,5 +16,3 @@ mod round_tests;
 mod same;
 #[cfg(test)]
 mod serving_tests;
-#[cfg(test)]
-mod without_desk;

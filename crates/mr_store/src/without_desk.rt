@@ -1,18 +1,23 @@
+ghost use Rattle.std.specs.Prelude.{◌≡◌};
+
+use crate::{Fault, Keeper, ListKeeper};
 use mr_base::{Day, RoomName, WriteId};
 use mr_part::{Part, Scope};
 use mr_replica::Desk;
-use mr_store::{Fault, Keeper, ListKeeper, PlaceRow};
-use mr_tables::{BookingRow, CancelRow, CancelledRow, Change, ErrorRow, Tables};
+use mr_tables::{BookingRow, CancelRow, CancelledRow, Change, ErrorRow, PlaceRow, Tables};
 
-/// A keeper over lists that loads no desk: to ask for one is answered as a failure of the store. It passes on all other calls.
+/// A keeper for tests, over lists, which loads no desk: to ask for one is answered as a failure of the store. It passes all other calls on.
 #[derive(Drop)]
-pub(crate) struct WithoutDesk {
+pub struct WithoutDesk {
     lists: ListKeeper,
     failures: u64,
 }
 
 impl WithoutDesk {
-    pub(crate) fn new(lists: ListKeeper) -> WithoutDesk {
+    /// These lists, and no answer 25 so far but theirs.
+    pub fn new(lists: ListKeeper) -> WithoutDesk
+        ensures { result ≡ record { lists = lists; failures = 0 } }
+    {
         WithoutDesk { lists, failures: 0 }
     }
 }
