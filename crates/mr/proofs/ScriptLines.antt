@@ -16,7 +16,7 @@ use Rattle.std.specs.Str.{bytes_eq}
 use Rattle.std.specs.List.{All, list_all, slice_split}
 use Rattle.mr_model.specs.Texts.{Text, is_space, words, within}
 use Rattle.mr_model.specs.Writes.{is_server}
-use Rattle.mr_model.specs.Replies.{Part, Full, Committed, part_text}
+use Rattle.mr_model.specs.Replies.{CalendarPart, Full, Committed, part_text}
 use Rattle.mr_model.specs.View.{AskSheet, AskCalendar, AskOutcome, AskErrors}
 use Rattle.mr_model.specs.Step.{Command, AddRoom, Submit, Cancel, Receive, Commit, Truncate, AskPosition, BatchFor, Ask, Submission, SlotWords}
 use Rattle.mr_model.specs.World.{Step, Add, Make, Deliver}
@@ -405,7 +405,7 @@ command_of server name ws c h other is few all_words row e =
     (row ∙ bound (server_in (decimal server)) server (λ n. (in_row script_commands name ws >>= λ x. Some (Step.Do n x))) (server_word server h)
     ∙ bound (in_row script_commands name ws) c (λ x. Some (Step.Do server x)) e)
 
-part_word : (part : Part) → part_in (part_text part) ≡ Some part
+part_word : (part : CalendarPart) → part_in (part_text part) ≡ Some part
 part_word Full = refl
 part_word Committed = refl
 

@@ -1,7 +1,7 @@
 // What a replica is asked, as commands. The room is oak, and the day a Monday.
 
 use mr_base::{LineCount, Refusal};
-use mr_service::{Command, Local, Part, Service, SlotWords, Submission, reply_text};
+use mr_service::{Command, Local, CalendarPart, Service, SlotWords, Submission, reply_text};
 use mr_store::Keeper;
 use std::alloc::{AllocError, Global};
 
@@ -20,7 +20,7 @@ pub(crate) enum Ask {
     /// The batch that was replied last is received.
     Receive,
     Sheet,
-    Calendar(Part),
+    Calendar(CalendarPart),
     Outcome(&'static str),
     Errors,
 }
@@ -129,8 +129,8 @@ pub(crate) fn command(alloc: Global, ask: Ask, replied: &[u8]) -> Result<Command
 /// What can be seen of oak at a replica, and its position.
 static SEEN: [Ask; 5] = [
     Ask::Position,
-    Ask::Calendar(Part::Full),
-    Ask::Calendar(Part::Committed),
+    Ask::Calendar(CalendarPart::Full),
+    Ask::Calendar(CalendarPart::Committed),
     Ask::Errors,
     Ask::Sheet,
 ];

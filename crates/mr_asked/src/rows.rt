@@ -1,7 +1,7 @@
 // The scripts: what the replicas are asked. A batch is the position of the one that takes it, the batch for it, and its receipt.
 
 use crate::asks::Ask;
-use mr_service::Part;
+use mr_service::CalendarPart;
 
 /// The replica, and what it is asked.
 pub(crate) type Row = (u32, Ask);
@@ -36,7 +36,7 @@ pub(crate) static COMMIT_REORDERS: [Row; 14] = [
     (1, Ask::Batch(10)),
     (2, Ask::Receive),
     (2, Ask::Sheet),
-    (2, Ask::Calendar(Part::Committed)),
+    (2, Ask::Calendar(CalendarPart::Committed)),
     (2, Ask::Outcome("2-1")),
 ];
 
@@ -99,7 +99,7 @@ pub(crate) static TAKEN_BACK: [Row; 16] = [
     (1, Ask::Cancel("1-1")),
     (1, Ask::Book("60", "09:00", &[], "Gamma")),
     (1, Ask::Sheet),
-    (1, Ask::Calendar(Part::Committed)),
+    (1, Ask::Calendar(CalendarPart::Committed)),
     (1, Ask::Outcome("1-1")),
     (1, Ask::Cancel("1-1")),
     (1, Ask::Errors),

@@ -1,7 +1,7 @@
 // What replica 2 is asked, as commands, and its replies, as texts. The room is oak, the day a Monday.
 
 use mr_base::Refusal;
-use mr_service::{Command, Local, Part, Service, SlotWords, Submission, reply_text};
+use mr_service::{Command, Local, CalendarPart, Service, SlotWords, Submission, reply_text};
 use mr_store::Keeper;
 use std::alloc::{AllocError, Global};
 
@@ -13,7 +13,7 @@ pub(crate) enum Ask {
     Position,
     Batch,
     Sheet,
-    Calendar(Part),
+    Calendar(CalendarPart),
     Outcome,
     Errors,
 }
@@ -102,8 +102,8 @@ pub(crate) fn said<K: Keeper>(
 
 static SEEN: [Ask; 5] = [
     Ask::Sheet,
-    Ask::Calendar(Part::Full),
-    Ask::Calendar(Part::Committed),
+    Ask::Calendar(CalendarPart::Full),
+    Ask::Calendar(CalendarPart::Committed),
     Ask::Errors,
     Ask::Position,
 ];

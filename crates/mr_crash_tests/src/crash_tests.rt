@@ -4,7 +4,7 @@
 use crate::asks::Ask;
 use crate::disks::{Bytes, NO_STOP, Stop, are_same, are_whole, bytes_of, disks};
 use crate::on_disks::{asked, seen_in};
-use mr_service::Part;
+use mr_service::CalendarPart;
 use sqlite_disk::Crash;
 use std::alloc::Global;
 use std::process::Abort;
@@ -44,7 +44,7 @@ static ROWS: [Row; 10] = [
         MOVED,
     ),
     (
-        Ask::Calendar(Part::Committed),
+        Ask::Calendar(CalendarPart::Committed),
         "oak committed\n1995-12-18 13:30-14:30 C 3-1 Beta\n",
         MOVED,
     ),

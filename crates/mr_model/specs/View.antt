@@ -7,7 +7,7 @@ use Rattle.mr_model.specs.Writes.{Id, Action, Books, Cancels, Write, id_of, same
 use Rattle.mr_model.specs.Refusals.{Refusal, BadDay, BadRoomName, UnknownRoom, NoSuchRequest, first_refusal}
 use Rattle.mr_model.specs.Replay.{Place, Logged, Done, Void, Booking, replay, slot_at, booking_of}
 use Rattle.mr_model.specs.Replica.{Replica, committed, tentative, knows_room}
-use Rattle.mr_model.specs.Replies.{Entry, Logging, RequestLogged, CancelLogged, Outcome, Booked, NotBooked, Cancelled, CancelDone, CancelVoid, Part, Full, Committed, Reply, Calendar, Sheet, OutcomeIs, Errors, Refused}
+use Rattle.mr_model.specs.Replies.{Entry, Logging, RequestLogged, CancelLogged, Outcome, Booked, NotBooked, Cancelled, CancelDone, CancelVoid, CalendarPart, Full, Committed, Reply, Calendar, Sheet, OutcomeIs, Errors, Refused}
 
 -- whether the room is known, its committed writes in commit order, and the set of its others, in stamp order
 pub record View : Type 0 where
@@ -197,7 +197,7 @@ canceller_of r w = canceller_in (told_of (id_of w) (whole_list (view_of r w.room
 -- a question about a room, in the words of who asks
 pub data Question : Type 0 where
   AskSheet : (day : Text) → Question
-  AskCalendar : (part : Part) → Question
+  AskCalendar : (part : CalendarPart) → Question
   AskOutcome : (id : Text) → Question
   AskErrors : Question
 
@@ -205,7 +205,7 @@ abbrev pub unless : Option Refusal → Reply → Reply
 unless (Some e) reply = Refused e
 unless None reply = reply
 
-abbrev pub calendar_list : Part → View → List Told
+abbrev pub calendar_list : CalendarPart → View → List Told
 calendar_list Full v = whole_list v
 calendar_list Committed v = committed_list v
 

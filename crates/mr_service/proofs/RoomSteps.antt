@@ -10,7 +10,7 @@ use Rattle.mr_model.specs.Calendar.{Date, is_date, date_in, date_text, read_date
 use Rattle.mr_model.specs.Writes.{Id, is_room_name, id_in, is_id_text, greatest_time, greatest_count}
 use Rattle.mr_model.specs.Refusals as model
 use Rattle.mr_model.specs.Replica.{Replica, IsReplica, knows_room, clock_of, count_of}
-use Rattle.mr_model.specs.Replies.{Part, Full, Committed, Reply, Calendar, Sheet, OutcomeIs, Errors, Refused}
+use Rattle.mr_model.specs.Replies.{CalendarPart, Full, Committed, Reply, Calendar, Sheet, OutcomeIs, Errors, Refused}
 use Rattle.mr_model.specs.View.{View, view_of, whole_list, calendar_list, entries, entries_of_day, logging_of, find_request, outcome_reply, told_of, Question, AskSheet, AskCalendar, AskOutcome, AskErrors, unless, answer}
 use Rattle.mr_model.specs.Step.{After, Ask, Cancel, IsOfMachine, no_memory, refuse, step_unless, after_write, cancel, cancel_write, knows_booking}
 use Rattle.mr_model.specs.Serving.{TakesStep}
@@ -144,7 +144,7 @@ sheet_step t u room found day d rows read same finds are =
 -- ---- calendars
 
 -- a calendar of a room that is not known
-pub calendar_refused : (t u : Tables) (room : Text) (part : Part) (e : Refusal) → u ≡ t → FindsRoom t.room room (Err e) → TakesStep t (Ask room (AskCalendar part)) (Refused (refusal_of e)) u
+pub calendar_refused : (t u : Tables) (room : Text) (part : CalendarPart) (e : Refusal) → u ≡ t → FindsRoom t.room room (Err e) → TakesStep t (Ask room (AskCalendar part)) (Refused (refusal_of e)) u
 calendar_refused t u room part e same finds = refused t u room (AskCalendar part) (λ v. Calendar room part (entries (calendar_list part v))) e (λ v. refl) same finds
 
 -- the bookings of all days show the full calendar
@@ -165,7 +165,7 @@ committed_shown t room bookings cancelled cancels shown are back by moved up = �
     moved up
 
 -- a calendar has the rows that show it
-pub calendar_step : (t u : Tables) (room found : Text) (part : Part) (shown : List BookingRow) → u ≡ t → FindsRoom t.room room (Ok found) → ShowsCalendar part found t shown
+pub calendar_step : (t u : Tables) (room found : Text) (part : CalendarPart) (shown : List BookingRow) → u ≡ t → FindsRoom t.room room (Ok found) → ShowsCalendar part found t shown
     → TakesStep t (Ask room (AskCalendar part)) (Calendar found part (map row_entry shown)) u
 calendar_step t u room found part shown same finds shows =
     answered t u room found (AskCalendar part) (λ v. Calendar room part (entries (calendar_list part v))) (Calendar found part (map row_entry shown)) (λ v. refl) same finds

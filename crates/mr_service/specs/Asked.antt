@@ -12,8 +12,8 @@ use Rattle.mr_service.specs.declared.commands.Command.{Command}
 use Rattle.mr_service.specs.declared.commands.Command.TheVariants as command
 use Rattle.mr_service.specs.declared.commands.Local.{Local}
 use Rattle.mr_service.specs.declared.commands.Local.TheVariants as local
-use Rattle.mr_service.specs.declared.commands.Part.{Part}
-use Rattle.mr_service.specs.declared.commands.Part.TheVariants as part
+use Rattle.mr_service.specs.declared.commands.CalendarPart.{CalendarPart}
+use Rattle.mr_service.specs.declared.commands.CalendarPart.TheVariants as part
 use Rattle.mr_service.specs.declared.commands.Submission.{Submission}
 use Rattle.mr_service.specs.declared.commands.SlotWords.{SlotWords}
 use Rattle.mr_service.specs.declared.replies.Reply.{Reply}
@@ -38,7 +38,7 @@ submission_of s =
       alternatives = map words_of s.alternatives.items;
     }
 
-abbrev pub part_seen : Part → replies.Part
+abbrev pub part_seen : CalendarPart → replies.CalendarPart
 part_seen part.Full = replies.Full
 part_seen part.Committed = replies.Committed
 

@@ -8,7 +8,7 @@ use Rattle.mr_model.specs.Texts.{Text}
 use Rattle.mr_model.specs.Writes.{Id, same_id, is_room_name}
 use Rattle.mr_model.specs.Refusals as model
 use Rattle.mr_model.specs.Replica.{Replica}
-use Rattle.mr_model.specs.Replies.{Reply, OutcomeIs, Part, Refused}
+use Rattle.mr_model.specs.Replies.{Reply, OutcomeIs, CalendarPart, Refused}
 use Rattle.mr_model.specs.View.{view_of, entries, calendar_list, whole_list, told_of, outcome_reply, logging_of}
 use Rattle.mr_model.specs.Queries.{LogLine, OfLogged, OfVoid, row_entry, cancel_id, line_seq, line_time, line_server, line_logging, IsRowIn, row_id, row_room}
 use Rattle.mr_model.specs.Step.{IsOfMachine}
@@ -35,7 +35,7 @@ FindsRoom rooms room (Err e) = (room_fault rooms room ≡ Some (refusal_of e)) �
 -- ---- calendars
 
 -- for each replica that the tables stand for, the rows are those of this calendar of the room
-abbrev pub ShowsCalendar : Part → Text → Tables → List BookingRow → Type 0
+abbrev pub ShowsCalendar : CalendarPart → Text → Tables → List BookingRow → Type 0
 ShowsCalendar part room t rows = (a : Replica) → Stands t a → entries (calendar_list part (view_of a room)) ≡ map row_entry rows
 
 -- a cancel with this id is among these, and is not committed

@@ -35,7 +35,7 @@ pub enum Local {
     /// Asks for the bookings of a room.
     Calendar {
         room: String,
-        part: Part,
+        part: CalendarPart,
     },
     /// Asks for the bookings of a room on a day.
     Sheet {
@@ -55,7 +55,7 @@ pub enum Local {
 
 /// The bookings of all known requests, or of the committed ones alone.
 #[derive(Clone, Copy, Debug, PartialEq, Eq)]
-pub enum Part {
+pub enum CalendarPart {
     Full,
     Committed,
 }

@@ -15,7 +15,7 @@ ghost use Rattle.mr_service.specs.Questions.{FindsRoom, ShowsCalendar, ShowsLine
 ghost use Rattle.mr_service.specs.Served.{IsRead, IsServed};
 
 use crate::calendars::committed_calendar;
-use crate::commands::Part;
+use crate::commands::CalendarPart;
 use crate::log_lines::log_lines;
 use crate::outcomes::{booked, cancel, cancelled, logged};
 use crate::replies::{LogLine, Outcome, Reply};
@@ -44,7 +44,7 @@ pub(crate) fn calendar<K: Keeper>(
     keeper: &mut K,
     alloc: Global,
     room: &str,
-    part: Part,
+    part: CalendarPart,
 ) -> Result<Reply, Refusal>
     ensures served { IsServed K.Keeper keeper.old keeper.new (model.Ask room.now (AskCalendar (part_seen part))) (reply_in result) }
 {
@@ -114,7 +114,7 @@ fn rows_of_part<K: Keeper>(
     keeper: &mut K,
     alloc: Global,
     room: &RoomName,
-    part: Part,
+    part: CalendarPart,
 ) -> Result<Vec<BookingRow>, Refusal>
     ensures read { IsRead K.Keeper keeper.old keeper.new result }
     ensures shows { K.is_clean keeper.new → K.is_open keeper.old
@@ -122,8 +122,8 @@ fn rows_of_part<K: Keeper>(
     ensures only { IfErr result (λ e. IsOfMachine (replies.Refused (refusal_of e))) }
 {
     match part {
-        Part::Full => rows_of_all(keeper, room),
-        Part::Committed => rows_of_committed(keeper, alloc, room),
+        CalendarPart::Full => rows_of_all(keeper, room),
+        CalendarPart::Committed => rows_of_committed(keeper, alloc, room),
     }
 }
 

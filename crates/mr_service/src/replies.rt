@@ -1,4 +1,4 @@
-use crate::commands::Part;
+use crate::commands::CalendarPart;
 use mr_base::{Batch, Day, Position, Refusal, RoomName, WriteId};
 use mr_tables::{BookingRow, CancelRow, ErrorRow};
 
@@ -31,7 +31,7 @@ pub enum Reply {
     /// The bookings of a room, by rising day and start.
     Calendar {
         room: RoomName,
-        part: Part,
+        part: CalendarPart,
         rows: Vec<BookingRow>,
     },
     /// The requests of a room that found no free slot, and its cancels that found nothing to take back, in the order of their

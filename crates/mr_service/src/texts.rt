@@ -11,7 +11,7 @@ ghost use Rattle.mr_model.specs.Refusals as refusals;
 ghost use Rattle.mr_base.specs.RefusalViews.{refusal_of};
 ghost use Rattle.mr_service.specs.Asked.{part_seen, log_line_seen, outcome_seen, reply_of};
 
-use crate::commands::Part;
+use crate::commands::CalendarPart;
 use crate::replies::{LogLine, Outcome, Reply};
 use mr_base::{Day, Refusal, RoomName, TimeOfDay, WriteId, weekday_name};
 use mr_tables::{BookingRow, CancelRow, ErrorRow};
@@ -73,7 +73,7 @@ pub fn sheet_text(
 fn calendar_text(
     alloc: Global,
     room: &RoomName,
-    part: Part,
+    part: CalendarPart,
     rows: &[BookingRow],
 ) -> Result<Vec<u8>, Refusal>
     ensures text { IfOk result (λ bytes. bytes.items ≡ replies.reply_text (replies.Calendar room.now (part_seen part) (map row_entry rows.now))) }
@@ -306,12 +306,12 @@ fn push_error_row(text: &mut String, row: &ErrorRow) -> Result<(), AllocError>
     write!(text, "{mark} {id} {day} {start}-{stop} {title}\n")
 }
 
-fn part_name(part: Part) -> &'static str
+fn part_name(part: CalendarPart) -> &'static str
     ensures { result.now ≡ replies.part_text (part_seen part) }
 {
     match part {
-        Part::Full => "full",
-        Part::Committed => "committed",
+        CalendarPart::Full => "full",
+        CalendarPart::Committed => "committed",
     }
 }
 

@@ -3,7 +3,7 @@
 
 use crate::same_text::same_text;
 use mr_base::{LineCount, Refusal, ServerId};
-use mr_service::{Command, Local, Part, Service, SlotWords, Submission, reply_text};
+use mr_service::{Command, Local, CalendarPart, Service, SlotWords, Submission, reply_text};
 use mr_store::ListKeeper;
 use std::alloc::{AllocError, Global};
 use std::process::Abort;
@@ -79,7 +79,7 @@ fn local(alloc: Global, asked: Asked) -> Result<Local, Refusal> {
         },
         Asked::Committed => Local::Calendar {
             room,
-            part: Part::Committed,
+            part: CalendarPart::Committed,
         },
         Asked::Outcome(id) => Local::Outcome {
             room,

@@ -6,7 +6,7 @@ use mr_base::{
     Batch, CommitNumber, Day, Ending, Item, Position, Refusal, RoomName, ServerId, TimeOfDay,
     Title, Version, WriteId, read_minute,
 };
-use mr_service::{Booking, LogLine, Outcome, Part, Reply, refusal_text, reply_text, sheet_text};
+use mr_service::{Booking, LogLine, Outcome, CalendarPart, Reply, refusal_text, reply_text, sheet_text};
 use mr_tables::{BookingRow, CancelRow, ErrorRow};
 use std::alloc::Global;
 use std::process::Abort;
@@ -235,13 +235,13 @@ fn one(alloc: Global) -> Result<Vec<BookingRow>, Refusal> {
     Ok(rows)
 }
 
-fn calendar(alloc: Global, part: Part, rows: Vec<BookingRow>) -> Result<Reply, Refusal> {
+fn calendar(alloc: Global, part: CalendarPart, rows: Vec<BookingRow>) -> Result<Reply, Refusal> {
     let room = RoomName::new(alloc, "oak")?;
     Ok(Reply::Calendar { room, part, rows })
 }
 
 fn committed(alloc: Global) -> Result<Reply, Refusal> {
-    calendar(alloc, Part::Committed, one(alloc)?)
+    calendar(alloc, CalendarPart::Committed, one(alloc)?)
 }
 
 #[test]
@@ -253,7 +253,7 @@ fn a_calendar_is_shown(rt: HostRuntime) {
 #[test]
 fn an_empty_calendar_is_shown(rt: HostRuntime) {
     let alloc = rt.alloc();
-    let full = calendar(alloc, Part::Full, Vec::new(alloc));
+    let full = calendar(alloc, CalendarPart::Full, Vec::new(alloc));
     check(&rt, alloc, full, "oak full\n(no bookings)\n");
 }
 

@@ -1,7 +1,7 @@
 // What a replica is asked, as commands, and its replies, as texts.
 
 use mr_base::{LineCount, Refusal};
-use mr_service::{Command, Local, Part, Service, SlotWords, Submission, reply_text};
+use mr_service::{Command, Local, CalendarPart, Service, SlotWords, Submission, reply_text};
 use mr_store::Keeper;
 use std::alloc::{AllocError, Global};
 
@@ -30,11 +30,11 @@ pub(crate) enum Act {
     TentativeElm,
     Sheet,
     SheetOf(&'static str, &'static str),
-    Calendar(Part),
+    Calendar(CalendarPart),
     Outcome(&'static str),
     Errors,
     /// These of any room.
-    CalendarOf(&'static str, Part),
+    CalendarOf(&'static str, CalendarPart),
     OutcomeOf(&'static str, &'static str),
     ErrorsOf(&'static str),
 }
@@ -92,7 +92,7 @@ fn outcome(alloc: Global, room: &str, id: &str) -> Result<Local, AllocError> {
     })
 }
 
-fn calendar(alloc: Global, room: &str, part: Part) -> Result<Local, AllocError> {
+fn calendar(alloc: Global, room: &str, part: CalendarPart) -> Result<Local, AllocError> {
     let room = text(alloc, room)?;
     Ok(Local::Calendar { room, part })
 }
@@ -182,8 +182,8 @@ pub(crate) fn said<K: Keeper>(
 /// What can be seen of oak at a replica, and its position.
 static SEEN: [Act; 5] = [
     Act::Sheet,
-    Act::Calendar(Part::Full),
-    Act::Calendar(Part::Committed),
+    Act::Calendar(CalendarPart::Full),
+    Act::Calendar(CalendarPart::Committed),
     Act::Errors,
     Act::Position,
 ];

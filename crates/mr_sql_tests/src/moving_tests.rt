@@ -9,7 +9,7 @@ use crate::same_text::{same_count, same_text, same_texts};
 use crate::scripts::TRUNCATED;
 use mr_base::{Refusal, ServerId};
 use mr_first::First;
-use mr_service::{Part, Service};
+use mr_service::{CalendarPart, Service};
 use mr_sql::{FirstKeeper, GivenBack, SqlKeeper};
 use mr_store::{Keeper, ListKeeper};
 use sqlite::{Connection, MemStore};
@@ -39,11 +39,11 @@ static SEEN_OF_ELM: [Reply; 12] = [
         "oak 1995-12-18 Monday\n14:00-15:00 T 1-1 Alpha\n15:00-16:00 T 2-1 Beta\n",
     ),
     (
-        Act::Calendar(Part::Full),
+        Act::Calendar(CalendarPart::Full),
         "oak full\n1995-12-18 14:00-15:00 T 1-1 Alpha\n1995-12-18 15:00-16:00 T 2-1 Beta\n",
     ),
     (
-        Act::Calendar(Part::Committed),
+        Act::Calendar(CalendarPart::Committed),
         "oak committed\n(no bookings)\n",
     ),
     (Act::Outcome("1-1"), "1-1 T 1995-12-18 14:00-15:00\n"),
@@ -54,7 +54,7 @@ static SEEN_OF_ELM: [Reply; 12] = [
         "elm 1995-12-18 Monday\n09:00-09:15 C 3-1 Elm\n",
     ),
     (
-        Act::CalendarOf("elm", Part::Committed),
+        Act::CalendarOf("elm", CalendarPart::Committed),
         "elm committed\n1995-12-18 09:00-09:15 C 3-1 Elm\n",
     ),
     (
@@ -73,7 +73,7 @@ static SEEN_OF_TRUNCATED: [Reply; 6] = [
         "oak 1995-12-18 Monday\n13:30-14:30 C 1-1 Audit\n14:30-15:00 C 1-2 Brief\n",
     ),
     (
-        Act::Calendar(Part::Committed),
+        Act::Calendar(CalendarPart::Committed),
         "oak committed\n1995-12-18 13:30-14:30 C 1-1 Audit\n1995-12-18 14:30-15:00 C 1-2 Brief\n",
     ),
     (Act::Outcome("1-1"), "1-1 C 1995-12-18 13:30-14:30\n"),
@@ -86,7 +86,7 @@ static SEEN_OF_TRUNCATED: [Reply; 6] = [
 static AFTER_TRUNCATED: [Reply; 4] = [
     (Act::Cancel("1-1"), "2-1 T cancels 1-1\n"),
     (
-        Act::Calendar(Part::Committed),
+        Act::Calendar(CalendarPart::Committed),
         "oak committed\n1995-12-18 13:30-14:30 C 1-1 Audit\n1995-12-18 14:30-15:00 C 1-2 Brief\n",
     ),
     (

@@ -2,7 +2,7 @@
 
 use crate::acts::{Act, MONDAY};
 use crate::offices::Step;
-use mr_service::Part;
+use mr_service::CalendarPart;
 
 /// A step, and the text of its reply.
 pub(crate) type Row = (Step, &'static str);
@@ -110,7 +110,7 @@ pub(crate) static TURNED: [Row; 12] = [
         "oak 1995-12-18 Monday\n13:30-14:30 C 3-1 Beta\n16:00-17:00 T 2-1 Alpha\n",
     ),
     (
-        Step::At(2, Act::Calendar(Part::Committed)),
+        Step::At(2, Act::Calendar(CalendarPart::Committed)),
         "oak committed\n1995-12-18 13:30-14:30 C 3-1 Beta\n",
     ),
     (
@@ -220,7 +220,7 @@ pub(crate) static TAKEN_BACK: [Row; 20] = [
     ),
     (Step::At(1, Act::Sheet), SHEET_OF_TAKEN_BACK),
     (
-        Step::At(1, Act::Calendar(Part::Committed)),
+        Step::At(1, Act::Calendar(CalendarPart::Committed)),
         "oak committed\n1995-12-18 09:00-10:00 C 1-1 Alpha\n",
     ),
     (Step::At(1, Act::Outcome("1-1")), "1-1 C cancelled T 1-3\n"),
@@ -276,12 +276,12 @@ pub(crate) static COMMITTED_FIRST: [Row; 8] = [
     (Step::At(1, Act::Commit(1)), "committed 1\n"),
     (Step::At(1, Act::Outcome("1-1")), "1-1 C cancelled T 1-2\n"),
     (
-        Step::At(1, Act::Calendar(Part::Committed)),
+        Step::At(1, Act::Calendar(CalendarPart::Committed)),
         "oak committed\n1995-12-18 09:00-10:00 C 1-1 Alpha\n",
     ),
     (Step::At(1, Act::Commit(1)), "committed 1\n"),
     (
-        Step::At(1, Act::Calendar(Part::Committed)),
+        Step::At(1, Act::Calendar(CalendarPart::Committed)),
         "oak committed\n(no bookings)\n",
     ),
 ];

@@ -6,7 +6,7 @@ use Rattle.std.proofs.lemmas.Bool.{and_parts}
 use Rattle.std.proofs.lemmas.Option.{none-some, same_Some}
 use Rattle.std.proofs.lemmas.Slice.Eq.{bytes_eq-Decides}
 use Rattle.mr_model.specs.Texts.{Text, within, number_in}
-use Rattle.mr_model.specs.Replies.{Part, Full, Committed, part_text}
+use Rattle.mr_model.specs.Replies.{CalendarPart, Full, Committed, part_text}
 use Rattle.mr_model.specs.View.{AskSheet, AskCalendar, AskOutcome, AskErrors}
 use Rattle.mr_model.specs.Step.{Command, AddRoom, Submit, Cancel, Commit, Truncate, AskPosition}
 use Rattle.mr_model.specs.Step as step
@@ -26,7 +26,7 @@ number_from_parts low high t n e =
     (sym (ap (within low high) o.1) ∙ tests.0, sym ((bytes_eq-Decides (decimal (number_in t)) t).0 tests.1) ∙ ap decimal o.1)
 
 -- a part of a calendar is named by its word
-part_parts : (t : Text) (part : Part) → part_in t ≡ Some part → t ≡ part_text part
+part_parts : (t : Text) (part : CalendarPart) → part_in t ≡ Some part → t ≡ part_text part
 part_parts t part e =
     if_some (bytes_eq t (codes "full")) (Some Full) _ part e
     (λ is f. (bytes_eq-Decides t (codes "full")).0 is ∙ ap part_text (same_Some Full part f))

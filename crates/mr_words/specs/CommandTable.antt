@@ -2,7 +2,7 @@
 use Rattle.std.specs.Prelude.{ℕ, Bool, false, not, ◌==◌, if◌then◌else◌, List, [], ◌∷◌, ◌++◌, map, codes, bytes_eq, Option, Some, None, option_and_then}
 use Rattle.std.specs.List.{list_all, before_first, after_first}
 use Rattle.mr_model.specs.Texts.{Text}
-use Rattle.mr_model.specs.Replies.{Part, Full, Committed}
+use Rattle.mr_model.specs.Replies.{CalendarPart, Full, Committed}
 use Rattle.mr_model.specs.View.{AskSheet, AskCalendar, AskOutcome, AskErrors}
 use Rattle.mr_model.specs.Step.{Command, AddRoom, Submit, Cancel, Commit, Truncate, AskPosition, SlotWords}
 use Rattle.mr_model.specs.Step as step
@@ -50,7 +50,7 @@ port_in word = number_from_to 1 65_535 word
 abbrev pub connections_in : Text → Option ℕ
 connections_in word = number_from_to 0 999_999_999 word
 
-abbrev pub part_in : Text → Option Part
+abbrev pub part_in : Text → Option CalendarPart
 part_in word = if bytes_eq word (codes "full") then Some Full else (if bytes_eq word (codes "committed") then Some Committed else None)
 
 -- the byte T

@@ -5,7 +5,7 @@ ghost use Rattle.mr_service.specs.Asked.{part_seen, words_of};
 ghost use Rattle.mr_words.specs.CommandTable.{server_in, commit_number_in, line_count_in, port_in, connections_in, part_in, slot_in_word};
 
 use mr_base::{LineCount, ServerId, read_number};
-use mr_service::{Part, SlotWords};
+use mr_service::{CalendarPart, SlotWords};
 use std::alloc::{AllocError, Global};
 
 /// The server with the number that the word writes.
@@ -47,12 +47,12 @@ pub(crate) fn read_connections(word: &str) -> Option<u64>
 }
 
 /// The part of a calendar that the word names.
-pub(crate) fn read_part(word: &str) -> Option<Part>
+pub(crate) fn read_part(word: &str) -> Option<CalendarPart>
     ensures { MatchOption result (part_in word.now ≡ None) (λ part. part_in word.now ≡ Some (part_seen part)) }
 {
     match word {
-        "full" => Some(Part::Full),
-        "committed" => Some(Part::Committed),
+        "full" => Some(CalendarPart::Full),
+        "committed" => Some(CalendarPart::Committed),
         _ => None,
     }
 }
