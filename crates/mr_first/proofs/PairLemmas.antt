@@ -10,7 +10,8 @@ use Rattle.mr_model.specs.Tables.{MetaRow, LogRow, kept}
 use Rattle.mr_model.specs.First.{WriteRow, FirstUndoRow, FirstTables, write_row, undo_row, StandsFirst, undo_of, moved_row, moved_log, moved}
 use Rattle.mr_model.specs.Dropped.{Has}
 use Rattle.mr_model.proofs.Members.{find_one, all_has, has_all}
-use Rattle.mr_tables.specs.Change.{put_all, id_before, log_id}
+use Rattle.mr_model.specs.Queries.{log_id}
+use Rattle.mr_tables.specs.Change.{put_all, id_before}
 use Rattle.mr_tables.proofs.Putting.{IsOrder, InOrder, OneAKey, one_a_key, id_order, in_order_same}
 use Rattle.mr_rows.proofs.SortedByKey.{Apart, ordered_in_order, ordered_has, has_ordered}
 use Rattle.mr_first.specs.FirstCells.{write_row_from, undo_in}

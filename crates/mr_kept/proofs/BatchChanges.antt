@@ -8,13 +8,12 @@ use Rattle.mr_model.specs.Texts.{Text}
 use Rattle.mr_model.specs.Writes.{Id, Write, id_of}
 use Rattle.mr_model.specs.Replica.{Replica, IsReplica, tentative, is_committed}
 use Rattle.mr_model.specs.Exchange.{Item}
-use Rattle.mr_model.specs.Kept.{kept_in_order}
+use Rattle.mr_model.specs.Kept.{kept_in_order, kept_committed}
 use Rattle.mr_model.specs.View.{place_of}
 use Rattle.mr_model.specs.Tables.{PlaceRow, seq_of, log_row, place_row_for, place_row, tables_of}
 use Rattle.mr_model.specs.Queries.{row_id}
 use Rattle.mr_model.specs.Dropped.{Has}
 use Rattle.mr_model.specs.Moving.{may_move, again, BatchMoves}
-use Rattle.mr_model.proofs.DroppedApart.{kept_committed}
 use Rattle.mr_model.proofs.Fronts.{take-front}
 use Rattle.mr_model.proofs.KnownById.{one_known}
 use Rattle.mr_model.proofs.Members.{has_left, has_right, has_split, has_map, map_has, has_filter, filter_has}

@@ -12,7 +12,7 @@ use Rattle.mr_model.specs.Positions.{Position}
 use Rattle.mr_model.specs.Replica.{Replica, IsReplica, write_with, tentative}
 use Rattle.mr_model.specs.Refusals.{WrongPrimary, Truncated, NeedsVersion2, first_refusal}
 use Rattle.mr_model.specs.Replies.{Reply, BatchIs}
-use Rattle.mr_model.specs.Kept.{kept_in_order}
+use Rattle.mr_model.specs.Kept.{kept_in_order, kept_committed}
 use Rattle.mr_model.specs.Dropped.{Has}
 use Rattle.mr_model.specs.Step.{item_if_lacked, commit_items, items_for, is_beyond, batch_of, batch_unless, batch_reply}
 use Rattle.mr_model.proofs.BatchItems.{list_of_all, IsOwn, items_own}
@@ -29,7 +29,6 @@ use Rattle.mr_base.specs.declared.batches.Item.{Item}
 use Rattle.mr_base.specs.declared.refusals.Refusal.TheVariants as refusal
 use Rattle.mr_base.specs.Batches as base
 use Rattle.mr_base.specs.Batches.{item_of}
-use Rattle.mr_kept.specs.ChangeLaws.{kept_committed}
 use Rattle.mr_kept.specs.Desk.{reply_with}
 use Rattle.mr_kept.specs.Outgoing.{Offers, committed_items, lacked_items, kept_items, ending_by}
 use Rattle.mr_tables.specs.Summary.{summary_of, committed_len}

@@ -9,11 +9,11 @@ use Rattle.mr_model.specs.Texts.{Text, numbers_on}
 use Rattle.mr_model.specs.Writes.{Id, Write, id_of}
 use Rattle.mr_model.specs.Replica.{Replica, IsReplica, clock_of, knows_room, add_write, order_of, committed, tentative, is_among, is_committed, is_dropped, text_before, with_room}
 use Rattle.mr_model.specs.Board.{replay_on, board_after}
-use Rattle.mr_model.specs.Kept.{dropped_in_order, kept_in_order}
+use Rattle.mr_model.specs.Kept.{dropped_in_order, kept_in_order, kept_committed}
 use Rattle.mr_model.specs.View.{place_of, canceller_of}
 use Rattle.mr_model.specs.Tables.{VectorRow, BookingRow, PlaceRow, Cancelled, by_id, seq_of, taken_back, place_row_for, place_row, as_booking, log_row, tables_of}
 use Rattle.mr_model.specs.Tables as rows
-use Rattle.mr_model.specs.Queries.{booking_id, error_id, cancelled_id, row_id}
+use Rattle.mr_model.specs.Queries.{booking_id, error_id, cancelled_id, row_id, log_id}
 use Rattle.mr_model.specs.Dropped.{Has}
 use Rattle.mr_model.specs.Changes.{IsNext, takes_back, first_tentative, after_commit, after_truncate, CommitChanges}
 use Rattle.mr_model.proofs.CommitRows
@@ -34,11 +34,11 @@ use Rattle.mr_model.proofs.TruncateRows.{slice_in_front, front-seq}
 use Rattle.mr_model.proofs.UniqueReplay.{some_inj, none_some}
 use Rattle.mr_replay.specs.Rows.{executed_all, undo_rows_of}
 use Rattle.mr_tables.specs.Summary.{tally_of}
-use Rattle.mr_tables.specs.Change.{put_all, rows_without, log_id, changed}
+use Rattle.mr_tables.specs.Change.{put_all, rows_without, changed}
 use Rattle.mr_tables.specs.Written.{changed_tallies, written, forgotten}
 use Rattle.mr_kept.specs.Desk.{desk_of}
 use Rattle.mr_kept.specs.DeskTables.{desk_tables}
-use Rattle.mr_kept.specs.ChangeLaws.{GivesRows, rows_taken_back, kept_committed}
+use Rattle.mr_kept.specs.ChangeLaws.{GivesRows, rows_taken_back}
 use Rattle.mr_kept.specs.Placing.{with_places_put}
 use Rattle.mr_kept.proofs.DeskNumbers.{Bears, dropped_long, dropped_numbers, kept_numbers}
 use Rattle.mr_kept.proofs.DeskRows.{desk_tables-of}

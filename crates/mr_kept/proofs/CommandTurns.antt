@@ -5,7 +5,7 @@ use Rattle.std.proofs.Math.Seq.{take-append_seam}
 use Rattle.mr_model.specs.Texts.{Text}
 use Rattle.mr_model.specs.Writes.{Id, Write, id_of, is_room_name}
 use Rattle.mr_model.specs.Replica.{Replica, IsReplica, tentative, with_room}
-use Rattle.mr_model.specs.Kept.{dropped_in_order, kept_in_order}
+use Rattle.mr_model.specs.Kept.{dropped_in_order, kept_in_order, kept_committed}
 use Rattle.mr_model.specs.View.{canceller_of}
 use Rattle.mr_model.specs.Tables.{CancelRow, tables_of}
 use Rattle.mr_model.specs.Changes.{first_tentative, after_commit, after_truncate}
@@ -22,7 +22,7 @@ use Rattle.mr_tables.specs.Summary.{summary_of, committed_len, noted_commits}
 use Rattle.mr_kept.specs.Accepting.{summary_in}
 use Rattle.mr_kept.specs.Desk.{DeskView, desk_of}
 use Rattle.mr_tables.specs.Change.{ChangeView, changed}
-use Rattle.mr_kept.specs.ChangeLaws.{Makes, vector_between, board_before, kept_committed}
+use Rattle.mr_kept.specs.ChangeLaws.{Makes, vector_between, board_before}
 use Rattle.mr_kept.specs.DeskTables.{desk_tables}
 use Rattle.mr_kept.specs.Placing.{cancellers_on}
 use Rattle.mr_tables.specs.Written.{meta_of, changed_tallies, written, forgotten}

@@ -8,8 +8,7 @@ use Rattle.mr_model.specs.Texts.{Text}
 use Rattle.mr_model.specs.Writes.{Id, Write, id_of, stamp_before}
 use Rattle.mr_model.specs.Replica.{Replica, IsReplica, committed, tentative, order_of}
 use Rattle.mr_model.specs.Exchange.{Item}
-use Rattle.mr_model.specs.Kept.{dropped_in_order}
-use Rattle.mr_model.specs.RowsInScope.{kept_commits}
+use Rattle.mr_model.specs.Kept.{dropped_in_order, kept_committed}
 use Rattle.mr_model.specs.View.{of_room, place_of}
 use Rattle.mr_model.specs.Tables.{seq_of}
 use Rattle.mr_model.specs.Dropped.{Has}
@@ -133,10 +132,10 @@ module _ (a b : Replica) (items : List Item) (m : BatchMoves a b items) (sound :
 
   -- ---- the kept writes
 
-  pub kept_is : kept_commits b ≡ kept_commits a ++ news
+  pub kept_is : kept_committed b ≡ kept_committed a ++ news
   kept_is =
-      (append_split (dropped_in_order b) (dropped_in_order a) (kept_commits b) (kept_commits a ++ news) (dropped_long b m.sound ∙ sym m.dropped ∙ sym (dropped_long a sound))
-      (sym (committed-parts b) ∙ m.committed_are ∙ ap (λ ws. ws ++ news) (committed-parts a) ∙ append_assoc (dropped_in_order a) (kept_commits a) news)).1
+      (append_split (dropped_in_order b) (dropped_in_order a) (kept_committed b) (kept_committed a ++ news) (dropped_long b m.sound ∙ sym m.dropped ∙ sym (dropped_long a sound))
+      (sym (committed-parts b) ∙ m.committed_are ∙ ap (λ ws. ws ++ news) (committed-parts a) ∙ append_assoc (dropped_in_order a) (kept_committed a) news)).1
 
   anew_is : (w : Write) → Has w anew → Has w news ⊎ Has w (moving a items b)
   anew_is w h = has_split w news (moving a items b) h
@@ -155,9 +154,9 @@ module _ (a b : Replica) (items : List Item) (m : BatchMoves a b items) (sound :
   parts = distinct_parts (map id_of (committed a)) (map id_of (news ++ tentative b)) (subst Distinct (map-append id_of (committed a) (news ++ tentative b)) ids_parts)
 
   -- a kept commit isn't executed anew
-  commit_not_anew : (w : Write) → Has w (kept_commits a) → Has w anew → ⊥
+  commit_not_anew : (w : Write) → Has w (kept_committed a) → Has w anew → ⊥
   commit_not_anew w h g =
-      parts.2 (id_of w) (has_map id_of w (committed a) (subst (λ ws. Has w ws) (sym (committed-parts a)) (has_right w (dropped_in_order a) (kept_commits a) h)))
+      parts.2 (id_of w) (has_map id_of w (committed a) (subst (λ ws. Has w ws) (sym (committed-parts a)) (has_right w (dropped_in_order a) (kept_committed a) h)))
       (has_map id_of w (news ++ tentative b) (behind w g))
 
   -- what isn't executed anew has the place that it had
@@ -168,10 +167,10 @@ module _ (a b : Replica) (items : List Item) (m : BatchMoves a b items) (sound :
       go (inl g) = absurd (other g)
       go (inr g) = g.1
 
-  pub front_place : (w : Write) → Has w (kept_commits a) → place_of a w ≡ place_of b w
+  pub front_place : (w : Write) → Has w (kept_committed a) → place_of a w ≡ place_of b w
   front_place w h =
       place_as w
-      (kept_known b w m.sound (has_left w (kept_commits b) (tentative b) (subst (λ ws. Has w ws) (sym kept_is) (has_left w (kept_commits a) news h)))).0
+      (kept_known b w m.sound (has_left w (kept_committed b) (tentative b) (subst (λ ws. Has w ws) (sym kept_is) (has_left w (kept_committed a) news h)))).0
       (commit_not_anew w h)
 
   pub open_place : (w : Write) → Has w (filter stays (tentative b)) → place_of a w ≡ place_of b w

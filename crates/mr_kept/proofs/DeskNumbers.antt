@@ -11,7 +11,7 @@ use Rattle.mr_model.specs.Board.{replay_on}
 use Rattle.mr_model.specs.Kept.{dropped_in_order, kept_in_order}
 use Rattle.mr_model.specs.View.{place_of, canceller_of}
 use Rattle.mr_model.specs.Tables.{LogRow, CancelRow, by_id, seq_of, log_row_with, log_row, as_cancel, booking_place_row, place_row_for, cancel_row, tables_of}
-use Rattle.mr_model.specs.Queries.{cancel_id}
+use Rattle.mr_model.specs.Queries.{cancel_id, log_id}
 use Rattle.mr_model.specs.Dropped.{Has}
 use Rattle.mr_model.specs.Changes.{IdBefore}
 use Rattle.mr_model.proofs.CommitRows.{slice_map, slice_behind}
@@ -31,7 +31,7 @@ use Rattle.mr_replay.specs.Holds.{AreDistinct, HaveDistinctIds}
 use Rattle.mr_replay.proofs.Lists.{distinct_front}
 use Rattle.mr_replay.proofs.Holding.{Holds-empty, Holds-executed_all}
 use Rattle.mr_replay.proofs.Places.{places-board}
-use Rattle.mr_tables.specs.Change.{put_all, id_before, log_id}
+use Rattle.mr_tables.specs.Change.{put_all, id_before}
 use Rattle.mr_tables.specs.ExecutionRows.{seq_on, log_rows}
 use Rattle.mr_tables.proofs.Putting.{InOrder, id_order, puts_make, id_before_from}
 use Rattle.mr_kept.specs.Log.{cancel_at, cancel_rows}

@@ -9,7 +9,7 @@ use Rattle.mr_model.specs.Refusals.{BadRoomName, RoomThere, first_refusal}
 use Rattle.mr_model.specs.Replies.{RoomAdded}
 use Rattle.mr_model.specs.Step.{add_room, step_unless}
 use Rattle.mr_model.specs.Replica.{Replica, IsReplica, order_of, tentative, knows_room, with_room}
-use Rattle.mr_model.specs.Kept.{dropped_in_order, kept_in_order}
+use Rattle.mr_model.specs.Kept.{dropped_in_order, kept_in_order, kept_committed}
 use Rattle.mr_model.specs.Tables.{CancelRow}
 use Rattle.mr_model.specs.Dropped.{Has}
 use Rattle.mr_model.proofs.Members.{has_right}
@@ -20,7 +20,6 @@ use Rattle.mr_tables.specs.declared.summary.Summary.{Summary}
 use Rattle.mr_tables.specs.declared.old_errors.OldError.{OldError}
 use Rattle.mr_kept.specs.Log.{KeptLog}
 use Rattle.mr_tables.specs.Summary.{summary_of, committed_len}
-use Rattle.mr_kept.specs.ChangeLaws.{kept_committed}
 use Rattle.mr_kept.specs.Desk.{DeskView}
 
 -- the desk with these parts

@@ -9,11 +9,10 @@ use Rattle.mr_model.specs.Texts.{Text}
 use Rattle.mr_model.specs.Writes.{Id, Write}
 use Rattle.mr_model.specs.Replica.{Replica, IsReplica, write_with, text_before, with_write, with_room, tentative, add_write, add_commit}
 use Rattle.mr_model.specs.Dropped.{Has}
-use Rattle.mr_model.specs.Kept.{kept_in_order}
+use Rattle.mr_model.specs.Kept.{kept_in_order, kept_committed}
 use Rattle.mr_model.specs.Changes.{IsNext, CommitMoved}
 use Rattle.mr_model.proofs.Members.{has_right}
 use Rattle.mr_model.proofs.KnownById.{with_id, tentative_known}
-use Rattle.mr_model.proofs.DroppedApart.{kept_committed}
 use Rattle.mr_model.proofs.TwinChanges.{drop-front}
 use Rattle.mr_model.proofs.Orders.{committed-with, tentative-add_write}
 

@@ -11,14 +11,14 @@ use Rattle.mr_model.specs.Writes.{Id, Write, id_of, same_id, stamp_before}
 use Rattle.mr_model.specs.Exchange.{Item, W, C}
 use Rattle.mr_model.specs.Replica.{Replica, IsReplica, count_of, committed_count, with_write, tentative, add_write, add_commit}
 use Rattle.mr_model.specs.Dropped.{Has}
-use Rattle.mr_model.specs.Kept.{kept_in_order}
+use Rattle.mr_model.specs.Kept.{kept_in_order, kept_committed}
 use Rattle.mr_model.specs.Changes.{IsNext, CommitMoved}
 use Rattle.mr_model.specs.Tables.{seq_among, seq_of}
 use Rattle.mr_model.specs.Taking.{Progress, with_new_write, with_new_commit}
 use Rattle.mr_model.proofs.Members.{has_right, has_filter, filter_has, find_one, find_has, same_id-true, same_id_from}
 use Rattle.mr_model.proofs.ChangesKeep.{keeps-add_write, keeps-add_commit}
 use Rattle.mr_model.proofs.KnownById.{one_known, tentative_known}
-use Rattle.mr_model.proofs.DroppedApart.{kept_known, kept_committed}
+use Rattle.mr_model.proofs.DroppedApart.{kept_known}
 use Rattle.mr_model.proofs.RowsById.{seq_not, seq_behind}
 use Rattle.mr_model.proofs.Orders.{new_not_committed}
 use Rattle.mr_model.proofs.WithWrite.{has_with_write, count-with_write}

@@ -10,7 +10,7 @@ use Rattle.mr_model.specs.Replica.{Replica, IsReplica, count_of, writes_of, text
 use Rattle.mr_model.specs.Replay.{Place, slot_at}
 use Rattle.mr_model.specs.View.{place_of, canceller_of}
 use Rattle.mr_model.specs.Tables.{VectorRow, LogRow, BookingRow, ErrorRow, CancelledRow, CancelRow, PlaceRow, by_id, seq_of, vector_row, log_row, as_booking, as_error, as_cancelled, as_cancel, booking_place_row, place_row_for, place_row, tables_of}
-use Rattle.mr_model.specs.Queries.{booking_id, error_id, cancelled_id, cancel_id, row_id}
+use Rattle.mr_model.specs.Queries.{booking_id, error_id, cancelled_id, cancel_id, row_id, log_id}
 use Rattle.mr_model.specs.Tables as rows
 use Rattle.mr_model.specs.Dropped.{Has}
 use Rattle.mr_model.proofs.KeyOrder.{numbers_low}
@@ -23,7 +23,7 @@ use Rattle.mr_model.proofs.Runs.{sorted_append}
 use Rattle.mr_model.proofs.TablesTell.{vector_entry, in_row, counted_server, key-row}
 use Rattle.mr_model.proofs.TruncateRows.{front-seq}
 use Rattle.mr_model.proofs.UniqueReplay.{some_inj, none_some}
-use Rattle.mr_tables.specs.Change.{put_all, rows_without, id_before, log_id, ChangeView, changed}
+use Rattle.mr_tables.specs.Change.{put_all, rows_without, id_before, ChangeView, changed}
 use Rattle.mr_tables.specs.Written.{not_booked, not_erred, not_cancelled, with_places}
 use Rattle.mr_tables.proofs.Putting.{InOrder, Lacks, number_order, name_order, puts_make, change_makes}
 use Rattle.mr_kept.proofs.DeskBoards.{place_bears}

@@ -8,10 +8,9 @@ use Rattle.std.specs.Prelude.{flat_map, bytes_eq}
 use Rattle.mr_model.specs.Texts.{Text}
 use Rattle.mr_model.specs.Writes.{Write, id_of, same_id}
 use Rattle.mr_model.specs.Exchange.{Item, W, C}
-use Rattle.mr_model.specs.Kept.{dropped_in_order, kept_in_order}
+use Rattle.mr_model.specs.Kept.{dropped_in_order, kept_in_order, kept_committed}
 use Rattle.mr_model.specs.Replica.{Replica, IsReplica, is_among, committed, tentative, order_of}
-use Rattle.mr_model.specs.RowsInScope.{kept_commits}
-use Rattle.mr_model.specs.Scopes.{item_id, log_row_id, is_named, is_late, is_in_tail, is_touched, rooms_of_item, touched_rooms}
+use Rattle.mr_model.specs.Scopes.{item_id, is_named, is_late, is_in_tail, is_touched, rooms_of_item, touched_rooms}
 use Rattle.mr_model.specs.Moving.{may_move, again}
 use Rattle.mr_model.specs.Tables.{LogRow, seq_of, log_row, tables_of}
 use Rattle.mr_model.specs.Dropped.{Has}
@@ -22,6 +21,7 @@ use Rattle.mr_model.proofs.Orders.{append_split}
 use Rattle.mr_model.proofs.RowsById.{flat_has, has_flat, seq_not}
 use Rattle.mr_model.proofs.RowsOfKnown.{rows_of_known}
 use Rattle.mr_model.proofs.MembersAlike.{bool_same}
+use Rattle.mr_model.specs.Queries.{log_id}
 use Rattle.mr_kept.specs.Moves.{rooms_named, AreTouched, moves_in, is_anew, ShowsMoves}
 use Rattle.mr_kept.specs.Named.{names}
 use Rattle.mr_kept.specs.Sets.{AreSameRooms}
@@ -77,7 +77,7 @@ module _ (a : Replica) (items : List Item) (inside : Write → Bool) (sound : Is
       ws : List Write
       ws = filter inside (kept_in_order a)
 
-      go : (b : Bool) → Has t (cond b (map (λ w. w.room) (filter (λ w. same_id (id_of w) id) ws)) []) → Has t (cond b (map (λ r. r.room) (filter (λ r. same_id (log_row_id r) id) (tables_of a).log)) [])
+      go : (b : Bool) → Has t (cond b (map (λ w. w.room) (filter (λ w. same_id (id_of w) id) ws)) []) → Has t (cond b (map (λ r. r.room) (filter (λ r. same_id (log_id r) id) (tables_of a).log)) [])
       go false k = k
       go true k =
           let (w, m, e) = map_has (λ (v : Write). v.room) t (filter (λ v. same_id (id_of v) id) ws) k in
@@ -85,8 +85,8 @@ module _ (a : Replica) (items : List Item) (inside : Write → Bool) (sound : Is
           let there = filter_has inside w (kept_in_order a) f.0 in
           let known = kept_known a w sound there.0 in
           let row = ((rows_of_known a sound).log (log_row a w)).1 (w, known.0, known.1, refl) in
-          subst (λ u. Has u (map (λ (r : LogRow). r.room) (filter (λ r. same_id (log_row_id r) id) (tables_of a).log))) (sym e)
-          (has_map (λ (r : LogRow). r.room) (log_row a w) (filter (λ r. same_id (log_row_id r) id) (tables_of a).log) (has_filter (λ (r : LogRow). same_id (log_row_id r) id) (log_row a w) (tables_of a).log f.1 row))
+          subst (λ u. Has u (map (λ (r : LogRow). r.room) (filter (λ r. same_id (log_id r) id) (tables_of a).log))) (sym e)
+          (has_map (λ (r : LogRow). r.room) (log_row a w) (filter (λ r. same_id (log_id r) id) (tables_of a).log) (has_filter (λ (r : LogRow). same_id (log_id r) id) (log_row a w) (tables_of a).log f.1 row))
 
   back : (t : Text) (x : Item) → Has x items → Has t (rooms_of_item (length a.commits) (tables_of a).log x) → Has t (rooms_named (length a.commits) (filter inside (kept_in_order a)) x)
   back t (W w) g h = h
@@ -95,13 +95,13 @@ module _ (a : Replica) (items : List Item) (inside : Write → Bool) (sound : Is
       ws : List Write
       ws = filter inside (kept_in_order a)
 
-      go : (b : Bool) → Has t (cond b (map (λ r. r.room) (filter (λ r. same_id (log_row_id r) id) (tables_of a).log)) []) → Has t (cond b (map (λ w. w.room) (filter (λ w. same_id (id_of w) id) ws)) [])
+      go : (b : Bool) → Has t (cond b (map (λ r. r.room) (filter (λ r. same_id (log_id r) id) (tables_of a).log)) []) → Has t (cond b (map (λ w. w.room) (filter (λ w. same_id (id_of w) id) ws)) [])
       go false k = k
       go true k =
-          let (r, m, e) = map_has (λ (r : LogRow). r.room) t (filter (λ r. same_id (log_row_id r) id) (tables_of a).log) k in
-          let f = filter_has (λ (r : LogRow). same_id (log_row_id r) id) r (tables_of a).log m in
+          let (r, m, e) = map_has (λ (r : LogRow). r.room) t (filter (λ r. same_id (log_id r) id) (tables_of a).log) k in
+          let f = filter_has (λ (r : LogRow). same_id (log_id r) id) r (tables_of a).log m in
           let (w, known, kept, is) = ((rows_of_known a sound).log r).0 f.0 in
-          let own : same_id (id_of w) id ≡ true = ap (λ (v : LogRow). same_id (log_row_id v) id) (sym is) ∙ f.1 in
+          let own : same_id (id_of w) id ≡ true = ap (λ (v : LogRow). same_id (log_id v) id) (sym is) ∙ f.1 in
           let named : is_among (id_of w) (map item_id items) ≡ true = has_among (id_of w) (map item_id items) (subst (λ i. Has i (map item_id items)) (sym (same_id-true (id_of w) id own)) (has_map item_id (C seq id) items g)) in
           let there : Has w ws = has_filter inside w (kept_in_order a) (covers w (or_left _ _ (or_left _ _ named))) (known_kept a w sound known kept) in
           subst (λ u. Has u (map (λ (v : Write). v.room) (filter (λ v. same_id (id_of v) id) ws))) (sym (e ∙ ap (λ (v : LogRow). v.room) is))
@@ -172,9 +172,9 @@ moving_inside a items w open_ e =
     (and_from (is_in_tail (length a.commits) items (log_row a w)) (is_touched (tables_of a) items w.room) tail p.0)
 
 -- a kept commit isn't moved
-pub moves_not : (a : Replica) (items : List Item) (touched : List Text) → IsReplica a → (w : Write) → Has w (kept_commits a) → (seq_of a w == 0 && moves_in touched items (length a.commits) w) ≡ false
+pub moves_not : (a : Replica) (items : List Item) (touched : List Text) → IsReplica a → (w : Write) → Has w (kept_committed a) → (seq_of a w == 0 && moves_in touched items (length a.commits) w) ≡ false
 moves_not a items touched sound w h =
-    let there = subst (λ ws. Has w ws) (sym (committed-parts a)) (has_right w (dropped_in_order a) (kept_commits a) h) in
+    let there = subst (λ ws. Has w ws) (sym (committed-parts a)) (has_right w (dropped_in_order a) (kept_committed a) h) in
     let low = (first_number a (committed a) [] w sound (sym (append-nil (committed a))) there).0 in
     let no : (seq_of a w == 0) ≡ false = false_from_ne_true (seq_of a w == 0) (λ t. let z = eqb-true (seq_of a w) 0 t in omega (arith, z, low)) in
     λ i. no i && moves_in touched items (length a.commits) w
@@ -185,11 +185,11 @@ moves_as a items touched right w h = let open_ = tentative_number a w h in λ i.
 
 pub undone_picked : (a : Replica) (items : List Item) (inside : Write → Bool) (touched : List Text) → IsReplica a → CoversScope a items inside → AreTouched touched a items → filter (λ w. seq_of a w == 0 && moves_in touched items (length a.commits) w) (filter inside (kept_in_order a)) ≡ filter (may_move a items) (tentative a)
 undone_picked a items inside touched sound covers right =
-    filter_apart (λ w. seq_of a w == 0 && moves_in touched items (length a.commits) w) inside (kept_commits a) (tentative a)
+    filter_apart (λ w. seq_of a w == 0 && moves_in touched items (length a.commits) w) inside (kept_committed a) (tentative a)
     ∙ (λ i. none i ++ some i)
   where
-    none : filter (λ w. seq_of a w == 0 && moves_in touched items (length a.commits) w) (filter inside (kept_commits a)) ≡ []
-    none = filter_inside (λ w. seq_of a w == 0 && moves_in touched items (length a.commits) w) (λ w. false) inside (kept_commits a) (moves_not a items touched sound) (λ w h e. absurd (true≢false (sym e))) ∙ none_passes (kept_commits a)
+    none : filter (λ w. seq_of a w == 0 && moves_in touched items (length a.commits) w) (filter inside (kept_committed a)) ≡ []
+    none = filter_inside (λ w. seq_of a w == 0 && moves_in touched items (length a.commits) w) (λ w. false) inside (kept_committed a) (moves_not a items touched sound) (λ w h e. absurd (true≢false (sym e))) ∙ none_passes (kept_committed a)
 
     some : filter (λ w. seq_of a w == 0 && moves_in touched items (length a.commits) w) (filter inside (tentative a)) ≡ filter (may_move a items) (tentative a)
     some =
@@ -207,21 +207,21 @@ again_picked a b items inside touched commits kept m =
     (λ i. map (λ (x : NumberedWrite). x.write) (filter (is_anew touched items (m.commits_are i)) (m.kept_are i)))
     ∙ filter_logged (is_anew touched items (length a.commits)) b (filter inside (kept_in_order b))
     ∙ ap (λ ws. filter (anew a b items touched) (filter inside (ws ++ tentative b))) kept_is
-    ∙ filter_apart (anew a b items touched) inside (kept_commits a ++ m.moves.news) (tentative b)
-    ∙ ap (λ ws. ws ++ filter (anew a b items touched) (filter inside (tentative b))) (filter_apart (anew a b items touched) inside (kept_commits a) m.moves.news)
+    ∙ filter_apart (anew a b items touched) inside (kept_committed a ++ m.moves.news) (tentative b)
+    ∙ ap (λ ws. ws ++ filter (anew a b items touched) (filter inside (tentative b))) (filter_apart (anew a b items touched) inside (kept_committed a) m.moves.news)
     ∙ (λ i. (none i ++ all i) ++ some i)
   where
     long : length (committed a) ≡ length a.commits
     long = sym (length-map (committed a) id_of) ∙ ap length (committed_ids a m.sound)
 
-    kept_is : kept_commits b ≡ kept_commits a ++ m.moves.news
+    kept_is : kept_committed b ≡ kept_committed a ++ m.moves.news
     kept_is =
-        (append_split (dropped_in_order b) (dropped_in_order a) (kept_commits b) (kept_commits a ++ m.moves.news) (dropped_long b m.moves.sound ∙ sym m.moves.dropped ∙ sym (dropped_long a m.sound))
-        (sym (committed-parts b) ∙ m.moves.committed_are ∙ ap (λ ws. ws ++ m.moves.news) (committed-parts a) ∙ append_assoc (dropped_in_order a) (kept_commits a) m.moves.news)).1
+        (append_split (dropped_in_order b) (dropped_in_order a) (kept_committed b) (kept_committed a ++ m.moves.news) (dropped_long b m.moves.sound ∙ sym m.moves.dropped ∙ sym (dropped_long a m.sound))
+        (sym (committed-parts b) ∙ m.moves.committed_are ∙ ap (λ ws. ws ++ m.moves.news) (committed-parts a) ∙ append_assoc (dropped_in_order a) (kept_committed a) m.moves.news)).1
 
-    old : (w : Write) → Has w (kept_commits a) → anew a b items touched w ≡ false
+    old : (w : Write) → Has w (kept_committed a) → anew a b items touched w ≡ false
     old w h =
-        let there = subst (λ ws. Has w ws) (sym (committed-parts a)) (has_right w (dropped_in_order a) (kept_commits a) h) in
+        let there = subst (λ ws. Has w ws) (sym (committed-parts a)) (has_right w (dropped_in_order a) (kept_committed a) h) in
         let p = first_number b (committed a) m.moves.news w m.moves.sound m.moves.committed_are there in
         let low = p.0 in
         let high = p.1 in
@@ -229,8 +229,8 @@ again_picked a b items inside touched commits kept m =
         let closed : (seq_of b w == 0) ≡ false = false_from_ne_true (seq_of b w == 0) (λ t. let z = eqb-true (seq_of b w) 0 t in omega (arith, z, low)) in
         λ i. no i || (closed i && moves_in touched items (length a.commits) w)
 
-    none : filter (anew a b items touched) (filter inside (kept_commits a)) ≡ []
-    none = filter_inside (anew a b items touched) (λ w. false) inside (kept_commits a) old (λ w h e. absurd (true≢false (sym e))) ∙ none_passes (kept_commits a)
+    none : filter (anew a b items touched) (filter inside (kept_committed a)) ≡ []
+    none = filter_inside (anew a b items touched) (λ w. false) inside (kept_committed a) old (λ w h e. absurd (true≢false (sym e))) ∙ none_passes (kept_committed a)
 
     number : (w : Write) → Has w m.moves.news → length a.commits < seq_of b w
     number w h =

@@ -10,13 +10,12 @@ use Rattle.mr_model.specs.Writes.{Id, Write, is_write, stamp_before}
 use Rattle.mr_model.specs.Refusals as model
 use Rattle.mr_model.specs.Exchange.{Version, Second, Item, W, C, Header, Batch, is_header, is_in_version, is_item, is_batch, is_batch_of}
 use Rattle.mr_model.specs.Replica.{Replica, IsReplica, write_with, with_write, tentative}
-use Rattle.mr_model.specs.Kept.{dropped_in_order, kept_in_order}
+use Rattle.mr_model.specs.Kept.{dropped_in_order, kept_in_order, kept_committed}
 use Rattle.mr_model.specs.Taking.{Progress, take_item, take_items, take_write, take_commit, is_that_id, with_new_write, with_new_commit}
 use Rattle.mr_model.specs.Step.{after_items, step_unless, receive_under, receive_batch}
 use Rattle.mr_model.proofs.TakingKeeps.{IsItem, KeepsReplica, versions_item, item_keeps}
 use Rattle.mr_model.proofs.TwinChanges.{dropped-add_write}
 use Rattle.mr_model.proofs.Fronts.{take-front}
-use Rattle.mr_model.proofs.DroppedApart.{kept_committed}
 use Rattle.mr_model.proofs.BatchesReadBack.{ok_inj}
 use Rattle.mr_model.proofs.Orders.{commit_moved}
 use Rattle.mr_base.specs.declared.refusals.Refusal.{Refusal}

@@ -14,7 +14,8 @@ use Rattle.mr_model.specs.Dropped.{Has}
 use Rattle.mr_model.proofs.DroppedApart.{dropped_known, known_dropped}
 use Rattle.mr_model.proofs.Members.{has_all, all_has, has_map, map_has, has_filter, filter_has, has_filter_map, filter_map_has, Sorted, sorted_filter}
 use Rattle.mr_model.proofs.RowsById.{has_by_id, by_id_has}
-use Rattle.mr_tables.specs.Change.{id_before, log_id}
+use Rattle.mr_model.specs.Queries.{log_id}
+use Rattle.mr_tables.specs.Change.{id_before}
 use Rattle.mr_tables.proofs.Putting.{InOrder, id_order, in_order_same}
 use Rattle.mr_tables.proofs.Rising.{both}
 use Rattle.mr_tables.specs.declared.old_errors.OldError.{OldError}

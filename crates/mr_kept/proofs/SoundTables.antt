@@ -11,7 +11,7 @@ use Rattle.mr_model.specs.Replay.{Place, slot_at}
 use Rattle.mr_model.specs.Replica.{Replica, IsReplica, AreInNameOrder, text_before, is_dropped, is_committed, committed_count, count_of, last_time}
 use Rattle.mr_model.specs.View.{place_of, canceller_of}
 use Rattle.mr_model.specs.Tables.{VectorRow, BookingRow, ErrorRow, CancelledRow, CancelRow, PlaceRow, Booked, Erred, Cancelled, Cancel, by_id, seq_among, seq_of, vector_row, log_row, as_booking, as_error, as_cancelled, as_cancel, booking_place_row, place_row_for, place_row, booking_row, error_row, cancelled_row, cancel_row, tables_of}
-use Rattle.mr_model.specs.Queries.{booking_id, error_id, cancelled_id, cancel_id, row_id}
+use Rattle.mr_model.specs.Queries.{booking_id, error_id, cancelled_id, cancel_id, row_id, log_id}
 use Rattle.mr_model.specs.Dropped.{Has}
 use Rattle.mr_model.proofs.KnownById.{known_bounds}
 use Rattle.mr_model.proofs.Members.{has_all, Sorted}
@@ -22,7 +22,7 @@ use Rattle.mr_model.proofs.RowsTell.{known_of, booked_is, erred_is, cancelled_is
 use Rattle.mr_model.proofs.Runs.{sorted_append}
 use Rattle.mr_model.proofs.TablesTell.{in_row}
 use Rattle.mr_tables.specs.declared.summary.Tally.{Tally}
-use Rattle.mr_tables.specs.Change.{id_before, log_id}
+use Rattle.mr_tables.specs.Change.{id_before}
 use Rattle.mr_tables.specs.Summary.{summary_of}
 use Rattle.mr_tables.specs.SoundRows.{IsCountSound, is_counted, IsMarkSound, IsNumberSound, AreKeysRising, AreSound}
 use Rattle.mr_tables.proofs.Putting.{InOrder}

@@ -10,7 +10,7 @@ use Rattle.mr_model.specs.Writes.{Id, Stamp, Meeting, Action, Books, Cancels, Wr
 use Rattle.mr_model.specs.Requests.{Request, is_request, stamped}
 use Rattle.mr_model.specs.Replica.{Replica, IsReplica, clock_of, knows_room, tentative, order_of, add_write, is_committed}
 use Rattle.mr_model.specs.Replay.{Place, Taken, Logged, Done, Void, slot_at}
-use Rattle.mr_model.specs.Kept.{dropped_in_order, kept_in_order}
+use Rattle.mr_model.specs.Kept.{dropped_in_order, kept_in_order, kept_committed}
 use Rattle.mr_model.specs.View.{cancels_it, place_of, canceller_of}
 use Rattle.mr_model.specs.Tables.{BookingRow, PlaceRow, seq_of, taken_back, as_booking, as_error, as_cancel, cancel_row_for, booking_place_row, place_row_for, place_row, log_row, tables_of}
 use Rattle.mr_model.specs.Tables as rows
@@ -35,7 +35,7 @@ use Rattle.mr_tables.proofs.BoardsTold.{known_or_none}
 use Rattle.mr_tables.proofs.CountLimits.{few_commits}
 use Rattle.mr_tables.proofs.Summaries.{summary-write}
 use Rattle.mr_kept.specs.Accepting.{summary_in, with_last, puts_last, CanPutLast}
-use Rattle.mr_kept.specs.ChangeLaws.{GivesRows, kept_committed, vector_between}
+use Rattle.mr_kept.specs.ChangeLaws.{GivesRows, vector_between}
 use Rattle.mr_kept.specs.Desk.{DeskView, desk_of}
 use Rattle.mr_kept.specs.DeskTables.{desk_tables}
 use Rattle.mr_kept.specs.Placing.{with_places_put, board_place, has_booking, taken_row, taken_on, taken_rows_of, taken_rows}

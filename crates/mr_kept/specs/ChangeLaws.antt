@@ -1,9 +1,9 @@
 -- What the calls of a desk change in its tables, as statements.
-use Rattle.std.specs.Prelude.{◌≡◌, ℕ, ◌+◌, ◌-◌, ◌<◌, max, true, List, [], ◌∷◌, ◌++◌, length, map, take, drop, filter, filter_map, None, ◌⊎◌}
+use Rattle.std.specs.Prelude.{◌≡◌, ℕ, ◌+◌, ◌-◌, ◌<◌, max, true, List, [], ◌∷◌, ◌++◌, length, map, take, filter, None, ◌⊎◌}
 use Rattle.mr_model.specs.Texts.{Text, numbers_on}
 use Rattle.mr_model.specs.Writes.{Write, id_of}
-use Rattle.mr_model.specs.Replica.{Replica, IsReplica, clock_of, add_write, knows_room, with_room, text_before, write_with}
-use Rattle.mr_model.specs.Kept.{dropped_in_order, kept_in_order}
+use Rattle.mr_model.specs.Replica.{Replica, IsReplica, clock_of, add_write, knows_room, with_room, text_before}
+use Rattle.mr_model.specs.Kept.{dropped_in_order, kept_in_order, kept_committed}
 use Rattle.mr_model.specs.View.{canceller_of}
 use Rattle.mr_model.specs.Tables.{VectorRow, PlaceRow, Cancelled, seq_of, place_row, taken_back, tables_of}
 use Rattle.mr_model.specs.Queries.{booking_id}
@@ -32,10 +32,6 @@ vector_between a b = changed_tallies (map (tally_of a) (numbers_on 0 100)) (map 
 -- the board before a place among the kept writes
 abbrev pub board_before : Replica → List Write → Rows
 board_before r front = executed_all (executed_all [] (dropped_in_order r)) front
-
--- the committed writes that are kept
-abbrev pub kept_committed : Replica → List Write
-kept_committed r = filter_map (write_with r) (drop r.dropped r.commits)
 
 -- a room more is put, and nothing else changes
 abbrev pub RoomsArePut : Type 0

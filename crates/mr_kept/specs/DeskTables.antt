@@ -4,7 +4,7 @@ use Rattle.mr_model.specs.Texts.{Text, numbers_on}
 use Rattle.mr_model.specs.Slots.{Slot}
 use Rattle.mr_model.specs.Writes.{Id, same_id}
 use Rattle.mr_model.specs.Tables.{LogRow, BookingRow, ErrorRow, CancelledRow, CancelRow, Tables, taken_back}
-use Rattle.mr_model.specs.Queries.{cancel_id}
+use Rattle.mr_model.specs.Queries.{cancel_id, log_id}
 use Rattle.mr_replay.specs.declared.rows.Standing.TheVariants.{Booked, CancelledBy, InErrorLog}
 use Rattle.mr_replay.specs.declared.rows.Kept.{Kept}
 use Rattle.mr_replay.specs.declared.rows.Kept.TheVariants.{OfBooking}
@@ -13,7 +13,7 @@ use Rattle.mr_tables.specs.declared.summary.Tally.{Tally}
 use Rattle.mr_tables.specs.declared.old_errors.OldError.{OldError}
 use Rattle.mr_tables.specs.Summary.{tally_at}
 use Rattle.mr_tables.specs.Tallied.{tally_rows}
-use Rattle.mr_tables.specs.Change.{put_all, id_before, log_id}
+use Rattle.mr_tables.specs.Change.{put_all, id_before}
 use Rattle.mr_tables.specs.ExecutionRows.{log_rows}
 use Rattle.mr_kept.specs.Log.{cancel_rows}
 use Rattle.mr_kept.specs.Desk.{DeskView}

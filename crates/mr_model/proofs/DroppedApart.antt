@@ -15,7 +15,7 @@ use Rattle.mr_model.specs.Replay.{Booking}
 use Rattle.mr_model.specs.Replica.{Replica, is_dropped, is_committed, write_with, committed, tentative, order_of, IsReplica}
 use Rattle.mr_model.specs.Board.{after}
 use Rattle.mr_model.specs.View.{Placed, of_room, cancel_of, placed_in, place_or_logged, place_of, canceller_of}
-use Rattle.mr_model.specs.Kept.{dropped_in_order, kept_in_order}
+use Rattle.mr_model.specs.Kept.{dropped_in_order, kept_in_order, kept_committed}
 use Rattle.mr_model.proofs.Members.{has_left, has_right, has_split, has_filter, filter_has, filter_map_has, has_filter_map, find_left, find_right, find_none, same_id-true, has_among, among_has, among_not, not_among, Distinct, distinct_parts, take_drop}
 use Rattle.mr_model.proofs.KnownById.{with_id, known_with, committed_known, tentative_known, distinct_order, distinct_commits}
 use Rattle.mr_model.proofs.PlacedInOrder.{placed_among, among-append, placed_id}
@@ -24,9 +24,6 @@ use Rattle.mr_model.proofs.Runs.{run-among, never_done}
 use Rattle.mr_model.proofs.Cancellers.{order_list, place-order, canceller-order, or_else, cancel-append}
 
 -- ---- the parts of the order
-
-abbrev pub kept_committed : Replica → List Write
-kept_committed r = filter_map (write_with r) (drop r.dropped r.commits)
 
 pub committed-parts : (r : Replica) → committed r ≡ dropped_in_order r ++ kept_committed r
 committed-parts r = ap (λ ids. filter_map (write_with r) ids) (sym (take_drop r.dropped r.commits)) ∙ filter_map-append (write_with r) (take r.dropped r.commits) (drop r.dropped r.commits)

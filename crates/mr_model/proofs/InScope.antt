@@ -15,12 +15,12 @@ use Rattle.mr_model.specs.Positions.{Position, count_among}
 use Rattle.mr_model.specs.Step.{knows_booking, lacks}
 use Rattle.mr_model.specs.Tables.{LogRow, BookingRow, ErrorRow, CancelledRow, PlaceRow, log_row, place_row, cancelled_row, seq_of, tables_of}
 use Rattle.mr_model.specs.Tables as rows
-use Rattle.mr_model.specs.Queries.{booking_id, error_id, cancelled_id, row_id, row_room, IsRowFor, IsRowIn}
+use Rattle.mr_model.specs.Queries.{booking_id, error_id, cancelled_id, row_id, row_room, IsRowFor, IsRowIn, log_id}
 use Rattle.mr_model.specs.Dropped.{Has}
-use Rattle.mr_model.specs.Kept.{kept_in_order, LogBefore, AreInRunOrder}
+use Rattle.mr_model.specs.Kept.{kept_in_order, LogBefore, AreInRunOrder, kept_committed}
 use Rattle.mr_model.specs.Changes.{IdBefore, RiseById, SameRows, first_tentative}
-use Rattle.mr_model.specs.Scopes.{OfTarget, NextCommits, UpTo, OfPosition, log_row_id, is_tentative, row_before, put_row, by_stamp, is_due_to, in_scope}
-use Rattle.mr_model.specs.RowsInScope.{kept_commits, told_booking, HasRowOfRoom, booked, logged, cancelled}
+use Rattle.mr_model.specs.Scopes.{OfTarget, NextCommits, UpTo, OfPosition, is_tentative, row_before, put_row, by_stamp, is_due_to, in_scope}
+use Rattle.mr_model.specs.RowsInScope.{told_booking, HasRowOfRoom, booked, logged, cancelled}
 use Rattle.mr_model.proofs.KeyOrder.{tables_in_order}
 use Rattle.mr_model.proofs.PlacesOfOrder.{known_in_order}
 use Rattle.mr_model.proofs.Members.{has_filter, filter_has, has_map, map_has, all_has, has_all, has_among, among_has, Sorted, sorted_same, same_id-true, same_id_from, any_has, has_any}
@@ -105,10 +105,10 @@ numbered_within {A} f k d (x ∷ xs) low n = go (within 1 d (f x)) refl (d + 1 -
         inside : within 1 d (f x) ≡ true
         inside = let a : leb 1 (f x) ≡ true = Rattle.std.proofs.lemmas.Bool.le-leb 1 (f x) (omega (arith, here, low)) in let b : leb (f x) d ≡ true = Rattle.std.proofs.lemmas.Bool.le-leb (f x) d (omega (arith, here, l)) in λ i. a i && b i
 
-pub commit_numbers : (r : Replica) (i : ℕ) (w : Write) → IsReplica r → slice_get (kept_commits r) i ≡ Some w → seq_of r w ≡ r.dropped + 1 + i
+pub commit_numbers : (r : Replica) (i : ℕ) (w : Write) → IsReplica r → slice_get (kept_committed r) i ≡ Some w → seq_of r w ≡ r.dropped + 1 + i
 commit_numbers r i w h e =
-    let ids : map id_of (kept_commits r) ≡ drop r.dropped r.commits = found_ids r (drop r.dropped r.commits) (λ id a. commit_found r id h (drop_has r.dropped id r.commits a)) in
-    let at : slice_get r.commits (r.dropped + i) ≡ Some (id_of w) = sym (slice_drop r.dropped i r.commits) ∙ ap (λ js. slice_get js i) (sym ids) ∙ slice_map id_of (kept_commits r) i w e in
+    let ids : map id_of (kept_committed r) ≡ drop r.dropped r.commits = found_ids r (drop r.dropped r.commits) (λ id a. commit_found r id h (drop_has r.dropped id r.commits a)) in
+    let at : slice_get r.commits (r.dropped + i) ≡ Some (id_of w) = sym (slice_drop r.dropped i r.commits) ∙ ap (λ js. slice_get js i) (sym ids) ∙ slice_map id_of (kept_committed r) i w e in
     seq_at 1 r.commits (id_of w) (r.dropped + i) (distinct_commits r h) at ∙ omega arith
   where
     drop_has : (n : ℕ) (id : Id) (ids : List Id) → Has id (drop n ids) → Has id ids
@@ -133,16 +133,16 @@ get_has x (y ∷ ys) (inl e) = (zero, ap Some (sym e))
 get_has x (y ∷ ys) (inr h) = let (i, e) = get_has x ys h in (suc i, e)
 
 -- a batch for a position: the kept writes whose rows are due to it
-pub due_kept : (r : Replica) (p : Position) → IsReplica r → filter (λ w. is_due_to p (log_row r w)) (kept_in_order r) ≡ drop (p.commits - r.dropped) (kept_commits r) ++ filter (lacks p) (tentative r)
+pub due_kept : (r : Replica) (p : Position) → IsReplica r → filter (λ w. is_due_to p (log_row r w)) (kept_in_order r) ≡ drop (p.commits - r.dropped) (kept_committed r) ++ filter (lacks p) (tentative r)
 due_kept r p h =
-    filter-append (λ w. is_due_to p (log_row r w)) (kept_commits r) (tentative r)
+    filter-append (λ w. is_due_to p (log_row r w)) (kept_committed r) (tentative r)
     ∙ (λ i. front i ++ same_left (λ w. is_due_to p (log_row r w)) (lacks p) (tentative r) back i)
   where
-    front : filter (λ w. is_due_to p (log_row r w)) (kept_commits r) ≡ drop (p.commits - r.dropped) (kept_commits r)
+    front : filter (λ w. is_due_to p (log_row r w)) (kept_committed r) ≡ drop (p.commits - r.dropped) (kept_committed r)
     front =
-        same_left (λ w. is_due_to p (log_row r w)) (λ w. ltb p.commits (seq_of r w)) (kept_commits r) (λ w g. let (i, e) = get_has w (kept_commits r) g in let n = commit_numbers r i w h e in ap (λ b. (b && lacks p w) || ltb p.commits (seq_of r w)) (positive (seq_of r w) (omega (arith, n))))
-        ∙ numbered_above (seq_of r) (r.dropped + 1) p.commits (kept_commits r) (λ i w e. commit_numbers r i w h e)
-        ∙ ap (λ n. drop n (kept_commits r)) (let m : p.commits + 1 - (r.dropped + 1) ≡ p.commits - r.dropped = omega arith in m)
+        same_left (λ w. is_due_to p (log_row r w)) (λ w. ltb p.commits (seq_of r w)) (kept_committed r) (λ w g. let (i, e) = get_has w (kept_committed r) g in let n = commit_numbers r i w h e in ap (λ b. (b && lacks p w) || ltb p.commits (seq_of r w)) (positive (seq_of r w) (omega (arith, n))))
+        ∙ numbered_above (seq_of r) (r.dropped + 1) p.commits (kept_committed r) (λ i w e. commit_numbers r i w h e)
+        ∙ ap (λ n. drop n (kept_committed r)) (let m : p.commits + 1 - (r.dropped + 1) ≡ p.commits - r.dropped = omega arith in m)
       where
         positive : (n : ℕ) → 1 ≤ n → eqb n 0 ≡ false
         positive n l = false_from_ne_true (eqb n 0) (λ e. let z : n ≡ 0 = Rattle.std.proofs.Common.eqb-true n 0 e in omega (arith, z, l))
@@ -157,34 +157,34 @@ due_kept r p h =
         alone true = refl
         alone false = refl
 
-pub lacked : (r : Replica) (p : Position) → IsReplica r → r.dropped ≤ p.commits → SameRows (in_scope (OfPosition p) (tables_of r)).log (map (log_row r) (drop (p.commits - r.dropped) (kept_commits r) ++ filter (lacks p) (tentative r)))
-lacked r p h low = picked_are r (is_due_to p) (drop (p.commits - r.dropped) (kept_commits r) ++ filter (lacks p) (tentative r)) h (due_kept r p h)
+pub lacked : (r : Replica) (p : Position) → IsReplica r → r.dropped ≤ p.commits → SameRows (in_scope (OfPosition p) (tables_of r)).log (map (log_row r) (drop (p.commits - r.dropped) (kept_committed r) ++ filter (lacks p) (tentative r)))
+lacked r p h low = picked_are r (is_due_to p) (drop (p.commits - r.dropped) (kept_committed r) ++ filter (lacks p) (tentative r)) h (due_kept r p h)
 
 -- a truncation
-pub truncated : (r : Replica) (d : ℕ) → IsReplica r → SameRows (in_scope (UpTo d) (tables_of r)).log (map (log_row r) (take (d - r.dropped) (kept_commits r)))
+pub truncated : (r : Replica) (d : ℕ) → IsReplica r → SameRows (in_scope (UpTo d) (tables_of r)).log (map (log_row r) (take (d - r.dropped) (kept_committed r)))
 truncated r d h =
-    picked_are r (λ row. within 1 d row.seq) (take (d - r.dropped) (kept_commits r)) h
-    (filter-append (λ w. within 1 d (seq_of r w)) (kept_commits r) (tentative r)
+    picked_are r (λ row. within 1 d row.seq) (take (d - r.dropped) (kept_committed r)) h
+    (filter-append (λ w. within 1 d (seq_of r w)) (kept_committed r) (tentative r)
     ∙ (λ i. front i ++ none_left (λ w. within 1 d (seq_of r w)) (tentative r) (λ w g. ap (within 1 d) (no_number r w g)) i)
-    ∙ append-nil (take (d - r.dropped) (kept_commits r)))
+    ∙ append-nil (take (d - r.dropped) (kept_committed r)))
   where
-    front : filter (λ w. within 1 d (seq_of r w)) (kept_commits r) ≡ take (d - r.dropped) (kept_commits r)
+    front : filter (λ w. within 1 d (seq_of r w)) (kept_committed r) ≡ take (d - r.dropped) (kept_committed r)
     front =
-        numbered_within (seq_of r) (r.dropped + 1) d (kept_commits r) (omega arith) (λ i w e. commit_numbers r i w h e)
-        ∙ ap (λ n. take n (kept_commits r)) (let m : d + 1 - (r.dropped + 1) ≡ d - r.dropped = omega arith in m)
+        numbered_within (seq_of r) (r.dropped + 1) d (kept_committed r) (omega arith) (λ i w e. commit_numbers r i w h e)
+        ∙ ap (λ n. take n (kept_committed r)) (let m : d + 1 - (r.dropped + 1) ≡ d - r.dropped = omega arith in m)
 
 -- ---- a missing row
 
-pub missing : (r : Replica) (id : Id) → IsReplica r → 1 ≤ id.n → id.n ≤ count_of r id.server → (is_dropped r id ≡ true) ↔ ((row : LogRow) → Has row (tables_of r).log → log_row_id row ≡ id → ⊥)
+pub missing : (r : Replica) (id : Id) → IsReplica r → 1 ≤ id.n → id.n ≤ count_of r id.server → (is_dropped r id ≡ true) ↔ ((row : LogRow) → Has row (tables_of r).log → log_id row ≡ id → ⊥)
 missing r id h low high = (there, back (is_dropped r id) refl)
   where
-    there : is_dropped r id ≡ true → (row : LogRow) → Has row (tables_of r).log → log_row_id row ≡ id → ⊥
+    there : is_dropped r id ≡ true → (row : LogRow) → Has row (tables_of r).log → log_id row ≡ id → ⊥
     there d row a e =
         let (w, k, f, g) = ((rows_of_known r h).log row).0 a in
-        let same : id_of w ≡ id = ap log_row_id (sym g) ∙ e in
+        let same : id_of w ≡ id = ap log_id (sym g) ∙ e in
         true≢false (sym d ∙ ap (is_dropped r) (sym same) ∙ f)
 
-    back : (b : Bool) → is_dropped r id ≡ b → ((row : LogRow) → Has row (tables_of r).log → log_row_id row ≡ id → ⊥) → is_dropped r id ≡ true
+    back : (b : Bool) → is_dropped r id ≡ b → ((row : LogRow) → Has row (tables_of r).log → log_id row ≡ id → ⊥) → is_dropped r id ≡ true
     back true d none = d
     back false d none =
         let (w, k, e) = known_at r id h low high in
@@ -278,10 +278,10 @@ pair_apart (x ∷ xs) v w s (inl e) (inr h) d = inl (subst (λ y. IsTrue (stamp_
 pair_apart (x ∷ xs) v w s (inr g) (inl f) d = inr (subst (λ y. IsTrue (stamp_before y v)) (sym f) (all_has (λ b. IsTrue (stamp_before x b)) v xs s.0 g))
 pair_apart (x ∷ xs) v w s (inr g) (inr h) d = pair_apart xs v w s.1 g h d
 
-rise_apart : (rows : List LogRow) → RiseById (map log_row_id rows) → ((x y : LogRow) → Has x rows → Has y rows → (x ≡ y → ⊥) → Apart x y) → AllApart rows
+rise_apart : (rows : List LogRow) → RiseById (map log_id rows) → ((x y : LogRow) → Has x rows → Has y rows → (x ≡ y → ⊥) → Apart x y) → AllApart rows
 rise_apart [] s f = tt
 rise_apart (x ∷ xs) s f = (
-  has_all (Apart x) xs (λ y h. f x y (inl refl) (inr h) (λ e. itself (log_row_id x) (subst (λ i. IdBefore (log_row_id x) i) (ap log_row_id (sym e)) (all_has (IdBefore (log_row_id x)) (log_row_id y) (map log_row_id xs) s.0 (has_map log_row_id y xs h))))),
+  has_all (Apart x) xs (λ y h. f x y (inl refl) (inr h) (λ e. itself (log_id x) (subst (λ i. IdBefore (log_id x) i) (ap log_id (sym e)) (all_has (IdBefore (log_id x)) (log_id y) (map log_id xs) s.0 (has_map log_id y xs h))))),
   rise_apart xs s.1 (λ y z g h. f y z (inr g) (inr h)),
 )
   where
@@ -289,13 +289,13 @@ rise_apart (x ∷ xs) s f = (
     itself i (inl l) = omega (arith, l)
     itself i (inr p) = let l = p.1 in omega (arith, l)
 
-rise_filter : (p : LogRow → Bool) (rows : List LogRow) → RiseById (map log_row_id rows) → RiseById (map log_row_id (filter p rows))
+rise_filter : (p : LogRow → Bool) (rows : List LogRow) → RiseById (map log_id rows) → RiseById (map log_id (filter p rows))
 rise_filter p [] s = tt
 rise_filter p (x ∷ xs) s = go (p x) (rise_filter p xs s.1)
   where
-    go : (b : Bool) → RiseById (map log_row_id (filter p xs)) → RiseById (map log_row_id (cond b (x ∷ filter p xs) (filter p xs)))
+    go : (b : Bool) → RiseById (map log_id (filter p xs)) → RiseById (map log_id (cond b (x ∷ filter p xs) (filter p xs)))
     go false r = r
-    go true r = (has_all (IdBefore (log_row_id x)) (map log_row_id (filter p xs)) (λ i h. let (y, g, e) = map_has log_row_id i (filter p xs) h in subst (IdBefore (log_row_id x)) (sym e) (all_has (IdBefore (log_row_id x)) (log_row_id y) (map log_row_id xs) s.0 (has_map log_row_id y xs (filter_has p y xs g).0))), r)
+    go true r = (has_all (IdBefore (log_id x)) (map log_id (filter p xs)) (λ i h. let (y, g, e) = map_has log_id i (filter p xs) h in subst (IdBefore (log_id x)) (sym e) (all_has (IdBefore (log_id x)) (log_id y) (map log_id xs) s.0 (has_map log_id y xs (filter_has p y xs g).0))), r)
 
 sorted_rows : (r : Replica) (ws : List Write) → Sorted (λ a b. IsTrue (stamp_before a b)) ws → Sorted RowBefore (map (log_row r) ws)
 sorted_rows r [] s = tt
@@ -352,11 +352,11 @@ taken_has (suc n) x (y ∷ ys) (inl e) = inl e
 taken_has (suc n) x (y ∷ ys) (inr h) = inr (taken_has n x ys h)
 
 -- the cancelled rows in scope are those of the writes whose log rows are
-pub cancelled_rows : (r : Replica) (ws : List Write) (row : CancelledRow) → IsReplica r → ((w : Write) → Has w ws → Has w r.known) → Has row (filter (λ c. is_among (cancelled_id c) (map log_row_id (map (log_row r) ws))) (tables_of r).cancelled) ↔ ((w : Write) × Has w ws × (cancelled_row r w ≡ Some row))
+pub cancelled_rows : (r : Replica) (ws : List Write) (row : CancelledRow) → IsReplica r → ((w : Write) → Has w ws → Has w r.known) → Has row (filter (λ c. is_among (cancelled_id c) (map log_id (map (log_row r) ws))) (tables_of r).cancelled) ↔ ((w : Write) × Has w ws × (cancelled_row r w ≡ Some row))
 cancelled_rows r ws row h kept = (there, back)
   where
     ids : List Id
-    ids = map log_row_id (map (log_row r) ws)
+    ids = map log_id (map (log_row r) ws)
 
     key : (w : Write) → cancelled_row r w ≡ Some row → cancelled_id row ≡ id_of w
     key w e = sym (ap row_id (cancelled_is row (place_row r w) e)) ∙ key-row r w
@@ -365,19 +365,19 @@ cancelled_rows r ws row h kept = (there, back)
     there a =
         let f = filter_has (λ c. is_among (cancelled_id c) ids) row (tables_of r).cancelled a in
         let (w, k, e) = ((rows_of_known r h).cancelled row).0 f.0 in
-        let (line, g, i) = map_has log_row_id (cancelled_id row) (map (log_row r) ws) (among_has (cancelled_id row) ids f.1) in
+        let (line, g, i) = map_has log_id (cancelled_id row) (map (log_row r) ws) (among_has (cancelled_id row) ids f.1) in
         let (v, l, m) = map_has (log_row r) line ws g in
-        let same : v ≡ w = one_known r v w h (kept v l) k (sym (ap log_row_id m) ∙ sym i ∙ key w e) in
+        let same : v ≡ w = one_known r v w h (kept v l) k (sym (ap log_id m) ∙ sym i ∙ key w e) in
         (v, l, ap (cancelled_row r) same ∙ e)
 
     back : (w : Write) × Has w ws × (cancelled_row r w ≡ Some row) → Has row (filter (λ c. is_among (cancelled_id c) ids) (tables_of r).cancelled)
     back (w, g, e) =
         has_filter (λ c. is_among (cancelled_id c) ids) row (tables_of r).cancelled
-        (ap (λ i. is_among i ids) (key w e) ∙ has_among (id_of w) ids (has_map log_row_id (log_row r w) (map (log_row r) ws) (has_map (log_row r) w ws g)))
+        (ap (λ i. is_among i ids) (key w e) ∙ has_among (id_of w) ids (has_map log_id (log_row r w) (map (log_row r) ws) (has_map (log_row r) w ws g)))
         (((rows_of_known r h).cancelled row).1 (w, kept w g, e))
 
 pub next_commits : (r : Replica) (k : ℕ) → IsReplica r → ((in_scope (NextCommits k) (tables_of r)).log ≡ map (log_row r) (first_tentative r k)) × ((row : CancelledRow) → Has row (in_scope (NextCommits k) (tables_of r)).cancelled ↔ ((w : Write) × Has w (first_tentative r k) × (cancelled_row r w ≡ Some row)))
-next_commits r k h = (logs, λ row. subst (λ rows. Has row (filter (λ c. is_among (cancelled_id c) (map log_row_id rows)) (tables_of r).cancelled) ↔ ((w : Write) × Has w (first_tentative r k) × (cancelled_row r w ≡ Some row))) (sym logs) (cancelled_rows r (first_tentative r k) row h known))
+next_commits r k h = (logs, λ row. subst (λ rows. Has row (filter (λ c. is_among (cancelled_id c) (map log_id rows)) (tables_of r).cancelled) ↔ ((w : Write) × Has w (first_tentative r k) × (cancelled_row r w ≡ Some row))) (sym logs) (cancelled_rows r (first_tentative r k) row h known))
   where
     logs : take k (by_stamp (filter is_tentative (tables_of r).log)) ≡ map (log_row r) (first_tentative r k)
     logs = ap (take k) (tentative_rows r h) ∙ map_take (log_row r) k (tentative r)

@@ -9,10 +9,10 @@ use Rattle.mr_model.specs.Writes.{same_id}
 use Rattle.mr_model.specs.Replica.{is_among}
 use Rattle.mr_model.specs.Exchange.{Item, W, C}
 use Rattle.mr_model.specs.Tables.{LogRow, BookingRow, ErrorRow, CancelledRow, Tables}
-use Rattle.mr_model.specs.Queries.{booking_id, error_id, cancelled_id}
+use Rattle.mr_model.specs.Queries.{booking_id, error_id, cancelled_id, log_id}
 use Rattle.mr_model.specs.Dropped.{Has}
 use Rattle.mr_model.proofs.Members.{has_filter, has_among, has_map, same_id-true}
-use Rattle.mr_model.specs.Scopes.{Scope, Nothing, OfRequest, OfTarget, NextCommits, UpTo, OfPosition, OfItems, log_row_id, is_tentative, by_stamp, is_on_day_of, is_due_to, item_id, has_number, is_named, is_in_tail, rooms_of_item, with_rows, in_scope}
+use Rattle.mr_model.specs.Scopes.{Scope, Nothing, OfRequest, OfTarget, NextCommits, UpTo, OfPosition, OfItems, is_tentative, by_stamp, is_on_day_of, is_due_to, item_id, has_number, is_named, is_in_tail, rooms_of_item, with_rows, in_scope}
 use Rattle.mr_model.specs.RowsRead.{rows_read, Reads}
 use Rattle.mr_model.proofs.RowsByStamp.{passing_by_stamp, first_passing, passing_both}
 
@@ -32,11 +32,11 @@ rooms_read commits items (x ∷ xs) rows p f g = (λ i. one x (f x (inl refl)) i
   where
     one : (x : Item) → Has x items → rooms_of_item commits (filter p rows) x ≡ rooms_of_item commits rows x
     one (W w) h = refl
-    one (C seq id) h = ap (λ rs. cond (ltb commits seq) (map (λ (row : LogRow). row.room) rs) []) (filter_read (λ (row : LogRow). same_id (log_row_id row) id) p rows (λ row k e. g row k (named row e)))
+    one (C seq id) h = ap (λ rs. cond (ltb commits seq) (map (λ (row : LogRow). row.room) rs) []) (filter_read (λ (row : LogRow). same_id (log_id row) id) p rows (λ row k e. g row k (named row e)))
       where
-        named : (row : LogRow) → same_id (log_row_id row) id ≡ true → is_named items row ≡ true
+        named : (row : LogRow) → same_id (log_id row) id ≡ true → is_named items row ≡ true
         named row e =
-            let among : is_among (log_row_id row) (map item_id items) ≡ true = ap (λ i. is_among i (map item_id items)) (same_id-true (log_row_id row) id e) ∙ has_among id (map item_id items) (has_map item_id (C seq id) items h) in
+            let among : is_among (log_id row) (map item_id items) ≡ true = ap (λ i. is_among i (map item_id items)) (same_id-true (log_id row) id e) ∙ has_among id (map item_id items) (has_map item_id (C seq id) items h) in
             ap (λ c. c || (not (is_tentative row) && list_any (has_number row.seq) items)) among
 
 -- of the rows that were read these are the rows in scope
@@ -72,7 +72,7 @@ read_rows (NextCommits k) t p b e c r =
     ∙ filter_read (among (take k (by_stamp (filter is_tentative t.log)))) c t.cancelled (λ row h f. r.cancelled row (has_filter (among (take k (by_stamp (filter is_tentative t.log)))) row t.cancelled f h)))
   where
     among : List LogRow → CancelledRow → Bool
-    among rows row = is_among (cancelled_id row) (map log_row_id rows)
+    among rows row = is_among (cancelled_id row) (map log_id rows)
 
     logs : take k (by_stamp (filter is_tentative (filter p t.log))) ≡ take k (by_stamp (filter is_tentative t.log))
     logs =

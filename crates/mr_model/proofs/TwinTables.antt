@@ -14,7 +14,7 @@ use Rattle.mr_model.specs.View.{Placed, Told, of_room, cancel_of, tell, placed_o
 use Rattle.mr_model.specs.Tables.{PlaceRow, by_id, seq_among, seq_of, vector_row, log_row_with, log_row, place_row_for, place_row, as_booking, as_error, as_cancelled, as_cancel, tables_of}
 use Rattle.mr_model.specs.Queries.{row_room}
 use Rattle.mr_model.specs.Dropped.{Has, DifferInDropped}
-use Rattle.mr_model.specs.Kept.{dropped_in_order, kept_in_order}
+use Rattle.mr_model.specs.Kept.{dropped_in_order, kept_in_order, kept_committed}
 use Rattle.mr_model.proofs.UniqueReplay.{some_inj, none_some}
 use Rattle.mr_model.proofs.Members.{find_has, take_drop}
 use Rattle.mr_model.proofs.KnownById.{partner, with_known}
@@ -25,7 +25,7 @@ use Rattle.mr_model.proofs.RoomTold.{told_id, told_placed, placed_told}
 use Rattle.mr_model.proofs.Runs.{run-among}
 use Rattle.mr_model.proofs.Cancellers.{told_whole, or_else}
 use Rattle.mr_model.proofs.MembersAlike.{SameMembers, among_alike}
-use Rattle.mr_model.proofs.DroppedApart.{dropped_board, dropped_list, later_from, later_list, kept_committed, kept_id, dropped_placed, later_placed, dropped_here, dropped_distinct, place-later, place-dropped, canceller-parts, canceller-later}
+use Rattle.mr_model.proofs.DroppedApart.{dropped_board, dropped_list, later_from, later_list, kept_id, dropped_placed, later_placed, dropped_here, dropped_distinct, place-later, place-dropped, canceller-parts, canceller-later}
 use Rattle.mr_model.proofs.RowsById.{Paired, rows_from_pairs, map_filter, seq_behind}
 use Rattle.mr_model.proofs.RowsTell.{one_row}
 use Rattle.mr_model.proofs.RowCancels.{row_booking, row_by, made, made_at, row-made, row-cancel}

@@ -11,8 +11,12 @@ use Rattle.mr_model.specs.Changes.{SameRows}
 abbrev pub dropped_in_order : Replica → List Write
 dropped_in_order r = filter_map (write_with r) (take r.dropped r.commits)
 
+-- the committed writes that are kept
+abbrev pub kept_committed : Replica → List Write
+kept_committed r = filter_map (write_with r) (drop r.dropped r.commits)
+
 abbrev pub kept_in_order : Replica → List Write
-kept_in_order r = filter_map (write_with r) (drop r.dropped r.commits) ++ tentative r
+kept_in_order r = kept_committed r ++ tentative r
 
 -- committed ones first, by their number; then the others, by time and server
 pub data LogBefore : LogRow → LogRow → Type 0 where

@@ -6,7 +6,7 @@ use Rattle.mr_model.specs.Calendar.{date_before}
 use Rattle.mr_model.specs.Writes.{Id, Action, Books, Cancels}
 use Rattle.mr_model.specs.Replica.{Replica}
 use Rattle.mr_model.specs.Replies.{Entry, Logging, RequestLogged, CancelLogged, Outcome, Booked, NotBooked, Cancelled, CancelDone, CancelVoid, Reply, OutcomeIs}
-use Rattle.mr_model.specs.Tables.{BookingRow, ErrorRow, CancelledRow, CancelRow, PlaceRow, Tables, as_booked, tables_of}
+use Rattle.mr_model.specs.Tables.{LogRow, BookingRow, ErrorRow, CancelledRow, CancelRow, PlaceRow, Tables, as_booked, tables_of}
 use Rattle.mr_model.specs.Tables as rows
 use Rattle.mr_model.specs.Dropped.{Has}
 
@@ -25,6 +25,9 @@ cancelled_id r = record { server = r.server; n = r.n }
 
 abbrev pub cancel_id : CancelRow → Id
 cancel_id r = record { server = r.server; n = r.n }
+
+abbrev pub log_id : LogRow → Id
+log_id r = record { server = r.server; n = r.n }
 
 -- a row with a commit number has the mark
 abbrev pub is_marked : ℕ → Bool

@@ -1,22 +1,19 @@
 -- What the rows in scope tell of a replica.
-use Rattle.std.specs.Prelude.{◌≡◌, ℕ, ◌-◌, ◌≤◌, Bool, true, ◌↔◌, List, [], ◌++◌, take, drop, map, filter, filter_map, Some}
+use Rattle.std.specs.Prelude.{◌≡◌, ℕ, ◌-◌, ◌≤◌, Bool, true, ◌↔◌, List, [], ◌++◌, take, drop, map, filter, Some}
 use Rattle.mr_model.specs.Texts.{Text}
 use Rattle.mr_model.specs.Writes.{Id, Books, Cancels, Write}
 use Rattle.mr_model.specs.Requests.{Request}
 use Rattle.mr_model.specs.Replay.{Done, Booking, place_among}
 use Rattle.mr_model.specs.Board.{place_on, board_after}
-use Rattle.mr_model.specs.Replica.{Replica, count_of, is_dropped, write_with, tentative, order_of, IsReplica}
+use Rattle.mr_model.specs.Replica.{Replica, count_of, is_dropped, tentative, order_of, IsReplica}
 use Rattle.mr_model.specs.Positions.{Position}
 use Rattle.mr_model.specs.Step.{knows_booking, lacks}
 use Rattle.mr_model.specs.Tables.{LogRow, BookingRow, ErrorRow, CancelledRow, Tables, log_row, cancelled_row, tables_of}
 use Rattle.mr_model.specs.Dropped.{Has}
-use Rattle.mr_model.specs.Kept.{kept_in_order, AreInRunOrder}
+use Rattle.mr_model.specs.Kept.{kept_in_order, AreInRunOrder, kept_committed}
 use Rattle.mr_model.specs.Changes.{SameRows, first_tentative}
-use Rattle.mr_model.specs.Scopes.{OfTarget, NextCommits, UpTo, OfPosition, log_row_id, is_on_day_of, in_scope}
-
--- the committed writes that are kept
-abbrev pub kept_commits : Replica → List Write
-kept_commits r = filter_map (write_with r) (drop r.dropped r.commits)
+use Rattle.mr_model.specs.Scopes.{OfTarget, NextCommits, UpTo, OfPosition, is_on_day_of, in_scope}
+use Rattle.mr_model.specs.Queries.{log_id}
 
 -- the bookings that rows tell
 abbrev pub told_booking : BookingRow → Booking
@@ -70,16 +67,16 @@ NextCommitsAreInScope =
 abbrev pub TruncatedAreInScope : Type 0
 TruncatedAreInScope =
     (r : Replica) (d : ℕ) → IsReplica r
-    → SameRows (in_scope (UpTo d) (tables_of r)).log (map (log_row r) (take (d - r.dropped) (kept_commits r)))
+    → SameRows (in_scope (UpTo d) (tables_of r)).log (map (log_row r) (take (d - r.dropped) (kept_committed r)))
 
 -- a batch for a position: those of the kept commits above it, and of the tentative writes that it lacks
 abbrev pub LackedAreInScope : Type 0
 LackedAreInScope =
     (r : Replica) (p : Position) → IsReplica r → r.dropped ≤ p.commits
-    → SameRows (in_scope (OfPosition p) (tables_of r)).log (map (log_row r) (drop (p.commits - r.dropped) (kept_commits r) ++ filter (lacks p) (tentative r)))
+    → SameRows (in_scope (OfPosition p) (tables_of r)).log (map (log_row r) (drop (p.commits - r.dropped) (kept_committed r) ++ filter (lacks p) (tentative r)))
 
 -- an id that is counted and has no row is that of a dropped write
 abbrev pub MissingIsDropped : Type 0
 MissingIsDropped =
     (r : Replica) (id : Id) → IsReplica r → 1 ≤ id.n → id.n ≤ count_of r id.server
-    → (is_dropped r id ≡ true) ↔ ((row : LogRow) → Has row (tables_of r).log → ¬ (log_row_id row ≡ id))
+    → (is_dropped r id ≡ true) ↔ ((row : LogRow) → Has row (tables_of r).log → ¬ (log_id row ≡ id))

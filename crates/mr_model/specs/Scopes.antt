@@ -9,7 +9,7 @@ use Rattle.mr_model.specs.Replica.{is_among}
 use Rattle.mr_model.specs.Exchange.{Item, W, C}
 use Rattle.mr_model.specs.Positions.{Position, count_among}
 use Rattle.mr_model.specs.Tables.{LogRow, BookingRow, ErrorRow, CancelledRow, Tables}
-use Rattle.mr_model.specs.Queries.{booking_id, error_id, cancelled_id}
+use Rattle.mr_model.specs.Queries.{booking_id, error_id, cancelled_id, log_id}
 
 -- what a command needs: one case for each kind of them
 pub data Scope : Type 0 where
@@ -22,9 +22,6 @@ pub data Scope : Type 0 where
   OfItems : (items : List Item) → Scope  -- a batch that is received
 
 -- ---- rows
-
-abbrev pub log_row_id : LogRow → Id
-log_row_id row = record { server = row.server; n = row.n }
 
 abbrev pub is_tentative : LogRow → Bool
 is_tentative row = row.seq == 0
@@ -73,7 +70,7 @@ has_number n (C seq id) = seq == n
 
 -- the row is of a write that the batch names: by its id, or by its commit number
 abbrev pub is_named : List Item → LogRow → Bool
-is_named items row = is_among (log_row_id row) (map item_id items) || (not (is_tentative row) && list_any (has_number row.seq) items)
+is_named items row = is_among (log_id row) (map item_id items) || (not (is_tentative row) && list_any (has_number row.seq) items)
 
 -- a commit that is not known yet, where so many are
 abbrev pub is_new_commit : ℕ → Item → Bool
@@ -97,7 +94,7 @@ is_in_tail commits items row = is_tentative row && is_late commits items row.tim
 abbrev pub rooms_of_item : ℕ → List LogRow → Item → List Text
 rooms_of_item commits rows (W w) = w.room ∷ []
 rooms_of_item commits rows (C seq id) =
-    if nat_lt commits seq then map (λ row. row.room) (filter (λ row. same_id (log_row_id row) id) rows) else []
+    if nat_lt commits seq then map (λ row. row.room) (filter (λ row. same_id (log_id row) id) rows) else []
 
 abbrev pub touched_rooms : Tables → List Item → List Text
 touched_rooms t items = flat_map (rooms_of_item t.meta.commits t.log) items
@@ -134,7 +131,7 @@ in_scope (OfTarget target) t =
     (filter (λ c. same_id (cancelled_id c) target) t.cancelled)
 in_scope (NextCommits k) t =
     with_rows t (next_commits k t) [] []
-    (filter (λ c. is_among (cancelled_id c) (map log_row_id (next_commits k t))) t.cancelled)
+    (filter (λ c. is_among (cancelled_id c) (map log_id (next_commits k t))) t.cancelled)
 in_scope (UpTo d) t = with_rows t (filter (λ row. within 1 d row.seq) t.log) [] [] []
 in_scope (OfPosition p) t = with_rows t (filter (is_due_to p) t.log) [] [] []
 in_scope (OfItems items) t =

@@ -11,10 +11,11 @@ use Rattle.mr_model.specs.Replica.{Replica, IsReplica, order_of, is_among, is_co
 use Rattle.mr_model.specs.View.{of_room, place_of, canceller_of}
 use Rattle.mr_model.specs.Tables.{LogRow, BookingRow, ErrorRow, CancelledRow, CancelRow, Tables, as_booking, as_error, as_cancelled, as_cancel, place_row, seq_of, tables_of}
 use Rattle.mr_model.specs.Dropped.{Has}
-use Rattle.mr_model.specs.Scopes.{Scope, Nothing, OfRequest, OfTarget, NextCommits, UpTo, OfPosition, OfItems, log_row_id, is_touched, is_on_day_of, next_commits, with_rows, in_scope}
+use Rattle.mr_model.specs.Scopes.{Scope, Nothing, OfRequest, OfTarget, NextCommits, UpTo, OfPosition, OfItems, is_touched, is_on_day_of, next_commits, with_rows, in_scope}
 use Rattle.mr_model.proofs.Members.{has_left, has_right, has_split, has_filter, filter_has, has_map, map_has, same_id-true, same_id_from}
 use Rattle.mr_model.proofs.RowsTell.{known_of, booked_is, erred_is, cancelled_is, cancel_is}
 use Rattle.mr_model.proofs.UniqueReplay.{some_inj, none_some}
+use Rattle.mr_model.specs.Queries.{log_id}
 use Rattle.mr_base.specs.Ids.{id_cmp}
 use Rattle.mr_replay.specs.declared.rows.Standing.TheVariants.{Booked, CancelledBy}
 use Rattle.mr_replay.specs.declared.rows.Kept.{Kept}
@@ -272,7 +273,7 @@ abbrev pub is_in_part : Scope → Replica → Id → Row → Bool
 is_in_part Nothing a i row = false
 is_in_part (OfRequest q) a i row = takes_on_day_of q row.room row.kept
 is_in_part (OfTarget target) a i row = kept_is_booking row.kept && same_id i target
-is_in_part (NextCommits k) a i row = is_taken_back row.kept && is_among i (map log_row_id (next_commits k (tables_of a)))
+is_in_part (NextCommits k) a i row = is_taken_back row.kept && is_among i (map log_id (next_commits k (tables_of a)))
 is_in_part (UpTo d) a i row = false
 is_in_part (OfPosition p) a i row = false
 is_in_part (OfItems items) a i row = is_taken row.kept && is_touched (tables_of a) items row.room
@@ -323,7 +324,7 @@ part-row (NextCommits k) a i sound =
     (record {
       booking = picks_none booking_entry f (tables_of a).booking (λ x. refl);
       errorlog = picks_none error_entry f (tables_of a).errorlog (λ x. refl);
-      cancelled = picks_some cancelled_entry f (λ c. is_among (cancelled_entry c).0 (map log_row_id (next_commits k (tables_of a)))) (tables_of a).cancelled (λ x. refl);
+      cancelled = picks_some cancelled_entry f (λ c. is_among (cancelled_entry c).0 (map log_id (next_commits k (tables_of a)))) (tables_of a).cancelled (λ x. refl);
       cancels = λ x. refl;
     }) i
 part-row (UpTo d) a i sound = board-picked a (in_scope (UpTo d) (tables_of a)).log (is_in_part (UpTo d) a) [] [] [] sound (picks_nothing (tables_of a)) i

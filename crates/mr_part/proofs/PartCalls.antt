@@ -10,10 +10,9 @@ use Rattle.mr_model.specs.Writes.{Write, id_of, is_room_name}
 use Rattle.mr_model.specs.Exchange.{W}
 use Rattle.mr_model.specs.Positions.{Position}
 use Rattle.mr_model.specs.Replica.{Replica, IsReplica, tentative, knows_room, with_room}
-use Rattle.mr_model.specs.Kept.{kept_in_order}
+use Rattle.mr_model.specs.Kept.{kept_in_order, kept_committed}
 use Rattle.mr_model.specs.Replies.{DroppedIs, RoomAdded}
 use Rattle.mr_model.specs.Scopes.{Nothing, UpTo}
-use Rattle.mr_model.specs.RowsInScope.{kept_commits}
 use Rattle.mr_model.specs.Step.{After, truncate, add_room, lacks, items_for}
 use Rattle.mr_model.specs.Tables.{tables_of}
 use Rattle.mr_model.specs.Changes.{after_truncate}
@@ -39,11 +38,11 @@ use Rattle.mr_kept.proofs.CommandTurns.{room_turns, truncate_turns}
 -- ---- a truncation
 
 -- the first kept commits are the first kept writes
-truncated_first : (a : Replica) (n : ℕ) → IsReplica a → n ≤ length a.commits → take (n - a.dropped) (kept_commits a) ≡ take (n - a.dropped) (kept_in_order a)
+truncated_first : (a : Replica) (n : ℕ) → IsReplica a → n ≤ length a.commits → take (n - a.dropped) (kept_committed a) ≡ take (n - a.dropped) (kept_in_order a)
 truncated_first a n sound within =
     let long = kept_committed_long a sound in
-    let few : n - a.dropped ≤ length (kept_commits a) = omega (arith, long, within) in
-    sym (take-front (n - a.dropped) (kept_commits a) (tentative a) few)
+    let few : n - a.dropped ≤ length (kept_committed a) = omega (arith, long, within) in
+    sym (take-front (n - a.dropped) (kept_committed a) (tentative a) few)
 
 pub part_truncate : (a : Replica) (n : ℕ) (p : PartView) (s : Summary) (change : ChangeView) → IsReplica a → p ≡ part_of (UpTo n) a → (a.server == a.primary) ≡ false → nat_lt (length a.commits) n ≡ false → n ≤ length a.commits
     → s ≡ record p.summary { dropped = max p.summary.dropped n } → change ≡ forgotten (meta_of s) (map id_of p.kept)
@@ -69,14 +68,14 @@ lacked_again p (w ∷ ws) = go (lacks p w) refl (lacked_again p ws)
     go false e rest = rest
 
 -- the commits above the position and the tentative writes that it lacks make its items, where the commits that it has count as dropped
-pub part_items : (a : Replica) (p : Position) (s : Summary) (kept : List Write) → IsReplica a → a.dropped ≤ p.commits → s ≡ record (summary_of a) { dropped = p.commits } → kept ≡ drop (p.commits - a.dropped) (kept_commits a) ++ filter (lacks p) (tentative a)
+pub part_items : (a : Replica) (p : Position) (s : Summary) (kept : List Write) → IsReplica a → a.dropped ≤ p.commits → s ≡ record (summary_of a) { dropped = p.commits } → kept ≡ drop (p.commits - a.dropped) (kept_committed a) ++ filter (lacks p) (tentative a)
     → kept_items p s kept ≡ items_for a p
 part_items a p s kept sound low is kept_is =
     let n = p.commits - a.dropped in
-    let above = drop n (kept_commits a) in
+    let above = drop n (kept_committed a) in
     let t : Summary = record (summary_of a) { dropped = p.commits } in
     let long = kept_committed_long a sound in
-    let some = length-drop n (kept_commits a) in
+    let some = length-drop n (kept_committed a) in
     let due = filter (lacks p) (tentative a) in
     let all = length-append above due in
     let none : p.commits - p.commits ≡ 0 = omega arith in

@@ -9,13 +9,12 @@ use Rattle.std.specs.Ordering.{match_ordering}
 use Rattle.mr_model.specs.Texts.{within}
 use Rattle.mr_model.specs.Writes.{Id, Write, id_of, same_id}
 use Rattle.mr_model.specs.Replica.{Replica, IsReplica, committed, tentative, order_of, is_among}
-use Rattle.mr_model.specs.Kept.{dropped_in_order, kept_in_order}
+use Rattle.mr_model.specs.Kept.{dropped_in_order, kept_in_order, kept_committed}
 use Rattle.mr_model.specs.Tables.{LogRow, BookingRow, ErrorRow, CancelledRow, Tables, as_booking, as_error, as_cancelled, place_row, log_row, tables_of}
 use Rattle.mr_model.specs.Dropped.{Has}
-use Rattle.mr_model.specs.Queries.{booking_id, error_id, cancelled_id, row_id}
+use Rattle.mr_model.specs.Queries.{booking_id, error_id, cancelled_id, row_id, log_id}
 use Rattle.mr_model.specs.Changes.{IdBefore, RiseById, SameRows, first_tentative}
-use Rattle.mr_model.specs.Scopes.{Scope, Nothing, OfRequest, OfTarget, NextCommits, UpTo, OfPosition, OfItems, log_row_id, is_named, is_in_tail, is_touched, is_due_to, is_on_day_of, with_rows, in_scope, counted_rows}
-use Rattle.mr_model.specs.RowsInScope.{kept_commits}
+use Rattle.mr_model.specs.Scopes.{Scope, Nothing, OfRequest, OfTarget, NextCommits, UpTo, OfPosition, OfItems, is_named, is_in_tail, is_touched, is_due_to, is_on_day_of, with_rows, in_scope, counted_rows}
 use Rattle.mr_model.proofs.DroppedApart.{order-parts, known_order}
 use Rattle.mr_model.proofs.InScope.{due_kept, truncated}
 use Rattle.mr_model.proofs.InScope as scope
@@ -117,23 +116,23 @@ kept_differ a sound =
 -- rows of log that are those of some kept writes
 record RowsOf (a : Replica) (logs : List LogRow) (ws : List Write) : Type 0 where
   differ : Apart (map id_of ws)
-  apart : Apart (map log_row_id logs)
+  apart : Apart (map log_id logs)
   same : SameRows logs (map (log_row a) ws)
   kept : (w : Write) → Has w ws → Has w (kept_in_order a)
 
 logs_many : (a : Replica) (logs : List LogRow) (ws : List Write) → RowsOf a logs ws → length logs ≡ length ws
-logs_many a logs ws r = sym (length-map logs log_row_id) ∙ same_many (map log_row_id logs) (map id_of ws) r.apart r.differ there back ∙ length-map ws id_of
+logs_many a logs ws r = sym (length-map logs log_id) ∙ same_many (map log_id logs) (map id_of ws) r.apart r.differ there back ∙ length-map ws id_of
   where
-    there : (i : Id) → Has i (map log_row_id logs) → Has i (map id_of ws)
+    there : (i : Id) → Has i (map log_id logs) → Has i (map id_of ws)
     there i h =
-        let (row, g, e) = map_has log_row_id i logs h in
+        let (row, g, e) = map_has log_id i logs h in
         let (w, k, m) = map_has (log_row a) row ws ((r.same row).0 g) in
-        subst (λ j. Has j (map id_of ws)) (sym (e ∙ ap log_row_id m)) (has_map id_of w ws k)
+        subst (λ j. Has j (map id_of ws)) (sym (e ∙ ap log_id m)) (has_map id_of w ws k)
 
-    back : (i : Id) → Has i (map id_of ws) → Has i (map log_row_id logs)
+    back : (i : Id) → Has i (map id_of ws) → Has i (map log_id logs)
     back i h =
         let (w, k, m) = map_has id_of i ws h in
-        subst (λ j. Has j (map log_row_id logs)) (sym m) (has_map log_row_id (log_row a w) logs ((r.same (log_row a w)).1 (has_map (log_row a) w ws k)))
+        subst (λ j. Has j (map log_id logs)) (sym m) (has_map log_id (log_row a w) logs ((r.same (log_row a w)).1 (has_map (log_row a) w ws k)))
 
 -- ---- the board
 
@@ -271,11 +270,11 @@ module _ (a : Replica) (logs : List LogRow) (bs : List BookingRow) (es : List Er
 none_kept : (a : Replica) → RowsOf a [] []
 none_kept a = record { differ = tt; apart = tt; same = λ row. (λ h. h, λ h. h); kept = λ w h. absurd h }
 
-logs_apart : (a : Replica) (p : LogRow → Bool) → IsReplica a → Apart (map log_row_id (filter p (tables_of a).log))
-logs_apart a p sound = apart_picked log_row_id p (tables_of a).log (apart_rise (map log_row_id (tables_of a).log) (tables_in_order a sound).log)
+logs_apart : (a : Replica) (p : LogRow → Bool) → IsReplica a → Apart (map log_id (filter p (tables_of a).log))
+logs_apart a p sound = apart_picked log_id p (tables_of a).log (apart_rise (map log_id (tables_of a).log) (tables_in_order a sound).log)
 
-tentative_differ : (a : Replica) → IsReplica a → Differ (kept_commits a) × Differ (tentative a)
-tentative_differ a sound = differ_parts (kept_commits a) (tentative a) (kept_differ a sound)
+tentative_differ : (a : Replica) → IsReplica a → Differ (kept_committed a) × Differ (tentative a)
+tentative_differ a sound = differ_parts (kept_committed a) (tentative a) (kept_differ a sound)
 
 next_kept : (a : Replica) (k : ℕ) → IsReplica a → RowsOf a (in_scope (NextCommits k) (tables_of a)).log (first_tentative a k)
 next_kept a k sound =
@@ -283,23 +282,23 @@ next_kept a k sound =
     let differ = (differ_parts (take k (tentative a)) (drop k (tentative a)) (subst Differ (sym (take_drop k (tentative a))) (tentative_differ a sound).1)).0 in
     record {
       differ = apart_distinct (map id_of (first_tentative a k)) differ;
-      apart = subst (λ logs. Apart (map log_row_id logs)) (sym rows) (subst Apart (sym (ids_told (first_tentative a k))) (apart_distinct (map id_of (first_tentative a k)) differ));
+      apart = subst (λ logs. Apart (map log_id logs)) (sym rows) (subst Apart (sym (ids_told (first_tentative a k))) (apart_distinct (map id_of (first_tentative a k)) differ));
       same = λ row. (λ h. subst (Has row) rows h, λ h. subst (Has row) (sym rows) h);
-      kept = λ w h. has_right w (kept_commits a) (tentative a) (subst (Has w) (take_drop k (tentative a)) (has_left w (take k (tentative a)) (drop k (tentative a)) h));
+      kept = λ w h. has_right w (kept_committed a) (tentative a) (subst (Has w) (take_drop k (tentative a)) (has_left w (take k (tentative a)) (drop k (tentative a)) h));
     }
   where
-    ids_told : (ws : List Write) → map log_row_id (map (log_row a) ws) ≡ map id_of ws
+    ids_told : (ws : List Write) → map log_id (map (log_row a) ws) ≡ map id_of ws
     ids_told [] = refl
     ids_told (w ∷ ws) = ap (λ is. id_of w ∷ is) (ids_told ws)
 
-first_kept : (a : Replica) (d : ℕ) → IsReplica a → RowsOf a (in_scope (UpTo d) (tables_of a)).log (take (d - a.dropped) (kept_commits a))
+first_kept : (a : Replica) (d : ℕ) → IsReplica a → RowsOf a (in_scope (UpTo d) (tables_of a)).log (take (d - a.dropped) (kept_committed a))
 first_kept a d sound =
     let n = d - a.dropped in
     record {
-      differ = apart_distinct (map id_of (take n (kept_commits a))) (differ_parts (take n (kept_commits a)) (drop n (kept_commits a)) (subst Differ (sym (take_drop n (kept_commits a))) (tentative_differ a sound).0)).0;
+      differ = apart_distinct (map id_of (take n (kept_committed a))) (differ_parts (take n (kept_committed a)) (drop n (kept_committed a)) (subst Differ (sym (take_drop n (kept_committed a))) (tentative_differ a sound).0)).0;
       apart = logs_apart a (λ row. within 1 d row.seq) sound;
       same = truncated a d sound;
-      kept = λ w h. has_left w (kept_commits a) (tentative a) (subst (Has w) (take_drop n (kept_commits a)) (has_left w (take n (kept_commits a)) (drop n (kept_commits a)) h));
+      kept = λ w h. has_left w (kept_committed a) (tentative a) (subst (Has w) (take_drop n (kept_committed a)) (has_left w (take n (kept_committed a)) (drop n (kept_committed a)) h));
     }
 
 -- rows that a test picks
@@ -370,7 +369,7 @@ in_part (OfRequest q) a sound asked = record { rows = in_scope (OfRequest q) (ta
 in_part (OfTarget target) a sound asked =
     record { rows = in_scope (OfTarget target) (tables_of a); are = refl; logs = none_kept a; bookings = of_target a sound (λ b. same_id (booking_id b) target) (λ e. same_id (error_id e) target) (λ c. same_id (cancelled_id c) target) }
 in_part (NextCommits k) a sound asked =
-    record { rows = in_scope (NextCommits k) (tables_of a); are = refl; logs = next_kept a k sound; bookings = of_cancelled a sound (λ c. is_among (cancelled_id c) (map log_row_id (in_scope (NextCommits k) (tables_of a)).log)) }
+    record { rows = in_scope (NextCommits k) (tables_of a); are = refl; logs = next_kept a k sound; bookings = of_cancelled a sound (λ c. is_among (cancelled_id c) (map log_id (in_scope (NextCommits k) (tables_of a)).log)) }
 in_part (UpTo d) a sound asked = record { rows = in_scope (UpTo d) (tables_of a); are = refl; logs = first_kept a d sound; bookings = no_rows a }
 in_part (OfPosition p) a sound asked =
     record { rows = in_scope (OfPosition p) (tables_of a); are = refl; logs = subst (RowsOf a (in_scope (OfPosition p) (tables_of a)).log) (due_kept a p sound) (picked_kept a (is_due_to p) sound); bookings = no_rows a }

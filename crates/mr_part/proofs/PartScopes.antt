@@ -6,14 +6,13 @@ use Rattle.std.specs.Prelude.{nat_lt, ◌==◌}
 use Rattle.std.specs.List.{AllByRecursion, filter}
 use Rattle.mr_model.specs.Texts.{Text, within}
 use Rattle.mr_model.specs.Writes.{Write, id_of, same_id}
-use Rattle.mr_model.specs.Queries.{booking_id, error_id, cancelled_id}
+use Rattle.mr_model.specs.Queries.{booking_id, error_id, cancelled_id, log_id}
 use Rattle.mr_model.specs.Replica.{Replica, IsReplica, tentative, is_dropped, is_among}
 use Rattle.mr_model.specs.Tables.{LogRow, BookingRow, ErrorRow, CancelledRow, Tables, by_id, kept, log_row, tables_of}
-use Rattle.mr_model.specs.Kept.{kept_in_order, LogBefore, AreInRunOrder}
+use Rattle.mr_model.specs.Kept.{kept_in_order, LogBefore, AreInRunOrder, kept_committed}
 use Rattle.mr_model.specs.Changes.{IdBefore, RiseById, SameRows, first_tentative}
 use Rattle.mr_model.specs.Dropped.{Has}
-use Rattle.mr_model.specs.Scopes.{Scope, Nothing, OfRequest, OfTarget, NextCommits, UpTo, OfPosition, OfItems, log_row_id, is_tentative, is_named, is_in_tail, is_touched, is_due_to, by_stamp, is_on_day_of, next_commits, in_scope}
-use Rattle.mr_model.specs.RowsInScope.{kept_commits}
+use Rattle.mr_model.specs.Scopes.{Scope, Nothing, OfRequest, OfTarget, NextCommits, UpTo, OfPosition, OfItems, is_tentative, is_named, is_in_tail, is_touched, is_due_to, by_stamp, is_on_day_of, next_commits, in_scope}
 use Rattle.mr_model.proofs.InScope.{truncated, due_kept}
 use Rattle.mr_model.proofs.InScope as scope
 use Rattle.mr_model.proofs.KeyOrder.{WriteBefore, by_id_sorted}
@@ -86,7 +85,7 @@ same_writes : (a : Replica) (test : LogRow → Bool) (ws : List Write) → IsRep
 same_writes a test ws h known same w = (there, back)
   where
     one : (v w : Write) → Has v a.known → Has w a.known → log_row a v ≡ log_row a w → v ≡ w
-    one v w g k e = one_known a v w h g k (ap log_row_id e)
+    one v w g k e = one_known a v w h g k (ap log_id e)
 
     there : Has w (passing a test (kept a)) → Has w ws
     there g =
@@ -124,12 +123,12 @@ run_parts f (x ∷ xs) ys s =
     )
 
 -- the kept writes, cut behind the first n commits
-cut_at : (a : Replica) (n : ℕ) → kept_in_order a ≡ take n (kept_commits a) ++ (drop n (kept_commits a) ++ tentative a)
-cut_at a n = ap (λ ws. ws ++ tentative a) (sym (take_drop n (kept_commits a))) ∙ append_assoc (take n (kept_commits a)) (drop n (kept_commits a)) (tentative a)
+cut_at : (a : Replica) (n : ℕ) → kept_in_order a ≡ take n (kept_committed a) ++ (drop n (kept_committed a) ++ tentative a)
+cut_at a n = ap (λ ws. ws ++ tentative a) (sym (take_drop n (kept_committed a))) ∙ append_assoc (take n (kept_committed a)) (drop n (kept_committed a)) (tentative a)
 
-cut_order : (a : Replica) (n : ℕ) → IsReplica a → AreInRunOrder (map (log_row a) (take n (kept_commits a))) × AreInRunOrder (map (log_row a) (drop n (kept_commits a) ++ tentative a))
+cut_order : (a : Replica) (n : ℕ) → IsReplica a → AreInRunOrder (map (log_row a) (take n (kept_committed a))) × AreInRunOrder (map (log_row a) (drop n (kept_committed a) ++ tentative a))
 cut_order a n h =
-    run_parts (log_row a) (take n (kept_commits a)) (drop n (kept_commits a) ++ tentative a)
+    run_parts (log_row a) (take n (kept_committed a)) (drop n (kept_committed a) ++ tentative a)
     (subst (λ ws. AreInRunOrder (map (log_row a) ws)) (cut_at a n) (kept_is_the_log a h).in_order)
 
 -- ---- scopes
@@ -137,8 +136,8 @@ cut_order a n h =
 never : false ≡ true → ⊥
 never e = true≢false (sym e)
 
-taken_kept : (a : Replica) (n : ℕ) (w : Write) → Has w (take n (kept_commits a)) → Has w (kept_in_order a)
-taken_kept a n w g = subst (Has w) (sym (cut_at a n)) (has_left w (take n (kept_commits a)) (drop n (kept_commits a) ++ tentative a) g)
+taken_kept : (a : Replica) (n : ℕ) (w : Write) → Has w (take n (kept_committed a)) → Has w (kept_in_order a)
+taken_kept a n w g = subst (Has w) (sym (cut_at a n)) (has_left w (take n (kept_committed a)) (drop n (kept_committed a) ++ tentative a) g)
 
 pub picked_in : (a : Replica) (s : Scope) (t : Tables) (touched : List Text) → IsReplica a → is_by_row s ≡ true → in_scope s t ≡ in_scope s (tables_of a) → AreSameRooms touched (touched_in s t) → ArePicked a (is_log_in s t.meta.commits touched) t.log (kept_in s a)
 picked_in a Nothing t touched h by e same = absurd (never by)
@@ -146,7 +145,7 @@ picked_in a (OfRequest q) t touched h by e same = absurd (never by)
 picked_in a (OfTarget target) t touched h by e same = absurd (never by)
 picked_in a (NextCommits k) t touched h by e same = absurd (never by)
 picked_in a (UpTo d) t touched h by e same =
-    picked a (λ row. within 1 d row.seq) (λ row. within 1 d row.seq) t.log (take (d - a.dropped) (kept_commits a)) h (ap (λ (x : Tables). x.log) e)
+    picked a (λ row. within 1 d row.seq) (λ row. within 1 d row.seq) t.log (take (d - a.dropped) (kept_committed a)) h (ap (λ (x : Tables). x.log) e)
     (λ w g. (kept_known a w h (taken_kept a (d - a.dropped) w g)).0) (truncated a d h) (cut_order a (d - a.dropped) h).0
 picked_in a (OfPosition p) t touched h by e same =
     subst (ArePicked a (is_due_to p) t.log) (due_kept a p h)
@@ -177,10 +176,10 @@ none_picked [] = refl
 none_picked (x ∷ xs) = none_picked xs
 
 -- a commit's writes are told by their rows
-commit_ids : (a : Replica) (k : ℕ) (t : Tables) → IsReplica a → in_scope (NextCommits k) t ≡ in_scope (NextCommits k) (tables_of a) → map id_of (first_tentative a k) ≡ map log_row_id (next_commits k t)
-commit_ids a k t h e = sym (ap (map log_row_id) (commit_rows a k t h e) ∙ ids_told (first_tentative a k))
+commit_ids : (a : Replica) (k : ℕ) (t : Tables) → IsReplica a → in_scope (NextCommits k) t ≡ in_scope (NextCommits k) (tables_of a) → map id_of (first_tentative a k) ≡ map log_id (next_commits k t)
+commit_ids a k t h e = sym (ap (map log_id) (commit_rows a k t h e) ∙ ids_told (first_tentative a k))
   where
-    ids_told : (ws : List Write) → map log_row_id (map (log_row a) ws) ≡ map id_of ws
+    ids_told : (ws : List Write) → map log_id (map (log_row a) ws) ≡ map id_of ws
     ids_told [] = refl
     ids_told (w ∷ ws) = ap (λ is. id_of w ∷ is) (ids_told ws)
 
@@ -255,7 +254,7 @@ scope_within a s h = go s
     go Nothing = record { booking = tt; errorlog = tt; cancelled = tt }
     go (OfRequest q) = record { booking = bookings (λ b. is_on_day_of q b.room b.day); errorlog = tt; cancelled = cancelled (λ c. is_on_day_of q c.room c.day) }
     go (OfTarget target) = record { booking = bookings (λ b. same_id (booking_id b) target); errorlog = errors (λ e. same_id (error_id e) target); cancelled = cancelled (λ c. same_id (cancelled_id c) target) }
-    go (NextCommits k) = record { booking = tt; errorlog = tt; cancelled = cancelled (λ c. is_among (cancelled_id c) (map log_row_id (next_commits k t))) }
+    go (NextCommits k) = record { booking = tt; errorlog = tt; cancelled = cancelled (λ c. is_among (cancelled_id c) (map log_id (next_commits k t))) }
     go (UpTo d) = record { booking = tt; errorlog = tt; cancelled = tt }
     go (OfPosition p) = record { booking = tt; errorlog = tt; cancelled = tt }
     go (OfItems items) = record { booking = bookings (λ b. is_touched t items b.room); errorlog = tt; cancelled = cancelled (λ c. is_touched t items c.room) }

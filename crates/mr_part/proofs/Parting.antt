@@ -18,8 +18,8 @@ use Rattle.mr_model.specs.Tables.{MetaRow, VectorRow, log_row, log_row_with, pla
 use Rattle.mr_model.specs.View.{place_of, canceller_of}
 use Rattle.mr_model.specs.Dropped.{Has}
 use Rattle.mr_model.specs.Changes.{first_tentative, after_commit}
-use Rattle.mr_model.specs.Kept.{kept_in_order}
-use Rattle.mr_model.specs.Scopes.{OfRequest, OfTarget, NextCommits, log_row_id, is_on_day_of, next_commits, in_scope}
+use Rattle.mr_model.specs.Kept.{kept_in_order, kept_committed}
+use Rattle.mr_model.specs.Scopes.{OfRequest, OfTarget, NextCommits, is_on_day_of, next_commits, in_scope}
 use Rattle.mr_model.proofs.ChangesKeep.{within}
 use Rattle.mr_model.proofs.CommitsKeep.{keeps-commit}
 use Rattle.mr_model.proofs.InScope as scope
@@ -29,6 +29,7 @@ use Rattle.mr_model.proofs.KnownById.{tentative_known}
 use Rattle.mr_model.proofs.Members.{has_left, has_map, has_among, any_has, same_id_refl, take_drop}
 use Rattle.mr_model.proofs.MembersAlike.{HasOnDays, place_on_days}
 use Rattle.mr_model.proofs.SlotTests.{same_date_from}
+use Rattle.mr_model.specs.Queries.{log_id}
 use Rattle.mr_replay.specs.declared.rows.Standing.TheVariants.{Booked, CancelledBy, InErrorLog}
 use Rattle.mr_replay.specs.declared.rows.Kept.{Kept}
 use Rattle.mr_replay.specs.declared.rows.Kept.TheVariants.{OfBooking, OfCancel}
@@ -49,7 +50,7 @@ use Rattle.mr_tables.specs.ExecutionRows.{seq_on}
 use Rattle.mr_tables.specs.Written.{meta_of, changed_tallies, with_places, written}
 use Rattle.mr_tables.proofs.BoardsTold.{board_told}
 use Rattle.mr_kept.specs.Accepting.{with_last}
-use Rattle.mr_kept.specs.ChangeLaws.{board_before, kept_committed}
+use Rattle.mr_kept.specs.ChangeLaws.{board_before}
 use Rattle.mr_kept.specs.Desk.{desk_of}
 use Rattle.mr_kept.specs.DeskTables.{desk_tables}
 use Rattle.mr_part.specs.Parts.{PartView, part_of}
@@ -106,15 +107,15 @@ commit_bys a k (w ∷ ws) sound first =
     let rest = commit_bys a k ws sound (λ v h. first v (inr h)) in
     λ i. here i ∷ rest i
   where
-    named : is_among (id_of w) (map log_row_id (next_commits k (tables_of a))) ≡ true
+    named : is_among (id_of w) (map log_id (next_commits k (tables_of a))) ≡ true
     named =
-        ap (λ rows. is_among (id_of w) (map log_row_id rows)) (scope.next_commits a k sound).0
-        ∙ has_among (id_of w) (map log_row_id (map (log_row a) (first_tentative a k))) (has_map log_row_id (log_row a w) (map (log_row a) (first_tentative a k)) (has_map (log_row a) w (first_tentative a k) (first w (inl refl))))
+        ap (λ rows. is_among (id_of w) (map log_id rows)) (scope.next_commits a k sound).0
+        ∙ has_among (id_of w) (map log_id (map (log_row a) (first_tentative a k))) (has_map log_id (log_row a w) (map (log_row a) (first_tentative a k)) (has_map (log_row a) w (first_tentative a k) (first w (inl refl))))
 
     here : row_canceller (row_at (tables.board_of (in_scope (NextCommits k) (tables_of a))) (id_of w)) ≡ canceller_of a w
     here =
         ap row_canceller (part-row (NextCommits k) a (id_of w) sound)
-        ∙ canceller_picked (is_among (id_of w) (map log_row_id (next_commits k (tables_of a)))) (row_at (tables.board_of (tables_of a)) (id_of w)) named
+        ∙ canceller_picked (is_among (id_of w) (map log_id (next_commits k (tables_of a)))) (row_at (tables.board_of (tables_of a)) (id_of w)) named
         ∙ ap (λ b. row_canceller (row_at b (id_of w))) (sym (board-told a sound))
         ∙ canceller-here a w sound (taken_known a k w (first w (inl refl)))
 

@@ -3,7 +3,7 @@ use Rattle.std.specs.Prelude.{◌≡◌, ℕ, ◌-◌, ◌≤◌, ◌&&◌, ◌|
 use Rattle.mr_model.specs.Texts.{Text}
 use Rattle.mr_model.specs.Writes.{Write}
 use Rattle.mr_model.specs.Replica.{Replica, IsReplica, tentative}
-use Rattle.mr_model.specs.Kept.{kept_in_order}
+use Rattle.mr_model.specs.Kept.{kept_in_order, kept_committed}
 use Rattle.mr_model.specs.Changes.{first_tentative}
 use Rattle.mr_model.specs.Replies.{Reply}
 use Rattle.mr_model.specs.Step.{After, lacks}
@@ -14,7 +14,6 @@ use Rattle.mr_base.specs.declared.refusals.Refusal.TheVariants.{OutOfMemory}
 use Rattle.mr_replay.specs.Places.{UndoRow}
 use Rattle.mr_replay.specs.Rows.{Rows}
 use Rattle.mr_model.specs.Scopes.{Scope, Nothing, OfRequest, OfTarget, NextCommits, UpTo, OfPosition, OfItems, is_named, is_in_tail, is_touched, in_scope}
-use Rattle.mr_model.specs.RowsInScope.{kept_commits}
 use Rattle.mr_tables.specs.declared.summary.Summary.{Summary}
 use Rattle.mr_tables.specs.Summary.{summary_of}
 use Rattle.mr_tables.specs.Boards.{board_of}
@@ -38,8 +37,8 @@ kept_in Nothing a = []
 kept_in (OfRequest q) a = []
 kept_in (OfTarget target) a = []
 kept_in (NextCommits k) a = first_tentative a k
-kept_in (UpTo d) a = take (d - a.dropped) (kept_commits a)
-kept_in (OfPosition p) a = drop (p.commits - a.dropped) (kept_commits a) ++ filter (lacks p) (tentative a)
+kept_in (UpTo d) a = take (d - a.dropped) (kept_committed a)
+kept_in (OfPosition p) a = drop (p.commits - a.dropped) (kept_committed a) ++ filter (lacks p) (tentative a)
 kept_in (OfItems items) a =
     filter
     (λ w. is_named items (log_row a w) || (is_in_tail (length a.commits) items (log_row a w) && is_touched (tables_of a) items w.room))

@@ -1,7 +1,8 @@
 ghost use Rattle.std.specs.Prelude.{◌≡◌, ◌&&◌, ◌||◌, map, flat_map, bytes_eq, IfOk, OnOk, IfErr};
 ghost use Rattle.std.specs.List.{list_any};
 ghost use Rattle.mr_model.specs.Texts.{Text};
-ghost use Rattle.mr_model.specs.Scopes.{rooms_of_item, log_row_id};
+ghost use Rattle.mr_model.specs.Scopes.{rooms_of_item};
+ghost use Rattle.mr_model.specs.Queries.{log_id};
 ghost use Rattle.mr_base.specs.Batches.{item_of};
 ghost use Rattle.mr_kept.specs.Sets.{has_id, has_room, AreSameRooms};
 
@@ -33,7 +34,7 @@ pub fn touched_rooms(
 
 /// Adds the rooms of the rows of these ids.
 fn add_rows(alloc: Global, rooms: &mut RoomSet, ids: &IdSet, rows: &[LogRow]) -> Result<(), Refusal>
-    ensures rooms { OnOk result ((name : Text) → has_room rooms.new name ≡ (has_room rooms.old name || list_any (λ row. has_id ids.now (log_row_id row) && bytes_eq name row.room) rows.now)) }
+    ensures rooms { OnOk result ((name : Text) → has_room rooms.new name ≡ (has_room rooms.old name || list_any (λ row. has_id ids.now (log_id row) && bytes_eq name row.room) rows.now)) }
     ensures only { IfErr result (λ e. e ≡ Refusal.OutOfMemory) }
 {
     for row in rows {

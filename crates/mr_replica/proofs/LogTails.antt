@@ -9,8 +9,7 @@ use Rattle.std.specs.declared.cmp.Ordering.TheVariants.{Less}
 use Rattle.mr_model.specs.Writes.{Write}
 use Rattle.mr_model.specs.Replica.{Replica, IsReplica, tentative}
 use Rattle.mr_model.specs.Exchange.{Item}
-use Rattle.mr_model.specs.Kept.{kept_in_order, AreInRunOrder}
-use Rattle.mr_model.specs.RowsInScope.{kept_commits}
+use Rattle.mr_model.specs.Kept.{kept_in_order, AreInRunOrder, kept_committed}
 use Rattle.mr_model.specs.View.{place_of}
 use Rattle.mr_model.specs.Tables.{LogRow, seq_of, log_row}
 use Rattle.mr_model.specs.Dropped.{Has}
@@ -168,8 +167,8 @@ module _ (a b : Replica) (items : List Item) (m : BatchMoves a b items) (sound :
   tail_b = news ++ tentative b
 
   -- the kept writes behind the commits that were known
-  parts_b : kept_in_order b ≡ kept_commits a ++ tail_b
-  parts_b = ap (λ ws. ws ++ tentative b) (kept_is a b items m sound) ∙ append_assoc (kept_commits a) news (tentative b)
+  parts_b : kept_in_order b ≡ kept_committed a ++ tail_b
+  parts_b = ap (λ ws. ws ++ tentative b) (kept_is a b items m sound) ∙ append_assoc (kept_committed a) news (tentative b)
 
   -- the tentative writes that stay have the rows that they had
   staying : map (tentative_row (undo_with (place_of a))) (filter stays (tentative a)) ≡ others
@@ -193,7 +192,7 @@ module _ (a b : Replica) (items : List Item) (m : BatchMoves a b items) (sound :
       (IsPermutation-sym (tentative b) (moving a items b ++ filter stays (tentative b)) (IsPermutation-filter_both (may_move a items) stays (λ w. refl) (tentative b))))))
 
   rising : Rises run_cmp run_place (map (kept_row b) tail_b)
-  rising = rows_rise b tail_b (run_behind (log_row b) (kept_commits a) tail_b (subst (λ ws. AreInRunOrder (map (log_row b) ws)) parts_b (kept_is_the_log b m.sound).in_order))
+  rising = rows_rise b tail_b (run_behind (log_row b) (kept_committed a) tail_b (subst (λ ws. AreInRunOrder (map (log_row b) ws)) parts_b (kept_is_the_log b m.sound).in_order))
 
   -- sorted they are those behind the commits
   sorted_tail : (rows sorted : List KeptRow) → rows ≡ fresh ++ reverse others → IsPermutation rows sorted → IsSortedByKey run_place run_cmp sorted → sorted ≡ map (kept_row b) tail_b
@@ -210,22 +209,22 @@ module _ (a b : Replica) (items : List Item) (m : BatchMoves a b items) (sound :
           (IsPermutation-trans (fresh ++ others) rows sorted mixed p)
 
   -- the log with them
-  module _ (old : KeptLog) (movable : Movable) (is : IsMovable a items movable) (had : HasKeptOf a old) (first : ℕ) (commits : first ≡ length (kept_commits a)) where
+  module _ (old : KeptLog) (movable : Movable) (is : IsMovable a items movable) (had : HasKeptOf a old) (first : ℕ) (commits : first ≡ length (kept_committed a)) where
     undo_before : old.undo ≡ map (undo_with (place_of a)) old.kept
     undo_before = had.undo_are ∙ ap (map (undo_with (place_of a))) (sym had.kept_are)
 
-    front : take first old.kept ≡ kept_commits a
-    front = (λ i. take (commits i) (had.kept_are i)) ∙ take-append_seam (kept_commits a) (tentative a)
+    front : take first old.kept ≡ kept_committed a
+    front = (λ i. take (commits i) (had.kept_are i)) ∙ take-append_seam (kept_committed a) (tentative a)
 
     behind : drop first old.kept ≡ tentative a
-    behind = (λ i. drop (commits i) (had.kept_are i)) ∙ drop-append_seam (kept_commits a) (tentative a)
+    behind = (λ i. drop (commits i) (had.kept_are i)) ∙ drop-append_seam (kept_committed a) (tentative a)
 
-    front_undo : take first old.undo ≡ map (undo_with (place_of b)) (kept_commits a)
+    front_undo : take first old.undo ≡ map (undo_with (place_of b)) (kept_committed a)
     front_undo =
-        let long : length (map (undo_with (place_of a)) (kept_commits a)) ≡ length (kept_commits a) = length-map (kept_commits a) (undo_with (place_of a)) in
-        (λ i. take ((commits ∙ sym long) i) ((had.undo_are ∙ map-append (undo_with (place_of a)) (kept_commits a) (tentative a)) i))
-        ∙ take-append_seam (map (undo_with (place_of a)) (kept_commits a)) (map (undo_with (place_of a)) (tentative a))
-        ∙ map_same (undo_with (place_of a)) (undo_with (place_of b)) (kept_commits a) (λ w h. ap (undo_row_at w) (front_place a b items m sound w h))
+        let long : length (map (undo_with (place_of a)) (kept_committed a)) ≡ length (kept_committed a) = length-map (kept_committed a) (undo_with (place_of a)) in
+        (λ i. take ((commits ∙ sym long) i) ((had.undo_are ∙ map-append (undo_with (place_of a)) (kept_committed a) (tentative a)) i))
+        ∙ take-append_seam (map (undo_with (place_of a)) (kept_committed a)) (map (undo_with (place_of a)) (tentative a))
+        ∙ map_same (undo_with (place_of a)) (undo_with (place_of b)) (kept_committed a) (λ w h. ap (undo_row_at w) (front_place a b items m sound w h))
 
     pub tail_changed : (kept : List Write) (undo : List UndoRow) (rows sorted : List KeptRow) → kept ≡ take first old.kept → undo ≡ take first old.undo
         → ((row : Write → UndoRow) → old.undo ≡ map row old.kept → rows ≡ fresh ++ reverse (map (tentative_row row) (filter stays (drop first old.kept))))
@@ -237,7 +236,7 @@ module _ (a b : Replica) (items : List Item) (m : BatchMoves a b items) (sound :
         let writes : map (λ (r : KeptRow). r.write) sorted ≡ tail_b = ap (map (λ (r : KeptRow). r.write)) all ∙ writes_told b tail_b in
         let rest : map (λ (r : KeptRow). r.undo) sorted ≡ map (undo_with (place_of b)) tail_b = ap (map (λ (r : KeptRow). r.undo)) all ∙ undo_told b tail_b in (
           (λ i. (kept_are ∙ front) i ++ writes i) ∙ sym parts_b,
-          (λ i. (undo_are ∙ front_undo) i ++ rest i) ∙ sym (map-append (undo_with (place_of b)) (kept_commits a) tail_b) ∙ ap (map (undo_with (place_of b))) (sym parts_b),
+          (λ i. (undo_are ∙ front_undo) i ++ rest i) ∙ sym (map-append (undo_with (place_of b)) (kept_committed a) tail_b) ∙ ap (map (undo_with (place_of b))) (sym parts_b),
         )
 
   -- ---- the rows of what was executed anew

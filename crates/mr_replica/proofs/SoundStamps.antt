@@ -18,9 +18,10 @@ use Rattle.mr_model.proofs.Members.{has_all, all_has, has_map, map_has, filter_h
 use Rattle.mr_model.proofs.OrderedSets.{Before, before-true}
 use Rattle.mr_model.proofs.RowsById.{server_bounds, known_write, by_id_has, action_within}
 use Rattle.mr_model.proofs.RowsTell.{known_of, booked_is, erred_is, cancelled_is, cancel_is}
+use Rattle.mr_model.specs.Queries.{log_id}
 use Rattle.mr_tables.specs.declared.summary.Tally.{Tally}
 use Rattle.mr_tables.specs.Boards.{IsRowWithin}
-use Rattle.mr_tables.specs.Change.{id_before, log_id}
+use Rattle.mr_tables.specs.Change.{id_before}
 use Rattle.mr_tables.specs.Summary.{tally_of, tally_at, summary_of}
 use Rattle.mr_tables.proofs.BoardLimits.{rows_within}
 use Rattle.mr_tables.proofs.Putting.{id_before-true}

@@ -3,7 +3,7 @@ ghost use Rattle.std.specs.List.{cons_option};
 ghost use Rattle.mr_model.specs.Exchange.{Item as ItemOfBatch};
 ghost use Rattle.mr_model.specs.Moving.{BatchMoves, again};
 ghost use Rattle.mr_model.specs.Replica.{Replica, IsReplica};
-ghost use Rattle.mr_model.specs.RowsInScope.{kept_commits};
+ghost use Rattle.mr_model.specs.Kept.{kept_committed};
 ghost use Rattle.mr_replay.specs.Rows.{executed_all, undo_rows_of, undone_all};
 ghost use Rattle.mr_replay.specs.Places.{place_seen};
 ghost use Rattle.mr_tables.specs.ExecutionRows.{seq_on};
@@ -130,7 +130,7 @@ impl Log {
     ) -> Result<(), Refusal>
         requires { first ≤ length self.old.kept }
         ensures changed { (a b : Replica) (items : List ItemOfBatch) (m : BatchMoves a b items)
-            → IsReplica a → IsMovable a items movable.now → first ≡ length (kept_commits a)
+            → IsReplica a → IsMovable a items movable.now → first ≡ length (kept_committed a)
             → HasKeptOf a self.old → fresh.items ≡ map (kept_row b) (again a items m.news b) → OnOk result (HasKeptOf b self.new) }
         ensures board { self.new.board ≡ self.old.board }
         ensures err { OnErr result (self.new ≡ self.old) }

@@ -15,12 +15,11 @@ use Rattle.sqlite.specs.Command.TheVariants.{Select}
 use Rattle.sqlite.specs.State.{State, Shown}
 use Rattle.sqlite.proofs.Callers.{reads_as}
 use Rattle.mr_model.specs.Texts as texts
-use Rattle.mr_tables.specs.Change.{log_id}
 use Rattle.mr_model.specs.Writes.{Id}
 use Rattle.mr_model.specs.Replica.{is_among}
 use Rattle.mr_model.specs.Scopes.{is_tentative}
 use Rattle.mr_model.specs.Tables.{ActionCells, OfMeeting, OfCancel, LogRow, BookingRow, ErrorRow, CancelledRow, CancelRow}
-use Rattle.mr_model.specs.Queries.{booking_id, error_id, cancelled_id, cancel_id}
+use Rattle.mr_model.specs.Queries.{booking_id, error_id, cancelled_id, cancel_id, log_id}
 use Rattle.mr_rows.specs.RowQuestions.{is_booking_asked, is_error_asked, is_cancelled_asked, is_cancel_asked, row_stamp, stamp_of_row}
 use Rattle.mr_rows.specs.declared.passing.LateRows.{LateRows}
 use Rattle.mr_rows.specs.Meaning.{passes}

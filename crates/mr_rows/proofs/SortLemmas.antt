@@ -15,9 +15,9 @@ use Rattle.mr_model.specs.Texts.{Text}
 use Rattle.mr_model.specs.Writes.{Id}
 use Rattle.mr_model.specs.Replica.{text_before}
 use Rattle.mr_model.specs.Tables.{VectorRow, LogRow, BookingRow, ErrorRow, CancelledRow, CancelRow}
-use Rattle.mr_model.specs.Queries.{booking_id, error_id, cancelled_id, cancel_id}
+use Rattle.mr_model.specs.Queries.{booking_id, error_id, cancelled_id, cancel_id, log_id}
 use Rattle.mr_model.specs.Changes.{IdBefore}
-use Rattle.mr_tables.specs.Change.{id_before, log_id}
+use Rattle.mr_tables.specs.Change.{id_before}
 use Rattle.mr_tables.proofs.Putting.{InOrder, id_before-true, id_order, number_order, name_order}
 use Rattle.mr_base.specs.Ids.{id_cmp}
 use Rattle.mr_replay.proofs.IdKeys.{ids_total}

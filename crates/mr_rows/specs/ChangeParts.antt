@@ -4,8 +4,8 @@ use Rattle.mr_model.specs.Texts.{Text}
 use Rattle.mr_model.specs.Writes.{Id}
 use Rattle.mr_model.specs.Replica.{text_before}
 use Rattle.mr_model.specs.Tables.{MetaRow, VectorRow, LogRow, BookingRow, ErrorRow, CancelledRow, CancelRow, Tables}
-use Rattle.mr_model.specs.Queries.{booking_id, error_id, cancelled_id, cancel_id}
-use Rattle.mr_tables.specs.Change.{ChangeView, put_all, rows_without, id_before, log_id}
+use Rattle.mr_model.specs.Queries.{booking_id, error_id, cancelled_id, cancel_id, log_id}
+use Rattle.mr_tables.specs.Change.{ChangeView, put_all, rows_without, id_before}
 
 -- ---- rows taken away
 

@@ -5,8 +5,8 @@ use Rattle.mr_model.specs.Texts.{Text}
 use Rattle.mr_model.specs.Writes.{Id, is_room_name}
 use Rattle.mr_model.specs.Replica.{text_before}
 use Rattle.mr_model.specs.Tables.{MetaRow, VectorRow, LogRow, BookingRow, ErrorRow, CancelledRow, CancelRow}
-use Rattle.mr_model.specs.Queries.{booking_id, error_id, cancelled_id, cancel_id}
-use Rattle.mr_tables.specs.Change.{id_before, log_id}
+use Rattle.mr_model.specs.Queries.{booking_id, error_id, cancelled_id, cancel_id, log_id}
+use Rattle.mr_tables.specs.Change.{id_before}
 use Rattle.sqlite_schema.specs.declared.schema.Table.{Table}
 use Rattle.mr_rows.specs.Schema.{meta_table, room_table, vector_table, booking_table, error_table, log_table, cancelled_table, cancel_table}
 use Rattle.mr_rows.specs.RowCells.{meta_cells, meta_in, room_cells, room_in, vector_cells, vector_in, log_cells, log_in, booking_cells, booking_row_from, error_cells, error_in, cancelled_cells, cancelled_in, cancel_cells, cancel_row_from}

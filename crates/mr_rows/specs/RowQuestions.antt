@@ -6,8 +6,7 @@ use Rattle.mr_model.specs.Texts.{Text, within}
 use Rattle.mr_model.specs.Writes.{Id}
 use Rattle.mr_model.specs.Replica.{is_among}
 use Rattle.mr_model.specs.Tables.{LogRow, BookingRow, ErrorRow, CancelledRow, CancelRow}
-use Rattle.mr_model.specs.Queries.{booking_id, error_id, cancelled_id}
-use Rattle.mr_tables.specs.Change.{log_id}
+use Rattle.mr_model.specs.Queries.{booking_id, error_id, cancelled_id, log_id}
 use Rattle.mr_rows.specs.RowCells.{nat_of}
 use Rattle.mr_rows.specs.declared.questions.NumberQuestion.{NumberQuestion}
 use Rattle.mr_rows.specs.declared.log_stamps.LogStamp.{LogStamp}

@@ -3,8 +3,8 @@ use Rattle.std.proofs.Common.{◌≡◌, List, [], ◌∷◌, Bool, true, false,
 use Rattle.mr_model.specs.Writes.{Id, same_id}
 use Rattle.mr_model.specs.Replica.{is_among}
 use Rattle.mr_model.specs.Tables.{Tables}
-use Rattle.mr_model.specs.Queries.{booking_id, error_id, cancelled_id}
-use Rattle.mr_tables.specs.Change.{rows_without, log_id}
+use Rattle.mr_model.specs.Queries.{booking_id, error_id, cancelled_id, log_id}
+use Rattle.mr_tables.specs.Change.{rows_without}
 use Rattle.mr_rows.specs.ChangeParts.{take_logs, take_bookings, take_errors, take_cancelled}
 
 -- the first, and then the others

@@ -13,9 +13,10 @@ use Rattle.mr_base.specs.declared.batches.Item as Items
 use Rattle.mr_base.specs.Batches.{item_of}
 use Rattle.mr_model.specs.Tables.{LogRow, Tables}
 use Rattle.mr_model.specs.Dropped.{Has}
-use Rattle.mr_model.specs.Scopes.{Scope, Nothing, OfRequest, OfTarget, NextCommits, UpTo, OfPosition, OfItems, log_row_id, is_tentative, is_lacked_row, is_due_to, by_stamp, item_id, has_number, is_named, is_late, is_in_tail, is_touched, rooms_of_item, next_commits, in_scope}
+use Rattle.mr_model.specs.Scopes.{Scope, Nothing, OfRequest, OfTarget, NextCommits, UpTo, OfPosition, OfItems, is_tentative, is_lacked_row, is_due_to, by_stamp, item_id, has_number, is_named, is_late, is_in_tail, is_touched, rooms_of_item, next_commits, in_scope}
 use Rattle.mr_model.proofs.InScope.{has_put}
 use Rattle.mr_model.proofs.Members.{filter_has, has_map, has_among, same_id-true}
+use Rattle.mr_model.specs.Queries.{log_id}
 use Rattle.mr_kept.specs.Tails.{has_place}
 use Rattle.mr_kept.specs.Named.{has_commit}
 use Rattle.mr_kept.specs.Sets.{has_room}
@@ -87,17 +88,17 @@ tentative_read k t logs is numbered = (
 )
 
 -- the row of one of these ids is asked for
-log_of_ids : (ids : List Id) (row : LogRow) → is_row_asked is_log_named ids row ≡ is_among (log_row_id row) ids
+log_of_ids : (ids : List Id) (row : LogRow) → is_row_asked is_log_named ids row ≡ is_among (log_id row) ids
 log_of_ids [] row = refl
-log_of_ids (id ∷ ids) row = let first = or_false (same_id (log_row_id row) id) in let more = log_of_ids ids row in λ i. first i || more i
+log_of_ids (id ∷ ids) row = let first = or_false (same_id (log_id row) id) in let more = log_of_ids ids row in λ i. first i || more i
 
 -- where the rows of their ids are
-pub ids_read : (k : ℕ) (t : Tables) (ids : List Id) (logs : List LogRow) → ids ≡ map log_row_id (next_commits k t) → logs ≡ filter (is_row_asked is_log_named ids) t.log → AreLogsRead (NextCommits k) t logs
+pub ids_read : (k : ℕ) (t : Tables) (ids : List Id) (logs : List LogRow) → ids ≡ map log_id (next_commits k t) → logs ≡ filter (is_row_asked is_log_named ids) t.log → AreLogsRead (NextCommits k) t logs
 ids_read k t ids logs are is numbered = (
   is_row_asked is_log_named ids,
   is,
   λ row h.
-      log_of_ids ids row ∙ ap (is_among (log_row_id row)) are ∙ has_among (log_row_id row) (map log_row_id (next_commits k t)) (has_map log_row_id row (next_commits k t) h),
+      log_of_ids ids row ∙ ap (is_among (log_id row)) are ∙ has_among (log_id row) (map log_id (next_commits k t)) (has_map log_id row (next_commits k t) h),
 )
 
 -- ---- those of a batch for a position
@@ -180,12 +181,12 @@ rooms_named commits items (x ∷ xs) log within = λ i. one x (within x (inl ref
 
     one : (y : Item) → Has y items → rooms_of_item commits (filter named log) y ≡ rooms_of_item commits log y
     one (W w) h = refl
-    one (C seq id) h = ap (λ rows. cond (ltb commits seq) (map (λ (row : LogRow). row.room) rows) []) (inside (λ (row : LogRow). same_id (log_row_id row) id) named log told)
+    one (C seq id) h = ap (λ rows. cond (ltb commits seq) (map (λ (row : LogRow). row.room) rows) []) (inside (λ (row : LogRow). same_id (log_id row) id) named log told)
       where
-        told : (row : LogRow) → same_id (log_row_id row) id ≡ true → named row ≡ true
+        told : (row : LogRow) → same_id (log_id row) id ≡ true → named row ≡ true
         told row e =
             log_of_ids (map item_id items) row
-            ∙ ap (λ x. is_among x (map item_id items)) (same_id-true (log_row_id row) id e)
+            ∙ ap (λ x. is_among x (map item_id items)) (same_id-true (log_id row) id e)
             ∙ has_among id (map item_id items) (has_map item_id (C seq id) items h)
 
 module _ (t : Tables) (items : List Item) (test : LateTest) (late : LateRows)
@@ -218,7 +219,7 @@ module _ (t : Tables) (items : List Item) (test : LateTest) (late : LateRows)
       named : Bool
       named = is_row_asked is_log_named (map item_id items) row
 
-      by_name : (is_among (log_row_id row) (map item_id items) ≡ true) ⊎ ((not (is_tentative row) && list_any (has_number row.seq) items) ≡ true) → (named || is_late_row late (passes_late test) row) ≡ true
+      by_name : (is_among (log_id row) (map item_id items) ≡ true) ⊎ ((not (is_tentative row) && list_any (has_number row.seq) items) ≡ true) → (named || is_late_row late (passes_late test) row) ≡ true
       by_name (inl f) = or_left named _ (log_of_ids (map item_id items) row ∙ f)
       by_name (inr f) =
           let both = and_parts (not (is_tentative row)) (list_any (has_number row.seq) items) f in
@@ -229,7 +230,7 @@ module _ (t : Tables) (items : List Item) (test : LateTest) (late : LateRows)
           not_true false h = refl
 
       go : (is_named items row ≡ true) ⊎ ((is_in_tail t.meta.commits items row && is_touched t items row.room) ≡ true) → (named || is_late_row late (passes_late test) row) ≡ true
-      go (inl f) = by_name (or_cases (is_among (log_row_id row) (map item_id items)) (not (is_tentative row) && list_any (has_number row.seq) items) f)
+      go (inl f) = by_name (or_cases (is_among (log_id row) (map item_id items)) (not (is_tentative row) && list_any (has_number row.seq) items) f)
       go (inr f) =
           let parts = and_parts (is_in_tail t.meta.commits items row) (is_touched t items row.room) f in
           let tail = and_parts (is_tentative row) (is_late t.meta.commits items row.time row.server) parts.0 in

@@ -9,9 +9,9 @@ use Rattle.mr_model.specs.Writes.{Id, same_id, choices_of}
 use Rattle.mr_model.specs.Replica.{Replica, is_among}
 use Rattle.mr_model.specs.Exchange.{Item}
 use Rattle.mr_model.specs.Tables.{MetaRow, VectorRow, LogRow, BookingRow, ErrorRow, CancelledRow, Tables, log_row, kept, seq_among, tables_of}
-use Rattle.mr_model.specs.Queries.{booking_id, error_id, cancelled_id}
+use Rattle.mr_model.specs.Queries.{booking_id, error_id, cancelled_id, log_id}
 use Rattle.mr_model.specs.Dropped.{Has}
-use Rattle.mr_model.specs.Scopes.{Scope, Nothing, OfRequest, OfTarget, NextCommits, UpTo, OfPosition, OfItems, log_row_id, is_on_day_of, is_touched, next_commits, with_rows, in_scope}
+use Rattle.mr_model.specs.Scopes.{Scope, Nothing, OfRequest, OfTarget, NextCommits, UpTo, OfPosition, OfItems, is_on_day_of, is_touched, next_commits, with_rows, in_scope}
 use Rattle.mr_model.specs.RowsRead.{rows_read}
 use Rattle.mr_model.proofs.ReadRows.{read_rows}
 use Rattle.mr_model.proofs.Members.{filter_has, map_has}
@@ -109,9 +109,9 @@ cancelled_of_ids (id ∷ ids) c = let first = or_false (same_id (cancelled_id c)
 next_cancelled : (k : ℕ) (t : Tables) (p : LogRow → Bool) → Passes (NextCommits k) t p → (c : CancelledRow) → Has c (in_scope (NextCommits k) t).cancelled
     → is_row_asked is_cancelled_of (taken_questions t.meta.commits (NextCommits k) (filter p t.log)) c ≡ true
 next_cancelled k t p pass c h =
-    let among = (filter_has (λ (d : CancelledRow). is_among (cancelled_id d) (map log_row_id (next_commits k t))) c t.cancelled h).1 in
-    let asked : is_row_asked is_cancelled_of (map log_row_id (next_commits k t)) c ≡ true = cancelled_of_ids (map log_row_id (next_commits k t)) c ∙ among in
-    subst (λ (rows : List LogRow). is_row_asked is_cancelled_of (map log_row_id rows) c ≡ true) (sym (logs_same (NextCommits k) t p pass)) asked
+    let among = (filter_has (λ (d : CancelledRow). is_among (cancelled_id d) (map log_id (next_commits k t))) c t.cancelled h).1 in
+    let asked : is_row_asked is_cancelled_of (map log_id (next_commits k t)) c ≡ true = cancelled_of_ids (map log_id (next_commits k t)) c ∙ among in
+    subst (λ (rows : List LogRow). is_row_asked is_cancelled_of (map log_id rows) c ≡ true) (sym (logs_same (NextCommits k) t p pass)) asked
 
 cancelled_read : (s : Scope) (t : Tables) (p : LogRow → Bool) → Passes s t p → (c : CancelledRow) → Has c (in_scope s t).cancelled → asks_cancelled t.meta.commits s (filter p t.log) c ≡ true
 cancelled_read Nothing t p pass c h = absurd h

@@ -11,7 +11,8 @@ use Rattle.sqlite_keyed.proofs.ListLemmas.{all_weaker, ascending-map, ascending-
 use Rattle.sqlite_keyed.proofs.SortLemmas.{sorted_unique}
 use Rattle.mr_base.specs.Ids.{id_cmp}
 use Rattle.mr_model.specs.Tables.{LogRow}
-use Rattle.mr_model.specs.Scopes.{log_row_id, is_tentative, row_before, put_row, by_stamp}
+use Rattle.mr_model.specs.Scopes.{is_tentative, row_before, put_row, by_stamp}
+use Rattle.mr_model.specs.Queries.{log_id}
 use Rattle.mr_rows.specs.declared.log_stamps.LogStamp.{LogStamp}
 use Rattle.mr_rows.specs.RowQuestions.{stamp_of_row}
 use Rattle.mr_sql.specs.ScopeQuestions.{stamp_cmp, stamp_id}
@@ -23,7 +24,7 @@ abbrev Rises : LogRow → LogRow → Type 0
 Rises a b = stamp_cmp (stamp_of_row a) (stamp_of_row b) ≡ Less
 
 abbrev HasLess : LogRow → LogRow → Type 0
-HasLess a b = id_cmp (log_row_id a) (log_row_id b) ≡ Less
+HasLess a b = id_cmp (log_id a) (log_id b) ≡ Less
 
 before_rises : (x y : LogRow) → row_before x y ≡ true → Rises x y
 before_rises x y e = grind (arith, nat_tests)
@@ -69,14 +70,14 @@ by_stamp_moves : (rows : List LogRow) → IsPermutation rows (by_stamp rows)
 by_stamp_moves [] = IsPermutation-refl []
 by_stamp_moves (x ∷ xs) = IsPermutation-trans (x ∷ xs) (x ∷ by_stamp xs) (put_row x (by_stamp xs)) (IsPermutation-cons x xs (by_stamp xs) (by_stamp_moves xs)) (put_moves x (by_stamp xs))
 
-ids_first : (k : ℕ) (rows : List LogRow) → map stamp_id (take k (map stamp_of_row rows)) ≡ map log_row_id (take k rows)
+ids_first : (k : ℕ) (rows : List LogRow) → map stamp_id (take k (map stamp_of_row rows)) ≡ map log_id (take k rows)
 ids_first zero rows = refl
 ids_first (suc k) [] = refl
-ids_first (suc k) (x ∷ xs) = ap (λ ids. log_row_id x ∷ ids) (ids_first k xs)
+ids_first (suc k) (x ∷ xs) = ap (λ ids. log_id x ∷ ids) (ids_first k xs)
 
 -- the first of the sorted stamps have the ids of the first rows
 pub first_stamps : (log : List LogRow) (stamps sorted : List LogStamp) (k : ℕ) → IsAscending HasLess log → IsPermutation (map stamp_of_row (filter is_tentative log)) stamps
-    → IsPermutation stamps sorted → IsSorted stamp_cmp sorted → map stamp_id (take k sorted) ≡ map log_row_id (take k (by_stamp (filter is_tentative log)))
+    → IsPermutation stamps sorted → IsSorted stamp_cmp sorted → map stamp_id (take k sorted) ≡ map log_id (take k (by_stamp (filter is_tentative log)))
 first_stamps log stamps sorted k up same moved order =
     let rows = filter is_tentative log in
     let told = map stamp_of_row (by_stamp rows) in

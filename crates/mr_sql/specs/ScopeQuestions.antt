@@ -4,9 +4,10 @@ use Rattle.std.specs.declared.cmp.Ordering.{Ordering}
 use Rattle.std.specs.Ordering.{nat_cmp, ordering_then}
 use Rattle.mr_model.specs.Texts.{Text}
 use Rattle.mr_model.specs.Writes.{Id}
-use Rattle.mr_model.specs.Scopes.{Scope, OfRequest, OfTarget, NextCommits, UpTo, OfPosition, OfItems, log_row_id, next_commits, rooms_of_item, in_scope}
+use Rattle.mr_model.specs.Scopes.{Scope, OfRequest, OfTarget, NextCommits, UpTo, OfPosition, OfItems, next_commits, rooms_of_item, in_scope}
 use Rattle.mr_model.specs.Tables.{LogRow, BookingRow, ErrorRow, CancelledRow, Tables}
 use Rattle.mr_model.specs.Dropped.{Has}
+use Rattle.mr_model.specs.Queries.{log_id}
 use Rattle.mr_rows.specs.declared.questions.NumberQuestion.{NumberQuestion}
 use Rattle.mr_rows.specs.declared.log_stamps.LogStamp.{LogStamp}
 use Rattle.mr_rows.specs.RowQuestions.{is_booking_asked, is_cancelled_asked, is_booking_named, is_error_of, is_cancelled_of, is_row_asked}
@@ -69,7 +70,7 @@ target_questions _ = []
 -- the ids whose cancelled bookings are asked for, where these rows of the log were read: the target, or the writes that are committed next
 abbrev pub taken_questions : ℕ → Scope → List LogRow → List Id
 taken_questions commits (OfTarget target) logs = target ∷ []
-taken_questions commits (NextCommits k) logs = map log_row_id (next_commits k (logs_alone commits logs))
+taken_questions commits (NextCommits k) logs = map log_id (next_commits k (logs_alone commits logs))
 taken_questions commits _ logs = []
 
 -- ---- rows that some question asks for, by room or by id

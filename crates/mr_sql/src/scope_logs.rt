@@ -1,7 +1,8 @@
 ghost use Rattle.std.specs.Prelude.{◌≡◌, ℕ, true, false, map, IfOk};
 ghost use Rattle.sqlite.specs.Held.{state};
 ghost use Rattle.mr_base.specs.Batches.{item_of};
-ghost use Rattle.mr_model.specs.Scopes.{NextCommits, OfPosition, OfItems, log_row_id, next_commits};
+ghost use Rattle.mr_model.specs.Scopes.{NextCommits, OfPosition, OfItems, next_commits};
+ghost use Rattle.mr_model.specs.Queries.{log_id};
 ghost use Rattle.mr_part.specs.ScopeOf.{scope_of};
 ghost use Rattle.mr_rows.specs.Database.{tables_in};
 ghost use Rattle.mr_rows.specs.Reads.{ReadsInUse};
@@ -47,7 +48,7 @@ fn read_first<S: Alter>(
     requires autocommit { conn.old.in_transaction ≡ false }
     ensures autocommit { conn.new.in_transaction ≡ false }
     ensures reads { ReadsInUse (state S.Store conn.old) (state S.Store conn.new) result
-        (λ rows. (count : ℕ) → ids.now ≡ map log_row_id (next_commits count (tables_in (state S.Store conn.old).now.trees))
+        (λ rows. (count : ℕ) → ids.now ≡ map log_id (next_commits count (tables_in (state S.Store conn.old).now.trees))
         → AreLogsRead (NextCommits count) (tables_in (state S.Store conn.old).now.trees) rows.items) }
 {
     if are_few(ids, tentative) {

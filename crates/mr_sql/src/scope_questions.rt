@@ -1,7 +1,8 @@
 ghost use Rattle.std.specs.Prelude.{◌≡◌, ◌∷◌, [], List, ℕ, map, if◌then◌else◌, nat_lt, false, IfOk, IsTrue};
 ghost use Rattle.mr_base.specs.Batches.{item_of};
-ghost use Rattle.mr_model.specs.Scopes.{in_scope, item_id, log_row_id};
+ghost use Rattle.mr_model.specs.Scopes.{in_scope, item_id};
 ghost use Rattle.mr_model.specs.Tables.{LogRow as Row};
+ghost use Rattle.mr_model.specs.Queries.{log_id};
 ghost use Rattle.mr_part.specs.ScopeOf.{scope_of};
 ghost use Rattle.mr_sql.specs.ScopeQuestions.{tentative_question, between, number_questions, logs_alone, room_questions, target_questions, taken_questions};
 
@@ -89,7 +90,7 @@ fn one_id(alloc: Global, id: WriteId) -> Result<Vec<IdQuestion>, AllocError>
 }
 
 fn ids_of(alloc: Global, logs: &[&LogRow]) -> Result<Vec<IdQuestion>, AllocError>
-    ensures { IfOk result (λ ids. ids.items ≡ map log_row_id (map (λ row. row.now) logs.now)) }
+    ensures { IfOk result (λ ids. ids.items ≡ map log_id (map (λ row. row.now) logs.now)) }
 {
     let mut ids = Vec::new(alloc);
     'rows: for row in logs {
@@ -108,7 +109,7 @@ fn ids_in_scope(
     logs: &[LogRow],
     commits: u64,
 ) -> Result<Vec<IdQuestion>, Refusal>
-    ensures { IfOk result (λ ids. ids.items ≡ map log_row_id (in_scope (scope_of scope.now) (logs_alone commits logs.now)).log) }
+    ensures { IfOk result (λ ids. ids.items ≡ map log_id (in_scope (scope_of scope.now) (logs_alone commits logs.now)).log) }
 {
     let inside = logs_in_scope(alloc, scope, logs, commits)?;
     let ids = ids_of(alloc, &inside)?;

@@ -3,8 +3,9 @@ ghost use Rattle.std.specs.List.Sorted.{IsPermutation, IsSorted};
 ghost use Rattle.std.specs.declared.cmp.Ordering.{Ordering as Order};
 ghost use Rattle.sqlite_trees.specs.Tree.{IsAscending};
 ghost use Rattle.mr_base.specs.Ids.{id_cmp};
-ghost use Rattle.mr_model.specs.Scopes.{is_tentative, by_stamp, log_row_id};
+ghost use Rattle.mr_model.specs.Scopes.{is_tentative, by_stamp};
 ghost use Rattle.mr_model.specs.Tables.{LogRow as Row};
+ghost use Rattle.mr_model.specs.Queries.{log_id};
 ghost use Rattle.mr_rows.specs.RowQuestions.{stamp_of_row};
 ghost use Rattle.mr_sql.specs.ScopeQuestions.{stamp_cmp, stamp_id};
 
@@ -48,8 +49,8 @@ pub(crate) fn first_ids(
     mut stamps: Vec<LogStamp>,
     count: u64,
 ) -> Result<Vec<IdQuestion>, AllocError>
-    ensures { IfOk result (λ ids. (log : List Row) → IsAscending (λ a b. id_cmp (log_row_id a) (log_row_id b) ≡ Order.Less) log
-        → IsPermutation (map stamp_of_row (filter is_tentative log)) stamps.items → ids.items ≡ map log_row_id (take count (by_stamp (filter is_tentative log)))) }
+    ensures { IfOk result (λ ids. (log : List Row) → IsAscending (λ a b. id_cmp (log_id a) (log_id b) ≡ Order.Less) log
+        → IsPermutation (map stamp_of_row (filter is_tentative log)) stamps.items → ids.items ≡ map log_id (take count (by_stamp (filter is_tentative log)))) }
 {
     sort_stamps(&mut stamps)?;
     stamps.truncate(count as usize);

@@ -3,9 +3,9 @@ use Rattle.std.proofs.Common.{◌≡◌, Bool, true, not, nat_lt, List, reverse,
 use Rattle.mr_model.specs.Writes.{Id}
 use Rattle.mr_model.specs.Replica.{is_among, text_before}
 use Rattle.mr_model.specs.Tables.{Tables}
-use Rattle.mr_model.specs.Queries.{booking_id, error_id, cancelled_id, cancel_id}
+use Rattle.mr_model.specs.Queries.{booking_id, error_id, cancelled_id, cancel_id, log_id}
 use Rattle.mr_model.proofs.Members.{sorted_filter}
-use Rattle.mr_tables.specs.Change.{put_all, rows_without, id_before, log_id, ChangeView, changed}
+use Rattle.mr_tables.specs.Change.{put_all, rows_without, id_before, ChangeView, changed}
 use Rattle.mr_tables.proofs.Putting.{InOrder, put_all_in_order, name_order, number_order, id_order}
 use Rattle.mr_store.specs.RowsAround.{AreInOrder}
 

@@ -6,8 +6,8 @@ use Rattle.std.specs.List.{AllByRecursion-prop}
 use Rattle.mr_model.specs.Dropped.{Has}
 use Rattle.mr_model.specs.Replica.{text_before}
 use Rattle.mr_model.specs.Tables.{Tables}
-use Rattle.mr_model.specs.Queries.{booking_id, error_id, cancelled_id, cancel_id}
-use Rattle.mr_tables.specs.Change.{id_before, log_id}
+use Rattle.mr_model.specs.Queries.{booking_id, error_id, cancelled_id, cancel_id, log_id}
+use Rattle.mr_tables.specs.Change.{id_before}
 use Rattle.mr_tables.proofs.Putting.{InOrder}
 
 -- the rows in front of a place, and those behind it, the next one last

@@ -2,8 +2,8 @@ ghost use Rattle.std.specs.Prelude.{◌≡◌, ℕ, nat_lt};
 ghost use Rattle.mr_model.specs.Texts.{Text};
 ghost use Rattle.mr_model.specs.Writes.{Id};
 ghost use Rattle.mr_model.specs.Replica.{text_before};
-ghost use Rattle.mr_model.specs.Queries.{booking_id, error_id, cancelled_id, cancel_id};
-ghost use Rattle.mr_tables.specs.Change.{id_before, log_id};
+ghost use Rattle.mr_model.specs.Queries.{booking_id, error_id, cancelled_id, cancel_id, log_id};
+ghost use Rattle.mr_tables.specs.Change.{id_before};
 ghost use Rattle.mr_tables.proofs.Putting.{name_order, number_order, id_order};
 
 use crate::days::{Days, is_one_of};

@@ -4,7 +4,7 @@ use Rattle.mr_model.specs.Texts.{Text}
 use Rattle.mr_model.specs.Writes.{Id}
 use Rattle.mr_model.specs.Replica.{is_among, text_before}
 use Rattle.mr_model.specs.Tables.{MetaRow, VectorRow, LogRow, BookingRow, ErrorRow, CancelledRow, CancelRow, Tables}
-use Rattle.mr_model.specs.Queries.{booking_id, error_id, cancelled_id, cancel_id}
+use Rattle.mr_model.specs.Queries.{booking_id, error_id, cancelled_id, cancel_id, log_id}
 
 -- ---- one table, its rows in the order of their keys
 
@@ -28,9 +28,6 @@ rows_without key gone rows = filter (λ row. not (is_among (key row) gone)) rows
 -- by server, then by count
 abbrev pub id_before : Id → Id → Bool
 id_before a b = nat_lt a.server b.server || (a.server == b.server && nat_lt a.n b.n)
-
-abbrev pub log_id : LogRow → Id
-log_id row = record { server = row.server; n = row.n }
 
 -- ---- all tables
 

@@ -3,10 +3,10 @@ use Rattle.std.specs.Prelude.{◌≡◌, ℕ, ◌+◌, ◌≤◌, min, Bool, tru
 use Rattle.std.specs.List.{All, AllAdjacentBelow, sum_by}
 use Rattle.mr_model.specs.Replica.{text_before, greatest}
 use Rattle.mr_model.specs.Tables.{MetaRow, VectorRow, Tables}
-use Rattle.mr_model.specs.Queries.{booking_id, error_id, cancelled_id, cancel_id}
+use Rattle.mr_model.specs.Queries.{booking_id, error_id, cancelled_id, cancel_id, log_id}
 use Rattle.mr_tables.specs.declared.summary.Tally.{Tally}
 use Rattle.mr_tables.specs.Summary.{tally_at}
-use Rattle.mr_tables.specs.Change.{id_before, log_id}
+use Rattle.mr_tables.specs.Change.{id_before}
 
 -- ---- keys
 

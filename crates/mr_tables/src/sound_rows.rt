@@ -1,8 +1,8 @@
 ghost use Rattle.std.specs.Prelude.{◌≡◌, ◌↔◌, nat_lt, map, IsTrue};
 ghost use Rattle.std.specs.List.{All, sum_by};
 ghost use Rattle.mr_model.specs.Replica.{text_before, greatest};
-ghost use Rattle.mr_model.specs.Queries.{booking_id, error_id, cancelled_id, cancel_id};
-ghost use Rattle.mr_tables.specs.Change.{id_before, log_id};
+ghost use Rattle.mr_model.specs.Queries.{booking_id, error_id, cancelled_id, cancel_id, log_id};
+ghost use Rattle.mr_tables.specs.Change.{id_before};
 ghost use Rattle.mr_tables.specs.SoundRows.{Rise, IsMetaSound, IsCountSound, is_counted, is_first, IsMarkSound, IsNumberSound, HaveSoundMarks, HaveSoundNumbers, AreKeysRising, capped, AreTotalsSound, AreSound};
 
 use crate::rooms::is_before;

@@ -4,7 +4,7 @@ use Rattle.std.proofs.lemmas.List.{drop_more, at_drop_all}
 use Rattle.std.specs.List.{list_any}
 use Rattle.std.specs.Prelude.{bytes_eq}
 use Rattle.mr_model.specs.Tables.{LogRow}
-use Rattle.mr_model.specs.Scopes.{log_row_id}
+use Rattle.mr_model.specs.Queries.{log_id}
 use Rattle.mr_kept.specs.Sets.{has_id, has_room}
 use Rattle.mr_kept.proofs.Sets.{added_more}
 use Rattle.mr_part.proofs.scope_touched.add_rows.Goals as goal
@@ -14,7 +14,7 @@ loop-row-preserved c = λ name.
     let rows = c.args.rows.now in
     let row = c.row-item.result in
     let k = c.loop-row.row-index in
-    let is_its = λ (row : LogRow). has_id c.args.ids.now (log_row_id row) && bytes_eq name row.room in
+    let is_its = λ (row : LogRow). has_id c.args.ids.now (log_id row) && bytes_eq name row.room in
     let all = has_room c.args.rooms.now name || list_any is_its rows in
     let old = has_room c.loop-row.rooms name in
     let new = c.add_if_named.new.rooms in
@@ -26,7 +26,7 @@ loop-row-preserved c = λ name.
 pub returns-clause-rooms : goal.returns-clause-rooms
 returns-clause-rooms c = λ name.
     let rows = c.args.rows.now in
-    let is_its = λ (row : LogRow). has_id c.args.ids.now (log_row_id row) && bytes_eq name row.room in
+    let is_its = λ (row : LogRow). has_id c.args.ids.now (log_id row) && bytes_eq name row.room in
     let had = has_room c.loop-row.rooms name in
     sym (or-false had)
     ∙ subst (λ left. (had || left) ≡ (has_room c.args.rooms.now name || list_any is_its rows)) (at_drop_all (list_any is_its) rows c.loop-row.row-index c.loop-row-test.false) (c.loop-row.invariant name)

@@ -2,8 +2,8 @@ use Rattle.std.proofs.Common.{◌≡◌, true, nat_lt, sym, subst, ◌∙◌}
 use Rattle.mr_model.specs.Texts.{Text}
 use Rattle.mr_model.specs.Replica.{text_before}
 use Rattle.mr_model.specs.Tables.{VectorRow}
-use Rattle.mr_model.specs.Queries.{booking_id, error_id, cancelled_id, cancel_id}
-use Rattle.mr_tables.specs.Change.{log_id, put_all, rows_without, id_before, changed}
+use Rattle.mr_model.specs.Queries.{booking_id, error_id, cancelled_id, cancel_id, log_id}
+use Rattle.mr_tables.specs.Change.{put_all, rows_without, id_before, changed}
 use Rattle.mr_store.specs.RowsAround.{AreInOrder}
 use Rattle.mr_store.proofs.TableChanges.{rows_put, rows_changed}
 use Rattle.mr_store.proofs.lists.change_tables.Goals as goal

@@ -2,8 +2,8 @@ use Rattle.std.proofs.Common.{◌∙◌, ◌↔◌, nat_lt, ap, subst, List, IsT
 use Rattle.mr_model.specs.Texts.{Text}
 use Rattle.mr_model.specs.Replica.{text_before}
 use Rattle.mr_model.specs.Tables.{Tables, VectorRow, LogRow, BookingRow, ErrorRow, CancelledRow, CancelRow}
-use Rattle.mr_model.specs.Queries.{booking_id, error_id, cancelled_id, cancel_id}
-use Rattle.mr_tables.specs.Change.{id_before, log_id}
+use Rattle.mr_model.specs.Queries.{booking_id, error_id, cancelled_id, cancel_id, log_id}
+use Rattle.mr_tables.specs.Change.{id_before}
 use Rattle.mr_tables.specs.SoundRows.{Rise}
 use Rattle.mr_tables.proofs.Rising.{both}
 use Rattle.mr_tables.proofs.sound_rows.are_keys_rising.Goals as goal

@@ -1,7 +1,8 @@
 use Rattle.std.proofs.Common.{rules}
 use Rattle.std.proofs.lemmas.List.Sorted.{answers_always}
 use Rattle.mr_model.specs.Tables.{LogRow}
-use Rattle.mr_tables.specs.Change.{id_before, log_id}
+use Rattle.mr_model.specs.Queries.{log_id}
+use Rattle.mr_tables.specs.Change.{id_before}
 use Rattle.mr_tables.proofs.Rising.{rise_from}
 use Rattle.mr_tables.proofs.sound_rows.are_logs_rising.Goals as goal
 

@@ -4,10 +4,10 @@ use Rattle.std.proofs.lemmas.Result.{err_from_is_err_and}
 use Rattle.mr_model.specs.Positions.{Position}
 use Rattle.mr_model.specs.Replica.{tentative}
 use Rattle.mr_model.specs.Replies.{BatchIs}
-use Rattle.mr_model.specs.RowsInScope.{kept_commits}
 use Rattle.mr_model.specs.Step.{lacks}
 use Rattle.std.specs.List.{list_all}
 use Rattle.mr_model.specs.Exchange.{is_item}
+use Rattle.mr_model.specs.Kept.{kept_committed}
 use Rattle.mr_base.specs.Answers.{ok_if}
 use Rattle.mr_base.specs.Batches.{item_of, batch_seen}
 use Rattle.mr_base.specs.Versions.{version_of}
@@ -50,7 +50,7 @@ returns-clause-step c = λ a sound part.
     let whole : nat_lt p.commits a.dropped ≡ false = grind (arith, nat_tests) in
     let s : Summary = record i.summary { dropped = c.position.inside.commits } in
     let numbers : s ≡ record (summary_of a) { dropped = p.commits } = λ t. record (e t).summary { dropped = commits t } in
-    let kept : c.deref.result.now ≡ drop (p.commits - a.dropped) (kept_commits a) ++ filter (lacks p) (tentative a) = c.deref.ensures.value ∙ ap (λ (v : PartView). v.kept) e in
+    let kept : c.deref.result.now ≡ drop (p.commits - a.dropped) (kept_committed a) ++ filter (lacks p) (tentative a) = c.deref.ensures.value ∙ ap (λ (v : PartView). v.kept) e in
     let items = part_items a p s c.deref.result.now sound low numbers kept in
     let offers = subst (λ xs. Offers c.args.max_lines xs there more) items c.in_ok-outgoing.ensures.items in
     let v = c.position.inside.version in
