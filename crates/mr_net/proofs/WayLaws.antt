@@ -5,10 +5,11 @@ use Rattle.std.specs.List.{sum_by}
 use Rattle.std.proofs.lemmas.List.{length_push}
 use Rattle.std.proofs.lemmas.List.Elements.{All-push}
 use Rattle.std.proofs.lemmas.List.Sums.{sum_by_push}
+use Rattle.mr_tables.specs.SoundRows.{capped}
 use Rattle.mr_http.specs.declared.faults.WebFault.{WebFault}
 use Rattle.mr_net.specs.declared.ways.Round.{Round}
 use Rattle.mr_net.specs.declared.ways.Taken.{Taken}
-use Rattle.mr_net.specs.Ways.{asks_for_more, saturated, joined, total, greatest_rounds, Leads, IsWay}
+use Rattle.mr_net.specs.Ways.{asks_for_more, joined, total, greatest_rounds, Leads, IsWay}
 
 -- one more round follows on those before it
 leads_on : {P : Type 0} (runs : P → Result Round WebFault → P → Type 0) (p m q : P) (rounds : List Round) (r : Round)
@@ -16,16 +17,16 @@ leads_on : {P : Type 0} (runs : P → Result Round WebFault → P → Type 0) (p
 leads_on runs p m q [] r same step = (q, subst (λ x. runs x (Ok r) q) (sym same) step, refl)
 leads_on runs p m q (first ∷ rounds) r led step = (led.0, led.1, leads_on runs led.0 m q rounds r led.2 step)
 
-capped_sum : (a b : ℕ) → saturated (a + b) ≡ saturated (saturated a + b)
+capped_sum : (a b : ℕ) → capped (a + b) ≡ capped (capped a + b)
 capped_sum a b = omega arith
 
 -- what one more round adds
 total_more : (rounds : List Round) (r : Round) → total (rounds ++ r ∷ []) ≡ joined (total rounds) r
 total_more rounds r =
-    let writes : saturated (sum_by (λ (x : Round). x.writes) (rounds ++ r ∷ [])) ≡ saturated (saturated (sum_by (λ (x : Round). x.writes) rounds) + r.writes) =
-    ap saturated (sum_by_push (λ (x : Round). x.writes) rounds r) ∙ capped_sum _ _ in
-    let commits : saturated (sum_by (λ (x : Round). x.commits) (rounds ++ r ∷ [])) ≡ saturated (saturated (sum_by (λ (x : Round). x.commits) rounds) + r.commits) =
-    ap saturated (sum_by_push (λ (x : Round). x.commits) rounds r) ∙ capped_sum _ _ in
+    let writes : capped (sum_by (λ (x : Round). x.writes) (rounds ++ r ∷ [])) ≡ capped (capped (sum_by (λ (x : Round). x.writes) rounds) + r.writes) =
+    ap capped (sum_by_push (λ (x : Round). x.writes) rounds r) ∙ capped_sum _ _ in
+    let commits : capped (sum_by (λ (x : Round). x.commits) (rounds ++ r ∷ [])) ≡ capped (capped (sum_by (λ (x : Round). x.commits) rounds) + r.commits) =
+    ap capped (sum_by_push (λ (x : Round). x.commits) rounds r) ∙ capped_sum _ _ in
     λ i. record { writes = writes i; commits = commits i }
 
 -- this many rounds were run, each of which asked for more, and brought this

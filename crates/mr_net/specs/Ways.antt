@@ -1,8 +1,9 @@
 -- The rounds of a way of an exchange.
-use Rattle.std.specs.Prelude.{◌≡◌, ◌⊎◌, ℕ, ◌+◌, ◌-◌, ◌^◌, ◌<◌, Bool, true, false, ◌&&◌, ◌||◌, nat_lt, List, [], ◌∷◌, ◌++◌, length, min, All, Result, Ok, Err}
+use Rattle.std.specs.Prelude.{◌≡◌, ◌⊎◌, ℕ, ◌+◌, ◌<◌, Bool, true, false, ◌&&◌, ◌||◌, nat_lt, List, [], ◌∷◌, ◌++◌, length, All, Result, Ok, Err}
 use Rattle.std.specs.List.{sum_by}
 use Rattle.mr_base.specs.declared.batches.Ending.{Ending}
 use Rattle.mr_base.specs.declared.batches.Ending.TheVariants.{Complete, More, Cut}
+use Rattle.mr_tables.specs.SoundRows.{capped}
 use Rattle.mr_http.specs.declared.faults.WebFault.{WebFault}
 use Rattle.mr_net.specs.declared.ways.Round.{Round}
 use Rattle.mr_net.specs.declared.ways.Taken.{Taken}
@@ -21,16 +22,12 @@ asks_for_more round = is_more round.ending && (nat_lt 0 round.writes || nat_lt 0
 abbrev pub greatest_rounds : ℕ
 greatest_rounds = 10_000
 
--- as far as a number of 64 bits goes
-abbrev pub saturated : ℕ → ℕ
-saturated n = min n (2 ^ 64 - 1)
-
 abbrev pub joined : Taken → Round → Taken
-joined taken round = record { writes = saturated (taken.writes + round.writes); commits = saturated (taken.commits + round.commits) }
+joined taken round = record { writes = capped (taken.writes + round.writes); commits = capped (taken.commits + round.commits) }
 
 -- what the rounds brought together
 abbrev pub total : List Round → Taken
-total rounds = record { writes = saturated (sum_by (λ r. r.writes) rounds); commits = saturated (sum_by (λ r. r.commits) rounds) }
+total rounds = record { writes = capped (sum_by (λ r. r.writes) rounds); commits = capped (sum_by (λ r. r.commits) rounds) }
 
 -- the rounds are those of a whole way: up to the first that asks for no more, or the greatest number
 abbrev pub AreAll : List Round → Type 0
