@@ -6,30 +6,19 @@ use Rattle.mr_model.specs.Replies.{Reply, reply_text}
 use Rattle.mr_model.specs.Replica.{Replica}
 use Rattle.mr_model.specs.View.{Question, view_of, answer}
 use Rattle.mr_model.specs.Step.{Command, IsOfMachine}
-use Rattle.mr_model.specs.Serving.{TakesStep, Reaches}
 use Rattle.mr_model.specs.Tables.{Tables, Stands}
 use Rattle.mr_store.specs.declared.keeper.Keeper.{Ghosts}
-use Rattle.mr_store.specs.KeeperCalls.{IsSettled}
-use Rattle.mr_service.specs.Asking.{Counts, LeavesOnRefusal, NoneFails, TellsRise}
 use Rattle.mr_service.specs.Replied.{RepliesTo}
+use Rattle.mr_service.specs.Served.{IsServed}
 use Rattle.mr_say.specs.CommandOutput.{no_memory_line, status_of, PrintsReply}
 
 -- ---- one command
 
--- the replica of a keeper was given the command, once: the keeper before it and after it, and the reply
-pub record IsCommandAsked {K : Type 0} (keeper : Ghosts K) (old new : K) (command : Command) (reply : Reply) : Type 0 where
-  pub clean : keeper.is_clean new → keeper.is_clean old
-  pub opens : keeper.is_clean new → keeper.is_open new → keeper.is_open old
-  pub takes : keeper.is_clean new → keeper.is_open new → TakesStep (keeper.tables old) command reply (keeper.tables new)
-  pub replied : keeper.is_clean new → keeper.is_open old → RepliesTo (keeper.tables old) command reply
-  pub refused : keeper.is_clean new → keeper.is_open new → LeavesOnRefusal reply (keeper.tables old) (keeper.tables new)
-  pub counts : Counts reply (keeper.failures old) (keeper.failures new)
-  pub rise : TellsRise reply (keeper.failures old) (keeper.failures new)
-  pub sure : keeper.never_fails → keeper.is_clean new → keeper.is_open new → NoneFails (keeper.tables old) (keeper.failures old) (keeper.failures new)
-  pub lasts : keeper.is_clean new → keeper.is_open old → IsOfMachine reply ⊎ keeper.is_open new
-  pub settled : keeper.is_clean new → keeper.is_open new → IsSettled (keeper.may_leave old) (keeper.tables old)
-      → IsSettled (keeper.may_leave new) (keeper.tables new)
-  pub crash : keeper.is_clean new → keeper.is_open old → (t : Tables) → keeper.may_leave new t → keeper.may_leave old t ⊎ Reaches (keeper.tables old) command t
+-- The replica of a keeper was given the command, once: the keeper before it and after it, and the reply. Where the keeper was open before,
+-- the reply is that of the step, whether or not a failure has shut it since.
+abbrev pub IsCommandAsked : {K : Type 0} → Ghosts K → K → K → Command → Reply → Type 0
+IsCommandAsked keeper old new command reply =
+    IsServed keeper old new command reply × (keeper.is_clean new → keeper.is_open old → RepliesTo (keeper.tables old) command reply)
 
 -- what this question about a room is answered: by the room's view at every replica that the tables stand for, or memory or the store
 -- failed; and the reply is told with that status

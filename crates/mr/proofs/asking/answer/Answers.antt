@@ -25,7 +25,7 @@ pub returns-in-None-clause-shown : goal.returns-in-None-clause-shown
 returns-in-None-clause-shown g c = λ clean was_open printed room question is.
     question_is_told (g.K.Keeper.tables c.args.service.now) room question (reply_of c.ask-reply.result)
     (g.W.Write.contents c.args.out.now) (g.W.Write.contents c.say_reply.new.out) c.say_reply.result
-    (subst (λ m. RepliesTo (g.K.Keeper.tables c.args.service.now) m (reply_of c.ask-reply.result)) is (c.ask-reply.ensures.replied clean was_open))
+    (subst (λ m. RepliesTo (g.K.Keeper.tables c.args.service.now) m (reply_of c.ask-reply.result)) is (c.ask-reply.ensures.1 clean was_open))
     c.say_reply.ensures
 
 pub returns-clause-shown : goal.returns-clause-shown
