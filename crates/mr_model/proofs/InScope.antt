@@ -11,7 +11,7 @@ use Rattle.mr_model.specs.Writes.{Id, Action, Books, Cancels, Write, id_of, same
 use Rattle.mr_model.specs.Replay.{Done, Booking}
 use Rattle.mr_model.specs.Board.{place_on, board_after}
 use Rattle.mr_model.specs.Replica.{Replica, count_of, is_dropped, is_committed, write_with, committed, tentative, order_of, IsReplica, AreInStampOrder, is_among}
-use Rattle.mr_model.specs.Positions.{Position, count_among}
+use Rattle.mr_model.specs.Positions.{Position}
 use Rattle.mr_model.specs.Step.{knows_booking, lacks}
 use Rattle.mr_model.specs.Tables.{LogRow, BookingRow, ErrorRow, CancelledRow, PlaceRow, log_row, place_row, cancelled_row, seq_of, tables_of}
 use Rattle.mr_model.specs.Tables as rows
