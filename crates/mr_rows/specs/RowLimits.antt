@@ -1,5 +1,6 @@
 -- The limits of plain rows: a row within them can be read as one of its type.
 use Rattle.std.specs.Prelude.{ℕ, ◌^◌, Bool, true, false, not, ◌&&◌, nat_le, nat_lt}
+use Rattle.std.specs.Str.{is_utf8}
 use Rattle.mr_model.specs.Texts.{Text}
 use Rattle.mr_model.specs.Calendar.{Date, is_date}
 use Rattle.mr_model.specs.Writes.{is_server, is_count, is_id, is_room_name, is_title, greatest_alternatives}
@@ -18,8 +19,9 @@ is_vector_row v = is_server v.server && is_small v.count && is_small v.committed
 
 -- ---- a write: its action and its place
 
+-- (choices are a text)
 abbrev pub is_meeting_cells : MeetingCells → Bool
-is_meeting_cells m = is_small m.length && is_title m.title
+is_meeting_cells m = is_small m.length && is_utf8 m.choices && is_title m.title
 
 abbrev pub is_action_cells : ActionCells → Bool
 is_action_cells (OfMeeting m) = is_meeting_cells m

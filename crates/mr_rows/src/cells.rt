@@ -27,6 +27,7 @@ fn broken(refusal: Refusal, at: usize) -> Error
 /// The text in this column, where it lies in the row.
 pub(crate) fn text_in(row: &Row, at: usize) -> Result<&str, Error>
     ensures cell { IfOk result (λ text. column row.now at ≡ Text text.now) }
+    ensures utf8 { IfOk result (λ text. IsTrue (is_utf8 text.now)) }
 {
     match row.get_ref(at)? {
         ValueRef::Text(bytes) => match str::from_utf8(bytes) {
@@ -195,6 +196,7 @@ pub fn read_place(row: &Row, at: usize) -> Result<Place, Error>
 pub fn read_text(row: &Row, at: usize) -> Result<String, Error>
     ensures text { IfOk result (λ text. string_bytes text ≡ bytes (column row.now at)) }
     ensures cell { IfOk result (λ text. column row.now at ≡ Text (string_bytes text)) }
+    ensures utf8 { IfOk result (λ text. IsTrue (is_utf8 (string_bytes text))) }
 {
     row.get(at)
 }
