@@ -48,8 +48,9 @@ class Lanes:
         idle = self.count - sum(self.running.values())
         is_beside_full = any(map(is_proof, [*self.left, *self.running])) and sum(not is_proof(key) for key in self.running) >= MOST_BESIDE
         ready = self.ready() if idle > 0 else []
-        # a proof that others could run beside leaves them half of the processors
-        most_jobs = self.most_jobs if sum(map(is_proof, ready)) == 1 else min(self.most_jobs, max(2, rt().processors() // 2))
+        # a proof that others could run beside leaves them half of the processors; one that none can takes the lanes of those that end before it does
+        is_alone = sum(map(is_proof, ready)) == 1
+        most_jobs = self.most_jobs if is_alone else min(self.most_jobs, max(2, rt().processors() // 2), idle)
         for key in ready:
             needs = self.needs[key]
             if is_beside_full and not is_proof(key):
@@ -60,7 +61,7 @@ class Lanes:
                 continue
             # more jobs make a proof shorter, and take half as much processor time again
             is_shared = is_proof(key) and self.is_critical(key)
-            return key, max(1, min(most_jobs, idle, 1 + int((room / needs - 1) / 0.6))) if is_shared else 1
+            return key, max(1, min(most_jobs, 1 + int((room / needs - 1) / 0.6))) if is_shared else 1
         return None
 
     def run(self):
