@@ -87,10 +87,10 @@ rows_rise a (w ∷ ws) s = (has_all (λ row. run_cmp (run_place (kept_row a w)) 
 -- ---- sorted rows
 
 -- the order of the tables
-abbrev KeyBefore : KeptRow → KeptRow → Type 0
+abbrev pub KeyBefore : KeptRow → KeptRow → Type 0
 KeyBefore x y = IdBefore (id_of x.write) (id_of y.write)
 
-never_before : (x : KeptRow) → KeyBefore x x → ⊥
+pub never_before : (x : KeptRow) → KeyBefore x x → ⊥
 never_before x (inl l) = omega (arith, l)
 never_before x (inr p) = let l = p.1 in omega (arith, l)
 

@@ -76,7 +76,7 @@ pub fn kept_rows(alloc: Global, logs: &[LogRow]) -> Result<Vec<KeptRow>, Refusal
 }
 
 /// The kept write of a row of `log`. Refused where it is that of no write.
-fn kept_row(alloc: Global, log: &LogRow) -> Result<KeptRow, Refusal>
+pub fn kept_row(alloc: Global, log: &LogRow) -> Result<KeptRow, Refusal>
     ensures read { (w : WriteOfRoom) (place : PlaceOfWrite) (seq : ℕ) → IsTrue (is_write w) → log.now ≡ log_row_with w place seq
         → OrOutOfMemory result (Ok (kept_row_with w seq place)) }
     ensures told { IfOk result (λ row. kept_told row ≡ log_told log.now) }
