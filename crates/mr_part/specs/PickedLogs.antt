@@ -1,19 +1,16 @@
 -- Which rows of log are in scope, told row by row, and the writes that such rows tell.
-use Rattle.std.specs.Prelude.{ℕ, suc, Bool, true, false, ◌&&◌, ◌||◌, if◌then◌else◌, ◌==◌, List, [], ◌∷◌, map, filter, ◌↔◌, ◌≡◌, bytes_eq, IsTrue}
+use Rattle.std.specs.Prelude.{ℕ, suc, Bool, true, false, ◌&&◌, ◌||◌, if◌then◌else◌, List, [], ◌∷◌, map, filter, ◌↔◌, ◌≡◌, bytes_eq, IsTrue}
 use Rattle.std.specs.List.{list_any, AllByRecursion}
 use Rattle.mr_model.specs.Texts.{Text, within}
 use Rattle.mr_model.specs.Writes.{Write, id_of, is_write}
 use Rattle.mr_model.specs.Replica.{Replica}
-use Rattle.mr_model.specs.Tables.{LogRow, seq_of, log_row, log_row_with}
-use Rattle.mr_model.specs.View.{place_of}
+use Rattle.mr_model.specs.Tables.{LogRow, log_row, log_row_with}
 use Rattle.mr_replay.specs.Rows.{undo_row_at}
 use Rattle.mr_model.specs.Dropped.{Has}
 use Rattle.mr_model.specs.Kept.{AreInRunOrder}
 use Rattle.mr_model.specs.Changes.{RiseById}
 use Rattle.mr_model.specs.Scopes.{Scope, UpTo, OfPosition, OfItems, is_named, is_in_tail, is_due_to, row_before}
-use Rattle.mr_kept.specs.declared.kept_rows.RunPlace.{RunPlace}
-use Rattle.mr_kept.specs.Logged.{undo_with}
-use Rattle.mr_part.specs.declared.scope_logs.LoggedWrite.{LoggedWrite}
+use Rattle.mr_kept.specs.declared.kept_rows.KeptRow.{KeptRow}
 
 -- whether the row is in scope, where so many commits are known and a batch touches these rooms; of a commit no row is, since only all
 -- tentative rows tell which are its
@@ -30,24 +27,16 @@ is_by_row (OfPosition p) = true
 is_by_row (OfItems items) = true
 is_by_row _ = false
 
--- a write of a replica with what undoes it, and its commit number
-abbrev pub logged_of : Replica → Write → LoggedWrite
-logged_of a w = record { write = w; undo = undo_with (place_of a) w; seq = seq_of a w }
-
--- the row that tells it
-abbrev pub log_row_of : LoggedWrite → LogRow
+-- the row of log that tells a kept write
+abbrev pub log_row_of : KeptRow → LogRow
 log_row_of x = log_row_with x.write x.undo.place x.seq
 
 -- within the limits, and undone by the row of its own place
-abbrev pub IsWriteWithin : LoggedWrite → Type 0
+abbrev pub IsWriteWithin : KeptRow → Type 0
 IsWriteWithin x = IsTrue (is_write x.write) × (x.undo ≡ undo_row_at x.write x.undo.place)
 
-abbrev pub AreWritesWithin : List LoggedWrite → Type 0
+abbrev pub AreWritesWithin : List KeptRow → Type 0
 AreWritesWithin xs = AllByRecursion IsWriteWithin xs
-
--- where it stands in the order of execution
-abbrev pub logged_place : LoggedWrite → RunPlace
-logged_place x = record { is_tentative = x.seq == 0; seq = x.seq; time = x.write.stamp.time; server = x.write.stamp.server }
 
 -- how many of these rows a row does not stand before by its stamp, up to the first that it does
 abbrev pub stamp_place : LogRow → List LogRow → ℕ

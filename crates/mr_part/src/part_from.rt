@@ -7,18 +7,19 @@ ghost use Rattle.mr_tables.specs.Boards.{board_of};
 ghost use Rattle.mr_part.specs.Parts.{kept_in, IsPartOf};
 ghost use Rattle.mr_kept.specs.Sets.{AreSameRooms};
 ghost use Rattle.mr_part.specs.PickedBookings.{touched_in};
-ghost use Rattle.mr_part.specs.PickedLogs.{logged_of, is_by_row};
+ghost use Rattle.mr_kept.specs.KeptRows.{kept_row};
+ghost use Rattle.mr_part.specs.PickedLogs.{is_by_row};
 ghost use Rattle.mr_kept.specs.Logged.{undo_with};
 ghost use Rattle.mr_part.specs.ScopeOf.{scope_of};
 ghost use Rattle.mr_tables.specs.Summary.{IsWithin};
 
 use crate::scope_board::board_in;
 use crate::scope_commits::first_writes;
-use crate::scope_logs::{LoggedWrite, numbers_of, sorted_writes, undo_of, writes_alone};
+use crate::scope_logs::{numbers_of, sorted_writes, undo_of, writes_alone};
 use crate::scope_touched::touched_rooms;
 use crate::{Part, Scope};
 use mr_base::{Refusal, RoomName, Write};
-use mr_kept::kept_rows::of_store;
+use mr_kept::kept_rows::{KeptRow, of_store};
 use mr_replay::{Board, UndoRow};
 use mr_tables::Tables;
 use mr_tables::rooms::copies_of;
@@ -114,22 +115,10 @@ fn kept_in(
     ensures only { (a : Replica) → IsReplica a → in_scope (scope_of scope.now) tables.now ≡ in_scope (scope_of scope.now) (tables_of a)
         → AreSameRooms touched.now (touched_in (scope_of scope.now) tables.now) → IfErr result (λ e. e ≡ Refusal.OutOfMemory) }
 {
-    let logged = match logged_in(alloc, scope, tables, touched) {
-        Ok(logged) => logged,
-        Err(refusal) => return Err(refusal),
-    };
-    let marks = match numbers_of(alloc, &logged) {
-        Ok(marks) => marks,
-        Err(refusal) => return Err(refusal),
-    };
-    let undo = match undo_of(alloc, &logged) {
-        Ok(undo) => undo,
-        Err(refusal) => return Err(refusal),
-    };
-    match writes_alone(alloc, logged) {
-        Ok(kept) => Ok((kept, undo, marks)),
-        Err(refusal) => Err(refusal),
-    }
+    let logged = logged_in(alloc, scope, tables, touched)?;
+    let marks = numbers_of(alloc, &logged)?;
+    let undo = undo_of(alloc, &logged)?;
+    Ok((writes_alone(alloc, logged)?, undo, marks))
 }
 
 /// The same, each with its number.
@@ -138,9 +127,9 @@ fn logged_in(
     scope: &Scope<'_>,
     tables: &Tables,
     touched: &[RoomName],
-) -> Result<Vec<LoggedWrite>, Refusal>
+) -> Result<Vec<KeptRow>, Refusal>
     ensures logged { (a : Replica) → IsReplica a → in_scope (scope_of scope.now) tables.now ≡ in_scope (scope_of scope.now) (tables_of a)
-        → AreSameRooms touched.now (touched_in (scope_of scope.now) tables.now) → IfOk result (λ logged. logged.items ≡ map (logged_of a) (kept_in (scope_of scope.now) a)) }
+        → AreSameRooms touched.now (touched_in (scope_of scope.now) tables.now) → IfOk result (λ logged. logged.items ≡ map (kept_row a) (kept_in (scope_of scope.now) a)) }
     ensures only { (a : Replica) → IsReplica a → in_scope (scope_of scope.now) tables.now ≡ in_scope (scope_of scope.now) (tables_of a)
         → AreSameRooms touched.now (touched_in (scope_of scope.now) tables.now) → IfErr result (λ e. e ≡ Refusal.OutOfMemory) }
 {
@@ -160,10 +149,10 @@ fn picked_in(
     scope: &Scope<'_>,
     tables: &Tables,
     touched: &[RoomName],
-) -> Result<Vec<LoggedWrite>, Refusal>
+) -> Result<Vec<KeptRow>, Refusal>
     requires { is_by_row (scope_of scope.now) ≡ true }
     ensures logged { (a : Replica) → IsReplica a → in_scope (scope_of scope.now) tables.now ≡ in_scope (scope_of scope.now) (tables_of a)
-        → AreSameRooms touched.now (touched_in (scope_of scope.now) tables.now) → IfOk result (λ logged. logged.items ≡ map (logged_of a) (kept_in (scope_of scope.now) a)) }
+        → AreSameRooms touched.now (touched_in (scope_of scope.now) tables.now) → IfOk result (λ logged. logged.items ≡ map (kept_row a) (kept_in (scope_of scope.now) a)) }
     ensures only { (a : Replica) → IsReplica a → in_scope (scope_of scope.now) tables.now ≡ in_scope (scope_of scope.now) (tables_of a)
         → AreSameRooms touched.now (touched_in (scope_of scope.now) tables.now) → IfErr result (λ e. e ≡ Refusal.OutOfMemory) }
 {

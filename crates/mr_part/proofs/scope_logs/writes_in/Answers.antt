@@ -1,21 +1,22 @@
-use Rattle.std.proofs.Common.{◌∙◌, ap, sym, subst, ◌∷◌, [], ◌++◌, drop, ◌+◌}
+use Rattle.std.proofs.Common.{rules, Ok, Err, ◌∙◌, ap, sym, subst, ◌∷◌, [], ◌++◌, drop, ◌+◌}
 use Rattle.std.proofs.lemmas.List.{at_drop_all}
 use Rattle.std.specs.List.{filter}
-use Rattle.mr_model.proofs.Members.{all_has}
 use Rattle.mr_part.specs.ScopeOf.{scope_of}
-use Rattle.mr_part.specs.PickedLogs.{is_log_in, log_row_of, IsWriteWithin}
+use Rattle.mr_part.specs.PickedLogs.{is_log_in, log_row_of}
 use Rattle.mr_tables.proofs.LogRows.{answered, never_refused}
+use Rattle.mr_part.proofs.PickedRows.{row_read}
 use Rattle.mr_part.proofs.Picking.{IsDone, first_left, all_done}
 use Rattle.mr_kept.proofs.FilteredRows.{picked_here, left_here}
 use Rattle.mr_part.proofs.scope_logs.writes_in.Goals as goal
-use Rattle.mr_part.proofs.scope_logs.writes_in.Goals.{then-passes+in-Ok+in_ok-push-in-Ok, else-passes}
+use Rattle.mr_part.proofs.scope_logs.writes_in.Goals.{then-passes+in_ok-kept_row+in_ok-push, else-passes}
 
-pub returns-in-Err-clause-only : goal.returns-in-Err-clause-only
-returns-in-Err-clause-only c = λ xs ok e.
+pub returns-in_err-kept_row-clause-only : goal.returns-in_err-kept_row-clause-only
+returns-in_err-kept_row-clause-only c = λ xs ok e.
     let test = is_log_in (scope_of c.args.scope.now) c.args.commits c.args.touched.now in
     let here = picked_here test c.args.rows.now c.loop-row.row-index c.row-item.result c.loop-row-test.true c.row-item.is (sym (c.passes.ensures (scope_of c.args.scope.now) c.args.commits c.args.touched.now c.loop-row.invariant.0) ∙ c.if-passes.true) in
     let left = first_left log_row_of xs c.loop-row.writes.items c.row-item.result (filter test (drop (c.loop-row.row-index + 1) c.args.rows.now)) (subst (IsDone log_row_of xs c.loop-row.writes.items) here (c.loop-row.invariant.1 xs ok e)) in
-    never_refused left.first c.in-Err.refusal (c.in-Err.ensures.read left.first (all_has IsWriteWithin left.first xs ok left.has) left.row_is)
+    let only = never_refused left.first c.in_err-kept_row.field-0.0 (row_read xs left.first c.row-item.result (Err c.in_err-kept_row.field-0.0) ok left.has left.row_is c.in_err-kept_row.ensures.read) in
+    search (rules, only)
 
 pub loop-row-preserved : goal.loop-row-preserved
 loop-row-preserved c = (
@@ -23,11 +24,11 @@ loop-row-preserved c = (
   λ xs ok e.
       let test = is_log_in (scope_of c.args.scope.now) c.args.commits c.args.touched.now in
       elim c.if-passes.branch [
-        | then-passes+in-Ok+in_ok-push-in-Ok w ↦
+        | then-passes+in_ok-kept_row+in_ok-push w ↦
             (let here = picked_here test c.args.rows.now c.loop-row.row-index c.row-item.result c.loop-row-test.true c.row-item.is (sym (c.passes.ensures (scope_of c.args.scope.now) c.args.commits c.args.touched.now c.loop-row.invariant.0) ∙ w.if-passes.true) in
             let left = first_left log_row_of xs c.loop-row.writes.items c.row-item.result (filter test (drop (c.loop-row.row-index + 1) c.args.rows.now)) (subst (IsDone log_row_of xs c.loop-row.writes.items) here (c.loop-row.invariant.1 xs ok e)) in
-            let one = answered w.in-Ok.write left.first (w.in-Ok.ensures.read left.first (all_has IsWriteWithin left.first xs ok left.has) left.row_is) in
-            let items = ap (λ v. v.items) w.writes-is ∙ w.in_ok-push-in-Ok.ensures.items ∙ ap (λ x. c.loop-row.writes.items ++ x ∷ []) one in
+            let one = answered w.in_ok-kept_row.field-0 left.first (row_read xs left.first c.row-item.result (Ok w.in_ok-kept_row.field-0) ok left.has left.row_is w.in_ok-kept_row.ensures.read) in
+            let items = ap (λ v. v.items) w.writes-is ∙ w.in_ok-push.ensures.items ∙ ap (λ x. c.loop-row.writes.items ++ x ∷ []) one in
             subst (λ done. IsDone log_row_of xs done (filter test (drop (c.loop-row.row-index + 1) c.args.rows.now))) (sym items) left.next)
         | else-passes w ↦
             (let here = left_here test c.args.rows.now c.loop-row.row-index c.row-item.result c.loop-row-test.true c.row-item.is (sym (c.passes.ensures (scope_of c.args.scope.now) c.args.commits c.args.touched.now c.loop-row.invariant.0) ∙ w.if-passes.false) in

@@ -1,6 +1,6 @@
 use Rattle.std.proofs.Common.{◌≡◌, List, drop, map}
 use Rattle.std.specs.List.{filter}
-use Rattle.mr_part.specs.declared.scope_logs.LoggedWrite.{LoggedWrite}
+use Rattle.mr_kept.specs.declared.kept_rows.KeptRow.{KeptRow}
 use Rattle.mr_part.specs.LogTests.{IsTestOf}
 use Rattle.mr_part.specs.ScopeOf.{scope_of}
 use Rattle.mr_part.specs.PickedLogs.{is_log_in, log_row_of, AreWritesWithin}
@@ -11,5 +11,5 @@ use Rattle.mr_part.proofs.scope_logs.writes_in.Given as goal
 abbrev pub invariant-loop-row : goal.invariant-loop-row
 invariant-loop-row l =
     IsTestOf l.test (scope_of l.scope) l.commits l.touched
-    × ((xs : List LoggedWrite) → AreWritesWithin xs → filter (is_log_in (scope_of l.scope) l.commits l.touched) l.rows ≡ map log_row_of xs
+    × ((xs : List KeptRow) → AreWritesWithin xs → filter (is_log_in (scope_of l.scope) l.commits l.touched) l.rows ≡ map log_row_of xs
     → IsDone log_row_of xs l.writes.items (filter (is_log_in (scope_of l.scope) l.commits l.touched) (drop l.row-index l.rows)))
