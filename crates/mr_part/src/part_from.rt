@@ -57,30 +57,18 @@ fn part_told(alloc: Global, scope: &Scope<'_>, tables: &Tables) -> Result<Part, 
     if !summary.is_within() {
         return Err(Refusal::Store);
     }
-    let touched = match touched_in(alloc, scope, tables) {
-        Ok(touched) => touched,
-        Err(refusal) => return Err(refusal),
-    };
-    let (kept, undo, marks) = match kept_in(alloc, scope, tables, &touched) {
-        Ok(kept) => kept,
-        Err(refusal) => return Err(refusal),
-    };
-    let board = match bookings_in(alloc, scope, tables, &touched, &kept) {
-        Ok(board) => board,
-        Err(refusal) => return Err(refusal),
-    };
-    match copies_of(alloc, &tables.room) {
-        Ok(rooms) => Ok(Part {
-            alloc,
-            summary,
-            rooms,
-            kept,
-            marks,
-            undo,
-            board,
-        }),
-        Err(refusal) => Err(refusal),
-    }
+    let touched = touched_in(alloc, scope, tables)?;
+    let (kept, undo, marks) = kept_in(alloc, scope, tables, &touched)?;
+    let board = bookings_in(alloc, scope, tables, &touched, &kept)?;
+    Ok(Part {
+        alloc,
+        summary,
+        rooms: copies_of(alloc, &tables.room)?,
+        kept,
+        marks,
+        undo,
+        board,
+    })
 }
 
 /// The rooms that the scope's batch touches.
