@@ -1,8 +1,6 @@
 -- What the rows in scope of tables tell, where they are those of a replica.
-use Rattle.std.proofs.Common.{◌≡◌, refl, sym, ap, ◌∙◌, subst, ℕ, ◌-◌, ◌<◌, ◌≤◌, Bool, true, false, not, cond, ◌&&◌, ◌||◌, ◌↔◌, List, [], ◌∷◌, ◌++◌, map, take, drop, length, arith, append_assoc, ltb-false}
-use Rattle.std.proofs.lemmas.Bool.{not-true, true≢false, ltb-true}
-use Rattle.std.proofs.lemmas.Bool.Decides.{nat_tests}
-use Rattle.std.specs.Prelude.{nat_lt, ◌==◌}
+use Rattle.std.proofs.Common.{◌≡◌, refl, sym, ap, ◌∙◌, subst, ℕ, ◌-◌, Bool, true, false, not, cond, ◌&&◌, ◌||◌, ◌↔◌, List, [], ◌∷◌, ◌++◌, map, take, drop, length, append_assoc}
+use Rattle.std.proofs.lemmas.Bool.{not-true, true≢false}
 use Rattle.std.specs.List.{AllByRecursion, filter}
 use Rattle.mr_model.specs.Texts.{Text, within}
 use Rattle.mr_model.specs.Writes.{Write, id_of, same_id}
@@ -19,7 +17,7 @@ use Rattle.mr_model.proofs.KeyOrder.{WriteBefore, by_id_sorted}
 use Rattle.mr_model.proofs.KnownById.{one_known, tentative_known}
 use Rattle.mr_model.proofs.DroppedApart.{kept_known, not_committed_kept}
 use Rattle.mr_model.proofs.LogOrder.{kept_is_the_log}
-use Rattle.mr_model.proofs.Members.{has_left, has_right, has_filter, filter_has, has_map, map_has, all_has, has_all, Sorted, sorted_filter, take_drop}
+use Rattle.mr_model.proofs.Members.{has_left, has_filter, filter_has, has_map, map_has, all_has, has_all, Sorted, sorted_filter, take_drop}
 use Rattle.mr_model.proofs.RowsById.{by_id_has}
 use Rattle.mr_part.specs.Parts.{kept_in}
 use Rattle.mr_tables.specs.Boards.{IsRowWithin, AreWithin, board_of}

@@ -1,9 +1,8 @@
-use Rattle.std.proofs.Common.{◌≡◌, ◌+◌, ◌-◌, ◌<◌, List, map, ap, sym, ◌∙◌, subst, length}
+use Rattle.std.proofs.Common.{◌≡◌, ◌+◌, ◌-◌, ◌<◌, List, ap, sym, ◌∙◌, subst, length}
 use Rattle.mr_model.specs.View.{place_of}
 use Rattle.mr_model.specs.Writes.{Write}
 use Rattle.mr_replay.specs.Rows.{Rows}
 use Rattle.mr_replay.specs.Trials.{Tried}
-use Rattle.mr_tables.specs.Cells.{place_row_of}
 use Rattle.mr_tables.specs.Rooms.{rooms_beside}
 use Rattle.mr_tables.specs.Written.{meta_of, changed_tallies, written}
 use Rattle.mr_kept.specs.RoomMoves.{ReplaysRooms, undone_at}
