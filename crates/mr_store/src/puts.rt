@@ -4,7 +4,7 @@ ghost use Rattle.mr_tables.specs.Change.{put, put_all, rows_without};
 ghost use Rattle.mr_tables.proofs.Putting.{InOrder};
 ghost use Rattle.mr_store.specs.RowsAround.{around, Precede};
 
-use crate::rows::{TableRow, WriteRow, copies_of, is_in_order, take_away};
+use crate::rows::{IdRow, TableRow, copies_of, is_in_order, take_away};
 use mr_base::WriteId;
 use std::alloc::{AllocError, Global};
 use std::cmp::Ordering;
@@ -89,7 +89,7 @@ pub(crate) fn put_rows<R: TableRow>(rows: &mut Vec<R>, puts: Puts<R>, is_ordered
 }
 
 /// Takes the rows of these writes away, and puts the others then.
-pub(crate) fn change_rows<R: WriteRow>(
+pub(crate) fn change_rows<R: IdRow>(
     rows: &mut Vec<R>,
     gone: &[WriteId],
     puts: Puts<R>,

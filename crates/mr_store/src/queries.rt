@@ -5,7 +5,7 @@ ghost use Rattle.mr_store.specs.Picked.{AreBookings, IsPlaceOf};
 
 use crate::days::{Days, days_asked};
 use crate::order::sort_bookings;
-use crate::rows::{DayRow, TableRow, WriteRow};
+use crate::rows::{DayRow, IdRow, TableRow};
 use mr_base::{Day, RoomName, WriteId};
 use mr_tables::{BookingRow, PlaceRow, Tables};
 use std::alloc::{AllocError, Global};
@@ -64,7 +64,7 @@ pub(crate) fn same_day(day: &Option<Day>) -> Option<Day>
 }
 
 /// Copies of the rows of a room.
-pub(crate) fn rows_in<R: WriteRow>(
+pub(crate) fn rows_in<R: IdRow>(
     alloc: Global,
     rows: &[R],
     room: &RoomName,
@@ -77,7 +77,7 @@ pub(crate) fn rows_in<R: WriteRow>(
 }
 
 /// Adds copies of the rows of a room.
-pub(crate) fn pick_rows<R: WriteRow>(
+pub(crate) fn pick_rows<R: IdRow>(
     alloc: Global,
     picked: &mut Vec<R>,
     rows: &[R],
@@ -117,7 +117,7 @@ pub(crate) fn place_of(
     }
 }
 
-pub(crate) fn row_of<R: WriteRow>(
+pub(crate) fn row_of<R: IdRow>(
     alloc: Global,
     rows: &[R],
     room: &RoomName,

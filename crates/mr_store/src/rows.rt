@@ -32,7 +32,7 @@ pub(crate) trait TableRow: Drop {
 }
 
 /// A row of a table that has rows of writes.
-pub(crate) trait WriteRow: TableRow {
+pub(crate) trait IdRow: TableRow {
     ghost id: { Self → Id };
 
     ghost room: { Self → Text };
@@ -47,7 +47,7 @@ pub(crate) trait WriteRow: TableRow {
 }
 
 /// A row of a table whose writes hold a slot, or held one.
-pub(crate) trait DayRow: WriteRow {
+pub(crate) trait DayRow: IdRow {
     ghost day: { Self → Date };
 
     /// Whether its slot is on one of the days.
@@ -74,7 +74,7 @@ pub(crate) fn is_in_order<R: TableRow>(rows: &[R]) -> bool
 }
 
 /// Takes the rows of these writes away, in one pass where there are any.
-pub(crate) fn take_away<R: WriteRow>(rows: &mut Vec<R>, gone: &[WriteId])
+pub(crate) fn take_away<R: IdRow>(rows: &mut Vec<R>, gone: &[WriteId])
     ensures items { rows.new.items ≡ rows_without R.id gone.now rows.old.items }
     ensures len { vec_len rows.new ≤ vec_len rows.old }
     ensures capacity { vec_capacity rows.new ≡ vec_capacity rows.old }
@@ -85,7 +85,7 @@ pub(crate) fn take_away<R: WriteRow>(rows: &mut Vec<R>, gone: &[WriteId])
     rows.retain(|row| !is_of_any(row, gone));
 }
 
-fn is_of_any<R: WriteRow>(row: &R, writes: &[WriteId]) -> bool
+fn is_of_any<R: IdRow>(row: &R, writes: &[WriteId]) -> bool
     ensures { result ≡ is_among (R.id row.now) writes.now }
 {
     for write in writes {

@@ -7,7 +7,7 @@ ghost use Rattle.mr_store.specs.RowsAround.{Precede};
 ghost use Rattle.mr_store.specs.Spliced.{spliced, Follow};
 
 use crate::puts::{change_rows, prepare, put_rows};
-use crate::rows::{TableRow, WriteRow};
+use crate::rows::{IdRow, TableRow};
 use mr_base::WriteId;
 use std::alloc::{AllocError, Global};
 
@@ -57,7 +57,7 @@ pub(crate) fn settle<R>(rows: &mut Vec<R>, fresh: &mut Fresh<R>) -> Result<(), A
 
 /// Takes the rows of these writes away, and puts the others then: at the place of the fresh rows where all of them belong there, else
 /// in the list. It answers whether the list is the same. After a failure the rows are of no use.
-pub(crate) fn change_spliced<R: WriteRow>(
+pub(crate) fn change_spliced<R: IdRow>(
     alloc: Global,
     rows: &mut Vec<R>,
     fresh: &mut Fresh<R>,
@@ -80,7 +80,7 @@ pub(crate) fn change_spliced<R: WriteRow>(
 }
 
 /// The same where there are no fresh rows: a place is chosen for them, where all belong to one.
-fn change_settled<R: WriteRow>(
+fn change_settled<R: IdRow>(
     alloc: Global,
     rows: &mut Vec<R>,
     fresh: &mut Fresh<R>,
@@ -128,7 +128,7 @@ pub(crate) fn put_list<R: TableRow>(
 }
 
 /// Takes the rows of these writes away from a list, and puts the others then.
-pub(crate) fn change_list<R: WriteRow>(
+pub(crate) fn change_list<R: IdRow>(
     alloc: Global,
     rows: &mut Vec<R>,
     gone: &[WriteId],

@@ -11,7 +11,7 @@ use crate::days::{Days, days_asked, days_of};
 use crate::fresh::FreshRows;
 use crate::marks::{Mark, pick_marked};
 use crate::queries::{pick_on, pick_rows, row_of, rows_on};
-use crate::rows::{WriteRow, copies_of};
+use crate::rows::{IdRow, copies_of};
 use crate::splice::Fresh;
 use mr_base::{Day, Meeting, RoomName, WriteId};
 use mr_tables::{BookingRow, PlaceRow, Tables};
@@ -58,7 +58,7 @@ fn bookings_in(
 
 /// Copies of the rows of a room.
 #[tactic(auto, using(crate::proofs::Splices::filter_spliced))]
-pub(crate) fn rows_in_spliced<R: WriteRow>(
+pub(crate) fn rows_in_spliced<R: IdRow>(
     alloc: Global,
     rows: &[R],
     fresh: &Fresh<R>,
@@ -77,7 +77,7 @@ pub(crate) fn rows_in_spliced<R: WriteRow>(
 
 /// A copy of the row of the write with this id, where it is of that room.
 #[tactic(auto, using(crate::proofs::Splices::found_front, crate::proofs::Splices::found_fresh, crate::proofs::Splices::found_behind))]
-fn row_of_spliced<R: WriteRow>(
+fn row_of_spliced<R: IdRow>(
     alloc: Global,
     rows: &[R],
     fresh: &Fresh<R>,

@@ -7,7 +7,7 @@ ghost use Rattle.mr_tables.specs.Change.{id_before};
 ghost use Rattle.mr_tables.proofs.Putting.{name_order, number_order, id_order};
 
 use crate::days::{Days, is_one_of};
-use crate::rows::{DayRow, TableRow, WriteRow};
+use crate::rows::{DayRow, IdRow, TableRow};
 use mr_base::{RoomName, ServerId, WriteId};
 use mr_tables::{BookingRow, CancelRow, CancelledRow, ErrorRow, LogRow, VectorRow};
 use std::alloc::{AllocError, Global};
@@ -72,7 +72,7 @@ impl TableRow for LogRow {
     }
 }
 
-impl WriteRow for LogRow {
+impl IdRow for LogRow {
     ghost id = { log_id };
 
     ghost room = { λ row. row.room };
@@ -107,7 +107,7 @@ impl TableRow for BookingRow {
     }
 }
 
-impl WriteRow for BookingRow {
+impl IdRow for BookingRow {
     ghost id = { booking_id };
 
     ghost room = { λ row. row.room };
@@ -150,7 +150,7 @@ impl TableRow for ErrorRow {
     }
 }
 
-impl WriteRow for ErrorRow {
+impl IdRow for ErrorRow {
     ghost id = { error_id };
 
     ghost room = { λ row. row.room };
@@ -185,7 +185,7 @@ impl TableRow for CancelledRow {
     }
 }
 
-impl WriteRow for CancelledRow {
+impl IdRow for CancelledRow {
     ghost id = { cancelled_id };
 
     ghost room = { λ row. row.room };
@@ -228,7 +228,7 @@ impl TableRow for CancelRow {
     }
 }
 
-impl WriteRow for CancelRow {
+impl IdRow for CancelRow {
     ghost id = { cancel_id };
 
     ghost room = { λ row. row.room };

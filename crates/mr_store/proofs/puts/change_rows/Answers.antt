@@ -9,4 +9,4 @@ put_rows-requires-clause-order g c = λ e.
     let before = g.R.TableRow.before in
     let key = g.R.TableRow.key in
     subst (InOrder before key) (sym c.take_away.ensures.items)
-    (sorted_filter (λ x y. before (key x) (key y) ≡ true) (λ row. not (is_among (g.R.WriteRow.id row) c.args.gone.now)) c.args.rows.now.items (c.requires.order e))
+    (sorted_filter (λ x y. before (key x) (key y) ≡ true) (λ row. not (is_among (g.R.IdRow.id row) c.args.gone.now)) c.args.rows.now.items (c.requires.order e))

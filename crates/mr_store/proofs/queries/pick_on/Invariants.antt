@@ -5,4 +5,4 @@ use Rattle.mr_store.proofs.queries.pick_on.Given as goal
 
 abbrev pub invariant-loop-row : goal.invariant-loop-row
 invariant-loop-row g l =
-    l.picked.items ≡ l.fn.picked.items ++ filter (λ r. bytes_eq (g.R.WriteRow.room r) l.room && is_on_days l.days (g.R.DayRow.day r)) (take l.row-index l.rows)
+    l.picked.items ≡ l.fn.picked.items ++ filter (λ r. bytes_eq (g.R.IdRow.room r) l.room && is_on_days l.days (g.R.DayRow.day r)) (take l.row-index l.rows)

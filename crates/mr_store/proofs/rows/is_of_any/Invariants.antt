@@ -4,4 +4,4 @@ use Rattle.mr_store.proofs.rows.is_of_any.Given as goal
 
 -- whether the row is of any is what the writes that are left say
 abbrev pub invariant-loop-write : goal.invariant-loop-write
-invariant-loop-write g l = is_among (g.R.WriteRow.id l.row) l.writes ≡ is_among (g.R.WriteRow.id l.row) (drop l.write-index l.writes)
+invariant-loop-write g l = is_among (g.R.IdRow.id l.row) l.writes ≡ is_among (g.R.IdRow.id l.row) (drop l.write-index l.writes)

@@ -13,7 +13,7 @@ without_none key (id ∷ ids) rows none = absurd (omega (arith, none))
 pub returns-then-is_empty-clause-items : goal.returns-then-is_empty-clause-items
 returns-then-is_empty-clause-items g c =
     let none : length c.args.gone.now ≡ 0 = grind arith in
-    without_none g.R.WriteRow.id c.args.gone.now c.args.rows.now.items none
+    without_none g.R.IdRow.id c.args.gone.now c.args.rows.now.items none
 
 pub returns-clause-items : goal.returns-clause-items
 returns-clause-items g c = filter_same _ _ _ (λ x b f' k. search rules) _ _ c.retain.ensures.filtered

@@ -9,7 +9,7 @@ pub returns : goal.returns
 returns g c =
     let before = g.R.TableRow.before in
     let key = g.R.TableRow.key in
-    let id = g.R.WriteRow.id in
+    let id = g.R.IdRow.id in
     let rows = c.args.rows.now.items in
     let gone = c.args.gone.now in
     c.change_rows.ensures

@@ -15,7 +15,7 @@ returns-then-takes-clause-changed g c =
     let none : length c.args.gone.now ≡ 0 = grind arith in
     ap (spliced rows c.place_for-fresh.result) c.in_ok-put_list.ensures
     ∙ c.takes.ensures c.if-takes.true
-    ∙ ap (put_all g.R.TableRow.before g.R.TableRow.key c.args.news.now) (spliced_none rows c.args.fresh.now.rows.items c.place_for-fresh.result c.requires.none ∙ sym (without_none g.R.WriteRow.id c.args.gone.now rows none))
+    ∙ ap (put_all g.R.TableRow.before g.R.TableRow.key c.args.news.now) (spliced_none rows c.args.fresh.now.rows.items c.place_for-fresh.result c.requires.none ∙ sym (without_none g.R.IdRow.id c.args.gone.now rows none))
 
 pub returns-clause-changed : goal.returns-clause-changed
 returns-clause-changed g c = spliced_none _ _ _ c.requires.none ∙ c.in_ok-change_list.ensures

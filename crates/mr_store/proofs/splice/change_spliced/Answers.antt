@@ -14,4 +14,4 @@ returns-then-takes-clause-changed g c =
     let none : length c.args.gone.now ≡ 0 = grind arith in
     ap (spliced rows fresh.at) c.in_ok-put_list.ensures
     ∙ c.takes.ensures c.if-takes.true
-    ∙ ap (put_all g.R.TableRow.before g.R.TableRow.key c.args.news.now) (sym (without_none g.R.WriteRow.id c.args.gone.now (spliced rows fresh.at fresh.rows.items) none))
+    ∙ ap (put_all g.R.TableRow.before g.R.TableRow.key c.args.news.now) (sym (without_none g.R.IdRow.id c.args.gone.now (spliced rows fresh.at fresh.rows.items) none))
