@@ -1,5 +1,13 @@
-ghost use Rattle.std.specs.Prelude.{◌≡◌, ◌-◌, ◌==◌, false, not, ◌||◌, ◌&&◌};
-ghost use Rattle.mr_store.specs.KeeperCalls.{failures_for};
+ghost use Rattle.std.specs.Prelude.{◌≡◌, ◌-◌, false, ◌||◌, IfOk};
+ghost use Rattle.std.specs.List.Sorted.{IsPermutation};
+ghost use Rattle.mr_model.specs.Replica.{Replica};
+ghost use Rattle.mr_model.specs.Tables.{Stands};
+ghost use Rattle.mr_tables.specs.Summary.{IsWithin};
+ghost use Rattle.mr_kept.specs.Desk.{StandsFor, IsWithinLimits};
+ghost use Rattle.mr_part.specs.Parts.{IsPartOf};
+ghost use Rattle.mr_part.specs.ScopeOf.{scope_of};
+ghost use Rattle.mr_store.specs.Picked.{picked_errors, picked_cancelled, picked_cancels, AreBookings, IsPlaceOf};
+ghost use Rattle.mr_store.specs.Trips.{is_due, IsTripped, IsQuietAt, IsAtomicAt};
 
 use crate::{Fault, Keeper};
 use mr_base::{Day, RoomName, WriteId};
@@ -32,7 +40,7 @@ impl<K: Keeper> Tripped<K> {
 
     /// Whether this is the call that fails.
     fn trips(&mut self) -> bool
-        ensures at { result ≡ (not self.old.is_over && self.old.left == 0) }
+        ensures at { result ≡ is_due self.old }
         ensures once { self.new.is_over ≡ (self.old.is_over || result) }
         ensures left { self.new.left ≡ self.old.left - 1 }
         ensures same { (self.new.keeper ≡ self.old.keeper) × (self.new.fault ≡ self.old.fault) }
@@ -60,70 +68,111 @@ impl<K: Keeper> Keeper for Tripped<K> {
 
     ghost never_fails = { ⊥ };
 
-    fn load(&mut self) -> Result<Desk, Fault> {
+    fn load(&mut self) -> Result<Desk, Fault>
+        ensures quiet { IsQuietAt ⟦<Tripped<K> as Keeper>⟧ self.old self.new result }
+        ensures loaded { K.is_clean self.new.keeper → K.is_open self.old.keeper → (a : Replica) → Stands (K.tables self.old.keeper) a → IfOk result (λ desk. StandsFor desk a) }
+        ensures within { IfOk result IsWithinLimits }
+        ensures trips { IsTripped self.old self.new result }
+    {
         if self.trips() {
             return Err(self.fault);
         }
         self.keeper.load()
     }
 
-    fn load_part(&mut self, scope: &Scope<'_>) -> Result<Part, Fault> {
+    fn load_part(&mut self, scope: &Scope<'_>) -> Result<Part, Fault>
+        ensures quiet { IsQuietAt ⟦<Tripped<K> as Keeper>⟧ self.old self.new result }
+        ensures loaded { K.is_clean self.new.keeper → K.is_open self.old.keeper → (a : Replica) → Stands (K.tables self.old.keeper) a → IfOk result (λ part. IsPartOf part (scope_of scope.now) a) }
+        ensures within { IfOk result (λ part. IsWithin part.summary) }
+        ensures trips { IsTripped self.old self.new result }
+    {
         if self.trips() {
             return Err(self.fault);
         }
         self.keeper.load_part(scope)
     }
 
-    fn rooms(&mut self) -> Result<Vec<RoomName>, Fault> {
+    fn rooms(&mut self) -> Result<Vec<RoomName>, Fault>
+        ensures quiet { IsQuietAt ⟦<Tripped<K> as Keeper>⟧ self.old self.new result }
+        ensures rooms { K.is_clean self.new.keeper → K.is_open self.old.keeper → IfOk result (λ rooms. IsPermutation (K.tables self.old.keeper).room rooms.items) }
+        ensures trips { IsTripped self.old self.new result }
+    {
         if self.trips() {
             return Err(self.fault);
         }
         self.keeper.rooms()
     }
 
-    fn bookings(&mut self, room: &RoomName, day: Option<Day>) -> Result<Vec<BookingRow>, Fault> {
+    fn bookings(&mut self, room: &RoomName, day: Option<Day>) -> Result<Vec<BookingRow>, Fault>
+        ensures quiet { IsQuietAt ⟦<Tripped<K> as Keeper>⟧ self.old self.new result }
+        ensures bookings { K.is_clean self.new.keeper → K.is_open self.old.keeper → IfOk result (λ rows. AreBookings room.now day (K.tables self.old.keeper) rows.items) }
+        ensures trips { IsTripped self.old self.new result }
+    {
         if self.trips() {
             return Err(self.fault);
         }
         self.keeper.bookings(room, day)
     }
 
-    fn place_of(&mut self, room: &RoomName, id: WriteId) -> Result<Option<PlaceRow>, Fault> {
+    fn place_of(&mut self, room: &RoomName, id: WriteId) -> Result<Option<PlaceRow>, Fault>
+        ensures quiet { IsQuietAt ⟦<Tripped<K> as Keeper>⟧ self.old self.new result }
+        ensures place { K.is_clean self.new.keeper → K.is_open self.old.keeper → IfOk result (λ row. IsPlaceOf room.now id (K.tables self.old.keeper) row) }
+        ensures trips { IsTripped self.old self.new result }
+    {
         if self.trips() {
             return Err(self.fault);
         }
         self.keeper.place_of(room, id)
     }
 
-    fn errors(&mut self, room: &RoomName) -> Result<Vec<ErrorRow>, Fault> {
+    fn errors(&mut self, room: &RoomName) -> Result<Vec<ErrorRow>, Fault>
+        ensures quiet { IsQuietAt ⟦<Tripped<K> as Keeper>⟧ self.old self.new result }
+        ensures errors { K.is_clean self.new.keeper → K.is_open self.old.keeper → IfOk result (λ rows. IsPermutation (picked_errors room.now (K.tables self.old.keeper)) rows.items) }
+        ensures trips { IsTripped self.old self.new result }
+    {
         if self.trips() {
             return Err(self.fault);
         }
         self.keeper.errors(room)
     }
 
-    fn cancelled(&mut self, room: &RoomName) -> Result<Vec<CancelledRow>, Fault> {
+    fn cancelled(&mut self, room: &RoomName) -> Result<Vec<CancelledRow>, Fault>
+        ensures quiet { IsQuietAt ⟦<Tripped<K> as Keeper>⟧ self.old self.new result }
+        ensures cancelled { K.is_clean self.new.keeper → K.is_open self.old.keeper → IfOk result (λ rows. IsPermutation (picked_cancelled room.now (K.tables self.old.keeper)) rows.items) }
+        ensures trips { IsTripped self.old self.new result }
+    {
         if self.trips() {
             return Err(self.fault);
         }
         self.keeper.cancelled(room)
     }
 
-    fn cancels(&mut self, room: &RoomName) -> Result<Vec<CancelRow>, Fault> {
+    fn cancels(&mut self, room: &RoomName) -> Result<Vec<CancelRow>, Fault>
+        ensures quiet { IsQuietAt ⟦<Tripped<K> as Keeper>⟧ self.old self.new result }
+        ensures cancels { K.is_clean self.new.keeper → K.is_open self.old.keeper → IfOk result (λ rows. IsPermutation (picked_cancels room.now (K.tables self.old.keeper)) rows.items) }
+        ensures trips { IsTripped self.old self.new result }
+    {
         if self.trips() {
             return Err(self.fault);
         }
         self.keeper.cancels(room)
     }
 
-    fn read(&mut self) -> Result<Tables, Fault> {
+    fn read(&mut self) -> Result<Tables, Fault>
+        ensures quiet { IsQuietAt ⟦<Tripped<K> as Keeper>⟧ self.old self.new result }
+        ensures rows { K.is_clean self.new.keeper → K.is_open self.old.keeper → IfOk result (λ rows. rows ≡ K.tables self.old.keeper) }
+        ensures trips { IsTripped self.old self.new result }
+    {
         if self.trips() {
             return Err(self.fault);
         }
         self.keeper.read()
     }
 
-    fn apply(&mut self, change: &Change) -> Result<(), Fault> {
+    fn apply(&mut self, change: &Change) -> Result<(), Fault>
+        ensures atomic { IsAtomicAt ⟦<Tripped<K> as Keeper>⟧ change.now self.old self.new result }
+        ensures trips { IsTripped self.old self.new result }
+    {
         if self.trips() {
             return Err(self.fault);
         }
