@@ -1,9 +1,9 @@
 -- The words of a submission, read one after the other, give the request that they make, or the smallest fault.
-use Rattle.std.proofs.Common.{◌≡◌, refl, sym, ap, ◌∙◌, subst, ℕ, ◌<◌, Bool, true, false, not, cond, ◌||◌, ◌&&◌, ltb, leb, List, [], ◌∷◌, length, map, get_or, Option, Some, None, is_none, inl, inr, arith, Result, Ok, Err, le-leb, ltb-true}
+use Rattle.std.proofs.Common.{◌≡◌, refl, sym, ap, ◌∙◌, subst, ℕ, ◌+◌, ◌<◌, max, Bool, true, false, not, cond, ◌||◌, ◌&&◌, ltb, leb, List, [], ◌∷◌, length, map, get_or, Option, Some, None, is_none, inl, inr, arith, Result, Ok, Err, le-leb, leb-true, leb-false, le-ltb, lt-ltb, ltb-true}
 use Rattle.std.proofs.lemmas.Bool.{true≢false, false_from_ne_true, and_parts, or_parts}
 use Rattle.std.proofs.lemmas.List.{length-map}
 use Rattle.std.proofs.lemmas.List.Folds.{list_any_at}
-use Rattle.std.specs.Prelude.{ok_or, is_err, decimal}
+use Rattle.std.specs.Prelude.{ok_or, is_err, decimal, option_and_then}
 use Rattle.std.specs.List.{list_any, list_all}
 use Rattle.std.specs.Str.{bytes_eq}
 use Rattle.mr_model.specs.Texts.{Text, within, number_in, only_if}
@@ -14,13 +14,14 @@ use Rattle.mr_model.specs.Refusals as model
 use Rattle.mr_model.specs.Step.{SlotWords, Submission, choice_words, slot_of, is_length_text, is_bad_length}
 use Rattle.mr_model.specs.Requests.{Request, is_length_for}
 use Rattle.mr_model.proofs.UniqueReplay.{some_inj, none_some}
+use Rattle.mr_model.proofs.StepsKeep.{none_apply}
 use Rattle.mr_base.specs.Answers.{OrOutOfMemory, Gives, unless_faulty, ok_if}
 use Rattle.mr_base.specs.RefusalViews.{answer_of}
 use Rattle.mr_base.specs.Limits as base
 use Rattle.mr_base.specs.declared.refusals.Refusal.{Refusal}
 use Rattle.mr_base.specs.declared.refusals.Refusal.TheVariants.{BadDay, BadTime, BadLength, BadRoomName, BadTitle, TooManyAlternatives}
-use Rattle.mr_kept.specs.Steps.{request_in}
-use Rattle.mr_service.specs.SubmittedWords.{lacks_day, lacks_time, ok_unless, slots_in, request_or_fault}
+use Rattle.mr_kept.specs.Steps.{word_faults, request_in}
+use Rattle.mr_service.specs.SubmittedWords.{lacks_day, lacks_time, latest_from, latest_start, ok_unless, request_or_fault}
 
 -- ---- one word
 
@@ -88,53 +89,61 @@ slot_value w s h = go (lacks_day w) (lacks_time w) h
 
 -- ---- the choices
 
--- the choices, where this says whether some day, and some time, can't be read
-abbrev pub chosen_if : Submission → Bool → Bool → Result (Slot × List Slot) model.Refusal
-chosen_if s a b = ok_unless (model.first_refusal ((a, model.BadDay) ∷ (b, model.BadTime) ∷ [])) (slot_of s.wish, map slot_of s.alternatives)
-
 -- a test of images
 pub any-map : {A B : Type 0} (p : B → Bool) (f : A → B) (xs : List A) → list_any (λ x. p (f x)) xs ≡ list_any p (map f xs)
 any-map p f [] = refl
 any-map p f (x ∷ xs) = ap (λ b. p (f x) || b) (any-map p f xs)
 
--- the choices, where each has both
-pub choices_in : (s : Submission) (choices : Slot × List Slot) → list_any lacks_day (choice_words s) ≡ false → list_any lacks_time (choice_words s) ≡ false → choices.0 ≡ slot_of s.wish → choices.1 ≡ map slot_of s.alternatives → slots_in s ≡ Ok choices
-choices_in s choices d t w o = (λ i. chosen_if s (d i) (t i)) ∙ (λ i. Ok (sym w i, sym o i))
+-- ---- the faults
 
--- ---- the request
-
--- where the choices are refused, so is the request
-pub choices_refused : (s : Submission) (e : model.Refusal) → slots_in s ≡ Err e → request_or_fault s ≡ Err e
-choices_refused s e h = go (list_any lacks_day (choice_words s)) (list_any lacks_time (choice_words s)) h
+-- the latest of some starts is told just where each time can be read
+pub starts_read : (m : ℕ) (cs : List SlotWords) → is_none (latest_from m cs) ≡ list_any lacks_time cs
+starts_read m [] = refl
+starts_read m (c ∷ cs) = go (read_time c.time) (λ k. starts_read k cs)
   where
-    rest : List (Bool × model.Refusal)
-    rest =
-        (is_bad_length s, model.BadLength) ∷ (not (is_room_name s.room), model.BadRoomName) ∷ (not (is_title s.title), model.BadTitle)
-        ∷ (ltb greatest_alternatives (length s.alternatives), model.TooManyAlternatives) ∷ []
+    go : (o : Option ℕ) → ((k : ℕ) → is_none (latest_from k cs) ≡ list_any lacks_time cs) → is_none (option_and_then (λ start. latest_from (max m start) cs) o) ≡ (is_none o || list_any lacks_time cs)
+    go None each = refl
+    go (Some start) each = each (max m start)
 
-    go : (a b : Bool) → chosen_if s a b ≡ Err e → ok_unless (model.first_refusal ((a, model.BadDay) ∷ (b, model.BadTime) ∷ rest)) (request_in s) ≡ Err e
-    go true b k = let g : ◌≡◌ {A = Result (Slot × List Slot) model.Refusal} (Err model.BadDay) (Err e) = k in cc
-    go false true k = let g : ◌≡◌ {A = Result (Slot × List Slot) model.Refusal} (Err model.BadTime) (Err e) = k in cc
-    go false false k = absurd (let g : chosen_if s false false ≡ Err e = k in cc)
+-- what is the one and not the other
+turned : (a b : Bool) → (a && not b) ≡ not (not a || b)
+turned true b = refl
+turned false b = refl
 
--- what is known where they aren't
-pub record Chosen (s : Submission) (choices : Slot × List Slot) : Type 0 where
-  pub days : list_any lacks_day (choice_words s) ≡ false
-  pub times : list_any lacks_time (choice_words s) ≡ false
-  pub wish : choices.0 ≡ slot_of s.wish
-  pub alternatives : choices.1 ≡ map slot_of s.alternatives
-
--- choices that are read are those of the words, at no fault
-pub choices_known : (s : Submission) (choices : Slot × List Slot) → slots_in s ≡ Ok choices → Chosen s choices
-choices_known s choices h = go (list_any lacks_day (choice_words s)) refl (list_any lacks_time (choice_words s)) refl h
+-- what begins at the later of two minutes ends in its day where both do
+later_fits : (a b n : ℕ) (rest : Bool) → (leb (max a b + n) 1440 && not rest) ≡ (leb (a + n) 1440 && not (not (leb (b + n) 1440) || rest))
+later_fits a b n rest = go (leb (a + n) 1440) refl (leb (b + n) 1440) refl
   where
-    go : (a : Bool) → list_any lacks_day (choice_words s) ≡ a → (b : Bool) → list_any lacks_time (choice_words s) ≡ b → chosen_if s a b ≡ Ok choices → Chosen s choices
-    go true d b t k = absurd (let g : ◌≡◌ {A = Result (Slot × List Slot) model.Refusal} (Err model.BadDay) (Ok choices) = k in cc)
-    go false d true t k = absurd (let g : ◌≡◌ {A = Result (Slot × List Slot) model.Refusal} (Err model.BadTime) (Ok choices) = k in cc)
-    go false d false t k =
-        let own : Slot × List Slot = (slot_of s.wish, map slot_of s.alternatives) in
-        let same : own ≡ choices = (let g : chosen_if s false false ≡ Ok choices = k in cc) in
-        record { days = d; times = t; wish = ap (λ c. c.0) (sym same); alternatives = ap (λ c. c.1) (sym same) }
+    go : (x : Bool) → leb (a + n) 1440 ≡ x → (y : Bool) → leb (b + n) 1440 ≡ y → (leb (max a b + n) 1440 && not rest) ≡ (x && not (not y || rest))
+    go true ex true ey = ap (λ z. z && not rest) (le-leb (max a b + n) 1440 (omega (arith, leb-true (a + n) 1440 ex, leb-true (b + n) 1440 ey)))
+    go true ex false ey = ap (λ z. z && not rest) (false_from_ne_true (leb (max a b + n) 1440) (λ h. true≢false (sym (le-leb (b + n) 1440 (omega (arith, leb-true (max a b + n) 1440 h))) ∙ ey)))
+    go false ex y ey = ap (λ z. z && not rest) (false_from_ne_true (leb (max a b + n) 1440) (λ h. true≢false (sym (le-leb (a + n) 1440 (omega (arith, leb-true (max a b + n) 1440 h))) ∙ ex)))
+
+-- a length ends in its day from the latest of some starts where it does from each
+latest_fits : (m n k : ℕ) (cs : List SlotWords) → latest_from m cs ≡ Some k → leb (k + n) 1440 ≡ (leb (m + n) 1440 && not (list_any (λ c. not (fits_day n (slot_of c))) cs))
+latest_fits m n k [] h = ap (λ x. leb (x + n) 1440) (some_inj k m (sym h)) ∙ alone (leb (m + n) 1440)
+  where
+    alone : (b : Bool) → b ≡ (b && true)
+    alone true = refl
+    alone false = refl
+latest_fits m n k (c ∷ cs) h = go (ltb (time_in c.time) 1440 && bytes_eq (time_text (time_in c.time)) c.time) h (latest_fits (max m (time_in c.time)) n k cs)
+  where
+    late : Bool
+    late = list_any (λ c. not (fits_day n (slot_of c))) cs
+
+    go : (b : Bool) → option_and_then (λ start. latest_from (max m start) cs) (cond b (Some (time_in c.time)) None) ≡ Some k
+        → (latest_from (max m (time_in c.time)) cs ≡ Some k → leb (k + n) 1440 ≡ (leb (max m (time_in c.time) + n) 1440 && not late))
+        → leb (k + n) 1440 ≡ (leb (m + n) 1440 && not (not (leb (time_in c.time + n) 1440) || late))
+    go true e rest = rest e ∙ later_fits m (time_in c.time) n late
+    go false e rest = absurd (none_some k e)
+
+-- so it does from that of all choices
+start_fits : (s : Submission) (n k : ℕ) → latest_start s ≡ Some k → leb (k + n) 1440 ≡ not (list_any (λ c. not (fits_day n (slot_of c))) (choice_words s))
+start_fits s n k h = go (ltb (time_in s.wish.time) 1440 && bytes_eq (time_text (time_in s.wish.time)) s.wish.time) h
+  where
+    go : (b : Bool) → option_and_then (λ start. latest_from start s.alternatives) (cond b (Some (time_in s.wish.time)) None) ≡ Some k → leb (k + n) 1440 ≡ not (list_any (λ c. not (fits_day n (slot_of c))) (choice_words s))
+    go true e = latest_fits (time_in s.wish.time) n k s.alternatives e ∙ turned (leb (time_in s.wish.time + n) 1440) (list_any (λ c. not (fits_day n (slot_of c))) s.alternatives)
+    go false e = absurd (none_some k e)
 
 -- the length is a number from 1 to 1440, written without leading zeros
 pub length_known : (t : Text) (n : ℕ) → only_if (within 1 1440 (number_in t) && bytes_eq (decimal (number_in t)) t) (number_in t) ≡ Some n → (is_length_text t ≡ true) × (n ≡ number_in t)
@@ -152,20 +161,46 @@ length_lacking t h = go (within 1 1440 (number_in t) && bytes_eq (decimal (numbe
     go true e k = absurd (none_some (number_in t) (sym k))
     go false e k = e
 
--- the faults that are left, where this says whether the length is bad
-abbrev pub made_if : Submission → Bool → Bool → Bool → Result Request model.Refusal
-made_if s d t l =
-    ok_unless
-    (model.first_refusal
-    ((d, model.BadDay) ∷ (t, model.BadTime) ∷ (l, model.BadLength) ∷ (not (is_room_name s.room), model.BadRoomName)
-    ∷ (not (is_title s.title), model.BadTitle) ∷ (ltb greatest_alternatives (length s.alternatives), model.TooManyAlternatives) ∷ [])) (request_in s)
-
 -- a length that isn't read is a bad one
-pub length_refused : (s : Submission) (choices : Slot × List Slot) → slots_in s ≡ Ok choices → only_if (within 1 1440 (number_in s.length) && bytes_eq (decimal (number_in s.length)) s.length) (number_in s.length) ≡ None → request_or_fault s ≡ Err model.BadLength
-length_refused s choices h n =
-    let k = choices_known s choices h in
-    let bad : is_bad_length s ≡ true = ap (λ b. not b || list_any (λ c. not (fits_day (number_in s.length) (slot_of c))) (choice_words s)) (length_lacking s.length n) in
-    λ i. made_if s (k.days i) (k.times i) (bad i)
+pub length_none : (s : Submission) → only_if (within 1 1440 (number_in s.length) && bytes_eq (decimal (number_in s.length)) s.length) (number_in s.length) ≡ None → true ≡ is_bad_length s
+length_none s h = ap (λ b. not b || list_any (λ c. not (fits_day (number_in s.length) (slot_of c))) (choice_words s)) (sym (length_lacking s.length h))
+
+-- not twice
+twice : (b : Bool) → not (not b) ≡ b
+twice true = refl
+twice false = refl
+
+-- one that is read is bad just where it doesn't end in the day of the latest start
+pub length_bad : (s : Submission) (latest n : ℕ) → latest_start s ≡ Some latest → only_if (within 1 1440 (number_in s.length) && bytes_eq (decimal (number_in s.length)) s.length) (number_in s.length) ≡ Some n → ltb 1440 (latest + n) ≡ is_bad_length s
+length_bad s latest n h l =
+    let known = length_known s.length n l in
+    over (latest + n) (leb (latest + n) 1440) refl
+    ∙ ap not (start_fits s n latest h)
+    ∙ twice (late n)
+    ∙ (λ i. not (sym known.0 i) || late (known.1 i))
+  where
+    late : ℕ → Bool
+    late k = list_any (λ c. not (fits_day k (slot_of c))) (choice_words s)
+
+    over : (x : ℕ) (b : Bool) → leb x 1440 ≡ b → ltb 1440 x ≡ not b
+    over x true e = le-ltb 1440 x (leb-true x 1440 e)
+    over x false e = lt-ltb 1440 x (leb-false x 1440 e)
+
+-- ---- the request
+
+-- what is known of words without a fault
+pub record Faultless (s : Submission) : Type 0 where
+  pub days : list_any lacks_day (choice_words s) ≡ false
+  pub times : list_any lacks_time (choice_words s) ≡ false
+  pub minutes : is_bad_length s ≡ false
+  pub room : not (is_room_name s.room) ≡ false
+  pub title : not (is_title s.title) ≡ false
+  pub count : ltb greatest_alternatives (length s.alternatives) ≡ false
+
+pub faultless : (s : Submission) → model.first_refusal (word_faults s) ≡ None → Faultless s
+faultless s none =
+    let all = none_apply (word_faults s) none in
+    record { days = all.0; times = all.1.0; minutes = all.1.1.0; room = all.1.1.1.0; title = all.1.1.1.1.0; count = all.1.1.1.1.1.0 }
 
 -- each choice that is read lies in its day
 slots_there : (ws : List SlotWords) → list_any lacks_day ws ≡ false → list_any lacks_time ws ≡ false → (n : ℕ) → list_all (λ s. is_slot s && fits_day n s) (map slot_of ws) ≡ not (list_any (λ c. not (fits_day n (slot_of c))) ws)
@@ -182,21 +217,12 @@ slots_there (w ∷ ws) d t n =
     some_if true b x h = refl
     some_if false b x h = absurd (true≢false h)
 
-    turned : (a b : Bool) → (a && not b) ≡ not (not a || b)
-    turned true b = refl
-    turned false b = refl
-
 -- the test of the length of a request is that of the words
-length-same : (s : Submission) (n : ℕ) → Chosen s (slot_of s.wish, map slot_of s.alternatives) → is_length_text s.length ≡ true → n ≡ number_in s.length → not (is_length_for n (slot_of s.wish ∷ map slot_of s.alternatives)) ≡ is_bad_length s
-length-same s n k ok e =
-    ap (λ m. not (is_length_for m (slot_of s.wish ∷ map slot_of s.alternatives))) e
-    ∙ (λ i. not ((and_parts (is_length (number_in s.length)) (bytes_eq (decimal (number_in s.length)) s.length) ok).0 i && slots_there (choice_words s) k.days k.times (number_in s.length) i))
+length-same : (s : Submission) → list_any lacks_day (choice_words s) ≡ false → list_any lacks_time (choice_words s) ≡ false → is_length_text s.length ≡ true → not (is_length_for (number_in s.length) (slot_of s.wish ∷ map slot_of s.alternatives)) ≡ is_bad_length s
+length-same s days times ok =
+    (λ i. not ((and_parts (is_length (number_in s.length)) (bytes_eq (decimal (number_in s.length)) s.length) ok).0 i && slots_there (choice_words s) days times (number_in s.length) i))
     ∙ twice (list_any (λ c. not (fits_day (number_in s.length) (slot_of c))) (choice_words s))
     ∙ ap (λ b. not b || list_any (λ c. not (fits_day (number_in s.length) (slot_of c))) (choice_words s)) (sym ok)
-  where
-    twice : (b : Bool) → not (not b) ≡ b
-    twice true = refl
-    twice false = refl
 
 -- an answer of the program as one of the definitions
 gives : {T : Type 0} (result exact : Result T Refusal) → OrOutOfMemory result exact → Gives result (answer_of exact)
@@ -204,35 +230,21 @@ gives (Ok x) exact h = ap answer_of h
 gives (Err e) exact (inl h) = inl (ap answer_of h)
 gives (Err e) exact (inr h) = inr h
 
--- where choices and length are read, the request is that of the words, or refused for its smallest fault
-pub request_made : (s : Submission) (choices : Slot × List Slot) (n : ℕ) (result : Result Request Refusal) → slots_in s ≡ Ok choices → only_if (within 1 1440 (number_in s.length) && bytes_eq (decimal (number_in s.length)) s.length) (number_in s.length) ≡ Some n → OrOutOfMemory result (base.request_of s.room s.title n choices.0 choices.1) → Gives result (request_or_fault s)
-request_made s choices n result h l made = subst (Gives result) whole (gives result (base.request_of s.room s.title n choices.0 choices.1) made)
+-- words without a fault, with their length and slots read, are the request that is made of them
+pub request_made : (s : Submission) (wish : Slot) (alternatives : List Slot) (n : ℕ) (result : Result Request Refusal) → model.first_refusal (word_faults s) ≡ None → wish ≡ slot_of s.wish → alternatives ≡ map slot_of s.alternatives → only_if (within 1 1440 (number_in s.length) && bytes_eq (decimal (number_in s.length)) s.length) (number_in s.length) ≡ Some n → OrOutOfMemory result (base.request_of s.room s.title n wish alternatives) → Gives result (request_or_fault s)
+request_made s wish alternatives n result none own others l made =
+    subst (Gives result) (sym (ap (λ (o : Option model.Refusal). ok_unless o (request_in s)) none)) (gives result (Ok (request_in s)) (subst (OrOutOfMemory result) (plain ∙ whole) made))
   where
-    k : Chosen s choices
-    k = choices_known s choices h
-
     number : (is_length_text s.length ≡ true) × (n ≡ number_in s.length)
     number = length_known s.length n l
 
-    own : Chosen s (slot_of s.wish, map slot_of s.alternatives)
-    own = record { days = k.days; times = k.times; wish = refl; alternatives = refl }
-
-    answered : (a b c d : Bool) (q : Request) → answer_of (unless_faulty ((a, BadLength) ∷ (b, BadRoomName) ∷ (c, BadTitle) ∷ (d, TooManyAlternatives) ∷ []) q) ≡ ok_unless (model.first_refusal ((a, model.BadLength) ∷ (b, model.BadRoomName) ∷ (c, model.BadTitle) ∷ (d, model.TooManyAlternatives) ∷ [])) q
-    answered true b c d q = refl
-    answered false true c d q = refl
-    answered false false true d q = refl
-    answered false false false true q = refl
-    answered false false false false q = refl
+    plain : base.request_of s.room s.title n wish alternatives ≡ base.request_of s.room s.title (number_in s.length) (slot_of s.wish) (map slot_of s.alternatives)
+    plain = λ i. base.request_of s.room s.title (number.1 i) (own i) (others i)
 
     few : ltb greatest_alternatives (length (map slot_of s.alternatives)) ≡ ltb greatest_alternatives (length s.alternatives)
     few = ap (ltb greatest_alternatives) (length-map s.alternatives slot_of)
 
-    plain : base.request_of s.room s.title n choices.0 choices.1 ≡ base.request_of s.room s.title (number_in s.length) (slot_of s.wish) (map slot_of s.alternatives)
-    plain = λ i. base.request_of s.room s.title (number.1 i) (k.wish i) (k.alternatives i)
-
-    whole : answer_of (base.request_of s.room s.title n choices.0 choices.1) ≡ request_or_fault s
+    whole : base.request_of s.room s.title (number_in s.length) (slot_of s.wish) (map slot_of s.alternatives) ≡ Ok (request_in s)
     whole =
-        ap answer_of plain
-        ∙ (λ i. answer_of (unless_faulty ((length-same s (number_in s.length) own number.0 refl i, BadLength) ∷ (not (is_room_name s.room), BadRoomName) ∷ (not (is_title s.title), BadTitle) ∷ (few i, TooManyAlternatives) ∷ []) (request_in s)))
-        ∙ answered (is_bad_length s) (not (is_room_name s.room)) (not (is_title s.title)) (ltb greatest_alternatives (length s.alternatives)) (request_in s)
-        ∙ (λ i. made_if s (sym k.days i) (sym k.times i) (is_bad_length s))
+        let no = faultless s none in
+        λ i. unless_faulty (((length-same s no.days no.times number.0 ∙ no.minutes) i, BadLength) ∷ (no.room i, BadRoomName) ∷ (no.title i, BadTitle) ∷ ((few ∙ no.count) i, TooManyAlternatives) ∷ []) (request_in s)

@@ -1,11 +1,9 @@
 -- A submission in words, read as a request.
-use Rattle.std.specs.Prelude.{Bool, List, [], ◌∷◌, map, Option, Some, None, is_none, Result, Ok, Err}
-use Rattle.std.specs.List.{list_any}
+use Rattle.std.specs.Prelude.{ℕ, max, Bool, List, [], ◌∷◌, Option, Some, None, option_and_then, is_none, Result, Ok, Err}
 use Rattle.mr_model.specs.Calendar.{read_date, read_time}
-use Rattle.mr_model.specs.Slots.{Slot}
 use Rattle.mr_model.specs.Requests.{Request}
-use Rattle.mr_model.specs.Refusals.{Refusal, BadDay, BadTime, first_refusal}
-use Rattle.mr_model.specs.Step.{SlotWords, Submission, slot_of, choice_words}
+use Rattle.mr_model.specs.Refusals.{Refusal, first_refusal}
+use Rattle.mr_model.specs.Step.{SlotWords, Submission}
 use Rattle.mr_kept.specs.Steps.{word_faults, request_in}
 
 -- the value, unless something is refused
@@ -20,11 +18,13 @@ lacks_day c = is_none (read_date c.day)
 abbrev pub lacks_time : SlotWords → Bool
 lacks_time c = is_none (read_time c.time)
 
--- the choices that the words name
-abbrev pub slots_in : Submission → Result (Slot × List Slot) Refusal
-slots_in s =
-    ok_unless (first_refusal ((list_any lacks_day (choice_words s), BadDay) ∷ (list_any lacks_time (choice_words s), BadTime) ∷ []))
-    (slot_of s.wish, map slot_of s.alternatives)
+-- the latest of this start and those of the choices, where each time can be read
+abbrev pub latest_from : ℕ → List SlotWords → Option ℕ
+latest_from latest [] = Some latest
+latest_from latest (c ∷ cs) = option_and_then (λ start. latest_from (max latest start) cs) (read_time c.time)
+
+abbrev pub latest_start : Submission → Option ℕ
+latest_start s = option_and_then (λ start. latest_from start s.alternatives) (read_time s.wish.time)
 
 -- the request with these words, or the smallest fault of the words
 abbrev pub request_or_fault : Submission → Result Request Refusal
