@@ -1,4 +1,4 @@
--- The headline of a list of commands, in both halves.
+-- The headline of one command and of a list of commands, in both halves.
 use Rattle.std.specs.Prelude.{◌≡◌, ℕ, ◌⊎◌, List, take, drop, Some, slice_get}
 use Rattle.mr_model.specs.Texts.{Text}
 use Rattle.mr_model.specs.Replica.{Replica}
@@ -11,6 +11,12 @@ use Rattle.mr_model.specs.Tables.{Tables, Stands}
 pub record AnswersByView (at : Replica) (room : Text) (question : Question) (reply : Reply) : Type 0 where
   pub of_view : reply ≡ answer room (view_of at room) question
   pub alike : (other : Replica) → view_of other room ≡ view_of at room → (step other (Ask room question)).reply ≡ reply
+
+-- a question about a room is answered by the room's view at every replica that the tables stood for, unless memory or the store failed
+abbrev pub AnswersQuestion : Tables → Command → Reply → Type 0
+AnswersQuestion before command reply =
+    (a : Replica) (room : Text) (question : Question) → Stands before a → command ≡ Ask room question
+    → AnswersByView a room question reply ⊎ IsOfMachine reply
 
 -- The commands took this replica, step by step, to one that the tables stand for now. Each reply about a room is by the room's view at
 -- the replica that the commands before have reached, unless memory or the store failed.

@@ -5,6 +5,7 @@ ghost use Rattle.mr_model.specs.Tables.{Tables};
 ghost use Rattle.mr_store.specs.KeeperCalls.{IsSettled};
 ghost use Rattle.mr_service.specs.Asked.{command_seen, local_of, reply_of, reply_in};
 ghost use Rattle.mr_service.specs.Asking.{Counts, LeavesOnRefusal, NoneFails, TellsRise};
+ghost use Rattle.mr_service.specs.Headline.{AnswersQuestion};
 ghost use Rattle.mr_service.specs.Replied.{RepliesTo};
 ghost use Rattle.mr_service.specs.Served.{IsServed};
 
@@ -64,6 +65,7 @@ impl<K: Keeper> Service<K> {
         ensures crash { K.is_clean self.new → K.is_open self.old → (t : Tables) → K.may_leave self.new t → K.may_leave self.old t
             ⊎ Reaches (K.tables self.old) (command_seen command.now) t }
         ensures replied { K.is_clean self.new → K.is_open self.old → RepliesTo (K.tables self.old) (command_seen command.now) (reply_of result) }
+        ensures headline { K.is_clean self.new → K.is_open self.old → AnswersQuestion (K.tables self.old) (command_seen command.now) (reply_of result) }
     {
         self.serve(command)
     }

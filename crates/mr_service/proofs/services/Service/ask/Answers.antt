@@ -1,4 +1,5 @@
 use Rattle.mr_service.specs.Asked.{command_seen, reply_of}
+use Rattle.mr_service.proofs.HeadlineLaws.{question_answered}
 use Rattle.mr_service.proofs.ReplyHalves.{replied_by}
 use Rattle.mr_service.proofs.services.Service.ask.Goals as goal
 
@@ -35,3 +36,8 @@ returns-clause-crash g c = c.serve.ensures.served.crash
 pub returns-clause-replied : goal.returns-clause-replied
 returns-clause-replied g c =
     replied_by g.K.Keeper c.args.self.now c.serve.new.self (command_seen c.args.command.now) (reply_of c.serve.result) c.serve.ensures.served
+
+pub returns-clause-headline : goal.returns-clause-headline
+returns-clause-headline g c = λ u o.
+    question_answered (g.K.Keeper.tables c.args.self.now) (command_seen c.args.command.now) (reply_of c.serve.result)
+    (replied_by g.K.Keeper c.args.self.now c.serve.new.self (command_seen c.args.command.now) (reply_of c.serve.result) c.serve.ensures.served u o)
