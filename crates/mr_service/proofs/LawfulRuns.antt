@@ -1,7 +1,12 @@
--- From an honest world every run keeps the world law.
-use Rattle.std.proofs.Common.{◌≡◌, ap, ℕ, zero, suc, List, [], ◌∷◌, ◌++◌, take, drop, Option, Some, None}
+-- From an honest world every run keeps the world law, and its questions the headline.
+use Rattle.std.proofs.Common.{◌≡◌, refl, ap, ◌∙◌, ℕ, zero, suc, List, [], ◌∷◌, ◌++◌, take, drop, inl, inr, Option, Some, None}
 use Rattle.std.specs.List.{slice_get}
-use Rattle.mr_model.specs.World.{World, Step, StepReply}
+use Rattle.mr_model.specs.Refusals.{OutOfMemory}
+use Rattle.mr_model.specs.Replica.{Replica}
+use Rattle.mr_model.specs.Replies.{Refused}
+use Rattle.mr_model.specs.View.{view_of, answer}
+use Rattle.mr_model.specs.Step.{Ask}
+use Rattle.mr_model.specs.World.{World, Step, StepReply, WorldAfter, do_at}
 use Rattle.mr_model.specs.Honest.{accepted, IsHonest, IsWorldStep, IsWorldRun, ended, stepped}
 use Rattle.mr_model.proofs.UniqueReplay.{some_inj}
 use Rattle.mr_model.proofs.Fronts.{front_contains}
@@ -11,7 +16,8 @@ use Rattle.mr_model.proofs.WorldKnowledge.{known_accepted, one_write, delivery_s
 use Rattle.mr_model.proofs.BatchesBring.{front_is_taken, all_is_brought}
 use Rattle.mr_model.proofs.ExchangeAlike.{exchange_same, alike}
 use Rattle.mr_model.proofs.CommittedPlaces.{places_agree, places_stay, committed_told}
-use Rattle.mr_service.specs.LawfulRuns.{ArePassed, KeepsHistory, TakesBatch, AgreesByExchange, KeepsPlaces, IsLawfulRun}
+use Rattle.mr_service.specs.LawfulRuns.{ArePassed, KeepsHistory, TakesBatch, AgreesByExchange, KeepsPlaces, AnswersByViews, IsLawfulRun}
+use Rattle.mr_service.proofs.HeadlineLaws.{answers_by_view}
 
 -- a list is what stands before an element of it, that one, and the rest
 split_at : {A : Type 0} (xs : List A) (i : ℕ) (x : A) → slice_get xs i ≡ Some x → xs ≡ take i xs ++ (x ∷ drop (suc i) xs)
@@ -83,6 +89,15 @@ places_kept first last steps replies h run =
       stay = λ s a room id x ea ta. places_stay s a room id x h k.0 k.1 ea ta;
     }
 
+-- a question is answered by the room's view at its replica
+asked_by_view : (first last : World) → AnswersByViews first last
+asked_by_view first last server room question reply r (ok, inl e) er = (
+  answer room (view_of r room) question,
+  ap (λ (x : WorldAfter). x.reply) e ∙ ap (λ (o : Option Replica). (do_at first o (Ask room question)).reply) er,
+  inl (answers_by_view r room question (answer room (view_of r room) question) refl),
+)
+asked_by_view first last server room question reply r (ok, inr m) er = (Refused OutOfMemory, m.0, inr refl)
+
 pub run_is_lawful : (old new : World) (steps : List Step) (replies : List StepReply) → IsHonest old → IsWorldRun old steps replies new → IsLawfulRun old steps replies new
 run_is_lawful old new steps replies h run =
     record {
@@ -95,4 +110,5 @@ run_is_lawful old new steps replies h run =
       agreement = λ first last p. exchange_agrees first last (first_honest h p);
       places = λ first last p. places_kept first last p.steps_between p.replies_between (first_honest h p) p.between;
       primary = λ first last p s reply server r st er own at. never_truncated first last s reply server r (first_honest h p) st er own at;
+      answers = λ first last p. asked_by_view first last;
     }

@@ -1,4 +1,4 @@
--- Runs of a world that keep the world law: six facts of every two of their moments.
+-- Runs of a world that keep the world law, six facts of every two of their moments, and the headline of their questions.
 use Rattle.std.specs.Prelude.{◌≡◌, ℕ, ◌+◌, ◌≤◌, true, ◌⊎◌, List, ◌++◌, Some, slice_get, Contains}
 use Rattle.mr_model.specs.Texts.{Text}
 use Rattle.mr_model.specs.Writes.{Id, Write, id_of}
@@ -8,9 +8,10 @@ use Rattle.mr_model.specs.Exchange.{C, Batch, ReadsAs}
 use Rattle.mr_model.specs.Replies.{Reply, Took, Refused}
 use Rattle.mr_model.specs.View.{Placed, Question}
 use Rattle.mr_model.specs.Step.{Ask, step}
-use Rattle.mr_model.specs.World.{World, Step, Deliver, StepReply, Said, replica_of, batch_numbered}
+use Rattle.mr_model.specs.World.{World, Step, Do, Deliver, StepReply, Said, replica_of, batch_numbered}
 use Rattle.mr_model.specs.Honest.{IsFront, accepted, commit_list, IsHonest, IsWorldStep, IsWorldRun}
 use Rattle.mr_model.specs.WorldLaws.{IsKnownIn, IsCountOrGap, IsDelivery, IsComplete, HasAllOf, IsExchange, TellsCommitted, IsAt}
+use Rattle.mr_service.specs.Headline.{AnswersByView}
 
 -- two moments of a run, the last behind the first or the same: the run is the steps to the first, those between, and the others
 pub record ArePassed (old : World) (steps : List Step) (replies : List StepReply) (new : World) (first last : World) : Type 0 where
@@ -82,9 +83,19 @@ NeverTruncated first last =
     (s : Step) (reply : StepReply) (server : ℕ) (r : Replica)
     → IsWorldStep first s reply last → replica_of first server ≡ Some r → r.server ≡ r.primary → IsAt server s → ¬ (reply ≡ Said (Refused Truncated))
 
+-- ---- the headline
+
+-- a question about a room is answered by the room's view at its replica, as by every replica with an equal view; out of memory aside
+abbrev pub AnswersByViews : World → World → Type 0
+AnswersByViews first last =
+    (server : ℕ) (room : Text) (question : Question) (reply : StepReply) (r : Replica)
+    → IsWorldStep first (Do server (Ask room question)) reply last → replica_of first server ≡ Some r
+    → (said : Reply) × (reply ≡ Said said) × (AnswersByView r room question said ⊎ (said ≡ Refused OutOfMemory))
+
 -- ---- a run
 
--- A run whose end is an honest world, and in which the six facts hold from moment to moment; each of its steps stands between two.
+-- A run whose end is an honest world, and in which the six facts and the headline hold from moment to moment; each of its steps stands
+-- between two.
 pub record IsLawfulRun (old : World) (steps : List Step) (replies : List StepReply) (new : World) : Type 0 where
   pub run : IsWorldRun old steps replies new
   pub honest : IsHonest new
@@ -96,3 +107,4 @@ pub record IsLawfulRun (old : World) (steps : List Step) (replies : List StepRep
   pub agreement : (first last : World) → ArePassed old steps replies new first last → AgreesByExchange first last
   pub places : (first last : World) → ArePassed old steps replies new first last → KeepsPlaces first last
   pub primary : (first last : World) → ArePassed old steps replies new first last → NeverTruncated first last
+  pub answers : (first last : World) → ArePassed old steps replies new first last → AnswersByViews first last
