@@ -1,9 +1,11 @@
 -- What a call of a service is, beside its step: what it counts of failures, and where it stands in a run.
-use Rattle.std.specs.Prelude.{◌≡◌, ℕ, ◌<◌, ◌≤◌, ◌⊎◌, List, [], ◌∷◌}
+use Rattle.std.specs.Prelude.{◌≡◌, ℕ, ◌<◌, ◌≤◌, ◌⊎◌, List, [], ◌∷◌, Some}
 use Rattle.mr_model.specs.Replica.{Replica}
-use Rattle.mr_model.specs.Refusals.{Refusal, Store}
+use Rattle.mr_model.specs.Refusals.{Refusal, Store, first_refusal}
 use Rattle.mr_model.specs.Replies.{Reply, Refused}
+use Rattle.mr_model.specs.Step.{Command, Submit}
 use Rattle.mr_model.specs.Tables.{Tables, Stands}
+use Rattle.mr_kept.specs.Steps.{word_faults}
 
 -- the count of failures never falls, and rises where the reply tells of one
 abbrev pub Counts : Reply → ℕ → ℕ → Type 0
@@ -25,3 +27,8 @@ NoneFails before old new = (a : Replica) → Stands before a → new ≡ old
 abbrev pub TellsFailure : List Reply → Type 0
 TellsFailure [] = ⊥
 TellsFailure (r ∷ rs) = (r ≡ Refused Store) ⊎ TellsFailure rs
+
+-- a fault of a submission's words is told, whatever memory there is
+abbrev pub TellsWordFaults : Command → Reply → Type 0
+TellsWordFaults (Submit s) reply = (e : Refusal) → first_refusal (word_faults s) ≡ Some e → reply ≡ Refused e
+TellsWordFaults command reply = Unit {0}

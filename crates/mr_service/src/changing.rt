@@ -5,6 +5,7 @@ ghost use Rattle.mr_model.specs.Writes.{Id};
 ghost use Rattle.mr_model.specs.Step as model;
 ghost use Rattle.mr_base.specs.Readings.{read_id};
 ghost use Rattle.mr_service.specs.Asked.{submission_of, reply_in};
+ghost use Rattle.mr_service.specs.Asking.{TellsWordFaults};
 ghost use Rattle.mr_service.specs.Served.{IsServed};
 
 use crate::change::{change, load};
@@ -39,6 +40,7 @@ pub(crate) fn submit<K: Keeper>(
     words: &Submission,
 ) -> Result<Reply, Refusal>
     ensures served { IsServed K.Keeper keeper.old keeper.new (model.Submit (submission_of words.now)) (reply_in result) }
+    ensures due { TellsWordFaults (model.Submit (submission_of words.now)) (reply_in result) }
 {
     let request = read_request(alloc, words)?;
     let part = load(keeper, &Scope::OfRequest(&request.room, &request.meeting))?;

@@ -4,7 +4,7 @@ ghost use Rattle.mr_model.specs.Serving.{TakesStep, Reaches};
 ghost use Rattle.mr_model.specs.Tables.{Tables};
 ghost use Rattle.mr_store.specs.KeeperCalls.{IsSettled};
 ghost use Rattle.mr_service.specs.Asked.{command_seen, local_of, reply_of, reply_in};
-ghost use Rattle.mr_service.specs.Asking.{Counts, LeavesOnRefusal, NoneFails, TellsRise};
+ghost use Rattle.mr_service.specs.Asking.{Counts, LeavesOnRefusal, NoneFails, TellsRise, TellsWordFaults};
 ghost use Rattle.mr_service.specs.Headline.{AnswersQuestion};
 ghost use Rattle.mr_service.specs.Replied.{RepliesTo};
 ghost use Rattle.mr_service.specs.Served.{IsServed};
@@ -66,13 +66,15 @@ impl<K: Keeper> Service<K> {
             ⊎ Reaches (K.tables self.old) (command_seen command.now) t }
         ensures replied { K.is_clean self.new → K.is_open self.old → RepliesTo (K.tables self.old) (command_seen command.now) (reply_of result) }
         ensures headline { K.is_clean self.new → K.is_open self.old → AnswersQuestion (K.tables self.old) (command_seen command.now) (reply_of result) }
+        ensures due { TellsWordFaults (command_seen command.now) (reply_of result) }
     {
         self.serve(command)
     }
 
-    /// The same, with all that its contract says as one record.
+    /// The same, with what its contract says of the keeper as one record.
     fn serve(&mut self, command: &Command) -> Reply
         ensures served { IsServed K.Keeper self.old self.new (command_seen command.now) (reply_of result) }
+        ensures due { TellsWordFaults (command_seen command.now) (reply_of result) }
     {
         match command {
             Command::Local(local) => said(ask_local(&mut self.keeper, self.alloc, local)),
@@ -92,6 +94,7 @@ pub(crate) fn ask_local<K: Keeper>(
     command: &Local,
 ) -> Result<Reply, Refusal>
     ensures served { IsServed K.Keeper keeper.old keeper.new (local_of command.now) (reply_in result) }
+    ensures due { TellsWordFaults (local_of command.now) (reply_in result) }
 {
     match command {
         Local::AddRoom(room) => add_room(keeper, alloc, room.as_str()),

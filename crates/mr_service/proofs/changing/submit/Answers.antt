@@ -12,16 +12,16 @@ use Rattle.mr_service.proofs.DeskSteps.{word_step}
 use Rattle.mr_service.proofs.CommandWords as words
 use Rattle.mr_service.proofs.changing.submit.Goals as goal
 
-pub returns-in_err-request : goal.returns-in_err-request
-returns-in_err-request g c =
+pub returns-in_err-request-clause-served : goal.returns-in_err-request-clause-served
+returns-in_err-request-clause-served g c =
     let p = err_from_is_err_and c.from_residual.result c.from_residual.ensures.1 in
-    record { served = rw (p.1, p.2) (unread g.K.Keeper c.args.keeper.now (Submit (submission_of c.args.words.now)) c.in_err-request.field-0.0 (word_step (g.K.Keeper.tables c.args.keeper.now) (Submit (submission_of c.args.words.now)) c.in_err-request.field-0.0 (words.submission_refused (submission_of c.args.words.now) c.in_err-request.field-0.0 c.in_err-request.ensures.value)) (words.submission_not_store (submission_of c.args.words.now) c.in_err-request.field-0.0 c.in_err-request.ensures.value)) }
+    rw (p.1, p.2) (unread g.K.Keeper c.args.keeper.now (Submit (submission_of c.args.words.now)) c.in_err-request.field-0.0 (word_step (g.K.Keeper.tables c.args.keeper.now) (Submit (submission_of c.args.words.now)) c.in_err-request.field-0.0 (words.submission_refused (submission_of c.args.words.now) c.in_err-request.field-0.0 c.in_err-request.ensures.value)) (words.submission_not_store (submission_of c.args.words.now) c.in_err-request.field-0.0 c.in_err-request.ensures.value))
 
-pub returns-in_err-part : goal.returns-in_err-part
-returns-in_err-part g c =
+pub returns-in_err-part-clause-served : goal.returns-in_err-part-clause-served
+returns-in_err-part-clause-served g c =
     let p = err_from_is_err_and c.from_residual-in_err-part.result c.from_residual-in_err-part.ensures.1 in
-    record { served = rw (p.1, p.2) (not_loaded g.K.Keeper c.args.keeper.now c.load.new.keeper _ c.in_err-part.field-0.0 (Submit (submission_of c.args.words.now)) c.in_err-part.ensures) }
+    rw (p.1, p.2) (not_loaded g.K.Keeper c.args.keeper.now c.load.new.keeper _ c.in_err-part.field-0.0 (Submit (submission_of c.args.words.now)) c.in_err-part.ensures)
 
-pub returns : goal.returns
-returns g c =
-    record { served = made_by g.K.Keeper c.args.keeper.now c.load.new.keeper c.change.new.keeper (OfRequest c.in_ok-request.request) c.in_ok-part.part _ _ (Submit (submission_of c.args.words.now)) (submit_request c.in_ok-request.request) (subst (λ (q : Request). IsLoaded g.K.Keeper c.args.keeper.now c.load.new.keeper (OfRequest q) (Ok c.in_ok-part.part)) c.request.view_is c.in_ok-part.ensures) c.change.ensures (words.submission_read (submission_of c.args.words.now) c.in_ok-request.request c.in_ok-request.ensures.value) c.submit.ensures }
+pub returns-clause-served : goal.returns-clause-served
+returns-clause-served g c =
+    made_by g.K.Keeper c.args.keeper.now c.load.new.keeper c.change.new.keeper (OfRequest c.in_ok-request.request) c.in_ok-part.part _ _ (Submit (submission_of c.args.words.now)) (submit_request c.in_ok-request.request) (subst (λ (q : Request). IsLoaded g.K.Keeper c.args.keeper.now c.load.new.keeper (OfRequest q) (Ok c.in_ok-part.part)) c.request.view_is c.in_ok-part.ensures) c.change.ensures (words.submission_read (submission_of c.args.words.now) c.in_ok-request.request c.in_ok-request.ensures.value) c.submit.ensures
