@@ -2,7 +2,7 @@ ghost use Rattle.std.specs.Prelude.{◌≡◌, IsTrue, IfOk, IfErr};
 ghost use Rattle.mr_model.specs.Writes.{is_action, is_first_action, same_action};
 ghost use Rattle.mr_base.specs.Actions.{action_of};
 
-use crate::{Meeting, Refusal, WriteId};
+use crate::{MOST_ALTERNATIVES_IN_FIRST, Meeting, Refusal, WriteId};
 use std::alloc::Global;
 
 /// What a write asks for: a meeting in its room, or that the booking with this id be taken back.
@@ -35,12 +35,14 @@ pub(crate) fn is_within_limits(action: &Action)
     }
 }
 
-/// Whether it is a booking of at most 8 alternatives.
+/// Whether it is a booking of few enough alternatives for the first version of the exchange text.
 pub(crate) fn is_first(action: &Action) -> bool
     ensures { result ≡ is_first_action (action_of action.now) }
 {
     match action {
-        Action::Books(meeting) => meeting.alternatives.as_slice().len() <= 8,
+        Action::Books(meeting) => {
+            meeting.alternatives.as_slice().len() <= MOST_ALTERNATIVES_IN_FIRST
+        }
         Action::Cancels(_) => false,
     }
 }

@@ -2,6 +2,7 @@ ghost use Rattle.std.specs.Prelude.{◌≡◌, ℕ, IsTrue};
 ghost use Rattle.mr_model.specs.Texts.{only_if};
 ghost use Rattle.mr_model.specs.Writes.{is_commit_number};
 
+use crate::GREATEST_COMMIT;
 use std::marker::Model;
 
 /// The number of a commit, from 1 to 999,999,999,999.
@@ -25,7 +26,7 @@ impl CommitNumber {
     pub fn new(number: u64) -> Option<CommitNumber>
         ensures { result ≡ only_if (is_commit_number number) number }
     {
-        if number >= 1 && number <= 999_999_999_999 {
+        if number >= 1 && number <= GREATEST_COMMIT {
             Some(CommitNumber { number })
         } else {
             None

@@ -2,7 +2,7 @@ ghost use Rattle.std.specs.Prelude.{◌≡◌, ok_or, IfOk, IsTrue, Ok};
 ghost use Rattle.mr_model.specs.Writes.{Id, is_id, id_text};
 ghost use Rattle.mr_base.specs.Readings.{read_id, id_by_parts};
 
-use crate::{Refusal, ServerId, WriteId, read_number};
+use crate::{GREATEST_COUNT, GREATEST_SERVER, Refusal, ServerId, WriteId, read_number};
 
 impl WriteId {
     /// Reads `<server>-<n>`, with both numbers in decimal without leading zeros. Any other text names no request.
@@ -19,7 +19,7 @@ fn id_of(text: &str) -> Option<WriteId>
     ensures { result ≡ id_by_parts text.now }
 {
     let (server, n) = text.split_once('-')?;
-    let server = read_number(server, 1, 99)?;
-    let n = read_number(n, 1, 999_999_999)?;
+    let server = read_number(server, 1, GREATEST_SERVER as u64)?;
+    let n = read_number(n, 1, GREATEST_COUNT as u64)?;
     WriteId::new(ServerId::new(server as u32)?, n as u32)
 }

@@ -11,6 +11,7 @@ mod commits;
 mod days;
 mod digits;
 mod ids;
+mod limits;
 mod line_counts;
 mod meetings;
 mod numbers;
@@ -31,6 +32,10 @@ pub use batches::{Batch, Ending, Item};
 pub use commits::CommitNumber;
 pub use days::{Day, weekday_name};
 pub use jiff::civil::Weekday;
+pub use limits::{
+    GREATEST_COMMIT, GREATEST_COUNT, GREATEST_SERVER, GREATEST_TIME, LONGEST_ROOM_NAME,
+    LONGEST_TITLE, MINUTES_OF_A_DAY, MOST_ALTERNATIVES, MOST_ALTERNATIVES_IN_FIRST, MOST_LINES,
+};
 pub use line_counts::LineCount;
 pub use meetings::Meeting;
 pub use numbers::read_number;

@@ -2,6 +2,7 @@ ghost use Rattle.std.specs.Prelude.{◌≡◌, ℕ, IsTrue};
 ghost use Rattle.mr_model.specs.Texts.{only_if};
 ghost use Rattle.mr_base.specs.Limits.{is_line_count};
 
+use crate::MOST_LINES;
 use std::marker::Model;
 
 /// How many item lines a batch may have, from 1 to 100,000.
@@ -25,7 +26,7 @@ impl LineCount {
     pub fn new(number: u32) -> Option<LineCount>
         ensures { result ≡ only_if (is_line_count number) number }
     {
-        if number >= 1 && number <= 100_000 {
+        if number >= 1 && number <= MOST_LINES {
             Some(LineCount { number })
         } else {
             None

@@ -6,7 +6,7 @@ ghost use Rattle.mr_model.specs.Requests.{is_length_for};
 ghost use Rattle.mr_base.specs.Answers.{OrOutOfMemory};
 ghost use Rattle.mr_base.specs.Limits.{limited};
 
-use crate::{Alternatives, Refusal, Slot, Title};
+use crate::{Alternatives, MINUTES_OF_A_DAY, MOST_ALTERNATIVES, Refusal, Slot, Title};
 use std::alloc::Global;
 use std::marker::Model;
 
@@ -102,13 +102,16 @@ impl Meeting {
 pub(crate) fn are_too_many(alternatives: &[Slot]) -> bool
     ensures { result ≡ nat_lt greatest_alternatives (length alternatives.now) }
 {
-    alternatives.len() > 16
+    alternatives.len() > MOST_ALTERNATIVES
 }
 
 pub(crate) fn fits(length: u32, wish: Slot, alternatives: &[Slot]) -> bool
     ensures { result ≡ is_length_for length (wish ∷ alternatives.now) }
 {
-    length >= 1 && length <= 1440 && wish.fits_day(length) && all_fit_day(length, alternatives)
+    length >= 1
+        && length <= MINUTES_OF_A_DAY
+        && wish.fits_day(length)
+        && all_fit_day(length, alternatives)
 }
 
 fn all_fit_day(length: u32, slots: &[Slot]) -> bool

@@ -6,7 +6,7 @@ ghost use Rattle.mr_model.specs.Positions.{Position as PositionOfReplica, is_pos
 ghost use Rattle.mr_base.specs.PositionCounts.{counts_of_pairs, are_rising_above};
 ghost use Rattle.mr_base.specs.Versions.{version_of};
 
-use crate::{ServerId, Version};
+use crate::{GREATEST_COMMIT, GREATEST_COUNT, ServerId, Version};
 use std::marker::Model;
 
 /// What a replica has: how many commits, and how many writes of each server of which it has one, by rising server. And the
@@ -59,7 +59,7 @@ impl Position {
     {
         server.number();
         primary.number();
-        if commits > 999_999_999_999
+        if commits > GREATEST_COMMIT
             || !counts_are_within_limits(counts.as_slice())
             || !servers_rise(counts.as_slice())
         {
@@ -87,7 +87,7 @@ fn counts_are_within_limits(counts: &[(ServerId, u32)]) -> bool
 {
     for (server, n) in counts {
         server.number();
-        if *n < 1 || *n > 999_999_999 {
+        if *n < 1 || *n > GREATEST_COUNT {
             return false;
         }
     }

@@ -9,7 +9,7 @@ ghost use Rattle.std.proofs.Common.{rules};
 ghost use Rattle.mr_model.specs.Writes.{is_room_byte, is_room_name};
 ghost use Rattle.mr_base.specs.Answers.{OrOutOfMemory, ok_if};
 
-use crate::Refusal;
+use crate::{LONGEST_ROOM_NAME, Refusal};
 use std::alloc::{AllocError, Global};
 use std::cmp::Ordering;
 use std::marker::Model;
@@ -118,7 +118,7 @@ impl PartialOrd for RoomName {
 pub fn is_room_text(text: &[u8]) -> bool
     ensures { result ≡ is_room_name text.now }
 {
-    text.len() >= 1 && text.len() <= 16 && has_room_letters(text)
+    text.len() >= 1 && text.len() <= LONGEST_ROOM_NAME && has_room_letters(text)
 }
 
 fn has_room_letters(text: &[u8]) -> bool

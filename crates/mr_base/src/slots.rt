@@ -3,7 +3,7 @@ ghost use Rattle.mr_model.specs.Slots.{Slot as SlotOfDay, Overlap, overlaps as i
 ghost use Rattle.mr_model.specs.Writes.{fits_day};
 ghost use Rattle.mr_base.specs.Answers.{ok_if};
 
-use crate::{Day, Refusal};
+use crate::{Day, MINUTES_OF_A_DAY, Refusal};
 use std::marker::Model;
 
 /// A minute of a day, counted from midnight, at which something starts.
@@ -29,7 +29,7 @@ impl Slot {
         ensures { result ≡ ok_if (nat_le start 1439) (record { day = day; start = start }) Refusal.BadTime }
     {
         day.is_within_calendar();
-        if start <= 1439 {
+        if start < MINUTES_OF_A_DAY {
             Ok(Slot { day, start })
         } else {
             Err(Refusal::BadTime)
@@ -40,7 +40,7 @@ impl Slot {
     pub fn fits_day(&self, length: u32) -> bool
         ensures { result ≡ (is_slot self.now && fits_day length self.now) }
     {
-        self.start as u64 + length as u64 <= 1440
+        self.start as u64 + length as u64 <= MINUTES_OF_A_DAY as u64
     }
 }
 

@@ -2,6 +2,7 @@ ghost use Rattle.std.specs.Prelude.{◌≡◌, ℕ, Some, IsTrue};
 ghost use Rattle.mr_model.specs.Texts.{only_if};
 ghost use Rattle.mr_model.specs.Writes.{Id, Stamp as StampOfWrite, is_server, is_count, is_time, is_id, is_stamp, id_text};
 
+use crate::{GREATEST_COUNT, GREATEST_SERVER, GREATEST_TIME};
 use std::fmt;
 use std::marker::Model;
 
@@ -26,7 +27,7 @@ impl ServerId {
     pub fn new(number: u32) -> Option<ServerId>
         ensures { result ≡ only_if (is_server number) number }
     {
-        if number >= 1 && number <= 99 {
+        if number >= 1 && number <= GREATEST_SERVER {
             Some(ServerId { number })
         } else {
             None
@@ -76,7 +77,7 @@ impl WriteId {
         ensures { result ≡ only_if (is_count n) (record { server = server; n = n }) }
     {
         server.number();
-        if n >= 1 && n <= 999_999_999 {
+        if n >= 1 && n <= GREATEST_COUNT {
             Some(WriteId { server, n })
         } else {
             None
@@ -117,7 +118,7 @@ impl Stamp {
         ensures { result ≡ only_if (is_time time) (record { server = id.server; n = id.n; time = time }) }
     {
         let WriteId { server, n } = id;
-        if time >= 1 && time <= 999_999_999_999 {
+        if time >= 1 && time <= GREATEST_TIME {
             Some(Stamp { server, n, time })
         } else {
             None

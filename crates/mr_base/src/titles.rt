@@ -5,7 +5,7 @@ ghost use Rattle.mr_model.specs.Texts.{within};
 ghost use Rattle.mr_model.specs.Writes.{is_title};
 ghost use Rattle.mr_base.specs.Answers.{OrOutOfMemory, ok_if};
 
-use crate::Refusal;
+use crate::{LONGEST_TITLE, Refusal};
 use std::alloc::{AllocError, Global};
 use std::marker::Model;
 
@@ -77,7 +77,7 @@ pub fn is_title_text(text: &[u8]) -> bool
     ensures { result ≡ is_title text.now }
 {
     text.len() >= 1
-        && text.len() <= 60
+        && text.len() <= LONGEST_TITLE
         && has_title_bytes(text)
         && text[0] != b' '
         && text[text.len() - 1] != b' '
