@@ -12,7 +12,7 @@ use crate::fields::{front_off, number_off, slot_off};
 use crate::lines::{cancel_parts, commit_of, read_header};
 use crate::versions::most_alternatives;
 use crate::words::{first_line, first_word};
-use mr_base::{Version, is_title_text};
+use mr_base::{MINUTES_OF_A_DAY, Version, is_title_text};
 
 /// The number of the first line that isn't of its place, where there is one. It takes no memory.
 pub(crate) fn first_bad_line(bytes: &[u8]) -> Option<u64>
@@ -127,7 +127,7 @@ fn title_in(version: Version, text: &str) -> Option<&str>
     let Some((_, _, rest)) = front_off(text) else {
         return None;
     };
-    let (length, rest) = number_off(rest, 1, 1440)?;
+    let (length, rest) = number_off(rest, 1, MINUTES_OF_A_DAY as u64)?;
     let rest = behind_slots(rest, 1, length as u32)?;
     let (count, rest) = number_off(rest, 0, most_alternatives(version))?;
     behind_slots(rest, count, length as u32)

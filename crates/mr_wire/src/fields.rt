@@ -9,7 +9,8 @@ ghost use Rattle.mr_wire.specs.LineAnswers.{GivesRead};
 use crate::fault::Fault;
 use crate::words::first_word;
 use mr_base::{
-    Alternatives, Day, ServerId, Slot, Stamp, WriteId, is_room_text, read_minute, read_number,
+    Alternatives, Day, GREATEST_COUNT, GREATEST_SERVER, GREATEST_TIME, ServerId, Slot, Stamp,
+    WriteId, is_room_text, read_minute, read_number,
 };
 use std::alloc::Global;
 
@@ -29,7 +30,7 @@ pub fn number_off(text: &str, low: u64, high: u64) -> Option<(u64, &str)>
 pub(crate) fn server_off(text: &str) -> Option<(ServerId, &str)>
     ensures { option_map (λ x. (x.0, x.1.now)) result ≡ number_off 1 99 text.now }
 {
-    let (number, rest) = number_off(text, 1, 99)?;
+    let (number, rest) = number_off(text, 1, GREATEST_SERVER as u64)?;
     let server = ServerId::new(number as u32)?;
     Some((server, rest))
 }
@@ -42,8 +43,8 @@ pub(crate) fn stamp_off(text: &str) -> Option<(Stamp, &str)>
     let Some((server, rest)) = server_off(text) else {
         return None;
     };
-    let (n, rest) = number_off(rest, 1, 999_999_999)?;
-    let (time, rest) = number_off(rest, 1, 999_999_999_999)?;
+    let (n, rest) = number_off(rest, 1, GREATEST_COUNT as u64)?;
+    let (time, rest) = number_off(rest, 1, GREATEST_TIME)?;
     Some((
         Stamp {
             server,
@@ -154,7 +155,7 @@ pub(crate) fn server_and(text: &str, high: u64) -> Option<(ServerId, u64)>
 pub(crate) fn id_of(text: &str) -> Option<WriteId>
     ensures { result ≡ parse_id text.now }
 {
-    let (server, n) = server_and(text, 999_999_999)?;
+    let (server, n) = server_and(text, GREATEST_COUNT as u64)?;
     Some(WriteId {
         server,
         n: n as u32,

@@ -12,8 +12,8 @@ use crate::fields::{choices_off, front_off, id_of, number_off};
 use crate::versions::{batch_word, most_alternatives, servers_under};
 use crate::words::first_word;
 use mr_base::{
-    Alternatives, CommitNumber, Ending, Item, RoomName, ServerId, Slot, Stamp, Title, Version,
-    Write, WriteId, is_title_text,
+    Alternatives, CommitNumber, Ending, GREATEST_COMMIT, Item, MINUTES_OF_A_DAY, RoomName,
+    ServerId, Slot, Stamp, Title, Version, Write, WriteId, is_title_text,
 };
 use std::alloc::Global;
 
@@ -50,7 +50,7 @@ fn booking_of(alloc: Global, version: Version, text: &str) -> Result<Write, Faul
     let Some((stamp, room, rest)) = front_off(text) else {
         return Err(Fault::NotALine);
     };
-    let Some((length, rest)) = number_off(rest, 1, 1440) else {
+    let Some((length, rest)) = number_off(rest, 1, MINUTES_OF_A_DAY as u64) else {
         return Err(Fault::NotALine);
     };
     let most = most_alternatives(version);
@@ -96,7 +96,7 @@ fn cancel_on(alloc: Global, text: &str) -> Result<Write, Fault>
 pub(crate) fn commit_of(text: &str) -> Option<Item>
     ensures { option_map item_of result ≡ commit_of text.now }
 {
-    let (seq, rest) = number_off(text, 1, 999_999_999_999)?;
+    let (seq, rest) = number_off(text, 1, GREATEST_COMMIT)?;
     let seq = CommitNumber::new(seq)?;
     let id = id_of(rest)?;
     Some(Item::C { seq, id })

@@ -13,7 +13,7 @@ use crate::fault::Fault;
 use crate::fields::{behind_word, server_and};
 use crate::versions::{position_word, servers_under};
 use crate::words::first_line_of_text;
-use mr_base::{Position, Refusal, ServerId, Version, read_number};
+use mr_base::{GREATEST_COMMIT, GREATEST_COUNT, Position, Refusal, ServerId, Version, read_number};
 use std::alloc::Global;
 
 /// The position whose text the bytes are, all of them; `BadPosition` for anything else, a cut text too.
@@ -101,7 +101,7 @@ pub(crate) fn commits_in(line: &str) -> Option<u64>
     ensures { result ≡ commits_read line.now }
 {
     let rest = behind_word("K", line)?;
-    read_number(rest, 0, 999_999_999_999)
+    read_number(rest, 0, GREATEST_COMMIT)
 }
 
 #[tactic(auto, using(std::proofs::lemmas::Bool::Decides::nat_tests), unfolding(crate::specs::Fields::parse_count))]
@@ -109,7 +109,7 @@ pub(crate) fn count_in(line: &str) -> Option<(ServerId, u32)>
     ensures { option_map (λ c. record { server = c.0; count = c.1 }) result ≡ count_read line.now }
 {
     let rest = behind_word("V", line)?;
-    let (server, count) = server_and(rest, 999_999_999)?;
+    let (server, count) = server_and(rest, GREATEST_COUNT as u64)?;
     Some((server, count as u32))
 }
 

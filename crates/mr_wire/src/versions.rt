@@ -6,7 +6,7 @@ ghost use Rattle.mr_wire.specs.Fields.{most_alternatives, server_and, version_am
 
 use crate::fields::server_and;
 use crate::words::first_word;
-use mr_base::{ServerId, Version};
+use mr_base::{GREATEST_SERVER, MOST_ALTERNATIVES, MOST_ALTERNATIVES_IN_FIRST, ServerId, Version};
 
 /// The first word of a batch's text.
 pub(crate) fn batch_word(version: Version) -> &'static str
@@ -33,8 +33,8 @@ pub(crate) fn most_alternatives(version: Version) -> u64
     ensures { result ≡ most_alternatives (version_of version) }
 {
     match version {
-        Version::First => 8,
-        Version::Second => 16,
+        Version::First => MOST_ALTERNATIVES_IN_FIRST as u64,
+        Version::Second => MOST_ALTERNATIVES as u64,
     }
 }
 
@@ -43,7 +43,7 @@ pub(crate) fn most_alternatives(version: Version) -> u64
 fn servers_of(text: &str) -> Option<(ServerId, ServerId)>
     ensures { result ≡ server_and 99 text.now }
 {
-    let (first, number) = server_and(text, 99)?;
+    let (first, number) = server_and(text, GREATEST_SERVER as u64)?;
     let second = ServerId::new(number as u32)?;
     Some((first, second))
 }
