@@ -6,17 +6,11 @@ ghost use Rattle.mr_model.specs.Replica.{opening};
 ghost use Rattle.mr_base.specs.PositionCounts.{counts_of_pairs};
 ghost use Rattle.mr_tables.specs.Summary.{summary_of, IsWithin, noted_write, noted_commit, noted_commits, committed_len, counts_in, stamp_next, tally_at};
 
-use mr_base::{Refusal, ServerId, Stamp, Write, WriteId};
+use mr_base::{
+    GREATEST_COMMIT, GREATEST_COUNT, GREATEST_SERVER, GREATEST_TIME, Refusal, ServerId, Stamp,
+    Write, WriteId,
+};
 use std::alloc::Global;
-
-/// The greatest time of a stamp.
-const GREATEST_TIME: u64 = 999_999_999_999;
-
-/// The greatest number of commits.
-const GREATEST_COMMITS: u64 = 999_999_999_999;
-
-/// The greatest count of a server's writes.
-const GREATEST_COUNT: u32 = 999_999_999;
 
 /// What is known of a server: how many of its writes, the time of the last, and how many are committed.
 #[derive(Clone, Copy, Debug, PartialEq, Eq)]
@@ -62,7 +56,7 @@ impl Summary {
     pub fn is_within(&self) -> bool
         ensures { IsTrue result ↔ IsWithin self.now }
     {
-        self.commits <= GREATEST_COMMITS && are_within(&self.tallies)
+        self.commits <= GREATEST_COMMIT && are_within(&self.tallies)
     }
 
     /// The tally of a server.
@@ -133,7 +127,7 @@ impl Summary {
         ensures only { IfErr result (λ e. e ≡ Refusal.OutOfMemory) }
     {
         let mut counts = Vec::new(alloc);
-        for k in 0..99 {
+        for k in 0..GREATEST_SERVER {
             self.push_count(k + 1, &mut counts)?;
         }
         Ok(counts)
