@@ -6,7 +6,7 @@ ghost use Rattle.mr_kept.specs.DeskTables.{booking_at};
 ghost use Rattle.mr_kept.specs.Placing.{with_places_put, board_place, KeptEnds, TargetEnds, kept_canceller, row_canceller, cancellers_on, kept_is_booking, has_booking, taken_row, taken_rows};
 ghost use Rattle.mr_replay.specs.Rows.{target_if_done as taken_back_by};
 
-use mr_base::{Refusal, RoomName, Slot, Title, Write, WriteId};
+use mr_base::{MINUTES_OF_A_DAY, Refusal, RoomName, Slot, Title, Write, WriteId};
 use mr_replay::{Board, Kept, Place, Row, Standing, Trial, UndoRow};
 use mr_tables::summary::Summary;
 use mr_tables::vector::changed_tallies;
@@ -80,7 +80,7 @@ fn booking_row(
         room,
         day: slot.day,
         start: slot.start,
-        stop: slot.start.saturating_add(length).min(1440),
+        stop: slot.start.saturating_add(length).min(MINUTES_OF_A_DAY),
         server: id.server,
         n: id.n,
         title,
