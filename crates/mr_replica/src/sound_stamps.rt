@@ -4,7 +4,7 @@ ghost use Rattle.mr_model.specs.Writes.{is_time};
 ghost use Rattle.mr_tables.specs.SoundRows.{Rise, is_counted, is_first, IsNumberSound};
 ghost use Rattle.mr_replica.specs.SoundStamps.{is_in_time, IsStampSound, is_later_of, is_later, is_slot_sound, AreStampsSound, AreSlotsSound};
 
-use mr_base::ServerId;
+use mr_base::{GREATEST_TIME, MINUTES_OF_A_DAY, ServerId};
 use mr_tables::summary::Summary;
 use mr_tables::{BookingRow, CancelRow, CancelledRow, ErrorRow, LogRow, Tables};
 
@@ -74,7 +74,7 @@ fn is_time_sound(server: ServerId, n: u32, time: u64, summary: &Summary) -> bool
 fn is_time(time: u64) -> bool
     ensures { result ≡ is_time time }
 {
-    time >= 1 && time <= 999_999_999_999
+    time >= 1 && time <= GREATEST_TIME
 }
 
 fn is_in_time(server: ServerId, n: u32, time: u64, summary: &Summary) -> bool
@@ -134,5 +134,5 @@ fn are_cancelled_sound(rows: &[CancelledRow]) -> bool
 fn is_slot_sound(start: u32, stop: u32) -> bool
     ensures { result ≡ is_slot_sound start stop }
 {
-    start <= 1439 && start < stop
+    start < MINUTES_OF_A_DAY && start < stop
 }
