@@ -7,7 +7,10 @@ ghost use Rattle.mr_replay.specs.Places.{place_seen};
 ghost use Rattle.mr_rows.specs.RowCells.{flag_number, nat_of, whole_of, place_in, place_number};
 ghost use Rattle.mr_rows.specs.RowLimits.{is_small, is_place, is_slot_row};
 
-use mr_base::{Day, Refusal, RoomName, ServerId, Title, WriteId, is_room_text, is_title_text};
+use mr_base::{
+    Day, GREATEST_COUNT, MINUTES_OF_A_DAY, Refusal, RoomName, ServerId, Title, WriteId,
+    is_room_text, is_title_text,
+};
 use mr_replay::Place;
 use sqlite::types::{Type, ValueRef};
 use sqlite::{Error, ErrorCode, Row};
@@ -129,7 +132,7 @@ pub(crate) fn read_minute(row: &Row, at: usize) -> Result<u32, Error>
         (λ e. e ≢ Error.SqliteFailure ErrorCode.OutOfMemory → at < length row.now → (n : ℕ) → n ≤ 1440 → column row.now at ≢ Int (pos n)) }
 {
     let minute = read_u32(row, at)?;
-    if minute > 1440 {
+    if minute > MINUTES_OF_A_DAY {
         return Err(Error::IntegralValueOutOfRange(at));
     }
     Ok(minute)
@@ -142,7 +145,7 @@ pub(crate) fn read_count(row: &Row, at: usize) -> Result<u32, Error>
     ensures within { IfOk result (λ count. (1 ≤ count) × (count ≤ 999_999_999)) }
 {
     let count = read_u32(row, at)?;
-    if count == 0 || count > 999_999_999 {
+    if count == 0 || count > GREATEST_COUNT {
         return Err(Error::IntegralValueOutOfRange(at));
     }
     Ok(count)
