@@ -12,8 +12,8 @@ ghost use Rattle.mr_service.specs.SubmittedWords.{request_or_fault, latest_from,
 
 use crate::commands::{SlotWords, Submission};
 use mr_base::{
-    Alternatives, Day, Refusal, Request, Slot, is_room_text, is_title_text, read_minute,
-    read_number,
+    Alternatives, Day, MINUTES_OF_A_DAY, MOST_ALTERNATIVES, Refusal, Request, Slot, is_room_text,
+    is_title_text, read_minute, read_number,
 };
 use std::alloc::Global;
 
@@ -59,7 +59,7 @@ fn make_request(alloc: Global, words: &Submission) -> Result<Request, Refusal>
     requires { model.first_refusal (word_faults (submission_of words.now)) ≡ None }
     ensures { Gives result (request_or_fault (submission_of words.now)) }
 {
-    let Some(length) = read_number(words.length.as_str(), 1, 1440) else {
+    let Some(length) = read_number(words.length.as_str(), 1, MINUTES_OF_A_DAY as u64) else {
         return Err(Refusal::BadLength);
     };
     let wish = read_slot(&words.wish)?;
@@ -149,8 +149,8 @@ fn is_bad_length(words: &Submission, latest: u32) -> bool
     requires { latest_start (submission_of words.now) ≡ Some latest }
     ensures { result ≡ is_bad_length (submission_of words.now) }
 {
-    match read_number(words.length.as_str(), 1, 1440) {
-        Some(length) => latest as u64 + length > 1440,
+    match read_number(words.length.as_str(), 1, MINUTES_OF_A_DAY as u64) {
+        Some(length) => latest as u64 + length > MINUTES_OF_A_DAY as u64,
         None => true,
     }
 }
@@ -158,5 +158,5 @@ fn is_bad_length(words: &Submission, latest: u32) -> bool
 fn are_too_many(words: &[SlotWords]) -> bool
     ensures { result ≡ nat_lt greatest_alternatives (length (map words_of words.now)) }
 {
-    words.len() > 16
+    words.len() > MOST_ALTERNATIVES
 }
