@@ -4,7 +4,7 @@ ghost use Rattle.std.specs.Prelude.{◌≡◌, IfOk, MatchOption, Some, None, ma
 ghost use Rattle.mr_service.specs.Asked.{part_seen, words_of};
 ghost use Rattle.mr_words.specs.CommandTable.{server_in, commit_number_in, line_count_in, port_in, connections_in, part_in, slot_in_word};
 
-use mr_base::{LineCount, ServerId, read_number};
+use mr_base::{GREATEST_COMMIT, GREATEST_SERVER, LineCount, MOST_LINES, ServerId, read_number};
 use mr_service::{CalendarPart, SlotWords};
 use std::alloc::{AllocError, Global};
 
@@ -12,7 +12,7 @@ use std::alloc::{AllocError, Global};
 pub fn read_server(word: &str) -> Option<ServerId>
     ensures { result ≡ server_in word.now }
 {
-    let number = read_number(word, 1, 99)?;
+    let number = read_number(word, 1, GREATEST_SERVER as u64)?;
     ServerId::new(number as u32)
 }
 
@@ -20,14 +20,14 @@ pub fn read_server(word: &str) -> Option<ServerId>
 pub fn read_count(word: &str) -> Option<u64>
     ensures { result ≡ commit_number_in word.now }
 {
-    read_number(word, 0, 999_999_999_999)
+    read_number(word, 0, GREATEST_COMMIT)
 }
 
 /// The number of lines that the word writes.
 pub fn read_line_count(word: &str) -> Option<LineCount>
     ensures { result ≡ line_count_in word.now }
 {
-    let number = read_number(word, 1, 100_000)?;
+    let number = read_number(word, 1, MOST_LINES as u64)?;
     LineCount::new(number as u32)
 }
 
