@@ -1,7 +1,7 @@
 // What a replica is asked, as commands. The room is oak, and the day a Monday.
 
 use mr_base::{LineCount, Refusal};
-use mr_service::{Command, Local, CalendarPart, Service, SlotWords, Submission, reply_text};
+use mr_service::{CalendarPart, Command, Local, Service, SlotWords, Submission, reply_text};
 use mr_store::Keeper;
 use std::alloc::{AllocError, Global};
 

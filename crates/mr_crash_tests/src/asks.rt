@@ -1,7 +1,7 @@
 // What replica 2 is asked, as commands, and its replies, as texts. The room is oak, the day a Monday.
 
 use mr_base::Refusal;
-use mr_service::{Command, Local, CalendarPart, Service, SlotWords, Submission, reply_text};
+use mr_service::{CalendarPart, Command, Local, Service, SlotWords, Submission, reply_text};
 use mr_store::Keeper;
 use std::alloc::{AllocError, Global};
 

@@ -25,7 +25,7 @@ mod world_batches;
 mod world_steps;
 mod worlds;
 
-pub use commands::{Command, Local, CalendarPart, SlotWords, Submission};
+pub use commands::{CalendarPart, Command, Local, SlotWords, Submission};
 pub use replies::{Booking, LogLine, Outcome, Reply};
 pub use runs::{run, run_over_lists};
 pub use services::Service;

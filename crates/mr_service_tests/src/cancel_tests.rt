@@ -3,7 +3,7 @@
 
 use crate::same_text::same_text;
 use mr_base::{LineCount, Refusal, ServerId};
-use mr_service::{Command, Local, CalendarPart, Service, SlotWords, Submission, reply_text};
+use mr_service::{CalendarPart, Command, Local, Service, SlotWords, Submission, reply_text};
 use mr_store::ListKeeper;
 use std::alloc::{AllocError, Global};
 use std::process::Abort;

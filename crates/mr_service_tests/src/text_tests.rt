@@ -6,7 +6,9 @@ use mr_base::{
     Batch, CommitNumber, Day, Ending, Item, Position, Refusal, RoomName, ServerId, TimeOfDay,
     Title, Version, WriteId, read_minute,
 };
-use mr_service::{Booking, LogLine, Outcome, CalendarPart, Reply, refusal_text, reply_text, sheet_text};
+use mr_service::{
+    Booking, CalendarPart, LogLine, Outcome, Reply, refusal_text, reply_text, sheet_text,
+};
 use mr_tables::{BookingRow, CancelRow, ErrorRow};
 use std::alloc::Global;
 use std::process::Abort;
