@@ -16,12 +16,19 @@ pub enum Ending {
     Cut,
 }
 
-/// What one replica hands another: the version of its text, who made it and the primary, the lines, and how they end. Each
+/// Who made a batch, and the primary of its replicas.
+#[derive(Clone, Copy, Debug, PartialEq, Eq)]
+pub struct Header {
+    pub from: ServerId,
+    pub primary: ServerId,
+}
+
+/// What one replica hands another: the version of its text, its header, the lines, and how they end. Each
 /// write is one that its version can say. Without a header it is of the first version, has no items and was cut.
 #[derive(Debug, Drop)]
 pub struct Batch {
     pub version: Version,
-    pub header: Option<(ServerId, ServerId)>,
+    pub header: Option<Header>,
     pub items: Vec<Item>,
     pub ending: Ending,
 }
@@ -46,40 +53,33 @@ impl Batch {
     ghost use Rattle.mr_base.specs.Versions.{version_of};
     ghost use Rattle.mr_base.specs.Batches.{item_of, batch_seen};
 
-    /// The batch of these items, which `from` made, if this version of the exchange text can say each of them. The second can say
+    /// The batch of these items under this header, if this version of the exchange text can say each of them. The second can say
     /// all.
     pub fn new(
         version: Version,
-        from: ServerId,
-        primary: ServerId,
+        header: Header,
         items: Vec<Item>,
         ending: Ending,
     ) -> Result<Batch, Refusal>
         ensures { result ≡ ok_if (list_all (is_item (version_of version)) (map item_of items.items))
-            (batch_seen version (Some (from, primary)) items.items ending) Refusal.NeedsVersion2 }
+            (batch_seen version (Some header) items.items ending) Refusal.NeedsVersion2 }
     {
         if !are_in_version(version, items.as_slice()) {
             return Err(Refusal::NeedsVersion2);
         }
-        Ok(Batch::of_said(version, from, primary, items, ending))
+        Ok(Batch::of_said(version, header, items, ending))
     }
 
-    /// The batch of items that this version of the exchange text can say.
-    pub fn of_said(
-        version: Version,
-        from: ServerId,
-        primary: ServerId,
-        items: Vec<Item>,
-        ending: Ending,
-    ) -> Batch
+    /// The batch of items that this version of the exchange text can say, under this header.
+    pub fn of_said(version: Version, header: Header, items: Vec<Item>, ending: Ending) -> Batch
         requires { IsTrue (list_all (is_item (version_of version)) (map item_of items.items)) }
-        ensures { result ≡ batch_seen version (Some (from, primary)) items.items ending }
+        ensures { result ≡ batch_seen version (Some header) items.items ending }
     {
-        from.number();
-        primary.number();
+        header.from.number();
+        header.primary.number();
         Batch {
             version,
-            header: Some((from, primary)),
+            header: Some(header),
             items,
             ending,
         }

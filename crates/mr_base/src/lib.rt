@@ -28,7 +28,7 @@ mod writes;
 
 pub use actions::Action;
 pub use alternatives::Alternatives;
-pub use batches::{Batch, Ending, Item};
+pub use batches::{Batch, Ending, Header, Item};
 pub use commits::CommitNumber;
 pub use days::{Day, weekday_name};
 pub use jiff::civil::Weekday;

@@ -3,9 +3,9 @@
 
 use crate::same::same;
 use mr_base::{
-    Action, Alternatives, Batch, CommitNumber, Day, Ending, Item, LineCount, Meeting, Position,
-    Refusal, Request, RoomName, ServerId, Slot, Stamp, Title, Version, Write, WriteId, overlaps,
-    stamp_before,
+    Action, Alternatives, Batch, CommitNumber, Day, Ending, Header, Item, LineCount, Meeting,
+    Position, Refusal, Request, RoomName, ServerId, Slot, Stamp, Title, Version, Write, WriteId,
+    overlaps, stamp_before,
 };
 use std::alloc::Global;
 use std::test::Fail;
@@ -362,7 +362,10 @@ fn server(number: u32) -> Result<ServerId, Refusal> {
 
 // Whether a batch of a write and its commit has its version, its servers, its items and its ending.
 fn is_batch_made(alloc: Global, version: Version) -> Result<bool, Refusal> {
-    let (from, primary) = (server(2)?, server(1)?);
+    let header = Header {
+        from: server(2)?,
+        primary: server(1)?,
+    };
     let Some(seq) = CommitNumber::new(1) else {
         return Err(Refusal::NoSuchRequest);
     };
@@ -371,10 +374,10 @@ fn is_batch_made(alloc: Global, version: Version) -> Result<bool, Refusal> {
     let mut items = Vec::new(alloc);
     items.push(Item::W(made))?;
     items.push(Item::C { seq, id })?;
-    let batch = Batch::new(version, from, primary, items, Ending::More)?;
+    let batch = Batch::new(version, header, items, Ending::More)?;
     Ok(
         batch.version == version
-            && batch.header == Some((from, primary))
+            && batch.header == Some(header)
             && batch.items.len() == 2
             && batch.ending == Ending::More,
     )
@@ -391,7 +394,11 @@ fn said(alloc: Global, version: Version, write: Write) -> Result<(bool, Option<R
     let is_said = write.is_in_version(version);
     let mut items = Vec::new(alloc);
     items.push(Item::W(write))?;
-    let made = Batch::new(version, server(2)?, server(1)?, items, Ending::Complete);
+    let header = Header {
+        from: server(2)?,
+        primary: server(1)?,
+    };
+    let made = Batch::new(version, header, items, Ending::Complete);
     Ok((is_said, made.err()))
 }
 

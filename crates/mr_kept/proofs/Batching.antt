@@ -134,7 +134,7 @@ items_said a p m sound = go (list_any (is_beyond p.version) (take m (items_for a
 
 -- the batch that is made of them in the position's version, or the refusal of one that this version can't say
 pub batch_made : (a : Replica) (p : Position) (m : ℕ) (v : Version) (there : List Item) (more : Bool) → IsReplica a → version_of v ≡ p.version → (p.primary == a.primary) ≡ true → nat_lt p.commits a.dropped ≡ false → Offers m (items_for a p) there more
-    → reply_with BatchIs (ok_if (list_all (model.is_item (version_of v)) (map item_of there)) (base.batch_seen v (Some (a.server, a.primary)) there (ending_by more)) refusal.NeedsVersion2) ≡ batch_reply a p m
+    → reply_with BatchIs (ok_if (list_all (model.is_item (version_of v)) (map item_of there)) (base.batch_seen v (Some (record { from = a.server; primary = a.primary })) there (ending_by more)) refusal.NeedsVersion2) ≡ batch_reply a p m
 batch_made a p m v there more sound version own whole o =
     let e = ending more ∙ ap (λ b. cond b model.More model.Complete) o.rest in
     (λ t. made (list_all (model.is_item (version t)) (o.first t)) (record { version = version t; header = Some (record { from = a.server; primary = a.primary }); items = o.first t; ending = e t }))

@@ -10,8 +10,8 @@ ghost use Rattle.mr_base.specs.Versions.{version_of};
 ghost use Rattle.mr_kept.specs.Outgoing.{Offers, committed_items, lacked_items, kept_items, ending_by};
 
 use mr_base::{
-    Batch, CommitNumber, Ending, Item, LineCount, Position, Refusal, ServerId, Version, Write,
-    WriteId,
+    Batch, CommitNumber, Ending, Header, Item, LineCount, Position, Refusal, ServerId, Version,
+    Write, WriteId,
 };
 use mr_tables::summary::Summary;
 use std::alloc::Global;
@@ -39,22 +39,17 @@ impl Outgoing {
         }
     }
 
-    /// The batch of these items, which `from` makes, if this version of the exchange text can say each of them.
-    pub fn into_batch(
-        self,
-        version: Version,
-        from: ServerId,
-        primary: ServerId,
-    ) -> Result<Batch, Refusal>
+    /// The batch of these items under this header, if this version of the exchange text can say each of them.
+    pub fn into_batch(self, version: Version, header: Header) -> Result<Batch, Refusal>
         ensures { result ≡ ok_if (list_all (is_item (version_of version)) (map item_of self.items.items))
-            (batch_seen version (Some (from, primary)) self.items.items (ending_by self.more)) Refusal.NeedsVersion2 }
+            (batch_seen version (Some header) self.items.items (ending_by self.more)) Refusal.NeedsVersion2 }
     {
         let ending = if self.more {
             Ending::More
         } else {
             Ending::Complete
         };
-        Batch::new(version, from, primary, self.items, ending)
+        Batch::new(version, header, self.items, ending)
     }
 
     /// One item more: a write.

@@ -7,7 +7,7 @@ ghost use Rattle.mr_part.specs.Parts.{AnswersPart};
 ghost use Rattle.mr_tables.specs.Summary.{IsWithin};
 
 use crate::Part;
-use mr_base::{Batch, LineCount, Position, Refusal};
+use mr_base::{Batch, Header, LineCount, Position, Refusal};
 use mr_kept::outgoing::outgoing_for;
 
 impl Part {
@@ -31,6 +31,10 @@ impl Part {
         let mut summary = self.summary;
         summary.dropped = position.commits;
         let outgoing = outgoing_for(self.alloc, &summary, &self.kept, position, max_lines)?;
-        outgoing.into_batch(position.version, summary.server, summary.primary)
+        let header = Header {
+            from: summary.server,
+            primary: summary.primary,
+        };
+        outgoing.into_batch(position.version, header)
     }
 }

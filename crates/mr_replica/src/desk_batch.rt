@@ -4,7 +4,7 @@ ghost use Rattle.mr_model.specs.Step.{leave, batch_reply};
 ghost use Rattle.mr_kept.specs.Desk.{DeskTakesStep, NeverStore, IsWithinLimits};
 
 use crate::Desk;
-use mr_base::{Batch, LineCount, Position, Refusal};
+use mr_base::{Batch, Header, LineCount, Position, Refusal};
 use mr_kept::outgoing::outgoing_for;
 
 impl Desk {
@@ -31,6 +31,10 @@ impl Desk {
             position,
             max_lines,
         )?;
-        outgoing.into_batch(position.version, self.summary.server, self.summary.primary)
+        let header = Header {
+            from: self.summary.server,
+            primary: self.summary.primary,
+        };
+        outgoing.into_batch(position.version, header)
     }
 }

@@ -51,10 +51,10 @@ impl Desk {
         ensures own { NeverStore result }
     {
         batch.is_within_limits();
-        let Some((_, primary)) = batch.header else {
+        let Some(header) = batch.header else {
             return Ok((0, 0, self.no_change()));
         };
-        if primary != self.summary.primary {
+        if header.primary != self.summary.primary {
             return Err(Refusal::WrongPrimary);
         }
         let taken = self.take_items(&batch.items)?;

@@ -3,8 +3,8 @@
 
 use crate::tables::{Rows, tables};
 use mr_base::{
-    Alternatives, Batch, CommitNumber, Day, Ending, Item, LineCount, Position, Refusal, Request,
-    RoomName, ServerId, Slot, Stamp, Version, Write, WriteId,
+    Alternatives, Batch, CommitNumber, Day, Ending, Header, Item, LineCount, Position, Refusal,
+    Request, RoomName, ServerId, Slot, Stamp, Version, Write, WriteId,
 };
 use mr_replica::Desk;
 use mr_tables::Change;
@@ -122,7 +122,10 @@ pub(crate) fn batch(alloc: Global, primary: u32, lines: &[Line]) -> Result<Batch
         items.push(item(alloc, *line)?)?;
     }
     match ServerId::new(primary) {
-        Some(primary) => Batch::new(version, server(1)?, primary, items, Ending::Complete),
+        Some(primary) => {
+            let from = server(1)?;
+            Batch::new(version, Header { from, primary }, items, Ending::Complete)
+        }
         None => Ok(Batch::without_header(Vec::new(alloc))),
     }
 }

@@ -3,8 +3,8 @@
 
 use crate::same_text::same_text;
 use mr_base::{
-    Batch, CommitNumber, Day, Ending, Item, Position, Refusal, RoomName, ServerId, TimeOfDay,
-    Title, Version, WriteId, read_minute,
+    Batch, CommitNumber, Day, Ending, Header, Item, Position, Refusal, RoomName, ServerId,
+    TimeOfDay, Title, Version, WriteId, read_minute,
 };
 use mr_service::{
     Booking, CalendarPart, LogLine, Outcome, Reply, refusal_text, reply_text, sheet_text,
@@ -184,7 +184,11 @@ fn batch(alloc: Global, version: Version) -> Result<Reply, Refusal> {
     };
     let (server, id) = (server(1)?, WriteId::read("1-1")?);
     let items = vec![in alloc; Item::C { seq, id }]?;
-    let batch = Batch::new(version, server, server, items, Ending::Complete)?;
+    let header = Header {
+        from: server,
+        primary: server,
+    };
+    let batch = Batch::new(version, header, items, Ending::Complete)?;
     Ok(Reply::Batch(batch))
 }
 

@@ -22,7 +22,7 @@ pub(crate) fn first_bad_line(bytes: &[u8]) -> Option<u64>
         return None;
     };
     match read_header(line) {
-        Some((version, _, _)) => first_bad_below(version, rest),
+        Some((version, _)) => first_bad_below(version, rest),
         None => Some(1),
     }
 }

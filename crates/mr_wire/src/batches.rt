@@ -59,11 +59,11 @@ fn batch_of(alloc: Global, bytes: &[u8]) -> Result<Batch, Refusal>
     let Some((line, rest)) = first_line(bytes) else {
         return Ok(Batch::without_header(Vec::new(alloc)));
     };
-    let Some((version, from, primary)) = read_header(line) else {
+    let Some((version, header)) = read_header(line) else {
         return Err(Refusal::BadLine(1));
     };
     let (items, ending) = read_body(alloc, version, rest)?;
-    Ok(Batch::of_said(version, from, primary, items, ending))
+    Ok(Batch::of_said(version, header, items, ending))
 }
 
 /// The items and the ending on the lines below the header. The first of these lines has the number 2.

@@ -12,8 +12,8 @@ use crate::fields::{choices_off, front_off, id_of, number_off};
 use crate::versions::{batch_word, most_alternatives, servers_under};
 use crate::words::first_word;
 use mr_base::{
-    Alternatives, CommitNumber, Ending, GREATEST_COMMIT, Item, MINUTES_OF_A_DAY, RoomName,
-    ServerId, Slot, Stamp, Title, Version, Write, WriteId, is_title_text,
+    Alternatives, CommitNumber, Ending, GREATEST_COMMIT, Header, Item, MINUTES_OF_A_DAY, RoomName,
+    Slot, Stamp, Title, Version, Write, WriteId, is_title_text,
 };
 use std::alloc::Global;
 
@@ -103,18 +103,16 @@ pub(crate) fn commit_of(text: &str) -> Option<Item>
 }
 
 #[tactic(auto, unfolding(crate::specs::Fields::heading_of))]
-fn heading_of(text: &str) -> Option<(Version, ServerId, ServerId)>
+fn heading_of(text: &str) -> Option<(Version, Header)>
     ensures { heading_seen result ≡ heading_of text.now }
 {
-    servers_under(
-        text,
-        batch_word(Version::First),
-        batch_word(Version::Second),
-    )
+    let (first, second) = (batch_word(Version::First), batch_word(Version::Second));
+    let (version, from, primary) = servers_under(text, first, second)?;
+    Some((version, Header { from, primary }))
 }
 
-/// The version of a header line and its two servers: who made the batch, and the primary.
-pub(crate) fn read_header(line: &[u8]) -> Option<(Version, ServerId, ServerId)>
+/// The version of a header line, and its header.
+pub(crate) fn read_header(line: &[u8]) -> Option<(Version, Header)>
     ensures { heading_seen result ≡ read_header line.now }
 {
     match str::from_utf8(line) {

@@ -11,8 +11,8 @@ ghost use Rattle.mr_wire.specs.Writing.{slot_front, slots_front, front_text, cho
 
 use crate::versions::{batch_word, position_word};
 use mr_base::{
-    Action, Batch, Ending, Item, Meeting, Position, Refusal, RoomName, ServerId, Slot, Stamp,
-    TimeOfDay, Write, WriteId,
+    Action, Batch, Ending, Header, Item, Meeting, Position, Refusal, RoomName, ServerId, Slot,
+    Stamp, TimeOfDay, Write, WriteId,
 };
 use std::alloc::{AllocError, Global};
 use std::fmt;
@@ -31,7 +31,7 @@ fn batch_bytes(alloc: Global, batch: &Batch) -> Result<Vec<u8>, Refusal>
     ensures { GivesSeen (λ v. v.items) result (Ok (batch_text batch.now)) }
 {
     let mut text = String::new(alloc);
-    if let Some((from, primary)) = batch.header {
+    if let Some(Header { from, primary }) = batch.header {
         let word = batch_word(batch.version);
         write!(text, "{word} {from} {primary}\n")?;
         push_items(&mut text, batch.items.as_slice())?;

@@ -2,8 +2,8 @@
 // clauses, so that its proof carries no values that own memory.
 
 use mr_base::{
-    Alternatives, Batch, CommitNumber, Day, Ending, Item, Position, Refusal, RoomName, ServerId,
-    Slot, Stamp, Title, Version, Write, WriteId, read_minute,
+    Alternatives, Batch, CommitNumber, Day, Ending, Header, Item, Position, Refusal, RoomName,
+    ServerId, Slot, Stamp, Title, Version, Write, WriteId, read_minute,
 };
 use mr_wire::{read_batch, read_position, write_batch, write_position};
 use std::alloc::Global;
@@ -91,12 +91,15 @@ fn batch(
     lines: &[Line],
     ending: Ending,
 ) -> Result<Batch, Refusal> {
-    let (from, primary) = (server(from)?, server(1)?);
+    let header = Header {
+        from: server(from)?,
+        primary: server(1)?,
+    };
     let mut items = Vec::new(alloc);
     for line in lines {
         items.push(item(alloc, *line)?)?;
     }
-    Batch::new(version, from, primary, items, ending)
+    Batch::new(version, header, items, ending)
 }
 
 fn is_written_as(alloc: Global, batch: &Batch, text: &str) -> Result<bool, Refusal> {

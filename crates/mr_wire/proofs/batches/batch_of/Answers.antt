@@ -20,5 +20,5 @@ of_said-requires c = said_items c.args.bytes.now c.in-Some.line.now c.in-Some.re
 
 pub returns : goal.returns
 returns c =
-    let said : c.of_said.result ≡ batch_seen c.in-Some-read_header.version (Some (c.in-Some-read_header.from, c.in-Some-read_header.primary)) c.in_ok-items.items.items c.in_ok-items.ending = search rules in
+    let said : c.of_said.result ≡ batch_seen c.in-Some-read_header.version (Some c.in-Some-read_header.header) c.in_ok-items.items.items c.in_ok-items.ending = search rules in
     whole_batch c.args.bytes.now c.in-Some.line.now c.in-Some.rest.now _ _ c.in-Some.ensures.value c.in-Some-read_header.ensures c.in_ok-items.ensures ∙ ap Ok (sym said)

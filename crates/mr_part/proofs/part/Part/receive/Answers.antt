@@ -25,7 +25,7 @@ pub returns-in_err-taken-clause-step : goal.returns-in_err-taken-clause-step
 returns-in_err-taken-clause-step c = λ a sound part.
     let p = err_from_is_err_and c.from_residual.result c.from_residual.ensures.1 in
     let b = c.batch.view_is in
-    let h : Header = record { from = c.in-Some.field-0-0; primary = c.in-Some.primary } in
+    let h : Header = record { from = c.in-Some.header.from; primary = c.in-Some.header.primary } in
     let header : c.args.batch.now.header ≡ Some h = sym (ap (λ (b : Batch). b.header) b) ∙ ap header_of c.in-Some.is in
     let items : map item_of c.deref.result.now ≡ c.args.batch.now.items = ap (map item_of) c.deref.ensures.value ∙ ap (λ (b : Batch). b.items) b in
     let good = items_good c.args.batch.now h (map item_of c.deref.result.now) header items c.is_within_limits.ensures in
@@ -34,7 +34,7 @@ returns-in_err-taken-clause-step c = λ a sound part.
     let size = ap length c.deref.ensures.value in
     let short : length c.deref.result.now + 2 < 18446744073709551616 = omega arith in
     let primary = ap (λ (v : PartView). v.summary.primary) (c.self.view_is ∙ part) in
-    let own : (c.in-Some.primary == a.primary) ≡ true = own_primary c.in-Some.primary c.self.inside.summary.primary a.primary c.ne.result c.ne.ensures c.if-ne.false primary in
+    let own : (c.in-Some.header.primary == a.primary) ≡ true = own_primary c.in-Some.header.primary c.self.inside.summary.primary a.primary c.ne.result c.ne.ensures c.if-ne.false primary in
     let step = ap (λ xs. after_items a (take_items xs 2 (Ok (nothing_taken a)))) items ∙ sym (receive_done a c.args.batch.now h header own) in
     let mine = subst (λ (xs : List Item). IsPartOf c.args.self (OfItems xs) a) (sym items) part in
     subst (λ r. Owed a r (receive_batch a c.args.batch.now)) (sym (p.1 ∙ ap Err p.2))
@@ -43,7 +43,7 @@ returns-in_err-taken-clause-step c = λ a sound part.
 pub returns-clause-step : goal.returns-clause-step
 returns-clause-step c = λ a sound part.
     let b = c.batch.view_is in
-    let h : Header = record { from = c.in-Some.field-0-0; primary = c.in-Some.primary } in
+    let h : Header = record { from = c.in-Some.header.from; primary = c.in-Some.header.primary } in
     let header : c.args.batch.now.header ≡ Some h = sym (ap (λ (b : Batch). b.header) b) ∙ ap header_of c.in-Some.is in
     let items : map item_of c.deref.result.now ≡ c.args.batch.now.items = ap (map item_of) c.deref.ensures.value ∙ ap (λ (b : Batch). b.items) b in
     let good = items_good c.args.batch.now h (map item_of c.deref.result.now) header items c.is_within_limits.ensures in
@@ -52,7 +52,7 @@ returns-clause-step c = λ a sound part.
     let size = ap length c.deref.ensures.value in
     let short : length c.deref.result.now + 2 < 18446744073709551616 = omega arith in
     let primary = ap (λ (v : PartView). v.summary.primary) (c.self.view_is ∙ part) in
-    let own : (c.in-Some.primary == a.primary) ≡ true = own_primary c.in-Some.primary c.self.inside.summary.primary a.primary c.ne.result c.ne.ensures c.if-ne.false primary in
+    let own : (c.in-Some.header.primary == a.primary) ≡ true = own_primary c.in-Some.header.primary c.self.inside.summary.primary a.primary c.ne.result c.ne.ensures c.if-ne.false primary in
     let step = ap (λ xs. after_items a (take_items xs 2 (Ok (nothing_taken a)))) items ∙ sym (receive_done a c.args.batch.now h header own) in
     let mine = subst (λ (xs : List Item). IsPartOf c.args.self (OfItems xs) a) (sym items) part in
     subst (Owed a (Ok c.in_ok-taken.taken)) step (c.in_ok-taken.ensures.step good short a sound mine)
@@ -66,8 +66,8 @@ returns-in_default-clause-step c = λ a sound part.
 
 pub returns-then-ne-clause-step : goal.returns-then-ne-clause-step
 returns-then-ne-clause-step c = λ a sound part.
-    let h : Header = record { from = c.in-Some.field-0-0; primary = c.in-Some.primary } in
+    let h : Header = record { from = c.in-Some.header.from; primary = c.in-Some.header.primary } in
     let header : c.args.batch.now.header ≡ Some h = sym (ap (λ (b : Batch). b.header) c.batch.view_is) ∙ ap header_of c.in-Some.is in
     let primary = ap (λ (v : PartView). v.summary.primary) (c.self.view_is ∙ part) in
-    let other : (c.in-Some.primary == a.primary) ≡ false = other_primary c.in-Some.primary c.self.inside.summary.primary a.primary c.ne.result c.ne.ensures c.if-ne.true primary in
+    let other : (c.in-Some.header.primary == a.primary) ≡ false = other_primary c.in-Some.header.primary c.self.inside.summary.primary a.primary c.ne.result c.ne.ensures c.if-ne.true primary in
     inl (sym (receive_other a c.args.batch.now h header other), tt)

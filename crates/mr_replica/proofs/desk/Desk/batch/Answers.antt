@@ -48,4 +48,4 @@ returns-clause-step c = λ a sound stands.
     let v = c.position.inside.version in
     let version : version_of v ≡ p.version = ap (λ (q : Position). q.version) c.position.view_is in
     let made = batch_made a p c.args.max_lines v there more sound version own whole offers in
-    inl (ap (reply_with BatchIs) (c.into_batch.ensures ∙ (λ t. ok_if (list_all (is_item (version_of v)) (map item_of there)) (batch_seen v (Some ((e t).server, (e t).primary)) there (ending_by more)) NeedsVersion2)) ∙ made, stands)
+    inl (ap (reply_with BatchIs) (c.into_batch.ensures ∙ (λ t. ok_if (list_all (is_item (version_of v)) (map item_of there)) (batch_seen v (Some (record { from = (e t).server; primary = (e t).primary })) there (ending_by more)) NeedsVersion2)) ∙ made, stands)

@@ -21,7 +21,7 @@ pub returns-in_err-taken-clause-step : goal.returns-in_err-taken-clause-step
 returns-in_err-taken-clause-step c = λ a sound stands.
     let p = err_from_is_err_and c.from_residual.result c.from_residual.ensures.1 in
     let b = c.batch.view_is in
-    let h : Header = record { from = c.in-Some.field-0-0; primary = c.in-Some.primary } in
+    let h : Header = record { from = c.in-Some.header.from; primary = c.in-Some.header.primary } in
     let header : c.args.batch.now.header ≡ Some h = sym (ap (λ (b : Batch). b.header) b) ∙ ap header_of c.in-Some.is in
     let items : map item_of c.deref.result.now ≡ c.args.batch.now.items = ap (map item_of) c.deref.ensures.value ∙ ap (λ (b : Batch). b.items) b in
     let good = items_good c.args.batch.now h (map item_of c.deref.result.now) header items c.is_within_limits.ensures in
@@ -30,7 +30,7 @@ returns-in_err-taken-clause-step c = λ a sound stands.
     let size = ap length c.deref.ensures.value in
     let short : length c.deref.result.now + 2 < 18446744073709551616 = omega arith in
     let primary = ap (λ (d : DeskView). d.primary) (c.self.view_is ∙ stands) in
-    let own : (c.in-Some.primary == a.primary) ≡ true = own_primary c.in-Some.primary c.self.inside.summary.primary a.primary c.ne.result c.ne.ensures c.if-ne.false primary in
+    let own : (c.in-Some.header.primary == a.primary) ≡ true = own_primary c.in-Some.header.primary c.self.inside.summary.primary a.primary c.ne.result c.ne.ensures c.if-ne.false primary in
     let step = ap (λ xs. after_items a (take_items xs 2 (Ok (nothing_taken a)))) items ∙ sym (receive_done a c.args.batch.now h header own) in
     subst (λ r. Owed c.args.self.now c.take_items.new.self r (receive_batch a c.args.batch.now)) (sym (p.1 ∙ ap Err p.2))
     (subst (Owed c.args.self.now c.take_items.new.self (Err c.in_err-taken.field-0.0)) step (c.in_err-taken.ensures.step good short a sound stands))
@@ -39,7 +39,7 @@ returns-in_err-taken-clause-step c = λ a sound stands.
 ready : (c : goal.In_ok-taken) → (list_all (is_item Second) (map item_of c.deref.result.now) ≡ true) × (length c.deref.result.now + 2 < 18446744073709551616)
 ready c =
     let b = c.batch.view_is in
-    let h : Header = record { from = c.in-Some.field-0-0; primary = c.in-Some.primary } in
+    let h : Header = record { from = c.in-Some.header.from; primary = c.in-Some.header.primary } in
     let header : c.args.batch.now.header ≡ Some h = sym (ap (λ (b : Batch). b.header) b) ∙ ap header_of c.in-Some.is in
     let items : map item_of c.deref.result.now ≡ c.args.batch.now.items = ap (map item_of) c.deref.ensures.value ∙ ap (λ (b : Batch). b.items) b in
     let ok = c.batch.inside.items.ok in
@@ -50,11 +50,11 @@ ready c =
 pub returns-clause-step : goal.returns-clause-step
 returns-clause-step c = λ a sound stands.
     let b = c.batch.view_is in
-    let h : Header = record { from = c.in-Some.field-0-0; primary = c.in-Some.primary } in
+    let h : Header = record { from = c.in-Some.header.from; primary = c.in-Some.header.primary } in
     let header : c.args.batch.now.header ≡ Some h = sym (ap (λ (b : Batch). b.header) b) ∙ ap header_of c.in-Some.is in
     let items : map item_of c.deref.result.now ≡ c.args.batch.now.items = ap (map item_of) c.deref.ensures.value ∙ ap (λ (b : Batch). b.items) b in
     let primary = ap (λ (d : DeskView). d.primary) (c.self.view_is ∙ stands) in
-    let own : (c.in-Some.primary == a.primary) ≡ true = own_primary c.in-Some.primary c.self.inside.summary.primary a.primary c.ne.result c.ne.ensures c.if-ne.false primary in
+    let own : (c.in-Some.header.primary == a.primary) ≡ true = own_primary c.in-Some.header.primary c.self.inside.summary.primary a.primary c.ne.result c.ne.ensures c.if-ne.false primary in
     let step = ap (λ xs. after_items a (take_items xs 2 (Ok (nothing_taken a)))) items ∙ sym (receive_done a c.args.batch.now h header own) in
     subst (Owed c.args.self.now c.take_items.new.self (Ok c.in_ok-taken.taken)) step (c.in_ok-taken.ensures.step (ready c).0 (ready c).1 a sound stands)
 
