@@ -7,7 +7,7 @@ use Rattle.std.specs.Ordering.{nat_cmp, ordering_then}
 use Rattle.std.specs.Cmp.{IsTotalOrder}
 use Rattle.std.specs.Cmp.Lexicographic.{slice_cmp}
 use Rattle.std.proofs.lemmas.Bool.{or_cases, and_parts}
-use Rattle.std.proofs.lemmas.Cmp.{on_total, nat_cmp_total, nat_list_cmp_total, then_total}
+use Rattle.std.proofs.lemmas.Cmp.{on_total, nat_cmp_total, nat_list_cmp_total}
 use Rattle.std.proofs.lemmas.List.Sorted.{IsPermutation-trans}
 use Rattle.sqlite_trees.specs.Tree.{IsAscending}
 use Rattle.sqlite_keyed.proofs.SortLemmas.{sorted_unique}
@@ -21,7 +21,6 @@ use Rattle.mr_tables.specs.Change.{id_before}
 use Rattle.mr_tables.proofs.Putting.{InOrder, id_before-true, id_order, number_order, name_order}
 use Rattle.mr_base.specs.Ids.{id_cmp}
 use Rattle.mr_replay.proofs.IdKeys.{ids_total}
-use Rattle.mr_rows.specs.Reads.{time_cmp}
 use Rattle.sqlite_trees.specs.Tree.{Trees}
 use Rattle.mr_rows.specs.RowCells.{room_in, vector_in, log_in, booking_row_from, error_in, cancelled_in, cancel_row_from}
 use Rattle.mr_rows.specs.Database.{tables_in}
@@ -49,12 +48,6 @@ cancelled_total = on_total cancelled_id ids_total
 
 pub cancel_total : IsTotalOrder (λ (a b : CancelRow). id_cmp (cancel_id a) (cancel_id b))
 cancel_total = on_total cancel_id ids_total
-
-pub time_total : IsTotalOrder time_cmp
-time_total =
-    then_total
-    (then_total (on_total (λ (a : BookingRow). a.day.year) nat_cmp_total) (then_total (on_total (λ (a : BookingRow). a.day.month) nat_cmp_total) (on_total (λ (a : BookingRow). a.day.day) nat_cmp_total)))
-    (then_total (on_total (λ (a : BookingRow). a.start) nat_cmp_total) (then_total (on_total (λ (a : BookingRow). a.server) nat_cmp_total) (on_total (λ (a : BookingRow). a.n) nat_cmp_total)))
 
 -- ---- what comes before in the tables is less
 

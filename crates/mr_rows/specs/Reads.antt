@@ -1,11 +1,8 @@
--- What a call answers that only reads, and the orders of what it answers.
+-- What a call answers that only reads.
 use Rattle.std.specs.Prelude.{◌≡◌, List, [], ◌∷◌, Option, Some, None, IsTrue, Result, OnOk, IfOk}
-use Rattle.std.specs.declared.cmp.Ordering.{Ordering}
-use Rattle.std.specs.Ordering.{nat_cmp, ordering_then}
 use Rattle.sqlite.specs.State.{State, HasCleanDisk, Survives}
 use Rattle.sqlite.specs.declared.error.Error.{Error}
-use Rattle.mr_model.specs.Calendar.{Date}
-use Rattle.mr_model.specs.Tables.{MetaRow, BookingRow}
+use Rattle.mr_model.specs.Tables.{MetaRow}
 use Rattle.sqlite_trees.specs.Tree.{Trees}
 use Rattle.sqlite_schema.specs.declared.schema.Schema.{Schema}
 use Rattle.mr_rows.specs.Schema.{our_schema}
@@ -51,10 +48,3 @@ first_of (x ∷ xs) = Some x
 -- the rows of `meta`, of which there is one at most
 abbrev pub metas_in : Trees → List MetaRow
 metas_in trees = in_order meta_form (trees 0)
-
-abbrev pub date_cmp : Date → Date → Ordering
-date_cmp a b = ordering_then (nat_cmp a.year b.year) (ordering_then (nat_cmp a.month b.month) (nat_cmp a.day b.day))
-
--- by day, start, server and count
-abbrev pub time_cmp : BookingRow → BookingRow → Ordering
-time_cmp a b = ordering_then (date_cmp a.day b.day) (ordering_then (nat_cmp a.start b.start) (ordering_then (nat_cmp a.server b.server) (nat_cmp a.n b.n)))

@@ -18,7 +18,7 @@ pub mod found;
 mod log_stamps;
 mod meta_row;
 pub mod numbers;
-pub mod order;
+mod order;
 mod passing;
 pub mod puts;
 pub mod queries;

@@ -1,13 +1,12 @@
 -- What the keeper's queries answer of the tables.
-use Rattle.std.proofs.Common.{◌≡◌, ℕ, Bool, true, false, ◌&&◌, ◌||◌, ◌==◌, cond, if◌then◌else◌, List, [], ◌∷◌, filter, inl, inr, Option, Some, None, refl, sym, ap, subst, ◌∙◌, is_lt, is_eq, Ordering, Less, Equal, Greater, arith, get_or, ◌+◌}
-use Rattle.std.specs.Prelude.{bytes_eq, find, nat_lt}
-use Rattle.std.specs.List.Sorted.{IsPermutation, IsSorted}
-use Rattle.std.specs.Ordering.{nat_cmp, ordering_then}
+use Rattle.std.proofs.Common.{◌≡◌, Bool, true, false, ◌&&◌, cond, if◌then◌else◌, List, [], ◌∷◌, filter, inl, inr, Option, Some, None, refl, sym, ap, subst, ◌∙◌}
+use Rattle.std.specs.Prelude.{bytes_eq, find}
+use Rattle.std.specs.List.Sorted.{IsPermutation, IsSortedBy}
 use Rattle.std.proofs.lemmas.List.Sorted.{IsPermutation-trans}
 use Rattle.sqlite_trees.proofs.ListLemmas.{IsPermutation-filter}
 use Rattle.sqlite_trees.specs.Tree.{Trees}
 use Rattle.mr_model.specs.Texts.{Text}
-use Rattle.mr_model.specs.Calendar.{Date, same_date, date_before}
+use Rattle.mr_model.specs.Calendar.{Date}
 use Rattle.mr_model.specs.Writes.{Id, same_id}
 use Rattle.mr_model.specs.Tables.{BookingRow, ErrorRow, CancelledRow, CancelRow, Tables}
 use Rattle.mr_model.specs.Queries.{booking_id, error_id, cancelled_id, cancel_id}
@@ -15,7 +14,6 @@ use Rattle.mr_model.specs.Dropped.{Has}
 use Rattle.mr_model.proofs.Members.{find_none}
 use Rattle.mr_tables.proofs.Putting.{OneAKey}
 use Rattle.mr_rows.specs.Database.{tables_in}
-use Rattle.mr_rows.specs.Reads.{date_cmp, time_cmp}
 use Rattle.mr_rows.specs.RowQuestions.{is_booking_asked}
 use Rattle.mr_rows.proofs.FirstLemmas.{bookings_apart, errors_apart, cancelled_apart, cancels_apart}
 use Rattle.mr_rows.proofs.ValueLemmas.{among_one, or_false}
@@ -36,73 +34,9 @@ asked_both day room (r ∷ rows) = go (bytes_eq r.room room) (asked_both day roo
     go true ih = ap (λ more. cond (is_day_asked day r.day) (r ∷ more) more) ih
     go false ih = ih
 
-lt_then : (o p : Ordering) → is_lt (ordering_then o p) ≡ (is_lt o || (is_eq o && is_lt p))
-lt_then Less p = refl
-lt_then Equal p = refl
-lt_then Greater p = refl
-
-eq_then : (o p : Ordering) → is_eq (ordering_then o p) ≡ (is_eq o && is_eq p)
-eq_then Less p = refl
-eq_then Equal p = refl
-eq_then Greater p = refl
-
-lt_nat : (a b : ℕ) → is_lt (nat_cmp a b) ≡ nat_lt a b
-lt_nat a b = grind (arith)
-
-eq_nat : (a b : ℕ) → is_eq (nat_cmp a b) ≡ (a == b)
-eq_nat a b = grind (arith)
-
-date_lt : (d e : Date) → is_lt (date_cmp d e) ≡ date_before d e
-date_lt d e =
-    rw (
-      lt_then (nat_cmp d.year e.year) (ordering_then (nat_cmp d.month e.month) (nat_cmp d.day e.day)),
-      lt_then (nat_cmp d.month e.month) (nat_cmp d.day e.day),
-      lt_nat d.year e.year,
-      eq_nat d.year e.year,
-      lt_nat d.month e.month,
-      eq_nat d.month e.month,
-      lt_nat d.day e.day,
-    )
-
-date_eq : (d e : Date) → is_eq (date_cmp d e) ≡ same_date d e
-date_eq d e =
-    rw (
-      eq_then (nat_cmp d.year e.year) (ordering_then (nat_cmp d.month e.month) (nat_cmp d.day e.day)),
-      eq_then (nat_cmp d.month e.month) (nat_cmp d.day e.day),
-      eq_nat d.year e.year,
-      eq_nat d.month e.month,
-      eq_nat d.day e.day,
-    )
-    (regrouped (d.year == e.year) (d.month == e.month) (d.day == e.day))
-  where
-    regrouped : (x y z : Bool) → (x && (y && z)) ≡ ((x && y) && z)
-    regrouped true y z = refl
-    regrouped false y z = refl
-
-same_order : (a b : BookingRow) → is_lt (time_cmp a b) ≡ booking_before a b
-same_order a b =
-    let n = nat_cmp a.n b.n in
-    let server = nat_cmp a.server b.server in
-    let start = nat_cmp a.start b.start in
-    rw (
-      lt_then (date_cmp a.day b.day) (ordering_then start (ordering_then server n)),
-      lt_then start (ordering_then server n),
-      lt_then server n,
-      date_lt a.day b.day,
-      date_eq a.day b.day,
-      lt_nat a.start b.start,
-      eq_nat a.start b.start,
-      lt_nat a.server b.server,
-      eq_nat a.server b.server,
-      lt_nat a.n b.n,
-    )
-
-pub calendar_is : (room : Text) (day : Option Date) (t : Tables) (shown out : List BookingRow) → IsPermutation (filter (is_booking_asked room) t.booking) shown → IsPermutation (filter (λ r. is_day_asked day r.day) shown) out → IsSorted time_cmp out
+pub calendar_is : (room : Text) (day : Option Date) (t : Tables) (shown out : List BookingRow) → IsPermutation (filter (is_booking_asked room) t.booking) shown → IsPermutation (filter (λ r. is_day_asked day r.day) shown) out → IsSortedBy booking_before out
     → AreBookings room day t out
-calendar_is room day t shown out read same sorted = (
-  subst (λ xs. IsPermutation xs out) (asked_both day room t.booking) (IsPermutation-trans _ _ _ (IsPermutation-filter (λ r. is_day_asked day r.day) _ _ read) same),
-  λ k d low high. sym (same_order (get_or out (k + 1) d) (get_or out k d)) ∙ sorted k d low high,
-)
+calendar_is room day t shown out read same sorted = (subst (λ xs. IsPermutation xs out) (asked_both day room t.booking) (IsPermutation-trans _ _ _ (IsPermutation-filter (λ r. is_day_asked day r.day) _ _ read) same), sorted)
 
 -- ---- the one of the rows of an id that is of the room
 

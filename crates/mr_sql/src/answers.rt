@@ -1,22 +1,22 @@
 ghost use Rattle.std.specs.Prelude.{◌≡◌, ◌∷◌, false, map, filter, find, IfOk};
-ghost use Rattle.std.specs.List.Sorted.{IsPermutation, IsSorted};
+ghost use Rattle.std.specs.List.Sorted.{IsPermutation, IsSortedBy};
 ghost use Rattle.sqlite_value.specs.declared.value.Value.TheVariants.{Null};
 ghost use Rattle.sqlite.specs.Held.{state};
 ghost use Rattle.mr_model.specs.Writes.{same_id};
 ghost use Rattle.mr_model.specs.Queries.{booking_id, error_id, cancelled_id, cancel_id};
-ghost use Rattle.mr_store.specs.Picked.{is_day_asked as day_is_asked, picked_errors, picked_cancelled, picked_cancels, AreBookings, IsPlaceOf};
+ghost use Rattle.mr_store.specs.Picked.{is_day_asked as day_is_asked, booking_before, picked_errors, picked_cancelled, picked_cancels, AreBookings, IsPlaceOf};
 ghost use Rattle.mr_rows.specs.RowCells.{booking_row_from};
 ghost use Rattle.mr_rows.specs.Database.{tables_in};
-ghost use Rattle.mr_rows.specs.Reads.{ReadsKept, first_of, time_cmp};
+ghost use Rattle.mr_rows.specs.Reads.{ReadsKept, first_of};
 ghost use Rattle.mr_sql.specs.PlaceOfId.{AreRowsOf, AreCancelRowsOf, taken_in, chosen};
 
 use mr_base::{Day, RoomName, WriteId};
-use mr_rows::order::sort_by_time;
 use mr_rows::queries::{
     select_key_booking, select_key_cancel, select_key_cancelled, select_key_error,
     select_room_booking, select_room_cancel, select_room_cancelled, select_room_error,
 };
 use mr_rows::{StoredRow, all_rows, read_all};
+use mr_store::sort_bookings;
 use mr_tables::{BookingRow, CancelRow, CancelledRow, ErrorRow, PlaceRow};
 use sqlite::{Alter, Connection, Error, Row};
 use std::alloc::Global;
@@ -54,11 +54,11 @@ fn keep_asked(rows: &mut Vec<BookingRow>, day: Option<Day>)
 /// Of these rows those of the day, in the order of a calendar.
 fn calendar(alloc: Global, rows: &[Row], day: Option<Day>) -> Result<Vec<BookingRow>, Error>
     ensures same { IfOk result (λ out. IsPermutation (filter (λ row. day_is_asked day row.day) (map (λ row. booking_row_from (Null ∷ row)) rows.now)) out.items) }
-    ensures sorted { IfOk result (λ out. IsSorted time_cmp out.items) }
+    ensures sorted { IfOk result (λ out. IsSortedBy booking_before out.items) }
 {
     let mut out = read_all(alloc, rows)?;
     keep_asked(&mut out, day);
-    sort_by_time(&mut out)?;
+    sort_bookings(&mut out)?;
     Ok(out)
 }
 
