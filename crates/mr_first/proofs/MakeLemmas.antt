@@ -50,21 +50,21 @@ makes schema text table old new (Ok count) fact has h =
       within = h.1.mode;
     }
 
-pub log_made : MakesTable first_schema log_text log_table
+log_made : MakesTable first_schema log_text log_table
 unfolding understood everything
 log_made = (refl, (refl, refl), refl, refl, refl)
 
 pub makes_log : (old new : State) (r : Result ℕ Error) → old.now.schema ≡ first_schema → ExecutesInside 0 log_text [] old new r → OnOk r (IsExtended first_schema log_table old new)
 makes_log old new r = makes first_schema log_text log_table old new r log_made
 
-pub cancelled_made : MakesTable with_log cancelled_text cancelled_table
+cancelled_made : MakesTable with_log cancelled_text cancelled_table
 unfolding understood everything
 cancelled_made = (refl, (refl, refl), refl, refl, refl)
 
 pub makes_cancelled : (old new : State) (r : Result ℕ Error) → old.now.schema ≡ with_log → ExecutesInside 0 cancelled_text [] old new r → OnOk r (IsExtended with_log cancelled_table old new)
 makes_cancelled old new r = makes with_log cancelled_text cancelled_table old new r cancelled_made
 
-pub cancel_made : MakesTable with_cancelled cancel_text cancel_table
+cancel_made : MakesTable with_cancelled cancel_text cancel_table
 unfolding understood everything
 cancel_made = (refl, (refl, refl), refl, refl, refl)
 

@@ -16,17 +16,18 @@ use Rattle.sqlite.specs.State.{State, HasCleanDisk, Survives, Writes, ExecutesIn
 use Rattle.sqlite.proofs.Callers.{runs_as}
 use Rattle.sqlite.specs.Steps.{FailsToCommit}
 use Rattle.mr_model.specs.Tables.{MetaRow, Tables}
-use Rattle.mr_rows.specs.Schema.{no_schema, with_meta, with_room_table, with_vector, with_write_log, with_undo, with_booking, first_schema, with_log, with_cancelled, our_schema, meta_text, room_text, vector_text, write_log_text, undo_text, booking_text, error_text, log_text, cancelled_text, cancel_text, meta_table, room_table, vector_table, write_log_table, undo_table, booking_table, error_table, log_table, cancelled_table, cancel_table}
+use Rattle.mr_rows.specs.Schema.{no_schema, with_meta, with_room_table, with_vector, with_write_log, with_undo, with_booking, first_schema, our_schema, meta_text, room_text, vector_text, write_log_text, undo_text, booking_text, error_text, meta_table, room_table, vector_table, write_log_table, undo_table, booking_table, error_table}
 use Rattle.mr_rows.specs.Form.{meta_form, room_form, vector_form, log_form, booking_form, error_form, cancelled_form, cancel_form}
 use Rattle.mr_rows.specs.Database.{IsHeld, IsOurs, IsTablesStep, first_meta, in_order, tables_in}
 use Rattle.mr_rows.specs.ChangeParts.{put_meta}
 use Rattle.mr_model.specs.First.{FirstTables}
 use Rattle.mr_first.specs.FirstDatabase.{IsFirst, IsFirstStep, first_in}
 use Rattle.mr_first.specs.FirstParts.{tables_put, no_first_tables}
+use Rattle.mr_first.specs.MoveUpSteps.{Widens}
 use Rattle.mr_first.proofs.FilledDatabase.{blank_first}
 use Rattle.mr_sql.specs.Blank.{IsBlank, IsGrown, GrowsSchema, no_tables}
 use Rattle.mr_rows.proofs.FormLemmas.{went, same_value}
-use Rattle.mr_first.proofs.MakeLemmas.{MakesTable, log_made, cancelled_made, cancel_made, held_none}
+use Rattle.mr_first.proofs.MakeLemmas.{MakesTable, held_none}
 
 blank_push : (tables : List Table) (table : Table) (old new : Trees) → AllByRecursion (λ (t : Table). old t.tree ≡ []) tables → KeepsRows tables old new → new table.tree ≡ []
     → AllByRecursion (λ (t : Table). new t.tree ≡ []) (tables ++ table ∷ [])
@@ -104,14 +105,19 @@ error_made = (refl, (refl, refl), refl, refl, refl)
 pub makes_error : (old new : State) (r : Result ℕ Error) → IsBlank with_booking old.now → ExecutesInside 0 error_text [] old new r → OnOk r (IsGrown first_schema old new)
 makes_error old new r = makes with_booking error_text error_table old new r error_made
 
-pub makes_log : (old new : State) (r : Result ℕ Error) → IsBlank first_schema old.now → ExecutesInside 0 log_text [] old new r → OnOk r (IsGrown with_log old new)
-makes_log old new r = makes first_schema log_text log_table old new r log_made
-
-pub makes_cancelled : (old new : State) (r : Result ℕ Error) → IsBlank with_log old.now → ExecutesInside 0 cancelled_text [] old new r → OnOk r (IsGrown with_cancelled old new)
-makes_cancelled old new r = makes with_log cancelled_text cancelled_table old new r cancelled_made
-
-pub makes_cancel : (old new : State) (r : Result ℕ Error) → IsBlank with_cancelled old.now → ExecutesInside 0 cancel_text [] old new r → OnOk r (IsGrown our_schema old new)
-makes_cancel old new r = makes with_cancelled cancel_text cancel_table old new r cancel_made
+-- a blank database of the first schema becomes a blank one of the second, where the second schema's own tables are made beside the others
+pub widened_blank : {X : Type 0} (old new : State) (r : Result X Error) → Widens old new r → GrowsSchema first_schema our_schema old new r
+widened_blank old new (Err e) widened clean within blank = tt
+widened_blank old new (Ok x) widened clean within blank =
+    let w = widened clean within blank.0 in
+    let rows = w.rows in
+    let none = blank.1 in
+    record {
+      blank =
+          (w.schema, (rows.0 ∙ none.0, (rows.1.0 ∙ none.1.0, (rows.1.1.0 ∙ none.1.1.0, (rows.1.1.1.0 ∙ none.1.1.1.0, (rows.1.1.1.1.0 ∙ none.1.1.1.1.0, (rows.1.1.1.1.1.0 ∙ none.1.1.1.1.1.0, (rows.1.1.1.1.1.1.0 ∙ none.1.1.1.1.1.1.0, (w.log, (w.cancelled, (w.cancels, tt)))))))))));
+      committed = w.committed;
+      within = w.within;
+    }
 
 -- one after the other
 pub grows_then : {X : Type 0} (a b c : State) (first second third : Schema) (r : Result X Error) → Survives b c (λ _. ⊥)

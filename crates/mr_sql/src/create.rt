@@ -1,11 +1,12 @@
 ghost use Rattle.std.specs.Prelude.{◌≡◌, false, IsTrue, OnOk, OnErr};
 ghost use Rattle.sqlite.specs.State.{HasCleanDisk, KeepsCommit, Survives};
 ghost use Rattle.sqlite.specs.Held.{state};
-ghost use Rattle.mr_rows.specs.Schema.{no_schema, with_meta, with_room_table, with_vector, with_write_log, with_undo, with_booking, first_schema, with_log, with_cancelled, our_schema};
+ghost use Rattle.mr_rows.specs.Schema.{no_schema, with_meta, with_room_table, with_vector, with_write_log, with_undo, with_booking, first_schema};
 ghost use Rattle.mr_rows.specs.Database.{IsKept, IsTablesStep, tables_in};
 ghost use Rattle.mr_rows.specs.ChangeParts.{put_meta as meta_put};
 ghost use Rattle.mr_sql.specs.Blank.{IsBlank, GrowsSchema, no_tables};
 
+use mr_first::creating::create_second_rows;
 use mr_rows::puts::put_meta;
 use mr_tables::MetaRow;
 use sqlite::{Alter, Connection, Error, Transaction};
@@ -94,42 +95,6 @@ fn create_error<S: Alter>(tx: &mut Transaction<'_, S>) -> Result<usize, Error>
     )
 }
 
-fn create_log<S: Alter>(tx: &mut Transaction<'_, S>) -> Result<usize, Error>
-    ensures same_reference { tx.new.conn.ghost_name ≡ tx.old.conn.ghost_name }
-    ensures grown { GrowsSchema first_schema with_log (state S.Store tx.old.conn.now) (state S.Store tx.new.conn.now) result }
-    ensures kept { HasCleanDisk (state S.Store tx.new.conn.now) → KeepsCommit (state S.Store tx.old.conn.now) (state S.Store tx.new.conn.now) }
-    ensures survives { Survives (state S.Store tx.old.conn.now) (state S.Store tx.new.conn.now) (λ _. ⊥) }
-{
-    tx.execute(
-        "CREATE TABLE log (server INTEGER NOT NULL, n INTEGER NOT NULL, tm INTEGER NOT NULL, room TEXT NOT NULL, kind INTEGER NOT NULL, length INTEGER NOT NULL, choices TEXT NOT NULL, title TEXT NOT NULL, tserver INTEGER NOT NULL, tn INTEGER NOT NULL, place INTEGER NOT NULL, seq INTEGER NOT NULL, PRIMARY KEY (server, n)) STRICT",
-        &[],
-    )
-}
-
-fn create_cancelled<S: Alter>(tx: &mut Transaction<'_, S>) -> Result<usize, Error>
-    ensures same_reference { tx.new.conn.ghost_name ≡ tx.old.conn.ghost_name }
-    ensures grown { GrowsSchema with_log with_cancelled (state S.Store tx.old.conn.now) (state S.Store tx.new.conn.now) result }
-    ensures kept { HasCleanDisk (state S.Store tx.new.conn.now) → KeepsCommit (state S.Store tx.old.conn.now) (state S.Store tx.new.conn.now) }
-    ensures survives { Survives (state S.Store tx.old.conn.now) (state S.Store tx.new.conn.now) (λ _. ⊥) }
-{
-    tx.execute(
-        "CREATE TABLE cancelled (room TEXT NOT NULL, day TEXT NOT NULL, start INTEGER NOT NULL, stop INTEGER NOT NULL, server INTEGER NOT NULL, n INTEGER NOT NULL, title TEXT NOT NULL, committed INTEGER NOT NULL, bserver INTEGER NOT NULL, bn INTEGER NOT NULL, PRIMARY KEY (server, n)) STRICT",
-        &[],
-    )
-}
-
-fn create_cancel<S: Alter>(tx: &mut Transaction<'_, S>) -> Result<usize, Error>
-    ensures same_reference { tx.new.conn.ghost_name ≡ tx.old.conn.ghost_name }
-    ensures grown { GrowsSchema with_cancelled our_schema (state S.Store tx.old.conn.now) (state S.Store tx.new.conn.now) result }
-    ensures kept { HasCleanDisk (state S.Store tx.new.conn.now) → KeepsCommit (state S.Store tx.old.conn.now) (state S.Store tx.new.conn.now) }
-    ensures survives { Survives (state S.Store tx.old.conn.now) (state S.Store tx.new.conn.now) (λ _. ⊥) }
-{
-    tx.execute(
-        "CREATE TABLE cancel (server INTEGER NOT NULL, n INTEGER NOT NULL, room TEXT NOT NULL, tserver INTEGER NOT NULL, tn INTEGER NOT NULL, done INTEGER NOT NULL, tm INTEGER NOT NULL, seq INTEGER NOT NULL, PRIMARY KEY (server, n)) STRICT",
-        &[],
-    )
-}
-
 /// Makes the tables of the replica's numbers, its rooms and its vector.
 pub(crate) fn create_heads<S: Alter>(tx: &mut Transaction<'_, S>) -> Result<(), Error>
     ensures same_reference { tx.new.conn.ghost_name ≡ tx.old.conn.ghost_name }
@@ -154,19 +119,6 @@ pub(crate) fn create_first_rows<S: Alter>(tx: &mut Transaction<'_, S>) -> Result
     create_undo(tx)?;
     create_booking(tx)?;
     create_error(tx)?;
-    Ok(())
-}
-
-/// Makes the tables that the second schema has beside those: of writes of either kind, of bookings that a cancel took back, and of cancels.
-fn create_second_rows<S: Alter>(tx: &mut Transaction<'_, S>) -> Result<(), Error>
-    ensures same_reference { tx.new.conn.ghost_name ≡ tx.old.conn.ghost_name }
-    ensures grown { GrowsSchema first_schema our_schema (state S.Store tx.old.conn.now) (state S.Store tx.new.conn.now) result }
-    ensures kept { HasCleanDisk (state S.Store tx.new.conn.now) → KeepsCommit (state S.Store tx.old.conn.now) (state S.Store tx.new.conn.now) }
-    ensures survives { Survives (state S.Store tx.old.conn.now) (state S.Store tx.new.conn.now) (λ _. ⊥) }
-{
-    create_log(tx)?;
-    create_cancelled(tx)?;
-    create_cancel(tx)?;
     Ok(())
 }
 
