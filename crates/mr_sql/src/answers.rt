@@ -39,9 +39,7 @@ fn is_asked(day: Option<Day>, of: Day) -> bool
 {
     match day {
         None => true,
-        Some(day) => {
-            day.year() == of.year() && day.month() == of.month() && day.day() == of.day()
-        }
+        Some(day) => day == of,
     }
 }
 
