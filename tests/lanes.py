@@ -3,8 +3,6 @@ from concurrent.futures import FIRST_COMPLETED, ThreadPoolExecutor, wait
 
 from toolchain import rt
 
-# tests and edits that run while there are proofs left: more would hold up the next proof of the longest chain
-MOST_BESIDE = 2
 # of the memory that `rt` reckons a check with; the dearest checks of the repository took at most two thirds of it
 SHARE_OF_NEED = 0.75
 
@@ -22,6 +20,8 @@ class Lanes:
         self.needs = {key: SHARE_OF_NEED * task[2] for key, task in tasks.items()}
         # jobs of one proof at most
         self.most_jobs = most_jobs
+        # tests and edits that run while there are proofs left: more would hold up the next proof of the longest chain
+        self.most_beside = max(2, rt().processors() - 1)
         self.behind, self.running, self.given = self.chains(), {}, {}
         self.left = sorted(tasks, key=lambda key: -self.behind[key])
 
@@ -46,7 +46,7 @@ class Lanes:
         """Which task begins now, the most urgent first, and with how many jobs; None where none can."""
         room = self.memory - sum(self.needs[key] * (1 + 0.6 * (jobs - 1)) for key, jobs in self.running.items())
         idle = self.count - sum(self.running.values())
-        is_beside_full = any(map(is_proof, [*self.left, *self.running])) and sum(not is_proof(key) for key in self.running) >= MOST_BESIDE
+        is_beside_full = any(map(is_proof, [*self.left, *self.running])) and sum(not is_proof(key) for key in self.running) >= self.most_beside
         ready = self.ready() if idle > 0 else []
         # a proof that others could run beside leaves them half of the processors; one that none can takes the lanes of those that end before it does
         is_alone = sum(map(is_proof, ready)) == 1
