@@ -1,10 +1,10 @@
 // Cancels at desks and at parts: what each call answers, and which rows it puts.
 
+use crate::calls::{OPENING, TAKEN_BACK};
 use crate::desks::{
     Ask, Call, Line, NO_ERROR, NONE, NOTHING, Put, Told, answer, batch, opening, puts,
 };
 use crate::tables::{Rows, tables};
-use crate::tests::{OPENING, TAKEN_BACK};
 use mr_base::{Alternatives, Day, Item, Position, Refusal, Request, Slot, WriteId};
 use mr_part::{Part, Scope};
 use mr_replay::Place;

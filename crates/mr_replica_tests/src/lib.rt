@@ -3,6 +3,8 @@
 #![tactic(auto)]
 
 #[cfg(test)]
+mod calls;
+#[cfg(test)]
 mod cancels;
 #[cfg(test)]
 mod copies;
@@ -12,5 +14,3 @@ mod desks;
 mod parts;
 #[cfg(test)]
 mod tables;
-#[cfg(test)]
-mod tests;

@@ -1,8 +1,8 @@
 // Batches that a part of tables receives: what it answers, and which rows its change puts.
 
+use crate::calls::KEPT;
 use crate::desks::{Ask, Line, NO_ERROR, NONE, NOTHING, Put, Told, batch, puts};
 use crate::tables::{Rows, tables};
-use crate::tests::KEPT;
 use mr_base::{Batch, Position, Refusal};
 use mr_part::{Part, Scope};
 use mr_tables::Change;

@@ -1,7 +1,7 @@
 // A keeper with its rows in memory answers as the keeper below does, also after a fault of that.
 
 use crate::changes::{TUESDAY, first_change, id, request};
-use crate::tests::{Call, OF_BOTH_CHANGES, Place, answers, check, fault_of, opening, told};
+use crate::keepers::{Call, OF_BOTH_CHANGES, Place, answers, check, fault_of, opening, told};
 use mr_base::{Day, Position, Refusal, Request, WriteId};
 use mr_part::Scope;
 use mr_store::{Cached, Fault, Keeper, ListKeeper, Tripped};

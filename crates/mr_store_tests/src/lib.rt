@@ -7,6 +7,6 @@ mod cached;
 #[cfg(test)]
 mod changes;
 #[cfg(test)]
-mod many;
+mod keepers;
 #[cfg(test)]
-mod tests;
+mod many;

@@ -1,7 +1,7 @@
 // A keeper with its rows in memory answers as plain lists do, through more changes than it keeps beside its lists.
 
 use crate::changes::{Booked, MONDAY, bookings, id, logged, meta, no_change};
-use crate::tests::{opening, told};
+use crate::keepers::{opening, told};
 use mr_base::{Day, Refusal, RoomName};
 use mr_store::{Cached, Keeper, PlaceRow};
 use mr_tables::{BookingRow, Change, ErrorRow};
