@@ -1,18 +1,20 @@
 -- What is in scope of rows that were read.
 use Rattle.std.proofs.Common.{◌≡◌, refl, sym, ap, ◌∙◌, ℕ, Bool, true, false, not, cond, ◌&&◌, ◌||◌, ltb, List, [], ◌∷◌, ◌++◌, map, take, inl, inr}
-use Rattle.std.proofs.lemmas.Bool.{cond-true, cond-false, true≢false}
+use Rattle.std.proofs.lemmas.Bool.{cond-true, cond-false, true≢false, and_parts, and_from, or_right}
+use Rattle.std.proofs.lemmas.Slice.Eq.{bytes_eq-Decides}
 use Rattle.std.specs.Str.{bytes_eq}
 use Rattle.std.specs.Prelude.{flat_map}
 use Rattle.std.specs.List.{filter, list_any}
 use Rattle.mr_model.specs.Texts.{Text, within}
-use Rattle.mr_model.specs.Writes.{same_id}
+use Rattle.mr_model.specs.Calendar.{Date}
+use Rattle.mr_model.specs.Writes.{Id, same_id}
 use Rattle.mr_model.specs.Replica.{is_among}
 use Rattle.mr_model.specs.Exchange.{Item, W, C}
 use Rattle.mr_model.specs.Tables.{LogRow, BookingRow, ErrorRow, CancelledRow, Tables}
 use Rattle.mr_model.specs.Queries.{booking_id, error_id, cancelled_id, log_id}
 use Rattle.mr_model.specs.Dropped.{Has}
 use Rattle.mr_model.proofs.Members.{has_filter, has_among, has_map, same_id-true}
-use Rattle.mr_model.specs.Scopes.{Scope, Nothing, OfRequest, OfTarget, NextCommits, UpTo, OfPosition, OfItems, is_tentative, by_stamp, is_on_day_of, is_due_to, item_id, has_number, is_named, is_in_tail, rooms_of_item, with_rows, in_scope}
+use Rattle.mr_model.specs.Scopes.{Scope, Nothing, OfRequest, OfTarget, NextCommits, UpTo, OfPosition, OfItems, is_tentative, by_stamp, is_on_day_of, is_due_to, item_id, has_number, is_named, is_in_tail, rooms_of_item, moves_kept, asks_for, cancels_id, with_rows, in_scope}
 use Rattle.mr_model.specs.RowsRead.{rows_read, Reads}
 use Rattle.mr_model.proofs.RowsByStamp.{passing_by_stamp, first_passing, passing_both}
 
@@ -23,6 +25,16 @@ filter_read {A} f p (x ∷ xs) g = go (p x) refl (f x) refl (filter_read f p xs 
     go : (b : Bool) → p x ≡ b → (c : Bool) → f x ≡ c → filter f (filter p xs) ≡ filter f xs → filter f (cond b (x ∷ filter p xs) (filter p xs)) ≡ cond c (x ∷ filter f xs) (filter f xs)
     go true e true k ih = cond-true (f x) (x ∷ filter f (filter p xs)) (filter f (filter p xs)) k ∙ ap (λ (ys : List A). x ∷ ys) ih
     go true e false k ih = cond-false (f x) (x ∷ filter f (filter p xs)) (filter f (filter p xs)) k ∙ ih
+    go false e true k ih = absurd (true≢false (sym (g x (inl refl) k) ∙ e))
+    go false e false k ih = ih
+
+-- a test that only rows which were read pass
+any_read : {A : Type 0} (f p : A → Bool) (xs : List A) → ((x : A) → Has x xs → f x ≡ true → p x ≡ true) → list_any f (filter p xs) ≡ list_any f xs
+any_read f p [] g = refl
+any_read {A} f p (x ∷ xs) g = go (p x) refl (f x) refl (any_read f p xs (λ y h. g y (inr h)))
+  where
+    go : (b : Bool) → p x ≡ b → (c : Bool) → f x ≡ c → list_any f (filter p xs) ≡ list_any f xs → list_any f (cond b (x ∷ filter p xs) (filter p xs)) ≡ (c || list_any f xs)
+    go true e c k ih = (λ i. k i || ih i)
     go false e true k ih = absurd (true≢false (sym (g x (inl refl) k) ∙ e))
     go false e false k ih = ih
 
@@ -88,12 +100,12 @@ read_rows (OfPosition position) t p b e c r =
     with_read t (filter test t.log) (filter test (filter p t.log)) [] [] [] [] [] []
     (filter_read test p t.log (λ row h f. r.logs row (has_filter test row t.log f h))) refl refl refl
 read_rows (OfItems items) t p b e c r =
-    with_read t (filter (test rooms) t.log) (filter (test rooms') (filter p t.log)) (filter (λ k. list_any (bytes_eq k.room) rooms) t.booking) (filter (λ k. list_any (bytes_eq k.room) rooms') (filter b t.booking))
-    [] [] (filter (λ k. list_any (bytes_eq k.room) rooms) t.cancelled) (filter (λ k. list_any (bytes_eq k.room) rooms') (filter c t.cancelled))
+    with_read t (filter (test rooms) t.log) (filter (test rooms') (filter p t.log)) (filter (needed_booking rooms t.log) t.booking) (filter (needed_booking rooms' (filter p t.log)) (filter b t.booking))
+    [] [] (filter (needed_cancelled rooms t.log) t.cancelled) (filter (needed_cancelled rooms' (filter p t.log)) (filter c t.cancelled))
     (ap (λ rs. filter (test rs) (filter p t.log)) same ∙ filter_read (test rooms) p t.log (λ row h f. r.logs row (has_filter (test rooms) row t.log f h)))
-    (ap (λ rs. filter (λ (k : BookingRow). list_any (bytes_eq k.room) rs) (filter b t.booking)) same ∙ filter_read (λ (k : BookingRow). list_any (bytes_eq k.room) rooms) b t.booking (λ k h f. r.booking k (has_filter (λ k. list_any (bytes_eq k.room) rooms) k t.booking f h)))
+    (ap (λ (f : BookingRow → Bool). filter f (filter b t.booking)) (λ i k. alike k.room k.day (booking_id k) i) ∙ filter_read (needed_booking rooms t.log) b t.booking (λ k h f. r.booking k (has_filter (needed_booking rooms t.log) k t.booking f h)))
     refl
-    (ap (λ rs. filter (λ (k : CancelledRow). list_any (bytes_eq k.room) rs) (filter c t.cancelled)) same ∙ filter_read (λ (k : CancelledRow). list_any (bytes_eq k.room) rooms) c t.cancelled (λ k h f. r.cancelled k (has_filter (λ k. list_any (bytes_eq k.room) rooms) k t.cancelled f h)))
+    (ap (λ (f : CancelledRow → Bool). filter f (filter c t.cancelled)) (λ i k. alike k.room k.day (cancelled_id k) i) ∙ filter_read (needed_cancelled rooms t.log) c t.cancelled (λ k h f. r.cancelled k (has_filter (needed_cancelled rooms t.log) k t.cancelled f h)))
   where
     rooms : List Text
     rooms = flat_map (rooms_of_item t.meta.commits t.log) items
@@ -104,8 +116,32 @@ read_rows (OfItems items) t p b e c r =
     test : List Text → LogRow → Bool
     test rs row = is_named items row || (is_in_tail t.meta.commits items row && list_any (bytes_eq row.room) rs)
 
+    needed : List Text → List LogRow → Text → Date → Id → Bool
+    needed rs rows room day id = list_any (bytes_eq room) rs && (moves_kept t.meta.commits items rows room || (list_any (asks_for room day) items || list_any (cancels_id id) items))
+
+    needed_booking : List Text → List LogRow → BookingRow → Bool
+    needed_booking rs rows k = needed rs rows k.room k.day (booking_id k)
+
+    needed_cancelled : List Text → List LogRow → CancelledRow → Bool
+    needed_cancelled rs rows k = needed rs rows k.room k.day (cancelled_id k)
+
     named : (row : LogRow) → Has row t.log → is_named items row ≡ true → p row ≡ true
     named row h f = r.logs row (has_filter (test rooms) row t.log (ap (λ x. x || (is_in_tail t.meta.commits items row && list_any (bytes_eq row.room) rooms)) f) h)
 
     same : rooms' ≡ rooms
     same = rooms_read t.meta.commits items items t.log p (λ x h. h) named
+
+    -- of a touched room all rows of the tail were read
+    moved : (room : Text) → list_any (bytes_eq room) rooms ≡ true → moves_kept t.meta.commits items (filter p t.log) room ≡ moves_kept t.meta.commits items t.log room
+    moved room touched = any_read (λ row. is_in_tail t.meta.commits items row && bytes_eq room row.room) p t.log (λ row h f.
+        let q = and_parts (is_in_tail t.meta.commits items row) (bytes_eq room row.room) f in
+        let own : list_any (bytes_eq row.room) rooms ≡ true = ap (λ name. list_any (bytes_eq name) rooms) (sym ((bytes_eq-Decides room row.room).0 q.1)) ∙ touched in
+        r.logs row (has_filter (test rooms) row t.log (or_right (is_named items row) (is_in_tail t.meta.commits items row && list_any (bytes_eq row.room) rooms) (and_from (is_in_tail t.meta.commits items row) (list_any (bytes_eq row.room) rooms) q.0 own)) h))
+
+    alike : (room : Text) (day : Date) (id : Id) → needed rooms' (filter p t.log) room day id ≡ needed rooms t.log room day id
+    alike room day id = ap (λ rs. needed rs (filter p t.log) room day id) same ∙ go (list_any (bytes_eq room) rooms) refl
+      where
+        go : (c : Bool) → list_any (bytes_eq room) rooms ≡ c → needed rooms (filter p t.log) room day id ≡ needed rooms t.log room day id
+        go true e = ap (λ m. list_any (bytes_eq room) rooms && (m || (list_any (asks_for room day) items || list_any (cancels_id id) items))) (moved room e)
+        go false e = (λ i. e i && (moves_kept t.meta.commits items (filter p t.log) room || (list_any (asks_for room day) items || list_any (cancels_id id) items)))
+            ∙ sym (λ i. e i && (moves_kept t.meta.commits items t.log room || (list_any (asks_for room day) items || list_any (cancels_id id) items)))

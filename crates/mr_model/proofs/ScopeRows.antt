@@ -127,3 +127,18 @@ first_or_third =
 submitting : counted_rows (in_scope (OfRequest first_or_third) days_tables) ≡ 2
 unfolding digits
 submitting = refl
+
+-- a later write of oak needs those of its day alone
+beside_its_day : counted_rows (in_scope (OfItems (items_in ("mr1 2 1" ∷ "W 2 6 6 oak 30 1995-12-18 17:00 0 Sixth" ∷ "E" ∷ []))) days_tables) ≡ 1
+unfolding digits
+beside_its_day = refl
+
+-- a later cancel what it cancels
+beside_its_target : counted_rows (in_scope (OfItems (items_in ("mr2 2 1" ∷ "X 2 6 6 oak 2 3" ∷ "E" ∷ []))) days_tables) ≡ 1
+unfolding digits
+beside_its_target = refl
+
+-- an early write needs all of its room, and the later writes of it
+beside_later_ones : counted_rows (in_scope (OfItems (items_in ("mr1 2 1" ∷ "W 3 1 2 oak 30 1995-12-18 17:00 0 Early" ∷ "E" ∷ []))) days_tables) ≡ 6
+unfolding digits
+beside_later_ones = refl

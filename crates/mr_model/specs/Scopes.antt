@@ -3,7 +3,7 @@ use Rattle.std.specs.Prelude.{ℕ, ◌+◌, Bool, false, not, ◌&&◌, ◌||◌
 use Rattle.std.specs.List.{list_any}
 use Rattle.mr_model.specs.Texts.{Text, within}
 use Rattle.mr_model.specs.Calendar.{Date, same_date}
-use Rattle.mr_model.specs.Writes.{Id, id_of, same_id, choices_of}
+use Rattle.mr_model.specs.Writes.{Id, Action, Books, Cancels, id_of, same_id, choices_of}
 use Rattle.mr_model.specs.Requests.{Request}
 use Rattle.mr_model.specs.Replica.{is_among}
 use Rattle.mr_model.specs.Exchange.{Item, W, C}
@@ -102,6 +102,35 @@ touched_rooms t items = flat_map (rooms_of_item t.meta.commits t.log) items
 abbrev pub is_touched : Tables → List Item → Text → Bool
 is_touched t items room = list_any (bytes_eq room) (touched_rooms t items)
 
+-- kept writes of the room are executed anew, which may have asked for any day
+abbrev pub moves_kept : ℕ → List Item → List LogRow → Text → Bool
+moves_kept commits items rows room = list_any (λ row. is_in_tail commits items row && bytes_eq room row.room) rows
+
+-- one of its choices is on the day
+abbrev pub asks_day : Date → Action → Bool
+asks_day day (Books m) = list_any (λ s. same_date s.day day) (choices_of m)
+asks_day day (Cancels target) = false
+
+abbrev pub aims_at : Id → Action → Bool
+aims_at id (Books m) = false
+aims_at id (Cancels target) = same_id id target
+
+-- the write of the batch asks for the day in the room
+abbrev pub asks_for : Text → Date → Item → Bool
+asks_for room day (W w) = bytes_eq room w.room && asks_day day w.action
+asks_for room day (C seq id) = false
+
+-- it cancels what has this id
+abbrev pub cancels_id : Id → Item → Bool
+cancels_id id (W w) = aims_at id w.action
+cancels_id id (C seq id') = false
+
+-- What stands under this id on the day in the room may decide where a write goes that is executed anew: of a room in which kept
+-- writes are, all does; else what is on the days of the batch's own writes, and what they cancel.
+abbrev pub is_needed : Tables → List Item → Text → Date → Id → Bool
+is_needed t items room day id =
+    is_touched t items room && (moves_kept t.meta.commits items t.log room || (list_any (asks_for room day) items || list_any (cancels_id id) items))
+
 -- ---- the tables with the rows in scope alone
 
 -- these rows of the log, and these of bookings, of logged ones and of cancelled ones
@@ -137,8 +166,8 @@ in_scope (OfPosition p) t = with_rows t (filter (is_due_to p) t.log) [] [] []
 in_scope (OfItems items) t =
     with_rows t
     (filter (λ row. is_named items row || (is_in_tail t.meta.commits items row && is_touched t items row.room)) t.log)
-    (filter (λ b. is_touched t items b.room) t.booking) []
-    (filter (λ c. is_touched t items c.room) t.cancelled)
+    (filter (λ b. is_needed t items b.room b.day (booking_id b)) t.booking) []
+    (filter (λ c. is_needed t items c.room c.day (cancelled_id c)) t.cancelled)
 
 -- how many rows these are; those of cancels are not counted
 abbrev pub counted_rows : Tables → ℕ
