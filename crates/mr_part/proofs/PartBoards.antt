@@ -5,13 +5,14 @@ use Rattle.std.specs.List.{filter}
 use Rattle.std.specs.Str.{bytes_eq}
 use Rattle.std.specs.BTreeMap.{insert_entry}
 use Rattle.mr_model.specs.Texts.{Text}
+use Rattle.mr_model.specs.Calendar.{Date}
 use Rattle.mr_model.specs.Writes.{Id, Write, id_of, same_id}
 use Rattle.mr_model.specs.Requests.{Request}
 use Rattle.mr_model.specs.Replica.{Replica, IsReplica, order_of, is_among, is_committed}
 use Rattle.mr_model.specs.View.{of_room, place_of, canceller_of}
 use Rattle.mr_model.specs.Tables.{LogRow, BookingRow, ErrorRow, CancelledRow, CancelRow, Tables, as_booking, as_error, as_cancelled, as_cancel, place_row, seq_of, tables_of}
 use Rattle.mr_model.specs.Dropped.{Has}
-use Rattle.mr_model.specs.Scopes.{Scope, Nothing, OfRequest, OfTarget, NextCommits, UpTo, OfPosition, OfItems, is_touched, is_on_day_of, next_commits, with_rows, in_scope}
+use Rattle.mr_model.specs.Scopes.{Scope, Nothing, OfRequest, OfTarget, NextCommits, UpTo, OfPosition, OfItems, is_needed, is_on_day_of, next_commits, with_rows, in_scope}
 use Rattle.mr_model.proofs.Members.{has_left, has_right, has_split, has_filter, filter_has, has_map, map_has, same_id-true, same_id_from}
 use Rattle.mr_model.proofs.RowsTell.{known_of, booked_is, erred_is, cancelled_is, cancel_is}
 use Rattle.mr_model.proofs.UniqueReplay.{some_inj, none_some}
@@ -19,7 +20,7 @@ use Rattle.mr_model.specs.Queries.{log_id}
 use Rattle.mr_base.specs.Ids.{id_cmp}
 use Rattle.mr_replay.specs.declared.rows.Standing.TheVariants.{Booked, CancelledBy}
 use Rattle.mr_replay.specs.declared.rows.Kept.{Kept}
-use Rattle.mr_replay.specs.declared.rows.Kept.TheVariants.{OfBooking}
+use Rattle.mr_replay.specs.declared.rows.Kept.TheVariants.{OfBooking, OfCancel}
 use Rattle.mr_replay.specs.declared.rows.Row.{Row}
 use Rattle.mr_replay.specs.Rows.{Rows, row_at}
 use Rattle.mr_replay.specs.Holds.{if_of}
@@ -268,6 +269,11 @@ takes_on_day_of q room (OfBooking slot length title Booked) = is_on_day_of q roo
 takes_on_day_of q room (OfBooking slot length title (CancelledBy by)) = is_on_day_of q room slot.day
 takes_on_day_of q room _ = false
 
+-- the day of a booking, or any
+abbrev pub day_of : Kept → Date
+day_of (OfBooking slot length title standing) = slot.day
+day_of (OfCancel target) = record { year = 0; month = 0; day = 0 }
+
 -- whether the row of this id is in scope
 abbrev pub is_in_part : Scope → Replica → Id → Row → Bool
 is_in_part Nothing a i row = false
@@ -276,7 +282,7 @@ is_in_part (OfTarget target) a i row = kept_is_booking row.kept && same_id i tar
 is_in_part (NextCommits k) a i row = is_taken_back row.kept && is_among i (map log_id (next_commits k (tables_of a)))
 is_in_part (UpTo d) a i row = false
 is_in_part (OfPosition p) a i row = false
-is_in_part (OfItems items) a i row = is_taken row.kept && is_touched (tables_of a) items row.room
+is_in_part (OfItems items) a i row = is_taken row.kept && is_needed (tables_of a) items row.room (day_of row.kept) i
 
 picks_nothing : (t : Tables) → PicksOf t (λ i row. false) [] [] []
 picks_nothing t = record {
@@ -331,7 +337,14 @@ part-row (UpTo d) a i sound = board-picked a (in_scope (UpTo d) (tables_of a)).l
 part-row (OfPosition p) a i sound = board-picked a (in_scope (OfPosition p) (tables_of a)).log (is_in_part (OfPosition p) a) [] [] [] sound (picks_nothing (tables_of a)) i
 part-row (OfItems items) a i sound =
     let t = in_scope (OfItems items) (tables_of a) in
-    board-picked a t.log (is_in_part (OfItems items) a) t.booking [] t.cancelled sound (picks_rooms (tables_of a) (is_touched (tables_of a) items)) i
+    let f = is_in_part (OfItems items) a in
+    board-picked a t.log f t.booking [] t.cancelled sound
+    (record {
+      booking = picks_some booking_entry f (λ b. is_needed (tables_of a) items b.room b.day (booking_entry b).0) (tables_of a).booking (λ x. refl);
+      errorlog = picks_none error_entry f (tables_of a).errorlog (λ x. refl);
+      cancelled = picks_some cancelled_entry f (λ c. is_needed (tables_of a) items c.room c.day (cancelled_entry c).0) (tables_of a).cancelled (λ x. refl);
+      cancels = λ x. refl;
+    }) i
 
 -- ---- the bookings of some rooms
 

@@ -14,7 +14,7 @@ use Rattle.mr_model.specs.Tables.{LogRow, BookingRow, ErrorRow, CancelledRow, Ta
 use Rattle.mr_model.specs.Dropped.{Has}
 use Rattle.mr_model.specs.Queries.{booking_id, error_id, cancelled_id, row_id, log_id}
 use Rattle.mr_model.specs.Changes.{IdBefore, RiseById, SameRows, first_tentative}
-use Rattle.mr_model.specs.Scopes.{Scope, Nothing, OfRequest, OfTarget, NextCommits, UpTo, OfPosition, OfItems, is_named, is_in_tail, is_touched, is_due_to, is_on_day_of, with_rows, in_scope, counted_rows}
+use Rattle.mr_model.specs.Scopes.{Scope, Nothing, OfRequest, OfTarget, NextCommits, UpTo, OfPosition, OfItems, is_named, is_in_tail, is_touched, is_needed, is_due_to, is_on_day_of, with_rows, in_scope, counted_rows}
 use Rattle.mr_model.proofs.DroppedApart.{order-parts, known_order}
 use Rattle.mr_model.proofs.InScope.{due_kept, truncated}
 use Rattle.mr_model.proofs.InScope as scope
@@ -378,7 +378,7 @@ in_part (OfItems items) a sound asked =
       rows = in_scope (OfItems items) (tables_of a);
       are = refl;
       logs = picked_kept a (λ row. is_named items row || (is_in_tail (length a.commits) items row && is_touched (tables_of a) items row.room)) sound;
-      bookings = of_rooms a sound (λ b. is_touched (tables_of a) items b.room) (λ c. is_touched (tables_of a) items c.room);
+      bookings = of_rooms a sound (λ b. is_needed (tables_of a) items b.room b.day (booking_id b)) (λ c. is_needed (tables_of a) items c.room c.day (cancelled_id c));
     }
 
 -- how many rows a part has
