@@ -25,9 +25,11 @@ mod scope_board;
 mod scope_commits;
 mod scope_log_test;
 mod scope_logs;
+mod scope_needed;
 mod scope_touched;
 
 pub use part::Part;
 pub use rows_in_scope::logs_in_scope;
 pub use scope::{Scope, has_choice_on};
+pub use scope_needed::Needed;
 pub use scope_touched::touched_rooms;

@@ -89,7 +89,7 @@ fn is_named(row: &LogRow, named: &Named) -> bool
 }
 
 /// Whether the row is of a tentative write in the tail.
-fn is_in_tail(row: &LogRow, tail: &Tail) -> bool
+pub(crate) fn is_in_tail(row: &LogRow, tail: &Tail) -> bool
     ensures { (commits : ℕ) (items : List ItemOfBatch) → IsTail tail.now commits items → result ≡ is_in_tail commits items row.now }
 {
     row.seq == 0 && tail.has_place(row.time, row.server)
