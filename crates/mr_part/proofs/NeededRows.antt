@@ -6,13 +6,13 @@ use Rattle.std.specs.List.{list_any, filter}
 use Rattle.std.specs.Str.{bytes_eq}
 use Rattle.mr_model.specs.Texts.{Text}
 use Rattle.mr_model.specs.Calendar.{Date}
-use Rattle.mr_model.specs.Writes.{Id, Write, id_of, same_id, stamp_before}
+use Rattle.mr_model.specs.Writes.{Id, Write, id_of, stamp_before}
 use Rattle.mr_model.specs.Replica.{Replica, IsReplica, is_among, tentative}
 use Rattle.mr_model.specs.Exchange.{Item, W}
 use Rattle.mr_model.specs.Tables.{log_row, tables_of}
 use Rattle.mr_model.specs.Dropped.{Has}
 use Rattle.mr_model.specs.Moving.{may_move, again, BatchMoves}
-use Rattle.mr_model.specs.Scopes.{OfItems, is_new_commit, is_behind_item, is_late, is_in_tail, is_touched, moves_kept, asks_day, aims_at, asks_for, cancels_id, is_needed, in_scope}
+use Rattle.mr_model.specs.Scopes.{OfItems, is_new_commit, is_behind_item, is_late, is_in_tail, is_touched, moves_kept, asks_day, asks_for, cancels_id, is_needed, in_scope}
 use Rattle.mr_model.proofs.DroppedApart.{not_committed_kept}
 use Rattle.mr_model.proofs.KnownById.{distinct_commits, one_known, tentative_known}
 use Rattle.mr_model.proofs.Members.{has_left, has_split, filter_has, has_map, map_has, has_among, among_has, not_among, any_has, Distinct, distinct_parts}
@@ -24,7 +24,7 @@ use Rattle.mr_replay.specs.declared.rows.Standing.TheVariants.{Booked, Cancelled
 use Rattle.mr_replay.specs.declared.rows.Kept.{Kept}
 use Rattle.mr_replay.specs.declared.rows.Kept.TheVariants.{OfBooking, OfCancel}
 use Rattle.mr_replay.specs.declared.rows.Row.{Row}
-use Rattle.mr_replay.specs.Rows.{Rows, row_at, kept_for, with_mark, without_mark}
+use Rattle.mr_replay.specs.Rows.{row_at, kept_for, with_mark, without_mark}
 use Rattle.mr_replay.specs.Bookings.{is_taken}
 use Rattle.mr_replay.proofs.Lists.{same_name}
 use Rattle.mr_tables.specs.Boards.{board_of}

@@ -10,7 +10,7 @@ use Rattle.mr_model.specs.Tables.{LogRow, BookingRow, ErrorRow, CancelledRow, Ta
 use Rattle.mr_model.specs.Kept.{kept_in_order, LogBefore, AreInRunOrder, kept_committed}
 use Rattle.mr_model.specs.Changes.{IdBefore, RiseById, SameRows, first_tentative}
 use Rattle.mr_model.specs.Dropped.{Has}
-use Rattle.mr_model.specs.Scopes.{Scope, Nothing, OfRequest, OfTarget, NextCommits, UpTo, OfPosition, OfItems, is_tentative, is_named, is_in_tail, is_touched, is_due_to, by_stamp, is_on_day_of, next_commits, in_scope}
+use Rattle.mr_model.specs.Scopes.{Scope, Nothing, OfRequest, OfTarget, NextCommits, UpTo, OfPosition, OfItems, is_tentative, is_named, is_in_tail, is_touched, is_needed, is_due_to, by_stamp, is_on_day_of, next_commits, in_scope}
 use Rattle.mr_model.proofs.InScope.{truncated, due_kept}
 use Rattle.mr_model.proofs.InScope as scope
 use Rattle.mr_model.proofs.KeyOrder.{WriteBefore, by_id_sorted}
@@ -182,14 +182,14 @@ commit_ids a k t h e = sym (ap (map log_id) (commit_rows a k t h e) ∙ ids_told
     ids_told (w ∷ ws) = ap (λ is. id_of w ∷ is) (ids_told ws)
 
 -- the rows that are picked one by one are those in scope
-pub bookings_told : (a : Replica) (s : Scope) (t : Tables) (touched : List Text) → in_scope s t ≡ in_scope s (tables_of a) → AreSameRooms touched (touched_in s t) → filter (is_booking_in s touched) t.booking ≡ (in_scope s (tables_of a)).booking
-bookings_told a Nothing t touched e same = none_picked t.booking
-bookings_told a (OfRequest q) t touched e same = ap (λ (x : Tables). x.booking) e
-bookings_told a (OfTarget target) t touched e same = ap (λ (x : Tables). x.booking) e
-bookings_told a (NextCommits k) t touched e same = none_picked t.booking
-bookings_told a (UpTo d) t touched e same = none_picked t.booking
-bookings_told a (OfPosition p) t touched e same = none_picked t.booking
-bookings_told a (OfItems items) t touched e same = (λ i. filter (λ b. same b.room i) t.booking) ∙ ap (λ (x : Tables). x.booking) e
+pub bookings_told : (a : Replica) (s : Scope) (t : Tables) → in_scope s t ≡ in_scope s (tables_of a) → filter (is_booking_in s t) t.booking ≡ (in_scope s (tables_of a)).booking
+bookings_told a Nothing t e = none_picked t.booking
+bookings_told a (OfRequest q) t e = ap (λ (x : Tables). x.booking) e
+bookings_told a (OfTarget target) t e = ap (λ (x : Tables). x.booking) e
+bookings_told a (NextCommits k) t e = none_picked t.booking
+bookings_told a (UpTo d) t e = none_picked t.booking
+bookings_told a (OfPosition p) t e = none_picked t.booking
+bookings_told a (OfItems items) t e = ap (λ (x : Tables). x.booking) e
 
 errors_told : (a : Replica) (s : Scope) (t : Tables) → in_scope s t ≡ in_scope s (tables_of a) → filter (is_error_in s) t.errorlog ≡ (in_scope s (tables_of a)).errorlog
 errors_told a Nothing t e = none_picked t.errorlog
@@ -200,14 +200,14 @@ errors_told a (UpTo d) t e = none_picked t.errorlog
 errors_told a (OfPosition p) t e = none_picked t.errorlog
 errors_told a (OfItems items) t e = none_picked t.errorlog
 
-cancelled_told : (a : Replica) (s : Scope) (t : Tables) (touched : List Text) → IsReplica a → in_scope s t ≡ in_scope s (tables_of a) → AreSameRooms touched (touched_in s t) → filter (is_cancelled_in s touched (map id_of (kept_in s a))) t.cancelled ≡ (in_scope s (tables_of a)).cancelled
-cancelled_told a Nothing t touched h e same = none_picked t.cancelled
-cancelled_told a (OfRequest q) t touched h e same = ap (λ (x : Tables). x.cancelled) e
-cancelled_told a (OfTarget target) t touched h e same = ap (λ (x : Tables). x.cancelled) e
-cancelled_told a (NextCommits k) t touched h e same = (λ i. filter (is_cancelled_in (NextCommits k) touched (commit_ids a k t h e i)) t.cancelled) ∙ ap (λ (x : Tables). x.cancelled) e
-cancelled_told a (UpTo d) t touched h e same = none_picked t.cancelled
-cancelled_told a (OfPosition p) t touched h e same = none_picked t.cancelled
-cancelled_told a (OfItems items) t touched h e same = (λ i. filter (λ c. same c.room i) t.cancelled) ∙ ap (λ (x : Tables). x.cancelled) e
+cancelled_told : (a : Replica) (s : Scope) (t : Tables) → IsReplica a → in_scope s t ≡ in_scope s (tables_of a) → filter (is_cancelled_in s t (map id_of (kept_in s a))) t.cancelled ≡ (in_scope s (tables_of a)).cancelled
+cancelled_told a Nothing t h e = none_picked t.cancelled
+cancelled_told a (OfRequest q) t h e = ap (λ (x : Tables). x.cancelled) e
+cancelled_told a (OfTarget target) t h e = ap (λ (x : Tables). x.cancelled) e
+cancelled_told a (NextCommits k) t h e = (λ i. filter (is_cancelled_in (NextCommits k) t (commit_ids a k t h e i)) t.cancelled) ∙ ap (λ (x : Tables). x.cancelled) e
+cancelled_told a (UpTo d) t h e = none_picked t.cancelled
+cancelled_told a (OfPosition p) t h e = none_picked t.cancelled
+cancelled_told a (OfItems items) t h e = ap (λ (x : Tables). x.cancelled) e
 
 -- of a scope no rows of cancels are there
 no_cancels : (s : Scope) (t : Tables) → (in_scope s t).cancels ≡ []
@@ -220,12 +220,12 @@ no_cancels (OfPosition p) t = refl
 no_cancels (OfItems items) t = refl
 
 -- so they make the board of those in scope
-pub board_told : (a : Replica) (s : Scope) (t : Tables) (touched : List Text) → IsReplica a → in_scope s t ≡ in_scope s (tables_of a) → AreSameRooms touched (touched_in s t) → board_of (picked_rows s touched (map id_of (kept_in s a)) t) ≡ board_of (in_scope s (tables_of a))
-board_told a s t touched h e same =
+pub board_told : (a : Replica) (s : Scope) (t : Tables) → IsReplica a → in_scope s t ≡ in_scope s (tables_of a) → board_of (picked_rows s (map id_of (kept_in s a)) t) ≡ board_of (in_scope s (tables_of a))
+board_told a s t h e =
     let u : Tables = in_scope s (tables_of a) in
-    let bookings = bookings_told a s t touched e same in
+    let bookings = bookings_told a s t e in
     let errors = errors_told a s t e in
-    let cancelled = cancelled_told a s t touched h e same in
+    let cancelled = cancelled_told a s t h e in
     (λ i. board_of (record u { booking = bookings i; errorlog = errors i; cancelled = cancelled i; cancels = [] }))
     ∙ (λ i. board_of (record u { cancels = sym (no_cancels s (tables_of a)) i }))
 
@@ -255,13 +255,13 @@ scope_within a s h = go s
     go (NextCommits k) = record { booking = tt; errorlog = tt; cancelled = cancelled (λ c. is_among (cancelled_id c) (map log_id (next_commits k t))) }
     go (UpTo d) = record { booking = tt; errorlog = tt; cancelled = tt }
     go (OfPosition p) = record { booking = tt; errorlog = tt; cancelled = tt }
-    go (OfItems items) = record { booking = bookings (λ b. is_touched t items b.room); errorlog = tt; cancelled = cancelled (λ c. is_touched t items c.room) }
+    go (OfItems items) = record { booking = bookings (λ b. is_needed t items b.room b.day (booking_id b)); errorlog = tt; cancelled = cancelled (λ c. is_needed t items c.room c.day (cancelled_id c)) }
 
-pub picked_within : (a : Replica) (s : Scope) (t : Tables) (touched : List Text) → IsReplica a → in_scope s t ≡ in_scope s (tables_of a) → AreSameRooms touched (touched_in s t) → AreWithin (picked_rows s touched (map id_of (kept_in s a)) t)
-picked_within a s t touched h e same =
+pub picked_within : (a : Replica) (s : Scope) (t : Tables) → IsReplica a → in_scope s t ≡ in_scope s (tables_of a) → AreWithin (picked_rows s (map id_of (kept_in s a)) t)
+picked_within a s t h e =
     let all = scope_within a s h in
     record {
-      booking = subst (λ (rs : List BookingRow). AllByRecursion (λ r. IsRowWithin r.n r.start) rs) (sym (bookings_told a s t touched e same)) all.booking;
+      booking = subst (λ (rs : List BookingRow). AllByRecursion (λ r. IsRowWithin r.n r.start) rs) (sym (bookings_told a s t e)) all.booking;
       errorlog = subst (λ (rs : List ErrorRow). AllByRecursion (λ r. IsRowWithin r.n r.start) rs) (sym (errors_told a s t e)) all.errorlog;
-      cancelled = subst (λ (rs : List CancelledRow). AllByRecursion (λ r. IsRowWithin r.n r.start) rs) (sym (cancelled_told a s t touched h e same)) all.cancelled;
+      cancelled = subst (λ (rs : List CancelledRow). AllByRecursion (λ r. IsRowWithin r.n r.start) rs) (sym (cancelled_told a s t h e)) all.cancelled;
     }
