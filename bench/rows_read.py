@@ -28,7 +28,7 @@ LINES = 64
 TABLES = ('log', 'booking', 'errorlog', 'cancelled')
 
 Row = namedtuple('Row', 'server n time room kind length choices title tserver tn place seq')
-Write = namedtuple('Write', 'server n time room')
+Write = namedtuple('Write', 'server n time room day')
 Commit = namedtuple('Commit', 'seq server n')
 
 
@@ -47,11 +47,16 @@ def statements():
 
 # ---- the databases
 
+def date(n):
+    """The day of a booking: there are 96 of them a day."""
+    day = (n - 1) // 96
+    return f'{1995 + day // 336}-{day // 28 % 12 + 1:02}-{day % 28 + 1:02}'
+
+
 def booking(n):
-    """Fifteen minutes, 96 of them a day, the rooms in turn."""
-    day, slot = divmod(n - 1, 96)
-    date = f'{1995 + day // 336}-{day // 28 % 12 + 1:02}-{day % 28 + 1:02}'
-    return f'W 2 {n} {n} oak-{n % ROOMS} 15 {date} {slot // 4:02}:{slot % 4 * 15:02} 0 Meeting {n}'
+    """Fifteen minutes, the rooms in turn."""
+    slot = (n - 1) % 96
+    return f'W 2 {n} {n} oak-{n % ROOMS} 15 {date(n)} {slot // 4:02}:{slot % 4 * 15:02} 0 Meeting {n}'
 
 
 def cancelled(bookings):
@@ -91,7 +96,7 @@ class Command:
         self.database, self.sql = database, sql
         self.asked = dict.fromkeys(TABLES, 0)
         self.found = dict(self.asked)
-        self.commits, self.dropped = database.execute('SELECT commits, dropped FROM meta').fetchone()
+        self.commits, self.dropped, self.clock = database.execute('SELECT commits, dropped, clock FROM meta').fetchone()
 
     def ask(self, query, *given, passes=lambda row: True):
         text = self.sql[query]
@@ -104,19 +109,12 @@ class Command:
     def logs_between(self, low, high):
         return self.ask('LOGS_BETWEEN', low, high)
 
-    def in_rooms(self, rooms):
-        """Those of one room by a statement, those of several in a pass over the table."""
-        for one, every in (('ROOM_BOOKINGS', 'ALL_BOOKINGS'), ('ROOM_CANCELLED', 'ALL_CANCELLED')):
-            if len(rooms) == 1:
-                self.ask(one, *rooms)
-            elif rooms:
-                self.ask(every, passes=lambda row: row[0] in rooms)
-
     def nothing(self):
         pass
 
     def submit(self, room):
-        self.in_rooms({room})
+        self.ask('ROOM_BOOKINGS', room)
+        self.ask('ROOM_CANCELLED', room)
 
     def cancel(self, server, n):
         for query in ('select_key_booking', 'select_key_error', 'select_key_cancelled'):
@@ -147,10 +145,15 @@ class Command:
         rooms = self.touched(items, rows)
         numbers = {item.seq for item in items if isinstance(item, Commit) and item.seq <= self.commits}
         is_new = any(isinstance(item, Commit) and item.seq > self.commits for item in items)
-        first = (0, 0) if is_new else min((item.time, item.server) for item in items) if not numbers else (math.inf, 0)
-        self.ask('LATE_LOGS', 0 if numbers else first[0], max(numbers, default=0),
-                 passes=lambda row: row[11] in numbers or row[11] == 0 and (row[2], row[0]) >= first and row[3] in rooms)
-        self.in_rooms(rooms)
+        first = (0, 0) if is_new else min(((item.time, item.server) for item in items if isinstance(item, Write)), default=(math.inf, 0))
+        if numbers or first[0] <= self.clock:
+            rows |= {Row(*row) for row in self.ask(
+                'LATE_LOGS', 0 if numbers else first[0], max(numbers, default=0),
+                passes=lambda row: row[11] in numbers or row[11] == 0 and (row[2], row[0]) >= first and row[3] in rooms)}
+        moved = {row.room for row in rows if row.seq == 0 and (row.time, row.server) >= first}
+        days = {(item.room, item.day) for item in items if isinstance(item, Write)}
+        for query in ('ALL_BOOKINGS', 'ALL_CANCELLED') if rooms else ():
+            self.ask(query, passes=lambda row: row[0] in rooms and (row[0] in moved or (row[0], row[1]) in days))
 
     def touched(self, items, rows):
         """The rooms of the writes, and of those that new commits name."""
@@ -164,8 +167,8 @@ def commands(bookings):
     """The database, the words and the questions of each kind of command."""
     commits, dropped = bookings // 5, bookings // 20
     last = bookings + len(cancelled(bookings))
-    on_top = [Write(2, bookings + k, last + k, f'oak-{k % ROOMS}') for k in range(1, LINES + 1)]
-    in_one = [Write(2, bookings + k, last + k, 'oak-1') for k in range(1, LINES + 1)]
+    on_top = [Write(2, bookings + k, last + k, f'oak-{k % ROOMS}', date(bookings + k)) for k in range(1, LINES + 1)]
+    early = [Write(4, k, k, f'oak-{k % ROOMS}', date(k)) for k in range(1, LINES + 1)]
     known = [Commit(dropped + k, 2, dropped + k) for k in range(1, LINES + 1)]
     new = [Commit(commits + k, 2, commits + k) for k in range(1, LINES + 1)]
     return [
@@ -178,8 +181,8 @@ def commands(bookings):
         ('other', f'a batch for a position that lacks {LINES} writes', lambda it: it.batch_for(commits, {2: bookings, 3: last - bookings - LINES})),
         ('other', 'a batch for a position that lacks all tentative writes', lambda it: it.batch_for(commits, {2: commits})),
         ('other', 'a batch for a position with the dropped commits and their writes alone', lambda it: it.batch_for(dropped, {2: dropped})),
-        ('other', f'{LINES} writes received, in five rooms', lambda it: it.receive(on_top)),
-        ('other', f'{LINES} writes received, in one room', lambda it: it.receive(in_one)),
+        ('other', f'{LINES} writes on top received, in five rooms', lambda it: it.receive(on_top)),
+        ('other', f'{LINES} early writes received, in five rooms', lambda it: it.receive(early)),
         ('other', f'{LINES} commits received that are known', lambda it: it.receive(known)),
         ('other', f'{LINES} commits received that are new, in five rooms', lambda it: it.receive(new)),
     ]
