@@ -103,7 +103,7 @@ ids_read k t ids logs are is numbered = (
 
 -- ---- those of a batch for a position
 
-none_passing : {X : Type 0} (xs : List X) → [] ≡ filter (λ x. false) xs
+pub none_passing : {X : Type 0} (xs : List X) → [] ≡ filter (λ x. false) xs
 none_passing [] = refl
 none_passing (x ∷ xs) = none_passing xs
 

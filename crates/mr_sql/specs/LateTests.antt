@@ -1,8 +1,8 @@
--- Tests of rows where they lie: those of some rooms, and those of the log in scope of a batch.
+-- Tests of rows of the log where they lie: those in scope of a batch.
 use Rattle.std.specs.Prelude.{◌≡◌, ◌≢◌, ◌≤◌, ℕ, ◌==◌, Bool, true, ◌&&◌, if◌then◌else◌, List, flat_map}
 use Rattle.std.specs.List.{list_any}
 use Rattle.mr_model.specs.Exchange.{Item}
-use Rattle.mr_model.specs.Tables.{LogRow, BookingRow, CancelledRow}
+use Rattle.mr_model.specs.Tables.{LogRow}
 use Rattle.mr_model.specs.Scopes.{has_number, rooms_of_item}
 use Rattle.mr_kept.specs.Named.{has_commit, IsNamedBy}
 use Rattle.mr_kept.specs.Sets.{has_room, IsSetOf}
@@ -10,13 +10,6 @@ use Rattle.mr_kept.specs.Tails.{has_place, IsTail}
 use Rattle.mr_kept.specs.declared.tail.Tail.{Tail}
 use Rattle.mr_rows.specs.declared.passing.LateRows.{LateRows}
 use Rattle.mr_sql.specs.declared.scope_late.LateTest.{LateTest}
-use Rattle.mr_sql.specs.declared.scope_rooms.RoomTest.{RoomTest}
-
-abbrev pub books_in : RoomTest → BookingRow → Bool
-books_in test row = has_room test.rooms row.room
-
-abbrev pub cancels_in : RoomTest → CancelledRow → Bool
-cancels_in test row = has_room test.rooms row.room
 
 abbrev pub passes_late : LateTest → LogRow → Bool
 passes_late test row = if row.seq == 0 then has_place test.tail row.time row.server && has_room test.rooms.rooms row.room else has_commit test.named.numbers row.seq

@@ -1,8 +1,9 @@
--- A reader of the contracts trusts Found and Refused. The others, PlaceOfId, ScopeQuestions, LateTests, DueTests, Blank and OurSchema, serve private clauses and proofs alone.
+-- A reader of the contracts trusts Found and Refused. The others, PlaceOfId, ScopeQuestions, LateTests, DueTests, NeededTests, Blank and OurSchema, serve private clauses and proofs alone.
 pub mod PlaceOfId
 pub mod ScopeQuestions
 pub mod LateTests
 pub mod DueTests
+pub mod NeededTests
 pub mod Blank
 pub mod OurSchema
 pub mod Found

@@ -20,6 +20,7 @@ mod schemas;
 mod scope_due;
 mod scope_late;
 mod scope_logs;
+mod scope_needed;
 mod scope_questions;
 mod scope_rooms;
 mod scope_rows;

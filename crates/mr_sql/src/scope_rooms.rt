@@ -1,37 +1,28 @@
-ghost use Rattle.std.specs.Prelude.{◌≡◌, ◌∷◌, [], IfOk};
+ghost use Rattle.std.specs.Prelude.{◌≡◌, ◌∷◌, [], if◌then◌else◌, Some, None, IfOk};
 ghost use Rattle.sqlite_value.specs.Order.{column, bytes};
-ghost use Rattle.mr_kept.specs.Sets.{AreSameRooms, has_room, IsSetOf};
+ghost use Rattle.mr_kept.specs.Sets.{has_room, IsSetOf};
 ghost use Rattle.mr_part.specs.ScopeOf.{scope_of};
-ghost use Rattle.mr_sql.specs.LateTests.{books_in, cancels_in};
 ghost use Rattle.mr_sql.specs.ScopeQuestions.{room_questions};
 
 use mr_base::{Refusal, RoomName};
 use mr_kept::room_sets::{RoomSet, room_set};
-use mr_part::{Scope, touched_rooms};
-use mr_rows::RowTest;
+use mr_part::Scope;
 use mr_rows::cells::read_name;
-use mr_tables::{BookingRow, CancelledRow, LogRow};
-use sqlite::{Error, ErrorCode, Row};
+use sqlite::{Error, Row};
 use std::alloc::Global;
 
-/// What is asked of `booking` and of `cancelled` by room for a scope, where these rows of `log` were read and so many commits are
-/// known: for the bookings of these rooms, each of which comes once.
-pub(crate) fn room_questions(
-    alloc: Global,
-    scope: &Scope<'_>,
-    logs: &[LogRow],
-    commits: u64,
-) -> Result<Vec<RoomName>, Refusal>
-    ensures { IfOk result (λ rooms. AreSameRooms rooms.items (room_questions commits (scope_of scope.now) logs.now)) }
+/// What is asked of `booking` and of `cancelled` by room for a scope: for the bookings of this room.
+pub(crate) fn room_questions(alloc: Global, scope: &Scope<'_>) -> Result<Vec<RoomName>, Refusal>
+    ensures { IfOk result (λ rooms. rooms.items ≡ room_questions (scope_of scope.now)) }
 {
     match *scope {
         Scope::OfRequest(room, _) => one_room(alloc, room),
-        Scope::Items(items) => touched_rooms(alloc, logs, items, commits),
         Scope::Nothing
         | Scope::OfTarget(_)
         | Scope::NextCommits(_)
         | Scope::UpTo(_)
-        | Scope::OfPosition(_) => Ok(Vec::new(alloc)),
+        | Scope::OfPosition(_)
+        | Scope::Items(_) => Ok(Vec::new(alloc)),
     }
 }
 
@@ -65,30 +56,16 @@ impl RoomTest {
         let name = read_name(self.alloc, row, at)?;
         Ok(self.rooms.contains(&name))
     }
-}
 
-/// The test for the rows of these rooms.
-pub(crate) fn rooms_test(alloc: Global, rooms: &[RoomName]) -> Result<RoomTest, Error>
-    ensures { IfOk result (λ test. IsSetOf test.rooms rooms.now) }
-{
-    match RoomTest::of(alloc, rooms) {
-        Ok(test) => Ok(test),
-        Err(_) => Err(Error::SqliteFailure(ErrorCode::OutOfMemory)),
-    }
-}
-
-impl RowTest<BookingRow> for RoomTest {
-    ghost passes = { books_in };
-
-    fn is_passed_by(&self, row: &Row) -> Result<bool, Error> {
-        self.has_room(row, 0)
-    }
-}
-
-impl RowTest<CancelledRow> for RoomTest {
-    ghost passes = { cancels_in };
-
-    fn is_passed_by(&self, row: &Row) -> Result<bool, Error> {
-        self.has_room(row, 0)
+    /// The room in this column, where it is one of them.
+    pub(crate) fn room_in(&self, row: &Row, at: usize) -> Result<Option<RoomName>, Error>
+        ensures { IfOk result (λ room. room ≡ (if has_room self.now.rooms (bytes (column row.now at)) then Some (bytes (column row.now at)) else None)) }
+    {
+        let name = read_name(self.alloc, row, at)?;
+        if self.rooms.contains(&name) {
+            Ok(Some(name))
+        } else {
+            Ok(None)
+        }
     }
 }

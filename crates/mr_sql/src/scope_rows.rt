@@ -1,109 +1,37 @@
-ghost use Rattle.std.specs.Prelude.{◌≡◌, false, filter};
+ghost use Rattle.std.specs.Prelude.{◌≡◌, [], ℕ, List, false, filter};
 ghost use Rattle.sqlite.specs.Held.{state};
+ghost use Rattle.mr_model.specs.Tables.{LogRow as Row};
 ghost use Rattle.mr_part.specs.ScopeOf.{scope_of};
 ghost use Rattle.mr_rows.specs.Database.{tables_in};
 ghost use Rattle.mr_rows.specs.RowQuestions.{is_row_asked, is_booking_asked, is_cancelled_asked, is_booking_named, is_error_of, is_cancelled_of};
-ghost use Rattle.mr_sql.specs.ScopeQuestions.{room_questions, target_questions, taken_questions, asks_booking, asks_cancelled, ArePlacesRead, AreRead, AreEnough};
+ghost use Rattle.mr_sql.specs.ScopeQuestions.{room_questions, target_questions, taken_questions, items_asked, asks_booking, asks_cancelled, ArePlacesRead, AreRead, AreEnough};
 ghost use Rattle.mr_rows.specs.Reads.{ReadsKept, ReadsInUse};
 
 use crate::scope_logs::read_logs;
+use crate::scope_needed::read_needed;
 use crate::scope_questions::{asks_by_id, taken_questions, takes_by_id, target_questions};
-use crate::scope_rooms::{room_questions, rooms_test};
-use mr_base::RoomName;
+use crate::scope_rooms::room_questions;
 use mr_part::Scope;
 use mr_rows::all_tables::read_heads;
 use mr_rows::asked_rows::asked_rows;
-use mr_rows::passing_rows;
 use mr_tables::{BookingRow, CancelledRow, ErrorRow, LogRow, MetaRow, Tables};
 use sqlite::{Alter, Connection, Error, ErrorCode};
 use std::alloc::Global;
 
-fn are_several(rooms: &[RoomName]) -> bool {
-    rooms.len() > 1
-}
-
-/// The bookings of these rooms, in one pass over the table.
-fn passing_bookings<S: Alter>(
-    conn: &mut Connection<S>,
-    alloc: Global,
-    rooms: &[RoomName],
-) -> Result<Vec<BookingRow>, Error>
-    requires autocommit { conn.old.in_transaction ≡ false }
-    ensures autocommit { conn.new.in_transaction ≡ false }
-    ensures reads { ReadsInUse (state S.Store conn.old) (state S.Store conn.new) result
-        (λ rows. rows.items ≡ filter (is_row_asked is_booking_asked rooms.now) (tables_in (state S.Store conn.old).now.trees).booking) }
-{
-    let test = rooms_test(alloc, rooms)?;
-    passing_rows(conn, alloc, &test)
-}
-
-/// The bookings of these rooms: those of one by a statement.
-fn bookings_in<S: Alter>(
-    conn: &mut Connection<S>,
-    alloc: Global,
-    rooms: &[RoomName],
-) -> Result<Vec<BookingRow>, Error>
-    requires autocommit { conn.old.in_transaction ≡ false }
-    ensures autocommit { conn.new.in_transaction ≡ false }
-    ensures reads { ReadsInUse (state S.Store conn.old) (state S.Store conn.new) result
-        (λ rows. rows.items ≡ filter (is_row_asked is_booking_asked rooms.now) (tables_in (state S.Store conn.old).now.trees).booking) }
-{
-    if are_several(rooms) {
-        passing_bookings(conn, alloc, rooms)
-    } else {
-        asked_rows(conn, alloc, rooms)
-    }
-}
-
-/// The same of cancelled bookings.
-fn passing_cancelled<S: Alter>(
-    conn: &mut Connection<S>,
-    alloc: Global,
-    rooms: &[RoomName],
-) -> Result<Vec<CancelledRow>, Error>
-    requires autocommit { conn.old.in_transaction ≡ false }
-    ensures autocommit { conn.new.in_transaction ≡ false }
-    ensures reads { ReadsInUse (state S.Store conn.old) (state S.Store conn.new) result
-        (λ rows. rows.items ≡ filter (is_row_asked is_cancelled_asked rooms.now) (tables_in (state S.Store conn.old).now.trees).cancelled) }
-{
-    let test = rooms_test(alloc, rooms)?;
-    passing_rows(conn, alloc, &test)
-}
-
-/// The same of cancelled bookings.
-fn cancelled_in<S: Alter>(
-    conn: &mut Connection<S>,
-    alloc: Global,
-    rooms: &[RoomName],
-) -> Result<Vec<CancelledRow>, Error>
-    requires autocommit { conn.old.in_transaction ≡ false }
-    ensures autocommit { conn.new.in_transaction ≡ false }
-    ensures reads { ReadsInUse (state S.Store conn.old) (state S.Store conn.new) result
-        (λ rows. rows.items ≡ filter (is_row_asked is_cancelled_asked rooms.now) (tables_in (state S.Store conn.old).now.trees).cancelled) }
-{
-    if are_several(rooms) {
-        passing_cancelled(conn, alloc, rooms)
-    } else {
-        asked_rows(conn, alloc, rooms)
-    }
-}
-
-/// The bookings of the rooms that are asked for.
+/// The bookings of the room that is asked for.
 fn read_room_bookings<S: Alter>(
     conn: &mut Connection<S>,
     alloc: Global,
     scope: &Scope<'_>,
-    logs: &[LogRow],
-    commits: u64,
 ) -> Result<Vec<BookingRow>, Error>
     requires autocommit { conn.old.in_transaction ≡ false }
     ensures autocommit { conn.new.in_transaction ≡ false }
     ensures reads { ReadsInUse (state S.Store conn.old) (state S.Store conn.new) result
-        (λ rows. rows.items ≡ filter (is_row_asked is_booking_asked (room_questions commits (scope_of scope.now) logs.now))
+        (λ rows. rows.items ≡ filter (is_row_asked is_booking_asked (room_questions (scope_of scope.now)))
         (tables_in (state S.Store conn.old).now.trees).booking) }
 {
-    match room_questions(alloc, scope, logs, commits) {
-        Ok(rooms) => bookings_in(conn, alloc, &rooms),
+    match room_questions(alloc, scope) {
+        Ok(rooms) => asked_rows(conn, alloc, &rooms),
         Err(_) => Err(Error::SqliteFailure(ErrorCode::OutOfMemory)),
     }
 }
@@ -124,23 +52,22 @@ fn read_target_booking<S: Alter>(
     asked_rows(conn, alloc, &asked)
 }
 
-/// The bookings that are asked for. No scope asks both by room and by id.
+/// The bookings that are asked for, by room or by id. No scope asks by both.
 fn read_bookings<S: Alter>(
     conn: &mut Connection<S>,
     alloc: Global,
     scope: &Scope<'_>,
-    logs: &[LogRow],
-    commits: u64,
 ) -> Result<Vec<BookingRow>, Error>
     requires autocommit { conn.old.in_transaction ≡ false }
+    requires no_items { items_asked (scope_of scope.now) ≡ [] }
     ensures autocommit { conn.new.in_transaction ≡ false }
     ensures reads { ReadsInUse (state S.Store conn.old) (state S.Store conn.new) result
-        (λ rows. rows.items ≡ filter (asks_booking commits (scope_of scope.now) logs.now) (tables_in (state S.Store conn.old).now.trees).booking) }
+        (λ rows. (commits : ℕ) (logs : List Row) → rows.items ≡ filter (asks_booking commits (scope_of scope.now) logs) (tables_in (state S.Store conn.old).now.trees).booking) }
 {
     if asks_by_id(scope) {
         read_target_booking(conn, alloc, scope)
     } else {
-        read_room_bookings(conn, alloc, scope, logs, commits)
+        read_room_bookings(conn, alloc, scope)
     }
 }
 
@@ -160,22 +87,20 @@ fn read_errors<S: Alter>(
     asked_rows(conn, alloc, &asked)
 }
 
-/// The cancelled bookings of the rooms that are asked for.
+/// The cancelled bookings of the room that is asked for.
 fn read_room_cancelled<S: Alter>(
     conn: &mut Connection<S>,
     alloc: Global,
     scope: &Scope<'_>,
-    logs: &[LogRow],
-    commits: u64,
 ) -> Result<Vec<CancelledRow>, Error>
     requires autocommit { conn.old.in_transaction ≡ false }
     ensures autocommit { conn.new.in_transaction ≡ false }
     ensures reads { ReadsInUse (state S.Store conn.old) (state S.Store conn.new) result
-        (λ rows. rows.items ≡ filter (is_row_asked is_cancelled_asked (room_questions commits (scope_of scope.now) logs.now))
+        (λ rows. rows.items ≡ filter (is_row_asked is_cancelled_asked (room_questions (scope_of scope.now)))
         (tables_in (state S.Store conn.old).now.trees).cancelled) }
 {
-    match room_questions(alloc, scope, logs, commits) {
-        Ok(rooms) => cancelled_in(conn, alloc, &rooms),
+    match room_questions(alloc, scope) {
+        Ok(rooms) => asked_rows(conn, alloc, &rooms),
         Err(_) => Err(Error::SqliteFailure(ErrorCode::OutOfMemory)),
     }
 }
@@ -200,7 +125,7 @@ fn read_taken<S: Alter>(
     }
 }
 
-/// The cancelled bookings that are asked for. No scope asks both by room and by id.
+/// The same of cancelled bookings.
 fn read_cancelled<S: Alter>(
     conn: &mut Connection<S>,
     alloc: Global,
@@ -209,6 +134,7 @@ fn read_cancelled<S: Alter>(
     commits: u64,
 ) -> Result<Vec<CancelledRow>, Error>
     requires autocommit { conn.old.in_transaction ≡ false }
+    requires no_items { items_asked (scope_of scope.now) ≡ [] }
     ensures autocommit { conn.new.in_transaction ≡ false }
     ensures reads { ReadsInUse (state S.Store conn.old) (state S.Store conn.new) result
         (λ rows. rows.items ≡ filter (asks_cancelled commits (scope_of scope.now) logs.now) (tables_in (state S.Store conn.old).now.trees).cancelled) }
@@ -216,8 +142,28 @@ fn read_cancelled<S: Alter>(
     if takes_by_id(scope) {
         read_taken(conn, alloc, scope, logs, commits)
     } else {
-        read_room_cancelled(conn, alloc, scope, logs, commits)
+        read_room_cancelled(conn, alloc, scope)
     }
+}
+
+/// The rows of `booking`, `errorlog` and `cancelled` that a scope asks for which isn't that of a batch.
+fn read_asked<S: Alter>(
+    conn: &mut Connection<S>,
+    alloc: Global,
+    scope: &Scope<'_>,
+    logs: &[LogRow],
+    commits: u64,
+) -> Result<(Vec<BookingRow>, Vec<ErrorRow>, Vec<CancelledRow>), Error>
+    requires autocommit { conn.old.in_transaction ≡ false }
+    requires no_items { items_asked (scope_of scope.now) ≡ [] }
+    ensures autocommit { conn.new.in_transaction ≡ false }
+    ensures reads { ReadsInUse (state S.Store conn.old) (state S.Store conn.new) result
+        (λ rows. ArePlacesRead commits (scope_of scope.now) (tables_in (state S.Store conn.old).now.trees) logs.now rows.0.items rows.1.items rows.2.items) }
+{
+    let booking = read_bookings(conn, alloc, scope)?;
+    let errorlog = read_errors(conn, alloc, scope)?;
+    let cancelled = read_cancelled(conn, alloc, scope, logs, commits)?;
+    Ok((booking, errorlog, cancelled))
 }
 
 /// Of the tables that show what became of writes the rows that are asked for: those of `booking`, `errorlog` and `cancelled`.
@@ -233,10 +179,15 @@ fn read_places<S: Alter>(
     ensures reads { ReadsInUse (state S.Store conn.old) (state S.Store conn.new) result
         (λ rows. ArePlacesRead commits (scope_of scope.now) (tables_in (state S.Store conn.old).now.trees) logs.now rows.0.items rows.1.items rows.2.items) }
 {
-    let booking = read_bookings(conn, alloc, scope, logs, commits)?;
-    let errorlog = read_errors(conn, alloc, scope)?;
-    let cancelled = read_cancelled(conn, alloc, scope, logs, commits)?;
-    Ok((booking, errorlog, cancelled))
+    match *scope {
+        Scope::Items(items) => read_needed(conn, alloc, items, logs, commits),
+        Scope::Nothing
+        | Scope::OfRequest(_, _)
+        | Scope::OfTarget(_)
+        | Scope::NextCommits(_)
+        | Scope::UpTo(_)
+        | Scope::OfPosition(_) => read_asked(conn, alloc, scope, logs, commits),
+    }
 }
 
 /// The rows of a scope: of `log`, and of those tables. `commits` are known.

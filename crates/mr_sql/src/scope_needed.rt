@@ -1,0 +1,145 @@
+ghost use Rattle.std.specs.Prelude.{◌≡◌, false, map, filter, IfOk};
+ghost use Rattle.sqlite.specs.Held.{state};
+ghost use Rattle.sqlite_value.specs.Order.{column, bytes};
+ghost use Rattle.mr_model.specs.Calendar.{date_in};
+ghost use Rattle.mr_model.specs.Scopes.{OfItems};
+ghost use Rattle.mr_base.specs.Batches.{item_of};
+ghost use Rattle.mr_rows.specs.RowCells.{nat_of};
+ghost use Rattle.mr_rows.specs.Database.{tables_in};
+ghost use Rattle.mr_rows.specs.Reads.{ReadsInUse};
+ghost use Rattle.mr_sql.specs.ScopeQuestions.{ArePlacesRead};
+ghost use Rattle.mr_sql.specs.NeededTests.{passes_needed, books_needed, cancels_needed, books_if_any, cancels_if_any, IsNeededTest};
+
+use crate::scope_rooms::RoomTest;
+use mr_base::{Item, Refusal};
+use mr_part::{Needed, touched_rooms};
+use mr_rows::cells::{read_day, read_id};
+use mr_rows::{RowTest, passing_rows};
+use mr_tables::{BookingRow, CancelledRow, ErrorRow, LogRow};
+use sqlite::{Alter, Connection, Error, ErrorCode, Row};
+use std::alloc::Global;
+
+/// Which rows of `booking` and of `cancelled` a batch may need: of these rooms, which it touches, what stands there on days or under
+/// ids that it asks for, or all.
+#[derive(Drop)]
+pub(crate) struct NeededTest {
+    rooms: RoomTest,
+    needed: Needed,
+}
+
+impl NeededTest {
+    /// That of a batch, where so many commits are known and these rows of `log` were read. There is none where it touches no room,
+    /// and needs nothing.
+    pub(crate) fn of(
+        alloc: Global,
+        items: &[Item],
+        commits: u64,
+        rows: &[LogRow],
+    ) -> Result<Option<NeededTest>, Refusal>
+        ensures { IfOk result (λ test. IsNeededTest test commits (map item_of items.now) rows.now) }
+    {
+        let touched = touched_rooms(alloc, rows, items, commits)?;
+        if touched.is_empty() {
+            return Ok(None);
+        }
+        let rooms = RoomTest::of(alloc, &touched)?;
+        let needed = Needed::of(alloc, &touched, items, rows, commits)?;
+        Ok(Some(NeededTest { rooms, needed }))
+    }
+
+    /// Whether a row passes, of either table. Its room comes first: where that is another one, nothing more of the row is read.
+    fn is_passed(&self, row: &Row) -> Result<bool, Error>
+        ensures { IfOk result (λ b. b ≡ passes_needed self.now (bytes (column row.now 0)) (date_in (bytes (column row.now 1)))
+            (record { server = nat_of (column row.now 4); n = nat_of (column row.now 5) })) }
+    {
+        match self.rooms.room_in(row, 0)? {
+            Some(room) => Ok(self.needed.has(&room, read_day(row, 1)?, read_id(row, 4)?)),
+            None => Ok(false),
+        }
+    }
+}
+
+impl RowTest<BookingRow> for NeededTest {
+    ghost passes = { books_needed };
+
+    fn is_passed_by(&self, row: &Row) -> Result<bool, Error> {
+        self.is_passed(row)
+    }
+}
+
+impl RowTest<CancelledRow> for NeededTest {
+    ghost passes = { cancels_needed };
+
+    fn is_passed_by(&self, row: &Row) -> Result<bool, Error> {
+        self.is_passed(row)
+    }
+}
+
+fn test_of(
+    alloc: Global,
+    items: &[Item],
+    commits: u64,
+    logs: &[LogRow],
+) -> Result<Option<NeededTest>, Error>
+    ensures { IfOk result (λ test. IsNeededTest test commits (map item_of items.now) logs.now) }
+{
+    match NeededTest::of(alloc, items, commits, logs) {
+        Ok(test) => Ok(test),
+        Err(_) => Err(Error::SqliteFailure(ErrorCode::OutOfMemory)),
+    }
+}
+
+/// The bookings that pass and the cancelled ones, in one pass over either table.
+fn read_passing<S: Alter>(
+    conn: &mut Connection<S>,
+    alloc: Global,
+    test: &NeededTest,
+) -> Result<(Vec<BookingRow>, Vec<CancelledRow>), Error>
+    requires autocommit { conn.old.in_transaction ≡ false }
+    ensures autocommit { conn.new.in_transaction ≡ false }
+    ensures reads { ReadsInUse (state S.Store conn.old) (state S.Store conn.new) result
+        (λ rows. (rows.0.items ≡ filter (books_needed test.now) (tables_in (state S.Store conn.old).now.trees).booking)
+        × (rows.1.items ≡ filter (cancels_needed test.now) (tables_in (state S.Store conn.old).now.trees).cancelled)) }
+{
+    let booking = passing_rows(conn, alloc, test)?;
+    let cancelled = passing_rows(conn, alloc, test)?;
+    Ok((booking, cancelled))
+}
+
+/// The same of a test that may not be there: then nothing passes, and no table is gone over.
+fn read_if_any<S: Alter>(
+    conn: &mut Connection<S>,
+    alloc: Global,
+    test: &Option<NeededTest>,
+) -> Result<(Vec<BookingRow>, Vec<CancelledRow>), Error>
+    requires autocommit { conn.old.in_transaction ≡ false }
+    ensures autocommit { conn.new.in_transaction ≡ false }
+    ensures reads { ReadsInUse (state S.Store conn.old) (state S.Store conn.new) result
+        (λ rows. (rows.0.items ≡ filter (books_if_any test.now) (tables_in (state S.Store conn.old).now.trees).booking)
+        × (rows.1.items ≡ filter (cancels_if_any test.now) (tables_in (state S.Store conn.old).now.trees).cancelled)) }
+{
+    match test {
+        Some(test) => read_passing(conn, alloc, test),
+        None => Ok((Vec::new(alloc), Vec::new(alloc))),
+    }
+}
+
+/// The rows of `booking` and of `cancelled` that a batch of these items may need, where so many commits are known and these rows of
+/// `log` were read; and none of `errorlog`.
+pub(crate) fn read_needed<S: Alter>(
+    conn: &mut Connection<S>,
+    alloc: Global,
+    items: &[Item],
+    logs: &[LogRow],
+    commits: u64,
+) -> Result<(Vec<BookingRow>, Vec<ErrorRow>, Vec<CancelledRow>), Error>
+    requires autocommit { conn.old.in_transaction ≡ false }
+    ensures autocommit { conn.new.in_transaction ≡ false }
+    ensures reads { ReadsInUse (state S.Store conn.old) (state S.Store conn.new) result
+        (λ rows. ArePlacesRead commits (OfItems (map item_of items.now)) (tables_in (state S.Store conn.old).now.trees) logs.now
+        rows.0.items rows.1.items rows.2.items) }
+{
+    let test = test_of(alloc, items, commits, logs)?;
+    let rows = read_if_any(conn, alloc, &test)?;
+    Ok((rows.0, Vec::new(alloc), rows.1))
+}
