@@ -1,6 +1,6 @@
 -- The rows of the log that are read are enough of a scope.
-use Rattle.std.proofs.Common.{◌≡◌, refl, sym, ap, ◌∙◌, ℕ, zero, suc, ◌+◌, ◌≤◌, ◌<◌, length, get_or, Bool, true, false, cond, not, ◌&&◌, ◌||◌, eqb, ltb, leb, List, [], ◌∷◌, ◌++◌, map, filter, take, ◌⊎◌, inl, inr, arith, ltb-true, ltb-false, eqb-true}
-use Rattle.std.proofs.lemmas.Bool.{true≢false, and_parts, and_from, or_cases, or_left, or_right, leb-true, le-leb, cond-true, cond-false}
+use Rattle.std.proofs.Common.{◌≡◌, refl, sym, ap, ◌∙◌, ℕ, zero, suc, ◌+◌, ◌≤◌, ◌<◌, length, get_or, Bool, true, false, cond, not, ◌&&◌, ◌||◌, eqb, ltb, leb, List, [], ◌∷◌, ◌++◌, map, filter, take, ◌⊎◌, inl, inr, arith, ltb-true, eqb-true}
+use Rattle.std.proofs.lemmas.Bool.{true≢false, false_from_ne_true, and_parts, and_from, or_cases, or_left, or_right, leb-true, le-leb, cond-true, cond-false}
 use Rattle.std.specs.Prelude.{bytes_eq, flat_map}
 use Rattle.std.specs.List.{list_any}
 use Rattle.std.proofs.lemmas.List.Folds.{list_any_more}
@@ -28,7 +28,7 @@ use Rattle.mr_sql.specs.declared.scope_late.LateTest.{LateTest}
 use Rattle.mr_sql.specs.LateTests.{passes_late, IsLateTest, ReachesTail}
 use Rattle.mr_sql.specs.DueTests.{passes_due, ReachesDue}
 use Rattle.mr_sql.specs.declared.scope_due.DueTest.{DueTest}
-use Rattle.mr_sql.specs.ScopeQuestions.{between, tentative_question, number_questions, is_of_numbers, AreSeqsWithin, AreLogsRead}
+use Rattle.mr_sql.specs.ScopeQuestions.{between, tentative_question, number_questions, is_of_numbers, AreLogsWithin, AreLogsRead}
 
 -- ---- rows that are asked for by numbers
 
@@ -45,14 +45,14 @@ up_to_asked commits d row low e = or_left (is_log_between (between 1 (cond (ltb 
     go true = within_from 1 commits row.seq (leb-true 1 row.seq (and_parts (leb 1 row.seq) (leb row.seq d) e).0) low
     go false = e
 
-number_asked : (s : Scope) (t : Tables) → is_of_numbers s ≡ true → AreSeqsWithin t → (row : LogRow) → Has row (in_scope s t).log → is_row_asked is_log_between (number_questions t.meta.commits s) row ≡ true
+number_asked : (s : Scope) (t : Tables) → is_of_numbers s ≡ true → AreLogsWithin t → (row : LogRow) → Has row (in_scope s t).log → is_row_asked is_log_between (number_questions t.meta.commits s) row ≡ true
 number_asked Nothing t of numbered row h = absurd h
 number_asked (OfRequest q) t of numbered row h = absurd h
 number_asked (OfTarget target) t of numbered row h = absurd h
 number_asked (NextCommits k) t of numbered row h = absurd (true≢false (sym of))
 number_asked (UpTo d) t of numbered row h =
     let g = filter_has (λ (r : LogRow). within 1 d r.seq) row t.log h in
-    up_to_asked t.meta.commits d row (numbered row g.0) g.1
+    up_to_asked t.meta.commits d row (numbered row g.0).0 g.1
 number_asked (OfPosition p) t of numbered row h = absurd (true≢false (sym of))
 number_asked (OfItems items) t of numbered row h = absurd (true≢false (sym of))
 
@@ -145,7 +145,7 @@ pub due_read : (t : Tables) (test : DueTest) (p : Position) (late : LateRows) (f
 due_read t test p late first logs of reaches none are numbered = (
   is_late_row late (passes_due test),
   are (λ row. false) (none ∙ none_passing t.log),
-  λ row h. let g = filter_has (is_due_to p) row t.log h in due_asked t test p late of reaches row (numbered row g.0) g.1,
+  λ row h. let g = filter_has (is_due_to p) row t.log h in due_asked t test p late of reaches row (numbered row g.0).0 g.1,
 )
 
 -- ---- those of a batch
@@ -242,5 +242,21 @@ module _ (t : Tables) (items : List Item) (test : LateTest) (late : LateRows)
     are,
     λ row h.
         let g = filter_has (λ r. is_named items r || (is_in_tail t.meta.commits items r && is_touched t items r.room)) row t.log h in
-        batch_asked row (numbered row g.0) g.1,
+        batch_asked row (numbered row g.0).0 g.1,
   )
+
+-- ---- rows behind the clock
+
+filter_alike : {X : Type 0} (p q : X → Bool) (xs : List X) → ((x : X) → Has x xs → p x ≡ q x) → filter p xs ≡ filter q xs
+filter_alike p q [] h = refl
+filter_alike p q (x ∷ xs) h = rw (h x (inl refl), filter_alike p q xs (λ y k. h y (inr k)))
+
+-- where these rows begin behind the clock, there are none
+pub none_late : (late : LateRows) (test p : LogRow → Bool) (t : Tables) (clock : ℕ) → clock < late.from → clock ≡ t.meta.clock → AreLogsWithin t
+    → filter p t.log ≡ filter (λ row. p row || is_late_row late test row) t.log
+none_late late test p t clock behind known inside =
+    filter_alike p (λ row. p row || is_late_row late test row) t.log (λ row h.
+    sym (ap (λ b. p row || ((b && leb row.seq late.to) && test row)) (early row h) ∙ or_false (p row)))
+  where
+    early : (row : LogRow) → Has row t.log → leb late.from row.time ≡ false
+    early row h = false_from_ne_true (leb late.from row.time) (λ e. let from = leb-true late.from row.time e in let low = (inside row h).1 in omega (arith, from, low, known, behind))

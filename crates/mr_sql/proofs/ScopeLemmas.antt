@@ -1,22 +1,24 @@
 -- The rows that the questions of a scope ask for are enough of it.
-use Rattle.std.proofs.Common.{◌≡◌, refl, sym, ap, ◌∙◌, subst, ℕ, ◌+◌, ◌≤◌, Bool, true, false, cond, ◌||◌, List, [], ◌∷◌, map, filter, arith, length}
+use Rattle.std.proofs.Common.{◌≡◌, refl, sym, ap, ◌∙◌, subst, ℕ, ◌+◌, ◌≤◌, Bool, true, false, cond, ◌||◌, List, [], ◌∷◌, map, filter, arith, length, not, le_refl}
 use Rattle.std.proofs.lemmas.Bool.{and_parts, or_left}
 use Rattle.std.specs.Prelude.{bytes_eq}
 use Rattle.std.specs.List.{list_any}
 use Rattle.mr_model.specs.Texts.{Text}
 use Rattle.mr_model.specs.Calendar.{same_date}
-use Rattle.mr_model.specs.Writes.{Id, same_id, choices_of}
-use Rattle.mr_model.specs.Replica.{Replica, is_among}
+use Rattle.mr_model.specs.Writes.{Id, id_of, same_id, choices_of}
+use Rattle.mr_model.specs.Replica.{Replica, clock_of, is_dropped, is_among}
 use Rattle.mr_model.specs.Exchange.{Item}
-use Rattle.mr_model.specs.Tables.{MetaRow, VectorRow, LogRow, BookingRow, ErrorRow, CancelledRow, Tables, log_row, kept, seq_among, tables_of}
+use Rattle.mr_model.specs.Tables.{MetaRow, VectorRow, LogRow, BookingRow, ErrorRow, CancelledRow, Tables, log_row, by_id as writes_by_id, kept, seq_among, tables_of}
 use Rattle.mr_model.specs.Queries.{booking_id, error_id, cancelled_id, log_id}
 use Rattle.mr_model.specs.Dropped.{Has}
 use Rattle.mr_model.specs.Scopes.{Scope, Nothing, OfRequest, OfTarget, NextCommits, UpTo, OfPosition, OfItems, is_on_day_of, is_needed, next_commits, with_rows, in_scope}
 use Rattle.mr_model.specs.RowsRead.{rows_read}
 use Rattle.mr_model.proofs.ReadRows.{read_rows}
-use Rattle.mr_model.proofs.Members.{filter_has, map_has}
+use Rattle.mr_model.proofs.Members.{all_has, filter_has, map_has}
+use Rattle.mr_model.proofs.RowsById.{by_id_has}
+use Rattle.mr_model.proofs.StepsKeep.{times_below}
 use Rattle.mr_rows.specs.RowQuestions.{is_row_asked, is_booking_asked, is_cancelled_asked, is_booking_named, is_error_of, is_cancelled_of}
-use Rattle.mr_sql.specs.ScopeQuestions.{logs_alone, room_questions, target_questions, taken_questions, items_asked, asks_booking, asks_cancelled, AreRead, AreSeqsWithin, AreEnough}
+use Rattle.mr_sql.specs.ScopeQuestions.{logs_alone, room_questions, target_questions, taken_questions, items_asked, asks_booking, asks_cancelled, AreRead, AreLogsWithin, AreEnough}
 use Rattle.mr_rows.proofs.RowLemmas.{filter_same}
 use Rattle.mr_rows.proofs.ValueLemmas.{or_false}
 
@@ -156,11 +158,11 @@ enough s t logs bookings errors gone read numbered = by (read.log numbered)
 
 -- the same where the heads were read too
 pub read_enough : (s : Scope) (t : Tables) (meta : MetaRow) (room : List Text) (vector : List VectorRow) (logs : List LogRow) (bookings : List BookingRow) (errors : List ErrorRow) (gone : List CancelledRow)
-    → (meta ≡ t.meta) × (room ≡ t.room) × (vector ≡ t.vector) → (meta.commits ≡ t.meta.commits → AreRead s t logs bookings errors gone)
+    → (meta ≡ t.meta) × (room ≡ t.room) × (vector ≡ t.vector) → (meta.commits ≡ t.meta.commits → meta.clock ≡ t.meta.clock → AreRead s t logs bookings errors gone)
     → AreEnough s t (record { meta = meta; room = room; vector = vector; log = logs; booking = bookings; errorlog = errors; cancelled = gone; cancels = [] })
 read_enough s t meta room vector logs bookings errors gone heads read numbered =
     (let m = heads.0 in let r = heads.1 in let v = heads.2 in λ i. in_scope s (record { meta = m i; room = r i; vector = v i; log = logs; booking = bookings; errorlog = errors; cancelled = gone; cancels = [] }))
-    ∙ enough s t logs bookings errors gone (read (ap (λ (m : MetaRow). m.commits) heads.0)) numbered
+    ∙ enough s t logs bookings errors gone (read (ap (λ (m : MetaRow). m.commits) heads.0) (ap (λ (m : MetaRow). m.clock) heads.0)) numbered
 
 -- ---- one question of the three
 
@@ -190,7 +192,7 @@ taken_by_id commits s logs no_rooms no_items rows = filter_same (is_row_asked is
     (λ c _. sym (or_false (is_row_asked is_cancelled_of (taken_questions commits s logs) c))
     ∙ (λ i. is_row_asked is_cancelled_asked (sym no_rooms i) c || (is_row_asked is_cancelled_of (taken_questions commits s logs) c || is_needed (logs_alone commits logs) (sym no_items i) c.room c.day (cancelled_id c))))
 
--- ---- commit numbers of a replica's tables
+-- ---- commit numbers and times of a replica's tables
 
 seq_within : (k : ℕ) (ids : List Id) (id : Id) → 1 ≤ k → seq_among k ids id + 1 ≤ k + length ids
 seq_within k [] id low = omega (arith, low)
@@ -200,12 +202,15 @@ seq_within k (x ∷ xs) id low = go (same_id x id) (seq_within (k + 1) xs id (om
     go true ih = omega arith
     go false ih = omega (arith, ih)
 
-pub numbered_of : (t : Tables) (a : Replica) → t ≡ tables_of a → AreSeqsWithin t
-numbered_of t a are = subst AreSeqsWithin (sym are) numbered
+pub numbered_of : (t : Tables) (a : Replica) → t ≡ tables_of a → AreLogsWithin t
+numbered_of t a are = subst AreLogsWithin (sym are) numbered
   where
-    numbered : AreSeqsWithin (tables_of a)
+    numbered : AreLogsWithin (tables_of a)
     numbered row h =
         let (w, g, e) = map_has (log_row a) row (kept a) h in
         let seq : row.seq ≡ (log_row a w).seq = ap (λ (r : LogRow). r.seq) e in
         let low = seq_within 1 a.commits (record { server = w.stamp.server; n = w.stamp.n }) (omega arith) in
-        omega (arith, seq, low)
+        let time : row.time ≡ w.stamp.time = ap (λ (r : LogRow). r.time) e in
+        let known : Has w a.known = by_id_has a w (filter_has (λ v. not (is_dropped a (id_of v))) w (writes_by_id a.known) g).0 in
+        let early : w.stamp.time ≤ clock_of a = all_has (λ v. v.stamp.time ≤ clock_of a) w a.known (times_below a.known (clock_of a) (le_refl (clock_of a))) known in
+        (omega (arith, seq, low), omega (arith, time, early))

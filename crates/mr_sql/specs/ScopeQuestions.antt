@@ -94,13 +94,13 @@ asks_cancelled commits s logs row =
 
 -- ---- what is read
 
--- no row of the log has a number above those of the commits
-abbrev pub AreSeqsWithin : Tables → Type 0
-AreSeqsWithin t = (row : LogRow) → Has row t.log → row.seq ≤ t.meta.commits
+-- no row of the log has a number above those of the commits, or a time above the clock
+abbrev pub AreLogsWithin : Tables → Type 0
+AreLogsWithin t = (row : LogRow) → Has row t.log → (row.seq ≤ t.meta.commits) × (row.time ≤ t.meta.clock)
 
 -- of the log those rows that pass some test, which all rows in scope pass
 abbrev pub AreLogsRead : Scope → Tables → List LogRow → Type 0
-AreLogsRead s t logs = AreSeqsWithin t → (p : LogRow → Bool) × (logs ≡ filter p t.log) × ((row : LogRow) → Has row (in_scope s t).log → p row ≡ true)
+AreLogsRead s t logs = AreLogsWithin t → (p : LogRow → Bool) × (logs ≡ filter p t.log) × ((row : LogRow) → Has row (in_scope s t).log → p row ≡ true)
 
 -- of the tables that show what became of writes the rows that some question asks for, where these rows of the log were read
 pub record ArePlacesRead (commits : ℕ) (s : Scope) (t : Tables) (logs : List LogRow) (bookings : List BookingRow) (errors : List ErrorRow)
@@ -116,4 +116,4 @@ pub record AreRead (s : Scope) (t : Tables) (logs : List LogRow) (bookings : Lis
 
 -- what is in scope of these tables is what is in scope of all
 abbrev pub AreEnough : Scope → Tables → Tables → Type 0
-AreEnough s t read = AreSeqsWithin t → in_scope s read ≡ in_scope s t
+AreEnough s t read = AreLogsWithin t → in_scope s read ≡ in_scope s t

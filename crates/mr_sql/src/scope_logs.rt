@@ -1,13 +1,15 @@
-ghost use Rattle.std.specs.Prelude.{◌≡◌, ℕ, true, false, map, IfOk};
+ghost use Rattle.std.specs.Prelude.{◌≡◌, ◌||◌, ℕ, Bool, true, false, map, filter, IfOk};
 ghost use Rattle.sqlite.specs.Held.{state};
 ghost use Rattle.mr_base.specs.Batches.{item_of};
 ghost use Rattle.mr_model.specs.Scopes.{NextCommits, OfPosition, OfItems, next_commits};
 ghost use Rattle.mr_model.specs.Queries.{log_id};
+ghost use Rattle.mr_model.specs.Tables.{LogRow as RowOfLog};
 ghost use Rattle.mr_part.specs.ScopeOf.{scope_of};
 ghost use Rattle.mr_rows.specs.Database.{tables_in};
 ghost use Rattle.mr_rows.specs.Reads.{ReadsInUse};
-ghost use Rattle.mr_sql.specs.ScopeQuestions.{AreLogsRead, is_of_numbers};
-ghost use Rattle.mr_sql.specs.LateTests.{IsLateTest};
+ghost use Rattle.mr_rows.specs.RowQuestions.{is_late_row};
+ghost use Rattle.mr_sql.specs.ScopeQuestions.{AreLogsRead, AreLogsWithin, is_of_numbers};
+ghost use Rattle.mr_sql.specs.LateTests.{passes_late, IsLateTest};
 
 use crate::scope_due::{DueTest, due_rows};
 use crate::scope_late::{LateTest, late_rows};
@@ -16,7 +18,7 @@ use crate::scope_stamps::first_ids;
 use mr_base::{Item, Position};
 use mr_part::Scope;
 use mr_rows::asked_rows::asked_rows;
-use mr_rows::{IdQuestion, StoredRow, tentative_stamps, with_late_rows};
+use mr_rows::{IdQuestion, LateRows, StoredRow, tentative_stamps, with_late_rows};
 use mr_tables::LogRow;
 use sqlite::{Alter, Connection, Error, ErrorCode};
 use std::alloc::Global;
@@ -86,6 +88,30 @@ fn test_of(alloc: Global, items: &[Item], commits: u64, named: &[LogRow]) -> Res
     }
 }
 
+/// The rows of the ids that a batch names, and those of these rows that pass its test. No row has a time above the clock: where these
+/// rows begin behind it, there are none.
+fn with_late<S: Alter>(
+    conn: &mut Connection<S>,
+    alloc: Global,
+    late: LateRows,
+    test: &LateTest,
+    named: Vec<LogRow>,
+    clock: u64,
+) -> Result<Vec<LogRow>, Error>
+    requires autocommit { conn.old.in_transaction ≡ false }
+    ensures autocommit { conn.new.in_transaction ≡ false }
+    ensures reads { ReadsInUse (state S.Store conn.old) (state S.Store conn.new) result
+        (λ rows. (p : RowOfLog → Bool) → named.items ≡ filter p (tables_in (state S.Store conn.old).now.trees).log
+        → clock ≡ (tables_in (state S.Store conn.old).now.trees).meta.clock → AreLogsWithin (tables_in (state S.Store conn.old).now.trees)
+        → rows.items ≡ filter (λ row. p row || is_late_row late (passes_late test.now) row) (tables_in (state S.Store conn.old).now.trees).log) }
+{
+    if late.from > clock {
+        Ok(named)
+    } else {
+        with_late_rows(conn, alloc, late, test, named)
+    }
+}
+
 /// The rows of a batch that is received: those of the ids that it names, which tell what rooms it touches, and then in one pass
 /// those of the commits that it names and of the tentative writes that it may move.
 fn read_batch<S: Alter>(
@@ -93,18 +119,20 @@ fn read_batch<S: Alter>(
     alloc: Global,
     items: &[Item],
     commits: u64,
+    clock: u64,
 ) -> Result<Vec<LogRow>, Error>
     requires autocommit { conn.old.in_transaction ≡ false }
     ensures autocommit { conn.new.in_transaction ≡ false }
     ensures reads { ReadsInUse (state S.Store conn.old) (state S.Store conn.new) result
         (λ rows. commits ≡ (tables_in (state S.Store conn.old).now.trees).meta.commits
+        → clock ≡ (tables_in (state S.Store conn.old).now.trees).meta.clock
         → AreLogsRead (OfItems (map item_of items.now)) (tables_in (state S.Store conn.old).now.trees) rows.items) }
 {
     let ids = item_questions(alloc, items)?;
     let named = asked_rows(conn, alloc, &ids)?;
     let test = test_of(alloc, items, commits, &named)?;
     let late = late_rows(items, commits, test.tail());
-    with_late_rows(conn, alloc, late, &test, named)
+    with_late(conn, alloc, late, &test, named, clock)
 }
 
 /// The rows of a batch for a position, in one pass.
@@ -142,23 +170,25 @@ fn read_numbers<S: Alter>(
     asked_rows(conn, alloc, &questions)
 }
 
-/// Of `log` all rows in scope, and others perhaps. `commits` are known.
+/// Of `log` all rows in scope, and others perhaps. `commits` are known, and no row has a time above the clock.
 pub(crate) fn read_logs<S: Alter>(
     conn: &mut Connection<S>,
     alloc: Global,
     scope: &Scope<'_>,
     commits: u64,
+    clock: u64,
 ) -> Result<Vec<LogRow>, Error>
     requires autocommit { conn.old.in_transaction ≡ false }
     ensures autocommit { conn.new.in_transaction ≡ false }
     ensures reads { ReadsInUse (state S.Store conn.old) (state S.Store conn.new) result
         (λ rows. commits ≡ (tables_in (state S.Store conn.old).now.trees).meta.commits
+        → clock ≡ (tables_in (state S.Store conn.old).now.trees).meta.clock
         → AreLogsRead (scope_of scope.now) (tables_in (state S.Store conn.old).now.trees) rows.items) }
 {
     match *scope {
         Scope::NextCommits(count) => read_next(conn, alloc, count),
         Scope::OfPosition(position) => read_due(conn, alloc, position, commits),
-        Scope::Items(items) => read_batch(conn, alloc, items, commits),
+        Scope::Items(items) => read_batch(conn, alloc, items, commits, clock),
         Scope::Nothing | Scope::OfRequest(_, _) | Scope::OfTarget(_) | Scope::UpTo(_) => {
             read_numbers(conn, alloc, scope, commits)
         }

@@ -190,12 +190,13 @@ fn read_places<S: Alter>(
     }
 }
 
-/// The rows of a scope: of `log`, and of those tables. `commits` are known.
+/// The rows of a scope: of `log`, and of those tables. `commits` are known, and no row of `log` has a time above the clock.
 fn read_rows<S: Alter>(
     conn: &mut Connection<S>,
     alloc: Global,
     scope: &Scope<'_>,
     commits: u64,
+    clock: u64,
 ) -> Result<
     (
         Vec<LogRow>,
@@ -206,10 +207,10 @@ fn read_rows<S: Alter>(
     requires autocommit { conn.old.in_transaction ≡ false }
     ensures autocommit { conn.new.in_transaction ≡ false }
     ensures reads { ReadsInUse (state S.Store conn.old) (state S.Store conn.new) result
-        (λ rows. commits ≡ (tables_in (state S.Store conn.old).now.trees).meta.commits → AreRead (scope_of scope.now)
-        (tables_in (state S.Store conn.old).now.trees) rows.0.items rows.1.0.items rows.1.1.items rows.1.2.items) }
+        (λ rows. commits ≡ (tables_in (state S.Store conn.old).now.trees).meta.commits → clock ≡ (tables_in (state S.Store conn.old).now.trees).meta.clock
+        → AreRead (scope_of scope.now) (tables_in (state S.Store conn.old).now.trees) rows.0.items rows.1.0.items rows.1.1.items rows.1.2.items) }
 {
-    let logs = read_logs(conn, alloc, scope, commits)?;
+    let logs = read_logs(conn, alloc, scope, commits, clock)?;
     let places = read_places(conn, alloc, scope, &logs, commits)?;
     Ok((logs, places))
 }
@@ -218,6 +219,12 @@ fn commits_of(meta: &MetaRow) -> u64
     ensures { result ≡ meta.now.commits }
 {
     meta.commits
+}
+
+fn clock_of(meta: &MetaRow) -> u64
+    ensures { result ≡ meta.now.clock }
+{
+    meta.clock
 }
 
 /// Tables with the rows that a command of this scope needs, beside others perhaps: all of `meta`, `room` and `vector`; of `log`,
@@ -233,7 +240,7 @@ pub(crate) fn read_scope<S: Alter>(
         (λ tables. AreEnough (scope_of scope.now) (tables_in (state S.Store conn.old).now.trees) tables) }
 {
     let heads = read_heads(conn, alloc)?;
-    let rows = read_rows(conn, alloc, scope, commits_of(&heads.0))?;
+    let rows = read_rows(conn, alloc, scope, commits_of(&heads.0), clock_of(&heads.0))?;
     Ok(Tables {
         meta: heads.0,
         room: heads.1,

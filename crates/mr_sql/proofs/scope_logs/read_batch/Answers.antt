@@ -6,8 +6,9 @@ use Rattle.mr_model.specs.Tables.{LogRow}
 use Rattle.mr_rows.specs.Database.{tables_in}
 use Rattle.mr_rows.specs.Reads.{ReadsInUse}
 use Rattle.mr_rows.specs.RowQuestions.{is_row_asked, is_log_named, is_late_row}
-use Rattle.mr_rows.proofs.QueryLemmas.{survives_itself, in_use, uses_then}
+use Rattle.mr_rows.proofs.QueryLemmas.{survives_itself, uses_then}
 use Rattle.mr_sql.specs.LateTests.{passes_late, IsLateTest, ReachesTail}
+use Rattle.mr_sql.specs.ScopeQuestions.{AreLogsWithin}
 use Rattle.mr_sql.proofs.LogLemmas.{batch_read}
 use Rattle.mr_sql.proofs.scope_logs.read_batch.Goals as goal
 
@@ -24,7 +25,7 @@ pub returns-clause-reads : goal.returns-clause-reads
 returns-clause-reads g c =
     let a = state g.S.Store c.args.conn.now in
     let b = state g.S.Store c.asked_rows.new.conn in
-    let d = state g.S.Store c.with_late_rows.new.conn in
+    let d = state g.S.Store c.with_late.new.conn in
     let t = tables_in a.now.trees in
     let items = map item_of c.args.items.now in
     let ids = map item_id items in
@@ -34,11 +35,12 @@ returns-clause-reads g c =
     let asked = is_row_asked is_log_named ids in
     let passes = is_late_row late (passes_late test) in
     let first = subst (λ qs. ReadsInUse a b (Ok named) (λ rows. rows.items ≡ filter (is_row_asked is_log_named qs) t.log)) (c.deref.ensures.value ∙ c.in_ok-ids.ensures) c.in_ok-named.ensures.reads in
-    uses_then a b d named (λ rows. rows.items ≡ filter asked t.log) c.with_late_rows.result
-    (λ db all. (p : LogRow → Bool) → named.items ≡ filter p (tables_in db.trees).log → all.items ≡ filter (λ row. p row || passes row) (tables_in db.trees).log) _
-    (λ held all is more known.
+    uses_then a b d named (λ rows. rows.items ≡ filter asked t.log) c.with_late.result
+    (λ db all. (p : LogRow → Bool) → named.items ≡ filter p (tables_in db.trees).log → c.args.clock ≡ (tables_in db.trees).meta.clock → AreLogsWithin (tables_in db.trees)
+    → all.items ≡ filter (λ row. p row || passes row) (tables_in db.trees).log) _
+    (λ held all is more known clocked within.
     let told : IsLateTest test c.args.commits items named.items = subst (λ rows. IsLateTest test c.args.commits items rows) c.deref-2.ensures.value c.in_ok-test.ensures in
     let sure : IsLateTest test t.meta.commits items (filter asked t.log) = subst (λ n. IsLateTest test n items (filter asked t.log)) known (subst (λ rows. IsLateTest test c.args.commits items rows) is told) in
     let reach : ReachesTail late test.tail t.meta.commits items = subst (λ n. ReachesTail late test.tail n items) known (rw c.tail.ensures at c.late_rows-late.ensures) in
-    batch_read t items test late sure reach all.items (more asked is))
-    first (in_use b d c.with_late_rows.result _ c.with_late_rows.ensures.reads)
+    batch_read t items test late sure reach all.items (more asked is clocked within) within)
+    first c.with_late.ensures.reads

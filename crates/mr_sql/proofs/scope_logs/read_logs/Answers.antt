@@ -7,10 +7,11 @@ use Rattle.mr_sql.proofs.scope_logs.read_logs.Goals as goal
 
 pub returns-in-NextCommits-clause-reads : goal.returns-in-NextCommits-clause-reads
 returns-in-NextCommits-clause-reads g c =
-    rw c.in-NextCommits.is (uses_so (state g.S.Store c.args.conn.now) (state g.S.Store c.read_next.new.conn) c.read_next.result _ _ (λ held rows read known. read) c.read_next.ensures.reads)
+    rw c.in-NextCommits.is (uses_so (state g.S.Store c.args.conn.now) (state g.S.Store c.read_next.new.conn) c.read_next.result _ _ (λ held rows read known clocked. read) c.read_next.ensures.reads)
 
 pub returns-in-OfPosition-clause-reads : goal.returns-in-OfPosition-clause-reads
-returns-in-OfPosition-clause-reads g c = rw c.in-OfPosition.is c.read_due.ensures.reads
+returns-in-OfPosition-clause-reads g c =
+    rw c.in-OfPosition.is (uses_so (state g.S.Store c.args.conn.now) (state g.S.Store c.read_due.new.conn) c.read_due.result _ _ (λ held rows read known clocked. read known) c.read_due.ensures.reads)
 
 pub returns-in-Items-clause-reads : goal.returns-in-Items-clause-reads
 returns-in-Items-clause-reads g c = rw c.in-Items.is c.read_batch.ensures.reads
@@ -20,5 +21,5 @@ returns-in-Nothing g c =
     let of : is_of_numbers (scope_of c.args.scope.now) ≡ true = search rules in
     record {
       autocommit = c.read_numbers.ensures.autocommit;
-      reads = uses_so (state g.S.Store c.args.conn.now) (state g.S.Store c.read_numbers.new.conn) c.read_numbers.result _ _ (λ held rows read known. read of known) c.read_numbers.ensures.reads;
+      reads = uses_so (state g.S.Store c.args.conn.now) (state g.S.Store c.read_numbers.new.conn) c.read_numbers.result _ _ (λ held rows read known clocked. read of known) c.read_numbers.ensures.reads;
     }

@@ -1,6 +1,5 @@
-use Rattle.std.proofs.Common.{◌≡◌, ◌∙◌, ap, sym, List, [], ◌∷◌, filter, refl, false, Ok, Option, Some, None}
+use Rattle.std.proofs.Common.{◌≡◌, ◌∙◌, ap, sym, filter, refl}
 use Rattle.sqlite.specs.Held.{state}
-use Rattle.mr_model.specs.Tables.{BookingRow, CancelledRow}
 use Rattle.mr_rows.specs.Database.{tables_in}
 use Rattle.mr_rows.proofs.QueryLemmas.{survives_itself, uses_so}
 use Rattle.mr_sql.specs.NeededTests.{books_needed, cancels_needed, books_if_any, cancels_if_any}
@@ -20,8 +19,7 @@ returns-in-Some-clause-reads g c =
 pub returns-in-None-clause-reads : goal.returns-in-None-clause-reads
 returns-in-None-clause-reads g c =
     let a = state g.S.Store c.args.conn.now in
-    let t = tables_in a.now.trees in
-    (
+    let t = tables_in a.now.trees in (
       survives_itself a _,
       λ clean now. (now, λ held. (refl, refl)),
       λ clean held. (

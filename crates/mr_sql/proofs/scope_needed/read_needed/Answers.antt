@@ -1,4 +1,4 @@
-use Rattle.std.proofs.Common.{◌≡◌, map}
+use Rattle.std.proofs.Common.{map}
 use Rattle.sqlite.specs.Held.{state}
 use Rattle.mr_base.specs.Batches.{item_of}
 use Rattle.mr_rows.specs.Database.{tables_in}

@@ -1,6 +1,3 @@
-use Rattle.std.proofs.Common.{◌≡◌, [], rules}
-use Rattle.mr_part.specs.ScopeOf.{scope_of}
-use Rattle.mr_sql.specs.ScopeQuestions.{items_asked}
 use Rattle.mr_sql.proofs.scope_rows.read_places.Goals as goal
 
 pub returns-in-Items-clause-reads : goal.returns-in-Items-clause-reads

@@ -1,4 +1,4 @@
-use Rattle.std.proofs.Common.{◌≡◌, ◌∙◌, ◌&&◌, sym, ap}
+use Rattle.std.proofs.Common.{◌∙◌, ◌&&◌, sym, ap}
 use Rattle.sqlite_value.specs.Order.{column, bytes}
 use Rattle.mr_model.specs.Calendar.{date_in}
 use Rattle.mr_kept.specs.Sets.{has_room}

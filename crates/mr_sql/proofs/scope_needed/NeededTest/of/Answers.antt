@@ -1,6 +1,5 @@
-use Rattle.std.proofs.Common.{◌≡◌, ◌∙◌, refl, sym, ap, subst}
-use Rattle.std.specs.Prelude.{List, map, bytes_eq}
-use Rattle.std.specs.List.{list_any}
+use Rattle.std.proofs.Common.{◌∙◌, refl, sym, subst}
+use Rattle.std.specs.Prelude.{List, map}
 use Rattle.mr_model.specs.Texts.{Text}
 use Rattle.mr_model.specs.Exchange.{Item}
 use Rattle.mr_model.specs.Scopes.{touched_rooms}
