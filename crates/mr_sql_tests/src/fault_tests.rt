@@ -3,7 +3,7 @@
 
 use crate::offices::{Offices, Step, opened};
 use crate::opening::Opening;
-use crate::same_text::{same_count, same_text, same_texts};
+use crate::same_text::{is_text, same_count, same_text, same_texts};
 use crate::scripts::{CHAIN, COMMITTED_FIRST, EQUAL_TIMES, MADE_VOID, Row, TRUNCATED, TURNED};
 use mr_base::Refusal;
 use mr_service::refusal_text;
@@ -44,11 +44,6 @@ fn opened_tripped<K: Opening + Drop>(
     Ok(Offices::over(alloc, first, second, third))
 }
 
-/// Whether the text is that of the refusal.
-fn is_refusal(text: &Result<Vec<u8>, Refusal>, refusal: &[u8]) -> bool {
-    matches!(text, Ok(text) if text.as_slice() == refusal)
-}
-
 /// The step has its reply, or is refused so, and what is seen at the offices is what is seen at the plain ones, which haven't taken it; it has
 /// its reply then once it is taken again. Answers whether it was refused.
 fn is_refused_once<K: Keeper + Drop>(
@@ -59,7 +54,7 @@ fn is_refused_once<K: Keeper + Drop>(
     refusal: &[u8],
 ) -> bool {
     let text = offices.take(step);
-    if !is_refusal(&text, refusal) {
+    if !is_text(&text, refusal) {
         same_text(rt, &text, want);
         return false;
     }

@@ -2,6 +2,7 @@
 
 use crate::acts::{Act, MONDAY, said};
 use crate::firsts::first_tables;
+use crate::layouts::schema;
 use crate::offices::{Offices, opened};
 use crate::opening::{new_service, server};
 use crate::receiving_tests::TWO;
@@ -213,21 +214,6 @@ fn resume(
         Err((refusal, GivenBack::Connection(conn))) => Ok((refusal.number(), conn)),
         Err((refusal, GivenBack::Store(_))) => Err(refusal),
     }
-}
-
-/// The number in the one column of the one row that this shows.
-fn number(conn: &mut Connection<MemStore>, query: &str) -> Option<u32> {
-    conn.query_row(query, &[]).ok()?.get(0).ok()
-}
-
-/// The number of the schema, and how many tables there are.
-fn schema(conn: &mut Connection<MemStore>) -> Option<(u32, u32)> {
-    let schema = number(conn, "SELECT schema FROM meta")?;
-    let tables = number(
-        conn,
-        "SELECT count(*) FROM sqlite_schema WHERE type = 'table'",
-    )?;
-    Some((schema, tables))
 }
 
 /// What is done with a connection.

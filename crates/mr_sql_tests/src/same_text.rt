@@ -3,6 +3,11 @@
 use mr_base::Refusal;
 use std::process::Abort;
 
+/// Whether there is a text, and it is this one.
+pub(crate) fn is_text(text: &Result<Vec<u8>, Refusal>, want: &[u8]) -> bool {
+    matches!(text, Ok(text) if text.as_slice() == want)
+}
+
 /// There is a text, and it is this one.
 pub(crate) fn same_text(rt: &impl Abort, text: &Result<Vec<u8>, Refusal>, want: &str) {
     match text {
@@ -31,4 +36,9 @@ pub(crate) fn same_texts(
 /// The count is this one.
 pub(crate) fn same_count(rt: &impl Abort, found: u64, wanted: u64, at: usize) {
     assert_eq!(rt; found, wanted, "at {at}");
+}
+
+/// It is so.
+pub(crate) fn holds(rt: &impl Abort, is_so: bool, wanted: &str) {
+    assert!(rt; is_so, "where {wanted} is wanted");
 }

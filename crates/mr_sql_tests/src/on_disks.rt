@@ -1,19 +1,16 @@
 // Replica 2 of primary 1 in a database on two files, from opening them to giving them up. On no way out is a keeper dropped: what it
 // holds would have to be proved to be dropped rightly once more, at these files.
 
-use crate::asks::{Ask, said, seen};
-use mr_base::{Refusal, ServerId};
+use crate::acts::{Act, said, seen};
+use crate::opening::server;
+use crate::same_text::{holds, is_text};
+use mr_base::Refusal;
 use mr_service::Service;
 use mr_sql::{GivenBack, SqlKeeper};
 use sqlite::{Connection, FileStore, Files, Options};
 use sqlite_disk::{Disk, Fuse, Memory};
 use std::alloc::Global;
 use std::process::Abort;
-use std::test::Fail;
-
-fn server(number: u32) -> Result<ServerId, Refusal> {
-    ServerId::new(number).ok_or(Refusal::NotAReplica)
-}
 
 /// A connection to the database in the files, or the files where it can't be opened.
 pub(crate) fn connected<D: Disk + Drop>(
@@ -29,13 +26,22 @@ pub(crate) fn connected<D: Disk + Drop>(
     }
 }
 
+/// Closes the database, with what its log holds copied into it where it can be; gives the files up.
+pub(crate) fn closed<D: Disk + Drop>(conn: Connection<FileStore<D>>) -> Files<D> {
+    match conn.close_files() {
+        Ok(files) => files,
+        Err((_, store)) => store.close(),
+    }
+}
+
 /// The keeper of the replica in the database, or the files where it can't be adopted.
 fn adopted<D: Disk + Drop>(
     alloc: Global,
     conn: Connection<FileStore<D>>,
-    own: ServerId,
-    primary: ServerId,
 ) -> Result<SqlKeeper<FileStore<D>>, Files<D>> {
+    let (Ok(own), Ok(primary)) = (server(2), server(1)) else {
+        return Err(closed(conn));
+    };
     match SqlKeeper::adopt(alloc, conn, own, primary) {
         Ok(keeper) => Ok(keeper),
         Err((_, GivenBack::Connection(conn))) => Err(conn.into_store().close()),
@@ -47,29 +53,21 @@ fn adopted<D: Disk + Drop>(
 fn taken<D: Disk + Drop>(
     alloc: Global,
     files: Files<D>,
-    own: ServerId,
-    primary: ServerId,
 ) -> Result<Service<SqlKeeper<FileStore<D>>>, Files<D>> {
     let conn = connected(alloc, files)?;
-    let keeper = adopted(alloc, conn, own, primary)?;
+    let keeper = adopted(alloc, conn)?;
     Ok(Service::new(alloc, keeper))
 }
 
-/// Closes the database, with what its log holds copied into it where it can be; gives the files up.
+/// Closes the database of the replica, and gives the files up.
 fn given_up<D: Disk + Drop>(service: Service<SqlKeeper<FileStore<D>>>) -> Files<D> {
-    match service.into_keeper().release().close_files() {
-        Ok(files) => files,
-        Err((_, store)) => store.close(),
-    }
+    closed(service.into_keeper().release())
 }
 
 /// Whether this is the reply. Where a call of the files failed it is the store's fault.
-fn is_reply(rt: &impl Abort, text: &[u8], want: &str) -> bool {
-    let is_wanted = text == want.as_bytes();
-    assert!(rt;
-        is_wanted || text == b"refused 25 Store\n".as_slice(),
-        "where {want} is wanted"
-    );
+fn is_reply(rt: &impl Abort, text: &Result<Vec<u8>, Refusal>, want: &str) -> bool {
+    let is_wanted = is_text(text, want.as_bytes());
+    holds(rt, is_wanted || is_text(text, b"refused 25 Store\n"), want);
     is_wanted
 }
 
@@ -78,26 +76,26 @@ pub(crate) fn asked(
     rt: &impl Abort,
     alloc: Global,
     files: Files<Fuse<Memory>>,
-    (ask, want): (Ask, &str),
-) -> Result<(bool, Files<Fuse<Memory>>), Fail> {
-    match taken(alloc, files, server(2)?, server(1)?) {
+    (act, want): (Act, &str),
+) -> (bool, Files<Fuse<Memory>>) {
+    match taken(alloc, files) {
         Ok(mut service) => {
-            let text = said(alloc, &mut service, ask);
+            let text = said(alloc, &mut service, act);
             let files = given_up(service);
-            Ok((is_reply(rt, text?.as_slice(), want), files))
+            (is_reply(rt, &text, want), files)
         }
-        Err(files) => Ok((false, files)),
+        Err(files) => (false, files),
     }
 }
 
 /// What is seen of the replica in the files once they are opened.
-pub(crate) fn seen_in(alloc: Global, files: Files<Fuse<Memory>>) -> Result<Vec<u8>, Fail> {
-    match taken(alloc, files, server(2)?, server(1)?) {
+pub(crate) fn seen_in(alloc: Global, files: Files<Fuse<Memory>>) -> Result<Vec<u8>, Refusal> {
+    match taken(alloc, files) {
         Ok(mut service) => {
             let texts = seen(alloc, &mut service);
             given_up(service);
-            Ok(texts?)
+            texts
         }
-        Err(_) => Err("the files can't be opened again")?,
+        Err(_) => Err(Refusal::Store),
     }
 }
