@@ -19,7 +19,7 @@ def questions(servers):
     """The lines that ask these replicas all that can be seen of oak on that day, and their positions."""
     words = []
     for server in servers:
-        words += [f'position {server}', f'calendar {server} oak full', f'calendar {server} oak committed', f'errors {server} oak', f'sheet {server} oak {DAY}']
+        words += [f'sheet {server} oak {DAY}', f'calendar {server} oak full', f'calendar {server} oak committed', f'errors {server} oak', f'position {server}']
     return words
 
 

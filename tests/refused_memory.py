@@ -8,9 +8,9 @@ in which the refused line is not done. It is run once more with each of its line
 allocations refused from one on. Then its lines are commands on databases, with some of the allocations of each, most of them near
 its end; a database of the first schema is moved up, with each fifth allocation; and a served database is sent requests, with each
 allocation of each refused. SERVED is the built program of the crate mr_served, which serves requests over lists: each of its allocations
-is refused. ASKED is that of the crate mr_asked, which asks the same scripts of replicas over lists and over databases in memory: each
-allocation of each command is refused. After a refusal everything is as before, and what was asked is done when it is asked again. A
-process that ends otherwise is reported. The last line counts.
+is refused. ASKED is that of the tests of the crate mr_sql_tests, three of which ask the same scripts of replicas over lists and over databases in
+memory, and move databases up: each allocation of each command is refused. After a refusal everything is as before, and what was asked is done when
+it is asked again. A process that ends otherwise is reported. The last line counts.
 """
 
 import itertools

@@ -156,7 +156,7 @@ fn local(alloc: Global, act: Act) -> Result<Local, Refusal> {
     }
 }
 
-fn command(alloc: Global, act: Act) -> Result<Command, Refusal> {
+pub(crate) fn command(alloc: Global, act: Act) -> Result<Command, Refusal> {
     match act {
         Act::Batch(batch) => Ok(Command::Receive(batch.as_bytes().to_vec(alloc)?)),
         Act::Front(batch, size) => {

@@ -22,6 +22,10 @@ mod layouts;
 #[cfg(test)]
 mod moving_tests;
 #[cfg(test)]
+mod now_and_then;
+#[cfg(test)]
+mod now_and_then_tests;
+#[cfg(test)]
 mod offices;
 #[cfg(test)]
 mod on_disks;

@@ -121,14 +121,14 @@ fn check_alike<K: Keeper, L: Keeper>(
 }
 
 /// Replica 9 with the writes of elm and oak.
-fn with_elm(rt: &impl Abort, alloc: Global) -> Service<ListKeeper> {
+pub(crate) fn with_elm(rt: &impl Abort, alloc: Global) -> Service<ListKeeper> {
     let mut service = new_service::<ListKeeper>(rt, alloc, 9);
     check(rt, alloc, &mut service, &OF_ELM);
     service
 }
 
 /// Replica 2 as the script of truncation leaves it.
-fn truncated(rt: &impl Abort, alloc: Global) -> Service<ListKeeper> {
+pub(crate) fn truncated(rt: &impl Abort, alloc: Global) -> Service<ListKeeper> {
     let mut offices = opened::<ListKeeper>(alloc).expect(rt, "offices");
     for (step, want) in &TRUNCATED {
         same_text(rt, &offices.take(*step), want);
@@ -138,7 +138,7 @@ fn truncated(rt: &impl Abort, alloc: Global) -> Service<ListKeeper> {
 }
 
 /// The replica's tables, as those of the first schema, and the replica.
-fn split(
+pub(crate) fn split(
     rt: &impl Abort,
     alloc: Global,
     service: Service<ListKeeper>,

@@ -21,7 +21,7 @@ pub(crate) enum Step {
 /// The offices 1, 2 and 3, and the batches that were made.
 #[derive(Drop)]
 pub(crate) struct Offices<K: Keeper> {
-    alloc: Global,
+    pub(crate) alloc: Global,
     pub(crate) first: Service<K>,
     pub(crate) second: Service<K>,
     pub(crate) third: Service<K>,
@@ -39,7 +39,7 @@ impl<K: Keeper + Drop> Offices<K> {
         }
     }
 
-    fn ask(&mut self, office: u32, command: &Command) -> Reply {
+    pub(crate) fn ask(&mut self, office: u32, command: &Command) -> Reply {
         match office {
             1 => self.first.ask(command),
             2 => self.second.ask(command),

@@ -204,7 +204,7 @@ const SHEET_OF_TAKEN_BACK: &str =
     "oak 1995-12-18 Monday\n09:00-10:00 T 1-4 Gamma\n10:00-11:00 T 1-2 Beta\n";
 
 /// A committed booking is taken back by a tentative cancel, and its slot is booked again. All of it is told in the second version, and in
-/// the first what comes before the cancel.
+/// the first what comes before the cancel. Its first 15 rows are the script `cancel_and_rebook`.
 pub(crate) static TAKEN_BACK: [Row; 20] = [
     OAK_AT_1,
     ALPHA,
@@ -225,13 +225,14 @@ pub(crate) static TAKEN_BACK: [Row; 20] = [
     ),
     (Step::At(1, Act::Outcome("1-1")), "1-1 C cancelled T 1-3\n"),
     (Step::At(1, Act::Cancel("1-1")), "1-5 T void 1-1\n"),
-    (Step::At(1, Act::Outcome("1-5")), "1-5 T void 1-1\n"),
     (Step::At(1, Act::Errors), "oak errors\nT 1-5 cancel 1-1\n"),
     (Step::At(1, Act::Cancel("1-3")), "refused 9 NoSuchRequest\n"),
     (Step::Batch(1, 2, 10), "batch 1 186 bytes\n"),
     (Step::Deliver(1, 2), "took 5 writes 1 commits\n"),
-    (Step::At(1, Act::Sheet), SHEET_OF_TAKEN_BACK),
     (Step::At(2, Act::Sheet), SHEET_OF_TAKEN_BACK),
+    // the same at the office that cancelled, and what no script has a line for
+    (Step::At(1, Act::Sheet), SHEET_OF_TAKEN_BACK),
+    (Step::At(1, Act::Outcome("1-5")), "1-5 T void 1-1\n"),
     (Step::At(2, Act::Outcome("1-1")), "1-1 C cancelled T 1-3\n"),
     (
         Step::At(1, Act::BatchFor(NOTHING, 3)),
