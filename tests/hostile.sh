@@ -54,7 +54,7 @@ run_refused_memory() {
         echo 'skipped: memory that is refused (no C compiler)'
         return
     fi
-    tried 'memory that is refused' tests/refused_memory.py "$program" crates/mr_served/out/mr_served crates/mr_sql_tests/out/mr_sql_tests_tests \
+    tried 'memory that is refused' tests/refused_memory.py "$program" crates/mr_web_tests/out/mr_web_tests_tests crates/mr_sql_tests/out/mr_sql_tests_tests \
         "$quick/memory" tests/scripts/equal_times.script examples/commit_reorders.script tests/scripts/chain.script tests/scripts/dropped_commits.script \
         tests/scripts/cancel_of_moved.script tests/scripts/cancel_and_rebook.script
 }

@@ -7,7 +7,7 @@ Each script is run by `rehearse`, so over lists, with each of its allocations re
 in which the refused line is not done. It is run once more with each of its lines given twice and questions between, and with all
 allocations refused from one on. Then its lines are commands on databases, with some of the allocations of each, most of them near
 its end; a database of the first schema is moved up, with each fifth allocation; and a served database is sent requests, with each
-allocation of each refused. SERVED is the built program of the crate mr_served, which serves requests over lists: each of its allocations
+allocation of each refused. SERVED is that of the tests of the crate mr_web_tests, one of which serves requests over lists: each of its allocations
 is refused. ASKED is that of the tests of the crate mr_sql_tests, three of which ask the same scripts of replicas over lists and over databases in
 memory, and move databases up: each allocation of each command is refused. After a refusal everything is as before, and what was asked is done when
 it is asked again. A process that ends otherwise is reported. The last line counts.
@@ -24,7 +24,7 @@ import plain_script
 from calls import Served, call, done, empty
 from oracle import RULES
 from plain_script import REFUSED
-from refused_commands import Commands
+from refused_commands import END, Commands
 from shim import Shim, compiler
 from tables import KEPT, copy_database, rows_or_none
 
@@ -196,7 +196,11 @@ class Databases(Tried, on_databases.Offices):
 
 
 class Requests(Tried):
-    """Requests that are served over lists, by a program of its own: a submission, the sheet, and the submission again."""
+    """Requests that are served over lists, by a test: a submission, the sheet, and the submission again."""
+
+    def run(self, nth, *_, has_more=False):
+        printed, status = super().run(nth, 'without_memory_tests::three_requests', has_more=has_more)
+        return printed.removesuffix(END), status
 
     def ends(self):
         """What is printed of each request: where it is done, and where there is no memory for it or for its reply."""

@@ -16,3 +16,5 @@ mod round_tests;
 mod same;
 #[cfg(test)]
 mod serving_tests;
+#[cfg(test)]
+mod without_memory_tests;
