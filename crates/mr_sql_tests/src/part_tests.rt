@@ -78,9 +78,10 @@ static OF_COMMITTED: [(For, u64); 18] = [
     (For::Batch(GAMMA), 2),
     // the write, which is committed already
     (For::Batch(FIRST), 1),
-    // the bookings of the room
-    (For::Batch(OF_OAK), 2),
-    (For::Batch(OF_ELM), 1),
+    // what it cancels
+    (For::Batch(OF_OAK), 1),
+    // which is no booking of the other room
+    (For::Batch(OF_ELM), 0),
 ];
 
 /// They are committed and dropped: 2 rows of `log`, 3 of `booking`.
