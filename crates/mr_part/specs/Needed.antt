@@ -1,9 +1,7 @@
 -- What a batch may need of the bookings, put into sets once for it.
 use Rattle.std.specs.Prelude.{◌≡◌, Bool, false, ◌&&◌, ◌||◌, List, Option, Some, None}
 use Rattle.std.specs.BTreeMap.{BTreeMap, get}
-use Rattle.std.specs.BTreeSet.{BTreeSet, contains}
-use Rattle.std.specs.Cmp.Lexicographic.{slice_cmp}
-use Rattle.std.specs.Ordering.{nat_cmp}
+use Rattle.std.specs.BTreeSet.{BTreeSet}
 use Rattle.mr_model.specs.Texts.{Text}
 use Rattle.mr_model.specs.Calendar.{Date}
 use Rattle.mr_model.specs.Writes.{Id}
@@ -14,17 +12,17 @@ use Rattle.mr_replay.specs.Index.{day_cmp}
 use Rattle.mr_kept.specs.Sets.{has_id, has_room}
 use Rattle.mr_part.specs.declared.scope_needed.Needed.{Needed}
 
--- days, by rooms
-abbrev pub DaysOfRooms : Type 0
-DaysOfRooms = BTreeMap Text (BTreeSet Date)
+-- rooms, by days
+abbrev pub RoomsOfDays : Type 0
+RoomsOfDays = BTreeMap Date (BTreeSet Text)
 
-abbrev pub has_day : Option (BTreeSet Date) → Date → Bool
-has_day None day = false
-has_day (Some days) day = contains day_cmp days day
+abbrev pub has_this : Option (BTreeSet Text) → Text → Bool
+has_this None room = false
+has_this (Some rooms) room = has_room rooms room
 
 -- whether the room has the day
-abbrev pub has_day_of : DaysOfRooms → Text → Date → Bool
-has_day_of days room day = has_day (get (slice_cmp nat_cmp) days room) day
+abbrev pub has_day_of : RoomsOfDays → Text → Date → Bool
+has_day_of days room day = has_this (get day_cmp days day) room
 
 -- whether what stands under this id on the day in the room may be needed
 abbrev pub needs : Needed → Text → Date → Id → Bool

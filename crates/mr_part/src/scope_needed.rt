@@ -1,8 +1,6 @@
-ghost use Rattle.std.specs.Prelude.{◌≡◌, ◌&&◌, ◌||◌, ℕ, List, map, bytes_eq, is_some, IsTrue, IfOk, OnOk, IfErr};
+ghost use Rattle.std.specs.Prelude.{◌≡◌, ◌&&◌, ◌||◌, ℕ, true, false, List, map, bytes_eq, is_some, IsTrue, IfOk, OnOk, IfErr};
 ghost use Rattle.std.specs.BTreeMap.{get};
-ghost use Rattle.std.specs.Cmp.Lexicographic.{slice_cmp};
 ghost use Rattle.std.specs.List.{list_any};
-ghost use Rattle.std.specs.Ordering.{nat_cmp};
 ghost use Rattle.mr_model.specs.Calendar.{Date, same_date};
 ghost use Rattle.mr_model.specs.Exchange.{Item as ItemOfBatch};
 ghost use Rattle.mr_model.specs.Scopes.{touched_rooms, moves_kept, asks_for, cancels_id};
@@ -10,6 +8,7 @@ ghost use Rattle.mr_model.specs.Tables.{Tables as TablesOfRows};
 ghost use Rattle.mr_model.specs.Texts.{Text};
 ghost use Rattle.mr_model.specs.Writes.{Id, choices_of};
 ghost use Rattle.mr_base.specs.Batches.{item_of};
+ghost use Rattle.mr_replay.specs.Index.{day_cmp};
 ghost use Rattle.mr_kept.specs.Sets.{has_id, has_room, AreSameRooms};
 ghost use Rattle.mr_kept.specs.Tails.{IsTail};
 ghost use Rattle.mr_part.specs.Needed.{has_day_of, needs, IsNeeded};
@@ -23,8 +22,8 @@ use mr_tables::LogRow;
 use std::alloc::Global;
 use std::collections::{BTreeMap, BTreeSet};
 
-/// Days, by rooms.
-type DaysOfRooms = BTreeMap<RoomName, BTreeSet<Day>>;
+/// Rooms, by days.
+type RoomsOfDays = BTreeMap<Day, RoomSet>;
 
 /// What a batch may need of the bookings. It is made once for the batch, so that each row is asked at the cost of a logarithm or two.
 #[derive(Drop)]
@@ -33,8 +32,8 @@ pub struct Needed {
     pub(crate) touched: RoomSet,
     /// The rooms in which kept writes are executed anew: of these it needs all.
     pub(crate) moved: RoomSet,
-    /// The days for which its writes ask, by their rooms.
-    pub(crate) days: DaysOfRooms,
+    /// The rooms for which its writes ask, by the days. They are few, and a row's day is read at less cost than its room.
+    pub(crate) days: RoomsOfDays,
     /// What its writes cancel.
     pub(crate) targets: IdSet,
 }
@@ -65,6 +64,27 @@ impl Needed {
         })
     }
 
+    /// Whether no kept write is executed anew: then what is needed is known by days and ids.
+    pub fn moves_none(&self) -> bool
+        ensures { result ≡ true → (room : Text) → has_room self.now.moved room ≡ false }
+    {
+        self.moved.is_empty()
+    }
+
+    /// Whether its writes ask for this day, in whatever room, or aim at this id.
+    pub fn asks_at(&self, day: Day, id: WriteId) -> bool
+        ensures { result ≡ false → (room : Text) → (has_day_of self.now.days room day || has_id self.now.targets id) ≡ false }
+    {
+        self.days.contains_key(&day) || self.targets.contains(&(id.server, id.n))
+    }
+
+    /// Whether it needs anything of this room.
+    pub fn touches(&self, room: &RoomName) -> bool
+        ensures { result ≡ has_room self.now.touched room.now }
+    {
+        self.touched.contains(room)
+    }
+
     /// Whether what stands under this id on the day in the room may be needed. It costs a logarithm or two.
     pub fn has(&self, room: &RoomName, day: Day, id: WriteId) -> bool
         ensures { result ≡ needs self.now room.now day id }
@@ -77,11 +97,11 @@ impl Needed {
 }
 
 /// Whether the room has the day.
-fn has_day(days: &DaysOfRooms, room: &RoomName, day: Day) -> bool
+fn has_day(days: &RoomsOfDays, room: &RoomName, day: Day) -> bool
     ensures { result ≡ has_day_of days.now room.now day }
 {
-    match days.get(room) {
-        Some(days) => days.contains(&day),
+    match days.get(&day) {
+        Some(rooms) => rooms.contains(room),
         None => false,
     }
 }
@@ -142,7 +162,7 @@ fn add_target(targets: &mut IdSet, item: &Item) -> Result<(), Refusal>
 }
 
 /// The days for which the writes of these items ask, by their rooms.
-fn days_of(alloc: Global, items: &[Item]) -> Result<DaysOfRooms, Refusal>
+fn days_of(alloc: Global, items: &[Item]) -> Result<RoomsOfDays, Refusal>
     ensures days { IfOk result (λ days. (room : Text) (day : Date) → has_day_of days room day ≡ list_any (asks_for room day) (map item_of items.now)) }
     ensures only { IfErr result (λ e. e ≡ Refusal.OutOfMemory) }
 {
@@ -154,7 +174,7 @@ fn days_of(alloc: Global, items: &[Item]) -> Result<DaysOfRooms, Refusal>
 }
 
 /// Adds the days for which the item asks.
-fn add_days(alloc: Global, days: &mut DaysOfRooms, item: &Item) -> Result<(), Refusal>
+fn add_days(alloc: Global, days: &mut RoomsOfDays, item: &Item) -> Result<(), Refusal>
     ensures days { OnOk result ((room : Text) (day : Date) → has_day_of days.new room day ≡ (asks_for room day (item_of item.now) || has_day_of days.old room day)) }
     ensures only { IfErr result (λ e. e ≡ Refusal.OutOfMemory) }
 {
@@ -170,7 +190,7 @@ fn add_days(alloc: Global, days: &mut DaysOfRooms, item: &Item) -> Result<(), Re
 /// Adds the days of the meeting's choices in the room.
 fn add_choices(
     alloc: Global,
-    days: &mut DaysOfRooms,
+    days: &mut RoomsOfDays,
     room: &RoomName,
     meeting: &Meeting,
 ) -> Result<(), Refusal>
@@ -186,7 +206,7 @@ fn add_choices(
 /// Adds the days of these slots in the room.
 fn add_slots(
     alloc: Global,
-    days: &mut DaysOfRooms,
+    days: &mut RoomsOfDays,
     room: &RoomName,
     slots: &[Slot],
 ) -> Result<(), Refusal>
@@ -200,26 +220,25 @@ fn add_slots(
 }
 
 /// Adds the day in the room.
-fn add_day(alloc: Global, days: &mut DaysOfRooms, room: &RoomName, day: Day) -> Result<(), Refusal>
+fn add_day(alloc: Global, days: &mut RoomsOfDays, room: &RoomName, day: Day) -> Result<(), Refusal>
     ensures days { OnOk result ((name : Text) (other : Date) → has_day_of days.new name other ≡ ((bytes_eq name room.now && same_date day other) || has_day_of days.old name other)) }
     ensures only { IfErr result (λ e. e ≡ Refusal.OutOfMemory) }
 {
-    open_room(alloc, days, room)?;
-    if let Some(own) = days.get_mut(room) {
-        own.insert(day)?;
+    open_day(alloc, days, day)?;
+    if let Some(rooms) = days.get_mut(&day) {
+        add_room(alloc, rooms, room)?;
     }
     Ok(())
 }
 
-/// The room is there, with no day if it wasn't.
-fn open_room(alloc: Global, days: &mut DaysOfRooms, room: &RoomName) -> Result<(), Refusal>
-    ensures there { OnOk result (IsTrue (is_some (get (slice_cmp nat_cmp) days.new room.now))) }
-    ensures days { OnOk result ((name : Text) (day : Date) → has_day_of days.new name day ≡ has_day_of days.old name day) }
+/// The day is there, with no room if it wasn't.
+fn open_day(alloc: Global, days: &mut RoomsOfDays, day: Day) -> Result<(), Refusal>
+    ensures there { OnOk result (IsTrue (is_some (get day_cmp days.new day))) }
+    ensures days { OnOk result ((name : Text) (other : Date) → has_day_of days.new name other ≡ has_day_of days.old name other) }
     ensures only { IfErr result (λ e. e ≡ Refusal.OutOfMemory) }
 {
-    if !days.contains_key(room) {
-        let name = room.copy(alloc)?;
-        days.insert(name, BTreeSet::new(alloc))?;
+    if !days.contains_key(&day) {
+        days.insert(day, BTreeSet::new(alloc))?;
     }
     Ok(())
 }

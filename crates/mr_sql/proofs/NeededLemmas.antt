@@ -7,9 +7,7 @@ use Rattle.mr_model.specs.Exchange.{Item}
 use Rattle.mr_model.specs.Tables.{LogRow, BookingRow, ErrorRow, CancelledRow, Tables}
 use Rattle.mr_model.specs.Queries.{booking_id, cancelled_id}
 use Rattle.mr_model.specs.Scopes.{OfItems, is_touched, touched_rooms, moves_kept, asks_for, cancels_id}
-use Rattle.mr_model.proofs.UniqueReplay.{some_inj, none_some}
-use Rattle.mr_kept.specs.Sets.{AreSameRooms, IsSetOf}
-use Rattle.mr_part.specs.Needed.{IsNeeded}
+use Rattle.mr_kept.specs.Sets.{AreSameRooms}
 use Rattle.mr_rows.proofs.RowLemmas.{filter_same}
 use Rattle.mr_sql.specs.declared.scope_needed.NeededTest.{NeededTest}
 use Rattle.mr_sql.specs.NeededTests.{books_if_any, cancels_if_any, IsNeededTest}
@@ -26,16 +24,6 @@ needed_asked commits items logs test is t bookings errors gone books none cancel
   taken = cancels ∙ filter_same (cancels_if_any test) (asks_cancelled commits (OfItems items) logs) t.cancelled (λ c _. is c.room c.day (cancelled_id c));
 }
 
--- a test of the rooms that the items touch and of what they need
-pub needed_in : (test : NeededTest) (touched : List Text) (commits : ℕ) (items : List Item) (logs : List LogRow) → IsSetOf test.rooms.rooms touched
-    → AreSameRooms touched (touched_rooms (logs_alone commits logs) items) → IsNeeded test.needed (logs_alone commits logs) items → IsNeededTest (Some test) commits items logs
-needed_in test touched commits items logs set same needed room day id =
-    (λ i. (set room ∙ same room) i && needed room day id i) ∙ twice (is_touched (logs_alone commits logs) items room) _
-  where
-    twice : (a b : Bool) → (a && (a && b)) ≡ (a && b)
-    twice true b = refl
-    twice false b = refl
-
 -- where they touch none, there is none
 pub none_needed : (touched : List Text) (commits : ℕ) (items : List Item) (logs : List LogRow) → touched ≡ [] → AreSameRooms touched (touched_rooms (logs_alone commits logs) items)
     → IsNeededTest None commits items logs
@@ -50,7 +38,10 @@ pub no_elements : {A : Type 0} (xs : List A) (n : ℕ) → n ≡ length xs → e
 no_elements [] n long e = refl
 no_elements (x ∷ xs) n long e = absurd (let zero = eqb-true n 0 e in omega (arith, zero, long))
 
--- a room that is told where it passes
-pub told_room : (b : Bool) (cell room : Text) → Some room ≡ cond b (Some cell) None → (b ≡ true) × (room ≡ cell)
-told_room true cell room e = (refl, some_inj room cell e)
-told_room false cell room e = absurd (none_some room (sym e))
+-- where no kept write is executed anew, and nothing is asked for on a day or under an id, nothing there is needed in any room
+pub not_asked : (touched moved asked : Bool) → moved ≡ false → asked ≡ false → false ≡ (touched && (moved || asked))
+not_asked touched moved asked stays none = sym ((λ i. touched && (stays i || none i)) ∙ never touched)
+  where
+    never : (a : Bool) → (a && false) ≡ false
+    never true = refl
+    never false = refl

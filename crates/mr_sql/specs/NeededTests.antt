@@ -1,5 +1,5 @@
 -- Tests of bookings where they lie: what a batch may need of them.
-use Rattle.std.specs.Prelude.{◌≡◌, ℕ, Bool, false, ◌&&◌, List, Option, Some, None}
+use Rattle.std.specs.Prelude.{◌≡◌, ℕ, Bool, false, List, Option, Some, None}
 use Rattle.mr_model.specs.Texts.{Text}
 use Rattle.mr_model.specs.Calendar.{Date}
 use Rattle.mr_model.specs.Writes.{Id}
@@ -7,24 +7,20 @@ use Rattle.mr_model.specs.Exchange.{Item}
 use Rattle.mr_model.specs.Tables.{LogRow, BookingRow, CancelledRow}
 use Rattle.mr_model.specs.Queries.{booking_id, cancelled_id}
 use Rattle.mr_model.specs.Scopes.{is_needed}
-use Rattle.mr_kept.specs.Sets.{has_room}
 use Rattle.mr_part.specs.Needed.{needs}
 use Rattle.mr_sql.specs.ScopeQuestions.{logs_alone}
 use Rattle.mr_sql.specs.declared.scope_needed.NeededTest.{NeededTest}
 
-abbrev pub passes_needed : NeededTest → Text → Date → Id → Bool
-passes_needed test room day id = has_room test.rooms.rooms room && needs test.needed room day id
-
 abbrev pub books_needed : NeededTest → BookingRow → Bool
-books_needed test row = passes_needed test row.room row.day (booking_id row)
+books_needed test row = needs test.needed row.room row.day (booking_id row)
 
 abbrev pub cancels_needed : NeededTest → CancelledRow → Bool
-cancels_needed test row = passes_needed test row.room row.day (cancelled_id row)
+cancels_needed test row = needs test.needed row.room row.day (cancelled_id row)
 
 -- where there is no test, nothing passes
 abbrev pub passes_if_any : Option NeededTest → Text → Date → Id → Bool
 passes_if_any None room day id = false
-passes_if_any (Some test) room day id = passes_needed test room day id
+passes_if_any (Some test) room day id = needs test.needed room day id
 
 abbrev pub books_if_any : Option NeededTest → BookingRow → Bool
 books_if_any test row = passes_if_any test row.room row.day (booking_id row)

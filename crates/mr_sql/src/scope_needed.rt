@@ -1,29 +1,31 @@
-ghost use Rattle.std.specs.Prelude.{◌≡◌, false, map, filter, IfOk};
+ghost use Rattle.std.specs.Prelude.{◌≡◌, ◌||◌, false, map, filter, IfOk};
 ghost use Rattle.sqlite.specs.Held.{state};
 ghost use Rattle.sqlite_value.specs.Order.{column, bytes};
 ghost use Rattle.mr_model.specs.Calendar.{date_in};
 ghost use Rattle.mr_model.specs.Scopes.{OfItems};
+ghost use Rattle.mr_model.specs.Texts.{Text};
 ghost use Rattle.mr_base.specs.Batches.{item_of};
+ghost use Rattle.mr_kept.specs.Sets.{has_id};
+ghost use Rattle.mr_part.specs.Needed.{has_day_of, needs};
 ghost use Rattle.mr_rows.specs.RowCells.{nat_of};
 ghost use Rattle.mr_rows.specs.Database.{tables_in};
 ghost use Rattle.mr_rows.specs.Reads.{ReadsInUse};
 ghost use Rattle.mr_sql.specs.ScopeQuestions.{ArePlacesRead};
-ghost use Rattle.mr_sql.specs.NeededTests.{passes_needed, books_needed, cancels_needed, books_if_any, cancels_if_any, IsNeededTest};
+ghost use Rattle.mr_sql.specs.NeededTests.{books_needed, cancels_needed, books_if_any, cancels_if_any, IsNeededTest};
 
-use crate::scope_rooms::RoomTest;
 use mr_base::{Item, Refusal};
 use mr_part::{Needed, touched_rooms};
-use mr_rows::cells::{read_day, read_id};
+use mr_rows::cells::{read_day, read_id, read_name};
 use mr_rows::{RowTest, passing_rows};
 use mr_tables::{BookingRow, CancelledRow, ErrorRow, LogRow};
 use sqlite::{Alter, Connection, Error, ErrorCode, Row};
 use std::alloc::Global;
 
-/// Which rows of `booking` and of `cancelled` a batch may need: of these rooms, which it touches, what stands there on days or under
+/// Which rows of `booking` and of `cancelled` a batch may need: of the rooms that it touches, what stands there on days or under
 /// ids that it asks for, or all.
 #[derive(Drop)]
 pub(crate) struct NeededTest {
-    rooms: RoomTest,
+    alloc: Global,
     needed: Needed,
 }
 
@@ -42,19 +44,41 @@ impl NeededTest {
         if touched.is_empty() {
             return Ok(None);
         }
-        let rooms = RoomTest::of(alloc, &touched)?;
         let needed = Needed::of(alloc, &touched, items, rows, commits)?;
-        Ok(Some(NeededTest { rooms, needed }))
+        Ok(Some(NeededTest { alloc, needed }))
     }
 
-    /// Whether a row passes, of either table. Its room comes first: where that is another one, nothing more of the row is read.
+    /// Whether a row passes, of either table. Where days and ids tell, nothing is made of the rooms of most rows.
     fn is_passed(&self, row: &Row) -> Result<bool, Error>
-        ensures { IfOk result (λ b. b ≡ passes_needed self.now (bytes (column row.now 0)) (date_in (bytes (column row.now 1)))
+        ensures { IfOk result (λ b. b ≡ needs self.now.needed (bytes (column row.now 0)) (date_in (bytes (column row.now 1)))
             (record { server = nat_of (column row.now 4); n = nat_of (column row.now 5) })) }
     {
-        match self.rooms.room_in(row, 0)? {
-            Some(room) => Ok(self.needed.has(&room, read_day(row, 1)?, read_id(row, 4)?)),
-            None => Ok(false),
+        if self.needed.moves_none() && !self.is_asked(row)? {
+            Ok(false)
+        } else {
+            self.is_of_room(row)
+        }
+    }
+
+    /// Whether something is asked for on the row's day, or under its id.
+    fn is_asked(&self, row: &Row) -> Result<bool, Error>
+        ensures { IfOk result (λ b. b ≡ false → (room : Text) → (has_day_of self.now.needed.days room (date_in (bytes (column row.now 1)))
+            || has_id self.now.needed.targets (record { server = nat_of (column row.now 4); n = nat_of (column row.now 5) })) ≡ false) }
+    {
+        let day = read_day(row, 1)?;
+        Ok(self.needed.asks_at(day, read_id(row, 4)?))
+    }
+
+    /// Whether a row passes: its room comes first, and where that is another one nothing more of the row is read.
+    fn is_of_room(&self, row: &Row) -> Result<bool, Error>
+        ensures { IfOk result (λ b. b ≡ needs self.now.needed (bytes (column row.now 0)) (date_in (bytes (column row.now 1)))
+            (record { server = nat_of (column row.now 4); n = nat_of (column row.now 5) })) }
+    {
+        let room = read_name(self.alloc, row, 0)?;
+        if self.needed.touches(&room) {
+            Ok(self.needed.has(&room, read_day(row, 1)?, read_id(row, 4)?))
+        } else {
+            Ok(false)
         }
     }
 }

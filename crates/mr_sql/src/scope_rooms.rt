@@ -1,4 +1,4 @@
-ghost use Rattle.std.specs.Prelude.{◌≡◌, ◌∷◌, [], if◌then◌else◌, Some, None, IfOk};
+ghost use Rattle.std.specs.Prelude.{◌≡◌, ◌∷◌, [], IfOk};
 ghost use Rattle.sqlite_value.specs.Order.{column, bytes};
 ghost use Rattle.mr_kept.specs.Sets.{has_room, IsSetOf};
 ghost use Rattle.mr_part.specs.ScopeOf.{scope_of};
@@ -55,17 +55,5 @@ impl RoomTest {
     {
         let name = read_name(self.alloc, row, at)?;
         Ok(self.rooms.contains(&name))
-    }
-
-    /// The room in this column, where it is one of them.
-    pub(crate) fn room_in(&self, row: &Row, at: usize) -> Result<Option<RoomName>, Error>
-        ensures { IfOk result (λ room. room ≡ (if has_room self.now.rooms (bytes (column row.now at)) then Some (bytes (column row.now at)) else None)) }
-    {
-        let name = read_name(self.alloc, row, at)?;
-        if self.rooms.contains(&name) {
-            Ok(Some(name))
-        } else {
-            Ok(None)
-        }
     }
 }
