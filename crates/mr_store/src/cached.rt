@@ -1,5 +1,5 @@
 ghost use Rattle.std.specs.Prelude.{◌≡◌, ℕ, false, IfOk};
-ghost use Rattle.mr_store.specs.KeeperCalls.{failures_after, IsQuiet};
+ghost use Rattle.mr_store.specs.KeeperCalls.{failures_after, IsAtomic, IsQuiet};
 ghost use Rattle.mr_store.specs.Cached.{IsMemoryAfter, IsMemoryOf, NeverFails};
 
 use crate::memory::Remembered;
@@ -81,6 +81,20 @@ impl<K: Keeper> Cached<K> {
                 self.is_passed_over = fault == Fault::OutOfMemory;
                 Err(fault)
             }
+        }
+    }
+
+    /// Makes the change in the keeper first and then in memory.
+    fn write_through(&mut self, change: &Change) -> Result<(), Fault>
+        ensures atomic { IsAtomic K.tables K.failures K.is_clean K.is_open K.may_leave (NeverFails K.Keeper) change.now self.old self.new result }
+    {
+        let memory = self.memory.take();
+        match self.keeper.apply(change) {
+            Ok(()) => {
+                self.memory = change_memory(memory, change);
+                Ok(())
+            }
+            Err(fault) => Err(fault),
         }
     }
 }
@@ -226,13 +240,6 @@ impl<K: Keeper> Keeper for Cached<K> {
     }
 
     fn apply(&mut self, change: &Change) -> Result<(), Fault> {
-        let memory = self.memory.take();
-        match self.keeper.apply(change) {
-            Ok(()) => {
-                self.memory = change_memory(memory, change);
-                Ok(())
-            }
-            Err(fault) => Err(fault),
-        }
+        self.write_through(change)
     }
 }

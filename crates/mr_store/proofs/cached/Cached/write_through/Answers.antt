@@ -1,7 +1,7 @@
 use Rattle.std.proofs.Common.{◌≡◌, Err}
 use Rattle.mr_store.proofs.Remembered.{not_changed}
-use Rattle.mr_store.proofs.cached.CachedKeeper.apply.Goals.{in-Some+in-Some-memory-2, in-Some+in-None-2, in-None-2}
-use Rattle.mr_store.proofs.cached.CachedKeeper.apply.Goals as goal
+use Rattle.mr_store.proofs.cached.Cached.write_through.Goals.{in-Some+in-Some-memory-2, in-Some+in-None-2, in-None-2}
+use Rattle.mr_store.proofs.cached.Cached.write_through.Goals as goal
 
 pub returns-in-Err : goal.returns-in-Err
 returns-in-Err g c =
