@@ -6,13 +6,11 @@ ghost use Rattle.mr_model.specs.Replay.{Place as PlaceOfWrite};
 ghost use Rattle.mr_model.specs.Replica.{Replica, IsReplica};
 ghost use Rattle.mr_model.specs.Tables.{kept, log_row, log_row_with};
 ghost use Rattle.mr_base.specs.Answers.{OrOutOfMemory};
-ghost use Rattle.mr_base.specs.Actions.{action_of};
 ghost use Rattle.mr_replay.specs.Places.{place_seen};
-ghost use Rattle.mr_replay.specs.Rows.{target_of};
 ghost use Rattle.mr_kept.specs.SoundLog.{log_told, kept_told};
 ghost use Rattle.mr_kept.specs.KeptRows.{kept_row_with, kept_row as kept_row_of, run_place, run_cmp};
 
-use mr_base::{Action, Refusal, ServerId, Write, WriteId};
+use mr_base::{Refusal, ServerId, Write};
 use mr_replay::{Place, UndoRow};
 use mr_tables::LogRow;
 use mr_tables::reading::write_of;
@@ -90,22 +88,8 @@ pub fn kept_row(alloc: Global, log: &LogRow) -> Result<KeptRow, Refusal>
 fn kept_with(write: Write, place: Place, seq: u64) -> KeptRow
     ensures { result ≡ kept_row_with write seq (place_seen place) }
 {
-    let undo = UndoRow {
-        id: write.stamp.id(),
-        place,
-        target: target_of(&write.action),
-    };
+    let undo = UndoRow::of(&write, place);
     KeptRow { write, undo, seq }
-}
-
-/// What a cancel would take back.
-pub fn target_of(action: &Action) -> Option<WriteId>
-    ensures { result ≡ target_of (action_of action.now) }
-{
-    match action {
-        Action::Books(_) => None,
-        Action::Cancels(target) => Some(*target),
-    }
 }
 
 /// What a refusal of a row's part is told as: the store's, but for want of memory.

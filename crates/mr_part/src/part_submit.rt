@@ -12,7 +12,6 @@ ghost use Rattle.mr_tables.specs.Written.{meta_of, changed_tallies as rows_chang
 
 use crate::Part;
 use mr_base::{Refusal, Request, Write, WriteId};
-use mr_kept::kept_rows::target_of;
 use mr_kept::placing::{put_places, taken_rows};
 use mr_replay::UndoRow;
 use mr_tables::Change;
@@ -56,11 +55,7 @@ impl Part {
     {
         let mut summary = self.summary;
         summary.note_write(write.stamp);
-        let row = UndoRow {
-            id: write.stamp.id(),
-            place: self.board.merge(write),
-            target: target_of(&write.action),
-        };
+        let row = UndoRow::of(write, self.board.merge(write));
         let taken = taken_rows(self.alloc, &self.summary, &self.board, row)?;
         let mut change = last_write(self.alloc, &self.summary, &summary, write, row)?;
         put_places(&mut change, taken)?;

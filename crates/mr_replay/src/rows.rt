@@ -45,7 +45,7 @@ impl Model for UndoRow {
 
 impl UndoRow {
     /// The undo row of a write that went to this place.
-    pub(crate) fn of(write: &Write, place: Place) -> UndoRow
+    pub fn of(write: &Write, place: Place) -> UndoRow
         ensures { result ≡ undo_row_at write.now (place_seen place) }
     {
         UndoRow {

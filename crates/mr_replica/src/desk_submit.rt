@@ -9,7 +9,6 @@ ghost use Rattle.mr_tables.specs.Summary.{noted_write, tally_at};
 
 use crate::Desk;
 use mr_base::{Refusal, Request, Write, WriteId};
-use mr_kept::kept_rows::target_of;
 use mr_kept::placing::{put_places, taken_rows};
 use mr_replay::UndoRow;
 use mr_tables::Change;
@@ -64,11 +63,7 @@ impl Desk {
         ensures only { IfErr result (λ e. e ≡ Refusal.OutOfMemory) }
     {
         let board = self.log.board();
-        let row = UndoRow {
-            id: write.stamp.id(),
-            place: board.merge(write),
-            target: target_of(&write.action),
-        };
+        let row = UndoRow::of(write, board.merge(write));
         let taken = taken_rows(self.alloc, &self.summary, board, row)?;
         let mut change = self.change_to(
             summary,
