@@ -15,13 +15,14 @@ use Rattle.mr_model.proofs.DroppedApart.{dropped_known, known_dropped}
 use Rattle.mr_model.proofs.Members.{has_all, all_has, has_map, map_has, has_filter, filter_has, has_filter_map, filter_map_has, Sorted, sorted_filter}
 use Rattle.mr_model.proofs.RowsById.{has_by_id, by_id_has}
 use Rattle.mr_model.specs.Queries.{log_id}
+use Rattle.mr_tables.specs.Cells.{is_cancel_cells}
 use Rattle.mr_tables.specs.Change.{id_before}
 use Rattle.mr_tables.proofs.Putting.{InOrder, id_order, in_order_same}
 use Rattle.mr_tables.proofs.Rising.{both}
 use Rattle.mr_tables.specs.declared.old_errors.OldError.{OldError}
 use Rattle.mr_kept.specs.declared.sound_notes.Note.{Note}
 use Rattle.mr_kept.specs.Log.{is_logged}
-use Rattle.mr_kept.specs.SoundNotes.{error_note, cancel_note, log_note, is_kept_number, is_logged_row, is_cancel_cells, is_row_of_cancel, AreNotesSound}
+use Rattle.mr_kept.specs.SoundNotes.{error_note, cancel_note, log_note, is_kept_number, is_logged_row, is_row_of_cancel, AreNotesSound}
 use Rattle.mr_kept.proofs.DeskNumbers.{Bears, rows_in_order}
 use Rattle.mr_kept.proofs.OldCancels.{cancel_bears}
 use Rattle.mr_kept.proofs.DroppedErrors.{dropped_one, dropped_is, old_from, old_parts, error_bears}

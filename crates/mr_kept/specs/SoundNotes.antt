@@ -1,7 +1,8 @@
 -- That errorlog and cancels tell of kept writes what the log tells of them.
-use Rattle.std.specs.Prelude.{◌≡◌, ℕ, Bool, true, false, not, map, filter}
+use Rattle.std.specs.Prelude.{◌≡◌, ℕ, Bool, not, map, filter}
 use Rattle.mr_model.specs.Texts.{within}
-use Rattle.mr_model.specs.Tables.{ErrorRow, CancelRow, ActionCells, OfMeeting, OfCancel, LogRow, Tables}
+use Rattle.mr_model.specs.Tables.{ErrorRow, CancelRow, LogRow, Tables}
+use Rattle.mr_tables.specs.Cells.{is_cancel_cells}
 use Rattle.mr_kept.specs.declared.sound_notes.Note.{Note}
 use Rattle.mr_kept.specs.Log.{is_logged}
 
@@ -22,10 +23,6 @@ is_kept_number dropped seq = not (within 1 dropped seq)
 -- a request that was logged, and a cancel
 abbrev pub is_logged_row : LogRow → Bool
 is_logged_row row = is_logged row.place
-
-abbrev pub is_cancel_cells : ActionCells → Bool
-is_cancel_cells (OfMeeting meeting) = false
-is_cancel_cells (OfCancel target) = true
 
 abbrev pub is_row_of_cancel : LogRow → Bool
 is_row_of_cancel row = is_cancel_cells row.action

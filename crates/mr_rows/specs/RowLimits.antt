@@ -1,11 +1,12 @@
 -- The limits of plain rows: a row within them can be read as one of its type.
-use Rattle.std.specs.Prelude.{ℕ, ◌^◌, Bool, true, false, not, ◌&&◌, nat_le, nat_lt}
+use Rattle.std.specs.Prelude.{ℕ, ◌^◌, Bool, true, not, ◌&&◌, nat_le, nat_lt}
 use Rattle.std.specs.Str.{is_utf8}
 use Rattle.mr_model.specs.Texts.{Text}
 use Rattle.mr_model.specs.Calendar.{Date, is_date}
 use Rattle.mr_model.specs.Writes.{is_server, is_count, is_id, is_room_name, is_title, greatest_alternatives}
 use Rattle.mr_model.specs.Replay.{Place, Taken, Logged, Done, Void}
 use Rattle.mr_model.specs.Tables.{MetaRow, VectorRow, MeetingCells, ActionCells, OfMeeting, OfCancel, LogRow, BookingRow, ErrorRow, CancelledRow, CancelRow}
+use Rattle.mr_tables.specs.Cells.{is_cancel_cells}
 
 -- a number of 32 bits
 abbrev pub is_small : ℕ → Bool
@@ -27,10 +28,6 @@ abbrev pub is_action_cells : ActionCells → Bool
 is_action_cells (OfMeeting m) = is_meeting_cells m
 is_action_cells (OfCancel target) = is_id target
 
-abbrev pub is_cancelling : ActionCells → Bool
-is_cancelling (OfMeeting m) = false
-is_cancelling (OfCancel target) = true
-
 -- a choice is one that a booking can have
 abbrev pub is_place : Place → Bool
 is_place (Taken k) = nat_le k greatest_alternatives
@@ -48,7 +45,7 @@ is_place_of cancels Void = cancels
 abbrev pub is_log_row : LogRow → Bool
 is_log_row w =
     is_server w.server && is_small w.n && is_room_name w.room && is_action_cells w.action
-    && is_place_of (is_cancelling w.action) w.place
+    && is_place_of (is_cancel_cells w.action) w.place
 
 -- ---- what became of it
 

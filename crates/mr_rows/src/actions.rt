@@ -5,9 +5,9 @@ ghost use Rattle.mr_model.specs.Writes.{Id, is_id};
 ghost use Rattle.mr_model.specs.Replay.{Done, Void};
 ghost use Rattle.mr_model.specs.Tables.{MeetingCells as CellsOfMeeting, OfMeeting, OfCancel};
 ghost use Rattle.mr_replay.specs.Places.{place_seen};
-ghost use Rattle.mr_tables.specs.Cells.{action_cells};
+ghost use Rattle.mr_tables.specs.Cells.{action_cells, is_cancel_cells};
 ghost use Rattle.mr_rows.specs.RowCells.{nat_of, whole_of, action_row, action_in, log_in, place_in, place_number};
-ghost use Rattle.mr_rows.specs.RowLimits.{is_meeting_cells, is_action_cells, is_cancelling, is_place_of};
+ghost use Rattle.mr_rows.specs.RowLimits.{is_meeting_cells, is_action_cells, is_place_of};
 ghost use Rattle.mr_rows.specs.Shown.{columns_from};
 
 use crate::cells::{
@@ -108,7 +108,7 @@ pub(crate) fn test_action(row: &Row) -> Result<bool, Error>
     ensures cells { OnOk result (action_row
         (action_in (nat_of (column row.now 4)) (record { length = nat_of (column row.now 5); choices = bytes (column row.now 6); title = bytes (column row.now 7) })
         (record { server = nat_of (column row.now 8); n = nat_of (column row.now 9) })) ≡ columns_from 4 6 row.now) }
-    ensures kind { IfOk result (λ cancels. cancels ≡ is_cancelling (log_in (Null ∷ row.now)).action) }
+    ensures kind { IfOk result (λ cancels. cancels ≡ is_cancel_cells (log_in (Null ∷ row.now)).action) }
     ensures within { OnOk result (IsTrue (is_action_cells (log_in (Null ∷ row.now)).action)) }
 {
     match read_mark(row, 4)? {
@@ -129,7 +129,7 @@ pub(crate) fn read_place_of(row: &Row, action: &ActionCells) -> Result<Place, Er
     ensures cell { IfOk result (λ place. column row.now 10 ≡ Int (place_number (place_seen place))) }
     ensures booking { IfOk result (λ place. (m : CellsOfMeeting) → action_cells action.now ≡ OfMeeting m → (place_seen place ≢ Done) × (place_seen place ≢ Void)) }
     ensures cancel { IfOk result (λ place. (target : Id) → action_cells action.now ≡ OfCancel target → (place_seen place ≡ Done) ⊎ (place_seen place ≡ Void)) }
-    ensures within { IfOk result (λ place. IsTrue (is_place_of (is_cancelling (action_cells action.now)) (place_seen place))) }
+    ensures within { IfOk result (λ place. IsTrue (is_place_of (is_cancel_cells (action_cells action.now)) (place_seen place))) }
 {
     let place = read_place(row, 10)?;
     let fits = match action {

@@ -1,4 +1,5 @@
 -- Cells of actions and rows of places of the program, as those of the definitions.
+use Rattle.std.specs.Prelude.{Bool, true, false}
 use Rattle.mr_model.specs.Writes.{Meeting}
 use Rattle.mr_model.specs.Tables as tables
 use Rattle.mr_tables.specs.declared.log_rows.ActionCells.{ActionCells}
@@ -9,6 +10,11 @@ use Rattle.mr_tables.specs.declared.place_rows.PlaceRow.TheVariants.{Booked, Err
 abbrev pub action_cells : ActionCells → tables.ActionCells
 action_cells (OfMeeting meeting) = tables.OfMeeting meeting
 action_cells (OfCancel target) = tables.OfCancel target
+
+-- whether they are those of a cancel
+abbrev pub is_cancel_cells : tables.ActionCells → Bool
+is_cancel_cells (tables.OfMeeting meeting) = false
+is_cancel_cells (tables.OfCancel target) = true
 
 abbrev pub place_row_of : PlaceRow → tables.PlaceRow
 place_row_of (Booked row) = tables.Booked row
