@@ -1,6 +1,7 @@
--- The position of a desk whose numbers are within the limits is within them.
+-- The position of a replica whose numbers are within the limits is within them.
 use Rattle.std.proofs.Common.{◌≡◌, refl, ℕ, zero, suc, ◌+◌, ◌≤◌, Bool, true, false, cond, ◌&&◌, eqb, leb, List, [], ◌∷◌, get_or, arith, IsTrue, lit≤, le-leb, le_refl}
 use Rattle.std.proofs.lemmas.Bool.{and_from, eqb-false}
+use Rattle.std.proofs.lemmas.List.Elements.{recursion_from_All}
 use Rattle.std.specs.List.{AllByRecursion, list_all}
 use Rattle.mr_model.specs.Texts.{numbers_on}
 use Rattle.mr_model.specs.Writes.{is_server, is_count, greatest_count}
@@ -8,13 +9,13 @@ use Rattle.mr_model.specs.Exchange.{Second}
 use Rattle.mr_model.specs.Positions.{Count, Position, are_rising, is_position}
 use Rattle.mr_model.proofs.PositionsReadBack.{rising_on}
 use Rattle.mr_model.proofs.StepsKeep.{within_from}
+use Rattle.mr_tables.specs.declared.summary.Summary.{Summary}
 use Rattle.mr_tables.specs.declared.summary.Tally.{Tally}
-use Rattle.mr_tables.specs.Summary.{no_tally, tally_at, counts_in}
-use Rattle.mr_kept.specs.Desk.{DeskView, IsWithinLimits}
+use Rattle.mr_tables.specs.Summary.{IsWithin, no_tally, tally_at, counts_in}
 
--- the position of a desk with these counts, of the second version
-abbrev pub position_with : DeskView → List Count → Position
-position_with d counts = record { version = Second; server = d.server; primary = d.primary; commits = d.commits; counts = counts }
+-- the position of a replica that has these numbers, with these counts, of the second version
+abbrev pub position_with : Summary → List Count → Position
+position_with s counts = record { version = Second; server = s.server; primary = s.primary; commits = s.commits; counts = counts }
 
 -- the tallies have few writes
 abbrev AreFew : List Tally → Type 0
@@ -63,12 +64,12 @@ counts_rise ts k (suc n) = go (eqb (tally_at ts k).count 0) (counts_rise ts (k +
     go true rise = rise
     go false rise = rising_on (record { server = k; count = (tally_at ts k).count }) (counts_in ts (numbers_on (k + 1) n)) (counts_from ts (k + 1) n) rise
 
-pub position_fits : (d : DeskView) → IsTrue (is_server d.server) → IsTrue (is_server d.primary) → IsWithinLimits d → is_position (position_with d (counts_in d.tallies (numbers_on 1 99))) ≡ true
-position_fits d server primary limits =
-    let counts = list_all (λ c. is_server c.server && is_count c.count) (counts_in d.tallies (numbers_on 1 99)) in
-    let servers = is_server d.server && is_server d.primary in
-    and_from (servers && leb d.commits 999_999_999_999 && counts) (are_rising (counts_in d.tallies (numbers_on 1 99)))
-    (and_from (servers && leb d.commits 999_999_999_999) counts
-    (and_from servers (leb d.commits 999_999_999_999) (and_from (is_server d.server) (is_server d.primary) server primary) (le-leb d.commits 999_999_999_999 limits.commits))
-    (counts_within d.tallies 1 99 limits.counts (lit≤ tt) (lit≤ tt)))
-    (counts_rise d.tallies 1 99)
+pub position_fits : (s : Summary) → IsTrue (is_server s.server) → IsTrue (is_server s.primary) → IsWithin s → is_position (position_with s (counts_in s.tallies (numbers_on 1 99))) ≡ true
+position_fits s server primary within =
+    let counts = list_all (λ c. is_server c.server && is_count c.count) (counts_in s.tallies (numbers_on 1 99)) in
+    let servers = is_server s.server && is_server s.primary in
+    and_from (servers && leb s.commits 999_999_999_999 && counts) (are_rising (counts_in s.tallies (numbers_on 1 99)))
+    (and_from (servers && leb s.commits 999_999_999_999) counts
+    (and_from servers (leb s.commits 999_999_999_999) (and_from (is_server s.server) (is_server s.primary) server primary) (le-leb s.commits 999_999_999_999 within.commits))
+    (counts_within s.tallies 1 99 (recursion_from_All (λ (t : Tally). t.count ≤ 999_999_999) s.tallies within.counts) (lit≤ tt) (lit≤ tt)))
+    (counts_rise s.tallies 1 99)

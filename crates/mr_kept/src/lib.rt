@@ -19,6 +19,7 @@ pub mod on_board;
 pub mod outgoing;
 pub mod picked;
 pub mod placing;
+pub mod position;
 pub mod room_moves;
 pub mod room_sets;
 pub mod rows_by_id;

@@ -3,7 +3,6 @@ use Rattle.std.proofs.Common.{◌≡◌, refl, sym, ap, ◌∙◌, ℕ, ◌+◌,
 use Rattle.std.proofs.Math.Seq.{take-append_seam, drop-append_seam}
 use Rattle.std.proofs.lemmas.Bool.{eqb-false}
 use Rattle.std.proofs.lemmas.List.{length-append, length-drop}
-use Rattle.std.proofs.lemmas.List.Elements.{recursion_from_All}
 use Rattle.std.specs.List.{filter}
 use Rattle.mr_model.specs.Texts.{Text}
 use Rattle.mr_model.specs.Writes.{Write, id_of, is_room_name}
@@ -21,9 +20,8 @@ use Rattle.mr_model.proofs.Fronts.{take-front}
 use Rattle.mr_base.specs.declared.refusals.Refusal.{Refusal}
 use Rattle.mr_base.specs.declared.refusals.Refusal.TheVariants.{OutOfMemory}
 use Rattle.mr_tables.specs.declared.summary.Summary.{Summary}
-use Rattle.mr_tables.specs.declared.summary.Tally.{Tally}
-use Rattle.mr_tables.specs.Summary.{IsWithin, summary_of, committed_len}
-use Rattle.mr_kept.specs.Desk.{DeskView, IsWithinLimits, desk_of, reply_with}
+use Rattle.mr_tables.specs.Summary.{summary_of, committed_len}
+use Rattle.mr_kept.specs.Desk.{desk_of, reply_with}
 use Rattle.mr_tables.specs.Change.{ChangeView, changed}
 use Rattle.mr_kept.specs.Outgoing.{committed_items, lacked_items, kept_items}
 use Rattle.mr_tables.specs.Written.{meta_of, written, forgotten}
@@ -31,7 +29,7 @@ use Rattle.mr_part.specs.Parts.{PartView, part_of}
 use Rattle.mr_kept.proofs.Changing.{kept_committed_long}
 use Rattle.mr_kept.proofs.Batching.{items-made}
 use Rattle.mr_kept.proofs.DeskRows.{desk_tables-of}
-use Rattle.mr_kept.proofs.Desks.{desk_with, room_added}
+use Rattle.mr_kept.proofs.Desks.{room_added}
 use Rattle.mr_kept.proofs.Truncating.{truncate_done}
 use Rattle.mr_kept.proofs.CommandTurns.{room_turns, truncate_turns}
 
@@ -101,13 +99,3 @@ part_room a t p (Ok change) sound e name unknown change_is only =
       ap (changed change) (sym (desk_tables-of a sound)) ∙ turned ∙ desk_tables-of b (keeps-add_room a t sound name) ∙ ap (λ (x : After). tables_of x.replica) (sym step),
     )
 part_room a t p (Err refusal) sound e name unknown change_is only = inr (ap Err only)
-
--- ---- the position
-
--- a desk with these numbers and nothing else
-abbrev pub desk_by : Summary → DeskView
-desk_by s = desk_with s [] (record { kept = []; undo = []; board = [] }) [] []
-
--- the limits of these numbers are those of its position
-pub within_by : (s : Summary) → IsWithin s → IsWithinLimits (desk_by s)
-within_by s within = record { commits = within.commits; counts = recursion_from_All (λ (t : Tally). t.count ≤ 999_999_999) s.tallies within.counts }

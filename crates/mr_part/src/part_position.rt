@@ -6,7 +6,8 @@ ghost use Rattle.mr_part.specs.Parts.{AnswersPart};
 ghost use Rattle.mr_tables.specs.Summary.{IsWithin};
 
 use crate::Part;
-use mr_base::{Position, Refusal, Version};
+use mr_base::{Position, Refusal};
+use mr_kept::position::position;
 
 impl Part {
     /// How far the replica's knowledge goes, in the second version, so that it asks for batches that can say every write. Numbers
@@ -15,17 +16,6 @@ impl Part {
         ensures step { AnswersPart Nothing (λ a. PositionIs (position_of a)) PositionIs self.now result }
         ensures own { IsWithin self.now.summary → NeverStore result }
     {
-        let counts = self.summary.counts(self.alloc)?;
-        let summary = &self.summary;
-        summary.server.number();
-        summary.primary.number();
-        Position::new(
-            Version::Second,
-            summary.server,
-            summary.primary,
-            summary.commits,
-            counts,
-        )
-        .ok_or(Refusal::Store)
+        position(self.alloc, &self.summary)
     }
 }

@@ -4,7 +4,8 @@ ghost use Rattle.mr_model.specs.Step.{leave};
 ghost use Rattle.mr_kept.specs.Desk.{DeskTakesStep, NeverStore, IsWithinLimits};
 
 use crate::Desk;
-use mr_base::{Position, Refusal, Version};
+use mr_base::{Position, Refusal};
+use mr_kept::position::position;
 
 impl Desk {
     /// How far the replica's knowledge goes, in the second version, so that it asks for batches that can say every write. Numbers
@@ -13,17 +14,6 @@ impl Desk {
         ensures step { DeskTakesStep (λ a. leave a (PositionIs (position_of a))) (λ _ position. PositionIs position) self.now result self.now }
         ensures own { IsWithinLimits self.now → NeverStore result }
     {
-        let counts = self.summary.counts(self.alloc)?;
-        let summary = &self.summary;
-        summary.server.number();
-        summary.primary.number();
-        Position::new(
-            Version::Second,
-            summary.server,
-            summary.primary,
-            summary.commits,
-            counts,
-        )
-        .ok_or(Refusal::Store)
+        position(self.alloc, &self.summary)
     }
 }

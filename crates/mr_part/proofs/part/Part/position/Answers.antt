@@ -1,39 +1,21 @@
-use Rattle.std.specs.Option.{ok_or}
-use Rattle.std.specs.Prelude.{Option, Result}
-use Rattle.std.proofs.Common.{ℕ, IsTrue, ap, sym, ◌∙◌, subst, inl}
+use Rattle.std.proofs.Common.{◌≡◌, ◌⊎◌, Result, Ok, Err, ap, sym, ◌∙◌, subst, inl, inr}
 use Rattle.mr_base.specs.declared.refusals.Refusal.{Refusal}
-use Rattle.mr_base.specs.declared.refusals.Refusal.TheVariants.{Store}
-use Rattle.mr_model.specs.Texts.{numbers_on, only_if}
-use Rattle.mr_model.specs.Writes.{is_server}
-use Rattle.mr_model.specs.Positions.{Position, position_of, is_position}
+use Rattle.mr_base.specs.declared.refusals.Refusal.TheVariants.{OutOfMemory}
+use Rattle.mr_model.specs.Positions.{Position, position_of}
 use Rattle.mr_model.specs.Replies.{PositionIs}
-use Rattle.mr_model.proofs.PositionsReadBack.{position_within}
-use Rattle.mr_kept.specs.Desk.{reply_with, NeverStore}
-use Rattle.mr_tables.specs.Summary.{IsWithin, counts_in}
+use Rattle.mr_kept.specs.Desk.{reply_with}
+use Rattle.mr_tables.specs.Summary.{IsWithin}
 use Rattle.mr_part.specs.Parts.{PartView}
-use Rattle.mr_tables.proofs.TallyCounts.{counts-own}
-use Rattle.mr_kept.proofs.PositionLimits.{position_with, position_fits}
-use Rattle.mr_part.proofs.PartCalls.{desk_by, within_by}
 use Rattle.mr_part.proofs.part.Part.position.Goals as goal
+
+-- a position is the reply of this one
+replied : (r : Result Position Refusal) (p : Position) → (r ≡ Ok p) ⊎ (r ≡ Err OutOfMemory) → (reply_with PositionIs r ≡ PositionIs p) ⊎ (r ≡ Err OutOfMemory)
+replied r p (inl e) = inl (ap (reply_with PositionIs) e)
+replied r p (inr e) = inr e
 
 pub returns-clause-step : goal.returns-clause-step
 returns-clause-step c = λ a sound part.
-    let e = c.self.view_is ∙ part in
-    let counts = c.in_ok-counts.ensures.counts ∙ (λ t. counts_in (e t).summary.tallies (numbers_on 1 99)) ∙ counts-own a in
-    let all : Option Position → Result Position Refusal = λ o. ok_or o Store in
-    let new = c.new.ensures
-    ∙ (λ t. only_if (is_position (position_with (desk_by (e t).summary) (counts t))) (position_with (desk_by (e t).summary) (counts t)))
-    ∙ ap (λ b. only_if b (position_of a)) (position_within a sound) in
-    inl (ap (reply_with PositionIs) (c.ok_or.ensures.value ∙ ap all new))
+    replied c.position.result (position_of a) (c.position.ensures.own a sound (ap (λ (v : PartView). v.summary) (c.self.view_is ∙ part)))
 
 pub returns-clause-own : goal.returns-clause-own
-returns-clause-own c = λ limits.
-    let d = desk_by c.self.inside.summary in
-    let within = within_by c.self.inside.summary (subst (λ (v : PartView). IsWithin v.summary) (sym c.self.view_is) limits) in
-    let server = subst (λ (s : ℕ). IsTrue (is_server s)) c.number.ensures.value c.number.ensures.in_range in
-    let primary = subst (λ (s : ℕ). IsTrue (is_server s)) c.number-2.ensures.value c.number-2.ensures.in_range in
-    let all : Option Position → Result Position Refusal = λ o. ok_or o Store in
-    let new = c.new.ensures
-    ∙ (λ t. only_if (is_position (position_with d (c.in_ok-counts.ensures.counts t))) (position_with d (c.in_ok-counts.ensures.counts t)))
-    ∙ ap (λ b. only_if b (position_with d (counts_in d.tallies (numbers_on 1 99)))) (position_fits d server primary within) in
-    subst NeverStore (sym (c.ok_or.ensures.value ∙ ap all new)) tt
+returns-clause-own c = λ limits. c.position.ensures.store (subst (λ (v : PartView). IsWithin v.summary) (sym c.self.view_is) limits)
