@@ -1,5 +1,7 @@
 ghost use Rattle.std.specs.Prelude.{◌≡◌, [], ◌∷◌, ◌+◌, ◌<◌, ◌^◌, length, map, IfOk, IfErr};
 ghost use Rattle.mr_model.specs.Writes.{id_of};
+ghost use Rattle.mr_model.specs.Tables.{Tables};
+ghost use Rattle.mr_tables.specs.Change.{changed};
 ghost use Rattle.mr_tables.specs.Summary.{noted_commits};
 ghost use Rattle.mr_tables.specs.Written.{meta_of, changed_tallies, written};
 
@@ -8,8 +10,15 @@ use mr_replay::UndoRow;
 use mr_tables::Change;
 use mr_tables::summary::Summary;
 use mr_tables::vector::changed_tallies;
-use mr_tables::written::written;
+use mr_tables::written::{empty, written};
 use std::alloc::Global;
+
+/// Leaves the tables as they are that have these numbers.
+pub fn no_change(alloc: Global, summary: &Summary) -> Change
+    ensures { (t : Tables) → t.meta ≡ meta_of summary.now → changed result t ≡ t }
+{
+    empty(alloc, summary, Vec::new(alloc), Vec::new(alloc))
+}
 
 /// Puts a room more.
 pub fn room_change(alloc: Global, summary: &Summary, room: &RoomName) -> Result<Change, Refusal>

@@ -1,5 +1,5 @@
 -- A part that takes a batch: its answer is what the items give.
-use Rattle.std.proofs.Common.{◌≡◌, ℕ, ◌-◌, ◌==◌, not, Bool, true, false, None, Some, List, [], length, ◌⊎◌, Result, Ok, Err, IfOk, ap, sym, ◌∙◌, subst, inl, inr, arith}
+use Rattle.std.proofs.Common.{◌≡◌, ℕ, ◌-◌, ◌==◌, not, Bool, true, false, None, Some, List, length, ◌⊎◌, Result, Ok, Err, IfOk, ap, sym, ◌∙◌, subst, inl, inr, arith}
 use Rattle.std.specs.List.{list_all}
 use Rattle.std.proofs.lemmas.Bool.Decides.{nat_tests}
 use Rattle.mr_model.specs.Texts.{only_if}
@@ -7,7 +7,7 @@ use Rattle.mr_model.specs.Exchange.{Second, Item, Header, Batch, is_item}
 use Rattle.mr_model.specs.Refusals as model
 use Rattle.mr_model.specs.Replica.{Replica, IsReplica}
 use Rattle.mr_model.specs.Replies.{Took, Refused}
-use Rattle.mr_model.specs.Scopes.{Scope, OfItems}
+use Rattle.mr_model.specs.Scopes.{OfItems}
 use Rattle.mr_model.specs.Step.{After, after_items, step_unless, receive_under, receive_batch}
 use Rattle.mr_model.specs.Tables.{tables_of}
 use Rattle.mr_model.specs.Taking.{Progress, take_items}
@@ -16,12 +16,10 @@ use Rattle.mr_base.specs.declared.refusals.Refusal.{Refusal}
 use Rattle.mr_base.specs.declared.refusals.Refusal.TheVariants.{OutOfMemory}
 use Rattle.mr_tables.specs.declared.summary.Summary.{Summary}
 use Rattle.mr_tables.specs.Change.{ChangeView, changed}
-use Rattle.mr_tables.specs.Written.{meta_of, with_places}
 use Rattle.mr_kept.specs.Desk.{nothing_taken, reply_with}
 use Rattle.mr_kept.specs.Taken.{ReachedView, ShowsPicked, is_inside}
 use Rattle.mr_part.specs.PartMoves.{AnswersItems}
 use Rattle.mr_part.specs.Parts.{PartView, part_of}
-use Rattle.mr_kept.proofs.Moves.{all_pass}
 use Rattle.mr_kept.proofs.Receiving.{items-bring}
 
 -- the answer is what the items give
@@ -44,18 +42,6 @@ part_refused a items r e p (inl t) = inl (
   subst (λ (y : Result (ℕ × ℕ × ChangeView) Refusal). IfOk y (λ taken. changed taken.2 (tables_of a) ≡ tables_of (after_items a (take_items items 2 (Ok (nothing_taken a)))).replica)) (sym p) tt,
 )
 part_refused a items r e p (inr t) = inr (p ∙ ap Err t)
-
--- where nothing comes nothing changes
-pub part_unchanged : (a : Replica) (s : Scope) (part : PartView) (change : ChangeView) → part ≡ part_of s a → change ≡ with_places (meta_of part.summary) [] [] [] [] → changed change (tables_of a) ≡ tables_of a
-part_unchanged a s part change e is =
-    let t = tables_of a in
-    ap (λ c. changed c t) (is ∙ ap (λ (v : PartView). with_places (meta_of v.summary) [] [] [] []) e)
-    ∙ (λ i. record t {
-      log = all_pass t.log i;
-      booking = all_pass t.booking i;
-      errorlog = all_pass t.errorlog i;
-      cancelled = all_pass t.cancelled i;
-    })
 
 -- ---- the whole batch
 

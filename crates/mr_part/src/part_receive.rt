@@ -4,13 +4,11 @@ ghost use Rattle.mr_model.specs.Exchange.{Second, is_item, Header};
 ghost use Rattle.mr_model.specs.Moving.{may_move};
 ghost use Rattle.mr_model.specs.Replica.{Replica, IsReplica, tentative};
 ghost use Rattle.mr_model.specs.Replies.{Took};
-ghost use Rattle.mr_model.specs.Scopes.{Scope, OfItems};
+ghost use Rattle.mr_model.specs.Scopes.{OfItems};
 ghost use Rattle.mr_model.specs.Step.{receive_batch, after_items};
-ghost use Rattle.mr_model.specs.Tables.{tables_of};
 ghost use Rattle.mr_model.specs.Taking.{take_items};
 ghost use Rattle.mr_model.specs.View.{place_of};
 ghost use Rattle.mr_base.specs.Batches.{item_of};
-ghost use Rattle.mr_tables.specs.Change.{changed};
 ghost use Rattle.mr_kept.specs.Desk.{NeverStore, nothing_taken};
 ghost use Rattle.mr_kept.specs.Moves.{AreTouched};
 ghost use Rattle.mr_part.specs.PartMoves.{AnswersItems, AreUndone};
@@ -21,11 +19,11 @@ use crate::Part;
 use crate::part_moved::moved;
 use mr_base::{Batch, Item, Refusal, RoomName};
 use mr_kept::candidate::reached_with;
+use mr_kept::changes::no_change;
 use mr_kept::movable::again_in;
 use mr_kept::room_moves::RoomMoves;
 use mr_replay::UndoRow;
 use mr_tables::Change;
-use mr_tables::written::empty;
 
 impl Part {
     /// Takes a batch whole, or not at all, and answers how many of its writes and of its commits were new, and what that
@@ -38,25 +36,13 @@ impl Part {
     {
         batch.is_within_limits();
         let Some(header) = batch.header else {
-            return Ok((0, 0, self.no_change()));
+            return Ok((0, 0, no_change(self.alloc, &self.summary)));
         };
         if header.primary != self.summary.primary {
             return Err(Refusal::WrongPrimary);
         }
         let taken = self.take_items(&batch.items)?;
         Ok(taken)
-    }
-
-    /// Leaves the tables as they are.
-    fn no_change(&self) -> Change
-        ensures { (s : Scope) (a : Replica) → IsReplica a → IsPartOf self.now s a → changed result (tables_of a) ≡ tables_of a }
-    {
-        empty(
-            self.alloc,
-            &self.summary,
-            Vec::new(self.alloc),
-            Vec::new(self.alloc),
-        )
     }
 
     /// Takes the items of a batch, all or none.

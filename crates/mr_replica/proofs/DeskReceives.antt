@@ -28,7 +28,7 @@ use Rattle.mr_tables.specs.Summary.{summary_of}
 use Rattle.mr_tables.specs.Change.{ChangeView, changed}
 use Rattle.mr_tables.specs.Rooms.{rooms_beside}
 use Rattle.mr_tables.specs.ExecutionRows.{seq_on}
-use Rattle.mr_tables.specs.Written.{meta_of, changed_tallies, with_places, written}
+use Rattle.mr_tables.specs.Written.{meta_of, changed_tallies, written}
 use Rattle.mr_kept.specs.Desk.{DeskView, desk_of, old_errors_of, old_cancels_of, nothing_taken, reply_with}
 use Rattle.mr_kept.specs.DeskTables.{desk_tables}
 use Rattle.mr_kept.specs.Log.{KeptLog}
@@ -142,18 +142,6 @@ pub board_put_back : (l without with : KeptLog) (b : Rows) → without ≡ recor
 board_put_back l without with b out back same = back ∙ (λ i. record { kept = (out i).kept; undo = (out i).undo; board = same i })
 
 -- ---- the change
-
--- a batch without items leaves the tables as they are
-pub nothing_put : (d : DeskView) (change : ChangeView) → change ≡ with_places (desk_tables d).meta [] [] [] [] → changed change (desk_tables d) ≡ desk_tables d
-nothing_put d change is =
-    let t = desk_tables d in
-    ap (λ c. changed c t) is
-    ∙ (λ i. record t {
-      log = all_pass t.log i;
-      booking = all_pass t.booking i;
-      errorlog = all_pass t.errorlog i;
-      cancelled = all_pass t.cancelled i;
-    })
 
 module _ (d : DeskView) (items : List Item) (a b : Replica) (s : Summary) (rooms : List Text) (c : ReachedView) (t : BatchReaches d items c a b) (s_is : s ≡ summary_of b) (rooms_are : rooms ≡ b.rooms) (new : Rows) (board_is : new ≡ board_of b) where
   abbrev anew : List Write

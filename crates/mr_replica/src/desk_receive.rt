@@ -14,7 +14,6 @@ ghost use Rattle.mr_tables.specs.Change.{changed};
 ghost use Rattle.mr_tables.specs.ExecutionRows.{seq_on};
 ghost use Rattle.mr_tables.specs.Summary.{summary_of};
 ghost use Rattle.mr_kept.specs.Desk.{DeskTakesStep, NeverStore, StandsFor, desk_of, nothing_taken};
-ghost use Rattle.mr_kept.specs.DeskTables.{desk_tables};
 ghost use Rattle.mr_kept.specs.Taken.{ReachedView};
 ghost use Rattle.mr_kept.specs.Movable.{IsMovable, IsPicked};
 ghost use Rattle.mr_replica.specs.Received.{BatchReaches, IsPlanned, IsReplayed, HasKeptOf, Received};
@@ -25,6 +24,7 @@ use crate::log::Log;
 use crate::log_rows::fresh_rows;
 use mr_base::{Batch, Item, Refusal, RoomName, Write, WriteId};
 use mr_kept::candidate::{Reached, reached_with};
+use mr_kept::changes::no_change;
 use mr_kept::kept_writes::NumberedWrite;
 use mr_kept::movable::{Movable, writes_anew};
 use mr_kept::named::Named;
@@ -36,7 +36,6 @@ use mr_kept::targets::{moved_targets, takers};
 use mr_replay::{Trial, UndoRow};
 use mr_tables::Change;
 use mr_tables::summary::Summary;
-use mr_tables::written::empty;
 use std::alloc::Global;
 
 impl Desk {
@@ -52,25 +51,13 @@ impl Desk {
     {
         batch.is_within_limits();
         let Some(header) = batch.header else {
-            return Ok((0, 0, self.no_change()));
+            return Ok((0, 0, no_change(self.alloc, &self.summary)));
         };
         if header.primary != self.summary.primary {
             return Err(Refusal::WrongPrimary);
         }
         let taken = self.take_items(&batch.items)?;
         Ok(taken)
-    }
-
-    /// Leaves the tables as they are.
-    fn no_change(&self) -> Change
-        ensures { changed result (desk_tables self.now) ≡ desk_tables self.now }
-    {
-        empty(
-            self.alloc,
-            &self.summary,
-            Vec::new(self.alloc),
-            Vec::new(self.alloc),
-        )
     }
 
     /// Takes the items of a batch, all or none.

@@ -11,6 +11,7 @@ use Rattle.mr_base.specs.Batches.{header_of, item_of}
 use Rattle.mr_base.specs.declared.refusals.Refusal.{Refusal}
 use Rattle.mr_base.specs.declared.refusals.Refusal.TheVariants.{OutOfMemory}
 use Rattle.mr_tables.specs.Change.{ChangeView, changed}
+use Rattle.mr_tables.specs.Written.{meta_of}
 use Rattle.mr_kept.specs.Desk.{nothing_taken, reply_with}
 use Rattle.mr_part.specs.Parts.{PartView, IsPartOf}
 use Rattle.mr_kept.proofs.Receiving.{items_good, own_primary, receive_done}
@@ -62,7 +63,7 @@ pub returns-in_default-clause-step : goal.returns-in_default-clause-step
 returns-in_default-clause-step c = λ a sound part.
     let header : c.args.batch.now.header ≡ None = sym (ap (λ (b : Batch). b.header) c.batch.view_is) ∙ ap header_of c.in_default.is in
     let step = sym (receive_nothing a c.args.batch.now header) in
-    inl (ap (λ (x : After). x.reply) step, c.no_change.ensures (OfItems c.args.batch.now.items) a sound part ∙ ap (λ (x : After). tables_of x.replica) step)
+    inl (ap (λ (x : After). x.reply) step, c.no_change.ensures (tables_of a) (sym (ap (λ (v : PartView). meta_of v.summary) (c.self.view_is ∙ part))) ∙ ap (λ (x : After). tables_of x.replica) step)
 
 pub returns-then-ne-clause-step : goal.returns-then-ne-clause-step
 returns-then-ne-clause-step c = λ a sound part.

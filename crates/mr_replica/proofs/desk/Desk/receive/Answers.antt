@@ -9,6 +9,9 @@ use Rattle.mr_base.specs.Batches.{header_of, item_of}
 use Rattle.mr_base.specs.declared.refusals.Refusal.{Refusal}
 use Rattle.mr_base.specs.declared.refusals.Refusal.TheVariants.{OutOfMemory}
 use Rattle.mr_tables.specs.Change.{ChangeView}
+use Rattle.mr_tables.specs.Written.{meta_of}
+use Rattle.mr_kept.specs.Accepting.{summary_in}
+use Rattle.mr_kept.specs.DeskTables.{desk_tables}
 use Rattle.mr_kept.specs.Desk.{DeskView, StandsFor, nothing_taken, reply_with}
 use Rattle.mr_kept.proofs.Receiving.{items_good, own_primary, receive_done}
 use Rattle.mr_replica.proofs.desk.Desk.receive.Goals as goal
@@ -57,6 +60,10 @@ returns-clause-step c = λ a sound stands.
     let own : (c.in-Some.header.primary == a.primary) ≡ true = own_primary c.in-Some.header.primary c.self.inside.summary.primary a.primary c.ne.result c.ne.ensures c.if-ne.false primary in
     let step = ap (λ xs. after_items a (take_items xs 2 (Ok (nothing_taken a)))) items ∙ sym (receive_done a c.args.batch.now h header own) in
     subst (Owed c.args.self.now c.take_items.new.self (Ok c.in_ok-taken.taken)) step (c.in_ok-taken.ensures.step (ready c).0 (ready c).1 a sound stands)
+
+-- a batch without a header changes nothing
+pub returns-in_default-clause-change : goal.returns-in_default-clause-change
+returns-in_default-clause-change c = λ a sound stands. c.no_change.ensures (desk_tables c.args.self.now) (sym (ap (λ (d : DeskView). meta_of (summary_in d)) c.self.view_is))
 
 pub returns-clause-change : goal.returns-clause-change
 returns-clause-change c = c.in_ok-taken.ensures.change (ready c).0 (ready c).1
