@@ -82,10 +82,7 @@ pub fn dropped_errors(
     let mut errors = Vec::new(alloc);
     for row in rows {
         if is_of_dropped(row.seq, dropped) {
-            match OldError::of_row(row) {
-                Ok(error) => errors.push(error)?,
-                Err(refusal) => return Err(refusal),
-            }
+            errors.push(OldError::of_row(row)?)?;
         }
     }
     Ok(errors)
