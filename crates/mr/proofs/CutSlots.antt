@@ -2,7 +2,7 @@
 use Rattle.std.proofs.Common.{◌≡◌, refl, sym, ap, ◌∙◌, ℕ, suc, List, [], ◌∷◌, ◌++◌, Option, Some, None, append_assoc, append-nil}
 use Rattle.mr_model.specs.Texts.{Text}
 use Rattle.mr_model.specs.Step.{SlotWords}
-use Rattle.mr_words.specs.CommandTable.{◌>>=◌}
+use Rattle.mr_wire.specs.Fields.{◌>>=◌}
 use Rattle.mr.specs.LineSteps.{cut_slot, with_slot, cut_slots}
 
 -- what comes of cutting more slots off, where these were cut off before

@@ -23,9 +23,11 @@ use Rattle.mr_model.specs.World.{Step, Add, Make, Deliver}
 use Rattle.mr_model.proofs.LinesReadBack.{words-cons}
 use Rattle.mr_base.specs.Readings.{number_from_to}
 use Rattle.mr_base.proofs.Decimals.{within-below}
-use Rattle.mr_words.specs.CommandTable.{◌>>=◌, add_room_asked, commit_number_in, in_row, line_count_in, part_in, server_in, shared_commands}
+use Rattle.mr_wire.specs.Fields.{◌>>=◌}
+use Rattle.mr_wire.proofs.FieldLaws.{bind_some}
+use Rattle.mr_words.specs.CommandTable.{add_room_asked, commit_number_in, in_row, line_count_in, part_in, server_in, shared_commands}
 use Rattle.mr_words.specs.CommandSpelling.{spelled, may_be_spelled}
-use Rattle.mr_words.proofs.TableRows.{EachRow, bind_some, by_rows, each_behind, each_then, if_some}
+use Rattle.mr_words.proofs.TableRows.{EachRow, by_rows, each_behind, each_then, if_some}
 use Rattle.mr_words.proofs.CommandsSpelled.{IsSpelled, is_shared, number_from_parts, shared_spelled}
 use Rattle.mr_words.proofs.CommandsReadBack.{count_back}
 use Rattle.mr.specs.RehearsalScript.{is_word, words_of_slot, booking_words, all_bytes, length_word, is_byte_count, script_spelled, step_words, step_line, are_slot_words, is_submission, has_words, has_line, is_plain, IsScriptLine}

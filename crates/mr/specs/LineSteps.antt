@@ -5,7 +5,8 @@ use Rattle.mr_model.specs.Texts.{Text, is_space, first_word, after_word, only_if
 use Rattle.mr_model.specs.Step.{Command, Submit, Submission, SlotWords}
 use Rattle.mr_model.specs.World.{Step, Add, Make, Deliver}
 use Rattle.mr_base.specs.Readings.{number_from_to}
-use Rattle.mr_words.specs.CommandTable.{◌>>=◌, NamedRows, add_room_asked, with_first_word, in_row, line_count_in, server_in, shared_commands}
+use Rattle.mr_wire.specs.Fields.{◌>>=◌}
+use Rattle.mr_words.specs.CommandTable.{NamedRows, add_room_asked, with_first_word, in_row, line_count_in, server_in, shared_commands}
 use Rattle.mr.specs.RehearsalScript.{is_word, all_bytes}
 
 -- the first word, and what follows the space behind it

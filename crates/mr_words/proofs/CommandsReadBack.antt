@@ -10,7 +10,8 @@ use Rattle.mr_model.specs.View.{AskSheet, AskCalendar, AskOutcome, AskErrors}
 use Rattle.mr_model.specs.Step.{AddRoom, Submit, Cancel, Receive, Commit, Truncate, AskPosition, BatchFor, SlotWords}
 use Rattle.mr_model.specs.Step as step
 use Rattle.mr_base.proofs.Decimals.{number_from_to-decimal}
-use Rattle.mr_words.specs.CommandTable.{Invoked, Init, Ask, Export, Import, Rehearse, Serve, Exchange, Bridge, invocation_of, is_t, slot_in_word, server_in, commit_number_in, connections_in, ◌>>=◌}
+use Rattle.mr_wire.specs.Fields.{◌>>=◌}
+use Rattle.mr_words.specs.CommandTable.{Invoked, Init, Ask, Export, Import, Rehearse, Serve, Exchange, Bridge, invocation_of, is_t, slot_in_word, server_in, commit_number_in, connections_in}
 use Rattle.mr_words.specs.CommandSpelling.{MayBeAsked, command_line, slot_word}
 
 -- ---- slots

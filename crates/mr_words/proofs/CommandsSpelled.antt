@@ -12,9 +12,10 @@ use Rattle.mr_model.specs.Step.{Command, AddRoom, Submit, Cancel, Commit, Trunca
 use Rattle.mr_model.specs.Step as step
 use Rattle.mr_model.proofs.BatchesReadBack.{only_if_some}
 use Rattle.mr_base.specs.Readings.{number_from_to}
+use Rattle.mr_wire.proofs.FieldLaws.{bind_some}
 use Rattle.mr_words.specs.CommandTable.{commit_number_in, part_in, cancel_asked, commit_asked, truncation_asked, position_asked, sheet_asked, calendar_asked, outcome_asked, errors_asked, shared_commands}
 use Rattle.mr_words.specs.CommandSpelling.{spelled, may_be_spelled}
-use Rattle.mr_words.proofs.TableRows.{EachRow, bind_some, if_some}
+use Rattle.mr_words.proofs.TableRows.{EachRow, if_some}
 
 -- ---- single words
 

@@ -6,13 +6,11 @@ use Rattle.std.proofs.lemmas.Bool.{cond-false, false_from_ne_true}
 use Rattle.std.proofs.lemmas.Option.{none-some, same_Some}
 use Rattle.std.proofs.lemmas.Slice.Eq.{bytes_eq-Decides}
 use Rattle.mr_model.specs.Texts.{Text}
-use Rattle.mr_words.specs.CommandTable.{NamedRows, with_first_word, in_row, ◌>>=◌}
+use Rattle.mr_wire.specs.Fields.{◌>>=◌}
+use Rattle.mr_wire.proofs.FieldLaws.{bind_some}
+use Rattle.mr_words.specs.CommandTable.{NamedRows, with_first_word, in_row}
 
 -- ---- chains
-
-pub bind_some : {A B : Type 0} (o : Option A) (f : A → Option B) (y : B) → (o >>= f) ≡ Some y → (x : A) × (o ≡ Some x) × (f x ≡ Some y)
-bind_some None f y e = absurd (none-some y e)
-bind_some (Some x) f y e = (x, refl, e)
 
 bind_none : {A B : Type 0} (f : A → Option B) → ((x : A) → f x ≡ None) → (o : Option A) → (o >>= f) ≡ None
 bind_none f none None = refl

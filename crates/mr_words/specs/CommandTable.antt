@@ -1,5 +1,5 @@
 -- The table of command lines: what is asked for by the words after the program's name.
-use Rattle.std.specs.Prelude.{ℕ, Bool, false, not, ◌==◌, if◌then◌else◌, List, [], ◌∷◌, ◌++◌, map, codes, bytes_eq, Option, Some, None, option_and_then}
+use Rattle.std.specs.Prelude.{ℕ, Bool, false, not, ◌==◌, if◌then◌else◌, List, [], ◌∷◌, ◌++◌, map, codes, bytes_eq, Option, Some, None}
 use Rattle.std.specs.List.{list_all, before_first, after_first}
 use Rattle.mr_model.specs.Texts.{Text}
 use Rattle.mr_model.specs.Replies.{CalendarPart, Full, Committed}
@@ -7,6 +7,7 @@ use Rattle.mr_model.specs.View.{AskSheet, AskCalendar, AskOutcome, AskErrors}
 use Rattle.mr_model.specs.Step.{Command, AddRoom, Submit, Cancel, Commit, Truncate, AskPosition, SlotWords}
 use Rattle.mr_model.specs.Step as step
 use Rattle.mr_base.specs.Readings.{number_from_to}
+use Rattle.mr_wire.specs.Fields.{◌>>=◌}
 
 -- what a command line asks for; databases and files by their paths
 pub data Invoked : Type 0 where
@@ -26,10 +27,6 @@ pub data Invoked : Type 0 where
   Exchange : Text → Text → Invoked
   -- a database, and another
   Bridge : Text → Text → Invoked
-
-infixl 10 ◌>>=◌
-abbrev pub ◌>>=◌ : {A B : Type 0} → Option A → (A → Option B) → Option B
-o >>= f = option_and_then f o
 
 -- ---- single words
 
