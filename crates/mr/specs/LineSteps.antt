@@ -6,6 +6,7 @@ use Rattle.mr_model.specs.Step.{Command, Submit, Submission, SlotWords}
 use Rattle.mr_model.specs.World.{Step, Add, Make, Deliver}
 use Rattle.mr_base.specs.Readings.{number_from_to}
 use Rattle.mr_wire.specs.Fields.{◌>>=◌}
+use Rattle.mr_words.specs.CommandNames.{book_name}
 use Rattle.mr_words.specs.CommandTable.{NamedRows, add_room_asked, with_first_word, in_row, line_count_in, server_in, shared_commands}
 use Rattle.mr.specs.RehearsalScript.{is_word, all_bytes}
 
@@ -87,4 +88,4 @@ row_step (name ∷ words) = if nat_le (length words) 3 && list_all is_word words
 
 -- the step of a line, if it is of the table
 abbrev pub step_in : Text → Option Step
-step_in line = cut_first_word line >>= λ p. (if bytes_eq p.0 (codes "book") then book_step p.1 else row_step (slice_split is_space line))
+step_in line = cut_first_word line >>= λ p. (if bytes_eq p.0 (book_name) then book_step p.1 else row_step (slice_split is_space line))

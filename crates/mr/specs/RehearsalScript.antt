@@ -5,6 +5,7 @@ use Rattle.mr_model.specs.Texts.{Text, within, is_space, words}
 use Rattle.mr_model.specs.Writes.{is_server}
 use Rattle.mr_model.specs.Step.{Command, AddRoom, Submit, Submission, SlotWords}
 use Rattle.mr_model.specs.World.{Step, Add, Make, Deliver}
+use Rattle.mr_words.specs.CommandNames.{book_name}
 use Rattle.mr_words.specs.CommandSpelling.{spelled, may_be_spelled}
 
 -- ---- lines
@@ -49,7 +50,7 @@ length_word n = if n == all_bytes then codes "all" else decimal n
 -- the replica
 abbrev pub script_spelled : Command → Text × List Text
 script_spelled (AddRoom room) = (codes "room", room ∷ [])
-script_spelled (Submit booking) = (codes "book", booking_words booking)
+script_spelled (Submit booking) = (book_name, booking_words booking)
 script_spelled command = spelled command
 
 abbrev pub step_words : Step → List Text

@@ -10,7 +10,7 @@ ghost use Rattle.mr.specs.LineSteps.{book_step, replica_step, batch_step, delive
 
 use crate::words::{Words, are_words, read_batch_number, read_length};
 use mr_service::{Local, Step};
-use mr_words::{add_room, read_line_count, read_server, shared_command};
+use mr_words::{BOOK, add_room, read_line_count, read_server, shared_command};
 use std::alloc::{AllocError, Global};
 
 /// The step that the line stands for, if it is of the table. A title may have spaces, so that the line of a booking is read word by word.
@@ -19,7 +19,7 @@ pub(crate) fn read_step(alloc: Global, line: &str) -> Result<Option<Step>, Alloc
 {
     let mut rest = Words::new(line);
     match rest.next() {
-        Some("book") => book(alloc, rest),
+        Some(BOOK) => book(alloc, rest),
         Some(_) => other_step(alloc, line),
         None => Ok(None),
     }

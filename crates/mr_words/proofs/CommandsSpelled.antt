@@ -13,6 +13,7 @@ use Rattle.mr_model.specs.Step as step
 use Rattle.mr_model.proofs.BatchesReadBack.{only_if_some}
 use Rattle.mr_base.specs.Readings.{number_from_to}
 use Rattle.mr_wire.proofs.FieldLaws.{bind_some}
+use Rattle.mr_words.specs.CommandNames.{cancel_name, commit_name, truncate_name, position_name, sheet_name, calendar_name, outcome_name, errors_name}
 use Rattle.mr_words.specs.CommandTable.{commit_number_in, part_in, cancel_asked, commit_asked, truncation_asked, position_asked, sheet_asked, calendar_asked, outcome_asked, errors_asked, shared_commands}
 use Rattle.mr_words.specs.CommandSpelling.{spelled, may_be_spelled}
 use Rattle.mr_words.proofs.TableRows.{EachRow, if_some}
@@ -53,65 +54,65 @@ pub record IsSpelled (name : Text) (words : List Text) (command : Command) : Typ
 read_as : (name : Text) (words : List Text) (made command : Command) → Some made ≡ Some command → IsSpelled name words made → IsSpelled name words command
 read_as name words made command e = subst (IsSpelled name words) (same_Some made command e)
 
-cancel_spelled : (words : List Text) (c : Command) → cancel_asked words ≡ Some c → IsSpelled (codes "cancel") words c
+cancel_spelled : (words : List Text) (c : Command) → cancel_asked words ≡ Some c → IsSpelled cancel_name words c
 cancel_spelled [] c e = absurd (none-some c e)
 cancel_spelled (w ∷ []) c e = absurd (none-some c e)
 cancel_spelled (room ∷ id ∷ []) c e = read_as _ _ (Cancel room id) c e (record { so = refl; may_be = refl; shared = refl })
 cancel_spelled (w ∷ v ∷ u ∷ ws) c e = absurd (none-some c e)
 
-commit_spelled : (words : List Text) (c : Command) → commit_asked words ≡ Some c → IsSpelled (codes "commit") words c
+commit_spelled : (words : List Text) (c : Command) → commit_asked words ≡ Some c → IsSpelled commit_name words c
 commit_spelled [] c e = absurd (none-some c e)
 commit_spelled (w ∷ []) c e =
     let (n, is, last) = bind_some (commit_number_in w) (λ n. Some (Commit n)) c e in
     let number = number_from_parts 0 999_999_999_999 w n is in
     read_as _ _ (Commit n) c last (record {
-      so = ap (λ (t : Text). (codes "commit", t ∷ [])) number.1;
+      so = ap (λ (t : Text). (commit_name, t ∷ [])) number.1;
       may_be = (and_parts (leb 0 n) (leb n 999_999_999_999) number.0).1;
       shared = refl;
     })
 commit_spelled (w ∷ v ∷ ws) c e = absurd (none-some c e)
 
-truncation_spelled : (words : List Text) (c : Command) → truncation_asked words ≡ Some c → IsSpelled (codes "truncate") words c
+truncation_spelled : (words : List Text) (c : Command) → truncation_asked words ≡ Some c → IsSpelled truncate_name words c
 truncation_spelled [] c e = absurd (none-some c e)
 truncation_spelled (w ∷ []) c e =
     let (n, is, last) = bind_some (commit_number_in w) (λ n. Some (Truncate n)) c e in
     let number = number_from_parts 0 999_999_999_999 w n is in
     read_as _ _ (Truncate n) c last (record {
-      so = ap (λ (t : Text). (codes "truncate", t ∷ [])) number.1;
+      so = ap (λ (t : Text). (truncate_name, t ∷ [])) number.1;
       may_be = (and_parts (leb 0 n) (leb n 999_999_999_999) number.0).1;
       shared = refl;
     })
 truncation_spelled (w ∷ v ∷ ws) c e = absurd (none-some c e)
 
-position_spelled : (words : List Text) (c : Command) → position_asked words ≡ Some c → IsSpelled (codes "position") words c
+position_spelled : (words : List Text) (c : Command) → position_asked words ≡ Some c → IsSpelled position_name words c
 position_spelled [] c e = read_as _ _ AskPosition c e (record { so = refl; may_be = refl; shared = refl })
 position_spelled (w ∷ ws) c e = absurd (none-some c e)
 
-sheet_spelled : (words : List Text) (c : Command) → sheet_asked words ≡ Some c → IsSpelled (codes "sheet") words c
+sheet_spelled : (words : List Text) (c : Command) → sheet_asked words ≡ Some c → IsSpelled sheet_name words c
 sheet_spelled [] c e = absurd (none-some c e)
 sheet_spelled (w ∷ []) c e = absurd (none-some c e)
 sheet_spelled (room ∷ day ∷ []) c e = read_as _ _ (step.Ask room (AskSheet day)) c e (record { so = refl; may_be = refl; shared = refl })
 sheet_spelled (w ∷ v ∷ u ∷ ws) c e = absurd (none-some c e)
 
-calendar_spelled : (words : List Text) (c : Command) → calendar_asked words ≡ Some c → IsSpelled (codes "calendar") words c
+calendar_spelled : (words : List Text) (c : Command) → calendar_asked words ≡ Some c → IsSpelled calendar_name words c
 calendar_spelled [] c e = absurd (none-some c e)
 calendar_spelled (w ∷ []) c e = absurd (none-some c e)
 calendar_spelled (room ∷ w ∷ []) c e =
     let (part, is, last) = bind_some (part_in w) (λ p. Some (step.Ask room (AskCalendar p))) c e in
     read_as _ _ (step.Ask room (AskCalendar part)) c last (record {
-      so = ap (λ (t : Text). (codes "calendar", room ∷ t ∷ [])) (part_parts w part is);
+      so = ap (λ (t : Text). (calendar_name, room ∷ t ∷ [])) (part_parts w part is);
       may_be = refl;
       shared = refl;
     })
 calendar_spelled (w ∷ v ∷ u ∷ ws) c e = absurd (none-some c e)
 
-outcome_spelled : (words : List Text) (c : Command) → outcome_asked words ≡ Some c → IsSpelled (codes "outcome") words c
+outcome_spelled : (words : List Text) (c : Command) → outcome_asked words ≡ Some c → IsSpelled outcome_name words c
 outcome_spelled [] c e = absurd (none-some c e)
 outcome_spelled (w ∷ []) c e = absurd (none-some c e)
 outcome_spelled (room ∷ id ∷ []) c e = read_as _ _ (step.Ask room (AskOutcome id)) c e (record { so = refl; may_be = refl; shared = refl })
 outcome_spelled (w ∷ v ∷ u ∷ ws) c e = absurd (none-some c e)
 
-errors_spelled : (words : List Text) (c : Command) → errors_asked words ≡ Some c → IsSpelled (codes "errors") words c
+errors_spelled : (words : List Text) (c : Command) → errors_asked words ≡ Some c → IsSpelled errors_name words c
 errors_spelled [] c e = absurd (none-some c e)
 errors_spelled (room ∷ []) c e = read_as _ _ (step.Ask room AskErrors) c e (record { so = refl; may_be = refl; shared = refl })
 errors_spelled (w ∷ v ∷ ws) c e = absurd (none-some c e)

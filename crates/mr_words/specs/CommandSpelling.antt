@@ -1,11 +1,12 @@
 -- The other way round: the command line that asks for something.
-use Rattle.std.specs.Prelude.{◌≡◌, ◌≤◌, Bool, true, false, not, nat_le, List, [], ◌∷◌, ◌++◌, map, codes, decimal, Some, ⊤}
+use Rattle.std.specs.Prelude.{◌≡◌, ◌≤◌, Bool, true, false, not, nat_le, List, [], ◌∷◌, ◌++◌, map, decimal, Some, ⊤}
 use Rattle.std.specs.List.{list_all, list_any}
 use Rattle.mr_model.specs.Texts.{Text}
 use Rattle.mr_model.specs.Replies.{part_text}
 use Rattle.mr_model.specs.View.{AskSheet, AskCalendar, AskOutcome, AskErrors}
 use Rattle.mr_model.specs.Step.{Command, AddRoom, Submit, Cancel, Receive, Commit, Truncate, AskPosition, BatchFor, SlotWords}
 use Rattle.mr_model.specs.Step as step
+use Rattle.mr_words.specs.CommandNames.{init_name, export_name, import_name, rehearse_name, serve_name, exchange_name, bridge_name, add_room_name, book_name, cancel_name, commit_name, truncate_name, position_name, sheet_name, calendar_name, outcome_name, errors_name}
 use Rattle.mr_words.specs.CommandTable.{Invoked, Init, Ask, Export, Import, Rehearse, Serve, Exchange, Bridge, invocation_of, is_t}
 
 abbrev pub slot_word : SlotWords → Text
@@ -13,16 +14,16 @@ slot_word s = s.day ++ 84 ∷ s.time
 
 -- a command to a replica in words: the name of its row, and the words behind the database
 abbrev pub spelled : Command → Text × List Text
-spelled (AddRoom room) = (codes "add-room", room ∷ [])
-spelled (Submit s) = (codes "book", s.room ∷ s.length ∷ s.wish.day ∷ s.wish.time ∷ s.title ∷ map slot_word s.alternatives)
-spelled (Cancel room id) = (codes "cancel", room ∷ id ∷ [])
-spelled (Commit count) = (codes "commit", decimal count ∷ [])
-spelled (Truncate count) = (codes "truncate", decimal count ∷ [])
-spelled AskPosition = (codes "position", [])
-spelled (step.Ask room (AskSheet day)) = (codes "sheet", room ∷ day ∷ [])
-spelled (step.Ask room (AskCalendar part)) = (codes "calendar", room ∷ part_text part ∷ [])
-spelled (step.Ask room (AskOutcome id)) = (codes "outcome", room ∷ id ∷ [])
-spelled (step.Ask room AskErrors) = (codes "errors", room ∷ [])
+spelled (AddRoom room) = (add_room_name, room ∷ [])
+spelled (Submit s) = (book_name, s.room ∷ s.length ∷ s.wish.day ∷ s.wish.time ∷ s.title ∷ map slot_word s.alternatives)
+spelled (Cancel room id) = (cancel_name, room ∷ id ∷ [])
+spelled (Commit count) = (commit_name, decimal count ∷ [])
+spelled (Truncate count) = (truncate_name, decimal count ∷ [])
+spelled AskPosition = (position_name, [])
+spelled (step.Ask room (AskSheet day)) = (sheet_name, room ∷ day ∷ [])
+spelled (step.Ask room (AskCalendar part)) = (calendar_name, room ∷ part_text part ∷ [])
+spelled (step.Ask room (AskOutcome id)) = (outcome_name, room ∷ id ∷ [])
+spelled (step.Ask room AskErrors) = (errors_name, room ∷ [])
 spelled (Receive bytes) = ([], [])
 spelled (BatchFor position max_lines) = ([], [])
 
@@ -36,13 +37,13 @@ may_be_spelled (BatchFor position max_lines) = false
 may_be_spelled _ = true
 
 abbrev pub command_line : Invoked → List Text
-command_line (Init database server primary) = codes "init" ∷ database ∷ decimal server ∷ decimal primary ∷ []
-command_line (Export database position out lines) = codes "export" ∷ database ∷ position ∷ out ∷ decimal lines ∷ []
-command_line (Import database batch) = codes "import" ∷ database ∷ batch ∷ []
-command_line (Rehearse script) = codes "rehearse" ∷ script ∷ []
-command_line (Serve database port count) = codes "serve" ∷ database ∷ decimal port ∷ decimal count ∷ []
-command_line (Exchange database url) = codes "exchange" ∷ database ∷ url ∷ []
-command_line (Bridge database other) = codes "bridge" ∷ database ∷ other ∷ []
+command_line (Init database server primary) = init_name ∷ database ∷ decimal server ∷ decimal primary ∷ []
+command_line (Export database position out lines) = export_name ∷ database ∷ position ∷ out ∷ decimal lines ∷ []
+command_line (Import database batch) = import_name ∷ database ∷ batch ∷ []
+command_line (Rehearse script) = rehearse_name ∷ script ∷ []
+command_line (Serve database port count) = serve_name ∷ database ∷ decimal port ∷ decimal count ∷ []
+command_line (Exchange database url) = exchange_name ∷ database ∷ url ∷ []
+command_line (Bridge database other) = bridge_name ∷ database ∷ other ∷ []
 command_line (Ask database command) = (spelled command).0 ∷ database ∷ (spelled command).1
 
 -- it may be asked by a command line: numbers are within their limits, and a command may be spelled

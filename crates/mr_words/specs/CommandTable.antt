@@ -8,6 +8,7 @@ use Rattle.mr_model.specs.Step.{Command, AddRoom, Submit, Cancel, Commit, Trunca
 use Rattle.mr_model.specs.Step as step
 use Rattle.mr_base.specs.Readings.{number_from_to}
 use Rattle.mr_wire.specs.Fields.{◌>>=◌}
+use Rattle.mr_words.specs.CommandNames.{init_name, export_name, import_name, rehearse_name, serve_name, exchange_name, bridge_name, add_room_name, book_name, cancel_name, commit_name, truncate_name, position_name, sheet_name, calendar_name, outcome_name, errors_name}
 
 -- what a command line asks for; databases and files by their paths
 pub data Invoked : Type 0 where
@@ -160,30 +161,30 @@ in_row (row ∷ rows) name words = if bytes_eq name row.0 then row.1 words else 
 -- commands to a replica, by the words behind the database, that have the same words in a script behind the replica's number
 abbrev pub shared_commands : NamedRows Command
 shared_commands =
-    (codes "cancel", cancel_asked)
-    ∷ (codes "commit", commit_asked)
-    ∷ (codes "truncate", truncation_asked)
-    ∷ (codes "position", position_asked)
-    ∷ (codes "sheet", sheet_asked)
-    ∷ (codes "calendar", calendar_asked)
-    ∷ (codes "outcome", outcome_asked)
-    ∷ (codes "errors", errors_asked)
+    (cancel_name, cancel_asked)
+    ∷ (commit_name, commit_asked)
+    ∷ (truncate_name, truncation_asked)
+    ∷ (position_name, position_asked)
+    ∷ (sheet_name, sheet_asked)
+    ∷ (calendar_name, calendar_asked)
+    ∷ (outcome_name, outcome_asked)
+    ∷ (errors_name, errors_asked)
     ∷ []
 
 -- all commands to a replica
 abbrev pub commands : NamedRows Command
-commands = (codes "add-room", add_room_asked) ∷ (codes "book", booking_asked) ∷ shared_commands
+commands = (add_room_name, add_room_asked) ∷ (book_name, booking_asked) ∷ shared_commands
 
 -- what is done with databases and files otherwise
 abbrev pub other_rows : NamedRows Invoked
 other_rows =
-    (codes "init", init_row)
-    ∷ (codes "export", export_row)
-    ∷ (codes "import", import_row)
-    ∷ (codes "rehearse", rehearse_row)
-    ∷ (codes "serve", serve_row)
-    ∷ (codes "exchange", exchange_row)
-    ∷ (codes "bridge", bridge_row)
+    (init_name, init_row)
+    ∷ (export_name, export_row)
+    ∷ (import_name, import_row)
+    ∷ (rehearse_name, rehearse_row)
+    ∷ (serve_name, serve_row)
+    ∷ (exchange_name, exchange_row)
+    ∷ (bridge_name, bridge_row)
     ∷ []
 
 abbrev pub table : NamedRows Invoked

@@ -1,5 +1,6 @@
--- A reader of the contracts trusts CommandTable, CommandSpelling, InvocationRead and Addresses. The other, Grammar, serves private clauses and proofs
--- alone.
+-- A reader of the contracts trusts CommandNames, CommandTable, CommandSpelling, InvocationRead and Addresses. The other, Grammar, serves private
+-- clauses and proofs alone.
+pub mod CommandNames
 pub mod CommandTable
 pub mod CommandSpelling
 pub mod InvocationRead

@@ -4,6 +4,9 @@ ghost use Rattle.std.specs.Prelude.{◌≡◌, IfOk, MatchOption, Some, None, ma
 ghost use Rattle.mr_service.specs.Asked.{local_of};
 ghost use Rattle.mr_words.specs.CommandTable.{add_room_asked, booking_asked, cancel_asked, commit_asked, truncation_asked, position_asked, sheet_asked, calendar_asked, outcome_asked, errors_asked, in_row, shared_commands, commands};
 
+use crate::names::{
+    ADD_ROOM, BOOK, CALENDAR, CANCEL, COMMIT, ERRORS, OUTCOME, POSITION, SHEET, TRUNCATE,
+};
 use crate::words::{read_count, read_part, slots};
 use mr_service::{Local, SlotWords, Submission};
 use std::alloc::{AllocError, Global};
@@ -18,8 +21,8 @@ pub(crate) fn command(
         (λ local. in_row commands name.now (map (λ w. w.now) words.now) ≡ Some (local_of local))) }
 {
     match name {
-        "add-room" => add_room(alloc, words),
-        "book" => booking(alloc, words),
+        ADD_ROOM => add_room(alloc, words),
+        BOOK => booking(alloc, words),
         _ => shared_command(alloc, name, words),
     }
 }
@@ -34,14 +37,14 @@ pub fn shared_command(
         (λ local. in_row shared_commands name.now (map (λ w. w.now) words.now) ≡ Some (local_of local))) }
 {
     match name {
-        "cancel" => cancel(alloc, words),
-        "commit" => Ok(commit(words)),
-        "truncate" => Ok(truncation(words)),
-        "position" => Ok(position(words)),
-        "sheet" => sheet(alloc, words),
-        "calendar" => calendar(alloc, words),
-        "outcome" => outcome(alloc, words),
-        "errors" => errors(alloc, words),
+        CANCEL => cancel(alloc, words),
+        COMMIT => Ok(commit(words)),
+        TRUNCATE => Ok(truncation(words)),
+        POSITION => Ok(position(words)),
+        SHEET => sheet(alloc, words),
+        CALENDAR => calendar(alloc, words),
+        OUTCOME => outcome(alloc, words),
+        ERRORS => errors(alloc, words),
         _ => Ok(None),
     }
 }

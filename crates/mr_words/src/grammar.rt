@@ -4,13 +4,17 @@ ghost use Rattle.std.specs.Prelude.{◌≡◌, IfOk};
 ghost use Rattle.clap.specs.Words.{app_of, shape_of};
 ghost use Rattle.mr_words.specs.Grammar.{row_shape, program, row_names};
 
+use crate::names::{
+    ADD_ROOM, BOOK, BRIDGE, CALENDAR, CANCEL, COMMIT, ERRORS, EXCHANGE, EXPORT, IMPORT, INIT,
+    OUTCOME, POSITION, REHEARSE, SERVE, SHEET, TRUNCATE,
+};
 use clap::{Arg, Command};
 use std::alloc::{AllocError, Global};
 
 /// The names of the table's rows.
 static ROWS: [&str; 17] = [
-    "init", "export", "import", "rehearse", "serve", "exchange", "bridge", "add-room", "book",
-    "cancel", "commit", "truncate", "position", "sheet", "calendar", "outcome", "errors",
+    INIT, EXPORT, IMPORT, REHEARSE, SERVE, EXCHANGE, BRIDGE, ADD_ROOM, BOOK, CANCEL, COMMIT,
+    TRUNCATE, POSITION, SHEET, CALENDAR, OUTCOME, ERRORS,
 ];
 
 /// A row of the table, with one positional for all its words.

@@ -10,6 +10,7 @@ mod commands;
 mod grammar;
 mod invocations;
 mod invoke;
+mod names;
 mod rows;
 mod words;
 
@@ -17,4 +18,5 @@ pub use address::{AddressFault, peer_address};
 pub use commands::{add_room, shared_command};
 pub use invocations::{Invocation, Task, WordFault};
 pub use invoke::{command_lines_read_back, invocation};
+pub use names::BOOK;
 pub use words::{read_count, read_line_count, read_server};

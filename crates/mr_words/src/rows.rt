@@ -5,6 +5,7 @@ ghost use Rattle.mr_words.specs.CommandTable.{init_row, export_row, import_row, 
 ghost use Rattle.mr_words.specs.InvocationRead.{asked_of};
 
 use crate::commands::command;
+use crate::names::{BRIDGE, EXCHANGE, EXPORT, IMPORT, INIT, REHEARSE, SERVE};
 use crate::words::{read_connections, read_line_count, read_port, read_server};
 use crate::{Invocation, Task};
 use std::alloc::{AllocError, Global};
@@ -19,13 +20,13 @@ pub(crate) fn row(
         (λ i. in_row table name.now (map (λ w. w.now) words.now) ≡ Some (asked_of i))) }
 {
     match name {
-        "init" => init(alloc, words),
-        "export" => export(alloc, words),
-        "import" => import(alloc, words),
-        "rehearse" => rehearse(alloc, words),
-        "serve" => serve(alloc, words),
-        "exchange" => exchange(alloc, words),
-        "bridge" => bridge(alloc, words),
+        INIT => init(alloc, words),
+        EXPORT => export(alloc, words),
+        IMPORT => import(alloc, words),
+        REHEARSE => rehearse(alloc, words),
+        SERVE => serve(alloc, words),
+        EXCHANGE => exchange(alloc, words),
+        BRIDGE => bridge(alloc, words),
         _ => ask(alloc, name, words),
     }
 }
