@@ -6,11 +6,11 @@ use Rattle.mr_service.specs.Stepping.{step_of}
 use Rattle.mr.specs.RehearsalScript.{is_passed_over, IsScriptLine, IsBad, ReadsAsScript}
 use Rattle.mr.specs.declared.script.ScriptFault.{ScriptFault}
 use Rattle.mr.specs.declared.script.ScriptFault.TheVariants.{BadLine, OutOfMemory}
-use Rattle.mr.specs.declared.script.Line.{Line}
-use Rattle.mr.specs.declared.script.Line.TheVariants as line
+use Rattle.mr.specs.declared.script.ScriptLine.{ScriptLine}
+use Rattle.mr.specs.declared.script.ScriptLine.TheVariants as line
 
 -- what a line is
-abbrev pub IsLineAs : Text → Line → Type 0
+abbrev pub IsLineAs : Text → ScriptLine → Type 0
 IsLineAs text line.PassedOver = is_passed_over text ≡ true
 IsLineAs text (line.Step step) = IsScriptLine text (step_of step)
 IsLineAs text line.Bad = IsBad text

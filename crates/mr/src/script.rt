@@ -45,9 +45,9 @@ pub fn read_script(alloc: Global, bytes: &[u8]) -> Result<Vec<Step>, ScriptFault
     let mut steps = Vec::new(alloc);
     for (index, line) in bytes.split(|byte| *byte == b'\n').enumerate() {
         match line_of(alloc, line)? {
-            Line::PassedOver => {}
-            Line::Step(step) => steps.push(step)?,
-            Line::Bad => return Err(ScriptFault::BadLine(index as u64 + 1)),
+            ScriptLine::PassedOver => {}
+            ScriptLine::Step(step) => steps.push(step)?,
+            ScriptLine::Bad => return Err(ScriptFault::BadLine(index as u64 + 1)),
         }
     }
     Ok(steps)
@@ -60,22 +60,22 @@ pub fn scripts_are_read_one_way()
 
 /// What a line of a script is.
 #[derive(Drop)]
-enum Line {
+enum ScriptLine {
     PassedOver,
     Step(Step),
     Bad,
 }
 
 /// What the line is.
-fn line_of(alloc: Global, line: &[u8]) -> Result<Line, AllocError>
+fn line_of(alloc: Global, line: &[u8]) -> Result<ScriptLine, AllocError>
     ensures { IfOk result (IsLineAs line.now) }
 {
     if is_passed_over(line) {
-        return Ok(Line::PassedOver);
+        return Ok(ScriptLine::PassedOver);
     }
     match read_line(alloc, line)? {
-        Some(step) => Ok(Line::Step(step)),
-        None => Ok(Line::Bad),
+        Some(step) => Ok(ScriptLine::Step(step)),
+        None => Ok(ScriptLine::Bad),
     }
 }
 
