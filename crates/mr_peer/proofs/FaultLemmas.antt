@@ -14,7 +14,7 @@ use Rattle.mr_service.specs.Asked.{reply_of}
 use Rattle.mr_service.specs.Asking.{LeavesOnRefusal}
 use Rattle.mr_service.specs.declared.replies.Reply as service
 use Rattle.mr_service.specs.declared.replies.Reply.TheVariants as code
-use Rattle.mr_peer.specs.PeerReplies.{PeerReply, ◌>>=◌, whole_body, front_body, told_position, told_took}
+use Rattle.mr_peer.specs.PeerReplies.{PeerReply, result_and_then, whole_body, front_body, told_position, told_took}
 use Rattle.mr_peer.specs.Seen.{counts_seen}
 use Rattle.mr_peer.specs.ExchangeSteps.{KeepsTables}
 use Rattle.mr_peer.specs.PeerTaking.{Says, EndsAsBatch, IsReplyFault, IsOwnFault, IsTakeFault}
@@ -56,7 +56,7 @@ read_off None = tt
 read_off (Some x) = tt
 
 bound : {A B : Type 0} (o : Result A WebFault) (f : A → Result B WebFault) → IfErr o IsReplyFault
-    → ((x : A) → IfErr (f x) IsReplyFault) → IfErr (o >>= f) IsReplyFault
+    → ((x : A) → IfErr (f x) IsReplyFault) → IfErr (result_and_then f o) IsReplyFault
 bound (Ok x) f is more = more x
 bound (Err e) f is more = is
 

@@ -39,10 +39,10 @@ IsReplied input reply =
     (HasNoReplyHead input × (reply ≡ None))
     ⊎ ((h : ResponseHead) × (rest : Text) × IsReplyHead input h rest × (reply ≡ reply_behind h rest))
 
-infixl 10 ◌>>=◌
-abbrev pub ◌>>=◌ : {A B : Type 0} → Result A WebFault → (A → Result B WebFault) → Result B WebFault
-(Ok x) >>= f = f x
-(Err e) >>= f = Err e
+-- what is made of a value, where there is no fault
+abbrev pub result_and_then : {A B : Type 0} → (A → Result B WebFault) → Result A WebFault → Result B WebFault
+result_and_then f (Ok x) = f x
+result_and_then f (Err e) = Err e
 
 -- the whole body of a reply of status 200, or what is wrong with the reply
 abbrev pub whole_body : Option PeerReply → Result Text WebFault
@@ -56,8 +56,8 @@ front_body (Some r) = if r.status == 200 then Ok r.body else (if r.is_cut then E
 
 -- the position that a peer tells
 abbrev pub told_position : Option PeerReply → Result Position WebFault
-told_position reply = whole_body reply >>= λ body. ok_or (read_position body) BadReply
+told_position reply = result_and_then (λ body. ok_or (read_position body) BadReply) (whole_body reply)
 
 -- how many writes and commits a peer took
 abbrev pub told_took : Option PeerReply → Result (ℕ × ℕ) WebFault
-told_took reply = whole_body reply >>= λ body. ok_or (read_took body) BadReply
+told_took reply = result_and_then (λ body. ok_or (read_took body) BadReply) (whole_body reply)
