@@ -18,7 +18,7 @@ use Rattle.mr_web.specs.RequestAsks.{IsInputServed, Asks}
 use Rattle.mr_web.specs.Submissions.{Wish}
 use Rattle.mr_web.specs.RouteViews.{route_view}
 use Rattle.mr_web.specs.declared.cancellations.CancelWords.{CancelWords}
-use Rattle.mr_web.specs.declared.checks.Asked.{Asked as AskedWords}
+use Rattle.mr_web.specs.declared.checks.CheckedHead.{CheckedHead}
 use Rattle.mr_web.specs.declared.rejections.Rejection.{Rejection}
 use Rattle.mr_web.specs.declared.rejections.Rejection.TheVariants as rejection
 use Rattle.mr_web.specs.declared.rejections.Stop.{Stop}
@@ -26,7 +26,7 @@ use Rattle.mr_web.specs.declared.rejections.Stop.TheVariants as stop
 use Rattle.mr_web.specs.declared.replies.Answer.{Answer}
 use Rattle.mr_web.specs.declared.replies.Bytes.{Bytes}
 use Rattle.mr_web.specs.declared.replies.Bytes.TheVariants as bytes
-use Rattle.mr_web.specs.declared.submissions.Words.{Words}
+use Rattle.mr_web.specs.declared.submissions.WishMembers.{WishMembers}
 
 -- ---- checks
 
@@ -47,12 +47,12 @@ abbrev pub GivesView : {X Y : Type 0} → (X → Y) → Result X Stop → Result
 GivesView view (Ok x) expected = expected ≡ Ok (view x)
 GivesView view (Err e) expected = FailsAs e expected
 
-abbrev pub asked_view : AskedWords → Route × ℕ
+abbrev pub asked_view : CheckedHead → Route × ℕ
 asked_view a = (route_view a.route, a.length)
 
 -- ---- submissions
 
-abbrev pub wish_view : Words → Wish
+abbrev pub wish_view : WishMembers → Wish
 wish_view w = record { room = w.room.now; title = w.title.now; minutes = w.minutes; day = w.day.now; time = w.time.now }
 
 abbrev pub slots_view : List SlotWords → List model.SlotWords

@@ -18,7 +18,7 @@ use std::alloc::Global;
 
 /// What a head asks: a route, and how long the body is.
 #[derive(Drop)]
-pub(crate) struct Asked {
+pub(crate) struct CheckedHead {
     pub route: Route,
     pub length: usize,
 }
@@ -59,7 +59,7 @@ fn asked_at(
     params: &Params<'_, '_>,
     method: &str,
     fields: &[Header<'_>],
-) -> Result<Asked, Stop>
+) -> Result<CheckedHead, Stop>
     requires { AllText (path_words params.now) }
     ensures gives { GivesView asked_view result
         (spec.head_asks (Some (route_at resource (path_words params.now))) method.now (header_fields fields.now)) }
@@ -67,10 +67,15 @@ fn asked_at(
 {
     let length = checked_length(takes_post(resource), method, fields)?;
     let route = with_words(alloc, resource, params)?;
-    Ok(Asked { route, length })
+    Ok(CheckedHead { route, length })
 }
 
-fn asked_of(alloc: Global, method: &str, target: &str, fields: &[Header<'_>]) -> Result<Asked, Stop>
+fn asked_of(
+    alloc: Global,
+    method: &str,
+    target: &str,
+    fields: &[Header<'_>],
+) -> Result<CheckedHead, Stop>
     ensures gives { GivesView asked_view result (spec.head_asks (route_of target.now) method.now (header_fields fields.now)) }
     ensures small { IfOk result (λ a. a.length ≤ 1048576) }
 {
@@ -84,7 +89,7 @@ fn asked_of(alloc: Global, method: &str, target: &str, fields: &[Header<'_>]) ->
 }
 
 /// What the head at the front of the bytes asks.
-pub(crate) fn asked_by(alloc: Global, bytes: &[u8]) -> Result<Asked, Stop>
+pub(crate) fn asked_by(alloc: Global, bytes: &[u8]) -> Result<CheckedHead, Stop>
     ensures gives { (h : RequestHead) → (rest : List ℕ) → ReadsRequest bytes.now h rest → length h.fields ≤ 64
         → GivesView asked_view result (spec.asked_by h) }
     ensures small { IfOk result (λ a. a.length ≤ 1048576) }

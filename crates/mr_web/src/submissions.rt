@@ -14,7 +14,7 @@ use std::alloc::{AllocError, Global};
 
 // What a submission says beside its alternatives.
 #[derive(Clone, Copy)]
-struct Words<'v> {
+struct WishMembers<'v> {
     room: &'v str,
     title: &'v str,
     minutes: u64,
@@ -28,7 +28,7 @@ fn minutes_of(value: &Value) -> Option<u64>
     value.get("length").and_then(Value::as_u64)
 }
 
-fn wish_of<'v>(value: &'v Value) -> Option<Words<'v>>
+fn wish_of<'v>(value: &'v Value) -> Option<WishMembers<'v>>
     ensures { option_map wish_view result ≡ spec.wish_of (view value.now) }
 {
     let room = text_at(value, "room")?;
@@ -36,7 +36,7 @@ fn wish_of<'v>(value: &'v Value) -> Option<Words<'v>>
     let minutes = minutes_of(value)?;
     let day = text_at(value, "day")?;
     let time = text_at(value, "start")?;
-    Some(Words {
+    Some(WishMembers {
         room,
         title,
         minutes,
@@ -110,7 +110,7 @@ fn add_alternatives(
 
 fn submission_with(
     alloc: Global,
-    wish: Words<'_>,
+    wish: WishMembers<'_>,
     alternatives: Vec<SlotWords>,
 ) -> Result<Submission, AllocError>
     ensures { IfOk result (λ s. submission_of s ≡ spec.submitted (wish_view wish.entry) (slots_view alternatives.items)) }
