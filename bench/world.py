@@ -102,6 +102,7 @@ def replies(process):
 
 def main(program, folder, replicas=99, writes=100_000, rooms=50, seed=1):
     replicas, writes, rooms = int(replicas), int(writes), int(rooms)
+    os.makedirs(folder, exist_ok=True)
     script = os.path.join(folder, 'world.script')
     rounds, batches = write_script(script, replicas, writes, rooms, int(seed))
     process = subprocess.Popen([program, 'rehearse', script], stdin=subprocess.DEVNULL, stdout=subprocess.PIPE)
