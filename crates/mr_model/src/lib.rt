@@ -1,7 +1,7 @@
 //! The scheduler's definitions, and their laws. No program code: what the crates above it speak of in their contracts.
 //!
-//! Above it stands every other crate of the repository: their contracts say that a call does what a definition here says,
-//! on the plain records of numbers, texts and lists that stand here for their types. Below it stands nothing but std.
+//! Above it stands every other crate of the repository but `mr_disk`: their contracts say that a call does what a definition
+//! here says, on the plain records of numbers, texts and lists that stand here for their types. Below it stands nothing but std.
 //!
 //! The definitions are in specs/, to be read in this order:
 //! - Texts, Calendar, Slots, Writes, Requests, Refusals: words and lines, days and times, what overlaps, what a write is: a booking

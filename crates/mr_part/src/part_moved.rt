@@ -18,9 +18,9 @@ use mr_tables::summary::Summary;
 use std::alloc::Global;
 
 /// What a batch changes in the tables that leads from these numbers and known rooms to what is reached: on the board, which has the
-/// bookings in the rooms that it touches, these executions are undone, and these writes are executed, the new commits first, room by room. A write that gets
-/// the place and the number that it had keeps its row in the log, and isn't put; a booking that they cancel is put alone, where another cancel
-/// took that back before.
+/// bookings that it needs, these executions are undone, and these writes are executed, the new commits first, room by room. A write that
+/// gets the place and the number that it had keeps its row in the log, and isn't put; a booking that they cancel is put alone, where
+/// another cancel took that back before.
 pub(crate) fn moved(
     alloc: Global,
     old: &Summary,
