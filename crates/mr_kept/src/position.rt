@@ -15,6 +15,7 @@ pub fn position(alloc: Global, summary: &Summary) -> Result<Position, Refusal>
     ensures store { IsWithin summary.now → NeverStore result }
 {
     let counts = summary.counts(alloc)?;
+    // For the prover alone: both are numbers of servers.
     summary.server.number();
     summary.primary.number();
     Position::new(
