@@ -1,5 +1,6 @@
 -- What is made of the rows that questions ask for.
-use Rattle.std.proofs.Common.{◌≡◌, refl, sym, ap, ◌∙◌, subst, ℕ, ◌<◌, ◌+◌, ◌≤◌, length, get_or, Bool, true, false, cond, ◌||◌, List, [], ◌∷◌, ◌++◌, filter, take, ◌⊎◌, inl, inr, is_eq, Ordering, Less, Equal, Ok, Err, Result, IfOk, OnOk}
+use Rattle.std.proofs.Common.{◌≡◌, refl, sym, ap, ◌∙◌, subst, ℕ, ◌<◌, ◌+◌, ◌≤◌, length, get_or, Bool, true, false, cond, ◌&&◌, ◌||◌, List, [], ◌∷◌, ◌++◌, filter, take, ◌⊎◌, inl, inr, is_eq, Ordering, Less, Equal, Ok, Err, Result, IfOk, OnOk}
+use Rattle.std.specs.Prelude.{bytes_eq, nat_le}
 use Rattle.std.specs.Ordering.{ordering_reverse}
 use Rattle.std.specs.Cmp.{IsTotalOrder}
 use Rattle.std.specs.List.{dedup, dedup_from}
@@ -11,12 +12,15 @@ use Rattle.std.proofs.lemmas.List.Folds.{list_any_more}
 use Rattle.std.proofs.lemmas.List.Kept.{IsStrictlySortedBy-dedup}
 use Rattle.std.proofs.lemmas.List.Sorted.{IsPermutation-sym}
 use Rattle.sqlite_trees.specs.Tree.{IsAscending}
+use Rattle.mr_model.specs.Texts.{Text}
+use Rattle.mr_model.specs.Tables.{LogRow}
 use Rattle.mr_model.specs.Dropped.{Has}
 use Rattle.mr_model.specs.Changes.{SameRows}
 use Rattle.mr_model.proofs.Members.{Sorted, all_has, has_filter, filter_has, has_left, has_right, has_split, sorted_filter, sorted_same}
-use Rattle.mr_rows.specs.RowQuestions.{is_row_asked}
+use Rattle.mr_rows.specs.RowQuestions.{is_row_asked, is_late_row}
+use Rattle.mr_rows.specs.declared.passing.LateRows.{LateRows}
 use Rattle.mr_rows.proofs.FirstLemmas.{has_moved}
-use Rattle.mr_rows.proofs.RowLemmas.{equal_is}
+use Rattle.mr_rows.proofs.RowLemmas.{equal_is, filter_both, filter_same}
 
 -- ---- rows sorted, of each key the first
 
@@ -123,6 +127,28 @@ answer_added {R} asked before shown after same is row = (there, back)
     back h = subst (Has row) (sym is) (into asked shown (has_moved asked shown row same) (has_split row before asked h))
 
 -- those that pass one test, and then those that pass another
+-- a test says no more where what passes another passes it too
+no_more : (a b : Bool) → (b ≡ true → a ≡ true) → (a && b) ≡ b
+no_more a true so = ap (λ x. x && true) (so refl)
+no_more true false so = refl
+no_more false false so = refl
+
+-- what stands in one room may be picked from the rows of that room
+pub picked_in_room : {R : Type 0} (room_of : R → Text) (room : Text) (p : R → Bool) → ((x : R) → p x ≡ true → bytes_eq (room_of x) room ≡ true) → (table : List R)
+    → filter p (filter (λ x. bytes_eq (room_of x) room) table) ≡ filter p table
+picked_in_room room_of room p all table = filter_both p (λ x. bytes_eq (room_of x) room) table ∙ filter_same (λ x. bytes_eq (room_of x) room && p x) p table (λ x _. no_more (bytes_eq (room_of x) room) (p x) (all x))
+
+-- the same of rows with late times
+pub late_in_room : (room : Text) (late : LateRows) (p : LogRow → Bool) → ((x : LogRow) → is_late_row late p x ≡ true → bytes_eq x.room room ≡ true) → (log : List LogRow)
+    → filter p (filter (λ x. bytes_eq x.room room && (nat_le late.from x.time && nat_le x.seq late.to)) log) ≡ filter (is_late_row late p) log
+late_in_room room late p all log =
+    filter_both p (λ x. bytes_eq x.room room && (nat_le late.from x.time && nat_le x.seq late.to)) log
+    ∙ filter_same _ (is_late_row late p) log (λ x _. one_by_one (bytes_eq x.room room) (nat_le late.from x.time && nat_le x.seq late.to) (p x) ∙ no_more (bytes_eq x.room room) (is_late_row late p x) (all x))
+  where
+    one_by_one : (a b c : Bool) → ((a && b) && c) ≡ (a && (b && c))
+    one_by_one true b c = refl
+    one_by_one false b c = refl
+
 pub more_passed : {R : Type 0} (p q both : R → Bool) (table before after : List R) → ((x : R) → both x ≡ (p x || q x))
     → SameRows before (filter p table) → SameRows after (before ++ filter q table) → SameRows after (filter both table)
 more_passed {R} p q both table before after more so_far added row = (there, back)

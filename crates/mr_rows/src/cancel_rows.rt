@@ -15,11 +15,11 @@ use crate::found::test_rows;
 use crate::numbers::Number;
 use crate::passing::PassingRow;
 use crate::puts::{day_text, parts_of, put_cancel_cells, put_cancelled_cells};
-use crate::queries::ask;
+use crate::queries::{ROOM_CANCELLED, ask};
 use crate::row_tests::RowTest;
 use crate::stored_rows::{FoundRow, RequestRow, StoredRow};
 use crate::table_rows::compare_ids;
-use mr_base::WriteId;
+use mr_base::{RoomName, WriteId};
 use mr_tables::{CancelRow, CancelledRow};
 use sqlite::{Alter, Connection, Error, Row, Transaction, params};
 use std::alloc::Global;
@@ -104,13 +104,26 @@ impl FoundRow for CancelledRow {
 }
 
 impl PassingRow for CancelledRow {
+    ghost room_of = { λ row. row.room };
+
     fn add_passing<T: RowTest<CancelledRow>, S: Alter>(
         conn: &mut Connection<S>,
         alloc: Global,
+        room: Option<&RoomName>,
         test: &T,
         out: &mut Vec<CancelledRow>,
     ) -> Result<(), Error> {
-        add_shown(conn, alloc, ALL_CANCELLED, &[], test, out)
+        match room {
+            Some(room) => add_shown(
+                conn,
+                alloc,
+                ROOM_CANCELLED,
+                params![room.as_str()],
+                test,
+                out,
+            ),
+            None => add_shown(conn, alloc, ALL_CANCELLED, &[], test, out),
+        }
     }
 }
 

@@ -30,6 +30,10 @@ pub(crate) const LOGS_BETWEEN: &str =
 pub(crate) const LATE_LOGS: &str =
     "SELECT server, n, tm, room, kind, length, choices, title, tserver, tn, place, seq FROM log WHERE tm >= ?1 AND seq <= ?2";
 
+/// The same of a room.
+pub(crate) const LATE_LOGS_OF_ROOM: &str =
+    "SELECT server, n, tm, room, kind, length, choices, title, tserver, tn, place, seq FROM log WHERE room = ?1 AND tm >= ?2 AND seq <= ?3";
+
 /// The texts that ask for the rows of a room.
 pub(crate) const ROOM_BOOKINGS: &str =
     "SELECT room, day, start, stop, server, n, title, committed FROM booking WHERE room = ?1";

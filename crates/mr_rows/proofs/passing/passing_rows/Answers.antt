@@ -1,4 +1,4 @@
-use Rattle.std.proofs.Common.{◌≡◌, ◌++◌, [], filter, Ok, rules, sym, subst}
+use Rattle.std.proofs.Common.{◌≡◌, ◌++◌, filter, Ok, rules, subst}
 use Rattle.sqlite.specs.Held.{state}
 use Rattle.mr_model.specs.Changes.{SameRows}
 use Rattle.mr_rows.specs.Database.{tables_in}
