@@ -1,5 +1,5 @@
 -- Tests of bookings where they lie: what a batch may need of them.
-use Rattle.std.specs.Prelude.{◌≡◌, ℕ, Bool, false, List, Option, Some, None}
+use Rattle.std.specs.Prelude.{◌≡◌, ℕ, Bool, true, false, List, Option, Some, None, IfSome, bytes_eq}
 use Rattle.mr_model.specs.Texts.{Text}
 use Rattle.mr_model.specs.Calendar.{Date}
 use Rattle.mr_model.specs.Writes.{Id}
@@ -16,6 +16,10 @@ books_needed test row = needs test.needed row.room row.day (booking_id row)
 
 abbrev pub cancels_needed : NeededTest → CancelledRow → Bool
 cancels_needed test row = needs test.needed row.room row.day (cancelled_id row)
+
+-- all that passes stands in a room that is named
+abbrev pub KeepsToOnly : NeededTest → Type 0
+KeepsToOnly test = IfSome test.only (λ name. (room : Text) (day : Date) (id : Id) → needs test.needed room day id ≡ true → bytes_eq room name ≡ true)
 
 -- where there is no test, nothing passes
 abbrev pub passes_if_any : Option NeededTest → Text → Date → Id → Bool

@@ -1,4 +1,4 @@
-ghost use Rattle.std.specs.Prelude.{◌≡◌, ◌||◌, false, map, filter, IfOk};
+ghost use Rattle.std.specs.Prelude.{◌≡◌, ◌||◌, false, map, filter, IfOk, IfSome};
 ghost use Rattle.sqlite.specs.Held.{state};
 ghost use Rattle.sqlite_value.specs.Order.{column, bytes};
 ghost use Rattle.mr_model.specs.Calendar.{date_in};
@@ -11,9 +11,10 @@ ghost use Rattle.mr_rows.specs.RowCells.{nat_of};
 ghost use Rattle.mr_rows.specs.Database.{tables_in};
 ghost use Rattle.mr_rows.specs.Reads.{ReadsInUse};
 ghost use Rattle.mr_sql.specs.ScopeQuestions.{ArePlacesRead};
-ghost use Rattle.mr_sql.specs.NeededTests.{books_needed, cancels_needed, books_if_any, cancels_if_any, IsNeededTest};
+ghost use Rattle.mr_sql.specs.NeededTests.{books_needed, cancels_needed, books_if_any, cancels_if_any, IsNeededTest, KeepsToOnly};
 
-use mr_base::{Item, Refusal};
+use crate::scope_rooms::only_room;
+use mr_base::{Item, Refusal, RoomName};
 use mr_part::{Needed, touched_rooms};
 use mr_rows::cells::{read_day, read_id, read_name};
 use mr_rows::{RowTest, passing_rows};
@@ -27,6 +28,8 @@ use std::alloc::Global;
 pub(crate) struct NeededTest {
     alloc: Global,
     needed: Needed,
+    // the room that it touches, where it is one
+    only: Option<RoomName>,
 }
 
 impl NeededTest {
@@ -38,14 +41,20 @@ impl NeededTest {
         commits: u64,
         rows: &[LogRow],
     ) -> Result<Option<NeededTest>, Refusal>
-        ensures { IfOk result (λ test. IsNeededTest test commits (map item_of items.now) rows.now) }
+        ensures needed { IfOk result (λ test. IsNeededTest test commits (map item_of items.now) rows.now) }
+        ensures only { IfOk result (λ test. IfSome test KeepsToOnly) }
     {
         let touched = touched_rooms(alloc, rows, items, commits)?;
         if touched.is_empty() {
             return Ok(None);
         }
         let needed = Needed::of(alloc, &touched, items, rows, commits)?;
-        Ok(Some(NeededTest { alloc, needed }))
+        let only = only_room(alloc, &touched)?;
+        Ok(Some(NeededTest {
+            alloc,
+            needed,
+            only,
+        }))
     }
 
     /// Whether a row passes, of either table. Where days and ids tell, nothing is made of the rooms of most rows.
@@ -105,7 +114,8 @@ fn test_of(
     commits: u64,
     logs: &[LogRow],
 ) -> Result<Option<NeededTest>, Error>
-    ensures { IfOk result (λ test. IsNeededTest test commits (map item_of items.now) logs.now) }
+    ensures needed { IfOk result (λ test. IsNeededTest test commits (map item_of items.now) logs.now) }
+    ensures only { IfOk result (λ test. IfSome test KeepsToOnly) }
 {
     match NeededTest::of(alloc, items, commits, logs) {
         Ok(test) => Ok(test),
@@ -113,20 +123,21 @@ fn test_of(
     }
 }
 
-/// The bookings that pass and the cancelled ones, in one pass over either table.
+/// The bookings that pass and the cancelled ones, in one pass over either table, or over the rows of the one room.
 fn read_passing<S: Alter>(
     conn: &mut Connection<S>,
     alloc: Global,
     test: &NeededTest,
 ) -> Result<(Vec<BookingRow>, Vec<CancelledRow>), Error>
     requires autocommit { conn.old.in_transaction ≡ false }
+    requires only { KeepsToOnly test.now }
     ensures autocommit { conn.new.in_transaction ≡ false }
     ensures reads { ReadsInUse (state S.Store conn.old) (state S.Store conn.new) result
         (λ rows. (rows.0.items ≡ filter (books_needed test.now) (tables_in (state S.Store conn.old).now.trees).booking)
         × (rows.1.items ≡ filter (cancels_needed test.now) (tables_in (state S.Store conn.old).now.trees).cancelled)) }
 {
-    let booking = passing_rows(conn, alloc, test)?;
-    let cancelled = passing_rows(conn, alloc, test)?;
+    let booking = passing_rows(conn, alloc, test.only.as_ref(), test)?;
+    let cancelled = passing_rows(conn, alloc, test.only.as_ref(), test)?;
     Ok((booking, cancelled))
 }
 
@@ -137,6 +148,7 @@ fn read_if_any<S: Alter>(
     test: &Option<NeededTest>,
 ) -> Result<(Vec<BookingRow>, Vec<CancelledRow>), Error>
     requires autocommit { conn.old.in_transaction ≡ false }
+    requires only { IfSome test.now KeepsToOnly }
     ensures autocommit { conn.new.in_transaction ≡ false }
     ensures reads { ReadsInUse (state S.Store conn.old) (state S.Store conn.new) result
         (λ rows. (rows.0.items ≡ filter (books_if_any test.now) (tables_in (state S.Store conn.old).now.trees).booking)

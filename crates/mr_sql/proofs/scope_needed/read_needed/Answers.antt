@@ -14,5 +14,5 @@ returns-clause-reads g c =
       read.1,
       λ clean held.
           let told = read.2 clean held in
-          (told.0, needed_asked c.args.commits (map item_of c.args.items.now) c.args.logs.now c.in_ok-test.test c.in_ok-test.ensures t rows.0.items c.new.result.items rows.1.items told.1.0 c.new.ensures.items told.1.1),
+          (told.0, needed_asked c.args.commits (map item_of c.args.items.now) c.args.logs.now c.in_ok-test.test c.in_ok-test.ensures.needed t rows.0.items c.new.result.items rows.1.items told.1.0 c.new.ensures.items told.1.1),
     )

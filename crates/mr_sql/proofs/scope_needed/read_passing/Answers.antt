@@ -1,10 +1,18 @@
-use Rattle.std.proofs.Common.{◌≡◌, List, filter, Ok, rules}
+use Rattle.std.proofs.Common.{◌≡◌, List, filter, Ok, rules, sym, subst}
 use Rattle.sqlite.specs.Held.{state}
 use Rattle.mr_model.specs.Tables.{BookingRow, CancelledRow}
 use Rattle.mr_rows.specs.Database.{tables_in}
 use Rattle.mr_rows.proofs.QueryLemmas.{in_use, uses_then}
+use Rattle.mr_rows.specs.RowQuestions.{AllStandIn}
 use Rattle.mr_sql.specs.NeededTests.{books_needed, cancels_needed}
+use Rattle.mr_sql.proofs.OnlyLemmas.{books_in_only, cancels_in_only}
 use Rattle.mr_sql.proofs.scope_needed.read_passing.Goals as goal
+
+pub passing_rows-requires-clause-of_room : goal.passing_rows-requires-clause-of_room
+passing_rows-requires-clause-of_room g c = subst (AllStandIn (λ (row : BookingRow). row.room) (books_needed c.args.test.now)) (sym c.as_ref.ensures.value) (books_in_only c.args.test.now c.requires.only)
+
+pub passing_rows-requires-2-clause-of_room : goal.passing_rows-requires-2-clause-of_room
+passing_rows-requires-2-clause-of_room g c = subst (AllStandIn (λ (row : CancelledRow). row.room) (cancels_needed c.args.test.now)) (sym c.as_ref-2.ensures.value) (cancels_in_only c.args.test.now c.requires.only)
 
 pub returns-in_err-booking-clause-reads : goal.returns-in_err-booking-clause-reads
 returns-in_err-booking-clause-reads g c =
