@@ -15,8 +15,8 @@ class Lanes:
     """The tasks that are left and those that run. A task is as `in_lanes` of `rt` has it: what it waits for, its lines, its memory, and a call."""
 
     def __init__(self, tasks, most_jobs):
-        # (one lane more than processors: a proof begins and ends with work for one)
-        self.tasks, self.count, self.memory = tasks, rt().processors() + 1, 0.85 * rt().free()
+        # (one lane more than processors where a proof may have several jobs: it begins and ends with work for one)
+        self.tasks, self.count, self.memory = tasks, rt().processors() + (most_jobs > 1), 0.85 * rt().free()
         self.needs = {key: SHARE_OF_NEED * task[2] for key, task in tasks.items()}
         # jobs of one proof at most
         self.most_jobs = most_jobs
