@@ -1,5 +1,6 @@
-//! Tests of HTTP: heads and bytes (`mr_http`), requests that are served (`mr_web`), and peers that are asked (`mr_peer`). It stands above
-//! these three, and nothing stands on it.
+//! Tests of the service and of the ways to it: the text of each kind of reply, byte for byte, and lists of commands with their replies
+//! (`mr_service`); command lines and addresses (`mr_words`); heads and bytes (`mr_http`), requests that are served (`mr_web`), and peers that
+//! are asked (`mr_peer`). It stands above these, and nothing stands on it. Commands over each keeper are tested in `mr_sql_tests`.
 #![tactic(auto)]
 
 #[cfg(test)]
@@ -7,14 +8,24 @@ mod asking_tests;
 #[cfg(test)]
 mod cancel_tests;
 #[cfg(test)]
+mod cancel_text_tests;
+#[cfg(test)]
+mod command_lines;
+#[cfg(test)]
 mod connections;
 #[cfg(test)]
 mod head_tests;
 #[cfg(test)]
 mod round_tests;
 #[cfg(test)]
+mod running_tests;
+#[cfg(test)]
 mod same;
 #[cfg(test)]
+mod same_text;
+#[cfg(test)]
 mod serving_tests;
+#[cfg(test)]
+mod text_tests;
 #[cfg(test)]
 mod without_memory_tests;
