@@ -10,7 +10,7 @@ ghost use Rattle.mr_first.specs.FirstShown.{AreFirstRows};
 use crate::first_rows::FirstRow;
 use crate::meta_row::only_meta;
 use crate::queries::select_all_meta;
-use crate::rows::{UndoRow, WriteRow};
+use crate::rows::{FirstUndoRow, WriteRow};
 use mr_base::RoomName;
 use mr_tables::{BookingRow, ErrorRow, MetaRow, VectorRow};
 use sqlite::{Alter, Connection, Error, Row};
@@ -68,7 +68,7 @@ fn find_requests<S: Alter>(conn: &mut Connection<S>, alloc: Global) -> Result<()
         (λ _. (AreStoredAs write_form (state S.Store conn.old).now.trees × AreStoredAs undo_form (state S.Store conn.old).now.trees)
         × (AreStoredAs booking_form (state S.Store conn.old).now.trees × AreStoredAs error_form (state S.Store conn.old).now.trees)) }
 {
-    find_two::<WriteRow, UndoRow, S>(conn, alloc)?;
+    find_two::<WriteRow, FirstUndoRow, S>(conn, alloc)?;
     find_two::<BookingRow, ErrorRow, S>(conn, alloc)
 }
 

@@ -20,5 +20,5 @@ mod queries;
 mod rows;
 mod tables;
 
-pub use rows::{UndoRow, WriteRow};
+pub use rows::{FirstUndoRow, WriteRow};
 pub use tables::First;

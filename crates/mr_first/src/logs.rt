@@ -16,7 +16,7 @@ ghost use Rattle.mr_first.specs.FirstParts.{put_writes, put_undo};
 use crate::cells::read_first_place;
 use crate::first_rows::{FirstRow, is_id_before};
 use crate::queries::ask_first;
-use crate::rows::{UndoRow, WriteRow};
+use crate::rows::{FirstUndoRow, WriteRow};
 use mr_rows::cells::{read_name, read_server, read_text, read_title, read_u32, read_u64};
 use mr_rows::compare_ids;
 use mr_rows::numbers::{Number, PlaceNumber};
@@ -104,22 +104,22 @@ fn read_meeting(alloc: Global, row: &Row) -> Result<MeetingCells, Error>
     })
 }
 
-impl FirstRow for UndoRow {
+impl FirstRow for FirstUndoRow {
     ghost Key = { Id };
 
     ghost form = { undo_form };
 
     ghost put_in = { put_undo };
 
-    fn is_before(a: &UndoRow, b: &UndoRow) -> bool {
+    fn is_before(a: &FirstUndoRow, b: &FirstUndoRow) -> bool {
         is_id_before((a.server, a.n), (b.server, b.n))
     }
 
-    fn read(_alloc: Global, row: &Row) -> Result<UndoRow, Error> {
+    fn read(_alloc: Global, row: &Row) -> Result<FirstUndoRow, Error> {
         let server = read_server(row, 0)?;
         let n = read_u32(row, 1)?;
         let place = read_first_place(row, 2)?;
-        Ok(UndoRow { server, n, place })
+        Ok(FirstUndoRow { server, n, place })
     }
 
     fn select_all<S: Alter>(conn: &mut Connection<S>) -> Result<Vec<Row>, Error> {
@@ -164,7 +164,7 @@ fn sort_writes(rows: &mut Vec<WriteRow>) -> Result<(), AllocError>
 }
 
 /// The same of the other log.
-fn sort_undo(rows: &mut Vec<UndoRow>) -> Result<(), AllocError>
+fn sort_undo(rows: &mut Vec<FirstUndoRow>) -> Result<(), AllocError>
     ensures same { IsPermutation rows.old.items rows.new.items }
     ensures sorted { OnOk result (IsSorted (λ a b. id_cmp (undo_id a) (undo_id b)) rows.new.items) }
 {
@@ -180,7 +180,7 @@ fn ordered_writes(alloc: Global, rows: &[Row]) -> Result<Vec<WriteRow>, Error>
     Ok(out)
 }
 
-fn ordered_undo(alloc: Global, rows: &[Row]) -> Result<Vec<UndoRow>, Error>
+fn ordered_undo(alloc: Global, rows: &[Row]) -> Result<Vec<FirstUndoRow>, Error>
     ensures same { IfOk result (λ out. IsPermutation (map (λ row. undo_in (Null ∷ row)) rows.now) out.items) }
     ensures sorted { IfOk result (λ out. IsSorted (λ a b. id_cmp (undo_id a) (undo_id b)) out.items) }
 {
@@ -207,12 +207,12 @@ pub(crate) fn all_writes<S: Alter>(
 pub(crate) fn all_undo<S: Alter>(
     conn: &mut Connection<S>,
     alloc: Global,
-) -> Result<Vec<UndoRow>, Error>
+) -> Result<Vec<FirstUndoRow>, Error>
     requires autocommit { conn.old.in_transaction ≡ false }
     ensures autocommit { conn.new.in_transaction ≡ false }
     ensures reads { ReadsFirst (state S.Store conn.old) (state S.Store conn.new) result
         (λ rows. rows.items ≡ (first_in (state S.Store conn.old).now.trees).undo) }
 {
-    let rows = UndoRow::select_all(conn)?;
+    let rows = FirstUndoRow::select_all(conn)?;
     ordered_undo(alloc, &rows)
 }

@@ -11,7 +11,7 @@ use crate::creating::create_second_rows;
 use crate::logs::{all_undo, all_writes};
 use crate::meta_row::the_meta;
 use crate::pairs::moved_rows;
-use crate::rows::{UndoRow, WriteRow};
+use crate::rows::{FirstUndoRow, WriteRow};
 use mr_rows::changes::put_all;
 use mr_rows::puts::put_meta;
 use mr_tables::{LogRow, MetaRow};
@@ -22,7 +22,7 @@ use std::alloc::Global;
 fn read_logs<S: Alter>(
     conn: &mut Connection<S>,
     alloc: Global,
-) -> Result<(Vec<WriteRow>, Vec<UndoRow>), Error>
+) -> Result<(Vec<WriteRow>, Vec<FirstUndoRow>), Error>
     requires autocommit { conn.old.in_transaction ≡ false }
     ensures autocommit { conn.new.in_transaction ≡ false }
     ensures reads { ReadsFirst (state S.Store conn.old) (state S.Store conn.new) result

@@ -5,14 +5,14 @@ ghost use Rattle.mr_first.specs.Forms.{write_id, undo_id};
 ghost use Rattle.mr_first.specs.FirstDatabase.{first_in};
 ghost use Rattle.mr_first.specs.MovedUp.{ArePaired, LogsOfReplicasArePaired};
 
-use crate::rows::{UndoRow, WriteRow};
+use crate::rows::{FirstUndoRow, WriteRow};
 use mr_base::Refusal;
 use mr_tables::{ActionCells, LogRow};
 use sqlite::{Error, ErrorCode};
 use std::alloc::Global;
 
 /// Whether both rows are those of one write.
-fn are_of_one(row: &WriteRow, undo: &UndoRow) -> bool
+fn are_of_one(row: &WriteRow, undo: &FirstUndoRow) -> bool
     ensures same { IsTrue result → write_id row.now ≡ undo_id undo.now }
     ensures other { result ≡ false → write_id row.now ≢ undo_id undo.now }
 {
@@ -20,7 +20,7 @@ fn are_of_one(row: &WriteRow, undo: &UndoRow) -> bool
 }
 
 /// The row of the one log that takes the place of both.
-fn joined(alloc: Global, row: &WriteRow, undo: &UndoRow) -> Result<LogRow, Refusal>
+fn joined(alloc: Global, row: &WriteRow, undo: &FirstUndoRow) -> Result<LogRow, Refusal>
     ensures joined { IfOk result (λ joined. joined ≡ moved_row row.now undo.now) }
     ensures memory { IfErr result (λ e. e ≡ Refusal.OutOfMemory) }
 {
@@ -41,7 +41,7 @@ fn joined(alloc: Global, row: &WriteRow, undo: &UndoRow) -> Result<LogRow, Refus
 fn push_pair(
     alloc: Global,
     row: &WriteRow,
-    undo: &UndoRow,
+    undo: &FirstUndoRow,
     out: &mut Vec<LogRow>,
 ) -> Result<(), Error>
     ensures paired { OnOk result (write_id row.now ≡ undo_id undo.now) }
@@ -62,7 +62,7 @@ fn push_pair(
 pub fn moved_rows(
     alloc: Global,
     writes: &[WriteRow],
-    undo: &[UndoRow],
+    undo: &[FirstUndoRow],
 ) -> Result<Vec<LogRow>, Error>
     ensures paired { OnOk result (ArePaired writes.now undo.now) }
     ensures moved { IfOk result (λ rows. (trees : Trees) → undo.now ≡ (first_in trees).undo → rows.items ≡ moved_log writes.now undo.now) }

@@ -7,7 +7,7 @@ ghost use Rattle.mr_first.specs.FirstDatabase.{MakesFirst, first_in};
 ghost use Rattle.mr_first.specs.FirstParts.{put_first_meta as with_meta, put_first_bookings, put_first_errors, first_heads_put, logs_put, first_board_put, tables_put, AreFirstKeysRising};
 
 use crate::first_rows::FirstRow;
-use crate::rows::{UndoRow, WriteRow};
+use crate::rows::{FirstUndoRow, WriteRow};
 use crate::tables::First;
 use mr_base::RoomName;
 use mr_rows::numbers::Number;
@@ -139,7 +139,7 @@ fn put_logs<S: Alter>(
     ensures survives { Survives (state S.Store tx.old.conn.now) (state S.Store tx.new.conn.now) (λ _. ⊥) }
 {
     put_all::<WriteRow, S>(tx, alloc, &first.write_log)?;
-    put_all::<UndoRow, S>(tx, alloc, &first.undo)
+    put_all::<FirstUndoRow, S>(tx, alloc, &first.undo)
 }
 
 /// Puts rows into both tables of the board.
@@ -189,7 +189,7 @@ pub fn are_keys_rising(first: &First) -> bool
     let rooms = are_rising::<RoomName>(&first.room);
     let servers = are_rising::<VectorRow>(&first.vector);
     let writes = are_rising::<WriteRow>(&first.write_log);
-    let undo = are_rising::<UndoRow>(&first.undo);
+    let undo = are_rising::<FirstUndoRow>(&first.undo);
     let bookings = are_rising::<BookingRow>(&first.booking);
     let errors = are_rising::<ErrorRow>(&first.errorlog);
     rooms & servers & writes & undo & bookings & errors

@@ -33,13 +33,13 @@ impl Model for WriteRow {
 
 /// A row of `undo`: the place of a kept write, the number of its choice or the error log.
 #[derive(Clone, Copy, Debug)]
-pub struct UndoRow {
+pub struct FirstUndoRow {
     pub server: ServerId,
     pub n: u32,
     pub place: Place,
 }
 
-impl Model for UndoRow {
+impl Model for FirstUndoRow {
     ghost use Rattle.mr_model.specs.First as tables;
     ghost use Rattle.mr_replay.specs.Places.{place_seen, place_from};
 

@@ -1,4 +1,4 @@
-use crate::rows::{UndoRow, WriteRow};
+use crate::rows::{FirstUndoRow, WriteRow};
 use mr_base::RoomName;
 use mr_tables::{BookingRow, ErrorRow, MetaRow, VectorRow};
 use std::marker::Model;
@@ -11,7 +11,7 @@ pub struct First {
     pub room: Vec<RoomName>,
     pub vector: Vec<VectorRow>,
     pub write_log: Vec<WriteRow>,
-    pub undo: Vec<UndoRow>,
+    pub undo: Vec<FirstUndoRow>,
     pub booking: Vec<BookingRow>,
     pub errorlog: Vec<ErrorRow>,
 }

@@ -29,14 +29,14 @@ pub struct RoomMove {
 }
 
 /// The moves of rooms, by their names: so a write that moves costs a logarithm, however many rooms there are.
-pub type RoomMoves = BTreeMap<RoomName, RoomMove>;
+pub type MovesOfRooms = BTreeMap<RoomName, RoomMove>;
 
 /// Undoes on the trial's board what is undone in rooms, and executes these writes, room by room: each room's executions are undone, and its
 /// writes are executed in their place. The answer has what undoes these writes, in their order.
 pub fn replayed_in_rooms(
     alloc: Global,
     trial: &mut Trial,
-    undone: RoomMoves,
+    undone: MovesOfRooms,
     again: &[Write],
 ) -> Result<Vec<UndoRow>, Refusal>
     ensures replayed { ((name : Text) → again_at undone name ≡ []) → IfOk result (λ rows. ReplaysRooms (undone_at undone) again.now trial.old.rows trial.new.rows rows.items) }
@@ -52,7 +52,11 @@ pub fn replayed_in_rooms(
 }
 
 /// Undoes and executes in each of the rooms what moves there. The answer has the rows room by room.
-fn replay_rooms(alloc: Global, trial: &mut Trial, moves: RoomMoves) -> Result<Vec<UndoRow>, Refusal>
+fn replay_rooms(
+    alloc: Global,
+    trial: &mut Trial,
+    moves: MovesOfRooms,
+) -> Result<Vec<UndoRow>, Refusal>
     ensures board { OnOk result (trial.new.rows ≡ board_after_moves moves.entries trial.old.rows) }
     ensures rows { IfOk result (λ rows. rows.items ≡ rows_after moves.entries trial.old.rows) }
     ensures before { trial.new.before ≡ trial.old.before }
@@ -76,7 +80,7 @@ pub fn undone_in_rooms(
     undo: &[UndoRow],
     rooms: &RoomSet,
     tail: &Tail,
-) -> Result<RoomMoves, Refusal>
+) -> Result<MovesOfRooms, Refusal>
     ensures undone { (touched : List Text) (items : List ItemOfBatch) (commits : ℕ) → IsSetOf rooms.now touched → IsTail tail.now commits items
         → (mark : WriteOfRoom → ℕ) (row : WriteOfRoom → UndoRowOfWrite) → marks.now ≡ map mark writes.now → undo.now ≡ map row writes.now
         → IfOk result (λ moves. (name : Text) → undone_at moves name ≡ map row (of_room name (filter (λ w. mark w == 0 && moves_in touched items commits w) writes.now))) }
@@ -95,7 +99,7 @@ pub fn undone_in_rooms(
 }
 
 /// These writes are executed anew too, each in its room.
-fn add_again(alloc: Global, moves: &mut RoomMoves, again: &[Write]) -> Result<(), Refusal>
+fn add_again(alloc: Global, moves: &mut MovesOfRooms, again: &[Write]) -> Result<(), Refusal>
     ensures again { OnOk result ((name : Text) → again_at moves.new name ≡ again_at moves.old name ++ of_room name again.now) }
     ensures undone { OnOk result ((name : Text) → undone_at moves.new name ≡ undone_at moves.old name) }
     ensures only { IfErr result (λ e. e ≡ Refusal.OutOfMemory) }
@@ -109,7 +113,7 @@ fn add_again(alloc: Global, moves: &mut RoomMoves, again: &[Write]) -> Result<()
 /// One execution more is undone in the room.
 fn add_undone(
     alloc: Global,
-    moves: &mut RoomMoves,
+    moves: &mut MovesOfRooms,
     room: &RoomName,
     row: UndoRow,
 ) -> Result<(), Refusal>
@@ -125,7 +129,7 @@ fn add_undone(
 }
 
 /// One write more is executed anew in its room.
-fn add_one_again(alloc: Global, moves: &mut RoomMoves, write: &Write) -> Result<(), Refusal>
+fn add_one_again(alloc: Global, moves: &mut MovesOfRooms, write: &Write) -> Result<(), Refusal>
     ensures again { OnOk result ((name : Text) → again_at moves.new name ≡ again_at moves.old name ++ (if bytes_eq write.now.room name then write.now ∷ [] else [])) }
     ensures undone { OnOk result ((name : Text) → undone_at moves.new name ≡ undone_at moves.old name) }
     ensures only { IfErr result (λ e. e ≡ Refusal.OutOfMemory) }
@@ -139,7 +143,7 @@ fn add_one_again(alloc: Global, moves: &mut RoomMoves, write: &Write) -> Result<
 }
 
 /// The room is there, with nothing that moves if it wasn't.
-fn add_room(alloc: Global, moves: &mut RoomMoves, room: &RoomName) -> Result<(), Refusal>
+fn add_room(alloc: Global, moves: &mut MovesOfRooms, room: &RoomName) -> Result<(), Refusal>
     ensures there { OnOk result (IsTrue (is_some (move_at moves.new room.now))) }
     ensures undone { OnOk result ((name : Text) → undone_at moves.new name ≡ undone_at moves.old name) }
     ensures again { OnOk result ((name : Text) → again_at moves.new name ≡ again_at moves.old name) }

@@ -9,7 +9,7 @@ use std::net::TcpStream;
 use std::time::Duration;
 
 /// How many seconds a read or a write of a client may wait: a peer serves one connection after the other, each for a while.
-const PATIENCE: u64 = 300;
+const PATIENCE_WITH_PEERS: u64 = 300;
 
 /// A connection to the host of this name, written as in a URL.
 pub(crate) fn connect(rt: &HostRuntime, name: &str, port: u16) -> Result<TcpStream, WebFault>
@@ -23,7 +23,7 @@ pub(crate) fn connect(rt: &HostRuntime, name: &str, port: u16) -> Result<TcpStre
 
 fn patient_stream(rt: &HostRuntime, name: &str, port: u16) -> io::Result<TcpStream> {
     let stream = TcpStream::connect(rt, (name, port))?;
-    let patience = Some(Duration::from_secs(PATIENCE));
+    let patience = Some(Duration::from_secs(PATIENCE_WITH_PEERS));
     stream.set_read_timeout(patience)?;
     stream.set_write_timeout(patience)?;
     Ok(stream)

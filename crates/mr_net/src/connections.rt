@@ -11,7 +11,7 @@ use std::net::{Shutdown, TcpListener, TcpStream};
 use std::time::Duration;
 
 /// How many seconds a read or a write of a connection may wait. So nobody who sends nothing keeps the others waiting for good.
-const PATIENCE: u64 = 30;
+const PATIENCE_WITH_CALLERS: u64 = 30;
 
 /// How often the rest of a request is read from, at most 4,096 bytes a time.
 const GREATEST_REST: u32 = 512;
@@ -35,7 +35,7 @@ pub(crate) fn serve_next<K: Keeper>(
 /// The next connection.
 fn accept(listener: &TcpListener) -> Option<TcpStream> {
     let (stream, _) = listener.accept().ok()?;
-    let patience = Some(Duration::from_secs(PATIENCE));
+    let patience = Some(Duration::from_secs(PATIENCE_WITH_CALLERS));
     stream.set_read_timeout(patience).ok()?;
     stream.set_write_timeout(patience).ok()?;
     Some(stream)

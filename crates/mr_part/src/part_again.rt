@@ -18,7 +18,7 @@ ghost use Rattle.mr_part.specs.Parts.{IsPartOf};
 use crate::Part;
 use mr_base::{Item, Refusal, RoomName, Write};
 use mr_kept::movable::{may_move, rooms_touched};
-use mr_kept::room_moves::{RoomMoves, undone_in_rooms};
+use mr_kept::room_moves::{MovesOfRooms, undone_in_rooms};
 use mr_kept::room_sets::{RoomSet, room_set};
 use mr_kept::tail::{Tail, tail_of};
 use mr_replay::UndoRow;
@@ -41,7 +41,7 @@ impl Part {
         &self,
         touched: &[RoomName],
         items: &[Item],
-    ) -> Result<(Vec<UndoRow>, RoomMoves), Refusal>
+    ) -> Result<(Vec<UndoRow>, MovesOfRooms), Refusal>
         ensures rows { (a : Replica) → IsReplica a → IsPartOf self.now (OfItems (map item_of items.now)) a → AreTouched touched.now a (map item_of items.now)
             → IfOk result (λ undone. undone.0.items ≡ map (undo_with (place_of a)) (filter (may_move_from a (map item_of items.now)) (tentative a))) }
         ensures rooms { (a : Replica) → IsReplica a → IsPartOf self.now (OfItems (map item_of items.now)) a → AreTouched touched.now a (map item_of items.now)

@@ -9,7 +9,7 @@ use crate::part_changed::changed_of;
 use mr_base::{Refusal, RoomName, Write};
 use mr_kept::candidate::Reached;
 use mr_kept::placing::{put_places, rewritten};
-use mr_kept::room_moves::{RoomMoves, replayed_in_rooms};
+use mr_kept::room_moves::{MovesOfRooms, replayed_in_rooms};
 use mr_kept::room_sets::unknown_rooms;
 use mr_kept::targets::{moved_targets, takers};
 use mr_replay::{Board, Trial, UndoRow};
@@ -28,7 +28,7 @@ pub(crate) fn moved(
     board: Board,
     reached: &Reached,
     undone: &[UndoRow],
-    in_rooms: RoomMoves,
+    in_rooms: MovesOfRooms,
     again: &[Write],
 ) -> Result<Change, Refusal>
     ensures turns { (items : List Item) (a b : Replica) → MovesPart old.now known.now board items a b reached.now.summary reached.now.rooms undone.now in_rooms again.now

@@ -21,7 +21,7 @@ use mr_base::{Batch, Item, Refusal, RoomName};
 use mr_kept::candidate::reached_with;
 use mr_kept::changes::no_change;
 use mr_kept::movable::again_in;
-use mr_kept::room_moves::RoomMoves;
+use mr_kept::room_moves::MovesOfRooms;
 use mr_replay::UndoRow;
 use mr_tables::Change;
 
@@ -65,7 +65,7 @@ impl Part {
         items: &[Item],
         touched: &[RoomName],
         undone: &[UndoRow],
-        in_rooms: RoomMoves,
+        in_rooms: MovesOfRooms,
     ) -> Result<(u64, u64, Change), Refusal>
         ensures step { IsTrue (list_all (is_item Second) (map item_of items.now)) → length items.now + 2 < 2 ^ 64 → (a : Replica) → IsReplica a → IsPartOf self (OfItems (map item_of items.now)) a
             → AreTouched touched.now a (map item_of items.now) → undone.now ≡ map (undo_with (place_of a)) (filter (may_move a (map item_of items.now)) (tentative a))

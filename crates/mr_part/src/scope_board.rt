@@ -20,7 +20,7 @@ use std::collections::BTreeSet;
 use std::slice;
 
 /// Ids of writes, in their order.
-type IdSet = BTreeSet<WriteId>;
+type WriteIdSet = BTreeSet<WriteId>;
 
 /// A board of the bookings in scope, where a batch touches these rooms and a commit is of these writes. Refused where one of the
 /// bookings is out of the limits.
@@ -69,7 +69,7 @@ fn needed_in(
 }
 
 /// The ids of these writes as a set.
-fn id_set(alloc: Global, writes: &[Write]) -> Result<IdSet, Refusal>
+fn id_set(alloc: Global, writes: &[Write]) -> Result<WriteIdSet, Refusal>
     ensures ids { IfOk result (λ ids. IsIdSetOf ids (map id_of writes.now)) }
     ensures only { IfErr result (λ e. e ≡ Refusal.OutOfMemory) }
 {
@@ -129,7 +129,7 @@ fn put_cancelled_in(
     rows: &[CancelledRow],
     scope: &Scope<'_>,
     needed: &Needed,
-    ids: &IdSet,
+    ids: &WriteIdSet,
 ) -> Result<(), Refusal>
     ensures put { (t : RowsOfTables) (named : List Id) → IsNeededIn needed.now (scope_of scope.now) t → IsIdSetOf ids.now named
         → AllByRecursion (λ r. IsRowWithin r.n r.start) (filter (is_cancelled_in (scope_of scope.now) t named) rows.now)
@@ -174,7 +174,7 @@ fn is_error_in(row: &ErrorRow, scope: &Scope<'_>) -> bool
 }
 
 /// Whether a row of `cancelled` is in scope, where a batch needs this and a commit is of the writes with these ids.
-fn is_cancelled_in(row: &CancelledRow, scope: &Scope<'_>, needed: &Needed, ids: &IdSet) -> bool
+fn is_cancelled_in(row: &CancelledRow, scope: &Scope<'_>, needed: &Needed, ids: &WriteIdSet) -> bool
     ensures { (t : RowsOfTables) (named : List Id) → IsNeededIn needed.now (scope_of scope.now) t → IsIdSetOf ids.now named
         → result ≡ is_cancelled_in (scope_of scope.now) t named row.now }
 {

@@ -19,7 +19,7 @@ use Rattle.mr_replay.specs.Rows.{Rows}
 use Rattle.mr_tables.specs.Change.{ChangeView, changed}
 use Rattle.mr_tables.specs.Summary.{summary_of}
 use Rattle.mr_replica.specs.declared.desk_receive.Plan.{Plan}
-use Rattle.mr_replica.specs.declared.desk_receive.Replay.{Replay}
+use Rattle.mr_replica.specs.declared.desk_receive.ReplayedTail.{ReplayedTail}
 use Rattle.mr_kept.specs.declared.kept_rows.KeptRow.{KeptRow}
 use Rattle.mr_kept.specs.declared.movable.Movable.{Movable}
 use Rattle.mr_kept.specs.Desk.{DeskView, StandsFor, desk_of, nothing_taken, reply_with}
@@ -57,7 +57,7 @@ pub record IsPlanned (a b : Replica) (items : List Item) (m : BatchMoves a b ite
   pub was_are : plan.was.items ≡ map (taken_by (desk_of a).log.board) (again a items m.news b)
 
 -- the plan is carried out, on a board that is then that of the second replica
-pub record IsReplayed (a b : Replica) (items : List Item) (m : BatchMoves a b items) (board : Rows) (replay : Replay) : Type 0 where
+pub record IsReplayed (a b : Replica) (items : List Item) (m : BatchMoves a b items) (board : Rows) (replay : ReplayedTail) : Type 0 where
   pub again_are : replay.again.items ≡ again a items m.news b
   pub was_are : replay.was.items ≡ map (taken_by (desk_of a).log.board) (again a items m.news b)
   pub rows_are : replay.rows.items ≡ map (undo_with (place_of b)) (again a items m.news b)

@@ -30,7 +30,7 @@ use mr_kept::movable::{Movable, writes_anew};
 use mr_kept::named::Named;
 use mr_kept::picked::{Picked, picked_writes};
 use mr_kept::placing::{put_places, rewritten};
-use mr_kept::room_moves::{RoomMoves, replayed_in_rooms, undone_in_rooms};
+use mr_kept::room_moves::{MovesOfRooms, replayed_in_rooms, undone_in_rooms};
 use mr_kept::room_sets::unknown_rooms;
 use mr_kept::targets::{moved_targets, takers};
 use mr_replay::{Trial, UndoRow};
@@ -209,7 +209,7 @@ impl Desk {
 #[derive(Drop)]
 struct Plan {
     /// What is undone, by rooms.
-    undone: RoomMoves,
+    undone: MovesOfRooms,
     /// The writes that are executed anew, in the order of execution.
     again: Vec<Write>,
     /// The cancels that took back what they cancel.
@@ -218,7 +218,7 @@ struct Plan {
 
 /// What a batch led to in the rooms that it touches.
 #[derive(Drop)]
-struct Replay {
+struct ReplayedTail {
     /// The writes that were executed anew, in the order of execution.
     again: Vec<Write>,
     /// The cancels that took back what they cancel, before.
@@ -272,7 +272,7 @@ fn replace_tail(
     old: &Summary,
     commits: u64,
     movable: &Movable,
-    replay: Replay,
+    replay: ReplayedTail,
 ) -> Result<(), Refusal>
     requires { length replay.again.items ≡ length replay.rows.items }
     ensures changed { (a b : Replica) (items : List ItemOfBatch) (m : BatchMoves a b items) (board : Rows)
@@ -283,7 +283,7 @@ fn replace_tail(
     ensures only { IfErr result (λ e. e ≡ Refusal.OutOfMemory) }
 {
     let first = old.committed_len(log.kept());
-    let Replay {
+    let ReplayedTail {
         again,
         rows,
         was: _,
@@ -294,7 +294,7 @@ fn replace_tail(
 }
 
 /// Replays on the trial's board what the plan says.
-fn replayed(alloc: Global, trial: &mut Trial, plan: Plan) -> Result<Replay, Refusal>
+fn replayed(alloc: Global, trial: &mut Trial, plan: Plan) -> Result<ReplayedTail, Refusal>
     ensures replayed { (a b : Replica) (items : List ItemOfBatch) (m : BatchMoves a b items) → IsReplica a
         → trial.old.rows ≡ (desk_of a).log.board → IsPlanned a b items m plan → IfOk result (IsReplayed a b items m trial.new.rows) }
     ensures as_many { IfOk result (λ r. length r.again.items ≡ length r.rows.items) }
@@ -303,7 +303,7 @@ fn replayed(alloc: Global, trial: &mut Trial, plan: Plan) -> Result<Replay, Refu
 {
     let Plan { undone, again, was } = plan;
     let rows = replayed_in_rooms(alloc, trial, undone, &again)?;
-    Ok(Replay { again, was, rows })
+    Ok(ReplayedTail { again, was, rows })
 }
 
 /// What the replay changes in the tables of these numbers and rooms, where they become those that are reached: the rows of the
@@ -315,7 +315,7 @@ fn change_after(
     known: &[RoomName],
     summary: &Summary,
     rooms: &[RoomName],
-    replay: &Replay,
+    replay: &ReplayedTail,
 ) -> Result<Change, Refusal>
     requires { length replay.now.again.items ≡ length replay.now.rows.items }
     ensures turns { (a b : Replica) (items : List ItemOfBatch) (c : ReachedView) (t : BatchReaches (desk_of a) items c a b)

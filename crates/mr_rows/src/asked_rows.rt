@@ -13,7 +13,7 @@ ghost use Rattle.mr_rows.specs.Shown.{IsShownSo};
 ghost use Rattle.mr_rows.specs.Reads.{Looks, ReadsInUse};
 
 use crate::order::sort_rows;
-use crate::questions::Question;
+use crate::questions::RowQuestion;
 use crate::row_tests::RowTest;
 use crate::stored_rows::StoredRow;
 use sqlite::types::ValueRef;
@@ -79,7 +79,7 @@ pub(crate) fn add_shown<R: StoredRow, T: RowTest<R>, S: Alter>(
 }
 
 /// The rows that some question asks for, in any order and as often as they are asked for.
-fn all_answers<R: StoredRow, Q: Question<R>, S: Alter>(
+fn all_answers<R: StoredRow, Q: RowQuestion<R>, S: Alter>(
     conn: &mut Connection<S>,
     alloc: Global,
     questions: &[Q],
@@ -108,7 +108,7 @@ pub(crate) fn order_rows<R: StoredRow>(rows: &mut Vec<R>) -> Result<(), AllocErr
 }
 
 /// The rows that some question asks for, in the order of their keys.
-pub fn asked_rows<R: StoredRow, Q: Question<R>, S: Alter>(
+pub fn asked_rows<R: StoredRow, Q: RowQuestion<R>, S: Alter>(
     conn: &mut Connection<S>,
     alloc: Global,
     questions: &[Q],

@@ -30,7 +30,7 @@ mod whole;
 
 pub use log_stamps::{LogStamp, tentative_stamps};
 pub use passing::{LateRows, PassingRow, passing_rows, with_late_rows};
-pub use questions::{IdQuestion, NumberQuestion, Question};
+pub use questions::{IdQuestion, NumberQuestion, RowQuestion};
 pub use row_tests::RowTest;
 pub use stored_rows::{StoredRow, read_all};
 pub use table_rows::compare_ids;

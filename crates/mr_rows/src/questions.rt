@@ -26,7 +26,7 @@ use std::alloc::Global;
 use std::marker::Model;
 
 /// A question for some rows of a table, which one statement answers.
-pub trait Question<R: StoredRow> {
+pub trait RowQuestion<R: StoredRow> {
     // the rows that it asks for
     ghost asks: { Self → R → Bool };
 
@@ -99,7 +99,7 @@ fn add_between<S: Alter>(
     )
 }
 
-impl Question<LogRow> for NumberQuestion {
+impl RowQuestion<LogRow> for NumberQuestion {
     ghost asks = { is_log_between };
 
     fn ask<S: Alter>(&self, conn: &mut Connection<S>) -> Result<Vec<Row>, Error> {
@@ -131,7 +131,7 @@ impl Model for IdQuestion {
     ghost inverse = { λ v. record { server = v.server; n = v.n } };
 }
 
-impl Question<LogRow> for IdQuestion {
+impl RowQuestion<LogRow> for IdQuestion {
     ghost asks = { is_log_named };
 
     fn ask<S: Alter>(&self, conn: &mut Connection<S>) -> Result<Vec<Row>, Error> {
@@ -139,7 +139,7 @@ impl Question<LogRow> for IdQuestion {
     }
 }
 
-impl Question<BookingRow> for IdQuestion {
+impl RowQuestion<BookingRow> for IdQuestion {
     ghost asks = { is_booking_named };
 
     fn ask<S: Alter>(&self, conn: &mut Connection<S>) -> Result<Vec<Row>, Error> {
@@ -147,7 +147,7 @@ impl Question<BookingRow> for IdQuestion {
     }
 }
 
-impl Question<ErrorRow> for IdQuestion {
+impl RowQuestion<ErrorRow> for IdQuestion {
     ghost asks = { is_error_of };
 
     fn ask<S: Alter>(&self, conn: &mut Connection<S>) -> Result<Vec<Row>, Error> {
@@ -155,7 +155,7 @@ impl Question<ErrorRow> for IdQuestion {
     }
 }
 
-impl Question<CancelledRow> for IdQuestion {
+impl RowQuestion<CancelledRow> for IdQuestion {
     ghost asks = { is_cancelled_of };
 
     fn ask<S: Alter>(&self, conn: &mut Connection<S>) -> Result<Vec<Row>, Error> {
@@ -164,7 +164,7 @@ impl Question<CancelledRow> for IdQuestion {
 }
 
 /// For the bookings of this room.
-impl Question<BookingRow> for RoomName {
+impl RowQuestion<BookingRow> for RoomName {
     ghost asks = { is_booking_asked };
 
     fn ask<S: Alter>(&self, conn: &mut Connection<S>) -> Result<Vec<Row>, Error> {
@@ -189,7 +189,7 @@ impl Question<BookingRow> for RoomName {
 }
 
 /// For the cancelled bookings of this room.
-impl Question<CancelledRow> for RoomName {
+impl RowQuestion<CancelledRow> for RoomName {
     ghost asks = { is_cancelled_asked };
 
     fn ask<S: Alter>(&self, conn: &mut Connection<S>) -> Result<Vec<Row>, Error> {

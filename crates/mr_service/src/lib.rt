@@ -26,7 +26,7 @@ mod world_steps;
 mod worlds;
 
 pub use commands::{CalendarPart, Command, Local, SlotWords, Submission};
-pub use replies::{Booking, LogLine, Outcome, Reply};
+pub use replies::{LogLine, Outcome, Reply, ShownBooking};
 pub use runs::{run, run_over_lists};
 pub use services::Service;
 pub use steps::{Step, StepReply};

@@ -2,7 +2,7 @@ ghost use Rattle.std.specs.Prelude.{◌≡◌};
 ghost use Rattle.mr_model.specs.Queries.{booked_outcome, logged_outcome, cancelled_outcome, cancel_outcome};
 ghost use Rattle.mr_service.specs.Asked.{outcome_seen};
 
-use crate::replies::{Booking, Outcome};
+use crate::replies::{Outcome, ShownBooking};
 use mr_base::TimeOfDay;
 use mr_tables::{BookingRow, CancelRow, CancelledRow, ErrorRow};
 
@@ -10,7 +10,7 @@ use mr_tables::{BookingRow, CancelRow, CancelledRow, ErrorRow};
 pub(crate) fn booked(row: &BookingRow) -> Outcome
     ensures { outcome_seen result ≡ booked_outcome row.now }
 {
-    Outcome::Booked(Booking {
+    Outcome::Booked(ShownBooking {
         id: row.id(),
         is_committed: row.committed,
         day: row.day,

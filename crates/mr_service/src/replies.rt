@@ -58,7 +58,7 @@ pub enum LogLine {
 #[derive(Clone, Copy, Debug)]
 pub enum Outcome {
     /// It has the minutes of the day from `start` up to, not with, `stop`.
-    Booked(Booking),
+    Booked(ShownBooking),
     Logged {
         id: WriteId,
         is_committed: bool,
@@ -86,7 +86,7 @@ pub enum Outcome {
 
 /// The slot that a request has.
 #[derive(Clone, Copy, Debug)]
-pub struct Booking {
+pub struct ShownBooking {
     pub id: WriteId,
     pub is_committed: bool,
     pub day: Day,

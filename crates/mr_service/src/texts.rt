@@ -141,7 +141,7 @@ fn push_outcome(text: &mut String, outcome: &Outcome) -> Result<(), AllocError>
 {
     match outcome {
         Outcome::Booked(booking) => {
-            let mark = Mark {
+            let mark = CommitMark {
                 is_committed: booking.is_committed,
             };
             let (id, day) = (booking.id, booking.day);
@@ -149,7 +149,7 @@ fn push_outcome(text: &mut String, outcome: &Outcome) -> Result<(), AllocError>
             write!(text, "{id} {mark} {day} {start}-{stop}\n")
         }
         Outcome::Logged { id, is_committed } => {
-            let mark = Mark {
+            let mark = CommitMark {
                 is_committed: *is_committed,
             };
             write!(text, "{id} {mark} logged\n")
@@ -201,7 +201,7 @@ fn push_cancel(
     ensures { OnOk result (string_bytes text.new ≡ string_bytes text.old
         ++ line (words (id_text id ∷ replies.mark is_committed ∷ word.now ∷ id_text target ∷ []))) }
 {
-    let mark = Mark { is_committed };
+    let mark = CommitMark { is_committed };
     write!(text, "{id} {mark} {word} {target}\n")
 }
 
@@ -260,7 +260,7 @@ fn push_sheet_row(text: &mut String, row: &BookingRow) -> Result<(), AllocError>
     ensures { OnOk result (string_bytes text.new ≡ string_bytes text.old ++ line (sheet_line (row_entry row.now))) }
 {
     let (start, stop) = (TimeOfDay::new(row.start), TimeOfDay::new(row.stop));
-    let mark = Mark {
+    let mark = CommitMark {
         is_committed: row.committed,
     };
     let (id, title) = (row.id(), row.title.as_str());
@@ -287,7 +287,7 @@ fn push_log_line(text: &mut String, line: &LogLine) -> Result<(), AllocError>
 fn push_void_row(text: &mut String, row: &CancelRow) -> Result<(), AllocError>
     ensures { OnOk result (string_bytes text.new ≡ string_bytes text.old ++ line (logging_line (line_logging (OfVoid row.now)))) }
 {
-    let mark = Mark {
+    let mark = CommitMark {
         is_committed: row.seq != 0,
     };
     let (id, target) = (row.id(), row.target);
@@ -297,7 +297,7 @@ fn push_void_row(text: &mut String, row: &CancelRow) -> Result<(), AllocError>
 fn push_error_row(text: &mut String, row: &ErrorRow) -> Result<(), AllocError>
     ensures { OnOk result (string_bytes text.new ≡ string_bytes text.old ++ line (logging_line (row_logging row.now))) }
 {
-    let mark = Mark {
+    let mark = CommitMark {
         is_committed: row.seq != 0,
     };
     let day = row.day;
@@ -317,11 +317,11 @@ fn part_name(part: CalendarPart) -> &'static str
 
 // Whether a write is committed, as it is shown.
 #[derive(Clone, Copy)]
-struct Mark {
+struct CommitMark {
     is_committed: bool,
 }
 
-impl fmt::Display for Mark {
+impl fmt::Display for CommitMark {
     ghost use Rattle.std.specs.Prelude.{Some};
     ghost use Rattle.mr_model.specs.Replies as replies;
 

@@ -1,13 +1,13 @@
 // The tables of a replica as those of the first schema.
 
 use mr_base::Refusal;
-use mr_first::{First, UndoRow, WriteRow};
+use mr_first::{First, FirstUndoRow, WriteRow};
 use mr_store::Keeper;
 use mr_tables::{ActionCells, LogRow, Tables};
 use std::alloc::Global;
 
 /// The rows of a write in `write_log` and in `undo`. A cancel has none.
-fn first_rows(row: LogRow) -> Result<(WriteRow, UndoRow), Refusal> {
+fn first_rows(row: LogRow) -> Result<(WriteRow, FirstUndoRow), Refusal> {
     let LogRow {
         server,
         n,
@@ -27,14 +27,17 @@ fn first_rows(row: LogRow) -> Result<(WriteRow, UndoRow), Refusal> {
                 meeting,
                 seq,
             };
-            Ok((write, UndoRow { server, n, place }))
+            Ok((write, FirstUndoRow { server, n, place }))
         }
         ActionCells::OfCancel(_) => Err(Refusal::NeedsVersion2),
     }
 }
 
 /// The rows of all of them.
-fn both_logs(alloc: Global, log: Vec<LogRow>) -> Result<(Vec<WriteRow>, Vec<UndoRow>), Refusal> {
+fn both_logs(
+    alloc: Global,
+    log: Vec<LogRow>,
+) -> Result<(Vec<WriteRow>, Vec<FirstUndoRow>), Refusal> {
     let mut writes = Vec::new(alloc);
     let mut undo = Vec::new(alloc);
     for row in log {

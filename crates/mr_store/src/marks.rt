@@ -31,15 +31,15 @@ impl Model for Mark {
 
 /// What marks are asked for: the number of a room, and that of a day where that one alone is asked for.
 #[derive(Drop)]
-struct Asked {
+struct AskedMark {
     day: Option<u32>,
     room: u32,
 }
 
-impl Model for Asked {
-    ghost use Rattle.mr_store.specs.Marks.{AskedMark};
+impl Model for AskedMark {
+    ghost use Rattle.mr_store.specs.Marks.{AskedMark as MarkAsked};
 
-    ghost Value = { AskedMark };
+    ghost Value = { MarkAsked };
 
     ghost view = { λ a. record { day = a.day; room = a.room } };
 }
@@ -99,10 +99,10 @@ fn number(name: &RoomName) -> u32
 }
 
 /// What the marks of the bookings of a room on these days are asked for.
-fn asked_for(room: &RoomName, days: &Days) -> Asked
+fn asked_for(room: &RoomName, days: &Days) -> AskedMark
     ensures { result ≡ asked_mark room.now days.now }
 {
-    Asked {
+    AskedMark {
         day: match days {
             Days::One(day) => Some(number_of_day(day)),
             Days::All | Days::Several(_) => None,
@@ -142,7 +142,7 @@ fn pick_block(
     picked: &mut Vec<BookingRow>,
     rows: &[BookingRow],
     marks: &[Mark],
-    asked: &Asked,
+    asked: &AskedMark,
     room: &RoomName,
     days: &Days,
 ) -> Result<(), AllocError>
@@ -157,7 +157,7 @@ fn pick_block(
 }
 
 /// Whether one of the marks is asked for.
-fn has_asked(marks: &[Mark], asked: &Asked) -> bool
+fn has_asked(marks: &[Mark], asked: &AskedMark) -> bool
     ensures { result ≡ list_any (mark_test asked.now.day asked.now.room) marks.now }
 {
     match asked.day {

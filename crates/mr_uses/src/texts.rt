@@ -57,7 +57,7 @@ const BATCH: &str =
     "mr2 2 1\nW 2 1 1 oak 60 1995-12-18 13:30 0 Review\nW 2 2 2 oak 45 1995-12-18 16:00 0 Rota\nE\n";
 
 /// What server 2 has by then.
-const POSITION: &str = "mp2 2 1\nK 0\nV 2 2\nE\n";
+const POSITION_TEXT: &str = "mp2 2 1\nK 0\nV 2 2\nE\n";
 
 /// What is read of both texts.
 pub(crate) fn texts_told(alloc: Global) -> Result<Vec<u8>, Refusal> {
@@ -77,7 +77,7 @@ fn writes_read(alloc: Global) -> Result<(usize, usize), Refusal> {
 
 /// Of how many servers the position has writes.
 fn servers_read(alloc: Global) -> Result<usize, Refusal> {
-    let position = read_position(alloc, POSITION.as_bytes())?;
+    let position = read_position(alloc, POSITION_TEXT.as_bytes())?;
     let back = position_read_back(alloc, &position)?;
     Ok(back.counts.len())
 }

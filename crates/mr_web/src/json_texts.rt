@@ -11,7 +11,7 @@ ghost use Rattle.serde_json.specs.View.{view};
 ghost use Rattle.mr_web.specs.Plain.{IsPlain};
 
 use mr_base::{Day, Refusal, TimeOfDay, WriteId};
-use mr_service::{Booking, Outcome};
+use mr_service::{Outcome, ShownBooking};
 use serde_json::{Value, json};
 use std::alloc::{AllocError, Global};
 
@@ -190,7 +190,7 @@ fn logged_json(alloc: Global, id: WriteId, is_committed: bool) -> Result<String,
     logged_text(alloc, id.as_str(), mark_text(is_committed))
 }
 
-fn booked_json(alloc: Global, booking: &Booking) -> Result<String, AllocError>
+fn booked_json(alloc: Global, booking: &ShownBooking) -> Result<String, AllocError>
     ensures { IfOk result (λ s. string_bytes s ≡ model.outcome_json (outcome_seen (Outcome.Booked booking.now))) }
 {
     let day = day_text(alloc, booking.day)?;

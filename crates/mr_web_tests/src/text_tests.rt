@@ -7,7 +7,7 @@ use mr_base::{
     TimeOfDay, Title, Version, WriteId, read_minute,
 };
 use mr_service::{
-    Booking, CalendarPart, LogLine, Outcome, Reply, refusal_text, reply_text, sheet_text,
+    CalendarPart, LogLine, Outcome, Reply, ShownBooking, refusal_text, reply_text, sheet_text,
 };
 use mr_tables::{BookingRow, CancelRow, ErrorRow};
 use std::alloc::Global;
@@ -101,7 +101,7 @@ fn changes_are_told(rt: HostRuntime) {
 }
 
 fn booked() -> Result<Reply, Refusal> {
-    Ok(Reply::Outcome(Outcome::Booked(Booking {
+    Ok(Reply::Outcome(Outcome::Booked(ShownBooking {
         id: WriteId::read("1-1")?,
         is_committed: false,
         day: Day::read(DAY)?,

@@ -13,8 +13,8 @@ use Rattle.mr_model.proofs.BatchesReadBack.{read_reads}
 use Rattle.mr_base.specs.RefusalViews.{refusal_of}
 use Rattle.mr_base.specs.declared.refusals.Refusal.{Refusal}
 use Rattle.mr_base.specs.declared.refusals.Refusal.TheVariants.{OutOfMemory}
-use Rattle.mr_wire.specs.declared.fault.Fault.{Fault}
-use Rattle.mr_wire.specs.declared.fault.Fault.TheVariants as faults
+use Rattle.mr_wire.specs.declared.fault.LineFault.{LineFault}
+use Rattle.mr_wire.specs.declared.fault.LineFault.TheVariants as faults
 use Rattle.mr_wire.specs.Words.{cut}
 use Rattle.mr_model.specs.Positions.{Count}
 use Rattle.mr_wire.specs.Fields.{◌>>=◌, slot_off, slots_off, parse_count, no_more, with_counts, counts_until_end}
@@ -97,7 +97,7 @@ module _ (v : Version) (front : List Item) (k : ℕ) (rest line behind : Text) (
   pub body_ends : (ending : Ending) → read_body_line v line ≡ Some (LastLine ending) → with_front front (read_end ending (k + 1) (whole_lines behind)) ≡ total
   body_ends ending e = by_first (Some (LastLine ending)) e
 
-  pub body_refused : (fault : Fault) → Fails fault (read_body_line v line) → (total ≡ Err (refusal_of (refusal_at (k + 1) fault))) ⊎ (refusal_at (k + 1) fault ≡ OutOfMemory)
+  pub body_refused : (fault : LineFault) → Fails fault (read_body_line v line) → (total ≡ Err (refusal_of (refusal_at (k + 1) fault))) ⊎ (refusal_at (k + 1) fault ≡ OutOfMemory)
   body_refused faults.NotALine e = inl (sym (by_first None e))
   body_refused faults.OutOfMemory e = inr refl
 

@@ -6,8 +6,8 @@ use Rattle.mr_base.specs.RefusalViews.{refusal_of}
 use Rattle.mr_base.specs.Batches.{item_of, ending_seen}
 use Rattle.mr_base.specs.declared.refusals.Refusal.{Refusal}
 use Rattle.mr_base.specs.declared.refusals.Refusal.TheVariants.{OutOfMemory, BadLine}
-use Rattle.mr_wire.specs.declared.fault.Fault.{Fault}
-use Rattle.mr_wire.specs.declared.fault.Fault.TheVariants as faults
+use Rattle.mr_wire.specs.declared.fault.LineFault.{LineFault}
+use Rattle.mr_wire.specs.declared.fault.LineFault.TheVariants as faults
 use Rattle.mr_base.specs.declared.batches.Item.{Item}
 use Rattle.mr_base.specs.declared.batches.Ending.{Ending}
 
@@ -40,6 +40,6 @@ with_front front (Ok body) = Ok (front ++ body.0, body.1)
 with_front front (Err e) = Err e
 
 -- the refusal of a fault on the line of this number
-abbrev pub refusal_at : ℕ → Fault → Refusal
+abbrev pub refusal_at : ℕ → LineFault → Refusal
 refusal_at number faults.NotALine = BadLine number
 refusal_at number faults.OutOfMemory = OutOfMemory

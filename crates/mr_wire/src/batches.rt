@@ -7,7 +7,7 @@ ghost use Rattle.mr_base.specs.Versions.{version_of};
 ghost use Rattle.mr_wire.specs.BatchAnswers.{GivesDue, IsDue, GivesSeen, IsRefusedFor, body_seen, with_front, refusal_at};
 
 use crate::bad_lines::first_bad_line;
-use crate::fault::Fault;
+use crate::fault::LineFault;
 use crate::lines::{Line, read_header, read_line};
 use crate::words::first_line;
 use mr_base::{Batch, Ending, Item, Refusal, Version};
@@ -103,11 +103,11 @@ fn end_body(
     }
 }
 
-fn refuse(fault: Fault, number: u64) -> Refusal
+fn refuse(fault: LineFault, number: u64) -> Refusal
     ensures { result ≡ refusal_at number fault }
 {
     match fault {
-        Fault::NotALine => Refusal::BadLine(number),
-        Fault::OutOfMemory => Refusal::OutOfMemory,
+        LineFault::NotALine => Refusal::BadLine(number),
+        LineFault::OutOfMemory => Refusal::OutOfMemory,
     }
 }

@@ -6,7 +6,7 @@ ghost use Rattle.mr_model.specs.Writes.{is_room_name};
 ghost use Rattle.mr_wire.specs.Fields.{number_off, stamp_off, front_off, slot_off, slots_off, choices_off, server_and, parse_id, behind_word};
 ghost use Rattle.mr_wire.specs.LineAnswers.{GivesRead};
 
-use crate::fault::Fault;
+use crate::fault::LineFault;
 use crate::words::first_word;
 use mr_base::{
     Alternatives, Day, GREATEST_COUNT, GREATEST_SERVER, GREATEST_TIME, ServerId, Slot, Stamp,
@@ -101,7 +101,7 @@ pub(crate) fn slots_off(
     alloc: Global,
     count: u64,
     text: &str,
-) -> Result<(Alternatives, &str), Fault>
+) -> Result<(Alternatives, &str), LineFault>
     ensures { GivesRead (λ x. (x.0, x.1.now)) result (slots_off count text.now) }
 {
     let mut slots = Vec::new(alloc);
@@ -112,7 +112,7 @@ pub(crate) fn slots_off(
                 slots.push(taken.0)?;
                 rest = taken.1;
             }
-            None => return Err(Fault::NotALine),
+            None => return Err(LineFault::NotALine),
         }
     }
     Ok((Alternatives::from_vec(slots), rest))
@@ -124,14 +124,14 @@ pub(crate) fn choices_off(
     alloc: Global,
     most: u64,
     text: &str,
-) -> Result<((Slot, Alternatives), &str), Fault>
+) -> Result<((Slot, Alternatives), &str), LineFault>
     ensures { GivesRead (λ x. (x.0, x.1.now)) result (choices_off most text.now) }
 {
     let Some((wish, rest)) = slot_off(text) else {
-        return Err(Fault::NotALine);
+        return Err(LineFault::NotALine);
     };
     let Some((count, rest)) = number_off(rest, 0, most) else {
-        return Err(Fault::NotALine);
+        return Err(LineFault::NotALine);
     };
     let (alternatives, title) = slots_off(alloc, count, rest)?;
     Ok(((wish, alternatives), title))

@@ -7,7 +7,7 @@ ghost use Rattle.mr_wire.specs.Fields.{booking_with, parse_booking, cancel_parts
 ghost use Rattle.mr_wire.specs.Lines.{line_seen, heading_seen};
 ghost use Rattle.mr_wire.specs.LineAnswers.{GivesRead};
 
-use crate::fault::Fault;
+use crate::fault::LineFault;
 use crate::fields::{choices_off, front_off, id_of, number_off};
 use crate::versions::{batch_word, most_alternatives, servers_under};
 use crate::words::first_word;
@@ -27,31 +27,31 @@ fn booking_with(
     wish: Slot,
     alternatives: Alternatives,
     title: &str,
-) -> Result<Write, Fault>
+) -> Result<Write, LineFault>
     requires { IsTrue (is_room_name room.now) }
     ensures { GivesRead (λ w. w) result (booking_with stamp room.now length wish alternatives title.now) }
 {
     if !is_title_text(title.as_bytes()) {
-        return Err(Fault::NotALine);
+        return Err(LineFault::NotALine);
     }
     let room = RoomName::make(alloc, room)?;
     let title = Title::make(alloc, title)?;
     match Write::new(stamp, room, title, length, wish, alternatives) {
         Ok(write) => Ok(write),
-        Err(_) => Err(Fault::NotALine),
+        Err(_) => Err(LineFault::NotALine),
     }
 }
 
 /// The booking on a line, of which this stands behind the `W` and its space.
 #[tactic(auto, using(std::proofs::lemmas::Bool::Decides::nat_tests), unfolding(crate::specs::Fields::parse_booking))]
-fn booking_of(alloc: Global, version: Version, text: &str) -> Result<Write, Fault>
+fn booking_of(alloc: Global, version: Version, text: &str) -> Result<Write, LineFault>
     ensures { GivesRead (λ w. w) result (parse_booking (version_of version) text.now) }
 {
     let Some((stamp, room, rest)) = front_off(text) else {
-        return Err(Fault::NotALine);
+        return Err(LineFault::NotALine);
     };
     let Some((length, rest)) = number_off(rest, 1, MINUTES_OF_A_DAY as u64) else {
-        return Err(Fault::NotALine);
+        return Err(LineFault::NotALine);
     };
     let most = most_alternatives(version);
     let ((wish, alternatives), title) = choices_off(alloc, most, rest)?;
@@ -72,20 +72,20 @@ pub(crate) fn cancel_parts(text: &str) -> Option<(Stamp, &str, WriteId)>
 }
 
 /// The cancel on a line, of which this stands behind the `X` and its space. The first version has none.
-fn cancel_of(alloc: Global, version: Version, text: &str) -> Result<Write, Fault>
+fn cancel_of(alloc: Global, version: Version, text: &str) -> Result<Write, LineFault>
     ensures { GivesRead (λ w. w) result (parse_cancel (version_of version) text.now) }
 {
     match version {
-        Version::First => Err(Fault::NotALine),
+        Version::First => Err(LineFault::NotALine),
         Version::Second => cancel_on(alloc, text),
     }
 }
 
-fn cancel_on(alloc: Global, text: &str) -> Result<Write, Fault>
+fn cancel_on(alloc: Global, text: &str) -> Result<Write, LineFault>
     ensures { GivesRead (λ w. w) result (parse_cancel Second text.now) }
 {
     let Some((stamp, room, target)) = cancel_parts(text) else {
-        return Err(Fault::NotALine);
+        return Err(LineFault::NotALine);
     };
     let room = RoomName::make(alloc, room)?;
     Ok(Write::cancel(stamp, room, target))
@@ -129,7 +129,7 @@ pub(crate) enum Line {
 }
 
 #[tactic(auto, unfolding(crate::specs::Fields::worded_line))]
-fn worded_line(alloc: Global, version: Version, word: &str, rest: &str) -> Result<Line, Fault>
+fn worded_line(alloc: Global, version: Version, word: &str, rest: &str) -> Result<Line, LineFault>
     ensures { GivesRead line_seen result (worded_line (version_of version) word.now rest.now) }
 {
     if word == "W" {
@@ -143,14 +143,14 @@ fn worded_line(alloc: Global, version: Version, word: &str, rest: &str) -> Resul
     if word == "C" {
         return match commit_of(rest) {
             Some(commit) => Ok(Line::Item(commit)),
-            None => Err(Fault::NotALine),
+            None => Err(LineFault::NotALine),
         };
     }
-    Err(Fault::NotALine)
+    Err(LineFault::NotALine)
 }
 
 #[tactic(auto, unfolding(crate::specs::Fields::bare_line))]
-fn bare_line(text: &str) -> Result<Line, Fault>
+fn bare_line(text: &str) -> Result<Line, LineFault>
     ensures { GivesRead line_seen result (bare_line text.now) }
 {
     if text == "E" {
@@ -159,10 +159,10 @@ fn bare_line(text: &str) -> Result<Line, Fault>
     if text == "M" {
         return Ok(Line::Last(Ending::More));
     }
-    Err(Fault::NotALine)
+    Err(LineFault::NotALine)
 }
 
-fn line_of(alloc: Global, version: Version, text: &str) -> Result<Line, Fault>
+fn line_of(alloc: Global, version: Version, text: &str) -> Result<Line, LineFault>
     ensures { GivesRead line_seen result (parse_line (version_of version) text.now) }
 {
     match first_word(text) {
@@ -172,11 +172,11 @@ fn line_of(alloc: Global, version: Version, text: &str) -> Result<Line, Fault>
 }
 
 /// A line below a header of this version: a booking, a cancel, a commit or a last line.
-pub(crate) fn read_line(alloc: Global, version: Version, line: &[u8]) -> Result<Line, Fault>
+pub(crate) fn read_line(alloc: Global, version: Version, line: &[u8]) -> Result<Line, LineFault>
     ensures { GivesRead line_seen result (read_body_line (version_of version) line.now) }
 {
     match str::from_utf8(line) {
         Ok(text) => line_of(alloc, version, text),
-        Err(_) => Err(Fault::NotALine),
+        Err(_) => Err(LineFault::NotALine),
     }
 }

@@ -9,7 +9,7 @@ ghost use Rattle.mr_wire.specs.Fields.{servers_of as servers_read, parse_commits
 ghost use Rattle.mr_wire.specs.LineAnswers.{GivesRead};
 
 use crate::bad_positions::is_position_text;
-use crate::fault::Fault;
+use crate::fault::LineFault;
 use crate::fields::{behind_word, server_and};
 use crate::versions::{position_word, servers_under};
 use crate::words::first_line_of_text;
@@ -36,21 +36,21 @@ fn position_or_refusal(alloc: Global, bytes: &[u8]) -> Result<Position, Refusal>
 {
     match position_of(alloc, bytes) {
         Ok(position) => Ok(position),
-        Err(Fault::OutOfMemory) if is_position_text(bytes) => Err(Refusal::OutOfMemory),
+        Err(LineFault::OutOfMemory) if is_position_text(bytes) => Err(Refusal::OutOfMemory),
         Err(_) => Err(Refusal::BadPosition),
     }
 }
 
-fn position_of(alloc: Global, bytes: &[u8]) -> Result<Position, Fault>
+fn position_of(alloc: Global, bytes: &[u8]) -> Result<Position, LineFault>
     ensures { GivesRead (λ p. p) result (read_position bytes.now) }
 {
     let Ok(text) = str::from_utf8(bytes) else {
-        return Err(Fault::NotALine);
+        return Err(LineFault::NotALine);
     };
     if ends_in_line(text) {
         position_of_lines(alloc, text)
     } else {
-        Err(Fault::NotALine)
+        Err(LineFault::NotALine)
     }
 }
 
@@ -63,25 +63,25 @@ pub(crate) fn ends_in_line(text: &str) -> bool
 
 /// The position on the lines of a text.
 #[tactic(auto, unfolding(crate::specs::Fields::position_on))]
-fn position_of_lines(alloc: Global, text: &str) -> Result<Position, Fault>
+fn position_of_lines(alloc: Global, text: &str) -> Result<Position, LineFault>
     ensures { GivesRead (λ p. p) result (position_on text.now) }
 {
     let Some((servers, rest)) = first_line_of_text(text) else {
-        return Err(Fault::NotALine);
+        return Err(LineFault::NotALine);
     };
     let Some((commits, rest)) = first_line_of_text(rest) else {
-        return Err(Fault::NotALine);
+        return Err(LineFault::NotALine);
     };
     let Some((version, server, primary)) = servers_in(servers) else {
-        return Err(Fault::NotALine);
+        return Err(LineFault::NotALine);
     };
     let Some(commits) = commits_in(commits) else {
-        return Err(Fault::NotALine);
+        return Err(LineFault::NotALine);
     };
     let counts = counts_in(alloc, rest)?;
     match Position::new(version, server, primary, commits, counts) {
         Some(position) => Ok(position),
-        None => Err(Fault::NotALine),
+        None => Err(LineFault::NotALine),
     }
 }
 
@@ -114,7 +114,7 @@ pub(crate) fn count_in(line: &str) -> Option<(ServerId, u32)>
 }
 
 /// The counts on the lines up to the last, which is `E`.
-fn counts_in(alloc: Global, text: &str) -> Result<Vec<(ServerId, u32)>, Fault>
+fn counts_in(alloc: Global, text: &str) -> Result<Vec<(ServerId, u32)>, LineFault>
     ensures { GivesRead (λ v. counts_of_pairs v.items) result (counts_until_end (whole_lines text.now)) }
 {
     let mut counts = Vec::new(alloc);
@@ -125,19 +125,19 @@ fn counts_in(alloc: Global, text: &str) -> Result<Vec<(ServerId, u32)>, Fault>
         }
         match count_in(line) {
             Some(count) => counts.push(count)?,
-            None => return Err(Fault::NotALine),
+            None => return Err(LineFault::NotALine),
         }
         rest = behind;
     }
-    Err(Fault::NotALine)
+    Err(LineFault::NotALine)
 }
 
 /// The counts, where no line is left.
-fn if_last(counts: Vec<(ServerId, u32)>, behind: &str) -> Result<Vec<(ServerId, u32)>, Fault>
+fn if_last(counts: Vec<(ServerId, u32)>, behind: &str) -> Result<Vec<(ServerId, u32)>, LineFault>
     ensures { GivesRead (λ v. counts_of_pairs v.items) result (with_counts (counts_of_pairs counts.items) (no_more (whole_lines behind.now))) }
 {
     match first_line_of_text(behind) {
         None => Ok(counts),
-        Some(_) => Err(Fault::NotALine),
+        Some(_) => Err(LineFault::NotALine),
     }
 }

@@ -10,9 +10,9 @@ use Rattle.mr_rows.proofs.asked_rows.all_answers.Goals as goal
 pub questions-init : goal.questions-init
 questions-init g c =
     let table = g.R.StoredRow.rows_of (tables_in (state g.S.Store c.args.conn.now).now.trees) in
-    let none = filter (is_row_asked g.Q.Question.asks []) table in (
+    let none = filter (is_row_asked g.Q.RowQuestion.asks []) table in (
       c.requires.autocommit,
-      uses_none {X = Unit {0}} (state g.S.Store c.args.conn.now) (tt {0}) (λ _. SameRows c.new-rows.result.items none) (subst (λ rows. SameRows rows none) (sym c.new-rows.ensures.items) (answers_none g.Q.Question.asks table)),
+      uses_none {X = Unit {0}} (state g.S.Store c.args.conn.now) (tt {0}) (λ _. SameRows c.new-rows.result.items none) (subst (λ rows. SameRows rows none) (sym c.new-rows.ensures.items) (answers_none g.Q.RowQuestion.asks table)),
     )
 
 pub returns-in_err-add-clause-reads : goal.returns-in_err-add-clause-reads
@@ -20,7 +20,7 @@ returns-in_err-add-clause-reads g c =
     let first = state g.S.Store c.args.conn.now in
     let now = state g.S.Store c.questions.conn in
     let next = state g.S.Store c.add.new.conn in
-    let asks = g.Q.Question.asks in
+    let asks = g.Q.RowQuestion.asks in
     let question = c.question-item.result in
     let so_far = SameRows c.questions.rows.items (filter (is_row_asked asks (take c.questions.question-index c.args.questions.now)) (g.R.StoredRow.rows_of (tables_in first.now.trees))) in
     let read =
@@ -35,7 +35,7 @@ questions-preserved g c =
     let first = state g.S.Store c.args.conn.now in
     let now = state g.S.Store c.questions.conn in
     let next = state g.S.Store c.add.new.conn in
-    let asks = g.Q.Question.asks in
+    let asks = g.Q.RowQuestion.asks in
     let question = c.question-item.result in
     let i = c.questions.question-index in
     let table = g.R.StoredRow.rows_of (tables_in first.now.trees) in
@@ -53,7 +53,7 @@ pub returns-clause-reads : goal.returns-clause-reads
 returns-clause-reads g c =
     let first = state g.S.Store c.args.conn.now in
     let now = state g.S.Store c.questions.conn in
-    let asks = g.Q.Question.asks in
+    let asks = g.Q.RowQuestion.asks in
     let i = c.questions.question-index in
     let table = g.R.StoredRow.rows_of (tables_in first.now.trees) in
     uses_made {X = Unit {0}} first now (tt {0}) (λ _. SameRows c.questions.rows.items (filter (is_row_asked asks (take i c.args.questions.now)) table)) (Ok c.questions.rows) (λ rows. SameRows rows.items (filter (is_row_asked asks c.args.questions.now) table))

@@ -11,4 +11,4 @@ abbrev pub invariant-questions : goal.invariant-questions
 invariant-questions g l =
     (l.conn.in_transaction ≡ false)
     × ReadsInUse {X = Unit {0}} (state g.S.Store l.fn.conn) (state g.S.Store l.conn) (Ok tt)
-    (λ _. SameRows l.rows.items (filter (is_row_asked g.Q.Question.asks (take l.question-index l.questions)) (g.R.StoredRow.rows_of (tables_in (state g.S.Store l.fn.conn).now.trees))))
+    (λ _. SameRows l.rows.items (filter (is_row_asked g.Q.RowQuestion.asks (take l.question-index l.questions)) (g.R.StoredRow.rows_of (tables_in (state g.S.Store l.fn.conn).now.trees))))

@@ -15,7 +15,7 @@ returns-in_err-order_rows-clause-reads g c = let read = c.in_ok-rows.ensures.rea
 pub returns-clause-reads : goal.returns-clause-reads
 returns-clause-reads g c =
     let old = state g.S.Store c.args.conn.now in
-    let p = is_row_asked g.Q.Question.asks c.args.questions.now in
+    let p = is_row_asked g.Q.RowQuestion.asks c.args.questions.now in
     let table = g.R.StoredRow.rows_of (tables_in old.now.trees) in
     uses_made old (state g.S.Store c.all_answers.new.conn) c.in_ok-rows.rows (λ rows. SameRows rows.items (filter p table)) (Ok c.order_rows.new.rows) (λ rows. rows.items ≡ filter p table)
     (λ held same. c.in_ok-order_rows.ensures old.now.trees p same) c.in_ok-rows.ensures.reads

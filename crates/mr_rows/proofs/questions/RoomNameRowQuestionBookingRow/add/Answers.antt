@@ -12,7 +12,7 @@ use Rattle.mr_rows.proofs.StreamedRows.{kept_looks}
 use Rattle.mr_rows.proofs.RowLemmas.{filter_all_true}
 use Rattle.mr_rows.proofs.StatementMeaning.{room_booking_text, room_booking_is}
 use Rattle.mr_rows.proofs.SelectLemmas.{shows_room_booking}
-use Rattle.mr_rows.proofs.questions.RoomNameQuestionBookingRow.add.Goals as goal
+use Rattle.mr_rows.proofs.questions.RoomNameRowQuestionBookingRow.add.Goals as goal
 
 pub add_shown-requires-clause-plain : goal.add_shown-requires-clause-plain
 add_shown-requires-clause-plain g c = room_booking_is.0.1

@@ -12,7 +12,7 @@ use Rattle.mr_rows.proofs.StreamedRows.{kept_looks}
 use Rattle.mr_rows.proofs.RowLemmas.{filter_all_true}
 use Rattle.mr_rows.proofs.StatementMeaning.{room_cancelled_text, room_cancelled_is}
 use Rattle.mr_rows.proofs.SelectLemmas.{shows_room_cancelled}
-use Rattle.mr_rows.proofs.questions.RoomNameQuestionCancelledRow.add.Goals as goal
+use Rattle.mr_rows.proofs.questions.RoomNameRowQuestionCancelledRow.add.Goals as goal
 
 pub add_shown-requires-clause-plain : goal.add_shown-requires-clause-plain
 add_shown-requires-clause-plain g c = room_cancelled_is.0.1

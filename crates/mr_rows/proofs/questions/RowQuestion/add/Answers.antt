@@ -5,12 +5,12 @@ use Rattle.sqlite.specs.Held.{state}
 use Rattle.mr_rows.specs.Database.{tables_in}
 use Rattle.mr_rows.proofs.AskedLemmas.{on_told, answer_added}
 use Rattle.mr_rows.proofs.QueryLemmas.{reads_made}
-use Rattle.mr_rows.proofs.questions.Question.add.Goals as goal
+use Rattle.mr_rows.proofs.questions.RowQuestion.add.Goals as goal
 
 pub returns-clause-reads : goal.returns-clause-reads
 returns-clause-reads g c =
     let old = state g.S.Store c.args.conn.now in
-    let asked = filter (g.Self.Question.asks c.args.self.now) (g.R.StoredRow.rows_of (tables_in old.now.trees)) in
+    let asked = filter (g.Self.RowQuestion.asks c.args.self.now) (g.R.StoredRow.rows_of (tables_in old.now.trees)) in
     let shown = map (λ row. g.R.StoredRow.form.row_in (Null ∷ row)) c.in_ok-rows.rows.items in
     let same : c.deref.result.now ≡ c.in_ok-rows.rows.items = c.deref.ensures.value in
     reads_made old (state g.S.Store c.ask.new.conn) c.in_ok-rows.rows (λ rows. IsPermutation asked (map (λ row. g.R.StoredRow.form.row_in (Null ∷ row)) rows.items)) c.add_rows.result _

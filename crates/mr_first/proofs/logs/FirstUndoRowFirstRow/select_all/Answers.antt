@@ -4,7 +4,7 @@ use Rattle.sqlite.specs.Held.{state}
 use Rattle.mr_first.proofs.FirstStatementMeaning.{all_undo_text, all_undo_is}
 use Rattle.mr_first.proofs.ReadLemmas.{looks_so}
 use Rattle.mr_first.proofs.Selects.{sees_undo}
-use Rattle.mr_first.proofs.logs.UndoRowFirstRow.select_all.Goals as goal
+use Rattle.mr_first.proofs.logs.FirstUndoRowFirstRow.select_all.Goals as goal
 
 pub ask_first-requires-clause-plain : goal.ask_first-requires-clause-plain
 ask_first-requires-clause-plain g c = all_undo_is.0.1

@@ -8,7 +8,7 @@ use Rattle.mr_first.proofs.FirstStatementMeaning.{put_undo_text}
 use Rattle.mr_first.specs.FirstDatabase.{MakesFirst, first_in}
 use Rattle.mr_first.specs.FirstParts.{put_undo}
 use Rattle.mr_first.proofs.Statements.{makes_first, puts_undo}
-use Rattle.mr_first.proofs.logs.UndoRowFirstRow.put.Goals as goal
+use Rattle.mr_first.proofs.logs.FirstUndoRowFirstRow.put.Goals as goal
 
 pub returns-clause-put : goal.returns-clause-put
 returns-clause-put g c =
