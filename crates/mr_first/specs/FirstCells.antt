@@ -6,12 +6,12 @@ use Rattle.mr_model.specs.Writes.{is_server, is_room_name, is_title}
 use Rattle.mr_model.specs.Replay.{Place, Taken, Logged, Done, Void}
 use Rattle.mr_model.specs.Tables.{MetaRow}
 use Rattle.mr_model.specs.First.{WriteRow, FirstUndoRow}
-use Rattle.mr_rows.specs.RowCells.{nat_of, whole_of, place_number, place_in}
+use Rattle.mr_rows.specs.RowCells.{meta_cells_of, nat_of, whole_of, place_number, place_in}
 use Rattle.mr_rows.specs.RowLimits.{is_small}
 
 -- the second cell is the number of the schema
 abbrev pub first_meta_cells : MetaRow → Row
-first_meta_cells m = Int (pos 1) ∷ Int (pos 1) ∷ Int (pos m.server) ∷ Int (pos m.primary) ∷ Int (pos m.commits) ∷ Int (pos m.dropped) ∷ Int (pos m.clock) ∷ []
+first_meta_cells m = meta_cells_of 1 m
 
 abbrev pub write_cells : WriteRow → Row
 write_cells w = Int (pos w.server) ∷ Int (pos w.n) ∷ Int (pos w.time) ∷ Text w.room ∷ Int (pos w.length) ∷ Text w.choices ∷ Text w.title ∷ Int (pos w.seq) ∷ []

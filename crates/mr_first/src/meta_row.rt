@@ -1,44 +1,16 @@
-ghost use Rattle.std.specs.Prelude.{◌≡◌, ◌∷◌, false, map, IfOk, OnOk, IsTrue, Some};
+ghost use Rattle.std.specs.Prelude.{◌≡◌, ◌∷◌, false, map, IfOk, OnOk};
 ghost use Rattle.std.specs.List.{All};
 ghost use Rattle.sqlite_value.specs.declared.value.Value.TheVariants.{Null};
 ghost use Rattle.sqlite.specs.Held.{state};
 ghost use Rattle.mr_rows.specs.RowCells.{meta_in};
-ghost use Rattle.mr_rows.specs.RowLimits.{is_meta_row};
-ghost use Rattle.mr_rows.specs.Reads.{first_of};
-ghost use Rattle.mr_rows.specs.Shown.{columns_from, IsShownAs, listed};
-ghost use Rattle.mr_first.specs.FirstCells.{first_meta_cells};
+ghost use Rattle.mr_rows.specs.Shown.{IsShownAs, listed};
 ghost use Rattle.mr_first.specs.Forms.{first_meta_form};
 ghost use Rattle.mr_first.specs.FirstDatabase.{ReadsFirst, first_in};
 
 use crate::queries::select_all_meta;
-use mr_rows::cells::{read_server, read_u32, read_u64};
+use mr_rows::meta_row::{first_meta, read_meta_of};
 use mr_tables::MetaRow;
 use sqlite::{Alter, Connection, Error, Row};
-
-/// The row of `meta` of the first schema; its columns are counted from 0.
-fn read_meta(row: &Row) -> Result<MetaRow, Error>
-    ensures row { IfOk result (λ r. r ≡ meta_in (Null ∷ row.now)) }
-    ensures cells { IfOk result (λ r. first_meta_cells r ≡ columns_from 0 7 row.now) }
-    ensures within { IfOk result (λ r. IsTrue (is_meta_row r)) }
-{
-    let one = read_u32(row, 0)?;
-    let schema = read_u32(row, 1)?;
-    if one != 1 || schema != 1 {
-        return Err(Error::IntegralValueOutOfRange(0));
-    }
-    let server = read_server(row, 2)?;
-    let primary = read_server(row, 3)?;
-    let commits = read_u64(row, 4)?;
-    let dropped = read_u64(row, 5)?;
-    let clock = read_u64(row, 6)?;
-    Ok(MetaRow {
-        server,
-        primary,
-        commits,
-        dropped,
-        clock,
-    })
-}
 
 /// The row, if there is one. More than one are refused.
 pub(crate) fn only_meta(rows: &[Row]) -> Result<Option<MetaRow>, Error>
@@ -47,17 +19,8 @@ pub(crate) fn only_meta(rows: &[Row]) -> Result<Option<MetaRow>, Error>
 {
     match rows {
         [] => Ok(None),
-        [row] => Ok(Some(read_meta(row)?)),
+        [row] => Ok(Some(read_meta_of(row, 1)?)),
         _ => Err(Error::InvalidQuery),
-    }
-}
-
-fn first_meta(rows: &[Row]) -> Result<MetaRow, Error>
-    ensures { IfOk result (λ row. first_of (map (λ row. meta_in (Null ∷ row)) rows.now) ≡ Some row) }
-{
-    match rows.first() {
-        None => Err(Error::QueryReturnedNoRows),
-        Some(row) => read_meta(row),
     }
 }
 
@@ -68,5 +31,5 @@ pub(crate) fn the_meta<S: Alter>(conn: &mut Connection<S>) -> Result<MetaRow, Er
     ensures reads { ReadsFirst (state S.Store conn.old) (state S.Store conn.new) result (λ row. row ≡ (first_in (state S.Store conn.old).now.trees).meta) }
 {
     let rows = select_all_meta(conn)?;
-    first_meta(&rows)
+    first_meta(&rows, 1)
 }

@@ -16,7 +16,7 @@ pub mod cells;
 pub mod changes;
 pub mod found;
 mod log_stamps;
-mod meta_row;
+pub mod meta_row;
 pub mod numbers;
 mod order;
 mod passing;

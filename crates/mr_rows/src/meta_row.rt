@@ -1,7 +1,7 @@
 ghost use Rattle.std.specs.Prelude.{◌≡◌, ◌∷◌, false, map, IfOk, IsTrue, Some};
 ghost use Rattle.sqlite_value.specs.declared.value.Value.TheVariants.{Null};
 ghost use Rattle.sqlite.specs.Held.{state};
-ghost use Rattle.mr_rows.specs.RowCells.{meta_in, meta_cells};
+ghost use Rattle.mr_rows.specs.RowCells.{meta_in, meta_cells, meta_cells_of};
 ghost use Rattle.mr_rows.specs.RowLimits.{is_meta_row};
 ghost use Rattle.mr_rows.specs.Database.{tables_in};
 ghost use Rattle.mr_rows.specs.Reads.{ReadsKept, first_of};
@@ -18,9 +18,18 @@ pub(crate) fn read_meta(row: &Row) -> Result<MetaRow, Error>
     ensures cells { IfOk result (λ r. meta_cells r ≡ columns_from 0 7 row.now) }
     ensures within { IfOk result (λ r. IsTrue (is_meta_row r)) }
 {
+    read_meta_of(row, 2)
+}
+
+/// That of the schema of this number.
+pub fn read_meta_of(row: &Row, schema: u32) -> Result<MetaRow, Error>
+    ensures row { IfOk result (λ r. r ≡ meta_in (Null ∷ row.now)) }
+    ensures cells { IfOk result (λ r. meta_cells_of schema r ≡ columns_from 0 7 row.now) }
+    ensures within { IfOk result (λ r. IsTrue (is_meta_row r)) }
+{
     let one = read_u32(row, 0)?;
-    let schema = read_u32(row, 1)?;
-    if one != 1 || schema != 2 {
+    let told = read_u32(row, 1)?;
+    if one != 1 || told != schema {
         return Err(Error::IntegralValueOutOfRange(0));
     }
     let server = read_server(row, 2)?;
@@ -37,12 +46,13 @@ pub(crate) fn read_meta(row: &Row) -> Result<MetaRow, Error>
     })
 }
 
-fn first_meta(rows: &[Row]) -> Result<MetaRow, Error>
+/// The first of these rows, under the schema of this number.
+pub fn first_meta(rows: &[Row], schema: u32) -> Result<MetaRow, Error>
     ensures { IfOk result (λ row. first_of (map (λ row. meta_in (Null ∷ row)) rows.now) ≡ Some row) }
 {
     match rows.first() {
         None => Err(Error::QueryReturnedNoRows),
-        Some(row) => read_meta(row),
+        Some(row) => read_meta_of(row, schema),
     }
 }
 
@@ -53,5 +63,5 @@ pub(crate) fn the_meta<S: Alter>(conn: &mut Connection<S>) -> Result<MetaRow, Er
     ensures reads { ReadsKept (state S.Store conn.old) (state S.Store conn.new) result (λ row. row ≡ (tables_in (state S.Store conn.old).now.trees).meta) }
 {
     let rows = select_all_meta(conn)?;
-    first_meta(&rows)
+    first_meta(&rows, 2)
 }
