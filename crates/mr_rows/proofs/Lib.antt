@@ -12,6 +12,7 @@ pub mod QueryLemmas
 pub mod StreamedRows
 pub mod FirstLemmas
 pub mod AskedLemmas
+pub mod AddedRows
 pub mod SelectLemmas
 pub mod SortLemmas
 pub mod FoundLemmas

@@ -1,19 +1,15 @@
-use Rattle.std.proofs.Common.{◌≡◌, refl, subst, rules, ◌&&◌, ◌∷◌, ◌++◌, [], map, filter, pos, Bool}
-use Rattle.std.specs.Prelude.{nat_le}
+use Rattle.std.proofs.Common.{refl, subst, rules, ◌&&◌, ◌∷◌, [], filter, pos, Bool}
+use Rattle.std.specs.Prelude.{nat_le, bytes_eq}
 use Rattle.std.specs.Option.{option_copied}
-use Rattle.std.specs.List.Sorted.{IsPermutation}
-use Rattle.sqlite_value.specs.declared.value.Value.TheVariants.{Null, Int, Text}
-use Rattle.sqlite_trees.proofs.ListLemmas.{IsPermutation-filter}
+use Rattle.sqlite_value.specs.declared.value.Value.TheVariants.{Int, Text}
 use Rattle.sqlite.specs.Held.{state}
-use Rattle.mr_model.specs.Changes.{SameRows}
 use Rattle.mr_model.specs.Tables.{LogRow}
 use Rattle.mr_rows.specs.RowCells.{log_in}
 use Rattle.mr_rows.specs.RowQuestions.{is_late_row, AllStandIn}
 use Rattle.mr_rows.specs.Database.{tables_in}
-use Rattle.mr_rows.specs.Shown.{IsShownSo}
-use Rattle.mr_rows.proofs.AskedLemmas.{answer_added, late_in_room}
-use Rattle.mr_rows.proofs.QueryLemmas.{survives_itself, reads_so}
-use Rattle.mr_rows.proofs.StreamedRows.{kept_looks}
+use Rattle.mr_rows.proofs.AddedRows.{shown_added}
+use Rattle.mr_rows.proofs.AskedLemmas.{late_in_room}
+use Rattle.mr_rows.proofs.QueryLemmas.{survives_itself}
 use Rattle.mr_rows.proofs.RowLemmas.{filter_both}
 use Rattle.mr_rows.proofs.StatementMeaning.{late_log_text, late_log_is, late_log_room_text, late_log_room_is}
 use Rattle.mr_rows.proofs.SelectLemmas.{shows_late_log, shows_late_log_room}
@@ -35,33 +31,24 @@ pub returns-in-Some-clause-reads : goal.returns-in-Some-clause-reads
 returns-in-Some-clause-reads g c =
     let old = state g.S.Store c.args.conn.now in
     let new = state g.S.Store c.add_shown.new.conn in
-    let before = c.args.out.now.items in
-    let after = c.add_shown.new.out.items in
     let late = c.args.late in
     let room = c.in-Some.room.now in
     let test = g.T.RowTest.passes c.args.test.now in
     let log = (tables_in old.now.trees).log in
-    reads_so old new c.add_shown.result (λ _. IsShownSo (λ rows. after ≡ before ++ filter test (map (λ row. log_in (Null ∷ row)) rows)) late_log_room_text (Text room ∷ Int (pos late.from) ∷ Int (pos late.to) ∷ []) old new) (λ _. SameRows after (before ++ filter (is_late_row late test) log))
-    (λ kept x told.
-    let shown = map (λ row. log_in (Null ∷ row)) told.0 in
     let all = subst (λ o. AllStandIn (λ (row : LogRow). row.room) (is_late_row late test) (option_copied o)) c.in-Some.is c.requires.of_room in
-    let passed = subst (λ rows. IsPermutation rows (filter test shown)) (late_in_room room late test all log) (IsPermutation-filter test _ _ (shows_late_log_room room late old new told.0 kept.ours told.1)) in
-    answer_added (filter (is_late_row late test) log) before (filter test shown) after passed told.2)
-    (kept_looks old new c.add_shown.result _ (rw (c.params-to_sql.ensures, c.params-to_sql-in-Some.ensures, c.params-to_sql-in-Some-2.ensures, c.as_str.ensures.text, c.in_ok-from.ensures.value, c.in_ok-to.ensures.value) at c.add_shown.ensures.looks))
+    let reached : LogRow → Bool = λ row. bytes_eq row.room room && (nat_le late.from row.time && nat_le row.seq late.to) in
+    shown_added log_in test late_log_room_text (Text room ∷ Int (pos late.from) ∷ Int (pos late.to) ∷ []) (filter reached log) (filter (is_late_row late test) log) c.args.out.now.items c.add_shown.new.out.items
+    old new c.add_shown.result (late_in_room room late test all log) (shows_late_log_room room late old new)
+    (rw (c.params-to_sql.ensures, c.params-to_sql-in-Some.ensures, c.params-to_sql-in-Some-2.ensures, c.as_str.ensures.text, c.in_ok-from.ensures.value, c.in_ok-to.ensures.value) at c.add_shown.ensures.looks)
 
 pub returns-in-None-clause-reads : goal.returns-in-None-clause-reads
 returns-in-None-clause-reads g c =
     let old = state g.S.Store c.args.conn.now in
     let new = state g.S.Store c.add_shown-in-None.new.conn in
-    let before = c.args.out.now.items in
-    let after = c.add_shown-in-None.new.out.items in
     let late = c.args.late in
     let test = g.T.RowTest.passes c.args.test.now in
     let log = (tables_in old.now.trees).log in
     let reached : LogRow → Bool = λ row. nat_le late.from row.time && nat_le row.seq late.to in
-    reads_so old new c.add_shown-in-None.result (λ _. IsShownSo (λ rows. after ≡ before ++ filter test (map (λ row. log_in (Null ∷ row)) rows)) late_log_text (Int (pos late.from) ∷ Int (pos late.to) ∷ []) old new) (λ _. SameRows after (before ++ filter (is_late_row late test) log))
-    (λ kept x told.
-    let shown = map (λ row. log_in (Null ∷ row)) told.0 in
-    let passed = subst (λ rows. IsPermutation rows (filter test shown)) (filter_both test reached log) (IsPermutation-filter test _ _ (shows_late_log late old new told.0 kept.ours told.1)) in
-    answer_added (filter (is_late_row late test) log) before (filter test shown) after passed told.2)
-    (kept_looks old new c.add_shown-in-None.result _ (rw (c.params-to_sql-in-None.ensures, c.params-to_sql-in-None-2.ensures, c.in_ok-from.ensures.value, c.in_ok-to.ensures.value) at c.add_shown-in-None.ensures.looks))
+    shown_added log_in test late_log_text (Int (pos late.from) ∷ Int (pos late.to) ∷ []) (filter reached log) (filter (is_late_row late test) log) c.args.out.now.items c.add_shown-in-None.new.out.items
+    old new c.add_shown-in-None.result (filter_both test reached log) (shows_late_log late old new)
+    (rw (c.params-to_sql-in-None.ensures, c.params-to_sql-in-None-2.ensures, c.in_ok-from.ensures.value, c.in_ok-to.ensures.value) at c.add_shown-in-None.ensures.looks)
