@@ -2,6 +2,7 @@
 
 use crate::changes::{TUESDAY, first_change, id, request};
 use crate::keepers::{Call, OF_BOTH_CHANGES, Place, answers, check, fault_of, opening, told};
+use crate::same::same;
 use mr_base::{Day, Position, Refusal, Request, WriteId};
 use mr_part::Scope;
 use mr_store::{Cached, Fault, Keeper, ListKeeper, Tripped};
@@ -42,8 +43,13 @@ fn refused<K: Keeper>(rt: &impl Abort, alloc: Global, keeper: &mut K, refusal: R
     for (index, call) in OF_ALL.iter().enumerate() {
         let first = answers(keeper, alloc, *call);
         if first != Ok(true) {
-            assert_eq!(rt; first, Err(refusal), "at {index}");
-            assert_eq!(rt; answers(keeper, alloc, *call), Ok(true), "at {index} again");
+            same(rt, &first, &Err(refusal), index);
+            same(
+                rt,
+                &answers(keeper, alloc, *call),
+                &Ok(true),
+                (index, "again"),
+            );
             count = count.saturating_add(1);
         }
     }
@@ -61,7 +67,7 @@ fn check_fault(rt: &impl Abort, alloc: Global, left: u64, fault: Fault) {
     let mut keeper = cached(rt, alloc, left, fault);
     let count = refused(rt, alloc, &mut keeper, Refusal::from(fault));
     let wanted = if left < 3 { 1 } else { 0 };
-    assert_eq!(rt; count, wanted, "a fault after {left} calls");
+    same(rt, &count, &wanted, left);
 }
 
 #[test]
@@ -110,9 +116,12 @@ fn faults<K: Keeper>(
 #[test]
 fn questions_ask_the_keeper_once(rt: HostRuntime) {
     let mut keeper = cached(&rt, rt.alloc(), 1, Fault::Store);
-    assert_eq!(rt;
-        faults(&mut keeper, rt.alloc()),
-        Ok((None, Some(Fault::Store)))
+    let faults = faults(&mut keeper, rt.alloc());
+    same(
+        &rt,
+        &faults,
+        &Ok((None, Some(Fault::Store))),
+        "two questions",
     );
 }
 
@@ -137,8 +146,6 @@ fn bookings_of_each_day_are_looked_at(rt: HostRuntime) {
     let alloc = rt.alloc();
     let mut keeper = Cached::new(alloc, opening(&rt, alloc));
     let tuesday = Day::read(TUESDAY).expect(&rt, "a day");
-    assert_eq!(rt;
-        slot_behind_first_change(&mut keeper, alloc),
-        Ok(Some((tuesday, 900)))
-    );
+    let slot = slot_behind_first_change(&mut keeper, alloc);
+    same(&rt, &slot, &Ok(Some((tuesday, 900))), "a booking");
 }

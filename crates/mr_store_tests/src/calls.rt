@@ -3,6 +3,7 @@
 use crate::desks::{
     Ask, Call, Line, NO_ERROR, NONE, NOTHING, Row, answer, check_cases, last_change, opening,
 };
+use crate::same::same;
 use crate::tables::Rows;
 use mr_base::Refusal;
 use mr_replay::Place;
@@ -580,7 +581,7 @@ fn broken_rows_are_not_believed(rt: HostRuntime) -> Result<(), Fail> {
     let mut desks = opening(rt.alloc())?;
     for (index, rows) in BROKEN.iter().enumerate() {
         let told = answer(rt.alloc(), &mut desks, 3, Call::Read(rows));
-        assert!(rt; matches!(told, Err(Refusal::Store)), "at {index}");
+        same(&rt, &matches!(told, Err(Refusal::Store)), &true, index);
     }
     Ok(())
 }
@@ -628,5 +629,5 @@ fn put_at_last(alloc: Global) -> Result<(Option<[Place; 2]>, bool), Refusal> {
 #[test]
 fn rows_are_put_in_the_order_of_execution(rt: HostRuntime) {
     let places = Some([Place::Taken(0), Place::Logged]);
-    assert!(rt; put_at_last(rt.alloc()) == Ok((places, true)));
+    same(&rt, &put_at_last(rt.alloc()), &Ok((places, true)), "rows");
 }

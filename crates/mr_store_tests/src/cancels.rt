@@ -4,6 +4,7 @@ use crate::calls::{OPENING, TAKEN_BACK};
 use crate::desks::{
     Ask, Call, Line, NO_ERROR, NONE, NOTHING, Put, Told, answer, batch, opening, puts,
 };
+use crate::same::same;
 use crate::tables::{Rows, tables};
 use mr_base::{Alternatives, Day, Item, Position, Refusal, Request, Slot, WriteId};
 use mr_part::{Part, Scope};
@@ -358,7 +359,7 @@ fn check_calls(rt: &impl Abort, alloc: Global, name: &str, rows: &[Row]) -> Resu
             Ok((told, None)) => *wanted == Ok(told),
             Err(refusal) => *wanted == Err(refusal),
         };
-        assert!(rt; is_so, "{name}, at {index}");
+        same(rt, &is_so, &true, (name, index));
     }
     Ok(())
 }
@@ -431,9 +432,11 @@ fn rows_on(alloc: Global, day: &str, other: Option<&str>) -> Result<[u64; 2], Re
 fn rows_of_a_submission_are_counted(rt: HostRuntime) {
     let (day, next) = ("1995-12-18", "1995-12-19");
     for (wish, other, count) in [(day, None, 1), (next, None, 0), (next, Some(day), 1)] {
-        assert!(rt;
-            rows_on(rt.alloc(), wish, other) == Ok([count, 0]),
-            "on {wish}"
+        same(
+            &rt,
+            &rows_on(rt.alloc(), wish, other),
+            &Ok([count, 0]),
+            wish,
         );
     }
 }
@@ -441,7 +444,7 @@ fn rows_of_a_submission_are_counted(rt: HostRuntime) {
 /// A commit's part has the row of the log and that of the booking that was taken back.
 #[test]
 fn rows_of_parts_are_counted(rt: HostRuntime) {
-    assert!(rt; counts(rt.alloc()) == Ok([2, 1, 0]));
+    same(&rt, &counts(rt.alloc()), &Ok([2, 1, 0]), "parts");
 }
 
 /// How many rows the part has for a batch with server 1's cancel of server 3's write, at this time.
@@ -457,6 +460,6 @@ fn rows_of_cancel(alloc: Global, time: u64) -> Result<u64, Refusal> {
 #[test]
 fn rows_of_a_received_cancel_are_counted(rt: HostRuntime) {
     for (time, count) in [(1, 3), (3, 2)] {
-        assert!(rt; rows_of_cancel(rt.alloc(), time) == Ok(count), "at {time}");
+        same(&rt, &rows_of_cancel(rt.alloc(), time), &Ok(count), time);
     }
 }

@@ -1,5 +1,6 @@
 // Each kind of row is copied. The memory is ample.
 
+use crate::same::same;
 use crate::tables::{Rows, tables};
 use mr_base::Refusal;
 use mr_replay::Place;
@@ -64,8 +65,8 @@ fn places_are_copied(alloc: Global, tables: &Tables) -> Result<bool, Refusal> {
 fn each_kind_of_row_is_copied(rt: HostRuntime) -> Result<(), Fail> {
     let alloc = rt.alloc();
     let tables = tables(alloc, &ONE_EACH)?;
-    assert!(rt; numbers_are_copied(alloc, &tables)?);
-    assert!(rt; logs_are_copied(alloc, &tables)?);
-    assert!(rt; places_are_copied(alloc, &tables)?);
+    same(&rt, &numbers_are_copied(alloc, &tables)?, &true, "numbers");
+    same(&rt, &logs_are_copied(alloc, &tables)?, &true, "writes");
+    same(&rt, &places_are_copied(alloc, &tables)?, &true, "places");
     Ok(())
 }

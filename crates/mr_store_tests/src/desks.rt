@@ -1,6 +1,7 @@
 // Calls of the desks of four servers, what each answers, and which rows it puts, as small values. The functions that call a
 // desk have no clause, so that the proof of a test does not carry the state of each call.
 
+use crate::same::same;
 use crate::tables::{Rows, tables};
 use mr_base::{
     Alternatives, Batch, CommitNumber, Day, Ending, Header, Item, LineCount, Position, Refusal,
@@ -274,7 +275,7 @@ fn check_calls(rt: &impl Abort, alloc: Global, name: &str, rows: &[Row]) -> Resu
             Ok((told, None)) => *wanted == Ok(told),
             Err(refusal) => *wanted == Err(refusal),
         };
-        assert!(rt; is_so, "{name}, at {index}");
+        same(rt, &is_so, &true, (name, index));
     }
     Ok(())
 }

@@ -2,6 +2,7 @@
 // a test does not carry the state of each call.
 
 use crate::changes::{MONDAY, first_change, id, request, second_change, server, tables};
+use crate::same::same;
 use mr_base::{Day, Position, Refusal, Request, RoomName, WriteId};
 use mr_part::Scope;
 use mr_store::{Fault, Keeper, ListKeeper, PlaceRow, Tripped};
@@ -234,7 +235,7 @@ pub(crate) fn answers<K: Keeper>(
 /// The keeper, asked one call after the other, answers so.
 pub(crate) fn check<K: Keeper>(rt: &impl Abort, alloc: Global, keeper: &mut K, calls: &[Call]) {
     for (index, call) in calls.iter().enumerate() {
-        assert_eq!(rt; answers(keeper, alloc, *call), Ok(true), "at {index}");
+        same(rt, &answers(keeper, alloc, *call), &Ok(true), index);
     }
 }
 
@@ -265,7 +266,12 @@ fn a_new_keeper_knows_nothing(rt: HostRuntime) {
 #[test]
 fn a_new_keeper_has_a_desk(rt: HostRuntime) {
     let mut keeper = opening(&rt, rt.alloc());
-    assert!(rt; has_first_position(&mut keeper) == Ok(true));
+    same(
+        &rt,
+        &has_first_position(&mut keeper),
+        &Ok(true),
+        "a position",
+    );
 }
 
 static OF_THE_FIRST_CHANGE: [Call; 20] = [
@@ -322,7 +328,12 @@ fn check_refused<K: Keeper>(
     call: Call,
     refusal: Refusal,
 ) {
-    assert_eq!(rt; answers(keeper, alloc, call), Err(refusal));
+    same(
+        rt,
+        &answers(keeper, alloc, call),
+        &Err(refusal),
+        "a refusal",
+    );
 }
 
 static OF_THE_ROOMS: [Call; 1] = [Call::Rooms(&["elm", "oak"])];
@@ -401,7 +412,7 @@ fn each_call_trips_once(rt: HostRuntime) {
     let change = first_change(alloc).expect(&rt, "a change");
     for call in 0..10 {
         let faults = faults_of(&rt, alloc, call, &request, &change);
-        assert_eq!(rt; faults, Ok((Some(Fault::Store), None)), "at call {call}");
+        same(&rt, &faults, &Ok((Some(Fault::Store), None)), call);
     }
 }
 
@@ -428,6 +439,6 @@ fn rows_past_their_limits_are_the_stores_fault(rt: HostRuntime) {
     let both = (Some(Fault::Store), Some(Fault::Store));
     for (commits, count) in [(1_000_000_000_000, 0), (0, 1_000_000_000)] {
         let faults = faults_of_loads(rt.alloc(), commits, count);
-        assert_eq!(rt; faults, Ok(both), "at {commits} and {count}");
+        same(&rt, &faults, &Ok(both), (commits, count));
     }
 }

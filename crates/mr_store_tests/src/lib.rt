@@ -22,4 +22,6 @@ mod many;
 #[cfg(test)]
 mod parts;
 #[cfg(test)]
+mod same;
+#[cfg(test)]
 mod tables;

@@ -2,6 +2,7 @@
 
 use crate::changes::{Booked, MONDAY, bookings, id, logged, meta, no_change};
 use crate::keepers::{opening, told};
+use crate::same::same;
 use mr_base::{Day, Refusal, RoomName};
 use mr_store::{Cached, Keeper, PlaceRow};
 use mr_tables::{BookingRow, Change, ErrorRow};
@@ -127,5 +128,10 @@ fn many_changes_are_remembered(rt: HostRuntime) {
     let alloc = rt.alloc();
     let mut lists = opening(&rt, alloc);
     let mut both = Cached::new(alloc, opening(&rt, alloc));
-    assert!(rt; are_alike(&mut both, &mut lists, alloc) == Ok(true));
+    same(
+        &rt,
+        &are_alike(&mut both, &mut lists, alloc),
+        &Ok(true),
+        "many",
+    );
 }

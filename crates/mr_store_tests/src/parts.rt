@@ -2,6 +2,7 @@
 
 use crate::calls::KEPT;
 use crate::desks::{Ask, Line, NO_ERROR, NONE, NOTHING, Put, Told, batch, puts};
+use crate::same::same;
 use crate::tables::{Rows, tables};
 use mr_base::{Batch, Position, Refusal};
 use mr_part::{Part, Scope};
@@ -55,7 +56,7 @@ fn check_parts(rt: &impl Abort, alloc: Global) -> Result<(), Fail> {
             Ok((told, change)) => *wanted == Ok(told) && puts(&change, *put),
             Err(refusal) => *wanted == Err(refusal),
         };
-        assert!(rt; is_so, "at {index}");
+        same(rt, &is_so, &true, index);
     }
     Ok(())
 }

@@ -106,7 +106,8 @@ fn pulled_whole(
     let mut reader = reply.as_slice();
     let mut writer = Vec::new(alloc);
     let pulled = pull(alloc, service, "a", &mut reader, &mut writer);
-    assert!(rt; writer.as_slice().ends_with(b"mp2 9 1\nK 0\nE\n"));
+    let has_position = writer.as_slice().ends_with(b"mp2 9 1\nK 0\nE\n");
+    same(rt, &has_position, &true, "what is sent");
     pulled
 }
 
@@ -371,9 +372,9 @@ fn check_cut(rt: &impl Abort, alloc: Global, reply: &[u8], left: usize) {
     let taken = dripped(alloc, &mut service, reply, left);
     same(rt, &taken, &Err(WebFault::Read), left);
     let request = pull_request(alloc, &mut service);
-    assert!(rt;
-        matches!(&request, Ok(request) if request.as_slice().ends_with(b"mp2 9 1\nK 0\nE\n"))
-    );
+    let has_position =
+        matches!(&request, Ok(request) if request.as_slice().ends_with(b"mp2 9 1\nK 0\nE\n"));
+    same(rt, &has_position, &true, left);
 }
 
 // One byte a read is enough, and a read that fails leaves the replica as it was.

@@ -1,7 +1,7 @@
 // Cancels among bookings, over a keeper of lists: the replies to lists of commands, batches that tell cancels, and how many alternatives a
 // request may have. The memory is ample.
 
-use crate::same_text::same_text;
+use crate::same::{same, same_text};
 use mr_base::{LineCount, Refusal, ServerId};
 use mr_service::{CalendarPart, Command, Local, Service, SlotWords, Submission, reply_text};
 use mr_store::ListKeeper;
@@ -182,7 +182,12 @@ static AMONG_BOOKINGS: [(Asked, &str); 16] = [
 
 #[test]
 fn a_cancel_frees_the_slot(rt: HostRuntime) {
-    assert!(rt; ALL_OF_OAK.len() == 186 && FIRST_OF_OAK.len() == 114);
+    same(
+        &rt,
+        &(ALL_OF_OAK.len(), FIRST_OF_OAK.len()),
+        &(186, 114),
+        "bytes",
+    );
     check(&rt, rt.alloc(), &AMONG_BOOKINGS);
 }
 

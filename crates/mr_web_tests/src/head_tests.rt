@@ -112,12 +112,32 @@ fn two_lengths(rt: HostRuntime) {
         name: "Transfer-Encoding",
         value: b"chunked",
     };
-    assert!(rt; body_length(true, &[length, host]) == Some(5));
-    assert!(rt; body_length(true, &[host, length]) == Some(5));
-    assert!(rt; body_length(true, &[length, length]).is_none());
-    assert!(rt; body_length(true, &[length, chunked]).is_none());
-    assert!(rt; body_length(true, &[]).is_none());
-    assert!(rt; body_length(false, &[]) == Some(0));
+    same(
+        &rt,
+        &body_length(true, &[length, host]),
+        &Some(5),
+        "length, host",
+    );
+    same(
+        &rt,
+        &body_length(true, &[host, length]),
+        &Some(5),
+        "host, length",
+    );
+    same(
+        &rt,
+        &body_length(true, &[length, length]),
+        &None,
+        "two lengths",
+    );
+    same(
+        &rt,
+        &body_length(true, &[length, chunked]),
+        &None,
+        "in pieces",
+    );
+    same(&rt, &body_length(true, &[]), &None, "no length");
+    same(&rt, &body_length(false, &[]), &Some(0), "no body");
 }
 
 const MESSAGE: &[u8] = b"POST / HTTP/1.1\r\n\r\nbody";

@@ -22,8 +22,6 @@ mod running_tests;
 #[cfg(test)]
 mod same;
 #[cfg(test)]
-mod same_text;
-#[cfg(test)]
 mod serving_tests;
 #[cfg(test)]
 mod text_tests;

@@ -117,9 +117,9 @@ const PULLED: &[u8] =
 fn with_two(rt: &impl Abort, alloc: Global) -> Service<ListKeeper> {
     let mut server = opening(rt, alloc);
     let booked = replied(alloc, &mut server, SUBMISSION);
-    assert!(rt;
-        matches!(&booked, Ok(booked) if booked.as_slice().starts_with(b"HTTP/1.1 200 OK\r\n"))
-    );
+    let is_booked =
+        matches!(&booked, Ok(booked) if booked.as_slice().starts_with(b"HTTP/1.1 200 OK\r\n"));
+    same(rt, &is_booked, &true, "a booking");
     give_batch(rt, alloc, &mut server, RECEIVED);
     server
 }

@@ -1,6 +1,6 @@
 // Lists of commands and the texts of their replies, over a keeper of lists. The memory is ample.
 
-use crate::same_text::same_text;
+use crate::same::{same, same_text};
 use mr_base::{Refusal, ServerId};
 use mr_service::{
     Command, Local, Reply, Service, SlotWords, Submission, reply_text, run, run_over_lists,
@@ -93,7 +93,8 @@ fn texts(alloc: Global, replies: Result<Vec<Reply>, Refusal>) -> Result<Vec<u8>,
 
 /// There are as many replies as commands, and they have the texts that are wanted.
 fn check(rt: &impl Abort, alloc: Global, replies: Result<Vec<Reply>, Refusal>) {
-    assert!(rt; matches!(&replies, Ok(replies) if replies.len() == COMMANDS));
+    let is_whole = matches!(&replies, Ok(replies) if replies.len() == COMMANDS);
+    same(rt, &is_whole, &true, "replies");
     same_text(rt, &texts(alloc, replies), WANTED);
 }
 

@@ -1,7 +1,7 @@
 // The text of each kind of reply, byte for byte. The memory is ample. Each reply is made by a function of its own, without a clause, so that
 // no proof of a test carries it.
 
-use crate::same_text::same_text;
+use crate::same::same_text;
 use mr_base::{
     Batch, CommitNumber, Day, Ending, Header, Item, Position, Refusal, RoomName, ServerId,
     TimeOfDay, Title, Version, WriteId, read_minute,

@@ -1,6 +1,7 @@
 // Bytes that are no batch or no position, and large ones. What a test compares is made by functions without clauses, so
 // that its proof carries no values that own memory.
 
+use crate::same::same;
 use mr_base::Refusal;
 use mr_wire::{read_batch, read_position};
 use std::alloc::Global;
@@ -252,16 +253,16 @@ fn the_first_bad_line_is_reported(rt: HostRuntime) {
     for header in &HEADERS {
         for line in &BAD_LINES {
             let found = items_in(rt.alloc(), header, line.as_bytes(), 1, "\n");
-            assert_eq!(rt; found, Err(Refusal::BadLine(2)), "at {line} under {header}");
+            same(&rt, &found, &Err(Refusal::BadLine(2)), (header, line));
         }
         for (lines, want) in &LINES {
             let found = items_in(rt.alloc(), header, lines.as_bytes(), 1, "\n");
-            assert_eq!(rt; found, *want, "at {lines} under {header}");
+            same(&rt, &found, want, (header, lines));
         }
     }
     for line in &BAD_HEADERS {
         let found = items_in(rt.alloc(), "", line.as_bytes(), 1, "\nE\n");
-        assert_eq!(rt; found, Err(Refusal::BadLine(1)), "at {line}");
+        same(&rt, &found, &Err(Refusal::BadLine(1)), line);
     }
 }
 
@@ -269,9 +270,9 @@ fn the_first_bad_line_is_reported(rt: HostRuntime) {
 fn a_version_reads_its_own_lines(rt: HostRuntime) {
     for (lines, first, second) in &LINES_OF_VERSIONS {
         let found = items_in(rt.alloc(), "mr1 1 1\n", lines.as_bytes(), 1, "\n");
-        assert_eq!(rt; found, *first, "at {lines}");
+        same(&rt, &found, first, lines);
         let found = items_in(rt.alloc(), "mr2 1 1\n", lines.as_bytes(), 1, "\n");
-        assert_eq!(rt; found, *second, "at {lines}");
+        same(&rt, &found, second, lines);
     }
 }
 
@@ -338,26 +339,34 @@ static LARGE: [((&str, &str), usize, &str, Result<usize, Refusal>); 13] = [
     (("mr2 1 1", "\nX 1 1 1 oak 2 1"), 10_000, "\n", Ok(10_000)),
 ];
 
+// a text, bytes that are none, the text behind them, and what comes of the whole
+static NO_TEXT: [(&str, &[u8], &str, Result<usize, Refusal>); 4] = [
+    (
+        "mr1 1 1\nW 1 1 1 oak 30 1995-12-18 09:00 0 Al",
+        b"\xff",
+        "ha\n",
+        Err(Refusal::BadLine(2)),
+    ),
+    (
+        "mr2 1 1\nX 1 1 1 oa",
+        b"\xff",
+        "k 2 1\n",
+        Err(Refusal::BadLine(2)),
+    ),
+    ("mr1 1 ", b"\xc3", "\n", Err(Refusal::BadLine(1))),
+    ("mr1 1 1\n", b"\xff\xfe", "", Ok(0)),
+];
+
 #[test]
 fn large_batches_and_what_is_no_text_are_read(rt: HostRuntime) {
     for ((first, more), times, last, want) in &LARGE {
         let found = items_in(rt.alloc(), first, more.as_bytes(), *times, last);
-        assert_eq!(rt; found, *want, "at {first}");
+        same(&rt, &found, want, first);
     }
-    let found = items_in(
-        rt.alloc(),
-        "mr1 1 1\nW 1 1 1 oak 30 1995-12-18 09:00 0 Al",
-        b"\xff",
-        1,
-        "ha\n",
-    );
-    assert_eq!(rt; found, Err(Refusal::BadLine(2)));
-    let found = items_in(rt.alloc(), "mr2 1 1\nX 1 1 1 oa", b"\xff", 1, "k 2 1\n");
-    assert_eq!(rt; found, Err(Refusal::BadLine(2)));
-    let found = items_in(rt.alloc(), "mr1 1 ", b"\xc3", 1, "\n");
-    assert_eq!(rt; found, Err(Refusal::BadLine(1)));
-    let found = items_in(rt.alloc(), "mr1 1 1\n", b"\xff\xfe", 1, "");
-    assert_eq!(rt; found, Ok(0));
+    for (first, bytes, last, want) in &NO_TEXT {
+        let found = items_in(rt.alloc(), first, bytes, 1, last);
+        same(&rt, &found, want, first);
+    }
 }
 
 // texts that are no position's, whatever stands behind their first word
@@ -422,20 +431,20 @@ static LARGE_POSITIONS: [(&str, &str); 5] = [
 fn bad_positions_are_refused(rt: HostRuntime) {
     for text in &NO_POSITIONS {
         let found = commits_in(rt.alloc(), "", text.as_bytes(), 1, "");
-        assert_eq!(rt; found, Err(Refusal::BadPosition), "at {text}");
+        same(&rt, &found, &Err(Refusal::BadPosition), text);
     }
     for word in &POSITION_WORDS {
         for text in &BAD_POSITIONS {
             let found = commits_in(rt.alloc(), word, text.as_bytes(), 1, "");
-            assert_eq!(rt; found, Err(Refusal::BadPosition), "at {word}{text}");
+            same(&rt, &found, &Err(Refusal::BadPosition), (word, text));
         }
     }
     for (first, more) in &LARGE_POSITIONS {
         let found = commits_in(rt.alloc(), first, more.as_bytes(), 50_000, "\n");
-        assert_eq!(rt; found, Err(Refusal::BadPosition), "at {first}");
+        same(&rt, &found, &Err(Refusal::BadPosition), first);
     }
     let found = commits_in(rt.alloc(), "mp1 1 1\nK 0\nE\n", b"\xff", 1, "\n");
-    assert_eq!(rt; found, Err(Refusal::BadPosition));
+    same(&rt, &found, &Err(Refusal::BadPosition), b"\xff");
 }
 
 // batches whose first bad line stands behind lines that need memory, and that line
@@ -492,10 +501,10 @@ fn bad_line_of(alloc: Global, text: &str) -> Result<u64, Refusal> {
 #[test]
 fn bad_lines_are_reported_whatever_memory_there_is(rt: HostRuntime) {
     for (text, line) in &BAD_BEHIND_GOOD {
-        assert_eq!(rt; bad_line_of(rt.alloc(), text), Ok(*line), "at {text}");
+        same(&rt, &bad_line_of(rt.alloc(), text), &Ok(*line), text);
     }
     for text in &BAD_COUNTS {
         let found = read_position(rt.alloc(), text.as_bytes()).err();
-        assert_eq!(rt; found, Some(Refusal::BadPosition), "at {text}");
+        same(&rt, &found, &Some(Refusal::BadPosition), text);
     }
 }

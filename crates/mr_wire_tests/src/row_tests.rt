@@ -1,6 +1,7 @@
 // The batches and positions of worked examples, as values and as bytes. What a test compares is made by functions without
 // clauses, so that its proof carries no values that own memory.
 
+use crate::same::same;
 use mr_base::{
     Alternatives, Batch, CommitNumber, Day, Ending, Header, Item, Position, Refusal, RoomName,
     ServerId, Slot, Stamp, Title, Version, Write, WriteId, read_minute,
@@ -434,15 +435,20 @@ fn parts_of(alloc: Global, bytes: &[u8]) -> Result<(bool, usize, Ending), Refusa
 fn batches_are_exchanged(rt: HostRuntime) {
     for (version, from, lines, ending, text, size) in &BATCHES {
         let is_exchanged = is_exchanged(rt.alloc(), *version, *from, lines, *ending, text);
-        assert_eq!(rt; (is_exchanged, text.len()), (Ok(true), *size), "at {text}");
+        same(&rt, &(is_exchanged, text.len()), &(Ok(true), *size), text);
     }
     let empty = Batch::without_header(Vec::new(rt.alloc()));
-    assert_eq!(rt; is_written_as(rt.alloc(), &empty, ""), Ok(true));
+    same(
+        &rt,
+        &is_written_as(rt.alloc(), &empty, ""),
+        &Ok(true),
+        "no line",
+    );
     let bytes = ALPHA_AND_BETA.as_bytes();
     for (from, to, want) in &FRONTS {
         for j in *from..*to {
             let found = parts_of(rt.alloc(), bytes.get(..j).unwrap_or(&[]));
-            assert_eq!(rt; found, Ok(*want), "at {j}");
+            same(&rt, &found, &Ok(*want), j);
         }
     }
 }
@@ -539,10 +545,10 @@ fn positions_are_exchanged(rt: HostRuntime) {
             counts,
             text,
         );
-        assert_eq!(rt; is_exchanged, Ok(true), "at {text}");
+        same(&rt, &is_exchanged, &Ok(true), text);
         for j in 0..text.len() {
             let refusal = refusal_of_position(rt.alloc(), text.as_bytes().get(..j).unwrap_or(&[]));
-            assert_eq!(rt; refusal, Some(Refusal::BadPosition), "at {j} of {text}");
+            same(&rt, &refusal, &Some(Refusal::BadPosition), (j, text));
         }
     }
 }
