@@ -18,7 +18,11 @@ mod firsts;
 #[cfg(test)]
 mod hostile_tests;
 #[cfg(test)]
+mod in_memory_tests;
+#[cfg(test)]
 mod layouts;
+#[cfg(test)]
+mod memory_tests;
 #[cfg(test)]
 mod moving_tests;
 #[cfg(test)]
@@ -33,6 +37,8 @@ mod on_disks;
 mod opening;
 #[cfg(test)]
 mod part_tests;
+#[cfg(test)]
+mod reads;
 #[cfg(test)]
 mod receiving_tests;
 #[cfg(test)]

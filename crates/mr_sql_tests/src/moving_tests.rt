@@ -218,7 +218,7 @@ fn resume(
 
 /// What is done with a connection.
 #[derive(Clone, Copy)]
-enum Trial {
+pub(crate) enum Trial {
     /// The replica of this server and primary is adopted; the number of its refusal, 0 for none.
     Adopt(u32, u32, u32),
     /// It is resumed; the number of its refusal, 0 for none.
@@ -276,14 +276,25 @@ fn tried(
     }
 }
 
-/// Each of the trials comes to what it says, on tables of the first schema.
-fn check_trials(rt: &impl Abort, alloc: Global, trials: &[Trial]) {
-    let mut conn = first_connection(rt, alloc);
+/// Each of the trials comes to what it says, on this connection, which is left.
+pub(crate) fn check_each(
+    rt: &impl Abort,
+    alloc: Global,
+    conn: Connection<MemStore>,
+    trials: &[Trial],
+) -> Connection<MemStore> {
+    let mut conn = conn;
     for (index, trial) in trials.iter().enumerate() {
         let (is_so, left) = tried(rt, alloc, conn, *trial).expect(rt, "a connection");
         same_count(rt, is_so as u64, 1, index);
         conn = left;
     }
+    conn
+}
+
+/// The same on tables of the first schema.
+fn check_trials(rt: &impl Abort, alloc: Global, trials: &[Trial]) {
+    check_each(rt, alloc, first_connection(rt, alloc), trials);
 }
 
 static OF_OTHERS: [Trial; 5] = [

@@ -194,9 +194,14 @@ fn all_rows<K: Keeper>(keeper: &mut K) -> Result<[usize; 4], Refusal> {
     }
 }
 
-/// A replica 9 that was asked this, with these replies.
-fn filled<K: Opening + Drop>(rt: &impl Abort, alloc: Global, asked: &[(Act, &str)]) -> Service<K> {
-    let mut service = new_service::<K>(rt, alloc, 9);
+/// The replica of this server, that was asked this, with these replies.
+pub(crate) fn filled<K: Opening + Drop>(
+    rt: &impl Abort,
+    alloc: Global,
+    server: u32,
+    asked: &[(Act, &str)],
+) -> Service<K> {
+    let mut service = new_service::<K>(rt, alloc, server);
     for (act, want) in asked {
         same_text(rt, &said(alloc, &mut service, *act), want);
     }
@@ -217,7 +222,7 @@ fn check_filled<K: Opening + Drop>(
     asked: &[(Act, &str)],
     parts: &[(For, u64)],
 ) {
-    let mut keeper = filled::<K>(rt, alloc, asked).into_keeper();
+    let mut keeper = filled::<K>(rt, alloc, 9, asked).into_keeper();
     check_parts(rt, alloc, &mut keeper, parts);
 }
 
@@ -228,7 +233,7 @@ fn check_rows<K: Opening + Drop>(
     asked: &[(Act, &str)],
     wanted: [usize; 4],
 ) {
-    let mut keeper = filled::<K>(rt, alloc, asked).into_keeper();
+    let mut keeper = filled::<K>(rt, alloc, 9, asked).into_keeper();
     assert!(rt; all_rows(&mut keeper) == Ok(wanted));
 }
 
@@ -261,7 +266,7 @@ static CANCELLED: [(Act, &str); 5] = [
 
 /// The first write of elm is committed alone.
 fn check_first_commit<K: Opening + Drop>(rt: &impl Abort, alloc: Global) {
-    let mut service = filled::<K>(rt, alloc, &TENTATIVE);
+    let mut service = filled::<K>(rt, alloc, 9, &TENTATIVE);
     let text = said(alloc, &mut service, Act::Batch(FIRST));
     same_text(rt, &text, "took 0 writes 1 commits\n");
 }

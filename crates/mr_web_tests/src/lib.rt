@@ -1,6 +1,7 @@
 //! Tests of the service and of the ways to it: the text of each kind of reply, byte for byte, and lists of commands with their replies
-//! (`mr_service`); command lines and addresses (`mr_words`); heads and bytes (`mr_http`), requests that are served (`mr_web`), and peers that
-//! are asked (`mr_peer`). It stands above these, and nothing stands on it. Commands over each keeper are tested in `mr_sql_tests`.
+//! (`mr_service`); command lines and addresses (`mr_words`); lines that are printed (`mr_say`); heads and bytes (`mr_http`), requests that are
+//! served (`mr_web`), and peers that are asked (`mr_peer`). `uses` shows how a program of others calls these crates, with contracts of its own.
+//! It stands above these, and nothing stands on it. Commands over each keeper are tested in `mr_sql_tests`.
 #![tactic(auto)]
 
 #[cfg(test)]
@@ -22,8 +23,12 @@ mod running_tests;
 #[cfg(test)]
 mod same;
 #[cfg(test)]
+mod say_tests;
+#[cfg(test)]
 mod serving_tests;
 #[cfg(test)]
 mod text_tests;
+#[cfg(test)]
+mod uses;
 #[cfg(test)]
 mod without_memory_tests;

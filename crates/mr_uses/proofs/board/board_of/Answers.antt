@@ -1,5 +1,0 @@
-use Rattle.std.proofs.Common.{[]}
-use Rattle.mr_uses.proofs.board.board_of.Goals as goal
-
-pub returns : goal.returns
-returns c = λ distinct. c.in_ok-redo_from.ensures.holds [] distinct c.new-board.ensures.holds
