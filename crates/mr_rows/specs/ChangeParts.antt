@@ -65,4 +65,8 @@ abbrev pub cancels_put : ChangeView → Tables → Tables
 cancels_put c t = put_cancels c.cancels (put_cancelled c.cancelled t)
 
 abbrev pub rows_put : ChangeView → Tables → Tables
-rows_put c t = cancels_put c (board_put c (put_logs c.log (heads_put c t)))
+rows_put c t = cancels_put c (board_put c (put_logs c.log t))
+
+-- all of a change but the heads
+abbrev pub rows_made : ChangeView → Tables → Tables
+rows_made c t = rows_put c (rows_taken c t)

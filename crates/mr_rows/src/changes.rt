@@ -3,7 +3,7 @@ ghost use Rattle.sqlite.specs.State.{HasCleanDisk, Survives};
 ghost use Rattle.sqlite.specs.Held.{state};
 ghost use Rattle.mr_tables.specs.Change.{changed};
 ghost use Rattle.mr_rows.specs.Database.{MakesTables, Applies, IsReached, tables_in};
-ghost use Rattle.mr_rows.specs.ChangeParts.{board_taken, rows_taken, heads_put, board_put, cancels_put, rows_put};
+ghost use Rattle.mr_rows.specs.ChangeParts.{board_taken, rows_taken, heads_put, board_put, cancels_put, rows_put, rows_made};
 
 use crate::puts::put_meta;
 use crate::stored_rows::{RequestRow, StoredRow};
@@ -113,7 +113,7 @@ fn take_rows<S: Alter>(tx: &mut Transaction<'_, S>, change: &Change) -> Result<(
     take_all::<CancelledRow, S>(tx, &change.uncancelled)
 }
 
-/// Puts the rows.
+/// Puts the rows of the log, of the board and of cancels.
 fn put_rows<S: Alter>(
     tx: &mut Transaction<'_, S>,
     alloc: Global,
@@ -124,17 +124,20 @@ fn put_rows<S: Alter>(
         (rows_put change.now (tables_in (state S.Store tx.old.conn.now).now.trees)) result }
     ensures survives { Survives (state S.Store tx.old.conn.now) (state S.Store tx.new.conn.now) (λ _. ⊥) }
 {
-    put_heads(tx, alloc, change)?;
     put_all::<LogRow, S>(tx, alloc, &change.log)?;
     put_into_board(tx, alloc, change)?;
     put_into_cancels(tx, alloc, change)
 }
 
-/// Takes the rows away, and then puts the rows.
-fn make<S: Alter>(tx: &mut Transaction<'_, S>, alloc: Global, change: &Change) -> Result<(), Error>
+/// Takes the rows away, and then puts the rows, all but the heads.
+fn make_rows<S: Alter>(
+    tx: &mut Transaction<'_, S>,
+    alloc: Global,
+    change: &Change,
+) -> Result<(), Error>
     ensures same_reference { tx.new.conn.ghost_name ≡ tx.old.conn.ghost_name }
     ensures made { MakesTables (state S.Store tx.old.conn.now) (state S.Store tx.new.conn.now)
-        (changed change.now (tables_in (state S.Store tx.old.conn.now).now.trees)) result }
+        (rows_made change.now (tables_in (state S.Store tx.old.conn.now).now.trees)) result }
     ensures survives { Survives (state S.Store tx.old.conn.now) (state S.Store tx.new.conn.now) (λ _. ⊥) }
 {
     take_rows(tx, change)?;
@@ -155,7 +158,7 @@ pub fn apply<S: Alter>(
         (λ trees. IsReached (state S.Store conn.old) (changed change.now (tables_in (state S.Store conn.old).now.trees)) trees) }
 {
     let mut tx = conn.transaction();
-    make(&mut tx, alloc, change)?;
-    tx.commit()?;
-    Ok(())
+    make_rows(&mut tx, alloc, change)?;
+    put_heads(&mut tx, alloc, change)?;
+    tx.commit()
 }
