@@ -1,8 +1,9 @@
 // Days, weekdays and their texts, against another calendar program over the whole range.
 
 use crate::same::same;
+use crate::shown::is_shown;
 use mr_base::{Day, Refusal, Weekday, weekday_name};
-use std::alloc::Global;
+use std::alloc::{AllocError, Global};
 use std::process::Abort;
 
 const WEEK: [(Weekday, &str); 7] = [
@@ -174,31 +175,38 @@ static NO_DAYS: [&str; 40] = [
     "Monday",
 ];
 
-// Whether the text of this date is read as its day, on this weekday, and is how the day is written.
-fn is_day(
-    alloc: Global,
-    (year, month, day): (u32, u32, u32),
-    (weekday, name): (Weekday, &str),
-) -> Result<bool, Refusal> {
-    let text = format!(in alloc;
+/// A year, a month and a day.
+type Date = (u32, u32, u32);
+
+fn text_of(alloc: Global, (year, month, day): Date) -> Result<String, AllocError> {
+    format!(in alloc;
         "{year}-{}{}-{}{}",
         month / 10,
         month % 10,
         day / 10,
         day % 10
-    )?;
-    let found = Day::read(text.as_str())?;
-    let shown = format!(in alloc; "{found}")?;
-    Ok(
-        shown.as_str() == text.as_str()
-            && (
-                found.year() as u32,
-                found.month() as u32,
-                found.day() as u32,
-            ) == (year, month, day)
-            && found.weekday() == weekday
-            && weekday_name(&found) == name,
     )
+}
+
+fn has_parts(day: Day, date: Date, (weekday, name): (Weekday, &str)) -> bool {
+    let found = (day.year() as u32, day.month() as u32, day.day() as u32);
+    found == date && day.weekday() == weekday && weekday_name(&day) == name
+}
+
+// Whether the text of this date is read as its day, on this weekday, and is how the day is written.
+fn is_day(alloc: Global, date: Date, weekday: (Weekday, &str)) -> Result<bool, Refusal> {
+    let text = text_of(alloc, date)?;
+    let day = Day::read(text.as_str())?;
+    Ok(is_shown(alloc, &day, text.as_str())? && has_parts(day, date, weekday))
+}
+
+// Whether there is such a day, which is true for days up to the month's length.
+fn wanted(day: u32, length: u32) -> Result<bool, Refusal> {
+    if day >= 1 && day <= length {
+        Ok(true)
+    } else {
+        Err(Refusal::BadDay)
+    }
 }
 
 // The days up to the month's length are read, and no later one.
@@ -210,14 +218,14 @@ fn check_month(
     first: usize,
 ) {
     for day in 0..40u32 {
+        let date = (year, month, day);
         let weekday = WEEK[(first % 7 + 6 + day as usize) % 7];
-        let wanted = if day >= 1 && day <= length {
-            Ok(true)
-        } else {
-            Err(Refusal::BadDay)
-        };
-        let found = is_day(alloc, (year, month, day), weekday);
-        same(rt, &found, &wanted, (year, month, day));
+        same(
+            rt,
+            &is_day(alloc, date, weekday),
+            &wanted(day, length),
+            date,
+        );
     }
 }
 
@@ -229,6 +237,10 @@ fn days_are_read_and_written(rt: HostRuntime) {
             check_month(&rt, rt.alloc(), (*year, i as u32 + 1), length, firsts[i]);
         }
     }
+}
+
+#[test]
+fn what_is_no_day_is_not_read(rt: HostRuntime) {
     for text in &NO_DAYS {
         same(&rt, &Day::read(text), &Err(Refusal::BadDay), text);
     }

@@ -7,7 +7,7 @@ use mr_replay::Place;
 use mr_tables::Tables;
 use std::alloc::{AllocError, Global};
 use std::fmt::Debug;
-use std::test::Fail;
+use std::process::Abort;
 
 /// One row of each table.
 const ONE_EACH: Rows = Rows {
@@ -28,45 +28,96 @@ fn are_alike<T: Debug>(alloc: Global, row: &T, copy: &T) -> Result<bool, AllocEr
     Ok(row.as_str() == copy.as_str())
 }
 
-fn numbers_are_copied(alloc: Global, tables: &Tables) -> Result<bool, Refusal> {
-    let mut are = are_alike(alloc, &tables.meta, &tables.meta.copy(alloc)?)?;
+fn is_copied<T: Debug + Drop>(
+    alloc: Global,
+    row: &T,
+    copy: Result<T, Refusal>,
+) -> Result<bool, Refusal> {
+    let copy = copy?;
+    Ok(are_alike(alloc, row, &copy)?)
+}
+
+fn check_numbers(rt: &impl Abort, alloc: Global, tables: &Tables) {
+    let meta = &tables.meta;
+    same(
+        rt,
+        &is_copied(alloc, meta, meta.copy(alloc)),
+        &Ok(true),
+        "meta",
+    );
     for row in &tables.vector {
-        are = are && are_alike(alloc, row, &row.copy(alloc)?)?;
+        same(
+            rt,
+            &is_copied(alloc, row, row.copy(alloc)),
+            &Ok(true),
+            "vector",
+        );
     }
-    Ok(are)
 }
 
-fn logs_are_copied(alloc: Global, tables: &Tables) -> Result<bool, Refusal> {
-    let mut are = true;
+fn check_log(rt: &impl Abort, alloc: Global, tables: &Tables) {
     for row in &tables.log {
-        are = are && are_alike(alloc, row, &row.copy(alloc)?)?;
+        same(
+            rt,
+            &is_copied(alloc, row, row.copy(alloc)),
+            &Ok(true),
+            "log",
+        );
     }
-    for row in &tables.cancels {
-        are = are && are_alike(alloc, row, &row.copy(alloc)?)?;
-    }
-    Ok(are)
 }
 
-fn places_are_copied(alloc: Global, tables: &Tables) -> Result<bool, Refusal> {
-    let mut are = true;
+fn check_cancels(rt: &impl Abort, alloc: Global, tables: &Tables) {
+    for row in &tables.cancels {
+        same(
+            rt,
+            &is_copied(alloc, row, row.copy(alloc)),
+            &Ok(true),
+            "cancel",
+        );
+    }
+}
+
+fn check_booking(rt: &impl Abort, alloc: Global, tables: &Tables) {
     for row in &tables.booking {
-        are = are && are_alike(alloc, row, &row.copy(alloc)?)?;
+        same(
+            rt,
+            &is_copied(alloc, row, row.copy(alloc)),
+            &Ok(true),
+            "booking",
+        );
     }
+}
+
+fn check_errorlog(rt: &impl Abort, alloc: Global, tables: &Tables) {
     for row in &tables.errorlog {
-        are = are && are_alike(alloc, row, &row.copy(alloc)?)?;
+        same(
+            rt,
+            &is_copied(alloc, row, row.copy(alloc)),
+            &Ok(true),
+            "errorlog",
+        );
     }
+}
+
+fn check_cancelled(rt: &impl Abort, alloc: Global, tables: &Tables) {
     for row in &tables.cancelled {
-        are = are && are_alike(alloc, row, &row.copy(alloc)?)?;
+        same(
+            rt,
+            &is_copied(alloc, row, row.copy(alloc)),
+            &Ok(true),
+            "cancelled",
+        );
     }
-    Ok(are)
 }
 
 #[test]
-fn each_kind_of_row_is_copied(rt: HostRuntime) -> Result<(), Fail> {
+fn each_kind_of_row_is_copied(rt: HostRuntime) {
     let alloc = rt.alloc();
-    let tables = tables(alloc, &ONE_EACH)?;
-    same(&rt, &numbers_are_copied(alloc, &tables)?, &true, "numbers");
-    same(&rt, &logs_are_copied(alloc, &tables)?, &true, "writes");
-    same(&rt, &places_are_copied(alloc, &tables)?, &true, "places");
-    Ok(())
+    let tables = tables(alloc, &ONE_EACH).expect(&rt, "tables");
+    check_numbers(&rt, alloc, &tables);
+    check_log(&rt, alloc, &tables);
+    check_cancels(&rt, alloc, &tables);
+    check_booking(&rt, alloc, &tables);
+    check_errorlog(&rt, alloc, &tables);
+    check_cancelled(&rt, alloc, &tables);
 }

@@ -5,6 +5,7 @@ use crate::same::same;
 use mr_base::Refusal;
 use mr_wire::{read_batch, read_position};
 use std::alloc::Global;
+use std::process::Abort;
 
 const SIXTY: &str = "123456789012345678901234567890123456789012345678901234567890";
 
@@ -248,21 +249,34 @@ static BAD_HEADERS: [&str; 26] = [
     "",
 ];
 
+// Each of the texts, between the first and the last, is refused for this line.
+fn check_bad(rt: &impl Abort, alloc: Global, (first, last): (&str, &str), of: &[&str], line: u64) {
+    for text in of {
+        let found = items_in(alloc, first, text.as_bytes(), 1, last);
+        same(rt, &found, &Err(Refusal::BadLine(line)), (first, text));
+    }
+}
+
 #[test]
 fn the_first_bad_line_is_reported(rt: HostRuntime) {
     for header in &HEADERS {
-        for line in &BAD_LINES {
-            let found = items_in(rt.alloc(), header, line.as_bytes(), 1, "\n");
-            same(&rt, &found, &Err(Refusal::BadLine(2)), (header, line));
-        }
-        for (lines, want) in &LINES {
-            let found = items_in(rt.alloc(), header, lines.as_bytes(), 1, "\n");
-            same(&rt, &found, want, (header, lines));
-        }
+        check_bad(&rt, rt.alloc(), (header, "\n"), &BAD_LINES, 2);
     }
-    for line in &BAD_HEADERS {
-        let found = items_in(rt.alloc(), "", line.as_bytes(), 1, "\nE\n");
-        same(&rt, &found, &Err(Refusal::BadLine(1)), line);
+    check_bad(&rt, rt.alloc(), ("", "\nE\n"), &BAD_HEADERS, 1);
+}
+
+// The lines are read so under this header.
+fn check_lines(rt: &impl Abort, alloc: Global, header: &str) {
+    for (lines, want) in &LINES {
+        let found = items_in(alloc, header, lines.as_bytes(), 1, "\n");
+        same(rt, &found, want, (header, lines));
+    }
+}
+
+#[test]
+fn either_version_reads_these_lines(rt: HostRuntime) {
+    for header in &HEADERS {
+        check_lines(&rt, rt.alloc(), header);
     }
 }
 
@@ -358,11 +372,15 @@ static NO_TEXT: [(&str, &[u8], &str, Result<usize, Refusal>); 4] = [
 ];
 
 #[test]
-fn large_batches_and_what_is_no_text_are_read(rt: HostRuntime) {
+fn large_batches_are_read(rt: HostRuntime) {
     for ((first, more), times, last, want) in &LARGE {
         let found = items_in(rt.alloc(), first, more.as_bytes(), *times, last);
         same(&rt, &found, want, first);
     }
+}
+
+#[test]
+fn what_is_no_text_is_read(rt: HostRuntime) {
     for (first, bytes, last, want) in &NO_TEXT {
         let found = items_in(rt.alloc(), first, bytes, 1, last);
         same(&rt, &found, want, first);
@@ -427,22 +445,32 @@ static LARGE_POSITIONS: [(&str, &str); 5] = [
     ("", SIXTY),
 ];
 
+// No text behind this word is a position's.
+fn check_none(rt: &impl Abort, alloc: Global, word: &str, texts: &[&str]) {
+    for text in texts {
+        let found = commits_in(alloc, word, text.as_bytes(), 1, "");
+        same(rt, &found, &Err(Refusal::BadPosition), (word, text));
+    }
+}
+
 #[test]
 fn bad_positions_are_refused(rt: HostRuntime) {
-    for text in &NO_POSITIONS {
-        let found = commits_in(rt.alloc(), "", text.as_bytes(), 1, "");
-        same(&rt, &found, &Err(Refusal::BadPosition), text);
-    }
+    check_none(&rt, rt.alloc(), "", &NO_POSITIONS);
     for word in &POSITION_WORDS {
-        for text in &BAD_POSITIONS {
-            let found = commits_in(rt.alloc(), word, text.as_bytes(), 1, "");
-            same(&rt, &found, &Err(Refusal::BadPosition), (word, text));
-        }
+        check_none(&rt, rt.alloc(), word, &BAD_POSITIONS);
     }
+}
+
+#[test]
+fn large_positions_are_refused(rt: HostRuntime) {
     for (first, more) in &LARGE_POSITIONS {
         let found = commits_in(rt.alloc(), first, more.as_bytes(), 50_000, "\n");
         same(&rt, &found, &Err(Refusal::BadPosition), first);
     }
+}
+
+#[test]
+fn what_is_no_text_is_no_position(rt: HostRuntime) {
     let found = commits_in(rt.alloc(), "mp1 1 1\nK 0\nE\n", b"\xff", 1, "\n");
     same(&rt, &found, &Err(Refusal::BadPosition), b"\xff");
 }
@@ -503,6 +531,11 @@ fn bad_lines_are_reported_whatever_memory_there_is(rt: HostRuntime) {
     for (text, line) in &BAD_BEHIND_GOOD {
         same(&rt, &bad_line_of(rt.alloc(), text), &Ok(*line), text);
     }
+}
+
+// The same with each allocation refused: `rt try --test --fail-alloc N`.
+#[test]
+fn bad_positions_are_refused_whatever_memory_there_is(rt: HostRuntime) {
     for text in &BAD_COUNTS {
         let found = read_position(rt.alloc(), text.as_bytes()).err();
         same(&rt, &found, &Some(Refusal::BadPosition), text);

@@ -35,6 +35,8 @@ mod row_tests;
 #[cfg(test)]
 mod same;
 #[cfg(test)]
+mod shown;
+#[cfg(test)]
 mod tables;
 #[cfg(test)]
 mod value_tests;

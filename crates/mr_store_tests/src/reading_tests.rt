@@ -1,8 +1,10 @@
 // Texts of numbers, ids and times that are read, and texts near them that aren't.
 
 use crate::same::same;
+use crate::shown::is_shown;
 use mr_base::{Refusal, TimeOfDay, WriteId, read_minute, read_number};
-use std::alloc::Global;
+use std::alloc::{AllocError, Global};
+use std::process::Abort;
 
 static NUMBERS: [(&str, u64, u64, Option<u64>); 14] = [
     ("0", 0, 9, Some(0)),
@@ -31,6 +33,10 @@ fn numbers_are_read(rt: HostRuntime) {
     for (text, low, high, want) in &NUMBERS {
         same(&rt, &read_number(text, *low, *high), want, text);
     }
+}
+
+#[test]
+fn what_is_no_number_is_not_read(rt: HostRuntime) {
     for text in &NO_NUMBERS {
         same(&rt, &read_number(text, 0, u64::MAX), &None, text);
     }
@@ -80,8 +86,7 @@ static NO_IDS: [&str; 31] = [
 // Whether the text is read as the id of this server and count, and is how the id is written.
 fn is_id(alloc: Global, text: &str, server: u32, n: u32) -> Result<bool, Refusal> {
     let id = WriteId::read(text)?;
-    let shown = format!(in alloc; "{id}")?;
-    Ok(shown.as_str() == text && id.server.number() == server && id.n == n)
+    Ok(is_shown(alloc, &id, text)? && id.server.number() == server && id.n == n)
 }
 
 #[test]
@@ -89,13 +94,13 @@ fn ids_are_read_and_written(rt: HostRuntime) {
     for (text, server, n) in &IDS {
         same(&rt, &is_id(rt.alloc(), text, *server, *n), &Ok(true), text);
     }
+}
+
+#[test]
+fn what_is_no_id_is_not_read(rt: HostRuntime) {
     for text in &NO_IDS {
-        same(
-            &rt,
-            &WriteId::read(text),
-            &Err(Refusal::NoSuchRequest),
-            text,
-        );
+        let found = WriteId::read(text);
+        same(&rt, &found, &Err(Refusal::NoSuchRequest), text);
     }
 }
 
@@ -105,34 +110,55 @@ static NO_TIMES: [&str; 25] = [
     "00：0", "12:5\0", "12:3\n",
 ];
 
+/// An hour and a minute.
+type Clock = (u32, u32);
+
+fn text_of(alloc: Global, (hour, minute): Clock) -> Result<String, AllocError> {
+    format!(in alloc; "{}{}:{}{}", hour / 10, hour % 10, minute / 10, minute % 10)
+}
+
 // What is read of the text of an hour and a minute, and whether that text is how the time is written, the end of the day
 // standing for all that is past it.
 fn minute_of(
     alloc: Global,
-    hour: u32,
-    minute: u32,
+    clock: Clock,
     time: u32,
 ) -> Result<(Result<u32, Refusal>, bool), Refusal> {
-    let text = format!(in alloc; "{}{}:{}{}", hour / 10, hour % 10, minute / 10, minute % 10)?;
-    let time = TimeOfDay::new(time.min(1440));
-    let shown = format!(in alloc; "{time}")?;
-    Ok((read_minute(text.as_str()), shown.as_str() == text.as_str()))
+    let text = text_of(alloc, clock)?;
+    let is_shown = is_shown(alloc, &TimeOfDay::new(time.min(1440)), text.as_str())?;
+    Ok((read_minute(text.as_str()), is_shown))
+}
+
+fn wanted((hour, minute): Clock, time: u32) -> (Result<u32, Refusal>, bool) {
+    if hour < 24 && minute < 60 {
+        (Ok(time), true)
+    } else {
+        (Err(Refusal::BadTime), hour == 24 && minute == 0)
+    }
+}
+
+// Each minute that two digits write is read so.
+fn check_hour(rt: &impl Abort, alloc: Global, hour: u32) {
+    for minute in 0..100u32 {
+        let (clock, time) = ((hour, minute), 60 * hour.min(99) + minute);
+        same(
+            rt,
+            &minute_of(alloc, clock, time),
+            &Ok(wanted(clock, time)),
+            clock,
+        );
+    }
 }
 
 #[test]
 fn times_are_read_and_written(rt: HostRuntime) {
     for hour in 0..100u32 {
-        for minute in 0..100u32 {
-            let time = 60 * hour + minute;
-            let wanted = if hour < 24 && minute < 60 {
-                (Ok(time), true)
-            } else {
-                (Err(Refusal::BadTime), hour == 24 && minute == 0)
-            };
-            let found = minute_of(rt.alloc(), hour, minute, time);
-            same(&rt, &found, &Ok(wanted), (hour, minute));
-        }
+        check_hour(&rt, rt.alloc(), hour);
     }
+}
+
+#[test]
+fn what_is_no_time_is_not_read(rt: HostRuntime) {
     for text in &NO_TIMES {
         same(&rt, &read_minute(text), &Err(Refusal::BadTime), text);
     }
