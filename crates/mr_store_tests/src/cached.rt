@@ -1,6 +1,7 @@
 // A keeper with its rows in memory answers as the keeper below does, also after a fault of that.
 
-use crate::changes::{TUESDAY, first_change, id, request};
+use crate::builders::{TUESDAY, id};
+use crate::changes::{first_change, request};
 use crate::keepers::{Call, OF_BOTH_CHANGES, Place, answers, check, fault_of, opening, told};
 use crate::same::same;
 use mr_base::{Day, Position, Refusal, Request, WriteId};

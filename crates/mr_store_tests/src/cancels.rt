@@ -1,45 +1,44 @@
 // Cancels at desks and at parts: what each call answers, and which rows it puts.
 
+use crate::builders::{Ask, Line, MONDAY, TUESDAY, id, slot, slots};
 use crate::calls::{OPENING, TAKEN_BACK};
-use crate::desks::{
-    Ask, Call, Line, NO_ERROR, NONE, NOTHING, Put, Told, answer, batch, opening, puts,
-};
+use crate::desks::{Call, NO_ERROR, NONE, NOTHING, Put, Told, answer, batch, opening, puts};
 use crate::same::same;
 use crate::tables::{Rows, tables};
-use mr_base::{Alternatives, Day, Item, Position, Refusal, Request, Slot, WriteId};
+use mr_base::{Item, Position, Refusal, Request};
 use mr_part::{Part, Scope};
 use mr_replay::Place;
+use mr_replica::Desk;
 use mr_tables::Change;
 use std::alloc::Global;
 use std::process::Abort;
-use std::test::Fail;
 
 const ALPHA: Ask = Ask {
     title: "Alpha",
     length: 60,
     wish: 540,
-    other: None,
+    others: &[],
 };
 
 const BETA: Ask = Ask {
     title: "Beta",
     length: 60,
     wish: 540,
-    other: Some(600),
+    others: &[600],
 };
 
 const GAMMA: Ask = Ask {
     title: "Gamma",
     length: 60,
     wish: 540,
-    other: None,
+    others: &[],
 };
 
 const XRAY: Ask = Ask {
     title: "Xray",
     length: 60,
     wish: 570,
-    other: None,
+    others: &[],
 };
 
 /// The rows that a call puts into `cancelled` and `cancels`, the first of each: the server, the number and the start of a booking,
@@ -58,7 +57,7 @@ const LATE: Ask = Ask {
     title: "Late",
     length: 30,
     wish: 540,
-    other: None,
+    others: &[],
 };
 
 /// A cancel of server 1, of a booking of server 2 that hasn't come.
@@ -348,28 +347,31 @@ fn takes(change: &Change, taken: Taken) -> bool {
         && change.cancels.len() < 2
 }
 
-/// The desks, asked one call after the other, answer so and put these rows.
-fn check_calls(rt: &impl Abort, alloc: Global, name: &str, rows: &[Row]) -> Result<(), Fail> {
-    let mut desks = opening(alloc)?;
-    for (index, (own, call, wanted, put, taken)) in rows.iter().enumerate() {
-        let is_so = match answer(alloc, &mut desks, *own, *call) {
-            Ok((told, Some(change))) => {
-                *wanted == Ok(told) && puts(&change, *put) && takes(&change, *taken)
-            }
-            Ok((told, None)) => *wanted == Ok(told),
-            Err(refusal) => *wanted == Err(refusal),
-        };
-        same(rt, &is_so, &true, (name, index));
+/// Whether the desk at that place answers the call so, and puts these rows.
+fn is_answered(alloc: Global, desks: &mut Vec<Desk>, row: Row) -> bool {
+    let (own, call, wanted, put, taken) = row;
+    match answer(alloc, desks, own, call) {
+        Ok((told, Some(change))) => {
+            wanted == Ok(told) && puts(&change, put) && takes(&change, taken)
+        }
+        Ok((told, None)) => wanted == Ok(told),
+        Err(refusal) => wanted == Err(refusal),
     }
-    Ok(())
+}
+
+/// The desks, asked one call after the other, answer so and put these rows.
+fn check_calls(rt: &impl Abort, alloc: Global, desks: &mut Vec<Desk>, name: &str, rows: &[Row]) {
+    for (index, row) in rows.iter().enumerate() {
+        same(rt, &is_answered(alloc, desks, *row), &true, (name, index));
+    }
 }
 
 #[test]
-fn cancels_are_answered(rt: HostRuntime) -> Result<(), Fail> {
+fn cancels_are_answered(rt: HostRuntime) {
     for (name, rows) in &CASES {
-        check_calls(&rt, rt.alloc(), name, rows)?;
+        let mut desks = opening(rt.alloc()).expect(&rt, "desks");
+        check_calls(&rt, rt.alloc(), &mut desks, name, rows);
     }
-    Ok(())
 }
 
 /// Server 3's write, and server 2's cancel that took it back, are tentative.
@@ -392,7 +394,7 @@ fn rows_of(alloc: Global, rows: &Rows, scope: &Scope<'_>) -> Result<u64, Refusal
 fn counts(alloc: Global) -> Result<[u64; 3], Refusal> {
     // For the prover alone, which follows a scope where the types of all that a scope may hold are in use.
     let _no_position: Option<&Position> = None;
-    let target = WriteId::new(crate::desks::server(3)?, 1).ok_or(Refusal::NoSuchRequest)?;
+    let target = id(3, 1)?;
     let of_commit = rows_of(alloc, &BOTH_TENTATIVE, &Scope::NextCommits(1))?;
     let of_target = rows_of(alloc, &BOTH_TENTATIVE, &Scope::OfTarget(target))?;
     let no_items: &[Item] = &[];
@@ -400,15 +402,17 @@ fn counts(alloc: Global) -> Result<[u64; 3], Refusal> {
     Ok([of_commit, of_target, of_batch])
 }
 
-/// A request of the room for this day, with or without an alternative on that one.
-fn request_on(alloc: Global, day: &str, other: Option<&str>) -> Result<Request, Refusal> {
-    let wish = Slot::new(Day::read(day)?, 540)?;
-    let mut others = Vec::new(alloc);
-    if let Some(other) = other {
-        others.push(Slot::new(Day::read(other)?, 540)?)?;
-    }
-    let others = Alternatives::from_vec(others);
-    Request::of_words(alloc, "oak", "Delta", 60, wish, others)
+/// A request of the room for this day, else at these minutes of that one.
+fn request_on(alloc: Global, day: &str, other: &str, starts: &[u32]) -> Result<Request, Refusal> {
+    let wish = slot(day, 540)?;
+    Request::of_words(
+        alloc,
+        "oak",
+        "Delta",
+        60,
+        wish,
+        slots(alloc, other, starts)?,
+    )
 }
 
 /// How many rows the part for this request has, and that for a batch without lines. That there is one, and no position, is for the prover
@@ -422,22 +426,24 @@ fn rows_of_request(alloc: Global, request: &Request) -> Result<[u64; 2], Refusal
     Ok([of_request, of_batch])
 }
 
-fn rows_on(alloc: Global, day: &str, other: Option<&str>) -> Result<[u64; 2], Refusal> {
-    let request = request_on(alloc, day, other)?;
+fn rows_on(alloc: Global, day: &str, other: &str, starts: &[u32]) -> Result<[u64; 2], Refusal> {
+    let request = request_on(alloc, day, other, starts)?;
     rows_of_request(alloc, &request)
 }
+
+/// Days of a wish and of alternatives, the minutes of these, and how many rows are of the request.
+static DAYS: [(&str, &str, &[u32], u64); 3] = [
+    (MONDAY, MONDAY, &[], 1),
+    (TUESDAY, TUESDAY, &[], 0),
+    (TUESDAY, MONDAY, &[540], 1),
+];
 
 /// A submission's part has what is booked on the days of its choices alone, at whatever hour.
 #[test]
 fn rows_of_a_submission_are_counted(rt: HostRuntime) {
-    let (day, next) = ("1995-12-18", "1995-12-19");
-    for (wish, other, count) in [(day, None, 1), (next, None, 0), (next, Some(day), 1)] {
-        same(
-            &rt,
-            &rows_on(rt.alloc(), wish, other),
-            &Ok([count, 0]),
-            wish,
-        );
+    for (wish, other, starts, count) in &DAYS {
+        let found = rows_on(rt.alloc(), wish, other, starts);
+        same(&rt, &found, &Ok([*count, 0]), (wish, starts));
     }
 }
 

@@ -1,22 +1,12 @@
 // Rows and changes of replica 2, whose primary is 1.
 
-use mr_base::{Alternatives, Day, Refusal, Request, RoomName, ServerId, Slot, Title, WriteId};
+use crate::builders::{MONDAY, TUESDAY, add, id, names, server, slot, slots};
+use crate::rows::{booking_row, cancel_row, error_row, no_rows};
+use mr_base::{Refusal, Request, RoomName};
 use mr_tables::{
     BookingRow, CancelRow, CancelledRow, Change, ErrorRow, MetaRow, Tables, VectorRow,
 };
 use std::alloc::Global;
-
-pub(crate) const MONDAY: &str = "1995-12-18";
-
-pub(crate) const TUESDAY: &str = "1995-12-19";
-
-pub(crate) fn server(number: u32) -> Result<ServerId, Refusal> {
-    ServerId::new(number).ok_or(Refusal::NotAReplica)
-}
-
-pub(crate) fn id(number: u32, n: u32) -> Result<WriteId, Refusal> {
-    WriteId::new(server(number)?, n).ok_or(Refusal::NoSuchRequest)
-}
 
 pub(crate) fn meta(commits: u64) -> Result<MetaRow, Refusal> {
     Ok(MetaRow {
@@ -45,83 +35,31 @@ static THEN_BOOKED: [Booked; 2] = [
     ("oak", MONDAY, 540, (1, 1), true),
 ];
 
-fn booking(
+pub(crate) fn booking(
     alloc: Global,
-    (room, day, start, (number, n), committed): Booked,
+    (room, day, start, write, committed): Booked,
 ) -> Result<BookingRow, Refusal> {
-    let (day, start) = (Day::read(day)?, start.min(1410));
-    let WriteId { server, n } = id(number, n)?;
-    let room = RoomName::new(alloc, room)?;
-    let title = Title::new(alloc, "Audit")?;
-    Ok(BookingRow {
-        room,
-        day,
-        start,
-        stop: start + 30,
-        server,
-        n,
-        title,
-        committed,
-    })
+    let start = start.min(1410);
+    booking_row(alloc, (room, day), (start, start + 30), write, committed)
 }
 
-pub(crate) fn bookings(alloc: Global, of: &[Booked]) -> Result<Vec<BookingRow>, Refusal> {
-    let mut rows = Vec::new(alloc);
+fn add_bookings(alloc: Global, rows: &mut Vec<BookingRow>, of: &[Booked]) -> Result<(), Refusal> {
     for booked in of {
-        rows.push(booking(alloc, *booked)?)?;
+        add(rows, booking(alloc, *booked))?;
     }
-    Ok(rows)
+    Ok(())
 }
 
 /// A tentative request of replica 2 for half an hour of oak on Monday at 09:00, which was logged.
-fn error(alloc: Global, n: u32) -> Result<ErrorRow, Refusal> {
-    let day = Day::read(MONDAY)?;
-    let WriteId { server, n } = id(2, n)?;
-    let room = RoomName::new(alloc, "oak")?;
-    let title = Title::new(alloc, "Audit")?;
-    Ok(ErrorRow {
-        room,
-        day,
-        start: 540,
-        stop: 570,
-        server,
-        n,
-        title,
-        time: 9,
-        seq: 0,
-    })
-}
-
-pub(crate) fn logged(alloc: Global, n: u32) -> Result<Vec<ErrorRow>, Refusal> {
-    let mut rows = Vec::new(alloc);
-    rows.push(error(alloc, n)?)?;
-    Ok(rows)
-}
-
-fn rooms(alloc: Global, names: &[&str]) -> Result<Vec<RoomName>, Refusal> {
-    let mut rooms = Vec::new(alloc);
-    for name in names {
-        rooms.push(RoomName::new(alloc, name)?)?;
-    }
-    Ok(rooms)
+pub(crate) fn error(alloc: Global, n: u32) -> Result<ErrorRow, Refusal> {
+    error_row(alloc, (540, 570), (2, n), (9, 0))
 }
 
 /// A request for half an hour of oak on Monday at 09:00, else on Tuesday at 09:00 or 15:00.
 pub(crate) fn request(alloc: Global) -> Result<Request, Refusal> {
-    let (monday, tuesday) = (Day::read(MONDAY)?, Day::read(TUESDAY)?);
-    let mut others = Vec::new(alloc);
-    others.push(Slot::new(tuesday, 540)?)?;
-    others.push(Slot::new(tuesday, 900)?)?;
-    let (room, title) = (RoomName::new(alloc, "oak")?, Title::new(alloc, "Audit")?);
-    let wish = Slot::new(monday, 540)?;
-    Request::new(room, title, 30, wish, Alternatives::from_vec(others))
-}
-
-/// The id of a request of replica 2.
-fn ids(alloc: Global, n: u32) -> Result<Vec<WriteId>, Refusal> {
-    let mut ids = Vec::new(alloc);
-    ids.push(id(2, n)?)?;
-    Ok(ids)
+    let wish = slot(MONDAY, 540)?;
+    let (room, title) = names(alloc, "oak", "Audit")?;
+    Request::new(room, title, 30, wish, slots(alloc, TUESDAY, &[540, 900])?)
 }
 
 /// Nothing but this row of meta.
@@ -142,44 +80,30 @@ pub(crate) fn no_change(alloc: Global, meta: MetaRow) -> Change {
     }
 }
 
-/// 2-6 was taken back by 2-7, and 2-8 found nothing to take back: rows of them in oak, on Monday.
-fn taken_back(alloc: Global) -> Result<Vec<CancelledRow>, Refusal> {
+/// 2-6 was taken back by 2-7: its row in oak, on Monday.
+fn taken_back(alloc: Global) -> Result<CancelledRow, Refusal> {
     let row = booking(alloc, ("oak", MONDAY, 600, (2, 6), false))?;
-    let mut rows = Vec::new(alloc);
-    rows.push(CancelledRow::of_booking(row, id(2, 7)?))?;
-    Ok(rows)
+    Ok(CancelledRow::of_booking(row, id(2, 7)?))
 }
 
 /// A tentative cancel of 2-6 in oak.
 fn cancel(alloc: Global, n: u32, done: bool) -> Result<CancelRow, Refusal> {
-    let WriteId { server, n } = id(2, n)?;
-    let room = RoomName::new(alloc, "oak")?;
-    let target = id(2, 6)?;
-    Ok(CancelRow {
-        server,
-        n,
-        room,
-        target,
-        done,
-        time: 9,
-        seq: 0,
-    })
+    cancel_row(alloc, (2, n), (2, 6), done, (9, 0))
 }
 
-fn cancels(alloc: Global) -> Result<Vec<CancelRow>, Refusal> {
-    let mut rows = Vec::new(alloc);
-    rows.push(cancel(alloc, 8, false)?)?;
-    rows.push(cancel(alloc, 7, true)?)?;
-    Ok(rows)
+/// 2-6 was taken back by 2-7, and 2-8 found nothing to take back.
+fn put_cancels(alloc: Global, change: &mut Change) -> Result<(), Refusal> {
+    add(&mut change.cancelled, taken_back(alloc))?;
+    add(&mut change.cancels, cancel(alloc, 8, false))?;
+    add(&mut change.cancels, cancel(alloc, 7, true))
 }
 
 fn put_first(alloc: Global, change: &mut Change) -> Result<(), Refusal> {
-    change.room = rooms(alloc, &["oak", "elm"])?;
-    change.booking = bookings(alloc, &FIRST_BOOKED)?;
-    change.errorlog = logged(alloc, 3)?;
-    change.cancelled = taken_back(alloc)?;
-    change.cancels = cancels(alloc)?;
-    Ok(())
+    add(&mut change.room, RoomName::new(alloc, "oak"))?;
+    add(&mut change.room, RoomName::new(alloc, "elm"))?;
+    add_bookings(alloc, &mut change.booking, &FIRST_BOOKED)?;
+    add(&mut change.errorlog, error(alloc, 3))?;
+    put_cancels(alloc, change)
 }
 
 /// Six bookings of two rooms, a request that was logged, a booking that was taken back, and two cancels of it.
@@ -190,12 +114,11 @@ pub(crate) fn first_change(alloc: Global) -> Result<Change, Refusal> {
 }
 
 fn put_second(alloc: Global, change: &mut Change) -> Result<(), Refusal> {
-    change.unbooked = ids(alloc, 1)?;
-    change.booking = bookings(alloc, &THEN_BOOKED)?;
-    change.unlogged = ids(alloc, 3)?;
-    change.errorlog = logged(alloc, 1)?;
-    change.uncancelled = ids(alloc, 6)?;
-    Ok(())
+    add(&mut change.unbooked, id(2, 1))?;
+    add_bookings(alloc, &mut change.booking, &THEN_BOOKED)?;
+    add(&mut change.unlogged, id(2, 3))?;
+    add(&mut change.errorlog, error(alloc, 1))?;
+    add(&mut change.uncancelled, id(2, 6))
 }
 
 /// 2-1 loses its slot, 2-3 gets one, 1-1 is committed, and 2-6 is taken back no more.
@@ -207,22 +130,12 @@ pub(crate) fn second_change(alloc: Global) -> Result<Change, Refusal> {
 
 /// The tables with nothing but the number of commits and a server's count of writes.
 pub(crate) fn tables(alloc: Global, commits: u64, count: u32) -> Result<Tables, Refusal> {
-    let meta = meta(commits)?;
-    let mut vector = Vec::new(alloc);
-    vector.push(VectorRow {
+    let mut tables = no_rows(alloc, meta(commits)?);
+    tables.vector.push(VectorRow {
         server: server(1)?,
         count,
         last_time: 9,
         committed: 0,
     })?;
-    Ok(Tables {
-        meta,
-        room: Vec::new(alloc),
-        vector,
-        log: Vec::new(alloc),
-        booking: Vec::new(alloc),
-        errorlog: Vec::new(alloc),
-        cancelled: Vec::new(alloc),
-        cancels: Vec::new(alloc),
-    })
+    Ok(tables)
 }

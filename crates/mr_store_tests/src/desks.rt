@@ -1,35 +1,15 @@
 // Calls of the desks of four servers, what each answers, and which rows it puts, as small values. The functions that call a
 // desk have no clause, so that the proof of a test does not carry the state of each call.
 
+use crate::builders;
+use crate::builders::{Ask, Line, MONDAY, id, request, server};
 use crate::same::same;
 use crate::tables::{Rows, tables};
-use mr_base::{
-    Alternatives, Batch, CommitNumber, Day, Ending, Header, Item, LineCount, Position, Refusal,
-    Request, RoomName, ServerId, Slot, Stamp, Version, Write, WriteId,
-};
+use mr_base::{Batch, Ending, LineCount, Position, Refusal, Request, RoomName, Version, WriteId};
 use mr_replica::Desk;
 use mr_tables::Change;
 use std::alloc::Global;
 use std::process::Abort;
-use std::test::Fail;
-
-/// A request for oak on one day: its title, its length, the minute of its wish and that of its alternative.
-#[derive(Clone, Copy)]
-pub(crate) struct Ask {
-    pub title: &'static str,
-    pub length: u32,
-    pub wish: u32,
-    pub other: Option<u32>,
-}
-
-/// A line of a batch: a booking with its server, its number and its time; a cancel with the same, and the server and the number of
-/// what it cancels; or a commit with its number and the write's.
-#[derive(Clone, Copy)]
-pub(crate) enum Line {
-    W(u32, u32, u64, Ask),
-    X(u32, u32, u64, u32, u32),
-    C(u64, u32, u32),
-}
 
 /// A call of a desk, or a question to it.
 #[derive(Clone, Copy)]
@@ -70,65 +50,24 @@ pub(crate) const NOTHING: Put = (NONE, NONE, NO_ERROR);
 /// A call of a server's desk, what it answers, and which rows it puts.
 pub(crate) type Row = (usize, Call, Result<Told, Refusal>, Put);
 
-pub(crate) fn server(number: u32) -> Result<ServerId, Refusal> {
-    ServerId::new(number).ok_or(Refusal::NoSuchRequest)
-}
-
-fn request(alloc: Global, ask: Ask) -> Result<Request, Refusal> {
-    let day = Day::read("1995-12-18")?;
-    let mut others = Vec::new(alloc);
-    if let Some(start) = ask.other {
-        others.push(Slot::new(day, start)?)?;
-    }
-    let (wish, others) = (Slot::new(day, ask.wish)?, Alternatives::from_vec(others));
-    Request::of_words(alloc, "oak", ask.title, ask.length, wish, others)
-}
-
-fn item(alloc: Global, line: Line) -> Result<Item, Refusal> {
-    let (Line::W(number, n, _, _) | Line::X(number, n, _, _, _) | Line::C(_, number, n)) = line;
-    let id = WriteId::new(server(number)?, n).ok_or(Refusal::NoSuchRequest)?;
-    match line {
-        Line::W(_, _, time, ask) => {
-            let stamp = Stamp::new(id, time).ok_or(Refusal::ClockExhausted)?;
-            Ok(Item::W(Write::of_request(stamp, request(alloc, ask)?)))
-        }
-        Line::X(_, _, time, of, which) => {
-            let stamp = Stamp::new(id, time).ok_or(Refusal::ClockExhausted)?;
-            let target = WriteId::new(server(of)?, which).ok_or(Refusal::NoSuchRequest)?;
-            Ok(Item::W(Write::cancel(stamp, RoomName::new(alloc, "oak")?, target)))
-        }
-        Line::C(seq, _, _) => {
-            let seq = CommitNumber::new(seq).ok_or(Refusal::NoSuchRequest)?;
-            Ok(Item::C { seq, id })
-        }
-    }
-}
-
-/// The version that can say the line, the first of both.
-fn version_of(line: &Line) -> Version {
-    match line {
-        Line::X(_, _, _, _, _) => Version::Second,
-        Line::W(_, _, _, _) | Line::C(_, _, _) => Version::First,
-    }
-}
-
-/// A batch that server 1 made, of the first version where that can say its lines.
-pub(crate) fn batch(alloc: Global, primary: u32, lines: &[Line]) -> Result<Batch, Refusal> {
-    let mut items = Vec::new(alloc);
-    let mut version = Version::First;
+/// The first version that can say these lines.
+fn version_of(lines: &[Line]) -> Version {
     for line in lines {
-        if version_of(line) == Version::Second {
-            version = Version::Second;
+        if let Line::X(_, _, _, _, _) = line {
+            return Version::Second;
         }
-        items.push(item(alloc, *line)?)?;
     }
-    match ServerId::new(primary) {
-        Some(primary) => {
-            let from = server(1)?;
-            Batch::new(version, Header { from, primary }, items, Ending::Complete)
-        }
-        None => Ok(Batch::without_header(Vec::new(alloc))),
+    Version::First
+}
+
+/// A batch that server 1 made for the replicas of this primary, or one without a header or a line where that is 0. It is of the first version
+/// where that can say its lines.
+pub(crate) fn batch(alloc: Global, primary: u32, lines: &[Line]) -> Result<Batch, Refusal> {
+    if primary == 0 {
+        return Ok(Batch::without_header(Vec::new(alloc)));
     }
+    let version = version_of(lines);
+    builders::batch(alloc, version, (1, primary), lines, Ending::Complete)
 }
 
 /// The desks of four servers, whose primary is 1, each at the place of its number; at place 0 stands one that no call asks.
@@ -160,63 +99,87 @@ fn asking(desk: &Desk, call: Call) -> Result<Position, Refusal> {
     }
 }
 
+/// What one desk hands over to another that asks by this call, so many lines at most.
+fn handed(from: &Desk, own: &Desk, call: Call, most: u32) -> Result<Batch, Refusal> {
+    let most = LineCount::new(most).ok_or(Refusal::NotAReplica)?;
+    let asked = asking(own, call)?;
+    from.batch(&asked, most)
+}
+
 /// The batch that the desk at this place receives by the call, which is empty where it receives none.
 fn brought(alloc: Global, desks: &[Desk], own: usize, call: Call) -> Result<Batch, Refusal> {
     match call {
         Call::Receive(primary, lines) => batch(alloc, primary, lines),
-        Call::HandOver(from, most) | Call::HandOverFirst(from, most) => match (
-            desks.get(from),
-            desks.get(own),
-            LineCount::new(most),
-        ) {
-            (Some(from), Some(own), Some(most)) => from.batch(&asking(own, call)?, most),
-            _ => Err(Refusal::NotAReplica),
-        },
+        Call::HandOver(from, most) | Call::HandOverFirst(from, most) => {
+            match (desks.get(from), desks.get(own)) {
+                (Some(from), Some(own)) => handed(from, own, call, most),
+                _ => Err(Refusal::NotAReplica),
+            }
+        }
         _ => Ok(Batch::without_header(Vec::new(alloc))),
     }
 }
 
-/// What the desk tells, and what changes in its tables, where the call says that.
-fn called(
-    alloc: Global,
-    desk: &mut Desk,
-    call: Call,
-    batch: &Batch,
-) -> Result<(Told, Option<Change>), Refusal> {
+/// What a desk tells, and what changes in its tables, where the call says that.
+pub(crate) type Answer = (Told, Option<Change>);
+
+fn read(alloc: Global, desk: &mut Desk, rows: &Rows) -> Result<Answer, Refusal> {
+    let tables = tables(alloc, rows)?;
+    *desk = Desk::from_tables(alloc, &tables)?;
+    Ok(((0, 0), None))
+}
+
+fn add_oak(alloc: Global, desk: &mut Desk) -> Result<Answer, Refusal> {
+    let oak = RoomName::new(alloc, "oak")?;
+    Ok(((0, 0), Some(desk.add_room(&oak)?)))
+}
+
+fn submit(desk: &mut Desk, request: Request) -> Result<Answer, Refusal> {
+    let (id, change) = desk.submit(request)?;
+    Ok(((u64::from(id.n), 0), Some(change)))
+}
+
+fn cancel(desk: &mut Desk, room: RoomName, target: WriteId) -> Result<Answer, Refusal> {
+    let (id, change) = desk.cancel(room, target)?;
+    Ok(((u64::from(id.n), 0), Some(change)))
+}
+
+fn receive(desk: &mut Desk, batch: &Batch) -> Result<Answer, Refusal> {
+    let (writes, commits, change) = desk.receive(batch)?;
+    Ok(((writes, commits), Some(change)))
+}
+
+fn commit(desk: &mut Desk, most: u64) -> Result<Answer, Refusal> {
+    let (count, change) = desk.commit(most)?;
+    Ok(((count, 0), Some(change)))
+}
+
+fn truncate(desk: &mut Desk, number: u64) -> Result<Answer, Refusal> {
+    let (dropped, change) = desk.truncate(number)?;
+    Ok(((dropped, change.dropped.len() as u64), Some(change)))
+}
+
+fn tell_position(desk: &Desk) -> Result<Answer, Refusal> {
+    let position = desk.position()?;
+    Ok(((position.commits, position.counts.len() as u64), None))
+}
+
+/// What the desk answers to the call.
+fn called(alloc: Global, desk: &mut Desk, call: Call, batch: &Batch) -> Result<Answer, Refusal> {
     match call {
-        Call::Read(rows) => {
-            *desk = Desk::from_tables(alloc, &tables(alloc, rows)?)?;
-            Ok(((0, 0), None))
-        }
-        Call::AddOak => {
-            let change = desk.add_room(&RoomName::new(alloc, "oak")?)?;
-            Ok(((0, 0), Some(change)))
-        }
-        Call::Submit(ask) => {
-            let (id, change) = desk.submit(request(alloc, ask)?)?;
-            Ok(((u64::from(id.n), 0), Some(change)))
-        }
+        Call::Read(rows) => read(alloc, desk, rows),
+        Call::AddOak => add_oak(alloc, desk),
+        Call::Submit(ask) => submit(desk, request(alloc, ("oak", MONDAY), ask)?),
         Call::Cancel(number, n) => {
-            let target = WriteId::new(server(number)?, n).ok_or(Refusal::NoSuchRequest)?;
-            let (id, change) = desk.cancel(RoomName::new(alloc, "oak")?, target)?;
-            Ok(((u64::from(id.n), 0), Some(change)))
+            let target = id(number, n)?;
+            cancel(desk, RoomName::new(alloc, "oak")?, target)
         }
         Call::Receive(_, _) | Call::HandOver(_, _) | Call::HandOverFirst(_, _) => {
-            let (writes, commits, change) = desk.receive(batch)?;
-            Ok(((writes, commits), Some(change)))
+            receive(desk, batch)
         }
-        Call::Commit(k) => {
-            let (count, change) = desk.commit(k)?;
-            Ok(((count, 0), Some(change)))
-        }
-        Call::Truncate(number) => {
-            let (dropped, change) = desk.truncate(number)?;
-            Ok(((dropped, change.dropped.len() as u64), Some(change)))
-        }
-        Call::Position => {
-            let position = desk.position()?;
-            Ok(((position.commits, position.counts.len() as u64), None))
-        }
+        Call::Commit(most) => commit(desk, most),
+        Call::Truncate(number) => truncate(desk, number),
+        Call::Position => tell_position(desk),
     }
 }
 
@@ -258,7 +221,7 @@ pub(crate) fn answer(
     desks: &mut Vec<Desk>,
     own: usize,
     call: Call,
-) -> Result<(Told, Option<Change>), Refusal> {
+) -> Result<Answer, Refusal> {
     let batch = brought(alloc, desks.as_slice(), own, call)?;
     match desks.get_mut(own) {
         Some(desk) => called(alloc, desk, call, &batch),
@@ -266,30 +229,42 @@ pub(crate) fn answer(
     }
 }
 
-/// The desks, asked one call after the other, answer so and put these rows.
-fn check_calls(rt: &impl Abort, alloc: Global, name: &str, rows: &[Row]) -> Result<(), Fail> {
-    let mut desks = opening(alloc)?;
-    for (index, (own, call, wanted, put)) in rows.iter().enumerate() {
-        let is_so = match answer(alloc, &mut desks, *own, *call) {
-            Ok((told, Some(change))) => *wanted == Ok(told) && puts(&change, *put),
-            Ok((told, None)) => *wanted == Ok(told),
-            Err(refusal) => *wanted == Err(refusal),
-        };
-        same(rt, &is_so, &true, (name, index));
+/// Whether the desk at that place answers the call so, and puts these rows.
+fn is_answered(alloc: Global, desks: &mut Vec<Desk>, (own, call, wanted, put): Row) -> bool {
+    match answer(alloc, desks, own, call) {
+        Ok((told, Some(change))) => wanted == Ok(told) && puts(&change, put),
+        Ok((told, None)) => wanted == Ok(told),
+        Err(refusal) => wanted == Err(refusal),
     }
-    Ok(())
+}
+
+/// The desks, asked one call after the other, answer so and put these rows.
+fn check_calls(rt: &impl Abort, alloc: Global, desks: &mut Vec<Desk>, name: &str, rows: &[Row]) {
+    for (index, row) in rows.iter().enumerate() {
+        same(rt, &is_answered(alloc, desks, *row), &true, (name, index));
+    }
 }
 
 /// So it is in each case, which begins with new desks.
-pub(crate) fn check_cases(
-    rt: &impl Abort,
-    alloc: Global,
-    cases: &[(&str, &[Row])],
-) -> Result<(), Fail> {
+pub(crate) fn check_cases(rt: &impl Abort, alloc: Global, cases: &[(&str, &[Row])]) {
     for (name, rows) in cases {
-        check_calls(rt, alloc, name, rows)?;
+        let mut desks = opening(alloc).expect(rt, "desks");
+        check_calls(rt, alloc, &mut desks, name, rows);
     }
-    Ok(())
+}
+
+fn change_of_last(
+    alloc: Global,
+    desks: &mut Vec<Desk>,
+    own: usize,
+    calls: &[Call],
+) -> Result<Option<Change>, Refusal> {
+    let mut last = None;
+    for call in calls {
+        let (_, change) = answer(alloc, desks, own, *call)?;
+        last = change;
+    }
+    Ok(last)
 }
 
 /// What the last of these calls of a new desk changes.
@@ -299,10 +274,5 @@ pub(crate) fn last_change(
     calls: &[Call],
 ) -> Result<Option<Change>, Refusal> {
     let mut desks = opening(alloc)?;
-    let mut last = None;
-    for call in calls {
-        let (_, change) = answer(alloc, &mut desks, own, *call)?;
-        last = change;
-    }
-    Ok(last)
+    change_of_last(alloc, &mut desks, own, calls)
 }

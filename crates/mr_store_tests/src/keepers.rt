@@ -1,7 +1,8 @@
 // Changes by hand, and what the keepers then answer. The functions that call a keeper have no clause, so that the proof of
 // a test does not carry the state of each call.
 
-use crate::changes::{MONDAY, first_change, id, request, second_change, server, tables};
+use crate::builders::{MONDAY, id, server};
+use crate::changes::{first_change, request, second_change, tables};
 use crate::same::same;
 use mr_base::{Day, Position, Refusal, Request, RoomName, WriteId};
 use mr_part::Scope;

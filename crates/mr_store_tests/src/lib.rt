@@ -5,6 +5,8 @@
 #![tactic(auto)]
 
 #[cfg(test)]
+mod builders;
+#[cfg(test)]
 mod cached;
 #[cfg(test)]
 mod calendar_tests;
@@ -32,6 +34,8 @@ mod places;
 mod reading_tests;
 #[cfg(test)]
 mod row_tests;
+#[cfg(test)]
+mod rows;
 #[cfg(test)]
 mod same;
 #[cfg(test)]

@@ -1,6 +1,7 @@
 // A keeper with its rows in memory answers as plain lists do, through more changes than it keeps beside its lists.
 
-use crate::changes::{Booked, MONDAY, bookings, id, logged, meta, no_change};
+use crate::builders::{MONDAY, add, id};
+use crate::changes::{Booked, booking, error, meta, no_change};
 use crate::keepers::{opening, told};
 use crate::same::same;
 use mr_base::{Day, Refusal, RoomName};
@@ -33,19 +34,27 @@ fn booked_at(step: u32) -> Booked {
 
 /// A booking in each step. In some also one that has moved and is committed, a logged request, or, once the new rows were too many,
 /// one that is taken away.
-fn change_at(alloc: Global, step: u32) -> Result<Change, Refusal> {
-    let mut change = no_change(alloc, meta(0)?);
-    change.booking = bookings(alloc, &[booked_at(step)])?;
+fn put_at(alloc: Global, change: &mut Change, step: u32) -> Result<(), Refusal> {
+    add(&mut change.booking, booking(alloc, booked_at(step)))?;
     if step % 47 == 46 {
         let moved: Booked = ("oak", MONDAY, 900, (maker(step - 41), step - 40), true);
-        change.booking = bookings(alloc, &[booked_at(step), moved])?;
+        add(&mut change.booking, booking(alloc, moved))?;
     }
     if step > 1_050 && step % 23 == 0 {
-        change.unbooked.push(id(maker(step - 21), step - 20)?)?;
+        add(&mut change.unbooked, id(maker(step - 21), step - 20))?;
     }
     if step % 5 == 0 {
-        change.errorlog = logged(alloc, step.saturating_add(10_000))?;
+        add(
+            &mut change.errorlog,
+            error(alloc, step.saturating_add(10_000)),
+        )?;
     }
+    Ok(())
+}
+
+fn change_at(alloc: Global, step: u32) -> Result<Change, Refusal> {
+    let mut change = no_change(alloc, meta(0)?);
+    put_at(alloc, &mut change, step)?;
     Ok(change)
 }
 
@@ -73,31 +82,63 @@ fn see_place(row: &Option<PlaceRow>, seen: &mut Vec<Seen>) -> Result<(), Refusal
     Ok(())
 }
 
+fn see_room<K: Keeper>(
+    keeper: &mut K,
+    room: &RoomName,
+    day: Option<Day>,
+    seen: &mut Vec<Seen>,
+) -> Result<(), Refusal> {
+    let rows = told(keeper.bookings(room, day))?;
+    see_bookings(&rows, seen)
+}
+
+fn see_logged<K: Keeper>(
+    keeper: &mut K,
+    room: &RoomName,
+    seen: &mut Vec<Seen>,
+) -> Result<(), Refusal> {
+    let rows = told(keeper.errors(room))?;
+    see_errors(&rows, seen)
+}
+
+fn see_request<K: Keeper>(
+    keeper: &mut K,
+    room: &RoomName,
+    n: u32,
+    seen: &mut Vec<Seen>,
+) -> Result<(), Refusal> {
+    let row = told(keeper.place_of(room, id(2, n)?))?;
+    see_place(&row, seen)
+}
+
 /// What the keeper answers about the room of this step.
-fn asked<K: Keeper>(keeper: &mut K, alloc: Global, step: u32) -> Result<Vec<Seen>, Refusal> {
+fn ask<K: Keeper>(
+    keeper: &mut K,
+    alloc: Global,
+    step: u32,
+    seen: &mut Vec<Seen>,
+) -> Result<(), Refusal> {
     let room = RoomName::new(alloc, room_of(step))?;
-    let mut seen = Vec::new(alloc);
-    see_bookings(&told(keeper.bookings(&room, None))?, &mut seen)?;
-    see_bookings(
-        &told(keeper.bookings(&room, Some(Day::read(MONDAY)?)))?,
-        &mut seen,
-    )?;
-    see_errors(&told(keeper.errors(&room))?, &mut seen)?;
-    see_place(
-        &told(keeper.place_of(&room, id(2, step / 2 + 1)?))?,
-        &mut seen,
-    )?;
-    Ok(seen)
+    see_room(keeper, &room, None, seen)?;
+    see_room(keeper, &room, Some(Day::read(MONDAY)?), seen)?;
+    see_logged(keeper, &room, seen)?;
+    see_request(keeper, &room, step / 2 + 1, seen)
+}
+
+/// Makes the change of this step.
+fn change<K: Keeper>(keeper: &mut K, alloc: Global, step: u32) -> Result<(), Refusal> {
+    let change = change_at(alloc, step)?;
+    told(keeper.apply(&change))
 }
 
 /// Makes the change of this step, and asks about its room in some.
 fn stepped<K: Keeper>(keeper: &mut K, alloc: Global, step: u32) -> Result<Vec<Seen>, Refusal> {
-    told(keeper.apply(&change_at(alloc, step)?))?;
+    change(keeper, alloc, step)?;
+    let mut seen = Vec::new(alloc);
     if step % 41 == 0 {
-        asked(keeper, alloc, step)
-    } else {
-        Ok(Vec::new(alloc))
+        ask(keeper, alloc, step, &mut seen)?;
     }
+    Ok(seen)
 }
 
 /// All bookings and all logged requests.
@@ -109,6 +150,27 @@ fn all_rows<K: Keeper>(keeper: &mut K, alloc: Global) -> Result<Vec<Seen>, Refus
     Ok(seen)
 }
 
+fn is_step_alike<A: Keeper, B: Keeper>(
+    one: &mut A,
+    other: &mut B,
+    alloc: Global,
+    step: u32,
+) -> Result<bool, Refusal> {
+    let first = stepped(one, alloc, step)?;
+    let second = stepped(other, alloc, step)?;
+    Ok(first == second)
+}
+
+fn are_rows_alike<A: Keeper, B: Keeper>(
+    one: &mut A,
+    other: &mut B,
+    alloc: Global,
+) -> Result<bool, Refusal> {
+    let first = all_rows(one, alloc)?;
+    let second = all_rows(other, alloc)?;
+    Ok(first == second)
+}
+
 /// Whether both answer alike at each step, and have the same rows then.
 fn are_alike<A: Keeper, B: Keeper>(
     one: &mut A,
@@ -116,11 +178,11 @@ fn are_alike<A: Keeper, B: Keeper>(
     alloc: Global,
 ) -> Result<bool, Refusal> {
     for step in 0..STEPS {
-        if stepped(one, alloc, step)? != stepped(other, alloc, step)? {
+        if !is_step_alike(one, other, alloc, step)? {
             return Ok(false);
         }
     }
-    Ok(all_rows(one, alloc)? == all_rows(other, alloc)?)
+    are_rows_alike(one, other, alloc)
 }
 
 #[test]

@@ -1,21 +1,20 @@
 // Batches that a part of tables receives: what it answers, and which rows its change puts.
 
+use crate::builders::{Ask, Line};
 use crate::calls::KEPT;
-use crate::desks::{Ask, Line, NO_ERROR, NONE, NOTHING, Put, Told, batch, puts};
+use crate::desks::{NO_ERROR, NONE, NOTHING, Put, Told, batch, puts};
 use crate::same::same;
 use crate::tables::{Rows, tables};
 use mr_base::{Batch, Position, Refusal};
 use mr_part::{Part, Scope};
 use mr_tables::Change;
 use std::alloc::Global;
-use std::process::Abort;
-use std::test::Fail;
 
 const AT_TWO_ELSE_FOUR: Ask = Ask {
     title: "Alpha",
     length: 60,
     wish: 840,
-    other: Some(960),
+    others: &[960],
 };
 
 /// A batch for the replicas of a primary, what a part answers to it, and which rows the change puts.
@@ -49,19 +48,18 @@ fn received(alloc: Global, rows: &Rows, batch: &Batch) -> Result<(Told, Change),
     Ok(((writes, commits), change))
 }
 
-fn check_parts(rt: &impl Abort, alloc: Global) -> Result<(), Fail> {
-    for (index, (primary, lines, wanted, put)) in CASES.iter().enumerate() {
-        let batch = batch(alloc, *primary, lines)?;
-        let is_so = match received(alloc, &KEPT, &batch) {
-            Ok((told, change)) => *wanted == Ok(told) && puts(&change, *put),
-            Err(refusal) => *wanted == Err(refusal),
-        };
-        same(rt, &is_so, &true, index);
+/// Whether the part answers so, and its change puts these rows.
+fn is_received(alloc: Global, (primary, lines, wanted, put): Case) -> Result<bool, Refusal> {
+    let batch = batch(alloc, primary, lines)?;
+    match received(alloc, &KEPT, &batch) {
+        Ok((told, change)) => Ok(wanted == Ok(told) && puts(&change, put)),
+        Err(refusal) => Ok(wanted == Err(refusal)),
     }
-    Ok(())
 }
 
 #[test]
-fn parts_receive(rt: HostRuntime) -> Result<(), Fail> {
-    check_parts(&rt, rt.alloc())
+fn parts_receive(rt: HostRuntime) {
+    for (index, case) in CASES.iter().enumerate() {
+        same(&rt, &is_received(rt.alloc(), *case), &Ok(true), index);
+    }
 }

@@ -2,16 +2,13 @@
 // A test is a list of writes, and steps on a new board. The functions that call the board have no clause, so that the proof of a
 // test does not carry its state.
 
-use mr_base::{Alternatives, Day, Refusal, RoomName, ServerId, Slot, Stamp, Title, Write, WriteId};
+use crate::builders::{Ask, MONDAY, TUESDAY, add, booking, cancel, id, slot, stamp};
+use crate::same::same;
+use mr_base::{Refusal, RoomName, Write, WriteId};
 use mr_replay::{Board, Kept, Place, Standing, Trial, UndoRow};
 use std::alloc::Global;
 use std::mem;
 use std::process::Abort;
-use std::test::Fail;
-
-const MONDAY: &str = "1995-12-18";
-
-const TUESDAY: &str = "1995-12-19";
 
 /// The server and the number of a write.
 type Numbers = (u32, u32);
@@ -25,7 +22,7 @@ enum Act {
 }
 
 /// A write with its numbers and its room.
-type Ask = (Numbers, &'static str, Act);
+type Entry = (Numbers, &'static str, Act);
 
 /// What is done on a board, or asked of it, and what has to come of it.
 #[derive(Clone, Copy)]
@@ -71,60 +68,27 @@ struct Tried {
     rows: Vec<UndoRow>,
 }
 
-fn id((server, n): Numbers) -> Result<WriteId, Refusal> {
-    let Some(server) = ServerId::new(server) else {
-        return Err(Refusal::NotAReplica);
-    };
-    match WriteId::new(server, n) {
-        Some(id) => Ok(id),
-        None => Err(Refusal::NoSuchRequest),
-    }
-}
-
-/// A request for a room: its length, the start of its wish, and those of its alternatives.
-fn request(
-    alloc: Global,
-    numbers: Numbers,
-    (room, day): (&str, &str),
-    (length, wish): (u32, u32),
-    others: &[u32],
-) -> Result<Write, Refusal> {
-    let Some(stamp) = Stamp::new(id(numbers)?, 1) else {
-        return Err(Refusal::ClockExhausted);
-    };
-    let day = Day::read(day)?;
-    let wish = Slot::new(day, wish)?;
-    let mut slots = Vec::new(alloc);
-    for start in others {
-        slots.push(Slot::new(day, *start)?)?;
-    }
-    let room = RoomName::new(alloc, room)?;
-    let title = Title::new(alloc, "Alpha")?;
-    let alternatives = Alternatives::from_vec(slots);
-    Write::new(stamp, room, title, length, wish, alternatives)
-}
-
-/// A cancel for a room.
-fn cancel(alloc: Global, numbers: Numbers, room: &str, target: Numbers) -> Result<Write, Refusal> {
-    let Some(stamp) = Stamp::new(id(numbers)?, 1) else {
-        return Err(Refusal::ClockExhausted);
-    };
-    Ok(Write::cancel(stamp, RoomName::new(alloc, room)?, id(target)?))
-}
-
-fn write(alloc: Global, (numbers, room, act): Ask) -> Result<Write, Refusal> {
+fn write(alloc: Global, ((server, n), room, act): Entry) -> Result<Write, Refusal> {
+    let stamp = stamp(server, n, 1)?;
     match act {
         Act::Books(day, length, wish, others) => {
-            request(alloc, numbers, (room, day), (length, wish), others)
+            let title = "Alpha";
+            let ask = Ask {
+                title,
+                length,
+                wish,
+                others,
+            };
+            booking(alloc, stamp, (room, day), ask)
         }
-        Act::Cancels(target) => cancel(alloc, numbers, room, target),
+        Act::Cancels((of, target)) => cancel(alloc, stamp, room, id(of, target)?),
     }
 }
 
-fn writes(alloc: Global, asks: &[Ask]) -> Result<Vec<Write>, Refusal> {
+fn writes(alloc: Global, entries: &[Entry]) -> Result<Vec<Write>, Refusal> {
     let mut list = Vec::new(alloc);
-    for ask in asks {
-        list.push(write(alloc, *ask)?)?;
+    for entry in entries {
+        add(&mut list, write(alloc, *entry))?;
     }
     Ok(list)
 }
@@ -181,8 +145,8 @@ fn replay(
 }
 
 /// What shows of this write's row in the trial is in the error log.
-fn is_logged_in(trial: &Trial, numbers: Numbers) -> Result<bool, Refusal> {
-    let Some(row) = trial.row(id(numbers)?) else {
+fn is_logged_in(trial: &Trial, (server, n): Numbers) -> Result<bool, Refusal> {
+    let Some(row) = trial.row(id(server, n)?) else {
         return Ok(false);
     };
     match &row.kept {
@@ -240,8 +204,8 @@ fn would_stand(board: &Board, write: Option<&Write>, place: Place) -> bool {
 }
 
 /// The start and the standing on the row of a booking.
-fn row_of(board: &Board, numbers: Numbers) -> Result<(u32, Standing), Refusal> {
-    let Some(row) = board.row(id(numbers)?) else {
+fn row_of(board: &Board, (server, n): Numbers) -> Result<(u32, Standing), Refusal> {
+    let Some(row) = board.row(id(server, n)?) else {
         return Err(Refusal::NoSuchRequest);
     };
     match &row.kept {
@@ -263,19 +227,20 @@ fn is_taken_back(
     board: &Board,
     numbers: Numbers,
     start: u32,
-    by: Numbers,
+    (server, n): Numbers,
 ) -> Result<bool, Refusal> {
-    is_row(board, numbers, start, Standing::CancelledBy(id(by)?))
+    let by = id(server, n)?;
+    is_row(board, numbers, start, Standing::CancelledBy(by))
 }
 
 /// Whether the row of a booking tells this room, start, length and title.
 fn tells(
     board: &Board,
-    numbers: Numbers,
+    (server, n): Numbers,
     (in_room, start): (&str, u32),
     (minutes, named): (u32, &str),
 ) -> Result<bool, Refusal> {
-    let Some(row) = board.row(id(numbers)?) else {
+    let Some(row) = board.row(id(server, n)?) else {
         return Err(Refusal::NoSuchRequest);
     };
     match &row.kept {
@@ -295,8 +260,8 @@ fn tells(
 }
 
 /// What the row of a cancel has as its target, if there is such a row.
-fn target_of(board: &Board, numbers: Numbers) -> Result<Option<WriteId>, Refusal> {
-    let Some(row) = board.row(id(numbers)?) else {
+fn target_of(board: &Board, (server, n): Numbers) -> Result<Option<WriteId>, Refusal> {
+    let Some(row) = board.row(id(server, n)?) else {
         return Ok(None);
     };
     match &row.kept {
@@ -313,12 +278,12 @@ fn is_target(board: &Board, numbers: Numbers, target: Option<Numbers>) -> Result
 }
 
 fn is_free(tried: &Tried, start: u32, length: u32, wanted: bool) -> Result<bool, Refusal> {
-    let slot = Slot::new(Day::read(MONDAY)?, start)?;
+    let slot = slot(MONDAY, start)?;
     Ok(tried.board.check(&tried.oak, slot, length) == wanted)
 }
 
-fn has(board: &Board, numbers: Numbers, wanted: bool) -> Result<bool, Refusal> {
-    Ok(board.row(id(numbers)?).is_some() == wanted)
+fn has(board: &Board, (server, n): Numbers, wanted: bool) -> Result<bool, Refusal> {
+    Ok(board.row(id(server, n)?).is_some() == wanted)
 }
 
 fn copy_has(tried: &Tried, numbers: Numbers, wanted: bool) -> Result<bool, Refusal> {
@@ -355,20 +320,23 @@ fn is_met(tried: &mut Tried, writes: &[Write], step: Step) -> Result<bool, Refus
     }
 }
 
-/// Each of these steps is met, on a new board.
-fn check(rt: &impl Abort, alloc: Global, asks: &[Ask], steps: &[Step]) -> Result<(), Fail> {
-    let writes = writes(alloc, asks)?;
-    let mut tried = new_board(alloc)?;
+/// Each of these steps is met.
+fn check_steps(rt: &impl Abort, tried: &mut Tried, writes: &[Write], steps: &[Step]) {
     for (at, step) in steps.iter().enumerate() {
-        let is_met = is_met(&mut tried, writes.as_slice(), *step)?;
-        assert!(rt; is_met, "step {at}");
+        same(rt, &is_met(tried, writes, *step), &Ok(true), at);
     }
-    Ok(())
+}
+
+/// Each of these steps is met, on a new board.
+fn check(rt: &impl Abort, alloc: Global, entries: &[Entry], steps: &[Step]) {
+    let writes = writes(alloc, entries).expect(rt, "writes");
+    let mut tried = new_board(alloc).expect(rt, "a board");
+    check_steps(rt, &mut tried, writes.as_slice(), steps);
 }
 
 /// Xray at 09:00; Alpha at 09:00, else at 10:00; Beta at 10:00. Then requests that touch one of these, that are for another
 /// room or another day, and that the error log is not in the way of.
-static REQUESTS: [Ask; 9] = [
+static REQUESTS: [Entry; 9] = [
     ((1, 1), "oak", Act::Books(MONDAY, 30, 540, &[])),
     ((2, 1), "oak", Act::Books(MONDAY, 60, 540, &[600])),
     ((2, 2), "oak", Act::Books(MONDAY, 60, 600, &[])),
@@ -411,8 +379,8 @@ static IN_ORDER: [Step; 5] = [
 ];
 
 #[test]
-fn requests_are_executed_in_order(rt: HostRuntime) -> Result<(), Fail> {
-    check(&rt, rt.alloc(), &REQUESTS, &IN_ORDER)
+fn requests_are_executed_in_order(rt: HostRuntime) {
+    check(&rt, rt.alloc(), &REQUESTS, &IN_ORDER);
 }
 
 static UNDONE: [Step; 5] = [
@@ -424,11 +392,11 @@ static UNDONE: [Step; 5] = [
 ];
 
 #[test]
-fn a_chain_is_undone_and_executed_again(rt: HostRuntime) -> Result<(), Fail> {
-    check(&rt, rt.alloc(), &REQUESTS, &UNDONE)
+fn a_chain_is_undone_and_executed_again(rt: HostRuntime) {
+    check(&rt, rt.alloc(), &REQUESTS, &UNDONE);
 }
 
-static ONE: [Ask; 1] = [((1, 3), "elm", Act::Books(MONDAY, 31, 510, &[]))];
+static ONE: [Entry; 1] = [((1, 3), "elm", Act::Books(MONDAY, 31, 510, &[]))];
 
 static TELLING: [Step; 2] = [
     Step::Execute(0, 1, &[((1, 3), Place::Taken(0))]),
@@ -436,8 +404,8 @@ static TELLING: [Step; 2] = [
 ];
 
 #[test]
-fn a_row_tells_its_request(rt: HostRuntime) -> Result<(), Fail> {
-    check(&rt, rt.alloc(), &ONE, &TELLING)
+fn a_row_tells_its_request(rt: HostRuntime) {
+    check(&rt, rt.alloc(), &ONE, &TELLING);
 }
 
 static IN_ANOTHER_ORDER: [Step; 7] = [
@@ -451,13 +419,13 @@ static IN_ANOTHER_ORDER: [Step; 7] = [
 ];
 
 #[test]
-fn a_room_is_replayed_in_another_order(rt: HostRuntime) -> Result<(), Fail> {
-    check(&rt, rt.alloc(), &REQUESTS, &IN_ANOTHER_ORDER)
+fn a_room_is_replayed_in_another_order(rt: HostRuntime) {
+    check(&rt, rt.alloc(), &REQUESTS, &IN_ANOTHER_ORDER);
 }
 
 /// Alpha at 09:00; Beta at 09:00, else at 10:00; a cancel of Alpha; Gamma at 09:00; another cancel of Alpha, one of Gamma that
 /// is for another room, and one of a cancel.
-static WITH_CANCELS: [Ask; 7] = [
+static WITH_CANCELS: [Entry; 7] = [
     ((1, 1), "oak", Act::Books(MONDAY, 60, 540, &[])),
     ((1, 2), "oak", Act::Books(MONDAY, 60, 540, &[600])),
     ((1, 3), "oak", Act::Cancels((1, 1))),
@@ -490,12 +458,12 @@ static TAKEN_BACK: [Step; 9] = [
 ];
 
 #[test]
-fn a_cancel_takes_its_target_back_and_is_undone(rt: HostRuntime) -> Result<(), Fail> {
-    check(&rt, rt.alloc(), &WITH_CANCELS, &TAKEN_BACK)
+fn a_cancel_takes_its_target_back_and_is_undone(rt: HostRuntime) {
+    check(&rt, rt.alloc(), &WITH_CANCELS, &TAKEN_BACK);
 }
 
 /// A cancel of Alpha, and then Alpha at 09:00.
-static CANCEL_FIRST: [Ask; 2] = [
+static CANCEL_FIRST: [Entry; 2] = [
     ((2, 2), "oak", Act::Cancels((2, 1))),
     ((2, 1), "oak", Act::Books(MONDAY, 60, 540, &[])),
 ];
@@ -507,12 +475,12 @@ static NOTHING_BACK: [Step; 3] = [
 ];
 
 #[test]
-fn a_cancel_in_front_of_its_target_takes_nothing_back(rt: HostRuntime) -> Result<(), Fail> {
-    check(&rt, rt.alloc(), &CANCEL_FIRST, &NOTHING_BACK)
+fn a_cancel_in_front_of_its_target_takes_nothing_back(rt: HostRuntime) {
+    check(&rt, rt.alloc(), &CANCEL_FIRST, &NOTHING_BACK);
 }
 
 /// Xray at 09:30; Alpha at 09:00; a cancel of Alpha; and Xray once more, for the order in which the cancel comes first.
-static OVERLAPPING: [Ask; 4] = [
+static OVERLAPPING: [Entry; 4] = [
     ((1, 1), "oak", Act::Books(MONDAY, 60, 570, &[])),
     ((2, 1), "oak", Act::Books(MONDAY, 60, 540, &[])),
     ((2, 2), "oak", Act::Cancels((2, 1))),
@@ -532,8 +500,8 @@ static WITH_ITS_CANCELS: [Step; 7] = [
 ];
 
 #[test]
-fn a_room_is_replayed_with_its_cancels(rt: HostRuntime) -> Result<(), Fail> {
-    check(&rt, rt.alloc(), &OVERLAPPING, &WITH_ITS_CANCELS)
+fn a_room_is_replayed_with_its_cancels(rt: HostRuntime) {
+    check(&rt, rt.alloc(), &OVERLAPPING, &WITH_ITS_CANCELS);
 }
 
 const BEHIND_XRAY: &[(Numbers, Place)] = &[
@@ -554,6 +522,6 @@ static WRITE_IN_FRONT: [Step; 8] = [
 ];
 
 #[test]
-fn a_write_in_front_changes_what_a_cancel_finds(rt: HostRuntime) -> Result<(), Fail> {
-    check(&rt, rt.alloc(), &OVERLAPPING, &WRITE_IN_FRONT)
+fn a_write_in_front_changes_what_a_cancel_finds(rt: HostRuntime) {
+    check(&rt, rt.alloc(), &OVERLAPPING, &WRITE_IN_FRONT);
 }

@@ -1,115 +1,19 @@
 // The batches and positions of worked examples, as values and as bytes. What a test compares is made by functions without
 // clauses, so that its proof carries no values that own memory.
 
+use crate::builders::{Ask, Line, batch, position};
 use crate::same::same;
-use mr_base::{
-    Alternatives, Batch, CommitNumber, Day, Ending, Header, Item, Position, Refusal, RoomName,
-    ServerId, Slot, Stamp, Title, Version, Write, WriteId, read_minute,
-};
+use mr_base::{Batch, Ending, Position, Refusal, Version};
 use mr_wire::{read_batch, read_position, write_batch, write_position};
 use std::alloc::Global;
-
-/// A booking of oak on 1995-12-18: its length, the times of its wish and of its alternatives, and its title.
-#[derive(Clone, Copy)]
-struct Booking {
-    length: u32,
-    wish: &'static str,
-    others: &'static [&'static str],
-    title: &'static str,
-}
-
-/// A line of a batch: a booking with its server, its number and its time, a cancel of oak with these and with the server
-/// and the number of its target, or a commit with its number and the write's.
-#[derive(Clone, Copy)]
-enum Line {
-    W(u32, u32, u64, Booking),
-    X(u32, u32, u64, u32, u32),
-    C(u64, u32, u32),
-}
-
-fn server(number: u32) -> Result<ServerId, Refusal> {
-    match ServerId::new(number) {
-        Some(server) => Ok(server),
-        None => Err(Refusal::NotAReplica),
-    }
-}
-
-fn id(number: u32, n: u32) -> Result<WriteId, Refusal> {
-    match WriteId::new(server(number)?, n) {
-        Some(id) => Ok(id),
-        None => Err(Refusal::NoSuchRequest),
-    }
-}
-
-fn slot(time: &str) -> Result<Slot, Refusal> {
-    Slot::new(Day::read("1995-12-18")?, read_minute(time)?)
-}
-
-fn stamp(number: u32, n: u32, time: u64) -> Result<Stamp, Refusal> {
-    match Stamp::new(id(number, n)?, time) {
-        Some(stamp) => Ok(stamp),
-        None => Err(Refusal::ClockExhausted),
-    }
-}
-
-fn write(alloc: Global, stamp: Stamp, booking: Booking) -> Result<Write, Refusal> {
-    let wish = slot(booking.wish)?;
-    let mut others = Vec::new(alloc);
-    for other in booking.others {
-        others.push(slot(other)?)?;
-    }
-    let room = RoomName::new(alloc, "oak")?;
-    let title = Title::new(alloc, booking.title)?;
-    let others = Alternatives::from_vec(others);
-    Write::new(stamp, room, title, booking.length, wish, others)
-}
-
-fn item(alloc: Global, line: Line) -> Result<Item, Refusal> {
-    match line {
-        Line::W(number, n, time, booking) => {
-            Ok(Item::W(write(alloc, stamp(number, n, time)?, booking)?))
-        }
-        Line::X(number, n, time, of, target) => {
-            let room = RoomName::new(alloc, "oak")?;
-            let (stamp, target) = (stamp(number, n, time)?, id(of, target)?);
-            Ok(Item::W(Write::cancel(stamp, room, target)))
-        }
-        Line::C(seq, number, n) => {
-            let id = id(number, n)?;
-            match CommitNumber::new(seq) {
-                Some(seq) => Ok(Item::C { seq, id }),
-                None => Err(Refusal::NoSuchRequest),
-            }
-        }
-    }
-}
-
-/// A batch that this server made, whose primary is 1.
-fn batch(
-    alloc: Global,
-    version: Version,
-    from: u32,
-    lines: &[Line],
-    ending: Ending,
-) -> Result<Batch, Refusal> {
-    let header = Header {
-        from: server(from)?,
-        primary: server(1)?,
-    };
-    let mut items = Vec::new(alloc);
-    for line in lines {
-        items.push(item(alloc, *line)?)?;
-    }
-    Batch::new(version, header, items, ending)
-}
+use std::process::Abort;
 
 fn is_written_as(alloc: Global, batch: &Batch, text: &str) -> Result<bool, Refusal> {
     let written = write_batch(alloc, batch)?;
     Ok(written.as_slice() == text.as_bytes())
 }
 
-/// Whether the batch has this text, and what is read of the text has it too.
-fn is_exchanged(
+fn is_made_as(
     alloc: Global,
     version: Version,
     from: u32,
@@ -117,20 +21,25 @@ fn is_exchanged(
     ending: Ending,
     text: &str,
 ) -> Result<bool, Refusal> {
-    let batch = batch(alloc, version, from, lines, ending)?;
+    let batch = batch(alloc, version, (from, 1), lines, ending)?;
+    is_written_as(alloc, &batch, text)
+}
+
+/// Whether what is read of the text has it.
+fn is_read_as(alloc: Global, text: &str) -> Result<bool, Refusal> {
     let found = read_batch(alloc, text.as_bytes())?;
-    Ok(is_written_as(alloc, &batch, text)? && is_written_as(alloc, &found, text)?)
+    is_written_as(alloc, &found, text)
 }
 
 const ALPHA: Line = Line::W(
     1,
     1,
     1,
-    Booking {
-        length: 60,
-        wish: "14:00",
-        others: &[],
+    Ask {
         title: "Alpha",
+        length: 60,
+        wish: 840,
+        others: &[],
     },
 );
 
@@ -138,11 +47,11 @@ const BETA: Line = Line::W(
     2,
     1,
     1,
-    Booking {
-        length: 60,
-        wish: "13:30",
-        others: &["15:00"],
+    Ask {
         title: "Beta",
+        length: 60,
+        wish: 810,
+        others: &[900],
     },
 );
 
@@ -150,11 +59,11 @@ const LATER_BETA: Line = Line::W(
     3,
     1,
     1,
-    Booking {
-        length: 60,
-        wish: "13:30",
-        others: &[],
+    Ask {
         title: "Beta",
+        length: 60,
+        wish: 810,
+        others: &[],
     },
 );
 
@@ -162,11 +71,11 @@ const AUDIT: Line = Line::W(
     1,
     1,
     1,
-    Booking {
-        length: 60,
-        wish: "13:30",
-        others: &[],
+    Ask {
         title: "Audit",
+        length: 60,
+        wish: 810,
+        others: &[],
     },
 );
 
@@ -174,11 +83,11 @@ const BRIEF: Line = Line::W(
     1,
     2,
     2,
-    Booking {
-        length: 30,
-        wish: "14:30",
-        others: &[],
+    Ask {
         title: "Brief",
+        length: 30,
+        wish: 870,
+        others: &[],
     },
 );
 
@@ -186,11 +95,11 @@ const LATE: Line = Line::W(
     2,
     1,
     2,
-    Booking {
-        length: 30,
-        wish: "09:00",
-        others: &[],
+    Ask {
         title: "Late",
+        length: 30,
+        wish: 540,
+        others: &[],
     },
 );
 
@@ -198,11 +107,11 @@ const MORNING_ALPHA: Line = Line::W(
     1,
     1,
     1,
-    Booking {
-        length: 60,
-        wish: "09:00",
-        others: &[],
+    Ask {
         title: "Alpha",
+        length: 60,
+        wish: 540,
+        others: &[],
     },
 );
 
@@ -210,11 +119,11 @@ const MORNING_BETA: Line = Line::W(
     1,
     2,
     2,
-    Booking {
-        length: 60,
-        wish: "09:00",
-        others: &["10:00"],
+    Ask {
         title: "Beta",
+        length: 60,
+        wish: 540,
+        others: &[600],
     },
 );
 
@@ -222,11 +131,11 @@ const GAMMA: Line = Line::W(
     1,
     4,
     4,
-    Booking {
-        length: 60,
-        wish: "09:00",
-        others: &[],
+    Ask {
         title: "Gamma",
+        length: 60,
+        wish: 540,
+        others: &[],
     },
 );
 
@@ -234,13 +143,11 @@ const NINE: Line = Line::W(
     1,
     1,
     1,
-    Booking {
-        length: 60,
-        wish: "08:00",
-        others: &[
-            "09:00", "10:00", "11:00", "12:00", "13:00", "14:00", "15:00", "16:00", "17:00",
-        ],
+    Ask {
         title: "Nine",
+        length: 60,
+        wish: 480,
+        others: &[540, 600, 660, 720, 780, 840, 900, 960, 1020],
     },
 );
 
@@ -249,14 +156,13 @@ const SIXTEEN: Line = Line::W(
     99,
     999_999_999,
     999_999_999_999,
-    Booking {
-        length: 60,
-        wish: "08:00",
-        others: &[
-            "09:00", "10:00", "11:00", "12:00", "13:00", "14:00", "15:00", "16:00", "17:00",
-            "18:00", "19:00", "20:00", "21:00", "22:00", "23:00", "07:00",
-        ],
+    Ask {
         title: "a title of sixty bytes,  with two spaces in it, and a point.",
+        length: 60,
+        wish: 480,
+        others: &[
+            540, 600, 660, 720, 780, 840, 900, 960, 1020, 1080, 1140, 1200, 1260, 1320, 1380, 420,
+        ],
     },
 );
 
@@ -265,13 +171,11 @@ const FULL: Line = Line::W(
     99,
     999_999_999,
     999_999_999_999,
-    Booking {
-        length: 60,
-        wish: "08:00",
-        others: &[
-            "09:00", "10:00", "11:00", "12:00", "13:00", "14:00", "15:00", "16:00",
-        ],
+    Ask {
         title: "a title of sixty bytes,  with two spaces in it, and a point.",
+        length: 60,
+        wish: 480,
+        others: &[540, 600, 660, 720, 780, 840, 900, 960],
     },
 );
 
@@ -415,10 +319,12 @@ static BATCHES: [(Version, u32, &[Line], Ending, &str, usize); 17] = [
     ),
 ];
 
-/// The numbers of bytes from one to another of the text of Alpha and Beta, the second one left out: whether they have a
-/// header, how many items they are, and how they end. The header ends with byte 8, the lines of the two writes with the
-/// bytes 48 and 104.
-static FRONTS: [(usize, usize, (bool, usize, Ending)); 5] = [
+/// Whether a text has a header, how many items it has, and how it ends.
+type Parts = (bool, usize, Ending);
+
+/// The numbers of bytes from one to another of the text of Alpha and Beta, the second one left out, and what these bytes have. The
+/// header ends with byte 8, the lines of the two writes with the bytes 48 and 104.
+static FRONTS: [(usize, usize, Parts); 5] = [
     (0, 8, (false, 0, Ending::Cut)),
     (8, 48, (true, 0, Ending::Cut)),
     (48, 104, (true, 1, Ending::Cut)),
@@ -426,7 +332,7 @@ static FRONTS: [(usize, usize, (bool, usize, Ending)); 5] = [
     (106, 107, (true, 2, Ending::Complete)),
 ];
 
-fn parts_of(alloc: Global, bytes: &[u8]) -> Result<(bool, usize, Ending), Refusal> {
+fn parts_of(alloc: Global, bytes: &[u8]) -> Result<Parts, Refusal> {
     let found = read_batch(alloc, bytes)?;
     Ok((found.header.is_some(), found.items.len(), found.ending))
 }
@@ -434,41 +340,31 @@ fn parts_of(alloc: Global, bytes: &[u8]) -> Result<(bool, usize, Ending), Refusa
 #[test]
 fn batches_are_exchanged(rt: HostRuntime) {
     for (version, from, lines, ending, text, size) in &BATCHES {
-        let is_exchanged = is_exchanged(rt.alloc(), *version, *from, lines, *ending, text);
-        same(&rt, &(is_exchanged, text.len()), &(Ok(true), *size), text);
-    }
-    let empty = Batch::without_header(Vec::new(rt.alloc()));
-    same(
-        &rt,
-        &is_written_as(rt.alloc(), &empty, ""),
-        &Ok(true),
-        "no line",
-    );
-    let bytes = ALPHA_AND_BETA.as_bytes();
-    for (from, to, want) in &FRONTS {
-        for j in *from..*to {
-            let found = parts_of(rt.alloc(), bytes.get(..j).unwrap_or(&[]));
-            same(&rt, &found, &Ok(*want), j);
-        }
+        let is_made = is_made_as(rt.alloc(), *version, *from, lines, *ending, text);
+        same(&rt, &(is_made, text.len()), &(Ok(true), *size), text);
+        same(&rt, &is_read_as(rt.alloc(), text), &Ok(true), text);
     }
 }
 
-/// A position whose primary is 1.
-fn position(
-    alloc: Global,
-    version: Version,
-    own: u32,
-    commits: u64,
-    of: &[(u32, u32)],
-) -> Result<Position, Refusal> {
-    let (own, primary) = (server(own)?, server(1)?);
-    let mut counts = Vec::new(alloc);
-    for (number, n) in of {
-        counts.push((server(*number)?, *n))?;
+#[test]
+fn no_line_is_written_as_nothing(rt: HostRuntime) {
+    let empty = Batch::without_header(Vec::new(rt.alloc()));
+    let found = is_written_as(rt.alloc(), &empty, "");
+    same(&rt, &found, &Ok(true), "no line");
+}
+
+/// The fronts of these numbers of bytes have these parts.
+fn check_fronts(rt: &impl Abort, alloc: Global, (from, to): (usize, usize), want: Parts) {
+    for j in from..to {
+        let front = ALPHA_AND_BETA.as_bytes().get(..j).unwrap_or(&[]);
+        same(rt, &parts_of(alloc, front), &Ok(want), j);
     }
-    match Position::new(version, own, primary, commits, counts) {
-        Some(position) => Ok(position),
-        None => Err(Refusal::BadPosition),
+}
+
+#[test]
+fn fronts_are_read(rt: HostRuntime) {
+    for (from, to, want) in &FRONTS {
+        check_fronts(&rt, rt.alloc(), (*from, *to), *want);
     }
 }
 
@@ -477,8 +373,7 @@ fn is_position_written_as(alloc: Global, position: &Position, text: &str) -> Res
     Ok(written.as_slice() == text.as_bytes())
 }
 
-/// Whether the position has this text, and what is read of the text has it too.
-fn is_position_exchanged(
+fn is_position_made_as(
     alloc: Global,
     version: Version,
     own: u32,
@@ -487,11 +382,13 @@ fn is_position_exchanged(
     text: &str,
 ) -> Result<bool, Refusal> {
     let position = position(alloc, version, own, commits, of)?;
+    is_position_written_as(alloc, &position, text)
+}
+
+/// Whether what is read of the text has it.
+fn is_position_read_as(alloc: Global, text: &str) -> Result<bool, Refusal> {
     let found = read_position(alloc, text.as_bytes())?;
-    Ok(
-        is_position_written_as(alloc, &position, text)?
-            && is_position_written_as(alloc, &found, text)?,
-    )
+    is_position_written_as(alloc, &found, text)
 }
 
 fn refusal_of_position(alloc: Global, bytes: &[u8]) -> Option<Refusal> {
@@ -533,22 +430,26 @@ static POSITIONS: [(Version, u32, u64, &[(u32, u32)], &str); 7] = [
     ),
 ];
 
-/// No front of a position's text is a position's.
 #[test]
 fn positions_are_exchanged(rt: HostRuntime) {
     for (version, own, commits, counts, text) in &POSITIONS {
-        let is_exchanged = is_position_exchanged(
-            rt.alloc(),
-            *version,
-            *own,
-            *commits,
-            counts,
-            text,
-        );
-        same(&rt, &is_exchanged, &Ok(true), text);
-        for j in 0..text.len() {
-            let refusal = refusal_of_position(rt.alloc(), text.as_bytes().get(..j).unwrap_or(&[]));
-            same(&rt, &refusal, &Some(Refusal::BadPosition), (j, text));
-        }
+        let is_made = is_position_made_as(rt.alloc(), *version, *own, *commits, counts, text);
+        same(&rt, &is_made, &Ok(true), text);
+        same(&rt, &is_position_read_as(rt.alloc(), text), &Ok(true), text);
+    }
+}
+
+/// No front of this text is a position's.
+fn check_no_positions(rt: &impl Abort, alloc: Global, text: &str) {
+    for j in 0..text.len() {
+        let refusal = refusal_of_position(alloc, text.as_bytes().get(..j).unwrap_or(&[]));
+        same(rt, &refusal, &Some(Refusal::BadPosition), (j, text));
+    }
+}
+
+#[test]
+fn fronts_of_positions_are_none(rt: HostRuntime) {
+    for (_, _, _, _, text) in &POSITIONS {
+        check_no_positions(&rt, rt.alloc(), text);
     }
 }

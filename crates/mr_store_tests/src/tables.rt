@@ -1,7 +1,8 @@
 // Tables of server 3, whose primary is 1, written out by hand: each server has one write, its first, for an hour of oak.
 
-use crate::desks::server;
-use mr_base::{Day, Refusal, RoomName, Title, WriteId};
+use crate::builders::{MONDAY, add, id, server};
+use crate::rows::{booking_row, cancel_row, error_row, no_rows};
+use mr_base::{Refusal, RoomName, Title};
 use mr_replay::Place;
 use mr_tables::{
     ActionCells, BookingRow, CancelRow, CancelledRow, ErrorRow, LogRow, MeetingCells, MetaRow,
@@ -32,155 +33,147 @@ pub(crate) struct Rows {
     pub cancels: &'static [(u32, u32, bool, u64, u64)],
 }
 
-fn names(alloc: Global) -> Result<(RoomName, Title), Refusal> {
-    let room = RoomName::new(alloc, "oak")?;
-    Ok((room, Title::new(alloc, "Audit")?))
-}
-
-fn vector(alloc: Global, of: &[(u32, u64, u32)]) -> Result<Vec<VectorRow>, Refusal> {
-    let mut rows = Vec::new(alloc);
+fn add_vector(list: &mut Vec<VectorRow>, of: &[(u32, u64, u32)]) -> Result<(), Refusal> {
     for (number, last_time, committed) in of {
-        rows.push(VectorRow {
+        list.push(VectorRow {
             server: server(*number)?,
             count: 1,
             last_time: *last_time,
             committed: *committed,
         })?;
     }
-    Ok(rows)
+    Ok(())
 }
 
-/// The id of a server's first write.
-fn first_of(number: u32) -> Result<WriteId, Refusal> {
-    WriteId::new(server(number)?, 1).ok_or(Refusal::NoSuchRequest)
-}
-
-fn log(alloc: Global, of: &Rows) -> Result<Vec<LogRow>, Refusal> {
-    let mut rows = Vec::new(alloc);
-    for (number, time, place, seq, target) in of.kept_cancels {
-        rows.push(LogRow {
-            server: server(*number)?,
-            n: 1,
-            time: *time,
-            room: RoomName::new(alloc, "oak")?,
-            action: ActionCells::OfCancel(first_of(*target)?),
-            place: *place,
-            seq: *seq,
-        })?;
-    }
-    for (number, time, choices, place, seq) in of.log {
-        let (room, title) = names(alloc)?;
-        let choices = String::from_str(alloc, choices)?;
-        rows.push(LogRow {
-            server: server(*number)?,
-            n: 1,
-            time: *time,
-            room,
-            action: ActionCells::OfMeeting(MeetingCells {
-                length: 60,
-                choices,
-                title,
-            }),
-            place: *place,
-            seq: *seq,
-        })?;
-    }
-    Ok(rows)
-}
-
-fn booking(alloc: Global, of: &[u32]) -> Result<Vec<BookingRow>, Refusal> {
-    let mut rows = Vec::new(alloc);
-    for number in of {
-        let (room, title) = names(alloc)?;
-        rows.push(BookingRow {
-            room,
-            day: Day::read("1995-12-18")?,
-            start: 870,
-            stop: 930,
-            server: server(*number)?,
-            n: 1,
-            title,
-            committed: true,
-        })?;
-    }
-    Ok(rows)
-}
-
-fn errorlog(alloc: Global, of: &[(u32, u64)]) -> Result<Vec<ErrorRow>, Refusal> {
-    let mut rows = Vec::new(alloc);
-    for (number, seq) in of {
-        let (room, title) = names(alloc)?;
-        rows.push(ErrorRow {
-            room,
-            day: Day::read("1995-12-18")?,
-            start: 840,
-            stop: 900,
-            server: server(*number)?,
-            n: 1,
-            title,
-            time: 1,
-            seq: *seq,
-        })?;
-    }
-    Ok(rows)
-}
-
-fn cancelled(alloc: Global, of: &[(u32, u32, bool)]) -> Result<Vec<CancelledRow>, Refusal> {
-    let mut rows = Vec::new(alloc);
-    for (number, by, committed) in of {
-        let (room, title) = names(alloc)?;
-        rows.push(CancelledRow {
-            room,
-            day: Day::read("1995-12-18")?,
-            start: 870,
-            stop: 930,
-            server: server(*number)?,
-            n: 1,
-            title,
-            committed: *committed,
-            by: first_of(*by)?,
-        })?;
-    }
-    Ok(rows)
-}
-
-fn cancels(alloc: Global, of: &[(u32, u32, bool, u64, u64)]) -> Result<Vec<CancelRow>, Refusal> {
-    let mut rows = Vec::new(alloc);
-    for (number, target, done, time, seq) in of {
-        rows.push(CancelRow {
-            server: server(*number)?,
-            n: 1,
-            room: RoomName::new(alloc, "oak")?,
-            target: first_of(*target)?,
-            done: *done,
-            time: *time,
-            seq: *seq,
-        })?;
-    }
-    Ok(rows)
-}
-
-/// The tables with these rows; oak is known where a row speaks of it.
-pub(crate) fn tables(alloc: Global, rows: &Rows) -> Result<Tables, Refusal> {
-    let mut room = Vec::new(alloc);
-    if !rows.booking.is_empty() || !rows.cancelled.is_empty() {
-        room.push(RoomName::new(alloc, "oak")?)?;
-    }
-    let (commits, dropped, clock) = rows.meta;
-    Ok(Tables {
-        meta: MetaRow {
-            server: server(3)?,
-            primary: server(1)?,
-            commits,
-            dropped,
-            clock,
-        },
-        room,
-        vector: vector(alloc, rows.vector)?,
-        log: log(alloc, rows)?,
-        booking: booking(alloc, rows.booking)?,
-        errorlog: errorlog(alloc, rows.errorlog)?,
-        cancelled: cancelled(alloc, rows.cancelled)?,
-        cancels: cancels(alloc, rows.cancels)?,
+fn cancel(
+    alloc: Global,
+    (number, time, place, seq, target): (u32, u64, Place, u64, u32),
+) -> Result<LogRow, Refusal> {
+    let (server, target) = (server(number)?, id(target, 1)?);
+    Ok(LogRow {
+        server,
+        n: 1,
+        time,
+        room: RoomName::new(alloc, "oak")?,
+        action: ActionCells::OfCancel(target),
+        place,
+        seq,
     })
+}
+
+/// The cells of an hour with these choices.
+fn cells(alloc: Global, choices: &str) -> Result<MeetingCells, Refusal> {
+    let choices = String::from_str(alloc, choices)?;
+    Ok(MeetingCells {
+        length: 60,
+        choices,
+        title: Title::new(alloc, "Audit")?,
+    })
+}
+
+fn meeting(
+    alloc: Global,
+    (number, time, choices, place, seq): (u32, u64, &str, Place, u64),
+) -> Result<LogRow, Refusal> {
+    let server = server(number)?;
+    let cells = cells(alloc, choices)?;
+    Ok(LogRow {
+        server,
+        n: 1,
+        time,
+        room: RoomName::new(alloc, "oak")?,
+        action: ActionCells::OfMeeting(cells),
+        place,
+        seq,
+    })
+}
+
+fn add_log(alloc: Global, list: &mut Vec<LogRow>, of: &Rows) -> Result<(), Refusal> {
+    for row in of.kept_cancels {
+        add(list, cancel(alloc, *row))?;
+    }
+    for row in of.log {
+        add(list, meeting(alloc, *row))?;
+    }
+    Ok(())
+}
+
+/// The write of this server has the hour from 14:30 on.
+fn booked(alloc: Global, number: u32, committed: bool) -> Result<BookingRow, Refusal> {
+    booking_row(alloc, ("oak", MONDAY), (870, 930), (number, 1), committed)
+}
+
+fn add_bookings(alloc: Global, list: &mut Vec<BookingRow>, of: &[u32]) -> Result<(), Refusal> {
+    for number in of {
+        add(list, booked(alloc, *number, true))?;
+    }
+    Ok(())
+}
+
+fn add_errors(alloc: Global, list: &mut Vec<ErrorRow>, of: &[(u32, u64)]) -> Result<(), Refusal> {
+    for (number, seq) in of {
+        add(list, error_row(alloc, (840, 900), (*number, 1), (1, *seq)))?;
+    }
+    Ok(())
+}
+
+fn taken_back(
+    alloc: Global,
+    (number, by, committed): (u32, u32, bool),
+) -> Result<CancelledRow, Refusal> {
+    let row = booked(alloc, number, committed)?;
+    Ok(CancelledRow::of_booking(row, id(by, 1)?))
+}
+
+fn add_taken_back(
+    alloc: Global,
+    list: &mut Vec<CancelledRow>,
+    of: &[(u32, u32, bool)],
+) -> Result<(), Refusal> {
+    for row in of {
+        add(list, taken_back(alloc, *row))?;
+    }
+    Ok(())
+}
+
+fn add_cancels(
+    alloc: Global,
+    list: &mut Vec<CancelRow>,
+    of: &[(u32, u32, bool, u64, u64)],
+) -> Result<(), Refusal> {
+    for (number, target, done, time, seq) in of {
+        let row = cancel_row(alloc, (*number, 1), (*target, 1), *done, (*time, *seq));
+        add(list, row)?;
+    }
+    Ok(())
+}
+
+fn meta((commits, dropped, clock): (u64, u64, u64)) -> Result<MetaRow, Refusal> {
+    Ok(MetaRow {
+        server: server(3)?,
+        primary: server(1)?,
+        commits,
+        dropped,
+        clock,
+    })
+}
+
+/// Puts these rows into the tables; oak is known where a row speaks of it.
+fn fill(alloc: Global, tables: &mut Tables, rows: &Rows) -> Result<(), Refusal> {
+    if !rows.booking.is_empty() || !rows.cancelled.is_empty() {
+        add(&mut tables.room, RoomName::new(alloc, "oak"))?;
+    }
+    add_vector(&mut tables.vector, rows.vector)?;
+    add_log(alloc, &mut tables.log, rows)?;
+    add_bookings(alloc, &mut tables.booking, rows.booking)?;
+    add_errors(alloc, &mut tables.errorlog, rows.errorlog)?;
+    add_taken_back(alloc, &mut tables.cancelled, rows.cancelled)?;
+    add_cancels(alloc, &mut tables.cancels, rows.cancels)
+}
+
+/// The tables with these rows.
+pub(crate) fn tables(alloc: Global, rows: &Rows) -> Result<Tables, Refusal> {
+    let mut tables = no_rows(alloc, meta(rows.meta)?);
+    fill(alloc, &mut tables, rows)?;
+    Ok(tables)
 }

@@ -1,22 +1,17 @@
 // Values are made within their limits and not past them, and each call that takes memory answers with enough of it.
 // What a test compares is made by functions without clauses, so that its proof carries no values that own memory.
 
+use crate::builders::{
+    Ask, Line, MONDAY, TUESDAY, batch, cancel, header, id, names, position, request, slot, slots,
+    stamp,
+};
 use crate::same::same;
 use mr_base::{
-    Action, Alternatives, Batch, CommitNumber, Day, Ending, Header, Item, LineCount, Meeting,
-    Position, Refusal, Request, RoomName, ServerId, Slot, Stamp, Title, Version, Write, WriteId,
-    overlaps, stamp_before,
+    Action, Batch, CommitNumber, Ending, Item, LineCount, Meeting, Refusal, RoomName, Title,
+    Version, Write, overlaps, stamp_before,
 };
 use std::alloc::Global;
-use std::test::Fail;
-
-const MONDAY: &str = "1995-12-18";
-
-const TUESDAY: &str = "1995-12-19";
-
-fn slot(day: &str, start: u32) -> Result<Slot, Refusal> {
-    Slot::new(Day::read(day)?, start)
-}
+use std::process::Abort;
 
 static STARTS: [(u32, Option<Refusal>); 7] = [
     (0, None),
@@ -144,13 +139,9 @@ static LIMITS: [((u32, u32, u64), (u32, u64), Option<bool>); 12] = [
     ((1, 1, 1), (1, 1_000_000_000_000), None),
 ];
 
-fn stamp((server, n, time): (u32, u32, u64)) -> Option<Stamp> {
-    Stamp::new(WriteId::new(ServerId::new(server)?, n)?, time)
-}
-
 // Whether what is made of these numbers has them.
 fn have_numbers((server, lines, commit): (u32, u32, u64), (n, time): (u32, u64)) -> Option<bool> {
-    let stamp = stamp((server, n, time))?;
+    let stamp = stamp(server, n, time).ok()?;
     let lines_made = LineCount::new(lines)?;
     let commit_made = CommitNumber::new(commit)?;
     let id = stamp.id();
@@ -171,28 +162,23 @@ fn numbers_are_within_limits(rt: HostRuntime) {
     }
 }
 
-fn slots(alloc: Global, starts: &[u32]) -> Result<Alternatives, Refusal> {
-    let mut slots = Vec::new(alloc);
-    for start in starts {
-        slots.push(slot(MONDAY, *start)?)?;
-    }
-    Ok(Alternatives::from_vec(slots))
-}
-
 // A write for oak on 1995-12-18 at 14:00, or else at one of these minutes of the day; or its refusal.
 fn write(
     alloc: Global,
-    numbers: (u32, u32, u64),
+    (server, n, time): (u32, u32, u64),
     length: u32,
     others: &[u32],
 ) -> Result<Write, Refusal> {
-    let Some(stamp) = stamp(numbers) else {
-        return Err(Refusal::ClockExhausted);
-    };
-    let wish = slot(MONDAY, 840)?;
-    let room = RoomName::new(alloc, "oak")?;
-    let title = Title::new(alloc, "Budget Meeting")?;
-    Write::new(stamp, room, title, length, wish, slots(alloc, others)?)
+    let (stamp, wish) = (stamp(server, n, time)?, slot(MONDAY, 840)?);
+    let (room, title) = names(alloc, "oak", "Budget Meeting")?;
+    Write::new(
+        stamp,
+        room,
+        title,
+        length,
+        wish,
+        slots(alloc, MONDAY, others)?,
+    )
 }
 
 // a write's server, count and time, its length and its alternatives; whether it is the same as the second write of server
@@ -218,25 +204,34 @@ static WRITES: [((u32, u32, u64), u32, &[u32], Result<(bool, bool), Refusal>); 1
 ];
 
 // What a write and the copy of another are to each other.
-fn compared(
+fn compared(alloc: Global, first: &Write, other: &Write) -> Result<(bool, bool), Refusal> {
+    let other = other.copy(alloc)?;
+    Ok((first.is_same(&other), stamp_before(first, &other)))
+}
+
+fn compared_bookings(
     alloc: Global,
     first: &Write,
     numbers: (u32, u32, u64),
     length: u32,
     others: &[u32],
 ) -> Result<(bool, bool), Refusal> {
-    let other = write(alloc, numbers, length, others)?.copy(alloc)?;
-    Ok((first.is_same(&other), stamp_before(first, &other)))
+    let other = write(alloc, numbers, length, others)?;
+    compared(alloc, first, &other)
+}
+
+// What this write is to the others.
+fn check_writes(rt: &impl Abort, alloc: Global, first: &Write) {
+    for (numbers, length, others, want) in &WRITES {
+        let found = compared_bookings(alloc, first, *numbers, *length, others);
+        same(rt, &found, want, (numbers, length));
+    }
 }
 
 #[test]
-fn writes_are_copied_and_compared(rt: HostRuntime) -> Result<(), Fail> {
-    let first = write(rt.alloc(), (2, 2, 2), 60, &[540])?;
-    for (numbers, length, others, want) in &WRITES {
-        let found = compared(rt.alloc(), &first, *numbers, *length, others);
-        same(&rt, &found, want, (numbers, length));
-    }
-    Ok(())
+fn writes_are_copied_and_compared(rt: HostRuntime) {
+    let first = write(rt.alloc(), (2, 2, 2), 60, &[540]).expect(&rt, "a write");
+    check_writes(&rt, rt.alloc(), &first);
 }
 
 // a cancel's stamp and its target; what it and its copy are to the cancel 2-2 of 1-1 at time 2; and whether that cancel stands
@@ -249,57 +244,62 @@ static CANCELS: [((u32, u32, u64), (u32, u32), Result<(bool, bool), Refusal>); 5
     ((3, 2, 2), (1, 1), Ok((false, true))),
 ];
 
-fn id((number, n): (u32, u32)) -> Result<WriteId, Refusal> {
-    match WriteId::new(server(number)?, n) {
-        Some(id) => Ok(id),
-        None => Err(Refusal::CountExhausted),
-    }
-}
-
 // The cancel for oak with this stamp.
-fn cancel(alloc: Global, numbers: (u32, u32, u64), target: (u32, u32)) -> Result<Write, Refusal> {
-    let Some(stamp) = stamp(numbers) else {
-        return Err(Refusal::ClockExhausted);
-    };
-    Ok(Write::cancel(stamp, RoomName::new(alloc, "oak")?, id(target)?))
+fn cancel_of(
+    alloc: Global,
+    (server, n, time): (u32, u32, u64),
+    (of, target): (u32, u32),
+) -> Result<Write, Refusal> {
+    cancel(alloc, stamp(server, n, time)?, "oak", id(of, target)?)
 }
 
-// What a cancel and the copy of another are to each other.
 fn compared_cancels(
     alloc: Global,
     first: &Write,
     numbers: (u32, u32, u64),
     target: (u32, u32),
 ) -> Result<(bool, bool), Refusal> {
-    let other = cancel(alloc, numbers, target)?.copy(alloc)?;
-    Ok((first.is_same(&other), stamp_before(first, &other)))
+    let other = cancel_of(alloc, numbers, target)?;
+    compared(alloc, first, &other)
 }
 
-fn is_cancel_of(write: &Write, target: (u32, u32)) -> Result<bool, Refusal> {
-    let wanted = id(target)?;
+fn is_cancel_of(write: &Write, (of, n): (u32, u32)) -> Result<bool, Refusal> {
+    let wanted = id(of, n)?;
     match &write.action {
         Action::Cancels(found) => Ok(*found == wanted),
         Action::Books(_) => Ok(false),
     }
 }
 
+fn is_same_as_cancel(alloc: Global, booking: &Write) -> Result<bool, Refusal> {
+    let other = cancel_of(alloc, (2, 2, 2), (1, 1))?;
+    Ok(booking.is_same(&other) || other.is_same(booking))
+}
+
 // Whether a booking and a cancel under one stamp are the same.
 fn are_kinds_same(alloc: Global) -> Result<bool, Refusal> {
     let booking = write(alloc, (2, 2, 2), 60, &[540])?;
-    let other = cancel(alloc, (2, 2, 2), (1, 1))?;
-    Ok(booking.is_same(&other) || other.is_same(&booking))
+    is_same_as_cancel(alloc, &booking)
+}
+
+// What this cancel is to the others.
+fn check_cancels(rt: &impl Abort, alloc: Global, first: &Write) {
+    for (numbers, target, want) in &CANCELS {
+        let found = compared_cancels(alloc, first, *numbers, *target);
+        same(rt, &found, want, (numbers, target));
+    }
 }
 
 #[test]
-fn cancels_are_copied_and_compared(rt: HostRuntime) -> Result<(), Fail> {
-    let first = cancel(rt.alloc(), (2, 2, 2), (1, 1))?;
+fn cancels_are_copied_and_compared(rt: HostRuntime) {
+    let first = cancel_of(rt.alloc(), (2, 2, 2), (1, 1)).expect(&rt, "a cancel");
     same(&rt, &is_cancel_of(&first, (1, 1)), &Ok(true), "its target");
-    for (numbers, target, want) in &CANCELS {
-        let found = compared_cancels(rt.alloc(), &first, *numbers, *target);
-        same(&rt, &found, want, (numbers, target));
-    }
+    check_cancels(&rt, rt.alloc(), &first);
+}
+
+#[test]
+fn a_booking_and_a_cancel_are_compared(rt: HostRuntime) {
     same(&rt, &are_kinds_same(rt.alloc()), &Ok(false), "both kinds");
-    Ok(())
 }
 
 // the words of a request that wishes 14:00, its length and its alternatives, and its smallest refusal
@@ -325,56 +325,57 @@ static REQUESTS: [((&str, &str), u32, &[u32], Result<bool, Refusal>); 14] = [
     (("oak", "Audit"), 60, &[1381], Err(Refusal::BadLength)),
 ];
 
-// Whether the request of these words has them.
-fn is_request_of(
-    alloc: Global,
-    (room, title): (&str, &str),
-    length: u32,
-    others: &[u32],
-) -> Result<bool, Refusal> {
-    let wish = slot(MONDAY, 840)?;
-    let made = Request::of_words(alloc, room, title, length, wish, slots(alloc, others)?)?;
-    Ok(made.room.as_str() == room && is_meeting_of(&made.meeting, title, length, wish, others))
+// Whether the meeting is what is asked for, on Monday.
+fn is_meeting_of(meeting: &Meeting, ask: Ask) -> Result<bool, Refusal> {
+    let wish = slot(MONDAY, ask.wish)?;
+    Ok(
+        meeting.title.as_str() == ask.title
+            && meeting.length == ask.length
+            && meeting.wish == wish
+            && meeting.alternatives.as_slice().len() == ask.others.len(),
+    )
 }
 
-// Whether the meeting has these parts.
-fn is_meeting_of(meeting: &Meeting, title: &str, length: u32, wish: Slot, others: &[u32]) -> bool {
-    meeting.title.as_str() == title
-        && meeting.length == length
-        && meeting.wish == wish
-        && meeting.alternatives.as_slice().len() == others.len()
+// Whether the request of these words has them.
+fn is_request_of(alloc: Global, room: &str, ask: Ask) -> Result<bool, Refusal> {
+    let made = request(alloc, (room, MONDAY), ask)?;
+    Ok(made.room.as_str() == room && is_meeting_of(&made.meeting, ask)?)
 }
 
 #[test]
 fn the_smallest_refusal_of_words_is_answered(rt: HostRuntime) {
-    for (words, length, others, want) in &REQUESTS {
-        let found = is_request_of(rt.alloc(), *words, *length, others);
-        same(&rt, &found, want, (words, length));
+    for ((room, title), length, others, want) in &REQUESTS {
+        let ask = Ask {
+            title,
+            length: *length,
+            wish: 840,
+            others,
+        };
+        let found = is_request_of(rt.alloc(), room, ask);
+        same(&rt, &found, want, (room, title, length));
     }
 }
 
-fn server(number: u32) -> Result<ServerId, Refusal> {
-    match ServerId::new(number) {
-        Some(server) => Ok(server),
-        None => Err(Refusal::NotAReplica),
-    }
-}
+// A write of server 2, with as many alternatives as the first version has, and its commit.
+const WRITE_AND_COMMIT: [Line; 2] = [
+    Line::W(
+        2,
+        1,
+        1,
+        Ask {
+            title: "Budget Meeting",
+            length: 60,
+            wish: 840,
+            others: &[540; 8],
+        },
+    ),
+    Line::C(1, 2, 1),
+];
 
 // Whether a batch of a write and its commit has its version, its servers, its items and its ending.
 fn is_batch_made(alloc: Global, version: Version) -> Result<bool, Refusal> {
-    let header = Header {
-        from: server(2)?,
-        primary: server(1)?,
-    };
-    let Some(seq) = CommitNumber::new(1) else {
-        return Err(Refusal::NoSuchRequest);
-    };
-    let made = write(alloc, (2, 1, 1), 60, &[540; 8])?;
-    let id = made.stamp.id();
-    let mut items = Vec::new(alloc);
-    items.push(Item::W(made))?;
-    items.push(Item::C { seq, id })?;
-    let batch = Batch::new(version, header, items, Ending::More)?;
+    let header = header(2, 1)?;
+    let batch = batch(alloc, version, (2, 1), &WRITE_AND_COMMIT, Ending::More)?;
     Ok(
         batch.version == version
             && batch.header == Some(header)
@@ -394,11 +395,7 @@ fn said(alloc: Global, version: Version, write: Write) -> Result<(bool, Option<R
     let is_said = write.is_in_version(version);
     let mut items = Vec::new(alloc);
     items.push(Item::W(write))?;
-    let header = Header {
-        from: server(2)?,
-        primary: server(1)?,
-    };
-    let made = Batch::new(version, header, items, Ending::Complete);
+    let made = Batch::new(version, header(2, 1)?, items, Ending::Complete);
     Ok((is_said, made.err()))
 }
 
@@ -413,7 +410,7 @@ fn said_booking(
 
 // Of a cancel.
 fn said_cancel(alloc: Global, version: Version) -> Result<(bool, Option<Refusal>), Refusal> {
-    said(alloc, version, cancel(alloc, (2, 1, 1), (1, 1))?)
+    said(alloc, version, cancel_of(alloc, (2, 1, 1), (1, 1))?)
 }
 
 const IS_SAID: Result<(bool, Option<Refusal>), Refusal> = Ok((true, None));
@@ -484,33 +481,34 @@ static POSITIONS: [(Version, u64, &[(u32, u32)], bool); 8] = [
     (Version::Second, 1_000_000_000_000, &[], false),
 ];
 
-// Whether there is a position with these, and has the version that is asked for.
-fn is_position(
+// The version of the position with these.
+fn version_of_position(
     alloc: Global,
     version: Version,
     commits: u64,
     of: &[(u32, u32)],
-) -> Result<bool, Refusal> {
-    let (own, primary) = (server(2)?, server(1)?);
-    let mut counts = Vec::new(alloc);
-    for (number, n) in of {
-        counts.push((server(*number)?, *n))?;
-    }
-    match Position::new(version, own, primary, commits, counts) {
-        Some(position) => Ok(position.version == version),
-        None => Ok(false),
-    }
+) -> Result<Version, Refusal> {
+    Ok(position(alloc, version, 2, commits, of)?.version)
 }
 
 #[test]
-fn batches_and_positions_are_made(rt: HostRuntime) {
+fn batches_are_made(rt: HostRuntime) {
     for version in [Version::First, Version::Second] {
         same(&rt, &is_batch_made(rt.alloc(), version), &Ok(true), version);
     }
-    assert!(rt; is_empty_made(rt.alloc()));
-    for (version, commits, counts, want) in &POSITIONS {
-        let found = is_position(rt.alloc(), *version, *commits, counts);
-        same(&rt, &found, &Ok(*want), (version, commits, counts));
+    same(&rt, &is_empty_made(rt.alloc()), &true, "no line");
+}
+
+#[test]
+fn positions_are_made(rt: HostRuntime) {
+    for (version, commits, counts, is_one) in &POSITIONS {
+        let found = version_of_position(rt.alloc(), *version, *commits, counts);
+        let want = if *is_one {
+            Ok(*version)
+        } else {
+            Err(Refusal::BadPosition)
+        };
+        same(&rt, &found, &want, (version, commits, counts));
     }
 }
 
