@@ -1,11 +1,14 @@
 // A keeper with its rows in memory answers as the keeper below does, also after a fault of that.
 
-use crate::builders::{TUESDAY, id};
+use crate::builders::{TUESDAY, id, slot};
 use crate::changes::{first_change, request};
-use crate::keepers::{Call, OF_BOTH_CHANGES, Place, answers, check, fault_of, opening, told};
+use crate::keepers::{
+    Asked, Call, OF_BOTH_CHANGES, Place, answers, apply, check, fault_of, fault_of_change, opening,
+    told,
+};
 use crate::same::same;
-use mr_base::{Day, Position, Refusal, Request, WriteId};
-use mr_part::Scope;
+use mr_base::{Position, Refusal, Request, Slot, WriteId};
+use mr_part::{Part, Scope};
 use mr_store::{Cached, Fault, Keeper, ListKeeper, Tripped};
 use mr_tables::Change;
 use std::alloc::Global;
@@ -26,15 +29,21 @@ fn rows_in_memory_are_those_of_the_keeper(rt: HostRuntime) {
 static OF_ALL: [Call; 12] = [
     Call::Rooms(&[]),
     Call::ApplyFirst,
-    Call::Bookings("oak", false, &[(1, 1), (1, 3), (2, 4), (2, 1), (2, 2)]),
-    Call::Errors("oak", &[(2, 3)]),
-    Call::PlaceOf("oak", 3, Place::Logged),
+    Call::Of(
+        "oak",
+        Asked::Bookings(false, &[(1, 1), (1, 3), (2, 4), (2, 1), (2, 2)]),
+    ),
+    Call::Of("oak", Asked::Errors(&[(2, 3)])),
+    Call::Of("oak", Asked::PlaceOf(3, Place::Logged)),
     Call::ApplySecond,
     Call::Rooms(&["elm", "oak"]),
-    Call::Bookings("oak", false, &[(1, 1), (1, 3), (2, 4), (2, 3), (2, 2)]),
-    Call::Committed(&[true, false]),
-    Call::Errors("oak", &[(2, 1)]),
-    Call::PlaceOf("oak", 1, Place::Logged),
+    Call::Of(
+        "oak",
+        Asked::Bookings(false, &[(1, 1), (1, 3), (2, 4), (2, 3), (2, 2)]),
+    ),
+    Call::Of("oak", Asked::Committed(&[true, false])),
+    Call::Of("oak", Asked::Errors(&[(2, 1)])),
+    Call::Of("oak", Asked::PlaceOf(1, Place::Logged)),
     Call::Read(2, 6, 1),
 ];
 
@@ -86,14 +95,9 @@ fn after_a_failed_store_the_answers_are_right(rt: HostRuntime) {
 }
 
 /// The first fault of two rounds of questions.
-fn fault_of_questions<K: Keeper>(
-    keeper: &mut K,
-    request: &Request,
-    id: WriteId,
-    change: &Change,
-) -> Option<Fault> {
+fn fault_in_rounds<K: Keeper>(keeper: &mut K, request: &Request, id: WriteId) -> Option<Fault> {
     for call in 0..18 {
-        let fault = fault_of(keeper, call % 9, request, id, change);
+        let fault = fault_of(keeper, call % 9, request, id);
         if fault.is_some() {
             return fault;
         }
@@ -101,44 +105,52 @@ fn fault_of_questions<K: Keeper>(
     None
 }
 
-/// The first fault of the questions, and that of the change behind them.
-fn faults<K: Keeper>(
-    keeper: &mut K,
-    alloc: Global,
-) -> Result<(Option<Fault>, Option<Fault>), Refusal> {
-    let request = request(alloc)?;
+fn fault_of_questions<K: Keeper>(keeper: &mut K, alloc: Global) -> Result<Option<Fault>, Refusal> {
     let id = id(2, 1)?;
-    let change = first_change(alloc)?;
-    let of_questions = fault_of_questions(keeper, &request, id, &change);
-    Ok((of_questions, fault_of(keeper, 9, &request, id, &change)))
+    let request = request(alloc)?;
+    Ok(fault_in_rounds(keeper, &request, id))
 }
 
 // the second call of the keeper below fails, which is the change
 #[test]
 fn questions_ask_the_keeper_once(rt: HostRuntime) {
     let mut keeper = cached(&rt, rt.alloc(), 1, Fault::Store);
-    let faults = faults(&mut keeper, rt.alloc());
-    same(
-        &rt,
-        &faults,
-        &Ok((None, Some(Fault::Store))),
-        "two questions",
-    );
+    let of_questions = fault_of_questions(&mut keeper, rt.alloc());
+    same(&rt, &of_questions, &Ok(None), "two questions");
+    let of_change = fault_of_change(&mut keeper, rt.alloc());
+    same(&rt, &of_change, &Ok(Some(Fault::Store)), "a change");
 }
 
-/// The day and the start of the slot that a request gets behind the first change.
-fn slot_behind_first_change<K: Keeper>(
-    keeper: &mut K,
-    alloc: Global,
-) -> Result<Option<(Day, u32)>, Refusal> {
-    let change = first_change(alloc)?;
-    told(keeper.apply(&change))?;
-    let request = request(alloc)?;
+/// The slot of the first booking that a change puts.
+fn slot_of(change: &Change) -> Result<Slot, Refusal> {
+    match change.booking.first() {
+        Some(row) => Slot::new(row.day, row.start),
+        None => Err(Refusal::NoSuchRequest),
+    }
+}
+
+fn part_of<K: Keeper>(keeper: &mut K, request: &Request) -> Result<Part, Refusal> {
     // For the prover alone, which follows a scope where the types of all that a scope may hold are in use.
     let _no_position: Option<&Position> = None;
-    let part = told(keeper.load_part(&Scope::OfRequest(&request.room, &request.meeting)))?;
+    let scope = Scope::OfRequest(&request.room, &request.meeting);
+    told(keeper.load_part(&scope))
+}
+
+fn slot_in(part: Part, request: Request) -> Result<Slot, Refusal> {
     let (_, change) = part.submit(request)?;
-    Ok(change.booking.first().map(|row| (row.day, row.start)))
+    slot_of(&change)
+}
+
+fn submitted<K: Keeper>(keeper: &mut K, alloc: Global) -> Result<Slot, Refusal> {
+    let request = request(alloc)?;
+    let part = part_of(keeper, &request)?;
+    slot_in(part, request)
+}
+
+/// The slot that a request gets behind the first change.
+fn slot_behind_first_change<K: Keeper>(keeper: &mut K, alloc: Global) -> Result<Slot, Refusal> {
+    apply(keeper, first_change(alloc))?;
+    submitted(keeper, alloc)
 }
 
 // the wish is taken, and so is the first alternative, which is on another day
@@ -146,7 +158,6 @@ fn slot_behind_first_change<K: Keeper>(
 fn bookings_of_each_day_are_looked_at(rt: HostRuntime) {
     let alloc = rt.alloc();
     let mut keeper = Cached::new(alloc, opening(&rt, alloc));
-    let tuesday = Day::read(TUESDAY).expect(&rt, "a day");
-    let slot = slot_behind_first_change(&mut keeper, alloc);
-    same(&rt, &slot, &Ok(Some((tuesday, 900))), "a booking");
+    let found = slot_behind_first_change(&mut keeper, alloc);
+    same(&rt, &found, &slot(TUESDAY, 900), "a booking");
 }

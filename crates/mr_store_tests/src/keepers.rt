@@ -21,6 +21,23 @@ pub(crate) enum Place {
     Nowhere,
 }
 
+/// A question about a room, with what a keeper is to answer.
+#[derive(Clone, Copy)]
+pub(crate) enum Asked {
+    /// Its bookings, of Monday or of all days, by server and count.
+    Bookings(bool, &'static [(u32, u32)]),
+    /// Whether its first bookings are committed.
+    Committed(&'static [bool]),
+    /// The requests in its error log.
+    Errors(&'static [(u32, u32)]),
+    /// Its requests that were taken back.
+    Cancelled(&'static [(u32, u32)]),
+    /// Its cancels, which the keepers have in the order of their ids.
+    Cancels(&'static [(u32, u32)]),
+    /// What became of a request of replica 2.
+    PlaceOf(u32, Place),
+}
+
 /// A call of a keeper, with what it is to answer.
 #[derive(Clone, Copy)]
 pub(crate) enum Call {
@@ -28,18 +45,8 @@ pub(crate) enum Call {
     ApplySecond,
     /// The known rooms, which the keepers have in the order of their names.
     Rooms(&'static [&'static str]),
-    /// A room's bookings, of Monday or of all days, by server and count.
-    Bookings(&'static str, bool, &'static [(u32, u32)]),
-    /// Whether the first bookings of oak are committed.
-    Committed(&'static [bool]),
-    /// The requests in a room's error log.
-    Errors(&'static str, &'static [(u32, u32)]),
-    /// The requests in a room that were taken back.
-    Cancelled(&'static str, &'static [(u32, u32)]),
-    /// The cancels in a room, which the keepers have in the order of their ids.
-    Cancels(&'static str, &'static [(u32, u32)]),
-    /// What became of a request of replica 2.
-    PlaceOf(&'static str, u32, Place),
+    /// A question about this room.
+    Of(&'static str, Asked),
     /// How many rows there are of rooms, bookings and logged requests.
     Read(usize, usize, usize),
 }
@@ -56,8 +63,12 @@ pub(crate) fn told<T: Drop>(answer: Result<T, Fault>) -> Result<T, Refusal> {
     Ok(answer?)
 }
 
-fn apply<K: Keeper>(keeper: &mut K, change: &Change) -> Result<bool, Refusal> {
-    told(keeper.apply(change))?;
+pub(crate) fn apply<K: Keeper>(
+    keeper: &mut K,
+    change: Result<Change, Refusal>,
+) -> Result<bool, Refusal> {
+    let change = change?;
+    told(keeper.apply(&change))?;
     Ok(true)
 }
 
@@ -200,6 +211,28 @@ fn has_rows<K: Keeper>(
     Ok(rows.room.len() == rooms && rows.booking.len() == bookings && rows.errorlog.len() == errors)
 }
 
+fn monday(is_asked: bool) -> Result<Option<Day>, Refusal> {
+    if is_asked {
+        Ok(Some(Day::read(MONDAY)?))
+    } else {
+        Ok(None)
+    }
+}
+
+/// Whether the keeper answers the question about the room so.
+fn tells<K: Keeper>(keeper: &mut K, room: &RoomName, asked: Asked) -> Result<bool, Refusal> {
+    match asked {
+        Asked::Bookings(is_of_monday, requests) => {
+            has_bookings(keeper, room, monday(is_of_monday)?, requests)
+        }
+        Asked::Committed(wanted) => has_committed(keeper, room, wanted),
+        Asked::Errors(requests) => has_errors(keeper, room, requests),
+        Asked::Cancelled(requests) => has_cancelled(keeper, room, requests),
+        Asked::Cancels(ids) => has_cancels(keeper, room, ids),
+        Asked::PlaceOf(n, wanted) => has_place(keeper, room, n, wanted),
+    }
+}
+
 /// Whether the keeper answers the call so; or the refusal that tells of its fault.
 pub(crate) fn answers<K: Keeper>(
     keeper: &mut K,
@@ -207,27 +240,12 @@ pub(crate) fn answers<K: Keeper>(
     call: Call,
 ) -> Result<bool, Refusal> {
     match call {
-        Call::ApplyFirst => apply(keeper, &first_change(alloc)?),
-        Call::ApplySecond => apply(keeper, &second_change(alloc)?),
+        Call::ApplyFirst => apply(keeper, first_change(alloc)),
+        Call::ApplySecond => apply(keeper, second_change(alloc)),
         Call::Rooms(names) => has_rooms(keeper, names),
-        Call::Bookings(room, is_of_monday, requests) => {
-            let day = if is_of_monday {
-                Some(Day::read(MONDAY)?)
-            } else {
-                None
-            };
-            has_bookings(keeper, &RoomName::new(alloc, room)?, day, requests)
-        }
-        Call::Committed(wanted) => has_committed(keeper, &RoomName::new(alloc, "oak")?, wanted),
-        Call::Errors(room, requests) => {
-            has_errors(keeper, &RoomName::new(alloc, room)?, requests)
-        }
-        Call::Cancelled(room, requests) => {
-            has_cancelled(keeper, &RoomName::new(alloc, room)?, requests)
-        }
-        Call::Cancels(room, ids) => has_cancels(keeper, &RoomName::new(alloc, room)?, ids),
-        Call::PlaceOf(room, n, wanted) => {
-            has_place(keeper, &RoomName::new(alloc, room)?, n, wanted)
+        Call::Of(room, asked) => {
+            let room = RoomName::new(alloc, room)?;
+            tells(keeper, &room, asked)
         }
         Call::Read(rooms, bookings, errors) => has_rows(keeper, rooms, bookings, errors),
     }
@@ -251,11 +269,11 @@ fn has_first_position<K: Keeper>(keeper: &mut K) -> Result<bool, Refusal> {
 
 static OF_NOTHING: [Call; 6] = [
     Call::Rooms(&[]),
-    Call::Bookings("oak", false, &[]),
-    Call::Errors("oak", &[]),
-    Call::Cancelled("oak", &[]),
-    Call::Cancels("oak", &[]),
-    Call::PlaceOf("oak", 1, Place::Nowhere),
+    Call::Of("oak", Asked::Bookings(false, &[])),
+    Call::Of("oak", Asked::Errors(&[])),
+    Call::Of("oak", Asked::Cancelled(&[])),
+    Call::Of("oak", Asked::Cancels(&[])),
+    Call::Of("oak", Asked::PlaceOf(1, Place::Nowhere)),
 ];
 
 #[test]
@@ -278,23 +296,29 @@ fn a_new_keeper_has_a_desk(rt: HostRuntime) {
 static OF_THE_FIRST_CHANGE: [Call; 20] = [
     Call::ApplyFirst,
     Call::Rooms(&["elm", "oak"]),
-    Call::Bookings("oak", false, &[(1, 1), (1, 3), (2, 4), (2, 1), (2, 2)]),
-    Call::Bookings("oak", true, &[(1, 1), (1, 3), (2, 4), (2, 1)]),
-    Call::Bookings("elm", false, &[(1, 2)]),
-    Call::Errors("oak", &[(2, 3)]),
-    Call::Errors("elm", &[]),
-    Call::PlaceOf("oak", 1, Place::Booked),
-    Call::PlaceOf("elm", 1, Place::Nowhere),
-    Call::PlaceOf("oak", 3, Place::Logged),
-    Call::PlaceOf("elm", 3, Place::Nowhere),
-    Call::PlaceOf("oak", 5, Place::Nowhere),
-    Call::PlaceOf("elm", 5, Place::Nowhere),
-    Call::Cancelled("oak", &[(2, 6)]),
-    Call::Cancelled("elm", &[]),
-    Call::Cancels("oak", &[(2, 7), (2, 8)]),
-    Call::PlaceOf("oak", 6, Place::Cancelled),
-    Call::PlaceOf("oak", 7, Place::Cancel),
-    Call::PlaceOf("elm", 7, Place::Nowhere),
+    Call::Of(
+        "oak",
+        Asked::Bookings(false, &[(1, 1), (1, 3), (2, 4), (2, 1), (2, 2)]),
+    ),
+    Call::Of(
+        "oak",
+        Asked::Bookings(true, &[(1, 1), (1, 3), (2, 4), (2, 1)]),
+    ),
+    Call::Of("elm", Asked::Bookings(false, &[(1, 2)])),
+    Call::Of("oak", Asked::Errors(&[(2, 3)])),
+    Call::Of("elm", Asked::Errors(&[])),
+    Call::Of("oak", Asked::PlaceOf(1, Place::Booked)),
+    Call::Of("elm", Asked::PlaceOf(1, Place::Nowhere)),
+    Call::Of("oak", Asked::PlaceOf(3, Place::Logged)),
+    Call::Of("elm", Asked::PlaceOf(3, Place::Nowhere)),
+    Call::Of("oak", Asked::PlaceOf(5, Place::Nowhere)),
+    Call::Of("elm", Asked::PlaceOf(5, Place::Nowhere)),
+    Call::Of("oak", Asked::Cancelled(&[(2, 6)])),
+    Call::Of("elm", Asked::Cancelled(&[])),
+    Call::Of("oak", Asked::Cancels(&[(2, 7), (2, 8)])),
+    Call::Of("oak", Asked::PlaceOf(6, Place::Cancelled)),
+    Call::Of("oak", Asked::PlaceOf(7, Place::Cancel)),
+    Call::Of("elm", Asked::PlaceOf(7, Place::Nowhere)),
     Call::Read(2, 6, 1),
 ];
 
@@ -307,11 +331,14 @@ fn rows_that_are_put_are_found(rt: HostRuntime) {
 pub(crate) static OF_BOTH_CHANGES: [Call; 8] = [
     Call::ApplyFirst,
     Call::ApplySecond,
-    Call::Bookings("oak", false, &[(1, 1), (1, 3), (2, 4), (2, 3), (2, 2)]),
-    Call::Errors("oak", &[(2, 1)]),
-    Call::Committed(&[true, false]),
-    Call::Cancelled("oak", &[]),
-    Call::Cancels("oak", &[(2, 7), (2, 8)]),
+    Call::Of(
+        "oak",
+        Asked::Bookings(false, &[(1, 1), (1, 3), (2, 4), (2, 3), (2, 2)]),
+    ),
+    Call::Of("oak", Asked::Errors(&[(2, 1)])),
+    Call::Of("oak", Asked::Committed(&[true, false])),
+    Call::Of("oak", Asked::Cancelled(&[])),
+    Call::Of("oak", Asked::Cancels(&[(2, 7), (2, 8)])),
     Call::Read(2, 6, 1),
 ];
 
@@ -365,13 +392,12 @@ fn a_trip_comes_after_its_calls(rt: HostRuntime) {
     check(&rt, alloc, &mut keeper, &OF_THE_ROOMS);
 }
 
-/// The fault of one of the ten calls, where it has one.
+/// The fault of one of the nine questions, where it has one.
 pub(crate) fn fault_of<K: Keeper>(
     keeper: &mut K,
     call: u32,
     request: &Request,
     id: WriteId,
-    change: &Change,
 ) -> Option<Fault> {
     // For the prover alone, which follows a scope where the types of all that a scope may hold are in use.
     let _no_position: Option<&Position> = None;
@@ -387,33 +413,52 @@ pub(crate) fn fault_of<K: Keeper>(
         5 => keeper.errors(room).err(),
         6 => keeper.cancelled(room).err(),
         7 => keeper.cancels(room).err(),
-        8 => keeper.read().err(),
-        _ => keeper.apply(change).err(),
+        _ => keeper.read().err(),
     }
 }
 
-/// The faults of one of the ten calls of a keeper that fails once, at its first call, and of the same call again.
+/// A keeper that fails once, at its first call.
+fn failing(rt: &impl Abort, alloc: Global) -> Tripped<ListKeeper> {
+    Tripped::new(opening(rt, alloc), 0, Fault::Store)
+}
+
+/// The faults of one of the questions to a keeper that fails once, and of the same question again.
 fn faults_of(
     rt: &impl Abort,
     alloc: Global,
     call: u32,
     request: &Request,
-    change: &Change,
 ) -> Result<(Option<Fault>, Option<Fault>), Refusal> {
     let id = id(2, 1)?;
-    let mut keeper = Tripped::new(opening(rt, alloc), 0, Fault::Store);
-    let first = fault_of(&mut keeper, call, request, id, change);
-    Ok((first, fault_of(&mut keeper, call, request, id, change)))
+    let mut keeper = failing(rt, alloc);
+    let first = fault_of(&mut keeper, call, request, id);
+    Ok((first, fault_of(&mut keeper, call, request, id)))
 }
 
 #[test]
-fn each_call_trips_once(rt: HostRuntime) {
-    let alloc = rt.alloc();
-    let request = request(alloc).expect(&rt, "a request");
-    let change = first_change(alloc).expect(&rt, "a change");
-    for call in 0..10 {
-        let faults = faults_of(&rt, alloc, call, &request, &change);
+fn each_question_trips_once(rt: HostRuntime) {
+    let request = request(rt.alloc()).expect(&rt, "a request");
+    for call in 0..9 {
+        let faults = faults_of(&rt, rt.alloc(), call, &request);
         same(&rt, &faults, &Ok((Some(Fault::Store), None)), call);
+    }
+}
+
+/// The fault of a change, where it has one.
+pub(crate) fn fault_of_change<K: Keeper>(
+    keeper: &mut K,
+    alloc: Global,
+) -> Result<Option<Fault>, Refusal> {
+    let change = first_change(alloc)?;
+    Ok(keeper.apply(&change).err())
+}
+
+#[test]
+fn a_change_trips_once(rt: HostRuntime) {
+    let mut keeper = failing(&rt, rt.alloc());
+    for wanted in [Some(Fault::Store), None] {
+        let fault = fault_of_change(&mut keeper, rt.alloc());
+        same(&rt, &fault, &Ok(wanted), "a change");
     }
 }
 
