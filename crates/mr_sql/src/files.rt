@@ -6,6 +6,7 @@ ghost use Rattle.sqlite.specs.Recovery.{Image};
 ghost use Rattle.sqlite.specs.WalFiles.{image_at};
 ghost use Rattle.sqlite.specs.WalReads.{AreClean};
 ghost use Rattle.sqlite.specs.State.{HasCleanDisk};
+ghost use Rattle.sqlite.specs.Held.{state};
 ghost use Rattle.sqlite.specs.Files.{file_state, image_of, IsClosed};
 ghost use Rattle.sqlite.specs.Closing.{IsCopied};
 ghost use Rattle.mr_disk.specs.Copied.{image_copied};
@@ -17,7 +18,7 @@ use crate::schemas::is_first;
 use crate::sql_keeper::{GivenBack, SqlKeeper};
 use mr_base::{Refusal, ServerId};
 use mr_disk::{Copied, SparingFile};
-use sqlite::{Connection, Error, FileStore, Files, Options, Start, Unknown};
+use sqlite::{Alter, Connection, Error, FileStore, Files, Options, Start, Unknown};
 use sqlite_disk::{Disk, Memory};
 use sqlite_std_file::OpenError;
 use std::alloc::Global;
@@ -173,6 +174,33 @@ fn open_disks(rt: &HostRuntime, copied: Copied) -> Result<Connection<FileStore<M
     }
 }
 
+// Takes the database as that of a replica, whichever it is, unless its tables are of the first schema. It is for any store: a call that is made
+// of a store of files is dear to prove, so `open_copied` makes this one alone.
+fn take_copy<S: Alter + Drop>(
+    alloc: Global,
+    conn: Connection<S>,
+) -> Result<SqlKeeper<S>, (NotCopied, Connection<S>)>
+    requires autocommit { conn.in_transaction ≡ false }
+    requires taken { HasCleanDisk (state S.Store conn) → IsTaken (state S.Store conn).committed.trees (state S.Store conn) }
+    ensures opens { IfOk result (λ k. HasCleanDisk (state S.Store k.0) → IsTrue (state S.Store k.0).is_open) }
+    ensures resumed { IfOk result (λ k. HasCleanDisk (state S.Store k.0) → IsTrue (state S.Store k.0).is_open
+        → IsResumed (state S.Store conn).committed.trees (state S.Store k.0).now.trees) }
+    ensures settled { IfOk result (λ k. HasCleanDisk (state S.Store k.0) → IsTrue (state S.Store k.0).is_open → LeavesTables (state S.Store k.0)) }
+    ensures uncounted { IfOk result (λ k. k.1 ≡ 0) }
+    ensures clean { IfOk result (λ k. HasCleanDisk (state S.Store k.0) → HasCleanDisk (state S.Store conn)) }
+    ensures was_clean { IfErr result (λ e. HasCleanDisk (state S.Store e.1) → HasCleanDisk (state S.Store conn)) }
+    ensures cause { IfErr result (λ e. (r : _) → e.0 ≡ NotCopied.Refused r → (r ≡ Refusal.OutOfMemory) ⊎ ((r ≡ Refusal.Store) ⊎ (r ≡ Refusal.NotAReplica))) }
+    ensures strange { IfErr result (λ e. HasCleanDisk (state S.Store e.1) → e.0 ≡ NotCopied.Refused Refusal.NotAReplica → IsNobodys (state S.Store conn).committed.trees) }
+{
+    if is_first(&conn) {
+        return Err((NotCopied::OnlyInFile, conn));
+    }
+    match SqlKeeper::recovered(alloc, conn) {
+        Ok(keeper) => Ok(keeper),
+        Err((refusal, conn)) => Err((NotCopied::Refused(refusal), conn)),
+    }
+}
+
 fn is_missing(rt: &HostRuntime, path: &str) -> bool {
     match File::open(rt, path) {
         Ok(_) => false,
@@ -265,12 +293,9 @@ impl SqlKeeper<FileStore<Memory>> {
             Ok(conn) => conn,
             Err(refusal) => return Err(NotCopied::Refused(refusal)),
         };
-        if is_first(&conn) {
-            return Err(NotCopied::OnlyInFile);
-        }
-        match SqlKeeper::recovered(rt.alloc(), conn) {
+        match take_copy(rt.alloc(), conn) {
             Ok(keeper) => Ok(keeper),
-            Err((refusal, _)) => Err(NotCopied::Refused(refusal)),
+            Err((why, _)) => Err(why),
         }
     }
 
