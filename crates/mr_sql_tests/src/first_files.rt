@@ -1,8 +1,8 @@
 // A database of the first schema in two files: replica 2, which the commit of an earlier meeting has reached. The memory is ample.
 
 use crate::disks::{Bytes, NO_STOP, bytes_of, disks, no_bytes};
-use crate::layouts::{Layout, layout};
-use crate::on_disks::{closed, connected};
+use crate::layouts::Layout;
+use crate::on_disks::{Came, Deed, on_files};
 use sqlite::{Alter, Connection};
 use std::alloc::Global;
 use std::process::Abort;
@@ -33,7 +33,7 @@ pub(crate) const FIRST: Layout = [1, 7, 2, 2];
 
 pub(crate) const SECOND: Layout = [2, 10, 0, 0];
 
-fn fill<S: Alter>(rt: &impl Abort, conn: &mut Connection<S>) {
+pub(crate) fn fill<S: Alter>(rt: &impl Abort, conn: &mut Connection<S>) {
     for statement in &STATEMENTS {
         conn.execute(statement, &[]).expect(rt, "a statement");
     }
@@ -41,23 +41,17 @@ fn fill<S: Alter>(rt: &impl Abort, conn: &mut Connection<S>) {
 
 /// The bytes of both files.
 pub(crate) fn first_bytes(rt: &impl Abort, alloc: Global) -> Bytes {
-    match connected(alloc, disks(rt, alloc, &no_bytes(alloc), NO_STOP)) {
-        Ok(mut conn) => {
-            fill(rt, &mut conn);
-            bytes_of(rt, alloc, &closed(conn))
-        }
-        Err(_) => no_bytes(alloc),
-    }
+    let files = disks(rt, alloc, &no_bytes(alloc), NO_STOP);
+    let (_, files) = on_files(rt, alloc, files, Deed::Fill);
+    bytes_of(rt, alloc, &files)
 }
 
 /// Which tables the files with these bytes have; none where they can't be opened.
 pub(crate) fn layout_of(rt: &impl Abort, alloc: Global, bytes: &Bytes) -> Option<Layout> {
-    match connected(alloc, disks(rt, alloc, bytes, NO_STOP)) {
-        Ok(mut conn) => {
-            let found = layout(&mut conn);
-            closed(conn);
-            found
-        }
-        Err(_) => None,
+    let files = disks(rt, alloc, bytes, NO_STOP);
+    let (came, _) = on_files(rt, alloc, files, Deed::Count);
+    match came {
+        Came::Counted(found) => found,
+        _ => None,
     }
 }

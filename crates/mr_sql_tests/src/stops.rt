@@ -34,7 +34,7 @@ fn is_whole(rt: &impl Abort, alloc: Global, bytes: &Bytes, is_acknowledged: bool
 
 /// The replica in files with these bytes is the one before or the one after, and the one after where it had replied.
 fn check_found(rt: &impl Abort, alloc: Global, bytes: &Bytes, case: Case, is_acknowledged: bool) {
-    let seen = seen_in(alloc, disks(rt, alloc, bytes, NO_STOP));
+    let seen = seen_in(rt, alloc, disks(rt, alloc, bytes, NO_STOP));
     let is_found = match case.found {
         Found::Seen(before, after) => {
             is_text(&seen, after.as_bytes())
