@@ -1,122 +1,34 @@
 // Cancels among bookings, over a keeper of lists: the replies to lists of commands, batches that tell cancels, and how many alternatives a
 // request may have. The memory is ample.
 
+use crate::asking_tests::service;
+use crate::commands::{Asked, command};
 use crate::same::{same, same_text};
-use mr_base::{LineCount, Refusal, ServerId};
-use mr_service::{CalendarPart, Command, Local, Service, SlotWords, Submission, reply_text};
+use mr_base::Refusal;
+use mr_service::{Command, Service, reply_text};
 use mr_store::ListKeeper;
-use std::alloc::{AllocError, Global};
+use std::alloc::Global;
 use std::process::Abort;
-
-const DAY: &str = "1995-12-18";
-
-/// What a replica is asked about oak.
-#[derive(Clone, Copy)]
-enum Asked {
-    AddRoom,
-    /// An hour from this time on, or from one of the others.
-    Book(&'static str, &'static [&'static str], &'static str),
-    Cancel(&'static str),
-    Commit(u64),
-    Sheet,
-    Committed,
-    Outcome(&'static str),
-    Errors,
-    Position,
-    /// At most so many lines for a position with this text.
-    Batch(&'static str, u32),
-    /// The batch with this text is received.
-    Receive(&'static str),
-}
-
-fn text(alloc: Global, text: &str) -> Result<String, AllocError> {
-    String::from_str(alloc, text)
-}
-
-fn slot(alloc: Global, time: &str) -> Result<SlotWords, AllocError> {
-    Ok(SlotWords {
-        day: text(alloc, DAY)?,
-        time: text(alloc, time)?,
-    })
-}
-
-fn booking(alloc: Global, time: &str, others: &[&str], title: &str) -> Result<Local, AllocError> {
-    let mut alternatives = Vec::new(alloc);
-    for other in others {
-        alternatives.push(slot(alloc, other)?)?;
-    }
-    Ok(Local::Submit(Submission {
-        room: text(alloc, "oak")?,
-        title: text(alloc, title)?,
-        length: text(alloc, "60")?,
-        wish: slot(alloc, time)?,
-        alternatives,
-    }))
-}
-
-fn batch_for(alloc: Global, position: &str, lines: u32) -> Result<Local, Refusal> {
-    let position = text(alloc, position)?;
-    Ok(Local::BatchFor {
-        position: position.into_bytes(),
-        max_lines: LineCount::new(lines).ok_or(Refusal::BadPosition)?,
-    })
-}
-
-/// The command of somebody at the replica; the position where it is none of these.
-fn local(alloc: Global, asked: Asked) -> Result<Local, Refusal> {
-    let room = text(alloc, "oak")?;
-    Ok(match asked {
-        Asked::AddRoom => Local::AddRoom(room),
-        Asked::Book(time, others, title) => booking(alloc, time, others, title)?,
-        Asked::Cancel(id) => Local::Cancel {
-            room,
-            id: text(alloc, id)?,
-        },
-        Asked::Commit(count) => Local::Commit(count),
-        Asked::Sheet => Local::Sheet {
-            room,
-            day: text(alloc, DAY)?,
-        },
-        Asked::Committed => Local::Calendar {
-            room,
-            part: CalendarPart::Committed,
-        },
-        Asked::Outcome(id) => Local::Outcome {
-            room,
-            id: text(alloc, id)?,
-        },
-        Asked::Errors => Local::Errors { room },
-        Asked::Batch(position, lines) => batch_for(alloc, position, lines)?,
-        Asked::Position | Asked::Receive(_) => Local::Position,
-    })
-}
-
-fn command(alloc: Global, asked: Asked) -> Result<Command, Refusal> {
-    match asked {
-        Asked::Receive(batch) => Ok(Command::Receive(text(alloc, batch)?.into_bytes())),
-        _ => Ok(Command::Local(local(alloc, asked)?)),
-    }
-}
 
 /// The text of the reply.
 fn told(
     alloc: Global,
-    lists: &mut Option<Service<ListKeeper>>,
-    asked: Asked,
+    lists: &mut Service<ListKeeper>,
+    command: &Command,
 ) -> Result<Vec<u8>, Refusal> {
-    let Some(lists) = lists else {
-        return Err(Refusal::NotAReplica);
-    };
-    let command = command(alloc, asked)?;
-    let reply = lists.ask(&command);
+    let reply = lists.ask(command);
     reply_text(alloc, &reply)
 }
 
-/// The replica of this server, whose primary is 1, before it knows anything.
-fn opened(alloc: Global, server: u32) -> Option<Service<ListKeeper>> {
-    let server = ServerId::new(server)?;
-    let primary = ServerId::new(1)?;
-    Some(Service::new(alloc, ListKeeper::new(alloc, server, primary)))
+fn check_reply(
+    rt: &impl Abort,
+    alloc: Global,
+    lists: &mut Service<ListKeeper>,
+    asked: Asked,
+    want: &str,
+) {
+    let command = command(rt, alloc, asked);
+    same_text(rt, &told(alloc, lists, &command), want);
 }
 
 /// A replica that is the primary replies so, command by command.
@@ -126,9 +38,9 @@ fn check(rt: &impl Abort, alloc: Global, list: &[(Asked, &str)]) {
 
 /// The replica of this server replies so.
 fn check_at(rt: &impl Abort, alloc: Global, server: u32, list: &[(Asked, &str)]) {
-    let mut lists = opened(alloc, server);
+    let mut lists = service(rt, alloc, server);
     for (asked, want) in list {
-        same_text(rt, &told(alloc, &mut lists, *asked), want);
+        check_reply(rt, alloc, &mut lists, *asked, want);
     }
 }
 

@@ -13,6 +13,8 @@ mod cancel_text_tests;
 #[cfg(test)]
 mod command_lines;
 #[cfg(test)]
+mod commands;
+#[cfg(test)]
 mod connections;
 #[cfg(test)]
 mod head_tests;

@@ -1,109 +1,76 @@
 // Lists of commands and the texts of their replies, over a keeper of lists. The memory is ample.
 
+use crate::asking_tests::service;
+use crate::commands::{Asked, command};
 use crate::same::{same, same_text};
-use mr_base::{Refusal, ServerId};
-use mr_service::{
-    Command, Local, Reply, Service, SlotWords, Submission, reply_text, run, run_over_lists,
-};
-use mr_store::ListKeeper;
-use std::alloc::{AllocError, Global};
+use crate::uses::add_text;
+use mr_base::Refusal;
+use mr_service::{Command, Reply, run, run_over_lists};
+use std::alloc::Global;
 use std::process::Abort;
 
-const DAY: &str = "1995-12-18";
-
-/// How many commands the list has.
-const COMMANDS: usize = 5;
+static ASKED: [Asked; 5] = [
+    Asked::AddRoom,
+    Asked::Book("13:30", &[], "Budget Meeting"),
+    Asked::Sheet,
+    Asked::Outcome("9-9"),
+    Asked::Errors,
+];
 
 /// What they are replied, one after the other.
 const WANTED: &str =
     "ok\n1-1 T 1995-12-18 13:30-14:30\noak 1995-12-18 Monday\n13:30-14:30 T 1-1 Budget Meeting\nrefused 9 NoSuchRequest\noak errors\n(no errors)\n";
 
-fn text(alloc: Global, text: &str) -> Result<String, AllocError> {
-    String::from_str(alloc, text)
-}
-
-fn booking(alloc: Global) -> Result<Local, AllocError> {
-    let wish = SlotWords {
-        day: text(alloc, DAY)?,
-        time: text(alloc, "13:30")?,
-    };
-    let room = text(alloc, "oak")?;
-    let length = text(alloc, "60")?;
-    Ok(Local::Submit(Submission {
-        room,
-        title: text(alloc, "Budget Meeting")?,
-        length,
-        wish,
-        alternatives: Vec::new(alloc),
-    }))
-}
-
-/// The command at that place of the list.
-fn local(alloc: Global, place: usize) -> Result<Local, AllocError> {
-    let room = text(alloc, "oak")?;
-    match place {
-        0 => Ok(Local::AddRoom(room)),
-        1 => booking(alloc),
-        2 => Ok(Local::Sheet {
-            room,
-            day: text(alloc, DAY)?,
-        }),
-        3 => Ok(Local::Outcome {
-            room,
-            id: text(alloc, "9-9")?,
-        }),
-        _ => Ok(Local::Errors { room }),
-    }
-}
-
-fn commands(alloc: Global) -> Result<Vec<Command>, Refusal> {
+fn commands(rt: &impl Abort, alloc: Global) -> Vec<Command> {
     let mut commands = Vec::new(alloc);
-    for place in 0..COMMANDS {
-        commands.push(Command::Local(local(alloc, place)?))?;
+    for asked in &ASKED {
+        commands
+            .push(command(rt, alloc, *asked))
+            .expect(rt, "memory");
     }
-    Ok(commands)
+    commands
 }
 
-/// The primary, before it knows anything.
-fn primary(alloc: Global) -> Result<Service<ListKeeper>, Refusal> {
-    let server = ServerId::new(1).ok_or(Refusal::NotAReplica)?;
-    Ok(Service::new(alloc, ListKeeper::new(alloc, server, server)))
+/// What the primary replies, before it knows anything.
+fn replies(rt: &impl Abort, alloc: Global, commands: &[Command]) -> Result<Vec<Reply>, Refusal> {
+    let mut lists = service(rt, alloc, 1);
+    run(alloc, &mut lists, commands)
 }
 
-fn replies(alloc: Global) -> Result<Vec<Reply>, Refusal> {
-    let commands = commands(alloc)?;
-    let mut lists = primary(alloc)?;
-    Ok(run(alloc, &mut lists, commands.as_slice())?)
-}
-
-fn replies_over_lists(alloc: Global) -> Result<Vec<Reply>, Refusal> {
-    let commands = commands(alloc)?;
-    let mut lists = primary(alloc)?;
-    Ok(run_over_lists(alloc, &mut lists, commands.as_slice())?)
+fn replies_over_lists(
+    rt: &impl Abort,
+    alloc: Global,
+    commands: &[Command],
+) -> Result<Vec<Reply>, Refusal> {
+    let mut lists = service(rt, alloc, 1);
+    run_over_lists(alloc, &mut lists, commands)
 }
 
 /// The texts of the replies, one after the other.
-fn texts(alloc: Global, replies: Result<Vec<Reply>, Refusal>) -> Result<Vec<u8>, Refusal> {
+fn texts(alloc: Global, replies: &[Reply]) -> Result<Vec<u8>, Refusal> {
     let mut texts = Vec::new(alloc);
-    for reply in replies?.as_slice() {
-        texts.extend_from_slice(reply_text(alloc, reply)?.as_slice())?;
+    for reply in replies {
+        add_text(alloc, &mut texts, reply)?;
     }
     Ok(texts)
 }
 
 /// There are as many replies as commands, and they have the texts that are wanted.
-fn check(rt: &impl Abort, alloc: Global, replies: Result<Vec<Reply>, Refusal>) {
-    let is_whole = matches!(&replies, Ok(replies) if replies.len() == COMMANDS);
-    same(rt, &is_whole, &true, "replies");
+fn check(rt: &impl Abort, alloc: Global, replies: &[Reply]) {
+    same(rt, &replies.len(), &ASKED.len(), "replies");
     same_text(rt, &texts(alloc, replies), WANTED);
 }
 
 #[test]
 fn each_command_of_a_list_has_its_reply(rt: HostRuntime) {
-    check(&rt, rt.alloc(), replies(rt.alloc()));
+    let commands = commands(&rt, rt.alloc());
+    let replies = replies(&rt, rt.alloc(), commands.as_slice()).expect(&rt, "replies");
+    check(&rt, rt.alloc(), replies.as_slice());
 }
 
 #[test]
 fn over_lists_each_command_has_its_reply(rt: HostRuntime) {
-    check(&rt, rt.alloc(), replies_over_lists(rt.alloc()));
+    let commands = commands(&rt, rt.alloc());
+    let replies = replies_over_lists(&rt, rt.alloc(), commands.as_slice()).expect(&rt, "replies");
+    check(&rt, rt.alloc(), replies.as_slice());
 }

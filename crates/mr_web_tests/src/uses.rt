@@ -17,10 +17,13 @@ mod exchange;
 mod texts;
 
 use crate::same::same_text;
+pub(crate) use asking::add_text;
 use board::board_told;
 use booking::{bookings_told, opened};
 use exchange::{commits_told, meet};
 use mr_base::{LineCount, Refusal};
+use mr_service::Service;
+use mr_store::ListKeeper;
 use std::alloc::Global;
 use texts::texts_told;
 
@@ -36,12 +39,20 @@ fn one_office_books(rt: HostRuntime) {
     same_text(&rt, &one_office(rt.alloc()), OF_ONE_OFFICE);
 }
 
-fn two_offices(alloc: Global) -> Result<Vec<u8>, Refusal> {
+fn offices_told(
+    alloc: Global,
+    west: &mut Service<ListKeeper>,
+    east: &mut Service<ListKeeper>,
+) -> Result<Vec<u8>, Refusal> {
     let lines = LineCount::new(100).ok_or(Refusal::BadPosition)?;
+    meet(alloc, west, east, lines)?;
+    commits_told(alloc, west, east, lines)
+}
+
+fn two_offices(alloc: Global) -> Result<Vec<u8>, Refusal> {
     let mut west = opened(alloc, 1)?;
     let mut east = opened(alloc, 2)?;
-    meet(alloc, &mut west, &mut east, lines)?;
-    commits_told(alloc, &mut west, &mut east, lines)
+    offices_told(alloc, &mut west, &mut east)
 }
 
 const OF_TWO_OFFICES: &str =

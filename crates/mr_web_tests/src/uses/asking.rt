@@ -44,14 +44,26 @@ fn refusal_in(reply: &Reply) -> Option<Refusal>
     }
 }
 
-/// Gives the replica a command, and puts the text of its reply, a refusal too, behind these bytes.
+/// Gives the replica a command whose reply tells its caller nothing new, as where a room is added.
+pub(crate) fn order(service: &mut Service<ListKeeper>, command: Command) -> Result<(), Refusal> {
+    ask(service, &command)?;
+    Ok(())
+}
+
+/// Puts the text of a reply, a refusal too, behind these bytes.
+pub(crate) fn add_text(alloc: Global, told: &mut Vec<u8>, reply: &Reply) -> Result<(), Refusal> {
+    let text = reply_text(alloc, reply)?;
+    told.extend_from_slice(text.as_slice())?;
+    Ok(())
+}
+
+/// Gives the replica a command, and tells its reply.
 pub(crate) fn tell(
     alloc: Global,
     service: &mut Service<ListKeeper>,
-    command: &Command,
+    command: Command,
     told: &mut Vec<u8>,
 ) -> Result<(), Refusal> {
-    let text = reply_text(alloc, &service.ask(command))?;
-    told.extend_from_slice(text.as_slice())?;
-    Ok(())
+    let reply = service.ask(&command);
+    add_text(alloc, told, &reply)
 }

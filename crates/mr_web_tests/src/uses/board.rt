@@ -37,10 +37,16 @@ pub(crate) fn tried(board: &mut Board, write: &Write) -> Result<UndoRow, Refusal
 
 /// What comes of a request for 13:30, where 14:00 is taken: it would be logged as an error, since it has no alternatives.
 pub(crate) fn board_told(alloc: Global) -> Result<Vec<u8>, Refusal> {
-    let mut writes = Vec::new(alloc);
-    writes.push(request(alloc, 1, 840)?)?;
-    let mut board = board_of(alloc, writes.as_slice())?;
-    try_told(alloc, &mut board, &request(alloc, 2, 810)?)
+    let mut board = board_of_one(alloc)?;
+    let write = request(alloc, 2, 810)?;
+    try_told(alloc, &mut board, &write)
+}
+
+/// The board with a request for 14:00.
+fn board_of_one(alloc: Global) -> Result<Board, Refusal> {
+    let write = request(alloc, 1, 840)?;
+    let writes = vec![in alloc; write]?;
+    board_of(alloc, writes.as_slice())
 }
 
 /// Where the write would go, whether its room is free on Monday at 13:30, and how many rows the board has then.
@@ -54,10 +60,10 @@ fn try_told(alloc: Global, board: &mut Board, write: &Write) -> Result<Vec<u8>, 
 
 /// The first write of this server: a request for an hour of oak on Monday, from this minute of the day on.
 fn request(alloc: Global, server: u32, start: u32) -> Result<Write, Refusal> {
-    let wish = monday_at(start)?;
+    let (stamp, wish) = (first_stamp(server)?, monday_at(start)?);
     let alternatives = Alternatives::from_vec(Vec::new(alloc));
     let request = Request::of_words(alloc, "oak", "Review", 60, wish, alternatives)?;
-    Ok(Write::of_request(first_stamp(server)?, request))
+    Ok(Write::of_request(stamp, request))
 }
 
 /// The stamp of a server's first write.

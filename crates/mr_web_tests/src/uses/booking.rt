@@ -9,7 +9,7 @@ ghost use Rattle.mr_model.specs.Tables.{Stands};
 ghost use Rattle.mr_model.specs.View.{AskSheet, answer, view_of};
 ghost use Rattle.mr_service.specs.Asked.{command_seen};
 
-use crate::uses::asking::{ask, tell};
+use crate::uses::asking::{ask, order, tell};
 use mr_base::{Refusal, ServerId};
 use mr_service::{Command, Local, Service, SlotWords, Submission, reply_text};
 use mr_store::ListKeeper;
@@ -21,17 +21,14 @@ pub(crate) fn opened(alloc: Global, number: u32) -> Result<Service<ListKeeper>, 
     let server = ServerId::new(number).ok_or(Refusal::NotAReplica)?;
     let room = String::from_str(alloc, "oak")?;
     let mut service = Service::new(alloc, ListKeeper::new(alloc, server, primary));
-    ask(&mut service, &Command::Local(Local::AddRoom(room)))?;
+    order(&mut service, Command::Local(Local::AddRoom(room)))?;
     Ok(service)
 }
 
 /// The command that asks for oak on Monday, from a time on, for so many minutes. It names no alternatives, so that it is logged as an error
 /// where its slot is taken.
 pub(crate) fn booking(alloc: Global, time: &str, minutes: &str) -> Result<Command, AllocError> {
-    let wish = SlotWords {
-        day: String::from_str(alloc, "1995-12-18")?,
-        time: String::from_str(alloc, time)?,
-    };
+    let wish = monday_at(alloc, time)?;
     let room = String::from_str(alloc, "oak")?;
     let length = String::from_str(alloc, minutes)?;
     Ok(Command::Local(Local::Submit(Submission {
@@ -41,6 +38,12 @@ pub(crate) fn booking(alloc: Global, time: &str, minutes: &str) -> Result<Comman
         wish,
         alternatives: Vec::new(alloc),
     })))
+}
+
+fn monday_at(alloc: Global, time: &str) -> Result<SlotWords, AllocError> {
+    let day = String::from_str(alloc, "1995-12-18")?;
+    let time = String::from_str(alloc, time)?;
+    Ok(SlotWords { day, time })
 }
 
 /// The question for the sheet of a room on a day.
@@ -72,7 +75,7 @@ pub(crate) fn sheet_after(
 }
 
 /// Times and minutes: a request that is booked, one that finds its slot taken, and one that is too long for any day.
-const WISHES: [(&str, &str); 3] = [("13:30", "60"), ("14:00", "30"), ("14:30", "1441")];
+static WISHES: [(&str, &str); 3] = [("13:30", "60"), ("14:00", "30"), ("14:30", "1441")];
 
 /// What a replica replies to these, and the sheet behind one more.
 pub(crate) fn bookings_told(
@@ -80,11 +83,24 @@ pub(crate) fn bookings_told(
     service: &mut Service<ListKeeper>,
 ) -> Result<Vec<u8>, Refusal> {
     let mut told = Vec::new(alloc);
-    for (time, minutes) in WISHES {
-        tell(alloc, service, &booking(alloc, time, minutes)?, &mut told)?;
-    }
-    let last = booking(alloc, "16:00", "45")?;
-    let sheet = sheet_after(alloc, service, &last, "oak", "1995-12-18")?;
+    wishes_told(alloc, service, &mut told)?;
+    let sheet = last_sheet(alloc, service)?;
     told.extend_from_slice(sheet.as_slice())?;
     Ok(told)
+}
+
+fn wishes_told(
+    alloc: Global,
+    service: &mut Service<ListKeeper>,
+    told: &mut Vec<u8>,
+) -> Result<(), Refusal> {
+    for (time, minutes) in &WISHES {
+        tell(alloc, service, booking(alloc, time, minutes)?, told)?;
+    }
+    Ok(())
+}
+
+fn last_sheet(alloc: Global, service: &mut Service<ListKeeper>) -> Result<Vec<u8>, Refusal> {
+    let last = booking(alloc, "16:00", "45")?;
+    sheet_after(alloc, service, &last, "oak", "1995-12-18")
 }

@@ -7,7 +7,7 @@ ghost use Rattle.mr_model.specs.Tables.{Stands};
 ghost use Rattle.mr_service.specs.Asked.{reply_of};
 ghost use Rattle.mr_web_tests.specs.HandedOver.{IsTextFor, IsGiven};
 
-use crate::uses::asking::{ask, tell};
+use crate::uses::asking::{ask, order, tell};
 use crate::uses::booking::{booking, sheet};
 use mr_base::{LineCount, Refusal};
 use mr_model::texts::{exchange_law, position_law};
@@ -74,11 +74,16 @@ pub(crate) fn meet(
     east: &mut Service<ListKeeper>,
     lines: LineCount,
 ) -> Result<(), Refusal> {
-    ask(west, &booking(alloc, "14:00", "60")?)?;
-    ask(east, &booking(alloc, "13:30", "60")?)?;
+    book(alloc, west, "14:00")?;
+    book(alloc, east, "13:30")?;
     give(alloc, west, east, lines)?;
     give(alloc, east, west, lines)?;
     Ok(())
+}
+
+/// Books the hour from this time on.
+fn book(alloc: Global, service: &mut Service<ListKeeper>, time: &str) -> Result<(), Refusal> {
+    order(service, booking(alloc, time, "60")?)
 }
 
 /// The primary commits what it knows and gives that on. Then the other office drops its copies of what is committed, and both list the day.
@@ -89,21 +94,20 @@ pub(crate) fn commits_told(
     lines: LineCount,
 ) -> Result<Vec<u8>, Refusal> {
     let mut told = Vec::new(alloc);
-    tell(alloc, west, &Command::Local(Local::Commit(10)), &mut told)?;
+    tell(alloc, west, Command::Local(Local::Commit(10)), &mut told)?;
     give(alloc, west, east, lines)?;
-    tell(alloc, east, &Command::Local(Local::Truncate(2)), &mut told)?;
-    days_told(alloc, west, east, &mut told)?;
+    tell(alloc, east, Command::Local(Local::Truncate(2)), &mut told)?;
+    day_told(alloc, west, &mut told)?;
+    day_told(alloc, east, &mut told)?;
     Ok(told)
 }
 
-/// The day as each of the two lists it.
-fn days_told(
+/// The day as this office lists it.
+fn day_told(
     alloc: Global,
-    west: &mut Service<ListKeeper>,
-    east: &mut Service<ListKeeper>,
+    service: &mut Service<ListKeeper>,
     told: &mut Vec<u8>,
 ) -> Result<(), Refusal> {
     let question = sheet(alloc, "oak", "1995-12-18")?;
-    tell(alloc, west, &question, told)?;
-    tell(alloc, east, &question, told)
+    tell(alloc, service, question, told)
 }
