@@ -4,24 +4,39 @@ use crate::same::{same, same_text};
 use mr_base::Refusal;
 use mr_words::{AddressFault, invocation, peer_address};
 use std::alloc::Global;
+use std::fmt::Debug;
 use std::process::Abort;
 
-fn told(alloc: Global, words: &[&str]) -> Result<Vec<u8>, Refusal> {
+fn line(rt: &impl Abort, alloc: Global, words: &[&str]) -> Vec<String> {
     let mut line = Vec::new(alloc);
     for word in words {
-        line.push(String::from_str(alloc, word)?)?;
+        let word = String::from_str(alloc, word).expect(rt, "memory");
+        line.push(word).expect(rt, "memory");
     }
-    let told = match invocation(alloc, line.as_slice()) {
-        Ok(invocation) => format!(in alloc; "{invocation:?}")?,
-        Err(fault) => format!(in alloc; "{fault:?}")?,
-    };
-    Ok(told.into_bytes())
+    line
+}
+
+fn shown<T: Debug>(alloc: Global, value: &T) -> Result<Vec<u8>, Refusal> {
+    let text = format!(in alloc; "{value:?}")?;
+    Ok(text.into_bytes())
+}
+
+fn told(alloc: Global, line: &[String]) -> Result<Vec<u8>, Refusal> {
+    match invocation(alloc, line) {
+        Ok(invocation) => shown(alloc, &invocation),
+        Err(fault) => shown(alloc, &fault),
+    }
+}
+
+fn check_line(rt: &impl Abort, alloc: Global, words: &[&str], wanted: &str) {
+    let line = line(rt, alloc, words);
+    same_text(rt, &told(alloc, line.as_slice()), wanted);
 }
 
 /// Each of these command lines is told so.
 fn check(rt: &impl Abort, alloc: Global, lines: &[(&[&str], &str)]) {
     for (words, wanted) in lines {
-        same_text(rt, &told(alloc, words), wanted);
+        check_line(rt, alloc, words, wanted);
     }
 }
 
@@ -252,29 +267,25 @@ fn addresses(rt: HostRuntime) {
     }
 }
 
-/// Whether an address is read whose host has five labels of 50 bytes, parted by dots, and this one behind them.
-fn is_read_with(alloc: Global, last: &str) -> Option<bool> {
-    let mut text = String::from_str(alloc, "http://").ok()?;
-    for _ in 0..5 {
-        let label = "abcdefghijklmnopqrstuvwxyzabcdefghijklmnopqrstuvwx.";
-        text.push_str(label).ok()?;
+/// An address whose host has five labels of 50 bytes, parted by dots, and this one behind them.
+fn long_address(rt: &impl Abort, alloc: Global, last: &str) -> String {
+    let mut text = String::from_str(alloc, "http://").expect(rt, "memory");
+    let label = "abcdefghijklmnopqrstuvwxyzabcdefghijklmnopqrstuvwx.";
+    for part in [label, label, label, label, label, last] {
+        text.push_str(part).expect(rt, "memory");
     }
-    text.push_str(last).ok()?;
-    match peer_address(alloc, text.as_str()) {
-        Ok(_) => Some(true),
-        Err(AddressFault::Bad) => Some(false),
-        Err(_) => None,
-    }
+    text
+}
+
+fn check_long(rt: &impl Abort, alloc: Global, last: &str, wanted: Result<(), AddressFault>) {
+    let text = long_address(rt, alloc, last);
+    let found = peer_address(alloc, text.as_str()).map(|_| ());
+    same(rt, &found, &wanted, last);
 }
 
 // A host of 255 bytes, and one of 256.
 #[test]
 fn long_hosts(rt: HostRuntime) {
-    same(&rt, &is_read_with(rt.alloc(), ""), &Some(true), "255 bytes");
-    same(
-        &rt,
-        &is_read_with(rt.alloc(), "a"),
-        &Some(false),
-        "256 bytes",
-    );
+    check_long(&rt, rt.alloc(), "", Ok(()));
+    check_long(&rt, rt.alloc(), "a", Err(AddressFault::Bad));
 }
