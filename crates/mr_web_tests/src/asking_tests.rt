@@ -1,7 +1,7 @@
 // Requests and replies, byte for byte. The memory is ample. What a test compares is made by functions without clauses, so that its proof
 // carries no state of a replica.
 
-use crate::connections::{Drip, Narrow};
+use crate::connections::{Drip, check_front, writer_of};
 use crate::same::{same, same_bytes};
 use mr_base::{Ending, Position, Refusal, ServerId};
 use mr_http::WebFault;
@@ -51,7 +51,7 @@ fn batch_reply(rt: &impl Abort, alloc: Global, size: usize) -> Vec<u8> {
     bytes
 }
 
-fn took_position(alloc: Global, reply: &[u8]) -> Result<Position, WebFault> {
+pub(crate) fn took_position(alloc: Global, reply: &[u8]) -> Result<Position, WebFault> {
     let mut reader = reply;
     position_take(alloc, &mut reader)
 }
@@ -60,7 +60,7 @@ fn position_fault(alloc: Global, reply: &[u8]) -> Option<WebFault> {
     took_position(alloc, reply).err()
 }
 
-fn took_counts(alloc: Global, reply: &[u8]) -> Result<(u64, u64), WebFault> {
+pub(crate) fn took_counts(alloc: Global, reply: &[u8]) -> Result<(u64, u64), WebFault> {
     let mut reader = reply;
     push_take(alloc, &mut reader)
 }
@@ -88,12 +88,15 @@ pub(crate) fn pull_request(
     Ok(writer)
 }
 
+// The pull of a replica that knows nothing.
+const FIRST_PULL: &[u8] =
+    b"POST /pull HTTP/1.1\r\nHost: a\r\nContent-Length: 14\r\nConnection: close\r\n\r\nmp2 9 1\nK 0\nE\n";
+
 #[test]
 fn asks_for_a_batch(rt: HostRuntime) {
     let mut service = service(&rt, rt.alloc(), 9);
-    let want =
-        b"POST /pull HTTP/1.1\r\nHost: a\r\nContent-Length: 14\r\nConnection: close\r\n\r\nmp2 9 1\nK 0\nE\n".as_slice();
-    same_bytes(&rt, &pull_request(rt.alloc(), &mut service), want);
+    let request = pull_request(rt.alloc(), &mut service);
+    same_bytes(&rt, &request, FIRST_PULL);
 }
 
 // What a replica that knows nothing pulls of the whole batch.
@@ -106,8 +109,7 @@ fn pulled_whole(
     let mut reader = reply.as_slice();
     let mut writer = Vec::new(alloc);
     let pulled = pull(alloc, service, "a", &mut reader, &mut writer);
-    let has_position = writer.as_slice().ends_with(b"mp2 9 1\nK 0\nE\n");
-    same(rt, &has_position, &true, "what is sent");
+    same(rt, &writer.as_slice(), &FIRST_PULL, "what is sent");
     pulled
 }
 
@@ -372,9 +374,19 @@ fn check_cut(rt: &impl Abort, alloc: Global, reply: &[u8], left: usize) {
     let taken = dripped(alloc, &mut service, reply, left);
     same(rt, &taken, &Err(WebFault::Read), left);
     let request = pull_request(alloc, &mut service);
-    let has_position =
-        matches!(&request, Ok(request) if request.as_slice().ends_with(b"mp2 9 1\nK 0\nE\n"));
-    same(rt, &has_position, &true, left);
+    same_bytes(rt, &request, FIRST_PULL);
+}
+
+fn check_each_cut(rt: &impl Abort, alloc: Global, reply: &[u8]) {
+    for left in 0..reply.len() {
+        check_cut(rt, alloc, reply, left);
+    }
+}
+
+fn check_whole(rt: &impl Abort, alloc: Global, reply: &[u8]) {
+    let mut service = service(rt, alloc, 9);
+    let taken = dripped(alloc, &mut service, reply, reply.len());
+    same(rt, &taken, &Ok((2, 0, Ending::Complete)), "all");
 }
 
 // One byte a read is enough, and a read that fails leaves the replica as it was.
@@ -382,12 +394,8 @@ fn check_cut(rt: &impl Abort, alloc: Global, reply: &[u8], left: usize) {
 fn drips(rt: HostRuntime) {
     let alloc = rt.alloc();
     let reply = batch_reply(&rt, alloc, 106);
-    for left in 0..reply.len() {
-        check_cut(&rt, alloc, reply.as_slice(), left);
-    }
-    let mut service = service(&rt, alloc, 9);
-    let taken = dripped(alloc, &mut service, reply.as_slice(), reply.len());
-    same(&rt, &taken, &Ok((2, 0, Ending::Complete)), "all");
+    check_each_cut(&rt, alloc, reply.as_slice());
+    check_whole(&rt, alloc, reply.as_slice());
 }
 
 fn check_narrow(
@@ -397,13 +405,9 @@ fn check_narrow(
     whole: &[u8],
     room: usize,
 ) {
-    let mut writer = Narrow {
-        taken: Vec::new(alloc),
-        room,
-    };
+    let mut writer = writer_of(alloc, room);
     let asked = pull_ask(alloc, service, "a", &mut writer);
-    same(rt, &asked, &Err(WebFault::Write), room);
-    same(rt, &Some(writer.taken.as_slice()), &whole.get(..room), room);
+    check_front(rt, &writer, asked.err(), whole, room);
 }
 
 // A write that fails leaves a front of the request.

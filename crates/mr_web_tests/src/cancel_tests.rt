@@ -2,9 +2,9 @@
 // ample.
 
 use crate::asking_tests::{give, pushed_to, service};
-use crate::round_tests::{pull_from, push_to};
+use crate::round_tests::{check_pulls, check_pushes};
 use crate::same::same;
-use crate::serving_tests::{FIRST, check, check_all, opening};
+use crate::serving_tests::{FIRST, check_all, check_lists, opening};
 use mr_base::{Ending, Refusal};
 use mr_http::WebFault;
 use mr_service::{Command, Local, Service};
@@ -220,7 +220,7 @@ static COMMITTED: [(&str, u16, &str); 7] = [
 // The primary, with the booking and both cancels.
 fn cancelled_twice(rt: &impl Abort, alloc: Global) -> Service<ListKeeper> {
     let mut service = opening(rt, alloc);
-    check(rt, alloc, &mut service, FIRST[0]);
+    check_all(rt, alloc, &mut service, &FIRST);
     check_all(rt, alloc, &mut service, &CANCELS);
     service
 }
@@ -239,33 +239,26 @@ fn tells_of_cancels(rt: HostRuntime) {
 // What is no cancel, or is refused, leaves all as it was.
 #[test]
 fn refuses_what_is_no_cancel(rt: HostRuntime) {
-    let mut service = cancelled_twice(&rt, rt.alloc());
-    check_all(&rt, rt.alloc(), &mut service, &NO_CANCELS);
-    check_all(&rt, rt.alloc(), &mut service, &TENTATIVE);
+    let service = cancelled_twice(&rt, rt.alloc());
+    check_lists(&rt, rt.alloc(), service, &[&NO_CANCELS, &TENTATIVE]);
 }
+
+static ROUNDS: [(u64, Ending); 2] = [(3, Ending::Complete), (0, Ending::Complete)];
 
 // A replica pulls the booking and both cancels, of which it has heard nothing, and nothing then.
 #[test]
 fn pulls_cancels(rt: HostRuntime) {
-    let alloc = rt.alloc();
-    let mut server = cancelled_twice(&rt, alloc);
-    let mut client = service(&rt, alloc, 2);
-    for writes in [3, 0] {
-        let pulled = pull_from(alloc, &mut client, &mut server);
-        same(&rt, &pulled, &Ok((writes, 0, Ending::Complete)), writes);
-    }
+    let server = cancelled_twice(&rt, rt.alloc());
+    let client = service(&rt, rt.alloc(), 2);
+    check_pulls(&rt, rt.alloc(), client, server, &ROUNDS);
 }
 
 // The same pushed.
 #[test]
 fn pushes_cancels(rt: HostRuntime) {
-    let alloc = rt.alloc();
-    let mut client = cancelled_twice(&rt, alloc);
-    let mut server = service(&rt, alloc, 2);
-    for writes in [3, 0] {
-        let pushed = push_to(alloc, &mut client, &mut server);
-        same(&rt, &pushed, &Ok((writes, 0, Ending::Complete)), writes);
-    }
+    let client = cancelled_twice(&rt, rt.alloc());
+    let server = service(&rt, rt.alloc(), 2);
+    check_pushes(&rt, rt.alloc(), client, server, &ROUNDS);
 }
 
 // A replica makes no batch of a cancel for a position of the first version, and writes nothing.

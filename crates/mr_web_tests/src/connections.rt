@@ -1,6 +1,10 @@
 // Readers and writers that go a byte at a time, and fail when they are told to.
 
+use crate::same::same;
+use mr_http::WebFault;
+use std::alloc::Global;
 use std::io::{self, Read, Write};
+use std::process::Abort;
 
 /// Gives one byte a read, and fails where `left` reads are over.
 #[derive(Drop)]
@@ -45,4 +49,23 @@ impl Write for Narrow {
     fn flush(&mut self) -> io::Result<()> {
         Ok(())
     }
+}
+
+pub(crate) fn writer_of(alloc: Global, room: usize) -> Narrow {
+    Narrow {
+        taken: Vec::new(alloc),
+        room,
+    }
+}
+
+/// The writer failed, and has the front of the whole that it had room for.
+pub(crate) fn check_front(
+    rt: &impl Abort,
+    writer: &Narrow,
+    fault: Option<WebFault>,
+    whole: &[u8],
+    room: usize,
+) {
+    same(rt, &fault, &Some(WebFault::Write), room);
+    same(rt, &Some(writer.taken.as_slice()), &whole.get(..room), room);
 }

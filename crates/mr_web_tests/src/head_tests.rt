@@ -1,4 +1,4 @@
-use crate::connections::{Drip, Narrow};
+use crate::connections::{Drip, check_front, writer_of};
 use crate::same::{same, same_bytes};
 use httparse::Header;
 use mr_http::{
@@ -19,32 +19,34 @@ fn reply_head(alloc: Global, bytes: &[u8]) -> Result<Option<usize>, ReadFault> {
     read_reply_head(&mut reader, &mut buffer)
 }
 
+static REQUESTS: [(&[u8], Option<usize>); 6] = [
+    (b"GET / HTTP/1.1\r\n\r\nrest", Some(18)),
+    (b"\r\nGET / HTTP/1.1\nA: b\n\nrest", Some(23)),
+    (b"GET / HTTP/1.0\r\n\r\n", None),
+    (b"GET / HTTP/1.1\r\n", None),
+    (b"HTTP/1.1 200 OK\r\n\r\n", None),
+    (b"", None),
+];
+
 #[test]
 fn heads_of_requests(rt: HostRuntime) {
-    let alloc = rt.alloc();
-    for (bytes, found) in [
-        (&b"GET / HTTP/1.1\r\n\r\nrest"[..], Some(18usize)),
-        (&b"\r\nGET / HTTP/1.1\nA: b\n\nrest"[..], Some(23)),
-        (&b"GET / HTTP/1.0\r\n\r\n"[..], None),
-        (&b"GET / HTTP/1.1\r\n"[..], None),
-        (&b"HTTP/1.1 200 OK\r\n\r\n"[..], None),
-        (&b""[..], None),
-    ] {
-        same(&rt, &request_head(alloc, bytes), &Ok(found), bytes);
+    for (bytes, found) in &REQUESTS {
+        same(&rt, &request_head(rt.alloc(), bytes), &Ok(*found), bytes);
     }
 }
 
+static REPLIES: [(&[u8], Option<usize>); 5] = [
+    (b"HTTP/1.1 200 OK\r\n\r\nrest", Some(19)),
+    (b"HTTP/1.1 404\r\nA: b\r\n\r\n", Some(22)),
+    (b"HTTP/1.0 200 OK\r\n\r\n", None),
+    (b"HTTP/1.1 200 OK\r\n", None),
+    (b"GET / HTTP/1.1\r\n\r\n", None),
+];
+
 #[test]
 fn heads_of_replies(rt: HostRuntime) {
-    let alloc = rt.alloc();
-    for (bytes, found) in [
-        (&b"HTTP/1.1 200 OK\r\n\r\nrest"[..], Some(19usize)),
-        (&b"HTTP/1.1 404\r\nA: b\r\n\r\n"[..], Some(22)),
-        (&b"HTTP/1.0 200 OK\r\n\r\n"[..], None),
-        (&b"HTTP/1.1 200 OK\r\n"[..], None),
-        (&b"GET / HTTP/1.1\r\n\r\n"[..], None),
-    ] {
-        same(&rt, &reply_head(alloc, bytes), &Ok(found), bytes);
+    for (bytes, found) in &REPLIES {
+        same(&rt, &reply_head(rt.alloc(), bytes), &Ok(*found), bytes);
     }
 }
 
@@ -64,80 +66,70 @@ fn long_head_found(alloc: Global, more: usize) -> Result<Option<usize>, ReadFaul
     request_head(alloc, bytes.as_slice())
 }
 
+fn check_longest(rt: &impl Abort, alloc: Global, more: usize, found: Option<usize>) {
+    same(rt, &long_head_found(alloc, more), &Ok(found), more);
+}
+
 #[test]
 fn the_longest_head(rt: HostRuntime) {
-    let alloc = rt.alloc();
-    for (more, found) in [(8169, Some(8192)), (8170, None)] {
-        same(&rt, &long_head_found(alloc, more), &Ok(found), more);
-    }
+    check_longest(&rt, rt.alloc(), 8169, Some(8192));
+    check_longest(&rt, rt.alloc(), 8170, None);
 }
+
+// Whether a body is needed, a field of a head, and the length that it tells.
+static ONE_FIELD: [(bool, &str, &[u8], Option<u64>); 12] = [
+    (true, "Content-Length", b"5", Some(5)),
+    (true, "content-length", b"007", Some(7)),
+    (true, "CONTENT-LENGTH", b"9999999999", Some(9_999_999_999)),
+    (true, "Content-Length", b"10000000000", None),
+    (true, "Content-Length", b"", None),
+    (true, "Content-Length", b"+1", None),
+    (true, "Content-Length", b"1 ", None),
+    (false, "Content-Length", b"0", Some(0)),
+    (false, "Content-Length", b"1", None),
+    (true, "Content-Type", b"5", None),
+    (false, "Content-Type", b"5", Some(0)),
+    (false, "transfer-encoding", b"identity", None),
+];
 
 #[test]
 fn one_length(rt: HostRuntime) {
-    for (needs, name, value, length) in [
-        (true, "Content-Length", &b"5"[..], Some(5u64)),
-        (true, "content-length", &b"007"[..], Some(7)),
-        (
-            true,
-            "CONTENT-LENGTH",
-            &b"9999999999"[..],
-            Some(9_999_999_999),
-        ),
-        (true, "Content-Length", &b"10000000000"[..], None),
-        (true, "Content-Length", &b""[..], None),
-        (true, "Content-Length", &b"+1"[..], None),
-        (true, "Content-Length", &b"1 "[..], None),
-        (false, "Content-Length", &b"0"[..], Some(0)),
-        (false, "Content-Length", &b"1"[..], None),
-        (true, "Content-Type", &b"5"[..], None),
-        (false, "Content-Type", &b"5"[..], Some(0)),
-        (false, "transfer-encoding", &b"identity"[..], None),
-    ] {
+    for (needs, name, value, length) in &ONE_FIELD {
         let fields = [Header { name, value }];
-        same(&rt, &body_length(needs, &fields), &length, name);
+        same(&rt, &body_length(*needs, &fields), length, name);
     }
 }
 
+const LENGTH: Header<'static> = Header {
+    name: "Content-Length",
+    value: b"5",
+};
+
+const HOST: Header<'static> = Header {
+    name: "Host",
+    value: b"a",
+};
+
+const CHUNKED: Header<'static> = Header {
+    name: "Transfer-Encoding",
+    value: b"chunked",
+};
+
+// The same of two fields, and of none.
+static FIELDS: [(bool, &[Header<'static>], Option<u64>); 6] = [
+    (true, &[LENGTH, HOST], Some(5)),
+    (true, &[HOST, LENGTH], Some(5)),
+    (true, &[LENGTH, LENGTH], None),
+    (true, &[LENGTH, CHUNKED], None),
+    (true, &[], None),
+    (false, &[], Some(0)),
+];
+
 #[test]
 fn two_lengths(rt: HostRuntime) {
-    let length = Header {
-        name: "Content-Length",
-        value: b"5",
-    };
-    let host = Header {
-        name: "Host",
-        value: b"a",
-    };
-    let chunked = Header {
-        name: "Transfer-Encoding",
-        value: b"chunked",
-    };
-    same(
-        &rt,
-        &body_length(true, &[length, host]),
-        &Some(5),
-        "length, host",
-    );
-    same(
-        &rt,
-        &body_length(true, &[host, length]),
-        &Some(5),
-        "host, length",
-    );
-    same(
-        &rt,
-        &body_length(true, &[length, length]),
-        &None,
-        "two lengths",
-    );
-    same(
-        &rt,
-        &body_length(true, &[length, chunked]),
-        &None,
-        "in pieces",
-    );
-    same(&rt, &body_length(true, &[]), &None, "no length");
-    same(&rt, &body_length(false, &[]), &Some(0), "no body");
+    for (index, (needs, fields, length)) in FIELDS.iter().enumerate() {
+        same(&rt, &body_length(*needs, fields), length, index);
+    }
 }
 
 const MESSAGE: &[u8] = b"POST / HTTP/1.1\r\n\r\nbody";
@@ -157,25 +149,17 @@ fn read_whole(alloc: Global, left: usize) -> Result<usize, ReadFault> {
 #[test]
 fn drips(rt: HostRuntime) {
     let alloc = rt.alloc();
-    for left in 0..MESSAGE.len() {
+    let whole = MESSAGE.len();
+    for left in 0..whole {
         same(&rt, &read_whole(alloc, left), &Err(ReadFault::Read), left);
     }
-    let whole = MESSAGE.len();
     same(&rt, &read_whole(alloc, whole), &Ok(whole), whole);
 }
 
 fn check_narrow(rt: &impl Abort, alloc: Global, room: usize) {
-    let mut writer = Narrow {
-        taken: Vec::new(alloc),
-        room,
-    };
-    same(rt, &send(&mut writer, MESSAGE), &Err(WebFault::Write), room);
-    same(
-        rt,
-        &Some(writer.taken.as_slice()),
-        &MESSAGE.get(..room),
-        room,
-    );
+    let mut writer = writer_of(alloc, room);
+    let sent = send(&mut writer, MESSAGE);
+    check_front(rt, &writer, sent.err(), MESSAGE, room);
 }
 
 // A write that fails leaves a front.

@@ -1,11 +1,13 @@
 // Rounds of an exchange, whose requests a served replica answers: 70 writes go either way in 64 and 6.
 
-use crate::asking_tests::{BATCH, give, give_batch, pull_request, service};
+use crate::asking_tests::{
+    BATCH, give, give_batch, pull_request, service, took_counts, took_position,
+};
 use crate::same::{same, same_bytes};
 use crate::serving_tests::opening;
-use mr_base::{Ending, Position, Refusal};
+use mr_base::{Ending, Position};
 use mr_http::WebFault;
-use mr_peer::{position_ask, position_take, pull_take, push_ask, push_take};
+use mr_peer::{position_ask, pull_take, push_ask};
 use mr_service::{Command, Service};
 use mr_store::ListKeeper;
 use mr_web::serve_one;
@@ -13,21 +15,21 @@ use std::alloc::Global;
 use std::process::Abort;
 
 /// 70 tentative writes of another.
-fn seventy(alloc: Global) -> Result<Vec<u8>, Refusal> {
-    let mut text = String::from_str(alloc, "mr1 4 1\n")?;
+fn seventy(rt: &impl Abort, alloc: Global) -> Vec<u8> {
+    let mut text = String::from_str(alloc, "mr1 4 1\n").expect(rt, "memory");
     for n in 1..=70 {
-        let line = format!(in alloc; "W 4 {n} {n} elm 1 1995-12-18 09:00 0 Elm\n")?;
-        text.push_str(line.as_str())?;
+        let line = format!(in alloc; "W 4 {n} {n} elm 1 1995-12-18 09:00 0 Elm\n");
+        text.push_str(line.expect(rt, "memory").as_str())
+            .expect(rt, "memory");
     }
-    text.push_str("E\n")?;
-    Ok(text.into_bytes())
+    text.push_str("E\n").expect(rt, "memory");
+    text.into_bytes()
 }
 
 /// The replica of this server, with these.
 fn with_seventy(rt: &impl Abort, alloc: Global, number: u32) -> Service<ListKeeper> {
     let mut service = service(rt, alloc, number);
-    let batch = seventy(alloc).expect(rt, "a batch");
-    give(&mut service, Command::Receive(batch));
+    give(&mut service, Command::Receive(seventy(rt, alloc)));
     service
 }
 
@@ -43,38 +45,68 @@ fn replied(
     Ok(writer)
 }
 
-pub(crate) fn pull_from(
+/// What the server replies to the pull of this client.
+fn pull_replied(
+    alloc: Global,
+    client: &mut Service<ListKeeper>,
+    server: &mut Service<ListKeeper>,
+) -> Result<Vec<u8>, WebFault> {
+    let request = pull_request(alloc, client)?;
+    replied(alloc, server, request.as_slice())
+}
+
+fn pull_from(
     alloc: Global,
     client: &mut Service<ListKeeper>,
     server: &mut Service<ListKeeper>,
 ) -> Result<(u64, u64, Ending), WebFault> {
-    let request = pull_request(alloc, client)?;
-    let reply = replied(alloc, server, request.as_slice())?;
+    let reply = pull_replied(alloc, client, server)?;
     let mut reader = reply.as_slice();
     pull_take(alloc, client, &mut reader)
 }
 
-/// The position of the server.
-fn position(alloc: Global, server: &mut Service<ListKeeper>) -> Result<Position, WebFault> {
+/// What the server replies where it is asked for its position.
+fn position_replied(alloc: Global, server: &mut Service<ListKeeper>) -> Result<Vec<u8>, WebFault> {
     let mut request = Vec::new(alloc);
     position_ask(alloc, "a", &mut request)?;
-    let reply = replied(alloc, server, request.as_slice())?;
-    let mut reader = reply.as_slice();
-    position_take(alloc, &mut reader)
+    replied(alloc, server, request.as_slice())
 }
 
-pub(crate) fn push_to(
+fn position(alloc: Global, server: &mut Service<ListKeeper>) -> Result<Position, WebFault> {
+    let reply = position_replied(alloc, server)?;
+    took_position(alloc, reply.as_slice())
+}
+
+/// What the server takes of a push.
+fn push_taken(
+    alloc: Global,
+    server: &mut Service<ListKeeper>,
+    request: &[u8],
+) -> Result<(u64, u64), WebFault> {
+    let reply = replied(alloc, server, request)?;
+    took_counts(alloc, reply.as_slice())
+}
+
+/// What comes of a push to the server, which is at this position.
+fn push_at(
+    alloc: Global,
+    client: &mut Service<ListKeeper>,
+    server: &mut Service<ListKeeper>,
+    position: &Position,
+) -> Result<(u64, u64, Ending), WebFault> {
+    let mut request = Vec::new(alloc);
+    let ending = push_ask(alloc, client, position, "a", &mut request)?;
+    let (writes, commits) = push_taken(alloc, server, request.as_slice())?;
+    Ok((writes, commits, ending))
+}
+
+fn push_to(
     alloc: Global,
     client: &mut Service<ListKeeper>,
     server: &mut Service<ListKeeper>,
 ) -> Result<(u64, u64, Ending), WebFault> {
     let position = position(alloc, server)?;
-    let mut request = Vec::new(alloc);
-    let ending = push_ask(alloc, client, &position, "a", &mut request)?;
-    let reply = replied(alloc, server, request.as_slice())?;
-    let mut reader = reply.as_slice();
-    let (writes, commits) = push_take(alloc, &mut reader)?;
-    Ok((writes, commits, ending))
+    push_at(alloc, client, server, &position)
 }
 
 static ROUNDS: [(u64, Ending); 3] = [
@@ -83,26 +115,46 @@ static ROUNDS: [(u64, Ending); 3] = [
     (0, Ending::Complete),
 ];
 
-#[test]
-fn seventy_are_pulled_in_two_rounds(rt: HostRuntime) {
-    let alloc = rt.alloc();
-    let mut server = with_seventy(&rt, alloc, 1);
-    let mut client = service(&rt, alloc, 2);
-    for (writes, ending) in &ROUNDS {
+/// The client pulls so many writes in each round, which ends so.
+pub(crate) fn check_pulls(
+    rt: &impl Abort,
+    alloc: Global,
+    mut client: Service<ListKeeper>,
+    mut server: Service<ListKeeper>,
+    rounds: &[(u64, Ending)],
+) {
+    for (writes, ending) in rounds {
         let pulled = pull_from(alloc, &mut client, &mut server);
-        same(&rt, &pulled, &Ok((*writes, 0, *ending)), writes);
+        same(rt, &pulled, &Ok((*writes, 0, *ending)), writes);
+    }
+}
+
+/// The same pushed.
+pub(crate) fn check_pushes(
+    rt: &impl Abort,
+    alloc: Global,
+    mut client: Service<ListKeeper>,
+    mut server: Service<ListKeeper>,
+    rounds: &[(u64, Ending)],
+) {
+    for (writes, ending) in rounds {
+        let pushed = push_to(alloc, &mut client, &mut server);
+        same(rt, &pushed, &Ok((*writes, 0, *ending)), writes);
     }
 }
 
 #[test]
+fn seventy_are_pulled_in_two_rounds(rt: HostRuntime) {
+    let server = with_seventy(&rt, rt.alloc(), 1);
+    let client = service(&rt, rt.alloc(), 2);
+    check_pulls(&rt, rt.alloc(), client, server, &ROUNDS);
+}
+
+#[test]
 fn seventy_are_pushed_in_two_rounds(rt: HostRuntime) {
-    let alloc = rt.alloc();
-    let mut server = service(&rt, alloc, 1);
-    let mut client = with_seventy(&rt, alloc, 2);
-    for (writes, ending) in &ROUNDS {
-        let pushed = push_to(alloc, &mut client, &mut server);
-        same(&rt, &pushed, &Ok((*writes, 0, *ending)), writes);
-    }
+    let server = service(&rt, rt.alloc(), 1);
+    let client = with_seventy(&rt, rt.alloc(), 2);
+    check_pushes(&rt, rt.alloc(), client, server, &ROUNDS);
 }
 
 const SUBMISSION: &[u8] =
@@ -131,8 +183,7 @@ fn first_pull(
     server: &mut Service<ListKeeper>,
 ) -> Result<Vec<u8>, WebFault> {
     let mut client = service(rt, alloc, 9);
-    let request = pull_request(alloc, &mut client)?;
-    replied(alloc, server, request.as_slice())
+    pull_replied(alloc, &mut client, server)
 }
 
 // The head of its reply and the batch.

@@ -1,6 +1,6 @@
 // Lines to a writer that takes them, and to one that does not.
 
-use crate::connections::Narrow;
+use crate::connections::writer_of;
 use crate::same::same;
 use mr_base::Refusal;
 use mr_say::{BAD_WORDS, DONE, FAULT, say, say_made, say_refusal, say_reply, say_text};
@@ -42,10 +42,7 @@ fn lines_stand_in_their_order(rt: HostRuntime) {
 
 /// What they answer where they are not.
 fn not_taken(alloc: Global) -> [u8; 5] {
-    let mut full = Narrow {
-        taken: Vec::new(alloc),
-        room: 0,
-    };
+    let mut full = writer_of(alloc, 0);
     [
         say(&mut full, "ok\n", DONE),
         say_text(&mut full, b"ok\n", DONE),

@@ -1,22 +1,26 @@
 // Requests and their replies over a keeper of lists, to the byte. The memory is ample.
 
 use crate::asking_tests::{give, service};
-use crate::connections::{Drip, Narrow};
+use crate::connections::{Drip, check_front, writer_of};
 use crate::same::same;
 use mr_http::WebFault;
 use mr_service::{Command, Local, Service};
 use mr_store::{Fault, Keeper, ListKeeper, Tripped, WithoutDesk};
 use mr_web::serve_one;
 use std::alloc::Global;
+use std::fmt::Debug;
+use std::io::Read;
 use std::process::Abort;
 
-// A submission, and requests that change nothing.
-pub(crate) static FIRST: [(&str, u16, &str); 7] = [
-    (
-        "POST /submit HTTP/1.1\r\nContent-Length: 86\r\n\r\n{\"day\":\"1995-12-18\",\"length\":60,\"room\":\"oak\",\"start\":\"13:30\",\"title\":\"Budget Meeting\"}",
-        200,
-        "HTTP/1.1 200 OK\r\nContent-Type: application/json\r\nContent-Length: 90\r\nConnection: close\r\n\r\n{\"day\":\"1995-12-18\",\"id\":\"1-1\",\"mark\":\"T\",\"start\":\"13:30\",\"state\":\"booked\",\"stop\":\"14:30\"}",
-    ),
+// A submission.
+pub(crate) static FIRST: [(&str, u16, &str); 1] = [(
+    "POST /submit HTTP/1.1\r\nContent-Length: 86\r\n\r\n{\"day\":\"1995-12-18\",\"length\":60,\"room\":\"oak\",\"start\":\"13:30\",\"title\":\"Budget Meeting\"}",
+    200,
+    "HTTP/1.1 200 OK\r\nContent-Type: application/json\r\nContent-Length: 90\r\nConnection: close\r\n\r\n{\"day\":\"1995-12-18\",\"id\":\"1-1\",\"mark\":\"T\",\"start\":\"13:30\",\"state\":\"booked\",\"stop\":\"14:30\"}",
+)];
+
+// Requests that change nothing; the last is the sheet.
+pub(crate) static THEN: [(&str, u16, &str); 6] = [
     (
         "GET /rooms/oak/requests/7-1 HTTP/1.1\r\n\r\n",
         404,
@@ -209,6 +213,20 @@ pub(crate) fn opening(rt: &impl Abort, alloc: Global) -> Service<ListKeeper> {
     service
 }
 
+// What is read there is answered so, by these bytes.
+fn check_served<K: Keeper, R: Read, A: Copy + Debug>(
+    rt: &impl Abort,
+    alloc: Global,
+    service: &mut Service<K>,
+    reader: &mut R,
+    (answer, reply, at): (Result<u16, WebFault>, &str, A),
+) {
+    let mut writer = Vec::new(alloc);
+    let answered = serve_one(alloc, reader, &mut writer, service);
+    same(rt, &writer.as_slice(), &reply.as_bytes(), at);
+    same(rt, &answered, &answer, at);
+}
+
 // The request is answered by this status and these bytes.
 pub(crate) fn check<K: Keeper>(
     rt: &impl Abort,
@@ -217,10 +235,8 @@ pub(crate) fn check<K: Keeper>(
     (request, status, reply): (&str, u16, &str),
 ) {
     let mut reader = request.as_bytes();
-    let mut writer = Vec::new(alloc);
-    let answered = serve_one(alloc, &mut reader, &mut writer, service);
-    same(rt, &writer.as_slice(), &reply.as_bytes(), request);
-    same(rt, &answered, &Ok(status), request);
+    let wanted = (Ok(status), reply, request);
+    check_served(rt, alloc, service, &mut reader, wanted);
 }
 
 pub(crate) fn check_all<K: Keeper>(
@@ -234,39 +250,48 @@ pub(crate) fn check_all<K: Keeper>(
     }
 }
 
+// The service answers one list after the other.
+pub(crate) fn check_lists<K: Keeper + Drop>(
+    rt: &impl Abort,
+    alloc: Global,
+    mut service: Service<K>,
+    lists: &[&[(&str, u16, &str)]],
+) {
+    for rows in lists {
+        check_all(rt, alloc, &mut service, rows);
+    }
+}
+
 #[test]
 fn submits(rt: HostRuntime) {
-    let mut service = opening(&rt, rt.alloc());
-    check_all(&rt, rt.alloc(), &mut service, &FIRST);
+    let service = opening(&rt, rt.alloc());
+    check_lists(&rt, rt.alloc(), service, &[&FIRST, &THEN]);
 }
 
 #[test]
 fn serves_each_route(rt: HostRuntime) {
-    let mut service = opening(&rt, rt.alloc());
-    check(&rt, rt.alloc(), &mut service, FIRST[0]);
-    check_all(&rt, rt.alloc(), &mut service, &ROUTES);
+    let service = opening(&rt, rt.alloc());
+    check_lists(&rt, rt.alloc(), service, &[&FIRST, &ROUTES]);
 }
 
 // No request needs a whole desk.
 #[test]
 fn serves_each_route_without_a_desk(rt: HostRuntime) {
     let keeper = WithoutDesk::new(opening(&rt, rt.alloc()).into_keeper());
-    let mut service = Service::new(rt.alloc(), keeper);
-    check_all(&rt, rt.alloc(), &mut service, &FIRST);
-    check_all(&rt, rt.alloc(), &mut service, &ROUTES);
+    let service = Service::new(rt.alloc(), keeper);
+    check_lists(&rt, rt.alloc(), service, &[&FIRST, &THEN, &ROUTES]);
 }
 
 #[test]
 fn takes_alternatives(rt: HostRuntime) {
-    let mut service = opening(&rt, rt.alloc());
-    check(&rt, rt.alloc(), &mut service, FIRST[0]);
-    check_all(&rt, rt.alloc(), &mut service, &CHOICES);
+    let service = opening(&rt, rt.alloc());
+    check_lists(&rt, rt.alloc(), service, &[&FIRST, &CHOICES]);
 }
 
 #[test]
 fn tells_faults(rt: HostRuntime) {
-    let mut service = opening(&rt, rt.alloc());
-    check_all(&rt, rt.alloc(), &mut service, &FAULTS);
+    let service = opening(&rt, rt.alloc());
+    check_lists(&rt, rt.alloc(), service, &[&FAULTS]);
 }
 
 const NO_MEMORY: &str =
@@ -293,7 +318,7 @@ fn keepers_fail(rt: HostRuntime) {
 
 // The sheet, which has the one booking or none.
 fn check_sheet(rt: &impl Abort, alloc: Global, service: &mut Service<ListKeeper>, is_booked: bool) {
-    let (request, status, booked) = FIRST[6];
+    let (request, status, booked) = THEN[5];
     let reply = if is_booked { booked } else { NO_BOOKINGS };
     check(rt, alloc, service, (request, status, reply));
 }
@@ -301,35 +326,18 @@ fn check_sheet(rt: &impl Abort, alloc: Global, service: &mut Service<ListKeeper>
 const NO_BOOKINGS: &str =
     "HTTP/1.1 200 OK\r\nContent-Type: text/plain\r\nContent-Length: 36\r\nConnection: close\r\n\r\noak 1995-12-18 Monday\n(no bookings)\n";
 
-// Serves a request that comes a byte a read, so many times.
-fn dripped(
-    alloc: Global,
-    service: &mut Service<ListKeeper>,
-    request: &str,
-    left: usize,
-    writer: &mut Vec<u8>,
-) -> Result<u16, WebFault> {
-    let mut reader = Drip {
-        bytes: request.as_bytes(),
-        left,
-    };
-    serve_one(alloc, &mut reader, writer, service)
-}
-
 // With so many reads of one byte each a submission is served, or the fault is told and nothing is booked.
 fn check_drip(rt: &impl Abort, alloc: Global, left: usize) {
     let (request, status, reply) = FIRST[0];
-    let mut service = opening(rt, alloc);
-    let mut writer = Vec::new(alloc);
-    let answered = dripped(alloc, &mut service, request, left, &mut writer);
-    let is_whole = left >= request.len();
-    let (answer, reply) = if is_whole {
-        (Ok(status), reply)
+    let bytes = request.as_bytes();
+    let is_whole = left >= bytes.len();
+    let wanted = if is_whole {
+        (Ok(status), reply, left)
     } else {
-        (Err(WebFault::Read), "")
+        (Err(WebFault::Read), "", left)
     };
-    same(rt, &answered, &answer, left);
-    same(rt, &writer.as_slice(), &reply.as_bytes(), left);
+    let mut service = opening(rt, alloc);
+    check_served(rt, alloc, &mut service, &mut Drip { bytes, left }, wanted);
     check_sheet(rt, alloc, &mut service, is_whole);
 }
 
@@ -340,23 +348,19 @@ fn reads_byte_by_byte(rt: HostRuntime) {
     }
 }
 
-// A writer that fails after so many bytes has that front of the reply, and the booking stands.
-fn check_narrow(rt: &impl Abort, alloc: Global, room: usize) {
+// A writer that fails after so many bytes has that front of the reply.
+fn check_written(rt: &impl Abort, alloc: Global, service: &mut Service<ListKeeper>, room: usize) {
     let (request, _, reply) = FIRST[0];
-    let mut service = opening(rt, alloc);
     let mut reader = request.as_bytes();
-    let mut writer = Narrow {
-        taken: Vec::new(alloc),
-        room,
-    };
-    let answered = serve_one(alloc, &mut reader, &mut writer, &mut service);
-    same(rt, &answered, &Err(WebFault::Write), room);
-    same(
-        rt,
-        &Some(writer.taken.as_slice()),
-        &reply.as_bytes().get(..room),
-        room,
-    );
+    let mut writer = writer_of(alloc, room);
+    let answered = serve_one(alloc, &mut reader, &mut writer, service);
+    check_front(rt, &writer, answered.err(), reply.as_bytes(), room);
+}
+
+// The booking stands where its reply is cut.
+fn check_narrow(rt: &impl Abort, alloc: Global, room: usize) {
+    let mut service = opening(rt, alloc);
+    check_written(rt, alloc, &mut service, room);
     check_sheet(rt, alloc, &mut service, true);
 }
 
