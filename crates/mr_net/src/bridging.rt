@@ -15,7 +15,7 @@ ghost use Rattle.mr_net.specs.declared.ways.Way.TheVariants.{Pull, Push};
 
 use crate::connecting::connect;
 use crate::connections::serve;
-use crate::databases::{close, open};
+use crate::databases::{released, remembered};
 use crate::hosts::Host;
 use crate::printing::{exchange_with, say_no_network};
 use crate::taking::{take_pull, take_push};
@@ -25,6 +25,7 @@ use mr_http::WebFault;
 use mr_peer::{position_ask, position_take, pull_ask, push_ask};
 use mr_say::{NO_MEMORY, REFUSED, say, say_refusal};
 use mr_service::Service;
+use mr_sql::SqlKeeper;
 use mr_store::Keeper;
 use std::alloc::Global;
 use std::io::Write;
@@ -169,35 +170,52 @@ pub fn bridge<W: Write>(
 ) -> u8
     ensures { EndsExchange (W.contents out.old) (W.contents out.new) result }
 {
-    let client = match open(rt, alloc, client) {
-        Ok(service) => service,
-        Err(refusal) => return say_refusal(alloc, out, &refusal),
-    };
-    let (client, status) = bridge_to(rt, alloc, client, server, out);
-    close(client);
-    status
+    match SqlKeeper::open_file(rt, client) {
+        Ok(keeper) => {
+            let (keeper, status) = bridge_to(rt, alloc, keeper, server, out);
+            keeper.close();
+            status
+        }
+        Err(refusal) => say_refusal(alloc, out, &refusal),
+    }
 }
 
-/// Opens the other database, exchanges it with this client's, and gives the client back with the status.
+/// Opens the other database, exchanges it with this client's, and gives the client's keeper back with the status.
 fn bridge_to<C: Keeper, W: Write>(
     rt: &HostRuntime,
     alloc: Global,
-    client: Service<C>,
+    client: C,
     server: &str,
     out: &mut W,
-) -> (Service<C>, u8)
+) -> (C, u8)
     ensures { EndsExchange (W.contents out.old) (W.contents out.new) result.1 }
 {
-    let server = match open(rt, alloc, server) {
-        Ok(service) => service,
+    match SqlKeeper::open_file(rt, server) {
+        Ok(keeper) => {
+            let (client, keeper, status) = bridge_kept(rt, alloc, client, keeper, out);
+            keeper.close();
+            (client, status)
+        }
         Err(refusal) => {
             let status = say_refusal(alloc, out, &refusal);
-            return (client, status);
+            (client, status)
         }
-    };
+    }
+}
+
+/// Exchanges the replicas of these keepers, and gives both back with the status.
+fn bridge_kept<C: Keeper, S: Keeper, W: Write>(
+    rt: &HostRuntime,
+    alloc: Global,
+    client: C,
+    server: S,
+    out: &mut W,
+) -> (C, S, u8)
+    ensures { EndsExchange (W.contents out.old) (W.contents out.new) result.2 }
+{
+    let (client, server) = (remembered(alloc, client), remembered(alloc, server));
     let (client, server, status) = bridge_between(rt, alloc, client, server, out);
-    close(server);
-    (client, status)
+    (released(client), released(server), status)
 }
 
 /// Exchanges the replica of the client with that of the server, and gives both back with the status.

@@ -1,24 +1,16 @@
-//! A database file as the service of its replica, with its rows in memory.
+//! A keeper as the service of its replica, with its rows in memory. What is done with a database that is open stands for any keeper: a call that is
+//! made of the keeper of a file is dear to prove, so each command makes one, of what it does in between.
 
-use mr_base::Refusal;
 use mr_service::Service;
-use mr_sql::{FileKeeper, SqlKeeper};
-use mr_store::Cached;
+use mr_store::{Cached, Keeper};
 use std::alloc::Global;
 
-/// Opens the database at this path. Its rows are read once, at the first command.
-pub(crate) fn open(
-    rt: &HostRuntime,
-    alloc: Global,
-    path: &str,
-) -> Result<Service<Cached<FileKeeper>>, Refusal> {
-    match SqlKeeper::open_file(rt, path) {
-        Ok(keeper) => Ok(Service::new(alloc, Cached::new(alloc, keeper))),
-        Err(refusal) => Err(refusal),
-    }
+/// The replica of this keeper. Its rows are read once, at the first command.
+pub(crate) fn remembered<K: Keeper>(alloc: Global, keeper: K) -> Service<Cached<K>> {
+    Service::new(alloc, Cached::new(alloc, keeper))
 }
 
-/// Gives the database up.
-pub(crate) fn close(service: Service<Cached<FileKeeper>>) {
-    service.into_keeper().release().close();
+/// Gives the keeper back.
+pub(crate) fn released<K: Keeper>(service: Service<Cached<K>>) -> K {
+    service.into_keeper().release()
 }

@@ -11,7 +11,7 @@ ghost use Rattle.mr_net.specs.SentRequests.{PullsOver, PushesOver};
 ghost use Rattle.mr_net.specs.declared.ways.Way.TheVariants.{Pull, Push};
 
 use crate::connecting::connect;
-use crate::databases::{close, open};
+use crate::databases::{released, remembered};
 use crate::hosts::Host;
 use crate::printing::exchange_with;
 use crate::taking::{take_pull, take_push};
@@ -21,6 +21,7 @@ use mr_http::{WebFault, send};
 use mr_peer::{position_ask, position_take, pull_ask, push_ask};
 use mr_say::{BAD_WORDS, NO_MEMORY, REFUSED, say, say_refusal};
 use mr_service::Service;
+use mr_sql::SqlKeeper;
 use mr_store::Keeper;
 use mr_words::{AddressFault, peer_address};
 use std::alloc::Global;
@@ -185,13 +186,29 @@ fn exchange_from<W: Write>(
 ) -> u8
     ensures { EndsExchange (W.contents out.old) (W.contents out.new) result }
 {
-    let service = match open(rt, alloc, database) {
-        Ok(service) => service,
-        Err(refusal) => return say_refusal(alloc, out, &refusal),
-    };
+    match SqlKeeper::open_file(rt, database) {
+        Ok(keeper) => {
+            let (keeper, status) = exchange_kept(rt, alloc, keeper, address, out);
+            keeper.close();
+            status
+        }
+        Err(refusal) => say_refusal(alloc, out, &refusal),
+    }
+}
+
+/// Exchanges the replica of this keeper with the peer, and gives the keeper back with the status.
+fn exchange_kept<K: Keeper, W: Write>(
+    rt: &HostRuntime,
+    alloc: Global,
+    keeper: K,
+    address: &Address<'_>,
+    out: &mut W,
+) -> (K, u8)
+    ensures { EndsExchange (W.contents out.old) (W.contents out.new) result.1 }
+{
+    let service = remembered(alloc, keeper);
     let (service, status) = exchange_as(rt, alloc, service, address, out);
-    close(service);
-    status
+    (released(service), status)
 }
 
 /// Exchanges the replica of this service with the peer, and gives it back with the status.

@@ -9,10 +9,11 @@ ghost use Rattle.mr_net.specs.Connections.{ServesAt, TellsServed};
 ghost use Rattle.mr_net.specs.Printed.{connection_text, serving_line, EndsServing, StopsWithText};
 
 use crate::connections::serve_next;
-use crate::databases::{close, open};
+use crate::databases::{released, remembered};
 use crate::printing::say_no_network;
 use mr_say::{DONE, say, say_made, say_refusal};
 use mr_service::Service;
+use mr_sql::SqlKeeper;
 use mr_store::Keeper;
 use std::alloc::{AllocError, Global};
 use std::io::Write;
@@ -31,13 +32,30 @@ pub fn serve<W: Write>(
 ) -> u8
     ensures { EndsServing port connections (W.contents out.old) (W.contents out.new) result }
 {
-    let mut service = match open(rt, alloc, database) {
-        Ok(service) => service,
-        Err(refusal) => return say_refusal(alloc, out, &refusal),
-    };
+    match SqlKeeper::open_file(rt, database) {
+        Ok(keeper) => {
+            let (keeper, status) = serve_kept(rt, alloc, keeper, port, connections, out);
+            keeper.close();
+            status
+        }
+        Err(refusal) => say_refusal(alloc, out, &refusal),
+    }
+}
+
+/// Serves the replica of this keeper, and gives the keeper back with the status.
+fn serve_kept<K: Keeper, W: Write>(
+    rt: &HostRuntime,
+    alloc: Global,
+    keeper: K,
+    port: u16,
+    connections: u64,
+    out: &mut W,
+) -> (K, u8)
+    ensures { EndsServing port connections (W.contents out.old) (W.contents out.new) result.1 }
+{
+    let mut service = remembered(alloc, keeper);
     let status = serve_at(rt, alloc, &mut service, port, connections, out);
-    close(service);
-    status
+    (released(service), status)
 }
 
 /// Serves the replica of this service to that many connections, and prints a line for each behind that of the port.
