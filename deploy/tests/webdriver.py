@@ -18,7 +18,8 @@ class Browser:
         arguments = ['--headless=new', '--no-sandbox', '--disable-gpu', '--disable-dev-shm-usage', '--no-first-run',
                      '--disable-background-networking', '--disable-component-update', f'--user-data-dir={profile}',
                      f'--window-size={width},{height}']
-        wanted = {'acceptInsecureCerts': True, 'pageLoadStrategy': 'normal', 'goog:chromeOptions': {'args': arguments}}
+        wanted = {'acceptInsecureCerts': True, 'pageLoadStrategy': 'normal', 'goog:chromeOptions': {'args': arguments},
+                  'goog:loggingPrefs': {'browser': 'ALL'}}
         for _ in range(100):
             try:
                 self.call('GET', '/status')
@@ -68,7 +69,8 @@ class Browser:
         self.call('POST', '/actions', {'actions': [{'type': 'key', 'id': 'keys', 'actions': actions}]})
 
     def text(self, selector):
-        return self.run('const e = document.querySelector(arguments[0]); return e ? e.innerText : ""', selector)
+        """What can be read at this place; nothing where it isn't shown."""
+        return self.run('const e = document.querySelector(arguments[0]); return e && e.checkVisibility() ? e.innerText : ""', selector)
 
     def resize(self, width, height):
         self.call('POST', '/window/rect', {'width': width, 'height': height})
@@ -80,6 +82,14 @@ class Browser:
     def printed(self):
         """The page as it would be printed, a PDF in base64."""
         return self.call('POST', '/print', {})
+
+    def devtools(self, command, **words):
+        """What a command of Chromium's own protocol gives."""
+        return self.call('POST', '/goog/cdp/execute', {'cmd': command, 'params': words})
+
+    def log(self):
+        """What the page, or the browser about it, wrote to the console since this was asked last."""
+        return [each['message'] for each in self.call('POST', '/se/log', {'type': 'browser'})]
 
     def end(self):
         try:

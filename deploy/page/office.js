@@ -1,0 +1,131 @@
+// The office, what it is asked, and what it answered last. The desk and the door know nothing of it but by these calls.
+import { clockOf, readSheet, minuteOf } from './texts.js';
+
+const PATIENCE = 65000;
+
+/** What rooms.json says; `from` and `to` are minutes, `zone` is that of the rooms' clocks. */
+export const office = { isKnown: false, name: 'Rooms', rooms: [], from: 420, to: 1200, zone: '', zoneTrouble: '' };
+/** What the address names. */
+export const at = { day: '', view: 'day', room: '' };
+/** How long nothing was heard, and why; `sent` in the cause: the office may have had the request nevertheless. */
+export const silence = { failures: 0, since: null, cause: null };
+/** What the page as a whole does; each page puts its own in. */
+export const page = { show() {}, round() {}, goTo() {} };
+
+const sheets = new Map();   // by room and day
+const seen = new Map();     // when a state was seen first
+
+export const now = () => clockOf(new Date(), office.zone);
+export const clock = date => clockOf(date, office.zone).time;
+export const labelOf = room => (office.rooms.find(each => each.name === room) || {}).label || room;
+
+/** When the page saw this state for the first time. */
+export function sinceOf(state) {
+  if (!seen.has(state)) seen.set(state, new Date());
+  return seen.get(state);
+}
+
+// ---- asking
+
+/** No usable reply. `sent`: the office may have had the request nevertheless. */
+export class Fault extends Error {
+  constructor(sent, words) { super(words); this.sent = sent; }
+}
+
+async function fetched(path, body) {
+  try {
+    const words = { cache: 'no-store', signal: AbortSignal.timeout(PATIENCE) };
+    // the address of the page may have a user and a password in it, which no address to be fetched may have
+    const reply = await fetch(new URL(path, location.origin), body === undefined ? words : { ...words, method: 'POST', body });
+    return { status: reply.status, text: await reply.text(), json: null };
+  } catch {
+    throw new Fault(true, 'no reply');
+  }
+}
+
+/** A reply with status 200, or a refusal of the office's; any other is a fault. */
+export async function ask(path, body) {
+  const reply = await fetched(path, body);
+  if (reply.status === 401 || reply.status === 403) throw new Fault(false, 'the password was refused');
+  try { reply.json = JSON.parse(reply.text); } catch { /* a sheet, or a page of the proxy */ }
+  const error = reply.json && reply.json.error;
+  if (error === 'not sent') throw new Fault(false, 'the office is not taking requests');
+  if (reply.status !== 200 && !(reply.json && reply.json.refusal) && error !== 'bad request') throw new Fault(true, 'status ' + reply.status);
+  if (path !== '/rooms.json') heard();
+  return reply;
+}
+
+/** The first good reply ends a silence. */
+function heard() {
+  const was = silence.failures;
+  Object.assign(silence, { failures: 0, since: null, cause: null });
+  if (was) page.show();
+}
+
+export function missed(fault) {
+  silence.failures += 1;
+  silence.since = silence.since || new Date();
+  silence.cause = fault;
+}
+
+let may = false;
+
+/** Lets the browser ask for the password of those who book before anything is sent: a GET of this path is behind it, and does nothing. */
+export async function askMayBook() {
+  if (may) return;
+  const reply = await fetched('/submit').catch(fault => { throw new Fault(false, fault.message); });
+  if (reply.status === 401 || reply.status === 403) throw new Fault(false, 'this user may not book, or the password was refused');
+  may = reply.status === 405;
+}
+
+/** A refusal that is about the office's state, where a sheet or an outcome was asked for. */
+function unlessFailing(reply) {
+  if (reply.status === 503) throw new Fault(true, 'its store or memory fails: ' + reply.json.name);
+  return reply;
+}
+
+export async function askOffice() {
+  const reply = await ask('/rooms.json'), words = reply.json;
+  if (reply.status !== 200 || !words) throw new Fault(false, 'rooms.json is no JSON');
+  office.isKnown = true;
+  office.name = words.office || 'Rooms';
+  office.rooms = words.rooms || [];
+  if (words.from) office.from = minuteOf(words.from);
+  if (words.to) office.to = minuteOf(words.to);
+  try {
+    clockOf(new Date(), words.zone);
+    office.zone = words.zone || '';
+  } catch {
+    office.zoneTrouble = words.zone;
+  }
+}
+
+/** Asks for a sheet and keeps it: `rows` is null where the office doesn't know the room. */
+export async function askSheet(room, day) {
+  const reply = unlessFailing(await ask('/rooms/' + room + '/days/' + day));
+  const sheet = { rows: reply.status === 200 ? readSheet(reply.text) : null, at: new Date() };
+  for (const row of sheet.rows || []) sinceOf(stateKey(room, { state: 'booked', day, ...row }));
+  sheets.set(room + ' ' + day, sheet);
+  return sheet;
+}
+
+/** What a state is known by: that it is booked, for instance, and for which hours. */
+export function stateKey(room, outcome) {
+  const start = typeof outcome.start === 'string' ? minuteOf(outcome.start) : outcome.start;
+  return [room, outcome.id, outcome.state, outcome.mark, outcome.day, start, outcome.bymark].join(' ');
+}
+
+export const sheetOf = (room, day) => sheets.get(room + ' ' + day) || null;
+
+/** What became of a request, or null where the office doesn't know it. */
+export async function askOutcome(room, id) {
+  const reply = unlessFailing(await ask('/rooms/' + room + '/requests/' + id));
+  if (reply.status === 200) sinceOf(stateKey(room, reply.json));
+  return reply.status === 200 ? reply.json : null;
+}
+
+/** The lines of the error log of a room. */
+export async function askErrors(room) {
+  const reply = unlessFailing(await ask('/rooms/' + room + '/errors'));
+  return reply.status === 200 ? reply.text.split('\n').slice(1).filter(line => line) : ['(the room is not known here)'];
+}
