@@ -12,9 +12,9 @@ let scrolledFor = '';   // what was scrolled to its first hour already
 
 /** What is shown beside one another: each column is a room on a day. */
 export function columns() {
-  if (at.view === 'week') return weekOf(at.day).map(day => ({ room: at.room, day, label: weekday(day) + ' ' + day }));
+  if (at.view === 'week') return weekOf(at.day).map(day => ({ room: at.room, day, label: weekday(day) + ' ' + day, lines: [weekday(day), day] }));
   const names = narrow.matches && office.rooms.length > FEW ? [at.room] : office.rooms.map(room => room.name);
-  return names.map(room => ({ room, day: at.day, label: labelOf(room) }));
+  return names.map(room => ({ room, day: at.day, label: labelOf(room), lines: [labelOf(room)] }));
 }
 
 /** From when to when the columns go: the hours of the office, longer where a booking or a choice is outside them. */
@@ -97,7 +97,7 @@ function bodyOf(column, from, to) {
 
 function columnOf(column, place, from, to) {
   const day = now().day === column.day ? ' today' : '', id = 'column-' + place;
-  const head = el('h3', { id, className: 'head' + day }, column.label);
+  const head = el('h3', { id, className: 'head' + day }, ...column.lines.map(line => el('span', {}, line + ' ')));
   return el('section', { className: 'column' + day, role: 'group', 'aria-labelledby': id }, head, bodyOf(column, from, to));
 }
 

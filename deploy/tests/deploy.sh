@@ -365,6 +365,21 @@ deploy_page() {
     "$program" add-room "$folder/other.db" oak > /dev/null
     "$program" book "$folder/other.db" oak 60 2095-12-19 14:00 Earlier > /dev/null
     page_test desk.py
+    deploy_rooms "$folder/views.db"
+    page_test views.py
+}
+
+# deploy_rooms DB: a replica with twelve rooms and some bookings, two of them committed
+deploy_rooms() {
+    local day=2095-12-19 letter
+    "$program" init "$1" 1 1 > /dev/null
+    for letter in a b c d e f g h i j k l; do "$program" add-room "$1" "room-$letter" > /dev/null; done
+    "$program" book "$1" room-a 60 "$day" 09:30 Planning > /dev/null
+    "$program" book "$1" room-b 120 "$day" 09:30 Workshop > /dev/null
+    "$program" commit "$1" 2 > /dev/null
+    "$program" book "$1" room-b 60 2095-12-23 13:00 Retrospective > /dev/null
+    "$program" book "$1" room-c 10 "$day" 15:00 Call > /dev/null
+    "$program" book "$1" room-c 20 "$day" 15:10 Tea > /dev/null
 }
 
 run_deploy() {

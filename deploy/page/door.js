@@ -1,0 +1,103 @@
+// The display at a room's door, door.html#oak: free or taken, until when, and what comes next. It asks twice a minute, and where no
+// reply comes it goes on by what it read last, also after it was opened anew, and shows of when that is.
+import { byId, dayBeside, el, hoursText, MIDNIGHT, timeOf, weekday } from './texts.js';
+import { Fault, askOffice, askSheet, clock, labelOf, missed, now, office, page, silence } from './office.js';
+
+const EVERY = 30000, TICK = 1000;
+/** The sheets of today and tomorrow as they were read last: `days` by day, and when. */
+let news = { days: {}, at: null };
+let timer = 0;
+
+const roomOf = () => decodeURI(location.hash.slice(1));
+const keep = () => 'rooms.door.' + roomOf();
+
+function readKept() {
+  try { news = JSON.parse(localStorage.getItem(keep())) || { days: {}, at: null }; } catch { news = { days: {}, at: null }; }
+}
+
+async function round() {
+  clearTimeout(timer);
+  const room = roomOf();
+  try {
+    if (!office.isKnown) await askOffice();
+    if (room) await askDays(room);
+  } catch (fault) {
+    if (!(fault instanceof Fault)) throw fault;
+    missed(fault);
+  }
+  show();
+  timer = setTimeout(round, EVERY);
+}
+
+async function askDays(room) {
+  const today = now().day, days = {};
+  for (const day of [today, dayBeside(today, 1)]) days[day] = (await askSheet(room, day)).rows;
+  if (room !== roomOf()) return;
+  news = { days, at: Date.now(), label: labelOf(room), zone: office.zone };
+  try { localStorage.setItem(keep(), JSON.stringify(news)); } catch { /* then it lasts as long as this page */ }
+}
+
+/** What a room is at this minute: whether it is taken, until when, by what, and what comes next. */
+function stateAt(rows, minute) {
+  const present = rows.find(row => row.start <= minute && minute < row.stop) || null;
+  const next = rows.find(row => row.start > minute) || null;
+  let until = present ? present.stop : next ? next.start : MIDNIGHT;
+  // bookings that follow one another without a break leave no free minute between them
+  if (present) for (const row of rows) if (row.start === until) until = row.stop;
+  return { present, next, until };
+}
+
+function show() {
+  const room = roomOf();
+  if (news.zone && !office.zone) office.zone = news.zone;
+  const { day, minute, time } = now(), rows = news.days[day], isOld = silence.failures > 1 || (silence.failures > 0 && silence.cause.sent);
+  document.title = office.isKnown ? labelOf(room) : news.label || room;
+  document.body.className = !rows ? 'unknown' : stateAt(rows, minute).present ? 'taken' : 'free';
+  document.body.classList.toggle('old', isOld);
+  if (!room) showRooms(); else if (!rows) showUnknown(rows); else showState(stateAt(rows, minute), day);
+  const at = news.at ? clock(new Date(news.at)).slice(0, 5) : '';
+  put({ room: document.title, news: !isOld ? time.slice(0, 5) : at ? 'No connection. Last news of ' + at : 'No connection, and no news yet' });
+}
+
+/** Puts words into their places; what stands there already is left, so that no screen reader says it each second. */
+function put(places) {
+  for (const [id, words] of Object.entries(places)) {
+    if (byId(id).textContent !== words) byId(id).textContent = words;
+  }
+}
+
+function showState({ present, next, until }, day) {
+  const tomorrow = dayBeside(day, 1), first = (news.days[tomorrow] || [])[0];
+  put({ word: present ? 'Taken' : 'Free', until: until === MIDNIGHT && !present ? 'for the rest of the day' : 'until ' + timeOf(until),
+    title: present ? present.title : '', next: next ? 'Next: ' + hoursText(next.start, next.stop) + ' ' + next.title
+      : first ? 'Next: ' + weekday(tomorrow) + ' ' + hoursText(first.start, first.stop) + ' ' + first.title : 'Nothing else today' });
+}
+
+function showUnknown(rows) {
+  put({ word: '?', until: rows === null ? 'This office does not know the room.' : 'Nothing is known of today yet.', title: '', next: '' });
+}
+
+/** Without a room in the address: which there are. */
+function showRooms() {
+  put({ word: '', until: 'Which room?', title: '' });
+  if (byId('next').children.length === office.rooms.length) return;
+  byId('next').replaceChildren(...office.rooms.map(room => el('a', { href: '#' + room.name }, labelOf(room.name))));
+}
+
+/** Where the browser can, the screen stays on. */
+async function stayOn() {
+  try { await navigator.wakeLock.request('screen'); } catch { /* then the tablet's own settings say */ }
+}
+
+function begin() {
+  readKept();
+  show();
+  round();
+}
+
+page.show = show;
+window.addEventListener('hashchange', begin);
+document.addEventListener('visibilitychange', () => { if (!document.hidden) { stayOn(); round(); } });
+setInterval(show, TICK);
+stayOn();
+begin();
