@@ -108,6 +108,7 @@ function showHead() {
   byId('before').disabled = at.day === FIRST;
   byId('after').disabled = at.day === LAST;
   byId('door-link').href = 'door.html#' + at.room;
+  byId('calendar-link').href = at.room + '.ics';
   for (const button of byId('views').children) button.setAttribute('aria-pressed', button.dataset.view === at.view);
   byId('zone').textContent = 'Times are the wall clock of the rooms' + (office.zone ? ' (' + office.zone + ').' : '.') +
     (office.zoneTrouble ? ' This browser does not know the zone ' + office.zoneTrouble + '; its own clock says what is today.' : '');

@@ -27,7 +27,7 @@ deploy_texts() {
         "$(cat "$deploy"/page/*.html | grep -cE '<style|style=|<script>| on[a-z]+=|https?://')" 0
     if ! missing 'shellcheck of the scripts' shellcheck; then
         held 'shellcheck of the scripts' shellcheck -x "$deploy"/tests/under_systemd "$deploy"/systemd/rooms-office \
-            "$deploy"/courier/rooms-courier "$deploy"/check/rooms-check "$deploy"/package/build "$deploy"/package/debian/{postinst,prerm,postrm}
+            "$deploy"/courier/rooms-courier "$deploy"/check/rooms-check "$deploy"/calendar/rooms-calendar "$deploy"/package/build "$deploy"/package/debian/{postinst,prerm,postrm}
     fi
 }
 
@@ -37,7 +37,8 @@ deploy_texts() {
 deploy_offices() {
     local name list
     export ROOMS_ETC=$deploy_scratch/etc ROOMS_STATE=$deploy_scratch/state ROOMS_SHARE=$deploy_scratch/share ROOMS_USER='' \
-        ROOMS_COURIER=$deploy/courier/rooms-courier ROOMS_PROGRAM
+        ROOMS_COURIER=$deploy/courier/rooms-courier ROOMS_CALENDAR=$deploy/calendar/rooms-calendar ROOMS_CALENDARS=$deploy_scratch/calendars \
+        ROOMS_PROGRAM
     ROOMS_PROGRAM=$(readlink -f -- "$program")
     mkdir -p "$ROOMS_SHARE"
     cp -r "$deploy/page" "$deploy/proxy/office.conf.in" "$deploy/systemd/office.settings.in" "$ROOMS_SHARE"
@@ -115,7 +116,7 @@ through() {
     local name=$1 wanted=$2 who=$3 path=$4
     shift 4
     [ -z "$who" ] || set -- -u "$who:$who" "$@"
-    is "$name" "$(curl -s -m 30 --cacert "$ROOMS_ETC/west.crt" -o "$deploy_scratch/body" -w '%{http_code}' "$@" \
+    is "$name" "$(curl -s -m 30 --cacert "$ROOMS_ETC/west.crt" -o "$deploy_scratch/body" -D "$deploy_scratch/head" -w '%{http_code}' "$@" \
         "https://localhost:$((ports + 1))$path")" "$wanted"
 }
 
@@ -132,6 +133,7 @@ deploy_proxy() {
     serve_at "$west" "$ports"
     through 'the page without a password' 401 '' /
     through 'a sheet without a password' 401 '' "$day"
+    through 'a calendar without a password' 401 '' /oak.ics
     through 'a request without a password' 401 '' /submit -d "$json"
     through 'a batch without a password' 401 '' /pull -d x
     through 'the page' 200 readers /
@@ -281,6 +283,11 @@ deploy_stretches() {
     held 'the courier of east' "$office" carry east
     held 'west commits between two stretches' until_held 30 has_line "$ports/rooms/oak/requests/2-1" '"mark":"C"'
     held 'the courier of east again' "$office" carry east
+    held 'a calendar is written between two stretches' until_held 30 grep -q '^UID:2-1@west' "$ROOMS_CALENDARS/west/oak.ics"
+    through 'a calendar' 200 readers /oak.ics
+    is 'it says what it is' "$(sed -n 's/^content-type: *//Ip' "$deploy_scratch/head" | tr -d '\r')" 'text/calendar; charset=utf-8'
+    body 'the file as it was written' "$(cat "$ROOMS_CALENDARS/west/oak.ics")"
+    through 'a file beside the calendars' 404 readers /.seen
     held 'the commit comes to east' until_held 30 has_line "$((ports + 2))/rooms/oak/requests/2-1" '"mark":"C"'
     held 'a copy while it is served' "$office" backup east
     line=$("$deploy/check/rooms-check" east)
@@ -295,6 +302,74 @@ deploy_stretches() {
         '09:00-10:00 C 2-1 Rota'
     is 'no connection was cut' "$(grep -c fault "$deploy_scratch/west.log" "$deploy_scratch/east.log" | tr '\n' ' ')" \
         "$deploy_scratch/west.log:0 $deploy_scratch/east.log:0 "
+}
+
+# ---- calendars to subscribe to
+
+# read_as NAME ROOM ZONE LABEL LINES: the calendar of a room of the office `quiet` as an independent parser reads it is this label, the
+# reply to `calendar`, and these lines of cancelled and changed ones
+read_as() {
+    local room=$2
+    is "$1" "$("$parser" "$deploy/tests/calendar_read.py" "$ROOMS_CALENDARS/quiet/$room.ics" quiet "$3" 2>&1)" \
+        "$4$("$program" calendar "$quiet" "$room" full | sed -n '/^[0-9]/{s/^/\n/;H}; ${x;s/\n\n*/\n/g;p}')${5:+
+$5}"
+}
+
+calendars() { "$deploy/calendar/rooms-calendar" quiet; }
+
+# settings_of ZONE: rooms.json of the office `quiet`; the label of elm is longer than a line, and has letters of two bytes
+settings_of() {
+    printf '{"office": "Quiet", "zone": "%s", "rooms": [{"name": "oak", "label": "Oak, 2nd floor"},\n {"label": "%s", "name": "elm"}]}\n' \
+        "$1" "$long" > "$ROOMS_ETC/quiet.rooms.json"
+}
+
+deploy_calendars() {
+    local quiet=$ROOMS_STATE/quiet/rooms.db long='Elm: the room with rather a long name; grün, größer, schöner, früher, Überfluß, Säntis' inode
+    mkdir -p "$ROOMS_STATE/quiet"
+    "$program" init "$quiet" 3 3 > /dev/null
+    "$program" add-room "$quiet" oak > /dev/null
+    "$program" add-room "$quiet" elm > /dev/null
+    settings_of Europe/Berlin
+    held 'the calendars of an office without bookings' calendars
+    read_as 'a calendar without bookings' oak Europe/Berlin 'Oak, 2nd floor' ''
+    "$program" book "$quiet" oak 60 2027-07-12 09:30 Planning 2027-07-12T13:00 > /dev/null
+    "$program" book "$quiet" oak 90 2027-01-11 22:30 'Commas, semicolons; and \ in the title of a late meeting' > /dev/null
+    "$program" book "$quiet" oak 15 2028-02-29 23:45 'Until midnight' > /dev/null
+    "$program" book "$quiet" oak 30 2027-12-31 23:30 'Until the new year' > /dev/null
+    "$program" book "$quiet" elm 30 2027-03-28 01:45 'A night with an hour less' > /dev/null
+    held 'the calendars of an office' calendars
+    read_as 'a calendar' oak Europe/Berlin 'Oak, 2nd floor' ''
+    read_as 'a calendar with a long label' elm Europe/Berlin "$long" ''
+    inode=$(stat -c '%i' "$ROOMS_CALENDARS/quiet/elm.ics")
+    "$program" cancel "$quiet" oak 3-3 > /dev/null
+    held 'the calendars after a cancel' calendars
+    read_as 'what was cancelled stays' oak Europe/Berlin 'Oak, 2nd floor' '3-3 cancelled 1'
+    is 'a calendar that is the same is not written' "$(stat -c '%i' "$ROOMS_CALENDARS/quiet/elm.ics")" "$inode"
+    # an earlier request of another office moves 3-1 to its alternative, and a cancel of theirs takes 3-4 back
+    printf 'mr2 2 3\nW 2 1 1 oak 60 2027-07-12 09:00 0 Earlier\nX 2 2 9 oak 3 4\nE\n' > "$deploy_scratch/batch"
+    is 'two writes come' "$("$program" import "$quiet" "$deploy_scratch/batch")" 'took 2 writes 0 commits'
+    held 'the calendars after a move' calendars
+    read_as 'what moved is the same event' oak Europe/Berlin 'Oak, 2nd floor' $'3-1 changed 1\n3-3 cancelled 1\n3-4 cancelled 1'
+    is 'to its alternative' "$("$program" outcome "$quiet" oak 3-1)" '3-1 T 2027-07-12 13:00-14:00'
+    is 'all is committed' "$("$program" commit "$quiet" 10)" 'committed 8'
+    held 'the calendars after a commit' calendars
+    read_as 'what is committed is sure' oak Europe/Berlin 'Oak, 2nd floor' \
+        $'2-1 changed 1\n3-1 changed 2\n3-2 changed 1\n3-3 cancelled 1\n3-4 cancelled 1'
+    settings_of ''
+    held 'the calendars without a zone' calendars
+    read_as 'times without a zone' oak '' 'Oak, 2nd floor' \
+        $'2-1 changed 2\n3-1 changed 3\n3-2 changed 2\n3-3 cancelled 2\n3-4 cancelled 2'
+    rm "$ROOMS_ETC/quiet.rooms.json"
+    is 'an office without settings' "$(calendars 2>&1 | tail -n 1)" "rooms-calendar: $quiet or $ROOMS_ETC/quiet.rooms.json can't be read"
+}
+
+# python_with MODULE: sets parser to a Python that has it
+python_with() {
+    for parser in python3 /usr/bin/python3; do
+        if "$parser" -c "import $1" 2> /dev/null; then return 0; fi
+    done
+    echo "skipped: the calendars (no Python with $1)"
+    return 1
 }
 
 # ---- units and package
@@ -383,7 +458,7 @@ deploy_rooms() {
 }
 
 run_deploy() {
-    local deploy_scratch=$scratch/deploy nginx='' ports west east
+    local deploy_scratch=$scratch/deploy nginx='' ports west east parser
     local -a serving=()
     local PATH=$PATH:/usr/sbin:/sbin
     mkdir -p "$deploy_scratch"
@@ -398,10 +473,11 @@ run_deploy() {
         deploy_proxy
         deploy_courier_through_proxies
         deploy_stretches
+        if ! missing 'the calendars' zdump && python_with icalendar; then deploy_calendars; fi
         if ! missing 'the page in a browser' python3 chromium chromedriver; then deploy_page; fi
         stop_nginx
     fi
     if ! missing 'the units' systemd-analyze; then deploy_units; fi
     if ! missing 'the package' dpkg-deb dpkg-shlibdeps strip; then deploy_package; fi
-    unset ROOMS_ETC ROOMS_STATE ROOMS_SHARE ROOMS_USER ROOMS_COURIER ROOMS_PROGRAM
+    unset ROOMS_ETC ROOMS_STATE ROOMS_SHARE ROOMS_USER ROOMS_COURIER ROOMS_CALENDAR ROOMS_CALENDARS ROOMS_PROGRAM
 }
