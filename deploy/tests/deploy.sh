@@ -43,6 +43,7 @@ deploy_offices() {
     mkdir -p "$ROOMS_SHARE"
     cp -r "$deploy/page" "$deploy/proxy/office.conf.in" "$deploy/systemd/office.settings.in" "$ROOMS_SHARE"
     held 'an office is made' "$deploy/systemd/rooms-office" make west 1 1 $((ports)) $((ports + 1)) oak elm
+    held 'it names the zone of its clock' grep -qF '"zone": "'"$(readlink -f /etc/localtime | sed -n 's,.*/zoneinfo/,,p')"'"' "$ROOMS_ETC/west.rooms.json"
     held 'another office is made' "$deploy/systemd/rooms-office" make east 2 1 $((ports + 2)) $((ports + 3)) oak
     is 'an office is not made twice' "$("$deploy/systemd/rooms-office" make west 1 1 1 1 oak 2>&1)" \
         "rooms-office: there is $ROOMS_ETC/west.conf already"
@@ -59,6 +60,7 @@ deploy_offices() {
     is 'a user is in a list once' "$(grep -c '^desk:' "$ROOMS_ETC/west.bookers") $(wc -l < "$ROOMS_ETC/west.bookers")" '1 2'
     is 'a list that is not there' "$("$deploy/systemd/rooms-office" user desk west.conf <<< desk 2>&1)" \
         "rooms-office: no list is named 'west.conf'"
+    sed -i "s,/var/cache/rooms,$ROOMS_CALENDARS," "$ROOMS_ETC"/*.nginx
     # a machine without IP version 6
     if [ ! -e /proc/net/if_inet6 ]; then sed -i '/listen \[::\]/d' "$ROOMS_ETC"/*.nginx; fi
     west=$ROOMS_STATE/west/rooms.db
