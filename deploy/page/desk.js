@@ -3,7 +3,7 @@
 //
 // texts.js has what needs no reply, office.js asks; over them stand requests.js (states, cancels), form.js (the wish), grid.js and
 // this file. Each of the lower ones reaches the page as a whole by `page` of office.js.
-import { byId, el, buttonOf, dayBeside, FIRST, freeOf, hoursText, isDay, LAST, MIDNIGHT, minuteOf, timeOf, weekday, weekOf } from './texts.js';
+import { byId, el, buttonOf, dayBeside, FIRST, freeOf, hoursText, isDay, LAST, MIDNIGHT, minuteOf, put, renew, timeOf, weekday, weekOf } from './texts.js';
 import { Fault, askErrors, askOffice, askSheet, at, clock, labelOf, missed, now, office, page, sheetOf, silence } from './office.js';
 import { askMine, closeBox, readMine, report, stateOf, takeMine } from './requests.js';
 import { showForm, startOver, submit, takeOffer } from './form.js';
@@ -21,7 +21,7 @@ function addressOf({ day, view, room }) {
 
 /** Shows what the address names; what it can't name is replaced, with a word about it. */
 function readAddress() {
-  const [day, view, room] = decodeURI(location.hash.slice(1)).split('/'), words = [];
+  const [day, view, room] = location.hash.slice(1).split('/'), words = [];
   const isRoom = office.rooms.some(each => each.name === room);
   if (day && !isDay(day)) words.push('There is no day ' + day + '; this is today.');
   if (view && !VIEWS.includes(view)) words.push('There is no view ' + view + '.');
@@ -116,14 +116,14 @@ function showHead() {
 
 /** Since when nothing was heard. One that is surely no more than the pause between two stretches of serving isn't reported. */
 function showAlarm(read, isRead) {
-  const alarm = byId('alarm'), isPause = silence.failures === 1 && !silence.cause.sent && isRead;
+  const isPause = silence.failures === 1 && !silence.cause.sent && isRead;
   const isLost = silence.failures > 0 && !isPause;
   const as = read.length ? clock(new Date(Math.min(...read.map(sheet => sheet.at)))) : '';
   document.body.classList.toggle('old', isLost);
-  alarm.hidden = !isLost;
-  alarm.textContent = !isLost ? '' : 'No connection to the office since ' + clock(silence.since) + ' (' + silence.cause.message + '). ' +
-    (isRead ? 'What is shown is old, of ' + as + '.' : 'There is no sheet to show.');
-  byId('fresh').textContent = isRead ? (isLost ? 'Old: ' : '') + 'as of ' + as + (isLost ? '; asking on.' : '; asks again every half minute.') : '';
+  byId('alarm').hidden = !isLost;
+  put({ alarm: !isLost ? '' : 'No connection to the office since ' + clock(silence.since) + ' (' + silence.cause.message + '). ' +
+    (isRead ? 'What is shown is old, of ' + as + '.' : 'There is no sheet to show.'),
+  fresh: !isRead ? '' : (isLost ? 'Old: ' : '') + 'as of ' + as + (isLost ? '; asking on.' : '; asks again every half minute.') });
 }
 
 function showErrors(lines) {
@@ -138,8 +138,8 @@ function showErrors(lines) {
 function showFound() {
   const length = Number(byId('find-length').value), from = byId('find-from').value, to = byId('find-to').value;
   const isAsked = Number.isInteger(length) && length > 0 && from !== '' && to !== '';
-  if (!isAsked) return byId('found').replaceChildren(el('li', { className: 'error' }, 'A length in minutes, and two times of day, please.'));
-  byId('found').replaceChildren(...office.rooms.map(({ name }) => {
+  if (!isAsked) return renew(byId('found'), el('li', { className: 'error' }, 'A length in minutes, and two times of day, please.'));
+  renew(byId('found'), ...office.rooms.map(({ name }) => {
     const sheet = sheetOf(name, at.day), head = el('b', {}, labelOf(name));
     if (!sheet || !sheet.rows) return el('li', {}, head, ' ', sheet ? 'This office does not know the room.' : 'Not read yet.');
     const free = freeOf(sheet.rows, minuteOf(from), minuteOf(to)).filter(each => each.stop - each.start >= length);

@@ -1,6 +1,6 @@
 // The display at a room's door, door.html#oak: free or taken, until when, and what comes next. It asks twice a minute, and where no
 // reply comes it goes on by what it read last, also after it was opened anew, and shows of when that is.
-import { byId, dayBeside, el, hoursText, MIDNIGHT, timeOf, weekday } from './texts.js';
+import { byId, dayBeside, el, hoursText, MIDNIGHT, put, timeOf, weekday } from './texts.js';
 import { Fault, askOffice, askSheet, clock, labelOf, missed, now, office, page, silence } from './office.js';
 
 const EVERY = 30000, TICK = 1000;
@@ -8,7 +8,7 @@ const EVERY = 30000, TICK = 1000;
 let news = { days: {}, at: null };
 let timer = 0;
 
-const roomOf = () => decodeURI(location.hash.slice(1));
+const roomOf = () => location.hash.slice(1);
 const keep = () => 'rooms.door.' + roomOf();
 
 function readKept() {
@@ -57,13 +57,6 @@ function show() {
   if (!room) showRooms(); else if (!rows) showUnknown(rows); else showState(stateAt(rows, minute), day);
   const at = news.at ? clock(new Date(news.at)).slice(0, 5) : '';
   put({ room: document.title, news: !isOld ? time.slice(0, 5) : at ? 'No connection. Last news of ' + at : 'No connection, and no news yet' });
-}
-
-/** Puts words into their places; what stands there already is left, so that no screen reader says it each second. */
-function put(places) {
-  for (const [id, words] of Object.entries(places)) {
-    if (byId(id).textContent !== words) byId(id).textContent = words;
-  }
 }
 
 function showState({ present, next, until }, day) {

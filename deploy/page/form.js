@@ -1,5 +1,5 @@
 // The request form: the wish and its alternatives, what stands in their way before they are sent, and what is free instead.
-import { byId, el, buttonOf, clashesOf, hoursText, isDay, isPlain, MIDNIGHT, minuteOf, nearestOf, plainOf, timeOf, weekday } from './texts.js';
+import { byId, el, buttonOf, clashesOf, hoursText, isDay, isPlain, MIDNIGHT, minuteOf, nearestOf, plainOf, put, renew, timeOf, weekday } from './texts.js';
 import { Fault, ask, askMayBook, askSheet, at, labelOf, now, office, page, sheetOf } from './office.js';
 import { addMine, dropMine, keepMine, replied, report, showMine, stateOf, sure } from './requests.js';
 
@@ -99,14 +99,14 @@ export function startOver() {
 // ---- what is shown of it
 
 export function showForm() {
-  byId('choices').replaceChildren(...alternatives.map((slot, place) => el('li', {}, weekday(slot.day, 'short') + ' ' + slotText(slot),
+  renew(byId('choices'), ...alternatives.map((slot, place) => el('li', {}, weekday(slot.day, 'short') + ' ' + slotText(slot),
     buttonOf('Take back', () => { alternatives.splice(place, 1); page.show(); byId('choices').focus(); },
       { 'aria-label': 'Take back ' + slotText(slot) }))));
   const [first] = choices();
-  byId('wish-words').textContent = isWished() && isDay(first.day) ? weekday(first.day) + ' ' + first.day + ', ' + hoursText(first.from, first.to) : '';
-  byId('clash').textContent = isWished() ? clashWords(first) : '';
-  byId('go-on').hidden = !isWished();
-  byId('go-on').textContent = isWished() ? 'Go on: ' + labelOf(first.room) + ', ' + hoursText(first.from, first.to) : '';
+  const hours = isWished() ? hoursText(first.from, first.to) : '';
+  put({ 'wish-words': hours && isDay(first.day) ? weekday(first.day) + ' ' + first.day + ', ' + hours : '',
+    clash: hours && clashWords(first), 'go-on': hours && 'Go on: ' + labelOf(first.room) + ', ' + hours });
+  byId('go-on').hidden = !hours;
 }
 
 /** What stands in the way of a choice, by the sheet that was read last. */

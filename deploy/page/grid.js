@@ -9,6 +9,7 @@ const QUARTER = 15, HOUR = 60, FEW = 2;
 const narrow = matchMedia('(max-width: 600px)');
 let cursor = '';        // the key of the button that Tab reaches
 let scrolledFor = '';   // what was scrolled to its first hour already
+let drawn = '';         // what the grid shows
 
 /** What is shown beside one another: each column is a room on a day. */
 export function columns() {
@@ -79,7 +80,7 @@ function drawnOf(choice, rows) {
 }
 
 function bodyOf(column, from, to) {
-  const sheet = sheetOf(column.room, column.day), clock = now();
+  const sheet = sheetOf(column.room, column.day);
   const body = el('div', { className: 'body' });
   if (!sheet || !sheet.rows) {
     body.append(el('p', { className: 'unknown' }, sheet ? 'This office does not know the room.' : 'Not read yet.'));
@@ -89,9 +90,6 @@ function bodyOf(column, from, to) {
   cells.sort((one, other) => one.dataset.start - other.dataset.start);
   const own = choices().filter(choice => isOf(choice, column)).flatMap(choice => drawnOf(choice, sheet.rows));
   body.append(...cells, ...own);
-  if (column.day === clock.day && from <= clock.minute && clock.minute < to) {
-    body.append(placed(el('div', { className: 'now', title: 'now, ' + timeOf(clock.minute) }), clock.minute, clock.minute));
-  }
   return body;
 }
 
@@ -107,8 +105,28 @@ function timesOf(from, to) {
   return el('div', { className: 'times', 'aria-hidden': 'true' }, el('div', { className: 'head' }), times);
 }
 
+/** Draws the grid where it would look otherwise than it does, and the line for now. */
 export function showGrid() {
-  const shown = columns(), [from, to] = hoursOf(shown), grid = byId('grid');
+  const shown = columns(), [from, to] = hoursOf(shown);
+  const what = JSON.stringify([shown, shown.map(column => sheetOf(column.room, column.day)?.rows ?? !sheetOf(column.room, column.day)),
+    choices(), byId('room').value, now().day, from, to]);
+  if (what !== drawn) draw(shown, from, to);
+  drawn = what;
+  placeNow(shown, from, to);
+  scrollOnce(shown, from);
+}
+
+function placeNow(shown, from, to) {
+  const { day, minute } = now();
+  for (const line of byId('grid').querySelectorAll('.now')) line.remove();
+  if (minute < from || to <= minute) return;
+  for (const body of byId('grid').querySelectorAll('.column.today .body')) {
+    body.append(placed(el('div', { className: 'now', title: 'now, ' + day + ' ' + timeOf(minute) }), minute, minute));
+  }
+}
+
+function draw(shown, from, to) {
+  const grid = byId('grid');
   const held = grid.contains(document.activeElement) ? document.activeElement.dataset.key : '';
   grid.style.setProperty('--from', from);
   grid.style.setProperty('--to', to);
@@ -116,7 +134,6 @@ export function showGrid() {
   grid.classList.toggle('week', at.view === 'week');
   grid.replaceChildren(timesOf(from, to), ...shown.map((column, place) => columnOf(column, place, from, to)));
   placeCursor(held);
-  scrollOnce(shown, from);
 }
 
 /** The first time that a day, a week or a room is shown, the hour before now is at the top, or that of the first booking. */

@@ -1,5 +1,5 @@
 // What became of requests, in a desk's words: the list of this browser's own, the box of any booking, and how each is cancelled.
-import { byId, el, buttonOf, hoursText, minuteOf, timeOf, weekday } from './texts.js';
+import { byId, el, buttonOf, hoursText, minuteOf, renew, timeOf, weekday } from './texts.js';
 import { Fault, ask, askMayBook, askOutcome, at, clock, labelOf, now, page, sinceOf, stateKey } from './office.js';
 
 const CANCEL_REFUSALS = {
@@ -15,6 +15,7 @@ const cancel = { armed: '', sending: '', troubles: new Map() };
 let box = null;
 let mine = [];
 let underWay = null;
+let unanswered = () => {};
 
 const keyOf = (room, id) => room + ' ' + id;
 const slotText = slot => slot.day + ' ' + slot.start;
@@ -22,15 +23,17 @@ const sameSlot = (one, other) => one.day === other.day && one.start === other.st
 
 // ---- a question before something is done
 
-/** Asks, and gives true where the first button was pressed. */
+/** Asks, and gives true where the first button was pressed. A question that is open already gives way, as answered by no. */
 export function sure(words, yes, no) {
   const dialog = byId('question');
   return new Promise(resolve => {
-    const close = answer => { dialog.close(); resolve(answer); };
+    unanswered(false);
+    unanswered = resolve;
+    const answer = is => { resolve(is); dialog.close(); };
     dialog.replaceChildren(el('p', { id: 'question-words' }, words), el('p', { className: 'buttons' },
-      buttonOf(yes, () => close(true), { className: 'main' }), buttonOf(no, () => close(false))));
-    dialog.oncancel = () => resolve(false);
-    dialog.showModal();
+      buttonOf(yes, () => answer(true), { className: 'main' }), buttonOf(no, () => answer(false))));
+    dialog.onclose = () => { if (!dialog.open) resolve(false); };
+    if (!dialog.open) dialog.showModal();
   });
 }
 
@@ -153,9 +156,9 @@ async function takeOff(entry, isBooked) {
 
 export function showMine() {
   const held = document.activeElement && document.activeElement.dataset.key, list = byId('mine');
-  list.replaceChildren(...mine.map(itemOf));
-  if (!mine.length) list.append(el('li', {}, 'None yet.'));
-  if (held) ([...list.querySelectorAll('button')].find(each => each.dataset.key === held && !each.disabled) || list).focus();
+  renew(list, ...(mine.length ? mine.map(itemOf) : [el('li', {}, 'None yet.')]));
+  const button = [...list.querySelectorAll('button')].find(each => each.dataset.key === held && !each.disabled);
+  if (held && document.activeElement === document.body) (button || list).focus();
   showBox();
 }
 
@@ -182,7 +185,7 @@ function showBox() {
   const since = outcome ? 'Seen so since ' + clock(sinceOf(stateKey(box.room, outcome))) + '.' : '';
   const held = document.activeElement && document.activeElement.dataset.box;
   byId('box').replaceChildren(el('h2', { id: 'box-title' }, box.title),
-    el('p', {}, el('b', {}, labelOf(box.room)), ', ' + weekday(day) + ' ' + day + ', ', el('b', {}, hours)),
+    el('p', {}, el('b', {}, labelOf(box.room)), ', ' + weekday(day) + ' ' + day + ', ', el('b', { className: 'hours' }, hours)),
     el('p', {}, chipOf(word, kind), ' ' + words), el('p', { className: 'hint' }, 'Request ' + box.id + '. ' + since),
     el('p', { className: 'error', role: 'alert' }, cancel.troubles.get(keyOf(box.room, box.id)) || ''),
     el('p', { className: 'buttons' }, isBooked ? cancelButton(box, 'Cancel this booking', (text, act) => boxButton(text, 'cancel', act)) : null,

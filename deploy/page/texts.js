@@ -21,6 +21,19 @@ export function buttonOf(words, act, properties) {
   return button;
 }
 
+/** Puts words into places; what stands there already is left, so that no screen reader says it again. */
+export function put(places) {
+  for (const [id, words] of Object.entries(places)) {
+    if (byId(id).textContent !== words) byId(id).textContent = words;
+  }
+}
+
+/** Puts children into a place, unless what stands there looks the same. */
+export function renew(node, ...children) {
+  const held = node.childNodes, isSame = held.length === children.length && children.every((child, place) => child.isEqualNode(held[place]));
+  if (!isSame) node.replaceChildren(...children);
+}
+
 // ---- days and times
 
 const two = number => String(number).padStart(2, '0');
