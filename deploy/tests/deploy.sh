@@ -11,6 +11,7 @@ deploy=$(cd -- "$(dirname -- "${BASH_SOURCE[0]}")/.." && pwd)
 deploy_texts() {
     local word
     for word in $(sed -n '/^| `init /,/^$/p' docs/FORMATS.md | cut -d'|' -f2 | grep -oE '`[a-z-]+ ' | tr -d '` '); do
+        held "the help has $word" grep -qF "['$word', " "$deploy/front/help.pl"
         held "the man page has $word" grep -qE "^(\.BI $word |\\\\fB$word\\\\fI )" "$deploy/package/rooms.1"
         held "the completion has $word" grep -qE "commands='.*\b$word\b" "$deploy/package/rooms.bash-completion"
     done
@@ -29,6 +30,28 @@ deploy_texts() {
         held 'shellcheck of the scripts' shellcheck -x "$deploy"/tests/under_systemd "$deploy"/systemd/rooms-office \
             "$deploy"/courier/rooms-courier "$deploy"/check/rooms-check "$deploy"/calendar/rooms-calendar "$deploy"/package/build "$deploy"/package/debian/{postinst,prerm,postrm}
     fi
+}
+
+# ---- the front, at a prompt
+
+# The files are where another user reaches them, who is refused there.
+deploy_front() {
+    local folder file
+    for file in "$deploy"/front/*; do
+        is "the front has no fault: ${file##*/}" "$(perl -wc "$file" 2>&1)" "$file syntax OK"
+    done
+    folder=$(mktemp -d)
+    chmod 755 "$folder"
+    timeout 300 python3 -B "$deploy/tests/front.py" "$deploy/front/rooms" "$program" "$folder" > "$deploy_scratch/front" 2>&1
+    grep -v ' passed, ' "$deploy_scratch/front"
+    if [[ $(tail -n 1 "$deploy_scratch/front") =~ ^([0-9]+)\ passed,\ ([0-9]+)\ failed$ ]]; then
+        passed=$((passed + BASH_REMATCH[1]))
+        failed=$((failed + BASH_REMATCH[2]))
+    else
+        echo 'FAILED: deploy/tests/front.py printed no result'
+        failed=$((failed + 1))
+    fi
+    rm -rf --one-file-system -- "$folder"
 }
 
 # ---- an office, as the operator makes it
@@ -466,6 +489,7 @@ run_deploy() {
     mkdir -p "$deploy_scratch"
     free_ports
     deploy_texts
+    if ! missing 'the front' perl python3; then deploy_front; fi
     if ! missing 'the courier' curl; then deploy_courier; fi
     if ! missing 'the courier with an older program' curl python3; then deploy_courier_older; fi
     if ! missing 'proxy, stretches of serving and page' curl openssl nginx flock; then
