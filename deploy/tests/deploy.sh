@@ -64,7 +64,8 @@ deploy_offices() {
         ROOMS_PROGRAM
     ROOMS_PROGRAM=$(readlink -f -- "$program")
     mkdir -p "$ROOMS_SHARE"
-    cp -r "$deploy/page" "$deploy/proxy/office.conf.in" "$deploy/systemd/office.settings.in" "$ROOMS_SHARE"
+    cp -r "$deploy/page" "$deploy/front" "$deploy/proxy/office.conf.in" "$deploy/systemd/office.settings.in" "$deploy/systemd/page_rooms.pl" \
+        "$ROOMS_SHARE"
     held 'an office is made' "$deploy/systemd/rooms-office" make west 1 1 $((ports)) $((ports + 1)) oak elm
     held 'it names the zone of its clock' grep -qF '"zone": "'"$(readlink -f /etc/localtime | sed -n 's,.*/zoneinfo/,,p')"'"' "$ROOMS_ETC/west.rooms.json"
     held 'another office is made' "$deploy/systemd/rooms-office" make east 2 1 $((ports + 2)) $((ports + 3)) oak
@@ -421,7 +422,9 @@ deploy_package() {
     file=$("$deploy/package/build" "$program" "$folder")
     held 'a package is built' test -s "$file"
     dpkg-deb -x "$file" "$folder/tree"
-    is 'the program of the package' "$("$folder/tree/usr/bin/rooms" init "$folder/a.db" 1 1)" ok
+    is 'the program of the package' "$(unset ROOMS_PROGRAM; "$folder/tree/usr/bin/rooms" init "$folder/a.db" 1 1)" ok
+    is 'the front of the package has the version' "$("$folder/tree/usr/bin/rooms" --version 2>&1)" "rooms $(dpkg-deb -f "$file" Version)"
+    is 'the front of the package helps' "$("$folder/tree/usr/bin/rooms" help 2>&1 | wc -l)" "$("$deploy/front/rooms" help 2>&1 | wc -l)"
     is 'the documents for the operator' "$(cd "$folder/tree/usr/share/doc/rooms" && ls docs | tr '\n' ' ')" 'FORMATS.md OPERATING.md '
     is 'it needs the C library alone' "$(dpkg-deb -f "$file" Depends | sed 's/ ([^)]*)//g')" 'libc6, passwd'
     if ! missing 'lintian of the package' lintian; then

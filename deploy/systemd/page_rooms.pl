@@ -1,0 +1,70 @@
+# The rooms that an office's page shows, in its file rooms.json, which people edit by hand and which this keeps as it is:
+#
+#     perl page_rooms.pl FILE                  prints a line `NAME<tab>LABEL` for each
+#     perl page_rooms.pl FILE ROOM LABEL       prints the file with this room behind the others
+#
+# The status is 1 where the file has no list of rooms that can be read.
+use strict;
+
+sub fail {
+    print STDERR @_, "\n";
+    exit 1;
+}
+
+# The text in pieces: strings with their quotes, and what stands between them.
+sub pieces { return $_[0] =~ /("(?:[^"\\]|\\.)*"|[^"]+)/gs }
+
+# The place of the list of `rooms` in the pieces: from behind its bracket to the bracket that closes it.
+sub list_of {
+    my @pieces = @_;
+    for my $i (0 .. $#pieces - 1) {
+        next unless $pieces[$i] eq '"rooms"' and $pieces[ $i + 1 ] =~ /^\s*:\s*\[/;
+        my ($depth, $from) = (0, 0);
+        for my $j ($i + 1 .. $#pieces) {
+            next if $pieces[$j] =~ /^"/;
+            while ($pieces[$j] =~ /([\[\]{}])/g) {
+                $depth += $1 =~ /[\[{]/ ? 1 : -1;
+                return ($i + 1, $j, pos $pieces[$j]) if $depth == 0;
+            }
+        }
+    }
+    fail('it has no list of rooms');
+}
+
+sub text_of {
+    my ($string) = @_;
+    return defined $string ? $string =~ s/^"|"$//gr =~ s/\\(.)/$1/gr : undef;
+}
+
+sub show {
+    my ($first, $last) = list_of(@_);
+    my ($name, $label);
+    for my $i ($first .. $last) {
+        my $piece = $_[$i];
+        $name  = text_of($_[ $i + 2 ]) if $piece eq '"name"' and $_[ $i + 1 ] =~ /^\s*:/;
+        $label = text_of($_[ $i + 2 ]) if $piece eq '"label"' and $_[ $i + 1 ] =~ /^\s*:/;
+        next unless $piece !~ /^"/ and $piece =~ /\}/ and defined $name;
+        print "$name\t", $label // $name, "\n";
+        ($name, $label) = ();
+    }
+}
+
+sub with_room {
+    my ($room, $label, @pieces) = @_;
+    my ($first, $last, $end) = list_of(@pieces);
+    my $is_empty = $first == $last;
+    my $before = substr $pieces[$last], 0, $end - 1;
+    my $after = substr $pieces[$last], $end - 1;
+    my ($space) = $before =~ /(\s*)\z/;
+    $before =~ s/\s*\z//;
+    $label =~ s/(["\\])/\\$1/g;
+    my $indent = "$space  ";
+    $pieces[$last] = $before . ($is_empty ? '' : ',') . "$indent\{ \"name\": \"$room\", \"label\": \"$label\" }$space$after";
+    return join '', @pieces;
+}
+
+my ($file, @room) = @ARGV;
+open my $lines, '<', $file // '' or fail("it can't be read: $!");
+my @pieces = pieces(do { local $/; <$lines> // '' });
+if   (@room == 2) { print with_room(@room, @pieces) }
+else              { show(@pieces) }
