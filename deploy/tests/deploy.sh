@@ -5,6 +5,7 @@
 deploy=$(cd -- "$(dirname -- "${BASH_SOURCE[0]}")/.." && pwd)
 
 . "$deploy/tests/helpers.sh"
+. "$deploy/tests/offices.sh"
 
 # ---- texts that go with the program
 
@@ -495,6 +496,7 @@ run_deploy() {
     if ! missing 'the front' perl python3; then deploy_front; fi
     if ! missing 'the courier' curl; then deploy_courier; fi
     if ! missing 'the courier with an older program' curl python3; then deploy_courier_older; fi
+    if ! missing 'offices' curl flock perl python3; then deploy_made_offices; fi
     if ! missing 'proxy, stretches of serving and page' curl openssl nginx flock; then
         deploy_offices
         deploy_lost_office
