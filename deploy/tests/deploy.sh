@@ -16,6 +16,17 @@ deploy_texts() {
         held "the man page has $word" grep -qE "^(\.BI $word |\\\\fB$word\\\\fI )" "$deploy/package/rooms.1"
         held "the completion has $word" grep -qE "commands='.*\b$word\b" "$deploy/package/rooms.bash-completion"
     done
+    for word in $("$deploy/systemd/rooms-office" --help | sed -n 's/^ *rooms-office \([a-z-]*\) .*/\1/p'); do
+        held "the man page of offices has $word" grep -qxF ".B $word" "$deploy/package/rooms-office.8"
+        held "the completion of offices has $word" grep -qE "compgen -W '[a-z -]*\b$word\b" "$deploy/package/rooms.bash-completion"
+    done
+    for word in $(grep -ohE 'ROOMS_(HINTS|WAIT|BINARY)' "$deploy"/front/* | sort -u); do
+        held "the man page has $word" grep -qxF ".B $word" "$deploy/package/rooms.1"
+    done
+    is 'a word of help is completed' "$(. "$deploy/package/rooms.bash-completion"
+        COMP_WORDS=(rooms help bo) COMP_CWORD=2
+        _rooms
+        echo "${COMPREPLY[*]}")" 'book'
     while read -r word; do
         held "the man page has the refusal $word" grep -qF "$word" "$deploy/package/rooms.1"
     done < <(sed -n 's/^| \([0-9]*\) | \([A-Z][A-Za-z]*\) | .*/\1|\2|/p' docs/FORMATS.md)
@@ -29,7 +40,8 @@ deploy_texts() {
         "$(cat "$deploy"/page/*.html | grep -cE '<style|style=|<script>| on[a-z]+=|https?://')" 0
     if ! missing 'shellcheck of the scripts' shellcheck; then
         held 'shellcheck of the scripts' shellcheck -x "$deploy"/tests/under_systemd "$deploy"/systemd/rooms-office \
-            "$deploy"/courier/rooms-courier "$deploy"/check/rooms-check "$deploy"/calendar/rooms-calendar "$deploy"/package/build "$deploy"/package/debian/{postinst,prerm,postrm}
+            "$deploy"/courier/rooms-courier "$deploy"/check/rooms-check "$deploy"/calendar/rooms-calendar "$deploy"/package/build "$deploy"/package/debian/{postinst,prerm,postrm} \
+            rooms
     fi
 }
 
@@ -429,7 +441,7 @@ deploy_package() {
     is 'the documents for the operator' "$(cd "$folder/tree/usr/share/doc/rooms" && ls docs | tr '\n' ' ')" 'FORMATS.md OPERATING.md '
     is 'it needs the C library alone' "$(dpkg-deb -f "$file" Depends | sed 's/ ([^)]*)//g')" 'libc6, passwd'
     if ! missing 'lintian of the package' lintian; then
-        held 'lintian finds no error' lintian --allow-root --fail-on error "$file"
+        held 'lintian finds no error and no warning' lintian --allow-root --fail-on error,warning "$file"
     fi
     if ! missing 'the man pages' man; then
         is 'the man pages have no fault' "$(for file in "$deploy"/package/rooms.1 "$deploy"/package/rooms-office.8; do
