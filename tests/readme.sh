@@ -1,5 +1,5 @@
 # The commands of README.md from 'Two offices' to 'Over HTTP', typed in in order in a folder of their own: each prints what stands behind `#`
-# beside it and below it. ./test sources this file; the functions of tests/lib.sh and tests/http.sh and the variables of ./test are used here.
+# beside it and below it; and those of docs/OPERATING.md (tests/documents.py). ./test sources this file; the functions of tests/lib.sh and tests/http.sh and the variables of ./test are used here.
 
 # typed FOLDER COMMAND WANTED: the command of the document prints this; another port takes the place of 8080, and what serves goes on behind
 typed() {
@@ -42,8 +42,15 @@ run_readme() {
             command=${BASH_REMATCH[1]} wanted=${BASH_REMATCH[2]}
         fi
     done < <(sed -n '/^## Two offices/,/^## What is proved/ s/^    //p' README.md; echo true)
-    if [ "$count" -lt 15 ]; then
-        echo "FAILED: README.md has $count commands"
+    if [ "$count" -lt 15 ] || [ "$(wc -l < README.md)" -gt 140 ]; then
+        echo "FAILED: README.md has $count commands and $(wc -l < README.md) lines"
         failed=$((failed + 1))
     fi
+    if ! command -v python3 > /dev/null; then
+        echo 'skipped: the commands of docs/OPERATING.md (no python3)'
+        return
+    fi
+    mkdir "$scratch/operating"
+    python3 -B tests/documents.py "$program" "$scratch/operating" 2>&1 | tee "$scratch/out"
+    count_of 'tests/documents.py' "$scratch/out"
 }

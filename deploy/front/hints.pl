@@ -261,7 +261,7 @@ sub bad_batch {
     return "line $number of $file $what" . (defined $line ? ": '$line'" : '');
 }
 
-my $APART = "Keep both databases and the batch, and don't exchange with that office: docs/OPERATING.md, on what a replica refuses";
+my $APART = "Keep both databases and the batch, and don't exchange with that office: docs/TROUBLE.md, on what a replica refuses";
 
 # By number: what is said of a refusal, of the command's name, its words and the line that the refusal names.
 my %refused = (
@@ -283,7 +283,7 @@ my %refused = (
         my (undef, undef, $commits) = about($_[1]);
         "$_[2] is more than the commits that $_[1] knows" . (defined $commits ? ", which are $commits: rooms truncate $_[1] $commits" : '');
     },
-    13 => sub { 'the clock of this office is exhausted, which only a forged batch brings: docs/OPERATING.md, on 13' },
+    13 => sub { 'the clock of this office is exhausted, which only a forged batch brings: docs/TROUBLE.md, on 13' },
     14 => sub { 'the numbers of this office are used up: make a database with a new server number' },
     15 => sub { bad_batch("isn't of a batch", $_[2], $_[-1]) . '; export it anew' },
     16 => sub {
@@ -301,14 +301,14 @@ my %refused = (
     24 => sub { 'there was no memory; look at the sheet, and call it again' },
     25 => sub { my $name = shift; my $line = pop; cause($name, @_) },
     26 => sub { my $name = shift; my $line = pop; no_replica($name, @_) },
-    27 => sub { "$_[2] is of an older program, to which cancels and more than eight alternatives can't be said: docs/OPERATING.md, on older programs" },
+    27 => sub { "$_[2] is of an older program, to which cancels and more than eight alternatives can't be said: docs/TROUBLE.md, on older programs" },
 );
 
 sub refusal {
     my ($line, $name, @words) = @_;
     return 'a line of the script is none of the table, and nothing was run (docs/FORMATS.md, Scripts)' if $name eq '';
     if ($line =~ /^peer answered (\d+)$/) {
-        my %peer = (409 => ', it refuses: docs/OPERATING.md, on what a replica refuses', 400 => ': it is of an older program, or no replica',
+        my %peer = (409 => ', it refuses: docs/TROUBLE.md, on what a replica refuses', 400 => ': it is of an older program, or no replica',
             503 => ': it has no memory, or its disk is full', 404 => ': nothing of rooms serves there');
         return "$words[1] answered $1" . ($peer{$1} // '');
     }

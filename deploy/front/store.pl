@@ -181,7 +181,7 @@ sub cause {
         my $cause = cause_of(turn_of($name) == 2, $path);
         return $cause if defined $cause;
     }
-    return "$paths[0] was in use by another command for a moment, or is damaged: call it again; where this stays, docs/OPERATING.md, on a damaged file";
+    return "$paths[0] was in use by another command for a moment, or is damaged: call it again; where this stays, docs/TROUBLE.md, on a damaged file";
 }
 
 # ---- refusal 26

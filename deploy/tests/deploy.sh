@@ -438,7 +438,7 @@ deploy_package() {
     is 'the program of the package' "$(unset ROOMS_PROGRAM; "$folder/tree/usr/bin/rooms" init "$folder/a.db" 1 1)" ok
     is 'the front of the package has the version' "$("$folder/tree/usr/bin/rooms" --version 2>&1)" "rooms $(dpkg-deb -f "$file" Version)"
     is 'the front of the package helps' "$("$folder/tree/usr/bin/rooms" help 2>&1 | wc -l)" "$("$deploy/front/rooms" help 2>&1 | wc -l)"
-    is 'the documents for the operator' "$(cd "$folder/tree/usr/share/doc/rooms" && ls docs | tr '\n' ' ')" 'FORMATS.md OPERATING.md '
+    is 'the documents for the operator' "$(cd "$folder/tree/usr/share/doc/rooms" && ls docs | tr '\n' ' ')" 'FORMATS.md OPERATING.md TROUBLE.md '
     is 'it needs the C library alone' "$(dpkg-deb -f "$file" Depends | sed 's/ ([^)]*)//g')" 'libc6, passwd'
     if ! missing 'lintian of the package' lintian; then
         held 'lintian finds no error and no warning' lintian --allow-root --fail-on error,warning "$file"
