@@ -158,14 +158,7 @@ pub fn outgoing_for(
 fn is_lacked(position: &Position, write: &Write) -> bool
     ensures { result ≡ lacks position.now write.now }
 {
-    has_less(position, write.stamp.server, write.stamp.n)
-}
-
-/// Whether the position has less than so many writes of the server.
-pub fn has_less(position: &Position, server: ServerId, n: u32) -> bool
-    ensures { result ≡ nat_lt (count_among position.now.counts server) n }
-{
-    count_in(&position.counts, server) < n
+    count_in(&position.counts, write.stamp.server) < write.stamp.n
 }
 
 /// The count of a server.

@@ -89,7 +89,7 @@ pub(crate) fn test_title(row: &Row, at: usize) -> Result<(), Error>
 }
 
 /// The day in this column.
-pub fn read_day(row: &Row, at: usize) -> Result<Day, Error>
+pub(crate) fn read_day(row: &Row, at: usize) -> Result<Day, Error>
     ensures day { IfOk result (λ day. day ≡ date_in (bytes (column row.now at))) }
     ensures cell { IfOk result (λ day. column row.now at ≡ Text (date_text day)) }
     ensures within { IfOk result (λ day. IsTrue (is_date day)) }
@@ -153,7 +153,7 @@ pub(crate) fn read_count(row: &Row, at: usize) -> Result<u32, Error>
 }
 
 /// The id in this column and the next.
-pub fn read_id(row: &Row, at: usize) -> Result<WriteId, Error>
+pub(crate) fn read_id(row: &Row, at: usize) -> Result<WriteId, Error>
     requires at { at < 100 }
     ensures id { IfOk result (λ id. id ≡ record { server = nat_of (column row.now at); n = nat_of (column row.now (at + 1)) }) }
     ensures server { IfOk result (λ id. column row.now at ≡ Int (pos id.server)) }

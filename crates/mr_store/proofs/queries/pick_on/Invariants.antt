@@ -1,8 +1,0 @@
-use Rattle.std.proofs.Common.{◌≡◌, ◌&&◌, ◌++◌, take}
-use Rattle.std.specs.Prelude.{bytes_eq, filter}
-use Rattle.mr_store.specs.DaysAsked.{is_on_days}
-use Rattle.mr_store.proofs.queries.pick_on.Given as goal
-
-abbrev pub invariant-loop-row : goal.invariant-loop-row
-invariant-loop-row g l =
-    l.picked.items ≡ l.fn.picked.items ++ filter (λ r. bytes_eq (g.R.IdRow.room r) l.room && is_on_days l.days (g.R.DayRow.day r)) (take l.row-index l.rows)
