@@ -43,7 +43,7 @@ pub(crate) fn submit<K: Keeper>(
     ensures due { TellsWordFaults (model.Submit (submission_of words.now)) (reply_in result) }
 {
     let request = read_request(alloc, words)?;
-    let part = load(keeper, &Scope::OfRequest(&request.room, &request.meeting))?;
+    let part = load(keeper, &Scope::InRoom(&request.room))?;
     change(keeper, turns::submit(&part, request))
 }
 
@@ -140,6 +140,6 @@ pub(crate) fn batch_for<K: Keeper>(
     ensures served { IsServed K.Keeper keeper.old keeper.new (model.BatchFor position.now max_lines) (reply_in result) }
 {
     let position = read_position(alloc, position)?;
-    let part = load(keeper, &Scope::OfPosition(&position))?;
+    let part = load(keeper, &Scope::Above(position.commits))?;
     turns::batch(&part, &position, max_lines)
 }

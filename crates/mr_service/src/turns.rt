@@ -28,7 +28,7 @@ pub(crate) fn add_room(part: &Part, room: &RoomName) -> Result<(Reply, Change), 
 
 /// Books a room.
 pub(crate) fn submit(part: &Part, request: Request) -> Result<(Reply, Change), Refusal>
-    ensures { TurnsBy (scopes.OfRequest request) (submit_request request) part.now result }
+    ensures { TurnsBy (scopes.InRoom request.room) (submit_request request) part.now result }
 {
     let (_, change) = part.submit(request)?;
     match outcome_in(&change) {
@@ -111,7 +111,7 @@ pub(crate) fn batch(
     max_lines: LineCount,
 ) -> Result<Reply, Refusal>
     ensures { IsWithin part.now.summary
-        → Tells (scopes.OfPosition position.now) (λ a. model.leave a (model.batch_reply a position.now max_lines)) part.now result }
+        → Tells (scopes.Above position.now.commits) (λ a. model.leave a (model.batch_reply a position.now max_lines)) part.now result }
 {
     Ok(Reply::Batch(part.batch(position, max_lines)?))
 }

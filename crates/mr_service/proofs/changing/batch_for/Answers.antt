@@ -1,6 +1,6 @@
 use Rattle.std.proofs.Common.{subst, Ok}
 use Rattle.std.proofs.lemmas.Result.{err_from_is_err_and}
-use Rattle.mr_model.specs.Scopes.{OfPosition}
+use Rattle.mr_model.specs.Scopes.{Above}
 use Rattle.mr_model.specs.Positions.{Position}
 use Rattle.mr_model.specs.Step.{BatchFor, leave, batch_reply}
 use Rattle.mr_service.specs.Turns.{IsLoaded}
@@ -22,4 +22,4 @@ returns-in_err-part g c =
 
 pub returns : goal.returns
 returns g c =
-    record { served = told_by g.K.Keeper c.args.keeper.now c.load.new.keeper (OfPosition c.in_ok-position.position) c.in_ok-part.part c.batch.result (BatchFor c.args.position.now c.args.max_lines) (λ a. leave a (batch_reply a c.in_ok-position.position c.args.max_lines)) c.in_ok-part.ensures (words.position_read c.args.position.now c.args.max_lines c.in_ok-position.position c.in_ok-position.ensures.exact) (c.batch.ensures c.in_ok-part.ensures.within) }
+    record { served = told_by g.K.Keeper c.args.keeper.now c.load.new.keeper (Above c.in_ok-position.position.commits) c.in_ok-part.part c.batch.result (BatchFor c.args.position.now c.args.max_lines) (λ a. leave a (batch_reply a c.in_ok-position.position c.args.max_lines)) (subst (λ (p : Position). IsLoaded g.K.Keeper c.args.keeper.now c.load.new.keeper (Above p.commits) (Ok c.in_ok-part.part)) c.position.view_is c.in_ok-part.ensures) (words.position_read c.args.position.now c.args.max_lines c.in_ok-position.position c.in_ok-position.ensures.exact) (c.batch.ensures c.in_ok-part.ensures.within) }

@@ -1,7 +1,7 @@
 use Rattle.std.proofs.Common.{subst, Ok}
 use Rattle.std.proofs.lemmas.Result.{err_from_is_err_and}
 use Rattle.mr_model.specs.Requests.{Request}
-use Rattle.mr_model.specs.Scopes.{OfRequest}
+use Rattle.mr_model.specs.Scopes.{InRoom}
 use Rattle.mr_model.specs.Step.{Submit}
 use Rattle.mr_kept.specs.Steps.{submit_request}
 use Rattle.mr_service.specs.Asked.{submission_of}
@@ -24,4 +24,4 @@ returns-in_err-part-clause-served g c =
 
 pub returns-clause-served : goal.returns-clause-served
 returns-clause-served g c =
-    made_by g.K.Keeper c.args.keeper.now c.load.new.keeper c.change.new.keeper (OfRequest c.in_ok-request.request) c.in_ok-part.part _ _ (Submit (submission_of c.args.words.now)) (submit_request c.in_ok-request.request) (subst (λ (q : Request). IsLoaded g.K.Keeper c.args.keeper.now c.load.new.keeper (OfRequest q) (Ok c.in_ok-part.part)) c.request.view_is c.in_ok-part.ensures) c.change.ensures (words.submission_read (submission_of c.args.words.now) c.in_ok-request.request c.in_ok-request.ensures.value) c.submit.ensures
+    made_by g.K.Keeper c.args.keeper.now c.load.new.keeper c.change.new.keeper (InRoom c.in_ok-request.request.room) c.in_ok-part.part _ _ (Submit (submission_of c.args.words.now)) (submit_request c.in_ok-request.request) (subst (λ (q : Request). IsLoaded g.K.Keeper c.args.keeper.now c.load.new.keeper (InRoom q.room) (Ok c.in_ok-part.part)) c.request.view_is c.in_ok-part.ensures) c.change.ensures (words.submission_read (submission_of c.args.words.now) c.in_ok-request.request c.in_ok-request.ensures.value) c.submit.ensures
