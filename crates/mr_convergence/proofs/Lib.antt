@@ -1,0 +1,6 @@
+pub mod Converging
+pub mod Settling
+pub mod HandingOn
+pub mod Sizes
+pub mod Meeting
+mod ConvergenceRows
