@@ -10,19 +10,20 @@ use Rattle.mr_model.specs.Exchange.{Item, W, C, Second, Complete, More, Batch, i
 use Rattle.mr_model.specs.Positions.{position_of}
 use Rattle.mr_model.specs.Replies.{Reply, Took, CommittedIs, BatchIs, Refused}
 use Rattle.mr_model.specs.Step.{After, Receive, Commit, step, items_for, batch_of, batch_unless, batch_reply, is_beyond}
-use Rattle.mr_model.specs.World.{World, Step, Make, Deliver, Do, StepReply, Made, Said, replica_of, make_for, with_made, deliver_to, batch_numbered, world_step, do_at, with_after}
+use Rattle.mr_model.specs.World.{World, Step, Make, Deliver, Do, StepReply, Made, Said, WorldAfter, replica_of, make_for, with_made, deliver_to, batch_numbered, world_step, do_at, with_after}
 use Rattle.mr_model.specs.Honest.{accepted, commit_list, OnePrimary, IsHonestItem, IsHonest, IsWorldStep, ended, stepped}
 use Rattle.mr_model.specs.WorldLaws.{IsDelivery, IsComplete, IsCountOrGap, count, gap}
-use Rattle.mr_convergence.specs.Convergence.{IsQuiet, IsQuietRun, IsThere, IsHandedOn, kept, handed, EachHandedToEach, IsDone, made, took, AsksFor, IsSmooth, IsSettling}
+use Rattle.mr_convergence.specs.Convergence.{AcceptsNothing, IsQuiet, IsRunOf, IsQuietRun, IsThere, IsHandedOn, kept, handed, EachHandedToEach, IsDone, made, took, AsksFor, IsSmooth, IsSettling}
 use Rattle.mr_model.proofs.OrderedSets.{all_map}
 use Rattle.mr_model.proofs.Fronts.{front_length, get_end, get-map, all_get, find_passes}
 use Rattle.mr_model.proofs.BatchesReadBack.{read-text, read_reads}
 use Rattle.mr_model.proofs.BatchItems.{given_within, IsOwn, items_own}
 use Rattle.mr_model.proofs.BatchesBring.{front_is_taken, whole_given, deliver_is}
-use Rattle.mr_convergence.proofs.Converging.{quiet_same, quiet_kept, handed_kept}
+use Rattle.mr_convergence.proofs.Converging.{all_kept, handed_kept}
+use Rattle.mr_convergence.proofs.QuietSteps.{quiet_same, quiet_accepts}
 use Rattle.mr_convergence.proofs.HandingOn.{run_append, handed_after, handed_trans}
 use Rattle.mr_model.proofs.Histories.{Extends, HasItem, IsOf}
-use Rattle.mr_model.proofs.DeliverySteps.{own_item, delivered, text_numbered}
+use Rattle.mr_model.proofs.DeliverySteps.{own_item, Received, delivered, text_numbered}
 use Rattle.mr_model.proofs.NoGaps.{NoGap, Anything, AllGiven, no_gap-take, AllOfMaker, items_follow}
 use Rattle.mr_convergence.proofs.Sizes.{size, whole_size, size_within, whole_same, larger_by, items_lacked, Brings, first_brought}
 use Rattle.mr_model.proofs.TakingKeeps.{IsItem}
@@ -77,14 +78,25 @@ given_with_primary w s t m a b h ea eb own = go (given_unless w s t m a b h ea e
     go (inl x) = x.1
     go (inr x) = let low = few own in let less = x.0 in absurd (omega (arith, low, less))
 
--- ---- quiets one behind the other
+pub made_with_primary : (old new : World) (s t m : ℕ) (reply : StepReply) (a b : Replica) → IsHonest old → IsWorldStep old (Make s t m) reply new → replica_of old s ≡ Some a → replica_of old t ≡ Some b → (a.server ≡ a.primary) ⊎ (b.server ≡ b.primary) → ((number : ℕ) × (bytes : ℕ) × (reply ≡ Made number bytes)) ⊎ (reply ≡ Said (Refused OutOfMemory))
+made_with_primary old new s t m reply a b h (ok, inr none) ea eb own = inr none.0
+made_with_primary old new s t m reply a b h (ok, inl e) ea eb own =
+    inl (
+      length old.pool + 1,
+      length (batch_text (batch_of a (position_of b) m)),
+      ap (λ (y : WorldAfter). y.reply) e ∙ ap (λ o. (make_for old o (replica_of old t) m).reply) ea ∙ ap (λ o. (make_for old (Some a) o m).reply) eb ∙ ap (λ y. (with_made old y).reply) (given_with_primary old s t m a b h ea eb own),
+    )
 
+-- ---- quiet runs, one behind the other
+
+-- (no replica is added in it)
 pub record Smooth (lines : ℕ) (old new : World) : Type 0 where
   pub quiet : IsQuietRun old new
   pub smooth : IsSmooth lines quiet
+  pub there : (s : ℕ) → IsThere new s → IsThere old s
 
 abbrev smoothly_refl : (lines : ℕ) (w : World) → Smooth lines w w
-smoothly_refl lines w = record { quiet = record { steps = []; replies = []; run = ended; all_quiet = tt }; smooth = record { asks = tt; done = tt } }
+smoothly_refl lines w = record { quiet = record { steps = []; replies = []; run = ended; all_allowed = tt }; smooth = record { asks = tt; done = tt }; there = λ s x. x }
 
 abbrev smoothly_trans : (lines : ℕ) (a b c : World) → Smooth lines a b → Smooth lines b c → Smooth lines a c
 smoothly_trans lines a b c f g =
@@ -93,12 +105,13 @@ smoothly_trans lines a b c f g =
         steps = f.quiet.steps ++ g.quiet.steps;
         replies = f.quiet.replies ++ g.quiet.replies;
         run = run_append f.quiet.run g.quiet.run;
-        all_quiet = all_append IsQuiet f.quiet.steps g.quiet.steps f.quiet.all_quiet g.quiet.all_quiet;
+        all_allowed = all_append IsQuiet f.quiet.steps g.quiet.steps f.quiet.all_allowed g.quiet.all_allowed;
       };
       smooth = record {
         asks = all_append (AsksFor lines) f.quiet.steps g.quiet.steps f.smooth.asks g.smooth.asks;
         done = all_append IsDone f.quiet.replies g.quiet.replies f.smooth.done g.smooth.done;
       };
+      there = λ s x. f.there s (g.there s x);
     }
 
 -- the knowledge of the one is handed to the other
@@ -154,12 +167,19 @@ module _ (w : World) (f t : ℕ) (a b : Replica) (h : IsHonest w) (ea : replica_
   within : is_batch batch ≡ true
   within = given_within a (position_of b) m batch sound given
 
+  honest_one : IsHonest one
+  honest_one = (step_kept w one (Make f t m) (Made number (length text)) h making).0
+
+  is_delivered : Received (accepted one) (commit_list one) b (step b (Receive (take (length text) text)))
+  is_delivered = delivered one t b text (length text) honest_one eb (text_numbered one number text honest_one numbered)
+
+  received_at : received.server ≡ t
+  received_at = is_delivered.extends.same_server ∙ found_server w t b eb
+
   not_refused : reply ≡ Said (Refused OutOfMemory) → ⊥
   not_refused e =
-      let honest = (step_kept w one (Make f t m) (Made number (length text)) h making).0 in
       let is : reply ≡ Said (step b (Receive (take (length text) text))).reply = ap (λ o. (deliver_to one o (batch_numbered one.pool number) (length text)).reply) eb ∙ ap (λ o. (deliver_to one (Some b) o (length text)).reply) numbered in
-      refused_isnt (step b (Receive (take (length text) text))).reply (delivered one t b text (length text) honest eb (text_numbered one number text honest numbered)).replies
-      (said_inj (step b (Receive (take (length text) text))).reply (Refused OutOfMemory) (sym is ∙ e))
+      refused_isnt (step b (Receive (take (length text) text))).reply is_delivered.replies (said_inj (step b (Receive (take (length text) text))).reply (Refused OutOfMemory) (sym is ∙ e))
 
   abbrev whole : IsDelivery w one one two f t number (length text) reply
   whole = record { max_lines = m; making = making; steps = []; replies = []; others = ended; bytes = length text; delivery = delivery }
@@ -171,11 +191,25 @@ module _ (w : World) (f t : ℕ) (a b : Replica) (h : IsHonest w) (ea : replica_
       go (inl (writes, commits, e)) = subst IsDone (sym e) (took writes commits)
       go (inr e) = absurd (not_refused e)
 
+  two_is : two ≡ put one received
+  two_is = go (deliver_is one two number t (length text) reply b text delivery eb numbered)
+    where
+      go : ((reply ≡ Said (step b (Receive (take (length text) text))).reply) × (two ≡ put one received)) ⊎ (reply ≡ Said (Refused OutOfMemory)) → two ≡ put one received
+      go (inl x) = x.1
+      go (inr none) = absurd (not_refused none)
+
+  same_there : (s : ℕ) → IsThere two s → IsThere w s
+  same_there s (x, ex) = elim (cases_eq received.server s) [
+    | inl z ↦ (b, ap (λ u. replica_of w u) (sym z ∙ received_at) ∙ eb)
+    | inr ne ↦ (x, sym (others_put one.replicas s received ne) ∙ sym (ap (λ v. replica_of v s) two_is) ∙ ex)
+  ]
+
   abbrev both_steps : Smooth m w two
   both_steps =
       record {
-        quiet = record { steps = Make f t m ∷ handing ∷ []; replies = Made number (length text) ∷ reply ∷ []; run = stepped making (stepped delivery ended); all_quiet = (tt, (tt, tt)) };
+        quiet = record { steps = Make f t m ∷ handing ∷ []; replies = Made number (length text) ∷ reply ∷ []; run = stepped making (stepped delivery ended); all_allowed = (tt, (tt, tt)) };
         smooth = record { asks = (refl, (tt, tt)); done = (made number (length text), (taken, tt)) };
+        there = same_there;
       }
 
   -- a complete one brings all
@@ -187,13 +221,6 @@ module _ (w : World) (f t : ℕ) (a b : Replica) (h : IsHonest w) (ea : replica_
 
       complete : IsComplete one number
       complete = (text, batch, numbered, read_reads text batch (read-text batch within), ends)
-
-  two_is : two ≡ put one received
-  two_is = go (deliver_is one two number t (length text) reply b text delivery eb numbered)
-    where
-      go : ((reply ≡ Said (step b (Receive (take (length text) text))).reply) × (two ≡ put one received)) ⊎ (reply ≡ Said (Refused OutOfMemory)) → two ≡ put one received
-      go (inl x) = x.1
-      go (inr none) = absurd (not_refused none)
 
   -- another brings its first item
   pub record Further : Type 0 where
@@ -207,10 +234,10 @@ module _ (w : World) (f t : ℕ) (a b : Replica) (h : IsHonest w) (ea : replica_
   further k em x xs ei =
       record {
         new = received;
-        is_new = ap (λ v. replica_of v t) two_is ∙ found_put one.replicas t b received at eb;
+        is_new = ap (λ v. replica_of v t) two_is ∙ found_put one.replicas t b received received_at eb;
         extends = all.extends;
         larger = larger_by b received x all.extends (item_within x xs ei) (item_new x xs ei) (has x all.brought);
-        maker = λ ne. ap (λ v. replica_of v f) two_is ∙ others_put one.replicas f received (λ z. ne (sym z ∙ at)) ∙ ea;
+        maker = λ ne. ap (λ v. replica_of v f) two_is ∙ others_put one.replicas f received (λ z. ne (sym z ∙ received_at)) ∙ ea;
       }
     where
       of : AllByRecursion (IsOf (accepted w) (commit_list w)) batch.items
@@ -229,9 +256,6 @@ module _ (w : World) (f t : ℕ) (a b : Replica) (h : IsHonest w) (ea : replica_
       all =
           whole_given (accepted w) (commit_list w) (history_of w h) b batch (record { from = a.server; primary = a.primary }) (agrees_of w t b h eb) within refl (one_primary w f t a b h ea eb) of
           (λ s. count_of b s) (length b.commits) (λ s. le_refl (count_of b s)) (le_refl (length b.commits)) (length text) (Brings x) (le_refl (length text)) no_gap
-
-      at : received.server ≡ t
-      at = all.extends.same_server ∙ found_server w t b eb
 
       has : (y : Item) → Brings y all.counts all.commits → HasItem received y
       has (W v) g = let low = all.counts_low v.stamp.server in omega (arith, low, g)
@@ -278,7 +302,7 @@ module _ (m k : ℕ) (em : m ≡ suc k) (f t : ℕ) (ne : f ≡ t → ⊥) where
   over w v a b c n j h eb own fuel smoothly ea ec x larger en ih = go (ih v a c after.0 ea ec (owns own) (let same = whole_same v w (quiet_same w v h smoothly.quiet).accepts (quiet_same w v h smoothly.quiet).commits in omega (arith, same, fuel, larger, en)))
     where
       after : Kept w v
-      after = quiet_kept w v h smoothly.quiet
+      after = all_kept w v h smoothly.quiet
 
       owns : (a.server ≡ a.primary) ⊎ (b.server ≡ b.primary) → (a.server ≡ a.primary) ⊎ (c.server ≡ c.primary)
       owns (inl z) = inl z
@@ -291,7 +315,7 @@ module _ (m k : ℕ) (em : m ≡ suc k) (f t : ℕ) (ne : f ≡ t → ⊥) where
   exchanged zero w a b h ea eb own fuel =
       one_round w a b h ea eb own
       (λ v c smoothly fa tc x larger.
-      let after = quiet_kept w v h smoothly.quiet in
+      let after = all_kept w v h smoothly.quiet in
       let same = whole_same v w (quiet_same w v h smoothly.quiet).accepts (quiet_same w v h smoothly.quiet).commits in
       let within = size_within v t c after.0 tc in
       absurd (omega (arith, same, within, fuel, larger)))
@@ -324,7 +348,7 @@ meetings m k em p (x ∷ xs) w q h eq own all = go (replica_of w x.0) refl (repl
     behind ih mid c way = last (ih mid grown.0 after.0 grown.1 (grown.2.same_server ∙ own ∙ sym grown.2.same_primary))
       where
         after : Kept w mid
-        after = quiet_kept w mid h c.quiet
+        after = all_kept w mid h c.quiet
 
         grown : (r : Replica) × (replica_of mid p ≡ Some r) × Extends q r
         grown = after.1.replicas p q eq
@@ -397,7 +421,7 @@ spread m k em p w q h eq own = go (meetings m k em p (map (from_it p) w.replicas
       new,
       c,
       λ t there.
-          let (b, eb) = (quiet_same w new h c.quiet).there t there in
+          let (b, eb) = c.there t there in
           let (i, at) = (find_passes (λ (x : Replica). eqb x.server t) w.replicas b eb).1 in
           let is = found_server w t b eb in
           let one : IsThere w p → IsThere w b.server → Way c p b.server = all_get (λ x. IsThere w x.0 → IsThere w x.1 → Way c x.0 x.1) (map (from_it p) w.replicas) i (p, b.server) ways (get-map (from_it p) w.replicas i b at) in
@@ -429,11 +453,15 @@ convergence_possible old lines h low = go (one_less lines low) (primary_there ol
     go (k, em) (inl none) = (old, (smoothly_refl lines old).quiet, (smoothly_refl lines old).smooth, λ s t there to. absurd (none_there old s there.0 none there.1))
     go (k, em) (inr (p, q, eq, own)) =
         let (mid, c, to) = gathered lines k em p old q h eq own in
-        let after = quiet_kept old mid h c.quiet in
+        let after = all_kept old mid h c.quiet in
         let (r, er, x) = after.1.replicas p q eq in
         let (new, d, from) = spread lines k em p mid r after.0 er (x.same_server ∙ own ∙ sym x.same_primary) in
         let both = smoothly_trans lines old mid new c d in
         (new, both.quiet, both.smooth, λ s t there at. handed_trans (to s there) (from t at))
+
+-- a quiet run accepts nothing
+abbrev accepting_nothing : (a b : World) → IsQuietRun a b → IsRunOf AcceptsNothing a b
+accepting_nothing a b c = record { steps = c.steps; replies = c.replies; run = c.run; all_allowed = all_map IsQuiet AcceptsNothing quiet_accepts c.steps c.all_allowed }
 
 pub settlement_possible : (old : World) (lines server : ℕ) → IsHonest old → 1 ≤ lines → IsThere old server → (one : World) × (two : World) × (new : World) × (x : IsSettling old one two new) × IsSmooth lines x.gathered × IsSmooth lines x.spread
 settlement_possible old lines server h low there = go (one_less lines low) (primary_there old h)
@@ -442,7 +470,7 @@ settlement_possible old lines server h low there = go (one_less lines low) (prim
     go (k, em) (inl none) = absurd (none_there old server there.0 none there.1)
     go (k, em) (inr (p, q, eq, own)) =
         let (one, c, to) = gathered lines k em p old q h eq own in
-        let before = quiet_kept old one h c.quiet in
+        let before = all_kept old one h c.quiet in
         let (r, er, x) = before.1.replicas p q eq in
         let is_own : r.server ≡ r.primary = x.same_server ∙ own ∙ sym x.same_primary in
         let n = length (tentative r) in
@@ -454,19 +482,19 @@ settlement_possible old lines server h low there = go (one_less lines low) (prim
           put one after,
           new,
           record {
-            gathered = c.quiet;
+            gathered = accepting_nothing old one c.quiet;
             primary = p;
             before = r;
             is_there = er;
             is_primary = is_own;
-            all_reach_it = λ s a e. (handed_kept h (to s (a, e))).1 a e;
+            all_reach_it = λ s a e. (handed_kept {new = one} {ss = c.quiet.steps} {rs = c.quiet.replies} h (to s (a, e))).1 a e;
             count = n;
             committed = length (take n (tentative r));
             all_of_them = le_refl n;
             commit = commit;
-            spread = d.quiet;
-            it_reaches_all = λ t at. (handed_kept honest (from t at)).1;
+            spread = accepting_nothing (put one after) new d.quiet;
+            it_reaches_all = λ t at. (handed_kept {new = new} {ss = d.quiet.steps} {rs = d.quiet.replies} honest (from t at)).1;
           },
-          c.smooth,
-          d.smooth,
+          record { asks = c.smooth.asks; done = c.smooth.done },
+          record { asks = d.smooth.asks; done = d.smooth.done },
         )

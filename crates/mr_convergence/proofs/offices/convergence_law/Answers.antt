@@ -1,5 +1,5 @@
 use Rattle.mr_convergence.proofs.Converging.{handed_kept, knows_all, stays, converge, reaches_trans}
-use Rattle.mr_convergence.proofs.convergence_law.Goals as goal
+use Rattle.mr_convergence.proofs.offices.convergence_law.Goals as goal
 
 pub returns-clause-handed : goal.returns-clause-handed
 returns-clause-handed c old new steps replies s t h way = (handed_kept h way).1
