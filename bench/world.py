@@ -6,8 +6,9 @@
 writes a script and has `rehearse` run it: so many replicas (99 where no numbers are given) take so many bookings (100,000) in so many
 rooms (50), each at a replica by chance, in the first eight of a number of rounds. In each round the primary commits all that it knows, and
 then the replicas, in pairs by chance, give each other what they lack, in both directions, until each knows each write and each commit.
-Prints the rounds, the exchanges, the bytes of all batches, also a write and replica, the seconds that the process had a processor, and its
-greatest memory, all batches among it: they are kept to the end of a script.
+Prints the rounds, and how many of them came after the last booking; the exchanges, the bytes of all batches, also a write and replica, the
+seconds that the process had a processor, and its greatest memory, all batches among it: they are kept to the end of a script. At the end all
+sheets have to be equal, with the mark of a commit in each line.
 """
 
 import os
@@ -109,9 +110,11 @@ def main(program, folder, replicas=99, writes=100_000, rooms=50, seed=1):
     size, refused, sheets = replies(process)
     _, status, usage = os.wait4(process.pid, 0)
     print(f'{replicas} replicas, {writes} writes, {rooms} rooms: {rounds} rounds, {batches} batches, status {status}')
+    print(f'{rounds - BOOKING_ROUNDS} rounds after the last booking until all had settled')
     print(f'bytes {size}, {size / writes / (replicas - 1):.1f} a write and replica that it came to; {refused} refused')
     print(f'processor seconds {usage.ru_utime + usage.ru_stime:.1f}, peak {usage.ru_maxrss // 1024} MiB')
-    print(f'{len(sheets)} sheets, all equal: {all(it == sheets[0] for it in sheets)}')
+    is_settled = all(line.split()[1] == b'C' for sheet in sheets for line in sheet if b'-' in line.split()[0])
+    print(f'{len(sheets)} sheets, all equal: {all(it == sheets[0] for it in sheets)}, all committed: {is_settled}')
 
 
 if __name__ == '__main__':

@@ -108,10 +108,21 @@ class Commands(Bytes):
         self.call('push', ['import', f'@{taker}.db', '@batch'], reply, {'batch': text})
 
     def ask_bridge(self):
-        mine, peer = self.rng.sample(sorted(self.replicas), 2)
+        self.exchange_all(*self.rng.sample(sorted(self.replicas), 2))
+
+    def exchange_all(self, mine, peer):
+        """A bridge; its status."""
         lines, status, _ = exchanged(self.replicas[mine], self.replicas[peer])
         self.take(Call(['bridge', f'@{mine}.db', f'@{peer}.db'], {}, printed_as('\n'.join(lines)), status, None))
         self.note(f'bridge: {len(lines)} lines, status {status}')
+        return status
+
+    def meet(self, office, primary):
+        """By files, or by the command that exchanges, which either of the two may call."""
+        if self.rng.random() < 0.5:
+            super().meet(office, primary)
+        elif self.exchange_all(*self.rng.sample([office, primary], 2)) != 0:
+            raise AssertionError('an office and the primary refuse to exchange')
 
     def ask_more(self):
         """A database that is made again, by the same words or by others, and words that are no command line."""

@@ -13,7 +13,7 @@ import model
 from commands import Call, Commands, exchanged, printed_as, run_call
 from program import Server, expect
 from submissions import written
-from world import Bytes
+from world import Bytes, World
 
 # Requests that are none, or not of their route.
 BAD_REQUESTS = [b'GET /submit HTTP/1.1\r\n\r\n', b'POST /position HTTP/1.1\r\nContent-Length: 0\r\n\r\n', b'GET /rooms/oak HTTP/1.1\r\n\r\n',
@@ -23,6 +23,9 @@ BAD_REQUESTS = [b'GET /submit HTTP/1.1\r\n\r\n', b'POST /position HTTP/1.1\r\nCo
                 b'POST /cancel HTTP/1.1\r\nContent-Length: 24\r\n\r\n{"id":"1-1","room":null}', b'PUT /cancel HTTP/1.1\r\nContent-Length: 0\r\n\r\n',
                 b'POST /pull HTTP/1.1\r\nContent-Length: 3\r\nTransfer-Encoding: chunked\r\n\r\n0\r\n', b'GET /position HTTP/1.1\r\nContent-Length: 1\r\n\r\nx']
 ROUTES = {'sheet': '/rooms/{}/days/{}', 'outcome': '/rooms/{}/requests/{}', 'errors': '/rooms/{}/errors', 'position': '/position'}
+
+# What no request asks.
+COMMANDS_ALONE = ('calendar', 'commit', 'truncate')
 
 # The bytes of a request to a server, and those of its reply.
 Request = collections.namedtuple('Request', 'server data wanted')
@@ -93,7 +96,7 @@ class Served(Commands):
         return reply
 
     def at(self, server, kind, *words):
-        if not self.is_up or kind == 'calendar':
+        if not self.is_up or kind in COMMANDS_ALONE:
             return super().at(server, kind, *words)
         if kind in ROUTES:
             return self.request(server, kind, get(ROUTES[kind].format(*words)))
@@ -126,12 +129,20 @@ class Served(Commands):
     def ask_bad(self):
         self.request(self.server(), 'bad', self.rng.choice(BAD_REQUESTS))
 
-    def ask_bridge(self):
+    def meet(self, office, primary):
+        """By requests, or while none is served."""
+        self.is_up = self.rng.random() < 0.3
+        if self.is_up:
+            World.meet(self, office, primary)
+        else:
+            super().meet(office, primary)
+
+    def exchange_all(self, mine, peer):
         """An exchange, in place of a bridge."""
-        mine, peer = self.rng.sample(sorted(self.replicas), 2)
         lines, status, connections = exchanged(self.replicas[mine], self.replicas[peer])
         self.take(Exchange(mine, peer, connections, printed_as('\n'.join(lines)), status))
         self.note(f'exchange: {len(lines)} lines, status {status}')
+        return status
 
 
 def run_requests(program, number, requests):

@@ -11,6 +11,7 @@ import re
 import types
 
 import oracle
+import settling
 import wire
 from oracle import Booking, id_text
 from turned import turned_batch, turned_position
@@ -38,7 +39,7 @@ STRANGE = {
 
 
 def size_of(seed):
-    """How many replies the world of a seed has, or two more: from 40 to 200."""
+    """How many replies the world of a seed has, or two more, before it settles: from 40 to 200."""
     return 40 + seed * 37 % 161
 
 
@@ -64,13 +65,15 @@ class World:
               *[f'{lines} there are' for lines in ('one line less than', 'as many lines as', 'one line more than')],
               *[f'took {writes} writes, {commits} commits' for writes in ('some', 'no') for commits in ('some', 'no')],
               'all is dropped', 'one too many is dropped', 'dropped again', 'a target of its own', 'a target of another', 'a committed target',
-              'a tentative target', 'a target in another room', 'a cancel as a target']
+              'a tentative target', 'a target in another room', 'a cancel as a target', *settling.WANTED]
     # What is asked how often.
     KINDS = {'book': 30, 'cancel': 12, 'outcome': 10, 'sheet': 4, 'calendar': 5, 'errors': 4, 'position': 2, 'room': 1,
              'commit': 7, 'truncate': 5, 'batch': 13, 'deliver': 9, 'meet': 2, 'more': 2}
     MANY = {'book': 150, 'commit': 1}
     # How often a large world is one of many tentative writes, and a replica is asked that isn't there.
     HAVE_MANY, ABSENT = 0.3, 0.01
+    # Of so many seeds one has a world that goes on until all settle (settling.py).
+    SETTLES = 10
 
     def __init__(self, seed):
         self.rng = random.Random(f'{type(self).__name__} {seed}')
@@ -84,11 +87,13 @@ class World:
         while self.replies < self.size:
             self.turn()
         if not self.is_hostile:
+            if seed % self.SETTLES == 0:
+                settling.settle(self)
             oracle.World.check(types.SimpleNamespace(replicas=self.replicas | self.others))
 
     def begin(self):
         """The replicas, with their rooms or with none yet. One may come to know the others' writes late."""
-        rng = self.rng
+        rng, self.first = self.rng, []
         servers = rng.sample(SERVERS, rng.choice([2, 3, 3, 4]))
         self.late = rng.choice([None, servers[-1]])
         for server in servers:
@@ -301,6 +306,27 @@ class World:
             if len(self.pool) > size:
                 self.hand(len(self.pool), taker, None)
 
+    def bring(self, maker, taker, limit):
+        """All that the one has for the other, in batches of at most so many lines. What the first text can't say is asked for in the second; else no
+        batch may be refused."""
+        is_whole = False
+        while not is_whole:
+            size = len(self.pool)
+            self.make(maker, taker, limit)
+            if len(self.pool) > size:
+                self.hand(len(self.pool), taker, None)
+                is_whole = self.pool[-1].endswith('E\n')
+            else:
+                self.first.remove(taker)
+
+    def meet(self, office, primary):
+        """An office exchanges with the primary, in both directions."""
+        lines = max(self.lines_for(office, primary), self.lines_for(primary, office))
+        limit = self.rng.choice([64, 100000] if lines > 12 else [1, 2, 5, 64])
+        for maker, taker in ((office, primary), (primary, office)):
+            self.bring(maker, taker, limit)
+        self.note(*['settled in batches of one line'] * (limit == 1 and lines > 1))
+
     def ask_meet(self):
         """Two exchange, and answer alike."""
         one, other = self.rng.sample(sorted(self.replicas), 2)
@@ -317,6 +343,7 @@ class Bytes(World):
     WANTED = World.WANTED + ['mr1', '64 lines and E', '64 lines and M', *[f'refusal {number}' for number in (13, 15, 16, *range(18, 24), 27)],
                              *[f'{way} mr1 with {count} alternatives' for way in ('given in', 'received in') for count in range(9)]]
     KINDS = World.KINDS | {'batch': 10, 'claim': 4, 'deliver': 7, 'forged': 4}
+    SETTLES = 25
 
     def begin(self):
         """Some ask in the first version. In some worlds lines come that nobody wrote."""
