@@ -16,6 +16,7 @@ use Rattle.mr_model.proofs.WorldKnowledge.{known_accepted, one_write, delivery_s
 use Rattle.mr_model.proofs.BatchesBring.{front_is_taken, all_is_brought}
 use Rattle.mr_model.proofs.ExchangeAlike.{exchange_same, alike}
 use Rattle.mr_model.proofs.CommittedPlaces.{places_agree, places_stay, committed_told}
+use Rattle.mr_convergence.proofs.Moments.{moments_converge}
 use Rattle.mr_service.specs.LawfulRuns.{ArePassed, KeepsHistory, TakesBatch, AgreesByExchange, KeepsPlaces, AnswersByViews, IsLawfulRun}
 use Rattle.mr_service.proofs.HeadlineLaws.{answers_by_view}
 
@@ -108,6 +109,7 @@ run_is_lawful old new steps replies h run =
       delivery = λ first last p number to bytes reply r text st er et. delivery_said first last number to bytes reply r text (first_honest h p) st er et;
       batch = λ first last p. batch_taken first last (first_honest h p);
       agreement = λ first last p. exchange_agrees first last (first_honest h p);
+      convergence = λ first last p. moments_converge first last (first_honest h p);
       places = λ first last p. places_kept first last p.steps_between p.replies_between (first_honest h p) p.between;
       primary = λ first last p s reply server r st er own at. never_truncated first last s reply server r (first_honest h p) st er own at;
       answers = λ first last p. asked_by_view first last;

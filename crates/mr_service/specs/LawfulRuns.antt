@@ -1,4 +1,4 @@
--- Runs of a world that keep the world law, six facts of every two of their moments, and the headline of their questions.
+-- Runs of a world that keep the world law, seven facts of every two of their moments, and the headline of their questions.
 use Rattle.std.specs.Prelude.{◌≡◌, ℕ, ◌+◌, ◌≤◌, true, ◌⊎◌, List, ◌++◌, Some, slice_get, Contains}
 use Rattle.mr_model.specs.Texts.{Text}
 use Rattle.mr_model.specs.Writes.{Id, Write, id_of}
@@ -11,6 +11,7 @@ use Rattle.mr_model.specs.Step.{Ask, step}
 use Rattle.mr_model.specs.World.{World, Step, Do, Deliver, StepReply, Said, replica_of, batch_numbered}
 use Rattle.mr_model.specs.Honest.{IsFront, accepted, commit_list, IsHonest, IsWorldStep, IsWorldRun}
 use Rattle.mr_model.specs.WorldLaws.{IsKnownIn, IsCountOrGap, IsDelivery, IsComplete, HasAllOf, IsExchange, TellsCommitted, IsAt}
+use Rattle.mr_convergence.specs.Convergence.{Converges}
 use Rattle.mr_service.specs.Headline.{AnswersByView}
 
 -- two moments of a run, the last behind the first or the same: the run is the steps to the first, those between, and the others
@@ -27,7 +28,7 @@ pub record ArePassed (old : World) (steps : List Step) (replies : List StepReply
   pub between : IsWorldRun first steps_between replies_between last
   pub after : IsWorldRun last steps_after replies_after new
 
--- ---- the six facts, of two such moments; out of memory aside
+-- ---- the seven facts, of two such moments; out of memory aside. (The seventh, `Converges`, is one of mr_convergence.)
 
 -- What a replica knows of a server is a front of what that server accepted, and its commit list one of the primary's; so it is with
 -- what stands in the pool. One id is that of one write at both moments. What was accepted and what was committed stays.
@@ -94,7 +95,7 @@ AnswersByViews first last =
 
 -- ---- a run
 
--- A run whose end is an honest world, and in which the six facts and the headline hold from moment to moment; each of its steps stands
+-- A run whose end is an honest world, and in which the seven facts and the headline hold from moment to moment; each of its steps stands
 -- between two.
 pub record IsLawfulRun (old : World) (steps : List Step) (replies : List StepReply) (new : World) : Type 0 where
   pub run : IsWorldRun old steps replies new
@@ -105,6 +106,7 @@ pub record IsLawfulRun (old : World) (steps : List Step) (replies : List StepRep
   pub delivery : (first last : World) → ArePassed old steps replies new first last → AnswersDelivery first last
   pub batch : (first last : World) → ArePassed old steps replies new first last → TakesBatch first last
   pub agreement : (first last : World) → ArePassed old steps replies new first last → AgreesByExchange first last
+  pub convergence : (first last : World) → ArePassed old steps replies new first last → Converges first last
   pub places : (first last : World) → ArePassed old steps replies new first last → KeepsPlaces first last
   pub primary : (first last : World) → ArePassed old steps replies new first last → NeverTruncated first last
   pub answers : (first last : World) → ArePassed old steps replies new first last → AnswersByViews first last
