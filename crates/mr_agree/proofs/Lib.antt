@@ -1,0 +1,11 @@
+pub mod AgreeRows
+pub mod AgreeCounts
+pub mod AgreeMarks
+pub mod AgreeLog
+pub mod AgreeTimes
+pub mod AgreeBookings
+pub mod AgreePlaces
+pub mod AgreeCancels
+pub mod AgreeSpans
+pub mod AgreeLimits
+pub mod TablesAgree

@@ -1,0 +1,2 @@
+-- A reader of the contracts trusts Agreeing.
+pub mod Agreeing

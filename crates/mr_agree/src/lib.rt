@@ -1,0 +1,14 @@
+//! Tables whose rows agree with each other: what each row of the tables tells again that others tell, and the law that tables which
+//! stand for a replica agree. No program code.
+//!
+//! It stands on `mr_model` alone. specs/Agreeing.antt has the definition, a `Bool` over all ten tables in thirteen parts, each of them
+//! computed. proofs/ has a file for each part or two of them, and AgreeRows: examples worked by hand, of which each that is turned in
+//! one value fails a part.
+#![tactic(auto)]
+
+ghost use Rattle.mr_agree.specs.Agreeing.{StandingTablesAgree};
+
+/// The rows of tables that stand for a replica agree with each other.
+pub fn agreement_of_rows_law()
+    ensures agree { StandingTablesAgree }
+{}
