@@ -9,3 +9,4 @@ pub mod AgreeCancels
 pub mod AgreeSpans
 pub mod AgreeLimits
 pub mod TablesAgree
+pub mod FreeIds

@@ -1,2 +1,3 @@
--- A reader of the contracts trusts Agreeing.
+-- A reader of the contracts trusts both.
 pub mod Agreeing
+pub mod Ids

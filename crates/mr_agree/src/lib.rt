@@ -7,8 +7,10 @@
 #![tactic(auto)]
 
 ghost use Rattle.mr_agree.specs.Agreeing.{StandingTablesAgree};
+ghost use Rattle.mr_agree.specs.Ids.{NextIdsAreFree};
 
-/// The rows of tables that stand for a replica agree with each other.
+/// The rows of tables that stand for a replica agree with each other, and none has an id that is still to be given out.
 pub fn agreement_of_rows_law()
     ensures agree { StandingTablesAgree }
+    ensures free { NextIdsAreFree }
 {}
