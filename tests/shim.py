@@ -1,4 +1,4 @@
-"""The shims refuse_nth.c and refuse_each.c, compiled, and the wishes that the first one reads."""
+"""The shims refuse_nth.c, refuse_each.c and fail_nth.c, compiled, and the wishes that the first and the last one read."""
 
 import mmap
 import os
@@ -24,19 +24,19 @@ def built(source, folder):
 
 
 class Shim:
-    """Refuses allocations of the processes that run in its environment, one at a time."""
+    """Refuses allocations of the processes that run in its environment, one at a time; or with fail_nth.c fails their calls of the disk."""
 
-    def __init__(self):
+    def __init__(self, source='refuse_nth.c'):
         self.folder = tempfile.TemporaryDirectory(prefix='rooms-shim-')
-        library, wishes = built('refuse_nth.c', self.folder.name), f'{self.folder.name}/wishes'
+        library, wishes = built(source, self.folder.name), f'{self.folder.name}/wishes'
         with open(wishes, 'w+b') as file:
             file.write(bytes(WISHES.size))
             file.flush()
             self.mapped = mmap.mmap(file.fileno(), WISHES.size)
-        self.environment = {**os.environ, 'LD_PRELOAD': library, 'REFUSE_FILE': wishes}
+        self.environment = {**os.environ, 'LD_PRELOAD': library, 'REFUSE_FILE': wishes, 'FAIL_FILE': wishes}
 
     def refuse(self, nth, has_more=False):
-        """From now on the allocation of this number is refused, or none where it is 0; the counts begin anew."""
+        """From now on the allocation, or the call, of this number is refused, or none where it is 0; the counts begin anew."""
         self.mapped[:] = WISHES.pack(nth, has_more, 0, 0)
 
     def seen(self):

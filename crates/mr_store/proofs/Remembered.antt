@@ -1,10 +1,11 @@
 -- How the calls follow on one another of a keeper that has its rows in memory, and what these rows answer.
+use Rattle.std.specs.Prelude.{OnOk, OnErr}
 use Rattle.std.proofs.Common.{◌≡◌, sym, ap, subst, ◌∙◌, Option, Some, None, Result, Ok, Err}
 use Rattle.mr_model.specs.Tables.{Tables, Stands}
-use Rattle.mr_tables.specs.Change.{ChangeView}
+use Rattle.mr_tables.specs.Change.{ChangeView, changed}
 use Rattle.mr_store.specs.declared.keeper.Fault.{Fault}
 use Rattle.mr_store.specs.declared.keeper.Keeper.{Ghosts}
-use Rattle.mr_store.specs.Cached.{IsMemoryOf, NeverFails}
+use Rattle.mr_store.specs.Cached.{IsMemoryAfter, IsMemoryOf, NeverFails}
 use Rattle.mr_store.specs.KeeperCalls.{failures_after, IsAtomic, IsQuiet}
 
 -- a call that leaves the tables, as it is said of the keeper below
@@ -72,10 +73,10 @@ Atomic k change old new r = IsAtomic k.tables k.failures k.is_clean k.is_open k.
 abbrev pub AtomicAbove : {K X : Type 0} → Ghosts K → ChangeView → K → K → Result X Fault → Type 0
 AtomicAbove k change old new r = IsAtomic k.tables k.failures k.is_clean k.is_open k.may_leave (NeverFails k) change old new r
 
--- a change that was refused
-pub not_changed : {K X : Type 0} (k : Ghosts K) (change : ChangeView) (old at new end : K) (r : Result X Fault) → at ≡ old → end ≡ new → Atomic k change at new r → AtomicAbove k change old end r
-not_changed k change old at new end r is ends q =
-    subst (λ e. AtomicAbove k change old e r) (sym ends) (subst (λ o. AtomicAbove k change o new r) is (record {
+-- a change of the keeper below is one of the keeper with its rows in memory
+pub changed_above : {K X : Type 0} (k : Ghosts K) (change : ChangeView) (old at new : K) (r : Result X Fault) → at ≡ old → Atomic k change at new r → AtomicAbove k change old new r
+changed_above k change old at new r is q =
+    subst (λ o. AtomicAbove k change o new r) is (record {
       clean = q.clean;
       opens = q.opens;
       lasts = q.lasts;
@@ -85,4 +86,14 @@ not_changed k change old at new end r is ends q =
       sure = λ never. q.sure never.0;
       crash = q.crash;
       settled = q.settled;
-    }))
+    })
+
+changed_rows : {K X : Type 0} (k : Ghosts K) (change : ChangeView) (old new : K) (x : X) (before after : Option Tables) → Atomic k change old new (Ok x) → IsMemoryOf k old before → IsMemoryAfter change before after → IsMemoryOf k new after
+changed_rows k change old new x before None q was is = tt
+changed_rows k change old new x None (Some t) q was is = absurd is
+changed_rows k change old new x (Some s) (Some t) q was is = λ u o. is ∙ ap (changed change) (was (q.clean u) (q.opens u o)) ∙ sym (q.applied u o)
+
+-- the rows in memory are still those of the keeper, once both are changed or the rows are forgotten
+pub changed_both : {K X : Type 0} (k : Ghosts K) (change : ChangeView) (old new : K) (r : Result X Fault) (before after : Option Tables) → Atomic k change old new r → IsMemoryOf k old before → OnOk r (IsMemoryAfter change before after) → OnErr r (after ≡ None) → IsMemoryOf k new after
+changed_both k change old new (Ok x) before after q was made forgotten = changed_rows k change old new x before after q was made
+changed_both k change old new (Err e) before after q was made forgotten = subst (λ m. IsMemoryOf k new m) (sym forgotten) tt

@@ -1,4 +1,4 @@
-ghost use Rattle.std.specs.Prelude.{◌≡◌, ℕ, false, IfOk};
+ghost use Rattle.std.specs.Prelude.{◌≡◌, ℕ, false, IfOk, OnOk, OnErr};
 ghost use Rattle.mr_store.specs.KeeperCalls.{failures_after, IsAtomic, IsQuiet};
 ghost use Rattle.mr_store.specs.Cached.{IsMemoryAfter, IsMemoryOf, NeverFails};
 
@@ -83,20 +83,23 @@ impl<K: Keeper> Cached<K> {
             }
         }
     }
+}
 
-    /// Makes the change in the keeper first and then in memory.
-    fn write_through(&mut self, change: &Change) -> Result<(), Fault>
-        ensures atomic { IsAtomic K.tables K.failures K.is_clean K.is_open K.may_leave (NeverFails K.Keeper) change.now self.old self.new result }
-    {
-        let memory = self.memory.take();
-        match self.keeper.apply(change) {
-            Ok(()) => {
-                self.memory = change_memory(memory, change);
-                Ok(())
-            }
-            Err(fault) => Err(fault),
-        }
-    }
+/// Makes the change in the keeper first and then in the rows in memory. Where the keeper fails to make it, they are forgotten: a
+/// failure may have shut it, and then it is the keeper that has to answer what is asked from now on.
+fn write_through<K: Keeper>(
+    keeper: &mut K,
+    memory: &mut Option<Remembered>,
+    change: &Change,
+) -> Result<(), Fault>
+    ensures atomic { IsAtomic K.tables K.failures K.is_clean K.is_open K.may_leave K.never_fails change.now keeper.old keeper.new result }
+    ensures made { OnOk result (IsMemoryAfter change.now memory.old memory.new) }
+    ensures forgotten { OnErr result (memory.new ≡ None) }
+{
+    let rows = memory.take();
+    keeper.apply(change)?;
+    *memory = change_memory(rows, change);
+    Ok(())
 }
 
 /// Makes the change in the rows in memory, if there are any. Where memory doesn't take it, they are forgotten.
@@ -240,6 +243,6 @@ impl<K: Keeper> Keeper for Cached<K> {
     }
 
     fn apply(&mut self, change: &Change) -> Result<(), Fault> {
-        self.write_through(change)
+        write_through(&mut self.keeper, &mut self.memory, change)
     }
 }
