@@ -328,6 +328,40 @@ run_strange() {
     strange 'a table too few' 1 'refused 26 NotAReplica' 'DROP TABLE errorlog'
 }
 
+# an export that is refused, or whose batch would be longer than 16 MiB, leaves the file that was there
+run_kept_files() {
+    local folder=$scratch/commands
+    blank 1 1
+    printf 'an earlier batch\n' > "$folder/earlier"
+    cp -- "$folder/earlier" "$folder/kept"
+    printf 'mp2 9 2\nK 0\nE\n' > "$folder/position"
+    expect_line 'an export for another primary' 1 'refused 16 WrongPrimary' export "$database" "$folder/position" "$folder/kept" 10
+    same 'the file of a refused export' "$folder/kept" "$folder/earlier"
+    if ! command -v sqlite3 > /dev/null; then
+        echo 'skipped: a batch of more than 16 MiB (no sqlite3)'
+        return
+    fi
+    expect_line 'a room of many requests' 0 'ok' add-room "$database" oak
+    expect_line 'a whole day' 0 '1-1 T 1995-12-18 00:00-24:00' book "$database" oak 1440 1995-12-18 00:00 Closed
+    expect_line 'a request that finds no slot' 0 '1-2 T logged' book "$database" oak 60 1995-12-18 13:30 Late \
+        $(printf '1995-12-18T13:30 %.0s' $(seq 16))
+    # as many like it as make 16 MiB of lines, each of more than 300 bytes
+    sqlite3 "$database" 2> "$scratch/err" <<'SQL'
+begin;
+with recursive w (n) as (select 3 union all select n + 1 from w where n < 56000)
+insert into log select server, w.n, w.n, room, kind, length, choices, title, tserver, tn, place, seq from w, log where log.n = 2;
+insert into errorlog select e.room, e.day, e.start, e.stop, e.server, log.n, e.title, log.tm, e.seq from log, errorlog e where e.n = 2 and log.n > 2;
+update vector set n = 56000, tm = 56000;
+update meta set clock = 56000;
+commit;
+SQL
+    printf 'mp2 9 1\nK 0\nE\n' > "$folder/position"
+    expect_line 'a batch of more than 16 MiB' 3 'fault file' export "$database" "$folder/position" "$folder/kept" 60000
+    same 'the file of a batch that is too long' "$folder/kept" "$folder/earlier"
+    # 310 bytes a line and the figures of a count twice; one line of 43, a head of 8 and an end of 2
+    expect_line 'a batch of fewer lines' 0 'wrote 3177209 bytes' export "$database" "$folder/position" "$folder/kept" 9999
+}
+
 # on_databases NAME SCRIPT EXPECTED: the script, each line a command on a database, is replied as it is over lists
 on_databases() {
     local folder
@@ -350,6 +384,7 @@ run_commands() {
     run_counted_lines
     run_counted_commits
     run_strange
+    run_kept_files
     if ! command -v python3 > /dev/null; then
         echo 'skipped: scripts on databases (no python3)'
         return

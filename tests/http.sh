@@ -97,6 +97,12 @@ run_served() {
     expect_line 'serving where no database is' 1 'refused 26 NotAReplica' serve "$folder/none.db" 20000 1
     expect_line 'serving nobody' 0 'serving 127.0.0.1:20321' serve "$folder/a.db" 20321 0
     expect_line 'a port that is none' 2 'bad command line' serve "$folder/a.db" 0 1
+    # where another process has the port, nothing is printed that says it is served
+    expect_line 'init of what finds its port taken' 0 'ok' init "$folder/taken.db" 1 1
+    serve "$folder/a.db" 1
+    expect_line 'a port that is taken' 3 'fault network' serve "$folder/taken.db" "$port" 1
+    asked 'the sheet at the port that is taken' 200 "$sheet" /rooms/oak/days/1995-12-18
+    served 'the line at the port that is taken' 200
 }
 
 # cancelled NAME STATUS BODY JSON: the cancellation with this text is answered so
@@ -297,7 +303,7 @@ run_exchanges() {
     served 'the lines of an exchange' 200 200 200
     : > "$scratch/out"
     : > "$scratch/wanted"
-    told 'no connection of an exchange waits for another' "$((SECONDS >= 25))" 0 "$scratch/wanted"
+    told 'no connection of an exchange waits for another' "$((SECONDS >= 9))" 0 "$scratch/wanted"
     expect 'the sheet of the office that served' 0 "$folder/sheet" sheet "$folder/one.db" oak 1995-12-18
     expect 'the sheet of the office that asked' 0 "$folder/sheet" sheet "$folder/two.db" oak 1995-12-18
 
