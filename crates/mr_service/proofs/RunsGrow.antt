@@ -1,5 +1,6 @@
 -- A run under way grows by what a service is asked.
-use Rattle.std.proofs.Common.{◌≡◌, refl, ap, subst, ◌∙◌, ℕ, ◌<◌, ◌≤◌, List, [], ◌∷◌, ◌++◌, ◌⊎◌, inl, inr, Result, Ok, Err, IfOk, arith}
+use Rattle.std.proofs.Common.{◌≡◌, refl, ap, subst, ◌∙◌, ℕ, ◌<◌, ◌≤◌, List, [], ◌∷◌, ◌++◌, ◌⊎◌, inl, inr, Result, Ok, Err, IfOk, length, arith}
+use Rattle.std.proofs.lemmas.List.{length-append}
 use Rattle.mr_model.specs.Refusals.{Store}
 use Rattle.mr_model.specs.Replies.{Reply, Refused}
 use Rattle.mr_model.specs.Replica.{Replica}
@@ -69,6 +70,7 @@ under_way clean_now open_now sure t f = record {
   clean = λ k. k;
   opens = λ k o. o;
   takes = λ k o. takes_nothing t;
+  each = refl;
   rises = omega arith;
   counts = λ told. absurd told;
   none_fails = λ s k o a h. refl;
@@ -86,6 +88,7 @@ under_way_grows clean0 clean1 clean2 open0 open1 open2 sure t0 t1 t2 f0 f1 f2 cs
   clean = λ k. w.clean (clean k);
   opens = λ k o. w.opens (clean k) (opens k o);
   takes = λ k o. takes_run_grows t0 t1 t2 cs rs c r (w.takes (clean k) (opens k o)) (step k o);
+  each = let before : length rs ≡ length cs = w.each in omega (arith, length-append rs (r ∷ []), length-append cs (c ∷ []));
   rises = let le : f0 ≤ f1 = w.rises in let more : f1 ≤ f2 = counts.0 in omega arith;
   counts = λ told. counted f0 f1 f2 rs r w.rises w.counts counts (tells_last rs r told);
   none_fails = λ s k o a h.

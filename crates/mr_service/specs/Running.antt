@@ -1,5 +1,5 @@
 -- How far a run has come.
-use Rattle.std.specs.Prelude.{ℕ, ◌<◌, ◌≤◌, ◌⊎◌, List, [], ◌∷◌}
+use Rattle.std.specs.Prelude.{◌≡◌, ℕ, ◌<◌, ◌≤◌, ◌⊎◌, List, [], ◌∷◌, length}
 use Rattle.mr_model.specs.Replies.{Reply}
 use Rattle.mr_model.specs.Serving.{TakesRun}
 use Rattle.mr_model.specs.Step.{Command, IsOfMachine}
@@ -17,6 +17,7 @@ pub record UnderWay (clean_then clean_now open_then open_now sure : Type 0) (bef
   pub clean : clean_now → clean_then
   pub opens : clean_now → open_now → open_then
   pub takes : clean_now → open_now → TakesRun before commands replies after
+  pub each : length replies ≡ length commands
   pub rises : old ≤ new
   pub counts : TellsFailure replies → old < new
   pub none_fails : sure → clean_now → open_now → NoneFails before old new

@@ -1,4 +1,4 @@
-ghost use Rattle.std.specs.Prelude.{◌≡◌, ◌+◌, ◌<◌, ◌≤◌, [], ◌∷◌, ◌++◌, map, vec_len, vec_capacity, IfOk, IfErr, OnErr};
+ghost use Rattle.std.specs.Prelude.{◌≡◌, ◌+◌, ◌<◌, ◌≤◌, [], ◌∷◌, ◌++◌, length, map, vec_len, vec_capacity, IfOk, IfErr, OnErr};
 ghost use Rattle.mr_model.specs.Replica.{Replica};
 ghost use Rattle.mr_model.specs.Serving.{Serves};
 ghost use Rattle.mr_model.specs.Tables.{Stands};
@@ -14,8 +14,8 @@ use mr_base::Refusal;
 use mr_store::{Keeper, ListKeeper};
 use std::alloc::{AllocError, Global};
 
-/// Asks each command in turn, and lists the replies. The list's memory is taken before the first command: where it is
-/// wanting, nothing is asked.
+/// Asks each command in turn, whatever the earlier ones were replied, and lists the replies, one for each. The list's memory is taken
+/// before the first command: where it is wanting, nothing is asked.
 pub fn run<K: Keeper>(
     alloc: Global,
     service: &mut Service<K>,
@@ -27,6 +27,7 @@ pub fn run<K: Keeper>(
         → IfOk result (λ replies. Serves (K.tables service.old) (map command_seen commands.now) (map reply_of replies.items) (K.tables service.new)) }
     ensures replied { K.is_clean service.new → K.is_open service.old
         → IfOk result (λ replies. RepliesToAll (K.tables service.old) (map command_seen commands.now) (map reply_of replies.items)) }
+    ensures each { IfOk result (λ replies. length replies.items ≡ length commands.now) }
     ensures counts { IfOk result (λ replies. TellsFailure (map reply_of replies.items) → K.failures service.old < K.failures service.new) }
     ensures sure { K.never_fails → K.is_clean service.new → K.is_open service.new
         → NoneFails (K.tables service.old) (K.failures service.old) (K.failures service.new) }

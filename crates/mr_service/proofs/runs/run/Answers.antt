@@ -1,5 +1,5 @@
 use Rattle.std.proofs.Common.{◌≡◌, sym, ap, subst, ◌∙◌, ◌+◌, ◌≤◌, [], ◌∷◌, ◌++◌, map, take, length, vec_len, vec_capacity, arith}
-use Rattle.std.proofs.lemmas.List.{map_more, map_push, take_all}
+use Rattle.std.proofs.lemmas.List.{length-map, map_more, map_push, take_all}
 use Rattle.mr_model.specs.Serving.{TakesRun}
 use Rattle.mr_model.proofs.ServedTables.{takes_run_serves}
 use Rattle.mr_service.specs.Asked.{command_seen, reply_of}
@@ -44,6 +44,14 @@ returns-clause-serves g c = λ k o.
     subst (λ cs. TakesRun (g.K.Keeper.tables c.args.service.now) (map command_seen cs) (map reply_of c.loop-command.replies.items) (g.K.Keeper.tables c.loop-command.service)) all
     (c.loop-command.invariant.0.takes k o) in
     takes_run_serves (g.K.Keeper.tables c.args.service.now) (g.K.Keeper.tables c.loop-command.service) (map command_seen c.args.commands.now) (map reply_of c.loop-command.replies.items) run
+
+pub returns-clause-each : goal.returns-clause-each
+returns-clause-each g c =
+    let all : take c.loop-command.command-index c.args.commands.now ≡ c.args.commands.now = take_all c.loop-command.command-index c.args.commands.now c.loop-command-test.false in
+    sym (length-map c.loop-command.replies.items reply_of)
+    ∙ c.loop-command.invariant.0.each
+    ∙ length-map (take c.loop-command.command-index c.args.commands.now) command_seen
+    ∙ ap length all
 
 pub returns-clause-replied : goal.returns-clause-replied
 returns-clause-replied g c = λ k o.
