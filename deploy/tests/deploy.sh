@@ -176,6 +176,11 @@ deploy_proxy() {
     through 'a request without a password' 401 '' /submit -d "$json"
     through 'a batch without a password' 401 '' /pull -d x
     through 'the page' 200 readers /
+    held 'it runs its own files alone' grep -qi "^content-security-policy: default-src 'none'; script-src 'self'; style-src 'self'; connect-src 'self';" \
+        "$deploy_scratch/head"
+    is 'and nothing within them' "$(grep -c unsafe "$deploy_scratch/head")" 0
+    through 'the display at a door' 200 readers /door.html
+    through 'the display without a password' 401 '' /door.html
     through 'the rooms of the office' 200 readers /rooms.json
     through 'a reader who books' 401 readers /submit -d "$json"
     through 'a reader who cancels' 401 readers /cancel -d "$cancel"

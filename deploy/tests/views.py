@@ -160,6 +160,11 @@ def printing():
     check('the page is back', 'sheet' in page.run(shown))
 
 
+def fits(selector):
+    return page.run('const box = document.querySelector(arguments[0]).getBoundingClientRect();'
+                    'return box.left >= 0 && box.top >= 0 && box.right <= innerWidth && box.bottom <= innerHeight', selector)
+
+
 def a_phone():
     write_rooms(rooms_json, TWELVE, zone='Europe/Berlin')
     show(f'#{DAY}', again=True)
@@ -183,12 +188,28 @@ def a_phone():
     page.picture_of('phone')
     page.click('#go-on')
     check('the form is reached', page.run('return document.activeElement.id') == 'title')
+    page.set('#wish-start', '10:30')
+    page.until('a clash is named on a phone', '#clash', '09:30 to 11:30 is Workshop.')
+    page.write('#title', 'In the way')
+    page.click('#send')
+    page.until('and asks there', '#question', 'Ask all the same?')
+    check('the question fits', fits('#question'))
+    page.click('#question button:last-child')
+    page.click('#clear')
+    page.click(booking('room-b', '09:30'))
+    page.until('a box on a phone', '#box', 'Workshop')
+    check('the box fits', fits('#box'))
+    page.click('#box [data-box=close]')
+    check('the link to subscribe is that of the room', page.attribute('#calendar-link', 'href') == 'room-b.ics', page.attribute('#calendar-link', 'href'))
     for view in ('find', 'week'):
         show(f'#{DAY}/{view}/room-b')
         page.until(f'{view} on a phone', '#sheet-title', 'Room B' if view == 'week' else 'Free')
         time.sleep(0.3)
         wide = page.run('return document.documentElement.scrollWidth - window.innerWidth')
         check(f'{view} needs no scrolling of the page sideways', wide <= 0, wide)
+    page.open(f'{page.bare}/door.html#room-e')
+    page.until('the door on a narrow screen', '#word', 'Free')
+    check('it fits', page.run('return document.documentElement.scrollHeight <= innerHeight && document.documentElement.scrollWidth <= innerWidth'))
     page.resize(1280, 900)
     write_rooms(rooms_json, THREE, zone='Europe/Berlin')
 
@@ -220,7 +241,7 @@ def names_and_colours(name):
     tree = page.devtools('Accessibility.getFullAXTree')['nodes']
     nameless = [node['role']['value'] for node in tree if not node['ignored'] and node['role']['value'] in
                 ('button', 'textbox', 'combobox', 'link', 'DateTime', 'Date', 'InputTime', 'dialog', 'alertdialog', 'group', 'region', 'navigation')
-                and not node.get('name', {}).get('value')]
+                and not re.search(r'\w', node.get('name', {}).get('value') or '')]
     check(f'{name}: all has a name', nameless == [], nameless)
     for scheme in ('light', 'dark'):
         page.devtools('Emulation.setEmulatedMedia', features=[{'name': 'prefers-color-scheme', 'value': scheme}])
@@ -247,7 +268,7 @@ def access():
     for _ in range(40):
         page.keys('\ue004')
         reached.append(page.run('const at = document.activeElement; return at.id || at.dataset.view || (at.dataset.key && "grid") || at.tagName'))
-    for wanted in ('skip', 'day', 'week', 'find', 'before', 'today', 'after', 'at-room', 'print-door', 'door-link', 'grid', 'room', 'wish-day',
+    for wanted in ('skip', 'day', 'week', 'find', 'before', 'today', 'after', 'at-room', 'print-door', 'door-link', 'calendar-link', 'grid', 'room', 'wish-day',
                    'wish-start', 'length', 'title', 'send', 'clear'):
         check(f'Tab reaches {wanted}', wanted in reached, reached)
     check('the grid is one stop', reached.count('grid') == 1, reached)
@@ -271,8 +292,12 @@ def a_door():
         return
     today, minute = now.date().isoformat(), now.hour * 60 + now.minute
     text = lambda at: f'{at // 60:02}:{at % 60:02}'
-    start, end = max(0, minute - 5), min(minute + 12, 1440)
-    office.between(lambda: office.rooms('book', 'room-d', str(end - start), today, text(start), 'Present meeting'))
+    start, change, end = max(0, minute - 5), minute + 8, minute + 12
+
+    def book():
+        office.rooms('book', 'room-d', str(change - start), today, text(start), 'Present meeting')
+        office.rooms('book', 'room-d', str(end - change), today, text(change), 'Straight after')
+    office.between(book)
     write_rooms(rooms_json, TWELVE, zone='Europe/Berlin')
     page.open(f'{page.bare}/door.html#room-e')
     page.until('a free room', '#word', 'Free')
@@ -283,6 +308,7 @@ def a_door():
     page.until('a taken room', '#word', 'Taken')
     page.until('until when', '#until', f'until {text(end)}')
     page.until('by what', '#title', 'Present meeting')
+    page.until('and what comes next', '#next', f'Next: {text(change)}–{text(end)} Straight after')
     page.until('its name', '#room', 'Room D, floor 4')
     size = page.run('return parseFloat(getComputedStyle(document.querySelector("#word")).fontSize) / Math.min(innerWidth, innerHeight)')
     check('a word to be read from five metres', size > 0.3, size)
