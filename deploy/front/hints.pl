@@ -396,6 +396,7 @@ sub hint {
     elsif ($status == 0 and $line =~ /^(\d+-\d+) [TC] logged$/) { no_room($1, $name, @words) }
     elsif ($status == 0 and $line =~ /^\d+-\d+ [TC] void (\d+-\d+)$/) { cancelled_nothing($1, @words) }
     say_line($said) if defined $said;
+    say_line("no connection was asked for, so it has ended: rooms serve $words[0] $words[1] 1000 serves a thousand") if $status == 0 and $name eq 'serve';
     say_line("$words[3] is past; the request stands all the same") if $status == 0 and $name eq 'book' and $words[3] lt day_ahead(0);
 }
 

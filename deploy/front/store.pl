@@ -237,7 +237,8 @@ sub port_fault {
     my ($port) = @_;
     my ($socket, $address) = socket_to('127.0.0.1', $port) or return;
     setsockopt $socket, Socket::SOL_SOCKET(), Socket::SO_REUSEADDR(), 1;
-    return if bind $socket, $address and listen $socket, 1;
+    # nobody could connect to a socket that doesn't listen
+    return if bind $socket, $address;
     return "port $port can't be had for you (" . user() . '): ports below 1024 are root\'s' if $! == 13;
     for my $file (glob '/proc/[0-9]*/cmdline') {
         my ($process) = $file =~ m{/proc/(\d+)/};
@@ -292,8 +293,8 @@ sub guessed_line {
 
 # Whether `serve` will surely end at once.
 sub foresees {
-    my ($name, $database, $port, @more) = @_;
-    return 1 if @more != 1 or "$port $more[0]" !~ /^[1-9]\d{0,4} (0|[1-9]\d{0,8})$/ or $port > 65535;
+    my (undef, $database, $port, @more) = @_;
+    return 1 if @more != 1 or "$port $more[0]" !~ /^[1-9]\d{0,4} [1-9]\d{0,8}$/ or $port > 65535;
     return 1 if not -s $database or defined cause_of(1, $database) or defined port_fault($port);
     return ask('position', $database) !~ /^mp2 /;
 }

@@ -10,6 +10,7 @@ import fcntl
 import os
 import pty
 import select
+import shutil
 import signal
 import socket
 import subprocess
@@ -312,7 +313,22 @@ def served(t):
         t.same('and answers again', t.call('sheet', 's.db', 'oak', DAY)[0], 0)
     status, shown = t.at_terminal('serve', 's.db', port, '9', keys=b'\x03')
     t.same('control-C at a terminal', (status, shown.startswith(f'serving 127.0.0.1:{port}\n')), (-signal.SIGINT, True))
+    status, out, err = t.hinted('serve', 's.db', port, '0')
+    t.same('nobody is served', (status, out), (0, f'serving 127.0.0.1:{port}\n'))
+    t.has('it is said why it ends', err, 'no connection was asked for')
     t.same('the program itself, served', t.start('serve', 's.db', port, '0', program=t.program).communicate()[0], f'serving 127.0.0.1:{port}\n')
+
+
+def itself(t):
+    """A front that is told to run itself, or another front, doesn't go on for ever."""
+    copy = t.path('copied')
+    shutil.copytree(os.path.dirname(t.front), copy)
+    front = os.path.join(copy, 'rooms')
+    t.same('a front of no program', t.call('position', 'd.db', program=front, env={'ROOMS_BINARY': front})[0], 4)
+    os.symlink(front, t.path('link'))
+    t.same('by another name', t.call('position', 'd.db', program=front, env={'ROOMS_BINARY': t.path('link')})[0], 4)
+    t.same('another front', t.call('position', 'd.db', env={'ROOMS_BINARY': front})[0], 4)
+    t.same('the program', t.call('position', 'd.db', program=front)[0], 0)
 
 
 def signals(t):
@@ -388,7 +404,7 @@ def main(arguments):
         print(__doc__, file=sys.stderr)
         return 2
     t = Tests(*arguments)
-    for group in helps, same_lines, same_outputs, words, rooms_taken, turns, served, signals, limits, rights:
+    for group in helps, same_lines, same_outputs, words, rooms_taken, turns, served, itself, signals, limits, rights:
         group(t)
     print(f'{t.passed} passed, {t.failed} failed')
     return 1 if t.failed else 0

@@ -97,6 +97,15 @@ ash              Ash, 3rd floor'
     is 'it can be booked' "$(curl -s "http://127.0.0.1:$(sed -n 's/^PORT=//p' "$ROOMS_ETC/west.conf")/rooms/box/errors" --retry 5 --retry-connrefused | head -n 1)" \
         'box errors'
     is 'the rooms while it is served' "$("$office" rooms west | grep -c .)" 6
+    "$ROOMS_PROGRAM" init "$folder/north.db" 9 1 > /dev/null
+    sed "s/^SERVER=.*/SERVER=9/" "$ROOMS_ETC/west.conf" > "$ROOMS_ETC/north.conf"
+    mkdir "$ROOMS_STATE/north"
+    is 'an office without its database' "$(ROOMS_BINARY=$ROOMS_PROGRAM ROOMS_PROGRAM=$deploy/front/rooms "$office" serve north 2>&1 | tail -n 1)" \
+        "rooms-office: nothing is served: refused 26 NotAReplica (status 1): there is no $ROOMS_STATE/north/rooms.db; \`rooms init $ROOMS_STATE/north/rooms.db SERVER PRIMARY\` makes a database"
+    mv "$folder/north.db" "$ROOMS_STATE/north/rooms.db"
+    is 'an office whose port is taken' "$("$office" serve north 2>&1 | tail -n 1 | sed 's/[0-9]\{5\}/PORT/')" \
+        'rooms-office: nothing is served: fault network (status 3): the port PORT is taken by another program'
+    rm -r "$ROOMS_ETC/north.conf" "$ROOMS_STATE/north"
     refuses 'an office that is served is not removed' 1 'west is served: end that first' remove west
     stop_serving
 }
