@@ -28,7 +28,7 @@ LINES = 64
 TABLES = ('log', 'booking', 'errorlog', 'cancelled')
 
 Row = namedtuple('Row', 'server n time room kind length choices title tserver tn place seq')
-Write = namedtuple('Write', 'server n time room day')
+Write = namedtuple('Write', 'server n time room')
 Commit = namedtuple('Commit', 'seq server n')
 
 
@@ -135,10 +135,9 @@ class Command:
     def truncate(self, number):
         self.logs_between(1, min(number, self.commits))
 
-    def batch_for(self, commits, counts):
-        """A batch for a position with so many commits, and with these counts of servers."""
-        self.ask('LATE_LOGS', 0, self.commits if commits < self.commits else 0,
-                 passes=lambda row: row[11] > commits or row[11] == 0 and row[1] > counts.get(row[0], 0))
+    def batch_for(self, commits):
+        """A batch for a position with so many commits."""
+        self.ask('LATE_LOGS', 0, self.commits if commits < self.commits else 0, passes=lambda row: row[11] > commits or row[11] == 0)
 
     def receive(self, items):
         rows = {Row(*row) for item in items for row in self.ask('select_key_log', item.server, item.n)}
@@ -150,10 +149,8 @@ class Command:
             rows |= {Row(*row) for row in self.ask(
                 'LATE_LOGS', 0 if numbers else first[0], max(numbers, default=0),
                 passes=lambda row: row[11] in numbers or row[11] == 0 and (row[2], row[0]) >= first and row[3] in rooms)}
-        moved = {row.room for row in rows if row.seq == 0 and (row.time, row.server) >= first}
-        days = {(item.room, item.day) for item in items if isinstance(item, Write)}
         for query in ('ALL_BOOKINGS', 'ALL_CANCELLED') if rooms else ():
-            self.ask(query, passes=lambda row: row[0] in rooms and (row[0] in moved or (row[0], row[1]) in days))
+            self.ask(query, passes=lambda row: row[0] in rooms)
 
     def touched(self, items, rows):
         """The rooms of the writes, and of those that new commits name."""
@@ -167,8 +164,8 @@ def commands(bookings):
     """The database, the words and the questions of each kind of command."""
     commits, dropped = bookings // 5, bookings // 20
     last = bookings + len(cancelled(bookings))
-    on_top = [Write(2, bookings + k, last + k, f'oak-{k % ROOMS}', date(bookings + k)) for k in range(1, LINES + 1)]
-    early = [Write(4, k, k, f'oak-{k % ROOMS}', date(k)) for k in range(1, LINES + 1)]
+    on_top = [Write(2, bookings + k, last + k, f'oak-{k % ROOMS}') for k in range(1, LINES + 1)]
+    early = [Write(4, k, k, f'oak-{k % ROOMS}') for k in range(1, LINES + 1)]
     known = [Commit(dropped + k, 2, dropped + k) for k in range(1, LINES + 1)]
     new = [Commit(commits + k, 2, commits + k) for k in range(1, LINES + 1)]
     return [
@@ -178,9 +175,8 @@ def commands(bookings):
         ('primary', f'a commit of {LINES}', lambda it: it.commit(LINES)),
         ('primary', 'a commit of all', lambda it: it.commit(last)),
         ('other', f'a truncation, {LINES} commits more', lambda it: it.truncate(dropped + LINES)),
-        ('other', f'a batch for a position that lacks {LINES} writes', lambda it: it.batch_for(commits, {2: bookings, 3: last - bookings - LINES})),
-        ('other', 'a batch for a position that lacks all tentative writes', lambda it: it.batch_for(commits, {2: commits})),
-        ('other', 'a batch for a position with the dropped commits and their writes alone', lambda it: it.batch_for(dropped, {2: dropped})),
+        ('other', 'a batch for a position with all commits', lambda it: it.batch_for(commits)),
+        ('other', 'a batch for a position with the dropped commits alone', lambda it: it.batch_for(dropped)),
         ('other', f'{LINES} writes on top received, in five rooms', lambda it: it.receive(on_top)),
         ('other', f'{LINES} early writes received, in five rooms', lambda it: it.receive(early)),
         ('other', f'{LINES} commits received that are known', lambda it: it.receive(known)),
