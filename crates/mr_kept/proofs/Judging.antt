@@ -54,7 +54,7 @@ pub small_server : (w : Write) → IsTrue (is_write w) → w.stamp.server < 100
 small_server w h = let top : w.stamp.server ≤ 99 = (server_bounds w h).1 in omega arith
 
 -- the cases of the definitions by their tests
-abbrev write_cases : ℕ → Progress → Write → Bool → Bool → Bool → Bool → Bool → Bool → Result Progress model.Refusal
+abbrev pub write_cases : ℕ → Progress → Write → Bool → Bool → Bool → Bool → Bool → Bool → Result Progress model.Refusal
 write_cases line p w a b c d e f =
     cond (a && b) (Ok p) (cond (a && c) (Ok p) (cond a (Err (model.Forged line)) (cond d (Err (model.OwnWrite line)) (cond e (Err (model.Gap line)) (cond f (Err (model.OutOfOrder line)) (Ok (with_new_write p w)))))))
 
@@ -127,7 +127,7 @@ JudgedCommit line p q id (Ok true) = (take_commit line p q id ≡ Ok (with_new_c
 JudgedCommit line p q id (Ok false) = take_commit line p q id ≡ Ok p
 JudgedCommit line p q id (Err e) = take_commit line p q id ≡ Err (refusal_of e)
 
-abbrev commit_cases : ℕ → Progress → Id → Bool → Bool → Bool → Bool → Bool → Bool → Bool → Result Progress model.Refusal
+abbrev pub commit_cases : ℕ → Progress → Id → Bool → Bool → Bool → Bool → Bool → Bool → Bool → Result Progress model.Refusal
 commit_cases line p id a b c d e f g =
     cond a (Ok p) (cond (b && c) (Ok p) (cond b (Err (model.Forged line)) (cond d (Err (model.PrimaryOnly line)) (cond e (Err (model.Gap line)) (cond f (Err (model.Gap line)) (cond (not g) (Err (model.OutOfOrder line)) (Ok (with_new_commit p id))))))))
 

@@ -45,6 +45,7 @@ pub mod KeptWrites
 pub mod JudgingKept
 pub mod LearningKept
 pub mod TakingItems
+pub mod DueLines
 pub mod Tails
 pub mod Sets
 pub mod TouchedRooms

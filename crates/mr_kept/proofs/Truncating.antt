@@ -31,6 +31,12 @@ use Rattle.mr_kept.proofs.Desks.{desk_with}
 pub truncate_done : (a : Replica) (n : ℕ) → (a.server == a.primary) ≡ false → nat_lt (length a.commits) n ≡ false → truncate a n ≡ record { reply = DroppedIs (max a.dropped n); replica = record a { dropped = max a.dropped n } }
 truncate_done a n own within = λ i. step_unless a (first_refusal ((own i, PrimaryKeepsAll) ∷ (within i, BeyondCommitted) ∷ [])) (record { reply = DroppedIs (max a.dropped n); replica = record a { dropped = max a.dropped n } })
 
+-- where so many commits are dropped already, nothing changes
+pub truncate_none : (a : Replica) (n : ℕ) → (a.server == a.primary) ≡ false → nat_lt (length a.commits) n ≡ false → n ≤ a.dropped → truncate a n ≡ record { reply = DroppedIs a.dropped; replica = a }
+truncate_none a n own within low =
+    let same : max a.dropped n ≡ a.dropped = omega arith in
+    truncate_done a n own within ∙ (λ i. record { reply = DroppedIs (same i); replica = record a { dropped = same i } })
+
 length-take_le : {A : Type 0} (n : ℕ) (xs : List A) → n ≤ length xs → length (take n xs) ≡ n
 length-take_le zero xs h = refl
 length-take_le (suc n) [] h = absurd (omega arith)

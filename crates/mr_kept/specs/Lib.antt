@@ -1,5 +1,5 @@
 -- A reader of the contracts trusts Log, Desk, DeskTables, Placing, KeptRows, KeptWrites, SoundLog, SoundNotes, OnBoard, Outgoing, Taken, Sets,
--- Named, Tails, Touched, Targets, Moves, Movable and RoomMoves; those of desks and of parts cite Steps, Turning, ChangeLaws and Logged
+-- DueLines, Named, Tails, Touched, Targets, Moves, Movable and RoomMoves; those of desks and of parts cite Steps, Turning, ChangeLaws and Logged
 -- besides. The others, Candidate and Accepting, serve private clauses and proofs alone.
 pub mod Log
 pub mod Desk
@@ -22,6 +22,7 @@ pub mod Sets
 pub mod Touched
 pub mod KeptWrites
 pub mod Taken
+pub mod DueLines
 pub mod Moves
 pub mod RoomMoves
 pub mod Named

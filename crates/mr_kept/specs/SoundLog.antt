@@ -5,7 +5,7 @@ use Rattle.std.specs.List.Sorted.{IsPermutation}
 use Rattle.std.specs.Ordering.{is_lt}
 use Rattle.mr_model.specs.Texts.{Text}
 use Rattle.mr_model.specs.Slots.{Slot}
-use Rattle.mr_model.specs.Writes.{Id, Meeting, Action, Books, Cancels, Write, id_of, choices_of}
+use Rattle.mr_model.specs.Writes.{Id, Stamp, Meeting, Action, Books, Cancels, Write, id_of, choices_of}
 use Rattle.mr_model.specs.Replay.{Place, Taken, Logged, Done, Void}
 use Rattle.mr_model.specs.Tables.{LogRow}
 use Rattle.mr_replay.specs.declared.rows.Standing.TheVariants.{CancelledBy}
@@ -68,15 +68,18 @@ pub record IsLogSound (commits dropped : ℕ) (b : Rows) (rows : List KeptRow) :
   pub order : Rise is_run_before run_place rows
   pub places : All (IsAtPlace b) rows
 
--- the place and the commit number that a row of log tells, and those of a kept row
-abbrev pub log_told : LogRow → Place × ℕ
-log_told row = (row.place, row.seq)
+-- the stamp, the place and the commit number that a row of log tells, and those of a kept row
+abbrev pub log_stamp : LogRow → Stamp
+log_stamp row = record { server = row.server; n = row.n; time = row.time }
 
-abbrev pub kept_told : KeptRow → Place × ℕ
-kept_told row = (row.undo.place, row.seq)
+abbrev pub log_told : LogRow → Stamp × Place × ℕ
+log_told row = (log_stamp row, row.place, row.seq)
 
--- the log is that of such rows, which tell these places and numbers
-abbrev pub IsOfSoundRows : List (Place × ℕ) → ℕ → ℕ → KeptLog → Type 0
+abbrev pub kept_told : KeptRow → Stamp × Place × ℕ
+kept_told row = (row.write.stamp, row.undo.place, row.seq)
+
+-- the log is that of such rows, which tell these places and numbers of the writes with these stamps
+abbrev pub IsOfSoundRows : List (Stamp × Place × ℕ) → ℕ → ℕ → KeptLog → Type 0
 IsOfSoundRows told commits dropped log =
     (rows : List KeptRow) × (log ≡ record { kept = map (λ r. r.write) rows; undo = map (λ r. r.undo) rows; board = log.board })
     × IsLogSound commits dropped log.board rows × IsPermutation told (map kept_told rows)

@@ -1,5 +1,5 @@
 -- What a batch makes of numbers, rooms and kept writes, item by item.
-use Rattle.std.specs.Prelude.{◌≡◌, ℕ, ◌+◌, ◌||◌, ◌&&◌, Bool, true, List, length, map, filter, Result, Ok, Err, ◌⊎◌}
+use Rattle.std.specs.Prelude.{◌≡◌, ℕ, ◌+◌, ◌<◌, ◌||◌, ◌&&◌, Bool, true, List, length, take, map, filter, slice_get, Some, Result, Ok, Err, ◌⊎◌}
 use Rattle.std.specs.Option.{option_map}
 use Rattle.mr_model.specs.Texts.{Text}
 use Rattle.mr_model.specs.Writes.{Id, Write, id_of}
@@ -9,7 +9,7 @@ use Rattle.mr_model.specs.Replica.{Replica}
 use Rattle.mr_model.specs.Kept.{kept_in_order}
 use Rattle.mr_model.specs.Scopes.{is_named, is_in_tail, is_touched}
 use Rattle.mr_model.specs.Tables.{seq_of, log_row, tables_of}
-use Rattle.mr_model.specs.Taking.{Progress}
+use Rattle.mr_model.specs.Taking.{Progress, take_item, take_items}
 use Rattle.mr_base.specs.RefusalViews.{refusal_of}
 use Rattle.mr_base.specs.declared.refusals.Refusal.{Refusal}
 use Rattle.mr_base.specs.declared.refusals.Refusal.TheVariants.{OutOfMemory}
@@ -54,10 +54,24 @@ pub record ShowsPicked (a : Replica) (inside : Write → Bool) (c : ReachedView)
   pub writes : length c.kept ≡ length (filter inside (kept_in_order a)) + p.writes
   pub marks : (w : Write) → (seq_of p.replica w ≡ seq_of a w) ⊎ (inside w ≡ true)
 
--- the answer to an item, or to some: taken, with what the definitions then have; their refusal; or want of memory
-abbrev pub TakesPicked : Replica → (Write → Bool) → Result Progress model.Refusal → Result (Unit {0}) Refusal → Candidate → Type 0
-TakesPicked a inside exact (Ok x) new = (p : Progress) × (exact ≡ Ok p) × ShowsTaken a inside new p
-TakesPicked a inside exact (Err e) new = (exact ≡ Err (refusal_of e)) ⊎ (e ≡ OutOfMemory)
+-- the item is a write that is new
+abbrev pub BringsWrite : ℕ → Progress → Item → Type 0
+BringsWrite line p x = (q : Progress) × (take_item line p x ≡ Ok q) × (p.writes < q.writes)
+
+-- the answer to an item: taken, with what the definitions then have, or their refusal; out of memory comes of a new write alone
+abbrev pub TakesItem : Replica → (Write → Bool) → ℕ → Progress → Item → Result (Unit {0}) Refusal → Candidate → Type 0
+TakesItem a inside line p x (Ok taken) new = (q : Progress) × (take_item line p x ≡ Ok q) × ShowsTaken a inside new q
+TakesItem a inside line p x (Err e) new = (take_item line p x ≡ Err (refusal_of e)) ⊎ ((e ≡ OutOfMemory) × BringsWrite line p x)
+
+-- the items before one of them are taken, and that one is a write that is new
+abbrev pub SomeBringsWrite : Progress → List Item → Type 0
+SomeBringsWrite p items =
+    (k : ℕ) × (x : Item) × (q : Progress) × (slice_get items k ≡ Some x) × (take_items (take k items) 2 (Ok p) ≡ Ok q) × BringsWrite (2 + k) q x
+
+-- the same of items, the first of which stands in line 2: where one is refused before any brings a write, it isn't told as out of memory
+abbrev pub TakesItems : Replica → (Write → Bool) → Progress → List Item → Result (Unit {0}) Refusal → Candidate → Type 0
+TakesItems a inside p items (Ok taken) new = (q : Progress) × (take_items items 2 (Ok p) ≡ Ok q) × ShowsTaken a inside new q
+TakesItems a inside p items (Err e) new = (take_items items 2 (Ok p) ≡ Err (refusal_of e)) ⊎ ((e ≡ OutOfMemory) × SomeBringsWrite p items)
 
 -- what all items lead to, or why the batch is refused
 abbrev pub TakenPicked : Replica → (Write → Bool) → Result Progress model.Refusal → Result ReachedView Refusal → Type 0

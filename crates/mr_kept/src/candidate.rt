@@ -8,13 +8,13 @@ ghost use Rattle.mr_model.specs.Replica.{Replica, IsReplica};
 ghost use Rattle.mr_model.specs.Tables.{seq_of};
 ghost use Rattle.mr_model.specs.Texts.{Text};
 ghost use Rattle.mr_model.specs.Writes.{Id, Write as WriteOfReplica, id_of, same_id};
-ghost use Rattle.mr_model.specs.Taking.{Progress, take_item, take_items, take_write, take_commit};
+ghost use Rattle.mr_model.specs.Taking.{Progress, take_items};
 ghost use Rattle.mr_base.specs.Batches.{item_of};
 ghost use Rattle.mr_tables.specs.Summary.{summary_of, noted_write, noted_commit};
 ghost use Rattle.mr_kept.specs.Desk.{NeverStore, nothing_taken};
 ghost use Rattle.mr_kept.specs.KeptWrites.{logged_at, has_at, with_number};
 ghost use Rattle.mr_kept.specs.Sets.{has_room};
-ghost use Rattle.mr_kept.specs.Taken.{CoversScope, ShowsTaken, ShowsPicked, TakesPicked, TakenPicked, logged_write_verdict, logged_commit_verdict};
+ghost use Rattle.mr_kept.specs.Taken.{CoversScope, ShowsTaken, ShowsPicked, TakesItem, TakesItems, TakenPicked, logged_write_verdict, logged_commit_verdict};
 
 use crate::judge::{judge_commit, judge_write};
 use crate::kept_writes::{
@@ -102,7 +102,7 @@ impl Candidate {
     fn take_all(&mut self, items: &[Item]) -> Result<(), Refusal>
         ensures takes { (a : Replica) (inside : WriteOfReplica → Bool) (p : Progress) → IsReplica p.replica → IsTrue (list_all (is_item Second) (map item_of items.now))
             → length items.now + 2 < 2 ^ 64 → CoversScope a (map item_of items.now) inside → ShowsTaken a inside self.old p
-            → TakesPicked a inside (take_items (map item_of items.now) 2 (Ok p)) result self.new }
+            → TakesItems a inside p (map item_of items.now) result self.new }
         ensures own { NeverStore result }
     {
         for (k, item) in items.iter().enumerate() {
@@ -114,7 +114,7 @@ impl Candidate {
     /// Takes an item that stands in this line, or tells why the batch is refused.
     fn take(&mut self, line: u64, item: &Item) -> Result<(), Refusal>
         ensures takes { (a : Replica) (items : List ItemOfBatch) (inside : WriteOfReplica → Bool) (p : Progress) → IsReplica p.replica → Has (item_of item.now) items → CoversScope a items inside
-            → ShowsTaken a inside self.old p → TakesPicked a inside (take_item line p (item_of item.now)) result self.new }
+            → ShowsTaken a inside self.old p → TakesItem a inside line p (item_of item.now) result self.new }
         ensures own { NeverStore result }
     {
         match item {
@@ -125,7 +125,7 @@ impl Candidate {
 
     fn take_write(&mut self, line: u64, write: &Write) -> Result<(), Refusal>
         ensures takes { (a : Replica) (items : List ItemOfBatch) (inside : WriteOfReplica → Bool) (p : Progress) → IsReplica p.replica → Has (ItemOfBatch.W write.now) items → CoversScope a items inside
-            → ShowsTaken a inside self.old p → TakesPicked a inside (take_write line p write.now) result self.new }
+            → ShowsTaken a inside self.old p → TakesItem a inside line p (ItemOfBatch.W write.now) result self.new }
         ensures own { NeverStore result }
     {
         write.is_within_limits();
@@ -138,7 +138,7 @@ impl Candidate {
 
     fn take_commit(&mut self, line: u64, seq: CommitNumber, id: WriteId) -> Result<(), Refusal>
         ensures takes { (a : Replica) (items : List ItemOfBatch) (inside : WriteOfReplica → Bool) (p : Progress) → IsReplica p.replica → Has (ItemOfBatch.C seq id) items → CoversScope a items inside
-            → ShowsTaken a inside self.old p → TakesPicked a inside (take_commit line p seq id) result self.new }
+            → ShowsTaken a inside self.old p → TakesItem a inside line p (ItemOfBatch.C seq id) result self.new }
         ensures own { NeverStore result }
     {
         if !self.judge_commit(line, seq, id)? {

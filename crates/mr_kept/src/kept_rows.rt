@@ -7,7 +7,7 @@ ghost use Rattle.mr_model.specs.Replica.{Replica, IsReplica};
 ghost use Rattle.mr_model.specs.Tables.{kept, log_row, log_row_with};
 ghost use Rattle.mr_base.specs.Answers.{OrOutOfMemory};
 ghost use Rattle.mr_replay.specs.Places.{place_seen};
-ghost use Rattle.mr_kept.specs.SoundLog.{log_told, kept_told};
+ghost use Rattle.mr_kept.specs.SoundLog.{log_stamp, log_told, kept_told};
 ghost use Rattle.mr_kept.specs.KeptRows.{kept_row_with, kept_row as kept_row_of, run_place, run_cmp};
 
 use mr_base::{Refusal, ServerId, Write};
@@ -80,9 +80,22 @@ pub fn kept_row(alloc: Global, log: &LogRow) -> Result<KeptRow, Refusal>
     ensures told { IfOk result (λ row. kept_told row ≡ log_told log.now) }
 {
     match write_of(alloc, log) {
-        Ok(write) => Ok(kept_with(write, log.place, log.seq)),
+        Ok(write) => kept_of(write, log),
         Err(refusal) => Err(refusal),
     }
+}
+
+/// The kept write of a row of `log` that was read as this write. Of a row that is that of no write nothing is known of what was
+/// read, so the stamp is compared.
+fn kept_of(write: Write, log: &LogRow) -> Result<KeptRow, Refusal>
+    ensures kept { write.stamp ≡ log_stamp log.now → result ≡ Ok (kept_row_with write log.now.seq log.now.place) }
+    ensures told { IfOk result (λ row. kept_told row ≡ log_told log.now) }
+{
+    let stamp = write.stamp;
+    if stamp.server != log.server || stamp.n != log.n || stamp.time != log.time {
+        return Err(Refusal::Store);
+    }
+    Ok(kept_with(write, log.place, log.seq))
 }
 
 fn kept_with(write: Write, place: Place, seq: u64) -> KeptRow

@@ -9,6 +9,7 @@
 
 pub mod candidate;
 pub mod changes;
+pub mod due_lines;
 mod judge;
 pub mod kept_rows;
 pub mod kept_writes;

@@ -1,7 +1,8 @@
-ghost use Rattle.std.specs.Prelude.{◌≡◌, ◌≢◌, ◌+◌, ◌<◌, ◌^◌, IsTrue, Ok, Err, Some, map, filter, length};
+ghost use Rattle.std.specs.Prelude.{◌≡◌, ◌≢◌, ◌+◌, ◌<◌, ◌^◌, IsTrue, Ok, Err, Some, None, map, filter, length};
 ghost use Rattle.std.specs.List.{list_all};
 ghost use Rattle.mr_model.specs.Exchange.{Second, is_item, Header};
 ghost use Rattle.mr_model.specs.Moving.{may_move};
+ghost use Rattle.mr_model.specs.Refusals.{Refusal as RefusalOfLine};
 ghost use Rattle.mr_model.specs.Replica.{Replica, IsReplica, tentative};
 ghost use Rattle.mr_model.specs.Replies.{Took};
 ghost use Rattle.mr_model.specs.Scopes.{OfItems};
@@ -9,7 +10,9 @@ ghost use Rattle.mr_model.specs.Step.{receive_batch, after_items};
 ghost use Rattle.mr_model.specs.Taking.{take_items};
 ghost use Rattle.mr_model.specs.View.{place_of};
 ghost use Rattle.mr_base.specs.Batches.{item_of};
+ghost use Rattle.mr_tables.specs.Change.{ChangeView};
 ghost use Rattle.mr_kept.specs.Desk.{NeverStore, nothing_taken};
+ghost use Rattle.mr_kept.specs.DueLines.{IsDueLine, IsRefused};
 ghost use Rattle.mr_kept.specs.Moves.{AreTouched};
 ghost use Rattle.mr_part.specs.PartMoves.{AnswersItems, AreUndone};
 ghost use Rattle.mr_part.specs.Parts.{IsPartOf, TakesPart};
@@ -20,6 +23,7 @@ use crate::part_moved::moved;
 use mr_base::{Batch, Item, Refusal, RoomName};
 use mr_kept::candidate::reached_with;
 use mr_kept::changes::no_change;
+use mr_kept::due_lines::due_line;
 use mr_kept::movable::again_in;
 use mr_kept::room_moves::MovesOfRooms;
 use mr_replay::UndoRow;
@@ -30,8 +34,11 @@ impl Part {
     /// changes in the tables. The part is used up: what it has is moved, and not copied.
     pub fn receive(self, batch: &Batch) -> Result<(u64, u64, Change), Refusal>
         ensures step { TakesPart (OfItems batch.now.items) (λ a. receive_batch a batch.now) (λ _ taken. Took taken.0 taken.1) (λ taken. taken.2) self result }
-        // A refusal that is due for the header is told without memory.
+        // A batch without a header takes no memory, nor does a refusal that is due for the header, or by numbers for a line.
+        ensures empty { batch.now.header ≡ None → (change : ChangeView) × (result ≡ Ok (0, 0, change)) }
         ensures due { (h : Header) → batch.now.header ≡ Some h → h.primary ≢ self.summary.primary → result ≡ Err Refusal.WrongPrimary }
+        ensures due_line { (a : Replica) (h : Header) (r : RefusalOfLine) → IsReplica a → IsPartOf self (OfItems batch.now.items) a
+            → batch.now.header ≡ Some h → h.primary ≡ self.summary.primary → IsDueLine a batch.now.items r → IsRefused result r }
         ensures own { NeverStore result }
     {
         batch.is_within_limits();
@@ -40,6 +47,9 @@ impl Part {
         };
         if header.primary != self.summary.primary {
             return Err(Refusal::WrongPrimary);
+        }
+        if let Some(refusal) = due_line(&self.summary, &batch.items) {
+            return Err(refusal);
         }
         let taken = self.take_items(&batch.items)?;
         Ok(taken)

@@ -8,7 +8,7 @@ use Rattle.std.specs.List.{slice_get}
 use Rattle.std.specs.List.Sorted.{IsPermutation}
 use Rattle.std.specs.Prelude.{Result, Ok, Err, IfOk}
 use Rattle.std.specs.Option.{option_map}
-use Rattle.mr_model.specs.Writes.{Action, Books, Cancels, Write, id_of, choices_of, choices_in}
+use Rattle.mr_model.specs.Writes.{Stamp, Action, Books, Cancels, Write, id_of, choices_of, choices_in}
 use Rattle.mr_model.specs.Replay.{Place, Taken, Logged, Done, Void, slot_at}
 use Rattle.mr_model.specs.Replica.{Replica, IsReplica, committed, tentative}
 use Rattle.mr_model.specs.View.{place_of, canceller_of}
@@ -100,7 +100,7 @@ log_sound a h = record {
 
 -- ---- a log of sound rows
 
-pub of_log : (told : List (Place × ℕ)) (commits dropped : ℕ) (b : Rows) (rows : List KeptRow) → IsLogSound commits dropped b rows → IsPermutation told (map kept_told rows) → (r : Result KeptLog Refusal) → IfOk r (λ log. log ≡ record { kept = map (λ x. x.write) rows; undo = map (λ x. x.undo) rows; board = b }) → IfOk r (λ log. IsOfSoundRows told commits dropped log)
+pub of_log : (told : List (Stamp × Place × ℕ)) (commits dropped : ℕ) (b : Rows) (rows : List KeptRow) → IsLogSound commits dropped b rows → IsPermutation told (map kept_told rows) → (r : Result KeptLog Refusal) → IfOk r (λ log. log ≡ record { kept = map (λ x. x.write) rows; undo = map (λ x. x.undo) rows; board = b }) → IfOk r (λ log. IsOfSoundRows told commits dropped log)
 of_log told commits dropped b rows sound moved (Err e) h = tt
 of_log told commits dropped b rows sound moved (Ok log) h =
     let board : log.board ≡ b = ap (λ (l : KeptLog). l.board) h in

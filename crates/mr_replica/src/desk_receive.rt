@@ -1,8 +1,9 @@
-ghost use Rattle.std.specs.Prelude.{◌≡◌, ◌≢◌, ◌+◌, ◌<◌, ◌^◌, List, IsTrue, Ok, Err, Some, map, length, OnOk, OnErr, IfOk, IfErr};
+ghost use Rattle.std.specs.Prelude.{◌≡◌, ◌≢◌, ◌+◌, ◌<◌, ◌^◌, List, IsTrue, Ok, Err, Some, None, map, length, OnOk, OnErr, IfOk, IfErr};
 ghost use Rattle.std.specs.List.{list_all};
 ghost use Rattle.mr_model.specs.Exchange.{Second, is_item, Header, Item as ItemOfBatch};
 ghost use Rattle.mr_model.specs.Kept.{kept_in_order};
 ghost use Rattle.mr_model.specs.Moving.{BatchMoves};
+ghost use Rattle.mr_model.specs.Refusals.{Refusal as RefusalOfLine};
 ghost use Rattle.mr_model.specs.Replica.{Replica, IsReplica};
 ghost use Rattle.mr_model.specs.Replies.{Took};
 ghost use Rattle.mr_model.specs.Step.{receive_batch, after_items};
@@ -10,10 +11,11 @@ ghost use Rattle.mr_model.specs.Tables.{seq_of, tables_of};
 ghost use Rattle.mr_model.specs.Taking.{take_items};
 ghost use Rattle.mr_base.specs.Batches.{item_of};
 ghost use Rattle.mr_replay.specs.Rows.{Rows};
-ghost use Rattle.mr_tables.specs.Change.{changed};
+ghost use Rattle.mr_tables.specs.Change.{ChangeView, changed};
 ghost use Rattle.mr_tables.specs.ExecutionRows.{seq_on};
 ghost use Rattle.mr_tables.specs.Summary.{summary_of};
 ghost use Rattle.mr_kept.specs.Desk.{DeskTakesStep, NeverStore, StandsFor, desk_of, nothing_taken};
+ghost use Rattle.mr_kept.specs.DueLines.{IsDueLine, IsRefused};
 ghost use Rattle.mr_kept.specs.Taken.{ReachedView};
 ghost use Rattle.mr_kept.specs.Movable.{IsMovable, IsPicked};
 ghost use Rattle.mr_replica.specs.Received.{BatchReaches, IsPlanned, IsReplayed, HasKeptOf, Received};
@@ -25,6 +27,7 @@ use crate::log_rows::fresh_rows;
 use mr_base::{Batch, Item, Refusal, RoomName, Write, WriteId};
 use mr_kept::candidate::{Reached, reached_with};
 use mr_kept::changes::no_change;
+use mr_kept::due_lines::due_line;
 use mr_kept::kept_writes::NumberedWrite;
 use mr_kept::movable::{Movable, writes_anew};
 use mr_kept::named::Named;
@@ -45,8 +48,11 @@ impl Desk {
         ensures step { DeskTakesStep (λ a. receive_batch a batch.now) (λ _ taken. Took taken.0 taken.1) self.old result self.new }
         ensures change { TurnsTables (λ taken. taken.2) self.old result self.new }
         ensures err { OnErr result (self.new ≡ self.old) }
-        // A refusal that is due for the header is told without memory.
+        // A batch without a header takes no memory, nor does a refusal that is due for the header, or by numbers for a line.
+        ensures empty { batch.now.header ≡ None → (change : ChangeView) × (result ≡ Ok (0, 0, change)) }
         ensures due { (h : Header) → batch.now.header ≡ Some h → h.primary ≢ self.old.primary → result ≡ Err Refusal.WrongPrimary }
+        ensures due_line { (a : Replica) (h : Header) (r : RefusalOfLine) → IsReplica a → StandsFor self.old a
+            → batch.now.header ≡ Some h → h.primary ≡ self.old.primary → IsDueLine a batch.now.items r → IsRefused result r }
         ensures own { NeverStore result }
     {
         batch.is_within_limits();
@@ -55,6 +61,9 @@ impl Desk {
         };
         if header.primary != self.summary.primary {
             return Err(Refusal::WrongPrimary);
+        }
+        if let Some(refusal) = due_line(&self.summary, &batch.items) {
+            return Err(refusal);
         }
         let taken = self.take_items(&batch.items)?;
         Ok(taken)

@@ -1,4 +1,4 @@
-ghost use Rattle.std.specs.Prelude.{◌≡◌, ◌⊎◌, nat_lt, IfOk, IfErr, map};
+ghost use Rattle.std.specs.Prelude.{◌≡◌, ◌⊎◌, nat_lt, Err, IfOk, IfErr, map};
 ghost use Rattle.mr_model.specs.Replica.{Replica, IsReplica};
 ghost use Rattle.mr_model.specs.Tables.{tables_of};
 ghost use Rattle.mr_kept.specs.Desk.{desk_of, StandsFor, IsWithinLimits};
@@ -7,6 +7,7 @@ ghost use Rattle.mr_kept.specs.SoundNotes.{AreNotesSound};
 ghost use Rattle.mr_replica.specs.SoundStamps.{AreStampsSound, AreSlotsSound};
 ghost use Rattle.mr_kept.specs.OnBoard.{AreOnBoard};
 ghost use Rattle.mr_tables.specs.SoundRows.{AreSound, Rise};
+ghost use Rattle.mr_tables.specs.declared.summary.Summary.{Summary as Numbers};
 ghost use Rattle.mr_tables.specs.Summary.{summary_of as summary_of_replica, IsWithin};
 
 use crate::Desk;
@@ -42,6 +43,9 @@ impl Desk {
         ensures on_board { IfOk result (λ desk. AreOnBoard desk.log.board tables.now) }
         ensures rising { IfOk result (λ desk. Rise nat_lt (λ e. e.seq) desk.old_errors) }
         ensures cancels_rising { IfOk result (λ desk. Rise nat_lt (λ c. c.seq) desk.old_cancels) }
+        // What agrees with no numbers is refused without memory, but for what is compared with the board and the log.
+        ensures due { ((s : Numbers) → IsWithin s → AreSound tables.now s.commits s.tallies → AreStampsSound s.commits s.tallies tables.now → AreSlotsSound tables.now → ⊥)
+            → result ≡ Err Refusal.Store }
         ensures cause { IfErr result (λ e. (e ≡ Refusal.OutOfMemory) ⊎ (e ≡ Refusal.Store)) }
     {
         match desk_told(alloc, tables) {
@@ -64,6 +68,8 @@ fn desk_told(alloc: Global, tables: &Tables) -> Result<Desk, Refusal>
     ensures on_board { IfOk result (λ desk. AreOnBoard desk.log.board tables.now) }
     ensures rising { IfOk result (λ desk. Rise nat_lt (λ e. e.seq) desk.old_errors) }
     ensures cancels_rising { IfOk result (λ desk. Rise nat_lt (λ c. c.seq) desk.old_cancels) }
+    ensures due { ((s : Numbers) → IsWithin s → AreSound tables.now s.commits s.tallies → AreStampsSound s.commits s.tallies tables.now → AreSlotsSound tables.now → ⊥)
+        → result ≡ Err Refusal.Store }
 {
     let summary = summary_of(tables);
     if !summary.is_within() {

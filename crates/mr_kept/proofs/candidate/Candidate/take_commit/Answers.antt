@@ -1,9 +1,10 @@
 use Rattle.std.proofs.Common.{true, false, Ok, Err, ap, sym, ◌∙◌, subst, inl}
 use Rattle.std.proofs.lemmas.Bool.{true≢false}
 use Rattle.std.proofs.lemmas.Result.{err_from_is_err_and}
-use Rattle.mr_model.specs.Taking.{take_commit, with_new_commit}
+use Rattle.mr_model.specs.Exchange.{C}
+use Rattle.mr_model.specs.Taking.{with_new_commit}
 use Rattle.mr_model.proofs.Orders.{commit_moved}
-use Rattle.mr_kept.specs.Taken.{TakesPicked}
+use Rattle.mr_kept.specs.Taken.{TakesItem}
 use Rattle.mr_kept.proofs.JudgingKept.{commit_judged}
 use Rattle.mr_kept.proofs.LearningKept.{move_found, shows-moved}
 use Rattle.mr_kept.proofs.candidate.Candidate.take_commit.Goals as goal
@@ -12,7 +13,7 @@ pub returns-in_err-judge_commit-clause-takes : goal.returns-in_err-judge_commit-
 returns-in_err-judge_commit-clause-takes c = λ a items inside p sound named covers shows.
     let x = err_from_is_err_and c.from_residual.result c.from_residual.ensures.1 in
     let step = commit_judged c.args.line a items inside c.args.self.now c.args.seq c.args.id p (Err c.in_err-judge_commit.field-0.0) sound c.judge_commit.ensures.in_range named covers shows c.in_err-judge_commit.ensures.verdict in
-    subst (λ r. TakesPicked a inside (take_commit c.args.line p c.args.seq c.args.id) r c.args.self.now) (sym (x.1 ∙ ap Err x.2)) (inl step)
+    subst (λ r. TakesItem a inside c.args.line p (C c.args.seq c.args.id) r c.args.self.now) (sym (x.1 ∙ ap Err x.2)) (inl step)
 
 pub returns-then-not-branch-clause-takes : goal.returns-then-not-branch-clause-takes
 returns-then-not-branch-clause-takes c = λ a items inside p sound named covers shows.

@@ -1,7 +1,8 @@
-use Rattle.std.proofs.Common.{true, false, Ok, Err, ap, sym, ◌∙◌, subst, inl, inr}
+use Rattle.std.proofs.Common.{◌<◌, ◌+◌, arith, true, false, Ok, Err, ap, sym, ◌∙◌, subst, inl, inr}
 use Rattle.std.proofs.lemmas.Result.{err_from_is_err_and}
-use Rattle.mr_model.specs.Taking.{take_write, with_new_write}
-use Rattle.mr_kept.specs.Taken.{TakesPicked}
+use Rattle.mr_model.specs.Exchange.{W}
+use Rattle.mr_model.specs.Taking.{with_new_write}
+use Rattle.mr_kept.specs.Taken.{TakesItem}
 use Rattle.mr_kept.proofs.Judging.{small_server}
 use Rattle.mr_kept.proofs.JudgingKept.{write_judged}
 use Rattle.mr_kept.proofs.LearningKept.{shows-learned}
@@ -11,7 +12,7 @@ pub returns-in_err-judge_write-clause-takes : goal.returns-in_err-judge_write-cl
 returns-in_err-judge_write-clause-takes c = λ a items inside p sound named covers shows.
     let x = err_from_is_err_and c.from_residual.result c.from_residual.ensures.1 in
     let step = write_judged c.args.line a items inside c.args.self.now c.args.write.now p (Err c.in_err-judge_write.field-0.0) sound c.is_within_limits.ensures named covers shows c.in_err-judge_write.ensures.verdict in
-    subst (λ r. TakesPicked a inside (take_write c.args.line p c.args.write.now) r c.args.self.now) (sym (x.1 ∙ ap Err x.2)) (inl step)
+    subst (λ r. TakesItem a inside c.args.line p (W c.args.write.now) r c.args.self.now) (sym (x.1 ∙ ap Err x.2)) (inl step)
 
 pub returns-then-not-branch-clause-takes : goal.returns-then-not-branch-clause-takes
 returns-then-not-branch-clause-takes c = λ a items inside p sound named covers shows.
@@ -21,7 +22,11 @@ returns-then-not-branch-clause-takes c = λ a items inside p sound named covers 
 pub returns-in_err-add_write-clause-takes : goal.returns-in_err-add_write-clause-takes
 returns-in_err-add_write-clause-takes c = λ a items inside p sound named covers shows.
     let x = err_from_is_err_and c.from_residual-in_err-add_write.result c.from_residual-in_err-add_write.ensures.1 in
-    subst (λ r. TakesPicked a inside (take_write c.args.line p c.args.write.now) r c.add_write.new.self) (sym (x.1 ∙ ap Err x.2)) (inr c.in_err-add_write.ensures.only)
+    let w = c.args.write.now in
+    let verdict = ap Ok (sym c.if-not-branch.false) ∙ c.in_ok-judge_write.ensures.verdict in
+    let step = write_judged c.args.line a items inside c.args.self.now w p (Ok true) sound c.is_within_limits.ensures named covers shows verdict in
+    let one : p.writes < p.writes + 1 = omega arith in
+    subst (λ r. TakesItem a inside c.args.line p (W w) r c.add_write.new.self) (sym (x.1 ∙ ap Err x.2)) (inr (c.in_err-add_write.ensures.only, (with_new_write p w, step.0, one)))
 
 pub returns-clause-takes : goal.returns-clause-takes
 returns-clause-takes c = λ a items inside p sound named covers shows.

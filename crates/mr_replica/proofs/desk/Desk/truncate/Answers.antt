@@ -7,9 +7,11 @@ use Rattle.mr_model.specs.Replies.{DroppedIs}
 use Rattle.mr_model.specs.Step.{After}
 use Rattle.mr_tables.specs.declared.summary.Summary.{Summary}
 use Rattle.mr_kept.specs.Desk.{DeskView, desk_of}
+use Rattle.mr_tables.specs.Written.{meta_of}
+use Rattle.mr_kept.specs.DeskTables.{desk_tables}
 use Rattle.mr_kept.specs.Accepting.{summary_in}
 use Rattle.mr_kept.proofs.Desks.{desk_with}
-use Rattle.mr_kept.proofs.Truncating.{truncate_done}
+use Rattle.mr_kept.proofs.Truncating.{truncate_done, truncate_none}
 use Rattle.mr_kept.proofs.CommandTurns.{truncated_is, truncate_turns}
 use Rattle.mr_replica.proofs.desk.Desk.truncate.Goals as goal
 
@@ -49,9 +51,33 @@ returns-clause-step c = λ a sound stands.
     let within : n ≤ length a.commits = omega arith in
     let late : nat_lt (length a.commits) n ≡ false = grind (arith, nat_tests) in
     let step = truncate_done a n own late in
-    let top : c.max.result ≡ max a.dropped n = c.max.ensures ∙ ap (λ k. max k n) dropped in
-    let new = truncated_is a n d c.saturating_sub-more.result c.saturating_add-first.result c.max.result c.drop_front.new.self c.in_ok-errors.errors.items c.append.new.self.items c.in_ok-cancels.cancels.items c.append-2.new.self.items sound within e c.saturating_sub-more.ensures c.saturating_add-first.ensures c.max.ensures c.drop_front.ensures c.in_ok-errors.ensures.errors c.in_ok-append.ensures.items c.in_ok-cancels.ensures.cancels (cancels_added c) in
+    let above = c.if-number-dropped.false in
+    let top : n ≡ max a.dropped n = omega (arith, above, dropped) in
+    let most_dropped : n ≡ max i.summary.dropped n = omega (arith, above) in
+    let new = truncated_is a n d c.saturating_sub-more.result c.saturating_add-first.result n c.drop_front.new.self c.in_ok-errors.errors.items c.append.new.self.items c.in_ok-cancels.cancels.items c.append-2.new.self.items sound within e c.saturating_sub-more.ensures c.saturating_add-first.ensures most_dropped c.drop_front.ensures c.in_ok-errors.ensures.errors c.in_ok-append.ensures.items c.in_ok-cancels.ensures.cancels (cancels_added c) in
     inl (ap DroppedIs top ∙ ap (λ (s : After). s.reply) (sym step), new ∙ ap (λ (s : After). desk_of s.replica) (sym step))
+
+-- so many commits are dropped already
+pub returns-then-number-dropped-clause-step : goal.returns-then-number-dropped-clause-step
+returns-then-number-dropped-clause-step c = λ a sound stands.
+    let i = c.self.inside in
+    let n = c.args.number in
+    let e = c.self.view_is ∙ stands in
+    let server : i.summary.server ≡ a.server = ap (λ (d : DeskView). d.server) e in
+    let primary : i.summary.primary ≡ a.primary = ap (λ (d : DeskView). d.primary) e in
+    let commits : i.summary.commits ≡ length a.commits = ap (λ (d : DeskView). d.commits) e in
+    let dropped : i.summary.dropped ≡ a.dropped = ap (λ (d : DeskView). d.dropped) e in
+    let own : (a.server == a.primary) ≡ false = (λ t. sym server t == sym primary t) ∙ sym c.eq.ensures ∙ c.if-eq.false in
+    let most = c.if-number-self.false in
+    let within : n ≤ length a.commits = omega arith in
+    let late : nat_lt (length a.commits) n ≡ false = grind (arith, nat_tests) in
+    let few = c.if-number-dropped.true in
+    let low : n ≤ a.dropped = omega (arith, few, dropped) in
+    let step = truncate_none a n own late low in
+    inl (ap DroppedIs dropped ∙ ap (λ (s : After). s.reply) (sym step), stands ∙ ap (λ (s : After). desk_of s.replica) (sym step))
+
+pub returns-then-number-dropped-clause-change : goal.returns-then-number-dropped-clause-change
+returns-then-number-dropped-clause-change c = λ a sound stands. c.no_change.ensures (desk_tables c.args.self.now) (sym (ap (λ (d : DeskView). meta_of (summary_in d)) c.self.view_is))
 
 pub returns-clause-change : goal.returns-clause-change
 returns-clause-change c = λ a sound stands.
@@ -66,10 +92,12 @@ returns-clause-change c = λ a sound stands.
     let own : (a.server == a.primary) ≡ false = (λ t. sym server t == sym primary t) ∙ sym c.eq.ensures ∙ c.if-eq.false in
     let most = c.if-number-self.false in
     let within : n ≤ length a.commits = omega arith in
-    let top : c.max.result ≡ max a.dropped n = c.max.ensures ∙ ap (λ k. max k n) dropped in
+    let above = c.if-number-dropped.false in
+    let top : n ≡ max a.dropped n = omega (arith, above, dropped) in
+    let most_dropped : n ≡ max i.summary.dropped n = omega (arith, above) in
     let more = c.saturating_sub-more.result in
-    let new = truncated_is a n d more c.saturating_add-first.result c.max.result c.drop_front.new.self c.in_ok-errors.errors.items c.append.new.self.items c.in_ok-cancels.cancels.items c.append-2.new.self.items sound within e c.saturating_sub-more.ensures c.saturating_add-first.ensures c.max.ensures c.drop_front.ensures c.in_ok-errors.ensures.errors c.in_ok-append.ensures.items c.in_ok-cancels.ensures.cancels (cancels_added c) in
-    let numbers : Summary = record i.summary { dropped = c.max.result } in
+    let new = truncated_is a n d more c.saturating_add-first.result n c.drop_front.new.self c.in_ok-errors.errors.items c.append.new.self.items c.in_ok-cancels.cancels.items c.append-2.new.self.items sound within e c.saturating_sub-more.ensures c.saturating_add-first.ensures most_dropped c.drop_front.ensures c.in_ok-errors.ensures.errors c.in_ok-append.ensures.items c.in_ok-cancels.ensures.cancels (cancels_added c) in
+    let numbers : Summary = record i.summary { dropped = n } in
     let kept = c.kept-kept.ensures in
     let front = (λ t. take (c.min.ensures t) (c.kept-kept.result.now)) ∙ take_min more c.kept-kept.result.now ∙ (λ t. take ((c.saturating_sub-more.ensures ∙ ap (λ k. n - k) dropped) t) ((kept ∙ ap (λ (d : DeskView). d.log.kept) e) t)) in
     truncate_turns a n c.args.self.now (desk_with numbers i.rooms.items c.drop_front.new.self c.append.new.self.items c.append-2.new.self.items) numbers (take c.min.result c.kept-kept.result.now) c.in_ok-change.change sound (eqb-false a.server a.primary own) within stands new (λ t. record (summary_in (e t)) { dropped = top t }) front c.in_ok-change.ensures.change
