@@ -41,7 +41,7 @@ deploy_texts() {
     if ! missing 'shellcheck of the scripts' shellcheck; then
         held 'shellcheck of the scripts' shellcheck -x "$deploy"/tests/under_systemd "$deploy"/systemd/rooms-office \
             "$deploy"/courier/rooms-courier "$deploy"/check/rooms-check "$deploy"/calendar/rooms-calendar "$deploy"/package/build "$deploy"/package/debian/{postinst,prerm,postrm} \
-            rooms
+            rooms "$deploy/front/start"
     fi
 }
 
@@ -50,7 +50,7 @@ deploy_texts() {
 # The files are where another user reaches them, who is refused there.
 deploy_front() {
     local folder file
-    for file in "$deploy"/front/*; do
+    for file in "$deploy"/front/rooms "$deploy"/front/*.pl; do
         is "the front has no fault: ${file##*/}" "$(perl -wc "$file" 2>&1)" "$file syntax OK"
     done
     folder=$(mktemp -d)
@@ -441,6 +441,9 @@ deploy_package() {
     held 'a package is built' test -s "$file"
     dpkg-deb -x "$file" "$folder/tree"
     is 'the program of the package' "$(unset ROOMS_PROGRAM; "$folder/tree/usr/bin/rooms" init "$folder/a.db" 1 1)" ok
+    is 'a locale that is not there' "$(LC_ALL=xx_XX "$folder/tree/usr/bin/rooms" position "$folder/a.db" 2>&1 | tr '\n' ' ')" 'mp2 1 1 K 0 E '
+    ln -s "$folder/tree/usr/bin/rooms" "$folder/link"
+    is 'the front by a link' "$("$folder/link" position "$folder/a.db" 2>&1 | head -n 1)" 'mp2 1 1'
     is 'the front of the package has the version' "$("$folder/tree/usr/bin/rooms" --version 2>&1)" "rooms $(dpkg-deb -f "$file" Version)"
     is 'the front of the package helps' "$("$folder/tree/usr/bin/rooms" help 2>&1 | wc -l)" "$("$deploy/front/rooms" help 2>&1 | wc -l)"
     is 'the documents for the operator' "$(cd "$folder/tree/usr/share/doc/rooms" && ls docs | tr '\n' ' ')" 'FORMATS.md OPERATING.md TROUBLE.md '
