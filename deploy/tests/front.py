@@ -6,6 +6,7 @@
 FRONT is the front as it is called, PROGRAM the program that it runs; files are made in FOLDER. What needs another user or a small disk is
 tried where this is root. The last line counts what passed and failed.
 """
+import contextlib
 import fcntl
 import os
 import pty
@@ -13,6 +14,7 @@ import select
 import shutil
 import signal
 import socket
+import sqlite3
 import subprocess
 import sys
 import time
@@ -319,6 +321,23 @@ def served(t):
     t.same('the program itself, served', t.start('serve', 's.db', port, '0', program=t.program).communicate()[0], f'serving 127.0.0.1:{port}\n')
 
 
+def room_names(t):
+    """The reader of a database's rooms: of many pages, and of a log that nobody copied into the file."""
+    reader = os.path.join(os.path.dirname(t.front), 'room_names.pl')
+    names = [f'r{number:05}' for number in range(5000)]
+    t.make('n.db')
+    t.same('one room', t.call(reader, 'n.db', program='perl'), (0, 'oak\n', ''))
+    with contextlib.closing(sqlite3.connect(t.path('n.db'))) as it:
+        it.executemany('INSERT INTO room VALUES (?)', [[name] for name in names])
+        it.commit()
+        for name in 'n.db', 'n.db-wal':
+            shutil.copy(t.path(name), t.path('copy-' + name))
+    t.same('the log has many', os.path.getsize(t.path('copy-n.db-wal')) > 100000, True)
+    for name in 'copy-n.db', 'n.db':
+        t.same(f'many rooms in {name}', t.call(reader, name, program='perl')[1].split(), ['oak', *names])
+    t.same('no database', t.call(reader, 'absent.db', program='perl')[0] != 0, True)
+
+
 def itself(t):
     """A front that is told to run itself, or another front, doesn't go on for ever."""
     copy = t.path('copied')
@@ -404,7 +423,7 @@ def main(arguments):
         print(__doc__, file=sys.stderr)
         return 2
     t = Tests(*arguments)
-    for group in helps, same_lines, same_outputs, words, rooms_taken, turns, served, itself, signals, limits, rights:
+    for group in helps, same_lines, same_outputs, words, rooms_taken, turns, served, room_names, itself, signals, limits, rights:
         group(t)
     print(f'{t.passed} passed, {t.failed} failed')
     return 1 if t.failed else 0
