@@ -1,8 +1,6 @@
 pub mod StampLemmas
 pub mod LogLemmas
 pub mod ScopeLemmas
-pub mod NeededLemmas
-pub mod OnlyLemmas
 pub mod CreateLemmas
 pub mod AnswerLemmas
 pub mod OpeningLemmas

@@ -8,12 +8,11 @@ use Rattle.mr_model.specs.Texts.{within}
 use Rattle.mr_model.specs.Writes.{Id, same_id}
 use Rattle.mr_model.specs.Replica.{is_among}
 use Rattle.mr_model.specs.Exchange.{Item, W, C}
-use Rattle.mr_model.specs.Positions.{Position}
 use Rattle.mr_base.specs.declared.batches.Item as Items
 use Rattle.mr_base.specs.Batches.{item_of}
 use Rattle.mr_model.specs.Tables.{LogRow, Tables}
 use Rattle.mr_model.specs.Dropped.{Has}
-use Rattle.mr_model.specs.Scopes.{Scope, Nothing, OfRequest, OfTarget, NextCommits, UpTo, OfPosition, OfItems, is_tentative, is_lacked_row, is_due_to, by_stamp, item_id, has_number, is_named, is_late, is_in_tail, is_touched, rooms_of_item, next_commits, in_scope}
+use Rattle.mr_model.specs.Scopes.{Scope, Nothing, InRoom, OfTarget, NextCommits, UpTo, Above, OfItems, is_tentative, is_above, by_stamp, item_id, has_number, is_named, is_late, is_in_tail, is_touched, rooms_of_item, next_commits, in_scope}
 use Rattle.mr_model.proofs.InScope.{has_put}
 use Rattle.mr_model.proofs.Members.{filter_has, has_map, has_among, same_id-true}
 use Rattle.mr_model.specs.Queries.{log_id}
@@ -26,8 +25,8 @@ use Rattle.mr_rows.proofs.RowLemmas.{filter_same, filter_both}
 use Rattle.mr_rows.proofs.ValueLemmas.{or_false}
 use Rattle.mr_sql.specs.declared.scope_late.LateTest.{LateTest}
 use Rattle.mr_sql.specs.LateTests.{passes_late, IsLateTest, ReachesTail}
-use Rattle.mr_sql.specs.DueTests.{passes_due, ReachesDue}
-use Rattle.mr_sql.specs.declared.scope_due.DueTest.{DueTest}
+use Rattle.mr_sql.specs.AboveTests.{passes_above, ReachesAbove}
+use Rattle.mr_sql.specs.declared.scope_above.AboveTest.{AboveTest}
 use Rattle.mr_sql.specs.ScopeQuestions.{between, tentative_question, number_questions, is_of_numbers, AreLogsWithin, AreLogsRead}
 
 -- ---- rows that are asked for by numbers
@@ -47,13 +46,13 @@ up_to_asked commits d row low e = or_left (is_log_between (between 1 (cond (ltb 
 
 number_asked : (s : Scope) (t : Tables) → is_of_numbers s ≡ true → AreLogsWithin t → (row : LogRow) → Has row (in_scope s t).log → is_row_asked is_log_between (number_questions t.meta.commits s) row ≡ true
 number_asked Nothing t of numbered row h = absurd h
-number_asked (OfRequest q) t of numbered row h = absurd h
+number_asked (InRoom room) t of numbered row h = absurd h
 number_asked (OfTarget target) t of numbered row h = absurd h
 number_asked (NextCommits k) t of numbered row h = absurd (true≢false (sym of))
 number_asked (UpTo d) t of numbered row h =
     let g = filter_has (λ (r : LogRow). within 1 d r.seq) row t.log h in
     up_to_asked t.meta.commits d row (numbered row g.0).0 g.1
-number_asked (OfPosition p) t of numbered row h = absurd (true≢false (sym of))
+number_asked (Above c) t of numbered row h = absurd (true≢false (sym of))
 number_asked (OfItems items) t of numbered row h = absurd (true≢false (sym of))
 
 pub numbers_read : (s : Scope) (t : Tables) (commits : ℕ) (logs : List LogRow) → is_of_numbers s ≡ true → commits ≡ t.meta.commits
@@ -103,49 +102,33 @@ ids_read k t ids logs are is numbered = (
 
 -- ---- those of a batch for a position
 
-pub none_passing : {X : Type 0} (xs : List X) → [] ≡ filter (λ x. false) xs
+none_passing : {X : Type 0} (xs : List X) → [] ≡ filter (λ x. false) xs
 none_passing [] = refl
 none_passing (x ∷ xs) = none_passing xs
 
--- a row that is due is among those that are read, and passes
-due_asked : (t : Tables) (test : DueTest) (p : Position) (late : LateRows) → test.position.now ≡ p → ReachesDue late p.commits t.meta.commits
-    → (row : LogRow) → row.seq ≤ t.meta.commits → is_due_to p row ≡ true → is_late_row late (passes_due test) row ≡ true
-due_asked t test p late of reaches row low e =
-    and_from (leb late.from row.time && leb row.seq late.to) (passes_due test row)
-    (and_from (leb late.from row.time) (leb row.seq late.to) (le-leb late.from row.time (let first = reaches.always in omega (arith, first))) (le-leb row.seq late.to (reached (is_tentative row) refl)))
-    (passed (is_tentative row) refl)
+-- a row in scope is among those that are read
+above_asked : (test : AboveTest) (commits : ℕ) (late : LateRows) → ReachesAbove late test.commits commits
+    → (row : LogRow) → row.seq ≤ commits → is_above test.commits row ≡ true → is_late_row late (passes_above test) row ≡ true
+above_asked test commits late reaches row low e =
+    and_from (leb late.from row.time && leb row.seq late.to) (passes_above test row)
+    (and_from (leb late.from row.time) (leb row.seq late.to)
+    (le-leb late.from row.time (let first = reaches.always in omega (arith, first)))
+    (le-leb row.seq late.to (reached (or_cases (is_tentative row) (ltb test.commits row.seq) e))))
+    e
   where
-    above : is_tentative row ≡ false → ltb p.commits row.seq ≡ true
-    above some = go (or_cases (is_tentative row && is_lacked_row p row) (ltb p.commits row.seq) e)
-      where
-        go : ((is_tentative row && is_lacked_row p row) ≡ true) ⊎ (ltb p.commits row.seq ≡ true) → ltb p.commits row.seq ≡ true
-        go (inl f) = absurd (true≢false (sym (and_parts (is_tentative row) (is_lacked_row p row) f).0 ∙ some))
-        go (inr f) = f
-
-    reached : (b : Bool) → is_tentative row ≡ b → row.seq ≤ late.to
-    reached true none = let zero_is : row.seq ≡ 0 = eqb-true row.seq 0 none in omega (arith, zero_is)
-    reached false some =
-        let more = ltb-true p.commits row.seq (above some) in
+    reached : (is_tentative row ≡ true) ⊎ (ltb test.commits row.seq ≡ true) → row.seq ≤ late.to
+    reached (inl none) = let zero_is : row.seq ≡ 0 = eqb-true row.seq 0 none in omega (arith, zero_is)
+    reached (inr some) =
+        let more = ltb-true test.commits row.seq some in
         let far = reaches.numbers (omega (arith, more, low)) in
         omega (arith, far, low)
 
-    lacked : is_tentative row ≡ true → is_lacked_row p row ≡ true
-    lacked none = go (or_cases (is_tentative row && is_lacked_row p row) (ltb p.commits row.seq) e)
-      where
-        go : ((is_tentative row && is_lacked_row p row) ≡ true) ⊎ (ltb p.commits row.seq ≡ true) → is_lacked_row p row ≡ true
-        go (inl f) = (and_parts (is_tentative row) (is_lacked_row p row) f).1
-        go (inr f) = let zero_is : row.seq ≡ 0 = eqb-true row.seq 0 none in let more = ltb-true p.commits row.seq f in absurd (omega (arith, more, zero_is))
-
-    passed : (b : Bool) → is_tentative row ≡ b → passes_due test row ≡ true
-    passed true none = cond-true (is_tentative row) (is_lacked_row test.position.now row) _ none ∙ ap (λ (q : Position). is_lacked_row q row) of ∙ lacked none
-    passed false some = cond-false (is_tentative row) _ (ltb test.position.now.commits row.seq) some ∙ ap (λ (q : Position). ltb q.commits row.seq) of ∙ above some
-
-pub due_read : (t : Tables) (test : DueTest) (p : Position) (late : LateRows) (first logs : List LogRow) → test.position.now ≡ p → ReachesDue late p.commits t.meta.commits
-    → first ≡ [] → ((q : LogRow → Bool) → first ≡ filter q t.log → logs ≡ filter (λ row. q row || is_late_row late (passes_due test) row) t.log) → AreLogsRead (OfPosition p) t logs
-due_read t test p late first logs of reaches none are numbered = (
-  is_late_row late (passes_due test),
+pub above_read : (t : Tables) (test : AboveTest) (late : LateRows) (first logs : List LogRow) → ReachesAbove late test.commits t.meta.commits → first ≡ []
+    → ((q : LogRow → Bool) → first ≡ filter q t.log → logs ≡ filter (λ row. q row || is_late_row late (passes_above test) row) t.log) → AreLogsRead (Above test.commits) t logs
+above_read t test late first logs reaches none are numbered = (
+  is_late_row late (passes_above test),
   are (λ row. false) (none ∙ none_passing t.log),
-  λ row h. let g = filter_has (is_due_to p) row t.log h in due_asked t test p late of reaches row (numbered row g.0).0 g.1,
+  λ row h. let g = filter_has (is_above test.commits) row t.log h in above_asked test t.meta.commits late reaches row (numbered row g.0).0 g.1,
 )
 
 -- ---- those of a batch

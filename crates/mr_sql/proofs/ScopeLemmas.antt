@@ -1,24 +1,25 @@
 -- The rows that the questions of a scope ask for are enough of it.
 use Rattle.std.proofs.Common.{◌≡◌, refl, sym, ap, ◌∙◌, subst, ℕ, ◌+◌, ◌≤◌, Bool, true, false, cond, ◌||◌, List, [], ◌∷◌, map, filter, arith, length, not, le_refl}
-use Rattle.std.proofs.lemmas.Bool.{and_parts, or_left}
+use Rattle.std.proofs.lemmas.Bool.{or_left}
 use Rattle.std.specs.Prelude.{bytes_eq}
-use Rattle.std.specs.List.{list_any}
 use Rattle.mr_model.specs.Texts.{Text}
-use Rattle.mr_model.specs.Calendar.{same_date}
-use Rattle.mr_model.specs.Writes.{Id, id_of, same_id, choices_of}
+use Rattle.mr_model.specs.Writes.{Id, id_of, same_id}
 use Rattle.mr_model.specs.Replica.{Replica, clock_of, is_dropped, is_among}
 use Rattle.mr_model.specs.Exchange.{Item}
 use Rattle.mr_model.specs.Tables.{MetaRow, VectorRow, LogRow, BookingRow, ErrorRow, CancelledRow, Tables, log_row, by_id as writes_by_id, kept, seq_among, tables_of}
 use Rattle.mr_model.specs.Queries.{booking_id, error_id, cancelled_id, log_id}
 use Rattle.mr_model.specs.Dropped.{Has}
-use Rattle.mr_model.specs.Scopes.{Scope, Nothing, OfRequest, OfTarget, NextCommits, UpTo, OfPosition, OfItems, is_on_day_of, is_needed, next_commits, with_rows, in_scope}
+use Rattle.mr_model.specs.Scopes.{Scope, Nothing, InRoom, OfTarget, NextCommits, UpTo, Above, OfItems, is_touched, next_commits, with_rows, in_scope}
 use Rattle.mr_model.specs.RowsRead.{rows_read}
 use Rattle.mr_model.proofs.ReadRows.{read_rows}
 use Rattle.mr_model.proofs.Members.{all_has, filter_has, map_has}
 use Rattle.mr_model.proofs.RowsById.{by_id_has}
 use Rattle.mr_model.proofs.StepsKeep.{times_below}
 use Rattle.mr_rows.specs.RowQuestions.{is_row_asked, is_booking_asked, is_cancelled_asked, is_booking_named, is_error_of, is_cancelled_of}
-use Rattle.mr_sql.specs.ScopeQuestions.{logs_alone, room_questions, target_questions, taken_questions, items_asked, asks_booking, asks_cancelled, AreRead, AreLogsWithin, AreEnough}
+use Rattle.mr_kept.specs.Sets.{AreSameRooms, IsSetOf}
+use Rattle.mr_sql.specs.declared.scope_rooms.RoomTest.{RoomTest}
+use Rattle.mr_sql.specs.RoomTests.{books_in, cancels_in}
+use Rattle.mr_sql.specs.ScopeQuestions.{logs_alone, room_questions, target_questions, taken_questions, asks_booking, asks_cancelled, AreRead, AreLogsWithin, AreEnough}
 use Rattle.mr_rows.proofs.RowLemmas.{filter_same}
 use Rattle.mr_rows.proofs.ValueLemmas.{or_false}
 
@@ -47,57 +48,55 @@ logs_same s t p pass = alone s ∙ ap (λ (u : Tables). u.log) (logs_suffice s t
   where
     alone : (r : Scope) → (in_scope r (logs_alone t.meta.commits (filter p t.log))).log ≡ (in_scope r (logs_read p t)).log
     alone Nothing = refl
-    alone (OfRequest q) = refl
+    alone (InRoom room) = refl
     alone (OfTarget target) = refl
     alone (NextCommits k) = refl
     alone (UpTo d) = refl
-    alone (OfPosition p) = refl
+    alone (Above c) = refl
     alone (OfItems items) = refl
 
 -- ---- bookings
 
--- what the rows read tell to be needed is what all rows do
-needed_booking : (items : List Item) (t : Tables) (p : LogRow → Bool) → Passes (OfItems items) t p → (b : BookingRow) → Has b (in_scope (OfItems items) t).booking
-    → is_needed (logs_alone t.meta.commits (filter p t.log)) items b.room b.day (booking_id b) ≡ true
-needed_booking items t p pass b h =
+-- the rooms that the rows read touch are those that all rows touch
+touched_booking : (items : List Item) (t : Tables) (p : LogRow → Bool) → Passes (OfItems items) t p → (b : BookingRow) → Has b (in_scope (OfItems items) t).booking
+    → is_row_asked is_booking_asked (room_questions t.meta.commits (OfItems items) (filter p t.log)) b ≡ true
+touched_booking items t p pass b h =
     let read = logs_read p t in
     let same = logs_suffice (OfItems items) t p pass in
-    (filter_has (λ (c : BookingRow). is_needed read items c.room c.day (booking_id c)) b read.booking (subst (λ (u : Tables). Has b u.booking) (sym same) h)).1
+    (filter_has (λ (c : BookingRow). is_touched read items c.room) b read.booking (subst (λ (u : Tables). Has b u.booking) (sym same) h)).1
 
 booking_read : (s : Scope) (t : Tables) (p : LogRow → Bool) → Passes s t p → (b : BookingRow) → Has b (in_scope s t).booking → asks_booking t.meta.commits s (filter p t.log) b ≡ true
 booking_read Nothing t p pass b h = absurd h
-booking_read (OfRequest q) t p pass b h =
-    let on = (filter_has (λ (c : BookingRow). is_on_day_of q c.room c.day) b t.booking h).1 in
-    let room = (and_parts (bytes_eq b.room q.room) (list_any (λ x. same_date x.day b.day) (choices_of q.meeting)) on).0 in
-    or_left (is_row_asked is_booking_asked (q.room ∷ []) b) false (or_left (is_booking_asked q.room b) false room)
+booking_read (InRoom room) t p pass b h =
+    or_left (is_row_asked is_booking_asked (room ∷ []) b) false (or_left (is_booking_asked room b) false (filter_has (λ (c : BookingRow). bytes_eq c.room room) b t.booking h).1)
 booking_read (OfTarget target) t p pass b h =
-    or_left (is_row_asked is_booking_named (target ∷ []) b) false
-    (or_left (is_booking_named target b) false (or_left (same_id (booking_id b) target) false (filter_has (λ (c : BookingRow). same_id (booking_id c) target) b t.booking h).1))
+    or_left (is_booking_named target b) false (or_left (same_id (booking_id b) target) false (filter_has (λ (c : BookingRow). same_id (booking_id c) target) b t.booking h).1)
 booking_read (NextCommits k) t p pass b h = absurd h
 booking_read (UpTo d) t p pass b h = absurd h
-booking_read (OfPosition q) t p pass b h = absurd h
-booking_read (OfItems items) t p pass b h = needed_booking items t p pass b h
+booking_read (Above c) t p pass b h = absurd h
+booking_read (OfItems items) t p pass b h =
+    or_left (is_row_asked is_booking_asked (room_questions t.meta.commits (OfItems items) (filter p t.log)) b) false (touched_booking items t p pass b h)
 
 -- ---- the error log
 
 error_read : (s : Scope) (t : Tables) (e : ErrorRow) → Has e (in_scope s t).errorlog → is_row_asked is_error_of (target_questions s) e ≡ true
 error_read Nothing t e h = absurd h
-error_read (OfRequest q) t e h = absurd h
+error_read (InRoom room) t e h = absurd h
 error_read (OfTarget target) t e h =
     or_left (is_error_of target e) false (or_left (same_id (error_id e) target) false (filter_has (λ (c : ErrorRow). same_id (error_id c) target) e t.errorlog h).1)
 error_read (NextCommits k) t e h = absurd h
 error_read (UpTo d) t e h = absurd h
-error_read (OfPosition q) t e h = absurd h
+error_read (Above c) t e h = absurd h
 error_read (OfItems items) t e h = absurd h
 
 -- ---- cancelled bookings
 
-needed_cancelled : (items : List Item) (t : Tables) (p : LogRow → Bool) → Passes (OfItems items) t p → (c : CancelledRow) → Has c (in_scope (OfItems items) t).cancelled
-    → is_needed (logs_alone t.meta.commits (filter p t.log)) items c.room c.day (cancelled_id c) ≡ true
-needed_cancelled items t p pass c h =
+touched_cancelled : (items : List Item) (t : Tables) (p : LogRow → Bool) → Passes (OfItems items) t p → (c : CancelledRow) → Has c (in_scope (OfItems items) t).cancelled
+    → is_row_asked is_cancelled_asked (room_questions t.meta.commits (OfItems items) (filter p t.log)) c ≡ true
+touched_cancelled items t p pass c h =
     let read = logs_read p t in
     let same = logs_suffice (OfItems items) t p pass in
-    (filter_has (λ (d : CancelledRow). is_needed read items d.room d.day (cancelled_id d)) c read.cancelled (subst (λ (u : Tables). Has c u.cancelled) (sym same) h)).1
+    (filter_has (λ (d : CancelledRow). is_touched read items d.room) c read.cancelled (subst (λ (u : Tables). Has c u.cancelled) (sym same) h)).1
 
 -- the row of one of these ids is asked for
 cancelled_of_ids : (ids : List Id) (c : CancelledRow) → is_row_asked is_cancelled_of ids c ≡ is_among (cancelled_id c) ids
@@ -114,18 +113,15 @@ next_cancelled k t p pass c h =
 
 cancelled_read : (s : Scope) (t : Tables) (p : LogRow → Bool) → Passes s t p → (c : CancelledRow) → Has c (in_scope s t).cancelled → asks_cancelled t.meta.commits s (filter p t.log) c ≡ true
 cancelled_read Nothing t p pass c h = absurd h
-cancelled_read (OfRequest q) t p pass c h =
-    let on = (filter_has (λ (d : CancelledRow). is_on_day_of q d.room d.day) c t.cancelled h).1 in
-    let room = (and_parts (bytes_eq c.room q.room) (list_any (λ x. same_date x.day c.day) (choices_of q.meeting)) on).0 in
-    or_left (is_row_asked is_cancelled_asked (q.room ∷ []) c) false (or_left (is_cancelled_asked q.room c) false room)
+cancelled_read (InRoom room) t p pass c h =
+    or_left (is_row_asked is_cancelled_asked (room ∷ []) c) false (or_left (is_cancelled_asked room c) false (filter_has (λ (d : CancelledRow). bytes_eq d.room room) c t.cancelled h).1)
 cancelled_read (OfTarget target) t p pass c h =
-    or_left (is_row_asked is_cancelled_of (target ∷ []) c) false
-    (or_left (is_cancelled_of target c) false (or_left (same_id (cancelled_id c) target) false (filter_has (λ (d : CancelledRow). same_id (cancelled_id d) target) c t.cancelled h).1))
-cancelled_read (NextCommits k) t p pass c h =
-    or_left (is_row_asked is_cancelled_of (taken_questions t.meta.commits (NextCommits k) (filter p t.log)) c) false (next_cancelled k t p pass c h)
+    or_left (is_cancelled_of target c) false (or_left (same_id (cancelled_id c) target) false (filter_has (λ (d : CancelledRow). same_id (cancelled_id d) target) c t.cancelled h).1)
+cancelled_read (NextCommits k) t p pass c h = next_cancelled k t p pass c h
 cancelled_read (UpTo d) t p pass c h = absurd h
-cancelled_read (OfPosition q) t p pass c h = absurd h
-cancelled_read (OfItems items) t p pass c h = needed_cancelled items t p pass c h
+cancelled_read (Above d) t p pass c h = absurd h
+cancelled_read (OfItems items) t p pass c h =
+    or_left (is_row_asked is_cancelled_asked (room_questions t.meta.commits (OfItems items) (filter p t.log)) c) false (touched_cancelled items t p pass c h)
 
 -- ---- all tables
 
@@ -164,33 +160,42 @@ read_enough s t meta room vector logs bookings errors gone heads read numbered =
     (let m = heads.0 in let r = heads.1 in let v = heads.2 in λ i. in_scope s (record { meta = m i; room = r i; vector = v i; log = logs; booking = bookings; errorlog = errors; cancelled = gone; cancels = [] }))
     ∙ enough s t logs bookings errors gone (read (ap (λ (m : MetaRow). m.commits) heads.0) (ap (λ (m : MetaRow). m.clock) heads.0)) numbered
 
--- ---- one question of the three
+-- ---- rows of rooms
 
--- where nothing is asked by id, and no items are, what is asked by room is all that is asked
-pub by_room : (commits : ℕ) (s : Scope) (logs : List LogRow) → target_questions s ≡ [] → items_asked s ≡ [] → (bookings : List BookingRow)
-    → filter (is_row_asked is_booking_asked (room_questions s)) bookings ≡ filter (asks_booking commits s logs) bookings
-by_room commits s logs no_ids no_items bookings = filter_same (is_row_asked is_booking_asked (room_questions s)) (asks_booking commits s logs) bookings
-    (λ b _. sym (or_false (is_row_asked is_booking_asked (room_questions s) b))
-    ∙ (λ i. is_row_asked is_booking_asked (room_questions s) b || (is_row_asked is_booking_named (sym no_ids i) b || is_needed (logs_alone commits logs) (sym no_items i) b.room b.day (booking_id b))))
+-- a set of rooms passes what questions for these rooms ask for
+pub set_asked : (test : RoomTest) (rooms : List Text) → IsSetOf test.rooms rooms → (bookings : List BookingRow) → filter (books_in test) bookings ≡ filter (is_row_asked is_booking_asked rooms) bookings
+set_asked test rooms set bookings = filter_same (books_in test) (is_row_asked is_booking_asked rooms) bookings (λ b _. set b.room)
 
-pub taken_by_room : (commits : ℕ) (s : Scope) (logs : List LogRow) → taken_questions commits s logs ≡ [] → items_asked s ≡ [] → (rows : List CancelledRow)
-    → filter (is_row_asked is_cancelled_asked (room_questions s)) rows ≡ filter (asks_cancelled commits s logs) rows
-taken_by_room commits s logs no_ids no_items rows = filter_same (is_row_asked is_cancelled_asked (room_questions s)) (asks_cancelled commits s logs) rows
-    (λ c _. sym (or_false (is_row_asked is_cancelled_asked (room_questions s) c))
-    ∙ (λ i. is_row_asked is_cancelled_asked (room_questions s) c || (is_row_asked is_cancelled_of (sym no_ids i) c || is_needed (logs_alone commits logs) (sym no_items i) c.room c.day (cancelled_id c))))
+pub taken_set_asked : (test : RoomTest) (rooms : List Text) → IsSetOf test.rooms rooms → (rows : List CancelledRow) → filter (cancels_in test) rows ≡ filter (is_row_asked is_cancelled_asked rooms) rows
+taken_set_asked test rooms set rows = filter_same (cancels_in test) (is_row_asked is_cancelled_asked rooms) rows (λ c _. set c.room)
 
--- where nothing is asked by room, and no items are, what is asked by id is
-pub by_id : (commits : ℕ) (s : Scope) (logs : List LogRow) → room_questions s ≡ [] → items_asked s ≡ [] → (bookings : List BookingRow)
+-- ---- one question of the two
+
+-- where nothing is asked by id, what is asked for of the same rooms is all that is asked
+pub by_room : (commits : ℕ) (s : Scope) (logs : List LogRow) (rooms : List Text) → target_questions s ≡ [] → AreSameRooms rooms (room_questions commits s logs) → (bookings : List BookingRow)
+    → filter (is_row_asked is_booking_asked rooms) bookings ≡ filter (asks_booking commits s logs) bookings
+by_room commits s logs rooms none same bookings = filter_same (is_row_asked is_booking_asked rooms) (asks_booking commits s logs) bookings
+    (λ b _. same b.room
+    ∙ sym (or_false (is_row_asked is_booking_asked (room_questions commits s logs) b))
+    ∙ ap (λ ids. is_row_asked is_booking_asked (room_questions commits s logs) b || is_row_asked is_booking_named ids b) (sym none))
+
+pub taken_by_room : (commits : ℕ) (s : Scope) (logs : List LogRow) (rooms : List Text) → taken_questions commits s logs ≡ [] → AreSameRooms rooms (room_questions commits s logs) → (rows : List CancelledRow)
+    → filter (is_row_asked is_cancelled_asked rooms) rows ≡ filter (asks_cancelled commits s logs) rows
+taken_by_room commits s logs rooms none same rows = filter_same (is_row_asked is_cancelled_asked rooms) (asks_cancelled commits s logs) rows
+    (λ c _. same c.room
+    ∙ sym (or_false (is_row_asked is_cancelled_asked (room_questions commits s logs) c))
+    ∙ ap (λ ids. is_row_asked is_cancelled_asked (room_questions commits s logs) c || is_row_asked is_cancelled_of ids c) (sym none))
+
+-- where nothing is asked by room, what is asked by id is
+pub by_id : (commits : ℕ) (s : Scope) (logs : List LogRow) → room_questions commits s logs ≡ [] → (bookings : List BookingRow)
     → filter (is_row_asked is_booking_named (target_questions s)) bookings ≡ filter (asks_booking commits s logs) bookings
-by_id commits s logs no_rooms no_items bookings = filter_same (is_row_asked is_booking_named (target_questions s)) (asks_booking commits s logs) bookings
-    (λ b _. sym (or_false (is_row_asked is_booking_named (target_questions s) b))
-    ∙ (λ i. is_row_asked is_booking_asked (sym no_rooms i) b || (is_row_asked is_booking_named (target_questions s) b || is_needed (logs_alone commits logs) (sym no_items i) b.room b.day (booking_id b))))
+by_id commits s logs none bookings = filter_same (is_row_asked is_booking_named (target_questions s)) (asks_booking commits s logs) bookings
+    (λ b _. ap (λ rooms. is_row_asked is_booking_asked rooms b || is_row_asked is_booking_named (target_questions s) b) (sym none))
 
-pub taken_by_id : (commits : ℕ) (s : Scope) (logs : List LogRow) → room_questions s ≡ [] → items_asked s ≡ [] → (rows : List CancelledRow)
+pub taken_by_id : (commits : ℕ) (s : Scope) (logs : List LogRow) → room_questions commits s logs ≡ [] → (rows : List CancelledRow)
     → filter (is_row_asked is_cancelled_of (taken_questions commits s logs)) rows ≡ filter (asks_cancelled commits s logs) rows
-taken_by_id commits s logs no_rooms no_items rows = filter_same (is_row_asked is_cancelled_of (taken_questions commits s logs)) (asks_cancelled commits s logs) rows
-    (λ c _. sym (or_false (is_row_asked is_cancelled_of (taken_questions commits s logs) c))
-    ∙ (λ i. is_row_asked is_cancelled_asked (sym no_rooms i) c || (is_row_asked is_cancelled_of (taken_questions commits s logs) c || is_needed (logs_alone commits logs) (sym no_items i) c.room c.day (cancelled_id c))))
+taken_by_id commits s logs none rows = filter_same (is_row_asked is_cancelled_of (taken_questions commits s logs)) (asks_cancelled commits s logs) rows
+    (λ c _. ap (λ rooms. is_row_asked is_cancelled_asked rooms c || is_row_asked is_cancelled_of (taken_questions commits s logs) c) (sym none))
 
 -- ---- commit numbers and times of a replica's tables
 

@@ -1,10 +1,9 @@
--- A reader of the contracts trusts Found and Refused. The others, PlaceOfId, ScopeQuestions, RoomTests, LateTests, DueTests, NeededTests, Blank and OurSchema, serve private clauses and proofs alone.
+-- A reader of the contracts trusts Found and Refused. The others, PlaceOfId, ScopeQuestions, RoomTests, LateTests, AboveTests, Blank and OurSchema, serve private clauses and proofs alone.
 pub mod PlaceOfId
 pub mod ScopeQuestions
 pub mod RoomTests
 pub mod LateTests
-pub mod DueTests
-pub mod NeededTests
+pub mod AboveTests
 pub mod Blank
 pub mod OurSchema
 pub mod Found

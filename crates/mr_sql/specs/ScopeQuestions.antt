@@ -1,14 +1,13 @@
 -- The questions of a scope: which rows of the tables are asked for.
-use Rattle.std.specs.Prelude.{◌≡◌, ◌≤◌, ℕ, Bool, true, false, ◌||◌, if◌then◌else◌, nat_lt, List, [], ◌∷◌, map, filter}
+use Rattle.std.specs.Prelude.{◌≡◌, ◌≤◌, ℕ, Bool, true, false, ◌||◌, if◌then◌else◌, nat_lt, List, [], ◌∷◌, map, filter, flat_map}
 use Rattle.std.specs.declared.cmp.Ordering.{Ordering}
 use Rattle.std.specs.Ordering.{nat_cmp, ordering_then}
 use Rattle.mr_model.specs.Texts.{Text}
 use Rattle.mr_model.specs.Writes.{Id}
-use Rattle.mr_model.specs.Exchange.{Item}
-use Rattle.mr_model.specs.Scopes.{Scope, OfRequest, OfTarget, NextCommits, UpTo, OfPosition, OfItems, next_commits, is_needed, in_scope}
+use Rattle.mr_model.specs.Scopes.{Scope, InRoom, OfTarget, NextCommits, UpTo, Above, OfItems, next_commits, rooms_of_item, in_scope}
 use Rattle.mr_model.specs.Tables.{LogRow, BookingRow, ErrorRow, CancelledRow, Tables}
 use Rattle.mr_model.specs.Dropped.{Has}
-use Rattle.mr_model.specs.Queries.{log_id, booking_id, cancelled_id}
+use Rattle.mr_model.specs.Queries.{log_id}
 use Rattle.mr_rows.specs.declared.questions.NumberQuestion.{NumberQuestion}
 use Rattle.mr_rows.specs.declared.log_stamps.LogStamp.{LogStamp}
 use Rattle.mr_rows.specs.RowQuestions.{is_booking_asked, is_cancelled_asked, is_booking_named, is_error_of, is_cancelled_of, is_row_asked}
@@ -30,7 +29,7 @@ number_questions commits _ = []
 -- the scopes of which nothing else is asked of the log
 abbrev pub is_of_numbers : Scope → Bool
 is_of_numbers (NextCommits k) = false
-is_of_numbers (OfPosition p) = false
+is_of_numbers (Above c) = false
 is_of_numbers (OfItems items) = false
 is_of_numbers _ = true
 
@@ -57,10 +56,11 @@ logs_alone commits logs =
       cancels = [];
     }
 
--- the rooms whose bookings are asked for, those that a cancel took back too
-abbrev pub room_questions : Scope → List Text
-room_questions (OfRequest q) = q.room ∷ []
-room_questions _ = []
+-- the rooms whose bookings are asked for, those that a cancel took back too, where these rows of the log were read
+abbrev pub room_questions : ℕ → Scope → List LogRow → List Text
+room_questions commits (InRoom room) logs = room ∷ []
+room_questions commits (OfItems items) logs = flat_map (rooms_of_item commits logs) items
+room_questions commits _ logs = []
 
 -- the ids whose bookings and logged requests are asked for
 abbrev pub target_questions : Scope → List Id
@@ -73,24 +73,14 @@ taken_questions commits (OfTarget target) logs = target ∷ []
 taken_questions commits (NextCommits k) logs = map log_id (next_commits k (logs_alone commits logs))
 taken_questions commits _ logs = []
 
--- the items whose needs are asked for, of bookings that stand and of those that a cancel took back
-abbrev pub items_asked : Scope → List Item
-items_asked (OfItems items) = items
-items_asked _ = []
-
--- ---- rows that some question asks for, by room or by id, or that the items need, where these rows of the log were read
+-- ---- rows that some question asks for, by room or by id, where these rows of the log were read
 
 abbrev pub asks_booking : ℕ → Scope → List LogRow → BookingRow → Bool
-asks_booking commits s logs row =
-    is_row_asked is_booking_asked (room_questions s) row
-    || (is_row_asked is_booking_named (target_questions s) row
-    || is_needed (logs_alone commits logs) (items_asked s) row.room row.day (booking_id row))
+asks_booking commits s logs row = is_row_asked is_booking_asked (room_questions commits s logs) row || is_row_asked is_booking_named (target_questions s) row
 
 abbrev pub asks_cancelled : ℕ → Scope → List LogRow → CancelledRow → Bool
 asks_cancelled commits s logs row =
-    is_row_asked is_cancelled_asked (room_questions s) row
-    || (is_row_asked is_cancelled_of (taken_questions commits s logs) row
-    || is_needed (logs_alone commits logs) (items_asked s) row.room row.day (cancelled_id row))
+    is_row_asked is_cancelled_asked (room_questions commits s logs) row || is_row_asked is_cancelled_of (taken_questions commits s logs) row
 
 -- ---- what is read
 

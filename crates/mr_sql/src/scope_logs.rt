@@ -1,7 +1,7 @@
 ghost use Rattle.std.specs.Prelude.{◌≡◌, ◌||◌, ℕ, Bool, true, false, map, filter, IfOk};
 ghost use Rattle.sqlite.specs.Held.{state};
 ghost use Rattle.mr_base.specs.Batches.{item_of};
-ghost use Rattle.mr_model.specs.Scopes.{NextCommits, OfPosition, OfItems, next_commits};
+ghost use Rattle.mr_model.specs.Scopes.{NextCommits, Above, OfItems, next_commits};
 ghost use Rattle.mr_model.specs.Queries.{log_id};
 ghost use Rattle.mr_model.specs.Tables.{LogRow as RowOfLog};
 ghost use Rattle.mr_part.specs.ScopeOf.{scope_of};
@@ -12,11 +12,11 @@ ghost use Rattle.mr_sql.specs.ScopeQuestions.{AreLogsRead, AreLogsWithin, is_of_
 ghost use Rattle.mr_sql.specs.LateTests.{passes_late, IsLateTest};
 ghost use Rattle.mr_sql.specs.RoomTests.{HasOnly};
 
-use crate::scope_due::{DueTest, due_rows};
+use crate::scope_above::{AboveTest, rows_above};
 use crate::scope_late::{LateTest, late_rows};
 use crate::scope_questions::{item_questions, number_questions, tentative_rows};
 use crate::scope_stamps::first_ids;
-use mr_base::{Item, Position};
+use mr_base::Item;
 use mr_part::Scope;
 use mr_rows::asked_rows::asked_rows;
 use mr_rows::{IdQuestion, LateRows, StoredRow, tentative_stamps, with_late_rows};
@@ -137,21 +137,21 @@ fn read_batch<S: Alter>(
     with_late(conn, alloc, late, &test, named, clock)
 }
 
-/// The rows of a batch for a position, in one pass.
-fn read_due<S: Alter>(
+/// The rows of a batch for a position with so many commits, in one pass.
+fn read_above<S: Alter>(
     conn: &mut Connection<S>,
     alloc: Global,
-    position: &Position,
+    number: u64,
     commits: u64,
 ) -> Result<Vec<LogRow>, Error>
     requires autocommit { conn.old.in_transaction ≡ false }
     ensures autocommit { conn.new.in_transaction ≡ false }
     ensures reads { ReadsInUse (state S.Store conn.old) (state S.Store conn.new) result
         (λ rows. commits ≡ (tables_in (state S.Store conn.old).now.trees).meta.commits
-        → AreLogsRead (OfPosition position.now) (tables_in (state S.Store conn.old).now.trees) rows.items) }
+        → AreLogsRead (Above number) (tables_in (state S.Store conn.old).now.trees) rows.items) }
 {
-    let late = due_rows(position, commits);
-    let test = DueTest { position };
+    let late = rows_above(number, commits);
+    let test = AboveTest { commits: number };
     with_late_rows(conn, alloc, late, None, &test, Vec::new(alloc))
 }
 
@@ -189,9 +189,9 @@ pub(crate) fn read_logs<S: Alter>(
 {
     match *scope {
         Scope::NextCommits(count) => read_next(conn, alloc, count),
-        Scope::OfPosition(position) => read_due(conn, alloc, position, commits),
+        Scope::Above(number) => read_above(conn, alloc, number, commits),
         Scope::Items(items) => read_batch(conn, alloc, items, commits, clock),
-        Scope::Nothing | Scope::OfRequest(_, _) | Scope::OfTarget(_) | Scope::UpTo(_) => {
+        Scope::Nothing | Scope::InRoom(_) | Scope::OfTarget(_) | Scope::UpTo(_) => {
             read_numbers(conn, alloc, scope, commits)
         }
     }

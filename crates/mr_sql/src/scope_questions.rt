@@ -46,10 +46,10 @@ pub(crate) fn number_questions(
     match *scope {
         Scope::UpTo(number) => rows_up_to(alloc, number, commits),
         Scope::Nothing
-        | Scope::OfRequest(_, _)
+        | Scope::InRoom(_)
         | Scope::OfTarget(_)
         | Scope::NextCommits(_)
-        | Scope::OfPosition(_)
+        | Scope::Above(_)
         | Scope::Items(_) => Ok(Vec::new(alloc)),
     }
 }
@@ -131,7 +131,7 @@ pub(crate) fn target_questions(
 
 /// Whether bookings are asked for by id in a scope. Else they are by room.
 pub(crate) fn asks_by_id(scope: &Scope<'_>) -> bool
-    ensures by_id { IsTrue result → room_questions (scope_of scope.now) ≡ [] }
+    ensures by_id { IsTrue result → (commits : ℕ) (logs : List Row) → room_questions commits (scope_of scope.now) logs ≡ [] }
     ensures by_room { result ≡ false → target_questions (scope_of scope.now) ≡ [] }
 {
     match *scope {
@@ -142,7 +142,7 @@ pub(crate) fn asks_by_id(scope: &Scope<'_>) -> bool
 
 /// The same of cancelled bookings.
 pub(crate) fn takes_by_id(scope: &Scope<'_>) -> bool
-    ensures by_id { IsTrue result → room_questions (scope_of scope.now) ≡ [] }
+    ensures by_id { IsTrue result → (commits : ℕ) (logs : List Row) → room_questions commits (scope_of scope.now) logs ≡ [] }
     ensures by_room { result ≡ false → (commits : ℕ) (logs : List Row) → taken_questions commits (scope_of scope.now) logs ≡ [] }
 {
     match *scope {

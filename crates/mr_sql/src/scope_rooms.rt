@@ -1,30 +1,38 @@
 ghost use Rattle.std.specs.Prelude.{◌≡◌, ◌∷◌, [], IfOk};
 ghost use Rattle.std.specs.Option.{option_copied};
 ghost use Rattle.sqlite_value.specs.Order.{column, bytes};
-ghost use Rattle.mr_kept.specs.Sets.{has_room, IsSetOf};
+ghost use Rattle.mr_kept.specs.Sets.{AreSameRooms, has_room, IsSetOf};
 ghost use Rattle.mr_part.specs.ScopeOf.{scope_of};
 ghost use Rattle.mr_sql.specs.ScopeQuestions.{room_questions};
-ghost use Rattle.mr_sql.specs.RoomTests.{IsAlone, HasOnly};
+ghost use Rattle.mr_sql.specs.RoomTests.{IsAlone, HasOnly, books_in, cancels_in};
 
 use mr_base::{Refusal, RoomName};
 use mr_kept::room_sets::{RoomSet, room_set};
-use mr_part::Scope;
+use mr_part::{Scope, touched_rooms};
+use mr_rows::RowTest;
 use mr_rows::cells::read_name;
+use mr_tables::{BookingRow, CancelledRow, LogRow};
 use sqlite::{Error, Row};
 use std::alloc::Global;
 
-/// What is asked of `booking` and of `cancelled` by room for a scope: for the bookings of this room.
-pub(crate) fn room_questions(alloc: Global, scope: &Scope<'_>) -> Result<Vec<RoomName>, Refusal>
-    ensures { IfOk result (λ rooms. rooms.items ≡ room_questions (scope_of scope.now)) }
+/// What is asked of `booking` and of `cancelled` by room for a scope, where these rows of `log` were read and so many commits are
+/// known: for the bookings of these rooms, each of which comes once.
+pub(crate) fn room_questions(
+    alloc: Global,
+    scope: &Scope<'_>,
+    logs: &[LogRow],
+    commits: u64,
+) -> Result<Vec<RoomName>, Refusal>
+    ensures { IfOk result (λ rooms. AreSameRooms rooms.items (room_questions commits (scope_of scope.now) logs.now)) }
 {
     match *scope {
-        Scope::OfRequest(room, _) => one_room(alloc, room),
+        Scope::InRoom(room) => one_room(alloc, room),
+        Scope::Items(items) => touched_rooms(alloc, logs, items, commits),
         Scope::Nothing
         | Scope::OfTarget(_)
         | Scope::NextCommits(_)
         | Scope::UpTo(_)
-        | Scope::OfPosition(_)
-        | Scope::Items(_) => Ok(Vec::new(alloc)),
+        | Scope::Above(_) => Ok(Vec::new(alloc)),
     }
 }
 
@@ -37,7 +45,7 @@ fn one_room(alloc: Global, room: &RoomName) -> Result<Vec<RoomName>, Refusal>
 }
 
 /// The room that there is, where these are one.
-pub(crate) fn only_room(alloc: Global, rooms: &[RoomName]) -> Result<Option<RoomName>, Refusal>
+fn only_room(alloc: Global, rooms: &[RoomName]) -> Result<Option<RoomName>, Refusal>
     ensures { IfOk result (λ only. IsAlone only rooms.now) }
 {
     match rooms {
@@ -77,5 +85,21 @@ impl RoomTest {
     {
         let name = read_name(self.alloc, row, at)?;
         Ok(self.rooms.contains(&name))
+    }
+}
+
+impl RowTest<BookingRow> for RoomTest {
+    ghost passes = { books_in };
+
+    fn is_passed_by(&self, row: &Row) -> Result<bool, Error> {
+        self.has_room(row, 0)
+    }
+}
+
+impl RowTest<CancelledRow> for RoomTest {
+    ghost passes = { cancels_in };
+
+    fn is_passed_by(&self, row: &Row) -> Result<bool, Error> {
+        self.has_room(row, 0)
     }
 }

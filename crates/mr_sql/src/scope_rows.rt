@@ -1,38 +1,68 @@
-ghost use Rattle.std.specs.Prelude.{◌≡◌, [], ℕ, List, false, filter};
+ghost use Rattle.std.specs.Prelude.{◌≡◌, ℕ, List, false, filter, IfOk};
 ghost use Rattle.sqlite.specs.Held.{state};
 ghost use Rattle.mr_model.specs.Tables.{LogRow as Row};
+ghost use Rattle.mr_kept.specs.Sets.{AreSameRooms, IsSetOf};
 ghost use Rattle.mr_part.specs.ScopeOf.{scope_of};
 ghost use Rattle.mr_rows.specs.Database.{tables_in};
 ghost use Rattle.mr_rows.specs.RowQuestions.{is_row_asked, is_booking_asked, is_cancelled_asked, is_booking_named, is_error_of, is_cancelled_of};
-ghost use Rattle.mr_sql.specs.ScopeQuestions.{room_questions, target_questions, taken_questions, items_asked, asks_booking, asks_cancelled, ArePlacesRead, AreRead, AreEnough};
+ghost use Rattle.mr_sql.specs.ScopeQuestions.{room_questions, target_questions, taken_questions, asks_booking, asks_cancelled, ArePlacesRead, AreRead, AreEnough};
 ghost use Rattle.mr_rows.specs.Reads.{ReadsKept, ReadsInUse};
 
 use crate::scope_logs::read_logs;
-use crate::scope_needed::read_needed;
 use crate::scope_questions::{asks_by_id, taken_questions, takes_by_id, target_questions};
-use crate::scope_rooms::room_questions;
+use crate::scope_rooms::{RoomTest, room_questions};
+use mr_base::RoomName;
 use mr_part::Scope;
 use mr_rows::all_tables::read_heads;
 use mr_rows::asked_rows::asked_rows;
+use mr_rows::passing_rows;
 use mr_tables::{BookingRow, CancelledRow, ErrorRow, LogRow, MetaRow, Tables};
 use sqlite::{Alter, Connection, Error, ErrorCode};
 use std::alloc::Global;
 
-/// The bookings of the room that is asked for.
-fn read_room_bookings<S: Alter>(
+fn are_several(rooms: &[RoomName]) -> bool {
+    rooms.len() > 1
+}
+
+fn test_of(alloc: Global, rooms: &[RoomName]) -> Result<RoomTest, Error>
+    ensures { IfOk result (λ test. IsSetOf test.rooms rooms.now) }
+{
+    match RoomTest::of(alloc, rooms) {
+        Ok(test) => Ok(test),
+        Err(_) => Err(Error::SqliteFailure(ErrorCode::OutOfMemory)),
+    }
+}
+
+/// The bookings of these rooms, in one pass over the table.
+fn passing_bookings<S: Alter>(
     conn: &mut Connection<S>,
     alloc: Global,
-    scope: &Scope<'_>,
+    rooms: &[RoomName],
 ) -> Result<Vec<BookingRow>, Error>
     requires autocommit { conn.old.in_transaction ≡ false }
     ensures autocommit { conn.new.in_transaction ≡ false }
     ensures reads { ReadsInUse (state S.Store conn.old) (state S.Store conn.new) result
-        (λ rows. rows.items ≡ filter (is_row_asked is_booking_asked (room_questions (scope_of scope.now)))
-        (tables_in (state S.Store conn.old).now.trees).booking) }
+        (λ rows. rows.items ≡ filter (is_row_asked is_booking_asked rooms.now) (tables_in (state S.Store conn.old).now.trees).booking) }
 {
-    match room_questions(alloc, scope) {
-        Ok(rooms) => asked_rows(conn, alloc, &rooms),
-        Err(_) => Err(Error::SqliteFailure(ErrorCode::OutOfMemory)),
+    let test = test_of(alloc, rooms)?;
+    passing_rows(conn, alloc, None, &test)
+}
+
+/// The bookings of these rooms: those of one by a statement.
+fn bookings_in<S: Alter>(
+    conn: &mut Connection<S>,
+    alloc: Global,
+    rooms: &[RoomName],
+) -> Result<Vec<BookingRow>, Error>
+    requires autocommit { conn.old.in_transaction ≡ false }
+    ensures autocommit { conn.new.in_transaction ≡ false }
+    ensures reads { ReadsInUse (state S.Store conn.old) (state S.Store conn.new) result
+        (λ rows. rows.items ≡ filter (is_row_asked is_booking_asked rooms.now) (tables_in (state S.Store conn.old).now.trees).booking) }
+{
+    if are_several(rooms) {
+        passing_bookings(conn, alloc, rooms)
+    } else {
+        asked_rows(conn, alloc, rooms)
     }
 }
 
@@ -52,22 +82,23 @@ fn read_target_booking<S: Alter>(
     asked_rows(conn, alloc, &asked)
 }
 
-/// The bookings that are asked for, by room or by id. No scope asks by both.
+/// The bookings that are asked for, of these rooms or by id. No scope asks by both.
 fn read_bookings<S: Alter>(
     conn: &mut Connection<S>,
     alloc: Global,
     scope: &Scope<'_>,
+    rooms: &[RoomName],
 ) -> Result<Vec<BookingRow>, Error>
     requires autocommit { conn.old.in_transaction ≡ false }
-    requires no_items { items_asked (scope_of scope.now) ≡ [] }
     ensures autocommit { conn.new.in_transaction ≡ false }
     ensures reads { ReadsInUse (state S.Store conn.old) (state S.Store conn.new) result
-        (λ rows. (commits : ℕ) (logs : List Row) → rows.items ≡ filter (asks_booking commits (scope_of scope.now) logs) (tables_in (state S.Store conn.old).now.trees).booking) }
+        (λ rows. (commits : ℕ) (logs : List Row) → AreSameRooms rooms.now (room_questions commits (scope_of scope.now) logs)
+        → rows.items ≡ filter (asks_booking commits (scope_of scope.now) logs) (tables_in (state S.Store conn.old).now.trees).booking) }
 {
     if asks_by_id(scope) {
         read_target_booking(conn, alloc, scope)
     } else {
-        read_room_bookings(conn, alloc, scope)
+        bookings_in(conn, alloc, rooms)
     }
 }
 
@@ -87,21 +118,36 @@ fn read_errors<S: Alter>(
     asked_rows(conn, alloc, &asked)
 }
 
-/// The cancelled bookings of the room that is asked for.
-fn read_room_cancelled<S: Alter>(
+/// The cancelled bookings of these rooms, in one pass over the table.
+fn passing_cancelled<S: Alter>(
     conn: &mut Connection<S>,
     alloc: Global,
-    scope: &Scope<'_>,
+    rooms: &[RoomName],
 ) -> Result<Vec<CancelledRow>, Error>
     requires autocommit { conn.old.in_transaction ≡ false }
     ensures autocommit { conn.new.in_transaction ≡ false }
     ensures reads { ReadsInUse (state S.Store conn.old) (state S.Store conn.new) result
-        (λ rows. rows.items ≡ filter (is_row_asked is_cancelled_asked (room_questions (scope_of scope.now)))
-        (tables_in (state S.Store conn.old).now.trees).cancelled) }
+        (λ rows. rows.items ≡ filter (is_row_asked is_cancelled_asked rooms.now) (tables_in (state S.Store conn.old).now.trees).cancelled) }
 {
-    match room_questions(alloc, scope) {
-        Ok(rooms) => asked_rows(conn, alloc, &rooms),
-        Err(_) => Err(Error::SqliteFailure(ErrorCode::OutOfMemory)),
+    let test = test_of(alloc, rooms)?;
+    passing_rows(conn, alloc, None, &test)
+}
+
+/// The cancelled bookings of these rooms: those of one by a statement.
+fn cancelled_in<S: Alter>(
+    conn: &mut Connection<S>,
+    alloc: Global,
+    rooms: &[RoomName],
+) -> Result<Vec<CancelledRow>, Error>
+    requires autocommit { conn.old.in_transaction ≡ false }
+    ensures autocommit { conn.new.in_transaction ≡ false }
+    ensures reads { ReadsInUse (state S.Store conn.old) (state S.Store conn.new) result
+        (λ rows. rows.items ≡ filter (is_row_asked is_cancelled_asked rooms.now) (tables_in (state S.Store conn.old).now.trees).cancelled) }
+{
+    if are_several(rooms) {
+        passing_cancelled(conn, alloc, rooms)
+    } else {
+        asked_rows(conn, alloc, rooms)
     }
 }
 
@@ -125,45 +171,40 @@ fn read_taken<S: Alter>(
     }
 }
 
-/// The same of cancelled bookings.
+/// The cancelled bookings that are asked for, of these rooms or by id.
 fn read_cancelled<S: Alter>(
     conn: &mut Connection<S>,
     alloc: Global,
     scope: &Scope<'_>,
+    rooms: &[RoomName],
     logs: &[LogRow],
     commits: u64,
 ) -> Result<Vec<CancelledRow>, Error>
     requires autocommit { conn.old.in_transaction ≡ false }
-    requires no_items { items_asked (scope_of scope.now) ≡ [] }
     ensures autocommit { conn.new.in_transaction ≡ false }
     ensures reads { ReadsInUse (state S.Store conn.old) (state S.Store conn.new) result
-        (λ rows. rows.items ≡ filter (asks_cancelled commits (scope_of scope.now) logs.now) (tables_in (state S.Store conn.old).now.trees).cancelled) }
+        (λ rows. AreSameRooms rooms.now (room_questions commits (scope_of scope.now) logs.now)
+        → rows.items ≡ filter (asks_cancelled commits (scope_of scope.now) logs.now) (tables_in (state S.Store conn.old).now.trees).cancelled) }
 {
     if takes_by_id(scope) {
         read_taken(conn, alloc, scope, logs, commits)
     } else {
-        read_room_cancelled(conn, alloc, scope)
+        cancelled_in(conn, alloc, rooms)
     }
 }
 
-/// The rows of `booking`, `errorlog` and `cancelled` that a scope asks for which isn't that of a batch.
-fn read_asked<S: Alter>(
-    conn: &mut Connection<S>,
+fn rooms_asked(
     alloc: Global,
     scope: &Scope<'_>,
     logs: &[LogRow],
     commits: u64,
-) -> Result<(Vec<BookingRow>, Vec<ErrorRow>, Vec<CancelledRow>), Error>
-    requires autocommit { conn.old.in_transaction ≡ false }
-    requires no_items { items_asked (scope_of scope.now) ≡ [] }
-    ensures autocommit { conn.new.in_transaction ≡ false }
-    ensures reads { ReadsInUse (state S.Store conn.old) (state S.Store conn.new) result
-        (λ rows. ArePlacesRead commits (scope_of scope.now) (tables_in (state S.Store conn.old).now.trees) logs.now rows.0.items rows.1.items rows.2.items) }
+) -> Result<Vec<RoomName>, Error>
+    ensures { IfOk result (λ rooms. AreSameRooms rooms.items (room_questions commits (scope_of scope.now) logs.now)) }
 {
-    let booking = read_bookings(conn, alloc, scope)?;
-    let errorlog = read_errors(conn, alloc, scope)?;
-    let cancelled = read_cancelled(conn, alloc, scope, logs, commits)?;
-    Ok((booking, errorlog, cancelled))
+    match room_questions(alloc, scope, logs, commits) {
+        Ok(rooms) => Ok(rooms),
+        Err(_) => Err(Error::SqliteFailure(ErrorCode::OutOfMemory)),
+    }
 }
 
 /// Of the tables that show what became of writes the rows that are asked for: those of `booking`, `errorlog` and `cancelled`.
@@ -179,15 +220,11 @@ fn read_places<S: Alter>(
     ensures reads { ReadsInUse (state S.Store conn.old) (state S.Store conn.new) result
         (λ rows. ArePlacesRead commits (scope_of scope.now) (tables_in (state S.Store conn.old).now.trees) logs.now rows.0.items rows.1.items rows.2.items) }
 {
-    match *scope {
-        Scope::Items(items) => read_needed(conn, alloc, items, logs, commits),
-        Scope::Nothing
-        | Scope::OfRequest(_, _)
-        | Scope::OfTarget(_)
-        | Scope::NextCommits(_)
-        | Scope::UpTo(_)
-        | Scope::OfPosition(_) => read_asked(conn, alloc, scope, logs, commits),
-    }
+    let rooms = rooms_asked(alloc, scope, logs, commits)?;
+    let booking = read_bookings(conn, alloc, scope, &rooms)?;
+    let errorlog = read_errors(conn, alloc, scope)?;
+    let cancelled = read_cancelled(conn, alloc, scope, &rooms, logs, commits)?;
+    Ok((booking, errorlog, cancelled))
 }
 
 /// The rows of a scope: of `log`, and of those tables. `commits` are known, and no row of `log` has a time above the clock.

@@ -9,9 +9,9 @@ pub returns-in-NextCommits-clause-reads : goal.returns-in-NextCommits-clause-rea
 returns-in-NextCommits-clause-reads g c =
     rw c.in-NextCommits.is (uses_so (state g.S.Store c.args.conn.now) (state g.S.Store c.read_next.new.conn) c.read_next.result _ _ (λ held rows read known clocked. read) c.read_next.ensures.reads)
 
-pub returns-in-OfPosition-clause-reads : goal.returns-in-OfPosition-clause-reads
-returns-in-OfPosition-clause-reads g c =
-    rw c.in-OfPosition.is (uses_so (state g.S.Store c.args.conn.now) (state g.S.Store c.read_due.new.conn) c.read_due.result _ _ (λ held rows read known clocked. read known) c.read_due.ensures.reads)
+pub returns-in-Above-clause-reads : goal.returns-in-Above-clause-reads
+returns-in-Above-clause-reads g c =
+    rw c.in-Above.is (uses_so (state g.S.Store c.args.conn.now) (state g.S.Store c.read_above.new.conn) c.read_above.result _ _ (λ held rows read known clocked. read known) c.read_above.ensures.reads)
 
 pub returns-in-Items-clause-reads : goal.returns-in-Items-clause-reads
 returns-in-Items-clause-reads g c = rw c.in-Items.is c.read_batch.ensures.reads
