@@ -3,6 +3,7 @@ pub mod LogLemmas
 pub mod ScopeLemmas
 pub mod CreateLemmas
 pub mod AnswerLemmas
+pub mod NextIdLemmas
 pub mod OpeningLemmas
 pub mod TakenLemmas
 pub mod CrashLemmas

@@ -195,7 +195,7 @@ fn cancel_of<S: Alter>(
 }
 
 /// The rows of `booking` and `errorlog` with this id.
-fn rows_of<S: Alter>(
+pub(crate) fn rows_of<S: Alter>(
     conn: &mut Connection<S>,
     alloc: Global,
     id: WriteId,
@@ -218,7 +218,7 @@ fn parts_of(id: WriteId) -> (u32, u32)
 }
 
 /// The rows of `cancelled` and `cancel` with this id.
-fn cancel_rows_of<S: Alter>(
+pub(crate) fn cancel_rows_of<S: Alter>(
     conn: &mut Connection<S>,
     alloc: Global,
     id: WriteId,

@@ -15,6 +15,7 @@ mod files;
 mod first;
 mod first_keeper;
 mod load;
+mod next_ids;
 mod our_tables;
 mod schema_number;
 mod schemas;

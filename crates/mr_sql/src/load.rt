@@ -4,12 +4,15 @@ ghost use Rattle.mr_model.specs.Replica.{Replica, IsReplica};
 ghost use Rattle.mr_model.specs.Tables.{Stands, tables_of};
 ghost use Rattle.mr_model.specs.Scopes.{in_scope};
 ghost use Rattle.mr_kept.specs.Desk.{StandsFor, IsWithinLimits};
+ghost use Rattle.mr_part.specs.NextId.{id_given};
 ghost use Rattle.mr_part.specs.Parts.{IsPartOf};
 ghost use Rattle.mr_part.specs.ScopeOf.{scope_of};
 ghost use Rattle.mr_tables.specs.Summary.{IsWithin};
+ghost use Rattle.mr_store.specs.Taken.{is_taken};
 ghost use Rattle.mr_rows.specs.Database.{tables_in};
 ghost use Rattle.mr_rows.specs.Reads.{ReadsKept};
 
+use crate::next_ids::with_free_id;
 use crate::scope_rows::read_scope;
 use mr_base::Refusal;
 use mr_part::{Part, Scope};
@@ -55,7 +58,7 @@ fn part_of(alloc: Global, scope: &Scope<'_>, tables: &Tables) -> Result<Part, Er
     }
 }
 
-/// The part of the tables of this database that a command of this scope needs.
+/// The part of the tables of this database that a command of this scope needs, unless a row has the id that the command would give.
 pub(crate) fn load_part<S: Alter>(
     conn: &mut Connection<S>,
     alloc: Global,
@@ -64,9 +67,14 @@ pub(crate) fn load_part<S: Alter>(
     requires autocommit { conn.old.in_transaction ≡ false }
     ensures autocommit { conn.new.in_transaction ≡ false }
     ensures reads { ReadsKept (state S.Store conn.old) (state S.Store conn.new) result
-        (λ part. (a : Replica) → Stands (tables_in (state S.Store conn.old).now.trees) a → IsPartOf part (scope_of scope.now) a) }
+        (λ part. ((a : Replica) → Stands (tables_in (state S.Store conn.old).now.trees) a → IsPartOf part (scope_of scope.now) a)
+        × (is_taken (id_given (scope_of scope.now) part.summary) (tables_in (state S.Store conn.old).now.trees) ≡ false)) }
     ensures within { IfOk result (λ part. IsWithin part.summary) }
 {
     let tables = read_scope(conn, alloc, scope)?;
-    part_of(alloc, scope, &tables)
+    let part = part_of(alloc, scope, &tables)?;
+    match part.id_given(scope) {
+        Some(id) => with_free_id(conn, alloc, part, id),
+        None => Ok(part),
+    }
 }

@@ -1,13 +1,15 @@
-ghost use Rattle.std.specs.Prelude.{◌≡◌, ◌<◌, ℕ, IfOk};
+ghost use Rattle.std.specs.Prelude.{◌≡◌, ◌<◌, ℕ, false, IfOk};
 ghost use Rattle.std.specs.List.Sorted.{IsPermutation};
 ghost use Rattle.mr_model.specs.Replica.{Replica};
 ghost use Rattle.mr_model.specs.Tables.{Tables, Stands};
 ghost use Rattle.mr_tables.specs.Summary.{IsWithin};
 ghost use Rattle.mr_kept.specs.Desk.{StandsFor, IsWithinLimits};
+ghost use Rattle.mr_part.specs.NextId.{id_given};
 ghost use Rattle.mr_part.specs.Parts.{IsPartOf};
 ghost use Rattle.mr_part.specs.ScopeOf.{scope_of};
 ghost use Rattle.mr_store.specs.KeeperCalls.{failures_for, IsAtomic, IsQuiet};
 ghost use Rattle.mr_store.specs.Picked.{picked_errors, picked_cancelled, picked_cancels, AreBookings, IsPlaceOf};
+ghost use Rattle.mr_store.specs.Taken.{is_taken};
 
 use mr_base::{Day, Refusal, RoomName, WriteId};
 use mr_part::{Part, Scope};
@@ -76,10 +78,12 @@ pub trait Keeper {
         ensures loaded { is_clean self.new → is_open self.old → (a : Replica) → Stands (tables self.old) a → IfOk result (λ desk. StandsFor desk a) }
         ensures within { IfOk result IsWithinLimits };
 
-    /// The part of the tables that a command of this scope needs.
+    /// The part of the tables that a command of this scope needs. Where a row has the id that the command would give, as no replica's
+    /// tables have, it is refused as a failure of the store.
     fn load_part(&mut self, scope: &Scope<'_>) -> Result<Part, Fault>
         ensures quiet { IsQuiet tables failures is_clean is_open may_leave never_fails self.old self.new result }
         ensures loaded { is_clean self.new → is_open self.old → (a : Replica) → Stands (tables self.old) a → IfOk result (λ part. IsPartOf part (scope_of scope.now) a) }
+        ensures free { is_clean self.new → is_open self.old → IfOk result (λ part. is_taken (id_given (scope_of scope.now) part.summary) (tables self.old) ≡ false) }
         ensures within { IfOk result (λ part. IsWithin part.summary) };
 
     /// The known rooms, in any order.

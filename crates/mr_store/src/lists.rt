@@ -6,6 +6,7 @@ ghost use Rattle.mr_store.specs.KeeperCalls.{failures_for};
 ghost use Rattle.std.proofs.Props.{props};
 ghost use Rattle.mr_store.specs.RowsAround.{AreInOrder, in_order-prop};
 
+use crate::ids::is_taken;
 use crate::puts::{change_rows, prepare, put_rows};
 use crate::queries::{bookings_of, place_of, rows_in};
 use crate::rows::{copies_of, is_in_order};
@@ -178,7 +179,12 @@ impl Keeper for ListKeeper {
 
     fn load_part(&mut self, scope: &Scope<'_>) -> Result<Part, Fault> {
         match Part::from_tables(self.alloc, scope, &self.tables) {
-            Ok(part) => Ok(part),
+            Ok(part) => {
+                if is_taken(&self.tables, part.id_given(scope)) {
+                    return Err(Fault::counted(&mut self.failures));
+                }
+                Ok(part)
+            }
             Err(refusal) => Err(fault_of(refusal, &mut self.failures)),
         }
     }

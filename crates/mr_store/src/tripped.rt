@@ -4,9 +4,11 @@ ghost use Rattle.mr_model.specs.Replica.{Replica};
 ghost use Rattle.mr_model.specs.Tables.{Stands};
 ghost use Rattle.mr_tables.specs.Summary.{IsWithin};
 ghost use Rattle.mr_kept.specs.Desk.{StandsFor, IsWithinLimits};
+ghost use Rattle.mr_part.specs.NextId.{id_given};
 ghost use Rattle.mr_part.specs.Parts.{IsPartOf};
 ghost use Rattle.mr_part.specs.ScopeOf.{scope_of};
 ghost use Rattle.mr_store.specs.Picked.{picked_errors, picked_cancelled, picked_cancels, AreBookings, IsPlaceOf};
+ghost use Rattle.mr_store.specs.Taken.{is_taken};
 ghost use Rattle.mr_store.specs.Trips.{is_due, IsTripped, IsQuietAt, IsAtomicAt};
 
 use crate::{Fault, Keeper};
@@ -83,6 +85,7 @@ impl<K: Keeper> Keeper for Tripped<K> {
     fn load_part(&mut self, scope: &Scope<'_>) -> Result<Part, Fault>
         ensures quiet { IsQuietAt ⟦<Tripped<K> as Keeper>⟧ self.old self.new result }
         ensures loaded { K.is_clean self.new.keeper → K.is_open self.old.keeper → (a : Replica) → Stands (K.tables self.old.keeper) a → IfOk result (λ part. IsPartOf part (scope_of scope.now) a) }
+        ensures free { K.is_clean self.new.keeper → K.is_open self.old.keeper → IfOk result (λ part. is_taken (id_given (scope_of scope.now) part.summary) (K.tables self.old.keeper) ≡ false) }
         ensures within { IfOk result (λ part. IsWithin part.summary) }
         ensures trips { IsTripped self.old self.new result }
     {

@@ -1,8 +1,10 @@
-use Rattle.std.specs.Prelude.{IfOk}
+use Rattle.std.specs.Prelude.{◌≡◌, false, IfOk}
 use Rattle.mr_model.specs.Replica.{Replica}
 use Rattle.mr_model.specs.Tables.{Stands}
+use Rattle.mr_part.specs.NextId.{id_given}
 use Rattle.mr_part.specs.Parts.{IsPartOf}
 use Rattle.mr_part.specs.ScopeOf.{scope_of}
+use Rattle.mr_store.specs.Taken.{is_taken}
 use Rattle.mr_store.proofs.Remembered.{followed, of_keeper, of_memory, remembered}
 use Rattle.mr_store.proofs.cached.CachedKeeper.load_part.Goals as goal
 
@@ -25,6 +27,18 @@ returns-then-is_failure-clause-loaded g c =
 pub returns-clause-loaded : goal.returns-clause-loaded
 returns-clause-loaded g c =
     of_memory g.K.Keeper (λ t. (a : Replica) → Stands t a → IfOk c.load_part-answer.result (λ part. IsPartOf part (scope_of c.args.scope.now) a)) c.args.self.now c.recall.new.self c.self.inside.keeper c.in_ok-memory.field-0 c.in-Some.memory c.in_ok-memory.ensures.quiet c.self.view_is c.in_ok-memory.ensures.rows c.in-Some.is c.load_part-answer.ensures.loaded
+
+pub returns-in_default-clause-free : goal.returns-in_default-clause-free
+returns-in_default-clause-free g c =
+    of_keeper g.K.Keeper (λ t. IfOk c.load_part.result (λ part. is_taken (id_given (scope_of c.args.scope.now) part.summary) t ≡ false)) c.args.self.now c.recall.new.self c.self.inside.keeper c.load_part.new.self c.in_ok-memory.field-0 c.load_part.result c.in_ok-memory.ensures.quiet c.self.view_is c.load_part.ensures.quiet c.load_part.ensures.free
+
+pub returns-then-is_failure-clause-free : goal.returns-then-is_failure-clause-free
+returns-then-is_failure-clause-free g c =
+    of_keeper g.K.Keeper (λ t. IfOk c.load_part-then-is_failure.result (λ part. is_taken (id_given (scope_of c.args.scope.now) part.summary) t ≡ false)) c.args.self.now c.recall.new.self c.self.inside.keeper c.load_part-then-is_failure.new.self c.in_ok-memory.field-0 c.load_part-then-is_failure.result c.in_ok-memory.ensures.quiet c.self.view_is c.load_part-then-is_failure.ensures.quiet c.load_part-then-is_failure.ensures.free
+
+pub returns-clause-free : goal.returns-clause-free
+returns-clause-free g c =
+    of_memory g.K.Keeper (λ t. IfOk c.load_part-answer.result (λ part. is_taken (id_given (scope_of c.args.scope.now) part.summary) t ≡ false)) c.args.self.now c.recall.new.self c.self.inside.keeper c.in_ok-memory.field-0 c.in-Some.memory c.in_ok-memory.ensures.quiet c.self.view_is c.in_ok-memory.ensures.rows c.in-Some.is c.load_part-answer.ensures.free
 
 pub invariant_of-self-then-is_failure : goal.invariant_of-self-then-is_failure
 invariant_of-self-then-is_failure g c =
