@@ -1,4 +1,5 @@
 use Rattle.std.proofs.Common.{◌≡◌, ℕ, ◌+◌, ◌<◌, ◌==◌, ◌⊎◌, true, false, None, Some, Ok, Err, IfOk, Result, List, map, length, ap, refl, sym, ◌∙◌, subst, inl, arith}
+use Rattle.std.proofs.lemmas.Bool.{true≢false, eq-eqb}
 use Rattle.std.proofs.lemmas.Result.{err_from_is_err_and}
 use Rattle.mr_model.specs.Exchange.{Batch, Header, Item}
 use Rattle.mr_model.specs.Replica.{Replica}
@@ -140,3 +141,12 @@ returns-clause-due_line c = λ a h' r sound part header' primary' d.
     let numbers : c.self.inside.summary ≡ summary_of a = ap (λ (v : PartView). v.summary) (c.self.view_is ∙ part) in
     let (e, told, same) = due_told a c.args.batch.now (map item_of c.deref.result.now) c.self.inside.summary c.due_line.result r sound items good numbers (c.due_line.ensures.due short) d in
     absurd (none_some e (sym c.in_default-due_line.is ∙ told))
+
+pub returns-then-ne-clause-due_line : goal.returns-then-ne-clause-due_line
+returns-then-ne-clause-due_line c = λ a h' r sound part header' primary' d.
+    let h : Header = record { from = c.in-Some.header.from; primary = c.in-Some.header.primary } in
+    let header : c.args.batch.now.header ≡ Some h = sym (ap (λ (b : Batch). b.header) c.batch.view_is) ∙ ap header_of c.in-Some.is in
+    let own = c.self.inside.summary.primary in
+    let same : c.in-Some.header.primary ≡ own = ap (λ (h : Header). h.primary) (some_inj h h' (sym header ∙ header')) ∙ primary' ∙ sym (ap (λ (v : PartView). v.summary.primary) c.self.view_is) in
+    let other : (c.in-Some.header.primary == own) ≡ false = other_primary c.in-Some.header.primary own own c.ne.result c.ne.ensures c.if-ne.true refl in
+    absurd (true≢false (sym (eq-eqb c.in-Some.header.primary own same) ∙ other))
