@@ -41,7 +41,7 @@ class Page(Browser):
         self.open(f'{self.url}/submit')     # asks for the password of those who book, which the address has
         self.open(f'{self.url}/')           # and for that of those who read
 
-    def waits(self, held, patience=15):
+    def waits(self, held, patience=40):
         """Whether this holds before long."""
         end = time.time() + patience
         while not held():
@@ -50,16 +50,16 @@ class Page(Browser):
             time.sleep(0.1)
         return True
 
-    def until(self, name, selector, words, patience=15):
+    def until(self, name, selector, words, patience=40):
         """The text at this place has these words, before long."""
         held = self.waits(lambda: words in (self.text(selector) or ''), patience)
         check(name, held, '' if held else (self.text(selector) or '')[:300])
 
-    def gone(self, name, selector, words, patience=15):
+    def gone(self, name, selector, words, patience=40):
         """The text at this place has these words no longer, before long."""
         check(name, self.waits(lambda: words not in (self.text(selector) or ''), patience), words)
 
-    def there(self, name, selector, patience=15):
+    def there(self, name, selector, patience=40):
         check(name, self.waits(lambda: self.has(selector), patience), selector)
 
     def has(self, selector):
