@@ -3,6 +3,7 @@ use strict;
 
 our ($folder, $program);
 load('room_names.pl');
+load('turns.pl');
 
 sub folder_of {
     my ($path) = @_;

@@ -51,7 +51,7 @@ deploy_texts() {
 deploy_front() {
     local folder file
     for file in "$deploy"/front/rooms "$deploy"/front/*.pl; do
-        is "the front has no fault: ${file##*/}" "$(perl -wc "$file" 2>&1)" "$file syntax OK"
+        is "the front has no fault: ${file##*/}" "$(perl -Mstrict -wc "$file" 2>&1)" "$file syntax OK"
     done
     folder=$(mktemp -d)
     chmod 755 "$folder"

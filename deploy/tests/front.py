@@ -304,7 +304,7 @@ def served(t):
             status, out, err = t.hinted(*line.split(' '))
             t.same(f'{line} beside it', (status, out), (1, 'refused 25 Store\n'))
             t.has(f'{line}: by whom', err, f's.db is in use by `rooms serve s.db {port}`, process {server.pid}: ask http://127.0.0.1:{port}/')
-        t.same('at once', time.time() - began < 3, True)
+        t.same('at once', time.time() - began < 9, True)
         t.make(f'other{hints}.db')
         status, out, err = t.hinted('serve', f'other{hints}.db', port, '1')
         t.same('a port that is taken', (status, out), (3, 'fault network\n'))

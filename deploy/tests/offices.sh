@@ -87,7 +87,10 @@ ash              Ash, 3rd floor'
     is 'a room that the database alone has' "$("$office" rooms west | tail -n 1)" 'fir              (in the database, and not on the page)'
     sed -i 's/^STRETCH=.*/STRETCH=2/' "$ROOMS_ETC/west.conf"
     sed -i 's/"name": "elm"/"name": "yew"/' "$json"
-    "$office" serve west > "$folder/served" 2>&1 &
+    # the program is `rooms` on the PATH, as in the package
+    mkdir "$folder/bin"
+    ln -s "$ROOMS_PROGRAM" "$folder/bin/rooms"
+    env -u ROOMS_PROGRAM PATH="$folder/bin:$PATH" "$office" serve west > "$folder/served" 2>&1 &
     serving+=($!)
     reached 'west is not served' 20 taken "$(sed -n 's/^PORT=//p' "$ROOMS_ETC/west.conf")"
     held 'what differs is in the journal' grep -qx 'the page and the database differ: yew: on the page, and not in the database' "$folder/served"

@@ -1,0 +1,62 @@
+# Waiting for a database that another command has, and who has it. Read by `rooms` in this folder where it has to wait, and by store.pl.
+
+# The file systems of networks, by number of the device: the table of mounts has their kinds.
+sub is_remote {
+    my ($number) = @_;
+    open my $mounts, '<', '/proc/self/mountinfo' or return 0;
+    while (<$mounts>) {
+        my @parts = split ' ';
+        next if $parts[2] ne "0:$number";
+        return / - (nfs|cifs|smb|9p|fuse|ceph|gfs|ocfs|lustre|afs)/ ? 1 : 0;
+    }
+    return 0;
+}
+
+# The process that holds a lock of `flock` on this file, and its words.
+sub holder {
+    my $place = lock_place(@_);
+    open my $locks, '<', '/proc/locks' or return;
+    while (<$locks>) {
+        my (undef, $kind, undef, undef, $process, $where) = split ' ';
+        next unless $kind eq 'FLOCK' and $where eq $place and $process != $$;
+        open my $line, '<', "/proc/$process/cmdline" or next;
+        local $/;
+        my @words = split /\0/, <$line> // '';
+        return ($process, @words) if @words;
+    }
+    return;
+}
+
+sub is_served {
+    my ($process, undef, $command) = holder(@_);
+    return defined $process && ($command // '') eq 'serve';
+}
+
+sub wait_seconds {
+    my $wait = $ENV{ROOMS_WAIT} // 10;
+    return $wait =~ /^\d{1,6}$/ ? $wait : 10;
+}
+
+# Waits for the lock of an open file, up to ROOMS_WAIT seconds, but not for `serve`. Questions without end beside each other would let nobody
+# change anything: so a question first lets those go that wait to change something, for half a second.
+sub wait_for_turn {
+    my ($file, $how, @place) = @_;
+    my $until = time + wait_seconds();
+    for (1 .. 50) {
+        last if $how != 1 or time >= $until or not is_awaited(@place) or is_served(@place);
+        select undef, undef, undef, 0.01;
+    }
+    return if flock $file, $how | 4;
+    while ($! == 11 and time < $until and not is_served(@place)) {
+        local $SIG{ALRM} = sub { };
+        alarm 1;
+        my $taken = flock $file, $how;
+        my $fault = $!;
+        alarm 0;
+        return if $taken;
+        # 4 is EINTR: a second is over
+        $! = $fault == 4 ? 11 : $fault;
+    }
+}
+
+1;
