@@ -11,11 +11,11 @@ use Rattle.mr_store.specs.Taken.{is_taken}
 use Rattle.mr_store.proofs.NextIds.{given_free}
 use Rattle.mr_store.proofs.lists.ListKeeperKeeper.load_part.Goals as goal
 
-pub returns-in-Ok-clause-loaded : goal.returns-in-Ok-clause-loaded
-returns-in-Ok-clause-loaded c = λ clean opens a h. c.in-Ok.ensures.part a h.sound (ap (λ t. in_scope (scope_of c.args.scope.now) t) (ap (λ (k : Lists). k.tables) c.self.view_is ∙ h.are))
+pub returns-else-is_taken-clause-loaded : goal.returns-else-is_taken-clause-loaded
+returns-else-is_taken-clause-loaded c = λ clean opens a h. c.in-Ok.ensures.part a h.sound (ap (λ t. in_scope (scope_of c.args.scope.now) t) (ap (λ (k : Lists). k.tables) c.self.view_is ∙ h.are))
 
-pub returns-in-Ok-clause-free : goal.returns-in-Ok-clause-free
-returns-in-Ok-clause-free c = λ clean opens.
+pub returns-else-is_taken-clause-free : goal.returns-else-is_taken-clause-free
+returns-else-is_taken-clause-free c = λ clean opens.
     ap (λ t. is_taken (id_given (scope_of c.args.scope.now) c.in-Ok.part.summary) t) (sym (ap (λ (k : Lists). k.tables) c.self.view_is))
     ∙ ap (λ id. is_taken id c.self.inside.tables) (sym c.id_given.ensures) ∙ sym c.is_taken.ensures ∙ c.if-is_taken.false
 
