@@ -1,8 +1,9 @@
 -- Whether a row has an id, by the rows that queries show of it.
-use Rattle.std.proofs.Common.{◌≡◌, Bool, true, false, not, cond, ◌||◌, List, [], ◌∷◌, filter, length, refl, sym, ap, ◌∙◌, Option, Some, None, arith}
+use Rattle.std.proofs.Common.{◌≡◌, Bool, true, false, not, cond, ◌||◌, List, [], ◌∷◌, filter, length, map, eqb, refl, sym, ap, ◌∙◌, Option, Some, None, arith}
 use Rattle.std.specs.Prelude.{find}
 use Rattle.std.specs.List.{list_any}
 use Rattle.std.specs.List.Sorted.{IsPermutation}
+use Rattle.std.proofs.Math.Dec.{eqb-suc-zero}
 use Rattle.std.proofs.lemmas.List.Sorted.{length_permutation}
 use Rattle.mr_model.specs.Writes.{Id, same_id}
 use Rattle.mr_model.specs.Replica.{is_among}
@@ -31,6 +32,11 @@ none_by_length [] [] e = refl
 none_by_length [] (y ∷ ys) e = absurd (omega (arith, e))
 none_by_length (x ∷ xs) [] e = absurd (omega (arith, e))
 none_by_length (x ∷ xs) (y ∷ ys) e = refl
+
+-- rows of a length of none are none, and so are as many others
+pub none_by_count : {X Y : Type 0} (f : X → Y) (xs : List X) → eqb (length xs) 0 ≡ is_none (map f xs)
+none_by_count f [] = refl
+none_by_count f (x ∷ xs) = eqb-suc-zero (length xs)
 
 -- a query for the id shows a row just where the table has one
 pub shown_some : {R : Type 0} (key : R → Id) (id : Id) (table shown : List R) → IsPermutation (filter (λ r. is_among (key r) (id ∷ [])) table) shown

@@ -58,7 +58,23 @@ fn part_of(alloc: Global, scope: &Scope<'_>, tables: &Tables) -> Result<Part, Er
     }
 }
 
-/// The part of the tables of this database that a command of this scope needs, unless a row has the id that the command would give.
+/// The part of the tables of this database that a command of this scope needs.
+fn part_in<S: Alter>(
+    conn: &mut Connection<S>,
+    alloc: Global,
+    scope: &Scope<'_>,
+) -> Result<Part, Error>
+    requires autocommit { conn.old.in_transaction ≡ false }
+    ensures autocommit { conn.new.in_transaction ≡ false }
+    ensures reads { ReadsKept (state S.Store conn.old) (state S.Store conn.new) result
+        (λ part. (a : Replica) → Stands (tables_in (state S.Store conn.old).now.trees) a → IsPartOf part (scope_of scope.now) a) }
+    ensures within { IfOk result (λ part. IsWithin part.summary) }
+{
+    let tables = read_scope(conn, alloc, scope)?;
+    part_of(alloc, scope, &tables)
+}
+
+/// The same, unless a row has the id that the command would give.
 pub(crate) fn load_part<S: Alter>(
     conn: &mut Connection<S>,
     alloc: Global,
@@ -71,8 +87,7 @@ pub(crate) fn load_part<S: Alter>(
         × (is_taken (id_given (scope_of scope.now) part.summary) (tables_in (state S.Store conn.old).now.trees) ≡ false)) }
     ensures within { IfOk result (λ part. IsWithin part.summary) }
 {
-    let tables = read_scope(conn, alloc, scope)?;
-    let part = part_of(alloc, scope, &tables)?;
+    let part = part_in(conn, alloc, scope)?;
     match part.id_given(scope) {
         Some(id) => with_free_id(conn, alloc, part, id),
         None => Ok(part),

@@ -1,4 +1,4 @@
-ghost use Rattle.std.specs.Prelude.{◌≡◌, false};
+ghost use Rattle.std.specs.Prelude.{◌≡◌, false, IfOk};
 ghost use Rattle.std.specs.List.{list_any};
 ghost use Rattle.sqlite.specs.Held.{state};
 ghost use Rattle.mr_model.specs.Writes.{same_id};
@@ -27,6 +27,7 @@ pub(crate) fn with_free_id<S: Alter>(
     ensures autocommit { conn.new.in_transaction ≡ false }
     ensures reads { ReadsKept (state S.Store conn.old) (state S.Store conn.new) result
         (λ (given : PartView). (given ≡ part) × (has_id id (tables_in (state S.Store conn.old).now.trees) ≡ false)) }
+    ensures part { IfOk result (λ (given : PartView). given ≡ part) }
 {
     if has_id(conn, alloc, id)? {
         return Err(Error::InvalidQuery);

@@ -1,21 +1,42 @@
-use Rattle.std.proofs.Common.{◌∙◌, ap, rules}
+use Rattle.std.proofs.Common.{◌≡◌, false, Ok, Some, None, sym, ap, subst, ◌∙◌}
 use Rattle.sqlite.specs.Held.{state}
-use Rattle.mr_model.specs.Scopes.{in_scope}
+use Rattle.mr_model.specs.Replica.{Replica}
+use Rattle.mr_model.specs.Tables.{Stands}
+use Rattle.mr_agree.specs.Ids.{has_id}
+use Rattle.mr_part.specs.NextId.{id_given}
+use Rattle.mr_part.specs.Parts.{PartView, IsPartOf}
 use Rattle.mr_part.specs.ScopeOf.{scope_of}
+use Rattle.mr_store.specs.Taken.{is_taken}
 use Rattle.mr_rows.specs.Database.{tables_in}
-use Rattle.mr_sql.specs.ScopeQuestions.{AreEnough}
-use Rattle.mr_rows.proofs.QueryLemmas.{reads_made, told_so}
-use Rattle.mr_sql.proofs.ScopeLemmas.{numbered_of}
+use Rattle.mr_rows.proofs.QueryLemmas.{reads_made, reads_then}
 use Rattle.mr_sql.proofs.load.load_part.Goals as goal
 
-pub returns-in_err-tables-clause-reads : goal.returns-in_err-tables-clause-reads
-returns-in_err-tables-clause-reads g c = let read = c.read_scope.ensures.reads in (read.0, read.1, λ clean kept. (search rules, search rules))
-
-pub returns-clause-reads : goal.returns-clause-reads
-returns-clause-reads g c =
-    let old = state g.S.Store c.args.conn.now in
+pub returns-in-Some-clause-reads : goal.returns-in-Some-clause-reads
+returns-in-Some-clause-reads g c =
+    let a = state g.S.Store c.args.conn.now in
+    let t = tables_in a.now.trees in
     let scope = scope_of c.args.scope.now in
-    let t = tables_in old.now.trees in
-    reads_made old (state g.S.Store c.read_scope.new.conn) c.in_ok-tables.tables (λ read. AreEnough scope t read) c.part_of.result _
-    (λ kept enough. told_so c.part_of.result _ _ (λ part tells a stands. tells a stands.sound (enough (numbered_of t a stands.are) ∙ ap (in_scope scope) stands.are)) c.part_of.ensures.part)
-    c.in_ok-tables.ensures.reads
+    let part = c.in_ok-part.part in
+    let id = c.in-Some.id in
+    let given : id_given scope part.summary ≡ Some id = sym c.id_given.ensures ∙ c.in-Some.is in
+    reads_then a (state g.S.Store c.part_in.new.conn) (state g.S.Store c.with_free_id.new.conn) part
+    (λ p. (r : Replica) → Stands t r → IsPartOf p scope r) c.with_free_id.result
+    (λ db p. (p ≡ part) × (has_id id (tables_in db.trees) ≡ false))
+    (λ p. ((r : Replica) → Stands t r → IsPartOf p scope r) × (is_taken (id_given scope p.summary) t ≡ false))
+    (λ kept p of free. (
+      subst (λ (q : PartView). (r : Replica) → Stands t r → IsPartOf q scope r) (sym free.0) of,
+      ap (λ (q : PartView). is_taken (id_given scope q.summary) t) free.0 ∙ ap (λ i. is_taken i t) given ∙ free.1,
+    ))
+    c.in_ok-part.ensures.reads c.with_free_id.ensures.reads
+
+pub returns-in-None-clause-reads : goal.returns-in-None-clause-reads
+returns-in-None-clause-reads g c =
+    let a = state g.S.Store c.args.conn.now in
+    let t = tables_in a.now.trees in
+    let scope = scope_of c.args.scope.now in
+    let part = c.in_ok-part.part in
+    let given : id_given scope part.summary ≡ None = sym c.id_given.ensures ∙ c.in-None.is in
+    reads_made a (state g.S.Store c.part_in.new.conn) part (λ p. (r : Replica) → Stands t r → IsPartOf p scope r) (Ok part)
+    (λ p. ((r : Replica) → Stands t r → IsPartOf p scope r) × (is_taken (id_given scope p.summary) t ≡ false))
+    (λ kept of. (of, ap (λ i. is_taken i t) given))
+    c.in_ok-part.ensures.reads
