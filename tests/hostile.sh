@@ -20,20 +20,22 @@ tried() {
 # turned batches and positions for 90 seconds, and requests of strangers for 20; the seed is printed with a failure
 run_hostile_hands() {
     if ! command -v python3 > /dev/null; then
-        echo 'skipped: turned batches, strange requests, broken peers (no python3)'
+        echo 'skipped: turned batches, strange requests, broken peers, slow callers (no python3)'
         return
     fi
     tried 'turned batches and positions' tests/hostile.py "$program" "$quick/turned" 90
     tried 'peers and clients that break off' tests/peers.py "$program" "$quick/peers"
+    tried 'callers who are silent or slow' tests/patience.py "$program" "$quick/patience"
     tried 'requests of strangers' tests/strangers/run.py "$program" "$quick/strangers" 20
 }
 
 run_faults() {
     if ! command -v python3 > /dev/null; then
-        echo 'skipped: killed commands, limited files (no python3)'
+        echo 'skipped: killed commands, limited files, failing disks (no python3)'
         return
     fi
     tried 'killed commands, limited files, closed outputs' tests/faults.py "$program" "$quick/faults" 200 1
+    tried 'a served database whose disk fails' tests/failed_disk.py "$program" "$quick/failed_disk"
 }
 
 run_questions() {

@@ -1,5 +1,5 @@
 -- How exchanges end.
-use Rattle.std.proofs.Common.{◌≡◌, refl, ℕ, ◌++◌, ◌⊎◌, inl, inr, Ok, Err, Option}
+use Rattle.std.proofs.Common.{◌≡◌, refl, sym, subst, ℕ, ◌++◌, ◌⊎◌, inl, inr, Ok, Err, Option}
 use Rattle.std.specs.Prelude.{Result}
 use Rattle.std.specs.Io.KnownBytes.{Appends}
 use Rattle.std.proofs.KnownBytes.{Appends-trans}
@@ -17,7 +17,7 @@ use Rattle.mr_net.specs.declared.ways.Taken.{Taken}
 use Rattle.mr_net.specs.Ways.{IsWay}
 use Rattle.mr_net.specs.Printed.{way_line, StopsWithText, IsFaultLine, IsStopOf, TellsWay, TellsBoth, IsStopText, EndsExchange}
 use Rattle.mr_net.specs.Bridged.{TellsBridge}
-use Rattle.mr_net.specs.ExchangeRounds.{RunsBridged}
+use Rattle.mr_net.specs.ExchangeRounds.{RunsBridged, RunsRound}
 use Rattle.mr_net.proofs.PrintedLines.{stops_so, never_stops}
 use Rattle.mr_net.proofs.WayLaws.{way_seen}
 
@@ -113,3 +113,22 @@ refused_exchange e held holds status (inl one) told =
       | inl refusal ↦ (one, line (refusal_text e), inl (e, refl), refusal)
       | inr memory ↦ (one, no_memory_line, inr (inr refl), memory)
     ])))
+
+-- ---- keepers that were handed in, and those that are given back
+
+-- what is said of the keeper that was exchanged is said of them
+pub exchanged_as : {K : Type 0} (keeper : Ghosts K) (p q old new : K) (held holds : Option Text) (status : ℕ) → p ≡ old → new ≡ q
+    → TellsBoth (RunsRound keeper) p q held holds status → TellsBoth (RunsRound keeper) old new held holds status
+exchanged_as keeper p q old new held holds status before after told =
+    subst (λ k. TellsBoth (RunsRound keeper) k new held holds status) before
+    (subst (λ k. TellsBoth (RunsRound keeper) p k held holds status) (sym after) told)
+
+-- the same of a bridge
+pub bridged_as : {C S : Type 0} (client : Ghosts C) (server : Ghosts S) (p q old new : C) (r s was is : S) (held holds : Option Text) (status : ℕ)
+    → p ≡ old → r ≡ was → new ≡ q → is ≡ s
+    → TellsBridge client server (p, r) (q, s) held holds status → TellsBridge client server (old, was) (new, is) held holds status
+bridged_as client server p q old new r s was is held holds status first second third fourth told =
+    subst (λ k. TellsBridge client server (k, was) (new, is) held holds status) first
+    (subst (λ k. TellsBridge client server (p, k) (new, is) held holds status) second
+    (subst (λ k. TellsBridge client server (p, r) (k, is) held holds status) (sym third)
+    (subst (λ k. TellsBridge client server (p, r) (q, k) held holds status) (sym fourth) told)))

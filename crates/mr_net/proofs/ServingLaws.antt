@@ -83,3 +83,10 @@ ends_serving keeper p q port count held holds status (inr unasked) = only unaske
     only : StopsWithText (λ text. text ≡ no_memory_line) held holds status → EndsServing port count held holds status
     only (inl told) = inr (inl (told.0, inr (subst (λ t. Appends held holds t) told.2 told.3)))
     only (inr three) = inr (inr (inr three))
+
+-- what is said of the keeper that was served is said of the one that was handed in and of the one that is given back
+pub served_as : {K : Type 0} (keeper : Ghosts K) (p q old new : K) (port count : ℕ) (held holds : Option Text) (status : ℕ) → p ≡ old → new ≡ q
+    → ServesAt keeper p q port count held holds status → ServesAt keeper old new port count held holds status
+served_as keeper p q old new port count held holds status before after told =
+    subst (λ k. ServesAt keeper k new port count held holds status) before
+    (subst (λ k. ServesAt keeper p k port count held holds status) (sym after) told)

@@ -26,7 +26,7 @@ use mr_peer::{position_ask, position_take, pull_ask, push_ask};
 use mr_say::{NO_MEMORY, REFUSED, say, say_refusal};
 use mr_service::Service;
 use mr_sql::SqlKeeper;
-use mr_store::Keeper;
+use mr_store::{Cached, Keeper};
 use std::alloc::Global;
 use std::io::Write;
 use std::net::{Ipv4Addr, TcpListener, TcpStream};
@@ -66,7 +66,7 @@ impl<C: Keeper, S: Keeper> Neighbour<'_, C, S> {
         let Some(stream) = other_end(&self.listener, client) else {
             return Err(WebFault::Read);
         };
-        let _ = serve(self.alloc, &mut self.server, &stream);
+        let _ = serve(self.rt, self.alloc, &mut self.server, &stream);
         Ok(())
     }
 
@@ -211,7 +211,9 @@ fn bridge_kept<C: Keeper, S: Keeper, W: Write>(
     server: S,
     out: &mut W,
 ) -> (C, S, u8)
-    ensures { EndsExchange (W.contents out.old) (W.contents out.new) result.2 }
+    ensures runs { TellsBridge ⟦<Cached<C> as Keeper>⟧ ⟦<Cached<S> as Keeper>⟧ (client, server) (result.0, result.1)
+        (W.contents out.old) (W.contents out.new) result.2 }
+    ensures ends { EndsExchange (W.contents out.old) (W.contents out.new) result.2 }
 {
     let (client, server) = (remembered(alloc, client), remembered(alloc, server));
     let (client, server, status) = bridge_between(rt, alloc, client, server, out);

@@ -1,56 +1,46 @@
-//! A connection to a served database: how long it is waited for, and how it ends.
+//! A connection to a served database, and how it ends.
 
 ghost use Rattle.mr_net.specs.Connections.{IsConnection, IsServedOver};
 
+use crate::timed::Timed;
 use mr_service::Service;
 use mr_store::Keeper;
 use mr_web::serve_one;
 use std::alloc::Global;
 use std::io::{Read, Write};
 use std::net::{Shutdown, TcpListener, TcpStream};
-use std::time::Duration;
-
-/// How many seconds a read or a write of a connection may wait. So nobody who sends nothing keeps the others waiting for good.
-const PATIENCE_WITH_CALLERS: u64 = 30;
 
 /// How often the rest of a request is read from, at most 4,096 bytes a time.
 const GREATEST_REST: u32 = 512;
 
 /// Serves the next connection, and answers the status of its reply, or None where it failed.
 pub(crate) fn serve_next<K: Keeper>(
+    rt: &HostRuntime,
     alloc: Global,
     service: &mut Service<K>,
     listener: &TcpListener,
 ) -> Option<u16>
     ensures { IsConnection K.Keeper service.old result service.new }
 {
-    let stream = accept(listener)?;
-    let served = serve(alloc, service, &stream);
+    let (stream, _) = listener.accept().ok()?;
+    let served = serve(rt, alloc, service, &stream);
     if served.is_some() {
-        end(&stream);
+        end(rt, &stream);
     }
     served
 }
 
-/// The next connection.
-fn accept(listener: &TcpListener) -> Option<TcpStream> {
-    let (stream, _) = listener.accept().ok()?;
-    let patience = Some(Duration::from_secs(PATIENCE_WITH_CALLERS));
-    stream.set_read_timeout(patience).ok()?;
-    stream.set_write_timeout(patience).ok()?;
-    Some(stream)
-}
-
 /// Serves the one request of a connection, and answers the status of its reply, or None where that failed.
 pub(crate) fn serve<K: Keeper>(
+    rt: &HostRuntime,
     alloc: Global,
     service: &mut Service<K>,
     stream: &TcpStream,
 ) -> Option<u16>
     ensures { IsConnection K.Keeper service.old result service.new }
 {
-    let mut reader = stream;
-    let mut writer = stream;
+    let mut reader = Timed::new(rt, stream);
+    let mut writer = Timed::new(rt, stream);
     serve_over(alloc, service, &mut reader, &mut writer)
 }
 
@@ -68,11 +58,11 @@ fn serve_over<R: Read, W: Write, K: Keeper>(
 
 /// Ends a connection so that its reply arrives: a system that closes it while bytes of the request wait unread, as those of a body
 /// that is too large, takes back what it sent.
-fn end(stream: &TcpStream) {
+fn end(rt: &HostRuntime, stream: &TcpStream) {
     if stream.shutdown(Shutdown::Write).is_err() {
         return;
     }
-    let mut reader = stream;
+    let mut reader = Timed::new(rt, stream);
     let mut rest = [0; 4096];
     for _ in 0..GREATEST_REST {
         match reader.read(&mut rest) {

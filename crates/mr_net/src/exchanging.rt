@@ -22,7 +22,7 @@ use mr_peer::{position_ask, position_take, pull_ask, push_ask};
 use mr_say::{BAD_WORDS, NO_MEMORY, REFUSED, say, say_refusal};
 use mr_service::Service;
 use mr_sql::SqlKeeper;
-use mr_store::Keeper;
+use mr_store::{Cached, Keeper};
 use mr_words::{AddressFault, peer_address};
 use std::alloc::Global;
 use std::io::{Read, Write};
@@ -204,7 +204,8 @@ fn exchange_kept<K: Keeper, W: Write>(
     address: &Address<'_>,
     out: &mut W,
 ) -> (K, u8)
-    ensures { EndsExchange (W.contents out.old) (W.contents out.new) result.1 }
+    ensures runs { TellsBoth (RunsRound ⟦<Cached<K> as Keeper>⟧) keeper result.0 (W.contents out.old) (W.contents out.new) result.1 }
+    ensures ends { EndsExchange (W.contents out.old) (W.contents out.new) result.1 }
 {
     let service = remembered(alloc, keeper);
     let (service, status) = exchange_as(rt, alloc, service, address, out);

@@ -14,7 +14,7 @@ use crate::printing::say_no_network;
 use mr_say::{DONE, say, say_made, say_refusal};
 use mr_service::Service;
 use mr_sql::SqlKeeper;
-use mr_store::Keeper;
+use mr_store::{Cached, Keeper};
 use std::alloc::{AllocError, Global};
 use std::io::Write;
 use std::net::{Ipv4Addr, TcpListener};
@@ -51,7 +51,8 @@ fn serve_kept<K: Keeper, W: Write>(
     connections: u64,
     out: &mut W,
 ) -> (K, u8)
-    ensures { EndsServing port connections (W.contents out.old) (W.contents out.new) result.1 }
+    ensures serves { ServesAt ⟦<Cached<K> as Keeper>⟧ keeper result.0 port connections (W.contents out.old) (W.contents out.new) result.1 }
+    ensures ends { EndsServing port connections (W.contents out.old) (W.contents out.new) result.1 }
 {
     let mut service = remembered(alloc, keeper);
     let status = serve_at(rt, alloc, &mut service, port, connections, out);
@@ -77,7 +78,7 @@ fn serve_at<K: Keeper, W: Write>(
     if status != DONE {
         return status;
     }
-    serve_all(alloc, service, &listener, connections, out)
+    serve_all(rt, alloc, service, &listener, connections, out)
 }
 
 /// Prints at which port the database is served.
@@ -96,6 +97,7 @@ fn serving_text(alloc: Global, port: u16) -> Result<String, AllocError>
 
 /// Serves that many connections, and prints a line for each.
 fn serve_all<K: Keeper, W: Write>(
+    rt: &HostRuntime,
     alloc: Global,
     service: &mut Service<K>,
     listener: &TcpListener,
@@ -105,7 +107,7 @@ fn serve_all<K: Keeper, W: Write>(
     ensures { TellsServed K.Keeper service.old service.new connections (W.contents out.old) (W.contents out.new) result }
 {
     for _ in 0..connections {
-        let served = serve_next(alloc, service, listener);
+        let served = serve_next(rt, alloc, service, listener);
         let status = say_served(alloc, out, served);
         if status != DONE {
             return status;
