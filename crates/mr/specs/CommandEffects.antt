@@ -1,5 +1,5 @@
 -- What the replica of a keeper is asked, and what is told of its reply.
-use Rattle.std.specs.Prelude.{◌≡◌, ◌⊎◌, ℕ, ◌≤◌, [], ◌∷◌, length, codes, decimal, Option, Result, Ok}
+use Rattle.std.specs.Prelude.{◌≡◌, ◌⊎◌, ℕ, ◌<◌, ◌≤◌, [], ◌∷◌, length, codes, decimal, Option, Result, Ok}
 use Rattle.std.specs.Io.KnownBytes.{Appends}
 use Rattle.mr_model.specs.Texts.{Text, line, words}
 use Rattle.mr_model.specs.Replies.{Reply, reply_text}
@@ -55,3 +55,7 @@ TellsWritten reply held holds status =
     ((status_of reply ≡ 1) × PrintsReply reply held holds status)
     ⊎ (((status_of reply ≡ 0) × (length (reply_text reply) ≤ greatest_file) × TellsLength (length (reply_text reply)) held holds status)
     ⊎ TellsFault held holds status)
+
+-- for a refusal, and for a text that is longer than a file may be, no file is made
+abbrev pub LeavesFiles : {M : Type 0} → Reply → M → M → Type 0
+LeavesFiles reply old new = ((status_of reply ≡ 1) ⊎ (greatest_file < length (reply_text reply))) → new ≡ old

@@ -19,7 +19,7 @@ use Rattle.mr_words.specs.CommandTable.{Invoked, Init, Ask, Export, Import, Rehe
 use Rattle.mr_words.specs.declared.invocations.Task.{Task}
 use Rattle.mr_words.specs.declared.invocations.Task.TheVariants as task
 use Rattle.mr.specs.Rehearsed.{Rehearses, StopsRehearsing}
-use Rattle.mr.specs.CommandEffects.{IsCommandAsked, TellsFault, TellsWritten}
+use Rattle.mr.specs.CommandEffects.{IsCommandAsked, LeavesFiles, TellsFault, TellsWritten}
 
 -- ---- tasks
 
@@ -54,6 +54,11 @@ file_for _ = None
 abbrev pub TellsTo : Option (String Global) → Reply → Option Text → Option Text → ℕ → Type 0
 TellsTo None = PrintsReply
 TellsTo (Some path) = TellsWritten
+
+-- the same, and what makes files makes none but for the reply that goes to one
+abbrev pub TellsToFile : {M : Type 0} → Option (String Global) → M → M → Reply → Option Text → Option Text → ℕ → Type 0
+TellsToFile None before after reply held holds status = PrintsReply reply held holds status × (after ≡ before)
+TellsToFile (Some path) before after reply held holds status = TellsWritten reply held holds status × LeavesFiles reply before after
 
 -- the replica of a keeper is asked such a command, and the reply is told so
 abbrev pub IsAnswered : {K : Type 0} → Ghosts K → (Command → Type 0) → (Reply → Option Text → Option Text → ℕ → Type 0) → K → K → Option Text → Option Text → ℕ

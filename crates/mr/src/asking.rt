@@ -7,11 +7,11 @@ ghost use Rattle.mr_model.specs.View.{Question};
 ghost use Rattle.mr_model.specs.Replies as model;
 ghost use Rattle.mr_model.specs.Step.{Ask};
 ghost use Rattle.mr_service.specs.Asked.{command_seen, reply_of};
-ghost use Rattle.mr.specs.CommandEffects.{IsCommandAsked, TakesAll, TellsAnswer, TellsFault, TellsLength, TellsWritten, greatest_file};
+ghost use Rattle.mr.specs.CommandEffects.{IsCommandAsked, TakesAll, TellsAnswer, TellsFault, TellsLength, TellsWritten, LeavesFiles, greatest_file};
 ghost use Rattle.mr.specs.Rehearsed.{GivesInput};
-ghost use Rattle.mr.specs.Tasks.{IsAnswered, IsCommandFor, IsCommandWith, TellsTo, file_for};
+ghost use Rattle.mr.specs.Tasks.{IsAnswered, IsCommandFor, IsCommandWith, TellsTo, TellsToFile, file_for};
 
-use crate::files::{FileFault, GREATEST_FILE, create_file, say_fault};
+use crate::files::{FileFault, GREATEST_FILE, HostFiles, MakesFiles, say_fault};
 use crate::tasks::{command_for, reader_for};
 use mr_say::{DONE, NO_MEMORY, REFUSED, say, say_reply};
 use mr_service::{Command, Reply, Service, reply_text};
@@ -32,45 +32,48 @@ pub(crate) fn perform<K: Keeper, W: Write>(
         ⊎ ((service.new ≡ service.old) × TellsFault (W.contents out.old) (W.contents out.new) result) }
 {
     match reader_for(rt, &task) {
-        Ok(reader) => perform_with(rt, alloc, service, task, reader, out),
+        Ok(reader) => {
+            let mut files = HostFiles::new(rt);
+            perform_with(alloc, service, task, reader, &mut files, out)
+        }
         Err(fault) => say_fault(out, fault),
     }
 }
 
 /// Does the task with this replica, where the reader gives the file that the task names.
-fn perform_with<K: Keeper, R: Read, W: Write>(
-    rt: &HostRuntime,
+fn perform_with<K: Keeper, R: Read, M: MakesFiles, W: Write>(
     alloc: Global,
     service: &mut Service<K>,
     task: Task,
     reader: Option<R>,
+    files: &mut M,
     out: &mut W,
 ) -> u8
 where
     R: Drop,
-    ensures { IsAnswered K.Keeper (IsCommandWith task (GivesInput R.remaining reader)) (TellsTo (file_for task)) service.old service.new (W.contents out.old)
-        (W.contents out.new) result
-        ⊎ ((service.new ≡ service.old) × TellsFault (W.contents out.old) (W.contents out.new) result) }
+    ensures { IsAnswered K.Keeper (IsCommandWith task (GivesInput R.remaining reader)) (TellsToFile (file_for task) files.old files.new) service.old service.new
+        (W.contents out.old) (W.contents out.new) result
+        ⊎ ((service.new ≡ service.old) × (files.new ≡ files.old) × TellsFault (W.contents out.old) (W.contents out.new) result) }
 {
     match command_for(alloc, task, reader) {
-        Ok((command, file)) => answer(rt, alloc, service, &command, file, out),
+        Ok((command, file)) => answer(alloc, service, &command, file, files, out),
         Err(fault) => say_fault(out, fault),
     }
 }
 
 /// Gives the replica the command and tells what it replies, and answers the status: 0, 1 where it refuses, or 3 where the file at
 /// this path does not take the reply.
-fn answer<K: Keeper, W: Write>(
-    rt: &HostRuntime,
+fn answer<K: Keeper, M: MakesFiles, W: Write>(
     alloc: Global,
     service: &mut Service<K>,
     command: &Command,
     file: Option<String>,
+    files: &mut M,
     out: &mut W,
 ) -> u8
     ensures told { (reply : model.Reply)
         × IsCommandAsked K.Keeper service.old service.new (command_seen command.now) reply
-        × TellsTo file reply (W.contents out.old) (W.contents out.new) result }
+        × TellsToFile file files.old files.new reply (W.contents out.old) (W.contents out.new) result }
     ensures shown { K.is_clean service.new → K.is_open service.old → file ≡ None
         → (room : Text) (question : Question) → command_seen command.now ≡ Ask room question
         → TellsAnswer (K.tables service.old) room question (W.contents out.old) (W.contents out.new) result }
@@ -78,7 +81,7 @@ fn answer<K: Keeper, W: Write>(
     let reply = ask(service, command);
     match file {
         None => say_reply(alloc, out, &reply),
-        Some(path) => write_reply(rt, alloc, path.as_str(), &reply, out),
+        Some(path) => write_reply(alloc, files, path.as_str(), &reply, out),
     }
 }
 
@@ -89,21 +92,23 @@ fn ask<K: Keeper>(service: &mut Service<K>, command: &Command) -> Reply
     service.ask(command)
 }
 
-/// Writes the reply to the file at this path and prints how many bytes that has, unless it is a refusal, which is printed.
-fn write_reply<W: Write>(
-    rt: &HostRuntime,
+/// Writes the reply to the file at this path and prints how many bytes that has, unless it is a refusal, which is printed. No file is
+/// made, or emptied, for a refusal or for a text that is longer than a file may be.
+fn write_reply<M: MakesFiles, W: Write>(
     alloc: Global,
+    files: &mut M,
     path: &str,
     reply: &Reply,
     out: &mut W,
 ) -> u8
-    ensures { TellsWritten (reply_of reply.now) (W.contents out.old) (W.contents out.new) result }
+    ensures told { TellsWritten (reply_of reply.now) (W.contents out.old) (W.contents out.new) result }
+    ensures kept { LeavesFiles (reply_of reply.now) files.old files.new }
 {
     if let Reply::Refused(_) = reply {
         return say_reply(alloc, out, reply);
     }
     match file_text(alloc, reply) {
-        Ok(bytes) => write_bytes(rt, alloc, path, bytes.as_slice(), out),
+        Ok(bytes) => write_bytes(alloc, files, path, bytes.as_slice(), out),
         Err(fault) => say_fault(out, fault),
     }
 }
@@ -122,16 +127,16 @@ fn file_text(alloc: Global, reply: &Reply) -> Result<Vec<u8>, FileFault>
 }
 
 /// Writes the bytes to the file at this path, and prints how many there are.
-fn write_bytes<W: Write>(
-    rt: &HostRuntime,
+fn write_bytes<M: MakesFiles, W: Write>(
     alloc: Global,
+    files: &mut M,
     path: &str,
     bytes: &[u8],
     out: &mut W,
 ) -> u8
     ensures { TellsLength (length bytes.now) (W.contents out.old) (W.contents out.new) result }
 {
-    let mut made = create_file(rt, path);
+    let mut made = files.create(path);
     put_into(alloc, &mut made, bytes, out)
 }
 

@@ -30,11 +30,34 @@ pub(crate) fn open_file(rt: &HostRuntime, path: &str) -> Result<File, FileFault>
     }
 }
 
-/// The file at this path, made anew or emptied, to be written.
-pub(crate) fn create_file(rt: &HostRuntime, path: &str) -> Result<File, FileFault> {
-    match File::create(rt, path) {
-        Ok(file) => Ok(file),
-        Err(_) => Err(FileFault::File),
+/// What makes the file that takes a reply. Who is handed one and leaves it as it was has made no file, and emptied none.
+pub(crate) trait MakesFiles {
+    type File: Write + Drop;
+
+    /// The file at this path, made anew or emptied, to be written.
+    fn create(&mut self, path: &str) -> Result<Self::File, FileFault>;
+}
+
+/// The files of this machine.
+#[derive(Drop)]
+pub(crate) struct HostFiles<'a> {
+    rt: &'a HostRuntime,
+}
+
+impl<'a> HostFiles<'a> {
+    pub(crate) fn new(rt: &'a HostRuntime) -> HostFiles<'a> {
+        HostFiles { rt }
+    }
+}
+
+impl MakesFiles for HostFiles<'_> {
+    type File = File;
+
+    fn create(&mut self, path: &str) -> Result<File, FileFault> {
+        match File::create(self.rt, path) {
+            Ok(file) => Ok(file),
+            Err(_) => Err(FileFault::File),
+        }
     }
 }
 

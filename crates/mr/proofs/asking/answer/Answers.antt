@@ -1,7 +1,7 @@
-use Rattle.std.proofs.Common.{subst, sym}
+use Rattle.std.proofs.Common.{refl, subst, sym}
 use Rattle.mr_service.specs.Asked.{reply_of}
 use Rattle.mr_service.specs.Replied.{RepliesTo}
-use Rattle.mr.specs.Tasks.{TellsTo}
+use Rattle.mr.specs.Tasks.{TellsToFile}
 use Rattle.mr.proofs.AskLaws.{question_is_told}
 use Rattle.mr.proofs.asking.answer.Goals as goal
 
@@ -9,16 +9,16 @@ pub returns-in-None-clause-told : goal.returns-in-None-clause-told
 returns-in-None-clause-told g c = (
   reply_of c.ask-reply.result,
   c.ask-reply.ensures,
-  subst (λ file. TellsTo file (reply_of c.ask-reply.result) (g.W.Write.contents c.args.out.now) (g.W.Write.contents c.say_reply.new.out) c.say_reply.result)
-      (sym c.in-None.is) c.say_reply.ensures,
+  subst (λ file. TellsToFile file c.args.files.now c.args.files.now (reply_of c.ask-reply.result) (g.W.Write.contents c.args.out.now) (g.W.Write.contents c.say_reply.new.out) c.say_reply.result)
+      (sym c.in-None.is) (c.say_reply.ensures, refl),
 )
 
 pub returns-clause-told : goal.returns-clause-told
 returns-clause-told g c = (
   reply_of c.ask-reply.result,
   c.ask-reply.ensures,
-  subst (λ file. TellsTo file (reply_of c.ask-reply.result) (g.W.Write.contents c.args.out.now) (g.W.Write.contents c.write_reply.new.out) c.write_reply.result)
-      (sym c.in-Some.is) c.write_reply.ensures,
+  subst (λ file. TellsToFile file c.args.files.now c.write_reply.new.files (reply_of c.ask-reply.result) (g.W.Write.contents c.args.out.now) (g.W.Write.contents c.write_reply.new.out) c.write_reply.result)
+      (sym c.in-Some.is) (c.write_reply.ensures.told, c.write_reply.ensures.kept),
 )
 
 pub returns-in-None-clause-shown : goal.returns-in-None-clause-shown
