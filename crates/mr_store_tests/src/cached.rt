@@ -7,7 +7,7 @@ use crate::keepers::{
     told,
 };
 use crate::same::same;
-use mr_base::{Position, Refusal, Request, Slot, WriteId};
+use mr_base::{Refusal, Request, RoomName, Slot, WriteId};
 use mr_part::{Part, Scope};
 use mr_store::{Cached, Fault, Keeper, ListKeeper, Tripped};
 use mr_tables::Change;
@@ -95,9 +95,9 @@ fn after_a_failed_store_the_answers_are_right(rt: HostRuntime) {
 }
 
 /// The first fault of two rounds of questions.
-fn fault_in_rounds<K: Keeper>(keeper: &mut K, request: &Request, id: WriteId) -> Option<Fault> {
+fn fault_in_rounds<K: Keeper>(keeper: &mut K, room: &RoomName, id: WriteId) -> Option<Fault> {
     for call in 0..18 {
-        let fault = fault_of(keeper, call % 9, request, id);
+        let fault = fault_of(keeper, call % 9, room, id);
         if fault.is_some() {
             return fault;
         }
@@ -107,8 +107,8 @@ fn fault_in_rounds<K: Keeper>(keeper: &mut K, request: &Request, id: WriteId) ->
 
 fn fault_of_questions<K: Keeper>(keeper: &mut K, alloc: Global) -> Result<Option<Fault>, Refusal> {
     let id = id(2, 1)?;
-    let request = request(alloc)?;
-    Ok(fault_in_rounds(keeper, &request, id))
+    let room = RoomName::new(alloc, "oak")?;
+    Ok(fault_in_rounds(keeper, &room, id))
 }
 
 // the second call of the keeper below fails, which is the change
@@ -130,10 +130,7 @@ fn slot_of(change: &Change) -> Result<Slot, Refusal> {
 }
 
 fn part_of<K: Keeper>(keeper: &mut K, request: &Request) -> Result<Part, Refusal> {
-    // For the prover alone, which follows a scope where the types of all that a scope may hold are in use.
-    let _no_position: Option<&Position> = None;
-    let scope = Scope::OfRequest(&request.room, &request.meeting);
-    told(keeper.load_part(&scope))
+    told(keeper.load_part(&Scope::InRoom(&request.room)))
 }
 
 fn slot_in(part: Part, request: Request) -> Result<Slot, Refusal> {

@@ -1,11 +1,11 @@
 // Cancels at desks and at parts: what each call answers, and which rows it puts.
 
-use crate::builders::{Ask, Line, MONDAY, TUESDAY, id, slot, slots};
+use crate::builders::{Ask, Line, id};
 use crate::calls::{OPENING, TAKEN_BACK};
 use crate::desks::{Call, NO_ERROR, NONE, NOTHING, Put, Told, answer, batch, opening, puts};
 use crate::same::same;
 use crate::tables::{Rows, tables};
-use mr_base::{Item, Position, Refusal, Request};
+use mr_base::{Item, Refusal, RoomName};
 use mr_part::{Part, Scope};
 use mr_replay::Place;
 use mr_replica::Desk;
@@ -392,8 +392,6 @@ fn rows_of(alloc: Global, rows: &Rows, scope: &Scope<'_>) -> Result<u64, Refusal
 
 /// How many rows the part for the next commit has, that for a cancel of server 3's write, and that for a batch without lines.
 fn counts(alloc: Global) -> Result<[u64; 3], Refusal> {
-    // For the prover alone, which follows a scope where the types of all that a scope may hold are in use.
-    let _no_position: Option<&Position> = None;
     let target = id(3, 1)?;
     let of_commit = rows_of(alloc, &BOTH_TENTATIVE, &Scope::NextCommits(1))?;
     let of_target = rows_of(alloc, &BOTH_TENTATIVE, &Scope::OfTarget(target))?;
@@ -402,48 +400,18 @@ fn counts(alloc: Global) -> Result<[u64; 3], Refusal> {
     Ok([of_commit, of_target, of_batch])
 }
 
-/// A request of the room for this day, else at these minutes of that one.
-fn request_on(alloc: Global, day: &str, other: &str, starts: &[u32]) -> Result<Request, Refusal> {
-    let wish = slot(day, 540)?;
-    Request::of_words(
-        alloc,
-        "oak",
-        "Delta",
-        60,
-        wish,
-        slots(alloc, other, starts)?,
-    )
+fn rows_of_room(alloc: Global, room: &str) -> Result<u64, Refusal> {
+    // For the prover alone, which follows a scope where the types of all that a scope may hold are in use.
+    let _no_item: Option<&Item> = None;
+    let room = RoomName::new(alloc, room)?;
+    rows_of(alloc, &BOTH_TENTATIVE, &Scope::InRoom(&room))
 }
 
-/// How many rows the part for this request has, and that for a batch without lines. That there is one, and no position, is for the prover
-/// alone, which follows a scope where the types of all that a scope may hold are in use.
-fn rows_of_request(alloc: Global, request: &Request) -> Result<[u64; 2], Refusal> {
-    let _no_position: Option<&Position> = None;
-    let scope = Scope::OfRequest(&request.room, &request.meeting);
-    let of_request = rows_of(alloc, &BOTH_TENTATIVE, &scope)?;
-    let no_items: &[Item] = &[];
-    let of_batch = rows_of(alloc, &BOTH_TENTATIVE, &Scope::Items(no_items))?;
-    Ok([of_request, of_batch])
-}
-
-fn rows_on(alloc: Global, day: &str, other: &str, starts: &[u32]) -> Result<[u64; 2], Refusal> {
-    let request = request_on(alloc, day, other, starts)?;
-    rows_of_request(alloc, &request)
-}
-
-/// Days of a wish and of alternatives, the minutes of these, and how many rows are of the request.
-static DAYS: [(&str, &str, &[u32], u64); 3] = [
-    (MONDAY, MONDAY, &[], 1),
-    (TUESDAY, TUESDAY, &[], 0),
-    (TUESDAY, MONDAY, &[540], 1),
-];
-
-/// A submission's part has what is booked on the days of its choices alone, at whatever hour.
+/// A submission's part has what was booked in its room, also where it was taken back, and nothing of another room.
 #[test]
 fn rows_of_a_submission_are_counted(rt: HostRuntime) {
-    for (wish, other, starts, count) in &DAYS {
-        let found = rows_on(rt.alloc(), wish, other, starts);
-        same(&rt, &found, &Ok([*count, 0]), (wish, starts));
+    for (room, count) in [("oak", 1), ("elm", 0)] {
+        same(&rt, &rows_of_room(rt.alloc(), room), &Ok(count), room);
     }
 }
 
@@ -455,8 +423,6 @@ fn rows_of_parts_are_counted(rt: HostRuntime) {
 
 /// How many rows the part has for a batch with server 1's cancel of server 3's write, at this time.
 fn rows_of_cancel(alloc: Global, time: u64) -> Result<u64, Refusal> {
-    // For the prover alone, which follows a scope where the types of all that a scope may hold are in use.
-    let _no_position: Option<&Position> = None;
     let batch = batch(alloc, 1, &[Line::X(1, 1, time, 3, 1)])?;
     rows_of(alloc, &BOTH_TENTATIVE, &Scope::Items(&batch.items))
 }

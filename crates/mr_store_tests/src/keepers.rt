@@ -2,9 +2,9 @@
 // a test does not carry the state of each call.
 
 use crate::builders::{MONDAY, id, server};
-use crate::changes::{first_change, request, second_change, tables};
+use crate::changes::{first_change, second_change, tables};
 use crate::same::same;
-use mr_base::{Day, Position, Refusal, Request, RoomName, WriteId};
+use mr_base::{Day, Refusal, RoomName, WriteId};
 use mr_part::Scope;
 use mr_store::{Fault, Keeper, ListKeeper, PlaceRow, Tripped};
 use mr_tables::{BookingRow, CancelRow, CancelledRow, Change, ErrorRow};
@@ -396,17 +396,12 @@ fn a_trip_comes_after_its_calls(rt: HostRuntime) {
 pub(crate) fn fault_of<K: Keeper>(
     keeper: &mut K,
     call: u32,
-    request: &Request,
+    room: &RoomName,
     id: WriteId,
 ) -> Option<Fault> {
-    // For the prover alone, which follows a scope where the types of all that a scope may hold are in use.
-    let _no_position: Option<&Position> = None;
-    let room = &request.room;
     match call {
         0 => keeper.load().err(),
-        1 => keeper
-            .load_part(&Scope::OfRequest(room, &request.meeting))
-            .err(),
+        1 => keeper.load_part(&Scope::InRoom(room)).err(),
         2 => keeper.rooms().err(),
         3 => keeper.bookings(room, None).err(),
         4 => keeper.place_of(room, id).err(),
@@ -427,19 +422,19 @@ fn faults_of(
     rt: &impl Abort,
     alloc: Global,
     call: u32,
-    request: &Request,
+    room: &RoomName,
 ) -> Result<(Option<Fault>, Option<Fault>), Refusal> {
     let id = id(2, 1)?;
     let mut keeper = failing(rt, alloc);
-    let first = fault_of(&mut keeper, call, request, id);
-    Ok((first, fault_of(&mut keeper, call, request, id)))
+    let first = fault_of(&mut keeper, call, room, id);
+    Ok((first, fault_of(&mut keeper, call, room, id)))
 }
 
 #[test]
 fn each_question_trips_once(rt: HostRuntime) {
-    let request = request(rt.alloc()).expect(&rt, "a request");
+    let room = RoomName::new(rt.alloc(), "oak").expect(&rt, "a room");
     for call in 0..9 {
-        let faults = faults_of(&rt, rt.alloc(), call, &request);
+        let faults = faults_of(&rt, rt.alloc(), call, &room);
         same(&rt, &faults, &Ok((Some(Fault::Store), None)), call);
     }
 }
@@ -464,8 +459,6 @@ fn a_change_trips_once(rt: HostRuntime) {
 
 /// The fault of a part without rows of writes, where it has one.
 fn fault_of_part<K: Keeper>(keeper: &mut K) -> Option<Fault> {
-    // For the prover alone, which follows a scope where the types of all that a scope may hold are in use.
-    let _no_position: Option<&Position> = None;
     keeper.load_part(&Scope::Nothing).err()
 }
 

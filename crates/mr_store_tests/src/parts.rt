@@ -5,7 +5,7 @@ use crate::calls::KEPT;
 use crate::desks::{NO_ERROR, NONE, NOTHING, Put, Told, batch, puts};
 use crate::same::same;
 use crate::tables::{Rows, tables};
-use mr_base::{Batch, Position, Refusal};
+use mr_base::{Batch, Refusal};
 use mr_part::{Part, Scope};
 use mr_tables::Change;
 use std::alloc::Global;
@@ -41,8 +41,6 @@ static CASES: [Case; 9] = [
 
 fn received(alloc: Global, rows: &Rows, batch: &Batch) -> Result<(Told, Change), Refusal> {
     let tables = tables(alloc, rows)?;
-    // For the prover alone, which follows a scope where the types of all that a scope may hold are in use.
-    let _no_position: Option<&Position> = None;
     let part = Part::from_tables(alloc, &Scope::Items(&batch.items), &tables)?;
     let (writes, commits, change) = part.receive(batch)?;
     Ok(((writes, commits), change))
