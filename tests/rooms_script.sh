@@ -12,7 +12,7 @@ small() {
 
 # a small repository with one crate, and a program that prints its words
 run_rooms_script() {
-    local small=$scratch/small file
+    local small=$scratch/small file word
     if PATH=/usr/bin:/bin command -v rt > /dev/null; then
         echo 'skipped: ./rooms of a small repository (rt is in /usr/bin)'
         return
@@ -27,6 +27,13 @@ run_rooms_script() {
     printf '#!/bin/sh\necho "ran $*"\n' > "$small/crates/rooms/out/rooms"
     chmod +x "$small/crates/rooms/out/rooms"
     small 'no sum of what was built' 4
+    : > "$scratch/wanted"
+    for word in --help -h help --version 'sheet --help'; do
+        # shellcheck disable=SC2086
+        PATH=/usr/bin:/bin "$small/rooms" $word > "$scratch/out" 2> "$scratch/err" < /dev/null
+        told "$word without a build" $? 0 "$scratch/wanted"
+    done
+    held_file 'it helped' "$scratch/err"
     cp "$file" "$scratch/main.rt"
     "$small/tests/sum_of_sources" > "$small/crates/rooms/out/rooms.sum"
     small 'a build of these sources' 0
