@@ -55,7 +55,7 @@ deploy_front() {
     done
     folder=$(mktemp -d)
     chmod 755 "$folder"
-    timeout 300 python3 -B "$deploy/tests/front.py" "$deploy/front/rooms" "$program" "$folder" > "$deploy_scratch/front" 2>&1
+    timeout 900 python3 -B "$deploy/tests/front.py" "$deploy/front/rooms" "$program" "$folder" > "$deploy_scratch/front" 2>&1
     grep -v ' passed, ' "$deploy_scratch/front"
     if [[ $(tail -n 1 "$deploy_scratch/front") =~ ^([0-9]+)\ passed,\ ([0-9]+)\ failed$ ]]; then
         passed=$((passed + BASH_REMATCH[1]))
