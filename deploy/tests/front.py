@@ -257,7 +257,7 @@ def turns(t):
     """Commands wait for each other."""
     t.make('t.db')
     running = [t.start('book', 't.db', 'oak', '30', DAY, f'{hour:02}:00', 'At once') for hour in range(12)]
-    t.same('twelve at once', sorted(it.communicate()[0].split(' ')[1] for it in running), ['T'] * 12)
+    t.same('twelve at once', [f' T {DAY} ' in it.communicate()[0] for it in running], [True] * 12)
     sheet = t.call('sheet', 't.db', 'oak', DAY)[1]
     t.same('all twelve are there', sheet.count('\n'), 13)
     loop = subprocess.Popen(['bash', '-c', f'for hour in {{10..23}}; do "{t.front}" book t.db oak 30 2030-03-05 $hour:00 Loop; done'], cwd=t.folder,
