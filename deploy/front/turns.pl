@@ -41,16 +41,16 @@ sub wait_seconds {
 # change anything: so a question first lets those go that wait to change something, for half a second.
 sub wait_for_turn {
     my ($file, $how, @place) = @_;
-    my $until = time + wait_seconds();
+    my $halves = 2 * wait_seconds();
     for (1 .. 50) {
-        last if $how != 1 or time >= $until or not is_awaited(@place) or is_served(@place);
+        last if $how != 1 or $halves == 0 or not is_awaited(@place) or is_served(@place);
         select undef, undef, undef, 0.01;
     }
     return if flock $file, $how | 4;
     # a signal that came before `flock` is asked would break nothing off, so they come again and again
     local $SIG{ALRM} = sub { };
     my $bell = ring() or return;
-    while (time < $until and not is_served(@place)) {
+    while ($halves-- > 0 and not is_served(@place)) {
         last if flock $file, $how;
         # 4 is EINTR: half a second is over
         last if $! != 4;
