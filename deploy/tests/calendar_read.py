@@ -8,6 +8,7 @@ file's form ends it with status 1. With ZONE the rules of that zone in the file 
 """
 
 import datetime
+import re
 import sys
 import zoneinfo
 
@@ -40,6 +41,9 @@ if not text.endswith(b'\r\n') or b'\n' in text.replace(b'\r\n', b''):
     fault('lines end in CR LF')
 if max(map(len, text.split(b'\r\n'))) > 75:
     fault('a line has at most 75 bytes')
+for line in text.replace(b'\r\n ', b'').split(b'\r\n'):
+    if re.match(rb'(SUMMARY|LOCATION|NAME|X-WR-CALNAME):', line) and not re.fullmatch(rb'[A-Z-]+:(?:[^\\,;]|\\[\\,;])*', line):
+        fault(f'a text with signs that are not escaped: {line}')
 calendar = icalendar.Calendar.from_ical(text)
 if calendar['VERSION'] != '2.0' or not calendar['PRODID'] or not calendar.subcomponents:
     fault('version, product or all parts are missing')
