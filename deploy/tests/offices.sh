@@ -119,6 +119,7 @@ put_away_offices() {
     held 'an office is removed' "$office" remove east
     away=$(find "$ROOMS_STATE" -maxdepth 1 -name 'removed.east.*')
     is 'nothing of it is found' "$(find "$ROOMS_ETC" -name 'east.*'; find "$ROOMS_STATE" -maxdepth 1 -name east)" ''
+    held 'its calendars are gone' test ! -e "$ROOMS_CALENDARS/east"
     is 'its users are put away' "$(cat "$away/settings/east.readers")" desk:hash
     is 'its database too' "$("$ROOMS_PROGRAM" position "$away/state/rooms.db" | head -n 1)" 'mp2 2 1'
     refuses 'no office is removed twice' 1 'there is no office east' remove east
@@ -133,11 +134,11 @@ deploy_made_offices() {
     local ROOMS_ETC=$folder/etc ROOMS_STATE=$folder/state ROOMS_SHARE=$folder/share ROOMS_USER='' ROOMS_PROGRAM
     ROOMS_PROGRAM=$(readlink -f -- "$program")
     export ROOMS_ETC ROOMS_STATE ROOMS_SHARE ROOMS_USER ROOMS_PROGRAM
-    local -x LC_ALL=C
-    mkdir -p "$ROOMS_SHARE" "$ROOMS_ETC" "$ROOMS_STATE"
+    local -x LC_ALL=C ROOMS_CALENDAR=$deploy/calendar/rooms-calendar ROOMS_CALENDARS=$folder/calendars
+    mkdir -p "$ROOMS_SHARE" "$ROOMS_ETC" "$ROOMS_STATE" "$ROOMS_CALENDARS/east"
     cp -r "$deploy/page" "$deploy/front" "$deploy/proxy/office.conf.in" "$deploy/systemd/office.settings.in" "$deploy/systemd/page_rooms.pl" \
         "$ROOMS_SHARE"
-    for script in "$office" "$deploy/courier/rooms-courier" "$deploy/check/rooms-check" "$deploy/package/build" "$deploy/tests/alone" \
+    for script in "$office" "$deploy/courier/rooms-courier" "$deploy/check/rooms-check" "$deploy/calendar/rooms-calendar" "$deploy/package/build" "$deploy/tests/alone" \
         "$deploy/tests/under_systemd"; do
         held "${script##*/} --help" eval '[ "$("$script" --help 2>&1 | wc -c)" -gt 70 ] && "$script" -h > /dev/null'
     done
