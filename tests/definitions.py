@@ -49,7 +49,7 @@ class Modules:
         self.texts = {}
         for crate, folder in crates:
             for part in ("specs", "proofs"):
-                for it in sorted(os.listdir(f"{folder}/{part}")):
+                for it in sorted(os.listdir(f"{folder}/{part}")) if os.path.isdir(f"{folder}/{part}") else []:
                     if it.endswith(".antt") and it != "Lib.antt":
                         self.texts[f"{crate}.{part}.{it[: -len('.antt')]}"] = text_of(f"{folder}/{part}/{it}")
         self.named = {it: self.names_in(text) for it, text in self.texts.items()}
