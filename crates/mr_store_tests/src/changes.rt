@@ -98,9 +98,21 @@ fn put_cancels(alloc: Global, change: &mut Change) -> Result<(), Refusal> {
     add(&mut change.cancels, cancel(alloc, 7, true))
 }
 
+/// So many writes of a server, so many of them committed, the last of the latest time.
+fn counted(of: u32, count: u32, committed: u32) -> Result<VectorRow, Refusal> {
+    Ok(VectorRow {
+        server: server(of)?,
+        count,
+        last_time: 9,
+        committed,
+    })
+}
+
 fn put_first(alloc: Global, change: &mut Change) -> Result<(), Refusal> {
     add(&mut change.room, RoomName::new(alloc, "oak"))?;
     add(&mut change.room, RoomName::new(alloc, "elm"))?;
+    add(&mut change.vector, counted(1, 3, 0))?;
+    add(&mut change.vector, counted(2, 8, 0))?;
     add_bookings(alloc, &mut change.booking, &FIRST_BOOKED)?;
     add(&mut change.errorlog, error(alloc, 3))?;
     put_cancels(alloc, change)
@@ -114,6 +126,7 @@ pub(crate) fn first_change(alloc: Global) -> Result<Change, Refusal> {
 }
 
 fn put_second(alloc: Global, change: &mut Change) -> Result<(), Refusal> {
+    add(&mut change.vector, counted(1, 3, 1))?;
     add(&mut change.unbooked, id(2, 1))?;
     add_bookings(alloc, &mut change.booking, &THEN_BOOKED)?;
     add(&mut change.unlogged, id(2, 3))?;
@@ -131,11 +144,6 @@ pub(crate) fn second_change(alloc: Global) -> Result<Change, Refusal> {
 /// The tables with nothing but the number of commits and a server's count of writes.
 pub(crate) fn tables(alloc: Global, commits: u64, count: u32) -> Result<Tables, Refusal> {
     let mut tables = no_rows(alloc, meta(commits)?);
-    tables.vector.push(VectorRow {
-        server: server(1)?,
-        count,
-        last_time: 9,
-        committed: 0,
-    })?;
+    tables.vector.push(counted(1, count, 0)?)?;
     Ok(tables)
 }
