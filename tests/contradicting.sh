@@ -22,8 +22,8 @@ refused_so() {
     same "the rows after it: $name" "$scratch/rows_after" "$scratch/rows"
 }
 
-# taken NAME SQL: a write of the replica's own is refused in each room, since a row has its id
-taken() {
+# id_taken NAME SQL: a write of the replica's own is refused in each room, since a row has its id
+id_taken() {
     turned "$1" "$2"
     refused_so "$1: a booking in oak" book "$database" oak 30 1995-12-18 18:00 Next
     refused_so "$1: a booking in elm" book "$database" elm 30 1995-12-18 18:00 Next
@@ -32,7 +32,7 @@ taken() {
 
 # contradicts NAME SQL: each command that changes the replica is refused, and each that exchanges
 contradicts() {
-    taken "$1" "$2"
+    id_taken "$1" "$2"
     refused_so "$1: a room" add-room "$database" ash
     refused_so "$1: a commit" commit "$database" 1
     refused_so "$1: a truncation" truncate "$database" 1
@@ -58,15 +58,15 @@ run_contradicting() {
     printf '%s\n' 'mr1 3 1' 'W 3 1 1 oak 30 1995-12-18 16:00 0 Other' 'E' > "$scratch/commands/batch"
 
     # the next id is that of a write that is there: in two tables, and in each alone
-    taken 'four of five are counted' 'UPDATE vector SET n = 4'
-    taken 'three of five are counted' 'UPDATE vector SET n = 3'
-    taken 'two of five are counted' 'UPDATE vector SET n = 2'
-    taken 'one of five is counted' 'UPDATE vector SET n = 1'
-    taken 'the next id in errorlog alone' 'UPDATE vector SET n = 4; DELETE FROM log WHERE n = 5'
-    taken 'the next id in cancel alone' 'UPDATE vector SET n = 3; DELETE FROM log WHERE n = 4'
-    taken 'the next id in cancelled alone' 'UPDATE vector SET n = 2; DELETE FROM log WHERE n = 3'
-    taken 'the next id in booking alone' 'UPDATE vector SET n = 1; DELETE FROM log WHERE n = 2'
-    taken 'the next id in log alone' 'UPDATE vector SET n = 1; DELETE FROM booking WHERE n = 2'
+    id_taken 'four of five are counted' 'UPDATE vector SET n = 4'
+    id_taken 'three of five are counted' 'UPDATE vector SET n = 3'
+    id_taken 'two of five are counted' 'UPDATE vector SET n = 2'
+    id_taken 'one of five is counted' 'UPDATE vector SET n = 1'
+    id_taken 'the next id in errorlog alone' 'UPDATE vector SET n = 4; DELETE FROM log WHERE n = 5'
+    id_taken 'the next id in cancel alone' 'UPDATE vector SET n = 3; DELETE FROM log WHERE n = 4'
+    id_taken 'the next id in cancelled alone' 'UPDATE vector SET n = 2; DELETE FROM log WHERE n = 3'
+    id_taken 'the next id in booking alone' 'UPDATE vector SET n = 1; DELETE FROM log WHERE n = 2'
+    id_taken 'the next id in log alone' 'UPDATE vector SET n = 1; DELETE FROM booking WHERE n = 2'
     turned 'all five are counted' 'UPDATE vector SET n = 5'
     expect_line 'a booking behind all five' 0 '1-6 T 1995-12-18 18:00-18:30' book "$database" oak 30 1995-12-18 18:00 Next
 
