@@ -1,11 +1,11 @@
 # The program as Rattle's own compiler builds it, which the gate makes beside LLVM's and runs on one script: the scripts whose commands go without
 # memory, on databases; a database of the first schema that moves up; and requests over HTTP. ./test sources this file; the functions of
-# tests/lib.sh, tests/http.sh, tests/commands.sh and tests/kept.sh and the variables of ./test are used here.
+# tests/lib.sh, tests/http/http.sh, tests/files/commands.sh and tests/files/kept.sh and the variables of ./test are used here.
 
 # it moves the kept database up, which LLVM's build then finds as it has to be
 run_other_kept() {
     local database=$scratch/other/first.sqlite
-    cp -- tests/kept/first.sqlite "$database"
+    cp -- tests/files/kept/first.sqlite "$database"
     "$program" position "$database" > "$scratch/out" 2> "$scratch/err" < /dev/null
     local status=$?
     printf 'mp2 7 3\nK 6\nV 3 3\nV 7 6\nE\n' > "$scratch/wanted"

@@ -128,7 +128,7 @@ def same_lines(t):
     for hints in '0', '1':
         folder = t.path(f'lines{hints}')
         os.mkdir(folder)
-        ran = subprocess.run([sys.executable, '-B', os.path.join(HERE, '../../tests/lines.py'), t.front, folder], env={**t.env, 'ROOMS_HINTS': hints},
+        ran = subprocess.run([sys.executable, '-B', os.path.join(HERE, '../../tests/lines/lines.py'), t.front, folder], env={**t.env, 'ROOMS_HINTS': hints},
                              capture_output=True, text=True, check=False)
         failures = sorted(line.split(': (')[0] for line in ran.stdout.splitlines() if line.startswith('FAILED'))
         t.same('command lines through the front', failures, ['FAILED: without_databases: 2 --help', 'FAILED: without_databases: 2 help'])

@@ -1,6 +1,6 @@
 """An office that is served by a program from before there were cancels, which knows the first exchange text alone: older.py PORT.
 
-It is replica 2 of primary 1, the plain form of tests/oracle.py, with the room oak; each POST to /book is an hour there, on the next day.
+It is replica 2 of primary 1, the plain form of tests/oracle/oracle.py, with the room oak; each POST to /book is an hour there, on the next day.
 """
 
 import http.server
@@ -8,7 +8,7 @@ import os
 import sys
 
 os.environ['ROOMS_RULES'] = 'bookings'
-sys.path.insert(0, os.path.join(os.path.dirname(os.path.abspath(__file__)), '..', '..', 'tests'))
+sys.path.insert(0, os.path.join(os.path.dirname(os.path.abspath(__file__)), '..', '..', 'tests', 'oracle'))
 
 import oracle
 import wire

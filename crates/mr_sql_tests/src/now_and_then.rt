@@ -1,5 +1,5 @@
 // What offices are asked, and tables that are made and moved up, each between the lines `now` and `then`, so that a library under the
-// program can refuse each allocation there (`tests/refused_commands.py`). Behind the second line comes the reply; where it is that there is
+// program can refuse each allocation there (`tests/faults/refused_commands.py`). Behind the second line comes the reply; where it is that there is
 // no memory, all that is seen of the offices, the reply once the same is asked again, and what is seen then. Elsewhere the memory is ample.
 
 use crate::acts::{batch_for, command};

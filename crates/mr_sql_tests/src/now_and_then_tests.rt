@@ -1,4 +1,4 @@
-// Six scripts over lists and over databases in memory, and two databases of the first schema that move up. `tests/refused_commands.py` runs
+// Six scripts over lists and over databases in memory, and two databases of the first schema that move up. `tests/faults/refused_commands.py` runs
 // each of these tests by its name, with allocations refused, and compares what it prints with what a plain form of scripts replies. It sets
 // the variable ROOMS_TELL, without which nothing is printed.
 

@@ -1,4 +1,4 @@
-// Requests whose replies are printed as they come, so that a library under the program can refuse each allocation: `tests/refused_memory.py`
+// Requests whose replies are printed as they come, so that a library under the program can refuse each allocation: `tests/faults/refused_memory.py`
 // runs this test by its name, and compares what it prints. No line takes memory.
 
 use crate::serving_tests::{FIRST, THEN};

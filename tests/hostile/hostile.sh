@@ -1,0 +1,62 @@
+# Strangers and faults, on the built program. ./test sources this file; the functions of tests/lib.sh and the variables of ./test
+# are used here.
+
+# tried NAME WORD..: a test in Python ended well; what it skipped and its last line are shown, and all of its lines where it failed
+tried() {
+    local name=$1
+    shift
+    if PYTHONDONTWRITEBYTECODE=1 python3 "$@" > "$scratch/out" 2> "$scratch/err"; then
+        passed=$((passed + 1))
+        grep '^skipped: ' "$scratch/out"
+        printf '%s: %s\n' "$name" "$(tail -n 1 -- "$scratch/out")"
+    else
+        echo "FAILED: $name:"
+        head -c 20000 -- "$scratch/out"
+        tail -n 5 -- "$scratch/err"
+        failed=$((failed + 1))
+    fi
+}
+
+# turned batches and positions for 90 seconds, and requests of strangers for 20; the seed is printed with a failure
+run_hostile_hands() {
+    if ! command -v python3 > /dev/null; then
+        echo 'skipped: turned batches, strange requests, broken peers, slow callers (no python3)'
+        return
+    fi
+    tried 'turned batches and positions' tests/hostile/hostile.py "$program" "$quick/turned" 90
+    tried 'peers and clients that break off' tests/hostile/peers.py "$program" "$quick/peers"
+    tried 'callers who are silent or slow' tests/hostile/patience.py "$program" "$quick/patience"
+    tried 'requests of strangers' tests/hostile/strangers/run.py "$program" "$quick/strangers" 20
+}
+
+run_faults() {
+    if ! command -v python3 > /dev/null; then
+        echo 'skipped: killed commands, limited files, failing disks (no python3)'
+        return
+    fi
+    tried 'killed commands, limited files, closed outputs' tests/faults/faults.py "$program" "$quick/faults" 200 1
+    tried 'a served database whose disk fails' tests/faults/failed_disk.py "$program" "$quick/failed_disk"
+}
+
+run_questions() {
+    if ! command -v python3 > /dev/null; then
+        echo 'skipped: questions that write nothing (no python3)'
+        return
+    fi
+    tried 'questions that write nothing' tests/files/questions.py "$program" "$quick/questions"
+}
+
+# each allocation of scripts, and of requests to a server, and many of commands on databases, is refused
+run_refused_memory() {
+    if ! command -v python3 > /dev/null; then
+        echo 'skipped: memory that is refused (no python3)'
+        return
+    fi
+    if ! command -v cc > /dev/null && ! command -v gcc > /dev/null && ! command -v clang > /dev/null; then
+        echo 'skipped: memory that is refused (no C compiler)'
+        return
+    fi
+    tried 'memory that is refused' tests/faults/refused_memory.py "$program" crates/mr_web_tests/out/mr_web_tests_tests crates/mr_sql_tests/out/mr_sql_tests_tests \
+        "$quick/memory" tests/scripts/equal_times.script examples/commit_reorders.script tests/scripts/chain.script tests/scripts/dropped_commits.script \
+        tests/scripts/cancel_of_moved.script tests/scripts/cancel_and_rebook.script
+}

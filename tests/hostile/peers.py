@@ -1,0 +1,194 @@
+#!/usr/bin/env python3
+"""Peers whose replies break off, and clients that do.
+
+    peers.py PROGRAM FOLDER
+
+`exchange` with a peer whose reply to a pull ends after each of its bytes, with one that breaks the connection after each byte of each
+of its replies, with one whose reply is none, and with one that knows the first exchange text alone; a submission to a served database
+by clients that go away at once. What was taken stays; what was answered is there. The last line counts.
+"""
+
+import os
+import socket
+import struct
+import sys
+import threading
+
+sys.path.insert(0, os.path.join(os.path.dirname(os.path.abspath(__file__)), '..', 'oracle'))
+
+from calls import Served, call, done, empty
+
+BATCH = (b'mr2 1 1\nW 1 1 1 oak 60 1995-12-18 14:00 0 Alpha\n'
+         b'W 2 1 1 oak 60 1995-12-18 13:30 1 1995-12-18 15:00 Beta\nE\n')
+POSITION = b'mp2 1 1\nK 0\nV 1 1\nV 2 1\nE\n'
+NONE = b'took 0 writes 0 commits\n'
+
+
+def head(length, status=b'200 OK'):
+    return b'HTTP/1.1 %s\r\nContent-Length: %d\r\n\r\n' % (status, length)
+
+
+class Peer:
+    """Answers each connection by the path that is asked for, until nobody comes any more."""
+
+    def __init__(self, pull, position=head(len(POSITION)) + POSITION, push=head(len(NONE)) + NONE, reset=None):
+        self.replies = {b'/pull': pull, b'/position': position, b'/push': push}
+        self.reset, self.listener = reset, socket.create_server(('127.0.0.1', 0))
+        self.port = self.listener.getsockname()[1]
+        self.thread = threading.Thread(target=self.serve, daemon=True)
+        self.thread.start()
+
+    def end(self):
+        """Nobody is answered any more. A thread that waits for the next one would take a connection of another peer, whose listener has the number of this one."""
+        self.listener.shutdown(socket.SHUT_RDWR)
+        self.thread.join()
+        self.listener.close()
+
+    def serve(self):
+        while True:
+            try:
+                peer, _ = self.listener.accept()
+            except OSError:
+                return
+            with peer:
+                asked = read_request(peer)
+                path = asked.split(b' ')[1] if b' ' in asked else b''
+                peer.sendall(self.replies.get(path, b''))
+                if path == self.reset:
+                    peer.setsockopt(socket.SOL_SOCKET, socket.SO_LINGER, struct.pack('ii', 1, 0))
+
+
+def read_request(peer):
+    data = b''
+    while b'\r\n\r\n' not in data or len(data.split(b'\r\n\r\n', 1)[1]) < length_in(data):
+        piece = peer.recv(65536)
+        if not piece:
+            break
+        data += piece
+    return data
+
+
+def length_in(data):
+    fields = [line for line in data.split(b'\r\n\r\n')[0].split(b'\r\n') if line.lower().startswith(b'content-length:')]
+    return int(fields[0].split(b':')[1]) if fields else 0
+
+
+class Tried:
+    def __init__(self, program, folder):
+        self.program, self.folder, self.passed, self.failed = program, empty(folder), 0, 0
+        self.file = f'{folder}/9.db'
+
+    def told(self, name, is_right):
+        self.passed += is_right
+        self.failed += not is_right
+        if not is_right:
+            print(f'FAILED: {name}', flush=True)
+
+    def exchange(self, name, wanted, status, writes, **replies):
+        """A replica that knows nothing exchanges with such a peer; then it knows so many writes."""
+        empty(self.folder)
+        done(self.program, 'init', self.file, 9, 1)
+        peer = Peer(**replies)
+        printed = call(self.program, 'exchange', self.file, f'http://127.0.0.1:{peer.port}/')
+        peer.end()
+        self.told(f'{name}: {printed}', printed == (wanted, status))
+        counts = b''.join(b'V %d 1\n' % server for server in range(1, writes + 1))
+        self.told(f'{name}: the position', done(self.program, 'position', self.file) == b'mp2 9 1\nK 0\n' + counts + b'E\n')
+
+    def cut_pulls(self):
+        """The reply's body ends after each of its bytes: whole lines are taken, and the exchange goes on."""
+        for size in range(len(BATCH) + 1):
+            writes = (size >= 48) + (size >= 104)
+            lines = b'pulled %d writes 0 commits\npushed 0 writes 0 commits\n' % writes
+            self.exchange(f'a pull cut after {size} bytes', lines, 0, writes, pull=head(len(BATCH)) + BATCH[:size])
+
+    def broken_connections(self):
+        """The peer breaks the connection after each byte of each of its replies: what was taken before stays, and nothing of this reply."""
+        pulled, fault = b'pulled 2 writes 0 commits\n', b'fault network\n'
+        pull, position, push = (head(len(body)) + body for body in (BATCH, POSITION, NONE))
+        for size in range(len(pull)):
+            self.exchange(f'a pull reset after {size} bytes', fault, 3, 0, pull=pull[:size], reset=b'/pull')
+        for size in range(len(position)):
+            self.exchange(f'a position reset after {size} bytes', pulled + fault, 3, 2, pull=pull, position=position[:size], reset=b'/position')
+        # whoever has all of what it knows is handed nothing, and still by a push
+        for size in range(len(push)):
+            self.exchange(f'a push reset after {size} bytes', pulled + fault, 3, 2, pull=pull, push=push[:size], reset=b'/push')
+
+    def bad_peers(self):
+        fault = b'fault network\n'
+        whole = head(len(BATCH)) + BATCH
+        for size in range(len(head(len(BATCH)))):
+            self.exchange(f'a head cut after {size} bytes', fault, 3, 0, pull=head(len(BATCH))[:size])
+        for name, reply in (('chunked', b'HTTP/1.1 200 OK\r\nTransfer-Encoding: chunked\r\n\r\n0\r\n\r\n'),
+                            ('no length', b'HTTP/1.1 200 OK\r\n\r\n' + BATCH),
+                            ('version 1.0', whole.replace(b'1.1', b'1.0', 1)),
+                            ('two lengths', whole.replace(b'\r\n', b'\r\nContent-Length: 106\r\n', 1)),
+                            ('a length of eleven digits', head(0).replace(b': 0', b': 00000000000')), ('a great length', head(1048577)),
+                            ('a great head', b'HTTP/1.1 200 OK\r\nX: ' + b'y' * 9000 + b'\r\n\r\n'), ('another text', b'220 ready\r\n')):
+            self.exchange(f'a peer that sends {name}', fault, 3, 0, pull=reply)
+        self.exchange('a peer that refuses', b'peer answered 503\n', 1, 0, pull=head(0, b'503 Service Unavailable'))
+        self.exchange('a peer with a bad line', b'refused 15 BadLine 1\n', 1, 0, pull=head(2) + b'x\n')
+        self.exchange('a peer of another primary', b'refused 16 WrongPrimary\n', 1, 0, pull=head(10) + b'mr1 1 2\nE\n')
+        pulled = b'pulled 2 writes 0 commits\n'
+        self.exchange('a position that is none', pulled + fault, 3, 2, pull=whole, position=head(2) + b'x\n')
+        self.exchange('a position cut', pulled + fault, 3, 2, pull=whole, position=head(len(POSITION)) + POSITION[:-1])
+        self.exchange('a push answered with another text', pulled + fault, 3, 2, pull=whole, push=head(3) + b'ok\n')
+        self.exchange('a push answered with a great number', pulled + fault, 3, 2, pull=whole,
+                      push=head(43) + b'took 18446744073709551616 writes 0 commits\n')
+
+    def first_peers(self):
+        """A peer whose batch and position are of the first version is pulled from, and handed what that version can say."""
+        empty(self.folder)
+        done(self.program, 'init', self.file, 9, 1)
+        first, position = BATCH.replace(b'mr2', b'mr1'), b'mp1 1 1\nK 0\nV 1 1\nV 2 1\nE\n'
+        peer = Peer(pull=head(len(first)) + first, position=head(len(position)) + position)
+        words = ['exchange', self.file, f'http://127.0.0.1:{peer.port}/']
+        printed = call(self.program, *words)
+        self.told(f'a peer of the first version: {printed}', printed == (b'pulled 2 writes 0 commits\npushed 0 writes 0 commits\n', 0))
+        done(self.program, 'cancel', self.file, 'oak', '1-1')
+        printed = call(self.program, *words)
+        self.told(f'a cancel for it: {printed}', printed == (b'pulled 0 writes 0 commits\nrefused 27 NeedsVersion2\n', 1))
+        peer.end()
+        body = b'{"name":"BadPosition","refusal":23}'
+        old = Peer(pull=head(len(body), b'400 Bad Request') + body)
+        printed = call(self.program, 'exchange', self.file, f'http://127.0.0.1:{old.port}/')
+        self.told(f'a peer that reads no position of the second version: {printed}', printed == (b'peer answered 400\n', 1))
+        old.end()
+
+    def leaving_clients(self):
+        """A whole submission whose client goes away at once is booked; half of one isn't."""
+        body = b'{"day":"1995-12-18","length":60,"room":"oak","start":"13:30","title":"Budget Meeting"}'
+        request = b'POST /submit HTTP/1.1\r\nContent-Length: %d\r\n\r\n' % len(body) + body
+        empty(self.folder)
+        done(self.program, 'init', self.file, 1, 1)
+        done(self.program, 'add-room', self.file, 'oak')
+        served = Served(self.program, self.file, f'{self.folder}/lines')
+        for size in [0, 1, 30, len(request) - 1]:
+            with socket.create_connection(('127.0.0.1', served.port), 30) as peer:
+                peer.sendall(request[:size])
+                peer.setsockopt(socket.SOL_SOCKET, socket.SO_LINGER, struct.pack('ii', 1, 0))
+        position = served.ask(b'GET /position HTTP/1.1\r\n\r\n')
+        self.told('nothing is booked by half a request', position.endswith(b'\r\n\r\nmp2 1 1\nK 0\nE\n'))
+        with socket.create_connection(('127.0.0.1', served.port), 30) as peer:
+            peer.sendall(request)
+        position = served.ask(b'GET /position HTTP/1.1\r\n\r\n')
+        self.told('a whole request is booked', position.endswith(b'\r\n\r\nmp2 1 1\nK 0\nV 1 1\nE\n'))
+        told = served.statuses(7)
+        is_right = len(told) == 7 and set(told[:4]) <= {b'fault', b'400'} and told[4] == told[6] == b'200'
+        self.told(f'one line for each of them: {told}', is_right)
+        served.end()
+
+
+def main():
+    tried = Tried(*sys.argv[1:])
+    tried.cut_pulls()
+    tried.broken_connections()
+    tried.bad_peers()
+    tried.first_peers()
+    tried.leaving_clients()
+    print(f'{tried.passed} passed, {tried.failed} failed')
+    sys.exit(1 if tried.failed else 0)
+
+
+if __name__ == '__main__':
+    main()

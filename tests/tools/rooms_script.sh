@@ -1,0 +1,74 @@
+# What `./rooms` at the top does before it hands its words on: it runs no program of other sources than those that are there, whatever time a
+# changed file shows. ./test sources this file; the functions of tests/lib.sh and the variables of ./test are used here.
+
+# small NAME STATUS: `./rooms` of the small repository ends so; where the status is 0, its program ran
+small() {
+    printf '%s' "$([ "$2" != 0 ] || echo "ran position a.db")" > "$scratch/wanted"
+    if [ "$2" = 0 ]; then echo >> "$scratch/wanted"; fi
+    # no `rt` is found there, so that nothing is built
+    PATH=/usr/bin:/bin "$small/rooms" position a.db > "$scratch/out" 2> "$scratch/err" < /dev/null
+    told "$1" $? "$2" "$scratch/wanted"
+}
+
+# a small repository with one crate, and a program that prints its words
+run_rooms_script() {
+    local small=$scratch/small file word
+    if PATH=/usr/bin:/bin command -v rt > /dev/null; then
+        echo 'skipped: ./rooms of a small repository (rt is in /usr/bin)'
+        return
+    fi
+    file=$small/crates/rooms/src/main.rt
+    mkdir -p "$small/tools" "$small/deploy" "$small/crates/rooms/src" "$small/crates/rooms/specs" "$small/crates/rooms/proofs" "$small/crates/rooms/out"
+    cp rooms HANDLES crates.txt "$small"
+    cp tools/sum_of_sources "$small/tools"
+    cp -r deploy/front "$small/deploy"
+    echo one > "$file"
+    # shellcheck disable=SC2016
+    printf '#!/bin/sh\necho "ran $*"\n' > "$small/crates/rooms/out/rooms"
+    chmod +x "$small/crates/rooms/out/rooms"
+    small 'no sum of what was built' 4
+    : > "$scratch/wanted"
+    for word in --help -h help --version 'sheet --help'; do
+        # shellcheck disable=SC2086
+        PATH=/usr/bin:/bin "$small/rooms" $word > "$scratch/out" 2> "$scratch/err" < /dev/null
+        told "$word without a build" $? 0 "$scratch/wanted"
+    done
+    held_file 'it helped' "$scratch/err"
+    cp "$file" "$scratch/main.rt"
+    "$small/tools/sum_of_sources" > "$small/crates/rooms/out/rooms.sum"
+    small 'a build of these sources' 0
+    gone 'what was changed just now is looked at anew' "$small/crates/rooms/out/rooms.seen"
+    sleep 3
+    small 'the same a little later' 0
+    held_file 'what was seen is kept' "$small/crates/rooms/out/rooms.seen"
+    small 'the same again' 0
+    touch -r "$file" "$scratch/time"
+    echo two > "$file"
+    touch -r "$scratch/time" "$file"
+    small 'a change that has the time of before' 4
+    cp -p "$scratch/main.rt" "$file"
+    touch -r "$scratch/time" "$file"
+    small 'the file as it was' 0
+    cp "$file" "$small/crates/rooms/src/more.rt"
+    small 'a file more' 4
+    rm "$small/crates/rooms/src/more.rt"
+    small 'without it' 0
+    mv "$file" "$small/crates/rooms/src/other.rt"
+    small 'another name' 4
+    mv "$small/crates/rooms/src/other.rt" "$file"
+    small 'its name again' 0
+    sleep 3
+    small 'and once it was seen' 0
+    rm "$small/crates/rooms/out/rooms.sum"
+    small 'no sum' 4
+}
+
+# held_file NAME FILE: there is such a file, and it isn't empty
+held_file() {
+    if [ -s "$2" ]; then
+        passed=$((passed + 1))
+    else
+        echo "FAILED: $1: there is no $2"
+        failed=$((failed + 1))
+    fi
+}
