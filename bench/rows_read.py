@@ -19,7 +19,7 @@ import sys
 from collections import namedtuple
 
 HERE = os.path.dirname(os.path.abspath(__file__))
-sys.path.insert(0, os.path.join(HERE, '..', 'tests'))
+sys.path.insert(0, os.path.join(HERE, '..', 'tests', 'oracle'))
 
 from calls import done, empty
 
@@ -106,8 +106,8 @@ class Command:
         self.found[table] += len(rows)
         return rows
 
-    def logs_between(self, low, high):
-        return self.ask('LOGS_BETWEEN', low, high)
+    def logs_between(self, low, high, passes=lambda row: True):
+        return self.ask('LOGS_BETWEEN', low, high, passes=passes)
 
     def nothing(self):
         pass
@@ -121,7 +121,7 @@ class Command:
             self.ask(query, server, n)
 
     def commit(self, count):
-        stamps = self.database.execute(self.sql['select_stamp_log'], (0,)).fetchall()
+        stamps = [row[:3] for row in self.database.execute(self.sql['LOGS_BETWEEN'], (0, 0))]
         self.asked['log'] += 1
         first = sorted(stamps, key=lambda row: (row[2], row[0], -row[1]))[:count]
         if len(first) <= 64 or len(first) < len(stamps) // 16:
@@ -137,7 +137,7 @@ class Command:
 
     def batch_for(self, commits):
         """A batch for a position with so many commits."""
-        self.ask('LATE_LOGS', 0, self.commits if commits < self.commits else 0, passes=lambda row: row[11] > commits or row[11] == 0)
+        self.logs_between(0, self.commits if commits < self.commits else 0, lambda row: row[11] > commits or row[11] == 0)
 
     def receive(self, items):
         rows = {Row(*row) for item in items for row in self.ask('select_key_log', item.server, item.n)}
@@ -146,9 +146,9 @@ class Command:
         is_new = any(isinstance(item, Commit) and item.seq > self.commits for item in items)
         first = (0, 0) if is_new else min(((item.time, item.server) for item in items if isinstance(item, Write)), default=(math.inf, 0))
         if numbers or first[0] <= self.clock:
-            rows |= {Row(*row) for row in self.ask(
-                'LATE_LOGS', 0 if numbers else first[0], max(numbers, default=0),
-                passes=lambda row: row[11] in numbers or row[11] == 0 and (row[2], row[0]) >= first and row[3] in rooms)}
+            rows |= {Row(*row) for row in self.logs_between(
+                0, max(numbers, default=0),
+                lambda row: row[11] in numbers or row[11] == 0 and (row[2], row[0]) >= first and row[3] in rooms)}
         for query in ('ALL_BOOKINGS', 'ALL_CANCELLED') if rooms else ():
             self.ask(query, passes=lambda row: row[0] in rooms)
 

@@ -6,7 +6,7 @@ use Rattle.mr_model.specs.Tables.{MetaRow, VectorRow, BookingRow, ErrorRow}
 use Rattle.mr_model.specs.Queries.{booking_id, error_id}
 use Rattle.mr_model.specs.First.{WriteRow, FirstUndoRow, FirstTables}
 use Rattle.mr_tables.specs.Change.{put_all, id_before}
-use Rattle.mr_tables.specs.SoundRows.{Rise}
+use Rattle.mr_tables.specs.Rise.{Rise}
 use Rattle.mr_rows.specs.Database.{first_meta}
 use Rattle.mr_first.specs.Forms.{write_id, undo_id}
 

@@ -2,7 +2,7 @@ ghost use Rattle.std.specs.Prelude.{◌≡◌, ◌↔◌, [], ◌∷◌, IsTrue}
 ghost use Rattle.sqlite.specs.State.{Survives};
 ghost use Rattle.sqlite.specs.Held.{state};
 ghost use Rattle.mr_model.specs.Calendar.{is_date, date_text};
-ghost use Rattle.mr_tables.specs.SoundRows.{Rise};
+ghost use Rattle.mr_tables.specs.Rise.{Rise};
 ghost use Rattle.mr_first.specs.FirstDatabase.{MakesFirst, first_in};
 ghost use Rattle.mr_first.specs.FirstParts.{put_first_meta as with_meta, put_first_bookings, put_first_errors, first_heads_put, logs_put, first_board_put, tables_put, AreFirstKeysRising};
 

@@ -1,6 +1,6 @@
 -- What is made of the rows that questions ask for.
-use Rattle.std.proofs.Common.{◌≡◌, refl, sym, ap, ◌∙◌, subst, ℕ, ◌<◌, ◌+◌, ◌≤◌, length, get_or, Bool, true, false, cond, ◌&&◌, ◌||◌, List, [], ◌∷◌, ◌++◌, filter, take, ◌⊎◌, inl, inr, is_eq, Ordering, Less, Equal, Ok, Err, Result, IfOk, OnOk}
-use Rattle.std.specs.Prelude.{bytes_eq, nat_le}
+use Rattle.std.proofs.Common.{◌≡◌, refl, sym, ap, ◌∙◌, subst, ℕ, ◌<◌, ◌+◌, ◌≤◌, length, get_or, Bool, true, false, cond, ◌&&◌, ◌||◌, List, [], ◌∷◌, ◌++◌, filter, take, arith, ◌⊎◌, inl, inr, is_eq, Ordering, Less, Equal, Ok, Err, Result, IfOk, OnOk}
+use Rattle.std.specs.Prelude.{nat_le}
 use Rattle.std.specs.Ordering.{ordering_reverse}
 use Rattle.std.specs.Cmp.{IsTotalOrder}
 use Rattle.std.specs.List.{dedup, dedup_from}
@@ -12,7 +12,7 @@ use Rattle.std.proofs.lemmas.List.Folds.{list_any_more}
 use Rattle.std.proofs.lemmas.List.Kept.{IsStrictlySortedBy-dedup}
 use Rattle.std.proofs.lemmas.List.Sorted.{IsPermutation-sym}
 use Rattle.sqlite_trees.specs.Tree.{IsAscending}
-use Rattle.mr_model.specs.Texts.{Text}
+use Rattle.mr_model.specs.Texts.{within}
 use Rattle.mr_model.specs.Tables.{LogRow}
 use Rattle.mr_model.specs.Dropped.{Has}
 use Rattle.mr_model.specs.Changes.{SameRows}
@@ -126,29 +126,24 @@ answer_added {R} asked before shown after same is row = (there, back)
     back : Has row (before ++ asked) → Has row after
     back h = subst (Has row) (sym is) (into asked shown (has_moved asked shown row same) (has_split row before asked h))
 
--- those that pass one test, and then those that pass another
--- a test says no more where what passes another passes it too
-no_more : (a b : Bool) → (b ≡ true → a ≡ true) → (a && b) ≡ b
-no_more a true so = ap (λ x. x && true) (so refl)
-no_more true false so = refl
-no_more false false so = refl
-
--- what stands in one room may be picked from the rows of that room
-pub picked_in_room : {R : Type 0} (room_of : R → Text) (room : Text) (p : R → Bool) → ((x : R) → p x ≡ true → bytes_eq (room_of x) room ≡ true) → (table : List R)
-    → filter p (filter (λ x. bytes_eq (room_of x) room) table) ≡ filter p table
-picked_in_room room_of room p all table = filter_both p (λ x. bytes_eq (room_of x) room) table ∙ filter_same (λ x. bytes_eq (room_of x) room && p x) p table (λ x _. no_more (bytes_eq (room_of x) room) (p x) (all x))
-
--- the same of rows with late times
-pub late_in_room : (room : Text) (late : LateRows) (p : LogRow → Bool) → ((x : LogRow) → is_late_row late p x ≡ true → bytes_eq x.room room ≡ true) → (log : List LogRow)
-    → filter p (filter (λ x. bytes_eq x.room room && (nat_le late.from x.time && nat_le x.seq late.to)) log) ≡ filter (is_late_row late p) log
-late_in_room room late p all log =
-    filter_both p (λ x. bytes_eq x.room room && (nat_le late.from x.time && nat_le x.seq late.to)) log
-    ∙ filter_same _ (is_late_row late p) log (λ x _. one_by_one (bytes_eq x.room room) (nat_le late.from x.time && nat_le x.seq late.to) (p x) ∙ no_more (bytes_eq x.room room) (is_late_row late p x) (all x))
+-- rows with numbers up to one, of which those are picked that have a time from another on and pass
+pub late_picked : (late : LateRows) (p : LogRow → Bool) (log : List LogRow)
+    → filter (λ x. nat_le late.from x.time && p x) (filter (λ x. within 0 late.to x.seq) log) ≡ filter (is_late_row late p) log
+late_picked late p log =
+    filter_both (λ x. nat_le late.from x.time && p x) (λ x. within 0 late.to x.seq) log
+    ∙ filter_same (λ x. within 0 late.to x.seq && (nat_le late.from x.time && p x)) (is_late_row late p) log
+    (λ x _. ap (λ b. b && (nat_le late.from x.time && p x)) (from_none x.seq late.to) ∙ turned (nat_le x.seq late.to) (nat_le late.from x.time) (p x))
   where
-    one_by_one : (a b c : Bool) → ((a && b) && c) ≡ (a && (b && c))
-    one_by_one true b c = refl
-    one_by_one false b c = refl
+    from_none : (n to : ℕ) → within 0 to n ≡ nat_le n to
+    from_none n to = grind (arith)
 
+    turned : (a b c : Bool) → (a && (b && c)) ≡ ((b && a) && c)
+    turned true true c = refl
+    turned true false c = refl
+    turned false true c = refl
+    turned false false c = refl
+
+-- those that pass one test, and then those that pass another
 pub more_passed : {R : Type 0} (p q both : R → Bool) (table before after : List R) → ((x : R) → both x ≡ (p x || q x))
     → SameRows before (filter p table) → SameRows after (before ++ filter q table) → SameRows after (filter both table)
 more_passed {R} p q both table before after more so_far added row = (there, back)

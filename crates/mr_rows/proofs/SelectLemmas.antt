@@ -1,6 +1,5 @@
 -- What the rows are that each query shows.
-use Rattle.std.proofs.Common.{◌≡◌, ℕ, pos, ◌&&◌, List, [], ◌∷◌, map, filter, true, refl, ap, subst, ◌∙◌}
-use Rattle.std.specs.Prelude.{nat_le, bytes_eq}
+use Rattle.std.proofs.Common.{◌≡◌, ℕ, pos, ◌==◌, List, [], ◌∷◌, map, filter, true, refl, ap, subst, ◌∙◌, arith}
 use Rattle.std.specs.List.Sorted.{IsPermutation}
 use Rattle.sqlite_value.specs.declared.value.Value.{Value}
 use Rattle.sqlite_value.specs.declared.value.Value.TheVariants.{Null, Int, Text}
@@ -21,7 +20,6 @@ use Rattle.mr_model.specs.Scopes.{is_tentative}
 use Rattle.mr_model.specs.Tables.{ActionCells, OfMeeting, OfCancel, LogRow, BookingRow, ErrorRow, CancelledRow, CancelRow}
 use Rattle.mr_model.specs.Queries.{booking_id, error_id, cancelled_id, cancel_id, log_id}
 use Rattle.mr_rows.specs.RowQuestions.{is_booking_asked, is_error_asked, is_cancelled_asked, is_cancel_asked, row_stamp, stamp_of_row}
-use Rattle.mr_rows.specs.declared.passing.LateRows.{LateRows}
 use Rattle.mr_rows.specs.Meaning.{passes}
 use Rattle.mr_rows.specs.RowCells.{meta_in, room_in, vector_in, log_in, booking_row_from, error_in, cancelled_in, cancel_row_from}
 use Rattle.mr_rows.specs.Schema.{our_schema}
@@ -29,8 +27,8 @@ use Rattle.mr_rows.specs.Shown.{columns_from}
 use Rattle.mr_rows.specs.Form.{Form, meta_form, room_form, vector_form, log_form, booking_form, error_form, cancelled_form, cancel_form}
 use Rattle.mr_rows.specs.Database.{IsOurs, IsRowOf, IsHeld, in_order, tables_in}
 use Rattle.mr_rows.specs.Reads.{metas_in}
-use Rattle.mr_rows.proofs.StatementMeaning.{MeansQuery, MeansQueryIn, program_of, all_meta_text, all_meta_is, meta_columns, meta_names, all_room_text, all_room_is, room_columns, room_names, all_vector_text, all_vector_is, vector_columns, vector_names, all_booking_text, all_booking_is, booking_columns, booking_names, all_error_text, all_error_is, error_columns, error_names, all_log_text, all_log_is, log_columns, log_names, all_cancelled_text, all_cancelled_is, cancelled_columns, cancelled_names, all_cancel_text, all_cancel_is, cancel_columns, cancel_names, key_log_text, key_log_is, log_key_tests, between_log_text, between_log_is, log_seq_tests, late_log_text, late_log_is, log_late_tests, late_log_room_text, late_log_room_is, log_late_room_tests, stamp_log_text, stamp_log_is, log_number_tests, stamp_columns, stamp_names, room_booking_text, room_booking_is, booking_room_tests, key_booking_text, key_booking_is, booking_key_tests, room_error_text, room_error_is, error_room_tests, key_error_text, key_error_is, error_key_tests, room_cancelled_text, room_cancelled_is, cancelled_room_tests, key_cancelled_text, key_cancelled_is, cancelled_key_tests, room_cancel_text, room_cancel_is, cancel_room_tests, key_cancel_text, key_cancel_is, cancel_key_tests, write_log_text, write_log_is, undo_text, undo_is, server_columns, server_names}
-use Rattle.mr_rows.proofs.ValueLemmas.{equal_text, and_true, id_test, between_test, late_test, number_test}
+use Rattle.mr_rows.proofs.StatementMeaning.{MeansQuery, MeansQueryIn, program_of, all_meta_text, all_meta_is, meta_columns, meta_names, all_room_text, all_room_is, room_columns, room_names, all_vector_text, all_vector_is, vector_columns, vector_names, all_booking_text, all_booking_is, booking_columns, booking_names, all_error_text, all_error_is, error_columns, error_names, all_log_text, all_log_is, log_columns, log_names, all_cancelled_text, all_cancelled_is, cancelled_columns, cancelled_names, all_cancel_text, all_cancel_is, cancel_columns, cancel_names, key_log_text, key_log_is, log_key_tests, between_log_text, between_log_is, log_seq_tests, room_booking_text, room_booking_is, booking_room_tests, key_booking_text, key_booking_is, booking_key_tests, room_error_text, room_error_is, error_room_tests, key_error_text, key_error_is, error_key_tests, room_cancelled_text, room_cancelled_is, cancelled_room_tests, key_cancelled_text, key_cancelled_is, cancelled_key_tests, room_cancel_text, room_cancel_is, cancel_room_tests, key_cancel_text, key_cancel_is, cancel_key_tests, write_log_text, write_log_is, undo_text, undo_is, server_columns, server_names}
+use Rattle.mr_rows.proofs.ValueLemmas.{equal_text, and_true, id_test, between_test}
 use Rattle.mr_rows.proofs.RowLemmas.{filter_all_true}
 use Rattle.mr_rows.proofs.FormLemmas.{shows}
 use Rattle.mr_rows.proofs.TableLemmas.{Facts, finds_as, finds_rows}
@@ -98,50 +96,16 @@ shows_between_log low high old new rows ours shown =
     finds_rows log_form log_facts between_log_text log_seq_tests log_columns log_names (Int (pos low) ∷ Int (pos high) ∷ []) old new (λ r. texts.within low high r.seq) rows between_log_is
     (λ r is. ap (passes log_seq_tests (Int (pos low) ∷ Int (pos high) ∷ [])) is ∙ log_within low high (Int (id_in (rowid r))) (log_in r)) (λ r is. refl) ours.schema ours.held.log shown
 
--- the times and numbers of rows of the log
-log_late : (late : LateRows) (v : Value) (w : LogRow) → passes log_late_tests (Int (pos late.from) ∷ Int (pos late.to) ∷ []) (v ∷ log_form.cells w) ≡ (nat_le late.from w.time && nat_le w.seq late.to)
-log_late late v w = go w.action
-  where
-    go : (a : ActionCells) → let x : LogRow = record w { action = a } in passes log_late_tests (Int (pos late.from) ∷ Int (pos late.to) ∷ []) (v ∷ log_form.cells x) ≡ (nat_le late.from w.time && nat_le w.seq late.to)
-    go (OfMeeting m) = late_test late.from late.to w.time w.seq
-    go (OfCancel t) = late_test late.from late.to w.time w.seq
+-- the stamps of those that have no number
+tentative_within : (n : ℕ) → texts.within 0 0 n ≡ (n == 0)
+tentative_within n = grind (arith)
 
-pub shows_late_log : (late : LateRows) (old new : State) (rows : List Row) → IsOurs old.now → Shown late_log_text (Int (pos late.from) ∷ Int (pos late.to) ∷ []) old new rows
-    → IsPermutation (filter (λ (r : LogRow). nat_le late.from r.time && nat_le r.seq late.to) (tables_in old.now.trees).log) (map (λ r. log_in (Null ∷ r)) rows)
-unfolding tables_in
-shows_late_log late old new rows ours shown =
-    finds_rows log_form log_facts late_log_text log_late_tests log_columns log_names (Int (pos late.from) ∷ Int (pos late.to) ∷ []) old new (λ r. nat_le late.from r.time && nat_le r.seq late.to) rows late_log_is
-    (λ r is. ap (passes log_late_tests (Int (pos late.from) ∷ Int (pos late.to) ∷ [])) is ∙ log_late late (Int (id_in (rowid r))) (log_in r)) (λ r is. refl) ours.schema ours.held.log shown
-
--- the same of a room
-log_late_room : (room : texts.Text) (late : LateRows) (v : Value) (w : LogRow)
-    → passes log_late_room_tests (Text room ∷ Int (pos late.from) ∷ Int (pos late.to) ∷ []) (v ∷ log_form.cells w) ≡ (bytes_eq w.room room && (nat_le late.from w.time && nat_le w.seq late.to))
-log_late_room room late v w = go w.action
-  where
-    go : (a : ActionCells) → let x : LogRow = record w { action = a } in passes log_late_room_tests (Text room ∷ Int (pos late.from) ∷ Int (pos late.to) ∷ []) (v ∷ log_form.cells x) ≡ (bytes_eq w.room room && (nat_le late.from w.time && nat_le w.seq late.to))
-    go (OfMeeting m) = λ i. equal_text w.room room i && late_test late.from late.to w.time w.seq i
-    go (OfCancel t) = λ i. equal_text w.room room i && late_test late.from late.to w.time w.seq i
-
-pub shows_late_log_room : (room : texts.Text) (late : LateRows) (old new : State) (rows : List Row) → IsOurs old.now → Shown late_log_room_text (Text room ∷ Int (pos late.from) ∷ Int (pos late.to) ∷ []) old new rows
-    → IsPermutation (filter (λ (r : LogRow). bytes_eq r.room room && (nat_le late.from r.time && nat_le r.seq late.to)) (tables_in old.now.trees).log) (map (λ r. log_in (Null ∷ r)) rows)
-unfolding tables_in
-shows_late_log_room room late old new rows ours shown =
-    finds_rows log_form log_facts late_log_room_text log_late_room_tests log_columns log_names (Text room ∷ Int (pos late.from) ∷ Int (pos late.to) ∷ []) old new (λ r. bytes_eq r.room room && (nat_le late.from r.time && nat_le r.seq late.to)) rows late_log_room_is
-    (λ r is. ap (passes log_late_room_tests (Text room ∷ Int (pos late.from) ∷ Int (pos late.to) ∷ [])) is ∙ log_late_room room late (Int (id_in (rowid r))) (log_in r)) (λ r is. refl) ours.schema ours.held.log shown
-
-log_tentative : (v : Value) (w : LogRow) → passes log_number_tests (Int (pos 0) ∷ []) (v ∷ log_form.cells w) ≡ is_tentative w
-log_tentative v w = go w.action
-  where
-    go : (a : ActionCells) → let x : LogRow = record w { action = a } in passes log_number_tests (Int (pos 0) ∷ []) (v ∷ log_form.cells x) ≡ is_tentative w
-    go (OfMeeting m) = number_test w.seq 0
-    go (OfCancel t) = number_test w.seq 0
-
-pub shows_stamp_log : (old new : State) (rows : List Row) → IsOurs old.now → Shown stamp_log_text (Int (pos 0) ∷ []) old new rows
+pub shows_log_stamps : (old new : State) (rows : List Row) → IsOurs old.now → Shown between_log_text (Int (pos 0) ∷ Int (pos 0) ∷ []) old new rows
     → IsPermutation (map stamp_of_row (filter is_tentative (tables_in old.now.trees).log)) (map (λ r. row_stamp (Null ∷ r)) rows)
 unfolding tables_in
-shows_stamp_log old new rows ours shown =
-    finds_as log_form log_facts (λ r. row_stamp (Null ∷ r)) stamp_of_row stamp_log_text log_number_tests stamp_columns stamp_names (Int (pos 0) ∷ []) old new is_tentative rows stamp_log_is
-    (λ r is. ap (passes log_number_tests (Int (pos 0) ∷ [])) is ∙ log_tentative (Int (id_in (rowid r))) (log_in r)) (λ r is. refl) ours.schema ours.held.log shown
+shows_log_stamps old new rows ours shown =
+    finds_as log_form log_facts (λ r. row_stamp (Null ∷ r)) stamp_of_row between_log_text log_seq_tests log_columns log_names (Int (pos 0) ∷ Int (pos 0) ∷ []) old new is_tentative rows between_log_is
+    (λ r is. ap (passes log_seq_tests (Int (pos 0) ∷ Int (pos 0) ∷ [])) is ∙ log_within 0 0 (Int (id_in (rowid r))) (log_in r) ∙ tentative_within (log_in r).seq) (λ r is. refl) ours.schema ours.held.log shown
 
 pub shows_room_booking : (room : texts.Text) (old new : State) (rows : List Row) → IsOurs old.now → Shown room_booking_text (Text room ∷ []) old new rows
     → IsPermutation (filter (is_booking_asked room) (tables_in old.now.trees).booking) (map (λ r. booking_row_from (Null ∷ r)) rows)

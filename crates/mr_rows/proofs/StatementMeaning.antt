@@ -307,42 +307,6 @@ pub between_log_is : MeansQuery between_log_text (Select (program_of 14 log_seq_
 unfolding understood everything
 between_log_is = ((refl, (refl, refl)), refl)
 
-abbrev pub log_late_tests : List Term
-log_late_tests = at_least (col 1 3) (col 0 0) ∷ at_most (col 1 12) (col 0 1) ∷ []
-
-abbrev pub late_log_text : List ℕ
-late_log_text = codes "SELECT server, n, tm, room, kind, length, choices, title, tserver, tn, place, seq FROM log WHERE tm >= ?1 AND seq <= ?2"
-
-pub late_log_is : MeansQuery late_log_text (Select (program_of 14 log_late_tests log_columns) log_names)
-unfolding understood everything
-late_log_is = ((refl, (refl, refl)), refl)
-
-abbrev pub log_late_room_tests : List Term
-log_late_room_tests = same (col 1 4) (col 0 0) ∷ at_least (col 1 3) (col 0 1) ∷ at_most (col 1 12) (col 0 2) ∷ []
-
-abbrev pub late_log_room_text : List ℕ
-late_log_room_text = codes "SELECT server, n, tm, room, kind, length, choices, title, tserver, tn, place, seq FROM log WHERE room = ?1 AND tm >= ?2 AND seq <= ?3"
-
-pub late_log_room_is : MeansQuery late_log_room_text (Select (program_of 14 log_late_room_tests log_columns) log_names)
-unfolding understood everything
-late_log_room_is = ((refl, (refl, refl)), refl)
-
-abbrev pub log_number_tests : List Term
-log_number_tests = same (col 1 12) (col 0 0) ∷ []
-
-abbrev pub stamp_columns : List Term
-stamp_columns = col 1 1 ∷ col 1 2 ∷ col 1 3 ∷ []
-
-abbrev pub stamp_names : List (List ℕ)
-stamp_names = codes "server" ∷ codes "n" ∷ codes "tm" ∷ []
-
-abbrev pub stamp_log_text : List ℕ
-stamp_log_text = codes "SELECT server, n, tm FROM log WHERE seq = ?1"
-
-pub stamp_log_is : MeansQuery stamp_log_text (Select (program_of 14 log_number_tests stamp_columns) stamp_names)
-unfolding understood everything
-stamp_log_is = ((refl, (refl, refl)), refl)
-
 -- ---- cancelled
 
 abbrev pub put_cancelled_text : List ℕ

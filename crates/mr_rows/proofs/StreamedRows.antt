@@ -47,6 +47,14 @@ read_more f p first old new rows row more far =
     more ∙ (λ i. far i ++ filter p (f row ∷ [])) ∙ append_assoc first (filter p (map f rows)) (filter p (f row ∷ []))
     ∙ ap (λ xs. first ++ xs) (sym (filter-append p (map f rows) (f row ∷ [])) ∙ ap (filter p) (sym (map-append f rows (row ∷ []))))
 
+-- the rows are read, and what is made of each is put behind the first ones
+abbrev pub AreMade : {X : Type 0} → (Row → X) → List X → List X → List Row → Type 0
+AreMade f first now rows = now ≡ first ++ map f rows
+
+pub made_more : {X : Type 0} (f : Row → X) (first old new : List X) (rows : List Row) (row : Row) → new ≡ old ++ f row ∷ [] → AreMade f first old rows → AreMade f first new (rows ++ row ∷ [])
+made_more f first old new rows row more far =
+    more ∙ (λ i. far i ++ f row ∷ []) ∙ append_assoc first (map f rows) (f row ∷ []) ∙ ap (λ xs. first ++ xs) (sym (map-append f rows (row ∷ [])))
+
 module _ {S : Type 0} (g : store.Ghosts S) (sql : List ℕ) (params : Row) (Q : List Row → Type 0) (first : State) where
   -- this is so of the rows that the query has given
   abbrev pub SoFar : Held S → Type 0

@@ -53,14 +53,6 @@ at_most_nat a b = truth_back _ ∙ ap is_le (value_cmp-Int (pos a) (pos b)) ∙ 
 pub between_test : (low high n : ℕ) → (is_true (binary (Compare Ge Binary) (Int (pos n)) (Int (pos low))) && (is_true (binary (Compare Le Binary) (Int (pos n)) (Int (pos high))) && true)) ≡ within low high n
 between_test low high n = rw (at_least_nat n low, at_most_nat n high, and_true (nat_le n high))
 
--- the test for a time that is at least one number, and a number that is at most another
-pub late_test : (from to time seq : ℕ) → (is_true (binary (Compare Ge Binary) (Int (pos time)) (Int (pos from))) && (is_true (binary (Compare Le Binary) (Int (pos seq)) (Int (pos to))) && true)) ≡ (nat_le from time && nat_le seq to)
-late_test from to time seq = rw (at_least_nat time from, at_most_nat seq to, and_true (nat_le seq to))
-
--- the test for a number
-pub number_test : (n m : ℕ) → (equal Binary (Int (pos n)) (Int (pos m)) && true) ≡ (n == m)
-number_test n m = rw (equal_nat n m, and_true (n == m))
-
 never_true : (p x : Bool) → x ≡ false → is_true (if p then Null else from_truth (Some x)) ≡ false
 never_true true x gone = refl
 never_true false x gone = ap (λ b. is_true (from_truth (Some b))) gone

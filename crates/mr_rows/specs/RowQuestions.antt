@@ -1,5 +1,5 @@
 -- Questions for rows of a table.
-use Rattle.std.specs.Prelude.{◌≡◌, Bool, true, ◌&&◌, nat_le, List, [], ◌∷◌, Option, IfSome, bytes_eq}
+use Rattle.std.specs.Prelude.{Bool, ◌&&◌, nat_le, List, [], ◌∷◌, bytes_eq}
 use Rattle.std.specs.List.{list_any}
 use Rattle.sqlite_value.specs.Order.{Row, column}
 use Rattle.mr_model.specs.Texts.{Text, within}
@@ -18,10 +18,6 @@ is_log_between question row = within question.low question.high row.seq
 -- one of these rows that passes a test
 abbrev pub is_late_row : LateRows → (LogRow → Bool) → LogRow → Bool
 is_late_row late test row = (nat_le late.from row.time && nat_le row.seq late.to) && test row
-
--- where a room is named, all that pass stand in it
-abbrev pub AllStandIn : {R : Type 0} → (R → Text) → (R → Bool) → Option Text → Type 0
-AllStandIn {R} room_of passes room = IfSome room (λ name. (row : R) → passes row ≡ true → bytes_eq (room_of row) name ≡ true)
 
 -- ---- stamps of the log
 

@@ -15,7 +15,7 @@ use crate::found::test_rows;
 use crate::numbers::Number;
 use crate::passing::PassingRow;
 use crate::puts::{day_text, parts_of, put_cancel_cells, put_cancelled_cells};
-use crate::queries::{ROOM_CANCELLED, ask};
+use crate::queries::ask;
 use crate::row_tests::RowTest;
 use crate::stored_rows::{FoundRow, RequestRow, StoredRow};
 use crate::table_rows::compare_ids;
@@ -104,26 +104,13 @@ impl FoundRow for CancelledRow {
 }
 
 impl PassingRow for CancelledRow {
-    ghost room_of = { λ row. row.room };
-
     fn add_passing<T: RowTest<CancelledRow>, S: Alter>(
         conn: &mut Connection<S>,
         alloc: Global,
-        room: Option<&RoomName>,
         test: &T,
         out: &mut Vec<CancelledRow>,
     ) -> Result<(), Error> {
-        match room {
-            Some(room) => add_shown(
-                conn,
-                alloc,
-                ROOM_CANCELLED,
-                params![room.as_str()],
-                test,
-                out,
-            ),
-            None => add_shown(conn, alloc, ALL_CANCELLED, &[], test, out),
-        }
+        add_shown(conn, alloc, ALL_CANCELLED, &[], test, out)
     }
 }
 

@@ -8,14 +8,13 @@ ghost use Rattle.sqlite.specs.State.{Shown};
 ghost use Rattle.sqlite.specs.Held.{state};
 ghost use Rattle.mr_model.specs.Texts.{within};
 ghost use Rattle.mr_model.specs.Replica.{is_among};
-ghost use Rattle.mr_model.specs.Scopes.{is_tentative};
 ghost use Rattle.mr_model.specs.Queries.{booking_id, error_id, cancelled_id, cancel_id, log_id};
 ghost use Rattle.mr_rows.specs.Schema.{our_schema};
 ghost use Rattle.mr_rows.specs.RowCells.{meta_in, log_in, booking_row_from, error_in, cancelled_in, cancel_row_from};
 ghost use Rattle.mr_rows.specs.Database.{tables_in};
 ghost use Rattle.mr_rows.specs.Shown.{columns_from};
 ghost use Rattle.mr_rows.specs.Reads.{ReadsKept, Looks, metas_in};
-ghost use Rattle.mr_rows.specs.RowQuestions.{is_booking_asked, is_error_asked, is_cancelled_asked, is_cancel_asked, row_stamp, stamp_of_row};
+ghost use Rattle.mr_rows.specs.RowQuestions.{is_booking_asked, is_error_asked, is_cancelled_asked, is_cancel_asked};
 
 use crate::numbers::Number;
 use mr_base::RoomName;
@@ -25,14 +24,6 @@ use sqlite::{Alter, Connection, Error, Row, params};
 /// The text that asks for the rows of `log` whose `seq` is between two numbers.
 pub(crate) const LOGS_BETWEEN: &str =
     "SELECT server, n, tm, room, kind, length, choices, title, tserver, tn, place, seq FROM log WHERE seq >= ?1 AND seq <= ?2";
-
-/// The text that asks for those with a time from one on and a number up to another.
-pub(crate) const LATE_LOGS: &str =
-    "SELECT server, n, tm, room, kind, length, choices, title, tserver, tn, place, seq FROM log WHERE tm >= ?1 AND seq <= ?2";
-
-/// The same of a room.
-pub(crate) const LATE_LOGS_OF_ROOM: &str =
-    "SELECT server, n, tm, room, kind, length, choices, title, tserver, tn, place, seq FROM log WHERE room = ?1 AND tm >= ?2 AND seq <= ?3";
 
 /// The texts that ask for the rows of a room.
 pub(crate) const ROOM_BOOKINGS: &str =
@@ -106,21 +97,6 @@ pub(crate) fn select_between_log<S: Alter>(
         (map (λ row. log_in (Null ∷ row)) rows.items)) }
 {
     ask(conn, LOGS_BETWEEN, params![low, high])
-}
-
-/// The server, the count and the time of each row of `log` without a number.
-pub(crate) fn select_stamp_log<S: Alter>(conn: &mut Connection<S>) -> Result<Vec<Row>, Error>
-    requires autocommit { conn.old.in_transaction ≡ false }
-    ensures autocommit { conn.new.in_transaction ≡ false }
-    ensures reads { ReadsKept (state S.Store conn.old) (state S.Store conn.new) result
-        (λ rows. IsPermutation (map stamp_of_row (filter is_tentative (tables_in (state S.Store conn.old).now.trees).log))
-        (map (λ row. row_stamp (Null ∷ row)) rows.items)) }
-{
-    ask(
-        conn,
-        "SELECT server, n, tm FROM log WHERE seq = ?1",
-        params![0u32],
-    )
 }
 
 /// The rows of a room in `booking`.

@@ -21,7 +21,7 @@ use crate::passing::PassingRow;
 use crate::puts::{
     LogNumbers, day_text, put_booking_cells, put_error_cells, put_log_cells, put_vector_cells,
 };
-use crate::queries::{ROOM_BOOKINGS, ask};
+use crate::queries::ask;
 use crate::row_tests::RowTest;
 use crate::stored_rows::{FoundRow, RequestRow, StoredRow};
 use mr_base::{RoomName, ServerId, WriteId};
@@ -307,26 +307,13 @@ impl FoundRow for BookingRow {
 }
 
 impl PassingRow for BookingRow {
-    ghost room_of = { λ row. row.room };
-
     fn add_passing<T: RowTest<BookingRow>, S: Alter>(
         conn: &mut Connection<S>,
         alloc: Global,
-        room: Option<&RoomName>,
         test: &T,
         out: &mut Vec<BookingRow>,
     ) -> Result<(), Error> {
-        match room {
-            Some(room) => add_shown(
-                conn,
-                alloc,
-                ROOM_BOOKINGS,
-                params![room.as_str()],
-                test,
-                out,
-            ),
-            None => add_shown(conn, alloc, ALL_BOOKINGS, &[], test, out),
-        }
+        add_shown(conn, alloc, ALL_BOOKINGS, &[], test, out)
     }
 }
 

@@ -4,13 +4,12 @@ use Rattle.std.specs.List.{list_any}
 use Rattle.mr_model.specs.Exchange.{Item}
 use Rattle.mr_model.specs.Tables.{LogRow}
 use Rattle.mr_model.specs.Scopes.{has_number, rooms_of_item}
-use Rattle.mr_kept.specs.Named.{has_commit, IsNamedBy}
-use Rattle.mr_kept.specs.Sets.{has_room, IsSetOf}
-use Rattle.mr_kept.specs.Tails.{has_place, IsTail}
-use Rattle.mr_kept.specs.declared.tail.Tail.{Tail}
+use Rattle.mr_part.specs.Named.{has_commit, IsNamedBy}
+use Rattle.mr_part.specs.Sets.{has_room, IsSetOf}
+use Rattle.mr_part.specs.Tails.{has_place, IsTail}
+use Rattle.mr_part.specs.declared.tail.Tail.{Tail}
 use Rattle.mr_rows.specs.declared.passing.LateRows.{LateRows}
 use Rattle.mr_sql.specs.declared.scope_late.LateTest.{LateTest}
-use Rattle.mr_sql.specs.RoomTests.{HasOnly}
 
 abbrev pub passes_late : LateTest → LogRow → Bool
 passes_late test row = if row.seq == 0 then has_place test.tail row.time row.server && has_room test.rooms.rooms row.room else has_commit test.named.numbers row.seq
@@ -20,7 +19,6 @@ pub record IsLateTest (test : LateTest) (commits : ℕ) (items : List Item) (row
   pub named : IsNamedBy test.named items
   pub tail : IsTail test.tail commits items
   pub rooms : IsSetOf test.rooms.rooms (flat_map (rooms_of_item commits rows) items)
-  pub only : HasOnly test.rooms.only test.rooms.rooms
 
 -- among these rows are all of known commits that the items name, and where they name none all at places of the tail
 pub record ReachesTail (late : LateRows) (tail : Tail) (commits : ℕ) (items : List Item) : Type 0 where

@@ -1,19 +1,16 @@
 ghost use Rattle.std.specs.Prelude.{◌≡◌, ◌≤◌, ℕ, true, map, IfOk};
 ghost use Rattle.std.specs.List.{list_any};
-ghost use Rattle.std.specs.Option.{option_copied};
 ghost use Rattle.sqlite_value.specs.Order.{column};
 ghost use Rattle.mr_rows.specs.RowCells.{nat_of};
-ghost use Rattle.mr_rows.specs.RowQuestions.{is_late_row, AllStandIn};
 ghost use Rattle.mr_model.specs.Scopes.{has_number};
 ghost use Rattle.mr_base.specs.Batches.{item_of};
-ghost use Rattle.mr_kept.specs.Tails.{has_place};
+ghost use Rattle.mr_part.specs.Tails.{has_place};
 ghost use Rattle.mr_sql.specs.LateTests.{passes_late, IsLateTest, ReachesTail};
-ghost use Rattle.mr_sql.specs.RoomTests.{HasOnly};
 
 use crate::scope_rooms::RoomTest;
-use mr_base::{Item, Refusal, RoomName};
-use mr_kept::named::Named;
-use mr_kept::tail::{Tail, tail_of};
+use mr_base::{Item, Refusal};
+use mr_part::named::Named;
+use mr_part::tail::{Tail, tail_of};
 use mr_part::touched_rooms;
 use mr_rows::cells::{read_server, read_u64};
 use mr_rows::{LateRows, RowTest};
@@ -67,18 +64,6 @@ impl LateTest {
             tail: tail_of(items, commits),
             rooms: RoomTest::of(alloc, &touched)?,
         })
-    }
-
-    /// The room in which all of these rows stand that pass, where it is known: none of them is committed, and the batch touches one.
-    pub(crate) fn room(&self, late: LateRows) -> Option<&RoomName>
-        requires only { HasOnly self.now.rooms.only self.now.rooms.rooms }
-        ensures { AllStandIn (λ row. row.room) (is_late_row late (passes_late self.now)) (option_copied result) }
-    {
-        if late.to == 0 {
-            self.rooms.only()
-        } else {
-            None
-        }
     }
 
     pub(crate) fn tail(&self) -> &Tail

@@ -10,7 +10,6 @@ ghost use Rattle.mr_rows.specs.Reads.{ReadsInUse};
 ghost use Rattle.mr_rows.specs.RowQuestions.{is_late_row};
 ghost use Rattle.mr_sql.specs.ScopeQuestions.{AreLogsRead, AreLogsWithin, is_of_numbers};
 ghost use Rattle.mr_sql.specs.LateTests.{passes_late, IsLateTest};
-ghost use Rattle.mr_sql.specs.RoomTests.{HasOnly};
 
 use crate::scope_above::{AboveTest, rows_above};
 use crate::scope_late::{LateTest, late_rows};
@@ -100,7 +99,6 @@ fn with_late<S: Alter>(
     clock: u64,
 ) -> Result<Vec<LogRow>, Error>
     requires autocommit { conn.old.in_transaction ≡ false }
-    requires only { HasOnly test.now.rooms.only test.now.rooms.rooms }
     ensures autocommit { conn.new.in_transaction ≡ false }
     ensures reads { ReadsInUse (state S.Store conn.old) (state S.Store conn.new) result
         (λ rows. (p : RowOfLog → Bool) → named.items ≡ filter p (tables_in (state S.Store conn.old).now.trees).log
@@ -110,7 +108,7 @@ fn with_late<S: Alter>(
     if late.from > clock {
         Ok(named)
     } else {
-        with_late_rows(conn, alloc, late, test.room(late), test, named)
+        with_late_rows(conn, alloc, late, test, named)
     }
 }
 
@@ -152,7 +150,7 @@ fn read_above<S: Alter>(
 {
     let late = rows_above(number, commits);
     let test = AboveTest { commits: number };
-    with_late_rows(conn, alloc, late, None, &test, Vec::new(alloc))
+    with_late_rows(conn, alloc, late, &test, Vec::new(alloc))
 }
 
 /// The rows that are asked for by numbers.

@@ -1,13 +1,12 @@
 ghost use Rattle.std.specs.Prelude.{◌≡◌, ◌∷◌, [], IfOk};
-ghost use Rattle.std.specs.Option.{option_copied};
 ghost use Rattle.sqlite_value.specs.Order.{column, bytes};
-ghost use Rattle.mr_kept.specs.Sets.{AreSameRooms, has_room, IsSetOf};
+ghost use Rattle.mr_part.specs.Sets.{AreSameRooms, has_room, IsSetOf};
 ghost use Rattle.mr_part.specs.ScopeOf.{scope_of};
 ghost use Rattle.mr_sql.specs.ScopeQuestions.{room_questions};
-ghost use Rattle.mr_sql.specs.RoomTests.{IsAlone, HasOnly, books_in, cancels_in};
+ghost use Rattle.mr_sql.specs.RoomTests.{books_in, cancels_in};
 
 use mr_base::{Refusal, RoomName};
-use mr_kept::room_sets::{RoomSet, room_set};
+use mr_part::room_sets::{RoomSet, room_set};
 use mr_part::{Scope, touched_rooms};
 use mr_rows::RowTest;
 use mr_rows::cells::read_name;
@@ -44,39 +43,19 @@ fn one_room(alloc: Global, room: &RoomName) -> Result<Vec<RoomName>, Refusal>
     Ok(rooms)
 }
 
-/// The room that there is, where these are one.
-fn only_room(alloc: Global, rooms: &[RoomName]) -> Result<Option<RoomName>, Refusal>
-    ensures { IfOk result (λ only. IsAlone only rooms.now) }
-{
-    match rooms {
-        [room] => Ok(Some(room.copy(alloc)?)),
-        _ => Ok(None),
-    }
-}
-
 /// Which rows are of some of these rooms.
 #[derive(Drop)]
 pub(crate) struct RoomTest {
     alloc: Global,
     rooms: RoomSet,
-    // the room, where it is one
-    only: Option<RoomName>,
 }
 
 impl RoomTest {
     pub(crate) fn of(alloc: Global, rooms: &[RoomName]) -> Result<RoomTest, Refusal>
-        ensures set { IfOk result (λ test. IsSetOf test.rooms rooms.now) }
-        ensures only { IfOk result (λ test. HasOnly test.only test.rooms) }
+        ensures { IfOk result (λ test. IsSetOf test.rooms rooms.now) }
     {
-        let only = only_room(alloc, rooms)?;
         let rooms = room_set(alloc, rooms)?;
-        Ok(RoomTest { alloc, rooms, only })
-    }
-
-    pub(crate) fn only(&self) -> Option<&RoomName>
-        ensures { option_copied result ≡ self.now.only }
-    {
-        self.only.as_ref()
+        Ok(RoomTest { alloc, rooms })
     }
 
     /// Whether the room in this column is one of them.

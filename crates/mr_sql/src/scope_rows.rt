@@ -1,7 +1,7 @@
 ghost use Rattle.std.specs.Prelude.{◌≡◌, ℕ, List, false, filter, IfOk};
 ghost use Rattle.sqlite.specs.Held.{state};
 ghost use Rattle.mr_model.specs.Tables.{LogRow as Row};
-ghost use Rattle.mr_kept.specs.Sets.{AreSameRooms, IsSetOf};
+ghost use Rattle.mr_part.specs.Sets.{AreSameRooms, IsSetOf};
 ghost use Rattle.mr_part.specs.ScopeOf.{scope_of};
 ghost use Rattle.mr_rows.specs.Database.{tables_in};
 ghost use Rattle.mr_rows.specs.RowQuestions.{is_row_asked, is_booking_asked, is_cancelled_asked, is_booking_named, is_error_of, is_cancelled_of};
@@ -45,7 +45,7 @@ fn passing_bookings<S: Alter>(
         (λ rows. rows.items ≡ filter (is_row_asked is_booking_asked rooms.now) (tables_in (state S.Store conn.old).now.trees).booking) }
 {
     let test = test_of(alloc, rooms)?;
-    passing_rows(conn, alloc, None, &test)
+    passing_rows(conn, alloc, &test)
 }
 
 /// The bookings of these rooms: those of one by a statement.
@@ -130,7 +130,7 @@ fn passing_cancelled<S: Alter>(
         (λ rows. rows.items ≡ filter (is_row_asked is_cancelled_asked rooms.now) (tables_in (state S.Store conn.old).now.trees).cancelled) }
 {
     let test = test_of(alloc, rooms)?;
-    passing_rows(conn, alloc, None, &test)
+    passing_rows(conn, alloc, &test)
 }
 
 /// The cancelled bookings of these rooms: those of one by a statement.

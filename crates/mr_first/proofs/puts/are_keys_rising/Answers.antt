@@ -5,7 +5,7 @@ use Rattle.mr_model.specs.Tables.{VectorRow, BookingRow, ErrorRow}
 use Rattle.mr_model.specs.Queries.{booking_id, error_id}
 use Rattle.mr_model.specs.First.{WriteRow, FirstUndoRow, FirstTables}
 use Rattle.mr_tables.specs.Change.{id_before}
-use Rattle.mr_tables.specs.SoundRows.{Rise}
+use Rattle.mr_tables.specs.Rise.{Rise}
 use Rattle.mr_tables.proofs.Rising.{both}
 use Rattle.mr_first.specs.Forms.{write_id, undo_id}
 use Rattle.mr_first.proofs.puts.are_keys_rising.Goals as goal

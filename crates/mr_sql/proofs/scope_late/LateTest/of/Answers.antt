@@ -8,6 +8,5 @@ returns c =
     record {
       named = c.in_ok-by.ensures.named;
       tail = c.tail_of.ensures;
-      rooms = λ room. c.in_ok-of.ensures.set room ∙ ap (λ names. list_any (bytes_eq room) names) c.deref.ensures.value ∙ c.in_ok-touched.ensures.rooms room;
-      only = c.in_ok-of.ensures.only;
+      rooms = λ room. c.in_ok-of.ensures room ∙ ap (λ names. list_any (bytes_eq room) names) c.deref.ensures.value ∙ c.in_ok-touched.ensures.rooms room;
     }

@@ -1,0 +1,71 @@
+use Rattle.std.proofs.Common.{◌∷◌, Ok, ◌∙◌, refl, sym, append-nil, rules}
+use Rattle.sqlite_value.specs.declared.value.Value.TheVariants.{Null}
+use Rattle.sqlite.specs.Given.{row_if}
+use Rattle.sqlite.specs.Values.{bound}
+use Rattle.sqlite.specs.Held.{state}
+use Rattle.mr_rows.specs.RowQuestions.{row_stamp}
+use Rattle.mr_rows.proofs.StreamedRows.{AreMade, made_more, begun, refused, advanced, none_left, one_done}
+use Rattle.mr_rows.proofs.log_stamps.add_stamps.Goals as goal
+
+pub returns-in_err-rows-clause-looks : goal.returns-in_err-rows-clause-looks
+returns-in_err-rows-clause-looks g c =
+    let read = refused g.S.Store c.args.sql.now (bound c.args.params.now) c.requires.plain c.args.conn.now c.query.follows.lender-at-none c.query.result (rw c.in_err-rows.was tt) c.query.follows.holds-at-none in
+    (read.0, read.1, λ clean here. (search rules, search rules))
+
+pub rows-init : goal.rows-init
+rows-init g c =
+    let made = c.in_ok-rows.ensures in
+    (refl, made.mode c.requires.autocommit, begun g.S.Store c.args.sql.now (bound c.args.params.now) c.requires.plain (AreMade (λ row. row_stamp (Null ∷ row)) c.args.out.now.items c.args.out.now.items) c.args.conn.now c.in_ok-rows.rows.conn.now made.begun made.survives (sym (append-nil c.args.out.now.items)))
+
+pub returns-in_err-advance-clause-looks : goal.returns-in_err-advance-clause-looks
+returns-in_err-advance-clause-looks g c =
+    let moved = c.advance.ensures in
+    let new = c.advance.new.self in
+    let Q = AreMade (λ row. row_stamp (Null ∷ row)) c.args.out.now.items c.rows.out.items in
+    let first = state g.S.Store c.args.conn.now in
+    let row = row_if new.has_row new.conn.now in
+    let read = advanced g.S.Store c.args.sql.now (bound c.args.params.now) c.requires.plain Q first c.rows.rows.conn.now new.conn.now c.advance.result row c.rows.invariant.2 moved.ok moved.same moved.kept moved.survives in
+    let survives = read.0 in
+    let left = read.1 in
+    (search rules, search rules, λ clean here. (search rules, search rules))
+
+pub returns-in_err-push_stamp-in-Some-clause-looks : goal.returns-in_err-push_stamp-in-Some-clause-looks
+returns-in_err-push_stamp-in-Some-clause-looks g c =
+    let moved = c.advance.ensures in
+    let new = c.advance.new.self in
+    let Q = AreMade (λ row. row_stamp (Null ∷ row)) c.args.out.now.items c.rows.out.items in
+    let first = state g.S.Store c.args.conn.now in
+    let row = row_if new.has_row new.conn.now in
+    let read = advanced g.S.Store c.args.sql.now (bound c.args.params.now) c.requires.plain Q first c.rows.rows.conn.now new.conn.now c.advance.result row c.rows.invariant.2 moved.ok moved.same moved.kept moved.survives in
+    let survives = read.0 in
+    let left = read.1 in
+    (search rules, search rules, λ clean here. (search rules, search rules))
+
+pub returns-in-None-clause-looks : goal.returns-in-None-clause-looks
+returns-in-None-clause-looks g c =
+    let moved = c.in_ok-advance.ensures in
+    let new = c.advance.new.self in
+    let Q = AreMade (λ row. row_stamp (Null ∷ row)) c.args.out.now.items c.rows.out.items in
+    let first = state g.S.Store c.args.conn.now in
+    let row = row_if new.has_row new.conn.now in
+    let read = advanced g.S.Store c.args.sql.now (bound c.args.params.now) c.requires.plain Q first c.rows.rows.conn.now new.conn.now (Ok (tt {0})) row c.rows.invariant.2 moved.ok moved.same moved.kept moved.survives in
+    let all = none_left g.S.Store c.args.sql.now (bound c.args.params.now) c.requires.plain Q first new.conn.now row c.in-None.ensures read in
+    let survives = all.0 in
+    let left = all.1 in
+    let told = all.2 in
+    (search rules, search rules, search rules)
+
+pub rows-preserved : goal.rows-preserved
+rows-preserved g c =
+    let moved = c.in_ok-advance.ensures in
+    let new = c.advance.new.self in
+    let Q = AreMade (λ row. row_stamp (Null ∷ row)) c.args.out.now.items c.rows.out.items in
+    let first = state g.S.Store c.args.conn.now in
+    let row = row_if new.has_row new.conn.now in
+    let read = advanced g.S.Store c.args.sql.now (bound c.args.params.now) c.requires.plain Q first c.rows.rows.conn.now new.conn.now (Ok (tt {0})) row c.rows.invariant.2 moved.ok moved.same moved.kept moved.survives in
+    let Next = AreMade (λ row. row_stamp (Null ∷ row)) c.args.out.now.items c.push_stamp.new.out.items in (
+      moved.same_reference ∙ c.rows.invariant.0,
+      moved.mode c.rows.invariant.1,
+      one_done g.S.Store c.args.sql.now (bound c.args.params.now) c.requires.plain Q Next first new.conn.now row c.in-Some.row.now c.in-Some.ensures
+          (λ rows far. made_more (λ row. row_stamp (Null ∷ row)) c.args.out.now.items c.rows.out.items c.push_stamp.new.out.items rows c.in-Some.row.now c.in_ok-push_stamp-in-Some.ensures far) read,
+    )
