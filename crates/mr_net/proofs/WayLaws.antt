@@ -5,7 +5,7 @@ use Rattle.std.specs.List.{sum_by}
 use Rattle.std.proofs.lemmas.List.{length_push}
 use Rattle.std.proofs.lemmas.List.Elements.{All-push}
 use Rattle.std.proofs.lemmas.List.Sums.{sum_by_push}
-use Rattle.mr_tables.specs.SoundRows.{capped}
+use Rattle.mr_tables.specs.Rise.{capped}
 use Rattle.mr_http.specs.declared.faults.WebFault.{WebFault}
 use Rattle.mr_net.specs.declared.ways.Round.{Round}
 use Rattle.mr_net.specs.declared.ways.Taken.{Taken}

@@ -3,7 +3,7 @@ use Rattle.std.specs.Prelude.{◌≡◌, ◌⊎◌, ℕ, ◌+◌, ◌<◌, Bool,
 use Rattle.std.specs.List.{sum_by}
 use Rattle.mr_base.specs.declared.batches.Ending.{Ending}
 use Rattle.mr_base.specs.declared.batches.Ending.TheVariants.{Complete, More, Cut}
-use Rattle.mr_tables.specs.SoundRows.{capped}
+use Rattle.mr_tables.specs.Rise.{capped}
 use Rattle.mr_http.specs.declared.faults.WebFault.{WebFault}
 use Rattle.mr_net.specs.declared.ways.Round.{Round}
 use Rattle.mr_net.specs.declared.ways.Taken.{Taken}

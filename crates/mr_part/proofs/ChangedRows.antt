@@ -9,8 +9,8 @@ use Rattle.mr_model.specs.Replay.{Place, Taken, Logged, Done, Void}
 use Rattle.mr_model.specs.Writes.{Write}
 use Rattle.mr_replay.specs.Places.{UndoRow}
 use Rattle.mr_part.specs.Changed.{tells, same_place, is_elsewhere, picked}
-use Rattle.mr_kept.specs.Logged.{undo_with}
-use Rattle.mr_kept.specs.RoomMoves.{first_undo_row}
+use Rattle.mr_part.specs.Logged.{undo_with}
+use Rattle.mr_part.specs.RoomMoves.{first_undo_row}
 
 pub same_place-true : (p q : Place) → same_place p q ≡ true → p ≡ q
 same_place-true (Taken j) (Taken k) e = ap Taken (eqb-true j k e)

@@ -4,7 +4,7 @@ use Rattle.std.specs.List.Sorted.{IsPermutation, IsSortedByKey}
 use Rattle.mr_model.specs.Writes.{Write, id_of, is_write}
 use Rattle.mr_model.specs.Replay.{Place}
 use Rattle.mr_model.specs.Replica.{Replica, IsReplica}
-use Rattle.mr_model.specs.Tables.{LogRow, seq_of, log_row, log_row_with}
+use Rattle.mr_model.specs.Tables.{LogRow, log_row, log_row_with}
 use Rattle.mr_model.specs.View.{place_of}
 use Rattle.mr_model.specs.Changes.{IdBefore, RiseById}
 use Rattle.mr_model.specs.Dropped.{Has}
@@ -13,22 +13,18 @@ use Rattle.mr_model.proofs.RowsById.{known_write}
 use Rattle.mr_base.specs.Answers.{OrOutOfMemory}
 use Rattle.mr_base.specs.declared.refusals.Refusal.{Refusal}
 use Rattle.mr_replay.specs.Places.{UndoRow}
-use Rattle.mr_kept.specs.declared.kept_rows.KeptRow.{KeptRow}
-use Rattle.mr_kept.specs.KeptRows.{kept_row_with, kept_row, run_place, run_cmp}
-use Rattle.mr_kept.specs.Logged.{undo_with}
+use Rattle.mr_part.specs.declared.kept_rows.KeptRow.{KeptRow}
+use Rattle.mr_part.specs.KeptRows.{kept_row_with, kept_row, run_place, run_cmp}
+use Rattle.mr_part.specs.Logged.{undo_with}
 use Rattle.mr_part.specs.PickedLogs.{log_row_of, IsWriteWithin, AreWritesWithin, ArePicked}
-use Rattle.mr_kept.proofs.KeptOrder.{run_order, rows_rise, KeyBefore, never_before}
-use Rattle.mr_kept.proofs.Sorting.{sorted_is}
+use Rattle.mr_part.proofs.KeptOrder.{run_order, rows_rise, KeyBefore, never_before}
+use Rattle.mr_part.proofs.Sorting.{sorted_is}
 
 -- ---- the writes that rows tell
 
 pub rows_of_logged : (a : Replica) (ws : List Write) → map log_row_of (map (kept_row a) ws) ≡ map (log_row a) ws
 rows_of_logged a [] = refl
 rows_of_logged a (w ∷ ws) = ap (λ rows. log_row a w ∷ rows) (rows_of_logged a ws)
-
-pub logged_numbers : (a : Replica) (ws : List Write) → map (λ x. x.seq) (map (kept_row a) ws) ≡ map (seq_of a) ws
-logged_numbers a [] = refl
-logged_numbers a (w ∷ ws) = ap (λ ns. seq_of a w ∷ ns) (logged_numbers a ws)
 
 pub logged_undo : (a : Replica) (ws : List Write) → map (λ x. x.undo) (map (kept_row a) ws) ≡ map (undo_with (place_of a)) ws
 logged_undo a [] = refl

@@ -2,6 +2,7 @@
 use Rattle.std.proofs.Common.{◌≡◌, ℕ, ◌-◌, ◌==◌, not, Bool, true, false, None, Some, List, length, ◌⊎◌, Result, Ok, Err, IfOk, ap, sym, ◌∙◌, subst, inl, inr, arith}
 use Rattle.std.specs.List.{list_all}
 use Rattle.std.proofs.lemmas.Bool.Decides.{nat_tests}
+use Rattle.std.proofs.lemmas.List.{length-map}
 use Rattle.mr_model.specs.Texts.{only_if}
 use Rattle.mr_model.specs.Exchange.{Second, Item, Header, Batch, is_item}
 use Rattle.mr_model.specs.Refusals as model
@@ -16,18 +17,19 @@ use Rattle.mr_base.specs.declared.refusals.Refusal.{Refusal}
 use Rattle.mr_base.specs.declared.refusals.Refusal.TheVariants.{OutOfMemory}
 use Rattle.mr_tables.specs.declared.summary.Summary.{Summary}
 use Rattle.mr_tables.specs.Change.{ChangeView, changed}
-use Rattle.mr_kept.specs.Desk.{nothing_taken, reply_with}
-use Rattle.mr_kept.specs.Taken.{ReachedView, ShowsPicked, is_inside}
+use Rattle.mr_part.specs.Desk.{nothing_taken, reply_with}
+use Rattle.mr_part.specs.Taken.{ReachedView, ShowsPicked, is_inside}
 use Rattle.mr_part.specs.PartMoves.{AnswersItems}
-use Rattle.mr_part.specs.Parts.{PartView, part_of}
-use Rattle.mr_kept.proofs.Receiving.{items-bring}
+use Rattle.mr_part.specs.KeptRows.{kept_row}
+use Rattle.mr_part.specs.Parts.{PartView, kept_in, part_of}
+use Rattle.mr_part.proofs.Receiving.{items-bring}
 
 -- the answer is what the items give
 pub part_received : (a : Replica) (items : List Item) (part : PartView) (c : ReachedView) (q : Progress) (x : ℕ × ℕ × ChangeView) → IsReplica a → part ≡ part_of (OfItems items) a → list_all (is_item Second) items ≡ true → take_items items 2 (Ok (nothing_taken a)) ≡ Ok q → ShowsPicked a (is_inside a items) c q → x.0 ≡ length c.kept - length part.kept → x.1 ≡ c.summary.commits - part.summary.commits → changed x.2 (tables_of a) ≡ tables_of q.replica → AnswersItems a items (Ok x)
 part_received a items part c q x sound is_part good taken shows writes commits turns =
     let step = ap (after_items a) taken in
     let brings = (items-bring items 2 (nothing_taken a) q sound good taken).commits in
-    let kept = ap (λ (v : PartView). length v.kept) is_part in
+    let kept = ap (λ (v : PartView). length v.kept) is_part ∙ length-map (kept_in (OfItems items) a) (kept_row a) in
     let was = ap (λ (v : PartView). v.summary.commits) is_part in
     let now = ap (λ (s : Summary). s.commits) shows.summary in
     let more = shows.writes in

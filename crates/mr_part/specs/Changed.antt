@@ -3,8 +3,8 @@ use Rattle.std.specs.Prelude.{ℕ, ◌==◌, ◌++◌, Bool, true, false, not, L
 use Rattle.mr_model.specs.Replay.{Place, Taken, Logged, Done, Void}
 use Rattle.mr_model.specs.Writes.{Write, id_of}
 use Rattle.mr_replay.specs.Places.{UndoRow}
-use Rattle.mr_kept.specs.Logged.{undo_with}
-use Rattle.mr_kept.specs.RoomMoves.{first_undo_row}
+use Rattle.mr_part.specs.Logged.{undo_with}
+use Rattle.mr_part.specs.RoomMoves.{first_undo_row}
 
 abbrev pub same_place : Place → Place → Bool
 same_place (Taken j) (Taken k) = j == k

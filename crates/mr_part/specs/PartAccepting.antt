@@ -6,7 +6,7 @@ use Rattle.mr_tables.specs.declared.summary.Summary.{Summary}
 use Rattle.mr_tables.specs.Change.{ChangeView}
 use Rattle.mr_tables.specs.Written.{meta_of, changed_tallies, written}
 use Rattle.mr_part.specs.Parts.{PartView}
-use Rattle.mr_kept.specs.Placing.{with_places_put, taken_rows, TargetEnds}
+use Rattle.mr_part.specs.Placing.{with_places_put, taken_rows, TargetEnds}
 
 -- its rows are put, with these numbers, and the row of the booking that it takes back; behind the last commit all places of the order
 -- have the same rows

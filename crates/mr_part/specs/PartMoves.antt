@@ -19,10 +19,10 @@ use Rattle.mr_replay.specs.Rows.{Rows}
 use Rattle.mr_tables.specs.declared.summary.Summary.{Summary}
 use Rattle.mr_tables.specs.Summary.{summary_of}
 use Rattle.mr_tables.specs.Change.{ChangeView, changed}
-use Rattle.mr_kept.specs.Desk.{nothing_taken, reply_with}
+use Rattle.mr_part.specs.Desk.{nothing_taken, reply_with}
 use Rattle.mr_part.specs.Parts.{part_of}
-use Rattle.mr_kept.specs.Logged.{undo_with}
-use Rattle.mr_kept.specs.RoomMoves.{MovesOfRooms, undone_at, again_at}
+use Rattle.mr_part.specs.Logged.{undo_with}
+use Rattle.mr_part.specs.RoomMoves.{MovesOfRooms, undone_at, again_at}
 
 -- these undo, by rooms, the tentative writes that the items may move, and nothing is executed anew
 abbrev pub AreUndone : MovesOfRooms → Replica → List Item → Type 0

@@ -1,26 +1,26 @@
-ghost use Rattle.std.specs.Prelude.{◌≡◌, ◌==◌, ◌&&◌, ℕ, List, map, filter, IfOk, IfErr};
+ghost use Rattle.std.specs.Prelude.{◌≡◌, ℕ, List, map, filter, IfOk, IfErr};
 ghost use Rattle.mr_model.specs.Texts.{Text};
 ghost use Rattle.mr_model.specs.Exchange.{Item as ItemOfBatch};
-ghost use Rattle.mr_model.specs.Writes.{Write as WriteOfRoom, id_of};
 ghost use Rattle.mr_model.specs.Replica.{Replica, IsReplica, tentative};
 ghost use Rattle.mr_model.specs.Scopes.{OfItems};
 ghost use Rattle.mr_model.specs.Moving.{may_move as may_move_from};
 ghost use Rattle.mr_model.specs.View.{place_of};
 ghost use Rattle.mr_base.specs.Batches.{item_of};
-ghost use Rattle.mr_replay.specs.Places.{UndoRow as UndoRowOfWrite};
-ghost use Rattle.mr_kept.specs.Logged.{undo_with};
-ghost use Rattle.mr_kept.specs.Moves.{AreTouched, moves_in};
-ghost use Rattle.mr_kept.specs.Sets.{IsSetOf};
-ghost use Rattle.mr_kept.specs.Tails.{IsTail};
+ghost use Rattle.mr_part.specs.Logged.{undo_with};
+ghost use Rattle.mr_part.specs.KeptRows.{row_undos};
+ghost use Rattle.mr_part.specs.Moves.{AreTouched, moves_row};
+ghost use Rattle.mr_part.specs.Sets.{IsSetOf};
+ghost use Rattle.mr_part.specs.Tails.{IsTail};
 ghost use Rattle.mr_part.specs.PartMoves.{AreUndone};
 ghost use Rattle.mr_part.specs.Parts.{IsPartOf};
 
 use crate::Part;
-use mr_base::{Item, Refusal, RoomName, Write};
-use mr_kept::movable::{may_move, rooms_touched};
-use mr_kept::room_moves::{MovesOfRooms, undone_in_rooms};
-use mr_kept::room_sets::{RoomSet, room_set};
-use mr_kept::tail::{Tail, tail_of};
+use crate::kept_rows::KeptRow;
+use crate::movable::{moves_row, rooms_touched};
+use crate::room_moves::{MovesOfRooms, undone_in_rooms};
+use crate::room_sets::{RoomSet, room_set};
+use crate::tail::{Tail, tail_of};
+use mr_base::{Item, Refusal, RoomName};
 use mr_replay::UndoRow;
 use std::alloc::Global;
 
@@ -50,40 +50,28 @@ impl Part {
     {
         let rooms = room_set(self.alloc, touched)?;
         let tail = tail_of(items, self.summary.commits);
-        let rows = moving_rows(
-            self.alloc,
-            &self.kept,
-            &self.marks,
-            &self.undo,
-            &rooms,
-            &tail,
-        )?;
-        let undo = self.undo.as_slice();
-        let in_rooms = undone_in_rooms(self.alloc, &self.kept, &self.marks, undo, &rooms, &tail)?;
-        Ok((rows, in_rooms))
+        let undo = moving_rows(self.alloc, &self.kept, &rooms, &tail)?;
+        let in_rooms = undone_in_rooms(self.alloc, &self.kept, &rooms, &tail)?;
+        Ok((undo, in_rooms))
     }
 }
 
-/// What undoes those of these writes that are tentative and may move. The numbers and the undo rows are those of the writes.
+/// What undoes those of these writes that are tentative and may move.
 fn moving_rows(
     alloc: Global,
-    writes: &[Write],
-    marks: &[u64],
-    undo: &[UndoRow],
+    kept: &[KeptRow],
     rooms: &RoomSet,
     tail: &Tail,
 ) -> Result<Vec<UndoRow>, Refusal>
     ensures rows { (touched : List Text) (items : List ItemOfBatch) (commits : ℕ) → IsSetOf rooms.now touched → IsTail tail.now commits items
-        → (mark : WriteOfRoom → ℕ) (row : WriteOfRoom → UndoRowOfWrite) → marks.now ≡ map mark writes.now → undo.now ≡ map row writes.now
-        → IfOk result (λ rows. rows.items ≡ map row (filter (λ w. mark w == 0 && moves_in touched items commits w) writes.now)) }
+        → IfOk result (λ rows. rows.items ≡ row_undos (filter (moves_row touched items commits) kept.now)) }
     ensures only { IfErr result (λ e. e ≡ Refusal.OutOfMemory) }
 {
-    let mut rows = Vec::new(alloc);
-    let count = writes.len().min(marks.len()).min(undo.len());
-    for k in 0..count {
-        if marks[k] == 0 && may_move(&writes[k], rooms, tail) {
-            rows.push(undo[k])?;
+    let mut undo = Vec::new(alloc);
+    for row in kept {
+        if moves_row(row, rooms, tail) {
+            undo.push(row.undo)?;
         }
     }
-    Ok(rows)
+    Ok(undo)
 }

@@ -5,11 +5,11 @@ ghost use Rattle.mr_model.specs.Writes.{Write as WriteOfRoom};
 ghost use Rattle.mr_base.specs.Ids.{id_cmp};
 ghost use Rattle.mr_replay.specs.Places.{place_seen, UndoRow as UndoRowOfWrite};
 ghost use Rattle.mr_part.specs.Changed.{same_place, tells, picked};
-ghost use Rattle.mr_kept.specs.Logged.{undo_with};
-ghost use Rattle.mr_kept.specs.RoomMoves.{AreById};
+ghost use Rattle.mr_part.specs.Logged.{undo_with};
+ghost use Rattle.mr_part.specs.RoomMoves.{AreById};
 
+use crate::rows_by_id::{RowsById, rows_by_id};
 use mr_base::{Refusal, Write};
-use mr_kept::rows_by_id::{RowsById, rows_by_id};
 use mr_replay::{Place, UndoRow};
 use std::alloc::Global;
 

@@ -2,13 +2,14 @@ ghost use Rattle.std.specs.Prelude.{◌≢◌, ◌≡◌, Err};
 ghost use Rattle.mr_model.specs.Replies.{CommittedIs};
 ghost use Rattle.mr_model.specs.Step.{commit};
 ghost use Rattle.mr_model.specs.Scopes.{NextCommits};
-ghost use Rattle.mr_kept.specs.Desk.{NeverStore};
+ghost use Rattle.mr_part.specs.Desk.{NeverStore};
 ghost use Rattle.mr_part.specs.Parts.{TakesPart};
 
 use crate::Part;
+use crate::changes::after_commits;
+use crate::kept_rows::{copied_writes, undo_rows};
+use crate::placing::cancellers;
 use mr_base::Refusal;
-use mr_kept::changes::after_commits;
-use mr_kept::placing::cancellers;
 use mr_tables::Change;
 
 impl Part {
@@ -24,10 +25,10 @@ impl Part {
         if self.summary.server != self.summary.primary {
             return Err(Refusal::NotPrimary);
         }
-        let count = self.kept.len().min(self.undo.len());
-        let (writes, rows) = (&self.kept[..count], &self.undo[..count]);
-        let bys = cancellers(self.alloc, &self.board, writes)?;
-        let (_, change) = after_commits(self.alloc, &self.summary, writes, rows, &bys)?;
-        Ok((count as u64, change))
+        let writes = copied_writes(self.alloc, &self.kept)?;
+        let rows = undo_rows(self.alloc, &self.kept)?;
+        let bys = cancellers(self.alloc, &self.board, &writes)?;
+        let (_, change) = after_commits(self.alloc, &self.summary, &writes, &rows, &bys)?;
+        Ok((self.kept.len() as u64, change))
     }
 }

@@ -5,14 +5,14 @@ ghost use Rattle.mr_model.specs.Tables.{tables_of};
 ghost use Rattle.mr_tables.specs.Change.{changed};
 ghost use Rattle.mr_part.specs.PartMoves.{MovesPart};
 
+use crate::candidate::Reached;
 use crate::part_changed::changed_of;
+use crate::placing::{put_places, rewritten};
+use crate::room_moves::{MovesOfRooms, replayed_in_rooms};
+use crate::room_sets::unknown_rooms;
+use crate::targets::{moved_targets, takers};
 use mr_base::{Refusal, RoomName, Write};
-use mr_kept::candidate::Reached;
-use mr_kept::placing::{put_places, rewritten};
-use mr_kept::room_moves::{MovesOfRooms, replayed_in_rooms};
-use mr_kept::room_sets::unknown_rooms;
-use mr_kept::targets::{moved_targets, takers};
-use mr_replay::{Board, Trial, UndoRow};
+use mr_replay::{Board, UndoRow};
 use mr_tables::Change;
 use mr_tables::summary::Summary;
 use std::alloc::Global;
@@ -36,8 +36,8 @@ pub(crate) fn moved(
     ensures only { IfErr result (λ e. e ≡ Refusal.OutOfMemory) }
 {
     let was = takers(alloc, &board, again)?;
-    let mut trial = Trial::new(board);
-    let rows = replayed_in_rooms(alloc, &mut trial, in_rooms, again)?;
+    let mut board = board;
+    let rows = replayed_in_rooms(alloc, &mut board, in_rooms, again)?;
     let news = reached.summary.commits.saturating_sub(old.commits);
     let changed = changed_of(alloc, undone, news, again, &rows)?;
     let unknown = unknown_rooms(alloc, known, &reached.rooms)?;
@@ -46,11 +46,11 @@ pub(crate) fn moved(
         old,
         &reached.summary,
         unknown,
-        &trial,
+        &board,
         &changed.writes,
         &changed.rows,
     )?;
-    let targets = moved_targets(alloc, &reached.summary, &trial, again, &was)?;
+    let targets = moved_targets(alloc, &reached.summary, &board, again, &was)?;
     put_places(&mut change, targets)?;
     Ok(change)
 }

@@ -1,13 +1,13 @@
 ghost use Rattle.mr_model.specs.Positions.{position_of};
 ghost use Rattle.mr_model.specs.Replies.{PositionIs};
 ghost use Rattle.mr_model.specs.Scopes.{Nothing};
-ghost use Rattle.mr_kept.specs.Desk.{NeverStore};
+ghost use Rattle.mr_part.specs.Desk.{NeverStore};
 ghost use Rattle.mr_part.specs.Parts.{AnswersPart};
 ghost use Rattle.mr_tables.specs.Summary.{IsWithin};
 
 use crate::Part;
+use crate::position::position;
 use mr_base::{Position, Refusal};
-use mr_kept::position::position;
 
 impl Part {
     /// How far the replica's knowledge goes, in the second version, so that it asks for batches that can say every write. Numbers

@@ -11,21 +11,21 @@ ghost use Rattle.mr_model.specs.Taking.{take_items};
 ghost use Rattle.mr_model.specs.View.{place_of};
 ghost use Rattle.mr_base.specs.Batches.{item_of};
 ghost use Rattle.mr_tables.specs.Change.{ChangeView};
-ghost use Rattle.mr_kept.specs.Desk.{NeverStore, nothing_taken};
-ghost use Rattle.mr_kept.specs.DueLines.{IsDueLine, IsRefused};
-ghost use Rattle.mr_kept.specs.Moves.{AreTouched};
+ghost use Rattle.mr_part.specs.Desk.{NeverStore, nothing_taken};
+ghost use Rattle.mr_part.specs.DueLines.{IsDueLine, IsRefused};
+ghost use Rattle.mr_part.specs.Moves.{AreTouched};
 ghost use Rattle.mr_part.specs.PartMoves.{AnswersItems, AreUndone};
 ghost use Rattle.mr_part.specs.Parts.{IsPartOf, TakesPart};
-ghost use Rattle.mr_kept.specs.Logged.{undo_with};
+ghost use Rattle.mr_part.specs.Logged.{undo_with};
 
 use crate::Part;
+use crate::candidate::reached_with;
+use crate::changes::no_change;
+use crate::due_lines::due_line;
+use crate::movable::again_in;
 use crate::part_moved::moved;
+use crate::room_moves::MovesOfRooms;
 use mr_base::{Batch, Item, Refusal, RoomName};
-use mr_kept::candidate::reached_with;
-use mr_kept::changes::no_change;
-use mr_kept::due_lines::due_line;
-use mr_kept::movable::again_in;
-use mr_kept::room_moves::MovesOfRooms;
 use mr_replay::UndoRow;
 use mr_tables::Change;
 
@@ -88,11 +88,9 @@ impl Part {
             summary,
             rooms,
             kept,
-            marks,
-            undo: _,
             board,
         } = self;
-        let reached = reached_with(alloc, summary, &rooms, kept, &marks, items)?;
+        let reached = reached_with(alloc, summary, &rooms, kept, items)?;
         let writes = (reached.kept.len() as u64).saturating_sub(had);
         let commits = reached.summary.commits.saturating_sub(summary.commits);
         let again = again_in(alloc, &reached.kept, touched, items, summary.commits)?;

@@ -3,12 +3,12 @@ ghost use Rattle.std.specs.List.{list_any};
 ghost use Rattle.mr_model.specs.Replies.{RoomAdded};
 ghost use Rattle.mr_model.specs.Scopes.{Nothing};
 ghost use Rattle.mr_model.specs.Step.{add_room};
-ghost use Rattle.mr_kept.specs.Desk.{NeverStore};
+ghost use Rattle.mr_part.specs.Desk.{NeverStore};
 ghost use Rattle.mr_part.specs.Parts.{TakesPart};
 
 use crate::Part;
+use crate::changes::room_change;
 use mr_base::{Refusal, RoomName};
-use mr_kept::changes::room_change;
 use mr_tables::Change;
 use mr_tables::rooms::is_known;
 

@@ -3,14 +3,13 @@ ghost use Rattle.mr_model.specs.Replies.{DroppedIs};
 ghost use Rattle.mr_model.specs.Scopes.{UpTo};
 ghost use Rattle.mr_model.specs.Step.{truncate};
 ghost use Rattle.mr_tables.specs.Change.{ChangeView};
-ghost use Rattle.mr_kept.specs.Desk.{NeverStore};
+ghost use Rattle.mr_part.specs.Desk.{NeverStore};
 ghost use Rattle.mr_part.specs.Parts.{TakesPart};
 
 use crate::Part;
+use crate::changes::{forgotten, no_change};
 use mr_base::Refusal;
-use mr_kept::changes::no_change;
 use mr_tables::Change;
-use mr_tables::written::forgotten;
 
 impl Part {
     /// Keeps the first commits up to this number no longer, and answers how many are dropped then, and what that changes in

@@ -1,16 +1,15 @@
 ghost use Rattle.std.specs.Prelude.{◌≡◌, List, IfOk, IfErr, map, filter};
 ghost use Rattle.mr_model.specs.Writes.{Write as WriteOfRoom};
 ghost use Rattle.mr_model.specs.Replica.{Replica, IsReplica};
-ghost use Rattle.mr_kept.specs.KeptRows.{kept_row};
-ghost use Rattle.mr_kept.specs.declared.kept_rows.KeptRow.{KeptRow as KeptRowOfWrite};
+ghost use Rattle.mr_part.specs.KeptRows.{kept_row};
+ghost use Rattle.mr_part.specs.declared.kept_rows.KeptRow.{KeptRow as KeptRowOfWrite};
 ghost use Rattle.mr_part.specs.ScopeOf.{scope_of};
 ghost use Rattle.mr_part.specs.PickedLogs.{is_log_in, log_row_of, AreWritesWithin, ArePicked};
 
 use crate::Scope;
+use crate::kept_rows::{KeptRow, kept_row, sort_rows};
 use crate::scope_log_test::LogTest;
-use mr_base::{Refusal, RoomName, Write};
-use mr_kept::kept_rows::{KeptRow, kept_row, sort_rows};
-use mr_replay::UndoRow;
+use mr_base::{Refusal, RoomName};
 use mr_tables::LogRow;
 use std::alloc::Global;
 
@@ -53,40 +52,4 @@ pub(crate) fn sorted_writes(
     let mut writes = writes_in(alloc, rows, scope, commits, touched)?;
     sort_rows(&mut writes);
     Ok(writes)
-}
-
-/// The writes alone.
-pub(crate) fn writes_alone(alloc: Global, logged: Vec<KeptRow>) -> Result<Vec<Write>, Refusal>
-    ensures writes { IfOk result (λ writes. writes.items ≡ map (λ x. x.write) logged.items) }
-    ensures only { IfErr result (λ e. e ≡ Refusal.OutOfMemory) }
-{
-    let mut writes = Vec::new(alloc);
-    for one in logged {
-        writes.push(one.write)?;
-    }
-    Ok(writes)
-}
-
-/// The commit numbers alone.
-pub(crate) fn numbers_of(alloc: Global, logged: &[KeptRow]) -> Result<Vec<u64>, Refusal>
-    ensures numbers { IfOk result (λ numbers. numbers.items ≡ map (λ x. x.seq) logged.now) }
-    ensures only { IfErr result (λ e. e ≡ Refusal.OutOfMemory) }
-{
-    let mut numbers = Vec::new(alloc);
-    for one in logged {
-        numbers.push(one.seq)?;
-    }
-    Ok(numbers)
-}
-
-/// What undoes each of them.
-pub(crate) fn undo_of(alloc: Global, logged: &[KeptRow]) -> Result<Vec<UndoRow>, Refusal>
-    ensures undo { IfOk result (λ rows. rows.items ≡ map (λ x. x.undo) logged.now) }
-    ensures only { IfErr result (λ e. e ≡ Refusal.OutOfMemory) }
-{
-    let mut rows = Vec::new(alloc);
-    for one in logged {
-        rows.push(one.undo)?;
-    }
-    Ok(rows)
 }

@@ -2,13 +2,17 @@ ghost use Rattle.std.specs.Prelude.{◌≡◌, ◌&&◌, ◌||◌, map, flat_map
 ghost use Rattle.std.specs.List.{list_any};
 ghost use Rattle.mr_model.specs.Texts.{Text};
 ghost use Rattle.mr_model.specs.Scopes.{rooms_of_item};
+ghost use Rattle.mr_model.specs.Tables.{Tables as RowsOfTables};
 ghost use Rattle.mr_model.specs.Queries.{log_id};
 ghost use Rattle.mr_base.specs.Batches.{item_of};
-ghost use Rattle.mr_kept.specs.Sets.{has_id, has_room, AreSameRooms};
+ghost use Rattle.mr_part.specs.Sets.{has_id, has_room, AreSameRooms};
+ghost use Rattle.mr_part.specs.PickedBookings.{touched_in};
+ghost use Rattle.mr_part.specs.ScopeOf.{scope_of};
 
+use crate::Scope;
+use crate::room_sets::{RoomSet, names_of};
+use crate::touched::{IdSet, Touched, add_if_named};
 use mr_base::{Item, Refusal, RoomName};
-use mr_kept::room_sets::{RoomSet, names_of};
-use mr_kept::touched::{IdSet, Touched, add_if_named};
 use mr_tables::LogRow;
 use std::alloc::Global;
 
@@ -30,6 +34,28 @@ pub fn touched_rooms(
     add_rows(alloc, &mut rooms, &committed, rows)?;
     let names = names_of(alloc, rooms)?;
     Ok(names)
+}
+
+/// The rooms that the scope's batch touches, of tables with these rows of `log` and so many commits.
+pub(crate) fn rooms_in_scope(
+    alloc: Global,
+    scope: &Scope<'_>,
+    rows: &[LogRow],
+    commits: u64,
+) -> Result<Vec<RoomName>, Refusal>
+    ensures rooms { (t : RowsOfTables) → t.log ≡ rows.now → t.meta.commits ≡ commits
+        → IfOk result (λ rooms. AreSameRooms rooms.items (touched_in (scope_of scope.now) t)) }
+    ensures only { IfErr result (λ e. e ≡ Refusal.OutOfMemory) }
+{
+    match *scope {
+        Scope::Items(items) => touched_rooms(alloc, rows, items, commits),
+        Scope::Nothing
+        | Scope::InRoom(_)
+        | Scope::OfTarget(_)
+        | Scope::NextCommits(_)
+        | Scope::UpTo(_)
+        | Scope::Above(_) => Ok(Vec::new(alloc)),
+    }
 }
 
 /// Adds the rooms of the rows of these ids.

@@ -1,7 +1,7 @@
 //! The board: the bookings and the error log of all rooms. It executes writes, bookings and cancels, undoes them and executes
 //! them anew.
 //!
-//! It stands on `mr_base`; `mr_replica` keeps a board beside its log of writes. Contracts see a board as the list of its
+//! It stands on `mr_base`; a part of a replica (`mr_part`) has a board of its own. Contracts see a board as the list of its
 //! rows in the order of their ids (specs/Rows.antt); that it holds, room by room, what the replay of a list of writes gives
 //! is `Holds` (specs/Holds.antt).
 #![tactic(auto)]

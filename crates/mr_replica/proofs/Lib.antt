@@ -1,6 +1,4 @@
-pub mod CancelMarks
-pub mod SoundLog
-pub mod OnBoard
-pub mod SoundStamps
-pub mod LogTails
-pub mod DeskReceives
+pub mod RefusedSteps
+pub mod Steps
+pub mod Taken
+pub mod Limits

@@ -1,58 +1,119 @@
-ghost use Rattle.mr_kept.specs.Desk.{desk_of};
-ghost use Rattle.mr_model.specs.Replica.{opening};
-ghost use Rattle.std.specs.Prelude.{◌≡◌};
+ghost use Rattle.std.specs.Prelude.{◌≡◌, ◌⊎◌, true, Ok, Err, IfOk, IfErr, OnOk, OnErr};
+ghost use Rattle.std.proofs.Props.{props};
+ghost use Rattle.mr_lists.specs.RowsAround.{AreInOrder, in_order-prop};
+ghost use Rattle.mr_model.specs.Replica.{Replica, opening};
+ghost use Rattle.mr_model.specs.Tables.{tables_of};
+ghost use Rattle.mr_part.specs.Desk.{NeverStore};
+ghost use Rattle.mr_part.specs.Parts.{IsPartOf};
+ghost use Rattle.mr_part.specs.ScopeOf.{scope_of};
+ghost use Rattle.mr_replica.specs.Desk.{StandsFor};
+ghost use Rattle.mr_tables.specs.Change.{changed};
+ghost use Rattle.mr_tables.specs.Summary.{IsWithin};
 
-use crate::log::Log;
-use mr_base::{RoomName, ServerId};
-use mr_tables::CancelRow;
-use mr_tables::old_errors::OldError;
-use mr_tables::summary::{Summary, Tally};
+use mr_base::{Refusal, ServerId};
+use mr_lists::lists::{are_in_order, change_tables, opening_tables};
+use mr_part::{Part, Scope};
+use mr_tables::{Change, Tables};
 use std::alloc::Global;
 use std::marker::Model;
 
-/// The working value of one replica: its numbers, its rooms in the order of their names, the log of its kept writes, and what
-/// the error log and the rows of cancels keep of dropped ones.
+/// The working value of one replica: its tables as plain lists. A call makes the part of them that it needs, takes the step of that
+/// part, and makes the change in the lists.
 #[derive(Drop)]
 pub struct Desk {
     pub(crate) alloc: Global,
-    pub(crate) summary: Summary,
-    pub(crate) rooms: Vec<RoomName>,
-    pub(crate) log: Log,
-    pub(crate) old_errors: Vec<OldError>,
-    pub(crate) old_cancels: Vec<CancelRow>,
+    pub(crate) tables: Tables,
+    is_ordered: bool,
+    ghost in_order: { is_ordered ≡ true → AreInOrder tables } by { Prim.hlevel (props, in_order-prop) },
 }
 
 impl Model for Desk {
-    ghost use Rattle.mr_kept.specs.Desk.{DeskView};
+    ghost use Rattle.mr_model.specs.Tables.{Tables as RowsOfTables};
 
-    ghost Value = { DeskView };
+    ghost Value = { RowsOfTables };
 
-    ghost view = { λ d. record {
-      server = d.summary.server;
-      primary = d.summary.primary;
-      commits = d.summary.commits;
-      dropped = d.summary.dropped;
-      clock = d.summary.clock;
-      rooms = d.rooms.items;
-      tallies = d.summary.tallies;
-      log = d.log;
-      old_errors = d.old_errors.items;
-      old_cancels = d.old_cancels.items;
-    } };
+    ghost view = { λ d. d.tables };
 }
 
 impl Desk {
     /// The desk of a replica that knows nothing yet. It takes its memory from this allocator later, as it grows.
     pub fn new(alloc: Global, server: ServerId, primary: ServerId) -> Desk
-        ensures { result ≡ desk_of (opening server primary) }
+        ensures tables { result ≡ tables_of (opening server primary) }
+        ensures stands { StandsFor result (opening server primary) }
     {
+        Desk::over(alloc, opening_tables(alloc, server, primary))
+    }
+
+    /// The desk with these tables, whatever they stand for.
+    pub(crate) fn over(alloc: Global, tables: Tables) -> Desk
+        ensures { result ≡ tables }
+    {
+        let is_ordered = are_in_order(&tables);
         Desk {
             alloc,
-            summary: Summary::new(server, primary),
-            rooms: Vec::new(alloc),
-            log: Log::new(alloc),
-            old_errors: Vec::new(alloc),
-            old_cancels: Vec::new(alloc),
+            tables,
+            is_ordered,
         }
+    }
+
+    /// The part of the tables for a call of this scope.
+    pub(crate) fn part(&self, scope: &Scope<'_>) -> Result<Part, Refusal>
+        ensures part { (a : Replica) → StandsFor self.now a → IfOk result (λ part. IsPartOf part (scope_of scope.now) a) }
+        ensures only { (a : Replica) → StandsFor self.now a → IfErr result (λ e. e ≡ Refusal.OutOfMemory) }
+        ensures within { IfOk result (λ part. IsWithin part.summary) }
+    {
+        Part::from_tables(self.alloc, scope, &self.tables)
+    }
+
+    /// Makes the change.
+    pub(crate) fn make(&mut self, change: &Change) -> Result<(), Refusal>
+        ensures ok { OnOk result (self.new ≡ changed change.now self.old) }
+        ensures err { OnErr result (self.new ≡ self.old) }
+        ensures only { IfErr result (λ e. e ≡ Refusal.OutOfMemory) }
+    {
+        change_tables(self.alloc, &mut self.tables, change, self.is_ordered)?;
+        Ok(())
+    }
+
+    /// Makes the change that a call of the part answered, and hands the answer on.
+    pub(crate) fn changed_by<T: Drop>(
+        &mut self,
+        answer: Result<(T, Change), Refusal>,
+    ) -> Result<(T, Change), Refusal>
+        ensures made { IfOk result (λ done. (answer ≡ Ok done) × (self.new ≡ changed done.1 self.old)) }
+        ensures err { OnErr result (self.new ≡ self.old) }
+        ensures only { IfErr result (λ e. (answer ≡ Err e) ⊎ (e ≡ Refusal.OutOfMemory)) }
+        ensures own { NeverStore answer → NeverStore result }
+    {
+        let (value, change) = answer?;
+        self.make(&change)?;
+        Ok((value, change))
+    }
+
+    /// The same of a call that answers its change alone.
+    pub(crate) fn changed_so(&mut self, answer: Result<Change, Refusal>) -> Result<Change, Refusal>
+        ensures made { IfOk result (λ change. (answer ≡ Ok change) × (self.new ≡ changed change self.old)) }
+        ensures err { OnErr result (self.new ≡ self.old) }
+        ensures only { IfErr result (λ e. (answer ≡ Err e) ⊎ (e ≡ Refusal.OutOfMemory)) }
+        ensures own { NeverStore answer → NeverStore result }
+    {
+        let change = answer?;
+        self.make(&change)?;
+        Ok(change)
+    }
+
+    /// The same of a batch that was received.
+    pub(crate) fn changed_by_batch(
+        &mut self,
+        answer: Result<(u64, u64, Change), Refusal>,
+    ) -> Result<(u64, u64, Change), Refusal>
+        ensures made { IfOk result (λ taken. (answer ≡ Ok taken) × (self.new ≡ changed taken.2 self.old)) }
+        ensures err { OnErr result (self.new ≡ self.old) }
+        ensures only { IfErr result (λ e. (answer ≡ Err e) ⊎ (e ≡ Refusal.OutOfMemory)) }
+        ensures own { NeverStore answer → NeverStore result }
+    {
+        let (writes, commits, change) = answer?;
+        self.make(&change)?;
+        Ok((writes, commits, change))
     }
 }

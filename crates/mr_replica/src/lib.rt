@@ -1,30 +1,16 @@
-//! One replica's working value: the log of its kept writes with the board that they lead to, its version vector, its rooms
-//! and its commits.
+//! One replica's working value: all its tables as plain lists, over which each call makes the part that it needs.
 //!
-//! It stands on `mr_kept`, which has what a desk does over slices of kept writes, and on the crates below that; `mr_part`, which has a
-//! part of the rows, stands beside it, and keepers and services of tables above both. Contracts see a desk as a record
-//! (crates/mr_kept/specs/Desk.antt); each call of it is one step of the definitions, for every replica that the desk stands for
-//! (`DeskTakesStep`).
+//! It stands on `mr_part`, whose calls it makes, on `mr_lists`, which makes changes in lists, and on `mr_audit`, which tests whether tables
+//! agree; the keepers of `mr_store` load desks.
+//! Contracts see a desk as its tables (specs/Desk.antt); each call of it is one step of the definitions, for every replica that the
+//! tables stand for (`DeskTakesStep`).
 #![tactic(auto)]
 
+mod calls;
 mod desk;
-mod desk_batch;
-mod desk_cancel;
-mod desk_change;
-mod desk_commit;
-mod desk_position;
-mod desk_receive;
-mod desk_rooms;
-mod desk_submit;
-mod desk_tables;
-mod desk_truncate;
-mod log;
-mod log_rows;
-mod log_tail;
-mod sound_stamps;
+mod from_tables;
 
-ghost use Rattle.mr_kept.specs.ChangeLaws.{DesksHaveTheTables, RoomsArePut, SubmissionsArePut, TailsArePut, CommitsArePut, TruncationsForget};
-ghost use Rattle.mr_kept.specs.Steps.{SubmissionsAreRequests, CancelsAreRequests, OtherCancelsAreRefused};
+ghost use Rattle.mr_part.specs.Steps.{SubmissionsAreRequests, CancelsAreRequests, OtherCancelsAreRefused};
 
 pub use desk::Desk;
 
@@ -34,15 +20,4 @@ pub fn submission_law()
     ensures submission { SubmissionsAreRequests }
     ensures cancellation { CancelsAreRequests }
     ensures others { OtherCancelsAreRefused }
-{}
-
-/// The tables of a desk are those of each replica that it stands for, and what each call puts and takes away makes the tables
-/// of the desk before it those of the desk after it. It does nothing.
-pub fn change_law()
-    ensures tables { DesksHaveTheTables }
-    ensures rooms { RoomsArePut }
-    ensures submissions { SubmissionsArePut }
-    ensures tails { TailsArePut }
-    ensures commits { CommitsArePut }
-    ensures truncations { TruncationsForget }
 {}

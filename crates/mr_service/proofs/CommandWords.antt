@@ -16,8 +16,8 @@ use Rattle.mr_base.specs.RefusalViews.{refusal_of}
 use Rattle.mr_base.specs.declared.refusals.Refusal.{Refusal}
 use Rattle.mr_base.specs.declared.refusals.Refusal.TheVariants as refusal
 use Rattle.mr_base.specs.Readings.{read_id}
-use Rattle.mr_kept.specs.Steps.{word_faults, request_in, submit_request, cancel_request}
-use Rattle.mr_kept.proofs.Submitting.{submission_is_request, cancel_is_request}
+use Rattle.mr_part.specs.Steps.{word_faults, request_in, submit_request, cancel_request}
+use Rattle.mr_part.proofs.Submitting.{submission_is_request, cancel_is_request}
 use Rattle.mr_service.specs.SubmittedWords.{ok_unless, request_or_fault}
 use Rattle.mr_service.proofs.DeskSteps.{Does}
 use Rattle.mr_service.proofs.SubmissionSteps.{request_known, submit_refused}

@@ -12,7 +12,7 @@ use Rattle.mr_base.specs.RefusalViews.{refusal_of}
 use Rattle.mr_base.specs.declared.refusals.Refusal.{Refusal}
 use Rattle.mr_base.specs.declared.refusals.Refusal.TheVariants as refusal
 use Rattle.mr_tables.specs.Change.{ChangeView, changed}
-use Rattle.mr_kept.specs.Desk.{reply_with}
+use Rattle.mr_part.specs.Desk.{reply_with}
 use Rattle.mr_part.specs.Parts.{PartView, IsPartOf, TakesPart, AnswersPart}
 use Rattle.mr_store.specs.KeeperCalls.{fault_refusal, IsAtomic}
 use Rattle.mr_store.specs.declared.keeper.Fault.{Fault}
@@ -23,7 +23,7 @@ use Rattle.mr_service.specs.Turns.{Does, Answers, Refuses, TurnsBy, Tells, IsPar
 use Rattle.mr_service.specs.declared.replies.Reply as code
 use Rattle.mr_service.proofs.KeeperReads.{stays, read_then, answered_by, refused_by}
 use Rattle.mr_service.proofs.DeskSteps.{of_fault, fault_counts, fault_rise, fault_step}
-use Rattle.mr_service.proofs.RefusedSteps.{refused_leaves}
+use Rattle.mr_replica.proofs.RefusedSteps.{refused_leaves}
 
 -- ---- calls of a part
 

@@ -6,7 +6,6 @@ pub mod OneRow
 pub mod RoomLog
 pub mod RoomRows
 pub mod RoomSteps
-pub mod RefusedSteps
 pub mod ReplyHalves
 pub mod RowOrder
 pub mod RunsGrow

@@ -6,7 +6,7 @@ use Rattle.mr_model.specs.Requests.{Request}
 use Rattle.mr_model.specs.Refusals as model
 use Rattle.mr_model.specs.Replica.{Replica, count_of, clock_of, knows_room}
 use Rattle.mr_model.specs.Step.{Submission, choice_words, is_bad_length, write_of, after_write, step_unless, refuse, submit}
-use Rattle.mr_kept.specs.Steps.{word_faults, request_in}
+use Rattle.mr_part.specs.Steps.{word_faults, request_in}
 use Rattle.mr_service.specs.SubmittedWords.{lacks_day, lacks_time, ok_unless, request_or_fault}
 use Rattle.std.specs.Prelude.{◌==◌}
 

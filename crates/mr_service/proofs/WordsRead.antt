@@ -20,7 +20,7 @@ use Rattle.mr_base.specs.RefusalViews.{answer_of}
 use Rattle.mr_base.specs.Limits as base
 use Rattle.mr_base.specs.declared.refusals.Refusal.{Refusal}
 use Rattle.mr_base.specs.declared.refusals.Refusal.TheVariants.{BadDay, BadTime, BadLength, BadRoomName, BadTitle, TooManyAlternatives}
-use Rattle.mr_kept.specs.Steps.{word_faults, request_in}
+use Rattle.mr_part.specs.Steps.{word_faults, request_in}
 use Rattle.mr_service.specs.SubmittedWords.{lacks_day, lacks_time, latest_from, latest_start, ok_unless, request_or_fault}
 
 -- ---- one word

@@ -5,7 +5,7 @@ use Rattle.mr_model.specs.Refusals.{Refusal, Store, first_refusal}
 use Rattle.mr_model.specs.Replies.{Reply, Refused}
 use Rattle.mr_model.specs.Step.{Command, Submit}
 use Rattle.mr_model.specs.Tables.{Tables, Stands}
-use Rattle.mr_kept.specs.Steps.{word_faults}
+use Rattle.mr_part.specs.Steps.{word_faults}
 
 -- the count of failures never falls, and rises where the reply tells of one
 abbrev pub Counts : Reply → ℕ → ℕ → Type 0

@@ -15,7 +15,7 @@ use Rattle.mr_model.specs.Step.{IsOfMachine}
 use Rattle.mr_model.specs.Tables.{BookingRow, ErrorRow, CancelledRow, CancelRow, PlaceRow, Tables, as_booked, Stands}
 use Rattle.mr_base.specs.declared.refusals.Refusal.{Refusal}
 use Rattle.mr_base.specs.RefusalViews.{refusal_of}
-use Rattle.mr_kept.specs.Sets.{has_id}
+use Rattle.mr_part.specs.Sets.{has_id}
 use Rattle.mr_tables.specs.declared.place_rows.PlaceRow as code
 use Rattle.mr_tables.specs.declared.place_rows.PlaceRow.TheVariants as place
 use Rattle.mr_service.specs.Asked.{log_line_seen, outcome_seen}

@@ -4,7 +4,7 @@ use Rattle.mr_model.specs.Calendar.{read_date, read_time}
 use Rattle.mr_model.specs.Requests.{Request}
 use Rattle.mr_model.specs.Refusals.{Refusal, first_refusal}
 use Rattle.mr_model.specs.Step.{SlotWords, Submission}
-use Rattle.mr_kept.specs.Steps.{word_faults, request_in}
+use Rattle.mr_part.specs.Steps.{word_faults, request_in}
 
 -- the value, unless something is refused
 abbrev pub ok_unless : {T : Type 0} → Option Refusal → T → Result T Refusal

@@ -5,12 +5,12 @@ ghost use Rattle.std.specs.Prelude.{◌≡◌, ◌||◌, ◌++◌, [], ◌∷◌
 ghost use Rattle.std.specs.List.Sorted.{IsPermutation, IsSortedBy};
 ghost use Rattle.mr_model.specs.Tables.{as_booked};
 ghost use Rattle.mr_model.specs.Writes.{Id};
-ghost use Rattle.mr_kept.specs.Sets.{has_id};
+ghost use Rattle.mr_part.specs.Sets.{has_id};
 ghost use Rattle.mr_service.specs.Questions.{committed_rows, is_tentative_cancel, has_tentative, is_back};
 ghost use Rattle.mr_store.specs.Picked.{booking_before};
 
 use mr_base::Refusal;
-use mr_kept::touched::IdSet;
+use mr_part::touched::IdSet;
 use mr_store::sort_bookings;
 use mr_tables::{BookingRow, CancelRow, CancelledRow};
 use std::alloc::Global;

@@ -6,7 +6,7 @@ ghost use Rattle.mr_model.specs.Step.{slot_of, choice_words, is_bad_length};
 ghost use Rattle.mr_model.specs.Writes.{greatest_alternatives};
 ghost use Rattle.mr_base.specs.Answers.{Gives, unless_faulty};
 ghost use Rattle.mr_base.specs.RefusalViews.{refusal_of, answer_of};
-ghost use Rattle.mr_kept.specs.Steps.{word_faults};
+ghost use Rattle.mr_part.specs.Steps.{word_faults};
 ghost use Rattle.mr_service.specs.Asked.{words_of, submission_of};
 ghost use Rattle.mr_service.specs.SubmittedWords.{request_or_fault, latest_from, latest_start, lacks_day, lacks_time};
 

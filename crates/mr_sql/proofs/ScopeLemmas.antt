@@ -16,7 +16,7 @@ use Rattle.mr_model.proofs.Members.{all_has, filter_has, map_has}
 use Rattle.mr_model.proofs.RowsById.{by_id_has}
 use Rattle.mr_model.proofs.StepsKeep.{times_below}
 use Rattle.mr_rows.specs.RowQuestions.{is_row_asked, is_booking_asked, is_cancelled_asked, is_booking_named, is_error_of, is_cancelled_of}
-use Rattle.mr_kept.specs.Sets.{AreSameRooms, IsSetOf}
+use Rattle.mr_part.specs.Sets.{AreSameRooms, IsSetOf}
 use Rattle.mr_sql.specs.declared.scope_rooms.RoomTest.{RoomTest}
 use Rattle.mr_sql.specs.RoomTests.{books_in, cancels_in}
 use Rattle.mr_sql.specs.ScopeQuestions.{logs_alone, room_questions, target_questions, taken_questions, asks_booking, asks_cancelled, AreRead, AreLogsWithin, AreEnough}

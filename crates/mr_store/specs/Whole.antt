@@ -4,7 +4,7 @@ use Rattle.mr_model.specs.Replica.{text_before}
 use Rattle.mr_model.specs.Tables.{Tables}
 use Rattle.mr_model.specs.Queries.{booking_id, error_id, cancelled_id, cancel_id, log_id}
 use Rattle.mr_tables.specs.Change.{ChangeView, put_all, rows_without, id_before}
-use Rattle.mr_store.specs.RowsAround.{AreInOrder}
+use Rattle.mr_lists.specs.RowsAround.{AreInOrder}
 use Rattle.mr_store.specs.Spliced.{spliced}
 use Rattle.mr_store.specs.declared.fresh.FreshRows.{FreshRows}
 

@@ -8,9 +8,9 @@ ghost use Rattle.mr_store.specs.Taken.{is_taken};
 ghost use Rattle.mr_store.specs.Whole.{whole, AreSpliced};
 
 use crate::fresh::FreshRows;
-use crate::rows::IdRow;
 use crate::splice::Fresh;
 use mr_base::WriteId;
+use mr_lists::rows::IdRow;
 use mr_tables::Tables;
 
 /// Whether a row has the id that a command would give, if it gives one.

@@ -4,17 +4,17 @@ ghost use Rattle.mr_model.specs.Tables.{tables_of, Stands};
 ghost use Rattle.mr_tables.specs.Change.{changed};
 ghost use Rattle.mr_store.specs.KeeperCalls.{failures_for};
 ghost use Rattle.std.proofs.Props.{props};
-ghost use Rattle.mr_store.specs.RowsAround.{AreInOrder, in_order-prop};
+ghost use Rattle.mr_lists.specs.RowsAround.{AreInOrder, in_order-prop};
 
 use crate::ids::is_taken;
-use crate::puts::{change_rows, prepare, put_rows};
 use crate::queries::{bookings_of, place_of, rows_in};
-use crate::rows::{copies_of, is_in_order};
 use crate::{Fault, Keeper};
 use mr_base::{Day, Refusal, RoomName, ServerId, WriteId};
+use mr_lists::lists::{are_in_order, change_tables, copied, opening_tables};
+use mr_lists::rows::copies_of;
 use mr_part::{Part, Scope};
 use mr_replica::Desk;
-use mr_tables::{BookingRow, CancelRow, CancelledRow, Change, ErrorRow, MetaRow, PlaceRow, Tables};
+use mr_tables::{BookingRow, CancelRow, CancelledRow, Change, ErrorRow, PlaceRow, Tables};
 use std::alloc::{AllocError, Global};
 use std::marker::Model;
 
@@ -58,88 +58,6 @@ impl ListKeeper {
             is_ordered,
         }
     }
-}
-
-/// Whether the rows of each table are in the order of their keys.
-pub(crate) fn are_in_order(tables: &Tables) -> bool
-    ensures { result ≡ true → AreInOrder tables.now }
-{
-    let room = is_in_order(&tables.room);
-    let vector = is_in_order(&tables.vector);
-    let log = is_in_order(&tables.log);
-    let booking = is_in_order(&tables.booking);
-    let errorlog = is_in_order(&tables.errorlog);
-    let cancelled = is_in_order(&tables.cancelled);
-    let cancels = is_in_order(&tables.cancels);
-    room & vector & log & booking & errorlog & cancelled & cancels
-}
-
-/// Makes the change in place. All that can fail comes first: equal rows and the room for them.
-fn change_tables(
-    alloc: Global,
-    tables: &mut Tables,
-    change: &Change,
-    is_ordered: bool,
-) -> Result<(), AllocError>
-    requires { is_ordered ≡ true → AreInOrder tables.old }
-    ensures changed { OnOk result (tables.new ≡ changed change.now tables.old) }
-    ensures refused { OnErr result (tables.new ≡ tables.old) }
-{
-    let room = prepare(alloc, &mut tables.room, &change.room, is_ordered)?;
-    let vector = prepare(alloc, &mut tables.vector, &change.vector, is_ordered)?;
-    let log = prepare(alloc, &mut tables.log, &change.log, is_ordered)?;
-    let booking = prepare(alloc, &mut tables.booking, &change.booking, is_ordered)?;
-    let errorlog = prepare(alloc, &mut tables.errorlog, &change.errorlog, is_ordered)?;
-    let cancelled = prepare(alloc, &mut tables.cancelled, &change.cancelled, is_ordered)?;
-    let cancels = prepare(alloc, &mut tables.cancels, &change.cancels, is_ordered)?;
-    tables.meta = change.meta;
-    put_rows(&mut tables.room, room, is_ordered);
-    put_rows(&mut tables.vector, vector, is_ordered);
-    put_rows(&mut tables.cancels, cancels, is_ordered);
-    change_rows(&mut tables.log, &change.dropped, log, is_ordered);
-    change_rows(&mut tables.booking, &change.unbooked, booking, is_ordered);
-    change_rows(&mut tables.errorlog, &change.unlogged, errorlog, is_ordered);
-    change_rows(
-        &mut tables.cancelled,
-        &change.uncancelled,
-        cancelled,
-        is_ordered,
-    );
-    Ok(())
-}
-
-fn opening_tables(alloc: Global, server: ServerId, primary: ServerId) -> Tables
-    ensures tables { result ≡ tables_of (opening server primary) }
-    ensures stands { Stands result (opening server primary) }
-{
-    server.number();
-    primary.number();
-    Tables {
-        meta: MetaRow::opening(server, primary),
-        room: Vec::new(alloc),
-        vector: Vec::new(alloc),
-        log: Vec::new(alloc),
-        booking: Vec::new(alloc),
-        errorlog: Vec::new(alloc),
-        cancelled: Vec::new(alloc),
-        cancels: Vec::new(alloc),
-    }
-}
-
-/// Equal tables.
-pub(crate) fn copied(alloc: Global, tables: &Tables) -> Result<Tables, AllocError>
-    ensures { IfOk result (λ copy. copy ≡ tables.now) }
-{
-    Ok(Tables {
-        meta: tables.meta,
-        room: copies_of(alloc, &tables.room)?,
-        vector: copies_of(alloc, &tables.vector)?,
-        log: copies_of(alloc, &tables.log)?,
-        booking: copies_of(alloc, &tables.booking)?,
-        errorlog: copies_of(alloc, &tables.errorlog)?,
-        cancelled: copies_of(alloc, &tables.cancelled)?,
-        cancels: copies_of(alloc, &tables.cancels)?,
-    })
 }
 
 /// The fault for a refusal of the tables: want of memory, or that the store failed, which is counted. Where the count is full

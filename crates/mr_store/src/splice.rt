@@ -3,12 +3,12 @@ ghost use Rattle.std.specs.Vec.{vec_len};
 ghost use Rattle.mr_model.specs.Dropped.{Has};
 ghost use Rattle.mr_tables.specs.Change.{put_all, rows_without};
 ghost use Rattle.mr_tables.proofs.Putting.{InOrder};
-ghost use Rattle.mr_store.specs.RowsAround.{Precede};
+ghost use Rattle.mr_lists.specs.RowsAround.{Precede};
 ghost use Rattle.mr_store.specs.Spliced.{spliced, Follow};
 
-use crate::puts::{change_rows, prepare, put_rows};
-use crate::rows::{IdRow, TableRow};
 use mr_base::WriteId;
+use mr_lists::puts::{change_rows, prepare, put_rows};
+use mr_lists::rows::{IdRow, TableRow};
 use std::alloc::{AllocError, Global};
 
 /// So many rows are put at a place before the list takes them.

@@ -3,7 +3,8 @@
 use crate::builders::{Ask, Line};
 use crate::desks::{Call, NO_ERROR, NONE, NOTHING, Row, answer, check_cases, last_change, opening};
 use crate::same::same;
-use crate::tables::Rows;
+use crate::tables::{Rows, tables};
+use mr_audit::do_tables_agree;
 use mr_base::Refusal;
 use mr_replay::Place;
 use mr_replica::Desk;
@@ -231,13 +232,7 @@ static CASES: [(&str, &[Row]); 14] = [
                 Ok((2, 0)),
                 ((1, 1, 840), (2, 1, 900), NO_ERROR),
             ),
-            // Writes that stand at or behind a line are executed again, and get the rows that they had.
-            (
-                3,
-                Call::Receive(1, BOTH),
-                Ok((0, 0)),
-                ((1, 1, 840), (2, 1, 900), NO_ERROR),
-            ),
+            (3, Call::Receive(1, BOTH), Ok((0, 0)), NOTHING),
             (3, Call::Position, Ok((0, 2)), NOTHING),
         ],
     ),
@@ -254,7 +249,7 @@ static CASES: [(&str, &[Row]); 14] = [
                 3,
                 Call::Receive(1, BOTH),
                 Ok((1, 0)),
-                ((1, 1, 840), (2, 1, 900), NO_ERROR),
+                ((2, 1, 900), NONE, NO_ERROR),
             ),
         ],
     ),
@@ -591,6 +586,26 @@ fn check_broken(rt: &impl Abort, alloc: Global, desks: &mut Vec<Desk>) {
 fn broken_rows_are_not_believed(rt: HostRuntime) {
     let mut desks = opening(rt.alloc()).expect(&rt, "desks");
     check_broken(&rt, rt.alloc(), &mut desks);
+}
+
+/// Tables of replicas.
+static AGREEING: [Rows; 5] = [OPENING, KEPT, DROPPED, THREE_DROPPED, TAKEN_BACK];
+
+fn do_agree(alloc: Global, rows: &Rows) -> Result<bool, Refusal> {
+    let tables = tables(alloc, rows)?;
+    do_tables_agree(alloc, &tables)
+}
+
+fn check_agreeing(rt: &impl Abort, alloc: Global, all: &'static [Rows], wanted: bool) {
+    for (index, rows) in all.iter().enumerate() {
+        same(rt, &do_agree(alloc, rows), &Ok(wanted), index);
+    }
+}
+
+#[test]
+fn rows_that_agree_are_told_from_others(rt: HostRuntime) {
+    check_agreeing(&rt, rt.alloc(), &AGREEING, true);
+    check_agreeing(&rt, rt.alloc(), &BROKEN, false);
 }
 
 static CALLS: [Call; 3] = [

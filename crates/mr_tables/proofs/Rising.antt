@@ -2,7 +2,7 @@
 use Rattle.std.proofs.Common.{◌≡◌, refl, sym, ◌∙◌, ◌↔◌, ◌&&◌, Bool, true, false, List, [], ◌∷◌, arith, IsTrue}
 use Rattle.std.proofs.lemmas.Bool.{true≢false, and_parts, and_from}
 use Rattle.std.specs.List.{IsAllAdjacentAnswer}
-use Rattle.mr_tables.specs.SoundRows.{Rise}
+use Rattle.mr_tables.specs.Rise.{Rise}
 
 pub rise_from : {R K : Type 0} (before : K → K → Bool) (key : R → K) (rows : List R) (r : Bool) → IsAllAdjacentAnswer (λ x y b. b ≡ before (key x) (key y)) rows r → IsTrue r ↔ Rise before key rows
 rise_from before key rows true m = (λ _ k d l. sym (m k d l), λ _. refl)

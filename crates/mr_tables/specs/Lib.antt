@@ -9,5 +9,5 @@ pub mod Written
 pub mod Choices
 pub mod Boards
 pub mod OldErrors
-pub mod SoundRows
+pub mod Rise
 pub mod TableLaws

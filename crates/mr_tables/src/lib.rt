@@ -1,9 +1,9 @@
 //! Rows of the tables that stand for a replica, what a command changes in them, and the values that rows tell: writes, choices,
-//! tallies, boards, and what the error log keeps.
+//! tallies and boards.
 //!
-//! It stands on `mr_replay`, the board; `mr_replica`, the working value of a replica, and the keepers of tables stand above it.
+//! It stands on `mr_replay`, the board; `mr_audit`, `mr_part` and the keepers of tables stand above it.
 //! Contracts see rows and tables as the definitions do, and a change of them as a record (specs/Change.antt). The modules that are
-//! public are there for `mr_kept`, `mr_replica` and `mr_part`, which make rows of their own values, and read these off rows.
+//! public are there for `mr_part`, which makes rows of its own values, and reads these off rows.
 #![tactic(auto)]
 
 ghost use Rattle.mr_tables.specs.TableLaws.{RowsAreWithin, RowsTellTheBoard};
@@ -13,12 +13,10 @@ mod cancel_rows;
 mod change;
 pub mod choices;
 mod log_rows;
-pub mod old_errors;
 pub mod place_rows;
 pub mod reading;
 pub mod rooms;
 mod rows;
-pub mod sound_rows;
 pub mod summary;
 mod tables;
 pub mod vector;

@@ -1,4 +1,4 @@
-use Rattle.mr_kept.proofs.Submitting.{submission_is_request, cancel_is_request, other_cancels_refused}
+use Rattle.mr_part.proofs.Submitting.{submission_is_request, cancel_is_request, other_cancels_refused}
 use Rattle.mr_replica.proofs.submission_law.Goals as goal
 
 pub returns-clause-submission : goal.returns-clause-submission

@@ -1,7 +1,7 @@
 use Rattle.std.proofs.Common.{◌≡◌, ◌<◌, ◌∙◌, length, ap, refl, sym, arith}
 use Rattle.std.proofs.lemmas.List.{get_or_default}
 use Rattle.mr_replay.specs.Places.{UndoRow}
-use Rattle.mr_kept.specs.RoomMoves.{first_undo_row}
+use Rattle.mr_part.specs.RoomMoves.{first_undo_row}
 use Rattle.mr_part.specs.Changed.{tells}
 use Rattle.mr_part.proofs.ChangedRows.{changed_more, as_many-more}
 use Rattle.mr_part.proofs.part_changed.changed_by.Goals as goal

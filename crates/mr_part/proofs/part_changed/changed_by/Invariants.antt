@@ -3,8 +3,8 @@ use Rattle.mr_model.specs.Replay.{Place}
 use Rattle.mr_model.specs.Writes.{Write}
 use Rattle.mr_replay.specs.Places.{UndoRow}
 use Rattle.mr_part.specs.Changed.{picked}
-use Rattle.mr_kept.specs.Logged.{undo_with}
-use Rattle.mr_kept.specs.RoomMoves.{AreById}
+use Rattle.mr_part.specs.Logged.{undo_with}
+use Rattle.mr_part.specs.RoomMoves.{AreById}
 use Rattle.mr_part.proofs.part_changed.changed_by.Given as goal
 
 -- those of the writes so far

@@ -6,8 +6,8 @@ use Rattle.mr_part.specs.ScopeOf.{scope_of}
 use Rattle.mr_part.proofs.PartScopes.{picked_in}
 use Rattle.mr_part.proofs.part_from.picked_in.Goals as goal
 
-pub returns-clause-logged : goal.returns-clause-logged
-returns-clause-logged c = λ a h e same.
+pub returns-clause-kept : goal.returns-clause-kept
+returns-clause-kept c = λ a h e same.
     let s = scope_of c.args.scope.now in
     let told = picked_in a s c.args.tables.now c.args.touched.now h c.requires e same in
     let rows = c.deref.ensures.value ∙ ap (λ (t : Tables). t.log) c.tables.view_is in

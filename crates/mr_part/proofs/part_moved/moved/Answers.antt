@@ -1,14 +1,11 @@
 use Rattle.std.proofs.Common.{◌≡◌, ◌+◌, ◌-◌, ◌<◌, List, ap, sym, ◌∙◌, subst, length}
 use Rattle.mr_model.specs.View.{place_of}
 use Rattle.mr_model.specs.Writes.{Write}
-use Rattle.mr_replay.specs.Rows.{Rows}
-use Rattle.mr_replay.specs.Trials.{Tried}
 use Rattle.mr_tables.specs.Rooms.{rooms_beside}
 use Rattle.mr_tables.specs.Written.{meta_of, changed_tallies, written}
-use Rattle.mr_kept.specs.RoomMoves.{ReplaysRooms, undone_at}
-use Rattle.mr_kept.specs.Taken.{ReachedView}
-use Rattle.mr_kept.specs.Placing.{with_places_put, cancellers_on}
-use Rattle.mr_kept.specs.Targets.{moved_targets}
+use Rattle.mr_part.specs.Taken.{ReachedView}
+use Rattle.mr_part.specs.Placing.{with_places_put, cancellers_on}
+use Rattle.mr_part.specs.Targets.{moved_targets}
 use Rattle.mr_part.proofs.PartMoves.{part_moved, part_rows, part_ends}
 use Rattle.mr_part.proofs.part_moved.moved.Goals as goal
 
@@ -24,10 +21,8 @@ returns-clause-turns c = λ items a b moves.
     let to = c.args.reached.now in
     let v = c.reached.view_is in
     let board = c.args.board in
-    let after = c.replayed_in_rooms.new.trial.rows in
-    let replays =
-    subst (λ (r : Rows). ReplaysRooms (undone_at c.args.in_rooms) ws r after c.in_ok-rows.rows.items) (ap (λ (t : Tried). t.rows) c.new-trial.ensures)
-    (c.in_ok-rows.ensures.replayed (λ name. (moves.rooms_undone name).1)) in
+    let after = c.replayed_in_rooms.new.board in
+    let replays = c.in_ok-rows.ensures.replayed (λ name. (moves.rooms_undone name).1) in
     let rows = c.deref.ensures.value ∙ part_rows old known board items a b to.summary to.rooms us c.args.in_rooms ws moves after c.in_ok-rows.rows.items replays in
     let (writes, undo) = c.in_ok-changed.ensures.changed (place_of b) rows in
     let put = c.deref-3.ensures.value ∙ writes in

@@ -4,7 +4,7 @@ use Rattle.std.specs.List.{filter}
 use Rattle.mr_model.specs.Texts.{Text}
 use Rattle.mr_model.specs.Tables.{LogRow}
 use Rattle.mr_model.specs.Scopes.{in_scope}
-use Rattle.mr_kept.specs.Sets.{AreSameRooms}
+use Rattle.mr_part.specs.Sets.{AreSameRooms}
 use Rattle.mr_part.specs.PickedBookings.{touched_in}
 use Rattle.mr_part.specs.PickedLogs.{is_log_in}
 use Rattle.mr_part.specs.ScopeOf.{scope_of}

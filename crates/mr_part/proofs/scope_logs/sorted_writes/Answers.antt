@@ -1,8 +1,8 @@
 use Rattle.std.proofs.Common.{rules, ◌∙◌, sym, subst, List, map}
 use Rattle.std.specs.List.Sorted.{IsPermutation}
-use Rattle.mr_kept.specs.declared.kept_rows.KeptRow.{KeptRow}
+use Rattle.mr_part.specs.declared.kept_rows.KeptRow.{KeptRow}
 use Rattle.mr_part.specs.ScopeOf.{scope_of}
-use Rattle.mr_kept.specs.KeptRows.{kept_row}
+use Rattle.mr_part.specs.KeptRows.{kept_row}
 use Rattle.mr_part.specs.PickedLogs.{is_log_in}
 use Rattle.mr_part.proofs.PickedRows.{rows_of_logged, logged_within, picked_sorted}
 use Rattle.mr_part.proofs.scope_logs.sorted_writes.Goals as goal

@@ -6,7 +6,7 @@ use Rattle.mr_part.specs.PickedLogs.{is_log_in, log_row_of}
 use Rattle.mr_tables.proofs.LogRows.{answered, never_refused}
 use Rattle.mr_part.proofs.PickedRows.{row_read}
 use Rattle.mr_part.proofs.Picking.{IsDone, first_left, all_done}
-use Rattle.mr_kept.proofs.FilteredRows.{picked_here, left_here}
+use Rattle.mr_part.proofs.FilteredRows.{picked_here, left_here}
 use Rattle.mr_part.proofs.scope_logs.writes_in.Goals as goal
 use Rattle.mr_part.proofs.scope_logs.writes_in.Goals.{then-passes+in_ok-kept_row+in_ok-push, else-passes}
 

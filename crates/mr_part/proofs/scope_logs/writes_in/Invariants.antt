@@ -1,6 +1,6 @@
 use Rattle.std.proofs.Common.{◌≡◌, List, drop, map}
 use Rattle.std.specs.List.{filter}
-use Rattle.mr_kept.specs.declared.kept_rows.KeptRow.{KeptRow}
+use Rattle.mr_part.specs.declared.kept_rows.KeptRow.{KeptRow}
 use Rattle.mr_part.specs.LogTests.{IsTestOf}
 use Rattle.mr_part.specs.ScopeOf.{scope_of}
 use Rattle.mr_part.specs.PickedLogs.{is_log_in, log_row_of, AreWritesWithin}

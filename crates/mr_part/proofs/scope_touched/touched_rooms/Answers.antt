@@ -3,7 +3,7 @@ use Rattle.mr_model.specs.Tables.{LogRow}
 use Rattle.mr_model.specs.Scopes.{rooms_of_item}
 use Rattle.mr_model.specs.Queries.{log_id}
 use Rattle.mr_base.specs.Batches.{item_of}
-use Rattle.mr_kept.proofs.TouchedRooms.{touched_found}
+use Rattle.mr_part.proofs.TouchedRooms.{touched_found}
 use Rattle.mr_part.proofs.scope_touched.touched_rooms.Goals as goal
 
 pub returns-clause-rooms : goal.returns-clause-rooms

@@ -4,8 +4,8 @@ use Rattle.std.specs.Ordering.{nat_cmp, ordering_then}
 use Rattle.mr_model.specs.Queries.{cancel_id}
 use Rattle.mr_model.specs.Tables.{CancelRow}
 use Rattle.mr_model.specs.Writes.{same_id}
-use Rattle.mr_kept.specs.Sets.{has_id}
-use Rattle.mr_kept.proofs.Sets.{id_more}
+use Rattle.mr_part.specs.Sets.{has_id}
+use Rattle.mr_part.proofs.Sets.{id_more}
 use Rattle.mr_service.proofs.calendars.add_if_tentative.Goals as goal
 
 and_true : (b c : Bool) → c ≡ true → b ≡ (b && c)

@@ -1,8 +1,8 @@
 use Rattle.std.proofs.Common.{◌≡◌, ◌||◌, ◌∙◌, ◌∷◌, ◌+◌, ap, sym, subst, drop}
 use Rattle.std.proofs.Math.Bool.{or-false}
 use Rattle.std.proofs.lemmas.List.{drop_more, at_drop_all}
-use Rattle.mr_kept.specs.Sets.{has_id}
-use Rattle.mr_kept.proofs.Sets.{added_more}
+use Rattle.mr_part.specs.Sets.{has_id}
+use Rattle.mr_part.proofs.Sets.{added_more}
 use Rattle.mr_service.specs.Questions.{is_tentative_cancel, has_tentative}
 use Rattle.mr_service.proofs.calendars.tentative_cancels.Goals as goal
 

@@ -1,6 +1,6 @@
 use Rattle.std.proofs.Common.{◌≡◌, ◌||◌, drop}
 use Rattle.mr_model.specs.Writes.{Id}
-use Rattle.mr_kept.specs.Sets.{has_id}
+use Rattle.mr_part.specs.Sets.{has_id}
 use Rattle.mr_service.specs.Questions.{has_tentative}
 use Rattle.mr_service.proofs.calendars.tentative_cancels.Given as goal
 

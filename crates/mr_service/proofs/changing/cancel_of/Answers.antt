@@ -2,7 +2,7 @@ use Rattle.std.proofs.lemmas.Result.{err_from_is_err_and}
 use Rattle.mr_model.specs.Scopes.{OfTarget}
 use Rattle.mr_model.specs.Step.{Cancel}
 use Rattle.mr_model.specs.Writes.{is_room_name}
-use Rattle.mr_kept.specs.Steps.{cancel_request}
+use Rattle.mr_part.specs.Steps.{cancel_request}
 use Rattle.mr_service.proofs.KeeperChanges.{not_loaded, made_by}
 use Rattle.mr_service.proofs.KeeperReads.{unread}
 use Rattle.mr_service.proofs.DeskSteps.{word_step}

@@ -3,7 +3,7 @@ use Rattle.std.proofs.lemmas.Result.{err_from_is_err_and}
 use Rattle.mr_model.specs.Requests.{Request}
 use Rattle.mr_model.specs.Scopes.{InRoom}
 use Rattle.mr_model.specs.Step.{Submit}
-use Rattle.mr_kept.specs.Steps.{submit_request}
+use Rattle.mr_part.specs.Steps.{submit_request}
 use Rattle.mr_service.specs.Asked.{submission_of}
 use Rattle.mr_service.specs.Turns.{IsLoaded}
 use Rattle.mr_service.proofs.KeeperChanges.{not_loaded, made_by}

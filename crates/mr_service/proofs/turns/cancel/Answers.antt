@@ -1,7 +1,7 @@
 use Rattle.std.proofs.Common.{◌∙◌, sym}
 use Rattle.std.proofs.lemmas.Result.{err_from_is_err_and}
 use Rattle.mr_model.specs.Scopes.{OfTarget}
-use Rattle.mr_kept.specs.Steps.{cancel_request, outcome_at_room}
+use Rattle.mr_part.specs.Steps.{cancel_request, outcome_at_room}
 use Rattle.mr_service.proofs.KeeperChanges.{answers, refuses}
 use Rattle.mr_service.proofs.turns.cancel.Goals as goal
 

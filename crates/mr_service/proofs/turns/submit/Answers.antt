@@ -1,7 +1,7 @@
 use Rattle.std.proofs.Common.{◌∙◌, sym}
 use Rattle.std.proofs.lemmas.Result.{err_from_is_err_and}
 use Rattle.mr_model.specs.Scopes.{InRoom}
-use Rattle.mr_kept.specs.Steps.{submit_request, outcome_in}
+use Rattle.mr_part.specs.Steps.{submit_request, outcome_in}
 use Rattle.mr_service.proofs.KeeperChanges.{answers, refuses}
 use Rattle.mr_service.proofs.turns.submit.Goals as goal
 

@@ -1,7 +1,7 @@
 use Rattle.std.proofs.Common.{◌≡◌, ℕ, List, filter, refl, Ok, rules}
 use Rattle.sqlite.specs.Held.{state}
 use Rattle.mr_model.specs.Tables.{LogRow}
-use Rattle.mr_kept.specs.Sets.{AreSameRooms}
+use Rattle.mr_part.specs.Sets.{AreSameRooms}
 use Rattle.mr_part.specs.ScopeOf.{scope_of}
 use Rattle.mr_rows.specs.Database.{tables_in}
 use Rattle.mr_rows.specs.RowQuestions.{is_row_asked, is_error_of}

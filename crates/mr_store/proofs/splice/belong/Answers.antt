@@ -1,5 +1,5 @@
 use Rattle.std.proofs.Common.{subst, arith}
-use Rattle.mr_store.specs.RowsAround.{Precede}
+use Rattle.mr_lists.specs.RowsAround.{Precede}
 use Rattle.mr_store.specs.Spliced.{Follow}
 use Rattle.mr_store.proofs.Splices.{each_more, each_of_all}
 use Rattle.mr_store.proofs.splice.belong.Goals as goal

@@ -1,6 +1,6 @@
 use Rattle.std.proofs.Common.{take}
 use Rattle.mr_model.specs.Dropped.{Has}
-use Rattle.mr_store.specs.RowsAround.{Precede}
+use Rattle.mr_lists.specs.RowsAround.{Precede}
 use Rattle.mr_store.specs.Spliced.{Follow}
 use Rattle.mr_store.proofs.splice.belong.Given as goal
 

@@ -8,11 +8,11 @@ use Rattle.mr_model.specs.Step.{After, knows_booking}
 use Rattle.mr_model.specs.Tables.{tables_of}
 use Rattle.mr_tables.specs.Change.{ChangeView, changed}
 use Rattle.mr_tables.specs.Summary.{stamp_next}
-use Rattle.mr_kept.specs.Desk.{reply_with}
+use Rattle.mr_part.specs.Desk.{reply_with}
 use Rattle.mr_part.specs.Parts.{PartView}
-use Rattle.mr_kept.specs.Placing.{has_booking}
-use Rattle.mr_kept.specs.Steps.{cancel_request, outcome_at_room}
-use Rattle.mr_kept.proofs.Submitting.{Withdraws, withdraws, not_booked}
+use Rattle.mr_part.specs.Placing.{has_booking}
+use Rattle.mr_part.specs.Steps.{cancel_request, outcome_at_room}
+use Rattle.mr_part.proofs.Submitting.{Withdraws, withdraws, not_booked}
 use Rattle.mr_part.proofs.Parting.{target_booked, part_cancel}
 use Rattle.mr_part.proofs.part.Part.cancel.Goals as goal
 

@@ -13,13 +13,13 @@ use Rattle.mr_base.specs.declared.refusals.Refusal.{Refusal}
 use Rattle.mr_base.specs.declared.refusals.Refusal.TheVariants.{OutOfMemory}
 use Rattle.mr_tables.specs.Change.{ChangeView, changed}
 use Rattle.mr_tables.specs.Written.{meta_of}
-use Rattle.mr_kept.specs.Desk.{nothing_taken, reply_with}
+use Rattle.mr_part.specs.Desk.{nothing_taken, reply_with}
 use Rattle.mr_part.specs.Parts.{PartView, IsPartOf}
 use Rattle.mr_model.proofs.UniqueReplay.{some_inj, none_some}
 use Rattle.mr_base.specs.RefusalViews.{refusal_of}
 use Rattle.mr_tables.specs.Summary.{summary_of}
-use Rattle.mr_kept.proofs.DueLines.{due_step, due_told}
-use Rattle.mr_kept.proofs.Receiving.{items_good, own_primary, receive_done}
+use Rattle.mr_part.proofs.DueLines.{due_step, due_told}
+use Rattle.mr_part.proofs.Receiving.{items_good, own_primary, receive_done}
 use Rattle.mr_part.proofs.ReceivingPart.{receive_nothing, other_primary, receive_other}
 use Rattle.mr_part.proofs.part.Part.receive.Goals as goal
 

@@ -1,7 +1,7 @@
 use Rattle.std.proofs.Common.{Err, map, ap, sym, ◌∙◌, subst, inr}
 use Rattle.std.proofs.lemmas.Result.{err_from_is_err_and}
 use Rattle.mr_base.specs.Batches.{item_of}
-use Rattle.mr_kept.specs.Moves.{AreTouched}
+use Rattle.mr_part.specs.Moves.{AreTouched}
 use Rattle.mr_part.specs.PartMoves.{AnswersItems}
 use Rattle.mr_part.proofs.part.Part.take_items.Goals as goal
 

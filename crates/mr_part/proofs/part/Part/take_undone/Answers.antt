@@ -1,16 +1,15 @@
-use Rattle.std.proofs.Common.{◌≡◌, ◌-◌, Err, length, map, ap, sym, ◌∙◌, inr, arith}
+use Rattle.std.proofs.Common.{◌≡◌, ◌-◌, Err, length, map, ap, ◌∙◌, inr, arith}
 use Rattle.std.specs.List.{filter}
 use Rattle.std.proofs.lemmas.Result.{err_from_is_err_and}
 use Rattle.mr_model.specs.Kept.{kept_in_order}
-use Rattle.mr_model.specs.Tables.{seq_of}
 use Rattle.mr_model.proofs.Moved.{batches_move_touched_rooms}
 use Rattle.mr_base.specs.Batches.{item_of}
-use Rattle.mr_kept.specs.Desk.{nothing_taken}
-use Rattle.mr_kept.specs.Taken.{ReachedView, is_inside}
+use Rattle.mr_part.specs.Desk.{nothing_taken}
+use Rattle.mr_part.specs.Taken.{ReachedView, is_inside}
 use Rattle.mr_part.specs.Parts.{PartView}
-use Rattle.mr_kept.specs.KeptWrites.{numbered_of}
-use Rattle.mr_kept.proofs.Growing.{items-grow}
-use Rattle.mr_kept.proofs.TakingItems.{all_within}
+use Rattle.mr_part.specs.KeptWrites.{numbered_of}
+use Rattle.mr_part.proofs.Growing.{items-grow}
+use Rattle.mr_part.proofs.TakingItems.{all_within}
 use Rattle.mr_part.proofs.ReceivingPart.{part_received, part_refused}
 use Rattle.mr_part.proofs.part.Part.take_undone.Goals as goal
 
@@ -19,9 +18,8 @@ returns-in_err-reached-clause-step c = λ good short a sound part touched undone
     let x = err_from_is_err_and c.from_residual.result c.from_residual.ensures.1 in
     let items = map item_of c.args.items.now in
     let e = c.self.view_is ∙ part in
-    let marks = c.deref-2.ensures.value ∙ ap (λ (v : PartView). v.marks) e ∙ ap (λ (v : PartView). map (seq_of a) v.kept) (sym e) in
     part_refused a items c.from_residual.result c.in_err-reached.field-0.0 (x.1 ∙ ap Err x.2)
-    (c.in_err-reached.ensures.takes a (is_inside a items) sound good short (λ w h. h) (ap (λ (v : PartView). v.summary) e) (c.deref.ensures.value ∙ ap (λ (v : PartView). v.rooms) e) (ap (λ (v : PartView). v.kept) e) marks)
+    (c.in_err-reached.ensures.takes a (is_inside a items) sound good short (λ w h. h) (ap (λ (v : PartView). v.summary) e) (c.deref.ensures.value ∙ ap (λ (v : PartView). v.rooms) e) (ap (λ (v : PartView). v.kept) e))
 
 pub returns-in_err-again-clause-step : goal.returns-in_err-again-clause-step
 returns-in_err-again-clause-step c = λ good short a sound part touched undone in_rooms.
@@ -37,17 +35,16 @@ pub returns-clause-step : goal.returns-clause-step
 returns-clause-step c = λ good short a sound part touched undone in_rooms.
     let items = map item_of c.args.items.now in
     let e = c.self.view_is ∙ part in
-    let marks = c.deref-2.ensures.value ∙ ap (λ (v : PartView). v.marks) e ∙ ap (λ (v : PartView). map (seq_of a) v.kept) (sym e) in
-    let (p, exact, shows) = c.in_ok-reached.ensures.takes a (is_inside a items) sound good short (λ w h. h) (ap (λ (v : PartView). v.summary) e) (c.deref.ensures.value ∙ ap (λ (v : PartView). v.rooms) e) (ap (λ (v : PartView). v.kept) e) marks in
+    let (p, exact, shows) = c.in_ok-reached.ensures.takes a (is_inside a items) sound good short (λ w h. h) (ap (λ (v : PartView). v.summary) e) (c.deref.ensures.value ∙ ap (λ (v : PartView). v.rooms) e) (ap (λ (v : PartView). v.kept) e) in
     let b = p.replica in
     let view = c.reached.view_is in
     let m = batches_move_touched_rooms items 2 (nothing_taken a) p sound (all_within items good) exact in
-    let kept : c.deref-3.result.now ≡ map (numbered_of b) (filter (is_inside a items) (kept_in_order b)) = c.deref-3.ensures.value ∙ ap (λ (v : ReachedView). v.kept) view ∙ shows.kept in
+    let kept : c.deref-2.result.now ≡ map (numbered_of b) (filter (is_inside a items) (kept_in_order b)) = c.deref-2.ensures.value ∙ ap (λ (v : ReachedView). v.kept) view ∙ shows.kept in
     let writes = c.in_ok-again.ensures.writes a b (is_inside a items) (record { sound = sound; moves = m; are_touched = touched; commits_are = ap (λ (v : PartView). v.summary.commits) e; covers = λ w h. h; kept_are = kept; marks = shows.marks }) in
     let turns = c.in_ok-change.ensures.turns items a b (record {
       sound = sound;
       old_is = ap (λ (v : PartView). v.summary) e;
-      known_are = c.deref-4.ensures.value ∙ ap (λ (v : PartView). v.rooms) e;
+      known_are = c.deref-3.ensures.value ∙ ap (λ (v : PartView). v.rooms) e;
       board_is = ap (λ (v : PartView). v.board) e;
       moves = m;
       keeps_rooms = (items-grow items 2 (nothing_taken a) p sound good exact).rooms;
@@ -55,7 +52,7 @@ returns-clause-step c = λ good short a sound part touched undone in_rooms.
       rooms_are = shows.rooms;
       undone_are = undone;
       rooms_undone = in_rooms;
-      writes_are = c.deref-5.ensures.value ∙ writes;
+      writes_are = c.deref-4.ensures.value ∙ writes;
     }) in
     let had = c.len-had.ensures in
     let have = c.len.ensures in

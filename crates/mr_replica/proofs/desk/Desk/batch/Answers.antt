@@ -1,51 +1,21 @@
-use Rattle.std.proofs.Common.{◌≡◌, ◌≤◌, ◌==◌, nat_lt, true, false, Some, Err, map, ap, ◌∙◌, subst, inl, inr, arith}
-use Rattle.std.proofs.lemmas.Bool.Decides.{nat_tests}
-use Rattle.std.proofs.lemmas.Result.{err_from_is_err_and}
-use Rattle.std.specs.List.{list_all}
-use Rattle.mr_model.specs.Exchange.{is_item}
+use Rattle.std.proofs.Common.{subst}
+use Rattle.mr_model.specs.Exchange.{Batch}
 use Rattle.mr_model.specs.Positions.{Position}
 use Rattle.mr_model.specs.Replies.{BatchIs}
-use Rattle.mr_tables.proofs.CountLimits.{few_commits}
-use Rattle.mr_base.specs.Answers.{ok_if}
-use Rattle.mr_base.specs.Batches.{item_of, batch_seen}
-use Rattle.mr_base.specs.Versions.{version_of}
-use Rattle.mr_base.specs.declared.refusals.Refusal.TheVariants.{NeedsVersion2}
-use Rattle.mr_kept.specs.Outgoing.{Offers, kept_items, ending_by}
-use Rattle.mr_kept.specs.Desk.{DeskView, reply_with}
-use Rattle.mr_kept.specs.Accepting.{summary_in}
-use Rattle.mr_kept.proofs.Batching.{items-kept, batch_made}
+use Rattle.mr_model.specs.Scopes.{Above}
+use Rattle.mr_model.specs.Step.{leave, batch_reply}
+use Rattle.mr_part.specs.Parts.{IsPartOf}
+use Rattle.mr_replica.proofs.Taken.{answered, unmade, never_unmade}
 use Rattle.mr_replica.proofs.desk.Desk.batch.Goals as goal
 
-pub returns-in_err-outgoing-clause-step : goal.returns-in_err-outgoing-clause-step
-returns-in_err-outgoing-clause-step c = λ a sound stands.
-    let x = err_from_is_err_and c.from_residual.result c.from_residual.ensures.1 in
-    let e = c.self.view_is ∙ stands in
-    let is : c.position.inside.commits ≡ c.args.position.now.commits = ap (λ (p : Position). p.commits) c.position.view_is in
-    let commits : c.self.inside.summary.commits ≡ _ = ap (λ (d : DeskView). d.commits) e in
-    let few = few_commits a sound in
-    let whole = c.if-position-self.false in
-    inr (x.1 ∙ ap Err (x.2 ∙ c.in_err-outgoing.ensures.only (omega arith) (omega arith)), λ _. c.args.self.now)
+pub returns-in-Ok-clause-step : goal.returns-in-Ok-clause-step
+returns-in-Ok-clause-step c = answered (Above c.args.position.now.commits) (λ a. batch_reply a c.args.position.now c.args.max_lines) (λ (b : Batch). BatchIs b) c.in-Ok.part c.args.self.now c.batch.result (λ a h. subst (λ (p : Position). IsPartOf c.in-Ok.part (Above p.commits) a) c.position.view_is (c.in-Ok.ensures.part a h)) c.batch.ensures.step
 
-pub returns-clause-step : goal.returns-clause-step
-returns-clause-step c = λ a sound stands.
-    let p = c.args.position.now in
-    let there = c.in_ok-outgoing.outgoing.items.items in
-    let more = c.in_ok-outgoing.outgoing.more in
-    let e = c.self.view_is ∙ stands in
-    let primary : c.self.inside.summary.primary ≡ a.primary = ap (λ (d : DeskView). d.primary) e in
-    let dropped : c.self.inside.summary.dropped ≡ a.dropped = ap (λ (d : DeskView). d.dropped) e in
-    let asked : c.position.inside.primary ≡ p.primary = ap (λ (q : Position). q.primary) c.position.view_is in
-    let commits : c.position.inside.commits ≡ p.commits = ap (λ (q : Position). q.commits) c.position.view_is in
-    let ne = c.ne.ensures in
-    let same = c.if-ne.false in
-    let own : (p.primary == a.primary) ≡ true = grind (arith, nat_tests) in
-    let enough = c.if-position-self.false in
-    let low : a.dropped ≤ p.commits = omega arith in
-    let whole : nat_lt p.commits a.dropped ≡ false = grind (arith, nat_tests) in
-    let kept = c.kept.ensures in
-    let items = (λ t. kept_items p c.self.inside.summary (kept t)) ∙ (λ t. kept_items p (summary_in (e t)) (e t).log.kept) ∙ items-kept a p sound low in
-    let offers = subst (λ xs. Offers c.args.max_lines xs there more) items c.in_ok-outgoing.ensures.items in
-    let v = c.position.inside.version in
-    let version : version_of v ≡ p.version = ap (λ (q : Position). q.version) c.position.view_is in
-    let made = batch_made a p c.args.max_lines v there more sound version own whole offers in
-    inl (ap (reply_with BatchIs) (c.into_batch.ensures ∙ (λ t. ok_if (list_all (is_item (version_of v)) (map item_of there)) (batch_seen v (Some (record { from = (e t).server; primary = (e t).primary })) there (ending_by more)) NeedsVersion2)) ∙ made, stands)
+pub returns-in-Err-clause-step : goal.returns-in-Err-clause-step
+returns-in-Err-clause-step c = unmade (λ a. leave a (batch_reply a c.args.position.now c.args.max_lines)) (λ _. λ (b : Batch). BatchIs b) c.args.self.now c.args.self.now c.in-Err.refusal (λ _. c.args.self.now) (λ a h. c.in-Err.ensures.only a h)
+
+pub returns-in-Ok-clause-own : goal.returns-in-Ok-clause-own
+returns-in-Ok-clause-own c = λ a h. c.batch.ensures.own c.in-Ok.ensures.within
+
+pub returns-in-Err-clause-own : goal.returns-in-Err-clause-own
+returns-in-Err-clause-own c = λ a h. never_unmade c.in-Err.refusal (c.in-Err.ensures.only a h)

@@ -1,7 +1,10 @@
-use Rattle.std.proofs.Common.{ap, sym, ◌∙◌, Err}
+use Rattle.std.proofs.Common.{◌∙◌, ap, Err}
 use Rattle.mr_model.proofs.FirstBadLine.{err_inj}
 use Rattle.mr_base.specs.declared.refusals.Refusal.TheVariants.{Store}
 use Rattle.mr_replica.proofs.desk.Desk.from_tables.Goals as goal
+
+pub returns-in-Ok-clause-desk : goal.returns-in-Ok-clause-desk
+returns-in-Ok-clause-desk c = λ a h e. record { sound = h; are = c.over.ensures ∙ c.in-Ok.ensures.copy ∙ e }
 
 pub returns-in-Err-clause-only : goal.returns-in-Err-clause-only
 returns-in-Err-clause-only c = λ a h e. c.of_store.ensures.memory (c.in-Err.ensures.only a h e)

@@ -1,28 +1,18 @@
-use Rattle.std.proofs.Common.{◌≡◌, ◌≤◌, ◌⊎◌, Result, Ok, Err, ap, sym, ◌∙◌, subst, inl, inr}
-use Rattle.std.proofs.lemmas.List.Elements.{All-from_recursion}
-use Rattle.mr_base.specs.declared.refusals.Refusal.{Refusal}
-use Rattle.mr_base.specs.declared.refusals.Refusal.TheVariants.{OutOfMemory}
-use Rattle.mr_model.specs.Positions.{Position, position_of}
-use Rattle.mr_model.specs.Replica.{Replica}
+use Rattle.mr_model.specs.Positions.{position_of}
 use Rattle.mr_model.specs.Replies.{PositionIs}
-use Rattle.mr_kept.specs.Accepting.{summary_in}
-use Rattle.mr_kept.specs.Desk.{DeskView, StandsFor, IsWithinLimits, reply_with}
-use Rattle.mr_tables.specs.declared.summary.Tally.{Tally}
-use Rattle.mr_tables.specs.Summary.{IsWithin}
+use Rattle.mr_model.specs.Scopes.{Nothing}
+use Rattle.mr_model.specs.Step.{leave}
+use Rattle.mr_replica.proofs.Taken.{answered, unmade, never_unmade}
 use Rattle.mr_replica.proofs.desk.Desk.position.Goals as goal
 
--- a position is the reply of this one, and the desk stays
-replied : (d : DeskView) (a : Replica) (r : Result Position Refusal) → StandsFor d a → (r ≡ Ok (position_of a)) ⊎ (r ≡ Err OutOfMemory) → ((reply_with PositionIs r ≡ PositionIs (position_of a)) × StandsFor d a) ⊎ ((r ≡ Err OutOfMemory) × (d ≡ d))
-replied d a r stands (inl e) = inl (ap (reply_with PositionIs) e, stands)
-replied d a r stands (inr e) = inr (e, λ _. d)
+pub returns-in-Ok-clause-step : goal.returns-in-Ok-clause-step
+returns-in-Ok-clause-step c = answered (Nothing) (λ a. PositionIs (position_of a)) (PositionIs) c.in-Ok.part c.args.self.now c.position.result c.in-Ok.ensures.part c.position.ensures.step
 
--- the limits of a desk are those of its numbers
-within_in : (d : DeskView) → IsWithinLimits d → IsWithin (summary_in d)
-within_in d limits = record { commits = limits.commits; counts = All-from_recursion (λ (t : Tally). t.count ≤ 999_999_999) d.tallies limits.counts }
+pub returns-in-Err-clause-step : goal.returns-in-Err-clause-step
+returns-in-Err-clause-step c = unmade (λ a. leave a (PositionIs (position_of a))) (λ _. PositionIs) c.args.self.now c.args.self.now c.in-Err.refusal (λ _. c.args.self.now) (λ a h. c.in-Err.ensures.only a h)
 
-pub returns-clause-step : goal.returns-clause-step
-returns-clause-step c = λ a sound stands.
-    replied c.args.self.now a c.position.result stands (c.position.ensures.own a sound (ap summary_in (c.self.view_is ∙ stands)))
+pub returns-in-Ok-clause-own : goal.returns-in-Ok-clause-own
+returns-in-Ok-clause-own c = λ a h. c.position.ensures.own c.in-Ok.ensures.within
 
-pub returns-clause-own : goal.returns-clause-own
-returns-clause-own c = λ limits. c.position.ensures.store (subst (λ (d : DeskView). IsWithin (summary_in d)) (sym c.self.view_is) (within_in c.args.self.now limits))
+pub returns-in-Err-clause-own : goal.returns-in-Err-clause-own
+returns-in-Err-clause-own c = λ a h. never_unmade c.in-Err.refusal (c.in-Err.ensures.only a h)

@@ -1,7 +1,7 @@
 use Rattle.std.specs.Prelude.{IfOk}
 use Rattle.mr_model.specs.Replica.{Replica}
 use Rattle.mr_model.specs.Tables.{Stands}
-use Rattle.mr_kept.specs.Desk.{StandsFor}
+use Rattle.mr_replica.specs.Desk.{StandsFor}
 use Rattle.mr_store.proofs.Remembered.{followed, of_keeper, of_memory, remembered}
 use Rattle.mr_store.proofs.cached.CachedKeeper.load.Goals as goal
 

@@ -1,4 +1,4 @@
-use Rattle.mr_store.proofs.TableChanges.{kept_in_order}
+use Rattle.mr_lists.proofs.TableChanges.{kept_in_order}
 use Rattle.mr_store.proofs.lists.ListKeeperKeeper.apply.Goals as goal
 
 pub invariant_of-self-inside : goal.invariant_of-self-inside

@@ -1,7 +1,7 @@
 use Rattle.std.proofs.Common.{sym, subst, ◌∙◌}
 use Rattle.std.specs.Prelude.{IfOk}
 use Rattle.mr_model.specs.Tables.{Stands}
-use Rattle.mr_kept.specs.Desk.{StandsFor}
+use Rattle.mr_replica.specs.Desk.{StandsFor}
 use Rattle.mr_store.proofs.memory.Remembered.load.Goals.{in-Ok, in-Err}
 use Rattle.mr_store.proofs.memory.Remembered.load.Goals as goal
 

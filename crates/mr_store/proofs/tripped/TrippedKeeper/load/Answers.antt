@@ -1,7 +1,7 @@
 use Rattle.std.proofs.Common.{subst, IfOk}
 use Rattle.mr_model.specs.Replica.{Replica}
 use Rattle.mr_model.specs.Tables.{Stands}
-use Rattle.mr_kept.specs.Desk.{StandsFor}
+use Rattle.mr_replica.specs.Desk.{StandsFor}
 use Rattle.mr_store.proofs.tripped.TrippedKeeper.load.Goals as goal
 
 pub returns-clause-loaded : goal.returns-clause-loaded

@@ -1,7 +1,0 @@
-use Rattle.std.proofs.Common.{◌≡◌, take}
-use Rattle.mr_kept.specs.Placing.{cancellers_on}
-use Rattle.mr_kept.proofs.placing.cancellers_tried.Given as goal
-
--- those of the writes so far
-abbrev pub invariant-loop-write : goal.invariant-loop-write
-invariant-loop-write l = l.bys.items ≡ cancellers_on l.trial.rows (take l.write-index l.writes)

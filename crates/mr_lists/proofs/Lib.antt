@@ -1,0 +1,2 @@
+pub mod TableChanges
+pub mod Gaps

@@ -1,0 +1,2 @@
+-- A reader of the contracts trusts RowsAround.
+pub mod RowsAround

@@ -1,0 +1,72 @@
+-- The rows of what some writes aim at, one by one.
+use Rattle.std.proofs.Common.{◌≡◌, refl, sym, ap, ◌∙◌, subst, ℕ, zero, suc, ◌+◌, ◌<◌, ◌≤◌, Bool, true, false, cond, List, [], ◌∷◌, ◌++◌, length, get_or, map, take, ◌⊎◌, inl, inr, Option, Some, None, arith, append_assoc, append-nil}
+use Rattle.std.proofs.lemmas.Bool.{true≢false, cond-true, cond-false}
+use Rattle.std.proofs.lemmas.List.{take_more}
+use Rattle.std.specs.List.{cons_option}
+use Rattle.std.specs.Prelude.{flat_map}
+use Rattle.mr_model.specs.Dropped.{Has}
+use Rattle.mr_model.specs.Writes.{Id, Write}
+use Rattle.mr_model.specs.Tables.{PlaceRow}
+use Rattle.mr_replay.specs.declared.rows.Standing.TheVariants.{Booked, CancelledBy, InErrorLog}
+use Rattle.mr_replay.specs.declared.rows.Kept.{Kept}
+use Rattle.mr_replay.specs.declared.rows.Kept.TheVariants.{OfBooking, OfCancel}
+use Rattle.mr_replay.specs.declared.rows.Row.{Row}
+use Rattle.mr_replay.specs.Rows.{Rows}
+use Rattle.mr_replay.specs.Bookings.{is_taken, if_taken}
+use Rattle.mr_tables.specs.declared.summary.Tally.{Tally}
+use Rattle.mr_part.specs.Placing.{kept_place, board_place, KeptEnds, RowEnds, kept_canceller}
+use Rattle.mr_part.specs.Targets.{taken_by, same_by, row_if_moved, target_if_moved, moved_target, moved_targets}
+use Rattle.mr_part.proofs.Moves.{told_at}
+
+-- what stands at a place in a list is in it
+pub has_at : {A : Type 0} (xs : List A) (k : ℕ) (x : A) → k < length xs → x ≡ get_or xs k x → Has x xs
+has_at [] k x h e = absurd (omega arith)
+has_at (y ∷ ys) zero x h e = inl e
+has_at (y ∷ ys) (suc k) x h e = inr (has_at ys k x (omega arith) e)
+
+flat_more : {A B : Type 0} (f : A → List B) (xs : List A) (x : A) → flat_map f (xs ++ x ∷ []) ≡ flat_map f xs ++ f x
+flat_more f [] x = append-nil (f x)
+flat_more f (y ∷ ys) x = ap (λ zs. f y ++ zs) (flat_more f ys x) ∙ sym (append_assoc (f y) (flat_map f ys) (f x))
+
+-- with those of one write more
+pub targets_more : (ts : List Tally) (old b : Rows) (ws : List Write) (was : List (Option Id)) (k : ℕ) (w : Write) (by : Option Id) (done next : List PlaceRow) → k < length ws → w ≡ get_or ws k w → by ≡ get_or was k by → was ≡ map (taken_by old) ws
+    → done ≡ moved_targets ts old b (take k ws) → next ≡ done ++ target_if_moved ts by b w.room w.action → next ≡ moved_targets ts old b (take (k + 1) ws)
+targets_more ts old b ws was k w by done next low at is are have more =
+    let own : by ≡ taken_by old w = is ∙ sym (told_at (taken_by old) ws was k w by low at are) in
+    more ∙ (λ i. have i ++ target_if_moved ts (own i) b w.room w.action)
+    ∙ sym (ap (moved_targets ts old b) (take_more ws k w low ∙ ap (λ v. take k ws ++ v ∷ []) (sym at)) ∙ flat_more (moved_target ts old b) (take k ws) w)
+
+-- at the end they are those of all
+pub targets_all : (ts : List Tally) (old b : Rows) (ws : List Write) (k : ℕ) (done : List PlaceRow) → length ws ≤ k → done ≡ moved_targets ts old b (take k ws) → done ≡ moved_targets ts old b ws
+targets_all ts old b ws k done all have = have ∙ ap (moved_targets ts old b) (take_whole ws k all)
+  where
+    take_whole : (vs : List Write) (n : ℕ) → length vs ≤ n → take n vs ≡ vs
+    take_whole [] zero h = refl
+    take_whole [] (suc n) h = refl
+    take_whole (v ∷ vs) zero h = absurd (omega arith)
+    take_whole (v ∷ vs) (suc n) h = ap (λ us. v ∷ us) (take_whole vs n (omega arith))
+
+-- ---- one row
+
+untaken : (ts : List Tally) (id : Id) (row : Row) → is_taken row.kept ≡ false → board_place ts id row ≡ None
+untaken ts id row e = go row.kept e
+  where
+    go : (k : Kept) → is_taken k ≡ false → kept_place ts id row.room k ≡ None
+    go (OfBooking s l t Booked) f = absurd (true≢false f)
+    go (OfBooking s l t (CancelledBy c)) f = absurd (true≢false f)
+    go (OfBooking s l t InErrorLog) f = refl
+    go (OfCancel t) f = refl
+
+-- of a booking that took no slot, and of one that the same cancel took back before, none is put
+pub row_left : (ts : List Tally) (was : Option Id) (id : Id) (row : Row) → (is_taken row.kept ≡ false) ⊎ (same_by was (kept_canceller row.kept) ≡ true) → [] ≡ row_if_moved ts was id (Some row)
+row_left ts was id row (inl e) = go (same_by was (kept_canceller row.kept))
+  where
+    go : (c : Bool) → [] ≡ cond c [] (cons_option (board_place ts id row) [])
+    go true = refl
+    go false = sym (ap (λ o. cons_option o []) (untaken ts id row e))
+row_left ts was id row (inr e) = sym (cond-true (same_by was (kept_canceller row.kept)) [] (cons_option (board_place ts id row) []) e)
+
+pub row_put : (ts : List Tally) (was : Option Id) (id : Id) (row : Row) (o : Option PlaceRow) → is_taken row.kept ≡ true → same_by was (kept_canceller row.kept) ≡ false → (KeptEnds row.kept → o ≡ board_place ts id row) → RowEnds (if_taken (Some row)) → cons_option o [] ≡ row_if_moved ts was id (Some row)
+row_put ts was id row o t e told ends =
+    ap (λ x. cons_option x []) (told (subst RowEnds (cond-true (is_taken row.kept) (Some row) None t) ends))
+    ∙ sym (cond-false (same_by was (kept_canceller row.kept)) [] (cons_option (board_place ts id row) []) e)

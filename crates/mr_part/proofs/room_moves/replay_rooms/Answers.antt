@@ -1,0 +1,17 @@
+use Rattle.std.proofs.Common.{◌++◌, sym, ◌∙◌}
+use Rattle.mr_model.specs.Texts.{Text}
+use Rattle.mr_replay.specs.Rows.{executed_all, undone_all, undo_rows_of}
+use Rattle.mr_part.specs.declared.room_moves.RoomMove.{RoomMove}
+use Rattle.mr_part.proofs.RoomMoves.{board_after-more, rows_after-more}
+use Rattle.mr_part.proofs.room_moves.replay_rooms.Goals as goal
+
+pub loop-room-preserved : goal.loop-room-preserved
+loop-room-preserved c =
+    let was = c.loop-room.invariant in
+    let undone = c.deref.ensures.value in
+    let again = c.deref-in-loop-room.ensures.value in
+    let e : Text × RoomMove = (c.in-Some.room, c.in-Some.one) in
+    record {
+      board = c.in_ok-rows.ensures.board ∙ (λ i. executed_all (undone_all (was.board i) (undone i)) (again i)) ∙ sym (board_after-more c.loop-room.yielded e c.args.board.now);
+      rows = c.in_ok-append.ensures.items ∙ (λ i. was.rows i ++ (c.in_ok-rows.ensures.rows ∙ (λ j. undo_rows_of (undone_all (was.board j) (undone j)) (again j))) i) ∙ sym (rows_after-more c.loop-room.yielded e c.args.board.now);
+    }

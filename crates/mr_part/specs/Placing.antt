@@ -1,0 +1,91 @@
+-- Rows of what became of writes, as a board tells them, and how they come into a change.
+use Rattle.std.specs.Prelude.{◌+◌, ◌≤◌, if◌then◌else◌, bytes_eq, Bool, true, false, List, [], ◌∷◌, map, Option, Some, None}
+use Rattle.mr_model.specs.Texts.{Text}
+use Rattle.mr_model.specs.Writes.{Id, Write, id_of}
+use Rattle.mr_model.specs.Tables.{PlaceRow, Booked, Cancelled, taken_back}
+use Rattle.mr_replay.specs.declared.rows.Standing.TheVariants as standing
+use Rattle.mr_replay.specs.declared.rows.Kept.{Kept}
+use Rattle.mr_replay.specs.declared.rows.Kept.TheVariants.{OfBooking, OfCancel}
+use Rattle.mr_replay.specs.declared.rows.Row.{Row}
+use Rattle.mr_replay.specs.Places.{UndoRow}
+use Rattle.mr_replay.specs.Rows.{Rows, row_at, target_if_done as taken_back_by}
+use Rattle.mr_tables.specs.declared.summary.Tally.{Tally}
+use Rattle.mr_tables.specs.Change.{ChangeView}
+use Rattle.mr_tables.specs.Written.{with_place}
+use Rattle.mr_part.specs.DeskTables.{booking_at}
+
+-- these rows are put one after the other, each into its table
+abbrev pub with_places_put : ChangeView → List PlaceRow → ChangeView
+with_places_put c [] = c
+with_places_put c (row ∷ rows) = with_places_put (with_place c row) rows
+
+-- ---- rows of bookings, read off the board
+
+-- it has its slot, or a cancel took it back; one that found no slot has no row of these
+abbrev pub kept_place : List Tally → Id → Text → Kept → Option PlaceRow
+kept_place ts id room (OfBooking slot length title standing.Booked) = Some (Booked (booking_at ts id room slot length title))
+kept_place ts id room (OfBooking slot length title (standing.CancelledBy by)) =
+    Some (Cancelled (taken_back by (booking_at ts id room slot length title)))
+kept_place ts id room _ = None
+
+abbrev pub board_place : List Tally → Id → Row → Option PlaceRow
+board_place ts id row = kept_place ts id row.room row.kept
+
+-- a booking ends on its day
+abbrev pub KeptEnds : Kept → Type 0
+KeptEnds (OfBooking slot length title stands) = slot.start + length ≤ 1440
+KeptEnds (OfCancel target) = Unit {0}
+
+abbrev pub RowEnds : Option Row → Type 0
+RowEnds None = Unit {0}
+RowEnds (Some row) = KeptEnds row.kept
+
+-- ---- cancels
+
+-- the cancel that took a booking back, if one did
+abbrev pub kept_canceller : Kept → Option Id
+kept_canceller (OfBooking slot length title (standing.CancelledBy by)) = Some by
+kept_canceller _ = None
+
+abbrev pub row_canceller : Option Row → Option Id
+row_canceller None = None
+row_canceller (Some row) = kept_canceller row.kept
+
+-- of each of these writes
+abbrev pub cancellers_on : Rows → List Write → List (Option Id)
+cancellers_on b ws = map (λ w. row_canceller (row_at b (id_of w))) ws
+
+abbrev pub kept_is_booking : Kept → Bool
+kept_is_booking (OfBooking slot length title stands) = true
+kept_is_booking (OfCancel target) = false
+
+abbrev pub is_booking_row_in : Text → Option Row → Bool
+is_booking_row_in room None = false
+is_booking_row_in room (Some row) = if bytes_eq row.room room then kept_is_booking row.kept else false
+
+-- whether the board has a booking of this room with this id: one that stands, was taken back or found no slot
+abbrev pub has_booking : Rows → Text → Id → Bool
+has_booking b room id = is_booking_row_in room (row_at b id)
+
+-- the row of a booking that stands, where this cancel takes it back
+abbrev pub taken_row : Id → Option PlaceRow → List PlaceRow
+taken_row by (Some (Booked row)) = Cancelled (taken_back by row) ∷ []
+taken_row by _ = []
+
+abbrev pub taken_on : List Tally → Id → Id → Option Row → List PlaceRow
+taken_on ts by target None = []
+taken_on ts by target (Some row) = taken_row by (board_place ts target row)
+
+-- the target of a write that took it back
+abbrev pub taken_rows_of : List Tally → Rows → Id → Option Id → List PlaceRow
+taken_rows_of ts b by None = []
+taken_rows_of ts b by (Some target) = taken_on ts by target (row_at b target)
+
+-- the rows that a write puts beside its own, where this undoes it: that of the target that it took back
+abbrev pub taken_rows : List Tally → Rows → UndoRow → List PlaceRow
+taken_rows ts b u = taken_rows_of ts b u.id (taken_back_by u.place u.target)
+
+-- that row ends on its day
+abbrev pub TargetEnds : Rows → Option Id → Type 0
+TargetEnds b None = Unit {0}
+TargetEnds b (Some target) = RowEnds (row_at b target)

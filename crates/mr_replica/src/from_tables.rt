@@ -1,0 +1,107 @@
+ghost use Rattle.std.specs.Prelude.{◌≡◌, ◌⊎◌, ◌↔◌, ◌≤◌, true, false, IsTrue, Err, IfOk, IfErr};
+ghost use Rattle.std.specs.List.{All};
+ghost use Rattle.mr_agree.specs.Agreeing.{agree};
+ghost use Rattle.mr_audit.specs.Parts.{do_parts_agree};
+ghost use Rattle.mr_model.specs.Changes.{AreInKeyOrder};
+ghost use Rattle.mr_model.specs.Replica.{Replica, IsReplica};
+ghost use Rattle.mr_model.specs.Tables.{tables_of};
+ghost use Rattle.mr_replica.specs.Desk.{StandsFor, IsWithinLimits};
+
+use crate::Desk;
+use mr_audit::do_tables_agree;
+use mr_base::Refusal;
+use mr_lists::lists::copied;
+use mr_part::kept_rows::{kept_rows, of_store};
+use mr_tables::boards::board_with;
+use mr_tables::{Tables, VectorRow};
+use std::alloc::Global;
+
+impl Desk {
+    /// The desk that has these tables. Tables that stand for no replica are not believed: rows that break their limits, or
+    /// that contradict each other, are refused as the store's.
+    pub fn from_tables(alloc: Global, tables: &Tables) -> Result<Desk, Refusal>
+        ensures tables { IfOk result (λ desk. desk ≡ tables.now) }
+        ensures desk { (a : Replica) → IsReplica a → tables.now ≡ tables_of a → IfOk result (λ desk. StandsFor desk a) }
+        ensures only { (a : Replica) → IsReplica a → tables.now ≡ tables_of a → IfErr result (λ e. e ≡ Refusal.OutOfMemory) }
+        ensures within { IfOk result IsWithinLimits }
+        ensures agree { IfOk result (λ desk. (agree tables.now ≡ true) × AreInKeyOrder tables.now) }
+        // What disagrees in a part that is tested without memory is refused without memory.
+        ensures due { do_parts_agree tables.now ≡ false → result ≡ Err Refusal.Store }
+        ensures cause { IfErr result (λ e. (e ≡ Refusal.OutOfMemory) ⊎ (e ≡ Refusal.Store)) }
+    {
+        match copy_of_agreeing(alloc, tables) {
+            Ok(tables) => Ok(Desk::over(alloc, tables)),
+            Err(refusal) => Err(of_store(refusal)),
+        }
+    }
+}
+
+/// Equal tables, where their numbers are within the limits of positions, their rows agree with each other, and each can be read.
+fn copy_of_agreeing(alloc: Global, tables: &Tables) -> Result<Tables, Refusal>
+    ensures copy { IfOk result (λ copy. copy ≡ tables.now) }
+    ensures only { (a : Replica) → IsReplica a → tables.now ≡ tables_of a → IfErr result (λ e. e ≡ Refusal.OutOfMemory) }
+    ensures within { IfOk result (λ copy. IsWithinLimits tables.now) }
+    ensures agree { IfOk result (λ copy. (agree tables.now ≡ true) × AreInKeyOrder tables.now) }
+    ensures due { do_parts_agree tables.now ≡ false → result ≡ Err Refusal.Store }
+{
+    if !is_within(tables) {
+        return Err(Refusal::Store);
+    }
+    match do_tables_agree(alloc, tables) {
+        Ok(agree) => {
+            if agree {
+                copy_of_read(alloc, tables)
+            } else {
+                Err(Refusal::Store)
+            }
+        }
+        Err(refusal) => Err(refusal),
+    }
+}
+
+/// Equal tables, where each row can be read.
+fn copy_of_read(alloc: Global, tables: &Tables) -> Result<Tables, Refusal>
+    ensures copy { IfOk result (λ copy. copy ≡ tables.now) }
+    ensures only { (a : Replica) → IsReplica a → tables.now ≡ tables_of a → IfErr result (λ e. e ≡ Refusal.OutOfMemory) }
+{
+    match are_read(alloc, tables) {
+        Ok(()) => copy_of(alloc, tables),
+        Err(refusal) => Err(refusal),
+    }
+}
+
+/// Reads each row, of which one that is out of its limits is refused.
+fn are_read(alloc: Global, tables: &Tables) -> Result<(), Refusal>
+    ensures only { (a : Replica) → IsReplica a → tables.now ≡ tables_of a → IfErr result (λ e. e ≡ Refusal.OutOfMemory) }
+{
+    board_with(alloc, tables)?;
+    are_logs_read(alloc, tables)
+}
+
+fn are_logs_read(alloc: Global, tables: &Tables) -> Result<(), Refusal>
+    ensures only { (a : Replica) → IsReplica a → tables.now ≡ tables_of a → IfErr result (λ e. e ≡ Refusal.OutOfMemory) }
+{
+    kept_rows(alloc, &tables.log)?;
+    Ok(())
+}
+
+fn copy_of(alloc: Global, tables: &Tables) -> Result<Tables, Refusal>
+    ensures copy { IfOk result (λ copy. copy ≡ tables.now) }
+    ensures only { IfErr result (λ e. e ≡ Refusal.OutOfMemory) }
+{
+    Ok(copied(alloc, tables)?)
+}
+
+/// Whether the numbers in the rows are within the limits of positions.
+fn is_within(tables: &Tables) -> bool
+    ensures { IsTrue result ↔ IsWithinLimits tables.now }
+{
+    let meta = tables.meta;
+    meta.commits <= 999_999_999_999 && are_within(&tables.vector)
+}
+
+fn are_within(rows: &[VectorRow]) -> bool
+    ensures { IsTrue result ↔ All (λ row. row.count ≤ 999_999_999) rows.now }
+{
+    rows.iter().all(|row| row.count <= 999_999_999)
+}
