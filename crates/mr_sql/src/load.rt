@@ -1,9 +1,10 @@
-ghost use Rattle.std.specs.Prelude.{◌≡◌, false, IfOk};
+ghost use Rattle.std.specs.Prelude.{◌≡◌, true, false, IfOk};
 ghost use Rattle.sqlite.specs.Held.{state};
+ghost use Rattle.mr_agree.specs.Agreeing.{agree};
 ghost use Rattle.mr_model.specs.Replica.{Replica, IsReplica};
 ghost use Rattle.mr_model.specs.Tables.{Stands, tables_of};
 ghost use Rattle.mr_model.specs.Scopes.{in_scope};
-ghost use Rattle.mr_kept.specs.Desk.{StandsFor, IsWithinLimits};
+ghost use Rattle.mr_replica.specs.Desk.{StandsFor, IsWithinLimits};
 ghost use Rattle.mr_part.specs.NextId.{id_given};
 ghost use Rattle.mr_part.specs.Parts.{IsPartOf};
 ghost use Rattle.mr_part.specs.ScopeOf.{scope_of};
@@ -14,6 +15,7 @@ ghost use Rattle.mr_rows.specs.Reads.{ReadsKept};
 
 use crate::next_ids::with_free_id;
 use crate::scope_rows::read_scope;
+use mr_audit::do_tables_agree;
 use mr_base::Refusal;
 use mr_part::{Part, Scope};
 use mr_replica::Desk;
@@ -43,6 +45,32 @@ pub(crate) fn load_desk<S: Alter>(conn: &mut Connection<S>, alloc: Global) -> Re
 {
     let tables = read_tables(conn, alloc)?;
     desk_of(alloc, &tables)
+}
+
+/// These tables, where their rows agree with each other.
+fn agreeing(alloc: Global, tables: Tables) -> Result<Tables, Error>
+    ensures same { IfOk result (λ agreeing. agreeing ≡ tables) }
+    ensures agree { IfOk result (λ agreeing. agree tables ≡ true) }
+{
+    match do_tables_agree(alloc, &tables) {
+        Ok(true) => Ok(tables),
+        Ok(false) => Err(Error::InvalidQuery),
+        Err(_) => Err(Error::SqliteFailure(ErrorCode::OutOfMemory)),
+    }
+}
+
+/// All tables of this database, where their rows agree with each other.
+pub(crate) fn read_agreeing<S: Alter>(
+    conn: &mut Connection<S>,
+    alloc: Global,
+) -> Result<Tables, Error>
+    requires autocommit { conn.old.in_transaction ≡ false }
+    ensures autocommit { conn.new.in_transaction ≡ false }
+    ensures reads { ReadsKept (state S.Store conn.old) (state S.Store conn.new) result (λ tables. tables ≡ tables_in (state S.Store conn.old).now.trees) }
+    ensures agree { IfOk result (λ tables. agree tables ≡ true) }
+{
+    let tables = read_tables(conn, alloc)?;
+    agreeing(alloc, tables)
 }
 
 fn part_of(alloc: Global, scope: &Scope<'_>, tables: &Tables) -> Result<Part, Error>

@@ -20,7 +20,6 @@ use crate::{answers, load};
 use mr_base::{Day, Refusal, RoomName, ServerId, WriteId};
 use mr_part::{Part, Scope};
 use mr_replica::Desk;
-use mr_rows::all_tables::read_tables;
 use mr_rows::changes;
 use mr_store::{Fault, Keeper};
 use mr_tables::{BookingRow, CancelRow, CancelledRow, Change, ErrorRow, MetaRow, PlaceRow, Tables};
@@ -142,7 +141,7 @@ impl<S: Alter> Keeper for SqlKeeper<S> {
     }
 
     fn read(&mut self) -> Result<Tables, Fault> {
-        match read_tables(&mut self.conn, self.alloc) {
+        match load::read_agreeing(&mut self.conn, self.alloc) {
             Ok(value) => Ok(value),
             Err(error) => Err(told(&mut self.failures, error)),
         }
