@@ -5,11 +5,10 @@ use Rattle.std.specs.List.{sum_by}
 use Rattle.std.proofs.lemmas.List.{length_push}
 use Rattle.std.proofs.lemmas.List.Elements.{All-push}
 use Rattle.std.proofs.lemmas.List.Sums.{sum_by_push}
-use Rattle.mr_tables.specs.Rise.{capped}
 use Rattle.mr_http.specs.declared.faults.WebFault.{WebFault}
 use Rattle.mr_net.specs.declared.ways.Round.{Round}
 use Rattle.mr_net.specs.declared.ways.Taken.{Taken}
-use Rattle.mr_net.specs.Ways.{asks_for_more, joined, total, greatest_rounds, Leads, IsWay}
+use Rattle.mr_net.specs.Ways.{asks_for_more, capped, joined, total, greatest_rounds, Leads, IsWay}
 
 -- one more round follows on those before it
 leads_on : {P : Type 0} (runs : P → Result Round WebFault → P → Type 0) (p m q : P) (rounds : List Round) (r : Round)

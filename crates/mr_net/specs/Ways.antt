@@ -1,9 +1,8 @@
 -- The rounds of a way of an exchange.
-use Rattle.std.specs.Prelude.{◌≡◌, ◌⊎◌, ℕ, ◌+◌, ◌<◌, Bool, true, false, ◌&&◌, ◌||◌, nat_lt, List, [], ◌∷◌, ◌++◌, length, All, Result, Ok, Err}
+use Rattle.std.specs.Prelude.{◌≡◌, ◌⊎◌, ℕ, ◌+◌, ◌<◌, Bool, true, false, ◌&&◌, ◌||◌, nat_lt, List, [], ◌∷◌, ◌++◌, length, min, All, Result, Ok, Err}
 use Rattle.std.specs.List.{sum_by}
 use Rattle.mr_base.specs.declared.batches.Ending.{Ending}
 use Rattle.mr_base.specs.declared.batches.Ending.TheVariants.{Complete, More, Cut}
-use Rattle.mr_tables.specs.Rise.{capped}
 use Rattle.mr_http.specs.declared.faults.WebFault.{WebFault}
 use Rattle.mr_net.specs.declared.ways.Round.{Round}
 use Rattle.mr_net.specs.declared.ways.Taken.{Taken}
@@ -21,6 +20,10 @@ asks_for_more round = is_more round.ending && (nat_lt 0 round.writes || nat_lt 0
 -- the greatest number of rounds
 abbrev pub greatest_rounds : ℕ
 greatest_rounds = 10_000
+
+-- a sum, of which a number of 64 bits tells no more than its greatest
+abbrev pub capped : ℕ → ℕ
+capped n = min n 18_446_744_073_709_551_615
 
 abbrev pub joined : Taken → Round → Taken
 joined taken round = record { writes = capped (taken.writes + round.writes); commits = capped (taken.commits + round.commits) }
