@@ -4,7 +4,8 @@
     counted.py [DOCUMENT..]   of these documents, or of all; needs no program
 
 A count is found where a document has it in one of the forms of COUNTS, as `28 crates in all`, in figures or words; a document with none passes. Tables are
-tested whole: that of refusals, of commands, of crates, of the files of tools/ and tests/. The last line counts what passed and failed.
+tested whole: that of refusals, of commands, of crates, of the files of tools/ and tests/. Each crate has a README, whose lines of use stand in the files
+that it links to, and whose items and clauses its sources have. The last line counts what passed and failed.
 """
 import os
 import re
@@ -17,6 +18,8 @@ TENS = 'twenty thirty forty fifty sixty seventy eighty ninety'.split()
 NUMBER = rf'(\d[\d,]*|(?:{"|".join(TENS)})(?:-(?:{"|".join(UNITS[1:10])}))?|{"|".join(UNITS[2:])})'
 # a path from the top of the repository; what has a capital word or `X` for a name stands for many
 PATH = re.compile(r'(?<![\w/.{$<-])((?:docs|deploy|tests|tools|bench|examples|crates|\.ci)/[\w./-]*\w)(?![*{<$\w])')
+# a path from the folder of a crate
+OWN_PATH = re.compile(r'`((?:src|specs|proofs)/[\w./-]*\w)`')
 STANDS_FOR_MANY = re.compile(r'/(?:X|[A-Z]{2,})(?:/|\.|_|$)|/out(?:/|$)')
 
 
@@ -79,6 +82,11 @@ COUNTS = (
 )
 
 
+# The most words: of each of these documents, and of those that stand at the top and in docs/ together.
+MOST_WORDS = {'docs/DECISIONS.md': 6500, 'docs/PERFORMANCE.md': 6500, 'docs/PROMISES.md': 6500}
+MOST_IN_ALL = 34_000
+
+
 def number(word):
     word = word.lower().replace(',', '')
     if word.isdigit():
@@ -131,6 +139,36 @@ class Counted:
         for told, name in set(re.findall(rf'\b(\d+) ({"|".join(names)})\b', text)):
             self.same(f'{document}: the number of {name}', int(told), names.index(name) + 1)
 
+    def words(self):
+        """The documents aren't longer than somebody reads."""
+        lengths = {it: len(text_of(it).split()) for it in FILES if re.fullmatch(r'(?:docs/)?\w+\.md', it)}
+        for document, most in MOST_WORDS.items():
+            self.same(f'{document}: {lengths[document]} words, at most {most}', lengths[document] <= most, True)
+        total = sum(lengths.values())
+        self.same(f'the documents: {total} words, at most {MOST_IN_ALL}', total <= MOST_IN_ALL, True)
+
+    def crate(self, crate):
+        """What the README of a crate shows and names is there."""
+        document = f'crates/{crate}/README.md'
+        self.same(f'{document} is there', document in FILES, True)
+        if document not in FILES:
+            return
+        text, folder = text_of(document), f'crates/{crate}'
+        for path in sorted(set(OWN_PATH.findall(text))):
+            self.same(f'{document}: {path} is there', os.path.exists(os.path.join(ROOT, folder, path)), True)
+        linked = [os.path.normpath(os.path.join(folder, it)) for it in re.findall(r'\]\(([^)#\s]+\.rt)\)', text)]
+        lines = {line.strip() for it in linked if it in FILES for line in text_of(it).splitlines()}
+        for block in re.findall(r'^```rust\n(.*?)^```', text, re.M | re.S):
+            self.same(f'{document}: lines of use that no linked file has', [it for it in block.splitlines() if it.strip() and it.strip() not in lines], [])
+        source = '\n'.join(text_of(it) for it in FILES if it.startswith((f'{folder}/src/', f'{folder}/specs/')))
+        for items, clauses in re.findall(r'^\| ((?:`[\w:]+`(?:,? |,? and )?)+) ?\| (.*) \|$', text, re.M):
+            for item in re.findall(r'`(?:\w+::)*(\w+)`', items):
+                declared = rf'\b(?:fn|struct|enum|trait|type|mod) {item}\b'
+                self.same(f'{document}: {item} is declared', bool(re.search(declared, source)), True)
+            for clause in re.findall(r'`([a-z_]+)`', ' '.join(re.findall(r'\(([^()]*)\)', clauses))):
+                named = rf'\bensures {clause} \{{|^\s*(?:pub )?(?:fn )?{clause}\b'
+                self.same(f'{document}: the clause {clause}', bool(re.search(named, source, re.M)), True)
+
     def tables(self):
         formats = text_of('docs/FORMATS.md')
         rows = re.findall(r'^\| (\d+) \| (\w+) \|', formats, re.M)
@@ -168,6 +206,9 @@ def main(words):
         counted.names_of_refusals(document, text)
     if not words:
         counted.tables()
+        counted.words()
+        for crate in crates():
+            counted.crate(crate)
     print(f'{counted.passed} passed, {counted.failed} failed')
     return 1 if counted.failed else 0
 
