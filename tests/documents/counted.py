@@ -5,7 +5,8 @@
 
 A count is found where a document has it in one of the forms of COUNTS, as `28 crates in all`, in figures or words; a document with none passes. Tables are
 tested whole: that of refusals, of commands, of crates, of the files of tools/ and tests/. Each crate has a README, whose lines of use stand in the files
-that it links to, and whose items and clauses its sources have. The last line counts what passed and failed.
+that it links to, and whose items and clauses its sources have; so do the crates of each section have what docs/PROMISES.md names there. The last line
+counts what passed and failed.
 """
 import os
 import re
@@ -163,11 +164,24 @@ class Counted:
         source = '\n'.join(text_of(it) for it in FILES if it.startswith((f'{folder}/src/', f'{folder}/specs/')))
         for items, clauses in re.findall(r'^\| ((?:`[\w:]+`(?:,? |,? and )?)+) ?\| (.*) \|$', text, re.M):
             for item in re.findall(r'`(?:\w+::)*(\w+)`', items):
-                declared = rf'\b(?:fn|struct|enum|trait|type|mod) {item}\b'
-                self.same(f'{document}: {item} is declared', bool(re.search(declared, source)), True)
+                self.same(f'{document}: {item} is declared', is_declared(item, source), True)
             for clause in re.findall(r'`([a-z_]+)`', ' '.join(re.findall(r'\(([^()]*)\)', clauses))):
-                named = rf'\bensures {clause} \{{|^\s*(?:pub )?(?:fn )?{clause}\b'
-                self.same(f'{document}: the clause {clause}', bool(re.search(named, source, re.M)), True)
+                self.same(f'{document}: the clause {clause}', is_declared(clause, source), True)
+
+    def promises(self):
+        """The functions, clauses and definitions that carry a promise are there."""
+        sources = {it: '' for it in crates()}
+        for file in FILES:
+            if re.fullmatch(r'crates/\w+/(?:src|specs)/.*\.(?:rt|antt)', file):
+                sources[file.split('/')[1]] += text_of(file)
+        sections = text_of('docs/PROMISES.md').partition('## Crate by crate')[2].partition('\n## ')[0].split('\n### ')[1:]
+        for head, _, body in (it.partition('\n') for it in sections):
+            for carried in re.findall(r'\[(.*)\]$', body, re.M):
+                named = [it for it in re.findall(r'`([^`]+)`', re.sub("the kit's `[^`]*`", '', carried)) if re.fullmatch(r'[\w:]+', it)]
+                own = {it for it in re.findall(r'`(\w+)`', head) + [it.split('::')[0] for it in named if '::' in it] if it in sources}
+                for name in sorted({it.split('::')[-1] for it in named if it not in sources}):
+                    is_there = any(is_declared(name, sources[it]) for it in own) or is_declared(name, sources['mr_convergence'])
+                    self.same(f'docs/PROMISES.md, {head}: {name} is there', is_there, True)
 
     def tables(self):
         formats = text_of('docs/FORMATS.md')
@@ -190,6 +204,12 @@ class Counted:
         self.same('no edit in a folder `must-fail`, as CONTRIBUTING.md says', [it for it in FILES if '/must-fail/' in it], [])
 
 
+def is_declared(name, source):
+    """Whether a source has an item, a definition, a field or a clause of this name."""
+    words = 'fn|struct|enum|trait|type|mod|record|data|abbrev pub|pub'
+    return bool(re.search(rf'\b(?:{words}) {name}\b|\bensures {name} \{{|^\s*{name} :', source, re.M))
+
+
 def headings(text):
     """The names by which links call the headings of a document."""
     found = re.findall(r'^#+ (.*)$', text, re.M)
@@ -207,6 +227,7 @@ def main(words):
     if not words:
         counted.tables()
         counted.words()
+        counted.promises()
         for crate in crates():
             counted.crate(crate)
     print(f'{counted.passed} passed, {counted.failed} failed')
