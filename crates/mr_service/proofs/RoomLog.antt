@@ -203,7 +203,7 @@ found_row r room id key own make table row in_table its_room its_id is =
 
 pub place_found : (r : Replica) (room : Text) (id : Id) (found : code.PlaceRow) → IsPlaceOf room id (tables_of r) (Some found) → IsRowOf r room id (place_row_of found)
 place_found r room id (place.Booked row) is = found_row r room id booking_id (λ x. x.room) rows.Booked (tables_of r).booking row (λ x a. a) (λ x. refl) (λ x. refl) is
-place_found r room id (place.Erred row) is = found_row r room id error_id (λ x. x.room) rows.Erred (tables_of r).errorlog row (λ x a. a) (λ x. refl) (λ x. refl) is.1
+place_found r room id (place.Logged row) is = found_row r room id error_id (λ x. x.room) rows.Erred (tables_of r).errorlog row (λ x a. a) (λ x. refl) (λ x. refl) is.1
 place_found r room id (place.Cancelled row) is = found_row r room id cancelled_id (λ x. x.room) rows.Cancelled (tables_of r).cancelled row (λ x a. a) (λ x. refl) (λ x. refl) is.2
 place_found r room id (place.Cancel row) is = found_row r room id cancel_id (λ x. x.room) rows.Cancel (tables_of r).cancels row (λ x a. a) (λ x. refl) (λ x. refl) is.3
 
@@ -241,6 +241,6 @@ cancel_found r room row found h a own is = go found is
         → (c : CancelRow) × (row_of_cancel o ≡ Some c) × (outcome_reply (told_of (cancelled_id row) (whole_list (view_of r room))) ≡ OutcomeIs (cancelled_outcome row c))
     go None at = absurd (none_is at)
     go (Some (place.Booked x)) at = absurd (let bad : rows.Booked x ≡ rows.Cancel cancel = same (rows.Booked x) (place_found r room row.by (place.Booked x) at) in cc bad)
-    go (Some (place.Erred x)) at = absurd (let bad : rows.Erred x ≡ rows.Cancel cancel = same (rows.Erred x) (place_found r room row.by (place.Erred x) at) in cc bad)
+    go (Some (place.Logged x)) at = absurd (let bad : rows.Erred x ≡ rows.Cancel cancel = same (rows.Erred x) (place_found r room row.by (place.Logged x) at) in cc bad)
     go (Some (place.Cancelled x)) at = absurd (let bad : rows.Cancelled x ≡ rows.Cancel cancel = same (rows.Cancelled x) (place_found r room row.by (place.Cancelled x) at) in cc bad)
     go (Some (place.Cancel x)) at = let of = place_found r room row.by (place.Cancel x) at in (x, refl, told.1 x of.there of.of_id)

@@ -72,7 +72,7 @@ TellsOutcomeOf room t p result =
 abbrev pub row_of_cancel : Option code.PlaceRow → Option CancelRow
 row_of_cancel None = None
 row_of_cancel (Some (place.Booked row)) = None
-row_of_cancel (Some (place.Erred row)) = None
+row_of_cancel (Some (place.Logged row)) = None
 row_of_cancel (Some (place.Cancelled row)) = None
 row_of_cancel (Some (place.Cancel row)) = Some row
 

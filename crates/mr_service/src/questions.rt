@@ -165,7 +165,7 @@ fn outcome_at<K: Keeper>(
 {
     match place {
         PlaceRow::Booked(row) => Ok(booked(row)),
-        PlaceRow::Erred(row) => Ok(logged(row)),
+        PlaceRow::Logged(row) => Ok(logged(row)),
         PlaceRow::Cancel(row) => Ok(cancel(row)),
         PlaceRow::Cancelled(row) => outcome_of_cancelled(keeper, room, row),
     }

@@ -18,7 +18,7 @@ use Rattle.mr_rows.specs.RowQuestions.{is_booking_asked}
 use Rattle.mr_rows.proofs.FirstLemmas.{bookings_apart, errors_apart, cancelled_apart, cancels_apart}
 use Rattle.mr_rows.proofs.ValueLemmas.{among_one, or_false}
 use Rattle.mr_store.specs.Picked.{is_day_asked, booking_before, AreBookings, find_booking, find_error, find_cancelled, find_cancel, IsPlaceOf}
-use Rattle.mr_tables.specs.declared.place_rows.PlaceRow.TheVariants.{Booked, Erred, Cancelled, Cancel}
+use Rattle.mr_tables.specs.declared.place_rows.PlaceRow.TheVariants.{Booked, Logged, Cancelled, Cancel}
 use Rattle.mr_sql.specs.PlaceOfId.{AreRowsOf, AreCancelRowsOf, cancel_row_in, taken_in, error_row_in, chosen}
 
 -- ---- a calendar
@@ -88,7 +88,7 @@ module _ (room : Text) (id : Id) (t : Tables) where
   erred_is None cancelled cancel unbooked e third last = taken_is cancelled cancel unbooked e third last
   erred_is (Some row) cancelled cancel unbooked e third last = go (bytes_eq row.room room) e
     where
-      go : (b : Bool) → find_error room id t ≡ cond b (Some row) None → IsPlaceOf room id t (cond b (Some (Erred row)) (taken_in room cancelled cancel))
+      go : (b : Bool) → find_error room id t ≡ cond b (Some row) None → IsPlaceOf room id t (cond b (Some (Logged row)) (taken_in room cancelled cancel))
       go true e = (unbooked, e)
       go false e = taken_is cancelled cancel unbooked e third last
 

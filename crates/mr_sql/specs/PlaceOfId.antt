@@ -5,7 +5,7 @@ use Rattle.mr_model.specs.Writes.{Id, same_id}
 use Rattle.mr_model.specs.Queries.{booking_id, error_id, cancelled_id, cancel_id}
 use Rattle.mr_model.specs.Tables.{BookingRow, ErrorRow, CancelledRow, CancelRow, Tables}
 use Rattle.mr_tables.specs.declared.place_rows.PlaceRow.{PlaceRow}
-use Rattle.mr_tables.specs.declared.place_rows.PlaceRow.TheVariants.{Booked, Erred, Cancelled, Cancel}
+use Rattle.mr_tables.specs.declared.place_rows.PlaceRow.TheVariants.{Booked, Logged, Cancelled, Cancel}
 
 -- what the tables of bookings have of an id
 abbrev pub AreRowsOf : Id → Tables → Option BookingRow → Option ErrorRow → Type 0
@@ -27,7 +27,7 @@ taken_in room (Some row) cancel = if bytes_eq row.room room then Some (Cancelled
 
 abbrev pub error_row_in : Text → Option ErrorRow → Option PlaceRow → Option PlaceRow
 error_row_in room None other = other
-error_row_in room (Some row) other = if bytes_eq row.room room then Some (Erred row) else other
+error_row_in room (Some row) other = if bytes_eq row.room room then Some (Logged row) else other
 
 abbrev pub chosen : Text → Option BookingRow → Option ErrorRow → Option PlaceRow → Option PlaceRow
 chosen room None error other = error_row_in room error other

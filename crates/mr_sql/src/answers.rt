@@ -263,7 +263,7 @@ fn choose(
     match booking {
         Some(row) if row.room == *room => Some(PlaceRow::Booked(row)),
         _ => match error {
-            Some(row) if row.room == *room => Some(PlaceRow::Erred(row)),
+            Some(row) if row.room == *room => Some(PlaceRow::Logged(row)),
             _ => other,
         },
     }

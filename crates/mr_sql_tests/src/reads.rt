@@ -61,7 +61,7 @@ fn place<K: Keeper>(keeper: &mut K, room: &RoomName, n: u32) -> Result<(u32, Kin
     let id = id(n)?;
     match keeper.place_of(room, id) {
         Ok(Some(PlaceRow::Booked(row))) => Ok((row.n, Kind::Booked)),
-        Ok(Some(PlaceRow::Erred(row))) => Ok((row.n, Kind::Logged)),
+        Ok(Some(PlaceRow::Logged(row))) => Ok((row.n, Kind::Logged)),
         Ok(Some(PlaceRow::Cancelled(row))) => Ok((row.n, Kind::Cancelled)),
         Ok(Some(PlaceRow::Cancel(row))) => Ok((row.n, Kind::Cancel)),
         _ => Ok((0, Kind::Nowhere)),

@@ -7,7 +7,7 @@ use Rattle.mr_model.specs.Writes.{Id, same_id}
 use Rattle.mr_model.specs.Tables.{BookingRow, ErrorRow, CancelledRow, CancelRow, Tables}
 use Rattle.mr_model.specs.Queries.{booking_id, error_id, cancelled_id, cancel_id}
 use Rattle.mr_tables.specs.declared.place_rows.PlaceRow.{PlaceRow}
-use Rattle.mr_tables.specs.declared.place_rows.PlaceRow.TheVariants.{Booked, Erred, Cancelled, Cancel}
+use Rattle.mr_tables.specs.declared.place_rows.PlaceRow.TheVariants.{Booked, Logged, Cancelled, Cancel}
 
 -- a day is asked for, or all days
 abbrev pub is_day_asked : Option Date → Date → Bool
@@ -54,7 +54,7 @@ abbrev pub IsPlaceOf : Text → Id → Tables → Option PlaceRow → Type 0
 IsPlaceOf room id t None =
     (find_booking room id t ≡ None) × (find_error room id t ≡ None) × (find_cancelled room id t ≡ None) × (find_cancel room id t ≡ None)
 IsPlaceOf room id t (Some (Booked row)) = find_booking room id t ≡ Some row
-IsPlaceOf room id t (Some (Erred row)) = (find_booking room id t ≡ None) × (find_error room id t ≡ Some row)
+IsPlaceOf room id t (Some (Logged row)) = (find_booking room id t ≡ None) × (find_error room id t ≡ Some row)
 IsPlaceOf room id t (Some (Cancelled row)) =
     (find_booking room id t ≡ None) × (find_error room id t ≡ None) × (find_cancelled room id t ≡ Some row)
 IsPlaceOf room id t (Some (Cancel row)) =

@@ -184,7 +184,7 @@ fn has_cancels<K: Keeper>(
 fn place_in(row: &Option<PlaceRow>) -> Place {
     match row {
         Some(PlaceRow::Booked(_)) => Place::Booked,
-        Some(PlaceRow::Erred(_)) => Place::Logged,
+        Some(PlaceRow::Logged(_)) => Place::Logged,
         Some(PlaceRow::Cancelled(_)) => Place::Cancelled,
         Some(PlaceRow::Cancel(_)) => Place::Cancel,
         None => Place::Nowhere,

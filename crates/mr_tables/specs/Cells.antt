@@ -5,7 +5,7 @@ use Rattle.mr_model.specs.Tables as tables
 use Rattle.mr_tables.specs.declared.log_rows.ActionCells.{ActionCells}
 use Rattle.mr_tables.specs.declared.log_rows.ActionCells.TheVariants.{OfMeeting, OfCancel}
 use Rattle.mr_tables.specs.declared.place_rows.PlaceRow.{PlaceRow}
-use Rattle.mr_tables.specs.declared.place_rows.PlaceRow.TheVariants.{Booked, Erred, Cancelled, Cancel}
+use Rattle.mr_tables.specs.declared.place_rows.PlaceRow.TheVariants.{Booked, Logged, Cancelled, Cancel}
 
 abbrev pub action_cells : ActionCells → tables.ActionCells
 action_cells (OfMeeting meeting) = tables.OfMeeting meeting
@@ -18,7 +18,7 @@ is_cancel_cells (tables.OfCancel target) = true
 
 abbrev pub place_row_of : PlaceRow → tables.PlaceRow
 place_row_of (Booked row) = tables.Booked row
-place_row_of (Erred row) = tables.Erred row
+place_row_of (Logged row) = tables.Erred row
 place_row_of (Cancelled row) = tables.Cancelled row
 place_row_of (Cancel row) = tables.Cancel row
 

@@ -14,7 +14,7 @@ use std::alloc::Global;
 #[derive(Debug, Drop)]
 pub enum PlaceRow {
     Booked(BookingRow),
-    Erred(ErrorRow),
+    Logged(ErrorRow),
     Cancelled(CancelledRow),
     Cancel(CancelRow),
 }
@@ -71,7 +71,7 @@ fn of_meeting(
     ensures only { IfErr result (λ e. e ≡ Refusal.OutOfMemory) }
 {
     let Some(slot) = slot else {
-        return Ok(PlaceRow::Erred(error_row(alloc, write, meeting, seq)?));
+        return Ok(PlaceRow::Logged(error_row(alloc, write, meeting, seq)?));
     };
     let row = booking_row(alloc, write, meeting, slot, committed)?;
     match by {

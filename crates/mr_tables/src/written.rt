@@ -145,7 +145,7 @@ pub fn put_row(change: &mut Change, row: PlaceRow) -> Result<(), Refusal>
 {
     match row {
         PlaceRow::Booked(row) => put_booking(change, row),
-        PlaceRow::Erred(row) => put_error(change, row),
+        PlaceRow::Logged(row) => put_error(change, row),
         PlaceRow::Cancelled(row) => put_cancelled(change, row),
         PlaceRow::Cancel(row) => {
             change.cancels.push(row)?;

@@ -12,11 +12,11 @@ returns-in-Booked g c =
       tells = λ u o. subst (λ p. TellsOutcomeOf c.args.room.now (g.K.Keeper.tables c.args.keeper.now) (place_row_of p) (Ok c.booked.result)) (sym c.in-Booked.is) (steps.booked_tells (g.K.Keeper.tables c.args.keeper.now) c.args.room.now c.in-Booked.row c.booked.result c.booked.ensures);
     }
 
-pub returns-in-Erred : goal.returns-in-Erred
-returns-in-Erred g c =
+pub returns-in-Logged : goal.returns-in-Logged
+returns-in-Logged g c =
     record {
       read = read_none g.K.Keeper c.args.keeper.now _;
-      tells = λ u o. subst (λ p. TellsOutcomeOf c.args.room.now (g.K.Keeper.tables c.args.keeper.now) (place_row_of p) (Ok c.logged.result)) (sym c.in-Erred.is) (steps.logged_tells (g.K.Keeper.tables c.args.keeper.now) c.args.room.now c.in-Erred.row c.logged.result c.logged.ensures);
+      tells = λ u o. subst (λ p. TellsOutcomeOf c.args.room.now (g.K.Keeper.tables c.args.keeper.now) (place_row_of p) (Ok c.logged.result)) (sym c.in-Logged.is) (steps.logged_tells (g.K.Keeper.tables c.args.keeper.now) c.args.room.now c.in-Logged.row c.logged.result c.logged.ensures);
     }
 
 pub returns-in-Cancel : goal.returns-in-Cancel
