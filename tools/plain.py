@@ -14,12 +14,30 @@ from toolchain import ROOT, command, crates
 
 PARTS = ("src", "specs", "proofs")
 # `rt must-fail` counts as refused too what is refused since a proof names what the edit took away
-REFUSED = re.compile(r"refused, as it must be(?! \(only because a proof file names)")
+REFUSED = re.compile(r"refused, as it must be(?! \(only because a proof file names)(?:: (.*))?")
+ERROR = re.compile(r"(?:\./)?(\S+?):\d+:\d+: error: (.*)")
+OPEN = re.compile(r"note: \S+:\d+:\d+: it is not proved that ")
+# What the prover says, but for what stands in backquotes, of a name or a field that isn't there, of a text that it can't read, and of a declaration that
+# rests on one that it refused.
+NAMES = re.compile(
+    r"\bhas no\b|^:? ?record\b|is not in scope|is no name|operand is missing|expected the end|cannot continue|was not admitted"
+    r"|was rejected, (?:was|were) not checked|^\d+ declarations? that depends? on"
+)
 
 
 def text_of(file):
     with open(file, encoding="utf-8") as it:
         return it.read()
+
+
+def is_by_names(error):
+    """Whether the prover refuses a declaration so for a name that isn't there, or for another declaration, and not for a goal that stays open."""
+    return NAMES.search(re.sub(r"`[^`]*`", "", error)) is not None
+
+
+def has_open_goal(lines):
+    """Whether the prover, which printed these lines, refuses a goal."""
+    return any(OPEN.match(it) or (found := ERROR.match(it)) and not is_by_names(found[2]) for it in lines)
 
 
 def call(words, folder, out=None):
@@ -128,8 +146,11 @@ def in_must_fail(top, edits):
     told = {it: re.search(rf"\bmust-fail {re.escape(it.name)}: (.*)", printed) for it in edits}
     found = []
     for edit in edits:
-        if told[edit] and REFUSED.match(told[edit][1]):
-            found.append((edit, ""))
+        refused = told[edit] and REFUSED.match(told[edit][1])
+        if refused:
+            # (only the first line of what is refused stands there)
+            is_shown = not refused[1] or has_open_goal([refused[1]]) or has_open_goal(check_lines(top, edit))
+            found.append((edit, "" if is_shown else f"refused by names alone: {refused[1]}"))
         elif status == 0 and not told[edit] or must_fail(top, [edit])[0] == 0 and not (told[edit] and told[edit][1].startswith("refused")):
             found.append((edit, ""))
         else:
@@ -148,6 +169,14 @@ def must_fail(top, edits):
         return call(["must-fail", name], top)
     finally:
         shutil.rmtree(folder)
+
+
+def check_lines(top, edit):
+    """What a check of the crate with this edit prints."""
+    own = edit.turn(top)
+    _, printed = call(["check", "--jobs", "1"], f"{top}/crates/{edit.crate.name}") if own else (None, "")
+    put(own or {})
+    return printed.split("\n")
 
 
 def in_place(top, edits):
