@@ -40,10 +40,10 @@ pub record Grows (p q : Replica) : Type 0 where
   pub known : (w : Write) → Has w p.known → Has w q.known
   pub rooms : (t : Text) → Has t p.rooms → Has t q.rooms
 
-grows-not : (p : Replica) → IsReplica p → Grows p p
+pub grows-not : (p : Replica) → IsReplica p → Grows p p
 grows-not p sound = record { sound = sound; number = refl; gone = refl; known = λ w h. h; rooms = λ t h. h }
 
-grows-more : (p q r : Replica) → Grows p q → Grows q r → Grows p r
+pub grows-more : (p q r : Replica) → Grows p q → Grows q r → Grows p r
 grows-more p q r f g =
     record { sound = g.sound; number = f.number ∙ g.number; gone = f.gone ∙ g.gone; known = λ w h. g.known w (f.known w h); rooms = λ t h. g.rooms t (f.rooms t h) }
 

@@ -26,13 +26,13 @@ use Rattle.mr_tables.proofs.Summaries.{tally-of}
 -- ---- the kept writes
 
 -- a dropped write isn't kept
-dropped_out : (r : Replica) (id : Id) → IsReplica r → is_dropped r id ≡ true → write_with_id (kept_in_order r) id ≡ None
+pub dropped_out : (r : Replica) (id : Id) → IsReplica r → is_dropped r id ≡ true → write_with_id (kept_in_order r) id ≡ None
 dropped_out r id sound dropped =
     find_none (λ w. same_id (id_of w) id) (kept_in_order r)
     (λ v h. false_from_ne_true (same_id (id_of v) id) (λ s. true≢false (sym dropped ∙ ap (is_dropped r) (sym (same_id-true (id_of v) id s)) ∙ (kept_known r v sound h).1)))
 
 -- another known write is
-kept_in : (r : Replica) (id : Id) → IsReplica r → 1 ≤ id.n → id.n ≤ count_of r id.server → is_dropped r id ≡ false → (write_with_id (kept_in_order r) id ≡ write_with r id) × ((w : Write) × (write_with r id ≡ Some w))
+pub kept_in : (r : Replica) (id : Id) → IsReplica r → 1 ≤ id.n → id.n ≤ count_of r id.server → is_dropped r id ≡ false → (write_with_id (kept_in_order r) id ≡ write_with r id) × ((w : Write) × (write_with r id ≡ Some w))
 kept_in r id sound low high kept =
     let (w, known, e) = known_at r id sound low high in
     let there = with_id r w id sound known e in
@@ -47,7 +47,7 @@ JudgedWrite line p w (Ok true) = (take_write line p w ≡ Ok (with_new_write p w
 JudgedWrite line p w (Ok false) = take_write line p w ≡ Ok p
 JudgedWrite line p w (Err e) = take_write line p w ≡ Err (refusal_of e)
 
-low_number : (w : Write) → IsTrue (is_write w) → 1 ≤ w.stamp.n
+pub low_number : (w : Write) → IsTrue (is_write w) → 1 ≤ w.stamp.n
 low_number w h = let stamp = (within w h).stamp in grind (arith, nat_tests)
 
 pub small_server : (w : Write) → IsTrue (is_write w) → w.stamp.server < 100

@@ -36,7 +36,7 @@ inside_named a items x w h e =
 
 -- ---- writes
 
-find_filtered : {A : Type 0} (p q : A → Bool) (xs : List A) → ((x : A) → Has x xs → p x ≡ true → q x ≡ true) → find p (filter q xs) ≡ find p xs
+pub find_filtered : {A : Type 0} (p q : A → Bool) (xs : List A) → ((x : A) → Has x xs → p x ≡ true → q x ≡ true) → find p (filter q xs) ≡ find p xs
 find_filtered p q [] f = refl
 find_filtered {A} p q (x ∷ xs) f = go (p x) refl (q x) refl (find_filtered p q xs (λ y h. f y (inr h)))
   where
@@ -65,15 +65,12 @@ unwrap d None = d
 unwrap d (Some x) = x
 
 -- the kept write of an id that is named has a number that is known and kept just where the commit of that number is of this id
-commit_there : (a : Replica) (items : List Item) (inside : Write → Bool) (c : Candidate) (p : Progress) (q : ℕ) (id : Id) → IsReplica p.replica → CoversScope a items inside → ShowsTaken a inside c p → Has (C q id) items → p.replica.dropped < q → q ≤ length p.replica.commits
-    → is_number_of q (logged_at c.kept id) ≡ is_that_id (slice_get p.replica.commits (q - 1)) id
-commit_there a items inside c p q id sound covers shows h low high =
-    let (w, kept, commit) = commit_at p.replica q sound low high in
-    ap (is_number_of q) (shows.kept id) ∙ go w kept commit (same_id (id_of w) id) refl (write_with_id (filter inside (kept_in_order r)) id) refl ∙ ap (λ o. is_that_id o id) (sym commit)
+pub number_there : (a : Replica) (items : List Item) (inside : Write → Bool) (r : Replica) (q : ℕ) (id : Id) → IsReplica r → CoversScope a items inside → Has (C q id) items → r.dropped < q → q ≤ length r.commits
+    → is_number_of q (option_map (numbered_of r) (write_with_id (filter inside (kept_in_order r)) id)) ≡ is_that_id (slice_get r.commits (q - 1)) id
+number_there a items inside r q id sound covers h low high =
+    let (w, kept, commit) = commit_at r q sound low high in
+    go w kept commit (same_id (id_of w) id) refl (write_with_id (filter inside (kept_in_order r)) id) refl ∙ ap (λ o. is_that_id o id) (sym commit)
   where
-    r : Replica
-    r = p.replica
-
     one : (1 + (q - 1)) ≡ q
     one = omega (arith, low)
 
@@ -96,6 +93,10 @@ commit_there a items inside c p q id sound covers shows h low high =
         ap (λ u. is_number_of q (option_map (numbered_of r) u)) (sym is ∙ found) ∙ eq-eqb (seq_of r w) q (number w commit)
     go w kept commit false e None is = refl
     go w kept commit false e (Some v) is = numbered w v commit (find_has (λ u. same_id (id_of u) id) v (filter inside (kept_in_order r)) is).1 e (seq_of r v == q) refl
+
+commit_there : (a : Replica) (items : List Item) (inside : Write → Bool) (c : Candidate) (p : Progress) (q : ℕ) (id : Id) → IsReplica p.replica → CoversScope a items inside → ShowsTaken a inside c p → Has (C q id) items → p.replica.dropped < q → q ≤ length p.replica.commits
+    → is_number_of q (logged_at c.kept id) ≡ is_that_id (slice_get p.replica.commits (q - 1)) id
+commit_there a items inside c p q id sound covers shows h low high = ap (is_number_of q) (shows.kept id) ∙ number_there a items inside p.replica q id sound covers h low high
 
 pub commit_judged : (line : ℕ) (a : Replica) (items : List Item) (inside : Write → Bool) (c : Candidate) (q : ℕ) (id : Id) (p : Progress) (v : Result Bool Refusal) → IsReplica p.replica → id.server < 100 → Has (C q id) items → CoversScope a items inside → ShowsTaken a inside c p → v ≡ logged_commit_verdict line c.summary c.kept q id → JudgedCommit line p q id v
 commit_judged line a items inside c q id p v sound small h covers shows e =

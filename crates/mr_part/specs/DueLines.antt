@@ -1,55 +1,97 @@
--- Which line of a batch the numbers of a replica refuse, whatever its kept writes are.
-use Rattle.std.specs.Prelude.{◌≡◌, ℕ, ◌+◌, nat_le, if◌then◌else◌, Bool, false, List, [], ◌∷◌, take, slice_get, Option, Some, None, Result, Ok, Err}
+-- Why the first line of a batch that is refused is refused, by the numbers and the kept writes of a replica before the batch, and by the batch itself.
+use Rattle.std.specs.Prelude.{◌≡◌, ℕ, ◌+◌, ◌==◌, nat_lt, if◌then◌else◌, Bool, false, List, [], ◌∷◌, find, Option, Some, None, Result, Ok, Err}
+use Rattle.std.specs.BTreeMap.{BTreeMap, get}
+use Rattle.std.specs.Option.{option_map}
+use Rattle.mr_model.specs.Writes.{Id, Write, id_of, same_id}
 use Rattle.mr_model.specs.Refusals as model
 use Rattle.mr_model.specs.Exchange.{Item, W, C}
-use Rattle.mr_model.specs.Replica.{Replica}
-use Rattle.mr_model.specs.Taking.{Progress, take_item, take_items}
+use Rattle.mr_model.specs.Taking.{is_that_id}
+use Rattle.mr_base.specs.Ids.{id_cmp}
 use Rattle.mr_base.specs.RefusalViews.{refusal_of}
 use Rattle.mr_base.specs.declared.refusals.Refusal.{Refusal}
 use Rattle.mr_tables.specs.declared.summary.Summary.{Summary}
 use Rattle.mr_tables.specs.Summary.{tally_at, noted_write, noted_commit}
+use Rattle.mr_part.specs.declared.kept_rows.KeptRow.{KeptRow}
 use Rattle.mr_part.specs.Candidate.{write_verdict_with, commit_verdict}
-use Rattle.mr_part.specs.Desk.{nothing_taken}
-
--- the first line that isn't new is refused so, and not for what it says of a known write or commit
-pub record IsDueLine (a : Replica) (items : List Item) (r : model.Refusal) : Type 0 where
-  pub before : ℕ  -- how many items
-  pub item : Item
-  pub reached : Progress
-  pub there : slice_get items before ≡ Some item
-  pub taken : take_items (take before items) 2 (Ok (nothing_taken a)) ≡ Ok reached
-  pub new : reached.writes + reached.commits ≡ before
-  pub refused : take_item (2 + before) reached item ≡ Err r
-  pub otherwise : ¬ (r ≡ model.Forged (2 + before))
 
 -- the answer is this refusal
 abbrev pub IsRefused : {T : Type 0} → Result T Refusal → model.Refusal → Type 0
 IsRefused (Ok x) r = ⊥
 IsRefused (Err e) r = refusal_of e ≡ r
 
--- ---- by numbers
+-- ---- kept rows by ids
 
--- the numbers count the write or the commit
-abbrev pub is_known_item : Summary → Item → Bool
-is_known_item s (W w) = nat_le w.stamp.n (tally_at s.tallies w.stamp.server).count
-is_known_item s (C seq id) = nat_le seq s.commits
+abbrev pub row_with_id : List KeptRow → Id → Option KeptRow
+row_with_id rows id = find (λ row. same_id (id_of row.write) id) rows
 
--- what becomes of one that they don't count
-abbrev pub verdict_of : ℕ → Summary → Item → Result Bool Refusal
-verdict_of line s (W w) = write_verdict_with line (tally_at s.tallies w.stamp.server) s.server None w
-verdict_of line s (C seq id) = commit_verdict line s false seq id
+-- whether there is such a row, and its write has this commit number
+abbrev pub is_row_number : ℕ → Option KeptRow → Bool
+is_row_number q None = false
+is_row_number q (Some row) = row.seq == q
 
--- and the numbers behind it
+-- where the first row of an id stands, if the first row stands at this place
+abbrev pub place_from : ℕ → List KeptRow → Id → Option ℕ
+place_from k [] id = None
+place_from k (row ∷ rows) id = if same_id (id_of row.write) id then Some k else place_from (k + 1) rows id
+
+abbrev pub ArePlaces : BTreeMap Id ℕ → List KeptRow → Type 0
+ArePlaces places rows = (id : Id) → get id_cmp places id ≡ place_from 0 rows id
+
+abbrev pub ArePlacesIfAny : Option (BTreeMap Id ℕ) → List KeptRow → Type 0
+ArePlacesIfAny None rows = Unit {0}
+ArePlacesIfAny (Some places) rows = ArePlaces places rows
+
+-- ---- what a batch brings itself
+
+-- the first write of an id
+abbrev pub brought_write : List Item → Id → Option Write
+brought_write [] id = None
+brought_write (W w ∷ xs) id = if same_id (id_of w) id then Some w else brought_write xs id
+brought_write (C seq other ∷ xs) id = brought_write xs id
+
+-- the id in the first commit of a number
+abbrev pub brought_commit : List Item → ℕ → Option Id
+brought_commit [] q = None
+brought_commit (W w ∷ xs) q = brought_commit xs q
+brought_commit (C seq id ∷ xs) q = if seq == q then Some id else brought_commit xs q
+
+-- ---- line by line: `n` are the numbers behind the lines before, `s` and `rows` those and the kept writes before the batch, `all` are its items
+
+-- the write with which one is compared if it is known
+abbrev pub known_write : Summary → Summary → List KeptRow → List Item → Write → Option Write
+known_write n s rows all w =
+    if nat_lt (tally_at n.tallies w.stamp.server).count w.stamp.n then None
+    else (if nat_lt (tally_at s.tallies w.stamp.server).count w.stamp.n then brought_write all (id_of w)
+    else option_map (λ row. row.write) (row_with_id rows (id_of w)))
+
+abbrev pub verdict_on_write : ℕ → Summary → Summary → List KeptRow → List Item → Write → Result Bool Refusal
+verdict_on_write line n s rows all w = write_verdict_with line (tally_at n.tallies w.stamp.server) n.server (known_write n s rows all w) w
+
+-- whether the commit of a number is known, and of this id
+abbrev pub is_known_commit : Summary → Summary → List KeptRow → List Item → ℕ → Id → Bool
+is_known_commit n s rows all q id =
+    if nat_lt n.commits q then false
+    else (if nat_lt s.commits q then is_that_id (brought_commit all q) id
+    else is_row_number q (row_with_id rows id))
+
+abbrev pub verdict_on : ℕ → Summary → Summary → List KeptRow → List Item → Item → Result Bool Refusal
+verdict_on line n s rows all (W w) = verdict_on_write line n s rows all w
+verdict_on line n s rows all (C q id) = commit_verdict line n (is_known_commit n s rows all q id) q id
+
+-- the numbers behind an item
 abbrev pub noted_item : Summary → Item → Summary
-noted_item s (W w) = noted_write s w.stamp
-noted_item s (C seq id) = noted_commit s id
+noted_item n (W w) = noted_write n w.stamp
+noted_item n (C seq id) = noted_commit n id
 
-abbrev pub due_behind : Result Bool Refusal → Option Refusal → Option Refusal
-due_behind (Ok new) rest = rest
+abbrev pub noted_if : Bool → Summary → Item → Summary
+noted_if is_new n x = if is_new then noted_item n x else n
+
+-- a refusal, or what is told of the other lines
+abbrev pub due_behind : Result Bool Refusal → (Bool → Option Refusal) → Option Refusal
+due_behind (Ok is_new) rest = rest is_new
 due_behind (Err e) rest = Some e
 
 -- of items, the first of which stands in the line of this number
-abbrev pub due_from : ℕ → Summary → List Item → Option Refusal
-due_from line s [] = None
-due_from line s (x ∷ xs) =
-    if is_known_item s x then None else due_behind (verdict_of line s x) (due_from (line + 1) (noted_item s x) xs)
+abbrev pub due_from : ℕ → Summary → Summary → List KeptRow → List Item → List Item → Option Refusal
+due_from line n s rows all [] = None
+due_from line n s rows all (x ∷ xs) = due_behind (verdict_on line n s rows all x) (λ is_new. due_from (line + 1) (noted_if is_new n x) s rows all xs)

@@ -1,62 +1,148 @@
-ghost use Rattle.std.specs.Prelude.{◌≡◌, ◌+◌, ◌<◌, ◌^◌, None, IfSome, map, length};
+ghost use Rattle.std.specs.Prelude.{◌≡◌, ◌+◌, ◌<◌, ◌^◌, IfSome, map, length};
 ghost use Rattle.mr_base.specs.Batches.{item_of};
-ghost use Rattle.mr_part.specs.DueLines.{is_known_item, verdict_of, noted_item, due_from, due_behind};
+ghost use Rattle.mr_part.specs.Desk.{NeverStore};
+ghost use Rattle.mr_part.specs.DueLines.{ArePlacesIfAny, due_from, noted_if, verdict_on, verdict_on_write, is_known_commit};
 
+use crate::brought::{brought_commit, brought_write};
 use crate::judge::{judge_commit, judge_write};
-use mr_base::{Item, Refusal};
+use crate::kept_rows::KeptRow;
+use crate::row_places::{RowPlaces, find_row, places_if_any};
+use mr_base::{Item, Refusal, Write, WriteId};
 use mr_tables::summary::Summary;
+use std::alloc::Global;
 
-/// Why a line of a batch is refused where these numbers tell it: it isn't known, and the lines before it are new. It takes no
-/// memory. The kept writes judge a line that is known, and so the lines behind it; of these it answers `None`.
-pub fn due_line(summary: &Summary, items: &[Item]) -> Option<Refusal>
-    ensures due { length items.now + 2 < 2 ^ 64 → result ≡ due_from 2 summary.now (map item_of items.now) }
+/// Why the first line of a batch that is refused is refused, by the numbers and kept writes before it. That doesn't hang on memory: where it takes
+/// no places of the kept writes, they are searched one after the other. A batch that repeats a line of its own is searched so too.
+pub(crate) fn due_line(
+    alloc: Global,
+    summary: &Summary,
+    kept: &[KeptRow],
+    items: &[Item],
+) -> Option<Refusal>
+    ensures due { length items.now + 2 < 2 ^ 64
+        → result ≡ due_from 2 summary.now summary.now kept.now (map item_of items.now) (map item_of items.now) }
+    ensures own { IfSome result (λ e. ¬ (e ≡ Refusal.Store)) }
+{
+    let places = places_if_any(alloc, kept);
+    due_with(summary, kept, &places, items)
+}
+
+/// The same, by these places of the kept writes.
+fn due_with(
+    summary: &Summary,
+    kept: &[KeptRow],
+    places: &Option<RowPlaces>,
+    items: &[Item],
+) -> Option<Refusal>
+    ensures due { ArePlacesIfAny places.now kept.now → length items.now + 2 < 2 ^ 64
+        → result ≡ due_from 2 summary.now summary.now kept.now (map item_of items.now) (map item_of items.now) }
     ensures own { IfSome result (λ e. ¬ (e ≡ Refusal.Store)) }
 {
     let mut numbers = *summary;
     for (k, item) in items.iter().enumerate() {
-        if is_known(&numbers, item) {
-            return None;
+        let line = (k as u64).saturating_add(2);
+        match verdict_on(summary, &numbers, kept, places, items, line, item) {
+            Ok(is_new) => note(&mut numbers, item, is_new),
+            Err(refusal) => return Some(refusal),
         }
-        let fault = fault_of(&numbers, (k as u64).saturating_add(2), item);
-        if fault.is_some() {
-            return fault;
-        }
-        note(&mut numbers, item);
     }
     None
 }
 
-/// Whether the numbers count the write or the commit already.
-fn is_known(numbers: &Summary, item: &Item) -> bool
-    ensures { result ≡ is_known_item numbers.now (item_of item.now) }
+/// Whether this item is new or known, or why it is refused. The numbers are those behind the items before it.
+fn verdict_on(
+    summary: &Summary,
+    numbers: &Summary,
+    kept: &[KeptRow],
+    places: &Option<RowPlaces>,
+    items: &[Item],
+    line: u64,
+    item: &Item,
+) -> Result<bool, Refusal>
+    ensures verdict { ArePlacesIfAny places.now kept.now
+        → result ≡ verdict_on line numbers.now summary.now kept.now (map item_of items.now) (item_of item.now) }
+    ensures own { NeverStore result }
 {
     match item {
-        Item::W(write) => write.stamp.n <= numbers.tally(write.stamp.server).count,
-        Item::C { seq, id: _ } => seq.number() <= numbers.commits,
+        Item::W(write) => verdict_on_write(summary, numbers, kept, places, items, line, write),
+        Item::C { seq, id } => {
+            let is_there = is_known_commit(
+                summary,
+                numbers,
+                kept,
+                places,
+                items,
+                seq.number(),
+                *id,
+            );
+            judge_commit(numbers, line, *seq, *id, is_there)
+        }
     }
 }
 
-/// Why the numbers refuse an item in this line that they don't count.
-fn fault_of(numbers: &Summary, line: u64, item: &Item) -> Option<Refusal>
-    ensures due { result ≡ due_behind (verdict_of line numbers.now (item_of item.now)) None }
-    ensures own { IfSome result (λ e. ¬ (e ≡ Refusal.Store)) }
+/// A write that is known is compared with the one that is kept or came before.
+fn verdict_on_write(
+    summary: &Summary,
+    numbers: &Summary,
+    kept: &[KeptRow],
+    places: &Option<RowPlaces>,
+    items: &[Item],
+    line: u64,
+    write: &Write,
+) -> Result<bool, Refusal>
+    ensures verdict { ArePlacesIfAny places.now kept.now
+        → result ≡ verdict_on_write line numbers.now summary.now kept.now (map item_of items.now) write.now }
+    ensures own { NeverStore result }
 {
-    let verdict = match item {
-        Item::W(write) => judge_write(numbers, line, write, None),
-        Item::C { seq, id } => judge_commit(numbers, line, *seq, *id, false),
-    };
-    match verdict {
-        Ok(_) => None,
-        Err(refusal) => Some(refusal),
+    let stamp = write.stamp;
+    if stamp.n > numbers.tally(stamp.server).count {
+        return judge_write(numbers, line, write, None);
+    }
+    if stamp.n > summary.tally(stamp.server).count {
+        return judge_write(numbers, line, write, brought_write(items, stamp.id()));
+    }
+    match find_row(kept, places, stamp.id()) {
+        Some(row) => judge_write(numbers, line, write, Some(&row.write)),
+        None => judge_write(numbers, line, write, None),
     }
 }
 
-/// Counts a new item.
-fn note(numbers: &mut Summary, item: &Item)
-    ensures { numbers.new ≡ noted_item numbers.old (item_of item.now) }
+/// Whether the commit of this number is known, and of this id.
+fn is_known_commit(
+    summary: &Summary,
+    numbers: &Summary,
+    kept: &[KeptRow],
+    places: &Option<RowPlaces>,
+    items: &[Item],
+    number: u64,
+    id: WriteId,
+) -> bool
+    ensures { ArePlacesIfAny places.now kept.now
+        → result ≡ is_known_commit numbers.now summary.now kept.now (map item_of items.now) number id }
 {
-    match item {
-        Item::W(write) => numbers.note_write(write.stamp),
-        Item::C { seq: _, id } => numbers.note_commit(*id),
+    if number > numbers.commits {
+        return false;
+    }
+    if number > summary.commits {
+        return match brought_commit(items, number) {
+            Some(other) => other == id,
+            None => false,
+        };
+    }
+    match find_row(kept, places, id) {
+        Some(row) => row.seq == number,
+        None => false,
+    }
+}
+
+/// Counts an item that is new.
+fn note(numbers: &mut Summary, item: &Item, is_new: bool)
+    ensures { numbers.new ≡ noted_if is_new numbers.old (item_of item.now) }
+{
+    if is_new {
+        match item {
+            Item::W(write) => numbers.note_write(write.stamp),
+            Item::C { seq: _, id } => numbers.note_commit(*id),
+        }
     }
 }

@@ -2,9 +2,9 @@ ghost use Rattle.std.specs.Prelude.{◌≡◌, ◌≢◌, ◌+◌, ◌<◌, ◌^
 ghost use Rattle.std.specs.List.{list_all};
 ghost use Rattle.mr_model.specs.Exchange.{Second, is_item, Header};
 ghost use Rattle.mr_model.specs.Moving.{may_move};
-ghost use Rattle.mr_model.specs.Refusals.{Refusal as RefusalOfLine};
+ghost use Rattle.mr_model.specs.Refusals.{Refusal as RefusalOfBatch};
 ghost use Rattle.mr_model.specs.Replica.{Replica, IsReplica, tentative};
-ghost use Rattle.mr_model.specs.Replies.{Took};
+ghost use Rattle.mr_model.specs.Replies.{Refused, Took};
 ghost use Rattle.mr_model.specs.Scopes.{OfItems};
 ghost use Rattle.mr_model.specs.Step.{receive_batch, after_items};
 ghost use Rattle.mr_model.specs.Taking.{take_items};
@@ -12,7 +12,7 @@ ghost use Rattle.mr_model.specs.View.{place_of};
 ghost use Rattle.mr_base.specs.Batches.{item_of};
 ghost use Rattle.mr_tables.specs.Change.{ChangeView};
 ghost use Rattle.mr_part.specs.Desk.{NeverStore, nothing_taken};
-ghost use Rattle.mr_part.specs.DueLines.{IsDueLine, IsRefused};
+ghost use Rattle.mr_part.specs.DueLines.{IsRefused};
 ghost use Rattle.mr_part.specs.Moves.{AreTouched};
 ghost use Rattle.mr_part.specs.PartMoves.{AnswersItems, AreUndone};
 ghost use Rattle.mr_part.specs.Parts.{IsPartOf, TakesPart};
@@ -34,11 +34,11 @@ impl Part {
     /// changes in the tables. The part is used up: what it has is moved, and not copied.
     pub fn receive(self, batch: &Batch) -> Result<(u64, u64, Change), Refusal>
         ensures step { TakesPart (OfItems batch.now.items) (λ a. receive_batch a batch.now) (λ _ taken. Took taken.0 taken.1) (λ taken. taken.2) self result }
-        // A batch without a header takes no memory, nor does a refusal that is due for the header, or by numbers for a line.
+        // A batch without a header takes no memory, nor does a refusal, be it for the header or for a line.
         ensures empty { batch.now.header ≡ None → (change : ChangeView) × (result ≡ Ok (0, 0, change)) }
         ensures due { (h : Header) → batch.now.header ≡ Some h → h.primary ≢ self.summary.primary → result ≡ Err Refusal.WrongPrimary }
-        ensures due_line { (a : Replica) (h : Header) (r : RefusalOfLine) → IsReplica a → IsPartOf self (OfItems batch.now.items) a
-            → batch.now.header ≡ Some h → h.primary ≡ self.summary.primary → IsDueLine a batch.now.items r → IsRefused result r }
+        ensures refused { (a : Replica) (r : RefusalOfBatch) → IsReplica a → IsPartOf self (OfItems batch.now.items) a
+            → (receive_batch a batch.now).reply ≡ Refused r → IsRefused result r }
         ensures own { NeverStore result }
     {
         batch.is_within_limits();
@@ -48,7 +48,7 @@ impl Part {
         if header.primary != self.summary.primary {
             return Err(Refusal::WrongPrimary);
         }
-        if let Some(refusal) = due_line(&self.summary, &batch.items) {
+        if let Some(refusal) = due_line(self.alloc, &self.summary, &self.kept, &batch.items) {
             return Err(refusal);
         }
         let taken = self.take_items(&batch.items)?;
