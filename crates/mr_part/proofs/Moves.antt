@@ -1,5 +1,5 @@
 -- What a batch undoes and executes anew, picked from lists of kept writes.
-use Rattle.std.proofs.Common.{◌≡◌, sym, ap, ◌∙◌, subst, ℕ, zero, suc, ◌+◌, ◌<◌, ◌≤◌, Bool, true, false, cond, ◌&&◌, ◌||◌, ◌==◌, ltb, List, [], ◌∷◌, ◌++◌, length, get_or, drop, map, ◌⊎◌, inl, inr, Some, append_assoc, append-nil, arith, refl, leb, le-leb, lt-ltb, ltb-true, eq-eqb, eqb-true}
+use Rattle.std.proofs.Common.{◌≡◌, sym, ap, ◌∙◌, subst, ℕ, ◌+◌, ◌<◌, ◌≤◌, Bool, true, false, cond, ◌&&◌, ◌||◌, ◌==◌, ltb, List, [], ◌∷◌, ◌++◌, length, get_or, drop, map, ◌⊎◌, inl, inr, Some, append_assoc, append-nil, arith, refl, leb, le-leb, lt-ltb, ltb-true, eq-eqb, eqb-true}
 use Rattle.std.proofs.lemmas.List.{get_or-map, at_drop_all, length-append, length-map}
 use Rattle.std.proofs.lemmas.Bool.{true≢false, cond-true, cond-false, false_from_ne_true, and_parts, and_from, or_left, or_right}
 use Rattle.std.proofs.lemmas.List.Elements.{filter-append}

@@ -10,7 +10,7 @@ use Rattle.mr_model.specs.Writes.{Id, Write, same_id}
 use Rattle.mr_model.specs.Exchange.{Item, W, C}
 use Rattle.mr_model.proofs.CommittedPlaces.{same_id_comm}
 use Rattle.mr_part.specs.declared.touched.Touched.{Touched}
-use Rattle.mr_part.specs.Sets.{has_id, has_room, AreSameRooms}
+use Rattle.mr_part.specs.Sets.{has_id, has_room, IsSetOf, AreSameRooms}
 use Rattle.mr_part.specs.Touched.{commits_id, writes_in, IsTouchedBy}
 use Rattle.mr_part.proofs.Sets.{set_of_keys}
 
@@ -72,8 +72,12 @@ module _ {A : Type 0} (id : A → Id) (room : A → Text) (commits : ℕ) (rows 
       ∙ ap (λ b. list_any (writes_in name) items || b) (sym (either first later here rows))
 
 -- what is found by itself and among the kept writes are the rooms that the batch touches
-pub touched_found : {A : Type 0} (id : A → Id) (room : A → Text) (commits : ℕ) (rows : List A) (f : Item → List Text) → ((w : Write) → f (W w) ≡ w.room ∷ []) → ((seq : ℕ) (other : Id) → f (C seq other) ≡ cond (ltb commits seq) (map room (filter (λ row. same_id (id row) other) rows)) []) → (items : List Item) (touched : Touched) (set : BTreeSet Text) (names : List Text) → IsTouchedBy touched commits items → ((name : Text) → has_room set name ≡ (has_room touched.rooms name || list_any (λ row. has_id touched.committed (id row) && bytes_eq name (room row)) rows)) → names ≡ set.keys → AreSameRooms names (flat_map f items)
-touched_found id room commits rows f of_write of_commit items touched set names is added keys name =
-    ap (list_any (bytes_eq name)) keys ∙ sym (set_of_keys set name) ∙ added name
+pub touched_found : {A : Type 0} (id : A → Id) (room : A → Text) (commits : ℕ) (rows : List A) (f : Item → List Text) → ((w : Write) → f (W w) ≡ w.room ∷ []) → ((seq : ℕ) (other : Id) → f (C seq other) ≡ cond (ltb commits seq) (map room (filter (λ row. same_id (id row) other) rows)) []) → (items : List Item) (touched : Touched) (set : BTreeSet Text) → IsTouchedBy touched commits items → ((name : Text) → has_room set name ≡ (has_room touched.rooms name || list_any (λ row. has_id touched.committed (id row) && bytes_eq name (room row)) rows)) → IsSetOf set (flat_map f items)
+touched_found id room commits rows f of_write of_commit items touched set is added name =
+    added name
     ∙ (λ t. is.rooms name t || list_any (λ row. is.committed (id row) t && bytes_eq name (room row)) rows)
     ∙ sym (touched_apart id room commits rows name f of_write of_commit items)
+
+-- and so are the set's rooms as a list
+pub names_found : (set : BTreeSet Text) (rooms names : List Text) → IsSetOf set rooms → names ≡ set.keys → AreSameRooms names rooms
+names_found set rooms names is keys name = ap (list_any (bytes_eq name)) keys ∙ sym (set_of_keys set name) ∙ is name

@@ -18,6 +18,10 @@ has_commit numbers number = contains nat_cmp numbers number
 abbrev pub names : List Item → Id → ℕ → Bool
 names items id number = is_among id (map item_id items) || (not (number == 0) && list_any (has_number number) items)
 
+-- whether it is of these ids and commit numbers
+abbrev pub has_named : Named → Id → ℕ → Bool
+has_named named id number = has_id named.ids id || (not (number == 0) && has_commit named.numbers number)
+
 -- these are the ids and the commit numbers that the items name
 pub record IsNamedBy (named : Named) (items : List Item) : Type 0 where
   pub ids : (id : Id) → has_id named.ids id ≡ is_among id (map item_id items)

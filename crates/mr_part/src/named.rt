@@ -1,9 +1,8 @@
-ghost use Rattle.std.specs.Prelude.{◌≡◌, ◌||◌, ℕ, List, map, OnOk, IfOk, IfErr};
+ghost use Rattle.std.specs.Prelude.{◌≡◌, ◌||◌, ℕ, map, OnOk, IfOk, IfErr};
 ghost use Rattle.mr_model.specs.Writes.{Id, same_id};
-ghost use Rattle.mr_model.specs.Exchange.{Item as ItemOfBatch};
 ghost use Rattle.mr_model.specs.Scopes.{item_id, has_number};
 ghost use Rattle.mr_base.specs.Batches.{item_of};
-ghost use Rattle.mr_part.specs.Named.{has_commit, names, IsNamedBy};
+ghost use Rattle.mr_part.specs.Named.{has_commit, has_named, IsNamedBy};
 ghost use Rattle.mr_part.specs.Sets.{has_id};
 
 use mr_base::{Item, Refusal, ServerId};
@@ -39,7 +38,7 @@ impl Named {
     /// Whether the write of this server and count, which has this commit number, 0 where it is tentative, is named: by its id or by its
     /// number.
     pub fn has(&self, server: ServerId, n: u32, number: u64) -> bool
-        ensures { (items : List ItemOfBatch) → IsNamedBy self.now items → result ≡ names items (record { server = server; n = n }) number }
+        ensures { result ≡ has_named self.now (record { server = server; n = n }) number }
     {
         self.ids.contains(&(server, n)) || (number != 0 && self.numbers.contains(&number))
     }
