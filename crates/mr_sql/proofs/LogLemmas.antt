@@ -12,7 +12,7 @@ use Rattle.mr_base.specs.declared.batches.Item as Items
 use Rattle.mr_base.specs.Batches.{item_of}
 use Rattle.mr_model.specs.Tables.{LogRow, Tables}
 use Rattle.mr_model.specs.Dropped.{Has}
-use Rattle.mr_model.specs.Scopes.{Scope, Nothing, InRoom, OfTarget, NextCommits, UpTo, Above, OfItems, is_tentative, is_above, by_stamp, item_id, has_number, is_named, is_late, is_in_tail, is_touched, rooms_of_item, next_commits, in_scope}
+use Rattle.mr_model.specs.Scopes.{NextCommits, UpTo, Above, OfItems, is_tentative, is_above, by_stamp, item_id, has_number, is_named, is_late, is_in_tail, is_touched, rooms_of_item, next_commits}
 use Rattle.mr_model.proofs.InScope.{has_put}
 use Rattle.mr_model.proofs.Members.{filter_has, has_map, has_among, same_id-true}
 use Rattle.mr_model.specs.Queries.{log_id}
@@ -27,7 +27,7 @@ use Rattle.mr_sql.specs.declared.scope_late.LateTest.{LateTest}
 use Rattle.mr_sql.specs.LateTests.{passes_late, IsLateTest, ReachesTail}
 use Rattle.mr_sql.specs.AboveTests.{passes_above, ReachesAbove}
 use Rattle.mr_sql.specs.declared.scope_above.AboveTest.{AboveTest}
-use Rattle.mr_sql.specs.ScopeQuestions.{between, tentative_question, number_questions, is_of_numbers, AreLogsWithin, AreLogsRead}
+use Rattle.mr_sql.specs.ScopeQuestions.{between, tentative_question, up_to_question, AreLogsWithin, AreLogsRead}
 
 -- ---- rows that are asked for by numbers
 
@@ -37,28 +37,20 @@ within_from low high n a b = and_from (leb low n) (leb n high) (le-leb low n a) 
 tentative_asked : (row : LogRow) → is_tentative row ≡ true → is_log_between tentative_question row ≡ true
 tentative_asked row e = let none : row.seq ≡ 0 = eqb-true row.seq 0 e in within_from 0 0 row.seq (omega arith) (omega (arith, none))
 
-up_to_asked : (commits d : ℕ) (row : LogRow) → row.seq ≤ commits → within 1 d row.seq ≡ true → is_row_asked is_log_between (number_questions commits (UpTo d)) row ≡ true
+up_to_asked : (commits d : ℕ) (row : LogRow) → row.seq ≤ commits → within 1 d row.seq ≡ true → is_row_asked is_log_between (up_to_question commits d ∷ []) row ≡ true
 up_to_asked commits d row low e = or_left (is_log_between (between 1 (cond (ltb commits d) commits d)) row) false (go (ltb commits d))
   where
     go : (b : Bool) → within 1 (cond b commits d) row.seq ≡ true
     go true = within_from 1 commits row.seq (leb-true 1 row.seq (and_parts (leb 1 row.seq) (leb row.seq d) e).0) low
     go false = e
 
-number_asked : (s : Scope) (t : Tables) → is_of_numbers s ≡ true → AreLogsWithin t → (row : LogRow) → Has row (in_scope s t).log → is_row_asked is_log_between (number_questions t.meta.commits s) row ≡ true
-number_asked Nothing t of numbered row h = absurd h
-number_asked (InRoom room) t of numbered row h = absurd h
-number_asked (OfTarget target) t of numbered row h = absurd h
-number_asked (NextCommits k) t of numbered row h = absurd (true≢false (sym of))
-number_asked (UpTo d) t of numbered row h =
-    let g = filter_has (λ (r : LogRow). within 1 d r.seq) row t.log h in
-    up_to_asked t.meta.commits d row (numbered row g.0).0 g.1
-number_asked (Above c) t of numbered row h = absurd (true≢false (sym of))
-number_asked (OfItems items) t of numbered row h = absurd (true≢false (sym of))
-
-pub numbers_read : (s : Scope) (t : Tables) (commits : ℕ) (logs : List LogRow) → is_of_numbers s ≡ true → commits ≡ t.meta.commits
-    → logs ≡ filter (is_row_asked is_log_between (number_questions commits s)) t.log → AreLogsRead s t logs
-numbers_read s t commits logs of known is numbered =
-    (is_row_asked is_log_between (number_questions t.meta.commits s), is ∙ ap (λ n. filter (is_row_asked is_log_between (number_questions n s)) t.log) known, number_asked s t of numbered)
+pub up_to_logs : (d : ℕ) (t : Tables) (commits : ℕ) (logs : List LogRow) → commits ≡ t.meta.commits
+    → logs ≡ filter (is_row_asked is_log_between (up_to_question commits d ∷ [])) t.log → AreLogsRead (UpTo d) t logs
+up_to_logs d t commits logs known is numbered = (
+  is_row_asked is_log_between (up_to_question t.meta.commits d ∷ []),
+  is ∙ ap (λ n. filter (is_row_asked is_log_between (up_to_question n d ∷ [])) t.log) known,
+  λ row h. let g = filter_has (λ (r : LogRow). within 1 d r.seq) row t.log h in up_to_asked t.meta.commits d row (numbered row g.0).0 g.1,
+)
 
 -- ---- those of the next commits
 
@@ -102,7 +94,7 @@ ids_read k t ids logs are is numbered = (
 
 -- ---- those of a batch for a position
 
-none_passing : {X : Type 0} (xs : List X) → [] ≡ filter (λ x. false) xs
+pub none_passing : {X : Type 0} (xs : List X) → [] ≡ filter (λ x. false) xs
 none_passing [] = refl
 none_passing (x ∷ xs) = none_passing xs
 
@@ -154,7 +146,7 @@ named_more number items i item low is =
     through (x ∷ xs) = ap (λ b. has_number number (item_of x) || b) (through xs)
 
 -- the rooms that the named rows tell are those that all rows tell
-rooms_named : (commits : ℕ) (items xs : List Item) (log : List LogRow) → ((x : Item) → Has x xs → Has x items)
+pub rooms_named : (commits : ℕ) (items xs : List Item) (log : List LogRow) → ((x : Item) → Has x xs → Has x items)
     → flat_map (rooms_of_item commits (filter (is_row_asked is_log_named (map item_id items)) log)) xs ≡ flat_map (rooms_of_item commits log) xs
 rooms_named commits items [] log within = refl
 rooms_named commits items (x ∷ xs) log within = λ i. one x (within x (inl refl)) i ++ rooms_named commits items xs log (λ y h. within y (inr h)) i
@@ -173,7 +165,7 @@ rooms_named commits items (x ∷ xs) log within = λ i. one x (within x (inl ref
             ∙ has_among id (map item_id items) (has_map item_id (C seq id) items h)
 
 module _ (t : Tables) (items : List Item) (test : LateTest) (late : LateRows)
-    (is : IsLateTest test t.meta.commits items (filter (is_row_asked is_log_named (map item_id items)) t.log)) (reaches : ReachesTail late test.tail t.meta.commits items) where
+    (is : IsLateTest test t.meta.commits items (filter (is_row_asked is_log_named (map item_id items)) t.log)) (reaches : ReachesTail late test.batch.tail t.meta.commits items) where
   -- the row of a known commit that is named
   numbered_late : (row : LogRow) → row.seq ≤ t.meta.commits → is_tentative row ≡ false → list_any (has_number row.seq) items ≡ true → is_late_row late (passes_late test) row ≡ true
   numbered_late row low some e =
@@ -181,19 +173,19 @@ module _ (t : Tables) (items : List Item) (test : LateTest) (late : LateRows)
       let first = reach.0 in
       and_from (leb late.from row.time && leb row.seq late.to) (passes_late test row)
       (and_from (leb late.from row.time) (leb row.seq late.to) (le-leb late.from row.time (omega (arith, first))) (le-leb row.seq late.to reach.1))
-      (cond-false (is_tentative row) _ (has_commit test.named.numbers row.seq) some ∙ is.named.numbers row.seq ∙ e)
+      (cond-false (is_tentative row) _ (has_commit test.batch.named.numbers row.seq) some ∙ is.named_by.numbers row.seq ∙ e)
 
   -- a tentative one of the tail, in a room that is touched
   tail_late : (row : LogRow) → is_tentative row ≡ true → is_late t.meta.commits items row.time row.server ≡ true → is_touched t items row.room ≡ true → is_late_row late (passes_late test) row ≡ true
   tail_late row none late_here touched =
-      let place : has_place test.tail row.time row.server ≡ true = is.tail row.time row.server ∙ late_here in
+      let place : has_place test.batch.tail row.time row.server ≡ true = is.tail_is row.time row.server ∙ late_here in
       let zero_is : row.seq ≡ 0 = eqb-true row.seq 0 none in
-      let room : has_room test.rooms.rooms row.room ≡ true =
-      is.rooms row.room ∙ ap (λ rooms. list_any (bytes_eq row.room) rooms) (rooms_named t.meta.commits items items t.log (λ x h. h)) ∙ touched in
+      let room : has_room test.batch.rooms row.room ≡ true =
+      is.rooms_are row.room ∙ ap (λ rooms. list_any (bytes_eq row.room) rooms) (rooms_named t.meta.commits items items t.log (λ x h. h)) ∙ touched in
       and_from (leb late.from row.time && leb row.seq late.to) (passes_late test row)
       (and_from (leb late.from row.time) (leb row.seq late.to) (le-leb late.from row.time (reaches.places row.time row.server place)) (le-leb row.seq late.to (omega (arith, zero_is))))
-      (cond-true (is_tentative row) (has_place test.tail row.time row.server && has_room test.rooms.rooms row.room) _ none
-      ∙ and_from (has_place test.tail row.time row.server) (has_room test.rooms.rooms row.room) place room)
+      (cond-true (is_tentative row) (has_place test.batch.tail row.time row.server && has_room test.batch.rooms row.room) _ none
+      ∙ and_from (has_place test.batch.tail row.time row.server) (has_room test.batch.rooms row.room) place room)
 
   batch_asked : (row : LogRow) → row.seq ≤ t.meta.commits → (is_named items row || (is_in_tail t.meta.commits items row && is_touched t items row.room)) ≡ true
       → (is_row_asked is_log_named (map item_id items) row || is_late_row late (passes_late test) row) ≡ true

@@ -1,5 +1,5 @@
 -- The rows that the questions of a scope ask for are enough of it.
-use Rattle.std.proofs.Common.{◌≡◌, refl, sym, ap, ◌∙◌, subst, ℕ, ◌+◌, ◌≤◌, Bool, true, false, cond, ◌||◌, List, [], ◌∷◌, map, filter, arith, length, not, le_refl}
+use Rattle.std.proofs.Common.{◌≡◌, refl, sym, ap, ◌∙◌, subst, ℕ, ◌+◌, ◌≤◌, Bool, true, false, cond, ◌||◌, List, [], ◌∷◌, map, filter, take, arith, length, not, le_refl}
 use Rattle.std.proofs.lemmas.Bool.{or_left}
 use Rattle.std.specs.Prelude.{bytes_eq}
 use Rattle.mr_model.specs.Texts.{Text}
@@ -9,17 +9,20 @@ use Rattle.mr_model.specs.Exchange.{Item}
 use Rattle.mr_model.specs.Tables.{MetaRow, VectorRow, LogRow, BookingRow, ErrorRow, CancelledRow, Tables, log_row, by_id as writes_by_id, kept, seq_among, tables_of}
 use Rattle.mr_model.specs.Queries.{booking_id, error_id, cancelled_id, log_id}
 use Rattle.mr_model.specs.Dropped.{Has}
-use Rattle.mr_model.specs.Scopes.{Scope, Nothing, InRoom, OfTarget, NextCommits, UpTo, Above, OfItems, is_touched, next_commits, with_rows, in_scope}
-use Rattle.mr_model.specs.RowsRead.{rows_read}
+use Rattle.mr_model.specs.Scopes.{Scope, InRoom, OfTarget, NextCommits, UpTo, Above, OfItems, is_tentative, by_stamp, is_touched, touched_rooms, next_commits, with_rows, in_scope}
+use Rattle.mr_model.specs.RowsRead.{rows_read, Reads}
 use Rattle.mr_model.proofs.ReadRows.{read_rows}
 use Rattle.mr_model.proofs.Members.{all_has, filter_has, map_has}
 use Rattle.mr_model.proofs.RowsById.{by_id_has}
 use Rattle.mr_model.proofs.StepsKeep.{times_below}
 use Rattle.mr_rows.specs.RowQuestions.{is_row_asked, is_booking_asked, is_cancelled_asked, is_booking_named, is_error_of, is_cancelled_of}
-use Rattle.mr_part.specs.Sets.{AreSameRooms, IsSetOf}
+use Rattle.mr_part.specs.Sets.{IsSetOf}
 use Rattle.mr_sql.specs.declared.scope_rooms.RoomTest.{RoomTest}
 use Rattle.mr_sql.specs.RoomTests.{books_in, cancels_in}
-use Rattle.mr_sql.specs.ScopeQuestions.{logs_alone, room_questions, target_questions, taken_questions, asks_booking, asks_cancelled, AreRead, AreLogsWithin, AreEnough}
+use Rattle.mr_sql.specs.declared.scope_rows.ScopeRows.{ScopeRows}
+use Rattle.mr_sql.specs.ScopeQuestions.{AreLogsRead, AreLogsWithin, AreEnough}
+use Rattle.mr_sql.specs.ScopesRead.{AreRead}
+use Rattle.mr_sql.proofs.LogLemmas.{none_passing}
 use Rattle.mr_rows.proofs.RowLemmas.{filter_same}
 use Rattle.mr_rows.proofs.ValueLemmas.{or_false}
 
@@ -42,123 +45,94 @@ logs_suffice s t p pass = read_rows s t p (λ _. true) (λ _. true) (λ _. true)
   cancelled = λ c h. refl;
 })
 
--- what is in scope of the log goes by its rows and the number of commits alone
-logs_same : (s : Scope) (t : Tables) (p : LogRow → Bool) → Passes s t p → (in_scope s (logs_alone t.meta.commits (filter p t.log))).log ≡ (in_scope s t).log
-logs_same s t p pass = alone s ∙ ap (λ (u : Tables). u.log) (logs_suffice s t p pass)
-  where
-    alone : (r : Scope) → (in_scope r (logs_alone t.meta.commits (filter p t.log))).log ≡ (in_scope r (logs_read p t)).log
-    alone Nothing = refl
-    alone (InRoom room) = refl
-    alone (OfTarget target) = refl
-    alone (NextCommits k) = refl
-    alone (UpTo d) = refl
-    alone (Above c) = refl
-    alone (OfItems items) = refl
+-- ---- what passes tests that all rows in scope pass
 
--- ---- bookings
+tests_read : (s : Scope) (t : Tables) (rows : ScopeRows) (p : LogRow → Bool) (b : BookingRow → Bool) (e : ErrorRow → Bool) (c : CancelledRow → Bool)
+    → rows.log.items ≡ filter p t.log → rows.booking.items ≡ filter b t.booking → rows.errorlog.items ≡ filter e t.errorlog → rows.cancelled.items ≡ filter c t.cancelled
+    → Reads s t p b e c → in_scope s (with_rows t rows.log.items rows.booking.items rows.errorlog.items rows.cancelled.items) ≡ in_scope s t
+tests_read s t rows p b e c logs bookings errors cancelled reads = (λ i. in_scope s (with_rows t (logs i) (bookings i) (errors i) (cancelled i))) ∙ read_rows s t p b e c reads
 
--- the rooms that the rows read touch are those that all rows touch
-touched_booking : (items : List Item) (t : Tables) (p : LogRow → Bool) → Passes (OfItems items) t p → (b : BookingRow) → Has b (in_scope (OfItems items) t).booking
-    → is_row_asked is_booking_asked (room_questions t.meta.commits (OfItems items) (filter p t.log)) b ≡ true
-touched_booking items t p pass b h =
-    let read = logs_read p t in
-    let same = logs_suffice (OfItems items) t p pass in
-    (filter_has (λ (c : BookingRow). is_touched read items c.room) b read.booking (subst (λ (u : Tables). Has b u.booking) (sym same) h)).1
+no_rows : {X : Type 0} (rows xs : List X) → rows ≡ [] → rows ≡ filter (λ x. false) xs
+no_rows rows xs none = none ∙ none_passing xs
 
-booking_read : (s : Scope) (t : Tables) (p : LogRow → Bool) → Passes s t p → (b : BookingRow) → Has b (in_scope s t).booking → asks_booking t.meta.commits s (filter p t.log) b ≡ true
-booking_read Nothing t p pass b h = absurd h
-booking_read (InRoom room) t p pass b h =
-    or_left (is_row_asked is_booking_asked (room ∷ []) b) false (or_left (is_booking_asked room b) false (filter_has (λ (c : BookingRow). bytes_eq c.room room) b t.booking h).1)
-booking_read (OfTarget target) t p pass b h =
-    or_left (is_booking_named target b) false (or_left (same_id (booking_id b) target) false (filter_has (λ (c : BookingRow). same_id (booking_id c) target) b t.booking h).1)
-booking_read (NextCommits k) t p pass b h = absurd h
-booking_read (UpTo d) t p pass b h = absurd h
-booking_read (Above c) t p pass b h = absurd h
-booking_read (OfItems items) t p pass b h =
-    or_left (is_row_asked is_booking_asked (room_questions t.meta.commits (OfItems items) (filter p t.log)) b) false (touched_booking items t p pass b h)
+-- ---- scope by scope
 
--- ---- the error log
+pub in_room_read : (room : Text) (t : Tables) (rows : ScopeRows) → rows.log.items ≡ [] → rows.booking.items ≡ filter (is_row_asked is_booking_asked (room ∷ [])) t.booking
+    → rows.errorlog.items ≡ [] → rows.cancelled.items ≡ filter (is_row_asked is_cancelled_asked (room ∷ [])) t.cancelled → AreRead (InRoom room) t rows
+in_room_read room t rows logs bookings errors cancelled numbered =
+    tests_read (InRoom room) t rows (λ _. false) (is_row_asked is_booking_asked (room ∷ [])) (λ _. false) (is_row_asked is_cancelled_asked (room ∷ []))
+    (no_rows rows.log.items t.log logs) bookings (no_rows rows.errorlog.items t.errorlog errors) cancelled (record {
+      logs = λ row h. absurd h;
+      booking = λ b h. or_left (is_booking_asked room b) false (filter_has (λ (c : BookingRow). bytes_eq c.room room) b t.booking h).1;
+      errorlog = λ e h. absurd h;
+      cancelled = λ c h. or_left (is_cancelled_asked room c) false (filter_has (λ (d : CancelledRow). bytes_eq d.room room) c t.cancelled h).1;
+    })
 
-error_read : (s : Scope) (t : Tables) (e : ErrorRow) → Has e (in_scope s t).errorlog → is_row_asked is_error_of (target_questions s) e ≡ true
-error_read Nothing t e h = absurd h
-error_read (InRoom room) t e h = absurd h
-error_read (OfTarget target) t e h =
-    or_left (is_error_of target e) false (or_left (same_id (error_id e) target) false (filter_has (λ (c : ErrorRow). same_id (error_id c) target) e t.errorlog h).1)
-error_read (NextCommits k) t e h = absurd h
-error_read (UpTo d) t e h = absurd h
-error_read (Above c) t e h = absurd h
-error_read (OfItems items) t e h = absurd h
-
--- ---- cancelled bookings
-
-touched_cancelled : (items : List Item) (t : Tables) (p : LogRow → Bool) → Passes (OfItems items) t p → (c : CancelledRow) → Has c (in_scope (OfItems items) t).cancelled
-    → is_row_asked is_cancelled_asked (room_questions t.meta.commits (OfItems items) (filter p t.log)) c ≡ true
-touched_cancelled items t p pass c h =
-    let read = logs_read p t in
-    let same = logs_suffice (OfItems items) t p pass in
-    (filter_has (λ (d : CancelledRow). is_touched read items d.room) c read.cancelled (subst (λ (u : Tables). Has c u.cancelled) (sym same) h)).1
+pub target_read : (target : Id) (t : Tables) (rows : ScopeRows) → rows.log.items ≡ [] → rows.booking.items ≡ filter (is_row_asked is_booking_named (target ∷ [])) t.booking
+    → rows.errorlog.items ≡ filter (is_row_asked is_error_of (target ∷ [])) t.errorlog → rows.cancelled.items ≡ filter (is_row_asked is_cancelled_of (target ∷ [])) t.cancelled → AreRead (OfTarget target) t rows
+target_read target t rows logs bookings errors cancelled numbered =
+    tests_read (OfTarget target) t rows (λ _. false) (is_row_asked is_booking_named (target ∷ [])) (is_row_asked is_error_of (target ∷ [])) (is_row_asked is_cancelled_of (target ∷ []))
+    (no_rows rows.log.items t.log logs) bookings errors cancelled (record {
+      logs = λ row h. absurd h;
+      booking = λ b h. or_left (is_booking_named target b) false (or_left (same_id (booking_id b) target) false (filter_has (λ (c : BookingRow). same_id (booking_id c) target) b t.booking h).1);
+      errorlog = λ e h. or_left (is_error_of target e) false (or_left (same_id (error_id e) target) false (filter_has (λ (c : ErrorRow). same_id (error_id c) target) e t.errorlog h).1);
+      cancelled = λ c h. or_left (is_cancelled_of target c) false (or_left (same_id (cancelled_id c) target) false (filter_has (λ (d : CancelledRow). same_id (cancelled_id d) target) c t.cancelled h).1);
+    })
 
 -- the row of one of these ids is asked for
 cancelled_of_ids : (ids : List Id) (c : CancelledRow) → is_row_asked is_cancelled_of ids c ≡ is_among (cancelled_id c) ids
 cancelled_of_ids [] c = refl
 cancelled_of_ids (id ∷ ids) c = let first = or_false (same_id (cancelled_id c) id) in let more = cancelled_of_ids ids c in λ i. first i || more i
 
--- those of the writes that are committed next, which the rows read tell
-next_cancelled : (k : ℕ) (t : Tables) (p : LogRow → Bool) → Passes (NextCommits k) t p → (c : CancelledRow) → Has c (in_scope (NextCommits k) t).cancelled
-    → is_row_asked is_cancelled_of (taken_questions t.meta.commits (NextCommits k) (filter p t.log)) c ≡ true
-next_cancelled k t p pass c h =
-    let among = (filter_has (λ (d : CancelledRow). is_among (cancelled_id d) (map log_id (next_commits k t))) c t.cancelled h).1 in
-    let asked : is_row_asked is_cancelled_of (map log_id (next_commits k t)) c ≡ true = cancelled_of_ids (map log_id (next_commits k t)) c ∙ among in
-    subst (λ (rows : List LogRow). is_row_asked is_cancelled_of (map log_id rows) c ≡ true) (sym (logs_same (NextCommits k) t p pass)) asked
+-- the ids of the writes that are committed next, by the rows that were read
+abbrev next_in : ℕ → List LogRow → List Id
+next_in k logs = map log_id (take k (by_stamp (filter is_tentative logs)))
 
-cancelled_read : (s : Scope) (t : Tables) (p : LogRow → Bool) → Passes s t p → (c : CancelledRow) → Has c (in_scope s t).cancelled → asks_cancelled t.meta.commits s (filter p t.log) c ≡ true
-cancelled_read Nothing t p pass c h = absurd h
-cancelled_read (InRoom room) t p pass c h =
-    or_left (is_row_asked is_cancelled_asked (room ∷ []) c) false (or_left (is_cancelled_asked room c) false (filter_has (λ (d : CancelledRow). bytes_eq d.room room) c t.cancelled h).1)
-cancelled_read (OfTarget target) t p pass c h =
-    or_left (is_cancelled_of target c) false (or_left (same_id (cancelled_id c) target) false (filter_has (λ (d : CancelledRow). same_id (cancelled_id d) target) c t.cancelled h).1)
-cancelled_read (NextCommits k) t p pass c h = next_cancelled k t p pass c h
-cancelled_read (UpTo d) t p pass c h = absurd h
-cancelled_read (Above d) t p pass c h = absurd h
-cancelled_read (OfItems items) t p pass c h =
-    or_left (is_row_asked is_cancelled_asked (room_questions t.meta.commits (OfItems items) (filter p t.log)) c) false (touched_cancelled items t p pass c h)
-
--- ---- all tables
-
--- of all heads with the rows that were read
-enough : (s : Scope) (t : Tables) (logs : List LogRow) (bookings : List BookingRow) (errors : List ErrorRow) (gone : List CancelledRow) → AreRead s t logs bookings errors gone
-    → AreEnough s t (with_rows t logs bookings errors gone)
-enough s t logs bookings errors gone read numbered = by (read.log numbered)
+pub next_read : (k : ℕ) (t : Tables) (rows : ScopeRows) → AreLogsRead (NextCommits k) t rows.log.items → rows.booking.items ≡ [] → rows.errorlog.items ≡ []
+    → rows.cancelled.items ≡ filter (is_row_asked is_cancelled_of (next_in k rows.log.items)) t.cancelled → AreRead (NextCommits k) t rows
+next_read k t rows logs bookings errors cancelled numbered = by (logs numbered)
   where
-    by : (p : LogRow → Bool) × (logs ≡ filter p t.log) × Passes s t p → in_scope s (with_rows t logs bookings errors gone) ≡ in_scope s t
+    by : (p : LogRow → Bool) × (rows.log.items ≡ filter p t.log) × Passes (NextCommits k) t p → in_scope (NextCommits k) (with_rows t rows.log.items rows.booking.items rows.errorlog.items rows.cancelled.items) ≡ in_scope (NextCommits k) t
     by (p, is, pass) =
-        ap (in_scope s) are
-        ∙ read_rows s t p (asks_booking t.meta.commits s rows) (is_row_asked is_error_of (target_questions s)) (asks_cancelled t.meta.commits s rows) (record {
+        tests_read (NextCommits k) t rows p (λ _. false) (λ _. false) (is_row_asked is_cancelled_of (map log_id (next_commits k t)))
+        is (no_rows rows.booking.items t.booking bookings) (no_rows rows.errorlog.items t.errorlog errors) (cancelled ∙ ap (λ ids. filter (is_row_asked is_cancelled_of ids) t.cancelled) same) (record {
           logs = pass;
-          booking = booking_read s t p pass;
-          errorlog = error_read s t;
-          cancelled = cancelled_read s t p pass;
+          booking = λ b h. absurd h;
+          errorlog = λ e h. absurd h;
+          cancelled = λ c h.
+              cancelled_of_ids (map log_id (next_commits k t)) c
+              ∙ (filter_has (λ (d : CancelledRow). is_among (cancelled_id d) (map log_id (next_commits k t))) c t.cancelled h).1;
         })
       where
-        rows : List LogRow
-        rows = filter p t.log
+        same : next_in k rows.log.items ≡ map log_id (next_commits k t)
+        same = ap (next_in k) is ∙ ap (λ (u : Tables). map log_id u.log) (logs_suffice (NextCommits k) t p pass)
 
-        bookings_are : bookings ≡ filter (asks_booking t.meta.commits s rows) t.booking
-        bookings_are = read.places.booking ∙ ap (λ rs. filter (asks_booking t.meta.commits s rs) t.booking) is
+pub up_to_read : (d : ℕ) (t : Tables) (rows : ScopeRows) → AreLogsRead (UpTo d) t rows.log.items → AreRead (UpTo d) t rows
+up_to_read d t rows logs numbered = let (p, is, pass) = logs numbered in ap (λ ls. in_scope (UpTo d) (with_rows t ls [] [] [])) is ∙ logs_suffice (UpTo d) t p pass
 
-        gone_are : gone ≡ filter (asks_cancelled t.meta.commits s rows) t.cancelled
-        gone_are = read.places.taken ∙ ap (λ rs. filter (asks_cancelled t.meta.commits s rs) t.cancelled) is
+pub above_rows_read : (c : ℕ) (t : Tables) (rows : ScopeRows) → AreLogsRead (Above c) t rows.log.items → AreRead (Above c) t rows
+above_rows_read c t rows logs numbered = let (p, is, pass) = logs numbered in ap (λ ls. in_scope (Above c) (with_rows t ls [] [] [])) is ∙ logs_suffice (Above c) t p pass
 
-        are : with_rows t logs bookings errors gone ≡ rows_read p (asks_booking t.meta.commits s rows) (is_row_asked is_error_of (target_questions s)) (asks_cancelled t.meta.commits s rows) t
-        are = let log = is in let booking = bookings_are in let error = read.places.errorlog in let taken = gone_are in λ i. with_rows t (log i) (booking i) (error i) (taken i)
+pub batch_rows_read : (items : List Item) (t : Tables) (rows : ScopeRows) → AreLogsRead (OfItems items) t rows.log.items
+    → rows.booking.items ≡ filter (is_row_asked is_booking_asked (touched_rooms t items)) t.booking → rows.errorlog.items ≡ []
+    → rows.cancelled.items ≡ filter (is_row_asked is_cancelled_asked (touched_rooms t items)) t.cancelled → AreRead (OfItems items) t rows
+batch_rows_read items t rows logs bookings errors cancelled numbered =
+    let (p, is, pass) = logs numbered in
+    tests_read (OfItems items) t rows p (is_row_asked is_booking_asked (touched_rooms t items)) (λ _. false) (is_row_asked is_cancelled_asked (touched_rooms t items))
+    is bookings (no_rows rows.errorlog.items t.errorlog errors) cancelled (record {
+      logs = pass;
+      booking = λ b h. (filter_has (λ (c : BookingRow). is_touched t items c.room) b t.booking h).1;
+      errorlog = λ e h. absurd h;
+      cancelled = λ c h. (filter_has (λ (d : CancelledRow). is_touched t items d.room) c t.cancelled h).1;
+    })
 
 -- the same where the heads were read too
-pub read_enough : (s : Scope) (t : Tables) (meta : MetaRow) (room : List Text) (vector : List VectorRow) (logs : List LogRow) (bookings : List BookingRow) (errors : List ErrorRow) (gone : List CancelledRow)
-    → (meta ≡ t.meta) × (room ≡ t.room) × (vector ≡ t.vector) → (meta.commits ≡ t.meta.commits → meta.clock ≡ t.meta.clock → AreRead s t logs bookings errors gone)
-    → AreEnough s t (record { meta = meta; room = room; vector = vector; log = logs; booking = bookings; errorlog = errors; cancelled = gone; cancels = [] })
-read_enough s t meta room vector logs bookings errors gone heads read numbered =
-    (let m = heads.0 in let r = heads.1 in let v = heads.2 in λ i. in_scope s (record { meta = m i; room = r i; vector = v i; log = logs; booking = bookings; errorlog = errors; cancelled = gone; cancels = [] }))
-    ∙ enough s t logs bookings errors gone (read (ap (λ (m : MetaRow). m.commits) heads.0) (ap (λ (m : MetaRow). m.clock) heads.0)) numbered
+pub read_enough : (s : Scope) (t : Tables) (meta : MetaRow) (room : List Text) (vector : List VectorRow) (rows : ScopeRows)
+    → (meta ≡ t.meta) × (room ≡ t.room) × (vector ≡ t.vector) → (meta.commits ≡ t.meta.commits → meta.clock ≡ t.meta.clock → AreRead s t rows)
+    → AreEnough s t (record { meta = meta; room = room; vector = vector; log = rows.log.items; booking = rows.booking.items; errorlog = rows.errorlog.items; cancelled = rows.cancelled.items; cancels = [] })
+read_enough s t meta room vector rows heads read numbered =
+    (let m = heads.0 in let r = heads.1 in let v = heads.2 in λ i. in_scope s (record { meta = m i; room = r i; vector = v i; log = rows.log.items; booking = rows.booking.items; errorlog = rows.errorlog.items; cancelled = rows.cancelled.items; cancels = [] }))
+    ∙ read (ap (λ (m : MetaRow). m.commits) heads.0) (ap (λ (m : MetaRow). m.clock) heads.0) numbered
 
 -- ---- rows of rooms
 
@@ -168,34 +142,6 @@ set_asked test rooms set bookings = filter_same (books_in test) (is_row_asked is
 
 pub taken_set_asked : (test : RoomTest) (rooms : List Text) → IsSetOf test.rooms rooms → (rows : List CancelledRow) → filter (cancels_in test) rows ≡ filter (is_row_asked is_cancelled_asked rooms) rows
 taken_set_asked test rooms set rows = filter_same (cancels_in test) (is_row_asked is_cancelled_asked rooms) rows (λ c _. set c.room)
-
--- ---- one question of the two
-
--- where nothing is asked by id, what is asked for of the same rooms is all that is asked
-pub by_room : (commits : ℕ) (s : Scope) (logs : List LogRow) (rooms : List Text) → target_questions s ≡ [] → AreSameRooms rooms (room_questions commits s logs) → (bookings : List BookingRow)
-    → filter (is_row_asked is_booking_asked rooms) bookings ≡ filter (asks_booking commits s logs) bookings
-by_room commits s logs rooms none same bookings = filter_same (is_row_asked is_booking_asked rooms) (asks_booking commits s logs) bookings
-    (λ b _. same b.room
-    ∙ sym (or_false (is_row_asked is_booking_asked (room_questions commits s logs) b))
-    ∙ ap (λ ids. is_row_asked is_booking_asked (room_questions commits s logs) b || is_row_asked is_booking_named ids b) (sym none))
-
-pub taken_by_room : (commits : ℕ) (s : Scope) (logs : List LogRow) (rooms : List Text) → taken_questions commits s logs ≡ [] → AreSameRooms rooms (room_questions commits s logs) → (rows : List CancelledRow)
-    → filter (is_row_asked is_cancelled_asked rooms) rows ≡ filter (asks_cancelled commits s logs) rows
-taken_by_room commits s logs rooms none same rows = filter_same (is_row_asked is_cancelled_asked rooms) (asks_cancelled commits s logs) rows
-    (λ c _. same c.room
-    ∙ sym (or_false (is_row_asked is_cancelled_asked (room_questions commits s logs) c))
-    ∙ ap (λ ids. is_row_asked is_cancelled_asked (room_questions commits s logs) c || is_row_asked is_cancelled_of ids c) (sym none))
-
--- where nothing is asked by room, what is asked by id is
-pub by_id : (commits : ℕ) (s : Scope) (logs : List LogRow) → room_questions commits s logs ≡ [] → (bookings : List BookingRow)
-    → filter (is_row_asked is_booking_named (target_questions s)) bookings ≡ filter (asks_booking commits s logs) bookings
-by_id commits s logs none bookings = filter_same (is_row_asked is_booking_named (target_questions s)) (asks_booking commits s logs) bookings
-    (λ b _. ap (λ rooms. is_row_asked is_booking_asked rooms b || is_row_asked is_booking_named (target_questions s) b) (sym none))
-
-pub taken_by_id : (commits : ℕ) (s : Scope) (logs : List LogRow) → room_questions commits s logs ≡ [] → (rows : List CancelledRow)
-    → filter (is_row_asked is_cancelled_of (taken_questions commits s logs)) rows ≡ filter (asks_cancelled commits s logs) rows
-taken_by_id commits s logs none rows = filter_same (is_row_asked is_cancelled_of (taken_questions commits s logs)) (asks_cancelled commits s logs) rows
-    (λ c _. ap (λ rooms. is_row_asked is_cancelled_asked rooms c || is_row_asked is_cancelled_of (taken_questions commits s logs) c) (sym none))
 
 -- ---- commit numbers and times of a replica's tables
 

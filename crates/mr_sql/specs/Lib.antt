@@ -1,6 +1,7 @@
--- A reader of the contracts trusts Found and Refused. The others, PlaceOfId, ScopeQuestions, RoomTests, LateTests, AboveTests, Blank and OurSchema, serve private clauses and proofs alone.
+-- A reader of the contracts trusts Found and Refused. The others, PlaceOfId, ScopeQuestions, ScopesRead, RoomTests, LateTests, AboveTests, Blank and OurSchema, serve private clauses and proofs alone.
 pub mod PlaceOfId
 pub mod ScopeQuestions
+pub mod ScopesRead
 pub mod RoomTests
 pub mod LateTests
 pub mod AboveTests

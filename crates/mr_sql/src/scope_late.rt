@@ -7,11 +7,11 @@ ghost use Rattle.mr_base.specs.Batches.{item_of};
 ghost use Rattle.mr_part.specs.Tails.{has_place};
 ghost use Rattle.mr_sql.specs.LateTests.{passes_late, IsLateTest, ReachesTail};
 
-use crate::scope_rooms::RoomTest;
+use crate::scope_rooms::has_room;
 use mr_base::{Item, Refusal};
-use mr_part::named::Named;
-use mr_part::tail::{Tail, tail_of};
-use mr_part::touched_rooms;
+use mr_part::BatchScope;
+use mr_part::room_sets::RoomSet;
+use mr_part::tail::Tail;
 use mr_rows::cells::{read_server, read_u64};
 use mr_rows::{LateRows, RowTest};
 use mr_tables::LogRow;
@@ -22,20 +22,20 @@ use std::alloc::Global;
 /// writes of these rooms in its tail.
 #[derive(Drop)]
 pub(crate) struct LateTest {
-    named: Named,
-    tail: Tail,
-    rooms: RoomTest,
+    alloc: Global,
+    batch: BatchScope,
 }
 
 impl RowTest<LogRow> for LateTest {
     ghost passes = { passes_late };
 
     fn is_passed_by(&self, row: &Row) -> Result<bool, Error> {
+        let batch = &self.batch;
         let number = read_u64(row, 11)?;
         if number == 0 {
-            Ok(is_in_tail(&self.tail, row)? && self.rooms.has_room(row, 3)?)
+            Ok(is_in_tail(&batch.tail, row)? && has_room(self.alloc, &batch.rooms, row, 3)?)
         } else {
-            Ok(self.named.numbers.contains(&number))
+            Ok(batch.named.numbers.contains(&number))
         }
     }
 }
@@ -58,18 +58,21 @@ impl LateTest {
     ) -> Result<LateTest, Refusal>
         ensures { IfOk result (λ test. IsLateTest test commits (map item_of items.now) rows.now) }
     {
-        let touched = touched_rooms(alloc, rows, items, commits)?;
-        Ok(LateTest {
-            named: Named::by(alloc, items)?,
-            tail: tail_of(items, commits),
-            rooms: RoomTest::of(alloc, &touched)?,
-        })
+        let batch = BatchScope::of(alloc, items, rows, commits)?;
+        Ok(LateTest { alloc, batch })
     }
 
     pub(crate) fn tail(&self) -> &Tail
-        ensures { result.now ≡ self.now.tail }
+        ensures { result.now ≡ self.now.batch.tail }
     {
-        &self.tail
+        &self.batch.tail
+    }
+
+    /// The rooms that the batch touches.
+    pub(crate) fn into_rooms(self) -> RoomSet
+        ensures { result ≡ self.batch.rooms }
+    {
+        self.batch.rooms
     }
 }
 

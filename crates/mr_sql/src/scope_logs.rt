@@ -1,22 +1,22 @@
-ghost use Rattle.std.specs.Prelude.{◌≡◌, ◌||◌, ℕ, Bool, true, false, map, filter, IfOk};
+ghost use Rattle.std.specs.Prelude.{◌≡◌, ◌||◌, ℕ, Bool, false, map, filter, IfOk};
 ghost use Rattle.sqlite.specs.Held.{state};
 ghost use Rattle.mr_base.specs.Batches.{item_of};
-ghost use Rattle.mr_model.specs.Scopes.{NextCommits, Above, OfItems, next_commits};
+ghost use Rattle.mr_model.specs.Scopes.{NextCommits, UpTo, Above, OfItems, next_commits, touched_rooms};
 ghost use Rattle.mr_model.specs.Queries.{log_id};
 ghost use Rattle.mr_model.specs.Tables.{LogRow as RowOfLog};
-ghost use Rattle.mr_part.specs.ScopeOf.{scope_of};
+ghost use Rattle.mr_part.specs.Sets.{IsSetOf};
 ghost use Rattle.mr_rows.specs.Database.{tables_in};
 ghost use Rattle.mr_rows.specs.Reads.{ReadsInUse};
 ghost use Rattle.mr_rows.specs.RowQuestions.{is_late_row};
-ghost use Rattle.mr_sql.specs.ScopeQuestions.{AreLogsRead, AreLogsWithin, is_of_numbers};
+ghost use Rattle.mr_sql.specs.ScopeQuestions.{AreLogsRead, AreLogsWithin};
 ghost use Rattle.mr_sql.specs.LateTests.{passes_late, IsLateTest};
 
 use crate::scope_above::{AboveTest, rows_above};
 use crate::scope_late::{LateTest, late_rows};
-use crate::scope_questions::{item_questions, number_questions, tentative_rows};
+use crate::scope_questions::{item_questions, rows_up_to, tentative_rows};
 use crate::scope_stamps::first_ids;
 use mr_base::Item;
-use mr_part::Scope;
+use mr_part::room_sets::RoomSet;
 use mr_rows::asked_rows::asked_rows;
 use mr_rows::{IdQuestion, LateRows, StoredRow, tentative_stamps, with_late_rows};
 use mr_tables::LogRow;
@@ -61,7 +61,7 @@ fn read_first<S: Alter>(
 }
 
 /// The rows of so many tentative writes that are committed next, which the stamps of all tell.
-fn read_next<S: Alter>(
+pub(crate) fn read_next<S: Alter>(
     conn: &mut Connection<S>,
     alloc: Global,
     count: u64,
@@ -113,30 +113,32 @@ fn with_late<S: Alter>(
 }
 
 /// The rows of a batch that is received: those of the ids that it names, which tell what rooms it touches, and then in one pass
-/// those of the commits that it names and of the tentative writes that it may move.
-fn read_batch<S: Alter>(
+/// those of the commits that it names and of the tentative writes that it may move. The rooms are handed on.
+pub(crate) fn read_batch<S: Alter>(
     conn: &mut Connection<S>,
     alloc: Global,
     items: &[Item],
     commits: u64,
     clock: u64,
-) -> Result<Vec<LogRow>, Error>
+) -> Result<(Vec<LogRow>, RoomSet), Error>
     requires autocommit { conn.old.in_transaction ≡ false }
     ensures autocommit { conn.new.in_transaction ≡ false }
     ensures reads { ReadsInUse (state S.Store conn.old) (state S.Store conn.new) result
         (λ rows. commits ≡ (tables_in (state S.Store conn.old).now.trees).meta.commits
         → clock ≡ (tables_in (state S.Store conn.old).now.trees).meta.clock
-        → AreLogsRead (OfItems (map item_of items.now)) (tables_in (state S.Store conn.old).now.trees) rows.items) }
+        → AreLogsRead (OfItems (map item_of items.now)) (tables_in (state S.Store conn.old).now.trees) rows.0.items
+        × IsSetOf rows.1 (touched_rooms (tables_in (state S.Store conn.old).now.trees) (map item_of items.now))) }
 {
     let ids = item_questions(alloc, items)?;
     let named = asked_rows(conn, alloc, &ids)?;
     let test = test_of(alloc, items, commits, &named)?;
     let late = late_rows(items, commits, test.tail());
-    with_late(conn, alloc, late, &test, named, clock)
+    let rows = with_late(conn, alloc, late, &test, named, clock)?;
+    Ok((rows, test.into_rooms()))
 }
 
 /// The rows of a batch for a position with so many commits, in one pass.
-fn read_above<S: Alter>(
+pub(crate) fn read_above<S: Alter>(
     conn: &mut Connection<S>,
     alloc: Global,
     number: u64,
@@ -153,44 +155,19 @@ fn read_above<S: Alter>(
     with_late_rows(conn, alloc, late, &test, Vec::new(alloc))
 }
 
-/// The rows that are asked for by numbers.
-fn read_numbers<S: Alter>(
+/// The rows of the commits up to a number.
+pub(crate) fn read_up_to<S: Alter>(
     conn: &mut Connection<S>,
     alloc: Global,
-    scope: &Scope<'_>,
+    number: u64,
     commits: u64,
-) -> Result<Vec<LogRow>, Error>
-    requires autocommit { conn.old.in_transaction ≡ false }
-    ensures autocommit { conn.new.in_transaction ≡ false }
-    ensures reads { ReadsInUse (state S.Store conn.old) (state S.Store conn.new) result
-        (λ rows. is_of_numbers (scope_of scope.now) ≡ true → commits ≡ (tables_in (state S.Store conn.old).now.trees).meta.commits
-        → AreLogsRead (scope_of scope.now) (tables_in (state S.Store conn.old).now.trees) rows.items) }
-{
-    let questions = number_questions(alloc, scope, commits)?;
-    asked_rows(conn, alloc, &questions)
-}
-
-/// Of `log` all rows in scope, and others perhaps. `commits` are known, and no row has a time above the clock.
-pub(crate) fn read_logs<S: Alter>(
-    conn: &mut Connection<S>,
-    alloc: Global,
-    scope: &Scope<'_>,
-    commits: u64,
-    clock: u64,
 ) -> Result<Vec<LogRow>, Error>
     requires autocommit { conn.old.in_transaction ≡ false }
     ensures autocommit { conn.new.in_transaction ≡ false }
     ensures reads { ReadsInUse (state S.Store conn.old) (state S.Store conn.new) result
         (λ rows. commits ≡ (tables_in (state S.Store conn.old).now.trees).meta.commits
-        → clock ≡ (tables_in (state S.Store conn.old).now.trees).meta.clock
-        → AreLogsRead (scope_of scope.now) (tables_in (state S.Store conn.old).now.trees) rows.items) }
+        → AreLogsRead (UpTo number) (tables_in (state S.Store conn.old).now.trees) rows.items) }
 {
-    match *scope {
-        Scope::NextCommits(count) => read_next(conn, alloc, count),
-        Scope::Above(number) => read_above(conn, alloc, number, commits),
-        Scope::Items(items) => read_batch(conn, alloc, items, commits, clock),
-        Scope::Nothing | Scope::InRoom(_) | Scope::OfTarget(_) | Scope::UpTo(_) => {
-            read_numbers(conn, alloc, scope, commits)
-        }
-    }
+    let questions = rows_up_to(alloc, number, commits)?;
+    asked_rows(conn, alloc, &questions)
 }

@@ -1,255 +1,280 @@
-ghost use Rattle.std.specs.Prelude.{◌≡◌, ℕ, List, false, filter, IfOk};
+ghost use Rattle.std.specs.Prelude.{◌≡◌, List, [], false, map, filter, take};
 ghost use Rattle.sqlite.specs.Held.{state};
-ghost use Rattle.mr_model.specs.Tables.{LogRow as Row};
-ghost use Rattle.mr_part.specs.Sets.{AreSameRooms, IsSetOf};
+ghost use Rattle.mr_base.specs.Batches.{item_of};
+ghost use Rattle.mr_model.specs.Scopes.{InRoom, OfTarget, NextCommits, UpTo, Above, OfItems, is_tentative, by_stamp};
+ghost use Rattle.mr_model.specs.Queries.{log_id};
+ghost use Rattle.mr_model.specs.Texts.{Text};
+ghost use Rattle.mr_part.specs.Sets.{IsSetOf};
 ghost use Rattle.mr_part.specs.ScopeOf.{scope_of};
 ghost use Rattle.mr_rows.specs.Database.{tables_in};
-ghost use Rattle.mr_rows.specs.RowQuestions.{is_row_asked, is_booking_asked, is_cancelled_asked, is_booking_named, is_error_of, is_cancelled_of};
-ghost use Rattle.mr_sql.specs.ScopeQuestions.{room_questions, target_questions, taken_questions, asks_booking, asks_cancelled, ArePlacesRead, AreRead, AreEnough};
 ghost use Rattle.mr_rows.specs.Reads.{ReadsKept, ReadsInUse};
+ghost use Rattle.mr_rows.specs.RowQuestions.{is_row_asked, is_booking_asked, is_cancelled_asked, is_cancelled_of};
+ghost use Rattle.mr_sql.specs.RoomTests.{books_in, cancels_in};
+ghost use Rattle.mr_sql.specs.ScopeQuestions.{AreEnough};
+ghost use Rattle.mr_sql.specs.ScopesRead.{AreRead};
 
-use crate::scope_logs::read_logs;
-use crate::scope_questions::{asks_by_id, taken_questions, takes_by_id, target_questions};
-use crate::scope_rooms::{RoomTest, room_questions};
-use mr_base::RoomName;
+use crate::scope_logs::{read_above, read_batch, read_next, read_up_to};
+use crate::scope_questions::{next_ids, question_for};
+use crate::scope_rooms::{RoomTest, names_in};
+use mr_base::{Item, RoomName, WriteId};
 use mr_part::Scope;
+use mr_part::room_sets::RoomSet;
 use mr_rows::all_tables::read_heads;
 use mr_rows::asked_rows::asked_rows;
 use mr_rows::passing_rows;
 use mr_tables::{BookingRow, CancelledRow, ErrorRow, LogRow, MetaRow, Tables};
 use sqlite::{Alter, Connection, Error, ErrorCode};
 use std::alloc::Global;
+use std::slice;
 
-fn are_several(rooms: &[RoomName]) -> bool {
+/// The bookings of these rooms, and those that were cancelled.
+fn rows_in<S: Alter>(
+    conn: &mut Connection<S>,
+    alloc: Global,
+    rooms: &[RoomName],
+) -> Result<(Vec<BookingRow>, Vec<CancelledRow>), Error>
+    requires autocommit { conn.old.in_transaction ≡ false }
+    ensures autocommit { conn.new.in_transaction ≡ false }
+    ensures reads { ReadsInUse (state S.Store conn.old) (state S.Store conn.new) result
+        (λ rows. (rows.0.items ≡ filter (is_row_asked is_booking_asked rooms.now) (tables_in (state S.Store conn.old).now.trees).booking)
+        × (rows.1.items ≡ filter (is_row_asked is_cancelled_asked rooms.now) (tables_in (state S.Store conn.old).now.trees).cancelled)) }
+{
+    let booking = asked_rows(conn, alloc, rooms)?;
+    let cancelled = asked_rows(conn, alloc, rooms)?;
+    Ok((booking, cancelled))
+}
+
+/// The same of the rooms of a test, in one pass over each table.
+fn rows_passing<S: Alter>(
+    conn: &mut Connection<S>,
+    alloc: Global,
+    test: &RoomTest,
+) -> Result<(Vec<BookingRow>, Vec<CancelledRow>), Error>
+    requires autocommit { conn.old.in_transaction ≡ false }
+    ensures autocommit { conn.new.in_transaction ≡ false }
+    ensures reads { ReadsInUse (state S.Store conn.old) (state S.Store conn.new) result
+        (λ rows. (rows.0.items ≡ filter (books_in test.now) (tables_in (state S.Store conn.old).now.trees).booking)
+        × (rows.1.items ≡ filter (cancels_in test.now) (tables_in (state S.Store conn.old).now.trees).cancelled)) }
+{
+    let booking = passing_rows(conn, alloc, test)?;
+    let cancelled = passing_rows(conn, alloc, test)?;
+    Ok((booking, cancelled))
+}
+
+fn are_several(rooms: &RoomSet) -> bool {
     rooms.len() > 1
 }
 
-fn test_of(alloc: Global, rooms: &[RoomName]) -> Result<RoomTest, Error>
-    ensures { IfOk result (λ test. IsSetOf test.rooms rooms.now) }
+/// The same of a set of rooms: those of one by statements.
+fn rows_touched<S: Alter>(
+    conn: &mut Connection<S>,
+    alloc: Global,
+    rooms: RoomSet,
+) -> Result<(Vec<BookingRow>, Vec<CancelledRow>), Error>
+    requires autocommit { conn.old.in_transaction ≡ false }
+    ensures autocommit { conn.new.in_transaction ≡ false }
+    ensures reads { ReadsInUse (state S.Store conn.old) (state S.Store conn.new) result
+        (λ rows. (touched : List Text) → IsSetOf rooms touched
+        → (rows.0.items ≡ filter (is_row_asked is_booking_asked touched) (tables_in (state S.Store conn.old).now.trees).booking)
+        × (rows.1.items ≡ filter (is_row_asked is_cancelled_asked touched) (tables_in (state S.Store conn.old).now.trees).cancelled)) }
 {
-    match RoomTest::of(alloc, rooms) {
-        Ok(test) => Ok(test),
-        Err(_) => Err(Error::SqliteFailure(ErrorCode::OutOfMemory)),
+    if are_several(&rooms) {
+        let test = RoomTest { alloc, rooms };
+        return rows_passing(conn, alloc, &test);
     }
+    let names = names_in(alloc, rooms)?;
+    rows_in(conn, alloc, &names)
 }
 
-/// The bookings of these rooms, in one pass over the table.
-fn passing_bookings<S: Alter>(
-    conn: &mut Connection<S>,
-    alloc: Global,
-    rooms: &[RoomName],
-) -> Result<Vec<BookingRow>, Error>
-    requires autocommit { conn.old.in_transaction ≡ false }
-    ensures autocommit { conn.new.in_transaction ≡ false }
-    ensures reads { ReadsInUse (state S.Store conn.old) (state S.Store conn.new) result
-        (λ rows. rows.items ≡ filter (is_row_asked is_booking_asked rooms.now) (tables_in (state S.Store conn.old).now.trees).booking) }
-{
-    let test = test_of(alloc, rooms)?;
-    passing_rows(conn, alloc, &test)
-}
-
-/// The bookings of these rooms: those of one by a statement.
-fn bookings_in<S: Alter>(
-    conn: &mut Connection<S>,
-    alloc: Global,
-    rooms: &[RoomName],
-) -> Result<Vec<BookingRow>, Error>
-    requires autocommit { conn.old.in_transaction ≡ false }
-    ensures autocommit { conn.new.in_transaction ≡ false }
-    ensures reads { ReadsInUse (state S.Store conn.old) (state S.Store conn.new) result
-        (λ rows. rows.items ≡ filter (is_row_asked is_booking_asked rooms.now) (tables_in (state S.Store conn.old).now.trees).booking) }
-{
-    if are_several(rooms) {
-        passing_bookings(conn, alloc, rooms)
-    } else {
-        asked_rows(conn, alloc, rooms)
-    }
-}
-
-/// The booking of the target that is asked for.
-fn read_target_booking<S: Alter>(
-    conn: &mut Connection<S>,
-    alloc: Global,
-    scope: &Scope<'_>,
-) -> Result<Vec<BookingRow>, Error>
-    requires autocommit { conn.old.in_transaction ≡ false }
-    ensures autocommit { conn.new.in_transaction ≡ false }
-    ensures reads { ReadsInUse (state S.Store conn.old) (state S.Store conn.new) result
-        (λ rows. rows.items ≡ filter (is_row_asked is_booking_named (target_questions (scope_of scope.now)))
-        (tables_in (state S.Store conn.old).now.trees).booking) }
-{
-    let asked = target_questions(alloc, scope)?;
-    asked_rows(conn, alloc, &asked)
-}
-
-/// The bookings that are asked for, of these rooms or by id. No scope asks by both.
-fn read_bookings<S: Alter>(
-    conn: &mut Connection<S>,
-    alloc: Global,
-    scope: &Scope<'_>,
-    rooms: &[RoomName],
-) -> Result<Vec<BookingRow>, Error>
-    requires autocommit { conn.old.in_transaction ≡ false }
-    ensures autocommit { conn.new.in_transaction ≡ false }
-    ensures reads { ReadsInUse (state S.Store conn.old) (state S.Store conn.new) result
-        (λ rows. (commits : ℕ) (logs : List Row) → AreSameRooms rooms.now (room_questions commits (scope_of scope.now) logs)
-        → rows.items ≡ filter (asks_booking commits (scope_of scope.now) logs) (tables_in (state S.Store conn.old).now.trees).booking) }
-{
-    if asks_by_id(scope) {
-        read_target_booking(conn, alloc, scope)
-    } else {
-        bookings_in(conn, alloc, rooms)
-    }
-}
-
-/// The logged request of the target that is asked for.
-fn read_errors<S: Alter>(
-    conn: &mut Connection<S>,
-    alloc: Global,
-    scope: &Scope<'_>,
-) -> Result<Vec<ErrorRow>, Error>
-    requires autocommit { conn.old.in_transaction ≡ false }
-    ensures autocommit { conn.new.in_transaction ≡ false }
-    ensures reads { ReadsInUse (state S.Store conn.old) (state S.Store conn.new) result
-        (λ rows. rows.items ≡ filter (is_row_asked is_error_of (target_questions (scope_of scope.now)))
-        (tables_in (state S.Store conn.old).now.trees).errorlog) }
-{
-    let asked = target_questions(alloc, scope)?;
-    asked_rows(conn, alloc, &asked)
-}
-
-/// The cancelled bookings of these rooms, in one pass over the table.
-fn passing_cancelled<S: Alter>(
-    conn: &mut Connection<S>,
-    alloc: Global,
-    rooms: &[RoomName],
-) -> Result<Vec<CancelledRow>, Error>
-    requires autocommit { conn.old.in_transaction ≡ false }
-    ensures autocommit { conn.new.in_transaction ≡ false }
-    ensures reads { ReadsInUse (state S.Store conn.old) (state S.Store conn.new) result
-        (λ rows. rows.items ≡ filter (is_row_asked is_cancelled_asked rooms.now) (tables_in (state S.Store conn.old).now.trees).cancelled) }
-{
-    let test = test_of(alloc, rooms)?;
-    passing_rows(conn, alloc, &test)
-}
-
-/// The cancelled bookings of these rooms: those of one by a statement.
-fn cancelled_in<S: Alter>(
-    conn: &mut Connection<S>,
-    alloc: Global,
-    rooms: &[RoomName],
-) -> Result<Vec<CancelledRow>, Error>
-    requires autocommit { conn.old.in_transaction ≡ false }
-    ensures autocommit { conn.new.in_transaction ≡ false }
-    ensures reads { ReadsInUse (state S.Store conn.old) (state S.Store conn.new) result
-        (λ rows. rows.items ≡ filter (is_row_asked is_cancelled_asked rooms.now) (tables_in (state S.Store conn.old).now.trees).cancelled) }
-{
-    if are_several(rooms) {
-        passing_cancelled(conn, alloc, rooms)
-    } else {
-        asked_rows(conn, alloc, rooms)
-    }
-}
-
-/// The cancelled bookings of the ids that are asked for.
+/// The cancelled bookings of those of these writes that are committed next.
 fn read_taken<S: Alter>(
     conn: &mut Connection<S>,
     alloc: Global,
-    scope: &Scope<'_>,
     logs: &[LogRow],
-    commits: u64,
+    count: u64,
 ) -> Result<Vec<CancelledRow>, Error>
     requires autocommit { conn.old.in_transaction ≡ false }
     ensures autocommit { conn.new.in_transaction ≡ false }
     ensures reads { ReadsInUse (state S.Store conn.old) (state S.Store conn.new) result
-        (λ rows. rows.items ≡ filter (is_row_asked is_cancelled_of (taken_questions commits (scope_of scope.now) logs.now))
+        (λ rows. rows.items ≡ filter (is_row_asked is_cancelled_of (map log_id (take count (by_stamp (filter is_tentative logs.now)))))
         (tables_in (state S.Store conn.old).now.trees).cancelled) }
 {
-    match taken_questions(alloc, scope, logs, commits) {
+    match next_ids(alloc, logs, count) {
         Ok(asked) => asked_rows(conn, alloc, &asked),
         Err(_) => Err(Error::SqliteFailure(ErrorCode::OutOfMemory)),
     }
 }
 
-/// The cancelled bookings that are asked for, of these rooms or by id.
-fn read_cancelled<S: Alter>(
-    conn: &mut Connection<S>,
-    alloc: Global,
-    scope: &Scope<'_>,
-    rooms: &[RoomName],
-    logs: &[LogRow],
-    commits: u64,
-) -> Result<Vec<CancelledRow>, Error>
-    requires autocommit { conn.old.in_transaction ≡ false }
-    ensures autocommit { conn.new.in_transaction ≡ false }
-    ensures reads { ReadsInUse (state S.Store conn.old) (state S.Store conn.new) result
-        (λ rows. AreSameRooms rooms.now (room_questions commits (scope_of scope.now) logs.now)
-        → rows.items ≡ filter (asks_cancelled commits (scope_of scope.now) logs.now) (tables_in (state S.Store conn.old).now.trees).cancelled) }
+/// Rows that a scope needs, and others perhaps.
+#[derive(Drop)]
+pub(crate) struct ScopeRows {
+    pub log: Vec<LogRow>,
+    pub booking: Vec<BookingRow>,
+    pub errorlog: Vec<ErrorRow>,
+    pub cancelled: Vec<CancelledRow>,
+}
+
+/// These rows of `log` and no others.
+fn only_logs(alloc: Global, log: Vec<LogRow>) -> ScopeRows
+    ensures log { result.log ≡ log }
+    ensures booking { result.booking.items ≡ [] }
+    ensures errorlog { result.errorlog.items ≡ [] }
+    ensures cancelled { result.cancelled.items ≡ [] }
 {
-    if takes_by_id(scope) {
-        read_taken(conn, alloc, scope, logs, commits)
-    } else {
-        cancelled_in(conn, alloc, rooms)
+    ScopeRows {
+        log,
+        booking: Vec::new(alloc),
+        errorlog: Vec::new(alloc),
+        cancelled: Vec::new(alloc),
     }
 }
 
-fn rooms_asked(
-    alloc: Global,
-    scope: &Scope<'_>,
-    logs: &[LogRow],
-    commits: u64,
-) -> Result<Vec<RoomName>, Error>
-    ensures { IfOk result (λ rooms. AreSameRooms rooms.items (room_questions commits (scope_of scope.now) logs.now)) }
-{
-    match room_questions(alloc, scope, logs, commits) {
-        Ok(rooms) => Ok(rooms),
-        Err(_) => Err(Error::SqliteFailure(ErrorCode::OutOfMemory)),
-    }
-}
-
-/// Of the tables that show what became of writes the rows that are asked for: those of `booking`, `errorlog` and `cancelled`.
-fn read_places<S: Alter>(
+/// A submission.
+fn rows_in_room<S: Alter>(
     conn: &mut Connection<S>,
     alloc: Global,
-    scope: &Scope<'_>,
-    logs: &[LogRow],
-    commits: u64,
-) -> Result<(Vec<BookingRow>, Vec<ErrorRow>, Vec<CancelledRow>), Error>
+    room: &RoomName,
+) -> Result<ScopeRows, Error>
     requires autocommit { conn.old.in_transaction ≡ false }
     ensures autocommit { conn.new.in_transaction ≡ false }
     ensures reads { ReadsInUse (state S.Store conn.old) (state S.Store conn.new) result
-        (λ rows. ArePlacesRead commits (scope_of scope.now) (tables_in (state S.Store conn.old).now.trees) logs.now rows.0.items rows.1.items rows.2.items) }
+        (λ rows. AreRead (InRoom room.now) (tables_in (state S.Store conn.old).now.trees) rows) }
 {
-    let rooms = rooms_asked(alloc, scope, logs, commits)?;
-    let booking = read_bookings(conn, alloc, scope, &rooms)?;
-    let errorlog = read_errors(conn, alloc, scope)?;
-    let cancelled = read_cancelled(conn, alloc, scope, &rooms, logs, commits)?;
-    Ok((booking, errorlog, cancelled))
+    let rows = rows_in(conn, alloc, slice::from_ref(room))?;
+    Ok(ScopeRows {
+        log: Vec::new(alloc),
+        booking: rows.0,
+        errorlog: Vec::new(alloc),
+        cancelled: rows.1,
+    })
 }
 
-/// The rows of a scope: of `log`, and of those tables. `commits` are known, and no row of `log` has a time above the clock.
+/// A cancel.
+fn rows_of_target<S: Alter>(
+    conn: &mut Connection<S>,
+    alloc: Global,
+    target: WriteId,
+) -> Result<ScopeRows, Error>
+    requires autocommit { conn.old.in_transaction ≡ false }
+    ensures autocommit { conn.new.in_transaction ≡ false }
+    ensures reads { ReadsInUse (state S.Store conn.old) (state S.Store conn.new) result
+        (λ rows. AreRead (OfTarget target) (tables_in (state S.Store conn.old).now.trees) rows) }
+{
+    let question = question_for(target);
+    let booking: Vec<BookingRow> = asked_rows(conn, alloc, slice::from_ref(&question))?;
+    let errorlog: Vec<ErrorRow> = asked_rows(conn, alloc, slice::from_ref(&question))?;
+    let cancelled: Vec<CancelledRow> = asked_rows(conn, alloc, slice::from_ref(&question))?;
+    Ok(ScopeRows {
+        log: Vec::new(alloc),
+        booking,
+        errorlog,
+        cancelled,
+    })
+}
+
+/// A commit.
+fn rows_of_next<S: Alter>(
+    conn: &mut Connection<S>,
+    alloc: Global,
+    count: u64,
+) -> Result<ScopeRows, Error>
+    requires autocommit { conn.old.in_transaction ≡ false }
+    ensures autocommit { conn.new.in_transaction ≡ false }
+    ensures reads { ReadsInUse (state S.Store conn.old) (state S.Store conn.new) result
+        (λ rows. AreRead (NextCommits count) (tables_in (state S.Store conn.old).now.trees) rows) }
+{
+    let log = read_next(conn, alloc, count)?;
+    let cancelled = read_taken(conn, alloc, &log, count)?;
+    Ok(ScopeRows {
+        log,
+        booking: Vec::new(alloc),
+        errorlog: Vec::new(alloc),
+        cancelled,
+    })
+}
+
+/// A truncation.
+fn rows_of_cut<S: Alter>(
+    conn: &mut Connection<S>,
+    alloc: Global,
+    number: u64,
+    commits: u64,
+) -> Result<ScopeRows, Error>
+    requires autocommit { conn.old.in_transaction ≡ false }
+    ensures autocommit { conn.new.in_transaction ≡ false }
+    ensures reads { ReadsInUse (state S.Store conn.old) (state S.Store conn.new) result
+        (λ rows. commits ≡ (tables_in (state S.Store conn.old).now.trees).meta.commits
+        → AreRead (UpTo number) (tables_in (state S.Store conn.old).now.trees) rows) }
+{
+    let log = read_up_to(conn, alloc, number, commits)?;
+    Ok(only_logs(alloc, log))
+}
+
+/// A batch for a position.
+fn rows_of_answer<S: Alter>(
+    conn: &mut Connection<S>,
+    alloc: Global,
+    number: u64,
+    commits: u64,
+) -> Result<ScopeRows, Error>
+    requires autocommit { conn.old.in_transaction ≡ false }
+    ensures autocommit { conn.new.in_transaction ≡ false }
+    ensures reads { ReadsInUse (state S.Store conn.old) (state S.Store conn.new) result
+        (λ rows. commits ≡ (tables_in (state S.Store conn.old).now.trees).meta.commits
+        → AreRead (Above number) (tables_in (state S.Store conn.old).now.trees) rows) }
+{
+    let log = read_above(conn, alloc, number, commits)?;
+    Ok(only_logs(alloc, log))
+}
+
+/// A batch that is received.
+fn rows_of_batch<S: Alter>(
+    conn: &mut Connection<S>,
+    alloc: Global,
+    items: &[Item],
+    commits: u64,
+    clock: u64,
+) -> Result<ScopeRows, Error>
+    requires autocommit { conn.old.in_transaction ≡ false }
+    ensures autocommit { conn.new.in_transaction ≡ false }
+    ensures reads { ReadsInUse (state S.Store conn.old) (state S.Store conn.new) result
+        (λ rows. commits ≡ (tables_in (state S.Store conn.old).now.trees).meta.commits
+        → clock ≡ (tables_in (state S.Store conn.old).now.trees).meta.clock
+        → AreRead (OfItems (map item_of items.now)) (tables_in (state S.Store conn.old).now.trees) rows) }
+{
+    let read = read_batch(conn, alloc, items, commits, clock)?;
+    let rows = rows_touched(conn, alloc, read.1)?;
+    Ok(ScopeRows {
+        log: read.0,
+        booking: rows.0,
+        errorlog: Vec::new(alloc),
+        cancelled: rows.1,
+    })
+}
+
+/// What a command of this scope needs. `commits` are known, and no row of `log` has a time above the clock.
 fn read_rows<S: Alter>(
     conn: &mut Connection<S>,
     alloc: Global,
     scope: &Scope<'_>,
     commits: u64,
     clock: u64,
-) -> Result<
-    (
-        Vec<LogRow>,
-        (Vec<BookingRow>, Vec<ErrorRow>, Vec<CancelledRow>),
-    ),
-    Error,
->
+) -> Result<ScopeRows, Error>
     requires autocommit { conn.old.in_transaction ≡ false }
     ensures autocommit { conn.new.in_transaction ≡ false }
     ensures reads { ReadsInUse (state S.Store conn.old) (state S.Store conn.new) result
         (λ rows. commits ≡ (tables_in (state S.Store conn.old).now.trees).meta.commits → clock ≡ (tables_in (state S.Store conn.old).now.trees).meta.clock
-        → AreRead (scope_of scope.now) (tables_in (state S.Store conn.old).now.trees) rows.0.items rows.1.0.items rows.1.1.items rows.1.2.items) }
+        → AreRead (scope_of scope.now) (tables_in (state S.Store conn.old).now.trees) rows) }
 {
-    let logs = read_logs(conn, alloc, scope, commits, clock)?;
-    let places = read_places(conn, alloc, scope, &logs, commits)?;
-    Ok((logs, places))
+    match *scope {
+        Scope::Nothing => Ok(only_logs(alloc, Vec::new(alloc))),
+        Scope::InRoom(room) => rows_in_room(conn, alloc, room),
+        Scope::OfTarget(target) => rows_of_target(conn, alloc, target),
+        Scope::NextCommits(count) => rows_of_next(conn, alloc, count),
+        Scope::UpTo(number) => rows_of_cut(conn, alloc, number, commits),
+        Scope::Above(number) => rows_of_answer(conn, alloc, number, commits),
+        Scope::Items(items) => rows_of_batch(conn, alloc, items, commits, clock),
+    }
 }
 
 fn commits_of(meta: &MetaRow) -> u64
@@ -282,10 +307,10 @@ pub(crate) fn read_scope<S: Alter>(
         meta: heads.0,
         room: heads.1,
         vector: heads.2,
-        log: rows.0,
-        booking: rows.1.0,
-        errorlog: rows.1.1,
-        cancelled: rows.1.2,
+        log: rows.log,
+        booking: rows.booking,
+        errorlog: rows.errorlog,
+        cancelled: rows.cancelled,
         cancels: Vec::new(alloc),
     })
 }
