@@ -1,6 +1,7 @@
 -- Tables, some of which have fresh rows beside their lists.
-use Rattle.std.specs.Prelude.{◌≡◌, ◌≤◌, length, nat_lt}
+use Rattle.std.specs.Prelude.{◌≡◌, ◌≤◌, Bool, true, false, length, nat_lt}
 use Rattle.mr_model.specs.Replica.{text_before}
+use Rattle.mr_model.specs.Scopes.{Scope, Nothing, InRoom, OfTarget, NextCommits, UpTo, Above, OfItems}
 use Rattle.mr_model.specs.Tables.{Tables}
 use Rattle.mr_model.specs.Queries.{booking_id, error_id, cancelled_id, cancel_id, log_id}
 use Rattle.mr_tables.specs.Change.{ChangeView, put_all, rows_without, id_before}
@@ -16,6 +17,16 @@ whole t fresh =
       booking = spliced t.booking fresh.booking.at fresh.booking.rows.items;
       errorlog = spliced t.errorlog fresh.errorlog.at fresh.errorlog.rows.items;
     }
+
+-- of the tables that may have fresh rows, a command of this scope needs the log alone
+abbrev pub is_of_logs : Scope → Bool
+is_of_logs Nothing = false
+is_of_logs (InRoom room) = false
+is_of_logs (OfTarget target) = false
+is_of_logs (NextCommits count) = true
+is_of_logs (UpTo number) = true
+is_of_logs (Above commits) = true
+is_of_logs (OfItems items) = false
 
 -- each place is one of its table
 pub record ArePlaces (t : Tables) (fresh : FreshRows) : Type 0 where

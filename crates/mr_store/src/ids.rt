@@ -1,5 +1,6 @@
-ghost use Rattle.std.specs.Prelude.{◌≡◌, ◌≤◌, length};
+ghost use Rattle.std.specs.Prelude.{◌≡◌, ◌<◌, ◌≤◌, true, None, find, length, slice_index_or, IfSome, IfNone};
 ghost use Rattle.std.specs.List.{list_any};
+ghost use Rattle.std.specs.Option.{option_copied};
 ghost use Rattle.mr_model.specs.Writes.{same_id};
 ghost use Rattle.mr_tables.proofs.Putting.{InOrder};
 ghost use Rattle.mr_agree.specs.Ids.{has_id, has_place_of};
@@ -63,19 +64,61 @@ fn has_spliced<R: IdRow>(rows: &[R], fresh: &Fresh<R>, id: WriteId) -> bool
     requires order { InOrder R.before R.key (spliced rows.now fresh.now.at fresh.now.rows.items) }
     ensures { result ≡ list_any (λ r. same_id (R.id r) id) (spliced rows.now fresh.now.at fresh.now.rows.items) }
 {
-    let (front, behind) = rows.split_at(fresh.at);
-    has_sorted(front, id) || (has_sorted(&fresh.rows, id) || has_sorted(behind, id))
+    row_of_spliced(rows, fresh, id).is_some()
 }
 
-/// Whether one of these rows, which are in the order of their ids, has this id.
 fn has_sorted<R: IdRow>(rows: &[R], id: WriteId) -> bool
     requires { InOrder R.before R.key rows.now }
     ensures { result ≡ list_any (λ r. same_id (R.id r) id) rows.now }
 {
-    let at = rows.partition_point(|row| row.is_in_front_of(id));
-    if at < rows.len() {
-        rows[at].is_of(id)
-    } else {
-        false
+    row_of_sorted(rows, id).is_some()
+}
+
+/// The row with this id among rows that are with the fresh ones in the order of their ids.
+#[tactic(auto, using(crate::proofs::Splices::found_front, crate::proofs::Splices::found_fresh, crate::proofs::Splices::found_behind))]
+pub(crate) fn row_of_spliced<'a, R: IdRow>(
+    rows: &'a [R],
+    fresh: &'a Fresh<R>,
+    id: WriteId,
+) -> Option<&'a R>
+    requires place { fresh.now.at ≤ length rows.now }
+    requires order { InOrder R.before R.key (spliced rows.now fresh.now.at fresh.now.rows.items) }
+    ensures { option_copied result ≡ find (λ r. same_id (R.id r) id) (spliced rows.now fresh.now.at fresh.now.rows.items) }
+{
+    let (front, behind) = rows.split_at(fresh.at);
+    if let Some(row) = row_of_sorted(front, id) {
+        return Some(row);
     }
+    if let Some(row) = row_of_sorted(&fresh.rows, id) {
+        return Some(row);
+    }
+    row_of_sorted(behind, id)
+}
+
+/// The row with this id among rows in the order of their ids.
+pub(crate) fn row_of_sorted<R: IdRow>(rows: &[R], id: WriteId) -> Option<&R>
+    requires { InOrder R.before R.key rows.now }
+    ensures { option_copied result ≡ find (λ r. same_id (R.id r) id) rows.now }
+{
+    match place_of_id(rows, id) {
+        Some(place) => Some(&rows[place]),
+        None => None,
+    }
+}
+
+/// The place of the row with this id among rows in the order of their ids: few of them are looked at.
+pub(crate) fn place_of_id<R: IdRow>(rows: &[R], id: WriteId) -> Option<usize>
+    requires { InOrder R.before R.key rows.now }
+    ensures within { IfSome result (λ place. place < length rows.now) }
+    ensures row { IfSome result (λ place. (d : R) → same_id (R.id (slice_index_or rows.now place d)) id ≡ true) }
+    ensures none { IfNone result (find (λ r. same_id (R.id r) id) rows.now ≡ None) }
+{
+    let place = rows.partition_point(|row| row.is_in_front_of(id));
+    if place >= rows.len() {
+        return None;
+    }
+    if !rows[place].is_of(id) {
+        return None;
+    }
+    Some(place)
 }

@@ -1,11 +1,13 @@
-ghost use Rattle.std.specs.Prelude.{◌≡◌, ◌≤◌, [], true, IfOk, OnOk, OnErr};
+ghost use Rattle.std.specs.Prelude.{◌≡◌, ◌≤◌, ◌∷◌, [], true, None, find, slice_index_or, IfOk, IfSome, IfNone, OnOk, OnErr};
 ghost use Rattle.std.specs.Vec.{vec_len};
 ghost use Rattle.mr_model.specs.Dropped.{Has};
+ghost use Rattle.mr_model.specs.Writes.{same_id};
 ghost use Rattle.mr_tables.specs.Change.{put_all, rows_without};
 ghost use Rattle.mr_tables.proofs.Putting.{InOrder};
 ghost use Rattle.mr_lists.specs.RowsAround.{Precede};
-ghost use Rattle.mr_store.specs.Spliced.{spliced, Follow};
+ghost use Rattle.mr_store.specs.Spliced.{spliced, Follow, IsTakenOut};
 
+use crate::ids::place_of_id;
 use mr_base::WriteId;
 use mr_lists::puts::{change_rows, prepare, put_rows};
 use mr_lists::rows::{IdRow, TableRow};
@@ -101,6 +103,44 @@ fn change_settled<R: IdRow>(
     change_list(alloc, rows, gone, news)?;
     fresh.at = rows.len();
     Ok(())
+}
+
+/// Takes the row of this write away, if there is one: no other row is looked at, and only those behind it move. It answers where the
+/// row stood in the list.
+pub(crate) fn take_out_spliced<R: IdRow>(
+    rows: &mut Vec<R>,
+    fresh: &mut Fresh<R>,
+    id: WriteId,
+) -> Option<usize>
+    requires place { fresh.old.at ≤ vec_len rows.old }
+    requires order { InOrder R.before R.key (spliced rows.old.items fresh.old.at fresh.old.rows.items) }
+    ensures place { fresh.new.at ≤ vec_len rows.new }
+    ensures changed { spliced rows.new.items fresh.new.at fresh.new.rows.items ≡ rows_without R.id (id ∷ []) (spliced rows.old.items fresh.old.at fresh.old.rows.items) }
+    ensures list { IsTakenOut result rows.old.items rows.new.items }
+{
+    take_out(&mut fresh.rows, id);
+    let place = take_out(rows, id)?;
+    if place < fresh.at {
+        fresh.at -= 1;
+    }
+    Some(place)
+}
+
+/// Takes the row of this write out of rows in the order of their ids, if it is there, and answers where it stood.
+fn take_out<R: IdRow>(rows: &mut Vec<R>, id: WriteId) -> Option<usize>
+    requires { InOrder R.before R.key rows.old.items }
+    ensures without { rows.new.items ≡ rows_without R.id (id ∷ []) rows.old.items }
+    ensures place { IsTakenOut result rows.old.items rows.new.items }
+    ensures row { IfSome result (λ place. (d : R) → same_id (R.id (slice_index_or rows.old.items place d)) id ≡ true) }
+    ensures none { IfNone result (find (λ r. same_id (R.id r) id) rows.old.items ≡ None) }
+{
+    match place_of_id(rows, id) {
+        Some(place) => {
+            rows.remove(place);
+            Some(place)
+        }
+        None => None,
+    }
 }
 
 /// A place for the first of these rows.
