@@ -1,5 +1,5 @@
 -- The slots of a text of choices, word by word.
-use Rattle.std.proofs.Common.{◌≡◌, refl, sym, ap, ◌∙◌, subst, ℕ, zero, suc, ◌+◌, ◌*◌, ◌-◌, ◌<◌, ◌≤◌, Bool, true, false, cond, List, [], ◌∷◌, ◌++◌, length, ◌⊎◌, inl, inr, Option, Some, None, arith}
+use Rattle.std.proofs.Common.{◌≡◌, refl, sym, ap, ◌∙◌, subst, ℕ, zero, suc, ◌+◌, ◌*◌, ◌-◌, ◌<◌, ◌≤◌, Bool, true, false, cond, [], ◌∷◌, ◌++◌, length, ◌⊎◌, inl, inr, Some, None, arith}
 use Rattle.std.specs.List.{slice_get}
 use Rattle.mr_model.specs.Texts.{Text, is_space, first_word, after_word, behind, word_at}
 use Rattle.mr_model.specs.Slots.{slot_in}

@@ -6,7 +6,7 @@ use Rattle.std.specs.List.Sorted.{IsPartitionedBy, IsPartitionPoint}
 use Rattle.mr_model.specs.Dropped.{Has}
 use Rattle.mr_model.specs.Writes.{Id, same_id}
 use Rattle.mr_model.specs.Replica.{is_among}
-use Rattle.mr_model.proofs.Members.{all_has, has_all, same_id-true, has_among, has_map, not_among, map_has}
+use Rattle.mr_model.proofs.Members.{all_has, has_all, has_among, has_map, not_among, map_has}
 use Rattle.mr_tables.specs.Change.{id_before}
 use Rattle.mr_model.specs.Changes.{IdBefore, RiseById}
 use Rattle.mr_tables.specs.Rise.{Rise}

@@ -5,7 +5,7 @@ ghost use Rattle.mr_tables.specs.Rise.{Rise};
 ghost use Rattle.mr_agree.specs.Agreeing.{do_rooms_agree};
 
 use mr_base::RoomName;
-use mr_tables::rooms::is_known;
+use mr_tables::rooms::{is_before, is_known};
 use mr_tables::{BookingRow, CancelRow, CancelledRow, ErrorRow, LogRow, Tables};
 
 /// Whether the room of each row is known, by a binary search where the rooms stand in the order of their names.
@@ -85,11 +85,4 @@ fn are_rooms_rising(rooms: &[RoomName]) -> bool
     ensures { IsTrue result ↔ Rise text_before (λ name. name) rooms.now }
 {
     rooms.is_sorted_by(|one, next| is_before(one, next))
-}
-
-/// Whether the name stands before the other, by the first byte that differs.
-fn is_before(name: &RoomName, other: &RoomName) -> bool
-    ensures { result ≡ text_before name.now other.now }
-{
-    *name < *other
 }

@@ -1,6 +1,5 @@
 -- The commit numbers of what a batch executes anew: the new commits have the next ones, and all behind them none.
-use Rattle.std.proofs.Common.{◌≡◌, sym, ap, ◌∙◌, ℕ, zero, suc, ◌+◌, ◌-◌, ◌<◌, ◌≤◌, leb, List, [], ◌∷◌, ◌++◌, length, map, ◌⊎◌, inl, inr, Some, arith, append_assoc, length-append, leb-true}
-use Rattle.std.proofs.lemmas.Bool.{true≢false, cond-false, false_from_ne_true}
+use Rattle.std.proofs.Common.{◌≡◌, sym, ap, ◌∙◌, ℕ, suc, ◌+◌, ◌-◌, ◌<◌, ◌≤◌, List, ◌++◌, length, map, ◌⊎◌, inl, inr, Some, arith, append_assoc, length-append}
 use Rattle.std.proofs.lemmas.List.{length-map}
 use Rattle.std.specs.List.{slice_get}
 use Rattle.mr_model.specs.Writes.{Write, id_of}
@@ -10,17 +9,9 @@ use Rattle.mr_model.specs.Tables.{seq_of}
 use Rattle.mr_model.specs.Dropped.{Has}
 use Rattle.mr_model.specs.Moving.{BatchMoves}
 use Rattle.mr_model.proofs.CommitRows.{slice_behind}
-use Rattle.mr_model.proofs.KnownById.{committed_ids, tentative_known}
-use Rattle.mr_model.proofs.Members.{has_among, slice_has}
-use Rattle.mr_model.proofs.RowsById.{seq_not}
+use Rattle.mr_model.proofs.Members.{slice_has}
 use Rattle.mr_tables.specs.ExecutionRows.{seq_on}
-use Rattle.mr_part.proofs.DeskNumbers.{le_or_lt, order_numbers, slice_left}
-
--- an element of a list has a place in it
-pub has_place : {A : Type 0} (x : A) (xs : List A) → Has x xs → (i : ℕ) × (slice_get xs i ≡ Some x)
-has_place x [] h = absurd h
-has_place x (y ∷ ys) (inl e) = (zero, ap Some (sym e))
-has_place x (y ∷ ys) (inr h) = let (i, e) = has_place x ys h in (suc i, e)
+use Rattle.mr_part.proofs.OrderNumbers.{le_or_lt, slice_left, no_number, committed_long, order_numbers}
 
 module _ (a b : Replica) (items : List Item) (m : BatchMoves a b items) (sound : IsReplica a) where
   pub commits_long : length b.commits ≡ length a.commits + length m.news
@@ -29,19 +20,11 @@ module _ (a b : Replica) (items : List Item) (m : BatchMoves a b items) (sound :
   pub new_number : (i : ℕ) (w : Write) → i < length m.news → slice_get m.news i ≡ Some w → seq_of b w ≡ seq_on (length b.commits) (length a.commits + 1 + i)
   new_number i w low e =
       let n = length (committed a) in
-      let long : n ≡ length a.commits = sym (length-map (committed a) id_of) ∙ ap length (committed_ids a sound) in
+      let long = committed_long a sound in
       let there : slice_get (order_of b) (n + i) ≡ Some w =
       ap (λ ws. slice_get (ws ++ tentative b) (n + i)) m.committed_are ∙ ap (λ ws. slice_get ws (n + i)) (append_assoc (committed a) m.news (tentative b))
       ∙ slice_behind (committed a) (m.news ++ tentative b) i ∙ slice_left m.news (tentative b) i low ∙ e in
       order_numbers b (n + i) w m.sound there ∙ (let at : 1 + (n + i) ≡ length a.commits + 1 + i = omega (arith, long) in ap (seq_on (length b.commits)) at)
-
-  no_number : (i : ℕ) (w : Write) → length m.news ≤ i → Has w (tentative b) → seq_of b w ≡ seq_on (length b.commits) (length a.commits + 1 + i)
-  no_number i w high h =
-      let t = tentative_known b w h in
-      let long = commits_long in
-      let k = length a.commits + 1 + i in
-      seq_not 1 b.commits (id_of w) (λ g. true≢false (sym (has_among (id_of w) b.commits g) ∙ t.1))
-      ∙ sym (cond-false (leb k (length b.commits)) k 0 (false_from_ne_true (leb k (length b.commits)) (λ l. let f = leb-true k (length b.commits) l in omega (arith, f, long, high))))
 
   -- the new commits, and tentative writes behind them
   pub behind_numbered : (rest : List Write) → ((w : Write) → Has w rest → Has w (tentative b)) → (i : ℕ) (w : Write) → slice_get (m.news ++ rest) i ≡ Some w → seq_of b w ≡ seq_on (length b.commits) (length a.commits + 1 + i)
@@ -52,4 +35,5 @@ module _ (a b : Replica) (items : List Item) (m : BatchMoves a b items) (sound :
       go (inr high) =
           let at : i ≡ length m.news + (i - length m.news) = omega (arith, high) in
           let there : slice_get rest (i - length m.news) ≡ Some w = sym (slice_behind m.news rest (i - length m.news)) ∙ ap (slice_get (m.news ++ rest)) (sym at) ∙ e in
-          no_number i w (omega (arith, high)) (open_ w (slice_has rest (i - length m.news) w there))
+          let long = commits_long in
+          no_number b (length a.commits + 1 + i) w (open_ w (slice_has rest (i - length m.news) w there)) (omega (arith, long, high))

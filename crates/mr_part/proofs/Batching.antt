@@ -2,7 +2,6 @@
 use Rattle.std.proofs.Common.{◌≡◌, ℕ, zero, suc, ◌+◌, ◌-◌, ◌<◌, ◌≤◌, ◌==◌, min, nat_lt, not, Bool, true, false, cond, List, [], ◌∷◌, ◌++◌, length, get_or, map, take, drop, Some, ap, refl, sym, ◌∙◌, subst, append_assoc, append-nil, ◌⊎◌, ◌&&◌, inl, inr, arith}
 use Rattle.std.specs.Prelude.{flat_map}
 use Rattle.std.specs.List.{filter_map, cons_option, enumerate_from, list_any, list_all}
-use Rattle.std.proofs.Math.Seq.{take-append_seam}
 use Rattle.std.proofs.lemmas.Bool.{true≢false, or_cases}
 use Rattle.std.proofs.lemmas.Bool.Decides.{nat_tests}
 use Rattle.std.proofs.lemmas.List.{length-append, length-map, length-take, map-append, map_more, take_all, take-append-drop}
@@ -12,7 +11,7 @@ use Rattle.mr_model.specs.Positions.{Position}
 use Rattle.mr_model.specs.Replica.{Replica, IsReplica, write_with, tentative}
 use Rattle.mr_model.specs.Refusals.{WrongPrimary, Truncated, NeedsVersion2, first_refusal}
 use Rattle.mr_model.specs.Replies.{Reply, BatchIs}
-use Rattle.mr_model.specs.Kept.{kept_in_order, kept_committed}
+use Rattle.mr_model.specs.Kept.{kept_committed}
 use Rattle.mr_model.specs.Dropped.{Has}
 use Rattle.mr_model.specs.Step.{item_if_lacked, commit_items, items_for, is_beyond, batch_of, batch_unless, batch_reply}
 use Rattle.mr_model.proofs.BatchItems.{list_of_all, IsOwn, items_own}
@@ -31,10 +30,8 @@ use Rattle.mr_base.specs.declared.batches.Item.{Item}
 use Rattle.mr_base.specs.declared.refusals.Refusal.TheVariants as refusal
 use Rattle.mr_base.specs.Batches as base
 use Rattle.mr_base.specs.Batches.{item_of}
-use Rattle.mr_part.specs.Desk.{reply_with}
-use Rattle.mr_part.specs.Outgoing.{Offers, committed_items, lacked_items, kept_items, ending_by}
-use Rattle.mr_tables.specs.Summary.{summary_of, committed_len}
-use Rattle.mr_part.proofs.Desks.{committed_kept, tentative_kept}
+use Rattle.mr_part.specs.Answering.{reply_with}
+use Rattle.mr_part.specs.Outgoing.{Offers, committed_items, lacked_items, ending_by}
 
 -- one item more, where there is room
 pub Offers-more : (limit : ℕ) (items : List model.Item) (there new : List Item) (more : Bool) (x : Item) (y : model.Item) → Offers limit items there more → length there < limit → new ≡ there ++ x ∷ [] → item_of x ≡ y → Offers limit (items ++ y ∷ []) new more
@@ -102,10 +99,6 @@ items-made r p sound low =
     let commits = ap (λ is. flat_map (commit_items r p) (enumerate_from (p.commits + 1) is)) ids ∙ commits-found r p (p.commits + 1) (drop n (drop r.dropped r.commits)) later ∙ ap (committed_items p (p.commits + 1)) (drop_found r n (drop r.dropped r.commits) all) in
     λ t. commits t ++ tentative-lacked p (tentative r) t
 
-pub items-kept : (a : Replica) (p : Position) → IsReplica a → a.dropped ≤ p.commits → kept_items p (summary_of a) (kept_in_order a) ≡ items_for a p
-items-kept a p sound low =
-    let front : take (committed_len (summary_of a) (kept_in_order a)) (kept_in_order a) ≡ kept_committed a = ap (λ n. take n (kept_in_order a)) (committed_kept a sound) ∙ take-append_seam (kept_committed a) (tentative a) in
-    (λ t. committed_items p (p.commits + 1) (drop (p.commits - a.dropped) (front t)) ++ lacked_items p (tentative_kept a sound t)) ∙ sym (items-made a p sound low)
 
 -- ---- what a version of the text can say
 

@@ -1,28 +1,21 @@
 -- A commit of the first tentative writes: the order stays, only numbers change.
 use Rattle.std.proofs.Common.{◌≡◌, ℕ, zero, suc, ◌+◌, ◌-◌, ◌<◌, ◌≤◌, ◌==◌, not, true, cond, List, [], ◌∷◌, length, map, take, drop, get_or, ap, refl, sym, ◌∙◌, subst, append_assoc, append-nil, inl, arith}
-use Rattle.std.specs.List.{filter_map}
 use Rattle.std.proofs.lemmas.Bool.{eq-eqb}
 use Rattle.std.proofs.lemmas.List.{drop-map}
 use Rattle.mr_model.specs.Texts.{numbers_on, only_if}
 use Rattle.mr_model.specs.Writes.{Write, id_of}
 use Rattle.mr_model.specs.Refusals.{NotPrimary}
 use Rattle.mr_model.specs.Replies.{CommittedIs}
-use Rattle.mr_model.specs.Replica.{Replica, IsReplica, write_with, writes_of, tentative, committed_count, add_commit}
+use Rattle.mr_model.specs.Replica.{Replica, IsReplica, writes_of, tentative, committed_count, add_commit}
 use Rattle.mr_model.specs.Dropped.{Has}
-use Rattle.mr_model.specs.Kept.{dropped_in_order, kept_in_order}
 use Rattle.mr_model.specs.Changes.{after_commit}
 use Rattle.mr_model.specs.Step.{commit, step_unless}
 use Rattle.mr_model.proofs.KnownById.{numbered_writes, tentative_known}
 use Rattle.mr_model.proofs.RowsById.{server_bounds, known_write}
 use Rattle.mr_model.proofs.CommitsKeep.{tentative_of, drop-numbers_on, keeps-commit}
-use Rattle.mr_model.proofs.DroppedApart.{order-parts}
-use Rattle.mr_model.proofs.Fronts.{take-front}
-use Rattle.mr_model.proofs.Orders.{with_commits, tentative-commit, order-commit}
-use Rattle.mr_part.specs.Log.{log_of}
+use Rattle.mr_model.proofs.Orders.{with_commits, tentative-commit}
 use Rattle.mr_tables.specs.Summary.{summary_of, noted_commits}
-use Rattle.mr_part.specs.Desk.{desk_of, old_errors_of, old_cancels_of}
 use Rattle.mr_tables.proofs.Summaries.{summary-commit}
-use Rattle.mr_part.proofs.Desks.{desk_with, kept_is}
 
 -- the step, where nothing refuses it
 pub commit_done : (a : Replica) (k : ℕ) → (a.server == a.primary) ≡ true → commit a k ≡ record { reply = CommittedIs (length (take k (tentative a))); replica = after_commit a k }
@@ -71,14 +64,3 @@ summary-commits (suc k) a sound = go (tentative a) refl (summary-commits k)
         ∙ ap (λ ts. summary_of (with_commits b (map id_of (take k ts)))) left
         ∙ ap (λ ids. summary_of (record a { commits = ids })) (append_assoc a.commits (id_of w ∷ []) (map id_of (take k ws)))
         ∙ ap (λ ts. summary_of (with_commits a (map id_of (take (suc k) ts)))) (sym e)
-
-module _ (a : Replica) (k : ℕ) (sound : IsReplica a) where
-  dropped-commit : dropped_in_order (after_commit a k) ≡ dropped_in_order a
-  dropped-commit = ap (filter_map (write_with a)) (take-front a.dropped a.commits (map id_of (take k (tentative a))) sound.dropped_committed)
-
-  kept-commit : kept_in_order (after_commit a k) ≡ kept_in_order a
-  kept-commit = kept_is a (after_commit a k) (kept_in_order a) dropped-commit (order-commit a k sound ∙ order-parts a)
-
-  -- nothing moves in the log
-  pub desk-committed : desk_with (noted_commits (summary_of a) (map id_of (take k (tentative a)))) a.rooms (desk_of a).log (desk_of a).old_errors (desk_of a).old_cancels ≡ desk_of (after_commit a k)
-  desk-committed = λ i. desk_with (summary-commits k a sound i) a.rooms (log_of (sym dropped-commit i) (sym kept-commit i)) (old_errors_of (sym dropped-commit i)) (old_cancels_of (sym dropped-commit i))

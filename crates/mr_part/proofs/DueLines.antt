@@ -36,7 +36,7 @@ use Rattle.mr_tables.specs.Summary.{summary_of, tally_at}
 use Rattle.mr_tables.proofs.Summaries.{tally-of, summary-write, summary-commit}
 use Rattle.mr_part.specs.declared.kept_rows.KeptRow.{KeptRow}
 use Rattle.mr_part.specs.Candidate.{write_with_id, known_verdict, there_verdict, write_verdict_with}
-use Rattle.mr_part.specs.Desk.{nothing_taken}
+use Rattle.mr_part.specs.Answering.{nothing_taken}
 use Rattle.mr_part.specs.DueLines.{row_with_id, is_row_number, place_from, brought_write, brought_commit, known_write, is_known_commit, verdict_on, noted_if, due_behind, due_from}
 use Rattle.mr_part.specs.KeptRows.{kept_row}
 use Rattle.mr_part.specs.KeptWrites.{is_number_of, numbered_of}

@@ -1,31 +1,21 @@
 -- The kept rows of a replica, sorted, are those of its kept writes in their order.
-use Rattle.std.proofs.Common.{◌≡◌, refl, sym, ap, ◌∙◌, subst, ℕ, ◌<◌, false, not, eqb, List, [], ◌∷◌, map, ◌⊎◌, inl, inr, arith, eq-eqb, ne_eqb}
-use Rattle.std.proofs.lemmas.Bool.{not-true}
+use Rattle.std.proofs.Common.{◌≡◌, refl, sym, ap, ◌∙◌, subst, ℕ, ◌<◌, false, eqb, List, [], ◌∷◌, map, ◌⊎◌, inl, inr, arith, eq-eqb, ne_eqb}
 use Rattle.std.proofs.lemmas.Cmp.{on_total, then_total}
 use Rattle.std.specs.declared.cmp.Ordering.{Ordering}
 use Rattle.std.specs.declared.cmp.Ordering.TheVariants.{Less, Equal}
 use Rattle.std.specs.Ordering.{nat_cmp, bool_cmp, ordering_then}
 use Rattle.std.specs.Cmp.{IsTotalOrder, nat_cmp_total, bool_cmp_total, nat_cmp_is}
-use Rattle.std.specs.List.Sorted.{IsPermutation, IsSortedByKey}
 use Rattle.mr_model.specs.Writes.{Write, id_of}
-use Rattle.mr_model.specs.Replica.{Replica, IsReplica, is_dropped}
-use Rattle.mr_model.specs.View.{place_of}
-use Rattle.mr_model.specs.Tables.{LogRow, by_id, kept, log_row}
-use Rattle.mr_model.specs.Kept.{dropped_in_order, kept_in_order, LogBefore, both, one, none, AreInRunOrder}
+use Rattle.mr_model.specs.Replica.{Replica}
+use Rattle.mr_model.specs.Tables.{LogRow, log_row}
+use Rattle.mr_model.specs.Kept.{LogBefore, both, one, none, AreInRunOrder}
 use Rattle.mr_model.specs.Changes.{IdBefore}
 use Rattle.mr_model.specs.Dropped.{Has}
-use Rattle.mr_model.proofs.KeyOrder.{WriteBefore, by_id_sorted}
-use Rattle.mr_model.proofs.DroppedApart.{kept_known, known_kept}
-use Rattle.mr_model.proofs.LogOrder.{kept_is_the_log}
-use Rattle.mr_model.proofs.Members.{has_all, all_has, has_map, map_has, has_filter, filter_has, Sorted, sorted_filter}
-use Rattle.mr_model.proofs.RowsById.{has_by_id, by_id_has}
-use Rattle.mr_replay.specs.Places.{UndoRow}
-use Rattle.mr_replay.specs.Rows.{Rows, place_by_rows, undo_row_at, executed, executed_all, undo_rows_of}
+use Rattle.mr_model.proofs.Members.{has_all, all_has, has_map, map_has}
 use Rattle.mr_part.specs.declared.kept_rows.KeptRow.{KeptRow}
 use Rattle.mr_part.specs.declared.kept_rows.RunPlace.{RunPlace}
 use Rattle.mr_part.specs.KeptRows.{kept_row, run_place, run_cmp}
-use Rattle.mr_part.proofs.DeskNumbers.{kept_places}
-use Rattle.mr_part.proofs.Sorting.{Rises, sorted_is}
+use Rattle.mr_part.proofs.Sorting.{Rises}
 
 pub run_order : IsTotalOrder run_cmp
 run_order =
@@ -94,48 +84,8 @@ pub never_before : (x : KeptRow) → KeyBefore x x → ⊥
 never_before x (inl l) = omega (arith, l)
 never_before x (inr p) = let l = p.1 in omega (arith, l)
 
-keys_rise : (a : Replica) (ws : List Write) → Sorted WriteBefore ws → Sorted KeyBefore (map (kept_row a) ws)
-keys_rise a [] s = tt
-keys_rise a (w ∷ ws) s = (
-  has_all (KeyBefore (kept_row a w)) (map (kept_row a) ws) (λ row h.
-      let (v, g, e) = map_has (kept_row a) row ws h in
-      subst (KeyBefore (kept_row a w)) (sym e) (all_has (WriteBefore w) v ws s.0 g)),
-  keys_rise a ws s.1,
-)
-
-pub kept_sorted : (a : Replica) (rows sorted : List KeptRow) → IsReplica a → rows ≡ map (kept_row a) (kept a) → IsPermutation rows sorted → IsSortedByKey run_place run_cmp sorted → sorted ≡ map (kept_row a) (kept_in_order a)
-kept_sorted a rows sorted h e p s =
-    sorted_is run_cmp run_order run_place KeyBefore never_before (map (kept_row a) (kept a)) sorted (map (kept_row a) (kept_in_order a))
-    (keys_rise a (kept a) (sorted_filter WriteBefore (λ w. not (is_dropped a (id_of w))) (by_id a.known) (by_id_sorted a h)))
-    (subst (λ r. IsPermutation r sorted) e p) s (rows_rise a (kept_in_order a) (kept_is_the_log a h).in_order) there back
-  where
-    there : (row : KeptRow) → Has row (map (kept_row a) (kept a)) → Has row (map (kept_row a) (kept_in_order a))
-    there row g =
-        let (w, b, f) = map_has (kept_row a) row (kept a) g in
-        let k = filter_has (λ v. not (is_dropped a (id_of v))) w (by_id a.known) b in
-        subst (λ r. Has r (map (kept_row a) (kept_in_order a))) (sym f) (has_map (kept_row a) w (kept_in_order a) (known_kept a w h (by_id_has a w k.0) (not-true (is_dropped a (id_of w)) k.1)))
-
-    back : (row : KeptRow) → Has row (map (kept_row a) (kept_in_order a)) → Has row (map (kept_row a) (kept a))
-    back row g =
-        let (w, b, f) = map_has (kept_row a) row (kept_in_order a) g in
-        let k = kept_known a w h b in
-        subst (λ r. Has r (map (kept_row a) (kept a))) (sym f)
-        (has_map (kept_row a) w (kept a) (has_filter (λ v. not (is_dropped a (id_of v))) w (by_id a.known) (ap not k.1) (has_by_id a w h k.0)))
-
 -- ---- the parts of the log
 
 pub kept_writes : (a : Replica) (ws : List Write) → map (λ r. r.write) (map (kept_row a) ws) ≡ ws
 kept_writes a [] = refl
 kept_writes a (w ∷ ws) = ap (λ vs. w ∷ vs) (kept_writes a ws)
-
-undo_told : (a : Replica) (b : Rows) (ws : List Write) → map (λ u. u.place) (undo_rows_of b ws) ≡ map (place_of a) ws → map (λ r. r.undo) (map (kept_row a) ws) ≡ undo_rows_of b ws
-undo_told a b [] e = refl
-undo_told a b (w ∷ ws) e =
-    let all : place_by_rows b w ∷ map (λ (u : UndoRow). u.place) (undo_rows_of (executed b w) ws) ≡ place_of a w ∷ map (place_of a) ws = e in
-    let here : place_by_rows b w ≡ place_of a w = (cc) in
-    let later : map (λ (u : UndoRow). u.place) (undo_rows_of (executed b w) ws) ≡ map (place_of a) ws = (cc) in
-    let rest = undo_told a (executed b w) ws later in
-    λ i. undo_row_at w (sym here i) ∷ rest i
-
-pub kept_undo : (a : Replica) → IsReplica a → map (λ r. r.undo) (map (kept_row a) (kept_in_order a)) ≡ undo_rows_of (executed_all [] (dropped_in_order a)) (kept_in_order a)
-kept_undo a h = undo_told a (executed_all [] (dropped_in_order a)) (kept_in_order a) (kept_places a h)

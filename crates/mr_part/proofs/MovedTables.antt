@@ -12,8 +12,10 @@ use Rattle.mr_model.specs.View.{place_of, canceller_of}
 use Rattle.mr_model.specs.Tables.{VectorRow, LogRow, BookingRow, ErrorRow, CancelledRow, CancelRow, PlaceRow, by_id, seq_of, vector_row, log_row, as_booking, as_error, as_cancelled, as_cancel, booking_place_row, place_row_for, place_row, tables_of}
 use Rattle.mr_model.specs.Queries.{booking_id, error_id, cancelled_id, cancel_id, row_id, log_id}
 use Rattle.mr_model.specs.Tables as rows
+use Rattle.mr_model.specs.Changes.{IdBefore}
 use Rattle.mr_model.specs.Dropped.{Has}
-use Rattle.mr_model.proofs.KeyOrder.{numbers_low}
+use Rattle.mr_model.proofs.ErrorsTell.{sorted_filter_map}
+use Rattle.mr_model.proofs.KeyOrder.{WriteBefore, by_id_sorted, numbers_low}
 use Rattle.mr_model.proofs.KnownById.{one_known}
 use Rattle.mr_model.proofs.Members.{has_map, map_has, has_filter, filter_has, has_filter_map, filter_map_has, has_among, among_has}
 use Rattle.mr_model.proofs.RowsById.{flat_has, has_by_id, by_id_has, map_filter}
@@ -25,11 +27,22 @@ use Rattle.mr_model.proofs.TruncateRows.{front-seq}
 use Rattle.mr_model.proofs.UniqueReplay.{some_inj, none_some}
 use Rattle.mr_tables.specs.Change.{put_all, rows_without, id_before, ChangeView, changed}
 use Rattle.mr_tables.specs.Written.{not_booked, not_erred, not_cancelled, with_places}
-use Rattle.mr_tables.proofs.Putting.{InOrder, Lacks, number_order, name_order, puts_make, change_makes}
-use Rattle.mr_part.proofs.DeskBoards.{place_bears}
-use Rattle.mr_part.proofs.DeskNumbers.{Bears, rows_in_order}
+use Rattle.mr_tables.proofs.Putting.{InOrder, Lacks, number_order, name_order, puts_make, change_makes, id_before_from}
 
 -- ---- one table of writes
+
+-- each row bears the id of its write
+abbrev pub Bears : {R : Type 0} → (R → Id) → (Write → Option R) → Type 0
+Bears {R} key f = (w : Write) (row : R) → f w ≡ Some row → key row ≡ id_of w
+
+pub rows_in_order : {R : Type 0} (r : Replica) (key : R → Id) (f : Write → Option R) → IsReplica r → Bears key f → InOrder id_before key (filter_map f (by_id r.known))
+rows_in_order r key f h keyed =
+    sorted_filter_map WriteBefore (λ a b. id_before (key a) (key b) ≡ true) f (by_id r.known)
+    (λ x y u v l e g. id_before_from (key u) (key v) (subst (λ i. IdBefore i (key v)) (sym (keyed x u e)) (subst (λ i. IdBefore (id_of x) i) (sym (keyed y v g)) l))) (by_id_sorted r h)
+
+-- each row of a place bears the id of its write
+pub place_bears : {R : Type 0} (r : Replica) (f : PlaceRow → Option R) (key : R → Id) → ((q : PlaceRow) (row : R) → f q ≡ Some row → key row ≡ row_id q) → Bears key (λ w. f (place_row r w))
+place_bears r f key g w row e = g (place_row r w) row e ∙ key-row r w
 
 -- the rows put are those that these writes have now, the ids taken away are of those that have none now, and all others have the rows
 -- that they had

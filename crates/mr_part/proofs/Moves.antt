@@ -33,9 +33,10 @@ use Rattle.mr_part.specs.Sets.{AreSameRooms}
 use Rattle.mr_part.specs.Taken.{CoversScope, is_inside}
 use Rattle.mr_part.specs.KeptWrites.{numbered_of}
 use Rattle.mr_part.specs.declared.kept_writes.NumberedWrite.{NumberedWrite}
-use Rattle.mr_part.proofs.DeskNumbers.{dropped_long, order_numbers, slice_left, slice_bound}
-use Rattle.mr_part.proofs.BatchNumbers.{has_place, commits_long, new_number}
+use Rattle.mr_part.proofs.OrderNumbers.{dropped_long, order_numbers, slice_left, has_place}
+use Rattle.mr_part.proofs.BatchNumbers.{commits_long, new_number}
 use Rattle.mr_part.proofs.FilteredRows.{picked_here, left_here}
+use Rattle.mr_model.proofs.Fronts.{get_below}
 
 -- ---- picking one by one
 
@@ -145,7 +146,7 @@ filter_logged q r (w ∷ ws) = go (q (numbered_of r w)) (filter_logged q r ws)
 first_number : (r : Replica) (front rest : List Write) (w : Write) → IsReplica r → committed r ≡ front ++ rest → Has w front → (1 ≤ seq_of r w) × (seq_of r w ≤ length front)
 first_number r front rest w sound parts h =
     let (i, e) = has_place w front h in
-    let low = slice_bound front i w e in
+    let low = get_below front i w e in
     let more = length-append front rest in
     let long : length (committed r) ≡ length r.commits = sym (length-map (committed r) id_of) ∙ ap length (committed_ids r sound) in
     let all = ap length parts in
@@ -263,7 +264,7 @@ again_picked a b items inside touched commits kept m =
     number : (w : Write) → Has w m.moves.news → length a.commits < seq_of b w
     number w h =
         let (i, e) = has_place w m.moves.news h in
-        let low = slice_bound m.moves.news i w e in
+        let low = get_below m.moves.news i w e in
         let commits = commits_long a b items m.moves m.sound in
         let within : length a.commits + 1 + i ≤ length b.commits = omega (arith, low, commits) in
         let seq : seq_of b w ≡ length a.commits + 1 + i = new_number a b items m.moves m.sound i w low e ∙ cond-true (leb (length a.commits + 1 + i) (length b.commits)) (length a.commits + 1 + i) 0 (le-leb (length a.commits + 1 + i) (length b.commits) within) in
@@ -303,15 +304,3 @@ again_picked a b items inside touched commits kept m =
     some = filter_inside (anew a b items touched) (may_move a items) inside (tentative b) same_test (λ w h e. m.covers w (moving_inside a items w (uncommitted w h) e))
 
 -- ---- what is in scope
-
-and_turned : (s t l : Bool) → (s && (t && l)) ≡ ((s && l) && t)
-and_turned true true true = refl
-and_turned true true false = refl
-and_turned true false true = refl
-and_turned true false false = refl
-and_turned false t l = refl
-
--- a write is in scope where it is named, or is tentative and may move
-pub inside_told : (a : Replica) (items : List Item) (w : Write) → (names items (id_of w) (seq_of a w) || (seq_of a w == 0 && may_move a items w)) ≡ is_inside a items w
-inside_told a items w =
-    ap (λ b. is_named items (log_row a w) || b) (and_turned (seq_of a w == 0) (is_touched (tables_of a) items w.room) (is_late (length a.commits) items w.stamp.time w.stamp.server))

@@ -11,9 +11,6 @@ pub record IsDone {X R : Type 0} (f : X → R) (xs done : List X) (rows : List R
   pub parts : done ++ rest ≡ xs
   pub rows_are : rows ≡ map f rest
 
-pub none_done : {X R : Type 0} (f : X → R) (xs : List X) (rows : List R) → rows ≡ map f xs → IsDone f xs [] rows
-none_done f xs rows e = record { rest = xs; parts = refl; rows_are = e }
-
 -- the first row that is left is that of one of these, and when this is done the others are left
 pub record IsFirst {X R : Type 0} (f : X → R) (xs done : List X) (row : R) (rows : List R) : Type 0 where
   pub first : X

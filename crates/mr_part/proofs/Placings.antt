@@ -1,5 +1,5 @@
 -- What the board of a replica tells of its bookings and of the cancels that took them back.
-use Rattle.std.proofs.Common.{◌≡◌, refl, sym, ap, ◌∙◌, subst, ℕ, ◌+◌, ◌≤◌, Bool, true, false, cond, ◌&&◌, leb, List, [], ◌∷◌, ◌++◌, map, ◌⊎◌, inl, inr, Option, Some, None, bytes_eq}
+use Rattle.std.proofs.Common.{◌≡◌, refl, sym, ap, ◌∙◌, subst, ℕ, ◌+◌, ◌≤◌, Bool, true, false, cond, ◌&&◌, leb, List, [], ◌∷◌, ◌++◌, ◌⊎◌, inl, inr, Option, Some, None, bytes_eq, length, arith}
 use Rattle.std.proofs.lemmas.Bool.{true≢false, and_parts, false_from_ne_true}
 use Rattle.std.specs.List.{list_any, slice_get}
 use Rattle.std.specs.Option.{option_map}
@@ -9,35 +9,56 @@ use Rattle.mr_model.specs.Writes.{Id, Meeting, Action, Books, Cancels, Write, id
 use Rattle.mr_model.specs.Replay.{Place, Taken, Logged, Done, Void, slot_at}
 use Rattle.mr_model.specs.Replica.{Replica, IsReplica, is_committed}
 use Rattle.mr_model.specs.View.{Placed, place_of, canceller_of}
-use Rattle.mr_model.specs.Tables.{PlaceRow, Booked, Erred, Cancelled, Cancel, seq_of, booking_place_row, place_row_for, place_row}
+use Rattle.mr_model.specs.Tables.{VectorRow, PlaceRow, Booked, Erred, Cancelled, Cancel, seq_of, booking_place_row, place_row_for, place_row, tables_of}
 use Rattle.mr_model.specs.Step.{knows_booking}
 use Rattle.mr_model.specs.Dropped.{Has}
 use Rattle.mr_model.proofs.KnownById.{one_known}
 use Rattle.mr_model.proofs.Members.{any_has, has_any, same_id-true, same_id_from}
 use Rattle.mr_model.proofs.RoomTold.{known_told, told_of_room}
-use Rattle.mr_model.proofs.RowsById.{known_write}
+use Rattle.mr_model.proofs.RowsById.{known_write, server_bounds}
 use Rattle.mr_model.proofs.UniqueReplay.{none_some}
-use Rattle.mr_replay.specs.Rows.{row_at, kept_with, kept_for}
+use Rattle.mr_replay.specs.Rows.{row_at, kept_with, kept_for, Rows}
 use Rattle.mr_tables.specs.declared.summary.Tally.{Tally}
+use Rattle.mr_tables.specs.Boards as tables
 use Rattle.mr_tables.specs.Change.{ChangeView}
 use Rattle.mr_tables.specs.Summary.{tally_at}
 use Rattle.mr_tables.specs.Written.{with_place}
-use Rattle.mr_tables.proofs.BoardsTold.{known_row, known_at, unknown_at, known_or_none}
+use Rattle.mr_tables.proofs.BoardsTold.{known_at, unknown_at, known_or_none}
 use Rattle.mr_tables.proofs.Fitting.{choice_fits}
-use Rattle.mr_part.specs.Placing.{with_places_put, board_place, KeptEnds, RowEnds, TargetEnds, row_canceller, cancellers_on, kept_is_booking, is_booking_row_in, has_booking}
-use Rattle.mr_part.proofs.DeskBoards.{board_of, board-told, of_row, kept_row, tallies_of, known_mark}
+use Rattle.mr_part.specs.Placing.{with_places_put, board_place, KeptEnds, RowEnds, row_canceller, kept_is_booking, is_booking_row_in, has_booking}
+use Rattle.mr_part.proofs.RowsPut.{tallies_of}
+use Rattle.mr_agree.proofs.AgreeCounts.{vector-at, known_first}
+use Rattle.mr_replay.specs.declared.rows.Kept.{Kept}
+use Rattle.mr_replay.specs.declared.rows.Row.{Row}
+use Rattle.mr_tables.proofs.Summaries.{tally-of}
 
 -- one row more is put
 pub put-more : (c : ChangeView) (rows : List PlaceRow) (row : PlaceRow) → with_places_put c (rows ++ row ∷ []) ≡ with_place (with_places_put c rows) row
 put-more c [] row = refl
 put-more c (r ∷ rs) row = put-more (with_place c r) rs row
 
--- the row of a known write on the board of the desk
-pub known_here : (r : Replica) (w : Write) → IsReplica r → Has w r.known → row_at (board_of r) (id_of w) ≡ known_row r w
-known_here r w h k = ap (λ b. row_at b (id_of w)) (board-told r h) ∙ known_at r w h k
+-- ---- the board of a replica, and marks of its bookings
 
-pub unknown_here : (r : Replica) (i : Id) → IsReplica r → ((w : Write) → Has w r.known → id_of w ≡ i → ⊥) → row_at (board_of r) i ≡ None
-unknown_here r i h none = ap (λ b. row_at b i) (board-told r h) ∙ unknown_at r i none
+-- that which its tables tell
+abbrev pub board_of : Replica → Rows
+board_of r = tables.board_of (tables_of r)
+
+-- what is read of the row that a write has, if it has one
+abbrev pub of_row : {R : Type 0} → (Id → Row → Option R) → Id → Option Row → Option R
+of_row f i None = None
+of_row f i (Some row) = f i row
+
+-- a known write has the mark that its tally tells
+pub known_mark : (r : Replica) (w : Write) → IsReplica r → Has w r.known → leb w.stamp.n (tally_at (tallies_of r) w.stamp.server).committed ≡ is_committed r (id_of w)
+known_mark r w h a =
+    let top : w.stamp.server ≤ 99 = (server_bounds w (known_write r w h a)).1 in
+    ap (λ (t : Tally). leb w.stamp.n t.committed) (tally-of r w.stamp.server (omega (arith, top)))
+    ∙ ap (λ (v : VectorRow). leb w.stamp.n v.committed) (sym (vector-at r w.stamp.server h))
+    ∙ known_first r w h a
+
+-- what is read of a write's row by what is kept
+abbrev pub kept_row : {R : Type 0} → (Id → Row → Option R) → Write → Option Kept → Option R
+kept_row f w o = of_row f (id_of w) (option_map (λ k. record { room = w.room; kept = k }) o)
 
 -- ---- the cancel that took a write back
 
@@ -78,14 +99,7 @@ canceller-row w (Cancels t) p by e f = go by p f
 
 -- is told by the board
 pub canceller-here : (r : Replica) (w : Write) → IsReplica r → Has w r.known → row_canceller (row_at (board_of r) (id_of w)) ≡ canceller_of r w
-canceller-here r w h k = ap row_canceller (known_here r w h k) ∙ canceller-row w w.action (place_of r w) (canceller_of r w) refl (λ c e. canceller_slot r w c h k e)
-
-pub cancellers-of : (r : Replica) (ws : List Write) → IsReplica r → ((w : Write) → Has w ws → Has w r.known) → cancellers_on (board_of r) ws ≡ map (canceller_of r) ws
-cancellers-of r [] h known = refl
-cancellers-of r (w ∷ ws) h known =
-    let here = canceller-here r w h (known w (inl refl)) in
-    let rest = cancellers-of r ws h (λ v i. known v (inr i)) in
-    λ i. here i ∷ rest i
+canceller-here r w h k = ap row_canceller (known_at r w h k) ∙ canceller-row w w.action (place_of r w) (canceller_of r w) refl (λ c e. canceller_slot r w c h k e)
 
 -- ---- the row of a booking
 
@@ -111,7 +125,7 @@ placed-row ts w (Cancels t) Void by mark seq e = refl
 -- the board tells the row of a known booking
 pub placed-here : (r : Replica) (w : Write) → IsReplica r → Has w r.known → of_row (board_place (tallies_of r)) (id_of w) (row_at (board_of r) (id_of w)) ≡ if_placed (place_row r w)
 placed-here r w h k =
-    ap (of_row (board_place (tallies_of r)) (id_of w)) (known_here r w h k)
+    ap (of_row (board_place (tallies_of r)) (id_of w)) (known_at r w h k)
     ∙ placed-row (tallies_of r) w w.action (place_of r w) (canceller_of r w) (is_committed r (id_of w)) (seq_of r w) (known_mark r w h k)
 
 -- ---- its end
@@ -141,13 +155,9 @@ rows_end r i h = go (known_or_none i r.known)
     go : ((w : Write) × Has w r.known × (id_of w ≡ i)) ⊎ ((w : Write) → Has w r.known → id_of w ≡ i → ⊥) → RowEnds (row_at (board_of r) i)
     go (inl (w, k, s)) =
         subst (λ j. RowEnds (row_at (board_of r) j)) s
-        (subst RowEnds (sym (known_here r w h k))
+        (subst RowEnds (sym (known_at r w h k))
         (row_ends w w.action (place_of r w) (canceller_of r w) refl (and_parts (is_stamp w.stamp && is_room_name w.room) (is_action w.action) (known_write r w h k)).1))
-    go (inr none) = subst RowEnds (sym (unknown_here r i h none)) tt
-
-pub target_ends : (r : Replica) (o : Option Id) → IsReplica r → TargetEnds (board_of r) o
-target_ends r None h = tt
-target_ends r (Some t) h = rows_end r t h
+    go (inr none) = subst RowEnds (sym (unknown_at r i none)) tt
 
 -- ---- whether it is known
 
@@ -209,10 +219,10 @@ booking-known r room i h = go (known_or_none i r.known)
 
     go : ((w : Write) × Has w r.known × (id_of w ≡ i)) ⊎ ((w : Write) → Has w r.known → id_of w ≡ i → ⊥) → has_booking (board_of r) room i ≡ list_any test r.known
     go (inl (w, k, s)) =
-        ap (λ j. is_booking_row_in room (row_at (board_of r) j)) (sym s) ∙ ap (is_booking_row_in room) (known_here r w h k)
+        ap (λ j. is_booking_row_in room (row_at (board_of r) j)) (sym s) ∙ ap (is_booking_row_in room) (known_at r w h k)
         ∙ booking_row-is w room w.action (place_of r w) (canceller_of r w) ∙ found w k s (bytes_eq w.room room && is_booking w.action) refl
     go (inr none) =
-        ap (is_booking_row_in room) (unknown_here r i h none)
+        ap (is_booking_row_in room) (unknown_at r i none)
         ∙ sym (false_from_ne_true (list_any test r.known) (λ t. let (v, c, f) = has_any test r.known t in none v c (same_id-true (id_of v) i (first (same_id (id_of v) i) (bytes_eq v.room room) (is_booking v.action) f))))
       where
         first : (x y z : Bool) → (x && y && z) ≡ true → x ≡ true

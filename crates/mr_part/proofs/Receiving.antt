@@ -22,7 +22,7 @@ use Rattle.mr_base.specs.declared.refusals.Refusal.{Refusal}
 use Rattle.mr_base.specs.RefusalViews.{refusal_of}
 use Rattle.mr_tables.specs.Summary.{summary_of}
 use Rattle.mr_part.specs.Candidate.{write_verdict, commit_verdict}
-use Rattle.mr_part.specs.Desk.{nothing_taken}
+use Rattle.mr_part.specs.Answering.{nothing_taken}
 use Rattle.mr_part.proofs.Judging.{JudgedWrite, judged_write, JudgedCommit, judged_commit}
 use Rattle.mr_part.proofs.Learning.{kept-learned, kept-moved}
 

@@ -17,7 +17,7 @@ use Rattle.mr_base.specs.declared.refusals.Refusal.{Refusal}
 use Rattle.mr_base.specs.declared.refusals.Refusal.TheVariants.{OutOfMemory}
 use Rattle.mr_tables.specs.declared.summary.Summary.{Summary}
 use Rattle.mr_tables.specs.Change.{ChangeView, changed}
-use Rattle.mr_part.specs.Desk.{nothing_taken, reply_with}
+use Rattle.mr_part.specs.Answering.{nothing_taken, reply_with}
 use Rattle.mr_part.specs.Taken.{ReachedView, ShowsPicked, is_inside}
 use Rattle.mr_part.specs.PartMoves.{AnswersItems}
 use Rattle.mr_part.specs.KeptRows.{kept_row}

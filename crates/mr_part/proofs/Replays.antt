@@ -11,7 +11,7 @@ use Rattle.mr_model.specs.Board.{after}
 use Rattle.mr_model.specs.Replica.{Replica, IsReplica, is_among, order_of}
 use Rattle.mr_model.specs.View.{of_room, cancels_it, place_of}
 use Rattle.mr_model.specs.Dropped.{Has}
-use Rattle.mr_model.proofs.DroppedApart.{order-parts, order_known}
+use Rattle.mr_model.proofs.DroppedApart.{order_known}
 use Rattle.mr_model.proofs.KnownById.{one_known}
 use Rattle.mr_model.proofs.Members.{has_left, has_right, filter_has, map_has, not_among, same_id-true}
 use Rattle.mr_model.proofs.Orders.{append_split}
@@ -29,11 +29,11 @@ use Rattle.mr_replay.specs.Bookings.{if_taken, HasBookings}
 use Rattle.mr_replay.proofs.Entries.{IsInOrder}
 use Rattle.mr_replay.proofs.Lists.{one_name, same_name, other_name, distinct_front, distinct_next, distinct-part, part-own, part-other}
 use Rattle.mr_replay.proofs.Marked.{change_if}
-use Rattle.mr_replay.proofs.OneRoom.{IsPart, whole_part, taken_part, room_part, bookings_part, bears_not-taken, PartHas, part-executed, part-undone, part_has-executed, part_has-undone, takes_away, row-own, in_order-executed, in_order-undone, cancels_booked, row-other, target_row}
+use Rattle.mr_replay.proofs.OneRoom.{IsPart, taken_part, bookings_part, bears_not-taken, PartHas, part-executed, part-undone, part_has-executed, part_has-undone, takes_away, row-own, in_order-executed, in_order-undone, cancels_booked, row-other, target_row}
 use Rattle.mr_replay.proofs.PlacesOnBoard.{place_by_bookings}
 use Rattle.mr_replay.proofs.ToldRows.{BearsNot, rows-none, rows-bear}
 use Rattle.mr_part.specs.Logged.{undo_with}
-use Rattle.mr_part.proofs.DeskNumbers.{order_distinct}
+use Rattle.mr_part.proofs.OrderNumbers.{order_distinct}
 
 -- ---- rows of rooms
 
@@ -57,17 +57,6 @@ pub record IsView (see : Text → Option Row → Option Row) (given : Option Row
   pub apart : (room other : Text) (o : Option Row) (row : Row) → if_of room o ≡ Some row → bytes_eq other room ≡ false → see other o ≡ None
   pub bearing : (c : Id) (o : Option Row) → BearsNot c o → BearsNot c (given o)
   pub bookings : (room : Text) (ws : List Write) (b : Rows) → PartHas (see room) given ws b → HasBookings room ws b
-
-pub whole_view : IsView if_of (λ o. o)
-whole_view = record {
-  part = room_part;
-  given_part = whole_part;
-  own = row-own;
-  other = row-other;
-  apart = if_of-apart;
-  bearing = λ c o h. h;
-  bookings = λ room ws b has q. ap if_taken (has q);
-}
 
 pub bookings_view : IsView (λ room o. if_taken (if_of room o)) if_taken
 bookings_view = record {
@@ -177,7 +166,7 @@ module _ (r : Replica) (mine : Text → Bool) (front : Text → List Write) (ws 
       ∙ sym (append_assoc (front room) (of_room room done) (of_room room rest))
 
   distinct : (room : Text) → HaveDistinctIds (of_room room (order_of r))
-  distinct room = distinct-part room (order_of r) (subst (λ (vs : List Write). HaveDistinctIds vs) (sym (order-parts r)) (order_distinct r last.sound))
+  distinct room = distinct-part room (order_of r) (order_distinct r last.sound)
 
   module _ (done : List Write) (w : Write) (rest : List Write) (parts : done ++ w ∷ rest ≡ ws) where
     there : Has w ws

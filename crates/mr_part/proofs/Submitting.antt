@@ -1,32 +1,26 @@
 -- A request or a cancel becomes the next write of a replica.
-use Rattle.std.proofs.Common.{◌≡◌, ℕ, ◌+◌, ◌<◌, ◌≤◌, ◌==◌, ◌&&◌, not, nat_le, Bool, true, false, cond, [], ◌∷◌, ◌++◌, Result, Ok, Err, ap, refl, sym, ◌∙◌, subst, append_assoc, arith, IsTrue}
+use Rattle.std.proofs.Common.{◌≡◌, ℕ, ◌+◌, ◌<◌, ◌≤◌, ◌==◌, ◌&&◌, not, nat_le, Bool, true, false, cond, [], ◌∷◌, Result, Ok, Err, ap, refl, sym, ◌∙◌, subst, arith, IsTrue, ◌-◌}
 use Rattle.std.proofs.lemmas.Bool.Decides.{nat_tests}
 use Rattle.mr_model.specs.Texts.{Text}
 use Rattle.mr_model.specs.Writes.{Id, Stamp, Write, is_stamp, is_id, id_in, is_room_name, is_meeting, greatest_count, greatest_time}
 use Rattle.mr_model.specs.Requests.{Request, is_request, stamped}
 use Rattle.mr_model.specs.Refusals as model
-use Rattle.mr_model.specs.Replica.{Replica, IsReplica, count_of, clock_of, knows_room, add_write}
+use Rattle.mr_model.specs.Replica.{Replica, IsReplica, count_of, clock_of, knows_room}
 use Rattle.mr_model.specs.Changes.{IsNext}
-use Rattle.mr_model.specs.Kept.{dropped_in_order, kept_in_order}
 use Rattle.mr_model.specs.Step.{After, step_unless, refuse, after_write, next_stamp, knows_booking}
-use Rattle.mr_model.proofs.DroppedApart.{order-parts}
-use Rattle.mr_model.proofs.Orders.{is_next, order-submit}
+use Rattle.mr_model.proofs.Orders.{is_next}
 use Rattle.mr_model.proofs.StepsKeep.{none_apply, count_within, clock_within}
-use Rattle.mr_model.proofs.SubmitRows.{same_rooms}
-use Rattle.mr_model.proofs.TwinChanges.{dropped-add_write}
 use Rattle.mr_base.specs.RefusalViews.{refusal_of}
 use Rattle.mr_base.specs.declared.refusals.Refusal.{Refusal}
 use Rattle.mr_base.specs.declared.refusals.Refusal.TheVariants.{ClockExhausted, CountExhausted}
 use Rattle.mr_tables.specs.Summary.{summary_of, stamp_next}
-use Rattle.mr_tables.proofs.Summaries.{tally-of, summary-write}
-use Rattle.mr_part.specs.Accepting.{with_last}
-use Rattle.mr_part.specs.Desk.{desk_of, old_errors_of, old_cancels_of}
-use Rattle.mr_part.specs.Log.{log_of}
+use Rattle.mr_tables.proofs.Summaries.{tally-of}
 use Rattle.mr_part.specs.Steps.{submit_request, cancel_with, cancel_request, word_faults, request_in, SubmissionsAreRequests, CancelsAreRequests, OtherCancelsAreRefused}
-use Rattle.mr_part.proofs.Logs.{log-pushed}
-use Rattle.mr_part.proofs.Desks.{desk_with, kept_is, own_server}
 
 -- ---- the stamp
+
+pub own_server : (a : Replica) → IsReplica a → a.server < 100
+own_server a sound = let servers = sound.servers in grind (arith, nat_tests)
 
 -- a write of the replica's own gets the next stamp, where neither its clock nor its count is at the end
 abbrev stamp_step : Replica → (Stamp → Write) → After
@@ -127,21 +121,6 @@ submitted_is_next a q sound within late full =
 pub cancelled_is_next : (a : Replica) (room : Text) (target : Id) → IsReplica a → IsTrue (is_room_name room) → IsTrue (is_id target) → clock_of a < greatest_time → count_of a a.server < greatest_count → IsNext a (cancel_with room target (next_stamp a))
 cancelled_is_next a room target sound name id late full =
     is_next a (cancel_with room target (next_stamp a)) (both_parts (is_stamp (next_stamp a)) (is_room_name room) (is_id target) (next_is_stamp a sound late full) name id) refl
-
--- ---- the desk
-
-module _ (a : Replica) (w : Write) (sound : IsReplica a) (small : w.stamp.server < 100) (next : IsNext a w) (late : clock_of a < w.stamp.time) (known : knows_room a w.room ≡ true) where
-  kept : kept_in_order (add_write a w) ≡ kept_in_order a ++ w ∷ []
-  kept =
-      kept_is a (add_write a w) (kept_in_order a ++ w ∷ []) (dropped-add_write a w sound next)
-      (order-submit a w sound next late ∙ ap (λ ws. ws ++ w ∷ []) (order-parts a) ∙ append_assoc (dropped_in_order a) (kept_in_order a) (w ∷ []))
-
-  -- the write comes last in the log
-  pub desk-submitted : with_last (desk_of a) w ≡ desk_of (add_write a w)
-  desk-submitted =
-      let dropped = sym (dropped-add_write a w sound next) in
-      let log = log-pushed (dropped_in_order a) (kept_in_order a) w ∙ (λ t. log_of (dropped t) (sym kept t)) in
-      λ t. desk_with (summary-write a w small next t) (sym (same_rooms w.room a.rooms sound.rooms_in_order known) t) (log t) (old_errors_of (dropped t)) (old_cancels_of (dropped t))
 
 -- ---- words
 

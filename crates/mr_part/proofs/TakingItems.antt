@@ -16,7 +16,7 @@ use Rattle.mr_model.proofs.TakingKeeps.{IsItem, KeepsReplica, item_keeps}
 use Rattle.mr_base.specs.declared.refusals.Refusal.{Refusal}
 use Rattle.mr_tables.specs.Summary.{summary_of}
 use Rattle.mr_part.specs.declared.kept_writes.NumberedWrite.{NumberedWrite}
-use Rattle.mr_part.specs.Desk.{nothing_taken}
+use Rattle.mr_part.specs.Answering.{nothing_taken}
 use Rattle.mr_part.specs.KeptWrites.{HasKept, numbered_of}
 use Rattle.mr_part.specs.declared.candidate.Candidate.{Candidate}
 use Rattle.mr_part.specs.Taken.{ShowsTaken, ShowsPicked, TakesItem, TakesItems, TakenPicked}
@@ -31,9 +31,6 @@ pub record IsAtInside (a : Replica) (inside : Write → Bool) (items : List Item
   pub first : take_items (take k items) 2 (Ok start) ≡ Ok progress
   pub rest : take_items items 2 (Ok start) ≡ take_items (drop k items) (2 + k) (Ok progress)
   pub shows : ShowsTaken a inside c progress
-
-pub inside-start : (a : Replica) (inside : Write → Bool) (items : List Item) (p : Progress) (c : Candidate) → IsReplica p.replica → ShowsTaken a inside c p → IsAtInside a inside items 0 p c
-inside-start a inside items p c sound shows = record { progress = p; sound = sound; first = refl; rest = refl; shows = shows }
 
 -- with one item more
 first_more : (items : List Item) (k : ℕ) (x : Item) (line : ℕ) (p q : Progress) → k < length items → x ≡ get_or items k x → take_items (take k items) line (Ok p) ≡ Ok q → take_items (take (suc k) items) line (Ok p) ≡ take_item (line + k) q x

@@ -1,21 +1,13 @@
 -- The rows of what some writes aim at, one by one.
-use Rattle.std.proofs.Common.{◌≡◌, refl, sym, ap, ◌∙◌, subst, ℕ, zero, suc, ◌+◌, ◌<◌, ◌≤◌, Bool, true, false, cond, List, [], ◌∷◌, ◌++◌, length, get_or, map, take, ◌⊎◌, inl, inr, Option, Some, None, arith, append_assoc, append-nil}
-use Rattle.std.proofs.lemmas.Bool.{true≢false, cond-true, cond-false}
+use Rattle.std.proofs.Common.{◌≡◌, refl, sym, ap, ◌∙◌, ℕ, zero, suc, ◌+◌, ◌<◌, ◌≤◌, List, [], ◌∷◌, ◌++◌, length, get_or, map, take, inl, inr, Option, arith, append_assoc, append-nil}
 use Rattle.std.proofs.lemmas.List.{take_more}
-use Rattle.std.specs.List.{cons_option}
 use Rattle.std.specs.Prelude.{flat_map}
 use Rattle.mr_model.specs.Dropped.{Has}
 use Rattle.mr_model.specs.Writes.{Id, Write}
 use Rattle.mr_model.specs.Tables.{PlaceRow}
-use Rattle.mr_replay.specs.declared.rows.Standing.TheVariants.{Booked, CancelledBy, InErrorLog}
-use Rattle.mr_replay.specs.declared.rows.Kept.{Kept}
-use Rattle.mr_replay.specs.declared.rows.Kept.TheVariants.{OfBooking, OfCancel}
-use Rattle.mr_replay.specs.declared.rows.Row.{Row}
 use Rattle.mr_replay.specs.Rows.{Rows}
-use Rattle.mr_replay.specs.Bookings.{is_taken, if_taken}
 use Rattle.mr_tables.specs.declared.summary.Tally.{Tally}
-use Rattle.mr_part.specs.Placing.{kept_place, board_place, KeptEnds, RowEnds, kept_canceller}
-use Rattle.mr_part.specs.Targets.{taken_by, same_by, row_if_moved, target_if_moved, moved_target, moved_targets}
+use Rattle.mr_part.specs.Targets.{taken_by, target_if_moved, moved_target, moved_targets}
 use Rattle.mr_part.proofs.Moves.{told_at}
 
 -- what stands at a place in a list is in it
@@ -47,26 +39,3 @@ targets_all ts old b ws k done all have = have ∙ ap (moved_targets ts old b) (
     take_whole (v ∷ vs) (suc n) h = ap (λ us. v ∷ us) (take_whole vs n (omega arith))
 
 -- ---- one row
-
-untaken : (ts : List Tally) (id : Id) (row : Row) → is_taken row.kept ≡ false → board_place ts id row ≡ None
-untaken ts id row e = go row.kept e
-  where
-    go : (k : Kept) → is_taken k ≡ false → kept_place ts id row.room k ≡ None
-    go (OfBooking s l t Booked) f = absurd (true≢false f)
-    go (OfBooking s l t (CancelledBy c)) f = absurd (true≢false f)
-    go (OfBooking s l t InErrorLog) f = refl
-    go (OfCancel t) f = refl
-
--- of a booking that took no slot, and of one that the same cancel took back before, none is put
-pub row_left : (ts : List Tally) (was : Option Id) (id : Id) (row : Row) → (is_taken row.kept ≡ false) ⊎ (same_by was (kept_canceller row.kept) ≡ true) → [] ≡ row_if_moved ts was id (Some row)
-row_left ts was id row (inl e) = go (same_by was (kept_canceller row.kept))
-  where
-    go : (c : Bool) → [] ≡ cond c [] (cons_option (board_place ts id row) [])
-    go true = refl
-    go false = sym (ap (λ o. cons_option o []) (untaken ts id row e))
-row_left ts was id row (inr e) = sym (cond-true (same_by was (kept_canceller row.kept)) [] (cons_option (board_place ts id row) []) e)
-
-pub row_put : (ts : List Tally) (was : Option Id) (id : Id) (row : Row) (o : Option PlaceRow) → is_taken row.kept ≡ true → same_by was (kept_canceller row.kept) ≡ false → (KeptEnds row.kept → o ≡ board_place ts id row) → RowEnds (if_taken (Some row)) → cons_option o [] ≡ row_if_moved ts was id (Some row)
-row_put ts was id row o t e told ends =
-    ap (λ x. cons_option x []) (told (subst RowEnds (cond-true (is_taken row.kept) (Some row) None t) ends))
-    ∙ sym (cond-false (same_by was (kept_canceller row.kept)) [] (cons_option (board_place ts id row) []) e)

@@ -25,11 +25,11 @@ use Rattle.mr_replay.specs.Rows.{Rows, row_at, kept_with, kept_for}
 use Rattle.mr_replay.specs.Holds.{if_of}
 use Rattle.mr_replay.specs.Bookings.{is_taken, if_taken}
 use Rattle.mr_replay.proofs.Lists.{one_name, same_name}
-use Rattle.mr_tables.proofs.BoardsTold.{known_or_none}
+use Rattle.mr_tables.proofs.BoardsTold.{known_at, unknown_at, known_or_none}
 use Rattle.mr_part.specs.Placing.{kept_place, board_place, RowEnds, kept_canceller, row_canceller}
 use Rattle.mr_part.specs.Targets.{aimed_at, taken_by, same_by, row_if_moved, target_if_moved, moved_target, moved_targets}
-use Rattle.mr_part.proofs.DeskBoards.{board_of, of_row, tallies_of}
-use Rattle.mr_part.proofs.Placings.{known_here, unknown_here, if_placed, placed-here, rows_end}
+use Rattle.mr_part.proofs.RowsPut.{tallies_of}
+use Rattle.mr_part.proofs.Placings.{if_placed, placed-here, rows_end, board_of, of_row}
 use Rattle.mr_part.proofs.Standings.{is_target, aims, target_is, anew, cancellers_stay, rows_unless, row_stays}
 
 -- ---- a booking that took its slot
@@ -86,7 +86,7 @@ seen_room room (Some x) row e = go (bytes_eq x.room room) e
 room_seen : (room : Text) (row : Row) → row.room ≡ room → if_of room (Some row) ≡ Some row
 room_seen room row e = cond-true (bytes_eq row.room room) (Some row) None (same_name row.room room e)
 
--- a board has the bookings of a room, cancelled or not, as the desk's board has them
+-- a board has the bookings of a room, cancelled or not, as the replica's board has them
 abbrev pub Shows : Replica → Text → Rows → Type 0
 Shows r room board = (q : Id) → if_taken (if_of room (row_at board q)) ≡ if_taken (if_of room (row_at (board_of r) q))
 
@@ -100,7 +100,7 @@ shows_it r room board q row shows e is t = (seen_taken (if_of room (row_at board
 shows_booking : (r : Replica) (w : Write) (board : Rows) (m : Meeting) (s : Slot) → IsReplica r → Has w r.known → Shows r w.room board → w.action ≡ Books m → slot_at w (place_of r w) ≡ Some s → if_of w.room (row_at board (id_of w)) ≡ Some (row_with w m s (canceller_of r w))
 shows_booking r w board m s sound known shows e f =
     shows_it r w.room board (id_of w) (row_with w m s (canceller_of r w)) shows
-    (known_here r w sound known ∙ row_of_booking w w.action (place_of r w) (canceller_of r w) m s e f) refl (taken_kept m s (canceller_of r w))
+    (known_at r w sound known ∙ row_of_booking w w.action (place_of r w) (canceller_of r w) m s e f) refl (taken_kept m s (canceller_of r w))
 
 -- what is shown is the booking of a known write
 known_shown : (r : Replica) (q : Id) (row : Row) → IsReplica r → row_at (board_of r) q ≡ Some row → (w : Write) × Has w r.known × (id_of w ≡ q) × (board_place (tallies_of r) q row ≡ if_placed (place_row r w))
@@ -111,7 +111,7 @@ known_shown r q row sound e = go (known_or_none q r.known)
       where
         told : (i : Id) (o : Option Row) → o ≡ Some row → of_row (board_place (tallies_of r)) i o ≡ board_place (tallies_of r) i row
         told i o f = ap (of_row (board_place (tallies_of r)) i) f
-    go (inr none) = absurd (none_some row (sym (unknown_here r q sound none) ∙ e))
+    go (inr none) = absurd (none_some row (sym (unknown_at r q none) ∙ e))
 
 -- ---- a batch
 
@@ -183,7 +183,7 @@ module _ (a b : Replica) (items : List Item) (m : BatchMoves a b items) (sound :
 
           told : board_place (tallies_of b) (id_of w) (row_with w y s (canceller_of b w)) ≡ Some (place_row b w)
           told =
-              ap (of_row (board_place (tallies_of b)) (id_of w)) (sym (known_here b w m.sound kb ∙ row_of_booking w w.action (place_of b w) (canceller_of b w) y s e f))
+              ap (of_row (board_place (tallies_of b)) (id_of w)) (sym (known_at b w m.sound kb ∙ row_of_booking w w.action (place_of b w) (canceller_of b w) y s e f))
               ∙ placed-here b w m.sound kb
               ∙ ap if_placed (place_of_booking w w.action (place_of b w) (canceller_of b w) (is_committed b (id_of w)) (seq_of b w) y s e f)
               ∙ placed_slot w y s (canceller_of b w) (is_committed b (id_of w)) (seq_of b w)

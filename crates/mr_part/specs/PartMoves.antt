@@ -19,7 +19,7 @@ use Rattle.mr_replay.specs.Rows.{Rows}
 use Rattle.mr_tables.specs.declared.summary.Summary.{Summary}
 use Rattle.mr_tables.specs.Summary.{summary_of}
 use Rattle.mr_tables.specs.Change.{ChangeView, changed}
-use Rattle.mr_part.specs.Desk.{nothing_taken, reply_with}
+use Rattle.mr_part.specs.Answering.{nothing_taken, reply_with}
 use Rattle.mr_part.specs.Parts.{part_of}
 use Rattle.mr_part.specs.Logged.{undo_with}
 use Rattle.mr_part.specs.RoomMoves.{MovesOfRooms, undone_at, again_at}

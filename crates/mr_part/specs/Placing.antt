@@ -1,8 +1,8 @@
 -- Rows of what became of writes, as a board tells them, and how they come into a change.
-use Rattle.std.specs.Prelude.{◌+◌, ◌≤◌, if◌then◌else◌, bytes_eq, Bool, true, false, List, [], ◌∷◌, map, Option, Some, None}
+use Rattle.std.specs.Prelude.{◌+◌, ◌≤◌, if◌then◌else◌, bytes_eq, Bool, true, false, List, [], ◌∷◌, map, Option, Some, None, ℕ, nat_le}
 use Rattle.mr_model.specs.Texts.{Text}
 use Rattle.mr_model.specs.Writes.{Id, Write, id_of}
-use Rattle.mr_model.specs.Tables.{PlaceRow, Booked, Cancelled, taken_back}
+use Rattle.mr_model.specs.Tables.{PlaceRow, Booked, Cancelled, taken_back, BookingRow}
 use Rattle.mr_replay.specs.declared.rows.Standing.TheVariants as standing
 use Rattle.mr_replay.specs.declared.rows.Kept.{Kept}
 use Rattle.mr_replay.specs.declared.rows.Kept.TheVariants.{OfBooking, OfCancel}
@@ -12,7 +12,8 @@ use Rattle.mr_replay.specs.Rows.{Rows, row_at, target_if_done as taken_back_by}
 use Rattle.mr_tables.specs.declared.summary.Tally.{Tally}
 use Rattle.mr_tables.specs.Change.{ChangeView}
 use Rattle.mr_tables.specs.Written.{with_place}
-use Rattle.mr_part.specs.DeskTables.{booking_at}
+use Rattle.mr_model.specs.Slots.{Slot}
+use Rattle.mr_tables.specs.Summary.{tally_at}
 
 -- these rows are put one after the other, each into its table
 abbrev pub with_places_put : ChangeView → List PlaceRow → ChangeView
@@ -20,6 +21,20 @@ with_places_put c [] = c
 with_places_put c (row ∷ rows) = with_places_put (with_place c row) rows
 
 -- ---- rows of bookings, read off the board
+
+-- a booking with this slot; the first of a server's writes are the committed ones
+abbrev pub booking_at : List Tally → Id → Text → Slot → ℕ → Text → BookingRow
+booking_at ts id room slot length title =
+    record {
+      room = room;
+      day = slot.day;
+      start = slot.start;
+      stop = slot.start + length;
+      server = id.server;
+      n = id.n;
+      title = title;
+      committed = nat_le id.n (tally_at ts id.server).committed;
+    }
 
 -- it has its slot, or a cancel took it back; one that found no slot has no row of these
 abbrev pub kept_place : List Tally → Id → Text → Kept → Option PlaceRow

@@ -10,7 +10,7 @@ ghost use Rattle.mr_model.specs.Writes.{Id, Write as WriteOfReplica, id_of, same
 ghost use Rattle.mr_model.specs.Taking.{Progress, take_items};
 ghost use Rattle.mr_base.specs.Batches.{item_of};
 ghost use Rattle.mr_tables.specs.Summary.{summary_of, noted_write, noted_commit};
-ghost use Rattle.mr_part.specs.Desk.{NeverStore, nothing_taken};
+ghost use Rattle.mr_part.specs.Answering.{NeverStore, nothing_taken};
 ghost use Rattle.mr_part.specs.KeptRows.{kept_row};
 ghost use Rattle.mr_part.specs.KeptWrites.{logged_at, has_at, with_number};
 ghost use Rattle.mr_part.specs.Sets.{has_room};

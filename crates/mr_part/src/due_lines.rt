@@ -1,6 +1,6 @@
 ghost use Rattle.std.specs.Prelude.{◌≡◌, ◌+◌, ◌<◌, ◌^◌, IfSome, map, length};
 ghost use Rattle.mr_base.specs.Batches.{item_of};
-ghost use Rattle.mr_part.specs.Desk.{NeverStore};
+ghost use Rattle.mr_part.specs.Answering.{NeverStore};
 ghost use Rattle.mr_part.specs.DueLines.{ArePlacesIfAny, due_from, noted_if, verdict_on, verdict_on_write, is_known_commit};
 
 use crate::brought::{brought_commit, brought_write};

@@ -1,6 +1,6 @@
 ghost use Rattle.std.specs.Prelude.{◌≡◌, ◌<◌};
 ghost use Rattle.std.specs.Option.{option_copied};
-ghost use Rattle.mr_part.specs.Desk.{NeverStore};
+ghost use Rattle.mr_part.specs.Answering.{NeverStore};
 ghost use Rattle.mr_part.specs.Candidate.{known_verdict, there_verdict, write_verdict_with, commit_verdict_with};
 ghost use Rattle.mr_tables.specs.Summary.{tally_at};
 

@@ -8,7 +8,6 @@ ghost use Rattle.mr_model.specs.Moving.{may_move as may_move_from, again};
 ghost use Rattle.mr_base.specs.Batches.{item_of};
 ghost use Rattle.mr_part.specs.KeptRows.{row_writes};
 ghost use Rattle.mr_part.specs.Moves.{ShowsMoves, rooms_named, moves_in, moves_row, is_anew};
-ghost use Rattle.mr_part.specs.Movable.{IsMovable};
 ghost use Rattle.mr_part.specs.Sets.{has_id, has_room, IsSetOf, AreSameRooms};
 ghost use Rattle.mr_part.specs.Tails.{IsTail};
 
@@ -73,24 +72,6 @@ pub fn moves_row(row: &KeptRow, rooms: &RoomSet, tail: &Tail) -> bool
         → result ≡ moves_row touched items commits row.now }
 {
     row.seq == 0 && may_move(&row.write, rooms, tail)
-}
-
-/// What items may move of the kept writes: tentative ones of the rooms that they touch, in their tail. It is made once for a batch.
-#[derive(Drop)]
-pub struct Movable {
-    /// The rooms that the items touch.
-    pub rooms: RoomSet,
-    /// Their tail.
-    pub tail: Tail,
-}
-
-impl Movable {
-    /// Whether a tentative write may move.
-    pub fn has(&self, write: &Write) -> bool
-        ensures { (a : Replica) (items : List ItemOfBatch) → IsMovable a items self.now → result ≡ may_move_from a items write.now }
-    {
-        may_move(write, &self.rooms, &self.tail)
-    }
 }
 
 /// The writes that are executed anew, where so many commits were known and the items touch these rooms: the new commits, and

@@ -2,12 +2,11 @@ ghost use Rattle.std.specs.Prelude.{◌≡◌, ◌<◌, ◌≤◌, true, false, 
 ghost use Rattle.std.specs.List.{list_any};
 ghost use Rattle.mr_model.specs.Replica.{Replica, IsReplica};
 ghost use Rattle.mr_model.specs.Scopes.{OfTarget};
-ghost use Rattle.mr_part.specs.Desk.{NeverStore};
+ghost use Rattle.mr_part.specs.Answering.{NeverStore, put_cancel_outcome};
 ghost use Rattle.mr_part.specs.NextId.{next_id};
 ghost use Rattle.mr_part.specs.Parts.{IsPartOf, TakesPart};
 ghost use Rattle.mr_part.specs.Placing.{has_booking as has_booking_on};
 ghost use Rattle.mr_part.specs.Steps.{cancel_request, outcome_at_room};
-ghost use Rattle.mr_part.specs.Turning.{put_cancel_outcome};
 ghost use Rattle.mr_tables.specs.Summary.{tally_at};
 
 use crate::Part;

@@ -2,7 +2,7 @@ ghost use Rattle.std.specs.Prelude.{◌≢◌, ◌≡◌, Err};
 ghost use Rattle.mr_model.specs.Replies.{CommittedIs};
 ghost use Rattle.mr_model.specs.Step.{commit};
 ghost use Rattle.mr_model.specs.Scopes.{NextCommits};
-ghost use Rattle.mr_part.specs.Desk.{NeverStore};
+ghost use Rattle.mr_part.specs.Answering.{NeverStore};
 ghost use Rattle.mr_part.specs.Parts.{TakesPart};
 
 use crate::Part;

@@ -11,7 +11,7 @@ ghost use Rattle.mr_model.specs.Taking.{take_items};
 ghost use Rattle.mr_model.specs.View.{place_of};
 ghost use Rattle.mr_base.specs.Batches.{item_of};
 ghost use Rattle.mr_tables.specs.Change.{ChangeView};
-ghost use Rattle.mr_part.specs.Desk.{NeverStore, nothing_taken};
+ghost use Rattle.mr_part.specs.Answering.{NeverStore, nothing_taken};
 ghost use Rattle.mr_part.specs.DueLines.{IsRefused};
 ghost use Rattle.mr_part.specs.Moves.{AreTouched};
 ghost use Rattle.mr_part.specs.PartMoves.{AnswersItems, AreUndone};

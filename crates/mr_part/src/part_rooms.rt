@@ -3,7 +3,7 @@ ghost use Rattle.std.specs.List.{list_any};
 ghost use Rattle.mr_model.specs.Replies.{RoomAdded};
 ghost use Rattle.mr_model.specs.Scopes.{Nothing};
 ghost use Rattle.mr_model.specs.Step.{add_room};
-ghost use Rattle.mr_part.specs.Desk.{NeverStore};
+ghost use Rattle.mr_part.specs.Answering.{NeverStore};
 ghost use Rattle.mr_part.specs.Parts.{TakesPart};
 
 use crate::Part;

@@ -3,7 +3,7 @@ ghost use Rattle.mr_model.specs.Replies.{DroppedIs};
 ghost use Rattle.mr_model.specs.Scopes.{UpTo};
 ghost use Rattle.mr_model.specs.Step.{truncate};
 ghost use Rattle.mr_tables.specs.Change.{ChangeView};
-ghost use Rattle.mr_part.specs.Desk.{NeverStore};
+ghost use Rattle.mr_part.specs.Answering.{NeverStore};
 ghost use Rattle.mr_part.specs.Parts.{TakesPart};
 
 use crate::Part;

@@ -2,8 +2,7 @@ ghost use Rattle.std.specs.Prelude.{◌≡◌, ◌+◌, ◌<◌, ◌≤◌, ◌^
 ghost use Rattle.std.specs.Option.{option_copied};
 ghost use Rattle.mr_tables.specs.Cells.{place_row_of};
 ghost use Rattle.mr_tables.specs.Written.{meta_of, changed_tallies as rows_changed, written};
-ghost use Rattle.mr_part.specs.DeskTables.{booking_at};
-ghost use Rattle.mr_part.specs.Placing.{with_places_put, board_place, KeptEnds, TargetEnds, kept_canceller, row_canceller, cancellers_on, kept_is_booking, has_booking, taken_row, taken_rows};
+ghost use Rattle.mr_part.specs.Placing.{with_places_put, board_place, KeptEnds, TargetEnds, kept_canceller, row_canceller, cancellers_on, kept_is_booking, has_booking, taken_row, taken_rows, booking_at};
 ghost use Rattle.mr_replay.specs.Rows.{target_if_done as taken_back_by};
 
 use mr_base::{MINUTES_OF_A_DAY, Refusal, RoomName, Slot, Title, Write, WriteId};

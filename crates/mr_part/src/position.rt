@@ -2,7 +2,7 @@ ghost use Rattle.std.specs.Prelude.{◌≡◌, ◌⊎◌, Ok, Err};
 ghost use Rattle.mr_model.specs.Positions.{position_of};
 ghost use Rattle.mr_model.specs.Replica.{Replica, IsReplica};
 ghost use Rattle.mr_tables.specs.Summary.{IsWithin, summary_of};
-ghost use Rattle.mr_part.specs.Desk.{NeverStore};
+ghost use Rattle.mr_part.specs.Answering.{NeverStore};
 
 use mr_base::{Position, Refusal, Version};
 use mr_tables::summary::Summary;

@@ -9,7 +9,7 @@ use Rattle.mr_model.specs.Tables.{Tables, Stands, tables_of}
 use Rattle.mr_base.specs.declared.refusals.Refusal.{Refusal}
 use Rattle.mr_base.specs.declared.refusals.Refusal.TheVariants.{OutOfMemory, Store}
 use Rattle.mr_base.specs.RefusalViews.{refusal_of}
-use Rattle.mr_part.specs.Desk.{reply_with}
+use Rattle.mr_part.specs.Answering.{reply_with}
 use Rattle.mr_part.specs.Parts.{PartView, IsPartOf, TakesPart, AnswersPart}
 use Rattle.mr_replica.specs.Desk.{DeskTakesStep}
 use Rattle.mr_replica.proofs.Steps.{IsStep}

@@ -7,7 +7,7 @@ use Rattle.mr_model.specs.Step.{After}
 use Rattle.mr_model.specs.Tables.{Tables, Stands}
 use Rattle.mr_base.specs.declared.refusals.Refusal.{Refusal}
 use Rattle.mr_base.specs.declared.refusals.Refusal.TheVariants.{OutOfMemory}
-use Rattle.mr_part.specs.Desk.{reply_with}
+use Rattle.mr_part.specs.Answering.{reply_with}
 
 -- a desk stands for the replicas that its tables stand for
 abbrev pub StandsFor : Tables → Replica → Type 0

@@ -3,9 +3,8 @@ ghost use Rattle.mr_model.specs.Positions.{position_of};
 ghost use Rattle.mr_model.specs.Replica.{Replica};
 ghost use Rattle.mr_model.specs.Replies.{RoomAdded, CommittedIs, DroppedIs, Took, PositionIs, BatchIs};
 ghost use Rattle.mr_model.specs.Step.{leave, add_room, commit, truncate, receive_batch, batch_reply};
-ghost use Rattle.mr_part.specs.Desk.{NeverStore};
+ghost use Rattle.mr_part.specs.Answering.{NeverStore, put_outcome, put_cancel_outcome};
 ghost use Rattle.mr_part.specs.Steps.{submit_request, outcome_in, cancel_request, outcome_at_room};
-ghost use Rattle.mr_part.specs.Turning.{put_outcome, put_cancel_outcome};
 ghost use Rattle.mr_replica.specs.Desk.{DeskTakesStep, StandsFor};
 ghost use Rattle.mr_tables.specs.Change.{changed};
 

@@ -3,7 +3,7 @@ ghost use Rattle.std.proofs.Props.{props};
 ghost use Rattle.mr_lists.specs.RowsAround.{AreInOrder, in_order-prop};
 ghost use Rattle.mr_model.specs.Replica.{Replica, opening};
 ghost use Rattle.mr_model.specs.Tables.{tables_of};
-ghost use Rattle.mr_part.specs.Desk.{NeverStore};
+ghost use Rattle.mr_part.specs.Answering.{NeverStore};
 ghost use Rattle.mr_part.specs.Parts.{IsPartOf};
 ghost use Rattle.mr_part.specs.ScopeOf.{scope_of};
 ghost use Rattle.mr_replica.specs.Desk.{StandsFor};

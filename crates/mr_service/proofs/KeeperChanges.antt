@@ -12,7 +12,7 @@ use Rattle.mr_base.specs.RefusalViews.{refusal_of}
 use Rattle.mr_base.specs.declared.refusals.Refusal.{Refusal}
 use Rattle.mr_base.specs.declared.refusals.Refusal.TheVariants as refusal
 use Rattle.mr_tables.specs.Change.{ChangeView, changed}
-use Rattle.mr_part.specs.Desk.{reply_with}
+use Rattle.mr_part.specs.Answering.{reply_with}
 use Rattle.mr_part.specs.Parts.{PartView, IsPartOf, TakesPart, AnswersPart}
 use Rattle.mr_store.specs.KeeperCalls.{fault_refusal, IsAtomic}
 use Rattle.mr_store.specs.declared.keeper.Fault.{Fault}

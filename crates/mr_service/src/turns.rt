@@ -6,7 +6,7 @@ ghost use Rattle.mr_model.specs.Replies.{OutcomeIs, PositionIs};
 ghost use Rattle.mr_model.specs.Scopes as scopes;
 ghost use Rattle.mr_model.specs.Step as model;
 ghost use Rattle.mr_part.specs.Steps.{submit_request, cancel_request};
-ghost use Rattle.mr_part.specs.Turning.{put_outcome, put_cancel_outcome};
+ghost use Rattle.mr_part.specs.Answering.{put_outcome, put_cancel_outcome};
 ghost use Rattle.mr_tables.specs.Summary.{IsWithin};
 ghost use Rattle.mr_service.specs.Asked.{outcome_seen};
 ghost use Rattle.mr_service.specs.Turns.{Tells, TurnsBy};

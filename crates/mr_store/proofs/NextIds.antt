@@ -9,7 +9,7 @@ use Rattle.mr_base.specs.declared.refusals.Refusal.{Refusal}
 use Rattle.mr_base.specs.declared.refusals.Refusal.TheVariants.{ClockExhausted, CountExhausted}
 use Rattle.mr_tables.specs.Summary.{summary_of, stamp_next}
 use Rattle.mr_tables.proofs.Summaries.{tally-of}
-use Rattle.mr_part.proofs.Desks.{own_server}
+use Rattle.mr_part.proofs.Submitting.{own_server}
 use Rattle.mr_part.specs.NextId.{id_in, next_id, id_given}
 use Rattle.mr_agree.proofs.FreeIds.{next_ids_are_free}
 use Rattle.mr_store.specs.Taken.{is_taken}

@@ -8,6 +8,5 @@ pub mod Tallied
 pub mod Written
 pub mod Choices
 pub mod Boards
-pub mod OldErrors
 pub mod Rise
 pub mod TableLaws

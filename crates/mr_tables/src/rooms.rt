@@ -1,7 +1,6 @@
-ghost use Rattle.std.specs.Prelude.{◌≡◌, ◌≤◌, true, false, length, bytes_eq, OnOk, OnErr, IfOk, IfErr};
+ghost use Rattle.std.specs.Prelude.{◌≡◌, bytes_eq, IfOk, IfErr};
 ghost use Rattle.std.specs.List.{list_any};
-ghost use Rattle.mr_model.specs.Replica.{text_before, with_room};
-ghost use Rattle.mr_tables.specs.Rooms.{room_place};
+ghost use Rattle.mr_model.specs.Replica.{text_before};
 
 use mr_base::{Refusal, RoomName};
 use std::alloc::Global;
@@ -18,37 +17,8 @@ pub fn is_known(rooms: &[RoomName], room: &RoomName) -> bool
     false
 }
 
-/// Adds the room at its place in the order of names, unless it is known.
-pub fn learn_room(alloc: Global, rooms: &mut Vec<RoomName>, room: &RoomName) -> Result<(), Refusal>
-    ensures known { OnOk result (list_any (bytes_eq room.now) rooms.old.items ≡ true → rooms.new.items ≡ rooms.old.items) }
-    ensures new { OnOk result (list_any (bytes_eq room.now) rooms.old.items ≡ false → rooms.new.items ≡ with_room room.now rooms.old.items) }
-    ensures err { OnErr result (rooms.new.items ≡ rooms.old.items) }
-    ensures only { IfErr result (λ e. e ≡ Refusal.OutOfMemory) }
-{
-    if is_known(rooms, room) {
-        return Ok(());
-    }
-    let place = place_of(rooms, room);
-    let room = room.copy(alloc)?;
-    rooms.insert(place, room)?;
-    Ok(())
-}
-
-/// How many of the rooms stand before this one.
-fn place_of(rooms: &[RoomName], room: &RoomName) -> usize
-    ensures place { result ≡ room_place rooms.now room.now }
-    ensures inside { result ≤ length rooms.now }
-{
-    for (k, other) in rooms.iter().enumerate() {
-        if is_before(room, other) {
-            return k;
-        }
-    }
-    rooms.len()
-}
-
 /// Whether the name stands before the other, by the first byte that differs.
-pub(crate) fn is_before(name: &RoomName, other: &RoomName) -> bool
+pub fn is_before(name: &RoomName, other: &RoomName) -> bool
     ensures { result ≡ text_before name.now other.now }
 {
     *name < *other

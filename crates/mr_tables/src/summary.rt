@@ -4,7 +4,7 @@ ghost use Rattle.mr_model.specs.Texts.{numbers_on};
 ghost use Rattle.mr_model.specs.Writes.{id_of};
 ghost use Rattle.mr_model.specs.Replica.{opening};
 ghost use Rattle.mr_base.specs.PositionCounts.{counts_of_pairs};
-ghost use Rattle.mr_tables.specs.Summary.{summary_of, IsWithin, noted_write, noted_commit, noted_commits, committed_len, counts_in, stamp_next, tally_at};
+ghost use Rattle.mr_tables.specs.Summary.{summary_of, IsWithin, noted_write, noted_commit, noted_commits, counts_in, stamp_next, tally_at};
 
 use mr_base::{
     GREATEST_COMMIT, GREATEST_COUNT, GREATEST_SERVER, GREATEST_TIME, Refusal, ServerId, Stamp,
@@ -112,13 +112,6 @@ impl Summary {
         for write in writes {
             self.note_commit(write.stamp.id());
         }
-    }
-
-    /// How many of the kept writes are committed; they are the first.
-    pub fn committed_len(&self, kept: &[Write]) -> usize
-        ensures { result ≡ committed_len self.now kept.now }
-    {
-        (self.commits.saturating_sub(self.dropped) as usize).min(kept.len())
     }
 
     /// The counts of the servers that have a write, by rising server.

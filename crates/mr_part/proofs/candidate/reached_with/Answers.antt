@@ -3,7 +3,7 @@ use Rattle.std.proofs.lemmas.Result.{err_from_is_err_and}
 use Rattle.mr_model.specs.Taking.{take_items}
 use Rattle.mr_model.proofs.Moved.{batches_move_touched_rooms}
 use Rattle.mr_base.specs.Batches.{item_of}
-use Rattle.mr_part.specs.Desk.{nothing_taken}
+use Rattle.mr_part.specs.Answering.{nothing_taken}
 use Rattle.mr_part.specs.Taken.{TakenPicked}
 use Rattle.mr_part.proofs.TakingItems.{all_within, items-failed}
 use Rattle.mr_part.proofs.candidate.reached_with.Goals as goal

@@ -7,7 +7,7 @@ use Rattle.mr_model.specs.Texts.{numbers_on, only_if}
 use Rattle.mr_model.specs.Writes.{is_server}
 use Rattle.mr_model.specs.Positions.{Position, position_of, is_position}
 use Rattle.mr_model.proofs.PositionsReadBack.{position_within}
-use Rattle.mr_part.specs.Desk.{NeverStore}
+use Rattle.mr_part.specs.Answering.{NeverStore}
 use Rattle.mr_tables.specs.Summary.{counts_in}
 use Rattle.mr_tables.proofs.TallyCounts.{counts-own}
 use Rattle.mr_part.proofs.PositionLimits.{position_with, position_fits}

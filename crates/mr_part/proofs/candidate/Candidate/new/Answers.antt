@@ -2,7 +2,7 @@ use Rattle.std.proofs.Common.{IfOk, sym, subst}
 use Rattle.std.proofs.lemmas.Result.{err_from_is_err_and}
 use Rattle.std.specs.List.{filter}
 use Rattle.mr_model.specs.Kept.{kept_in_order}
-use Rattle.mr_part.specs.Desk.{nothing_taken}
+use Rattle.mr_part.specs.Answering.{nothing_taken}
 use Rattle.mr_part.specs.Sets.{IsSetOf}
 use Rattle.mr_part.specs.Taken.{ShowsTaken}
 use Rattle.mr_part.proofs.TakingItems.{taken-none}

@@ -8,7 +8,7 @@ use Rattle.mr_model.specs.Step.{After, knows_booking}
 use Rattle.mr_model.specs.Tables.{tables_of}
 use Rattle.mr_tables.specs.Change.{ChangeView, changed}
 use Rattle.mr_tables.specs.Summary.{stamp_next}
-use Rattle.mr_part.specs.Desk.{reply_with}
+use Rattle.mr_part.specs.Answering.{reply_with}
 use Rattle.mr_part.specs.Parts.{PartView}
 use Rattle.mr_part.specs.Placing.{has_booking}
 use Rattle.mr_part.specs.Steps.{cancel_request, outcome_at_room}

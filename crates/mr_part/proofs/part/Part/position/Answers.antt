@@ -3,7 +3,7 @@ use Rattle.mr_base.specs.declared.refusals.Refusal.{Refusal}
 use Rattle.mr_base.specs.declared.refusals.Refusal.TheVariants.{OutOfMemory}
 use Rattle.mr_model.specs.Positions.{Position, position_of}
 use Rattle.mr_model.specs.Replies.{PositionIs}
-use Rattle.mr_part.specs.Desk.{reply_with}
+use Rattle.mr_part.specs.Answering.{reply_with}
 use Rattle.mr_tables.specs.Summary.{IsWithin}
 use Rattle.mr_part.specs.Parts.{PartView}
 use Rattle.mr_part.proofs.part.Part.position.Goals as goal

@@ -13,7 +13,7 @@ use Rattle.mr_base.specs.declared.refusals.Refusal.{Refusal}
 use Rattle.mr_base.specs.declared.refusals.Refusal.TheVariants.{OutOfMemory}
 use Rattle.mr_tables.specs.Change.{ChangeView, changed}
 use Rattle.mr_tables.specs.Written.{meta_of}
-use Rattle.mr_part.specs.Desk.{nothing_taken, reply_with}
+use Rattle.mr_part.specs.Answering.{nothing_taken, reply_with}
 use Rattle.mr_part.specs.Parts.{PartView, IsPartOf, kept_in}
 use Rattle.mr_base.specs.RefusalViews.{refusal_of}
 use Rattle.mr_tables.specs.Summary.{summary_of}

@@ -9,7 +9,7 @@ use Rattle.mr_model.specs.Step.{After}
 use Rattle.mr_model.specs.Tables.{tables_of}
 use Rattle.mr_tables.specs.Change.{ChangeView, changed}
 use Rattle.mr_tables.specs.Summary.{stamp_next}
-use Rattle.mr_part.specs.Desk.{reply_with}
+use Rattle.mr_part.specs.Answering.{reply_with}
 use Rattle.mr_part.specs.Parts.{PartView}
 use Rattle.mr_part.specs.Steps.{submit_request, outcome_in}
 use Rattle.mr_part.proofs.Submitting.{Submits, submits}

@@ -4,7 +4,7 @@ use Rattle.std.proofs.lemmas.Result.{err_from_is_err_and}
 use Rattle.mr_model.specs.Kept.{kept_in_order}
 use Rattle.mr_model.proofs.Moved.{batches_move_touched_rooms}
 use Rattle.mr_base.specs.Batches.{item_of}
-use Rattle.mr_part.specs.Desk.{nothing_taken}
+use Rattle.mr_part.specs.Answering.{nothing_taken}
 use Rattle.mr_part.specs.Taken.{ReachedView, is_inside}
 use Rattle.mr_part.specs.Parts.{PartView}
 use Rattle.mr_part.specs.KeptWrites.{numbered_of}

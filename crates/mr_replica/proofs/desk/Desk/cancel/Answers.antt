@@ -2,7 +2,7 @@ use Rattle.std.proofs.Common.{◌≡◌, IsTrue, subst}
 use Rattle.mr_model.specs.Scopes.{OfTarget}
 use Rattle.mr_model.specs.Writes.{Id, is_id}
 use Rattle.mr_part.specs.Steps.{cancel_request, outcome_at_room}
-use Rattle.mr_part.specs.Turning.{put_cancel_outcome}
+use Rattle.mr_part.specs.Answering.{put_cancel_outcome}
 use Rattle.mr_replica.proofs.Steps.{cancel_step}
 use Rattle.mr_replica.proofs.Taken.{turned, unmade, never_unmade, told_on}
 use Rattle.mr_tables.specs.Change.{ChangeView}

@@ -3,7 +3,7 @@ use Rattle.mr_model.specs.Requests.{Request, is_request}
 use Rattle.mr_model.specs.Scopes.{InRoom}
 use Rattle.mr_model.specs.Writes.{Id}
 use Rattle.mr_part.specs.Steps.{submit_request, outcome_in}
-use Rattle.mr_part.specs.Turning.{put_outcome}
+use Rattle.mr_part.specs.Answering.{put_outcome}
 use Rattle.mr_part.specs.Parts.{IsPartOf}
 use Rattle.mr_replica.proofs.Steps.{submit_step}
 use Rattle.mr_replica.proofs.Taken.{IsPartFrom}
