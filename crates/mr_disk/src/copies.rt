@@ -98,7 +98,7 @@ fn read_log(rt: &HostRuntime, path: &str) -> Result<Vec<u8>, OpenError> {
     }
     let mut log = open_shared(rt, path)?;
     if has_frame(&log)? {
-        settle(&log)?;
+        sync_and_forget(&log)?;
     }
     let bytes = read_whole(rt, &mut log)?;
     Ok(bytes)
@@ -113,7 +113,7 @@ fn has_frame(log: &File) -> io::Result<bool> {
 }
 
 /// Syncs the file, and drops the kernel's copies of its pages, which a failed sync may have left other than the disk has them.
-fn settle(file: &File) -> io::Result<()> {
+fn sync_and_forget(file: &File) -> io::Result<()> {
     file.sync_all()?;
     let advised = libc::posix_fadvise(file.as_raw_fd(), 0, 0, libc::POSIX_FADV_DONTNEED);
     if advised != 0 {

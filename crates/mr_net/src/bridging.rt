@@ -192,7 +192,7 @@ fn bridge_to<C: Keeper, W: Write>(
 {
     match SqlKeeper::open_file(rt, server) {
         Ok(keeper) => {
-            let (client, keeper, status) = bridge_kept(rt, alloc, client, keeper, out);
+            let (client, keeper, status) = bridge_keepers(rt, alloc, client, keeper, out);
             keeper.close();
             (client, status)
         }
@@ -204,7 +204,7 @@ fn bridge_to<C: Keeper, W: Write>(
 }
 
 /// Exchanges the replicas of these keepers, and gives both back with the status.
-fn bridge_kept<C: Keeper, S: Keeper, W: Write>(
+fn bridge_keepers<C: Keeper, S: Keeper, W: Write>(
     rt: &HostRuntime,
     alloc: Global,
     client: C,

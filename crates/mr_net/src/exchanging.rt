@@ -188,7 +188,7 @@ fn exchange_from<W: Write>(
 {
     match SqlKeeper::open_file(rt, database) {
         Ok(keeper) => {
-            let (keeper, status) = exchange_kept(rt, alloc, keeper, address, out);
+            let (keeper, status) = exchange_keeper(rt, alloc, keeper, address, out);
             keeper.close();
             status
         }
@@ -197,7 +197,7 @@ fn exchange_from<W: Write>(
 }
 
 /// Exchanges the replica of this keeper with the peer, and gives the keeper back with the status.
-fn exchange_kept<K: Keeper, W: Write>(
+fn exchange_keeper<K: Keeper, W: Write>(
     rt: &HostRuntime,
     alloc: Global,
     keeper: K,

@@ -34,7 +34,7 @@ pub fn serve<W: Write>(
 {
     match SqlKeeper::open_file(rt, database) {
         Ok(keeper) => {
-            let (keeper, status) = serve_kept(rt, alloc, keeper, port, connections, out);
+            let (keeper, status) = serve_keeper(rt, alloc, keeper, port, connections, out);
             keeper.close();
             status
         }
@@ -43,7 +43,7 @@ pub fn serve<W: Write>(
 }
 
 /// Serves the replica of this keeper, and gives the keeper back with the status.
-fn serve_kept<K: Keeper, W: Write>(
+fn serve_keeper<K: Keeper, W: Write>(
     rt: &HostRuntime,
     alloc: Global,
     keeper: K,

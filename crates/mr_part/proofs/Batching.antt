@@ -99,7 +99,6 @@ items-made r p sound low =
     let commits = ap (λ is. flat_map (commit_items r p) (enumerate_from (p.commits + 1) is)) ids ∙ commits-found r p (p.commits + 1) (drop n (drop r.dropped r.commits)) later ∙ ap (committed_items p (p.commits + 1)) (drop_found r n (drop r.dropped r.commits) all) in
     λ t. commits t ++ tentative-lacked p (tentative r) t
 
-
 -- ---- what a version of the text can say
 
 beyond_item : (v : model.Version) (x : model.Item) → is_beyond v x ≡ true → model.is_item v x ≡ false

@@ -12,7 +12,7 @@ use Rattle.mr_model.proofs.Members.{filter_has, same_id-true, same_id_from}
 use Rattle.mr_model.proofs.RowsById.{by_id_has, known_write}
 use Rattle.mr_base.proofs.Readers.{bytes_same, same_bytes}
 use Rattle.mr_part.specs.KeptRows.{kept_row_with}
-use Rattle.mr_part.specs.ToldRows.{told_cells, log_told, kept_told, is_of_cells, is_of_row}
+use Rattle.mr_part.specs.WithoutChoices.{cells_without_choices, without_choices, kept_without_choices, is_of_cells, is_of_row}
 
 -- the k-th row is that of a write, and what is made of the writes up to it has one element more
 pub record IsRead {R T : Type 0} (f : Write → R) (h : Write → T) (ws : List Write) (k : ℕ) (x : R) : Type 0 where
@@ -44,16 +44,16 @@ all_read f h ws k logs e l =
     ap (map h) (take_all k ws (omega (arith, l, long)))
 
 -- one row more
-pub told_more : (logs : List LogRow) (k : ℕ) (x : LogRow) → k < length logs → x ≡ get_or logs k x → map log_told (take (k + 1) logs) ≡ map log_told (take k logs) ++ log_told x ∷ []
+pub told_more : (logs : List LogRow) (k : ℕ) (x : LogRow) → k < length logs → x ≡ get_or logs k x → map without_choices (take (k + 1) logs) ≡ map without_choices (take k logs) ++ without_choices x ∷ []
 told_more [] k x l e = absurd (omega (arith, l))
-told_more (y ∷ ys) zero x l e = ap (λ row. log_told row ∷ []) (sym e)
+told_more (y ∷ ys) zero x l e = ap (λ row. without_choices row ∷ []) (sym e)
 told_more (y ∷ ys) (suc k) x l e =
-    (let n : suc k + 1 ≡ suc (k + 1) = omega arith in ap (λ m. map log_told (take m (y ∷ ys))) n)
-    ∙ ap (λ ts. log_told y ∷ ts) (told_more ys k x (let m : suc k < suc (length ys) = l in omega (arith, m)) e)
+    (let n : suc k + 1 ≡ suc (k + 1) = omega arith in ap (λ m. map without_choices (take m (y ∷ ys))) n)
+    ∙ ap (λ ts. without_choices y ∷ ts) (told_more ys k x (let m : suc k < suc (length ys) = l in omega (arith, m)) e)
 
 -- ---- columns
 
-told_action : (a : Action) (cells : ActionCells) → is_of_cells a cells ≡ true → told_cells (cells_of a) ≡ told_cells cells
+told_action : (a : Action) (cells : ActionCells) → is_of_cells a cells ≡ true → cells_without_choices (cells_of a) ≡ cells_without_choices cells
 told_action (Books m) (OfMeeting cells) e =
     let (length, title) = and_parts (m.length == cells.length) (bytes_eq m.title cells.title) e in
     λ i. OfMeeting (record { length = eqb-true m.length cells.length length i; choices = []; title = bytes_same m.title cells.title title i })
@@ -62,7 +62,7 @@ told_action (Cancels target) (OfMeeting cells) e = absurd (true≢false (sym e))
 told_action (Cancels target) (OfCancel other) e = ap OfCancel (same_id-true target other e)
 
 -- a write that is of the row tells it
-pub told_row : (w : Write) (row : LogRow) → is_of_row w row ≡ true → kept_told (kept_row_with w row.seq row.place) ≡ log_told row
+pub told_row : (w : Write) (row : LogRow) → is_of_row w row ≡ true → kept_without_choices (kept_row_with w row.seq row.place) ≡ without_choices row
 told_row w row e =
     let s = w.stamp in
     let (front, action) = and_parts (s.server == row.server && s.n == row.n && s.time == row.time && bytes_eq w.room row.room) (is_of_cells w.action row.action) e in

@@ -17,7 +17,7 @@ use Rattle.mr_model.proofs.Members.{any_has, has_any, same_id-true, same_id_from
 use Rattle.mr_model.proofs.RoomTold.{known_told, told_of_room}
 use Rattle.mr_model.proofs.RowsById.{known_write, server_bounds}
 use Rattle.mr_model.proofs.UniqueReplay.{none_some}
-use Rattle.mr_replay.specs.Rows.{row_at, kept_with, kept_for, Rows}
+use Rattle.mr_replay.specs.Rows.{row_at, trace_with, trace_for, Rows}
 use Rattle.mr_tables.specs.declared.summary.Tally.{Tally}
 use Rattle.mr_tables.specs.Boards as tables
 use Rattle.mr_tables.specs.Change.{ChangeView}
@@ -25,10 +25,10 @@ use Rattle.mr_tables.specs.Summary.{tally_at}
 use Rattle.mr_tables.specs.Written.{with_place}
 use Rattle.mr_tables.proofs.BoardsTold.{known_at, unknown_at, known_or_none}
 use Rattle.mr_tables.proofs.Fitting.{choice_fits}
-use Rattle.mr_part.specs.Placing.{with_places_put, board_place, KeptEnds, RowEnds, row_canceller, kept_is_booking, is_booking_row_in, has_booking}
+use Rattle.mr_part.specs.Placing.{with_places_put, board_place, TraceEnds, RowEnds, row_canceller, is_booking_trace, is_booking_row_in, has_booking}
 use Rattle.mr_part.proofs.RowsPut.{tallies_of}
 use Rattle.mr_agree.proofs.AgreeCounts.{vector-at, known_first}
-use Rattle.mr_replay.specs.declared.rows.Kept.{Kept}
+use Rattle.mr_replay.specs.declared.rows.Trace.{Trace}
 use Rattle.mr_replay.specs.declared.rows.Row.{Row}
 use Rattle.mr_tables.proofs.Summaries.{tally-of}
 
@@ -57,8 +57,8 @@ known_mark r w h a =
     ∙ known_first r w h a
 
 -- what is read of a write's row by what is kept
-abbrev pub kept_row : {R : Type 0} → (Id → Row → Option R) → Write → Option Kept → Option R
-kept_row f w o = of_row f (id_of w) (option_map (λ k. record { room = w.room; kept = k }) o)
+abbrev pub kept_row : {R : Type 0} → (Id → Row → Option R) → Write → Option Trace → Option R
+kept_row f w o = of_row f (id_of w) (option_map (λ k. record { room = w.room; trace = k }) o)
 
 -- ---- the cancel that took a write back
 
@@ -80,17 +80,17 @@ cancel_slot w t Logged e = refl
 cancel_slot w t Done e = refl
 cancel_slot w t Void e = refl
 
-canceller-row : (w : Write) (a : Action) (p : Place) (by : Option Id) → w.action ≡ a → ((c : Id) → by ≡ Some c → (s : Slot) × (slot_at w p ≡ Some s)) → row_canceller (option_map (λ k. record { room = w.room; kept = k }) (kept_for w a p by)) ≡ by
+canceller-row : (w : Write) (a : Action) (p : Place) (by : Option Id) → w.action ≡ a → ((c : Id) → by ≡ Some c → (s : Slot) × (slot_at w p ≡ Some s)) → row_canceller (option_map (λ k. record { room = w.room; trace = k }) (trace_for w a p by)) ≡ by
 canceller-row w (Books m) p by e f = go (slot_at w p) by f
   where
-    go : (o : Option Slot) (by : Option Id) → ((c : Id) → by ≡ Some c → (s : Slot) × (o ≡ Some s)) → row_canceller (Some (record { room = w.room; kept = kept_with m o by })) ≡ by
+    go : (o : Option Slot) (by : Option Id) → ((c : Id) → by ≡ Some c → (s : Slot) × (o ≡ Some s)) → row_canceller (Some (record { room = w.room; trace = trace_with m o by })) ≡ by
     go None None f = refl
     go None (Some c) f = let (s, i) = f c refl in absurd (none_some s i)
     go (Some s) None f = refl
     go (Some s) (Some c) f = refl
 canceller-row w (Cancels t) p by e f = go by p f
   where
-    go : (by : Option Id) (q : Place) → ((c : Id) → by ≡ Some c → (s : Slot) × (slot_at w p ≡ Some s)) → row_canceller (option_map (λ k. record { room = w.room; kept = k }) (kept_for w (Cancels t) q by)) ≡ by
+    go : (by : Option Id) (q : Place) → ((c : Id) → by ≡ Some c → (s : Slot) × (slot_at w p ≡ Some s)) → row_canceller (option_map (λ k. record { room = w.room; trace = k }) (trace_for w (Cancels t) q by)) ≡ by
     go (Some c) q f = let (s, i) = f c refl in absurd (none_some s (sym (cancel_slot w t p e) ∙ i))
     go None (Taken k) f = refl
     go None Logged f = refl
@@ -110,12 +110,12 @@ if_placed (Erred row) = None
 if_placed (Cancelled row) = Some (Cancelled row)
 if_placed (Cancel row) = None
 
-placed-meeting : (ts : List Tally) (w : Write) (m : Meeting) (o : Option Slot) (by : Option Id) (mark : Bool) (seq : ℕ) → leb w.stamp.n (tally_at ts w.stamp.server).committed ≡ mark → kept_row (board_place ts) w (Some (kept_with m o by)) ≡ if_placed (booking_place_row w m o by mark seq)
+placed-meeting : (ts : List Tally) (w : Write) (m : Meeting) (o : Option Slot) (by : Option Id) (mark : Bool) (seq : ℕ) → leb w.stamp.n (tally_at ts w.stamp.server).committed ≡ mark → kept_row (board_place ts) w (Some (trace_with m o by)) ≡ if_placed (booking_place_row w m o by mark seq)
 placed-meeting ts w m None by mark seq e = refl
 placed-meeting ts w m (Some s) None mark seq e = λ i. Some (Booked (record { room = w.room; day = s.day; start = s.start; stop = s.start + m.length; server = w.stamp.server; n = w.stamp.n; title = m.title; committed = e i }))
 placed-meeting ts w m (Some s) (Some c) mark seq e = λ i. Some (Cancelled (record { room = w.room; day = s.day; start = s.start; stop = s.start + m.length; server = w.stamp.server; n = w.stamp.n; title = m.title; committed = e i; by = c }))
 
-placed-row : (ts : List Tally) (w : Write) (a : Action) (p : Place) (by : Option Id) (mark : Bool) (seq : ℕ) → leb w.stamp.n (tally_at ts w.stamp.server).committed ≡ mark → kept_row (board_place ts) w (kept_for w a p by) ≡ if_placed (place_row_for w a p by mark seq)
+placed-row : (ts : List Tally) (w : Write) (a : Action) (p : Place) (by : Option Id) (mark : Bool) (seq : ℕ) → leb w.stamp.n (tally_at ts w.stamp.server).committed ≡ mark → kept_row (board_place ts) w (trace_for w a p by) ≡ if_placed (place_row_for w a p by mark seq)
 placed-row ts w (Books m) p by mark seq e = placed-meeting ts w m (slot_at w p) by mark seq e
 placed-row ts w (Cancels t) (Taken k) by mark seq e = refl
 placed-row ts w (Cancels t) Logged by mark seq e = refl
@@ -130,12 +130,12 @@ placed-here r w h k =
 
 -- ---- its end
 
-meeting_ends : (w : Write) (m : Meeting) (o : Option Slot) (by : Option Id) → ((s : Slot) → o ≡ Some s → s.start + m.length ≤ 1440) → m.wish.start + m.length ≤ 1440 → KeptEnds (kept_with m o by)
+meeting_ends : (w : Write) (m : Meeting) (o : Option Slot) (by : Option Id) → ((s : Slot) → o ≡ Some s → s.start + m.length ≤ 1440) → m.wish.start + m.length ≤ 1440 → TraceEnds (trace_with m o by)
 meeting_ends w m None by f wish = wish
 meeting_ends w m (Some s) None f wish = f s refl
 meeting_ends w m (Some s) (Some c) f wish = f s refl
 
-row_ends : (w : Write) (a : Action) (p : Place) (by : Option Id) → w.action ≡ a → is_action a ≡ true → RowEnds (option_map (λ k. record { room = w.room; kept = k }) (kept_for w a p by))
+row_ends : (w : Write) (a : Action) (p : Place) (by : Option Id) → w.action ≡ a → is_action a ≡ true → RowEnds (option_map (λ k. record { room = w.room; trace = k }) (trace_for w a p by))
 row_ends w (Books m) p by e good = meeting_ends w m (slot_at w p) by (λ s f. go p s f) (choice_fits m 0 m.wish good refl)
   where
     go : (p : Place) (s : Slot) → slot_at w p ≡ Some s → s.start + m.length ≤ 1440
@@ -161,10 +161,10 @@ rows_end r i h = go (known_or_none i r.known)
 
 -- ---- whether it is known
 
-booking_row-is : (w : Write) (room : Text) (a : Action) (p : Place) (by : Option Id) → is_booking_row_in room (option_map (λ k. record { room = w.room; kept = k }) (kept_for w a p by)) ≡ (bytes_eq w.room room && is_booking a)
+booking_row-is : (w : Write) (room : Text) (a : Action) (p : Place) (by : Option Id) → is_booking_row_in room (option_map (λ k. record { room = w.room; trace = k }) (trace_for w a p by)) ≡ (bytes_eq w.room room && is_booking a)
 booking_row-is w room (Books m) p by = go (slot_at w p) by (bytes_eq w.room room)
   where
-    go : (o : Option Slot) (by : Option Id) (b : Bool) → cond b (kept_is_booking (kept_with m o by)) false ≡ (b && true)
+    go : (o : Option Slot) (by : Option Id) (b : Bool) → cond b (is_booking_trace (trace_with m o by)) false ≡ (b && true)
     go None by true = refl
     go (Some s) None true = refl
     go (Some s) (Some c) true = refl
@@ -181,7 +181,7 @@ booking_row-is w room (Cancels t) p by = go p (bytes_eq w.room room)
     never true = refl
     never false = refl
 
-    go : (p : Place) (b : Bool) → is_booking_row_in room (option_map (λ k. record { room = w.room; kept = k }) (kept_for w (Cancels t) p by)) ≡ (bytes_eq w.room room && false)
+    go : (p : Place) (b : Bool) → is_booking_row_in room (option_map (λ k. record { room = w.room; trace = k }) (trace_for w (Cancels t) p by)) ≡ (bytes_eq w.room room && false)
     go (Taken k) b = other (bytes_eq w.room room)
     go Logged b = other (bytes_eq w.room room)
     go Done b = never (bytes_eq w.room room)

@@ -19,8 +19,8 @@ use Rattle.mr_model.proofs.PlacesOfOrder.{room-replay}
 use Rattle.mr_model.proofs.RoomsApart.{replay-append}
 use Rattle.mr_model.proofs.UniqueReplay.{length-replay, none_some}
 use Rattle.mr_replay.specs.declared.rows.Standing.TheVariants.{Booked, CancelledBy, InErrorLog}
-use Rattle.mr_replay.specs.declared.rows.Kept.{Kept}
-use Rattle.mr_replay.specs.declared.rows.Kept.TheVariants.{OfBooking, OfCancel}
+use Rattle.mr_replay.specs.declared.rows.Trace.{Trace}
+use Rattle.mr_replay.specs.declared.rows.Trace.TheVariants.{OfBooking, OfCancel}
 use Rattle.mr_replay.specs.declared.rows.Row.{Row}
 use Rattle.mr_replay.specs.Places.{UndoRow}
 use Rattle.mr_replay.specs.Rows.{Rows, row_at, bookings_of, row_of, place_by_rows, with_mark, without_mark, target_of, executed, undo_row_at, undone, executed_all, undone_all, undo_rows_of}
@@ -70,7 +70,7 @@ bookings_view = record {
 }
 
 -- what bears no mark of a cancel stays when that is taken away
-unmarked : (c : Id) (k : Kept) → bears c k ≡ false → without_mark c k ≡ k
+unmarked : (c : Id) (k : Trace) → bears c k ≡ false → without_mark c k ≡ k
 unmarked c (OfBooking s l t Booked) h = refl
 unmarked c (OfBooking s l t (CancelledBy d)) h = ap (λ x. OfBooking s l t (cond x Booked (CancelledBy d))) h
 unmarked c (OfBooking s l t InErrorLog) h = refl
@@ -79,7 +79,7 @@ unmarked c (OfCancel t) h = refl
 stays-unmarked : (c : Id) (x : Bool) (o : Option Row) → BearsNot c o → change_if (without_mark c) x o ≡ o
 stays-unmarked c false o h = refl
 stays-unmarked c true None h = refl
-stays-unmarked c true (Some row) h = let kept = unmarked c row.kept h in λ i. Some (record { room = row.room; kept = kept i })
+stays-unmarked c true (Some row) h = let kept = unmarked c row.trace h in λ i. Some (record { room = row.room; trace = kept i })
 
 apart_names : (room other : Text) → bytes_eq room other ≡ false → bytes_eq other room ≡ false
 apart_names room other e = go (bytes_eq other room) refl

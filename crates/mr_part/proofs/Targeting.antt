@@ -18,15 +18,15 @@ use Rattle.mr_model.proofs.Members.{has_any, same_id-true}
 use Rattle.mr_model.proofs.RowsById.{has_flat, flat_has}
 use Rattle.mr_model.proofs.UniqueReplay.{some_inj, none_some}
 use Rattle.mr_replay.specs.declared.rows.Standing.TheVariants as standing
-use Rattle.mr_replay.specs.declared.rows.Kept.{Kept}
-use Rattle.mr_replay.specs.declared.rows.Kept.TheVariants.{OfBooking, OfCancel}
+use Rattle.mr_replay.specs.declared.rows.Trace.{Trace}
+use Rattle.mr_replay.specs.declared.rows.Trace.TheVariants.{OfBooking, OfCancel}
 use Rattle.mr_replay.specs.declared.rows.Row.{Row}
-use Rattle.mr_replay.specs.Rows.{Rows, row_at, kept_with, kept_for}
+use Rattle.mr_replay.specs.Rows.{Rows, row_at, trace_with, trace_for}
 use Rattle.mr_replay.specs.Holds.{if_of}
 use Rattle.mr_replay.specs.Bookings.{is_taken, if_taken}
 use Rattle.mr_replay.proofs.Lists.{one_name, same_name}
 use Rattle.mr_tables.proofs.BoardsTold.{known_at, unknown_at, known_or_none}
-use Rattle.mr_part.specs.Placing.{kept_place, board_place, RowEnds, kept_canceller, row_canceller}
+use Rattle.mr_part.specs.Placing.{trace_place, board_place, RowEnds, canceller_on, row_canceller}
 use Rattle.mr_part.specs.Targets.{aimed_at, taken_by, same_by, row_if_moved, target_if_moved, moved_target, moved_targets}
 use Rattle.mr_part.proofs.RowsPut.{tallies_of}
 use Rattle.mr_part.proofs.Placings.{if_placed, placed-here, rows_end, board_of, of_row}
@@ -34,11 +34,11 @@ use Rattle.mr_part.proofs.Standings.{is_target, aims, target_is, anew, canceller
 
 -- ---- a booking that took its slot
 
-taken_kept : (m : Meeting) (s : Slot) (by : Option Id) → is_taken (kept_with m (Some s) by) ≡ true
+taken_kept : (m : Meeting) (s : Slot) (by : Option Id) → is_taken (trace_with m (Some s) by) ≡ true
 taken_kept m s None = refl
 taken_kept m s (Some c) = refl
 
-kept_by : (m : Meeting) (s : Slot) (by : Option Id) → kept_canceller (kept_with m (Some s) by) ≡ by
+kept_by : (m : Meeting) (s : Slot) (by : Option Id) → canceller_on (trace_with m (Some s) by) ≡ by
 kept_by m s None = refl
 kept_by m s (Some c) = refl
 
@@ -54,26 +54,26 @@ placed_is (Cancel row) p e = absurd (none_some p e)
 
 -- what the board tells of a booking with a slot
 abbrev row_with : Write → Meeting → Slot → Option Id → Row
-row_with w m s by = record { room = w.room; kept = kept_with m (Some s) by }
+row_with w m s by = record { room = w.room; trace = trace_with m (Some s) by }
 
-row_of_booking : (w : Write) (a : Action) (p : Place) (by : Option Id) (m : Meeting) (s : Slot) → a ≡ Books m → slot_at w p ≡ Some s → option_map (λ k. record { room = w.room; kept = k }) (kept_for w a p by) ≡ Some (row_with w m s by)
-row_of_booking w a p by m s e f = ap (λ x. option_map (λ k. record { room = w.room; kept = k }) (kept_for w x p by)) e ∙ ap (λ o. Some (record { room = w.room; kept = kept_with m o by })) f
+row_of_booking : (w : Write) (a : Action) (p : Place) (by : Option Id) (m : Meeting) (s : Slot) → a ≡ Books m → slot_at w p ≡ Some s → option_map (λ k. record { room = w.room; trace = k }) (trace_for w a p by) ≡ Some (row_with w m s by)
+row_of_booking w a p by m s e f = ap (λ x. option_map (λ k. record { room = w.room; trace = k }) (trace_for w x p by)) e ∙ ap (λ o. Some (record { room = w.room; trace = trace_with m o by })) f
 
 place_of_booking : (w : Write) (a : Action) (p : Place) (by : Option Id) (mark : Bool) (seq : ℕ) (m : Meeting) (s : Slot) → a ≡ Books m → slot_at w p ≡ Some s → place_row_for w a p by mark seq ≡ booking_place_row w m (Some s) by mark seq
 place_of_booking w a p by mark seq m s e f = ap (λ x. place_row_for w x p by mark seq) e ∙ ap (λ o. booking_place_row w m o by mark seq) f
 
 -- ---- rows that are seen
 
-seen_taken : (o : Option Row) (row : Row) → if_taken o ≡ Some row → (o ≡ Some row) × (is_taken row.kept ≡ true)
+seen_taken : (o : Option Row) (row : Row) → if_taken o ≡ Some row → (o ≡ Some row) × (is_taken row.trace ≡ true)
 seen_taken None row e = absurd (none_some row e)
 seen_taken (Some x) row e = go (is_taken x.kept) refl e
   where
-    go : (c : Bool) → is_taken x.kept ≡ c → cond c (Some x) None ≡ Some row → (Some x ≡ Some row) × (is_taken row.kept ≡ true)
+    go : (c : Bool) → is_taken x.kept ≡ c → cond c (Some x) None ≡ Some row → (Some x ≡ Some row) × (is_taken row.trace ≡ true)
     go true t f = (f, ap (λ (r : Row). is_taken r.kept) (sym (some_inj x row f)) ∙ t)
     go false t f = absurd (none_some row f)
 
-taken_seen : (row : Row) → is_taken row.kept ≡ true → if_taken (Some row) ≡ Some row
-taken_seen row t = cond-true (is_taken row.kept) (Some row) None t
+taken_seen : (row : Row) → is_taken row.trace ≡ true → if_taken (Some row) ≡ Some row
+taken_seen row t = cond-true (is_taken row.trace) (Some row) None t
 
 seen_room : (room : Text) (o : Option Row) (row : Row) → if_of room o ≡ Some row → o ≡ Some row
 seen_room room None row e = e
@@ -90,10 +90,10 @@ room_seen room row e = cond-true (bytes_eq row.room room) (Some row) None (same_
 abbrev pub Shows : Replica → Text → Rows → Type 0
 Shows r room board = (q : Id) → if_taken (if_of room (row_at board q)) ≡ if_taken (if_of room (row_at (board_of r) q))
 
-shown : (r : Replica) (room : Text) (board : Rows) (q : Id) (row : Row) → Shows r room board → if_of room (row_at board q) ≡ Some row → is_taken row.kept ≡ true → row_at (board_of r) q ≡ Some row
+shown : (r : Replica) (room : Text) (board : Rows) (q : Id) (row : Row) → Shows r room board → if_of room (row_at board q) ≡ Some row → is_taken row.trace ≡ true → row_at (board_of r) q ≡ Some row
 shown r room board q row shows e t = seen_room room (row_at (board_of r) q) row (seen_taken (if_of room (row_at (board_of r) q)) row (sym (shows q) ∙ ap if_taken e ∙ taken_seen row t)).0
 
-shows_it : (r : Replica) (room : Text) (board : Rows) (q : Id) (row : Row) → Shows r room board → row_at (board_of r) q ≡ Some row → row.room ≡ room → is_taken row.kept ≡ true → if_of room (row_at board q) ≡ Some row
+shows_it : (r : Replica) (room : Text) (board : Rows) (q : Id) (row : Row) → Shows r room board → row_at (board_of r) q ≡ Some row → row.room ≡ room → is_taken row.trace ≡ true → if_of room (row_at board q) ≡ Some row
 shows_it r room board q row shows e is t = (seen_taken (if_of room (row_at board q)) row (shows q ∙ ap (λ o. if_taken (if_of room o)) e ∙ ap if_taken (room_seen room row is) ∙ taken_seen row t)).0
 
 -- of a known booking with a slot
@@ -134,7 +134,7 @@ module _ (a b : Replica) (items : List Item) (m : BatchMoves a b items) (sound :
       placed : (c : Write) (t : Id) (row : Row) → Has c writes → if_of c.room (row_at new t) ≡ Some row → Has p (cons_option (board_place (tallies_of b) t row) []) → (w : Write) × Has w b.known × (p ≡ place_row b w)
       placed c t row g e h = by (board_place (tallies_of b) t row) refl h
         where
-          taken : (k : Kept) (q : PlaceRow) → kept_place (tallies_of b) t row.room k ≡ Some q → is_taken k ≡ true
+          taken : (k : Trace) (q : PlaceRow) → trace_place (tallies_of b) t row.room k ≡ Some q → is_taken k ≡ true
           taken (OfBooking s l x standing.Booked) q f = refl
           taken (OfBooking s l x (standing.CancelledBy d)) q f = refl
           taken (OfBooking s l x standing.InErrorLog) q f = absurd (none_some q f)
@@ -143,13 +143,13 @@ module _ (a b : Replica) (items : List Item) (m : BatchMoves a b items) (sound :
           by : (o : Option PlaceRow) → board_place (tallies_of b) t row ≡ o → Has p (cons_option o []) → (w : Write) × Has w b.known × (p ≡ place_row b w)
           by None f k = absurd k
           by (Some q) f (inl k) =
-              let (w, known, s, told) = known_shown b t row m.sound (shown b c.room new t row (shows_new c g) e (taken row.kept q f)) in
+              let (w, known, s, told) = known_shown b t row m.sound (shown b c.room new t row (shows_new c g) e (taken row.trace q f)) in
               (w, known, k ∙ placed_is (place_row b w) q (sym told ∙ f))
           by (Some q) f (inr k) = absurd k
 
       row : (c : Write) (was : Option Id) (t : Id) (o : Option Row) → Has c writes → if_of c.room (row_at new t) ≡ o → Has p (row_if_moved (tallies_of b) was t o) → (w : Write) × Has w b.known × (p ≡ place_row b w)
       row c was t None g e k = absurd k
-      row c was t (Some r) g e k = by (same_by was (kept_canceller r.kept)) k
+      row c was t (Some r) g e k = by (same_by was (canceller_on r.kept)) k
         where
           by : (x : Bool) → Has p (cond x [] (cons_option (board_place (tallies_of b) t r) [])) → (w : Write) × Has w b.known × (p ≡ place_row b w)
           by true k = absurd k

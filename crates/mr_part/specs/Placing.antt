@@ -4,8 +4,8 @@ use Rattle.mr_model.specs.Texts.{Text}
 use Rattle.mr_model.specs.Writes.{Id, Write, id_of}
 use Rattle.mr_model.specs.Tables.{PlaceRow, Booked, Cancelled, taken_back, BookingRow}
 use Rattle.mr_replay.specs.declared.rows.Standing.TheVariants as standing
-use Rattle.mr_replay.specs.declared.rows.Kept.{Kept}
-use Rattle.mr_replay.specs.declared.rows.Kept.TheVariants.{OfBooking, OfCancel}
+use Rattle.mr_replay.specs.declared.rows.Trace.{Trace}
+use Rattle.mr_replay.specs.declared.rows.Trace.TheVariants.{OfBooking, OfCancel}
 use Rattle.mr_replay.specs.declared.rows.Row.{Row}
 use Rattle.mr_replay.specs.Places.{UndoRow}
 use Rattle.mr_replay.specs.Rows.{Rows, row_at, target_if_done as taken_back_by}
@@ -37,46 +37,46 @@ booking_at ts id room slot length title =
     }
 
 -- it has its slot, or a cancel took it back; one that found no slot has no row of these
-abbrev pub kept_place : List Tally → Id → Text → Kept → Option PlaceRow
-kept_place ts id room (OfBooking slot length title standing.Booked) = Some (Booked (booking_at ts id room slot length title))
-kept_place ts id room (OfBooking slot length title (standing.CancelledBy by)) =
+abbrev pub trace_place : List Tally → Id → Text → Trace → Option PlaceRow
+trace_place ts id room (OfBooking slot length title standing.Booked) = Some (Booked (booking_at ts id room slot length title))
+trace_place ts id room (OfBooking slot length title (standing.CancelledBy by)) =
     Some (Cancelled (taken_back by (booking_at ts id room slot length title)))
-kept_place ts id room _ = None
+trace_place ts id room _ = None
 
 abbrev pub board_place : List Tally → Id → Row → Option PlaceRow
-board_place ts id row = kept_place ts id row.room row.kept
+board_place ts id row = trace_place ts id row.room row.trace
 
 -- a booking ends on its day
-abbrev pub KeptEnds : Kept → Type 0
-KeptEnds (OfBooking slot length title stands) = slot.start + length ≤ 1440
-KeptEnds (OfCancel target) = Unit {0}
+abbrev pub TraceEnds : Trace → Type 0
+TraceEnds (OfBooking slot length title stands) = slot.start + length ≤ 1440
+TraceEnds (OfCancel target) = Unit {0}
 
 abbrev pub RowEnds : Option Row → Type 0
 RowEnds None = Unit {0}
-RowEnds (Some row) = KeptEnds row.kept
+RowEnds (Some row) = TraceEnds row.trace
 
 -- ---- cancels
 
 -- the cancel that took a booking back, if one did
-abbrev pub kept_canceller : Kept → Option Id
-kept_canceller (OfBooking slot length title (standing.CancelledBy by)) = Some by
-kept_canceller _ = None
+abbrev pub canceller_on : Trace → Option Id
+canceller_on (OfBooking slot length title (standing.CancelledBy by)) = Some by
+canceller_on _ = None
 
 abbrev pub row_canceller : Option Row → Option Id
 row_canceller None = None
-row_canceller (Some row) = kept_canceller row.kept
+row_canceller (Some row) = canceller_on row.trace
 
 -- of each of these writes
 abbrev pub cancellers_on : Rows → List Write → List (Option Id)
 cancellers_on b ws = map (λ w. row_canceller (row_at b (id_of w))) ws
 
-abbrev pub kept_is_booking : Kept → Bool
-kept_is_booking (OfBooking slot length title stands) = true
-kept_is_booking (OfCancel target) = false
+abbrev pub is_booking_trace : Trace → Bool
+is_booking_trace (OfBooking slot length title stands) = true
+is_booking_trace (OfCancel target) = false
 
 abbrev pub is_booking_row_in : Text → Option Row → Bool
 is_booking_row_in room None = false
-is_booking_row_in room (Some row) = if bytes_eq row.room room then kept_is_booking row.kept else false
+is_booking_row_in room (Some row) = if bytes_eq row.room room then is_booking_trace row.trace else false
 
 -- whether the board has a booking of this room with this id: one that stands, was taken back or found no slot
 abbrev pub has_booking : Rows → Text → Id → Bool

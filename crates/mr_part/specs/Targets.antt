@@ -8,7 +8,7 @@ use Rattle.mr_replay.specs.declared.rows.Row.{Row}
 use Rattle.mr_replay.specs.Rows.{Rows, row_at}
 use Rattle.mr_replay.specs.Holds.{if_of}
 use Rattle.mr_tables.specs.declared.summary.Tally.{Tally}
-use Rattle.mr_part.specs.Placing.{row_canceller, kept_canceller, board_place}
+use Rattle.mr_part.specs.Placing.{row_canceller, canceller_on, board_place}
 
 -- the row of what is cancelled, if it is of the cancel's room
 abbrev pub aimed_at : Rows → Text → Action → Option Row
@@ -27,7 +27,7 @@ same_by _ _ = false
 -- the row of a booking, where that cancel took it back before, and another one does now
 abbrev pub row_if_moved : List Tally → Option Id → Id → Option Row → List PlaceRow
 row_if_moved ts was target None = []
-row_if_moved ts was target (Some row) = if same_by was (kept_canceller row.kept) then [] else cons_option (board_place ts target row) []
+row_if_moved ts was target (Some row) = if same_by was (canceller_on row.trace) then [] else cons_option (board_place ts target row) []
 
 abbrev pub target_if_moved : List Tally → Option Id → Rows → Text → Action → List PlaceRow
 target_if_moved ts was b room (Books m) = []

@@ -9,7 +9,7 @@ ghost use Rattle.mr_base.specs.Answers.{OrOutOfMemory};
 ghost use Rattle.mr_replay.specs.Places.{place_seen};
 ghost use Rattle.mr_base.specs.Actions.{action_of};
 ghost use Rattle.mr_tables.specs.Cells.{action_cells};
-ghost use Rattle.mr_part.specs.ToldRows.{log_told, kept_told, is_of_cells, is_of_row};
+ghost use Rattle.mr_part.specs.WithoutChoices.{without_choices, kept_without_choices, is_of_cells, is_of_row};
 ghost use Rattle.mr_part.specs.KeptRows.{kept_row_with, kept_row as kept_row_of, row_writes, row_undos, run_place, run_cmp};
 
 use mr_base::{Action, Refusal, ServerId, Write, WriteId};
@@ -71,7 +71,7 @@ pub fn sort_rows(rows: &mut Vec<KeptRow>)
 pub fn kept_rows(alloc: Global, logs: &[LogRow]) -> Result<Vec<KeptRow>, Refusal>
     ensures rows { (a : Replica) → IsReplica a → logs.now ≡ map (log_row a) (kept a) → IfOk result (λ rows. rows.items ≡ map (kept_row_of a) (kept a)) }
     ensures only { (a : Replica) → IsReplica a → logs.now ≡ map (log_row a) (kept a) → IfErr result (λ e. e ≡ Refusal.OutOfMemory) }
-    ensures told { IfOk result (λ rows. map kept_told rows.items ≡ map log_told logs.now) }
+    ensures told { IfOk result (λ rows. map kept_without_choices rows.items ≡ map without_choices logs.now) }
 {
     let mut rows = Vec::new(alloc);
     for log in logs {
@@ -87,7 +87,7 @@ pub fn kept_rows(alloc: Global, logs: &[LogRow]) -> Result<Vec<KeptRow>, Refusal
 pub fn kept_row(alloc: Global, log: &LogRow) -> Result<KeptRow, Refusal>
     ensures read { (w : WriteOfRoom) (place : PlaceOfWrite) (seq : ℕ) → IsTrue (is_write w) → log.now ≡ log_row_with w place seq
         → OrOutOfMemory result (Ok (kept_row_with w seq place)) }
-    ensures told { IfOk result (λ row. kept_told row ≡ log_told log.now) }
+    ensures told { IfOk result (λ row. kept_without_choices row ≡ without_choices log.now) }
 {
     match write_of(alloc, log) {
         Ok(write) => kept_of(write, log),
@@ -99,7 +99,7 @@ pub fn kept_row(alloc: Global, log: &LogRow) -> Result<KeptRow, Refusal>
 /// read, so all columns are compared, but for the text of the choices, since others may tell the same ones.
 fn kept_of(write: Write, log: &LogRow) -> Result<KeptRow, Refusal>
     ensures kept { is_of_row write log.now ≡ true → result ≡ Ok (kept_row_with write log.now.seq log.now.place) }
-    ensures told { IfOk result (λ row. kept_told row ≡ log_told log.now) }
+    ensures told { IfOk result (λ row. kept_without_choices row ≡ without_choices log.now) }
 {
     if !is_of_row(&write, log) {
         return Err(Refusal::Store);

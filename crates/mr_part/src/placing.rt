@@ -2,11 +2,11 @@ ghost use Rattle.std.specs.Prelude.{◌≡◌, ◌+◌, ◌<◌, ◌≤◌, ◌^
 ghost use Rattle.std.specs.Option.{option_copied};
 ghost use Rattle.mr_tables.specs.Cells.{place_row_of};
 ghost use Rattle.mr_tables.specs.Written.{meta_of, changed_tallies as rows_changed, written};
-ghost use Rattle.mr_part.specs.Placing.{with_places_put, board_place, KeptEnds, TargetEnds, kept_canceller, row_canceller, cancellers_on, kept_is_booking, has_booking, taken_row, taken_rows, booking_at};
+ghost use Rattle.mr_part.specs.Placing.{with_places_put, board_place, TraceEnds, TargetEnds, canceller_on, row_canceller, cancellers_on, is_booking_trace, has_booking, taken_row, taken_rows, booking_at};
 ghost use Rattle.mr_replay.specs.Rows.{target_if_done as taken_back_by};
 
 use mr_base::{MINUTES_OF_A_DAY, Refusal, RoomName, Slot, Title, Write, WriteId};
-use mr_replay::{Board, Kept, Place, Row, Standing, UndoRow};
+use mr_replay::{Board, Place, Row, Standing, Trace, UndoRow};
 use mr_tables::summary::Summary;
 use mr_tables::vector::changed_tallies;
 use mr_tables::written::{put_row, written};
@@ -33,11 +33,11 @@ pub(crate) fn place_row_on(
     id: WriteId,
     row: &Row,
 ) -> Result<Option<PlaceRow>, Refusal>
-    ensures row { IfOk result (λ place. KeptEnds row.now.kept → option_map place_row_of place ≡ board_place summary.now.tallies id row.now) }
+    ensures row { IfOk result (λ place. TraceEnds row.now.trace → option_map place_row_of place ≡ board_place summary.now.tallies id row.now) }
     ensures only { IfErr result (λ e. e ≡ Refusal.OutOfMemory) }
 {
-    match &row.kept {
-        Kept::OfBooking {
+    match &row.trace {
+        Trace::OfBooking {
             slot,
             length,
             title,
@@ -46,7 +46,7 @@ pub(crate) fn place_row_on(
             let row = booking_row(alloc, summary, id, &row.room, *slot, *length, title)?;
             Ok(Some(PlaceRow::Booked(row)))
         }
-        Kept::OfBooking {
+        Trace::OfBooking {
             slot,
             length,
             title,
@@ -126,12 +126,12 @@ fn push_taken(
     row: &Row,
     by: WriteId,
 ) -> Result<(), Refusal>
-    ensures rows { OnOk result (KeptEnds row.now.kept
+    ensures rows { OnOk result (TraceEnds row.now.trace
         → map place_row_of rows.new.items ≡ map place_row_of rows.old.items ++ taken_row by (board_place summary.now.tallies id row.now)) }
     ensures only { IfErr result (λ e. e ≡ Refusal.OutOfMemory) }
 {
-    match &row.kept {
-        Kept::OfBooking {
+    match &row.trace {
+        Trace::OfBooking {
             slot,
             length,
             title,
@@ -190,16 +190,16 @@ fn canceller(row: Option<&Row>) -> Option<WriteId>
     ensures { result ≡ row_canceller (option_copied row.entry) }
 {
     match row {
-        Some(row) => kept_canceller(&row.kept),
+        Some(row) => canceller_on(&row.trace),
         None => None,
     }
 }
 
-pub(crate) fn kept_canceller(kept: &Kept) -> Option<WriteId>
-    ensures { result ≡ kept_canceller kept.now }
+pub(crate) fn canceller_on(kept: &Trace) -> Option<WriteId>
+    ensures { result ≡ canceller_on kept.now }
 {
     match kept {
-        Kept::OfBooking {
+        Trace::OfBooking {
             standing: Standing::CancelledBy(by),
             ..
         } => Some(*by),
@@ -212,16 +212,16 @@ pub fn has_booking(board: &Board, room: &RoomName, id: WriteId) -> bool
     ensures { result ≡ has_booking board.now room.now id }
 {
     match board.row(id) {
-        Some(row) => row.room == *room && is_booking(&row.kept),
+        Some(row) => row.room == *room && is_booking(&row.trace),
         None => false,
     }
 }
 
-fn is_booking(kept: &Kept) -> bool
-    ensures { result ≡ kept_is_booking kept.now }
+fn is_booking(kept: &Trace) -> bool
+    ensures { result ≡ is_booking_trace kept.now }
 {
     match kept {
-        Kept::OfBooking { .. } => true,
-        Kept::OfCancel { .. } => false,
+        Trace::OfBooking { .. } => true,
+        Trace::OfCancel { .. } => false,
     }
 }

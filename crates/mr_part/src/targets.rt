@@ -10,9 +10,9 @@ ghost use Rattle.mr_tables.specs.Cells.{place_row_of};
 ghost use Rattle.mr_part.specs.Placing.{RowEnds};
 ghost use Rattle.mr_part.specs.Targets.{aimed_at, taken_by, same_by, row_if_moved, target_if_moved, moved_targets};
 
-use crate::placing::{kept_canceller, place_row_on};
+use crate::placing::{canceller_on, place_row_on};
 use mr_base::{Action, Refusal, RoomName, Write, WriteId};
-use mr_replay::{Board, Kept, Row, Standing};
+use mr_replay::{Board, Row, Standing, Trace};
 use mr_tables::PlaceRow;
 use mr_tables::summary::Summary;
 use std::alloc::Global;
@@ -41,7 +41,7 @@ fn taker(board: &Board, write: &Write) -> Option<WriteId>
         return None;
     };
     match if_of(board.row(*target), &write.room) {
-        Some(row) => kept_canceller(&row.kept),
+        Some(row) => canceller_on(&row.trace),
         None => None,
     }
 }
@@ -112,19 +112,19 @@ fn row_if_moved(
     ensures row { IfOk result (λ place. RowEnds (if_taken (Some row.now)) → cons_option (option_map place_row_of place) [] ≡ row_if_moved summary.now.tallies was target (Some row.now)) }
     ensures only { IfErr result (λ e. e ≡ Refusal.OutOfMemory) }
 {
-    if !is_taken(&row.kept) || is_same(was, kept_canceller(&row.kept)) {
+    if !is_taken(&row.trace) || is_same(was, canceller_on(&row.trace)) {
         return Ok(None);
     }
     place_row_on(alloc, summary, target, row)
 }
 
 /// Whether it is a booking that took its slot, be it taken back or not.
-fn is_taken(kept: &Kept) -> bool
+fn is_taken(kept: &Trace) -> bool
     ensures { result ≡ is_taken kept.now }
 {
     match kept {
-        Kept::OfBooking { standing, .. } => *standing != Standing::InErrorLog,
-        Kept::OfCancel { .. } => false,
+        Trace::OfBooking { standing, .. } => *standing != Standing::InErrorLog,
+        Trace::OfCancel { .. } => false,
     }
 }
 

@@ -12,10 +12,10 @@ use Rattle.mr_model.specs.Replay.{Booking, is_free}
 use Rattle.mr_model.proofs.SlotTests.{overlaps-true, overlaps_from}
 use Rattle.mr_model.proofs.UniqueReplay.{meets}
 use Rattle.mr_replay.specs.declared.rows.Standing.TheVariants.{Booked, CancelledBy, InErrorLog}
-use Rattle.mr_replay.specs.declared.rows.Kept.{Kept}
-use Rattle.mr_replay.specs.declared.rows.Kept.TheVariants.{OfBooking, OfCancel}
+use Rattle.mr_replay.specs.declared.rows.Trace.{Trace}
+use Rattle.mr_replay.specs.declared.rows.Trace.TheVariants.{OfBooking, OfCancel}
 use Rattle.mr_replay.specs.declared.rows.Row.{Row}
-use Rattle.mr_replay.specs.Rows.{Rows, booking_kept, bookings_of_entry, bookings_of, is_kept_in_the_way, is_in_the_way, IsFree}
+use Rattle.mr_replay.specs.Rows.{Rows, booking_traced, bookings_of_entry, bookings_of, is_trace_in_the_way, is_in_the_way, IsFree}
 
 not-cond : (b : Bool) → not b ≡ cond b false true
 not-cond true = refl
@@ -26,22 +26,22 @@ module _ (room : Text) (slot : Slot) (length : ℕ) where
   or_end true = refl
   or_end false = refl
 
-  kept_meets : (i : Id) (k : Kept) → meets (booking_kept i k) slot length ≡ is_kept_in_the_way slot length k
-  kept_meets i (OfBooking s l t Booked) = or_end (overlaps slot length s l)
-  kept_meets i (OfBooking s l t (CancelledBy c)) = refl
-  kept_meets i (OfBooking s l t InErrorLog) = refl
-  kept_meets i (OfCancel t) = refl
+  trace_meets : (i : Id) (k : Trace) → meets (booking_traced i k) slot length ≡ is_trace_in_the_way slot length k
+  trace_meets i (OfBooking s l t Booked) = or_end (overlaps slot length s l)
+  trace_meets i (OfBooking s l t (CancelledBy c)) = refl
+  trace_meets i (OfBooking s l t InErrorLog) = refl
+  trace_meets i (OfCancel t) = refl
 
   entry_meets : (e : Id × Row) → meets (bookings_of_entry room e) slot length ≡ is_in_the_way room slot length e.1
-  entry_meets e = go (bytes_eq e.1.room room) (kept_meets e.0 e.1.kept)
+  entry_meets e = go (bytes_eq e.1.room room) (trace_meets e.0 e.1.trace)
     where
-      go : (c : Bool) → meets (booking_kept e.0 e.1.kept) slot length ≡ is_kept_in_the_way slot length e.1.kept → meets (cond c (booking_kept e.0 e.1.kept) []) slot length ≡ (is_kept_in_the_way slot length e.1.kept && c)
-      go true h = h ∙ both (is_kept_in_the_way slot length e.1.kept)
+      go : (c : Bool) → meets (booking_traced e.0 e.1.trace) slot length ≡ is_trace_in_the_way slot length e.1.trace → meets (cond c (booking_traced e.0 e.1.trace) []) slot length ≡ (is_trace_in_the_way slot length e.1.trace && c)
+      go true h = h ∙ both (is_trace_in_the_way slot length e.1.trace)
         where
           both : (b : Bool) → b ≡ (b && true)
           both true = refl
           both false = refl
-      go false h = none (is_kept_in_the_way slot length e.1.kept)
+      go false h = none (is_trace_in_the_way slot length e.1.trace)
         where
           none : (b : Bool) → false ≡ (b && false)
           none true = refl

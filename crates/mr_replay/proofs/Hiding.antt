@@ -12,7 +12,7 @@ use Rattle.mr_model.specs.Writes.{Id, same_id}
 use Rattle.mr_base.specs.Ids.{id_cmp}
 use Rattle.mr_replay.specs.declared.rows.Row.{Row}
 use Rattle.mr_replay.specs.declared.index.IndexKey.{IndexKey}
-use Rattle.mr_replay.specs.declared.rows.Kept.{Kept}
+use Rattle.mr_replay.specs.declared.rows.Trace.{Trace}
 use Rattle.mr_replay.specs.Rows.{Rows, row_at, change, row_changed}
 use Rattle.mr_replay.specs.Index.{IsIndexed, IsNoted}
 use Rattle.mr_replay.specs.Hidden.{is_hidden, shown, put_back, put_all_back, HasPlace, AllHavePlaces, LeadsFrom}
@@ -126,12 +126,12 @@ shown-removed old new b i order there h =
 
 -- ---- a row changed
 
-changing : (f : Kept → Kept) (s : Bool) (row : Row) (o : Option Row) → (s ≡ true → o ≡ Some row) → cond s (Some (change f row)) o ≡ change_if f s o
+changing : (f : Trace → Trace) (s : Bool) (row : Row) (o : Option Row) → (s ≡ true → o ≡ Some row) → cond s (Some (change f row)) o ≡ change_if f s o
 changing f true row o h = ap (option_map (change f)) (sym (h refl))
 changing f false row o h = refl
 
 -- a changed row put in the place of the one that was there
-pub put-changed : (f : Kept → Kept) (b : Rows) (i : Id) (row : Row) → IsInOrder b → row_at b i ≡ Some row → insert_entry id_cmp b i (change f row) ≡ row_changed f i b
+pub put-changed : (f : Trace → Trace) (b : Rows) (i : Id) (row : Row) → IsInOrder b → row_at b i ≡ Some row → insert_entry id_cmp b i (change f row) ≡ row_changed f i b
 put-changed f b i row order there =
     same_rows (insert_entry id_cmp b i (change f row)) (row_changed f i b) (in_order-put b i (change f row) order) (in_order-changed f i b order) (λ q.
     row_at-put b i (change f row) q ∙ changing f (same_id q i) row (row_at b q) (λ e. ap (row_at b) (same_id-true q i e) ∙ there) ∙ sym (row_at-changed f i b q))
@@ -151,7 +151,7 @@ unchanged_at hidden i q true e h = ap (is_hidden hidden) (same_id-true q i e) �
 unchanged_at hidden i q false e h = refl
 
 -- among the rows that are shown too
-pub shown-changed : (f : Kept → Kept) (hidden : BTreeSet Id) (b : Rows) (i : Id) (row : Row) → IsInOrder b → row_at (shown hidden b) i ≡ Some row → shown hidden (insert_entry id_cmp b i (change f row)) ≡ row_changed f i (shown hidden b)
+pub shown-changed : (f : Trace → Trace) (hidden : BTreeSet Id) (b : Rows) (i : Id) (row : Row) → IsInOrder b → row_at (shown hidden b) i ≡ Some row → shown hidden (insert_entry id_cmp b i (change f row)) ≡ row_changed f i (shown hidden b)
 shown-changed f hidden b i row order there =
     shown-put hidden hidden b i (change f row) order (λ q. unchanged_at hidden i q (same_id q i) refl (found_shown hidden b i row there).0)
     ∙ put-changed f (shown hidden b) i row (in_order-shown hidden b order) there

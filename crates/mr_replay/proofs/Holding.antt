@@ -17,11 +17,11 @@ use Rattle.mr_model.specs.Replica.{is_among}
 use Rattle.mr_model.specs.View.{of_room, cancels_it}
 use Rattle.mr_model.proofs.Members.{same_id-true, same_id_refl}
 use Rattle.mr_replay.specs.declared.rows.Standing.TheVariants.{Booked, CancelledBy, InErrorLog}
-use Rattle.mr_replay.specs.declared.rows.Kept.{Kept}
-use Rattle.mr_replay.specs.declared.rows.Kept.TheVariants.{OfBooking, OfCancel}
+use Rattle.mr_replay.specs.declared.rows.Trace.{Trace}
+use Rattle.mr_replay.specs.declared.rows.Trace.TheVariants.{OfBooking, OfCancel}
 use Rattle.mr_replay.specs.declared.rows.Row.{Row}
 use Rattle.mr_replay.specs.Places.{UndoRow}
-use Rattle.mr_replay.specs.Rows.{Rows, row_at, kept_with, kept_for, row_of, with_mark, change, target_of, marked_by, with_row, place_by_rows, executed_at, executed, undo_row_at, undo_row_of, undone_by, undone, executed_all, undo_rows_of, undone_all}
+use Rattle.mr_replay.specs.Rows.{Rows, row_at, trace_with, trace_for, row_of, with_mark, change, target_of, marked_by, with_row, place_by_rows, executed_at, executed, undo_row_at, undo_row_of, undone_by, undone, executed_all, undo_rows_of, undone_all}
 use Rattle.mr_replay.specs.Holds.{HaveDistinctIds, AreOfRoom, told_list, row_in, if_of, HoldsIn, HoldsEach, Holds, with_list, bears, IsNew, HaveNoRows, AreNew, undo_row_after, undo_rows_after, CanReplay}
 use Rattle.mr_replay.proofs.IdKeys.{same_id_equivalence}
 use Rattle.mr_replay.proofs.Entries.{distinct_keys, undone-put}
@@ -109,10 +109,10 @@ Holds-undone_all ws (v ∷ vs) b distinct holds =
 executed_undone : (b : Rows) (w : Write) (p : Place) → IsNew b (id_of w) → undone (executed_at b w p) (undo_row_at w p) ≡ b
 executed_undone b w p new = go w.action p
   where
-    put_removed : (k : Kept) → undone_by (id_of w) Void None (with_row (id_of w) (Some (record { room = w.room; kept = k })) b) ≡ b
-    put_removed k = undone-put b (id_of w) (record { room = w.room; kept = k }) new.no_row
+    put_removed : (k : Trace) → undone_by (id_of w) Void None (with_row (id_of w) (Some (record { room = w.room; trace = k })) b) ≡ b
+    put_removed k = undone-put b (id_of w) (record { room = w.room; trace = k }) new.no_row
 
-    go : (a : Action) (p : Place) → undone_by (id_of w) p (target_of a) (with_row (id_of w) (option_map (λ k. record { room = w.room; kept = k }) (kept_for w a p None)) (marked_by (id_of w) p (target_of a) b)) ≡ b
+    go : (a : Action) (p : Place) → undone_by (id_of w) p (target_of a) (with_row (id_of w) (option_map (λ k. record { room = w.room; trace = k }) (trace_for w a p None)) (marked_by (id_of w) p (target_of a) b)) ≡ b
     go (Books m) (Taken k) = put_removed _
     go (Books m) Logged = put_removed _
     go (Books m) Done = put_removed _
@@ -126,29 +126,29 @@ pub undone-executed : (b : Rows) (w : Write) → IsNew b (id_of w) → undone (e
 undone-executed b w new = executed_undone b w (place_by_rows b w) new
 
 -- executing one of different writes leaves the others new
-bears-mark : (c q : Id) (k : Kept) → same_id c q ≡ false → bears q k ≡ false → bears q (with_mark c k) ≡ false
+bears-mark : (c q : Id) (k : Trace) → same_id c q ≡ false → bears q k ≡ false → bears q (with_mark c k) ≡ false
 bears-mark c q (OfBooking s l t Booked) e h = e
 bears-mark c q (OfBooking s l t (CancelledBy d)) e h = h
 bears-mark c q (OfBooking s l t InErrorLog) e h = h
 bears-mark c q (OfCancel t) e h = h
 
 abbrev BearNot : Id → Rows → Type 0
-BearNot q b = AllByRecursion (λ row. bears q row.kept ≡ false) (values_of b)
+BearNot q b = AllByRecursion (λ row. bears q row.trace ≡ false) (values_of b)
 
-kept_bears : (m : Meeting) (o : Option Slot) (q : Id) → bears q (kept_with m o None) ≡ false
-kept_bears m None q = refl
-kept_bears m (Some s) q = refl
+trace_bears : (m : Meeting) (o : Option Slot) (q : Id) → bears q (trace_with m o None) ≡ false
+trace_bears m None q = refl
+trace_bears m (Some s) q = refl
 
-new_kept : (w : Write) (a : Action) (p : Place) (q : Id) (b : Rows) → same_id (id_of w) q ≡ false → BearNot q b
-    → BearNot q (with_row (id_of w) (option_map (λ k. record { room = w.room; kept = k }) (kept_for w a p None)) (marked_by (id_of w) p (target_of a) b))
-new_kept w (Books m) (Taken k) q b e h = values-put (λ row. bears q row.kept ≡ false) b (id_of w) _ (kept_bears m (slot_at w (Taken k)) q) h
-new_kept w (Books m) Logged q b e h = values-put (λ row. bears q row.kept ≡ false) b (id_of w) _ (kept_bears m (slot_at w Logged) q) h
-new_kept w (Books m) Done q b e h = values-put (λ row. bears q row.kept ≡ false) b (id_of w) _ (kept_bears m (slot_at w Done) q) h
-new_kept w (Books m) Void q b e h = values-put (λ row. bears q row.kept ≡ false) b (id_of w) _ (kept_bears m (slot_at w Void) q) h
-new_kept w (Cancels t) (Taken k) q b e h = values-put (λ row. bears q row.kept ≡ false) b (id_of w) _ refl h
-new_kept w (Cancels t) Logged q b e h = values-put (λ row. bears q row.kept ≡ false) b (id_of w) _ refl h
-new_kept w (Cancels t) Void q b e h = values-put (λ row. bears q row.kept ≡ false) b (id_of w) _ refl h
-new_kept w (Cancels t) Done q b e h = values-changed (λ row. bears q row.kept ≡ false) (with_mark (id_of w)) t b (λ row g. bears-mark (id_of w) q row.kept e g) h
+new_trace : (w : Write) (a : Action) (p : Place) (q : Id) (b : Rows) → same_id (id_of w) q ≡ false → BearNot q b
+    → BearNot q (with_row (id_of w) (option_map (λ k. record { room = w.room; trace = k }) (trace_for w a p None)) (marked_by (id_of w) p (target_of a) b))
+new_trace w (Books m) (Taken k) q b e h = values-put (λ row. bears q row.trace ≡ false) b (id_of w) _ (trace_bears m (slot_at w (Taken k)) q) h
+new_trace w (Books m) Logged q b e h = values-put (λ row. bears q row.trace ≡ false) b (id_of w) _ (trace_bears m (slot_at w Logged) q) h
+new_trace w (Books m) Done q b e h = values-put (λ row. bears q row.trace ≡ false) b (id_of w) _ (trace_bears m (slot_at w Done) q) h
+new_trace w (Books m) Void q b e h = values-put (λ row. bears q row.trace ≡ false) b (id_of w) _ (trace_bears m (slot_at w Void) q) h
+new_trace w (Cancels t) (Taken k) q b e h = values-put (λ row. bears q row.trace ≡ false) b (id_of w) _ refl h
+new_trace w (Cancels t) Logged q b e h = values-put (λ row. bears q row.trace ≡ false) b (id_of w) _ refl h
+new_trace w (Cancels t) Void q b e h = values-put (λ row. bears q row.trace ≡ false) b (id_of w) _ refl h
+new_trace w (Cancels t) Done q b e h = values-changed (λ row. bears q row.trace ≡ false) (with_mark (id_of w)) t b (λ row g. bears-mark (id_of w) q row.trace e g) h
 
 new_row : (b : Rows) (w : Write) (p : Place) (q : Id) → same_id (id_of w) q ≡ false → row_at b (id_of w) ≡ None → row_at b q ≡ None → row_at (executed_at b w p) q ≡ None
 new_row b w p q e own h =
@@ -163,7 +163,7 @@ AreNew-rest b w vs h = (h.0.1, go vs h.0.0 h.1.1)
     go [] other g = tt
     go (v ∷ us) other g =
         let parts = or_parts (same_id (id_of w) (id_of v)) (is_among (id_of w) (map id_of us)) other in
-        (record { no_row = new_row b w (place_by_rows b w) (id_of v) parts.0 h.1.0.no_row g.0.no_row; no_mark = new_kept w w.action (place_by_rows b w) (id_of v) b parts.0 g.0.no_mark }, go us parts.1 g.1)
+        (record { no_row = new_row b w (place_by_rows b w) (id_of v) parts.0 h.1.0.no_row g.0.no_row; no_mark = new_trace w w.action (place_by_rows b w) (id_of v) b parts.0 g.0.no_mark }, go us parts.1 g.1)
 
 pub undo_reverse : (b : Rows) (ws : List Write) → AreNew b ws → undone_all (executed_all b ws) (undo_rows_of b ws) ≡ b
 undo_reverse b [] new = refl
@@ -263,10 +263,10 @@ others-replayed lists room front tail b us again can other apart i =
 -- a board that holds a list bears no mark of another write
 no_marks : (ws : List Write) (b : Rows) (i : Id) → Holds ws b → is_among i (map id_of ws) ≡ false → BearNot i b
 no_marks ws b i holds other =
-    recursion_from_All (λ (row : Row). bears i row.kept ≡ false) (values_of b)
-    (All-values_from_lookup same_id_equivalence (λ (row : Row). bears i row.kept ≡ false) b (distinct_keys b holds.ordered) (λ q. at q (row_at b q) refl))
+    recursion_from_All (λ (row : Row). bears i row.trace ≡ false) (values_of b)
+    (All-values_from_lookup same_id_equivalence (λ (row : Row). bears i row.trace ≡ false) b (distinct_keys b holds.ordered) (λ q. at q (row_at b q) refl))
   where
-    at : (q : Id) (o : Option Row) → row_at b q ≡ o → IfSome o (λ row. bears i row.kept ≡ false)
+    at : (q : Id) (o : Option Row) → row_at b q ≡ o → IfSome o (λ row. bears i row.trace ≡ false)
     at q None is = tt
     at q (Some row) is = subst (λ o. BearsNot i o) told (rows-bear (of_room row.room ws) i q (among-part row.room ws i other))
       where

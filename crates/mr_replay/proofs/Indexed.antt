@@ -26,11 +26,11 @@ use Rattle.mr_model.proofs.SlotTests.{overlaps-true}
 use Rattle.mr_base.specs.Ids.{id_cmp}
 use Rattle.mr_replay.specs.declared.index.IndexKey.{IndexKey}
 use Rattle.mr_replay.specs.declared.rows.Standing.TheVariants.{Booked, CancelledBy, InErrorLog}
-use Rattle.mr_replay.specs.declared.rows.Kept.{Kept}
-use Rattle.mr_replay.specs.declared.rows.Kept.TheVariants.{OfBooking, OfCancel}
+use Rattle.mr_replay.specs.declared.rows.Trace.{Trace}
+use Rattle.mr_replay.specs.declared.rows.Trace.TheVariants.{OfBooking, OfCancel}
 use Rattle.mr_replay.specs.declared.rows.Row.{Row}
-use Rattle.mr_replay.specs.Rows.{Rows, row_at, is_kept_in_the_way, is_in_the_way, with_mark, without_mark, change, row_changed}
-use Rattle.mr_replay.specs.Index.{padded, day_cmp, key_cmp, key_of, key_kept, key_if_taken, first_key, last_key, has, Grows, IsNoted, IsIndexed, way_at, is_in_the_way_at, of_day, is_row}
+use Rattle.mr_replay.specs.Rows.{Rows, row_at, is_trace_in_the_way, is_in_the_way, with_mark, without_mark, change, row_changed}
+use Rattle.mr_replay.specs.Index.{padded, day_cmp, key_cmp, key_of, key_traced, key_if_taken, first_key, last_key, has, Grows, IsNoted, IsIndexed, way_at, is_in_the_way_at, of_day, is_row}
 use Rattle.mr_replay.proofs.IdKeys.{same_id_equivalence}
 use Rattle.mr_replay.proofs.Entries.{distinct_keys, in_order-put, in_order-removed, row_at-put, row_at-removed}
 use Rattle.mr_replay.proofs.Marked.{change_if, row_at-changed, in_order-changed}
@@ -109,7 +109,7 @@ module _ (room : Text) (slot : Slot) (length : ℕ) where
       go false later = later
 
   -- a row in the way is a booking that stands and overlaps the slot, and has a key
-  way_key : (i : Id) (room_of : Text) (k : Kept) → is_kept_in_the_way slot length k ≡ true → (s : Slot) × (l : ℕ) × (key_kept i room_of k ≡ Some (key_of i room_of s l)) × (overlaps slot length s l ≡ true)
+  way_key : (i : Id) (room_of : Text) (k : Trace) → is_trace_in_the_way slot length k ≡ true → (s : Slot) × (l : ℕ) × (key_traced i room_of k ≡ Some (key_of i room_of s l)) × (overlaps slot length s l ≡ true)
   way_key i room_of (OfBooking s l t Booked) h = (s, l, refl, h)
   way_key i room_of (OfBooking s l t (CancelledBy c)) h = absurd (true≢false (sym h))
   way_key i room_of (OfBooking s l t InErrorLog) h = absurd (true≢false (sym h))
@@ -118,8 +118,8 @@ module _ (room : Text) (slot : Slot) (length : ℕ) where
   -- a row in the way is named
   row_named : (rows : Rows) (index : BTreeSet IndexKey) (i : Id) (row : Row) → row_at rows i ≡ Some row → IsNoted index i row → is_in_the_way room slot length row ≡ true → list_any (is_in_the_way_at room slot length rows) (of_day slot room index) ≡ true
   row_named rows index i row there noted way =
-      let parts = and_parts (is_kept_in_the_way slot length row.kept) (bytes_eq row.room room) way in
-      let (at, long, is, meets) = way_key i row.room row.kept parts.0 in
+      let parts = and_parts (is_trace_in_the_way slot length row.trace) (bytes_eq row.room room) way in
+      let (at, long, is, meets) = way_key i row.room row.trace parts.0 in
       let overlap = overlaps-true slot length at long meets in
       let day : at.day ≡ slot.day = overlap.3.same_day ∙ sym overlap.2.same_day in
       let key : key_of i row.room at long ≡ record { day = slot.day; room = padded room; edge = 1; id = i; slot = at; length = long } =
@@ -187,29 +187,29 @@ IsIndexed-grown rows old new grows h = record {
 
 -- ---- a key taken out
 
--- of the old index there is each key but this one, if it isn't the one that is kept
+-- of the old index there is each key but this one, if it isn't the one that stays
 abbrev pub Forgets : BTreeSet IndexKey → BTreeSet IndexKey → Option IndexKey → Option IndexKey → Type 0
-Forgets old new key kept = (k : IndexKey) → (key ≡ Some k → kept ≡ Some k) → IsTrue (has old k) → IsTrue (has new k)
+Forgets old new key stays = (k : IndexKey) → (key ≡ Some k → stays ≡ Some k) → IsTrue (has old k) → IsTrue (has new k)
 
 -- forgetting a row's key keeps those of rows of other ids
-pub Forgets-others : (old new : BTreeSet IndexKey) (key kept : Option IndexKey) (i : Id) (row : Row) → key ≡ key_if_taken i row → Forgets old new key kept → KeepsOthers old new i
-Forgets-others old new key kept i row is h = λ j r apart noted k own. h k (λ e. absurd (apart_keys j i r row k apart own (sym is ∙ e))) (noted k own)
+pub Forgets-others : (old new : BTreeSet IndexKey) (key stays : Option IndexKey) (i : Id) (row : Row) → key ≡ key_if_taken i row → Forgets old new key stays → KeepsOthers old new i
+Forgets-others old new key stays i row is h = λ j r apart noted k own. h k (λ e. absurd (apart_keys j i r row k apart own (sym is ∙ e))) (noted k own)
 
 -- and the key of the row that it keeps
-pub Forgets-kept : (old new : BTreeSet IndexKey) (key kept : Option IndexKey) (i : Id) (row : Row) → kept ≡ key_if_taken i row → Forgets old new key kept → IsNoted old i row → IsNoted new i row
-Forgets-kept old new key kept i row is h noted = λ k own. h k (λ _. is ∙ own) (noted k own)
+pub Forgets-stays : (old new : BTreeSet IndexKey) (key stays : Option IndexKey) (i : Id) (row : Row) → stays ≡ key_if_taken i row → Forgets old new key stays → IsNoted old i row → IsNoted new i row
+Forgets-stays old new key stays i row is h noted = λ k own. h k (λ _. is ∙ own) (noted k own)
 
 -- ---- a key that no row stands under
 
--- taking it out leaves all rows noted, if what is kept is where the row of its id stands
-pub IsIndexed-swept : (rows : Rows) (old new : BTreeSet IndexKey) (key : IndexKey) (kept : Option IndexKey) → ((row : Row) → row_at rows key.id ≡ Some row → kept ≡ key_if_taken key.id row) → ((k : IndexKey) → (key ≡ k → kept ≡ Some k) → IsTrue (has old k) → IsTrue (has new k)) → IsIndexed rows old → IsIndexed rows new
-IsIndexed-swept rows old new key kept is forgets h = record { ordered = h.ordered; bookings = λ q. at q (row_at rows q) refl (h.bookings q) }
+-- taking it out leaves all rows noted, if what stays is where the row of its id stands
+pub IsIndexed-swept : (rows : Rows) (old new : BTreeSet IndexKey) (key : IndexKey) (stays : Option IndexKey) → ((row : Row) → row_at rows key.id ≡ Some row → stays ≡ key_if_taken key.id row) → ((k : IndexKey) → (key ≡ k → stays ≡ Some k) → IsTrue (has old k) → IsTrue (has new k)) → IsIndexed rows old → IsIndexed rows new
+IsIndexed-swept rows old new key stays is forgets h = record { ordered = h.ordered; bookings = λ q. at q (row_at rows q) refl (h.bookings q) }
   where
     at : (q : Id) (o : Option Row) → row_at rows q ≡ o → IfSome o (IsNoted old q) → IfSome o (IsNoted new q)
     at q None there noted = tt
     at q (Some row) there noted = λ k own.
         forgets k (λ e.
-        let id : key.id ≡ q = ap (λ (x : IndexKey). x.id) e ∙ key_id q row.room row.kept k own in
+        let id : key.id ≡ q = ap (λ (x : IndexKey). x.id) e ∙ key_id q row.room row.trace k own in
         is row (ap (row_at rows) id ∙ there) ∙ ap (λ i. key_if_taken i row) id ∙ own) (noted k own)
 
 -- ---- a row changed in place
@@ -217,7 +217,7 @@ IsIndexed-swept rows old new key kept is forgets h = record { ordered = h.ordere
 pub IsNoted-same : (index : BTreeSet IndexKey) (i : Id) (r s : Row) → key_if_taken i s ≡ key_if_taken i r → IsNoted index i r → IsNoted index i s
 IsNoted-same index i r s same noted = λ key is. noted key (sym same ∙ is)
 
-IsIndexed-changed : (f : Kept → Kept) → ((i : Id) (row : Row) → key_if_taken i (change f row) ≡ key_if_taken i row) → (t : Id) (rows : Rows) (index : BTreeSet IndexKey) → IsIndexed rows index → IsIndexed (row_changed f t rows) index
+IsIndexed-changed : (f : Trace → Trace) → ((i : Id) (row : Row) → key_if_taken i (change f row) ≡ key_if_taken i row) → (t : Id) (rows : Rows) (index : BTreeSet IndexKey) → IsIndexed rows index → IsIndexed (row_changed f t rows) index
 IsIndexed-changed f same t rows index h = record {
   ordered = in_order-changed f t rows h.ordered;
   bookings = λ q. subst (λ o. IfSome o (IsNoted index q)) (sym (row_at-changed f t rows q)) (at q (same_id q t) (row_at rows q) (h.bookings q));

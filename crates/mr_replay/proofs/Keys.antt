@@ -13,11 +13,11 @@ use Rattle.mr_model.proofs.Members.{same_id_from}
 use Rattle.mr_base.specs.Ids.{id_cmp}
 use Rattle.mr_replay.specs.declared.index.IndexKey.{IndexKey}
 use Rattle.mr_replay.specs.declared.rows.Standing.TheVariants.{Booked, CancelledBy, InErrorLog}
-use Rattle.mr_replay.specs.declared.rows.Kept.{Kept}
-use Rattle.mr_replay.specs.declared.rows.Kept.TheVariants.{OfBooking, OfCancel}
+use Rattle.mr_replay.specs.declared.rows.Trace.{Trace}
+use Rattle.mr_replay.specs.declared.rows.Trace.TheVariants.{OfBooking, OfCancel}
 use Rattle.mr_replay.specs.declared.rows.Row.{Row}
 use Rattle.mr_replay.specs.Rows.{with_mark, without_mark, change}
-use Rattle.mr_replay.specs.Index.{day_cmp, slot_cmp, key_cmp, key_of, key_kept, key_if_taken}
+use Rattle.mr_replay.specs.Index.{day_cmp, slot_cmp, key_cmp, key_of, key_traced, key_if_taken}
 use Rattle.mr_replay.proofs.IdKeys.{exact_ids, is_eq-Equal}
 
 -- ---- keys that compare alike are one
@@ -42,7 +42,7 @@ pub same_key : (k q : IndexKey) → is_at (key_cmp k) q ≡ true → k ≡ q
 same_key k q e = exact_keys k q (is_eq-Equal (key_cmp k q) e)
 
 -- a row's key has its id
-pub key_id : (i : Id) (room : Text) (kept : Kept) (key : IndexKey) → key_kept i room kept ≡ Some key → key.id ≡ i
+pub key_id : (i : Id) (room : Text) (trace : Trace) (key : IndexKey) → key_traced i room trace ≡ Some key → key.id ≡ i
 key_id i room (OfBooking s l t Booked) key is = let one : key ≡ key_of i room s l = cc in ap (λ (k : IndexKey). k.id) one
 key_id i room (OfBooking s l t (CancelledBy c)) key is = let one : key ≡ key_of i room s l = cc in ap (λ (k : IndexKey). k.id) one
 key_id i room (OfBooking s l t InErrorLog) key is = cc
@@ -51,26 +51,26 @@ key_id i room (OfCancel t) key is = cc
 -- rows of different ids stand under different keys
 pub apart_keys : (i j : Id) (r row : Row) (key : IndexKey) → same_id i j ≡ false → key_if_taken i r ≡ Some key → key_if_taken j row ≡ Some key → ⊥
 apart_keys i j r row key apart own other =
-    true≢false (sym (same_id_from i j (sym (key_id i r.room r.kept key own) ∙ key_id j row.room row.kept key other)) ∙ apart)
+    true≢false (sym (same_id_from i j (sym (key_id i r.room r.trace key own) ∙ key_id j row.room row.trace key other)) ∙ apart)
 
 -- a mark changes no key
 pub key-marked : (c : Id) (i : Id) (row : Row) → key_if_taken i (change (with_mark c) row) ≡ key_if_taken i row
-key-marked c i row = go row.kept
+key-marked c i row = go row.trace
   where
-    go : (k : Kept) → key_kept i row.room (with_mark c k) ≡ key_kept i row.room k
+    go : (k : Trace) → key_traced i row.room (with_mark c k) ≡ key_traced i row.room k
     go (OfBooking s l t Booked) = refl
     go (OfBooking s l t (CancelledBy d)) = refl
     go (OfBooking s l t InErrorLog) = refl
     go (OfCancel t) = refl
 
 pub key-unmarked : (c : Id) (i : Id) (row : Row) → key_if_taken i (change (without_mark c) row) ≡ key_if_taken i row
-key-unmarked c i row = go row.kept
+key-unmarked c i row = go row.trace
   where
-    either : (s : Slot) (l : ℕ) (t : Text) (d : Id) (b : Bool) → key_kept i row.room (OfBooking s l t (cond b Booked (CancelledBy d))) ≡ Some (key_of i row.room s l)
+    either : (s : Slot) (l : ℕ) (t : Text) (d : Id) (b : Bool) → key_traced i row.room (OfBooking s l t (cond b Booked (CancelledBy d))) ≡ Some (key_of i row.room s l)
     either s l t d true = refl
     either s l t d false = refl
 
-    go : (k : Kept) → key_kept i row.room (without_mark c k) ≡ key_kept i row.room k
+    go : (k : Trace) → key_traced i row.room (without_mark c k) ≡ key_traced i row.room k
     go (OfBooking s l t Booked) = refl
     go (OfBooking s l t (CancelledBy d)) = either s l t d (same_id d c)
     go (OfBooking s l t InErrorLog) = refl

@@ -12,8 +12,8 @@ use Rattle.mr_model.specs.Writes.{Id, same_id}
 use Rattle.mr_model.proofs.Members.{same_id-true, same_id_refl}
 use Rattle.mr_base.specs.Ids.{id_cmp}
 use Rattle.mr_replay.specs.declared.rows.Standing.TheVariants.{Booked, CancelledBy, InErrorLog}
-use Rattle.mr_replay.specs.declared.rows.Kept.{Kept}
-use Rattle.mr_replay.specs.declared.rows.Kept.TheVariants.{OfBooking, OfCancel}
+use Rattle.mr_replay.specs.declared.rows.Trace.{Trace}
+use Rattle.mr_replay.specs.declared.rows.Trace.TheVariants.{OfBooking, OfCancel}
 use Rattle.mr_replay.specs.declared.rows.Row.{Row}
 use Rattle.mr_replay.specs.Rows.{Rows, row_at, with_mark, without_mark, change, row_changed, with_row}
 use Rattle.mr_replay.specs.Holds.{bears}
@@ -21,15 +21,15 @@ use Rattle.mr_replay.proofs.IdKeys.{at, at_is}
 use Rattle.mr_replay.proofs.Entries.{IsInOrder, in_order-put}
 
 -- the row of an id, where one is changed
-abbrev pub change_if : (Kept → Kept) → Bool → Option Row → Option Row
+abbrev pub change_if : (Trace → Trace) → Bool → Option Row → Option Row
 change_if f true o = option_map (change f) o
 change_if f false o = o
 
-pub nothing-changed : (f : Kept → Kept) (c : Bool) → change_if f c None ≡ None
+pub nothing-changed : (f : Trace → Trace) (c : Bool) → change_if f c None ≡ None
 nothing-changed f true = refl
 nothing-changed f false = refl
 
-pub row_at-changed : (f : Kept → Kept) (i : Id) (b : Rows) (q : Id) → row_at (row_changed f i b) q ≡ change_if f (same_id q i) (row_at b q)
+pub row_at-changed : (f : Trace → Trace) (i : Id) (b : Rows) (q : Id) → row_at (row_changed f i b) q ≡ change_if f (same_id q i) (row_at b q)
 row_at-changed f i [] q = sym (nothing-changed f (same_id q i))
 row_at-changed f i (e ∷ es) q = go (same_id i e.0) refl (same_id q e.0) refl (same_id q i) refl (row_at-changed f i es q)
   where
@@ -43,16 +43,16 @@ row_at-changed f i (e ∷ es) q = go (same_id i e.0) refl (same_id q e.0) refl (
     go false own true found false is rest = ap (λ t. cond t (Some e.1) (row_at (row_changed f i es) q)) found
     go false own false found c is rest = ap (λ t. cond t (Some e.1) (row_at (row_changed f i es) q)) found ∙ rest ∙ ap (λ t. change_if f t (row_at es q)) is
 
-pub keys-changed : (f : Kept → Kept) (i : Id) (b : Rows) → keys_of (row_changed f i b) ≡ keys_of b
+pub keys-changed : (f : Trace → Trace) (i : Id) (b : Rows) → keys_of (row_changed f i b) ≡ keys_of b
 keys-changed f i [] = refl
 keys-changed f i (e ∷ es) =
     elim (same_id i e.0) as (λ t. keys_of (cond t ((e.0, change f e.1) ∷ es) (e ∷ row_changed f i es)) ≡ keys_of (e ∷ es)) [ true ↦ refl | false ↦ ap (λ ks. e.0 ∷ ks) (keys-changed f i es) ]
 
-pub in_order-changed : (f : Kept → Kept) (i : Id) (b : Rows) → IsInOrder b → IsInOrder (row_changed f i b)
+pub in_order-changed : (f : Trace → Trace) (i : Id) (b : Rows) → IsInOrder b → IsInOrder (row_changed f i b)
 in_order-changed f i b h = subst (λ ks. IsStrictlySortedBy id_cmp ks) (sym (keys-changed f i b)) h
 
 -- where there is no row, none is changed
-pub changed-absent : (f : Kept → Kept) (i : Id) (b : Rows) → row_at b i ≡ None → row_changed f i b ≡ b
+pub changed-absent : (f : Trace → Trace) (i : Id) (b : Rows) → row_at b i ≡ None → row_changed f i b ≡ b
 changed-absent f i [] h = refl
 changed-absent f i (e ∷ es) h = go (same_id i e.0) h (changed-absent f i es)
   where
@@ -61,7 +61,7 @@ changed-absent f i (e ∷ es) h = go (same_id i e.0) h (changed-absent f i es)
     go false g rest = ap (λ xs. e ∷ xs) (rest g)
 
 -- a row that is found and written again is changed
-set-changed : (f : Kept → Kept) (i : Id) (b : Rows) (row : Row) → row_at b i ≡ Some row → set_value (same_id i) b (change f row) ≡ row_changed f i b
+set-changed : (f : Trace → Trace) (i : Id) (b : Rows) (row : Row) → row_at b i ≡ Some row → set_value (same_id i) b (change f row) ≡ row_changed f i b
 set-changed f i [] row h = refl
 set-changed f i (e ∷ es) row h = go (same_id i e.0) h (set-changed f i es row)
   where
@@ -70,7 +70,7 @@ set-changed f i (e ∷ es) row h = go (same_id i e.0) h (set-changed f i es row)
     go true g rest = let one : row ≡ e.1 = cc in ap (λ r. (e.0, change f r) ∷ es) one
     go false g rest = ap (λ xs. e ∷ xs) (rest g)
 
-pub written-changed : (f : Kept → Kept) (i : Id) (b : Rows) (row : Row) → row_at b i ≡ Some row → set_value (at i) b (change f row) ≡ row_changed f i b
+pub written-changed : (f : Trace → Trace) (i : Id) (b : Rows) (row : Row) → row_at b i ≡ Some row → set_value (at i) b (change f row) ≡ row_changed f i b
 written-changed f i b row h = (λ t. set_value (at_is t i) b (change f row)) ∙ set-changed f i b row h
 
 -- ---- order, after executions and undoings
@@ -82,16 +82,16 @@ in_order-with b i (Some row) h = in_order-put b i row h
 -- ---- marked, and not marked any more
 
 -- what does not bear the mark stays when it is marked and unmarked
-unmark-mark : (c : Id) (k : Kept) → bears c k ≡ false → without_mark c (with_mark c k) ≡ k
+unmark-mark : (c : Id) (k : Trace) → bears c k ≡ false → without_mark c (with_mark c k) ≡ k
 unmark-mark c (OfBooking s l t Booked) h = ap (λ (b : Bool). OfBooking s l t (cond b Booked (CancelledBy c))) (same_id_refl c)
 unmark-mark c (OfBooking s l t (CancelledBy d)) h = ap (λ (b : Bool). OfBooking s l t (cond b Booked (CancelledBy d))) h
 unmark-mark c (OfBooking s l t InErrorLog) h = refl
 unmark-mark c (OfCancel t) h = refl
 
-pub change-back : (c : Id) (row : Row) → bears c row.kept ≡ false → change (without_mark c) (change (with_mark c) row) ≡ row
-change-back c row h = let kept = unmark-mark c row.kept h in λ i. record { room = row.room; kept = kept i }
+pub change-back : (c : Id) (row : Row) → bears c row.trace ≡ false → change (without_mark c) (change (with_mark c) row) ≡ row
+change-back c row h = let trace = unmark-mark c row.trace h in λ i. record { room = row.room; trace = trace i }
 
-pub changed-back : (c t : Id) (b : Rows) → AllByRecursion (λ row. bears c row.kept ≡ false) (values_of b) → row_changed (without_mark c) t (row_changed (with_mark c) t b) ≡ b
+pub changed-back : (c t : Id) (b : Rows) → AllByRecursion (λ row. bears c row.trace ≡ false) (values_of b) → row_changed (without_mark c) t (row_changed (with_mark c) t b) ≡ b
 changed-back c t [] h = refl
 changed-back c t (e ∷ es) h = go (same_id t e.0) refl (changed-back c t es h.1)
   where
@@ -114,7 +114,7 @@ values-put P (e ∷ es) i row p h =
       | Greater ↦ (h.0, values-put P es i row p h.1)
     ]
 
-pub values-changed : (P : Row → Type 0) (f : Kept → Kept) (i : Id) (b : Rows) → ((row : Row) → P row → P (change f row)) → AllByRecursion P (values_of b) → AllByRecursion P (values_of (row_changed f i b))
+pub values-changed : (P : Row → Type 0) (f : Trace → Trace) (i : Id) (b : Rows) → ((row : Row) → P row → P (change f row)) → AllByRecursion P (values_of b) → AllByRecursion P (values_of (row_changed f i b))
 values-changed P f i [] keeps h = tt
 values-changed P f i (e ∷ es) keeps h =
     elim (same_id i e.0) as (λ t. AllByRecursion P (values_of (cond t ((e.0, change f e.1) ∷ es) (e ∷ row_changed f i es)))) [

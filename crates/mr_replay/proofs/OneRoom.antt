@@ -13,10 +13,10 @@ use Rattle.mr_model.specs.Dropped.{Has}
 use Rattle.mr_model.proofs.Members.{same_id-true, same_id_refl}
 use Rattle.mr_model.proofs.UniqueReplay.{none_some, booked_has}
 use Rattle.mr_replay.specs.declared.rows.Standing.TheVariants.{Booked, CancelledBy, InErrorLog}
-use Rattle.mr_replay.specs.declared.rows.Kept.{Kept}
-use Rattle.mr_replay.specs.declared.rows.Kept.TheVariants.{OfBooking, OfCancel}
+use Rattle.mr_replay.specs.declared.rows.Trace.{Trace}
+use Rattle.mr_replay.specs.declared.rows.Trace.TheVariants.{OfBooking, OfCancel}
 use Rattle.mr_replay.specs.declared.rows.Row.{Row}
-use Rattle.mr_replay.specs.Rows.{Rows, row_at, bookings_of, kept_with, kept_for, row_of, place_by_rows, with_mark, without_mark, change, target_of, marked_by, with_row, executed_at, executed, undo_row_at, undone_by, undone}
+use Rattle.mr_replay.specs.Rows.{Rows, row_at, bookings_of, trace_with, trace_for, row_of, place_by_rows, with_mark, without_mark, change, target_of, marked_by, with_row, executed_at, executed, undo_row_at, undone_by, undone}
 use Rattle.mr_replay.specs.Holds.{HaveDistinctIds, told_list, row_in, bears, if_of, HoldsIn}
 use Rattle.mr_replay.specs.Bookings.{is_taken, if_taken}
 use Rattle.mr_replay.proofs.Entries.{IsInOrder, row_at-put, row_at-removed, in_order-removed}
@@ -76,13 +76,13 @@ room_part room = record {
   go f true row = refl
   go f false row = refl
 
-taken-marked : (c : Id) (k : Kept) → is_taken (with_mark c k) ≡ is_taken k
+taken-marked : (c : Id) (k : Trace) → is_taken (with_mark c k) ≡ is_taken k
 taken-marked c (OfBooking s l t Booked) = refl
 taken-marked c (OfBooking s l t (CancelledBy d)) = refl
 taken-marked c (OfBooking s l t InErrorLog) = refl
 taken-marked c (OfCancel t) = refl
 
-taken-unmarked : (c : Id) (k : Kept) → is_taken (without_mark c k) ≡ is_taken k
+taken-unmarked : (c : Id) (k : Trace) → is_taken (without_mark c k) ≡ is_taken k
 taken-unmarked c (OfBooking s l t Booked) = refl
 taken-unmarked c (OfBooking s l t (CancelledBy d)) = go (same_id d c)
   where
@@ -95,8 +95,8 @@ taken-unmarked c (OfCancel t) = refl
 pub taken_part : IsPart if_taken
 taken_part = record {
   none = refl;
-  marks = λ c row. ap (λ t. cond t (Some (change (with_mark c) row)) None) (taken-marked c row.kept) ∙ go (change (with_mark c)) (is_taken row.kept) row;
-  unmarks = λ c row. ap (λ t. cond t (Some (change (without_mark c) row)) None) (taken-unmarked c row.kept) ∙ go (change (without_mark c)) (is_taken row.kept) row;
+  marks = λ c row. ap (λ t. cond t (Some (change (with_mark c) row)) None) (taken-marked c row.trace) ∙ go (change (with_mark c)) (is_taken row.trace) row;
+  unmarks = λ c row. ap (λ t. cond t (Some (change (without_mark c) row)) None) (taken-unmarked c row.trace) ∙ go (change (without_mark c)) (is_taken row.trace) row;
 } where
   go : (f : Row → Row) (t : Bool) (row : Row) → cond t (Some (f row)) None ≡ option_map f (cond t (Some row) None)
   go f true row = refl
@@ -175,22 +175,22 @@ taking_marks (Cancels t) Logged q e = refl
 taking_marks (Cancels t) Void q e = refl
 taking_marks (Cancels t) Done q e = absurd (true≢false (sym e))
 
-kept_none : (w : Write) (a : Action) (p : Place) → takes_away a p ≡ false → kept_for w a p None ≡ None
-kept_none w (Books m) p e = absurd (true≢false e)
-kept_none w (Cancels t) (Taken k) e = absurd (true≢false e)
-kept_none w (Cancels t) Logged e = absurd (true≢false e)
-kept_none w (Cancels t) Void e = absurd (true≢false e)
-kept_none w (Cancels t) Done e = refl
+trace_none : (w : Write) (a : Action) (p : Place) → takes_away a p ≡ false → trace_for w a p None ≡ None
+trace_none w (Books m) p e = absurd (true≢false e)
+trace_none w (Cancels t) (Taken k) e = absurd (true≢false e)
+trace_none w (Cancels t) Logged e = absurd (true≢false e)
+trace_none w (Cancels t) Void e = absurd (true≢false e)
+trace_none w (Cancels t) Done e = refl
 
 row_none : (w : Write) (p : Place) → takes_away w.action p ≡ false → row_of w p None ≡ None
-row_none w p e = ap (option_map (λ (k : Kept). record { room = w.room; kept = k })) (kept_none w w.action p e)
+row_none w p e = ap (option_map (λ (k : Trace). record { room = w.room; trace = k })) (trace_none w w.action p e)
 
-kept_some : (w : Write) (a : Action) (p : Place) → takes_away a p ≡ true → (k : Kept) × (kept_for w a p None ≡ Some k)
-kept_some w (Books m) p e = (kept_with m (slot_at w p) None, refl)
-kept_some w (Cancels t) (Taken k) e = (OfCancel t, refl)
-kept_some w (Cancels t) Logged e = (OfCancel t, refl)
-kept_some w (Cancels t) Void e = (OfCancel t, refl)
-kept_some w (Cancels t) Done e = absurd (true≢false (sym e))
+trace_some : (w : Write) (a : Action) (p : Place) → takes_away a p ≡ true → (k : Trace) × (trace_for w a p None ≡ Some k)
+trace_some w (Books m) p e = (trace_with m (slot_at w p) None, refl)
+trace_some w (Cancels t) (Taken k) e = (OfCancel t, refl)
+trace_some w (Cancels t) Logged e = (OfCancel t, refl)
+trace_some w (Cancels t) Void e = (OfCancel t, refl)
+trace_some w (Cancels t) Done e = absurd (true≢false (sym e))
 
 back : (c : Id) (o : Option Row) (b : Bool) → BearsNot c o → change_if (without_mark c) b (change_if (with_mark c) b o) ≡ o
 back c o false h = refl
@@ -207,7 +207,7 @@ restored i false false x own before taking marking new bears = back i before x b
 
 pub bears_not-taken : (c : Id) (o : Option Row) → BearsNot c o → BearsNot c (if_taken o)
 bears_not-taken c None h = tt
-bears_not-taken c (Some row) h = go (is_taken row.kept)
+bears_not-taken c (Some row) h = go (is_taken row.trace)
   where
     go : (t : Bool) → BearsNot c (cond t (Some row) None)
     go true = h
@@ -254,18 +254,18 @@ whole_part = record { none = refl; marks = λ c row. refl; unmarks = λ c row. r
 -- ---- the row of a write, if it is of the room
 
 pub row-own : (room : Text) (w : Write) (p : Place) → w.room ≡ room → if_of room (row_of w p None) ≡ row_of w p None
-row-own room w p is = go (kept_for w w.action p None)
+row-own room w p is = go (trace_for w w.action p None)
   where
-    go : (o : Option Kept) → if_of room (option_map (λ k. record { room = w.room; kept = k }) o) ≡ option_map (λ k. record { room = w.room; kept = k }) o
+    go : (o : Option Trace) → if_of room (option_map (λ k. record { room = w.room; trace = k }) o) ≡ option_map (λ k. record { room = w.room; trace = k }) o
     go None = refl
-    go (Some k) = ap (λ t. cond t (Some (record { room = w.room; kept = k })) None) (same_name w.room room is)
+    go (Some k) = ap (λ t. cond t (Some (record { room = w.room; trace = k })) None) (same_name w.room room is)
 
 pub row-other : (room : Text) (w : Write) (p : Place) → bytes_eq w.room room ≡ false → if_of room (row_of w p None) ≡ None
-row-other room w p e = go (kept_for w w.action p None)
+row-other room w p e = go (trace_for w w.action p None)
   where
-    go : (o : Option Kept) → if_of room (option_map (λ k. record { room = w.room; kept = k }) o) ≡ None
+    go : (o : Option Trace) → if_of room (option_map (λ k. record { room = w.room; trace = k }) o) ≡ None
     go None = refl
-    go (Some k) = ap (λ t. cond t (Some (record { room = w.room; kept = k })) None) e
+    go (Some k) = ap (λ t. cond t (Some (record { room = w.room; trace = k })) None) e
 
 -- a row of one room is of no other
 if_of-apart : (room other : Text) (o : Option Row) (row : Row) → if_of room o ≡ Some row → bytes_eq other room ≡ false → if_of other o ≡ None
@@ -361,11 +361,11 @@ other-undone room other ws b w away ordered distinct new holds q =
     -- its own row is of its room
     own : takes_away w.action p ≡ true → if_of other (row_at b i) ≡ None
     own e =
-        let (k, is) = kept_some w w.action p e in
-        not_of_other i (record { room = w.room; kept = k })
+        let (k, is) = trace_some w w.action p e in
+        not_of_other i (record { room = w.room; trace = k })
         (rows-push ws w i new
         ∙ ap (λ c. cond c (row_of w p None) (change_if (with_mark i) (cancels_it i w.action p) (row_in (told_list ws) i))) (same_id_refl i)
-        ∙ ap (option_map (λ (x : Kept). record { room = w.room; kept = x })) is)
+        ∙ ap (option_map (λ (x : Trace). record { room = w.room; trace = x })) is)
 
     some_row : (x : Booking) (o : Option Row) → Has x (booked_at x.id o) → (row : Row) × (o ≡ Some row)
     some_row x None h = absurd h

@@ -16,10 +16,10 @@ use Rattle.mr_model.proofs.Members.{has_left, has_right, has_split, same_id-true
 use Rattle.mr_model.proofs.UniqueReplay.{booked_has, has_booked}
 use Rattle.mr_base.specs.Ids.{id_cmp}
 use Rattle.mr_replay.specs.declared.rows.Standing.TheVariants.{Booked, CancelledBy, InErrorLog}
-use Rattle.mr_replay.specs.declared.rows.Kept.{Kept}
-use Rattle.mr_replay.specs.declared.rows.Kept.TheVariants.{OfBooking, OfCancel}
+use Rattle.mr_replay.specs.declared.rows.Trace.{Trace}
+use Rattle.mr_replay.specs.declared.rows.Trace.TheVariants.{OfBooking, OfCancel}
 use Rattle.mr_replay.specs.declared.rows.Row.{Row}
-use Rattle.mr_replay.specs.Rows.{Rows, row_at, is_standing, is_booking_of, booking_kept, bookings_of_entry, bookings_of, place_by_rows}
+use Rattle.mr_replay.specs.Rows.{Rows, row_at, is_standing, is_booking_of, booking_traced, bookings_of_entry, bookings_of, place_by_rows}
 use Rattle.mr_replay.specs.Holds.{HaveDistinctIds, told_list, row_in, if_of, HoldsIn}
 use Rattle.mr_replay.specs.Bookings.{is_taken, if_taken, HasBookings}
 use Rattle.mr_replay.specs.Index.{is_row}
@@ -43,25 +43,25 @@ rest_in_order : (e : Id × Row) (es : Rows) → IsInOrder (e ∷ es) → IsInOrd
 unfolding IsStrictlySortedBy
 rest_in_order e es h = h.1
 
-kept_id : (i : Id) (k : Kept) (x : Booking) → Has x (booking_kept i k) → x.id ≡ i
-kept_id i (OfBooking s l t Booked) x (inl e) = ap (λ (b : Booking). b.id) e
-kept_id i (OfBooking s l t Booked) x (inr h) = absurd h
-kept_id i (OfBooking s l t (CancelledBy c)) x h = absurd h
-kept_id i (OfBooking s l t InErrorLog) x h = absurd h
-kept_id i (OfCancel t) x h = absurd h
+trace_id : (i : Id) (k : Trace) (x : Booking) → Has x (booking_traced i k) → x.id ≡ i
+trace_id i (OfBooking s l t Booked) x (inl e) = ap (λ (b : Booking). b.id) e
+trace_id i (OfBooking s l t Booked) x (inr h) = absurd h
+trace_id i (OfBooking s l t (CancelledBy c)) x h = absurd h
+trace_id i (OfBooking s l t InErrorLog) x h = absurd h
+trace_id i (OfCancel t) x h = absurd h
 
 entry_at : (room : Text) (e : Id × Row) → bookings_of_entry room e ≡ booked_at e.0 (if_of room (Some e.1))
 entry_at room e = go (bytes_eq e.1.room room)
   where
-    go : (b : Bool) → cond b (booking_kept e.0 e.1.kept) [] ≡ booked_at e.0 (cond b (Some e.1) None)
+    go : (b : Bool) → cond b (booking_traced e.0 e.1.trace) [] ≡ booked_at e.0 (cond b (Some e.1) None)
     go true = refl
     go false = refl
 
 entry_id : (room : Text) (e : Id × Row) (x : Booking) → Has x (bookings_of_entry room e) → x.id ≡ e.0
 entry_id room e x h = go (bytes_eq e.1.room room) h
   where
-    go : (b : Bool) → Has x (cond b (booking_kept e.0 e.1.kept) []) → x.id ≡ e.0
-    go true g = kept_id e.0 e.1.kept x g
+    go : (b : Bool) → Has x (cond b (booking_traced e.0 e.1.trace) []) → x.id ≡ e.0
+    go true g = trace_id e.0 e.1.trace x g
     go false g = absurd g
 
 pub booking-row : (room : Text) (b : Rows) (x : Booking) → IsInOrder b → Has x (bookings_of room b) → Has x (booked_at x.id (if_of room (row_at b x.id)))
@@ -91,9 +91,9 @@ row-booking room (e ∷ es) x h = go (same_id x.id e.0) refl h (row-booking room
 
 booking_here : (room : Text) (i : Id) (o : Option Row) → is_row (is_booking_of room) o ≡ true → (x : Booking) × Has x (booked_at i (if_of room o)) × (x.id ≡ i)
 booking_here room i None h = absurd (true≢false (sym h))
-booking_here room i (Some row) h = go row.kept (bytes_eq row.room room) h
+booking_here room i (Some row) h = go row.trace (bytes_eq row.room room) h
   where
-    go : (k : Kept) (c : Bool) → (is_standing k && c) ≡ true → (x : Booking) × Has x (booked_at i (cond c (Some (record { room = row.room; kept = k })) None)) × (x.id ≡ i)
+    go : (k : Trace) (c : Bool) → (is_standing k && c) ≡ true → (x : Booking) × Has x (booked_at i (cond c (Some (record { room = row.room; trace = k })) None)) × (x.id ≡ i)
     go (OfBooking s l t Booked) true g = (record { id = i; slot = s; length = l }, inl refl, refl)
     go (OfBooking s l t Booked) false g = absurd (true≢false (sym g))
     go (OfBooking s l t (CancelledBy c)) d g = absurd (true≢false (sym g))
@@ -102,9 +102,9 @@ booking_here room i (Some row) h = go row.kept (bytes_eq row.room room) h
 
 here_booking : (room : Text) (i : Id) (o : Option Row) (x : Booking) → Has x (booked_at i (if_of room o)) → is_row (is_booking_of room) o ≡ true
 here_booking room i None x h = absurd h
-here_booking room i (Some row) x h = go row.kept (bytes_eq row.room room) h
+here_booking room i (Some row) x h = go row.trace (bytes_eq row.room room) h
   where
-    go : (k : Kept) (c : Bool) → Has x (booked_at i (cond c (Some (record { room = row.room; kept = k })) None)) → (is_standing k && c) ≡ true
+    go : (k : Trace) (c : Bool) → Has x (booked_at i (cond c (Some (record { room = row.room; trace = k })) None)) → (is_standing k && c) ≡ true
     go (OfBooking s l t Booked) true g = refl
     go (OfBooking s l t Booked) false g = absurd g
     go (OfBooking s l t (CancelledBy c)) true g = absurd g
@@ -129,9 +129,9 @@ booked-row room b i ordered =
 -- a booking that stands took its slot
 standing_taken : (i : Id) (o : Option Row) → booked_at i (if_taken o) ≡ booked_at i o
 standing_taken i None = refl
-standing_taken i (Some row) = go row.kept
+standing_taken i (Some row) = go row.trace
   where
-    go : (k : Kept) → booked_at i (cond (is_taken k) (Some (record { room = row.room; kept = k })) None) ≡ booking_kept i k
+    go : (k : Trace) → booked_at i (cond (is_taken k) (Some (record { room = row.room; trace = k })) None) ≡ booking_traced i k
     go (OfBooking s l t Booked) = refl
     go (OfBooking s l t (CancelledBy c)) = refl
     go (OfBooking s l t InErrorLog) = refl

@@ -12,9 +12,9 @@ use Rattle.mr_model.specs.View.{Placed, placed_with, cancels_it, cancel_of, Told
 use Rattle.mr_model.specs.Dropped.{Has}
 use Rattle.mr_model.proofs.Members.{has_left, has_right, has_split, has_map, find_has, has_among, same_id-true, same_id_from}
 use Rattle.mr_model.proofs.PlacedInOrder.{placed_among, placed_with-replay, booked_by, booked_by-among, unless_taken, told-stand, placed_id}
-use Rattle.mr_replay.specs.declared.rows.Kept.{Kept}
+use Rattle.mr_replay.specs.declared.rows.Trace.{Trace}
 use Rattle.mr_replay.specs.declared.rows.Row.{Row}
-use Rattle.mr_replay.specs.Rows.{booking_kept, kept_with, kept_for, row_of, with_mark, change}
+use Rattle.mr_replay.specs.Rows.{booking_traced, trace_with, trace_for, row_of, with_mark, change}
 use Rattle.mr_replay.specs.Holds.{AreDistinct, HaveDistinctIds, bears, told_list, told_row, row_if, row_in}
 use Rattle.mr_replay.proofs.IdKeys.{same_id_equivalence}
 use Rattle.mr_replay.proofs.Marked.{change_if, nothing-changed}
@@ -36,39 +36,39 @@ cancel_of-push i (p ∷ ps) q = go (cancels_it i p.write.action p.place) (cancel
     go false ih = ih
 
 -- the row of a write that a later cancel may take back
-kept_marked : (w : Write) (a : Action) (p : Place) (c : Id) → kept_for w a p (Some c) ≡ option_map (with_mark c) (kept_for w a p None)
-kept_marked w (Books m) p c = go (slot_at w p)
+trace_marked : (w : Write) (a : Action) (p : Place) (c : Id) → trace_for w a p (Some c) ≡ option_map (with_mark c) (trace_for w a p None)
+trace_marked w (Books m) p c = go (slot_at w p)
   where
-    go : (o : Option Slot) → Some (kept_with m o (Some c)) ≡ option_map (with_mark c) (Some (kept_with m o None))
+    go : (o : Option Slot) → Some (trace_with m o (Some c)) ≡ option_map (with_mark c) (Some (trace_with m o None))
     go None = refl
     go (Some s) = refl
-kept_marked w (Cancels t) (Taken k) c = refl
-kept_marked w (Cancels t) Logged c = refl
-kept_marked w (Cancels t) Done c = refl
-kept_marked w (Cancels t) Void c = refl
+trace_marked w (Cancels t) (Taken k) c = refl
+trace_marked w (Cancels t) Logged c = refl
+trace_marked w (Cancels t) Done c = refl
+trace_marked w (Cancels t) Void c = refl
 
-kept_stays : (w : Write) (a : Action) (p : Place) (c d : Id) → kept_for w a p (Some d) ≡ option_map (with_mark c) (kept_for w a p (Some d))
-kept_stays w (Books m) p c d = go (slot_at w p)
+trace_stays : (w : Write) (a : Action) (p : Place) (c d : Id) → trace_for w a p (Some d) ≡ option_map (with_mark c) (trace_for w a p (Some d))
+trace_stays w (Books m) p c d = go (slot_at w p)
   where
-    go : (o : Option Slot) → Some (kept_with m o (Some d)) ≡ option_map (with_mark c) (Some (kept_with m o (Some d)))
+    go : (o : Option Slot) → Some (trace_with m o (Some d)) ≡ option_map (with_mark c) (Some (trace_with m o (Some d)))
     go None = refl
     go (Some s) = refl
-kept_stays w (Cancels t) (Taken k) c d = refl
-kept_stays w (Cancels t) Logged c d = refl
-kept_stays w (Cancels t) Done c d = refl
-kept_stays w (Cancels t) Void c d = refl
+trace_stays w (Cancels t) (Taken k) c d = refl
+trace_stays w (Cancels t) Logged c d = refl
+trace_stays w (Cancels t) Done c d = refl
+trace_stays w (Cancels t) Void c d = refl
 
-in_room : (w : Write) (o p : Option Kept) (c : Id) → o ≡ option_map (with_mark c) p → option_map (λ k. record { room = w.room; kept = k }) o ≡ option_map (change (with_mark c)) (option_map (λ k. record { room = w.room; kept = k }) p)
-in_room w o None c e = ap (option_map (λ (k : Kept). record { room = w.room; kept = k })) e
-in_room w o (Some k) c e = ap (option_map (λ (j : Kept). record { room = w.room; kept = j })) e
+in_room : (w : Write) (o p : Option Trace) (c : Id) → o ≡ option_map (with_mark c) p → option_map (λ k. record { room = w.room; trace = k }) o ≡ option_map (change (with_mark c)) (option_map (λ k. record { room = w.room; trace = k }) p)
+in_room w o None c e = ap (option_map (λ (k : Trace). record { room = w.room; trace = k })) e
+in_room w o (Some k) c e = ap (option_map (λ (j : Trace). record { room = w.room; trace = j })) e
 
 -- the row of a told write, with one more write behind it
 late_row : (w : Write) (p : Place) (o : Option Placed) (q : Placed) (b : Bool) → row_of w p (option_map (λ c. id_of c.write) (or_else o (cond b (Some q) None))) ≡ change_if (with_mark (id_of q.write)) b (row_of w p (option_map (λ c. id_of c.write) o))
 unfolding or_else
 late_row w p None q false = refl
 late_row w p (Some x) q false = refl
-late_row w p None q true = in_room w (kept_for w w.action p (Some (id_of q.write))) (kept_for w w.action p None) (id_of q.write) (kept_marked w w.action p (id_of q.write))
-late_row w p (Some x) q true = in_room w (kept_for w w.action p (Some (id_of x.write))) (kept_for w w.action p (Some (id_of x.write))) (id_of q.write) (kept_stays w w.action p (id_of q.write) (id_of x.write))
+late_row w p None q true = in_room w (trace_for w w.action p (Some (id_of q.write))) (trace_for w w.action p None) (id_of q.write) (trace_marked w w.action p (id_of q.write))
+late_row w p (Some x) q true = in_room w (trace_for w w.action p (Some (id_of x.write))) (trace_for w w.action p (Some (id_of x.write))) (id_of q.write) (trace_stays w w.action p (id_of q.write) (id_of x.write))
 
 -- one more: its own row, and its mark where it takes a booking back
 pub row_in-push : (ps : List Placed) (q : Placed) (i : Id) → is_among (id_of q.write) (map placed_id ps) ≡ false
@@ -122,22 +122,22 @@ cancel_has i ps q e = (find_has (λ p. cancels_it i p.write.action p.place) q ps
 
 abbrev pub BearsNot : Id → Option Row → Type 0
 BearsNot c None = Unit {0}
-BearsNot c (Some row) = bears c row.kept ≡ false
+BearsNot c (Some row) = bears c row.trace ≡ false
 
 placed_among_has : (q : Placed) (ps : List Placed) → Has q ps → Has (placed_id q) (map placed_id ps)
 placed_among_has q ps h = has_map placed_id q ps h
 
-kept_bears : (w : Write) (a : Action) (p : Place) (c : Id) (o : Option Id) → ((d : Id) → o ≡ Some d → same_id d c ≡ false) → BearsNot c (option_map (λ k. record { room = w.room; kept = k }) (kept_for w a p o))
-kept_bears w (Books m) p c o f = go (slot_at w p) o f
+trace_bears : (w : Write) (a : Action) (p : Place) (c : Id) (o : Option Id) → ((d : Id) → o ≡ Some d → same_id d c ≡ false) → BearsNot c (option_map (λ k. record { room = w.room; trace = k }) (trace_for w a p o))
+trace_bears w (Books m) p c o f = go (slot_at w p) o f
   where
-    go : (s : Option Slot) (o : Option Id) → ((d : Id) → o ≡ Some d → same_id d c ≡ false) → bears c (kept_with m s o) ≡ false
+    go : (s : Option Slot) (o : Option Id) → ((d : Id) → o ≡ Some d → same_id d c ≡ false) → bears c (trace_with m s o) ≡ false
     go None o f = refl
     go (Some s) None f = refl
     go (Some s) (Some d) f = f d refl
-kept_bears w (Cancels t) (Taken k) c o f = refl
-kept_bears w (Cancels t) Logged c o f = refl
-kept_bears w (Cancels t) Done c o f = tt
-kept_bears w (Cancels t) Void c o f = refl
+trace_bears w (Cancels t) (Taken k) c o f = refl
+trace_bears w (Cancels t) Logged c o f = refl
+trace_bears w (Cancels t) Done c o f = tt
+trace_bears w (Cancels t) Void c o f = refl
 
 pub row_in-bears : (ps : List Placed) (c i : Id) → is_among c (map placed_id ps) ≡ false → BearsNot c (row_in (tell ps) i)
 row_in-bears [] c i h = tt
@@ -164,7 +164,7 @@ row_in-bears (p ∷ ps) c i h = go (same_id (id_of p.write) i) (row_in-bears ps 
         apart true s = absurd (true≢false (sym there ∙ ap (λ j. is_among j (map placed_id ps)) (at ∙ same_id-true d c s) ∙ parts.1))
 
     go : (b : Bool) → BearsNot c (row_in (tell ps) i) → BearsNot c (row_if (cond b (Some here) (told_of i (tell ps))))
-    go true ih = kept_bears p.write p.write.action p.place c (option_map (λ x. id_of x.write) (cancel_of (id_of p.write) ps)) (λ d f. other d (cancel_of (id_of p.write) ps) refl f)
+    go true ih = trace_bears p.write p.write.action p.place c (option_map (λ x. id_of x.write) (cancel_of (id_of p.write) ps)) (λ d f. other d (cancel_of (id_of p.write) ps) refl f)
     go false ih = ih
 
 -- ---- the list of a room
@@ -207,15 +207,15 @@ rows-bear ws c i h = row_in-bears (list_places ws) c i (ap (is_among c) (list_id
 
 abbrev pub booked_at : Id → Option Row → List Booking
 booked_at i None = []
-booked_at i (Some row) = booking_kept i row.kept
+booked_at i (Some row) = booking_traced i row.trace
 
-told_booking : (w : Write) (a : Action) (p : Place) (o : Option Placed) → w.action ≡ a → booked_at (id_of w) (option_map (λ k. record { room = w.room; kept = k }) (kept_for w a p (option_map (λ x. id_of x.write) o))) ≡ booking_unless o w p
+told_booking : (w : Write) (a : Action) (p : Place) (o : Option Placed) → w.action ≡ a → booked_at (id_of w) (option_map (λ k. record { room = w.room; trace = k }) (trace_for w a p (option_map (λ x. id_of x.write) o))) ≡ booking_unless o w p
 told_booking w (Books m) p o e = go (slot_at w p) o ∙ sym (unless_taken w p o)
   where
     long : length_of w ≡ m.length
     long = ap length_in e
 
-    go : (s : Option Slot) (o : Option Placed) → booking_kept (id_of w) (kept_with m s (option_map (λ x. id_of x.write) o)) ≡ elim o [ None ↦ booking_of w s | Some q ↦ [] ]
+    go : (s : Option Slot) (o : Option Placed) → booking_traced (id_of w) (trace_with m s (option_map (λ x. id_of x.write) o)) ≡ elim o [ None ↦ booking_of w s | Some q ↦ [] ]
     go None None = refl
     go None (Some q) = refl
     go (Some s) None = ap (λ n. record { id = id_of w; slot = s; length = n } ∷ []) (sym long)
@@ -225,7 +225,7 @@ told_booking w (Cancels t) p o e = go p o
     none : (k : ℕ) → slot_at w (Taken k) ≡ None
     none k = ap (λ b. slice_get (choices_in b) k) e
 
-    go : (p : Place) (o : Option Placed) → booked_at (id_of w) (option_map (λ k. record { room = w.room; kept = k }) (kept_for w (Cancels t) p (option_map (λ x. id_of x.write) o))) ≡ booking_unless o w p
+    go : (p : Place) (o : Option Placed) → booked_at (id_of w) (option_map (λ k. record { room = w.room; trace = k }) (trace_for w (Cancels t) p (option_map (λ x. id_of x.write) o))) ≡ booking_unless o w p
     go (Taken k) None = sym (ap (booking_of w) (none k))
     go (Taken k) (Some q) = refl
     go Logged None = refl

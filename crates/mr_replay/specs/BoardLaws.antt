@@ -7,7 +7,7 @@ use Rattle.mr_model.specs.Replay.{Done, replay}
 use Rattle.mr_model.specs.Board.{replay_on, board_after, places_of_room}
 use Rattle.mr_model.specs.View.{of_room}
 use Rattle.mr_replay.specs.declared.rows.Standing.TheVariants.{Booked, CancelledBy}
-use Rattle.mr_replay.specs.declared.rows.Kept.TheVariants.{OfBooking}
+use Rattle.mr_replay.specs.declared.rows.Trace.TheVariants.{OfBooking}
 use Rattle.mr_replay.specs.Rows.{Rows, row_at, place_by_rows, executed, undo_row_of, undone, executed_all, undo_rows_of, undone_all}
 use Rattle.mr_replay.specs.Holds.{HaveDistinctIds, AreOfRoom, IsNew, HaveNoRows, AreNew, HoldsEach, Holds, undo_rows_after}
 
@@ -44,9 +44,9 @@ abbrev pub CancelsMark : Type 0
 CancelsMark =
     (b : Rows) (w : Write) (target : Id) (room title : Text) (slot : Slot) (length : ℕ)
     → IsNew b (id_of w) → w.action ≡ Cancels target → place_by_rows b w ≡ Done
-    → row_at b target ≡ Some (record { room = room; kept = OfBooking slot length title Booked })
-    → (row_at (executed b w) target ≡ Some (record { room = room; kept = OfBooking slot length title (CancelledBy (id_of w)) }))
-    × (row_at (undone (executed b w) (undo_row_of b w)) target ≡ Some (record { room = room; kept = OfBooking slot length title Booked }))
+    → row_at b target ≡ Some (record { room = room; trace = OfBooking slot length title Booked })
+    → (row_at (executed b w) target ≡ Some (record { room = room; trace = OfBooking slot length title (CancelledBy (id_of w)) }))
+    × (row_at (undone (executed b w) (undo_row_of b w)) target ≡ Some (record { room = room; trace = OfBooking slot length title Booked }))
 
 -- writes that do not repeat an id of the list are new to a board that holds it
 abbrev pub OthersAreNew : Type 0

@@ -8,15 +8,15 @@ use Rattle.mr_model.specs.Replay.{replay_among}
 use Rattle.mr_model.specs.Board.{after}
 use Rattle.mr_base.specs.Ids.{id_cmp}
 use Rattle.mr_replay.specs.declared.rows.Standing.TheVariants.{Booked, CancelledBy, InErrorLog}
-use Rattle.mr_replay.specs.declared.rows.Kept.{Kept}
-use Rattle.mr_replay.specs.declared.rows.Kept.TheVariants.{OfBooking, OfCancel}
+use Rattle.mr_replay.specs.declared.rows.Trace.{Trace}
+use Rattle.mr_replay.specs.declared.rows.Trace.TheVariants.{OfBooking, OfCancel}
 use Rattle.mr_replay.specs.declared.rows.Row.{Row}
 use Rattle.mr_replay.specs.Places.{UndoRow}
 use Rattle.mr_replay.specs.Rows.{Rows, row_at, undo_rows_of, executed_all, undone_all}
 use Rattle.mr_replay.specs.Holds.{HaveDistinctIds, AreOfRoom, told_list, row_in, if_of, undo_rows_after}
 
 -- whether it is a booking that took its slot, whether a cancel took it back or not
-abbrev pub is_taken : Kept → Bool
+abbrev pub is_taken : Trace → Bool
 is_taken (OfBooking slot length title Booked) = true
 is_taken (OfBooking slot length title (CancelledBy cancel)) = true
 is_taken (OfBooking slot length title InErrorLog) = false
@@ -25,7 +25,7 @@ is_taken (OfCancel target) = false
 -- the row, if it is one of a booking that took its slot
 abbrev pub if_taken : Option Row → Option Row
 if_taken None = None
-if_taken (Some row) = if is_taken row.kept then Some row else None
+if_taken (Some row) = if is_taken row.trace then Some row else None
 
 -- in this room the board has for each id the booking that the replay of these writes gives it, cancelled or not, and no other
 -- booking; what it has of other rooms, of the error log and of cancels is left open

@@ -11,8 +11,8 @@ use Rattle.mr_model.specs.Replica.{is_among}
 use Rattle.mr_model.specs.View.{Told, of_room, placed_with, tell, told_of}
 use Rattle.mr_base.specs.Ids.{id_cmp}
 use Rattle.mr_replay.specs.declared.rows.Standing.TheVariants.{CancelledBy}
-use Rattle.mr_replay.specs.declared.rows.Kept.{Kept}
-use Rattle.mr_replay.specs.declared.rows.Kept.TheVariants.{OfBooking}
+use Rattle.mr_replay.specs.declared.rows.Trace.{Trace}
+use Rattle.mr_replay.specs.declared.rows.Trace.TheVariants.{OfBooking}
 use Rattle.mr_replay.specs.declared.rows.Row.{Row}
 use Rattle.mr_replay.specs.Places.{UndoRow}
 use Rattle.mr_replay.specs.Rows.{Rows, row_at, row_of, undo_row_at, undone_all}
@@ -34,14 +34,14 @@ AreOfRoom room ws = AllByRecursion (λ w. w.room ≡ room) ws
 -- ---- ids that are not on a board
 
 -- the row bears the mark of this cancel
-abbrev pub bears : Id → Kept → Bool
+abbrev pub bears : Id → Trace → Bool
 bears i (OfBooking slot length title (CancelledBy c)) = same_id c i
 bears i _ = false
 
 -- the id has no row, and is the mark of none
 pub record IsNew (b : Rows) (i : Id) : Type 0 where
   pub no_row : row_at b i ≡ None
-  pub no_mark : AllByRecursion (λ row. bears i row.kept ≡ false) (values_of b)
+  pub no_mark : AllByRecursion (λ row. bears i row.trace ≡ false) (values_of b)
 
 -- none of these writes has a row
 abbrev pub HaveNoRows : Rows → List Write → Type 0

@@ -15,8 +15,8 @@ use Rattle.mr_model.specs.Writes.{Id}
 use Rattle.mr_base.specs.Ids.{id_cmp}
 use Rattle.mr_replay.specs.declared.index.IndexKey.{IndexKey}
 use Rattle.mr_replay.specs.declared.rows.Standing.TheVariants.{Booked, CancelledBy, InErrorLog}
-use Rattle.mr_replay.specs.declared.rows.Kept.{Kept}
-use Rattle.mr_replay.specs.declared.rows.Kept.TheVariants.{OfBooking, OfCancel}
+use Rattle.mr_replay.specs.declared.rows.Trace.{Trace}
+use Rattle.mr_replay.specs.declared.rows.Trace.TheVariants.{OfBooking, OfCancel}
 use Rattle.mr_replay.specs.declared.rows.Row.{Row}
 use Rattle.mr_replay.specs.Rows.{Rows, row_at, is_in_the_way}
 
@@ -55,14 +55,14 @@ abbrev pub last_key : Slot → Text → IndexKey
 last_key slot room = end_key 2 slot room
 
 -- where a row stands, if it is that of a booking that took its slot, whether a cancel took it back or not
-abbrev pub key_kept : Id → Text → Kept → Option IndexKey
-key_kept i room (OfBooking slot length title Booked) = Some (key_of i room slot length)
-key_kept i room (OfBooking slot length title (CancelledBy cancel)) = Some (key_of i room slot length)
-key_kept i room (OfBooking slot length title InErrorLog) = None
-key_kept i room (OfCancel target) = None
+abbrev pub key_traced : Id → Text → Trace → Option IndexKey
+key_traced i room (OfBooking slot length title Booked) = Some (key_of i room slot length)
+key_traced i room (OfBooking slot length title (CancelledBy cancel)) = Some (key_of i room slot length)
+key_traced i room (OfBooking slot length title InErrorLog) = None
+key_traced i room (OfCancel target) = None
 
 abbrev pub key_if_taken : Id → Row → Option IndexKey
-key_if_taken i row = key_kept i row.room row.kept
+key_if_taken i row = key_traced i row.room row.trace
 
 -- whether the index has a key
 abbrev pub has : BTreeSet IndexKey → IndexKey → Bool

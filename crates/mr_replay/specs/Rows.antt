@@ -10,8 +10,8 @@ use Rattle.mr_model.specs.Replay.{Place, Taken, Done, Booking, place_among, slot
 use Rattle.mr_base.specs.Ids.{id_cmp}
 use Rattle.mr_replay.specs.declared.rows.Standing.{Standing}
 use Rattle.mr_replay.specs.declared.rows.Standing.TheVariants.{Booked, CancelledBy, InErrorLog}
-use Rattle.mr_replay.specs.declared.rows.Kept.{Kept}
-use Rattle.mr_replay.specs.declared.rows.Kept.TheVariants.{OfBooking, OfCancel}
+use Rattle.mr_replay.specs.declared.rows.Trace.{Trace}
+use Rattle.mr_replay.specs.declared.rows.Trace.TheVariants.{OfBooking, OfCancel}
 use Rattle.mr_replay.specs.declared.rows.Row.{Row}
 use Rattle.mr_replay.specs.Places.{UndoRow}
 
@@ -25,32 +25,32 @@ row_at b i = lookup (same_id i) b
 -- ---- bookings
 
 -- the booking of an id, if it is one that stands
-abbrev pub booking_kept : Id → Kept → List Booking
-booking_kept i (OfBooking slot length title Booked) = record { id = i; slot = slot; length = length } ∷ []
-booking_kept i _ = []
+abbrev pub booking_traced : Id → Trace → List Booking
+booking_traced i (OfBooking slot length title Booked) = record { id = i; slot = slot; length = length } ∷ []
+booking_traced i _ = []
 
 abbrev pub bookings_of_entry : Text → Id × Row → List Booking
-bookings_of_entry room e = if bytes_eq e.1.room room then booking_kept e.0 e.1.kept else []
+bookings_of_entry room e = if bytes_eq e.1.room room then booking_traced e.0 e.1.trace else []
 
 -- the bookings of a room that stand, as those of the definitions
 abbrev pub bookings_of : Text → Rows → List Booking
 bookings_of room b = flat_map (bookings_of_entry room) b
 
-abbrev pub is_standing : Kept → Bool
+abbrev pub is_standing : Trace → Bool
 is_standing (OfBooking slot length title Booked) = true
 is_standing _ = false
 
 -- whether the row is a booking of the room that stands
 abbrev pub is_booking_of : Text → Row → Bool
-is_booking_of room row = is_standing row.kept && bytes_eq row.room room
+is_booking_of room row = is_standing row.trace && bytes_eq row.room room
 
-abbrev pub is_kept_in_the_way : Slot → ℕ → Kept → Bool
-is_kept_in_the_way slot length (OfBooking own own_length title Booked) = overlaps slot length own own_length
-is_kept_in_the_way slot length _ = false
+abbrev pub is_trace_in_the_way : Slot → ℕ → Trace → Bool
+is_trace_in_the_way slot length (OfBooking own own_length title Booked) = overlaps slot length own own_length
+is_trace_in_the_way slot length _ = false
 
 -- whether the row is a booking of the room that stands and overlaps the slot
 abbrev pub is_in_the_way : Text → Slot → ℕ → Row → Bool
-is_in_the_way room slot length row = is_kept_in_the_way slot length row.kept && bytes_eq row.room room
+is_in_the_way room slot length row = is_trace_in_the_way slot length row.trace && bytes_eq row.room room
 
 -- no booking of the room overlaps the slot
 abbrev pub IsFree : Text → Slot → ℕ → Rows → Type 0
@@ -73,36 +73,36 @@ standing_of None = Booked
 standing_of (Some cancel) = CancelledBy cancel
 
 -- the slot that a booking took, or else its wish
-abbrev pub kept_with : Meeting → Option Slot → Option Id → Kept
-kept_with m None by = OfBooking m.wish m.length m.title InErrorLog
-kept_with m (Some slot) by = OfBooking slot m.length m.title (standing_of by)
+abbrev pub trace_with : Meeting → Option Slot → Option Id → Trace
+trace_with m None by = OfBooking m.wish m.length m.title InErrorLog
+trace_with m (Some slot) by = OfBooking slot m.length m.title (standing_of by)
 
 -- at its place, with the cancel that took it back. A cancel that is Done has no row: its id stands in its target's row
-abbrev pub kept_for : Write → Action → Place → Option Id → Option Kept
-kept_for w (Books m) p by = Some (kept_with m (slot_at w p) by)
-kept_for w (Cancels target) Done by = None
-kept_for w (Cancels target) _ by = Some (OfCancel target)
+abbrev pub trace_for : Write → Action → Place → Option Id → Option Trace
+trace_for w (Books m) p by = Some (trace_with m (slot_at w p) by)
+trace_for w (Cancels target) Done by = None
+trace_for w (Cancels target) _ by = Some (OfCancel target)
 
 abbrev pub row_of : Write → Place → Option Id → Option Row
-row_of w p by = option_map (λ k. record { room = w.room; kept = k }) (kept_for w w.action p by)
+row_of w p by = option_map (λ k. record { room = w.room; trace = k }) (trace_for w w.action p by)
 
 -- ---- marks of cancels
 
 -- a booking that stands is taken back by this cancel, and stands again
-abbrev pub with_mark : Id → Kept → Kept
+abbrev pub with_mark : Id → Trace → Trace
 with_mark cancel (OfBooking slot length title Booked) = OfBooking slot length title (CancelledBy cancel)
-with_mark cancel kept = kept
+with_mark cancel trace = trace
 
-abbrev pub without_mark : Id → Kept → Kept
+abbrev pub without_mark : Id → Trace → Trace
 without_mark cancel (OfBooking slot length title (CancelledBy c)) =
     OfBooking slot length title (if same_id c cancel then Booked else CancelledBy c)
-without_mark cancel kept = kept
+without_mark cancel trace = trace
 
-abbrev pub change : (Kept → Kept) → Row → Row
-change f row = record { room = row.room; kept = f row.kept }
+abbrev pub change : (Trace → Trace) → Row → Row
+change f row = record { room = row.room; trace = f row.trace }
 
 -- the row of this id changed
-abbrev pub row_changed : (Kept → Kept) → Id → Rows → Rows
+abbrev pub row_changed : (Trace → Trace) → Id → Rows → Rows
 row_changed f i [] = []
 row_changed f i (e ∷ es) = if same_id i e.0 then (e.0, change f e.1) ∷ es else e ∷ row_changed f i es
 

@@ -9,12 +9,12 @@ use Rattle.mr_replay.specs.Index.{IsIndexed}
 use Rattle.mr_replay.specs.Hidden.{put_all_back, AllHavePlaces}
 
 -- the rows as the replays left them, and those that giving up leaves
-pub record Tried : Type 0 where
+pub record TriedView : Type 0 where
   pub rows : Rows
   pub before : Rows
 
 -- a trial in which nothing is replayed
-abbrev pub untried : Rows → Tried
+abbrev pub untried : Rows → TriedView
 untried b = record { rows = b; before = b }
 
 -- the rows are noted in the index, and so are those from before, to which the journal leads back

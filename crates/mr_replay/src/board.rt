@@ -93,13 +93,13 @@ impl Board {
         ensures only { IfErr result (λ e. e ≡ Refusal.OutOfMemory) }
     {
         note(&mut self.index, id, &row)?;
-        let kept = key_if_taken(id, &row);
+        let stays = key_if_taken(id, &row);
         match self.rows.insert(id, row) {
             Ok(None) => Ok(()),
             Ok(Some(replaced)) => {
                 let gone = key_if_taken(id, &replaced);
                 drop(replaced);
-                forget(&mut self.index, gone, kept);
+                forget(&mut self.index, gone, stays);
                 Ok(())
             }
             Err(failed) => {

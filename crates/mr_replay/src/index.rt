@@ -2,7 +2,7 @@ ghost use Rattle.std.specs.Prelude.{◌≡◌, OnOk, IfErr, IsTrue, Some};
 ghost use Rattle.mr_replay.specs.declared.index.IndexKey.{IndexKey as Key};
 ghost use Rattle.mr_replay.specs.Index.{padded, key_of, first_key, last_key, key_if_taken, has, Grows, IsNoted};
 
-use crate::{Kept, Row, Standing};
+use crate::{Row, Standing, Trace};
 use mr_base::{Day, Refusal, RoomName, ServerId, Slot, WriteId};
 use std::alloc::AllocError;
 use std::collections::BTreeSet;
@@ -36,20 +36,20 @@ pub(crate) fn note(index: &mut Index, id: WriteId, row: &Row) -> Result<(), Refu
     Ok(())
 }
 
-/// Takes the key out, if there is one and it isn't the one that is kept.
-pub(crate) fn forget(index: &mut Index, key: Option<IndexKey>, kept: Option<IndexKey>)
-    ensures { (k : Key) → (key ≡ Some k → kept ≡ Some k) → IsTrue (has index.old k) → IsTrue (has index.new k) }
+/// Takes the key out, if there is one and it isn't the one that stays.
+pub(crate) fn forget(index: &mut Index, key: Option<IndexKey>, stays: Option<IndexKey>)
+    ensures { (k : Key) → (key ≡ Some k → stays ≡ Some k) → IsTrue (has index.old k) → IsTrue (has index.new k) }
 {
     if let Some(gone) = key {
-        take_out(index, gone, kept);
+        take_out(index, gone, stays);
     }
 }
 
-/// Takes this key out, if it isn't the one that is kept.
-pub(crate) fn take_out(index: &mut Index, key: IndexKey, kept: Option<IndexKey>)
-    ensures { (k : Key) → (key ≡ k → kept ≡ Some k) → IsTrue (has index.old k) → IsTrue (has index.new k) }
+/// Takes this key out, if it isn't the one that stays.
+pub(crate) fn take_out(index: &mut Index, key: IndexKey, stays: Option<IndexKey>)
+    ensures { (k : Key) → (key ≡ k → stays ≡ Some k) → IsTrue (has index.old k) → IsTrue (has index.new k) }
 {
-    if kept != Some(key) {
+    if stays != Some(key) {
         index.remove(&key);
     }
 }
@@ -72,8 +72,8 @@ fn key_of(id: WriteId, room: &RoomName, slot: Slot, length: u32) -> IndexKey
 pub(crate) fn key_if_taken(id: WriteId, row: &Row) -> Option<IndexKey>
     ensures { result ≡ key_if_taken id row.now }
 {
-    match &row.kept {
-        Kept::OfBooking {
+    match &row.trace {
+        Trace::OfBooking {
             slot,
             length,
             standing,
@@ -84,7 +84,7 @@ pub(crate) fn key_if_taken(id: WriteId, row: &Row) -> Option<IndexKey>
             }
             Some(key_of(id, &row.room, *slot, *length))
         }
-        Kept::OfCancel { .. } => None,
+        Trace::OfCancel { .. } => None,
     }
 }
 

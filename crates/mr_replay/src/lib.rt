@@ -19,7 +19,7 @@ ghost use Rattle.mr_replay.specs.BoardLaws.{OneBoard, ExecutingHolds, UndoingHol
 ghost use Rattle.mr_replay.specs.Bookings.{BookingsReplay};
 
 pub use board::Board;
-pub use rows::{Kept, Place, Row, Standing, UndoRow};
+pub use rows::{Place, Row, Standing, Trace, UndoRow};
 pub use trial::Trial;
 
 /// A list of writes has one board. Executing writes leads from the board of a list to that of a longer one, undoing them

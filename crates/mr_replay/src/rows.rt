@@ -2,7 +2,7 @@ ghost use Rattle.std.specs.Prelude.{◌≡◌, IfOk, IfErr, None};
 ghost use Rattle.mr_model.specs.Replay.{slot_at as slot_of};
 ghost use Rattle.mr_base.specs.Actions.{action_of};
 ghost use Rattle.mr_replay.specs.Places.{place_seen};
-ghost use Rattle.mr_replay.specs.Rows.{is_standing, is_booking_of, is_kept_in_the_way, is_in_the_way, choice_at, kept_with, row_of, with_mark, without_mark, change, target_of, target_if_done, undo_row_at};
+ghost use Rattle.mr_replay.specs.Rows.{is_standing, is_booking_of, is_trace_in_the_way, is_in_the_way, choice_at, trace_with, row_of, with_mark, without_mark, change, target_of, target_if_done, undo_row_at};
 
 use mr_base::{Action, Meeting, Refusal, RoomName, Slot, Title, Write, WriteId, overlaps};
 use std::alloc::{AllocError, Global};
@@ -87,10 +87,10 @@ pub enum Standing {
     InErrorLog,
 }
 
-/// What the board keeps of a write: of a booking the slot that it took, its length in minutes, its title and how it stands; of a
+/// What a write leaves on the board: of a booking the slot that it took, its length in minutes, its title and how it stands; of a
 /// cancel that found nothing to take back its target. A cancel that is Done has no row; its id stands in its target's row.
 #[derive(Clone, Debug, Drop)]
-pub enum Kept {
+pub enum Trace {
     OfBooking {
         slot: Slot,
         length: u32,
@@ -102,11 +102,11 @@ pub enum Kept {
     },
 }
 
-/// What the board keeps of a write, and the room.
+/// What a write leaves on the board, and the room.
 #[derive(Clone, Debug, Drop)]
 pub struct Row {
     pub room: RoomName,
-    pub kept: Kept,
+    pub trace: Trace,
 }
 
 impl Row {
@@ -115,17 +115,17 @@ impl Row {
         ensures row { IfOk result (λ row. row ≡ row_of write.now (place_seen place) None) }
         ensures only { IfErr result (λ e. e ≡ Refusal.OutOfMemory) }
     {
-        let kept = match &write.action {
-            Action::Books(meeting) => Kept::of(alloc, meeting, slot_at(write, place))?,
+        let trace = match &write.action {
+            Action::Books(meeting) => Trace::of(alloc, meeting, slot_at(write, place))?,
             Action::Cancels(target) => {
                 if place == Place::Done {
                     return Ok(None);
                 }
-                Kept::OfCancel { target: *target }
+                Trace::OfCancel { target: *target }
             }
         };
         let room = write.room.copy(alloc)?;
-        Ok(Some(Row { room, kept }))
+        Ok(Some(Row { room, trace }))
     }
 
     /// An equal row.
@@ -133,30 +133,30 @@ impl Row {
         ensures row { IfOk result (λ row. row ≡ self.now) }
         ensures only { IfErr result (λ e. e ≡ Refusal.OutOfMemory) }
     {
-        let kept = self.kept.copy(alloc)?;
+        let trace = self.trace.copy(alloc)?;
         let room = self.room.copy(alloc)?;
-        Ok(Row { room, kept })
+        Ok(Row { room, trace })
     }
 
     /// Whether this is a booking of the room that stands.
     pub(crate) fn is_booking_of(&self, room: &RoomName) -> bool
         ensures { result ≡ is_booking_of room.now self.now }
     {
-        self.kept.is_standing() && self.room == *room
+        self.trace.is_standing() && self.room == *room
     }
 
     /// Whether this is a booking of the room that stands and overlaps the slot.
     pub(crate) fn is_in_the_way(&self, room: &RoomName, slot: Slot, length: u32) -> bool
         ensures { result ≡ is_in_the_way room.now slot length self.now }
     {
-        self.kept.is_in_the_way(slot, length) && self.room == *room
+        self.trace.is_in_the_way(slot, length) && self.room == *room
     }
 
     /// A booking that stands is taken back by this cancel.
     pub(crate) fn mark(&mut self, cancel: WriteId)
         ensures { self.new ≡ change (with_mark cancel) self.old }
     {
-        if let Kept::OfBooking { standing, .. } = &mut self.kept {
+        if let Trace::OfBooking { standing, .. } = &mut self.trace {
             if *standing == Standing::Booked {
                 *standing = Standing::CancelledBy(cancel);
             }
@@ -167,7 +167,7 @@ impl Row {
     pub(crate) fn unmark(&mut self, cancel: WriteId)
         ensures { self.new ≡ change (without_mark cancel) self.old }
     {
-        if let Kept::OfBooking { standing, .. } = &mut self.kept {
+        if let Trace::OfBooking { standing, .. } = &mut self.trace {
             if *standing == Standing::CancelledBy(cancel) {
                 *standing = Standing::Booked;
             }
@@ -175,10 +175,10 @@ impl Row {
     }
 }
 
-impl Kept {
-    /// What is kept of a booking that took this slot, or none.
-    fn of(alloc: Global, meeting: &Meeting, slot: Option<Slot>) -> Result<Kept, Refusal>
-        ensures kept { IfOk result (λ kept. kept ≡ kept_with meeting.now slot None) }
+impl Trace {
+    /// The trace of a booking that took this slot, or none.
+    fn of(alloc: Global, meeting: &Meeting, slot: Option<Slot>) -> Result<Trace, Refusal>
+        ensures trace { IfOk result (λ trace. trace ≡ trace_with meeting.now slot None) }
         ensures only { IfErr result (λ e. e ≡ Refusal.OutOfMemory) }
     {
         let title = meeting.title.copy(alloc)?;
@@ -186,7 +186,7 @@ impl Kept {
             Some(slot) => (slot, Standing::Booked),
             None => (meeting.wish, Standing::InErrorLog),
         };
-        Ok(Kept::OfBooking {
+        Ok(Trace::OfBooking {
             slot,
             length: meeting.length,
             title,
@@ -194,26 +194,26 @@ impl Kept {
         })
     }
 
-    fn copy(&self, alloc: Global) -> Result<Kept, Refusal>
-        ensures kept { IfOk result (λ kept. kept ≡ self.now) }
+    fn copy(&self, alloc: Global) -> Result<Trace, Refusal>
+        ensures trace { IfOk result (λ trace. trace ≡ self.now) }
         ensures only { IfErr result (λ e. e ≡ Refusal.OutOfMemory) }
     {
         match self {
-            Kept::OfBooking {
+            Trace::OfBooking {
                 slot,
                 length,
                 title,
                 standing,
             } => {
                 let title = title.copy(alloc)?;
-                Ok(Kept::OfBooking {
+                Ok(Trace::OfBooking {
                     slot: *slot,
                     length: *length,
                     title,
                     standing: *standing,
                 })
             }
-            Kept::OfCancel { target } => Ok(Kept::OfCancel { target: *target }),
+            Trace::OfCancel { target } => Ok(Trace::OfCancel { target: *target }),
         }
     }
 
@@ -221,16 +221,16 @@ impl Kept {
         ensures { result ≡ is_standing self.now }
     {
         match self {
-            Kept::OfBooking { standing, .. } => *standing == Standing::Booked,
-            Kept::OfCancel { .. } => false,
+            Trace::OfBooking { standing, .. } => *standing == Standing::Booked,
+            Trace::OfCancel { .. } => false,
         }
     }
 
     fn is_in_the_way(&self, slot: Slot, length: u32) -> bool
-        ensures { result ≡ is_kept_in_the_way slot length self.now }
+        ensures { result ≡ is_trace_in_the_way slot length self.now }
     {
         match self {
-            Kept::OfBooking {
+            Trace::OfBooking {
                 slot: own,
                 length: own_length,
                 standing: Standing::Booked,

@@ -21,9 +21,9 @@ pub struct Trial {
 }
 
 impl Model for Trial {
-    ghost use Rattle.mr_replay.specs.Trials.{Tried};
+    ghost use Rattle.mr_replay.specs.Trials.{TriedView};
 
-    ghost Value = { Tried };
+    ghost Value = { TriedView };
 
     ghost use Rattle.mr_replay.specs.Hidden.{shown, put_all_back};
     ghost use Rattle.mr_replay.specs.Trials.{CanGiveUp};

@@ -12,7 +12,7 @@ ghost use Rattle.mr_sql.specs.Refused.{AreSomebodys, HasNoMeta, IsAnothers, IsNo
 
 use crate::create::create;
 use crate::faults::refusal_of;
-use crate::first::{recover_first, settle_first};
+use crate::first::{adopt_first_tables, recover_first};
 use crate::schema_number::check_number;
 use crate::schemas::{is_blank, is_ours};
 use mr_base::{Refusal, ServerId};
@@ -156,7 +156,7 @@ fn resume<S: Alter>(
 }
 
 /// Makes the tables of this server and primary where there are none, or finds them, and moves those of the first schema up.
-pub(crate) fn settle<S: Alter>(
+pub(crate) fn adopt_tables<S: Alter>(
     conn: &mut Connection<S>,
     alloc: Global,
     server: ServerId,
@@ -186,7 +186,7 @@ pub(crate) fn settle<S: Alter>(
     if is_ours(conn) {
         return resume(conn, alloc, server, primary);
     }
-    settle_first(conn, alloc, server, primary)
+    adopt_first_tables(conn, alloc, server, primary)
 }
 
 /// Finds the tables of a replica, whichever it is, and moves those of the first schema up.

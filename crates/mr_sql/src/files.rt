@@ -238,7 +238,7 @@ impl<B: Start> SqlKeeper<FileStore<SparingFile<B>>> {
             Ok(conn) => conn,
             Err(refusal) => return Err((refusal, None)),
         };
-        match SqlKeeper::settled(rt.alloc(), conn, server, primary) {
+        match SqlKeeper::adopted(rt.alloc(), conn, server, primary) {
             Ok(keeper) => Ok(keeper),
             Err((refusal, conn)) => Err((refusal, Some(GivenBack::Connection(conn)))),
         }

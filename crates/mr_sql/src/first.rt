@@ -127,7 +127,7 @@ fn resume_first<S: Alter>(
 }
 
 /// Of a database that is not blank and hasn't our tables: finds the first schema's of this server and primary, and moves them up.
-pub(crate) fn settle_first<S: Alter>(
+pub(crate) fn adopt_first_tables<S: Alter>(
     conn: &mut Connection<S>,
     alloc: Global,
     server: ServerId,

@@ -13,7 +13,7 @@ ghost use Rattle.mr_rows.specs.Database.{IsKept, tables_in};
 ghost use Rattle.mr_sql.specs.Found.{IsAdopted, IsResumed, IsTaken, LeavesTables, StaysAs};
 ghost use Rattle.mr_sql.specs.Refused.{AreSomebodys, IsAnothers, IsNobodys};
 
-use crate::adopt::{recover, retaken, settle};
+use crate::adopt::{adopt_tables, recover, retaken};
 use crate::create::create;
 use crate::faults::refusal_of;
 use crate::{answers, load};
@@ -53,8 +53,8 @@ impl<S: Alter> Model for SqlKeeper<S> {
         × (HasCleanDisk (state S.Store k.conn) → IsTrue (state S.Store k.conn).is_open → IsKept (state S.Store k.conn)) };
 }
 
-/// The fault that an error is, counted where the store failed. A count that is full is told as want of memory.
-fn told(failures: &mut u64, error: Error) -> Fault
+/// The fault that an error is, counted where the store failed. A count that is full is reported as out of memory.
+fn fault_of(failures: &mut u64, error: Error) -> Fault
     ensures counted { failures.new ≡ failures_for result failures.old }
     ensures memory { error ≡ Error.SqliteFailure ErrorCode.OutOfMemory → result ≡ Fault.OutOfMemory }
     ensures store { error ≢ Error.SqliteFailure ErrorCode.OutOfMemory → failures.old < 18_446_744_073_709_551_615 → result ≡ Fault.Store }
@@ -87,70 +87,70 @@ impl<S: Alter> Keeper for SqlKeeper<S> {
     fn load(&mut self) -> Result<Desk, Fault> {
         match load::load_desk(&mut self.conn, self.alloc) {
             Ok(value) => Ok(value),
-            Err(error) => Err(told(&mut self.failures, error)),
+            Err(error) => Err(fault_of(&mut self.failures, error)),
         }
     }
 
     fn load_part(&mut self, scope: &Scope<'_>) -> Result<Part, Fault> {
         match load::load_part(&mut self.conn, self.alloc, scope) {
             Ok(value) => Ok(value),
-            Err(error) => Err(told(&mut self.failures, error)),
+            Err(error) => Err(fault_of(&mut self.failures, error)),
         }
     }
 
     fn rooms(&mut self) -> Result<Vec<RoomName>, Fault> {
         match answers::rooms_of(&mut self.conn, self.alloc) {
             Ok(value) => Ok(value),
-            Err(error) => Err(told(&mut self.failures, error)),
+            Err(error) => Err(fault_of(&mut self.failures, error)),
         }
     }
 
     fn bookings(&mut self, room: &RoomName, day: Option<Day>) -> Result<Vec<BookingRow>, Fault> {
         match answers::bookings_of(&mut self.conn, self.alloc, room, day) {
             Ok(value) => Ok(value),
-            Err(error) => Err(told(&mut self.failures, error)),
+            Err(error) => Err(fault_of(&mut self.failures, error)),
         }
     }
 
     fn place_of(&mut self, room: &RoomName, id: WriteId) -> Result<Option<PlaceRow>, Fault> {
         match answers::place_of(&mut self.conn, self.alloc, room, id) {
             Ok(value) => Ok(value),
-            Err(error) => Err(told(&mut self.failures, error)),
+            Err(error) => Err(fault_of(&mut self.failures, error)),
         }
     }
 
     fn errors(&mut self, room: &RoomName) -> Result<Vec<ErrorRow>, Fault> {
         match answers::errors_of(&mut self.conn, self.alloc, room) {
             Ok(value) => Ok(value),
-            Err(error) => Err(told(&mut self.failures, error)),
+            Err(error) => Err(fault_of(&mut self.failures, error)),
         }
     }
 
     fn cancelled(&mut self, room: &RoomName) -> Result<Vec<CancelledRow>, Fault> {
         match answers::cancelled_of(&mut self.conn, self.alloc, room) {
             Ok(value) => Ok(value),
-            Err(error) => Err(told(&mut self.failures, error)),
+            Err(error) => Err(fault_of(&mut self.failures, error)),
         }
     }
 
     fn cancels(&mut self, room: &RoomName) -> Result<Vec<CancelRow>, Fault> {
         match answers::cancels_of(&mut self.conn, self.alloc, room) {
             Ok(value) => Ok(value),
-            Err(error) => Err(told(&mut self.failures, error)),
+            Err(error) => Err(fault_of(&mut self.failures, error)),
         }
     }
 
     fn read(&mut self) -> Result<Tables, Fault> {
         match load::read_agreeing(&mut self.conn, self.alloc) {
             Ok(value) => Ok(value),
-            Err(error) => Err(told(&mut self.failures, error)),
+            Err(error) => Err(fault_of(&mut self.failures, error)),
         }
     }
 
     fn apply(&mut self, change: &Change) -> Result<(), Fault> {
         match changes::apply(&mut self.conn, self.alloc, change) {
             Ok(value) => Ok(value),
-            Err(error) => Err(told(&mut self.failures, error)),
+            Err(error) => Err(fault_of(&mut self.failures, error)),
         }
     }
 }
@@ -242,7 +242,7 @@ impl<S: Alter + Drop> SqlKeeper<S> {
             Ok(conn) => conn,
             Err((error, store)) => return Err((refusal_of(error), GivenBack::Store(store))),
         };
-        match SqlKeeper::settled(alloc, conn, server, primary) {
+        match SqlKeeper::adopted(alloc, conn, server, primary) {
             Ok(keeper) => Ok(keeper),
             Err((refusal, conn)) => Err((refusal, GivenBack::Connection(conn))),
         }
@@ -307,7 +307,7 @@ impl<S: Alter> SqlKeeper<S> {
     }
 
     /// The keeper of a connection that was just opened, as `adopt` makes it.
-    pub(crate) fn settled(
+    pub(crate) fn adopted(
         alloc: Global,
         mut conn: Connection<S>,
         server: ServerId,
@@ -335,7 +335,7 @@ impl<S: Alter> SqlKeeper<S> {
             (λ e. HasCleanDisk (state S.Store e.1) → (trees : Trees) → (state S.Store e.1).may_leave trees
             → (trees ≡ (state S.Store conn).committed.trees) ⊎ IsAdopted server primary (state S.Store conn).committed.trees trees) }
     {
-        match settle(&mut conn, alloc, server, primary) {
+        match adopt_tables(&mut conn, alloc, server, primary) {
             Ok(()) => Ok(SqlKeeper::opened(alloc, conn)),
             Err(refusal) => Err((refusal, conn)),
         }

@@ -2,6 +2,6 @@
 use Rattle.std.specs.Prelude.{ℕ}
 use Rattle.mr_model.specs.Tables.{Tables}
 
-pub record Lists : Type 0 where
+pub record ListsView : Type 0 where
   pub tables : Tables
   pub failures : ℕ  -- how many calls have answered that the store failed

@@ -29,9 +29,9 @@ pub struct ListKeeper {
 }
 
 impl Model for ListKeeper {
-    ghost use Rattle.mr_store.specs.KeeperLists.{Lists};
+    ghost use Rattle.mr_store.specs.KeeperLists.{ListsView};
 
-    ghost Value = { Lists };
+    ghost Value = { ListsView };
 
     ghost view = { λ k. record { tables = k.tables; failures = k.failures } };
 }

@@ -5,7 +5,7 @@
 use crate::builders::{Ask, MONDAY, TUESDAY, add, booking, cancel, id, slot, stamp};
 use crate::same::same;
 use mr_base::{Refusal, RoomName, Write, WriteId};
-use mr_replay::{Board, Kept, Place, Standing, Trial, UndoRow};
+use mr_replay::{Board, Place, Standing, Trace, Trial, UndoRow};
 use std::alloc::Global;
 use std::mem;
 use std::process::Abort;
@@ -149,9 +149,9 @@ fn is_logged_in(trial: &Trial, (server, n): Numbers) -> Result<bool, Refusal> {
     let Some(row) = trial.row(id(server, n)?) else {
         return Ok(false);
     };
-    match &row.kept {
-        Kept::OfBooking { standing, .. } => Ok(*standing == Standing::InErrorLog),
-        Kept::OfCancel { .. } => Ok(false),
+    match &row.trace {
+        Trace::OfBooking { standing, .. } => Ok(*standing == Standing::InErrorLog),
+        Trace::OfCancel { .. } => Ok(false),
     }
 }
 
@@ -208,9 +208,9 @@ fn row_of(board: &Board, (server, n): Numbers) -> Result<(u32, Standing), Refusa
     let Some(row) = board.row(id(server, n)?) else {
         return Err(Refusal::NoSuchRequest);
     };
-    match &row.kept {
-        Kept::OfBooking { slot, standing, .. } => Ok((slot.start, *standing)),
-        Kept::OfCancel { .. } => Err(Refusal::NoSuchRequest),
+    match &row.trace {
+        Trace::OfBooking { slot, standing, .. } => Ok((slot.start, *standing)),
+        Trace::OfCancel { .. } => Err(Refusal::NoSuchRequest),
     }
 }
 
@@ -243,8 +243,8 @@ fn tells(
     let Some(row) = board.row(id(server, n)?) else {
         return Err(Refusal::NoSuchRequest);
     };
-    match &row.kept {
-        Kept::OfBooking {
+    match &row.trace {
+        Trace::OfBooking {
             slot,
             length,
             title,
@@ -255,7 +255,7 @@ fn tells(
                 && *length == minutes
                 && title.as_str() == named,
         ),
-        Kept::OfCancel { .. } => Ok(false),
+        Trace::OfCancel { .. } => Ok(false),
     }
 }
 
@@ -264,9 +264,9 @@ fn target_of(board: &Board, (server, n): Numbers) -> Result<Option<WriteId>, Ref
     let Some(row) = board.row(id(server, n)?) else {
         return Ok(None);
     };
-    match &row.kept {
-        Kept::OfBooking { .. } => Ok(None),
-        Kept::OfCancel { target } => Ok(Some(*target)),
+    match &row.trace {
+        Trace::OfBooking { .. } => Ok(None),
+        Trace::OfCancel { target } => Ok(Some(*target)),
     }
 }
 

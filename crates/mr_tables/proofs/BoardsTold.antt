@@ -24,10 +24,10 @@ use Rattle.mr_model.proofs.UniqueReplay.{some_inj, none_some}
 use Rattle.mr_base.specs.Ids.{id_cmp}
 use Rattle.mr_replay.specs.declared.rows.Standing.TheVariants.{CancelledBy, InErrorLog}
 use Rattle.mr_replay.specs.declared.rows.Standing.TheVariants as standing
-use Rattle.mr_replay.specs.declared.rows.Kept.{Kept}
-use Rattle.mr_replay.specs.declared.rows.Kept.TheVariants.{OfBooking}
+use Rattle.mr_replay.specs.declared.rows.Trace.{Trace}
+use Rattle.mr_replay.specs.declared.rows.Trace.TheVariants.{OfBooking}
 use Rattle.mr_replay.specs.declared.rows.Row.{Row}
-use Rattle.mr_replay.specs.Rows.{Rows, row_at, kept_with, kept_for, row_of}
+use Rattle.mr_replay.specs.Rows.{Rows, row_at, trace_with, trace_for, row_of}
 use Rattle.mr_replay.specs.Holds.{told_list, row_if, row_in, if_of, HoldsIn, Holds}
 use Rattle.mr_replay.proofs.Entries.{IsInOrder, row_at-put, in_order-put}
 use Rattle.mr_replay.proofs.Holding.{Holds-empty}
@@ -48,12 +48,12 @@ entry_with i (Some row) = Some (i, row)
 long : (a b : ℕ) → a + b - a ≡ b
 long a b = omega arith
 
-meeting-entry : (w : Write) (m : Meeting) (o : Option Slot) (by : Option Id) (mark : Bool) (seq : ℕ) → entry_of (booking_place_row w m o by mark seq) ≡ Some (id_of w, record { room = w.room; kept = kept_with m o by })
-meeting-entry w m None by mark seq = λ i. Some (id_of w, record { room = w.room; kept = OfBooking m.wish (long m.wish.start m.length i) m.title InErrorLog })
-meeting-entry w m (Some s) None mark seq = λ i. Some (id_of w, record { room = w.room; kept = OfBooking s (long s.start m.length i) m.title standing.Booked })
-meeting-entry w m (Some s) (Some c) mark seq = λ i. Some (id_of w, record { room = w.room; kept = OfBooking s (long s.start m.length i) m.title (CancelledBy c) })
+meeting-entry : (w : Write) (m : Meeting) (o : Option Slot) (by : Option Id) (mark : Bool) (seq : ℕ) → entry_of (booking_place_row w m o by mark seq) ≡ Some (id_of w, record { room = w.room; trace = trace_with m o by })
+meeting-entry w m None by mark seq = λ i. Some (id_of w, record { room = w.room; trace = OfBooking m.wish (long m.wish.start m.length i) m.title InErrorLog })
+meeting-entry w m (Some s) None mark seq = λ i. Some (id_of w, record { room = w.room; trace = OfBooking s (long s.start m.length i) m.title standing.Booked })
+meeting-entry w m (Some s) (Some c) mark seq = λ i. Some (id_of w, record { room = w.room; trace = OfBooking s (long s.start m.length i) m.title (CancelledBy c) })
 
-pub row-entry : (w : Write) (a : Action) (p : Place) (by : Option Id) (mark : Bool) (seq : ℕ) → entry_of (place_row_for w a p by mark seq) ≡ entry_with (id_of w) (option_map (λ k. record { room = w.room; kept = k }) (kept_for w a p by))
+pub row-entry : (w : Write) (a : Action) (p : Place) (by : Option Id) (mark : Bool) (seq : ℕ) → entry_of (place_row_for w a p by mark seq) ≡ entry_with (id_of w) (option_map (λ k. record { room = w.room; trace = k }) (trace_for w a p by))
 row-entry w (Books m) p by mark seq = meeting-entry w m (slot_at w p) by mark seq
 row-entry w (Cancels t) (Taken k) by mark seq = refl
 row-entry w (Cancels t) Logged by mark seq = refl
@@ -261,13 +261,13 @@ known_or_none i (x ∷ xs) = go (same_id (id_of x) i) refl (known_or_none i xs)
         each w (inr h) e = f w h e
 
 -- a row of a room is that room's, and of no other
-own_row : (room : Text) (w : Write) (o : Option Kept) → bytes_eq w.room room ≡ true → if_of room (option_map (λ k. record { room = w.room; kept = k }) o) ≡ option_map (λ k. record { room = w.room; kept = k }) o
+own_row : (room : Text) (w : Write) (o : Option Trace) → bytes_eq w.room room ≡ true → if_of room (option_map (λ k. record { room = w.room; trace = k }) o) ≡ option_map (λ k. record { room = w.room; trace = k }) o
 own_row room w None e = refl
-own_row room w (Some k) e = cond-true (bytes_eq w.room room) (Some (record { room = w.room; kept = k })) None e
+own_row room w (Some k) e = cond-true (bytes_eq w.room room) (Some (record { room = w.room; trace = k })) None e
 
-other_row : (room : Text) (w : Write) (o : Option Kept) → bytes_eq w.room room ≡ false → if_of room (option_map (λ k. record { room = w.room; kept = k }) o) ≡ None
+other_row : (room : Text) (w : Write) (o : Option Trace) → bytes_eq w.room room ≡ false → if_of room (option_map (λ k. record { room = w.room; trace = k }) o) ≡ None
 other_row room w None e = refl
-other_row room w (Some k) e = ap (λ c. cond c (Some (record { room = w.room; kept = k })) None) e
+other_row room w (Some k) e = ap (λ c. cond c (Some (record { room = w.room; trace = k })) None) e
 
 holds_in : (r : Replica) (room : Text) → IsReplica r → HoldsIn room (of_room room (order_of r)) (board_of (tables_of r))
 holds_in r room h i = go (known_or_none i r.known)
@@ -280,10 +280,10 @@ holds_in r room h i = go (known_or_none i r.known)
 
     in_room : (w : Write) → Has w r.known → id_of w ≡ i → (c : Bool) → bytes_eq w.room room ≡ c → if_of room (row_at board i) ≡ row_in (told_list (of_room room (order_of r))) i
     in_room w a e true c =
-        ap (if_of room) (known w a e) ∙ own_row room w (kept_for w w.action (place_of r w) (canceller_of r w)) c ∙ sym (told_known r w h a)
+        ap (if_of room) (known w a e) ∙ own_row room w (trace_for w w.action (place_of r w) (canceller_of r w)) c ∙ sym (told_known r w h a)
         ∙ (let same = room_true w room c in λ j. row_in (room_list r (same j)) (e j)) ∙ sym (row-told r room i)
     in_room w a e false c =
-        ap (if_of room) (known w a e) ∙ other_row room w (kept_for w w.action (place_of r w) (canceller_of r w)) c
+        ap (if_of room) (known w a e) ∙ other_row room w (trace_for w w.action (place_of r w) (canceller_of r w)) c
         ∙ sym (told_none r room i h (λ v b s k. true≢false (sym (room_from w room (ap (λ (x : Write). x.room) (sym (one_known r v w h b a (k ∙ sym e))) ∙ s)) ∙ c)))
         ∙ sym (row-told r room i)
 

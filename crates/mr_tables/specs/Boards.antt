@@ -7,31 +7,31 @@ use Rattle.mr_model.specs.Tables.{BookingRow, ErrorRow, CancelledRow, CancelRow,
 use Rattle.mr_model.specs.Queries.{booking_id, error_id, cancelled_id, cancel_id}
 use Rattle.mr_base.specs.Ids.{id_cmp}
 use Rattle.mr_replay.specs.declared.rows.Standing.TheVariants.{Booked, CancelledBy, InErrorLog}
-use Rattle.mr_replay.specs.declared.rows.Kept.TheVariants.{OfBooking, OfCancel}
+use Rattle.mr_replay.specs.declared.rows.Trace.TheVariants.{OfBooking, OfCancel}
 use Rattle.mr_replay.specs.declared.rows.Row.{Row}
 use Rattle.mr_replay.specs.Rows.{Rows}
 
 -- the row of the board that a row of booking tells
 abbrev pub booking_entry : BookingRow → Id × Row
 booking_entry r =
-    (booking_id r, record { room = r.room; kept = OfBooking (record { day = r.day; start = r.start }) (r.stop - r.start) r.title Booked })
+    (booking_id r, record { room = r.room; trace = OfBooking (record { day = r.day; start = r.start }) (r.stop - r.start) r.title Booked })
 
 -- one of errorlog
 abbrev pub error_entry : ErrorRow → Id × Row
 error_entry r =
-    (error_id r, record { room = r.room; kept = OfBooking (record { day = r.day; start = r.start }) (r.stop - r.start) r.title InErrorLog })
+    (error_id r, record { room = r.room; trace = OfBooking (record { day = r.day; start = r.start }) (r.stop - r.start) r.title InErrorLog })
 
 -- one of cancelled
 abbrev pub cancelled_entry : CancelledRow → Id × Row
 cancelled_entry r =
-    (cancelled_id r, record { room = r.room; kept = OfBooking (record { day = r.day; start = r.start }) (r.stop - r.start) r.title (CancelledBy r.by) })
+    (cancelled_id r, record { room = r.room; trace = OfBooking (record { day = r.day; start = r.start }) (r.stop - r.start) r.title (CancelledBy r.by) })
 
 -- and one of cancels, where the cancel found nothing to take back; one that is done stands in its target's row
 abbrev pub is_void : CancelRow → Bool
 is_void r = not r.done
 
 abbrev pub cancel_entry : CancelRow → Id × Row
-cancel_entry r = (cancel_id r, record { room = r.room; kept = OfCancel r.target })
+cancel_entry r = (cancel_id r, record { room = r.room; trace = OfCancel r.target })
 
 -- these rows put on a board, one after the other
 abbrev pub put_entries : List (Id × Row) → Rows → Rows

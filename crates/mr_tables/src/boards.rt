@@ -3,12 +3,12 @@ ghost use Rattle.std.specs.List.{AllByRecursion};
 ghost use Rattle.std.specs.BTreeMap.{insert_entry};
 ghost use Rattle.mr_base.specs.Answers.{OrOutOfMemory};
 ghost use Rattle.mr_base.specs.Ids.{id_cmp};
-ghost use Rattle.mr_replay.specs.declared.rows.Kept.TheVariants.{OfBooking};
+ghost use Rattle.mr_replay.specs.declared.rows.Trace.TheVariants.{OfBooking};
 ghost use Rattle.mr_tables.specs.Boards.{booking_entry, error_entry, cancelled_entry, cancel_entry, is_void, put_entries, board_of, AreWithin, IsRowWithin};
 
 use crate::{BookingRow, CancelRow, CancelledRow, ErrorRow, Tables};
 use mr_base::{Day, Refusal, RoomName, ServerId, Slot, Title, WriteId};
-use mr_replay::{Board, Kept, Row, Standing};
+use mr_replay::{Board, Row, Standing, Trace};
 use std::alloc::Global;
 
 /// The board that the rows of the tables tell: a row for each booking, and one for each cancel that found nothing to take back.
@@ -115,8 +115,8 @@ fn put_cancel(board: &mut Board, alloc: Global, row: &CancelRow) -> Result<(), R
 {
     let id = row.id();
     let room = row.room.copy(alloc)?;
-    let kept = Kept::OfCancel { target: row.target };
-    board.put(id, Row { room, kept })
+    let trace = Trace::OfCancel { target: row.target };
+    board.put(id, Row { room, trace })
 }
 
 /// The id and the slot of a row. Refused where one is out of the limits.
@@ -141,15 +141,15 @@ fn row_with(
     title: &Title,
     standing: Standing,
 ) -> Result<Row, Refusal>
-    ensures { OrOutOfMemory result (Ok (record { room = room.now; kept = OfBooking slot length title.now standing })) }
+    ensures { OrOutOfMemory result (Ok (record { room = room.now; trace = OfBooking slot length title.now standing })) }
 {
     let room = room.copy(alloc)?;
     let title = title.copy(alloc)?;
-    let kept = Kept::OfBooking {
+    let trace = Trace::OfBooking {
         slot,
         length,
         title,
         standing,
     };
-    Ok(Row { room, kept })
+    Ok(Row { room, trace })
 }

@@ -1,7 +1,7 @@
 use Rattle.mr_replay.specs.Rows.{undone_all}
 use Rattle.mr_replay.specs.Holds.{undo_rows_after}
 use Rattle.mr_replay.specs.declared.rows.Standing.TheVariants.{Booked}
-use Rattle.mr_replay.specs.declared.rows.Kept.TheVariants.{OfBooking}
+use Rattle.mr_replay.specs.declared.rows.Trace.TheVariants.{OfBooking}
 use Rattle.mr_replay.proofs.Holding.{undone-executed, undo_reverse, cancel_marks, Holds-executed_all, Holds-undone_all, AreNew-distinct}
 use Rattle.mr_replay.proofs.OneBoard.{one_board}
 use Rattle.mr_replay.proofs.board_law.Goals as goal
@@ -27,7 +27,7 @@ returns-clause-reverse c = undo_reverse
 
 pub returns-clause-cancels : goal.returns-clause-cancels
 returns-clause-cancels c b w target room title slot length new is done e =
-    cancel_marks b w target (record { room = room; kept = OfBooking slot length title Booked }) new is done e
+    cancel_marks b w target (record { room = room; trace = OfBooking slot length title Booked }) new is done e
 
 pub returns-clause-new : goal.returns-clause-new
 returns-clause-new c = AreNew-distinct

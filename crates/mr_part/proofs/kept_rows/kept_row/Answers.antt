@@ -1,7 +1,7 @@
 use Rattle.std.proofs.Common.{◌∙◌, sym, subst, Ok}
 use Rattle.mr_base.specs.Answers.{OrOutOfMemory}
 use Rattle.mr_part.specs.KeptRows.{kept_row_with}
-use Rattle.mr_part.specs.ToldRows.{is_of_row}
+use Rattle.mr_part.specs.WithoutChoices.{is_of_row}
 use Rattle.mr_tables.proofs.LogRows.{refused, answered}
 use Rattle.mr_part.proofs.KeptReading.{own_row}
 use Rattle.mr_part.proofs.kept_rows.kept_row.Goals as goal

@@ -3,7 +3,7 @@ use Rattle.std.proofs.lemmas.List.{length-map, map-append, take_all}
 use Rattle.mr_model.specs.View.{place_of}
 use Rattle.mr_model.specs.Tables.{kept, seq_of, log_row}
 use Rattle.mr_part.specs.KeptRows.{kept_row}
-use Rattle.mr_part.specs.ToldRows.{log_told, kept_told}
+use Rattle.mr_part.specs.WithoutChoices.{without_choices, kept_without_choices}
 use Rattle.mr_tables.proofs.LogRows.{answered, never_refused}
 use Rattle.mr_part.proofs.KeptReading.{read_at, kept_within, all_read, told_more}
 use Rattle.mr_part.proofs.kept_rows.kept_rows.Goals as goal
@@ -27,7 +27,7 @@ loop-log-preserved c =
           let one = read_at (log_row a) (kept_row a) (kept a) k x (omega arith) (c.log-item.is ∙ ap (λ rows. get_or rows k x) logs) in
           let row = answered c.in-Ok.row (kept_row a one.write) (c.in-Ok.ensures.read one.write (place_of a one.write) (seq_of a one.write) (kept_within a one.write h one.has) one.row) in
           c.in_ok-push-in-Ok.ensures.items ∙ (λ i. c.loop-log.invariant.0 a h logs i ++ row i ∷ []) ∙ sym one.more,
-      ap (map kept_told) c.in_ok-push-in-Ok.ensures.items ∙ map-append kept_told c.loop-log.rows.items (c.in-Ok.row ∷ [])
+      ap (map kept_without_choices) c.in_ok-push-in-Ok.ensures.items ∙ map-append kept_without_choices c.loop-log.rows.items (c.in-Ok.row ∷ [])
           ∙ (λ i. c.loop-log.invariant.1 i ++ c.in-Ok.ensures.told i ∷ []) ∙ sym (told_more c.args.logs.now k x test c.log-item.is),
     )
 
@@ -36,4 +36,4 @@ returns-clause-rows c = λ a h logs.
     c.loop-log.invariant.0 a h logs ∙ all_read (log_row a) (kept_row a) (kept a) c.loop-log.log-index c.args.logs.now logs c.loop-log-test.false
 
 pub returns-clause-told : goal.returns-clause-told
-returns-clause-told c = c.loop-log.invariant.1 ∙ ap (map log_told) (take_all c.loop-log.log-index c.args.logs.now c.loop-log-test.false)
+returns-clause-told c = c.loop-log.invariant.1 ∙ ap (map without_choices) (take_all c.loop-log.log-index c.args.logs.now c.loop-log-test.false)

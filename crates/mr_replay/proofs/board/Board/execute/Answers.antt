@@ -7,7 +7,7 @@ use Rattle.mr_model.proofs.UniqueReplay.{none_some}
 use Rattle.mr_base.specs.Ids.{id_cmp}
 use Rattle.mr_replay.specs.Places.{UndoRow, place_seen}
 use Rattle.mr_replay.specs.declared.rows.Row.{Row}
-use Rattle.mr_replay.specs.Rows.{Rows, kept_for, row_of, place_by_rows, target_of, marked_by, with_row, executed_at, undo_row_at}
+use Rattle.mr_replay.specs.Rows.{Rows, trace_for, row_of, place_by_rows, target_of, marked_by, with_row, executed_at, undo_row_at}
 use Rattle.mr_replay.specs.Holds.{Holds}
 use Rattle.mr_replay.proofs.Holding.{Holds-executed}
 use Rattle.mr_replay.proofs.board.Board.execute.Goals as goal
@@ -17,8 +17,8 @@ use Rattle.mr_replay.proofs.board.Board.execute.Goals.{in-Some+in_ok-put-in-Some
 executed-row : (b : Rows) (w : Write) (p : Place) (row : Row) → row_of w p None ≡ Some row → executed_at b w p ≡ insert_entry id_cmp b (id_of w) row
 executed-row b w p row is = go w.action p is
   where
-    go : (a : Action) (p : Place) → option_map (λ k. record { room = w.room; kept = k }) (kept_for w a p None) ≡ Some row
-        → with_row (id_of w) (option_map (λ k. record { room = w.room; kept = k }) (kept_for w a p None)) (marked_by (id_of w) p (target_of a) b) ≡ insert_entry id_cmp b (id_of w) row
+    go : (a : Action) (p : Place) → option_map (λ k. record { room = w.room; trace = k }) (trace_for w a p None) ≡ Some row
+        → with_row (id_of w) (option_map (λ k. record { room = w.room; trace = k }) (trace_for w a p None)) (marked_by (id_of w) p (target_of a) b) ≡ insert_entry id_cmp b (id_of w) row
     go (Books m) (Taken k) e = ap (λ o. with_row (id_of w) o b) e
     go (Books m) Logged e = ap (λ o. with_row (id_of w) o b) e
     go (Books m) Done e = ap (λ o. with_row (id_of w) o b) e

@@ -6,7 +6,7 @@ use Rattle.mr_model.specs.Writes.{Id}
 use Rattle.mr_replay.specs.Rows.{Rows, row_at}
 use Rattle.mr_replay.specs.Index.{IsIndexed}
 use Rattle.mr_replay.proofs.IdKeys.{at_is}
-use Rattle.mr_replay.proofs.Indexed.{IsIndexed-put, IsIndexed-absent, IsIndexed-grown, KeepsOthers-grown, Forgets-others, Forgets-kept}
+use Rattle.mr_replay.proofs.Indexed.{IsIndexed-put, IsIndexed-absent, IsIndexed-grown, KeepsOthers-grown, Forgets-others, Forgets-stays}
 use Rattle.mr_replay.proofs.board.Board.put.Goals as goal
 
 pub invariant_of-self : goal.invariant_of-self
@@ -23,8 +23,8 @@ invariant_of-self-in-Ok-Some c =
     let more = KeepsOthers-grown c.self.inside.index c.note.new.index c.args.id c.note.ensures.grows in
     subst (λ (rows : Rows). IsIndexed rows c.forget.new.index) (sym c.in-Ok-Some.ensures.entries)
     (IsIndexed-put c.self.inside.rows.entries c.self.inside.index c.forget.new.index c.args.id c.args.row c.self.invariant
-    (Forgets-kept c.note.new.index c.forget.new.index c.key_if_taken-gone.result c.key_if_taken-kept.result c.args.id c.args.row c.key_if_taken-kept.ensures c.forget.ensures c.in_ok-note.ensures.noted)
-    (λ j r apart noted. Forgets-others c.note.new.index c.forget.new.index c.key_if_taken-gone.result c.key_if_taken-kept.result c.args.id c.in-Ok-Some.replaced c.key_if_taken-gone.ensures c.forget.ensures j r apart (more j r apart noted)))
+    (Forgets-stays c.note.new.index c.forget.new.index c.key_if_taken-gone.result c.key_if_taken-stays.result c.args.id c.args.row c.key_if_taken-stays.ensures c.forget.ensures c.in_ok-note.ensures.noted)
+    (λ j r apart noted. Forgets-others c.note.new.index c.forget.new.index c.key_if_taken-gone.result c.key_if_taken-stays.result c.args.id c.in-Ok-Some.replaced c.key_if_taken-gone.ensures c.forget.ensures j r apart (more j r apart noted)))
 
 pub invariant_of-self-in-Err : goal.invariant_of-self-in-Err
 invariant_of-self-in-Err c =

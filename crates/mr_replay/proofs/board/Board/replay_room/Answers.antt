@@ -1,17 +1,17 @@
 use Rattle.std.proofs.Common.{◌≡◌, ◌∙◌, ◌++◌, IfOk, ap, sym, subst}
 use Rattle.mr_replay.specs.Rows.{Rows, row_at, undo_rows_of, executed_all, undone_all}
 use Rattle.mr_replay.specs.Holds.{HoldsEach, if_of, with_list}
-use Rattle.mr_replay.specs.Trials.{Tried}
+use Rattle.mr_replay.specs.Trials.{TriedView}
 use Rattle.mr_replay.proofs.Hiding.{on_ok, on_err}
 use Rattle.mr_replay.proofs.Holding.{HoldsEach-replayed, others-replayed}
 use Rattle.mr_replay.proofs.board.Board.replay_room.Goals as goal
 
 -- the trial begins with the board
 start : (c : goal.After-drop-self-2) → c.new-trial.result.rows ≡ c.args.self.now
-start c = ap (λ (t : Tried). t.rows) c.new-trial.ensures ∙ c.taken.ensures
+start c = ap (λ (t : TriedView). t.rows) c.new-trial.ensures ∙ c.taken.ensures
 
 begun : (c : goal.After-drop-self-2) → c.new-trial.result.before ≡ c.args.self.now
-begun c = ap (λ (t : Tried). t.before) c.new-trial.ensures ∙ c.taken.ensures
+begun c = ap (λ (t : TriedView). t.before) c.new-trial.ensures ∙ c.taken.ensures
 
 -- once the replay succeeded, the room's writes are undone and others executed
 done : (c : goal.After-drop-self-2) → c.replay-rows.new.self.rows ≡ executed_all (undone_all c.new-trial.result.rows c.args.undone.now) c.args.again.now → c.keep.result ≡ executed_all (undone_all c.args.self.now c.args.undone.now) c.args.again.now
@@ -35,4 +35,4 @@ returns-clause-others c = on_ok c.replay-rows.result (λ h. λ lists front tail 
     ∙ others-replayed lists c.args.room.now front tail c.args.self.now c.args.undone.now c.args.again.now can other apart id) c.replay-rows.ensures.board
 
 pub returns-clause-err : goal.returns-clause-err
-returns-clause-err c = on_err c.replay-rows.result (λ (h : _). c.keep.ensures ∙ ap (λ (t : Tried). t.rows) h ∙ begun c) c.replay-rows.ensures.err
+returns-clause-err c = on_err c.replay-rows.result (λ (h : _). c.keep.ensures ∙ ap (λ (t : TriedView). t.rows) h ∙ begun c) c.replay-rows.ensures.err

@@ -4,27 +4,27 @@ use Rattle.sqlite.specs.Files.{file_state}
 use Rattle.mr_sql.specs.Found.{StaysAs}
 use Rattle.mr_sql.proofs.files.SqlKeeper+FileStore+SparingFile+B.init_from.Goals as goal
 
-pub returns-in-Ok-settled-clause-opened : goal.returns-in-Ok-settled-clause-opened
-returns-in-Ok-settled-clause-opened g c clean now =
-    ((file_state c.in-Ok.conn).committed.trees, c.in-Ok.ensures.found (c.in-Ok-settled.ensures.clean clean), c.in-Ok-settled.ensures.adopted clean now)
+pub returns-in-Ok-adopted-clause-opened : goal.returns-in-Ok-adopted-clause-opened
+returns-in-Ok-adopted-clause-opened g c clean now =
+    ((file_state c.in-Ok.conn).committed.trees, c.in-Ok.ensures.found (c.in-Ok-adopted.ensures.clean clean), c.in-Ok-adopted.ensures.adopted clean now)
 
-pub returns-in-Err-settled-clause-strange : goal.returns-in-Err-settled-clause-strange
-returns-in-Err-settled-clause-strange g c is = (
-  c.in-Err-settled.conn,
+pub returns-in-Err-adopted-clause-strange : goal.returns-in-Err-adopted-clause-strange
+returns-in-Err-adopted-clause-strange g c is = (
+  c.in-Err-adopted.conn,
   refl,
-  λ clean. ((file_state c.in-Ok.conn).committed.trees, c.in-Ok.ensures.found (c.in-Err-settled.ensures.was_clean clean), c.in-Err-settled.ensures.strange clean is),
+  λ clean. ((file_state c.in-Ok.conn).committed.trees, c.in-Ok.ensures.found (c.in-Err-adopted.ensures.was_clean clean), c.in-Err-adopted.ensures.strange clean is),
 )
 
-pub returns-in-Err-settled-clause-stays : goal.returns-in-Err-settled-clause-stays
-returns-in-Err-settled-clause-stays g c other given clean now =
-    let same : c.in-Err-settled.conn ≡ other = cc in
+pub returns-in-Err-adopted-clause-stays : goal.returns-in-Err-adopted-clause-stays
+returns-in-Err-adopted-clause-stays g c other given clean now =
+    let same : c.in-Err-adopted.conn ≡ other = cc in
     let trees = (file_state c.in-Ok.conn).committed.trees in
-    let early : HasCleanDisk (file_state c.in-Err-settled.conn) = subst (λ h. HasCleanDisk (file_state h)) (sym same) clean in
-    let opened : IsTrue (file_state c.in-Err-settled.conn).is_open = subst (λ h. IsTrue (file_state h).is_open) (sym same) now in
-    (trees, c.in-Ok.ensures.found (c.in-Err-settled.ensures.was_clean early), subst (λ h. StaysAs trees (file_state h)) same (c.in-Err-settled.ensures.stays early opened))
+    let early : HasCleanDisk (file_state c.in-Err-adopted.conn) = subst (λ h. HasCleanDisk (file_state h)) (sym same) clean in
+    let opened : IsTrue (file_state c.in-Err-adopted.conn).is_open = subst (λ h. IsTrue (file_state h).is_open) (sym same) now in
+    (trees, c.in-Ok.ensures.found (c.in-Err-adopted.ensures.was_clean early), subst (λ h. StaysAs trees (file_state h)) same (c.in-Err-adopted.ensures.stays early opened))
 
-pub returns-in-Err-settled-clause-crash : goal.returns-in-Err-settled-clause-crash
-returns-in-Err-settled-clause-crash g c other given clean =
-    let same : c.in-Err-settled.conn ≡ other = cc in
-    let early : HasCleanDisk (file_state c.in-Err-settled.conn) = subst (λ h. HasCleanDisk (file_state h)) (sym same) clean in
-    ((file_state c.in-Ok.conn).committed.trees, c.in-Ok.ensures.found (c.in-Err-settled.ensures.was_clean early), λ trees left. c.in-Err-settled.ensures.crash early trees (subst (λ h. (file_state h).may_leave trees) (sym same) left))
+pub returns-in-Err-adopted-clause-crash : goal.returns-in-Err-adopted-clause-crash
+returns-in-Err-adopted-clause-crash g c other given clean =
+    let same : c.in-Err-adopted.conn ≡ other = cc in
+    let early : HasCleanDisk (file_state c.in-Err-adopted.conn) = subst (λ h. HasCleanDisk (file_state h)) (sym same) clean in
+    ((file_state c.in-Ok.conn).committed.trees, c.in-Ok.ensures.found (c.in-Err-adopted.ensures.was_clean early), λ trees left. c.in-Err-adopted.ensures.crash early trees (subst (λ h. (file_state h).may_leave trees) (sym same) left))

@@ -5,16 +5,16 @@ use Rattle.mr_model.specs.Tables.{ActionCells, OfMeeting, OfCancel, LogRow, log_
 use Rattle.mr_part.specs.declared.kept_rows.KeptRow.{KeptRow}
 
 -- cells without the text of the choices, which other texts may tell too
-abbrev pub told_cells : ActionCells → ActionCells
-told_cells (OfMeeting cells) = OfMeeting (record { length = cells.length; choices = []; title = cells.title })
-told_cells (OfCancel target) = OfCancel target
+abbrev pub cells_without_choices : ActionCells → ActionCells
+cells_without_choices (OfMeeting cells) = OfMeeting (record { length = cells.length; choices = []; title = cells.title })
+cells_without_choices (OfCancel target) = OfCancel target
 
 -- what a row of log tells but for that text, and the same of the row of a kept row
-abbrev pub log_told : LogRow → LogRow
-log_told row = record row { action = told_cells row.action }
+abbrev pub without_choices : LogRow → LogRow
+without_choices row = record row { action = cells_without_choices row.action }
 
-abbrev pub kept_told : KeptRow → LogRow
-kept_told row = log_told (log_row_with row.write row.undo.place row.seq)
+abbrev pub kept_without_choices : KeptRow → LogRow
+kept_without_choices row = without_choices (log_row_with row.write row.undo.place row.seq)
 
 -- whether the write tells these cells but for that text
 abbrev pub is_of_cells : Action → ActionCells → Bool

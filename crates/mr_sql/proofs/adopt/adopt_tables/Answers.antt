@@ -2,7 +2,7 @@ use Rattle.std.proofs.Common.{inl, inr, refl}
 use Rattle.sqlite.specs.Held.{state}
 use Rattle.mr_rows.specs.Schema.{no_schema, our_schema}
 use Rattle.mr_sql.proofs.TakenLemmas.{err_all, failed_of, sound_as}
-use Rattle.mr_sql.proofs.adopt.settle.Goals as goal
+use Rattle.mr_sql.proofs.adopt.adopt_tables.Goals as goal
 
 pub returns-then-is_blank-clause-store : goal.returns-then-is_blank-clause-store
 returns-then-is_blank-clause-store g c trees clean taken =
@@ -12,11 +12,11 @@ pub returns-then-is_ours-clause-store : goal.returns-then-is_ours-clause-store
 returns-then-is_ours-clause-store g c trees clean taken =
     err_all c.resume.result _ (λ e is. inr (inl (sound_as trees (state g.S.Store c.args.conn.now) our_schema taken (c.if-is_ours.ensures.same refl))))
 
-pub settle_first-requires-clause-filled : goal.settle_first-requires-clause-filled
-settle_first-requires-clause-filled g c = c.if-is_blank.ensures.other refl
+pub adopt_first_tables-requires-clause-filled : goal.adopt_first_tables-requires-clause-filled
+adopt_first_tables-requires-clause-filled g c = c.if-is_blank.ensures.other refl
 
-pub settle_first-requires-clause-others : goal.settle_first-requires-clause-others
-settle_first-requires-clause-others g c = c.if-is_ours.ensures.other refl
+pub adopt_first_tables-requires-clause-others : goal.adopt_first_tables-requires-clause-others
+adopt_first_tables-requires-clause-others g c = c.if-is_ours.ensures.other refl
 
 pub returns-clause-store : goal.returns-clause-store
-returns-clause-store g c trees clean taken = failed_of c.settle_first.result _ _ (λ e known is. inr (known is)) (c.settle_first.ensures.store trees clean taken)
+returns-clause-store g c trees clean taken = failed_of c.adopt_first_tables.result _ _ (λ e known is. inr (known is)) (c.adopt_first_tables.ensures.store trees clean taken)

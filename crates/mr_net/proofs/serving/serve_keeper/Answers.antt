@@ -1,5 +1,5 @@
 use Rattle.mr_net.proofs.ServingLaws.{ends_serving, served_as}
-use Rattle.mr_net.proofs.serving.serve_kept.Goals as goal
+use Rattle.mr_net.proofs.serving.serve_keeper.Goals as goal
 
 pub returns-clause-serves : goal.returns-clause-serves
 returns-clause-serves g c =

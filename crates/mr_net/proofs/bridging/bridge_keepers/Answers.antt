@@ -1,5 +1,5 @@
 use Rattle.mr_net.proofs.ExchangeLaws.{bridged_as}
-use Rattle.mr_net.proofs.bridging.bridge_kept.Goals as goal
+use Rattle.mr_net.proofs.bridging.bridge_keepers.Goals as goal
 
 pub returns-clause-runs : goal.returns-clause-runs
 returns-clause-runs g c =

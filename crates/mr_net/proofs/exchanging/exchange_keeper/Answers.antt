@@ -1,5 +1,5 @@
 use Rattle.mr_net.proofs.ExchangeLaws.{exchanged_as}
-use Rattle.mr_net.proofs.exchanging.exchange_kept.Goals as goal
+use Rattle.mr_net.proofs.exchanging.exchange_keeper.Goals as goal
 
 pub returns-clause-runs : goal.returns-clause-runs
 returns-clause-runs g c =

@@ -3,7 +3,7 @@ use Rattle.sqlite.specs.Held.{state}
 use Rattle.mr_rows.specs.Schema.{no_schema, first_schema, our_schema}
 use Rattle.mr_rows.proofs.QueryLemmas.{survives_itself}
 use Rattle.mr_sql.proofs.TakenLemmas.{err_all, of_schema, sound_as}
-use Rattle.mr_sql.proofs.first.settle_first.Goals as goal
+use Rattle.mr_sql.proofs.first.adopt_first_tables.Goals as goal
 
 pub returns-then-is_first-clause-store : goal.returns-then-is_first-clause-store
 returns-then-is_first-clause-store g c trees clean taken =

@@ -8,7 +8,7 @@ use Rattle.mr_part.specs.ScopeOf.{scope_of}
 use Rattle.mr_tables.specs.Summary.{IsWithin}
 use Rattle.mr_tables.proofs.CountLimits.{numbers_within}
 use Rattle.mr_part.proofs.PartScopes.{same_meta, same_vector, same_room, tested_within, board_told}
-use Rattle.mr_part.proofs.part_from.part_told.Goals as goal
+use Rattle.mr_part.proofs.part_from.part_of_rows.Goals as goal
 
 pub returns-then-not-is_within-clause-only : goal.returns-then-not-is_within-clause-only
 returns-then-not-is_within-clause-only c = λ a h e.
