@@ -1,9 +1,5 @@
-//! Tables whose rows agree with each other: what each row of the tables tells again that others tell, and the law that tables which
-//! stand for a replica agree. No program code.
-//!
-//! It stands on `mr_model` alone; `mr_audit`, above it, tests what it defines. specs/Agreeing.antt has the definition, a `Bool` over
-//! all tables in thirteen parts, each of them computed. proofs/ has a file for each part or two of them, and AgreeRows: examples worked
-//! by hand, of which each that is turned in one value fails a part.
+//! Tables whose rows agree with each other: a definition, and the law that tables which stand for a replica agree. No program code.
+//! It stands on `mr_model` alone; `mr_audit`, above it, tests what it defines. README.md says what is where.
 #![tactic(auto)]
 
 ghost use Rattle.mr_agree.specs.Agreeing.{StandingTablesAgree};

@@ -75,6 +75,7 @@ impl Batch {
         requires { IsTrue (list_all (is_item (version_of version)) (map item_of items.items)) }
         ensures { result ≡ batch_seen version (Some header) items.items ending }
     {
+        // For the prover alone: servers are from 1 to 99.
         header.from.number();
         header.primary.number();
         Batch {
@@ -130,10 +131,12 @@ fn is_in_version(version: Version, item: &Item) -> bool
 {
     match item {
         Item::W(write) => {
+            // For the prover alone: the write is within its limits.
             write.is_within_limits();
             write.is_in_version(version)
         }
         Item::C { seq, id } => {
+            // For the prover alone: the commit number is within its limits.
             seq.number();
             let _count = id.n;
             true

@@ -22,7 +22,7 @@ impl Model for CommitNumber {
 }
 
 impl CommitNumber {
-    /// The commit of this number, where it is in range.
+    /// The commit of this number, if it is in range.
     pub fn new(number: u64) -> Option<CommitNumber>
         ensures { result ≡ only_if (is_commit_number number) number }
     {
@@ -33,7 +33,6 @@ impl CommitNumber {
         }
     }
 
-    /// Its number.
     pub fn number(self) -> u64
         ensures value { result ≡ self }
         ensures in_range { IsTrue (is_commit_number result) }

@@ -58,7 +58,6 @@ impl Day {
         self.day
     }
 
-    /// The weekday.
     pub fn weekday(&self) -> Weekday
         ensures { monday_zero result ≡ weekday_of self.now }
     {

@@ -1,7 +1,5 @@
-//! The base types: days, slots, names, stamps, writes, batches, positions and refusals, each within its limits. It
-//! stands on the definitions of `mr_model`, whose records are the values that contracts see of these types, and all
-//! other crates but `mr_disk` stand on it. The contract of a constructor is that it gives a value exactly within the
-//! limits; the files of `specs` say how the program's refusals, items and words are those of the definitions.
+//! The base types: days, slots, names, stamps, writes, batches, positions and refusals, each within its limits.
+//! It stands on `mr_model`; all other crates but `mr_disk` stand on it. README.md has lines of use, and what is proved.
 #![tactic(auto)]
 
 mod actions;

@@ -22,7 +22,7 @@ impl Model for LineCount {
 }
 
 impl LineCount {
-    /// That many lines, where the number is in range.
+    /// That many lines, if the number is in range.
     pub fn new(number: u32) -> Option<LineCount>
         ensures { result ≡ only_if (is_line_count number) number }
     {

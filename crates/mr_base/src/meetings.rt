@@ -38,7 +38,7 @@ impl Model for Meeting {
 }
 
 impl Meeting {
-    /// The meeting, where the length and the choices are within the limits; else the smallest refusal that applies.
+    /// The meeting, if the length and the choices are within the limits; else the smallest refusal that applies.
     pub fn new(
         title: Title,
         length: u32,
@@ -58,6 +58,7 @@ impl Meeting {
         if are_too_many(alternatives.as_slice()) {
             return Err(Refusal::TooManyAlternatives);
         }
+        // For the prover alone: the title is within its limits.
         title.as_str();
         Ok(Meeting {
             title,

@@ -4,7 +4,7 @@ ghost use Rattle.std.specs.Char.{is_ascii_digit};
 ghost use Rattle.mr_model.specs.Texts.{number_in};
 ghost use Rattle.mr_base.specs.Readings.{number_from_to, number_by_digits, is_number};
 
-/// The number that the text writes in decimal without a sign or leading zeros, where it is from `low` to `high`.
+/// The number that the text writes in decimal without a sign or leading zeros, if it is from `low` to `high`.
 pub fn read_number(text: &str, low: u64, high: u64) -> Option<u64>
     ensures value { result ≡ number_from_to low high text.now }
     ensures written { IfSome result (λ n. text.now ≡ decimal n) }

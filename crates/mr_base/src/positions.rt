@@ -41,7 +41,7 @@ impl Model for Position {
 }
 
 impl Position {
-    /// The position, where the number of commits and the counts are within the limits and the servers rise.
+    /// The position, if the number of commits and the counts are within the limits and the servers rise.
     pub fn new(
         version: Version,
         server: ServerId,
@@ -57,6 +57,7 @@ impl Position {
           counts = counts_of_pairs counts.items;
         } in result ≡ only_if (is_position p) p }
     {
+        // For the prover alone: servers are from 1 to 99.
         server.number();
         primary.number();
         if commits > GREATEST_COMMIT
@@ -86,6 +87,7 @@ fn counts_are_within_limits(counts: &[(ServerId, u32)]) -> bool
     ensures { result ≡ list_all (λ c. is_server c.server && is_count c.count) (counts_of_pairs counts.now) }
 {
     for (server, n) in counts {
+        // For the prover alone: a server is from 1 to 99.
         server.number();
         if *n < 1 || *n > GREATEST_COUNT {
             return false;

@@ -108,7 +108,7 @@ impl Refusal {
         }
     }
 
-    /// The line of a batch that it is about, where it is about one.
+    /// The line of a batch that it is about, if it is about one.
     pub fn line(&self) -> Option<u64>
         ensures { result ≡ line_of (refusal_of self.now) }
     {

@@ -24,7 +24,7 @@ impl Model for Request {
 }
 
 impl Request {
-    /// The request, where the length and the choices are within the limits; else the smallest refusal that applies.
+    /// The request, if the length and the choices are within the limits; else the smallest refusal that applies.
     pub fn new(
         room: RoomName,
         title: Title,
@@ -47,6 +47,7 @@ impl Request {
     pub fn of_meeting(room: RoomName, meeting: Meeting) -> Request
         ensures { result ≡ record { room = room; meeting = meeting } }
     {
+        // For the prover alone: all of these are within their limits.
         room.as_str();
         meeting.is_within_limits();
         Request { room, meeting }

@@ -50,7 +50,6 @@ impl RoomName {
         Ok(RoomName { text })
     }
 
-    /// Its text.
     pub fn as_str(&self) -> &str
         ensures text { result.now ≡ self.now }
         ensures is_name { IsTrue (is_room_name self.now) }

@@ -24,10 +24,11 @@ impl Model for Slot {
 }
 
 impl Slot {
-    /// The slot of that day which starts at that minute of it; refused where the day has no such minute.
+    /// The slot of that day which starts at that minute of it; refused if the day has no such minute.
     pub fn new(day: Day, start: u32) -> Result<Slot, Refusal>
         ensures { result ≡ ok_if (nat_le start 1439) (record { day = day; start = start }) Refusal.BadTime }
     {
+        // For the prover alone: the day is within the calendar.
         day.is_within_calendar();
         if start < MINUTES_OF_A_DAY {
             Ok(Slot { day, start })

@@ -34,7 +34,6 @@ impl ServerId {
         }
     }
 
-    /// Its number.
     pub fn number(self) -> u32
         ensures value { result ≡ self }
         ensures in_range { IsTrue (is_server result) }
@@ -72,10 +71,11 @@ impl Model for WriteId {
 }
 
 impl WriteId {
-    /// The identity with these parts, where the count is in range.
+    /// The identity with these parts, if the count is in range.
     pub fn new(server: ServerId, n: u32) -> Option<WriteId>
         ensures { result ≡ only_if (is_count n) (record { server = server; n = n }) }
     {
+        // For the prover alone: a server is from 1 to 99.
         server.number();
         if n >= 1 && n <= GREATEST_COUNT {
             Some(WriteId { server, n })
@@ -113,7 +113,7 @@ impl Model for Stamp {
 }
 
 impl Stamp {
-    /// The stamp of this write at this time, where the time is in range.
+    /// The stamp of this write at this time, if the time is in range.
     pub fn new(id: WriteId, time: u64) -> Option<Stamp>
         ensures { result ≡ only_if (is_time time) (record { server = id.server; n = id.n; time = time }) }
     {

@@ -46,7 +46,6 @@ impl Title {
         Ok(Title { text })
     }
 
-    /// Its text.
     pub fn as_str(&self) -> &str
         ensures text { result.now ≡ self.now }
         ensures is_title { IsTrue (is_title self.now) }

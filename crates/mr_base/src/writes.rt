@@ -48,7 +48,7 @@ impl Write {
         }
     }
 
-    /// The booking, where the length and the choices are within the limits; else the smallest refusal that applies.
+    /// The booking, if the length and the choices are within the limits; else the smallest refusal that applies.
     pub fn new(
         stamp: Stamp,
         room: RoomName,
@@ -73,6 +73,7 @@ impl Write {
     pub fn cancel(stamp: Stamp, room: RoomName, target: WriteId) -> Write
         ensures { result ≡ record { stamp = stamp; room = room; action = Cancels target } }
     {
+        // For the prover alone: the room is within its limits.
         room.as_str();
         let Stamp { server, n, time } = stamp;
         let _count = target.n;

@@ -48,7 +48,7 @@ fn disk_of(alloc: Global, bytes: &[u8]) -> Result<Memory, AllocError>
 
 /// Reads the database file at this path and its log, under shared locks of the bytes that `open` locks for itself alone. A log that is
 /// missing is empty. It makes no file, writes to none, and needs the right to read alone; in all else it refuses what `open` refuses.
-/// Where SQLite's index of the log lies beside the log there is no copy: a program that uses it writes the log under other locks.
+/// If SQLite's index of the log lies beside the log there is no copy: a program that uses it writes the log under other locks.
 pub fn copy_of(rt: &HostRuntime, path: &str) -> Result<Option<Copied>, OpenError> {
     // As for `open`, the files lie where a link leads, and no link is followed after that.
     let real = fs::canonicalize(rt, path)?;
@@ -90,8 +90,8 @@ fn open_shared(rt: &HostRuntime, path: &str) -> Result<File, OpenError> {
     }
 }
 
-/// The bytes of the log. Where it has a frame, it may be that of a program that was killed before it synced: so it is synced first, since
-/// what is told of it has to outlast a crash of the machine.
+/// The bytes of the log. If it has a frame, it may be that of a program that was killed before it synced: so it is synced first, since
+/// what is shown of it has to outlast a crash of the machine.
 fn read_log(rt: &HostRuntime, path: &str) -> Result<Vec<u8>, OpenError> {
     if !is_there(rt, path)? {
         return Ok(Vec::new(rt.alloc()));
@@ -104,7 +104,7 @@ fn read_log(rt: &HostRuntime, path: &str) -> Result<Vec<u8>, OpenError> {
     Ok(bytes)
 }
 
-/// Whether a first frame has the salt of the log's header. Where it has another one, the log was copied into the database file, which was
+/// Whether a first frame has the salt of the log's header. If it has another one, the log was copied into the database file, which was
 /// synced before the header was written.
 fn has_frame(log: &File) -> io::Result<bool> {
     let mut head = [0; 48];

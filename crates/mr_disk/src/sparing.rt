@@ -4,7 +4,7 @@ ghost use Rattle.sqlite_disk.specs.Disk.{Only};
 use sqlite_disk::{Disk, Tally};
 use std::io;
 
-/// A disk that passes each call on to the one below it, but for a sync where nothing was written since the last one: a crash leaves
+/// A disk that passes each call on to the one below it, and leaves a sync out if nothing was written since the last one: a crash leaves
 /// what is there and nothing else, as it did before.
 #[derive(Drop)]
 pub struct Sparing<D: Disk> {

@@ -37,7 +37,7 @@ pub enum WebFault {
     /// A read failed. No command was run.
     #[error("a read failed")]
     Read,
-    /// A write failed. A front of the bytes went out, and a command that was served stands.
+    /// A write failed. A prefix of the bytes went out, and a command that was served stands.
     #[error("a write failed")]
     Write,
     /// There was no room for the bytes, or for what was read of them.

@@ -7,8 +7,8 @@ ghost use Rattle.mr_http.specs.Lengths.{LengthsAre};
 
 use httparse::Header;
 
-/// How many bytes the body behind a head with these fields has; none where the fields are at fault: with a transfer encoding,
-/// or with a stated length that isn't one alone of 1 to 10 digits. Where no length is needed, none stated is 0, and no other
+/// How many bytes the body behind a head with these fields has; none if the fields are at fault: with a transfer encoding,
+/// or with a stated length that isn't one alone of 1 to 10 digits. If no length is needed, none stated is 0, and no other
 /// than 0 may be stated.
 pub fn body_length(needs_length: bool, fields: &[Header<'_>]) -> Option<u64>
     ensures { result ≡ model.body_length needs_length (header_fields fields.now) }

@@ -33,7 +33,7 @@ enum Look {
     Never,
 }
 
-/// Reads until the head of a request is there, and answers how long it is; none where the input has none within the limits.
+/// Reads until the head of a request is there, and answers how long it is; none if the input has none within the limits.
 /// The buffer then has all that was read, which may go on behind the head: reads ask for at most 512 bytes, and for more only while a
 /// head may still come.
 pub fn read_request_head<R: Read>(

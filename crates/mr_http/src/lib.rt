@@ -1,10 +1,5 @@
-//! What a server and a client of HTTP share, over any reader and writer: heads that come in pieces of any size, the length of
-//! a body, a body read to its end, and bytes written. It keeps nothing between two calls.
-//!
-//! Below stand `httparse`, whose grammar says what a head is, and the definitions of `mr_model`, which say how long a body is;
-//! the serving of requests and the asking of peers stand above. The contracts speak of all that a reader gives up to its end,
-//! and of all that a writer was given, where these are known, as they are over memory; of any reader they speak of the bytes that
-//! were read.
+//! What a server and a client of HTTP share, over any reader and writer: heads, the length of a body, a body read to its end, bytes written.
+//! It stands on `httparse`; `mr_web` and `mr_peer` stand above. README.md has lines of use, and what is proved.
 #![tactic(auto)]
 
 mod bodies;

@@ -5,7 +5,7 @@ ghost use Rattle.mr_http.specs.declared.faults.WebFault.TheVariants.{Write as fa
 use crate::faults::WebFault;
 use std::io::Write;
 
-/// Writes all of the bytes, or a front of them where a write fails, which is the only fault.
+/// Writes all of the bytes, or a prefix of them if a write fails, which is the only fault.
 pub fn send<W: Write>(writer: &mut W, bytes: &[u8]) -> Result<(), WebFault>
     ensures ok { OnOk result (Appends (W.contents writer.old) (W.contents writer.new) bytes.now) }
     ensures front { (n : ℕ) × (n ≤ length bytes.now) × Appends (W.contents writer.old) (W.contents writer.new) (take n bytes.now) }

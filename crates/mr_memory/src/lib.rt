@@ -1,6 +1,5 @@
-//! Lists of commands to a replica whose tables lie in SQLite in memory, for programs of others. Below stand `mr_service`, which asks a replica
-//! over any keeper, and `mr_sql`, whose keeper this is; the program itself asks one command at a time, and keeps its tables in files. The
-//! contract of `run_in_memory` is the headline with no premise.
+//! Lists of commands to a replica whose tables lie in SQLite in memory, for programs of others. The contract is the headline with no premise.
+//! It stands on `mr_service` and `mr_sql`; the program doesn't use it. README.md has lines of use.
 #![tactic(auto)]
 
 mod memory;

@@ -11,7 +11,7 @@ use mr_service::{Command, Reply, Service, run};
 use mr_sql::{SqlKeeper, memory_is_honest};
 use std::alloc::Global;
 
-/// Asks each command in turn of a new replica of this server, and lists the replies. It is refused where memory is wanting for
+/// Asks each command in turn of a new replica of this server, and lists the replies. It is refused if there is no memory for
 /// the tables or for the list of replies, before the first command.
 pub fn run_in_memory(
     alloc: Global,

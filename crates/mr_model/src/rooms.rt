@@ -24,14 +24,14 @@ pub fn same_write_is_tested()
     ensures { SameWriteIsTested }
 {}
 
-/// A list of writes has one replay, and a front of it a front of that; so committed writes have the places of their own replay.
+/// A list of writes has one replay, and a prefix of it a prefix of that; so committed writes have the places of their own replay.
 pub fn replay_law()
     ensures one { OneReplay }
     ensures fronts { FrontsReplayToFronts }
     ensures committed { CommittedPlacesStandAlone }
 {}
 
-/// The bookings that stand at the end of a list are what is told of it as booked and not cancelled.
+/// The bookings that stand at the end of a list are those that it tells as booked and not cancelled.
 pub fn standing_law()
     ensures booked { StandingIsBooked }
     ensures told { StandingIsTold }

@@ -1,11 +1,5 @@
-//! The client's half of exchanges over HTTP: asking a peer for its position or for a batch, handing it a batch, and taking its
-//! replies, over any reader and writer.
-//!
-//! Below stand the service (`mr_service`), the exchange texts (`mr_wire`) and the parts that it shares with the server
-//! (`mr_http`); the program stands above. Each `_ask` writes one request, with this replica's position or batch in its body,
-//! and nothing else; each `_take` reads one reply to its end and answers what it tells. The contracts say so of all that the
-//! writer was given and of all that the reader gives, for every replica that the tables of the service stand for. Of a reader that
-//! doesn't tell its bytes, as a socket doesn't, they say so for some reply.
+//! The client's half of exchanges over HTTP, over any reader and writer: what a peer is asked or handed, and its replies.
+//! It stands on `mr_service`, `mr_wire` and `mr_http`; `mr_net` stands above. README.md has lines of use, and what is proved.
 #![tactic(auto)]
 
 mod asking;

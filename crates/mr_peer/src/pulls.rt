@@ -24,7 +24,7 @@ use mr_wire::{read_batch, write_position};
 use std::alloc::Global;
 use std::io::{Read, Write};
 
-/// Asks a peer for what this replica lacks, telling its position, which is of the second version.
+/// Asks a peer for what this replica lacks, with its position, which is of the second version.
 pub fn pull_ask<K: Keeper, W: Write>(
     alloc: Global,
     service: &mut Service<K>,
@@ -170,7 +170,7 @@ fn counts_in(reply: &Reply) -> Result<(u64, u64), WebFault>
     }
 }
 
-// The ending of the batch that the bytes read as; the refusal where they read as none.
+// The ending of the batch that the bytes read as; the refusal if they read as none.
 fn ending_in(alloc: Global, bytes: &[u8]) -> Result<Ending, WebFault>
     ensures { EndsAsBatch bytes.now result }
 {

@@ -28,7 +28,7 @@ use std::alloc::Global;
 use std::io::{Read, Write};
 
 /// Hands a peer that is at this position what it lacks, 64 lines at most, in the position's version, and answers how the batch ended. A
-/// batch that the first version can't tell is the fault `Own`, with the refusal `NeedsVersion2`.
+/// batch that the first version can't say is the fault `Own`, with the refusal `NeedsVersion2`.
 pub fn push_ask<K: Keeper, W: Write>(
     alloc: Global,
     service: &mut Service<K>,
@@ -58,6 +58,7 @@ fn own_batch<K: Keeper>(
     ensures text { IfOk result (λ x. IsSomeBatch x.0.items (ending_seen x.1)) }
     ensures fault { IfErr result IsOwnFault }
 {
+    // For the prover alone: the position is within its limits.
     position.is_within_limits();
     let Ok(text) = write_position(alloc, position) else {
         return Err(WebFault::Memory);

@@ -20,7 +20,7 @@ pub(crate) struct Replied {
     length: usize,
 }
 
-/// Reads a reply to the end of its body or of the input; none where it hasn't the head that is demanded.
+/// Reads a reply to the end of its body or of the input; none if it hasn't the head that is demanded.
 pub(crate) fn read_reply<R: Read>(
     reader: &mut R,
     buffer: &mut Vec<u8>,
@@ -45,7 +45,7 @@ pub(crate) fn read_reply<R: Read>(
     }))
 }
 
-// The status of the head at the front of the bytes, and the length of the body; none where that isn't stated or beyond the limit.
+// The status of the head at the front of the bytes, and the length of the body; none if that isn't stated or beyond the limit.
 fn head_in(bytes: &[u8]) -> Option<(u16, u64)>
     ensures head { (h : ResponseHead) → (rest : List ℕ) → ReadsResponse bytes.now h rest → length h.fields ≤ 64
         → result ≡ option_map (λ n. (status_code h, n)) (reply_length h) }
@@ -60,7 +60,7 @@ fn head_in(bytes: &[u8]) -> Option<(u16, u64)>
     with_length(status, reply.headers)
 }
 
-// The status, and the length that the fields state, where that is within the limit.
+// The status, and the length that the fields state, if that is within the limit.
 fn with_length(status: u16, fields: &[Header<'_>]) -> Option<(u16, u64)>
     ensures exact { result ≡ option_map (λ n. (status, n)) (within_limit (model.body_length true (header_fields fields.now))) }
     ensures small { IfSome result (λ x. x.1 ≤ 1048576) }

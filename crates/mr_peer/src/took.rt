@@ -4,7 +4,7 @@ ghost use Rattle.mr_peer.specs.TookWords.{took_on};
 
 use mr_wire::{behind_word, number_off};
 
-/// How many writes and commits were taken, as the bytes tell it; none where they are no such text.
+/// How many writes and commits were taken, as the bytes tell it; none if they are no such text.
 pub(crate) fn took_in(bytes: &[u8]) -> Option<(u64, u64)>
     ensures { result ≡ read_took bytes.now }
 {

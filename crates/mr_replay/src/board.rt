@@ -121,7 +121,7 @@ impl Board {
     }
 
     /// Where the write would go. A booking: to its first choice that is free in its room, else into the error log. A cancel is done
-    /// where its target is a booking of its room that stands, else void.
+    /// if its target is a booking of its room that stands, else void.
     pub fn merge(&self, write: &Write) -> Place
         ensures { place_seen result ≡ place_by_rows self.now write.now }
     {
@@ -221,6 +221,7 @@ impl Board {
         ensures err { OnErr result (self.new ≡ self.old) }
         ensures only { IfErr result (λ e. e ≡ Refusal.OutOfMemory) }
     {
+        // For the prover alone: clauses speak of the room, and the code has no use for it.
         let _ = room;
         let mut trial = Trial::new(self.taken());
         let rows = trial.replay(undone, again);

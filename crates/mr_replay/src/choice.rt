@@ -114,7 +114,7 @@ fn first_free(
 }
 
 /// Where the write goes among the rows that aren't hidden. A booking: to its first choice that is free in its room, else into the
-/// error log. A cancel is done where its target is a booking of its room that stands, else void.
+/// error log. A cancel is done if its target is a booking of its room that stands, else void.
 pub(crate) fn place_among(rows: &Rows, index: &Index, hidden: &Hidden, write: &Write) -> Place
     requires { IsIndexed rows.now.entries index.now }
     ensures { place_seen result ≡ place_by_rows (shown hidden.now rows.now.entries) write.now }

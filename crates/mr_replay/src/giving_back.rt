@@ -106,7 +106,7 @@ fn put_row_back(rows: &mut Rows, id: WriteId, row: Row) -> Option<Row>
     }
 }
 
-/// Takes the keys out that these rows had, where no row stands.
+/// Takes out the keys that these rows had, if no row stands there.
 fn sweep_replaced(rows: &Rows, index: &mut Index, replaced: &[(WriteId, Option<Row>)])
     ensures { IsIndexed rows.now.entries index.old → IsIndexed rows.now.entries index.new }
 {

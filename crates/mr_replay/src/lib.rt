@@ -1,9 +1,5 @@
-//! The board: the bookings and the error log of all rooms. It executes writes, bookings and cancels, undoes them and executes
-//! them anew.
-//!
-//! It stands on `mr_base`; a part of a replica (`mr_part`) has a board of its own. Contracts see a board as the list of its
-//! rows in the order of their ids (specs/Rows.antt); that it holds, room by room, what the replay of a list of writes gives
-//! is `Holds` (specs/Holds.antt).
+//! The board: the bookings and the error log of all rooms, on which writes are executed and undone.
+//! It stands on `mr_base`; a part of a replica (`mr_part`) has a board of its own. README.md has lines of use, and what is proved.
 #![tactic(auto)]
 
 mod board;

@@ -1,8 +1,5 @@
 //! What commands print, and their statuses: lines, texts of replies and of refusals, to any writer.
-//!
-//! Below stands `mr_service`, whose replies and refusals are told; the program's commands stand above (`mr` those on files, `mr_net`
-//! those over sockets). Each contract says which text was appended to the writer, where it is known what the writer holds, and which
-//! status is answered.
+//! It stands on `mr_service`; the program's commands stand above (`mr`, `mr_net`). README.md has lines of use, and what is proved.
 #![tactic(auto)]
 
 mod saying;

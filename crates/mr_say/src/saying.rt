@@ -24,10 +24,10 @@ pub const BAD_WORDS: u8 = 2;
 /// A file can't be had, the network fails, or the output doesn't take a line.
 pub const FAULT: u8 = 3;
 
-/// The line of a refusal for want of memory.
+/// The line of refusal 24, out of memory.
 pub const NO_MEMORY: &str = "refused 24 OutOfMemory\n";
 
-/// Prints the line and answers the status, or that of a fault where the writer does not take the line.
+/// Prints the line and answers the status, or that of a fault if the writer does not take the line.
 pub fn say<W: Write>(out: &mut W, line: &str, status: u8) -> u8
     requires { status ≤ 3 }
     ensures status { (result ≡ status) ⊎ (result ≡ 3) }
@@ -36,7 +36,7 @@ pub fn say<W: Write>(out: &mut W, line: &str, status: u8) -> u8
     say_text(out, line.as_bytes(), status)
 }
 
-/// Prints the bytes and answers the status, or that of a fault where the writer does not take them.
+/// Prints the bytes and answers the status, or that of a fault if the writer does not take them.
 pub fn say_text<W: Write>(out: &mut W, text: &[u8], status: u8) -> u8
     requires { status ≤ 3 }
     ensures status { (result ≡ status) ⊎ (result ≡ 3) }
@@ -48,7 +48,7 @@ pub fn say_text<W: Write>(out: &mut W, text: &[u8], status: u8) -> u8
     }
 }
 
-/// Prints a line that was made and answers the status, or tells that memory was wanting for the line.
+/// Prints a line that was made and answers the status, or prints that there was no memory for the line.
 pub fn say_made<W: Write>(out: &mut W, made: Result<String, AllocError>, status: u8) -> u8
     requires { status ≤ 3 }
     ensures made { IfOk made (λ text. ((result ≡ status) ⊎ (result ≡ 3))

@@ -19,7 +19,7 @@ pub(crate) fn load<K: Keeper>(keeper: &mut K, scope: &Scope<'_>) -> Result<Part,
     Ok(part)
 }
 
-/// Makes the change that a call of the part told, last of all, and replies.
+/// Makes the change that a call of the part answered, last of all, and replies.
 pub(crate) fn change<K: Keeper>(
     keeper: &mut K,
     answer: Result<(Reply, Change), Refusal>,

@@ -78,7 +78,7 @@ fn cancel_of<K: Keeper>(
     change(keeper, turns::cancel(&part, room, target))
 }
 
-/// The text `id` is that of no request: it is refused so, where the room is known.
+/// The text `id` is that of no request: it is refused so, if the room is known.
 fn cancel_of_none<K: Keeper>(
     keeper: &mut K,
     alloc: Global,
@@ -122,7 +122,7 @@ pub(crate) fn truncate<K: Keeper>(keeper: &mut K, number: u64) -> Result<Reply, 
     change(keeper, turns::truncate(&part, number))
 }
 
-/// Tells how far the replica's knowledge goes.
+/// Answers how far the replica's knowledge goes.
 pub(crate) fn position<K: Keeper>(keeper: &mut K) -> Result<Reply, Refusal>
     ensures served { IsServed K.Keeper keeper.old keeper.new model.AskPosition (reply_in result) }
 {
@@ -130,7 +130,7 @@ pub(crate) fn position<K: Keeper>(keeper: &mut K) -> Result<Reply, Refusal>
     turns::position(&part)
 }
 
-/// Tells what a replica lacks that is at the position with this text.
+/// Answers what a replica lacks that is at the position with this text.
 pub(crate) fn batch_for<K: Keeper>(
     keeper: &mut K,
     alloc: Global,

@@ -1,9 +1,5 @@
-//! Commands to one replica, and its replies, over any keeper of its tables.
-//!
-//! Below stand the keepers (`mr_store`), the parts of tables (`mr_part`) and the texts of exchanges (`mr_wire`); scripts, HTTP and the
-//! program stand above. The contract of `Service::ask` says that each command is one step of the definitions, for every
-//! replica that the keeper's tables stand for; that of `run` the same of lists of commands, with the answers to all questions;
-//! that of `World::run` that lists of steps of many replicas are runs of the definitions' world, and keep the world law.
+//! Commands to one replica, and its replies, over any keeper of its tables; lists of commands; worlds of replicas.
+//! It stands on `mr_store`, `mr_part` and `mr_wire`; scripts, HTTP and the program stand above. README.md has lines of use, and what is proved.
 #![tactic(auto)]
 
 mod calendars;

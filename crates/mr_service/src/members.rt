@@ -46,14 +46,12 @@ impl Member {
         }
     }
 
-    /// Its server.
     pub(crate) fn server(&self) -> ServerId
         ensures { result ≡ self.now.server }
     {
         self.server
     }
 
-    /// Its primary.
     pub(crate) fn primary(&self) -> ServerId
         ensures { result ≡ self.now.primary }
     {
@@ -119,7 +117,7 @@ pub(crate) fn find(members: &[Member], server: ServerId) -> Option<usize>
     }
 }
 
-/// How many replicas stand before the first one with this server: all, where there is none.
+/// How many replicas stand before the first one with this server: all, if there is none.
 fn place_of(members: &[Member], server: ServerId) -> usize
     ensures place { result ≡ member_index members.now server }
     ensures in_range { result ≤ length members.now }
@@ -132,7 +130,7 @@ fn place_of(members: &[Member], server: ServerId) -> usize
     members.len()
 }
 
-/// The primary that a replica of this server gets: that of the first replica, or itself where it is the first.
+/// The primary that a replica of this server gets: that of the first replica, or itself if it is the first.
 pub(crate) fn primary_for(members: &[Member], server: ServerId) -> ServerId
     ensures { result ≡ primary_in members.now server }
 {

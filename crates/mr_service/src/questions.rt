@@ -82,7 +82,7 @@ pub(crate) fn errors<K: Keeper>(keeper: &mut K, alloc: Global, room: &str) -> Re
     Ok(Reply::Errors { room, lines })
 }
 
-/// The room of this name, where the keeper knows it.
+/// The room of this name, if the keeper knows it.
 pub(crate) fn known_room<K: Keeper>(
     keeper: &mut K,
     alloc: Global,

@@ -15,7 +15,7 @@ use mr_store::{Keeper, ListKeeper};
 use std::alloc::{AllocError, Global};
 
 /// Asks each command in turn, whatever the earlier ones were replied, and lists the replies, one for each. The list's memory is taken
-/// before the first command: where it is wanting, nothing is asked.
+/// before the first command: if there is none, nothing is asked.
 pub fn run<K: Keeper>(
     alloc: Global,
     service: &mut Service<K>,
@@ -55,7 +55,7 @@ pub(crate) fn put<T: Drop>(list: &mut Vec<T>, item: T)
     let _ = list.push(item);
 }
 
-/// The same over lists, where there is no premise: no reply tells that the store failed.
+/// The same over lists, with no premise: no reply is that the store failed.
 pub fn run_over_lists(
     alloc: Global,
     service: &mut Service<ListKeeper>,

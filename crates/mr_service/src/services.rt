@@ -48,7 +48,7 @@ impl<K: Keeper> Service<K> {
         self.keeper
     }
 
-    /// Does what the command says, and replies. A refusal changes nothing; want of memory is one, and a failure of the store
+    /// Does what the command says, and replies. A refusal changes nothing; out of memory is one, and a failure of the store
     /// another.
     pub fn ask(&mut self, command: &Command) -> Reply
         ensures served { IsServed K.Keeper self.old self.new (command_seen command.now) (reply_of result) }
@@ -114,7 +114,7 @@ pub(crate) fn ask_local<K: Keeper>(
     }
 }
 
-/// The reply that tells what a call answered.
+/// The reply for what a call answered.
 pub(crate) fn said(answer: Result<Reply, Refusal>) -> Reply
     ensures { reply_of result ≡ reply_in answer }
 {

@@ -16,7 +16,7 @@ pub enum Step {
         to: ServerId,
         max_lines: LineCount,
     },
-    /// Gives the first bytes of a batch to a replica, or all where it has no more.
+    /// Gives the first bytes of a batch to a replica, or all if it has no more.
     Deliver {
         batch: u64,
         to: ServerId,

@@ -19,7 +19,7 @@ use mr_wire::{write_batch, write_position};
 use std::alloc::{AllocError, Global};
 use std::fmt;
 
-/// The reply as it is shown: its lines, each with its LF. Only memory is wanted for it.
+/// The reply as it is shown: its lines, each with its LF. It is refused for lack of memory alone.
 pub fn reply_text(alloc: Global, reply: &Reply) -> Result<Vec<u8>, Refusal>
     ensures text { IfOk result (λ bytes. bytes.items ≡ replies.reply_text (reply_of reply.now)) }
     ensures memory { IfErr result (λ e. e ≡ Refusal.OutOfMemory) }
@@ -41,7 +41,7 @@ pub fn reply_text(alloc: Global, reply: &Reply) -> Result<Vec<u8>, Refusal>
     }
 }
 
-/// The refusal as it is shown: one line, with its LF. Only memory is wanted for it.
+/// The refusal as it is shown: one line, with its LF. It is refused for lack of memory alone.
 pub fn refusal_text(alloc: Global, refusal: &Refusal) -> Result<Vec<u8>, Refusal>
     ensures text { IfOk result (λ bytes. bytes.items ≡ line (refusals.refusal_text (refusal_of refusal.now))) }
     ensures memory { IfErr result (λ e. e ≡ Refusal.OutOfMemory) }
@@ -54,7 +54,7 @@ pub fn refusal_text(alloc: Global, refusal: &Refusal) -> Result<Vec<u8>, Refusal
     Ok(text.into_bytes())
 }
 
-/// The sheet of a room on a day with these rows, as it is shown. Only memory is wanted for it.
+/// The sheet of a room on a day with these rows, as it is shown. It is refused for lack of memory alone.
 pub fn sheet_text(
     alloc: Global,
     room: &RoomName,

@@ -1,4 +1,4 @@
-//! Calls of a part that do a command's step: each tells the reply, and the change where there is one.
+//! Calls of a part that do a command's step: each answers the reply, and the change if there is one.
 
 ghost use Rattle.std.specs.Prelude.{◌≡◌, IfSome};
 ghost use Rattle.mr_model.specs.Positions.{position_of};

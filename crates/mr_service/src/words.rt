@@ -117,7 +117,7 @@ fn lacks_day(words: &SlotWords) -> bool
     Day::read(words.day.as_str()).is_err()
 }
 
-// The minute at which the latest of the choices starts, where all their times can be read.
+// The minute at which the latest of the choices starts, if all their times can be read.
 fn latest_start(words: &Submission) -> Option<u32>
     ensures latest { result ≡ latest_start (submission_of words.now) }
     ensures times { is_none result ≡ list_any lacks_time (choice_words (submission_of words.now)) }

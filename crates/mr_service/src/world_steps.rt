@@ -21,6 +21,7 @@ pub(crate) fn add(members: &mut Vec<Member>, alloc: Global, server: ServerId) ->
     ensures { (pool : List Text) → TakesWorldStep (record { members = members.old.items; pool = pool }) (model.Add server) (step_reply_of result)
         (record { members = members.new.items; pool = pool }) }
 {
+    // For the prover alone: a server is from 1 to 99.
     server.number();
     match find(members.as_slice(), server) {
         Some(_) => StepReply::There,
@@ -66,7 +67,7 @@ pub(crate) fn ask(
     }
 }
 
-/// Gives the first bytes of a batch to the replica with this server, or all where it has no more.
+/// Gives the first bytes of a batch to the replica with this server, or all if it has no more.
 pub(crate) fn deliver(
     members: &mut Vec<Member>,
     alloc: Global,
@@ -110,7 +111,7 @@ fn front_of(text: &[u8], count: u64) -> &[u8]
     &text[..count as usize]
 }
 
-/// That memory was wanting.
+/// That there was no memory.
 pub(crate) fn no_memory() -> StepReply
     ensures { step_reply_of result ≡ model.Said (Refused OutOfMemory) }
 {

@@ -44,7 +44,7 @@ impl World {
         }
     }
 
-    /// Takes the steps one after the other, and answers the reply to each. Room for the replies is made first: want of memory for
+    /// Takes the steps one after the other, and answers the reply to each. Room for the replies is made first: no memory for
     /// it is the only refusal, and then nothing was done.
     pub fn run(&mut self, steps: &[Step]) -> Result<Vec<StepReply>, Refusal>
         ensures runs { (w : model.World) → StandsForWorld self.old w

@@ -7,7 +7,7 @@ use std::alloc::{AllocError, Global};
 
 pub(crate) const MONDAY: &str = "1995-12-18";
 
-/// A command. Where it names no room it is oak, and where it names no day it is Monday.
+/// A command. If it names no room it is oak, and if it names no day it is Monday.
 #[derive(Clone, Copy)]
 pub(crate) enum Act {
     Room(&'static str),
@@ -114,7 +114,7 @@ pub(crate) fn batch_for(position: Vec<u8>, lines: u32) -> Result<Local, Refusal>
     })
 }
 
-/// Fifty writes of elm for the same slot, each with its commit where there are commits.
+/// Fifty writes of elm for the same slot, each with its commit if there are commits.
 fn elm(alloc: Global, has_commits: bool) -> Result<Vec<u8>, AllocError> {
     let mut batch = "mr1 3 1\n".as_bytes().to_vec(alloc)?;
     for i in 1..51 {
@@ -129,7 +129,7 @@ fn elm(alloc: Global, has_commits: bool) -> Result<Vec<u8>, AllocError> {
     Ok(batch)
 }
 
-/// The command of somebody at the replica; the position where it is none of these.
+/// The command of somebody at the replica; the position if it is none of these.
 fn local(alloc: Global, act: Act) -> Result<Local, Refusal> {
     match act {
         Act::Room(name) => Ok(Local::AddRoom(text(alloc, name)?)),

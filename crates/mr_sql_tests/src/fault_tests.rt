@@ -81,7 +81,7 @@ fn refusals_at<K: Keeper + Drop>(
     refusals
 }
 
-/// One step of the script is refused, or none where the keeper has fewer calls.
+/// One step of the script is refused, or none if the keeper has fewer calls.
 fn refusals<K: Opening + Drop>(rt: &impl Abort, alloc: Global, script: &[Row], trip: Trip) -> u64 {
     let mut offices = opened_tripped::<K>(alloc, trip).expect(rt, "offices");
     let mut plain = opened::<ListKeeper>(alloc).expect(rt, "offices");
@@ -158,7 +158,7 @@ fn calls_fail_over_lists(rt: HostRuntime) {
     check_lists(&rt, rt.alloc(), Fault::Store);
 }
 
-/// The same over a database, where each run takes longer.
+/// The same over a database, on which each run takes longer.
 fn check_database(rt: &impl Abort, alloc: Global, script: &[Row], want: &[(u32, u64)]) {
     check::<SqlKeeper<MemStore>>(rt, alloc, Fault::OutOfMemory, script, want);
     check::<SqlKeeper<MemStore>>(rt, alloc, Fault::Store, script, want);

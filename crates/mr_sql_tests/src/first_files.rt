@@ -46,7 +46,7 @@ pub(crate) fn first_bytes(rt: &impl Abort, alloc: Global) -> Bytes {
     bytes_of(rt, alloc, &files)
 }
 
-/// Which tables the files with these bytes have; none where they can't be opened.
+/// Which tables the files with these bytes have; none if they can't be opened.
 pub(crate) fn layout_of(rt: &impl Abort, alloc: Global, bytes: &Bytes) -> Option<Layout> {
     let files = disks(rt, alloc, bytes, NO_STOP);
     let (came, _) = on_files(rt, alloc, files, Deed::Count);

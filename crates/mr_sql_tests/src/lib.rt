@@ -1,6 +1,4 @@
-//! Tests of replicas over each keeper: lists, lists that load no desk, a database in memory, and one on disks that stop at each call in turn.
-//! It stands above `mr_service` and `mr_sql`, and nothing stands on it. What is proved of commands, keepers, parts and crashes is said by
-//! their contracts; here they are run, with replies that were worked by hand.
+//! Tests of whole replicas over each keeper, with replies worked by hand. README.md says which file has what; nothing stands on this crate.
 #![tactic(auto)]
 
 #[cfg(test)]

@@ -204,7 +204,7 @@ fn adopt(
     }
 }
 
-/// The same where tables of the first schema alone are taken, and as they are.
+/// The same of a call that takes tables of the first schema alone, and as they are.
 fn resume(
     alloc: Global,
     conn: Connection<MemStore>,

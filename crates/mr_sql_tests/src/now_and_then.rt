@@ -1,5 +1,5 @@
 // What offices are asked, and tables that are made and moved up, each between the lines `now` and `then`, so that a library under the
-// program can refuse each allocation there (`tests/faults/refused_commands.py`). Behind the second line comes the reply; where it is that there is
+// program can refuse each allocation there (`tests/faults/refused_commands.py`). Behind the second line comes the reply; if that is that there is
 // no memory, all that is seen of the offices, the reply once the same is asked again, and what is seen then. Elsewhere the memory is ample.
 
 use crate::acts::{batch_for, command};
@@ -99,7 +99,7 @@ fn taken<K: Keeper + Drop, W: Write>(
     }
 }
 
-/// The keeper is opened between the two lines, and opened again where there was no memory.
+/// The keeper is opened between the two lines, and opened again if there was no memory.
 fn opened<K: Opening + Drop, W: Write>(
     rt: &impl Abort,
     alloc: Global,
@@ -137,7 +137,7 @@ pub(crate) fn take_all<K: Opening + Drop, W: Write>(
     }
 }
 
-/// A database of these tables, which is made between the two lines, and made again where there was no memory.
+/// A database of these tables, which is made between the two lines, and made again if there was no memory.
 pub(crate) fn made<W: Write>(
     rt: &impl Abort,
     alloc: Global,
@@ -166,7 +166,7 @@ fn moved_again<S: Alter + Drop>(rt: &impl Abort, first: FirstKeeper<S>) -> SqlKe
     }
 }
 
-/// It is moved up between the two lines, and once more where there was no memory.
+/// It is moved up between the two lines, and once more if there was no memory.
 pub(crate) fn moved<S: Alter + Drop, W: Write>(
     rt: &impl Abort,
     alloc: Global,

@@ -40,7 +40,7 @@ pub(crate) enum Came {
     Nothing,
 }
 
-/// A connection to the database in the files, or the files where it can't be opened.
+/// A connection to the database in the files, or the files if it can't be opened.
 fn connected<D: Disk + Drop>(
     alloc: Global,
     files: Files<D>,
@@ -54,7 +54,7 @@ fn connected<D: Disk + Drop>(
     }
 }
 
-/// Closes the database, with what its log holds copied into it where it can be; gives the files up.
+/// Closes the database, with what its log holds copied into it if it can be; gives the files up.
 fn closed<D: Disk + Drop>(left: Result<Connection<FileStore<D>>, FileStore<D>>) -> Files<D> {
     match left {
         Ok(conn) => match conn.close_files() {
@@ -65,7 +65,7 @@ fn closed<D: Disk + Drop>(left: Result<Connection<FileStore<D>>, FileStore<D>>) 
     }
 }
 
-/// The replica in the database, or the store where it can't be adopted.
+/// The replica in the database, or the store if it can't be adopted.
 fn adopted<S: Alter + Drop>(
     alloc: Global,
     conn: Connection<S>,
@@ -80,7 +80,7 @@ fn adopted<S: Alter + Drop>(
     }
 }
 
-/// Whether this is the reply. Where a call of the files failed it is the store's fault.
+/// Whether this is the reply. If a call of the files failed it is the store's fault.
 fn is_reply(rt: &impl Abort, text: &Result<Vec<u8>, Refusal>, want: &str) -> bool {
     let is_wanted = is_text(text, want.as_bytes());
     holds(rt, is_wanted || is_text(text, b"refused 25 Store\n"), want);

@@ -68,7 +68,7 @@ static OF_COMMITTED: [(For, u64); 18] = [
     // ten commits and the two tentative writes
     (For::PositionOf("mp2 1 1\nK 40\nE\n"), 12),
     (For::PositionOf("mp2 1 1\nK 50\nE\n"), 2),
-    // so also where one of these is known there
+    // so also if one of these is known there
     (For::PositionOf("mp2 1 1\nK 40\nV 1 1\nE\n"), 12),
     (For::PositionOf("mp2 1 1\nK 50\nV 1 1\nE\n"), 2),
     // or all writes are
@@ -107,7 +107,7 @@ static OF_TENTATIVE: [(For, u64); 8] = [
     (For::Commit(3), 3),
     (For::Truncation(0), 0),
     (For::PositionOf("mp2 1 1\nK 0\nE\n"), 52),
-    // so also where the first 49 of elm are known
+    // so also if the first 49 of elm are known
     (For::PositionOf("mp2 1 1\nK 0\nV 3 49\nE\n"), 52),
     // the bookings of oak
     (For::Batch(GAMMA), 2),

@@ -56,7 +56,7 @@ fn id(n: u32) -> Result<WriteId, Refusal> {
     WriteId::new(server(1)?, n).ok_or(Refusal::NoSuchRequest)
 }
 
-/// The row that the write of this count has, with its count; 0 where there is none.
+/// The row that the write of this count has, with its count; 0 if there is none.
 fn place<K: Keeper>(keeper: &mut K, room: &RoomName, n: u32) -> Result<(u32, Kind), Refusal> {
     let id = id(n)?;
     match keeper.place_of(room, id) {

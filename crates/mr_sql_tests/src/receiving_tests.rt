@@ -208,7 +208,7 @@ static ROWS: [(Event, &str); 67] = [
     (Event::Asked(Act::Position), NOTHING),
 ];
 
-/// The text of the reply; none where the replica is a new one now.
+/// The text of the reply; none if the replica is a new one now.
 fn reply<K: Opening + Drop>(
     rt: &impl Abort,
     alloc: Global,

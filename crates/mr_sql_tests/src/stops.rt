@@ -1,5 +1,5 @@
 // The disks of a replica stop at each call in turn while it is asked. Once they are opened again, it is the one before or the one after,
-// and the one after where it had replied. The memory is ample.
+// and the one after if it had replied. The memory is ample.
 
 use crate::acts::Act;
 use crate::disks::{Bytes, NO_STOP, Stop, are_same, are_whole, bytes_of, disks};
@@ -26,13 +26,13 @@ pub(crate) struct Case {
     pub(crate) found: Found,
 }
 
-/// Whether all tables are those of one schema, and of the second where the replica had replied.
+/// Whether all tables are those of one schema, and of the second if the replica had replied.
 fn is_whole(rt: &impl Abort, alloc: Global, bytes: &Bytes, is_acknowledged: bool) -> bool {
     let layout = layout_of(rt, alloc, bytes);
     layout == Some(SECOND) || layout == Some(FIRST) && !is_acknowledged
 }
 
-/// The replica in files with these bytes is the one before or the one after, and the one after where it had replied.
+/// The replica in files with these bytes is the one before or the one after, and the one after if it had replied.
 fn check_found(rt: &impl Abort, alloc: Global, bytes: &Bytes, case: Case, is_acknowledged: bool) {
     let seen = seen_in(rt, alloc, disks(rt, alloc, bytes, NO_STOP));
     let is_found = match case.found {

@@ -18,7 +18,7 @@ const WEEK: [(Weekday, &str); 7] = [
 
 const LENGTHS: [u32; 12] = [31, 28, 31, 30, 31, 30, 31, 31, 30, 31, 30, 31];
 
-// Each year with the length of its February, and with the weekday of the first of each month, where Monday is 0.
+// Each year with the length of its February, and with the weekday of the first of each month (Monday is 0).
 static YEARS: [(u32, u32, [usize; 12]); 110] = [
     (1990, 28, [0, 3, 3, 6, 1, 4, 6, 2, 5, 0, 3, 5]),
     (1991, 28, [1, 4, 4, 0, 2, 5, 0, 3, 6, 1, 4, 6]),

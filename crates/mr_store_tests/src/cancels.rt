@@ -43,7 +43,7 @@ const XRAY: Ask = Ask {
 
 /// The rows that a call puts into `cancelled` and `cancels`, the first of each: the server, the number and the start of a booking,
 /// the cancel that took it back, and whether the booking is committed; the server and the number of a cancel, whether it is done,
-/// and its commit number. The servers are 0 where there is none.
+/// and its commit number. The servers are 0 if there is none.
 type Taken = ((u32, u32, u32), (u32, u32), bool, (u32, u32, bool, u64));
 
 const NO_CANCEL: (u32, u32, bool, u64) = (0, 0, false, 0);
@@ -401,13 +401,13 @@ fn counts(alloc: Global) -> Result<[u64; 3], Refusal> {
 }
 
 fn rows_of_room(alloc: Global, room: &str) -> Result<u64, Refusal> {
-    // For the prover alone, which follows a scope where the types of all that a scope may hold are in use.
+    // For the prover alone, which follows a scope only if the types of all that a scope may hold are in use.
     let _no_item: Option<&Item> = None;
     let room = RoomName::new(alloc, room)?;
     rows_of(alloc, &BOTH_TENTATIVE, &Scope::InRoom(&room))
 }
 
-/// A submission's part has what was booked in its room, also where it was taken back, and nothing of another room.
+/// A submission's part has what was booked in its room, also if it was taken back, and nothing of another room.
 #[test]
 fn rows_of_a_submission_are_counted(rt: HostRuntime) {
     for (room, count) in [("oak", 1), ("elm", 0)] {

@@ -14,14 +14,14 @@ use std::process::Abort;
 /// A call of a desk, or a question to it.
 #[derive(Clone, Copy)]
 pub(crate) enum Call {
-    /// These tables are read in the stead of the desk.
+    /// These tables are read instead of the desk.
     Read(&'static Rows),
     AddOak,
     Submit(Ask),
     /// A cancel of that server's write with that number.
     Cancel(u32, u32),
-    /// A batch for the replicas of that primary, or one without a header or a line where that is 0. It is of the first version
-    /// where that can say its lines.
+    /// A batch for the replicas of that primary, or one without a header or a line if that is 0. It is of the first version
+    /// if that can say its lines.
     Receive(u32, &'static [Line]),
     /// What this desk lacks of that server's, so many lines at most.
     HandOver(usize, u32),
@@ -38,7 +38,7 @@ pub(crate) enum Call {
 pub(crate) type Told = (u64, u64);
 
 /// The rows that a call puts: the server, the number and the start of the first two bookings, and the server, the time and the
-/// commit number of the first error; 0 where there is none.
+/// commit number of the first error; 0 if there is none.
 pub(crate) type Put = ((u32, u32, u32), (u32, u32, u32), (u32, u64, u64));
 
 pub(crate) const NONE: (u32, u32, u32) = (0, 0, 0);
@@ -60,8 +60,8 @@ fn version_of(lines: &[Line]) -> Version {
     Version::First
 }
 
-/// A batch that server 1 made for the replicas of this primary, or one without a header or a line where that is 0. It is of the first version
-/// where that can say its lines.
+/// A batch that server 1 made for the replicas of this primary, or one without a header or a line if that is 0. It is of the first version
+/// if that can say its lines.
 pub(crate) fn batch(alloc: Global, primary: u32, lines: &[Line]) -> Result<Batch, Refusal> {
     if primary == 0 {
         return Ok(Batch::without_header(Vec::new(alloc)));
@@ -106,7 +106,7 @@ fn handed(from: &Desk, own: &Desk, call: Call, most: u32) -> Result<Batch, Refus
     from.batch(&asked, most)
 }
 
-/// The batch that the desk at this place receives by the call, which is empty where it receives none.
+/// The batch that the desk at this place receives by the call, which is empty if it receives none.
 fn brought(alloc: Global, desks: &[Desk], own: usize, call: Call) -> Result<Batch, Refusal> {
     match call {
         Call::Receive(primary, lines) => batch(alloc, primary, lines),
@@ -120,7 +120,7 @@ fn brought(alloc: Global, desks: &[Desk], own: usize, call: Call) -> Result<Batc
     }
 }
 
-/// What a desk tells, and what changes in its tables, where the call says that.
+/// What a desk tells, and what changes in its tables, if the call says that.
 pub(crate) type Answer = (Told, Option<Change>);
 
 fn read(alloc: Global, desk: &mut Desk, rows: &Rows) -> Result<Answer, Refusal> {

@@ -516,7 +516,7 @@ static BAD_COUNTS: [&str; 4] = [
     "mp2 9 1\nK 0\nV 1 1\nV 2 1\nV 1 1\nE\n",
 ];
 
-// The line for which the bytes are refused, 0 where they are read.
+// The line for which the bytes are refused, 0 if they are read.
 fn bad_line_of(alloc: Global, text: &str) -> Result<u64, Refusal> {
     match read_batch(alloc, text.as_bytes()) {
         Ok(_) => Ok(0),

@@ -392,7 +392,7 @@ fn a_trip_comes_after_its_calls(rt: HostRuntime) {
     check(&rt, alloc, &mut keeper, &OF_THE_ROOMS);
 }
 
-/// The fault of one of the nine questions, where it has one.
+/// The fault of one of the nine questions, if it has one.
 pub(crate) fn fault_of<K: Keeper>(
     keeper: &mut K,
     call: u32,
@@ -439,7 +439,7 @@ fn each_question_trips_once(rt: HostRuntime) {
     }
 }
 
-/// The fault of a change, where it has one.
+/// The fault of a change, if it has one.
 pub(crate) fn fault_of_change<K: Keeper>(
     keeper: &mut K,
     alloc: Global,
@@ -457,7 +457,7 @@ fn a_change_trips_once(rt: HostRuntime) {
     }
 }
 
-/// The fault of a part without rows of writes, where it has one.
+/// The fault of a part without rows of writes, if it has one.
 fn fault_of_part<K: Keeper>(keeper: &mut K) -> Option<Fault> {
     keeper.load_part(&Scope::Nothing).err()
 }

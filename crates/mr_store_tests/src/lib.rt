@@ -1,7 +1,4 @@
-//! Tests of what stands below the commands. Of `mr_base`, `mr_replay` and `mr_wire`: texts, limits and refusals against values worked elsewhere, a
-//! board against places that were worked by hand, the exchange texts of worked examples, and bytes that are no batch or no position. Of `mr_tables`,
-//! `mr_audit`, `mr_part`, `mr_lists`, `mr_replica` and `mr_store`: calls of desks, parts and tables by hand, changes by hand, and what desks, parts and keepers
-//! then answer. It stands above them, and nothing stands on it. What is proved of them is said by their own contracts; here they are run.
+//! Tests of the crates from `mr_base` to `mr_store`. README.md says which file has what; nothing stands on this crate.
 #![tactic(auto)]
 
 #[cfg(test)]

@@ -367,7 +367,7 @@ const CHAIN: &[(Numbers, Place)] = &[
     ((2, 2), Place::Logged),
 ];
 
-/// The second and the third where the first isn't there.
+/// The second and the third if the first isn't there.
 const ALONE: &[(Numbers, Place)] = &[((2, 1), Place::Taken(0)), ((2, 2), Place::Taken(0))];
 
 static IN_ORDER: [Step; 5] = [

@@ -353,7 +353,7 @@ fn no_line_is_written_as_nothing(rt: HostRuntime) {
     same(&rt, &found, &Ok(true), "no line");
 }
 
-/// The fronts of these numbers of bytes have these parts.
+/// The prefixes of these numbers of bytes have these parts.
 fn check_fronts(rt: &impl Abort, alloc: Global, (from, to): (usize, usize), want: Parts) {
     for j in from..to {
         let front = ALPHA_AND_BETA.as_bytes().get(..j).unwrap_or(&[]);
@@ -439,7 +439,7 @@ fn positions_are_exchanged(rt: HostRuntime) {
     }
 }
 
-/// No front of this text is a position's.
+/// No prefix of this text is a position's.
 fn check_no_positions(rt: &impl Abort, alloc: Global, text: &str) {
     for j in 0..text.len() {
         let refusal = refusal_of_position(alloc, text.as_bytes().get(..j).unwrap_or(&[]));

@@ -38,7 +38,7 @@ fn method_name(post: bool) -> &'static str
     if post { "POST" } else { "GET" }
 }
 
-// The length of the body, where method, fields and length are as they are to be.
+// The length of the body, if method, fields and length are as they are to be.
 fn checked_length(post: bool, method: &str, fields: &[Header<'_>]) -> Result<usize, Stop>
     ensures gives { GivesView (λ n. n) result (spec.checked post method.now (header_fields fields.now)) }
     ensures small { IfOk result (λ n. n ≤ 1048576) }

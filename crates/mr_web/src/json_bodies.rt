@@ -38,7 +38,7 @@ pub(crate) fn member_count(value: &Value) -> usize
     }
 }
 
-/// The text of this member, where it is one.
+/// The text of this member, if it is one.
 pub(crate) fn text_at<'v>(value: &'v Value, key: &str) -> Option<&'v str>
     ensures { option_map (λ s. s.now) result ≡ spec.text_at key.now (view value.now) }
 {

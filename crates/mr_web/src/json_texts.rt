@@ -162,6 +162,7 @@ fn day_text(alloc: Global, day: Day) -> Result<String, AllocError>
     ensures text { IfOk result (λ s. string_bytes s ≡ date_text day) }
     ensures plain { IfOk result (λ s. IsPlain (string_bytes s)) }
 {
+    // For the prover alone: the day is within the calendar.
     day.is_within_calendar();
     format!(in alloc; "{day}")
 }
@@ -178,6 +179,7 @@ fn id_text(alloc: Global, id: WriteId) -> Result<String, AllocError>
     ensures plain { IfOk result (λ s. IsPlain (string_bytes s)) }
 {
     let (server, count) = (id.server, id.n);
+    // For the prover alone: a server is from 1 to 99.
     server.number();
     u64::from(count);
     format!(in alloc; "{id}")
@@ -241,7 +243,7 @@ fn cancel_json(
     cancel_text(alloc, id.as_str(), mark, state, target.as_str())
 }
 
-/// The JSON that tells what became of a request or a cancel.
+/// The JSON for what became of a request or a cancel.
 pub(crate) fn outcome_json(alloc: Global, outcome: &Outcome) -> Result<String, AllocError>
     ensures { IfOk result (λ s. string_bytes s ≡ model.outcome_json (outcome_seen outcome.now)) }
 {
@@ -309,7 +311,7 @@ fn name_text(refusal: &Refusal) -> &'static str
     refusal.name()
 }
 
-/// The JSON that tells of a refusal.
+/// The JSON for a refusal.
 pub(crate) fn refusal_json(alloc: Global, refusal: &Refusal) -> Result<String, AllocError>
     ensures { IfOk result (λ s. string_bytes s ≡ model.refusal_json (refusal_of refusal.now)) }
 {

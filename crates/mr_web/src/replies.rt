@@ -200,7 +200,7 @@ fn told_text(alloc: Global, reply: &Reply) -> Result<Answer, AllocError>
     }
 }
 
-/// The answer that tells a reply.
+/// The answer for a reply of the replica.
 pub(crate) fn answer_to_reply(alloc: Global, reply: &Reply) -> Result<Answer, AllocError>
     ensures { IfOk result (IsAnswerOf (model.response_of (reply_of reply.now))) }
 {

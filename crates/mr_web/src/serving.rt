@@ -98,7 +98,7 @@ fn request_from<R: Read>(alloc: Global, reader: &mut R) -> Result<Command, Stop>
     request_in(alloc, reader, &mut buffer)
 }
 
-// What a command is answered. Where no room is left for the bytes, the step stands.
+// What a command is answered. If no room is left for the bytes, the step stands.
 fn answer_command<K: Keeper>(
     alloc: Global,
     command: &Command,
@@ -142,7 +142,7 @@ fn answer_one<R: Read, K: Keeper>(
 
 /// Reads one request, serves it, writes its reply and answers the reply's status. What follows the request is passed over,
 /// though up to 511 bytes behind the head may have been read. With the fault `Read` nothing was done or written; with `Memory` nothing was written, and the
-/// command may have been done; with `Write` a front of the reply was written, and the command stands as done or refused. No
+/// command may have been done; with `Write` a prefix of the reply was written, and the command stands as done or refused. No
 /// other fault comes. Whatever the reader gives, at most one command is done, and that one which some route gives. After every
 /// reply but one of 503 an open keeper is open.
 pub fn serve_one<R: Read, W: Write, K: Keeper>(

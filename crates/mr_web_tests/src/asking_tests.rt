@@ -163,7 +163,7 @@ fn check_pushed(
     same(rt, &writer.as_slice(), &want, "the request");
 }
 
-// What this replica answers where it is to push to a peer at that position.
+// What this replica answers when it is to push to a peer at that position.
 pub(crate) fn pushed_to(
     alloc: Global,
     service: &mut Service<ListKeeper>,
@@ -410,7 +410,7 @@ fn check_narrow(
     check_front(rt, &writer, asked.err(), whole, room);
 }
 
-// A write that fails leaves a front of the request.
+// A write that fails leaves a prefix of the request.
 #[test]
 fn narrow_writers(rt: HostRuntime) {
     let alloc = rt.alloc();

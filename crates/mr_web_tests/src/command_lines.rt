@@ -251,7 +251,7 @@ static ADDRESSES: [(&str, Option<(&str, u16)>); 14] = [
     ("", None),
 ];
 
-/// Whether the text is read as this host and port, or is no address where there are none.
+/// Whether the text is read as this host and port, or is no address if there are none.
 fn is_address(alloc: Global, text: &str, wanted: Option<(&str, u16)>) -> bool {
     match (peer_address(alloc, text), wanted) {
         (Ok((host, port)), Some((name, number))) => host.as_str() == name && port == number,

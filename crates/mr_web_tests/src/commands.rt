@@ -67,7 +67,7 @@ fn batch_for(rt: &impl Abort, alloc: Global, position: &str, lines: u32) -> Loca
     }
 }
 
-/// The command of somebody at the replica; the position where it is none of these.
+/// The command of somebody at the replica; the position if it is none of these.
 fn local(rt: &impl Abort, alloc: Global, asked: Asked) -> Local {
     match asked {
         Asked::AddRoom => Local::AddRoom(room(rt, alloc)),

@@ -6,7 +6,7 @@ use std::alloc::Global;
 use std::io::{self, Read, Write};
 use std::process::Abort;
 
-/// Gives one byte a read, and fails where `left` reads are over.
+/// Gives one byte a read, and fails once `left` reads are over.
 #[derive(Drop)]
 pub(crate) struct Drip<'a> {
     pub(crate) bytes: &'a [u8],
@@ -58,7 +58,7 @@ pub(crate) fn writer_of(alloc: Global, room: usize) -> Narrow {
     }
 }
 
-/// The writer failed, and has the front of the whole that it had room for.
+/// The writer failed, and has the prefix of the whole that it had room for.
 pub(crate) fn check_front(
     rt: &impl Abort,
     writer: &Narrow,

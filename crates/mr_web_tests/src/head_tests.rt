@@ -145,7 +145,7 @@ fn read_whole(alloc: Global, left: usize) -> Result<usize, ReadFault> {
     Ok(buffer.len())
 }
 
-// One byte a read is enough, and a read that fails is told.
+// One byte a read is enough, and a read that fails is reported.
 #[test]
 fn drips(rt: HostRuntime) {
     let alloc = rt.alloc();
@@ -162,7 +162,7 @@ fn check_narrow(rt: &impl Abort, alloc: Global, room: usize) {
     check_front(rt, &writer, sent.err(), MESSAGE, room);
 }
 
-// A write that fails leaves a front.
+// A write that fails leaves a prefix.
 #[test]
 fn narrow_writers(rt: HostRuntime) {
     for room in 0..MESSAGE.len() {

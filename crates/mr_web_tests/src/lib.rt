@@ -1,7 +1,5 @@
-//! Tests of the service and of the ways to it: the text of each kind of reply, byte for byte, and lists of commands with their replies
-//! (`mr_service`); command lines and addresses (`mr_words`); lines that are printed (`mr_say`); heads and bytes (`mr_http`), requests that are
-//! served (`mr_web`), and peers that are asked (`mr_peer`). `uses` shows how a program of others calls these crates, with contracts of its own.
-//! It stands above these, and nothing stands on it. Commands over each keeper are tested in `mr_sql_tests`.
+//! Tests of the service and of the ways to it; `uses` shows how other programs call the crates. README.md says which file has what; nothing
+//! stands on this crate.
 #![tactic(auto)]
 
 #[cfg(test)]

@@ -65,7 +65,7 @@ fn pull_from(
     pull_take(alloc, client, &mut reader)
 }
 
-/// What the server replies where it is asked for its position.
+/// What the server replies when it is asked for its position.
 fn position_replied(alloc: Global, server: &mut Service<ListKeeper>) -> Result<Vec<u8>, WebFault> {
     let mut request = Vec::new(alloc);
     position_ask(alloc, "a", &mut request)?;

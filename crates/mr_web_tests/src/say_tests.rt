@@ -7,7 +7,7 @@ use mr_say::{BAD_WORDS, DONE, FAULT, say, say_made, say_refusal, say_reply, say_
 use mr_service::Reply;
 use std::alloc::{AllocError, Global};
 
-/// What lines of each kind answer where they are taken.
+/// What lines of each kind answer if they are taken.
 fn said(alloc: Global, out: &mut Vec<u8>) -> [u8; 7] {
     let made = format!(in alloc; "wrote {} bytes\n", 106);
     let took = Reply::Took {
@@ -40,7 +40,7 @@ fn lines_stand_in_their_order(rt: HostRuntime) {
     same(&rt, &out.as_slice(), &SAID.as_bytes(), "lines");
 }
 
-/// What they answer where they are not.
+/// What they answer if they are not.
 fn not_taken(alloc: Global) -> [u8; 5] {
     let mut full = writer_of(alloc, 0);
     [

@@ -326,7 +326,7 @@ fn check_sheet(rt: &impl Abort, alloc: Global, service: &mut Service<ListKeeper>
 const NO_BOOKINGS: &str =
     "HTTP/1.1 200 OK\r\nContent-Type: text/plain\r\nContent-Length: 36\r\nConnection: close\r\n\r\noak 1995-12-18 Monday\n(no bookings)\n";
 
-// With so many reads of one byte each a submission is served, or the fault is told and nothing is booked.
+// With so many reads of one byte each a submission is served, or the fault is reported and nothing is booked.
 fn check_drip(rt: &impl Abort, alloc: Global, left: usize) {
     let (request, status, reply) = FIRST[0];
     let bytes = request.as_bytes();
@@ -348,7 +348,7 @@ fn reads_byte_by_byte(rt: HostRuntime) {
     }
 }
 
-// A writer that fails after so many bytes has that front of the reply.
+// A writer that fails after so many bytes has that prefix of the reply.
 fn check_written(rt: &impl Abort, alloc: Global, service: &mut Service<ListKeeper>, room: usize) {
     let (request, _, reply) = FIRST[0];
     let mut reader = request.as_bytes();
@@ -357,7 +357,7 @@ fn check_written(rt: &impl Abort, alloc: Global, service: &mut Service<ListKeepe
     check_front(rt, &writer, answered.err(), reply.as_bytes(), room);
 }
 
-// The booking stands where its reply is cut.
+// The booking stands if its reply is cut.
 fn check_narrow(rt: &impl Abort, alloc: Global, room: usize) {
     let mut service = opening(rt, alloc);
     check_written(rt, alloc, &mut service, room);

@@ -14,7 +14,7 @@ use crate::versions::most_alternatives;
 use crate::words::{first_line, first_word};
 use mr_base::{MINUTES_OF_A_DAY, Version, is_title_text};
 
-/// The number of the first line that isn't of its place, where there is one. It takes no memory.
+/// The number of the first line that isn't of its place, if there is one. It takes no memory.
 pub(crate) fn first_bad_line(bytes: &[u8]) -> Option<u64>
     ensures { option_map BadLine result ≡ result_err (read_batch bytes.now) }
 {
@@ -47,7 +47,7 @@ fn first_bad_below(version: Version, bytes: &[u8]) -> Option<u64>
     None
 }
 
-/// The number of the line behind the last one, which has this number, where there is one.
+/// The number of the line behind the last one, which has this number, if there is one.
 fn line_behind(number: u64, behind: &[u8]) -> Option<u64>
     requires { number + length behind.now < 2 ^ 64 }
     ensures { option_map BadLine result ≡ result_err (read_end Cut number (whole_lines behind.now)) }
@@ -58,7 +58,7 @@ fn line_behind(number: u64, behind: &[u8]) -> Option<u64>
     }
 }
 
-/// Whether a line below the header is the last one; none where it isn't of its place.
+/// Whether a line below the header is the last one; none if it isn't of its place.
 fn is_last(version: Version, line: &[u8]) -> Option<bool>
     ensures { result ≡ option_map is_last (read_body_line (version_of version) line.now) }
 {
@@ -118,7 +118,7 @@ fn is_cancel(version: Version, text: &str) -> bool
     }
 }
 
-/// What stands in the place of the title on a booking's line, where its other parts are of their places and within the
+/// What stands in the place of the title on a booking's line, if its other parts are of their places and within the
 /// limits.
 #[tactic(auto, using(std::proofs::lemmas::Bool::Decides::nat_tests), unfolding(crate::specs::Tested::parse_title))]
 fn title_in(version: Version, text: &str) -> Option<&str>

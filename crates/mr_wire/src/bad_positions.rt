@@ -28,7 +28,7 @@ fn are_lines_of_position(text: &str) -> bool
     }
 }
 
-/// What stands behind the first two lines, where these are a position's.
+/// What stands behind the first two lines, if these are a position's.
 #[tactic(auto, unfolding(crate::specs::Tested::behind_commits))]
 fn behind_commits(text: &str) -> Option<&str>
     ensures value { option_map (λ x. x.now) result ≡ behind_commits text.now }

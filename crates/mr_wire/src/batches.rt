@@ -14,7 +14,7 @@ use mr_base::{Batch, Ending, Item, Refusal, Version};
 use std::alloc::Global;
 
 /// The batch that the bytes read as, of the version that its header names. A last piece without LF is dropped, and bytes
-/// without a whole line are the batch without a header. `BadLine(i)` where line i, counted from 1, is the first whole line
+/// without a whole line are the batch without a header. `BadLine(i)` if line i, counted from 1, is the first whole line
 /// that isn't of its place in this version.
 pub fn read_batch(alloc: Global, bytes: &[u8]) -> Result<Batch, Refusal>
     ensures exact { Gives result (read_batch bytes.now) }
@@ -24,7 +24,7 @@ pub fn read_batch(alloc: Global, bytes: &[u8]) -> Result<Batch, Refusal>
     ensures all_read { (b : BatchOfLines) → ReadsAs bytes.now b → Gives result (Ok b) }
     // What is refused has a first bad line, or it reads as a batch for which memory ran out.
     ensures refuses { IfErr result (IsRefusedFor bytes.now) }
-    // Where there is a bad line, the first is told. That takes no memory.
+    // If there is a bad line, the first is reported. That takes no memory.
     ensures due { (i : ℕ) → IsFirstBadLine bytes.now i → result ≡ Err (Refusal.BadLine i) }
     // The first bytes of a written batch read as the whole lines in them.
     ensures fronts { (n : ℕ) (b : BatchOfLines) → is_batch b ≡ true → bytes.now ≡ take n (batch_text b)
@@ -33,7 +33,7 @@ pub fn read_batch(alloc: Global, bytes: &[u8]) -> Result<Batch, Refusal>
     batch_or_due(alloc, bytes)
 }
 
-// Where memory runs out, the lines are still tested.
+// If memory runs out, the lines are still tested.
 fn batch_or_due(alloc: Global, bytes: &[u8]) -> Result<Batch, Refusal>
     ensures { GivesDue result (read_batch bytes.now) }
 {
@@ -87,7 +87,7 @@ fn read_body(alloc: Global, version: Version, bytes: &[u8]) -> Result<(Vec<Item>
     Ok((items, Ending::Cut))
 }
 
-/// The items, where no line stands behind the last one, which has this number.
+/// The items, if no line stands behind the last one, which has this number.
 fn end_body(
     items: Vec<Item>,
     ending: Ending,

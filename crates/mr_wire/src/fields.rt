@@ -162,7 +162,7 @@ pub(crate) fn id_of(text: &str) -> Option<WriteId>
     })
 }
 
-/// What stands behind the word and a space, where the text begins with these.
+/// What stands behind the word and a space, if the text begins with these.
 #[tactic(auto, unfolding(crate::specs::Fields::behind_word))]
 pub fn behind_word<'a>(word: &str, text: &'a str) -> Option<&'a str>
     ensures { option_map (λ x. x.now) result ≡ behind_word word.now text.now }

@@ -17,7 +17,7 @@ use mr_base::{
 };
 use std::alloc::Global;
 
-/// The booking of these parts, where they are within the limits.
+/// The booking of these parts, if they are within the limits.
 #[tactic(auto, unfolding(crate::specs::Fields::booking_with))]
 fn booking_with(
     alloc: Global,

@@ -29,7 +29,7 @@ pub fn read_position(alloc: Global, bytes: &[u8]) -> Result<Position, Refusal>
     position_or_refusal(alloc, bytes)
 }
 
-// Where memory runs out, the text is still tested.
+// If memory runs out, the text is still tested.
 fn position_or_refusal(alloc: Global, bytes: &[u8]) -> Result<Position, Refusal>
     ensures exact { Gives result (ok_or (read_position bytes.now) BadPosition) }
     ensures due { read_position bytes.now ≡ None → result ≡ Err Refusal.BadPosition }
@@ -132,7 +132,7 @@ fn counts_in(alloc: Global, text: &str) -> Result<Vec<(ServerId, u32)>, LineFaul
     Err(LineFault::NotALine)
 }
 
-/// The counts, where no line is left.
+/// The counts, if no line is left.
 fn if_last(counts: Vec<(ServerId, u32)>, behind: &str) -> Result<Vec<(ServerId, u32)>, LineFault>
     ensures { GivesRead (λ v. counts_of_pairs v.items) result (with_counts (counts_of_pairs counts.items) (no_more (whole_lines behind.now))) }
 {

@@ -2,7 +2,7 @@ ghost use Rattle.std.specs.Prelude.{◌≡◌, ◌==◌, ◌<◌, ◌^◌, lengt
 ghost use Rattle.std.specs.Str.{IsUtf8};
 ghost use Rattle.mr_wire.specs.Words.{cut};
 
-/// The line up to the first LF, and what stands behind that; none where no LF is left.
+/// The line up to the first LF, and what stands behind that; none if no LF is left.
 pub(crate) fn first_line(bytes: &[u8]) -> Option<(&[u8], &[u8])>
     ensures value { option_map (λ x. (x.0.now, x.1.now)) result ≡ cut 10 bytes.now }
     ensures shorter { IfSome result (λ x. length x.1.now < length bytes.now) }
@@ -18,7 +18,7 @@ fn place_of(bytes: &[u8], sought: u8) -> Option<usize>
     bytes.iter().position(|byte| *byte == sought)
 }
 
-/// The word up to the first space, and what stands behind that; none where no space is left.
+/// The word up to the first space, and what stands behind that; none if no space is left.
 pub(crate) fn first_word(text: &str) -> Option<(&str, &str)>
     ensures value { option_map (λ x. (x.0.now, x.1.now)) result ≡ cut 32 text.now }
     ensures utf8 { IfSome result (λ x. IsUtf8 x.0.now × IsUtf8 x.1.now) }

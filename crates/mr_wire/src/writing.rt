@@ -17,12 +17,13 @@ use mr_base::{
 use std::alloc::{AllocError, Global};
 use std::fmt;
 
-/// The exchange text of a batch in its version: its header, a line for each item, and the last line where it wasn't cut.
+/// The exchange text of a batch in its version: its header, a line for each item, and the last line if it wasn't cut.
 pub fn write_batch(alloc: Global, batch: &Batch) -> Result<Vec<u8>, Refusal>
     ensures exact { GivesSeen (λ v. v.items) result (Ok (batch_text batch.now)) }
     // No other batch has this text.
     ensures one { (b : BatchOfLines) → is_batch b ≡ true → IfOk result (λ v. v.items ≡ batch_text b → b ≡ batch.now) }
 {
+    // For the prover alone: the batch is within its limits.
     batch.is_within_limits();
     batch_bytes(alloc, batch)
 }
@@ -46,6 +47,7 @@ pub fn write_position(alloc: Global, position: &Position) -> Result<Vec<u8>, Ref
     // No other position has this text.
     ensures one { (p : PositionOfReplica) → is_position p ≡ true → IfOk result (λ v. v.items ≡ position_text p → p ≡ position.now) }
 {
+    // For the prover alone: the position is within its limits.
     position.is_within_limits();
     position_bytes(alloc, position)
 }

@@ -37,7 +37,7 @@ pub fn peer_address(alloc: Global, text: &str) -> Result<(String, u16), AddressF
     }
 }
 
-/// What an error of `url` is told as. `Overflow` is that of a URL which is too long.
+/// What an error of `url` is reported as. `Overflow` is that of a URL which is too long.
 fn fault_of(error: ParseError) -> AddressFault
     ensures memory { (error ≡ OutOfMemory) ⊎ (error ≡ Overflow) → result ≡ Memory }
     ensures bad { ¬ (error ≡ OutOfMemory) → ¬ (error ≡ Overflow) → result ≡ Bad }

@@ -16,8 +16,8 @@ use clap::ArgMatches;
 use clap::error::ErrorKind;
 use std::alloc::Global;
 
-/// What the words after the program's name ask for. Where one begins with a hyphen, `clap` may read it as a flag, and
-/// the words are mostly `Bad`; so they are where help is asked for.
+/// What the words after the program's name ask for. If one begins with a hyphen, `clap` may read it as a flag, and
+/// the words are mostly `Bad`; so they are if help is asked for.
 pub fn invocation(alloc: Global, words: &[String]) -> Result<Invocation, WordFault>
     ensures { has_no_flag (map string_bytes words.now) ≡ true → MatchResult result
         (λ i. invocation_of (map string_bytes words.now) ≡ Some (asked_of i))

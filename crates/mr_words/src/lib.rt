@@ -1,8 +1,5 @@
-//! The words of a command line and the address of a peer, read as values. Below stands `mr_service`, whose commands most
-//! rows of the table ask for; the program's commands (`mr`) stand above. `invocation` answers what the words ask for,
-//! exactly where they are of the table of specs/CommandTable.antt; `peer_address` the host and the port of a text, exactly where
-//! it is an address as specs/Addresses.antt says. What the lines of scripts have too is read here for
-//! both: single words, and commands whose words are the same.
+//! The words of a command line, commands that have the same words in a script, and the address of a peer, read as values.
+//! It stands on `mr_service`; the program's commands (`mr`) stand above. README.md has lines of use, and what is proved.
 #![tactic(auto)]
 
 mod address;

@@ -17,7 +17,7 @@ use mr_store::ListKeeper;
 use std::alloc::Global;
 
 /// Gives the replica a command. `Service::ask` needs nothing of its caller. Its clause `step` says that the replica takes one step of the
-/// definitions, or none where memory or the store failed; `refused`, that a refusal leaves the tables; `counts` and `sure`, that
+/// definitions, or none if memory or the store failed; `refused`, that a refusal leaves the tables; `counts` and `sure`, that
 /// lists don't fail. So of a reply that is no refusal the caller knows which one it is, and where the replica stands.
 pub(crate) fn ask(service: &mut Service<ListKeeper>, command: &Command) -> Result<Reply, Refusal>
     ensures done { (a : Replica) → Stands service.old.tables a
@@ -44,7 +44,7 @@ fn refusal_in(reply: &Reply) -> Option<Refusal>
     }
 }
 
-/// Gives the replica a command whose reply tells its caller nothing new, as where a room is added.
+/// Gives the replica a command whose reply has nothing new for its caller, as when a room is added.
 pub(crate) fn order(service: &mut Service<ListKeeper>, command: Command) -> Result<(), Refusal> {
     ask(service, &command)?;
     Ok(())
@@ -57,7 +57,7 @@ pub(crate) fn add_text(alloc: Global, told: &mut Vec<u8>, reply: &Reply) -> Resu
     Ok(())
 }
 
-/// Gives the replica a command, and tells its reply.
+/// Gives the replica a command, and puts the text of its reply behind these bytes.
 pub(crate) fn tell(
     alloc: Global,
     service: &mut Service<ListKeeper>,

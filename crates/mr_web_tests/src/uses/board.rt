@@ -1,5 +1,5 @@
-// A board by itself: bookings of rooms, executed and undone, with no replica around them. For who keeps writes, and their order, in
-// another way.
+// A board by itself: bookings of rooms, executed and undone, with no replica around them. For a program that keeps writes, and their order,
+// in another way.
 
 ghost use Rattle.std.specs.Prelude.{◌≡◌, IfOk, OnOk, OnErr};
 ghost use Rattle.mr_model.specs.Writes.{id_of};
@@ -35,7 +35,7 @@ pub(crate) fn tried(board: &mut Board, write: &Write) -> Result<UndoRow, Refusal
     Ok(row)
 }
 
-/// What comes of a request for 13:30, where 14:00 is taken: it would be logged as an error, since it has no alternatives.
+/// What comes of a request for 13:30, if 14:00 is taken: it would be logged as an error, since it has no alternatives.
 pub(crate) fn board_told(alloc: Global) -> Result<Vec<u8>, Refusal> {
     let mut board = board_of_one(alloc)?;
     let write = request(alloc, 2, 810)?;

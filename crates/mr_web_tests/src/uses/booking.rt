@@ -26,7 +26,7 @@ pub(crate) fn opened(alloc: Global, number: u32) -> Result<Service<ListKeeper>, 
 }
 
 /// The command that asks for oak on Monday, from a time on, for so many minutes. It names no alternatives, so that it is logged as an error
-/// where its slot is taken.
+/// if its slot is taken.
 pub(crate) fn booking(alloc: Global, time: &str, minutes: &str) -> Result<Command, AllocError> {
     let wish = monday_at(alloc, time)?;
     let room = String::from_str(alloc, "oak")?;
@@ -57,7 +57,7 @@ pub(crate) fn sheet(alloc: Global, room: &str, day: &str) -> Result<Command, All
 
 /// Gives the replica a command, such as a booking, and answers the text of the room's sheet behind it: the one that the definitions give
 /// for what the replica knows of the room once it took the command, whichever replica it was. An error is a refusal of either of
-/// the two: who has to know which asks in two calls, as below.
+/// the two: a caller that has to know which asks in two calls, as below.
 pub(crate) fn sheet_after(
     alloc: Global,
     service: &mut Service<ListKeeper>,

@@ -49,7 +49,7 @@ pub(crate) fn batch_said(
 
 /// Gives one replica what the other has and it lacks: its position, the batch for that, and the receipt. What comes of it is what the
 /// definitions say of the batch itself. The texts, which carry it, don't show in the contract: each is read back as what was
-/// written. Either text may be lost or come late, and the batch may be cut between: what was received is then a front of it, or
+/// written. Either text may be lost or come late, and the batch may be cut between: what was received is then a prefix of it, or
 /// nothing, and the same is done again.
 pub(crate) fn give(
     alloc: Global,

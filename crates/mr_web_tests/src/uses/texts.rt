@@ -1,4 +1,4 @@
-// The texts that offices exchange, written and read by themselves: for who carries them otherwise than this program does, as by mail.
+// The texts that offices exchange, written and read by themselves: for a program that carries them in another way, as by mail.
 // Bytes that come from outside may be anything: reading them gives a value or a refusal, and never more than they say.
 
 ghost use Rattle.std.specs.Prelude.{◌≡◌, Ok, take};
